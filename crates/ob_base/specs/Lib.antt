@@ -1,0 +1,9 @@
+pub mod Counts
+pub mod Lists
+pub mod Numbers
+pub mod Accesses
+pub mod Schemas
+pub mod Stored
+pub mod Limits
+pub mod Plans
+pub mod Events

@@ -1,0 +1,37 @@
+use crate::items::Items;
+use crate::schema::Table;
+
+/// A way to write the selected rows of a SELECT to a region (the select operators of the ObliDB paper).
+#[derive(Clone, Copy, Debug, PartialEq, Eq)]
+pub enum Plan {
+    Small,
+    Large,
+    Continuous,
+    Hash,
+}
+
+/// The settings of a session.
+#[derive(Clone, Copy, Debug, PartialEq, Eq)]
+pub struct Config {
+    /// The rows that may be open at once: 4 to 65,536, and at least three blocks and one row.
+    pub buffer: u32,
+    /// The blocks of a hash bucket: 1 to 8.
+    pub depth: u8,
+    /// The rows of a block: 1 to 16.
+    pub pack: u8,
+    /// The plan of every SELECT of rows, where one is forced.
+    pub plan: Option<Plan>,
+    /// The input has fewer bytes: 1,024 to 1,073,741,824.
+    pub max_input: u64,
+}
+
+/// What a watcher knows before a statement.
+#[derive(Drop)]
+pub struct Public {
+    pub tables: Items<Table>,
+    pub next_region: u64,
+    pub buffer: u32,
+    pub depth: u8,
+    pub pack: u8,
+    pub plan: Option<Plan>,
+}

@@ -1,0 +1,26 @@
+//! The types that every layer speaks of, and the definitions that their contracts cite.
+#![tactic(auto)]
+
+mod access;
+mod config;
+mod emit;
+mod fault;
+mod items;
+mod refusal;
+mod schema;
+mod seen;
+mod shown;
+mod skeleton;
+mod text;
+
+pub use access::Access;
+pub use config::{Config, Plan, Public};
+pub use emit::{Emit, EmitErr};
+pub use fault::{Failed, NoMemory, StoreErr};
+pub use items::Items;
+pub use refusal::{Refusal, Stop};
+pub use schema::{Column, Heading, Kind, Schema, Table};
+pub use seen::{End, Seen};
+pub use shown::Shown;
+pub use skeleton::{ColumnName, NewColumn, NewKind, Skeleton, Source};
+pub use text::{Label, Name, Text};

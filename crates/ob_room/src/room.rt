@@ -1,0 +1,252 @@
+// A fixed number of rows.
+
+ghost use Rattle.std.specs.Prelude.{◌≡◌, ◌↔◌, ℕ, List, [], ◌∷◌, ◌++◌, ◌+◌, ◌-◌, ◌≤◌, ◌<◌, max, length, IfOk, IfSome, IsNone, OnOk, MatchOption, replicate, slice_index_or};
+ghost use Rattle.std.specs.Borrow.{sem};
+ghost use Rattle.ob_room.specs.RoomState.{RoomState, out, clear};
+
+use crate::row::{ClearRow, FreeRow};
+use std::alloc::{AllocError, Global};
+use std::marker::Model;
+
+/// A fixed number of rows. Only `new` takes memory.
+pub struct Room {
+    free: Vec<FreeRow>,
+    shelf: Vec<ClearRow>,
+    rows: u32,
+    width: u32,
+    pack: u32,
+    high: u64,
+}
+
+impl Model for Room {
+    ghost use Rattle.ob_room.specs.RoomState.{RoomState};
+
+    ghost Value = { RoomState };
+
+    ghost use Rattle.ob_room.specs.IsRoom.{IsRoom};
+
+    ghost view = { λ a. record {
+      rows = a.rows;
+      width = a.width;
+      pack = a.pack;
+      free = a.free.items;
+      shelf = a.shelf.items;
+      high = a.high;
+    } };
+
+    ghost invariant = { IsRoom };
+}
+
+impl Room {
+    ghost use Rattle.ob_room.specs.LendingRow.{LendsRow};
+    ghost use Rattle.ob_room.specs.LendingRows.{LendsRows};
+    ghost use Rattle.ob_room.specs.LendingOpen.{LendsOpen};
+    ghost use Rattle.ob_room.specs.Shelf.{ShelvesClear, cleared, copied_row, AreWide, IsSound};
+    ghost use Rattle.std.specs.Prelude.{take, drop};
+
+    /// A room of `rows` rows, each `width` bytes wide, for blocks of `pack` rows.
+    pub fn new(alloc: Global, rows: u32, width: u32, pack: u32) -> Result<Room, AllocError>
+        requires pack { (1 ≤ pack) × (pack ≤ 16) }
+        ensures { IfOk result (λ r. r ≡ record {
+          rows = rows;
+          width = width;
+          pack = pack;
+          free = replicate rows (clear width);
+          shelf = [];
+          high = 0;
+        }) }
+    {
+        let mut free = Vec::with_capacity(alloc, rows as usize)?;
+        for _ in 0..rows {
+            free.push(FreeRow {
+                bytes: Vec::from_elem(alloc, 0, width as usize)?,
+            })?;
+        }
+        Ok(Room {
+            free,
+            shelf: Vec::with_capacity(alloc, rows as usize)?,
+            rows,
+            width,
+            pack,
+            high: 0,
+        })
+    }
+
+    /// The number of rows that the room was made with.
+    pub fn rows(&self) -> u32
+        ensures value { result ≡ self.now.rows }
+        ensures sound { IsSound self.now }
+    {
+        self.rows
+    }
+
+    /// How many rows a block has.
+    pub fn pack(&self) -> u32
+        ensures value { result ≡ self.now.pack }
+        ensures sound { IsSound self.now }
+    {
+        self.pack
+    }
+
+    /// The greatest number of rows that were out at once.
+    pub fn high(&self) -> u64
+        ensures value { result ≡ self.now.high }
+        ensures most { result ≤ self.now.rows }
+        ensures least { out self.now ≤ result }
+    {
+        self.high
+    }
+
+    /// A row of zeros, or none where all are out.
+    pub fn take(&mut self) -> Option<ClearRow>
+        ensures { MatchOption result
+            ((out self.old ≡ self.old.rows) × (self.new ≡ self.old))
+            (λ row. (row ≡ clear self.old.width) × (self.old.free ≡ self.new.free ++ row ∷ [])
+            × (self.new ≡ record self.old { free = self.new.free; high = max self.old.high (out self.old + 1) })) }
+    {
+        let FreeRow { bytes } = self.free.pop()?;
+        let out = (self.rows as usize - self.free.len()) as u64;
+        if out > self.high {
+            self.high = out;
+        }
+        Some(ClearRow { bytes })
+    }
+
+    /// Takes a row back, and writes zeros over it.
+    pub fn give(&mut self, row: ClearRow)
+        requires width { length row ≡ self.old.width }
+        requires held { length self.old.shelf < out self.old }
+        ensures { self.new ≡ record self.old { free = self.old.free ++ clear self.old.width ∷ [] } }
+    {
+        let ClearRow { mut bytes } = row;
+        bytes.fill(0);
+        self.free.push_reserved(FreeRow { bytes });
+    }
+
+    /// Puts a row, which stays out, last on the shelf.
+    pub fn shelve(&mut self, row: ClearRow)
+        requires width { length row ≡ self.old.width }
+        requires held { length self.old.shelf < out self.old }
+        ensures { self.new ≡ record self.old { shelf = self.old.shelf ++ row ∷ [] } }
+    {
+        self.shelf.push_reserved(row);
+    }
+
+    /// The rows on the shelf, in order.
+    pub fn shelf(&self) -> &[ClearRow]
+        ensures { result.now ≡ self.now.shelf }
+    {
+        self.shelf.as_slice()
+    }
+
+    /// The last row of the shelf, or none where it is empty.
+    pub fn unshelve(&mut self) -> Option<ClearRow>
+        ensures { MatchOption result
+            ((self.old.shelf ≡ []) × (self.new ≡ self.old))
+            (λ row. (self.old.shelf ≡ self.new.shelf ++ row ∷ []) × (self.new ≡ record self.old { shelf = self.new.shelf })) }
+    {
+        self.shelf.pop()
+    }
+
+    /// Row `i` of the shelf, to be written.
+    pub fn shelf_mut(&mut self, i: u32) -> &mut ClearRow
+        requires { i < length self.old.shelf }
+        ensures* writes_back { sem 𝓛 (LendsRow self.entry i result) }
+        ensures value { result.now ≡ slice_index_or self.old.shelf i [] }
+    {
+        &mut self.shelf[i as usize]
+    }
+
+    /// Puts `n` zero rows last on the shelf.
+    pub fn shelve_clear(&mut self, n: u32)
+        requires free { n ≤ length self.old.free }
+        requires held { length self.old.shelf ≤ out self.old }
+        ensures { ShelvesClear n self.old self.new }
+    {
+        let _ = self.rows();
+        for _ in 0..n {
+            match self.take() {
+                None => unreachable!(),
+                Some(row) => self.shelve(row),
+            }
+        }
+    }
+
+    /// Puts `n` zero rows on the shelf, which is empty, and lends them.
+    pub fn open(&mut self, n: u32) -> &mut [ClearRow]
+        requires free { n ≤ length self.old.free }
+        requires shelf { self.old.shelf ≡ [] }
+        ensures* writes_back { sem 𝓛 (LendsOpen self.entry n result) }
+        ensures value { result.now ≡ replicate n (clear self.old.width) }
+    {
+        self.shelve_clear(n);
+        self.shelf.as_mut_slice()
+    }
+
+    /// Some rows on the shelf.
+    pub fn shelf_rows(&self, from: u32, n: u32) -> &[ClearRow]
+        requires { from + n ≤ length self.now.shelf }
+        ensures { result.now ≡ take n (drop from self.now.shelf) }
+    {
+        &self.shelf[from as usize..from as usize + n as usize]
+    }
+
+    /// Some rows on the shelf, to be written.
+    pub fn shelf_rows_mut(&mut self, from: u32, n: u32) -> &mut [ClearRow]
+        requires { from + n ≤ length self.old.shelf }
+        ensures* writes_back { sem 𝓛 (LendsRows self.entry from result) }
+        ensures value { result.now ≡ take n (drop from self.old.shelf) }
+    {
+        self.shelf
+            .slice_mut(from as usize..from as usize + n as usize)
+    }
+
+    /// Takes all rows from the shelf, and writes zeros over them.
+    pub fn clear_shelf(&mut self)
+        requires wide { AreWide self.old.width self.old.shelf }
+        requires held { length self.old.shelf ≤ out self.old }
+        ensures { self.new ≡ cleared self.old }
+    {
+        while let Some(row) = self.unshelve() {
+            self.give(row);
+        }
+    }
+
+    /// Copies one row on the shelf over another.
+    pub fn copy_row(&mut self, from: u32, to: u32)
+        requires from { from < length self.old.shelf }
+        requires to { to < length self.old.shelf }
+        requires same { length (slice_index_or self.old.shelf from []) ≡ length (slice_index_or self.old.shelf to []) }
+        ensures { self.new ≡ copied_row self.old from to }
+    {
+        let (from, to) = (from as usize, to as usize);
+        if from < to {
+            let (left, right) = self.shelf.split_at_mut(to);
+            let row = &mut right[0];
+            let source = &left[from];
+            row.bytes.copy_from_slice(&source.bytes);
+        } else if to < from {
+            let (left, right) = self.shelf.split_at_mut(from);
+            let row = &mut left[to];
+            let source = &right[0];
+            row.bytes.copy_from_slice(&source.bytes);
+        }
+    }
+}
+
+impl Drop for Room {
+    fn drop(self) {
+        let Room {
+            free: _free,
+            mut shelf,
+            rows: _,
+            width: _,
+            pack: _,
+            high: _,
+        } = self;
+        while let Some(row) = shelf.pop() {
+            let ClearRow { bytes: _bytes } = row;
+        }
+        shelf.destroy_empty();
+    }
+}

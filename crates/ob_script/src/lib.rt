@@ -1,0 +1,2 @@
+//! The accesses of each statement, from what is public alone.
+#![tactic(auto)]

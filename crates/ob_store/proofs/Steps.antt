@@ -1,0 +1,214 @@
+-- How a run goes on by a call, and how runs are joined.
+use Rattle.std.proofs.Common.{◌≡◌, ◌≢◌, ◌⊎◌, inl, inr, ℕ, zero, suc, ◌+◌, ◌*◌, ◌<◌, ◌≤◌, List, [], ◌∷◌, ◌++◌, ◌-◌, take, length, Option, Some, None, Result, Ok, Err, OnErr, refl, sym, ◌∙◌, ap, subst, arith, append_assoc, length-append}
+use Rattle.std.proofs.lemmas.List.{append-nil, take_at}
+use Rattle.std.proofs.lemmas.Bool.{cases_eq}
+use Rattle.ob_base.specs.declared.access.Access.{Access}
+use Rattle.ob_base.specs.declared.fault.Failed.{Failed}
+use Rattle.ob_base.specs.declared.fault.StoreErr.{StoreErr}
+use Rattle.ob_base.specs.declared.fault.StoreErr.TheVariants as StoreErrs
+use Rattle.ob_store.specs.State.{Lie, StoreState}
+use Rattle.ob_base.specs.Counts.{Rises}
+use Rattle.ob_store.specs.Calls.{IsPlace, IsRegion, CountsMakeFault, Asks, Keeps, OnlyAt, OnlyRegion, ReadGives}
+use Rattle.ob_base.specs.Lists.{each}
+use Rattle.ob_store.specs.Runs.{Did, Began, Later, FailsWithin, SameRegions}
+
+pub later_refl : (s : StoreState) → Later s s
+later_refl s = record { faults = omega arith; tells = refl; lie = λ lie is. is }
+
+pub later_trans : (old mid new : StoreState) → Later old mid → Later mid new → Later old new
+later_trans old mid new first second = record {
+  faults = omega (arith, first.faults, second.faults);
+  tells = second.tells ∙ first.tells;
+  lie = λ lie is. second.lie lie (first.lie lie is);
+}
+
+-- one call
+pub later_call : (access : Access) (old new : StoreState) → Asks access old new → Later old new
+later_call access old new asks = record {
+  faults = asks.faults;
+  tells = asks.tells;
+  lie = asks.lie;
+}
+
+-- no lie afterwards is none throughout
+pub none_before : (old new : StoreState) → Later old new → new.lie ≡ None → old.lie ≡ None
+none_before old new later none = none_of old.lie later.lie
+  where
+    none_of : (o : Option Lie) → ((lie : Lie) → o ≡ Some lie → new.lie ≡ Some lie) → o ≡ None
+    none_of None stays = refl
+    none_of (Some lie) stays = absurd (cc (stays lie refl, none))
+
+pub keeps_refl : (s : StoreState) → Keeps s s
+keeps_refl s = record { live = λ q. refl; last = λ q x. refl }
+
+pub keeps_trans : (old mid new : StoreState) → Keeps old mid → Keeps mid new → Keeps old new
+keeps_trans old mid new first second = record { live = λ q. second.live q ∙ first.live q; last = λ q x. second.last q x ∙ first.last q x }
+
+-- at an `Err`, and where the call may be `Err`
+pub on_err : {T E P : Type 0} (r : Result T E) → P → OnErr r P
+on_err (Ok x) p = tt
+on_err (Err e) p = p
+
+pub did_none : (s : StoreState) → Did [] s s
+did_none s = record { asked = sym (append-nil s.asked); faults = refl }
+
+pub did_join : (a b : List Access) (old mid new : StoreState) → Did a old mid → Did b mid new → Did (a ++ b) old new
+did_join a b old mid new first second = record {
+  asked = second.asked ∙ ap (λ (l : List Access). l ++ b) first.asked ∙ append_assoc old.asked a b;
+  faults = second.faults ∙ first.faults;
+}
+
+pub began_join : (a b : List Access) (old mid new : StoreState) → Did a old mid → Began b mid new → Began (a ++ b) old new
+began_join a b old mid new first second = record {
+  done = a ++ second.done;
+  rest = second.rest;
+  split = append_assoc a second.done second.rest ∙ ap (λ (l : List Access). a ++ l) second.split;
+  asked = second.asked ∙ ap (λ (l : List Access). l ++ second.done) first.asked ∙ append_assoc old.asked a second.done;
+}
+
+pub began_more : (a b : List Access) (old new : StoreState) → Began a old new → Began (a ++ b) old new
+began_more a b old new first = record {
+  done = first.done;
+  rest = first.rest ++ b;
+  split = sym (append_assoc first.done first.rest b) ∙ ap (λ (l : List Access). l ++ b) first.split;
+  asked = first.asked;
+}
+
+pub fails_join : (a b : List Access) (old mid new : StoreState) → Did a old mid → FailsWithin b mid new → FailsWithin (a ++ b) old new
+fails_join a b old mid new first second = record {
+  began = began_join a b old mid new first second.began;
+  rises = subst (λ (n : ℕ). Rises n new.faults) first.faults second.rises;
+}
+
+pub fails_more : (a b : List Access) (old new : StoreState) → FailsWithin a old new → FailsWithin (a ++ b) old new
+fails_more a b old new first = record { began = began_more a b old new first.began; rises = first.rises }
+
+-- the first i parts and some rest
+pub record Parts (part : ℕ → List Access) (n i : ℕ) : Type 0 where
+  pub rest : List Access
+  pub split : each n part ≡ each i part ++ part i ++ rest
+
+pub parts : (part : ℕ → List Access) (n i : ℕ) → i < n → Parts part n i
+parts part zero i below = absurd (omega arith)
+parts part (suc n) i below = elim (le_cases i n (omega arith)) [
+  | inl less ↦ let p = parts part n i less in record {
+    rest = p.rest ++ part n;
+    split = ap (λ (l : List Access). l ++ part n) p.split ∙ append_assoc (each i part ++ part i) p.rest (part n);
+  }
+  | inr same ↦ record { rest = []; split = ap (λ (k : ℕ). each k part ++ part k) (sym same) ∙ sym (append-nil (each i part ++ part i)) }
+]
+  where
+    le_cases : (i n : ℕ) → i ≤ n → (i < n) ⊎ (i ≡ n)
+    le_cases i n le = elim (cases_eq i n) [ inl same ↦ inr same | inr other ↦ inl (omega arith) ]
+
+-- a part that failed
+pub fails_each : (part : ℕ → List Access) (n i : ℕ) (old mid new : StoreState) → i < n → Did (each i part) old mid → FailsWithin (part i) mid new → FailsWithin (each n part) old new
+fails_each part n i old mid new below first second =
+    let p = parts part n i below in
+    let some : FailsWithin (each i part ++ part i ++ p.rest) old new = fails_more (each i part ++ part i) p.rest old new (fails_join (each i part) (part i) old mid new first second) in
+    subst (λ (l : List Access). FailsWithin l old new) (sym p.split) some
+
+-- a part that was done
+pub did_each : (part : ℕ → List Access) (i : ℕ) (old mid new : StoreState) → Did (each i part) old mid → Did (part i) mid new → Did (each (i + 1) part) old new
+did_each part i old mid new first second =
+    let next : suc i ≡ i + 1 = omega arith in
+    subst (λ (k : ℕ). Did (each k part) old new) next (did_join (each i part) (part i) old mid new first second)
+
+-- one call
+pub did_call : (access : Access) (old new : StoreState) → Asks access old new → new.faults ≡ old.faults → Did (access ∷ []) old new
+did_call access old new asks faults = record { asked = asks.asked; faults = faults }
+
+pub fails_call : (access : Access) (old new : StoreState) → Asks access old new → Rises old.faults new.faults → FailsWithin (access ∷ []) old new
+fails_call access old new asks rises = record { began = record { done = access ∷ []; rest = []; split = refl; asked = asks.asked }; rises = rises }
+
+-- two lists are equal or they aren't
+pub list_cases : (a b : List ℕ) → (a ≡ b) ⊎ (a ≢ b)
+list_cases [] [] = inl refl
+list_cases [] (y ∷ ys) = inr (λ e. cc)
+list_cases (x ∷ xs) [] = inr (λ e. cc)
+list_cases (x ∷ xs) (y ∷ ys) = elim (cases_eq x y) [
+  | inl head ↦ elim (list_cases xs ys) [
+    | inl tail ↦ inl (cc (head, tail))
+    | inr other ↦ inr (λ e. other (cc e))
+  ]
+  | inr other ↦ inr (λ e. other (cc e))
+]
+
+-- a read that answered while no lie is told gave what was written last
+pub read_true : (region place : ℕ) (bytes : List ℕ) (old new : StoreState) → ReadGives region place bytes old new → old.lie ≡ None → new.lie ≡ None → (block : List ℕ) → old.last region place ≡ Some block → bytes ≡ block
+read_true region place bytes old new gives was none block last = elim (list_cases block bytes) [
+  | inl e ↦ sym e
+  | inr ne ↦ absurd (cc (gives.caught block was last ne, none))
+]
+
+pub length-each : (part : ℕ → List Access) (size : ℕ) → ((i : ℕ) → length (part i) ≡ size) → (n : ℕ) → length (each n part) ≡ n * size
+length-each part size sizes zero = omega arith
+length-each part size sizes (suc n) = omega (arith, length-append (each n part) (part n), sizes n, length-each part size sizes n)
+
+-- a region that is kept has its places
+pub region_kept : (region blocks len : ℕ) (old new : StoreState) → IsRegion region blocks len old → Keeps old new → IsRegion region blocks len new
+region_kept region blocks len old new is keeps = record { live = keeps.live region ∙ is.live }
+
+pub place_in : (region blocks len place other : ℕ) (s : StoreState) → IsRegion region blocks len s → place < blocks → other ≡ len → IsPlace s region place other
+place_in region blocks len place other s is within same = record {
+  shape = record { blocks = blocks; len = len };
+  live = is.live;
+  within = within;
+  same_len = same;
+}
+
+pub same_refl : (region : ℕ) (s : StoreState) → SameRegions region s s
+same_refl region s = record { live = λ q. refl; last = λ q x other. refl }
+
+pub same_trans : (region : ℕ) (old mid new : StoreState) → SameRegions region old mid → SameRegions region mid new → SameRegions region old new
+same_trans region old mid new first second = record { live = λ q. second.live q ∙ first.live q; last = λ q x other. second.last q x other ∙ first.last q x other }
+
+pub same_keeps : (region : ℕ) (old new : StoreState) → Keeps old new → SameRegions region old new
+same_keeps region old new keeps = record { live = keeps.live; last = λ q x other. keeps.last q x }
+
+pub same_at : (region place : ℕ) (old new : StoreState) → OnlyAt region place old new → SameRegions region old new
+same_at region place old new only = record { live = only.live; last = λ q x other. only.elsewhere q x (λ same. absurd (other same)) }
+
+pub region_same : (region blocks len : ℕ) (old new : StoreState) → IsRegion region blocks len old → SameRegions region old new → IsRegion region blocks len new
+region_same region blocks len old new is same = record { live = same.live region ∙ is.live }
+
+pub only_same : (region : ℕ) (old mid new : StoreState) → OnlyRegion region old mid → SameRegions region mid new → OnlyRegion region old new
+only_same region old mid new first second = record {
+  live = λ q other. second.live q ∙ first.live q other;
+  last = λ q x other. second.last q x other ∙ first.last q x other;
+}
+
+-- a fault after a run without one
+pub make_fault_after : {T : Type 0} (script : List Access) (r : Result T StoreErr) (old mid new : StoreState) → Did script old mid → CountsMakeFault r mid new → CountsMakeFault r old new
+make_fault_after script (Ok x) old mid new did after = after ∙ did.faults
+make_fault_after script (Err StoreErrs.NoMemory) old mid new did after = after ∙ did.faults
+make_fault_after script (Err StoreErrs.Failed) old mid new did after = subst (λ (n : ℕ). Rises n new.faults) did.faults after
+
+pub began_call : (access : Access) (old new : StoreState) → Asks access old new → Began (access ∷ []) old new
+began_call access old new asks = record { done = access ∷ []; rest = []; split = refl; asked = asks.asked }
+
+pub began_each : (part : ℕ → List Access) (n i : ℕ) (old mid new : StoreState) → i < n → Did (each i part) old mid → Began (part i) mid new → Began (each n part) old new
+began_each part n i old mid new below first second =
+    let p = parts part n i below in
+    let some : Began (each i part ++ part i ++ p.rest) old new = began_more (each i part ++ part i) p.rest old new (began_join (each i part) (part i) old mid new first second) in
+    subst (λ (l : List Access). Began l old new) (sym p.split) some
+
+-- the first n of the script, n being how many were asked
+pub began_take : (script : List Access) (old new : StoreState) → Began script old new → new.asked ≡ old.asked ++ take (length new.asked - length old.asked) script
+began_take script old new began =
+    let size : length new.asked - length old.asked ≡ length began.done = omega (arith, ap length began.asked, length-append old.asked began.done) in
+    let front : take (length began.done) script ≡ began.done = ap (λ (l : List Access). take (length began.done) l) (sym began.split) ∙ take_at began.done began.rest (length began.done) refl in
+    began.asked ∙ ap (λ (l : List Access). old.asked ++ l) (sym front) ∙ ap (λ (n : ℕ). old.asked ++ take n script) (sym size)
+
+-- at an `Err`: within a part, in the first of two scripts, in the second
+pub cut_each : {T : Type 0} (part : ℕ → List Access) (n i : ℕ) (old mid new : StoreState) (r : Result T Failed) → Did (each i part) old mid → FailsWithin (part i) mid new → i < n → OnErr r (FailsWithin (each n part) old new)
+cut_each part n i old mid new r first second below = on_err r (fails_each part n i old mid new below first second)
+
+pub cut_first : {T : Type 0} (a b : List Access) (old new : StoreState) (r : Result T Failed) → FailsWithin a old new → OnErr r (FailsWithin (a ++ b) old new)
+cut_first a b old new r first = on_err r (fails_more a b old new first)
+
+pub cut_second : {T : Type 0} (a b : List Access) (old mid new : StoreState) (r : Result T Failed) → Did a old mid → FailsWithin b mid new → OnErr r (FailsWithin (a ++ b) old new)
+cut_second a b old mid new r first second = on_err r (fails_join a b old mid new first second)
+
+pub began_cut : {T E : Type 0} (part : ℕ → List Access) (n i : ℕ) (old mid new : StoreState) (r : Result T E) → Did (each i part) old mid → Began (part i) mid new → i < n → OnErr r (Began (each n part) old new)
+began_cut part n i old mid new r first second below = on_err r (began_each part n i old mid new below first second)

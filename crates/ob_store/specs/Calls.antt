@@ -1,0 +1,93 @@
+-- What each call on a store does to its state.
+use Rattle.std.specs.Prelude.{◌≡◌, ◌≢◌, ◌⊎◌, ◌<◌, ◌≤◌, ◌+◌, ℕ, IsTrue, List, [], ◌∷◌, ◌++◌, Some, None, Result, Ok, Err}
+use Rattle.ob_base.specs.Counts.{Rises}
+use Rattle.ob_base.specs.declared.access.Access.{Access}
+use Rattle.ob_base.specs.declared.fault.Failed.{Failed}
+use Rattle.ob_base.specs.declared.fault.StoreErr.{StoreErr}
+use Rattle.ob_base.specs.declared.fault.StoreErr.TheVariants as StoreErrs
+use Rattle.ob_store.specs.State.{Shape, Lie, StoreState}
+
+pub record IsLive (s : StoreState) (region : ℕ) : Type 0 where
+  pub shape : Shape
+  pub live : s.live region ≡ Some shape
+
+-- a place of a live region whose blocks have this length
+pub record IsPlace (s : StoreState) (region place len : ℕ) : Type 0 where
+  pub shape : Shape
+  pub live : s.live region ≡ Some shape
+  pub within : place < shape.blocks
+  pub same_len : len ≡ shape.len
+
+-- a live region of this size
+pub record IsRegion (region blocks len : ℕ) (s : StoreState) : Type 0 where
+  pub live : s.live region ≡ Some (record { blocks = blocks; len = len })
+
+-- one access was asked, whatever was answered; a lie stays
+pub record Asks (access : Access) (old new : StoreState) : Type 0 where
+  pub asked : new.asked ≡ old.asked ++ access ∷ []
+  pub spare : old.spare ≤ new.spare + 1
+  pub faults : old.faults ≤ new.faults
+  pub slips : old.slips ≤ new.slips
+  pub tells : new.tells ≡ old.tells
+  pub lie : (lie : Lie) → old.lie ≡ Some lie → new.lie ≡ Some lie
+
+-- `Failed` comes only where the count rose, and any other answer leaves it
+abbrev pub CountsFault : {T : Type 0} → Result T Failed → StoreState → StoreState → Type 0
+CountsFault (Ok _) old new = new.faults ≡ old.faults
+CountsFault (Err _) old new = Rises old.faults new.faults
+
+-- the same of a discard
+abbrev pub CountsSlip : {T : Type 0} → Result T Failed → StoreState → StoreState → Type 0
+CountsSlip (Ok _) old new = new.slips ≡ old.slips
+CountsSlip (Err _) old new = Rises old.slips new.slips
+
+abbrev pub CountsMakeFault : {T : Type 0} → Result T StoreErr → StoreState → StoreState → Type 0
+CountsMakeFault (Ok _) old new = new.faults ≡ old.faults
+CountsMakeFault (Err StoreErrs.NoMemory) old new = new.faults ≡ old.faults
+CountsMakeFault (Err StoreErrs.Failed) old new = Rises old.faults new.faults
+
+-- the regions and what they hold stay
+pub record Keeps (old new : StoreState) : Type 0 where
+  pub live : (q : ℕ) → new.live q ≡ old.live q
+  pub last : (q x : ℕ) → new.last q x ≡ old.last q x
+
+-- nothing but this region may have changed
+pub record OnlyRegion (region : ℕ) (old new : StoreState) : Type 0 where
+  pub live : (q : ℕ) → q ≢ region → new.live q ≡ old.live q
+  pub last : (q x : ℕ) → q ≢ region → new.last q x ≡ old.last q x
+
+-- a region is live, and nothing was written there
+pub record Makes (region blocks len : ℕ) (old new : StoreState) : Type 0 where
+  pub here : IsRegion region blocks len new
+  pub empty : (x : ℕ) → new.last region x ≡ None
+  pub others : OnlyRegion region old new
+
+-- a read that gave these bytes: the first that are other than `last` are the lie
+pub record ReadGives (region place : ℕ) (bytes : List ℕ) (old new : StoreState) : Type 0 where
+  pub unwritten : old.lie ≡ None → old.last region place ≡ None → new.lie ≡ None
+  pub honest : old.lie ≡ None → old.last region place ≡ Some bytes → new.lie ≡ None
+  pub caught : (block : List ℕ) → old.lie ≡ None → old.last region place ≡ Some block → block ≢ bytes
+      → new.lie ≡ Some (record { region = region; place = place; bytes = bytes; before = old.asked })
+
+-- nothing but this place may have changed
+pub record OnlyAt (region place : ℕ) (old new : StoreState) : Type 0 where
+  pub live : (q : ℕ) → new.live q ≡ old.live q
+  pub elsewhere : (q x : ℕ) → (q ≡ region → x ≡ place → ⊥) → new.last q x ≡ old.last q x
+
+-- the block is what was written last
+pub record Holds (region place : ℕ) (block : List ℕ) (old new : StoreState) : Type 0 where
+  pub last : IsTrue old.tells → new.last region place ≡ Some block
+
+-- the block is what was written last, or what was there stands
+pub record MayHold (region place : ℕ) (block : List ℕ) (old new : StoreState) : Type 0 where
+  pub last : (new.last region place ≡ old.last region place) ⊎ (new.last region place ≡ Some block)
+
+-- `room` changes nothing else, and takes none away
+pub record Rests (old new : StoreState) : Type 0 where
+  pub spare : old.spare ≤ new.spare
+  pub asked : new.asked ≡ old.asked
+  pub faults : new.faults ≡ old.faults
+  pub slips : new.slips ≡ old.slips
+  pub tells : new.tells ≡ old.tells
+  pub lie : new.lie ≡ old.lie
+  pub keeps : Keeps old new

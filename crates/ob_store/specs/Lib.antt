@@ -1,0 +1,6 @@
+pub mod State
+pub mod Calls
+pub mod Runs
+pub mod Memory
+pub mod Fresh
+pub mod Flip

@@ -1,0 +1,33 @@
+-- What a run of calls on a store asks, and what lasts over it.
+use Rattle.std.specs.Prelude.{◌≡◌, ◌≢◌, ◌≤◌, ℕ, List, ◌++◌, Some}
+use Rattle.ob_base.specs.declared.access.Access.{Access}
+use Rattle.ob_store.specs.State.{Lie, StoreState}
+use Rattle.ob_base.specs.Counts.{Rises}
+
+-- all of the script was asked, and no call failed
+pub record Did (script : List Access) (old new : StoreState) : Type 0 where
+  pub asked : new.asked ≡ old.asked ++ script
+  pub faults : new.faults ≡ old.faults
+
+-- a first part of the script was asked
+pub record Began (script : List Access) (old new : StoreState) : Type 0 where
+  pub done : List Access
+  pub rest : List Access
+  pub split : done ++ rest ≡ script
+  pub asked : new.asked ≡ old.asked ++ done
+
+-- what holds from any state to any later one
+pub record Later (old new : StoreState) : Type 0 where
+  pub faults : old.faults ≤ new.faults
+  pub tells : new.tells ≡ old.tells
+  pub lie : (lie : Lie) → old.lie ≡ Some lie → new.lie ≡ Some lie
+
+-- it failed within the script, where the store failed
+pub record FailsWithin (script : List Access) (old new : StoreState) : Type 0 where
+  pub began : Began script old new
+  pub rises : Rises old.faults new.faults
+
+-- no region came or went, and only in this one may blocks have changed
+pub record SameRegions (region : ℕ) (old new : StoreState) : Type 0 where
+  pub live : (q : ℕ) → new.live q ≡ old.live q
+  pub last : (q x : ℕ) → q ≢ region → new.last q x ≡ old.last q x

@@ -1,0 +1,32 @@
+-- What contracts see of a store.
+use Rattle.std.specs.Prelude.{ℕ, Bool, List, Option}
+use Rattle.ob_base.specs.declared.access.Access.{Access}
+
+-- the size of a live region
+pub record Shape : Type 0 where
+  pub blocks : ℕ
+  pub len : ℕ
+
+-- the first read that gave other bytes than were written, and what was asked before it
+pub record Lie : Type 0 where
+  pub region : ℕ
+  pub place : ℕ
+  pub bytes : List ℕ
+  pub before : List Access
+
+pub record StoreState : Type 0 where
+  -- the accesses so far
+  pub asked : List Access
+  -- how many more there is room for
+  pub spare : ℕ
+  -- how often the store has failed
+  pub faults : ℕ
+  -- how often a discard has failed
+  pub slips : ℕ
+  -- the live regions, by number
+  pub live : ℕ → Option Shape
+  -- whether `last` and `lie` are told
+  pub tells : Bool
+  -- the block last written at a region's place
+  pub last : ℕ → ℕ → Option (List ℕ)
+  pub lie : Option Lie

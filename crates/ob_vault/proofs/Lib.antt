@@ -1,0 +1,4 @@
+pub mod WorldSteps
+pub mod Lies
+pub mod Runs
+pub mod RowsLemmas

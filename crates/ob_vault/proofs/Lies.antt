@@ -1,0 +1,81 @@
+-- Lies and the reads that told them.
+use Rattle.std.proofs.Common.{◌≡◌, ◌⊎◌, inl, inr, ℕ, ◌-◌, List, [], ◌∷◌, Option, Some, None, length, take, drop, refl, sym, ◌∙◌, ap, subst}
+use Rattle.ob_base.specs.declared.access.Access.TheVariants.{Read}
+use Rattle.ob_store.specs.State.{Lie, StoreState}
+use Rattle.ob_base.specs.Counts.{Rises}
+use Rattle.ob_store.specs.Calls.{Asks, ReadGives}
+use Rattle.ob_store.proofs.Steps.{list_cases, began_call, did_call}
+use Rattle.ob_seal.specs.KeyPair.{KeyPair}
+use Rattle.ob_seal.specs.Sealed.{tag_of}
+use Rattle.ob_vault.specs.declared.fault.VaultErr.TheVariants as VaultErrs
+use Rattle.ob_vault.specs.State.{VaultState}
+use Rattle.ob_base.specs.Accesses.{number_of}
+use Rattle.ob_vault.specs.Tied.{Fits, Calm, at_of}
+use Rattle.ob_vault.specs.Calls.{Lasts, Went, Cut, none}
+
+-- what a read does to the lie: nothing, or it is this
+lie_after : (region place : ℕ) (bytes : List ℕ) (old new : StoreState) → Asks (Read region place) old new → ReadGives region place bytes old new
+    → (new.lie ≡ old.lie) ⊎ (new.lie ≡ Some (record { region = region; place = place; bytes = bytes; before = old.asked }))
+lie_after region place bytes old new asks gives = go old.lie refl
+  where
+    Goal : Type 0
+    Goal = (new.lie ≡ old.lie) ⊎ (new.lie ≡ Some (record { region = region; place = place; bytes = bytes; before = old.asked }))
+
+    fresh : old.lie ≡ None → (b : Option (List ℕ)) → old.last region place ≡ b → Goal
+    fresh was None is = inl (gives.unwritten was is ∙ sym was)
+    fresh was (Some block) is = elim (list_cases block bytes) [
+      | inl same ↦ inl (gives.honest was (is ∙ ap (λ (b : List ℕ). Some b) same) ∙ sym was)
+      | inr other ↦ inr (gives.caught block was is other)
+    ]
+
+    go : (o : Option Lie) → old.lie ≡ o → Goal
+    go None was = fresh was (old.last region place) refl
+    go (Some lie) was = inl (asks.lie lie was ∙ sym was)
+
+-- the tag of these bytes is that of their place and number
+abbrev pub FitsAs : KeyPair → ℕ → ℕ → ℕ → List ℕ → Type 0
+FitsAs keys q x n bytes = drop (length bytes - 32) bytes ≡ tag_of keys (at_of q x n) (take (length bytes - 32) bytes)
+
+module _ (v : VaultState) (q x : ℕ) (bytes : List ℕ) (old new : StoreState) (lasts : Lasts none (record { vault = v; store = old }) (record { vault = v; store = new })) (asks : Asks (Read q x) old new) where
+  same_calm : new.lie ≡ old.lie → Calm (record { vault = v; store = old }) → Calm (record { vault = v; store = new })
+  same_calm same calm = record { calm = λ lie is. calm.calm lie (sym same ∙ is) }
+
+  -- a read that failed
+  pub read_failed : Rises old.faults new.faults → new.lie ≡ old.lie → Cut VaultErrs.Failed (Read q x ∷ []) none (record { vault = v; store = old }) (record { vault = v; store = new })
+  read_failed rises same = record { lasts = lasts; began = began_call _ _ _ asks; cause = (rises, same_calm same) }
+
+  module _ (gives : ReadGives q x bytes old new) (faults : new.faults ≡ old.faults) where
+    -- one whose block fits
+    pub read_went : FitsAs v.keys q x (number_of old.asked q x) bytes → Went (Read q x ∷ []) none (record { vault = v; store = old }) (record { vault = v; store = new })
+    read_went tag = record {
+      lasts = lasts;
+      did = did_call _ _ _ asks faults;
+      spare = asks.spare;
+      calm = λ calm. elim (lie_after q x bytes old new asks gives) [
+        | inl same ↦ same_calm same calm
+        | inr is ↦
+            let here : Lie = record { region = q; place = x; bytes = bytes; before = old.asked } in
+            let fits : Fits v.keys here = record { tag = tag } in
+            record { calm = λ lie now. let at : here ≡ lie = cc (is, now) in subst (λ (l : Lie). Fits v.keys l) at fits }
+      ];
+    }
+
+    -- one whose block doesn't
+    pub read_tampered : Cut (VaultErrs.Tampered q x) (Read q x ∷ []) none (record { vault = v; store = old }) (record { vault = v; store = new })
+    read_tampered = record {
+      lasts = lasts;
+      began = began_call _ _ _ asks;
+      cause = (
+        faults,
+        λ calm. elim (lie_after q x bytes old new asks gives) [
+          | inl same ↦ inl (same_calm same calm)
+          | inr is ↦ inr (record {
+            lie = record { region = q; place = x; bytes = bytes; before = old.asked };
+            told = is;
+            asked = asks.asked;
+            at_region = refl;
+            at_place = refl;
+          })
+        ],
+      );
+    }

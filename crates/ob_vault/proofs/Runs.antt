@@ -1,0 +1,242 @@
+-- How calls of a vault join to runs, and what is kept over them.
+use Rattle.std.proofs.Common.{◌≡◌, inl, inr, ℕ, suc, ◌*◌, ◌/◌, ◌+◌, ◌<◌, ◌≤◌, List, [], ◌++◌, Some, None, Bool, IsTrue, length, length-append, refl, sym, ◌∙◌, ap, subst, arith}
+use Rattle.ob_base.specs.declared.access.Access.{Access}
+use Rattle.ob_store.specs.State.{StoreState}
+use Rattle.ob_base.specs.Counts.{Rises}
+use Rattle.ob_base.specs.Lists.{each}
+use Rattle.ob_store.specs.Runs.{Began, Later}
+use Rattle.ob_store.proofs.Steps.{later_refl, later_trans, did_none, did_join, began_join, began_more, parts, none_before}
+use Rattle.ob_seal.specs.Sealed.{sealed}
+use Rattle.ob_vault.specs.declared.region.Region.{Region}
+use Rattle.ob_vault.specs.declared.region.Order.TheVariants.{Any}
+use Rattle.ob_vault.specs.declared.fault.VaultErr.{VaultErr}
+use Rattle.ob_vault.specs.declared.fault.VaultErr.TheVariants.{Failed, Tampered, NoMemory}
+use Rattle.ob_vault.specs.State.{World}
+use Rattle.ob_base.specs.Accesses.{number_of}
+use Rattle.ob_vault.specs.Tied.{Ready, Lives, Written, OnTurn, Holds, EndsAt, at_of}
+use Rattle.ob_vault.specs.Rows.{joined, SameSizes}
+use Rattle.ob_vault.specs.Places.{RowsFit, MayGet, MayPut}
+use Rattle.ob_vault.proofs.RowsLemmas.{length-joined}
+use Rattle.ob_vault.specs.Calls.{Apart, Only, Lasts, Seals, Went, Cut, Cause}
+
+module _ (some : ℕ → Type 0) (a b c : World) where
+  pub apart_trans : Apart some a b → Apart some b c → Apart some a c
+  apart_trans first second = record {
+    live = λ q off. second.live q off ∙ first.live q off;
+    number = λ q x off. second.number q x off ∙ first.number q x off;
+    turn = λ q off. second.turn q off ∙ first.turn q off;
+    kept = λ q off. second.kept q off ∙ first.kept q off;
+    last = λ q x off. second.last q x off ∙ first.last q x off;
+  }
+
+  pub lasts_trans : Lasts some a b → Lasts some b c → Lasts some a c
+  lasts_trans first second = record {
+    ready = second.ready;
+    later = later_trans _ _ _ first.later second.later;
+    keys = second.keys ∙ first.keys;
+    apart = apart_trans first.apart second.apart;
+  }
+
+  pub went_join : (x y : List Access) → Went x some a b → Went y some b c → Went (x ++ y) some a c
+  went_join x y first second = record {
+    lasts = lasts_trans first.lasts second.lasts;
+    did = did_join x y _ _ _ first.did second.did;
+    spare = omega (arith, first.spare, second.spare, length-append x y);
+    calm = λ calm. second.calm (first.calm calm);
+  }
+
+  cause_after : (e : VaultErr) (x : List Access) → Went x some a b → Cause e b c → Cause e a c
+  cause_after Failed x first (rises, calm) = (subst (λ (n : ℕ). Rises n c.store.faults) first.did.faults rises, λ was. calm (first.calm was))
+  cause_after (Tampered q p) x first (same, calm) = (same ∙ first.did.faults, λ was. calm (first.calm was))
+  cause_after NoMemory x first (same, calm) = (same ∙ first.did.faults, λ was. calm (first.calm was))
+
+  -- a run that was cut in its second part
+  pub cut_after : (e : VaultErr) (x y : List Access) → Went x some a b → Cut e y some b c → Cut e (x ++ y) some a c
+  cut_after e x y first second = record {
+    lasts = lasts_trans first.lasts second.lasts;
+    began = began_join x y _ _ _ first.did second.began;
+    cause = cause_after e x first second.cause;
+  }
+
+module _ (some : ℕ → Type 0) (a b : World) where
+  -- in its first part
+  pub cut_more : (e : VaultErr) (x y : List Access) → Cut e x some a b → Cut e (x ++ y) some a b
+  cut_more e x y first = record { lasts = first.lasts; began = began_more x y _ _ first.began; cause = first.cause }
+
+  pub lasts_wider : (more : ℕ → Type 0) → ((q : ℕ) → some q → more q) → Lasts some a b → Lasts more a b
+  lasts_wider more within lasts = record {
+    ready = lasts.ready;
+    later = lasts.later;
+    keys = lasts.keys;
+    apart = record {
+      live = λ q off. lasts.apart.live q (λ s. off (within q s));
+      number = λ q x off. lasts.apart.number q x (λ s. off (within q s));
+      turn = λ q off. lasts.apart.turn q (λ s. off (within q s));
+      kept = λ q off. lasts.apart.kept q (λ s. off (within q s));
+      last = λ q x off. lasts.apart.last q x (λ s. off (within q s));
+    };
+  }
+
+  pub went_wider : (more : ℕ → Type 0) → ((q : ℕ) → some q → more q) → (x : List Access) → Went x some a b → Went x more a b
+  went_wider more within x went = record { lasts = lasts_wider more within went.lasts; did = went.did; spare = went.spare; calm = went.calm }
+
+  pub cut_wider : (more : ℕ → Type 0) → ((q : ℕ) → some q → more q) → (e : VaultErr) (x : List Access) → Cut e x some a b → Cut e x more a b
+  cut_wider more within e x cut = record { lasts = lasts_wider more within cut.lasts; began = cut.began; cause = cut.cause }
+
+  pub lives_went : (x : List Access) (q : ℕ) (shape : Region) → Went x some a b → (some q → ⊥) → Lives q shape a → Lives q shape b
+  lives_went x q shape went off is = record { live = went.lasts.apart.live q off ∙ is.live }
+
+  pub written_went : (x : List Access) (q p : ℕ) → Went x some a b → (some q → ⊥) → Written q p a → Written q p b
+  written_went x q p went off is = record { number = λ zero. is.number (sym (went.lasts.apart.number q p off) ∙ zero) }
+
+  -- what stood at a place of another region stands there
+  pub holds_went : (x : List Access) (q p : ℕ) (rows : List ℕ) → Went x some a b → (some q → ⊥) → Holds q p rows a → Holds q p rows b
+  holds_went x q p rows went off is = record {
+    last = went.lasts.apart.last q p off ∙ is.last
+        ∙ (λ i. Some (sealed (sym went.lasts.keys i) (at_of q p (sym (went.lasts.apart.number q p off) i)) rows));
+  }
+
+  pub none_went : (x : List Access) → Went x some a b → b.store.lie ≡ None → a.store.lie ≡ None
+  none_went x went none = none_before _ _ went.lasts.later none
+
+  pub none_cut : (e : VaultErr) (x : List Access) → Cut e x some a b → b.store.lie ≡ None → a.store.lie ≡ None
+  none_cut e x cut none = none_before _ _ cut.lasts.later none
+
+-- the same over a write to one place
+module _ (r y : ℕ) (a b : World) (only : Only r y a b) where
+  pub lives_only : (q : ℕ) (shape : Region) → Lives q shape a → Lives q shape b
+  lives_only q shape is = record { live = only.live q ∙ is.live }
+
+  pub written_only : (q p : ℕ) → (q ≡ r → p ≡ y → ⊥) → Written q p a → Written q p b
+  written_only q p off is = record { number = λ zero. is.number (sym (only.number q p off) ∙ zero) }
+
+  pub holds_only : (q p : ℕ) (rows : List ℕ) → (q ≡ r → p ≡ y → ⊥) → Holds q p rows a → Holds q p rows b
+  holds_only q p rows off is = record {
+    last = only.last q p off ∙ is.last
+        ∙ (λ i. Some (sealed (sym only.keys i) (at_of q p (sym (only.number q p off) i)) rows));
+  }
+
+pub seals_join : (good : ℕ → List ℕ → Bool) (a b c : World) → Later a.store b.store → Seals good a b → Seals good b c → Seals good a c
+seals_join good a b c later first second = record { seals = λ tells all. second.seals (subst (λ (t : Bool). IsTrue t) (sym later.tells) tells) (first.seals tells all) }
+
+pub seals_none : (good : ℕ → List ℕ → Bool) (w : World) → Seals good w w
+seals_none good w = record { seals = λ tells all. all }
+
+-- no call
+pub went_none : (some : ℕ → Type 0) (w : World) → Ready w → Went [] some w w
+went_none some w ready = record {
+  lasts = record {
+    ready = ready;
+    later = later_refl w.store;
+    keys = refl;
+    apart = record { live = λ q off. refl; number = λ q x off. refl; turn = λ q off. refl; kept = λ q off. refl; last = λ q x off. refl };
+  };
+  did = did_none w.store;
+  spare = omega arith;
+  calm = λ calm. calm;
+}
+
+module _ (some : ℕ → Type 0) (part : ℕ → List Access) (a b c : World) where
+  -- one more part
+  pub went_each : (i : ℕ) → Went (each i part) some a b → Went (part i) some b c → Went (each (i + 1) part) some a c
+  went_each i first second =
+      let next : suc i ≡ i + 1 = omega arith in
+      subst (λ (k : ℕ). Went (each k part) some a c) next (went_join some a b c (each i part) (part i) first second)
+
+  -- a run that was cut in one of its parts
+  pub cut_each : (e : VaultErr) (n i : ℕ) → i < n → Went (each i part) some a b → Cut e (part i) some b c → Cut e (each n part) some a c
+  cut_each e n i below first second =
+      let p = parts part n i below in
+      subst (λ (l : List Access). Cut e l some a c) (sym p.split)
+      (cut_more some a c e (each i part ++ part i) p.rest (cut_after some a b c e (each i part) (part i) first second))
+
+-- a run that was cut, after which a region is forgotten
+pub cut_then : (some : ℕ → Type 0) (e : VaultErr) (x : List Access) (a b c : World) → Cut e x some a b → Went [] some b c → c.store ≡ b.store → Cut e x some a c
+cut_then some e x a b c cut went same = record {
+  lasts = lasts_trans some a b c cut.lasts went.lasts;
+  began = subst (λ (s : StoreState). Began x a.store s) (sym same) cut.began;
+  cause = go e cut.cause;
+}
+  where
+    ends : (q p : ℕ) → EndsAt q p b → EndsAt q p c
+    ends q p is = record { lie = is.lie; told = ap (λ (s : StoreState). s.lie) same ∙ is.told; asked = ap (λ (s : StoreState). s.asked) same ∙ is.asked; at_region = is.at_region; at_place = is.at_place }
+
+    faults : c.store.faults ≡ b.store.faults
+    faults = ap (λ (s : StoreState). s.faults) same
+
+    go : (e : VaultErr) → Cause e a b → Cause e a c
+    go Failed (rises, calm) = (subst (λ (n : ℕ). Rises a.store.faults n) (sym faults) rises, λ was. went.calm (calm was))
+    go NoMemory (kept, calm) = (faults ∙ kept, λ was. went.calm (calm was))
+    go (Tampered q p) (kept, calm) = (faults ∙ kept, λ was. elim (calm was) [ inl still ↦ inl (went.calm still) | inr is ↦ inr (ends q p is) ])
+
+pub went_length : (some : ℕ → Type 0) (x : List Access) (a b : World) → Went x some a b → length b.store.asked ≡ length a.store.asked + length x
+went_length some x a b went = ap length went.did.asked ∙ length-append a.store.asked x
+
+pub tells_went : (some : ℕ → Type 0) (x : List Access) (a b : World) → Went x some a b → IsTrue a.store.tells → IsTrue b.store.tells
+tells_went some x a b went tells = subst (λ (t : Bool). IsTrue t) (sym went.lasts.later.tells) tells
+
+pub holds_rows : (q p : ℕ) (rows other : List ℕ) (w : World) → rows ≡ other → Holds q p rows w → Holds q p other w
+holds_rows q p rows other w same is = subst (λ (l : List ℕ). Holds q p l w) same is
+
+-- no live region has the next number
+pub lives_apart : (q : ℕ) (shape : Region) (w : World) → Ready w → Lives q shape w → q ≡ w.vault.next → ⊥
+lives_apart q shape w ready is same = absurd (omega (arith, same, ready.below q shape is.live))
+
+-- rows of the same sizes fit as well
+pub fit_same : (a b : List (List ℕ)) (width : ℕ) → SameSizes a b → RowsFit a width → RowsFit b width
+fit_same a b width same fit = record {
+  each = fit.each;
+  whole = ap (λ (n : ℕ). n * fit.each) same.count ∙ fit.whole;
+  some = omega (arith, same.count, fit.some);
+  wide = record { wide = λ j h. omega (arith, same.sizes j, fit.wide.wide j (omega (arith, same.count))) };
+}
+
+pub fit_trans : (a b c : List (List ℕ)) → SameSizes a b → SameSizes b c → SameSizes a c
+fit_trans a b c first second = record { count = second.count ∙ first.count; sizes = λ j. second.sizes j ∙ first.sizes j }
+
+-- a read may be made, and a write
+pub may_get : (q x : ℕ) (shape : Region) (rows : List (List ℕ)) (w : World) → Lives q shape w → x < shape.blocks → RowsFit rows shape.width → Written q x w → MayGet q x rows w
+may_get q x shape rows w lives within fit written = record { place = record { shape = shape; lives = lives; within = within; fit = fit }; written = written }
+
+pub may_put : (q x : ℕ) (shape : Region) (rows : List (List ℕ)) (w : World) → Lives q shape w → x < shape.blocks → RowsFit rows shape.width → OnTurn q shape x w → MayPut q x rows w
+may_put q x shape rows w lives within fit turn = record { place = record { shape = shape; lives = lives; within = within; fit = fit }; turn = turn }
+
+each_is : (n e w : ℕ) → 1 ≤ n → n * e ≡ w → w / n ≡ e
+each_is n e w some is = grind arith
+
+-- the bytes of rows that fit
+pub joined_size : (rows : List (List ℕ)) (width : ℕ) → RowsFit rows width → length (joined (width / length rows) rows) ≡ width
+joined_size rows width fit =
+    let is = each_is (length rows) fit.each width fit.some fit.whole in
+    ap (λ (w : ℕ). length (joined w rows)) is ∙ length-joined fit.each rows fit.wide.wide ∙ fit.whole
+
+-- the number of what stands at a place of a live region is the position of its last write
+pub holds_number : (q x : ℕ) (shape : Region) (rows : List ℕ) (w : World) → Ready w → Lives q shape w → x < shape.blocks → Holds q x rows w
+    → w.store.last q x ≡ Some (sealed w.vault.keys (at_of q x (number_of w.store.asked q x)) rows)
+holds_number q x shape rows w ready is within holds =
+    holds.last ∙ ap (λ (n : ℕ). Some (sealed w.vault.keys (at_of q x n) rows)) (ready.tied.numbers q x shape is.live within)
+
+-- a write to any place of a region without order is in turn
+pub turn_any : (q : ℕ) (shape : Region) (x : ℕ) (w : World) → shape.order ≡ Any → OnTurn q shape x w
+turn_any q shape x w any = record { turn = λ round. absurd (cc (any, round)); run = λ round off. absurd (cc (any, round)) }
+
+-- a region whose lap is whole stays so while others are written
+pub turn_went : (some : ℕ → Type 0) (a b : World) (x : List Access) (q : ℕ) (shape : Region) → Went x some a b → (some q → ⊥) → OnTurn q shape 0 a → OnTurn q shape 0 b
+turn_went some a b x q shape went off is = record { turn = λ round. is.turn round ∙ sym (went.lasts.apart.turn q off); run = λ round nonzero. absurd (nonzero refl) }
+
+-- the same after any answer
+module _ (some : ℕ → Type 0) (a b : World) (lasts : Lasts some a b) where
+  pub lives_lasts : (q : ℕ) (shape : Region) → (some q → ⊥) → Lives q shape a → Lives q shape b
+  lives_lasts q shape off is = record { live = lasts.apart.live q off ∙ is.live }
+
+  pub written_lasts : (q p : ℕ) → (some q → ⊥) → Written q p a → Written q p b
+  written_lasts q p off is = record { number = λ zero. is.number (sym (lasts.apart.number q p off) ∙ zero) }
+
+  pub holds_lasts : (q p : ℕ) (rows : List ℕ) → (some q → ⊥) → Holds q p rows a → Holds q p rows b
+  holds_lasts q p rows off is = record {
+    last = lasts.apart.last q p off ∙ is.last
+        ∙ (λ i. Some (sealed (sym lasts.keys i) (at_of q p (sym (lasts.apart.number q p off) i)) rows));
+  }
+
+  pub turn_lasts : (q : ℕ) (shape : Region) → (some q → ⊥) → OnTurn q shape 0 a → OnTurn q shape 0 b
+  turn_lasts q shape off is = record { turn = λ round. is.turn round ∙ sym (lasts.apart.turn q off); run = λ round nonzero. absurd (nonzero refl) }

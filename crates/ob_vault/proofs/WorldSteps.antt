@@ -1,0 +1,390 @@
+-- What each call of a vault does to it and its store.
+use Rattle.std.proofs.Common.{◌≡◌, ◌⊎◌, inl, inr, ℕ, ◌+◌, ◌<◌, ◌≤◌, List, [], ◌∷◌, Some, None, Bool, IsTrue, refl, sym, ◌∙◌, ap, subst, arith}
+use Rattle.std.proofs.lemmas.Bool.{cases_eq}
+use Rattle.ob_base.specs.declared.access.Access.{Access}
+use Rattle.ob_base.specs.declared.access.Access.TheVariants.{Make, Read, Write, Discard}
+use Rattle.ob_store.specs.State.{StoreState}
+use Rattle.ob_base.specs.Counts.{Rises}
+use Rattle.ob_store.specs.Calls.{IsRegion, Asks, Keeps, OnlyAt, OnlyRegion, Makes}
+use Rattle.ob_store.specs.Runs.{Later}
+use Rattle.ob_store.proofs.Steps.{later_call, later_refl, did_call, began_call}
+use Rattle.ob_seal.specs.KeyPair.{KeyPair}
+use Rattle.ob_seal.specs.Sealed.{sealed}
+use Rattle.ob_vault.specs.declared.region.Region.{Region}
+use Rattle.ob_vault.specs.declared.fault.VaultErr.TheVariants as VaultErrs
+use Rattle.ob_vault.specs.Revs.{OtherRegions, Begins, Wrote}
+use Rattle.ob_vault.specs.State.{RevState, VaultState, World}
+use Rattle.ob_base.specs.Accesses.{writes, makes, number_of, nth_write}
+use Rattle.ob_base.specs.Accesses.{AllBelow}
+use Rattle.ob_vault.specs.Tied.{Ready, SealedAt, AllSealed, Fits, Holds, at_of}
+use Rattle.ob_vault.specs.Calls.{Apart, Only, Lasts, Seals, Went, Cut, none, one}
+use Rattle.ob_base.proofs.AccessLemmas.{number_read, number_make, number_discard, number_write_here, number_write_other, writes_read, writes_write, writes_make, writes_discard, makes_more, below_more, below_up, number_fresh, went_on, went_last}
+
+module _ (good : ℕ → List ℕ → Bool) (old new : World) (a : Access) (keys : new.vault.keys ≡ old.vault.keys) (asks : Asks a old.store new.store) where
+  kept_at : (q x : ℕ) (b : List ℕ) → SealedAt good old.vault.keys old.store.asked q x b → SealedAt good new.vault.keys new.store.asked q x b
+  kept_at q x b s = record {
+    number = s.number;
+    rows = s.rows;
+    is = s.is ∙ ap (λ (k : KeyPair). sealed k (at_of q x s.number) s.rows) (sym keys);
+    went = ap (nth_write s.number) asks.asked ∙ went_on s.number old.store.asked (a ∷ []) (q, x) s.went;
+    fine = s.fine;
+  }
+
+  pub sealed_kept : ((q x : ℕ) (b : List ℕ) → (new.store.live q ≡ None → ⊥) → new.store.last q x ≡ Some b
+      → SealedAt good new.vault.keys new.store.asked q x b ⊎ ((old.store.live q ≡ None → ⊥) × (old.store.last q x ≡ Some b))) → AllSealed good old → AllSealed good new
+  sealed_kept each all = record { all = λ q x b live at. elim (each q x b live at) [ inl s ↦ s | inr o ↦ kept_at q x b (all.all q x b o.0 o.1) ] }
+
+  pub sealed_keeps : Keeps old.store new.store → AllSealed good old → AllSealed good new
+  sealed_keeps keeps = sealed_kept (λ q x b live at. inr ((λ n. live (keeps.live q ∙ n)), sym (keeps.last q x) ∙ at))
+
+  -- but for a region that is gone, or has no block
+  pub sealed_but : (g : ℕ) → OnlyRegion g old.store new.store → ((new.store.live g ≡ None) ⊎ ((x : ℕ) → new.store.last g x ≡ None)) → AllSealed good old → AllSealed good new
+  sealed_but g only gone = sealed_kept (λ q x b live at. elim (cases_eq q g) [
+    | inl here ↦ absurd (elim gone [
+      | inl left ↦ live (ap new.store.live here ∙ left)
+      | inr empty ↦ cc (sym at ∙ ap (λ (k : ℕ). new.store.last k x) here ∙ empty x)
+    ])
+    | inr off ↦ inr ((λ n. live (only.live q off ∙ n)), sym (only.last q x off) ∙ at)
+  ])
+
+-- a call that may have changed one region, and no number
+pub record Moved (g : ℕ) (old new : World) : Type 0 where
+  pub keys : new.vault.keys ≡ old.vault.keys
+  pub count : new.vault.count ≡ writes new.store.asked
+  pub next : new.vault.next ≡ 1 + makes new.store.asked
+  pub above : AllBelow new.vault.next new.store.asked
+  pub up : old.vault.next ≤ new.vault.next
+  pub revs : OtherRegions g old.vault.revs new.vault.revs
+  pub only : OnlyRegion g old.store new.store
+  pub numbers : (q x : ℕ) → number_of new.store.asked q x ≡ number_of old.store.asked q x
+  pub here_live : (shape : Region) → new.vault.revs.live g ≡ Some shape → IsRegion g shape.blocks (shape.width + 32) new.store
+  pub here_number : (shape : Region) → new.vault.revs.live g ≡ Some shape → (x : ℕ) → new.vault.revs.number g x ≡ number_of new.store.asked g x
+  pub here_below : (shape : Region) → new.vault.revs.live g ≡ Some shape → g < new.vault.next
+  pub here_fits : (shape : Region) → new.vault.revs.live g ≡ Some shape → shape.width ≤ 16384
+
+pub ready_moved : (g : ℕ) (old new : World) → Ready old → Moved g old new → Ready new
+ready_moved g old new ready m = record {
+  tied = record {
+    count = m.count;
+    next = m.next;
+    above = m.above;
+    live = λ q shape l. elim (cases_eq q g) [
+      | inl here ↦ subst (λ (k : ℕ). IsRegion k shape.blocks (shape.width + 32) new.store) (sym here) (m.here_live shape (sym (ap new.vault.revs.live here) ∙ l))
+      | inr off ↦ record { live = m.only.live q off ∙ (ready.tied.live q shape (sym (m.revs.live q off) ∙ l)).live }
+    ];
+    numbers = λ q x shape l h. elim (cases_eq q g) [
+      | inl here ↦ ap (λ (k : ℕ). new.vault.revs.number k x) here ∙ m.here_number shape (sym (ap new.vault.revs.live here) ∙ l) x ∙ sym (ap (λ (k : ℕ). number_of new.store.asked k x) here)
+      | inr off ↦ m.revs.number q x off ∙ ready.tied.numbers q x shape (sym (m.revs.live q off) ∙ l) h ∙ sym (m.numbers q x)
+    ];
+  };
+  below = λ q shape l. elim (cases_eq q g) [
+    | inl here ↦ subst (λ (k : ℕ). k < new.vault.next) (sym here) (m.here_below shape (sym (ap new.vault.revs.live here) ∙ l))
+    | inr off ↦ omega (arith, ready.below q shape (sym (m.revs.live q off) ∙ l), m.up)
+  ];
+  fits = λ q shape l. elim (cases_eq q g) [
+    | inl here ↦ m.here_fits shape (sym (ap new.vault.revs.live here) ∙ l)
+    | inr off ↦ ready.fits q shape (sym (m.revs.live q off) ∙ l)
+  ];
+}
+
+pub apart_moved : (g : ℕ) (old new : World) → Moved g old new → Apart (one g) old new
+apart_moved g old new m = record {
+  live = λ q off. m.revs.live q off;
+  number = λ q x off. m.revs.number q x off;
+  turn = λ q off. m.revs.turn q off;
+  kept = λ q off. m.only.live q off;
+  last = λ q x off. m.only.last q x off;
+}
+
+pub lasts_moved : (g : ℕ) (old new : World) → Ready old → Moved g old new → Later old.store new.store → Lasts (one g) old new
+lasts_moved g old new ready m later = record {
+  ready = ready_moved g old new ready m;
+  later = later;
+  keys = m.keys;
+  apart = apart_moved g old new m;
+}
+
+abbrev world : VaultState → StoreState → World
+world v s = record { vault = v; store = s }
+
+-- a read
+pub lasts_read : (v : VaultState) (old new : StoreState) (q x : ℕ) (shape : Region) → Ready (world v old) → v.revs.live q ≡ Some shape → Asks (Read q x) old new → Keeps old new → Lasts none (world v old) (world v new)
+lasts_read v old new q x shape ready lives asks keeps =
+    let tied = ready.tied in
+    let numbers : (r y : ℕ) → number_of new.asked r y ≡ number_of old.asked r y = λ r y. ap (λ (l : List Access). number_of l r y) asks.asked ∙ number_read r y q x old.asked in
+    record {
+      ready = record {
+        tied = record {
+          count = tied.count ∙ sym (ap writes asks.asked ∙ writes_read q x old.asked);
+          next = omega (arith, tied.next, ap makes asks.asked, makes_more old.asked (Read q x));
+          above = subst (AllBelow v.next) (sym asks.asked) (below_more v.next old.asked (Read q x) tied.above (ready.below q shape lives));
+          live = λ r s l. record { live = keeps.live r ∙ (tied.live r s l).live };
+          numbers = λ r y s l h. tied.numbers r y s l h ∙ sym (numbers r y);
+        };
+        below = ready.below;
+        fits = ready.fits;
+      };
+      later = later_call _ _ _ asks;
+      keys = refl;
+      apart = record {
+        live = λ r off. refl;
+        number = λ r y off. refl;
+        turn = λ r off. refl;
+        kept = λ r off. keeps.live r;
+        last = λ r y off. keeps.last r y;
+      };
+    }
+
+-- a discard
+pub lasts_drop : (v : VaultState) (revs : RevState) (old new : StoreState) (g : ℕ) (shape : Region) → Ready (world v old) → v.revs.live g ≡ Some shape → OtherRegions g v.revs revs → revs.live g ≡ None
+    → Asks (Discard g) old new → OnlyRegion g old new → (new.live g ≡ None) ⊎ Keeps old new → Lasts (one g) (world v old) (world (record v { revs = revs }) new)
+lasts_drop v revs old new g shape ready lives others gone asks only left =
+    let tied = ready.tied in
+    let was = world v old in
+    let now = world (record v { revs = revs }) new in
+    lasts_moved g was now ready (record {
+      keys = refl;
+      count = tied.count ∙ sym (ap writes asks.asked ∙ writes_discard g old.asked);
+      next = omega (arith, tied.next, ap makes asks.asked, makes_more old.asked (Discard g));
+      above = subst (AllBelow v.next) (sym asks.asked) (below_more v.next old.asked (Discard g) tied.above (ready.below g shape lives));
+      up = omega arith;
+      revs = others;
+      only = only;
+      numbers = λ q x. ap (λ (l : List Access). number_of l q x) asks.asked ∙ number_discard q x g old.asked;
+      here_live = λ s l. absurd (cc (l, gone));
+      here_number = λ s l x. absurd (cc (l, gone));
+      here_below = λ s l. absurd (cc (l, gone));
+      here_fits = λ s l. absurd (cc (l, gone));
+    }) (later_call _ _ _ asks)
+
+pub seals_drop : (good : ℕ → List ℕ → Bool) (v : VaultState) (revs : RevState) (old new : StoreState) (g : ℕ) → Asks (Discard g) old new → OnlyRegion g old new → (new.live g ≡ None) ⊎ Keeps old new
+    → Seals good (world v old) (world (record v { revs = revs }) new)
+seals_drop good v revs old new g asks only left =
+    let was = world v old in
+    let now = world (record v { revs = revs }) new in
+    record {
+      seals = λ tells all. elim left [
+        | inl left ↦ sealed_but good was now (Discard g) refl asks g only (inl left) all
+        | inr keeps ↦ sealed_keeps good was now (Discard g) refl asks keeps all
+      ];
+    }
+
+pub seals_forget : (good : ℕ → List ℕ → Bool) (v : VaultState) (revs : RevState) (s : StoreState) → Seals good (world v s) (world (record v { revs = revs }) s)
+seals_forget good v revs s = record { seals = λ tells all. record { all = all.all } }
+
+pub seals_read : (good : ℕ → List ℕ → Bool) (v : VaultState) (old new : StoreState) (q x : ℕ) → Asks (Read q x) old new → Keeps old new → Seals good (world v old) (world v new)
+seals_read good v old new q x asks keeps = record { seals = λ tells all. sealed_keeps good (world v old) (world v new) (Read q x) refl asks keeps all }
+
+pub seals_make : (good : ℕ → List ℕ → Bool) (v : VaultState) (revs : RevState) (old new : StoreState) (g blocks len : ℕ) → Asks (Make g blocks len) old new → Makes g blocks len old new
+    → Seals good (world v old) (world (record v { next = v.next + 1; revs = revs }) new)
+seals_make good v revs old new g blocks len asks makes' =
+    record { seals = λ tells all. sealed_but good (world v old) (world (record v { next = v.next + 1; revs = revs }) new) (Make g blocks len) refl asks g makes'.others (inr makes'.empty) all }
+
+pub seals_unmade : (good : ℕ → List ℕ → Bool) (v : VaultState) (revs : RevState) (old new : StoreState) (g blocks len : ℕ) → Asks (Make g blocks len) old new → Keeps old new
+    → Seals good (world v old) (world (record v { next = v.next + 1; revs = revs }) new)
+seals_unmade good v revs old new g blocks len asks keeps =
+    record { seals = λ tells all. sealed_keeps good (world v old) (world (record v { next = v.next + 1; revs = revs }) new) (Make g blocks len) refl asks keeps all }
+
+-- no call on the store
+pub lasts_forget : (v : VaultState) (revs : RevState) (s : StoreState) (g : ℕ) → Ready (world v s) → OtherRegions g v.revs revs → revs.live g ≡ None → Lasts (one g) (world v s) (world (record v { revs = revs }) s)
+lasts_forget v revs s g ready others gone =
+    lasts_moved g (world v s) (world (record v { revs = revs }) s) ready (record {
+      keys = refl;
+      count = ready.tied.count;
+      next = ready.tied.next;
+      above = ready.tied.above;
+      up = omega arith;
+      revs = others;
+      only = record { live = λ q off. refl; last = λ q x off. refl };
+      numbers = λ q x. refl;
+      here_live = λ s l. absurd (cc (l, gone));
+      here_number = λ s l x. absurd (cc (l, gone));
+      here_below = λ s l. absurd (cc (l, gone));
+      here_fits = λ s l. absurd (cc (l, gone));
+    }) (later_refl s)
+
+-- a call that answered
+pub went_call : (a : Access) (some : ℕ → Type 0) (old new : World) → Lasts some old new → Asks a old.store new.store → new.store.faults ≡ old.store.faults → new.store.lie ≡ old.store.lie → Went (a ∷ []) some old new
+went_call a some old new lasts asks faults lie = record {
+  lasts = lasts;
+  did = did_call a old.store new.store asks faults;
+  spare = asks.spare;
+  calm = λ calm. record { calm = λ l is. subst (λ (k : KeyPair). Fits k l) (sym lasts.keys) (calm.calm l (sym lie ∙ is)) };
+}
+
+module _ (v : VaultState) (revs : RevState) (old new : StoreState) (q x : ℕ) (shape : Region) (ready : Ready (world v old)) (lives : v.revs.live q ≡ Some shape)
+    (wrote : Wrote q shape x (v.count + 1) v.revs revs) (asks : Asks (Write q x) old new) (only : OnlyAt q x old new) where
+  number_here : number_of new.asked q x ≡ v.count + 1
+  number_here = ap (λ (l : List Access). number_of l q x) asks.asked ∙ number_write_here q x old.asked ∙ ap (λ (n : ℕ). n + 1) (sym ready.tied.count)
+
+  number_other : (r y : ℕ) → (r ≡ q → y ≡ x → ⊥) → number_of new.asked r y ≡ number_of old.asked r y
+  number_other r y off = ap (λ (l : List Access). number_of l r y) asks.asked ∙ number_write_other r y q x old.asked off
+
+  now_ready : Ready (world (record v { count = v.count + 1; revs = revs }) new)
+  now_ready =
+      let tied = ready.tied in
+      record {
+        tied = record {
+          count = ap (λ (n : ℕ). n + 1) tied.count ∙ sym (ap writes asks.asked ∙ writes_write q x old.asked);
+          next = omega (arith, tied.next, ap makes asks.asked, makes_more old.asked (Write q x));
+          above = subst (AllBelow v.next) (sym asks.asked) (below_more v.next old.asked (Write q x) tied.above (ready.below q shape lives));
+          live = λ r s l. record { live = only.live r ∙ (tied.live r s (sym (wrote.live r) ∙ l)).live };
+          numbers = λ r y s l h. elim (cases_eq r q) [
+            | inl in_region ↦ elim (cases_eq y x) [
+              | inl here ↦ (λ i. revs.number (in_region i) (here i)) ∙ wrote.here ∙ sym number_here ∙ sym (λ i. number_of new.asked (in_region i) (here i))
+              | inr off ↦ wrote.others r y (λ _ same. off same) ∙ tied.numbers r y s (sym (wrote.live r) ∙ l) h ∙ sym (number_other r y (λ _ same. off same))
+            ]
+            | inr off ↦ wrote.others r y (λ same _. off same) ∙ tied.numbers r y s (sym (wrote.live r) ∙ l) h ∙ sym (number_other r y (λ same _. off same))
+          ];
+        };
+        below = λ r s l. ready.below r s (sym (wrote.live r) ∙ l);
+        fits = λ r s l. ready.fits r s (sym (wrote.live r) ∙ l);
+      }
+
+  now_sealed : (good : ℕ → List ℕ → Bool) (block rows : List ℕ) → IsTrue (good q rows) → block ≡ sealed v.keys (at_of q x (v.count + 1)) rows → (new.last q x ≡ old.last q x) ⊎ (new.last q x ≡ Some block)
+      → AllSealed good (world v old) → AllSealed good (world (record v { count = v.count + 1; revs = revs }) new)
+  now_sealed good block rows fine is left all = sealed_kept good (world v old) (world (record v { count = v.count + 1; revs = revs }) new) (Write q x) refl asks each all
+    where
+      Goal : ℕ → ℕ → List ℕ → Type 0
+      Goal r y b = SealedAt good v.keys new.asked r y b ⊎ ((old.live r ≡ None → ⊥) × (old.last r y ≡ Some b))
+
+      at_place : (b : List ℕ) → (new.live q ≡ None → ⊥) → new.last q x ≡ Some b → (new.last q x ≡ old.last q x) ⊎ (new.last q x ≡ Some block) → Goal q x b
+      at_place b live at (inl same) = inr ((λ n. live (only.live q ∙ n)), sym same ∙ at)
+      at_place b live at (inr put) =
+          let same : b ≡ block = cc (at, put) in
+          inl (record {
+            number = v.count + 1;
+            rows = rows;
+            is = same ∙ is;
+            fine = fine;
+            went = ap (nth_write (v.count + 1)) asks.asked ∙ went_last (v.count + 1) q x old.asked (ap (λ (n : ℕ). n + 1) ready.tied.count);
+          })
+
+      each : (r y : ℕ) (b : List ℕ) → (new.live r ≡ None → ⊥) → new.last r y ≡ Some b → Goal r y b
+      each r y b live at = elim (cases_eq r q) [
+        | inl in_region ↦ elim (cases_eq y x) [
+          | inl here ↦
+              let r' = sym in_region in
+              let h' = sym here in
+              let there : new.last q x ≡ Some b = (λ i. new.last (r' i) (h' i)) ∙ at in
+              let alive : new.live q ≡ None → ⊥ = λ n. live (ap new.live in_region ∙ n) in
+              subst (λ (k : ℕ). Goal k y b) r' (subst (λ (k : ℕ). Goal q k b) h' (at_place b alive there left))
+          | inr off ↦ inr ((λ n. live (only.live r ∙ n)), sym (only.elsewhere r y (λ _ same. off same)) ∙ at)
+        ]
+        | inr off ↦ inr ((λ n. live (only.live r ∙ n)), sym (only.elsewhere r y (λ same _. off same)) ∙ at)
+      ]
+
+  pub lasts_write : Lasts (one q) (world v old) (world (record v { count = v.count + 1; revs = revs }) new)
+  lasts_write = record {
+    ready = now_ready;
+    later = later_call _ _ _ asks;
+    keys = refl;
+    apart = record {
+      live = λ r off. wrote.live r;
+      number = λ r y off. wrote.others r y (λ same _. off same);
+      turn = λ r off. wrote.turns r off;
+      kept = λ r off. only.live r;
+      last = λ r y off. only.elsewhere r y (λ same _. off same);
+    };
+  }
+
+  pub seals_write : (good : ℕ → List ℕ → Bool) (block rows : List ℕ) → IsTrue (good q rows) → block ≡ sealed v.keys (at_of q x (v.count + 1)) rows → (IsTrue old.tells → (new.last q x ≡ old.last q x) ⊎ (new.last q x ≡ Some block))
+      → Seals good (world v old) (world (record v { count = v.count + 1; revs = revs }) new)
+  seals_write good block rows fine is left = record { seals = λ tells all. now_sealed good block rows fine is (left tells) all }
+
+  pub only_write : Only q x (world v old) (world (record v { count = v.count + 1; revs = revs }) new)
+  only_write = record {
+    keys = refl;
+    live = wrote.live;
+    number = wrote.others;
+    last = only.elsewhere;
+  }
+
+  pub holds_write : (rows block : List ℕ) → block ≡ sealed v.keys (at_of q x (v.count + 1)) rows → new.last q x ≡ Some block → Holds q x rows (world (record v { count = v.count + 1; revs = revs }) new)
+  holds_write rows block is last = record { last = last ∙ ap (λ (b : List ℕ). Some b) (is ∙ ap (λ (n : ℕ). sealed v.keys (at_of q x n) rows) (sym wrote.here)) }
+
+-- a call that failed
+pub cut_call : (a : Access) (some : ℕ → Type 0) (old new : World) → Lasts some old new → Asks a old.store new.store → Rises old.store.faults new.store.faults → new.store.lie ≡ old.store.lie → Cut VaultErrs.Failed (a ∷ []) some old new
+cut_call a some old new lasts asks rises lie = record {
+  lasts = lasts;
+  began = began_call a old.store new.store asks;
+  cause = (rises, λ calm. record { calm = λ l is. subst (λ (k : KeyPair). Fits k l) (sym lasts.keys) (calm.calm l (sym lie ∙ is)) });
+}
+
+-- a region that was made
+pub lasts_make : (v : VaultState) (revs : RevState) (old new : StoreState) (shape : Region) → Ready (world v old) → shape.width ≤ 16384 → Begins v.next shape v.revs revs
+    → Asks (Make v.next shape.blocks (shape.width + 32)) old new → Makes v.next shape.blocks (shape.width + 32) old new → Lasts (one v.next) (world v old) (world (record v { next = v.next + 1; revs = revs }) new)
+lasts_make v revs old new shape ready wide begins asks makes' =
+    let tied = ready.tied in
+    let g = v.next in
+    let access = Make g shape.blocks (shape.width + 32) in
+    let was = world v old in
+    let now = world (record v { next = v.next + 1; revs = revs }) new in
+    let numbers : (q x : ℕ) → number_of new.asked q x ≡ number_of old.asked q x = λ q x. ap (λ (l : List Access). number_of l q x) asks.asked ∙ number_make q x g shape.blocks (shape.width + 32) old.asked in
+    lasts_moved g was now ready (record {
+      keys = refl;
+      count = tied.count ∙ sym (ap writes asks.asked ∙ writes_make g shape.blocks (shape.width + 32) old.asked);
+      next = omega (arith, tied.next, ap makes asks.asked, makes_more old.asked access);
+      above = subst (AllBelow (v.next + 1)) (sym asks.asked) (below_more (v.next + 1) old.asked access (below_up v.next (v.next + 1) old.asked (omega arith) tied.above) (omega arith));
+      up = omega arith;
+      revs = begins.others;
+      only = makes'.others;
+      numbers = numbers;
+      here_live = λ s l. let same : shape ≡ s = cc (begins.here, l) in subst (λ (k : Region). IsRegion g k.blocks (k.width + 32) new) same makes'.here;
+      here_number = λ s l x. begins.unwritten x ∙ sym (number_fresh g x old.asked tied.above) ∙ sym (numbers g x);
+      here_below = λ s l. omega arith;
+      here_fits = λ s l. let same : shape ≡ s = cc (begins.here, l) in subst (λ (k : Region). k.width ≤ 16384) same wide;
+    }) (later_call _ _ _ asks)
+
+-- one that was not
+pub lasts_unmade : (v : VaultState) (revs : RevState) (old new : StoreState) (blocks len : ℕ) → Ready (world v old) → OtherRegions v.next v.revs revs → revs.live v.next ≡ None
+    → Asks (Make v.next blocks len) old new → Keeps old new → Lasts (one v.next) (world v old) (world (record v { next = v.next + 1; revs = revs }) new)
+lasts_unmade v revs old new blocks len ready others gone asks keeps =
+    let tied = ready.tied in
+    let g = v.next in
+    let access = Make g blocks len in
+    let was = world v old in
+    let now = world (record v { next = v.next + 1; revs = revs }) new in
+    lasts_moved g was now ready (record {
+      keys = refl;
+      count = tied.count ∙ sym (ap writes asks.asked ∙ writes_make g blocks len old.asked);
+      next = omega (arith, tied.next, ap makes asks.asked, makes_more old.asked access);
+      above = subst (AllBelow (v.next + 1)) (sym asks.asked) (below_more (v.next + 1) old.asked access (below_up v.next (v.next + 1) old.asked (omega arith) tied.above) (omega arith));
+      up = omega arith;
+      revs = others;
+      only = record { live = λ q off. keeps.live q; last = λ q x off. keeps.last q x };
+      numbers = λ q x. ap (λ (l : List Access). number_of l q x) asks.asked ∙ number_make q x g blocks len old.asked;
+      here_live = λ s l. absurd (cc (l, gone));
+      here_number = λ s l x. absurd (cc (l, gone));
+      here_below = λ s l. absurd (cc (l, gone));
+      here_fits = λ s l. absurd (cc (l, gone));
+    }) (later_call _ _ _ asks)
+
+pub others_twice : (g : ℕ) (a b c : RevState) → OtherRegions g a b → OtherRegions g b c → OtherRegions g a c
+others_twice g a b c first second = record {
+  live = λ q off. second.live q off ∙ first.live q off;
+  number = λ q x off. second.number q x off ∙ first.number q x off;
+  turn = λ q off. second.turn q off ∙ first.turn q off;
+}
+
+-- a make for which the store had no memory
+pub cut_call_none : (a : Access) (some : ℕ → Type 0) (old new : World) → Lasts some old new → Asks a old.store new.store → new.store.faults ≡ old.store.faults → new.store.lie ≡ old.store.lie → Cut VaultErrs.NoMemory (a ∷ []) some old new
+cut_call_none a some old new lasts asks faults lie = record {
+  lasts = lasts;
+  began = began_call a old.store new.store asks;
+  cause = (faults, λ calm. record { calm = λ l is. subst (λ (k : KeyPair). Fits k l) (sym lasts.keys) (calm.calm l (sym lie ∙ is)) });
+}
+
+pub ready_new : (w : World) → w.store.asked ≡ [] → w.vault.count ≡ 0 → w.vault.next ≡ 1 → ((q : ℕ) → w.vault.revs.live q ≡ None) → Ready w
+unfolding writes makes
+ready_new w none count next empty = record {
+  tied = record {
+    count = count ∙ sym (ap writes none);
+    next = next ∙ sym (ap (λ (l : List Access). 1 + makes l) none);
+    above = subst (AllBelow w.vault.next) (sym none) tt;
+    live = λ q s l. absurd (cc (l, empty q));
+    numbers = λ q x s l h. absurd (cc (l, empty q));
+  };
+  below = λ q s l. absurd (cc (l, empty q));
+  fits = λ q s l. absurd (cc (l, empty q));
+}

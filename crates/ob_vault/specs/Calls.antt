@@ -1,0 +1,63 @@
+-- What a call, or a run of calls, does to a vault and its store.
+use Rattle.std.specs.Prelude.{◌≡◌, ◌⊎◌, ◌≤◌, ◌+◌, ℕ, Bool, IsTrue, List, length}
+use Rattle.ob_base.specs.declared.access.Access.{Access}
+use Rattle.ob_base.specs.Counts.{Rises}
+use Rattle.ob_store.specs.Runs.{Did, Began, Later}
+use Rattle.ob_vault.specs.declared.fault.VaultErr.{VaultErr}
+use Rattle.ob_vault.specs.declared.fault.VaultErr.TheVariants.{Failed, Tampered, NoMemory}
+use Rattle.ob_vault.specs.State.{World}
+use Rattle.ob_vault.specs.Tied.{Ready, AllSealed, Calm, EndsAt}
+
+-- nothing has changed in any other region
+pub record Apart (some : ℕ → Type 0) (old new : World) : Type 0 where
+  pub live : (q : ℕ) → (some q → ⊥) → new.vault.revs.live q ≡ old.vault.revs.live q
+  pub number : (q x : ℕ) → (some q → ⊥) → new.vault.revs.number q x ≡ old.vault.revs.number q x
+  pub turn : (q : ℕ) → (some q → ⊥) → new.vault.revs.turn q ≡ old.vault.revs.turn q
+  pub kept : (q : ℕ) → (some q → ⊥) → new.store.live q ≡ old.store.live q
+  pub last : (q x : ℕ) → (some q → ⊥) → new.store.last q x ≡ old.store.last q x
+
+-- no region came or went, and nothing has changed at any other place
+pub record Only (q x : ℕ) (old new : World) : Type 0 where
+  pub keys : new.vault.keys ≡ old.vault.keys
+  pub live : (r : ℕ) → new.vault.revs.live r ≡ old.vault.revs.live r
+  pub number : (r y : ℕ) → (r ≡ q → y ≡ x → ⊥) → new.vault.revs.number r y ≡ old.vault.revs.number r y
+  pub last : (r y : ℕ) → (r ≡ q → y ≡ x → ⊥) → new.store.last r y ≡ old.store.last r y
+
+-- what lasts over each call, whatever it answers
+pub record Lasts (some : ℕ → Type 0) (old new : World) : Type 0 where
+  pub ready : Ready new
+  pub later : Later old.store new.store
+  pub keys : new.vault.keys ≡ old.vault.keys
+  pub apart : Apart some old new
+
+-- where all that lay in the store was sealed and good, it is
+pub record Seals (good : ℕ → List ℕ → Bool) (old new : World) : Type 0 where
+  pub seals : IsTrue old.store.tells → AllSealed good old → AllSealed good new
+
+-- all of the script was asked, and no other region has changed
+pub record Went (script : List Access) (some : ℕ → Type 0) (old new : World) : Type 0 where
+  pub lasts : Lasts some old new
+  pub did : Did script old.store new.store
+  pub spare : old.store.spare ≤ new.store.spare + length script
+  pub calm : Calm old → Calm new
+
+-- why a call gave up
+abbrev pub Cause : VaultErr → World → World → Type 0
+Cause Failed old new = Rises old.store.faults new.store.faults × (Calm old → Calm new)
+Cause (Tampered q x) old new = (new.store.faults ≡ old.store.faults) × (Calm old → Calm new ⊎ EndsAt q x new)
+Cause NoMemory old new = (new.store.faults ≡ old.store.faults) × (Calm old → Calm new)
+
+-- a first part of the script was asked, and no other region has changed
+pub record Cut (e : VaultErr) (script : List Access) (some : ℕ → Type 0) (old new : World) : Type 0 where
+  pub lasts : Lasts some old new
+  pub began : Began script old.store new.store
+  pub cause : Cause e old new
+
+abbrev pub none : ℕ → Type 0
+none q = ⊥
+
+abbrev pub one : ℕ → ℕ → Type 0
+one r q = q ≡ r
+
+abbrev pub two : ℕ → ℕ → ℕ → Type 0
+two r g q = (q ≡ r) ⊎ (q ≡ g)

@@ -1,0 +1,9 @@
+pub mod State
+pub mod Revs
+pub mod Vecs
+pub mod Laps
+pub mod IsLaps
+pub mod Tied
+pub mod Calls
+pub mod Places
+pub mod Rows

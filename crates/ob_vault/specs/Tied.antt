@@ -1,0 +1,77 @@
+-- How a vault and its store belong together.
+use Rattle.std.specs.Prelude.{◌≡◌, ◌≢◌, ◌<◌, ◌≤◌, ◌+◌, ◌-◌, ℕ, Bool, IsTrue, List, [], ◌∷◌, ◌++◌, length, take, drop, Some, None}
+use Rattle.ob_base.specs.Accesses.{AllBelow}
+use Rattle.ob_base.specs.declared.access.Access.{Access}
+use Rattle.ob_base.specs.declared.access.Access.TheVariants.{Read}
+use Rattle.ob_store.specs.State.{Lie}
+use Rattle.ob_store.specs.Calls.{IsRegion}
+use Rattle.ob_seal.specs.KeyPair.{KeyPair}
+use Rattle.ob_seal.specs.Sealed.{sealed, tag_of}
+use Rattle.ob_seal.specs.declared.At.{At}
+use Rattle.ob_vault.specs.declared.region.Region.{Region}
+use Rattle.ob_vault.specs.declared.region.Order.TheVariants.{Round}
+use Rattle.ob_vault.specs.State.{World}
+use Rattle.ob_base.specs.Accesses.{writes, makes, number_of, nth_write}
+
+-- the vault's numbers are those of the accesses, and its regions are live in the store
+pub record Tied (w : World) : Type 0 where
+  pub count : w.vault.count ≡ writes w.store.asked
+  pub next : w.vault.next ≡ 1 + makes w.store.asked
+  pub above : AllBelow w.vault.next w.store.asked
+  pub live : (q : ℕ) (shape : Region) → w.vault.revs.live q ≡ Some shape → IsRegion q shape.blocks (shape.width + 32) w.store
+  pub numbers : (q x : ℕ) (shape : Region) → w.vault.revs.live q ≡ Some shape → x < shape.blocks → w.vault.revs.number q x ≡ number_of w.store.asked q x
+
+-- what each call asks of a vault and a store, and leaves
+pub record Ready (w : World) : Type 0 where
+  pub tied : Tied w
+  pub below : (q : ℕ) (shape : Region) → w.vault.revs.live q ≡ Some shape → q < w.vault.next
+  pub fits : (q : ℕ) (shape : Region) → w.vault.revs.live q ≡ Some shape → shape.width ≤ 16384
+
+-- a region of the vault
+pub record Lives (q : ℕ) (shape : Region) (w : World) : Type 0 where
+  pub live : w.vault.revs.live q ≡ Some shape
+
+-- a place that was written
+pub record Written (q x : ℕ) (w : World) : Type 0 where
+  pub number : w.vault.revs.number q x ≢ 0
+
+-- a write to the place is in turn
+pub record OnTurn (q : ℕ) (shape : Region) (x : ℕ) (w : World) : Type 0 where
+  pub turn : shape.order ≡ Round → x ≡ w.vault.revs.turn q
+  pub run : shape.order ≡ Round → x ≢ 0 → w.vault.revs.number q (x - 1) ≡ w.vault.count
+
+abbrev pub at_of : ℕ → ℕ → ℕ → At
+at_of q x n = record { region = q; place = x; number = n }
+
+-- the block last written at the place is that of these rows, sealed under the number that the vault
+-- keeps of it
+pub record Holds (q x : ℕ) (rows : List ℕ) (w : World) : Type 0 where
+  pub last : w.store.last q x ≡ Some (sealed w.vault.keys (at_of q x (w.vault.revs.number q x)) rows)
+
+-- a block is some rows' that are good for its region, sealed under the position of a write to its place
+pub record SealedAt (good : ℕ → List ℕ → Bool) (keys : KeyPair) (asked : List Access) (q x : ℕ) (block : List ℕ) : Type 0 where
+  pub number : ℕ
+  pub rows : List ℕ
+  pub is : block ≡ sealed keys (at_of q x number) rows
+  pub went : nth_write number asked ≡ Some (q, x)
+  pub fine : IsTrue (good q rows)
+
+-- nothing lies in clear
+pub record AllSealed (good : ℕ → List ℕ → Bool) (w : World) : Type 0 where
+  pub all : (q x : ℕ) (block : List ℕ) → w.store.live q ≢ None → w.store.last q x ≡ Some block → SealedAt good w.vault.keys w.store.asked q x block
+
+-- the block of a lie has the tag of its place and number
+pub record Fits (keys : KeyPair) (lie : Lie) : Type 0 where
+  pub tag : drop (length lie.bytes - 32) lie.bytes ≡ tag_of keys (at_of lie.region lie.place (number_of lie.before lie.region lie.place)) (take (length lie.bytes - 32) lie.bytes)
+
+-- no lie is told, or one that fits
+pub record Calm (w : World) : Type 0 where
+  pub calm : (lie : Lie) → w.store.lie ≡ Some lie → Fits w.vault.keys lie
+
+-- the last access was the first lie
+pub record EndsAt (q x : ℕ) (w : World) : Type 0 where
+  pub lie : Lie
+  pub told : w.store.lie ≡ Some lie
+  pub asked : w.store.asked ≡ lie.before ++ Read lie.region lie.place ∷ []
+  pub at_region : lie.region ≡ q
+  pub at_place : lie.place ≡ x

@@ -1,0 +1,211 @@
+use crate::fault::VaultErr;
+use crate::region::{Order, Region};
+use crate::revs::Revisions;
+use crate::sealing::{load, open, shut};
+use ob_base::StoreErr;
+use ob_room::ClearRow;
+use ob_seal::{At, Keys};
+use ob_store::BlockStore;
+use std::alloc::Global;
+
+/// Sealed regions in a store, and the write number of each of their places.
+#[derive(Drop)]
+pub struct Vault<R> {
+    keys: Keys,
+    revs: R,
+    count: u64,
+    next: u64,
+    block: [u8; 16416],
+}
+
+impl<R: Revisions> Vault<R> {
+    ghost use Rattle.std.specs.Prelude.{◌≡◌, ◌<◌, ◌≤◌, ◌+◌, ◌/◌, ◌^◌, ◌⊎◌, [], ℕ, Bool, List, Some, None, IsTrue, IfOk, IfErr, OnOk, OnErr, MatchResult, length};
+    ghost use Rattle.ob_store.specs.State.{StoreState};
+    ghost use Rattle.ob_base.specs.Counts.{Rises};
+    ghost use Rattle.ob_base.specs.Accesses.{read_at, write_at};
+    ghost use Rattle.ob_vault.specs.declared.region.Region.{Region as Shape};
+    ghost use Rattle.ob_vault.specs.State.{World};
+    ghost use Rattle.ob_vault.specs.Revs.{turn_after};
+    ghost use Rattle.ob_vault.specs.Tied.{Ready, Lives, Written, OnTurn, Holds};
+    ghost use Rattle.ob_base.specs.Accesses.{make_at, discard_at};
+    ghost use Rattle.ob_vault.specs.Calls.{Went, Cut, Only, Seals, none, one};
+    ghost use Rattle.ob_vault.specs.Rows.{joined, Tails, SameSizes};
+    ghost use Rattle.ob_vault.specs.Places.{at, PlaceIn, MayGet, MayPut};
+
+    /// A vault with no region.
+    pub fn new(alloc: Global, keys: Keys) -> Vault<R>
+        ensures { (s : StoreState) → s.asked ≡ [] → Ready (at R.state result s) }
+    {
+        Vault {
+            keys,
+            revs: R::new(alloc),
+            count: 0,
+            next: 1,
+            block: [0; 16416],
+        }
+    }
+
+    /// Makes a region. Only this takes memory, and before the store is asked.
+    pub fn make<S: BlockStore>(
+        &mut self,
+        store: &mut S,
+        blocks: u32,
+        width: u32,
+        order: Order,
+    ) -> Result<u64, VaultErr>
+        requires ready { Ready (at R.state self.old (S.state store.old)) }
+        requires spare { 1 ≤ (S.state store.old).spare }
+        requires few { length (S.state store.old).asked < 2 ^ 63 + 2 ^ 60 }
+        requires blocks { (1 ≤ blocks) × (blocks ≤ 134217728) }
+        requires width { (1 ≤ width) × (width ≤ 16384) }
+        ensures ok { OnOk result (Went (make_at self.old.next blocks width) (one self.old.next) (at R.state self.old (S.state store.old)) (at R.state self.new (S.state store.new))) }
+        ensures err { IfErr result (λ e. Cut e (make_at self.old.next blocks width) (one self.old.next) (at R.state self.old (S.state store.old)) (at R.state self.new (S.state store.new))) }
+        ensures seals { (good : ℕ → List ℕ → Bool) → Seals good (at R.state self.old (S.state store.old)) (at R.state self.new (S.state store.new)) }
+        ensures number { IfOk result (λ g. g ≡ self.old.next) }
+        ensures gone { OnErr result ((R.state self.new.revs).live self.old.next ≡ None) }
+        ensures never { IfErr result (λ e. (e ≡ VaultErr.Failed) ⊎ (e ≡ VaultErr.NoMemory)) }
+        ensures lives { OnOk result (Lives self.old.next (record { blocks = blocks; width = width; order = order }) (at R.state self.new (S.state store.new))) }
+        ensures turn { OnOk result (OnTurn self.old.next (record { blocks = blocks; width = width; order = order }) 0 (at R.state self.new (S.state store.new))) }
+    {
+        let region = self.next;
+        let shape = Region {
+            blocks,
+            width,
+            order,
+        };
+        if self.revs.begin(region, shape).is_err() {
+            return Err(VaultErr::NoMemory);
+        }
+        self.next += 1;
+        match store.make(region, blocks, width + 32) {
+            Ok(()) => Ok(region),
+            Err(StoreErr::Failed) => {
+                self.revs.end(region);
+                Err(VaultErr::Failed)
+            }
+            Err(StoreErr::NoMemory) => {
+                self.revs.end(region);
+                Err(VaultErr::NoMemory)
+            }
+        }
+    }
+
+    /// Reads the rows of a place, or refuses.
+    pub fn get<S: BlockStore>(
+        &mut self,
+        store: &mut S,
+        region: u64,
+        place: u32,
+        rows: &mut [ClearRow],
+    ) -> Result<(), VaultErr>
+        requires ready { Ready (at R.state self.old (S.state store.old)) }
+        requires spare { 1 ≤ (S.state store.old).spare }
+        requires place { MayGet region place rows.old (at R.state self.old (S.state store.old)) }
+        ensures ok { OnOk result (Went (read_at region place) none (at R.state self.old (S.state store.old)) (at R.state self.new (S.state store.new))) }
+        ensures err { IfErr result (λ e. Cut e (read_at region place) none (at R.state self.old (S.state store.old)) (at R.state self.new (S.state store.new))) }
+        ensures seals { (good : ℕ → List ℕ → Bool) → Seals good (at R.state self.old (S.state store.old)) (at R.state self.new (S.state store.new)) }
+        ensures never { IfErr result (λ e. (e ≡ VaultErr.Failed) ⊎ (e ≡ VaultErr.Tampered region place)) }
+        ensures rows { SameSizes rows.old rows.new }
+        ensures tails { OnOk result ((shape : Shape) → Lives region shape (at R.state self.old (S.state store.old)) → Tails (shape.width / length rows.old) rows.new) }
+        ensures turns { (q x : ℕ) (shape : Shape) → OnTurn q shape x (at R.state self.old (S.state store.old)) → OnTurn q shape x (at R.state self.new (S.state store.new)) }
+        ensures told { (bytes : List ℕ) (shape : Shape) → Lives region shape (at R.state self.old (S.state store.old)) → length bytes ≡ shape.width
+            → Holds region place bytes (at R.state self.old (S.state store.old)) → (S.state store.new).lie ≡ None
+            → MatchResult result (λ _. joined (shape.width / length rows.old) rows.new ≡ bytes) (λ e. e ≡ VaultErr.Failed) }
+    {
+        let shape = self.revs.shape(region);
+        let number = self.revs.number(region, place);
+        let width = shape.width as usize / rows.len();
+        let len = shape.width as usize + 32;
+        match load(store, region, place, len, &mut self.block) {
+            Ok(()) => {}
+            Err(_) => return Err(VaultErr::Failed),
+        }
+        let at = At {
+            region,
+            place,
+            number,
+        };
+        if open(&self.keys, at, &self.block[..len], width, rows) {
+            Ok(())
+        } else {
+            Err(VaultErr::Tampered { region, place })
+        }
+    }
+
+    /// Seals rows under the next write number, and writes their block.
+    pub fn put<S: BlockStore>(
+        &mut self,
+        store: &mut S,
+        region: u64,
+        place: u32,
+        rows: &[ClearRow],
+    ) -> Result<(), VaultErr>
+        requires ready { Ready (at R.state self.old (S.state store.old)) }
+        requires spare { 1 ≤ (S.state store.old).spare }
+        requires few { length (S.state store.old).asked < 2 ^ 63 + 2 ^ 60 }
+        requires place { MayPut region place rows.now (at R.state self.old (S.state store.old)) }
+        ensures ok { OnOk result (Went (write_at region place) (one region) (at R.state self.old (S.state store.old)) (at R.state self.new (S.state store.new))) }
+        ensures err { IfErr result (λ e. Cut e (write_at region place) (one region) (at R.state self.old (S.state store.old)) (at R.state self.new (S.state store.new))) }
+        ensures seals { (good : ℕ → List ℕ → Bool) (shape : Shape) → Lives region shape (at R.state self.old (S.state store.old)) → IsTrue (good region (joined (shape.width / length rows.now) rows.now))
+            → Seals good (at R.state self.old (S.state store.old)) (at R.state self.new (S.state store.new)) }
+        ensures only { Only region place (at R.state self.old (S.state store.old)) (at R.state self.new (S.state store.new)) }
+        ensures turn { (shape : Shape) → Lives region shape (at R.state self.old (S.state store.old)) → OnTurn region shape (turn_after shape place) (at R.state self.new (S.state store.new)) }
+        ensures written { Written region place (at R.state self.new (S.state store.new)) }
+        ensures never { IfErr result (λ e. e ≡ VaultErr.Failed) }
+        ensures told { OnOk result (IsTrue (S.state store.old).tells → (shape : Shape) → Lives region shape (at R.state self.old (S.state store.old))
+            → Holds region place (joined (shape.width / length rows.now) rows.now) (at R.state self.new (S.state store.new))) }
+    {
+        let shape = self.revs.shape(region);
+        let width = shape.width as usize / rows.len();
+        let len = shape.width as usize + 32;
+        let number = self.count + 1;
+        self.count = number;
+        self.revs.wrote(region, place, number);
+        let at = At {
+            region,
+            place,
+            number,
+        };
+        shut(&self.keys, at, width, len, rows, &mut self.block);
+        match store.write(region, place, &self.block[..len]) {
+            Ok(()) => Ok(()),
+            Err(_) => Err(VaultErr::Failed),
+        }
+    }
+
+    /// Takes a region out of the vault and the store, whatever the store answers.
+    pub fn drop_region<S: BlockStore>(&mut self, store: &mut S, region: u64) -> Result<(), VaultErr>
+        requires ready { Ready (at R.state self.old (S.state store.old)) }
+        requires spare { 1 ≤ (S.state store.old).spare }
+        requires lives { (shape : Shape) × Lives region shape (at R.state self.old (S.state store.old)) }
+        ensures went { Went (discard_at region) (one region) (at R.state self.old (S.state store.old)) (at R.state self.new (S.state store.new)) }
+        ensures seals { (good : ℕ → List ℕ → Bool) → Seals good (at R.state self.old (S.state store.old)) (at R.state self.new (S.state store.new)) }
+        ensures turns { (q x : ℕ) (shape : Shape) → (q ≡ region → ⊥) → OnTurn q shape x (at R.state self.old (S.state store.old)) → OnTurn q shape x (at R.state self.new (S.state store.new)) }
+        ensures gone { (R.state self.new.revs).live region ≡ None }
+        ensures slips { OnErr result (Rises (S.state store.old).slips (S.state store.new).slips) }
+        ensures never { IfErr result (λ e. e ≡ VaultErr.Failed) }
+    {
+        self.revs.end(region);
+        match store.discard(region) {
+            Ok(()) => Ok(()),
+            Err(_) => Err(VaultErr::Failed),
+        }
+    }
+
+    /// Takes a region out of the vault, and leaves it in the store.
+    pub fn forget(&mut self, region: u64)
+        ensures went { (s : StoreState) → Ready (at R.state self.old s) → Went [] (one region) (at R.state self.old s) (at R.state self.new s) }
+        ensures gone { (R.state self.new.revs).live region ≡ None }
+        ensures seals { (s : StoreState) (good : ℕ → List ℕ → Bool) → Seals good (at R.state self.old s) (at R.state self.new s) }
+    {
+        self.revs.end(region);
+    }
+
+    /// The next place of a round region.
+    pub fn turn(&self, region: u64) -> u32
+        requires { (shape : Shape) × ((R.state self.now.revs).live region ≡ Some shape) }
+        ensures { result ≡ (R.state self.now.revs).turn region }
+    {
+        self.revs.turn(region)
+    }
+}
