@@ -3,4 +3,3 @@ pub mod Calls
 pub mod Runs
 pub mod Memory
 pub mod Fresh
-pub mod Flip
