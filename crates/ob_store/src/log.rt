@@ -10,7 +10,8 @@ use std::marker::Model;
 ///
 /// A run has a cycle of one to three accesses, and goes through it again and again: its entry `t` is
 /// entry `t mod c` of a cycle of `c`, with the place raised by `t div c`. So a pass over a table is one
-/// run, however large the table. Make and Discard are runs of one access.
+/// run, however large the table. Make and Discard are runs of one access. An access takes at most 40 bytes,
+/// and none where it goes on a run.
 #[derive(Drop)]
 pub struct Log {
     cycles: Vec<Access>,

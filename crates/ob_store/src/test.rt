@@ -64,7 +64,7 @@ fn log_of(alloc: Global, text: &str) -> Result<Log, NoMemory> {
 }
 
 #[test]
-fn sessions_are_few_runs(rt: HostRuntime) -> Result<(), Fail> {
+fn passes_are_few_runs(rt: HostRuntime) -> Result<(), Fail> {
     for (text, runs, count) in [
         (CREATED, 2, 5),
         (COUNTED, 7, 23),
