@@ -1,1 +1,2 @@
 pub mod ScriptRows
+pub mod Eaches
