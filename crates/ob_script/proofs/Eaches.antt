@@ -29,9 +29,10 @@ pub at_each : {A : Type 0} (f : ℕ → List A) (n m u r i : ℕ) (x : A) → ((
     slice_get (f u) r ≡ Some x → slice_get (each n f) i ≡ Some x
 at_each f zero m u r i x h l e k = absurd (omega arith)
 at_each f (suc n) m u r i x h l e k = elim (cases_eq u n) [
-    | inl here ↦ at_back (each n f) (f n) i r x (e ∙ ap (λ w. w + r) (ap (λ w. w * m) here ∙ sym (length-even n m f (λ v b. h v (omega arith))))) (ap (λ w. slice_get (f w) r) (sym here) ∙ k)
-    | inr other ↦ at_front (each n f) (f n) i x (at_each f n m u r i x h (omega arith) e k)
-  ]
+  | inl here ↦ at_back (each n f) (f n) i r x (e ∙ ap (λ w. w + r) (ap (λ w. w * m) here ∙ sym (length-even n m f (λ v b. h v (omega arith))))) (ap (λ w. slice_get (f w) r) (sym here) ∙ k)
+  | inr other ↦ at_front (each n f) (f n) i x (at_each f n m u r i x h (omega arith) e k)
+]
+
 pub record Within {A : Type 0} (f : ℕ → List A) (n m i : ℕ) : Type 0 where
   pub part : i / m < n
   pub place : i % m < length (f (i / m))

@@ -1,2 +1,7 @@
 //! The accesses of each statement, from what is public alone.
 #![tactic(auto)]
+
+mod bucket;
+mod piece;
+
+pub use bucket::{first_bucket, second_bucket};
