@@ -1,14 +1,14 @@
 -- What stands at a place of each part.
 use Rattle.std.proofs.Common.{◌≡◌, ℕ, suc, zero, ◌+◌, ◌-◌, ◌*◌, ◌/◌, ◌%◌, ◌≤◌, ◌<◌, ◌==◌, min, List, [], ◌∷◌, ◌++◌, length, refl, sym, ◌∙◌, ap, subst, inl, inr, arith}
 use Rattle.std.specs.Prelude.{Bool, true, false, Some, slice_get, if◌then◌else◌, nat_lt}
-use Rattle.std.proofs.lemmas.Bool.{cases_lt, lt-ltb, le-ltb}
+use Rattle.std.proofs.lemmas.Grind.{div_ceil_times}
 use Rattle.std.proofs.Math.Nat.{mul_comm, add-mul, mul-le-mul_right, div-lt_iff_lt-mul, mod-lt, mod-eq-sub-div-mul, div-mul-le_self}
 use Rattle.std.specs.Int.{div_ceil}
 use Rattle.std.proofs.lemmas.Bool.Decides.{nat_tests}
 use Rattle.ob_base.specs.declared.access.Access.{Access}
 use Rattle.ob_base.specs.declared.access.Access.TheVariants.{Read, Write}
 use Rattle.ob_base.specs.Lists.{each}
-use Rattle.ob_base.specs.Accesses.{read_at}
+use Rattle.ob_base.specs.Accesses.{read_at, write_at}
 use Rattle.ob_base.specs.Numbers.{first_bucket, second_bucket}
 use Rattle.ob_script.specs.Parts.{copy_at, read_from, write_from, count_part, copy_part, small_pass, slots_in, continuous_block, bucket_part, hash_slot, hash_block, pair_at, join_chunk}
 use Rattle.ob_script.proofs.Eaches.{at_front, at_back, at_each}
@@ -32,6 +32,15 @@ one_of_two i a b = go (i % 2) (omega arith) where
 pub at_twos : (n : ℕ) (f g : ℕ → Access) (i : ℕ) → i < n * 2 → slice_get (each n (λ x. f x ∷ g x ∷ [])) i ≡ Some (pick i (f (i / 2)) (g (i / 2)))
 at_twos n f g i h =
     at_each (λ x. f x ∷ g x ∷ []) n 2 (i / 2) (i % 2) i _ (λ v k. refl) (omega arith) (omega arith) (one_of_two i (f (i / 2)) (g (i / 2)))
+
+pub at_read : (t blocks i : ℕ) → i < blocks → slice_get (count_part t blocks) i ≡ Some (Read t i)
+at_read t blocks i h = at_ones blocks (λ u. Read t u) i h
+
+pub at_write : (g blocks i : ℕ) → i < blocks → slice_get (each blocks (write_at g)) i ≡ Some (Write g i)
+at_write g blocks i h = at_ones blocks (λ u. Write g u) i h
+
+pub at_copy : (t g blocks i : ℕ) → i < 2 * blocks → slice_get (copy_part t g blocks) i ≡ Some (pick i (Read t (i / 2)) (Write g (i / 2)))
+at_copy t g blocks i h = at_twos blocks (λ u. Read t u) (λ u. Write g u) i (omega arith)
 
 -- ---- Small
 module _ (t g blocks results q i : ℕ) (pos : 0 < q) (l : i < length (each (div_ceil results q) (small_pass t g blocks results q))) where
@@ -87,29 +96,16 @@ module _ (t g pack n k i : ℕ) (pos : 0 < pack) (l : i < length (each (div_ceil
 
 -- ---- Hash
 -- a place of a bucket
-at_bucket : (g depth b i : ℕ) → i < 2 * depth → slice_get (bucket_part g depth b) i ≡ Some (pick i (Read g (b * depth + i / 2)) (Write g (b * depth + i / 2)))
+pub at_bucket : (g depth b i : ℕ) → i < 2 * depth → slice_get (bucket_part g depth b) i ≡ Some (pick i (Read g (b * depth + i / 2)) (Write g (b * depth + i / 2)))
 at_bucket g depth b i h = at_twos depth (λ y. Read g (b * depth + y)) (λ y. Write g (b * depth + y)) i (omega arith)
 
--- the bucket, of the two, in which step r of a slot lies, and how far it has come there
-abbrev pub bucket_of : (k depth i r : ℕ) → ℕ
-bucket_of k depth i r = if nat_lt r (2 * depth) then first_bucket k i else second_bucket k i
+-- a place of the first bucket, and of the second
+pub slot_first : (g k depth i r : ℕ) (x : Access) → r < 2 * depth → slice_get (bucket_part g depth (first_bucket k i)) r ≡ Some x → slice_get (hash_slot g k depth i) r ≡ Some x
+slot_first g k depth i r x low h = at_front (bucket_part g depth (first_bucket k i)) _ r x h
 
-abbrev pub bucket_step : (depth r : ℕ) → ℕ
-bucket_step depth r = if nat_lt r (2 * depth) then r else r - 2 * depth
-
-at_hash_slot : (g k depth i r : ℕ) → r < 4 * depth → slice_get (hash_slot g k depth i) r ≡
-    Some (pick (bucket_step depth r) (Read g (bucket_of k depth i r * depth + bucket_step depth r / 2)) (Write g (bucket_of k depth i r * depth + bucket_step depth r / 2)))
-at_hash_slot g k depth i r h = elim (cases_lt r (2 * depth)) [ | inl low ↦ first low | inr high ↦ second high ] where
-  first : r < 2 * depth → slice_get (hash_slot g k depth i) r ≡
-      Some (pick (bucket_step depth r) (Read g (bucket_of k depth i r * depth + bucket_step depth r / 2)) (Write g (bucket_of k depth i r * depth + bucket_step depth r / 2)))
-  first low = rw (lt-ltb r (2 * depth) low) (at_front (bucket_part g depth (first_bucket k i)) _ r _ (at_bucket g depth (first_bucket k i) r low))
-
-  second : 2 * depth ≤ r → slice_get (hash_slot g k depth i) r ≡
-      Some (pick (bucket_step depth r) (Read g (bucket_of k depth i r * depth + bucket_step depth r / 2)) (Write g (bucket_of k depth i r * depth + bucket_step depth r / 2)))
-  second high =
-      rw (le-ltb r (2 * depth) high)
-      (at_back (bucket_part g depth (first_bucket k i)) (bucket_part g depth (second_bucket k i)) r (r - 2 * depth) _
-      (let e = length-bucket_part g depth (first_bucket k i) in omega arith) (at_bucket g depth (second_bucket k i) (r - 2 * depth) (omega arith)))
+pub slot_second : (g k depth i r : ℕ) (x : Access) → 2 * depth ≤ r → slice_get (bucket_part g depth (second_bucket k i)) (r - 2 * depth) ≡ Some x → slice_get (hash_slot g k depth i) r ≡ Some x
+slot_second g k depth i r x high h =
+    at_back (bucket_part g depth (first_bucket k i)) (bucket_part g depth (second_bucket k i)) r (r - 2 * depth) x (let e = length-bucket_part g depth (first_bucket k i) in omega arith) h
 
 module _ (t g pack n k depth i : ℕ) (pos : 0 < pack) (deep : 0 < depth) (l : i < length (each (div_ceil n pack) (hash_block t g pack n k depth))) where
   abbrev turn : ℕ
@@ -145,15 +141,13 @@ module _ (t g pack n k depth i : ℕ) (pos : 0 < pack) (deep : 0 < depth) (l : i
   pub hash_few : 1 ≤ hash_step → slot < n
   hash_few h = let e = slots_few h in omega arith
 
-  pub hash_pair : 1 ≤ hash_step → slice_get (each (div_ceil n pack) (hash_block t g pack n k depth)) i ≡
-      Some (pick (bucket_step depth part) (Read g (bucket_of k depth slot part * depth + bucket_step depth part / 2)) (Write g (bucket_of k depth slot part * depth + bucket_step depth part / 2)))
-  hash_pair h =
+  pub hash_in : 1 ≤ hash_step → (x : Access) → slice_get (hash_slot g k depth slot) part ≡ Some x → slice_get (each (div_ceil n pack) (hash_block t g pack n k depth)) i ≡ Some x
+  hash_in h x k' =
       let j = (hash_step - 1) / (4 * depth) in
-      let few : part < 4 * depth = mod-lt (hash_step - 1) {m = 4 * depth} (omega arith) in
       let is : hash_step - 1 ≡ j * (4 * depth) + part = let a = mod-eq-sub-div-mul (hash_step - 1) (4 * depth) in let b = div-mul-le_self (hash_step - 1) (4 * depth) in omega arith in
-      in_hash _ (at_back (read_at t hash_block_of) (each (slots_in pack n hash_block_of) (λ j. hash_slot g k depth (hash_block_of * pack + j))) hash_step (hash_step - 1) _ (omega arith)
-      (at_each (λ j. hash_slot g k depth (hash_block_of * pack + j)) (slots_in pack n hash_block_of) (4 * depth) j part (hash_step - 1) _
-      (λ v b. length-hash_slot g k depth (hash_block_of * pack + v)) (slots_few h) is (at_hash_slot g k depth slot part few)))
+      in_hash x (at_back (read_at t hash_block_of) (each (slots_in pack n hash_block_of) (λ j. hash_slot g k depth (hash_block_of * pack + j))) hash_step (hash_step - 1) x (omega arith)
+      (at_each (λ j. hash_slot g k depth (hash_block_of * pack + j)) (slots_in pack n hash_block_of) (4 * depth) j part (hash_step - 1) x
+      (λ v b. length-hash_slot g k depth (hash_block_of * pack + v)) (slots_few h) is k'))
 
 -- ---- the join
 module _ (a b g lefts rights q i : ℕ) (pos : 0 < q) (l : i < length (each (div_ceil lefts q) (join_chunk a b g lefts rights q))) where
@@ -172,6 +166,12 @@ module _ (a b g lefts rights q i : ℕ) (pos : 0 < q) (l : i < length (each (div
 
   inside : (chunk < div_ceil lefts q) × (join_step < 2 * rights + 1 * here)
   inside = within_turn _ (2 * rights) 1 q lefts (q + 2 * rights) i (pair_shares a b g lefts rights q) pos (omega arith) (omega arith) l
+
+  pub chunk_start : chunk * q ≤ lefts
+  chunk_start =
+      let d = div_ceil_times lefts q pos in
+      let m : (chunk + 1) * q ≤ div_ceil lefts q * q = mul-le-mul_right q (let c = inside.0 in omega arith) in
+      let e = add-mul chunk 1 q in omega (arith, d.1)
 
   pub chunk_few : chunk < div_ceil lefts q
   chunk_few = inside.0

@@ -31,9 +31,9 @@ IsFew n = n ≤ 2 ^ 24
 -- the numbers are within their limits
 abbrev pub IsSized : Piece → Type 0
 IsSized (Make region blocks width) = width ≤ 2 ^ 24
-IsSized (Reads region blocks) = ⊤
-IsSized (Writes region blocks) = ⊤
-IsSized (Copies from to blocks) = ⊤
+IsSized (Reads region blocks) = blocks < 2 ^ 32
+IsSized (Writes region blocks) = blocks < 2 ^ 32
+IsSized (Copies from to blocks) = blocks < 2 ^ 32
 IsSized (Discard region) = ⊤
 IsSized (Passes from to blocks results buffered) = IsFew blocks × IsFew results × IsFew buffered × (1 ≤ buffered)
 IsSized (Turns from to pack slots rows) = IsFew slots × (1 ≤ pack) × (pack ≤ 16) × IsFew rows × (1 ≤ rows)

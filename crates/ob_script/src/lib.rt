@@ -3,5 +3,6 @@
 
 mod bucket;
 mod piece;
+mod place;
 
 pub use bucket::{first_bucket, second_bucket};

@@ -2,6 +2,7 @@
 ghost use Rattle.std.specs.Prelude.{◌≡◌, ◌≤◌, ◌<◌, ◌^◌, Some, length, slice_get};
 ghost use Rattle.ob_script.specs.Pieces.{accesses_of, IsSized};
 
+use crate::place::{bucket_nth, copied, pair_nth, pass_nth, turn_nth};
 use ob_base::Access;
 
 /// A part of a script; `blocks` are those of the region that is read.
@@ -106,6 +107,66 @@ impl Piece {
             } => {
                 u64::from(lefts.div_ceil(buffered)) * (2 * u64::from(rights)) + u64::from(lefts)
             }
+        }
+    }
+
+    /// Its access at place `i`, from 0.
+    #[tactic(auto, using(crate::proofs::Sizes::size_is, crate::proofs::Places::at_read, crate::proofs::Places::at_write, crate::proofs::Places::at_copy))]
+    pub(crate) fn nth(&self, i: u64) -> Access
+        requires sized { IsSized self.now }
+        requires within { i < length (accesses_of self.now) }
+        ensures { slice_get (accesses_of self.now) i ≡ Some result }
+    {
+        match *self {
+            Piece::Make {
+                region,
+                blocks,
+                width,
+            } => Access::Make {
+                region,
+                blocks,
+                len: width + 32,
+            },
+            Piece::Reads { region, .. } => Access::Read {
+                region,
+                place: i as u32,
+            },
+            Piece::Writes { region, .. } => Access::Write {
+                region,
+                place: i as u32,
+            },
+            Piece::Copies { from, to, .. } => copied(i, from, to, (i / 2) as u32),
+            Piece::Discard { region } => Access::Discard { region },
+            Piece::Passes {
+                from,
+                to,
+                blocks,
+                results,
+                buffered,
+            } => pass_nth(from, to, blocks, results, buffered, i),
+            Piece::Turns {
+                from,
+                to,
+                pack,
+                slots,
+                rows,
+            } => turn_nth(from, to, pack, slots, rows, i),
+            Piece::Buckets {
+                from,
+                to,
+                pack,
+                slots,
+                rows,
+                depth,
+            } => bucket_nth(from, to, pack, slots, rows, depth, i),
+            Piece::Pairs {
+                left,
+                right,
+                to,
+                lefts,
+                rights,
+                buffered,
+            } => pair_nth(left, right, to, lefts, rights, buffered, i),
         }
     }
 }
