@@ -2,6 +2,7 @@
 #![tactic(auto)]
 
 mod bucket;
+mod extent;
 mod piece;
 mod place;
 
