@@ -66,3 +66,11 @@ within_each {A} f (suc n) m i pos even most l = go (cases_lt i (n * m))
         let u : i / m ≡ n = omega arith in
         let lower : i ≡ n * m + i % m = parts ∙ ap (λ w. w * m + i % m) u in
         record { part = high; place = subst (λ w. i % m < length (f w)) (sym u) (omega (arith, all)); is = parts }
+
+pub get_front : {A : Type 0} (xs ys : List A) (i : ℕ) → i < length xs → slice_get (xs ++ ys) i ≡ slice_get xs i
+get_front [] ys i h = absurd (omega arith)
+get_front (y ∷ xs) ys zero h = refl
+get_front (y ∷ xs) ys (suc i) h = get_front xs ys i (omega arith)
+
+pub get_back : {A : Type 0} (xs ys : List A) (i : ℕ) → length xs ≤ i → slice_get (xs ++ ys) i ≡ slice_get ys (i - length xs)
+get_back xs ys i h = let e : i ≡ length xs + (i - length xs) = omega arith in ap (slice_get (xs ++ ys)) e ∙ at_back_of xs ys (i - length xs)

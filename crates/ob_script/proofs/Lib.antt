@@ -4,3 +4,4 @@ pub mod Shares
 pub mod Lengths
 pub mod Sizes
 pub mod Places
+pub mod Joined

@@ -4,6 +4,7 @@
 mod bucket;
 mod extent;
 mod piece;
+mod pieces;
 mod place;
 
 pub use bucket::{first_bucket, second_bucket};
