@@ -6,5 +6,6 @@ mod extent;
 mod piece;
 mod pieces;
 mod place;
+mod script;
 
 pub use bucket::{first_bucket, second_bucket};

@@ -8,6 +8,7 @@ use ob_base::Access;
 use std::marker::Model;
 
 /// At most 16 pieces, whose accesses follow one another.
+#[derive(Drop)]
 pub(crate) struct Pieces {
     items: ArrayVec<Piece, 16>,
 }
