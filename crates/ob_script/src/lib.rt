@@ -9,3 +9,4 @@ mod place;
 mod script;
 
 pub use bucket::{first_bucket, second_bucket};
+pub use script::{script_len, script_nth};
