@@ -5,3 +5,4 @@ pub mod Lengths
 pub mod Sizes
 pub mod Places
 pub mod Joined
+pub mod Numbers

@@ -3,10 +3,12 @@
 
 mod bucket;
 mod extent;
+mod laws;
 mod piece;
 mod pieces;
 mod place;
 mod script;
 
 pub use bucket::{first_bucket, second_bucket};
+pub use laws::{buffers_by_rows, part_lengths};
 pub use script::{script_len, script_nth};
