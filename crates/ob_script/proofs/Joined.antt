@@ -1,12 +1,11 @@
 -- The accesses of pieces that follow one another.
-use Rattle.std.proofs.Common.{◌≡◌, ℕ, List, [], ◌∷◌, ◌++◌, ◌+◌, ◌-◌, ◌*◌, ◌≤◌, ◌^◌, length, refl, sym, ◌∙◌, ap, append-nil, append_assoc, arith}
+use Rattle.std.proofs.Common.{◌≡◌, ℕ, List, [], ◌∷◌, ◌++◌, ◌+◌, ◌-◌, ◌*◌, ◌≤◌, ◌^◌, ◌∙◌, ap, append-nil, arith}
 use Rattle.std.proofs.lemmas.Grind.{flat_map-append}
 use Rattle.std.proofs.Math.Nat.{le-mul_of_pos_right, div-le_self}
 use Rattle.ob_base.specs.Numbers.{blocks_for}
 use Rattle.std.proofs.lemmas.List.Sums.{sum_by-append}
 use Rattle.ob_base.specs.declared.schema.Column.{Column}
 use Rattle.ob_base.specs.Schemas.{Columns, width, kind_width}
-use Rattle.ob_base.specs.declared.access.Access.{Access}
 use Rattle.ob_script.specs.declared.piece.Piece.{Piece}
 use Rattle.ob_script.specs.Pieces.{accesses_of, all_accesses}
 

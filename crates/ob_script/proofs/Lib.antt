@@ -6,3 +6,4 @@ pub mod Sizes
 pub mod Places
 pub mod Joined
 pub mod Numbers
+pub mod Few

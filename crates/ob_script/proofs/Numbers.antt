@@ -1,14 +1,14 @@
 -- The number of accesses of each part of a statement.
-use Rattle.std.proofs.Common.{◌≡◌, ℕ, suc, ◌+◌, ◌-◌, ◌*◌, ◌/◌, ◌%◌, ◌≤◌, ◌<◌, min, List, [], ◌∷◌, ◌++◌, length, refl, sym, ◌∙◌, ap, mul-pos, inl, inr, ◌⊎◌, arith}
+use Rattle.std.proofs.Common.{◌≡◌, ℕ, suc, ◌+◌, ◌*◌, ◌≤◌, ◌<◌, ◌++◌, length, ◌∙◌, ap, mul-pos, inl, inr, arith}
 use Rattle.std.proofs.lemmas.Bool.{cases_lt}
 use Rattle.std.specs.Int.{div_ceil}
 use Rattle.std.proofs.lemmas.List.{length-append}
 use Rattle.std.proofs.lemmas.Grind.{div_ceil_times}
-use Rattle.std.proofs.Math.Nat.{mul-le-mul_right, mul-le-mul_left, mul_assoc, mul_comm, le_of_mul-le-mul_right, add-mul}
-use Rattle.ob_base.specs.Accesses.{make_at, write_at, discard_at}
+use Rattle.std.proofs.Math.Nat.{mul-le-mul_right}
+use Rattle.ob_base.specs.Accesses.{discard_at}
 use Rattle.ob_base.specs.Lists.{each}
 use Rattle.ob_base.specs.Numbers.{blocks_for}
-use Rattle.ob_script.specs.Parts.{count_part, copy_part, create_part, insert_part, rewrite_part, small_part, small_pass, large_part, continuous_part, continuous_block, hash_part, hash_block, emission_part, join_part, join_chunk}
+use Rattle.ob_script.specs.Parts.{count_part, copy_part, create_part, insert_part, rewrite_part, small_part, large_part, continuous_part, continuous_block, hash_part, hash_block, emission_part, join_part}
 use Rattle.ob_script.proofs.Lengths.{length-count_part, length-writes, length-copy_part, length-passes, length-turns, length-buckets, length-pairs}
 
 pub length-create_part : (g blocks width : ℕ) → length (create_part g blocks width) ≡ 1 + blocks

@@ -1,11 +1,10 @@
 -- The parts of which every script is joined.
-use Rattle.std.specs.Prelude.{◌≡◌, ◌≤◌, ◌<◌, ◌^◌, ℕ, ◌+◌, ◌*◌, List, ◌++◌, length, All, ⊤}
+use Rattle.std.specs.Prelude.{◌≤◌, ◌<◌, ◌^◌, ℕ, ◌*◌, List, length, All, ⊤}
 use Rattle.std.specs.Int.{div_ceil}
 use Rattle.std.specs.List.{flat_map}
 use Rattle.ob_base.specs.declared.access.Access.{Access}
 use Rattle.ob_base.specs.Accesses.{write_at, make_at, discard_at}
 use Rattle.ob_base.specs.Lists.{each}
-use Rattle.ob_base.specs.Numbers.{blocks_for}
 use Rattle.ob_script.specs.declared.piece.Piece.{Piece}
 use Rattle.ob_script.specs.declared.piece.Piece.TheVariants.{Make, Reads, Writes, Copies, Discard, Passes, Turns, Buckets, Pairs}
 use Rattle.ob_script.specs.Parts.{count_part, copy_part, small_pass, continuous_block, hash_block, join_chunk}

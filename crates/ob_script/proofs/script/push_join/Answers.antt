@@ -1,4 +1,4 @@
-use Rattle.std.proofs.Common.{◌≡◌, ◌≤◌, ◌*◌, ◌^◌, ◌∙◌, sym, arith}
+use Rattle.std.proofs.Common.{◌≡◌, ◌*◌, ◌∙◌, sym, arith}
 use Rattle.std.specs.Int.{div_ceil}
 use Rattle.ob_script.proofs.Joined.{few_of}
 use Rattle.ob_script.proofs.script.push_join.Goals as goal
