@@ -1,2 +1,5 @@
 pub mod SlotLemmas
 pub mod ResultLemmas
+pub mod JoinLemmas
+pub mod TurnLemmas
+pub mod HashLemmas
