@@ -63,7 +63,7 @@ abbrev pub ShowsNotConsecutive : Type 0
 ShowsNotConsecutive = (p : Public) (m : ℕ) (ts : Tables) (stmt : Stmt) → IsStarted p m ts stmt → ((seen p m ts stmt).end ≡ AfterCount) ↔ (refusal p m ts stmt ≡ Some NotConsecutive)
 
 abbrev pub SeenIsLawful : Type 0
-SeenIsLawful = (p : Public) (m : ℕ) (ts : Tables) (stmt : Stmt) → headings ts ≡ public_headings p → AreInPlace ts → Lawful p m stmt (seen p m ts stmt)
+SeenIsLawful = (p : Public) (m : ℕ) (ts : Tables) (stmt : Stmt) → 1 ≤ p.pack → headings ts ≡ public_headings p → AreInPlace ts → Lawful p m stmt (seen p m ts stmt)
 
 -- ---- what a SELECT of rows prints from its result
 -- the plan by which the rows are printed: the one after the first, where there is one
