@@ -1,0 +1,6 @@
+//! Statements as they are written.
+#![tactic(auto)]
+
+mod stmt;
+
+pub use stmt::{Against, Cond, Listed, Literal, Select, Set, Stmt};
