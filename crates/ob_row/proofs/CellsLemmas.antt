@@ -1,15 +1,14 @@
 -- One cell more before those of a row.
-use Rattle.std.proofs.Common.{◌≡◌, ℕ, suc, ◌<◌, Bool, true, false, List, [], ◌∷◌, ◌++◌, length, take, drop, get_or, ◌-◌, ◌≤◌, refl, sym, ◌∙◌, ap, subst, arith}
+use Rattle.std.proofs.Common.{◌≡◌, ℕ, suc, ◌<◌, Bool, true, false, List, [], ◌∷◌, ◌++◌, length, drop, get_or, refl, sym, ◌∙◌, ap, subst, arith}
 use Rattle.std.specs.Prelude.{Option, Some, None, IfSome, IfNone, IsOkAnd, slice_get}
 use Rattle.std.specs.Option.{ok_or}
 use Rattle.std.proofs.lemmas.Option.{slice_get-get_or}
-use Rattle.std.proofs.lemmas.List.{take_all}
 use Rattle.ob_row.specs.declared.cell.Malformed.{Malformed}
 use Rattle.ob_row.specs.declared.cell.Cell.TheVariants.{Text}
 use Rattle.std.specs.Bool.{OnTrue}
 use Rattle.ob_base.specs.declared.schema.Column.{Column}
 use Rattle.ob_base.specs.Schemas.{Columns, kind_width}
-use Rattle.ob_row.specs.Spelling.{Fits, Spells, cell_bytes, cells_bytes, row_bytes}
+use Rattle.ob_row.specs.Spelling.{Fits, Spells, cell_bytes, cells_bytes}
 use Rattle.ob_row.proofs.SpellingLemmas.{parts-same, length-cell_bytes, cell_bytes-same}
 use Rattle.ob_row.specs.declared.cell.Cell.{Cell}
 use Rattle.ob_row.specs.Rows.{Row}

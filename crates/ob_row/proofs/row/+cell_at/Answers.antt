@@ -1,4 +1,4 @@
-use Rattle.std.proofs.Common.{◌≡◌, ◌∷◌, rules, arith, ◌∙◌}
+use Rattle.std.proofs.Common.{◌≡◌, ◌∷◌, rules, ◌∙◌}
 use Rattle.ob_row.proofs.CellsLemmas.{first_cell}
 use Rattle.ob_row.proofs.row.+cell_at.Goals as goal
 
