@@ -1,5 +1,5 @@
 -- The rows of a block and the slots that they spell.
-use Rattle.std.proofs.Common.{◌≡◌, ◌≤◌, ◌<◌, ◌+◌, ◌*◌, ◌/◌, ℕ, zero, suc, List, [], ◌∷◌, ◌++◌, Option, Some, None, length, map, take, drop, slice_index_or, refl, sym, ◌∙◌, ap, arith, length-append}
+use Rattle.std.proofs.Common.{◌≡◌, ◌≤◌, ◌<◌, ◌+◌, ◌*◌, ◌/◌, ℕ, zero, suc, List, [], ◌∷◌, ◌++◌, Option, Some, None, length, map, take, drop, slice_index_or, slice_set, get_or-set_same, get_or-set_other, below_more, ◌≢◌, refl, sym, ◌∙◌, ap, subst, arith, length-append}
 use Rattle.std.proofs.lemmas.List.{take_at, drop_at, length-take-le, length-replicate}
 use Rattle.std.specs.List.{All}
 use Rattle.ob_base.specs.Schemas.{Columns, width}
@@ -8,7 +8,10 @@ use Rattle.ob_vault.specs.Places.{RowsFit}
 use Rattle.ob_row.specs.Rows.{Row}
 use Rattle.ob_row.specs.Spelling.{Begins, slot_bytes, row_bytes}
 use Rattle.ob_row.proofs.SpellingLemmas.{length-row_bytes}
+use Rattle.std.proofs.lemmas.Grind.{common_steps}
+use Rattle.ob_blocks.specs.Blocks.{map_at}
 use Rattle.ob_blocks.proofs.Blocks.{all_first, all_rest}
+use Rattle.ob_blocks.proofs.Changes.{length-map_at, get-map_at}
 use Rattle.ob_flat.specs.Slots.{Slots, FitsSlot, Spelt, AreSlots, block_bytes}
 
 pub slot_size : (columns : Columns) (slot : Option Row) → FitsSlot columns slot → length (slot_bytes columns slot) ≡ width columns
@@ -88,3 +91,27 @@ pub wide_fit : (w : ℕ) (rows : List (List ℕ)) → RowsFit rows (length rows 
 wide_fit w rows fit =
     let same : fit.each ≡ w = cancels (length rows) fit.each w fit.some fit.whole in
     record { wide = λ j below. omega (arith, same, fit.wide.wide j below) }
+
+pub row_is : (rows : List (List ℕ)) (i : ℕ) (x : List ℕ) → i < length rows → slice_index_or rows i x ≡ row_at rows i
+row_is rows i x below = grind (arith, common_steps)
+
+-- one row of a list is written
+module _ (columns : Columns) (rows : List (List ℕ)) (z : ℕ) (x : List ℕ) (below : z < length rows) where
+  pub row_same : row_at (slice_set rows z x) z ≡ x
+  row_same = get_or-set_same rows z x [] below
+
+  pub row_other : (j : ℕ) → j ≢ z → row_at (slice_set rows z x) j ≡ row_at rows j
+  row_other j off = get_or-set_other rows z j x [] off
+
+  pub spells_more : (P : ℕ → List ℕ → Type 0) → ((j : ℕ) → j < z → P j (row_at rows j)) → P z x → (j : ℕ) → j < z + 1 → P j (row_at (slice_set rows z x) j)
+  spells_more P before here = below_more _ _
+      (λ j h. subst (P j) (sym (row_other j (λ same. absurd (omega (arith, same, h))))) (before j h))
+      (subst (P z) (sym row_same) here)
+
+-- the changed rows spell the changed slots
+pub spelt_changed : (columns : Columns) (f : ℕ → Option Row → Option Row) (first z : ℕ) (slots : Slots) (rows : List (List ℕ)) → length slots ≡ length rows → length rows ≤ z
+    → ((j : ℕ) → j < z → Begins columns (f (first + j) (slice_index_or slots j None)) (row_at rows j)) → Spelt columns (map_at f first slots) rows
+spelt_changed columns f first z slots rows size all each = record {
+  count = length-map_at f first slots ∙ size;
+  each = λ j below. subst (λ (s : Option Row). Begins columns s (row_at rows j)) (sym (get-map_at f first j slots None (omega arith))) (each j (omega arith));
+}

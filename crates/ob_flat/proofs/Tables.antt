@@ -1,18 +1,22 @@
 -- Tables in the vault and its store.
-use Rattle.std.proofs.Common.{◌≡◌, ◌≤◌, ◌<◌, ◌+◌, ◌*◌, ◌/◌, ℕ, suc, List, [], ◌∷◌, ◌++◌, length, refl, sym, ◌∙◌, ap, subst, arith}
+use Rattle.std.proofs.Common.{◌≡◌, ◌≤◌, ◌<◌, ◌+◌, ◌*◌, ◌/◌, ℕ, suc, List, [], ◌∷◌, ◌++◌, Option, None, length, refl, sym, ◌∙◌, ap, subst, arith}
 use Rattle.std.proofs.lemmas.Grind.{div_ceil_times}
 use Rattle.std.specs.List.{All}
 use Rattle.ob_base.specs.declared.access.Access.{Access}
 use Rattle.ob_base.specs.Lists.{each}
 use Rattle.ob_base.specs.Numbers.{blocks_for}
 use Rattle.ob_base.specs.Accesses.{read_at}
+use Rattle.ob_script.specs.Parts.{copy_at}
+use Rattle.ob_row.specs.Rows.{Row}
+use Rattle.ob_vault.specs.Tied.{Holds}
 use Rattle.ob_base.specs.Schemas.{Columns, width}
 use Rattle.ob_store.proofs.Steps.{length-each}
 use Rattle.ob_vault.specs.State.{World}
 use Rattle.ob_vault.specs.Calls.{Went, Lasts}
 use Rattle.ob_vault.specs.Rows.{joined, Wide}
 use Rattle.ob_vault.proofs.Runs.{lives_lasts, written_lasts, holds_lasts, turn_lasts}
-use Rattle.ob_blocks.specs.Blocks.{block_at}
+use Rattle.ob_blocks.specs.Blocks.{block_at, map_at}
+use Rattle.ob_blocks.proofs.Changes.{length-map_at, all-map_at, map_at-up_to}
 use Rattle.ob_blocks.proofs.Blocks.{length-up_to, length-block, all_up_to, all_block}
 use Rattle.ob_flat.specs.declared.flat.Flat.{Flat}
 use Rattle.ob_flat.specs.Slots.{Slots, FitsSlot, Spelt, block_bytes}
@@ -69,3 +73,25 @@ module _ (pack : ℕ) (flat : Flat) (slots : Slots) (w : World) (is : Represents
   got u n rows below same size wide bytes =
       let each : (pack * width flat.schema) / n ≡ width flat.schema = ap (λ (k : ℕ). (pack * width flat.schema) / k) same ∙ width_each pack (width flat.schema) some in
       spelt_joined flat.schema _ rows wide (block_slots u below ∙ sym size) (block_fits u) (ap (λ (w : ℕ). joined w rows) (sym each) ∙ bytes)
+
+-- the accesses of a copy
+pub copies : (q g n : ℕ) → length (each n (copy_at q g)) ≡ 2 * n
+copies q g n = length-each (copy_at q g) 2 (λ i. refl) n ∙ omega arith
+
+-- the slots of a block have indices below 2^31
+pub index_fits : (pack capacity u : ℕ) → 1 ≤ pack → pack ≤ 16 → capacity ≤ 16777216 → u < blocks_for pack capacity → u * pack + pack ≤ 16777232
+index_fits pack capacity u some few most below =
+    let end = blocks_end pack capacity some in
+    let fits : u * pack + pack ≤ blocks_for pack capacity * pack = grind arith in
+    omega (arith, end, fits)
+
+-- the changed slots of a table are those that its new region has
+pub represents_changed : (pack : ℕ) (flat : Flat) (to : ℕ) (f : ℕ → Option Row → Option Row) (slots : Slots) (old new : World) → 1 ≤ pack → Represents pack flat slots old
+    → ((i : ℕ) → flat.capacity ≤ i → f i None ≡ None) → ((i : ℕ) (slot : Option Row) → FitsSlot flat.schema slot → FitsSlot flat.schema (f i slot))
+    → ((p : ℕ) → p < blocks_for pack flat.capacity → Holds to p (block_bytes flat.schema (block_at pack (map_at f 0 (whole_blocks pack flat.capacity slots)) p)) new)
+    → Represents pack (record flat { region = to }) (map_at f 0 slots) new
+represents_changed pack flat to f slots old new some is past keeps holds = record {
+  size = length-map_at f 0 slots ∙ is.size;
+  fits = all-map_at f (FitsSlot flat.schema) 0 slots keeps is.fits;
+  holds = λ p below. subst (λ (l : Slots). Holds to p (block_bytes flat.schema (block_at pack l p)) new) (map_at-up_to f (blocks_for pack flat.capacity * pack) slots (λ i beyond. past i (omega (arith, is.size, beyond)))) (holds p below);
+}
