@@ -1,1 +1,3 @@
 pub mod Schemas
+pub mod Engines
+pub mod Agreeing

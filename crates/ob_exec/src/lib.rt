@@ -2,6 +2,10 @@
 #![tactic(auto)]
 
 mod early;
+mod engine;
 mod outcome;
+mod stub;
+mod tables;
 
+pub use engine::Engine;
 pub use outcome::Outcome;

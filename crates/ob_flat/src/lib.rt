@@ -1,16 +1,8 @@
-//! Flat tables: sealed regions of slots, and passes over them.
+//! Flat tables.
 #![tactic(auto)]
 
-mod change;
 mod fault;
 mod flat;
-mod scan;
-mod swap;
-mod visit;
 
-pub use change::Change;
 pub use fault::OpErr;
 pub use flat::Flat;
-pub use scan::scan_blocks;
-pub use swap::swap_blocks;
-pub use visit::Visit;
