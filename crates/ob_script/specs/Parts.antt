@@ -3,6 +3,7 @@ use Rattle.std.specs.Prelude.{ℕ, ◌+◌, ◌-◌, ◌*◌, ◌/◌, ◌%◌, 
 use Rattle.ob_base.specs.declared.access.Access.{Access}
 use Rattle.ob_base.specs.declared.access.Access.TheVariants.{Read, Write}
 use Rattle.ob_base.specs.Accesses.{read_at, write_at, make_at, discard_at}
+use Rattle.std.specs.Int.{div_ceil}
 use Rattle.ob_base.specs.Lists.{each}
 use Rattle.ob_base.specs.Numbers.{blocks_for, first_bucket, second_bucket}
 
@@ -44,7 +45,7 @@ small_pass t g blocks results buffered j = count_part t blocks ++ each (min buff
 -- Small: a new region is made, and as many passes fill it as it has buffers of blocks
 abbrev pub small_part : ℕ → ℕ → ℕ → ℕ → ℕ → ℕ → List Access
 small_part t g blocks results buffered width =
-    make_at g results width ++ each (blocks_for buffered results) (small_pass t g blocks results buffered)
+    make_at g results width ++ each (div_ceil results buffered) (small_pass t g blocks results buffered)
 
 -- Large: the table is copied to a new region, which then is read and written again
 abbrev pub large_part : ℕ → ℕ → ℕ → ℕ → List Access
@@ -97,5 +98,5 @@ join_chunk a b g lefts rights buffered q =
 -- a join: a new region is made, and filled with the pairs of each chunk
 abbrev pub join_part : ℕ → ℕ → ℕ → ℕ → ℕ → ℕ → ℕ → List Access
 join_part a b g lefts rights buffered width =
-    make_at g (blocks_for buffered lefts * rights) width
-    ++ each (blocks_for buffered lefts) (join_chunk a b g lefts rights buffered)
+    make_at g (div_ceil lefts buffered * rights) width
+    ++ each (div_ceil lefts buffered) (join_chunk a b g lefts rights buffered)

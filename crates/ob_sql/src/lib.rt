@@ -1,6 +1,6 @@
-//! Statements as they are written.
+//! SQL statements as they are written, and what they spell.
 #![tactic(auto)]
 
 mod stmt;
 
-pub use stmt::{Against, Cond, Listed, Literal, Select, Set, Stmt};
+pub use stmt::{Against, Cond, CondTree, Listed, Literal, Select, Set, Stmt};

@@ -1,13 +1,16 @@
+//! Statements as they are written.
 use ob_base::{ColumnName, Items, Name, NewColumn, Source, Text};
 use ob_row::Order;
 use std::marker::Model;
 
-/// A literal, kept where it is within its kind's limits.
-#[derive(Drop)]
+/// A literal; one that no cell holds is kept as such.
+#[derive(Debug, PartialEq, Eq, Drop)]
 pub enum Literal {
     Int(i64),
+    /// An integer outside 64 bits.
     OutOfRange,
     Text(Text),
+    /// A text of more than 255 bytes.
     TooLong,
 }
 
@@ -18,18 +21,19 @@ pub enum Against {
     Column(ColumnName),
 }
 
+/// A condition as a tree.
 #[derive(Drop)]
-pub enum Tree {
+pub enum CondTree {
     Compare(ColumnName, Order, Against),
-    Not(Box<Tree>),
-    And(Box<Tree>, Box<Tree>),
-    Or(Box<Tree>, Box<Tree>),
+    Not(Box<CondTree>),
+    And(Box<CondTree>, Box<CondTree>),
+    Or(Box<CondTree>, Box<CondTree>),
 }
 
 /// The condition of a WHERE.
 #[derive(Drop)]
 pub struct Cond {
-    tree: Tree,
+    tree: CondTree,
 }
 
 impl Model for Cond {
@@ -40,6 +44,25 @@ impl Model for Cond {
     ghost coded = { search_code };
 
     ghost view = { λ c. search_of c.tree };
+}
+
+impl Cond {
+    ghost use Rattle.std.specs.Prelude.{◌≡◌};
+    ghost use Rattle.ob_sql.specs.Search.{search_of};
+
+    /// The condition of a tree.
+    pub fn new(tree: CondTree) -> Cond
+        ensures { result ≡ search_of tree }
+    {
+        Cond { tree }
+    }
+
+    /// Its tree.
+    pub fn tree(&self) -> &CondTree
+        ensures { search_of result.now ≡ self.now }
+    {
+        &self.tree
+    }
 }
 
 /// What a SELECT lists.
@@ -53,22 +76,23 @@ pub enum Listed {
     Max(ColumnName),
 }
 
-/// `SET column = value`.
+/// A column of an UPDATE, and the value that it takes.
 #[derive(Drop)]
 pub struct Set {
     pub column: Name,
     pub value: Literal,
 }
 
+/// A SELECT; no list stands for `*`.
 #[derive(Drop)]
 pub struct Select {
-    /// None stands for `*`.
     pub list: Option<Items<Listed>>,
     pub source: Source,
     pub cond: Option<Cond>,
     pub group: Option<ColumnName>,
 }
 
+/// A statement of the grammar.
 #[derive(Drop)]
 pub enum Stmt {
     Create {
