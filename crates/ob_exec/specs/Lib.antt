@@ -1,3 +1,4 @@
 pub mod Schemas
 pub mod Engines
 pub mod Agreeing
+pub mod Running
