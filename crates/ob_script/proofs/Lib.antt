@@ -1,1 +1,6 @@
 pub mod ScriptRows
+pub mod Eaches
+pub mod Shares
+pub mod Lengths
+pub mod Sizes
+pub mod Places

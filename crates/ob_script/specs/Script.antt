@@ -19,13 +19,8 @@ use Rattle.ob_base.specs.Limits.{buffered_blocks}
 use Rattle.ob_base.specs.Numbers.{blocks_for}
 use Rattle.ob_base.specs.Schemas.{width, columns_of}
 use Rattle.ob_base.specs.Stored.{Stored, stored_at, stored_regions}
+use Rattle.ob_script.specs.declared.extent.Extent.{Extent}
 use Rattle.ob_script.specs.Parts.{count_part, create_part, insert_part, rewrite_part, small_part, large_part, continuous_part, hash_part, emission_part, join_part}
-
--- where rows lie: their region, its number of slots, and the width of one
-pub record Extent : Type 0 where
-  pub region : ℕ
-  pub slots : ℕ
-  pub width : ℕ
 
 abbrev pub extent_of : Stored ℕ → Extent
 extent_of t = record { region = t.held; slots = t.heading.capacity; width = width t.heading.schema }
