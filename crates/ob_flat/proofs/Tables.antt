@@ -1,5 +1,5 @@
 -- Tables in the vault and its store.
-use Rattle.std.proofs.Common.{◌≡◌, ◌≤◌, ◌<◌, ◌+◌, ◌*◌, ◌/◌, ℕ, suc, List, [], ◌∷◌, ◌++◌, Option, None, length, refl, sym, ◌∙◌, ap, subst, arith}
+use Rattle.std.proofs.Common.{◌≡◌, ◌≤◌, ◌<◌, ◌+◌, ◌*◌, ◌/◌, ℕ, Bool, IsTrue, suc, List, [], ◌∷◌, ◌++◌, Option, None, length, refl, sym, ◌∙◌, ap, subst, arith}
 use Rattle.std.proofs.lemmas.Grind.{div_ceil_times}
 use Rattle.std.specs.List.{All}
 use Rattle.ob_base.specs.declared.access.Access.{Access}
@@ -14,14 +14,15 @@ use Rattle.ob_store.proofs.Steps.{length-each}
 use Rattle.ob_vault.specs.State.{World}
 use Rattle.ob_vault.specs.Calls.{Went, Lasts}
 use Rattle.ob_vault.specs.Rows.{joined, Wide}
+use Rattle.ob_vault.proofs.RowsLemmas.{rows_room}
 use Rattle.ob_vault.proofs.Runs.{lives_lasts, written_lasts, holds_lasts, turn_lasts}
 use Rattle.ob_blocks.specs.Blocks.{block_at, map_at}
 use Rattle.ob_blocks.proofs.Changes.{length-map_at, all-map_at, map_at-up_to}
 use Rattle.ob_blocks.proofs.Blocks.{length-up_to, length-block, all_up_to, all_block}
 use Rattle.ob_flat.specs.declared.flat.Flat.{Flat}
-use Rattle.ob_flat.specs.Slots.{Slots, FitsSlot, Spelt, block_bytes}
-use Rattle.ob_flat.specs.Flats.{IsMade, IsFlat, Represents, table_region, whole_blocks}
-use Rattle.ob_flat.proofs.Rows.{spelt_joined, width_each, block_size}
+use Rattle.ob_flat.specs.Slots.{Slots, FitsSlot, Spelt, AreSlots, block_bytes}
+use Rattle.ob_flat.specs.Flats.{IsMade, IsFlat, Represents, Accepts, table_region, whole_blocks}
+use Rattle.ob_flat.proofs.Rows.{spelt_joined, joined_spelt, spelt_fits, width_each, block_size}
 
 -- how many accesses the reads of a table are
 pub reads : (q n : ℕ) → length (each n (read_at q)) ≡ n
@@ -82,7 +83,7 @@ copies q g n = length-each (copy_at q g) 2 (λ i. refl) n ∙ omega arith
 pub index_fits : (pack capacity u : ℕ) → 1 ≤ pack → pack ≤ 16 → capacity ≤ 16777216 → u < blocks_for pack capacity → u * pack + pack ≤ 16777232
 index_fits pack capacity u some few most below =
     let end = blocks_end pack capacity some in
-    let fits : u * pack + pack ≤ blocks_for pack capacity * pack = grind arith in
+    let fits : u * pack + pack ≤ blocks_for pack capacity * pack = rows_room u (blocks_for pack capacity) pack below in
     omega (arith, end, fits)
 
 -- the changed slots of a table are those that its new region has
@@ -95,3 +96,15 @@ represents_changed pack flat to f slots old new some is past keeps holds = recor
   fits = all-map_at f (FitsSlot flat.schema) 0 slots keeps is.fits;
   holds = λ p below. subst (λ (l : Slots). Holds to p (block_bytes flat.schema (block_at pack l p)) new) (map_at-up_to f (blocks_for pack flat.capacity * pack) slots (λ i beyond. past i (omega (arith, is.size, beyond)))) (holds p below);
 }
+
+-- the bytes of a block's rows
+pub joined_block : (pack : ℕ) (columns : Columns) (slots : Slots) (rows : List (List ℕ)) → 1 ≤ pack → length rows ≡ pack → Spelt columns slots rows → joined ((pack * width columns) / length rows) rows ≡ block_bytes columns slots
+joined_block pack columns slots rows some size spelt =
+    let each : (pack * width columns) / length rows ≡ width columns = ap (λ (k : ℕ). (pack * width columns) / k) size ∙ width_each pack (width columns) some in
+    ap (λ (w : ℕ). joined w rows) each ∙ joined_spelt columns slots rows spelt
+
+pub accepted : (good : ℕ → List ℕ → Bool) (pack region : ℕ) (columns : Columns) (rows : List (List ℕ)) → 1 ≤ pack → length rows ≡ pack → Accepts good pack columns region → AreSlots columns rows
+    → IsTrue (good region (joined ((pack * width columns) / length rows) rows))
+accepted good pack region columns rows some size fine is =
+    subst (λ (bytes : List ℕ). IsTrue (good region bytes)) (sym (joined_block pack columns is.slots rows some size is.spelt))
+    (fine.accepts is.slots (is.spelt.count ∙ size) (spelt_fits columns is.slots rows is.spelt))
