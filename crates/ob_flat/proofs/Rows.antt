@@ -1,10 +1,12 @@
 -- The rows of a block and the slots that they spell.
-use Rattle.std.proofs.Common.{◌≡◌, ◌≤◌, ◌<◌, ◌+◌, ◌*◌, ◌/◌, ℕ, zero, suc, List, [], ◌∷◌, ◌++◌, Option, Some, None, length, map, take, drop, slice_index_or, slice_set, get_or-set_same, get_or-set_other, below_more, ◌≢◌, refl, sym, ◌∙◌, ap, subst, arith, length-append}
-use Rattle.std.proofs.lemmas.List.{take_at, drop_at, length-take-le, length-replicate}
+use Rattle.std.proofs.Common.{◌≡◌, ◌≤◌, ◌<◌, ◌+◌, ◌*◌, ◌/◌, ℕ, zero, suc, List, [], ◌∷◌, ◌++◌, Option, Some, None, length, map, take, drop, slice_index_or, slice_set, replicate, get_or-set_same, get_or-set_other, below_more, ◌≢◌, refl, sym, ◌∙◌, ap, subst, arith, length-append}
+use Rattle.std.proofs.lemmas.List.{take_at, drop_at, length-take-le, length-replicate, get_or-replicate}
 use Rattle.std.specs.List.{All}
 use Rattle.ob_base.specs.Schemas.{Columns, width}
 use Rattle.ob_vault.specs.Rows.{joined, row_at, Wide, SameSizes}
 use Rattle.ob_vault.specs.Places.{RowsFit}
+use Rattle.ob_room.specs.RoomState.{clear}
+use Rattle.ob_room.specs.Shelf.{AreWide}
 use Rattle.ob_row.specs.Rows.{Row}
 use Rattle.ob_row.specs.Spelling.{Begins, slot_bytes, row_bytes}
 use Rattle.ob_row.proofs.SpellingLemmas.{length-row_bytes}
@@ -115,3 +117,11 @@ spelt_changed columns f first z slots rows size all each = record {
   count = length-map_at f first slots ∙ size;
   each = λ j below. subst (λ (s : Option Row). Begins columns s (row_at rows j)) (sym (get-map_at f first j slots None (omega arith))) (each j (omega arith));
 }
+
+-- rows that were as wide as each other are so still
+pub same_wide : (w n : ℕ) (rows : List (List ℕ)) → SameSizes (replicate n (clear w)) rows → AreWide w rows
+same_wide w n rows same = all_wide w rows (λ j below. same.sizes j ∙ ap length (get_or-replicate n j (clear w) [] (omega (arith, below, same.count, length-replicate n (clear w)))) ∙ length-replicate w 0)
+  where
+    all_wide : (w : ℕ) (rows : List (List ℕ)) → ((j : ℕ) → j < length rows → length (row_at rows j) ≡ w) → AreWide w rows
+    all_wide w [] each = refl
+    all_wide w (row ∷ rows) each = cc (each 0 (omega arith), all_wide w rows (λ j below. each (suc j) (omega arith)))

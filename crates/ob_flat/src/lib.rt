@@ -2,6 +2,7 @@
 #![tactic(auto)]
 
 mod change;
+mod counting;
 mod fault;
 mod flat;
 mod scan;
@@ -9,6 +10,7 @@ mod swap;
 mod visit;
 
 pub use change::Change;
+pub use counting::{Counted, count};
 pub use fault::OpErr;
 pub use flat::Flat;
 pub use scan::scan_blocks;

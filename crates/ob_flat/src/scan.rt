@@ -34,21 +34,21 @@ pub fn scan_blocks<S: BlockStore, R: Revisions, V: Visit>(
     requires size { IsSized flat.now.schema flat.now.capacity }
     requires pack { (1 ≤ length rows.old) × (length rows.old ≤ 16) }
     requires fit { RowsFit rows.old (length rows.old * width flat.now.schema) }
-    requires suits { V.Suits visit.old flat.now.schema 0 }
+    requires suits { V.Suits flat.now visit.old 0 }
     ensures rows { SameSizes rows.old rows.new }
     ensures ok { OnOk result (Went (count_part flat.now.region (blocks_for (length rows.old) flat.now.capacity)) none (at R.state vault.old (S.state store.old)) (at R.state vault.new (S.state store.new))) }
     ensures err { IfErr result (λ e. PassCut e (count_part flat.now.region (blocks_for (length rows.old) flat.now.capacity)) none (at R.state vault.old (S.state store.old)) (at R.state vault.new (S.state store.new))) }
     ensures never { IfErr result (λ e. (e ≡ OpErr.Failed) ⊎ ((place : ℕ) × (e ≡ OpErr.Tampered flat.now.region place))) }
     ensures seals { (good : ℕ → List ℕ → Bool) → Seals good (at R.state vault.old (S.state store.old)) (at R.state vault.new (S.state store.new)) }
-    ensures suits { OnOk result (V.Suits visit.new flat.now.schema (blocks_for (length rows.old) flat.now.capacity * length rows.old)) }
+    ensures suits { OnOk result (V.Suits flat.now visit.new (blocks_for (length rows.old) flat.now.capacity * length rows.old)) }
     ensures told { (slots : Slots) → Represents (length rows.old) flat.now slots (at R.state vault.old (S.state store.old)) → (S.state store.new).lie ≡ None
-        → MatchResult result (λ _. visit.new ≡ scanned V.after 0 visit.old (whole_blocks (length rows.old) flat.now.capacity slots)) (λ e. e ≡ OpErr.Failed) }
+        → MatchResult result (λ _. visit.new ≡ scanned (V.after flat.now) 0 visit.old (whole_blocks (length rows.old) flat.now.capacity slots)) (λ e. e ≡ OpErr.Failed) }
 {
     let pack = rows.len() as u32;
     let blocks = flat.capacity.div_ceil(pack);
     for u in 0..blocks {
         vault.get(store, flat.region, u, rows)?;
-        match visit_rows(visit, u * pack, &flat.schema, rows) {
+        match visit_rows(visit, u * pack, flat, rows) {
             Ok(()) => {}
             Err(Malformed) => {
                 return Err(OpErr::Tampered {

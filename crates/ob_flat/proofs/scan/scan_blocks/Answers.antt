@@ -92,7 +92,7 @@ loop-u-preserved g c =
       went = went_each none (read_at flat.region) _ _ _ u went c.in_ok-get.ensures.ok;
       seals = λ good. seals_join good _ _ _ went.lasts.later (c.loop-u.invariant.seals good) (c.get.ensures.seals good);
       same = same;
-      suits = subst (g.V.Visit.Suits c.visit_rows.new.visit flat.schema) (more u pack (length c.get.new.rows) same.count) c.in-Ok.ensures.suits;
+      suits = subst (g.V.Visit.Suits flat c.visit_rows.new.visit) (more u pack (length c.get.new.rows) same.count) c.in-Ok.ensures.suits;
       told = λ slots is nolie.
           let now = represents_lasts pack flat none _ _ went.lasts (λ s. s) slots is in
           let shape = table_region pack flat.schema flat.capacity in
@@ -102,8 +102,8 @@ loop-u-preserved g c =
           let before = c.loop-u.invariant.told slots is (none_went _ _ _ _ c.in_ok-get.ensures.ok nolie) in
           let block = block_at pack (whole_blocks pack flat.capacity slots) u in
           c.in-Ok.ensures.told block spelt
-          ∙ ap (λ s. scanned g.V.Visit.after (u * pack) s block) before
-          ∙ sym (scanned-block g.V.Visit.after pack (blocks_for pack flat.capacity) u c.args.visit.now (whole_blocks pack flat.capacity slots) below (whole_size pack flat slots _ is c.requires.pack.0));
+          ∙ ap (λ s. scanned (g.V.Visit.after flat) (u * pack) s block) before
+          ∙ sym (scanned-block (g.V.Visit.after flat) pack (blocks_for pack flat.capacity) u c.args.visit.now (whole_blocks pack flat.capacity slots) below (whole_size pack flat slots _ is c.requires.pack.0));
     }
   where
     more : (u pack n : ℕ) → n ≡ pack → u * pack + n ≡ (u + 1) * pack

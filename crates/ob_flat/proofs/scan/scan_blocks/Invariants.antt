@@ -18,7 +18,7 @@ invariant-loop-u g l =
       went : Went (each l.u (read_at l.flat.region)) none old now;
       seals : (good : ℕ → List ℕ → Bool) → Seals good old now;
       same : SameSizes l.initial.rows l.rows;
-      suits : g.V.Visit.Suits l.visit l.flat.schema (l.u * pack);
+      suits : g.V.Visit.Suits l.flat l.visit (l.u * pack);
       told : (slots : Slots) → Represents pack l.flat slots old → now.store.lie ≡ None
-          → l.visit ≡ scanned g.V.Visit.after 0 l.initial.visit (take (l.u * pack) (whole_blocks pack l.flat.capacity slots));
+          → l.visit ≡ scanned (g.V.Visit.after l.flat) 0 l.initial.visit (take (l.u * pack) (whole_blocks pack l.flat.capacity slots));
     }
