@@ -3,6 +3,7 @@
 
 mod change;
 mod counting;
+mod creating;
 mod fault;
 mod flat;
 mod scan;
@@ -11,8 +12,9 @@ mod visit;
 
 pub use change::Change;
 pub use counting::{Counted, count};
+pub use creating::{create, fill_blocks};
 pub use fault::OpErr;
-pub use flat::Flat;
+pub use flat::{Flat, discard};
 pub use scan::scan_blocks;
 pub use swap::swap_blocks;
 pub use visit::Visit;
