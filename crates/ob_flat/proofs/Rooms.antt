@@ -23,3 +23,12 @@ module _ (width n : ℕ) (s : RoomState) (rows ends : List (List ℕ)) (idle : I
   -- all are free again
   pub room_after : cleared (opened_with s n ends) ≡ record s { high = max s.high s.pack }
   room_after = closed width n s ends idle fits size sound ∙ ap (λ (k : ℕ). record s { high = max s.high k }) pack
+
+-- rows that were only read
+pub same_rows : (rows : List (List ℕ)) → SameSizes rows rows
+same_rows rows = record { count = refl; sizes = λ j. refl }
+
+-- a pass takes as many rows as a block has, each wide enough
+module _ (width n : ℕ) (s : RoomState) (rows : List (List ℕ)) (idle : IsIdle width s) (value : rows ≡ replicate n (clear s.width)) (some : 1 ≤ n) where
+  pub rows_count : length rows ≡ n
+  rows_count = ap length value ∙ length-replicate n (clear s.width)

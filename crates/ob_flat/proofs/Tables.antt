@@ -16,11 +16,13 @@ use Rattle.ob_vault.specs.Calls.{Went, Lasts}
 use Rattle.ob_vault.specs.Rows.{joined, Wide}
 use Rattle.ob_vault.proofs.RowsLemmas.{rows_room}
 use Rattle.ob_vault.proofs.Runs.{lives_lasts, written_lasts, holds_lasts, turn_lasts}
-use Rattle.ob_blocks.specs.Blocks.{block_at, map_at}
+use Rattle.std.proofs.lemmas.List.{length-replicate}
+use Rattle.std.proofs.lemmas.List.Elements.{All-replicate}
+use Rattle.ob_blocks.specs.Blocks.{block_at, map_at, none_of}
 use Rattle.ob_blocks.proofs.Changes.{length-map_at, all-map_at, map_at-up_to}
-use Rattle.ob_blocks.proofs.Blocks.{length-up_to, length-block, all_up_to, all_block}
+use Rattle.ob_blocks.proofs.Blocks.{length-up_to, length-block, all_up_to, all_block, block_none}
 use Rattle.ob_flat.specs.declared.flat.Flat.{Flat}
-use Rattle.ob_flat.specs.Slots.{Slots, FitsSlot, Spelt, AreSlots, block_bytes}
+use Rattle.ob_flat.specs.Slots.{Slots, FitsSlot, Spelt, AreSlots, block_bytes, empty_slots}
 use Rattle.ob_flat.specs.Flats.{IsMade, IsFlat, Represents, Accepts, table_region, whole_blocks}
 use Rattle.ob_flat.proofs.Rows.{spelt_joined, joined_spelt, spelt_fits, width_each, block_size}
 
@@ -108,3 +110,15 @@ pub accepted : (good : ℕ → List ℕ → Bool) (pack region : ℕ) (columns :
 accepted good pack region columns rows some size fine is =
     subst (λ (bytes : List ℕ). IsTrue (good region bytes)) (sym (joined_block pack columns is.slots rows some size is.spelt))
     (fine.accepts is.slots (is.spelt.count ∙ size) (spelt_fits columns is.slots rows is.spelt))
+
+-- a table with no rows
+pub represents_none : (pack : ℕ) (flat : Flat) (w : World) → 1 ≤ pack
+    → ((p : ℕ) → p < blocks_for pack flat.capacity → Holds flat.region p (block_bytes flat.schema (none_of pack)) w) → Represents pack flat (empty_slots flat.capacity) w
+represents_none pack flat w some holds =
+    let none : Option Row = None in
+    let fits : flat.capacity ≤ blocks_for pack flat.capacity * pack = blocks_hold pack flat.capacity some in
+    record {
+      size = length-replicate flat.capacity none;
+      fits = All-replicate (FitsSlot flat.schema) flat.capacity none tt;
+      holds = λ p below. subst (λ (l : Slots). Holds flat.region p (block_bytes flat.schema l) w) (sym (block_none pack flat.capacity (blocks_for pack flat.capacity) p fits below)) (holds p below);
+    }
