@@ -12,7 +12,7 @@ ghost use Rattle.ob_script.specs.Parts.{create_part};
 ghost use Rattle.ob_blocks.specs.Blocks.{none_of};
 ghost use Rattle.ob_blocks.specs.Idle.{IsIdle};
 ghost use Rattle.ob_flat.specs.Slots.{Spelt, empty_slots};
-ghost use Rattle.ob_flat.specs.Flats.{IsSized, IsFlat, Represents, Accepts};
+ghost use Rattle.ob_flat.specs.Flats.{IsSized, IsMade, IsFlat, Represents, Accepts, table_region};
 ghost use Rattle.ob_flat.specs.Passes.{PassCut};
 
 use crate::fault::OpErr;
@@ -22,6 +22,45 @@ use ob_room::{ClearRow, Room};
 use ob_row::width;
 use ob_store::BlockStore;
 use ob_vault::{Order, Region, Revisions, Vault, VaultErr};
+
+// The region of a table.
+fn region_of_table(schema: &Schema, capacity: u32, pack: u32) -> Region
+    requires size { IsSized schema.now capacity }
+    requires pack { (1 ≤ pack) × (pack ≤ 16) }
+    ensures { result ≡ table_region pack schema.now capacity }
+{
+    Region {
+        blocks: capacity.div_ceil(pack),
+        width: pack * width(schema),
+        order: Order::Round,
+    }
+}
+
+/// Makes the region of a table, of which nothing is written yet.
+pub fn make_table<S: BlockStore, R: Revisions>(
+    store: &mut S,
+    vault: &mut Vault<R>,
+    schema: &Schema,
+    capacity: u32,
+    pack: u32,
+) -> Result<u64, OpErr>
+    requires ready { Ready (at R.state vault.old (S.state store.old)) }
+    requires spare { 1 ≤ (S.state store.old).spare }
+    requires few { length (S.state store.old).asked < 2 ^ 63 + 2 ^ 60 }
+    requires size { IsSized schema.now capacity }
+    requires pack { (1 ≤ pack) × (pack ≤ 16) }
+    ensures ok { OnOk result (Went (make_at vault.old.next (blocks_for pack capacity) (pack * width schema.now)) (one vault.old.next) (at R.state vault.old (S.state store.old)) (at R.state vault.new (S.state store.new))) }
+    ensures err { IfErr result (λ e. PassCut e (make_at vault.old.next (blocks_for pack capacity) (pack * width schema.now)) (one vault.old.next) (at R.state vault.old (S.state store.old)) (at R.state vault.new (S.state store.new))) }
+    ensures never { IfErr result (λ e. (e ≡ OpErr.Failed) ⊎ (e ≡ OpErr.NoMemory)) }
+    ensures gone { OnErr result ((R.state vault.new.revs).live vault.old.next ≡ None) }
+    ensures seals { (good : ℕ → List ℕ → Bool) → Seals good (at R.state vault.old (S.state store.old)) (at R.state vault.new (S.state store.new)) }
+    ensures number { IfOk result (λ region. region ≡ vault.old.next) }
+    ensures made { OnOk result (IsMade pack (record { schema = schema.now; capacity = capacity; region = vault.old.next }) (at R.state vault.new (S.state store.new))) }
+{
+    let shape = region_of_table(schema, capacity, pack);
+    let region = vault.make(store, shape.blocks, shape.width, shape.order)?;
+    Ok(region)
+}
 
 /// Writes these rows to each place of a region, in order.
 pub fn fill_blocks<S: BlockStore, R: Revisions>(
@@ -78,13 +117,8 @@ fn create_blocks<S: BlockStore, R: Revisions>(
     ensures told { OnOk result (IsTrue (S.state store.old).tells → Represents (length rows.now) (record { schema = schema.now; capacity = capacity; region = vault.old.next }) (empty_slots capacity) (at R.state vault.new (S.state store.new))) }
 {
     let pack = rows.len() as u32;
-    let shape = Region {
-        blocks: capacity.div_ceil(pack),
-        width: pack * width(schema),
-        order: Order::Round,
-    };
-    let region = vault.make(store, shape.blocks, shape.width, shape.order)?;
-    match fill_blocks(store, vault, rows, region, shape) {
+    let region = make_table(store, vault, schema, capacity, pack)?;
+    match fill_blocks(store, vault, rows, region, region_of_table(schema, capacity, pack)) {
         Ok(()) => Ok(region),
         Err(e) => {
             vault.forget(region);

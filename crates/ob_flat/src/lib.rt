@@ -12,7 +12,7 @@ mod visit;
 
 pub use change::Change;
 pub use counting::{Counted, count};
-pub use creating::{create, fill_blocks};
+pub use creating::{create, fill_blocks, make_table};
 pub use fault::OpErr;
 pub use flat::{Flat, discard};
 pub use scan::scan_blocks;
