@@ -1,6 +1,6 @@
 -- Blocks of r slots.
 use Rattle.std.proofs.Common.{◌≡◌, ◌≤◌, ◌<◌, ◌+◌, ◌*◌, ◌-◌, ℕ, zero, suc, Bool, List, [], ◌∷◌, ◌++◌, Option, Some, None, length, replicate, map, take, drop, count_by, slice_index_or, if◌then◌else◌, refl, sym, ◌∙◌, ap, arith, length-append}
-use Rattle.std.proofs.lemmas.List.{length-replicate, length-take, length-drop, take_at, take_all, take_more, append-nil}
+use Rattle.std.proofs.lemmas.List.{length-replicate, length-take, length-drop, take_at, take_all, take_more, drop-replicate}
 use Rattle.std.proofs.lemmas.List.Sums.{sum_by-append, sum_by-cons}
 use Rattle.std.proofs.lemmas.List.Elements as elements
 use Rattle.std.proofs.Math.Seq.{take-add}
@@ -91,3 +91,22 @@ count_whole {A = A} p blocks r slots none fits =
     zero_of : (n : ℕ) → count_by p (replicate n None) ≡ 0
     zero_of zero = refl
     zero_of (suc n) = omega (arith, sum_by-cons (ones p) None (replicate n None), ap (λ (b : Bool). one_if b) none, zero_of n)
+
+pub replicate_join : {A : Type 0} (m n : ℕ) (x : A) → replicate m x ++ replicate n x ≡ replicate (m + n) x
+replicate_join zero n x = ap (λ (k : ℕ). replicate k x) (omega arith)
+replicate_join {A = A} (suc m) n x = let next : suc (m + n) ≡ suc m + n = omega arith in ap (λ (l : List A). x ∷ l) (replicate_join m n x) ∙ ap (λ (k : ℕ). replicate k x) next
+
+pub take_replicate : {A : Type 0} (k n : ℕ) (x : A) → k ≤ n → take k (replicate n x) ≡ replicate k x
+take_replicate zero n x fits = refl
+take_replicate (suc k) zero x fits = absurd (omega arith)
+take_replicate {A = A} (suc k) (suc n) x fits = ap (λ (l : List A). x ∷ l) (take_replicate k n x (omega arith))
+
+-- a block of a table with no rows
+pub block_none : {A : Type 0} (r n blocks p : ℕ) → n ≤ blocks * r → p < blocks → block_at r (up_to {A = A} (blocks * r) (none_of n)) p ≡ none_of r
+block_none {A = A} r n blocks p fits below =
+    let none : Option A = None in
+    let size : length (replicate n none) ≡ n = length-replicate n none in
+    let whole : up_to (blocks * r) (replicate n none) ≡ replicate (blocks * r) none =
+        ap (λ (k : ℕ). replicate n none ++ replicate (blocks * r - k) none) size ∙ replicate_join n (blocks * r - n) none ∙ ap (λ (k : ℕ). replicate k none) (omega arith) in
+    let room : p * r + r ≤ blocks * r = grind arith in
+    ap (λ (l : List (Option A)). block_at r l p) whole ∙ ap (take r) (drop-replicate (p * r) (blocks * r) none) ∙ take_replicate r (blocks * r - p * r) none (omega arith)

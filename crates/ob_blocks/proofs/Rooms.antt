@@ -5,19 +5,11 @@ use Rattle.ob_room.specs.RoomState.{RoomState, clear, out}
 use Rattle.ob_room.specs.Shelf.{AreWide, IsSound, cleared}
 use Rattle.ob_room.specs.LendingOpen.{opened_with}
 use Rattle.ob_blocks.specs.Idle.{IsIdle}
+use Rattle.ob_blocks.proofs.Blocks.{replicate_join, take_replicate}
 
 pub clear_wide : (w n : ℕ) → AreWide w (replicate n (clear w))
 clear_wide w zero = refl
 clear_wide w (suc n) = cc (clear_wide w n, length-replicate {A = ℕ} w 0)
-
-replicate_join : {A : Type 0} (m n : ℕ) (x : A) → replicate m x ++ replicate n x ≡ replicate (m + n) x
-replicate_join zero n x = ap (λ (k : ℕ). replicate k x) (omega arith)
-replicate_join {A = A} (suc m) n x = let next : suc (m + n) ≡ suc m + n = omega arith in ap (λ (l : List A). x ∷ l) (replicate_join m n x) ∙ ap (λ (k : ℕ). replicate k x) next
-
-take_replicate : {A : Type 0} (k n : ℕ) (x : A) → k ≤ n → take k (replicate n x) ≡ replicate k x
-take_replicate zero n x fits = refl
-take_replicate (suc k) zero x fits = absurd (omega arith)
-take_replicate {A = A} (suc k) (suc n) x fits = ap (λ (l : List A). x ∷ l) (take_replicate k n x (omega arith))
 
 module _ (width n : ℕ) (s : RoomState) (w : List (List ℕ)) (idle : IsIdle width s) (fits : n ≤ s.rows) (size : length w ≡ n) where
   -- what lies on the shelf at the end of a pass

@@ -6,6 +6,8 @@ use Rattle.ob_base.specs.Lists.{places_of}
 use Rattle.ob_base.specs.Schemas.{Columns}
 use Rattle.ob_vault.specs.Rows.{row_at}
 use Rattle.ob_row.specs.Rows.{Row}
+use Rattle.ob_row.specs.Condition.{Condition}
+use Rattle.ob_row.specs.Truth.{is_selected}
 use Rattle.ob_row.specs.Spelling.{Fits, Begins, slot_bytes}
 
 abbrev pub Slots : Type 0
@@ -27,20 +29,15 @@ fill_first row [] = []
 fill_first row (None ∷ slots) = Some row ∷ slots
 fill_first row (Some r ∷ slots) = Some r ∷ fill_first row slots
 
--- whether a slot has a row that passes the test
-abbrev pub is_selected : (Row → Bool) → Option Row → Bool
-is_selected p None = false
-is_selected p (Some row) = p row
-
--- the slot, emptied where its row passes the test, and where it doesn't
-abbrev pub emptied : (Row → Bool) → Option Row → Option Row
+-- the slot, emptied where its row makes the condition true, and where it doesn't
+abbrev pub emptied : Condition → Option Row → Option Row
 emptied p slot = if is_selected p slot then None else slot
 
-abbrev pub kept : (Row → Bool) → Option Row → Option Row
+abbrev pub kept : Condition → Option Row → Option Row
 kept p slot = if is_selected p slot then slot else None
 
 -- the places of the selected rows, ascending
-abbrev pub selected : (Row → Bool) → Slots → List ℕ
+abbrev pub selected : Condition → Slots → List ℕ
 selected p slots = places_of (is_selected p) slots
 
 -- each number is one more than the one before it

@@ -1,0 +1,5 @@
+pub mod Rows
+pub mod Runs
+pub mod Tables
+pub mod Counts
+pub mod Rooms
