@@ -1,4 +1,5 @@
 pub mod Schemas
 pub mod Engines
+pub mod Refusals
 pub mod Agreeing
 pub mod Running

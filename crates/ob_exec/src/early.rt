@@ -1,9 +1,10 @@
 //! What is refused before any access.
-ghost use Rattle.std.specs.Prelude.{◌≡◌, ◌≤◌, ◌<◌, ◌++◌, List, map, length, take, IfOk, IfSome, IsTrue, ◌↔◌};
+ghost use Rattle.std.specs.Prelude.{◌≡◌, ◌≤◌, ◌<◌, ◌++◌, List, map, length, take, IfOk, IfErr, IfSome, IsTrue, ◌↔◌, false};
 ghost use Rattle.ob_base.specs.Schemas.{width, kind_of, new_column, columns_of};
 ghost use Rattle.ob_row.specs.Rows.{Row};
 ghost use Rattle.ob_row.specs.Spelling.{Fits, FitsKind};
 ghost use Rattle.ob_exec.specs.Schemas.{IsStored, IsSize};
+ghost use Rattle.ob_exec.specs.Refusals.{IsEarly, IsEarlyStop};
 
 use ob_base::{Column, Kind, Name, NewColumn, NewKind, NoMemory, Refusal, Schema};
 use ob_row::Cell;
@@ -83,21 +84,26 @@ fn schema_of(table: &Name, columns: &[NewColumn]) -> Option<Schema>
     Some(schema)
 }
 
-/// The schema of a new table, or why it is refused: a name that stands twice, a size past its limits, a
-/// second primary key.
+/// The schema of a new table, or why it is refused: a name that stands twice; a size past its limits, or
+/// what else is past a limit; a second primary key.
 pub(crate) fn new_schema(
     table: &Name,
     columns: &[NewColumn],
     capacity: u32,
+    is_past: bool,
 ) -> Result<Schema, Refusal>
     ensures columns { IfOk result (λ s. s ≡ columns_of table.now columns.now) }
     ensures stored { IfOk result (λ s. IsStored s capacity) }
+    ensures past { IfOk result (λ s. is_past ≡ false) }
+    ensures early { IfErr result IsEarly }
 {
     if has_repeats(columns) {
         return Err(Refusal::NameTaken);
     }
-    if columns.is_empty() || columns.len() > MAX_COLUMNS || capacity == 0 || capacity > MAX_CAPACITY
-    {
+    if columns.is_empty() || columns.len() > MAX_COLUMNS {
+        return Err(Refusal::Limit);
+    }
+    if is_past || capacity == 0 || capacity > MAX_CAPACITY {
         return Err(Refusal::Limit);
     }
     let Some(schema) = schema_of(table, columns) else {
@@ -139,7 +145,8 @@ fn add_cells(
     values: &[Literal],
     cells: &mut Vec<Cell>,
 ) -> Result<(), Early>
-    ensures { IfOk result (λ _. (more : Row) × Fits columns.now more × (cells.new.items ≡ cells.old.items ++ more)) }
+    ensures cells { IfOk result (λ _. (more : Row) × Fits columns.now more × (cells.new.items ≡ cells.old.items ++ more)) }
+    ensures early { IfErr result IsEarlyStop }
 {
     match (columns.split_first(), values.split_first()) {
         (None, None) => Ok(()),
@@ -161,7 +168,8 @@ pub(crate) fn new_cells(
     schema: &Schema,
     values: &[Literal],
 ) -> Result<Vec<Cell>, Early>
-    ensures { IfOk result (λ cells. Fits schema.now cells.items) }
+    ensures cells { IfOk result (λ cells. Fits schema.now cells.items) }
+    ensures early { IfErr result IsEarlyStop }
 {
     let columns = schema.as_slice();
     let kinds = columns.len() == values.len()

@@ -17,6 +17,9 @@ use std::alloc::Global;
 /// The width of an open row: every row of a table, or of a join, is at most so wide.
 const ROW_WIDTH: u32 = 1_024;
 
+/// From so many accesses on no statement is served.
+pub(crate) const LATE: u64 = 1 << 63;
+
 /// Tables in sealed regions of a store, the keys to them, and a buffer of open rows.
 #[derive(Drop)]
 pub struct Engine<R: Revisions> {
@@ -49,9 +52,7 @@ impl<R: Revisions> Engine<R> {
         ensures alive { IfOk result (λ e. has_ended e ≡ false) }
         ensures none_open { IfOk result (λ e. high_of e ≡ 0) }
     {
-        let Ok(room) = Room::new(alloc, config.buffer, ROW_WIDTH, u32::from(config.pack)) else {
-            return Err(NoMemory);
-        };
+        let room = Room::new(alloc, config.buffer, ROW_WIDTH, u32::from(config.pack))?;
         Ok(Engine {
             alloc,
             vault: Vault::new(alloc, keys),

@@ -1,10 +1,10 @@
 //! The engine: statements over sealed tables in a block store that others watch and change.
 #![tactic(auto)]
 
+mod creating;
 mod early;
 mod engine;
 mod outcome;
-mod stub;
 mod tables;
 
 pub use engine::Engine;

@@ -6,4 +6,3 @@ pub mod Cells
 pub mod Bags
 pub mod Truth
 pub mod Totals
-pub mod Slots

@@ -9,13 +9,13 @@ returns-clause-agrees g c = λ s none. record {
   next = sym c.new-2.ensures.first;
   room = record {
     idle = record {
-      free = grind (arith, common_steps, c.in-Ok.ensures);
-      shelf = grind (arith, common_steps, c.in-Ok.ensures);
-      enough = grind (arith, common_steps, c.in-Ok.ensures, c.requires.blocks);
-      wide = grind (arith, common_steps, c.in-Ok.ensures);
+      free = grind (arith, common_steps, c.in_ok-room.ensures);
+      shelf = grind (arith, common_steps, c.in_ok-room.ensures);
+      enough = grind (arith, common_steps, c.in_ok-room.ensures, c.requires.blocks);
+      wide = grind (arith, common_steps, c.in_ok-room.ensures);
     };
-    rows = grind (arith, common_steps, c.in-Ok.ensures);
-    pack = grind (arith, common_steps, c.in-Ok.ensures);
+    rows = grind (arith, common_steps, c.in_ok-room.ensures);
+    pack = grind (arith, common_steps, c.in_ok-room.ensures);
     some = c.requires.pack_least;
     few = c.requires.pack_most;
   };
