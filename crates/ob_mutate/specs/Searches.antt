@@ -12,9 +12,9 @@ agrees None row other = false
 agrees (Some place) row other = agree_at place place row other
 
 -- what has been found after the slot of index i: the first empty slot below the capacity, and whether a row has the key
-abbrev pub found : Option ℕ → Row → ℕ → ℕ → Option Row → Finds → Finds
-found key row capacity i None f = if nat_lt i capacity && not (is_some f.free) then record f { free = Some i } else f
-found key row capacity i (Some other) f = if agrees key row other then record f { duplicate = true } else f
+abbrev pub found : Option ℕ → Row → ℕ → Finds → ℕ → Option Row → Finds
+found key row capacity f i None = if nat_lt i capacity && not (is_some f.free) then record f { free = Some i } else f
+found key row capacity f i (Some other) = if agrees key row other then record f { duplicate = true } else f
 
 -- the index of the first empty slot, counted from i
 abbrev pub free_from : ℕ → Slots → Option ℕ

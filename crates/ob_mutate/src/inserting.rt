@@ -17,7 +17,7 @@ ghost use Rattle.ob_flat.specs.Passes.{PassCut};
 ghost use Rattle.ob_mutate.specs.Inserting.{insert_answer, slots_after};
 
 use crate::searching::{Finds, Search, key_place};
-use crate::settling::settle;
+use crate::settling::move_table;
 use ob_base::Schema;
 use ob_flat::{Change, Flat, OpErr, make_table, scan_blocks, swap_blocks};
 use ob_room::{ClearRow, Room};
@@ -153,7 +153,7 @@ fn insert_rows<S: BlockStore, R: Revisions>(
     ensures err { IfErr result (λ e. PassCut e (insert_part flat.old.region vault.old.next (blocks_for (length rows.old) flat.old.capacity) (length rows.old * width flat.old.schema)) (one vault.old.next) (at R.state vault.old (S.state store.old)) (at R.state vault.new (S.state store.new))) }
     ensures never { IfErr result (λ e. (e ≡ OpErr.Failed) ⊎ (e ≡ OpErr.NoMemory) ⊎ ((place : ℕ) × (e ≡ OpErr.Tampered flat.old.region place))) }
     ensures memory { result ≡ Err OpErr.NoMemory → Began (make_at vault.old.next (blocks_for (length rows.old) flat.old.capacity) (length rows.old * width flat.old.schema)) (S.state store.old) (S.state store.new) }
-    ensures gone { OnErr result ((R.state vault.new.revs).live vault.old.next ≡ None) }
+    ensures gone { MatchResult result (λ _. (R.state vault.new.revs).live flat.old.region ≡ None) (λ _. (R.state vault.new.revs).live vault.old.next ≡ None) }
     ensures seals { (good : ℕ → List ℕ → Bool) → Accepts good (length rows.old) flat.old.schema vault.old.next → Seals good (at R.state vault.old (S.state store.old)) (at R.state vault.new (S.state store.new)) }
     ensures moved { OnOk result (flat.new ≡ record flat.old { region = vault.old.next }) }
     ensures same { OnErr result (flat.new ≡ flat.old) }
@@ -165,8 +165,16 @@ fn insert_rows<S: BlockStore, R: Revisions>(
 {
     let pack = rows.len() as u32;
     let fresh = make_table(store, vault, &flat.schema, flat.capacity, pack)?;
-    let outcome = insert_blocks(store, vault, rows, flat, fresh, cells);
-    settle(store, vault, flat, fresh, outcome)
+    match insert_blocks(store, vault, rows, flat, fresh, cells) {
+        Ok(answer) => {
+            move_table(store, vault, flat, fresh);
+            Ok(answer)
+        }
+        Err(e) => {
+            vault.forget(fresh);
+            Err(e)
+        }
+    }
 }
 
 /// Inserts a row into the first empty slot of a table, which gets a fresh region whatever the answer
@@ -189,7 +197,7 @@ pub fn insert<S: BlockStore, R: Revisions>(
     ensures err { IfErr result (λ e. PassCut e (insert_part flat.old.region vault.old.next (blocks_for room.old.pack flat.old.capacity) (room.old.pack * width flat.old.schema)) (one vault.old.next) (at R.state vault.old (S.state store.old)) (at R.state vault.new (S.state store.new))) }
     ensures never { IfErr result (λ e. (e ≡ OpErr.Failed) ⊎ (e ≡ OpErr.NoMemory) ⊎ ((place : ℕ) × (e ≡ OpErr.Tampered flat.old.region place))) }
     ensures memory { result ≡ Err OpErr.NoMemory → Began (make_at vault.old.next (blocks_for room.old.pack flat.old.capacity) (room.old.pack * width flat.old.schema)) (S.state store.old) (S.state store.new) }
-    ensures gone { OnErr result ((R.state vault.new.revs).live vault.old.next ≡ None) }
+    ensures gone { MatchResult result (λ _. (R.state vault.new.revs).live flat.old.region ≡ None) (λ _. (R.state vault.new.revs).live vault.old.next ≡ None) }
     ensures seals { (good : ℕ → List ℕ → Bool) → Accepts good room.old.pack flat.old.schema vault.old.next → Seals good (at R.state vault.old (S.state store.old)) (at R.state vault.new (S.state store.new)) }
     ensures room { room.new ≡ record room.old { high = max room.old.high room.old.pack } }
     ensures moved { OnOk result (flat.new ≡ record flat.old { region = vault.old.next }) }

@@ -1,19 +1,29 @@
 ghost use Rattle.std.specs.Prelude.{◌≡◌, ◌≤◌, ◌<◌, ℕ, List, Option, Some, Ok, IfSome, length};
+ghost use Rattle.std.specs.List.{position};
+ghost use Rattle.ob_base.specs.declared.schema.Column.{Column as TableColumn};
 ghost use Rattle.ob_base.specs.Schemas.{width, key_place};
 ghost use Rattle.ob_row.specs.Rows.{Row, cell_eq};
 ghost use Rattle.ob_row.specs.Spelling.{Begins, Fits};
 ghost use Rattle.ob_mutate.specs.Searches.{agrees, found};
 
-use ob_base::Schema;
+use ob_base::{Column, Schema};
 use ob_flat::{Flat, Visit};
 use ob_room::ClearRow;
 use ob_row::{Cell, Malformed, decode, read};
+
+fn key_index(columns: &[Column]) -> Option<usize>
+    requires { length columns.now ≤ 32 }
+    ensures value { result ≡ position (λ (c : TableColumn). c.key) columns.now }
+    ensures few { IfSome result (λ place. place < 32) }
+{
+    columns.iter().position(|column| column.key)
+}
 
 // The place of the primary key, if there is one.
 pub(crate) fn key_place(schema: &Schema) -> Option<u8>
     ensures { result ≡ key_place schema.now }
 {
-    match schema.as_slice().iter().position(|column| column.key) {
+    match key_index(schema.as_slice()) {
         Some(place) => Some(place as u8),
         None => None,
     }
@@ -71,7 +81,7 @@ impl<'a> Visit for Search<'a> {
     ghost use Rattle.ob_row.specs.Spelling.{Fits};
     ghost use Rattle.ob_mutate.specs.Searches.{found};
 
-    ghost after = { λ flat s i slot. record s { finds = found s.key s.cells.now flat.capacity i slot s.finds } };
+    ghost after = { λ flat s i slot. record s { finds = found s.key s.cells.now flat.capacity s.finds i slot } };
 
     ghost Suits = { λ flat s i. (s.key ≡ key_place flat.schema) × Fits flat.schema s.cells.now × IfSome s.finds.free (λ slot. slot < flat.capacity) };
 
