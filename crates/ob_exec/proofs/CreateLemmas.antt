@@ -1,5 +1,5 @@
 -- CREATE TABLE, after its pass.
-use Rattle.std.proofs.Common.{◌≡◌, ◌⊎◌, ◌+◌, ◌-◌, ◌*◌, ◌<◌, ℕ, Bool, false, List, [], ◌∷◌, ◌++◌, length, Some, Ok, Err, Result, OnOk, refl, sym, ◌∙◌, ap, subst, arith}
+use Rattle.std.proofs.Common.{◌≡◌, ◌-◌, ◌*◌, ℕ, false, List, [], ◌∷◌, ◌++◌, length, Some, Ok, Err, Result, OnOk, refl, sym, ◌∙◌, ap, subst, arith}
 use Rattle.std.specs.Result.{is_err}
 use Rattle.std.specs.Prelude.{Option, None, MatchOption}
 use Rattle.std.proofs.lemmas.Bool.{cases_eq}
@@ -14,7 +14,7 @@ use Rattle.ob_base.specs.Schemas.{Columns, width, columns_of}
 use Rattle.ob_room.specs.RoomState.{RoomState}
 use Rattle.ob_store.specs.State.{StoreState}
 use Rattle.ob_store.specs.Calls.{Rests}
-use Rattle.ob_vault.specs.State.{RevState, World}
+use Rattle.ob_vault.specs.State.{RevState}
 use Rattle.ob_vault.specs.declared.vault.Vault.{Vault}
 use Rattle.ob_vault.specs.Places.{at}
 use Rattle.ob_vault.specs.Calls.{Went, one}
@@ -29,7 +29,7 @@ use Rattle.ob_exec.specs.declared.engine.Engine.{Engine}
 use Rattle.ob_exec.specs.declared.outcome.Outcome.TheVariants.{Created}
 use Rattle.ob_exec.specs.Schemas.{IsStored}
 use Rattle.ob_exec.specs.Engines.{IsAt, IsTable}
-use Rattle.ob_exec.specs.Agreeing.{Agrees, world_of}
+use Rattle.ob_exec.specs.Agreeing.{Agrees}
 use Rattle.ob_exec.specs.Running.{Ran, seen_to, answer_of, is_stop}
 use Rattle.ob_exec.proofs.TableLemmas.{tables_added, tables_kept, region_below}
 use Rattle.ob_exec.proofs.RunLemmas.{went_room, engine_after, ran_done, ran_cut, free_after}

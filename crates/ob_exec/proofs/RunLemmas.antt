@@ -1,5 +1,5 @@
 -- How a statement of an engine ends.
-use Rattle.std.proofs.Common.{◌≡◌, ◌⊎◌, inl, inr, ◌≤◌, ◌<◌, ◌+◌, ◌-◌, ◌*◌, ℕ, Bool, true, false, List, [], ◌∷◌, ◌++◌, length, take, Some, None, Ok, Err, Result, refl, sym, ◌∙◌, ap, subst, arith, append-nil}
+use Rattle.std.proofs.Common.{◌≡◌, inl, inr, ◌+◌, ◌-◌, ℕ, Bool, false, List, [], ◌++◌, length, take, Some, None, Ok, Result, refl, sym, ◌∙◌, ap, subst, arith, append-nil}
 use Rattle.ob_base.specs.declared.access.Access.{Access}
 use Rattle.ob_base.specs.declared.config.Public.{Public}
 use Rattle.ob_base.specs.declared.refusal.Refusal.{Refusal}
@@ -11,18 +11,17 @@ use Rattle.ob_base.specs.declared.skeleton.Skeleton.{Skeleton}
 use Rattle.ob_base.specs.Accesses.{writes, makes, number_of, AllBelow}
 use Rattle.ob_base.proofs.AccessLemmas.{makes-append}
 use Rattle.ob_store.specs.State.{StoreState}
-use Rattle.ob_store.specs.Calls.{Rests, Keeps}
-use Rattle.ob_store.specs.Runs.{Began, Later}
+use Rattle.ob_store.specs.Calls.{Rests}
 use Rattle.ob_store.proofs.Steps.{began_take, later_refl}
 use Rattle.ob_vault.specs.State.{RevState, VaultState, World}
 use Rattle.ob_vault.specs.Tied.{Ready, Calm}
-use Rattle.ob_vault.specs.Calls.{Lasts, Went}
+use Rattle.ob_vault.specs.Calls.{Went}
 use Rattle.ob_flat.specs.declared.fault.OpErr.{OpErr}
 use Rattle.ob_flat.specs.declared.fault.OpErr.TheVariants as OpErrs
 use Rattle.ob_flat.specs.Passes.{PassCut, PassCause}
 use Rattle.ob_script.specs.Script.{script, whole_script}
 use Rattle.std.specs.Prelude.{Option, IfNone, is_some}
-use Rattle.ob_script.specs.Trace.{next, tables_after, tables_then}
+use Rattle.ob_script.specs.Trace.{tables_after, tables_then}
 use Rattle.ob_base.specs.declared.schema.Table.{Table}
 use Rattle.ob_room.specs.RoomState.{RoomState}
 use Rattle.ob_vault.specs.declared.vault.Vault.{Vault}

@@ -3,3 +3,4 @@ pub mod Engines
 pub mod Refusals
 pub mod Agreeing
 pub mod Running
+pub mod Serving

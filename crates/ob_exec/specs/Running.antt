@@ -1,7 +1,6 @@
 -- What a statement does, whatever it is answered.
-use Rattle.std.specs.Prelude.{◌≡◌, ◌⊎◌, ◌+◌, ◌-◌, ◌≤◌, ℕ, Bool, true, false, List, [], ◌∷◌, ◌++◌, length, Result, Ok, Err, None, Some}
-use Rattle.ob_base.specs.declared.access.Access.{Access}
-use Rattle.ob_base.specs.declared.config.Public.{Public}
+use Rattle.std.specs.Prelude.{◌≡◌, ◌⊎◌, ◌-◌, ℕ, Bool, true, false, List, [], ◌∷◌, ◌++◌, length, IsTrue, Result, Ok, Err, None}
+use Rattle.std.specs.List.{list_all}
 use Rattle.ob_base.specs.declared.refusal.Refusal.{Refusal}
 use Rattle.ob_base.specs.declared.refusal.Stop.{Stop}
 use Rattle.ob_base.specs.declared.refusal.Stop.TheVariants.{Tampered, SourceFault, SinkFault, NoMemory, InputLimit}
@@ -19,6 +18,8 @@ use Rattle.ob_script.specs.Script.{script}
 use Rattle.ob_script.specs.Trace.{next}
 use Rattle.ob_flat.specs.declared.fault.OpErr.{OpErr}
 use Rattle.ob_flat.specs.declared.fault.OpErr.TheVariants as OpErrs
+use Rattle.ob_mutate.specs.declared.inserting.Inserted.{Inserted as InsertedAs}
+use Rattle.ob_mutate.specs.declared.inserting.Inserted.TheVariants.{Done, Duplicate, Full}
 use Rattle.ob_exec.specs.declared.engine.Engine.{Engine}
 use Rattle.ob_exec.specs.declared.outcome.Outcome.{Outcome}
 use Rattle.ob_exec.specs.declared.outcome.Outcome.TheVariants.{Created, Inserted, Changed, Deleted, Dropped, Rows, Refused}
@@ -34,6 +35,12 @@ answer_of OpErrs.Failed = Ok (Refused Refusal.StoreFault)
 answer_of (OpErrs.Tampered region place) = Err (Tampered region place)
 answer_of OpErrs.Sink = Err SinkFault
 answer_of OpErrs.NoMemory = Err NoMemory
+
+-- the answer to an INSERT
+abbrev pub inserted_as : InsertedAs → Outcome
+inserted_as Done = Inserted
+inserted_as Duplicate = Refused Refusal.Duplicate
+inserted_as Full = Refused Refusal.Full
 
 abbrev pub is_stop : {T E : Type 0} → Result T E → Bool
 is_stop (Ok x) = false
@@ -99,12 +106,41 @@ pub record Ran {R : Type 0} (state : R → RevState) (skeleton : Skeleton) (resu
   pub goes_on : Continues state skeleton result old new t
 
 -- an answer of rows is its header, its rows and their number; any other emits nothing
+abbrev pub is_row : Event → Bool
+is_row (Head labels) = false
+is_row (Row cells) = true
+is_row (Close k) = false
+
 pub record IsAnswer (k : ℕ) (events : List Event) : Type 0 where
   pub labels : List (List ℕ)
   pub rows : List Event
+  pub are_rows : IsTrue (list_all is_row rows)
   pub count : length rows ≡ k
-  pub is : events ≡ (Head labels ∷ rows) ++ Close k ∷ []
+  pub is : events ≡ Head labels ∷ (rows ++ Close k ∷ [])
 
 abbrev pub Emits : Outcome → List Event → Type 0
 Emits (Rows k) events = IsAnswer k events
-Emits _ events = events ≡ []
+Emits Created events = events ≡ []
+Emits Inserted events = events ≡ []
+Emits (Changed k) events = events ≡ []
+Emits (Deleted k) events = events ≡ []
+Emits Dropped events = events ≡ []
+Emits (Refused r) events = events ≡ []
+
+-- a stop by the sink comes only where a call of the emitter failed, and always where one did
+abbrev pub SinkCause : Result Outcome Stop → ℕ → ℕ → Type 0
+SinkCause (Ok outcome) old new = new ≡ old
+SinkCause (Err SinkFault) old new = Rises old new
+SinkCause (Err (Tampered region place)) old new = new ≡ old
+SinkCause (Err NoMemory) old new = new ≡ old
+SinkCause (Err SourceFault) old new = ⊥
+SinkCause (Err InputLimit) old new = ⊥
+
+-- nothing was emitted, and no emitter failed
+abbrev pub IsSilent : Result Outcome Stop → Type 0
+IsSilent (Ok outcome) = Emits outcome []
+IsSilent (Err SinkFault) = ⊥
+IsSilent (Err (Tampered region place)) = Unit {0}
+IsSilent (Err NoMemory) = Unit {0}
+IsSilent (Err SourceFault) = ⊥
+IsSilent (Err InputLimit) = ⊥

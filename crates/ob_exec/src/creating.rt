@@ -2,7 +2,7 @@
 ghost use Rattle.std.specs.Prelude.{◌≡◌, List, false};
 ghost use Rattle.ob_base.specs.declared.skeleton.Skeleton.TheVariants.{Create};
 ghost use Rattle.ob_exec.specs.Agreeing.{Agrees, has_ended};
-ghost use Rattle.ob_exec.specs.Running.{Ran};
+ghost use Rattle.ob_exec.specs.Running.{Ran, IsSilent};
 
 use crate::early::new_schema;
 use crate::engine::{Engine, LATE};
@@ -41,7 +41,8 @@ impl<R: Revisions> Engine<R> {
     ) -> Result<Outcome, Stop>
         requires agrees { Agrees R.state self.old (S.state store.old) }
         requires lives { has_ended self.old ≡ false }
-        ensures { Ran R.state (Create table.now columns.now capacity) result self.old (S.state store.old) self.new (S.state store.new) }
+        ensures ran { Ran R.state (Create table.now columns.now capacity) result self.old (S.state store.old) self.new (S.state store.new) }
+        ensures silent { IsSilent result }
     {
         if find_table(self.public.tables.as_slice(), table).is_some() {
             return Ok(self.refuse(Refusal::NameTaken));

@@ -29,10 +29,9 @@ pub(crate) enum Early {
 
 // Whether two of the columns have one name.
 fn has_repeats(columns: &[NewColumn]) -> bool {
-    columns
+    columns.iter().enumerate().any(|(i, column)| columns[..i]
         .iter()
-        .enumerate()
-        .any(|(i, column)| columns[..i].iter().any(|other| other.name == column.name))
+        .any(|other| other.name == column.name))
 }
 
 // Whether a text column's size is within its limits: 1 to 255 bytes.
@@ -140,11 +139,7 @@ fn cell_of(kind: Kind, value: &Literal) -> Option<Cell>
 }
 
 // Adds a cell for each column.
-fn add_cells(
-    columns: &[Column],
-    values: &[Literal],
-    cells: &mut Vec<Cell>,
-) -> Result<(), Early>
+fn add_cells(columns: &[Column], values: &[Literal], cells: &mut Vec<Cell>) -> Result<(), Early>
     ensures cells { IfOk result (λ _. (more : Row) × Fits columns.now more × (cells.new.items ≡ cells.old.items ++ more)) }
     ensures early { IfErr result IsEarlyStop }
 {

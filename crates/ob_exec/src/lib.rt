@@ -1,10 +1,13 @@
 //! The engine: statements over sealed tables in a block store that others watch and change.
 #![tactic(auto)]
 
+mod counting;
 mod creating;
 mod early;
 mod engine;
+mod inserting;
 mod outcome;
+mod run;
 mod tables;
 
 pub use engine::Engine;

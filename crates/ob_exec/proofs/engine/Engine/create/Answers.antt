@@ -1,28 +1,26 @@
-use Rattle.std.proofs.Common.{◌≡◌, ℕ, List, [], ◌∷◌, ◌++◌, Ok, Result, ◌-◌, sym, ◌∙◌, subst, ap, length}
+use Rattle.std.proofs.Common.{◌≡◌, List, [], ◌∷◌, ◌++◌, Ok, ◌-◌, sym, ◌∙◌, subst, ap, length}
 use Rattle.ob_base.specs.declared.refusal.Refusal.TheVariants.{NameTaken}
-use Rattle.ob_base.specs.declared.refusal.Stop.{Stop}
 use Rattle.ob_base.specs.declared.schema.Table.{Table}
 use Rattle.ob_base.specs.declared.seen.End.TheVariants.{Whole, Cut}
 use Rattle.ob_base.specs.declared.skeleton.Skeleton.TheVariants.{Create}
 use Rattle.ob_flat.specs.declared.flat.Flat.{Flat}
 use Rattle.ob_flat.specs.Flats.{IsFlat}
 use Rattle.ob_vault.specs.Places.{at}
-use Rattle.ob_exec.specs.declared.engine.Engine.{Engine}
 use Rattle.ob_exec.specs.declared.outcome.Outcome.{Outcome}
-use Rattle.ob_exec.specs.Running.{Ran, answer_of, is_stop}
+use Rattle.ob_exec.specs.Running.{answer_of, is_stop}
 use Rattle.ob_exec.specs.Engines.{IsAt}
 use Rattle.ob_exec.proofs.RunLemmas.{ran_refused, ran_as, if_none, engine_after}
 use Rattle.ob_exec.proofs.CreateLemmas.{at_ok, created, not_created, popped}
 use Rattle.ob_exec.proofs.engine.Engine.create.Goals as goal
 
-pub returns-then-is_some : goal.returns-then-is_some
-returns-then-is_some g c = ran_refused _ _ _ _ c.requires.agrees c.requires.lives NameTaken _ _ tt c.refuse.ensures.answer c.refuse.ensures.seen
+pub returns-then-is_some-clause-ran : goal.returns-then-is_some-clause-ran
+returns-then-is_some-clause-ran g c = ran_refused _ _ _ _ c.requires.agrees c.requires.lives NameTaken _ _ tt c.refuse.ensures.answer c.refuse.ensures.seen
 
-pub returns-in-Err : goal.returns-in-Err
-returns-in-Err g c = ran_refused _ _ _ _ c.requires.agrees c.requires.lives c.in-Err.refusal _ _ c.in-Err.ensures.early c.refuse-in-Err.ensures.answer c.refuse-in-Err.ensures.seen
+pub returns-in-Err-clause-ran : goal.returns-in-Err-clause-ran
+returns-in-Err-clause-ran g c = ran_refused _ _ _ _ c.requires.agrees c.requires.lives c.in-Err.refusal _ _ c.in-Err.ensures.early c.refuse-in-Err.ensures.answer c.refuse-in-Err.ensures.seen
 
-pub returns-in-Ok-create : goal.returns-in-Ok-create
-returns-in-Ok-create g c =
+pub returns-in-Ok-create-clause-ran : goal.returns-in-Ok-create-clause-ran
+returns-in-Ok-create-clause-ran g c =
     let old = c.args.self.now in
     let state = g.R.Revisions.state in
     let skeleton = Create c.args.table.now c.args.columns.now c.args.capacity in
@@ -39,8 +37,8 @@ returns-in-Ok-create g c =
     let engine = c.finish.ensures.seen ∙ ap (λ (ts : List Table). engine_after old v room ts Whole old.ended) tables in
     ran_as state skeleton old _ t _ _ _ _ (ap (λ (o : Outcome). Ok o) c.finish.ensures.answer) engine ran
 
-pub returns-in-Err-create : goal.returns-in-Err-create
-returns-in-Err-create g c =
+pub returns-in-Err-create-clause-ran : goal.returns-in-Err-create-clause-ran
+returns-in-Err-create-clause-ran g c =
     let old = c.args.self.now in
     let state = g.R.Revisions.state in
     let skeleton = Create c.args.table.now c.args.columns.now c.args.capacity in
