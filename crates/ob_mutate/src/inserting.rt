@@ -68,12 +68,10 @@ impl Finds {
     fn answer(self) -> Inserted
         ensures { result ≡ (if self.duplicate then Inserted.Duplicate else (if is_some self.free then Inserted.Done else Inserted.Full)) }
     {
-        if self.duplicate {
-            Inserted::Duplicate
-        } else if self.free.is_some() {
-            Inserted::Done
-        } else {
-            Inserted::Full
+        match (self.duplicate, self.free) {
+            (true, _) => Inserted::Duplicate,
+            (false, Some(_)) => Inserted::Done,
+            (false, None) => Inserted::Full,
         }
     }
 

@@ -6,3 +6,6 @@ mod searching;
 mod settling;
 
 pub use inserting::{Inserted, insert};
+
+#[cfg(test)]
+mod tests;
