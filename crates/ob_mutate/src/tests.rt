@@ -11,7 +11,7 @@ ghost use Rattle.ob_flat.specs.Flats.{IsSized, IsFlat};
 
 use super::*;
 use ob_base::{Access, Column, Kind, Name, Schema};
-use ob_flat::{Counted, Flat, count, create};
+use ob_flat::{Counted, Flat, count, create, discard};
 use ob_room::Room;
 use ob_row::{Cell, Operand, Order, Pred};
 use ob_seal::Keys;
@@ -55,7 +55,7 @@ fn entry(access: Access) -> (u8, u64, u32, u32) {
 }
 
 // The accesses from the one of this index on, and no others.
-fn check(rt: &impl Abort, store: &MemStore, from: u64, wanted: &[(u8, u64, u32, u32)]) {
+fn check<S: BlockStore>(rt: &impl Abort, store: &S, from: u64, wanted: &[(u8, u64, u32, u32)]) {
     let mut at = from;
     for want in wanted {
         assert!(rt; at < store.count());
@@ -65,26 +65,25 @@ fn check(rt: &impl Abort, store: &MemStore, from: u64, wanted: &[(u8, u64, u32, 
     assert_eq!(rt; at, store.count());
 }
 
-// What a table is in, from one statement to the next.
-fn insert_row(
+fn insert_row<S: BlockStore, R: Revisions>(
     rt: &impl Abort,
-    store: &mut MemStore,
-    vault: &mut Vault<BaseRevs>,
+    store: &mut S,
+    vault: &mut Vault<R>,
     room: &mut Room,
     flat: &mut Flat,
     id: i64,
     v: i64,
 ) -> Inserted
-    requires ready { Ready (at ⟦<BaseRevs as Revisions>⟧.state vault.old (⟦<MemStore as BlockStore>⟧.state store.old)) }
-    requires flat { IsFlat room.old.pack flat.old (at ⟦<BaseRevs as Revisions>⟧.state vault.old (⟦<MemStore as BlockStore>⟧.state store.old)) }
+    requires ready { Ready (at R.state vault.old (S.state store.old)) }
+    requires flat { IsFlat room.old.pack flat.old (at R.state vault.old (S.state store.old)) }
     requires size { IsSized flat.old.schema flat.old.capacity }
     requires room { IsIdle (width flat.old.schema) room.old }
     requires ints { (x y : ℤ) → FitsSigned w64 x → FitsSigned w64 y → FitColumns flat.old.schema (IntCell x ∷ IntCell y ∷ []) }
-    ensures ready { Ready (at ⟦<BaseRevs as Revisions>⟧.state vault.new (⟦<MemStore as BlockStore>⟧.state store.new)) }
-    ensures flat { IsFlat room.old.pack flat.new (at ⟦<BaseRevs as Revisions>⟧.state vault.new (⟦<MemStore as BlockStore>⟧.state store.new)) }
+    ensures ready { Ready (at R.state vault.new (S.state store.new)) }
+    ensures flat { IsFlat room.old.pack flat.new (at R.state vault.new (S.state store.new)) }
     ensures schema { flat.new.schema ≡ flat.old.schema }
     ensures capacity { flat.new.capacity ≡ flat.old.capacity }
-    ensures room { room.new ≡ record room.old { high = max room.old.high room.old.pack } }
+    ensures room { room.new ≡ record room.old { high = room.new.high } }
 {
     store.room(100_000_000).expect(rt, "room");
     assert!(rt; store.count() < 1_000_000);
@@ -92,36 +91,75 @@ fn insert_row(
     insert(store, vault, room, flat, &cells).expect(rt, "insert")
 }
 
-// A table of four slots in blocks of so many rows: what each INSERT answers, how many rows there are
-// then, and the accesses from the one of an index on.
-fn session(
+fn insert_rows<S: BlockStore, R: Revisions>(
+    rt: &impl Abort,
+    store: &mut S,
+    vault: &mut Vault<R>,
+    room: &mut Room,
+    flat: &mut Flat,
+    inserts: &[(i64, i64, Inserted)],
+)
+    requires ready { Ready (at R.state vault.old (S.state store.old)) }
+    requires flat { IsFlat room.old.pack flat.old (at R.state vault.old (S.state store.old)) }
+    requires size { IsSized flat.old.schema flat.old.capacity }
+    requires room { IsIdle (width flat.old.schema) room.old }
+    requires ints { (x y : ℤ) → FitsSigned w64 x → FitsSigned w64 y → FitColumns flat.old.schema (IntCell x ∷ IntCell y ∷ []) }
+    ensures ready { Ready (at R.state vault.new (S.state store.new)) }
+    ensures flat { IsFlat room.old.pack flat.new (at R.state vault.new (S.state store.new)) }
+    ensures schema { flat.new.schema ≡ flat.old.schema }
+    ensures capacity { flat.new.capacity ≡ flat.old.capacity }
+    ensures room { room.new ≡ record room.old { high = room.new.high } }
+{
+    for (id, v, answer) in inserts {
+        let found = insert_row(rt, store, vault, room, flat, *id, *v);
+        assert_eq!(rt; found, *answer, "at {id}");
+    }
+}
+
+// A table of four slots in blocks of so many rows: what each INSERT answers, what is counted of the
+// rows with 10 then, and the accesses from the one of an index on.
+fn session<S: BlockStore, R: Revisions>(
+    rt: &impl Abort,
+    store: &mut S,
+    mut vault: Vault<R>,
+    mut room: Room,
+    inserts: &[(i64, i64, Inserted)],
+    counted: Counted,
+    from: u64,
+    wanted: &[(u8, u64, u32, u32)],
+)
+    requires ready { Ready (at R.state vault (S.state store.old)) }
+    requires room { IsIdle 17 room }
+{
+    let schema = two_ints();
+    store.room(100_000_000).expect(rt, "room");
+    assert!(rt; store.count() < 1);
+    let mut flat = create(store, &mut vault, &mut room, &schema, 4).expect(rt, "create");
+    insert_rows(rt, store, &mut vault, &mut room, &mut flat, inserts);
+    store.room(100_000_000).expect(rt, "room");
+    let pred = Pred::compare(1, Order::Equal, Operand::Cell(Cell::Int(10)));
+    let found = count(store, &mut vault, &mut room, &flat, &pred).expect(rt, "count");
+    assert_eq!(rt; found, counted);
+    check(rt, store, from, wanted);
+    store.room(1).expect(rt, "room");
+    discard(store, &mut vault, &mut room, flat).expect(rt, "discard");
+}
+
+fn session_in_memory(
     rt: &impl Abort,
     alloc: Global,
     pack: u32,
     inserts: &[(i64, i64, Inserted)],
-    counted: Option<Counted>,
+    counted: Counted,
     from: u64,
     wanted: &[(u8, u64, u32, u32)],
 )
     requires { (1 ≤ pack) × (pack ≤ 16) }
 {
     let mut store = MemStore::new(alloc);
-    let mut vault: Vault<BaseRevs> = Vault::new(alloc, Keys::derive(&[0; 32]));
-    let mut room = Room::new(alloc, 64, 1024, pack).expect(rt, "rows");
-    let schema = two_ints();
-    store.room(100_000_000).expect(rt, "room");
-    let mut flat = create(&mut store, &mut vault, &mut room, &schema, 4).expect(rt, "create");
-    for (id, v, answer) in inserts {
-        let found = insert_row(rt, &mut store, &mut vault, &mut room, &mut flat, *id, *v);
-        assert_eq!(rt; found, *answer, "at {id}");
-    }
-    if let Some(counted) = counted {
-        store.room(100_000_000).expect(rt, "room");
-        let pred = Pred::compare(1, Order::Equal, Operand::Cell(Cell::Int(10)));
-        let found = count(&mut store, &mut vault, &mut room, &flat, &pred).expect(rt, "count");
-        assert_eq!(rt; found, counted);
-    }
-    check(rt, &store, from, wanted);
+    let vault: Vault<BaseRevs> = Vault::new(alloc, Keys::derive(&[0; 32]));
+    let room = Room::new(alloc, 64, 1024, pack).expect(rt, "rows");
+    session(rt, &mut store, vault, room, inserts, counted, from, wanted);
 }
 
 const B: [(i64, i64, Inserted); 4] = [
@@ -134,12 +172,12 @@ const B: [(i64, i64, Inserted); 4] = [
 // A table is made, a row inserted and counted; each entry as (letter, region, place or blocks, length).
 #[test]
 fn inserts_a_row(rt: HostRuntime) {
-    session(
+    session_in_memory(
         &rt,
         rt.alloc(),
         1,
         &[(1, 10, Inserted::Done)],
-        Some(Counted { k: 1, consecutive: true }),
+        Counted { k: 1, consecutive: true },
         0,
         &[
             (b'M', 1, 4, 49),
@@ -172,12 +210,12 @@ fn inserts_a_row(rt: HostRuntime) {
 // A row whose key is there is refused, with the same accesses.
 #[test]
 fn refuses_a_key(rt: HostRuntime) {
-    session(
+    session_in_memory(
         &rt,
         rt.alloc(),
         1,
         &[(1, 10, Inserted::Done), (1, 99, Inserted::Duplicate)],
-        None,
+        Counted { k: 1, consecutive: true },
         19,
         &[
             (b'M', 3, 4, 49),
@@ -194,6 +232,10 @@ fn refuses_a_key(rt: HostRuntime) {
             (b'R', 2, 3, 0),
             (b'W', 3, 3, 0),
             (b'D', 2, 0, 0),
+            (b'R', 3, 0, 0),
+            (b'R', 3, 1, 0),
+            (b'R', 3, 2, 0),
+            (b'R', 3, 3, 0),
         ],
     );
 }
@@ -201,7 +243,7 @@ fn refuses_a_key(rt: HostRuntime) {
 // A full table refuses a row, and says first that its key is there.
 #[test]
 fn refuses_where_full(rt: HostRuntime) {
-    session(
+    session_in_memory(
         &rt,
         rt.alloc(),
         1,
@@ -213,7 +255,7 @@ fn refuses_where_full(rt: HostRuntime) {
             (5, 50, Inserted::Full),
             (1, 50, Inserted::Duplicate),
         ],
-        Some(Counted { k: 2, consecutive: false }),
+        Counted { k: 2, consecutive: false },
         61,
         &[
             (b'M', 6, 4, 49),
@@ -255,12 +297,12 @@ fn refuses_where_full(rt: HostRuntime) {
 // Two rows in a block.
 #[test]
 fn packs_two(rt: HostRuntime) {
-    session(
+    session_in_memory(
         &rt,
         rt.alloc(),
         2,
         &[(1, 10, Inserted::Done)],
-        Some(Counted { k: 1, consecutive: true }),
+        Counted { k: 1, consecutive: true },
         0,
         &[
             (b'M', 1, 2, 66),
@@ -283,7 +325,7 @@ fn packs_two(rt: HostRuntime) {
 // Three rows in a block, the second of which has two slots past the capacity.
 #[test]
 fn packs_three(rt: HostRuntime) {
-    session(
+    session_in_memory(
         &rt,
         rt.alloc(),
         3,
@@ -295,7 +337,7 @@ fn packs_three(rt: HostRuntime) {
             (5, 50, Inserted::Full),
             (4, 50, Inserted::Duplicate),
         ],
-        Some(Counted { k: 2, consecutive: false }),
+        Counted { k: 2, consecutive: false },
         43,
         &[
             (b'M', 7, 2, 83),
