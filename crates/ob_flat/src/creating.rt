@@ -120,7 +120,13 @@ fn create_blocks<S: BlockStore, R: Revisions>(
 {
     let pack = rows.len() as u32;
     let region = make_table(store, vault, schema, capacity, pack)?;
-    match fill_blocks(store, vault, rows, region, region_of_table(schema, capacity, pack)) {
+    match fill_blocks(
+        store,
+        vault,
+        rows,
+        region,
+        region_of_table(schema, capacity, pack),
+    ) {
         Ok(()) => Ok(region),
         Err(e) => {
             vault.forget(region);
