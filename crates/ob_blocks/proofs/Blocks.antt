@@ -1,10 +1,9 @@
 -- Blocks of r slots.
 use Rattle.std.proofs.Common.{◌≡◌, ◌≤◌, ◌<◌, ◌+◌, ◌*◌, ◌-◌, ℕ, zero, suc, Bool, List, [], ◌∷◌, ◌++◌, Option, Some, None, length, replicate, map, take, drop, count_by, slice_index_or, if◌then◌else◌, refl, sym, ◌∙◌, ap, arith, length-append}
-use Rattle.std.proofs.lemmas.List.{length-replicate, length-take, length-drop, take_at, take_all, take_more, drop-replicate}
+use Rattle.std.proofs.lemmas.List.{length-replicate, length-take, length-drop, take_all, take_more, drop-replicate}
 use Rattle.std.proofs.lemmas.List.Sums.{sum_by-append, sum_by-cons}
 use Rattle.std.proofs.lemmas.List.Elements as elements
 use Rattle.std.proofs.Math.Seq.{take-add}
-use Rattle.std.proofs.lemmas.Grind.{common_steps}
 use Rattle.std.specs.List.{All}
 use Rattle.ob_blocks.specs.Blocks.{none_of, up_to, block_at, scanned}
 
@@ -107,6 +106,6 @@ block_none {A = A} r n blocks p fits below =
     let none : Option A = None in
     let size : length (replicate n none) ≡ n = length-replicate n none in
     let whole : up_to (blocks * r) (replicate n none) ≡ replicate (blocks * r) none =
-        ap (λ (k : ℕ). replicate n none ++ replicate (blocks * r - k) none) size ∙ replicate_join n (blocks * r - n) none ∙ ap (λ (k : ℕ). replicate k none) (omega arith) in
+    ap (λ (k : ℕ). replicate n none ++ replicate (blocks * r - k) none) size ∙ replicate_join n (blocks * r - n) none ∙ ap (λ (k : ℕ). replicate k none) (omega arith) in
     let room : p * r + r ≤ blocks * r = grind arith in
     ap (λ (l : List (Option A)). block_at r l p) whole ∙ ap (take r) (drop-replicate (p * r) (blocks * r) none) ∙ take_replicate r (blocks * r - p * r) none (omega arith)

@@ -1,5 +1,5 @@
 -- The rows of a pass on the shelf of a room.
-use Rattle.std.proofs.Common.{◌≡◌, ◌≤◌, ◌+◌, ◌-◌, ◌*◌, ℕ, zero, suc, List, [], ◌∷◌, ◌++◌, length, replicate, map, take, drop, max, refl, sym, ◌∙◌, ap, arith, length-append}
+use Rattle.std.proofs.Common.{◌≡◌, ◌≤◌, ◌+◌, ◌-◌, ℕ, zero, suc, List, ◌++◌, length, replicate, map, take, drop, max, refl, sym, ◌∙◌, ap, arith}
 use Rattle.std.proofs.lemmas.List.{take_at, length-replicate, length-take}
 use Rattle.ob_room.specs.RoomState.{RoomState, clear, out}
 use Rattle.ob_room.specs.Shelf.{AreWide, IsSound, cleared}
@@ -29,10 +29,10 @@ module _ (width n : ℕ) (s : RoomState) (w : List (List ℕ)) (idle : IsIdle wi
       let front : take (length s.free - n) s.free ≡ replicate (length s.free - n) (clear s.width) = ap (take (length s.free - n)) sound.zeros ∙ take_replicate (length s.free - n) (length s.free) (clear s.width) (omega arith) in
       let back : replicate (length (opened_with s n w).shelf) (clear s.width) ≡ replicate n (clear s.width) = ap (λ (k : ℕ). replicate k (clear s.width)) (ap length open_shelf ∙ size) in
       let free : take (length s.free - n) s.free ++ replicate (length (opened_with s n w).shelf) (clear s.width) ≡ s.free =
-          ap (λ (l : List (List ℕ)). l ++ replicate (length (opened_with s n w).shelf) (clear s.width)) front
-          ∙ ap (λ (l : List (List ℕ)). replicate (length s.free - n) (clear s.width) ++ l) back
-          ∙ replicate_join (length s.free - n) n (clear s.width)
-          ∙ ap (λ (k : ℕ). replicate k (clear s.width)) (omega (arith, idle.free)) ∙ sym sound.zeros in
+      ap (λ (l : List (List ℕ)). l ++ replicate (length (opened_with s n w).shelf) (clear s.width)) front
+      ∙ ap (λ (l : List (List ℕ)). replicate (length s.free - n) (clear s.width) ++ l) back
+      ∙ replicate_join (length s.free - n) n (clear s.width)
+      ∙ ap (λ (k : ℕ). replicate k (clear s.width)) (omega (arith, idle.free)) ∙ sym sound.zeros in
       let none : out s ≡ 0 = omega (arith, idle.free) in
       let high : max s.high (out s + n) ≡ max s.high n = ap (λ (k : ℕ). max s.high k) (omega (arith, none)) in
       cc (free, high, idle.shelf)

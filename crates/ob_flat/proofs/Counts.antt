@@ -1,8 +1,8 @@
 -- What a counting pass has met.
-use Rattle.std.proofs.Common.{◌≡◌, ◌<◌, ◌≤◌, ◌+◌, ◌==◌, ◌&&◌, ◌||◌, nat_lt, ◌-◌, ℕ, suc, zero, Bool, true, false, List, [], ◌∷◌, ◌++◌, Option, Some, None, length, if◌then◌else◌, refl, sym, ◌∙◌, ap, subst, arith, length-append, append_assoc}
+use Rattle.std.proofs.Common.{◌≡◌, ◌<◌, ◌≤◌, ◌+◌, ◌==◌, ◌&&◌, ◌||◌, nat_lt, ◌-◌, ℕ, suc, Bool, true, false, List, [], ◌∷◌, ◌++◌, Option, None, length, if◌then◌else◌, refl, sym, ◌∙◌, ap, subst, arith, length-append, append_assoc}
 use Rattle.std.proofs.lemmas.List.{append-nil}
 use Rattle.std.proofs.lemmas.Bool.Decides.{nat_tests}
-use Rattle.ob_base.specs.Lists.{places_from, places_of}
+use Rattle.ob_base.specs.Lists.{places_from}
 use Rattle.ob_row.specs.Rows.{Row}
 use Rattle.ob_row.specs.Condition.{Condition}
 use Rattle.ob_row.specs.Truth.{is_selected}
@@ -64,11 +64,11 @@ tally_all p n i places t (slot ∷ slots) fits is =
     let b = is_selected p slot in
     let next : suc i ≡ i + 1 = omega arith in
     let here : IsTally (places ++ (if b then i ∷ [] else [])) (step p n t i slot) =
-        subst (λ (d : Bool). IsTally (places ++ (if b then i ∷ [] else [])) (tallied d i t)) (sym (below_is b i n (omega (arith, fits)))) (tally_more places t b i is) in
+    subst (λ (d : Bool). IsTally (places ++ (if b then i ∷ [] else [])) (tallied d i t)) (sym (below_is b i n (omega (arith, fits)))) (tally_more places t b i is) in
     let rest = tally_all p n (i + 1) (places ++ (if b then i ∷ [] else [])) (step p n t i slot) slots (omega (arith, fits)) here in
     subst (λ (l : List ℕ). IsTally l (scanned (step p n) (i + 1) (step p n t i slot) slots))
     (append_assoc places (if b then i ∷ [] else []) (places_from (i + 1) (is_selected p) slots)
-      ∙ ap (λ (l : List ℕ). places ++ l) (ap (λ (k : ℕ). (if b then i ∷ [] else []) ++ places_from k (is_selected p) slots) (sym next) ∙ sym (place_first b i (places_from (suc i) (is_selected p) slots))))
+    ∙ ap (λ (l : List ℕ). places ++ l) (ap (λ (k : ℕ). (if b then i ∷ [] else []) ++ places_from k (is_selected p) slots) (sym next) ∙ sym (place_first b i (places_from (suc i) (is_selected p) slots))))
     rest
 
 -- all slots of a table, and the empty ones behind them

@@ -3,3 +3,4 @@ pub mod Runs
 pub mod Tables
 pub mod Counts
 pub mod Rooms
+pub mod Resting

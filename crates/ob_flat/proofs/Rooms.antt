@@ -1,13 +1,12 @@
 -- The rows that a pass takes from the room, and gives back.
-use Rattle.std.proofs.Common.{◌≡◌, ◌≤◌, ◌+◌, ◌*◌, ℕ, List, length, replicate, max, refl, sym, ◌∙◌, ap, subst, arith}
+use Rattle.std.proofs.Common.{◌≡◌, ◌≤◌, ℕ, List, length, replicate, max, refl, ◌∙◌, ap, subst, arith}
 use Rattle.std.proofs.lemmas.List.{length-replicate}
-use Rattle.ob_room.specs.RoomState.{RoomState, clear, out}
+use Rattle.ob_room.specs.RoomState.{RoomState, clear}
 use Rattle.ob_room.specs.Shelf.{AreWide, IsSound, cleared}
 use Rattle.ob_room.specs.LendingOpen.{opened_with}
 use Rattle.ob_blocks.specs.Idle.{IsIdle}
-use Rattle.ob_blocks.proofs.Rooms.{open_wide, open_held, closed}
-use Rattle.ob_vault.specs.Rows.{SameSizes, Wide, row_at}
-use Rattle.ob_vault.specs.Places.{RowsFit}
+use Rattle.ob_blocks.proofs.Rooms.{open_wide, closed}
+use Rattle.ob_vault.specs.Rows.{SameSizes}
 use Rattle.ob_flat.proofs.Rows.{same_wide}
 
 module _ (width n : ℕ) (s : RoomState) (rows ends : List (List ℕ)) (idle : IsIdle width s) (sound : IsSound s) (pack : n ≡ s.pack) (value : rows ≡ replicate n (clear s.width)) (same : SameSizes rows ends) where

@@ -1,5 +1,5 @@
 -- The rows of a block and the slots that they spell.
-use Rattle.std.proofs.Common.{◌≡◌, ◌≤◌, ◌<◌, ◌+◌, ◌*◌, ◌/◌, ℕ, zero, suc, List, [], ◌∷◌, ◌++◌, Option, Some, None, length, map, take, drop, slice_index_or, slice_set, replicate, get_or-set_same, get_or-set_other, below_more, ◌≢◌, refl, sym, ◌∙◌, ap, subst, arith, length-append}
+use Rattle.std.proofs.Common.{◌≡◌, ◌≤◌, ◌<◌, ◌+◌, ◌*◌, ◌/◌, ℕ, zero, suc, List, [], ◌∷◌, ◌++◌, Option, Some, None, length, take, drop, slice_index_or, slice_set, replicate, get_or-set_same, get_or-set_other, below_more, ◌≢◌, refl, sym, ◌∙◌, ap, subst, arith, length-append}
 use Rattle.std.proofs.lemmas.List.{take_at, drop_at, length-take-le, length-replicate, get_or-replicate}
 use Rattle.std.specs.List.{All}
 use Rattle.ob_base.specs.Schemas.{Columns, width}
@@ -8,7 +8,7 @@ use Rattle.ob_vault.specs.Places.{RowsFit}
 use Rattle.ob_room.specs.RoomState.{clear}
 use Rattle.ob_room.specs.Shelf.{AreWide}
 use Rattle.ob_row.specs.Rows.{Row}
-use Rattle.ob_row.specs.Spelling.{Begins, slot_bytes, row_bytes}
+use Rattle.ob_row.specs.Spelling.{Begins, slot_bytes}
 use Rattle.ob_row.proofs.SpellingLemmas.{length-row_bytes}
 use Rattle.std.proofs.lemmas.Grind.{common_steps}
 use Rattle.ob_blocks.specs.Blocks.{map_at}

@@ -1,5 +1,5 @@
 -- How parts of a pass join where one of them gave up.
-use Rattle.std.proofs.Common.{◌≡◌, inl, inr, ℕ, ◌+◌, ◌<◌, List, [], ◌∷◌, ◌++◌, refl, sym, ◌∙◌, ap, subst, arith}
+use Rattle.std.proofs.Common.{◌≡◌, inl, inr, ℕ, ◌<◌, List, [], ◌++◌, sym, ◌∙◌, ap, subst}
 use Rattle.ob_base.specs.declared.access.Access.{Access}
 use Rattle.ob_base.specs.Counts.{Rises}
 use Rattle.ob_base.specs.Lists.{each}
@@ -11,7 +11,7 @@ use Rattle.ob_vault.specs.declared.fault.VaultErr.TheVariants as VaultErrs
 use Rattle.ob_vault.specs.State.{World}
 use Rattle.ob_vault.specs.Tied.{EndsAt}
 use Rattle.ob_vault.specs.Calls.{Went, Cut, Cause}
-use Rattle.ob_vault.proofs.Runs.{lasts_trans, lasts_wider, went_none}
+use Rattle.ob_vault.proofs.Runs.{lasts_trans, lasts_wider}
 use Rattle.ob_flat.specs.declared.fault.OpErr.{OpErr}
 use Rattle.ob_flat.specs.declared.fault.OpErr.TheVariants.{Failed, Tampered, Sink, NoMemory}
 use Rattle.ob_flat.specs.Passes.{pass_error, PassCause, PassCut}

@@ -1,8 +1,7 @@
 -- Tables in the vault and its store.
-use Rattle.std.proofs.Common.{◌≡◌, ◌≤◌, ◌<◌, ◌+◌, ◌*◌, ◌/◌, ℕ, Bool, IsTrue, suc, List, [], ◌∷◌, ◌++◌, Option, None, length, refl, sym, ◌∙◌, ap, subst, arith}
+use Rattle.std.proofs.Common.{◌≡◌, ◌≤◌, ◌<◌, ◌+◌, ◌*◌, ◌/◌, ℕ, Bool, IsTrue, List, Option, None, length, refl, sym, ◌∙◌, ap, subst, arith}
 use Rattle.std.proofs.lemmas.Grind.{div_ceil_times}
 use Rattle.std.specs.List.{All}
-use Rattle.ob_base.specs.declared.access.Access.{Access}
 use Rattle.ob_base.specs.Lists.{each}
 use Rattle.ob_base.specs.Numbers.{blocks_for}
 use Rattle.ob_base.specs.Accesses.{read_at}
@@ -12,7 +11,7 @@ use Rattle.ob_vault.specs.Tied.{Holds}
 use Rattle.ob_base.specs.Schemas.{Columns, width}
 use Rattle.ob_store.proofs.Steps.{length-each}
 use Rattle.ob_vault.specs.State.{World}
-use Rattle.ob_vault.specs.Calls.{Went, Lasts}
+use Rattle.ob_vault.specs.Calls.{Lasts}
 use Rattle.ob_vault.specs.Rows.{joined, Wide}
 use Rattle.ob_vault.proofs.RowsLemmas.{rows_room}
 use Rattle.ob_vault.proofs.Runs.{lives_lasts, written_lasts, holds_lasts, turn_lasts}
@@ -23,7 +22,7 @@ use Rattle.ob_blocks.proofs.Changes.{length-map_at, all-map_at, map_at-up_to}
 use Rattle.ob_blocks.proofs.Blocks.{length-up_to, length-block, all_up_to, all_block, block_none}
 use Rattle.ob_flat.specs.declared.flat.Flat.{Flat}
 use Rattle.ob_flat.specs.Slots.{Slots, FitsSlot, Spelt, AreSlots, block_bytes, empty_slots}
-use Rattle.ob_flat.specs.Flats.{IsMade, IsFlat, Represents, Accepts, table_region, whole_blocks}
+use Rattle.ob_flat.specs.Flats.{IsMade, IsFlat, Represents, Accepts, whole_blocks}
 use Rattle.ob_flat.proofs.Rows.{spelt_joined, joined_spelt, spelt_fits, width_each, block_size}
 
 -- how many accesses the reads of a table are

@@ -1,5 +1,5 @@
 -- The places of selected rows, as a counting pass meets them.
-use Rattle.std.specs.Prelude.{◌≡◌, ℕ, ◌+◌, Bool, ◌&&◌, ◌||◌, ◌==◌, nat_lt, List, [], ◌∷◌, length, if◌then◌else◌}
+use Rattle.std.specs.Prelude.{◌≡◌, ℕ, ◌+◌, Bool, ◌&&◌, ◌||◌, ◌==◌, List, [], ◌∷◌, length, if◌then◌else◌}
 use Rattle.ob_flat.specs.declared.counting.Tally.{Tally}
 use Rattle.ob_flat.specs.Slots.{is_consecutive}
 

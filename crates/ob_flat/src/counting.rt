@@ -21,8 +21,8 @@ use ob_row::{Malformed, Pred, holds};
 use ob_store::BlockStore;
 use ob_vault::{Revisions, Vault};
 
-/// How many slots are selected, and whether each of them but the first stands directly behind
-/// another.
+/// What a counting pass answers: `k` slots are selected, and `consecutive` tells whether their indices
+/// follow each other without a gap, as those of no slot and of one do.
 #[derive(Clone, Copy, Debug, PartialEq, Eq)]
 pub struct Counted {
     pub k: u32,
@@ -104,7 +104,9 @@ fn count_blocks<S: BlockStore, R: Revisions>(
     })
 }
 
-/// Counts the slots whose row makes the condition true, in one reading pass.
+/// Counts the slots of a table whose row makes the condition true: reads each block once, in order.
+/// `Failed` where the store failed, and `Tampered` with the place of a block that is not what was
+/// written there last, or that has a malformed row. It takes no memory.
 pub fn count<S: BlockStore, R: Revisions>(
     store: &mut S,
     vault: &mut Vault<R>,

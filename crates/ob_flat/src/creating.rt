@@ -36,7 +36,8 @@ fn region_of_table(schema: &Schema, capacity: u32, pack: u32) -> Region
     }
 }
 
-/// Makes the region of a table, of which nothing is written yet.
+/// Makes the region of a table whose blocks have `pack` slots: as many blocks as hold `capacity` slots.
+/// Nothing is written to it yet. `Failed` where the store failed, or `NoMemory`.
 pub fn make_table<S: BlockStore, R: Revisions>(
     store: &mut S,
     vault: &mut Vault<R>,
@@ -62,7 +63,8 @@ pub fn make_table<S: BlockStore, R: Revisions>(
     Ok(region)
 }
 
-/// Writes these rows to each place of a region, in order.
+/// Writes the same rows to each place of a region, in order, as a block has rows. `Failed` where the
+/// store failed.
 pub fn fill_blocks<S: BlockStore, R: Revisions>(
     store: &mut S,
     vault: &mut Vault<R>,
@@ -118,7 +120,13 @@ fn create_blocks<S: BlockStore, R: Revisions>(
 {
     let pack = rows.len() as u32;
     let region = make_table(store, vault, schema, capacity, pack)?;
-    match fill_blocks(store, vault, rows, region, region_of_table(schema, capacity, pack)) {
+    match fill_blocks(
+        store,
+        vault,
+        rows,
+        region,
+        region_of_table(schema, capacity, pack),
+    ) {
         Ok(()) => Ok(region),
         Err(e) => {
             vault.forget(region);
@@ -127,7 +135,9 @@ fn create_blocks<S: BlockStore, R: Revisions>(
     }
 }
 
-/// Makes a table with no rows: a region of blocks of dummies. After an error the region is forgotten.
+/// Makes a table of `capacity` empty slots: a region, and a block of dummies at each of its places, in
+/// order. `Failed` where the store failed, or `NoMemory` before anything is written; the region is
+/// forgotten then.
 pub fn create<S: BlockStore, R: Revisions>(
     store: &mut S,
     vault: &mut Vault<R>,

@@ -12,7 +12,8 @@ use ob_room::Room;
 use ob_store::BlockStore;
 use ob_vault::{Revisions, Vault};
 
-/// A table: its schema, its number of slots, and the region that holds them.
+/// A table: its schema, its number of slots, and the region that holds them, from slot 0 on, as many in
+/// each block as the room says. The slots of the last block behind the capacity stay dummies.
 #[derive(Drop)]
 pub struct Flat {
     pub schema: Schema,

@@ -1,4 +1,6 @@
-//! Flat tables: sealed regions of slots, and passes over them.
+//! Flat tables, after the flat storage method of ObliDB (Eskandarian and Zaharia, PVLDB 13(2), 2019):
+//! an array of slots in sealed blocks, and the passes over all of its blocks in order, whose accesses
+//! follow from its schema, its capacity and the number of rows of a block alone.
 #![tactic(auto)]
 
 mod change;

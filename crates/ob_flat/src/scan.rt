@@ -19,8 +19,10 @@ use ob_row::Malformed;
 use ob_store::BlockStore;
 use ob_vault::{Revisions, Vault};
 
-/// Reads each block of a table into these rows, as many as a block has, and sees each slot, those
-/// past the capacity too.
+/// Reads each block of a table once, in order, into these rows, of which there are as many as a block
+/// has, and shows each slot to the visitor, those behind the capacity too. `Failed` where the store
+/// failed, and `Tampered` with the place of a block that is not what was written there last, or that
+/// has a malformed row.
 pub fn scan_blocks<S: BlockStore, R: Revisions, V: Visit>(
     store: &mut S,
     vault: &mut Vault<R>,

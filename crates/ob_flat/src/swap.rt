@@ -19,8 +19,10 @@ use ob_row::Malformed;
 use ob_store::BlockStore;
 use ob_vault::{Revisions, Vault};
 
-/// Reads each block of a table, and writes it, changed or not, to the same place of a region of the
-/// same size. Answers how many slots were counted.
+/// Reads each block of a table, in order, and writes it, changed or not, to the same place of another
+/// region of its size, through these rows, of which there are as many as a block has. Answers how many
+/// slots were counted. `Failed` where the store failed, and `Tampered` with the place of a block that is
+/// not what was written there last, or that has a malformed row.
 pub fn swap_blocks<S: BlockStore, R: Revisions, C: Change>(
     store: &mut S,
     vault: &mut Vault<R>,

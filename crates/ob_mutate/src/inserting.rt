@@ -25,7 +25,8 @@ use ob_row::{Cell, Malformed, encode, read};
 use ob_store::BlockStore;
 use ob_vault::{Revisions, Vault};
 
-/// The answer of an INSERT: the row was inserted; a row has its primary key; or no slot is empty.
+/// What an INSERT answers: the row was inserted; a row with its primary key is there; or each slot has a
+/// row. Of the last two the first is answered where both hold.
 #[derive(Clone, Copy, Debug, PartialEq, Eq)]
 pub enum Inserted {
     Done,
@@ -68,12 +69,10 @@ impl Finds {
     fn answer(self) -> Inserted
         ensures { result ≡ (if self.duplicate then Inserted.Duplicate else (if is_some self.free then Inserted.Done else Inserted.Full)) }
     {
-        if self.duplicate {
-            Inserted::Duplicate
-        } else if self.free.is_some() {
-            Inserted::Done
-        } else {
-            Inserted::Full
+        match (self.duplicate, self.free) {
+            (true, _) => Inserted::Duplicate,
+            (false, Some(_)) => Inserted::Done,
+            (false, None) => Inserted::Full,
         }
     }
 
@@ -177,8 +176,14 @@ fn insert_rows<S: BlockStore, R: Revisions>(
     }
 }
 
-/// Inserts a row into the first empty slot of a table, which gets a fresh region whatever the answer
-/// is. After an error the table is as before, and the fresh region is forgotten.
+/// Inserts a row into the first empty slot of a table. A fresh region is made; each block of the table
+/// is read, in order; then each is read again and written to the fresh region, with the row in its slot,
+/// or as it was where the row is refused; the table has the fresh region, and its old one is discarded,
+/// whatever the store answers to that.
+///
+/// `Failed` where the store failed, `Tampered` with the place of a block that is not what was written
+/// there last, or that has a malformed row, and `NoMemory` before anything is written. After an error
+/// the table is as before, and the fresh region is forgotten.
 pub fn insert<S: BlockStore, R: Revisions>(
     store: &mut S,
     vault: &mut Vault<R>,

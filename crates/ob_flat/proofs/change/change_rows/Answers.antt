@@ -1,8 +1,7 @@
 use mir.Val.{bool_byte}
-use Rattle.std.proofs.Common.{Bool, true, false, count_by, if◌then◌else◌, ◌≡◌, ◌≤◌, ◌<◌, ◌+◌, ℕ, List, Option, None, take, length, slice_index_or, refl, sym, ◌∙◌, ap, subst, arith}
+use Rattle.std.proofs.Common.{Bool, true, false, count_by, if◌then◌else◌, ◌≡◌, ◌<◌, ◌+◌, ℕ, Option, None, take, length, slice_index_or, sym, ◌∙◌, ap, subst, arith}
 use Rattle.std.proofs.lemmas.List.{take_all}
 use Rattle.std.proofs.lemmas.List.Sums.{sum_by_more}
-use Rattle.ob_vault.specs.Rows.{row_at, SameSizes}
 use Rattle.ob_vault.proofs.RowsLemmas.{sizes_set, sizes_trans}
 use Rattle.ob_row.specs.Rows.{Row}
 use Rattle.ob_row.specs.Spelling.{Begins}

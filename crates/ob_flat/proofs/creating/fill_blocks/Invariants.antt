@@ -1,4 +1,4 @@
-use Rattle.std.proofs.Common.{◌≡◌, ◌<◌, ◌/◌, ◌==◌, if◌then◌else◌, ℕ, Bool, List, IsTrue, length}
+use Rattle.std.proofs.Common.{◌<◌, ◌/◌, ◌==◌, if◌then◌else◌, ℕ, Bool, List, IsTrue, length}
 use Rattle.ob_base.specs.Lists.{each}
 use Rattle.ob_base.specs.Accesses.{write_at}
 use Rattle.ob_vault.specs.Tied.{Lives, Written, OnTurn, Holds}

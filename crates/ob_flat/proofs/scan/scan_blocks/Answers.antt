@@ -1,12 +1,10 @@
-use Rattle.std.proofs.Common.{◌≡◌, ◌+◌, ◌*◌, ◌/◌, ◌<◌, ◌≤◌, ℕ, inl, inr, length, refl, sym, ◌∙◌, ap, subst, arith, take}
+use Rattle.std.proofs.Common.{◌≡◌, ◌+◌, ◌*◌, ◌<◌, ℕ, inl, inr, length, sym, ◌∙◌, ap, subst, arith}
 use Rattle.std.proofs.lemmas.Result.{err_from_is_err_and}
 use Rattle.ob_base.specs.Accesses.{read_at}
-use Rattle.ob_base.specs.Lists.{each}
 use Rattle.ob_base.specs.Numbers.{blocks_for}
 use Rattle.ob_base.specs.Schemas.{width}
 use Rattle.ob_vault.specs.Calls.{none}
-use Rattle.ob_vault.specs.Rows.{joined}
-use Rattle.ob_vault.proofs.Runs.{went_each, lives_went, written_went, none_went, none_cut, fit_same, fit_trans, may_get, seals_join, holds_went}
+use Rattle.ob_vault.proofs.Runs.{went_each, lives_went, written_went, none_went, fit_same, fit_trans, may_get, seals_join}
 use Rattle.ob_blocks.specs.Blocks.{block_at, scanned}
 use Rattle.ob_blocks.proofs.Blocks.{scanned-block}
 use Rattle.ob_flat.specs.Flats.{table_region, whole_blocks}

@@ -1,25 +1,21 @@
-use Rattle.std.proofs.Common.{◌≡◌, ◌≢◌, ◌+◌, ◌*◌, ◌/◌, ◌<◌, ◌≤◌, ◌==◌, if◌then◌else◌, ℕ, [], ◌∷◌, List, Bool, IsTrue, None, inl, inr, length, take, count_by, refl, sym, ◌∙◌, ap, subst, arith, below_more}
+use Rattle.std.proofs.Common.{◌≡◌, ◌+◌, ◌*◌, ◌<◌, ◌≤◌, ◌==◌, if◌then◌else◌, ℕ, inl, inr, length, take, count_by, ◌∙◌, ap, arith, below_more}
 use Rattle.std.proofs.lemmas.Result.{err_from_is_err_and}
 use Rattle.std.proofs.lemmas.Bool.Decides.{nat_tests}
-use Rattle.std.proofs.lemmas.List.{take_all}
-use Rattle.ob_base.specs.declared.access.Access.TheVariants.{Write}
 use Rattle.ob_base.specs.Accesses.{read_at, write_at}
-use Rattle.ob_base.specs.Lists.{each}
 use Rattle.ob_base.specs.Numbers.{blocks_for}
 use Rattle.ob_base.specs.Schemas.{width}
 use Rattle.ob_script.specs.Parts.{copy_at}
 use Rattle.ob_vault.specs.Calls.{none, one}
-use Rattle.ob_vault.specs.Rows.{joined}
-use Rattle.ob_vault.proofs.Runs.{went_length, went_wider, went_each, went_join, lives_went, lives_only, written_went, written_only, holds_went, holds_only, holds_rows, none_went, none_cut, tells_went, fit_same, fit_trans, may_get, may_put, seals_join}
-use Rattle.ob_blocks.specs.Blocks.{block_at, map_at, up_to}
+use Rattle.ob_vault.proofs.Runs.{went_length, went_wider, went_each, went_join, lives_went, lives_only, written_went, written_only, holds_went, holds_only, holds_rows, none_went, tells_went, fit_same, fit_trans, may_get, may_put, seals_join}
+use Rattle.ob_blocks.specs.Blocks.{block_at, map_at}
 use Rattle.ob_blocks.proofs.Blocks.{count_next, count_whole}
 use Rattle.ob_blocks.proofs.Changes.{block-map_at}
-use Rattle.ob_flat.specs.Slots.{Slots, Spelt, block_bytes}
+use Rattle.ob_flat.specs.Slots.{block_bytes}
 use Rattle.ob_flat.specs.Flats.{table_region, whole_blocks}
 use Rattle.ob_flat.specs.Passes.{pass_error}
-use Rattle.ob_flat.proofs.Rows.{wide_fit, wide_same, joined_spelt, width_each, spelt_fits}
+use Rattle.ob_flat.proofs.Rows.{wide_fit, wide_same}
 use Rattle.ob_flat.proofs.Runs.{pass_of, pass_each, pass_malformed, pass_more, pass_after, pass_wider}
-use Rattle.ob_flat.proofs.Tables.{accepted, joined_block, copies, index_fits, blocks_hold, represents_lasts, represents_changed, block_long, got, whole_size}
+use Rattle.ob_flat.proofs.Tables.{accepted, joined_block, copies, index_fits, blocks_hold, represents_lasts, represents_changed, block_long, got}
 use Rattle.ob_flat.proofs.swap.swap_blocks.Goals as goal
 
 pub get-requires-clause-spare : goal.get-requires-clause-spare
@@ -197,8 +193,8 @@ loop-u-preserved g c =
           let tells' = tells_went _ _ _ _ read (tells_went _ _ _ _ before.went tells) in (
             count_next (g.C.Change.picks c.args.change.now) pack whole u c.loop-u.k c.in-Ok.picked was.0 changed.0,
             below_more _ _
-            (λ p h. holds_only _ _ _ _ c.put.ensures.only _ p _ (λ _ at. absurd (omega (arith, at, h))) (holds_went _ _ _ _ _ p _ read (λ s. s) (was.1 p h)))
-            (holds_rows _ _ _ _ _ (joined_block pack flat.schema _ c.change_rows.new.rows c.requires.pack.0 same.count changed.1 ∙ new) (c.in_ok-put.ensures.told tells' shape lives)),
+                (λ p h. holds_only _ _ _ _ c.put.ensures.only _ p _ (λ _ at. absurd (omega (arith, at, h))) (holds_went _ _ _ _ _ p _ read (λ s. s) (was.1 p h)))
+                (holds_rows _ _ _ _ _ (joined_block pack flat.schema _ c.change_rows.new.rows c.requires.pack.0 same.count changed.1 ∙ new) (c.in_ok-put.ensures.told tells' shape lives)),
           );
     }
   where
@@ -215,6 +211,6 @@ returns-clause-told g c = λ tells slots is nolie.
     let f = g.C.Change.to c.args.change.now in
     let was = c.loop-u.invariant.told tells slots is nolie in (
       was.0 ∙ ap (λ (n : ℕ). count_by picks (take (n * pack) (whole_blocks pack flat.capacity slots))) last
-      ∙ count_whole picks blocks pack slots (g.met.C.Change.none c.args.change.now) (omega (arith, is.size, blocks_hold pack flat.capacity c.requires.pack.0)),
+          ∙ count_whole picks blocks pack slots (g.met.C.Change.none c.args.change.now) (omega (arith, is.size, blocks_hold pack flat.capacity c.requires.pack.0)),
       represents_changed pack flat c.args.to f slots _ _ c.requires.pack.0 is c.requires.past (λ i slot fits. g.met.C.Change.keeps c.args.change.now flat.schema i slot c.requires.suits fits) (λ p below. was.1 p (omega (arith, last, below))),
     )

@@ -1,7 +1,5 @@
-use Rattle.std.proofs.Common.{◌≡◌, ◌+◌, ◌<◌, ℕ, None, take, length, slice_index_or, refl, sym, ◌∙◌, ap, subst, arith}
-use Rattle.ob_vault.specs.Rows.{row_at}
+use Rattle.std.proofs.Common.{◌+◌, ◌<◌, None, length, slice_index_or, sym, ◌∙◌, ap, subst, arith}
 use Rattle.ob_row.specs.Spelling.{Begins}
-use Rattle.ob_blocks.specs.Blocks.{scanned}
 use Rattle.ob_blocks.proofs.Blocks.{scanned-more}
 use Rattle.ob_vault.proofs.RowsLemmas.{same_at}
 use Rattle.ob_flat.proofs.visit.visit_rows.Goals as goal
