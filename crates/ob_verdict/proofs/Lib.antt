@@ -5,3 +5,5 @@ pub mod TurnLemmas
 pub mod HashLemmas
 pub mod SettleProof
 pub mod SeenProof
+pub mod LawfulProof
+pub mod AnswerProof
