@@ -7,3 +7,5 @@ pub mod SettleProof
 pub mod SeenProof
 pub mod LawfulProof
 pub mod AnswerProof
+pub mod Sessions
+pub mod TableSessions
