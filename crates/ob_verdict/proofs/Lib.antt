@@ -9,3 +9,4 @@ pub mod LawfulProof
 pub mod AnswerProof
 pub mod Sessions
 pub mod TableSessions
+pub mod LongSessions
