@@ -2,5 +2,6 @@
 #![tactic(auto)]
 
 mod answer;
+mod names;
 
 pub use answer::Answer;
