@@ -2,6 +2,8 @@
 #![tactic(auto)]
 
 mod answer;
+mod conds;
+mod kinds;
 mod names;
 
 pub use answer::Answer;
