@@ -4,6 +4,7 @@
 mod answer;
 mod conds;
 mod kinds;
+mod named;
 mod names;
 
 pub use answer::Answer;
