@@ -1,5 +1,5 @@
 //! What has a name, and lists of such things.
-ghost use Rattle.std.specs.Prelude.{◌≡◌, ◌≤◌, ◌++◌, [], length, map, not, zip, bytes_eq};
+ghost use Rattle.std.specs.Prelude.{◌≡◌, ◌≤◌, ◌++◌, length, map, not, zip, bytes_eq};
 ghost use Rattle.std.specs.List.{list_any};
 ghost use Rattle.ob_base.specs.Lists.{has_repeats};
 ghost use Rattle.ob_base.specs.declared.skeleton.ColumnName.{ColumnName};
@@ -77,41 +77,54 @@ pub(crate) fn has_repeats<T: Named>(items: &[T]) -> bool
 }
 
 /// Whether one of their names doesn't mean one column.
-pub(crate) fn lack_column<T: Named>(items: &[T], columns: &[Column]) -> bool
-    requires { length columns.now ≤ 32 }
-    ensures { result ≡ list_any (λ name. not (means_one (columns.now ++ []) name)) (map unqualified (map T.name_of items.now)) }
+pub(crate) fn lack_column<T: Named>(items: &[T], left: &[Column], right: &[Column]) -> bool
+    requires left { length left.now ≤ 32 }
+    requires right { length right.now ≤ 32 }
+    ensures { result ≡ list_any (λ name. not (means_one (left.now ++ right.now) name)) (map unqualified (map T.name_of items.now)) }
 {
     match items.split_first() {
         None => false,
         Some((item, items)) => {
-            !means_one(&unqualified(item.name()), columns, &[]) || lack_column(items, columns)
+            !means_one(&unqualified(item.name()), left, right) || lack_column(items, left, right)
         }
     }
 }
 
 /// Whether a value is of another kind than the column that the name beside it means.
-pub(crate) fn mistype<T: Named>(items: &[T], values: &[Literal], columns: &[Column]) -> bool
-    requires { length columns.now ≤ 32 }
-    ensures { result ≡ list_any (λ (a : ColumnName × Literal). not (at_kind (λ k. is_of_kind k a.1) a.0 (columns.now ++ []))) (zip (map unqualified (map T.name_of items.now)) values.now) }
+pub(crate) fn mistype<T: Named>(
+    items: &[T],
+    values: &[Literal],
+    left: &[Column],
+    right: &[Column],
+) -> bool
+    requires left { length left.now ≤ 32 }
+    requires right { length right.now ≤ 32 }
+    ensures { result ≡ list_any (λ (a : ColumnName × Literal). not (at_kind (λ k. is_of_kind k a.1) a.0 (left.now ++ right.now))) (zip (map unqualified (map T.name_of items.now)) values.now) }
 {
     match (items.split_first(), values.split_first()) {
         (Some((item, items)), Some((value, values))) => {
-            !takes(&unqualified(item.name()), value, columns, &[])
-                || mistype(items, values, columns)
+            !takes(&unqualified(item.name()), value, left, right)
+                || mistype(items, values, left, right)
         }
         _ => false,
     }
 }
 
 /// Whether the column that the name beside it means doesn't hold a value.
-pub(crate) fn overflow<T: Named>(items: &[T], values: &[Literal], columns: &[Column]) -> bool
-    requires { length columns.now ≤ 32 }
-    ensures { result ≡ list_any (λ (a : ColumnName × Literal). at_kind (λ k. is_too_large_for k a.1) a.0 (columns.now ++ [])) (zip (map unqualified (map T.name_of items.now)) values.now) }
+pub(crate) fn overflow<T: Named>(
+    items: &[T],
+    values: &[Literal],
+    left: &[Column],
+    right: &[Column],
+) -> bool
+    requires left { length left.now ≤ 32 }
+    requires right { length right.now ≤ 32 }
+    ensures { result ≡ list_any (λ (a : ColumnName × Literal). at_kind (λ k. is_too_large_for k a.1) a.0 (left.now ++ right.now)) (zip (map unqualified (map T.name_of items.now)) values.now) }
 {
     match (items.split_first(), values.split_first()) {
         (Some((item, items)), Some((value, values))) => {
-            overflows(&unqualified(item.name()), value, columns, &[])
-                || overflow(items, values, columns)
+            overflows(&unqualified(item.name()), value, left, right)
+                || overflow(items, values, left, right)
         }
         _ => false,
     }

@@ -30,7 +30,8 @@ pub(crate) fn has_table(tables: &[Table], name: &Name) -> bool
 
 // The columns of a table, or none.
 pub(crate) fn columns_at<'a>(tables: &'a [Table], name: &Name) -> &'a [Column]
-    ensures { result.now ≡ columns_at name.now (headings_of tables.now) }
+    ensures value { result.now ≡ columns_at name.now (headings_of tables.now) }
+    ensures few { length result.now ≤ 32 }
 {
     match heading_at(tables, name) {
         Some(heading) => heading.schema.as_slice(),
