@@ -4,7 +4,9 @@
 mod answer;
 mod conds;
 mod kinds;
+mod listed;
 mod named;
 mod names;
+mod sources;
 
 pub use answer::Answer;
