@@ -1,9 +1,9 @@
 -- What stands at a place of joined lists.
-use Rattle.std.proofs.Common.{◌≡◌, ℕ, zero, suc, ◌+◌, ◌-◌, ◌*◌, ◌/◌, ◌%◌, ◌<◌, ◌≤◌, min, List, [], ◌∷◌, ◌++◌, length, get_or, refl, sym, ◌∙◌, ap, subst, inl, inr, ◌⊎◌, arith}
+use Rattle.std.proofs.Common.{◌≡◌, ℕ, zero, suc, ◌+◌, ◌-◌, ◌*◌, ◌/◌, ◌%◌, ◌<◌, ◌≤◌, List, [], ◌∷◌, ◌++◌, length, refl, sym, ◌∙◌, ap, subst, inl, inr, ◌⊎◌, arith}
 use Rattle.std.proofs.lemmas.Bool.{cases_eq, cases_lt}
-use Rattle.std.specs.Prelude.{Option, Some, None, slice_get}
+use Rattle.std.specs.Prelude.{Some, slice_get}
 use Rattle.std.proofs.lemmas.List.{length-append}
-use Rattle.std.proofs.Math.Nat.{zero-mul, suc-mul, mul_comm, mul-one, div-lt_iff_lt-mul, le-div_iff_mul-le, mod-eq-sub-div-mul, div-mul-le_self, mod-lt}
+use Rattle.std.proofs.Math.Nat.{zero-mul, suc-mul, div-lt_iff_lt-mul, le-div_iff_mul-le, mod-eq-sub-div-mul, div-mul-le_self, mod-lt}
 use Rattle.ob_base.specs.Lists.{each}
 
 pub at_front : {A : Type 0} (xs ys : List A) (i : ℕ) (x : A) → slice_get xs i ≡ Some x → slice_get (xs ++ ys) i ≡ Some x
@@ -66,3 +66,11 @@ within_each {A} f (suc n) m i pos even most l = go (cases_lt i (n * m))
         let u : i / m ≡ n = omega arith in
         let lower : i ≡ n * m + i % m = parts ∙ ap (λ w. w * m + i % m) u in
         record { part = high; place = subst (λ w. i % m < length (f w)) (sym u) (omega (arith, all)); is = parts }
+
+pub get_front : {A : Type 0} (xs ys : List A) (i : ℕ) → i < length xs → slice_get (xs ++ ys) i ≡ slice_get xs i
+get_front [] ys i h = absurd (omega arith)
+get_front (y ∷ xs) ys zero h = refl
+get_front (y ∷ xs) ys (suc i) h = get_front xs ys i (omega arith)
+
+pub get_back : {A : Type 0} (xs ys : List A) (i : ℕ) → length xs ≤ i → slice_get (xs ++ ys) i ≡ slice_get ys (i - length xs)
+get_back xs ys i h = let e : i ≡ length xs + (i - length xs) = omega arith in ap (slice_get (xs ++ ys)) e ∙ at_back_of xs ys (i - length xs)

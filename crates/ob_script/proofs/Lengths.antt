@@ -1,14 +1,14 @@
 -- The number of accesses of each part.
-use Rattle.std.proofs.Common.{◌≡◌, ℕ, suc, zero, ◌+◌, ◌-◌, ◌*◌, ◌/◌, ◌%◌, ◌≤◌, ◌<◌, min, List, [], ◌∷◌, ◌++◌, length, refl, sym, ◌∙◌, ap, arith}
+use Rattle.std.proofs.Common.{◌≡◌, ℕ, ◌+◌, ◌-◌, ◌*◌, ◌/◌, ◌%◌, ◌<◌, min, [], ◌∷◌, length, refl, ◌∙◌, ap, arith}
 use Rattle.std.specs.Int.{div_ceil}
 use Rattle.std.proofs.lemmas.List.{length-append}
-use Rattle.std.proofs.Math.Nat.{zero-mul, suc-mul, mul_comm, mul-one, one-mul}
+use Rattle.std.proofs.Math.Nat.{mul_comm, mul-one, one-mul}
 use Rattle.ob_base.specs.declared.access.Access.{Access}
-use Rattle.ob_base.specs.declared.access.Access.TheVariants.{Read, Write, Discard}
+use Rattle.ob_base.specs.declared.access.Access.TheVariants.{Read, Write}
 use Rattle.ob_base.specs.Accesses.{read_at, write_at}
 use Rattle.ob_base.specs.Lists.{each}
-use Rattle.ob_base.specs.Numbers.{blocks_for, first_bucket, second_bucket}
-use Rattle.ob_script.specs.Parts.{copy_at, read_from, write_from, count_part, copy_part, small_pass, slots_in, continuous_block, bucket_part, hash_slot, hash_block, pair_at, join_chunk}
+use Rattle.ob_base.specs.Numbers.{first_bucket, second_bucket}
+use Rattle.ob_script.specs.Parts.{read_from, write_from, count_part, copy_part, small_pass, slots_in, continuous_block, bucket_part, hash_slot, hash_block, pair_at, join_chunk}
 use Rattle.ob_script.proofs.Eaches.{length-even}
 use Rattle.ob_script.proofs.Shares.{Shares, length-shares}
 

@@ -4,3 +4,6 @@ pub mod Shares
 pub mod Lengths
 pub mod Sizes
 pub mod Places
+pub mod Joined
+pub mod Numbers
+pub mod Few

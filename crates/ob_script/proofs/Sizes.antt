@@ -1,5 +1,5 @@
 -- The number of accesses of a piece.
-use Rattle.std.proofs.Common.{◌≡◌, ℕ, ◌+◌, ◌*◌, ◌<◌, length, refl, ◌∙◌, arith}
+use Rattle.std.proofs.Common.{◌≡◌, ℕ, ◌+◌, ◌*◌, length, refl, arith}
 use Rattle.std.specs.Int.{div_ceil}
 use Rattle.ob_script.specs.declared.piece.Piece.{Piece}
 use Rattle.ob_script.specs.declared.piece.Piece.TheVariants.{Make, Reads, Writes, Copies, Discard, Passes, Turns, Buckets, Pairs}

@@ -1,11 +1,10 @@
 -- The parts of which every script is joined.
-use Rattle.std.specs.Prelude.{◌≡◌, ◌≤◌, ◌<◌, ◌^◌, ℕ, ◌+◌, ◌*◌, List, ◌++◌, ⊤}
+use Rattle.std.specs.Prelude.{◌≤◌, ◌<◌, ◌^◌, ℕ, ◌*◌, List, length, All, ⊤}
 use Rattle.std.specs.Int.{div_ceil}
 use Rattle.std.specs.List.{flat_map}
 use Rattle.ob_base.specs.declared.access.Access.{Access}
 use Rattle.ob_base.specs.Accesses.{write_at, make_at, discard_at}
 use Rattle.ob_base.specs.Lists.{each}
-use Rattle.ob_base.specs.Numbers.{blocks_for}
 use Rattle.ob_script.specs.declared.piece.Piece.{Piece}
 use Rattle.ob_script.specs.declared.piece.Piece.TheVariants.{Make, Reads, Writes, Copies, Discard, Passes, Turns, Buckets, Pairs}
 use Rattle.ob_script.specs.Parts.{count_part, copy_part, small_pass, continuous_block, hash_block, join_chunk}
@@ -39,3 +38,8 @@ IsSized (Passes from to blocks results buffered) = IsFew blocks × IsFew results
 IsSized (Turns from to pack slots rows) = IsFew slots × (1 ≤ pack) × (pack ≤ 16) × IsFew rows × (1 ≤ rows)
 IsSized (Buckets from to pack slots rows depth) = IsFew slots × (1 ≤ pack) × (pack ≤ 16) × IsFew rows × (1 ≤ rows) × (1 ≤ depth) × (depth ≤ 8)
 IsSized (Pairs left right to lefts rights buffered) = IsFew lefts × IsFew rights × IsFew (div_ceil lefts buffered * rights) × IsFew buffered × (1 ≤ buffered)
+
+-- what is true of each list of them
+pub record AreSized (pieces : List Piece) : Type 0 where
+  pub each_one : All IsSized pieces
+  pub few : length pieces ≤ 16

@@ -1,11 +1,9 @@
 -- The limits within which a script is counted out.
-use Rattle.std.specs.Prelude.{◌≡◌, ◌≢◌, ◌≤◌, ◌<◌, ◌^◌, ℕ, ◌+◌, ◌*◌, List, ◌++◌, ⊤, Option, Some, None, IfSome}
+use Rattle.std.specs.Prelude.{◌≤◌, ◌^◌, ℕ, ◌+◌, ◌*◌, List, ⊤, IfSome}
 use Rattle.std.specs.List.{All}
 use Rattle.ob_base.specs.declared.config.Public.{Public}
-use Rattle.ob_base.specs.declared.config.Plan.{Plan}
 use Rattle.ob_base.specs.declared.schema.Table.{Table}
 use Rattle.ob_base.specs.declared.seen.Seen.{Seen}
-use Rattle.ob_base.specs.declared.seen.End.TheVariants.{Static}
 use Rattle.ob_base.specs.declared.skeleton.Source.{Source}
 use Rattle.ob_base.specs.declared.skeleton.Source.TheVariants.{Table as OneTable, Join}
 use Rattle.ob_base.specs.declared.skeleton.Skeleton.{Skeleton}

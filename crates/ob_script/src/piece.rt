@@ -170,3 +170,9 @@ impl Piece {
         }
     }
 }
+
+impl Default for Piece {
+    fn default() -> Piece {
+        Piece::Discard { region: 0 }
+    }
+}
