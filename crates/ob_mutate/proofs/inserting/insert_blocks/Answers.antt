@@ -10,7 +10,7 @@ use Rattle.ob_row.specs.Rows.{Row}
 use Rattle.ob_blocks.specs.Blocks.{map_at, scanned}
 use Rattle.ob_flat.specs.declared.flat.Flat.{Flat}
 use Rattle.ob_flat.specs.declared.fault.OpErr.{OpErr}
-use Rattle.ob_flat.specs.Slots.{Slots}
+use Rattle.ob_row.specs.Slots.{Slots}
 use Rattle.ob_flat.specs.Flats.{IsMade, IsFlat, Represents, Accepts, whole_blocks}
 use Rattle.ob_flat.specs.Passes.{PassCut}
 use Rattle.ob_flat.proofs.Runs.{pass_more, pass_after, pass_wider}
