@@ -2,5 +2,11 @@
 #![tactic(auto)]
 
 mod answer;
+mod conds;
+mod kinds;
+mod listed;
+mod named;
+mod names;
+mod sources;
 
 pub use answer::Answer;

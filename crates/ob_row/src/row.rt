@@ -32,7 +32,7 @@ pub(crate) fn cells_width(columns: &[Column]) -> usize
 pub fn width(schema: &Schema) -> u32
     ensures { result ≡ width schema.now }
 {
-    cells_width(schema.as_slice()) as u32 + 1
+    schema.width()
 }
 
 // Writes the cells of a row, one after the other.

@@ -6,7 +6,6 @@ ghost use Rattle.ob_script.specs.Script.{extent_of};
 ghost use Rattle.ob_script.specs.Sizes.{IsTable};
 
 use ob_base::{Name, NewColumn, NewKind, Table};
-use ob_row::width;
 
 /// Rows in a region of so many slots, each row of this width.
 #[derive(Clone, Copy, Debug, PartialEq, Eq)]
@@ -39,7 +38,7 @@ pub(crate) fn extent_of(table: &Table) -> Extent
     Extent {
         region: table.region,
         slots: table.heading.capacity,
-        width: width(&table.heading.schema),
+        width: table.heading.schema.width(),
     }
 }
 

@@ -14,7 +14,6 @@ use crate::extent::{Extent, extent_of, new_width, table_at};
 use crate::piece::Piece;
 use crate::pieces::Pieces;
 use ob_base::{Access, End, Name, Plan, Public, Seen, Skeleton, Source, Table};
-use ob_row::width;
 
 // A new region that is filled in order.
 #[tactic(auto, using(crate::proofs::Joined::all_more))]
@@ -275,7 +274,7 @@ fn joined(public: &Public, left: &Table, right: &Table) -> Extent
     Extent {
         region: public.next_region,
         slots: joined_blocks(public, left, right) * u32::from(public.pack),
-        width: width(&left.heading.schema) + width(&right.heading.schema) - 1,
+        width: left.heading.schema.width() + right.heading.schema.width() - 1,
     }
 }
 

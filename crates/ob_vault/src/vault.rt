@@ -34,7 +34,9 @@ impl<R: Revisions> Vault<R> {
 
     /// A vault with no region.
     pub fn new(alloc: Global, keys: Keys) -> Vault<R>
-        ensures { (s : StoreState) → s.asked ≡ [] → Ready (at R.state result s) }
+        ensures ready { (s : StoreState) → s.asked ≡ [] → Ready (at R.state result s) }
+        ensures first { result.next ≡ 1 }
+        ensures empty { (q : ℕ) → (R.state result.revs).live q ≡ None }
     {
         Vault {
             keys,
@@ -200,6 +202,13 @@ impl<R: Revisions> Vault<R> {
         ensures seals { (s : StoreState) (good : ℕ → List ℕ → Bool) → Seals good (at R.state self.old s) (at R.state self.new s) }
     {
         self.revs.end(region);
+    }
+
+    /// The number of the next region.
+    pub fn next_region(&self) -> u64
+        ensures { result ≡ self.now.next }
+    {
+        self.next
     }
 
     /// The next place of a round region.

@@ -5,3 +5,8 @@ pub mod TurnLemmas
 pub mod HashLemmas
 pub mod SettleProof
 pub mod SeenProof
+pub mod LawfulProof
+pub mod AnswerProof
+pub mod Sessions
+pub mod TableSessions
+pub mod LongSessions

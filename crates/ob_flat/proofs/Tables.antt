@@ -1,0 +1,124 @@
+-- Tables in the vault and its store.
+use Rattle.std.proofs.Common.{◌≡◌, ◌≤◌, ◌<◌, ◌+◌, ◌*◌, ◌/◌, ℕ, Bool, IsTrue, List, Option, None, length, refl, sym, ◌∙◌, ap, subst, arith}
+use Rattle.std.proofs.lemmas.Grind.{div_ceil_times}
+use Rattle.std.specs.List.{All}
+use Rattle.ob_base.specs.Lists.{each}
+use Rattle.ob_base.specs.Numbers.{blocks_for}
+use Rattle.ob_base.specs.Accesses.{read_at}
+use Rattle.ob_script.specs.Parts.{copy_at}
+use Rattle.ob_row.specs.Rows.{Row}
+use Rattle.ob_vault.specs.Tied.{Holds}
+use Rattle.ob_base.specs.Schemas.{Columns, width}
+use Rattle.ob_store.proofs.Steps.{length-each}
+use Rattle.ob_vault.specs.State.{World}
+use Rattle.ob_vault.specs.Calls.{Lasts}
+use Rattle.ob_vault.specs.Rows.{joined, Wide}
+use Rattle.ob_vault.proofs.RowsLemmas.{rows_room}
+use Rattle.ob_vault.proofs.Runs.{lives_lasts, written_lasts, holds_lasts, turn_lasts}
+use Rattle.std.proofs.lemmas.List.{length-replicate}
+use Rattle.std.proofs.lemmas.List.Elements.{All-replicate}
+use Rattle.ob_blocks.specs.Blocks.{block_at, map_at, none_of}
+use Rattle.ob_blocks.proofs.Changes.{length-map_at, all-map_at, map_at-up_to}
+use Rattle.ob_blocks.proofs.Blocks.{length-up_to, length-block, all_up_to, all_block, block_none}
+use Rattle.ob_flat.specs.declared.flat.Flat.{Flat}
+use Rattle.ob_row.specs.Slots.{Slots, empty_slots}
+use Rattle.ob_flat.specs.Slots.{FitsSlot, Spelt, AreSlots, block_bytes}
+use Rattle.ob_flat.specs.Flats.{IsMade, IsFlat, Represents, Accepts, whole_blocks}
+use Rattle.ob_flat.proofs.Rows.{spelt_joined, joined_spelt, spelt_fits, width_each, block_size}
+
+-- how many accesses the reads of a table are
+pub reads : (q n : ℕ) → length (each n (read_at q)) ≡ n
+reads q n = length-each (read_at q) 1 (λ i. refl) n ∙ omega arith
+
+pub blocks_hold : (pack capacity : ℕ) → 1 ≤ pack → capacity ≤ blocks_for pack capacity * pack
+blocks_hold pack capacity some = (div_ceil_times capacity pack (omega arith)).0
+
+-- there are no more blocks than slots
+pub blocks_few : (pack capacity : ℕ) → 1 ≤ pack → blocks_for pack capacity ≤ capacity
+blocks_few pack capacity some = grind arith
+
+-- and their slots are fewer than a block's more
+pub blocks_end : (pack capacity : ℕ) → 1 ≤ pack → blocks_for pack capacity * pack < capacity + pack
+blocks_end pack capacity some = (div_ceil_times capacity pack (omega arith)).1
+
+-- a table of which no block was written, or that wasn't touched
+module _ (pack : ℕ) (flat : Flat) (some : ℕ → Type 0) (a b : World) (lasts : Lasts some a b) (off : some flat.region → ⊥) where
+  pub made_lasts : IsMade pack flat a → IsMade pack flat b
+  made_lasts is = record { lives = lives_lasts some a b lasts _ _ off is.lives; turn = turn_lasts some a b lasts _ _ off is.turn }
+
+  pub flat_lasts : IsFlat pack flat a → IsFlat pack flat b
+  flat_lasts is = record { made = made_lasts is.made; written = λ p below. written_lasts some a b lasts flat.region p off (is.written p below) }
+
+  pub represents_lasts : (slots : Slots) → Represents pack flat slots a → Represents pack flat slots b
+  represents_lasts slots is = record { size = is.size; fits = is.fits; holds = λ p below. holds_lasts some a b lasts flat.region p _ off (is.holds p below) }
+
+module _ (pack : ℕ) (flat : Flat) (slots : Slots) (w : World) (is : Represents pack flat slots w) (some : 1 ≤ pack) where
+  pub whole_size : length (whole_blocks pack flat.capacity slots) ≡ blocks_for pack flat.capacity * pack
+  whole_size = length-up_to _ slots (omega (arith, is.size, blocks_hold pack flat.capacity some))
+
+  pub whole_fits : All (FitsSlot flat.schema) (whole_blocks pack flat.capacity slots)
+  whole_fits = all_up_to (FitsSlot flat.schema) _ slots tt is.fits
+
+  -- a block has `pack` slots, and the bytes of as many rows
+  pub block_slots : (u : ℕ) → u < blocks_for pack flat.capacity → length (block_at pack (whole_blocks pack flat.capacity slots) u) ≡ pack
+  block_slots u below = length-block pack (whole_blocks pack flat.capacity slots) u _ below whole_size
+
+  pub block_fits : (u : ℕ) → All (FitsSlot flat.schema) (block_at pack (whole_blocks pack flat.capacity slots) u)
+  block_fits u = all_block (FitsSlot flat.schema) pack (whole_blocks pack flat.capacity slots) u whole_fits
+
+  pub block_long : (u : ℕ) → u < blocks_for pack flat.capacity → length (block_bytes flat.schema (block_at pack (whole_blocks pack flat.capacity slots) u)) ≡ pack * width flat.schema
+  block_long u below = block_size flat.schema _ (block_fits u) ∙ ap (λ (n : ℕ). n * width flat.schema) (block_slots u below)
+
+  -- the rows of a block that was read spell its slots
+  pub got : (u n : ℕ) (rows : List (List ℕ)) → u < blocks_for pack flat.capacity → n ≡ pack → length rows ≡ pack → Wide (width flat.schema) rows
+      → joined ((pack * width flat.schema) / n) rows ≡ block_bytes flat.schema (block_at pack (whole_blocks pack flat.capacity slots) u)
+      → Spelt flat.schema (block_at pack (whole_blocks pack flat.capacity slots) u) rows
+  got u n rows below same size wide bytes =
+      let each : (pack * width flat.schema) / n ≡ width flat.schema = ap (λ (k : ℕ). (pack * width flat.schema) / k) same ∙ width_each pack (width flat.schema) some in
+      spelt_joined flat.schema _ rows wide (block_slots u below ∙ sym size) (block_fits u) (ap (λ (w : ℕ). joined w rows) (sym each) ∙ bytes)
+
+-- the accesses of a copy
+pub copies : (q g n : ℕ) → length (each n (copy_at q g)) ≡ 2 * n
+copies q g n = length-each (copy_at q g) 2 (λ i. refl) n ∙ omega arith
+
+-- the slots of a block have indices below 2^31
+pub index_fits : (pack capacity u : ℕ) → 1 ≤ pack → pack ≤ 16 → capacity ≤ 16777216 → u < blocks_for pack capacity → u * pack + pack ≤ 16777232
+index_fits pack capacity u some few most below =
+    let end = blocks_end pack capacity some in
+    let fits : u * pack + pack ≤ blocks_for pack capacity * pack = rows_room u (blocks_for pack capacity) pack below in
+    omega (arith, end, fits)
+
+-- the changed slots of a table are those that its new region has
+pub represents_changed : (pack : ℕ) (flat : Flat) (to : ℕ) (f : ℕ → Option Row → Option Row) (slots : Slots) (old new : World) → 1 ≤ pack → Represents pack flat slots old
+    → ((i : ℕ) → flat.capacity ≤ i → f i None ≡ None) → ((i : ℕ) (slot : Option Row) → FitsSlot flat.schema slot → FitsSlot flat.schema (f i slot))
+    → ((p : ℕ) → p < blocks_for pack flat.capacity → Holds to p (block_bytes flat.schema (block_at pack (map_at f 0 (whole_blocks pack flat.capacity slots)) p)) new)
+    → Represents pack (record flat { region = to }) (map_at f 0 slots) new
+represents_changed pack flat to f slots old new some is past keeps holds = record {
+  size = length-map_at f 0 slots ∙ is.size;
+  fits = all-map_at f (FitsSlot flat.schema) 0 slots keeps is.fits;
+  holds = λ p below. subst (λ (l : Slots). Holds to p (block_bytes flat.schema (block_at pack l p)) new) (map_at-up_to f (blocks_for pack flat.capacity * pack) slots (λ i beyond. past i (omega (arith, is.size, beyond)))) (holds p below);
+}
+
+-- the bytes of a block's rows
+pub joined_block : (pack : ℕ) (columns : Columns) (slots : Slots) (rows : List (List ℕ)) → 1 ≤ pack → length rows ≡ pack → Spelt columns slots rows → joined ((pack * width columns) / length rows) rows ≡ block_bytes columns slots
+joined_block pack columns slots rows some size spelt =
+    let each : (pack * width columns) / length rows ≡ width columns = ap (λ (k : ℕ). (pack * width columns) / k) size ∙ width_each pack (width columns) some in
+    ap (λ (w : ℕ). joined w rows) each ∙ joined_spelt columns slots rows spelt
+
+pub accepted : (good : ℕ → List ℕ → Bool) (pack region : ℕ) (columns : Columns) (rows : List (List ℕ)) → 1 ≤ pack → length rows ≡ pack → Accepts good pack columns region → AreSlots columns rows
+    → IsTrue (good region (joined ((pack * width columns) / length rows) rows))
+accepted good pack region columns rows some size fine is =
+    subst (λ (bytes : List ℕ). IsTrue (good region bytes)) (sym (joined_block pack columns is.slots rows some size is.spelt))
+    (fine.accepts is.slots (is.spelt.count ∙ size) (spelt_fits columns is.slots rows is.spelt))
+
+-- a table with no rows
+pub represents_none : (pack : ℕ) (flat : Flat) (w : World) → 1 ≤ pack
+    → ((p : ℕ) → p < blocks_for pack flat.capacity → Holds flat.region p (block_bytes flat.schema (none_of pack)) w) → Represents pack flat (empty_slots flat.capacity) w
+represents_none pack flat w some holds =
+    let none : Option Row = None in
+    let fits : flat.capacity ≤ blocks_for pack flat.capacity * pack = blocks_hold pack flat.capacity some in
+    record {
+      size = length-replicate flat.capacity none;
+      fits = All-replicate (FitsSlot flat.schema) flat.capacity none tt;
+      holds = λ p below. subst (λ (l : Slots). Holds flat.region p (block_bytes flat.schema l) w) (sym (block_none pack flat.capacity (blocks_for pack flat.capacity) p fits below)) (holds p below);
+    }

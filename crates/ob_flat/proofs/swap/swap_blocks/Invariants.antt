@@ -1,0 +1,33 @@
+use Rattle.std.proofs.Common.{◌≡◌, ◌≤◌, ◌<◌, ◌==◌, ◌*◌, if◌then◌else◌, ℕ, Bool, List, IsTrue, None, take, length, count_by}
+use Rattle.ob_base.specs.Lists.{each}
+use Rattle.ob_base.specs.Numbers.{blocks_for}
+use Rattle.ob_script.specs.Parts.{copy_at}
+use Rattle.ob_vault.specs.Calls.{Went, Seals, one}
+use Rattle.ob_vault.specs.Tied.{Lives, OnTurn, Written, Holds}
+use Rattle.ob_vault.specs.Rows.{SameSizes}
+use Rattle.ob_vault.specs.Places.{at}
+use Rattle.ob_blocks.specs.Blocks.{block_at, map_at}
+use Rattle.ob_row.specs.Slots.{Slots}
+use Rattle.ob_flat.specs.Slots.{block_bytes}
+use Rattle.ob_flat.specs.Flats.{Represents, Accepts, table_region, whole_blocks}
+use Rattle.ob_flat.proofs.swap.swap_blocks.Given as goal
+
+abbrev pub invariant-loop-u : goal.invariant-loop-u
+invariant-loop-u g l =
+    let old = at g.R.Revisions.state l.initial.vault (g.S.BlockStore.state l.initial.store) in
+    let now = at g.R.Revisions.state l.vault (g.S.BlockStore.state l.store) in
+    let pack = length l.initial.rows in
+    let blocks = blocks_for pack l.flat.capacity in
+    let shape = table_region pack l.flat.schema l.flat.capacity in
+    record {
+      went : Went (each l.u (copy_at l.flat.region l.to)) (one l.to) old now;
+      seals : (good : ℕ → List ℕ → Bool) → Accepts good pack l.flat.schema l.to → Seals good old now;
+      lives : Lives l.to shape now;
+      turn : OnTurn l.to shape (if l.u == blocks then 0 else l.u) now;
+      written : (p : ℕ) → p < l.u → Written l.to p now;
+      same : SameSizes l.initial.rows l.rows;
+      few : l.k ≤ l.u * pack;
+      told : IsTrue old.store.tells → (slots : Slots) → Represents pack l.flat slots old → now.store.lie ≡ None
+          → (l.k ≡ count_by (g.C.Change.picks l.change) (take (l.u * pack) (whole_blocks pack l.flat.capacity slots)))
+          × ((p : ℕ) → p < l.u → Holds l.to p (block_bytes l.flat.schema (block_at pack (map_at (g.C.Change.to l.change) 0 (whole_blocks pack l.flat.capacity slots)) p)) now);
+    }

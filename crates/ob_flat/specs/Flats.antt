@@ -1,0 +1,50 @@
+-- What a table is in a vault and its store: a region of sealed blocks of `pack` slots.
+use Rattle.std.specs.Prelude.{◌≡◌, ◌<◌, ◌≤◌, ◌*◌, ℕ, Bool, IsTrue, List, length}
+use Rattle.std.specs.List.{All}
+use Rattle.ob_base.specs.Numbers.{blocks_for}
+use Rattle.ob_base.specs.Schemas.{Columns, width}
+use Rattle.ob_vault.specs.declared.region.Region.{Region}
+use Rattle.ob_vault.specs.declared.region.Order.TheVariants.{Round}
+use Rattle.ob_vault.specs.State.{World}
+use Rattle.ob_vault.specs.Tied.{Lives, Written, OnTurn, Holds}
+use Rattle.ob_blocks.specs.Blocks.{up_to, block_at}
+use Rattle.ob_flat.specs.declared.flat.Flat.{Flat}
+use Rattle.ob_row.specs.Slots.{Slots}
+use Rattle.ob_flat.specs.Slots.{FitsSlot, block_bytes}
+
+-- a schema and a capacity within their limits
+pub record IsSized (columns : Columns) (capacity : ℕ) : Type 0 where
+  pub some : 1 ≤ length columns
+  pub few : length columns ≤ 32
+  pub wide : width columns ≤ 1024
+  pub least : 1 ≤ capacity
+  pub most : capacity ≤ 16777216
+
+-- the region of a table of this schema and capacity
+abbrev pub table_region : ℕ → Columns → ℕ → Region
+table_region pack columns capacity = record { blocks = blocks_for pack capacity; width = pack * width columns; order = Round }
+
+-- it is live, and its first place is the next to be written
+pub record IsMade (pack : ℕ) (flat : Flat) (w : World) : Type 0 where
+  pub lives : Lives flat.region (table_region pack flat.schema flat.capacity) w
+  pub turn : OnTurn flat.region (table_region pack flat.schema flat.capacity) 0 w
+
+-- and each of its places was written
+pub record IsFlat (pack : ℕ) (flat : Flat) (w : World) : Type 0 where
+  pub made : IsMade pack flat w
+  pub written : (p : ℕ) → p < blocks_for pack flat.capacity → Written flat.region p w
+
+-- the slots, and empty ones up to the end of the last block
+abbrev pub whole_blocks : ℕ → ℕ → Slots → Slots
+whole_blocks pack capacity slots = up_to (blocks_for pack capacity * pack) slots
+
+-- its blocks are those of the slots; the slots past the capacity are empty
+pub record Represents (pack : ℕ) (flat : Flat) (slots : Slots) (w : World) : Type 0 where
+  pub size : length slots ≡ flat.capacity
+  pub fits : All (FitsSlot flat.schema) slots
+  pub holds : (p : ℕ) → p < blocks_for pack flat.capacity
+      → Holds flat.region p (block_bytes flat.schema (block_at pack (whole_blocks pack flat.capacity slots) p)) w
+
+-- blocks of `pack` rows or dummies are good for a region
+pub record Accepts (good : ℕ → List ℕ → Bool) (pack : ℕ) (columns : Columns) (region : ℕ) : Type 0 where
+  pub accepts : (slots : Slots) → length slots ≡ pack → All (FitsSlot columns) slots → IsTrue (good region (block_bytes columns slots))

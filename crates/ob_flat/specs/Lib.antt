@@ -1,0 +1,4 @@
+pub mod Slots
+pub mod Flats
+pub mod Passes
+pub mod Counts

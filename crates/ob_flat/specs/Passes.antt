@@ -1,0 +1,31 @@
+-- Why a pass gave up, and what it left.
+use Rattle.std.specs.Prelude.{◌≡◌, ◌⊎◌, ℕ, List}
+use Rattle.ob_base.specs.declared.access.Access.{Access}
+use Rattle.ob_base.specs.Counts.{Rises}
+use Rattle.ob_store.specs.Runs.{Began}
+use Rattle.ob_vault.specs.declared.fault.VaultErr.{VaultErr}
+use Rattle.ob_vault.specs.declared.fault.VaultErr.TheVariants as VaultErrs
+use Rattle.ob_vault.specs.State.{World}
+use Rattle.ob_vault.specs.Tied.{Calm, EndsAt}
+use Rattle.ob_vault.specs.Calls.{Lasts}
+use Rattle.ob_flat.specs.declared.fault.OpErr.{OpErr}
+use Rattle.ob_flat.specs.declared.fault.OpErr.TheVariants.{Failed, Tampered, Sink, NoMemory}
+
+-- the same error of a pass
+abbrev pub pass_error : VaultErr → OpErr
+pass_error VaultErrs.Failed = Failed
+pass_error (VaultErrs.Tampered region place) = Tampered region place
+pass_error VaultErrs.NoMemory = NoMemory
+
+-- each error's cause: `Failed` comes only where the store's faults rose, and no other where they did
+abbrev pub PassCause : OpErr → World → World → Type 0
+PassCause Failed old new = Rises old.store.faults new.store.faults × (Calm old → Calm new)
+PassCause (Tampered q x) old new = (new.store.faults ≡ old.store.faults) × (Calm old → Calm new ⊎ EndsAt q x new)
+PassCause Sink old new = (new.store.faults ≡ old.store.faults) × (Calm old → Calm new)
+PassCause NoMemory old new = (new.store.faults ≡ old.store.faults) × (Calm old → Calm new)
+
+-- a first part of the script was asked, and no other region has changed
+pub record PassCut (e : OpErr) (script : List Access) (some : ℕ → Type 0) (old new : World) : Type 0 where
+  pub lasts : Lasts some old new
+  pub began : Began script old.store new.store
+  pub cause : PassCause e old new

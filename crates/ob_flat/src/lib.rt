@@ -1,0 +1,22 @@
+//! Flat tables, after the flat storage method of ObliDB (Eskandarian and Zaharia, PVLDB 13(2), 2019):
+//! an array of slots in sealed blocks, and the passes over all of its blocks in order, whose accesses
+//! follow from its schema, its capacity and the number of rows of a block alone.
+#![tactic(auto)]
+
+mod change;
+mod counting;
+mod creating;
+mod fault;
+mod flat;
+mod scan;
+mod swap;
+mod visit;
+
+pub use change::Change;
+pub use counting::{Counted, count};
+pub use creating::{create, fill_blocks, make_table};
+pub use fault::OpErr;
+pub use flat::{Flat, discard};
+pub use scan::scan_blocks;
+pub use swap::swap_blocks;
+pub use visit::Visit;
