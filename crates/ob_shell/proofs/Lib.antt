@@ -1,0 +1,3 @@
+pub mod FeedLemmas
+pub mod KeyLemmas
+pub mod TextLemmas

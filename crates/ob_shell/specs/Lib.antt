@@ -1,0 +1,5 @@
+pub mod Feeding
+pub mod KeyLine
+pub mod Pushed
+pub mod Texts
+pub mod Usage

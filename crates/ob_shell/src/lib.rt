@@ -1,0 +1,12 @@
+//! From the bytes of the input to the bytes of the answers.
+#![tactic(auto)]
+
+mod feed;
+mod key;
+mod pending;
+mod words;
+
+pub use feed::{Feed, Halt};
+pub use key::{FirstLine, read_key};
+pub use pending::{Grown, Pending, PushStop};
+pub use words::{Words, WordsErr, read_words};
