@@ -1,3 +1,4 @@
 pub mod FeedLemmas
 pub mod KeyLemmas
 pub mod TextLemmas
+pub mod TraceLemmas

@@ -4,9 +4,11 @@
 mod feed;
 mod key;
 mod pending;
+mod trace;
 mod words;
 
 pub use feed::{Feed, Halt};
 pub use key::{FirstLine, read_key};
 pub use pending::{Grown, Pending, PushStop};
+pub use trace::trace_from;
 pub use words::{Words, WordsErr, read_words};
