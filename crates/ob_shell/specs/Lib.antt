@@ -1,6 +1,9 @@
+pub mod Closing
 pub mod Feeding
 pub mod KeyLine
 pub mod Pushed
+pub mod Running
+pub mod Steps
 pub mod Texts
 pub mod Tracing
 pub mod Usage

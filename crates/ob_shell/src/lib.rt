@@ -4,11 +4,17 @@
 mod feed;
 mod key;
 mod pending;
+mod session;
+mod statement;
+mod stub;
 mod trace;
 mod words;
 
 pub use feed::{Feed, Halt};
 pub use key::{FirstLine, read_key};
 pub use pending::{Grown, Pending, PushStop};
+pub use session::{Halted, serve};
+pub use statement::{ParseErr, parse};
+pub use stub::{Engine, Outcome};
 pub use trace::trace_from;
 pub use words::{Words, WordsErr, read_words};

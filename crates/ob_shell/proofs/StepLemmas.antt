@@ -1,0 +1,122 @@
+-- Texts that are answered one after the other.
+use Rattle.std.proofs.Common.{◌≡◌, ℕ, ◌||◌, Bool, true, false, List, [], ◌∷◌, ◌++◌, Option, refl, sym, ap, ◌∙◌, subst, inl, inr, append_assoc, append-nil}
+use Rattle.std.specs.Io.KnownBytes.{Appends}
+use Rattle.std.proofs.KnownBytes.{Appends-nil}
+use Rattle.ob_base.specs.declared.refusal.Stop.{Stop}
+use Rattle.ob_base.specs.declared.refusal.Stop.TheVariants.{SinkFault}
+use Rattle.ob_print.proofs.CutLemmas.{Cut-whole}
+use Rattle.ob_shell.specs.Closing.{is_refused}
+use Rattle.ob_shell.specs.Steps.{Machine, Answer, Step, Steps, printed, any_refused, Rests, Finished, PartlyAt, AnswersAll, StopsIn, IsSinkFault}
+
+pub or_false : (a : Bool) → (a || false) ≡ a
+or_false true = refl
+or_false false = refl
+
+pub or_assoc : (a b c : Bool) → ((a || b) || c) ≡ (a || (b || c))
+or_assoc true b c = refl
+or_assoc false b c = refl
+
+pub printed-append : (xs ys : List Answer) → printed (xs ++ ys) ≡ printed xs ++ printed ys
+unfolding printed
+printed-append [] ys = refl
+printed-append (x ∷ xs) ys = ap (λ (l : List ℕ). x.bytes ++ l) (printed-append xs ys) ∙ sym (append_assoc x.bytes (printed xs) (printed ys))
+
+pub any_refused-append : (xs ys : List Answer) → any_refused (xs ++ ys) ≡ (any_refused xs || any_refused ys)
+unfolding any_refused
+any_refused-append [] ys = refl
+any_refused-append (x ∷ xs) ys =
+    ap (λ (b : Bool). is_refused x.outcome || b) (any_refused-append xs ys)
+    ∙ sym (or_assoc (is_refused x.outcome) (any_refused xs) (any_refused ys))
+
+pub printed-nil : printed [] ≡ []
+unfolding printed
+printed-nil = refl
+
+pub any_refused-nil : any_refused [] ≡ false
+unfolding any_refused
+any_refused-nil = refl
+
+pub Steps-none : (m : Machine) → Steps m m [] []
+unfolding Steps
+Steps-none m = (refl, refl)
+
+pub Steps-append : (m0 m1 m2 : Machine) (ts us : List (List ℕ)) (xs ys : List Answer)
+    → Steps m0 m1 ts xs → Steps m1 m2 us ys → Steps m0 m2 (ts ++ us) (xs ++ ys)
+unfolding Steps
+Steps-append m0 m1 m2 [] us xs ys p q =
+    subst (λ (l : List Answer). Steps m0 m2 us (l ++ ys)) (sym p.1) (subst (λ (m : Machine). Steps m m2 us ys) p.0 q)
+Steps-append m0 m1 m2 (t ∷ ts) us xs ys p q = (
+  p.0, p.1, p.2 ++ ys, ap (λ (l : List Answer). l ++ ys) p.3, p.4, Steps-append p.0 m1 m2 ts us p.2 ys p.5 q,
+)
+
+pub answers_none : (w : Option (List ℕ)) (r : Bool) (m : Machine) → AnswersAll w w [] r r m m
+answers_none w r m = record {
+  answers = [];
+  steps = Steps-none m;
+  appends = rw printed-nil (Appends-nil w);
+  flag = rw any_refused-nil (sym (or_false r));
+}
+
+one_step : (m0 m1 : Machine) (text : List ℕ) (answer : Answer) → Step m0 m1 text answer → Steps m0 m1 (text ∷ []) (answer ∷ [])
+unfolding Steps
+one_step m0 m1 text answer step = (m1, answer, [], refl, step, (refl, refl))
+
+printed_one : (answer : Answer) → printed (answer ∷ []) ≡ answer.bytes
+unfolding printed
+printed_one answer = append-nil answer.bytes
+
+refused_one : (answer : Answer) → any_refused (answer ∷ []) ≡ is_refused answer.outcome
+unfolding any_refused
+refused_one answer = or_false (is_refused answer.outcome)
+
+pub answers_one : {w0 w1 : Option (List ℕ)} {m0 m1 : Machine} (text : List ℕ) (r : Bool) (answer : Answer)
+    → Step m0 m1 text answer → Appends w0 w1 answer.bytes
+    → AnswersAll w0 w1 (text ∷ []) r (r || is_refused answer.outcome) m0 m1
+answers_one text r answer step bytes = record {
+  answers = answer ∷ [];
+  steps = one_step _ _ text answer step;
+  appends = rw (printed_one answer) bytes;
+  flag = ap (λ (b : Bool). r || b) (sym (refused_one answer));
+}
+
+pub PartlyAt-none : (m : Machine) (texts : List (List ℕ)) (stop : Stop) → PartlyAt m m texts stop []
+PartlyAt-none m [] stop = record { machine = refl; none = refl }
+PartlyAt-none m (t ∷ ts) stop = inl (record { machine = refl; none = refl })
+
+pub PartlyAt-rests : (m0 m1 : Machine) (texts : List (List ℕ)) (stop : Stop) (bytes : List ℕ) → Rests m0 m1 bytes → PartlyAt m0 m1 texts stop bytes
+PartlyAt-rests m0 m1 [] stop bytes r = r
+PartlyAt-rests m0 m1 (t ∷ ts) stop bytes r = inl r
+
+pub PartlyAt-more : (m0 m1 : Machine) (texts more : List (List ℕ)) (stop : Stop) (bytes : List ℕ)
+    → PartlyAt m0 m1 texts stop bytes → PartlyAt m0 m1 (texts ++ more) stop bytes
+PartlyAt-more m0 m1 [] more stop bytes p = PartlyAt-rests m0 m1 more stop bytes p
+PartlyAt-more m0 m1 (t ∷ ts) more stop bytes p = p
+
+-- nothing was done of the texts
+pub stops_before : (w : Option (List ℕ)) (m : Machine) (texts : List (List ℕ)) (stop : Stop) → StopsIn w w texts stop m m
+stops_before w m texts stop = record { bytes = []; partly = PartlyAt-none m texts stop; cut = Cut-whole w w _ [] (Appends-nil w) }
+
+-- the only answer of a list
+record OneAnswer (m0 m1 : Machine) (text : List ℕ) (answers : List Answer) : Type 0 where
+  answer : Answer
+  step : Step m0 m1 text answer
+  bytes : printed answers ≡ answer.bytes
+
+only_answer : (m0 m1 : Machine) (text : List ℕ) (answers : List Answer) → Steps m0 m1 (text ∷ []) answers → OneAnswer m0 m1 text answers
+unfolding Steps
+only_answer m0 m1 text answers p = record {
+  answer = p.1;
+  step = subst (λ (m : Machine). Step m0 m text p.1) (sym p.5.0) p.4;
+  bytes = ap printed (p.3 ∙ ap (λ (l : List Answer). p.1 ∷ l) p.5.1) ∙ printed_one p.1;
+}
+
+-- the whole answer was taken, and the stop came after it
+pub stops_after : {w0 w1 : Option (List ℕ)} {text : List ℕ} {r0 r1 : Bool} {m0 m1 : Machine} (stop : Stop) → IsSinkFault stop
+    → AnswersAll w0 w1 (text ∷ []) r0 r1 m0 m1 → StopsIn w0 w1 (text ∷ []) stop m0 m1
+stops_after {text = text} {m0 = m0} {m1 = m1} stop fault all =
+    let one = only_answer m0 m1 text all.answers all.steps in
+    record {
+      bytes = printed all.answers;
+      partly = inr (inr (record { answer = one.answer; step = one.step; whole = one.bytes; fault = fault }));
+      cut = Cut-whole _ _ _ _ all.appends;
+    }
