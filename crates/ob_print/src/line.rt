@@ -23,7 +23,8 @@ impl Model for Line {
 }
 
 impl Line {
-    fn new(start: &[u8]) -> Line
+    /// A line that begins so.
+    pub fn new(start: &[u8]) -> Line
         requires { length start.now ≤ 32 }
         ensures { result ≡ start.now }
     {
@@ -35,7 +36,8 @@ impl Line {
         line
     }
 
-    fn push(&mut self, piece: &[u8])
+    /// Adds bytes.
+    pub fn push(&mut self, piece: &[u8])
         requires { length self.old + length piece.now ≤ 80 }
         ensures { self.new ≡ self.old ++ piece.now }
     {
@@ -44,7 +46,8 @@ impl Line {
         self.len = to;
     }
 
-    fn push_number<I: Integer>(&mut self, n: I, end: &[u8])
+    /// Adds a number in decimal, and what follows it.
+    pub fn push_number<I: Integer>(&mut self, n: I, end: &[u8])
         requires { (length self.old ≤ 38) × (length end.now ≤ 1) }
         ensures text { self.new ≡ self.old ++ (I.text n ++ end.now) }
         ensures room { length self.new ≤ length self.old + (I.MAX_STR_LEN + 1) }

@@ -7,6 +7,7 @@ mod pending;
 mod session;
 mod statement;
 mod stub;
+mod top;
 mod trace;
 mod words;
 
@@ -16,5 +17,6 @@ pub use pending::{Grown, Pending, PushStop};
 pub use session::{Halted, serve};
 pub use statement::{ParseErr, parse};
 pub use stub::{Engine, Outcome};
+pub use top::{Ended, Ending, Report, shell_top};
 pub use trace::trace_from;
 pub use words::{Words, WordsErr, read_words};

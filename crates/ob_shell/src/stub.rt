@@ -1,5 +1,8 @@
 //! Stand-in.
-use ob_base::{Config, Refusal};
+ghost use Rattle.std.specs.Prelude.{◌≡◌, false, IfOk};
+
+use ob_base::{NoMemory, Refusal};
+use std::alloc::Global;
 
 #[derive(Drop)]
 pub struct Engine {
@@ -16,4 +19,21 @@ pub enum Outcome {
     Dropped,
     Rows(u64),
     Refused(Refusal),
+}
+
+impl Engine {
+    pub fn start(alloc: Global, key: &[u8; 32]) -> Result<Engine, NoMemory>
+        ensures { IfOk result (λ e. e.ended ≡ false) }
+    {
+        Ok(Engine {
+            rows_high: 0,
+            ended: false,
+        })
+    }
+
+    pub fn high(&self) -> u64
+        ensures { result ≡ self.now.rows_high }
+    {
+        self.rows_high
+    }
 }
