@@ -4,6 +4,7 @@ use Rattle.std.specs.Io.KnownBytes.{Appends, Consumes}
 use Rattle.clap.specs.Words.{Text}
 use Rattle.ob_base.specs.Counts.{Rises}
 use Rattle.ob_base.specs.declared.refusal.Stop.TheVariants.{Tampered, SourceFault, SinkFault, NoMemory, InputLimit}
+use Rattle.ob_vault.specs.State.{RevState}
 use Rattle.ob_print.specs.Cuts.{Cut}
 use Rattle.ob_store.specs.State.{StoreState}
 use Rattle.ob_shell.specs.Usage.{Parses}
@@ -17,7 +18,7 @@ use Rattle.ob_shell.specs.declared.top.Ending.{Ending}
 use Rattle.ob_shell.specs.declared.top.Ending.TheVariants.{Usage, BadKey, Ran}
 use Rattle.ob_shell.proofs.TextLemmas.{rest_of-append, rest_of-over, rest_of-nil}
 use Rattle.ob_shell.proofs.KeyLemmas.{after_line-none, first_line-long, secret_of-long}
-use Rattle.ob_shell.proofs.TopLemmas.{first_line-more, after_line-more, shown_line, line_grew, quiet_line, sink_later, rises_before, rose_with, status_cause}
+use Rattle.ob_shell.proofs.TopLemmas.{first_line-more, after_line-more, shown_line, line_grew, quiet_line, line_rose, rose_with, status_cause}
 
 no_secret : (xs : List ℕ) → HasSecret xs → secret_of (first_line xs) ≡ None → ⊥
 no_secret xs h e = let k = rw e at h in cc
@@ -68,8 +69,8 @@ limits_kept (Ran (Err InputLimit)) max taken rest ended more part t words k says
       | inr full ↦ let few = k.short in absurd (omega (arith, few, full, length-append taken rest))
     ]
 
-pub completes : {max : ℕ} {l0 l1 w0 w1 : Option (List ℕ)} {s0 s1 : StoreState} {high : ℕ} {ending : Ending} {line : List ℕ} {F Takes : Type 0} (old new : Faults) (input : List ℕ)
-    → Shown max l0 l1 w0 w1 s0 s1 high ending line F → EndingWords ending Takes → StatusCause ending old new
+pub completes : {R : Type 0} {state : R → RevState} {max : ℕ} {l0 l1 w0 w1 : Option (List ℕ)} {s0 s1 : StoreState} {high : ℕ} {ending : Ending} {line : List ℕ} {F Takes : Type 0} (old new : Faults) (input : List ℕ)
+    → Shown state max l0 l1 w0 w1 s0 s1 high ending line F → EndingWords ending Takes → StatusCause ending old new
     → Takes → l0 ≡ Some input → KeepsLimits max input → ¬ Rises old.source new.source → ¬ SinksRose old new → IsCompleted ending
 completes {max = max} {l1 = l1} {ending = ending} old new input shown words cause t e k a c =
     go l1 shown.says (subst (λ (l : Option (List ℕ)). Consumes l l1 shown.taken) e shown.given)
@@ -80,13 +81,13 @@ completes {max = max} {l1 = l1} {ending = ending} old new input shown words caus
         limits_kept ending max shown.taken rest shown.ended shown.more shown.part t words (subst (KeepsLimits max) given k) says old new cause a c
 
 -- the last line was written, or cut by a sink's fault
-pub reported_line : {words : List Text} {max : ℕ} {report : Report} (ending : Ending) (old mid new : Faults)
+pub reported_line : {R : Type 0} {state : R → RevState} {words : List Text} {max : ℕ} {report : Report} (ending : Ending) (old mid new : Faults)
     {l0 l1 w0 w1 w2 : Option (List ℕ)} {s0 s1 : StoreState} {E : Type 0} (line : List ℕ)
     → report.status ≡ status_of ending → EndingWords ending (Parses words)
-    → Shown max l0 l1 w0 w1 s0 s1 report.high ending [] (SinkStopped ending) → EndingCause ending old mid
+    → Shown state max l0 l1 w0 w1 s0 s1 report.high ending [] (SinkStopped ending) → EndingCause ending old mid
     → line ≡ last_line ending → Cut w1 w2 E line → (E → Rises mid.out new.out) → (line ≡ [] → Appends w1 w2 line) → (line ≡ [] → new.out ≡ mid.out)
     → mid.out ≤ new.out → new.trace ≡ mid.trace → new.source ≡ mid.source
-    → Reported words max l0 l1 w0 w2 s0 s1 old new report
+    → Reported state words max l0 l1 w0 w2 s0 s1 old new report
 reported_line ending old mid new line status takes shown cause is_line cut rose all none later trace source =
     let causes : StatusCause ending old new = status_cause ending old mid new cause later trace source (λ e. none (is_line ∙ e)) in
     record {
@@ -96,7 +97,7 @@ reported_line ending old mid new line status takes shown cause is_line cut rose 
       shown =
           rw (← is_line)
           (shown_line shown
-          (line_grew _ _ (λ e. inl (rises_before _ _ _ (sink_later ending old mid cause) (rose e))) ending old mid
+          (line_grew _ _ (λ e. line_rose ending old mid new cause (rose e) later trace) ending old mid
           (λ r. rose_with old mid new r later trace)
           cause shown.grew is_line cut all));
       cause = causes;
@@ -104,11 +105,11 @@ reported_line ending old mid new line status takes shown cause is_line cut rose 
     }
 
 -- no line may be written any more
-pub reported_quiet : {words : List Text} {max : ℕ} {report : Report} (ending : Ending) (old new : Faults)
+pub reported_quiet : {R : Type 0} {state : R → RevState} {words : List Text} {max : ℕ} {report : Report} (ending : Ending) (old new : Faults)
     {l0 l1 w0 w1 : Option (List ℕ)} {s0 s1 : StoreState}
     → report.status ≡ status_of ending → EndingWords ending (Parses words)
-    → Shown max l0 l1 w0 w1 s0 s1 report.high ending [] (SinkStopped ending) → EndingCause ending old new → SinksRose old new
-    → Reported words max l0 l1 w0 w1 s0 s1 old new report
+    → Shown state max l0 l1 w0 w1 s0 s1 report.high ending [] (SinkStopped ending) → EndingCause ending old new → SinksRose old new
+    → Reported state words max l0 l1 w0 w1 s0 s1 old new report
 reported_quiet ending old new status takes shown cause rose =
     let causes : StatusCause ending old new = status_cause ending old new new cause (omega arith) refl refl (λ e. refl) in
     record {

@@ -2,6 +2,7 @@ pub mod CompleteLemmas
 pub mod FeedLemmas
 pub mod KeyLemmas
 pub mod RunLemmas
+pub mod ServeLemmas
 pub mod StepLemmas
 pub mod TextLemmas
 pub mod TopLemmas

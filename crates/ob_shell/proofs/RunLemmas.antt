@@ -6,12 +6,13 @@ use Rattle.std.proofs.KnownBytes.{Appends-nil, Appends-trans}
 use Rattle.ob_base.specs.declared.access.Access.{Access}
 use Rattle.ob_base.specs.declared.refusal.Stop.{Stop}
 use Rattle.ob_base.specs.declared.refusal.Stop.TheVariants.{Tampered, SourceFault, SinkFault, NoMemory, InputLimit}
+use Rattle.ob_vault.specs.State.{RevState}
 use Rattle.ob_print.specs.Cuts.{Cut}
 use Rattle.ob_print.proofs.CutLemmas.{Cut-after, Cut-whole}
 use Rattle.ob_shell.specs.Texts.{text_max, is_over, rest_after, texts_at, texts_of, tail_text}
 use Rattle.ob_shell.specs.Feeding.{Fetch, Fed}
 use Rattle.ob_shell.specs.Steps.{Machine, Steps, AnswersAll, StopsIn, IsSinkFault, printed, any_refused}
-use Rattle.ob_shell.specs.Running.{SoFar, Ran, EndsBy, SinkFailed, stop_of, IsQuiet}
+use Rattle.ob_shell.specs.Running.{SoFar, SessionRan, EndsBy, SinkFailed, stop_of, IsQuiet}
 use Rattle.ob_shell.specs.Tracing.{TracedAll, Traced}
 use Rattle.ob_shell.specs.declared.session.Halted.{Halted}
 use Rattle.ob_shell.proofs.FeedLemmas.{Fed-none, Fed-then}
@@ -19,20 +20,20 @@ use Rattle.ob_shell.proofs.TextLemmas.{rest_of-append, texts_of-append, rest_of-
 use Rattle.ob_shell.proofs.StepLemmas.{Steps-none, Steps-append, printed-append, printed-nil, any_refused-append, any_refused-nil, PartlyAt-none, PartlyAt-more}
 use Rattle.ob_shell.proofs.TraceLemmas.{traced_then, traced_cut, traced_whole}
 
-pub so_far_start : (f : Fetch) (l w : Option (List ℕ)) (p : List ℕ) (m : Machine) → p ≡ [] → SoFar f f l l w w p false m m
-so_far_start f l w p m e = record {
+pub so_far_start : {R : Type 0} {state : R → RevState} (f : Fetch) (l w : Option (List ℕ)) (p : List ℕ) (m : Machine R) → p ≡ [] → SoFar state f f l l w w p false m m
+so_far_start {state = state} f l w p m e = record {
   passed = [];
   answers = [];
   fed = Fed-none f l;
   pending_is = e ∙ sym (rest_of-nil []);
-  steps = rw texts_of-nil (Steps-none m);
+  steps = rw texts_of-nil (Steps-none state m);
   appends = rw printed-nil (Appends-nil w);
   flag = sym any_refused-nil;
 }
 
 -- the source ended, or failed, with no further byte
-pub so_far_end : {f0 f1 f2 : Fetch} {l0 l1 l2 w0 w1 : Option (List ℕ)} {pending : List ℕ} {r : Bool} {m0 m1 : Machine}
-    → SoFar f0 f1 l0 l1 w0 w1 pending r m0 m1 → Fed f1 f2 l1 l2 [] → SoFar f0 f2 l0 l2 w0 w1 pending r m0 m1
+pub so_far_end : {R : Type 0} {state : R → RevState} {f0 f1 f2 : Fetch} {l0 l1 l2 w0 w1 : Option (List ℕ)} {pending : List ℕ} {r : Bool} {m0 m1 : Machine R}
+    → SoFar state f0 f1 l0 l1 w0 w1 pending r m0 m1 → Fed f1 f2 l1 l2 [] → SoFar state f0 f2 l0 l2 w0 w1 pending r m0 m1
 so_far_end {f0 = f0} {f2 = f2} {l0 = l0} {l2 = l2} so fed = record {
   passed = so.passed;
   answers = so.answers;
@@ -44,10 +45,10 @@ so_far_end {f0 = f0} {f2 = f2} {l0 = l0} {l2 = l2} so fed = record {
 }
 
 -- one more byte, and the text that it ended
-pub so_far_turn : {f0 f1 f2 : Fetch} {l0 l1 l2 w0 w1 w2 : Option (List ℕ)} {p p' : List ℕ} {r r' : Bool} {b : ℕ} {texts : List (List ℕ)} {m0 m1 m2 : Machine}
-    → SoFar f0 f1 l0 l1 w0 w1 p r m0 m1 → Fed f1 f2 l1 l2 (b ∷ []) → p' ≡ rest_after p b → texts ≡ texts_at p b
-    → AnswersAll w1 w2 texts r r' m1 m2 → SoFar f0 f2 l0 l2 w0 w2 p' r' m0 m2
-so_far_turn {w0 = w0} {w2 = w2} {p = p} {b = b} {texts = texts} {m0 = m0} {m2 = m2} so fed rest these now =
+pub so_far_turn : {R : Type 0} {state : R → RevState} {f0 f1 f2 : Fetch} {l0 l1 l2 w0 w1 w2 : Option (List ℕ)} {p p' : List ℕ} {r r' : Bool} {b : ℕ} {texts : List (List ℕ)} {m0 m1 m2 : Machine R}
+    → SoFar state f0 f1 l0 l1 w0 w1 p r m0 m1 → Fed f1 f2 l1 l2 (b ∷ []) → p' ≡ rest_after p b → texts ≡ texts_at p b
+    → AnswersAll state w1 w2 texts r r' m1 m2 → SoFar state f0 f2 l0 l2 w0 w2 p' r' m0 m2
+so_far_turn {state = state} {w0 = w0} {w2 = w2} {p = p} {b = b} {texts = texts} {m0 = m0} {m2 = m2} so fed rest these now =
     let all : texts_of [] (so.passed ++ (b ∷ [])) ≡ texts_of [] so.passed ++ texts =
     texts_of-append [] so.passed (b ∷ []) ∙ ap (λ (l : List (List ℕ)). texts_of [] so.passed ++ l)
     (rw (← so.pending_is, texts_of-cons, texts_of-nil, append-nil) (sym these)) in
@@ -56,7 +57,7 @@ so_far_turn {w0 = w0} {w2 = w2} {p = p} {b = b} {texts = texts} {m0 = m0} {m2 = 
       answers = so.answers ++ now.answers;
       fed = Fed-then so.fed fed;
       pending_is = rest ∙ rw (rest_of-append, ← so.pending_is, rest_of-cons, rest_of-nil);
-      steps = rw all (Steps-append m0 _ m2 _ _ _ _ so.steps now.steps);
+      steps = rw all (Steps-append state m0 _ m2 _ _ _ _ so.steps now.steps);
       appends = rw printed-append (Appends-trans _ _ _ _ _ so.appends now.appends);
       flag = now.flag ∙ ap (λ (x : Bool). x || any_refused now.answers) so.flag ∙ sym (any_refused-append so.answers now.answers);
     }
@@ -68,12 +69,12 @@ pub at_limit_is_over : (new rest : List ℕ) → new ≡ rest → length new ≡
 at_limit_is_over new rest e h = rw (← e) (grind arith)
 
 -- it stopped at the source's fault or at a limit, with every text served that had come whole
-pub ran_halt : {f0 f2 : Fetch} {l0 l2 w0 w2 : Option (List ℕ)} {p : List ℕ} {r : Bool} {m0 m1 : Machine} (stop : Stop)
-    → (so : SoFar f0 f2 l0 l2 w0 w2 p r m0 m1)
+pub ran_halt : {R : Type 0} {state : R → RevState} {f0 f2 : Fetch} {l0 l2 w0 w2 : Option (List ℕ)} {p : List ℕ} {r : Bool} {m0 m1 : Machine R} (stop : Stop)
+    → (so : SoFar state f0 f2 l0 l2 w0 w2 p r m0 m1)
     → texts_of p f2.unread ≡ []
     → EndsBy f2 false (so.passed ++ f2.unread) [] [] (Err stop)
-    → Ran f0 f2 l0 l2 w0 w2 m0 m1 (Err stop)
-ran_halt {f0 = f0} {f2 = f2} {w0 = w0} {w2 = w2} {m1 = m1} stop so none ends = record {
+    → SessionRan state f0 f2 l0 l2 w0 w2 m0 m1 (Err stop)
+ran_halt {state = state} {f0 = f0} {f2 = f2} {w0 = w0} {w2 = w2} {m1 = m1} stop so none ends = record {
   piece = so.fed.piece;
   consumed = so.fed.consumed;
   taken = so.fed.taken;
@@ -88,7 +89,7 @@ ran_halt {f0 = f0} {f2 = f2} {w0 = w0} {w2 = w2} {m1 = m1} stop so none ends = r
   answers = so.answers;
   steps = so.steps;
   part = [];
-  last = PartlyAt-none m1 [] stop;
+  last = PartlyAt-none state m1 [] stop;
   cut = subst (λ (l : List ℕ). Cut w0 w2 (IsSinkFault stop) l) (sym (append-nil (printed so.answers))) (Cut-whole w0 w2 (IsSinkFault stop) (printed so.answers) so.appends);
   flag = tt;
   ends = subst (λ (l : List ℕ). EndsBy f2 false l [] [] (Err stop)) (sym so.fed.joined) ends;
@@ -103,11 +104,11 @@ other_stop f ended bytes more part SourceFault x y = absurd (x refl)
 other_stop f ended bytes more part InputLimit x y = absurd (y refl)
 
 -- it stopped while it served the text that a byte had ended
-pub ran_stop : {f0 f1 f2 : Fetch} {l0 l1 l2 w0 w1 w2 : Option (List ℕ)} {p : List ℕ} {r : Bool} {b : ℕ} {m0 m1 m2 : Machine} (stop : Stop)
-    → SoFar f0 f1 l0 l1 w0 w1 p r m0 m1 → Fed f1 f2 l1 l2 (b ∷ [])
-    → StopsIn w1 w2 (texts_at p b) stop m1 m2
+pub ran_stop : {R : Type 0} {state : R → RevState} {f0 f1 f2 : Fetch} {l0 l1 l2 w0 w1 w2 : Option (List ℕ)} {p : List ℕ} {r : Bool} {b : ℕ} {m0 m1 m2 : Machine R} (stop : Stop)
+    → SoFar state f0 f1 l0 l1 w0 w1 p r m0 m1 → Fed f1 f2 l1 l2 (b ∷ [])
+    → StopsIn state w1 w2 (texts_at p b) stop m1 m2
     → (stop ≡ SourceFault → ⊥) → (stop ≡ InputLimit → ⊥)
-    → Ran f0 f2 l0 l2 w0 w2 m0 m2 (Err stop)
+    → SessionRan state f0 f2 l0 l2 w0 w2 m0 m2 (Err stop)
 ran_stop {f0 = f0} {f2 = f2} {p = p} {b = b} {m1 = m1} stop so fed st no_fault no_limit =
     let all = Fed-then so.fed fed in
     record {
@@ -128,18 +129,18 @@ ran_stop {f0 = f0} {f2 = f2} {p = p} {b = b} {m1 = m1} stop so fed st no_fault n
       answers = so.answers;
       steps = so.steps;
       part = st.bytes;
-      last = PartlyAt-more _ _ _ _ _ _ st.partly;
+      last = PartlyAt-more _ _ _ _ _ _ _ st.partly;
       cut = Cut-after _ so.appends st.cut;
       flag = tt;
       ends = other_stop f2 false _ _ _ stop no_fault no_limit;
     }
 
 -- the input ended, and the rest was served, too
-pub ran_done : {f0 f2 : Fetch} {l0 l2 w0 w1 w2 : Option (List ℕ)} {p : List ℕ} {r : Bool} {m0 m1 m2 : Machine} (flag : Bool)
-    → SoFar f0 f2 l0 l2 w0 w1 p r m0 m1 → f2.unread ≡ [] → IsAtEnd l2 → f2.taken < f2.limit → length p < text_max
-    → AnswersAll w1 w2 (tail_text p) r flag m1 m2
-    → Ran f0 f2 l0 l2 w0 w2 m0 m2 (Ok flag)
-ran_done {f0 = f0} {f2 = f2} {w0 = w0} {w2 = w2} {p = p} {m0 = m0} {m2 = m2} flag so none at_end below short now =
+pub ran_done : {R : Type 0} {state : R → RevState} {f0 f2 : Fetch} {l0 l2 w0 w1 w2 : Option (List ℕ)} {p : List ℕ} {r : Bool} {m0 m1 m2 : Machine R} (flag : Bool)
+    → SoFar state f0 f2 l0 l2 w0 w1 p r m0 m1 → f2.unread ≡ [] → IsAtEnd l2 → f2.taken < f2.limit → length p < text_max
+    → AnswersAll state w1 w2 (tail_text p) r flag m1 m2
+    → SessionRan state f0 f2 l0 l2 w0 w2 m0 m2 (Ok flag)
+ran_done {state = state} {f0 = f0} {f2 = f2} {w0 = w0} {w2 = w2} {p = p} {m0 = m0} {m2 = m2} flag so none at_end below short now =
     let bytes : f0.unread ++ so.fed.piece ≡ so.passed = so.fed.joined ∙ rw none (append-nil so.passed) in
     record {
       piece = so.fed.piece;
@@ -153,7 +154,7 @@ ran_done {f0 = f0} {f2 = f2} {w0 = w0} {w2 = w2} {p = p} {m0 = m0} {m2 = m2} fla
       texts = rw (bytes, append-nil, so.pending_is);
       middle = m2;
       answers = so.answers ++ now.answers;
-      steps = Steps-append m0 _ m2 _ _ _ _ so.steps now.steps;
+      steps = Steps-append state m0 _ m2 _ _ _ _ so.steps now.steps;
       part = [];
       last = record { machine = refl; none = refl };
       cut =
@@ -164,11 +165,11 @@ ran_done {f0 = f0} {f2 = f2} {w0 = w0} {w2 = w2} {p = p} {m0 = m0} {m2 = m2} fla
     }
 
 -- the input ended, and it stopped while it served the rest
-pub ran_cut : {f0 f2 : Fetch} {l0 l2 w0 w1 w2 : Option (List ℕ)} {p : List ℕ} {r : Bool} {m0 m1 m2 : Machine} (stop : Stop)
-    → SoFar f0 f2 l0 l2 w0 w1 p r m0 m1 → f2.unread ≡ [] → IsAtEnd l2
-    → StopsIn w1 w2 (tail_text p) stop m1 m2
+pub ran_cut : {R : Type 0} {state : R → RevState} {f0 f2 : Fetch} {l0 l2 w0 w1 w2 : Option (List ℕ)} {p : List ℕ} {r : Bool} {m0 m1 m2 : Machine R} (stop : Stop)
+    → SoFar state f0 f2 l0 l2 w0 w1 p r m0 m1 → f2.unread ≡ [] → IsAtEnd l2
+    → StopsIn state w1 w2 (tail_text p) stop m1 m2
     → (stop ≡ SourceFault → ⊥) → (stop ≡ InputLimit → ⊥)
-    → Ran f0 f2 l0 l2 w0 w2 m0 m2 (Err stop)
+    → SessionRan state f0 f2 l0 l2 w0 w2 m0 m2 (Err stop)
 ran_cut {f0 = f0} {f2 = f2} {p = p} {m1 = m1} stop so none at_end st no_fault no_limit =
     let bytes : f0.unread ++ so.fed.piece ≡ so.passed = so.fed.joined ∙ rw none (append-nil so.passed) in
     record {
@@ -191,12 +192,12 @@ ran_cut {f0 = f0} {f2 = f2} {p = p} {m1 = m1} stop so none at_end st no_fault no
       ends = other_stop f2 true _ _ _ stop no_fault no_limit;
     }
 
-pub ran_finish : {f0 f2 : Fetch} {l0 l2 w0 w1 w2 : Option (List ℕ)} {p : List ℕ} {r : Bool} {m0 m1 m2 : Machine} (result : Result Bool Halted)
-    → SoFar f0 f2 l0 l2 w0 w1 p r m0 m1 → f2.unread ≡ [] → IsAtEnd l2 → f2.taken < f2.limit → length p < text_max
-    → IfOk result (λ flag. AnswersAll w1 w2 (tail_text p) r flag m1 m2)
-    → IfErr result (λ halted. StopsIn w1 w2 (tail_text p) halted.stop m1 m2)
+pub ran_finish : {R : Type 0} {state : R → RevState} {f0 f2 : Fetch} {l0 l2 w0 w1 w2 : Option (List ℕ)} {p : List ℕ} {r : Bool} {m0 m1 m2 : Machine R} (result : Result Bool Halted)
+    → SoFar state f0 f2 l0 l2 w0 w1 p r m0 m1 → f2.unread ≡ [] → IsAtEnd l2 → f2.taken < f2.limit → length p < text_max
+    → IfOk result (λ flag. AnswersAll state w1 w2 (tail_text p) r flag m1 m2)
+    → IfErr result (λ halted. StopsIn state w1 w2 (tail_text p) halted.stop m1 m2)
     → (stop_of result ≡ Err SourceFault → ⊥) → (stop_of result ≡ Err InputLimit → ⊥)
-    → Ran f0 f2 l0 l2 w0 w2 m0 m2 (stop_of result)
+    → SessionRan state f0 f2 l0 l2 w0 w2 m0 m2 (stop_of result)
 ran_finish (Ok flag) so none at_end below short answered stopped no_fault no_limit =
     ran_done flag so none at_end below short answered
 ran_finish (Err halted) so none at_end below short answered stopped no_fault no_limit =
@@ -204,12 +205,12 @@ ran_finish (Err halted) so none at_end below short answered stopped no_fault no_
     (λ h. no_fault (rw h)) (λ h. no_limit (rw h))
 
 -- a byte brought a stop
-pub ran_turn : {f0 f1 f2 : Fetch} {l0 l1 l2 w0 w1 w2 : Option (List ℕ)} {p : List ℕ} {r : Bool} {b : ℕ} {m0 m1 m2 : Machine} (stop : Stop)
-    → SoFar f0 f1 l0 l1 w0 w1 p r m0 m1 → Fed f1 f2 l1 l2 (b ∷ [])
-    → StopsIn w1 w2 (texts_at p b) stop m1 m2
+pub ran_turn : {R : Type 0} {state : R → RevState} {f0 f1 f2 : Fetch} {l0 l1 l2 w0 w1 w2 : Option (List ℕ)} {p : List ℕ} {r : Bool} {b : ℕ} {m0 m1 m2 : Machine R} (stop : Stop)
+    → SoFar state f0 f1 l0 l1 w0 w1 p r m0 m1 → Fed f1 f2 l1 l2 (b ∷ [])
+    → StopsIn state w1 w2 (texts_at p b) stop m1 m2
     → (◌≡◌ {A = Result (Unit {0}) Stop} (Err stop) (Err SourceFault) → ⊥)
-    → (◌≡◌ {A = Result (Unit {0}) Stop} (Err stop) (Err InputLimit) → (texts_at p b ≡ []) × (is_over (rest_after p b) ≡ true) × AnswersAll w1 w2 [] r r m1 m2)
-    → Ran f0 f2 l0 l2 w0 w2 m0 m2 (Err stop)
+    → (◌≡◌ {A = Result (Unit {0}) Stop} (Err stop) (Err InputLimit) → (texts_at p b ≡ []) × (is_over (rest_after p b) ≡ true) × AnswersAll state w1 w2 [] r r m1 m2)
+    → SessionRan state f0 f2 l0 l2 w0 w2 m0 m2 (Err stop)
 ran_turn (Tampered region place) so fed st no_fault limit = ran_stop (Tampered region place) so fed st (λ h. cc) (λ h. cc)
 ran_turn SinkFault so fed st no_fault limit = ran_stop SinkFault so fed st (λ h. cc) (λ h. cc)
 ran_turn NoMemory so fed st no_fault limit = ran_stop NoMemory so fed st (λ h. cc) (λ h. cc)
@@ -220,15 +221,15 @@ ran_turn {f2 = f2} {p = p} {b = b} InputLimit so fed st no_fault limit =
     ran_halt InputLimit now (texts_of-over _ _ h.1)
     (refl, refl, refl, inl (rw (rest_of-append, ← now.pending_is, rest_of-over (rest_after p b) f2.unread h.1) h.1))
 
-pub ran_source_fault : {f0 f2 : Fetch} {l0 l2 w0 w2 : Option (List ℕ)} {p : List ℕ} {r : Bool} {m0 m1 : Machine}
-    → SoFar f0 f2 l0 l2 w0 w2 p r m0 m1 → f2.unread ≡ [] → length p < text_max
-    → Ran f0 f2 l0 l2 w0 w2 m0 m1 (Err SourceFault)
+pub ran_source_fault : {R : Type 0} {state : R → RevState} {f0 f2 : Fetch} {l0 l2 w0 w2 : Option (List ℕ)} {p : List ℕ} {r : Bool} {m0 m1 : Machine R}
+    → SoFar state f0 f2 l0 l2 w0 w2 p r m0 m1 → f2.unread ≡ [] → length p < text_max
+    → SessionRan state f0 f2 l0 l2 w0 w2 m0 m1 (Err SourceFault)
 ran_source_fault {p = p} so none short =
     ran_halt SourceFault so (rw none (texts_of-nil p)) (refl, refl, refl, rw (none, append-nil, ← so.pending_is) (below_is_not_over p short))
 
-pub ran_input_limit : {f0 f2 : Fetch} {l0 l2 w0 w2 : Option (List ℕ)} {p : List ℕ} {r : Bool} {m0 m1 : Machine}
-    → SoFar f0 f2 l0 l2 w0 w2 p r m0 m1 → f2.unread ≡ [] → f2.taken ≡ f2.limit
-    → Ran f0 f2 l0 l2 w0 w2 m0 m1 (Err InputLimit)
+pub ran_input_limit : {R : Type 0} {state : R → RevState} {f0 f2 : Fetch} {l0 l2 w0 w2 : Option (List ℕ)} {p : List ℕ} {r : Bool} {m0 m1 : Machine R}
+    → SoFar state f0 f2 l0 l2 w0 w2 p r m0 m1 → f2.unread ≡ [] → f2.taken ≡ f2.limit
+    → SessionRan state f0 f2 l0 l2 w0 w2 m0 m1 (Err InputLimit)
 ran_input_limit {p = p} so none full = ran_halt InputLimit so (rw none (texts_of-nil p)) (refl, refl, refl, inr full)
 
 -- the trace of all that was asked, and then of what was asked until the end

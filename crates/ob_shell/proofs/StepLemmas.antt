@@ -4,6 +4,7 @@ use Rattle.std.specs.Io.KnownBytes.{Appends}
 use Rattle.std.proofs.KnownBytes.{Appends-nil}
 use Rattle.ob_base.specs.declared.refusal.Stop.{Stop}
 use Rattle.ob_base.specs.declared.refusal.Stop.TheVariants.{SinkFault}
+use Rattle.ob_vault.specs.State.{RevState}
 use Rattle.ob_print.proofs.CutLemmas.{Cut-whole}
 use Rattle.ob_shell.specs.Closing.{is_refused}
 use Rattle.ob_shell.specs.Steps.{Machine, Answer, Step, Steps, printed, any_refused, Rests, Finished, PartlyAt, AnswersAll, StopsIn, IsSinkFault}
@@ -36,28 +37,28 @@ pub any_refused-nil : any_refused [] ≡ false
 unfolding any_refused
 any_refused-nil = refl
 
-pub Steps-none : (m : Machine) → Steps m m [] []
+pub Steps-none : {R : Type 0} (state : R → RevState) (m : Machine R) → Steps state m m [] []
 unfolding Steps
-Steps-none m = (refl, refl)
+Steps-none state m = (refl, refl)
 
-pub Steps-append : (m0 m1 m2 : Machine) (ts us : List (List ℕ)) (xs ys : List Answer)
-    → Steps m0 m1 ts xs → Steps m1 m2 us ys → Steps m0 m2 (ts ++ us) (xs ++ ys)
+pub Steps-append : {R : Type 0} (state : R → RevState) (m0 m1 m2 : Machine R) (ts us : List (List ℕ)) (xs ys : List Answer)
+    → Steps state m0 m1 ts xs → Steps state m1 m2 us ys → Steps state m0 m2 (ts ++ us) (xs ++ ys)
 unfolding Steps
-Steps-append m0 m1 m2 [] us xs ys p q =
-    subst (λ (l : List Answer). Steps m0 m2 us (l ++ ys)) (sym p.1) (subst (λ (m : Machine). Steps m m2 us ys) p.0 q)
-Steps-append m0 m1 m2 (t ∷ ts) us xs ys p q = (
-  p.0, p.1, p.2 ++ ys, ap (λ (l : List Answer). l ++ ys) p.3, p.4, Steps-append p.0 m1 m2 ts us p.2 ys p.5 q,
+Steps-append {R = R} state m0 m1 m2 [] us xs ys p q =
+    subst (λ (l : List Answer). Steps state m0 m2 us (l ++ ys)) (sym p.1) (subst (λ (m : Machine R). Steps state m m2 us ys) p.0 q)
+Steps-append state m0 m1 m2 (t ∷ ts) us xs ys p q = (
+  p.0, p.1, p.2 ++ ys, ap (λ (l : List Answer). l ++ ys) p.3, p.4, Steps-append state p.0 m1 m2 ts us p.2 ys p.5 q,
 )
 
-pub answers_none : (w : Option (List ℕ)) (r : Bool) (m : Machine) → AnswersAll w w [] r r m m
-answers_none w r m = record {
+pub answers_none : {R : Type 0} {state : R → RevState} (w : Option (List ℕ)) (r : Bool) (m : Machine R) → AnswersAll state w w [] r r m m
+answers_none {state = state} w r m = record {
   answers = [];
-  steps = Steps-none m;
+  steps = Steps-none state m;
   appends = rw printed-nil (Appends-nil w);
   flag = rw any_refused-nil (sym (or_false r));
 }
 
-one_step : (m0 m1 : Machine) (text : List ℕ) (answer : Answer) → Step m0 m1 text answer → Steps m0 m1 (text ∷ []) (answer ∷ [])
+one_step : {R : Type 0} {state : R → RevState} (m0 m1 : Machine R) (text : List ℕ) (answer : Answer) → Step state m0 m1 text answer → Steps state m0 m1 (text ∷ []) (answer ∷ [])
 unfolding Steps
 one_step m0 m1 text answer step = (m1, answer, [], refl, step, (refl, refl))
 
@@ -69,9 +70,9 @@ refused_one : (answer : Answer) → any_refused (answer ∷ []) ≡ is_refused a
 unfolding any_refused
 refused_one answer = or_false (is_refused answer.outcome)
 
-pub answers_one : {w0 w1 : Option (List ℕ)} {m0 m1 : Machine} (text : List ℕ) (r : Bool) (answer : Answer)
-    → Step m0 m1 text answer → Appends w0 w1 answer.bytes
-    → AnswersAll w0 w1 (text ∷ []) r (r || is_refused answer.outcome) m0 m1
+pub answers_one : {R : Type 0} {state : R → RevState} {w0 w1 : Option (List ℕ)} {m0 m1 : Machine R} (text : List ℕ) (r : Bool) (answer : Answer)
+    → Step state m0 m1 text answer → Appends w0 w1 answer.bytes
+    → AnswersAll state w0 w1 (text ∷ []) r (r || is_refused answer.outcome) m0 m1
 answers_one text r answer step bytes = record {
   answers = answer ∷ [];
   steps = one_step _ _ text answer step;
@@ -79,42 +80,42 @@ answers_one text r answer step bytes = record {
   flag = ap (λ (b : Bool). r || b) (sym (refused_one answer));
 }
 
-pub PartlyAt-none : (m : Machine) (texts : List (List ℕ)) (stop : Stop) → PartlyAt m m texts stop []
-PartlyAt-none m [] stop = record { machine = refl; none = refl }
-PartlyAt-none m (t ∷ ts) stop = inl (record { machine = refl; none = refl })
+pub PartlyAt-none : {R : Type 0} (state : R → RevState) (m : Machine R) (texts : List (List ℕ)) (stop : Stop) → PartlyAt state m m texts stop []
+PartlyAt-none state m [] stop = record { machine = refl; none = refl }
+PartlyAt-none state m (t ∷ ts) stop = inl (record { machine = refl; none = refl })
 
-pub PartlyAt-rests : (m0 m1 : Machine) (texts : List (List ℕ)) (stop : Stop) (bytes : List ℕ) → Rests m0 m1 bytes → PartlyAt m0 m1 texts stop bytes
-PartlyAt-rests m0 m1 [] stop bytes r = r
-PartlyAt-rests m0 m1 (t ∷ ts) stop bytes r = inl r
+pub PartlyAt-rests : {R : Type 0} (state : R → RevState) (m0 m1 : Machine R) (texts : List (List ℕ)) (stop : Stop) (bytes : List ℕ) → Rests m0 m1 bytes → PartlyAt state m0 m1 texts stop bytes
+PartlyAt-rests state m0 m1 [] stop bytes r = r
+PartlyAt-rests state m0 m1 (t ∷ ts) stop bytes r = inl r
 
-pub PartlyAt-more : (m0 m1 : Machine) (texts more : List (List ℕ)) (stop : Stop) (bytes : List ℕ)
-    → PartlyAt m0 m1 texts stop bytes → PartlyAt m0 m1 (texts ++ more) stop bytes
-PartlyAt-more m0 m1 [] more stop bytes p = PartlyAt-rests m0 m1 more stop bytes p
-PartlyAt-more m0 m1 (t ∷ ts) more stop bytes p = p
+pub PartlyAt-more : {R : Type 0} (state : R → RevState) (m0 m1 : Machine R) (texts more : List (List ℕ)) (stop : Stop) (bytes : List ℕ)
+    → PartlyAt state m0 m1 texts stop bytes → PartlyAt state m0 m1 (texts ++ more) stop bytes
+PartlyAt-more state m0 m1 [] more stop bytes p = PartlyAt-rests state m0 m1 more stop bytes p
+PartlyAt-more state m0 m1 (t ∷ ts) more stop bytes p = p
 
 -- nothing was done of the texts
-pub stops_before : (w : Option (List ℕ)) (m : Machine) (texts : List (List ℕ)) (stop : Stop) → StopsIn w w texts stop m m
-stops_before w m texts stop = record { bytes = []; partly = PartlyAt-none m texts stop; cut = Cut-whole w w _ [] (Appends-nil w) }
+pub stops_before : {R : Type 0} {state : R → RevState} (w : Option (List ℕ)) (m : Machine R) (texts : List (List ℕ)) (stop : Stop) → StopsIn state w w texts stop m m
+stops_before {state = state} w m texts stop = record { bytes = []; partly = PartlyAt-none state m texts stop; cut = Cut-whole w w _ [] (Appends-nil w) }
 
 -- the only answer of a list
-record OneAnswer (m0 m1 : Machine) (text : List ℕ) (answers : List Answer) : Type 0 where
+record OneAnswer {R : Type 0} (state : R → RevState) (m0 m1 : Machine R) (text : List ℕ) (answers : List Answer) : Type 0 where
   answer : Answer
-  step : Step m0 m1 text answer
+  step : Step state m0 m1 text answer
   bytes : printed answers ≡ answer.bytes
 
-only_answer : (m0 m1 : Machine) (text : List ℕ) (answers : List Answer) → Steps m0 m1 (text ∷ []) answers → OneAnswer m0 m1 text answers
+only_answer : {R : Type 0} (state : R → RevState) (m0 m1 : Machine R) (text : List ℕ) (answers : List Answer) → Steps state m0 m1 (text ∷ []) answers → OneAnswer state m0 m1 text answers
 unfolding Steps
-only_answer m0 m1 text answers p = record {
+only_answer {R = R} state m0 m1 text answers p = record {
   answer = p.1;
-  step = subst (λ (m : Machine). Step m0 m text p.1) (sym p.5.0) p.4;
+  step = subst (λ (m : Machine R). Step state m0 m text p.1) (sym p.5.0) p.4;
   bytes = ap printed (p.3 ∙ ap (λ (l : List Answer). p.1 ∷ l) p.5.1) ∙ printed_one p.1;
 }
 
 -- the whole answer was taken, and the stop came after it
-pub stops_after : {w0 w1 : Option (List ℕ)} {text : List ℕ} {r0 r1 : Bool} {m0 m1 : Machine} (stop : Stop) → IsSinkFault stop
-    → AnswersAll w0 w1 (text ∷ []) r0 r1 m0 m1 → StopsIn w0 w1 (text ∷ []) stop m0 m1
-stops_after {text = text} {m0 = m0} {m1 = m1} stop fault all =
-    let one = only_answer m0 m1 text all.answers all.steps in
+pub stops_after : {R : Type 0} {state : R → RevState} {w0 w1 : Option (List ℕ)} {text : List ℕ} {r0 r1 : Bool} {m0 m1 : Machine R} (stop : Stop) → IsSinkFault stop
+    → AnswersAll state w0 w1 (text ∷ []) r0 r1 m0 m1 → StopsIn state w0 w1 (text ∷ []) stop m0 m1
+stops_after {state = state} {text = text} {m0 = m0} {m1 = m1} stop fault all =
+    let one = only_answer state m0 m1 text all.answers all.steps in
     record {
       bytes = printed all.answers;
       partly = inr (inr (record { answer = one.answer; step = one.step; whole = one.bytes; fault = fault }));

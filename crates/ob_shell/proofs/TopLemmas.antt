@@ -6,6 +6,9 @@ use Rattle.std.proofs.KnownBytes.{Appends-nil, Appends-trans, Consumes-trans, Co
 use Rattle.ob_base.specs.Counts.{Rises}
 use Rattle.ob_base.specs.declared.refusal.Stop.{Stop}
 use Rattle.ob_base.specs.declared.refusal.Stop.TheVariants.{Tampered, SourceFault, SinkFault, NoMemory, InputLimit}
+use Rattle.ob_exec.specs.Agreeing.{high_of}
+use Rattle.ob_exec.specs.declared.engine.Engine.{Engine}
+use Rattle.ob_vault.specs.State.{RevState}
 use Rattle.ob_print.specs.Cuts.{Cut}
 use Rattle.ob_print.proofs.CutLemmas.{Cut-whole, Cut-after, Cut-fault, Cut-more}
 use Rattle.ob_store.specs.State.{StoreState}
@@ -13,10 +16,9 @@ use Rattle.ob_shell.specs.Texts.{is_over, rest_of, texts_of, texts_in}
 use Rattle.ob_shell.specs.Feeding.{Fetch, Fed}
 use Rattle.ob_shell.specs.KeyLine.{line_max, has_lf, first_line, after_line, secret_of, KeyRead, LineTaken}
 use Rattle.ob_shell.specs.Steps.{Machine, machine_of, Answer, Steps, printed, any_refused, Rests, PartlyAt}
-use Rattle.ob_shell.specs.Running.{Faults, Ran, EndsBy, FlagIs, LastPart, SinkFailed, SinksRose, StopCause}
+use Rattle.ob_shell.specs.Running.{Faults, SessionRan, EndsBy, FlagIs, LastPart, SinkFailed, SinksRose, StopCause}
 use Rattle.ob_shell.specs.Endings.{last_line, SinkStopped}
 use Rattle.ob_shell.specs.Top.{HasSecret, RanSays, EndingSays, EndingWords, EndingPart, Carried, Unstarted, Started, Shown, RanAfter, EndingCause, EndingFlag, StatusCause}
-use Rattle.ob_shell.specs.declared.stub.Engine.{Engine}
 use Rattle.ob_shell.specs.declared.feed.Halt.{Halt}
 use Rattle.ob_shell.specs.declared.key.FirstLine.TheVariants.{Secret, Last, Bad}
 use Rattle.ob_shell.specs.declared.top.Ending.{Ending}
@@ -54,7 +56,7 @@ after_line-more (x ∷ xs) ys h = after_line-step x xs ys (x == 10) refl h (afte
 nothing_over : is_over (rest_of [] []) ≡ false
 nothing_over = rw rest_of-nil
 
-unstarted : (secret : Option (List ℕ)) (s : StoreState) (more : List (List ℕ)) (ending : Ending) → Carried secret s s 0 [] more [] [] ending
+unstarted : {R : Type 0} {state : R → RevState} (secret : Option (List ℕ)) (s : StoreState) (more : List (List ℕ)) (ending : Ending) → Carried state secret s s 0 [] more [] [] ending
 unstarted secret s more ending = inl (record { store = refl; closed = refl; unserved = refl; unanswered = refl; none = refl })
 
 no_bytes : (w : Option (List ℕ)) → Cut w w ⊥ ((printed [] ++ []) ++ [])
@@ -64,12 +66,12 @@ no_bytes w = rw printed-nil (Cut-whole w w ⊥ [] (Appends-nil w))
 piece_is : {f0 f1 : Fetch} {l0 l1 : Option (List ℕ)} {xs : List ℕ} (fed : Fed f0 f1 l0 l1 xs) → f0.unread ≡ [] → fed.piece ≡ xs ++ f1.unread
 piece_is {f1 = f1} {xs = xs} fed none = subst (λ (u : List ℕ). u ++ fed.piece ≡ xs ++ f1.unread) none fed.joined
 
-module _ (max : ℕ) (f0 f1 : Fetch) (none : f0.unread ≡ []) (start : f0.taken ≡ 0) (top : f0.limit ≡ max) (below : f1.taken ≤ f1.limit) where
+module _ {R : Type 0} (state : R → RevState) (max : ℕ) (f0 f1 : Fetch) (none : f0.unread ≡ []) (start : f0.taken ≡ 0) (top : f0.limit ≡ max) (below : f1.taken ≤ f1.limit) where
   piece_within : {l0 l1 : Option (List ℕ)} {xs : List ℕ} (fed : Fed f0 f1 l0 l1 xs) → length fed.piece ≤ max
   piece_within fed = omega (arith, fed.taken, fed.limit)
 
   pub shown_source_fault : {l0 l1 : Option (List ℕ)} (w : Option (List ℕ)) (s : StoreState)
-      → KeyRead f0 f1 l0 l1 (Err Halt.SourceFault) → Shown max l0 l1 w w s s 0 (RanEnding (Err SourceFault)) [] ⊥
+      → KeyRead f0 f1 l0 l1 (Err Halt.SourceFault) → Shown state max l0 l1 w w s s 0 (RanEnding (Err SourceFault)) [] ⊥
   shown_source_fault w s read =
       let e = piece_is read.fed none in
       let ends = rw (← e) at read.ends in
@@ -92,7 +94,7 @@ module _ (max : ℕ) (f0 f1 : Fetch) (none : f0.unread ≡ []) (start : f0.taken
       }
 
   pub shown_bad_key : {l0 l1 : Option (List ℕ)} (w : Option (List ℕ)) (s : StoreState)
-      → KeyRead f0 f1 l0 l1 (Ok Bad) → Shown max l0 l1 w w s s 0 BadKey [] ⊥
+      → KeyRead f0 f1 l0 l1 (Ok Bad) → Shown state max l0 l1 w w s s 0 BadKey [] ⊥
   shown_bad_key w s read =
       let e = piece_is read.fed none in
       let ends = rw (← e) at read.ends in
@@ -114,7 +116,7 @@ module _ (max : ℕ) (f0 f1 : Fetch) (none : f0.unread ≡ []) (start : f0.taken
       }
 
   pub shown_last : {l0 l1 : Option (List ℕ)} (key : List ℕ) (w : Option (List ℕ)) (s : StoreState)
-      → KeyRead f0 f1 l0 l1 (Ok (Last key)) → Shown max l0 l1 w w s s 0 (RanEnding (Ok false)) [] ⊥
+      → KeyRead f0 f1 l0 l1 (Ok (Last key)) → Shown state max l0 l1 w w s s 0 (RanEnding (Ok false)) [] ⊥
   shown_last key w s read =
       let e = piece_is read.fed none in
       let ends = rw (← e) at read.ends in
@@ -144,7 +146,7 @@ module _ (max : ℕ) (f0 f1 : Fetch) (none : f0.unread ≡ []) (start : f0.taken
 -- ---- the session after the first line
 
 -- memory was wanting for the engine
-pub ran_nothing : (secret : Option (List ℕ)) (f : Fetch) (l w : Option (List ℕ)) (s : StoreState) → RanAfter secret f f l l w w s s 0 (Err NoMemory)
+pub ran_nothing : {R : Type 0} {state : R → RevState} (secret : Option (List ℕ)) (f : Fetch) (l w : Option (List ℕ)) (s : StoreState) → RanAfter state secret f f l l w w s s 0 (Err NoMemory)
 ran_nothing secret f l w s = record {
   piece = [];
   consumed = Consumes-nil l;
@@ -163,9 +165,9 @@ ran_nothing secret f l w s = record {
   ends = tt;
 }
 
-pub ran_after : {f0 f1 : Fetch} {l0 l1 w0 w1 : Option (List ℕ)} {s0 s1 : StoreState} (key : List ℕ) (first last : Engine) (high : ℕ) (result : Result Bool Stop)
-    → Ran f0 f1 l0 l1 w0 w1 (machine_of first s0) (machine_of last s1) result → high ≡ last.rows_high
-    → RanAfter (Some key) f0 f1 l0 l1 w0 w1 s0 s1 high result
+pub ran_after : {R : Type 0} {state : R → RevState} {f0 f1 : Fetch} {l0 l1 w0 w1 : Option (List ℕ)} {s0 s1 : StoreState} (key : List ℕ) (first last : Engine R) (high : ℕ) (result : Result Bool Stop)
+    → SessionRan state f0 f1 l0 l1 w0 w1 (machine_of first s0) (machine_of last s1) result → high ≡ high_of last
+    → RanAfter state (Some key) f0 f1 l0 l1 w0 w1 s0 s1 high result
 ran_after key first last high result ran e = record {
   piece = ran.piece;
   consumed = ran.consumed;
@@ -210,10 +212,10 @@ says_of (Err InputLimit) f max taken ended more part h n top e = record {
   limit = elim e.3 [ inl over ↦ inl over | inr full ↦ inr (n ∙ full ∙ top) ];
 }
 
-pub shown_ran : (max : ℕ) {f0 f1 f2 : Fetch} {l0 l1 l2 w0 w2 : Option (List ℕ)} {s0 s2 : StoreState} {high : ℕ} (key : List ℕ) (result : Result Bool Stop)
+pub shown_ran : {R : Type 0} {state : R → RevState} (max : ℕ) {f0 f1 f2 : Fetch} {l0 l1 l2 w0 w2 : Option (List ℕ)} {s0 s2 : StoreState} {high : ℕ} (key : List ℕ) (result : Result Bool Stop)
     → f0.unread ≡ [] → f0.taken ≡ 0 → f0.limit ≡ max → f2.taken ≤ f2.limit
-    → KeyRead f0 f1 l0 l1 (Ok (Secret key)) → RanAfter (Some key) f1 f2 l1 l2 w0 w2 s0 s2 high result
-    → Shown max l0 l2 w0 w2 s0 s2 high (RanEnding result) [] (SinkFailed result)
+    → KeyRead f0 f1 l0 l1 (Ok (Secret key)) → RanAfter state (Some key) f1 f2 l1 l2 w0 w2 s0 s2 high result
+    → Shown state max l0 l2 w0 w2 s0 s2 high (RanEnding result) [] (SinkFailed result)
 shown_ran max {f1 = f1} {f2 = f2} {l2 = l2} {w0 = w0} {w2 = w2} {s0 = s0} {s2 = s2} {high = high} key result none start top below read ran =
     let e = piece_is read.fed none in
     let ends = rw (← e) at read.ends in
@@ -247,8 +249,8 @@ shown_ran max {f1 = f1} {f2 = f2} {l2 = l2} {w0 = w0} {w2 = w2} {s0 = s0} {s2 = 
 -- ---- before the input is read
 
 -- nothing was read
-pub shown_unread : (max : ℕ) (l w : Option (List ℕ)) (s : StoreState) (ending : Ending) → EndingFlag ending [] → EndingSays ending max [] l false (texts_of [] (after_line [])) []
-    → Shown max l l w w s s 0 ending [] ⊥
+pub shown_unread : {R : Type 0} {state : R → RevState} (max : ℕ) (l w : Option (List ℕ)) (s : StoreState) (ending : Ending) → EndingFlag ending [] → EndingSays ending max [] l false (texts_of [] (after_line [])) []
+    → Shown state max l l w w s s 0 ending [] ⊥
 shown_unread max l w s ending flag says = record {
   taken = [];
   given = Consumes-nil l;
@@ -283,9 +285,6 @@ whole_of {w0 = w0} {w1 = w1} c = elim c.all [ inl e ↦ subst (λ (l : List ℕ)
 
 pub rises_later : (a b c : ℕ) → Rises a b → b ≤ c → Rises a c
 rises_later a b c h l = omega arith
-
-pub rises_before : (a b c : ℕ) → a ≤ b → Rises b c → Rises a c
-rises_before a b c l h = omega arith
 
 pub at_err : {T E : Type 0} (r : Result T E) (P : Type 0) → OnErr r P → IsErr r → P
 at_err (Ok x) P p h = absurd (cc)
@@ -323,20 +322,21 @@ module _ {w0 w1 w2 : Option (List ℕ)} (bytes line : List ℕ) {F G : Type 0} (
   line_grew (RanEnding (Err InputLimit)) old new up cause a e b all = cut_line a b
   line_grew (RanEnding (Err SinkFault)) old new up cause a e b all = rw e (cut_stays a (rw e at (all e)) (up cause.1))
 
-pub sink_later : (ending : Ending) (old new : Faults) → EndingCause ending old new → old.out ≤ new.out
-sink_later Usage old new cause = omega (arith, cause.out)
-sink_later BadKey old new cause = omega (arith, cause.out)
-sink_later (RanEnding (Ok refused)) old new cause = omega (arith, cause.out)
-sink_later (RanEnding (Err (Tampered region place))) old new cause = omega (arith, cause.1)
-sink_later (RanEnding (Err SourceFault)) old new cause = omega (arith, cause.1)
-sink_later (RanEnding (Err SinkFault)) old new cause = cause.2.out
-sink_later (RanEnding (Err NoMemory)) old new cause = omega (arith, cause.1)
-sink_later (RanEnding (Err InputLimit)) old new cause = omega (arith, cause.out)
-
 -- the sinks' counts after the last line
 pub rose_with : (old mid new : Faults) → SinksRose old mid → mid.out ≤ new.out → new.trace ≡ mid.trace → SinksRose old new
 rose_with old mid new r later same =
     elim r [ inl a ↦ inl (rises_later _ _ _ a later) | inr b ↦ inr (subst (λ (n : ℕ). Rises old.trace n) (sym same) b) ]
+
+-- the last line was cut by a fault
+pub line_rose : (ending : Ending) (old mid new : Faults) → EndingCause ending old mid → Rises mid.out new.out → mid.out ≤ new.out → new.trace ≡ mid.trace → SinksRose old new
+line_rose Usage old mid new cause rose later trace = inl (subst (λ (n : ℕ). Rises n new.out) cause.out rose)
+line_rose BadKey old mid new cause rose later trace = inl (subst (λ (n : ℕ). Rises n new.out) cause.out rose)
+line_rose (RanEnding (Ok refused)) old mid new cause rose later trace = inl (subst (λ (n : ℕ). Rises n new.out) cause.out rose)
+line_rose (RanEnding (Err (Tampered region place))) old mid new cause rose later trace = inl (subst (λ (n : ℕ). Rises n new.out) cause.1 rose)
+line_rose (RanEnding (Err SourceFault)) old mid new cause rose later trace = inl (subst (λ (n : ℕ). Rises n new.out) cause.1 rose)
+line_rose (RanEnding (Err SinkFault)) old mid new cause rose later trace = rose_with old mid new cause.1 later trace
+line_rose (RanEnding (Err NoMemory)) old mid new cause rose later trace = inl (subst (λ (n : ℕ). Rises n new.out) cause.1 rose)
+line_rose (RanEnding (Err InputLimit)) old mid new cause rose later trace = inl (subst (λ (n : ℕ). Rises n new.out) cause.out rose)
 
 -- the counts after the last line
 pub status_cause : (ending : Ending) (old mid new : Faults) → EndingCause ending old mid → mid.out ≤ new.out → new.trace ≡ mid.trace → new.source ≡ mid.source
@@ -359,9 +359,9 @@ pub quiet_line : {w0 w1 : Option (List ℕ)} {F G : Type 0} (bytes line : List �
 quiet_line {w0 = w0} {w1 = w1} {F = F} bytes line c g =
     Cut-more line (Cut-fault g (subst (λ (l : List ℕ). Cut w0 w1 F l) (append-nil bytes) c)) g
 
-pub shown_line : {max : ℕ} {l0 l1 w0 w1 w2 : Option (List ℕ)} {s0 s1 : StoreState} {high : ℕ} {ending : Ending} {line line' : List ℕ} {F H : Type 0}
-    → (shown : Shown max l0 l1 w0 w1 s0 s1 high ending line F) → Cut w0 w2 H ((printed shown.answers ++ shown.part) ++ line')
-    → Shown max l0 l1 w0 w2 s0 s1 high ending line' H
+pub shown_line : {R : Type 0} {state : R → RevState} {max : ℕ} {l0 l1 w0 w1 w2 : Option (List ℕ)} {s0 s1 : StoreState} {high : ℕ} {ending : Ending} {line line' : List ℕ} {F H : Type 0}
+    → (shown : Shown state max l0 l1 w0 w1 s0 s1 high ending line F) → Cut w0 w2 H ((printed shown.answers ++ shown.part) ++ line')
+    → Shown state max l0 l1 w0 w2 s0 s1 high ending line' H
 shown_line shown cut = record {
   taken = shown.taken;
   given = shown.given;

@@ -8,6 +8,7 @@ use Rattle.ob_print.specs.Cuts.{Cut}
 use Rattle.ob_shell.specs.Texts.{is_over, rest_of, texts_of, texts_in}
 use Rattle.ob_shell.specs.Feeding.{Fetch, Fed}
 use Rattle.ob_shell.specs.Steps.{Machine, Answer, Steps, PartlyAt, Rests, IsSinkFault, printed, any_refused}
+use Rattle.ob_vault.specs.State.{RevState}
 use Rattle.ob_shell.specs.declared.session.Halted.{Halted}
 
 -- the counts of the faults of the source and of both sinks
@@ -34,11 +35,6 @@ abbrev pub SinkFailed : {T : Type 0} → Result T Stop → Type 0
 SinkFailed (Ok x) = ⊥
 SinkFailed (Err stop) = IsSinkFault stop
 
--- the sinks' counts didn't fall
-pub record Later (old new : Faults) : Type 0 where
-  pub out : old.out ≤ new.out
-  pub trace : old.trace ≤ new.trace
-
 -- no count rose
 pub record NoneRose (old new : Faults) : Type 0 where
   pub source : new.source ≡ old.source
@@ -49,18 +45,19 @@ pub record NoneRose (old new : Faults) : Type 0 where
 abbrev pub StopCause : {T : Type 0} (old new : Faults) → Result T Stop → Type 0
 StopCause old new (Ok x) = NoneRose old new
 StopCause old new (Err (Tampered region place)) = (new.source ≡ old.source) × (new.out ≡ old.out) × (old.trace ≤ new.trace)
-StopCause old new (Err SinkFault) = (new.source ≡ old.source) × SinksRose old new × Later old new
+StopCause old new (Err SinkFault) = (new.source ≡ old.source) × SinksRose old new
 StopCause old new (Err NoMemory) = (new.source ≡ old.source) × (new.out ≡ old.out) × (old.trace ≤ new.trace)
 StopCause old new (Err SourceFault) = Rises old.source new.source × (new.out ≡ old.out) × (new.trace ≡ old.trace)
 StopCause old new (Err InputLimit) = NoneRose old new
 
 -- what was done while no stop came
-pub record SoFar (feed0 feed1 : Fetch) (left0 left1 written0 written1 : Option (List ℕ)) (pending : List ℕ) (refused : Bool) (m0 m1 : Machine) : Type 0 where
+pub record SoFar {R : Type 0} (state : R → RevState) (feed0 feed1 : Fetch) (left0 left1 written0 written1 : Option (List ℕ)) (pending : List ℕ) (refused : Bool)
+    (m0 m1 : Machine R) : Type 0 where
   pub passed : List ℕ
   pub answers : List Answer
   pub fed : Fed feed0 feed1 left0 left1 passed
   pub pending_is : pending ≡ rest_of [] passed
-  pub steps : Steps m0 m1 (texts_of [] passed) answers
+  pub steps : Steps state m0 m1 (texts_of [] passed) answers
   pub appends : Appends written0 written1 (printed answers)
   pub flag : refused ≡ any_refused answers
 
@@ -77,9 +74,9 @@ EndsBy feed1 ended bytes more part (Err SinkFault) = Unit {0}
 EndsBy feed1 ended bytes more part (Err NoMemory) = Unit {0}
 
 -- what was done after the last text that was served whole
-abbrev pub LastPart : Machine → Machine → List (List ℕ) → List ℕ → Result Bool Stop → Type 0
-LastPart m1 m2 more part (Ok refused) = Rests m1 m2 part
-LastPart m1 m2 more part (Err stop) = PartlyAt m1 m2 more stop part
+abbrev pub LastPart : {R : Type 0} → (R → RevState) → Machine R → Machine R → List (List ℕ) → List ℕ → Result Bool Stop → Type 0
+LastPart state m1 m2 more part (Ok refused) = Rests m1 m2 part
+LastPart state m1 m2 more part (Err stop) = PartlyAt state m1 m2 more stop part
 
 -- the answer of a session that came to its end tells whether a text was refused
 abbrev pub FlagIs : List Answer → Result Bool Stop → Type 0
@@ -87,7 +84,8 @@ FlagIs answers (Ok refused) = refused ≡ any_refused answers
 FlagIs answers (Err stop) = Unit {0}
 
 -- what a session did
-pub record Ran (feed0 feed1 : Fetch) (left0 left1 written0 written1 : Option (List ℕ)) (m0 m2 : Machine) (result : Result Bool Stop) : Type 0 where
+pub record SessionRan {R : Type 0} (state : R → RevState) (feed0 feed1 : Fetch) (left0 left1 written0 written1 : Option (List ℕ)) 
+    (m0 m2 : Machine R) (result : Result Bool Stop) : Type 0 where
   pub piece : List ℕ
   pub consumed : Consumes left0 left1 piece
   pub taken : feed1.taken ≡ feed0.taken + length piece
@@ -97,11 +95,11 @@ pub record Ran (feed0 feed1 : Fetch) (left0 left1 written0 written1 : Option (Li
   pub served : List (List ℕ)
   pub more : List (List ℕ)
   pub texts : texts_in ended (feed0.unread ++ piece) ≡ served ++ more
-  pub middle : Machine
+  pub middle : Machine R
   pub answers : List Answer
-  pub steps : Steps m0 middle served answers
+  pub steps : Steps state m0 middle served answers
   pub part : List ℕ
-  pub last : LastPart middle m2 more part result
+  pub last : LastPart state middle m2 more part result
   pub cut : Cut written0 written1 (SinkFailed result) (printed answers ++ part)
   pub flag : FlagIs answers result
   pub ends : EndsBy feed1 ended (feed0.unread ++ piece) more part result

@@ -5,25 +5,27 @@ use Rattle.clap.specs.Words.{Text}
 use Rattle.ob_base.specs.Counts.{Rises}
 use Rattle.ob_base.specs.declared.refusal.Stop.{Stop}
 use Rattle.ob_base.specs.declared.refusal.Stop.TheVariants.{Tampered, SourceFault, SinkFault, NoMemory, InputLimit}
+use Rattle.ob_exec.specs.Agreeing.{high_of}
+use Rattle.ob_exec.specs.declared.engine.Engine.{Engine}
 use Rattle.ob_print.specs.Cuts.{Cut}
 use Rattle.ob_store.specs.State.{StoreState}
+use Rattle.ob_vault.specs.State.{RevState}
 use Rattle.ob_shell.specs.Usage.{Parses}
 use Rattle.ob_shell.specs.Texts.{is_over, rest_of, texts_in}
 use Rattle.ob_shell.specs.Feeding.{Fetch}
 use Rattle.ob_shell.specs.KeyLine.{line_max, has_lf, first_line, after_line, secret_of, LineTaken}
 use Rattle.ob_shell.specs.Steps.{Machine, machine_of, Answer, Steps, Rests, printed, any_refused}
-use Rattle.ob_shell.specs.Running.{Faults, SinksRose, NoneRose, Later, LastPart, FlagIs, EndsBy, SinkFailed, StopCause}
+use Rattle.ob_shell.specs.Running.{Faults, SinksRose, NoneRose, LastPart, FlagIs, EndsBy, SinkFailed, StopCause}
 use Rattle.ob_shell.specs.Endings.{status_of, last_line}
-use Rattle.ob_shell.specs.declared.stub.Engine.{Engine}
 use Rattle.ob_shell.specs.declared.top.Ending.{Ending}
 use Rattle.ob_shell.specs.declared.top.Ending.TheVariants.{Usage, BadKey, Ran}
 use Rattle.ob_shell.specs.declared.top.Report.{Report}
 
 -- what the last part did, by the ending
-abbrev pub EndingPart : Machine → Machine → List (List ℕ) → List ℕ → Ending → Type 0
-EndingPart m1 m2 more part Usage = Rests m1 m2 part
-EndingPart m1 m2 more part BadKey = Rests m1 m2 part
-EndingPart m1 m2 more part (Ran ran) = LastPart m1 m2 more part ran
+abbrev pub EndingPart : {R : Type 0} → (R → RevState) → Machine R → Machine R → List (List ℕ) → List ℕ → Ending → Type 0
+EndingPart state m1 m2 more part Usage = Rests m1 m2 part
+EndingPart state m1 m2 more part BadKey = Rests m1 m2 part
+EndingPart state m1 m2 more part (Ran ran) = LastPart state m1 m2 more part ran
 
 -- no engine was started
 pub record Unstarted (store0 store1 : StoreState) (high : ℕ) (served : List (List ℕ)) (answers : List Answer) (part : List ℕ) : Type 0 where
@@ -34,25 +36,25 @@ pub record Unstarted (store0 store1 : StoreState) (high : ℕ) (served : List (L
   pub none : part ≡ []
 
 -- an engine was started with this secret, and served these texts
-pub record Started (secret : Option (List ℕ)) (store0 store1 : StoreState) (high : ℕ) (served more : List (List ℕ)) (answers : List Answer)
+pub record Started {R : Type 0} (state : R → RevState) (secret : Option (List ℕ)) (store0 store1 : StoreState) (high : ℕ) (served more : List (List ℕ)) (answers : List Answer)
     (part : List ℕ) (ending : Ending) : Type 0 where
   pub key : List ℕ
   pub keyed : secret ≡ Some key
-  pub first : Engine
-  pub middle : Machine
-  pub last : Engine
-  pub steps : Steps (machine_of first store0) middle served answers
-  pub rest : EndingPart middle (machine_of last store1) more part ending
-  pub rows_open : high ≡ last.rows_high
+  pub first : Engine R
+  pub middle : Machine R
+  pub last : Engine R
+  pub steps : Steps state (machine_of first store0) middle served answers
+  pub rest : EndingPart state middle (machine_of last store1) more part ending
+  pub rows_open : high ≡ high_of last
 
 -- what the texts did to an engine and the store
-abbrev pub Carried : (secret : Option (List ℕ)) (store0 store1 : StoreState) (high : ℕ) (served more : List (List ℕ)) (answers : List Answer)
+abbrev pub Carried : {R : Type 0} (state : R → RevState) (secret : Option (List ℕ)) (store0 store1 : StoreState) (high : ℕ) (served more : List (List ℕ)) (answers : List Answer)
     (part : List ℕ) → Ending → Type 0
-Carried secret store0 store1 high served more answers part ending =
-    Unstarted store0 store1 high served answers part ⊎ Started secret store0 store1 high served more answers part ending
+Carried state secret store0 store1 high served more answers part ending =
+    Unstarted store0 store1 high served answers part ⊎ Started state secret store0 store1 high served more answers part ending
 
 -- what was done after the first line, which was this secret
-pub record RanAfter (secret : Option (List ℕ)) (feed0 feed1 : Fetch) (left0 left1 written0 written1 : Option (List ℕ))
+pub record RanAfter {R : Type 0} (state : R → RevState) (secret : Option (List ℕ)) (feed0 feed1 : Fetch) (left0 left1 written0 written1 : Option (List ℕ))
     (store0 store1 : StoreState) (high : ℕ) (result : Result Bool Stop) : Type 0 where
   pub piece : List ℕ
   pub consumed : Consumes left0 left1 piece
@@ -65,7 +67,7 @@ pub record RanAfter (secret : Option (List ℕ)) (feed0 feed1 : Fetch) (left0 le
   pub texts : texts_in ended (feed0.unread ++ piece) ≡ served ++ more
   pub answers : List Answer
   pub part : List ℕ
-  pub carried : Carried secret store0 store1 high served more answers part (Ran result)
+  pub carried : Carried state secret store0 store1 high served more answers part (Ran result)
   pub cut : Cut written0 written1 (SinkFailed result) (printed answers ++ part)
   pub flag : FlagIs answers result
   pub ends : EndsBy feed1 ended (feed0.unread ++ piece) more part result
@@ -154,7 +156,7 @@ StatusCause (Ran (Err NoMemory)) old new = new.source ≡ old.source
 StatusCause (Ran (Err InputLimit)) old new = new.source ≡ old.source
 
 -- what was taken, what of it was served, and what the sink took of the answers and the last line
-pub record Shown (max : ℕ) (left0 left1 written0 written1 : Option (List ℕ)) (store0 store1 : StoreState) (high : ℕ)
+pub record Shown {R : Type 0} (state : R → RevState) (max : ℕ) (left0 left1 written0 written1 : Option (List ℕ)) (store0 store1 : StoreState) (high : ℕ)
     (ending : Ending) (line : List ℕ) (Fault : Type 0) : Type 0 where
   pub taken : List ℕ
   pub given : Consumes left0 left1 taken
@@ -166,7 +168,7 @@ pub record Shown (max : ℕ) (left0 left1 written0 written1 : Option (List ℕ))
   pub texts : texts_in ended (after_line taken) ≡ served ++ more
   pub answers : List Answer
   pub part : List ℕ
-  pub carried : Carried (secret_of (first_line taken)) store0 store1 high served more answers part ending
+  pub carried : Carried state (secret_of (first_line taken)) store0 store1 high served more answers part ending
   pub grew : Cut written0 written1 Fault ((printed answers ++ part) ++ line)
   pub flag : EndingFlag ending answers
   pub says : EndingSays ending max taken left1 ended more part
@@ -189,12 +191,12 @@ IsCompleted (Ran (Err NoMemory)) = Unit {0}
 IsCompleted (Ran (Err InputLimit)) = ⊥
 
 -- the whole run
-pub record Reported (words : List Text) (max : ℕ) (left0 left1 written0 written1 : Option (List ℕ)) (store0 store1 : StoreState)
+pub record Reported {R : Type 0} (state : R → RevState) (words : List Text) (max : ℕ) (left0 left1 written0 written1 : Option (List ℕ)) (store0 store1 : StoreState)
     (old new : Faults) (report : Report) : Type 0 where
   pub ending : Ending
   pub status : report.status ≡ status_of ending
   pub takes : EndingWords ending (Parses words)
-  pub shown : Shown max left0 left1 written0 written1 store0 store1 report.high ending (last_line ending) (SinksRose old new)
+  pub shown : Shown state max left0 left1 written0 written1 store0 store1 report.high ending (last_line ending) (SinksRose old new)
   pub cause : StatusCause ending old new
   pub completes : Parses words → (input : List ℕ) → left0 ≡ Some input → KeepsLimits max input
       → ¬ Rises old.source new.source → ¬ SinksRose old new → IsCompleted ending

@@ -11,16 +11,27 @@ ghost use Rattle.ob_shell.specs.Top.{Shown, RanAfter, EndingCause, EndingWords, 
 use crate::feed::{Feed, Halt};
 use crate::key::{FirstLine, read_key};
 use crate::session::{Halted, serve};
-use crate::stub::Engine;
 use crate::words::{WordsErr, read_words};
-use ob_base::Stop;
+use ob_base::{Config, Stop};
+use ob_exec::Engine;
 use ob_io::{Sink, Source};
 use ob_print::{Line, stop_line, write_all};
+use ob_seal::Keys;
 use ob_store::{BlockStore, MemStore};
+use ob_vault::{BaseRevs, Revisions};
 use std::alloc::Global;
 
 /// The bytes of the input that are read, at most.
 const MAX_INPUT: u64 = 65_536;
+
+/// The settings of every run.
+const CONFIG: Config = Config {
+    buffer: 64,
+    depth: 5,
+    pack: 1,
+    plan: None,
+    max_input: MAX_INPUT,
+};
 
 /// How a run ended.
 #[derive(Clone, Copy, Debug, PartialEq, Eq)]
@@ -119,8 +130,9 @@ fn serve_with<I: Source, O: Sink, T: Sink, S: BlockStore>(
     trace: &mut T,
     store: &mut S,
 ) -> (Result<bool, Halted>, u64)
-    requires { feed.old.taken ≤ feed.old.limit }
-    ensures ran { RanAfter (Some key.now) feed.old feed.new (I.left input.old) (I.left input.new) (O.written out.old) (O.written out.new)
+    requires taken { feed.old.taken ≤ feed.old.limit }
+    requires fresh { (S.state store.old).asked ≡ [] }
+    ensures ran { RanAfter ⟦<BaseRevs as Revisions>⟧.state (Some key.now) feed.old feed.new (I.left input.old) (I.left input.new) (O.written out.old) (O.written out.new)
         (S.state store.old) (S.state store.new) result.1 (stop_of result.0) }
     ensures within { feed.new.taken ≤ feed.new.limit }
     ensures traced { Traced tracing (S.state store.old).asked (S.state store.new).asked (T.written trace.old) (T.written trace.new) (IsQuiet result.0) }
@@ -131,7 +143,7 @@ fn serve_with<I: Source, O: Sink, T: Sink, S: BlockStore>(
         record { source = I.faults input.old; out = O.faults out.old; trace = T.faults trace.old }
         record { source = I.faults input.new; out = O.faults out.new; trace = T.faults trace.new } }
 {
-    match Engine::start(alloc, key) {
+    match Engine::<BaseRevs>::start(alloc, CONFIG, Keys::derive(key)) {
         Err(_) => {
             let stop = Stop::NoMemory;
             (Err(Halted { stop, quiet: false }), 0)
@@ -152,7 +164,8 @@ fn run<I: Source, O: Sink, T: Sink, S: BlockStore>(
     trace: &mut T,
     store: &mut S,
 ) -> Ended
-    ensures shown { Shown 65536 (I.left input.old) (I.left input.new) (O.written out.old) (O.written out.new)
+    requires { (S.state store.old).asked ≡ [] }
+    ensures shown { Shown ⟦<BaseRevs as Revisions>⟧.state 65536 (I.left input.old) (I.left input.new) (O.written out.old) (O.written out.new)
         (S.state store.old) (S.state store.new) result.high result.ending [] (SinkStopped result.ending) }
     ensures words { result.ending ≢ Ending.Usage }
     ensures traced { Traced tracing (S.state store.old).asked (S.state store.new).asked (T.written trace.old) (T.written trace.new) (result.quiet ≡ true) }
@@ -187,7 +200,8 @@ fn run_words<I: Source, O: Sink, T: Sink, S: BlockStore>(
     trace: &mut T,
     store: &mut S,
 ) -> Ended
-    ensures shown { Shown 65536 (I.left input.old) (I.left input.new) (O.written out.old) (O.written out.new)
+    requires { (S.state store.old).asked ≡ [] }
+    ensures shown { Shown ⟦<BaseRevs as Revisions>⟧.state 65536 (I.left input.old) (I.left input.new) (O.written out.old) (O.written out.new)
         (S.state store.old) (S.state store.new) result.high result.ending [] (SinkStopped result.ending) }
     ensures takes { EndingWords result.ending (Parses (map string_bytes words.now)) }
     ensures traced { Traced (is_traced (map string_bytes words.now)) (S.state store.old).asked (S.state store.new).asked
@@ -216,7 +230,8 @@ pub fn shell_top<I: Source, O: Sink, T: Sink, S: BlockStore>(
     trace: &mut T,
     store: &mut S,
 ) -> Report
-    ensures reported { Reported (map string_bytes words.now) 65536 (I.left input.old) (I.left input.new) (O.written out.old) (O.written out.new)
+    requires { (S.state store.old).asked ≡ [] }
+    ensures reported { Reported ⟦<BaseRevs as Revisions>⟧.state (map string_bytes words.now) 65536 (I.left input.old) (I.left input.new) (O.written out.old) (O.written out.new)
         (S.state store.old) (S.state store.new)
         record { source = I.faults input.old; out = O.faults out.old; trace = T.faults trace.old }
         record { source = I.faults input.new; out = O.faults out.new; trace = T.faults trace.new } result }

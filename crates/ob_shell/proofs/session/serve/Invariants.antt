@@ -9,11 +9,11 @@ abbrev pub invariant-bytes : goal.invariant-bytes
 invariant-bytes g l =
     record {
       so_far :
-          SoFar l.initial.feed l.feed (g.I.Source.left l.initial.input) (g.I.Source.left l.input)
+          SoFar g.R.Revisions.state l.initial.feed l.feed (g.I.Source.left l.initial.input) (g.I.Source.left l.input)
           (g.K.Sink.written l.initial.out) (g.K.Sink.written l.out) l.session.pending l.session.refused
           (machine_of l.initial.engine (g.S.BlockStore.state l.initial.store)) (machine_of l.engine (g.S.BlockStore.state l.store));
       short : length l.session.pending < text_max;
-      ready : IsReady (machine_of l.engine (g.S.BlockStore.state l.store));
+      ready : IsReady g.R.Revisions.state (machine_of l.engine (g.S.BlockStore.state l.store));
       source : g.I.Source.faults l.input ≡ g.I.Source.faults l.initial.input;
       sink : g.K.Sink.faults l.out ≡ g.K.Sink.faults l.initial.out;
       trace : g.T.Sink.faults l.trace ≡ g.T.Sink.faults l.initial.trace;

@@ -7,13 +7,13 @@ pub returns-in-Err-SourceFault-clause-shown : goal.returns-in-Err-SourceFault-cl
 returns-in-Err-SourceFault-clause-shown g c =
     let new = c.new-feed.ensures in
     let read = rw c.in-Err-SourceFault.field-0-is at c.in-Err-SourceFault.ensures in
-    rw c.ended_at.ensures (shown_source_fault _ _ _ new.unread new.taken new.limit read.within _ _ read.read)
+    rw c.ended_at.ensures (shown_source_fault _ _ _ _ new.unread new.taken new.limit read.within _ _ read.read)
 
 pub returns-in-Ok-Bad-clause-shown : goal.returns-in-Ok-Bad-clause-shown
 returns-in-Ok-Bad-clause-shown g c =
     let new = c.new-feed.ensures in
     let read = rw c.in-Ok-Bad.field-0-is at c.in-Ok-Bad.ensures in
-    rw c.ended_at-in-Ok-Bad.ensures (shown_bad_key _ _ _ new.unread new.taken new.limit read.within _ _ read.read)
+    rw c.ended_at-in-Ok-Bad.ensures (shown_bad_key _ _ _ _ new.unread new.taken new.limit read.within _ _ read.read)
 
 pub returns-in-Err-SourceFault-clause-traced : goal.returns-in-Err-SourceFault-clause-traced
 returns-in-Err-SourceFault-clause-traced g c = traced_whole _ (traced_none _ _ _)
@@ -25,7 +25,7 @@ pub returns-in-Ok-Last-clause-shown : goal.returns-in-Ok-Last-clause-shown
 returns-in-Ok-Last-clause-shown g c =
     let new = c.new-feed.ensures in
     let read = rw c.in-Ok-Last.field-0-is at c.in-Ok-Last.ensures in
-    rw c.ended_at-in-Ok-Last.ensures (shown_last _ _ _ new.unread new.taken new.limit read.within _ _ _ read.read)
+    rw c.ended_at-in-Ok-Last.ensures (shown_last _ _ _ _ new.unread new.taken new.limit read.within _ _ _ read.read)
 
 pub returns-in-Ok-Last-clause-traced : goal.returns-in-Ok-Last-clause-traced
 returns-in-Ok-Last-clause-traced g c = traced_whole _ (traced_none _ _ _)
