@@ -10,7 +10,8 @@ use Rattle.ob_exec.specs.declared.engine.Engine.{Engine}
 use Rattle.ob_print.specs.Cuts.{Cut}
 use Rattle.ob_store.specs.State.{StoreState}
 use Rattle.ob_vault.specs.State.{RevState}
-use Rattle.ob_shell.specs.Usage.{Parses}
+use Rattle.ob_shell.specs.Tracing.{Traced}
+use Rattle.ob_shell.specs.Usage.{Parses, is_traced}
 use Rattle.ob_shell.specs.Texts.{is_over, rest_of, texts_in}
 use Rattle.ob_shell.specs.Feeding.{Fetch}
 use Rattle.ob_shell.specs.KeyLine.{line_max, has_lf, first_line, after_line, secret_of, LineTaken}
@@ -200,3 +201,15 @@ pub record Reported {R : Type 0} (state : R → RevState) (words : List Text) (m
   pub cause : StatusCause ending old new
   pub completes : Parses words → (input : List ℕ) → left0 ≡ Some input → KeepsLimits max input
       → ¬ Rises old.source new.source → ¬ SinksRose old new → IsCompleted ending
+
+-- the whole run over a store that never fails, tells what it holds and gives what was written
+pub record InMemory {R : Type 0} (state : R → RevState) (words : List Text) (max : ℕ)
+    (left0 left1 written0 written1 traced0 traced1 : Option (List ℕ)) (old new : Faults) (report : Report) : Type 0 where
+  pub store0 : StoreState
+  pub store1 : StoreState
+  pub fresh : store0.asked ≡ []
+  pub tells : store0.tells ≡ true
+  pub sound : store1.faults ≡ 0
+  pub honest : store1.lie ≡ None
+  pub reported : Reported state words max left0 left1 written0 written1 store0 store1 old new report
+  pub traced : Traced (is_traced words) store0.asked store1.asked traced0 traced1 (SinksRose old new)

@@ -15,6 +15,6 @@ pub use key::{FirstLine, read_key};
 pub use pending::{Grown, Pending, PushStop};
 pub use session::{Halted, serve};
 pub use statement::{ParseErr, parse};
-pub use top::{Ended, Ending, Report, shell_top};
+pub use top::{Ended, Ending, Report, meddle_top, shell_top};
 pub use trace::trace_from;
 pub use words::{Words, WordsErr, read_words};

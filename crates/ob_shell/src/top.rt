@@ -6,7 +6,7 @@ ghost use Rattle.ob_shell.specs.Running.{Faults, SinksRose, IsQuiet, stop_of, St
 ghost use Rattle.ob_shell.specs.Tracing.{Traced};
 ghost use Rattle.ob_shell.specs.Endings;
 ghost use Rattle.ob_shell.specs.Endings.{SinkStopped};
-ghost use Rattle.ob_shell.specs.Top.{Shown, RanAfter, EndingCause, EndingWords, Reported};
+ghost use Rattle.ob_shell.specs.Top.{Shown, RanAfter, EndingCause, EndingWords, Reported, InMemory};
 
 use crate::feed::{Feed, Halt};
 use crate::key::{FirstLine, read_key};
@@ -250,4 +250,21 @@ pub fn shell_top<I: Source, O: Sink, T: Sink, S: BlockStore>(
     }
     let _ = write_all(out, last_line(ended.ending).as_bytes());
     report
+}
+
+/// Serves the input over a store in memory of its own.
+pub fn meddle_top<I: Source, O: Sink, T: Sink>(
+    alloc: Global,
+    words: &[String],
+    input: &mut I,
+    out: &mut O,
+    trace: &mut T,
+) -> Report
+    ensures { InMemory ⟦<BaseRevs as Revisions>⟧.state (map string_bytes words.now) 65536 (I.left input.old) (I.left input.new)
+        (O.written out.old) (O.written out.new) (T.written trace.old) (T.written trace.new)
+        record { source = I.faults input.old; out = O.faults out.old; trace = T.faults trace.old }
+        record { source = I.faults input.new; out = O.faults out.new; trace = T.faults trace.new } result }
+{
+    let mut store = MemStore::new(alloc);
+    shell_top(alloc, words, input, out, trace, &mut store)
 }
