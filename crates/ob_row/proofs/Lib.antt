@@ -1,0 +1,5 @@
+pub mod BagLemmas
+pub mod PairLemmas
+pub mod SpellingLemmas
+pub mod FieldLemmas
+pub mod CellsLemmas

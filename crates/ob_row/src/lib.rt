@@ -1,0 +1,18 @@
+//! Rows of a table: their cells, their bytes, the conditions on them, and lists of which only the elements count.
+#![tactic(auto)]
+
+mod aggregate;
+mod cell;
+mod compare;
+mod field;
+mod laws;
+mod pred;
+mod row;
+#[cfg(test)]
+mod tests;
+
+pub use aggregate::{Agg, Item};
+pub use cell::{Cell, Malformed};
+pub use laws::{dummy_is_no_row, encoded_row, one_spelling, spelling_width};
+pub use pred::{Operand, Order, Pred};
+pub use row::{decode, encode, holds, is_dummy, read, width};
