@@ -1,6 +1,7 @@
 //! The texts of an input, each served as soon as it has come.
 ghost use Rattle.std.specs.Prelude.{◌≡◌, ◌<◌, ◌≤◌, ◌++◌, ℕ, List, [], ◌∷◌, Bool, true, false, Ok, Err, length, OnOk, OnErr, IfOk, IfErr, codes, decimal};
 ghost use Rattle.ob_base.specs.declared.access.Access.{Access};
+ghost use Rattle.ob_exec.specs.Serving.{IsServed};
 ghost use Rattle.ob_shell.specs.Texts.{text_max, is_over, rest_after, texts_at, tail_text};
 ghost use Rattle.ob_shell.specs.Steps.{machine_of, IsReady, HasBody, AnswersAll, StopsIn};
 ghost use Rattle.ob_shell.specs.Running.{StopCause, SessionRan, SinkFailed, SinksRose, IsQuiet, stop_of};
@@ -96,6 +97,7 @@ fn run_stmt<R: Revisions, S: BlockStore, K: Sink>(
     stmt: &Stmt,
     printer: &mut Printer<'_, K>,
 ) -> Result<Outcome, Stop>
+    requires served { IsServed stmt.now }
     requires ready { IsReady R.state (machine_of engine.old (S.state store.old)) }
     ensures same_sink { printer.new.out.ghost_name ≡ printer.old.out.ghost_name }
     ensures ready { OnOk result (IsReady R.state (machine_of engine.new (S.state store.new))) }

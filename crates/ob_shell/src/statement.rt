@@ -1,5 +1,6 @@
 //! The statements that are served: CREATE TABLE of integer columns, INSERT, and SELECT COUNT(*).
-ghost use Rattle.std.specs.Prelude.{◌≡◌, ◌<◌, ◌≤◌, ℕ, length, IfSome, IfOk};
+ghost use Rattle.std.specs.Prelude.{◌≡◌, ◌<◌, ◌≤◌, ℕ, length, IfOk};
+ghost use Rattle.ob_exec.specs.Serving.{IsServed};
 
 use ob_base::{Items, Name, NewColumn, NewKind, Source};
 use ob_sql::{Listed, Literal, Select, Stmt};
@@ -244,7 +245,9 @@ fn literals(alloc: Global, text: &[u8]) -> Result<(Items<Literal>, &[u8]), Parse
     }
 }
 
-fn create(alloc: Global, text: &[u8]) -> Result<(Stmt, &[u8]), ParseErr> {
+fn create(alloc: Global, text: &[u8]) -> Result<(Stmt, &[u8]), ParseErr>
+    ensures { IfOk result (λ t. IsServed t.0) }
+{
     let (table, rest) = name(after_keyword(text, b"table")?)?;
     let (columns, rest) = new_columns(alloc, after_sign(rest, b'(')?)?;
     match next_token(after_keyword(rest, b"capacity")?)? {
@@ -261,7 +264,9 @@ fn create(alloc: Global, text: &[u8]) -> Result<(Stmt, &[u8]), ParseErr> {
     }
 }
 
-fn insert(alloc: Global, text: &[u8]) -> Result<(Stmt, &[u8]), ParseErr> {
+fn insert(alloc: Global, text: &[u8]) -> Result<(Stmt, &[u8]), ParseErr>
+    ensures { IfOk result (λ t. IsServed t.0) }
+{
     let (table, rest) = name(after_keyword(text, b"into")?)?;
     let rest = after_sign(after_keyword(rest, b"values")?, b'(')?;
     let (values, rest) = literals(alloc, rest)?;
@@ -274,7 +279,9 @@ fn insert(alloc: Global, text: &[u8]) -> Result<(Stmt, &[u8]), ParseErr> {
 }
 
 // `COUNT(*) FROM name`.
-fn select(alloc: Global, text: &[u8]) -> Result<(Stmt, &[u8]), ParseErr> {
+fn select(alloc: Global, text: &[u8]) -> Result<(Stmt, &[u8]), ParseErr>
+    ensures { IfOk result (λ t. IsServed t.0) }
+{
     let rest = after_sign(after_keyword(text, b"count")?, b'(')?;
     let rest = after_sign(after_sign(rest, b'*')?, b')')?;
     let (table, rest) = name(after_keyword(rest, b"from")?)?;
@@ -290,7 +297,9 @@ fn select(alloc: Global, text: &[u8]) -> Result<(Stmt, &[u8]), ParseErr> {
 }
 
 /// The statement of a text that ends with its semicolon.
-pub fn parse(alloc: Global, text: &[u8]) -> Result<Stmt, ParseErr> {
+pub fn parse(alloc: Global, text: &[u8]) -> Result<Stmt, ParseErr>
+    ensures { IfOk result IsServed }
+{
     let (Token::Word(run), rest) = next_token(text)? else {
         return Err(ParseErr::Syntax);
     };
