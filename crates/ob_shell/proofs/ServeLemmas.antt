@@ -1,5 +1,5 @@
 -- What the engine was given and what it left.
-use Rattle.std.proofs.Common.{◌≡◌, ℕ, ◌⊎◌, List, [], ◌∷◌, ◌++◌, Option, Ok, Err, Result, refl, sym, inl, inr, arith, append-nil}
+use Rattle.std.proofs.Common.{◌≡◌, ℕ, ◌⊎◌, List, [], ◌∷◌, Option, Err, refl, sym, inl, inr, arith, append-nil}
 use Rattle.ob_base.specs.Events.{Event}
 use Rattle.ob_base.specs.declared.refusal.Stop.{Stop}
 use Rattle.ob_base.specs.declared.refusal.Stop.TheVariants.{Tampered, SourceFault, SinkFault, NoMemory, InputLimit}
@@ -21,15 +21,15 @@ pub stopped_in : {R : Type 0} {state : R → RevState} {w0 w1 : Option (List ℕ
 stopped_in text stmt stop ran emitted =
     elim emitted.1 [
       | inl whole ↦ record {
-            bytes = events_text emitted.0;
-            partly = inr (inl (record { stmt = stmt; ran = ran; events = emitted.0; printed = record { lost = []; whole = sym (append-nil _) } }));
-            cut = Cut-whole _ _ _ _ whole.0;
-          }
+        bytes = events_text emitted.0;
+        partly = inr (inl (record { stmt = stmt; ran = ran; events = emitted.0; printed = record { lost = []; whole = sym (append-nil _) } }));
+        cut = Cut-whole _ _ _ _ whole.0;
+      }
       | inr cut ↦ record {
-            bytes = cut.0.grown;
-            partly = inr (inl (record { stmt = stmt; ran = ran; events = emitted.0; printed = cut.0.prefix }));
-            cut = Cut-whole _ _ _ _ cut.0.appends;
-          }
+        bytes = cut.0.grown;
+        partly = inr (inl (record { stmt = stmt; ran = ran; events = emitted.0; printed = cut.0.prefix }));
+        cut = Cut-whole _ _ _ _ cut.0.appends;
+      }
     ]
 
 pub never_source : (stop : Stop) (old new : World) → RunCause (Err stop) old new → stop ≡ SourceFault → ⊥

@@ -3,11 +3,10 @@ use Rattle.std.proofs.Common.{◌≡◌, ℕ, ◌||◌, Bool, true, false, List,
 use Rattle.std.specs.Io.KnownBytes.{Appends}
 use Rattle.std.proofs.KnownBytes.{Appends-nil}
 use Rattle.ob_base.specs.declared.refusal.Stop.{Stop}
-use Rattle.ob_base.specs.declared.refusal.Stop.TheVariants.{SinkFault}
 use Rattle.ob_vault.specs.State.{RevState}
 use Rattle.ob_print.proofs.CutLemmas.{Cut-whole}
 use Rattle.ob_shell.specs.Closing.{is_refused}
-use Rattle.ob_shell.specs.Steps.{Machine, Answer, Step, Steps, printed, any_refused, Rests, Finished, PartlyAt, AnswersAll, StopsIn, IsSinkFault}
+use Rattle.ob_shell.specs.Steps.{Machine, Answer, Step, Steps, printed, any_refused, Rests, PartlyAt, AnswersAll, StopsIn, IsSinkFault}
 
 pub or_false : (a : Bool) → (a || false) ≡ a
 or_false true = refl
@@ -47,7 +46,12 @@ unfolding Steps
 Steps-append {R = R} state m0 m1 m2 [] us xs ys p q =
     subst (λ (l : List Answer). Steps state m0 m2 us (l ++ ys)) (sym p.1) (subst (λ (m : Machine R). Steps state m m2 us ys) p.0 q)
 Steps-append state m0 m1 m2 (t ∷ ts) us xs ys p q = (
-  p.0, p.1, p.2 ++ ys, ap (λ (l : List Answer). l ++ ys) p.3, p.4, Steps-append state p.0 m1 m2 ts us p.2 ys p.5 q,
+  p.0,
+  p.1,
+  p.2 ++ ys,
+  ap (λ (l : List Answer). l ++ ys) p.3,
+  p.4,
+  Steps-append state p.0 m1 m2 ts us p.2 ys p.5 q,
 )
 
 pub answers_none : {R : Type 0} {state : R → RevState} (w : Option (List ℕ)) (r : Bool) (m : Machine R) → AnswersAll state w w [] r r m m

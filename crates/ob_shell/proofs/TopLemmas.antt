@@ -1,7 +1,7 @@
 -- The whole run, from its first line and its session.
-use Rattle.std.proofs.Common.{◌≡◌, ◌≢◌, ℕ, ◌+◌, ◌<◌, ◌≤◌, ◌==◌, Bool, true, false, List, [], ◌∷◌, ◌++◌, length, Option, Some, None, Ok, Err, Result, refl, sym, ap, ◌∙◌, subst, inl, inr, arith, append-nil, length-append}
+use Rattle.std.proofs.Common.{◌≡◌, ◌≢◌, ℕ, ◌≤◌, ◌==◌, Bool, true, false, List, [], ◌∷◌, ◌++◌, length, Option, Some, Ok, Err, Result, refl, sym, ap, ◌∙◌, subst, inl, inr, arith, append-nil, length-append}
 use Rattle.std.specs.Prelude.{IsErr, IsOk, OnOk, OnErr}
-use Rattle.std.specs.Io.KnownBytes.{Appends, IsAtEnd}
+use Rattle.std.specs.Io.KnownBytes.{Appends}
 use Rattle.std.proofs.KnownBytes.{Appends-nil, Appends-trans, Consumes-trans, Consumes-nil}
 use Rattle.ob_base.specs.Counts.{Rises}
 use Rattle.ob_base.specs.declared.refusal.Stop.{Stop}
@@ -14,11 +14,11 @@ use Rattle.ob_print.proofs.CutLemmas.{Cut-whole, Cut-after, Cut-fault, Cut-more}
 use Rattle.ob_store.specs.State.{StoreState}
 use Rattle.ob_shell.specs.Texts.{is_over, rest_of, texts_of, texts_in}
 use Rattle.ob_shell.specs.Feeding.{Fetch, Fed}
-use Rattle.ob_shell.specs.KeyLine.{line_max, has_lf, first_line, after_line, secret_of, KeyRead, LineTaken}
-use Rattle.ob_shell.specs.Steps.{Machine, machine_of, Answer, Steps, printed, any_refused, Rests, PartlyAt}
-use Rattle.ob_shell.specs.Running.{Faults, SessionRan, EndsBy, FlagIs, LastPart, SinkFailed, SinksRose, StopCause}
+use Rattle.ob_shell.specs.KeyLine.{has_lf, first_line, after_line, secret_of, KeyRead}
+use Rattle.ob_shell.specs.Steps.{machine_of, printed}
+use Rattle.ob_shell.specs.Running.{Faults, SessionRan, EndsBy, SinkFailed, SinksRose}
 use Rattle.ob_shell.specs.Endings.{last_line, SinkStopped}
-use Rattle.ob_shell.specs.Top.{HasSecret, RanSays, EndingSays, EndingWords, EndingPart, Carried, Unstarted, Started, Shown, RanAfter, EndingCause, EndingFlag, StatusCause}
+use Rattle.ob_shell.specs.Top.{HasSecret, RanSays, EndingSays, EndingWords, Carried, Shown, RanAfter, EndingCause, EndingFlag, StatusCause}
 use Rattle.ob_shell.specs.declared.feed.Halt.{Halt}
 use Rattle.ob_shell.specs.declared.key.FirstLine.TheVariants.{Secret, Last, Bad}
 use Rattle.ob_shell.specs.declared.top.Ending.{Ending}

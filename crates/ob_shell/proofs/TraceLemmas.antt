@@ -1,6 +1,6 @@
 -- The text of accesses, one after the other.
 use Rattle.std.proofs.Common.{◌≡◌, ℕ, ◌+◌, ◌≤◌, Bool, true, false, suc, List, [], ◌∷◌, ◌++◌, length, drop, Option, Some, refl, sym, ap, ◌∙◌, subst, inl, inr, append_assoc, append-nil, drop-cons, add-one}
-use Rattle.std.specs.Prelude.{slice_get, Result, Ok, Err, OnOk, OnErr}
+use Rattle.std.specs.Prelude.{slice_get}
 use Rattle.std.proofs.KnownBytes.{Appends-nil, Appends-trans}
 use Rattle.std.proofs.lemmas.Option.{slice_get_within, get_or_from_slice_get}
 use Rattle.std.proofs.Math.ListN.{drop_of_length-le}

@@ -84,7 +84,7 @@ FlagIs answers (Ok refused) = refused ≡ any_refused answers
 FlagIs answers (Err stop) = Unit {0}
 
 -- what a session did
-pub record SessionRan {R : Type 0} (state : R → RevState) (feed0 feed1 : Fetch) (left0 left1 written0 written1 : Option (List ℕ)) 
+pub record SessionRan {R : Type 0} (state : R → RevState) (feed0 feed1 : Fetch) (left0 left1 written0 written1 : Option (List ℕ))
     (m0 m2 : Machine R) (result : Result Bool Stop) : Type 0 where
   pub piece : List ℕ
   pub consumed : Consumes left0 left1 piece

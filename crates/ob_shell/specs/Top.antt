@@ -15,7 +15,7 @@ use Rattle.ob_shell.specs.Usage.{Parses, is_traced}
 use Rattle.ob_shell.specs.Texts.{is_over, rest_of, texts_in}
 use Rattle.ob_shell.specs.Feeding.{Fetch}
 use Rattle.ob_shell.specs.KeyLine.{line_max, has_lf, first_line, after_line, secret_of, LineTaken}
-use Rattle.ob_shell.specs.Steps.{Machine, machine_of, Answer, Steps, Rests, printed, any_refused}
+use Rattle.ob_shell.specs.Steps.{Machine, machine_of, Answer, Steps, Rests, printed}
 use Rattle.ob_shell.specs.Running.{Faults, SinksRose, NoneRose, LastPart, FlagIs, EndsBy, SinkFailed, StopCause}
 use Rattle.ob_shell.specs.Endings.{status_of, last_line}
 use Rattle.ob_shell.specs.declared.top.Ending.{Ending}

@@ -1,5 +1,5 @@
 //! Single bytes from a source, of which no more than a limit are taken.
-ghost use Rattle.std.specs.Prelude.{◌≡◌, ◌≤◌, ℕ, List, []};
+ghost use Rattle.std.specs.Prelude.{◌≡◌, ◌<◌, ◌≤◌, ℕ, List, [], length};
 ghost use Rattle.ob_shell.specs.Feeding.{Fed, FetchCause, bytes_of};
 
 use ob_base::Failed;
@@ -52,6 +52,7 @@ impl Feed {
 
     /// The next byte, or `None` at the end. More is read only once all that was read was handed on.
     pub fn next<S: Source>(&mut self, source: &mut S) -> Result<Option<u8>, Halt>
+        ensures lazy { 0 < length self.old.unread → source.new ≡ source.old }
         ensures fed { Fed self.old self.new (S.left source.old) (S.left source.new) (bytes_of result) }
         ensures within { self.new.taken ≤ self.new.limit }
         ensures cause { FetchCause self.new (S.left source.new) (S.faults source.old) (S.faults source.new) result }

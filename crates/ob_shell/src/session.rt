@@ -366,9 +366,16 @@ pub fn serve<I: Source, R: Revisions, S: BlockStore, K: Sink, T: Sink>(
             }
             Ok(None) => return finish(alloc, tracing, &session, engine, store, out, trace),
             Ok(Some(b)) => {
-                if let Err(halted) =
-                    turn(alloc, tracing, &mut session, b, engine, store, out, trace)
-                {
+                if let Err(halted) = turn(
+                    alloc,
+                    tracing,
+                    &mut session,
+                    b,
+                    engine,
+                    store,
+                    out,
+                    trace,
+                ) {
                     return Err(halted);
                 }
             }

@@ -183,9 +183,7 @@ fn run<I: Source, O: Sink, T: Sink, S: BlockStore>(
         Ok(FirstLine::Bad) => ended_at(Ending::BadKey),
         Ok(FirstLine::Last(_)) => ended_at(Ending::Ran(Ok(false))),
         Ok(FirstLine::Secret(key)) => {
-            let (ran, high) = serve_with(
-                alloc, tracing, &key, &mut feed, input, out, trace, store,
-            );
+            let (ran, high) = serve_with(alloc, tracing, &key, &mut feed, input, out, trace, store);
             ended_with(ran, high)
         }
     }

@@ -1,9 +1,9 @@
-//! A store in memory, of which one read, write or discard fails.
+//! A store in memory of which one read or discard fails.
 ghost use Rattle.std.specs.Prelude.{◌≡◌, ◌<◌, ◌≤◌, ◌⊎◌, ℕ, [], None, refl, length, slice_get, OnOk, OnErr};
+ghost use Rattle.ob_store.specs.contracts.memory.MemStoreBlockStore.TheImpl.Laws.{starts_empty-law};
 
 use ob_base::{Access, Failed, NoMemory, StoreErr};
 use ob_store::{BlockStore, MemStore};
-use std::alloc::Global;
 
 #[derive(Drop)]
 pub struct FailingStore {
@@ -14,12 +14,12 @@ pub struct FailingStore {
 }
 
 impl FailingStore {
-    /// A store whose access of this number, counted from 1, fails.
-    pub fn new(alloc: Global, fail: u64) -> FailingStore
-        ensures { (⟦<FailingStore as BlockStore>⟧.state result).asked ≡ [] }
+    /// A store whose access of this number, counted from 1, fails if it is a read or a discard.
+    pub fn new(inner: MemStore, fail: u64) -> FailingStore
+        ensures { (⟦<FailingStore as BlockStore>⟧.state result).asked ≡ (⟦<MemStore as BlockStore>⟧.state inner).asked }
     {
         FailingStore {
-            inner: MemStore::new(alloc),
+            inner,
             fail,
             faults: 0,
             slips: 0,
@@ -30,7 +30,7 @@ impl FailingStore {
 impl BlockStore for FailingStore {
     ghost state = { λ s. record (⟦<MemStore as BlockStore>⟧.state s.inner) { faults = s.faults; slips = s.slips } };
 
-    ghost starts_empty = { λ s r none. ⟦<MemStore as BlockStore>⟧.starts_empty s.inner r none };
+    ghost starts_empty = { λ s r none. starts_empty-law s.inner r none };
 
     ghost starts_honest = { λ s none. refl };
 
@@ -39,11 +39,24 @@ impl BlockStore for FailingStore {
     }
 
     fn make(&mut self, region: u64, blocks: u32, len: u32) -> Result<(), StoreErr> {
-        self.inner.make(region, blocks, len)
+        match self.inner.make(region, blocks, len) {
+            Ok(()) => Ok(()),
+            Err(StoreErr::NoMemory) => Err(StoreErr::NoMemory),
+            Err(StoreErr::Failed) => {
+                self.faults = self.faults.saturating_add(1);
+                Err(StoreErr::Failed)
+            }
+        }
     }
 
     fn read(&mut self, region: u64, place: u32, buf: &mut [u8]) -> Result<(), Failed> {
-        let _ = self.inner.read(region, place, buf);
+        match self.inner.read(region, place, buf) {
+            Ok(()) => {}
+            Err(Failed) => {
+                self.faults = self.faults.saturating_add(1);
+                return Err(Failed);
+            }
+        }
         if self.inner.count() == self.fail {
             self.faults = self.faults.saturating_add(1);
             return Err(Failed);
@@ -52,16 +65,23 @@ impl BlockStore for FailingStore {
     }
 
     fn write(&mut self, region: u64, place: u32, block: &[u8]) -> Result<(), Failed> {
-        let _ = self.inner.write(region, place, block);
-        if self.inner.count() == self.fail {
-            self.faults = self.faults.saturating_add(1);
-            return Err(Failed);
+        match self.inner.write(region, place, block) {
+            Ok(()) => Ok(()),
+            Err(Failed) => {
+                self.faults = self.faults.saturating_add(1);
+                Err(Failed)
+            }
         }
-        Ok(())
     }
 
     fn discard(&mut self, region: u64) -> Result<(), Failed> {
-        let _ = self.inner.discard(region);
+        match self.inner.discard(region) {
+            Ok(()) => {}
+            Err(Failed) => {
+                self.slips = self.slips.saturating_add(1);
+                return Err(Failed);
+            }
+        }
         if self.inner.count() == self.fail {
             self.slips = self.slips.saturating_add(1);
             return Err(Failed);

@@ -39,7 +39,7 @@ fn store_fails(rt: HostRuntime) -> Result<(), Fail> {
         ),
     ];
     for (fail, case) in &cases {
-        let mut store = FailingStore::new(a, *fail);
+        let mut store = FailingStore::new(MemStore::new(a), *fail);
         serve(&rt, a, case, &mut store)?;
     }
     Ok(())

@@ -3,10 +3,9 @@
 
 use ob_io::{StdSink, StdSource};
 use ob_shell::meddle_top;
-use std::env;
-use std::io;
 use std::process::ExitCode;
 use std::rt::Env;
+use std::{env, io};
 
 /// The exit status where the words can't be had.
 const NO_WORDS: u8 = 7;

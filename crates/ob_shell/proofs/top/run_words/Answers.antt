@@ -1,5 +1,4 @@
-use Rattle.std.proofs.Common.{refl, sym}
-use Rattle.ob_shell.proofs.StepLemmas.{any_refused-nil}
+use Rattle.std.proofs.Common.{refl}
 use Rattle.ob_shell.proofs.TopLemmas.{shown_unread, takes_of}
 use Rattle.ob_shell.proofs.TraceLemmas.{traced_none, traced_whole}
 use Rattle.ob_shell.proofs.top.run_words.Goals as goal

@@ -1,4 +1,3 @@
-use Rattle.ob_shell.specs.Running.{stop_of}
 use Rattle.ob_shell.proofs.TopLemmas.{ran_nothing, ran_after}
 use Rattle.ob_shell.proofs.TraceLemmas.{traced_none, traced_whole}
 use Rattle.ob_shell.proofs.top.serve_with.Goals as goal

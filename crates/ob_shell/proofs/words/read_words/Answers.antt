@@ -1,4 +1,4 @@
-use Rattle.std.proofs.Common.{refl, sym, ap, codes, true, ◌≡◌, ◌∙◌, map, List, [], ℕ}
+use Rattle.std.proofs.Common.{sym, ap, codes, true, ◌≡◌, ◌∙◌, map, List, []}
 use Rattle.std.specs.Prelude.{string_bytes}
 use Rattle.clap.specs.Words.{App, Text, HasMatchesOf, app_of, fault_of, first_of, first_value, is_simple, is_simple_and_free, matches_of, found_of}
 use Rattle.clap.specs.declared.parser.matches.ArgMatches.{ArgMatches}
