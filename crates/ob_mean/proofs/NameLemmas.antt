@@ -46,7 +46,7 @@ count_by-append p xs ys =
 pub meant_length : (name : ColumnName) (l r : Columns) → length (meant_by name (l ++ r)) ≡ count_by (is_named name) l + count_by (is_named name) r
 meant_length name l r = length-places (is_named name) (l ++ r) ∙ count_by-append (is_named name) l r
 
-first-places : {A : Type 0} (n : ℕ) (p : A → Bool) (xs : List A) → first (places_from n p xs) ≡ position_from p n xs
+pub first-places : {A : Type 0} (n : ℕ) (p : A → Bool) (xs : List A) → first (places_from n p xs) ≡ position_from p n xs
 first-places n p [] = refl
 first-places n p (x ∷ xs) =
     let rest : first (places_from (suc n) p xs) ≡ position_from p (n + 1) xs = first-places (suc n) p xs ∙ ap (λ m. position_from p m xs) (sym (add-one n)) in

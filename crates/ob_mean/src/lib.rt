@@ -3,6 +3,7 @@
 
 mod answer;
 mod conds;
+mod creates;
 mod kinds;
 mod listed;
 mod named;
