@@ -4,6 +4,7 @@
 mod answer;
 mod conds;
 mod creates;
+mod early;
 mod kinds;
 mod listed;
 mod named;

@@ -8,5 +8,5 @@ pub returns-in-Join : goal.returns-in-Join
 returns-in-Join c =
     let j = c.in-Join in
     c.on_off_key.ensures
-    ∙ (λ t. not (is_key (c.columns_at.ensures.value t) (left_place (length (c.columns_at.ensures.value t)) (c.columns_at.ensures.value t ++ c.columns_at-in-Join.ensures.value t) j.on.now j.equals.now)))
+    ∙ (λ t. not (is_key (c.columns_at.ensures.value t) (left_place (length (c.columns_at.ensures.value t)) (c.columns_at.ensures.value t ++ c.columns_at-in-Join.ensures.value t) j.on j.equals)))
     ∙ sym (ap (joins_off_key_at (headings_of c.args.tables.now)) j.is)
