@@ -1,5 +1,5 @@
 -- The same refusals, by the columns of the left table and of the right one.
-use Rattle.std.specs.Prelude.{ℕ, Bool, true, false, not, ◌||◌, List, [], ◌∷◌, ◌++◌, length, Option, Some, None, option_to_list, ◌≡◌, ⊤}
+use Rattle.std.specs.Prelude.{Bool, true, false, not, ◌||◌, List, [], ◌++◌, length, ◌≡◌, ⊤}
 use Rattle.std.specs.List.{list_any, flat_map}
 use Rattle.ob_base.specs.declared.schema.Kind.TheVariants.{Int as IntKind}
 use Rattle.ob_base.specs.declared.schema.Heading.{Heading}

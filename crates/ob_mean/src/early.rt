@@ -1,5 +1,5 @@
 //! Which statements are refused before any access.
-ghost use Rattle.std.specs.Prelude.{◌≡◌, ◌≤◌, ◌+◌, ◌*◌, ◌++◌, ◌∷◌, [], Option, Some, None, List, ℕ, Bool, length, map, not, unwrap_or, option_to_list, zip, bytes_eq, slice_get, false};
+ghost use Rattle.std.specs.Prelude.{◌≡◌, ◌≤◌, ◌+◌, ◌*◌, ◌++◌, ◌∷◌, [], Option, Some, None, List, ℕ, Bool, length, map, not, unwrap_or, option_to_list, zip, bytes_eq, slice_get, false, ◌||◌};
 ghost use Rattle.std.specs.Option.{option_map_or};
 ghost use Rattle.std.specs.List.{list_any};
 ghost use Rattle.ob_base.specs.declared.schema.Column.{Column};
@@ -311,6 +311,15 @@ fn is_past_limit(public: &Public, stmt: &Stmt) -> bool
     }
 }
 
+// A size past the limits, or too many accesses before it.
+fn meets_limit(late: bool, public: &Public, stmt: &Stmt) -> bool
+    requires pack { 1 ≤ public.now.pack }
+    requires buffer { 3 * public.now.pack + 1 ≤ public.now.buffer }
+    ensures { result ≡ (is_past_limit public.now.pack public.now.buffer (headings_of public.now.tables) stmt.now || late) }
+{
+    is_past_limit(public, stmt) || late
+}
+
 // One of the columns is the primary key.
 fn sets_key(sets: &[Set], columns: &[Column]) -> bool
     requires { length columns.now ≤ 32 }
@@ -387,15 +396,19 @@ fn right_columns<'a>(tables: &'a [Table], stmt: &Stmt) -> &'a [Column]
 }
 
 // The first refusal whose condition holds.
-fn first_of(conditions: [(bool, Refusal); 8]) -> Option<Refusal>
-    ensures { result ≡ first_holding conditions }
+fn first_of(conditions: &[(bool, Refusal)]) -> Option<Refusal>
+    ensures { result ≡ first_holding conditions.now }
 {
-    for (holds, refusal) in conditions {
-        if holds {
-            return Some(refusal);
+    match conditions.split_first() {
+        None => None,
+        Some((condition, conditions)) => {
+            if condition.0 {
+                Some(condition.1)
+            } else {
+                first_of(conditions)
+            }
         }
     }
-    None
 }
 
 /// The refusal of a statement that comes before any access, the one of the smallest number whose
@@ -408,13 +421,13 @@ pub fn early_refusal(late: bool, public: &Public, stmt: &Stmt) -> Option<Refusal
     let tables = public.tables.as_slice();
     let left = left_columns(tables, stmt);
     let right = right_columns(tables, stmt);
-    first_of([
+    first_of(&[
         (lacks_table(tables, stmt), Refusal::NoTable),
         (takes_name(tables, stmt), Refusal::NameTaken),
         (lacks_column(stmt, left, right), Refusal::NoColumn),
         (mistypes_any(stmt, left, right), Refusal::WrongType),
         (overflows_any(stmt, left, right), Refusal::ValueRange),
-        (is_past_limit(public, stmt) || late, Refusal::Limit),
+        (meets_limit(late, public, stmt), Refusal::Limit),
         (breaks_key_rule(tables, stmt), Refusal::KeyRule),
         (joins_off_key(tables, stmt), Refusal::JoinKey),
     ])

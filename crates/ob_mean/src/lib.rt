@@ -12,3 +12,4 @@ mod names;
 mod sources;
 
 pub use answer::Answer;
+pub use early::early_refusal;

@@ -1,4 +1,4 @@
-use Rattle.std.proofs.Common.{◌≡◌, sym, ◌∙◌, ap}
+use Rattle.std.proofs.Common.{sym, ◌∙◌, ap}
 use Rattle.ob_sql.specs.declared.stmt.Stmt.TheVariants.{Insert}
 use Rattle.ob_mean.specs.Scopes.{mistypes_in}
 use Rattle.ob_mean.proofs.early.mistypes_any.Goals as goal
