@@ -12,6 +12,8 @@ mod listed;
 mod named;
 mod names;
 mod sources;
+#[cfg(test)]
+mod tests;
 mod values;
 
 pub use answer::Answer;
