@@ -1,3 +1,4 @@
 pub mod NameLemmas
 pub mod CondLemmas
 pub mod RefusalLemmas
+pub mod SourceLemmas

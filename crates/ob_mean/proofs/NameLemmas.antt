@@ -1,9 +1,8 @@
 -- The columns that a name may mean.
-use Rattle.std.proofs.Common.{◌≡◌, ℕ, zero, suc, ◌+◌, ◌-◌, ◌<◌, ◌≤◌, Bool, true, false, List, [], ◌∷◌, ◌++◌, map, length, refl, sym, ◌∙◌, ap, cond, arith}
-use Rattle.std.specs.Prelude.{Option, Some, None, find, is_some, count_by, position, slice_get, bytes_eq, ◌||◌, unwrap_or, ◌==◌}
+use Rattle.std.proofs.Common.{◌≡◌, ℕ, zero, suc, ◌+◌, ◌-◌, ◌<◌, ◌≤◌, Bool, true, false, List, [], ◌∷◌, ◌++◌, length, refl, sym, ◌∙◌, ap, cond, arith}
+use Rattle.std.specs.Prelude.{Option, Some, None, find, is_some, count_by, position, slice_get, bytes_eq, ◌||◌, unwrap_or}
 use Rattle.std.specs.List.{list_any, position_from}
 use Rattle.std.specs.Option.{option_map}
-use Rattle.ob_base.specs.declared.schema.Column.{Column}
 use Rattle.ob_base.specs.declared.schema.Heading.{Heading}
 use Rattle.ob_base.specs.declared.skeleton.ColumnName.{ColumnName}
 use Rattle.ob_base.specs.Lists.{places_from, places_of, first}
@@ -46,7 +45,7 @@ count_by-append p xs ys =
 pub meant_length : (name : ColumnName) (l r : Columns) → length (meant_by name (l ++ r)) ≡ count_by (is_named name) l + count_by (is_named name) r
 meant_length name l r = length-places (is_named name) (l ++ r) ∙ count_by-append (is_named name) l r
 
-first-places : {A : Type 0} (n : ℕ) (p : A → Bool) (xs : List A) → first (places_from n p xs) ≡ position_from p n xs
+pub first-places : {A : Type 0} (n : ℕ) (p : A → Bool) (xs : List A) → first (places_from n p xs) ≡ position_from p n xs
 first-places n p [] = refl
 first-places n p (x ∷ xs) =
     let rest : first (places_from (suc n) p xs) ≡ position_from p (n + 1) xs = first-places (suc n) p xs ∙ ap (λ m. position_from p m xs) (sym (add-one n)) in

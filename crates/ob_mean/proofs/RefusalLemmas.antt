@@ -1,11 +1,11 @@
 -- The refusals by the columns of two tables are those by their scope.
-use Rattle.std.proofs.Common.{◌≡◌, Bool, false, List, [], ◌∷◌, ◌++◌, length, refl, sym, ◌∙◌, ap, append-nil}
+use Rattle.std.proofs.Common.{◌≡◌, List, ◌++◌, refl, append-nil}
 use Rattle.std.specs.Prelude.{not, ◌||◌}
 use Rattle.std.specs.List.{list_any, flat_map}
 use Rattle.ob_base.specs.declared.schema.Heading.{Heading}
 use Rattle.ob_base.specs.declared.skeleton.Source.{Source}
 use Rattle.ob_base.specs.declared.skeleton.Source.TheVariants.{Table as OneTable, Join}
-use Rattle.ob_base.specs.Schemas.{Columns, same_kind}
+use Rattle.ob_base.specs.Schemas.{same_kind}
 use Rattle.ob_base.specs.declared.schema.Kind.TheVariants.{Int as IntKind}
 use Rattle.ob_base.specs.declared.skeleton.ColumnName.{ColumnName}
 use Rattle.ob_sql.specs.declared.stmt.Literal.{Literal}

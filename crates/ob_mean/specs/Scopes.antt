@@ -1,5 +1,5 @@
 -- The same refusals, by the columns of the left table and of the right one.
-use Rattle.std.specs.Prelude.{ℕ, Bool, true, false, not, ◌||◌, List, [], ◌∷◌, ◌++◌, length, Option, Some, None, option_to_list}
+use Rattle.std.specs.Prelude.{Bool, true, false, not, ◌||◌, List, [], ◌++◌, length, ◌≡◌, ⊤}
 use Rattle.std.specs.List.{list_any, flat_map}
 use Rattle.ob_base.specs.declared.schema.Kind.TheVariants.{Int as IntKind}
 use Rattle.ob_base.specs.declared.schema.Heading.{Heading}
@@ -61,3 +61,12 @@ abbrev pub overflows_in : (left right : Columns) → Stmt → Bool
 overflows_in left right stmt =
     list_any (λ (a : ColumnName × Literal). at_kind (λ k. is_too_large_for k a.1) a.0 (left ++ right)) (assignments stmt (left ++ right))
     || list_any (λ (c : Comparison). against_too_large c.1) (compared stmt)
+
+-- but for a SELECT there is no right table
+abbrev pub HasOneTable : Stmt → Columns → Type 0
+HasOneTable (Create table columns capacity) right = right ≡ []
+HasOneTable (Insert table columns values) right = right ≡ []
+HasOneTable (Update table sets cond) right = right ≡ []
+HasOneTable (Delete table cond) right = right ≡ []
+HasOneTable (DropTable table) right = right ≡ []
+HasOneTable (SelectStmt s) right = ⊤

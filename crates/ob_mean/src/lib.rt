@@ -2,11 +2,23 @@
 #![tactic(auto)]
 
 mod answer;
+mod condition;
 mod conds;
+mod creates;
+mod early;
+mod items;
 mod kinds;
 mod listed;
 mod named;
 mod names;
 mod sources;
+#[cfg(test)]
+mod tests;
+mod values;
 
 pub use answer::Answer;
+pub use condition::{cell_of, where_at};
+pub use early::early_refusal;
+pub use items::{agg_of, item_of};
+pub use names::place_of;
+pub use values::{given_cell, set_cell};

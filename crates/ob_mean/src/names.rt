@@ -70,7 +70,8 @@ fn count_named(name: &ColumnName, columns: &[Column]) -> usize
 
 // The first column that a name may mean.
 fn first_named(name: &ColumnName, columns: &[Column]) -> Option<usize>
-    ensures { result ≡ position (is_named name.now) columns.now }
+    ensures value { result ≡ position (is_named name.now) columns.now }
+    ensures within { IfSome result (λ i. i < length columns.now) }
 {
     columns.iter().position(|column| is_named(name, column))
 }
@@ -85,12 +86,13 @@ pub(crate) fn means_one(name: &ColumnName, left: &[Column], right: &[Column]) ->
     count_named(name, left) + count_named(name, right) == 1
 }
 
-// The place of the column that a name means, among those of these tables together.
+/// The place of the column that a name means, among those of these tables together.
 #[tactic(auto, using(crate::proofs::NameLemmas::meant_first))]
-pub(crate) fn place_of(name: &ColumnName, left: &[Column], right: &[Column]) -> usize
+pub fn place_of(name: &ColumnName, left: &[Column], right: &[Column]) -> usize
     requires left { length left.now ≤ 32 }
     requires right { length right.now ≤ 32 }
-    ensures { result ≡ place_of name.now (left.now ++ right.now) }
+    ensures value { result ≡ place_of name.now (left.now ++ right.now) }
+    ensures few { result < 64 }
 {
     match first_named(name, left) {
         Some(i) => i,

@@ -1,8 +1,9 @@
 //! Where a SELECT takes its rows from.
-ghost use Rattle.std.specs.Prelude.{◌≡◌, ◌≤◌, ◌<◌, ◌+◌, ◌*◌, ◌++◌, ◌-◌, length, not, IfSome, IfNone};
+ghost use Rattle.std.specs.Prelude.{◌≡◌, ◌≤◌, ◌<◌, ◌+◌, ◌*◌, ◌++◌, ◌-◌, length, not, position, IfSome, IfNone};
 ghost use Rattle.std.specs.List.{list_any};
 ghost use Rattle.ob_base.specs.Schemas.{same_kind, key_place};
 ghost use Rattle.ob_base.specs.Stored.{has_table};
+ghost use Rattle.ob_base.specs.Joins.{joined_slots};
 ghost use Rattle.ob_mean.specs.Headings.{headings_of};
 ghost use Rattle.ob_mean.specs.Kinds.{at_kind};
 ghost use Rattle.ob_mean.specs.Refusals.{source_tables, joins_itself, joins_kinds, joins_past, joins_past_at, joins_off_key_at, join_columns, is_key, left_place, is_across, means_one};
@@ -99,5 +100,103 @@ pub(crate) fn joins_kinds(source: &Source, left: &[Column], right: &[Column]) ->
     match source {
         Source::Table(_) => true,
         Source::Join { on, equals, .. } => are_alike(on, equals, left, right),
+    }
+}
+
+// The slots of the joined region of tables of so many slots.
+fn joined_slots(public: &Public, n: u32, m: u32) -> u128
+    requires pack { 1 ≤ public.now.pack }
+    requires buffer { 3 * public.now.pack + 1 ≤ public.now.buffer }
+    ensures { result ≡ joined_slots public.now.pack public.now.buffer n m }
+{
+    let pack = u32::from(public.pack);
+    let buffered = (public.buffer - 2 * pack) / pack;
+    let chunks = n.div_ceil(pack).div_ceil(buffered);
+    let blocks = u128::from(chunks) * u128::from(m.div_ceil(pack));
+    blocks * u128::from(pack)
+}
+
+#[tactic(auto, using(crate::proofs::SourceLemmas::width_both))]
+fn headings_past(public: &Public, left: &Heading, right: &Heading) -> bool
+    requires pack { 1 ≤ public.now.pack }
+    requires buffer { 3 * public.now.pack + 1 ≤ public.now.buffer }
+    ensures { result ≡ joins_past_at public.now.pack public.now.buffer (Some left.now) (Some right.now) }
+{
+    u64::from(width(&left.schema)) + u64::from(width(&right.schema)) > 1025
+        || joined_slots(public, left.capacity, right.capacity) > 16_777_216
+}
+
+/// Whether the joined row or region is past the limits.
+pub(crate) fn joins_past(public: &Public, source: &Source) -> bool
+    requires pack { 1 ≤ public.now.pack }
+    requires buffer { 3 * public.now.pack + 1 ≤ public.now.buffer }
+    ensures { result ≡ joins_past public.now.pack public.now.buffer (headings_of public.now.tables) source.now }
+{
+    let tables = public.tables.as_slice();
+    match source {
+        Source::Table(_) => false,
+        Source::Join { left, right, .. } => {
+            match (heading_at(tables, left), heading_at(tables, right)) {
+                (Some(left), Some(right)) => headings_past(public, left, right),
+                _ => false,
+            }
+        }
+    }
+}
+
+fn key_position(columns: &[Column]) -> Option<usize>
+    ensures { result ≡ position (λ c. c.key) columns.now }
+{
+    columns.iter().position(|column| column.key)
+}
+
+#[tactic(auto, using(crate::proofs::SourceLemmas::key_position))]
+fn is_key(columns: &[Column], i: usize) -> bool
+    ensures { result ≡ is_key columns.now i }
+{
+    match key_position(columns) {
+        None => false,
+        Some(j) => i == j,
+    }
+}
+
+fn left_place(on: &ColumnName, equals: &ColumnName, left: &[Column], right: &[Column]) -> usize
+    requires left { length left.now ≤ 32 }
+    requires right { length right.now ≤ 32 }
+    ensures { result ≡ left_place (length left.now) (left.now ++ right.now) on.now equals.now }
+{
+    let i = place_of(on, left, right);
+    if i < left.len() {
+        i
+    } else {
+        place_of(equals, left, right)
+    }
+}
+
+fn on_off_key(on: &ColumnName, equals: &ColumnName, left: &[Column], right: &[Column]) -> bool
+    requires left { length left.now ≤ 32 }
+    requires right { length right.now ≤ 32 }
+    ensures { result ≡ not (is_key left.now (left_place (length left.now) (left.now ++ right.now) on.now equals.now)) }
+{
+    !is_key(left, left_place(on, equals, left, right))
+}
+
+/// Whether the left column of ON is not its table's primary key.
+pub(crate) fn joins_off_key(tables: &[Table], source: &Source) -> bool
+    ensures { result ≡ joins_off_key_at (headings_of tables.now) source.now }
+{
+    match source {
+        Source::Table(_) => false,
+        Source::Join {
+            left,
+            right,
+            on,
+            equals,
+        } => on_off_key(
+            on,
+            equals,
+            columns_at(tables, left),
+            columns_at(tables, right),
+        ),
     }
 }

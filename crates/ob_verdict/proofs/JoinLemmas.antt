@@ -7,10 +7,9 @@ use Rattle.std.proofs.lemmas.List.Elements.{filter_map-append}
 use Rattle.std.proofs.lemmas.List.Folds.{list_any-append}
 use Rattle.std.proofs.lemmas.Grind.{flat_map-append}
 use Rattle.std.proofs.Math.Seq.{take-add}
-use Rattle.std.proofs.Math.Nat.{zero-mul, suc-mul, mul_comm}
+use Rattle.std.proofs.Math.Nat.{zero-mul, suc-mul}
 use Rattle.std.proofs.lemmas.List.{take-append-drop}
 use Rattle.ob_base.specs.Lists.{each, has_repeats}
-use Rattle.std.specs.Int.{div_ceil}
 use Rattle.std.specs.Prelude.{replicate}
 use Rattle.ob_row.specs.Bags.{Same}
 use Rattle.ob_row.specs.Rows.{Row, agree_at, pairs, AreDistinct}

@@ -15,7 +15,6 @@ use Rattle.ob_base.specs.declared.skeleton.Source.{Source}
 use Rattle.ob_base.specs.declared.skeleton.Source.TheVariants.{Table as OneTable, Join}
 use Rattle.ob_base.specs.Limits.{buffered}
 use Rattle.ob_base.specs.Lists.{each, places_from}
-use Rattle.std.specs.Int.{div_ceil}
 use Rattle.ob_base.specs.Plans.{choose}
 use Rattle.ob_base.specs.Stored.{Stored, headings, stored_at, heading_at}
 use Rattle.ob_row.specs.Slots.{Slots, is_consecutive, rows}
@@ -31,7 +30,7 @@ use Rattle.ob_sql.specs.Skeleton.{skeleton}
 use Rattle.ob_row.specs.Rows.{Row}
 use Rattle.std.proofs.lemmas.Grind.{div_ceil_times}
 use Rattle.std.proofs.lemmas.List.{length-replicate}
-use Rattle.std.specs.Prelude.{replicate, is_none}
+use Rattle.std.specs.Prelude.{replicate}
 use Rattle.ob_base.specs.Joins.{chunks, joined_slots}
 use Rattle.ob_base.specs.Numbers.{blocks_for}
 use Rattle.ob_base.specs.declared.seen.End.{End}

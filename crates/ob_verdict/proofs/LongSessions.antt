@@ -1,19 +1,16 @@
 -- Longer sessions, computed.
 use Rattle.std.proofs.Common.{◌≡◌, ℕ, zero, suc, List, [], ◌∷◌, ◌++◌, refl}
-use Rattle.std.specs.Prelude.{Option, Some, None, Ok, codes, pos}
-use Rattle.ob_base.specs.declared.access.Access.TheVariants.{Make, Read, Write, Discard}
-use Rattle.ob_base.specs.declared.config.Public.{Public}
+use Rattle.std.specs.Prelude.{Option, Some, None, Ok, codes}
 use Rattle.ob_base.specs.declared.config.Plan.TheVariants.{Small, Large, Hash}
 use Rattle.ob_base.specs.declared.seen.End.TheVariants.{Whole}
 use Rattle.ob_base.specs.declared.seen.Seen.{Seen}
-use Rattle.ob_base.specs.declared.shown.Shown.TheVariants.{Int as I}
 use Rattle.ob_base.specs.declared.skeleton.Source.TheVariants.{Table as OneTable, Join}
 use Rattle.ob_base.specs.Accesses.{makes}
 use Rattle.ob_row.specs.declared.pred.Order.TheVariants.{Equal, NotEqual, Greater, LessOrEqual}
 use Rattle.ob_sql.specs.declared.stmt.Listed.TheVariants.{Column as ListedColumn, CountAll, Sum}
 use Rattle.ob_sql.specs.declared.stmt.Stmt.TheVariants.{Create, Insert, Update, Delete, Drop as DropTable, Select as SelectStmt}
 use Rattle.ob_sql.specs.Search.{Search, Or}
-use Rattle.ob_mean.specs.declared.answer.Answer.TheVariants.{Done, Changed, Rows, Refused}
+use Rattle.ob_mean.specs.declared.answer.Answer.TheVariants.{Done, Changed, Rows}
 use Rattle.ob_verdict.specs.Replay.{Spelt, Session, after_all, first_public, first_session, seen_now}
 use Rattle.ob_verdict.proofs.Sessions.{id, v, col, of_table, int, compare, column, insert, answers_of, asked_by, ints}
 

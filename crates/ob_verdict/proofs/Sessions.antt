@@ -1,6 +1,6 @@
 -- Statements and sessions of small tables.
-use Rattle.std.proofs.Common.{ℕ, List, [], ◌∷◌, ◌++◌, length, drop}
-use Rattle.std.specs.Prelude.{Option, Some, None, Ok, Err, codes, pos, map}
+use Rattle.std.proofs.Common.{ℕ, List, [], ◌∷◌, ◌++◌}
+use Rattle.std.specs.Prelude.{Option, Some, None, Ok, codes, pos, map}
 use Rattle.ob_base.specs.declared.access.Access.{Access}
 use Rattle.ob_base.specs.declared.config.Public.{Public}
 use Rattle.ob_base.specs.declared.config.Plan.{Plan}
@@ -18,7 +18,7 @@ use Rattle.ob_sql.specs.declared.stmt.Literal.{Literal}
 use Rattle.ob_sql.specs.declared.stmt.Literal.TheVariants.{Int as IntLiteral}
 use Rattle.ob_sql.specs.declared.stmt.Against.TheVariants.{Literal as LiteralAgainst}
 use Rattle.ob_sql.specs.declared.stmt.Listed.{Listed}
-use Rattle.ob_sql.specs.declared.stmt.Stmt.TheVariants.{Create, Insert, Update, Delete, Drop as DropTable, Select as SelectStmt}
+use Rattle.ob_sql.specs.declared.stmt.Stmt.TheVariants.{Create, Insert, Update, Select as SelectStmt}
 use Rattle.ob_sql.specs.Search.{Search, Compare}
 use Rattle.ob_script.specs.Trace.{trace}
 use Rattle.ob_mean.specs.declared.answer.Answer.{Answer}

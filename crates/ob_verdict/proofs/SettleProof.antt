@@ -6,7 +6,6 @@ use Rattle.std.specs.Option.{option_map_or}
 use Rattle.ob_base.specs.declared.config.Public.{Public}
 use Rattle.ob_base.specs.declared.schema.Heading.{Heading}
 use Rattle.ob_base.specs.declared.refusal.Refusal.{Refusal}
-use Rattle.ob_base.specs.Limits.{buffered}
 use Rattle.ob_base.specs.Stored.{headings, stored_at, changed_at, dropped_at}
 use Rattle.ob_row.specs.Bags.{Same, Inserts}
 use Rattle.ob_row.proofs.BagLemmas.{Same-refl, Same-wholes, Inserts-middle}

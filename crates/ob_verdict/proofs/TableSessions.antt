@@ -6,20 +6,19 @@ use Rattle.ob_base.specs.declared.config.Plan.TheVariants.{Small, Large, Continu
 use Rattle.ob_base.specs.declared.refusal.Refusal.TheVariants.{Duplicate, Full, TooManyGroups, NotConsecutive, Overflow, NameTaken, NoColumn, WrongType, KeyRule, JoinKey, StoreFault}
 use Rattle.ob_base.specs.declared.shown.Shown.TheVariants.{Int as I, Null}
 use Rattle.ob_base.specs.declared.skeleton.ColumnName.{ColumnName}
-use Rattle.ob_base.specs.declared.skeleton.NewKind.TheVariants.{Int as NewInt}
-use Rattle.ob_base.specs.declared.skeleton.Source.TheVariants.{Table as OneTable, Join}
+use Rattle.ob_base.specs.declared.skeleton.Source.TheVariants.{Join}
 use Rattle.ob_base.specs.Accesses.{makes}
 use Rattle.ob_base.specs.Numbers.{first_bucket, second_bucket}
 use Rattle.ob_base.specs.Plans.{choose}
-use Rattle.ob_row.specs.declared.pred.Order.TheVariants.{Equal, Less, GreaterOrEqual, LessOrEqual}
+use Rattle.ob_row.specs.declared.pred.Order.TheVariants.{Equal, Less, GreaterOrEqual}
 use Rattle.ob_sql.specs.declared.stmt.Listed.{Listed}
 use Rattle.ob_sql.specs.declared.stmt.Listed.TheVariants.{Column as ListedColumn, CountAll, Sum, Min, Max}
 use Rattle.ob_sql.specs.declared.stmt.Literal.TheVariants.{Text as TextLiteral}
-use Rattle.ob_sql.specs.declared.stmt.Stmt.TheVariants.{Create, Insert, Update, Delete, Drop as DropTable, Select as SelectStmt}
+use Rattle.ob_sql.specs.declared.stmt.Stmt.TheVariants.{Insert, Update, Delete, Drop as DropTable, Select as SelectStmt}
 use Rattle.ob_sql.specs.Search.{Search, Not, Or}
 use Rattle.ob_mean.specs.declared.answer.Answer.TheVariants.{Done, Changed, Rows, Refused}
 use Rattle.ob_verdict.specs.Replay.{Spelt, first_public, first_session, answers}
-use Rattle.ob_verdict.proofs.Sessions.{t, u, id, v, col, of_table, int, compare, column, create_t, insert, four_rows, two_tables, select_where, select_items, join_on, update_v, by_four, forced, in_pairs, trace_of, answers_of, asked_by, last_answers, last_trace, result_after, row_of, ints}
+use Rattle.ob_verdict.proofs.Sessions.{t, u, id, v, col, of_table, int, compare, create_t, insert, four_rows, two_tables, select_where, select_items, join_on, update_v, by_four, forced, in_pairs, trace_of, answers_of, asked_by, last_answers, last_trace, result_after, row_of, ints}
 use Rattle.std.specs.Prelude.{Option}
 
 abbrev count_all : Spelt

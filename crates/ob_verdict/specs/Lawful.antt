@@ -1,5 +1,5 @@
 -- What may be seen of a statement, whatever the rows are.
-use Rattle.std.specs.Prelude.{◌≡◌, ◌≢◌, ◌⊎◌, ◌↔◌, ℕ, ◌≤◌, Bool, false, IsTrue, List, Option, Some, IsSome, IsNone, IfSome, IfNone, map, length, ⊤, not}
+use Rattle.std.specs.Prelude.{◌≡◌, ◌≢◌, ◌⊎◌, ◌↔◌, ℕ, ◌≤◌, Bool, false, IsTrue, List, Some, IsSome, IsNone, IfSome, IfNone, map, length, ⊤, not}
 use Rattle.std.specs.Option.{option_map_or}
 use Rattle.ob_base.specs.declared.config.Public.{Public}
 use Rattle.ob_base.specs.declared.config.Plan.TheVariants.{Small, Continuous, Hash}

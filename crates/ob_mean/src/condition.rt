@@ -1,0 +1,81 @@
+//! The condition of a WHERE, by the places of its columns.
+ghost use Rattle.std.specs.Prelude.{◌≡◌, ◌≤◌, ◌++◌, length, IfOk};
+ghost use Rattle.ob_sql.specs.Search.{search_of};
+ghost use Rattle.ob_mean.specs.Names.{cell_of, operand_of, condition_at, where_at};
+
+use crate::names::place_of;
+use ob_base::{Column, Text};
+use ob_row::{Cell, Operand, Pred};
+use ob_sql::{Against, Cond, CondTree, Literal};
+use std::alloc::{AllocError, Global};
+
+/// The cell of a literal; one that no cell holds is refused before.
+pub fn cell_of(literal: &Literal) -> Cell
+    ensures { result ≡ cell_of literal.now }
+{
+    match literal {
+        Literal::Int(x) => Cell::Int(*x),
+        Literal::Text(text) => Cell::Text(text.copied()),
+        Literal::OutOfRange => Cell::Text(Text::from_bytes(b"")),
+        Literal::TooLong => Cell::Text(Text::from_bytes(b"")),
+    }
+}
+
+fn operand_of(with: &Against, left: &[Column], right: &[Column]) -> Operand
+    requires left { length left.now ≤ 32 }
+    requires right { length right.now ≤ 32 }
+    ensures { result ≡ operand_of with.now (left.now ++ right.now) }
+{
+    match with {
+        Against::Literal(literal) => Operand::Cell(cell_of(literal)),
+        Against::Column(name) => Operand::Column(place_of(name, left, right) as u8),
+    }
+}
+
+fn condition_at(
+    alloc: Global,
+    tree: &CondTree,
+    left: &[Column],
+    right: &[Column],
+) -> Result<Pred, AllocError>
+    requires left { length left.now ≤ 32 }
+    requires right { length right.now ≤ 32 }
+    ensures { IfOk result (λ p. p ≡ condition_at (search_of tree.now) (left.now ++ right.now)) }
+{
+    match tree {
+        CondTree::Compare(name, order, with) => Ok(Pred::compare(
+            place_of(name, left, right) as u8,
+            *order,
+            operand_of(with, left, right),
+        )),
+        CondTree::Not(p) => Pred::not(alloc, condition_at(alloc, p, left, right)?),
+        CondTree::And(p, q) => {
+            let p = condition_at(alloc, p, left, right)?;
+            let q = condition_at(alloc, q, left, right)?;
+            Pred::and(alloc, p, q)
+        }
+        CondTree::Or(p, q) => {
+            let p = condition_at(alloc, p, left, right)?;
+            let q = condition_at(alloc, q, left, right)?;
+            Pred::or(alloc, p, q)
+        }
+    }
+}
+
+/// The condition of a WHERE over the columns of the left table and the right one; without a WHERE it
+/// is true of every row.
+pub fn where_at(
+    alloc: Global,
+    cond: &Option<Cond>,
+    left: &[Column],
+    right: &[Column],
+) -> Result<Pred, AllocError>
+    requires left { length left.now ≤ 32 }
+    requires right { length right.now ≤ 32 }
+    ensures { IfOk result (λ p. p ≡ where_at cond.now (left.now ++ right.now)) }
+{
+    match cond {
+        None => Ok(Pred::all()),
+        Some(cond) => condition_at(alloc, cond.tree(), left, right),
+    }
+}

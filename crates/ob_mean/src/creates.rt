@@ -1,0 +1,75 @@
+//! The limits of a new table.
+ghost use Rattle.std.specs.Prelude.{◌≡◌, ◌≤◌, ◌+◌, ℕ, List, [], length, map, sum_by, nat_lt, not, min};
+ghost use Rattle.std.specs.List.{list_any};
+ghost use Rattle.ob_base.specs.Schemas.{width, kind_width, kind_of, columns_of};
+ghost use Rattle.ob_base.specs.declared.skeleton.NewColumn.{NewColumn};
+ghost use Rattle.ob_mean.specs.Headings.{headings_of};
+ghost use Rattle.ob_mean.specs.Refusals.{is_size, creates_past};
+
+use ob_base::{NewColumn, NewKind, Table};
+
+fn is_size(kind: NewKind) -> bool
+    ensures { result ≡ is_size kind }
+{
+    match kind {
+        NewKind::Int => true,
+        NewKind::Varchar(n) => 1 <= n && n <= 255,
+    }
+}
+
+fn new_kind_width(kind: NewKind) -> u64
+    ensures value { result ≡ kind_width (kind_of kind) }
+    ensures few { result ≤ 4294967296 }
+{
+    match kind {
+        NewKind::Int => 8,
+        NewKind::Varchar(n) => u64::from(n) + 1,
+    }
+}
+
+// The bytes of a row's cells.
+fn cells_width(columns: &[NewColumn]) -> u64
+    requires { length columns.now ≤ 16 }
+    ensures { (table : List ℕ) → 1 + result ≡ width (columns_of table columns.now) }
+{
+    columns
+        .iter()
+        .map(|column| new_kind_width(column.kind))
+        .sum::<u64>()
+}
+
+fn has_bad_size(columns: &[NewColumn]) -> bool
+    ensures { result ≡ list_any (λ (c : NewColumn). not (is_size c.kind)) columns.now }
+{
+    columns.iter().any(|column| !is_size(column.kind))
+}
+
+/// Whether a new table is past the limits, or there are too many.
+pub(crate) fn creates_past(tables: &[Table], columns: &[NewColumn], capacity: u32) -> bool
+    ensures { (table : List ℕ) → result ≡ creates_past (headings_of tables.now) table columns.now capacity }
+{
+    capacity < 1
+        || capacity > 1_048_576
+        || columns.is_empty()
+        || columns.len() > 16
+        || has_bad_size(columns)
+        || cells_width(columns) > 1023
+        || tables.len() >= 64
+}
+
+/// Whether PRIMARY KEY stands there more than once.
+pub(crate) fn has_more_keys(columns: &[NewColumn]) -> bool
+    ensures { result ≡ nat_lt 1 (sum_by (λ (c : NewColumn). c.keys) columns.now) }
+{
+    key_count(columns) > 1
+}
+
+// How often it stands there, up to 2.
+fn key_count(columns: &[NewColumn]) -> u32
+    ensures { result ≡ min 2 (sum_by (λ (c : NewColumn). c.keys) columns.now) }
+{
+    match columns.split_first() {
+        None => 0,
+        Some((column, columns)) => (column.keys.min(2) + key_count(columns)).min(2),
+    }
+}
