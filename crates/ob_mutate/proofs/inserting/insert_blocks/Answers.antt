@@ -65,7 +65,8 @@ returns-in_err-swap_blocks-clause-err g c =
 pub returns-in_err-swap_blocks-clause-never : goal.returns-in_err-swap_blocks-clause-never
 returns-in_err-swap_blocks-clause-never g c =
     let p = err_from_is_err_and c.from_residual-in_err-swap_blocks.result c.from_residual-in_err-swap_blocks.ensures.1 in
-    rw (p.1, p.2) c.in_err-swap_blocks.ensures.never
+    let never = rw c.scan_blocks.ensures.rows.count at c.in_err-swap_blocks.ensures.never in
+    rw (p.1, p.2) never
 
 pub returns-in_err-swap_blocks-clause-seals : goal.returns-in_err-swap_blocks-clause-seals
 returns-in_err-swap_blocks-clause-seals g c = λ good fine.
