@@ -212,3 +212,12 @@ went_last n q x (Write a b ∷ rest) is =
 went_last n q x (Make a b c ∷ rest) is = went_last n q x rest is
 went_last n q x (Read a b ∷ rest) is = went_last n q x rest is
 went_last n q x (Discard a ∷ rest) is = went_last n q x rest is
+
+-- the regions of two lists of accesses
+pub makes-append : (asked more : List Access) → makes (asked ++ more) ≡ makes asked + makes more
+unfolding makes
+makes-append [] more = omega arith
+makes-append (Make q blocks len ∷ rest) more = omega (arith, makes-append rest more)
+makes-append (Read q x ∷ rest) more = makes-append rest more
+makes-append (Write q x ∷ rest) more = makes-append rest more
+makes-append (Discard q ∷ rest) more = makes-append rest more

@@ -7,3 +7,4 @@ pub mod Stored
 pub mod Limits
 pub mod Plans
 pub mod Events
+pub mod Joins

@@ -36,10 +36,13 @@ abbrev pub kind_of : NewKind → Kind
 kind_of NewInt = Int
 kind_of (NewVarchar n) = Varchar n
 
+-- a column as CREATE writes it
+abbrev pub new_column : List ℕ → NewColumn → Column
+new_column table c = record { table = table; name = c.name; kind = kind_of c.kind; key = nat_lt 0 c.keys }
+
 -- the columns of a table as CREATE writes it
 abbrev pub columns_of : List ℕ → List NewColumn → Columns
-columns_of table cs =
-    map (λ (c : NewColumn). record { table = table; name = c.name; kind = kind_of c.kind; key = nat_lt 0 c.keys }) cs
+columns_of table cs = map (new_column table) cs
 
 -- the place of the primary key, if there is one
 abbrev pub key_place : Columns → Option ℕ

@@ -1,5 +1,7 @@
-ghost use Rattle.std.specs.Prelude.{◌≡◌};
+ghost use Rattle.std.specs.Prelude.{◌≡◌, [], ◌∷◌, ◌++◌, OnOk, OnErr, MatchOption};
 
+use crate::fault::NoMemory;
+use std::alloc::Global;
 use std::marker::Model;
 
 /// A `Vec` that contracts see as the list of its elements.
@@ -20,6 +22,15 @@ impl<T> Model for Items<T> {
 }
 
 impl<T> Items<T> {
+    /// No elements.
+    pub fn new(alloc: Global) -> Items<T>
+        ensures { result ≡ [] }
+    {
+        Items {
+            items: Vec::new(alloc),
+        }
+    }
+
     /// The elements of `items`.
     pub fn from_vec(items: Vec<T>) -> Items<T>
         ensures { result ≡ items.items }
@@ -40,5 +51,25 @@ impl<T> Items<T> {
     {
         let Items { items } = self;
         items
+    }
+
+    /// Takes the last element away, if there is one.
+    pub fn pop(&mut self) -> Option<T>
+        ensures { MatchOption result ((self.old ≡ []) × (self.new ≡ [])) (λ x. self.old ≡ self.new ++ x ∷ []) }
+    {
+        self.items.pop()
+    }
+}
+
+impl<T: Drop> Items<T> {
+    /// Adds an element at the end.
+    pub fn push(&mut self, item: T) -> Result<(), NoMemory>
+        ensures ok { OnOk result (self.new ≡ self.old ++ item ∷ []) }
+        ensures err { OnErr result (self.new ≡ self.old) }
+    {
+        match self.items.push(item) {
+            Ok(()) => Ok(()),
+            Err(_) => Err(NoMemory),
+        }
     }
 }

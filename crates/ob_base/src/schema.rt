@@ -1,4 +1,4 @@
-ghost use Rattle.std.specs.Prelude.{◌≡◌, ◌<◌, List, [], ◌∷◌, ◌++◌, length};
+ghost use Rattle.std.specs.Prelude.{◌≡◌, ◌<◌, ◌≤◌, List, [], ◌∷◌, ◌++◌, length};
 
 use crate::text::Name;
 use arrayvec::ArrayVec;
@@ -18,6 +18,21 @@ pub struct Column {
     pub name: Name,
     pub kind: Kind,
     pub key: bool,
+}
+
+impl Kind {
+    ghost use Rattle.ob_base.specs.Schemas.{kind_width};
+
+    /// The bytes that a cell of this kind takes: 8, or as many as its text may have and one for its length.
+    pub fn width(self) -> u32
+        ensures value { result ≡ kind_width self }
+        ensures few { result ≤ 256 }
+    {
+        match self {
+            Kind::Int => 8,
+            Kind::Varchar(n) => u32::from(n) + 1,
+        }
+    }
 }
 
 impl Default for Column {
@@ -63,7 +78,7 @@ impl Model for Schema {
 }
 
 impl Schema {
-    ghost use Rattle.std.specs.Prelude.{◌≤◌};
+    ghost use Rattle.ob_base.specs.Schemas.{width};
 
     /// No columns.
     pub fn new() -> Schema
@@ -88,6 +103,18 @@ impl Schema {
         ensures { self.new ≡ self.old ++ column ∷ [] }
     {
         self.columns.push(column);
+    }
+
+    /// The bytes that a row takes: its mark and its cells.
+    pub fn width(&self) -> u32
+        ensures value { result ≡ width self.now }
+        ensures few { result ≤ 8193 }
+    {
+        let mut bytes = 1;
+        for column in self.as_slice() {
+            bytes += column.kind.width();
+        }
+        bytes
     }
 
     /// The same columns.

@@ -5,11 +5,12 @@ use Rattle.std.proofs.lemmas.Bool.Decides.{nat_tests}
 use Rattle.ob_base.specs.Lists.{places_from}
 use Rattle.ob_row.specs.Rows.{Row}
 use Rattle.ob_row.specs.Condition.{Condition}
-use Rattle.ob_row.specs.Truth.{is_selected}
+use Rattle.ob_row.specs.Slots.{is_selected}
+use Rattle.ob_row.specs.Truth.{is_true}
 use Rattle.ob_blocks.specs.Blocks.{scanned, up_to, none_of}
 use Rattle.ob_blocks.proofs.Blocks.{scanned-append, scanned-same}
 use Rattle.ob_flat.specs.declared.counting.Tally.{Tally}
-use Rattle.ob_flat.specs.Slots.{Slots, is_consecutive, selected}
+use Rattle.ob_row.specs.Slots.{Slots, is_consecutive, selected}
 use Rattle.ob_flat.specs.Counts.{next_of, tallied, IsTally}
 
 next_snoc : (is : List ℕ) (i : ℕ) → next_of (is ++ i ∷ []) ≡ i + 1
@@ -48,7 +49,7 @@ tally_more places t true i is = record {
 tally_more places t false i is = subst (λ (l : List ℕ). IsTally l t) (sym (append-nil places)) is
 
 abbrev step : Condition → ℕ → Tally → ℕ → Option Row → Tally
-step p n t i slot = tallied (is_selected p slot && nat_lt i n) i t
+step p n t i slot = tallied (is_selected (is_true p) slot && nat_lt i n) i t
 
 place_first : (b : Bool) (i : ℕ) (rest : List ℕ) → (if b then i ∷ rest else rest) ≡ (if b then i ∷ [] else []) ++ rest
 place_first true i rest = refl
@@ -58,25 +59,25 @@ below_is : (b : Bool) (i n : ℕ) → i < n → (b && nat_lt i n) ≡ b
 below_is true i n below = grind (arith, nat_tests)
 below_is false i n below = refl
 
-tally_all : (p : Condition) (n i : ℕ) (places : List ℕ) (t : Tally) (slots : Slots) → i + length slots ≤ n → IsTally places t → IsTally (places ++ places_from i (is_selected p) slots) (scanned (step p n) i t slots)
+tally_all : (p : Condition) (n i : ℕ) (places : List ℕ) (t : Tally) (slots : Slots) → i + length slots ≤ n → IsTally places t → IsTally (places ++ places_from i (is_selected (is_true p)) slots) (scanned (step p n) i t slots)
 tally_all p n i places t [] fits is = subst (λ (l : List ℕ). IsTally l t) (sym (append-nil places)) is
 tally_all p n i places t (slot ∷ slots) fits is =
-    let b = is_selected p slot in
+    let b = is_selected (is_true p) slot in
     let next : suc i ≡ i + 1 = omega arith in
     let here : IsTally (places ++ (if b then i ∷ [] else [])) (step p n t i slot) =
     subst (λ (d : Bool). IsTally (places ++ (if b then i ∷ [] else [])) (tallied d i t)) (sym (below_is b i n (omega (arith, fits)))) (tally_more places t b i is) in
     let rest = tally_all p n (i + 1) (places ++ (if b then i ∷ [] else [])) (step p n t i slot) slots (omega (arith, fits)) here in
     subst (λ (l : List ℕ). IsTally l (scanned (step p n) (i + 1) (step p n t i slot) slots))
-    (append_assoc places (if b then i ∷ [] else []) (places_from (i + 1) (is_selected p) slots)
-    ∙ ap (λ (l : List ℕ). places ++ l) (ap (λ (k : ℕ). (if b then i ∷ [] else []) ++ places_from k (is_selected p) slots) (sym next) ∙ sym (place_first b i (places_from (suc i) (is_selected p) slots))))
+    (append_assoc places (if b then i ∷ [] else []) (places_from (i + 1) (is_selected (is_true p)) slots)
+    ∙ ap (λ (l : List ℕ). places ++ l) (ap (λ (k : ℕ). (if b then i ∷ [] else []) ++ places_from k (is_selected (is_true p)) slots) (sym next) ∙ sym (place_first b i (places_from (suc i) (is_selected (is_true p)) slots))))
     rest
 
 -- all slots of a table, and the empty ones behind them
-pub tally_table : (p : Condition) (n m : ℕ) (t : Tally) (slots : Slots) → length slots ≡ n → IsTally [] t → IsTally (selected p slots) (scanned (step p n) 0 t (up_to m slots))
+pub tally_table : (p : Condition) (n m : ℕ) (t : Tally) (slots : Slots) → length slots ≡ n → IsTally [] t → IsTally (selected (is_true p) slots) (scanned (step p n) 0 t (up_to m slots))
 tally_table p n m t slots size is =
     let all = tally_all p n 0 [] t slots (omega (arith, size)) is in
     let behind = scanned-append (step p n) 0 t slots (none_of (m - length slots)) ∙ scanned-same (step p n) (0 + length slots) (m - length slots) (scanned (step p n) 0 t slots) None (λ k past. refl) in
-    subst (IsTally (selected p slots)) (sym behind) all
+    subst (IsTally (selected (is_true p) slots)) (sym behind) all
 
 -- what a visitor keeps beside its tally
 pub tally_of : {S : Type 0} (view : S → Tally) (same : S → S → Type 0) (f : S → ℕ → Option Row → S) (p : Condition) (n i : ℕ) (s : S) (slots : Slots)

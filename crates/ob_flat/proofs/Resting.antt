@@ -7,7 +7,7 @@ use Rattle.ob_store.specs.Calls.{Rests}
 use Rattle.ob_vault.specs.State.{VaultState}
 use Rattle.ob_vault.specs.Tied.{Ready}
 use Rattle.ob_flat.specs.declared.flat.Flat.{Flat}
-use Rattle.ob_flat.specs.Slots.{Slots}
+use Rattle.ob_row.specs.Slots.{Slots}
 use Rattle.ob_flat.specs.Flats.{IsFlat, Represents}
 
 module _ (v : VaultState) (s t : StoreState) (rests : Rests s t) where

@@ -14,7 +14,8 @@ use Rattle.std.proofs.lemmas.Grind.{common_steps}
 use Rattle.ob_blocks.specs.Blocks.{map_at}
 use Rattle.ob_blocks.proofs.Blocks.{all_first, all_rest}
 use Rattle.ob_blocks.proofs.Changes.{length-map_at, get-map_at}
-use Rattle.ob_flat.specs.Slots.{Slots, FitsSlot, Spelt, AreSlots, block_bytes}
+use Rattle.ob_row.specs.Slots.{Slots}
+use Rattle.ob_flat.specs.Slots.{FitsSlot, Spelt, AreSlots, block_bytes}
 
 pub slot_size : (columns : Columns) (slot : Option Row) → FitsSlot columns slot → length (slot_bytes columns slot) ≡ width columns
 slot_size columns None fits = length-replicate (width columns) 0

@@ -21,7 +21,8 @@ use Rattle.ob_blocks.specs.Blocks.{block_at, map_at, none_of}
 use Rattle.ob_blocks.proofs.Changes.{length-map_at, all-map_at, map_at-up_to}
 use Rattle.ob_blocks.proofs.Blocks.{length-up_to, length-block, all_up_to, all_block, block_none}
 use Rattle.ob_flat.specs.declared.flat.Flat.{Flat}
-use Rattle.ob_flat.specs.Slots.{Slots, FitsSlot, Spelt, AreSlots, block_bytes, empty_slots}
+use Rattle.ob_row.specs.Slots.{Slots, empty_slots}
+use Rattle.ob_flat.specs.Slots.{FitsSlot, Spelt, AreSlots, block_bytes}
 use Rattle.ob_flat.specs.Flats.{IsMade, IsFlat, Represents, Accepts, whole_blocks}
 use Rattle.ob_flat.proofs.Rows.{spelt_joined, joined_spelt, spelt_fits, width_each, block_size}
 

@@ -1,7 +1,7 @@
 -- The places of selected rows, as a counting pass meets them.
 use Rattle.std.specs.Prelude.{◌≡◌, ℕ, ◌+◌, Bool, ◌&&◌, ◌||◌, ◌==◌, List, [], ◌∷◌, length, if◌then◌else◌}
 use Rattle.ob_flat.specs.declared.counting.Tally.{Tally}
-use Rattle.ob_flat.specs.Slots.{is_consecutive}
+use Rattle.ob_row.specs.Slots.{is_consecutive}
 
 -- one more than the last place, or 0 where there is none
 abbrev pub next_of : List ℕ → ℕ

@@ -9,7 +9,8 @@ use Rattle.ob_vault.specs.State.{World}
 use Rattle.ob_vault.specs.Tied.{Lives, Written, OnTurn, Holds}
 use Rattle.ob_blocks.specs.Blocks.{up_to, block_at}
 use Rattle.ob_flat.specs.declared.flat.Flat.{Flat}
-use Rattle.ob_flat.specs.Slots.{Slots, FitsSlot, block_bytes}
+use Rattle.ob_row.specs.Slots.{Slots}
+use Rattle.ob_flat.specs.Slots.{FitsSlot, block_bytes}
 
 -- a schema and a capacity within their limits
 pub record IsSized (columns : Columns) (capacity : ℕ) : Type 0 where

@@ -4,7 +4,8 @@ ghost use Rattle.ob_vault.specs.Rows.{SameSizes, Wide};
 ghost use Rattle.ob_row.specs.Rows.{Row};
 ghost use Rattle.ob_row.specs.Spelling.{Begins};
 ghost use Rattle.ob_blocks.specs.Blocks.{map_at};
-ghost use Rattle.ob_flat.specs.Slots.{Slots, FitsSlot, Spelt, AreSlots};
+ghost use Rattle.ob_row.specs.Slots.{Slots};
+ghost use Rattle.ob_flat.specs.Slots.{FitsSlot, Spelt, AreSlots};
 
 use ob_base::Schema;
 use ob_room::ClearRow;

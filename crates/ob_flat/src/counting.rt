@@ -7,10 +7,11 @@ ghost use Rattle.ob_vault.specs.Places.{at, RowsFit};
 ghost use Rattle.ob_vault.specs.Rows.{SameSizes};
 ghost use Rattle.ob_script.specs.Parts.{count_part};
 ghost use Rattle.ob_blocks.specs.Idle.{IsIdle};
-ghost use Rattle.ob_flat.specs.Slots.{Slots, selected, is_consecutive};
+ghost use Rattle.ob_row.specs.Slots.{Slots, selected, is_consecutive};
 ghost use Rattle.ob_flat.specs.Flats.{IsSized, IsFlat, Represents};
 ghost use Rattle.ob_flat.specs.Passes.{PassCut};
 ghost use Rattle.ob_flat.specs.Counts.{tallied};
+ghost use Rattle.ob_row.specs.Truth.{is_true};
 
 use crate::fault::OpErr;
 use crate::flat::Flat;
@@ -46,10 +47,11 @@ pub(crate) struct Counting<'a> {
 
 impl<'a> Visit for Counting<'a> {
     ghost use Rattle.std.specs.Prelude.{◌≤◌, ◌&&◌, nat_lt};
-    ghost use Rattle.ob_row.specs.Truth.{is_selected};
+    ghost use Rattle.ob_row.specs.Slots.{is_selected};
+    ghost use Rattle.ob_row.specs.Truth.{is_true};
     ghost use Rattle.ob_flat.specs.Counts.{tallied};
 
-    ghost after = { λ flat c i slot. record c { tally = tallied (is_selected c.pred.now slot && nat_lt i flat.capacity) i c.tally } };
+    ghost after = { λ flat c i slot. record c { tally = tallied (is_selected (is_true c.pred.now) slot && nat_lt i flat.capacity) i c.tally } };
 
     ghost Suits = { λ flat c i. (c.tally.k ≤ i) × (c.tally.k ≤ flat.capacity) };
 
@@ -86,7 +88,7 @@ fn count_blocks<S: BlockStore, R: Revisions>(
     ensures most { IfOk result (λ counted. counted.k ≤ flat.now.capacity) }
     ensures told { (slots : Slots) → Represents (length rows.old) flat.now slots (at R.state vault.old (S.state store.old)) → (S.state store.new).lie ≡ None
         → MatchResult result
-        (λ counted. counted ≡ record { k = length (selected pred.now slots); consecutive = is_consecutive (selected pred.now slots) })
+        (λ counted. counted ≡ record { k = length (selected (is_true pred.now) slots); consecutive = is_consecutive (selected (is_true pred.now) slots) })
         (λ e. e ≡ OpErr.Failed) }
 {
     let mut counting = Counting {
@@ -128,7 +130,7 @@ pub fn count<S: BlockStore, R: Revisions>(
     ensures most { IfOk result (λ counted. counted.k ≤ flat.now.capacity) }
     ensures told { (slots : Slots) → Represents room.old.pack flat.now slots (at R.state vault.old (S.state store.old)) → (S.state store.new).lie ≡ None
         → MatchResult result
-        (λ counted. counted ≡ record { k = length (selected pred.now slots); consecutive = is_consecutive (selected pred.now slots) })
+        (λ counted. counted ≡ record { k = length (selected (is_true pred.now) slots); consecutive = is_consecutive (selected (is_true pred.now) slots) })
         (λ e. e ≡ OpErr.Failed) }
 {
     let pack = room.pack();

@@ -11,7 +11,8 @@ ghost use Rattle.ob_vault.specs.Rows.{joined};
 ghost use Rattle.ob_script.specs.Parts.{create_part};
 ghost use Rattle.ob_blocks.specs.Blocks.{none_of};
 ghost use Rattle.ob_blocks.specs.Idle.{IsIdle};
-ghost use Rattle.ob_flat.specs.Slots.{Spelt, empty_slots};
+ghost use Rattle.ob_row.specs.Slots.{empty_slots};
+ghost use Rattle.ob_flat.specs.Slots.{Spelt};
 ghost use Rattle.ob_flat.specs.Flats.{IsSized, IsMade, IsFlat, Represents, Accepts, table_region};
 ghost use Rattle.ob_flat.specs.Passes.{PassCut};
 

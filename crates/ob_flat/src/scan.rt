@@ -7,7 +7,7 @@ ghost use Rattle.ob_vault.specs.Places.{at, RowsFit};
 ghost use Rattle.ob_vault.specs.Rows.{SameSizes};
 ghost use Rattle.ob_script.specs.Parts.{count_part};
 ghost use Rattle.ob_blocks.specs.Blocks.{scanned};
-ghost use Rattle.ob_flat.specs.Slots.{Slots};
+ghost use Rattle.ob_row.specs.Slots.{Slots};
 ghost use Rattle.ob_flat.specs.Flats.{IsSized, IsFlat, Represents, whole_blocks};
 ghost use Rattle.ob_flat.specs.Passes.{PassCut};
 

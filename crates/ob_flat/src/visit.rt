@@ -5,7 +5,8 @@ ghost use Rattle.ob_row.specs.Rows.{Row};
 ghost use Rattle.ob_row.specs.Spelling.{Begins};
 ghost use Rattle.ob_blocks.specs.Blocks.{scanned};
 ghost use Rattle.ob_flat.specs.declared.flat.Flat.{Flat as Table};
-ghost use Rattle.ob_flat.specs.Slots.{Slots, Spelt};
+ghost use Rattle.ob_row.specs.Slots.{Slots};
+ghost use Rattle.ob_flat.specs.Slots.{Spelt};
 
 use crate::flat::Flat;
 use ob_room::ClearRow;

@@ -6,7 +6,7 @@ use Rattle.ob_base.specs.Schemas.{Columns, key_place}
 use Rattle.ob_row.specs.Rows.{Row, has_key}
 use Rattle.ob_blocks.specs.Blocks.{scanned, map_at, up_to, none_of}
 use Rattle.ob_blocks.proofs.Blocks.{scanned-append, scanned-same}
-use Rattle.ob_flat.specs.Slots.{Slots, rows, fill_first}
+use Rattle.ob_row.specs.Slots.{Slots, rows, fill_first}
 use Rattle.ob_mutate.specs.declared.searching.Finds.{Finds}
 use Rattle.ob_mutate.specs.declared.inserting.Inserted.{Inserted}
 use Rattle.ob_mutate.specs.declared.inserting.Inserted.TheVariants.{Done, Duplicate, Full}

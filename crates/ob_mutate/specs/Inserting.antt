@@ -2,7 +2,7 @@
 use Rattle.std.specs.Prelude.{◌==◌, length, if◌then◌else◌}
 use Rattle.ob_base.specs.Schemas.{Columns, key_place}
 use Rattle.ob_row.specs.Rows.{Row, has_key}
-use Rattle.ob_flat.specs.Slots.{Slots, rows, fill_first}
+use Rattle.ob_row.specs.Slots.{Slots, rows, fill_first}
 use Rattle.ob_mutate.specs.declared.inserting.Inserted.{Inserted}
 use Rattle.ob_mutate.specs.declared.inserting.Inserted.TheVariants.{Done, Duplicate, Full}
 

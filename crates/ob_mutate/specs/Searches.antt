@@ -3,7 +3,8 @@ use Rattle.std.specs.Prelude.{ℕ, ◌+◌, Bool, true, false, ◌&&◌, ◌==�
 use Rattle.ob_row.specs.Rows.{Row, agree_at}
 use Rattle.ob_base.specs.Schemas.{Columns}
 use Rattle.ob_row.specs.Spelling.{Fits}
-use Rattle.ob_flat.specs.Slots.{Slots, FitsSlot}
+use Rattle.ob_row.specs.Slots.{Slots}
+use Rattle.ob_flat.specs.Slots.{FitsSlot}
 use Rattle.ob_mutate.specs.declared.searching.Finds.{Finds}
 
 -- whether two rows have one primary key, which stands at this place

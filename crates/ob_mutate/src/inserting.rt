@@ -11,7 +11,7 @@ ghost use Rattle.ob_script.specs.Parts.{count_part, copy_part, insert_part};
 ghost use Rattle.ob_row.specs.Rows.{Row};
 ghost use Rattle.ob_row.specs.Spelling.{Fits};
 ghost use Rattle.ob_blocks.specs.Idle.{IsIdle};
-ghost use Rattle.ob_flat.specs.Slots.{Slots};
+ghost use Rattle.ob_row.specs.Slots.{Slots};
 ghost use Rattle.ob_flat.specs.Flats.{IsSized, IsMade, IsFlat, Represents, Accepts};
 ghost use Rattle.ob_flat.specs.Passes.{PassCut};
 ghost use Rattle.ob_mutate.specs.Inserting.{insert_answer, slots_after};

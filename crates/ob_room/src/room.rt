@@ -1,14 +1,17 @@
-// A fixed number of rows.
-
 ghost use Rattle.std.specs.Prelude.{◌≡◌, ◌↔◌, ℕ, List, [], ◌∷◌, ◌++◌, ◌+◌, ◌-◌, ◌≤◌, ◌<◌, max, length, IfOk, IfSome, IsNone, OnOk, MatchOption, replicate, slice_index_or};
 ghost use Rattle.std.specs.Borrow.{sem};
 ghost use Rattle.ob_room.specs.RoomState.{RoomState, out, clear};
 
 use crate::row::{ClearRow, FreeRow};
+use ob_base::NoMemory;
 use std::alloc::{AllocError, Global};
 use std::marker::Model;
 
-/// A fixed number of rows. Only `new` takes memory.
+/// The trusted buffer: the only place where rows lie in clear.
+///
+/// It has a fixed number of rows. Each is free, or out with the caller, or out and on the shelf, a list from
+/// which passes work. A row that comes back is overwritten with zeros, so a row that is taken is zero. Only
+/// `new` takes memory.
 pub struct Room {
     free: Vec<FreeRow>,
     shelf: Vec<ClearRow>,
@@ -44,8 +47,26 @@ impl Room {
     ghost use Rattle.ob_room.specs.Shelf.{ShelvesClear, cleared, copied_row, AreWide, IsSound};
     ghost use Rattle.std.specs.Prelude.{take, drop};
 
-    /// A room of `rows` rows, each `width` bytes wide, for blocks of `pack` rows.
-    pub fn new(alloc: Global, rows: u32, width: u32, pack: u32) -> Result<Room, AllocError>
+    /// A room of `rows` rows, each `width` bytes wide and all free, for blocks of `pack` rows (1 to 16).
+    pub fn new(alloc: Global, rows: u32, width: u32, pack: u32) -> Result<Room, NoMemory>
+        requires pack { (1 ≤ pack) × (pack ≤ 16) }
+        ensures { IfOk result (λ r. r ≡ record {
+          rows = rows;
+          width = width;
+          pack = pack;
+          free = replicate rows (clear width);
+          shelf = [];
+          high = 0;
+        }) }
+    {
+        match Room::built(alloc, rows, width, pack) {
+            Ok(room) => Ok(room),
+            Err(_) => Err(NoMemory),
+        }
+    }
+
+    // The same, with the allocator's error.
+    fn built(alloc: Global, rows: u32, width: u32, pack: u32) -> Result<Room, AllocError>
         requires pack { (1 ≤ pack) × (pack ≤ 16) }
         ensures { IfOk result (λ r. r ≡ record {
           rows = rows;
@@ -80,7 +101,7 @@ impl Room {
         self.rows
     }
 
-    /// How many rows a block has.
+    /// How many rows a block has, 1 to 16.
     pub fn pack(&self) -> u32
         ensures value { result ≡ self.now.pack }
         ensures sound { IsSound self.now }
@@ -112,7 +133,8 @@ impl Room {
         Some(ClearRow { bytes })
     }
 
-    /// Takes a row back, and writes zeros over it.
+    /// Takes a row back, and writes zeros over it. The row is as wide as the room's, and more rows are out
+    /// than lie on the shelf.
     pub fn give(&mut self, row: ClearRow)
         requires width { length row ≡ self.old.width }
         requires held { length self.old.shelf < out self.old }
@@ -123,7 +145,8 @@ impl Room {
         self.free.push_reserved(FreeRow { bytes });
     }
 
-    /// Puts a row, which stays out, last on the shelf.
+    /// Puts a row, which stays out, last on the shelf. The row is as wide as the room's, and more rows are
+    /// out than lie on the shelf.
     pub fn shelve(&mut self, row: ClearRow)
         requires width { length row ≡ self.old.width }
         requires held { length self.old.shelf < out self.old }
@@ -132,7 +155,7 @@ impl Room {
         self.shelf.push_reserved(row);
     }
 
-    /// The rows on the shelf, in order.
+    /// The rows on the shelf, in the order in which they were put there.
     pub fn shelf(&self) -> &[ClearRow]
         ensures { result.now ≡ self.now.shelf }
     {
@@ -157,7 +180,7 @@ impl Room {
         &mut self.shelf[i as usize]
     }
 
-    /// Puts `n` zero rows last on the shelf.
+    /// Takes `n` free rows, which are zero, and puts them last on the shelf.
     pub fn shelve_clear(&mut self, n: u32)
         requires free { n ≤ length self.old.free }
         requires held { length self.old.shelf ≤ out self.old }
@@ -172,7 +195,7 @@ impl Room {
         }
     }
 
-    /// Puts `n` zero rows on the shelf, which is empty, and lends them.
+    /// Takes `n` free rows, which are zero, puts them on the shelf, which is empty, and lends them.
     pub fn open(&mut self, n: u32) -> &mut [ClearRow]
         requires free { n ≤ length self.old.free }
         requires shelf { self.old.shelf ≡ [] }
@@ -183,7 +206,7 @@ impl Room {
         self.shelf.as_mut_slice()
     }
 
-    /// Some rows on the shelf.
+    /// The `n` rows on the shelf from row `from` on.
     pub fn shelf_rows(&self, from: u32, n: u32) -> &[ClearRow]
         requires { from + n ≤ length self.now.shelf }
         ensures { result.now ≡ take n (drop from self.now.shelf) }
@@ -191,7 +214,7 @@ impl Room {
         &self.shelf[from as usize..from as usize + n as usize]
     }
 
-    /// Some rows on the shelf, to be written.
+    /// The `n` rows on the shelf from row `from` on, to be written.
     pub fn shelf_rows_mut(&mut self, from: u32, n: u32) -> &mut [ClearRow]
         requires { from + n ≤ length self.old.shelf }
         ensures* writes_back { sem 𝓛 (LendsRows self.entry from result) }
@@ -212,7 +235,7 @@ impl Room {
         }
     }
 
-    /// Copies one row on the shelf over another.
+    /// Copies row `from` of the shelf over row `to`, which is as wide.
     pub fn copy_row(&mut self, from: u32, to: u32)
         requires from { from < length self.old.shelf }
         requires to { to < length self.old.shelf }

@@ -6,3 +6,4 @@ pub mod Cells
 pub mod Bags
 pub mod Truth
 pub mod Totals
+pub mod Slots

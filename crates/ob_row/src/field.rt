@@ -16,10 +16,7 @@ pub(crate) fn kind_width(kind: Kind) -> usize
     ensures value { result ≡ kind_width kind }
     ensures few { result ≤ 256 }
 {
-    match kind {
-        Kind::Int => 8,
-        Kind::Varchar(n) => usize::from(n) + 1,
-    }
+    kind.width() as usize
 }
 
 fn is_printable(text: &[u8]) -> bool

@@ -6,7 +6,8 @@ ghost use Rattle.ob_row.specs.Rows.{Row};
 ghost use Rattle.ob_row.specs.Spelling.{Fits, Spells, Begins, cells_bytes, cells_width, row_bytes};
 ghost use Rattle.ob_row.specs.Cells.{HoldsCells};
 ghost use Rattle.ob_row.specs.Condition.{condition_of};
-ghost use Rattle.ob_row.specs.Truth.{is_selected};
+ghost use Rattle.ob_row.specs.Truth.{is_true};
+ghost use Rattle.ob_row.specs.Slots.{is_selected};
 
 use crate::cell::{Cell, Malformed};
 use crate::field::{cell_in, is_cell, is_zero, kind_width, put_cell};
@@ -31,7 +32,7 @@ pub(crate) fn cells_width(columns: &[Column]) -> usize
 pub fn width(schema: &Schema) -> u32
     ensures { result ≡ width schema.now }
 {
-    cells_width(schema.as_slice()) as u32 + 1
+    schema.width()
 }
 
 // Writes the cells of a row, one after the other.
@@ -177,8 +178,8 @@ pub fn is_dummy(row: &ClearRow) -> bool
 // Whether the bytes spell a row that makes the condition true.
 fn holds_row(tree: &Tree, columns: &[Column], bytes: &[u8]) -> Result<bool, Malformed>
     requires { length bytes.now ≡ width columns.now }
-    ensures truth { (slot : Option Row) → Spells columns.now slot bytes.now → result ≡ Ok (is_selected (condition_of tree.now) slot) }
-    ensures malformed { IfOk result (λ b. (slot : Option Row) × Spells columns.now slot bytes.now × (is_selected (condition_of tree.now) slot ≡ b)) }
+    ensures truth { (slot : Option Row) → Spells columns.now slot bytes.now → result ≡ Ok (is_selected (is_true (condition_of tree.now)) slot) }
+    ensures malformed { IfOk result (λ b. (slot : Option Row) × Spells columns.now slot bytes.now × (is_selected (is_true (condition_of tree.now)) slot ≡ b)) }
 {
     if read_row(columns, bytes)? {
         let (_, fields) = bytes.split_at(1);
@@ -192,8 +193,8 @@ fn holds_row(tree: &Tree, columns: &[Column], bytes: &[u8]) -> Result<bool, Malf
 /// dummy don't, and other bytes are malformed.
 pub fn holds(pred: &Pred, schema: &Schema, row: &ClearRow) -> Result<bool, Malformed>
     requires { width schema.now ≤ length row.now }
-    ensures truth { (slot : Option Row) → Begins schema.now slot row.now → result ≡ Ok (is_selected pred.now slot) }
-    ensures malformed { IfOk result (λ b. (slot : Option Row) × Begins schema.now slot row.now × (is_selected pred.now slot ≡ b)) }
+    ensures truth { (slot : Option Row) → Begins schema.now slot row.now → result ≡ Ok (is_selected (is_true pred.now) slot) }
+    ensures malformed { IfOk result (λ b. (slot : Option Row) × Begins schema.now slot row.now × (is_selected (is_true pred.now) slot ≡ b)) }
 {
     let columns = schema.as_slice();
     let (bytes, _) = row.bytes().split_at(cells_width(columns) + 1);

@@ -1,13 +1,22 @@
 -- The accesses of each pass over a region, by its number of blocks and the width of a block's rows.
-use Rattle.std.specs.Prelude.{ℕ, List, [], ◌∷◌, ◌++◌}
+use Rattle.std.specs.Prelude.{ℕ, ◌+◌, ◌-◌, ◌*◌, ◌/◌, ◌%◌, min, List, [], ◌∷◌, ◌++◌}
 use Rattle.ob_base.specs.declared.access.Access.{Access}
 use Rattle.ob_base.specs.declared.access.Access.TheVariants.{Read, Write}
 use Rattle.ob_base.specs.Accesses.{read_at, write_at, make_at, discard_at}
+use Rattle.std.specs.Int.{div_ceil}
 use Rattle.ob_base.specs.Lists.{each}
+use Rattle.ob_base.specs.Numbers.{blocks_for, first_bucket, second_bucket}
 
 -- block u of one region is read, and written to another
 abbrev pub copy_at : ℕ → ℕ → ℕ → List Access
 copy_at t g u = Read t u ∷ Write g u ∷ []
+
+-- block x past the first is read, and is written
+abbrev pub read_from : ℕ → ℕ → ℕ → List Access
+read_from region first x = Read region (first + x) ∷ []
+
+abbrev pub write_from : ℕ → ℕ → ℕ → List Access
+write_from region first x = Write region (first + x) ∷ []
 
 -- each block is read in order
 abbrev pub count_part : ℕ → ℕ → List Access
@@ -28,3 +37,66 @@ insert_part t g blocks width = make_at g blocks width ++ (count_part t blocks ++
 -- UPDATE and DELETE: a new region is made, and the table copied to it and discarded
 abbrev pub rewrite_part : ℕ → ℕ → ℕ → ℕ → List Access
 rewrite_part t g blocks width = make_at g blocks width ++ (copy_part t g blocks ++ discard_at t)
+
+-- Small, pass j: the table is read whole, and the next blocks of the result are written, as many as are buffered
+abbrev pub small_pass : ℕ → ℕ → ℕ → ℕ → ℕ → ℕ → List Access
+small_pass t g blocks results buffered j = count_part t blocks ++ each (min buffered (results - j * buffered)) (write_from g (j * buffered))
+
+-- Small: a new region is made, and as many passes fill it as it has buffers of blocks
+abbrev pub small_part : ℕ → ℕ → ℕ → ℕ → ℕ → ℕ → List Access
+small_part t g blocks results buffered width =
+    make_at g results width ++ each (div_ceil results buffered) (small_pass t g blocks results buffered)
+
+-- Large: the table is copied to a new region, which then is read and written again
+abbrev pub large_part : ℕ → ℕ → ℕ → ℕ → List Access
+large_part t g blocks width = make_at g blocks width ++ (copy_part t g blocks ++ copy_part g g blocks)
+
+-- how many of n slots lie in block u
+abbrev pub slots_in : ℕ → ℕ → ℕ → ℕ
+slots_in pack n u = min pack (n - u * pack)
+
+-- Continuous, block u: it is read, and for each of its slots i the block of slot i mod k of the result is read and written
+abbrev pub continuous_block : ℕ → ℕ → ℕ → ℕ → ℕ → ℕ → List Access
+continuous_block t g pack n k u =
+    read_at t u ++ each (slots_in pack n u) (λ j. copy_at g g (((u * pack + j) % k) / pack))
+
+-- Continuous: a new region of k slots is made and filled, and then written to slot by slot
+abbrev pub continuous_part : ℕ → ℕ → ℕ → ℕ → ℕ → ℕ → List Access
+continuous_part t g pack n k width =
+    create_part g (blocks_for pack k) width ++ each (blocks_for pack n) (continuous_block t g pack n k)
+
+-- each block of a bucket is read and written
+abbrev pub bucket_part : ℕ → ℕ → ℕ → List Access
+bucket_part g depth bucket = each depth (λ y. copy_at g g (bucket * depth + y))
+
+-- Hash, slot i: each block of its two buckets among k
+abbrev pub hash_slot : ℕ → ℕ → ℕ → ℕ → List Access
+hash_slot g k depth i = bucket_part g depth (first_bucket k i) ++ bucket_part g depth (second_bucket k i)
+
+-- Hash, block u: it is read, and then both buckets of each of its slots
+abbrev pub hash_block : ℕ → ℕ → ℕ → ℕ → ℕ → ℕ → ℕ → List Access
+hash_block t g pack n k depth u = read_at t u ++ each (slots_in pack n u) (λ j. hash_slot g k depth (u * pack + j))
+
+-- Hash: a new region of k buckets is made and filled, and then written to slot by slot
+abbrev pub hash_part : ℕ → ℕ → ℕ → ℕ → ℕ → ℕ → ℕ → List Access
+hash_part t g pack n k depth width =
+    create_part g (k * depth) width ++ each (blocks_for pack n) (hash_block t g pack n k depth)
+
+-- a result is read in order and discarded
+abbrev pub emission_part : ℕ → ℕ → List Access
+emission_part g blocks = count_part g blocks ++ discard_at g
+
+-- a join, right block v for chunk q of the left table: it is read, and the next block of the joined region is written
+abbrev pub pair_at : ℕ → ℕ → ℕ → ℕ → ℕ → List Access
+pair_at b g rights q v = Read b v ∷ Write g (q * rights + v) ∷ []
+
+-- a join, chunk q of the left table: its blocks are read, and then each right block
+abbrev pub join_chunk : ℕ → ℕ → ℕ → ℕ → ℕ → ℕ → ℕ → List Access
+join_chunk a b g lefts rights buffered q =
+    each (min buffered (lefts - q * buffered)) (read_from a (q * buffered)) ++ each rights (pair_at b g rights q)
+
+-- a join: a new region is made, and filled with the pairs of each chunk
+abbrev pub join_part : ℕ → ℕ → ℕ → ℕ → ℕ → ℕ → ℕ → List Access
+join_part a b g lefts rights buffered width =
+    make_at g (div_ceil lefts buffered * rights) width
+    ++ each (div_ceil lefts buffered) (join_chunk a b g lefts rights buffered)

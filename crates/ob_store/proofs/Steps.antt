@@ -149,12 +149,14 @@ length-each part size sizes (suc n) = omega (arith, length-append (each n part) 
 pub region_kept : (region blocks len : ℕ) (old new : StoreState) → IsRegion region blocks len old → Keeps old new → IsRegion region blocks len new
 region_kept region blocks len old new is keeps = record { live = keeps.live region ∙ is.live }
 
-pub place_in : (region blocks len place other : ℕ) (s : StoreState) → IsRegion region blocks len s → place < blocks → other ≡ len → IsPlace s region place other
-place_in region blocks len place other s is within same = record {
+pub place_in : (region blocks len place other : ℕ) (s : StoreState) → IsRegion region blocks len s → place < blocks → other ≡ len → 33 ≤ len → len ≤ 16416 → IsPlace s region place other
+place_in region blocks len place other s is within same small large = record {
   shape = record { blocks = blocks; len = len };
   live = is.live;
   within = within;
   same_len = same;
+  small = omega arith;
+  large = omega arith;
 }
 
 pub same_refl : (region : ℕ) (s : StoreState) → SameRegions region s s

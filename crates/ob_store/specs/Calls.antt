@@ -11,12 +11,15 @@ pub record IsLive (s : StoreState) (region : ℕ) : Type 0 where
   pub shape : Shape
   pub live : s.live region ≡ Some shape
 
--- a place of a live region whose blocks have this length
+-- a place of a live region whose blocks have this length in bytes: a tag of 32 and at least one more,
+-- and at most 16 rows of 1,024 beside it
 pub record IsPlace (s : StoreState) (region place len : ℕ) : Type 0 where
   pub shape : Shape
   pub live : s.live region ≡ Some shape
   pub within : place < shape.blocks
   pub same_len : len ≡ shape.len
+  pub small : 33 ≤ len
+  pub large : len ≤ 16416
 
 -- a live region of this size
 pub record IsRegion (region blocks len : ℕ) (s : StoreState) : Type 0 where

@@ -3,4 +3,5 @@ pub mod Calls
 pub mod Runs
 pub mod Memory
 pub mod Fresh
-pub mod Flip
+pub mod Logs
+pub mod Kept

@@ -5,15 +5,28 @@ ghost use Rattle.ob_store.specs.Calls.{IsLive, IsPlace, Asks, CountsFault, Count
 
 use ob_base::{Access, Failed, NoMemory, StoreErr};
 
-/// Regions of equal blocks, over which others have power between any two calls.
+/// A store that is not trusted: regions, each of blocks of one length, that others may change between
+/// any two calls.
+///
+/// Each `make`, `read`, `write` and `discard` is one access, which the store lists whatever it answers;
+/// `room` is none. A store that tells says what was last written at each place, and which read was the
+/// first that gave other bytes (the lie). `faults` counts the calls of `make`, `read` and `write` that
+/// failed, and `slips` those of `discard`; a count that stands at the last value of a `u64` counts as
+/// risen. Only `room` and `make` take memory.
 pub trait BlockStore {
     ghost state: { Self → StoreState };
 
-    /// Makes room for `n` accesses.
+    /// Makes room for `n` more accesses in the list.
+    ///
+    /// `NoMemory` leaves the store as it was.
     fn room(&mut self, n: u64) -> Result<(), NoMemory>
         ensures rests { Rests (state self.old) (state self.new) }
         ensures spare { OnOk result (n ≤ (state self.new).spare) };
 
+    /// Makes a region of `blocks` blocks (1 to 134,217,728) of `len` bytes each (33 to 16,416).
+    ///
+    /// Its number is above those of all regions that were asked for before. After `Failed` or `NoMemory`
+    /// it is not live, and its number is used up all the same.
     fn make(&mut self, region: u64, blocks: u32, len: u32) -> Result<(), StoreErr>
         requires spare { 1 ≤ (state self.old).spare }
         requires next { highest (state self.old).asked < region }
@@ -26,6 +39,9 @@ pub trait BlockStore {
         ensures err { OnErr result (Keeps (state self.old) (state self.new)) }
         ensures lie { (state self.new).lie ≡ (state self.old).lie };
 
+    /// Reads the block at a place of a live region into `buf`, which has the length of its blocks.
+    ///
+    /// After `Failed` the bytes of `buf` are any.
     fn read(&mut self, region: u64, place: u32, buf: &mut [u8]) -> Result<(), Failed>
         requires spare { 1 ≤ (state self.old).spare }
         requires place { IsPlace (state self.old) region place (length buf.old) }
@@ -36,6 +52,9 @@ pub trait BlockStore {
         ensures ok { OnOk result (ReadGives region place buf.new (state self.old) (state self.new)) }
         ensures err { OnErr result ((state self.new).lie ≡ (state self.old).lie) };
 
+    /// Writes a block at a place of a live region.
+    ///
+    /// After `Failed` the old or the new block stands there.
     fn write(&mut self, region: u64, place: u32, block: &[u8]) -> Result<(), Failed>
         requires spare { 1 ≤ (state self.old).spare }
         requires place { IsPlace (state self.old) region place (length block.now) }
@@ -47,6 +66,9 @@ pub trait BlockStore {
         ensures err { OnErr result (MayHold region place block.now (state self.old) (state self.new)) }
         ensures lie { (state self.new).lie ≡ (state self.old).lie };
 
+    /// Takes a live region out of the store.
+    ///
+    /// After `Failed` it is gone, or everything is as it was.
     fn discard(&mut self, region: u64) -> Result<(), Failed>
         requires spare { 1 ≤ (state self.old).spare }
         requires live { IsLive (state self.old) region }
@@ -58,11 +80,11 @@ pub trait BlockStore {
         ensures err { OnErr result (((state self.new).live region ≡ None) ⊎ Keeps (state self.old) (state self.new)) }
         ensures lie { (state self.new).lie ≡ (state self.old).lie };
 
-    /// How many accesses were asked.
+    /// How many accesses were asked so far.
     fn count(&self) -> u64
         ensures { result ≡ length (state self.now).asked };
 
-    /// One of them.
+    /// The access at an index, from 0.
     fn nth(&self, i: u64) -> Access
         requires { i < length (state self.now).asked }
         ensures { slice_get (state self.now).asked i ≡ Some result };

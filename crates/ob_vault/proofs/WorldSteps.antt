@@ -60,7 +60,7 @@ pub record Moved (g : ℕ) (old new : World) : Type 0 where
   pub here_live : (shape : Region) → new.vault.revs.live g ≡ Some shape → IsRegion g shape.blocks (shape.width + 32) new.store
   pub here_number : (shape : Region) → new.vault.revs.live g ≡ Some shape → (x : ℕ) → new.vault.revs.number g x ≡ number_of new.store.asked g x
   pub here_below : (shape : Region) → new.vault.revs.live g ≡ Some shape → g < new.vault.next
-  pub here_fits : (shape : Region) → new.vault.revs.live g ≡ Some shape → shape.width ≤ 16384
+  pub here_fits : (shape : Region) → new.vault.revs.live g ≡ Some shape → (1 ≤ shape.width) × (shape.width ≤ 16384)
 
 pub ready_moved : (g : ℕ) (old new : World) → Ready old → Moved g old new → Ready new
 ready_moved g old new ready m = record {
@@ -312,7 +312,7 @@ cut_call a some old new lasts asks rises lie = record {
 }
 
 -- a region that was made
-pub lasts_make : (v : VaultState) (revs : RevState) (old new : StoreState) (shape : Region) → Ready (world v old) → shape.width ≤ 16384 → Begins v.next shape v.revs revs
+pub lasts_make : (v : VaultState) (revs : RevState) (old new : StoreState) (shape : Region) → Ready (world v old) → (1 ≤ shape.width) × (shape.width ≤ 16384) → Begins v.next shape v.revs revs
     → Asks (Make v.next shape.blocks (shape.width + 32)) old new → Makes v.next shape.blocks (shape.width + 32) old new → Lasts (one v.next) (world v old) (world (record v { next = v.next + 1; revs = revs }) new)
 lasts_make v revs old new shape ready wide begins asks makes' =
     let tied = ready.tied in
@@ -333,7 +333,7 @@ lasts_make v revs old new shape ready wide begins asks makes' =
       here_live = λ s l. let same : shape ≡ s = cc (begins.here, l) in subst (λ (k : Region). IsRegion g k.blocks (k.width + 32) new) same makes'.here;
       here_number = λ s l x. begins.unwritten x ∙ sym (number_fresh g x old.asked tied.above) ∙ sym (numbers g x);
       here_below = λ s l. omega arith;
-      here_fits = λ s l. let same : shape ≡ s = cc (begins.here, l) in subst (λ (k : Region). k.width ≤ 16384) same wide;
+      here_fits = λ s l. let same : shape ≡ s = cc (begins.here, l) in subst (λ (k : Region). (1 ≤ k.width) × (k.width ≤ 16384)) same wide;
     }) (later_call _ _ _ asks)
 
 -- one that was not

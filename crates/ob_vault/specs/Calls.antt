@@ -1,12 +1,14 @@
 -- What a call, or a run of calls, does to a vault and its store.
-use Rattle.std.specs.Prelude.{◌≡◌, ◌⊎◌, ◌≤◌, ◌+◌, ℕ, Bool, IsTrue, List, length}
+use Rattle.std.specs.Prelude.{◌≡◌, ◌≢◌, ◌⊎◌, ◌≤◌, ◌+◌, ◌-◌, ℕ, Bool, IsTrue, List, length, take, drop}
 use Rattle.ob_base.specs.declared.access.Access.{Access}
 use Rattle.ob_base.specs.Counts.{Rises}
 use Rattle.ob_store.specs.Runs.{Did, Began, Later}
 use Rattle.ob_vault.specs.declared.fault.VaultErr.{VaultErr}
 use Rattle.ob_vault.specs.declared.fault.VaultErr.TheVariants.{Failed, Tampered, NoMemory}
 use Rattle.ob_vault.specs.State.{World}
-use Rattle.ob_vault.specs.Tied.{Ready, AllSealed, Calm, EndsAt}
+use Rattle.ob_vault.specs.Tied.{Ready, AllSealed, Calm, EndsAt, at_of}
+use Rattle.ob_seal.specs.Sealed.{tag_of}
+use Rattle.ob_store.specs.Calls.{ReadGives}
 
 -- nothing has changed in any other region
 pub record Apart (some : ℕ → Type 0) (old new : World) : Type 0 where
@@ -52,6 +54,12 @@ pub record Cut (e : VaultErr) (script : List Access) (some : ℕ → Type 0) (ol
   pub lasts : Lasts some old new
   pub began : Began script old.store new.store
   pub cause : Cause e old new
+
+-- the store gave a block whose tag is not that of the place and its number
+pub record Refuses (q x : ℕ) (old new : World) : Type 0 where
+  pub bytes : List ℕ
+  pub gave : ReadGives q x bytes old.store new.store
+  pub differs : drop (length bytes - 32) bytes ≢ tag_of old.vault.keys (at_of q x (old.vault.revs.number q x)) (take (length bytes - 32) bytes)
 
 abbrev pub none : ℕ → Type 0
 none q = ⊥

@@ -25,7 +25,7 @@ pub record Tied (w : World) : Type 0 where
 pub record Ready (w : World) : Type 0 where
   pub tied : Tied w
   pub below : (q : ℕ) (shape : Region) → w.vault.revs.live q ≡ Some shape → q < w.vault.next
-  pub fits : (q : ℕ) (shape : Region) → w.vault.revs.live q ≡ Some shape → shape.width ≤ 16384
+  pub fits : (q : ℕ) (shape : Region) → w.vault.revs.live q ≡ Some shape → (1 ≤ shape.width) × (shape.width ≤ 16384)
 
 -- a region of the vault
 pub record Lives (q : ℕ) (shape : Region) (w : World) : Type 0 where

@@ -19,7 +19,7 @@ pub struct Vault<R> {
 }
 
 impl<R: Revisions> Vault<R> {
-    ghost use Rattle.std.specs.Prelude.{◌≡◌, ◌<◌, ◌≤◌, ◌+◌, ◌/◌, ◌^◌, ◌⊎◌, [], ℕ, Bool, List, Some, None, IsTrue, IfOk, IfErr, OnOk, OnErr, MatchResult, length};
+    ghost use Rattle.std.specs.Prelude.{◌≡◌, ◌<◌, ◌≤◌, ◌+◌, ◌/◌, ◌^◌, ◌⊎◌, [], ℕ, Bool, List, Some, None, IsTrue, Err, IfOk, IfErr, OnOk, OnErr, MatchResult, length};
     ghost use Rattle.ob_store.specs.State.{StoreState};
     ghost use Rattle.ob_base.specs.Counts.{Rises};
     ghost use Rattle.ob_base.specs.Accesses.{read_at, write_at};
@@ -28,13 +28,15 @@ impl<R: Revisions> Vault<R> {
     ghost use Rattle.ob_vault.specs.Revs.{turn_after};
     ghost use Rattle.ob_vault.specs.Tied.{Ready, Lives, Written, OnTurn, Holds};
     ghost use Rattle.ob_base.specs.Accesses.{make_at, discard_at};
-    ghost use Rattle.ob_vault.specs.Calls.{Went, Cut, Only, Seals, none, one};
+    ghost use Rattle.ob_vault.specs.Calls.{Went, Cut, Only, Seals, Refuses, none, one};
     ghost use Rattle.ob_vault.specs.Rows.{joined, Tails, SameSizes};
     ghost use Rattle.ob_vault.specs.Places.{at, PlaceIn, MayGet, MayPut};
 
     /// A vault with no region.
     pub fn new(alloc: Global, keys: Keys) -> Vault<R>
-        ensures { (s : StoreState) → s.asked ≡ [] → Ready (at R.state result s) }
+        ensures ready { (s : StoreState) → s.asked ≡ [] → Ready (at R.state result s) }
+        ensures first { result.next ≡ 1 }
+        ensures empty { (q : ℕ) → (R.state result.revs).live q ≡ None }
     {
         Vault {
             keys,
@@ -105,6 +107,7 @@ impl<R: Revisions> Vault<R> {
         ensures err { IfErr result (λ e. Cut e (read_at region place) none (at R.state self.old (S.state store.old)) (at R.state self.new (S.state store.new))) }
         ensures seals { (good : ℕ → List ℕ → Bool) → Seals good (at R.state self.old (S.state store.old)) (at R.state self.new (S.state store.new)) }
         ensures never { IfErr result (λ e. (e ≡ VaultErr.Failed) ⊎ (e ≡ VaultErr.Tampered region place)) }
+        ensures refuses { result ≡ Err (VaultErr.Tampered region place) → Refuses region place (at R.state self.old (S.state store.old)) (at R.state self.new (S.state store.new)) }
         ensures rows { SameSizes rows.old rows.new }
         ensures tails { OnOk result ((shape : Shape) → Lives region shape (at R.state self.old (S.state store.old)) → Tails (shape.width / length rows.old) rows.new) }
         ensures turns { (q x : ℕ) (shape : Shape) → OnTurn q shape x (at R.state self.old (S.state store.old)) → OnTurn q shape x (at R.state self.new (S.state store.new)) }
@@ -199,6 +202,13 @@ impl<R: Revisions> Vault<R> {
         ensures seals { (s : StoreState) (good : ℕ → List ℕ → Bool) → Seals good (at R.state self.old s) (at R.state self.new s) }
     {
         self.revs.end(region);
+    }
+
+    /// The number of the next region.
+    pub fn next_region(&self) -> u64
+        ensures { result ≡ self.now.next }
+    {
+        self.next
     }
 
     /// The next place of a round region.

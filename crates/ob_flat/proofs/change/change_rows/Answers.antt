@@ -6,7 +6,7 @@ use Rattle.ob_vault.proofs.RowsLemmas.{sizes_set, sizes_trans}
 use Rattle.ob_row.specs.Rows.{Row}
 use Rattle.ob_row.specs.Spelling.{Begins}
 use Rattle.ob_blocks.proofs.Blocks.{ones, one_at_most}
-use Rattle.ob_flat.specs.Slots.{Slots}
+use Rattle.ob_row.specs.Slots.{Slots}
 use Rattle.ob_flat.proofs.Rows.{row_is, row_other, spells_more, spelt_changed, slots_of}
 use Rattle.ob_flat.proofs.change.change_rows.Goals as goal
 

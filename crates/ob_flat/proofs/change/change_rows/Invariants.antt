@@ -2,7 +2,8 @@ use Rattle.std.proofs.Common.{◌≡◌, ◌≤◌, ◌<◌, ◌+◌, ℕ, Optio
 use Rattle.ob_vault.specs.Rows.{row_at, SameSizes}
 use Rattle.ob_row.specs.Rows.{Row}
 use Rattle.ob_row.specs.Spelling.{Begins}
-use Rattle.ob_flat.specs.Slots.{Slots, Spelt}
+use Rattle.ob_row.specs.Slots.{Slots}
+use Rattle.ob_flat.specs.Slots.{Spelt}
 use Rattle.ob_flat.proofs.change.change_rows.Given as goal
 
 abbrev pub invariant-loop-z : goal.invariant-loop-z

@@ -5,7 +5,7 @@ use Rattle.ob_vault.specs.Calls.{Went, Seals, none}
 use Rattle.ob_vault.specs.Rows.{SameSizes}
 use Rattle.ob_vault.specs.Places.{at}
 use Rattle.ob_blocks.specs.Blocks.{scanned}
-use Rattle.ob_flat.specs.Slots.{Slots}
+use Rattle.ob_row.specs.Slots.{Slots}
 use Rattle.ob_flat.specs.Flats.{Represents, whole_blocks}
 use Rattle.ob_flat.proofs.scan.scan_blocks.Given as goal
 

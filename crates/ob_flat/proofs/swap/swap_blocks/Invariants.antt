@@ -7,7 +7,8 @@ use Rattle.ob_vault.specs.Tied.{Lives, OnTurn, Written, Holds}
 use Rattle.ob_vault.specs.Rows.{SameSizes}
 use Rattle.ob_vault.specs.Places.{at}
 use Rattle.ob_blocks.specs.Blocks.{block_at, map_at}
-use Rattle.ob_flat.specs.Slots.{Slots, block_bytes}
+use Rattle.ob_row.specs.Slots.{Slots}
+use Rattle.ob_flat.specs.Slots.{block_bytes}
 use Rattle.ob_flat.specs.Flats.{Represents, Accepts, table_region, whole_blocks}
 use Rattle.ob_flat.proofs.swap.swap_blocks.Given as goal
 

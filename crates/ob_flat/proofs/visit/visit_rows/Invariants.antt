@@ -1,6 +1,7 @@
 use Rattle.std.proofs.Common.{◌≡◌, ◌+◌, take}
 use Rattle.ob_blocks.specs.Blocks.{scanned}
-use Rattle.ob_flat.specs.Slots.{Slots, Spelt}
+use Rattle.ob_row.specs.Slots.{Slots}
+use Rattle.ob_flat.specs.Slots.{Spelt}
 use Rattle.ob_flat.proofs.visit.visit_rows.Given as goal
 
 abbrev pub invariant-loop-z : goal.invariant-loop-z

@@ -8,7 +8,7 @@ use Rattle.ob_vault.specs.Places.{at, RowsFit}
 use Rattle.ob_vault.proofs.Runs.{went_length, went_wider, went_join, none_went, tells_went, fit_same, seals_join}
 use Rattle.ob_row.specs.Rows.{Row}
 use Rattle.ob_blocks.specs.Blocks.{map_at, scanned}
-use Rattle.ob_flat.specs.Slots.{Slots}
+use Rattle.ob_row.specs.Slots.{Slots}
 use Rattle.ob_flat.specs.Flats.{Represents, Accepts, whole_blocks}
 use Rattle.ob_flat.proofs.Runs.{pass_more, pass_after, pass_wider}
 use Rattle.ob_flat.proofs.Tables.{reads, flat_lasts, made_lasts, represents_lasts}

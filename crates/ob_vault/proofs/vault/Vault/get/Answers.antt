@@ -34,7 +34,7 @@ returns-then-open-clause-told g c = λ rows shape is size holds none.
     let number = c.number-number.ensures in
     let block = read_true _ _ _ _ _ c.in-Ok.ensures.ok (none_before _ _ (later_call _ _ _ c.load.ensures.asks) none) none _ holds.last in
     let width : c.shape-shape.result.width ≡ shape.width = cc (c.shape-shape.ensures, is.live) in
-    let long : c.shape-shape.result.width + 32 ≡ length (take (c.shape-shape.result.width + 32) c.load.new.block) = grind (arith, common_steps, c.requires.ready.fits _ _ c.shape-shape.ensures) in
+    let long : c.shape-shape.result.width + 32 ≡ length (take (c.shape-shape.result.width + 32) c.load.new.block) = grind (arith, common_steps, (c.requires.ready.fits _ _ c.shape-shape.ensures).1) in
     ap (λ (n : ℕ). joined (n / length c.args.rows.now) c.open.new.rows) (sym width) ∙ (c.open.ensures.opens rows (omega (arith, long)) (block ∙ ap (λ (n : ℕ). sealed c.args.self.now.keys (at_of c.args.region c.args.place n) rows) (sym number))).1
 
 pub returns-in-Err-clause-seals : goal.returns-in-Err-clause-seals

@@ -20,7 +20,7 @@ pub returns-in-Ok-clause-ok : goal.returns-in-Ok-clause-ok
 returns-in-Ok-clause-ok g c =
     let shape : Region = record { blocks = c.args.blocks; width = c.args.width; order = c.args.order } in
     let begins = at_ok c.begin.result _ (sym c.if-is_err.false ∙ c.is_err.ensures.value) c.begin.ensures.ok in
-    went_call _ _ _ _ (lasts_make _ _ _ _ shape c.requires.ready c.requires.width.1 begins c.make.ensures.asks c.in-Ok.ensures.ok) c.make.ensures.asks c.in-Ok.ensures.cause c.make.ensures.lie
+    went_call _ _ _ _ (lasts_make _ _ _ _ shape c.requires.ready c.requires.width begins c.make.ensures.asks c.in-Ok.ensures.ok) c.make.ensures.asks c.in-Ok.ensures.cause c.make.ensures.lie
 
 pub returns-in-Err-Failed-clause-err : goal.returns-in-Err-Failed-clause-err
 returns-in-Err-Failed-clause-err g c =

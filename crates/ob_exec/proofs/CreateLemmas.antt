@@ -1,0 +1,97 @@
+-- CREATE TABLE, after its pass.
+use Rattle.std.proofs.Common.{◌≡◌, ◌-◌, ◌*◌, ℕ, false, List, [], ◌∷◌, ◌++◌, length, Some, Ok, Err, Result, OnOk, refl, sym, ◌∙◌, ap, subst, arith}
+use Rattle.std.specs.Result.{is_err}
+use Rattle.std.specs.Prelude.{Option, None, MatchOption}
+use Rattle.std.proofs.lemmas.Bool.{cases_eq}
+use Rattle.ob_base.specs.declared.access.Access.{Access}
+use Rattle.ob_base.specs.declared.schema.Table.{Table}
+use Rattle.ob_base.specs.declared.seen.End.{End}
+use Rattle.ob_base.specs.declared.seen.End.TheVariants.{Whole, Cut}
+use Rattle.ob_base.specs.declared.skeleton.NewColumn.{NewColumn}
+use Rattle.ob_base.specs.declared.skeleton.Skeleton.TheVariants.{Create}
+use Rattle.ob_base.specs.Numbers.{blocks_for}
+use Rattle.ob_base.specs.Schemas.{Columns, width, columns_of}
+use Rattle.ob_room.specs.RoomState.{RoomState}
+use Rattle.ob_store.specs.State.{StoreState}
+use Rattle.ob_store.specs.Calls.{Rests}
+use Rattle.ob_vault.specs.State.{RevState}
+use Rattle.ob_vault.specs.declared.vault.Vault.{Vault}
+use Rattle.ob_vault.specs.Places.{at}
+use Rattle.ob_vault.specs.Calls.{Went, one}
+use Rattle.ob_vault.proofs.Runs.{went_join}
+use Rattle.ob_script.specs.Parts.{create_part}
+use Rattle.ob_script.specs.Script.{whole_script}
+use Rattle.ob_flat.specs.declared.fault.OpErr.{OpErr}
+use Rattle.ob_flat.specs.Flats.{IsFlat}
+use Rattle.ob_flat.specs.Passes.{PassCut}
+use Rattle.ob_flat.proofs.Runs.{pass_after}
+use Rattle.ob_exec.specs.declared.engine.Engine.{Engine}
+use Rattle.ob_exec.specs.declared.outcome.Outcome.TheVariants.{Created}
+use Rattle.ob_exec.specs.Schemas.{IsStored}
+use Rattle.ob_exec.specs.Engines.{IsAt, IsTable}
+use Rattle.ob_exec.specs.Agreeing.{Agrees}
+use Rattle.ob_exec.specs.Running.{Ran, seen_to, answer_of, is_stop}
+use Rattle.ob_exec.proofs.TableLemmas.{tables_added, tables_kept, region_below}
+use Rattle.ob_exec.proofs.RunLemmas.{went_room, engine_after, ran_done, ran_cut, free_after}
+
+-- what holds at an `Ok`, where there is no `Err`
+pub at_ok : {T E : Type 0} (r : Result T E) (P : Type 0) → is_err r ≡ false → OnOk r P → P
+at_ok (Ok x) P ok h = h
+at_ok (Err e) P ok h = absurd (cc ok)
+
+module _ {R : Type 0} (state : R → RevState) (old : Engine R) (s s1 : StoreState) (v : Vault R) (room : RoomState) (t : StoreState)
+    (table : List ℕ) (columns : List NewColumn) (schema : Columns) (capacity high : ℕ)
+    (agrees : Agrees state old s) (rests : Rests s s1) (room_is : room ≡ record old.room { high = high }) (schema_is : schema ≡ columns_of table columns) where
+  abbrev pub part : List Access
+  part = create_part old.vault.next (blocks_for old.room.pack capacity) (old.room.pack * width schema)
+
+  script_is : (end : End) → whole_script old.public (Create table columns capacity) (seen_to end) ≡ part
+  script_is end = λ i. create_part (agrees.next i) (blocks_for (sym agrees.room.pack i) capacity) (sym agrees.room.pack i * width (sym schema_is i))
+
+  abbrev pub new_table : Table
+  new_table = record { heading = record { name = table; schema = schema; capacity = capacity }; region = old.public.next_region }
+
+  pub created : Went part (one old.vault.next) (at state old.vault s1) (at state v t) → old.ended ≡ false → IsStored schema capacity
+      → IsFlat old.room.pack (record { schema = schema; capacity = capacity; region = old.vault.next }) (at state v t)
+      → ((i : ℕ) (u : Table) → IsAt table i u old.public.tables → ⊥)
+      → Ran state (Create table columns capacity) (Ok Created) old s (engine_after old v room (old.public.tables ++ new_table ∷ []) Whole old.ended) t
+  created went lives stored flat unnamed =
+      let all = went_join (one old.vault.next) _ _ _ [] part (went_room (one old.vault.next) _ s s1 agrees.ready rests) went in
+      let is_table : IsTable old.public.pack new_table (at state v t) = record {
+        stored = stored;
+        flat = subst (λ (g : ℕ). IsFlat old.public.pack (record { schema = schema; capacity = capacity; region = g }) (at state v t)) (sym agrees.next)
+            (subst (λ (k : ℕ). IsFlat k (record { schema = schema; capacity = capacity; region = old.vault.next }) (at state v t)) agrees.room.pack flat);
+      } in
+      ran_done state (Create table columns capacity) old s v room t agrees (free_after _ _ _ high agrees.room room_is) (one old.vault.next)
+      (old.public.tables ++ new_table ∷ []) part Created lives tt all (script_is Whole)
+      (ap (λ (c : Columns). old.public.tables ++ record { heading = record { name = table; schema = c; capacity = capacity }; region = old.public.next_region } ∷ []) schema_is)
+      (tables_added old.public.pack old.vault.next old.public.tables new_table _ _ all.lasts agrees.ready refl agrees.tables agrees.next is_table
+      (λ i u is same. unnamed i u (record { get = is; named = same })) (λ q. cases_eq q old.vault.next))
+
+  pub not_created : (e : OpErr) (n : ℕ) → PassCut e part (one old.vault.next) (at state old.vault s1) (at state v t) → n ≡ length t.asked - length s.asked
+      → ((state v.revs).live old.vault.next ≡ None)
+      → Ran state (Create table columns capacity) (answer_of e) old s (engine_after old v room old.public.tables (Cut n) (is_stop (answer_of e))) t
+  not_created e n cut count gone =
+      let all = pass_after (one old.vault.next) _ _ _ e [] part (went_room (one old.vault.next) _ s s1 agrees.ready rests) cut in
+      ran_cut state (Create table columns capacity) old s v room t agrees (free_after _ _ _ high agrees.room room_is) (one old.vault.next) n part e all (script_is (Cut n)) count
+      (tables_kept (one old.vault.next) old.public.pack old.public.tables _ _ all.lasts
+      (λ i u is here. let less = region_below old.public.pack i old.public.tables u _ agrees.ready agrees.tables is in omega (arith, less, here))
+      (λ q shape live here. absurd (cc (live, gone, here))) agrees.tables)
+
+snoc_front : {A : Type 0} (xs ys : List A) (x y : A) → xs ++ x ∷ [] ≡ ys ++ y ∷ [] → xs ≡ ys
+snoc_front [] [] x y e = refl
+snoc_front [] (z ∷ []) x y e = absurd (cc e)
+snoc_front [] (z ∷ w ∷ ws) x y e = absurd (cc e)
+snoc_front (z ∷ []) [] x y e = absurd (cc e)
+snoc_front (z ∷ w ∷ ws) [] x y e = absurd (cc e)
+snoc_front (z ∷ xs) (w ∷ ys) x y e =
+    let head : z ≡ w = cc e in
+    let rest : xs ++ x ∷ [] ≡ ys ++ y ∷ [] = cc e in
+    let same = snoc_front xs ys x y rest in
+    cc (head, same)
+
+-- the tables after the last was taken away
+pub popped : (o : Option Table) (before after ts : List Table) (t : Table) → MatchOption o ((before ≡ []) × (after ≡ [])) (λ x. before ≡ after ++ x ∷ []) → before ≡ ts ++ t ∷ [] → after ≡ ts
+popped None before after [] t pop is = pop.1
+popped None before after (x ∷ ts) t pop is = absurd (cc (pop.0, is))
+popped (Some x) before after ts t pop is = snoc_front after ts x t (sym pop ∙ is)

@@ -1,0 +1,249 @@
+-- How a statement of an engine ends.
+use Rattle.std.proofs.Common.{◌≡◌, inl, inr, ◌+◌, ◌-◌, ℕ, Bool, false, List, [], ◌++◌, length, take, Some, None, Ok, Result, refl, sym, ◌∙◌, ap, subst, arith, append-nil}
+use Rattle.ob_base.specs.declared.access.Access.{Access}
+use Rattle.ob_base.specs.declared.config.Public.{Public}
+use Rattle.ob_base.specs.declared.refusal.Refusal.{Refusal}
+use Rattle.ob_base.specs.declared.refusal.Stop.{Stop}
+use Rattle.ob_base.specs.declared.refusal.Refusal.TheVariants.{Syntax, NoTable, NameTaken, NoColumn, WrongType, ValueRange, Limit, KeyRule, JoinKey, Duplicate, Full, TooManyGroups, NotConsecutive, Overflow, StoreFault}
+use Rattle.ob_base.specs.declared.seen.End.{End}
+use Rattle.ob_base.specs.declared.seen.End.TheVariants.{Static, Whole, Cut}
+use Rattle.ob_base.specs.declared.skeleton.Skeleton.{Skeleton}
+use Rattle.ob_base.specs.Accesses.{writes, makes, number_of, AllBelow}
+use Rattle.ob_base.proofs.AccessLemmas.{makes-append}
+use Rattle.ob_store.specs.State.{StoreState}
+use Rattle.ob_store.specs.Calls.{Rests}
+use Rattle.ob_store.proofs.Steps.{began_take, later_refl}
+use Rattle.ob_vault.specs.State.{RevState, VaultState, World}
+use Rattle.ob_vault.specs.Tied.{Ready, Calm}
+use Rattle.ob_vault.specs.Calls.{Went}
+use Rattle.ob_flat.specs.declared.fault.OpErr.{OpErr}
+use Rattle.ob_flat.specs.declared.fault.OpErr.TheVariants as OpErrs
+use Rattle.ob_flat.specs.Passes.{PassCut, PassCause}
+use Rattle.ob_script.specs.Script.{script, whole_script}
+use Rattle.std.specs.Prelude.{Option, IfNone, is_some}
+use Rattle.ob_script.specs.Trace.{tables_after, tables_then}
+use Rattle.ob_base.specs.declared.schema.Table.{Table}
+use Rattle.ob_room.specs.RoomState.{RoomState}
+use Rattle.ob_vault.specs.declared.vault.Vault.{Vault}
+use Rattle.ob_vault.specs.Places.{at}
+use Rattle.ob_exec.specs.declared.engine.Engine.{Engine}
+use Rattle.ob_exec.specs.declared.outcome.Outcome.{Outcome}
+use Rattle.ob_exec.specs.declared.outcome.Outcome.TheVariants.{Created, Inserted, Changed, Deleted, Dropped, Rows, Refused}
+use Rattle.ob_exec.specs.Engines.{IsFree, AreTables}
+use Rattle.ob_exec.specs.Refusals.{IsEarly}
+use Rattle.ob_exec.specs.Agreeing.{Agrees, world_of}
+use Rattle.ob_exec.specs.Running.{seen_to, answer_of, is_stop, IsDone, refused_end, refused_cause, EndsBy, RunCause, GoesOn, Continues, Ran}
+
+abbrev pub world : VaultState → StoreState → World
+world v s = record { vault = v; store = s }
+
+-- room for accesses changes nothing else
+pub went_room : (some : ℕ → Type 0) (v : VaultState) (s t : StoreState) → Ready (world v s) → Rests s t → Went [] some (world v s) (world v t)
+went_room some v s t ready rests = record {
+  lasts = record {
+    ready = record {
+      tied = record {
+        count = ready.tied.count ∙ sym (ap writes rests.asked);
+        next = ready.tied.next ∙ sym (ap (λ (x : List Access). 1 + makes x) rests.asked);
+        above = subst (λ (x : List Access). AllBelow v.next x) (sym rests.asked) ready.tied.above;
+        live = λ q shape live. record { live = rests.keeps.live q ∙ (ready.tied.live q shape live).live };
+        numbers = λ q x shape live within. ready.tied.numbers q x shape live within ∙ sym (ap (λ (y : List Access). number_of y q x) rests.asked);
+      };
+      below = ready.below;
+      fits = ready.fits;
+    };
+    later = record { faults = omega (arith, rests.faults); tells = rests.tells; lie = λ lie is. rests.lie ∙ is };
+    keys = refl;
+    apart = record { live = λ q off. refl; number = λ q x off. refl; turn = λ q off. refl; kept = λ q off. rests.keeps.live q; last = λ q x off. rests.keeps.last q x };
+  };
+  did = record { asked = rests.asked ∙ sym (append-nil s.asked); faults = rests.faults };
+  spare = omega (arith, rests.spare);
+  calm = λ calm. record { calm = λ lie is. calm.calm lie (sym rests.lie ∙ is) };
+}
+
+-- the next region after some accesses
+pub next_after : (a b : World) (x : List Access) → Ready a → Ready b → b.store.asked ≡ a.store.asked ++ x → b.vault.next ≡ a.vault.next + makes x
+next_after a b x was is asked =
+    let sum = makes-append a.store.asked x in
+    let all = ap makes asked in
+    omega (arith, was.tied.next, is.tied.next, sum, all)
+
+makes_none : makes [] ≡ 0
+unfolding makes
+makes_none = refl
+
+-- a refusal before any access is none by the store
+pub early_end : (r : Refusal) (end : End) (n : ℕ) → IsEarly r → IsDone end → refused_end r end n
+early_end (Syntax at) end n early done = done
+early_end NoTable end n early done = done
+early_end NameTaken end n early done = done
+early_end NoColumn end n early done = done
+early_end WrongType end n early done = done
+early_end ValueRange end n early done = done
+early_end Limit end n early done = done
+early_end KeyRule end n early done = done
+early_end JoinKey end n early done = done
+early_end Duplicate end n early done = done
+early_end Full end n early done = done
+early_end TooManyGroups end n early done = done
+early_end NotConsecutive end n early done = done
+early_end (Overflow i) end n early done = done
+early_end StoreFault end n early done = absurd early
+
+pub early_cause : (r : Refusal) (a b : World) → IsEarly r → b.store.faults ≡ a.store.faults → (Calm a → Calm b) → refused_cause r a b
+early_cause (Syntax at) a b early faults calm = (faults, calm)
+early_cause NoTable a b early faults calm = (faults, calm)
+early_cause NameTaken a b early faults calm = (faults, calm)
+early_cause NoColumn a b early faults calm = (faults, calm)
+early_cause WrongType a b early faults calm = (faults, calm)
+early_cause ValueRange a b early faults calm = (faults, calm)
+early_cause Limit a b early faults calm = (faults, calm)
+early_cause KeyRule a b early faults calm = (faults, calm)
+early_cause JoinKey a b early faults calm = (faults, calm)
+early_cause Duplicate a b early faults calm = (faults, calm)
+early_cause Full a b early faults calm = (faults, calm)
+early_cause TooManyGroups a b early faults calm = (faults, calm)
+early_cause NotConsecutive a b early faults calm = (faults, calm)
+early_cause (Overflow i) a b early faults calm = (faults, calm)
+early_cause StoreFault a b early faults calm = absurd early
+
+module _ {R : Type 0} (state : R → RevState) (skeleton : Skeleton) (old : Engine R) (s : StoreState) (agrees : Agrees state old s) (lives : old.ended ≡ false) where
+  refused_now : (r : Refusal) → IsEarly r → Ran state skeleton (Ok (Refused r)) old s (record old { seen = seen_to Static }) s
+  refused_now r early = record {
+    asked = sym (append-nil s.asked);
+    later = later_refl s;
+    ends = early_end r _ _ early (inl refl);
+    cause = early_cause r _ _ early refl (λ calm. calm);
+    goes_on = record {
+      agrees = record { ready = agrees.ready; next = agrees.next; room = agrees.room; tables = agrees.tables };
+      public = let same : old.public.next_region ≡ old.public.next_region + makes [] = omega (arith, makes_none) in λ i. record old.public { next_region = same i };
+      lives = lives;
+    };
+  }
+
+  -- a refusal before any access
+  pub ran_refused : (r : Refusal) (outcome : Outcome) (new : Engine R) → IsEarly r → outcome ≡ Refused r → new ≡ record old { seen = seen_to Static } → Ran state skeleton (Ok outcome) old s new s
+  ran_refused r outcome new early answer is =
+      subst (λ (e : Engine R). Ran state skeleton (Ok outcome) old s e s) (sym is)
+      (subst (λ (o : Outcome). Ran state skeleton (Ok o) old s (record old { seen = seen_to Static }) s) (sym answer) (refused_now r early))
+
+-- an answer after all accesses
+abbrev pub IsAnswered : Outcome → Type 0
+IsAnswered (Refused r) = IsEarly r
+IsAnswered Created = Unit {0}
+IsAnswered Inserted = Unit {0}
+IsAnswered (Changed k) = Unit {0}
+IsAnswered (Deleted k) = Unit {0}
+IsAnswered Dropped = Unit {0}
+IsAnswered (Rows k) = Unit {0}
+
+answered_end : (outcome : Outcome) (n : ℕ) → IsAnswered outcome → EndsBy (Ok outcome) Whole n
+answered_end (Refused r) n is = early_end r Whole n is (inr refl)
+answered_end Created n is = refl
+answered_end Inserted n is = refl
+answered_end (Changed k) n is = refl
+answered_end (Deleted k) n is = refl
+answered_end Dropped n is = refl
+answered_end (Rows k) n is = refl
+
+answered_cause : (outcome : Outcome) (a b : World) → IsAnswered outcome → b.store.faults ≡ a.store.faults → (Calm a → Calm b) → RunCause (Ok outcome) a b
+answered_cause (Refused r) a b is faults calm = early_cause r a b is faults calm
+answered_cause Created a b is faults calm = (faults, calm)
+answered_cause Inserted a b is faults calm = (faults, calm)
+answered_cause (Changed k) a b is faults calm = (faults, calm)
+answered_cause (Deleted k) a b is faults calm = (faults, calm)
+answered_cause Dropped a b is faults calm = (faults, calm)
+answered_cause (Rows k) a b is faults calm = (faults, calm)
+
+-- an engine after a statement: its vault, its room and its tables may be others
+abbrev pub engine_after : {R : Type 0} → Engine R → Vault R → RoomState → List Table → End → Bool → Engine R
+engine_after old v room tables end ended = record old {
+  vault = v;
+  room = room;
+  public = record old.public { tables = tables; next_region = v.next };
+  seen = seen_to end;
+  ended = ended;
+}
+
+module _ {R : Type 0} (state : R → RevState) (skeleton : Skeleton) (old : Engine R) (s : StoreState) (v : Vault R) (room : RoomState) (t : StoreState)
+    (agrees : Agrees state old s) (free : IsFree old.public room) where
+  abbrev pub now : World
+  now = at state v t
+
+  went_on : (tables : List Table) (end : End) (x : List Access) (ended : Bool) → ended ≡ false → Ready now → t.asked ≡ s.asked ++ x
+      → script old.public skeleton (seen_to end) ≡ x → tables ≡ tables_then old.public skeleton end → AreTables tables old.public.pack now
+      → GoesOn state skeleton old (engine_after old v room tables end ended) t
+  went_on tables end x ended lives ready asked is same are =
+      let number = next_after (world_of state old s) now x agrees.ready ready asked in
+      let region : v.next ≡ old.public.next_region + makes (script old.public skeleton (seen_to end)) =
+      number ∙ ap (λ (n : ℕ). n + makes x) (sym agrees.next) ∙ ap (λ (y : List Access). old.public.next_region + makes y) (sym is) in
+      record {
+        agrees = record { ready = ready; next = refl; room = record { idle = free.idle; rows = free.rows; pack = free.pack; some = free.some; few = free.few }; tables = are };
+        public = λ i. record old.public { tables = same i; next_region = region i };
+        lives = lives;
+      }
+
+  -- all of it was asked
+  pub ran_done : (some : ℕ → Type 0) (tables : List Table) (x : List Access) (outcome : Outcome) → old.ended ≡ false → IsAnswered outcome → Went x some (world_of state old s) now
+      → whole_script old.public skeleton (seen_to Whole) ≡ x → tables ≡ tables_after old.public skeleton → AreTables tables old.public.pack now
+      → Ran state skeleton (Ok outcome) old s (engine_after old v room tables Whole old.ended) t
+  ran_done some tables x outcome lives answered went is same are = record {
+    asked = went.did.asked ∙ ap (λ (y : List Access). s.asked ++ y) (sym is);
+    later = went.lasts.later;
+    ends = answered_end outcome _ answered;
+    cause = answered_cause outcome _ _ answered went.did.faults went.calm;
+    goes_on = went_on tables Whole x old.ended lives went.lasts.ready went.did.asked is same are;
+  }
+
+  cut_ends : (e : OpErr) (n : ℕ) → EndsBy (answer_of e) (Cut n) n
+  cut_ends OpErrs.Failed n = refl
+  cut_ends (OpErrs.Tampered q x) n = refl
+  cut_ends OpErrs.Sink n = refl
+  cut_ends OpErrs.NoMemory n = refl
+
+  cut_cause : (e : OpErr) (a b : World) → PassCause e a b → RunCause (answer_of e) a b
+  cut_cause OpErrs.Failed a b cause = cause
+  cut_cause (OpErrs.Tampered q x) a b cause = cause
+  cut_cause OpErrs.Sink a b cause = cause
+  cut_cause OpErrs.NoMemory a b cause = cause
+
+  cut_on : (e : OpErr) (n : ℕ) → GoesOn state skeleton old (engine_after old v room old.public.tables (Cut n) false) t
+      → Continues state skeleton (answer_of e) old (engine_after old v room old.public.tables (Cut n) (is_stop (answer_of e))) t
+  cut_on OpErrs.Failed n on = on
+  cut_on (OpErrs.Tampered q x) n on = refl
+  cut_on OpErrs.Sink n on = refl
+  cut_on OpErrs.NoMemory n on = refl
+
+  -- a pass gave up
+  pub ran_cut : (some : ℕ → Type 0) (n : ℕ) (x : List Access) (e : OpErr) → PassCut e x some (world_of state old s) now
+      → whole_script old.public skeleton (seen_to (Cut n)) ≡ x → n ≡ length t.asked - length s.asked → AreTables old.public.tables old.public.pack now
+      → Ran state skeleton (answer_of e) old s (engine_after old v room old.public.tables (Cut n) (is_stop (answer_of e))) t
+  ran_cut some n x e cut is count are =
+      let first : t.asked ≡ s.asked ++ take n x = began_take x _ _ cut.began ∙ ap (λ (k : ℕ). s.asked ++ take k x) (sym count) in
+      record {
+        asked = first ∙ ap (λ (y : List Access). s.asked ++ take n y) (sym is);
+        later = cut.lasts.later;
+        ends = subst (λ (k : ℕ). EndsBy (answer_of e) (Cut n) k) count (cut_ends e n);
+        cause = cut_cause e _ _ cut.cause;
+        goes_on = cut_on e n (went_on old.public.tables (Cut n) (take n x) false refl cut.lasts.ready first (ap (take n) is) refl are);
+      }
+
+-- the room after a pass
+pub free_after : (public : Public) (old new : RoomState) (high : ℕ) → IsFree public old → new ≡ record old { high = high } → IsFree public new
+free_after public old new high free is = subst (λ (r : RoomState). IsFree public r) (sym is) (record {
+  idle = record { free = free.idle.free; shelf = free.idle.shelf; enough = free.idle.enough; wide = free.idle.wide };
+  rows = free.rows;
+  pack = free.pack;
+  some = free.some;
+  few = free.few;
+})
+
+pub if_none : (o : Option ℕ) (P : Type 0) → is_some o ≡ false → IfNone o P → P
+if_none None P none h = h
+if_none (Some x) P none h = absurd (cc none)
+
+-- the same, of an equal answer and an equal engine
+pub ran_as : {R : Type 0} (state : R → RevState) (skeleton : Skeleton) (old : Engine R) (s : StoreState) (t : StoreState) (r q : Result Outcome Stop) (new same : Engine R)
+    → r ≡ q → new ≡ same → Ran state skeleton q old s same t → Ran state skeleton r old s new t
+ran_as {R} state skeleton old s t r q new same answer is ran =
+    subst (λ (e : Engine R). Ran state skeleton r old s e t) (sym is) (subst (λ (a : Result Outcome Stop). Ran state skeleton a old s same t) (sym answer) ran)

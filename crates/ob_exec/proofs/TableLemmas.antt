@@ -1,0 +1,284 @@
+-- The tables of an engine, after a pass.
+use Rattle.std.proofs.Common.{◌≡◌, ◌⊎◌, inl, inr, ◌<◌, ℕ, zero, suc, Bool, true, false, if◌then◌else◌, cond, List, [], ◌∷◌, ◌++◌, length, Option, Some, None, refl, sym, ◌∙◌, ap, subst, arith}
+use Rattle.std.specs.Prelude.{slice_get, slice_set, bytes_eq}
+use Rattle.std.specs.Option.{option_map}
+use Rattle.std.proofs.lemmas.Option.{slice_get-map}
+use Rattle.std.proofs.lemmas.Slice.Eq.{bytes_eq-Decides}
+use Rattle.ob_base.specs.declared.schema.Table.{Table}
+use Rattle.ob_base.specs.Stored.{Stored, stored_at, stored_regions}
+use Rattle.ob_script.specs.Trace.{moved}
+use Rattle.ob_vault.specs.declared.region.Region.{Region}
+use Rattle.ob_vault.specs.State.{World}
+use Rattle.ob_vault.specs.Tied.{Ready}
+use Rattle.ob_vault.specs.Calls.{Lasts, none, one, two}
+use Rattle.ob_flat.specs.declared.flat.Flat.{Flat}
+use Rattle.ob_flat.specs.Flats.{IsFlat}
+use Rattle.ob_exec.specs.Engines.{flat_of, IsTable, AreTables}
+
+no_get : (ts : List Table) (i : ℕ) (t : Table) → ts ≡ [] → slice_get ts i ≡ Some t → ⊥
+no_get [] zero t none is = absurd (cc is)
+no_get [] (suc i) t none is = absurd (cc is)
+no_get (x ∷ xs) i t none is = absurd (cc none)
+
+-- no table, and no region
+pub no_tables : (pack : ℕ) (w : World) (ts : List Table) → ts ≡ [] → ((q : ℕ) → w.vault.revs.live q ≡ None) → AreTables ts pack w
+no_tables pack w ts none empty = record {
+  each = λ i t is. absurd (no_get ts i t none is);
+  apart = λ i j t u is. absurd (no_get ts i t none is);
+  names = λ i j t u is. absurd (no_get ts i t none is);
+  only = λ q shape live. absurd (cc (live, empty q));
+}
+
+-- a table whose region has not changed
+pub flat_kept : (some : ℕ → Type 0) (pack : ℕ) (flat : Flat) (old new : World) → Lasts some old new → (some flat.region → ⊥) → IsFlat pack flat old → IsFlat pack flat new
+flat_kept some pack flat old new lasts apart is = record {
+  made = record {
+    lives = record { live = lasts.apart.live flat.region apart ∙ is.made.lives.live };
+    turn = record {
+      turn = λ round. is.made.turn.turn round ∙ sym (lasts.apart.turn flat.region apart);
+      run = λ round off. absurd (off refl);
+    };
+  };
+  written = λ p less. record { number = λ zero_is. (is.written p less).number (sym (lasts.apart.number flat.region p apart) ∙ zero_is) };
+}
+
+pub table_kept : (some : ℕ → Type 0) (pack : ℕ) (t : Table) (old new : World) → Lasts some old new → (some t.region → ⊥) → IsTable pack t old → IsTable pack t new
+table_kept some pack t old new lasts apart is = record { stored = is.stored; flat = flat_kept some pack (flat_of t) old new lasts apart is.flat }
+
+-- the region of a table is below the next
+pub region_below : (pack i : ℕ) (ts : List Table) (t : Table) (w : World) → Ready w → AreTables ts pack w → slice_get ts i ≡ Some t → t.region < w.vault.next
+region_below pack i ts t w ready tables is = ready.below t.region _ (tables.each i t is).flat.made.lives.live
+
+-- after a pass that changed no table's region, and left none of its own
+pub tables_kept : (some : ℕ → Type 0) (pack : ℕ) (ts : List Table) (old new : World) → Lasts some old new
+    → ((i : ℕ) (t : Table) → slice_get ts i ≡ Some t → some t.region → ⊥)
+    → ((q : ℕ) (shape : Region) → new.vault.revs.live q ≡ Some shape → some q → ⊥)
+    → AreTables ts pack old → AreTables ts pack new
+tables_kept some pack ts old new lasts apart gone tables = record {
+  each = λ i t is. table_kept some pack t old new lasts (apart i t is) (tables.each i t is);
+  apart = tables.apart;
+  names = tables.names;
+  only = λ q shape live. tables.only q shape (sym (lasts.apart.live q (gone q shape live)) ∙ live);
+}
+
+-- ---- one table more
+-- an element of a longer list is one of the list, or the last
+pub get_more : {A : Type 0} (xs : List A) (x y : A) (i : ℕ) → slice_get (xs ++ x ∷ []) i ≡ Some y → (slice_get xs i ≡ Some y) ⊎ ((i ≡ length xs) × (y ≡ x))
+get_more [] x y zero is = inr (refl, cc is)
+get_more [] x y (suc i) is = absurd (cc is)
+get_more (z ∷ xs) x y zero is = inl is
+get_more (z ∷ xs) x y (suc i) is = elim (get_more xs x y i is) [ inl here ↦ inl here | inr last ↦ inr (ap suc last.0, last.1) ]
+
+pub get_front : {A : Type 0} (xs : List A) (x y : A) (i : ℕ) → slice_get xs i ≡ Some y → slice_get (xs ++ x ∷ []) i ≡ Some y
+get_front [] x y zero is = absurd (cc is)
+get_front [] x y (suc i) is = absurd (cc is)
+get_front (z ∷ xs) x y zero is = is
+get_front (z ∷ xs) x y (suc i) is = get_front xs x y i is
+
+pub get_last : {A : Type 0} (xs : List A) (x : A) → slice_get (xs ++ x ∷ []) (length xs) ≡ Some x
+get_last [] x = refl
+get_last (z ∷ xs) x = get_last xs x
+
+module _ (pack g : ℕ) (ts : List Table) (new_table : Table) (old new : World) (lasts : Lasts (one g) old new) (ready : Ready old) (next : g ≡ old.vault.next)
+    (tables : AreTables ts pack old) (fresh : new_table.region ≡ g) (is_table : IsTable pack new_table new)
+    (unnamed : (i : ℕ) (t : Table) → slice_get ts i ≡ Some t → t.heading.name ≡ new_table.heading.name → ⊥) where
+  below : (i : ℕ) (t : Table) → slice_get ts i ≡ Some t → t.region < g
+  below i t is = let less = region_below pack i ts t old ready tables is in omega (arith, less, next)
+
+  added_each : (i : ℕ) (t : Table) → slice_get (ts ++ new_table ∷ []) i ≡ Some t → IsTable pack t new
+  added_each i t is = elim (get_more ts new_table t i is) [
+    | inl here ↦ table_kept (one g) pack t old new lasts (λ same. omega (arith, below i t here, same)) (tables.each i t here)
+    | inr last ↦ subst (λ (u : Table). IsTable pack u new) (sym last.1) is_table
+  ]
+
+  added_apart : (i j : ℕ) (t u : Table) → slice_get (ts ++ new_table ∷ []) i ≡ Some t → slice_get (ts ++ new_table ∷ []) j ≡ Some u → t.region ≡ u.region → i ≡ j
+  added_apart i j t u is js same = elim (get_more ts new_table t i is) [
+    | inl here ↦ elim (get_more ts new_table u j js) [
+      | inl there ↦ tables.apart i j t u here there same
+      | inr last ↦ absurd (omega (arith, below i t here, same, ap (λ (x : Table). x.region) last.1, fresh))
+    ]
+    | inr last ↦ elim (get_more ts new_table u j js) [
+      | inl there ↦ absurd (omega (arith, below j u there, same, ap (λ (x : Table). x.region) last.1, fresh))
+      | inr other ↦ last.0 ∙ sym other.0
+    ]
+  ]
+
+  added_names : (i j : ℕ) (t u : Table) → slice_get (ts ++ new_table ∷ []) i ≡ Some t → slice_get (ts ++ new_table ∷ []) j ≡ Some u → t.heading.name ≡ u.heading.name → i ≡ j
+  added_names i j t u is js same = elim (get_more ts new_table t i is) [
+    | inl here ↦ elim (get_more ts new_table u j js) [
+      | inl there ↦ tables.names i j t u here there same
+      | inr last ↦ absurd (unnamed i t here (same ∙ ap (λ (x : Table). x.heading.name) last.1))
+    ]
+    | inr last ↦ elim (get_more ts new_table u j js) [
+      | inl there ↦ absurd (unnamed j u there (sym same ∙ ap (λ (x : Table). x.heading.name) last.1))
+      | inr other ↦ last.0 ∙ sym other.0
+    ]
+  ]
+
+  added_only : (q : ℕ) (shape : Region) → new.vault.revs.live q ≡ Some shape → (q ≡ g) ⊎ (q ≡ g → ⊥) → (i : ℕ) × (t : Table) × (slice_get (ts ++ new_table ∷ []) i ≡ Some t) × (t.region ≡ q)
+  added_only q shape live (inl here) = (length ts, new_table, get_last ts new_table, fresh ∙ sym here)
+  added_only q shape live (inr off) =
+      let found = tables.only q shape (sym (lasts.apart.live q off) ∙ live) in
+      (found.0, found.1, get_front ts new_table found.1 found.0 found.2, found.3)
+
+  pub tables_added : ((q : ℕ) → (q ≡ g) ⊎ (q ≡ g → ⊥)) → AreTables (ts ++ new_table ∷ []) pack new
+  tables_added cases = record { each = added_each; apart = added_apart; names = added_names; only = λ q shape live. added_only q shape live (cases q) }
+
+-- ---- a table that lies in another region
+-- the test of a name
+pub named : (a b : List ℕ) → (bytes_eq a b ≡ true) → a ≡ b
+named a b is = (bytes_eq-Decides a b).0 is
+
+module _ (pack g r : ℕ) (name : List ℕ) (ts : List Table) (t : Table) (i : ℕ) (old new : World) (lasts : Lasts (two r g) old new) (ready : Ready old) (next : g ≡ old.vault.next)
+    (tables : AreTables ts pack old) (at_i : slice_get ts i ≡ Some t) (name_is : t.heading.name ≡ name) (region_is : t.region ≡ r)
+    (is_table : IsTable pack (record t { region = g }) new)
+    (gone : (shape : Region) → new.vault.revs.live r ≡ Some shape → ⊥) where
+  -- what stands at a place of the moved tables: the one that was moved, or another, as it was
+  data MovedAt (j : ℕ) (u : Table) : Type 0 where
+    this : (at : j ≡ i) → (is : u ≡ record t { region = g }) → MovedAt j u
+    that : (off : j ≡ i → ⊥) → (was : slice_get ts j ≡ Some u) → MovedAt j u
+
+  t_named : bytes_eq t.heading.name name ≡ true
+  t_named = (bytes_eq-Decides t.heading.name name).1 name_is
+
+  by_name : (j : ℕ) (u v : Table) → slice_get ts j ≡ Some v → (b : Bool) → bytes_eq v.heading.name name ≡ b → (if b then record v { region = g } else v) ≡ u → MovedAt j u
+  by_name j u v was true is end =
+      let same : j ≡ i = tables.names j i v t was at_i (named v.heading.name name is ∙ sym name_is) in
+      let one_table : v ≡ t = cc (was, at_i, same) in
+      this same (sym end ∙ ap (λ (x : Table). record x { region = g }) one_table)
+  by_name j u v was false is end =
+      that (λ same. let one_table : v ≡ t = cc (was, at_i, same) in absurd (cc (is, one_table, t_named)))
+      (was ∙ ap (λ (x : Table). Some x) end)
+
+  at_some : (j : ℕ) (u : Table) (o : Option Table) → slice_get ts j ≡ o → option_map (λ (v : Table). if bytes_eq v.heading.name name then record v { region = g } else v) o ≡ Some u → MovedAt j u
+  at_some j u None was is = absurd (cc is)
+  at_some j u (Some v) was is = by_name j u v was (bytes_eq v.heading.name name) refl (cc is)
+
+  moved_at : (j : ℕ) (u : Table) → slice_get (moved name g ts) j ≡ Some u → MovedAt j u
+  moved_at j u is = at_some j u (slice_get ts j) refl (sym (slice_get-map (λ (v : Table). if bytes_eq v.heading.name name then record v { region = g } else v) ts j) ∙ is)
+
+  get_this : slice_get (moved name g ts) i ≡ Some (record t { region = g })
+  get_this =
+      slice_get-map (λ (v : Table). if bytes_eq v.heading.name name then record v { region = g } else v) ts i
+      ∙ ap (option_map (λ (v : Table). if bytes_eq v.heading.name name then record v { region = g } else v)) at_i
+      ∙ ap (λ (b : Bool). Some (if b then record t { region = g } else t)) t_named
+
+  kept_by : (j : ℕ) (v : Table) → slice_get ts j ≡ Some v → (j ≡ i → ⊥) → (b : Bool) → bytes_eq v.heading.name name ≡ b → (if b then record v { region = g } else v) ≡ v
+  kept_by j v was off true is = absurd (off (tables.names j i v t was at_i (named v.heading.name name is ∙ sym name_is)))
+  kept_by j v was off false is = refl
+
+  get_that : (j : ℕ) (v : Table) → slice_get ts j ≡ Some v → (j ≡ i → ⊥) → slice_get (moved name g ts) j ≡ Some v
+  get_that j v was off =
+      slice_get-map (λ (u : Table). if bytes_eq u.heading.name name then record u { region = g } else u) ts j
+      ∙ ap (option_map (λ (u : Table). if bytes_eq u.heading.name name then record u { region = g } else u)) was
+      ∙ ap (λ (x : Table). Some x) (kept_by j v was off (bytes_eq v.heading.name name) refl)
+
+  moved_below : (j : ℕ) (u : Table) → slice_get ts j ≡ Some u → u.region < g
+  moved_below j u is = let less = region_below pack j ts u old ready tables is in omega (arith, less, next)
+
+  moved_each : (j : ℕ) (u : Table) → slice_get (moved name g ts) j ≡ Some u → IsTable pack u new
+  moved_each j u is = elim (moved_at j u is) [
+    | this at end ↦ subst (λ (x : Table). IsTable pack x new) (sym end) is_table
+    | that off was ↦ table_kept (two r g) pack u old new lasts
+        (λ hit. elim hit [
+          | inl same ↦ off (tables.apart j i u t was at_i (same ∙ sym region_is))
+          | inr same ↦ omega (arith, moved_below j u was, same)
+        ]) (tables.each j u was)
+  ]
+
+  moved_apart : (j k : ℕ) (u v : Table) → slice_get (moved name g ts) j ≡ Some u → slice_get (moved name g ts) k ≡ Some v → u.region ≡ v.region → j ≡ k
+  moved_apart j k u v js ks same = elim (moved_at j u js) [
+    | this at end ↦ elim (moved_at k v ks) [
+      | this at' end' ↦ at ∙ sym at'
+      | that off was ↦ absurd (omega (arith, moved_below k v was, same, ap (λ (x : Table). x.region) end))
+    ]
+    | that off was ↦ elim (moved_at k v ks) [
+      | this at end ↦ absurd (omega (arith, moved_below j u was, same, ap (λ (x : Table). x.region) end))
+      | that off' was' ↦ tables.apart j k u v was was' same
+    ]
+  ]
+
+  moved_names : (j k : ℕ) (u v : Table) → slice_get (moved name g ts) j ≡ Some u → slice_get (moved name g ts) k ≡ Some v → u.heading.name ≡ v.heading.name → j ≡ k
+  moved_names j k u v js ks same = elim (moved_at j u js) [
+    | this at end ↦ elim (moved_at k v ks) [
+      | this at' end' ↦ at ∙ sym at'
+      | that off was ↦ absurd (off (tables.names k i v t was at_i (sym same ∙ ap (λ (x : Table). x.heading.name) end)))
+    ]
+    | that off was ↦ elim (moved_at k v ks) [
+      | this at end ↦ absurd (off (tables.names j i u t was at_i (same ∙ ap (λ (x : Table). x.heading.name) end)))
+      | that off' was' ↦ tables.names j k u v was was' same
+    ]
+  ]
+
+  in_old : (q : ℕ) → (q ≡ r → ⊥) → (j : ℕ) (v : Table) → slice_get ts j ≡ Some v → v.region ≡ q → j ≡ i → ⊥
+  in_old q off j v was is same = let one_table : v ≡ t = cc (was, at_i, same) in off (sym is ∙ ap (λ (x : Table). x.region) one_table ∙ region_is)
+
+  moved_only : ((q x : ℕ) → (q ≡ x) ⊎ (q ≡ x → ⊥)) → (q : ℕ) (shape : Region) → new.vault.revs.live q ≡ Some shape → (j : ℕ) × (u : Table) × (slice_get (moved name g ts) j ≡ Some u) × (u.region ≡ q)
+  moved_only cases q shape live = elim (cases q g) [
+    | inl here ↦ (i, record t { region = g }, get_this, sym here)
+    | inr off ↦ elim (cases q r) [
+      | inl there ↦ absurd (gone shape (sym (ap new.vault.revs.live there) ∙ live))
+      | inr off' ↦
+          let found = tables.only q shape (sym (lasts.apart.live q (λ hit. elim hit [ inl same ↦ off' same | inr same ↦ off same ])) ∙ live) in
+          (found.0, found.1, get_that found.0 found.1 found.2 (in_old q off' found.0 found.1 found.2 found.3), found.3)
+    ]
+  ]
+
+  pub tables_moved : ((q x : ℕ) → (q ≡ x) ⊎ (q ≡ x → ⊥)) → AreTables (moved name g ts) pack new
+  tables_moved cases = record { each = moved_each; apart = moved_apart; names = moved_names; only = moved_only cases }
+
+-- ---- a table by its name
+abbrev pub AreNamed : List Table → Type 0
+AreNamed ts = (j k : ℕ) (u v : Table) → slice_get ts j ≡ Some u → slice_get ts k ≡ Some v → u.heading.name ≡ v.heading.name → j ≡ k
+
+at_test : (name : List ℕ) (x : Table) (xs : List Table) (b : Bool) → bytes_eq x.heading.name name ≡ b → (found : Option (Stored ℕ))
+    → (b ≡ true → Some (record { heading = x.heading; held = x.region }) ≡ found) → (b ≡ false → stored_at name (stored_regions xs) ≡ found)
+    → stored_at name (stored_regions (x ∷ xs)) ≡ found
+at_test name x xs true is found hit miss = ap (λ (t : Bool). cond t (Some (record { heading = x.heading; held = x.region })) (stored_at name (stored_regions xs))) is ∙ hit refl
+at_test name x xs false is found hit miss = ap (λ (t : Bool). cond t (Some (record { heading = x.heading; held = x.region })) (stored_at name (stored_regions xs))) is ∙ miss refl
+
+-- the table of a name is found by it, where the names are distinct
+pub stored_found : (name : List ℕ) (ts : List Table) (i : ℕ) (t : Table) → AreNamed ts → slice_get ts i ≡ Some t → t.heading.name ≡ name
+    → stored_at name (stored_regions ts) ≡ Some (record { heading = t.heading; held = t.region })
+stored_found name [] zero t names at is = absurd (cc at)
+stored_found name [] (suc i) t names at is = absurd (cc at)
+stored_found name (x ∷ xs) zero t names at is =
+    let same : x ≡ t = cc at in
+    at_test name x xs (bytes_eq x.heading.name name) refl _
+    (λ hit. ap (λ (u : Table). Some (record { heading = u.heading; held = u.region })) same)
+    (λ miss. let hit = (bytes_eq-Decides x.heading.name name).1 (ap (λ (u : Table). u.heading.name) same ∙ is) in absurd (cc (hit, miss)))
+stored_found name (x ∷ xs) (suc i) t names at is =
+    at_test name x xs (bytes_eq x.heading.name name) refl _
+    (λ hit. absurd (omega (arith, names 0 (suc i) x t refl at (named x.heading.name name hit ∙ sym is))))
+    (λ miss. stored_found name xs i t (λ j k u v js ks same. omega (arith, names (suc j) (suc k) u v js ks same)) at is)
+
+-- tables of other names stay where they are
+unmoved : (name : List ℕ) (g : ℕ) (ts : List Table) → ((j : ℕ) (u : Table) → slice_get ts j ≡ Some u → u.heading.name ≡ name → ⊥) → moved name g ts ≡ ts
+unmoved name g [] off = refl
+unmoved name g (x ∷ xs) off = head (unmoved name g xs (λ j u js same. off (suc j) u js same)) (bytes_eq x.heading.name name) refl
+  where
+    head : moved name g xs ≡ xs → (b : Bool) → bytes_eq x.heading.name name ≡ b → moved name g (x ∷ xs) ≡ x ∷ xs
+    head rest true is = absurd (off 0 x refl (named x.heading.name name is))
+    head rest false is =
+        ap (λ (b : Bool). (if b then record x { region = g } else x) ∷ moved name g xs) is ∙ ap (λ (ys : List Table). x ∷ ys) rest
+
+-- the one table of a name, in another region
+pub set_moved : (name : List ℕ) (g : ℕ) (ts : List Table) (i : ℕ) (t : Table) → AreNamed ts → slice_get ts i ≡ Some t → t.heading.name ≡ name
+    → slice_set ts i (record t { region = g }) ≡ moved name g ts
+set_moved name g [] zero t names at is = absurd (cc at)
+set_moved name g [] (suc i) t names at is = absurd (cc at)
+set_moved name g (x ∷ xs) zero t names at is =
+    let same : x ≡ t = cc at in
+    let hit = (bytes_eq-Decides x.heading.name name).1 (ap (λ (u : Table). u.heading.name) same ∙ is) in
+    let rest = unmoved name g xs (λ j u js of_name. omega (arith, names 0 (suc j) x u refl js (ap (λ (v : Table). v.heading.name) same ∙ is ∙ sym of_name))) in
+    ap (λ (u : Table). record u { region = g } ∷ xs) (sym same) ∙ ap (λ (ys : List Table). record x { region = g } ∷ ys) (sym rest)
+    ∙ ap (λ (b : Bool). (if b then record x { region = g } else x) ∷ moved name g xs) (sym hit)
+set_moved name g (x ∷ xs) (suc i) t names at is =
+    head (set_moved name g xs i t (λ j k u v js ks same. omega (arith, names (suc j) (suc k) u v js ks same)) at is) (bytes_eq x.heading.name name) refl
+  where
+    head : slice_set xs i (record t { region = g }) ≡ moved name g xs → (b : Bool) → bytes_eq x.heading.name name ≡ b
+        → x ∷ slice_set xs i (record t { region = g }) ≡ moved name g (x ∷ xs)
+    head rest true hit = absurd (omega (arith, names 0 (suc i) x t refl at (named x.heading.name name hit ∙ sym is)))
+    head rest false miss =
+        ap (λ (ys : List Table). x ∷ ys) rest
+        ∙ ap (λ (b : Bool). (if b then record x { region = g } else x) ∷ moved name g xs) (sym miss)

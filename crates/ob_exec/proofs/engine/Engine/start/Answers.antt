@@ -1,0 +1,23 @@
+use Rattle.std.proofs.Common.{sym, arith}
+use Rattle.std.proofs.lemmas.Grind.{common_steps}
+use Rattle.ob_exec.proofs.TableLemmas.{no_tables}
+use Rattle.ob_exec.proofs.engine.Engine.start.Goals as goal
+
+pub returns-clause-agrees : goal.returns-clause-agrees
+returns-clause-agrees g c = λ s none. record {
+  ready = c.new-2.ensures.ready s none;
+  next = sym c.new-2.ensures.first;
+  room = record {
+    idle = record {
+      free = grind (arith, common_steps, c.in_ok-room.ensures);
+      shelf = grind (arith, common_steps, c.in_ok-room.ensures);
+      enough = grind (arith, common_steps, c.in_ok-room.ensures, c.requires.blocks);
+      wide = grind (arith, common_steps, c.in_ok-room.ensures);
+    };
+    rows = grind (arith, common_steps, c.in_ok-room.ensures);
+    pack = grind (arith, common_steps, c.in_ok-room.ensures);
+    some = c.requires.pack_least;
+    few = c.requires.pack_most;
+  };
+  tables = no_tables _ _ _ c.new-3.ensures c.new-2.ensures.empty;
+}

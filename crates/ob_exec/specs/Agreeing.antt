@@ -1,0 +1,37 @@
+-- What contracts see of an engine, and how it and its store belong together.
+use Rattle.std.specs.Prelude.{◌≡◌, ℕ, Bool}
+use Rattle.ob_base.specs.declared.config.Public.{Public}
+use Rattle.ob_base.specs.declared.seen.Seen.{Seen}
+use Rattle.ob_store.specs.State.{StoreState}
+use Rattle.ob_vault.specs.State.{RevState, World}
+use Rattle.ob_vault.specs.Tied.{Ready}
+use Rattle.ob_vault.specs.Places.{at}
+use Rattle.ob_exec.specs.declared.engine.Engine.{Engine}
+use Rattle.ob_exec.specs.Engines.{IsFree, AreTables}
+
+-- what is public
+abbrev pub public_of : {R : Type 0} → Engine R → Public
+public_of e = e.public
+
+-- what was seen of the last statement
+abbrev pub seen_of : {R : Type 0} → Engine R → Seen
+seen_of e = e.seen
+
+-- whether a stop has ended the session
+abbrev pub has_ended : {R : Type 0} → Engine R → Bool
+has_ended e = e.ended
+
+-- the greatest number of rows that were open at once
+abbrev pub high_of : {R : Type 0} → Engine R → ℕ
+high_of e = e.room.high
+
+-- its vault and the store
+abbrev pub world_of : {R : Type 0} → (R → RevState) → Engine R → StoreState → World
+world_of state e s = at state e.vault s
+
+-- what every statement asks of an engine and its store, and leaves
+pub record Agrees {R : Type 0} (state : R → RevState) (e : Engine R) (s : StoreState) : Type 0 where
+  pub ready : Ready (world_of state e s)
+  pub next : e.public.next_region ≡ e.vault.next
+  pub room : IsFree e.public e.room
+  pub tables : AreTables e.public.tables e.public.pack (world_of state e s)

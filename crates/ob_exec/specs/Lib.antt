@@ -1,0 +1,6 @@
+pub mod Schemas
+pub mod Engines
+pub mod Refusals
+pub mod Agreeing
+pub mod Running
+pub mod Serving

@@ -1,0 +1,146 @@
+-- What a statement does, whatever it is answered.
+use Rattle.std.specs.Prelude.{◌≡◌, ◌⊎◌, ◌-◌, ℕ, Bool, true, false, List, [], ◌∷◌, ◌++◌, length, IsTrue, Result, Ok, Err, None}
+use Rattle.std.specs.List.{list_all}
+use Rattle.ob_base.specs.declared.refusal.Refusal.{Refusal}
+use Rattle.ob_base.specs.declared.refusal.Stop.{Stop}
+use Rattle.ob_base.specs.declared.refusal.Stop.TheVariants.{Tampered, SourceFault, SinkFault, NoMemory, InputLimit}
+use Rattle.ob_base.specs.declared.seen.Seen.{Seen}
+use Rattle.ob_base.specs.declared.seen.End.{End}
+use Rattle.ob_base.specs.declared.seen.End.TheVariants.{Static, Whole, Cut}
+use Rattle.ob_base.specs.declared.skeleton.Skeleton.{Skeleton}
+use Rattle.ob_base.specs.Counts.{Rises}
+use Rattle.ob_base.specs.Events.{Event, Head, Row, Close}
+use Rattle.ob_store.specs.State.{StoreState}
+use Rattle.ob_store.specs.Runs.{Later}
+use Rattle.ob_vault.specs.State.{RevState, World}
+use Rattle.ob_vault.specs.Tied.{Calm, EndsAt}
+use Rattle.ob_script.specs.Script.{script}
+use Rattle.ob_script.specs.Trace.{next}
+use Rattle.ob_flat.specs.declared.fault.OpErr.{OpErr}
+use Rattle.ob_flat.specs.declared.fault.OpErr.TheVariants as OpErrs
+use Rattle.ob_mutate.specs.declared.inserting.Inserted.{Inserted as InsertedAs}
+use Rattle.ob_mutate.specs.declared.inserting.Inserted.TheVariants.{Done, Duplicate, Full}
+use Rattle.ob_exec.specs.declared.engine.Engine.{Engine}
+use Rattle.ob_exec.specs.declared.outcome.Outcome.{Outcome}
+use Rattle.ob_exec.specs.declared.outcome.Outcome.TheVariants.{Created, Inserted, Changed, Deleted, Dropped, Rows, Refused}
+use Rattle.ob_exec.specs.Agreeing.{Agrees, world_of}
+
+-- nothing but the end is seen of a statement without a count
+abbrev pub seen_to : End → Seen
+seen_to end = record { k = None; plan = None; then = None; end = end }
+
+-- the answer, or the stop, that an error of a pass makes
+abbrev pub answer_of : OpErr → Result Outcome Stop
+answer_of OpErrs.Failed = Ok (Refused Refusal.StoreFault)
+answer_of (OpErrs.Tampered region place) = Err (Tampered region place)
+answer_of OpErrs.Sink = Err SinkFault
+answer_of OpErrs.NoMemory = Err NoMemory
+
+-- the answer to an INSERT
+abbrev pub inserted_as : InsertedAs → Outcome
+inserted_as Done = Inserted
+inserted_as Duplicate = Refused Refusal.Duplicate
+inserted_as Full = Refused Refusal.Full
+
+abbrev pub is_stop : {T E : Type 0} → Result T E → Bool
+is_stop (Ok x) = false
+is_stop (Err e) = true
+
+-- it went to its end, or was refused before any access
+abbrev pub IsDone : End → Type 0
+IsDone end = (end ≡ Static) ⊎ (end ≡ Whole)
+
+abbrev pub refused_end : Refusal → End → ℕ → Type 0
+refused_end Refusal.StoreFault end n = end ≡ Cut n
+refused_end _ end n = IsDone end
+
+-- a statement is cut, after the accesses that it asked, exactly where it was stopped or the store failed
+abbrev pub EndsBy : Result Outcome Stop → End → ℕ → Type 0
+EndsBy (Ok (Refused r)) end n = refused_end r end n
+EndsBy (Ok Created) end n = end ≡ Whole
+EndsBy (Ok Inserted) end n = end ≡ Whole
+EndsBy (Ok (Changed k)) end n = end ≡ Whole
+EndsBy (Ok (Deleted k)) end n = end ≡ Whole
+EndsBy (Ok Dropped) end n = end ≡ Whole
+EndsBy (Ok (Rows k)) end n = end ≡ Whole
+EndsBy (Err stop) end n = end ≡ Cut n
+
+abbrev pub refused_cause : Refusal → World → World → Type 0
+refused_cause Refusal.StoreFault old new = Rises old.store.faults new.store.faults × (Calm old → Calm new)
+refused_cause _ old new = (new.store.faults ≡ old.store.faults) × (Calm old → Calm new)
+
+-- the store's faults rose exactly where the answer is that it failed; a changed block was read only
+-- where the session ends as tampered, at its place, or its tag fits
+abbrev pub RunCause : Result Outcome Stop → World → World → Type 0
+RunCause (Ok (Refused r)) old new = refused_cause r old new
+RunCause (Ok Created) old new = (new.store.faults ≡ old.store.faults) × (Calm old → Calm new)
+RunCause (Ok Inserted) old new = (new.store.faults ≡ old.store.faults) × (Calm old → Calm new)
+RunCause (Ok (Changed k)) old new = (new.store.faults ≡ old.store.faults) × (Calm old → Calm new)
+RunCause (Ok (Deleted k)) old new = (new.store.faults ≡ old.store.faults) × (Calm old → Calm new)
+RunCause (Ok Dropped) old new = (new.store.faults ≡ old.store.faults) × (Calm old → Calm new)
+RunCause (Ok (Rows k)) old new = (new.store.faults ≡ old.store.faults) × (Calm old → Calm new)
+RunCause (Err (Tampered q x)) old new = (new.store.faults ≡ old.store.faults) × (Calm old → Calm new ⊎ EndsAt q x new)
+RunCause (Err SinkFault) old new = (new.store.faults ≡ old.store.faults) × (Calm old → Calm new)
+RunCause (Err NoMemory) old new = (new.store.faults ≡ old.store.faults) × (Calm old → Calm new)
+RunCause (Err SourceFault) old new = ⊥
+RunCause (Err InputLimit) old new = ⊥
+
+-- what lasts where the session goes on: the engine and the store belong together, and what is public is
+-- what follows from the statement and what was seen of it
+pub record GoesOn {R : Type 0} (state : R → RevState) (skeleton : Skeleton) (old new : Engine R) (t : StoreState) : Type 0 where
+  pub agrees : Agrees state new t
+  pub public : new.public ≡ next old.public skeleton new.seen
+  pub lives : new.ended ≡ false
+
+abbrev pub Continues : {R : Type 0} → (R → RevState) → Skeleton → Result Outcome Stop → Engine R → Engine R → StoreState → Type 0
+Continues state skeleton (Ok outcome) old new t = GoesOn state skeleton old new t
+Continues state skeleton (Err stop) old new t = new.ended ≡ true
+
+-- what a statement did: exactly the accesses of what is seen of it
+pub record Ran {R : Type 0} (state : R → RevState) (skeleton : Skeleton) (result : Result Outcome Stop)
+    (old : Engine R) (s : StoreState) (new : Engine R) (t : StoreState) : Type 0 where
+  pub asked : t.asked ≡ s.asked ++ script old.public skeleton new.seen
+  pub later : Later s t
+  pub ends : EndsBy result new.seen.end (length t.asked - length s.asked)
+  pub cause : RunCause result (world_of state old s) (world_of state new t)
+  pub goes_on : Continues state skeleton result old new t
+
+-- an answer of rows is its header, its rows and their number; any other emits nothing
+abbrev pub is_row : Event → Bool
+is_row (Head labels) = false
+is_row (Row cells) = true
+is_row (Close k) = false
+
+pub record IsAnswer (k : ℕ) (events : List Event) : Type 0 where
+  pub labels : List (List ℕ)
+  pub rows : List Event
+  pub are_rows : IsTrue (list_all is_row rows)
+  pub count : length rows ≡ k
+  pub is : events ≡ Head labels ∷ (rows ++ Close k ∷ [])
+
+abbrev pub Emits : Outcome → List Event → Type 0
+Emits (Rows k) events = IsAnswer k events
+Emits Created events = events ≡ []
+Emits Inserted events = events ≡ []
+Emits (Changed k) events = events ≡ []
+Emits (Deleted k) events = events ≡ []
+Emits Dropped events = events ≡ []
+Emits (Refused r) events = events ≡ []
+
+-- a stop by the sink comes only where a call of the emitter failed, and always where one did
+abbrev pub SinkCause : Result Outcome Stop → ℕ → ℕ → Type 0
+SinkCause (Ok outcome) old new = new ≡ old
+SinkCause (Err SinkFault) old new = Rises old new
+SinkCause (Err (Tampered region place)) old new = new ≡ old
+SinkCause (Err NoMemory) old new = new ≡ old
+SinkCause (Err SourceFault) old new = ⊥
+SinkCause (Err InputLimit) old new = ⊥
+
+-- nothing was emitted, and no emitter failed
+abbrev pub IsSilent : Result Outcome Stop → Type 0
+IsSilent (Ok outcome) = Emits outcome []
+IsSilent (Err SinkFault) = ⊥
+IsSilent (Err (Tampered region place)) = Unit {0}
+IsSilent (Err NoMemory) = Unit {0}
+IsSilent (Err SourceFault) = ⊥
+IsSilent (Err InputLimit) = ⊥

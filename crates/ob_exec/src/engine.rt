@@ -1,0 +1,143 @@
+//! An engine, and how its statements end.
+ghost use Rattle.std.specs.Prelude.{◌≡◌, List, [], IfOk, false};
+ghost use Rattle.ob_base.specs.declared.seen.End.TheVariants.{Static, Whole, Cut};
+ghost use Rattle.ob_store.specs.State.{StoreState};
+ghost use Rattle.ob_exec.specs.Engines.{IsConfig, first_public};
+ghost use Rattle.ob_exec.specs.Agreeing.{Agrees, public_of, seen_of, has_ended, high_of};
+ghost use Rattle.ob_exec.specs.Running.{seen_to, answer_of, is_stop};
+
+use crate::outcome::Outcome;
+use ob_base::{Config, End, Items, NoMemory, Public, Refusal, Seen, Stop};
+use ob_flat::OpErr;
+use ob_room::Room;
+use ob_seal::Keys;
+use ob_vault::{Revisions, Vault};
+use std::alloc::Global;
+
+/// The width of an open row: every row of a table, or of a join, is at most so wide.
+const ROW_WIDTH: u32 = 1_024;
+
+/// From so many accesses on no statement is served.
+pub(crate) const LATE: u64 = 1 << 63;
+
+/// Tables in sealed regions of a store, the keys to them, and a buffer of open rows.
+#[derive(Drop)]
+pub struct Engine<R: Revisions> {
+    pub(crate) alloc: Global,
+    pub(crate) vault: Vault<R>,
+    pub(crate) room: Room,
+    pub(crate) public: Public,
+    pub(crate) seen: Seen,
+    pub(crate) ended: bool,
+}
+
+// What is seen of a statement without a count.
+fn seen_to_end(end: End) -> Seen
+    ensures { result ≡ seen_to end }
+{
+    Seen {
+        k: None,
+        plan: None,
+        then: None,
+        end,
+    }
+}
+
+impl<R: Revisions> Engine<R> {
+    /// An engine with no table, which belongs to every store of which nothing was asked.
+    pub fn start(alloc: Global, config: Config, keys: Keys) -> Result<Engine<R>, NoMemory>
+        requires { IsConfig config }
+        ensures agrees { IfOk result (λ e. (s : StoreState) → s.asked ≡ [] → Agrees R.state e s) }
+        ensures public { IfOk result (λ e. public_of e ≡ first_public config) }
+        ensures alive { IfOk result (λ e. has_ended e ≡ false) }
+        ensures none_open { IfOk result (λ e. high_of e ≡ 0) }
+    {
+        let room = Room::new(alloc, config.buffer, ROW_WIDTH, u32::from(config.pack))?;
+        Ok(Engine {
+            alloc,
+            vault: Vault::new(alloc, keys),
+            room,
+            public: Public {
+                tables: Items::new(alloc),
+                next_region: 1,
+                buffer: config.buffer,
+                depth: config.depth,
+                pack: config.pack,
+                plan: config.plan,
+            },
+            seen: seen_to_end(End::Whole),
+            ended: false,
+        })
+    }
+
+    /// What a watcher knows of the tables.
+    pub fn public(&self) -> &Public
+        ensures { result.now ≡ public_of self.now }
+    {
+        &self.public
+    }
+
+    /// What a watcher saw of the last statement.
+    pub fn seen(&self) -> &Seen
+        ensures { result.now ≡ seen_of self.now }
+    {
+        &self.seen
+    }
+
+    /// The greatest number of rows that were open at once.
+    pub fn high(&self) -> u64
+        ensures { result ≡ high_of self.now }
+    {
+        self.room.high()
+    }
+
+    /// Whether a stop has ended the session.
+    pub fn ended(&self) -> bool
+        ensures { result ≡ has_ended self.now }
+    {
+        self.ended
+    }
+
+    // A refusal before any access.
+    pub(crate) fn refuse(&mut self, refusal: Refusal) -> Outcome
+        ensures answer { result ≡ Outcome.Refused refusal }
+        ensures seen { self.new ≡ record self.old { seen = seen_to Static } }
+    {
+        self.seen = seen_to_end(End::Static);
+        Outcome::Refused(refusal)
+    }
+
+    // A statement that went to its end.
+    pub(crate) fn finish(&mut self, outcome: Outcome) -> Outcome
+        ensures answer { result ≡ outcome }
+        ensures seen { self.new ≡ record self.old {
+          seen = seen_to Whole;
+          public = record self.old.public { next_region = self.old.vault.next };
+        } }
+    {
+        self.seen = seen_to_end(End::Whole);
+        self.public.next_region = self.vault.next_region();
+        outcome
+    }
+
+    // A statement that a pass gave up after so many accesses.
+    pub(crate) fn cut(&mut self, accesses: u64, error: OpErr) -> Result<Outcome, Stop>
+        ensures answer { result ≡ answer_of error }
+        ensures seen { self.new ≡ record self.old {
+          seen = seen_to (Cut accesses);
+          public = record self.old.public { next_region = self.old.vault.next };
+          ended = is_stop (answer_of error);
+        } }
+    {
+        self.seen = seen_to_end(End::Cut(accesses));
+        self.public.next_region = self.vault.next_region();
+        let answer = match error {
+            OpErr::Failed => Ok(Outcome::Refused(Refusal::StoreFault)),
+            OpErr::Tampered { region, place } => Err(Stop::Tampered { region, place }),
+            OpErr::Sink => Err(Stop::SinkFault),
+            OpErr::NoMemory => Err(Stop::NoMemory),
+        };
+        self.ended = answer.is_err();
+        answer
+    }
+}

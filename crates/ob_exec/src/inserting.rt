@@ -1,0 +1,85 @@
+//! INSERT.
+ghost use Rattle.std.specs.Prelude.{◌≡◌, ◌<◌, List, None, Some, false, length, slice_get, slice_set};
+ghost use Rattle.ob_base.specs.declared.schema.Table.{Table as TableOf};
+ghost use Rattle.ob_base.specs.declared.skeleton.Skeleton.TheVariants.{Insert};
+ghost use Rattle.ob_exec.specs.Agreeing.{Agrees, has_ended};
+ghost use Rattle.ob_exec.specs.Running.{Ran, IsSilent, inserted_as};
+
+use crate::early::{Early, new_cells};
+use crate::engine::{Engine, LATE};
+use crate::outcome::Outcome;
+use crate::tables::{find_table, flat_at, with_region};
+use ob_base::{Items, Name, Refusal, Stop};
+use ob_flat::OpErr;
+use ob_mutate::Inserted;
+use ob_sql::Literal;
+use ob_store::BlockStore;
+use ob_vault::Revisions;
+use std::mem;
+
+fn outcome_of(inserted: Inserted) -> Outcome
+    ensures { result ≡ inserted_as inserted }
+{
+    match inserted {
+        Inserted::Done => Outcome::Inserted,
+        Inserted::Duplicate => Outcome::Refused(Refusal::Duplicate),
+        Inserted::Full => Outcome::Refused(Refusal::Full),
+    }
+}
+
+impl<R: Revisions> Engine<R> {
+    // The table at a place now lies in another region.
+    fn move_table(&mut self, i: usize, region: u64)
+        requires { i < length self.old.public.tables }
+        ensures { (t : TableOf) → slice_get self.old.public.tables i ≡ Some t → self.new ≡ record self.old { public = record self.old.public { tables = slice_set self.old.public.tables i (record t { region = region }) } } }
+    {
+        let tables = mem::replace(&mut self.public.tables, Items::new(self.alloc));
+        self.public.tables = with_region(tables, i, region);
+    }
+
+    // A new row, in the table's first empty slot.
+    pub(crate) fn insert<S: BlockStore>(
+        &mut self,
+        store: &mut S,
+        table: &Name,
+        values: &[Literal],
+    ) -> Result<Outcome, Stop>
+        requires agrees { Agrees R.state self.old (S.state store.old) }
+        requires lives { has_ended self.old ≡ false }
+        ensures ran { Ran R.state (Insert table.now None) result self.old (S.state store.old) self.new (S.state store.new) }
+        ensures silent { IsSilent result }
+    {
+        let Some(i) = find_table(self.public.tables.as_slice(), table) else {
+            return Ok(self.refuse(Refusal::NoTable));
+        };
+        let mut flat = flat_at(self.public.tables.as_slice(), i);
+        let cells = match new_cells(self.alloc, &flat.schema, values) {
+            Ok(cells) => cells,
+            Err(early) => match early {
+                Early::Refused(refusal) => return Ok(self.refuse(refusal)),
+                Early::NoMemory => return self.cut(0, OpErr::NoMemory),
+            },
+        };
+        let before = store.count();
+        if before >= LATE {
+            return Ok(self.refuse(Refusal::Limit));
+        }
+        let blocks = flat.capacity.div_ceil(u32::from(self.public.pack));
+        if store.room(3 * u64::from(blocks) + 2).is_err() {
+            return self.cut(0, OpErr::NoMemory);
+        }
+        match ob_mutate::insert(
+            store,
+            &mut self.vault,
+            &mut self.room,
+            &mut flat,
+            cells.as_slice(),
+        ) {
+            Ok(inserted) => {
+                self.move_table(i, flat.region);
+                Ok(self.finish(outcome_of(inserted)))
+            }
+            Err(error) => self.cut(store.count() - before, error),
+        }
+    }
+}

@@ -1,0 +1,14 @@
+//! The engine: statements over sealed tables in a block store that others watch and change.
+#![tactic(auto)]
+
+mod counting;
+mod creating;
+mod early;
+mod engine;
+mod inserting;
+mod outcome;
+mod run;
+mod tables;
+
+pub use engine::Engine;
+pub use outcome::Outcome;

@@ -1,0 +1,10 @@
+//! Where bytes come from and where they go, with a count of the calls that failed.
+#![tactic(auto)]
+
+mod sink;
+mod source;
+#[cfg(test)]
+mod tests;
+
+pub use sink::{MemSink, Sink, StdSink};
+pub use source::{MemSource, Source, StdSource};

@@ -1,0 +1,98 @@
+//! The names and the comparisons of a condition.
+ghost use Rattle.std.specs.Prelude.{◌≡◌, ◌≤◌, ◌++◌, length, not, flat_map};
+ghost use Rattle.std.specs.List.{list_any};
+ghost use Rattle.std.specs.Prelude.{Option};
+ghost use Rattle.ob_sql.specs.Search.{search_of};
+ghost use Rattle.ob_mean.specs.Kinds.{Comparison, comparisons, where_comparisons, comparison_columns, is_wrong_comparison, against_too_large};
+ghost use Rattle.ob_mean.specs.Refusals.{means_one};
+
+use crate::kinds::{is_against_too_large, is_wrong_comparison};
+use crate::names::means_one;
+use ob_base::{Column, ColumnName};
+use ob_sql::{Against, Cond, CondTree};
+
+fn comparison_lacks(name: &ColumnName, with: &Against, left: &[Column], right: &[Column]) -> bool
+    requires left { length left.now ≤ 32 }
+    requires right { length right.now ≤ 32 }
+    ensures { result ≡ list_any (λ n. not (means_one (left.now ++ right.now) n)) (comparison_columns (name.now, with.now)) }
+{
+    let lacks = !means_one(name, left, right);
+    match with {
+        Against::Literal(_) => lacks,
+        Against::Column(other) => lacks || !means_one(other, left, right),
+    }
+}
+
+#[tactic(auto, using(crate::proofs::CondLemmas::any_append, crate::proofs::CondLemmas::columns_append))]
+fn tree_lacks(tree: &CondTree, left: &[Column], right: &[Column]) -> bool
+    requires left { length left.now ≤ 32 }
+    requires right { length right.now ≤ 32 }
+    ensures { result ≡ list_any (λ n. not (means_one (left.now ++ right.now) n)) (flat_map comparison_columns (comparisons (search_of tree.now))) }
+{
+    match tree {
+        CondTree::Compare(name, _, with) => comparison_lacks(name, with, left, right),
+        CondTree::Not(p) => tree_lacks(p, left, right),
+        CondTree::And(p, q) => tree_lacks(p, left, right) || tree_lacks(q, left, right),
+        CondTree::Or(p, q) => tree_lacks(p, left, right) || tree_lacks(q, left, right),
+    }
+}
+
+#[tactic(auto, using(crate::proofs::CondLemmas::any_append))]
+fn tree_mistypes(tree: &CondTree, left: &[Column], right: &[Column]) -> bool
+    requires left { length left.now ≤ 32 }
+    requires right { length right.now ≤ 32 }
+    ensures { result ≡ list_any (is_wrong_comparison (left.now ++ right.now)) (comparisons (search_of tree.now)) }
+{
+    match tree {
+        CondTree::Compare(name, _, with) => is_wrong_comparison(name, with, left, right),
+        CondTree::Not(p) => tree_mistypes(p, left, right),
+        CondTree::And(p, q) => tree_mistypes(p, left, right) || tree_mistypes(q, left, right),
+        CondTree::Or(p, q) => tree_mistypes(p, left, right) || tree_mistypes(q, left, right),
+    }
+}
+
+#[tactic(auto, using(crate::proofs::CondLemmas::any_append))]
+fn tree_exceeds(tree: &CondTree) -> bool
+    ensures { result ≡ list_any (λ (c : Comparison). against_too_large c.1) (comparisons (search_of tree.now)) }
+{
+    match tree {
+        CondTree::Compare(_, _, with) => is_against_too_large(with),
+        CondTree::Not(p) => tree_exceeds(p),
+        CondTree::And(p, q) => tree_exceeds(p) || tree_exceeds(q),
+        CondTree::Or(p, q) => tree_exceeds(p) || tree_exceeds(q),
+    }
+}
+
+/// Whether a condition names a column that there isn't, or more than one.
+pub(crate) fn lacks(cond: &Option<Cond>, left: &[Column], right: &[Column]) -> bool
+    requires left { length left.now ≤ 32 }
+    requires right { length right.now ≤ 32 }
+    ensures { result ≡ list_any (λ n. not (means_one (left.now ++ right.now) n)) (flat_map comparison_columns (where_comparisons cond.now)) }
+{
+    match cond {
+        None => false,
+        Some(cond) => tree_lacks(cond.tree(), left, right),
+    }
+}
+
+/// Whether it compares a column with another kind.
+pub(crate) fn mistypes(cond: &Option<Cond>, left: &[Column], right: &[Column]) -> bool
+    requires left { length left.now ≤ 32 }
+    requires right { length right.now ≤ 32 }
+    ensures { result ≡ list_any (is_wrong_comparison (left.now ++ right.now)) (where_comparisons cond.now) }
+{
+    match cond {
+        None => false,
+        Some(cond) => tree_mistypes(cond.tree(), left, right),
+    }
+}
+
+/// Whether it compares one with a literal that no cell holds.
+pub(crate) fn exceeds(cond: &Option<Cond>) -> bool
+    ensures { result ≡ list_any (λ (c : Comparison). against_too_large c.1) (where_comparisons cond.now) }
+{
+    match cond {
+        None => false,
+        Some(cond) => tree_exceeds(cond.tree()),
+    }
+}

@@ -1,0 +1,122 @@
+//! The kinds of literals and of compared columns.
+ghost use Rattle.std.specs.Prelude.{◌≡◌, ◌≤◌, ◌++◌, length, not};
+ghost use Rattle.ob_base.specs.Schemas.{same_kind};
+ghost use Rattle.ob_base.specs.declared.schema.Kind.TheVariants.{Int as IntKind};
+ghost use Rattle.ob_mean.specs.Kinds.{is_of_kind, is_too_large, is_too_large_for, at_kind, against_kind, against_too_large, is_wrong_comparison};
+
+use crate::names::kind_meant;
+use ob_base::{Column, ColumnName, Kind};
+use ob_sql::{Against, Literal};
+
+fn same_kind(a: Kind, b: Kind) -> bool
+    ensures { result ≡ same_kind a b }
+{
+    matches!(
+        (a, b),
+        (Kind::Int, Kind::Int) | (Kind::Varchar(_), Kind::Varchar(_))
+    )
+}
+
+fn is_of_kind(kind: Kind, literal: &Literal) -> bool
+    ensures { result ≡ is_of_kind kind literal.now }
+{
+    match literal {
+        Literal::Int(_) | Literal::OutOfRange => matches!(kind, Kind::Int),
+        Literal::Text(_) | Literal::TooLong => matches!(kind, Kind::Varchar(_)),
+    }
+}
+
+fn is_too_large(literal: &Literal) -> bool
+    ensures { result ≡ is_too_large literal.now }
+{
+    matches!(literal, Literal::OutOfRange | Literal::TooLong)
+}
+
+fn is_too_large_for(kind: Kind, literal: &Literal) -> bool
+    ensures { result ≡ is_too_large_for kind literal.now }
+{
+    match (kind, literal) {
+        (Kind::Varchar(n), Literal::Text(text)) => text.as_bytes().len() > usize::from(n),
+        _ => is_too_large(literal),
+    }
+}
+
+/// Whether the column that a name means has the kind of this literal.
+pub(crate) fn takes(name: &ColumnName, literal: &Literal, left: &[Column], right: &[Column]) -> bool
+    requires left { length left.now ≤ 32 }
+    requires right { length right.now ≤ 32 }
+    ensures { result ≡ at_kind (λ k. is_of_kind k literal.now) name.now (left.now ++ right.now) }
+{
+    match kind_meant(name, left, right) {
+        Some(kind) => is_of_kind(kind, literal),
+        None => false,
+    }
+}
+
+/// Whether the column that a name means doesn't hold this literal.
+pub(crate) fn overflows(
+    name: &ColumnName,
+    literal: &Literal,
+    left: &[Column],
+    right: &[Column],
+) -> bool
+    requires left { length left.now ≤ 32 }
+    requires right { length right.now ≤ 32 }
+    ensures { result ≡ at_kind (λ k. is_too_large_for k literal.now) name.now (left.now ++ right.now) }
+{
+    match kind_meant(name, left, right) {
+        Some(kind) => is_too_large_for(kind, literal),
+        None => false,
+    }
+}
+
+/// Whether the column that a name means holds numbers.
+pub(crate) fn is_number(name: &ColumnName, left: &[Column], right: &[Column]) -> bool
+    requires left { length left.now ≤ 32 }
+    requires right { length right.now ≤ 32 }
+    ensures { result ≡ at_kind (same_kind IntKind) name.now (left.now ++ right.now) }
+{
+    match kind_meant(name, left, right) {
+        Some(kind) => same_kind(Kind::Int, kind),
+        None => false,
+    }
+}
+
+/// Whether the columns that two names mean are of one kind.
+pub(crate) fn are_alike(a: &ColumnName, b: &ColumnName, left: &[Column], right: &[Column]) -> bool
+    requires left { length left.now ≤ 32 }
+    requires right { length right.now ≤ 32 }
+    ensures { result ≡ at_kind (λ k. at_kind (same_kind k) b.now (left.now ++ right.now)) a.now (left.now ++ right.now) }
+{
+    match (kind_meant(a, left, right), kind_meant(b, left, right)) {
+        (Some(kind), Some(other)) => same_kind(kind, other),
+        _ => false,
+    }
+}
+
+/// Whether a column is compared with another kind than its own.
+pub(crate) fn is_wrong_comparison(
+    name: &ColumnName,
+    with: &Against,
+    left: &[Column],
+    right: &[Column],
+) -> bool
+    requires left { length left.now ≤ 32 }
+    requires right { length right.now ≤ 32 }
+    ensures { result ≡ is_wrong_comparison (left.now ++ right.now) (name.now, with.now) }
+{
+    match with {
+        Against::Literal(literal) => !takes(name, literal, left, right),
+        Against::Column(other) => !are_alike(name, other, left, right),
+    }
+}
+
+/// Whether it is compared with a literal that no cell holds.
+pub(crate) fn is_against_too_large(with: &Against) -> bool
+    ensures { result ≡ against_too_large with.now }
+{
+    match with {
+        Against::Literal(literal) => is_too_large(literal),
+        Against::Column(_) => false,
+    }
+}

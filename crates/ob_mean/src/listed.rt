@@ -1,0 +1,151 @@
+//! What a SELECT lists.
+ghost use Rattle.std.specs.Prelude.{◌≡◌, ◌≤◌, ◌++◌, Bool, length, not, flat_map};
+ghost use Rattle.std.specs.List.{list_any};
+ghost use Rattle.ob_base.specs.Schemas.{same_kind};
+ghost use Rattle.ob_base.specs.declared.schema.Kind.TheVariants.{Int as IntKind};
+ghost use Rattle.ob_sql.specs.Skeleton.{listed, is_aggregate, has_totals, named_by};
+ghost use Rattle.ob_mean.specs.Kinds.{at_kind, number_columns, plain_columns};
+ghost use Rattle.ob_mean.specs.Refusals.{means_one, is_group, has_stray_column};
+
+use crate::kinds::is_number;
+use crate::names::{means_one, place_of};
+use ob_base::{Column, ColumnName, Items};
+use ob_sql::{Listed, Select};
+
+/// The items, none for `*`.
+pub(crate) fn listed(list: &Option<Items<Listed>>) -> &[Listed]
+    ensures { result.now ≡ listed list.now }
+{
+    match list {
+        None => &[],
+        Some(items) => items.as_slice(),
+    }
+}
+
+fn is_aggregate(item: &Listed) -> bool
+    ensures { result ≡ is_aggregate item.now }
+{
+    !matches!(item, Listed::Column(_))
+}
+
+fn has_aggregate(items: &[Listed]) -> bool
+    ensures { result ≡ list_any is_aggregate items.now }
+{
+    items.iter().any(|item| is_aggregate(item))
+}
+
+/// Whether a SELECT answers totals, in place of rows.
+pub(crate) fn has_totals(select: &Select) -> bool
+    ensures { result ≡ has_totals select.now }
+{
+    has_aggregate(listed(&select.list)) || select.group.is_some()
+}
+
+fn item_lacks(item: &Listed, left: &[Column], right: &[Column]) -> bool
+    requires left { length left.now ≤ 32 }
+    requires right { length right.now ≤ 32 }
+    ensures { result ≡ list_any (λ name. not (means_one (left.now ++ right.now) name)) (named_by item.now) }
+{
+    match item {
+        Listed::CountAll => false,
+        Listed::Column(name)
+        | Listed::Count(name)
+        | Listed::Sum(name)
+        | Listed::Min(name)
+        | Listed::Max(name) => !means_one(name, left, right),
+    }
+}
+
+/// Whether an item names no column, or more than one.
+#[tactic(auto, using(crate::proofs::CondLemmas::any_append))]
+pub(crate) fn items_lack(items: &[Listed], left: &[Column], right: &[Column]) -> bool
+    requires left { length left.now ≤ 32 }
+    requires right { length right.now ≤ 32 }
+    ensures { result ≡ list_any (λ name. not (means_one (left.now ++ right.now) name)) (flat_map named_by items.now) }
+{
+    match items.split_first() {
+        None => false,
+        Some((item, items)) => item_lacks(item, left, right) || items_lack(items, left, right),
+    }
+}
+
+fn item_mistypes(item: &Listed, left: &[Column], right: &[Column]) -> bool
+    requires left { length left.now ≤ 32 }
+    requires right { length right.now ≤ 32 }
+    ensures { result ≡ list_any (λ name. not (at_kind (same_kind IntKind) name (left.now ++ right.now))) (number_columns item.now) }
+{
+    match item {
+        Listed::Sum(name) | Listed::Min(name) | Listed::Max(name) => !is_number(name, left, right),
+        _ => false,
+    }
+}
+
+/// Whether an item takes the numbers of a column of texts.
+#[tactic(auto, using(crate::proofs::CondLemmas::any_append))]
+pub(crate) fn items_mistype(items: &[Listed], left: &[Column], right: &[Column]) -> bool
+    requires left { length left.now ≤ 32 }
+    requires right { length right.now ≤ 32 }
+    ensures { result ≡ list_any (λ name. not (at_kind (same_kind IntKind) name (left.now ++ right.now))) (flat_map number_columns items.now) }
+{
+    match items.split_first() {
+        None => false,
+        Some((item, items)) => {
+            item_mistypes(item, left, right) || items_mistype(items, left, right)
+        }
+    }
+}
+
+fn is_group(
+    group: &Option<ColumnName>,
+    name: &ColumnName,
+    left: &[Column],
+    right: &[Column],
+) -> bool
+    requires left { length left.now ≤ 32 }
+    requires right { length right.now ≤ 32 }
+    ensures { result ≡ is_group (left.now ++ right.now) group.now name.now }
+{
+    match group {
+        None => false,
+        Some(key) => place_of(name, left, right) == place_of(key, left, right),
+    }
+}
+
+fn item_strays(group: &Option<ColumnName>, item: &Listed, left: &[Column], right: &[Column]) -> bool
+    requires left { length left.now ≤ 32 }
+    requires right { length right.now ≤ 32 }
+    ensures { result ≡ list_any (λ name. not (is_group (left.now ++ right.now) group.now name)) (plain_columns item.now) }
+{
+    match item {
+        Listed::Column(name) => !is_group(group, name, left, right),
+        _ => false,
+    }
+}
+
+#[tactic(auto, using(crate::proofs::CondLemmas::any_append))]
+fn items_stray(
+    group: &Option<ColumnName>,
+    items: &[Listed],
+    left: &[Column],
+    right: &[Column],
+) -> bool
+    requires left { length left.now ≤ 32 }
+    requires right { length right.now ≤ 32 }
+    ensures { result ≡ list_any (λ name. not (is_group (left.now ++ right.now) group.now name)) (flat_map plain_columns items.now) }
+{
+    match items.split_first() {
+        None => false,
+        Some((item, items)) => {
+            item_strays(group, item, left, right) || items_stray(group, items, left, right)
+        }
+    }
+}
+
+/// Whether a plain column stands beside aggregates, and isn't the group's.
+pub(crate) fn has_stray_column(select: &Select, left: &[Column], right: &[Column]) -> bool
+    requires left { length left.now ≤ 32 }
+    requires right { length right.now ≤ 32 }
+    ensures { result ≡ has_stray_column (left.now ++ right.now) select.now }
+{
+    has_totals(select) && items_stray(&select.group, listed(&select.list), left, right)
+}

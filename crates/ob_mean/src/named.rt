@@ -1,0 +1,131 @@
+//! What has a name, and lists of such things.
+ghost use Rattle.std.specs.Prelude.{◌≡◌, ◌≤◌, ◌++◌, length, map, not, zip, bytes_eq};
+ghost use Rattle.std.specs.List.{list_any};
+ghost use Rattle.ob_base.specs.Lists.{has_repeats};
+ghost use Rattle.ob_base.specs.declared.skeleton.ColumnName.{ColumnName};
+ghost use Rattle.ob_sql.specs.declared.stmt.Literal.{Literal};
+ghost use Rattle.ob_mean.specs.Names.{unqualified};
+ghost use Rattle.ob_mean.specs.Kinds.{at_kind, is_of_kind, is_too_large_for};
+ghost use Rattle.ob_mean.specs.Refusals.{means_one};
+
+use crate::kinds::{overflows, takes};
+use crate::names::{means_one, unqualified};
+use ob_base::{Column, Name, NewColumn};
+use ob_sql::{Literal, Set};
+
+pub(crate) trait Named {
+    ghost use Rattle.std.specs.Prelude.{◌≡◌, ℕ, List};
+
+    ghost name_of: { Self → List ℕ };
+
+    fn name(&self) -> &Name
+        ensures { result.now ≡ name_of self.now };
+}
+
+impl Named for Name {
+    ghost name_of = { λ n. n };
+
+    fn name(&self) -> &Name {
+        self
+    }
+}
+
+impl Named for Column {
+    ghost name_of = { λ c. c.name };
+
+    fn name(&self) -> &Name {
+        &self.name
+    }
+}
+
+impl Named for NewColumn {
+    ghost name_of = { λ c. c.name };
+
+    fn name(&self) -> &Name {
+        &self.name
+    }
+}
+
+impl Named for Set {
+    ghost name_of = { λ s. s.column };
+
+    fn name(&self) -> &Name {
+        &self.column
+    }
+}
+
+/// Whether one of them has this name.
+pub(crate) fn has_name<T: Named>(items: &[T], name: &Name) -> bool
+    ensures { result ≡ list_any (bytes_eq name.now) (map T.name_of items.now) }
+{
+    match items.split_first() {
+        None => false,
+        Some((item, items)) => {
+            name.as_bytes() == item.name().as_bytes() || has_name(items, name)
+        }
+    }
+}
+
+/// Whether two of them have one name.
+pub(crate) fn has_repeats<T: Named>(items: &[T]) -> bool
+    ensures { result ≡ has_repeats bytes_eq (map T.name_of items.now) }
+{
+    match items.split_first() {
+        None => false,
+        Some((item, items)) => has_name(items, item.name()) || has_repeats(items),
+    }
+}
+
+/// Whether one of their names doesn't mean one column.
+pub(crate) fn lack_column<T: Named>(items: &[T], left: &[Column], right: &[Column]) -> bool
+    requires left { length left.now ≤ 32 }
+    requires right { length right.now ≤ 32 }
+    ensures { result ≡ list_any (λ name. not (means_one (left.now ++ right.now) name)) (map unqualified (map T.name_of items.now)) }
+{
+    match items.split_first() {
+        None => false,
+        Some((item, items)) => {
+            !means_one(&unqualified(item.name()), left, right) || lack_column(items, left, right)
+        }
+    }
+}
+
+/// Whether a value is of another kind than the column that the name beside it means.
+pub(crate) fn mistype<T: Named>(
+    items: &[T],
+    values: &[Literal],
+    left: &[Column],
+    right: &[Column],
+) -> bool
+    requires left { length left.now ≤ 32 }
+    requires right { length right.now ≤ 32 }
+    ensures { result ≡ list_any (λ (a : ColumnName × Literal). not (at_kind (λ k. is_of_kind k a.1) a.0 (left.now ++ right.now))) (zip (map unqualified (map T.name_of items.now)) values.now) }
+{
+    match (items.split_first(), values.split_first()) {
+        (Some((item, items)), Some((value, values))) => {
+            !takes(&unqualified(item.name()), value, left, right)
+                || mistype(items, values, left, right)
+        }
+        _ => false,
+    }
+}
+
+/// Whether the column that the name beside it means doesn't hold a value.
+pub(crate) fn overflow<T: Named>(
+    items: &[T],
+    values: &[Literal],
+    left: &[Column],
+    right: &[Column],
+) -> bool
+    requires left { length left.now ≤ 32 }
+    requires right { length right.now ≤ 32 }
+    ensures { result ≡ list_any (λ (a : ColumnName × Literal). at_kind (λ k. is_too_large_for k a.1) a.0 (left.now ++ right.now)) (zip (map unqualified (map T.name_of items.now)) values.now) }
+{
+    match (items.split_first(), values.split_first()) {
+        (Some((item, items)), Some((value, values))) => {
+            overflows(&unqualified(item.name()), value, left, right)
+                || overflow(items, values, left, right)
+        }
+        _ => false,
+    }
+}

@@ -1,0 +1,124 @@
+//! What the names of a statement mean.
+ghost use Rattle.std.specs.Prelude.{◌≡◌, ◌≤◌, ◌<◌, ◌++◌, Option, Some, None, [], length, slice_get, IfSome, IfNone, count_by, position};
+ghost use Rattle.ob_base.specs.Stored.{has_table, heading_at};
+ghost use Rattle.ob_mean.specs.Headings.{headings_of};
+ghost use Rattle.ob_mean.specs.Names.{columns_at, is_named, place_of, unqualified};
+ghost use Rattle.ob_mean.specs.Refusals.{means_one};
+ghost use Rattle.ob_mean.specs.Kinds.{kind_meant};
+
+use ob_base::{Column, ColumnName, Heading, Kind, Name, Table};
+
+// The heading of the table of this name, if there is one.
+pub(crate) fn heading_at<'a>(tables: &'a [Table], name: &Name) -> Option<&'a Heading>
+    ensures none { IfNone result (heading_at name.now (headings_of tables.now) ≡ None) }
+    ensures some { IfSome result (λ h. heading_at name.now (headings_of tables.now) ≡ Some h.now) }
+{
+    for table in tables {
+        if table.heading.name.as_bytes() == name.as_bytes() {
+            return Some(&table.heading);
+        }
+    }
+    None
+}
+
+#[tactic(auto, using(crate::proofs::NameLemmas::has_table_found))]
+pub(crate) fn has_table(tables: &[Table], name: &Name) -> bool
+    ensures { result ≡ has_table name.now (headings_of tables.now) }
+{
+    heading_at(tables, name).is_some()
+}
+
+// The columns of a table, or none.
+pub(crate) fn columns_at<'a>(tables: &'a [Table], name: &Name) -> &'a [Column]
+    ensures value { result.now ≡ columns_at name.now (headings_of tables.now) }
+    ensures few { length result.now ≤ 32 }
+{
+    match heading_at(tables, name) {
+        Some(heading) => heading.schema.as_slice(),
+        None => &[],
+    }
+}
+
+pub(crate) fn unqualified(name: &Name) -> ColumnName
+    ensures { result ≡ unqualified name.now }
+{
+    ColumnName {
+        table: None,
+        column: name.copied(),
+    }
+}
+
+fn is_named(name: &ColumnName, column: &Column) -> bool
+    ensures { result ≡ is_named name.now column.now }
+{
+    let of_table = match &name.table {
+        None => true,
+        Some(table) => table.as_bytes() == column.table.as_bytes(),
+    };
+    of_table && name.column.as_bytes() == column.name.as_bytes()
+}
+
+// How many columns a name may mean.
+fn count_named(name: &ColumnName, columns: &[Column]) -> usize
+    ensures { result ≡ count_by (is_named name.now) columns.now }
+{
+    columns
+        .iter()
+        .filter(|column| is_named(name, column))
+        .count()
+}
+
+// The first column that a name may mean.
+fn first_named(name: &ColumnName, columns: &[Column]) -> Option<usize>
+    ensures { result ≡ position (is_named name.now) columns.now }
+{
+    columns.iter().position(|column| is_named(name, column))
+}
+
+// Whether a name means one column, of these tables together.
+#[tactic(auto, using(crate::proofs::NameLemmas::meant_length))]
+pub(crate) fn means_one(name: &ColumnName, left: &[Column], right: &[Column]) -> bool
+    requires left { length left.now ≤ 32 }
+    requires right { length right.now ≤ 32 }
+    ensures { result ≡ means_one (left.now ++ right.now) name.now }
+{
+    count_named(name, left) + count_named(name, right) == 1
+}
+
+// The place of the column that a name means, among those of these tables together.
+#[tactic(auto, using(crate::proofs::NameLemmas::meant_first))]
+pub(crate) fn place_of(name: &ColumnName, left: &[Column], right: &[Column]) -> usize
+    requires left { length left.now ≤ 32 }
+    requires right { length right.now ≤ 32 }
+    ensures { result ≡ place_of name.now (left.now ++ right.now) }
+{
+    match first_named(name, left) {
+        Some(i) => i,
+        None => match first_named(name, right) {
+            Some(i) => left.len() + i,
+            None => 0,
+        },
+    }
+}
+
+// The kind of the column that a name means.
+pub(crate) fn kind_meant(name: &ColumnName, left: &[Column], right: &[Column]) -> Option<Kind>
+    requires left { length left.now ≤ 32 }
+    requires right { length right.now ≤ 32 }
+    ensures { result ≡ kind_meant name.now (left.now ++ right.now) }
+{
+    column_at(left, right, place_of(name, left, right)).map(|column| column.kind)
+}
+
+// The column at a place among those of two tables.
+#[tactic(auto, using(crate::proofs::NameLemmas::get_front, crate::proofs::NameLemmas::get_back))]
+pub(crate) fn column_at<'a>(left: &'a [Column], right: &'a [Column], i: usize) -> Option<&'a Column>
+    ensures none { IfNone result (slice_get (left.now ++ right.now) i ≡ None) }
+    ensures some { IfSome result (λ c. slice_get (left.now ++ right.now) i ≡ Some c.now) }
+{
+    if i < left.len() {
+        left.get(i)
+    } else {
+        right.get(i - left.len())
+    }
+}

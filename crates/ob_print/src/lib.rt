@@ -1,0 +1,13 @@
+//! Answers, refusals, stops and accesses as lines in a sink.
+#![tactic(auto)]
+
+mod line;
+mod printer;
+mod row;
+#[cfg(test)]
+mod tests;
+mod write;
+
+pub use line::{Line, access_line, refusal_line, stop_line};
+pub use printer::Printer;
+pub use write::write_all;

@@ -1,0 +1,45 @@
+use crate::{Printer, access_line, refusal_line, stop_line};
+use ob_base::{Access, Emit, EmitErr, Label, Refusal, Shown, Stop, Text};
+use ob_io::MemSink;
+use std::test::Fail;
+
+#[test]
+fn prints_an_answer(rt: HostRuntime) -> Result<(), Fail> {
+    let a = rt.alloc();
+    let mut out = MemSink::new(a, 64, vec![in a; 3]?)?;
+    let mut printer = Printer {
+        out: &mut out,
+        alloc: a,
+    };
+    printer.head(&[Label::from_bytes(b"id"), Label::from_bytes(b"SUM(v)")])?;
+    let cells = [Shown::Text(Text::from_bytes(b"a\"b,")), Shown::Int(-7)];
+    printer.row(&cells)?;
+    assert_eq!(rt; printer.row(&[Shown::Null]), Err(EmitErr::Failed));
+    printer.row(&[Shown::Null])?;
+    printer.close(12)?;
+    let printed = b"\"id\",\"SUM(v)\"\n\"a\"\"b,\",\"-7\"\n\"NULL\"\n= 12 rows\n";
+    assert_eq!(rt; out.bytes(), printed.as_slice());
+    Ok(())
+}
+
+#[test]
+fn prints_lines(rt: HostRuntime) {
+    let make = Access::Make {
+        region: 18446744073709551615,
+        blocks: 4,
+        len: 49,
+    };
+    assert_eq!(rt;
+        access_line(make).as_bytes(),
+        b"M 18446744073709551615 4 49\n".as_slice()
+    );
+    assert_eq!(rt;
+        refusal_line(Refusal::Overflow(2)).as_bytes(),
+        b"E14 overflow 2\n".as_slice()
+    );
+    let stop = Stop::Tampered {
+        region: 2,
+        place: 0,
+    };
+    assert_eq!(rt; stop_line(stop).as_bytes(), b"! tampered 2 0\n".as_slice());
+}

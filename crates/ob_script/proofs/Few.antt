@@ -1,0 +1,201 @@
+-- No statement asks 2^49 accesses or more.
+use Rattle.std.proofs.Common.{◌≡◌, ℕ, suc, ◌+◌, ◌-◌, ◌*◌, ◌/◌, ◌^◌, ◌≤◌, ◌<◌, List, [], ◌∷◌, ◌++◌, length, ◌≢◌, ◌∙◌, ap, inl, inr, arith}
+use Rattle.std.specs.Prelude.{Option, Some, None, IfSome, All, Bool, true, false, bytes_eq, if◌then◌else◌}
+use Rattle.std.specs.Option.{option_map_or}
+use Rattle.ob_base.specs.declared.access.Access.{Access}
+use Rattle.ob_base.specs.declared.schema.Table.{Table}
+use Rattle.ob_base.specs.declared.seen.Seen.{Seen}
+use Rattle.ob_base.specs.declared.seen.End.{End}
+use Rattle.ob_base.specs.declared.seen.End.TheVariants.{Static, Whole, AfterCount, Cut}
+use Rattle.ob_base.specs.declared.skeleton.Source.{Source}
+use Rattle.ob_base.specs.declared.skeleton.Source.TheVariants.{Table as OneTable, Join}
+use Rattle.ob_base.specs.declared.skeleton.Skeleton.{Skeleton}
+use Rattle.ob_base.specs.declared.skeleton.Skeleton.TheVariants.{Create, Insert, Update, Delete, Drop as DropTable, Rows, Groups}
+use Rattle.ob_base.specs.Accesses.{discard_at}
+use Rattle.ob_base.specs.Schemas.{width, columns_of}
+use Rattle.ob_script.proofs.Joined.{few_blocks}
+use Rattle.ob_base.specs.Stored.{Stored, stored_at, stored_regions}
+use Rattle.std.specs.Int.{div_ceil}
+use Rattle.std.proofs.lemmas.Bool.{cases_lt}
+use Rattle.std.proofs.lemmas.List.{length-append, length-take}
+use Rattle.std.proofs.lemmas.Grind.{div_ceil_times}
+use Rattle.std.proofs.Math.Nat.{mul-le-mul, mul-le-mul_right, mul-le-mul_left, le-div_iff_mul-le}
+use Rattle.ob_base.specs.declared.config.Public.{Public}
+use Rattle.ob_base.specs.declared.config.Plan.{Plan}
+use Rattle.ob_base.specs.declared.config.Plan.TheVariants.{Small, Large, Continuous, Hash}
+use Rattle.ob_base.specs.Limits.{buffered_blocks}
+use Rattle.ob_base.specs.Numbers.{blocks_for}
+use Rattle.ob_script.specs.declared.extent.Extent.{Extent}
+use Rattle.ob_script.specs.Parts.{count_part, insert_part, rewrite_part, emission_part, join_part}
+use Rattle.ob_script.specs.Script.{extent_of, with_table, mutation_script, joined_extent, table_script, join_script, source_script, whole_script, until_end, script, select_part, after_count, plan_part, result_part, result_blocks, blocks_of, rows_width}
+use Rattle.ob_script.specs.Sizes.{IsPublic, IsCounted, IsTable, IfTable, IsSourceCounted, IsWithin}
+use Rattle.ob_script.proofs.Lengths.{length-count_part}
+use Rattle.ob_script.proofs.Numbers.{ceil-ceil, length-create_part, length-insert_part, length-rewrite_part, length-join_part, length-small_part, length-large_part, length-continuous_part, length-hash_part, length-emission_part}
+
+-- at least one block may be buffered, and at least two rows
+buffer_some : (p : Public) → IsPublic p → 1 ≤ buffered_blocks p.pack p.buffer
+buffer_some p h =
+    let a = h.pack_some in let b = h.buffer_some in
+    (le-div_iff_mul-le {k = p.pack} {x = 1} {y = p.buffer - 2 * p.pack} a).1 (omega arith)
+
+buffer_two : (p : Public) → IsPublic p → 2 ≤ p.pack * buffered_blocks p.pack p.buffer
+buffer_two p h = elim (cases_lt 1 p.pack) [ inl more ↦ two more | inr one ↦ one_row one ] where
+  two : 1 < p.pack → 2 ≤ p.pack * buffered_blocks p.pack p.buffer
+  two more = let m : 2 * 1 ≤ p.pack * buffered_blocks p.pack p.buffer = mul-le-mul more (buffer_some p h) in omega arith
+
+  one_row : p.pack ≤ 1 → 2 ≤ p.pack * buffered_blocks p.pack p.buffer
+  one_row one =
+      let is : p.pack ≡ 1 = let a = h.pack_some in omega arith in
+      let b : 2 ≤ (p.buffer - 2 * p.pack) / p.pack = (le-div_iff_mul-le {k = p.pack} {x = 2} {y = p.buffer - 2 * p.pack} h.pack_some).1 (let c = h.buffer_some in omega arith) in
+      let m : 1 * 2 ≤ p.pack * buffered_blocks p.pack p.buffer = mul-le-mul h.pack_some b in omega arith
+
+blocks_few : (pack n : ℕ) → 1 ≤ pack → n ≤ 2 ^ 24 → blocks_for pack n ≤ 2 ^ 24
+blocks_few pack n some few =
+    let d = div_ceil_times n pack some in
+    elim (cases_lt n (blocks_for pack n)) [ inl more ↦ absurd (let m : suc n * 1 ≤ blocks_for pack n * pack = mul-le-mul more some in let e : suc n * pack ≤ blocks_for pack n * pack = mul-le-mul_right pack more in let f : suc n * pack ≡ n * pack + pack = omega arith in let g : n * 1 ≤ n * pack = mul-le-mul_left n some in omega (arith, d.1)) | inr ok ↦ omega arith ]
+
+-- two rows or more are written in each pass
+passes_few : (p : Public) (k : ℕ) → IsPublic p → k ≤ 2 ^ 24 → div_ceil (blocks_for p.pack k) (buffered_blocks p.pack p.buffer) ≤ 2 ^ 23
+passes_few p k h few =
+    let s = p.pack * buffered_blocks p.pack p.buffer in
+    let two : 2 ≤ s = buffer_two p h in
+    let d = div_ceil_times k s (omega arith) in
+    let by_rows = ceil-ceil k p.pack (buffered_blocks p.pack p.buffer) h.pack_some (buffer_some p h) in
+    elim (cases_lt (2 ^ 23) (div_ceil k s)) [
+      | inl more ↦ absurd (let m : suc (2 ^ 23) * s ≤ div_ceil k s * s = mul-le-mul_right s more in let e : suc (2 ^ 23) * s ≡ 2 ^ 23 * s + s = omega arith in let f : 2 ^ 23 * 2 ≤ 2 ^ 23 * s = mul-le-mul_left (2 ^ 23) two in omega (arith, d.1))
+      | inr ok ↦ omega (arith, by_rows)
+    ]
+
+-- a result, with what it is read back by
+result_few : (p : Public) (plan : Option Plan) (k g : ℕ) (t : Extent) → IsPublic p → k ≤ 2 ^ 24 → t.slots ≤ 2 ^ 24 → length (result_part p plan k g t) ≤ 2 ^ 47 + 2 ^ 31
+result_few p None k g t h few slots = omega arith
+result_few p (Some plan) k g t h few slots = go plan where
+  blocks : blocks_of p t ≤ 2 ^ 24
+  blocks = blocks_few p.pack t.slots h.pack_some slots
+
+  rows : blocks_for p.pack k ≤ 2 ^ 24
+  rows = blocks_few p.pack k h.pack_some few
+
+  deep : k * p.depth ≤ 2 ^ 24 * 8
+  deep = mul-le-mul few h.depth_few
+
+  both : (plan : Plan) → length (plan_part p plan k g t ++ emission_part g (result_blocks p plan k t)) ≡ length (plan_part p plan k g t) + (result_blocks p plan k t + 1)
+  both plan = length-append (plan_part p plan k g t) (emission_part g (result_blocks p plan k t)) ∙ ap (λ n. length (plan_part p plan k g t) + n) (length-emission_part g (result_blocks p plan k t))
+
+  go : (plan : Plan) → length (plan_part p plan k g t ++ emission_part g (result_blocks p plan k t)) ≤ 2 ^ 47 + 2 ^ 31
+  go Small =
+      let q = buffered_blocks p.pack p.buffer in
+      let e = length-small_part t.region g (blocks_of p t) (blocks_for p.pack k) q (rows_width p t) (buffer_some p h) in
+      let m : div_ceil (blocks_for p.pack k) q * blocks_of p t ≤ 2 ^ 23 * 2 ^ 24 = mul-le-mul (passes_few p k h few) blocks in
+      omega (arith, both Small, blocks, rows, deep)
+  go Large = let e = length-large_part t.region g (blocks_of p t) (rows_width p t) in omega (arith, both Large, blocks, rows, deep)
+  go Continuous = let e = length-continuous_part t.region g p.pack t.slots k (rows_width p t) h.pack_some in omega (arith, both Continuous, blocks, rows, deep)
+  go Hash =
+      let e = length-hash_part t.region g p.pack t.slots k p.depth (rows_width p t) h.pack_some in
+      let m : 4 * p.depth * t.slots ≤ 4 * 8 * 2 ^ 24 = mul-le-mul (mul-le-mul_left 4 h.depth_few) slots in
+      omega (arith, both Hash, blocks, rows, deep)
+
+-- the count, both results, and what ends the statement
+select_few : (p : Public) (seen : Seen) (g : ℕ) (t : Extent) (ending : List Access) → IsPublic p → IsCounted seen t → length ending ≤ 1 →
+    length (select_part p seen g t ending) ≤ 2 ^ 48 + 2 ^ 33
+select_few p seen g t ending h c one = go seen.k c.count where
+  blocks : blocks_of p t ≤ 2 ^ 24
+  blocks = blocks_few p.pack t.slots h.pack_some c.slots
+
+  go : (k : Option ℕ) → IfSome k (λ k. k ≤ t.slots) → length (count_part t.region (blocks_of p t) ++ after_count p seen k g t ending) ≤ 2 ^ 48 + 2 ^ 33
+  go None few =
+      let m = blocks in
+      let a = length-append (count_part t.region (blocks_of p t)) [] in let b = length-count_part t.region (blocks_of p t) in omega (arith, a)
+  go (Some k) few =
+      let m = blocks in
+      let slots = c.slots in
+      let x = result_few p seen.plan k g t h (omega arith) slots in
+      let y = result_few p seen.then k (g + 1) t h (omega arith) slots in
+      let a = length-append (count_part t.region (blocks_of p t)) (after_count p seen (Some k) g t ending) in
+      let b = length-count_part t.region (blocks_of p t) in
+      let d = length-append (result_part p seen.plan k g t) (result_part p seen.then k (g + 1) t ++ ending) in
+      let e = length-append (result_part p seen.then k (g + 1) t) ending in
+      omega (arith, a, d, e)
+
+-- a table that there is is within its limits
+record IsStored (t : Stored ℕ) : Type 0 where
+  capacity : t.heading.capacity ≤ 2 ^ 20
+
+stored-sized : (name : List ℕ) (ts : List Table) → All IsTable ts → IfSome (stored_at name (stored_regions ts)) IsStored
+stored-sized name [] h = tt
+stored-sized name (t ∷ ts) h = split (bytes_eq t.heading.name name) (stored-sized name ts (λ k d l. h (suc k) d (omega arith))) where
+  split : (b : Bool) → IfSome (stored_at name (stored_regions ts)) IsStored → IfSome (if b then Some (record { heading = t.heading; held = t.region }) else stored_at name (stored_regions ts)) IsStored
+  split true rest = record { capacity = (h 0 t (omega arith)).capacity }
+  split false rest = rest
+
+both_some : {A : Type 0} (o : Option A) (P Q : A → Type 0) → IfSome o P → IfSome o Q → IfSome o (λ x. P x × Q x)
+both_some None P Q p q = tt
+both_some (Some x) P Q p q = (p, q)
+
+of_table : (name : List ℕ) (p : Public) (f : Stored ℕ → List Access) (n : ℕ) (P : Stored ℕ → Type 0) → IfSome (stored_at name (stored_regions p.tables)) P →
+    ((t : Stored ℕ) → P t → length (f t) ≤ n) → length (with_table name p f) ≤ n
+of_table name p f n P given h = go (stored_at name (stored_regions p.tables)) given where
+  go : (o : Option (Stored ℕ)) → IfSome o P → length (option_map_or f o []) ≤ n
+  go None given = omega arith
+  go (Some t) given = h t given
+
+rewrite_few : (p : Public) (table : List ℕ) → IsPublic p → length (with_table table p (mutation_script p rewrite_part)) ≤ 2 ^ 40
+rewrite_few p table h =
+    of_table table p (mutation_script p rewrite_part) (2 ^ 40) IsStored (stored-sized table p.tables h.tables)
+    (λ t few. let e = length-rewrite_part t.held p.next_region (blocks_of p (extent_of t)) (rows_width p (extent_of t)) in let b = blocks_few p.pack t.heading.capacity h.pack_some (let c = few.capacity in omega arith) in omega arith)
+
+join_few : (p : Public) (seen : Seen) (left right : Stored ℕ) → IsPublic p → IsStored left → IsStored right → IsCounted seen (joined_extent p left.heading right.heading) →
+    length (join_script p seen left right) ≤ 2 ^ 48 + 2 ^ 34
+join_few p seen left right h l r c =
+    let t = joined_extent p left.heading right.heading in
+    let q = buffered_blocks p.pack p.buffer in
+    let lefts = blocks_of p (extent_of left) in
+    let rights = blocks_of p (extent_of right) in
+    let first = join_part left.held right.held p.next_region lefts rights q (rows_width p t) in
+    let rest = select_part p seen (p.next_region + 1) t (discard_at p.next_region) in
+    let a = length-append first rest in
+    let b = length-join_part left.held right.held p.next_region lefts rights q (rows_width p t) (buffer_some p h) in
+    let d = select_few p seen (p.next_region + 1) t (discard_at p.next_region) h c (omega arith) in
+    let e = blocks_few p.pack left.heading.capacity h.pack_some (let f = l.capacity in omega arith) in
+    let pairs : div_ceil lefts q * rights ≤ 2 ^ 24 = few_blocks (div_ceil lefts q * rights) p.pack (2 ^ 24) h.pack_some c.slots in
+    let twice : div_ceil lefts q * (2 * rights) ≡ 2 * (div_ceil lefts q * rights) = omega arith in
+    omega (arith, a, b, d, twice)
+
+source_few : (p : Public) (source : Source) (seen : Seen) → IsPublic p → IsSourceCounted p seen source → length (source_script p seen source) < 2 ^ 49
+source_few p (OneTable name) seen h w =
+    let m = of_table name p (table_script p seen) (2 ^ 48 + 2 ^ 34) (λ t. IsCounted seen (extent_of t)) w
+    (λ t c. let d = select_few p seen p.next_region (extent_of t) [] h c (omega arith) in omega arith) in omega arith
+source_few p (Join a b on equals) seen h w =
+    let m = of_table a p (λ left. with_table b p (λ right. join_script p seen left right)) (2 ^ 48 + 2 ^ 34)
+    (λ left. IsStored left × IfTable b p (λ right. IsCounted seen (joined_extent p left.heading right.heading)))
+    (both_some (stored_at a (stored_regions p.tables)) IsStored _ (stored-sized a p.tables h.tables) w)
+    (λ left l. of_table b p (join_script p seen left) (2 ^ 48 + 2 ^ 34) (λ right. IsStored right × IsCounted seen (joined_extent p left.heading right.heading))
+    (both_some (stored_at b (stored_regions p.tables)) IsStored _ (stored-sized b p.tables h.tables) l.1) (λ right r. join_few p seen left right h l.0 r.0 r.1)) in
+    omega arith
+
+-- any statement that is not refused before
+whole_few : (p : Public) (s : Skeleton) (seen : Seen) → IsPublic p → IsWithin p s seen → length (whole_script p s seen) < 2 ^ 49
+whole_few p (Create table cs n) seen h w =
+    let e = length-create_part p.next_region (blocks_for p.pack n) (p.pack * width (columns_of table cs)) in
+    let b = blocks_few p.pack n h.pack_some (let few = w.0 in omega arith) in omega arith
+whole_few p (Insert table cs) seen h w =
+    let m = of_table table p (mutation_script p insert_part) (2 ^ 40) IsStored (stored-sized table p.tables h.tables)
+    (λ t few. let e = length-insert_part t.held p.next_region (blocks_of p (extent_of t)) (rows_width p (extent_of t)) in let b = blocks_few p.pack t.heading.capacity h.pack_some (let c = few.capacity in omega arith) in omega arith) in
+    omega arith
+whole_few p (Update table cs) seen h w = let m = rewrite_few p table h in omega arith
+whole_few p (Delete table) seen h w = let m = rewrite_few p table h in omega arith
+whole_few p (DropTable table) seen h w =
+    let m = of_table table p (λ t. discard_at t.held) (2 ^ 40) IsStored (stored-sized table p.tables h.tables) (λ t few. omega arith) in omega arith
+whole_few p (Rows source cs) seen h w = source_few p source seen h w
+whole_few p (Groups table cs key) seen h w =
+    let m = of_table table p (λ t. count_part t.held (blocks_of p (extent_of t))) (2 ^ 40) IsStored (stored-sized table p.tables h.tables)
+    (λ t few. let e = length-count_part t.held (blocks_of p (extent_of t)) in let b = blocks_few p.pack t.heading.capacity h.pack_some (let c = few.capacity in omega arith) in omega arith) in
+    omega arith
+
+pub script_few : (p : Public) (s : Skeleton) (seen : Seen) → IsPublic p → (seen.end ≢ Static → IsWithin p s seen) → length (script p s seen) < 2 ^ 49
+script_few p s seen h w = go seen.end w where
+  go : (end : End) → (end ≢ Static → IsWithin p s seen) → length (until_end end (whole_script p s seen)) < 2 ^ 49
+  go Static w = omega arith
+  go Whole w = whole_few p s seen h (w (λ e. cc))
+  go AfterCount w = whole_few p s seen h (w (λ e. cc))
+  go (Cut n) w = let m = whole_few p s seen h (w (λ e. cc)) in omega (arith, length-take n (whole_script p s seen))

@@ -1,0 +1,9 @@
+pub mod ScriptRows
+pub mod Eaches
+pub mod Shares
+pub mod Lengths
+pub mod Sizes
+pub mod Places
+pub mod Joined
+pub mod Numbers
+pub mod Few

@@ -1,0 +1,45 @@
+-- The parts of which every script is joined.
+use Rattle.std.specs.Prelude.{◌≤◌, ◌<◌, ◌^◌, ℕ, ◌*◌, List, length, All, ⊤}
+use Rattle.std.specs.Int.{div_ceil}
+use Rattle.std.specs.List.{flat_map}
+use Rattle.ob_base.specs.declared.access.Access.{Access}
+use Rattle.ob_base.specs.Accesses.{write_at, make_at, discard_at}
+use Rattle.ob_base.specs.Lists.{each}
+use Rattle.ob_script.specs.declared.piece.Piece.{Piece}
+use Rattle.ob_script.specs.declared.piece.Piece.TheVariants.{Make, Reads, Writes, Copies, Discard, Passes, Turns, Buckets, Pairs}
+use Rattle.ob_script.specs.Parts.{count_part, copy_part, small_pass, continuous_block, hash_block, join_chunk}
+
+abbrev pub accesses_of : Piece → List Access
+accesses_of (Make region blocks width) = make_at region blocks width
+accesses_of (Reads region blocks) = count_part region blocks
+accesses_of (Writes region blocks) = each blocks (write_at region)
+accesses_of (Copies from to blocks) = copy_part from to blocks
+accesses_of (Discard region) = discard_at region
+accesses_of (Passes from to blocks results buffered) = each (div_ceil results buffered) (small_pass from to blocks results buffered)
+accesses_of (Turns from to pack slots rows) = each (div_ceil slots pack) (continuous_block from to pack slots rows)
+accesses_of (Buckets from to pack slots rows depth) = each (div_ceil slots pack) (hash_block from to pack slots rows depth)
+accesses_of (Pairs left right to lefts rights buffered) = each (div_ceil lefts buffered) (join_chunk left right to lefts rights buffered)
+
+abbrev pub all_accesses : List Piece → List Access
+all_accesses pieces = flat_map accesses_of pieces
+
+-- so many blocks or slots a region has at most
+abbrev pub IsFew : ℕ → Type 0
+IsFew n = n ≤ 2 ^ 24
+
+-- the numbers are within their limits
+abbrev pub IsSized : Piece → Type 0
+IsSized (Make region blocks width) = width ≤ 2 ^ 24
+IsSized (Reads region blocks) = blocks < 2 ^ 32
+IsSized (Writes region blocks) = blocks < 2 ^ 32
+IsSized (Copies from to blocks) = blocks < 2 ^ 32
+IsSized (Discard region) = ⊤
+IsSized (Passes from to blocks results buffered) = IsFew blocks × IsFew results × IsFew buffered × (1 ≤ buffered)
+IsSized (Turns from to pack slots rows) = IsFew slots × (1 ≤ pack) × (pack ≤ 16) × IsFew rows × (1 ≤ rows)
+IsSized (Buckets from to pack slots rows depth) = IsFew slots × (1 ≤ pack) × (pack ≤ 16) × IsFew rows × (1 ≤ rows) × (1 ≤ depth) × (depth ≤ 8)
+IsSized (Pairs left right to lefts rights buffered) = IsFew lefts × IsFew rights × IsFew (div_ceil lefts buffered * rights) × IsFew buffered × (1 ≤ buffered)
+
+-- what is true of each list of them
+pub record AreSized (pieces : List Piece) : Type 0 where
+  pub each_one : All IsSized pieces
+  pub few : length pieces ≤ 16

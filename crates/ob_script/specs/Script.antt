@@ -1,0 +1,115 @@
+-- The accesses of a statement, from what is public and what was seen of it.
+use Rattle.std.specs.Prelude.{ℕ, ◌+◌, ◌*◌, List, [], ◌++◌, take, Option, Some, None}
+use Rattle.std.specs.Option.{option_map_or}
+use Rattle.ob_base.specs.declared.access.Access.{Access}
+use Rattle.ob_base.specs.declared.config.Public.{Public}
+use Rattle.ob_base.specs.declared.config.Plan.{Plan}
+use Rattle.ob_base.specs.declared.config.Plan.TheVariants.{Small, Large, Continuous, Hash}
+use Rattle.ob_base.specs.declared.schema.Heading.{Heading}
+use Rattle.ob_base.specs.declared.seen.Seen.{Seen}
+use Rattle.ob_base.specs.declared.seen.End.{End}
+use Rattle.ob_base.specs.declared.seen.End.TheVariants.{Static, Whole, AfterCount, Cut}
+use Rattle.ob_base.specs.declared.skeleton.Source.{Source}
+use Rattle.ob_base.specs.declared.skeleton.Source.TheVariants.{Table as OneTable, Join}
+use Rattle.ob_base.specs.declared.skeleton.Skeleton.{Skeleton}
+use Rattle.ob_base.specs.declared.skeleton.Skeleton.TheVariants.{Create, Insert, Update, Delete, Drop as DropTable, Rows, Groups}
+use Rattle.ob_base.specs.Accesses.{discard_at}
+use Rattle.ob_base.specs.Joins.{joined_slots}
+use Rattle.ob_base.specs.Limits.{buffered_blocks}
+use Rattle.ob_base.specs.Numbers.{blocks_for}
+use Rattle.ob_base.specs.Schemas.{width, columns_of}
+use Rattle.ob_base.specs.Stored.{Stored, stored_at, stored_regions}
+use Rattle.ob_script.specs.declared.extent.Extent.{Extent}
+use Rattle.ob_script.specs.Parts.{count_part, create_part, insert_part, rewrite_part, small_part, large_part, continuous_part, hash_part, emission_part, join_part}
+
+abbrev pub extent_of : Stored ℕ → Extent
+extent_of t = record { region = t.held; slots = t.heading.capacity; width = width t.heading.schema }
+
+-- the blocks of a region, and the width of the rows of one
+abbrev pub blocks_of : Public → Extent → ℕ
+blocks_of p t = blocks_for p.pack t.slots
+
+abbrev pub rows_width : Public → Extent → ℕ
+rows_width p t = p.pack * t.width
+
+-- the part that belongs to a table, where there is one of this name
+abbrev pub with_table : List ℕ → Public → (Stored ℕ → List Access) → List Access
+with_table name p f = option_map_or f (stored_at name (stored_regions p.tables)) []
+
+-- ---- SELECT of rows
+-- the blocks of the result of k rows
+abbrev pub result_blocks : Public → Plan → (k : ℕ) → Extent → ℕ
+result_blocks p Small k t = blocks_for p.pack k
+result_blocks p Large k t = blocks_of p t
+result_blocks p Continuous k t = blocks_for p.pack k
+result_blocks p Hash k t = k * p.depth
+
+abbrev pub plan_part : Public → Plan → (k g : ℕ) → Extent → List Access
+plan_part p Small k g t =
+    small_part t.region g (blocks_of p t) (blocks_for p.pack k) (buffered_blocks p.pack p.buffer) (rows_width p t)
+plan_part p Large k g t = large_part t.region g (blocks_of p t) (rows_width p t)
+plan_part p Continuous k g t = continuous_part t.region g p.pack t.slots k (rows_width p t)
+plan_part p Hash k g t = hash_part t.region g p.pack t.slots k p.depth (rows_width p t)
+
+-- a plan's result in region g, and what it is read back by; nothing without a plan
+abbrev pub result_part : Public → Option Plan → (k g : ℕ) → Extent → List Access
+result_part p None k g t = []
+result_part p (Some plan) k g t = plan_part p plan k g t ++ emission_part g (result_blocks p plan k t)
+
+-- what follows the count, once k is known: the plan, the one after it, and what ends the statement
+abbrev pub after_count : Public → Seen → Option ℕ → (g : ℕ) → Extent → (ending : List Access) → List Access
+after_count p seen None g t ending = []
+after_count p seen (Some k) g t ending = result_part p seen.plan k g t ++ (result_part p seen.then k (g + 1) t ++ ending)
+
+-- the count and what follows it
+abbrev pub select_part : Public → Seen → (g : ℕ) → Extent → (ending : List Access) → List Access
+select_part p seen g t ending = count_part t.region (blocks_of p t) ++ after_count p seen seen.k g t ending
+
+-- a SELECT of a table's rows
+abbrev pub table_script : Public → Seen → Stored ℕ → List Access
+table_script p seen t = select_part p seen p.next_region (extent_of t) []
+
+-- the joined region
+abbrev pub joined_extent : Public → (left right : Heading) → Extent
+joined_extent p left right =
+    record {
+      region = p.next_region;
+      slots = joined_slots p.pack p.buffer left.capacity right.capacity;
+      width = width (left.schema ++ right.schema);
+    }
+
+-- a SELECT over a join: the joined region, the SELECT of its rows, and its end
+abbrev pub join_script : Public → Seen → (left right : Stored ℕ) → List Access
+join_script p seen left right =
+    let t = joined_extent p left.heading right.heading in
+    join_part left.held right.held p.next_region (blocks_of p (extent_of left)) (blocks_of p (extent_of right)) (buffered_blocks p.pack p.buffer) (rows_width p t)
+    ++ select_part p seen (p.next_region + 1) t (discard_at p.next_region)
+
+abbrev pub source_script : Public → Seen → Source → List Access
+source_script p seen (OneTable name) = with_table name p (table_script p seen)
+source_script p seen (Join a b on equals) =
+    with_table a p (λ left. with_table b p (λ right. join_script p seen left right))
+
+-- ---- all statements
+-- a mutation of a table goes into the next region
+abbrev pub mutation_script : Public → (ℕ → ℕ → ℕ → ℕ → List Access) → Stored ℕ → List Access
+mutation_script p part t = part t.held p.next_region (blocks_of p (extent_of t)) (rows_width p (extent_of t))
+
+-- all accesses of a statement that is not refused before the first
+abbrev pub whole_script : Public → Skeleton → Seen → List Access
+whole_script p (Create table cs n) seen = create_part p.next_region (blocks_for p.pack n) (p.pack * width (columns_of table cs))
+whole_script p (Insert table cs) seen = with_table table p (mutation_script p insert_part)
+whole_script p (Update table cs) seen = with_table table p (mutation_script p rewrite_part)
+whole_script p (Delete table) seen = with_table table p (mutation_script p rewrite_part)
+whole_script p (DropTable table) seen = with_table table p (λ t. discard_at t.held)
+whole_script p (Rows source cs) seen = source_script p seen source
+whole_script p (Groups table cs key) seen = with_table table p (λ t. count_part t.held (blocks_of p (extent_of t)))
+
+abbrev pub until_end : End → List Access → List Access
+until_end Static all = []
+until_end Whole all = all
+until_end AfterCount all = all
+until_end (Cut n) all = take n all
+
+abbrev pub script : Public → Skeleton → Seen → List Access
+script p s seen = until_end seen.end (whole_script p s seen)

@@ -1,0 +1,178 @@
+//! The parts of which every script is joined.
+ghost use Rattle.std.specs.Prelude.{◌≡◌, ◌≤◌, ◌<◌, ◌^◌, Some, length, slice_get};
+ghost use Rattle.ob_script.specs.Pieces.{accesses_of, IsSized};
+
+use crate::place::{bucket_nth, copied, pair_nth, pass_nth, turn_nth};
+use ob_base::Access;
+
+/// A part of a script; `blocks` are those of the region that is read.
+#[derive(Clone, Copy, Debug, PartialEq, Eq)]
+pub(crate) enum Piece {
+    /// A region is made, of blocks of this width and a tag.
+    Make {
+        region: u64,
+        blocks: u32,
+        width: u32,
+    },
+    /// A region's blocks are read in order.
+    Reads {
+        region: u64,
+        blocks: u32,
+    },
+    /// A region's blocks are written in order.
+    Writes {
+        region: u64,
+        blocks: u32,
+    },
+    /// Each block of a region is read and written to another.
+    Copies {
+        from: u64,
+        to: u64,
+        blocks: u32,
+    },
+    /// A region is discarded.
+    Discard {
+        region: u64,
+    },
+    /// In passes over a region, as many blocks as are buffered are written to another.
+    Passes {
+        from: u64,
+        to: u64,
+        blocks: u32,
+        results: u32,
+        buffered: u32,
+    },
+    /// For each slot in turn, the next slot of a result of so many rows is read and written.
+    Turns {
+        from: u64,
+        to: u64,
+        pack: u32,
+        slots: u32,
+        rows: u32,
+    },
+    /// For each slot in turn, both its buckets are read and written.
+    Buckets {
+        from: u64,
+        to: u64,
+        pack: u32,
+        slots: u32,
+        rows: u32,
+        depth: u32,
+    },
+    /// For each chunk of left blocks, each right block is read, and a block of pairs is written.
+    Pairs {
+        left: u64,
+        right: u64,
+        to: u64,
+        lefts: u32,
+        rights: u32,
+        buffered: u32,
+    },
+}
+
+impl Piece {
+    /// The number of its accesses.
+    #[tactic(auto, using(crate::proofs::Sizes::size_is))]
+    pub(crate) fn len(&self) -> u64
+        requires { IsSized self.now }
+        ensures value { result ≡ length (accesses_of self.now) }
+        ensures few { result < 2 ^ 49 }
+    {
+        match *self {
+            Piece::Make { .. } => 1,
+            Piece::Reads { blocks, .. } => u64::from(blocks),
+            Piece::Writes { blocks, .. } => u64::from(blocks),
+            Piece::Copies { blocks, .. } => 2 * u64::from(blocks),
+            Piece::Discard { .. } => 1,
+            Piece::Passes {
+                blocks,
+                results,
+                buffered,
+                ..
+            } => { u64::from(results.div_ceil(buffered)) * u64::from(blocks) + u64::from(results) }
+            Piece::Turns { pack, slots, .. } => {
+                u64::from(slots.div_ceil(pack)) + 2 * u64::from(slots)
+            }
+            Piece::Buckets {
+                pack,
+                slots,
+                depth,
+                ..
+            } => { u64::from(slots.div_ceil(pack)) + 4 * u64::from(depth) * u64::from(slots) }
+            Piece::Pairs {
+                lefts,
+                rights,
+                buffered,
+                ..
+            } => {
+                u64::from(lefts.div_ceil(buffered)) * (2 * u64::from(rights)) + u64::from(lefts)
+            }
+        }
+    }
+
+    /// Its access at place `i`, from 0.
+    #[tactic(auto, using(crate::proofs::Sizes::size_is, crate::proofs::Places::at_read, crate::proofs::Places::at_write, crate::proofs::Places::at_copy))]
+    pub(crate) fn nth(&self, i: u64) -> Access
+        requires sized { IsSized self.now }
+        requires within { i < length (accesses_of self.now) }
+        ensures { slice_get (accesses_of self.now) i ≡ Some result }
+    {
+        match *self {
+            Piece::Make {
+                region,
+                blocks,
+                width,
+            } => Access::Make {
+                region,
+                blocks,
+                len: width + 32,
+            },
+            Piece::Reads { region, .. } => Access::Read {
+                region,
+                place: i as u32,
+            },
+            Piece::Writes { region, .. } => Access::Write {
+                region,
+                place: i as u32,
+            },
+            Piece::Copies { from, to, .. } => copied(i, from, to, (i / 2) as u32),
+            Piece::Discard { region } => Access::Discard { region },
+            Piece::Passes {
+                from,
+                to,
+                blocks,
+                results,
+                buffered,
+            } => pass_nth(from, to, blocks, results, buffered, i),
+            Piece::Turns {
+                from,
+                to,
+                pack,
+                slots,
+                rows,
+            } => turn_nth(from, to, pack, slots, rows, i),
+            Piece::Buckets {
+                from,
+                to,
+                pack,
+                slots,
+                rows,
+                depth,
+            } => bucket_nth(from, to, pack, slots, rows, depth, i),
+            Piece::Pairs {
+                left,
+                right,
+                to,
+                lefts,
+                rights,
+                buffered,
+            } => pair_nth(left, right, to, lefts, rights, buffered, i),
+        }
+    }
+}
+
+impl Default for Piece {
+    fn default() -> Piece {
+        Piece::Discard { region: 0 }
+    }
+}

@@ -1,0 +1,439 @@
+//! The accesses of a statement.
+ghost use Rattle.std.specs.Prelude.{◌≡◌, ◌≢◌, ◌≤◌, ◌<◌, ◌+◌, ◌*◌, ◌^◌, ◌-◌, ◌++◌, Option, Some, IfSome, OnSome, [], length, slice_get, if◌then◌else◌};
+ghost use Rattle.std.specs.Option.{option_map_or};
+ghost use Rattle.ob_base.specs.Accesses.{discard_at};
+ghost use Rattle.ob_base.specs.Numbers.{blocks_for};
+ghost use Rattle.ob_base.specs.Joins.{chunks, joined_blocks, joined_slots};
+ghost use Rattle.ob_base.specs.Limits.{buffered_blocks};
+ghost use Rattle.ob_script.specs.Parts.{count_part, create_part, insert_part, rewrite_part, emission_part, join_part};
+ghost use Rattle.ob_script.specs.Pieces.{all_accesses, IsFew};
+ghost use Rattle.ob_script.specs.Script.{script, whole_script, with_table, mutation_script, blocks_of, extent_of, source_script, join_script, joined_extent, select_part, after_count, result_part, plan_part, result_blocks, rows_width};
+ghost use Rattle.ob_script.specs.Sizes.{IsPublic, IsCounted, IsWithin, IsSourceCounted, IsTable};
+
+use crate::extent::{Extent, extent_of, new_width, table_at};
+use crate::piece::Piece;
+use crate::pieces::Pieces;
+use ob_base::{Access, End, Name, Plan, Public, Seen, Skeleton, Source, Table};
+
+// A new region that is filled in order.
+#[tactic(auto, using(crate::proofs::Joined::all_more))]
+fn push_create(pieces: &mut Pieces, region: u64, blocks: u32, width: u32)
+    requires room { length pieces.old ≤ 14 }
+    requires width { width ≤ 2 ^ 24 }
+    ensures adds { all_accesses pieces.new ≡ all_accesses pieces.old ++ create_part region blocks width }
+    ensures few { length pieces.new ≡ length pieces.old + 2 }
+{
+    pieces.push(Piece::Make {
+        region,
+        blocks,
+        width,
+    });
+    pieces.push(Piece::Writes { region, blocks });
+}
+
+// INSERT.
+#[tactic(auto, using(crate::proofs::Joined::all_more))]
+fn push_insert(pieces: &mut Pieces, from: u64, to: u64, blocks: u32, width: u32)
+    requires room { length pieces.old ≤ 12 }
+    requires width { width ≤ 2 ^ 24 }
+    ensures { all_accesses pieces.new ≡ all_accesses pieces.old ++ insert_part from to blocks width }
+{
+    pieces.push(Piece::Make {
+        region: to,
+        blocks,
+        width,
+    });
+    pieces.push(Piece::Reads {
+        region: from,
+        blocks,
+    });
+    pieces.push(Piece::Copies { from, to, blocks });
+    pieces.push(Piece::Discard { region: from });
+}
+
+// UPDATE and DELETE.
+#[tactic(auto, using(crate::proofs::Joined::all_more))]
+fn push_rewrite(pieces: &mut Pieces, from: u64, to: u64, blocks: u32, width: u32)
+    requires room { length pieces.old ≤ 13 }
+    requires width { width ≤ 2 ^ 24 }
+    ensures { all_accesses pieces.new ≡ all_accesses pieces.old ++ rewrite_part from to blocks width }
+{
+    pieces.push(Piece::Make {
+        region: to,
+        blocks,
+        width,
+    });
+    pieces.push(Piece::Copies { from, to, blocks });
+    pieces.push(Piece::Discard { region: from });
+}
+
+// A result is read in order and discarded.
+#[tactic(auto, using(crate::proofs::Joined::all_more))]
+fn push_emission(pieces: &mut Pieces, region: u64, blocks: u32)
+    requires room { length pieces.old ≤ 14 }
+    ensures adds { all_accesses pieces.new ≡ all_accesses pieces.old ++ emission_part region blocks }
+    ensures few { length pieces.new ≡ length pieces.old + 2 }
+{
+    pieces.push(Piece::Reads { region, blocks });
+    pieces.push(Piece::Discard { region });
+}
+
+// The blocks of so many slots.
+fn blocks_of(public: &Public, slots: u32) -> u32
+    requires { 1 ≤ public.now.pack }
+    ensures { result ≡ blocks_for public.now.pack slots }
+{
+    slots.div_ceil(u32::from(public.pack))
+}
+
+// The blocks that a pass may buffer.
+fn buffered(public: &Public) -> u32
+    requires { IsPublic public.now }
+    ensures value { result ≡ buffered_blocks public.now.pack public.now.buffer }
+    ensures some { 1 ≤ result }
+    ensures few { result ≤ 65536 }
+{
+    let pack = u32::from(public.pack);
+    (public.buffer - 2 * pack) / pack
+}
+
+// The way to the result of `k` rows.
+#[tactic(auto, using(crate::proofs::Joined::all_more))]
+fn push_plan(pieces: &mut Pieces, public: &Public, plan: Plan, k: u32, to: u64, from: Extent)
+    requires room { length pieces.old ≤ 13 }
+    requires public { IsPublic public.now }
+    requires some { 1 ≤ k }
+    requires rows { IsFew k }
+    requires slots { IsFew from.slots }
+    requires width { from.width ≤ 1024 }
+    ensures adds { all_accesses pieces.new ≡ all_accesses pieces.old ++ plan_part public.now plan k to from }
+    ensures few { length pieces.new ≤ length pieces.old + 3 }
+{
+    let pack = u32::from(public.pack);
+    let depth = u32::from(public.depth);
+    let blocks = blocks_of(public, from.slots);
+    let width = pack * from.width;
+    match plan {
+        Plan::Small => {
+            let results = blocks_of(public, k);
+            pieces.push(Piece::Make {
+                region: to,
+                blocks: results,
+                width,
+            });
+            pieces.push(Piece::Passes {
+                from: from.region,
+                to,
+                blocks,
+                results,
+                buffered: buffered(public),
+            });
+        }
+        Plan::Large => {
+            pieces.push(Piece::Make {
+                region: to,
+                blocks,
+                width,
+            });
+            pieces.push(Piece::Copies {
+                from: from.region,
+                to,
+                blocks,
+            });
+            pieces.push(Piece::Copies {
+                from: to,
+                to,
+                blocks,
+            });
+        }
+        Plan::Continuous => {
+            push_create(pieces, to, blocks_of(public, k), width);
+            pieces.push(Piece::Turns {
+                from: from.region,
+                to,
+                pack,
+                slots: from.slots,
+                rows: k,
+            });
+        }
+        Plan::Hash => {
+            push_create(pieces, to, k * depth, width);
+            pieces.push(Piece::Buckets {
+                from: from.region,
+                to,
+                pack,
+                slots: from.slots,
+                rows: k,
+                depth,
+            });
+        }
+    }
+}
+
+// The blocks of the result.
+fn result_blocks(public: &Public, plan: Plan, k: u32, from: Extent) -> u32
+    requires public { IsPublic public.now }
+    requires rows { IsFew k }
+    ensures { result ≡ result_blocks public.now plan k from }
+{
+    match plan {
+        Plan::Small | Plan::Continuous => blocks_of(public, k),
+        Plan::Large => blocks_of(public, from.slots),
+        Plan::Hash => k * u32::from(public.depth),
+    }
+}
+
+// A plan's result, and what it is read back by.
+fn push_result(
+    pieces: &mut Pieces,
+    public: &Public,
+    plan: Option<Plan>,
+    k: u32,
+    to: u64,
+    from: Extent,
+)
+    requires room { length pieces.old ≤ 11 }
+    requires public { IsPublic public.now }
+    requires some { OnSome plan (1 ≤ k) }
+    requires rows { IsFew k }
+    requires slots { IsFew from.slots }
+    requires width { from.width ≤ 1024 }
+    ensures adds { all_accesses pieces.new ≡ all_accesses pieces.old ++ result_part public.now plan k to from }
+    ensures few { length pieces.new ≤ length pieces.old + 5 }
+{
+    match plan {
+        None => {}
+        Some(plan) => {
+            push_plan(pieces, public, plan, k, to, from);
+            push_emission(pieces, to, result_blocks(public, plan, k, from));
+        }
+    }
+}
+
+// The count of `from`, and once it is known, the results and the discarding of `ending`.
+#[tactic(auto, using(crate::proofs::Joined::all_more))]
+fn push_select(
+    pieces: &mut Pieces,
+    public: &Public,
+    seen: &Seen,
+    to: u64,
+    from: Extent,
+    ending: Option<u64>,
+)
+    requires room { length pieces.old ≤ 4 }
+    requires public { IsPublic public.now }
+    requires counted { IsCounted seen.now from }
+    requires next { to < 2 ^ 64 - 1 }
+    ensures { all_accesses pieces.new ≡ all_accesses pieces.old ++ select_part public.now seen.now to from (option_map_or discard_at ending []) }
+{
+    pieces.push(Piece::Reads {
+        region: from.region,
+        blocks: blocks_of(public, from.slots),
+    });
+    if let Some(k) = seen.k {
+        push_result(pieces, public, seen.plan, k as u32, to, from);
+        push_result(pieces, public, seen.then, k as u32, to + 1, from);
+        if let Some(region) = ending {
+            pieces.push(Piece::Discard { region });
+        }
+    }
+}
+
+// The chunks of a join's left table.
+fn chunks(public: &Public, left: &Table) -> u32
+    requires public { IsPublic public.now }
+    requires left { IsTable left.now }
+    ensures { result ≡ chunks public.now.pack public.now.buffer left.now.heading.capacity }
+{
+    blocks_of(public, left.heading.capacity).div_ceil(buffered(public))
+}
+
+// The blocks of the joined region.
+fn joined_blocks(public: &Public, left: &Table, right: &Table) -> u32
+    requires public { IsPublic public.now }
+    requires left { IsTable left.now }
+    requires right { IsTable right.now }
+    requires few { IsFew (joined_slots public.now.pack public.now.buffer left.now.heading.capacity right.now.heading.capacity) }
+    ensures value { result ≡ joined_blocks public.now.pack public.now.buffer left.now.heading.capacity right.now.heading.capacity }
+    ensures few { IsFew result }
+{
+    let rights = u64::from(blocks_of(public, right.heading.capacity));
+    let blocks = u64::from(chunks(public, left)) * rights;
+    blocks as u32
+}
+
+// Where the joined rows lie.
+#[tactic(auto, using(crate::proofs::Joined::width_both))]
+fn joined(public: &Public, left: &Table, right: &Table) -> Extent
+    requires public { IsPublic public.now }
+    requires left { IsTable left.now }
+    requires right { IsTable right.now }
+    requires few { IsFew (joined_slots public.now.pack public.now.buffer left.now.heading.capacity right.now.heading.capacity) }
+    ensures { result ≡ joined_extent public.now left.now.heading right.now.heading }
+{
+    Extent {
+        region: public.next_region,
+        slots: joined_blocks(public, left, right) * u32::from(public.pack),
+        width: left.heading.schema.width() + right.heading.schema.width() - 1,
+    }
+}
+
+// A SELECT over a join.
+#[tactic(auto, using(crate::proofs::Joined::all_more))]
+fn push_join(pieces: &mut Pieces, public: &Public, seen: &Seen, left: &Table, right: &Table)
+    requires room { pieces.old ≡ [] }
+    requires public { IsPublic public.now }
+    requires left { IsTable left.now }
+    requires right { IsTable right.now }
+    requires counted { IsCounted seen.now (joined_extent public.now left.now.heading right.now.heading) }
+    ensures { all_accesses pieces.new ≡ join_script public.now seen.now (record { heading = left.now.heading; held = left.now.region }) (record { heading = right.now.heading; held = right.now.region }) }
+{
+    let lefts = blocks_of(public, left.heading.capacity);
+    let rights = blocks_of(public, right.heading.capacity);
+    let to = public.next_region;
+    let pairs = joined(public, left, right);
+    pieces.push(Piece::Make {
+        region: to,
+        blocks: joined_blocks(public, left, right),
+        width: u32::from(public.pack) * pairs.width,
+    });
+    pieces.push(Piece::Pairs {
+        left: left.region,
+        right: right.region,
+        to,
+        lefts,
+        rights,
+        buffered: buffered(public),
+    });
+    push_select(pieces, public, seen, to + 1, pairs, Some(to));
+}
+
+// A SELECT of rows.
+fn push_source(pieces: &mut Pieces, public: &Public, seen: &Seen, source: &Source)
+    requires room { pieces.old ≡ [] }
+    requires public { IsPublic public.now }
+    requires counted { IsSourceCounted public.now seen.now source.now }
+    ensures { all_accesses pieces.new ≡ source_script public.now seen.now source.now }
+{
+    let tables = public.tables.as_slice();
+    match source {
+        Source::Table(name) => {
+            if let Some(table) = table_at(tables, name) {
+                push_select(
+                    pieces,
+                    public,
+                    seen,
+                    public.next_region,
+                    extent_of(table),
+                    None,
+                );
+            }
+        }
+        Source::Join { left, right, .. } => {
+            if let Some(left) = table_at(tables, left)
+                && let Some(right) = table_at(tables, right)
+            {
+                push_join(pieces, public, seen, left, right);
+            }
+        }
+    }
+}
+
+// INSERT, UPDATE or DELETE of a table.
+fn push_mutation(pieces: &mut Pieces, public: &Public, name: &Name, inserts: bool)
+    requires room { pieces.old ≡ [] }
+    requires public { IsPublic public.now }
+    ensures { all_accesses pieces.new ≡ with_table name.now public.now (mutation_script public.now (if inserts then insert_part else rewrite_part)) }
+{
+    if let Some(table) = table_at(public.tables.as_slice(), name) {
+        let from = extent_of(table);
+        let to = public.next_region;
+        let blocks = blocks_of(public, from.slots);
+        let width = u32::from(public.pack) * from.width;
+        if inserts {
+            push_insert(pieces, from.region, to, blocks, width);
+        } else {
+            push_rewrite(pieces, from.region, to, blocks, width);
+        }
+    }
+}
+
+// DROP of a table.
+#[tactic(auto, using(crate::proofs::Joined::all_more))]
+fn push_drop(pieces: &mut Pieces, public: &Public, name: &Name)
+    requires room { pieces.old ≡ [] }
+    requires public { IsPublic public.now }
+    ensures { all_accesses pieces.new ≡ with_table name.now public.now (λ t. discard_at t.held) }
+{
+    if let Some(table) = table_at(public.tables.as_slice(), name) {
+        pieces.push(Piece::Discard {
+            region: table.region,
+        });
+    }
+}
+
+// Aggregates and GROUP BY over a table.
+#[tactic(auto, using(crate::proofs::Joined::all_more))]
+fn push_groups(pieces: &mut Pieces, public: &Public, name: &Name)
+    requires room { pieces.old ≡ [] }
+    requires public { IsPublic public.now }
+    ensures { all_accesses pieces.new ≡ with_table name.now public.now (λ t. count_part t.held (blocks_of public.now (extent_of t))) }
+{
+    if let Some(table) = table_at(public.tables.as_slice(), name) {
+        pieces.push(Piece::Reads {
+            region: table.region,
+            blocks: blocks_of(public, table.heading.capacity),
+        });
+    }
+}
+
+// All that a statement asks which is not refused before.
+fn whole(public: &Public, skeleton: &Skeleton, seen: &Seen) -> Pieces
+    requires public { IsPublic public.now }
+    requires within { IsWithin public.now skeleton.now seen.now }
+    ensures { all_accesses result ≡ whole_script public.now skeleton.now seen.now }
+{
+    let mut pieces = Pieces::new();
+    match skeleton {
+        Skeleton::Create {
+            columns,
+            capacity,
+            ..
+        } => push_create(
+            &mut pieces,
+            public.next_region,
+            blocks_of(public, *capacity),
+            u32::from(public.pack) * new_width(columns.as_slice()),
+        ),
+        Skeleton::Insert { table, .. } => push_mutation(&mut pieces, public, table, true),
+        Skeleton::Update { table, .. } => push_mutation(&mut pieces, public, table, false),
+        Skeleton::Delete { table } => push_mutation(&mut pieces, public, table, false),
+        Skeleton::Drop { table } => push_drop(&mut pieces, public, table),
+        Skeleton::Rows { source, .. } => push_source(&mut pieces, public, seen, source),
+        Skeleton::Groups { table, .. } => push_groups(&mut pieces, public, table),
+    }
+    pieces
+}
+
+/// The number of accesses of a statement.
+pub fn script_len(public: &Public, skeleton: &Skeleton, seen: &Seen) -> u64
+    requires public { IsPublic public.now }
+    requires within { seen.now.end ≢ End.Static → IsWithin public.now skeleton.now seen.now }
+    ensures { result ≡ length (script public.now skeleton.now seen.now) }
+{
+    match seen.end {
+        End::Static => 0,
+        End::Whole | End::AfterCount => whole(public, skeleton, seen).len(),
+        End::Cut(n) => n.min(whole(public, skeleton, seen).len()),
+    }
+}
+
+/// The access of a statement at place `i`, from 0.
+pub fn script_nth(public: &Public, skeleton: &Skeleton, seen: &Seen, i: u64) -> Access
+    requires public { IsPublic public.now }
+    requires within { seen.now.end ≢ End.Static → IsWithin public.now skeleton.now seen.now }
+    requires place { i < length (script public.now skeleton.now seen.now) }
+    ensures { slice_get (script public.now skeleton.now seen.now) i ≡ Some result }
+{
+    whole(public, skeleton, seen).nth(i)
+}

@@ -1,0 +1,122 @@
+-- An input that keeps to the limits is served to its end.
+use Rattle.std.proofs.Common.{◌≡◌, ℕ, ◌≤◌, Bool, true, false, List, [], ◌++◌, length, Option, Some, None, Ok, Err, refl, ap, ◌∙◌, subst, inl, inr, arith, append-nil, length-append}
+use Rattle.std.specs.Io.KnownBytes.{Appends, Consumes}
+use Rattle.clap.specs.Words.{Text}
+use Rattle.ob_base.specs.Counts.{Rises}
+use Rattle.ob_base.specs.declared.refusal.Stop.TheVariants.{Tampered, SourceFault, SinkFault, NoMemory, InputLimit}
+use Rattle.ob_vault.specs.State.{RevState}
+use Rattle.ob_print.specs.Cuts.{Cut}
+use Rattle.ob_store.specs.State.{StoreState}
+use Rattle.ob_shell.specs.Usage.{Parses}
+use Rattle.ob_shell.specs.Texts.{is_over, rest_of}
+use Rattle.ob_shell.specs.KeyLine.{line_max, has_lf, first_line, after_line, secret_of, LineTaken}
+use Rattle.ob_shell.specs.Running.{Faults, SinksRose}
+use Rattle.ob_shell.specs.Endings.{status_of, last_line, SinkStopped}
+use Rattle.ob_shell.specs.Top.{HasSecret, EndingSays, EndingWords, EndingCause, Shown, StatusCause, KeepsLimits, IsCompleted, Reported}
+use Rattle.ob_shell.specs.declared.top.Report.{Report}
+use Rattle.ob_shell.specs.declared.top.Ending.{Ending}
+use Rattle.ob_shell.specs.declared.top.Ending.TheVariants.{Usage, BadKey, Ran}
+use Rattle.ob_shell.proofs.TextLemmas.{rest_of-append, rest_of-over, rest_of-nil}
+use Rattle.ob_shell.proofs.KeyLemmas.{after_line-none, first_line-long, secret_of-long}
+use Rattle.ob_shell.proofs.TopLemmas.{first_line-more, after_line-more, shown_line, line_grew, quiet_line, line_rose, rose_with, status_cause}
+
+no_secret : (xs : List ℕ) → HasSecret xs → secret_of (first_line xs) ≡ None → ⊥
+no_secret xs h e = let k = rw e at h in cc
+
+-- the part that was taken and the rest
+module _ (taken rest : List ℕ) (secret : HasSecret (taken ++ rest)) where
+  with_lf : has_lf taken ≡ true → secret_of (first_line taken) ≡ None → ⊥
+  with_lf lf e = no_secret (taken ++ rest) secret (ap secret_of (first_line-more taken rest lf) ∙ e)
+
+  too_long : (t : Bool) → has_lf taken ≡ t → line_max ≤ length taken → secret_of (first_line taken) ≡ None → ⊥
+  too_long true lf long e = with_lf lf e
+  too_long false lf long e =
+      no_secret (taken ++ rest) secret
+      (secret_of-long (first_line (taken ++ rest)) (omega (arith, first_line-long taken rest lf)))
+
+  good_key : LineTaken taken (Some rest) → secret_of (first_line taken) ≡ None → ⊥
+  good_key line e =
+      elim line [
+        | inl lf ↦ with_lf lf e
+        | inr more ↦ elim more [
+          | inl long ↦ too_long (has_lf taken) refl long e
+          | inr none ↦
+              no_secret (taken ++ rest) secret (ap (λ (l : List ℕ). secret_of (first_line (taken ++ l))) none ∙ rw append-nil e)
+        ]
+      ]
+
+  not_over : (t : Bool) → has_lf taken ≡ t → is_over (rest_of [] (after_line (taken ++ rest))) ≡ false → is_over (rest_of [] (after_line taken)) ≡ true → ⊥
+  not_over true lf small over =
+      let all : rest_of [] (after_line (taken ++ rest)) ≡ rest_of [] (after_line taken) =
+      ap (rest_of []) (after_line-more taken rest lf) ∙ rest_of-append [] (after_line taken) rest ∙ rest_of-over _ rest over in
+      let k = rw all at small in cc
+  not_over false lf small over = let k = rw (after_line-none taken lf, rest_of-nil) at over in cc
+
+limits_kept : (ending : Ending) (max : ℕ) (taken rest : List ℕ) (ended : Bool) (more : List (List ℕ)) (part : List ℕ) {Takes : Type 0}
+    → Takes → EndingWords ending Takes
+    → KeepsLimits max (taken ++ rest) → EndingSays ending max taken (Some rest) ended more part → (old new : Faults) → StatusCause ending old new
+    → ¬ Rises old.source new.source → ¬ SinksRose old new → IsCompleted ending
+limits_kept Usage max taken rest ended more part t words k says old new cause a c = words t
+limits_kept BadKey max taken rest ended more part t words k says old new cause a c = good_key taken rest k.secret says.1 says.0
+limits_kept (Ran (Ok refused)) max taken rest ended more part t words k says old new cause a c = tt
+limits_kept (Ran (Err (Tampered region place))) max taken rest ended more part t words k says old new cause a c = tt
+limits_kept (Ran (Err SourceFault)) max taken rest ended more part t words k says old new cause a c = a cause
+limits_kept (Ran (Err SinkFault)) max taken rest ended more part t words k says old new cause a c = c cause.1
+limits_kept (Ran (Err NoMemory)) max taken rest ended more part t words k says old new cause a c = tt
+limits_kept (Ran (Err InputLimit)) max taken rest ended more part t words k says old new cause a c =
+    elim says.limit [
+      | inl over ↦ not_over taken rest k.secret (has_lf taken) refl k.texts over
+      | inr full ↦ let few = k.short in absurd (omega (arith, few, full, length-append taken rest))
+    ]
+
+pub completes : {R : Type 0} {state : R → RevState} {max : ℕ} {l0 l1 w0 w1 : Option (List ℕ)} {s0 s1 : StoreState} {high : ℕ} {ending : Ending} {line : List ℕ} {F Takes : Type 0} (old new : Faults) (input : List ℕ)
+    → Shown state max l0 l1 w0 w1 s0 s1 high ending line F → EndingWords ending Takes → StatusCause ending old new
+    → Takes → l0 ≡ Some input → KeepsLimits max input → ¬ Rises old.source new.source → ¬ SinksRose old new → IsCompleted ending
+completes {max = max} {l1 = l1} {ending = ending} old new input shown words cause t e k a c =
+    go l1 shown.says (subst (λ (l : Option (List ℕ)). Consumes l l1 shown.taken) e shown.given)
+  where
+    go : (l : Option (List ℕ)) → EndingSays ending max shown.taken l shown.ended shown.more shown.part → Consumes (Some input) l shown.taken → IsCompleted ending
+    go None says given = absurd given
+    go (Some rest) says given =
+        limits_kept ending max shown.taken rest shown.ended shown.more shown.part t words (subst (KeepsLimits max) given k) says old new cause a c
+
+-- the last line was written, or cut by a sink's fault
+pub reported_line : {R : Type 0} {state : R → RevState} {words : List Text} {max : ℕ} {report : Report} (ending : Ending) (old mid new : Faults)
+    {l0 l1 w0 w1 w2 : Option (List ℕ)} {s0 s1 : StoreState} {E : Type 0} (line : List ℕ)
+    → report.status ≡ status_of ending → EndingWords ending (Parses words)
+    → Shown state max l0 l1 w0 w1 s0 s1 report.high ending [] (SinkStopped ending) → EndingCause ending old mid
+    → line ≡ last_line ending → Cut w1 w2 E line → (E → Rises mid.out new.out) → (line ≡ [] → Appends w1 w2 line) → (line ≡ [] → new.out ≡ mid.out)
+    → mid.out ≤ new.out → new.trace ≡ mid.trace → new.source ≡ mid.source
+    → Reported state words max l0 l1 w0 w2 s0 s1 old new report
+reported_line ending old mid new line status takes shown cause is_line cut rose all none later trace source =
+    let causes : StatusCause ending old new = status_cause ending old mid new cause later trace source (λ e. none (is_line ∙ e)) in
+    record {
+      ending = ending;
+      status = status;
+      takes = takes;
+      shown =
+          rw (← is_line)
+          (shown_line shown
+          (line_grew _ _ (λ e. line_rose ending old mid new cause (rose e) later trace) ending old mid
+          (λ r. rose_with old mid new r later trace)
+          cause shown.grew is_line cut all));
+      cause = causes;
+      completes = λ t input e k a b. completes old new input shown takes causes t e k a b;
+    }
+
+-- no line may be written any more
+pub reported_quiet : {R : Type 0} {state : R → RevState} {words : List Text} {max : ℕ} {report : Report} (ending : Ending) (old new : Faults)
+    {l0 l1 w0 w1 : Option (List ℕ)} {s0 s1 : StoreState}
+    → report.status ≡ status_of ending → EndingWords ending (Parses words)
+    → Shown state max l0 l1 w0 w1 s0 s1 report.high ending [] (SinkStopped ending) → EndingCause ending old new → SinksRose old new
+    → Reported state words max l0 l1 w0 w1 s0 s1 old new report
+reported_quiet ending old new status takes shown cause rose =
+    let causes : StatusCause ending old new = status_cause ending old new new cause (omega arith) refl refl (λ e. refl) in
+    record {
+      ending = ending;
+      status = status;
+      takes = takes;
+      shown = shown_line shown (quiet_line _ _ shown.grew rose);
+      cause = causes;
+      completes = λ t input e k a b. completes old new input shown takes causes t e k a b;
+    }

@@ -1,0 +1,9 @@
+pub mod CompleteLemmas
+pub mod FeedLemmas
+pub mod KeyLemmas
+pub mod RunLemmas
+pub mod ServeLemmas
+pub mod StepLemmas
+pub mod TextLemmas
+pub mod TopLemmas
+pub mod TraceLemmas

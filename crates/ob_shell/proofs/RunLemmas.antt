@@ -1,0 +1,239 @@
+-- What a session has done, byte by byte, and how it ends.
+use Rattle.std.proofs.Common.{◌≡◌, ℕ, ◌<◌, ◌||◌, Bool, true, false, List, [], ◌∷◌, ◌++◌, length, Option, Ok, Err, Result, refl, sym, ap, ◌∙◌, subst, inl, inr, arith, append_assoc, append-nil}
+use Rattle.std.specs.Prelude.{IfOk, IfErr, OnOk, OnErr}
+use Rattle.std.specs.Io.KnownBytes.{IsAtEnd}
+use Rattle.std.proofs.KnownBytes.{Appends-nil, Appends-trans}
+use Rattle.ob_base.specs.declared.access.Access.{Access}
+use Rattle.ob_base.specs.declared.refusal.Stop.{Stop}
+use Rattle.ob_base.specs.declared.refusal.Stop.TheVariants.{Tampered, SourceFault, SinkFault, NoMemory, InputLimit}
+use Rattle.ob_vault.specs.State.{RevState}
+use Rattle.ob_print.specs.Cuts.{Cut}
+use Rattle.ob_print.proofs.CutLemmas.{Cut-after, Cut-whole}
+use Rattle.ob_shell.specs.Texts.{text_max, is_over, rest_after, texts_at, texts_of, tail_text}
+use Rattle.ob_shell.specs.Feeding.{Fetch, Fed}
+use Rattle.ob_shell.specs.Steps.{Machine, AnswersAll, StopsIn, IsSinkFault, printed, any_refused}
+use Rattle.ob_shell.specs.Running.{SoFar, SessionRan, EndsBy, stop_of, IsQuiet}
+use Rattle.ob_shell.specs.Tracing.{TracedAll, Traced}
+use Rattle.ob_shell.specs.declared.session.Halted.{Halted}
+use Rattle.ob_shell.proofs.FeedLemmas.{Fed-none, Fed-then}
+use Rattle.ob_shell.proofs.TextLemmas.{rest_of-append, texts_of-append, rest_of-cons, texts_of-cons, rest_of-nil, texts_of-nil, rest_of-over, texts_of-over}
+use Rattle.ob_shell.proofs.StepLemmas.{Steps-none, Steps-append, printed-append, printed-nil, any_refused-append, any_refused-nil, PartlyAt-none, PartlyAt-more}
+use Rattle.ob_shell.proofs.TraceLemmas.{traced_then, traced_cut, traced_whole}
+
+pub so_far_start : {R : Type 0} {state : R → RevState} (f : Fetch) (l w : Option (List ℕ)) (p : List ℕ) (m : Machine R) → p ≡ [] → SoFar state f f l l w w p false m m
+so_far_start {state = state} f l w p m e = record {
+  passed = [];
+  answers = [];
+  fed = Fed-none f l;
+  pending_is = e ∙ sym (rest_of-nil []);
+  steps = rw texts_of-nil (Steps-none state m);
+  appends = rw printed-nil (Appends-nil w);
+  flag = sym any_refused-nil;
+}
+
+-- the source ended, or failed, with no further byte
+pub so_far_end : {R : Type 0} {state : R → RevState} {f0 f1 f2 : Fetch} {l0 l1 l2 w0 w1 : Option (List ℕ)} {pending : List ℕ} {r : Bool} {m0 m1 : Machine R}
+    → SoFar state f0 f1 l0 l1 w0 w1 pending r m0 m1 → Fed f1 f2 l1 l2 [] → SoFar state f0 f2 l0 l2 w0 w1 pending r m0 m1
+so_far_end {f0 = f0} {f2 = f2} {l0 = l0} {l2 = l2} so fed = record {
+  passed = so.passed;
+  answers = so.answers;
+  fed = subst (λ (xs : List ℕ). Fed f0 f2 l0 l2 xs) (append-nil so.passed) (Fed-then so.fed fed);
+  pending_is = so.pending_is;
+  steps = so.steps;
+  appends = so.appends;
+  flag = so.flag;
+}
+
+-- one more byte, and the text that it ended
+pub so_far_turn : {R : Type 0} {state : R → RevState} {f0 f1 f2 : Fetch} {l0 l1 l2 w0 w1 w2 : Option (List ℕ)} {p p' : List ℕ} {r r' : Bool} {b : ℕ} {texts : List (List ℕ)} {m0 m1 m2 : Machine R}
+    → SoFar state f0 f1 l0 l1 w0 w1 p r m0 m1 → Fed f1 f2 l1 l2 (b ∷ []) → p' ≡ rest_after p b → texts ≡ texts_at p b
+    → AnswersAll state w1 w2 texts r r' m1 m2 → SoFar state f0 f2 l0 l2 w0 w2 p' r' m0 m2
+so_far_turn {state = state} {w0 = w0} {w2 = w2} {p = p} {b = b} {texts = texts} {m0 = m0} {m2 = m2} so fed rest these now =
+    let all : texts_of [] (so.passed ++ (b ∷ [])) ≡ texts_of [] so.passed ++ texts =
+    texts_of-append [] so.passed (b ∷ []) ∙ ap (λ (l : List (List ℕ)). texts_of [] so.passed ++ l)
+    (rw (← so.pending_is, texts_of-cons, texts_of-nil, append-nil) (sym these)) in
+    record {
+      passed = so.passed ++ (b ∷ []);
+      answers = so.answers ++ now.answers;
+      fed = Fed-then so.fed fed;
+      pending_is = rest ∙ rw (rest_of-append, ← so.pending_is, rest_of-cons, rest_of-nil);
+      steps = rw all (Steps-append state m0 _ m2 _ _ _ _ so.steps now.steps);
+      appends = rw printed-append (Appends-trans _ _ _ _ _ so.appends now.appends);
+      flag = now.flag ∙ ap (λ (x : Bool). x || any_refused now.answers) so.flag ∙ sym (any_refused-append so.answers now.answers);
+    }
+
+below_is_not_over : (p : List ℕ) → length p < text_max → is_over p ≡ false
+below_is_not_over p h = grind arith
+
+pub at_limit_is_over : (new rest : List ℕ) → new ≡ rest → length new ≡ text_max → is_over rest ≡ true
+at_limit_is_over new rest e h = rw (← e) (grind arith)
+
+-- it stopped at the source's fault or at a limit, with every text served that had come whole
+pub ran_halt : {R : Type 0} {state : R → RevState} {f0 f2 : Fetch} {l0 l2 w0 w2 : Option (List ℕ)} {p : List ℕ} {r : Bool} {m0 m1 : Machine R} (stop : Stop)
+    → (so : SoFar state f0 f2 l0 l2 w0 w2 p r m0 m1)
+    → texts_of p f2.unread ≡ []
+    → EndsBy f2 false (so.passed ++ f2.unread) [] [] (Err stop)
+    → SessionRan state f0 f2 l0 l2 w0 w2 m0 m1 (Err stop)
+ran_halt {state = state} {f0 = f0} {f2 = f2} {w0 = w0} {w2 = w2} {m1 = m1} stop so none ends = record {
+  piece = so.fed.piece;
+  consumed = so.fed.consumed;
+  taken = so.fed.taken;
+  limit = so.fed.limit;
+  ended = false;
+  at_end = λ (h : false ≡ true). absurd (cc);
+  served = texts_of [] so.passed;
+  more = [];
+  texts =
+      rw so.fed.joined (texts_of-append [] so.passed f2.unread ∙ ap (λ (l : List (List ℕ)). texts_of [] so.passed ++ l) (rw (← so.pending_is) none));
+  middle = m1;
+  answers = so.answers;
+  steps = so.steps;
+  part = [];
+  last = PartlyAt-none state m1 [] stop;
+  cut = subst (λ (l : List ℕ). Cut w0 w2 (IsSinkFault stop) l) (sym (append-nil (printed so.answers))) (Cut-whole w0 w2 (IsSinkFault stop) (printed so.answers) so.appends);
+  flag = tt;
+  ends = subst (λ (l : List ℕ). EndsBy f2 false l [] [] (Err stop)) (sym so.fed.joined) ends;
+}
+
+other_stop : (f : Fetch) (ended : Bool) (bytes : List ℕ) (more : List (List ℕ)) (part : List ℕ) (stop : Stop)
+    → (stop ≡ SourceFault → ⊥) → (stop ≡ InputLimit → ⊥) → EndsBy f ended bytes more part (Err stop)
+other_stop f ended bytes more part (Tampered region place) x y = tt
+other_stop f ended bytes more part SinkFault x y = tt
+other_stop f ended bytes more part NoMemory x y = tt
+other_stop f ended bytes more part SourceFault x y = absurd (x refl)
+other_stop f ended bytes more part InputLimit x y = absurd (y refl)
+
+-- it stopped while it served the text that a byte had ended
+pub ran_stop : {R : Type 0} {state : R → RevState} {f0 f1 f2 : Fetch} {l0 l1 l2 w0 w1 w2 : Option (List ℕ)} {p : List ℕ} {r : Bool} {b : ℕ} {m0 m1 m2 : Machine R} (stop : Stop)
+    → SoFar state f0 f1 l0 l1 w0 w1 p r m0 m1 → Fed f1 f2 l1 l2 (b ∷ [])
+    → StopsIn state w1 w2 (texts_at p b) stop m1 m2
+    → (stop ≡ SourceFault → ⊥) → (stop ≡ InputLimit → ⊥)
+    → SessionRan state f0 f2 l0 l2 w0 w2 m0 m2 (Err stop)
+ran_stop {f0 = f0} {f2 = f2} {p = p} {b = b} {m1 = m1} stop so fed st no_fault no_limit =
+    let all = Fed-then so.fed fed in
+    record {
+      piece = all.piece;
+      consumed = all.consumed;
+      taken = all.taken;
+      limit = all.limit;
+      ended = false;
+      at_end = λ (h : false ≡ true). absurd (cc);
+      served = texts_of [] so.passed;
+      more = texts_at p b ++ texts_of (rest_after p b) f2.unread;
+      texts =
+          rw all.joined
+          (rw append_assoc
+          (texts_of-append [] so.passed ((b ∷ []) ++ f2.unread)
+          ∙ ap (λ (l : List (List ℕ)). texts_of [] so.passed ++ l) (rw (← so.pending_is) (texts_of-cons p b f2.unread))));
+      middle = m1;
+      answers = so.answers;
+      steps = so.steps;
+      part = st.bytes;
+      last = PartlyAt-more _ _ _ _ _ _ _ st.partly;
+      cut = Cut-after _ so.appends st.cut;
+      flag = tt;
+      ends = other_stop f2 false _ _ _ stop no_fault no_limit;
+    }
+
+-- the input ended, and the rest was served, too
+pub ran_done : {R : Type 0} {state : R → RevState} {f0 f2 : Fetch} {l0 l2 w0 w1 w2 : Option (List ℕ)} {p : List ℕ} {r : Bool} {m0 m1 m2 : Machine R} (flag : Bool)
+    → SoFar state f0 f2 l0 l2 w0 w1 p r m0 m1 → f2.unread ≡ [] → IsAtEnd l2 → f2.taken < f2.limit → length p < text_max
+    → AnswersAll state w1 w2 (tail_text p) r flag m1 m2
+    → SessionRan state f0 f2 l0 l2 w0 w2 m0 m2 (Ok flag)
+ran_done {state = state} {f0 = f0} {f2 = f2} {w0 = w0} {w2 = w2} {p = p} {m0 = m0} {m2 = m2} flag so none at_end below short now =
+    let bytes : f0.unread ++ so.fed.piece ≡ so.passed = so.fed.joined ∙ rw none (append-nil so.passed) in
+    record {
+      piece = so.fed.piece;
+      consumed = so.fed.consumed;
+      taken = so.fed.taken;
+      limit = so.fed.limit;
+      ended = true;
+      at_end = λ _. at_end;
+      served = texts_of [] so.passed ++ tail_text p;
+      more = [];
+      texts = rw (bytes, append-nil, so.pending_is);
+      middle = m2;
+      answers = so.answers ++ now.answers;
+      steps = Steps-append state m0 _ m2 _ _ _ _ so.steps now.steps;
+      part = [];
+      last = record { machine = refl; none = refl };
+      cut =
+          subst (λ (l : List ℕ). Cut w0 w2 ⊥ l) (sym (append-nil (printed (so.answers ++ now.answers))))
+          (Cut-whole w0 w2 ⊥ _ (rw printed-append (Appends-trans _ _ _ _ _ so.appends now.appends)));
+      flag = now.flag ∙ ap (λ (x : Bool). x || any_refused now.answers) so.flag ∙ sym (any_refused-append so.answers now.answers);
+      ends = (refl, refl, refl, rw (bytes, ← so.pending_is) (below_is_not_over p short), below);
+    }
+
+-- the input ended, and it stopped while it served the rest
+pub ran_cut : {R : Type 0} {state : R → RevState} {f0 f2 : Fetch} {l0 l2 w0 w1 w2 : Option (List ℕ)} {p : List ℕ} {r : Bool} {m0 m1 m2 : Machine R} (stop : Stop)
+    → SoFar state f0 f2 l0 l2 w0 w1 p r m0 m1 → f2.unread ≡ [] → IsAtEnd l2
+    → StopsIn state w1 w2 (tail_text p) stop m1 m2
+    → (stop ≡ SourceFault → ⊥) → (stop ≡ InputLimit → ⊥)
+    → SessionRan state f0 f2 l0 l2 w0 w2 m0 m2 (Err stop)
+ran_cut {f0 = f0} {f2 = f2} {p = p} {m1 = m1} stop so none at_end st no_fault no_limit =
+    let bytes : f0.unread ++ so.fed.piece ≡ so.passed = so.fed.joined ∙ rw none (append-nil so.passed) in
+    record {
+      piece = so.fed.piece;
+      consumed = so.fed.consumed;
+      taken = so.fed.taken;
+      limit = so.fed.limit;
+      ended = true;
+      at_end = λ _. at_end;
+      served = texts_of [] so.passed;
+      more = tail_text p;
+      texts = rw (bytes, so.pending_is);
+      middle = m1;
+      answers = so.answers;
+      steps = so.steps;
+      part = st.bytes;
+      last = st.partly;
+      cut = Cut-after _ so.appends st.cut;
+      flag = tt;
+      ends = other_stop f2 true _ _ _ stop no_fault no_limit;
+    }
+
+pub ran_finish : {R : Type 0} {state : R → RevState} {f0 f2 : Fetch} {l0 l2 w0 w1 w2 : Option (List ℕ)} {p : List ℕ} {r : Bool} {m0 m1 m2 : Machine R} (result : Result Bool Halted)
+    → SoFar state f0 f2 l0 l2 w0 w1 p r m0 m1 → f2.unread ≡ [] → IsAtEnd l2 → f2.taken < f2.limit → length p < text_max
+    → IfOk result (λ flag. AnswersAll state w1 w2 (tail_text p) r flag m1 m2)
+    → IfErr result (λ halted. StopsIn state w1 w2 (tail_text p) halted.stop m1 m2)
+    → (stop_of result ≡ Err SourceFault → ⊥) → (stop_of result ≡ Err InputLimit → ⊥)
+    → SessionRan state f0 f2 l0 l2 w0 w2 m0 m2 (stop_of result)
+ran_finish (Ok flag) so none at_end below short answered stopped no_fault no_limit =
+    ran_done flag so none at_end below short answered
+ran_finish (Err halted) so none at_end below short answered stopped no_fault no_limit =
+    ran_cut halted.stop so none at_end stopped
+    (λ h. no_fault (rw h)) (λ h. no_limit (rw h))
+
+-- a byte brought a stop
+pub ran_turn : {R : Type 0} {state : R → RevState} {f0 f1 f2 : Fetch} {l0 l1 l2 w0 w1 w2 : Option (List ℕ)} {p : List ℕ} {r : Bool} {b : ℕ} {m0 m1 m2 : Machine R} (stop : Stop)
+    → SoFar state f0 f1 l0 l1 w0 w1 p r m0 m1 → Fed f1 f2 l1 l2 (b ∷ [])
+    → StopsIn state w1 w2 (texts_at p b) stop m1 m2
+    → (◌≡◌ {A = Result (Unit {0}) Stop} (Err stop) (Err SourceFault) → ⊥)
+    → (◌≡◌ {A = Result (Unit {0}) Stop} (Err stop) (Err InputLimit) → (texts_at p b ≡ []) × (is_over (rest_after p b) ≡ true) × AnswersAll state w1 w2 [] r r m1 m2)
+    → SessionRan state f0 f2 l0 l2 w0 w2 m0 m2 (Err stop)
+ran_turn (Tampered region place) so fed st no_fault limit = ran_stop (Tampered region place) so fed st (λ h. cc) (λ h. cc)
+ran_turn SinkFault so fed st no_fault limit = ran_stop SinkFault so fed st (λ h. cc) (λ h. cc)
+ran_turn NoMemory so fed st no_fault limit = ran_stop NoMemory so fed st (λ h. cc) (λ h. cc)
+ran_turn SourceFault so fed st no_fault limit = absurd (no_fault refl)
+ran_turn {f2 = f2} {p = p} {b = b} InputLimit so fed st no_fault limit =
+    let h = limit refl in
+    let now = so_far_turn so fed refl (sym h.0) h.2 in
+    ran_halt InputLimit now (texts_of-over _ _ h.1)
+    (refl, refl, refl, inl (rw (rest_of-append, ← now.pending_is, rest_of-over (rest_after p b) f2.unread h.1) h.1))
+
+pub ran_source_fault : {R : Type 0} {state : R → RevState} {f0 f2 : Fetch} {l0 l2 w0 w2 : Option (List ℕ)} {p : List ℕ} {r : Bool} {m0 m1 : Machine R}
+    → SoFar state f0 f2 l0 l2 w0 w2 p r m0 m1 → f2.unread ≡ [] → length p < text_max
+    → SessionRan state f0 f2 l0 l2 w0 w2 m0 m1 (Err SourceFault)
+ran_source_fault {p = p} so none short =
+    ran_halt SourceFault so (rw none (texts_of-nil p)) (refl, refl, refl, rw (none, append-nil, ← so.pending_is) (below_is_not_over p short))
+
+pub ran_input_limit : {R : Type 0} {state : R → RevState} {f0 f2 : Fetch} {l0 l2 w0 w2 : Option (List ℕ)} {p : List ℕ} {r : Bool} {m0 m1 : Machine R}
+    → SoFar state f0 f2 l0 l2 w0 w2 p r m0 m1 → f2.unread ≡ [] → f2.taken ≡ f2.limit
+    → SessionRan state f0 f2 l0 l2 w0 w2 m0 m1 (Err InputLimit)
+ran_input_limit {p = p} so none full = ran_halt InputLimit so (rw none (texts_of-nil p)) (refl, refl, refl, inr full)
+
+-- the trace of all that was asked, and then of what was asked until the end
+pub traced_by : {tracing : Bool} {a0 a1 a2 : List Access} {w0 w1 w2 : Option (List ℕ)} (result : Result Bool Halted) → TracedAll tracing a0 a1 w0 w1
+    → OnOk result (TracedAll tracing a1 a2 w1 w2) → OnErr result (Traced tracing a1 a2 w1 w2 (IsQuiet result)) → Traced tracing a0 a2 w0 w2 (IsQuiet result)
+traced_by (Ok flag) p all stop = traced_whole ⊥ (traced_then p all)
+traced_by (Err halted) p all stop = traced_cut p stop

@@ -1,0 +1,127 @@
+-- Texts that are answered one after the other.
+use Rattle.std.proofs.Common.{◌≡◌, ℕ, ◌||◌, Bool, true, false, List, [], ◌∷◌, ◌++◌, Option, refl, sym, ap, ◌∙◌, subst, inl, inr, append_assoc, append-nil}
+use Rattle.std.specs.Io.KnownBytes.{Appends}
+use Rattle.std.proofs.KnownBytes.{Appends-nil}
+use Rattle.ob_base.specs.declared.refusal.Stop.{Stop}
+use Rattle.ob_vault.specs.State.{RevState}
+use Rattle.ob_print.proofs.CutLemmas.{Cut-whole}
+use Rattle.ob_shell.specs.Closing.{is_refused}
+use Rattle.ob_shell.specs.Steps.{Machine, Answer, Step, Steps, printed, any_refused, Rests, PartlyAt, AnswersAll, StopsIn, IsSinkFault}
+
+pub or_false : (a : Bool) → (a || false) ≡ a
+or_false true = refl
+or_false false = refl
+
+pub or_assoc : (a b c : Bool) → ((a || b) || c) ≡ (a || (b || c))
+or_assoc true b c = refl
+or_assoc false b c = refl
+
+pub printed-append : (xs ys : List Answer) → printed (xs ++ ys) ≡ printed xs ++ printed ys
+unfolding printed
+printed-append [] ys = refl
+printed-append (x ∷ xs) ys = ap (λ (l : List ℕ). x.bytes ++ l) (printed-append xs ys) ∙ sym (append_assoc x.bytes (printed xs) (printed ys))
+
+pub any_refused-append : (xs ys : List Answer) → any_refused (xs ++ ys) ≡ (any_refused xs || any_refused ys)
+unfolding any_refused
+any_refused-append [] ys = refl
+any_refused-append (x ∷ xs) ys =
+    ap (λ (b : Bool). is_refused x.outcome || b) (any_refused-append xs ys)
+    ∙ sym (or_assoc (is_refused x.outcome) (any_refused xs) (any_refused ys))
+
+pub printed-nil : printed [] ≡ []
+unfolding printed
+printed-nil = refl
+
+pub any_refused-nil : any_refused [] ≡ false
+unfolding any_refused
+any_refused-nil = refl
+
+pub Steps-none : {R : Type 0} (state : R → RevState) (m : Machine R) → Steps state m m [] []
+unfolding Steps
+Steps-none state m = (refl, refl)
+
+pub Steps-append : {R : Type 0} (state : R → RevState) (m0 m1 m2 : Machine R) (ts us : List (List ℕ)) (xs ys : List Answer)
+    → Steps state m0 m1 ts xs → Steps state m1 m2 us ys → Steps state m0 m2 (ts ++ us) (xs ++ ys)
+unfolding Steps
+Steps-append {R = R} state m0 m1 m2 [] us xs ys p q =
+    subst (λ (l : List Answer). Steps state m0 m2 us (l ++ ys)) (sym p.1) (subst (λ (m : Machine R). Steps state m m2 us ys) p.0 q)
+Steps-append state m0 m1 m2 (t ∷ ts) us xs ys p q = (
+  p.0,
+  p.1,
+  p.2 ++ ys,
+  ap (λ (l : List Answer). l ++ ys) p.3,
+  p.4,
+  Steps-append state p.0 m1 m2 ts us p.2 ys p.5 q,
+)
+
+pub answers_none : {R : Type 0} {state : R → RevState} (w : Option (List ℕ)) (r : Bool) (m : Machine R) → AnswersAll state w w [] r r m m
+answers_none {state = state} w r m = record {
+  answers = [];
+  steps = Steps-none state m;
+  appends = rw printed-nil (Appends-nil w);
+  flag = rw any_refused-nil (sym (or_false r));
+}
+
+one_step : {R : Type 0} {state : R → RevState} (m0 m1 : Machine R) (text : List ℕ) (answer : Answer) → Step state m0 m1 text answer → Steps state m0 m1 (text ∷ []) (answer ∷ [])
+unfolding Steps
+one_step m0 m1 text answer step = (m1, answer, [], refl, step, (refl, refl))
+
+printed_one : (answer : Answer) → printed (answer ∷ []) ≡ answer.bytes
+unfolding printed
+printed_one answer = append-nil answer.bytes
+
+refused_one : (answer : Answer) → any_refused (answer ∷ []) ≡ is_refused answer.outcome
+unfolding any_refused
+refused_one answer = or_false (is_refused answer.outcome)
+
+pub answers_one : {R : Type 0} {state : R → RevState} {w0 w1 : Option (List ℕ)} {m0 m1 : Machine R} (text : List ℕ) (r : Bool) (answer : Answer)
+    → Step state m0 m1 text answer → Appends w0 w1 answer.bytes
+    → AnswersAll state w0 w1 (text ∷ []) r (r || is_refused answer.outcome) m0 m1
+answers_one text r answer step bytes = record {
+  answers = answer ∷ [];
+  steps = one_step _ _ text answer step;
+  appends = rw (printed_one answer) bytes;
+  flag = ap (λ (b : Bool). r || b) (sym (refused_one answer));
+}
+
+pub PartlyAt-none : {R : Type 0} (state : R → RevState) (m : Machine R) (texts : List (List ℕ)) (stop : Stop) → PartlyAt state m m texts stop []
+PartlyAt-none state m [] stop = record { machine = refl; none = refl }
+PartlyAt-none state m (t ∷ ts) stop = inl (record { machine = refl; none = refl })
+
+pub PartlyAt-rests : {R : Type 0} (state : R → RevState) (m0 m1 : Machine R) (texts : List (List ℕ)) (stop : Stop) (bytes : List ℕ) → Rests m0 m1 bytes → PartlyAt state m0 m1 texts stop bytes
+PartlyAt-rests state m0 m1 [] stop bytes r = r
+PartlyAt-rests state m0 m1 (t ∷ ts) stop bytes r = inl r
+
+pub PartlyAt-more : {R : Type 0} (state : R → RevState) (m0 m1 : Machine R) (texts more : List (List ℕ)) (stop : Stop) (bytes : List ℕ)
+    → PartlyAt state m0 m1 texts stop bytes → PartlyAt state m0 m1 (texts ++ more) stop bytes
+PartlyAt-more state m0 m1 [] more stop bytes p = PartlyAt-rests state m0 m1 more stop bytes p
+PartlyAt-more state m0 m1 (t ∷ ts) more stop bytes p = p
+
+-- nothing was done of the texts
+pub stops_before : {R : Type 0} {state : R → RevState} (w : Option (List ℕ)) (m : Machine R) (texts : List (List ℕ)) (stop : Stop) → StopsIn state w w texts stop m m
+stops_before {state = state} w m texts stop = record { bytes = []; partly = PartlyAt-none state m texts stop; cut = Cut-whole w w _ [] (Appends-nil w) }
+
+-- the only answer of a list
+record OneAnswer {R : Type 0} (state : R → RevState) (m0 m1 : Machine R) (text : List ℕ) (answers : List Answer) : Type 0 where
+  answer : Answer
+  step : Step state m0 m1 text answer
+  bytes : printed answers ≡ answer.bytes
+
+only_answer : {R : Type 0} (state : R → RevState) (m0 m1 : Machine R) (text : List ℕ) (answers : List Answer) → Steps state m0 m1 (text ∷ []) answers → OneAnswer state m0 m1 text answers
+unfolding Steps
+only_answer {R = R} state m0 m1 text answers p = record {
+  answer = p.1;
+  step = subst (λ (m : Machine R). Step state m0 m text p.1) (sym p.5.0) p.4;
+  bytes = ap printed (p.3 ∙ ap (λ (l : List Answer). p.1 ∷ l) p.5.1) ∙ printed_one p.1;
+}
+
+-- the whole answer was taken, and the stop came after it
+pub stops_after : {R : Type 0} {state : R → RevState} {w0 w1 : Option (List ℕ)} {text : List ℕ} {r0 r1 : Bool} {m0 m1 : Machine R} (stop : Stop) → IsSinkFault stop
+    → AnswersAll state w0 w1 (text ∷ []) r0 r1 m0 m1 → StopsIn state w0 w1 (text ∷ []) stop m0 m1
+stops_after {state = state} {text = text} {m0 = m0} {m1 = m1} stop fault all =
+    let one = only_answer state m0 m1 text all.answers all.steps in
+    record {
+      bytes = printed all.answers;
+      partly = inr (inr (record { answer = one.answer; step = one.step; whole = one.bytes; fault = fault }));
+      cut = Cut-whole _ _ _ _ all.appends;
+    }

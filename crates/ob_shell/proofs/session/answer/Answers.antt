@@ -1,0 +1,24 @@
+use Rattle.std.proofs.Common.{refl, inr, ◌∙◌, ◌++◌}
+use Rattle.std.proofs.KnownBytes.{Appends-trans}
+use Rattle.ob_print.proofs.CutLemmas.{Cut-after, Cut-fault}
+use Rattle.ob_shell.specs.Closing.{closing_line}
+use Rattle.ob_shell.proofs.StepLemmas.{answers_one}
+use Rattle.ob_shell.proofs.session.answer.Goals as goal
+
+pub returns-in-Ok-write_all-clause-answered : goal.returns-in-Ok-write_all-clause-answered
+returns-in-Ok-write_all-clause-answered g c =
+    let body = c.in-Ok.ensures.answered in
+    let line = c.as_bytes.ensures ∙ c.closing_line.ensures in
+    rw c.is_refused.ensures
+    (answers_one c.args.text.now c.args.refused _ body.step
+    (Appends-trans _ _ _ _ _ body.appends (rw line at c.in-Ok-write_all.ensures.ok)))
+
+pub returns-in-Err-write_all-clause-stopped : goal.returns-in-Err-write_all-clause-stopped
+returns-in-Err-write_all-clause-stopped g c =
+    let body = c.in-Ok.ensures.answered in
+    let line = c.as_bytes.ensures ∙ c.closing_line.ensures in
+    record {
+      bytes = body.body ++ closing_line c.in-Ok.outcome;
+      partly = inr (inr (record { answer = record { outcome = c.in-Ok.outcome; bytes = body.body ++ closing_line c.in-Ok.outcome }; step = body.step; whole = refl; fault = tt }));
+      cut = Cut-after _ body.appends (Cut-fault tt (rw line at c.in-Err-write_all.ensures.cut));
+    }

@@ -1,0 +1,26 @@
+use Rattle.std.proofs.Common.{◌≡◌, ◌<◌, ◌+◌, ◌-◌, length}
+use Rattle.ob_shell.specs.Texts.{text_max}
+use Rattle.ob_shell.specs.Steps.{machine_of, IsReady}
+use Rattle.ob_shell.specs.Running.{SoFar}
+use Rattle.ob_shell.specs.Tracing.{TracedAll}
+use Rattle.ob_shell.proofs.session.serve.Given as goal
+
+abbrev pub invariant-bytes : goal.invariant-bytes
+invariant-bytes g l =
+    record {
+      so_far :
+          SoFar g.R.Revisions.state l.initial.feed l.feed (g.I.Source.left l.initial.input) (g.I.Source.left l.input)
+          (g.K.Sink.written l.initial.out) (g.K.Sink.written l.out) l.session.pending l.session.refused
+          (machine_of l.initial.engine (g.S.BlockStore.state l.initial.store)) (machine_of l.engine (g.S.BlockStore.state l.store));
+      short : length l.session.pending < text_max;
+      ready : IsReady g.R.Revisions.state (machine_of l.engine (g.S.BlockStore.state l.store));
+      source : g.I.Source.faults l.input ≡ g.I.Source.faults l.initial.input;
+      sink : g.K.Sink.faults l.out ≡ g.K.Sink.faults l.initial.out;
+      trace : g.T.Sink.faults l.trace ≡ g.T.Sink.faults l.initial.trace;
+      traced :
+          TracedAll l.tracing (g.S.BlockStore.state l.initial.store).asked (g.S.BlockStore.state l.store).asked
+          (g.T.Sink.written l.initial.trace) (g.T.Sink.written l.trace);
+    }
+
+abbrev pub decreases-bytes : goal.decreases-bytes
+decreases-bytes g l = (l.feed.limit - l.feed.taken) + length l.feed.unread

@@ -1,0 +1,39 @@
+use Rattle.ob_shell.specs.Running.{stop_of}
+use Rattle.ob_shell.proofs.TopLemmas.{shown_source_fault, shown_bad_key, shown_last, shown_ran}
+use Rattle.ob_shell.proofs.TraceLemmas.{traced_none, traced_whole}
+use Rattle.ob_shell.proofs.top.run.Goals as goal
+
+pub returns-in-Err-SourceFault-clause-shown : goal.returns-in-Err-SourceFault-clause-shown
+returns-in-Err-SourceFault-clause-shown g c =
+    let new = c.new-feed.ensures in
+    let read = rw c.in-Err-SourceFault.field-0-is at c.in-Err-SourceFault.ensures in
+    rw c.ended_at.ensures (shown_source_fault _ _ _ _ new.unread new.taken new.limit read.within _ _ read.read)
+
+pub returns-in-Ok-Bad-clause-shown : goal.returns-in-Ok-Bad-clause-shown
+returns-in-Ok-Bad-clause-shown g c =
+    let new = c.new-feed.ensures in
+    let read = rw c.in-Ok-Bad.field-0-is at c.in-Ok-Bad.ensures in
+    rw c.ended_at-in-Ok-Bad.ensures (shown_bad_key _ _ _ _ new.unread new.taken new.limit read.within _ _ read.read)
+
+pub returns-in-Err-SourceFault-clause-traced : goal.returns-in-Err-SourceFault-clause-traced
+returns-in-Err-SourceFault-clause-traced g c = traced_whole _ (traced_none _ _ _)
+
+pub returns-in-Ok-Bad-clause-traced : goal.returns-in-Ok-Bad-clause-traced
+returns-in-Ok-Bad-clause-traced g c = traced_whole _ (traced_none _ _ _)
+
+pub returns-in-Ok-Last-clause-shown : goal.returns-in-Ok-Last-clause-shown
+returns-in-Ok-Last-clause-shown g c =
+    let new = c.new-feed.ensures in
+    let read = rw c.in-Ok-Last.field-0-is at c.in-Ok-Last.ensures in
+    rw c.ended_at-in-Ok-Last.ensures (shown_last _ _ _ _ new.unread new.taken new.limit read.within _ _ _ read.read)
+
+pub returns-in-Ok-Last-clause-traced : goal.returns-in-Ok-Last-clause-traced
+returns-in-Ok-Last-clause-traced g c = traced_whole _ (traced_none _ _ _)
+
+pub returns-in-Ok-Secret-clause-shown : goal.returns-in-Ok-Secret-clause-shown
+returns-in-Ok-Secret-clause-shown g c =
+    let new = c.new-feed.ensures in
+    let read = rw c.in-Ok-Secret.field-0-is at c.in-Ok-Secret.ensures in
+    let ended = c.ended_with.ensures in
+    rw (ended.ending, ended.high)
+    (shown_ran _ c.in-Ok-Secret.key (stop_of c.serve_with-ran.result.0) new.unread new.taken new.limit c.serve_with-ran.ensures.within read.read c.serve_with-ran.ensures.ran)

@@ -1,0 +1,12 @@
+use Rattle.ob_shell.proofs.TopLemmas.{ran_nothing, ran_after}
+use Rattle.ob_shell.proofs.TraceLemmas.{traced_none, traced_whole}
+use Rattle.ob_shell.proofs.top.serve_with.Goals as goal
+
+pub returns-in-Err-clause-ran : goal.returns-in-Err-clause-ran
+returns-in-Err-clause-ran g c = ran_nothing _ _ _ _ _
+
+pub returns-in-Err-clause-traced : goal.returns-in-Err-clause-traced
+returns-in-Err-clause-traced g c = traced_whole _ (traced_none _ _ _)
+
+pub returns-in-Ok-clause-ran : goal.returns-in-Ok-clause-ran
+returns-in-Ok-clause-ran g c = ran_after _ _ _ _ _ c.serve-ran.ensures.ran c.high.ensures

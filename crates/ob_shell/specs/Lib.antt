@@ -1,0 +1,11 @@
+pub mod Closing
+pub mod Endings
+pub mod Feeding
+pub mod KeyLine
+pub mod Pushed
+pub mod Running
+pub mod Steps
+pub mod Texts
+pub mod Top
+pub mod Tracing
+pub mod Usage

@@ -1,0 +1,105 @@
+-- What a session did until its input ended or it stopped, by the bytes that its source gave.
+use Rattle.std.specs.Prelude.{ℕ, ◌≡◌, ◌+◌, ◌≤◌, ◌<◌, ◌⊎◌, Bool, true, false, List, [], ◌++◌, length, Option, Result, Ok, Err}
+use Rattle.std.specs.Io.KnownBytes.{Appends, Consumes, IsAtEnd}
+use Rattle.ob_base.specs.Counts.{Rises}
+use Rattle.ob_base.specs.declared.refusal.Stop.{Stop}
+use Rattle.ob_base.specs.declared.refusal.Stop.TheVariants.{Tampered, SourceFault, SinkFault, NoMemory, InputLimit}
+use Rattle.ob_print.specs.Cuts.{Cut}
+use Rattle.ob_shell.specs.Texts.{is_over, rest_of, texts_of, texts_in}
+use Rattle.ob_shell.specs.Feeding.{Fetch, Fed}
+use Rattle.ob_shell.specs.Steps.{Machine, Answer, Steps, PartlyAt, Rests, IsSinkFault, printed, any_refused}
+use Rattle.ob_vault.specs.State.{RevState}
+use Rattle.ob_shell.specs.declared.session.Halted.{Halted}
+
+-- the counts of the faults of the source and of both sinks
+pub record Faults : Type 0 where
+  pub source : ℕ
+  pub out : ℕ
+  pub trace : ℕ
+
+-- the stop, whether or not its line may still be written
+abbrev pub stop_of : {T : Type 0} → Result T Halted → Result T Stop
+stop_of (Ok x) = Ok x
+stop_of (Err halted) = Err halted.stop
+
+-- no further line may be written
+abbrev pub IsQuiet : {T : Type 0} → Result T Halted → Type 0
+IsQuiet (Ok x) = ⊥
+IsQuiet (Err halted) = halted.quiet ≡ true
+
+-- the count of one of the two sinks rose
+abbrev pub SinksRose : (old new : Faults) → Type 0
+SinksRose old new = Rises old.out new.out ⊎ Rises old.trace new.trace
+
+abbrev pub SinkFailed : {T : Type 0} → Result T Stop → Type 0
+SinkFailed (Ok x) = ⊥
+SinkFailed (Err stop) = IsSinkFault stop
+
+-- no count rose
+pub record NoneRose (old new : Faults) : Type 0 where
+  pub source : new.source ≡ old.source
+  pub out : new.out ≡ old.out
+  pub trace : new.trace ≡ old.trace
+
+-- when each stop comes: only where that count rose; the trace's may have risen after it
+abbrev pub StopCause : {T : Type 0} (old new : Faults) → Result T Stop → Type 0
+StopCause old new (Ok x) = NoneRose old new
+StopCause old new (Err (Tampered region place)) = (new.source ≡ old.source) × (new.out ≡ old.out) × (old.trace ≤ new.trace)
+StopCause old new (Err SinkFault) = (new.source ≡ old.source) × SinksRose old new
+StopCause old new (Err NoMemory) = (new.source ≡ old.source) × (new.out ≡ old.out) × (old.trace ≤ new.trace)
+StopCause old new (Err SourceFault) = Rises old.source new.source × (new.out ≡ old.out) × (new.trace ≡ old.trace)
+StopCause old new (Err InputLimit) = NoneRose old new
+
+-- what was done while no stop came
+pub record SoFar {R : Type 0} (state : R → RevState) (feed0 feed1 : Fetch) (left0 left1 written0 written1 : Option (List ℕ)) (pending : List ℕ) (refused : Bool)
+    (m0 m1 : Machine R) : Type 0 where
+  pub passed : List ℕ
+  pub answers : List Answer
+  pub fed : Fed feed0 feed1 left0 left1 passed
+  pub pending_is : pending ≡ rest_of [] passed
+  pub steps : Steps state m0 m1 (texts_of [] passed) answers
+  pub appends : Appends written0 written1 (printed answers)
+  pub flag : refused ≡ any_refused answers
+
+-- by how the session ended: how far the texts were served, and where the limits stood
+abbrev pub EndsBy : (feed1 : Fetch) (ended : Bool) (bytes : List ℕ) (more : List (List ℕ)) (part : List ℕ) → Result Bool Stop → Type 0
+EndsBy feed1 ended bytes more part (Ok refused) =
+    (ended ≡ true) × (more ≡ []) × (part ≡ []) × (is_over (rest_of [] bytes) ≡ false) × (feed1.taken < feed1.limit)
+EndsBy feed1 ended bytes more part (Err SourceFault) =
+    (ended ≡ false) × (more ≡ []) × (part ≡ []) × (is_over (rest_of [] bytes) ≡ false)
+EndsBy feed1 ended bytes more part (Err InputLimit) =
+    (ended ≡ false) × (more ≡ []) × (part ≡ []) × ((is_over (rest_of [] bytes) ≡ true) ⊎ (feed1.taken ≡ feed1.limit))
+EndsBy feed1 ended bytes more part (Err (Tampered region place)) = Unit {0}
+EndsBy feed1 ended bytes more part (Err SinkFault) = Unit {0}
+EndsBy feed1 ended bytes more part (Err NoMemory) = Unit {0}
+
+-- what was done after the last text that was served whole
+abbrev pub LastPart : {R : Type 0} → (R → RevState) → Machine R → Machine R → List (List ℕ) → List ℕ → Result Bool Stop → Type 0
+LastPart state m1 m2 more part (Ok refused) = Rests m1 m2 part
+LastPart state m1 m2 more part (Err stop) = PartlyAt state m1 m2 more stop part
+
+-- the answer of a session that came to its end tells whether a text was refused
+abbrev pub FlagIs : List Answer → Result Bool Stop → Type 0
+FlagIs answers (Ok refused) = refused ≡ any_refused answers
+FlagIs answers (Err stop) = Unit {0}
+
+-- what a session did
+pub record SessionRan {R : Type 0} (state : R → RevState) (feed0 feed1 : Fetch) (left0 left1 written0 written1 : Option (List ℕ))
+    (m0 m2 : Machine R) (result : Result Bool Stop) : Type 0 where
+  pub piece : List ℕ
+  pub consumed : Consumes left0 left1 piece
+  pub taken : feed1.taken ≡ feed0.taken + length piece
+  pub limit : feed1.limit ≡ feed0.limit
+  pub ended : Bool
+  pub at_end : ended ≡ true → IsAtEnd left1
+  pub served : List (List ℕ)
+  pub more : List (List ℕ)
+  pub texts : texts_in ended (feed0.unread ++ piece) ≡ served ++ more
+  pub middle : Machine R
+  pub answers : List Answer
+  pub steps : Steps state m0 middle served answers
+  pub part : List ℕ
+  pub last : LastPart state middle m2 more part result
+  pub cut : Cut written0 written1 (SinkFailed result) (printed answers ++ part)
+  pub flag : FlagIs answers result
+  pub ends : EndsBy feed1 ended (feed0.unread ++ piece) more part result

@@ -1,0 +1,125 @@
+-- What texts do to an engine and its store, one after the other, and what is printed of them.
+use Rattle.std.specs.Prelude.{ℕ, ◌≡◌, ◌||◌, ◌⊎◌, Bool, false, List, [], ◌∷◌, ◌++◌, Option, Ok, Err}
+use Rattle.std.specs.Io.KnownBytes.{Appends}
+use Rattle.ob_base.specs.Events.{Event}
+use Rattle.ob_base.specs.declared.refusal.Refusal.TheVariants.{Syntax}
+use Rattle.ob_base.specs.declared.refusal.Stop.{Stop}
+use Rattle.ob_base.specs.declared.refusal.Stop.TheVariants.{Tampered, SourceFault, SinkFault, NoMemory, InputLimit}
+use Rattle.ob_exec.specs.Agreeing.{Agrees, has_ended}
+use Rattle.ob_exec.specs.Running.{Ran, Emits}
+use Rattle.ob_exec.specs.declared.engine.Engine.{Engine}
+use Rattle.ob_exec.specs.declared.outcome.Outcome.{Outcome}
+use Rattle.ob_exec.specs.declared.outcome.Outcome.TheVariants.{Refused}
+use Rattle.ob_print.specs.Cuts.{Cut, IsCutOf}
+use Rattle.ob_print.specs.Rows.{events_text}
+use Rattle.ob_shell.specs.Closing.{closing_line, is_refused, served_as}
+use Rattle.ob_sql.specs.Skeleton.{skeleton}
+use Rattle.ob_sql.specs.declared.stmt.Stmt.{Stmt}
+use Rattle.ob_store.specs.State.{StoreState}
+use Rattle.ob_vault.specs.State.{RevState}
+
+-- an engine and what its store has come to
+pub record Machine (R : Type 0) : Type 0 where
+  pub engine : Engine R
+  pub store : StoreState
+
+abbrev pub machine_of : {R : Type 0} → Engine R → StoreState → Machine R
+machine_of engine store = record { engine = engine; store = store }
+
+-- the engine may be given a statement over this store
+pub record IsReady {R : Type 0} (state : R → RevState) (m : Machine R) : Type 0 where
+  pub agrees : Agrees state m.engine m.store
+  pub lives : has_ended m.engine ≡ false
+
+-- how a text was answered, and what was printed of it
+pub record Answer : Type 0 where
+  pub outcome : Outcome
+  pub bytes : List ℕ
+
+-- the text is no statement: nothing was asked
+pub record Misspelt {R : Type 0} (m0 m1 : Machine R) (answer : Answer) : Type 0 where
+  pub same : m1 ≡ m0
+  pub refused : answer.outcome ≡ Refused (Syntax 0)
+  pub line : answer.bytes ≡ closing_line answer.outcome
+
+-- the engine ran a statement, and its header and rows were printed before the closing line
+pub record Served {R : Type 0} (state : R → RevState) (m0 m1 : Machine R) (answer : Answer) : Type 0 where
+  pub stmt : Stmt
+  pub outcome : Outcome
+  pub ran : Ran state (skeleton stmt) (Ok outcome) m0.engine m0.store m1.engine m1.store
+  pub events : List Event
+  pub emitted : Emits outcome events
+  pub answered : answer.outcome ≡ served_as outcome
+  pub printed : answer.bytes ≡ events_text events ++ closing_line answer.outcome
+
+-- from the first machine to the second this text was answered
+pub record Step {R : Type 0} (state : R → RevState) (m0 m1 : Machine R) (text : List ℕ) (answer : Answer) : Type 0 where
+  pub done : Misspelt m0 m1 answer ⊎ Served state m0 m1 answer
+
+-- from the first machine to the second this text was answered so, and all but the closing line was written
+pub record HasBody {R : Type 0} (state : R → RevState) (written0 written1 : Option (List ℕ)) (text : List ℕ) (outcome : Outcome) (m0 m1 : Machine R) : Type 0 where
+  pub body : List ℕ
+  pub appends : Appends written0 written1 body
+  pub step : Step state m0 m1 text (record { outcome = outcome; bytes = body ++ closing_line outcome })
+
+-- the engine was stopped in the statement of this text, and a first part of its header and rows was printed
+pub record CutStep {R : Type 0} (state : R → RevState) (m0 m1 : Machine R) (text : List ℕ) (stop : Stop) (bytes : List ℕ) : Type 0 where
+  pub stmt : Stmt
+  pub ran : Ran state (skeleton stmt) (Err stop) m0.engine m0.store m1.engine m1.store
+  pub events : List Event
+  pub printed : IsCutOf bytes (events_text events)
+
+-- these texts were answered, in order
+unfoldable pub Steps : {R : Type 0} → (R → RevState) → Machine R → Machine R → List (List ℕ) → List Answer → Type 0
+Steps state m0 m2 [] answers = (m2 ≡ m0) × (answers ≡ [])
+Steps {R = R} state m0 m2 (text ∷ texts) answers =
+    (m1 : Machine R) × (one : Answer) × (more : List Answer) × (answers ≡ one ∷ more) × Step state m0 m1 text one × Steps state m1 m2 texts more
+
+unfoldable pub printed : List Answer → List ℕ
+printed [] = []
+printed (answer ∷ answers) = answer.bytes ++ printed answers
+
+unfoldable pub any_refused : List Answer → Bool
+any_refused [] = false
+any_refused (answer ∷ answers) = is_refused answer.outcome || any_refused answers
+
+-- it stopped at a sink's fault
+abbrev pub IsSinkFault : Stop → Type 0
+IsSinkFault (Tampered region place) = ⊥
+IsSinkFault SourceFault = ⊥
+IsSinkFault SinkFault = Unit {0}
+IsSinkFault NoMemory = ⊥
+IsSinkFault InputLimit = ⊥
+
+-- nothing was done
+pub record Rests {R : Type 0} (m0 m1 : Machine R) (bytes : List ℕ) : Type 0 where
+  pub machine : m1 ≡ m0
+  pub none : bytes ≡ []
+
+-- it was answered, and a sink failed within its last line or after it
+pub record Finished {R : Type 0} (state : R → RevState) (m0 m1 : Machine R) (text : List ℕ) (stop : Stop) (bytes : List ℕ) : Type 0 where
+  pub answer : Answer
+  pub step : Step state m0 m1 text answer
+  pub whole : bytes ≡ answer.bytes
+  pub fault : IsSinkFault stop
+
+-- what a stop left of the first of these texts
+abbrev pub PartlyAt : {R : Type 0} → (R → RevState) → Machine R → Machine R → List (List ℕ) → Stop → List ℕ → Type 0
+PartlyAt state m0 m1 [] stop bytes = Rests m0 m1 bytes
+PartlyAt state m0 m1 (text ∷ texts) stop bytes =
+    Rests m0 m1 bytes ⊎ (CutStep state m0 m1 text stop bytes ⊎ Finished state m0 m1 text stop bytes)
+
+-- a sink took the answers of these texts, of which the flag tells whether one was a refusal, now or before
+pub record AnswersAll {R : Type 0} (state : R → RevState) (written0 written1 : Option (List ℕ)) (texts : List (List ℕ)) (refused0 refused1 : Bool)
+    (m0 m1 : Machine R) : Type 0 where
+  pub answers : List Answer
+  pub steps : Steps state m0 m1 texts answers
+  pub appends : Appends written0 written1 (printed answers)
+  pub flag : refused1 ≡ (refused0 || any_refused answers)
+
+-- a stop came within the first of these texts, or before it
+pub record StopsIn {R : Type 0} (state : R → RevState) (written0 written1 : Option (List ℕ)) (texts : List (List ℕ)) (stop : Stop)
+    (m0 m1 : Machine R) : Type 0 where
+  pub bytes : List ℕ
+  pub partly : PartlyAt state m0 m1 texts stop bytes
+  pub cut : Cut written0 written1 (IsSinkFault stop) bytes

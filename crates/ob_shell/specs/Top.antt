@@ -1,0 +1,215 @@
+-- What a whole run promises, by its words and the bytes that its source gave.
+use Rattle.std.specs.Prelude.{ℕ, ◌≡◌, ◌+◌, ◌<◌, ◌≤◌, ◌⊎◌, Bool, true, false, List, [], ◌++◌, length, Option, Some, None, IsSome, Result, Ok, Err}
+use Rattle.std.specs.Io.KnownBytes.{Consumes, IsAtEnd}
+use Rattle.clap.specs.Words.{Text}
+use Rattle.ob_base.specs.Counts.{Rises}
+use Rattle.ob_base.specs.declared.refusal.Stop.{Stop}
+use Rattle.ob_base.specs.declared.refusal.Stop.TheVariants.{Tampered, SourceFault, SinkFault, NoMemory, InputLimit}
+use Rattle.ob_exec.specs.Agreeing.{high_of}
+use Rattle.ob_exec.specs.declared.engine.Engine.{Engine}
+use Rattle.ob_print.specs.Cuts.{Cut}
+use Rattle.ob_store.specs.State.{StoreState}
+use Rattle.ob_vault.specs.State.{RevState}
+use Rattle.ob_shell.specs.Tracing.{Traced}
+use Rattle.ob_shell.specs.Usage.{Parses, is_traced}
+use Rattle.ob_shell.specs.Texts.{is_over, rest_of, texts_in}
+use Rattle.ob_shell.specs.Feeding.{Fetch}
+use Rattle.ob_shell.specs.KeyLine.{line_max, has_lf, first_line, after_line, secret_of, LineTaken}
+use Rattle.ob_shell.specs.Steps.{Machine, machine_of, Answer, Steps, Rests, printed}
+use Rattle.ob_shell.specs.Running.{Faults, SinksRose, NoneRose, LastPart, FlagIs, EndsBy, SinkFailed, StopCause}
+use Rattle.ob_shell.specs.Endings.{status_of, last_line}
+use Rattle.ob_shell.specs.declared.top.Ending.{Ending}
+use Rattle.ob_shell.specs.declared.top.Ending.TheVariants.{Usage, BadKey, Ran}
+use Rattle.ob_shell.specs.declared.top.Report.{Report}
+
+-- what the last part did, by the ending
+abbrev pub EndingPart : {R : Type 0} → (R → RevState) → Machine R → Machine R → List (List ℕ) → List ℕ → Ending → Type 0
+EndingPart state m1 m2 more part Usage = Rests m1 m2 part
+EndingPart state m1 m2 more part BadKey = Rests m1 m2 part
+EndingPart state m1 m2 more part (Ran ran) = LastPart state m1 m2 more part ran
+
+-- no engine was started
+pub record Unstarted (store0 store1 : StoreState) (high : ℕ) (served : List (List ℕ)) (answers : List Answer) (part : List ℕ) : Type 0 where
+  pub store : store1 ≡ store0
+  pub closed : high ≡ 0
+  pub unserved : served ≡ []
+  pub unanswered : answers ≡ []
+  pub none : part ≡ []
+
+-- an engine was started with this secret, and served these texts
+pub record Started {R : Type 0} (state : R → RevState) (secret : Option (List ℕ)) (store0 store1 : StoreState) (high : ℕ) (served more : List (List ℕ)) (answers : List Answer)
+    (part : List ℕ) (ending : Ending) : Type 0 where
+  pub key : List ℕ
+  pub keyed : secret ≡ Some key
+  pub first : Engine R
+  pub middle : Machine R
+  pub last : Engine R
+  pub steps : Steps state (machine_of first store0) middle served answers
+  pub rest : EndingPart state middle (machine_of last store1) more part ending
+  pub rows_open : high ≡ high_of last
+
+-- what the texts did to an engine and the store
+abbrev pub Carried : {R : Type 0} (state : R → RevState) (secret : Option (List ℕ)) (store0 store1 : StoreState) (high : ℕ) (served more : List (List ℕ)) (answers : List Answer)
+    (part : List ℕ) → Ending → Type 0
+Carried state secret store0 store1 high served more answers part ending =
+    Unstarted store0 store1 high served answers part ⊎ Started state secret store0 store1 high served more answers part ending
+
+-- what was done after the first line, which was this secret
+pub record RanAfter {R : Type 0} (state : R → RevState) (secret : Option (List ℕ)) (feed0 feed1 : Fetch) (left0 left1 written0 written1 : Option (List ℕ))
+    (store0 store1 : StoreState) (high : ℕ) (result : Result Bool Stop) : Type 0 where
+  pub piece : List ℕ
+  pub consumed : Consumes left0 left1 piece
+  pub taken : feed1.taken ≡ feed0.taken + length piece
+  pub limit : feed1.limit ≡ feed0.limit
+  pub ended : Bool
+  pub at_end : ended ≡ true → IsAtEnd left1
+  pub served : List (List ℕ)
+  pub more : List (List ℕ)
+  pub texts : texts_in ended (feed0.unread ++ piece) ≡ served ++ more
+  pub answers : List Answer
+  pub part : List ℕ
+  pub carried : Carried state secret store0 store1 high served more answers part (Ran result)
+  pub cut : Cut written0 written1 (SinkFailed result) (printed answers ++ part)
+  pub flag : FlagIs answers result
+  pub ends : EndsBy feed1 ended (feed0.unread ++ piece) more part result
+
+-- the first line is a secret
+abbrev pub HasSecret : List ℕ → Type 0
+HasSecret taken = IsSome (secret_of (first_line taken))
+
+-- of the texts nothing is left
+pub record AllServed (more : List (List ℕ)) (part : List ℕ) : Type 0 where
+  pub no_more : more ≡ []
+  pub no_part : part ≡ []
+
+-- the input was read to its end, within its limits, and all of it was served
+pub record ReadWhole (max : ℕ) (taken : List ℕ) (ended : Bool) (more : List (List ℕ)) (part : List ℕ) : Type 0 where
+  pub secret : HasSecret taken
+  pub whole : ended ≡ true
+  pub all : AllServed more part
+  pub short : is_over (rest_of [] (after_line taken)) ≡ false
+  pub within : length taken < max
+
+-- the source failed after these bytes, and all of them was served
+pub record ReadUntilFault (taken : List ℕ) (ended : Bool) (more : List (List ℕ)) (part : List ℕ) : Type 0 where
+  pub line : HasSecret taken ⊎ ((has_lf taken ≡ false) × (length taken < line_max))
+  pub cut : ended ≡ false
+  pub all : AllServed more part
+  pub short : is_over (rest_of [] (after_line taken)) ≡ false
+
+-- a text, or the whole input, has come to its limit, and all that was taken was served
+pub record ReadToLimit (max : ℕ) (taken : List ℕ) (ended : Bool) (more : List (List ℕ)) (part : List ℕ) : Type 0 where
+  pub secret : HasSecret taken
+  pub cut : ended ≡ false
+  pub all : AllServed more part
+  pub limit : (is_over (rest_of [] (after_line taken)) ≡ true) ⊎ (length taken ≡ max)
+
+-- what the answer of a session says of the bytes taken
+abbrev pub RanSays : Result Bool Stop → (max : ℕ) (taken : List ℕ) (ended : Bool) (more : List (List ℕ)) (part : List ℕ) → Type 0
+RanSays (Ok refused) max taken ended more part = ReadWhole max taken ended more part
+RanSays (Err (Tampered region place)) max taken ended more part = HasSecret taken
+RanSays (Err SourceFault) max taken ended more part = ReadUntilFault taken ended more part
+RanSays (Err SinkFault) max taken ended more part = HasSecret taken
+RanSays (Err NoMemory) max taken ended more part = Unit {0}
+RanSays (Err InputLimit) max taken ended more part = ReadToLimit max taken ended more part
+
+-- what each ending says of the bytes taken, where the words were taken
+abbrev pub EndingSays : Ending → (max : ℕ) (taken : List ℕ) (left1 : Option (List ℕ)) (ended : Bool) (more : List (List ℕ)) (part : List ℕ) → Type 0
+EndingSays Usage max taken left1 ended more part = taken ≡ []
+EndingSays BadKey max taken left1 ended more part = (secret_of (first_line taken) ≡ None) × LineTaken taken left1
+EndingSays (Ran ran) max taken left1 ended more part = RanSays ran max taken ended more part
+
+-- the words are none that the program takes exactly where it says so, if memory suffices
+abbrev pub RanWords : Result Bool Stop → Type 0 → Type 0
+RanWords (Ok refused) Takes = Takes
+RanWords (Err (Tampered region place)) Takes = Takes
+RanWords (Err SourceFault) Takes = Takes
+RanWords (Err SinkFault) Takes = Takes
+RanWords (Err NoMemory) Takes = Unit {0}
+RanWords (Err InputLimit) Takes = Takes
+
+abbrev pub EndingWords : Ending → Type 0 → Type 0
+EndingWords Usage Takes = ¬ Takes
+EndingWords BadKey Takes = Takes
+EndingWords (Ran ran) Takes = RanWords ran Takes
+
+-- the answers tell whether a text was refused
+abbrev pub EndingFlag : Ending → List Answer → Type 0
+EndingFlag Usage answers = Unit {0}
+EndingFlag BadKey answers = Unit {0}
+EndingFlag (Ran ran) answers = FlagIs answers ran
+
+-- which counts rose, before the last line
+abbrev pub EndingCause : Ending → (old new : Faults) → Type 0
+EndingCause Usage old new = NoneRose old new
+EndingCause BadKey old new = NoneRose old new
+EndingCause (Ran ran) old new = StopCause old new ran
+
+-- which counts rose in the whole run: with a stop before, those of the sinks may have risen at the last lines, too
+abbrev pub StatusCause : Ending → (old new : Faults) → Type 0
+StatusCause Usage old new = new.source ≡ old.source
+StatusCause BadKey old new = new.source ≡ old.source
+StatusCause (Ran (Ok refused)) old new = NoneRose old new
+StatusCause (Ran (Err (Tampered region place))) old new = new.source ≡ old.source
+StatusCause (Ran (Err SourceFault)) old new = Rises old.source new.source
+StatusCause (Ran (Err SinkFault)) old new = (new.source ≡ old.source) × SinksRose old new
+StatusCause (Ran (Err NoMemory)) old new = new.source ≡ old.source
+StatusCause (Ran (Err InputLimit)) old new = new.source ≡ old.source
+
+-- what was taken, what of it was served, and what the sink took of the answers and the last line
+pub record Shown {R : Type 0} (state : R → RevState) (max : ℕ) (left0 left1 written0 written1 : Option (List ℕ)) (store0 store1 : StoreState) (high : ℕ)
+    (ending : Ending) (line : List ℕ) (Fault : Type 0) : Type 0 where
+  pub taken : List ℕ
+  pub given : Consumes left0 left1 taken
+  pub within : length taken ≤ max
+  pub ended : Bool
+  pub at_end : ended ≡ true → IsAtEnd left1
+  pub served : List (List ℕ)
+  pub more : List (List ℕ)
+  pub texts : texts_in ended (after_line taken) ≡ served ++ more
+  pub answers : List Answer
+  pub part : List ℕ
+  pub carried : Carried state (secret_of (first_line taken)) store0 store1 high served more answers part ending
+  pub grew : Cut written0 written1 Fault ((printed answers ++ part) ++ line)
+  pub flag : EndingFlag ending answers
+  pub says : EndingSays ending max taken left1 ended more part
+
+-- an input that keeps to the limits: its first line is a secret, and neither it nor a text of it is too long
+pub record KeepsLimits (max : ℕ) (input : List ℕ) : Type 0 where
+  pub secret : HasSecret input
+  pub short : length input < max
+  pub texts : is_over (rest_of [] (after_line input)) ≡ false
+
+-- the input was read to its end, or memory was wanting, or a block was not what was written there
+abbrev pub IsCompleted : Ending → Type 0
+IsCompleted Usage = ⊥
+IsCompleted BadKey = ⊥
+IsCompleted (Ran (Ok refused)) = Unit {0}
+IsCompleted (Ran (Err (Tampered region place))) = Unit {0}
+IsCompleted (Ran (Err SourceFault)) = ⊥
+IsCompleted (Ran (Err SinkFault)) = ⊥
+IsCompleted (Ran (Err NoMemory)) = Unit {0}
+IsCompleted (Ran (Err InputLimit)) = ⊥
+
+-- the whole run
+pub record Reported {R : Type 0} (state : R → RevState) (words : List Text) (max : ℕ) (left0 left1 written0 written1 : Option (List ℕ)) (store0 store1 : StoreState)
+    (old new : Faults) (report : Report) : Type 0 where
+  pub ending : Ending
+  pub status : report.status ≡ status_of ending
+  pub takes : EndingWords ending (Parses words)
+  pub shown : Shown state max left0 left1 written0 written1 store0 store1 report.high ending (last_line ending) (SinksRose old new)
+  pub cause : StatusCause ending old new
+  pub completes : Parses words → (input : List ℕ) → left0 ≡ Some input → KeepsLimits max input
+      → ¬ Rises old.source new.source → ¬ SinksRose old new → IsCompleted ending
+
+-- the whole run over a store that never fails, tells what it holds and gives what was written
+pub record InMemory {R : Type 0} (state : R → RevState) (words : List Text) (max : ℕ)
+    (left0 left1 written0 written1 traced0 traced1 : Option (List ℕ)) (old new : Faults) (report : Report) : Type 0 where
+  pub store0 : StoreState
+  pub store1 : StoreState
+  pub fresh : store0.asked ≡ []
+  pub tells : store0.tells ≡ true
+  pub sound : store1.faults ≡ 0
+  pub honest : store1.lie ≡ None
+  pub reported : Reported state words max left0 left1 written0 written1 store0 store1 old new report
+  pub traced : Traced (is_traced words) store0.asked store1.asked traced0 traced1 (SinksRose old new)

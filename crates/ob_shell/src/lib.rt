@@ -1,0 +1,20 @@
+//! From the bytes of the input to the bytes of the answers.
+#![tactic(auto)]
+
+mod feed;
+mod key;
+mod pending;
+mod session;
+mod statement;
+mod top;
+mod trace;
+mod words;
+
+pub use feed::{Feed, Halt};
+pub use key::{FirstLine, read_key};
+pub use pending::{Grown, Pending, PushStop};
+pub use session::{Halted, serve};
+pub use statement::{ParseErr, parse};
+pub use top::{Ended, Ending, Report, meddle_top, shell_top};
+pub use trace::trace_from;
+pub use words::{Words, WordsErr, read_words};

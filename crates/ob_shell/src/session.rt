@@ -1,0 +1,384 @@
+//! The texts of an input, each served as soon as it has come.
+ghost use Rattle.std.specs.Prelude.{◌≡◌, ◌<◌, ◌≤◌, ◌++◌, ℕ, List, [], ◌∷◌, Bool, true, false, Ok, Err, length, OnOk, OnErr, IfOk, IfErr, codes, decimal};
+ghost use Rattle.ob_base.specs.declared.access.Access.{Access};
+ghost use Rattle.ob_exec.specs.Serving.{IsServed};
+ghost use Rattle.ob_shell.specs.Texts.{text_max, is_over, rest_after, texts_at, tail_text};
+ghost use Rattle.ob_shell.specs.Steps.{machine_of, IsReady, HasBody, AnswersAll, StopsIn};
+ghost use Rattle.ob_shell.specs.Running.{StopCause, SessionRan, SinkFailed, SinksRose, IsQuiet, stop_of};
+ghost use Rattle.ob_shell.specs.Tracing.{TracedAll, Traced};
+ghost use Rattle.ob_shell.specs.Closing;
+
+use crate::feed::{Feed, Halt};
+use crate::pending::{Grown, Pending, PushStop};
+use crate::statement::{ParseErr, parse};
+use crate::trace::trace_from;
+use ob_base::{Failed, Refusal, Stop};
+use ob_exec::{Engine, Outcome};
+use ob_io::{Sink, Source};
+use ob_print::{Line, Printer, refusal_line, write_all};
+use ob_sql::Stmt;
+use ob_store::BlockStore;
+use ob_vault::Revisions;
+use std::alloc::Global;
+
+/// A stop, and whether its line may not be written any more.
+#[derive(Clone, Copy, Debug, PartialEq, Eq)]
+pub struct Halted {
+    pub stop: Stop,
+    pub quiet: bool,
+}
+
+/// What a session knows beside the state of its engine.
+#[derive(Drop)]
+pub struct Session {
+    pub pending: Pending,
+    pub refused: bool,
+}
+
+fn printed_refusal(refusal: Refusal) -> Refusal
+    ensures { result ≡ Closing.printed_refusal refusal }
+{
+    match refusal {
+        Refusal::NameTaken
+        | Refusal::NoColumn
+        | Refusal::WrongType
+        | Refusal::ValueRange
+        | Refusal::Limit
+        | Refusal::KeyRule
+        | Refusal::JoinKey => Refusal::Syntax(0),
+        other => other,
+    }
+}
+
+fn served_as(outcome: Outcome) -> Outcome
+    ensures { result ≡ Closing.served_as outcome }
+{
+    match outcome {
+        Outcome::Refused(refusal) => Outcome::Refused(printed_refusal(refusal)),
+        other => other,
+    }
+}
+
+fn is_refused(outcome: Outcome) -> bool
+    ensures { result ≡ Closing.is_refused outcome }
+{
+    matches!(outcome, Outcome::Refused(_))
+}
+
+fn closing_line(outcome: Outcome) -> Line
+    ensures { result ≡ Closing.closing_line outcome }
+{
+    match outcome {
+        Outcome::Created => Line::new(b"= created\n"),
+        Outcome::Inserted => Line::new(b"= inserted\n"),
+        Outcome::Changed(n) => counted_line(n, b"updated\n"),
+        Outcome::Deleted(n) => counted_line(n, b"deleted\n"),
+        Outcome::Dropped => Line::new(b"= dropped\n"),
+        Outcome::Rows(_) => Line::new(b""),
+        Outcome::Refused(refusal) => refusal_line(refusal),
+    }
+}
+
+fn counted_line(n: u64, what: &[u8]) -> Line
+    requires { length what.now ≤ 16 }
+    ensures { result ≡ codes "= " ++ (decimal n ++ (codes " " ++ what.now)) }
+{
+    let mut line = Line::new(b"= ");
+    line.push_number(n, b" ");
+    line.push(what);
+    line
+}
+
+// Runs one statement, whose text this is, and prints its header and rows.
+fn run_stmt<R: Revisions, S: BlockStore, K: Sink>(
+    engine: &mut Engine<R>,
+    store: &mut S,
+    text: &[u8],
+    stmt: &Stmt,
+    printer: &mut Printer<'_, K>,
+) -> Result<Outcome, Stop>
+    requires served { IsServed stmt.now }
+    requires ready { IsReady R.state (machine_of engine.old (S.state store.old)) }
+    ensures same_sink { printer.new.out.ghost_name ≡ printer.old.out.ghost_name }
+    ensures ready { OnOk result (IsReady R.state (machine_of engine.new (S.state store.new))) }
+    ensures answered { IfOk result (λ outcome. HasBody R.state (K.written printer.old.out.now) (K.written printer.new.out.now) text.now outcome
+        (machine_of engine.old (S.state store.old)) (machine_of engine.new (S.state store.new))) }
+    ensures stopped { IfErr result (λ stop. StopsIn R.state (K.written printer.old.out.now) (K.written printer.new.out.now) (text.now ∷ []) stop
+        (machine_of engine.old (S.state store.old)) (machine_of engine.new (S.state store.new))) }
+    ensures asked { (seen : List Access) × ((S.state store.new).asked ≡ (S.state store.old).asked ++ seen) }
+    ensures cause { StopCause record { source = 0; out = K.faults printer.old.out.now; trace = 0 }
+        record { source = 0; out = K.faults printer.new.out.now; trace = 0 } result }
+    ensures limit { result ≡ Err Stop.InputLimit → ⊥ }
+    ensures source { result ≡ Err Stop.SourceFault → ⊥ }
+{
+    match engine.run(store, stmt, printer) {
+        Ok(outcome) => Ok(served_as(outcome)),
+        Err(stop) => Err(stop),
+    }
+}
+
+// Answers one text but for its closing line.
+fn run_text<R: Revisions, S: BlockStore, K: Sink>(
+    alloc: Global,
+    engine: &mut Engine<R>,
+    store: &mut S,
+    text: &[u8],
+    out: &mut K,
+) -> Result<Outcome, Stop>
+    requires ready { IsReady R.state (machine_of engine.old (S.state store.old)) }
+    ensures ready { OnOk result (IsReady R.state (machine_of engine.new (S.state store.new))) }
+    ensures answered { IfOk result (λ outcome. HasBody R.state (K.written out.old) (K.written out.new) text.now outcome
+        (machine_of engine.old (S.state store.old)) (machine_of engine.new (S.state store.new))) }
+    ensures stopped { IfErr result (λ stop. StopsIn R.state (K.written out.old) (K.written out.new) (text.now ∷ []) stop
+        (machine_of engine.old (S.state store.old)) (machine_of engine.new (S.state store.new))) }
+    ensures asked { (seen : List Access) × ((S.state store.new).asked ≡ (S.state store.old).asked ++ seen) }
+    ensures cause { StopCause record { source = 0; out = K.faults out.old; trace = 0 } record { source = 0; out = K.faults out.new; trace = 0 } result }
+    ensures limit { result ≡ Err Stop.InputLimit → ⊥ }
+    ensures source { result ≡ Err Stop.SourceFault → ⊥ }
+{
+    let stmt = match parse(alloc, text) {
+        Ok(stmt) => stmt,
+        Err(ParseErr::Syntax) => return Ok(Outcome::Refused(Refusal::Syntax(0))),
+        Err(ParseErr::NoMemory) => return Err(Stop::NoMemory),
+    };
+    let mut printer = Printer { out, alloc };
+    run_stmt(engine, store, text, &stmt, &mut printer)
+}
+
+// Answers one text whole, with its closing line. The flag tells whether a text was refused so far.
+fn answer<R: Revisions, S: BlockStore, K: Sink>(
+    alloc: Global,
+    refused: bool,
+    engine: &mut Engine<R>,
+    store: &mut S,
+    text: &[u8],
+    out: &mut K,
+) -> Result<bool, Stop>
+    requires ready { IsReady R.state (machine_of engine.old (S.state store.old)) }
+    ensures ready { OnOk result (IsReady R.state (machine_of engine.new (S.state store.new))) }
+    ensures answered { IfOk result (λ flag. AnswersAll R.state (K.written out.old) (K.written out.new) (text.now ∷ []) refused flag
+        (machine_of engine.old (S.state store.old)) (machine_of engine.new (S.state store.new))) }
+    ensures stopped { IfErr result (λ stop. StopsIn R.state (K.written out.old) (K.written out.new) (text.now ∷ []) stop
+        (machine_of engine.old (S.state store.old)) (machine_of engine.new (S.state store.new))) }
+    ensures asked { (seen : List Access) × ((S.state store.new).asked ≡ (S.state store.old).asked ++ seen) }
+    ensures cause { StopCause record { source = 0; out = K.faults out.old; trace = 0 } record { source = 0; out = K.faults out.new; trace = 0 } result }
+    ensures limit { result ≡ Err Stop.InputLimit → ⊥ }
+    ensures source { result ≡ Err Stop.SourceFault → ⊥ }
+{
+    match run_text(alloc, engine, store, text, out) {
+        Err(stop) => Err(stop),
+        Ok(outcome) => match write_all(out, closing_line(outcome).as_bytes()) {
+            Ok(()) => Ok(refused | is_refused(outcome)),
+            Err(Failed) => Err(Stop::SinkFault),
+        },
+    }
+}
+
+// Answers one text whole, and then traces what it asked. After a sink's fault nothing more is written.
+fn answer_traced<R: Revisions, S: BlockStore, K: Sink, T: Sink>(
+    alloc: Global,
+    tracing: bool,
+    refused: bool,
+    engine: &mut Engine<R>,
+    store: &mut S,
+    text: &[u8],
+    out: &mut K,
+    trace: &mut T,
+) -> Result<bool, Halted>
+    requires ready { IsReady R.state (machine_of engine.old (S.state store.old)) }
+    ensures ready { OnOk result (IsReady R.state (machine_of engine.new (S.state store.new))) }
+    ensures answered { IfOk result (λ flag. AnswersAll R.state (K.written out.old) (K.written out.new) (text.now ∷ []) refused flag
+        (machine_of engine.old (S.state store.old)) (machine_of engine.new (S.state store.new))) }
+    ensures stopped { IfErr result (λ halted. StopsIn R.state (K.written out.old) (K.written out.new) (text.now ∷ []) halted.stop
+        (machine_of engine.old (S.state store.old)) (machine_of engine.new (S.state store.new))) }
+    ensures traced { OnOk result (TracedAll tracing (S.state store.old).asked (S.state store.new).asked (T.written trace.old) (T.written trace.new)) }
+    ensures traced_stop { OnErr result (Traced tracing (S.state store.old).asked (S.state store.new).asked (T.written trace.old) (T.written trace.new) (IsQuiet result)) }
+    ensures cause { StopCause record { source = 0; out = K.faults out.old; trace = T.faults trace.old }
+        record { source = 0; out = K.faults out.new; trace = T.faults trace.new } (stop_of result) }
+    ensures quiet { IsQuiet result → SinksRose record { source = 0; out = K.faults out.old; trace = T.faults trace.old }
+        record { source = 0; out = K.faults out.new; trace = T.faults trace.new } }
+    ensures limit { stop_of result ≡ Err Stop.InputLimit → ⊥ }
+    ensures source { stop_of result ≡ Err Stop.SourceFault → ⊥ }
+{
+    let mark = store.count();
+    match answer(alloc, refused, engine, store, text, out) {
+        Ok(flag) => match trace_from(tracing, store, mark, trace) {
+            Ok(()) => Ok(flag),
+            Err(Failed) => Err(Halted {
+                stop: Stop::SinkFault,
+                quiet: true,
+            }),
+        },
+        Err(Stop::SinkFault) => Err(Halted {
+            stop: Stop::SinkFault,
+            quiet: true,
+        }),
+        Err(stop) => match trace_from(tracing, store, mark, trace) {
+            Ok(()) => Err(Halted { stop, quiet: false }),
+            Err(Failed) => Err(Halted { stop, quiet: true }),
+        },
+    }
+}
+
+// Takes one byte, and serves the text that it ends.
+fn turn<R: Revisions, S: BlockStore, K: Sink, T: Sink>(
+    alloc: Global,
+    tracing: bool,
+    session: &mut Session,
+    b: u8,
+    engine: &mut Engine<R>,
+    store: &mut S,
+    out: &mut K,
+    trace: &mut T,
+) -> Result<(), Halted>
+    requires short { length session.old.pending < text_max }
+    requires ready { IsReady R.state (machine_of engine.old (S.state store.old)) }
+    ensures ready { OnOk result (IsReady R.state (machine_of engine.new (S.state store.new))) }
+    ensures pending { OnOk result ((session.new.pending ≡ rest_after session.old.pending b) × (length session.new.pending < text_max)) }
+    ensures answered { OnOk result (AnswersAll R.state (K.written out.old) (K.written out.new) (texts_at session.old.pending b)
+        session.old.refused session.new.refused (machine_of engine.old (S.state store.old)) (machine_of engine.new (S.state store.new))) }
+    ensures stopped { IfErr result (λ halted. StopsIn R.state (K.written out.old) (K.written out.new) (texts_at session.old.pending b) halted.stop
+        (machine_of engine.old (S.state store.old)) (machine_of engine.new (S.state store.new))) }
+    ensures traced { OnOk result (TracedAll tracing (S.state store.old).asked (S.state store.new).asked (T.written trace.old) (T.written trace.new)) }
+    ensures traced_stop { OnErr result (Traced tracing (S.state store.old).asked (S.state store.new).asked (T.written trace.old) (T.written trace.new) (IsQuiet result)) }
+    ensures cause { StopCause record { source = 0; out = K.faults out.old; trace = T.faults trace.old }
+        record { source = 0; out = K.faults out.new; trace = T.faults trace.new } (stop_of result) }
+    ensures quiet { IsQuiet result → SinksRose record { source = 0; out = K.faults out.old; trace = T.faults trace.old }
+        record { source = 0; out = K.faults out.new; trace = T.faults trace.new } }
+    ensures limit { stop_of result ≡ Err Stop.InputLimit →
+        (texts_at session.old.pending b ≡ []) × (is_over (rest_after session.old.pending b) ≡ true)
+        × AnswersAll R.state (K.written out.old) (K.written out.new) [] session.old.refused session.old.refused
+        (machine_of engine.old (S.state store.old)) (machine_of engine.new (S.state store.new)) }
+    ensures source { stop_of result ≡ Err Stop.SourceFault → ⊥ }
+{
+    match session.pending.push(b) {
+        Ok(Grown::More) => Ok(()),
+        Ok(Grown::Whole) => {
+            match answer_traced(
+                alloc,
+                tracing,
+                session.refused,
+                engine,
+                store,
+                session.pending.text(),
+                out,
+                trace,
+            ) {
+                Err(halted) => Err(halted),
+                Ok(refused) => {
+                    session.refused = refused;
+                    session.pending.clear();
+                    Ok(())
+                }
+            }
+        }
+        Err(PushStop::NoMemory) => Err(Halted {
+            stop: Stop::NoMemory,
+            quiet: false,
+        }),
+        Err(PushStop::InputLimit) => Err(Halted {
+            stop: Stop::InputLimit,
+            quiet: false,
+        }),
+    }
+}
+
+// Serves what has come of a text with no end, once no more comes.
+fn finish<R: Revisions, S: BlockStore, K: Sink, T: Sink>(
+    alloc: Global,
+    tracing: bool,
+    session: &Session,
+    engine: &mut Engine<R>,
+    store: &mut S,
+    out: &mut K,
+    trace: &mut T,
+) -> Result<bool, Halted>
+    requires { IsReady R.state (machine_of engine.old (S.state store.old)) }
+    ensures answered { IfOk result (λ flag. AnswersAll R.state (K.written out.old) (K.written out.new) (tail_text session.now.pending)
+        session.now.refused flag (machine_of engine.old (S.state store.old)) (machine_of engine.new (S.state store.new))) }
+    ensures stopped { IfErr result (λ halted. StopsIn R.state (K.written out.old) (K.written out.new) (tail_text session.now.pending) halted.stop
+        (machine_of engine.old (S.state store.old)) (machine_of engine.new (S.state store.new))) }
+    ensures traced { OnOk result (TracedAll tracing (S.state store.old).asked (S.state store.new).asked (T.written trace.old) (T.written trace.new)) }
+    ensures traced_stop { OnErr result (Traced tracing (S.state store.old).asked (S.state store.new).asked (T.written trace.old) (T.written trace.new) (IsQuiet result)) }
+    ensures cause { StopCause record { source = 0; out = K.faults out.old; trace = T.faults trace.old }
+        record { source = 0; out = K.faults out.new; trace = T.faults trace.new } (stop_of result) }
+    ensures quiet { IsQuiet result → SinksRose record { source = 0; out = K.faults out.old; trace = T.faults trace.old }
+        record { source = 0; out = K.faults out.new; trace = T.faults trace.new } }
+    ensures limit { stop_of result ≡ Err Stop.InputLimit → ⊥ }
+    ensures source { stop_of result ≡ Err Stop.SourceFault → ⊥ }
+{
+    let text = session.pending.text();
+    if text.is_empty() {
+        return Ok(session.refused);
+    }
+    answer_traced(
+        alloc,
+        tracing,
+        session.refused,
+        engine,
+        store,
+        text,
+        out,
+        trace,
+    )
+}
+
+/// Serves the texts that a feed brings, to its end or a stop. Tells whether one was refused.
+pub fn serve<I: Source, R: Revisions, S: BlockStore, K: Sink, T: Sink>(
+    alloc: Global,
+    tracing: bool,
+    feed: &mut Feed,
+    input: &mut I,
+    engine: &mut Engine<R>,
+    store: &mut S,
+    out: &mut K,
+    trace: &mut T,
+) -> Result<bool, Halted>
+    requires { IsReady R.state (machine_of engine.old (S.state store.old)) }
+    ensures ran { SessionRan R.state feed.old feed.new (I.left input.old) (I.left input.new) (K.written out.old) (K.written out.new)
+        (machine_of engine.old (S.state store.old)) (machine_of engine.new (S.state store.new)) (stop_of result) }
+    ensures within { feed.new.taken ≤ feed.new.limit }
+    ensures traced { Traced tracing (S.state store.old).asked (S.state store.new).asked (T.written trace.old) (T.written trace.new) (IsQuiet result) }
+    ensures cause { StopCause
+        record { source = I.faults input.old; out = K.faults out.old; trace = T.faults trace.old }
+        record { source = I.faults input.new; out = K.faults out.new; trace = T.faults trace.new } (stop_of result) }
+    ensures quiet { IsQuiet result → SinksRose
+        record { source = I.faults input.old; out = K.faults out.old; trace = T.faults trace.old }
+        record { source = I.faults input.new; out = K.faults out.new; trace = T.faults trace.new } }
+{
+    let mut session = Session {
+        pending: Pending::new(alloc),
+        refused: false,
+    };
+    'bytes: loop {
+        match feed.next(input) {
+            Err(Halt::SourceFault) => {
+                return Err(Halted {
+                    stop: Stop::SourceFault,
+                    quiet: false,
+                });
+            }
+            Err(Halt::InputLimit) => {
+                return Err(Halted {
+                    stop: Stop::InputLimit,
+                    quiet: false,
+                });
+            }
+            Ok(None) => return finish(alloc, tracing, &session, engine, store, out, trace),
+            Ok(Some(b)) => {
+                if let Err(halted) = turn(
+                    alloc,
+                    tracing,
+                    &mut session,
+                    b,
+                    engine,
+                    store,
+                    out,
+                    trace,
+                ) {
+                    return Err(halted);
+                }
+            }
+        }
+    }
+}

@@ -1,0 +1,268 @@
+//! The top calls.
+ghost use Rattle.std.specs.Prelude.{◌≡◌, ◌≢◌, ◌≤◌, ℕ, List, [], map, Ok, Err, Some, true, false, string_bytes};
+ghost use Rattle.ob_shell.specs.Usage.{Parses, is_traced};
+ghost use Rattle.ob_shell.specs.KeyLine.{secret_of};
+ghost use Rattle.ob_shell.specs.Running.{Faults, SinksRose, IsQuiet, stop_of, StopCause};
+ghost use Rattle.ob_shell.specs.Tracing.{Traced};
+ghost use Rattle.ob_shell.specs.Endings;
+ghost use Rattle.ob_shell.specs.Endings.{SinkStopped};
+ghost use Rattle.ob_shell.specs.Top.{Shown, RanAfter, EndingCause, EndingWords, Reported, InMemory};
+
+use crate::feed::{Feed, Halt};
+use crate::key::{FirstLine, read_key};
+use crate::session::{Halted, serve};
+use crate::words::{WordsErr, read_words};
+use ob_base::{Config, Stop};
+use ob_exec::Engine;
+use ob_io::{Sink, Source};
+use ob_print::{Line, stop_line, write_all};
+use ob_seal::Keys;
+use ob_store::{BlockStore, MemStore};
+use ob_vault::{BaseRevs, Revisions};
+use std::alloc::Global;
+
+/// The bytes of the input that are read, at most.
+const MAX_INPUT: u64 = 65_536;
+
+/// The settings of every run.
+const CONFIG: Config = Config {
+    buffer: 64,
+    depth: 5,
+    pack: 1,
+    plan: None,
+    max_input: MAX_INPUT,
+};
+
+/// How a run ended.
+#[derive(Clone, Copy, Debug, PartialEq, Eq)]
+pub enum Ending {
+    /// The words are none that the program takes.
+    Usage,
+    /// The first line is no secret.
+    BadKey,
+    /// The input was read to its end, with a refusal or without, or a stop came.
+    Ran(Result<bool, Stop>),
+}
+
+/// What a run comes to: its exit status, and the greatest number of rows that were open at once.
+#[derive(Clone, Copy, Debug, PartialEq, Eq)]
+pub struct Report {
+    pub status: u8,
+    pub high: u64,
+}
+
+/// How a run ended, whether its last line may not be written any more, and how many rows were open.
+#[derive(Clone, Copy, Debug, PartialEq, Eq)]
+pub struct Ended {
+    pub ending: Ending,
+    pub quiet: bool,
+    pub high: u64,
+}
+
+fn status_of(ending: Ending) -> u8
+    ensures { result ≡ Endings.status_of ending }
+{
+    match ending {
+        Ending::Usage | Ending::BadKey => 2,
+        Ending::Ran(Ok(false)) => 0,
+        Ending::Ran(Ok(true)) => 1,
+        Ending::Ran(Err(stop)) => match stop {
+            Stop::Tampered { .. } => 4,
+            Stop::SourceFault => 5,
+            Stop::SinkFault => 6,
+            Stop::NoMemory => 7,
+            Stop::InputLimit => 8,
+        },
+    }
+}
+
+fn last_line(ending: Ending) -> Line
+    ensures { result ≡ Endings.last_line ending }
+{
+    match ending {
+        Ending::Usage => Line::new(b"! usage\n"),
+        Ending::BadKey => Line::new(b"! key\n"),
+        Ending::Ran(Ok(_)) => Line::new(b""),
+        Ending::Ran(Err(stop)) => stop_line(stop),
+    }
+}
+
+// An end before any engine was started.
+fn ended_at(ending: Ending) -> Ended
+    ensures { result ≡ record { ending = ending; quiet = false; high = 0 } }
+{
+    Ended {
+        ending,
+        quiet: false,
+        high: 0,
+    }
+}
+
+// The end of a session.
+fn ended_with(ran: Result<bool, Halted>, high: u64) -> Ended
+    ensures ending { result.ending ≡ Ending.Ran (stop_of ran) }
+    ensures quiet { result.quiet ≡ true → IsQuiet ran }
+    ensures loud { IsQuiet ran → result.quiet ≡ true }
+    ensures high { result.high ≡ high }
+{
+    match ran {
+        Ok(refused) => Ended {
+            ending: Ending::Ran(Ok(refused)),
+            quiet: false,
+            high,
+        },
+        Err(halted) => Ended {
+            ending: Ending::Ran(Err(halted.stop)),
+            quiet: halted.quiet,
+            high,
+        },
+    }
+}
+
+// Starts an engine with this secret, and serves what follows the first line. Tells of the rows open, too.
+fn serve_with<I: Source, O: Sink, T: Sink, S: BlockStore>(
+    alloc: Global,
+    tracing: bool,
+    key: &[u8; 32],
+    feed: &mut Feed,
+    input: &mut I,
+    out: &mut O,
+    trace: &mut T,
+    store: &mut S,
+) -> (Result<bool, Halted>, u64)
+    requires taken { feed.old.taken ≤ feed.old.limit }
+    requires fresh { (S.state store.old).asked ≡ [] }
+    ensures ran { RanAfter ⟦<BaseRevs as Revisions>⟧.state (Some key.now) feed.old feed.new (I.left input.old) (I.left input.new) (O.written out.old) (O.written out.new)
+        (S.state store.old) (S.state store.new) result.1 (stop_of result.0) }
+    ensures within { feed.new.taken ≤ feed.new.limit }
+    ensures traced { Traced tracing (S.state store.old).asked (S.state store.new).asked (T.written trace.old) (T.written trace.new) (IsQuiet result.0) }
+    ensures cause { StopCause
+        record { source = I.faults input.old; out = O.faults out.old; trace = T.faults trace.old }
+        record { source = I.faults input.new; out = O.faults out.new; trace = T.faults trace.new } (stop_of result.0) }
+    ensures quiet { IsQuiet result.0 → SinksRose
+        record { source = I.faults input.old; out = O.faults out.old; trace = T.faults trace.old }
+        record { source = I.faults input.new; out = O.faults out.new; trace = T.faults trace.new } }
+{
+    match Engine::<BaseRevs>::start(alloc, CONFIG, Keys::derive(key)) {
+        Err(_) => {
+            let stop = Stop::NoMemory;
+            (Err(Halted { stop, quiet: false }), 0)
+        }
+        Ok(mut engine) => {
+            let ran = serve(alloc, tracing, feed, input, &mut engine, store, out, trace);
+            (ran, engine.high())
+        }
+    }
+}
+
+// Reads the first line and serves the texts: all but the last line.
+fn run<I: Source, O: Sink, T: Sink, S: BlockStore>(
+    alloc: Global,
+    tracing: bool,
+    input: &mut I,
+    out: &mut O,
+    trace: &mut T,
+    store: &mut S,
+) -> Ended
+    requires { (S.state store.old).asked ≡ [] }
+    ensures shown { Shown ⟦<BaseRevs as Revisions>⟧.state 65536 (I.left input.old) (I.left input.new) (O.written out.old) (O.written out.new)
+        (S.state store.old) (S.state store.new) result.high result.ending [] (SinkStopped result.ending) }
+    ensures words { result.ending ≢ Ending.Usage }
+    ensures traced { Traced tracing (S.state store.old).asked (S.state store.new).asked (T.written trace.old) (T.written trace.new) (result.quiet ≡ true) }
+    ensures cause { EndingCause result.ending
+        record { source = I.faults input.old; out = O.faults out.old; trace = T.faults trace.old }
+        record { source = I.faults input.new; out = O.faults out.new; trace = T.faults trace.new } }
+    ensures quiet { result.quiet ≡ true → SinksRose
+        record { source = I.faults input.old; out = O.faults out.old; trace = T.faults trace.old }
+        record { source = I.faults input.new; out = O.faults out.new; trace = T.faults trace.new } }
+{
+    let mut feed = Feed::new(MAX_INPUT);
+    match read_key(&mut feed, input) {
+        Err(Halt::SourceFault) => ended_at(Ending::Ran(Err(Stop::SourceFault))),
+        Err(Halt::InputLimit) => ended_at(Ending::Ran(Err(Stop::InputLimit))),
+        Ok(FirstLine::Bad) => ended_at(Ending::BadKey),
+        Ok(FirstLine::Last(_)) => ended_at(Ending::Ran(Ok(false))),
+        Ok(FirstLine::Secret(key)) => {
+            let (ran, high) = serve_with(alloc, tracing, &key, &mut feed, input, out, trace, store);
+            ended_with(ran, high)
+        }
+    }
+}
+
+// Reads the words and serves the input: all but the last line.
+fn run_words<I: Source, O: Sink, T: Sink, S: BlockStore>(
+    alloc: Global,
+    words: &[String],
+    input: &mut I,
+    out: &mut O,
+    trace: &mut T,
+    store: &mut S,
+) -> Ended
+    requires { (S.state store.old).asked ≡ [] }
+    ensures shown { Shown ⟦<BaseRevs as Revisions>⟧.state 65536 (I.left input.old) (I.left input.new) (O.written out.old) (O.written out.new)
+        (S.state store.old) (S.state store.new) result.high result.ending [] (SinkStopped result.ending) }
+    ensures takes { EndingWords result.ending (Parses (map string_bytes words.now)) }
+    ensures traced { Traced (is_traced (map string_bytes words.now)) (S.state store.old).asked (S.state store.new).asked
+        (T.written trace.old) (T.written trace.new) (result.quiet ≡ true) }
+    ensures cause { EndingCause result.ending
+        record { source = I.faults input.old; out = O.faults out.old; trace = T.faults trace.old }
+        record { source = I.faults input.new; out = O.faults out.new; trace = T.faults trace.new } }
+    ensures quiet { result.quiet ≡ true → SinksRose
+        record { source = I.faults input.old; out = O.faults out.old; trace = T.faults trace.old }
+        record { source = I.faults input.new; out = O.faults out.new; trace = T.faults trace.new } }
+{
+    match read_words(alloc, words) {
+        Err(WordsErr::Usage) => ended_at(Ending::Usage),
+        Err(WordsErr::NoMemory) => ended_at(Ending::Ran(Err(Stop::NoMemory))),
+        Ok(words) => run(alloc, words.trace, input, out, trace, store),
+    }
+}
+
+/// Serves the input over a store of which nothing was asked, and writes the answers and the last line; with
+/// `--trace` each access is traced. `words` leave out the program's name.
+pub fn shell_top<I: Source, O: Sink, T: Sink, S: BlockStore>(
+    alloc: Global,
+    words: &[String],
+    input: &mut I,
+    out: &mut O,
+    trace: &mut T,
+    store: &mut S,
+) -> Report
+    requires { (S.state store.old).asked ≡ [] }
+    ensures reported { Reported ⟦<BaseRevs as Revisions>⟧.state (map string_bytes words.now) 65536 (I.left input.old) (I.left input.new) (O.written out.old) (O.written out.new)
+        (S.state store.old) (S.state store.new)
+        record { source = I.faults input.old; out = O.faults out.old; trace = T.faults trace.old }
+        record { source = I.faults input.new; out = O.faults out.new; trace = T.faults trace.new } result }
+    ensures traced { Traced (is_traced (map string_bytes words.now)) (S.state store.old).asked (S.state store.new).asked
+        (T.written trace.old) (T.written trace.new) (SinksRose
+        record { source = I.faults input.old; out = O.faults out.old; trace = T.faults trace.old }
+        record { source = I.faults input.new; out = O.faults out.new; trace = T.faults trace.new }) }
+{
+    let ended = run_words(alloc, words, input, out, trace, store);
+    let report = Report {
+        status: status_of(ended.ending),
+        high: ended.high,
+    };
+    if ended.quiet {
+        return report;
+    }
+    let _ = write_all(out, last_line(ended.ending).as_bytes());
+    report
+}
+
+/// Serves the input over a store in memory of its own.
+pub fn meddle_top<I: Source, O: Sink, T: Sink>(
+    alloc: Global,
+    words: &[String],
+    input: &mut I,
+    out: &mut O,
+    trace: &mut T,
+) -> Report
+    ensures { InMemory ⟦<BaseRevs as Revisions>⟧.state (map string_bytes words.now) 65536 (I.left input.old) (I.left input.new)
+        (O.written out.old) (O.written out.new) (T.written trace.old) (T.written trace.new)
+        record { source = I.faults input.old; out = O.faults out.old; trace = T.faults trace.old }
+        record { source = I.faults input.new; out = O.faults out.new; trace = T.faults trace.new } result }
+{
+    let mut store = MemStore::new(alloc);
+    shell_top(alloc, words, input, out, trace, &mut store)
+}

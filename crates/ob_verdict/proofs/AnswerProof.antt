@@ -1,0 +1,183 @@
+-- What a SELECT of rows prints from its result is its answer.
+use Rattle.std.proofs.Common.{◌≡◌, ℕ, ◌<◌, Bool, true, false, List, [], ◌∷◌, map, length, refl, sym, ap, subst, cond, inl, inr, ◌⊎◌, ◌*◌, ◌≤◌, arith}
+use Rattle.std.proofs.lemmas.Bool.Decides.{Decides-eqb}
+use Rattle.std.specs.Prelude.{Option, Some, None, filter, not, bytes_eq, ◌==◌, is_some, nat_le}
+use Rattle.std.specs.Option.{option_map_or, option_map}
+use Rattle.ob_base.specs.declared.config.Public.{Public}
+use Rattle.ob_base.specs.declared.config.Plan.{Plan}
+use Rattle.ob_base.specs.declared.config.Plan.TheVariants.{Small, Large, Continuous, Hash}
+use Rattle.ob_base.specs.declared.refusal.Refusal.{Refusal}
+use Rattle.ob_base.specs.declared.refusal.Refusal.TheVariants.{Overflow, NotConsecutive}
+use Rattle.ob_base.specs.declared.schema.Heading.{Heading}
+use Rattle.ob_base.specs.declared.skeleton.Source.{Source}
+use Rattle.ob_base.specs.declared.skeleton.Source.TheVariants.{Table as OneTable, Join}
+use Rattle.ob_base.specs.Limits.{buffered, buffered_blocks}
+use Rattle.ob_base.specs.Plans.{choose}
+use Rattle.ob_base.specs.Schemas.{key_place}
+use Rattle.ob_base.specs.Stored.{Stored, headings, stored_at, heading_at}
+use Rattle.ob_row.specs.Bags.{Same}
+use Rattle.ob_row.specs.Rows.{Row, AreDistinct, pairs, keys_repeat}
+use Rattle.ob_row.specs.Truth.{is_true}
+use Rattle.ob_row.proofs.BagLemmas.{Same-refl, Same-trans, Same-map, Same-filter}
+use Rattle.ob_row.specs.Slots.{Slots, rows, selected, is_consecutive}
+use Rattle.ob_verdict.specs.Results.{result_slots, unplaced}
+use Rattle.ob_verdict.proofs.ResultLemmas.{rows-small_slots, rows-large_slots}
+use Rattle.ob_verdict.proofs.HashLemmas.{rows-hash_slots}
+use Rattle.ob_verdict.proofs.TurnLemmas.{rows-continuous_slots}
+use Rattle.ob_verdict.proofs.JoinLemmas.{rows-joined}
+use Rattle.ob_sql.specs.declared.stmt.Select.{Select}
+use Rattle.ob_sql.specs.declared.stmt.Stmt.TheVariants.{Select as SelectStmt}
+use Rattle.ob_sql.specs.Skeleton.{has_totals}
+use Rattle.ob_mean.specs.Names.{columns_at}
+use Rattle.ob_mean.specs.Refusals.{first_holding, early_conditions, early_refusal, is_key, joins_off_key_at}
+use Rattle.ob_mean.specs.Step.{rows_at, source_rows, join_places, or_else, select_columns, select_condition, printed_places}
+use Rattle.ob_row.specs.Totals.{printed}
+use Rattle.ob_verdict.specs.Verdict.{Tables, database, slots_at, source_slots, plan_for, bucket_size, first_unplaced, fallback, forced_refusal, rows_refusal, last_refusal, is_late}
+use Rattle.ob_verdict.specs.Laws.{last_plan, result_of, printed_rows, KeysAreDistinct, PrintsAnswer}
+use Rattle.ob_verdict.proofs.SettleProof.{headings-database}
+
+-- the plan finds a place for each of these
+abbrev PlanFits : Plan → ℕ → List ℕ → Type 0
+PlanFits Small n places = Unit {0}
+PlanFits Large n places = Unit {0}
+PlanFits Continuous n places = is_consecutive places ≡ true
+PlanFits Hash n places = unplaced (length places) n places ≡ None
+
+-- the rows of a result are the selected rows, where the plan finds a place for each
+result-same : (plan : Plan) (n : ℕ) (p : Row → Bool) (slots : Slots) → 0 < length (selected p slots) → PlanFits plan n (selected p slots) →
+    Same (filter p (rows slots)) (rows (result_slots plan (length (selected p slots)) n p slots))
+result-same Small n p slots h r = subst (λ w. Same (filter p (rows slots)) w) (sym (rows-small_slots p slots)) (Same-refl _)
+result-same Large n p slots h r = subst (λ w. Same (filter p (rows slots)) w) (sym (rows-large_slots p slots)) (Same-refl _)
+result-same Continuous n p slots h r = rows-continuous_slots (length (selected p slots)) p slots h (omega arith) r
+result-same Hash n p slots h r = rows-hash_slots (length (selected p slots)) n p slots h r
+
+consecutive : (b : Bool) → cond b None (Some NotConsecutive) ≡ None → b ≡ true
+consecutive true h = refl
+consecutive false h = cc
+
+no_overflow : (o : Option ℕ) → option_map Overflow o ≡ None → o ≡ None
+no_overflow None h = refl
+no_overflow (Some i) h = cc
+
+-- Continuous is planned for places that are consecutive, or forced, and then refuses others
+consecutive_if : (p : Public) (s n k : ℕ) (places : List ℕ) (forced : Option Plan) → choose forced s n k (is_consecutive places) ≡ Continuous →
+    forced_refusal p forced places ≡ None → is_consecutive places ≡ true
+consecutive_if p s n k places (Some Small) e r = absurd (cc)
+consecutive_if p s n k places (Some Large) e r = absurd (cc)
+consecutive_if p s n k places (Some Continuous) e r = consecutive (is_consecutive places) r
+consecutive_if p s n k places (Some Hash) e r = absurd (cc)
+consecutive_if p s n k places None e r = planned (nat_le k (4 * s)) (is_consecutive places) (nat_le (3 * n) (4 * k)) e where
+  planned : (a b c : Bool) → cond a Small (cond b Continuous (cond c Large Hash)) ≡ Continuous → b ≡ true
+  planned true b c e = absurd (cc)
+  planned false true c e = refl
+  planned false false true e = absurd (cc)
+  planned false false false e = absurd (cc)
+
+-- Hash that is forced refuses where it leaves a place out
+placed_if : (p : Public) (s n k : ℕ) (places : List ℕ) (forced : Option Plan) → choose forced s n k (is_consecutive places) ≡ Hash →
+    forced_refusal p forced places ≡ None → (forced ≡ None) ⊎ (first_unplaced p places ≡ None)
+placed_if p s n k places (Some Small) e r = absurd (cc)
+placed_if p s n k places (Some Large) e r = absurd (cc)
+placed_if p s n k places (Some Continuous) e r = absurd (cc)
+placed_if p s n k places (Some Hash) e r = inr (no_overflow (first_unplaced p places) r)
+placed_if p s n k places None e r = inl refl
+
+some_not_none : {A : Type 0} (x : A) → Some x ≡ None → ⊥
+some_not_none x e = cc
+
+-- after Hash, Small where it left a place out
+hash_fits : (n : ℕ) (places : List ℕ) (forced : Option Plan) (left : Option ℕ) → (forced ≡ None) ⊎ (left ≡ None) → (left ≡ None → PlanFits Hash n places) →
+    PlanFits (cond (is_some (fallback forced left)) Small Hash) n places
+hash_fits n places None None h fits = fits refl
+hash_fits n places None (Some i) h fits = tt
+hash_fits n places (Some x) None h fits = fits refl
+hash_fits n places (Some x) (Some i) (inl e) fits = absurd (some_not_none x e)
+hash_fits n places (Some x) (Some i) (inr e) fits = absurd (some_not_none i e)
+
+last_fits : (p : Public) (n : ℕ) (places : List ℕ) (plan : Plan) → plan_for p n places ≡ plan → forced_refusal p p.plan places ≡ None → PlanFits (last_plan p plan places) (bucket_size p) places
+last_fits p n places Small e r = tt
+last_fits p n places Large e r = tt
+last_fits p n places Continuous e r = consecutive_if p (buffered p.pack p.buffer) n (length places) places p.plan e r
+last_fits p n places Hash e r =
+    hash_fits (bucket_size p) places p.plan (first_unplaced p places) (placed_if p (buffered p.pack p.buffer) n (length places) places p.plan e r) (λ f. f)
+
+rows-slots_at : (name : List ℕ) (ts : Tables) → rows_at name (database ts) ≡ rows (slots_at name ts)
+rows-slots_at name [] = refl
+rows-slots_at name (t ∷ ts) =
+    elim (bytes_eq t.heading.name name) as (λ b. option_map_or (λ (x : Stored (List Row)). x.held) (cond b (Some (record { heading = t.heading; held = rows t.held })) (stored_at name (database ts))) [] ≡ rows (option_map_or (λ (x : Stored Slots). x.held) (cond b (Some t) (stored_at name ts)) []))
+    [ true ↦ refl | false ↦ rows-slots_at name ts ]
+
+keys-distinct : (name : List ℕ) (ts : Tables) → KeysAreDistinct ts → keys_repeat (key_place (columns_at name (headings ts))) (rows (slots_at name ts)) ≡ false
+keys-distinct name [] h = refl
+keys-distinct name (t ∷ ts) h =
+    elim (bytes_eq t.heading.name name) as (λ b. keys_repeat (key_place (option_map_or (λ (g : Heading). g.schema) (cond b (Some t.heading) (heading_at name (headings ts))) [])) (rows (option_map_or (λ (x : Stored Slots). x.held) (cond b (Some t) (stored_at name ts)) [])) ≡ false)
+    [ true ↦ h.0 | false ↦ keys-distinct name ts h.1 ]
+
+key_is : (o : Option ℕ) (i : ℕ) → option_map_or (λ j. i == j) o false ≡ true → o ≡ Some i
+key_is None i h = cc
+key_is (Some j) i h = ap Some (sym ((Decides-eqb i j).0 h))
+
+distinct_at : (name : List ℕ) (ts : Tables) (i : ℕ) → KeysAreDistinct ts → is_key (columns_at name (headings ts)) i ≡ true → AreDistinct i (rows (slots_at name ts))
+distinct_at name ts i h k =
+    subst (λ o. keys_repeat o (rows (slots_at name ts)) ≡ false) (key_is (key_place (columns_at name (headings ts))) i k) (keys-distinct name ts h)
+
+-- none of the conditions holds
+NoneHolds : List (Bool × Refusal) → Type 0
+NoneHolds [] = Unit {0}
+NoneHolds (x ∷ xs) = (x.0 ≡ false) × NoneHolds xs
+
+not_first : (b : Bool) (r : Refusal) (rest : Option Refusal) → cond b (Some r) rest ≡ None → (b ≡ false) × (rest ≡ None)
+not_first true r rest h = absurd (cc)
+not_first false r rest h = (refl, h)
+
+none_holds : (xs : List (Bool × Refusal)) → first_holding xs ≡ None → NoneHolds xs
+unfolding NoneHolds
+none_holds [] h = tt
+none_holds (x ∷ xs) h = let n = not_first x.0 x.1 (first_holding xs) h in (n.0, none_holds xs n.1)
+
+on_key : (b : Bool) (pack room : ℕ) (hs : List Heading) (q : Select) → early_refusal b pack room hs (SelectStmt q) ≡ None → joins_off_key_at hs q.source ≡ false
+unfolding NoneHolds
+on_key b pack room hs q h = (none_holds (early_conditions b pack room hs (SelectStmt q)) h).1.1.1.1.1.1.1.0
+
+not_false : (b : Bool) → not b ≡ false → b ≡ true
+not_false true h = refl
+not_false false h = cc
+
+source-same : (p : Public) (ts : Tables) (source : Source) → 1 ≤ p.pack → 1 ≤ buffered_blocks p.pack p.buffer → KeysAreDistinct ts → joins_off_key_at (headings ts) source ≡ false →
+    Same (source_rows source (database ts)) (rows (source_slots p source ts))
+source-same p ts (OneTable name) one h k j = subst (λ w. Same (rows_at name (database ts)) w) (rows-slots_at name ts) (Same-refl _)
+source-same p ts (Join a b on equals) one h k j =
+    let places = join_places (Join a b on equals) (headings ts) in
+    let distinct : AreDistinct places.0 (rows (slots_at a ts)) = distinct_at a ts places.0 k (not_false _ j) in
+    let e = headings-database ts in
+    subst (λ w. Same w (rows (source_slots p (Join a b on equals) ts)))
+    (λ t. pairs (join_places (Join a b on equals) (sym e t)).0 (join_places (Join a b on equals) (sym e t)).1 (sym (rows-slots_at a ts) t) (sym (rows-slots_at b ts) t))
+    (rows-joined places.0 places.1 p.pack p.buffer (slots_at a ts) (slots_at b ts) distinct one h)
+
+both_none : (a b : Option Refusal) → or_else a b ≡ None → (a ≡ None) × (b ≡ None)
+both_none None b h = (refl, h)
+both_none (Some x) b h = absurd (cc)
+
+not_empty : (p : Public) (places : List ℕ) → 0 < length places → rows_refusal p places ≡ None → forced_refusal p p.plan places ≡ None
+not_empty p [] h r = absurd (omega arith)
+not_empty p (i ∷ is) h r = r
+
+of_rows : (b : Bool) (r : Option Refusal) → b ≡ false → cond b None r ≡ None → r ≡ None
+of_rows true r h e = absurd (cc)
+of_rows false r h e = e
+
+pub prints_answer : PrintsAnswer
+prints_answer p m ts q one s k r t h =
+    let both = both_none _ (last_refusal p ts (SelectStmt q)) r in
+    let early = (both_none (early_refusal (is_late m) p.pack p.buffer (headings (database ts)) (SelectStmt q)) _ both.0).0 in
+    let key = on_key (is_late m) p.pack p.buffer (headings ts) q (subst (λ hs. early_refusal (is_late m) p.pack p.buffer hs (SelectStmt q) ≡ None) (headings-database ts) early) in
+    let slots = source_slots p q.source ts in
+    let test = is_true (select_condition q (headings ts)) in
+    let places = selected test slots in
+    let accepts = not_empty p places h (of_rows (has_totals q) _ t both.1) in
+    let plan = plan_for p (length slots) places in
+    let same : Same (filter test (source_rows q.source (database ts))) (rows (result_of p ts q)) =
+    Same-trans _ _ _ (Same-filter test _ _ (source-same p ts q.source one s k key))
+    (result-same (last_plan p plan places) (bucket_size p) test slots h (last_fits p (length slots) places plan refl accepts)) in
+    subst (λ hs. Same (map (printed (printed_places q (select_columns q hs))) (filter (is_true (select_condition q hs)) (source_rows q.source (database ts)))) (printed_rows p ts q)) (sym (headings-database ts))
+    (Same-map (printed (printed_places q (select_columns q (headings ts)))) _ _ same)

@@ -1,0 +1,12 @@
+pub mod SlotLemmas
+pub mod ResultLemmas
+pub mod JoinLemmas
+pub mod TurnLemmas
+pub mod HashLemmas
+pub mod SettleProof
+pub mod SeenProof
+pub mod LawfulProof
+pub mod AnswerProof
+pub mod Sessions
+pub mod TableSessions
+pub mod LongSessions

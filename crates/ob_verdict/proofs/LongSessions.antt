@@ -1,0 +1,91 @@
+-- Longer sessions, computed.
+use Rattle.std.proofs.Common.{◌≡◌, ℕ, zero, suc, List, [], ◌∷◌, ◌++◌, refl}
+use Rattle.std.specs.Prelude.{Option, Some, None, Ok, codes, pos}
+use Rattle.ob_base.specs.declared.access.Access.TheVariants.{Make, Read, Write, Discard}
+use Rattle.ob_base.specs.declared.config.Public.{Public}
+use Rattle.ob_base.specs.declared.config.Plan.TheVariants.{Small, Large, Hash}
+use Rattle.ob_base.specs.declared.seen.End.TheVariants.{Whole}
+use Rattle.ob_base.specs.declared.seen.Seen.{Seen}
+use Rattle.ob_base.specs.declared.shown.Shown.TheVariants.{Int as I}
+use Rattle.ob_base.specs.declared.skeleton.Source.TheVariants.{Table as OneTable, Join}
+use Rattle.ob_base.specs.Accesses.{makes}
+use Rattle.ob_row.specs.declared.pred.Order.TheVariants.{Equal, NotEqual, Greater, LessOrEqual}
+use Rattle.ob_sql.specs.declared.stmt.Listed.TheVariants.{Column as ListedColumn, CountAll, Sum}
+use Rattle.ob_sql.specs.declared.stmt.Stmt.TheVariants.{Create, Insert, Update, Delete, Drop as DropTable, Select as SelectStmt}
+use Rattle.ob_sql.specs.Search.{Search, Or}
+use Rattle.ob_mean.specs.declared.answer.Answer.TheVariants.{Done, Changed, Rows, Refused}
+use Rattle.ob_verdict.specs.Replay.{Spelt, Session, after_all, first_public, first_session, seen_now}
+use Rattle.ob_verdict.proofs.Sessions.{id, v, col, of_table, int, compare, column, insert, answers_of, asked_by, ints}
+
+abbrev g : List ℕ
+g = codes "g"
+
+abbrev h : List ℕ
+h = codes "h"
+
+abbrev from_g : Search → Spelt
+from_g c = Ok (SelectStmt (record { list = None; source = OneTable g; cond = Some c; group = None }))
+
+abbrev column_of_g : List ℕ → Search → Spelt
+column_of_g x c = Ok (SelectStmt (record { list = Some (ListedColumn (col x) ∷ []); source = OneTable g; cond = Some c; group = None }))
+
+-- the generated input of one row
+abbrev generated : List Spelt
+generated =
+    Ok (Create g (column id 1 ∷ column v 0 ∷ []) 1) ∷ insert g 1 7
+    ∷ from_g (compare v Equal 3) ∷ column_of_g id (compare id Greater 0) ∷ column_of_g v (compare v NotEqual 9)
+    ∷ Ok (SelectStmt (record { list = Some (ListedColumn (col v) ∷ CountAll ∷ []); source = OneTable g; cond = None; group = Some (col v) }))
+    ∷ Ok (Update g (record { column = v; value = int 10 } ∷ []) (Some (compare v Equal 1)))
+    ∷ Ok (Delete g (Some (compare v Equal 2)))
+    ∷ Ok (Create h (column (codes "k") 0 ∷ []) 4) ∷ Ok (Insert h None (int 1 ∷ []))
+    ∷ Ok (SelectStmt (record { list = None; source = Join g h (of_table g id) (of_table h (codes "k")); cond = None; group = None }))
+    ∷ Ok (SelectStmt (record { list = Some (CountAll ∷ Sum (col v) ∷ []); source = OneTable g; cond = None; group = None }))
+    ∷ Ok (DropTable g) ∷ Ok (DropTable h) ∷ []
+
+generated_answers : answers_of (first_public 64 5 1 None) generated ≡
+    Done ∷ Done ∷ Rows [] ∷ Rows (ints (1 ∷ []) ∷ []) ∷ Rows (ints (7 ∷ []) ∷ []) ∷ Rows (ints (7 ∷ 1 ∷ []) ∷ []) ∷ Changed 0 ∷ Changed 0 ∷ Done ∷ Done
+    ∷ Rows (ints (1 ∷ 7 ∷ 1 ∷ []) ∷ []) ∷ Rows (ints (1 ∷ 7 ∷ []) ∷ []) ∷ Done ∷ Done ∷ []
+unfolding makes
+generated_answers = refl
+
+generated_total : asked_by (first_public 64 5 1 None) generated ≡ 74
+unfolding makes
+generated_total = refl
+
+generated_by_large : asked_by (first_public 64 5 1 (Some Large)) generated ≡ 92
+unfolding makes
+generated_by_large = refl
+
+generated_by_hash : asked_by (first_public 64 5 1 (Some Hash)) generated ≡ 218
+unfolding makes
+generated_by_hash = refl
+
+generated_in_pairs : asked_by (first_public 64 5 2 None) generated ≡ 58
+unfolding makes
+generated_in_pairs = refl
+
+-- ---- Hash finds no bucket for a row, and Small is taken after it
+abbrev c : List ℕ
+c = codes "c"
+
+abbrev inserts : ℕ → List Spelt
+inserts zero = []
+inserts (suc n) = inserts n ++ Ok (Insert c None (int (suc n) ∷ [])) ∷ []
+
+abbrev thirteen : List Spelt
+thirteen = Ok (Create c (column id 1 ∷ []) 13) ∷ inserts 13
+
+abbrev nine_of_them : Spelt
+nine_of_them = Ok (SelectStmt (record { list = None; source = OneTable c; cond = Some (Or (compare id LessOrEqual 8) (compare id Equal 10)); group = None }))
+
+abbrev seen_in : Session → Spelt → Option Seen
+seen_in s (Ok stmt) = Some (seen_now s stmt)
+seen_in s _ = None
+
+fallback_seen : seen_in (after_all (first_session (first_public 4 1 1 None)) thirteen []) nine_of_them ≡ Some (record { k = Some 9; plan = Some Hash; then = Some Small; end = Whole })
+unfolding makes
+fallback_seen = refl
+
+fallback_total : asked_by (first_public 4 1 1 None) (thirteen ++ nine_of_them ∷ []) ≡ 730
+unfolding makes
+fallback_total = refl

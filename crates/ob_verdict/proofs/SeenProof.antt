@@ -1,0 +1,255 @@
+-- What the seen of a statement tells.
+use Rattle.std.proofs.Common.{◌≡◌, ℕ, Bool, true, false, List, [], ◌∷◌, length, refl, sym, ◌∙◌, ap, subst, cond}
+use Rattle.std.specs.Prelude.{Option, Some, None, not, is_some, ◌||◌, nat_le, ◌*◌}
+use Rattle.ob_base.specs.declared.config.Public.{Public}
+use Rattle.ob_base.specs.declared.config.Plan.{Plan}
+use Rattle.ob_base.specs.declared.config.Plan.TheVariants.{Small, Large, Continuous, Hash}
+use Rattle.ob_base.specs.declared.seen.Seen.{Seen}
+use Rattle.ob_base.specs.declared.seen.End.{End}
+use Rattle.ob_base.specs.declared.seen.End.TheVariants.{Static, Whole, AfterCount}
+use Rattle.ob_base.specs.declared.refusal.Refusal.{Refusal}
+use Rattle.ob_base.specs.declared.refusal.Refusal.TheVariants.{NotConsecutive, Duplicate, Full as FullTable, TooManyGroups, Overflow}
+use Rattle.ob_mean.specs.Step.{late_refusal, or_else, insert_refusal, new_row, Database, overgroups, select_columns, selected_rows}
+use Rattle.ob_base.specs.declared.schema.Column.{Column}
+use Rattle.ob_base.specs.declared.skeleton.ColumnName.{ColumnName}
+use Rattle.ob_verdict.proofs.SettleProof.{headings-database}
+use Rattle.ob_sql.specs.Skeleton.{is_aggregate, listed}
+use Rattle.std.specs.List.{list_any}
+use Rattle.ob_verdict.specs.Verdict.{database, refusal, last_refusal, rows_refusal, forced_refusal, first_unplaced, fallback, source_slots, selected_places}
+use Rattle.ob_base.specs.Plans.{choose}
+use Rattle.std.specs.Option.{option_map, option_map_or}
+use Rattle.ob_sql.specs.declared.stmt.Stmt.{Stmt}
+use Rattle.ob_sql.specs.declared.stmt.Stmt.TheVariants.{Create, Insert, Update, Delete, Drop as DropTable, Select as SelectStmt}
+use Rattle.ob_sql.specs.Skeleton.{has_totals}
+use Rattle.ob_row.specs.Slots.{is_consecutive}
+use Rattle.ob_verdict.specs.Verdict.{Tables, seen, seen_started, seen_rows, seen_with, ended, counted, is_late, plan_for}
+use Rattle.ob_mean.specs.Refusals.{early_refusal}
+use Rattle.ob_base.specs.Limits.{buffered}
+use Rattle.ob_base.specs.Stored.{Stored, headings, stored_at}
+use Rattle.ob_row.specs.Rows.{Row}
+use Rattle.ob_verdict.specs.Lawful.{is_counted}
+use Rattle.ob_verdict.specs.Laws.{IsStarted, ShowsKindAlone, PlanIsWhole, ForcedShowsAlike, ShowsNotConsecutive}
+
+seen-started : (p : Public) (m : ℕ) (ts : Tables) (stmt : Stmt) → IsStarted p m ts stmt → seen p m ts stmt ≡ seen_started p ts stmt
+seen-started p m ts stmt h = ap (λ r. cond (is_some r) (ended Static) (seen_started p ts stmt)) h
+
+totals_kind : (b : Bool) (rest : Seen) → not b ≡ false → cond b (ended Whole) rest ≡ ended Whole
+totals_kind true rest h = refl
+totals_kind false rest h = cc
+
+started-kind : (p : Public) (ts : Tables) (stmt : Stmt) → is_counted stmt ≡ false → seen_started p ts stmt ≡ ended Whole
+started-kind p ts (Create a b c) h = refl
+started-kind p ts (Insert a b c) h = refl
+started-kind p ts (Update a b c) h = refl
+started-kind p ts (Delete a b) h = refl
+started-kind p ts (DropTable a) h = refl
+started-kind p ts (SelectStmt q) h = totals_kind (has_totals q) _ h
+
+pub shows_kind_alone : ShowsKindAlone
+shows_kind_alone p m ts stmt h k = seen-started p m ts stmt h ∙ started-kind p ts stmt k
+
+-- a fact of both choices
+of_cond : (P : Seen → Type 0) (b : Bool) (x y : Seen) → P x → P y → P (cond b x y)
+of_cond P true x y h k = h
+of_cond P false x y h k = k
+
+PlanEnds : Seen → Type 0
+PlanEnds s = (x : Plan) → s.plan ≡ Some x → s.end ≡ Whole
+
+ended-plan : (end : End) → PlanEnds (ended end)
+unfolding PlanEnds
+ended-plan end x h = cc
+
+seen_with-plan : (p : Public) (plan : Plan) (places : List ℕ) → PlanEnds (seen_with p plan places)
+unfolding PlanEnds
+seen_with-plan p Small places = λ x h. refl
+seen_with-plan p Large places = λ x h. refl
+seen_with-plan p Continuous places = of_cond PlanEnds (is_consecutive places) _ _ (λ x h. refl) (λ x h. cc)
+seen_with-plan p Hash places = λ x h. refl
+
+seen_rows-plan : (p : Public) (n : ℕ) (places : List ℕ) → PlanEnds (seen_rows p n places)
+unfolding PlanEnds
+seen_rows-plan p n [] = λ x h. refl
+seen_rows-plan p n (i ∷ is) = seen_with-plan p (plan_for p n (i ∷ is)) (i ∷ is)
+
+started-plan : (p : Public) (ts : Tables) (stmt : Stmt) → PlanEnds (seen_started p ts stmt)
+started-plan p ts (Create a b c) = ended-plan Whole
+started-plan p ts (Insert a b c) = ended-plan Whole
+started-plan p ts (Update a b c) = ended-plan Whole
+started-plan p ts (Delete a b) = ended-plan Whole
+started-plan p ts (DropTable a) = ended-plan Whole
+started-plan p ts (SelectStmt q) = of_cond PlanEnds (has_totals q) _ _ (ended-plan Whole) (seen_rows-plan p _ _)
+
+pub plan_is_whole : PlanIsWhole
+unfolding PlanEnds
+plan_is_whole p m ts stmt = of_cond PlanEnds (is_some (early_refusal (is_late m) p.pack p.buffer (headings ts) stmt)) _ _ (ended-plan Static) (started-plan p ts stmt)
+
+NotSame : Option Refusal → Type 0
+NotSame r = r ≡ Some NotConsecutive → ⊥
+
+-- the end after the count and the refusal by rows stand together
+Shows : Seen → Option Refusal → Type 0
+Shows s r = (s.end ≡ AfterCount → r ≡ Some NotConsecutive) × (r ≡ Some NotConsecutive → s.end ≡ AfterCount)
+
+neither : (end : End) (r : Option Refusal) → (end ≡ AfterCount → ⊥) → NotSame r → Shows (ended end) r
+unfolding Shows NotSame
+neither end r h k = (λ e. absurd (h e), λ e. absurd (k e))
+
+insert-not : (a b : Bool) → NotSame (cond a (Some Duplicate) (cond b (Some FullTable) None))
+unfolding NotSame
+insert-not true b h = cc
+insert-not false true h = cc
+insert-not false false h = cc
+
+groups-not : (a : Bool) → NotSame (cond a (Some TooManyGroups) None)
+unfolding NotSame
+groups-not true h = cc
+groups-not false h = cc
+
+stored-not : (f : Stored (List Row) → Row) (o : Option (Stored (List Row))) → NotSame (option_map_or (λ t. insert_refusal t (f t)) o None)
+unfolding NotSame
+stored-not f None h = cc
+stored-not f (Some t) h = insert-not _ _ h
+
+late-not : (s : ℕ) (db : Database) (stmt : Stmt) → NotSame (late_refusal s db stmt)
+unfolding NotSame
+late-not s db (Create a b c) h = cc
+late-not s db (Insert table b c) h = stored-not (λ t. new_row t.heading.schema b c) (stored_at table db) h
+late-not s db (Update a b c) h = cc
+late-not s db (Delete a b) h = cc
+late-not s db (DropTable a) h = cc
+late-not s db (SelectStmt q) h = groups-not _ h
+
+-- a plan's refusal: Continuous where the places are not consecutive, and never another
+overflow-not : (o : Option ℕ) → NotSame (option_map Overflow o)
+unfolding NotSame
+overflow-not None h = cc
+overflow-not (Some i) h = cc
+
+continuous-shows : (b : Bool) (k : ℕ) → Shows (cond b (counted k (Some Continuous) None Whole) (counted k None None AfterCount)) (cond b None (Some NotConsecutive))
+unfolding Shows
+continuous-shows true k = (λ e. cc, λ e. cc)
+continuous-shows false k = (λ e. refl, λ e. refl)
+
+-- a plan that isn't forced is Continuous only where the places are consecutive
+unforced-shows : (p : Public) (places : List ℕ) (a d : Bool) → Shows (seen_with p (cond a Small (cond (is_consecutive places) Continuous (cond d Large Hash))) places) None
+unfolding Shows
+unforced-shows p places true d = (λ e. cc, λ e. cc)
+unforced-shows p places false d = go (is_consecutive places) refl where
+  last : (d : Bool) → Shows (seen_with p (cond d Large Hash) places) None
+  last true = (λ e. cc, λ e. cc)
+  last false = (λ e. cc, λ e. cc)
+
+  go : (c : Bool) → is_consecutive places ≡ c → Shows (seen_with p (cond c Continuous (cond d Large Hash)) places) None
+  go true e = subst (λ c. Shows (cond c (counted (length places) (Some Continuous) None Whole) (counted (length places) None None AfterCount)) None) (sym e) (λ e. cc, λ e. cc)
+  go false e = last d
+
+plan-shows : (p : Public) (s n k : ℕ) (places : List ℕ) (forced : Option Plan) → Shows (seen_with p (choose forced s n k (is_consecutive places)) places) (forced_refusal p forced places)
+unfolding Shows NotSame
+plan-shows p s n k places (Some Small) = (λ e. cc, λ e. cc)
+plan-shows p s n k places (Some Large) = (λ e. cc, λ e. cc)
+plan-shows p s n k places (Some Continuous) = continuous-shows (is_consecutive places) (length places)
+plan-shows p s n k places (Some Hash) = (λ e. cc, λ e. absurd (overflow-not (first_unplaced p places) e))
+plan-shows p s n k places None = unforced-shows p places (nat_le k (4 * s)) (nat_le (3 * n) (4 * k))
+
+rows-shows : (p : Public) (n : ℕ) (places : List ℕ) → Shows (seen_rows p n places) (rows_refusal p places)
+unfolding Shows
+rows-shows p n [] = (λ e. cc, λ e. cc)
+rows-shows p n (i ∷ is) = plan-shows p (buffered p.pack p.buffer) n (length (i ∷ is)) (i ∷ is) p.plan
+
+select-shows : (b : Bool) (s : Seen) (r : Option Refusal) → Shows s r → Shows (cond b (ended Whole) s) (cond b None r)
+unfolding Shows
+select-shows true s r h = (λ e. cc, λ e. cc)
+select-shows false s r h = h
+
+last-shows : (p : Public) (ts : Tables) (stmt : Stmt) → Shows (seen_started p ts stmt) (last_refusal p ts stmt)
+unfolding Shows
+last-shows p ts (Create a b c) = (λ e. cc, λ e. cc)
+last-shows p ts (Insert a b c) = (λ e. cc, λ e. cc)
+last-shows p ts (Update a b c) = (λ e. cc, λ e. cc)
+last-shows p ts (Delete a b) = (λ e. cc, λ e. cc)
+last-shows p ts (DropTable a) = (λ e. cc, λ e. cc)
+last-shows p ts (SelectStmt q) = select-shows (has_totals q) _ _ (rows-shows p (length (source_slots p q.source ts)) (selected_places p q ts))
+
+or_else_none : (a : Option Refusal) → a ≡ or_else a None
+or_else_none None = refl
+or_else_none (Some x) = refl
+
+groups-not-either : (b : Bool) → NotSame (or_else (cond b (Some TooManyGroups) None) None)
+unfolding NotSame
+groups-not-either true h = cc
+groups-not-either false h = cc
+
+-- too many groups, which shows nothing, or what the rows show
+grouped-shows : (a : Bool) (g : Option ColumnName) (s : ℕ) (cs : List Column) (rows : List Row) (x : Seen) (r : Option Refusal) → Shows x r →
+    Shows (cond (a || is_some g) (ended Whole) x) (or_else (cond (overgroups s g cs rows) (Some TooManyGroups) None) (cond (a || is_some g) None r))
+unfolding Shows NotSame
+grouped-shows true None s cs rows x r h = (λ e. cc, λ e. cc)
+grouped-shows false None s cs rows x r h = h
+grouped-shows true (Some g) s cs rows x r h = (λ e. cc, λ e. absurd (groups-not-either (overgroups s (Some g) cs rows) e))
+grouped-shows false (Some g) s cs rows x r h = (λ e. cc, λ e. absurd (groups-not-either (overgroups s (Some g) cs rows) e))
+
+late-shows : (p : Public) (ts : Tables) (stmt : Stmt) → Shows (seen_started p ts stmt) (or_else (late_refusal (buffered p.pack p.buffer) (database ts) stmt) (last_refusal p ts stmt))
+unfolding Shows NotSame
+late-shows p ts (Create a b c) = (λ e. cc, λ e. cc)
+late-shows p ts (Insert a b c) = (λ e. cc, λ e. absurd (late-not (buffered p.pack p.buffer) (database ts) (Insert a b c) (or_else_none _ ∙ e)))
+late-shows p ts (Update a b c) = (λ e. cc, λ e. cc)
+late-shows p ts (Delete a b) = (λ e. cc, λ e. cc)
+late-shows p ts (DropTable a) = (λ e. cc, λ e. cc)
+late-shows p ts (SelectStmt q) =
+    grouped-shows (list_any is_aggregate (listed q.list)) q.group (buffered p.pack p.buffer) (select_columns q (headings (database ts))) (selected_rows q (database ts)) _ _
+    (rows-shows p (length (source_slots p q.source ts)) (selected_places p q ts))
+
+pub shows_not_consecutive : ShowsNotConsecutive
+unfolding Shows
+shows_not_consecutive p m ts stmt h =
+    let hs : early_refusal (is_late m) p.pack p.buffer (headings (database ts)) stmt ≡ None = subst (λ w. early_refusal (is_late m) p.pack p.buffer w stmt ≡ None) (sym (headings-database ts)) h in
+    let s : seen p m ts stmt ≡ seen_started p ts stmt = seen-started p m ts stmt h in
+    let r : refusal p m ts stmt ≡ or_else (late_refusal (buffered p.pack p.buffer) (database ts) stmt) (last_refusal p ts stmt) =
+    ap (λ e. or_else (or_else e (late_refusal (buffered p.pack p.buffer) (database ts) stmt)) (last_refusal p ts stmt)) hs in
+    let both = late-shows p ts stmt in
+    (λ e. r ∙ both.0 (sym (ap (λ x. x.end) s) ∙ e), λ e. ap (λ x. x.end) s ∙ both.1 (sym r ∙ e))
+
+-- ---- a forced plan has none after it
+NoSecond : Option Plan → Seen → Type 0
+NoSecond forced x = (plan : Plan) → forced ≡ Some plan → x.then ≡ None
+
+fallback-none : (p : Public) (places : List ℕ) (forced : Option Plan) (plan : Plan) → forced ≡ Some plan → fallback forced (first_unplaced p places) ≡ None
+fallback-none p places None plan e = cc
+fallback-none p places (Some x) plan e = refl
+
+seen_with-second : (p : Public) (plan : Plan) (places : List ℕ) → NoSecond p.plan (seen_with p plan places)
+unfolding NoSecond
+seen_with-second p Small places = λ x e. refl
+seen_with-second p Large places = λ x e. refl
+seen_with-second p Continuous places = of_cond (λ s. (plan : Plan) → p.plan ≡ Some plan → s.then ≡ None) (is_consecutive places) _ _ (λ x e. refl) (λ x e. refl)
+seen_with-second p Hash places = λ x e. fallback-none p places p.plan x e
+
+seen_rows-second : (p : Public) (n : ℕ) (places : List ℕ) → NoSecond p.plan (seen_rows p n places)
+unfolding NoSecond
+seen_rows-second p n [] = λ x e. refl
+seen_rows-second p n (i ∷ is) = seen_with-second p (plan_for p n (i ∷ is)) (i ∷ is)
+
+started-second : (p : Public) (ts : Tables) (stmt : Stmt) → NoSecond p.plan (seen_started p ts stmt)
+unfolding NoSecond
+started-second p ts (Create a b c) = λ x e. refl
+started-second p ts (Insert a b c) = λ x e. refl
+started-second p ts (Update a b c) = λ x e. refl
+started-second p ts (Delete a b) = λ x e. refl
+started-second p ts (DropTable a) = λ x e. refl
+started-second p ts (SelectStmt q) = of_cond (λ s. (plan : Plan) → p.plan ≡ Some plan → s.then ≡ None) (has_totals q) _ _ (λ x e. refl) (seen_rows-second p _ _)
+
+all-second : (p : Public) (m : ℕ) (ts : Tables) (stmt : Stmt) → NoSecond p.plan (seen p m ts stmt)
+unfolding NoSecond
+all-second p m ts stmt =
+    of_cond (λ s. (plan : Plan) → p.plan ≡ Some plan → s.then ≡ None) (is_some (early_refusal (is_late m) p.pack p.buffer (headings ts) stmt)) _ _ (λ x e. refl) (started-second p ts stmt)
+
+pub forced_shows_alike : ForcedShowsAlike
+unfolding NoSecond
+forced_shows_alike p m ts us a b forced plan f x y k =
+    let s = seen p m ts a in
+    let t = seen p m us b in
+    let plans : s.plan ≡ t.plan = x ∙ sym y in
+    let seconds : s.then ≡ t.then = all-second p m ts a forced f ∙ sym (all-second p m us b forced f) in
+    let ends : s.end ≡ t.end = plan_is_whole p m ts a plan x ∙ sym (plan_is_whole p m us b plan y) in
+    λ i. record { k = k i; plan = plans i; then = seconds i; end = ends i }

@@ -1,0 +1,439 @@
+-- Small sessions, computed: what they answer, what they ask, and what their results hold.
+use Rattle.std.proofs.Common.{◌≡◌, ℕ, List, [], ◌∷◌, ◌++◌, refl}
+use Rattle.std.specs.Prelude.{Some, None, Ok, codes, pos, map, true, false}
+use Rattle.ob_base.specs.declared.access.Access.TheVariants.{Make, Read, Write, Discard}
+use Rattle.ob_base.specs.declared.config.Plan.TheVariants.{Small, Large, Continuous, Hash}
+use Rattle.ob_base.specs.declared.refusal.Refusal.TheVariants.{Duplicate, Full, TooManyGroups, NotConsecutive, Overflow, NameTaken, NoColumn, WrongType, KeyRule, JoinKey, StoreFault}
+use Rattle.ob_base.specs.declared.shown.Shown.TheVariants.{Int as I, Null}
+use Rattle.ob_base.specs.declared.skeleton.ColumnName.{ColumnName}
+use Rattle.ob_base.specs.declared.skeleton.NewKind.TheVariants.{Int as NewInt}
+use Rattle.ob_base.specs.declared.skeleton.Source.TheVariants.{Table as OneTable, Join}
+use Rattle.ob_base.specs.Accesses.{makes}
+use Rattle.ob_base.specs.Numbers.{first_bucket, second_bucket}
+use Rattle.ob_base.specs.Plans.{choose}
+use Rattle.ob_row.specs.declared.pred.Order.TheVariants.{Equal, Less, GreaterOrEqual, LessOrEqual}
+use Rattle.ob_sql.specs.declared.stmt.Listed.{Listed}
+use Rattle.ob_sql.specs.declared.stmt.Listed.TheVariants.{Column as ListedColumn, CountAll, Sum, Min, Max}
+use Rattle.ob_sql.specs.declared.stmt.Literal.TheVariants.{Text as TextLiteral}
+use Rattle.ob_sql.specs.declared.stmt.Stmt.TheVariants.{Create, Insert, Update, Delete, Drop as DropTable, Select as SelectStmt}
+use Rattle.ob_sql.specs.Search.{Search, Not, Or}
+use Rattle.ob_mean.specs.declared.answer.Answer.TheVariants.{Done, Changed, Rows, Refused}
+use Rattle.ob_verdict.specs.Replay.{Spelt, first_public, first_session, answers}
+use Rattle.ob_verdict.proofs.Sessions.{t, u, id, v, col, of_table, int, compare, column, create_t, insert, four_rows, two_tables, select_where, select_items, join_on, update_v, by_four, forced, in_pairs, trace_of, answers_of, asked_by, last_answers, last_trace, result_after, row_of, ints}
+use Rattle.std.specs.Prelude.{Option}
+
+abbrev count_all : Spelt
+count_all = select_items (CountAll ∷ []) None None
+
+abbrev count_v : ℕ → Spelt
+count_v x = select_items (CountAll ∷ []) (Some (compare v Equal x)) None
+
+abbrev by_v : Spelt
+by_v = select_items (ListedColumn (col v) ∷ CountAll ∷ Sum (col id) ∷ []) None (Some (col v))
+
+abbrev t_id : ColumnName
+t_id = of_table t id
+
+abbrev u_k : ColumnName
+u_k = of_table u (codes "k")
+
+abbrev join_all : Option (List Listed) → Option Search → Spelt
+join_all xs c = join_on t_id u_k xs c
+
+created : last_answers by_four [] (create_t ∷ []) ≡ Done ∷ []
+unfolding makes
+created = refl
+
+created_trace : last_trace by_four [] (create_t ∷ []) ≡ Make 1 4 49 ∷ Write 1 0 ∷ Write 1 1 ∷ Write 1 2 ∷ Write 1 3 ∷ []
+unfolding makes
+created_trace = refl
+
+created_total : asked_by by_four ([] ++ (create_t ∷ [])) ≡ 5
+unfolding makes
+created_total = refl
+
+counted_after_insert : last_answers by_four [] (create_t ∷ insert t 1 10 ∷ count_all ∷ []) ≡ Done ∷ Done ∷ Rows (ints (1 ∷ []) ∷ []) ∷ []
+unfolding makes
+counted_after_insert = refl
+
+counted_after_insert_trace : last_trace by_four [] (create_t ∷ insert t 1 10 ∷ count_all ∷ []) ≡ Make 1 4 49 ∷ Write 1 0 ∷ Write 1 1 ∷ Write 1 2 ∷ Write 1 3 ∷ Make 2 4 49 ∷ Read 1 0 ∷ Read 1 1 ∷ Read 1 2 ∷ Read 1 3 ∷ Read 1 0 ∷ Write 2 0 ∷ Read 1 1 ∷ Write 2 1 ∷ Read 1 2 ∷ Write 2 2 ∷ Read 1 3 ∷ Write 2 3 ∷ Discard 1 ∷ Read 2 0 ∷ Read 2 1 ∷ Read 2 2 ∷ Read 2 3 ∷ []
+unfolding makes
+counted_after_insert_trace = refl
+
+counted_after_insert_total : asked_by by_four ([] ++ (create_t ∷ insert t 1 10 ∷ count_all ∷ [])) ≡ 23
+unfolding makes
+counted_after_insert_total = refl
+
+duplicate : last_answers by_four (create_t ∷ []) (insert t 1 10 ∷ insert t 1 99 ∷ []) ≡ Done ∷ Refused Duplicate ∷ []
+unfolding makes
+duplicate = refl
+
+duplicate_trace : last_trace by_four (create_t ∷ []) (insert t 1 10 ∷ insert t 1 99 ∷ []) ≡ Make 2 4 49 ∷ Read 1 0 ∷ Read 1 1 ∷ Read 1 2 ∷ Read 1 3 ∷ Read 1 0 ∷ Write 2 0 ∷ Read 1 1 ∷ Write 2 1 ∷ Read 1 2 ∷ Write 2 2 ∷ Read 1 3 ∷ Write 2 3 ∷ Discard 1 ∷ Make 3 4 49 ∷ Read 2 0 ∷ Read 2 1 ∷ Read 2 2 ∷ Read 2 3 ∷ Read 2 0 ∷ Write 3 0 ∷ Read 2 1 ∷ Write 3 1 ∷ Read 2 2 ∷ Write 3 2 ∷ Read 2 3 ∷ Write 3 3 ∷ Discard 2 ∷ []
+unfolding makes
+duplicate_trace = refl
+
+duplicate_total : asked_by by_four ((create_t ∷ []) ++ (insert t 1 10 ∷ insert t 1 99 ∷ [])) ≡ 33
+unfolding makes
+duplicate_total = refl
+
+full : last_answers by_four four_rows (insert t 5 50 ∷ insert t 1 50 ∷ []) ≡ Refused Full ∷ Refused Duplicate ∷ []
+unfolding makes
+full = refl
+
+full_trace : last_trace by_four four_rows (insert t 5 50 ∷ insert t 1 50 ∷ []) ≡ Make 6 4 49 ∷ Read 5 0 ∷ Read 5 1 ∷ Read 5 2 ∷ Read 5 3 ∷ Read 5 0 ∷ Write 6 0 ∷ Read 5 1 ∷ Write 6 1 ∷ Read 5 2 ∷ Write 6 2 ∷ Read 5 3 ∷ Write 6 3 ∷ Discard 5 ∷ Make 7 4 49 ∷ Read 6 0 ∷ Read 6 1 ∷ Read 6 2 ∷ Read 6 3 ∷ Read 6 0 ∷ Write 7 0 ∷ Read 6 1 ∷ Write 7 1 ∷ Read 6 2 ∷ Write 7 2 ∷ Read 6 3 ∷ Write 7 3 ∷ Discard 6 ∷ []
+unfolding makes
+full_trace = refl
+
+full_total : asked_by by_four (four_rows ++ (insert t 5 50 ∷ insert t 1 50 ∷ [])) ≡ 89
+unfolding makes
+full_total = refl
+
+none_selected : last_answers by_four four_rows (select_where (Some (compare v Equal 99)) ∷ []) ≡ Rows [] ∷ []
+unfolding makes
+none_selected = refl
+
+none_selected_trace : last_trace by_four four_rows (select_where (Some (compare v Equal 99)) ∷ []) ≡ Read 5 0 ∷ Read 5 1 ∷ Read 5 2 ∷ Read 5 3 ∷ []
+unfolding makes
+none_selected_trace = refl
+
+none_selected_total : asked_by by_four (four_rows ++ (select_where (Some (compare v Equal 99)) ∷ [])) ≡ 65
+unfolding makes
+none_selected_total = refl
+
+small : last_answers by_four four_rows (select_where (Some (compare v Equal 10)) ∷ []) ≡ Rows (ints (1 ∷ 10 ∷ []) ∷ ints (3 ∷ 10 ∷ []) ∷ []) ∷ []
+unfolding makes
+small = refl
+
+small_trace : last_trace by_four four_rows (select_where (Some (compare v Equal 10)) ∷ []) ≡ Read 5 0 ∷ Read 5 1 ∷ Read 5 2 ∷ Read 5 3 ∷ Make 6 2 49 ∷ Read 5 0 ∷ Read 5 1 ∷ Read 5 2 ∷ Read 5 3 ∷ Write 6 0 ∷ Write 6 1 ∷ Read 6 0 ∷ Read 6 1 ∷ Discard 6 ∷ []
+unfolding makes
+small_trace = refl
+
+small_total : asked_by by_four (four_rows ++ (select_where (Some (compare v Equal 10)) ∷ [])) ≡ 75
+unfolding makes
+small_total = refl
+
+small_result : result_after by_four four_rows (select_where (Some (compare v Equal 10))) ≡ Some (row_of 1 10) ∷ Some (row_of 3 10) ∷ []
+unfolding makes
+small_result = refl
+
+small_of_other_rows : last_answers by_four four_rows (select_where (Some (compare v Equal 20)) ∷ []) ≡ Rows (ints (2 ∷ 20 ∷ []) ∷ ints (4 ∷ 20 ∷ []) ∷ []) ∷ []
+unfolding makes
+small_of_other_rows = refl
+
+small_of_other_rows_total : asked_by by_four (four_rows ++ (select_where (Some (compare v Equal 20)) ∷ [])) ≡ 75
+unfolding makes
+small_of_other_rows_total = refl
+
+small_in_passes : last_answers by_four four_rows (select_where None ∷ []) ≡ Rows (ints (1 ∷ 10 ∷ []) ∷ ints (2 ∷ 20 ∷ []) ∷ ints (3 ∷ 10 ∷ []) ∷ ints (4 ∷ 20 ∷ []) ∷ []) ∷ []
+unfolding makes
+small_in_passes = refl
+
+small_in_passes_trace : last_trace by_four four_rows (select_where None ∷ []) ≡ Read 5 0 ∷ Read 5 1 ∷ Read 5 2 ∷ Read 5 3 ∷ Make 6 4 49 ∷ Read 5 0 ∷ Read 5 1 ∷ Read 5 2 ∷ Read 5 3 ∷ Write 6 0 ∷ Write 6 1 ∷ Read 5 0 ∷ Read 5 1 ∷ Read 5 2 ∷ Read 5 3 ∷ Write 6 2 ∷ Write 6 3 ∷ Read 6 0 ∷ Read 6 1 ∷ Read 6 2 ∷ Read 6 3 ∷ Discard 6 ∷ []
+unfolding makes
+small_in_passes_trace = refl
+
+small_in_passes_total : asked_by by_four (four_rows ++ (select_where None ∷ [])) ≡ 83
+unfolding makes
+small_in_passes_total = refl
+
+small_in_passes_result : result_after by_four four_rows (select_where None) ≡ Some (row_of 1 10) ∷ Some (row_of 2 20) ∷ Some (row_of 3 10) ∷ Some (row_of 4 20) ∷ []
+unfolding makes
+small_in_passes_result = refl
+
+large : last_answers (forced Large 5) four_rows (select_where (Some (compare v Equal 10)) ∷ []) ≡ Rows (ints (1 ∷ 10 ∷ []) ∷ ints (3 ∷ 10 ∷ []) ∷ []) ∷ []
+unfolding makes
+large = refl
+
+large_trace : last_trace (forced Large 5) four_rows (select_where (Some (compare v Equal 10)) ∷ []) ≡ Read 5 0 ∷ Read 5 1 ∷ Read 5 2 ∷ Read 5 3 ∷ Make 6 4 49 ∷ Read 5 0 ∷ Write 6 0 ∷ Read 5 1 ∷ Write 6 1 ∷ Read 5 2 ∷ Write 6 2 ∷ Read 5 3 ∷ Write 6 3 ∷ Read 6 0 ∷ Write 6 0 ∷ Read 6 1 ∷ Write 6 1 ∷ Read 6 2 ∷ Write 6 2 ∷ Read 6 3 ∷ Write 6 3 ∷ Read 6 0 ∷ Read 6 1 ∷ Read 6 2 ∷ Read 6 3 ∷ Discard 6 ∷ []
+unfolding makes
+large_trace = refl
+
+large_total : asked_by (forced Large 5) (four_rows ++ (select_where (Some (compare v Equal 10)) ∷ [])) ≡ 87
+unfolding makes
+large_total = refl
+
+large_result : result_after (forced Large 5) four_rows (select_where (Some (compare v Equal 10))) ≡ Some (row_of 1 10) ∷ None ∷ Some (row_of 3 10) ∷ None ∷ []
+unfolding makes
+large_result = refl
+
+continuous_trace : last_trace (forced Continuous 5) four_rows (select_where (Some (compare id GreaterOrEqual 2)) ∷ []) ≡ Read 5 0 ∷ Read 5 1 ∷ Read 5 2 ∷ Read 5 3 ∷ Make 6 3 49 ∷ Write 6 0 ∷ Write 6 1 ∷ Write 6 2 ∷ Read 5 0 ∷ Read 6 0 ∷ Write 6 0 ∷ Read 5 1 ∷ Read 6 1 ∷ Write 6 1 ∷ Read 5 2 ∷ Read 6 2 ∷ Write 6 2 ∷ Read 5 3 ∷ Read 6 0 ∷ Write 6 0 ∷ Read 6 0 ∷ Read 6 1 ∷ Read 6 2 ∷ Discard 6 ∷ []
+unfolding makes
+continuous_trace = refl
+
+continuous_total : asked_by (forced Continuous 5) (four_rows ++ (select_where (Some (compare id GreaterOrEqual 2)) ∷ [])) ≡ 85
+unfolding makes
+continuous_total = refl
+
+continuous_result : result_after (forced Continuous 5) four_rows (select_where (Some (compare id GreaterOrEqual 2))) ≡ Some (row_of 4 20) ∷ Some (row_of 2 20) ∷ Some (row_of 3 10) ∷ []
+unfolding makes
+continuous_result = refl
+
+not_consecutive : last_answers (forced Continuous 5) four_rows (select_where (Some (compare v Equal 10)) ∷ []) ≡ Refused NotConsecutive ∷ []
+unfolding makes
+not_consecutive = refl
+
+not_consecutive_trace : last_trace (forced Continuous 5) four_rows (select_where (Some (compare v Equal 10)) ∷ []) ≡ Read 5 0 ∷ Read 5 1 ∷ Read 5 2 ∷ Read 5 3 ∷ []
+unfolding makes
+not_consecutive_trace = refl
+
+not_consecutive_total : asked_by (forced Continuous 5) (four_rows ++ (select_where (Some (compare v Equal 10)) ∷ [])) ≡ 65
+unfolding makes
+not_consecutive_total = refl
+
+overflow : last_answers (forced Hash 1) four_rows (select_where (Some (compare v Equal 10)) ∷ []) ≡ Refused (Overflow 2) ∷ []
+unfolding makes
+overflow = refl
+
+overflow_trace : last_trace (forced Hash 1) four_rows (select_where (Some (compare v Equal 10)) ∷ []) ≡ Read 5 0 ∷ Read 5 1 ∷ Read 5 2 ∷ Read 5 3 ∷ Make 6 2 49 ∷ Write 6 0 ∷ Write 6 1 ∷ Read 5 0 ∷ Read 6 0 ∷ Write 6 0 ∷ Read 6 0 ∷ Write 6 0 ∷ Read 5 1 ∷ Read 6 1 ∷ Write 6 1 ∷ Read 6 1 ∷ Write 6 1 ∷ Read 5 2 ∷ Read 6 0 ∷ Write 6 0 ∷ Read 6 0 ∷ Write 6 0 ∷ Read 5 3 ∷ Read 6 1 ∷ Write 6 1 ∷ Read 6 1 ∷ Write 6 1 ∷ Read 6 0 ∷ Read 6 1 ∷ Discard 6 ∷ []
+unfolding makes
+overflow_trace = refl
+
+overflow_total : asked_by (forced Hash 1) (four_rows ++ (select_where (Some (compare v Equal 10)) ∷ [])) ≡ 91
+unfolding makes
+overflow_total = refl
+
+hash_total : asked_by (forced Hash 1) (four_rows ++ (select_where (Some (Or (compare id Equal 2) (compare id Equal 3))) ∷ [])) ≡ 91
+unfolding makes
+hash_total = refl
+
+hash_result : result_after (forced Hash 1) four_rows (select_where (Some (Or (compare id Equal 2) (compare id Equal 3)))) ≡ Some (row_of 3 10) ∷ Some (row_of 2 20) ∷ []
+unfolding makes
+hash_result = refl
+
+groups : last_answers by_four four_rows (by_v ∷ []) ≡ Rows (ints (10 ∷ 2 ∷ 4 ∷ []) ∷ ints (20 ∷ 2 ∷ 6 ∷ []) ∷ []) ∷ []
+unfolding makes
+groups = refl
+
+groups_trace : last_trace by_four four_rows (by_v ∷ []) ≡ Read 5 0 ∷ Read 5 1 ∷ Read 5 2 ∷ Read 5 3 ∷ []
+unfolding makes
+groups_trace = refl
+
+groups_total : asked_by by_four (four_rows ++ (by_v ∷ [])) ≡ 65
+unfolding makes
+groups_total = refl
+
+too_many_groups : last_answers by_four four_rows (update_v 30 (Some (compare id Equal 4)) ∷ by_v ∷ []) ≡ Changed 1 ∷ Refused TooManyGroups ∷ []
+unfolding makes
+too_many_groups = refl
+
+too_many_groups_trace : last_trace by_four four_rows (update_v 30 (Some (compare id Equal 4)) ∷ by_v ∷ []) ≡ Make 6 4 49 ∷ Read 5 0 ∷ Write 6 0 ∷ Read 5 1 ∷ Write 6 1 ∷ Read 5 2 ∷ Write 6 2 ∷ Read 5 3 ∷ Write 6 3 ∷ Discard 5 ∷ Read 6 0 ∷ Read 6 1 ∷ Read 6 2 ∷ Read 6 3 ∷ []
+unfolding makes
+too_many_groups_trace = refl
+
+too_many_groups_total : asked_by by_four (four_rows ++ (update_v 30 (Some (compare id Equal 4)) ∷ by_v ∷ [])) ≡ 75
+unfolding makes
+too_many_groups_total = refl
+
+groups_in_larger_buffer : last_answers (first_public 5 5 1 None) four_rows (update_v 30 (Some (compare id Equal 4)) ∷ by_v ∷ []) ≡ Changed 1 ∷ Rows (ints (10 ∷ 2 ∷ 4 ∷ []) ∷ ints (20 ∷ 1 ∷ 2 ∷ []) ∷ ints (30 ∷ 1 ∷ 4 ∷ []) ∷ []) ∷ []
+unfolding makes
+groups_in_larger_buffer = refl
+
+groups_in_larger_buffer_total : asked_by (first_public 5 5 1 None) (four_rows ++ (update_v 30 (Some (compare id Equal 4)) ∷ by_v ∷ [])) ≡ 75
+unfolding makes
+groups_in_larger_buffer_total = refl
+
+pairs : last_answers by_four two_tables (join_all None None ∷ []) ≡ Rows (ints (1 ∷ 10 ∷ 1 ∷ 7 ∷ []) ∷ ints (1 ∷ 10 ∷ 1 ∷ 8 ∷ []) ∷ []) ∷ []
+unfolding makes
+pairs = refl
+
+pairs_trace : last_trace by_four two_tables (join_all None None ∷ []) ≡ Make 9 6 65 ∷ Read 5 0 ∷ Read 5 1 ∷ Read 8 0 ∷ Write 9 0 ∷ Read 8 1 ∷ Write 9 1 ∷ Read 8 2 ∷ Write 9 2 ∷ Read 5 2 ∷ Read 5 3 ∷ Read 8 0 ∷ Write 9 3 ∷ Read 8 1 ∷ Write 9 4 ∷ Read 8 2 ∷ Write 9 5 ∷ Read 9 0 ∷ Read 9 1 ∷ Read 9 2 ∷ Read 9 3 ∷ Read 9 4 ∷ Read 9 5 ∷ Make 10 2 65 ∷ Read 9 0 ∷ Read 9 1 ∷ Read 9 2 ∷ Read 9 3 ∷ Read 9 4 ∷ Read 9 5 ∷ Write 10 0 ∷ Write 10 1 ∷ Read 10 0 ∷ Read 10 1 ∷ Discard 10 ∷ Discard 9 ∷ []
+unfolding makes
+pairs_trace = refl
+
+pairs_total : asked_by by_four (two_tables ++ (join_all None None ∷ [])) ≡ 123
+unfolding makes
+pairs_total = refl
+
+pairs_in_order : last_answers by_four two_tables (join_all (Some (ListedColumn (col (codes "w")) ∷ ListedColumn (col id) ∷ [])) None ∷ []) ≡ Rows (ints (7 ∷ 1 ∷ []) ∷ ints (8 ∷ 1 ∷ []) ∷ []) ∷ []
+unfolding makes
+pairs_in_order = refl
+
+pairs_in_order_total : asked_by by_four (two_tables ++ (join_all (Some (ListedColumn (col (codes "w")) ∷ ListedColumn (col id) ∷ [])) None ∷ [])) ≡ 123
+unfolding makes
+pairs_in_order_total = refl
+
+totals_of_nothing : last_answers by_four (create_t ∷ []) (select_items (CountAll ∷ Sum (col v) ∷ Min (col v) ∷ Max (col v) ∷ []) None None ∷ []) ≡ Rows ((I (pos 0) ∷ Null ∷ Null ∷ Null ∷ []) ∷ []) ∷ []
+unfolding makes
+totals_of_nothing = refl
+
+totals_of_nothing_trace : last_trace by_four (create_t ∷ []) (select_items (CountAll ∷ Sum (col v) ∷ Min (col v) ∷ Max (col v) ∷ []) None None ∷ []) ≡ Read 1 0 ∷ Read 1 1 ∷ Read 1 2 ∷ Read 1 3 ∷ []
+unfolding makes
+totals_of_nothing_trace = refl
+
+totals_of_nothing_total : asked_by by_four ((create_t ∷ []) ++ (select_items (CountAll ∷ Sum (col v) ∷ Min (col v) ∷ Max (col v) ∷ []) None None ∷ [])) ≡ 9
+unfolding makes
+totals_of_nothing_total = refl
+
+deleted_slot_filled_trace : last_trace by_four four_rows (Ok (Delete t (Some (compare v Equal 10))) ∷ insert t 5 50 ∷ select_where None ∷ []) ≡ Make 6 4 49 ∷ Read 5 0 ∷ Write 6 0 ∷ Read 5 1 ∷ Write 6 1 ∷ Read 5 2 ∷ Write 6 2 ∷ Read 5 3 ∷ Write 6 3 ∷ Discard 5 ∷ Make 7 4 49 ∷ Read 6 0 ∷ Read 6 1 ∷ Read 6 2 ∷ Read 6 3 ∷ Read 6 0 ∷ Write 7 0 ∷ Read 6 1 ∷ Write 7 1 ∷ Read 6 2 ∷ Write 7 2 ∷ Read 6 3 ∷ Write 7 3 ∷ Discard 6 ∷ Read 7 0 ∷ Read 7 1 ∷ Read 7 2 ∷ Read 7 3 ∷ Make 8 3 49 ∷ Read 7 0 ∷ Read 7 1 ∷ Read 7 2 ∷ Read 7 3 ∷ Write 8 0 ∷ Write 8 1 ∷ Read 7 0 ∷ Read 7 1 ∷ Read 7 2 ∷ Read 7 3 ∷ Write 8 2 ∷ Read 8 0 ∷ Read 8 1 ∷ Read 8 2 ∷ Discard 8 ∷ []
+unfolding makes
+deleted_slot_filled_trace = refl
+
+deleted_slot_filled_total : asked_by by_four (four_rows ++ (Ok (Delete t (Some (compare v Equal 10))) ∷ insert t 5 50 ∷ select_where None ∷ [])) ≡ 105
+unfolding makes
+deleted_slot_filled_total = refl
+
+deleted_slot_filled_result : result_after by_four (four_rows ++ Ok (Delete t (Some (compare v Equal 10))) ∷ insert t 5 50 ∷ []) (select_where None) ≡ Some (row_of 5 50) ∷ Some (row_of 2 20) ∷ Some (row_of 4 20) ∷ []
+unfolding makes
+deleted_slot_filled_result = refl
+
+created_anew : answers_of by_four (create_t ∷ insert t 1 10 ∷ Ok (DropTable t) ∷ create_t ∷ count_all ∷ []) ≡ Done ∷ Done ∷ Done ∷ Done ∷ Rows (ints (0 ∷ []) ∷ []) ∷ []
+unfolding makes
+created_anew = refl
+
+created_anew_total : asked_by by_four (create_t ∷ insert t 1 10 ∷ Ok (DropTable t) ∷ create_t ∷ count_all ∷ []) ≡ 29
+unfolding makes
+created_anew_total = refl
+
+pairs_selected : last_answers by_four two_tables (join_on u_k t_id None (Some (compare (codes "w") Equal 8)) ∷ []) ≡ Rows (ints (1 ∷ 10 ∷ 1 ∷ 8 ∷ []) ∷ []) ∷ []
+unfolding makes
+pairs_selected = refl
+
+pairs_selected_trace : last_trace by_four two_tables (join_on u_k t_id None (Some (compare (codes "w") Equal 8)) ∷ []) ≡ Make 9 6 65 ∷ Read 5 0 ∷ Read 5 1 ∷ Read 8 0 ∷ Write 9 0 ∷ Read 8 1 ∷ Write 9 1 ∷ Read 8 2 ∷ Write 9 2 ∷ Read 5 2 ∷ Read 5 3 ∷ Read 8 0 ∷ Write 9 3 ∷ Read 8 1 ∷ Write 9 4 ∷ Read 8 2 ∷ Write 9 5 ∷ Read 9 0 ∷ Read 9 1 ∷ Read 9 2 ∷ Read 9 3 ∷ Read 9 4 ∷ Read 9 5 ∷ Make 10 1 65 ∷ Read 9 0 ∷ Read 9 1 ∷ Read 9 2 ∷ Read 9 3 ∷ Read 9 4 ∷ Read 9 5 ∷ Write 10 0 ∷ Read 10 0 ∷ Discard 10 ∷ Discard 9 ∷ []
+unfolding makes
+pairs_selected_trace = refl
+
+pairs_selected_total : asked_by by_four (two_tables ++ (join_on u_k t_id None (Some (compare (codes "w") Equal 8)) ∷ [])) ≡ 121
+unfolding makes
+pairs_selected_total = refl
+
+updated : last_answers by_four four_rows (update_v 5 (Some (Not (Or (compare id Less 3) (compare v Equal 20)))) ∷ count_v 5 ∷ []) ≡ Changed 1 ∷ Rows (ints (1 ∷ []) ∷ []) ∷ []
+unfolding makes
+updated = refl
+
+updated_trace : last_trace by_four four_rows (update_v 5 (Some (Not (Or (compare id Less 3) (compare v Equal 20)))) ∷ count_v 5 ∷ []) ≡ Make 6 4 49 ∷ Read 5 0 ∷ Write 6 0 ∷ Read 5 1 ∷ Write 6 1 ∷ Read 5 2 ∷ Write 6 2 ∷ Read 5 3 ∷ Write 6 3 ∷ Discard 5 ∷ Read 6 0 ∷ Read 6 1 ∷ Read 6 2 ∷ Read 6 3 ∷ []
+unfolding makes
+updated_trace = refl
+
+updated_total : asked_by by_four (four_rows ++ (update_v 5 (Some (Not (Or (compare id Less 3) (compare v Equal 20)))) ∷ count_v 5 ∷ [])) ≡ 75
+unfolding makes
+updated_total = refl
+
+deleted : last_answers by_four four_rows (Ok (Delete t (Some (compare v Equal 10))) ∷ count_all ∷ []) ≡ Changed 2 ∷ Rows (ints (2 ∷ []) ∷ []) ∷ []
+unfolding makes
+deleted = refl
+
+deleted_total : asked_by by_four (four_rows ++ (Ok (Delete t (Some (compare v Equal 10))) ∷ count_all ∷ [])) ≡ 75
+unfolding makes
+deleted_total = refl
+
+created_in_pairs_trace : last_trace (in_pairs None 5) [] (create_t ∷ []) ≡ Make 1 2 66 ∷ Write 1 0 ∷ Write 1 1 ∷ []
+unfolding makes
+created_in_pairs_trace = refl
+
+created_in_pairs_total : asked_by (in_pairs None 5) ([] ++ (create_t ∷ [])) ≡ 3
+unfolding makes
+created_in_pairs_total = refl
+
+inserted_in_pairs : last_answers (in_pairs None 5) [] (create_t ∷ insert t 1 10 ∷ count_all ∷ []) ≡ Done ∷ Done ∷ Rows (ints (1 ∷ []) ∷ []) ∷ []
+unfolding makes
+inserted_in_pairs = refl
+
+inserted_in_pairs_trace : last_trace (in_pairs None 5) [] (create_t ∷ insert t 1 10 ∷ count_all ∷ []) ≡ Make 1 2 66 ∷ Write 1 0 ∷ Write 1 1 ∷ Make 2 2 66 ∷ Read 1 0 ∷ Read 1 1 ∷ Read 1 0 ∷ Write 2 0 ∷ Read 1 1 ∷ Write 2 1 ∷ Discard 1 ∷ Read 2 0 ∷ Read 2 1 ∷ []
+unfolding makes
+inserted_in_pairs_trace = refl
+
+inserted_in_pairs_total : asked_by (in_pairs None 5) ([] ++ (create_t ∷ insert t 1 10 ∷ count_all ∷ [])) ≡ 13
+unfolding makes
+inserted_in_pairs_total = refl
+
+small_in_pairs : last_answers (in_pairs None 5) four_rows (select_where (Some (compare v Equal 10)) ∷ []) ≡ Rows (ints (1 ∷ 10 ∷ []) ∷ ints (3 ∷ 10 ∷ []) ∷ []) ∷ []
+unfolding makes
+small_in_pairs = refl
+
+small_in_pairs_trace : last_trace (in_pairs None 5) four_rows (select_where (Some (compare v Equal 10)) ∷ []) ≡ Read 5 0 ∷ Read 5 1 ∷ Make 6 1 66 ∷ Read 5 0 ∷ Read 5 1 ∷ Write 6 0 ∷ Read 6 0 ∷ Discard 6 ∷ []
+unfolding makes
+small_in_pairs_trace = refl
+
+small_in_pairs_total : asked_by (in_pairs None 5) (four_rows ++ (select_where (Some (compare v Equal 10)) ∷ [])) ≡ 43
+unfolding makes
+small_in_pairs_total = refl
+
+small_in_pairs_result : result_after (in_pairs None 5) four_rows (select_where (Some (compare v Equal 10))) ≡ Some (row_of 1 10) ∷ Some (row_of 3 10) ∷ []
+unfolding makes
+small_in_pairs_result = refl
+
+pairs_in_pairs : last_answers (in_pairs None 5) two_tables (join_all None None ∷ []) ≡ Rows (ints (1 ∷ 10 ∷ 1 ∷ 7 ∷ []) ∷ ints (1 ∷ 10 ∷ 1 ∷ 8 ∷ []) ∷ []) ∷ []
+unfolding makes
+pairs_in_pairs = refl
+
+pairs_in_pairs_trace : last_trace (in_pairs None 5) two_tables (join_all None None ∷ []) ≡ Make 9 4 98 ∷ Read 5 0 ∷ Read 8 0 ∷ Write 9 0 ∷ Read 8 1 ∷ Write 9 1 ∷ Read 5 1 ∷ Read 8 0 ∷ Write 9 2 ∷ Read 8 1 ∷ Write 9 3 ∷ Read 9 0 ∷ Read 9 1 ∷ Read 9 2 ∷ Read 9 3 ∷ Make 10 1 98 ∷ Read 9 0 ∷ Read 9 1 ∷ Read 9 2 ∷ Read 9 3 ∷ Write 10 0 ∷ Read 10 0 ∷ Discard 10 ∷ Discard 9 ∷ []
+unfolding makes
+pairs_in_pairs_trace = refl
+
+pairs_in_pairs_total : asked_by (in_pairs None 5) (two_tables ++ (join_all None None ∷ [])) ≡ 78
+unfolding makes
+pairs_in_pairs_total = refl
+
+continuous_in_pairs_trace : last_trace (in_pairs (Some Continuous) 5) four_rows (select_where (Some (compare id GreaterOrEqual 2)) ∷ []) ≡ Read 5 0 ∷ Read 5 1 ∷ Make 6 2 66 ∷ Write 6 0 ∷ Write 6 1 ∷ Read 5 0 ∷ Read 6 0 ∷ Write 6 0 ∷ Read 6 0 ∷ Write 6 0 ∷ Read 5 1 ∷ Read 6 1 ∷ Write 6 1 ∷ Read 6 0 ∷ Write 6 0 ∷ Read 6 0 ∷ Read 6 1 ∷ Discard 6 ∷ []
+unfolding makes
+continuous_in_pairs_trace = refl
+
+continuous_in_pairs_total : asked_by (in_pairs (Some Continuous) 5) (four_rows ++ (select_where (Some (compare id GreaterOrEqual 2)) ∷ [])) ≡ 53
+unfolding makes
+continuous_in_pairs_total = refl
+
+continuous_in_pairs_result : result_after (in_pairs (Some Continuous) 5) four_rows (select_where (Some (compare id GreaterOrEqual 2))) ≡ Some (row_of 4 20) ∷ Some (row_of 2 20) ∷ Some (row_of 3 10) ∷ []
+unfolding makes
+continuous_in_pairs_result = refl
+
+hash_in_pairs : last_answers (in_pairs (Some Hash) 1) four_rows (select_where (Some (compare v Equal 10)) ∷ []) ≡ Rows (ints (1 ∷ 10 ∷ []) ∷ ints (3 ∷ 10 ∷ []) ∷ []) ∷ []
+unfolding makes
+hash_in_pairs = refl
+
+hash_in_pairs_trace : last_trace (in_pairs (Some Hash) 1) four_rows (select_where (Some (compare v Equal 10)) ∷ []) ≡ Read 5 0 ∷ Read 5 1 ∷ Make 6 2 66 ∷ Write 6 0 ∷ Write 6 1 ∷ Read 5 0 ∷ Read 6 0 ∷ Write 6 0 ∷ Read 6 0 ∷ Write 6 0 ∷ Read 6 1 ∷ Write 6 1 ∷ Read 6 1 ∷ Write 6 1 ∷ Read 5 1 ∷ Read 6 0 ∷ Write 6 0 ∷ Read 6 0 ∷ Write 6 0 ∷ Read 6 1 ∷ Write 6 1 ∷ Read 6 1 ∷ Write 6 1 ∷ Read 6 0 ∷ Read 6 1 ∷ Discard 6 ∷ []
+unfolding makes
+hash_in_pairs_trace = refl
+
+hash_in_pairs_total : asked_by (in_pairs (Some Hash) 1) (four_rows ++ (select_where (Some (compare v Equal 10)) ∷ [])) ≡ 61
+unfolding makes
+hash_in_pairs_total = refl
+
+hash_in_pairs_result : result_after (in_pairs (Some Hash) 1) four_rows (select_where (Some (compare v Equal 10))) ≡ Some (row_of 1 10) ∷ Some (row_of 3 10) ∷ None ∷ None ∷ []
+unfolding makes
+hash_in_pairs_result = refl
+
+large_in_pairs : last_answers (in_pairs (Some Large) 5) four_rows (select_where (Some (compare v Equal 10)) ∷ []) ≡ Rows (ints (1 ∷ 10 ∷ []) ∷ ints (3 ∷ 10 ∷ []) ∷ []) ∷ []
+unfolding makes
+large_in_pairs = refl
+
+large_in_pairs_trace : last_trace (in_pairs (Some Large) 5) four_rows (select_where (Some (compare v Equal 10)) ∷ []) ≡ Read 5 0 ∷ Read 5 1 ∷ Make 6 2 66 ∷ Read 5 0 ∷ Write 6 0 ∷ Read 5 1 ∷ Write 6 1 ∷ Read 6 0 ∷ Write 6 0 ∷ Read 6 1 ∷ Write 6 1 ∷ Read 6 0 ∷ Read 6 1 ∷ Discard 6 ∷ []
+unfolding makes
+large_in_pairs_trace = refl
+
+large_in_pairs_total : asked_by (in_pairs (Some Large) 5) (four_rows ++ (select_where (Some (compare v Equal 10)) ∷ [])) ≡ 49
+unfolding makes
+large_in_pairs_total = refl
+
+large_in_pairs_result : result_after (in_pairs (Some Large) 5) four_rows (select_where (Some (compare v Equal 10))) ≡ Some (row_of 1 10) ∷ None ∷ Some (row_of 3 10) ∷ None ∷ []
+unfolding makes
+large_in_pairs_result = refl
+
+-- the buckets of two
+buckets_of_two : (map (first_bucket 2) (0 ∷ 1 ∷ 2 ∷ 3 ∷ []) ≡ 0 ∷ 1 ∷ 0 ∷ 1 ∷ []) × (map (second_bucket 2) (0 ∷ 1 ∷ 2 ∷ 3 ∷ []) ≡ 0 ∷ 1 ∷ 0 ∷ 1 ∷ [])
+buckets_of_two = (refl, refl)
+
+chosen : (choose None 2 10 8 true ≡ Small) × (choose None 2 10 9 true ≡ Continuous) × (choose None 2 10 9 false ≡ Large) × (choose None 2 100 9 false ≡ Hash)
+chosen = (refl, refl, refl, refl)
+
+-- refused before any access
+refused_early : last_answers by_four four_rows
+    (select_items (ListedColumn (col v) ∷ ListedColumn (col id) ∷ []) None (Some (col v)) ∷ select_items (ListedColumn (col (codes "x")) ∷ []) None None
+    ∷ Ok (Update t (record { column = id; value = int 9 } ∷ []) None) ∷ Ok (SelectStmt (record { list = None; source = Join t t t_id t_id; cond = None; group = None }))
+    ∷ Ok (Insert t None (TextLiteral (codes "a") ∷ int 1 ∷ [])) ∷ []) ≡
+    Refused NoColumn ∷ Refused NoColumn ∷ Refused KeyRule ∷ Refused NameTaken ∷ Refused WrongType ∷ []
+unfolding makes
+refused_early = refl
+
+off_key : last_answers by_four two_tables (Ok (SelectStmt (record { list = None; source = Join u t u_k t_id; cond = None; group = None })) ∷ []) ≡ Refused JoinKey ∷ []
+unfolding makes
+off_key = refl
+
+-- the store fails at the fourth access of the INSERT, and the table is as it was
+store_fault : answers (first_session by_four) (create_t ∷ insert t 1 10 ∷ count_all ∷ []) (None ∷ Some 4 ∷ []) ≡ Done ∷ Refused StoreFault ∷ Rows (ints (0 ∷ []) ∷ []) ∷ []
+unfolding makes
+store_fault = refl
+
+store_fault_trace : trace_of by_four (create_t ∷ insert t 1 10 ∷ count_all ∷ []) (None ∷ Some 4 ∷ []) ≡
+    Make 1 4 49 ∷ Write 1 0 ∷ Write 1 1 ∷ Write 1 2 ∷ Write 1 3 ∷ Make 2 4 49 ∷ Read 1 0 ∷ Read 1 1 ∷ Read 1 2 ∷ Read 1 0 ∷ Read 1 1 ∷ Read 1 2 ∷ Read 1 3 ∷ []
+unfolding makes
+store_fault_trace = refl

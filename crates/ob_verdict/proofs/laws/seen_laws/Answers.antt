@@ -1,0 +1,12 @@
+use Rattle.ob_verdict.proofs.SeenProof.{shows_kind_alone, plan_is_whole, forced_shows_alike, shows_not_consecutive}
+use Rattle.ob_verdict.proofs.LawfulProof.{seen_is_lawful}
+use Rattle.ob_verdict.proofs.laws.seen_laws.Goals as goal
+
+pub returns : goal.returns
+returns c = record {
+  kind_alone = shows_kind_alone;
+  plan_is_whole = plan_is_whole;
+  forced_alike = forced_shows_alike;
+  one_refusal_shows = shows_not_consecutive;
+  lawful = seen_is_lawful;
+}

@@ -1,0 +1,92 @@
+-- What is proved of these definitions.
+use Rattle.std.specs.Prelude.{◌≡◌, ◌≢◌, ◌↔◌, ◌⊎◌, ℕ, ◌<◌, ◌≤◌, ◌^◌, Bool, false, List, [], ◌∷◌, map, length, Option, Some, None, IsTrue, is_some, ⊤, if◌then◌else◌}
+use Rattle.ob_base.specs.declared.config.Public.{Public}
+use Rattle.ob_base.specs.declared.config.Plan.{Plan}
+use Rattle.ob_base.specs.declared.config.Plan.TheVariants.{Small, Hash}
+use Rattle.ob_base.specs.declared.seen.End.TheVariants.{Whole, AfterCount}
+use Rattle.ob_base.specs.declared.refusal.Refusal.TheVariants.{NotConsecutive}
+use Rattle.ob_base.specs.declared.shown.Shown.{Shown}
+use Rattle.ob_base.specs.Limits.{buffered, buffered_blocks}
+use Rattle.ob_base.specs.Schemas.{key_place}
+use Rattle.ob_base.specs.Stored.{headings}
+use Rattle.ob_row.specs.Bags.{Same}
+use Rattle.ob_row.specs.Rows.{keys_repeat}
+use Rattle.ob_row.specs.Slots.{Slots, rows}
+use Rattle.ob_row.specs.Totals.{printed}
+use Rattle.ob_row.specs.Truth.{is_true}
+use Rattle.ob_sql.specs.declared.stmt.Select.{Select}
+use Rattle.ob_sql.specs.declared.stmt.Stmt.{Stmt}
+use Rattle.ob_sql.specs.declared.stmt.Stmt.TheVariants.{Select as SelectStmt}
+use Rattle.ob_sql.specs.Skeleton.{has_totals}
+use Rattle.ob_mean.specs.Refusals.{early_refusal}
+use Rattle.ob_mean.specs.Step.{Database, step_next, select_columns, select_condition, select_answer, selected_rows, printed_places}
+use Rattle.ob_verdict.specs.Results.{result_slots}
+use Rattle.ob_verdict.specs.Verdict.{Tables, database, source_slots, selected_places, plan_for, bucket_size, first_unplaced, fallback, refusal, seen, ended, is_late}
+use Rattle.ob_verdict.specs.Settle.{settle}
+use Rattle.ob_verdict.specs.Lawful.{Lawful, public_headings, is_counted}
+
+-- ---- the tables in place and the tables as bags
+-- the same tables in the same order, each with the same bag of rows
+abbrev pub SameTables : Database → Database → Type 0
+SameTables [] bs = bs ≡ []
+SameTables (a ∷ xs) [] = ⊥
+SameTables (a ∷ xs) (b ∷ ys) = (a.heading ≡ b.heading) × Same a.held b.held × SameTables xs ys
+
+-- each table has as many slots as its capacity
+abbrev pub AreInPlace : Tables → Type 0
+AreInPlace [] = ⊤
+AreInPlace (t ∷ ts) = (length t.held ≡ t.heading.capacity) × AreInPlace ts
+
+abbrev pub SettlesAsStep : Public → ℕ → Tables → Stmt → Type 0
+SettlesAsStep p m ts stmt = m < 2 ^ 63 → AreInPlace ts → SameTables (database (settle p m ts stmt)) (step_next p (database ts) stmt)
+
+-- ---- what the seen of a statement tells
+-- no refusal before the first access
+abbrev pub IsStarted : Public → ℕ → Tables → Stmt → Type 0
+IsStarted p m ts stmt = early_refusal (is_late m) p.pack p.buffer (headings ts) stmt ≡ None
+
+-- all but a SELECT of rows shows its kind alone, also where a duplicate key, a full table or too many groups refuse it
+abbrev pub ShowsKindAlone : Type 0
+ShowsKindAlone = (p : Public) (m : ℕ) (ts : Tables) (stmt : Stmt) → IsStarted p m ts stmt → is_counted stmt ≡ false → seen p m ts stmt ≡ ended Whole
+
+-- where a plan is seen, the statement came to its end, also where a forced Hash overflows
+abbrev pub PlanIsWhole : Type 0
+PlanIsWhole = (p : Public) (m : ℕ) (ts : Tables) (stmt : Stmt) (plan : Plan) → (seen p m ts stmt).plan ≡ Some plan → (seen p m ts stmt).end ≡ Whole
+
+-- where a plan is forced, k and the plan are all that is seen
+abbrev pub ForcedShowsAlike : Type 0
+ForcedShowsAlike = (p : Public) (m : ℕ) (ts us : Tables) (a b : Stmt) (forced plan : Plan) → p.plan ≡ Some forced →
+    (seen p m ts a).plan ≡ Some plan → (seen p m us b).plan ≡ Some plan → (seen p m ts a).k ≡ (seen p m us b).k → seen p m ts a ≡ seen p m us b
+
+-- of the refusals by rows, one alone shows
+abbrev pub ShowsNotConsecutive : Type 0
+ShowsNotConsecutive = (p : Public) (m : ℕ) (ts : Tables) (stmt : Stmt) → IsStarted p m ts stmt → ((seen p m ts stmt).end ≡ AfterCount) ↔ (refusal p m ts stmt ≡ Some NotConsecutive)
+
+abbrev pub SeenIsLawful : Type 0
+SeenIsLawful = (p : Public) (m : ℕ) (ts : Tables) (stmt : Stmt) → 1 ≤ p.pack → headings ts ≡ public_headings p → AreInPlace ts → Lawful p m stmt (seen p m ts stmt)
+
+-- ---- what a SELECT of rows prints from its result
+-- the plan by which the rows are printed: the one after the first, where there is one
+abbrev pub last_plan : Public → Plan → List ℕ → Plan
+last_plan p Hash places = if is_some (fallback p.plan (first_unplaced p places)) then Small else Hash
+last_plan p plan places = plan
+
+-- the result of a SELECT of rows of which at least one is selected
+abbrev pub result_of : Public → Tables → Select → Slots
+result_of p ts q =
+    let places = selected_places p q ts in
+    let slots = source_slots p q.source ts in
+    result_slots (last_plan p (plan_for p (length slots) places) places) (length places) (bucket_size p) (is_true (select_condition q (headings ts))) slots
+
+-- its rows as they are printed, in order of their places
+abbrev pub printed_rows : Public → Tables → Select → List (List Shown)
+printed_rows p ts q = map (printed (printed_places q (select_columns q (headings ts)))) (rows (result_of p ts q))
+
+abbrev pub KeysAreDistinct : Tables → Type 0
+KeysAreDistinct [] = ⊤
+KeysAreDistinct (t ∷ ts) = (keys_repeat (key_place t.heading.schema) (rows t.held) ≡ false) × KeysAreDistinct ts
+
+abbrev pub PrintsAnswer : Type 0
+PrintsAnswer = (p : Public) (m : ℕ) (ts : Tables) (q : Select) → 1 ≤ p.pack → 1 ≤ buffered_blocks p.pack p.buffer → KeysAreDistinct ts →
+    refusal p m ts (SelectStmt q) ≡ None → has_totals q ≡ false → 0 < length (selected_places p q ts) →
+    Same (select_answer q (select_columns q (headings (database ts))) (selected_rows q (database ts)) false) (printed_rows p ts q)

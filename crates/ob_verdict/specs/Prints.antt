@@ -1,0 +1,87 @@
+-- What is printed of an answer: the labels of its columns, its rows in some order, and their number.
+use Rattle.std.specs.Prelude.{◌≡◌, ◌≢◌, ℕ, Bool, true, false, List, [], ◌∷◌, ◌++◌, map, length, Option, Some, None, codes, if◌then◌else◌, flat_map, slice_get}
+use Rattle.std.specs.Option.{option_map_or}
+use Rattle.ob_base.specs.declared.schema.Column.{Column}
+use Rattle.ob_base.specs.declared.schema.Heading.{Heading}
+use Rattle.ob_base.specs.declared.shown.Shown.{Shown}
+use Rattle.ob_base.specs.declared.skeleton.ColumnName.{ColumnName}
+use Rattle.ob_base.specs.declared.skeleton.Source.{Source}
+use Rattle.ob_base.specs.declared.skeleton.Source.TheVariants.{Table as OneTable, Join}
+use Rattle.ob_base.specs.Events.{Event, Head, Row as RowEvent, Close}
+use Rattle.ob_base.specs.Schemas.{Columns}
+use Rattle.ob_row.specs.Bags.{Same, Within}
+use Rattle.ob_sql.specs.declared.stmt.Listed.{Listed}
+use Rattle.ob_sql.specs.declared.stmt.Listed.TheVariants.{Column as ListedColumn, CountAll, Count, Sum, Min, Max}
+use Rattle.ob_sql.specs.declared.stmt.Select.{Select}
+use Rattle.ob_sql.specs.declared.stmt.Stmt.{Stmt}
+use Rattle.ob_sql.specs.declared.stmt.Stmt.TheVariants.{Select as SelectStmt}
+use Rattle.ob_mean.specs.declared.answer.Answer.{Answer}
+use Rattle.ob_mean.specs.declared.answer.Answer.TheVariants.{Done, Changed, Rows, Refused}
+use Rattle.ob_mean.specs.Names.{source_columns, place_of}
+
+-- ---- the labels
+abbrev pub is_join : Source → Bool
+is_join (OneTable name) = false
+is_join (Join a b on equals) = true
+
+-- a column by its name, in a join by its table's and its own
+abbrev pub column_label : (joins : Bool) → Column → List ℕ
+column_label joins c = if joins then c.table ++ codes "." ++ c.name else c.name
+
+-- the label of the column that a name means
+abbrev pub label_at : (joins : Bool) → Columns → ColumnName → List ℕ
+label_at joins cs name = option_map_or (column_label joins) (slice_get cs (place_of name cs)) []
+
+abbrev pub call_label : List ℕ → List ℕ → List ℕ
+call_label name of = name ++ codes "(" ++ of ++ codes ")"
+
+abbrev pub listed_label : (joins : Bool) → Columns → Listed → List ℕ
+listed_label joins cs (ListedColumn c) = label_at joins cs c
+listed_label joins cs CountAll = codes "COUNT(*)"
+listed_label joins cs (Count c) = call_label (codes "COUNT") (label_at joins cs c)
+listed_label joins cs (Sum c) = call_label (codes "SUM") (label_at joins cs c)
+listed_label joins cs (Min c) = call_label (codes "MIN") (label_at joins cs c)
+listed_label joins cs (Max c) = call_label (codes "MAX") (label_at joins cs c)
+
+-- `*` stands for all columns
+abbrev pub select_labels : Select → List Heading → List (List ℕ)
+select_labels s hs =
+    let cs = source_columns s.source hs in
+    option_map_or (map (listed_label (is_join s.source) cs)) s.list (map (column_label (is_join s.source)) cs)
+
+abbrev pub labels_of : Stmt → List Heading → List (List ℕ)
+labels_of (SelectStmt s) hs = select_labels s hs
+labels_of _ hs = []
+
+-- ---- the events
+abbrev pub row_events : List (List Shown) → List Event
+row_events rows = map RowEvent rows
+
+-- the labels, the rows in an order in which they are the same bag, and their number
+pub record PrintsRows (labels : List (List ℕ)) (rows : List (List Shown)) (events : List Event) : Type 0 where
+  pub printed : List (List Shown)
+  pub same : Same printed rows
+  pub is : events ≡ Head labels ∷ (row_events printed ++ Close (length rows) ∷ [])
+
+-- an answer that is no rows emits nothing
+abbrev pub Prints : (labels : List (List ℕ)) → Answer → List Event → Type 0
+Prints labels Done events = events ≡ []
+Prints labels (Changed n) events = events ≡ []
+Prints labels (Rows rows) events = PrintsRows labels rows events
+Prints labels (Refused r) events = events ≡ []
+
+-- a first part of them
+abbrev pub Begun : List Event → List Event → Type 0
+Begun done whole = (rest : List Event) × (done ++ rest ≡ whole)
+
+-- of an answer that was stopped: a first part of its header and of rows of its bag
+pub record UnfinishedRows (labels : List (List ℕ)) (rows : List (List Shown)) (events : List Event) : Type 0 where
+  pub printed : List (List Shown)
+  pub within : Within printed rows
+  pub begun : Begun events (Head labels ∷ row_events printed)
+
+abbrev pub Unfinished : (labels : List (List ℕ)) → Answer → List Event → Type 0
+Unfinished labels Done events = events ≡ []
+Unfinished labels (Changed n) events = events ≡ []
+Unfinished labels (Rows rows) events = UnfinishedRows labels rows events
+Unfinished labels (Refused r) events = events ≡ []

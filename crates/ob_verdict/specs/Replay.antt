@@ -1,0 +1,116 @@
+-- What a list of texts answers, and what is seen of each statement.
+use Rattle.std.specs.Prelude.{ℕ, ◌+◌, ◌-◌, Bool, nat_lt, List, [], ◌∷◌, length, Option, Some, None, Result, Ok, Err, if◌then◌else◌}
+use Rattle.ob_base.specs.declared.config.Public.{Public}
+use Rattle.ob_base.specs.declared.config.Plan.{Plan}
+use Rattle.ob_base.specs.declared.refusal.Refusal.TheVariants.{Syntax, StoreFault}
+use Rattle.ob_base.specs.declared.seen.Seen.{Seen}
+use Rattle.ob_base.specs.declared.seen.End.TheVariants.{Whole, Cut}
+use Rattle.ob_base.specs.declared.skeleton.Source.TheVariants.{Table as OneTable, Join}
+use Rattle.ob_base.specs.declared.skeleton.Skeleton.{Skeleton}
+use Rattle.ob_base.specs.declared.skeleton.Skeleton.TheVariants.{Rows}
+use Rattle.ob_sql.specs.declared.stmt.Stmt.{Stmt}
+use Rattle.ob_sql.specs.Skeleton.{skeleton}
+use Rattle.ob_script.specs.Script.{script, whole_script}
+use Rattle.ob_script.specs.Trace.{Served, next}
+use Rattle.ob_mean.specs.declared.answer.Answer.{Answer}
+use Rattle.ob_mean.specs.declared.answer.Answer.TheVariants.{Refused}
+use Rattle.ob_verdict.specs.Verdict.{Tables, verdict, seen, ended}
+use Rattle.ob_verdict.specs.Settle.{settle}
+
+-- what is public, the tables, and how many accesses were asked
+pub record Session : Type 0 where
+  pub public : Public
+  pub tables : Tables
+  pub asked : ℕ
+
+-- what a text spells: a statement, or the place of its syntax refusal
+abbrev pub Spelt : Type 0
+Spelt = Result Stmt ℕ
+
+abbrev pub seen_now : Session → Stmt → Seen
+seen_now s stmt = seen s.public s.asked s.tables stmt
+
+-- ---- a statement that the store cut off
+-- the accesses until the rows are counted
+abbrev pub count_end : Public → Skeleton → ℕ
+count_end p s = length (whole_script p s (ended Whole))
+
+-- a SELECT over a join ends with an access of its own
+abbrev pub ending_len : Skeleton → ℕ
+ending_len (Rows (Join a b on equals) columns) = 1
+ending_len _ = 0
+
+-- the accesses until the result of the first plan is read back and discarded
+abbrev pub first_end : Public → Skeleton → Seen → ℕ
+first_end p s seen = length (whole_script p s (record seen { then = None })) - ending_len s
+
+abbrev pub held_if : {A : Type 0} → Bool → Option A → Option A
+held_if b o = if b then o else None
+
+-- what is seen where the nth access failed: k and the plan once the count has ended, the second plan once the first one has
+abbrev pub cut_at : ℕ → Public → Skeleton → Seen → Seen
+cut_at n p s seen =
+    record {
+      k = held_if (nat_lt (count_end p s) n) seen.k;
+      plan = held_if (nat_lt (count_end p s) n) seen.plan;
+      then = held_if (nat_lt (first_end p s seen) n) seen.then;
+      end = Cut n;
+    }
+
+-- the same for each statement: whole, or cut off
+abbrev pub seen_or_cut : Option ℕ → Session → Stmt → Seen
+seen_or_cut None s stmt = seen_now s stmt
+seen_or_cut (Some n) s stmt = cut_at n s.public (skeleton stmt) (seen_now s stmt)
+
+abbrev pub served : Option ℕ → Session → Stmt → Served
+served broken s stmt = record { skeleton = skeleton stmt; seen = seen_or_cut broken s stmt }
+
+-- a statement that the store cut off changes no table
+abbrev pub settle_or_cut : Option ℕ → Session → Stmt → Tables
+settle_or_cut None s stmt = settle s.public s.asked s.tables stmt
+settle_or_cut (Some n) s stmt = s.tables
+
+abbrev pub after : Option ℕ → Session → Stmt → Session
+after broken s stmt = record {
+  public = next s.public (skeleton stmt) (seen_or_cut broken s stmt);
+  tables = settle_or_cut broken s stmt;
+  asked = s.asked + length (script s.public (skeleton stmt) (seen_or_cut broken s stmt));
+}
+
+abbrev pub answer_or_cut : Option ℕ → Session → Stmt → Answer
+answer_or_cut None s stmt = verdict s.public s.asked s.tables stmt
+answer_or_cut (Some n) s stmt = Refused StoreFault
+
+-- ---- a whole session: of each text, after how many accesses the store cut it off, if it did
+abbrev pub Broken : Type 0
+Broken = List (Option ℕ)
+
+abbrev pub head_of : Broken → Option ℕ
+head_of [] = None
+head_of (b ∷ bs) = b
+
+abbrev pub rest_of : Broken → Broken
+rest_of [] = []
+rest_of (b ∷ bs) = bs
+
+abbrev pub answers : Session → List Spelt → Broken → List Answer
+answers s [] bs = []
+answers s (Ok stmt ∷ texts) bs = answer_or_cut (head_of bs) s stmt ∷ answers (after (head_of bs) s stmt) texts (rest_of bs)
+answers s (Err at ∷ texts) bs = Refused (Syntax at) ∷ answers s texts (rest_of bs)
+
+abbrev pub all_served : Session → List Spelt → Broken → List Served
+all_served s [] bs = []
+all_served s (Ok stmt ∷ texts) bs = served (head_of bs) s stmt ∷ all_served (after (head_of bs) s stmt) texts (rest_of bs)
+all_served s (Err at ∷ texts) bs = all_served s texts (rest_of bs)
+
+abbrev pub after_all : Session → List Spelt → Broken → Session
+after_all s [] bs = s
+after_all s (Ok stmt ∷ texts) bs = after_all (after (head_of bs) s stmt) texts (rest_of bs)
+after_all s (Err at ∷ texts) bs = after_all s texts (rest_of bs)
+
+-- no tables, and nothing asked
+abbrev pub first_public : (buffer depth pack : ℕ) → Option Plan → Public
+first_public buffer depth pack plan = record { tables = []; next_region = 1; buffer = buffer; depth = depth; pack = pack; plan = plan }
+
+abbrev pub first_session : Public → Session
+first_session p = record { public = p; tables = []; asked = 0 }

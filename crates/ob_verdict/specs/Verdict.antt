@@ -1,0 +1,125 @@
+-- What the engine answers, and what a watcher sees of it.
+use Rattle.std.specs.Prelude.{ℕ, ◌*◌, ◌^◌, nat_le, Bool, List, [], ◌∷◌, map, length, Option, Some, None, is_some, if◌then◌else◌}
+use Rattle.std.specs.Option.{option_map_or, option_map}
+use Rattle.ob_base.specs.declared.config.Public.{Public}
+use Rattle.ob_base.specs.declared.config.Plan.{Plan}
+use Rattle.ob_base.specs.declared.config.Plan.TheVariants.{Small, Large, Continuous, Hash}
+use Rattle.ob_base.specs.declared.seen.Seen.{Seen}
+use Rattle.ob_base.specs.declared.seen.End.{End}
+use Rattle.ob_base.specs.declared.seen.End.TheVariants.{Static, Whole, AfterCount}
+use Rattle.ob_base.specs.declared.refusal.Refusal.{Refusal}
+use Rattle.ob_base.specs.declared.refusal.Refusal.TheVariants.{NotConsecutive, Overflow}
+use Rattle.ob_base.specs.declared.skeleton.Source.{Source}
+use Rattle.ob_base.specs.declared.skeleton.Source.TheVariants.{Table as OneTable, Join}
+use Rattle.ob_base.specs.Limits.{buffered}
+use Rattle.ob_base.specs.Plans.{choose}
+use Rattle.ob_base.specs.Stored.{Stored, headings, stored_at}
+use Rattle.ob_row.specs.Slots.{Slots, rows, selected, is_consecutive}
+use Rattle.ob_row.specs.Truth.{is_true}
+use Rattle.ob_sql.specs.declared.stmt.Select.{Select}
+use Rattle.ob_sql.specs.declared.stmt.Stmt.{Stmt}
+use Rattle.ob_sql.specs.declared.stmt.Stmt.TheVariants.{Select as SelectStmt}
+use Rattle.ob_sql.specs.Skeleton.{has_totals}
+use Rattle.ob_mean.specs.declared.answer.Answer.{Answer}
+use Rattle.ob_mean.specs.Refusals.{early_refusal}
+use Rattle.ob_mean.specs.Step.{Database, join_places, select_condition, refusal_of, or_else, accepted_answer, answered}
+use Rattle.ob_verdict.specs.Results.{joined, unplaced}
+
+-- the tables in place
+abbrev pub Tables : Type 0
+Tables = List (Stored Slots)
+
+-- the same tables as bags
+abbrev pub database : Tables → Database
+database ts = map (λ t. record { heading = t.heading; held = rows t.held }) ts
+
+abbrev pub slots_at : List ℕ → Tables → Slots
+slots_at name ts = option_map_or (λ t. t.held) (stored_at name ts) []
+
+-- the slots over which a SELECT of rows runs
+abbrev pub source_slots : Public → Source → Tables → Slots
+source_slots p (OneTable name) ts = slots_at name ts
+source_slots p (Join a b on equals) ts =
+    let places = join_places (Join a b on equals) (headings ts) in joined places.0 places.1 p.pack p.buffer (slots_at a ts) (slots_at b ts)
+
+abbrev pub selected_places : Public → Select → Tables → List ℕ
+selected_places p q ts = selected (is_true (select_condition q (headings ts))) (source_slots p q.source ts)
+
+-- the plan for these selected places of n
+abbrev pub plan_for : Public → (n : ℕ) → List ℕ → Plan
+plan_for p n places = choose p.plan (buffered p.pack p.buffer) n (length places) (is_consecutive places)
+
+-- the slots of a bucket, and the first place with no bucket
+abbrev pub bucket_size : Public → ℕ
+bucket_size p = p.depth * p.pack
+
+abbrev pub first_unplaced : Public → List ℕ → Option ℕ
+first_unplaced p places = unplaced (length places) (bucket_size p) places
+
+-- a plan that is forced refuses: Continuous where the places are not consecutive, Hash where a place finds no bucket
+abbrev pub forced_refusal : Public → Option Plan → List ℕ → Option Refusal
+forced_refusal p None places = None
+forced_refusal p (Some Small) places = None
+forced_refusal p (Some Large) places = None
+forced_refusal p (Some Continuous) places = if is_consecutive places then None else Some NotConsecutive
+forced_refusal p (Some Hash) places = option_map Overflow (first_unplaced p places)
+
+-- none for no rows
+abbrev pub rows_refusal : Public → List ℕ → Option Refusal
+rows_refusal p [] = None
+rows_refusal p (i ∷ is) = forced_refusal p p.plan (i ∷ is)
+
+abbrev pub select_refusal : Public → Tables → Select → Option Refusal
+select_refusal p ts q = if has_totals q then None else rows_refusal p (selected_places p q ts)
+
+abbrev pub last_refusal : Public → Tables → Stmt → Option Refusal
+last_refusal p ts (SelectStmt q) = select_refusal p ts q
+last_refusal p ts _ = None
+
+-- so many accesses were asked that no statement is served
+abbrev pub is_late : ℕ → Bool
+is_late m = nat_le (2 ^ 63) m
+
+-- the refusal of a statement, where m accesses were asked before
+abbrev pub refusal : Public → (m : ℕ) → Tables → Stmt → Option Refusal
+refusal p m ts stmt = or_else (refusal_of (is_late m) p.pack p.buffer (database ts) stmt) (last_refusal p ts stmt)
+
+abbrev pub verdict : Public → (m : ℕ) → Tables → Stmt → Answer
+verdict p m ts stmt = answered (refusal p m ts stmt) (accepted_answer (database ts) stmt)
+
+-- ---- what is seen
+abbrev pub ended : End → Seen
+ended end = record { k = None; plan = None; then = None; end = end }
+
+abbrev pub counted : (k : ℕ) → (plan second : Option Plan) → End → Seen
+counted k plan second end = record { k = Some k; plan = plan; then = second; end = end }
+
+-- after a Hash that wasn't forced and left a place out, Small is taken
+abbrev pub fallback : (forced : Option Plan) → (left : Option ℕ) → Option Plan
+fallback (Some plan) left = None
+fallback None None = None
+fallback None (Some i) = Some Small
+
+-- after the count: no plan for no rows, none for Continuous where it refuses
+abbrev pub seen_with : Public → Plan → List ℕ → Seen
+seen_with p Small places = counted (length places) (Some Small) None Whole
+seen_with p Large places = counted (length places) (Some Large) None Whole
+seen_with p Continuous places =
+    if is_consecutive places then counted (length places) (Some Continuous) None Whole else counted (length places) None None AfterCount
+seen_with p Hash places = counted (length places) (Some Hash) (fallback p.plan (first_unplaced p places)) Whole
+
+abbrev pub seen_rows : Public → (n : ℕ) → List ℕ → Seen
+seen_rows p n [] = counted 0 None None Whole
+seen_rows p n (i ∷ is) = seen_with p (plan_for p n (i ∷ is)) (i ∷ is)
+
+abbrev pub seen_select : Public → Tables → Select → Seen
+seen_select p ts q =
+    if has_totals q then ended Whole else seen_rows p (length (source_slots p q.source ts)) (selected_places p q ts)
+
+abbrev pub seen_started : Public → Tables → Stmt → Seen
+seen_started p ts (SelectStmt q) = seen_select p ts q
+seen_started p ts _ = ended Whole
+
+abbrev pub seen : Public → (m : ℕ) → Tables → Stmt → Seen
+seen p m ts stmt =
+    if is_some (early_refusal (is_late m) p.pack p.buffer (headings ts) stmt) then ended Static else seen_started p ts stmt

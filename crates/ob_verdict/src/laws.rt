@@ -1,0 +1,46 @@
+//! Laws of the definitions that the engine's contracts stand on.
+ghost use Rattle.std.specs.Prelude.{◌≡◌, ◌≤◌, ◌<◌, ℕ, Bool, true, None, length, filter};
+ghost use Rattle.ob_base.specs.Limits.{buffered_blocks};
+ghost use Rattle.ob_base.specs.declared.config.Public.{Public};
+ghost use Rattle.ob_row.specs.Bags.{Same};
+ghost use Rattle.ob_row.specs.Rows.{Row, AreDistinct, pairs};
+ghost use Rattle.ob_row.specs.Slots.{Slots, rows, selected, is_consecutive};
+ghost use Rattle.ob_sql.specs.declared.stmt.Stmt.{Stmt};
+ghost use Rattle.ob_verdict.specs.Results.{small_slots, large_slots, continuous_slots, hash_slots, unplaced, joined};
+ghost use Rattle.ob_verdict.specs.Verdict.{Tables};
+ghost use Rattle.ob_verdict.specs.Laws.{SettlesAsStep, ShowsKindAlone, PlanIsWhole, ForcedShowsAlike, ShowsNotConsecutive, SeenIsLawful, PrintsAnswer};
+
+/// The tables in place and the tables as bags go on alike.
+pub fn settles_as_step()
+    ensures { (p : Public) (m : ℕ) (ts : Tables) (stmt : Stmt) → SettlesAsStep p m ts stmt }
+{}
+
+/// What is seen of a statement tells no more than its kind, the number of its rows and its plan.
+pub fn seen_laws()
+    ensures kind_alone { ShowsKindAlone }
+    ensures plan_is_whole { PlanIsWhole }
+    ensures forced_alike { ForcedShowsAlike }
+    ensures one_refusal_shows { ShowsNotConsecutive }
+    ensures lawful { SeenIsLawful }
+{}
+
+/// Each plan's result has the selected rows, each as often.
+pub fn results_have_selected()
+    ensures small { (test : Row → Bool) (slots : Slots) → rows (small_slots test slots) ≡ filter test (rows slots) }
+    ensures large { (test : Row → Bool) (slots : Slots) → rows (large_slots test slots) ≡ filter test (rows slots) }
+    ensures continuous { (k : ℕ) (test : Row → Bool) (slots : Slots) → 0 < k → length (selected test slots) ≤ k →
+        is_consecutive (selected test slots) ≡ true → Same (filter test (rows slots)) (rows (continuous_slots k test slots)) }
+    ensures hash { (k n : ℕ) (test : Row → Bool) (slots : Slots) → 0 < k → unplaced k n (selected test slots) ≡ None →
+        Same (filter test (rows slots)) (rows (hash_slots k n test slots)) }
+{}
+
+/// The joined slots have the pairs, where the left keys are distinct.
+pub fn joined_pairs()
+    ensures { (i j pack room : ℕ) (left right : Slots) → AreDistinct i (rows left) → 1 ≤ pack → 1 ≤ buffered_blocks pack room →
+        Same (pairs i j (rows left) (rows right)) (rows (joined i j pack room left right)) }
+{}
+
+/// What a SELECT of rows prints from its result is its answer, by each plan and over a join.
+pub fn prints_answer()
+    ensures { PrintsAnswer }
+{}

@@ -1,0 +1,6 @@
+//! What an engine over slots answers and shows, and what that has to do with SQL's meaning.
+#![tactic(auto)]
+
+mod laws;
+
+pub use laws::{joined_pairs, prints_answer, results_have_selected, seen_laws, settles_as_step};
