@@ -83,7 +83,7 @@ fn count_blocks<S: BlockStore, R: Revisions>(
     ensures rows { SameSizes rows.old rows.new }
     ensures ok { OnOk result (Went (count_part flat.now.region (blocks_for (length rows.old) flat.now.capacity)) none (at R.state vault.old (S.state store.old)) (at R.state vault.new (S.state store.new))) }
     ensures err { IfErr result (λ e. PassCut e (count_part flat.now.region (blocks_for (length rows.old) flat.now.capacity)) none (at R.state vault.old (S.state store.old)) (at R.state vault.new (S.state store.new))) }
-    ensures never { IfErr result (λ e. (e ≡ OpErr.Failed) ⊎ ((place : ℕ) × (e ≡ OpErr.Tampered flat.now.region place))) }
+    ensures never { IfErr result (λ e. (e ≡ OpErr.Failed) ⊎ ((place : ℕ) × (place < blocks_for (length rows.old) flat.now.capacity) × (e ≡ OpErr.Tampered flat.now.region place))) }
     ensures seals { (good : ℕ → List ℕ → Bool) → Seals good (at R.state vault.old (S.state store.old)) (at R.state vault.new (S.state store.new)) }
     ensures most { IfOk result (λ counted. counted.k ≤ flat.now.capacity) }
     ensures told { (slots : Slots) → Represents (length rows.old) flat.now slots (at R.state vault.old (S.state store.old)) → (S.state store.new).lie ≡ None
@@ -123,7 +123,7 @@ pub fn count<S: BlockStore, R: Revisions>(
     requires room { IsIdle (width flat.now.schema) room.old }
     ensures ok { OnOk result (Went (count_part flat.now.region (blocks_for room.old.pack flat.now.capacity)) none (at R.state vault.old (S.state store.old)) (at R.state vault.new (S.state store.new))) }
     ensures err { IfErr result (λ e. PassCut e (count_part flat.now.region (blocks_for room.old.pack flat.now.capacity)) none (at R.state vault.old (S.state store.old)) (at R.state vault.new (S.state store.new))) }
-    ensures never { IfErr result (λ e. (e ≡ OpErr.Failed) ⊎ ((place : ℕ) × (e ≡ OpErr.Tampered flat.now.region place))) }
+    ensures never { IfErr result (λ e. (e ≡ OpErr.Failed) ⊎ ((place : ℕ) × (place < blocks_for room.old.pack flat.now.capacity) × (e ≡ OpErr.Tampered flat.now.region place))) }
     ensures seals { (good : ℕ → List ℕ → Bool) → Seals good (at R.state vault.old (S.state store.old)) (at R.state vault.new (S.state store.new)) }
     ensures flat { IsFlat room.old.pack flat.now (at R.state vault.new (S.state store.new)) }
     ensures room { room.new ≡ record room.old { high = max room.old.high room.old.pack } }

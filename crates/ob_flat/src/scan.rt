@@ -40,7 +40,7 @@ pub fn scan_blocks<S: BlockStore, R: Revisions, V: Visit>(
     ensures rows { SameSizes rows.old rows.new }
     ensures ok { OnOk result (Went (count_part flat.now.region (blocks_for (length rows.old) flat.now.capacity)) none (at R.state vault.old (S.state store.old)) (at R.state vault.new (S.state store.new))) }
     ensures err { IfErr result (λ e. PassCut e (count_part flat.now.region (blocks_for (length rows.old) flat.now.capacity)) none (at R.state vault.old (S.state store.old)) (at R.state vault.new (S.state store.new))) }
-    ensures never { IfErr result (λ e. (e ≡ OpErr.Failed) ⊎ ((place : ℕ) × (e ≡ OpErr.Tampered flat.now.region place))) }
+    ensures never { IfErr result (λ e. (e ≡ OpErr.Failed) ⊎ ((place : ℕ) × (place < blocks_for (length rows.old) flat.now.capacity) × (e ≡ OpErr.Tampered flat.now.region place))) }
     ensures seals { (good : ℕ → List ℕ → Bool) → Seals good (at R.state vault.old (S.state store.old)) (at R.state vault.new (S.state store.new)) }
     ensures suits { OnOk result (V.Suits flat.now visit.new (blocks_for (length rows.old) flat.now.capacity * length rows.old)) }
     ensures told { (slots : Slots) → Represents (length rows.old) flat.now slots (at R.state vault.old (S.state store.old)) → (S.state store.new).lie ≡ None

@@ -45,7 +45,7 @@ pub fn swap_blocks<S: BlockStore, R: Revisions, C: Change>(
     ensures rows { SameSizes rows.old rows.new }
     ensures ok { OnOk result (Went (copy_part flat.now.region to (blocks_for (length rows.old) flat.now.capacity)) (one to) (at R.state vault.old (S.state store.old)) (at R.state vault.new (S.state store.new))) }
     ensures err { IfErr result (λ e. PassCut e (copy_part flat.now.region to (blocks_for (length rows.old) flat.now.capacity)) (one to) (at R.state vault.old (S.state store.old)) (at R.state vault.new (S.state store.new))) }
-    ensures never { IfErr result (λ e. (e ≡ OpErr.Failed) ⊎ ((place : ℕ) × (e ≡ OpErr.Tampered flat.now.region place))) }
+    ensures never { IfErr result (λ e. (e ≡ OpErr.Failed) ⊎ ((place : ℕ) × (place < blocks_for (length rows.old) flat.now.capacity) × (e ≡ OpErr.Tampered flat.now.region place))) }
     ensures seals { (good : ℕ → List ℕ → Bool) → Accepts good (length rows.old) flat.now.schema to → Seals good (at R.state vault.old (S.state store.old)) (at R.state vault.new (S.state store.new)) }
     ensures flat { OnOk result (IsFlat (length rows.old) (record flat.now { region = to }) (at R.state vault.new (S.state store.new))) }
     ensures most { IfOk result (λ k. k ≤ blocks_for (length rows.old) flat.now.capacity * length rows.old) }

@@ -26,6 +26,7 @@ pub trait Visit {
         requires index { i < 2147483648 }
         requires suits { Suits flat.now self.old i }
         ensures suits { OnOk result (Suits flat.now self.new (i + 1)) }
+        ensures spells { OnOk result ((slot : Option Row) × Begins flat.now.schema slot row.now) }
         ensures told { (slot : Option Row) → Begins flat.now.schema slot row.now → MatchResult result (λ _. self.new ≡ after flat.now self.old i slot) (λ _. ⊥) };
 }
 

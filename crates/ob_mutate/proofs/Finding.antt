@@ -1,9 +1,9 @@
 -- The first empty slot, and a row with the key.
-use Rattle.std.proofs.Common.{◌≡◌, ◌≢◌, ◌≤◌, ◌<◌, ◌+◌, ◌-◌, ◌==◌, ◌&&◌, ◌||◌, ℕ, zero, suc, Bool, true, false, not, nat_lt, List, [], ◌∷◌, ◌++◌, Option, Some, None, is_some, length, if◌then◌else◌, refl, sym, ◌∙◌, ap, subst, arith}
+use Rattle.std.proofs.Common.{◌≡◌, ◌≢◌, ◌≤◌, ◌<◌, ◌+◌, ◌-◌, ◌==◌, ◌&&◌, ◌||◌, ℕ, suc, Bool, true, false, not, nat_lt, List, [], ◌∷◌, Option, Some, None, is_some, length, if◌then◌else◌, refl, sym, ◌∙◌, ap, arith}
 use Rattle.std.proofs.lemmas.Bool.Decides.{nat_tests}
 use Rattle.std.specs.List.{list_any}
 use Rattle.ob_base.specs.Schemas.{Columns, key_place}
-use Rattle.ob_row.specs.Rows.{Row, agree_at, has_key}
+use Rattle.ob_row.specs.Rows.{Row, has_key}
 use Rattle.ob_blocks.specs.Blocks.{scanned, map_at, up_to, none_of}
 use Rattle.ob_blocks.proofs.Blocks.{scanned-append, scanned-same}
 use Rattle.ob_row.specs.Slots.{Slots, rows, fill_first}
@@ -104,7 +104,7 @@ searched key row n m slots size =
     let all = seen key row n 0 start slots (omega (arith, size)) in
     let f = scanned (found key row n) 0 start slots in
     let behind = scanned-append (found key row n) 0 start slots (none_of (m - length slots))
-        ∙ scanned-same (found key row n) (0 + length slots) (m - length slots) f None (λ k beyond. ap (λ (b : Bool). if b && not (is_some f.free) then record f { free = Some k } else f) (past k n (omega (arith, size, beyond)))) in
+    ∙ scanned-same (found key row n) (0 + length slots) (m - length slots) f None (λ k beyond. ap (λ (b : Bool). if b && not (is_some f.free) then record f { free = Some k } else f) (past k n (omega (arith, size, beyond)))) in
     record {
       free = ap (λ (h : Finds). h.free) behind ∙ all.free;
       duplicate = ap (λ (h : Finds). h.duplicate) behind ∙ all.duplicate ∙ any_key key row (rows slots);

@@ -1,5 +1,5 @@
 -- What an INSERT answers, and what it leaves.
-use Rattle.std.specs.Prelude.{ℕ, ◌==◌, length, if◌then◌else◌}
+use Rattle.std.specs.Prelude.{◌==◌, length, if◌then◌else◌}
 use Rattle.ob_base.specs.Schemas.{Columns, key_place}
 use Rattle.ob_row.specs.Rows.{Row, has_key}
 use Rattle.ob_row.specs.Slots.{Slots, rows, fill_first}

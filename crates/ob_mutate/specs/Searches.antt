@@ -1,5 +1,5 @@
 -- What the reading pass of an INSERT looks for.
-use Rattle.std.specs.Prelude.{ℕ, ◌+◌, Bool, true, false, ◌&&◌, ◌||◌, ◌==◌, nat_lt, List, [], ◌∷◌, Option, Some, None, is_some, not, if◌then◌else◌}
+use Rattle.std.specs.Prelude.{ℕ, ◌+◌, Bool, true, false, ◌&&◌, ◌==◌, nat_lt, [], ◌∷◌, Option, Some, None, is_some, not, if◌then◌else◌}
 use Rattle.ob_row.specs.Rows.{Row, agree_at}
 use Rattle.ob_base.specs.Schemas.{Columns}
 use Rattle.ob_row.specs.Spelling.{Fits}

@@ -106,7 +106,7 @@ fn insert_blocks<S: BlockStore, R: Revisions>(
     ensures rows { SameSizes rows.old rows.new }
     ensures ok { OnOk result (Went (count_part flat.now.region (blocks_for (length rows.old) flat.now.capacity) ++ copy_part flat.now.region fresh (blocks_for (length rows.old) flat.now.capacity)) (one fresh) (at R.state vault.old (S.state store.old)) (at R.state vault.new (S.state store.new))) }
     ensures err { IfErr result (λ e. PassCut e (count_part flat.now.region (blocks_for (length rows.old) flat.now.capacity) ++ copy_part flat.now.region fresh (blocks_for (length rows.old) flat.now.capacity)) (one fresh) (at R.state vault.old (S.state store.old)) (at R.state vault.new (S.state store.new))) }
-    ensures never { IfErr result (λ e. (e ≡ OpErr.Failed) ⊎ ((place : ℕ) × (e ≡ OpErr.Tampered flat.now.region place))) }
+    ensures never { IfErr result (λ e. (e ≡ OpErr.Failed) ⊎ ((place : ℕ) × (place < blocks_for (length rows.old) flat.now.capacity) × (e ≡ OpErr.Tampered flat.now.region place))) }
     ensures seals { (good : ℕ → List ℕ → Bool) → Accepts good (length rows.old) flat.now.schema fresh → Seals good (at R.state vault.old (S.state store.old)) (at R.state vault.new (S.state store.new)) }
     ensures flat { OnOk result (IsFlat (length rows.old) (record flat.now { region = fresh }) (at R.state vault.new (S.state store.new))) }
     ensures told { IsTrue (S.state store.old).tells → (slots : Slots) → Represents (length rows.old) flat.now slots (at R.state vault.old (S.state store.old)) → (S.state store.new).lie ≡ None
@@ -150,7 +150,7 @@ fn insert_rows<S: BlockStore, R: Revisions>(
     ensures rows { SameSizes rows.old rows.new }
     ensures ok { OnOk result (Went (insert_part flat.old.region vault.old.next (blocks_for (length rows.old) flat.old.capacity) (length rows.old * width flat.old.schema)) (two flat.old.region vault.old.next) (at R.state vault.old (S.state store.old)) (at R.state vault.new (S.state store.new))) }
     ensures err { IfErr result (λ e. PassCut e (insert_part flat.old.region vault.old.next (blocks_for (length rows.old) flat.old.capacity) (length rows.old * width flat.old.schema)) (one vault.old.next) (at R.state vault.old (S.state store.old)) (at R.state vault.new (S.state store.new))) }
-    ensures never { IfErr result (λ e. (e ≡ OpErr.Failed) ⊎ (e ≡ OpErr.NoMemory) ⊎ ((place : ℕ) × (e ≡ OpErr.Tampered flat.old.region place))) }
+    ensures never { IfErr result (λ e. (e ≡ OpErr.Failed) ⊎ (e ≡ OpErr.NoMemory) ⊎ ((place : ℕ) × (place < blocks_for (length rows.old) flat.old.capacity) × (e ≡ OpErr.Tampered flat.old.region place))) }
     ensures memory { result ≡ Err OpErr.NoMemory → Began (make_at vault.old.next (blocks_for (length rows.old) flat.old.capacity) (length rows.old * width flat.old.schema)) (S.state store.old) (S.state store.new) }
     ensures gone { MatchResult result (λ _. (R.state vault.new.revs).live flat.old.region ≡ None) (λ _. (R.state vault.new.revs).live vault.old.next ≡ None) }
     ensures seals { (good : ℕ → List ℕ → Bool) → Accepts good (length rows.old) flat.old.schema vault.old.next → Seals good (at R.state vault.old (S.state store.old)) (at R.state vault.new (S.state store.new)) }
@@ -200,7 +200,7 @@ pub fn insert<S: BlockStore, R: Revisions>(
     requires cells { Fits flat.old.schema cells.now }
     ensures ok { OnOk result (Went (insert_part flat.old.region vault.old.next (blocks_for room.old.pack flat.old.capacity) (room.old.pack * width flat.old.schema)) (two flat.old.region vault.old.next) (at R.state vault.old (S.state store.old)) (at R.state vault.new (S.state store.new))) }
     ensures err { IfErr result (λ e. PassCut e (insert_part flat.old.region vault.old.next (blocks_for room.old.pack flat.old.capacity) (room.old.pack * width flat.old.schema)) (one vault.old.next) (at R.state vault.old (S.state store.old)) (at R.state vault.new (S.state store.new))) }
-    ensures never { IfErr result (λ e. (e ≡ OpErr.Failed) ⊎ (e ≡ OpErr.NoMemory) ⊎ ((place : ℕ) × (e ≡ OpErr.Tampered flat.old.region place))) }
+    ensures never { IfErr result (λ e. (e ≡ OpErr.Failed) ⊎ (e ≡ OpErr.NoMemory) ⊎ ((place : ℕ) × (place < blocks_for room.old.pack flat.old.capacity) × (e ≡ OpErr.Tampered flat.old.region place))) }
     ensures memory { result ≡ Err OpErr.NoMemory → Began (make_at vault.old.next (blocks_for room.old.pack flat.old.capacity) (room.old.pack * width flat.old.schema)) (S.state store.old) (S.state store.new) }
     ensures gone { MatchResult result (λ _. (R.state vault.new.revs).live flat.old.region ≡ None) (λ _. (R.state vault.new.revs).live vault.old.next ≡ None) }
     ensures seals { (good : ℕ → List ℕ → Bool) → Accepts good room.old.pack flat.old.schema vault.old.next → Seals good (at R.state vault.old (S.state store.old)) (at R.state vault.new (S.state store.new)) }

@@ -47,7 +47,11 @@ fn two_ints() -> Schema
 // An access by its letter: its region, its place or number of blocks, and the length of a block.
 fn entry(access: Access) -> (u8, u64, u32, u32) {
     match access {
-        Access::Make { region, blocks, len } => (b'M', region, blocks, len),
+        Access::Make {
+            region,
+            blocks,
+            len,
+        } => (b'M', region, blocks, len),
         Access::Read { region, place } => (b'R', region, place, 0),
         Access::Write { region, place } => (b'W', region, place, 0),
         Access::Discard { region } => (b'D', region, 0, 0),
@@ -177,7 +181,10 @@ fn inserts_a_row(rt: HostRuntime) {
         rt.alloc(),
         1,
         &[(1, 10, Inserted::Done)],
-        Counted { k: 1, consecutive: true },
+        Counted {
+            k: 1,
+            consecutive: true,
+        },
         0,
         &[
             (b'M', 1, 4, 49),
@@ -215,7 +222,10 @@ fn refuses_a_key(rt: HostRuntime) {
         rt.alloc(),
         1,
         &[(1, 10, Inserted::Done), (1, 99, Inserted::Duplicate)],
-        Counted { k: 1, consecutive: true },
+        Counted {
+            k: 1,
+            consecutive: true,
+        },
         19,
         &[
             (b'M', 3, 4, 49),
@@ -255,7 +265,10 @@ fn refuses_where_full(rt: HostRuntime) {
             (5, 50, Inserted::Full),
             (1, 50, Inserted::Duplicate),
         ],
-        Counted { k: 2, consecutive: false },
+        Counted {
+            k: 2,
+            consecutive: false,
+        },
         61,
         &[
             (b'M', 6, 4, 49),
@@ -302,7 +315,10 @@ fn packs_two(rt: HostRuntime) {
         rt.alloc(),
         2,
         &[(1, 10, Inserted::Done)],
-        Counted { k: 1, consecutive: true },
+        Counted {
+            k: 1,
+            consecutive: true,
+        },
         0,
         &[
             (b'M', 1, 2, 66),
@@ -337,7 +353,10 @@ fn packs_three(rt: HostRuntime) {
             (5, 50, Inserted::Full),
             (4, 50, Inserted::Duplicate),
         ],
-        Counted { k: 2, consecutive: false },
+        Counted {
+            k: 2,
+            consecutive: false,
+        },
         43,
         &[
             (b'M', 7, 2, 83),

@@ -1,4 +1,4 @@
-use Rattle.std.proofs.Common.{◌≡◌, ◌+◌, ◌*◌, ◌<◌, ℕ, inl, inr, length, sym, ◌∙◌, ap, subst, arith}
+use Rattle.std.proofs.Common.{refl, ◌≡◌, ◌+◌, ◌*◌, ◌<◌, ℕ, inl, inr, length, sym, ◌∙◌, ap, subst, arith}
 use Rattle.std.proofs.lemmas.Result.{err_from_is_err_and}
 use Rattle.ob_base.specs.Accesses.{read_at}
 use Rattle.ob_base.specs.Numbers.{blocks_for}
@@ -34,7 +34,7 @@ returns-in_err-get-clause-never g c =
     let p = err_from_is_err_and c.from_residual.result c.from_residual.ensures.1 in
     rw (p.1, p.2) (elim c.in_err-get.ensures.never [
       | inl e ↦ inl (ap Rattle.ob_flat.specs.Passes.pass_error e)
-      | inr e ↦ inr (c.loop-u.u, ap Rattle.ob_flat.specs.Passes.pass_error e)
+      | inr e ↦ inr (c.loop-u.u, omega (arith, c.div_ceil-blocks.ensures), ap Rattle.ob_flat.specs.Passes.pass_error e)
     ])
 
 pub returns-in_err-get-clause-seals : goal.returns-in_err-get-clause-seals
@@ -106,3 +106,6 @@ loop-u-preserved g c =
   where
     more : (u pack n : ℕ) → n ≡ pack → u * pack + n ≡ (u + 1) * pack
     more u pack n same = ap (λ (k : ℕ). u * pack + k) same ∙ grind arith
+
+pub returns-in-Err-clause-never : goal.returns-in-Err-clause-never
+returns-in-Err-clause-never g c = inr (c.loop-u.u, omega (arith, c.div_ceil-blocks.ensures), refl)

@@ -1,4 +1,4 @@
-use Rattle.std.proofs.Common.{◌≡◌, ◌+◌, ◌*◌, ◌<◌, ◌≤◌, ◌==◌, if◌then◌else◌, ℕ, inl, inr, length, take, count_by, ◌∙◌, ap, arith, below_more}
+use Rattle.std.proofs.Common.{refl, ◌≡◌, ◌+◌, ◌*◌, ◌<◌, ◌≤◌, ◌==◌, if◌then◌else◌, ℕ, inl, inr, length, take, count_by, ◌∙◌, ap, arith, below_more}
 use Rattle.std.proofs.lemmas.Result.{err_from_is_err_and}
 use Rattle.std.proofs.lemmas.Bool.Decides.{nat_tests}
 use Rattle.ob_base.specs.Accesses.{read_at, write_at}
@@ -46,7 +46,7 @@ returns-in_err-get-clause-never g c =
     let p = err_from_is_err_and c.from_residual.result c.from_residual.ensures.1 in
     rw (p.1, p.2) (elim c.in_err-get.ensures.never [
       | inl e ↦ inl (ap pass_error e)
-      | inr e ↦ inr (c.loop-u.u, ap pass_error e)
+      | inr e ↦ inr (c.loop-u.u, omega (arith, c.div_ceil-blocks.ensures), ap pass_error e)
     ])
 
 pub returns-in_err-get-clause-seals : goal.returns-in_err-get-clause-seals
@@ -214,3 +214,6 @@ returns-clause-told g c = λ tells slots is nolie.
           ∙ count_whole picks blocks pack slots (g.met.C.Change.none c.args.change.now) (omega (arith, is.size, blocks_hold pack flat.capacity c.requires.pack.0)),
       represents_changed pack flat c.args.to f slots _ _ c.requires.pack.0 is c.requires.past (λ i slot fits. g.met.C.Change.keeps c.args.change.now flat.schema i slot c.requires.suits fits) (λ p below. was.1 p (omega (arith, last, below))),
     )
+
+pub returns-in-Err-clause-never : goal.returns-in-Err-clause-never
+returns-in-Err-clause-never g c = inr (c.loop-u.u, omega (arith, c.div_ceil-blocks.ensures), refl)

@@ -1,18 +1,15 @@
-use Rattle.std.proofs.Common.{◌≡◌, ◌*◌, ◌+◌, ◌≤◌, ◌<◌, ◌++◌, ℕ, Option, None, List, Bool, false, length, if◌then◌else◌, refl, sym, ◌∙◌, ap, subst, arith}
+use Rattle.std.proofs.Common.{◌≡◌, ◌*◌, ℕ, Option, None, false, length, refl, sym, ◌∙◌, ap, subst, arith}
 use Rattle.std.proofs.lemmas.Result.{err_from_is_err_and}
 use Rattle.ob_base.specs.Numbers.{blocks_for}
-use Rattle.ob_base.specs.Schemas.{Columns, width, key_place}
+use Rattle.ob_base.specs.Schemas.{width}
 use Rattle.ob_script.specs.Parts.{count_part, copy_part}
-use Rattle.ob_vault.specs.Calls.{Went, none, one}
+use Rattle.ob_vault.specs.Calls.{none, one}
 use Rattle.ob_vault.specs.Places.{at, RowsFit}
-use Rattle.ob_vault.proofs.Runs.{went_length, went_wider, went_join, none_went, none_cut, tells_went, fit_same, seals_join}
+use Rattle.ob_vault.proofs.Runs.{went_length, went_wider, went_join, none_went, tells_went, fit_same, seals_join}
 use Rattle.ob_row.specs.Rows.{Row}
 use Rattle.ob_blocks.specs.Blocks.{map_at, scanned}
-use Rattle.ob_flat.specs.declared.flat.Flat.{Flat}
-use Rattle.ob_flat.specs.declared.fault.OpErr.{OpErr}
 use Rattle.ob_row.specs.Slots.{Slots}
-use Rattle.ob_flat.specs.Flats.{IsMade, IsFlat, Represents, Accepts, whole_blocks}
-use Rattle.ob_flat.specs.Passes.{PassCut}
+use Rattle.ob_flat.specs.Flats.{Represents, Accepts, whole_blocks}
 use Rattle.ob_flat.proofs.Runs.{pass_more, pass_after, pass_wider}
 use Rattle.ob_flat.proofs.Tables.{reads, flat_lasts, made_lasts, represents_lasts}
 use Rattle.ob_mutate.specs.declared.searching.Search.{Search}
@@ -68,7 +65,8 @@ returns-in_err-swap_blocks-clause-err g c =
 pub returns-in_err-swap_blocks-clause-never : goal.returns-in_err-swap_blocks-clause-never
 returns-in_err-swap_blocks-clause-never g c =
     let p = err_from_is_err_and c.from_residual-in_err-swap_blocks.result c.from_residual-in_err-swap_blocks.ensures.1 in
-    rw (p.1, p.2) c.in_err-swap_blocks.ensures.never
+    let never = rw c.scan_blocks.ensures.rows.count at c.in_err-swap_blocks.ensures.never in
+    rw (p.1, p.2) never
 
 pub returns-in_err-swap_blocks-clause-seals : goal.returns-in_err-swap_blocks-clause-seals
 returns-in_err-swap_blocks-clause-seals g c = λ good fine.
@@ -117,9 +115,9 @@ returns-clause-told g c = λ tells slots is nolie.
     let start : Search = record { key = key; cells = c.args.cells; finds = none_found } in
     let f : Search → ℕ → Option Row → Search = λ s i slot. record s { finds = found s.key s.cells.now flat.capacity s.finds i slot } in
     let kept = finds_of (λ (s : Search). s.finds) (λ (s t : Search). (t.key ≡ s.key) × (t.cells.now ≡ s.cells.now)) f key cells flat.capacity 0 start whole
-        (λ a b d first second. (second.0 ∙ first.0, second.1 ∙ first.1))
-        (λ t i slot same. (ap (λ (k : Option ℕ). found k t.cells.now flat.capacity t.finds i slot) same.0 ∙ ap (λ (r : Row). found key r flat.capacity t.finds i slot) same.1, (refl, refl)))
-        start (refl, refl) in
+    (λ a b d first second. (second.0 ∙ first.0, second.1 ∙ first.1))
+    (λ t i slot same. (ap (λ (k : Option ℕ). found k t.cells.now flat.capacity t.finds i slot) same.0 ∙ ap (λ (r : Row). found key r flat.capacity t.finds i slot) same.1, (refl, refl)))
+    start (refl, refl) in
     let finds = c.scan_blocks.new.visit.finds in
     let seen : finds ≡ scanned (found key cells flat.capacity) 0 none_found whole = ap (λ (s : Search). s.finds) (c.in_ok-scan_blocks.ensures.told slots is gone) ∙ kept in
     let searched_all = searched key cells flat.capacity (blocks_for pack flat.capacity * pack) slots is.size in
@@ -127,5 +125,5 @@ returns-clause-told g c = λ tells slots is nolie.
     let a = answered columns cells slots finds (subst (λ (k : Option ℕ). IsSearched k cells slots finds) c.key_place.ensures there) in
     let answer : c.answer.result ≡ insert_answer columns cells slots = c.answer.ensures ∙ a.answer in
     let after : map_at (λ i slot. put_at c.target.result cells i slot) 0 slots ≡ slots_after c.answer.result cells slots =
-        ap (λ (o : Option ℕ). map_at (put_at o cells) 0 slots) c.target.ensures ∙ a.after ∙ ap (λ (b : Inserted). slots_after b cells slots) (sym answer) in
+    ap (λ (o : Option ℕ). map_at (put_at o cells) 0 slots) c.target.ensures ∙ a.after ∙ ap (λ (b : Inserted). slots_after b cells slots) (sym answer) in
     (answer, subst (λ (l : Slots). Represents pack (record flat { region = c.args.fresh }) l (at g.R.Revisions.state c.swap_blocks.new.vault (g.S.BlockStore.state c.swap_blocks.new.store))) after swapped')

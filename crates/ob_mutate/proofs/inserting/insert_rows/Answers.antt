@@ -7,11 +7,8 @@ use Rattle.ob_base.specs.Schemas.{width}
 use Rattle.ob_script.specs.Parts.{count_part, copy_part, insert_part}
 use Rattle.ob_vault.specs.Calls.{Went, one, two}
 use Rattle.ob_vault.specs.Places.{at}
-use Rattle.ob_vault.proofs.Runs.{went_join, went_wider, none_went, none_cut, tells_went, lives_apart, seals_join, lasts_trans}
-use Rattle.ob_flat.specs.declared.flat.Flat.{Flat}
-use Rattle.ob_flat.specs.declared.fault.OpErr.{OpErr}
-use Rattle.ob_flat.specs.declared.fault.OpErr.TheVariants.{Failed, NoMemory}
-use Rattle.ob_flat.specs.Flats.{IsFlat, Represents, Accepts}
+use Rattle.ob_vault.proofs.Runs.{went_join, went_wider, none_went, tells_went, lives_apart, seals_join, lasts_trans}
+use Rattle.ob_flat.specs.Flats.{Accepts}
 use Rattle.ob_flat.specs.Passes.{PassCut}
 use Rattle.ob_flat.proofs.Runs.{pass_more, pass_after, pass_then}
 use Rattle.ob_flat.proofs.Tables.{reads, copies, flat_lasts, represents_lasts}
@@ -63,8 +60,8 @@ returns-in-Ok-clause-ok g c =
     let filled = rw c.in_ok-fresh.ensures.number at c.in-Ok.ensures.ok in
     let both = two q next in
     let all = went_join both _ _ _ (make_at next blocks w) ((count_part q blocks ++ copy_part q next blocks) ++ discard_at q)
-        (went_wider (one next) _ _ both (λ r s. inr s) _ c.in_ok-fresh.ensures.ok)
-        (went_join both _ _ _ (count_part q blocks ++ copy_part q next blocks) (discard_at q) (went_wider (one next) _ _ both (λ r s. inr s) _ filled) (went_wider (one q) _ _ both (λ r s. inl s) _ c.move_table.ensures.went)) in
+    (went_wider (one next) _ _ both (λ r s. inr s) _ c.in_ok-fresh.ensures.ok)
+    (went_join both _ _ _ (count_part q blocks ++ copy_part q next blocks) (discard_at q) (went_wider (one next) _ _ both (λ r s. inr s) _ filled) (went_wider (one q) _ _ both (λ r s. inl s) _ c.move_table.ensures.went)) in
     subst (λ (l : List Access). Went l both (at g.R.Revisions.state c.args.vault.now (g.S.BlockStore.state c.args.store.now)) (at g.R.Revisions.state c.move_table.new.vault (g.S.BlockStore.state c.move_table.new.store))) (parts q next blocks w) all
 
 pub returns-in-Ok-clause-seals : goal.returns-in-Ok-clause-seals
@@ -101,7 +98,7 @@ returns-in-Err-clause-err g c =
     let went = c.forget.ensures.went _ c.in-Err.ensures.err.lasts.ready in
     let forgot = rw number at went in
     let all = pass_then (one next) _ _ _ _ _ (pass_after (one next) _ _ _ _ (make_at next blocks w) ((count_part q blocks ++ copy_part q next blocks) ++ discard_at q) c.in_ok-fresh.ensures.ok
-        (pass_more (one next) _ _ _ (count_part q blocks ++ copy_part q next blocks) (discard_at q) cut)) forgot refl in
+    (pass_more (one next) _ _ _ (count_part q blocks ++ copy_part q next blocks) (discard_at q) cut)) forgot refl in
     subst (λ (l : List Access). PassCut c.in-Err.e l (one next) (at g.R.Revisions.state c.args.vault.now (g.S.BlockStore.state c.args.store.now)) (at g.R.Revisions.state c.forget.new.self (g.S.BlockStore.state c.insert_blocks.new.store))) (parts q next blocks w) all
 
 pub returns-in-Err-clause-seals : goal.returns-in-Err-clause-seals
