@@ -1,5 +1,5 @@
 //! Laws of the definitions that the engine's contracts stand on.
-ghost use Rattle.std.specs.Prelude.{◌≡◌, ◌≤◌, ◌<◌, ℕ, Bool, true, None, length, filter};
+ghost use Rattle.std.specs.Prelude.{◌≡◌, ◌≤◌, ◌<◌, ◌++◌, ℕ, Bool, true, List, None, length, map, filter};
 ghost use Rattle.ob_base.specs.Limits.{buffered_blocks};
 ghost use Rattle.ob_base.specs.declared.config.Public.{Public};
 ghost use Rattle.ob_row.specs.Bags.{Same};
@@ -9,6 +9,16 @@ ghost use Rattle.ob_sql.specs.declared.stmt.Stmt.{Stmt};
 ghost use Rattle.ob_verdict.specs.Results.{small_slots, large_slots, continuous_slots, hash_slots, unplaced, joined};
 ghost use Rattle.ob_verdict.specs.Verdict.{Tables};
 ghost use Rattle.ob_verdict.specs.Laws.{SettlesAsStep, ShowsKindAlone, PlanIsWhole, ForcedShowsAlike, ShowsNotConsecutive, SeenIsLawful, PrintsAnswer};
+
+/// Being the same bag is an equivalence, and is kept where lists are joined, mapped and filtered.
+pub fn bags_are_kept<A, B>()
+    ensures same { (xs : List A) → Same xs xs }
+    ensures turned { (xs ys : List A) → Same xs ys → Same ys xs }
+    ensures chained { (xs ys zs : List A) → Same xs ys → Same ys zs → Same xs zs }
+    ensures joined { (xs ys us vs : List A) → Same xs ys → Same us vs → Same (xs ++ us) (ys ++ vs) }
+    ensures mapped { (f : A → B) (xs ys : List A) → Same xs ys → Same (map f xs) (map f ys) }
+    ensures filtered { (p : A → Bool) (xs ys : List A) → Same xs ys → Same (filter p xs) (filter p ys) }
+{}
 
 /// The tables in place and the tables as bags go on alike.
 pub fn settles_as_step()

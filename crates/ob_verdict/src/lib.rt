@@ -3,4 +3,6 @@
 
 mod laws;
 
-pub use laws::{joined_pairs, prints_answer, results_have_selected, seen_laws, settles_as_step};
+pub use laws::{
+    bags_are_kept, joined_pairs, prints_answer, results_have_selected, seen_laws, settles_as_step,
+};
