@@ -2,10 +2,16 @@
 #![tactic(auto)]
 
 #[cfg(test)]
+mod blocks;
+#[cfg(test)]
 mod failing;
 #[cfg(test)]
 mod faults;
 #[cfg(test)]
+mod keeping;
+#[cfg(test)]
 mod rows;
 #[cfg(test)]
 mod session;
+#[cfg(test)]
+mod turning;
