@@ -1,16 +1,17 @@
 //! Tables with their rows in memory.
-ghost use Rattle.std.specs.Prelude.{◌≡◌, ◌≤◌, length};
+ghost use Rattle.std.specs.Prelude.{◌≡◌, ◌≤◌, [], length};
 ghost use Rattle.ob_base.specs.Stored.{headings};
 ghost use Rattle.ob_mean.specs.Names.{columns_at};
 ghost use Rattle.ob_mean.specs.Step.{rows_at};
 
 use ob_base::{Column, Heading, Name};
 use ob_row::Cell;
+use std::alloc::Global;
 use std::marker::Model;
 
 /// The cells of a row, in the order of its table's columns.
 #[derive(Drop)]
-pub struct Tuple {
+pub(crate) struct Tuple {
     pub(crate) cells: Vec<Cell>,
 }
 
@@ -25,16 +26,16 @@ impl Model for Tuple {
 
 impl Tuple {
     /// Its cells.
-    pub fn as_slice(&self) -> &[Cell]
+    pub(crate) fn as_slice(&self) -> &[Cell]
         ensures { result.now ≡ self.now }
     {
         self.cells.as_slice()
     }
 }
 
-/// A table and its rows, of which only how often each stands counts.
+/// A table and its rows.
 #[derive(Drop)]
-pub struct Held {
+pub(crate) struct Held {
     pub(crate) heading: Heading,
     pub(crate) rows: Vec<Tuple>,
 }
@@ -54,17 +55,48 @@ impl Model for Held {
 
 impl Held {
     /// What is known of the table without its rows.
-    pub fn heading(&self) -> &Heading
+    pub(crate) fn heading(&self) -> &Heading
         ensures { result.now ≡ self.now.heading }
     {
         &self.heading
     }
 
     /// Its rows.
-    pub fn rows(&self) -> &[Tuple]
+    pub(crate) fn rows(&self) -> &[Tuple]
         ensures { result.now ≡ self.now.held }
     {
         self.rows.as_slice()
+    }
+}
+
+/// Tables, each with its rows, of which only how often each stands counts.
+#[derive(Drop)]
+pub struct Database {
+    pub(crate) tables: Vec<Held>,
+}
+
+impl Model for Database {
+    ghost use Rattle.std.specs.Prelude.{List};
+    ghost use Rattle.std.specs.Coded.{coded_list};
+    ghost use Rattle.ob_base.specs.Stored.{Stored};
+    ghost use Rattle.ob_row.specs.Rows.{Row};
+    ghost use Rattle.ob_reference.specs.Codes.{stored_code};
+
+    ghost Value = { List (Stored (List Row)) };
+
+    ghost coded = { coded_list stored_code };
+
+    ghost view = { λ db. db.tables.items };
+}
+
+impl Database {
+    /// No tables.
+    pub fn new(alloc: Global) -> Database
+        ensures { result ≡ [] }
+    {
+        Database {
+            tables: Vec::new(alloc),
+        }
     }
 }
 

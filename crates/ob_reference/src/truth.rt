@@ -1,11 +1,12 @@
 //! Whether the cells of a row make a condition true.
 ghost use Rattle.std.specs.Prelude.{◌≡◌, ◌≤◌, ◌++◌, Some, length, slice_get};
-ghost use Rattle.ob_row.specs.Rows.{cell_cmp};
+ghost use Rattle.ob_row.specs.Rows.{cell_cmp, cell_eq, agree_at};
 ghost use Rattle.ob_row.specs.Truth.{accepts, compare, is_true, operand_of as operand_in};
 ghost use Rattle.ob_sql.specs.Search.{search_of};
 ghost use Rattle.ob_mean.specs.Names.{operand_of, condition_at, where_at};
 
-use ob_base::Column;
+use crate::tables::Tuple;
+use ob_base::{Column, Schema};
 use ob_mean::{cell_of, place_of};
 use ob_row::{Cell, Order};
 use ob_sql::{Against, Cond, CondTree};
@@ -98,5 +99,34 @@ pub(crate) fn selects(
     match cond {
         None => true,
         Some(cond) => holds(cond.tree(), left, right, row),
+    }
+}
+
+/// Whether a WHERE over the columns of one table selects a row.
+#[tactic(auto, using(ob_mean::proofs::CondLemmas::one_table))]
+pub(crate) fn selects_of(cond: &Option<Cond>, schema: &Schema, row: &Tuple) -> bool
+    ensures { result ≡ is_true (where_at cond.now schema.now) row.now }
+{
+    selects(cond, schema.as_slice(), &[], row.as_slice())
+}
+
+/// Whether two cells are equal.
+pub(crate) fn cell_eq(a: &Cell, b: &Cell) -> bool
+    ensures { result ≡ cell_eq a.now b.now }
+{
+    match (a, b) {
+        (Cell::Int(x), Cell::Int(y)) => *x == *y,
+        (Cell::Text(s), Cell::Text(t)) => s.as_bytes() == t.as_bytes(),
+        _ => false,
+    }
+}
+
+/// Whether the cells at place `i` of one row and at place `j` of another are there and equal.
+pub(crate) fn agree_at(i: usize, j: usize, a: &[Cell], b: &[Cell]) -> bool
+    ensures { result ≡ agree_at i j a.now b.now }
+{
+    match (a.get(i), b.get(j)) {
+        (Some(x), Some(y)) => cell_eq(x, y),
+        _ => false,
     }
 }
