@@ -46,11 +46,7 @@ pub(crate) fn copied(alloc: Global, row: &Tuple) -> Result<Tuple, NoMemory>
 }
 
 /// Adds a copy of each row.
-pub(crate) fn add_rows(
-    alloc: Global,
-    rows: &[Tuple],
-    to: &mut Vec<Tuple>,
-) -> Result<(), NoMemory>
+pub(crate) fn add_rows(alloc: Global, rows: &[Tuple], to: &mut Vec<Tuple>) -> Result<(), NoMemory>
     ensures { OnOk result (to.new.items ≡ to.old.items ++ rows.now) }
 {
     match rows.split_first() {

@@ -39,11 +39,7 @@ fn put_first(row: Tuple, rows: &mut Vec<Tuple>) -> Result<(), NoMemory>
 }
 
 /// The first row of each group.
-pub(crate) fn group_heads(
-    alloc: Global,
-    key: usize,
-    rows: &[Tuple],
-) -> Result<Vec<Tuple>, NoMemory>
+pub(crate) fn group_heads(alloc: Global, key: usize, rows: &[Tuple]) -> Result<Vec<Tuple>, NoMemory>
     ensures { IfOk result (λ heads. heads.items ≡ group_heads key rows.now) }
 {
     match rows.split_first() {
@@ -64,12 +60,7 @@ pub(crate) fn group_heads(
     }
 }
 
-fn group_of(
-    alloc: Global,
-    key: usize,
-    row: &Tuple,
-    rows: &[Tuple],
-) -> Result<Vec<Tuple>, NoMemory>
+fn group_of(alloc: Global, key: usize, row: &Tuple, rows: &[Tuple]) -> Result<Vec<Tuple>, NoMemory>
     ensures { IfOk result (λ group. group.items ≡ group_of key rows.now row.now) }
 {
     let mut group = Vec::new(alloc);

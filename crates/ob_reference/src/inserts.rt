@@ -1,5 +1,5 @@
 //! INSERT.
-ghost use Rattle.std.specs.Prelude.{◌≡◌, [], ◌∷◌, ◌++◌, ℕ, IfOk, OnOk, flat_map, position, zip};
+ghost use Rattle.std.specs.Prelude.{◌≡◌, [], ◌∷◌, ◌++◌, ℕ, IfOk, OnOk, OnErr, flat_map, position, zip};
 ghost use Rattle.std.specs.List.{list_any};
 ghost use Rattle.ob_base.specs.Schemas.{key_place};
 ghost use Rattle.ob_row.specs.Rows.{agree_at, has_key};
@@ -34,9 +34,7 @@ fn has_row(i: usize, row: &[Cell], rows: &[Tuple]) -> bool
 {
     match rows.split_first() {
         None => false,
-        Some((other, rows)) => {
-            agree_at(i, i, row, other.as_slice()) || has_row(i, row, rows)
-        }
+        Some((other, rows)) => { agree_at(i, i, row, other.as_slice()) || has_row(i, row, rows) }
     }
 }
 
@@ -94,6 +92,7 @@ fn new_row(
 fn insert_row(held: &mut Held, row: Tuple) -> Result<Option<Refusal>, NoMemory>
     ensures refusal { IfOk result (λ r. r ≡ insert_refusal held.old row) }
     ensures next { IfOk result (λ r. held.new ≡ followed r (record { heading = held.old.heading; held = held.old.held ++ row ∷ [] }) held.old) }
+    ensures err { OnErr result (held.new ≡ held.old) }
 {
     if has_key(&held.heading.schema, row.as_slice(), held.rows.as_slice()) {
         return Ok(Some(Refusal::Duplicate));
@@ -115,6 +114,7 @@ fn insert_held(
 ) -> Result<Option<Refusal>, NoMemory>
     ensures refusal { IfOk result (λ r. r ≡ insert_refusal held.old (new_row held.old.heading.schema names.now values.now)) }
     ensures next { IfOk result (λ r. held.new ≡ followed r (record { heading = held.old.heading; held = held.old.held ++ new_row held.old.heading.schema names.now values.now ∷ [] }) held.old) }
+    ensures err { OnErr result (held.new ≡ held.old) }
 {
     match new_row(alloc, &held.heading.schema, names, values) {
         Err(_) => Err(NoMemory),
@@ -131,6 +131,7 @@ fn insert_at(
 ) -> Result<Option<Refusal>, NoMemory>
     ensures refusal { IfOk result (λ r. r ≡ late_refusal 0 tables.old (Insert table.now names.now values.now)) }
     ensures next { IfOk result (λ r. tables.new ≡ followed r (accepted_next tables.old (Insert table.now names.now values.now)) tables.old) }
+    ensures err { OnErr result (tables.new ≡ tables.old) }
 {
     match tables.split_first_mut() {
         None => Ok(None),
@@ -149,7 +150,8 @@ fn insert_at(
 
 impl Database {
     /// Carries an INSERT out that is not refused early, or refuses it: a row with its primary key exists,
-    /// or the table is full. Names are the columns of its list, if it has one.
+    /// or the table is full. Names are the columns of its list, if it has one. Want of memory leaves the
+    /// tables as they were.
     pub fn insert(
         &mut self,
         alloc: Global,
@@ -159,6 +161,7 @@ impl Database {
     ) -> Result<Option<Refusal>, NoMemory>
         ensures refusal { (groups : ℕ) → IfOk result (λ r. r ≡ late_refusal groups self.old (Insert table.now names.now values.now)) }
         ensures next { IfOk result (λ r. self.new ≡ followed r (accepted_next self.old (Insert table.now names.now values.now)) self.old) }
+        ensures err { OnErr result (self.new ≡ self.old) }
     {
         insert_at(alloc, self.tables.as_mut_slice(), table, names, values)
     }

@@ -7,10 +7,15 @@ mod creates;
 mod groups;
 mod inserts;
 mod printed;
+mod run;
 mod selects;
 mod sources;
+mod steps;
 mod tables;
+#[cfg(test)]
+mod tests;
 mod totals;
 mod truth;
 
+pub use run::reference;
 pub use tables::Database;

@@ -128,11 +128,7 @@ fn printed_places(
     }
 }
 
-fn add_shown(
-    places: &[usize],
-    row: &[Cell],
-    fields: &mut Items<Shown>,
-) -> Result<(), NoMemory>
+fn add_shown(places: &[usize], row: &[Cell], fields: &mut Items<Shown>) -> Result<(), NoMemory>
     ensures { OnOk result (fields.new ≡ fields.old ++ printed places.now row.now) }
 {
     match places.split_first() {

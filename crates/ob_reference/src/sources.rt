@@ -111,11 +111,7 @@ fn add_source(
     }
 }
 
-fn source_rows(
-    alloc: Global,
-    tables: &[Held],
-    source: &Source,
-) -> Result<Vec<Tuple>, NoMemory>
+fn source_rows(alloc: Global, tables: &[Held], source: &Source) -> Result<Vec<Tuple>, NoMemory>
     ensures { IfOk result (λ rows. rows.items ≡ source_rows source.now tables.now) }
 {
     let mut rows = Vec::new(alloc);

@@ -45,20 +45,8 @@ fn taken(way: Fold, sum: i128, x: i64) -> i128
     let x = i128::from(x);
     match way {
         Fold::Sum => sum + x,
-        Fold::Min => {
-            if sum <= x {
-                sum
-            } else {
-                x
-            }
-        }
-        Fold::Max => {
-            if sum <= x {
-                x
-            } else {
-                sum
-            }
-        }
+        Fold::Min => { if sum <= x { sum } else { x } }
+        Fold::Max => { if sum <= x { x } else { sum } }
     }
 }
 

@@ -86,12 +86,7 @@ fn holds(tree: &CondTree, left: &[Column], right: &[Column], row: &[Cell]) -> bo
 
 /// Whether a WHERE over the columns of the left table and the right one selects a row; without a WHERE
 /// every row is selected.
-pub(crate) fn selects(
-    cond: &Option<Cond>,
-    left: &[Column],
-    right: &[Column],
-    row: &[Cell],
-) -> bool
+pub(crate) fn selects(cond: &Option<Cond>, left: &[Column], right: &[Column], row: &[Cell]) -> bool
     requires left { length left.now ≤ 32 }
     requires right { length right.now ≤ 32 }
     ensures { result ≡ is_true (where_at cond.now (left.now ++ right.now)) row.now }
