@@ -1,6 +1,6 @@
 -- Answers with and without GROUP BY.
-use Rattle.std.proofs.Common.{◌≡◌, ℕ, Bool, true, false, List, length, map, refl, sym, ◌∙◌, ap, subst}
-use Rattle.std.specs.Prelude.{Option, Some, None, ◌||◌, is_some, nat_lt, if◌then◌else◌}
+use Rattle.std.proofs.Common.{◌≡◌, ℕ, Bool, true, false, List, length, map, refl, ◌∙◌, ap}
+use Rattle.std.specs.Prelude.{Some, None, ◌||◌, is_some, nat_lt, if◌then◌else◌}
 use Rattle.std.specs.List.{list_any}
 use Rattle.ob_base.specs.Schemas.{Columns}
 use Rattle.ob_base.specs.declared.refusal.Refusal.TheVariants.{TooManyGroups}

@@ -1,5 +1,5 @@
 -- The columns that a SELECT may name.
-use Rattle.std.proofs.Common.{◌≡◌, List, ◌++◌, refl, sym, append-nil}
+use Rattle.std.proofs.Common.{◌≡◌, List, ◌++◌, refl, append-nil}
 use Rattle.ob_base.specs.declared.schema.Heading.{Heading}
 use Rattle.ob_base.specs.declared.skeleton.Source.{Source}
 use Rattle.ob_base.specs.declared.skeleton.Source.TheVariants.{Table as OneTable, Join}

@@ -1,6 +1,6 @@
 -- A statement that is not refused early.
-use Rattle.std.proofs.Common.{◌≡◌, ℕ, ◌≤◌, Bool, true, false, List, [], ◌∷◌, length, refl, cond, arith, rules}
-use Rattle.std.specs.Prelude.{Option, Some, None, not, ◌||◌, ◌&&◌, nat_lt, nat_le}
+use Rattle.std.proofs.Common.{◌≡◌, ℕ, ◌≤◌, Bool, true, false, List, [], ◌∷◌, length, refl, arith}
+use Rattle.std.specs.Prelude.{None, not, ◌||◌, nat_lt, nat_le}
 use Rattle.std.specs.List.{list_any}
 use Rattle.ob_base.specs.declared.refusal.Refusal.{Refusal}
 use Rattle.ob_base.specs.declared.refusal.Refusal.TheVariants.{NoTable, NameTaken, NoColumn, WrongType, ValueRange, Limit, KeyRule, JoinKey}
@@ -41,8 +41,8 @@ pub sizes : (late : Bool) (pack rows : ℕ) (hs : List Heading) (stmt : Stmt) �
 sizes late pack rows hs (Create table columns capacity) h =
     let c : Stmt = Create table columns capacity in
     let held : creates_past hs table columns capacity || late ≡ false =
-        sixth_fails (lacks_table hs c) (takes_name hs c) (lacks_column hs c) (has_wrong_type hs c) (is_out_of_range hs c) (creates_past hs table columns capacity || late)
-            NoTable NameTaken NoColumn WrongType ValueRange Limit ((breaks_key_rule hs c, KeyRule) ∷ (joins_off_key hs c, JoinKey) ∷ []) h in
+    sixth_fails (lacks_table hs c) (takes_name hs c) (lacks_column hs c) (has_wrong_type hs c) (is_out_of_range hs c) (creates_past hs table columns capacity || late)
+    NoTable NameTaken NoColumn WrongType ValueRange Limit ((breaks_key_rule hs c, KeyRule) ∷ (joins_off_key hs c, JoinKey) ∷ []) h in
     let past = none_before (creates_past hs table columns capacity) late held in
     let two = parts (not (is_between 1 1048576 capacity)) (not (is_between 1 16 (length columns))) (list_any (λ (c : NewColumn). not (is_size c.kind)) columns) (nat_lt 1024 (width (columns_of table columns))) (nat_le 64 (length hs)) past in
     (few (length columns) two.0, two.1)

@@ -1,5 +1,5 @@
 -- By which a proof tells two tables apart.
-use Rattle.std.specs.Prelude.{◌≡◌, List}
+use Rattle.std.specs.Prelude.{List}
 use Rattle.std.specs.Coded.{Coded, coded_list, coded×, code_by}
 use Rattle.std.proofs.Common.{refl}
 use Rattle.ob_base.specs.declared.schema.Heading.{Heading}

@@ -1,5 +1,5 @@
 -- What statements answer one after the other.
-use Rattle.std.specs.Prelude.{ℕ, ◌≡◌, ◌≤◌, ⊤, Option, Some, None, List, [], ◌∷◌, not, false, length}
+use Rattle.std.specs.Prelude.{◌≡◌, ◌≤◌, ⊤, Option, List, [], ◌∷◌, not, false, length}
 use Rattle.std.specs.List.{list_any}
 use Rattle.ob_base.specs.declared.config.Config.{Config}
 use Rattle.ob_base.specs.declared.refusal.Refusal.{Refusal}
