@@ -1,9 +1,9 @@
 -- Small sessions, computed: what they answer, what they ask, and what their results hold.
 use Rattle.std.proofs.Common.{◌≡◌, ℕ, List, [], ◌∷◌, ◌++◌, refl}
-use Rattle.std.specs.Prelude.{Some, None, Ok, codes, pos, map, true, false}
+use Rattle.std.specs.Prelude.{Some, None, Ok, Err, codes, pos, map, true, false}
 use Rattle.ob_base.specs.declared.access.Access.TheVariants.{Make, Read, Write, Discard}
 use Rattle.ob_base.specs.declared.config.Plan.TheVariants.{Small, Large, Continuous, Hash}
-use Rattle.ob_base.specs.declared.refusal.Refusal.TheVariants.{Duplicate, Full, TooManyGroups, NotConsecutive, Overflow, NameTaken, NoColumn, WrongType, KeyRule, JoinKey, StoreFault}
+use Rattle.ob_base.specs.declared.refusal.Refusal.TheVariants.{Syntax, Duplicate, Full, TooManyGroups, NotConsecutive, Overflow, NameTaken, NoColumn, WrongType, KeyRule, JoinKey, StoreFault}
 use Rattle.ob_base.specs.declared.shown.Shown.TheVariants.{Int as I, Null}
 use Rattle.ob_base.specs.declared.skeleton.ColumnName.{ColumnName}
 use Rattle.ob_base.specs.declared.skeleton.Source.TheVariants.{Join}
@@ -436,3 +436,16 @@ store_fault_trace : trace_of by_four (create_t ∷ insert t 1 10 ∷ count_all �
     Make 1 4 49 ∷ Write 1 0 ∷ Write 1 1 ∷ Write 1 2 ∷ Write 1 3 ∷ Make 2 4 49 ∷ Read 1 0 ∷ Read 1 1 ∷ Read 1 2 ∷ Read 1 0 ∷ Read 1 1 ∷ Read 1 2 ∷ Read 1 3 ∷ []
 unfolding makes
 store_fault_trace = refl
+
+-- a text that spells no statement
+misspelt : last_answers by_four two_tables (Err 23 ∷ []) ≡ Refused (Syntax 23) ∷ []
+unfolding makes
+misspelt = refl
+
+misspelt_trace : last_trace by_four two_tables (Err 23 ∷ []) ≡ []
+unfolding makes
+misspelt_trace = refl
+
+misspelt_total : asked_by by_four (two_tables ++ (Err 23 ∷ [])) ≡ 87
+unfolding makes
+misspelt_total = refl

@@ -1,0 +1,4 @@
+pub mod SourceLemmas
+pub mod PlaceLemmas
+pub mod SelectLemmas
+pub mod StepLemmas

@@ -1,0 +1,4 @@
+pub mod Codes
+pub mod Folds
+pub mod Selected
+pub mod Runs

@@ -1,0 +1,188 @@
+//! The answer of a SELECT of rows.
+ghost use Rattle.std.specs.Prelude.{◌≡◌, ◌≤◌, ◌+◌, ◌++◌, ◌∷◌, [], true, IfOk, OnOk, flat_map, length, map};
+ghost use Rattle.ob_base.specs.Lists.{places_from};
+ghost use Rattle.ob_base.specs.declared.schema.Column.{Column};
+ghost use Rattle.ob_base.specs.declared.skeleton.ColumnName.{ColumnName};
+ghost use Rattle.ob_row.specs.Rows.{cell_at};
+ghost use Rattle.ob_row.specs.Totals.{shown, shown_at, printed};
+ghost use Rattle.ob_sql.specs.Skeleton.{named_by};
+ghost use Rattle.ob_mean.specs.Names.{place_of};
+ghost use Rattle.ob_mean.specs.Step.{printed_places};
+
+use crate::tables::Tuple;
+use ob_base::{Column, ColumnName, Items, NoMemory, Shown};
+use ob_mean::place_of;
+use ob_row::Cell;
+use ob_sql::{Listed, Select};
+use std::alloc::Global;
+
+fn shown(cell: &Cell) -> Shown
+    ensures { result ≡ shown cell.now }
+{
+    match cell {
+        Cell::Int(x) => Shown::Int(i128::from(*x)),
+        Cell::Text(text) => Shown::Text(text.copied()),
+    }
+}
+
+/// The cell at a place of a row, as it is printed.
+pub(crate) fn shown_at(row: &[Cell], i: usize) -> Shown
+    ensures { result ≡ shown_at (cell_at row.now i) }
+{
+    match row.get(i) {
+        None => Shown::Null,
+        Some(cell) => shown(cell),
+    }
+}
+
+fn add_place(places: &mut Vec<usize>, i: usize) -> Result<(), NoMemory>
+    ensures { OnOk result (places.new.items ≡ places.old.items ++ i ∷ []) }
+{
+    match places.push(i) {
+        Err(_) => Err(NoMemory),
+        Ok(()) => Ok(()),
+    }
+}
+
+// Adds the place of the column that an item names, if it names one.
+fn add_named(
+    item: &Listed,
+    left: &[Column],
+    right: &[Column],
+    places: &mut Vec<usize>,
+) -> Result<(), NoMemory>
+    requires left { length left.now ≤ 32 }
+    requires right { length right.now ≤ 32 }
+    ensures { OnOk result (places.new.items ≡ places.old.items ++ map (λ c. place_of c (left.now ++ right.now)) (named_by item.now)) }
+{
+    match item {
+        Listed::CountAll => Ok(()),
+        Listed::Column(name) => add_place(places, place_of(name, left, right)),
+        Listed::Count(name) => add_place(places, place_of(name, left, right)),
+        Listed::Sum(name) => add_place(places, place_of(name, left, right)),
+        Listed::Min(name) => add_place(places, place_of(name, left, right)),
+        Listed::Max(name) => add_place(places, place_of(name, left, right)),
+    }
+}
+
+#[tactic(auto, using(crate::proofs::PlaceLemmas::map_append))]
+fn add_listed(
+    items: &[Listed],
+    left: &[Column],
+    right: &[Column],
+    places: &mut Vec<usize>,
+) -> Result<(), NoMemory>
+    requires left { length left.now ≤ 32 }
+    requires right { length right.now ≤ 32 }
+    ensures { OnOk result (places.new.items ≡ places.old.items ++ map (λ c. place_of c (left.now ++ right.now)) (flat_map named_by items.now)) }
+{
+    match items.split_first() {
+        None => Ok(()),
+        Some((item, items)) => match add_named(item, left, right, places) {
+            Err(_) => Err(NoMemory),
+            Ok(()) => add_listed(items, left, right, places),
+        },
+    }
+}
+
+// Adds the places of all these columns, the first of which has place `first`.
+#[tactic(auto, using(crate::proofs::PlaceLemmas::places_next))]
+fn add_all(first: usize, columns: &[Column], places: &mut Vec<usize>) -> Result<(), NoMemory>
+    requires { first + length columns.now ≤ 64 }
+    ensures { OnOk result (places.new.items ≡ places.old.items ++ places_from first (λ (_ : Column). true) columns.now) }
+{
+    match columns.split_first() {
+        None => Ok(()),
+        Some((_, columns)) => match add_place(places, first) {
+            Err(_) => Err(NoMemory),
+            Ok(()) => add_all(first + 1, columns, places),
+        },
+    }
+}
+
+// The places of the columns that a SELECT of rows prints.
+#[tactic(auto, using(crate::proofs::PlaceLemmas::places_both))]
+fn printed_places(
+    alloc: Global,
+    select: &Select,
+    left: &[Column],
+    right: &[Column],
+) -> Result<Vec<usize>, NoMemory>
+    requires left { length left.now ≤ 32 }
+    requires right { length right.now ≤ 32 }
+    ensures { IfOk result (λ places. places.items ≡ printed_places select.now (left.now ++ right.now)) }
+{
+    let mut places = Vec::new(alloc);
+    match &select.list {
+        Some(items) => match add_listed(items.as_slice(), left, right, &mut places) {
+            Err(_) => Err(NoMemory),
+            Ok(()) => Ok(places),
+        },
+        None => match add_all(0, left, &mut places) {
+            Err(_) => Err(NoMemory),
+            Ok(()) => match add_all(left.len(), right, &mut places) {
+                Err(_) => Err(NoMemory),
+                Ok(()) => Ok(places),
+            },
+        },
+    }
+}
+
+fn add_shown(places: &[usize], row: &[Cell], fields: &mut Items<Shown>) -> Result<(), NoMemory>
+    ensures { OnOk result (fields.new ≡ fields.old ++ printed places.now row.now) }
+{
+    match places.split_first() {
+        None => Ok(()),
+        Some((i, places)) => match fields.push(shown_at(row, *i)) {
+            Err(_) => Err(NoMemory),
+            Ok(()) => add_shown(places, row, fields),
+        },
+    }
+}
+
+fn add_printed(
+    alloc: Global,
+    places: &[usize],
+    rows: &[Tuple],
+    answer: &mut Items<Items<Shown>>,
+) -> Result<(), NoMemory>
+    ensures { OnOk result (answer.new ≡ answer.old ++ map (printed places.now) rows.now) }
+{
+    match rows.split_first() {
+        None => Ok(()),
+        Some((row, rows)) => {
+            let mut fields = Items::new(alloc);
+            match add_shown(places, row.as_slice(), &mut fields) {
+                Err(_) => Err(NoMemory),
+                Ok(()) => match answer.push(fields) {
+                    Err(_) => Err(NoMemory),
+                    Ok(()) => add_printed(alloc, places, rows, answer),
+                },
+            }
+        }
+    }
+}
+
+/// The rows of an answer without totals.
+pub(crate) fn printed_rows(
+    alloc: Global,
+    select: &Select,
+    left: &[Column],
+    right: &[Column],
+    rows: &[Tuple],
+) -> Result<Items<Items<Shown>>, NoMemory>
+    requires left { length left.now ≤ 32 }
+    requires right { length right.now ≤ 32 }
+    ensures { IfOk result (λ answer. answer ≡ map (printed (printed_places select.now (left.now ++ right.now))) rows.now) }
+{
+    match printed_places(alloc, select, left, right) {
+        Err(_) => Err(NoMemory),
+        Ok(places) => {
+            let mut answer = Items::new(alloc);
+            match add_printed(alloc, places.as_slice(), rows, &mut answer) {
+                Err(_) => Err(NoMemory),
+                Ok(()) => Ok(answer),
+            }
+        }
+    }
+}
