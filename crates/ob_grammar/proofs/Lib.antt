@@ -1,0 +1,4 @@
+pub mod Good
+pub mod Placed
+pub mod Forms
+pub mod Loops

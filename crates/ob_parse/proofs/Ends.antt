@@ -1,0 +1,16 @@
+-- A token that may stand behind each part.
+use Rattle.std.proofs.Common.{refl}
+use Rattle.ob_parse.specs.declared.token.Mark.TheVariants as M
+use Rattle.ob_parse.specs.declared.token.Lexeme.TheVariants as L
+use Rattle.ob_parse.specs.declared.token.Token.{Token}
+use Rattle.ob_parse.proofs.Told.{of}
+use Rattle.ob_parse.proofs.GoodConditions.{AfterColumn, AfterConj, AfterCond}
+
+pub column_end : (t : Token) × AfterColumn t
+column_end = (of (L.Mark M.Semicolon), refl)
+
+pub conj_end : (t : Token) × AfterConj t
+conj_end = (of (L.Mark M.Semicolon), (refl, refl))
+
+pub cond_end : (t : Token) × AfterCond t
+cond_end = (of (L.Mark M.Semicolon), (refl, refl, refl))

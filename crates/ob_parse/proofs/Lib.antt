@@ -1,0 +1,12 @@
+pub mod Lexed
+pub mod Digits
+pub mod Emptiness
+pub mod Pieces
+pub mod Quoted
+pub mod Told
+pub mod GoodConditions
+pub mod Ends
+pub mod Faults
+pub mod PrimSteps
+pub mod GoodStatements
+pub mod Constraints

@@ -1,0 +1,5 @@
+use Rattle.ob_parse.proofs.Quoted.{Unquoted}
+use Rattle.ob_parse.proofs.reader.quoted.Given as goal
+
+abbrev pub invariant-loop-b : goal.invariant-loop-b
+invariant-loop-b l = Unquoted l.bytes l.b-index l.open l.text.items

@@ -1,0 +1,213 @@
+//! Conditions are read, by recursive descent.
+ghost use Rattle.std.specs.Prelude.{◌≡◌, IfOk};
+ghost use Rattle.ob_sql.specs.Search.{Search, search_of, Compare, Not, And, Or};
+ghost use Rattle.ob_parse.specs.Reading.{Gives, column, comparison, cond_of, condition, conj_of, constant, operand, prim, where_part};
+
+use crate::reader::{
+    Fault, begins_name, expect, name, number, order, plain, sign, skip, with_sign,
+};
+use crate::token::{Mark, Token};
+use ob_base::ColumnName;
+use ob_sql::{Against, Cond, CondTree, Literal};
+use std::alloc::{AllocError, Global};
+
+/// How many of NOT and ( may stand on a path.
+const DEPTH: u32 = 32;
+
+#[tactic(auto, unfolding(crate::specs::Reading::column))]
+pub(crate) fn column(tokens: &[Token]) -> Result<(ColumnName, &[Token]), Fault<'_>>
+    ensures { Gives (λ c. c) result (column tokens.now) }
+{
+    let (first, rest) = name(tokens)?;
+    match skip(rest, Mark::Dot) {
+        Some(rest) => {
+            let (second, rest) = name(rest)?;
+            let found = ColumnName {
+                table: Some(first),
+                column: second,
+            };
+            Ok((found, rest))
+        }
+        None => {
+            let found = ColumnName {
+                table: None,
+                column: first,
+            };
+            Ok((found, rest))
+        }
+    }
+}
+
+#[tactic(auto, unfolding(crate::specs::Reading::constant))]
+pub(crate) fn constant<'a>(
+    text: &[u8],
+    tokens: &'a [Token],
+) -> Result<(Literal, &'a [Token]), Fault<'a>>
+    ensures { Gives (λ l. l) result (constant text.now tokens.now) }
+{
+    match sign(tokens) {
+        Some((minus, rest)) => {
+            let (digits, rest) = number(rest)?;
+            Ok((with_sign(minus, digits), rest))
+        }
+        None => plain(text, tokens),
+    }
+}
+
+#[tactic(auto, unfolding(crate::specs::Reading::operand))]
+fn operand<'a>(text: &[u8], tokens: &'a [Token]) -> Result<(Against, &'a [Token]), Fault<'a>>
+    ensures { Gives (λ a. a) result (operand text.now tokens.now) }
+{
+    if begins_name(tokens) {
+        let (found, rest) = column(tokens)?;
+        Ok((Against::Column(found), rest))
+    } else {
+        let (found, rest) = constant(text, tokens)?;
+        Ok((Against::Literal(found), rest))
+    }
+}
+
+#[tactic(auto, unfolding(crate::specs::Reading::comparison))]
+fn comparison<'a>(text: &[u8], tokens: &'a [Token]) -> Result<(CondTree, &'a [Token]), Fault<'a>>
+    ensures { Gives search_of result (comparison text.now tokens.now) }
+{
+    let (left, rest) = column(tokens)?;
+    let (order, rest) = order(rest)?;
+    let (right, rest) = operand(text, rest)?;
+    Ok((CondTree::Compare(left, order, right), rest))
+}
+
+fn not(alloc: Global, p: CondTree) -> Result<CondTree, AllocError>
+    ensures { IfOk result (λ c. search_of c ≡ Not (search_of p)) }
+{
+    Ok(CondTree::Not(Box::new(alloc, p)?))
+}
+
+fn and(alloc: Global, p: CondTree, q: CondTree) -> Result<CondTree, AllocError>
+    ensures { IfOk result (λ c. search_of c ≡ And (search_of p) (search_of q)) }
+{
+    Ok(CondTree::And(Box::new(alloc, p)?, Box::new(alloc, q)?))
+}
+
+fn or(alloc: Global, p: CondTree, q: CondTree) -> Result<CondTree, AllocError>
+    ensures { IfOk result (λ c. search_of c ≡ Or (search_of p) (search_of q)) }
+{
+    Ok(CondTree::Or(Box::new(alloc, p)?, Box::new(alloc, q)?))
+}
+
+#[cycle(parser)]
+fn prim<'a>(
+    alloc: Global,
+    text: &[u8],
+    tokens: &'a [Token],
+    depth: u32,
+) -> Result<(CondTree, &'a [Token]), Fault<'a>>
+    ensures { Gives search_of result (prim text.now depth tokens.now) }
+{
+    if depth == 0 {
+        return comparison(text, tokens);
+    }
+    if let Some(rest) = skip(tokens, Mark::Not) {
+        return match prim(alloc, text, rest, depth - 1) {
+            Ok((inner, behind)) => match not(alloc, inner) {
+                Ok(made) => Ok((made, behind)),
+                Err(_) => Err(Fault::Memory),
+            },
+            Err(fault) => Err(fault),
+        };
+    }
+    if let Some(rest) = skip(tokens, Mark::Open) {
+        return match cond(alloc, text, rest, depth - 1) {
+            Ok((inner, behind)) => match skip(behind, Mark::Close) {
+                Some(after) => Ok((inner, after)),
+                None => Err(Fault::Stuck(behind)),
+            },
+            Err(fault) => Err(fault),
+        };
+    }
+    comparison(text, tokens)
+}
+
+#[cycle(parser)]
+fn conj<'a>(
+    alloc: Global,
+    text: &[u8],
+    tokens: &'a [Token],
+    depth: u32,
+) -> Result<(CondTree, &'a [Token]), Fault<'a>>
+    ensures { Gives search_of result (conj_of (prim text.now depth) tokens.now) }
+{
+    let (mut left, mut rest) = match prim(alloc, text, tokens, depth) {
+        Ok(first) => first,
+        Err(fault) => return Err(fault),
+    };
+    'parts: while let Some(after) = skip(rest, Mark::And) {
+        match prim(alloc, text, after, depth) {
+            Ok((right, next)) => {
+                rest = next;
+                left = match and(alloc, left, right) {
+                    Ok(made) => made,
+                    Err(_) => return Err(Fault::Memory),
+                };
+            }
+            Err(fault) => return Err(fault),
+        }
+    }
+    Ok((left, rest))
+}
+
+#[cycle(parser)]
+fn cond<'a>(
+    alloc: Global,
+    text: &[u8],
+    tokens: &'a [Token],
+    depth: u32,
+) -> Result<(CondTree, &'a [Token]), Fault<'a>>
+    ensures { Gives search_of result (cond_of (prim text.now depth) tokens.now) }
+{
+    let (mut left, mut rest) = match conj(alloc, text, tokens, depth) {
+        Ok(first) => first,
+        Err(fault) => return Err(fault),
+    };
+    'parts: while let Some(after) = skip(rest, Mark::Or) {
+        match conj(alloc, text, after, depth) {
+            Ok((right, next)) => {
+                rest = next;
+                left = match or(alloc, left, right) {
+                    Ok(made) => made,
+                    Err(_) => return Err(Fault::Memory),
+                };
+            }
+            Err(fault) => return Err(fault),
+        }
+    }
+    Ok((left, rest))
+}
+
+fn condition<'a>(
+    alloc: Global,
+    text: &[u8],
+    tokens: &'a [Token],
+) -> Result<(Cond, &'a [Token]), Fault<'a>>
+    ensures { Gives (λ c. c) result (condition text.now 32 tokens.now) }
+{
+    let (tree, rest) = cond(alloc, text, tokens, DEPTH)?;
+    Ok((Cond::new(tree), rest))
+}
+
+#[tactic(auto, unfolding(crate::specs::Reading::where_part))]
+pub(crate) fn where_part<'a>(
+    alloc: Global,
+    text: &[u8],
+    tokens: &'a [Token],
+) -> Result<(Option<Cond>, &'a [Token]), Fault<'a>>
+    ensures { Gives (λ c. c) result (where_part text.now tokens.now) }
+{
+    match skip(tokens, Mark::Where) {
+        Some(rest) => {
+            let (found, rest) = condition(alloc, text, rest)?;
+            Ok((Some(found), rest))
+        }
+        None => Ok((None, tokens)),
+    }
+}
