@@ -1,5 +1,6 @@
-use crate::{Literal, ParseErr, Piece, Stmt, is_blank, parse, skeleton, split};
+use crate::{ParseErr, Piece, is_blank, parse, skeleton, split};
 use ob_base::{NewKind, Skeleton};
+use ob_sql::{Literal, Stmt};
 use std::alloc::Global;
 
 // The place of the refusal, where there is one.
