@@ -20,7 +20,7 @@ use Rattle.ob_row.specs.Rows.{Row, AreDistinct, pairs, keys_repeat}
 use Rattle.ob_row.specs.Truth.{is_true}
 use Rattle.ob_row.proofs.BagLemmas.{Same-refl, Same-trans, Same-map, Same-filter}
 use Rattle.ob_row.specs.Slots.{Slots, rows, selected, is_consecutive}
-use Rattle.ob_verdict.specs.Results.{result_slots, unplaced}
+use Rattle.ob_mean.specs.Results.{result_slots, unplaced}
 use Rattle.ob_verdict.proofs.ResultLemmas.{rows-small_slots, rows-large_slots}
 use Rattle.ob_verdict.proofs.HashLemmas.{rows-hash_slots}
 use Rattle.ob_verdict.proofs.TurnLemmas.{rows-continuous_slots}
@@ -32,7 +32,7 @@ use Rattle.ob_mean.specs.Names.{columns_at}
 use Rattle.ob_mean.specs.Refusals.{first_holding, early_conditions, early_refusal, is_key, joins_off_key_at}
 use Rattle.ob_mean.specs.Step.{rows_at, source_rows, join_places, or_else, select_columns, select_condition, printed_places}
 use Rattle.ob_row.specs.Totals.{printed}
-use Rattle.ob_verdict.specs.Verdict.{Tables, database, slots_at, source_slots, plan_for, bucket_size, first_unplaced, fallback, forced_refusal, rows_refusal, last_refusal, is_late}
+use Rattle.ob_mean.specs.Verdict.{Tables, database, slots_at, source_slots, plan_for, bucket_size, first_unplaced, fallback, forced_refusal, rows_refusal, last_refusal, is_late}
 use Rattle.ob_verdict.specs.Laws.{last_plan, result_of, printed_rows, KeysAreDistinct, PrintsAnswer}
 use Rattle.ob_verdict.proofs.SettleProof.{headings-database}
 

@@ -18,13 +18,13 @@ use Rattle.ob_base.specs.Lists.{each, places_from}
 use Rattle.ob_base.specs.Plans.{choose}
 use Rattle.ob_base.specs.Stored.{Stored, headings, stored_at, heading_at}
 use Rattle.ob_row.specs.Slots.{Slots, is_consecutive, rows}
-use Rattle.ob_verdict.specs.Results.{joined, joined_chunk, joined_slot, padded, chunk}
+use Rattle.ob_mean.specs.Results.{joined, joined_chunk, joined_slot, padded, chunk}
 use Rattle.ob_sql.specs.declared.stmt.Stmt.{Stmt}
 use Rattle.ob_sql.specs.declared.stmt.Stmt.TheVariants.{Create, Insert, Update, Delete, Drop as DropTable, Select as SelectStmt}
 use Rattle.ob_sql.specs.Skeleton.{has_totals}
 use Rattle.ob_mean.specs.Refusals.{early_refusal}
-use Rattle.ob_verdict.specs.Verdict.{Tables, seen_started, seen_rows, seen_with, ended, counted, is_late, plan_for, fallback, first_unplaced, source_slots, slots_at, selected_places}
-use Rattle.ob_verdict.specs.Replay.{count_end, first_end}
+use Rattle.ob_mean.specs.Verdict.{Tables, seen_started, seen_rows, seen_with, ended, counted, is_late, plan_for, fallback, first_unplaced, source_slots, slots_at, selected_places}
+use Rattle.ob_mean.specs.Replay.{count_end, first_end}
 use Rattle.ob_script.specs.Script.{whole_script}
 use Rattle.ob_sql.specs.Skeleton.{skeleton}
 use Rattle.ob_row.specs.Rows.{Row}
@@ -34,7 +34,7 @@ use Rattle.std.specs.Prelude.{replicate}
 use Rattle.ob_base.specs.Joins.{chunks, joined_slots}
 use Rattle.ob_base.specs.Numbers.{blocks_for}
 use Rattle.ob_base.specs.declared.seen.End.{End}
-use Rattle.ob_verdict.specs.Lawful.{Lawful, public_headings, is_counted, statement_slots, counted_slots, capacity_at, IsCut, CutFrom, CutUpTo}
+use Rattle.ob_mean.specs.Lawful.{Lawful, public_headings, is_counted, statement_slots, counted_slots, capacity_at, IsCut, CutFrom, CutUpTo}
 use Rattle.ob_verdict.specs.Laws.{AreInPlace}
 use Rattle.ob_verdict.specs.Laws.{SeenIsLawful}
 

@@ -11,7 +11,7 @@ use Rattle.ob_sql.specs.declared.stmt.Listed.TheVariants.{Column as ListedColumn
 use Rattle.ob_sql.specs.declared.stmt.Stmt.TheVariants.{Create, Insert, Update, Delete, Drop as DropTable, Select as SelectStmt}
 use Rattle.ob_sql.specs.Search.{Search, Or}
 use Rattle.ob_mean.specs.declared.answer.Answer.TheVariants.{Done, Changed, Rows}
-use Rattle.ob_verdict.specs.Replay.{Spelt, Session, after_all, first_public, first_session, seen_now}
+use Rattle.ob_mean.specs.Replay.{Spelt, Session, after_all, first_public, first_session, seen_now}
 use Rattle.ob_verdict.proofs.Sessions.{id, v, col, of_table, int, compare, column, insert, answers_of, asked_by, ints}
 
 abbrev g : List ℕ

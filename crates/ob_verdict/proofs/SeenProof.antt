@@ -15,19 +15,19 @@ use Rattle.ob_base.specs.declared.skeleton.ColumnName.{ColumnName}
 use Rattle.ob_verdict.proofs.SettleProof.{headings-database}
 use Rattle.ob_sql.specs.Skeleton.{is_aggregate, listed}
 use Rattle.std.specs.List.{list_any}
-use Rattle.ob_verdict.specs.Verdict.{database, refusal, last_refusal, rows_refusal, forced_refusal, first_unplaced, fallback, source_slots, selected_places}
+use Rattle.ob_mean.specs.Verdict.{database, refusal, last_refusal, rows_refusal, forced_refusal, first_unplaced, fallback, source_slots, selected_places}
 use Rattle.ob_base.specs.Plans.{choose}
 use Rattle.std.specs.Option.{option_map, option_map_or}
 use Rattle.ob_sql.specs.declared.stmt.Stmt.{Stmt}
 use Rattle.ob_sql.specs.declared.stmt.Stmt.TheVariants.{Create, Insert, Update, Delete, Drop as DropTable, Select as SelectStmt}
 use Rattle.ob_sql.specs.Skeleton.{has_totals}
 use Rattle.ob_row.specs.Slots.{is_consecutive}
-use Rattle.ob_verdict.specs.Verdict.{Tables, seen, seen_started, seen_rows, seen_with, ended, counted, is_late, plan_for}
+use Rattle.ob_mean.specs.Verdict.{Tables, seen, seen_started, seen_rows, seen_with, ended, counted, is_late, plan_for}
 use Rattle.ob_mean.specs.Refusals.{early_refusal}
 use Rattle.ob_base.specs.Limits.{buffered}
 use Rattle.ob_base.specs.Stored.{Stored, headings, stored_at}
 use Rattle.ob_row.specs.Rows.{Row}
-use Rattle.ob_verdict.specs.Lawful.{is_counted}
+use Rattle.ob_mean.specs.Lawful.{is_counted}
 use Rattle.ob_verdict.specs.Laws.{IsStarted, ShowsKindAlone, PlanIsWhole, ForcedShowsAlike, ShowsNotConsecutive}
 
 seen-started : (p : Public) (m : ℕ) (ts : Tables) (stmt : Stmt) → IsStarted p m ts stmt → seen p m ts stmt ≡ seen_started p ts stmt

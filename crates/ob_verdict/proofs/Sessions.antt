@@ -23,7 +23,7 @@ use Rattle.ob_sql.specs.Search.{Search, Compare}
 use Rattle.ob_script.specs.Trace.{trace}
 use Rattle.ob_mean.specs.declared.answer.Answer.{Answer}
 use Rattle.ob_verdict.specs.Laws.{result_of}
-use Rattle.ob_verdict.specs.Replay.{Spelt, Session, Broken, answers, all_served, after_all, first_public, first_session}
+use Rattle.ob_mean.specs.Replay.{Spelt, Session, Broken, answers, all_served, after_all, first_public, first_session}
 
 abbrev pub col : List ℕ → ColumnName
 col n = record { table = None; column = n }

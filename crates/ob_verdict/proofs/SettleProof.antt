@@ -17,8 +17,8 @@ use Rattle.ob_sql.specs.declared.stmt.Stmt.TheVariants.{Create, Insert, Update, 
 use Rattle.ob_mean.specs.Step.{Database, step_next, insert_refusal, refusal_of, or_else, followed, new_row, set_cells}
 use Rattle.ob_mean.specs.Names.{columns_at, where_at}
 use Rattle.ob_row.specs.Truth.{is_true, updated}
-use Rattle.ob_verdict.specs.Verdict.{Tables, database, is_late, last_refusal}
-use Rattle.ob_verdict.specs.Settle.{settled}
+use Rattle.ob_mean.specs.Verdict.{Tables, database, is_late, last_refusal}
+use Rattle.ob_mean.specs.Settle.{settled}
 use Rattle.ob_verdict.specs.Laws.{SameTables, AreInPlace, SettlesAsStep}
 
 pub headings-database : (ts : Tables) → headings (database ts) ≡ headings ts

@@ -17,7 +17,7 @@ use Rattle.ob_sql.specs.declared.stmt.Literal.TheVariants.{Text as TextLiteral}
 use Rattle.ob_sql.specs.declared.stmt.Stmt.TheVariants.{Insert, Update, Delete, Drop as DropTable, Select as SelectStmt}
 use Rattle.ob_sql.specs.Search.{Search, Not, Or}
 use Rattle.ob_mean.specs.declared.answer.Answer.TheVariants.{Done, Changed, Rows, Refused}
-use Rattle.ob_verdict.specs.Replay.{Spelt, first_public, first_session, answers}
+use Rattle.ob_mean.specs.Replay.{Spelt, first_public, first_session, answers}
 use Rattle.ob_verdict.proofs.Sessions.{t, u, id, v, col, of_table, int, compare, create_t, insert, four_rows, two_tables, select_where, select_items, join_on, update_v, by_four, forced, in_pairs, trace_of, answers_of, asked_by, last_answers, last_trace, result_after, row_of, ints}
 use Rattle.std.specs.Prelude.{Option}
 

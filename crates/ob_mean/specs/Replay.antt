@@ -14,8 +14,8 @@ use Rattle.ob_script.specs.Script.{script, whole_script}
 use Rattle.ob_script.specs.Trace.{Served, next}
 use Rattle.ob_mean.specs.declared.answer.Answer.{Answer}
 use Rattle.ob_mean.specs.declared.answer.Answer.TheVariants.{Refused}
-use Rattle.ob_verdict.specs.Verdict.{Tables, verdict, seen, ended}
-use Rattle.ob_verdict.specs.Settle.{settle}
+use Rattle.ob_mean.specs.Verdict.{Tables, verdict, seen, ended}
+use Rattle.ob_mean.specs.Settle.{settle}
 
 -- what is public, the tables, and how many accesses were asked
 pub record Session : Type 0 where

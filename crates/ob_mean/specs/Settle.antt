@@ -10,7 +10,7 @@ use Rattle.ob_sql.specs.declared.stmt.Stmt.{Stmt}
 use Rattle.ob_sql.specs.declared.stmt.Stmt.TheVariants.{Create, Insert, Update, Delete, Drop as DropTable, Select as SelectStmt}
 use Rattle.ob_mean.specs.Names.{columns_at, where_at}
 use Rattle.ob_mean.specs.Step.{new_row, set_cells, followed}
-use Rattle.ob_verdict.specs.Verdict.{Tables, refusal}
+use Rattle.ob_mean.specs.Verdict.{Tables, refusal}
 
 -- where the statement is not refused
 abbrev pub settled : Tables → Stmt → Tables

@@ -19,8 +19,8 @@ use Rattle.ob_sql.specs.declared.stmt.Stmt.{Stmt}
 use Rattle.ob_sql.specs.declared.stmt.Stmt.TheVariants.{Select as SelectStmt}
 use Rattle.ob_sql.specs.Skeleton.{has_totals, skeleton}
 use Rattle.ob_mean.specs.Refusals.{early_refusal}
-use Rattle.ob_verdict.specs.Verdict.{is_late}
-use Rattle.ob_verdict.specs.Replay.{count_end, first_end}
+use Rattle.ob_mean.specs.Verdict.{is_late}
+use Rattle.ob_mean.specs.Replay.{count_end, first_end}
 
 abbrev pub public_headings : Public → List Heading
 public_headings p = map (λ (t : Table). t.heading) p.tables
