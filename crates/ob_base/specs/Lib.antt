@@ -8,3 +8,5 @@ pub mod Limits
 pub mod Plans
 pub mod Events
 pub mod Joins
+pub mod Texts
+pub mod IsText

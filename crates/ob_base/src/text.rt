@@ -1,4 +1,5 @@
 ghost use Rattle.std.specs.Prelude.{◌≡◌, ◌≤◌, ◌↔◌, length, IsTrue};
+ghost use Rattle.ob_base.specs.Texts.{IsPrintable};
 
 use arrayvec::ArrayVec;
 use std::marker::Model;
@@ -19,7 +20,7 @@ impl Model for Name {
     ghost inverse = { λ xs. record { bytes = record { items = xs } } };
 }
 
-/// The text of a cell: at most 255 bytes.
+/// The text of a cell: at most 255 bytes of printable ASCII.
 #[derive(Clone, Debug, PartialEq, Eq, Drop)]
 pub struct Text {
     bytes: ArrayVec<u8, 255>,
@@ -27,6 +28,9 @@ pub struct Text {
 
 impl Model for Text {
     ghost use Rattle.std.specs.Prelude.{ℕ, List};
+    ghost use Rattle.ob_base.specs.IsText.{IsText};
+
+    ghost invariant = { IsText };
 
     ghost Value = { List ℕ };
 
@@ -94,7 +98,8 @@ impl Name {
 impl Text {
     /// The text of these bytes.
     pub fn from_bytes(text: &[u8]) -> Text
-        requires { length text.now ≤ 255 }
+        requires few { length text.now ≤ 255 }
+        requires printable { IsPrintable text.now }
         ensures { result ≡ text.now }
     {
         Text {
@@ -104,14 +109,18 @@ impl Text {
 
     /// Its bytes.
     pub fn as_bytes(&self) -> &[u8]
-        ensures { result.now ≡ self.now }
+        ensures value { result.now ≡ self.now }
+        ensures few { length self.now ≤ 255 }
+        ensures printable { IsPrintable self.now }
     {
         self.bytes.as_slice()
     }
 
     /// The same text.
     pub fn copied(&self) -> Text
-        ensures { result ≡ self.now }
+        ensures value { result ≡ self.now }
+        ensures few { length self.now ≤ 255 }
+        ensures printable { IsPrintable self.now }
     {
         Text {
             bytes: filled(self.bytes.as_slice()),

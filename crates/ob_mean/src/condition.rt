@@ -1,5 +1,6 @@
 //! The condition of a WHERE, by the places of its columns.
 ghost use Rattle.std.specs.Prelude.{◌≡◌, ◌≤◌, ◌++◌, length, IfOk};
+ghost use Rattle.ob_row.specs.Spelling.{IsCell};
 ghost use Rattle.ob_sql.specs.Search.{search_of};
 ghost use Rattle.ob_mean.specs.Names.{cell_of, operand_of, condition_at, where_at};
 
@@ -11,7 +12,8 @@ use std::alloc::{AllocError, Global};
 
 /// The cell of a literal; one that no cell holds is refused before.
 pub fn cell_of(literal: &Literal) -> Cell
-    ensures { result ≡ cell_of literal.now }
+    ensures value { result ≡ cell_of literal.now }
+    ensures held { IsCell result }
 {
     match literal {
         Literal::Int(x) => Cell::Int(*x),

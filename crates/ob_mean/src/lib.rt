@@ -21,4 +21,4 @@ pub use condition::{cell_of, where_at};
 pub use early::early_refusal;
 pub use items::{agg_of, item_of};
 pub use names::place_of;
-pub use values::{given_cell, set_cell};
+pub use values::{new_row, set_cell};

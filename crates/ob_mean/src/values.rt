@@ -1,20 +1,24 @@
 //! The cells that INSERT and UPDATE give.
-ghost use Rattle.std.specs.Prelude.{◌≡◌, ◌≤◌, ◌<◌, Option, length, map, zip, find, bytes_eq, option_to_list};
+ghost use Rattle.std.specs.Prelude.{◌≡◌, ◌≤◌, ◌<◌, ◌++◌, Option, IfOk, IfSome, OnOk, length, map, flat_map, zip, find, bytes_eq, option_to_list};
+ghost use Rattle.std.specs.List.{All};
+ghost use Rattle.ob_row.specs.Spelling.{IsCell};
 ghost use Rattle.ob_sql.specs.declared.stmt.Literal.{Literal};
 ghost use Rattle.ob_mean.specs.Names.{place_of, unqualified, cell_of};
 ghost use Rattle.ob_mean.specs.Refusals.{insert_columns};
-ghost use Rattle.ob_mean.specs.Step.{given_cell};
+ghost use Rattle.ob_mean.specs.Step.{given_cell, new_row};
 
 use crate::condition::cell_of;
 use crate::named::Named;
 use crate::names::{place_of, unqualified};
-use ob_base::{Column, Items, Name};
+use ob_base::{Column, Items, Name, NoMemory, Schema};
 use ob_row::Cell;
 use ob_sql::{Literal, Set};
+use std::alloc::Global;
 
 // The cell beside this name.
 fn cell_beside<T: Named>(column: &Column, names: &[T], values: &[Literal]) -> Option<Cell>
-    ensures { option_to_list result ≡ given_cell (zip (map T.name_of names.now) values.now) column.now }
+    ensures value { option_to_list result ≡ given_cell (zip (map T.name_of names.now) values.now) column.now }
+    ensures held { IfSome result IsCell }
 {
     match (names.split_first(), values.split_first()) {
         (Some((name, names)), Some((value, values))) => {
@@ -28,19 +32,62 @@ fn cell_beside<T: Named>(column: &Column, names: &[T], values: &[Literal]) -> Op
     }
 }
 
-/// The cell that an INSERT gives a column: the value beside its name in the list, or in the table's order
-/// where there is no list.
-pub fn given_cell(
+// The cell that an INSERT gives a column: the value beside its name in the list, or in the table's order
+// where there is no list.
+fn given_cell(
     column: &Column,
     names: &Option<Items<Name>>,
     values: &[Literal],
     columns: &[Column],
 ) -> Option<Cell>
-    ensures { option_to_list result ≡ given_cell (zip (insert_columns names.now columns.now) values.now) column.now }
+    ensures value { option_to_list result ≡ given_cell (zip (insert_columns names.now columns.now) values.now) column.now }
+    ensures held { IfSome result IsCell }
 {
     match names {
         None => cell_beside(column, columns, values),
         Some(names) => cell_beside(column, names.as_slice(), values),
+    }
+}
+
+// Adds the cells that an INSERT gives these columns of a table.
+fn add_cells(
+    columns: &[Column],
+    schema: &Schema,
+    names: &Option<Items<Name>>,
+    values: &[Literal],
+    cells: &mut Vec<Cell>,
+) -> Result<(), NoMemory>
+    ensures value { OnOk result (cells.new.items ≡ cells.old.items ++ flat_map (given_cell (zip (insert_columns names.now schema.now) values.now)) columns.now) }
+    ensures held { All IsCell cells.old.items → OnOk result (All IsCell cells.new.items) }
+{
+    match columns.split_first() {
+        None => Ok(()),
+        Some((column, columns)) => {
+            match given_cell(column, names, values, schema.as_slice()) {
+                None => add_cells(columns, schema, names, values, cells),
+                Some(cell) => match cells.push(cell) {
+                    Err(_) => Err(NoMemory),
+                    Ok(()) => add_cells(columns, schema, names, values, cells),
+                },
+            }
+        }
+    }
+}
+
+/// The row that an INSERT gives, in the table's order, or want of memory.
+pub fn new_row(
+    alloc: Global,
+    schema: &Schema,
+    names: &Option<Items<Name>>,
+    values: &[Literal],
+) -> Result<Vec<Cell>, NoMemory>
+    ensures value { IfOk result (λ cells. cells.items ≡ new_row schema.now names.now values.now) }
+    ensures held { IfOk result (λ cells. All IsCell cells.items) }
+{
+    let mut cells = Vec::new(alloc);
+    match add_cells(schema.as_slice(), schema, names, values, &mut cells) {
+        Err(_) => Err(NoMemory),
+        Ok(()) => Ok(cells),
     }
 }
 
@@ -50,6 +97,7 @@ pub fn set_cell(set: &Set, columns: &[Column]) -> (u8, Cell)
     requires { length columns.now ≤ 32 }
     ensures place { result.0 ≡ place_of (unqualified set.now.column) columns.now }
     ensures cell { result.1 ≡ cell_of set.now.value }
+    ensures held { IsCell result.1 }
 {
     (
         place_of(&unqualified(&set.column), columns, &[]) as u8,

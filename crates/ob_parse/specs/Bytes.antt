@@ -58,9 +58,9 @@ quoted_len n false [] = Some n
 quoted_len n true (b ∷ bs) = if b == 39 then quoted_len (suc n) false bs else if is_printable b then quoted_len (suc n) true bs else None
 quoted_len n false (b ∷ bs) = if b == 39 then quoted_len (suc n) true bs else Some n
 
--- the bytes of a text, of which two quotes are one
+-- the bytes of a text, of which two quotes are one, up to its closing quote or a byte that no text has
 abbrev pub unquoted : (inside : Bool) → List ℕ → List ℕ
 unquoted true [] = []
 unquoted false [] = []
-unquoted true (b ∷ bs) = if b == 39 then unquoted false bs else b ∷ unquoted true bs
+unquoted true (b ∷ bs) = if b == 39 then unquoted false bs else if is_printable b then b ∷ unquoted true bs else []
 unquoted false (b ∷ bs) = if b == 39 then b ∷ unquoted true bs else []

@@ -34,7 +34,7 @@ fn is_run_byte(b: u8) -> bool
     is_letter_byte(b) || is_digit_byte(b) || b == b'_'
 }
 
-fn is_printable_byte(b: u8) -> bool
+pub(crate) fn is_printable_byte(b: u8) -> bool
     ensures { result ≡ is_printable b }
 {
     32 <= b && b <= 126

@@ -6,7 +6,7 @@ ghost use Rattle.ob_parse.specs.Marks.{held, key, literal_of, name_of, number_of
 ghost use Rattle.ob_parse.specs.Conditions.{bare, qualified};
 ghost use Rattle.ob_parse.specs.Reading.{begins, Begun, Gives, Skips, Takes, column, constant, operand};
 
-use crate::lex::behind;
+use crate::lex::{behind, is_printable_byte};
 use crate::token::{Lexeme, Mark, Token};
 use arrayvec::ArrayVec;
 use ob_base::{Name, Text};
@@ -148,7 +148,7 @@ fn quoted(bytes: &[u8]) -> Literal
                 open = false;
                 continue;
             }
-        } else if !open {
+        } else if !open || !is_printable_byte(*b) {
             return Literal::Text(Text::from_bytes(text.as_slice()));
         }
         if text.len() == 255 {

@@ -1,12 +1,14 @@
-ghost use Rattle.std.specs.Prelude.{◌≡◌, List, map, IfOk};
+ghost use Rattle.std.specs.Prelude.{◌≡◌, ◌≤◌, List, length, map, IfOk};
 ghost use Rattle.csv.specs.Writing.{row_text};
 ghost use Rattle.ob_base.specs.declared.shown.Shown.{Shown};
 ghost use Rattle.ob_print.specs.Rows.{always, shown_text};
 
+use arrayvec::ArrayVec;
 use csv::{QuoteStyle, WriterBuilder};
 use itoa::Buffer;
-use ob_base::{Label, NoMemory, Shown, Text};
+use ob_base::{Label, NoMemory, Shown};
 use std::alloc::{AllocError, Global};
+use std::marker::Model;
 
 // The line of a row, each field in quotes.
 fn fields_line(alloc: Global, fields: &[&[u8]]) -> Result<Vec<u8>, NoMemory>
@@ -25,17 +27,50 @@ fn fields_line(alloc: Global, fields: &[&[u8]]) -> Result<Vec<u8>, NoMemory>
     }
 }
 
+// What stands between the quotes of a cell.
+#[derive(Drop)]
+struct Field {
+    bytes: ArrayVec<u8, 255>,
+}
+
+impl Model for Field {
+    ghost use Rattle.std.specs.Prelude.{ℕ, List};
+
+    ghost Value = { List ℕ };
+
+    ghost view = { λ f. f.bytes.items };
+}
+
+impl Field {
+    fn from_bytes(text: &[u8]) -> Field
+        requires { length text.now ≤ 255 }
+        ensures { result ≡ text.now }
+    {
+        let mut bytes = ArrayVec::new();
+        for b in text {
+            bytes.push(*b);
+        }
+        Field { bytes }
+    }
+
+    fn as_bytes(&self) -> &[u8]
+        ensures { result.now ≡ self.now }
+    {
+        self.bytes.as_slice()
+    }
+}
+
 // A cell without its quotes.
-fn text_of(cell: &Shown) -> Text
+fn text_of(cell: &Shown) -> Field
     ensures { result ≡ shown_text cell.now }
 {
     match cell {
         Shown::Int(n) => {
             let mut buffer = Buffer::new();
-            Text::from_bytes(buffer.format(*n).as_bytes())
+            Field::from_bytes(buffer.format(*n).as_bytes())
         }
-        Shown::Text(text) => text.copied(),
-        Shown::Null => Text::from_bytes(b"NULL"),
+        Shown::Text(text) => Field::from_bytes(text.as_bytes()),
+        Shown::Null => Field::from_bytes(b"NULL"),
     }
 }
 
@@ -51,7 +86,7 @@ fn label_fields(alloc: Global, labels: &[Label]) -> Result<Vec<&[u8]>, AllocErro
 }
 
 // The bytes of each text.
-fn text_fields(alloc: Global, texts: &[Text]) -> Result<Vec<&[u8]>, AllocError>
+fn text_fields(alloc: Global, texts: &[Field]) -> Result<Vec<&[u8]>, AllocError>
     ensures { IfOk result (λ v. map (λ f. f.now) v.items ≡ texts.entry.now) }
 {
     let mut fields = Vec::new(alloc);
@@ -62,7 +97,7 @@ fn text_fields(alloc: Global, texts: &[Text]) -> Result<Vec<&[u8]>, AllocError>
 }
 
 // Each cell without its quotes.
-fn cell_texts(alloc: Global, cells: &[Shown]) -> Result<Vec<Text>, AllocError>
+fn cell_texts(alloc: Global, cells: &[Shown]) -> Result<Vec<Field>, AllocError>
     ensures { IfOk result (λ v. v.items ≡ map shown_text cells.now) }
 {
     cells.iter().map(|cell| text_of(cell)).collect(alloc)

@@ -10,7 +10,6 @@ ghost use Rattle.ob_mean.specs.Step.{given_cell, new_row, insert_refusal, late_r
 use crate::tables::{Database, Held, Tuple};
 use crate::truth::agree_at;
 use ob_base::{Column, Items, Name, NoMemory, Refusal, Schema};
-use ob_mean::given_cell;
 use ob_row::Cell;
 use ob_sql::Literal;
 use std::alloc::Global;
@@ -48,30 +47,6 @@ fn has_key(schema: &Schema, row: &[Cell], rows: &[Tuple]) -> bool
     }
 }
 
-// Adds the cells that an INSERT gives these columns of a table.
-fn add_cells(
-    columns: &[Column],
-    schema: &Schema,
-    names: &Option<Items<Name>>,
-    values: &[Literal],
-    cells: &mut Vec<Cell>,
-) -> Result<(), NoMemory>
-    ensures { OnOk result (cells.new.items ≡ cells.old.items ++ flat_map (given_cell (zip (insert_columns names.now schema.now) values.now)) columns.now) }
-{
-    match columns.split_first() {
-        None => Ok(()),
-        Some((column, columns)) => {
-            match given_cell(column, names, values, schema.as_slice()) {
-                None => add_cells(columns, schema, names, values, cells),
-                Some(cell) => match cells.push(cell) {
-                    Err(_) => Err(NoMemory),
-                    Ok(()) => add_cells(columns, schema, names, values, cells),
-                },
-            }
-        }
-    }
-}
-
 // The row that an INSERT gives.
 fn new_row(
     alloc: Global,
@@ -81,11 +56,8 @@ fn new_row(
 ) -> Result<Tuple, NoMemory>
     ensures { IfOk result (λ row. row ≡ new_row schema.now names.now values.now) }
 {
-    let mut cells = Vec::new(alloc);
-    match add_cells(schema.as_slice(), schema, names, values, &mut cells) {
-        Err(_) => Err(NoMemory),
-        Ok(()) => Ok(Tuple { cells }),
-    }
+    let cells = ob_mean::new_row(alloc, schema, names, values)?;
+    Ok(Tuple { cells })
 }
 
 // Adds a row, or says why it is refused.

@@ -1,50 +1,15 @@
 //! Whether the cells of a row make a condition true.
 ghost use Rattle.std.specs.Prelude.{◌≡◌, ◌≤◌, ◌++◌, Some, length, slice_get};
-ghost use Rattle.ob_row.specs.Rows.{cell_cmp, cell_eq, agree_at};
-ghost use Rattle.ob_row.specs.Truth.{accepts, compare, is_true, operand_of as operand_in};
+ghost use Rattle.ob_row.specs.Rows.{agree_at};
+ghost use Rattle.ob_row.specs.Truth.{compare, is_true, operand_of as operand_in};
 ghost use Rattle.ob_sql.specs.Search.{search_of};
 ghost use Rattle.ob_mean.specs.Names.{operand_of, condition_at, where_at};
 
 use crate::tables::Tuple;
 use ob_base::{Column, Schema};
 use ob_mean::{cell_of, place_of};
-use ob_row::{Cell, Order};
+use ob_row::{Cell, Order, compare_cells, same_cell};
 use ob_sql::{Against, Cond, CondTree};
-use std::cmp::Ordering;
-
-// Integers by value, texts by bytes; cells of two kinds have no order.
-fn cell_cmp(a: &Cell, b: &Cell) -> Option<Ordering>
-    ensures { result ≡ cell_cmp a.now b.now }
-{
-    match (a, b) {
-        (Cell::Int(x), Cell::Int(y)) => Some(x.cmp(y)),
-        (Cell::Text(s), Cell::Text(t)) => Some(s.as_bytes().cmp(t.as_bytes())),
-        _ => None,
-    }
-}
-
-// Whether an order takes this answer of a comparison.
-fn accepts(order: Order, answer: Ordering) -> bool
-    ensures { result ≡ accepts order answer }
-{
-    match order {
-        Order::Equal => answer.is_eq(),
-        Order::NotEqual => answer.is_ne(),
-        Order::Less => answer.is_lt(),
-        Order::LessOrEqual => answer.is_le(),
-        Order::Greater => answer.is_gt(),
-        Order::GreaterOrEqual => answer.is_ge(),
-    }
-}
-
-fn compare_cells(order: Order, a: &Cell, b: &Cell) -> bool
-    ensures { result ≡ compare order (Some a.now) (Some b.now) }
-{
-    match cell_cmp(a, b) {
-        Some(answer) => accepts(order, answer),
-        None => false,
-    }
-}
 
 // Whether a cell compares so with what a column is compared with.
 fn compare(
@@ -105,23 +70,12 @@ pub(crate) fn selects_of(cond: &Option<Cond>, schema: &Schema, row: &Tuple) -> b
     selects(cond, schema.as_slice(), &[], row.as_slice())
 }
 
-/// Whether two cells are equal.
-pub(crate) fn cell_eq(a: &Cell, b: &Cell) -> bool
-    ensures { result ≡ cell_eq a.now b.now }
-{
-    match (a, b) {
-        (Cell::Int(x), Cell::Int(y)) => *x == *y,
-        (Cell::Text(s), Cell::Text(t)) => s.as_bytes() == t.as_bytes(),
-        _ => false,
-    }
-}
-
 /// Whether the cells at place `i` of one row and at place `j` of another are there and equal.
 pub(crate) fn agree_at(i: usize, j: usize, a: &[Cell], b: &[Cell]) -> bool
     ensures { result ≡ agree_at i j a.now b.now }
 {
     match (a.get(i), b.get(j)) {
-        (Some(x), Some(y)) => cell_eq(x, y),
+        (Some(x), Some(y)) => same_cell(x, y),
         _ => false,
     }
 }

@@ -1,24 +1,29 @@
 -- The bytes of a row: a mark, and then each cell at its full width.
-use Rattle.std.specs.Prelude.{◌≡◌, ℕ, ◌-◌, ◌≤◌, IsTrue, List, [], ◌∷◌, ◌++◌, length, replicate, take, sum_by, ⊤, FitsSigned, Option, Some, None, IfSome}
-use Rattle.std.specs.Int.{to_be_bytes, cast_unsigned, w64, is_in_range}
-use Rattle.std.specs.List.{list_all}
+use Rattle.std.specs.Prelude.{◌≡◌, ℕ, ◌-◌, ◌≤◌, List, [], ◌∷◌, ◌++◌, length, replicate, take, sum_by, ⊤, FitsSigned, Option, Some, None, IfSome}
+use Rattle.std.specs.Int.{to_be_bytes, cast_unsigned, w64}
 use Rattle.ob_base.specs.declared.schema.Kind.{Kind}
 use Rattle.ob_base.specs.declared.schema.Kind.TheVariants.{Int as IntKind, Varchar}
 use Rattle.ob_base.specs.declared.schema.Column.{Column}
 use Rattle.ob_base.specs.Schemas.{Columns, kind_width, width}
+use Rattle.ob_base.specs.Texts.{IsPrintable}
 use Rattle.ob_row.specs.declared.cell.Cell.{Cell}
 use Rattle.ob_row.specs.declared.cell.Cell.TheVariants.{Int, Text}
 use Rattle.ob_row.specs.Rows.{Row}
 
 -- the text's bytes lie within the column and are printable ASCII
 abbrev pub FitsText : ℕ → List ℕ → Type 0
-FitsText n t = (length t ≤ n) × IsTrue (list_all (is_in_range 0x20 0x7E) t)
+FitsText n t = (length t ≤ n) × IsPrintable t
 
 abbrev pub FitsKind : Kind → Cell → Type 0
 FitsKind IntKind (Int x) = FitsSigned w64 x
 FitsKind IntKind (Text t) = ⊥
 FitsKind (Varchar n) (Int x) = ⊥
 FitsKind (Varchar n) (Text t) = FitsText n t
+
+-- an integer of 64 bits, or a text that some column holds
+abbrev pub IsCell : Cell → Type 0
+IsCell (Int x) = FitsSigned w64 x
+IsCell (Text t) = FitsText 255 t
 
 -- a cell for each column, of its kind
 abbrev pub Fits : Columns → Row → Type 0

@@ -37,7 +37,8 @@ fn accepts(order: Order, answer: Ordering) -> bool
     }
 }
 
-fn compare_cells(order: Order, a: &Cell, b: &Cell) -> bool
+/// Whether the first cell stands so to the second; cells of two kinds stand in no order.
+pub fn compare_cells(order: Order, a: &Cell, b: &Cell) -> bool
     ensures { result ≡ compare order (Some a.now) (Some b.now) }
 {
     match cell_cmp(a, b) {

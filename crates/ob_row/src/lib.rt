@@ -12,7 +12,8 @@ mod row;
 mod tests;
 
 pub use aggregate::{Agg, Item};
-pub use cell::{Cell, Malformed};
+pub use cell::{Cell, Malformed, same_cell};
+pub use compare::compare_cells;
 pub use laws::{dummy_is_no_row, encoded_row, one_spelling, spelling_width};
 pub use pred::{Operand, Order, Pred};
 pub use row::{decode, encode, holds, is_dummy, read, width};

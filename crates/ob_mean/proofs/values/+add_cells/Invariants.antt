@@ -1,5 +1,5 @@
 use Rattle.std.proofs.Common.{length}
-use Rattle.ob_reference.proofs.inserts.+add_cells.Given as goal
+use Rattle.ob_mean.proofs.values.+add_cells.Given as goal
 
 abbrev pub decreases-add_cells : goal.decreases-add_cells
 decreases-add_cells l = length l.columns.now
