@@ -1,5 +1,5 @@
 -- The parts of which every script is joined.
-use Rattle.std.specs.Prelude.{◌≤◌, ◌<◌, ◌^◌, ℕ, ◌*◌, List, length, All, ⊤}
+use Rattle.std.specs.Prelude.{◌≤◌, ◌<◌, ◌^◌, ℕ, ◌*◌, Bool, true, false, List, length, All, ⊤}
 use Rattle.std.specs.Int.{div_ceil}
 use Rattle.std.specs.List.{flat_map}
 use Rattle.ob_base.specs.declared.access.Access.{Access}
@@ -19,6 +19,18 @@ accesses_of (Passes from to blocks results buffered) = each (div_ceil results bu
 accesses_of (Turns from to pack slots rows) = each (div_ceil slots pack) (continuous_block from to pack slots rows)
 accesses_of (Buckets from to pack slots rows depth) = each (div_ceil slots pack) (hash_block from to pack slots rows depth)
 accesses_of (Pairs left right to lefts rights buffered) = each (div_ceil lefts buffered) (join_chunk left right to lefts rights buffered)
+
+-- whether each of its blocks is asked alike, and not in passes or rounds
+abbrev pub is_even : Piece → Bool
+is_even (Make region blocks width) = true
+is_even (Reads region blocks) = true
+is_even (Writes region blocks) = true
+is_even (Copies from to blocks) = true
+is_even (Discard region) = true
+is_even (Passes from to blocks results buffered) = false
+is_even (Turns from to pack slots rows) = false
+is_even (Buckets from to pack slots rows depth) = false
+is_even (Pairs left right to lefts rights buffered) = false
 
 abbrev pub all_accesses : List Piece → List Access
 all_accesses pieces = flat_map accesses_of pieces

@@ -1,6 +1,6 @@
 //! The parts of which every script is joined.
-ghost use Rattle.std.specs.Prelude.{◌≡◌, ◌≤◌, ◌<◌, ◌^◌, Some, length, slice_get};
-ghost use Rattle.ob_script.specs.Pieces.{accesses_of, IsSized};
+ghost use Rattle.std.specs.Prelude.{◌≡◌, ◌≤◌, ◌<◌, ◌^◌, true, Some, length, slice_get};
+ghost use Rattle.ob_script.specs.Pieces.{accesses_of, is_even, IsSized};
 
 use crate::place::{bucket_nth, copied, pair_nth, pass_nth, turn_nth};
 use ob_base::Access;
@@ -111,32 +111,12 @@ impl Piece {
     }
 
     /// Its access at place `i`, from 0.
-    #[tactic(auto, using(crate::proofs::Sizes::size_is, crate::proofs::Places::at_read, crate::proofs::Places::at_write, crate::proofs::Places::at_copy))]
     pub(crate) fn nth(&self, i: u64) -> Access
         requires sized { IsSized self.now }
         requires within { i < length (accesses_of self.now) }
         ensures { slice_get (accesses_of self.now) i ≡ Some result }
     {
         match *self {
-            Piece::Make {
-                region,
-                blocks,
-                width,
-            } => Access::Make {
-                region,
-                blocks,
-                len: width + 32,
-            },
-            Piece::Reads { region, .. } => Access::Read {
-                region,
-                place: i as u32,
-            },
-            Piece::Writes { region, .. } => Access::Write {
-                region,
-                place: i as u32,
-            },
-            Piece::Copies { from, to, .. } => copied(i, from, to, (i / 2) as u32),
-            Piece::Discard { region } => Access::Discard { region },
             Piece::Passes {
                 from,
                 to,
@@ -167,6 +147,39 @@ impl Piece {
                 rights,
                 buffered,
             } => pair_nth(left, right, to, lefts, rights, buffered, i),
+            _ => self.even_nth(i),
+        }
+    }
+
+    // The same of a piece whose blocks are all asked alike.
+    #[tactic(auto, using(crate::proofs::Sizes::size_is, crate::proofs::Places::at_read, crate::proofs::Places::at_write, crate::proofs::Places::at_copy))]
+    fn even_nth(&self, i: u64) -> Access
+        requires even { is_even self.now ≡ true }
+        requires sized { IsSized self.now }
+        requires within { i < length (accesses_of self.now) }
+        ensures { slice_get (accesses_of self.now) i ≡ Some result }
+    {
+        match *self {
+            Piece::Make {
+                region,
+                blocks,
+                width,
+            } => Access::Make {
+                region,
+                blocks,
+                len: width + 32,
+            },
+            Piece::Reads { region, .. } => Access::Read {
+                region,
+                place: i as u32,
+            },
+            Piece::Writes { region, .. } => Access::Write {
+                region,
+                place: i as u32,
+            },
+            Piece::Copies { from, to, .. } => copied(i, from, to, (i / 2) as u32),
+            Piece::Discard { region } => Access::Discard { region },
+            _ => unreachable!(),
         }
     }
 }

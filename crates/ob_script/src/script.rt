@@ -5,7 +5,7 @@ ghost use Rattle.ob_base.specs.Accesses.{discard_at};
 ghost use Rattle.ob_base.specs.Numbers.{blocks_for};
 ghost use Rattle.ob_base.specs.Joins.{chunks, joined_blocks, joined_slots};
 ghost use Rattle.ob_base.specs.Limits.{buffered_blocks};
-ghost use Rattle.ob_script.specs.Parts.{count_part, create_part, insert_part, rewrite_part, emission_part, join_part};
+ghost use Rattle.ob_script.specs.Parts.{count_part, create_part, insert_part, rewrite_part, small_part, large_part, emission_part, join_part};
 ghost use Rattle.ob_script.specs.Pieces.{all_accesses, IsFew};
 ghost use Rattle.ob_script.specs.Script.{script, whole_script, with_table, mutation_script, blocks_of, extent_of, source_script, join_script, joined_extent, select_part, after_count, result_part, plan_part, result_blocks, rows_width};
 ghost use Rattle.ob_script.specs.Sizes.{IsPublic, IsCounted, IsWithin, IsSourceCounted, IsTable};
@@ -97,6 +97,61 @@ fn buffered(public: &Public) -> u32
     (public.buffer - 2 * pack) / pack
 }
 
+// Small's result.
+#[tactic(auto, using(crate::proofs::Joined::all_more))]
+fn push_small(
+    pieces: &mut Pieces,
+    from: u64,
+    to: u64,
+    blocks: u32,
+    results: u32,
+    buffered: u32,
+    width: u32,
+)
+    requires room { length pieces.old ≤ 14 }
+    requires blocks { IsFew blocks }
+    requires results { IsFew results }
+    requires buffered { IsFew buffered }
+    requires some { 1 ≤ buffered }
+    requires width { width ≤ 2 ^ 24 }
+    ensures adds { all_accesses pieces.new ≡ all_accesses pieces.old ++ small_part from to blocks results buffered width }
+    ensures few { length pieces.new ≡ length pieces.old + 2 }
+{
+    pieces.push(Piece::Make {
+        region: to,
+        blocks: results,
+        width,
+    });
+    pieces.push(Piece::Passes {
+        from,
+        to,
+        blocks,
+        results,
+        buffered,
+    });
+}
+
+// Large's result.
+#[tactic(auto, using(crate::proofs::Joined::all_more))]
+fn push_large(pieces: &mut Pieces, from: u64, to: u64, blocks: u32, width: u32)
+    requires room { length pieces.old ≤ 13 }
+    requires width { width ≤ 2 ^ 24 }
+    ensures adds { all_accesses pieces.new ≡ all_accesses pieces.old ++ large_part from to blocks width }
+    ensures few { length pieces.new ≡ length pieces.old + 3 }
+{
+    pieces.push(Piece::Make {
+        region: to,
+        blocks,
+        width,
+    });
+    pieces.push(Piece::Copies { from, to, blocks });
+    pieces.push(Piece::Copies {
+        from: to,
+        to,
+        blocks,
+    });
+}
+
 // The way to the result of `k` rows.
 #[tactic(auto, using(crate::proofs::Joined::all_more))]
 fn push_plan(pieces: &mut Pieces, public: &Public, plan: Plan, k: u32, to: u64, from: Extent)
@@ -112,42 +167,23 @@ fn push_plan(pieces: &mut Pieces, public: &Public, plan: Plan, k: u32, to: u64, 
     let pack = u32::from(public.pack);
     let depth = u32::from(public.depth);
     let blocks = blocks_of(public, from.slots);
+    let results = blocks_of(public, k);
     let width = pack * from.width;
     match plan {
         Plan::Small => {
-            let results = blocks_of(public, k);
-            pieces.push(Piece::Make {
-                region: to,
-                blocks: results,
-                width,
-            });
-            pieces.push(Piece::Passes {
-                from: from.region,
+            push_small(
+                pieces,
+                from.region,
                 to,
                 blocks,
                 results,
-                buffered: buffered(public),
-            });
-        }
-        Plan::Large => {
-            pieces.push(Piece::Make {
-                region: to,
-                blocks,
+                buffered(public),
                 width,
-            });
-            pieces.push(Piece::Copies {
-                from: from.region,
-                to,
-                blocks,
-            });
-            pieces.push(Piece::Copies {
-                from: to,
-                to,
-                blocks,
-            });
+            );
         }
+        Plan::Large => push_large(pieces, from.region, to, blocks, width),
         Plan::Continuous => {
-            push_create(pieces, to, blocks_of(public, k), width);
+            push_create(pieces, to, results, width);
             pieces.push(Piece::Turns {
                 from: from.region,
                 to,
