@@ -2,3 +2,4 @@ pub mod NameLemmas
 pub mod CondLemmas
 pub mod RefusalLemmas
 pub mod SourceLemmas
+pub mod EarlyLemmas

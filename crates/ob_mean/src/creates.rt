@@ -1,12 +1,12 @@
 //! The limits of a new table.
-ghost use Rattle.std.specs.Prelude.{◌≡◌, ◌≤◌, ◌+◌, ℕ, List, [], length, map, sum_by, nat_lt, not, min};
+ghost use Rattle.std.specs.Prelude.{◌≡◌, ◌≤◌, ◌+◌, ◌++◌, ℕ, List, [], length, map, sum_by, nat_lt, not, min, true, false};
 ghost use Rattle.std.specs.List.{list_any};
-ghost use Rattle.ob_base.specs.Schemas.{width, kind_width, kind_of, columns_of};
+ghost use Rattle.ob_base.specs.Schemas.{width, kind_width, kind_of, new_column, columns_of};
 ghost use Rattle.ob_base.specs.declared.skeleton.NewColumn.{NewColumn};
 ghost use Rattle.ob_mean.specs.Headings.{headings_of};
 ghost use Rattle.ob_mean.specs.Refusals.{is_size, creates_past};
 
-use ob_base::{NewColumn, NewKind, Table};
+use ob_base::{Column, Kind, Name, NewColumn, NewKind, Schema, Table};
 
 fn is_size(kind: NewKind) -> bool
     ensures { result ≡ is_size kind }
@@ -72,4 +72,51 @@ fn key_count(columns: &[NewColumn]) -> u32
         None => 0,
         Some((column, columns)) => (column.keys.min(2) + key_count(columns)).min(2),
     }
+}
+
+fn kind_of(kind: NewKind) -> Kind
+    requires { is_size kind ≡ true }
+    ensures { result ≡ kind_of kind }
+{
+    match kind {
+        NewKind::Int => Kind::Int,
+        NewKind::Varchar(n) => Kind::Varchar(n as u8),
+    }
+}
+
+fn column_of(table: &Name, column: &NewColumn) -> Column
+    requires { is_size column.now.kind ≡ true }
+    ensures { result ≡ new_column table.now column.now }
+{
+    Column {
+        table: table.copied(),
+        name: column.name.copied(),
+        kind: kind_of(column.kind),
+        key: column.keys > 0,
+    }
+}
+
+fn add_columns(table: &Name, columns: &[NewColumn], schema: &mut Schema)
+    requires few { length schema.old + length columns.now ≤ 32 }
+    requires sizes { list_any (λ (c : NewColumn). not (is_size c.kind)) columns.now ≡ false }
+    ensures { schema.new ≡ schema.old ++ columns_of table.now columns.now }
+{
+    match columns.split_first() {
+        None => {}
+        Some((column, columns)) => {
+            schema.push(column_of(table, column));
+            add_columns(table, columns, schema);
+        }
+    }
+}
+
+/// The schema of a new table, whose sizes are within their limits.
+pub fn new_schema(table: &Name, columns: &[NewColumn]) -> Schema
+    requires few { length columns.now ≤ 32 }
+    requires sizes { list_any (λ (c : NewColumn). not (is_size c.kind)) columns.now ≡ false }
+    ensures { result ≡ columns_of table.now columns.now }
+{
+    let mut schema = Schema::new();
+    add_columns(table, columns, &mut schema);
+    schema
 }

@@ -18,6 +18,7 @@ mod values;
 
 pub use answer::Answer;
 pub use condition::{cell_of, where_at};
+pub use creates::new_schema;
 pub use early::early_refusal;
 pub use items::{agg_of, item_of};
 pub use names::place_of;

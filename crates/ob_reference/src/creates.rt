@@ -1,7 +1,6 @@
 //! CREATE and DROP.
-ghost use Rattle.std.specs.Prelude.{◌≡◌, ◌≤◌, ◌<◌, ◌+◌, ◌++◌, [], length, not, false, true, remove, MatchOption, OnOk, OnErr};
+ghost use Rattle.std.specs.Prelude.{◌≡◌, ◌≤◌, ◌<◌, length, not, false, remove, MatchOption, OnOk, OnErr};
 ghost use Rattle.std.specs.List.{list_any};
-ghost use Rattle.ob_base.specs.Schemas.{kind_of, new_column, columns_of};
 ghost use Rattle.ob_base.specs.Stored.{dropped_at};
 ghost use Rattle.ob_base.specs.declared.skeleton.NewColumn.{NewColumn};
 ghost use Rattle.ob_sql.specs.declared.stmt.Stmt.TheVariants.{Create, Drop as DropTable};
@@ -9,44 +8,8 @@ ghost use Rattle.ob_mean.specs.Refusals.{is_size};
 ghost use Rattle.ob_mean.specs.Step.{accepted_next};
 
 use crate::tables::{Database, Held};
-use ob_base::{Column, Heading, Kind, Name, NewColumn, NewKind, NoMemory, Schema};
+use ob_base::{Heading, Name, NewColumn, NoMemory};
 use std::alloc::Global;
-
-fn kind_of(kind: NewKind) -> Kind
-    requires { is_size kind ≡ true }
-    ensures { result ≡ kind_of kind }
-{
-    match kind {
-        NewKind::Int => Kind::Int,
-        NewKind::Varchar(n) => Kind::Varchar(n as u8),
-    }
-}
-
-fn column_of(table: &Name, column: &NewColumn) -> Column
-    requires { is_size column.now.kind ≡ true }
-    ensures { result ≡ new_column table.now column.now }
-{
-    Column {
-        table: table.copied(),
-        name: column.name.copied(),
-        kind: kind_of(column.kind),
-        key: column.keys > 0,
-    }
-}
-
-fn add_columns(table: &Name, columns: &[NewColumn], schema: &mut Schema)
-    requires few { length schema.old + length columns.now ≤ 32 }
-    requires sizes { list_any (λ (c : NewColumn). not (is_size c.kind)) columns.now ≡ false }
-    ensures { schema.new ≡ schema.old ++ columns_of table.now columns.now }
-{
-    match columns.split_first() {
-        None => {}
-        Some((column, columns)) => {
-            schema.push(column_of(table, column));
-            add_columns(table, columns, schema);
-        }
-    }
-}
 
 // The place of the table of this name.
 fn place_of(tables: &[Held], name: &Name) -> Option<usize>
@@ -81,11 +44,9 @@ impl Database {
         ensures next { OnOk result (self.new ≡ accepted_next self.old (Create table.now columns.now capacity)) }
         ensures err { OnErr result (self.new ≡ self.old) }
     {
-        let mut schema = Schema::new();
-        add_columns(table, columns, &mut schema);
         let heading = Heading {
             name: table.copied(),
-            schema,
+            schema: ob_mean::new_schema(table, columns),
             capacity,
         };
         let rows = Vec::new(alloc);

@@ -1,5 +1,5 @@
 use Rattle.std.proofs.Common.{length}
-use Rattle.ob_reference.proofs.creates.+add_columns.Given as goal
+use Rattle.ob_mean.proofs.creates.+add_columns.Given as goal
 
 abbrev pub decreases-add_columns : goal.decreases-add_columns
 decreases-add_columns l = length l.columns.now
