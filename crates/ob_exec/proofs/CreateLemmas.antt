@@ -25,12 +25,13 @@ use Rattle.ob_flat.specs.declared.fault.OpErr.{OpErr}
 use Rattle.ob_flat.specs.Flats.{IsFlat}
 use Rattle.ob_flat.specs.Passes.{PassCut}
 use Rattle.ob_flat.proofs.Runs.{pass_after}
+use Rattle.ob_mean.specs.Verdict.{ended as seen_to}
 use Rattle.ob_exec.specs.declared.engine.Engine.{Engine}
 use Rattle.ob_exec.specs.declared.outcome.Outcome.TheVariants.{Created}
 use Rattle.ob_exec.specs.Schemas.{IsStored}
 use Rattle.ob_exec.specs.Engines.{IsAt, IsTable}
 use Rattle.ob_exec.specs.Agreeing.{Agrees}
-use Rattle.ob_exec.specs.Running.{Ran, seen_to, answer_of, is_stop}
+use Rattle.ob_exec.specs.Running.{Ran, answer_of, is_stop}
 use Rattle.ob_exec.proofs.TableLemmas.{tables_added, tables_kept, region_below}
 use Rattle.ob_exec.proofs.RunLemmas.{went_room, engine_after, ran_done, ran_cut, free_after}
 

@@ -25,12 +25,13 @@ use Rattle.ob_flat.specs.declared.fault.OpErr.{OpErr}
 use Rattle.ob_flat.specs.Flats.{IsFlat}
 use Rattle.ob_flat.specs.Passes.{PassCut, PassCause}
 use Rattle.ob_flat.proofs.Runs.{pass_after}
+use Rattle.ob_mean.specs.Verdict.{ended as seen_to}
 use Rattle.ob_exec.specs.declared.engine.Engine.{Engine}
 use Rattle.ob_exec.specs.declared.outcome.Outcome.{Outcome}
 use Rattle.ob_exec.specs.declared.outcome.Outcome.TheVariants.{Rows}
 use Rattle.ob_exec.specs.Engines.{IsAt, IsTable, AreTables, flat_of}
 use Rattle.ob_exec.specs.Agreeing.{Agrees, world_of}
-use Rattle.ob_exec.specs.Running.{Ran, seen_to, answer_of, is_stop, IsAnswer}
+use Rattle.ob_exec.specs.Running.{Ran, answer_of, is_stop, IsAnswer}
 use Rattle.ob_base.specs.declared.shown.Shown.{Shown}
 use Rattle.ob_base.specs.Events.{Head, Row, Close}
 use Rattle.ob_exec.proofs.TableLemmas.{tables_kept, tables_moved, region_below, stored_found, set_moved}

@@ -26,13 +26,14 @@ use Rattle.ob_base.specs.declared.schema.Table.{Table}
 use Rattle.ob_room.specs.RoomState.{RoomState}
 use Rattle.ob_vault.specs.declared.vault.Vault.{Vault}
 use Rattle.ob_vault.specs.Places.{at}
+use Rattle.ob_mean.specs.Verdict.{ended as seen_to}
 use Rattle.ob_exec.specs.declared.engine.Engine.{Engine}
 use Rattle.ob_exec.specs.declared.outcome.Outcome.{Outcome}
 use Rattle.ob_exec.specs.declared.outcome.Outcome.TheVariants.{Created, Inserted, Changed, Deleted, Dropped, Rows, Refused}
 use Rattle.ob_exec.specs.Engines.{IsFree, AreTables}
 use Rattle.ob_exec.specs.Refusals.{IsEarly}
 use Rattle.ob_exec.specs.Agreeing.{Agrees, world_of}
-use Rattle.ob_exec.specs.Running.{seen_to, answer_of, is_stop, IsDone, refused_end, refused_cause, EndsBy, RunCause, GoesOn, Continues, Ran}
+use Rattle.ob_exec.specs.Running.{answer_of, is_stop, IsDone, refused_end, refused_cause, EndsBy, RunCause, GoesOn, Continues, Ran}
 
 abbrev pub world : VaultState → StoreState → World
 world v s = record { vault = v; store = s }

@@ -253,7 +253,7 @@ stored_found name (x ∷ xs) (suc i) t names at is =
     (λ miss. stored_found name xs i t (λ j k u v js ks same. omega (arith, names (suc j) (suc k) u v js ks same)) at is)
 
 -- tables of other names stay where they are
-unmoved : (name : List ℕ) (g : ℕ) (ts : List Table) → ((j : ℕ) (u : Table) → slice_get ts j ≡ Some u → u.heading.name ≡ name → ⊥) → moved name g ts ≡ ts
+pub unmoved : (name : List ℕ) (g : ℕ) (ts : List Table) → ((j : ℕ) (u : Table) → slice_get ts j ≡ Some u → u.heading.name ≡ name → ⊥) → moved name g ts ≡ ts
 unmoved name g [] off = refl
 unmoved name g (x ∷ xs) off = head (unmoved name g xs (λ j u js same. off (suc j) u js same)) (bytes_eq x.heading.name name) refl
   where

@@ -4,3 +4,4 @@ pub mod Refusals
 pub mod Agreeing
 pub mod Running
 pub mod Serving
+pub mod Telling

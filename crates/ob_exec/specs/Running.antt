@@ -1,5 +1,5 @@
 -- What a statement does, whatever it is answered.
-use Rattle.std.specs.Prelude.{◌≡◌, ◌⊎◌, ◌-◌, ℕ, Bool, true, false, List, [], ◌∷◌, ◌++◌, length, IsTrue, Result, Ok, Err, None}
+use Rattle.std.specs.Prelude.{◌≡◌, ◌⊎◌, ◌-◌, ℕ, Bool, true, false, List, [], ◌∷◌, ◌++◌, length, IsTrue, Result, Ok, Err, Option, Some, None}
 use Rattle.std.specs.List.{list_all}
 use Rattle.ob_base.specs.declared.refusal.Refusal.{Refusal}
 use Rattle.ob_base.specs.declared.refusal.Stop.{Stop}
@@ -15,6 +15,11 @@ use Rattle.ob_store.specs.Runs.{Later}
 use Rattle.ob_vault.specs.State.{RevState, World}
 use Rattle.ob_vault.specs.Tied.{Calm, EndsAt}
 use Rattle.ob_script.specs.Script.{script}
+use Rattle.ob_mean.specs.Refusals.{early_refusal}
+use Rattle.ob_mean.specs.Verdict.{is_late, ended as seen_to}
+use Rattle.ob_mean.specs.Headings.{headings_of}
+use Rattle.ob_sql.specs.declared.stmt.Stmt.{Stmt}
+use Rattle.ob_base.specs.declared.config.Public.{Public}
 use Rattle.ob_script.specs.Trace.{next}
 use Rattle.ob_flat.specs.declared.fault.OpErr.{OpErr}
 use Rattle.ob_flat.specs.declared.fault.OpErr.TheVariants as OpErrs
@@ -24,10 +29,6 @@ use Rattle.ob_exec.specs.declared.engine.Engine.{Engine}
 use Rattle.ob_exec.specs.declared.outcome.Outcome.{Outcome}
 use Rattle.ob_exec.specs.declared.outcome.Outcome.TheVariants.{Created, Inserted, Changed, Deleted, Dropped, Rows, Refused}
 use Rattle.ob_exec.specs.Agreeing.{Agrees, world_of}
-
--- nothing but the end is seen of a statement without a count
-abbrev pub seen_to : End → Seen
-seen_to end = record { k = None; plan = None; then = None; end = end }
 
 -- the answer, or the stop, that an error of a pass makes
 abbrev pub answer_of : OpErr → Result Outcome Stop
@@ -41,6 +42,15 @@ abbrev pub inserted_as : InsertedAs → Outcome
 inserted_as Done = Inserted
 inserted_as Duplicate = Refused Refusal.Duplicate
 inserted_as Full = Refused Refusal.Full
+
+-- the refusal of a statement before any access, where m were asked before
+abbrev pub refusal_now : Public → (m : ℕ) → Stmt → Option Refusal
+refusal_now p m stmt = early_refusal (is_late m) p.pack p.buffer (headings_of p.tables) stmt
+
+-- a statement is refused before any access exactly where the meaning says so
+abbrev pub RefusedEarly : Option Refusal → Result Outcome Stop → Seen → Type 0
+RefusedEarly (Some r) result seen = (result ≡ Ok (Refused r)) × (seen ≡ seen_to Static)
+RefusedEarly None result seen = seen.end ≡ Static → ⊥
 
 abbrev pub is_stop : {T E : Type 0} → Result T E → Bool
 is_stop (Ok x) = false

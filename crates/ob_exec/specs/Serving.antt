@@ -1,5 +1,5 @@
 -- The statements that are served so far.
-use Rattle.std.specs.Prelude.{◌≡◌, [], ◌∷◌, Some, None}
+use Rattle.std.specs.Prelude.{◌≡◌, ℕ, List, [], ◌∷◌, Some, None}
 use Rattle.ob_base.specs.declared.skeleton.Source.{Source}
 use Rattle.ob_base.specs.declared.skeleton.Source.TheVariants.{Table as OneTable, Join}
 use Rattle.ob_sql.specs.declared.stmt.Listed.TheVariants.{CountAll}
@@ -20,8 +20,11 @@ pub record IsCount (s : Select) : Type 0 where
 
 abbrev pub IsServed : Stmt → Type 0
 IsServed (Create table columns capacity) = Unit {0}
-IsServed (Insert table columns values) = columns ≡ None
+IsServed (Insert table columns values) = Unit {0}
 IsServed (Update table sets cond) = ⊥
 IsServed (Delete table cond) = ⊥
 IsServed (DropTable table) = ⊥
 IsServed (SelectStmt s) = IsCount s
+
+abbrev pub count_of : List ℕ → Stmt
+count_of name = SelectStmt (record { list = Some (CountAll ∷ []); source = OneTable name; cond = None; group = None })

@@ -1,15 +1,21 @@
 //! SELECT COUNT(*).
-ghost use Rattle.std.specs.Prelude.{◌≡◌, ◌⊎◌, List, [], ◌∷◌, None, false, codes, pos, IfOk, OnOk, OnErr};
+ghost use Rattle.std.specs.Prelude.{◌≡◌, ◌⊎◌, ℕ, List, [], ◌∷◌, IsTrue, None, Some, false, length, codes, pos, IfOk, OnOk, OnErr, MatchResult};
 ghost use Rattle.ob_base.specs.declared.shown.Shown.TheVariants.{Int};
-ghost use Rattle.ob_base.specs.declared.skeleton.Skeleton.TheVariants.{Groups};
+ghost use Rattle.ob_base.specs.declared.skeleton.Source.TheVariants.{Table as OneTable};
 ghost use Rattle.ob_base.specs.Events.{Event, Head, Row, Close, EmitCause};
-ghost use Rattle.ob_exec.specs.Agreeing.{Agrees, has_ended};
-ghost use Rattle.ob_exec.specs.Running.{Ran, Emits, SinkCause};
+ghost use Rattle.ob_sql.specs.declared.stmt.Stmt.{Stmt};
+ghost use Rattle.ob_sql.specs.Skeleton.{skeleton};
+ghost use Rattle.ob_mean.specs.Verdict.{Tables};
+ghost use Rattle.ob_mean.specs.Prints.{Begun};
+ghost use Rattle.ob_exec.specs.Agreeing.{Agrees, has_ended, public_of};
+ghost use Rattle.ob_exec.specs.Running.{Ran, Emits, SinkCause, refusal_now};
+ghost use Rattle.ob_exec.specs.Serving.{count_of};
+ghost use Rattle.ob_exec.specs.Telling.{Represents, Told, Emitted};
 
-use crate::engine::{Engine, LATE};
+use crate::engine::Engine;
 use crate::outcome::Outcome;
 use crate::tables::{find_table, flat_at};
-use ob_base::{Emit, EmitErr, Label, Name, Refusal, Shown, Stop};
+use ob_base::{Emit, EmitErr, Label, Name, Shown, Stop};
 use ob_flat::OpErr;
 use ob_row::Pred;
 use ob_store::BlockStore;
@@ -24,7 +30,7 @@ fn shown_count(k: u32) -> Shown
 // The answer of a count: its header, its one row, and their number.
 fn emit_count<E: Emit>(out: &mut E, k: u32) -> Result<(), EmitErr>
     ensures ok { OnOk result (E.grew out.old out.new (Head (codes "COUNT(*)" ∷ []) ∷ Row (Int (pos k) ∷ []) ∷ Close 1 ∷ [])) }
-    ensures err { OnErr result ((events : List Event) × E.cut out.old out.new events) }
+    ensures err { OnErr result ((events : List Event) × E.cut out.old out.new events × Begun events (Head (codes "COUNT(*)" ∷ []) ∷ Row (Int (pos k) ∷ []) ∷ Close 1 ∷ [])) }
     ensures cause { EmitCause result (E.faults out.old) (E.faults out.new) }
 {
     match out.head(&[Label::from_bytes(b"COUNT(*)")]) {
@@ -46,19 +52,23 @@ impl<R: Revisions> Engine<R> {
     ) -> Result<Outcome, Stop>
         requires agrees { Agrees R.state self.old (S.state store.old) }
         requires lives { has_ended self.old ≡ false }
-        ensures ran { Ran R.state (Groups table.now [] None) result self.old (S.state store.old) self.new (S.state store.new) }
-        ensures emits { IfOk result (λ outcome. (events : List Event) × E.grew out.old out.new events × Emits outcome events) }
-        ensures stopped { OnErr result ((events : List Event) × (E.grew out.old out.new events ⊎ E.cut out.old out.new events)) }
+        requires allowed { refusal_now (public_of self.old) (length (S.state store.old).asked) (count_of table.now) ≡ None }
+        ensures ran { Ran R.state (skeleton (count_of table.now)) result self.old (S.state store.old) self.new (S.state store.new) }
+        ensures emits { IfOk result (λ outcome. (events : List Event) × E.grew out.old out.new events × Emits outcome events
+            × (IsTrue (S.state store.old).tells → (tables : Tables) → Represents R.state self.old (S.state store.old) tables → (S.state store.new).lie ≡ None
+            → Emitted (count_of table.now) (public_of self.old) (length (S.state store.old).asked) tables result events)) }
+        ensures stopped { OnErr result ((events : List Event) × (E.grew out.old out.new events ⊎ E.cut out.old out.new events)
+            × (IsTrue (S.state store.old).tells → (tables : Tables) → Represents R.state self.old (S.state store.old) tables → (S.state store.new).lie ≡ None
+            → Emitted (count_of table.now) (public_of self.old) (length (S.state store.old).asked) tables result events)) }
         ensures sink { SinkCause result (E.faults out.old) (E.faults out.new) }
+        ensures told { IsTrue (S.state store.old).tells → (tables : Tables) → Represents R.state self.old (S.state store.old) tables → (S.state store.new).lie ≡ None
+            → Told R.state (count_of table.now) (length (S.state store.old).asked) tables result self.old self.new (S.state store.new) }
     {
         let Some(i) = find_table(self.public.tables.as_slice(), table) else {
-            return Ok(self.refuse(Refusal::NoTable));
+            unreachable!()
         };
         let flat = flat_at(self.public.tables.as_slice(), i);
         let before = store.count();
-        if before >= LATE {
-            return Ok(self.refuse(Refusal::Limit));
-        }
         let blocks = flat.capacity.div_ceil(u32::from(self.public.pack));
         if store.room(u64::from(blocks)).is_err() {
             return self.cut(0, OpErr::NoMemory);

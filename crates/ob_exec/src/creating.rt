@@ -1,20 +1,19 @@
 //! CREATE TABLE.
-ghost use Rattle.std.specs.Prelude.{◌≡◌, List, false};
-ghost use Rattle.ob_base.specs.declared.skeleton.Skeleton.TheVariants.{Create};
-ghost use Rattle.ob_exec.specs.Agreeing.{Agrees, has_ended};
-ghost use Rattle.ob_exec.specs.Running.{Ran, IsSilent};
+ghost use Rattle.std.specs.Prelude.{◌≡◌, List, IsTrue, None, false, length};
+ghost use Rattle.ob_sql.specs.declared.stmt.Stmt.TheVariants.{Create};
+ghost use Rattle.ob_sql.specs.Skeleton.{skeleton};
+ghost use Rattle.ob_mean.specs.Verdict.{Tables};
+ghost use Rattle.ob_exec.specs.Agreeing.{Agrees, has_ended, public_of};
+ghost use Rattle.ob_exec.specs.Running.{Ran, IsSilent, refusal_now};
+ghost use Rattle.ob_exec.specs.Telling.{Represents, Told};
 
-use crate::early::new_schema;
-use crate::engine::{Engine, LATE};
+use crate::engine::Engine;
 use crate::outcome::Outcome;
-use crate::tables::find_table;
-use ob_base::{Heading, Name, NewColumn, Refusal, Schema, Stop, Table};
+use ob_base::{Heading, Name, NewColumn, Schema, Stop, Table};
 use ob_flat::OpErr;
+use ob_mean::new_schema;
 use ob_store::BlockStore;
 use ob_vault::Revisions;
-
-/// The most tables at once.
-const MAX_TABLES: usize = 64;
 
 // A new table as the engine keeps it.
 fn new_table(name: &Name, schema: &Schema, capacity: u32, region: u64) -> Table
@@ -41,18 +40,14 @@ impl<R: Revisions> Engine<R> {
     ) -> Result<Outcome, Stop>
         requires agrees { Agrees R.state self.old (S.state store.old) }
         requires lives { has_ended self.old ≡ false }
-        ensures ran { Ran R.state (Create table.now columns.now capacity) result self.old (S.state store.old) self.new (S.state store.new) }
+        requires allowed { refusal_now (public_of self.old) (length (S.state store.old).asked) (Create table.now columns.now capacity) ≡ None }
+        ensures ran { Ran R.state (skeleton (Create table.now columns.now capacity)) result self.old (S.state store.old) self.new (S.state store.new) }
         ensures silent { IsSilent result }
+        ensures told { IsTrue (S.state store.old).tells → (tables : Tables) → Represents R.state self.old (S.state store.old) tables → (S.state store.new).lie ≡ None
+            → Told R.state (Create table.now columns.now capacity) (length (S.state store.old).asked) tables result self.old self.new (S.state store.new) }
     {
-        if find_table(self.public.tables.as_slice(), table).is_some() {
-            return Ok(self.refuse(Refusal::NameTaken));
-        }
         let before = store.count();
-        let is_past = before >= LATE || self.public.tables.as_slice().len() >= MAX_TABLES;
-        let schema = match new_schema(table, columns, capacity, is_past) {
-            Ok(schema) => schema,
-            Err(refusal) => return Ok(self.refuse(refusal)),
-        };
+        let schema = new_schema(table, columns);
         let blocks = capacity.div_ceil(u32::from(self.public.pack));
         if store.room(1 + u64::from(blocks)).is_err() {
             return self.cut(0, OpErr::NoMemory);

@@ -2,9 +2,10 @@
 ghost use Rattle.std.specs.Prelude.{◌≡◌, List, [], IfOk, false};
 ghost use Rattle.ob_base.specs.declared.seen.End.TheVariants.{Static, Whole, Cut};
 ghost use Rattle.ob_store.specs.State.{StoreState};
+ghost use Rattle.ob_mean.specs.Verdict.{ended as seen_to};
 ghost use Rattle.ob_exec.specs.Engines.{IsConfig, first_public};
 ghost use Rattle.ob_exec.specs.Agreeing.{Agrees, public_of, seen_of, has_ended, high_of};
-ghost use Rattle.ob_exec.specs.Running.{seen_to, answer_of, is_stop};
+ghost use Rattle.ob_exec.specs.Running.{answer_of, is_stop};
 
 use crate::outcome::Outcome;
 use ob_base::{Config, End, Items, NoMemory, Public, Refusal, Seen, Stop};

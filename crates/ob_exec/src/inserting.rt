@@ -1,16 +1,19 @@
 //! INSERT.
-ghost use Rattle.std.specs.Prelude.{◌≡◌, ◌<◌, List, None, Some, false, length, slice_get, slice_set};
+ghost use Rattle.std.specs.Prelude.{◌≡◌, ◌<◌, List, IsTrue, None, Some, false, length, slice_get, slice_set};
 ghost use Rattle.ob_base.specs.declared.schema.Table.{Table as TableOf};
-ghost use Rattle.ob_base.specs.declared.skeleton.Skeleton.TheVariants.{Insert};
-ghost use Rattle.ob_exec.specs.Agreeing.{Agrees, has_ended};
-ghost use Rattle.ob_exec.specs.Running.{Ran, IsSilent, inserted_as};
+ghost use Rattle.ob_sql.specs.declared.stmt.Stmt.TheVariants.{Insert};
+ghost use Rattle.ob_sql.specs.Skeleton.{skeleton};
+ghost use Rattle.ob_mean.specs.Verdict.{Tables};
+ghost use Rattle.ob_exec.specs.Agreeing.{Agrees, has_ended, public_of};
+ghost use Rattle.ob_exec.specs.Running.{Ran, IsSilent, inserted_as, refusal_now};
+ghost use Rattle.ob_exec.specs.Telling.{Represents, Told};
 
-use crate::early::{Early, new_cells};
-use crate::engine::{Engine, LATE};
+use crate::engine::Engine;
 use crate::outcome::Outcome;
 use crate::tables::{find_table, flat_at, with_region};
 use ob_base::{Items, Name, Refusal, Stop};
 use ob_flat::OpErr;
+use ob_mean::new_row;
 use ob_mutate::Inserted;
 use ob_sql::Literal;
 use ob_store::BlockStore;
@@ -42,28 +45,25 @@ impl<R: Revisions> Engine<R> {
         &mut self,
         store: &mut S,
         table: &Name,
+        columns: &Option<Items<Name>>,
         values: &[Literal],
     ) -> Result<Outcome, Stop>
         requires agrees { Agrees R.state self.old (S.state store.old) }
         requires lives { has_ended self.old ≡ false }
-        ensures ran { Ran R.state (Insert table.now None) result self.old (S.state store.old) self.new (S.state store.new) }
+        requires allowed { refusal_now (public_of self.old) (length (S.state store.old).asked) (Insert table.now columns.now values.now) ≡ None }
+        ensures ran { Ran R.state (skeleton (Insert table.now columns.now values.now)) result self.old (S.state store.old) self.new (S.state store.new) }
         ensures silent { IsSilent result }
+        ensures told { IsTrue (S.state store.old).tells → (tables : Tables) → Represents R.state self.old (S.state store.old) tables → (S.state store.new).lie ≡ None
+            → Told R.state (Insert table.now columns.now values.now) (length (S.state store.old).asked) tables result self.old self.new (S.state store.new) }
     {
         let Some(i) = find_table(self.public.tables.as_slice(), table) else {
-            return Ok(self.refuse(Refusal::NoTable));
+            unreachable!()
         };
         let mut flat = flat_at(self.public.tables.as_slice(), i);
-        let cells = match new_cells(self.alloc, &flat.schema, values) {
-            Ok(cells) => cells,
-            Err(early) => match early {
-                Early::Refused(refusal) => return Ok(self.refuse(refusal)),
-                Early::NoMemory => return self.cut(0, OpErr::NoMemory),
-            },
+        let Ok(cells) = new_row(self.alloc, &flat.schema, columns, values) else {
+            return self.cut(0, OpErr::NoMemory);
         };
         let before = store.count();
-        if before >= LATE {
-            return Ok(self.refuse(Refusal::Limit));
-        }
         let blocks = flat.capacity.div_ceil(u32::from(self.public.pack));
         if store.room(3 * u64::from(blocks) + 2).is_err() {
             return self.cut(0, OpErr::NoMemory);

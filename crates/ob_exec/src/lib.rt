@@ -3,7 +3,6 @@
 
 mod counting;
 mod creating;
-mod early;
 mod engine;
 mod inserting;
 mod outcome;

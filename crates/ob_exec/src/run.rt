@@ -1,24 +1,29 @@
 //! A statement, by its kind.
-ghost use Rattle.std.specs.Prelude.{◌≡◌, ◌⊎◌, List, false, IfOk, OnErr};
+ghost use Rattle.std.specs.Prelude.{◌≡◌, ◌⊎◌, List, IsTrue, None, false, length, IfOk, OnErr};
 ghost use Rattle.ob_base.specs.Events.{Event};
 ghost use Rattle.ob_sql.specs.Skeleton.{skeleton};
-ghost use Rattle.ob_exec.specs.Agreeing.{Agrees, has_ended};
-ghost use Rattle.ob_exec.specs.Running.{Ran, Emits, SinkCause};
+ghost use Rattle.ob_mean.specs.Verdict.{Tables};
+ghost use Rattle.ob_exec.specs.Agreeing.{Agrees, has_ended, public_of, seen_of};
+ghost use Rattle.ob_exec.specs.Running.{Ran, RefusedEarly, Emits, SinkCause, refusal_now};
 ghost use Rattle.ob_exec.specs.Serving.{IsServed};
+ghost use Rattle.ob_exec.specs.Telling.{Represents, Told, Emitted};
 
-use crate::engine::Engine;
+use crate::engine::{Engine, LATE};
 use crate::outcome::Outcome;
 use ob_base::{Emit, Source, Stop};
+use ob_mean::early_refusal;
 use ob_sql::Stmt;
 use ob_store::BlockStore;
 use ob_vault::Revisions;
 
 impl<R: Revisions> Engine<R> {
-    /// Carries out a statement: CREATE TABLE, INSERT of a row in the table's order, or SELECT COUNT(*)
-    /// of a whole table.
+    /// Carries out a statement: CREATE TABLE, INSERT, or SELECT COUNT(*) of a whole table.
     ///
-    /// Its accesses are exactly those that follow from what was public before, the statement's skeleton
-    /// and what is seen of it, whatever the store answers. An answer of rows is emitted whole: its header,
+    /// It is refused before any access exactly where its meaning says so. Else its accesses are exactly
+    /// those that follow from what was public before, the statement's skeleton and what is seen of it,
+    /// whatever the store answers. Where the store tells what it holds, and gave what was written: the
+    /// answer, what is seen and the tables afterwards are those of the statement over the tables before;
+    /// where the store failed, the tables are those before. An answer of rows is emitted whole: its header,
     /// its rows and their number.
     pub fn run<S: BlockStore, E: Emit>(
         &mut self,
@@ -30,17 +35,31 @@ impl<R: Revisions> Engine<R> {
         requires lives { has_ended self.old ≡ false }
         requires served { IsServed stmt.now }
         ensures ran { Ran R.state (skeleton stmt.now) result self.old (S.state store.old) self.new (S.state store.new) }
-        ensures emits { IfOk result (λ outcome. (events : List Event) × E.grew out.old out.new events × Emits outcome events) }
-        ensures stopped { OnErr result ((events : List Event) × (E.grew out.old out.new events ⊎ E.cut out.old out.new events)) }
+        ensures early { RefusedEarly (refusal_now (public_of self.old) (length (S.state store.old).asked) stmt.now) result (seen_of self.new) }
+        ensures emits { IfOk result (λ outcome. (events : List Event) × E.grew out.old out.new events × Emits outcome events
+            × (IsTrue (S.state store.old).tells → (tables : Tables) → Represents R.state self.old (S.state store.old) tables → (S.state store.new).lie ≡ None
+            → Emitted stmt.now (public_of self.old) (length (S.state store.old).asked) tables result events)) }
+        ensures stopped { OnErr result ((events : List Event) × (E.grew out.old out.new events ⊎ E.cut out.old out.new events)
+            × (IsTrue (S.state store.old).tells → (tables : Tables) → Represents R.state self.old (S.state store.old) tables → (S.state store.new).lie ≡ None
+            → Emitted stmt.now (public_of self.old) (length (S.state store.old).asked) tables result events)) }
         ensures sink { SinkCause result (E.faults out.old) (E.faults out.new) }
+        ensures told { IsTrue (S.state store.old).tells → (tables : Tables) → Represents R.state self.old (S.state store.old) tables → (S.state store.new).lie ≡ None
+            → Told R.state stmt.now (length (S.state store.old).asked) tables result self.old self.new (S.state store.new) }
     {
+        if let Some(refusal) = early_refusal(store.count() >= LATE, &self.public, stmt) {
+            return Ok(self.refuse(refusal));
+        }
         match stmt {
             Stmt::Create {
                 table,
                 columns,
                 capacity,
             } => self.create(store, table, columns.as_slice(), *capacity),
-            Stmt::Insert { table, values, .. } => self.insert(store, table, values.as_slice()),
+            Stmt::Insert {
+                table,
+                columns,
+                values,
+            } => self.insert(store, table, columns, values.as_slice()),
             Stmt::Select(select) => match &select.source {
                 Source::Table(table) => self.count_all(store, table, out),
                 Source::Join { .. } => unreachable!(),

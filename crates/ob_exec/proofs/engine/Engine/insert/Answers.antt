@@ -14,11 +14,12 @@ use Rattle.ob_flat.specs.Flats.{IsFlat}
 use Rattle.ob_flat.specs.Passes.{PassCut}
 use Rattle.ob_mutate.specs.declared.inserting.Inserted.{Inserted}
 use Rattle.ob_mutate.specs.declared.inserting.Inserted.TheVariants.{Done, Duplicate, Full}
+use Rattle.ob_mean.specs.Verdict.{ended as seen_to}
 use Rattle.ob_exec.specs.declared.engine.Engine.{Engine}
 use Rattle.ob_exec.specs.declared.outcome.Outcome.{Outcome}
 use Rattle.ob_exec.specs.Refusals.{IsEarlyStop}
 use Rattle.ob_exec.specs.Engines.{IsAt}
-use Rattle.ob_exec.specs.Running.{seen_to, inserted_as}
+use Rattle.ob_exec.specs.Running.{inserted_as}
 use Rattle.ob_exec.proofs.RunLemmas.{ran_refused, ran_as, engine_after, IsAnswered}
 use Rattle.ob_exec.proofs.InsertLemmas.{inserted, not_inserted}
 use Rattle.ob_exec.proofs.engine.Engine.insert.Goals as goal

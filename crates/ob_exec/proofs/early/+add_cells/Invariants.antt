@@ -1,5 +1,0 @@
-use Rattle.std.proofs.Common.{length}
-use Rattle.ob_exec.proofs.early.+add_cells.Given as goal
-
-abbrev pub decreases-add_cells : goal.decreases-add_cells
-decreases-add_cells l = length l.columns.now
