@@ -3,3 +3,4 @@ pub mod CondLemmas
 pub mod RefusalLemmas
 pub mod SourceLemmas
 pub mod EarlyLemmas
+pub mod InsertLemmas
