@@ -1,16 +1,26 @@
 -- CREATE TABLE, after its pass.
-use Rattle.std.proofs.Common.{◌≡◌, ◌-◌, ◌*◌, ℕ, false, List, [], ◌∷◌, ◌++◌, length, Some, Ok, Err, Result, OnOk, refl, sym, ◌∙◌, ap, subst, arith}
+use Rattle.std.proofs.lemmas.List.{length-map}
+use Rattle.std.proofs.Common.{◌≡◌, ◌-◌, ◌*◌, ◌≤◌, ℕ, zero, suc, true, false, List, [], ◌∷◌, ◌++◌, length, Some, Ok, Err, Result, OnOk, refl, sym, ◌∙◌, ap, subst, arith}
 use Rattle.std.specs.Result.{is_err}
-use Rattle.std.specs.Prelude.{Option, None, MatchOption}
+use Rattle.std.specs.Prelude.{Option, None, MatchOption, map, bytes_eq, slice_get, not, ◌||◌, ◌<◌, ◌^◌}
+use Rattle.std.specs.List.{list_any}
+use Rattle.std.proofs.lemmas.Slice.Eq.{bytes_eq-Decides}
+use Rattle.std.proofs.lemmas.Bool.Decides.{nat_tests}
 use Rattle.std.proofs.lemmas.Bool.{cases_eq}
 use Rattle.ob_base.specs.declared.access.Access.{Access}
+use Rattle.ob_base.specs.declared.config.Public.{Public}
+use Rattle.ob_base.specs.declared.refusal.Refusal.{Refusal}
+use Rattle.ob_base.specs.declared.schema.Column.{Column}
+use Rattle.ob_base.specs.declared.schema.Heading.{Heading}
 use Rattle.ob_base.specs.declared.schema.Table.{Table}
 use Rattle.ob_base.specs.declared.seen.End.{End}
 use Rattle.ob_base.specs.declared.seen.End.TheVariants.{Whole, Cut}
 use Rattle.ob_base.specs.declared.skeleton.NewColumn.{NewColumn}
 use Rattle.ob_base.specs.declared.skeleton.Skeleton.TheVariants.{Create}
+use Rattle.ob_base.specs.Lists.{has_repeats}
 use Rattle.ob_base.specs.Numbers.{blocks_for}
-use Rattle.ob_base.specs.Schemas.{Columns, width, columns_of}
+use Rattle.ob_base.specs.Schemas.{Columns, width, new_column, columns_of}
+use Rattle.ob_base.specs.Stored.{has_table}
 use Rattle.ob_room.specs.RoomState.{RoomState}
 use Rattle.ob_store.specs.State.{StoreState}
 use Rattle.ob_store.specs.Calls.{Rests}
@@ -22,23 +32,68 @@ use Rattle.ob_vault.proofs.Runs.{went_join}
 use Rattle.ob_script.specs.Parts.{create_part}
 use Rattle.ob_script.specs.Script.{whole_script}
 use Rattle.ob_flat.specs.declared.fault.OpErr.{OpErr}
-use Rattle.ob_flat.specs.Flats.{IsFlat}
+use Rattle.ob_flat.specs.Flats.{IsFlat, Represents as FlatRepresents}
 use Rattle.ob_flat.specs.Passes.{PassCut}
 use Rattle.ob_flat.proofs.Runs.{pass_after}
-use Rattle.ob_mean.specs.Verdict.{ended as seen_to}
+use Rattle.ob_row.specs.Slots.{empty_slots}
+use Rattle.ob_sql.specs.declared.stmt.Stmt.TheVariants.{Create as CreateStmt}
+use Rattle.ob_mean.specs.Headings.{headings_of}
+use Rattle.ob_mean.specs.Refusals.{takes_name}
+use Rattle.ob_mean.specs.Step.{accepted_answer, answered, followed}
+use Rattle.ob_mean.specs.Settle.{settled}
+use Rattle.ob_mean.specs.Verdict.{Tables, database, is_late, refusal, ended as seen_to}
+use Rattle.ob_mean.proofs.EarlyLemmas.{allowed, within, neither}
+use Rattle.ob_mean.proofs.VerdictLemmas.{refused_late, seen_late}
 use Rattle.ob_exec.specs.declared.engine.Engine.{Engine}
 use Rattle.ob_exec.specs.declared.outcome.Outcome.TheVariants.{Created}
 use Rattle.ob_exec.specs.Schemas.{IsStored}
 use Rattle.ob_exec.specs.Engines.{IsAt, IsTable}
-use Rattle.ob_exec.specs.Agreeing.{Agrees}
-use Rattle.ob_exec.specs.Running.{Ran, answer_of, is_stop}
+use Rattle.ob_exec.specs.Agreeing.{Agrees, world_of}
+use Rattle.ob_exec.specs.Running.{Ran, answer_of, is_stop, refusal_now}
+use Rattle.ob_exec.specs.Telling.{AreHeld, Represents, Told, outcome_of}
 use Rattle.ob_exec.proofs.TableLemmas.{tables_added, tables_kept, region_below}
+use Rattle.ob_exec.proofs.HeldLemmas.{held_kept, held_added}
+use Rattle.ob_exec.proofs.ToldLemmas.{early_held, told_cut, IsFault}
 use Rattle.ob_exec.proofs.RunLemmas.{went_room, engine_after, ran_done, ran_cut, free_after}
 
 -- what holds at an `Ok`, where there is no `Err`
 pub at_ok : {T E : Type 0} (r : Result T E) (P : Type 0) → is_err r ≡ false → OnOk r P → P
 at_ok (Ok x) P ok h = h
 at_ok (Err e) P ok h = absurd (cc ok)
+
+-- ---- what is known of a CREATE that is not refused early
+named_alike : (table : List ℕ) (columns : List NewColumn) → map (λ (c : Column). c.name) (columns_of table columns) ≡ map (λ (c : NewColumn). c.name) columns
+named_alike table [] = refl
+named_alike table (c ∷ cs) = ap (λ (names : List (List ℕ)). c.name ∷ names) (named_alike table cs)
+
+no_table : (name : List ℕ) (ts : List Table) (i : ℕ) (t : Table) → has_table name (headings_of ts) ≡ false → IsAt name i t ts → ⊥
+no_table name [] zero t none is = absurd (cc is.get)
+no_table name [] (suc i) t none is = absurd (cc is.get)
+no_table name (x ∷ xs) zero t none is =
+    let same : x ≡ t = cc is.get in
+    let hit = (bytes_eq-Decides x.heading.name name).1 (ap (λ (u : Table). u.heading.name) same ∙ is.named) in
+    absurd (cc (hit, (neither (bytes_eq x.heading.name name) _ none).0))
+no_table name (x ∷ xs) (suc i) t none is = no_table name xs i t (neither (bytes_eq x.heading.name name) _ none).1 (record { get = is.get; named = is.named })
+
+module _ (p : Public) (m : ℕ) (table : List ℕ) (columns : List NewColumn) (capacity : ℕ) (now : refusal_now p m (CreateStmt table columns capacity) ≡ None) where
+  pub new_stored : IsStored (columns_of table columns) capacity
+  new_stored =
+      let free = allowed (is_late m) p.pack p.buffer (headings_of p.tables) (CreateStmt table columns capacity) now in
+      let size = within (headings_of p.tables) table columns capacity free.limits in
+      let same = length-map columns (new_column table) in
+      record {
+        some = omega (arith, size.some, same);
+        few = omega (arith, size.few, same);
+        wide = size.wide;
+        least = size.least;
+        most = size.most;
+        names = ap (has_repeats bytes_eq) (named_alike table columns) ∙ (neither (has_table table (headings_of p.tables)) _ free.names).1;
+      }
+
+  pub new_name : (i : ℕ) (t : Table) → IsAt table i t p.tables → ⊥
+  new_name i t is =
+      let free = allowed (is_late m) p.pack p.buffer (headings_of p.tables) (CreateStmt table columns capacity) now in
+      no_table table p.tables i t (neither (has_table table (headings_of p.tables)) _ free.names).0 is
 
 module _ {R : Type 0} (state : R → RevState) (old : Engine R) (s s1 : StoreState) (v : Vault R) (room : RoomState) (t : StoreState)
     (table : List ℕ) (columns : List NewColumn) (schema : Columns) (capacity high : ℕ)
@@ -68,6 +123,44 @@ module _ {R : Type 0} (state : R → RevState) (old : Engine R) (s s1 : StoreSta
       (ap (λ (c : Columns). old.public.tables ++ record { heading = record { name = table; schema = c; capacity = capacity }; region = old.public.next_region } ∷ []) schema_is)
       (tables_added old.public.pack old.vault.next old.public.tables new_table _ _ all.lasts agrees.ready refl agrees.tables agrees.next is_table
       (λ i u is same. unnamed i u (record { get = is; named = same })) (λ q. cases_eq q old.vault.next))
+
+  told_rests : (tables : Tables) → Represents state old s tables → refusal_now old.public (length s.asked) (CreateStmt table columns capacity) ≡ None → refusal old.public (length s.asked) tables (CreateStmt table columns capacity) ≡ None
+  told_rests tables held now =
+      refused_late old.public (length s.asked) tables (CreateStmt table columns capacity) (early_held old.public (length s.asked) (CreateStmt table columns capacity) tables (world_of state old s) None held.held now)
+
+  pub told_created : (tables : Tables) → Represents state old s tables → refusal_now old.public (length s.asked) (CreateStmt table columns capacity) ≡ None
+      → Went part (one old.vault.next) (at state old.vault s1) (at state v t)
+      → FlatRepresents old.room.pack (record { schema = schema; capacity = capacity; region = old.vault.next }) (empty_slots capacity) (at state v t)
+      → Told state (CreateStmt table columns capacity) (length s.asked) tables (Ok Created) old (engine_after old v room (old.public.tables ++ new_table ∷ []) Whole old.ended) t
+  told_created tables held now went is =
+      let all = went_join (one old.vault.next) _ _ _ [] part (went_room (one old.vault.next) _ s s1 agrees.ready rests) went in
+      let none = told_rests tables held now in
+      let early = early_held old.public (length s.asked) (CreateStmt table columns capacity) tables (world_of state old s) None held.held now in
+      let flat = subst (λ (g : ℕ). FlatRepresents old.public.pack (record { schema = schema; capacity = capacity; region = g }) (empty_slots capacity) (at state v t)) (sym agrees.next)
+      (subst (λ (k : ℕ). FlatRepresents k (record { schema = schema; capacity = capacity; region = old.vault.next }) (empty_slots capacity) (at state v t)) agrees.room.pack is) in
+      let kept = held_kept (one old.vault.next) old.public.pack old.public.tables tables _ _ all.lasts
+      (λ i u here same. let less = region_below old.public.pack i old.public.tables u _ agrees.ready agrees.tables here in omega (arith, less, same)) held.held in
+      let added = held_added old.public.pack old.public.tables tables new_table (empty_slots capacity) (at state v t) kept flat in
+      let settles : followed (refusal old.public (length s.asked) tables (CreateStmt table columns capacity)) (settled tables (CreateStmt table columns capacity)) tables
+      ≡ tables ++ record { heading = new_table.heading; held = empty_slots capacity } ∷ [] =
+      ap (λ (o : Option Refusal). followed o (settled tables (CreateStmt table columns capacity)) tables) none
+      ∙ (λ i. tables ++ record { heading = record { name = table; schema = sym schema_is i; capacity = capacity }; held = empty_slots capacity } ∷ []) in
+      record {
+        answer = sym (ap (λ (o : Option Refusal). outcome_of (CreateStmt table columns capacity) (answered o (accepted_answer (database tables) (CreateStmt table columns capacity)))) none);
+        seen = sym (seen_late old.public (length s.asked) tables (CreateStmt table columns capacity) early);
+        held = record { held = subst (λ (ts : Tables). AreHeld old.public.pack (old.public.tables ++ new_table ∷ []) ts (at state v t)) (sym settles) added };
+      }
+
+  pub told_not_created : (tables : Tables) → Represents state old s tables → refusal_now old.public (length s.asked) (CreateStmt table columns capacity) ≡ None
+      → (e : OpErr) (n : ℕ) → IsFault e → PassCut e part (one old.vault.next) (at state old.vault s1) (at state v t) → n ≡ length t.asked - length s.asked
+      → Told state (CreateStmt table columns capacity) (length s.asked) tables (answer_of e) old (engine_after old v room old.public.tables (Cut n) (is_stop (answer_of e))) t
+  told_not_created tables held now e n fault cut count =
+      let all = pass_after (one old.vault.next) _ _ _ e [] part (went_room (one old.vault.next) _ s s1 agrees.ready rests) cut in
+      let early = early_held old.public (length s.asked) (CreateStmt table columns capacity) tables (world_of state old s) None held.held now in
+      told_cut state old (length s.asked) v room t (CreateStmt table columns capacity) tables e n fault count
+      (seen_late old.public (length s.asked) tables (CreateStmt table columns capacity) early)
+      (held_kept (one old.vault.next) old.public.pack old.public.tables tables _ _ all.lasts
+      (λ i u here same. let less = region_below old.public.pack i old.public.tables u _ agrees.ready agrees.tables here in omega (arith, less, same)) held.held)
 
   pub not_created : (e : OpErr) (n : ℕ) → PassCut e part (one old.vault.next) (at state old.vault s1) (at state v t) → n ≡ length t.asked - length s.asked
       → ((state v.revs).live old.vault.next ≡ None)

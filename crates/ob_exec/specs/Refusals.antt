@@ -1,8 +1,6 @@
 -- Refusals, and who they come from.
 use Rattle.ob_base.specs.declared.refusal.Refusal.{Refusal}
 use Rattle.ob_base.specs.declared.refusal.Refusal.TheVariants.{Syntax, NoTable, NameTaken, NoColumn, WrongType, ValueRange, Limit, KeyRule, JoinKey, Duplicate, Full, TooManyGroups, NotConsecutive, Overflow, StoreFault}
-use Rattle.ob_exec.specs.declared.early.Early.{Early}
-use Rattle.ob_exec.specs.declared.early.Early.TheVariants.{Refused, NoMemory}
 
 -- a refusal that is none by the store
 abbrev pub IsEarly : Refusal → Type 0
@@ -21,7 +19,3 @@ IsEarly TooManyGroups = Unit {0}
 IsEarly NotConsecutive = Unit {0}
 IsEarly (Overflow i) = Unit {0}
 IsEarly StoreFault = ⊥
-
-abbrev pub IsEarlyStop : Early → Type 0
-IsEarlyStop (Refused r) = IsEarly r
-IsEarlyStop NoMemory = Unit {0}

@@ -62,7 +62,7 @@ outcome_of stmt (A.Refused r) = Refused r
 -- a statement that went to its end, or was refused before: its answer is the verdict, and what is seen and what the tables are
 -- follows from the tables before, of which m accesses were asked
 pub record Meant {R : Type 0} (state : R → RevState) (stmt : Stmt) (m : ℕ) (tables : Tables) (outcome : Outcome) (old new : Engine R) (t : StoreState) : Type 0 where
-  pub outcome : outcome ≡ outcome_of stmt (verdict old.public m tables stmt)
+  pub answer : outcome ≡ outcome_of stmt (verdict old.public m tables stmt)
   pub seen : new.seen ≡ seen old.public m tables stmt
   pub held : Represents state new t (settle old.public m tables stmt)
 

@@ -4,3 +4,4 @@ pub mod RefusalLemmas
 pub mod SourceLemmas
 pub mod EarlyLemmas
 pub mod InsertLemmas
+pub mod VerdictLemmas

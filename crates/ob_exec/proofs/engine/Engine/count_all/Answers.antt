@@ -1,30 +1,45 @@
-use Rattle.std.proofs.Common.{◌≡◌, ◌-◌, List, [], ◌∷◌, None, Ok, sym, ◌∙◌, subst, ap, arith, length, slice_get, codes, pos}
+use Rattle.std.proofs.Common.{◌≡◌, ◌⊎◌, inl, inr, ◌-◌, ℕ, Bool, IsTrue, List, [], ◌∷◌, length, Ok, Err, Result, sym, ◌∙◌, subst, ap, arith, slice_get, refl, pos}
+use Rattle.std.specs.Prelude.{None, OnErr}
 use Rattle.std.proofs.lemmas.Option.{slice_get_within}
-use Rattle.ob_base.specs.declared.refusal.Refusal.TheVariants.{NoTable, Limit}
+use Rattle.ob_base.specs.declared.refusal.Stop.{Stop}
+use Rattle.ob_base.specs.declared.refusal.Stop.TheVariants.{SinkFault, NoMemory}
 use Rattle.ob_base.specs.declared.schema.Table.{Table}
-use Rattle.ob_base.specs.declared.skeleton.Skeleton.TheVariants.{Groups}
 use Rattle.ob_base.specs.Numbers.{blocks_for}
+use Rattle.ob_base.specs.Events.{Event}
 use Rattle.ob_base.specs.declared.shown.Shown.TheVariants.{Int}
-use Rattle.ob_base.specs.Events.{Event, Head, Row, Close}
 use Rattle.ob_vault.specs.Calls.{Went, none}
 use Rattle.ob_vault.specs.Places.{at}
 use Rattle.ob_script.specs.Parts.{count_part}
 use Rattle.ob_flat.specs.declared.fault.OpErr.TheVariants as OpErrs
 use Rattle.ob_flat.specs.declared.flat.Flat.{Flat}
+use Rattle.ob_flat.specs.Flats.{Represents}
 use Rattle.ob_flat.specs.Passes.{PassCut}
+use Rattle.ob_row.specs.Condition.{Condition}
+use Rattle.ob_row.specs.Slots.{selected}
+use Rattle.ob_row.specs.Truth.{is_true}
+use Rattle.ob_sql.specs.Skeleton.{skeleton}
+use Rattle.ob_mean.specs.Headings.{headings_of}
+use Rattle.ob_mean.specs.Verdict.{Tables, is_late}
+use Rattle.ob_mean.proofs.EarlyLemmas.{allowed}
 use Rattle.ob_exec.specs.declared.outcome.Outcome.{Outcome}
+use Rattle.ob_exec.specs.declared.outcome.Outcome.TheVariants.{Rows}
 use Rattle.ob_exec.specs.Engines.{IsAt}
-use Rattle.ob_exec.specs.Running.{Emits}
-use Rattle.ob_exec.proofs.RunLemmas.{ran_refused, ran_as}
-use Rattle.ob_exec.proofs.InsertLemmas.{counted, not_counted, cut_whole, one_row}
+use Rattle.ob_exec.specs.Running.{Emits, answer_of}
+use Rattle.ob_exec.specs.Serving.{count_of}
+use Rattle.ob_exec.specs.Telling.{Emitted, Represents as Stands}
+use Rattle.ob_exec.proofs.FoundLemmas.{is_there}
+use Rattle.ob_exec.proofs.EmitLemmas.{count_labels, count_events, count_emitted, count_partly, count_none}
+use Rattle.ob_exec.proofs.RunLemmas.{ran_as}
+use Rattle.ob_exec.proofs.ToldLemmas.{told_as, fault_made, if_ok_of, on_err_of, emits_fault}
+use Rattle.ob_exec.proofs.InsertLemmas.{counted, not_counted, cut_whole, one_row, count_some, count_is, held_before, told_counted, told_not_counted}
 use Rattle.ob_exec.proofs.engine.Engine.count_all.Goals as goal
 
-pub returns-in_default-clause-ran : goal.returns-in_default-clause-ran
-returns-in_default-clause-ran g c = ran_refused _ _ _ _ c.requires.agrees c.requires.lives NoTable _ _ tt c.refuse.ensures.answer c.refuse.ensures.seen
-
-pub returns-then-before-ge-LATE-clause-ran : goal.returns-then-before-ge-LATE-clause-ran
-returns-then-before-ge-LATE-clause-ran g c =
-    ran_refused _ _ _ _ c.requires.agrees c.requires.lives Limit _ _ tt c.refuse-then-before-ge-LATE.ensures.answer c.refuse-then-before-ge-LATE.ensures.seen
+pub unreachable-requires : goal.unreachable-requires
+unreachable-requires g c =
+    let old = c.args.self.now in
+    let free = allowed (is_late (length (g.S.BlockStore.state c.args.store.now).asked)) old.public.pack old.public.buffer (headings_of old.public.tables) (count_of c.args.table.now) c.requires.allowed in
+    is_there c.args.table.now old.public.tables free.tables
+    (λ i t is. c.in_default.ensures.none i t (subst (λ (ts : List Table). IsAt c.args.table.now i t ts) (sym c.as_slice.ensures) is))
 
 pub flat_at-flat-requires : goal.flat_at-flat-requires
 flat_at-flat-requires g c =
@@ -32,31 +47,24 @@ flat_at-flat-requires g c =
     let within = slice_get_within c.as_slice.result.now c.in-Some.i found.0 found.1.get in
     omega (arith, within, ap length c.as_slice.ensures, ap length c.as_slice-2.ensures)
 
-pub returns-in-Ok-emit_count-clause-emits : goal.returns-in-Ok-emit_count-clause-emits
-returns-in-Ok-emit_count-clause-emits g c =
-    let events : List Event = Head (codes "COUNT(*)" ∷ []) ∷ Row (Int (pos c.in-Ok.counted.k) ∷ []) ∷ Close 1 ∷ [] in (
-      events,
-      c.in-Ok-emit_count.ensures.ok,
-      subst (λ (o : Outcome). Emits o events) (sym c.finish.ensures.answer) (one_row (codes "COUNT(*)" ∷ []) (Int (pos c.in-Ok.counted.k) ∷ [])),
-    )
-
-pub returns-in-Ok-emit_count-clause-ran : goal.returns-in-Ok-emit_count-clause-ran
-returns-in-Ok-emit_count-clause-ran g c =
+pub returns-then-is_err-clause-stopped : goal.returns-then-is_err-clause-stopped
+returns-then-is_err-clause-stopped g c =
     let old = c.args.self.now in
     let state = g.R.Revisions.state in
-    let v = c.count-2.new.vault in
-    let room = c.count-2.new.room in
     let s = g.S.BlockStore.state c.args.store.now in
-    let s1 = g.S.BlockStore.state c.room.new.self in
-    let t = g.S.BlockStore.state c.count-2.new.store in
     let i = c.in-Some.i in
     let found = c.in-Some.ensures.found in
     let table = found.0 in
     let here = subst (λ (ts : List Table). IsAt c.args.table.now i table ts) c.as_slice.ensures found.1 in
-    let flat_is = c.flat_at-flat.ensures table (ap (λ (ts : List Table). slice_get ts i) c.as_slice-2.ensures ∙ here.get) in
-    let went = subst (λ (f : Flat). Went (count_part f.region (blocks_for old.room.pack f.capacity)) none (at state old.vault s1) (at state v t)) flat_is c.in-Ok.ensures.ok in
-    let ran = counted state old s s1 v room t c.args.table.now i table _ c.requires.agrees c.room.ensures.rests c.count-2.ensures.room here went c.requires.lives in
-    ran_as state (Groups c.args.table.now [] None) old s t _ _ _ _ (ap (λ (o : Outcome). Ok o) c.finish.ensures.answer) c.finish.ensures.seen ran
+    subst (λ (r : Result Outcome Stop). OnErr r ((events : List Event) × (g.E.Emit.grew c.args.out.now c.args.out.now events ⊎ g.E.Emit.cut c.args.out.now c.args.out.now events)
+    × (IsTrue s.tells → (tables : Tables) → Stands state old s tables → (g.S.BlockStore.state c.room.new.self).lie ≡ None → Emitted (count_of c.args.table.now) old.public (length s.asked) tables r events))) (sym c.cut.ensures.answer)
+    (
+      [],
+      inl (g.met.E.Emit.starts c.args.out.now),
+      λ tells tables held honest.
+      let some = count_some state old s c.args.table.now i table c.requires.agrees here tables held c.requires.allowed in
+      count_none c.args.table.now old.public (length s.asked) tables some.0 some.1 OpErrs.NoMemory,
+    )
 
 pub returns-in-Err-clause-ran : goal.returns-in-Err-clause-ran
 returns-in-Err-clause-ran g c =
@@ -76,7 +84,133 @@ returns-in-Err-clause-ran g c =
     let count : n ≡ length t.asked - length s.asked = λ j. c.count-in-Err.ensures j - c.count-before.ensures j in
     let cut = subst (λ (f : Flat). PassCut c.in-Err.error (count_part f.region (blocks_for old.room.pack f.capacity)) none (at state old.vault s1) (at state v t)) flat_is c.in-Err.ensures.err in
     let ran = not_counted state old s s1 v room t c.args.table.now i table _ c.requires.agrees c.room.ensures.rests c.count-2.ensures.room here c.in-Err.error n cut count in
-    ran_as state (Groups c.args.table.now [] None) old s t _ _ _ _ c.cut-in-Err.ensures.answer c.cut-in-Err.ensures.seen ran
+    ran_as state (skeleton (count_of c.args.table.now)) old s t _ _ _ _ c.cut-in-Err.ensures.answer c.cut-in-Err.ensures.seen ran
+
+pub returns-in-Err-clause-told : goal.returns-in-Err-clause-told
+returns-in-Err-clause-told g c tells tables held honest =
+    let old = c.args.self.now in
+    let state = g.R.Revisions.state in
+    let v = c.count-2.new.vault in
+    let room = c.count-2.new.room in
+    let s = g.S.BlockStore.state c.args.store.now in
+    let s1 = g.S.BlockStore.state c.room.new.self in
+    let t = g.S.BlockStore.state c.count-2.new.store in
+    let i = c.in-Some.i in
+    let found = c.in-Some.ensures.found in
+    let table = found.0 in
+    let here = subst (λ (ts : List Table). IsAt c.args.table.now i table ts) c.as_slice.ensures found.1 in
+    let flat_is = c.flat_at-flat.ensures table (ap (λ (ts : List Table). slice_get ts i) c.as_slice-2.ensures ∙ here.get) in
+    let n = c.count-in-Err.result - c.count-before.result in
+    let count : n ≡ length t.asked - length s.asked = λ j. c.count-in-Err.ensures j - c.count-before.ensures j in
+    let cut = subst (λ (f : Flat). PassCut c.in-Err.error (count_part f.region (blocks_for old.room.pack f.capacity)) none (at state old.vault s1) (at state v t)) flat_is c.in-Err.ensures.err in
+    let before = held_before state old s s1 c.args.table.now i table c.requires.agrees c.room.ensures.rests here tables held in
+    let fault = c.in-Err.ensures.told before.0 (subst (λ (f : Flat). Represents old.room.pack f before.0 (at state old.vault s1)) (sym flat_is) before.1) honest in
+    let told = told_not_counted state old s s1 v room t c.args.table.now i table _ c.requires.agrees c.room.ensures.rests c.count-2.ensures.room here tables held c.requires.allowed
+    c.in-Err.error n (fault_made c.in-Err.error (inl fault)) cut count in
+    told_as state (count_of c.args.table.now) _ tables old t _ _ _ _ c.cut-in-Err.ensures.answer c.cut-in-Err.ensures.seen told
+
+pub returns-in-Err-clause-emits : goal.returns-in-Err-clause-emits
+returns-in-Err-clause-emits g c =
+    let old = c.args.self.now in
+    let state = g.R.Revisions.state in
+    let s = g.S.BlockStore.state c.args.store.now in
+    let i = c.in-Some.i in
+    let found = c.in-Some.ensures.found in
+    let table = found.0 in
+    let here = subst (λ (ts : List Table). IsAt c.args.table.now i table ts) c.as_slice.ensures found.1 in
+    if_ok_of c.cut-in-Err.result (answer_of c.in-Err.error) c.cut-in-Err.ensures.answer
+    (λ outcome is. (
+      [],
+      g.met.E.Emit.starts c.args.out.now,
+      emits_fault c.in-Err.error outcome is,
+      λ tells tables held honest.
+      let some = count_some state old s c.args.table.now i table c.requires.agrees here tables held c.requires.allowed in
+      subst (λ (r : Result Outcome Stop). Emitted (count_of c.args.table.now) old.public (length s.asked) tables r []) (sym c.cut-in-Err.ensures.answer)
+      (count_none c.args.table.now old.public (length s.asked) tables some.0 some.1 c.in-Err.error),
+    ))
+
+pub returns-in-Err-clause-stopped : goal.returns-in-Err-clause-stopped
+returns-in-Err-clause-stopped g c =
+    let old = c.args.self.now in
+    let state = g.R.Revisions.state in
+    let s = g.S.BlockStore.state c.args.store.now in
+    let i = c.in-Some.i in
+    let found = c.in-Some.ensures.found in
+    let table = found.0 in
+    let here = subst (λ (ts : List Table). IsAt c.args.table.now i table ts) c.as_slice.ensures found.1 in
+    on_err_of c.cut-in-Err.result (
+      [],
+      inl (g.met.E.Emit.starts c.args.out.now),
+      λ tells tables held honest.
+      let some = count_some state old s c.args.table.now i table c.requires.agrees here tables held c.requires.allowed in
+      subst (λ (r : Result Outcome Stop). Emitted (count_of c.args.table.now) old.public (length s.asked) tables r []) (sym c.cut-in-Err.ensures.answer)
+      (count_none c.args.table.now old.public (length s.asked) tables some.0 some.1 c.in-Err.error),
+    )
+
+pub returns-in-Ok-emit_count-clause-ran : goal.returns-in-Ok-emit_count-clause-ran
+returns-in-Ok-emit_count-clause-ran g c =
+    let old = c.args.self.now in
+    let state = g.R.Revisions.state in
+    let v = c.count-2.new.vault in
+    let room = c.count-2.new.room in
+    let s = g.S.BlockStore.state c.args.store.now in
+    let s1 = g.S.BlockStore.state c.room.new.self in
+    let t = g.S.BlockStore.state c.count-2.new.store in
+    let i = c.in-Some.i in
+    let found = c.in-Some.ensures.found in
+    let table = found.0 in
+    let here = subst (λ (ts : List Table). IsAt c.args.table.now i table ts) c.as_slice.ensures found.1 in
+    let flat_is = c.flat_at-flat.ensures table (ap (λ (ts : List Table). slice_get ts i) c.as_slice-2.ensures ∙ here.get) in
+    let went = subst (λ (f : Flat). Went (count_part f.region (blocks_for old.room.pack f.capacity)) none (at state old.vault s1) (at state v t)) flat_is c.in-Ok.ensures.ok in
+    let ran = counted state old s s1 v room t c.args.table.now i table _ c.requires.agrees c.room.ensures.rests c.count-2.ensures.room here went c.requires.lives in
+    ran_as state (skeleton (count_of c.args.table.now)) old s t _ _ _ _ (ap (λ (o : Outcome). Ok o) c.finish.ensures.answer) c.finish.ensures.seen ran
+
+pub returns-in-Ok-emit_count-clause-told : goal.returns-in-Ok-emit_count-clause-told
+returns-in-Ok-emit_count-clause-told g c tells tables held honest =
+    let old = c.args.self.now in
+    let state = g.R.Revisions.state in
+    let v = c.count-2.new.vault in
+    let room = c.count-2.new.room in
+    let s = g.S.BlockStore.state c.args.store.now in
+    let s1 = g.S.BlockStore.state c.room.new.self in
+    let t = g.S.BlockStore.state c.count-2.new.store in
+    let i = c.in-Some.i in
+    let found = c.in-Some.ensures.found in
+    let table = found.0 in
+    let here = subst (λ (ts : List Table). IsAt c.args.table.now i table ts) c.as_slice.ensures found.1 in
+    let flat_is = c.flat_at-flat.ensures table (ap (λ (ts : List Table). slice_get ts i) c.as_slice-2.ensures ∙ here.get) in
+    let went = subst (λ (f : Flat). Went (count_part f.region (blocks_for old.room.pack f.capacity)) none (at state old.vault s1) (at state v t)) flat_is c.in-Ok.ensures.ok in
+    let is = count_is state old s s1 v room t c.args.table.now i table _ c.requires.agrees c.room.ensures.rests c.count-2.ensures.room here tables held c.requires.allowed c.in-Ok.counted.k
+    (λ slots before. ap (λ r. r.k) (c.in-Ok.ensures.told slots (subst (λ (f : Flat). Represents old.room.pack f slots (at state old.vault s1)) (sym flat_is) before) honest)
+    ∙ ap (λ (p : Condition). length (selected (is_true p) slots)) c.all.ensures) in
+    let told = told_counted state old s s1 v room t c.args.table.now i table _ c.requires.agrees c.room.ensures.rests c.count-2.ensures.room here tables held c.requires.allowed went c.in-Ok.counted.k is in
+    told_as state (count_of c.args.table.now) _ tables old t _ _ _ _ (ap (λ (o : Outcome). Ok o) c.finish.ensures.answer) c.finish.ensures.seen told
+
+pub returns-in-Ok-emit_count-clause-emits : goal.returns-in-Ok-emit_count-clause-emits
+returns-in-Ok-emit_count-clause-emits g c =
+    let old = c.args.self.now in
+    let state = g.R.Revisions.state in
+    let v = c.count-2.new.vault in
+    let room = c.count-2.new.room in
+    let s = g.S.BlockStore.state c.args.store.now in
+    let s1 = g.S.BlockStore.state c.room.new.self in
+    let t = g.S.BlockStore.state c.count-2.new.store in
+    let i = c.in-Some.i in
+    let found = c.in-Some.ensures.found in
+    let table = found.0 in
+    let here = subst (λ (ts : List Table). IsAt c.args.table.now i table ts) c.as_slice.ensures found.1 in
+    let flat_is = c.flat_at-flat.ensures table (ap (λ (ts : List Table). slice_get ts i) c.as_slice-2.ensures ∙ here.get) in
+    (
+      count_events c.in-Ok.counted.k,
+      c.in-Ok-emit_count.ensures.ok,
+      subst (λ (o : Outcome). Emits o (count_events c.in-Ok.counted.k)) (sym c.finish.ensures.answer) (one_row count_labels (Int (pos c.in-Ok.counted.k) ∷ [])),
+      λ tells tables held honest.
+      let is = count_is state old s s1 v room t c.args.table.now i table _ c.requires.agrees c.room.ensures.rests c.count-2.ensures.room here tables held c.requires.allowed c.in-Ok.counted.k
+      (λ slots before. ap (λ r. r.k) (c.in-Ok.ensures.told slots (subst (λ (f : Flat). Represents old.room.pack f slots (at state old.vault s1)) (sym flat_is) before) honest)
+      ∙ ap (λ (p : Condition). length (selected (is_true p) slots)) c.all.ensures) in
+      subst (λ (o : Outcome). Emitted (count_of c.args.table.now) old.public (length s.asked) tables (Ok o) (count_events c.in-Ok.counted.k)) (sym c.finish.ensures.answer)
+      (count_emitted c.args.table.now old.public (length s.asked) tables c.in-Ok.counted.k is),
+    )
 
 pub returns-in-Err-Failed-clause-ran : goal.returns-in-Err-Failed-clause-ran
 returns-in-Err-Failed-clause-ran g c =
@@ -97,7 +231,55 @@ returns-in-Err-Failed-clause-ran g c =
     let count : n ≡ length t.asked - length s.asked = λ j. c.count-in-Err-Failed.ensures j - c.count-before.ensures j in
     let cut = cut_whole OpErrs.Sink none (count_part table.region (blocks_for old.room.pack table.heading.capacity)) (at state old.vault s1) (at state v t) (went.did.faults, went.calm) went in
     let ran = not_counted state old s s1 v room t c.args.table.now i table _ c.requires.agrees c.room.ensures.rests c.count-2.ensures.room here OpErrs.Sink n cut count in
-    ran_as state (Groups c.args.table.now [] None) old s t _ _ _ _ c.cut-in-Err-Failed.ensures.answer c.cut-in-Err-Failed.ensures.seen ran
+    ran_as state (skeleton (count_of c.args.table.now)) old s t _ _ _ _ c.cut-in-Err-Failed.ensures.answer c.cut-in-Err-Failed.ensures.seen ran
+
+pub returns-in-Err-Failed-clause-told : goal.returns-in-Err-Failed-clause-told
+returns-in-Err-Failed-clause-told g c tells tables held honest =
+    let old = c.args.self.now in
+    let state = g.R.Revisions.state in
+    let v = c.count-2.new.vault in
+    let room = c.count-2.new.room in
+    let s = g.S.BlockStore.state c.args.store.now in
+    let s1 = g.S.BlockStore.state c.room.new.self in
+    let t = g.S.BlockStore.state c.count-2.new.store in
+    let i = c.in-Some.i in
+    let found = c.in-Some.ensures.found in
+    let table = found.0 in
+    let here = subst (λ (ts : List Table). IsAt c.args.table.now i table ts) c.as_slice.ensures found.1 in
+    let flat_is = c.flat_at-flat.ensures table (ap (λ (ts : List Table). slice_get ts i) c.as_slice-2.ensures ∙ here.get) in
+    let went = subst (λ (f : Flat). Went (count_part f.region (blocks_for old.room.pack f.capacity)) none (at state old.vault s1) (at state v t)) flat_is c.in-Ok.ensures.ok in
+    let n = c.count-in-Err-Failed.result - c.count-before.result in
+    let count : n ≡ length t.asked - length s.asked = λ j. c.count-in-Err-Failed.ensures j - c.count-before.ensures j in
+    let cut = cut_whole OpErrs.Sink none (count_part table.region (blocks_for old.room.pack table.heading.capacity)) (at state old.vault s1) (at state v t) (went.did.faults, went.calm) went in
+    let told = told_not_counted state old s s1 v room t c.args.table.now i table _ c.requires.agrees c.room.ensures.rests c.count-2.ensures.room here tables held c.requires.allowed
+    OpErrs.Sink n tt cut count in
+    told_as state (count_of c.args.table.now) _ tables old t _ _ _ _ c.cut-in-Err-Failed.ensures.answer c.cut-in-Err-Failed.ensures.seen told
+
+pub returns-in-Err-Failed-clause-stopped : goal.returns-in-Err-Failed-clause-stopped
+returns-in-Err-Failed-clause-stopped g c =
+    let old = c.args.self.now in
+    let state = g.R.Revisions.state in
+    let v = c.count-2.new.vault in
+    let room = c.count-2.new.room in
+    let s = g.S.BlockStore.state c.args.store.now in
+    let s1 = g.S.BlockStore.state c.room.new.self in
+    let t = g.S.BlockStore.state c.count-2.new.store in
+    let i = c.in-Some.i in
+    let found = c.in-Some.ensures.found in
+    let table = found.0 in
+    let here = subst (λ (ts : List Table). IsAt c.args.table.now i table ts) c.as_slice.ensures found.1 in
+    let flat_is = c.flat_at-flat.ensures table (ap (λ (ts : List Table). slice_get ts i) c.as_slice-2.ensures ∙ here.get) in
+    let partly = c.in-Err-Failed.ensures.err in
+    on_err_of c.cut-in-Err-Failed.result (
+      partly.0,
+      inr partly.1,
+      λ tells tables held honest.
+      let is = count_is state old s s1 v room t c.args.table.now i table _ c.requires.agrees c.room.ensures.rests c.count-2.ensures.room here tables held c.requires.allowed c.in-Ok.counted.k
+      (λ slots before. ap (λ r. r.k) (c.in-Ok.ensures.told slots (subst (λ (f : Flat). Represents old.room.pack f slots (at state old.vault s1)) (sym flat_is) before) honest)
+      ∙ ap (λ (p : Condition). length (selected (is_true p) slots)) c.all.ensures) in
+      subst (λ (r : Result Outcome Stop). Emitted (count_of c.args.table.now) old.public (length s.asked) tables r partly.0) (sym c.cut-in-Err-Failed.ensures.answer)
+      (count_partly c.args.table.now old.public (length s.asked) tables c.in-Ok.counted.k is SinkFault partly.0 partly.2),
+    )
 
 pub returns-in-Err-NoMemory-clause-ran : goal.returns-in-Err-NoMemory-clause-ran
 returns-in-Err-NoMemory-clause-ran g c =
@@ -118,4 +300,52 @@ returns-in-Err-NoMemory-clause-ran g c =
     let count : n ≡ length t.asked - length s.asked = λ j. c.count-in-Err-NoMemory.ensures j - c.count-before.ensures j in
     let cut = cut_whole OpErrs.NoMemory none (count_part table.region (blocks_for old.room.pack table.heading.capacity)) (at state old.vault s1) (at state v t) (went.did.faults, went.calm) went in
     let ran = not_counted state old s s1 v room t c.args.table.now i table _ c.requires.agrees c.room.ensures.rests c.count-2.ensures.room here OpErrs.NoMemory n cut count in
-    ran_as state (Groups c.args.table.now [] None) old s t _ _ _ _ c.cut-in-Err-NoMemory.ensures.answer c.cut-in-Err-NoMemory.ensures.seen ran
+    ran_as state (skeleton (count_of c.args.table.now)) old s t _ _ _ _ c.cut-in-Err-NoMemory.ensures.answer c.cut-in-Err-NoMemory.ensures.seen ran
+
+pub returns-in-Err-NoMemory-clause-told : goal.returns-in-Err-NoMemory-clause-told
+returns-in-Err-NoMemory-clause-told g c tells tables held honest =
+    let old = c.args.self.now in
+    let state = g.R.Revisions.state in
+    let v = c.count-2.new.vault in
+    let room = c.count-2.new.room in
+    let s = g.S.BlockStore.state c.args.store.now in
+    let s1 = g.S.BlockStore.state c.room.new.self in
+    let t = g.S.BlockStore.state c.count-2.new.store in
+    let i = c.in-Some.i in
+    let found = c.in-Some.ensures.found in
+    let table = found.0 in
+    let here = subst (λ (ts : List Table). IsAt c.args.table.now i table ts) c.as_slice.ensures found.1 in
+    let flat_is = c.flat_at-flat.ensures table (ap (λ (ts : List Table). slice_get ts i) c.as_slice-2.ensures ∙ here.get) in
+    let went = subst (λ (f : Flat). Went (count_part f.region (blocks_for old.room.pack f.capacity)) none (at state old.vault s1) (at state v t)) flat_is c.in-Ok.ensures.ok in
+    let n = c.count-in-Err-NoMemory.result - c.count-before.result in
+    let count : n ≡ length t.asked - length s.asked = λ j. c.count-in-Err-NoMemory.ensures j - c.count-before.ensures j in
+    let cut = cut_whole OpErrs.NoMemory none (count_part table.region (blocks_for old.room.pack table.heading.capacity)) (at state old.vault s1) (at state v t) (went.did.faults, went.calm) went in
+    let told = told_not_counted state old s s1 v room t c.args.table.now i table _ c.requires.agrees c.room.ensures.rests c.count-2.ensures.room here tables held c.requires.allowed
+    OpErrs.NoMemory n tt cut count in
+    told_as state (count_of c.args.table.now) _ tables old t _ _ _ _ c.cut-in-Err-NoMemory.ensures.answer c.cut-in-Err-NoMemory.ensures.seen told
+
+pub returns-in-Err-NoMemory-clause-stopped : goal.returns-in-Err-NoMemory-clause-stopped
+returns-in-Err-NoMemory-clause-stopped g c =
+    let old = c.args.self.now in
+    let state = g.R.Revisions.state in
+    let v = c.count-2.new.vault in
+    let room = c.count-2.new.room in
+    let s = g.S.BlockStore.state c.args.store.now in
+    let s1 = g.S.BlockStore.state c.room.new.self in
+    let t = g.S.BlockStore.state c.count-2.new.store in
+    let i = c.in-Some.i in
+    let found = c.in-Some.ensures.found in
+    let table = found.0 in
+    let here = subst (λ (ts : List Table). IsAt c.args.table.now i table ts) c.as_slice.ensures found.1 in
+    let flat_is = c.flat_at-flat.ensures table (ap (λ (ts : List Table). slice_get ts i) c.as_slice-2.ensures ∙ here.get) in
+    let partly = c.in-Err-NoMemory.ensures.err in
+    on_err_of c.cut-in-Err-NoMemory.result (
+      partly.0,
+      inr partly.1,
+      λ tells tables held honest.
+      let is = count_is state old s s1 v room t c.args.table.now i table _ c.requires.agrees c.room.ensures.rests c.count-2.ensures.room here tables held c.requires.allowed c.in-Ok.counted.k
+      (λ slots before. ap (λ r. r.k) (c.in-Ok.ensures.told slots (subst (λ (f : Flat). Represents old.room.pack f slots (at state old.vault s1)) (sym flat_is) before) honest)
+      ∙ ap (λ (p : Condition). length (selected (is_true p) slots)) c.all.ensures) in
+      subst (λ (r : Result Outcome Stop). Emitted (count_of c.args.table.now) old.public (length s.asked) tables r partly.0) (sym c.cut-in-Err-NoMemory.ensures.answer)
+      (count_partly c.args.table.now old.public (length s.asked) tables c.in-Ok.counted.k is NoMemory partly.0 partly.2),
+    )
