@@ -1,7 +1,3 @@
-pub mod Lexed
-pub mod Digits
-pub mod Emptiness
-pub mod Pieces
 pub mod Quoted
 pub mod Told
 pub mod GoodConditions

@@ -5,14 +5,13 @@ ghost use Rattle.ob_parse.specs.Reading.{Gives};
 ghost use Rattle.ob_parse.specs.Refusal.{IsRefused, last_end, offset};
 ghost use Rattle.ob_parse.specs.StatementReading.{body, deleting, dropping, inserting, statement, updating};
 ghost use Rattle.ob_parse.specs.Statements.{Statement};
-ghost use Rattle.ob_parse.specs.Tokens.{tokens_of};
+ghost use Rattle.ob_token.specs.Tokens.{tokens_of};
 
 use crate::change::{create, delete, drop_table, insert, update};
-use crate::lex;
 use crate::reader::{Fault, expect, skip};
 use crate::select::selection;
-use crate::token::{Mark, Token};
 use ob_sql::Stmt;
+use ob_token::{Mark, Token, tokens};
 use std::alloc::Global;
 use thiserror::Error;
 
@@ -157,8 +156,8 @@ pub fn parse(alloc: Global, text: &[u8]) -> Result<Stmt, ParseErr>
     ensures found { IfOk result (λ s. Statement text.now s (tokens_of text.now)) }
     ensures refused { IfErr result (IsRefused text.now (tokens_of text.now)) }
 {
-    match lex::tokens(alloc, text) {
-        Ok(tokens) => parse_tokens(alloc, text, tokens.as_slice()),
+    match tokens(alloc, text) {
+        Ok(found) => parse_tokens(alloc, text, found.as_slice()),
         Err(_) => Err(ParseErr::NoMemory),
     }
 }

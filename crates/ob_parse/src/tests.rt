@@ -1,4 +1,4 @@
-use crate::{ParseErr, Piece, is_blank, parse, skeleton, split};
+use crate::{ParseErr, parse, skeleton};
 use ob_base::{NewKind, Skeleton};
 use ob_sql::{Literal, Stmt};
 use std::alloc::Global;
@@ -193,13 +193,4 @@ fn outlines(rt: HostRuntime) {
     };
     assert!(rt; first.kind == NewKind::Varchar(4294967295));
     assert!(rt; first.keys == 1);
-}
-
-#[test]
-fn pieces(rt: HostRuntime) {
-    assert!(rt; split(b"  a ';' -- ;\n ; b".as_slice()) == Piece::Stmt { from: 2, to: 15 });
-    assert!(rt; split(b" -- ;\n;".as_slice()) == Piece::Empty { to: 7 });
-    assert!(rt; split(b" a '".as_slice()) == Piece::More { from: 1 });
-    assert!(rt; is_blank(b" \t-- a".as_slice()));
-    assert!(rt; !is_blank(b" -".as_slice()));
 }

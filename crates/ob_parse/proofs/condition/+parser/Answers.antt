@@ -2,8 +2,8 @@ use Rattle.std.proofs.Common.{◌≡◌, ℕ, ◌-◌, ◌≤◌, List, length, 
 use Rattle.ob_grammar.specs.Reader.{◌>>=◌, token, empty, bind}
 use Rattle.ob_grammar.proofs.Placed.{shorter}
 use Rattle.ob_grammar.proofs.Loops.{Left, left_next, left_stuck, left_end}
-use Rattle.ob_parse.specs.declared.token.Mark.TheVariants as M
-use Rattle.ob_parse.specs.declared.token.Token.{Token}
+use Rattle.ob_token.specs.declared.token.Mark.TheVariants as M
+use Rattle.ob_token.specs.declared.token.Token.{Token}
 use Rattle.ob_sql.specs.Search.{Search, search_of, Not, And, Or}
 use Rattle.ob_parse.specs.Conditions.{Prim, ConjOf}
 use Rattle.ob_parse.specs.Marks.{key}

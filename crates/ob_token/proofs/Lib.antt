@@ -1,0 +1,4 @@
+pub mod Lexed
+pub mod Digits
+pub mod Emptiness
+pub mod Pieces
