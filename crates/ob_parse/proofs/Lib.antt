@@ -6,3 +6,4 @@ pub mod Faults
 pub mod PrimSteps
 pub mod GoodStatements
 pub mod Constraints
+pub mod Selects

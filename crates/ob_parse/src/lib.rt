@@ -14,4 +14,4 @@ mod spelled;
 mod tests;
 
 pub use outline::skeleton;
-pub use parser::{ParseErr, one_statement, parse};
+pub use parser::{ParseErr, one_statement, parse, three_forms};

@@ -1,10 +1,12 @@
 //! A text is read as a statement.
-ghost use Rattle.std.specs.Prelude.{◌≡◌, ◌<◌, ℕ, List, length, IfOk, IfErr};
+ghost use Rattle.std.specs.Prelude.{◌≡◌, ◌<◌, ◌↔◌, ℕ, List, length, IfOk, IfErr};
 ghost use Rattle.ob_sql.specs.declared.stmt.Stmt.{Stmt as StmtData};
 ghost use Rattle.ob_parse.specs.Reading.{Gives};
 ghost use Rattle.ob_parse.specs.Refusal.{IsRefused, last_end, offset};
 ghost use Rattle.ob_parse.specs.StatementReading.{body, deleting, dropping, inserting, statement, updating};
-ghost use Rattle.ob_parse.specs.Statements.{Statement};
+ghost use Rattle.ob_parse.specs.Selects.{ThreeForms};
+ghost use Rattle.ob_parse.specs.Statements.{Selection, Statement};
+ghost use Rattle.ob_token.specs.declared.token.Token.{Token as TokenData};
 ghost use Rattle.ob_token.specs.Tokens.{tokens_of};
 
 use crate::change::{create, delete, drop_table, insert, update};
@@ -161,6 +163,11 @@ pub fn parse(alloc: Global, text: &[u8]) -> Result<Stmt, ParseErr>
         Err(_) => Err(ParseErr::NoMemory),
     }
 }
+
+/// SELECT, of which the parser reads once what its forms have in common, is the three forms that it is written in.
+pub fn three_forms()
+    ensures { (text : List ℕ) (s : StmtData) (tokens : List TokenData) → Selection text s tokens ↔ ThreeForms text s tokens }
+{}
 
 /// A text spells at most one statement, so that the one which `parse` finds is the one.
 pub fn one_statement()
