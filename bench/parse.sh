@@ -1,6 +1,6 @@
 #!/bin/sh
-# Times the parsing of three texts of 65,536 bytes, and of three half as long, and tells the memory that it
-# takes for each token. Builds the program first, which proves it.
+# Times the parsing of three texts of 65,536 bytes, and of shorter ones of their kinds, which shows whether the
+# time grows with the length. Builds the program first, which proves it.
 set -eu
 top=$(cd "$(dirname "$0")/.." && pwd)
 work=$(mktemp -d)
@@ -12,7 +12,7 @@ trap 'rm -rf "$work"' EXIT
 }
 
 python3 - "$top/crates/ob_parse_bench/out/ob_parse_bench" <<'PY'
-import os, resource, subprocess, sys, tempfile
+import os, subprocess, sys, tempfile
 
 program = sys.argv[1]
 rounds = 100
@@ -35,9 +35,9 @@ def values(size):
     made, count = text(size, "INSERT INTO t VALUES (", "1", ",", ");")
     return made, 5 + count + (count - 1) + 2
 
-# The seconds of user and system time that a run takes, the least of five, and its largest memory in bytes.
-def run(given):
-    best, most = None, 0
+# The milliseconds of user and system time that a round takes, the least of five.
+def least(given):
+    best = None
     for _ in range(5):
         with tempfile.TemporaryFile() as stdin:
             stdin.write(given.encode())
@@ -50,16 +50,13 @@ def run(given):
             sys.exit(f"the program said {said!r}")
         spent = used.ru_utime + used.ru_stime
         best = spent if best is None else min(best, spent)
-        most = max(most, used.ru_maxrss * 1024)
-    return best, most
+    return 1000 * best / rounds
 
-idle, little = run("")
+idle = least("")
 for name, make in (("comparisons", comparisons), ("32 parentheses", nested), ("INSERT list", values)):
     times = []
-    for size in (32768, 65536):
+    for size in (16384, 32768, 65536):
         given, tokens = make(size)
-        spent, most = run(given)
-        times.append(1000 * (spent - idle) / rounds)
-    print(f"{name}: {tokens} tokens, 32,768 bytes {times[0]:.2f} ms, 65,536 bytes {times[1]:.2f} ms, "
-          f"at most {(most - little) / tokens:.0f} bytes for each token, its statement counted in")
+        times.append(f"{size:,} bytes {least(given) - idle:.2f} ms")
+    print(f"{name}, {tokens:,} tokens at the longest: {', '.join(times)}")
 PY

@@ -12,7 +12,7 @@ skipped zero at bs = let e : at ≡ at + 0 = omega arith in ap (λ n. tokens_fro
 skipped (suc k) at [] = refl
 skipped (suc k) at (b ∷ bs) = let e : suc at + k ≡ at + suc k = omega arith in skipped k (suc at) bs ∙ ap (λ n. tokens_from 0 n (drop k bs)) e
 
-at_piece : (n at : ℕ) (bs : List ℕ) (found : Option Lexeme) → 0 < length bs → 0 < n → (piece bs).len ≡ n → (piece bs).lexeme ≡ found
+pub at_piece : (n at : ℕ) (bs : List ℕ) (found : Option Lexeme) → 0 < length bs → 0 < n → (piece bs).len ≡ n → (piece bs).lexeme ≡ found
     → tokens_from 0 at bs ≡ then_piece found at (at + n) (tokens_from 0 (at + n) (drop n bs))
 unfolding tokens_from
 at_piece n at [] found lt m e f = absurd (omega (arith, lt))

@@ -83,11 +83,11 @@ pair_sized : (a n : ℕ) (found : Option Mark) → Sized (sign_piece found a).le
 pair_sized a n None = lone_sized (suc n) (lone_sign a)
 pair_sized a n (Some m) = (omega arith, omega arith)
 
-and_false : (v : Bool) → (v && false) ≡ false
+pub and_false : (v : Bool) → (v && false) ≡ false
 and_false true = refl
 and_false false = refl
 
-no_pair : (a : ℕ) → pair_sign a 0 ≡ None
+pub no_pair : (a : ℕ) → pair_sign a 0 ≡ None
 no_pair a = rw (and_false (a == 60), and_false (a == 33), and_false (a == 62)) refl
 
 sign_sized : (a : ℕ) (bs : List ℕ) → Sized (sign_piece (pair_sign a (first_byte bs)) a).len (suc (length bs))

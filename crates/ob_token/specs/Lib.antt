@@ -3,3 +3,4 @@ pub mod Words
 pub mod Lexemes
 pub mod Tokens
 pub mod Cutting
+pub mod Closing

@@ -7,6 +7,6 @@ mod lex;
 mod tests;
 mod token;
 
-pub use cut::{Mode, Piece, is_blank, split};
+pub use cut::{Mode, Piece, is_blank, semicolon_is_last, split};
 pub use lex::tokens;
 pub use token::{Lexeme, Mark, Token};
