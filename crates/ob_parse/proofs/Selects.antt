@@ -153,16 +153,54 @@ module _ (text : List ℕ) where
   to_two : (s : Stmt) (ts : List Token) → Itemized text s ts → Two s ts
   to_two s ts (items, x, y, h, (u, from, y1, k, (a, xn, y2, n, (source, xs, y3, hs, rest, e3), e2), e1), e) = go (all_columns items) refl hs where
     join : all_columns items ≡ true → Inners a source xs → Two s ts
-    join c inners = inl (items, x, y, list_to_columns items x h c, (u, from, y1, k, (source, xn ++ xs, y3, (a, xn, xs, n, inners, refl),
-        then_so (Where text) (λ cond. Ends items cond source) (λ cond. Empty (select (Some items) source cond None))
-        (λ cond s w ends. ends_join items cond source a (inners_join a source xs inners) s w ends) s y3 rest,
-        e2 ∙ ap (λ zs. xn ++ zs) e3 ∙ sym (append_assoc xn xs y3)), e1), e)
+    join c inners = inl (
+      items,
+      x,
+      y,
+      list_to_columns items x h c,
+      (
+        u,
+        from,
+        y1,
+        k,
+        (
+          source,
+          xn ++ xs,
+          y3,
+          (a, xn, xs, n, inners, refl),
+          then_so (Where text) (λ cond. Ends items cond source) (λ cond. Empty (select (Some items) source cond None))
+              (λ cond s w ends. ends_join items cond source a (inners_join a source xs inners) s w ends) s y3 rest,
+          e2 ∙ ap (λ zs. xn ++ zs) e3 ∙ sym (append_assoc xn xs y3),
+        ),
+        e1,
+      ),
+      e,
+    )
 
     table : source ≡ F.Table a → xs ≡ [] → Two s ts
-    table is none = inr (items, x, y, h, (u, from, y1, k, (a, xn, y3, n,
-        then_so (Where text) (λ cond. Ends items cond source) (λ cond. Ends items cond (F.Table a))
-        (λ cond s w ends. ends_table items cond source a is s w ends) s y3 rest,
-        e2 ∙ ap (λ zs. xn ++ zs) (e3 ∙ ap (λ zs. zs ++ y3) none)), e1), e)
+    table is none = inr (
+      items,
+      x,
+      y,
+      h,
+      (
+        u,
+        from,
+        y1,
+        k,
+        (
+          a,
+          xn,
+          y3,
+          n,
+          then_so (Where text) (λ cond. Ends items cond source) (λ cond. Ends items cond (F.Table a))
+              (λ cond s w ends. ends_table items cond source a is s w ends) s y3 rest,
+          e2 ∙ ap (λ zs. xn ++ zs) (e3 ∙ ap (λ zs. zs ++ y3) none),
+        ),
+        e1,
+      ),
+      e,
+    )
 
     go : (b : Bool) → all_columns items ≡ b → Sources b a source xs → Two s ts
     go false c (is, none) = table is none
@@ -180,11 +218,36 @@ module _ (text : List ℕ) where
 
   of_two : (s : Stmt) (ts : List Token) → Two s ts → Itemized text s ts
   of_two s ts (inl (items, x, y, h, (u, from, y1, k, (source, xj, y3, (a, xn, xs, n, inners, ej), rest, e2), e1), e)) =
-      let list = list_of_columns items x h in
-      (items, x, y, list.0, (u, from, y1, k, (a, xn, xs ++ y3, n, (source, xs, y3, subst (λ b. Sources b a source xs) (sym list.1) (behind_of a source xs inners),
-          then_so (Where text) (λ cond. Empty (select (Some items) source cond None)) (λ cond. Ends items cond source)
-          (λ cond s w ends. join_ends items cond source a (inners_join a source xs inners) s w ends) s y3 rest,
-          refl), e2 ∙ ap (λ zs. zs ++ y3) ej ∙ append_assoc xn xs y3), e1), e)
+      let list = list_of_columns items x h in (
+        items,
+        x,
+        y,
+        list.0,
+        (
+          u,
+          from,
+          y1,
+          k,
+          (
+            a,
+            xn,
+            xs ++ y3,
+            n,
+            (
+              source,
+              xs,
+              y3,
+              subst (λ b. Sources b a source xs) (sym list.1) (behind_of a source xs inners),
+              then_so (Where text) (λ cond. Empty (select (Some items) source cond None)) (λ cond. Ends items cond source)
+                  (λ cond s w ends. join_ends items cond source a (inners_join a source xs inners) s w ends) s y3 rest,
+              refl,
+            ),
+            e2 ∙ ap (λ zs. zs ++ y3) ej ∙ append_assoc xn xs y3,
+          ),
+          e1,
+        ),
+        e,
+      )
   of_two s ts (inr (items, x, y, h, (u, from, y1, k, (a, xn, y3, n, rest, e2), e1), e)) =
       (items, x, y, h, (u, from, y1, k, (a, xn, y3, n, (F.Table a, [], y3, table_alone (all_columns items) a, rest, refl), e2), e1), e)
 

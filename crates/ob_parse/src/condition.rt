@@ -6,9 +6,9 @@ ghost use Rattle.ob_parse.specs.Reading.{Gives, column, comparison, cond_of, con
 use crate::reader::{
     Fault, begins_name, expect, name, number, order, plain, sign, skip, with_sign,
 };
-use ob_token::{Mark, Token};
 use ob_base::ColumnName;
 use ob_sql::{Against, Cond, CondTree, Literal};
+use ob_token::{Mark, Token};
 use std::alloc::{AllocError, Global};
 
 /// How many of NOT and ( may stand on a path.

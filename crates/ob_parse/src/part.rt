@@ -9,9 +9,9 @@ use crate::change::{assignment, definition};
 use crate::condition::constant;
 use crate::reader::{Fault, name, skip};
 use crate::select::item;
-use ob_token::{Mark, Token};
 use ob_base::{Items, Name, NewColumn};
 use ob_sql::{Listed, Literal, Set};
+use ob_token::{Mark, Token};
 use std::alloc::Global;
 
 /// What stands in a list.

@@ -6,11 +6,11 @@ ghost use Rattle.ob_parse.specs.Marks.{held, key, literal_of, name_of, number_of
 ghost use Rattle.ob_parse.specs.Conditions.{bare, qualified};
 ghost use Rattle.ob_parse.specs.Reading.{begins, Begun, Gives, Skips, Takes, column, constant, operand};
 
-use ob_token::{Lexeme, Mark, Token};
 use arrayvec::ArrayVec;
 use ob_base::{Name, Text};
 use ob_row::Order;
 use ob_sql::Literal;
+use ob_token::{Lexeme, Mark, Token};
 
 /// Why nothing is read: want of memory, or the first of these tokens goes on with no word.
 #[derive(Drop)]

@@ -246,8 +246,8 @@ fn texts_cut_off(rt: HostRuntime) {
         (
             "UPDATE t SET a = 1, b = 'c' WHERE NOT (t.a >= 2 AND b <> c) OR a = +3;",
             [
-                6, 8, 12, 14, 16, 18, 19, 21, 23, 27, 33, 37, 39, 40, 41, 42, 45, 47, 51, 53, 56, 58,
-                59, 62, 64, 66, 68, 69,
+                6, 8, 12, 14, 16, 18, 19, 21, 23, 27, 33, 37, 39, 40, 41, 42, 45, 47, 51, 53, 56,
+                58, 59, 62, 64, 66, 68, 69,
             ]
             .as_slice(),
         ),
@@ -270,8 +270,8 @@ fn texts_cut_off(rt: HostRuntime) {
         (
             "SELECT a, COUNT(*), COUNT(b), SUM(b), MIN(b), MAX(b) FROM t WHERE a = 1 GROUP BY t.a;",
             [
-                6, 8, 9, 15, 16, 17, 18, 19, 25, 26, 27, 28, 29, 33, 34, 35, 36, 37, 41, 42, 43, 44, 45,
-                49, 50, 51, 52, 57, 59, 65, 67, 69, 71, 77, 80, 82, 83, 84,
+                6, 8, 9, 15, 16, 17, 18, 19, 25, 26, 27, 28, 29, 33, 34, 35, 36, 37, 41, 42, 43,
+                44, 45, 49, 50, 51, 52, 57, 59, 65, 67, 69, 71, 77, 80, 82, 83, 84,
             ]
             .as_slice(),
         ),
@@ -281,7 +281,11 @@ fn texts_cut_off(rt: HostRuntime) {
             let end: u32 = *end;
             let bytes = text.as_bytes();
             assert!(rt; end as usize <= bytes.len());
-            assert_eq!(rt; refused(alloc, &bytes[..end as usize]), Some(end), "at {text}");
+            assert_eq!(rt;
+                refused(alloc, &bytes[..end as usize]),
+                Some(end),
+                "at {text}"
+            );
         }
     }
 }
@@ -376,38 +380,14 @@ fn created(rt: HostRuntime) -> Result<(), Fail> {
 #[test]
 fn changed(rt: HostRuntime) -> Result<(), Fail> {
     let cases = [
-        (
-            "INSERT INTO t VALUES (1, 10);",
-            "insert t values 1 10",
-        ),
-        (
-            "INSERT INTO t VALUES (1, 99);",
-            "insert t values 1 99",
-        ),
-        (
-            "INSERT INTO t VALUES (2, 20);",
-            "insert t values 2 20",
-        ),
-        (
-            "INSERT INTO t VALUES (3, 10);",
-            "insert t values 3 10",
-        ),
-        (
-            "INSERT INTO t VALUES (4, 20);",
-            "insert t values 4 20",
-        ),
-        (
-            "INSERT INTO t VALUES (5, 50);",
-            "insert t values 5 50",
-        ),
-        (
-            "INSERT INTO t VALUES (1, 50);",
-            "insert t values 1 50",
-        ),
-        (
-            "INSERT INTO t VALUES ('a', 1);",
-            "insert t values <a> 1",
-        ),
+        ("INSERT INTO t VALUES (1, 10);", "insert t values 1 10"),
+        ("INSERT INTO t VALUES (1, 99);", "insert t values 1 99"),
+        ("INSERT INTO t VALUES (2, 20);", "insert t values 2 20"),
+        ("INSERT INTO t VALUES (3, 10);", "insert t values 3 10"),
+        ("INSERT INTO t VALUES (4, 20);", "insert t values 4 20"),
+        ("INSERT INTO t VALUES (5, 50);", "insert t values 5 50"),
+        ("INSERT INTO t VALUES (1, 50);", "insert t values 1 50"),
+        ("INSERT INTO t VALUES ('a', 1);", "insert t values <a> 1"),
         (
             "INSERT INTO t VALUES (1, 9223372036854775807);",
             "insert t values 1 9223372036854775807",
@@ -424,34 +404,16 @@ fn changed(rt: HostRuntime) -> Result<(), Fail> {
             "INSERT INTO t VALUES (-9223372036854775809, 18446744073709551616, -99999999999999999999);",
             "insert t values out-of-range out-of-range out-of-range",
         ),
-        (
-            "INSERT INTO u VALUES (1, 7);",
-            "insert u values 1 7",
-        ),
-        (
-            "INSERT INTO u VALUES (1, 8);",
-            "insert u values 1 8",
-        ),
-        (
-            "INSERT INTO s VALUES ('a''\"');",
-            "insert s values <a'\">",
-        ),
+        ("INSERT INTO u VALUES (1, 7);", "insert u values 1 7"),
+        ("INSERT INTO u VALUES (1, 8);", "insert u values 1 8"),
+        ("INSERT INTO s VALUES ('a''\"');", "insert s values <a'\">"),
         (
             "INSERT INTO s VALUES ('', '''', '''''', '--;', ' ');",
             "insert s values <> <'> <''> <--;> < >",
         ),
-        (
-            "INSERT INTO c VALUES (13);",
-            "insert c values 13",
-        ),
-        (
-            "INSERT INTO g VALUES (1, 7);",
-            "insert g values 1 7",
-        ),
-        (
-            "INSERT INTO h VALUES (1);",
-            "insert h values 1",
-        ),
+        ("INSERT INTO c VALUES (13);", "insert c values 13"),
+        ("INSERT INTO g VALUES (1, 7);", "insert g values 1 7"),
+        ("INSERT INTO h VALUES (1);", "insert h values 1"),
         (
             "INSERT INTO T (A, b) VALUES (+1, -2);",
             "insert t columns a b values 1 -2",
@@ -460,10 +422,7 @@ fn changed(rt: HostRuntime) -> Result<(), Fail> {
             "UPDATE t SET v = 30 WHERE id = 4;",
             "update t set v = 30 where (id = 4)",
         ),
-        (
-            "UPDATE t SET id = 9;",
-            "update t set id = 9",
-        ),
+        ("UPDATE t SET id = 9;", "update t set id = 9"),
         (
             "UPDATE t SET v = 5 WHERE NOT (id < 3 OR v = 20);",
             "update t set v = 5 where (not ((id < 3) or (v = 20)))",
@@ -476,30 +435,12 @@ fn changed(rt: HostRuntime) -> Result<(), Fail> {
             "UPDATE t SET a = 'x', b = -1;",
             "update t set a = <x> set b = -1",
         ),
-        (
-            "DELETE FROM t WHERE v = 10;",
-            "delete t where (v = 10)",
-        ),
-        (
-            "DELETE FROM g WHERE v = 2;",
-            "delete g where (v = 2)",
-        ),
-        (
-            "DELETE FROM t;",
-            "delete t",
-        ),
-        (
-            "DROP TABLE t;",
-            "drop t",
-        ),
-        (
-            "DROP TABLE g;",
-            "drop g",
-        ),
-        (
-            "DROP TABLE h;",
-            "drop h",
-        ),
+        ("DELETE FROM t WHERE v = 10;", "delete t where (v = 10)"),
+        ("DELETE FROM g WHERE v = 2;", "delete g where (v = 2)"),
+        ("DELETE FROM t;", "delete t"),
+        ("DROP TABLE t;", "drop t"),
+        ("DROP TABLE g;", "drop g"),
+        ("DROP TABLE h;", "drop h"),
     ];
     spells(&rt, rt.alloc(), &cases)
 }
@@ -507,22 +448,13 @@ fn changed(rt: HostRuntime) -> Result<(), Fail> {
 #[test]
 fn selected(rt: HostRuntime) -> Result<(), Fail> {
     let cases = [
-        (
-            "SELECT COUNT(*) FROM t;",
-            "select count-all from t",
-        ),
+        ("SELECT COUNT(*) FROM t;", "select count-all from t"),
         (
             "SELECT COUNT(*) FROM t WHERE v = 5;",
             "select count-all from t where (v = 5)",
         ),
-        (
-            "SELECT * FROM t;",
-            "select all from t",
-        ),
-        (
-            "SELECT * FROM s;",
-            "select all from s",
-        ),
+        ("SELECT * FROM t;", "select all from t"),
+        ("SELECT * FROM s;", "select all from s"),
         (
             "SELECT * FROM t WHERE v = 99;",
             "select all from t where (v = 99)",
@@ -559,10 +491,7 @@ fn selected(rt: HostRuntime) -> Result<(), Fail> {
             "SELECT v, id FROM t GROUP BY v;",
             "select v id from t group v",
         ),
-        (
-            "SELECT x FROM t;",
-            "select x from t",
-        ),
+        ("SELECT x FROM t;", "select x from t"),
         (
             "SELECT * FROM t JOIN u ON t.id = u.k;",
             "select all from t join u on t.id = u.k",

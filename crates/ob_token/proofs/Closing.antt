@@ -8,14 +8,12 @@ use Rattle.ob_token.specs.declared.token.Mark.{Mark}
 use Rattle.ob_token.specs.declared.token.Mark.TheVariants as M
 use Rattle.ob_token.specs.declared.token.Lexeme.{Lexeme}
 use Rattle.ob_token.specs.declared.token.Lexeme.TheVariants as L
-use Rattle.ob_token.specs.declared.token.Token.{Token}
 use Rattle.ob_token.specs.declared.cut.Mode.{Mode}
 use Rattle.ob_token.specs.declared.cut.Mode.TheVariants.{Plain, Dash, Comment, Quote}
-use Rattle.ob_token.specs.declared.cut.Piece.{Piece}
-use Rattle.ob_token.specs.declared.cut.Piece.TheVariants.{More, Stmt, Empty}
+use Rattle.ob_token.specs.declared.cut.Piece.TheVariants.{Stmt}
 use Rattle.ob_token.specs.Bytes.{all_digits, comment_len, is_blank, is_digit, is_printable, is_run, lower, magnitude, quoted_len, run}
 use Rattle.ob_token.specs.Words.{aggregate_word, clause_word, column_word, keyword, lone_sign, or_else, pair_sign, statement_word}
-use Rattle.ob_token.specs.Lexemes.{first_byte, gap, lone_piece, named, number_lexeme, piece, run_lexeme, sign_piece, some_piece, text_piece, word_lexeme}
+use Rattle.ob_token.specs.Lexemes.{first_byte, gap, lone_piece, named, piece, run_lexeme, sign_piece, some_piece, text_piece}
 use Rattle.ob_token.specs.Tokens.{then_piece, tokens_from, tokens_of}
 use Rattle.ob_token.specs.Cutting.{blanks, cut, cut_from, ended, ends_at, is_solid, mode_after, solid_after}
 use Rattle.ob_token.specs.Closing.{EndsAtMost}
@@ -50,9 +48,13 @@ cut_closes from at mode solid (b ∷ bs) f to e = go (λ s h. cut_closes from (s
       (omega (arith, same.0), omega (arith, same.0), same.1, subst (λ n. Closed mode (take n (b ∷ bs))) (sym one) (subst (λ v. Then v [] (Closed (mode_after mode b) [])) (sym h) refl))
   go ih false h e =
       let more = ih (solid_after mode solid b) e in
-      let one : to - at ≡ suc (to - suc at) = omega (arith, more.0) in
-      (omega (arith, more.0), omega (arith, more.1), more.2, subst (λ n. Closed mode (take n (b ∷ bs))) (sym one)
-      (subst (λ v. Then v (take (to - suc at) bs) (Closed (mode_after mode b) (take (to - suc at) bs))) (sym h) more.3))
+      let one : to - at ≡ suc (to - suc at) = omega (arith, more.0) in (
+        omega (arith, more.0),
+        omega (arith, more.1),
+        more.2,
+        subst (λ n. Closed mode (take n (b ∷ bs))) (sym one)
+            (subst (λ v. Then v (take (to - suc at) bs) (Closed (mode_after mode b) (take (to - suc at) bs))) (sym h) more.3),
+      )
 
 -- ---- bytes that are nothing to a cut
 
@@ -214,11 +216,11 @@ pair_after a [] m e c = let none : Some m ≡ None = sym e ∙ no_pair a in absu
 pair_after a (b ∷ bs) m e c =
     let first : is_some (pair_sign a b) ≡ true = ap is_some e in
     let behind = plain_on a (b ∷ bs) (not_this (λ x. is_some (pair_sign x b)) 59 refl a first) (not_this (λ x. is_some (pair_sign x b)) 39 refl a first)
-        (not_this (λ x. is_some (pair_sign x b)) 45 refl a first) c in
+    (not_this (λ x. is_some (pair_sign x b)) 45 refl a first) c in
     inr (
       ap none_or_other (sym e) ∙ pair_other a b,
       plain_on b bs (not_this (λ x. is_some (pair_sign a x)) 59 (ap is_some (no_second a 59 refl refl)) b first) (not_this (λ x. is_some (pair_sign a x)) 39 (ap is_some (no_second a 39 refl refl)) b first)
-      (not_this (λ x. is_some (pair_sign a x)) 45 (ap is_some (no_second a 45 refl refl)) b first) behind,
+          (not_this (λ x. is_some (pair_sign a x)) 45 (ap is_some (no_second a 45 refl refl)) b first) behind,
     )
 
 module _ (a : ℕ) (bs : List ℕ) (c : Closed Plain (a ∷ bs)) (no_comment : (a == 45 && first_byte bs == 45) ≡ false) (no_quote : (a == 39) ≡ false) where

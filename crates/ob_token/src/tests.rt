@@ -77,7 +77,10 @@ fn tokens_of_texts(rt: HostRuntime) -> Result<(), Fail> {
         (" -- a", ""),
         ("a.B_1", "name 0 1, mark 1 2, name 2 5, "),
         ("Select-1", "mark 0 6, mark 6 7, number 7 8, "),
-        ("<><=<>=!=>", "mark 0 2, mark 2 4, mark 4 6, mark 6 7, mark 7 9, mark 9 10, "),
+        (
+            "<><=<>=!=>",
+            "mark 0 2, mark 2 4, mark 4 6, mark 6 7, mark 7 9, mark 9 10, ",
+        ),
         ("'a''b' '' --'\n12", "text 0 6, text 7 9, number 14 16, "),
         ("a 1a b", "name 0 1, bad 2 4, "),
         ("a ! b", "name 0 1, bad 2 3, "),
