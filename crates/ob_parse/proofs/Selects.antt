@@ -1,5 +1,5 @@
 -- SELECT, read with what its three forms have in common once, is the three forms.
-use Rattle.std.proofs.Common.{◌≡◌, ℕ, List, [], ◌∷◌, ◌++◌, ◌⊎◌, inl, inr, Bool, true, false, Option, Some, None, refl, sym, ◌∙◌, ap, subst, append_assoc}
+use Rattle.std.proofs.Common.{◌≡◌, ℕ, List, [], ◌∷◌, ◌++◌, inl, inr, Bool, true, false, Option, Some, None, refl, sym, ◌∙◌, ap, subst, append_assoc}
 use Rattle.std.specs.Prelude.{◌&&◌}
 use Rattle.ob_grammar.specs.Language.{Token as OneToken, Empty, Bind, Either, Iter, stop, turn, Next, Listed}
 use Rattle.ob_base.specs.declared.skeleton.ColumnName.{ColumnName}
@@ -14,7 +14,7 @@ use Rattle.ob_token.specs.declared.token.Token.{Token}
 use Rattle.ob_parse.specs.Marks.{key, name_of}
 use Rattle.ob_parse.specs.Conditions.{Where}
 use Rattle.ob_parse.specs.Statements.{all_columns, is_column, select, Behind, Groups, Itemized, Joins, OneItem, Selection, Sources, Starred}
-use Rattle.ob_parse.specs.Selects.{AllOf, ColumnItem, ColumnsOfJoin, Inners, ItemsOfTable, Joined, OneSource, ThreeForms}
+use Rattle.ob_parse.specs.Selects.{ColumnItem, ColumnsOfJoin, Inners, ItemsOfTable, OneSource, ThreeForms}
 
 -- ---- one after the other
 

@@ -1,5 +1,5 @@
 -- SELECT, written as three forms that begin alike. Statements.Selection has what they have in common once.
-use Rattle.std.specs.Prelude.{ℕ, List, Option, Some, None}
+use Rattle.std.specs.Prelude.{ℕ, List, Some, None}
 use Rattle.ob_grammar.specs.Language.{Token as OneToken, Empty, Bind, Either, Listed}
 use Rattle.ob_base.specs.declared.skeleton.Source.{Source}
 use Rattle.ob_base.specs.declared.skeleton.Source.TheVariants as F
