@@ -2,7 +2,7 @@
 use Rattle.std.proofs.Common.{◌≡◌, ℕ, ◌<◌, List, [], ◌∷◌, length, true, false, Ok, Err, sym, ◌∙◌, ap}
 use Rattle.ob_grammar.proofs.Forms.{Whatever, takes_some}
 use Rattle.ob_grammar.proofs.Loops.{Turns, turns_end, turns_next, turns_stuck}
-use Rattle.ob_parse.specs.declared.token.Token.{Token}
+use Rattle.ob_token.specs.declared.token.Token.{Token}
 use Rattle.ob_parse.specs.Reading.{begins}
 use Rattle.ob_parse.specs.Statements.{Constraint}
 use Rattle.ob_parse.specs.StatementReading.{constrains, constraint, constraints}

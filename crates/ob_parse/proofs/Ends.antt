@@ -1,8 +1,8 @@
 -- A token that may stand behind each part.
 use Rattle.std.proofs.Common.{refl}
-use Rattle.ob_parse.specs.declared.token.Mark.TheVariants as M
-use Rattle.ob_parse.specs.declared.token.Lexeme.TheVariants as L
-use Rattle.ob_parse.specs.declared.token.Token.{Token}
+use Rattle.ob_token.specs.declared.token.Mark.TheVariants as M
+use Rattle.ob_token.specs.declared.token.Lexeme.TheVariants as L
+use Rattle.ob_token.specs.declared.token.Token.{Token}
 use Rattle.ob_parse.proofs.Told.{of}
 use Rattle.ob_parse.proofs.GoodConditions.{AfterColumn, AfterConj, AfterCond}
 

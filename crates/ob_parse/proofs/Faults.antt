@@ -2,7 +2,7 @@
 use Rattle.std.proofs.Common.{◌≡◌, ◌<◌, ◌≤◌, List, ◌∷◌, length, Result, Ok, Err, ap, arith}
 use Rattle.std.specs.Prelude.{IfOk}
 use Rattle.std.specs.Borrow.{Bor}
-use Rattle.ob_parse.specs.declared.token.Token.{Token}
+use Rattle.ob_token.specs.declared.token.Token.{Token}
 use Rattle.ob_parse.specs.declared.reader.Fault.{Fault}
 use Rattle.ob_parse.specs.declared.reader.Fault.TheVariants.{Memory, Stuck}
 use Rattle.ob_parse.specs.Reading.{Fails, Gives, Read}

@@ -9,11 +9,11 @@ use Rattle.ob_row.specs.declared.pred.Order.TheVariants as O
 use Rattle.ob_sql.specs.declared.stmt.Against.TheVariants as A
 use Rattle.ob_sql.specs.declared.stmt.Against.{Against}
 use Rattle.ob_sql.specs.declared.stmt.Literal.{Literal}
-use Rattle.ob_parse.specs.declared.token.Mark.{Mark}
-use Rattle.ob_parse.specs.declared.token.Mark.TheVariants as M
-use Rattle.ob_parse.specs.declared.token.Lexeme.{Lexeme}
-use Rattle.ob_parse.specs.declared.token.Lexeme.TheVariants as L
-use Rattle.ob_parse.specs.declared.token.Token.{Token}
+use Rattle.ob_token.specs.declared.token.Mark.{Mark}
+use Rattle.ob_token.specs.declared.token.Mark.TheVariants as M
+use Rattle.ob_token.specs.declared.token.Lexeme.{Lexeme}
+use Rattle.ob_token.specs.declared.token.Lexeme.TheVariants as L
+use Rattle.ob_token.specs.declared.token.Token.{Token}
 use Rattle.ob_sql.specs.Search.{Search, Compare, Not, And, Or}
 use Rattle.ob_parse.specs.Marks.{is, flag, key, literal_of, name_in, name_of, number_of, order_mark, order_of, plain_literal, sign_mark, sign_of, signed, marked}
 use Rattle.ob_parse.specs.Conditions.{bare, qualified, Column, Comparison, Condition, CondOf, ConjOf, Constant, Grouped, Negated, Operand, Prim}

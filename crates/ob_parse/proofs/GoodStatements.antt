@@ -13,10 +13,10 @@ use Rattle.ob_sql.specs.declared.stmt.Listed.{Listed as Item}
 use Rattle.ob_sql.specs.declared.stmt.Listed.TheVariants as I
 use Rattle.ob_sql.specs.declared.stmt.Stmt.{Stmt}
 use Rattle.ob_sql.specs.declared.stmt.Stmt.TheVariants as S
-use Rattle.ob_parse.specs.declared.token.Mark.{Mark}
-use Rattle.ob_parse.specs.declared.token.Mark.TheVariants as M
-use Rattle.ob_parse.specs.declared.token.Lexeme.TheVariants as L
-use Rattle.ob_parse.specs.declared.token.Token.{Token}
+use Rattle.ob_token.specs.declared.token.Mark.{Mark}
+use Rattle.ob_token.specs.declared.token.Mark.TheVariants as M
+use Rattle.ob_token.specs.declared.token.Lexeme.TheVariants as L
+use Rattle.ob_token.specs.declared.token.Token.{Token}
 use Rattle.ob_sql.specs.Search.{Search}
 use Rattle.ob_parse.specs.Marks.{flag, integer_mark, integer_of, is, key, marked, name_in, name_of, number_of}
 use Rattle.ob_parse.specs.Conditions.{Column, Condition, Constant, Where}

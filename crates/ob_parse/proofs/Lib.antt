@@ -1,7 +1,3 @@
-pub mod Lexed
-pub mod Digits
-pub mod Emptiness
-pub mod Pieces
 pub mod Quoted
 pub mod Told
 pub mod GoodConditions
@@ -10,3 +6,4 @@ pub mod Faults
 pub mod PrimSteps
 pub mod GoodStatements
 pub mod Constraints
+pub mod Selects

@@ -1,8 +1,8 @@
 -- What `prim` reads, by the first token.
 use Rattle.std.proofs.Common.{◌≡◌, ℕ, suc, List, [], ◌∷◌, cond, Some, None, is_some, Ok, Err, refl, ◌∙◌, ap}
 use Rattle.ob_grammar.specs.Reader.{◌>>=◌, token, empty, bind, choose, taken}
-use Rattle.ob_parse.specs.declared.token.Mark.TheVariants as M
-use Rattle.ob_parse.specs.declared.token.Token.{Token}
+use Rattle.ob_token.specs.declared.token.Mark.TheVariants as M
+use Rattle.ob_token.specs.declared.token.Token.{Token}
 use Rattle.ob_sql.specs.Search.{Search, Not}
 use Rattle.ob_parse.specs.Marks.{flag, is, key}
 use Rattle.ob_parse.specs.Reading.{comparison, cond_of, grouped, negated, prim}

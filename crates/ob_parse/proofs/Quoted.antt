@@ -1,7 +1,7 @@
 -- The bytes of a text, one after the other.
 use Rattle.std.proofs.Common.{◌≡◌, ℕ, ◌+◌, ◌≤◌, List, [], ◌++◌, length, drop, Bool, true, arith}
 use Rattle.std.proofs.lemmas.List.{drop_all}
-use Rattle.ob_parse.specs.Bytes.{unquoted}
+use Rattle.ob_token.specs.Bytes.{unquoted}
 
 -- what the loop over a text's bytes keeps
 abbrev pub Unquoted : List ℕ → ℕ → Bool → List ℕ → Type 0

@@ -1,11 +1,11 @@
 -- What it says of a token that it is one thing: it is no other.
 use Rattle.std.proofs.Common.{◌≡◌, ℕ, List, Bool, true, false, Option, Some, None, is_some, refl, sym, ◌∙◌, ap}
 use denote.Enum.Bare.{same_true}
-use Rattle.ob_parse.specs.contracts.token.Mark.{the_type}
-use Rattle.ob_parse.specs.declared.token.Mark.{Mark}
-use Rattle.ob_parse.specs.declared.token.Lexeme.{Lexeme}
-use Rattle.ob_parse.specs.declared.token.Lexeme.TheVariants as L
-use Rattle.ob_parse.specs.declared.token.Token.{Token}
+use Rattle.ob_token.specs.contracts.token.Mark.{the_type}
+use Rattle.ob_token.specs.declared.token.Mark.{Mark}
+use Rattle.ob_token.specs.declared.token.Lexeme.{Lexeme}
+use Rattle.ob_token.specs.declared.token.Lexeme.TheVariants as L
+use Rattle.ob_token.specs.declared.token.Token.{Token}
 use Rattle.ob_parse.specs.Marks.{is, flag, name_in}
 
 -- a token of this sort

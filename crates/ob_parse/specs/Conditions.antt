@@ -6,8 +6,8 @@ use Rattle.ob_base.specs.declared.skeleton.ColumnName.{ColumnName}
 use Rattle.ob_sql.specs.declared.stmt.Against.{Against}
 use Rattle.ob_sql.specs.declared.stmt.Against.TheVariants as A
 use Rattle.ob_sql.specs.declared.stmt.Literal.{Literal}
-use Rattle.ob_parse.specs.declared.token.Mark.TheVariants as M
-use Rattle.ob_parse.specs.declared.token.Token.{Token}
+use Rattle.ob_token.specs.declared.token.Mark.TheVariants as M
+use Rattle.ob_token.specs.declared.token.Token.{Token}
 use Rattle.ob_sql.specs.Search.{Search, Compare, Not, And, Or}
 use Rattle.ob_parse.specs.Marks.{key, literal_of, name_of, number_of, order_of, sign_of, signed}
 

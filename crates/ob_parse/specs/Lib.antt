@@ -1,11 +1,7 @@
-pub mod Bytes
-pub mod Words
-pub mod Lexemes
-pub mod Tokens
 pub mod Marks
 pub mod Conditions
 pub mod Reading
 pub mod Statements
 pub mod StatementReading
+pub mod Selects
 pub mod Refusal
-pub mod Cutting

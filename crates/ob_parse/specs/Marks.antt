@@ -6,13 +6,13 @@ use Rattle.ob_base.specs.declared.skeleton.NewKind.{NewKind}
 use Rattle.ob_base.specs.declared.skeleton.NewKind.TheVariants as K
 use Rattle.ob_sql.specs.declared.stmt.Literal.{Literal}
 use Rattle.ob_sql.specs.declared.stmt.Literal.TheVariants as V
-use Rattle.ob_parse.specs.declared.token.Mark.{Mark}
-use Rattle.ob_parse.specs.declared.token.Mark.TheVariants as M
-use Rattle.ob_parse.specs.declared.token.Lexeme.{Lexeme}
-use Rattle.ob_parse.specs.declared.token.Lexeme.TheVariants as L
-use Rattle.ob_parse.specs.declared.token.Token.{Token}
-use Rattle.ob_parse.specs.contracts.token.MarkPartialEq.TheImpl as mark
-use Rattle.ob_parse.specs.Bytes.{unquoted}
+use Rattle.ob_token.specs.declared.token.Mark.{Mark}
+use Rattle.ob_token.specs.declared.token.Mark.TheVariants as M
+use Rattle.ob_token.specs.declared.token.Lexeme.{Lexeme}
+use Rattle.ob_token.specs.declared.token.Lexeme.TheVariants as L
+use Rattle.ob_token.specs.declared.token.Token.{Token}
+use Rattle.ob_token.specs.contracts.token.MarkPartialEq.TheImpl as mark
+use Rattle.ob_token.specs.Bytes.{unquoted}
 
 abbrev pub is : Mark → Lexeme → Bool
 is m (L.Mark n) = mark.ghosts.eq m n

@@ -1,22 +1,28 @@
 -- What the parser computes on the tokens of a text.
 use Rattle.std.specs.Prelude.{◌≡◌, ℕ, zero, suc, List, [], ◌∷◌, Bool, false, Option, Some, None, is_some, Result, Ok, Err}
 use Rattle.std.specs.Borrow.{Bor}
+use Rattle.std.specs.Global.{Box}
 use Rattle.ob_grammar.specs.Reader as R
 use Rattle.ob_base.specs.declared.skeleton.ColumnName.{ColumnName}
 use Rattle.ob_sql.specs.declared.stmt.Against.{Against}
 use Rattle.ob_sql.specs.declared.stmt.Against.TheVariants as A
+use Rattle.ob_sql.specs.declared.stmt.CondTree.{CondTree}
 use Rattle.ob_sql.specs.declared.stmt.Literal.{Literal}
-use Rattle.ob_parse.specs.declared.token.Mark.TheVariants as M
-use Rattle.ob_parse.specs.declared.token.Token.{Token}
+use Rattle.ob_token.specs.declared.token.Mark.TheVariants as M
+use Rattle.ob_token.specs.declared.token.Token.{Token}
 use Rattle.ob_parse.specs.declared.reader.Fault.{Fault}
 use Rattle.ob_parse.specs.declared.reader.Fault.TheVariants.{Memory, Stuck}
-use Rattle.ob_sql.specs.Search.{Search, Compare, Not, And, Or}
+use Rattle.ob_sql.specs.Search.{Search, search_of, Compare, Not, And, Or}
 use Rattle.ob_parse.specs.Marks.{key, literal_of, name_of, number_of, order_of, sign_of, signed}
 use Rattle.ob_parse.specs.Conditions.{bare, qualified}
 
 -- what reading tokens gives: a value and the tokens behind it, or the tokens at which it is stuck
 abbrev pub Read : Type 0 → Type 0
 Read V = Result (V × List Token) (List Token)
+
+-- the condition of a tree in a box
+abbrev pub search_in : Box CondTree → Search
+search_in tree = search_of tree.value
 
 -- the code's answer is what reading gives, unless memory ran out
 abbrev pub Fails : {V : Type 0} → Fault → Read V → Type 0

@@ -4,7 +4,7 @@ use Rattle.ob_grammar.specs.Place.{IsPlace}
 use Rattle.ob_parse.specs.declared.parser.ParseErr.{ParseErr}
 use Rattle.ob_parse.specs.declared.parser.ParseErr.TheVariants.{NoMemory, Syntax}
 use Rattle.ob_sql.specs.declared.stmt.Stmt.{Stmt}
-use Rattle.ob_parse.specs.declared.token.Token.{Token}
+use Rattle.ob_token.specs.declared.token.Token.{Token}
 use Rattle.ob_parse.specs.Statements.{Statement}
 
 -- where the last token ends, or `end` where there is none

@@ -12,9 +12,9 @@ use Rattle.ob_sql.specs.declared.stmt.Listed.TheVariants as I
 use Rattle.ob_sql.specs.declared.stmt.Set.{Set}
 use Rattle.ob_sql.specs.declared.stmt.Stmt.{Stmt}
 use Rattle.ob_sql.specs.declared.stmt.Stmt.TheVariants as S
-use Rattle.ob_parse.specs.declared.token.Mark.{Mark}
-use Rattle.ob_parse.specs.declared.token.Mark.TheVariants as M
-use Rattle.ob_parse.specs.declared.token.Token.{Token}
+use Rattle.ob_token.specs.declared.token.Mark.{Mark}
+use Rattle.ob_token.specs.declared.token.Mark.TheVariants as M
+use Rattle.ob_token.specs.declared.token.Token.{Token}
 use Rattle.ob_parse.specs.Marks.{integer_of, is, key, name_of, number_of}
 use Rattle.ob_parse.specs.Reading.{Read, column, constant, where_part}
 use Rattle.ob_parse.specs.Statements.{all_columns, capped, new_column, select, set_of}

@@ -13,8 +13,8 @@ use Rattle.ob_sql.specs.declared.stmt.Literal.{Literal}
 use Rattle.ob_sql.specs.declared.stmt.Set.{Set}
 use Rattle.ob_sql.specs.declared.stmt.Stmt.{Stmt}
 use Rattle.ob_sql.specs.declared.stmt.Stmt.TheVariants as S
-use Rattle.ob_parse.specs.declared.token.Mark.TheVariants as M
-use Rattle.ob_parse.specs.declared.token.Token.{Token}
+use Rattle.ob_token.specs.declared.token.Mark.TheVariants as M
+use Rattle.ob_token.specs.declared.token.Token.{Token}
 use Rattle.ob_sql.specs.Search.{Search}
 use Rattle.ob_parse.specs.Marks.{integer_of, key, name_of, number_of}
 use Rattle.ob_parse.specs.Conditions.{Column, Constant, Where}

@@ -10,9 +10,9 @@ ghost use Rattle.ob_grammar.specs.Reader.{token};
 use crate::condition::{constant, where_part};
 use crate::part::{Part, list};
 use crate::reader::{Fault, expect, name, number, skip};
-use crate::token::{Lexeme, Mark, Token};
 use ob_base::{Items, Name, NewColumn, NewKind};
 use ob_sql::{Literal, Set, Stmt};
+use ob_token::{Lexeme, Mark, Token};
 use std::alloc::Global;
 
 fn capped(number: u64) -> u32

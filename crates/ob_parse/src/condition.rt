@@ -1,14 +1,14 @@
 //! Conditions are read, by recursive descent.
 ghost use Rattle.std.specs.Prelude.{◌≡◌, IfOk};
-ghost use Rattle.ob_sql.specs.Search.{Search, search_of, Compare, Not, And, Or};
-ghost use Rattle.ob_parse.specs.Reading.{Gives, column, comparison, cond_of, condition, conj_of, constant, operand, prim, where_part};
+ghost use Rattle.ob_sql.specs.Search.{Search, Compare, Not, And, Or};
+ghost use Rattle.ob_parse.specs.Reading.{Gives, column, comparison, cond_of, condition, conj_of, constant, operand, prim, search_in, where_part};
 
 use crate::reader::{
     Fault, begins_name, expect, name, number, order, plain, sign, skip, with_sign,
 };
-use crate::token::{Mark, Token};
 use ob_base::ColumnName;
 use ob_sql::{Against, Cond, CondTree, Literal};
+use ob_token::{Mark, Token};
 use std::alloc::{AllocError, Global};
 
 /// How many of NOT and ( may stand on a path.
@@ -68,31 +68,38 @@ fn operand<'a>(text: &[u8], tokens: &'a [Token]) -> Result<(Against, &'a [Token]
 }
 
 #[tactic(auto, unfolding(crate::specs::Reading::comparison))]
-fn comparison<'a>(text: &[u8], tokens: &'a [Token]) -> Result<(CondTree, &'a [Token]), Fault<'a>>
-    ensures { Gives search_of result (comparison text.now tokens.now) }
+fn comparison<'a>(
+    alloc: Global,
+    text: &[u8],
+    tokens: &'a [Token],
+) -> Result<(Box<CondTree>, &'a [Token]), Fault<'a>>
+    ensures { Gives search_in result (comparison text.now tokens.now) }
 {
     let (left, rest) = column(tokens)?;
     let (order, rest) = order(rest)?;
     let (right, rest) = operand(text, rest)?;
-    Ok((CondTree::Compare(left, order, right), rest))
+    match Box::new(alloc, CondTree::Compare(left, order, right)) {
+        Ok(made) => Ok((made, rest)),
+        Err(_) => Err(Fault::Memory),
+    }
 }
 
-fn not(alloc: Global, p: CondTree) -> Result<CondTree, AllocError>
-    ensures { IfOk result (λ c. search_of c ≡ Not (search_of p)) }
+fn not(alloc: Global, p: Box<CondTree>) -> Result<Box<CondTree>, AllocError>
+    ensures { IfOk result (λ c. search_in c ≡ Not (search_in p)) }
 {
-    Ok(CondTree::Not(Box::new(alloc, p)?))
+    Ok(Box::new(alloc, CondTree::Not(p))?)
 }
 
-fn and(alloc: Global, p: CondTree, q: CondTree) -> Result<CondTree, AllocError>
-    ensures { IfOk result (λ c. search_of c ≡ And (search_of p) (search_of q)) }
+fn and(alloc: Global, p: Box<CondTree>, q: Box<CondTree>) -> Result<Box<CondTree>, AllocError>
+    ensures { IfOk result (λ c. search_in c ≡ And (search_in p) (search_in q)) }
 {
-    Ok(CondTree::And(Box::new(alloc, p)?, Box::new(alloc, q)?))
+    Ok(Box::new(alloc, CondTree::And(p, q))?)
 }
 
-fn or(alloc: Global, p: CondTree, q: CondTree) -> Result<CondTree, AllocError>
-    ensures { IfOk result (λ c. search_of c ≡ Or (search_of p) (search_of q)) }
+fn or(alloc: Global, p: Box<CondTree>, q: Box<CondTree>) -> Result<Box<CondTree>, AllocError>
+    ensures { IfOk result (λ c. search_in c ≡ Or (search_in p) (search_in q)) }
 {
-    Ok(CondTree::Or(Box::new(alloc, p)?, Box::new(alloc, q)?))
+    Ok(Box::new(alloc, CondTree::Or(p, q))?)
 }
 
 #[cycle(parser)]
@@ -101,11 +108,11 @@ fn prim<'a>(
     text: &[u8],
     tokens: &'a [Token],
     depth: u32,
-) -> Result<(CondTree, &'a [Token]), Fault<'a>>
-    ensures { Gives search_of result (prim text.now depth tokens.now) }
+) -> Result<(Box<CondTree>, &'a [Token]), Fault<'a>>
+    ensures { Gives search_in result (prim text.now depth tokens.now) }
 {
     if depth == 0 {
-        return comparison(text, tokens);
+        return comparison(alloc, text, tokens);
     }
     if let Some(rest) = skip(tokens, Mark::Not) {
         return match prim(alloc, text, rest, depth - 1) {
@@ -125,7 +132,7 @@ fn prim<'a>(
             Err(fault) => Err(fault),
         };
     }
-    comparison(text, tokens)
+    comparison(alloc, text, tokens)
 }
 
 #[cycle(parser)]
@@ -134,8 +141,8 @@ fn conj<'a>(
     text: &[u8],
     tokens: &'a [Token],
     depth: u32,
-) -> Result<(CondTree, &'a [Token]), Fault<'a>>
-    ensures { Gives search_of result (conj_of (prim text.now depth) tokens.now) }
+) -> Result<(Box<CondTree>, &'a [Token]), Fault<'a>>
+    ensures { Gives search_in result (conj_of (prim text.now depth) tokens.now) }
 {
     let (mut left, mut rest) = match prim(alloc, text, tokens, depth) {
         Ok(first) => first,
@@ -162,8 +169,8 @@ fn cond<'a>(
     text: &[u8],
     tokens: &'a [Token],
     depth: u32,
-) -> Result<(CondTree, &'a [Token]), Fault<'a>>
-    ensures { Gives search_of result (cond_of (prim text.now depth) tokens.now) }
+) -> Result<(Box<CondTree>, &'a [Token]), Fault<'a>>
+    ensures { Gives search_in result (cond_of (prim text.now depth) tokens.now) }
 {
     let (mut left, mut rest) = match conj(alloc, text, tokens, depth) {
         Ok(first) => first,
@@ -192,7 +199,7 @@ fn condition<'a>(
     ensures { Gives (λ c. c) result (condition text.now 32 tokens.now) }
 {
     let (tree, rest) = cond(alloc, text, tokens, DEPTH)?;
-    Ok((Cond::new(tree), rest))
+    Ok((Cond::new(Box::into_inner(tree)), rest))
 }
 
 #[tactic(auto, unfolding(crate::specs::Reading::where_part))]

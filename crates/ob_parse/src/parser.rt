@@ -1,18 +1,19 @@
 //! A text is read as a statement.
-ghost use Rattle.std.specs.Prelude.{◌≡◌, ◌<◌, ℕ, List, length, IfOk, IfErr};
+ghost use Rattle.std.specs.Prelude.{◌≡◌, ◌<◌, ◌↔◌, ℕ, List, length, IfOk, IfErr};
 ghost use Rattle.ob_sql.specs.declared.stmt.Stmt.{Stmt as StmtData};
 ghost use Rattle.ob_parse.specs.Reading.{Gives};
 ghost use Rattle.ob_parse.specs.Refusal.{IsRefused, last_end, offset};
 ghost use Rattle.ob_parse.specs.StatementReading.{body, deleting, dropping, inserting, statement, updating};
-ghost use Rattle.ob_parse.specs.Statements.{Statement};
-ghost use Rattle.ob_parse.specs.Tokens.{tokens_of};
+ghost use Rattle.ob_parse.specs.Selects.{ThreeForms};
+ghost use Rattle.ob_parse.specs.Statements.{Selection, Statement};
+ghost use Rattle.ob_token.specs.declared.token.Token.{Token as TokenData};
+ghost use Rattle.ob_token.specs.Tokens.{tokens_of};
 
 use crate::change::{create, delete, drop_table, insert, update};
-use crate::lex;
 use crate::reader::{Fault, expect, skip};
 use crate::select::selection;
-use crate::token::{Mark, Token};
 use ob_sql::Stmt;
+use ob_token::{Mark, Token, tokens};
 use std::alloc::Global;
 use thiserror::Error;
 
@@ -157,11 +158,16 @@ pub fn parse(alloc: Global, text: &[u8]) -> Result<Stmt, ParseErr>
     ensures found { IfOk result (λ s. Statement text.now s (tokens_of text.now)) }
     ensures refused { IfErr result (IsRefused text.now (tokens_of text.now)) }
 {
-    match lex::tokens(alloc, text) {
-        Ok(tokens) => parse_tokens(alloc, text, tokens.as_slice()),
+    match tokens(alloc, text) {
+        Ok(found) => parse_tokens(alloc, text, found.as_slice()),
         Err(_) => Err(ParseErr::NoMemory),
     }
 }
+
+/// SELECT, of which the parser reads once what its forms have in common, is the three forms that it is written in.
+pub fn three_forms()
+    ensures { (text : List ℕ) (s : StmtData) (tokens : List TokenData) → Selection text s tokens ↔ ThreeForms text s tokens }
+{}
 
 /// A text spells at most one statement, so that the one which `parse` finds is the one.
 pub fn one_statement()

@@ -1,7 +1,7 @@
 //! Lists of parts, with commas between them.
 ghost use Rattle.std.specs.Prelude.{◌≡◌, ◌≤◌, length, IfOk};
 ghost use Rattle.ob_grammar.specs.Reader.{listed, token};
-ghost use Rattle.ob_parse.specs.declared.token.Mark.TheVariants.{Comma};
+ghost use Rattle.ob_token.specs.declared.token.Mark.TheVariants.{Comma};
 ghost use Rattle.ob_parse.specs.Marks.{key, name_of};
 ghost use Rattle.ob_parse.specs.Reading.{Gives, constant};
 
@@ -9,15 +9,15 @@ use crate::change::{assignment, definition};
 use crate::condition::constant;
 use crate::reader::{Fault, name, skip};
 use crate::select::item;
-use crate::token::{Mark, Token};
 use ob_base::{Items, Name, NewColumn};
 use ob_sql::{Listed, Literal, Set};
+use ob_token::{Mark, Token};
 use std::alloc::Global;
 
 /// What stands in a list.
 pub(crate) trait Part {
     ghost use Rattle.std.specs.Prelude.{ℕ, List};
-    ghost use Rattle.ob_parse.specs.declared.token.Token.{Token as TokenData};
+    ghost use Rattle.ob_token.specs.declared.token.Token.{Token as TokenData};
     ghost use Rattle.ob_parse.specs.Reading.{Read};
 
     // What reading one of the tokens of a text gives.

@@ -1,17 +1,16 @@
 //! Single tokens are read.
 ghost use Rattle.std.specs.Prelude.{◌≡◌, List, true, is_some};
-ghost use Rattle.ob_parse.specs.Bytes.{unquoted};
+ghost use Rattle.ob_token.specs.Bytes.{unquoted};
 ghost use Rattle.ob_grammar.specs.Reader.{token};
 ghost use Rattle.ob_parse.specs.Marks.{held, key, literal_of, name_of, number_of, order_mark, order_of, short_text, sign_mark, sign_of, signed, text_at};
 ghost use Rattle.ob_parse.specs.Conditions.{bare, qualified};
 ghost use Rattle.ob_parse.specs.Reading.{begins, Begun, Gives, Skips, Takes, column, constant, operand};
 
-use crate::lex::{behind, is_printable_byte};
-use crate::token::{Lexeme, Mark, Token};
 use arrayvec::ArrayVec;
 use ob_base::{Name, Text};
 use ob_row::Order;
 use ob_sql::Literal;
+use ob_token::{Lexeme, Mark, Token, is_printable_byte};
 
 /// Why nothing is read: want of memory, or the first of these tokens goes on with no word.
 #[derive(Drop)]
@@ -166,7 +165,7 @@ fn text_literal(text: &[u8], quote: u32) -> Literal
 {
     let place = quote as usize;
     if place < text.len() {
-        quoted(behind(text, place + 1))
+        quoted(&text[place + 1..])
     } else {
         quoted(&[])
     }

@@ -7,9 +7,9 @@ ghost use Rattle.ob_parse.specs.StatementReading.{all_or_column, argument, behin
 use crate::condition::{column, where_part};
 use crate::part::list;
 use crate::reader::{Fault, expect, name, skip};
-use crate::token::{Mark, Token};
 use ob_base::{ColumnName, Name, Source};
 use ob_sql::{Listed, Select, Stmt};
+use ob_token::{Mark, Token};
 use std::alloc::Global;
 
 #[tactic(auto, unfolding(crate::specs::StatementReading::argument))]

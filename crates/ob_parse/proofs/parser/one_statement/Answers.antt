@@ -2,7 +2,7 @@ use Rattle.ob_grammar.proofs.Forms.{Whatever}
 use Rattle.ob_grammar.proofs.Placed.{one_value}
 use Rattle.ob_parse.specs.Statements.{Statement}
 use Rattle.ob_parse.specs.StatementReading.{statement}
-use Rattle.ob_parse.specs.Tokens.{tokens_of}
+use Rattle.ob_token.specs.Tokens.{tokens_of}
 use Rattle.ob_parse.proofs.GoodStatements.{any_end, good_statement}
 use Rattle.ob_parse.proofs.parser.one_statement.Goals as goal
 

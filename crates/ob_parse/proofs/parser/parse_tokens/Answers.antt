@@ -4,7 +4,7 @@ use Rattle.ob_grammar.proofs.Placed.{accepted, left_behind, left_over, refused, 
 use Rattle.ob_parse.specs.Refusal.{offset}
 use Rattle.ob_parse.specs.Statements.{Statement}
 use Rattle.ob_parse.specs.StatementReading.{statement}
-use Rattle.ob_parse.proofs.Emptiness.{is_none, is_some}
+use Rattle.ob_token.proofs.Emptiness.{is_none, is_some}
 use Rattle.ob_parse.proofs.GoodStatements.{any_end, good_statement}
 use Rattle.ob_parse.proofs.parser.parse_tokens.Goals as goal
 

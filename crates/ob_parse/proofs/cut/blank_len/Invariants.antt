@@ -1,6 +1,0 @@
-use Rattle.std.proofs.Common.{◌≡◌, ◌+◌, drop}
-use Rattle.ob_parse.specs.Cutting.{blanks}
-use Rattle.ob_parse.proofs.cut.blank_len.Given as goal
-
-abbrev pub invariant-loop-i : goal.invariant-loop-i
-invariant-loop-i l = blanks l.bytes ≡ l.i + blanks (drop l.i l.bytes)

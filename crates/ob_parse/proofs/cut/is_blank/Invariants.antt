@@ -1,7 +1,0 @@
-use Rattle.std.proofs.Common.{◌≡◌, drop, false}
-use Rattle.ob_parse.specs.declared.cut.Mode.TheVariants.{Plain}
-use Rattle.ob_parse.specs.Cutting.{blank_from}
-use Rattle.ob_parse.proofs.cut.is_blank.Given as goal
-
-abbrev pub invariant-loop-b : goal.invariant-loop-b
-invariant-loop-b l = blank_from Plain false l.bytes ≡ blank_from l.mode l.solid (drop l.b-index l.bytes)

@@ -1,6 +1,0 @@
-use Rattle.std.proofs.Common.{◌≡◌, drop}
-use Rattle.ob_parse.specs.Bytes.{all_digits}
-use Rattle.ob_parse.proofs.lex.are_digits.Given as goal
-
-abbrev pub invariant-loop-b : goal.invariant-loop-b
-invariant-loop-b l = all_digits l.bytes ≡ all_digits (drop l.b-index l.bytes)

@@ -1,6 +1,0 @@
-use Rattle.std.proofs.Common.{◌≡◌, take, map}
-use Rattle.ob_parse.specs.Bytes.{lower}
-use Rattle.ob_parse.proofs.lex.lowered.Given as goal
-
-abbrev pub invariant-loop-b : goal.invariant-loop-b
-invariant-loop-b l = l.letters.items ≡ map lower (take l.b-index l.word)

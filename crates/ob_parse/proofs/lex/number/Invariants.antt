@@ -1,5 +1,0 @@
-use Rattle.ob_parse.proofs.Digits.{Kept}
-use Rattle.ob_parse.proofs.lex.number.Given as goal
-
-abbrev pub invariant-loop-d : goal.invariant-loop-d
-invariant-loop-d l = Kept l.digits l.d-index l.value

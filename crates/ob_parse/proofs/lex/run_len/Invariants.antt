@@ -1,6 +1,0 @@
-use Rattle.std.proofs.Common.{◌≡◌, length, ◌+◌, drop}
-use Rattle.ob_parse.specs.Bytes.{run}
-use Rattle.ob_parse.proofs.lex.run_len.Given as goal
-
-abbrev pub invariant-loop-i : goal.invariant-loop-i
-invariant-loop-i l = length (run l.bytes) ≡ l.i + length (run (drop l.i l.bytes))

@@ -1,9 +1,0 @@
-use Rattle.std.proofs.Common.{length}
-use Rattle.ob_parse.proofs.Lexed.{Cut}
-use Rattle.ob_parse.proofs.lex.tokens.Given as goal
-
-abbrev pub invariant-pieces : goal.invariant-pieces
-invariant-pieces l = Cut l.text l.found.items l.at l.rest
-
-abbrev pub decreases-pieces : goal.decreases-pieces
-decreases-pieces l = length l.rest

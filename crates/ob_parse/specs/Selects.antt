@@ -1,0 +1,48 @@
+-- SELECT, written as three forms that begin alike. Statements.Selection has what they have in common once.
+use Rattle.std.specs.Prelude.{ℕ, List, Some, None}
+use Rattle.ob_grammar.specs.Language.{Token as OneToken, Empty, Bind, Either, Listed}
+use Rattle.ob_base.specs.declared.skeleton.Source.{Source}
+use Rattle.ob_base.specs.declared.skeleton.Source.TheVariants as F
+use Rattle.ob_sql.specs.declared.stmt.Listed.{Listed as Item}
+use Rattle.ob_sql.specs.declared.stmt.Listed.TheVariants as I
+use Rattle.ob_sql.specs.declared.stmt.Stmt.{Stmt}
+use Rattle.ob_token.specs.declared.token.Mark.TheVariants as M
+use Rattle.ob_token.specs.declared.token.Token.{Token}
+use Rattle.ob_parse.specs.Marks.{key, name_of}
+use Rattle.ob_parse.specs.Conditions.{Column, Where}
+use Rattle.ob_parse.specs.Statements.{select, Group, Joins, OneItem}
+
+-- [ INNER ] JOIN name ON column '=' column, behind a table
+abbrev pub Inners : List ℕ → Source → List Token → Type 0
+Inners a = Either (Bind (OneToken (key M.Inner)) (λ _. Bind (OneToken (key M.Join)) (λ _. Joins a))) (Bind (OneToken (key M.Join)) (λ _. Joins a))
+
+-- joined = name [ INNER ] JOIN name ON column '=' column
+abbrev pub Joined : Source → List Token → Type 0
+Joined = Bind (OneToken name_of) Inners
+
+-- source = name | joined
+abbrev pub OneSource : Source → List Token → Type 0
+OneSource = Either (Bind (OneToken name_of) (λ a. Empty (F.Table a))) Joined
+
+-- a column that is listed
+abbrev pub ColumnItem : Item → List Token → Type 0
+ColumnItem = Bind Column (λ c. Empty (I.Column c))
+
+module _ (text : List ℕ) where
+  -- '*' FROM source [ WHERE cond ]
+  abbrev pub AllOf : Stmt → List Token → Type 0
+  AllOf = Bind (OneToken (key M.Star)) (λ _. Bind (OneToken (key M.From)) (λ _. Bind OneSource (λ source. Bind (Where text) (λ cond. Empty (select None source cond None)))))
+
+  -- column { ',' column } FROM joined [ WHERE cond ]
+  abbrev pub ColumnsOfJoin : Stmt → List Token → Type 0
+  ColumnsOfJoin = Bind (Listed (key M.Comma) ColumnItem) (λ items. Bind (OneToken (key M.From)) (λ _. Bind Joined (λ source.
+      Bind (Where text) (λ cond. Empty (select (Some items) source cond None)))))
+
+  -- item { ',' item } FROM name [ WHERE cond ] [ GROUP BY column ]
+  abbrev pub ItemsOfTable : Stmt → List Token → Type 0
+  ItemsOfTable = Bind (Listed (key M.Comma) OneItem) (λ items. Bind (OneToken (key M.From)) (λ _. Bind (OneToken name_of) (λ a.
+      Bind (Where text) (λ cond. Bind Group (λ group. Empty (select (Some items) (F.Table a) cond group))))))
+
+  -- the three forms, without SELECT
+  abbrev pub ThreeForms : Stmt → List Token → Type 0
+  ThreeForms = Either AllOf (Either ColumnsOfJoin ItemsOfTable)

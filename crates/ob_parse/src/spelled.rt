@@ -1,0 +1,202 @@
+//! Statements written out with each of their parts in its place, for tests: a text between `<` and `>`, and
+//! each comparison, NOT, AND and OR in parentheses of its own.
+use ob_base::{ColumnName, Name, NewColumn, NewKind, Source};
+use ob_row::Order;
+use ob_sql::{Against, Cond, CondTree, Listed, Literal, Select, Set, Stmt};
+use std::alloc::{AllocError, Global};
+
+/// The statement, written out.
+pub(crate) fn spelled(alloc: Global, stmt: &Stmt) -> Result<String, AllocError> {
+    let mut out = String::new(alloc);
+    match stmt {
+        Stmt::Create {
+            table,
+            columns,
+            capacity,
+        } => {
+            headed(&mut out, "create ", table)?;
+            for column in columns.as_slice() {
+                new_column(&mut out, column)?;
+            }
+            write!(out, " capacity {capacity}")?;
+        }
+        Stmt::Insert {
+            table,
+            columns,
+            values,
+        } => {
+            headed(&mut out, "insert ", table)?;
+            if let Some(columns) = columns {
+                out.push_str(" columns")?;
+                for column in columns.as_slice() {
+                    headed(&mut out, " ", column)?;
+                }
+            }
+            out.push_str(" values")?;
+            for value in values.as_slice() {
+                out.push_str(" ")?;
+                literal(&mut out, value)?;
+            }
+        }
+        Stmt::Update { table, sets, cond } => {
+            headed(&mut out, "update ", table)?;
+            for set in sets.as_slice() {
+                assignment(&mut out, set)?;
+            }
+            filter(&mut out, cond)?;
+        }
+        Stmt::Delete { table, cond } => {
+            headed(&mut out, "delete ", table)?;
+            filter(&mut out, cond)?;
+        }
+        Stmt::Drop { table } => headed(&mut out, "drop ", table)?,
+        Stmt::Select(found) => selection(&mut out, found)?,
+    }
+    Ok(out)
+}
+
+fn bytes(out: &mut String, bytes: &[u8]) -> Result<(), AllocError> {
+    match str::from_utf8(bytes) {
+        Ok(text) => out.push_str(text),
+        Err(_) => out.push_str("?"),
+    }
+}
+
+fn headed(out: &mut String, head: &str, name: &Name) -> Result<(), AllocError> {
+    out.push_str(head)?;
+    bytes(out, name.as_bytes())
+}
+
+fn new_column(out: &mut String, column: &NewColumn) -> Result<(), AllocError> {
+    headed(out, " ", &column.name)?;
+    match column.kind {
+        NewKind::Int => out.push_str(":int")?,
+        NewKind::Varchar(size) => write!(out, ":varchar{size}")?,
+    }
+    let keys = column.keys;
+    write!(out, ":{keys}")
+}
+
+fn literal(out: &mut String, literal: &Literal) -> Result<(), AllocError> {
+    match literal {
+        Literal::Int(value) => write!(out, "{value}"),
+        Literal::OutOfRange => out.push_str("out-of-range"),
+        Literal::Text(text) => {
+            out.push_str("<")?;
+            bytes(out, text.as_bytes())?;
+            out.push_str(">")
+        }
+        Literal::TooLong => out.push_str("too-long"),
+    }
+}
+
+fn assignment(out: &mut String, set: &Set) -> Result<(), AllocError> {
+    headed(out, " set ", &set.column)?;
+    out.push_str(" = ")?;
+    literal(out, &set.value)
+}
+
+fn column(out: &mut String, column: &ColumnName) -> Result<(), AllocError> {
+    if let Some(table) = &column.table {
+        bytes(out, table.as_bytes())?;
+        out.push_str(".")?;
+    }
+    bytes(out, column.column.as_bytes())
+}
+
+fn sign(order: Order) -> &'static str {
+    match order {
+        Order::Equal => " = ",
+        Order::NotEqual => " <> ",
+        Order::Less => " < ",
+        Order::LessOrEqual => " <= ",
+        Order::Greater => " > ",
+        Order::GreaterOrEqual => " >= ",
+    }
+}
+
+fn condition(out: &mut String, tree: &CondTree) -> Result<(), AllocError> {
+    out.push_str("(")?;
+    match tree {
+        CondTree::Compare(left, order, right) => {
+            column(out, left)?;
+            out.push_str(sign(*order))?;
+            match right {
+                Against::Literal(value) => literal(out, value)?,
+                Against::Column(other) => column(out, other)?,
+            }
+        }
+        CondTree::Not(inner) => {
+            out.push_str("not ")?;
+            condition(out, inner)?;
+        }
+        CondTree::And(left, right) => {
+            condition(out, left)?;
+            out.push_str(" and ")?;
+            condition(out, right)?;
+        }
+        CondTree::Or(left, right) => {
+            condition(out, left)?;
+            out.push_str(" or ")?;
+            condition(out, right)?;
+        }
+    }
+    out.push_str(")")
+}
+
+fn filter(out: &mut String, cond: &Option<Cond>) -> Result<(), AllocError> {
+    match cond {
+        Some(found) => {
+            out.push_str(" where ")?;
+            condition(out, found.tree())
+        }
+        None => Ok(()),
+    }
+}
+
+fn of_column(out: &mut String, head: &str, named: &ColumnName) -> Result<(), AllocError> {
+    out.push_str(head)?;
+    column(out, named)
+}
+
+fn item(out: &mut String, item: &Listed) -> Result<(), AllocError> {
+    match item {
+        Listed::Column(named) => of_column(out, " ", named),
+        Listed::CountAll => out.push_str(" count-all"),
+        Listed::Count(named) => of_column(out, " count:", named),
+        Listed::Sum(named) => of_column(out, " sum:", named),
+        Listed::Min(named) => of_column(out, " min:", named),
+        Listed::Max(named) => of_column(out, " max:", named),
+    }
+}
+
+fn selection(out: &mut String, select: &Select) -> Result<(), AllocError> {
+    out.push_str("select")?;
+    match &select.list {
+        Some(items) => {
+            for listed in items.as_slice() {
+                item(out, listed)?;
+            }
+        }
+        None => out.push_str(" all")?,
+    }
+    match &select.source {
+        Source::Table(name) => headed(out, " from ", name)?,
+        Source::Join {
+            left,
+            right,
+            on,
+            equals,
+        } => {
+            headed(out, " from ", left)?;
+            headed(out, " join ", right)?;
+            of_column(out, " on ", on)?;
+            of_column(out, " = ", equals)?;
+        }
+    }
+    filter(out, &select.cond)?;
+    match &select.group {
+        Some(named) => of_column(out, " group ", named),
+        None => Ok(()),
+    }
+}
