@@ -7,7 +7,9 @@ mod engine;
 mod inserting;
 mod outcome;
 mod run;
+mod serving;
 mod tables;
 
 pub use engine::Engine;
 pub use outcome::Outcome;
+pub use serving::is_served;

@@ -9,3 +9,4 @@ pub mod Texts
 pub mod Top
 pub mod Tracing
 pub mod Usage
+pub mod IsPending

@@ -1,18 +1,24 @@
 -- What texts do to an engine and its store, one after the other, and what is printed of them.
-use Rattle.std.specs.Prelude.{ℕ, ◌≡◌, ◌||◌, ◌⊎◌, Bool, false, List, [], ◌∷◌, ◌++◌, Option, Ok, Err}
+use Rattle.std.specs.Prelude.{ℕ, ◌≡◌, ◌||◌, ◌⊎◌, Bool, false, List, [], ◌∷◌, ◌++◌, length, IsTrue, Option, None, Result, Ok, Err}
 use Rattle.std.specs.Io.KnownBytes.{Appends}
 use Rattle.ob_base.specs.Events.{Event}
 use Rattle.ob_base.specs.declared.refusal.Refusal.TheVariants.{Syntax}
 use Rattle.ob_base.specs.declared.refusal.Stop.{Stop}
 use Rattle.ob_base.specs.declared.refusal.Stop.TheVariants.{Tampered, SourceFault, SinkFault, NoMemory, InputLimit}
-use Rattle.ob_exec.specs.Agreeing.{Agrees, has_ended}
-use Rattle.ob_exec.specs.Running.{Ran, Emits}
+use Rattle.ob_exec.specs.Agreeing.{Agrees, has_ended, public_of, seen_of}
+use Rattle.ob_exec.specs.Running.{Ran, RefusedEarly, Emits, refusal_now}
+use Rattle.ob_exec.specs.Serving.{IsServed}
+use Rattle.ob_exec.specs.Telling.{Represents, Told, Emitted}
+use Rattle.ob_mean.specs.Verdict.{Tables}
+use Rattle.ob_parse.specs.Refusal.{RefusedAt}
+use Rattle.ob_parse.specs.Statements.{Statement}
+use Rattle.ob_token.specs.Tokens.{tokens_of}
 use Rattle.ob_exec.specs.declared.engine.Engine.{Engine}
 use Rattle.ob_exec.specs.declared.outcome.Outcome.{Outcome}
 use Rattle.ob_exec.specs.declared.outcome.Outcome.TheVariants.{Refused}
 use Rattle.ob_print.specs.Cuts.{Cut, IsCutOf}
 use Rattle.ob_print.specs.Rows.{events_text}
-use Rattle.ob_shell.specs.Closing.{closing_line, is_refused, served_as}
+use Rattle.ob_shell.specs.Closing.{closing_line, is_refused}
 use Rattle.ob_sql.specs.Skeleton.{skeleton}
 use Rattle.ob_sql.specs.declared.stmt.Stmt.{Stmt}
 use Rattle.ob_store.specs.State.{StoreState}
@@ -36,25 +42,42 @@ pub record Answer : Type 0 where
   pub outcome : Outcome
   pub bytes : List ℕ
 
+-- what a text spells: a statement that is served, or the place where it is refused. A statement that is not served
+-- yet is refused at its first byte.
+abbrev pub Spells : List ℕ → Result Stmt ℕ → Type 0
+Spells text (Ok stmt) = Statement text stmt (tokens_of text) × IsServed stmt
+Spells text (Err at) = RefusedAt text (tokens_of text) at ⊎ ((stmt : Stmt) × Statement text stmt (tokens_of text) × (IsServed stmt → ⊥) × (at ≡ 0))
+
 -- the text is no statement: nothing was asked
-pub record Misspelt {R : Type 0} (m0 m1 : Machine R) (answer : Answer) : Type 0 where
+pub record Misspelt {R : Type 0} (m0 m1 : Machine R) (text : List ℕ) (answer : Answer) : Type 0 where
   pub same : m1 ≡ m0
-  pub refused : answer.outcome ≡ Refused (Syntax 0)
+  pub at : ℕ
+  pub spells : Spells text (Err at)
+  pub refused : answer.outcome ≡ Refused (Syntax at)
   pub line : answer.bytes ≡ closing_line answer.outcome
 
+-- where the store tells what it holds, and gave what was written: the statement did what it means for any tables that
+-- the engine and the store held before
+pub record DidAsMeant {R : Type 0} (state : R → RevState) (m0 m1 : Machine R) (stmt : Stmt) (result : Result Outcome Stop) (events : List Event) : Type 0 where
+  pub told : IsTrue m0.store.tells → (tables : Tables) → Represents state m0.engine m0.store tables → m1.store.lie ≡ None
+      → Told state stmt (length m0.store.asked) tables result m0.engine m1.engine m1.store
+  pub emitted : IsTrue m0.store.tells → (tables : Tables) → Represents state m0.engine m0.store tables → m1.store.lie ≡ None
+      → Emitted stmt (public_of m0.engine) (length m0.store.asked) tables result events
+
 -- the engine ran a statement, and its header and rows were printed before the closing line
-pub record Served {R : Type 0} (state : R → RevState) (m0 m1 : Machine R) (answer : Answer) : Type 0 where
+pub record Served {R : Type 0} (state : R → RevState) (m0 m1 : Machine R) (text : List ℕ) (answer : Answer) : Type 0 where
   pub stmt : Stmt
-  pub outcome : Outcome
-  pub ran : Ran state (skeleton stmt) (Ok outcome) m0.engine m0.store m1.engine m1.store
+  pub spells : Spells text (Ok stmt)
+  pub ran : Ran state (skeleton stmt) (Ok answer.outcome) m0.engine m0.store m1.engine m1.store
+  pub early : RefusedEarly (refusal_now (public_of m0.engine) (length m0.store.asked) stmt) (Ok answer.outcome) (seen_of m1.engine)
   pub events : List Event
-  pub emitted : Emits outcome events
-  pub answered : answer.outcome ≡ served_as outcome
+  pub emitted : Emits answer.outcome events
+  pub meant : DidAsMeant state m0 m1 stmt (Ok answer.outcome) events
   pub printed : answer.bytes ≡ events_text events ++ closing_line answer.outcome
 
 -- from the first machine to the second this text was answered
 pub record Step {R : Type 0} (state : R → RevState) (m0 m1 : Machine R) (text : List ℕ) (answer : Answer) : Type 0 where
-  pub done : Misspelt m0 m1 answer ⊎ Served state m0 m1 answer
+  pub done : Misspelt m0 m1 text answer ⊎ Served state m0 m1 text answer
 
 -- from the first machine to the second this text was answered so, and all but the closing line was written
 pub record HasBody {R : Type 0} (state : R → RevState) (written0 written1 : Option (List ℕ)) (text : List ℕ) (outcome : Outcome) (m0 m1 : Machine R) : Type 0 where
@@ -65,9 +88,12 @@ pub record HasBody {R : Type 0} (state : R → RevState) (written0 written1 : Op
 -- the engine was stopped in the statement of this text, and a first part of its header and rows was printed
 pub record CutStep {R : Type 0} (state : R → RevState) (m0 m1 : Machine R) (text : List ℕ) (stop : Stop) (bytes : List ℕ) : Type 0 where
   pub stmt : Stmt
+  pub spells : Spells text (Ok stmt)
   pub ran : Ran state (skeleton stmt) (Err stop) m0.engine m0.store m1.engine m1.store
+  pub early : RefusedEarly (refusal_now (public_of m0.engine) (length m0.store.asked) stmt) (Err stop) (seen_of m1.engine)
   pub events : List Event
   pub printed : IsCutOf bytes (events_text events)
+  pub meant : DidAsMeant state m0 m1 stmt (Err stop) events
 
 -- these texts were answered, in order
 unfoldable pub Steps : {R : Type 0} → (R → RevState) → Machine R → Machine R → List (List ℕ) → List Answer → Type 0

@@ -1,9 +1,10 @@
 //! The text that is being read.
-ghost use Rattle.std.specs.Prelude.{◌≡◌, ℕ, ◌+◌, ◌<◌, ◌≤◌, List, [], ◌∷◌, ◌++◌, length, IsTrue};
-ghost use Rattle.ob_shell.specs.Texts.{text_max, is_blank, is_over, rest_after, texts_at, tail_text};
+ghost use Rattle.std.specs.Prelude.{◌≡◌, ℕ, ◌+◌, ◌<◌, ◌≤◌, List, [], ◌∷◌, ◌++◌, length, OnOk, OnErr};
+ghost use Rattle.ob_shell.specs.Texts.{text_max, rest_after, texts_at, reading_of, has_words};
 ghost use Rattle.ob_shell.specs.Pushed.{Pushes};
 
-use std::alloc::Global;
+use ob_token::{Mode, ends_at, is_blank_byte, is_solid, mode_after, solid_after};
+use std::alloc::{AllocFailed, Global};
 use std::marker::Model;
 
 /// Whether a byte ended a text.
@@ -20,10 +21,12 @@ pub enum PushStop {
     InputLimit,
 }
 
-/// What has come of a text.
+/// What has come of a text, where its next byte stands, and whether it has more than blanks and comments.
 #[derive(Drop)]
 pub struct Pending {
     text: Vec<u8>,
+    mode: Mode,
+    solid: bool,
 }
 
 impl Model for Pending {
@@ -32,12 +35,10 @@ impl Model for Pending {
     ghost Value = { List ℕ };
 
     ghost view = { λ p. p.text.items };
-}
 
-fn is_blank_byte(b: u8) -> bool
-    ensures { result ≡ is_blank b }
-{
-    b == b' ' || b == b'\t' || b == b'\r' || b == b'\n'
+    ghost use Rattle.ob_shell.specs.IsPending.{IsPending};
+
+    ghost invariant = { IsPending };
 }
 
 impl Pending {
@@ -46,6 +47,8 @@ impl Pending {
     {
         Pending {
             text: Vec::new(alloc),
+            mode: Mode::Plain,
+            solid: false,
         }
     }
 
@@ -55,26 +58,51 @@ impl Pending {
         self.text.as_slice()
     }
 
+    /// Whether there is more than blanks and comments.
+    pub fn has_words(&self) -> bool
+        ensures { result ≡ has_words (reading_of self.now) }
+    {
+        is_solid(self.mode, self.solid)
+    }
+
     pub fn clear(&mut self)
         ensures { self.new ≡ [] }
     {
         self.text.clear();
+        self.mode = Mode::Plain;
+        self.solid = false;
+    }
+
+    // Takes a byte, whatever it is; want of memory leaves the text.
+    fn add(&mut self, b: u8) -> Result<(), AllocFailed<u8>>
+        ensures ok { OnOk result (self.new ≡ self.old ++ b ∷ []) }
+        ensures err { OnErr result (self.new ≡ self.old) }
+    {
+        self.text.push(b)?;
+        self.solid = solid_after(self.mode, self.solid, b);
+        self.mode = mode_after(self.mode, b);
+        Ok(())
     }
 
     #[tactic(auto, unfolding(crate::specs::Texts::rest_after, crate::specs::Texts::texts_at))]
-    /// Takes one more byte. After `Whole` the text stands here with its semicolon.
+    /// Takes one more byte. After `Whole` the text stands here with its semicolon, which is outside quotes and
+    /// comments.
     pub fn push(&mut self, b: u8) -> Result<Grown, PushStop>
         requires { length self.old < text_max }
         ensures { Pushes self.old b self.new result }
     {
-        let is_first = self.text.is_empty();
-        if is_first && (b == b';' || is_blank_byte(b)) {
+        let ends = ends_at(self.mode, b);
+        if ends && !self.has_words() {
+            self.clear();
             return Ok(Grown::More);
         }
-        if self.text.push(b).is_err() {
+        if self.text.is_empty() && is_blank_byte(b) {
+            return Ok(Grown::More);
+        }
+        if self.add(b).is_err() {
             return Err(PushStop::NoMemory);
         }
-        if b == b';' {
+        if ends {
             Ok(Grown::Whole)
         } else if self.text.len() == 65536 {
             Err(PushStop::InputLimit)

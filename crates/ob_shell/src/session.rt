@@ -1,20 +1,19 @@
 //! The texts of an input, each served as soon as it has come.
 ghost use Rattle.std.specs.Prelude.{◌≡◌, ◌<◌, ◌≤◌, ◌++◌, ℕ, List, [], ◌∷◌, Bool, true, false, Ok, Err, length, OnOk, OnErr, IfOk, IfErr, codes, decimal};
 ghost use Rattle.ob_base.specs.declared.access.Access.{Access};
-ghost use Rattle.ob_exec.specs.Serving.{IsServed};
 ghost use Rattle.ob_shell.specs.Texts.{text_max, is_over, rest_after, texts_at, tail_text};
-ghost use Rattle.ob_shell.specs.Steps.{machine_of, IsReady, HasBody, AnswersAll, StopsIn};
+ghost use Rattle.ob_shell.specs.Steps.{machine_of, Spells, IsReady, HasBody, AnswersAll, StopsIn};
 ghost use Rattle.ob_shell.specs.Running.{StopCause, SessionRan, SinkFailed, SinksRose, IsQuiet, stop_of};
 ghost use Rattle.ob_shell.specs.Tracing.{TracedAll, Traced};
 ghost use Rattle.ob_shell.specs.Closing;
 
 use crate::feed::{Feed, Halt};
 use crate::pending::{Grown, Pending, PushStop};
-use crate::statement::{ParseErr, parse};
 use crate::trace::trace_from;
 use ob_base::{Failed, Refusal, Stop};
-use ob_exec::{Engine, Outcome};
+use ob_exec::{Engine, Outcome, is_served};
 use ob_io::{Sink, Source};
+use ob_parse::{ParseErr, parse};
 use ob_print::{Line, Printer, refusal_line, write_all};
 use ob_sql::Stmt;
 use ob_store::BlockStore;
@@ -33,30 +32,6 @@ pub struct Halted {
 pub struct Session {
     pub pending: Pending,
     pub refused: bool,
-}
-
-fn printed_refusal(refusal: Refusal) -> Refusal
-    ensures { result ≡ Closing.printed_refusal refusal }
-{
-    match refusal {
-        Refusal::NameTaken
-        | Refusal::NoColumn
-        | Refusal::WrongType
-        | Refusal::ValueRange
-        | Refusal::Limit
-        | Refusal::KeyRule
-        | Refusal::JoinKey => Refusal::Syntax(0),
-        other => other,
-    }
-}
-
-fn served_as(outcome: Outcome) -> Outcome
-    ensures { result ≡ Closing.served_as outcome }
-{
-    match outcome {
-        Outcome::Refused(refusal) => Outcome::Refused(printed_refusal(refusal)),
-        other => other,
-    }
 }
 
 fn is_refused(outcome: Outcome) -> bool
@@ -97,7 +72,7 @@ fn run_stmt<R: Revisions, S: BlockStore, K: Sink>(
     stmt: &Stmt,
     printer: &mut Printer<'_, K>,
 ) -> Result<Outcome, Stop>
-    requires served { IsServed stmt.now }
+    requires spells { Spells text.now (Ok stmt.now) }
     requires ready { IsReady R.state (machine_of engine.old (S.state store.old)) }
     ensures same_sink { printer.new.out.ghost_name ≡ printer.old.out.ghost_name }
     ensures ready { OnOk result (IsReady R.state (machine_of engine.new (S.state store.new))) }
@@ -111,10 +86,7 @@ fn run_stmt<R: Revisions, S: BlockStore, K: Sink>(
     ensures limit { result ≡ Err Stop.InputLimit → ⊥ }
     ensures source { result ≡ Err Stop.SourceFault → ⊥ }
 {
-    match engine.run(store, stmt, printer) {
-        Ok(outcome) => Ok(served_as(outcome)),
-        Err(stop) => Err(stop),
-    }
+    engine.run(store, stmt, printer)
 }
 
 // Answers one text but for its closing line.
@@ -125,6 +97,7 @@ fn run_text<R: Revisions, S: BlockStore, K: Sink>(
     text: &[u8],
     out: &mut K,
 ) -> Result<Outcome, Stop>
+    requires short { length text.now ≤ text_max }
     requires ready { IsReady R.state (machine_of engine.old (S.state store.old)) }
     ensures ready { OnOk result (IsReady R.state (machine_of engine.new (S.state store.new))) }
     ensures answered { IfOk result (λ outcome. HasBody R.state (K.written out.old) (K.written out.new) text.now outcome
@@ -138,9 +111,14 @@ fn run_text<R: Revisions, S: BlockStore, K: Sink>(
 {
     let stmt = match parse(alloc, text) {
         Ok(stmt) => stmt,
-        Err(ParseErr::Syntax) => return Ok(Outcome::Refused(Refusal::Syntax(0))),
-        Err(ParseErr::NoMemory) => return Err(Stop::NoMemory),
+        Err(error) => match error {
+            ParseErr::Syntax(at) => return Ok(Outcome::Refused(Refusal::Syntax(at))),
+            ParseErr::NoMemory => return Err(Stop::NoMemory),
+        },
     };
+    if !is_served(&stmt) {
+        return Ok(Outcome::Refused(Refusal::Syntax(0)));
+    }
     let mut printer = Printer { out, alloc };
     run_stmt(engine, store, text, &stmt, &mut printer)
 }
@@ -154,6 +132,7 @@ fn answer<R: Revisions, S: BlockStore, K: Sink>(
     text: &[u8],
     out: &mut K,
 ) -> Result<bool, Stop>
+    requires short { length text.now ≤ text_max }
     requires ready { IsReady R.state (machine_of engine.old (S.state store.old)) }
     ensures ready { OnOk result (IsReady R.state (machine_of engine.new (S.state store.new))) }
     ensures answered { IfOk result (λ flag. AnswersAll R.state (K.written out.old) (K.written out.new) (text.now ∷ []) refused flag
@@ -185,6 +164,7 @@ fn answer_traced<R: Revisions, S: BlockStore, K: Sink, T: Sink>(
     out: &mut K,
     trace: &mut T,
 ) -> Result<bool, Halted>
+    requires short { length text.now ≤ text_max }
     requires ready { IsReady R.state (machine_of engine.old (S.state store.old)) }
     ensures ready { OnOk result (IsReady R.state (machine_of engine.new (S.state store.new))) }
     ensures answered { IfOk result (λ flag. AnswersAll R.state (K.written out.old) (K.written out.new) (text.now ∷ []) refused flag
@@ -293,7 +273,8 @@ fn finish<R: Revisions, S: BlockStore, K: Sink, T: Sink>(
     out: &mut K,
     trace: &mut T,
 ) -> Result<bool, Halted>
-    requires { IsReady R.state (machine_of engine.old (S.state store.old)) }
+    requires short { length session.now.pending ≤ text_max }
+    requires ready { IsReady R.state (machine_of engine.old (S.state store.old)) }
     ensures answered { IfOk result (λ flag. AnswersAll R.state (K.written out.old) (K.written out.new) (tail_text session.now.pending)
         session.now.refused flag (machine_of engine.old (S.state store.old)) (machine_of engine.new (S.state store.new))) }
     ensures stopped { IfErr result (λ halted. StopsIn R.state (K.written out.old) (K.written out.new) (tail_text session.now.pending) halted.stop
@@ -307,8 +288,7 @@ fn finish<R: Revisions, S: BlockStore, K: Sink, T: Sink>(
     ensures limit { stop_of result ≡ Err Stop.InputLimit → ⊥ }
     ensures source { stop_of result ≡ Err Stop.SourceFault → ⊥ }
 {
-    let text = session.pending.text();
-    if text.is_empty() {
+    if !session.pending.has_words() {
         return Ok(session.refused);
     }
     answer_traced(
@@ -317,7 +297,7 @@ fn finish<R: Revisions, S: BlockStore, K: Sink, T: Sink>(
         session.refused,
         engine,
         store,
-        text,
+        session.pending.text(),
         out,
         trace,
     )

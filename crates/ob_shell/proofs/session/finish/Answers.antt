@@ -1,17 +1,16 @@
-use Rattle.std.proofs.Common.{◌≡◌, ℕ, List, [], ◌∷◌, length, refl, arith}
-use Rattle.ob_shell.specs.Texts.{tail_text}
+use Rattle.std.proofs.Common.{◌≡◌, ℕ, Bool, true, false, List, [], ◌∷◌, if◌then◌else◌, refl, sym, ◌∙◌, ap}
+use Rattle.ob_shell.specs.Texts.{tail_text, has_words, reading_of}
 use Rattle.ob_shell.proofs.StepLemmas.{answers_none}
 use Rattle.ob_shell.proofs.TraceLemmas.{traced_none}
 use Rattle.ob_shell.proofs.session.finish.Goals as goal
 
-tail_text-none : (xs : List ℕ) → length xs ≡ 0 → tail_text xs ≡ []
-tail_text-none [] h = refl
-tail_text-none (x ∷ xs) h = absurd (omega arith)
+tail_text-none : (rest : List ℕ) → has_words (reading_of rest) ≡ false → tail_text rest ≡ []
+tail_text-none rest none = ap (λ (b : Bool). if b then rest ∷ [] else []) none
 
-pub returns-then-is_empty-clause-answered : goal.returns-then-is_empty-clause-answered
-returns-then-is_empty-clause-answered g c =
-    let none : length c.args.session.now.pending ≡ 0 = grind arith in
+pub returns-then-not-has_words-clause-answered : goal.returns-then-not-has_words-clause-answered
+returns-then-not-has_words-clause-answered g c =
+    let none : has_words (reading_of c.args.session.now.pending) ≡ false = cc (c.has_words.ensures, c.if-not-has_words.true) in
     rw (tail_text-none c.args.session.now.pending none) (answers_none _ _ _)
 
-pub returns-then-is_empty-clause-traced : goal.returns-then-is_empty-clause-traced
-returns-then-is_empty-clause-traced g c = traced_none _ _ _
+pub returns-then-not-has_words-clause-traced : goal.returns-then-not-has_words-clause-traced
+returns-then-not-has_words-clause-traced g c = traced_none _ _ _

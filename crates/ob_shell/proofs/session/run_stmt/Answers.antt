@@ -1,10 +1,12 @@
-use Rattle.ob_shell.proofs.ServeLemmas.{stopped_in, stop_cause, never_source, never_limit}
+use Rattle.ob_shell.proofs.ServeLemmas.{answered_in, stopped_in}
 use Rattle.ob_shell.proofs.session.run_stmt.Goals as goal
 
-pub returns-in-Err-clause-stopped : goal.returns-in-Err-clause-stopped
-returns-in-Err-clause-stopped g c = stopped_in c.args.text.now c.args.stmt.now c.in-Err.stop c.in-Err.ensures.ran c.in-Err.ensures.stopped
+pub returns-clause-answered : goal.returns-clause-answered
+returns-clause-answered g c =
+    answered_in _ _ _ _ _ _ c.args.text.now c.args.stmt.now c.run.result
+    (record { spells = c.requires.spells; ran = c.run.ensures.ran; early = c.run.ensures.early; told = c.run.ensures.told }) c.run.ensures.emits
 
-pub returns-in-Err-clause-cause : goal.returns-in-Err-clause-cause
-returns-in-Err-clause-cause g c =
-    let cause = c.in-Err.ensures.ran.cause in
-    stop_cause c.in-Err.stop _ _ c.in-Err.ensures.sink (never_source c.in-Err.stop _ _ cause) (never_limit c.in-Err.stop _ _ cause)
+pub returns-clause-stopped : goal.returns-clause-stopped
+returns-clause-stopped g c =
+    stopped_in _ _ _ _ _ _ c.args.text.now c.args.stmt.now c.run.result
+    (record { spells = c.requires.spells; ran = c.run.ensures.ran; early = c.run.ensures.early; told = c.run.ensures.told }) c.run.ensures.stopped
