@@ -1,0 +1,4 @@
+pub mod Flips
+pub mod Bytes
+pub mod Held
+pub mod Acts
