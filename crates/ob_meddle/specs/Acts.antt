@@ -39,10 +39,16 @@ abbrev pub before_at : Option Rest → ℕ → List ℕ
 before_at None place = []
 before_at (Some r) place = r.before place
 
+abbrev pub has_place : ℕ → Option Rest → Bool
+has_place place r = allows (λ r. nat_lt place r.blocks) r
+
+abbrev pub len_at : Option Rest → ℕ
+len_at None = 0
+len_at (Some r) = r.len
+
 -- whether there is such a block, and a place for it
 abbrev pub can_copy : Option Rest → ℕ → Option Rest → ℕ → Bool
-can_copy None from to place = false
-can_copy (Some r) from to place = nat_lt from r.blocks && allows (can_hold place r.len) to
+can_copy from place to x = has_place place from && allows (can_hold x (len_at from)) to
 
 -- one block is replaced
 abbrev pub put_at : ℕ → ℕ → List ℕ → Stands → Stands

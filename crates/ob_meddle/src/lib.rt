@@ -1,6 +1,7 @@
 //! A store in memory that others change.
 #![tactic(auto)]
 
+mod acts;
 mod blocks;
 mod meddle;
 mod region;
