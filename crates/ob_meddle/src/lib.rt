@@ -3,7 +3,10 @@
 
 mod acts;
 mod blocks;
+mod caught;
+mod due;
 mod meddle;
 mod region;
+mod regions;
 
 pub use meddle::{Act, Meddle, Spot};
