@@ -1,2 +1,4 @@
 mod Ranges
 mod ActLemmas
+mod DueLemmas
+mod StoreLemmas

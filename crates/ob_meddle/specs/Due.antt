@@ -1,6 +1,8 @@
 -- Which changes are due at an access, or were at an earlier one.
 use Rattle.std.specs.Prelude.{ℕ, zero, suc, ◌+◌, ◌==◌, ◌&&◌, ◌||◌, not, Bool, true, false, nat_lt, nat_le, List, if◌then◌else◌}
 use Rattle.std.specs.List.{list_any, list_all}
+use Rattle.ob_base.specs.declared.access.Access.{Access}
+use Rattle.ob_base.specs.declared.access.Access.TheVariants.{Make, Read, Write, Discard}
 use Rattle.ob_meddle.specs.declared.meddle.Act.{Act}
 use Rattle.ob_meddle.specs.declared.meddle.Act.TheVariants.{Fail, Flip, Copy, Older}
 use Rattle.ob_meddle.specs.declared.meddle.Meddle.{Meddle}
@@ -37,3 +39,10 @@ copies_from region (Older q place) = false
 
 abbrev pub is_source : List Meddle → ℕ → Bool
 is_source list region = list_any (λ m. copies_from region m.act) list
+
+-- whether an access is a discard, whose failures are counted apart
+abbrev pub is_discard : Access → Bool
+is_discard (Discard region) = true
+is_discard (Make region blocks len) = false
+is_discard (Read region place) = false
+is_discard (Write region place) = false

@@ -5,3 +5,4 @@ pub mod Acts
 pub mod Regions
 pub mod Due
 pub mod Caught
+pub mod Fresh

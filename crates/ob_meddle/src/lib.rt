@@ -8,5 +8,7 @@ mod due;
 mod meddle;
 mod region;
 mod regions;
+mod store;
 
 pub use meddle::{Act, Meddle, Spot};
+pub use store::MeddledStore;
