@@ -45,3 +45,27 @@ none_due rests (x ∷ list) number s some none =
   step : (b : Bool) → (x.before == number) ≡ b → (if b then after_act rests x.act s else s) ≡ s
   step false is = refl
   step true is = act_of_fail rests x.act s (grind arith)
+
+-- where all changes come later, none came
+later_tail : (x : Meddle) (list : List Meddle) (n : ℕ) → are_later (x ∷ list) n ≡ true → are_later list n ≡ true
+later_tail x list n later = grind arith
+
+pub none_acted : (list : List Meddle) (n : ℕ) → are_later list n ≡ true → has_acted list n ≡ false
+none_acted [] n later = refl
+none_acted (x ∷ list) n later = grind (arith, none_acted list n (later_tail x list n later))
+
+later_before : (list : List Meddle) (m n : ℕ) → m ≤ n → are_later list n ≡ true → are_later list m ≡ true
+later_before [] m n le later = refl
+later_before (x ∷ list) m n le later = grind (arith, later_before list m n le (later_tail x list n later))
+
+none_fails : (list : List Meddle) (n : ℕ) → are_later list n ≡ true → fails_at list n ≡ false
+none_fails [] n later = refl
+none_fails (x ∷ list) n later = grind (arith, none_fails list n (later_tail x list n later))
+
+pub none_failed : (list : List Meddle) (n : ℕ) → are_later list n ≡ true → failed_among list n ≡ 0
+unfolding failed_among
+none_failed list zero later = refl
+none_failed list (suc n) later =
+    let fails = none_fails list (suc n) later in
+    let before = none_failed list n (later_before list n (suc n) (omega arith) later) in
+    (λ t. before t + (if fails t then 1 else 0))

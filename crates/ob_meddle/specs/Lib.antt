@@ -6,3 +6,4 @@ pub mod Regions
 pub mod Due
 pub mod Caught
 pub mod Fresh
+pub mod Shows

@@ -5,10 +5,12 @@ mod acts;
 mod blocks;
 mod caught;
 mod due;
+mod laws;
 mod meddle;
 mod region;
 mod regions;
 mod store;
 
+pub use laws::changes_show;
 pub use meddle::{Act, Meddle, Spot};
 pub use store::MeddledStore;
