@@ -10,6 +10,8 @@ mod meddle;
 mod region;
 mod regions;
 mod store;
+#[cfg(test)]
+mod test;
 
 pub use laws::changes_show;
 pub use meddle::{Act, Meddle, Spot};
