@@ -42,9 +42,9 @@ pub none_due : (rests : Rests) (list : List Meddle) (number : ℕ) (s : Stands) 
 none_due rests [] number s some none = refl
 none_due rests (x ∷ list) number s some none =
     ap (after_acts rests list number) (step (x.before == number) refl) ∙ none_due rests list number s some (grind arith) where
-  step : (b : Bool) → (x.before == number) ≡ b → (if b then after_act rests x.act s else s) ≡ s
-  step false is = refl
-  step true is = act_of_fail rests x.act s (grind arith)
+      step : (b : Bool) → (x.before == number) ≡ b → (if b then after_act rests x.act s else s) ≡ s
+      step false is = refl
+      step true is = act_of_fail rests x.act s (grind arith)
 
 -- where all changes come later, none came
 later_tail : (x : Meddle) (list : List Meddle) (n : ℕ) → are_later (x ∷ list) n ≡ true → are_later list n ≡ true

@@ -11,7 +11,11 @@ use ob_base::NoMemory;
 use std::collections::BTreeMap;
 
 /// Adds a region.
-pub(crate) fn add(regions: &mut BTreeMap<u64, Region>, region: u64, made: Region) -> Result<(), NoMemory>
+pub(crate) fn add(
+    regions: &mut BTreeMap<u64, Region>,
+    region: u64,
+    made: Region,
+) -> Result<(), NoMemory>
     ensures rest { OnOk result (rests_of regions.new region ≡ Some (rest_of made)) }
     ensures others { OnOk result ((q : ℕ) → q ≢ region → rests_of regions.new q ≡ rests_of regions.old q) }
     ensures stands { OnOk result ((q x : ℕ) → q ≢ region → stands_of regions.new q x ≡ stands_of regions.old q x) }

@@ -129,7 +129,10 @@ fn each_kind_fails(rt: HostRuntime) -> Result<(), Fail> {
         (5, [false, false, true], 2),
         (6, [false, false, false], 2),
     ] {
-        assert_eq!(rt; failures(rt.alloc(), &[fail(before), fail(before)])?, (failed, byte, 5));
+        assert_eq!(rt;
+            failures(rt.alloc(), &[fail(before), fail(before)])?,
+            (failed, byte, 5)
+        );
     }
     let mut store = store_of(rt.alloc(), &[fail(1)])?;
     store.room(1)?;

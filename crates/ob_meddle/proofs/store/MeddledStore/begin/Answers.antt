@@ -34,7 +34,7 @@ invariant_of-self c =
     let value : c.fails_at.result ≡ false = grind (arith, c.if-not-fails_at.true) in
     let fails : false ≡ fails_at old.list (length more) = sym value ∙ c.fails_at.ensures ∙ (λ t. fails_at (c.as_slice-2.ensures t) (c.count-number.ensures t)) in
     let stands : stands_of c.do_acts.new.regions ≡ after_acts (rests_of old.regions) old.list (length more) (stands_of old.regions) =
-        c.do_acts.ensures.stands ∙ (λ t. after_acts (rests_of old.regions) (c.as_slice.ensures t) (c.count-number.ensures t) (stands_of old.regions)) in
+    c.do_acts.ensures.stands ∙ (λ t. after_acts (rests_of old.regions) (c.as_slice.ensures t) (c.count-number.ensures t) (stands_of old.regions)) in
     record {
       fresh = fresh_more old.list before more c.args.access e c.do_acts.new.regions;
       counted = omega (arith, counted_more old.list before more c.args.access e (old.faults + old.slips) false old.counted fails);
@@ -52,7 +52,7 @@ invariant_of-self-then-matches c =
     let value : c.fails_at.result ≡ true = grind (arith, c.if-not-fails_at.false) in
     let fails : true ≡ fails_at old.list (length more) = sym value ∙ c.fails_at.ensures ∙ (λ t. fails_at (c.as_slice-2.ensures t) (c.count-number.ensures t)) in
     let stands : stands_of c.do_acts.new.regions ≡ after_acts (rests_of old.regions) old.list (length more) (stands_of old.regions) =
-        c.do_acts.ensures.stands ∙ (λ t. after_acts (rests_of old.regions) (c.as_slice.ensures t) (c.count-number.ensures t) (stands_of old.regions)) in
+    c.do_acts.ensures.stands ∙ (λ t. after_acts (rests_of old.regions) (c.as_slice.ensures t) (c.count-number.ensures t) (stands_of old.regions)) in
     record {
       fresh = fresh_more old.list before more c.args.access e c.do_acts.new.regions;
       counted = omega (arith, counted_more old.list before more c.args.access e (old.faults + old.slips) true old.counted fails);
@@ -70,7 +70,7 @@ invariant_of-self-else-matches c =
     let value : c.fails_at.result ≡ true = grind (arith, c.if-not-fails_at.false) in
     let fails : true ≡ fails_at old.list (length more) = sym value ∙ c.fails_at.ensures ∙ (λ t. fails_at (c.as_slice-2.ensures t) (c.count-number.ensures t)) in
     let stands : stands_of c.do_acts.new.regions ≡ after_acts (rests_of old.regions) old.list (length more) (stands_of old.regions) =
-        c.do_acts.ensures.stands ∙ (λ t. after_acts (rests_of old.regions) (c.as_slice.ensures t) (c.count-number.ensures t) (stands_of old.regions)) in
+    c.do_acts.ensures.stands ∙ (λ t. after_acts (rests_of old.regions) (c.as_slice.ensures t) (c.count-number.ensures t) (stands_of old.regions)) in
     record {
       fresh = fresh_more old.list before more c.args.access e c.do_acts.new.regions;
       counted = omega (arith, counted_more old.list before more c.args.access e (old.faults + old.slips) true old.counted fails);

@@ -13,7 +13,7 @@ invariant_of-self c =
       fresh = fresh_more mid.list (asked_of old.log) (asked_of mid.log) _ c.begin.ensures.asked c.add.new.regions;
       counted = mid.counted;
       honest = honest_added mid.list (length (asked_of mid.log)) c.args.region mid.regions c.add.new.regions (rest_of c.in-Ok.made) c.add.result
-        add.rest c.in-Ok.ensures.unwritten add.others add.stands add.none add.stay mid.honest;
+          add.rest c.in-Ok.ensures.unwritten add.others add.stands add.none add.stay mid.honest;
       early = mid.early;
       caused = mid.caused;
     }
