@@ -1,5 +1,5 @@
 -- The first read that gave other bytes than were written last.
-use Rattle.std.specs.Prelude.{ℕ, List, Option, Some, None, take}
+use Rattle.std.specs.Prelude.{List, Option, Some, None, take}
 use Rattle.ob_base.specs.declared.access.Access.{Access}
 use Rattle.ob_store.specs.State.{Lie}
 use Rattle.ob_meddle.specs.declared.caught.Caught.{Caught}

@@ -1,5 +1,5 @@
 -- What a region holds: what stands in its blocks, which acts change, and the rest, which they don't.
-use Rattle.std.specs.Prelude.{ℕ, ◌≡◌, ◌≢◌, ⊤, ◌&&◌, ◌==◌, Bool, true, false, List, Option, Some, None, is_some, nat_lt, slice_index_or, if◌then◌else◌}
+use Rattle.std.specs.Prelude.{ℕ, ◌≡◌, ◌≢◌, ⊤, ◌&&◌, ◌==◌, Bool, false, List, Option, Some, None, is_some, nat_lt, slice_index_or, if◌then◌else◌}
 use Rattle.ob_meddle.specs.declared.region.Region.{Region}
 use Rattle.ob_meddle.specs.Bytes.{block_at}
 

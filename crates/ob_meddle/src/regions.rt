@@ -17,6 +17,7 @@ pub(crate) fn add(
     made: Region,
 ) -> Result<(), NoMemory>
     ensures rest { OnOk result (rests_of regions.new region ≡ Some (rest_of made)) }
+    ensures here { OnOk result ((x : ℕ) → stands_of regions.new region x ≡ stand_of made x) }
     ensures others { OnOk result ((q : ℕ) → q ≢ region → rests_of regions.new q ≡ rests_of regions.old q) }
     ensures stands { OnOk result ((q x : ℕ) → q ≢ region → stands_of regions.new q x ≡ stands_of regions.old q x) }
     ensures none { OnErr result ((q : ℕ) → rests_of regions.new q ≡ rests_of regions.old q) }

@@ -87,7 +87,7 @@ impl MeddledStore {
 }
 
 impl BlockStore for MeddledStore {
-    ghost use Rattle.std.specs.Prelude.{◌≢◌, ◌⊎◌, Err, is_err, OnOk, OnErr};
+    ghost use Rattle.std.specs.Prelude.{◌≢◌, replicate, Err, is_err, OnOk, OnErr};
     ghost use Rattle.ob_base.specs.Accesses.{highest};
     ghost use Rattle.ob_store.specs.Calls.{IsLive, IsPlace, Asks, CountsFault, CountsSlip, CountsMakeFault, Keeps, Makes, ReadGives, OnlyAt, Holds, MayHold, OnlyRegion, Rests};
     ghost use Rattle.ob_meddle.specs.Shows.{list_of, state_of, standing, standing_next, fails_next};
@@ -120,6 +120,7 @@ impl BlockStore for MeddledStore {
         ensures list { list_of self.new ≡ list_of self.old }
         ensures fails { fails_next self.old ≡ true → result ≡ Err StoreErr.Failed }
         ensures does { fails_next self.old ≡ false → result ≢ Err StoreErr.Failed }
+        ensures zeros { OnOk result ((x : ℕ) → x < blocks → standing self.new region x ≡ replicate len 0) }
         ensures others { OnOk result ((q x : ℕ) → q ≢ region → standing self.new q x ≡ standing_next self.old q x) }
         ensures stays { OnErr result ((q x : ℕ) → standing self.new q x ≡ standing_next self.old q x) }
     {

@@ -1,4 +1,4 @@
-use Rattle.std.proofs.Common.{◌≡◌, ◌∙◌, ◌+◌, true, false, Bool, refl, List, Option, Some, None, length, arith}
+use Rattle.std.proofs.Common.{◌≡◌, true, false, refl, List, Option, Some, None, length, arith}
 use Rattle.std.specs.Option.{ForSome}
 use Rattle.ob_base.specs.declared.access.Access.{Access}
 use Rattle.ob_store.specs.Logs.{asked_of}

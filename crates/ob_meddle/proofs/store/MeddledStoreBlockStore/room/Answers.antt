@@ -1,5 +1,3 @@
-use Rattle.std.proofs.Common.{ap}
-use Rattle.ob_store.specs.Logs.{LogState, asked_of}
 use Rattle.ob_meddle.proofs.store.MeddledStoreBlockStore.room.Goals as goal
 
 pub invariant_of-self : goal.invariant_of-self
