@@ -2,3 +2,5 @@ mod Ranges
 mod ActLemmas
 mod DueLemmas
 mod StoreLemmas
+mod ChangeLemmas
+mod Spelt

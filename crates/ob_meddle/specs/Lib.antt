@@ -7,3 +7,4 @@ pub mod Due
 pub mod Caught
 pub mod Fresh
 pub mod Shows
+pub mod Changes

@@ -4,6 +4,7 @@
 mod acts;
 mod blocks;
 mod caught;
+mod changes;
 mod due;
 mod laws;
 mod meddle;
@@ -13,6 +14,7 @@ mod store;
 #[cfg(test)]
 mod test;
 
+pub use changes::{ChangesErr, parse_changes};
 pub use laws::changes_show;
 pub use meddle::{Act, Meddle, Spot};
 pub use store::MeddledStore;

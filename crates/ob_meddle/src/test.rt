@@ -148,3 +148,41 @@ fn each_kind_fails(rt: HostRuntime) -> Result<(), Fail> {
     );
     Ok(())
 }
+
+#[test]
+fn reads_changes(rt: HostRuntime) -> Result<(), Fail> {
+    let to = Spot {
+        region: 3,
+        place: 1,
+    };
+    for (text, meddle) in [
+        ("9:fail", fail(9)),
+        ("20:flip:1.0.48", flip(20, FIRST, 48)),
+        ("26:copy:1.1:3.1", copy(26, SECOND, to)),
+        ("20:old:3.1", older(20, to)),
+    ] {
+        let list = parse_changes(rt.alloc(), text.as_bytes())?;
+        assert_eq!(rt; list.as_slice(), [meddle].as_slice());
+    }
+    let two = parse_changes(rt.alloc(), b"9:fail,20:old:1.0")?;
+    assert_eq!(rt; two.as_slice(), [fail(9), older(20, FIRST)].as_slice());
+    for text in [
+        "",
+        "0:fail",
+        "09:fail",
+        "9:fail,",
+        "9:fail:",
+        "9",
+        "9:old:1",
+        "9:old:1.4294967296",
+        "9:flip:1.0",
+        "9:flip:1.0.0.0",
+        "9:copy:1.0",
+        "9:cut:1.0",
+        "18446744073709551616:fail",
+    ] {
+        let read = parse_changes(rt.alloc(), text.as_bytes());
+        assert!(rt; matches!(read, Err(ChangesErr::Malformed)));
+    }
+    Ok(())
+}
