@@ -1,6 +1,8 @@
 -- Longer sessions, computed.
 use Rattle.std.proofs.Common.{◌≡◌, ℕ, zero, suc, List, [], ◌∷◌, ◌++◌, refl}
-use Rattle.std.specs.Prelude.{Option, Some, None, Ok, codes}
+use Rattle.std.specs.Prelude.{Option, Some, None, Ok, codes, map}
+use Rattle.ob_base.specs.declared.config.Public.{Public}
+use Rattle.ob_base.specs.declared.config.Plan.{Plan}
 use Rattle.ob_base.specs.declared.config.Plan.TheVariants.{Small, Large, Hash}
 use Rattle.ob_base.specs.declared.seen.End.TheVariants.{Whole}
 use Rattle.ob_base.specs.declared.seen.Seen.{Seen}
@@ -10,8 +12,9 @@ use Rattle.ob_row.specs.declared.pred.Order.TheVariants.{Equal, NotEqual, Greate
 use Rattle.ob_sql.specs.declared.stmt.Listed.TheVariants.{Column as ListedColumn, CountAll, Sum}
 use Rattle.ob_sql.specs.declared.stmt.Stmt.TheVariants.{Create, Insert, Update, Delete, Drop as DropTable, Select as SelectStmt}
 use Rattle.ob_sql.specs.Search.{Search, Or}
+use Rattle.ob_mean.specs.declared.answer.Answer.{Answer}
 use Rattle.ob_mean.specs.declared.answer.Answer.TheVariants.{Done, Changed, Rows}
-use Rattle.ob_mean.specs.Replay.{Spelt, Session, after_all, first_public, first_session, seen_now}
+use Rattle.ob_mean.specs.Replay.{Spelt, Session, after_all, all_served, first_public, first_session, seen_now}
 use Rattle.ob_verdict.proofs.Sessions.{id, v, col, of_table, int, compare, column, insert, answers_of, asked_by, ints}
 
 abbrev g : List ℕ
@@ -39,15 +42,36 @@ generated =
     ∷ Ok (SelectStmt (record { list = Some (CountAll ∷ Sum (col v) ∷ []); source = OneTable g; cond = None; group = None }))
     ∷ Ok (DropTable g) ∷ Ok (DropTable h) ∷ []
 
-generated_answers : answers_of (first_public 64 5 1 None) generated ≡
+-- five rows in all
+abbrev its_answers : List Answer
+its_answers =
     Done ∷ Done ∷ Rows [] ∷ Rows (ints (1 ∷ []) ∷ []) ∷ Rows (ints (7 ∷ []) ∷ []) ∷ Rows (ints (7 ∷ 1 ∷ []) ∷ []) ∷ Changed 0 ∷ Changed 0 ∷ Done ∷ Done
     ∷ Rows (ints (1 ∷ 7 ∷ 1 ∷ []) ∷ []) ∷ Rows (ints (1 ∷ 7 ∷ []) ∷ []) ∷ Done ∷ Done ∷ []
+
+generated_answers : answers_of (first_public 64 5 1 None) generated ≡ its_answers
 unfolding makes
 generated_answers = refl
 
 generated_total : asked_by (first_public 64 5 1 None) generated ≡ 74
 unfolding makes
 generated_total = refl
+
+-- with room for four rows, of which a pass buffers two
+generated_answers_of_four : answers_of (first_public 4 5 1 None) generated ≡ its_answers
+unfolding makes
+generated_answers_of_four = refl
+
+generated_total_of_four : asked_by (first_public 4 5 1 None) generated ≡ 74
+unfolding makes
+generated_total_of_four = refl
+
+abbrev plans_of : Public → List Spelt → List (Option Plan)
+plans_of p texts = map (λ s. s.seen.plan) (all_served (first_session p) texts [])
+
+generated_plans_of_four : plans_of (first_public 4 5 1 None) generated ≡
+    None ∷ None ∷ None ∷ Some Small ∷ Some Small ∷ None ∷ None ∷ None ∷ None ∷ None ∷ Some Small ∷ None ∷ None ∷ None ∷ []
+unfolding makes
+generated_plans_of_four = refl
 
 generated_by_large : asked_by (first_public 64 5 1 (Some Large)) generated ≡ 92
 unfolding makes

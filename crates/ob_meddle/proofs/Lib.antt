@@ -1,0 +1,6 @@
+mod Ranges
+mod ActLemmas
+mod DueLemmas
+mod StoreLemmas
+mod ChangeLemmas
+mod Spelt

@@ -1,0 +1,23 @@
+use Rattle.std.proofs.Common.{ap}
+use Rattle.ob_store.specs.Logs.{spelt, asked_of}
+use Rattle.ob_meddle.proofs.StoreLemmas.{fresh_none, counted_none, honest_none}
+use Rattle.ob_meddle.proofs.store.MeddledStore.new.Goals as goal
+
+pub returns-clause-asked : goal.returns-clause-asked
+unfolding spelt
+returns-clause-asked c = ap spelt c.new.ensures
+
+pub invariant_of-result : goal.invariant_of-result
+unfolding spelt
+invariant_of-result c =
+    let asked = asked_of c.new.result in
+    let regions = c.new-2.result in
+    let none = ap spelt c.new.ensures in
+    let list = c.from_vec.result in
+    record {
+      fresh = fresh_none asked regions none c.new-2.ensures.empty;
+      counted = counted_none list asked none;
+      honest = honest_none list asked regions c.new-2.ensures.empty;
+      early = λ x is. absurd (cc is);
+      caused = λ x is. absurd (cc is);
+    }

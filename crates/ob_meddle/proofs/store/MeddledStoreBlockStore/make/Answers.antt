@@ -1,0 +1,19 @@
+use Rattle.std.proofs.Common.{length}
+use Rattle.ob_store.specs.Logs.{asked_of}
+use Rattle.ob_meddle.specs.Held.{rest_of}
+use Rattle.ob_meddle.proofs.StoreLemmas.{fresh_more, honest_added}
+use Rattle.ob_meddle.proofs.store.MeddledStoreBlockStore.make.Goals as goal
+
+pub invariant_of-self : goal.invariant_of-self
+invariant_of-self c =
+    let old = c.args.self.now in
+    let mid = c.begin.new.self in
+    let add = c.add.ensures in
+    record {
+      fresh = fresh_more mid.list (asked_of old.log) (asked_of mid.log) _ c.begin.ensures.asked c.add.new.regions;
+      counted = mid.counted;
+      honest = honest_added mid.list (length (asked_of mid.log)) c.args.region mid.regions c.add.new.regions (rest_of c.in-Ok.made) c.add.result
+          add.rest c.in-Ok.ensures.unwritten add.others add.stands add.none add.stay mid.honest;
+      early = mid.early;
+      caused = mid.caused;
+    }

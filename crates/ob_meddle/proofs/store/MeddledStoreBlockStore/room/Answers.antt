@@ -1,0 +1,13 @@
+use Rattle.ob_meddle.proofs.store.MeddledStoreBlockStore.room.Goals as goal
+
+pub invariant_of-self : goal.invariant_of-self
+invariant_of-self c =
+    let old = c.args.self.now in
+    let same = c.room.ensures.runs in
+    record {
+      fresh = rw same old.fresh;
+      counted = rw same old.counted;
+      honest = rw same old.honest;
+      early = rw same old.early;
+      caused = rw same old.caused;
+    }

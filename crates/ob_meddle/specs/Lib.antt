@@ -1,0 +1,10 @@
+pub mod Flips
+pub mod Bytes
+pub mod Held
+pub mod Acts
+pub mod Regions
+pub mod Due
+pub mod Caught
+pub mod Fresh
+pub mod Shows
+pub mod Changes

@@ -1,0 +1,10 @@
+//! Laws of a store that others change.
+ghost use Rattle.ob_meddle.specs.Shows.{list_of, Shows};
+
+use crate::store::MeddledStore;
+use ob_store::BlockStore;
+
+/// When its changes show: in its counts of failed calls, and in its lie.
+pub fn changes_show()
+    ensures { (m : MeddledStore) → Shows (list_of m) (⟦<MeddledStore as BlockStore>⟧.state m) }
+{}

@@ -1,0 +1,20 @@
+//! A store in memory that others change.
+#![tactic(auto)]
+
+mod acts;
+mod blocks;
+mod caught;
+mod changes;
+mod due;
+mod laws;
+mod meddle;
+mod region;
+mod regions;
+mod store;
+#[cfg(test)]
+mod test;
+
+pub use changes::{ChangesErr, parse_changes};
+pub use laws::changes_show;
+pub use meddle::{Act, Meddle, Spot};
+pub use store::MeddledStore;

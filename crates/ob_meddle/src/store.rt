@@ -1,0 +1,212 @@
+ghost use Rattle.std.specs.Prelude.{◌≡◌, ◌+◌, ◌++◌, ◌∷◌, ◌<◌, ◌≤◌, ℕ, [], None, true, false, length, if◌then◌else◌, is_err, not, ◌&&◌};
+ghost use Rattle.std.specs.Ordering.{nat_cmp};
+ghost use Rattle.std.specs.BTreeMap.{get};
+ghost use Rattle.std.specs.Option.{ForSome};
+ghost use Rattle.ob_store.specs.Logs.{asked_of};
+ghost use Rattle.ob_meddle.specs.Acts.{rests_of, stands_of, after_acts};
+ghost use Rattle.ob_meddle.specs.Regions.{shape_at, last_at};
+ghost use Rattle.ob_meddle.specs.Due.{fails_at, failed_among, has_acted, is_discard, is_source};
+ghost use Rattle.ob_meddle.specs.Caught.{lie_of};
+ghost use Rattle.ob_meddle.specs.Fresh.{IsFresh, IsHonest, IsEarly, fresh_live, honest_start};
+
+use crate::acts::do_acts;
+use crate::caught::Caught;
+use crate::due::{fails_at, is_source};
+use crate::meddle::Meddle;
+use crate::region::Region;
+use crate::regions::{add, read, retire, write};
+use ob_base::{Access, Failed, Items, NoMemory, StoreErr};
+use ob_store::{BlockStore, Log};
+use std::alloc::Global;
+use std::collections::BTreeMap;
+
+/// A store in memory that others change, as a list says. It tells what was written, and the first read
+/// that gave something else.
+#[derive(Drop)]
+pub struct MeddledStore {
+    alloc: Global,
+    list: Items<Meddle>,
+    log: Log,
+    regions: BTreeMap<u64, Region>,
+    faults: u64,
+    slips: u64,
+    caught: Option<Caught>,
+    ghost fresh: { IsFresh (asked_of log) regions },
+    ghost counted: { faults + slips ≡ failed_among list (length (asked_of log)) },
+    ghost honest: { IsHonest list (length (asked_of log)) regions },
+    ghost early: { IsEarly caught (asked_of log) },
+    ghost caused: { ForSome caught (λ c. has_acted list (length (asked_of log)) ≡ true) },
+}
+
+impl MeddledStore {
+    ghost use Rattle.ob_meddle.specs.Shows.{list_of};
+
+    /// A store of which nothing was asked, in which others make these changes. It takes its memory of
+    /// `alloc`.
+    pub fn new(alloc: Global, list: Vec<Meddle>) -> MeddledStore
+        ensures list { list_of result ≡ list.items }
+        ensures asked { (⟦<MeddledStore as BlockStore>⟧.state result).asked ≡ [] }
+    {
+        MeddledStore {
+            alloc,
+            list: Items::from_vec(list),
+            log: Log::new(alloc),
+            regions: BTreeMap::new(alloc),
+            faults: 0,
+            slips: 0,
+            caught: None,
+        }
+    }
+
+    // Lists an access and does what others do before it. It is counted where it is to fail.
+    fn begin(&mut self, access: Access) -> Result<(), Failed>
+        requires { 1 ≤ self.old.log.spare }
+        ensures asked { asked_of self.new.log ≡ asked_of self.old.log ++ access ∷ [] }
+        ensures spare { self.old.log.spare ≤ self.new.log.spare + 1 }
+        ensures list { self.new.list ≡ self.old.list }
+        ensures caught { self.new.caught ≡ self.old.caught }
+        ensures rests { (q : ℕ) → rests_of self.new.regions q ≡ rests_of self.old.regions q }
+        ensures stands { stands_of self.new.regions ≡ after_acts (rests_of self.old.regions) self.old.list (length (asked_of self.old.log) + 1) (stands_of self.old.regions) }
+        ensures fails { is_err result ≡ fails_at self.old.list (length (asked_of self.old.log) + 1) }
+        ensures faults { self.new.faults ≡ self.old.faults + (if is_err result && not (is_discard access) then 1 else 0) }
+        ensures slips { self.new.slips ≡ self.old.slips + (if is_err result && is_discard access then 1 else 0) }
+    {
+        self.log.push(access);
+        let number = self.log.count();
+        do_acts(&mut self.regions, self.list.as_slice(), number);
+        if !fails_at(self.list.as_slice(), number) {
+            return Ok(());
+        }
+        if matches!(access, Access::Discard { .. }) {
+            self.slips += 1;
+        } else {
+            self.faults += 1;
+        }
+        Err(Failed)
+    }
+}
+
+impl BlockStore for MeddledStore {
+    ghost use Rattle.std.specs.Prelude.{◌≢◌, replicate, Err, is_err, OnOk, OnErr};
+    ghost use Rattle.ob_base.specs.Accesses.{highest};
+    ghost use Rattle.ob_store.specs.Calls.{IsLive, IsPlace, Asks, CountsFault, CountsSlip, CountsMakeFault, Keeps, Makes, ReadGives, OnlyAt, Holds, MayHold, OnlyRegion, Rests};
+    ghost use Rattle.ob_meddle.specs.Shows.{list_of, state_of, standing, standing_next, fails_next};
+
+    ghost state = { λ m. state_of m };
+
+    ghost starts_empty = { λ m q none. fresh_live (asked_of m.log) m.regions m.fresh none q };
+
+    ghost starts_honest = { λ m none. honest_start m.caught (asked_of m.log) m.early none };
+
+    fn room(&mut self, n: u64) -> Result<(), NoMemory>
+        ensures rests { Rests (state_of self.old) (state_of self.new) }
+        ensures spare { OnOk result (n ≤ (state_of self.new).spare) }
+        ensures list { list_of self.new ≡ list_of self.old }
+    {
+        self.log.room(n)
+    }
+
+    fn make(&mut self, region: u64, blocks: u32, len: u32) -> Result<(), StoreErr>
+        requires spare { 1 ≤ (state_of self.old).spare }
+        requires next { highest (state_of self.old).asked < region }
+        requires blocks { (1 ≤ blocks) × (blocks ≤ 134217728) }
+        requires len { (33 ≤ len) × (len ≤ 16416) }
+        ensures asks { Asks (Access.Make region blocks len) (state_of self.old) (state_of self.new) }
+        ensures cause { CountsMakeFault result (state_of self.old) (state_of self.new) }
+        ensures slips { (state_of self.new).slips ≡ (state_of self.old).slips }
+        ensures ok { OnOk result (Makes region blocks len (state_of self.old) (state_of self.new)) }
+        ensures err { OnErr result (Keeps (state_of self.old) (state_of self.new)) }
+        ensures lie { (state_of self.new).lie ≡ (state_of self.old).lie }
+        ensures list { list_of self.new ≡ list_of self.old }
+        ensures fails { fails_next self.old ≡ true → result ≡ Err StoreErr.Failed }
+        ensures does { fails_next self.old ≡ false → result ≢ Err StoreErr.Failed }
+        ensures zeros { OnOk result ((x : ℕ) → x < blocks → standing self.new region x ≡ replicate len 0) }
+        ensures others { OnOk result ((q x : ℕ) → q ≢ region → standing self.new q x ≡ standing_next self.old q x) }
+        ensures stays { OnErr result ((q x : ℕ) → standing self.new q x ≡ standing_next self.old q x) }
+    {
+        self.begin(Access::Make {
+            region,
+            blocks,
+            len,
+        })?;
+        match Region::new(self.alloc, blocks, len) {
+            Err(_) => Err(StoreErr::NoMemory),
+            Ok(made) => match add(&mut self.regions, region, made) {
+                Err(_) => Err(StoreErr::NoMemory),
+                Ok(()) => Ok(()),
+            },
+        }
+    }
+
+    fn read(&mut self, region: u64, place: u32, buf: &mut [u8]) -> Result<(), Failed>
+        requires spare { 1 ≤ (state_of self.old).spare }
+        requires place { IsPlace (state_of self.old) region place (length buf.old) }
+        ensures asks { Asks (Access.Read region place) (state_of self.old) (state_of self.new) }
+        ensures cause { CountsFault result (state_of self.old) (state_of self.new) }
+        ensures slips { (state_of self.new).slips ≡ (state_of self.old).slips }
+        ensures keeps { Keeps (state_of self.old) (state_of self.new) }
+        ensures ok { OnOk result (ReadGives region place buf.new (state_of self.old) (state_of self.new)) }
+        ensures err { OnErr result ((state_of self.new).lie ≡ (state_of self.old).lie) }
+        ensures list { list_of self.new ≡ list_of self.old }
+        ensures fails { is_err result ≡ fails_next self.old }
+        ensures gives { OnOk result (buf.new ≡ standing_next self.old region place) }
+        ensures stays { standing self.new ≡ standing_next self.old }
+    {
+        let count = self.log.count();
+        self.begin(Access::Read { region, place })?;
+        if read(&self.regions, region, place, buf) && self.caught.is_none() {
+            self.caught = Some(Caught::new(region, place, count, buf));
+        }
+        Ok(())
+    }
+
+    fn write(&mut self, region: u64, place: u32, block: &[u8]) -> Result<(), Failed>
+        requires spare { 1 ≤ (state_of self.old).spare }
+        requires place { IsPlace (state_of self.old) region place (length block.now) }
+        ensures asks { Asks (Access.Write region place) (state_of self.old) (state_of self.new) }
+        ensures cause { CountsFault result (state_of self.old) (state_of self.new) }
+        ensures slips { (state_of self.new).slips ≡ (state_of self.old).slips }
+        ensures only { OnlyAt region place (state_of self.old) (state_of self.new) }
+        ensures ok { OnOk result (Holds region place block.now (state_of self.old) (state_of self.new)) }
+        ensures err { OnErr result (Keeps (state_of self.old) (state_of self.new)) }
+        ensures lie { (state_of self.new).lie ≡ (state_of self.old).lie }
+        ensures list { list_of self.new ≡ list_of self.old }
+        ensures fails { is_err result ≡ fails_next self.old }
+        ensures here { OnOk result (standing self.new region place ≡ block.now) }
+        ensures others { (q x : ℕ) → (q ≡ region → x ≡ place → ⊥) → standing self.new q x ≡ standing_next self.old q x }
+        ensures stays { OnErr result (standing self.new region place ≡ standing_next self.old region place) }
+    {
+        self.begin(Access::Write { region, place })?;
+        write(&mut self.regions, region, place, block);
+        Ok(())
+    }
+
+    fn discard(&mut self, region: u64) -> Result<(), Failed>
+        requires spare { 1 ≤ (state_of self.old).spare }
+        requires live { IsLive (state_of self.old) region }
+        ensures asks { Asks (Access.Discard region) (state_of self.old) (state_of self.new) }
+        ensures cause { CountsSlip result (state_of self.old) (state_of self.new) }
+        ensures faults { (state_of self.new).faults ≡ (state_of self.old).faults }
+        ensures others { OnlyRegion region (state_of self.old) (state_of self.new) }
+        ensures ok { OnOk result ((state_of self.new).live region ≡ None) }
+        ensures err { OnErr result (Keeps (state_of self.old) (state_of self.new)) }
+        ensures lie { (state_of self.new).lie ≡ (state_of self.old).lie }
+        ensures list { list_of self.new ≡ list_of self.old }
+        ensures fails { is_err result ≡ fails_next self.old }
+        ensures kept { is_source (list_of self.old) region ≡ true → standing self.new ≡ standing_next self.old }
+        ensures elsewhere { (q x : ℕ) → q ≢ region → standing self.new q x ≡ standing_next self.old q x }
+    {
+        self.begin(Access::Discard { region })?;
+        let kept = is_source(self.list.as_slice(), region);
+        retire(&mut self.regions, region, kept);
+        Ok(())
+    }
+
+    fn count(&self) -> u64 {
+        self.log.count()
+    }
+
+    fn nth(&self, i: u64) -> Access {
+        self.log.nth(i)
+    }
+}
