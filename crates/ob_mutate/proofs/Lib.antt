@@ -1,2 +1,3 @@
 pub mod Keys
 pub mod Finding
+pub mod Counted

@@ -2,10 +2,13 @@
 //! which is the table's then.
 #![tactic(auto)]
 
+mod deleting;
 mod inserting;
+mod rewriting;
 mod searching;
 mod settling;
 
+pub use deleting::delete;
 pub use inserting::{Inserted, insert};
 
 #[cfg(test)]
