@@ -1,7 +1,6 @@
 -- What UPDATE and DELETE make of each slot.
 use Rattle.std.specs.Prelude.{ℕ, zero, suc, List, [], ◌∷◌, Option, Some, None, ⊤, IsSomeAnd, slice_get, slice_set, if◌then◌else◌, Bool, true, false}
 use Rattle.std.specs.Option.{option_map}
-use Rattle.ob_base.specs.declared.schema.Column.{Column}
 use Rattle.ob_base.specs.Schemas.{Columns}
 use Rattle.ob_row.specs.declared.cell.Cell.{Cell}
 use Rattle.ob_row.specs.Condition.{Condition}

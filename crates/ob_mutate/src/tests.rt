@@ -188,13 +188,14 @@ fn session_in_memory(
     let mut store = MemStore::new(alloc);
     let vault: Vault<BaseRevs> = Vault::new(alloc, Keys::derive(&[0; 32]));
     let room = Room::new(alloc, 64, 1024, pack).expect(rt, "rows");
-    session(rt, &mut store, vault, room, steps, pred, counted, from, wanted);
+    session(
+        rt, &mut store, vault, room, steps, pred, counted, from, wanted,
+    );
 }
 
 fn equals(place: u8, x: i64) -> Pred {
     Pred::compare(place, Order::Equal, Operand::Cell(Cell::Int(x)))
 }
-
 
 // A table is made, a row inserted and counted; each entry as (letter, region, place or blocks, length).
 #[test]
@@ -245,7 +246,10 @@ fn refuses_a_key(rt: HostRuntime) {
         &rt,
         rt.alloc(),
         1,
-        &[Step::Insert(1, 10, Inserted::Done), Step::Insert(1, 99, Inserted::Duplicate)],
+        &[
+            Step::Insert(1, 10, Inserted::Done),
+            Step::Insert(1, 99, Inserted::Duplicate),
+        ],
         &equals(1, 10),
         Counted {
             k: 1,

@@ -1,6 +1,6 @@
-use Rattle.std.proofs.Common.{◌≡◌, Option, Some, length, take, sym, ◌∙◌, ap, subst, arith}
+use Rattle.std.proofs.Common.{◌≡◌, Some, length, take, sym, ◌∙◌, ap, subst, arith}
 use Rattle.ob_base.specs.Schemas.{Columns}
-use Rattle.ob_row.specs.Rows.{Row, with_cells}
+use Rattle.ob_row.specs.Rows.{with_cells}
 use Rattle.ob_row.specs.Spelling.{Fits, Begins}
 use Rattle.ob_row.proofs.SpellingLemmas.{row_bytes-begin, slots-same}
 use Rattle.ob_mutate.specs.Changing.{sets_fit}

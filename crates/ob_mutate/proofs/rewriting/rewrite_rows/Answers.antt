@@ -1,4 +1,4 @@
-use Rattle.std.proofs.Common.{◌≡◌, ◌*◌, ◌+◌, ◌++◌, inl, inr, length, sym, ◌∙◌, refl, arith}
+use Rattle.std.proofs.Common.{◌*◌, ◌++◌, inl, inr, length, sym, ◌∙◌, refl, arith}
 use Rattle.std.proofs.lemmas.Result.{err_from_is_err_and}
 use Rattle.ob_base.specs.Accesses.{make_at, discard_at}
 use Rattle.ob_base.specs.Numbers.{blocks_for}

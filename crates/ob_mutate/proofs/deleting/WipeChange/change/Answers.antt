@@ -1,5 +1,4 @@
-use Rattle.std.proofs.Common.{◌≡◌, Bool, Option, None, if◌then◌else◌, length, sym, ◌∙◌, ap, subst}
-use Rattle.ob_row.specs.Rows.{Row}
+use Rattle.std.proofs.Common.{◌≡◌, Bool, None, if◌then◌else◌, length, sym, ◌∙◌, subst}
 use Rattle.ob_row.specs.Slots.{is_selected}
 use Rattle.ob_row.specs.Spelling.{Begins}
 use Rattle.ob_row.specs.Truth.{is_true}
