@@ -1,4 +1,11 @@
 //! Emission: the rows of a table, read block by block, in order of their slots.
 #![tactic(auto)]
 
+mod emission;
+mod emitting;
+mod head;
 mod row;
+mod slots;
+
+pub use emission::emit_all;
+pub use head::emit_head;
