@@ -1,5 +1,5 @@
 -- Passes that halt where the emitter did.
-use Rattle.std.proofs.Common.{◌≡◌, ◌⊎◌, ◌<◌, inl, inr, ◌++◌, [], List, Option, Some, None, ℕ, Result, Ok, Err, refl, sym, ◌∙◌, ap, subst}
+use Rattle.std.proofs.Common.{◌≡◌, ◌⊎◌, ◌<◌, inl, inr, ◌++◌, [], List, Option, Some, None, ℕ, Result, Ok, Err, MatchResult, IfErr, refl, sym, ◌∙◌, ap, subst}
 use Rattle.std.proofs.lemmas.List.{append-nil}
 use Rattle.ob_base.specs.declared.access.Access.{Access}
 use Rattle.ob_base.specs.declared.emit.EmitErr.TheVariants as EmitErrs
@@ -61,3 +61,8 @@ pub halt_told : (halt : Halt) (q p : ℕ) → (halt ≡ Halts.Malformed → ⊥)
 halt_told Halts.Malformed q p well = absurd (well refl)
 halt_told (Halts.Emit EmitErrs.Failed) q p well = inr (inl refl)
 halt_told (Halts.Emit EmitErrs.NoMemory) q p well = inr (inr refl)
+
+-- what is known of an error
+pub if_err : {T E : Type 0} (P : T → Type 0) (F : E → Type 0) (r : Result T E) → MatchResult r P F → IfErr r F
+if_err P F (Ok x) is = tt
+if_err P F (Err e) is = is

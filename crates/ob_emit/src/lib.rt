@@ -6,6 +6,11 @@ mod emitting;
 mod head;
 mod row;
 mod slots;
+mod walking;
 
 pub use emission::emit_all;
 pub use head::emit_head;
+pub use walking::walk;
+
+#[cfg(test)]
+mod tests;
