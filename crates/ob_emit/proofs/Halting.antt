@@ -1,11 +1,10 @@
 -- Passes that halt where the emitter did.
-use Rattle.std.proofs.Common.{◌≡◌, ◌⊎◌, ◌<◌, inl, inr, ◌++◌, [], List, Option, Some, None, ℕ, Result, Ok, Err, MatchResult, IfErr, refl, sym, ◌∙◌, ap, subst}
+use Rattle.std.proofs.Common.{◌≡◌, ◌⊎◌, ◌<◌, inl, inr, [], List, Option, Some, None, ℕ, Result, Ok, Err, MatchResult, IfErr, refl, sym, ◌∙◌, subst}
 use Rattle.std.proofs.lemmas.List.{append-nil}
 use Rattle.ob_base.specs.declared.access.Access.{Access}
 use Rattle.ob_base.specs.declared.emit.EmitErr.TheVariants as EmitErrs
 use Rattle.ob_base.specs.Counts.{Rises}
 use Rattle.ob_store.specs.State.{Lie}
-use Rattle.ob_store.specs.Runs.{Later}
 use Rattle.ob_seal.specs.KeyPair.{KeyPair}
 use Rattle.ob_vault.specs.State.{World}
 use Rattle.ob_vault.specs.Tied.{Calm, Fits}

@@ -1,5 +1,5 @@
 -- What is emitted of a table.
-use Rattle.std.specs.Prelude.{◌≡◌, ◌⊎◌, ◌≤◌, ℕ, ◌+◌, Bool, true, false, not, List, [], ◌∷◌, ◌++◌, map, length, nat_lt, bytes_eq, codes, Option, Some, None, slice_get, if◌then◌else◌, Result, Ok, Err}
+use Rattle.std.specs.Prelude.{◌≡◌, ◌⊎◌, ◌≤◌, ℕ, ◌+◌, Bool, false, not, List, [], ◌∷◌, ◌++◌, map, length, nat_lt, bytes_eq, codes, Option, Some, None, slice_get, if◌then◌else◌, Result, Ok, Err}
 use Rattle.std.specs.List.{list_any}
 use Rattle.std.specs.Option.{option_map_or}
 use Rattle.ob_base.specs.declared.schema.Column.{Column}

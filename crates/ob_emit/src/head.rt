@@ -14,9 +14,7 @@ fn has_other(table: &[u8], columns: &[Column]) -> bool
 {
     match columns.split_first() {
         None => false,
-        Some((column, columns)) => {
-            column.table.as_bytes() != table || has_other(table, columns)
-        }
+        Some((column, columns)) => { column.table.as_bytes() != table || has_other(table, columns) }
     }
 }
 

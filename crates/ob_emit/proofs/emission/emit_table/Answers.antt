@@ -1,6 +1,5 @@
 use Rattle.std.proofs.Common.{ℕ, inr, [], ◌++◌, List, refl, ◌∙◌, ap}
 use Rattle.std.proofs.lemmas.List.{append-nil}
-use Rattle.ob_base.specs.declared.shown.Shown.{Shown}
 use Rattle.ob_base.specs.Events.{Event}
 use Rattle.ob_emit.specs.Emitting.{header, row_events, table_shown}
 use Rattle.ob_emit.proofs.Events.{emitted_head, halted_join}

@@ -1,4 +1,4 @@
-use Rattle.std.proofs.Common.{refl, ◌≡◌, ◌+◌, ◌*◌, ◌<◌, ◌≤◌, ℕ, inl, inr, [], ◌++◌, List, None, length, take, map, sym, ◌∙◌, ap, subst, arith}
+use Rattle.std.proofs.Common.{refl, ◌≡◌, ◌+◌, ◌*◌, ◌<◌, ◌≤◌, ℕ, inl, inr, [], ◌++◌, List, length, take, ◌∙◌, ap, arith}
 use Rattle.std.proofs.lemmas.List.{take_all}
 use Rattle.std.proofs.lemmas.Result.{err_from_is_err_and}
 use Rattle.ob_base.specs.declared.shown.Shown.{Shown}
@@ -148,10 +148,13 @@ returns-in-Err-clause-halted g c =
     let bytes = c.in_ok-get.ensures.told _ shape (lives_went _ _ _ _ _ _ went (λ s. s) c.requires.flat.made.lives) (block_long pack flat slots _ is c.requires.pack.0 u below) (now.holds u below) nolie in
     let spelt = got pack flat slots _ is c.requires.pack.0 u (length c.loop-u.rows) c.get.new.rows below c.loop-u.invariant.same.count same.count wide bytes in
     let before = length-before pack whole u (blocks_for pack flat.capacity) (omega (arith, below)) (whole_size pack flat slots _ is c.requires.pack.0) in
-    let rest = shown-rest flat.capacity cols 0 ((u + 1) * pack) whole in
-    ((slots, is, gone), (block, spelt), row_events rest.0,
-    events_more (slots_shown flat.capacity cols 0 (take (u * pack) whole)) (slots_shown flat.capacity cols (u * pack) block) rest.0 (table_shown cols slots)
-    (ap (λ (l : List (List Shown)). l ++ rest.0) (shown-block flat.capacity cols pack u whole before) ∙ rest.1 ∙ shown-table flat.capacity cols (blocks_for pack flat.capacity * pack) slots is.size)))
+    let rest = shown-rest flat.capacity cols 0 ((u + 1) * pack) whole in (
+      (slots, is, gone),
+      (block, spelt),
+      row_events rest.0,
+      events_more (slots_shown flat.capacity cols 0 (take (u * pack) whole)) (slots_shown flat.capacity cols (u * pack) block) rest.0 (table_shown cols slots)
+          (ap (λ (l : List (List Shown)). l ++ rest.0) (shown-block flat.capacity cols pack u whole before) ∙ rest.1 ∙ shown-table flat.capacity cols (blocks_for pack flat.capacity * pack) slots is.size),
+    ))
 
 pub returns-in-Err-clause-told : goal.returns-in-Err-clause-told
 returns-in-Err-clause-told g c = λ slots is nolie.

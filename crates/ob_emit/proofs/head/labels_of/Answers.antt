@@ -1,6 +1,5 @@
-use Rattle.std.proofs.Common.{◌≡◌, ◌<◌, ◌+◌, ℕ, List, suc, Some, length, take, slice_set, slice_get, slice_index_or, rules, ◌∙◌, sym, ap, subst, arith}
+use Rattle.std.proofs.Common.{◌≡◌, ◌<◌, ◌+◌, ℕ, List, suc, Some, length, take, slice_set, slice_index_or, rules, ◌∙◌, sym, ap, subst, arith}
 use Rattle.std.proofs.lemmas.List.{take_all, length-set}
-use Rattle.ob_base.specs.Schemas.{Columns}
 use Rattle.ob_emit.specs.Emitting
 use Rattle.ob_emit.proofs.Printed.{take_put, label_is, labels_size}
 use Rattle.ob_emit.proofs.head.labels_of.Goals as goal

@@ -1,7 +1,7 @@
-use Rattle.std.proofs.Common.{◌≡◌, ◌<◌, ◌+◌, suc, Some, length, take, slice_set, slice_get, ◌∙◌, sym, ap, subst, arith}
+use Rattle.std.proofs.Common.{◌≡◌, ◌<◌, ◌+◌, suc, Some, length, take, slice_set, ◌∙◌, sym, ap, subst, arith}
 use Rattle.std.proofs.lemmas.List.{take_all, length-set}
 use Rattle.ob_base.specs.declared.shown.Shown.{Shown}
-use Rattle.ob_row.specs.Totals.{shown, printed}
+use Rattle.ob_row.specs.Totals.{printed}
 use Rattle.ob_emit.proofs.Printed.{take_put, printed_at, printed_size}
 use Rattle.ob_emit.proofs.row.shown_cells.Goals as goal
 

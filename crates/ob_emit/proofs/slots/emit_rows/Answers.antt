@@ -1,4 +1,4 @@
-use Rattle.std.proofs.Common.{◌≡◌, ◌<◌, ◌+◌, [], ◌∷◌, ◌++◌, List, None, length, take, slice_index_or, if◌then◌else◌, sym, ◌∙◌, ap, subst, arith}
+use Rattle.std.proofs.Common.{◌<◌, ◌+◌, [], ◌++◌, List, None, length, take, slice_index_or, if◌then◌else◌, ◌∙◌, ap, subst, arith}
 use Rattle.std.proofs.lemmas.List.{take_all}
 use Rattle.ob_base.specs.declared.shown.Shown.{Shown}
 use Rattle.ob_row.specs.Spelling.{Begins}
@@ -21,9 +21,13 @@ returns-in-Err-clause-err g c =
     let slot = slice_index_or slots z None in
     let row = same_at c.args.rows.now z c.index-rows-z.result c.loop-z-test.true c.index-rows-z.is in
     let here = subst (Begins c.args.flat.now.schema slot) row (s.1.each z c.loop-z-test.true) in
-    let rest = shown-rest n cols first (z + 1) slots in
-    (s, (slot, here), row_events rest.0, events_more (slots_shown n cols first (take z slots)) (slot_shown n cols (first + z) slot) rest.0 (slots_shown n cols first slots)
-    (ap (λ (l : List (List Shown)). l ++ rest.0) (shown-more n cols first z slots inside) ∙ rest.1)))
+    let rest = shown-rest n cols first (z + 1) slots in (
+      s,
+      (slot, here),
+      row_events rest.0,
+      events_more (slots_shown n cols first (take z slots)) (slot_shown n cols (first + z) slot) rest.0 (slots_shown n cols first slots)
+          (ap (λ (l : List (List Shown)). l ++ rest.0) (shown-more n cols first z slots inside) ∙ rest.1),
+    ))
 
 pub loop-z-preserved : goal.loop-z-preserved
 loop-z-preserved g c =
