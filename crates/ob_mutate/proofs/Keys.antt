@@ -23,7 +23,8 @@ is_key c = c.key
 pub key_position : (columns : Columns) → position (λ (c : Column). c.key) columns ≡ key_place columns
 key_position columns = position_from-zero is_key columns ∙ sym (first_from is_key 0 columns)
 
-fits_length : (columns : Columns) (row : Row) → Fits columns row → length row ≡ length columns
+-- a row has a cell for each column
+pub fits_length : (columns : Columns) (row : Row) → Fits columns row → length row ≡ length columns
 fits_length [] [] fits = refl
 fits_length [] (x ∷ row) fits = absurd fits
 fits_length (c ∷ columns) [] fits = absurd fits

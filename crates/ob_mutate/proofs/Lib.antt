@@ -1,2 +1,4 @@
 pub mod Keys
 pub mod Finding
+pub mod Counted
+pub mod Assigned

@@ -2,11 +2,17 @@
 //! which is the table's then.
 #![tactic(auto)]
 
+mod assigning;
+mod deleting;
 mod inserting;
+mod rewriting;
 mod searching;
 mod settling;
+mod updating;
 
+pub use deleting::delete;
 pub use inserting::{Inserted, insert};
+pub use updating::update;
 
 #[cfg(test)]
 mod tests;

@@ -8,6 +8,7 @@ ghost use Rattle.ob_row.specs.declared.cell.Cell.TheVariants.{Int as IntCell};
 ghost use Rattle.ob_row.specs.Spelling.{Fits as FitColumns};
 ghost use Rattle.ob_blocks.specs.Idle.{IsIdle};
 ghost use Rattle.ob_flat.specs.Flats.{IsSized, IsFlat};
+ghost use Rattle.ob_mutate.specs.Changing.{FitsSets};
 
 use super::*;
 use ob_base::{Access, Column, Kind, Name, Schema};
@@ -37,6 +38,7 @@ fn two_ints() -> Schema
     ensures size { IsSized result 4 }
     ensures width { width result ≡ 17 }
     ensures ints { (x y : ℤ) → FitsSigned w64 x → FitsSigned w64 y → FitColumns result (IntCell x ∷ IntCell y ∷ []) }
+    ensures sets { (y : ℤ) → FitsSigned w64 y → FitsSets result ((1, IntCell y) ∷ []) }
 {
     let mut schema = Schema::new();
     schema.push(ints(b"id", true));
@@ -69,20 +71,28 @@ fn check<S: BlockStore>(rt: &impl Abort, store: &S, from: u64, wanted: &[(u8, u6
     assert_eq!(rt; at, store.count());
 }
 
-fn insert_row<S: BlockStore, R: Revisions>(
+// A change of the table, and what it answers.
+#[derive(Drop)]
+enum Step<'a> {
+    Insert(i64, i64, Inserted),
+    Update(&'a Pred, i64, u64),
+    Delete(&'a Pred, u64),
+}
+
+fn take_step<S: BlockStore, R: Revisions>(
     rt: &impl Abort,
     store: &mut S,
     vault: &mut Vault<R>,
     room: &mut Room,
     flat: &mut Flat,
-    id: i64,
-    v: i64,
-) -> Inserted
+    step: &Step<'_>,
+)
     requires ready { Ready (at R.state vault.old (S.state store.old)) }
     requires flat { IsFlat room.old.pack flat.old (at R.state vault.old (S.state store.old)) }
     requires size { IsSized flat.old.schema flat.old.capacity }
     requires room { IsIdle (width flat.old.schema) room.old }
     requires ints { (x y : ℤ) → FitsSigned w64 x → FitsSigned w64 y → FitColumns flat.old.schema (IntCell x ∷ IntCell y ∷ []) }
+    requires sets { (y : ℤ) → FitsSigned w64 y → FitsSets flat.old.schema ((1, IntCell y) ∷ []) }
     ensures ready { Ready (at R.state vault.new (S.state store.new)) }
     ensures flat { IsFlat room.old.pack flat.new (at R.state vault.new (S.state store.new)) }
     ensures schema { flat.new.schema ≡ flat.old.schema }
@@ -91,43 +101,58 @@ fn insert_row<S: BlockStore, R: Revisions>(
 {
     store.room(100_000_000).expect(rt, "room");
     assert!(rt; store.count() < 1_000_000);
-    let cells = [Cell::Int(id), Cell::Int(v)];
-    insert(store, vault, room, flat, &cells).expect(rt, "insert")
+    match step {
+        Step::Insert(id, v, answer) => {
+            let cells = [Cell::Int(*id), Cell::Int(*v)];
+            let found = insert(store, vault, room, flat, &cells).expect(rt, "insert");
+            assert_eq!(rt; found, *answer, "at {id}");
+        }
+        Step::Update(pred, v, rows) => {
+            let sets = [(1, Cell::Int(*v))];
+            let found = update(store, vault, room, flat, pred, &sets).expect(rt, "update");
+            assert_eq!(rt; found, *rows);
+        }
+        Step::Delete(pred, rows) => {
+            let found = delete(store, vault, room, flat, pred).expect(rt, "delete");
+            assert_eq!(rt; found, *rows);
+        }
+    }
 }
 
-fn insert_rows<S: BlockStore, R: Revisions>(
+fn take_steps<S: BlockStore, R: Revisions>(
     rt: &impl Abort,
     store: &mut S,
     vault: &mut Vault<R>,
     room: &mut Room,
     flat: &mut Flat,
-    inserts: &[(i64, i64, Inserted)],
+    steps: &[Step<'_>],
 )
     requires ready { Ready (at R.state vault.old (S.state store.old)) }
     requires flat { IsFlat room.old.pack flat.old (at R.state vault.old (S.state store.old)) }
     requires size { IsSized flat.old.schema flat.old.capacity }
     requires room { IsIdle (width flat.old.schema) room.old }
     requires ints { (x y : ℤ) → FitsSigned w64 x → FitsSigned w64 y → FitColumns flat.old.schema (IntCell x ∷ IntCell y ∷ []) }
+    requires sets { (y : ℤ) → FitsSigned w64 y → FitsSets flat.old.schema ((1, IntCell y) ∷ []) }
     ensures ready { Ready (at R.state vault.new (S.state store.new)) }
     ensures flat { IsFlat room.old.pack flat.new (at R.state vault.new (S.state store.new)) }
     ensures schema { flat.new.schema ≡ flat.old.schema }
     ensures capacity { flat.new.capacity ≡ flat.old.capacity }
     ensures room { room.new ≡ record room.old { high = room.new.high } }
 {
-    for (id, v, answer) in inserts {
-        let found = insert_row(rt, store, vault, room, flat, *id, *v);
-        assert_eq!(rt; found, *answer, "at {id}");
+    for step in steps {
+        take_step(rt, store, vault, room, flat, step);
     }
 }
 
-// A table of four slots in blocks of so many rows: what each INSERT answers, what is counted of the
-// rows with 10 then, and the accesses from the one of an index on.
+// A table of four slots in blocks of so many rows, and its changes: what is counted of the rows that
+// make a condition true then, and the accesses from the one of an index on.
 fn session<S: BlockStore, R: Revisions>(
     rt: &impl Abort,
     store: &mut S,
     mut vault: Vault<R>,
     mut room: Room,
-    inserts: &[(i64, i64, Inserted)],
+    steps: &[Step<'_>],
+    pred: &Pred,
     counted: Counted,
     from: u64,
     wanted: &[(u8, u64, u32, u32)],
@@ -139,10 +164,9 @@ fn session<S: BlockStore, R: Revisions>(
     store.room(100_000_000).expect(rt, "room");
     assert!(rt; store.count() < 1);
     let mut flat = create(store, &mut vault, &mut room, &schema, 4).expect(rt, "create");
-    insert_rows(rt, store, &mut vault, &mut room, &mut flat, inserts);
+    take_steps(rt, store, &mut vault, &mut room, &mut flat, steps);
     store.room(100_000_000).expect(rt, "room");
-    let pred = Pred::compare(1, Order::Equal, Operand::Cell(Cell::Int(10)));
-    let found = count(store, &mut vault, &mut room, &flat, &pred).expect(rt, "count");
+    let found = count(store, &mut vault, &mut room, &flat, pred).expect(rt, "count");
     assert_eq!(rt; found, counted);
     check(rt, store, from, wanted);
     store.room(1).expect(rt, "room");
@@ -153,7 +177,8 @@ fn session_in_memory(
     rt: &impl Abort,
     alloc: Global,
     pack: u32,
-    inserts: &[(i64, i64, Inserted)],
+    steps: &[Step<'_>],
+    pred: &Pred,
     counted: Counted,
     from: u64,
     wanted: &[(u8, u64, u32, u32)],
@@ -163,15 +188,14 @@ fn session_in_memory(
     let mut store = MemStore::new(alloc);
     let vault: Vault<BaseRevs> = Vault::new(alloc, Keys::derive(&[0; 32]));
     let room = Room::new(alloc, 64, 1024, pack).expect(rt, "rows");
-    session(rt, &mut store, vault, room, inserts, counted, from, wanted);
+    session(
+        rt, &mut store, vault, room, steps, pred, counted, from, wanted,
+    );
 }
 
-const B: [(i64, i64, Inserted); 4] = [
-    (1, 10, Inserted::Done),
-    (2, 20, Inserted::Done),
-    (3, 10, Inserted::Done),
-    (4, 20, Inserted::Done),
-];
+fn equals(place: u8, x: i64) -> Pred {
+    Pred::compare(place, Order::Equal, Operand::Cell(Cell::Int(x)))
+}
 
 // A table is made, a row inserted and counted; each entry as (letter, region, place or blocks, length).
 #[test]
@@ -180,7 +204,8 @@ fn inserts_a_row(rt: HostRuntime) {
         &rt,
         rt.alloc(),
         1,
-        &[(1, 10, Inserted::Done)],
+        &[Step::Insert(1, 10, Inserted::Done)],
+        &equals(1, 10),
         Counted {
             k: 1,
             consecutive: true,
@@ -221,7 +246,11 @@ fn refuses_a_key(rt: HostRuntime) {
         &rt,
         rt.alloc(),
         1,
-        &[(1, 10, Inserted::Done), (1, 99, Inserted::Duplicate)],
+        &[
+            Step::Insert(1, 10, Inserted::Done),
+            Step::Insert(1, 99, Inserted::Duplicate),
+        ],
+        &equals(1, 10),
         Counted {
             k: 1,
             consecutive: true,
@@ -258,13 +287,14 @@ fn refuses_where_full(rt: HostRuntime) {
         rt.alloc(),
         1,
         &[
-            B[0],
-            B[1],
-            B[2],
-            B[3],
-            (5, 50, Inserted::Full),
-            (1, 50, Inserted::Duplicate),
+            Step::Insert(1, 10, Inserted::Done),
+            Step::Insert(2, 20, Inserted::Done),
+            Step::Insert(3, 10, Inserted::Done),
+            Step::Insert(4, 20, Inserted::Done),
+            Step::Insert(5, 50, Inserted::Full),
+            Step::Insert(1, 50, Inserted::Duplicate),
         ],
+        &equals(1, 10),
         Counted {
             k: 2,
             consecutive: false,
@@ -314,7 +344,8 @@ fn packs_two(rt: HostRuntime) {
         &rt,
         rt.alloc(),
         2,
-        &[(1, 10, Inserted::Done)],
+        &[Step::Insert(1, 10, Inserted::Done)],
+        &equals(1, 10),
         Counted {
             k: 1,
             consecutive: true,
@@ -346,13 +377,14 @@ fn packs_three(rt: HostRuntime) {
         rt.alloc(),
         3,
         &[
-            B[0],
-            B[1],
-            B[2],
-            B[3],
-            (5, 50, Inserted::Full),
-            (4, 50, Inserted::Duplicate),
+            Step::Insert(1, 10, Inserted::Done),
+            Step::Insert(2, 20, Inserted::Done),
+            Step::Insert(3, 10, Inserted::Done),
+            Step::Insert(4, 20, Inserted::Done),
+            Step::Insert(5, 50, Inserted::Full),
+            Step::Insert(4, 50, Inserted::Duplicate),
         ],
+        &equals(1, 10),
         Counted {
             k: 2,
             consecutive: false,
@@ -369,6 +401,275 @@ fn packs_three(rt: HostRuntime) {
             (b'D', 6, 0, 0),
             (b'R', 7, 0, 0),
             (b'R', 7, 1, 0),
+        ],
+    );
+}
+
+// An UPDATE of one row.
+#[test]
+fn updates_a_row(rt: HostRuntime) {
+    let fourth = equals(0, 4);
+    session_in_memory(
+        &rt,
+        rt.alloc(),
+        1,
+        &[
+            Step::Insert(1, 10, Inserted::Done),
+            Step::Insert(2, 20, Inserted::Done),
+            Step::Insert(3, 10, Inserted::Done),
+            Step::Insert(4, 20, Inserted::Done),
+            Step::Update(&fourth, 30, 1),
+        ],
+        &equals(1, 30),
+        Counted {
+            k: 1,
+            consecutive: true,
+        },
+        61,
+        &[
+            (b'M', 6, 4, 49),
+            (b'R', 5, 0, 0),
+            (b'W', 6, 0, 0),
+            (b'R', 5, 1, 0),
+            (b'W', 6, 1, 0),
+            (b'R', 5, 2, 0),
+            (b'W', 6, 2, 0),
+            (b'R', 5, 3, 0),
+            (b'W', 6, 3, 0),
+            (b'D', 5, 0, 0),
+            (b'R', 6, 0, 0),
+            (b'R', 6, 1, 0),
+            (b'R', 6, 2, 0),
+            (b'R', 6, 3, 0),
+        ],
+    );
+}
+
+// An UPDATE by a condition that joins and negates others.
+#[test]
+fn updates_by_a_condition(rt: HostRuntime) {
+    let low = Pred::compare(0, Order::Less, Operand::Cell(Cell::Int(3)));
+    let either = Pred::or(rt.alloc(), low, equals(1, 20)).expect(&rt, "or");
+    let neither = Pred::not(rt.alloc(), either).expect(&rt, "not");
+    session_in_memory(
+        &rt,
+        rt.alloc(),
+        1,
+        &[
+            Step::Insert(1, 10, Inserted::Done),
+            Step::Insert(2, 20, Inserted::Done),
+            Step::Insert(3, 10, Inserted::Done),
+            Step::Insert(4, 20, Inserted::Done),
+            Step::Update(&neither, 5, 1),
+        ],
+        &equals(1, 5),
+        Counted {
+            k: 1,
+            consecutive: true,
+        },
+        61,
+        &[
+            (b'M', 6, 4, 49),
+            (b'R', 5, 0, 0),
+            (b'W', 6, 0, 0),
+            (b'R', 5, 1, 0),
+            (b'W', 6, 1, 0),
+            (b'R', 5, 2, 0),
+            (b'W', 6, 2, 0),
+            (b'R', 5, 3, 0),
+            (b'W', 6, 3, 0),
+            (b'D', 5, 0, 0),
+            (b'R', 6, 0, 0),
+            (b'R', 6, 1, 0),
+            (b'R', 6, 2, 0),
+            (b'R', 6, 3, 0),
+        ],
+    );
+}
+
+// An UPDATE counts the rows that had the same cells before, and no others.
+#[test]
+fn updates_to_the_same(rt: HostRuntime) {
+    let ten = equals(1, 10);
+    let none = equals(1, 99);
+    session_in_memory(
+        &rt,
+        rt.alloc(),
+        2,
+        &[
+            Step::Insert(1, 10, Inserted::Done),
+            Step::Insert(2, 20, Inserted::Done),
+            Step::Insert(3, 10, Inserted::Done),
+            Step::Insert(4, 20, Inserted::Done),
+            Step::Update(&ten, 10, 2),
+            Step::Update(&none, 10, 0),
+        ],
+        &equals(1, 10),
+        Counted {
+            k: 2,
+            consecutive: false,
+        },
+        35,
+        &[
+            (b'M', 6, 2, 66),
+            (b'R', 5, 0, 0),
+            (b'W', 6, 0, 0),
+            (b'R', 5, 1, 0),
+            (b'W', 6, 1, 0),
+            (b'D', 5, 0, 0),
+            (b'M', 7, 2, 66),
+            (b'R', 6, 0, 0),
+            (b'W', 7, 0, 0),
+            (b'R', 6, 1, 0),
+            (b'W', 7, 1, 0),
+            (b'D', 6, 0, 0),
+            (b'R', 7, 0, 0),
+            (b'R', 7, 1, 0),
+        ],
+    );
+}
+
+// A DELETE, after which an INSERT fills the first slot again.
+#[test]
+fn deletes_and_inserts(rt: HostRuntime) {
+    let ten = equals(1, 10);
+    let front = Pred::or(rt.alloc(), equals(1, 50), equals(0, 2)).expect(&rt, "or");
+    session_in_memory(
+        &rt,
+        rt.alloc(),
+        1,
+        &[
+            Step::Insert(1, 10, Inserted::Done),
+            Step::Insert(2, 20, Inserted::Done),
+            Step::Insert(3, 10, Inserted::Done),
+            Step::Insert(4, 20, Inserted::Done),
+            Step::Delete(&ten, 2),
+            Step::Insert(5, 50, Inserted::Done),
+        ],
+        &front,
+        Counted {
+            k: 2,
+            consecutive: true,
+        },
+        61,
+        &[
+            (b'M', 6, 4, 49),
+            (b'R', 5, 0, 0),
+            (b'W', 6, 0, 0),
+            (b'R', 5, 1, 0),
+            (b'W', 6, 1, 0),
+            (b'R', 5, 2, 0),
+            (b'W', 6, 2, 0),
+            (b'R', 5, 3, 0),
+            (b'W', 6, 3, 0),
+            (b'D', 5, 0, 0),
+            (b'M', 7, 4, 49),
+            (b'R', 6, 0, 0),
+            (b'R', 6, 1, 0),
+            (b'R', 6, 2, 0),
+            (b'R', 6, 3, 0),
+            (b'R', 6, 0, 0),
+            (b'W', 7, 0, 0),
+            (b'R', 6, 1, 0),
+            (b'W', 7, 1, 0),
+            (b'R', 6, 2, 0),
+            (b'W', 7, 2, 0),
+            (b'R', 6, 3, 0),
+            (b'W', 7, 3, 0),
+            (b'D', 6, 0, 0),
+            (b'R', 7, 0, 0),
+            (b'R', 7, 1, 0),
+            (b'R', 7, 2, 0),
+            (b'R', 7, 3, 0),
+        ],
+    );
+}
+
+// A DELETE of every second row.
+#[test]
+fn deletes_rows(rt: HostRuntime) {
+    let ten = equals(1, 10);
+    session_in_memory(
+        &rt,
+        rt.alloc(),
+        1,
+        &[
+            Step::Insert(1, 10, Inserted::Done),
+            Step::Insert(2, 20, Inserted::Done),
+            Step::Insert(3, 10, Inserted::Done),
+            Step::Insert(4, 20, Inserted::Done),
+            Step::Delete(&ten, 2),
+        ],
+        &Pred::all(),
+        Counted {
+            k: 2,
+            consecutive: false,
+        },
+        61,
+        &[
+            (b'M', 6, 4, 49),
+            (b'R', 5, 0, 0),
+            (b'W', 6, 0, 0),
+            (b'R', 5, 1, 0),
+            (b'W', 6, 1, 0),
+            (b'R', 5, 2, 0),
+            (b'W', 6, 2, 0),
+            (b'R', 5, 3, 0),
+            (b'W', 6, 3, 0),
+            (b'D', 5, 0, 0),
+            (b'R', 6, 0, 0),
+            (b'R', 6, 1, 0),
+            (b'R', 6, 2, 0),
+            (b'R', 6, 3, 0),
+        ],
+    );
+}
+
+// Three rows in a block, the second of which has two slots past the capacity, which stay empty.
+#[test]
+fn changes_in_packs_of_three(rt: HostRuntime) {
+    let all = Pred::all();
+    let twenty = equals(1, 20);
+    session_in_memory(
+        &rt,
+        rt.alloc(),
+        3,
+        &[
+            Step::Insert(1, 10, Inserted::Done),
+            Step::Insert(2, 20, Inserted::Done),
+            Step::Insert(3, 10, Inserted::Done),
+            Step::Insert(4, 20, Inserted::Done),
+            Step::Delete(&twenty, 2),
+            Step::Update(&all, 7, 2),
+            Step::Delete(&all, 2),
+        ],
+        &all,
+        Counted {
+            k: 0,
+            consecutive: true,
+        },
+        35,
+        &[
+            (b'M', 6, 2, 83),
+            (b'R', 5, 0, 0),
+            (b'W', 6, 0, 0),
+            (b'R', 5, 1, 0),
+            (b'W', 6, 1, 0),
+            (b'D', 5, 0, 0),
+            (b'M', 7, 2, 83),
+            (b'R', 6, 0, 0),
+            (b'W', 7, 0, 0),
+            (b'R', 6, 1, 0),
+            (b'W', 7, 1, 0),
+            (b'D', 6, 0, 0),
+            (b'M', 8, 2, 83),
+            (b'R', 7, 0, 0),
+            (b'W', 8, 0, 0),
+            (b'R', 7, 1, 0),
+            (b'W', 8, 1, 0),
+            (b'D', 7, 0, 0),
+            (b'R', 8, 0, 0),
+            (b'R', 8, 1, 0),
         ],
     );
 }

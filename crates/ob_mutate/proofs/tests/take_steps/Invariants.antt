@@ -2,10 +2,10 @@ use Rattle.std.proofs.Common.{◌≡◌}
 use Rattle.ob_vault.specs.Tied.{Ready}
 use Rattle.ob_vault.specs.Places.{at}
 use Rattle.ob_flat.specs.Flats.{IsFlat}
-use Rattle.ob_mutate.proofs.tests.insert_rows.Given as goal
+use Rattle.ob_mutate.proofs.tests.take_steps.Given as goal
 
-abbrev pub invariant-loop-id : goal.invariant-loop-id
-invariant-loop-id g l =
+abbrev pub invariant-loop-step : goal.invariant-loop-step
+invariant-loop-step g l =
     let now = at g.R.Revisions.state l.vault (g.S.BlockStore.state l.store) in
     record {
       ready : Ready now;

@@ -1,0 +1,67 @@
+-- Passes that halt where the emitter did.
+use Rattle.std.proofs.Common.{◌≡◌, ◌⊎◌, ◌<◌, inl, inr, [], List, Option, Some, None, ℕ, Result, Ok, Err, MatchResult, IfErr, refl, sym, ◌∙◌, subst}
+use Rattle.std.proofs.lemmas.List.{append-nil}
+use Rattle.ob_base.specs.declared.access.Access.{Access}
+use Rattle.ob_base.specs.declared.emit.EmitErr.TheVariants as EmitErrs
+use Rattle.ob_base.specs.Counts.{Rises}
+use Rattle.ob_store.specs.State.{Lie}
+use Rattle.ob_seal.specs.KeyPair.{KeyPair}
+use Rattle.ob_vault.specs.State.{World}
+use Rattle.ob_vault.specs.Tied.{Calm, Fits}
+use Rattle.ob_vault.specs.Calls.{Went, Lasts}
+use Rattle.ob_vault.specs.declared.fault.VaultErr.{VaultErr}
+use Rattle.ob_vault.specs.declared.fault.VaultErr.TheVariants as VaultErrs
+use Rattle.ob_flat.specs.declared.fault.OpErr.TheVariants.{Failed, Tampered, Sink, NoMemory}
+use Rattle.ob_flat.specs.Passes.{PassCut, pass_error}
+use Rattle.ob_flat.proofs.Runs.{pass_malformed}
+use Rattle.ob_emit.specs.declared.slots.Halt.{Halt}
+use Rattle.ob_emit.specs.declared.slots.Halt.TheVariants as Halts
+use Rattle.ob_emit.specs.Emitting.{HaltCause, SinkCause, halt_error}
+use Rattle.ob_emit.specs.Honest.{NoForgery}
+
+-- a block was read, and then it halted
+pub pass_halted : (some : ℕ → Type 0) (a b : World) (q p : ℕ) (x : List Access) (halt : Halt) → Went x some a b → PassCut (halt_error halt q p) x some a b
+pass_halted some a b q p x Halts.Malformed went = pass_malformed some a b q p x went
+pass_halted some a b q p x (Halts.Emit EmitErrs.Failed) went =
+    record { lasts = went.lasts; began = record { done = x; rest = []; split = append-nil x; asked = went.did.asked }; cause = (went.did.faults, went.calm) }
+pass_halted some a b q p x (Halts.Emit EmitErrs.NoMemory) went =
+    record { lasts = went.lasts; began = record { done = x; rest = []; split = append-nil x; asked = went.did.asked }; cause = (went.did.faults, went.calm) }
+
+-- the emitter's count of faults, where nothing had failed before
+pub sink_halted : (T U : Type 0) (q p : ℕ) (halt : Halt) (old mid new : ℕ) → mid ≡ old → HaltCause {T = T} (Err halt) mid new → SinkCause {T = U} (Err (halt_error halt q p)) old new
+sink_halted T U q p Halts.Malformed old mid new same cause = cause ∙ same
+sink_halted T U q p (Halts.Emit EmitErrs.Failed) old mid new same cause = subst (λ (n : ℕ). Rises n new) same cause
+sink_halted T U q p (Halts.Emit EmitErrs.NoMemory) old mid new same cause = cause ∙ same
+
+-- a run that went well told no lie, where none that fits is told later
+pub none_before : (some : ℕ → Type 0) (more : ℕ → Type 0) (x : List Access) (a b c : World) → Went x some a b → Lasts more b c → a.store.lie ≡ None → NoForgery c → b.store.lie ≡ None
+none_before some more x a b c went lasts none honest = go b.store.lie refl
+  where
+    calm : Calm a
+    calm = record { calm = λ lie told. absurd (cc (sym none ∙ told)) }
+
+    go : (o : Option Lie) → b.store.lie ≡ o → b.store.lie ≡ None
+    go None is = is
+    go (Some lie) is = absurd (honest.forged lie (lasts.later.lie lie is) (subst (λ (k : KeyPair). Fits k lie) (sym lasts.keys) ((went.calm calm).calm lie is)))
+
+-- the vault gave up: the emitter was not asked
+pub sink_vault : (T : Type 0) (e : VaultErr) (old new : ℕ) → new ≡ old → SinkCause {T = T} (Err (pass_error e)) old new
+sink_vault T VaultErrs.Failed old new same = same
+sink_vault T (VaultErrs.Tampered q p) old new same = same
+sink_vault T VaultErrs.NoMemory old new same = same
+
+-- each error of a halt
+pub halt_never : (halt : Halt) (q p n : ℕ) → p < n → (halt_error halt q p ≡ Failed) ⊎ (halt_error halt q p ≡ Sink) ⊎ (halt_error halt q p ≡ NoMemory) ⊎ ((place : ℕ) × (place < n) × (halt_error halt q p ≡ Tampered q place))
+halt_never Halts.Malformed q p n below = inr (inr (inr (p, below, refl)))
+halt_never (Halts.Emit EmitErrs.Failed) q p n below = inr (inl refl)
+halt_never (Halts.Emit EmitErrs.NoMemory) q p n below = inr (inr (inl refl))
+
+pub halt_told : (halt : Halt) (q p : ℕ) → (halt ≡ Halts.Malformed → ⊥) → (halt_error halt q p ≡ Failed) ⊎ (halt_error halt q p ≡ Sink) ⊎ (halt_error halt q p ≡ NoMemory)
+halt_told Halts.Malformed q p well = absurd (well refl)
+halt_told (Halts.Emit EmitErrs.Failed) q p well = inr (inl refl)
+halt_told (Halts.Emit EmitErrs.NoMemory) q p well = inr (inr refl)
+
+-- what is known of an error
+pub if_err : {T E : Type 0} (P : T → Type 0) (F : E → Type 0) (r : Result T E) → MatchResult r P F → IfErr r F
+if_err P F (Ok x) is = tt
+if_err P F (Err e) is = is

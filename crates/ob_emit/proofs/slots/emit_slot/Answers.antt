@@ -1,0 +1,38 @@
+use Rattle.std.proofs.Common.{◌≡◌, ◌<◌, inr, [], ◌∷◌, Option, is_some, length, take, sym, ◌∙◌, ap, subst, arith}
+use Rattle.ob_base.specs.Events.{Row as RowEvent}
+use Rattle.ob_row.specs.Rows.{Row}
+use Rattle.ob_row.specs.Spelling.{Begins}
+use Rattle.ob_emit.specs.Emitting.{row_events}
+use Rattle.ob_emit.proofs.Events.{slot_told}
+use Rattle.ob_emit.proofs.slots.emit_slot.Goals as goal
+
+pub returns-in-Ok-row-clause-ok : goal.returns-in-Ok-row-clause-ok
+returns-in-Ok-row-clause-ok g c =
+    let cells = take (length c.args.cols.now) c.in-Ok-shown_cells.cells in
+    let below : c.args.i < c.args.flat.now.capacity = omega arith in
+    record {
+      rows = cells ∷ [];
+      count = omega arith;
+      leads = c.in-Ok-row.ensures.ok;
+      told = λ s.
+          let is = c.in-Ok.ensures.spelled s.0 s.1 in
+          let some : c.in-Ok.real ≡ is_some s.0 = cc is in
+          slot_told c.args.flat.now.capacity c.args.cols.now c.args.i s.0 cells (sym some ∙ c.if-real.true) below
+          (λ row same. c.in-Ok-shown_cells.ensures.1 row (subst (λ (slot : Option Row). Begins c.args.flat.now.schema slot c.args.row.now) same s.1));
+    }
+
+pub returns-in-Err-row-clause-err : goal.returns-in-Err-row-clause-err
+returns-in-Err-row-clause-err g c =
+    let cells = take (length c.args.cols.now) c.in-Ok-shown_cells.cells in
+    let below : c.args.i < c.args.flat.now.capacity = omega arith in
+    record {
+      events = RowEvent cells ∷ [];
+      ends = inr c.in-Err-row.ensures.err;
+      told = λ s.
+          let is = c.in-Ok.ensures.spelled s.0 s.1 in
+          let some : c.in-Ok.real ≡ is_some s.0 = cc is in (
+            [],
+            ap row_events (slot_told c.args.flat.now.capacity c.args.cols.now c.args.i s.0 cells (sym some ∙ c.if-real.true) below
+                (λ row same. c.in-Ok-shown_cells.ensures.1 row (subst (λ (slot : Option Row). Begins c.args.flat.now.schema slot c.args.row.now) same s.1))),
+          );
+    }

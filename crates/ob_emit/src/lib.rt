@@ -1,0 +1,16 @@
+//! Emission: the rows of a table, read block by block, in order of their slots.
+#![tactic(auto)]
+
+mod emission;
+mod emitting;
+mod head;
+mod row;
+mod slots;
+mod walking;
+
+pub use emission::emit_all;
+pub use head::emit_head;
+pub use walking::walk;
+
+#[cfg(test)]
+mod tests;

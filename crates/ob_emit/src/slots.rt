@@ -1,0 +1,101 @@
+ghost use Rattle.std.specs.Prelude.{◌≡◌, ◌≤◌, ◌<◌, ◌+◌, ◌++◌, [], IsTrue, Option, IfOk, IfErr, OnErr, length, if◌then◌else◌};
+ghost use Rattle.std.specs.List.{All};
+ghost use Rattle.ob_base.specs.Schemas.{width};
+ghost use Rattle.ob_vault.specs.Rows.{Wide};
+ghost use Rattle.ob_row.specs.Rows.{Row};
+ghost use Rattle.ob_row.specs.Slots.{Slots};
+ghost use Rattle.ob_row.specs.Spelling.{Begins};
+ghost use Rattle.ob_flat.specs.Slots.{Spelt};
+ghost use Rattle.ob_emit.specs.Emitting.{slot_shown, slots_shown, row_events, IsEmitted, IsHalted, HaltCause, halt_error};
+
+use crate::row::shown_cells;
+use ob_base::{Emit, EmitErr};
+use ob_flat::{Flat, OpErr};
+use ob_room::ClearRow;
+use ob_row::{Malformed, read};
+
+// Why not all rows of a block were emitted.
+#[derive(Clone, Copy, Debug, PartialEq, Eq)]
+pub(crate) enum Halt {
+    Malformed,
+    Emit(EmitErr),
+}
+
+impl Halt {
+    // The error of a pass that halted at this block.
+    pub(crate) fn error(self, region: u64, place: u32) -> OpErr
+        ensures { result ≡ halt_error self region place }
+    {
+        match self {
+            Halt::Malformed => OpErr::Tampered { region, place },
+            Halt::Emit(EmitErr::Failed) => OpErr::Sink,
+            Halt::Emit(EmitErr::NoMemory) => OpErr::NoMemory,
+        }
+    }
+}
+
+// Emits the row of the slot of index `i`, if it has one and lies below the capacity, and tells whether.
+fn emit_slot<E: Emit>(
+    out: &mut E,
+    i: u32,
+    flat: &Flat,
+    cols: &[u8],
+    row: &ClearRow,
+) -> Result<bool, Halt>
+    requires wide { width flat.now.schema ≤ length row.now }
+    requires few { length cols.now ≤ 32 }
+    requires within { All (λ i. i < length flat.now.schema) cols.now }
+    ensures below { IfOk result (λ some. IsTrue some → i < flat.now.capacity) }
+    ensures ok { IfOk result (λ some. IsEmitted E.grew [] (λ (s : (slot : Option Row) × Begins flat.now.schema slot row.now). slot_shown flat.now.capacity cols.now i s.0) 0 (if some then 1 else 0) out.old out.new) }
+    ensures err { OnErr result (IsHalted E.grew E.cut (λ (s : (slot : Option Row) × Begins flat.now.schema slot row.now). row_events (slot_shown flat.now.capacity cols.now i s.0)) out.old out.new) }
+    ensures malformed { IfErr result (λ halt. halt ≡ Halt.Malformed → (slot : Option Row) → Begins flat.now.schema slot row.now → ⊥) }
+    ensures cause { HaltCause result (E.faults out.old) (E.faults out.new) }
+{
+    match read(&flat.schema, row) {
+        Ok(real) => {
+            if real && i < flat.capacity {
+                match shown_cells(&flat.schema, cols, row) {
+                    Ok(cells) => match out.row(&cells[..cols.len()]) {
+                        Ok(()) => Ok(true),
+                        Err(error) => Err(Halt::Emit(error)),
+                    },
+                    Err(Malformed) => Err(Halt::Malformed),
+                }
+            } else {
+                Ok(false)
+            }
+        }
+        Err(Malformed) => Err(Halt::Malformed),
+    }
+}
+
+// Emits the rows of a block, the first slot of which has this index, and answers how many were emitted
+// with those before it.
+pub(crate) fn emit_rows<E: Emit>(
+    out: &mut E,
+    first: u32,
+    seen: u32,
+    flat: &Flat,
+    cols: &[u8],
+    rows: &[ClearRow],
+) -> Result<u32, Halt>
+    requires wide { Wide (width flat.now.schema) rows.now }
+    requires index { first + length rows.now ≤ 2147483648 }
+    requires seen { (seen ≤ first) × (seen ≤ flat.now.capacity) }
+    requires few { length cols.now ≤ 32 }
+    requires within { All (λ i. i < length flat.now.schema) cols.now }
+    ensures most { IfOk result (λ k. (k ≤ first + length rows.now) × (k ≤ flat.now.capacity)) }
+    ensures ok { IfOk result (λ k. IsEmitted E.grew [] (λ (s : (slots : Slots) × Spelt flat.now.schema slots rows.now). slots_shown flat.now.capacity cols.now first s.0) seen k out.old out.new) }
+    ensures err { OnErr result (IsHalted E.grew E.cut (λ (s : (slots : Slots) × Spelt flat.now.schema slots rows.now). row_events (slots_shown flat.now.capacity cols.now first s.0)) out.old out.new) }
+    ensures malformed { IfErr result (λ halt. halt ≡ Halt.Malformed → (slots : Slots) → Spelt flat.now.schema slots rows.now → ⊥) }
+    ensures cause { HaltCause result (E.faults out.old) (E.faults out.new) }
+{
+    let mut n = seen;
+    for z in 0..rows.len() {
+        match emit_slot(out, first + z as u32, flat, cols, &rows[z]) {
+            Ok(some) => n += u32::from(some),
+            Err(halt) => return Err(halt),
+        }
+    }
+    Ok(n)
+}
