@@ -16,7 +16,7 @@ use Rattle.ob_token.specs.Words.{aggregate_word, clause_word, column_word, keywo
 use Rattle.ob_token.specs.Lexemes.{first_byte, gap, lone_piece, named, piece, run_lexeme, sign_piece, some_piece, text_piece}
 use Rattle.ob_token.specs.Tokens.{then_piece, tokens_from, tokens_of}
 use Rattle.ob_token.specs.Cutting.{blanks, cut, cut_from, ended, ends_at, is_solid, mode_after, solid_after}
-use Rattle.ob_token.specs.Closing.{EndsAtMost}
+use Rattle.ob_token.specs.Closing.{SemicolonsEndAt}
 use Rattle.ob_token.proofs.Lexed.{at_piece}
 use Rattle.ob_token.proofs.Pieces.{and_false, no_pair, piece_fits, piece_moves}
 
@@ -271,13 +271,13 @@ piece_after b bs c = go (is_blank b) refl (b == 45 && first_byte bs == 45) refl 
 
 -- ---- all of the tokens
 
-one_more : (x : Option Lexeme) (from to end : ℕ) (rest : List ℕ) → After x rest → (Closed Plain rest → EndsAtMost end (tokens_from 0 to rest)) → (rest ≡ [] → to ≡ end)
-    → EndsAtMost end (then_piece x from to (tokens_from 0 to rest))
+one_more : (x : Option Lexeme) (from to end : ℕ) (rest : List ℕ) → After x rest → (Closed Plain rest → SemicolonsEndAt end (tokens_from 0 to rest)) → (rest ≡ [] → to ≡ end)
+    → SemicolonsEndAt end (then_piece x from to (tokens_from 0 to rest))
 unfolding tokens_from
 one_more None from to end rest a more last = more a
 one_more (Some (L.Mark m)) from to end rest (inl (is, none)) more last =
-    let here : (L.Mark m ≡ L.Mark M.Semicolon → to ≡ end) × EndsAtMost end (tokens_from 0 to []) = (λ e. last none, tt) in
-    (here.0, subst (λ r. EndsAtMost end (tokens_from 0 to r)) (sym none) here.1)
+    let here : (L.Mark m ≡ L.Mark M.Semicolon → to ≡ end) × SemicolonsEndAt end (tokens_from 0 to []) = (λ e. last none, tt) in
+    (here.0, subst (λ r. SemicolonsEndAt end (tokens_from 0 to r)) (sym none) here.1)
 one_more (Some (L.Mark m)) from to end rest (inr (not_one, c)) more last =
     (λ e. let both : true ≡ false = sym not_one ∙ ap other_lexeme e in absurd (cc both), more c)
 one_more (Some (L.Name name)) from to end rest c more last = (λ e. absurd (cc e), more c)
@@ -285,7 +285,7 @@ one_more (Some (L.Number n)) from to end rest c more last = (λ e. absurd (cc e)
 one_more (Some L.Text) from to end rest c more last = (λ e. absurd (cc e), more c)
 one_more (Some L.Bad) from to end rest a more last = (λ e. absurd (cc e), tt)
 
-closes : (fuel at : ℕ) (bs : List ℕ) → length bs ≤ fuel → Closed Plain bs → EndsAtMost (at + length bs) (tokens_from 0 at bs)
+closes : (fuel at : ℕ) (bs : List ℕ) → length bs ≤ fuel → Closed Plain bs → SemicolonsEndAt (at + length bs) (tokens_from 0 at bs)
 closes fuel at [] le c = absurd c
 closes zero at (b ∷ bs) le c = absurd (omega (arith, le))
 closes (suc fuel) at (b ∷ bs) le c =
@@ -295,17 +295,17 @@ closes (suc fuel) at (b ∷ bs) le c =
     let rest = drop n (b ∷ bs) in
     let left : length rest ≡ suc (length bs) - n = length-drop n (b ∷ bs) in
     let end : at + n + length rest ≡ at + suc (length bs) = omega (arith, fits, left) in
-    subst (EndsAtMost (at + suc (length bs))) (sym (at_piece n at (b ∷ bs) (piece (b ∷ bs)).lexeme (omega arith) moves refl refl))
+    subst (SemicolonsEndAt (at + suc (length bs))) (sym (at_piece n at (b ∷ bs) (piece (b ∷ bs)).lexeme (omega arith) moves refl refl))
     (one_more (piece (b ∷ bs)).lexeme at (at + n) (at + suc (length bs)) rest (piece_after b bs c)
-    (λ d. subst (λ k. EndsAtMost k (tokens_from 0 (at + n) rest)) end (closes fuel (at + n) rest (omega (arith, moves, fits, left, le)) d))
+    (λ d. subst (λ k. SemicolonsEndAt k (tokens_from 0 (at + n) rest)) end (closes fuel (at + n) rest (omega (arith, moves, fits, left, le)) d))
     (λ none. let nothing : length rest ≡ 0 = ap length none in omega (arith, end, nothing)))
 
-pub semicolon_last : (bytes : List ℕ) (from to : ℕ) → cut bytes ≡ Stmt from to → EndsAtMost (to - from) (tokens_of (take (to - from) (drop from bytes)))
+pub semicolon_last : (bytes : List ℕ) (from to : ℕ) → cut bytes ≡ Stmt from to → SemicolonsEndAt (to - from) (tokens_of (take (to - from) (drop from bytes)))
 semicolon_last bytes from to e =
     let start = blanks bytes in
     let rest = drop start bytes in
     let found = cut_closes start start Plain false rest from to e in
     let text = take (to - start) rest in
     let size : 0 + length text ≡ to - start = omega (arith, found.0, found.1, length-take (to - start) rest) in
-    subst (λ n. EndsAtMost (to - n) (tokens_of (take (to - n) (drop n bytes)))) (sym found.2)
-    (subst (λ n. EndsAtMost n (tokens_of text)) size (closes (length text) 0 text (omega arith) found.3))
+    subst (λ n. SemicolonsEndAt (to - n) (tokens_of (take (to - n) (drop n bytes)))) (sym found.2)
+    (subst (λ n. SemicolonsEndAt n (tokens_of text)) size (closes (length text) 0 text (omega arith) found.3))

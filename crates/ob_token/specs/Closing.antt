@@ -5,6 +5,6 @@ use Rattle.ob_token.specs.declared.token.Mark.TheVariants as M
 use Rattle.ob_token.specs.declared.token.Token.{Token}
 
 -- each semicolon among the tokens ends at n
-abbrev pub EndsAtMost : ℕ → List Token → Type 0
-EndsAtMost n [] = ⊤
-EndsAtMost n (t ∷ ts) = (t.lexeme ≡ L.Mark M.Semicolon → t.to ≡ n) × EndsAtMost n ts
+abbrev pub SemicolonsEndAt : ℕ → List Token → Type 0
+SemicolonsEndAt n [] = ⊤
+SemicolonsEndAt n (t ∷ ts) = (t.lexeme ≡ L.Mark M.Semicolon → t.to ≡ n) × SemicolonsEndAt n ts

@@ -3,7 +3,7 @@ ghost use Rattle.std.specs.Prelude.{◌≡◌, ◌≤◌, ◌-◌, ℕ, List, ta
 ghost use Rattle.ob_token.specs.Cutting as cutting;
 ghost use Rattle.ob_token.specs.declared.cut.Mode.TheVariants.{Plain};
 ghost use Rattle.ob_token.specs.declared.cut.Piece.TheVariants.{Stmt};
-ghost use Rattle.ob_token.specs.Closing.{EndsAtMost};
+ghost use Rattle.ob_token.specs.Closing.{SemicolonsEndAt};
 ghost use Rattle.ob_token.specs.Cutting.{all_blank, blanks, cut_from};
 ghost use Rattle.ob_token.specs.Tokens.{tokens_of};
 
@@ -145,5 +145,5 @@ pub fn is_blank(bytes: &[u8]) -> bool
 /// Cutting and tokens agree on quotes and comments: of the tokens of a text that `split` finds, only the last byte
 /// is a semicolon.
 pub fn semicolon_is_last()
-    ensures { (bytes : List ℕ) (from to : ℕ) → cutting.cut bytes ≡ Stmt from to → EndsAtMost (to - from) (tokens_of (take (to - from) (drop from bytes))) }
+    ensures { (bytes : List ℕ) (from to : ℕ) → cutting.cut bytes ≡ Stmt from to → SemicolonsEndAt (to - from) (tokens_of (take (to - from) (drop from bytes))) }
 {}
