@@ -89,6 +89,76 @@ fn refuses_what_it_cannot_read(rt: HostRuntime) -> Result<(), Fail> {
     let words = vec![in a; String::from_str(a, "--buffer")?]?;
     assert_eq!(rt; prints(&rt, a, &words, keyed(a, "")?, "! usage\n")?, 2);
     let rest = keyed(a, "CREATE TABLE t (id INT) CAPACITY 4")?;
-    assert_eq!(rt; prints(&rt, a, &no_words, rest, "E01 syntax 0\n")?, 1);
+    assert_eq!(rt; prints(&rt, a, &no_words, rest, "E01 syntax 34\n")?, 1);
+    Ok(())
+}
+
+// Of each text what is answered. A statement that is spelt and not served yet is refused at its first byte.
+const ANSWERS: [(&str, &str); 20] = [
+    ("SELEC * FROM t;", "E01 syntax 0\n"),
+    ("SELECT FROM t;", "E01 syntax 7\n"),
+    ("SELECT * FROM t", "E01 syntax 15\n"),
+    ("SELECT * FROM t WHERE s = 'ab", "E01 syntax 26\n"),
+    ("SELECT COUNT(*) FROM t;", "E02 no table\n"),
+    ("INSERT INTO t VALUES (1);", "E02 no table\n"),
+    ("CREATE TABLE a (x INT) CAPACITY 0;", "E07 limit\n"),
+    (
+        "CREATE TABLE a (x INT) CAPACITY 1048577;",
+        "E07 limit\n",
+    ),
+    ("CREATE TABLE a (x INT, x INT) CAPACITY 1;", "E03 name taken\n"),
+    (
+        "CREATE TABLE a (x INT PRIMARY KEY, y INT PRIMARY KEY) CAPACITY 1;",
+        "E08 key rule\n",
+    ),
+    (
+        "CREATE TABLE a (x INT) CAPACITY 1; CREATE TABLE a (x INT) CAPACITY 1;",
+        "= created\nE03 name taken\n",
+    ),
+    (
+        "CREATE TABLE a (x INT) CAPACITY 1; INSERT INTO a VALUES (9223372036854775808);",
+        "= created\nE06 out of range\n",
+    ),
+    (
+        "CREATE TABLE a (x INT) CAPACITY 1; INSERT INTO a VALUES (-9223372036854775808);",
+        "= created\n= inserted\n",
+    ),
+    (
+        "CREATE TABLE a (x INT) CAPACITY 1; INSERT INTO a VALUES ('x');",
+        "= created\nE05 wrong type\n",
+    ),
+    (
+        "CREATE TABLE a (x INT) CAPACITY 1; INSERT INTO a VALUES (1, 2);",
+        "= created\nE05 wrong type\n",
+    ),
+    (
+        "CREATE TABLE a (x INT) CAPACITY 1; INSERT INTO a (y) VALUES (1);",
+        "= created\nE04 no column\n",
+    ),
+    (
+        "CREATE TABLE a (x INT PRIMARY KEY, s VARCHAR(4)) CAPACITY 2; INSERT INTO a (s, x) VALUES ('a;b', 1); INSERT INTO a VALUES (1, 'it''s');",
+        "= created\n= inserted\nE10 duplicate\n",
+    ),
+    (
+        "CREATE TABLE a (s VARCHAR(2)) CAPACITY 1; INSERT INTO a VALUES ('abc');",
+        "= created\nE06 out of range\n",
+    ),
+    (
+        "-- no; text\n; CREATE TABLE a (x INT) -- one; column\n CAPACITY 1; -- end",
+        "= created\n",
+    ),
+    ("CREATE TABLE a (x INT) CAPACITY 1; DROP TABLE a;", "= created\nE01 syntax 0\n"),
+];
+
+#[test]
+fn answers_what_a_text_spells(rt: HostRuntime) -> Result<(), Fail> {
+    let a = rt.alloc();
+    for (text, answers) in &ANSWERS {
+        let mut input = MemSource::new(keyed(a, *text)?, Vec::new(a));
+        let mut out = MemSink::new(a, 1024, Vec::new(a))?;
+        let mut trace = MemSink::new(a, 1024, Vec::new(a))?;
+        let _ = meddle_top(a, &Vec::new(a), &mut input, &mut out, &mut trace);
+        assert_eq!(rt; out.bytes(), answers.as_bytes());
+    }
     Ok(())
 }
