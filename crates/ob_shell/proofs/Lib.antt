@@ -7,3 +7,4 @@ pub mod StepLemmas
 pub mod TextLemmas
 pub mod TopLemmas
 pub mod TraceLemmas
+pub mod ReplayLemmas

@@ -10,3 +10,4 @@ pub mod Top
 pub mod Tracing
 pub mod Usage
 pub mod IsPending
+pub mod Replayed

@@ -1,0 +1,168 @@
+-- The answers of texts that were served are those of the meaning.
+use Rattle.std.proofs.Common.{◌≡◌, ◌⊎◌, inl, inr, ◌+◌, ◌-◌, ℕ, IsTrue, Bool, List, [], ◌∷◌, ◌++◌, length, Option, Some, None, Ok, Err, refl, sym, ◌∙◌, ap, subst, append-nil, append_assoc}
+use Rattle.std.proofs.lemmas.List.{length-append}
+use Rattle.ob_base.specs.Events.{Event}
+use Rattle.ob_base.specs.declared.config.Public.{Public}
+use Rattle.ob_base.specs.declared.refusal.Refusal.{Refusal}
+use Rattle.ob_base.specs.declared.refusal.Refusal.TheVariants.{Syntax, NoTable, NameTaken, NoColumn, WrongType, ValueRange, Limit, KeyRule, JoinKey, Duplicate, Full, TooManyGroups, NotConsecutive, Overflow, StoreFault}
+use Rattle.ob_base.specs.declared.seen.Seen.{Seen}
+use Rattle.ob_exec.specs.Agreeing.{public_of, seen_of}
+use Rattle.ob_exec.specs.Telling.{Represents, Meant, Kept, Told, told_refusal, told_outcome}
+use Rattle.ob_exec.specs.declared.outcome.Outcome.{Outcome}
+use Rattle.ob_exec.specs.declared.outcome.Outcome.TheVariants.{Created, Inserted, Changed, Deleted, Dropped, Rows, Refused}
+use Rattle.ob_mean.specs.Headings.{headings_of}
+use Rattle.ob_mean.specs.Prints.{Prints, Unfinished, labels_of}
+use Rattle.ob_mean.specs.Replay.{Session, after, after_all, all_served, seen_or_cut}
+use Rattle.ob_mean.specs.Settle.{settle}
+use Rattle.ob_mean.specs.Verdict.{Tables, verdict, seen}
+use Rattle.ob_print.specs.Rows.{events_text}
+use Rattle.ob_script.specs.Script.{script}
+use Rattle.ob_script.specs.Trace.{trace, next}
+use Rattle.ob_shell.specs.Closing.{closing_line}
+use Rattle.ob_shell.specs.Replayed.{session_of, AnswersIn, Replays, Replayed, refused_at}
+use Rattle.ob_shell.specs.Steps.{Machine, Answer, Misspelt, Served, Step, Steps, Spells}
+use Rattle.ob_sql.specs.Skeleton.{skeleton}
+use Rattle.ob_sql.specs.declared.stmt.Stmt.{Stmt}
+use Rattle.ob_store.specs.Runs.{Later}
+use Rattle.ob_store.specs.State.{Lie, StoreState}
+use Rattle.ob_vault.specs.State.{RevState}
+
+-- ---- an answer is none by the store, or the store's
+record ByStore (outcome : Outcome) (cut also : Type 0) : Type 0 where
+  is : outcome ≡ Refused StoreFault
+  told : cut
+  too : also
+
+refusal_cases : (r : Refusal) (whole cut with also : Type 0) → told_refusal r whole cut → told_refusal r with also → (whole × with) ⊎ ByStore (Refused r) cut also
+refusal_cases (Syntax at) whole cut with also a b = inl (a, b)
+refusal_cases NoTable whole cut with also a b = inl (a, b)
+refusal_cases NameTaken whole cut with also a b = inl (a, b)
+refusal_cases NoColumn whole cut with also a b = inl (a, b)
+refusal_cases WrongType whole cut with also a b = inl (a, b)
+refusal_cases ValueRange whole cut with also a b = inl (a, b)
+refusal_cases Limit whole cut with also a b = inl (a, b)
+refusal_cases KeyRule whole cut with also a b = inl (a, b)
+refusal_cases JoinKey whole cut with also a b = inl (a, b)
+refusal_cases Duplicate whole cut with also a b = inl (a, b)
+refusal_cases Full whole cut with also a b = inl (a, b)
+refusal_cases TooManyGroups whole cut with also a b = inl (a, b)
+refusal_cases NotConsecutive whole cut with also a b = inl (a, b)
+refusal_cases (Overflow i) whole cut with also a b = inl (a, b)
+refusal_cases StoreFault whole cut with also a b = inr (record { is = refl; told = a; too = b })
+
+outcome_cases : (o : Outcome) (whole cut with also : Type 0) → told_outcome o whole cut → told_outcome o with also → (whole × with) ⊎ ByStore o cut also
+outcome_cases (Refused r) whole cut with also a b = refusal_cases r whole cut with also a b
+outcome_cases Created whole cut with also a b = inl (a, b)
+outcome_cases Inserted whole cut with also a b = inl (a, b)
+outcome_cases (Changed n) whole cut with also a b = inl (a, b)
+outcome_cases (Deleted n) whole cut with also a b = inl (a, b)
+outcome_cases Dropped whole cut with also a b = inl (a, b)
+outcome_cases (Rows k) whole cut with also a b = inl (a, b)
+
+-- ---- no lie is told before a state in which none is
+no_lie : (o : Option Lie) (a b : StoreState) → a.lie ≡ o → Later a b → b.lie ≡ None → a.lie ≡ None
+no_lie None a b is later none = is
+no_lie (Some lie) a b is later none = absurd (cc (later.lie lie is, none))
+
+-- what lasts over one text
+record Goes (a b : StoreState) : Type 0 where
+  tells : b.tells ≡ a.tells
+  lie : b.lie ≡ None → a.lie ≡ None
+
+step_goes : {R : Type 0} (state : R → RevState) (m0 m1 : Machine R) (text : List ℕ) (answer : Answer) → Misspelt m0 m1 text answer ⊎ Served state m0 m1 text answer → Goes m0.store m1.store
+step_goes {R} state m0 m1 text answer (inl no) = record { tells = ap (λ (m : Machine R). m.store.tells) no.same; lie = λ none. ap (λ (m : Machine R). m.store.lie) (sym no.same) ∙ none }
+step_goes state m0 m1 text answer (inr yes) = record { tells = yes.ran.later.tells; lie = no_lie m0.store.lie m0.store m1.store refl yes.ran.later }
+
+pub steps_honest : {R : Type 0} (state : R → RevState) (m0 m2 : Machine R) (texts : List (List ℕ)) (answers : List Answer) → Steps state m0 m2 texts answers → m2.store.lie ≡ None → m0.store.lie ≡ None
+unfolding Steps
+steps_honest {R} state m0 m2 [] answers steps none = ap (λ (m : Machine R). m.store.lie) (sym steps.0) ∙ none
+steps_honest state m0 m2 (text ∷ texts) answers steps none =
+    (step_goes state m0 steps.0 text steps.1 steps.4.done).lie (steps_honest state steps.0 m2 texts steps.2 steps.5 none)
+
+-- ---- one statement
+module _ {R : Type 0} (state : R → RevState) (m0 m1 m2 : Machine R) (tables : Tables) (text : List ℕ) (texts : List (List ℕ)) (one : Answer) (more answers : List Answer)
+    (is : answers ≡ one ∷ more) where
+  unasked : Misspelt m0 m1 text one → Replayed state m1 m2 tables texts more → Replayed state m0 m2 tables (text ∷ texts) answers
+  unfolding Replays
+  unasked no rest =
+      let one_is : one ≡ refused_at no.at = λ i. record { outcome = no.refused i; bytes = (no.line ∙ ap closing_line no.refused) i } in
+      let from : Replayed state m0 m2 tables texts more = subst (λ (m : Machine R). Replayed state m m2 tables texts more) no.same rest in
+      record {
+        spelt = Err no.at ∷ from.spelt;
+        broken = None ∷ from.broken;
+        replays = (one, more, is, no.spells, one_is, from.replays);
+        left = from.left;
+        stands = from.stands;
+        held = from.held;
+        asked = from.asked;
+      }
+
+  -- the session after it
+  module _ (yes : Served state m0 m1 text one) (how : Option ℕ) (after_it : Tables)
+      (seen_is : seen_of m1.engine ≡ seen_or_cut how (session_of m0 tables) yes.stmt) (settles : (after how (session_of m0 tables) yes.stmt).tables ≡ after_it) where
+    stands_after : after how (session_of m0 tables) yes.stmt ≡ session_of m1 after_it
+    stands_after =
+        let p = public_of m0.engine in
+        let sk = skeleton yes.stmt in
+        let public_is : next p sk (seen_or_cut how (session_of m0 tables) yes.stmt) ≡ public_of m1.engine = ap (next p sk) (sym seen_is) ∙ sym yes.ran.goes_on.public in
+        let asked_is : length m0.store.asked + length (script p sk (seen_or_cut how (session_of m0 tables) yes.stmt)) ≡ length m1.store.asked =
+        ap (λ (x : Seen). length m0.store.asked + length (script p sk x)) (sym seen_is) ∙ sym (length-append m0.store.asked (script p sk (seen_of m1.engine))) ∙ ap length (sym yes.ran.asked) in
+        λ i. record { public = public_is i; tables = settles i; asked = asked_is i }
+
+    go_on : AnswersIn how (session_of m0 tables) yes.stmt one → Replayed state m1 m2 after_it texts more → Replayed state m0 m2 tables (text ∷ texts) answers
+    unfolding Replays
+    go_on answer rest =
+        let p = public_of m0.engine in
+        let sk = skeleton yes.stmt in
+        let seen_there = seen_or_cut how (session_of m0 tables) yes.stmt in
+        record {
+          spelt = Ok yes.stmt ∷ rest.spelt;
+          broken = how ∷ rest.broken;
+          replays = (one, more, is, yes.spells, answer, subst (λ (s : Session). Replays s texts rest.spelt rest.broken more) (sym stands_after) rest.replays);
+          left = rest.left;
+          stands = ap (λ (s : Session). after_all s rest.spelt rest.broken) stands_after ∙ rest.stands;
+          held = rest.held;
+          asked =
+              rest.asked
+              ∙ (λ i. (yes.ran.asked ∙ ap (λ (x : Seen). m0.store.asked ++ script p sk x) seen_is) i ++ trace (sym stands_after i).public (all_served (sym stands_after i) rest.spelt rest.broken))
+              ∙ append_assoc m0.store.asked (script p sk seen_there) _;
+        }
+
+  asked_one : Served state m0 m1 text one → IsTrue m0.store.tells → Represents state m0.engine m0.store tables → m1.store.lie ≡ None
+      → ((after_it : Tables) → Represents state m1.engine m1.store after_it → Replayed state m1 m2 after_it texts more) → Replayed state m0 m2 tables (text ∷ texts) answers
+  asked_one yes tells held honest rest =
+      let p = public_of m0.engine in
+      let m = length m0.store.asked in
+      elim outcome_cases one.outcome _ _ _ _ (yes.meant.told tells tables held honest) (yes.meant.emitted tells tables held honest) [
+        | inl both ↦ go_on yes None (settle p m tables yes.stmt) both.0.seen refl
+            (record { outcome = both.0.answer; events = yes.events; prints = both.1; bytes = yes.printed }) (rest (settle p m tables yes.stmt) both.0.held)
+        | inr by ↦ go_on yes (Some (length m1.store.asked - m)) tables by.told.seen refl
+            (record { outcome = by.is; events = yes.events; unfinished = by.too; bytes = yes.printed }) (rest tables by.told.held)
+      ]
+
+  pub one_more : Step state m0 m1 text one → IsTrue m0.store.tells → Represents state m0.engine m0.store tables → m1.store.lie ≡ None
+      → ((after_it : Tables) → Represents state m1.engine m1.store after_it → Replayed state m1 m2 after_it texts more) → Replayed state m0 m2 tables (text ∷ texts) answers
+  one_more step tells held honest rest = elim step.done [
+    | inl no ↦ unasked no (rest tables (subst (λ (x : Machine R). Represents state x.engine x.store tables) (sym no.same) held))
+    | inr yes ↦ asked_one yes tells held honest rest
+  ]
+
+-- ---- all of them
+pub replayed : {R : Type 0} (state : R → RevState) (texts : List (List ℕ)) (m0 m2 : Machine R) (tables : Tables) (answers : List Answer) → Steps state m0 m2 texts answers
+    → IsTrue m0.store.tells → m2.store.lie ≡ None → Represents state m0.engine m0.store tables → Replayed state m0 m2 tables texts answers
+unfolding Steps Replays
+replayed {R} state [] m0 m2 tables answers steps tells honest held = record {
+  spelt = [];
+  broken = [];
+  replays = steps.1;
+  left = tables;
+  stands = ap (λ (m : Machine R). session_of m tables) (sym steps.0);
+  held = subst (λ (m : Machine R). Represents state m.engine m.store tables) (sym steps.0) held;
+  asked = ap (λ (m : Machine R). m.store.asked) steps.0 ∙ sym (append-nil m0.store.asked);
+}
+replayed state (text ∷ texts) m0 m2 tables answers steps tells honest held =
+    let m1 = steps.0 in
+    let goes = step_goes state m0 m1 text steps.1 steps.4.done in
+    let honest_there = steps_honest state m1 m2 texts steps.2 steps.5 honest in
+    one_more state m0 m1 m2 tables text texts steps.1 steps.2 answers steps.3 steps.4 tells held honest_there
+    (λ after_it held_after. replayed state texts m1 m2 after_it steps.2 steps.5 (subst (λ (b : Bool). IsTrue b) (sym goes.tells) tells) honest held_after)

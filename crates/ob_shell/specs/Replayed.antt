@@ -1,0 +1,64 @@
+-- What the texts of a session answer and ask, where the store told what it holds and gave what was written.
+use Rattle.std.specs.Prelude.{ℕ, ◌≡◌, List, [], ◌∷◌, ◌++◌, length, Option, Some, None, Ok, Err}
+use Rattle.ob_base.specs.Events.{Event}
+use Rattle.ob_base.specs.declared.refusal.Refusal.TheVariants.{Syntax, StoreFault}
+use Rattle.ob_exec.specs.Agreeing.{public_of}
+use Rattle.ob_exec.specs.Telling.{Represents, outcome_of}
+use Rattle.ob_exec.specs.declared.outcome.Outcome.TheVariants.{Refused}
+use Rattle.ob_mean.specs.Headings.{headings_of}
+use Rattle.ob_mean.specs.Prints.{Prints, Unfinished, labels_of}
+use Rattle.ob_mean.specs.Replay.{Session, Spelt, Broken, head_of, rest_of, after, after_all, all_served}
+use Rattle.ob_mean.specs.Verdict.{Tables, verdict}
+use Rattle.ob_mean.specs.declared.answer.Answer.{Answer as Meaning}
+use Rattle.ob_print.specs.Rows.{events_text}
+use Rattle.ob_script.specs.Trace.{trace}
+use Rattle.ob_shell.specs.Closing.{closing_line}
+use Rattle.ob_shell.specs.Steps.{Machine, Answer, Spells}
+use Rattle.ob_sql.specs.declared.stmt.Stmt.{Stmt}
+use Rattle.ob_vault.specs.State.{RevState}
+
+-- the session of the meaning at which a machine stands that holds these tables
+abbrev pub session_of : {R : Type 0} → Machine R → Tables → Session
+session_of m tables = record { public = public_of m.engine; tables = tables; asked = length m.store.asked }
+
+-- an answer is its header, its rows in some order and their number, or its one line
+pub record AnswersAs (labels : List (List ℕ)) (stmt : Stmt) (meaning : Meaning) (answer : Answer) : Type 0 where
+  pub outcome : answer.outcome ≡ outcome_of stmt meaning
+  pub events : List Event
+  pub prints : Prints labels meaning events
+  pub bytes : answer.bytes ≡ events_text events ++ closing_line answer.outcome
+
+-- the store cut the statement off: a first part of its header and rows, and the line of a store that failed
+pub record CutOff (labels : List (List ℕ)) (meaning : Meaning) (answer : Answer) : Type 0 where
+  pub outcome : answer.outcome ≡ Refused StoreFault
+  pub events : List Event
+  pub unfinished : Unfinished labels meaning events
+  pub bytes : answer.bytes ≡ events_text events ++ closing_line answer.outcome
+
+abbrev pub AnswersIn : Option ℕ → Session → Stmt → Answer → Type 0
+AnswersIn None s stmt answer = AnswersAs (labels_of stmt (headings_of s.public.tables)) stmt (verdict s.public s.asked s.tables stmt) answer
+AnswersIn (Some n) s stmt answer = CutOff (labels_of stmt (headings_of s.public.tables)) (verdict s.public s.asked s.tables stmt) answer
+
+abbrev pub refused_at : ℕ → Answer
+refused_at at = record { outcome = Refused (Syntax at); bytes = closing_line (Refused (Syntax at)) }
+
+-- from a session on, these texts spell these statements and places, of which the store cut some off, and are answered so
+unfoldable pub Replays : Session → List (List ℕ) → List Spelt → Broken → List Answer → Type 0
+Replays s [] [] broken answers = answers ≡ []
+Replays s [] (x ∷ xs) broken answers = ⊥
+Replays s (text ∷ texts) [] broken answers = ⊥
+Replays s (text ∷ texts) (Ok stmt ∷ spelt) broken answers =
+    (one : Answer) × (more : List Answer) × (answers ≡ one ∷ more) × Spells text (Ok stmt) × AnswersIn (head_of broken) s stmt one
+    × Replays (after (head_of broken) s stmt) texts spelt (rest_of broken) more
+Replays s (text ∷ texts) (Err at ∷ spelt) broken answers =
+    (one : Answer) × (more : List Answer) × (answers ≡ one ∷ more) × Spells text (Err at) × (one ≡ refused_at at) × Replays s texts spelt (rest_of broken) more
+
+-- the answers of these texts are those of the meaning, and so are the accesses and the tables that are left
+pub record Replayed {R : Type 0} (state : R → RevState) (m0 m1 : Machine R) (tables : Tables) (texts : List (List ℕ)) (answers : List Answer) : Type 0 where
+  pub spelt : List Spelt
+  pub broken : Broken
+  pub replays : Replays (session_of m0 tables) texts spelt broken answers
+  pub left : Tables
+  pub stands : after_all (session_of m0 tables) spelt broken ≡ session_of m1 left
+  pub held : Represents state m1.engine m1.store left
+  pub asked : m1.store.asked ≡ m0.store.asked ++ trace (public_of m0.engine) (all_served (session_of m0 tables) spelt broken)
