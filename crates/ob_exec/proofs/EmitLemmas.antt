@@ -1,16 +1,14 @@
 -- What statements emit, and what an early refusal does.
-use Rattle.std.proofs.Common.{◌≡◌, ℕ, suc, List, [], ◌∷◌, ◌++◌, length, Option, Some, None, Result, Ok, Err, refl, sym, ◌∙◌, ap, subst, pos}
+use Rattle.std.proofs.Common.{◌≡◌, ℕ, suc, List, [], ◌∷◌, length, Option, Some, None, Result, Ok, Err, refl, sym, ap, subst, pos}
 use Rattle.std.specs.Prelude.{codes}
 use Rattle.ob_base.specs.declared.config.Public.{Public}
 use Rattle.ob_base.specs.declared.refusal.Refusal.{Refusal}
 use Rattle.ob_base.specs.declared.refusal.Refusal.TheVariants.{Syntax, NoTable, NameTaken, NoColumn, WrongType, ValueRange, Limit, KeyRule, JoinKey, Duplicate, Full, TooManyGroups, NotConsecutive, Overflow, StoreFault}
 use Rattle.ob_base.specs.declared.refusal.Stop.{Stop}
-use Rattle.ob_base.specs.declared.shown.Shown.{Shown}
 use Rattle.ob_base.specs.declared.shown.Shown.TheVariants.{Int}
 use Rattle.ob_base.specs.declared.skeleton.NewColumn.{NewColumn}
 use Rattle.ob_base.specs.Events.{Event, Head, Row, Close}
 use Rattle.ob_base.specs.Lists.{places_from}
-use Rattle.ob_base.specs.Stored.{Stored, stored_at}
 use Rattle.ob_flat.specs.declared.fault.OpErr.{OpErr}
 use Rattle.ob_flat.specs.declared.fault.OpErr.TheVariants as OpErrs
 use Rattle.ob_row.specs.Condition.{All}
@@ -30,7 +28,7 @@ use Rattle.ob_exec.specs.declared.outcome.Outcome.{Outcome}
 use Rattle.ob_exec.specs.declared.outcome.Outcome.TheVariants.{Created, Inserted, Changed, Deleted, Dropped, Rows, Refused}
 use Rattle.ob_exec.specs.Running.{answer_of}
 use Rattle.ob_exec.specs.Serving.{count_of}
-use Rattle.ob_exec.specs.Telling.{Emitted, Partly, told_refusal, told_outcome}
+use Rattle.ob_exec.specs.Telling.{Emitted, told_refusal, told_outcome}
 
 -- ---- a statement that emits nothing
 either_refusal : (r : Refusal) (whole cut : Type 0) → whole → cut → told_refusal r whole cut

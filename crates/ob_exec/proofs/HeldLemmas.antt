@@ -1,11 +1,10 @@
 -- The tables in place beside the tables of an engine, after a pass.
-use Rattle.std.proofs.Common.{◌≡◌, ◌<◌, ℕ, zero, suc, Bool, true, false, if◌then◌else◌, cond, List, [], ◌∷◌, ◌++◌, map, length, Option, Some, None, refl, sym, ◌∙◌, ap, subst, arith}
+use Rattle.std.proofs.Common.{◌≡◌, ℕ, zero, suc, Bool, true, false, if◌then◌else◌, cond, List, [], ◌∷◌, ◌++◌, Some, refl, sym, ◌∙◌, ap, subst, arith}
 use Rattle.std.specs.Prelude.{slice_get, bytes_eq}
-use Rattle.std.specs.Option.{option_map}
 use Rattle.std.proofs.lemmas.Slice.Eq.{bytes_eq-Decides}
 use Rattle.ob_base.specs.declared.schema.Heading.{Heading}
 use Rattle.ob_base.specs.declared.schema.Table.{Table}
-use Rattle.ob_base.specs.Stored.{Stored, headings, heading_at, stored_at, changed_at}
+use Rattle.ob_base.specs.Stored.{Stored, headings, stored_at, changed_at}
 use Rattle.ob_row.specs.Slots.{Slots}
 use Rattle.ob_script.specs.Trace.{moved}
 use Rattle.ob_vault.specs.State.{World}
@@ -124,7 +123,7 @@ module _ (pack g : ℕ) (name : List ℕ) (f : Slots → Slots) (w : World) wher
         held.0,
         subst (λ (v : Table). Represents pack (flat_of (record v { region = g })) (f x.held) w) (sym same) (new x found),
         subst (λ (vs : List Table). AreHeld pack vs xs w) (sym rest)
-        (held_kept some pack ts xs a w lasts (λ j v js hits. apart (suc j) v js (λ off. omega (arith, off)) hits) held.2),
+            (held_kept some pack ts xs a w lasts (λ j v js hits. apart (suc j) v js (λ off. omega (arith, off)) hits) held.2),
       ))
       (λ miss. absurd (cc (hit, miss)))
   held_moved (u ∷ ts) (x ∷ xs) (suc i) t some a names held lasts apart at is new =
@@ -134,8 +133,8 @@ module _ (pack g : ℕ) (name : List ℕ) (f : Slots → Slots) (w : World) wher
         held.0,
         represents_lasts pack (flat_of u) some a w lasts (apart 0 u refl (λ off. omega (arith, off))) x.held held.1,
         held_moved ts xs i t some a (λ j k v z js ks same. omega (arith, names (suc j) (suc k) v z js ks same)) held.2 lasts
-        (λ j v js off. apart (suc j) v js (λ same. off (omega (arith, same)))) at is
-        (λ y found. new y (ap (λ (c : Bool). cond c (Some x) (stored_at name xs)) (ap (λ (h : Heading). bytes_eq h.name name) held.0 ∙ miss) ∙ found)),
+            (λ j v js off. apart (suc j) v js (λ same. off (omega (arith, same)))) at is
+            (λ y found. new y (ap (λ (c : Bool). cond c (Some x) (stored_at name xs)) (ap (λ (h : Heading). bytes_eq h.name name) held.0 ∙ miss) ∙ found)),
       ))
 
 -- no slots change where f changes none

@@ -94,17 +94,16 @@ insert_meant p m tables name columns values x row answer early found size row_is
     let refusal_is : refusal p m tables stmt ≡ or_else (refused_as a b) None =
     refused_late p m tables stmt early
     ∙ ap (λ (o : Option (Stored (List Row))). or_else (option_map_or (λ (t : Stored (List Row)). insert_refusal t (new_row t.heading.schema columns values)) o None) None)
-      (stored-database name tables ∙ ap (option_map (λ (u : Stored Slots). record { heading = u.heading; held = rows u.held })) found)
+    (stored-database name tables ∙ ap (option_map (λ (u : Stored Slots). record { heading = u.heading; held = rows u.held })) found)
     ∙ ap (λ (r : Row). or_else (insert_refusal (record { heading = x.heading; held = rows x.held }) r) None) (sym row_is)
     ∙ ap (λ (n : ℕ). or_else (if a then Some R.Duplicate else (if length (rows x.held) == n then Some R.Full else None)) None) (sym size) in
     let schema_is : columns_at name (headings tables) ≡ x.heading.schema =
-    ap (λ (o : Option Heading). option_map_or (λ (h : Heading). h.schema) o []) (heading-stored name tables ∙ ap (option_map (λ (u : Stored Slots). u.heading)) found) in
-    (
+    ap (λ (o : Option Heading). option_map_or (λ (h : Heading). h.schema) o []) (heading-stored name tables ∙ ap (option_map (λ (u : Stored Slots). u.heading)) found) in (
       ap inserted_as is ∙ outcome_plain a b stmt refl ∙ ap (λ (o : Option Refusal). outcome_of stmt (answered o A.Done)) (sym refusal_is),
       ap (λ (o : Option Refusal). followed o (settled tables stmt) tables) refusal_is
-      ∙ ap (λ (r : Row). followed (or_else (refused_as a b) None) (changed_at name (fill_first r) tables) tables) (ap (λ (cs : Columns). new_row cs columns values) schema_is ∙ sym row_is)
-      ∙ settle_plain a b name row tables
-      ∙ ap (λ (k : InsertedAs). changed_at name (λ slots. slots_after k row slots) tables) (sym is),
+          ∙ ap (λ (r : Row). followed (or_else (refused_as a b) None) (changed_at name (fill_first r) tables) tables) (ap (λ (cs : Columns). new_row cs columns values) schema_is ∙ sym row_is)
+          ∙ settle_plain a b name row tables
+          ∙ ap (λ (k : InsertedAs). changed_at name (λ slots. slots_after k row slots) tables) (sym is),
     )
 
 pub is_answered : (answer : InsertedAs) → IsAnswered (inserted_as answer)
@@ -230,11 +229,10 @@ cut_whole e some x a b cause went = record {
 pub held_before : {R : Type 0} (state : R → RevState) (old : Engine R) (s s1 : StoreState) (name : List ℕ) (i : ℕ) (table : Table) → Agrees state old s → Rests s s1 → IsAt name i table old.public.tables
     → (tables : Tables) → Represents state old s tables → (slots : Slots) × FlatRepresents old.room.pack (flat_of table) slots (at state old.vault s1)
 held_before state old s s1 name i table agrees rests here tables held =
-    let beside = held_at old.public.pack name old.public.tables tables i table (world_of state old s) agrees.tables.names held.held here.get here.named in
-    (
+    let beside = held_at old.public.pack name old.public.tables tables i table (world_of state old s) agrees.tables.names held.held here.get here.named in (
       beside.table.held,
       represents_rests _ s s1 rests old.room.pack (flat_of table) beside.table.held
-      (subst (λ (n : ℕ). FlatRepresents n (flat_of table) beside.table.held (world_of state old s)) (sym agrees.room.pack) beside.represents),
+          (subst (λ (n : ℕ). FlatRepresents n (flat_of table) beside.table.held (world_of state old s)) (sym agrees.room.pack) beside.represents),
     )
 
 -- the answer of a count has one number
@@ -242,11 +240,10 @@ pub count_some : {R : Type 0} (state : R → RevState) (old : Engine R) (s : Sto
     → (tables : Tables) → Represents state old s tables → refusal_now old.public (length s.asked) (count_of name) ≡ None
     → (k : ℕ) × (verdict old.public (length s.asked) tables (count_of name) ≡ A.Rows ((Int (pos k) ∷ []) ∷ []))
 count_some state old s name i table agrees here tables held now =
-    let beside = held_at old.public.pack name old.public.tables tables i table (world_of state old s) agrees.tables.names held.held here.get here.named in
-    (
+    let beside = held_at old.public.pack name old.public.tables tables i table (world_of state old s) agrees.tables.names held.held here.get here.named in (
       length (rows beside.table.held),
       count_meant old.public (length s.asked) tables name beside.table
-      (early_held old.public (length s.asked) (count_of name) tables (world_of state old s) None held.held now) beside.found,
+          (early_held old.public (length s.asked) (count_of name) tables (world_of state old s) None held.held now) beside.found,
     )
 
 module _ {R : Type 0} (state : R → RevState) (old : Engine R) (s s1 : StoreState) (v : Vault R) (room : RoomState) (t : StoreState)

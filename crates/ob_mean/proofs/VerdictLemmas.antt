@@ -1,12 +1,11 @@
 -- What a statement that is not refused early is answered, and what is seen of it.
-use Rattle.std.proofs.Common.{◌≡◌, ℕ, Bool, true, false, cond, List, [], ◌∷◌, length, Option, Some, None, refl, sym, ◌∙◌, ap, subst}
+use Rattle.std.proofs.Common.{◌≡◌, ℕ, true, false, cond, List, [], ◌∷◌, length, Option, Some, None, refl, ◌∙◌, ap}
 use Rattle.std.specs.Prelude.{bytes_eq, filter, is_some, if◌then◌else◌, pos}
 use Rattle.std.specs.Option.{option_map, option_map_or}
 use Rattle.ob_base.specs.declared.config.Public.{Public}
 use Rattle.ob_base.specs.declared.refusal.Refusal.{Refusal}
 use Rattle.ob_base.specs.declared.schema.Heading.{Heading}
-use Rattle.ob_base.specs.declared.seen.End.TheVariants.{Static, Whole}
-use Rattle.ob_base.specs.declared.shown.Shown.{Shown}
+use Rattle.ob_base.specs.declared.seen.End.TheVariants.{Static}
 use Rattle.ob_base.specs.declared.shown.Shown.TheVariants.{Int as ShownInt}
 use Rattle.ob_base.specs.declared.skeleton.Source.TheVariants.{Table as OneTable}
 use Rattle.ob_base.specs.Limits.{buffered}
@@ -16,10 +15,9 @@ use Rattle.ob_row.specs.Slots.{Slots, rows}
 use Rattle.ob_sql.specs.declared.stmt.Listed.TheVariants.{CountAll}
 use Rattle.ob_sql.specs.declared.stmt.Stmt.{Stmt}
 use Rattle.ob_sql.specs.declared.stmt.Stmt.TheVariants.{Select as SelectStmt}
-use Rattle.ob_mean.specs.declared.answer.Answer.{Answer}
 use Rattle.ob_mean.specs.declared.answer.Answer.TheVariants.{Rows}
 use Rattle.ob_mean.specs.Refusals.{early_refusal}
-use Rattle.ob_mean.specs.Step.{Database, rows_at, or_else, late_refusal, accepted_answer, answered}
+use Rattle.ob_mean.specs.Step.{rows_at, or_else, late_refusal, accepted_answer, answered}
 use Rattle.ob_mean.specs.Verdict.{Tables, database, is_late, last_refusal, refusal, verdict, seen, seen_started, ended}
 
 pub headings-database : (ts : Tables) → headings (database ts) ≡ headings ts

@@ -102,11 +102,11 @@ const ANSWERS: [(&str, &str); 20] = [
     ("SELECT COUNT(*) FROM t;", "E02 no table\n"),
     ("INSERT INTO t VALUES (1);", "E02 no table\n"),
     ("CREATE TABLE a (x INT) CAPACITY 0;", "E07 limit\n"),
+    ("CREATE TABLE a (x INT) CAPACITY 1048577;", "E07 limit\n"),
     (
-        "CREATE TABLE a (x INT) CAPACITY 1048577;",
-        "E07 limit\n",
+        "CREATE TABLE a (x INT, x INT) CAPACITY 1;",
+        "E03 name taken\n",
     ),
-    ("CREATE TABLE a (x INT, x INT) CAPACITY 1;", "E03 name taken\n"),
     (
         "CREATE TABLE a (x INT PRIMARY KEY, y INT PRIMARY KEY) CAPACITY 1;",
         "E08 key rule\n",
@@ -147,7 +147,10 @@ const ANSWERS: [(&str, &str); 20] = [
         "-- no; text\n; CREATE TABLE a (x INT) -- one; column\n CAPACITY 1; -- end",
         "= created\n",
     ),
-    ("CREATE TABLE a (x INT) CAPACITY 1; DROP TABLE a;", "= created\nE01 syntax 0\n"),
+    (
+        "CREATE TABLE a (x INT) CAPACITY 1; DROP TABLE a;",
+        "= created\nE01 syntax 0\n",
+    ),
 ];
 
 #[test]

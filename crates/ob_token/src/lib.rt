@@ -7,6 +7,8 @@ mod lex;
 mod tests;
 mod token;
 
-pub use cut::{Mode, Piece, ends_at, is_blank, is_solid, mode_after, semicolon_is_last, solid_after, split};
+pub use cut::{
+    Mode, Piece, ends_at, is_blank, is_solid, mode_after, semicolon_is_last, solid_after, split,
+};
 pub use lex::{is_blank_byte, is_printable_byte, tokens};
 pub use token::{Lexeme, Mark, Token};

@@ -29,7 +29,7 @@ returns-in-Err-row-clause-err g c =
 
 pub returns-in-Err-clause-err : goal.returns-in-Err-clause-err
 returns-in-Err-clause-err g c = (
-      _,
-      c.in-Err.ensures.err c.args.out.now [] (g.met.E.Emit.starts c.args.out.now),
-      (Row (Int (pos c.args.k) ∷ []) ∷ Close 1 ∷ [], λ i. Head (c.from_bytes.ensures i ∷ []) ∷ Row (Int (pos c.args.k) ∷ []) ∷ Close 1 ∷ []),
-    )
+  _,
+  c.in-Err.ensures.err c.args.out.now [] (g.met.E.Emit.starts c.args.out.now),
+  (Row (Int (pos c.args.k) ∷ []) ∷ Close 1 ∷ [], λ i. Head (c.from_bytes.ensures i ∷ []) ∷ Row (Int (pos c.args.k) ∷ []) ∷ Close 1 ∷ []),
+)

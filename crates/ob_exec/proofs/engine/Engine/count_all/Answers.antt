@@ -1,4 +1,4 @@
-use Rattle.std.proofs.Common.{◌≡◌, ◌⊎◌, inl, inr, ◌-◌, ℕ, Bool, IsTrue, List, [], ◌∷◌, length, Ok, Err, Result, sym, ◌∙◌, subst, ap, arith, slice_get, refl, pos}
+use Rattle.std.proofs.Common.{◌≡◌, ◌⊎◌, inl, inr, ◌-◌, IsTrue, List, [], ◌∷◌, length, Ok, Result, sym, ◌∙◌, subst, ap, arith, slice_get, pos}
 use Rattle.std.specs.Prelude.{None, OnErr}
 use Rattle.std.proofs.lemmas.Option.{slice_get_within}
 use Rattle.ob_base.specs.declared.refusal.Stop.{Stop}
@@ -22,7 +22,6 @@ use Rattle.ob_mean.specs.Headings.{headings_of}
 use Rattle.ob_mean.specs.Verdict.{Tables, is_late}
 use Rattle.ob_mean.proofs.EarlyLemmas.{allowed}
 use Rattle.ob_exec.specs.declared.outcome.Outcome.{Outcome}
-use Rattle.ob_exec.specs.declared.outcome.Outcome.TheVariants.{Rows}
 use Rattle.ob_exec.specs.Engines.{IsAt}
 use Rattle.ob_exec.specs.Running.{Emits, answer_of}
 use Rattle.ob_exec.specs.Serving.{count_of}
@@ -57,13 +56,12 @@ returns-then-is_err-clause-stopped g c =
     let table = found.0 in
     let here = subst (λ (ts : List Table). IsAt c.args.table.now i table ts) c.as_slice.ensures found.1 in
     subst (λ (r : Result Outcome Stop). OnErr r ((events : List Event) × (g.E.Emit.grew c.args.out.now c.args.out.now events ⊎ g.E.Emit.cut c.args.out.now c.args.out.now events)
-    × (IsTrue s.tells → (tables : Tables) → Stands state old s tables → (g.S.BlockStore.state c.room.new.self).lie ≡ None → Emitted (count_of c.args.table.now) old.public (length s.asked) tables r events))) (sym c.cut.ensures.answer)
-    (
+    × (IsTrue s.tells → (tables : Tables) → Stands state old s tables → (g.S.BlockStore.state c.room.new.self).lie ≡ None → Emitted (count_of c.args.table.now) old.public (length s.asked) tables r events))) (sym c.cut.ensures.answer) (
       [],
       inl (g.met.E.Emit.starts c.args.out.now),
       λ tells tables held honest.
-      let some = count_some state old s c.args.table.now i table c.requires.agrees here tables held c.requires.allowed in
-      count_none c.args.table.now old.public (length s.asked) tables some.0 some.1 OpErrs.NoMemory,
+          let some = count_some state old s c.args.table.now i table c.requires.agrees here tables held c.requires.allowed in
+          count_none c.args.table.now old.public (length s.asked) tables some.0 some.1 OpErrs.NoMemory,
     )
 
 pub returns-in-Err-clause-ran : goal.returns-in-Err-clause-ran
@@ -124,9 +122,9 @@ returns-in-Err-clause-emits g c =
       g.met.E.Emit.starts c.args.out.now,
       emits_fault c.in-Err.error outcome is,
       λ tells tables held honest.
-      let some = count_some state old s c.args.table.now i table c.requires.agrees here tables held c.requires.allowed in
-      subst (λ (r : Result Outcome Stop). Emitted (count_of c.args.table.now) old.public (length s.asked) tables r []) (sym c.cut-in-Err.ensures.answer)
-      (count_none c.args.table.now old.public (length s.asked) tables some.0 some.1 c.in-Err.error),
+          let some = count_some state old s c.args.table.now i table c.requires.agrees here tables held c.requires.allowed in
+          subst (λ (r : Result Outcome Stop). Emitted (count_of c.args.table.now) old.public (length s.asked) tables r []) (sym c.cut-in-Err.ensures.answer)
+          (count_none c.args.table.now old.public (length s.asked) tables some.0 some.1 c.in-Err.error),
     ))
 
 pub returns-in-Err-clause-stopped : goal.returns-in-Err-clause-stopped
@@ -142,9 +140,9 @@ returns-in-Err-clause-stopped g c =
       [],
       inl (g.met.E.Emit.starts c.args.out.now),
       λ tells tables held honest.
-      let some = count_some state old s c.args.table.now i table c.requires.agrees here tables held c.requires.allowed in
-      subst (λ (r : Result Outcome Stop). Emitted (count_of c.args.table.now) old.public (length s.asked) tables r []) (sym c.cut-in-Err.ensures.answer)
-      (count_none c.args.table.now old.public (length s.asked) tables some.0 some.1 c.in-Err.error),
+          let some = count_some state old s c.args.table.now i table c.requires.agrees here tables held c.requires.allowed in
+          subst (λ (r : Result Outcome Stop). Emitted (count_of c.args.table.now) old.public (length s.asked) tables r []) (sym c.cut-in-Err.ensures.answer)
+          (count_none c.args.table.now old.public (length s.asked) tables some.0 some.1 c.in-Err.error),
     )
 
 pub returns-in-Ok-emit_count-clause-ran : goal.returns-in-Ok-emit_count-clause-ran
@@ -199,17 +197,16 @@ returns-in-Ok-emit_count-clause-emits g c =
     let found = c.in-Some.ensures.found in
     let table = found.0 in
     let here = subst (λ (ts : List Table). IsAt c.args.table.now i table ts) c.as_slice.ensures found.1 in
-    let flat_is = c.flat_at-flat.ensures table (ap (λ (ts : List Table). slice_get ts i) c.as_slice-2.ensures ∙ here.get) in
-    (
+    let flat_is = c.flat_at-flat.ensures table (ap (λ (ts : List Table). slice_get ts i) c.as_slice-2.ensures ∙ here.get) in (
       count_events c.in-Ok.counted.k,
       c.in-Ok-emit_count.ensures.ok,
       subst (λ (o : Outcome). Emits o (count_events c.in-Ok.counted.k)) (sym c.finish.ensures.answer) (one_row count_labels (Int (pos c.in-Ok.counted.k) ∷ [])),
       λ tells tables held honest.
-      let is = count_is state old s s1 v room t c.args.table.now i table _ c.requires.agrees c.room.ensures.rests c.count-2.ensures.room here tables held c.requires.allowed c.in-Ok.counted.k
-      (λ slots before. ap (λ r. r.k) (c.in-Ok.ensures.told slots (subst (λ (f : Flat). Represents old.room.pack f slots (at state old.vault s1)) (sym flat_is) before) honest)
-      ∙ ap (λ (p : Condition). length (selected (is_true p) slots)) c.all.ensures) in
-      subst (λ (o : Outcome). Emitted (count_of c.args.table.now) old.public (length s.asked) tables (Ok o) (count_events c.in-Ok.counted.k)) (sym c.finish.ensures.answer)
-      (count_emitted c.args.table.now old.public (length s.asked) tables c.in-Ok.counted.k is),
+          let is = count_is state old s s1 v room t c.args.table.now i table _ c.requires.agrees c.room.ensures.rests c.count-2.ensures.room here tables held c.requires.allowed c.in-Ok.counted.k
+          (λ slots before. ap (λ r. r.k) (c.in-Ok.ensures.told slots (subst (λ (f : Flat). Represents old.room.pack f slots (at state old.vault s1)) (sym flat_is) before) honest)
+          ∙ ap (λ (p : Condition). length (selected (is_true p) slots)) c.all.ensures) in
+          subst (λ (o : Outcome). Emitted (count_of c.args.table.now) old.public (length s.asked) tables (Ok o) (count_events c.in-Ok.counted.k)) (sym c.finish.ensures.answer)
+          (count_emitted c.args.table.now old.public (length s.asked) tables c.in-Ok.counted.k is),
     )
 
 pub returns-in-Err-Failed-clause-ran : goal.returns-in-Err-Failed-clause-ran
@@ -274,11 +271,11 @@ returns-in-Err-Failed-clause-stopped g c =
       partly.0,
       inr partly.1,
       λ tells tables held honest.
-      let is = count_is state old s s1 v room t c.args.table.now i table _ c.requires.agrees c.room.ensures.rests c.count-2.ensures.room here tables held c.requires.allowed c.in-Ok.counted.k
-      (λ slots before. ap (λ r. r.k) (c.in-Ok.ensures.told slots (subst (λ (f : Flat). Represents old.room.pack f slots (at state old.vault s1)) (sym flat_is) before) honest)
-      ∙ ap (λ (p : Condition). length (selected (is_true p) slots)) c.all.ensures) in
-      subst (λ (r : Result Outcome Stop). Emitted (count_of c.args.table.now) old.public (length s.asked) tables r partly.0) (sym c.cut-in-Err-Failed.ensures.answer)
-      (count_partly c.args.table.now old.public (length s.asked) tables c.in-Ok.counted.k is SinkFault partly.0 partly.2),
+          let is = count_is state old s s1 v room t c.args.table.now i table _ c.requires.agrees c.room.ensures.rests c.count-2.ensures.room here tables held c.requires.allowed c.in-Ok.counted.k
+          (λ slots before. ap (λ r. r.k) (c.in-Ok.ensures.told slots (subst (λ (f : Flat). Represents old.room.pack f slots (at state old.vault s1)) (sym flat_is) before) honest)
+          ∙ ap (λ (p : Condition). length (selected (is_true p) slots)) c.all.ensures) in
+          subst (λ (r : Result Outcome Stop). Emitted (count_of c.args.table.now) old.public (length s.asked) tables r partly.0) (sym c.cut-in-Err-Failed.ensures.answer)
+          (count_partly c.args.table.now old.public (length s.asked) tables c.in-Ok.counted.k is SinkFault partly.0 partly.2),
     )
 
 pub returns-in-Err-NoMemory-clause-ran : goal.returns-in-Err-NoMemory-clause-ran
@@ -343,9 +340,9 @@ returns-in-Err-NoMemory-clause-stopped g c =
       partly.0,
       inr partly.1,
       λ tells tables held honest.
-      let is = count_is state old s s1 v room t c.args.table.now i table _ c.requires.agrees c.room.ensures.rests c.count-2.ensures.room here tables held c.requires.allowed c.in-Ok.counted.k
-      (λ slots before. ap (λ r. r.k) (c.in-Ok.ensures.told slots (subst (λ (f : Flat). Represents old.room.pack f slots (at state old.vault s1)) (sym flat_is) before) honest)
-      ∙ ap (λ (p : Condition). length (selected (is_true p) slots)) c.all.ensures) in
-      subst (λ (r : Result Outcome Stop). Emitted (count_of c.args.table.now) old.public (length s.asked) tables r partly.0) (sym c.cut-in-Err-NoMemory.ensures.answer)
-      (count_partly c.args.table.now old.public (length s.asked) tables c.in-Ok.counted.k is NoMemory partly.0 partly.2),
+          let is = count_is state old s s1 v room t c.args.table.now i table _ c.requires.agrees c.room.ensures.rests c.count-2.ensures.room here tables held c.requires.allowed c.in-Ok.counted.k
+          (λ slots before. ap (λ r. r.k) (c.in-Ok.ensures.told slots (subst (λ (f : Flat). Represents old.room.pack f slots (at state old.vault s1)) (sym flat_is) before) honest)
+          ∙ ap (λ (p : Condition). length (selected (is_true p) slots)) c.all.ensures) in
+          subst (λ (r : Result Outcome Stop). Emitted (count_of c.args.table.now) old.public (length s.asked) tables r partly.0) (sym c.cut-in-Err-NoMemory.ensures.answer)
+          (count_partly c.args.table.now old.public (length s.asked) tables c.in-Ok.counted.k is NoMemory partly.0 partly.2),
     )

@@ -9,7 +9,6 @@ use Rattle.ob_vault.specs.Places.{at}
 use Rattle.ob_row.specs.Slots.{empty_slots}
 use Rattle.ob_exec.specs.declared.outcome.Outcome.{Outcome}
 use Rattle.ob_exec.specs.Running.{answer_of, is_stop}
-use Rattle.ob_exec.specs.Engines.{IsAt}
 use Rattle.ob_exec.specs.Schemas.{IsStored}
 use Rattle.ob_exec.proofs.RunLemmas.{ran_as, engine_after}
 use Rattle.ob_exec.proofs.ToldLemmas.{told_as, fault_made}

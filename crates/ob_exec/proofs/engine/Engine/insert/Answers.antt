@@ -1,4 +1,4 @@
-use Rattle.std.proofs.Common.{◌≡◌, ◌⊎◌, inl, inr, ◌*◌, ◌-◌, ℕ, Bool, IsTrue, List, Ok, sym, ◌∙◌, subst, ap, arith, length, slice_get, slice_set}
+use Rattle.std.proofs.Common.{◌≡◌, ◌*◌, ◌-◌, ℕ, Bool, IsTrue, List, Ok, sym, ◌∙◌, subst, ap, arith, length, slice_get, slice_set}
 use Rattle.std.specs.Prelude.{All, None}
 use Rattle.std.proofs.lemmas.Option.{slice_get_within}
 use Rattle.ob_base.specs.declared.schema.Table.{Table}
@@ -12,7 +12,6 @@ use Rattle.ob_flat.specs.declared.flat.Flat.{Flat}
 use Rattle.ob_flat.specs.Flats.{IsFlat, Represents}
 use Rattle.ob_flat.specs.Passes.{PassCut}
 use Rattle.ob_row.specs.Rows.{Row}
-use Rattle.ob_row.specs.Slots.{Slots}
 use Rattle.ob_row.specs.Spelling.{Fits, IsCell}
 use Rattle.ob_mutate.specs.Inserting.{insert_answer, slots_after}
 use Rattle.ob_sql.specs.declared.stmt.Stmt.TheVariants.{Insert}
@@ -24,7 +23,7 @@ use Rattle.ob_mean.proofs.EarlyLemmas.{allowed}
 use Rattle.ob_mean.proofs.InsertLemmas.{insert_fits}
 use Rattle.ob_exec.specs.declared.engine.Engine.{Engine}
 use Rattle.ob_exec.specs.declared.outcome.Outcome.{Outcome}
-use Rattle.ob_exec.specs.Engines.{IsAt, flat_of}
+use Rattle.ob_exec.specs.Engines.{IsAt}
 use Rattle.ob_exec.specs.Running.{inserted_as}
 use Rattle.ob_exec.proofs.FoundLemmas.{heading_found, is_there}
 use Rattle.ob_exec.proofs.ToldLemmas.{told_as, fault_made}
@@ -122,11 +121,10 @@ returns-in-Ok-insert-clause-told g c tells tables held honest =
     c.args.values.now tables held c.requires.allowed c.in-Ok-insert.inserted went
     (λ slots is.
     let before = subst (λ (f : Flat). Represents old.room.pack f slots (at state old.vault s1)) (sym flat_is) is in
-    let got = c.in-Ok-insert.ensures.told tells_now slots before honest in
-    (
+    let got = c.in-Ok-insert.ensures.told tells_now slots before honest in (
       got.0 ∙ (λ j. insert_answer (flat_is j).schema (cells_is j) slots),
       subst (λ (f : Flat). Represents old.room.pack f (slots_after c.in-Ok-insert.inserted (new_row table.heading.schema c.args.columns.now c.args.values.now) slots) (at state v t)) moved
-      (subst (λ (r : Row). Represents old.room.pack c.insert.new.flat (slots_after c.in-Ok-insert.inserted r slots) (at state v t)) cells_is got.1),
+          (subst (λ (r : Row). Represents old.room.pack c.insert.new.flat (slots_after c.in-Ok-insert.inserted r slots) (at state v t)) cells_is got.1),
     )) in
     let region : c.insert.new.flat.region ≡ next = ap (λ (f : Flat). f.region) moved in
     let move = c.move_table.ensures table here.get in

@@ -1,13 +1,10 @@
-use Rattle.std.proofs.Common.{◌≡◌, ◌⊎◌, inl, inr, ℕ, Bool, List, [], ◌∷◌, length, Ok, Result, sym, ◌∙◌, ap, subst, refl}
-use Rattle.std.specs.Prelude.{None, Some, OnErr, IfOk, IsTrue}
-use Rattle.ob_base.specs.declared.refusal.Stop.{Stop}
+use Rattle.std.proofs.Common.{◌≡◌, ◌⊎◌, inl, List, [], length, Ok, sym, ◌∙◌, ap, subst, refl}
+use Rattle.std.specs.Prelude.{None, OnErr, IfOk, IsTrue}
 use Rattle.ob_base.specs.Events.{Event}
 use Rattle.ob_sql.specs.declared.stmt.Stmt.{Stmt}
 use Rattle.ob_sql.specs.declared.stmt.Stmt.TheVariants.{Select as SelectStmt}
-use Rattle.ob_sql.specs.Skeleton.{skeleton}
 use Rattle.ob_mean.specs.Verdict.{Tables}
 use Rattle.ob_exec.specs.declared.outcome.Outcome.{Outcome}
-use Rattle.ob_exec.specs.declared.outcome.Outcome.TheVariants.{Refused}
 use Rattle.ob_exec.specs.Running.{Emits, refusal_now}
 use Rattle.ob_exec.specs.Serving.{IsServed, count_of}
 use Rattle.ob_exec.specs.Telling.{Represents, Emitted}
@@ -28,14 +25,13 @@ returns-in-Some-clause-emits g c =
     let p = c.args.self.now.public in
     let stmt = c.args.stmt.now in
     let s = g.S.BlockStore.state c.args.store.now in
-    let now = (λ i. refusal_now p (sym c.count.ensures i) stmt) ∙ sym c.early_refusal.ensures ∙ c.in-Some.is in
-    (
+    let now = (λ i. refusal_now p (sym c.count.ensures i) stmt) ∙ sym c.early_refusal.ensures ∙ c.in-Some.is in (
       [],
       g.met.E.Emit.starts c.args.out.now,
       subst (λ (o : Outcome). Emits o []) (sym c.refuse.ensures.answer) refl,
       λ tells tables held honest.
-      subst (λ (o : Outcome). Emitted stmt p (length s.asked) tables (Ok o) []) (sym c.refuse.ensures.answer)
-      (emitted_refused g.R.Revisions.state c.args.self.now s stmt tables c.in-Some.refusal held now),
+          subst (λ (o : Outcome). Emitted stmt p (length s.asked) tables (Ok o) []) (sym c.refuse.ensures.answer)
+          (emitted_refused g.R.Revisions.state c.args.self.now s stmt tables c.in-Some.refusal held now),
     )
 
 pub returns-in-Some-clause-told : goal.returns-in-Some-clause-told
