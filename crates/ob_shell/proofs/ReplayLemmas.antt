@@ -70,8 +70,8 @@ record Goes (a b : StoreState) : Type 0 where
   lie : b.lie ≡ None → a.lie ≡ None
 
 step_goes : {R : Type 0} (state : R → RevState) (m0 m1 : Machine R) (text : List ℕ) (answer : Answer) → Misspelt m0 m1 text answer ⊎ Served state m0 m1 text answer → Goes m0.store m1.store
-step_goes {R} state m0 m1 text answer (inl no) = record { tells = ap (λ (m : Machine R). m.store.tells) no.same; lie = λ none. ap (λ (m : Machine R). m.store.lie) (sym no.same) ∙ none }
-step_goes state m0 m1 text answer (inr yes) = record { tells = yes.ran.later.tells; lie = no_lie m0.store.lie m0.store m1.store refl yes.ran.later }
+step_goes {R} state m0 m1 text answer (inl bad) = record { tells = ap (λ (m : Machine R). m.store.tells) bad.same; lie = λ none. ap (λ (m : Machine R). m.store.lie) (sym bad.same) ∙ none }
+step_goes state m0 m1 text answer (inr did) = record { tells = did.ran.later.tells; lie = no_lie m0.store.lie m0.store m1.store refl did.ran.later }
 
 pub steps_honest : {R : Type 0} (state : R → RevState) (m0 m2 : Machine R) (texts : List (List ℕ)) (answers : List Answer) → Steps state m0 m2 texts answers → m2.store.lie ≡ None → m0.store.lie ≡ None
 unfolding Steps
@@ -84,13 +84,13 @@ module _ {R : Type 0} (state : R → RevState) (m0 m1 m2 : Machine R) (tables : 
     (is : answers ≡ one ∷ more) where
   unasked : Misspelt m0 m1 text one → Replayed state m1 m2 tables texts more → Replayed state m0 m2 tables (text ∷ texts) answers
   unfolding Replays
-  unasked no rest =
-      let one_is : one ≡ refused_at no.at = λ i. record { outcome = no.refused i; bytes = (no.line ∙ ap closing_line no.refused) i } in
-      let from : Replayed state m0 m2 tables texts more = subst (λ (m : Machine R). Replayed state m m2 tables texts more) no.same rest in
+  unasked bad rest =
+      let one_is : one ≡ refused_at bad.at = λ i. record { outcome = bad.refused i; bytes = (bad.line ∙ ap closing_line bad.refused) i } in
+      let from : Replayed state m0 m2 tables texts more = subst (λ (m : Machine R). Replayed state m m2 tables texts more) bad.same rest in
       record {
-        spelt = Err no.at ∷ from.spelt;
+        spelt = Err bad.at ∷ from.spelt;
         broken = None ∷ from.broken;
-        replays = (one, more, is, no.spells, one_is, from.replays);
+        replays = (one, more, is, bad.spells, one_is, from.replays);
         left = from.left;
         stands = from.stands;
         held = from.held;
@@ -98,53 +98,53 @@ module _ {R : Type 0} (state : R → RevState) (m0 m1 m2 : Machine R) (tables : 
       }
 
   -- the session after it
-  module _ (yes : Served state m0 m1 text one) (how : Option ℕ) (after_it : Tables)
-      (seen_is : seen_of m1.engine ≡ seen_or_cut how (session_of m0 tables) yes.stmt) (settles : (after how (session_of m0 tables) yes.stmt).tables ≡ after_it) where
-    stands_after : after how (session_of m0 tables) yes.stmt ≡ session_of m1 after_it
+  module _ (did : Served state m0 m1 text one) (how : Option ℕ) (after_it : Tables)
+      (seen_is : seen_of m1.engine ≡ seen_or_cut how (session_of m0 tables) did.stmt) (settles : (after how (session_of m0 tables) did.stmt).tables ≡ after_it) where
+    stands_after : after how (session_of m0 tables) did.stmt ≡ session_of m1 after_it
     stands_after =
         let p = public_of m0.engine in
-        let sk = skeleton yes.stmt in
-        let public_is : next p sk (seen_or_cut how (session_of m0 tables) yes.stmt) ≡ public_of m1.engine = ap (next p sk) (sym seen_is) ∙ sym yes.ran.goes_on.public in
-        let asked_is : length m0.store.asked + length (script p sk (seen_or_cut how (session_of m0 tables) yes.stmt)) ≡ length m1.store.asked =
-        ap (λ (x : Seen). length m0.store.asked + length (script p sk x)) (sym seen_is) ∙ sym (length-append m0.store.asked (script p sk (seen_of m1.engine))) ∙ ap length (sym yes.ran.asked) in
+        let sk = skeleton did.stmt in
+        let public_is : next p sk (seen_or_cut how (session_of m0 tables) did.stmt) ≡ public_of m1.engine = ap (next p sk) (sym seen_is) ∙ sym did.ran.goes_on.public in
+        let asked_is : length m0.store.asked + length (script p sk (seen_or_cut how (session_of m0 tables) did.stmt)) ≡ length m1.store.asked =
+        ap (λ (x : Seen). length m0.store.asked + length (script p sk x)) (sym seen_is) ∙ sym (length-append m0.store.asked (script p sk (seen_of m1.engine))) ∙ ap length (sym did.ran.asked) in
         λ i. record { public = public_is i; tables = settles i; asked = asked_is i }
 
-    go_on : AnswersIn how (session_of m0 tables) yes.stmt one → Replayed state m1 m2 after_it texts more → Replayed state m0 m2 tables (text ∷ texts) answers
+    go_on : AnswersIn how (session_of m0 tables) did.stmt one → Replayed state m1 m2 after_it texts more → Replayed state m0 m2 tables (text ∷ texts) answers
     unfolding Replays
     go_on answer rest =
         let p = public_of m0.engine in
-        let sk = skeleton yes.stmt in
-        let seen_there = seen_or_cut how (session_of m0 tables) yes.stmt in
+        let sk = skeleton did.stmt in
+        let seen_there = seen_or_cut how (session_of m0 tables) did.stmt in
         record {
-          spelt = Ok yes.stmt ∷ rest.spelt;
+          spelt = Ok did.stmt ∷ rest.spelt;
           broken = how ∷ rest.broken;
-          replays = (one, more, is, yes.spells, answer, subst (λ (s : Session). Replays s texts rest.spelt rest.broken more) (sym stands_after) rest.replays);
+          replays = (one, more, is, did.spells, answer, subst (λ (s : Session). Replays s texts rest.spelt rest.broken more) (sym stands_after) rest.replays);
           left = rest.left;
           stands = ap (λ (s : Session). after_all s rest.spelt rest.broken) stands_after ∙ rest.stands;
           held = rest.held;
           asked =
               rest.asked
-              ∙ (λ i. (yes.ran.asked ∙ ap (λ (x : Seen). m0.store.asked ++ script p sk x) seen_is) i ++ trace (sym stands_after i).public (all_served (sym stands_after i) rest.spelt rest.broken))
+              ∙ (λ i. (did.ran.asked ∙ ap (λ (x : Seen). m0.store.asked ++ script p sk x) seen_is) i ++ trace (sym stands_after i).public (all_served (sym stands_after i) rest.spelt rest.broken))
               ∙ append_assoc m0.store.asked (script p sk seen_there) _;
         }
 
   asked_one : Served state m0 m1 text one → IsTrue m0.store.tells → Represents state m0.engine m0.store tables → m1.store.lie ≡ None
       → ((after_it : Tables) → Represents state m1.engine m1.store after_it → Replayed state m1 m2 after_it texts more) → Replayed state m0 m2 tables (text ∷ texts) answers
-  asked_one yes tells held honest rest =
+  asked_one did tells held honest rest =
       let p = public_of m0.engine in
       let m = length m0.store.asked in
-      elim outcome_cases one.outcome _ _ _ _ (yes.meant.told tells tables held honest) (yes.meant.emitted tells tables held honest) [
-        | inl both ↦ go_on yes None (settle p m tables yes.stmt) both.0.seen refl
-            (record { outcome = both.0.answer; events = yes.events; prints = both.1; bytes = yes.printed }) (rest (settle p m tables yes.stmt) both.0.held)
-        | inr by ↦ go_on yes (Some (length m1.store.asked - m)) tables by.told.seen refl
-            (record { outcome = by.is; events = yes.events; unfinished = by.too; bytes = yes.printed }) (rest tables by.told.held)
+      elim (outcome_cases one.outcome _ _ _ _ (did.meant.told tells tables held honest) (did.meant.emitted tells tables held honest)) [
+        | inl both ↦ go_on did None (settle p m tables did.stmt) both.0.seen refl
+            (record { outcome = both.0.answer; events = did.events; prints = both.1; bytes = did.printed }) (rest (settle p m tables did.stmt) both.0.held)
+        | inr by ↦ go_on did (Some (length m1.store.asked - m)) tables by.told.seen refl
+            (record { outcome = by.is; events = did.events; unfinished = by.too; bytes = did.printed }) (rest tables by.told.held)
       ]
 
   pub one_more : Step state m0 m1 text one → IsTrue m0.store.tells → Represents state m0.engine m0.store tables → m1.store.lie ≡ None
       → ((after_it : Tables) → Represents state m1.engine m1.store after_it → Replayed state m1 m2 after_it texts more) → Replayed state m0 m2 tables (text ∷ texts) answers
   one_more step tells held honest rest = elim step.done [
-    | inl no ↦ unasked no (rest tables (subst (λ (x : Machine R). Represents state x.engine x.store tables) (sym no.same) held))
-    | inr yes ↦ asked_one yes tells held honest rest
+    | inl bad ↦ unasked bad (rest tables (subst (λ (x : Machine R). Represents state x.engine x.store tables) (sym bad.same) held))
+    | inr did ↦ asked_one did tells held honest rest
   ]
 
 -- ---- all of them

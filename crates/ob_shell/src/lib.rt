@@ -3,6 +3,7 @@
 
 mod feed;
 mod key;
+mod laws;
 mod pending;
 mod session;
 mod top;
@@ -11,6 +12,7 @@ mod words;
 
 pub use feed::{Feed, Halt};
 pub use key::{FirstLine, read_key};
+pub use laws::answers_are_meant;
 pub use pending::{Grown, Pending, PushStop};
 pub use session::{Halted, serve};
 pub use top::{Ended, Ending, Report, meddle_top, shell_top};
