@@ -1,28 +1,22 @@
 -- The answers of texts that were served are those of the meaning.
 use Rattle.std.proofs.Common.{◌≡◌, ◌⊎◌, inl, inr, ◌+◌, ◌-◌, ℕ, IsTrue, Bool, List, [], ◌∷◌, ◌++◌, length, Option, Some, None, Ok, Err, refl, sym, ◌∙◌, ap, subst, append-nil, append_assoc}
 use Rattle.std.proofs.lemmas.List.{length-append}
-use Rattle.ob_base.specs.Events.{Event}
-use Rattle.ob_base.specs.declared.config.Public.{Public}
 use Rattle.ob_base.specs.declared.refusal.Refusal.{Refusal}
 use Rattle.ob_base.specs.declared.refusal.Refusal.TheVariants.{Syntax, NoTable, NameTaken, NoColumn, WrongType, ValueRange, Limit, KeyRule, JoinKey, Duplicate, Full, TooManyGroups, NotConsecutive, Overflow, StoreFault}
 use Rattle.ob_base.specs.declared.seen.Seen.{Seen}
 use Rattle.ob_exec.specs.Agreeing.{public_of, seen_of}
-use Rattle.ob_exec.specs.Telling.{Represents, Meant, Kept, Told, told_refusal, told_outcome}
+use Rattle.ob_exec.specs.Telling.{Represents, told_refusal, told_outcome}
 use Rattle.ob_exec.specs.declared.outcome.Outcome.{Outcome}
 use Rattle.ob_exec.specs.declared.outcome.Outcome.TheVariants.{Created, Inserted, Changed, Deleted, Dropped, Rows, Refused}
-use Rattle.ob_mean.specs.Headings.{headings_of}
-use Rattle.ob_mean.specs.Prints.{Prints, Unfinished, labels_of}
 use Rattle.ob_mean.specs.Replay.{Session, after, after_all, all_served, seen_or_cut}
 use Rattle.ob_mean.specs.Settle.{settle}
-use Rattle.ob_mean.specs.Verdict.{Tables, verdict, seen}
-use Rattle.ob_print.specs.Rows.{events_text}
+use Rattle.ob_mean.specs.Verdict.{Tables}
 use Rattle.ob_script.specs.Script.{script}
 use Rattle.ob_script.specs.Trace.{trace, next}
 use Rattle.ob_shell.specs.Closing.{closing_line}
 use Rattle.ob_shell.specs.Replayed.{session_of, AnswersIn, Replays, Replayed, refused_at}
-use Rattle.ob_shell.specs.Steps.{Machine, Answer, Misspelt, Served, Step, Steps, Spells}
+use Rattle.ob_shell.specs.Steps.{Machine, Answer, Misspelt, Served, Step, Steps}
 use Rattle.ob_sql.specs.Skeleton.{skeleton}
-use Rattle.ob_sql.specs.declared.stmt.Stmt.{Stmt}
 use Rattle.ob_store.specs.Runs.{Later}
 use Rattle.ob_store.specs.State.{Lie, StoreState}
 use Rattle.ob_vault.specs.State.{RevState}
@@ -60,16 +54,16 @@ outcome_cases Dropped whole cut with also a b = inl (a, b)
 outcome_cases (Rows k) whole cut with also a b = inl (a, b)
 
 -- ---- no lie is told before a state in which none is
-no_lie : (o : Option Lie) (a b : StoreState) → a.lie ≡ o → Later a b → b.lie ≡ None → a.lie ≡ None
+pub no_lie : (o : Option Lie) (a b : StoreState) → a.lie ≡ o → Later a b → b.lie ≡ None → a.lie ≡ None
 no_lie None a b is later none = is
 no_lie (Some lie) a b is later none = absurd (cc (later.lie lie is, none))
 
 -- what lasts over one text
-record Goes (a b : StoreState) : Type 0 where
-  tells : b.tells ≡ a.tells
-  lie : b.lie ≡ None → a.lie ≡ None
+pub record Goes (a b : StoreState) : Type 0 where
+  pub tells : b.tells ≡ a.tells
+  pub lie : b.lie ≡ None → a.lie ≡ None
 
-step_goes : {R : Type 0} (state : R → RevState) (m0 m1 : Machine R) (text : List ℕ) (answer : Answer) → Misspelt m0 m1 text answer ⊎ Served state m0 m1 text answer → Goes m0.store m1.store
+pub step_goes : {R : Type 0} (state : R → RevState) (m0 m1 : Machine R) (text : List ℕ) (answer : Answer) → Misspelt m0 m1 text answer ⊎ Served state m0 m1 text answer → Goes m0.store m1.store
 step_goes {R} state m0 m1 text answer (inl bad) = record { tells = ap (λ (m : Machine R). m.store.tells) bad.same; lie = λ none. ap (λ (m : Machine R). m.store.lie) (sym bad.same) ∙ none }
 step_goes state m0 m1 text answer (inr did) = record { tells = did.ran.later.tells; lie = no_lie m0.store.lie m0.store m1.store refl did.ran.later }
 

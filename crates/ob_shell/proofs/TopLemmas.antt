@@ -1,12 +1,15 @@
 -- The whole run, from its first line and its session.
-use Rattle.std.proofs.Common.{◌≡◌, ◌≢◌, ℕ, ◌≤◌, ◌==◌, Bool, true, false, List, [], ◌∷◌, ◌++◌, length, Option, Some, Ok, Err, Result, refl, sym, ap, ◌∙◌, subst, inl, inr, arith, append-nil, length-append}
+use Rattle.std.proofs.Common.{◌≡◌, ◌≢◌, ℕ, ◌≤◌, ◌==◌, Bool, true, false, List, [], ◌∷◌, ◌++◌, length, Option, Some, None, IsTrue, Ok, Err, Result, refl, sym, ap, ◌∙◌, subst, inl, inr, arith, append-nil, length-append}
 use Rattle.std.specs.Prelude.{IsErr, IsOk, OnOk, OnErr}
 use Rattle.std.specs.Io.KnownBytes.{Appends}
 use Rattle.std.proofs.KnownBytes.{Appends-nil, Appends-trans, Consumes-trans, Consumes-nil}
 use Rattle.ob_base.specs.Counts.{Rises}
 use Rattle.ob_base.specs.declared.refusal.Stop.{Stop}
 use Rattle.ob_base.specs.declared.refusal.Stop.TheVariants.{Tampered, SourceFault, SinkFault, NoMemory, InputLimit}
-use Rattle.ob_exec.specs.Agreeing.{high_of}
+use Rattle.ob_base.specs.declared.config.Public.{Public}
+use Rattle.ob_exec.specs.Agreeing.{public_of, high_of, world_of}
+use Rattle.ob_exec.specs.Telling.{AreHeld}
+use Rattle.ob_mean.specs.Replay.{first_public}
 use Rattle.ob_exec.specs.declared.engine.Engine.{Engine}
 use Rattle.ob_vault.specs.State.{RevState}
 use Rattle.ob_print.specs.Cuts.{Cut}
@@ -15,8 +18,9 @@ use Rattle.ob_store.specs.State.{StoreState}
 use Rattle.ob_shell.specs.Texts.{is_over, rest_of, texts_of, texts_in}
 use Rattle.ob_shell.specs.Feeding.{Fetch, Fed}
 use Rattle.ob_shell.specs.KeyLine.{has_lf, first_line, after_line, secret_of, KeyRead}
-use Rattle.ob_shell.specs.Steps.{machine_of, printed}
-use Rattle.ob_shell.specs.Running.{Faults, SessionRan, EndsBy, SinkFailed, SinksRose}
+use Rattle.ob_shell.specs.Replayed.{Replayed}
+use Rattle.ob_shell.specs.Steps.{Machine, Answer, Steps, machine_of, printed}
+use Rattle.ob_shell.specs.Running.{Faults, SessionRan, LastPart, EndsBy, SinkFailed, SinksRose}
 use Rattle.ob_shell.specs.Endings.{last_line, SinkStopped}
 use Rattle.ob_shell.specs.Top.{HasSecret, RanSays, EndingSays, EndingWords, Carried, Shown, RanAfter, EndingCause, EndingFlag, StatusCause}
 use Rattle.ob_shell.specs.declared.feed.Halt.{Halt}
@@ -24,6 +28,7 @@ use Rattle.ob_shell.specs.declared.key.FirstLine.TheVariants.{Secret, Last, Bad}
 use Rattle.ob_shell.specs.declared.top.Ending.{Ending}
 use Rattle.ob_shell.specs.declared.top.Ending.TheVariants.{Usage, BadKey, Ran as RanEnding}
 use Rattle.ob_shell.proofs.TextLemmas.{rest_of-nil, texts_of-nil}
+use Rattle.ob_shell.proofs.ReplayLemmas.{no_lie, step_goes, replayed}
 use Rattle.ob_shell.proofs.StepLemmas.{printed-nil, any_refused-nil}
 use Rattle.ob_shell.proofs.KeyLemmas.{after_line-none}
 
@@ -165,10 +170,27 @@ ran_nothing secret f l w s = record {
   ends = tt;
 }
 
+-- from no tables
+meant_from : {R : Type 0} (state : R → RevState) (first : Engine R) (s0 : StoreState) (middle : Machine R) (served : List (List ℕ)) (answers : List Answer)
+    → public_of first ≡ first_public 64 5 1 None → Steps state (machine_of first s0) middle served answers → IsTrue s0.tells → middle.store.lie ≡ None
+    → Replayed state (machine_of first s0) middle [] served answers
+meant_from state first s0 middle served answers fresh steps tells honest =
+    replayed state served (machine_of first s0) middle [] answers steps tells honest
+    (record { held = subst (λ (p : Public). AreHeld p.pack p.tables [] (world_of state first s0)) (sym fresh) tt })
+
+-- no lie was told before the last part
+last_honest : {R : Type 0} (state : R → RevState) (m1 m2 : Machine R) (more : List (List ℕ)) (part : List ℕ) (result : Result Bool Stop) → LastPart state m1 m2 more part result
+    → m2.store.lie ≡ None → m1.store.lie ≡ None
+last_honest {R} state m1 m2 more part (Ok flag) rests none = ap (λ (m : Machine R). m.store.lie) (sym rests.machine) ∙ none
+last_honest {R} state m1 m2 [] part (Err stop) rests none = ap (λ (m : Machine R). m.store.lie) (sym rests.machine) ∙ none
+last_honest {R} state m1 m2 (text ∷ more) part (Err stop) (inl rests) none = ap (λ (m : Machine R). m.store.lie) (sym rests.machine) ∙ none
+last_honest state m1 m2 (text ∷ more) part (Err stop) (inr (inl cut)) none = no_lie m1.store.lie m1.store m2.store refl cut.ran.later none
+last_honest state m1 m2 (text ∷ more) part (Err stop) (inr (inr done)) none = (step_goes state m1 m2 text done.answer done.step.done).lie none
+
 pub ran_after : {R : Type 0} {state : R → RevState} {f0 f1 : Fetch} {l0 l1 w0 w1 : Option (List ℕ)} {s0 s1 : StoreState} (key : List ℕ) (first last : Engine R) (high : ℕ) (result : Result Bool Stop)
-    → SessionRan state f0 f1 l0 l1 w0 w1 (machine_of first s0) (machine_of last s1) result → high ≡ high_of last
+    → public_of first ≡ first_public 64 5 1 None → SessionRan state f0 f1 l0 l1 w0 w1 (machine_of first s0) (machine_of last s1) result → high ≡ high_of last
     → RanAfter state (Some key) f0 f1 l0 l1 w0 w1 s0 s1 high result
-ran_after key first last high result ran e = record {
+ran_after {state = state} {s0 = s0} {s1 = s1} key first last high result fresh ran e = record {
   piece = ran.piece;
   consumed = ran.consumed;
   taken = ran.taken;
@@ -180,7 +202,18 @@ ran_after key first last high result ran e = record {
   texts = ran.texts;
   answers = ran.answers;
   part = ran.part;
-  carried = inr (record { key = key; keyed = refl; first = first; middle = ran.middle; last = last; steps = ran.steps; rest = ran.last; rows_open = e });
+  carried = inr (record {
+    key = key;
+    keyed = refl;
+    first = first;
+    fresh = fresh;
+    middle = ran.middle;
+    last = last;
+    steps = ran.steps;
+    rest = ran.last;
+    meant = λ tells honest. meant_from state first s0 ran.middle ran.served ran.answers fresh ran.steps tells (last_honest state ran.middle (machine_of last s1) ran.more ran.part result ran.last honest);
+    rows_open = e;
+  });
   cut = ran.cut;
   flag = ran.flag;
   ends = ran.ends;

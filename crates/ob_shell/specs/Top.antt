@@ -1,12 +1,13 @@
 -- What a whole run promises, by its words and the bytes that its source gave.
-use Rattle.std.specs.Prelude.{ℕ, ◌≡◌, ◌+◌, ◌<◌, ◌≤◌, ◌⊎◌, Bool, true, false, List, [], ◌++◌, length, Option, Some, None, IsSome, Result, Ok, Err}
+use Rattle.std.specs.Prelude.{ℕ, ◌≡◌, ◌+◌, ◌<◌, ◌≤◌, ◌⊎◌, Bool, true, false, List, [], ◌++◌, length, IsTrue, Option, Some, None, IsSome, Result, Ok, Err}
 use Rattle.std.specs.Io.KnownBytes.{Consumes, IsAtEnd}
 use Rattle.clap.specs.Words.{Text}
 use Rattle.ob_base.specs.Counts.{Rises}
 use Rattle.ob_base.specs.declared.refusal.Stop.{Stop}
 use Rattle.ob_base.specs.declared.refusal.Stop.TheVariants.{Tampered, SourceFault, SinkFault, NoMemory, InputLimit}
-use Rattle.ob_exec.specs.Agreeing.{high_of}
+use Rattle.ob_exec.specs.Agreeing.{public_of, high_of}
 use Rattle.ob_exec.specs.declared.engine.Engine.{Engine}
+use Rattle.ob_mean.specs.Replay.{first_public}
 use Rattle.ob_print.specs.Cuts.{Cut}
 use Rattle.ob_store.specs.State.{StoreState}
 use Rattle.ob_vault.specs.State.{RevState}
@@ -14,6 +15,7 @@ use Rattle.ob_shell.specs.Tracing.{Traced}
 use Rattle.ob_shell.specs.Usage.{Parses, is_traced}
 use Rattle.ob_shell.specs.Texts.{is_over, rest_of, texts_in}
 use Rattle.ob_shell.specs.Feeding.{Fetch}
+use Rattle.ob_shell.specs.Replayed.{Replayed}
 use Rattle.ob_shell.specs.KeyLine.{line_max, has_lf, first_line, after_line, secret_of, LineTaken}
 use Rattle.ob_shell.specs.Steps.{Machine, machine_of, Answer, Steps, Rests, printed}
 use Rattle.ob_shell.specs.Running.{Faults, SinksRose, NoneRose, LastPart, FlagIs, EndsBy, SinkFailed, StopCause}
@@ -36,16 +38,19 @@ pub record Unstarted (store0 store1 : StoreState) (high : ℕ) (served : List (L
   pub unanswered : answers ≡ []
   pub none : part ≡ []
 
--- an engine was started with this secret, and served these texts
+-- an engine was started with this secret, without tables, and served these texts. Where the store tells what it holds,
+-- and gave what was written, their answers and accesses are those of the meaning, from no tables.
 pub record Started {R : Type 0} (state : R → RevState) (secret : Option (List ℕ)) (store0 store1 : StoreState) (high : ℕ) (served more : List (List ℕ)) (answers : List Answer)
     (part : List ℕ) (ending : Ending) : Type 0 where
   pub key : List ℕ
   pub keyed : secret ≡ Some key
   pub first : Engine R
+  pub fresh : public_of first ≡ first_public 64 5 1 None
   pub middle : Machine R
   pub last : Engine R
   pub steps : Steps state (machine_of first store0) middle served answers
   pub rest : EndingPart state middle (machine_of last store1) more part ending
+  pub meant : IsTrue store0.tells → store1.lie ≡ None → Replayed state (machine_of first store0) middle [] served answers
   pub rows_open : high ≡ high_of last
 
 -- what the texts did to an engine and the store

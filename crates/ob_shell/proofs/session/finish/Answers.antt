@@ -1,4 +1,4 @@
-use Rattle.std.proofs.Common.{◌≡◌, ℕ, Bool, true, false, List, [], ◌∷◌, if◌then◌else◌, refl, sym, ◌∙◌, ap}
+use Rattle.std.proofs.Common.{◌≡◌, ℕ, Bool, false, List, [], ◌∷◌, if◌then◌else◌, ap}
 use Rattle.ob_shell.specs.Texts.{tail_text, has_words, reading_of}
 use Rattle.ob_shell.proofs.StepLemmas.{answers_none}
 use Rattle.ob_shell.proofs.TraceLemmas.{traced_none}
