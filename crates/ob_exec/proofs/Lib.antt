@@ -6,3 +6,4 @@ pub mod HeldLemmas
 pub mod ToldLemmas
 pub mod FoundLemmas
 pub mod EmitLemmas
+pub mod SealLemmas

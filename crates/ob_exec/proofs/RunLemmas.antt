@@ -115,6 +115,7 @@ module _ {R : Type 0} (state : R → RevState) (skeleton : Skeleton) (old : Engi
     later = later_refl s;
     ends = early_end r _ _ early (inl refl);
     cause = early_cause r _ _ early refl (λ calm. calm);
+    room = agrees.room;
     goes_on = record {
       agrees = record { ready = agrees.ready; next = agrees.next; room = agrees.room; tables = agrees.tables };
       public = let same : old.public.next_region ≡ old.public.next_region + makes [] = omega (arith, makes_none) in λ i. record old.public { next_region = same i };
@@ -193,6 +194,7 @@ module _ {R : Type 0} (state : R → RevState) (skeleton : Skeleton) (old : Engi
     later = went.lasts.later;
     ends = answered_end outcome _ answered;
     cause = answered_cause outcome _ _ answered went.did.faults went.calm;
+    room = free;
     goes_on = went_on tables Whole x old.ended lives went.lasts.ready went.did.asked is same are;
   }
 
@@ -226,6 +228,7 @@ module _ {R : Type 0} (state : R → RevState) (skeleton : Skeleton) (old : Engi
         later = cut.lasts.later;
         ends = subst (λ (k : ℕ). EndsBy (answer_of e) (Cut n) k) count (cut_ends e n);
         cause = cut_cause e _ _ cut.cause;
+        room = free;
         goes_on = cut_on e n (went_on old.public.tables (Cut n) (take n x) false refl cut.lasts.ready first (ap (take n) is) refl are);
       }
 

@@ -25,6 +25,10 @@ has_ended e = e.ended
 abbrev pub high_of : {R : Type 0} → Engine R → ℕ
 high_of e = e.room.high
 
+-- how many rows may be open
+abbrev pub rows_of : {R : Type 0} → Engine R → ℕ
+rows_of e = e.room.rows
+
 -- its vault and the store
 abbrev pub world_of : {R : Type 0} → (R → RevState) → Engine R → StoreState → World
 world_of state e s = at state e.vault s

@@ -1,5 +1,5 @@
 -- What the tables of an engine hold, and what a statement means for them.
-use Rattle.std.specs.Prelude.{◌≡◌, ◌-◌, ⊤, ℕ, List, [], ◌∷◌, length, Result, Ok, Err}
+use Rattle.std.specs.Prelude.{Bool, ◌≡◌, ◌-◌, ⊤, ℕ, List, [], ◌∷◌, length, Result, Ok, Err}
 use Rattle.ob_base.specs.declared.config.Public.{Public}
 use Rattle.ob_base.specs.declared.refusal.Refusal.{Refusal}
 use Rattle.ob_base.specs.declared.refusal.Refusal.TheVariants.{Syntax, NoTable, NameTaken, NoColumn, WrongType, ValueRange, Limit, KeyRule, JoinKey, Duplicate, Full, TooManyGroups, NotConsecutive, Overflow, StoreFault}
@@ -7,8 +7,10 @@ use Rattle.ob_base.specs.declared.refusal.Stop.{Stop}
 use Rattle.ob_base.specs.declared.refusal.Stop.TheVariants.{Tampered, SourceFault, SinkFault, NoMemory, InputLimit}
 use Rattle.ob_base.specs.declared.schema.Table.{Table}
 use Rattle.ob_base.specs.Events.{Event}
+use Rattle.ob_base.specs.Schemas.{Columns}
 use Rattle.ob_store.specs.State.{StoreState}
 use Rattle.ob_vault.specs.State.{RevState, World}
+use Rattle.ob_vault.specs.Calls.{Seals}
 use Rattle.ob_flat.specs.Flats as F
 use Rattle.ob_sql.specs.declared.stmt.Stmt.{Stmt}
 use Rattle.ob_sql.specs.declared.stmt.Stmt.TheVariants.{Create, Insert, Update, Delete, Drop as DropTable, Select as SelectStmt}
@@ -125,3 +127,12 @@ abbrev pub Emitted : Stmt → Public → (m : ℕ) → Tables → Result Outcome
 Emitted stmt p m tables (Ok outcome) events =
     told_outcome outcome (Prints (labels_of stmt (headings_of p.tables)) (verdict p m tables stmt) events) (Unfinished (labels_of stmt (headings_of p.tables)) (verdict p m tables stmt) events)
 Emitted stmt p m tables (Err stop) events = Partly (labels_of stmt (headings_of p.tables)) (verdict p m tables stmt) events
+
+-- ---- nothing lies in clear
+-- blocks of this many rows or dummies are good in every region
+abbrev pub AcceptsRows : (good : ℕ → List ℕ → Bool) → (pack : ℕ) → Type 0
+AcceptsRows good pack = (columns : Columns) (region : ℕ) → F.Accepts good pack columns region
+
+-- where each block of a live region was sealed, of rows that are good, under the position of a write to its place, it is
+abbrev pub KeepsSealed : {R : Type 0} → (R → RevState) → (old : Engine R) → StoreState → (new : Engine R) → StoreState → Type 0
+KeepsSealed state old s new t = (good : ℕ → List ℕ → Bool) → AcceptsRows good old.public.pack → Seals good (world_of state old s) (world_of state new t)

@@ -11,7 +11,7 @@ ghost use Rattle.ob_mean.specs.Prints.{Begun};
 ghost use Rattle.ob_exec.specs.Agreeing.{Agrees, has_ended, public_of, seen_of};
 ghost use Rattle.ob_exec.specs.Running.{Ran, Emits, SinkCause, refusal_now};
 ghost use Rattle.ob_exec.specs.Serving.{count_of};
-ghost use Rattle.ob_exec.specs.Telling.{Represents, Told, Emitted};
+ghost use Rattle.ob_exec.specs.Telling.{KeepsSealed, Represents, Told, Emitted};
 
 use crate::engine::Engine;
 use crate::outcome::Outcome;
@@ -55,6 +55,7 @@ impl<R: Revisions> Engine<R> {
         requires lives { has_ended self.old ≡ false }
         requires allowed { refusal_now (public_of self.old) (length (S.state store.old).asked) (count_of table.now) ≡ None }
         ensures ran { Ran R.state (skeleton (count_of table.now)) result self.old (S.state store.old) self.new (S.state store.new) }
+        ensures seals { KeepsSealed R.state self.old (S.state store.old) self.new (S.state store.new) }
         ensures started { (seen_of self.new).end ≡ Static → ⊥ }
         ensures emits { IfOk result (λ outcome. (events : List Event) × E.grew out.old out.new events × Emits outcome events
             × (IsTrue (S.state store.old).tells → (tables : Tables) → Represents R.state self.old (S.state store.old) tables → (S.state store.new).lie ≡ None

@@ -6,7 +6,7 @@ ghost use Rattle.ob_sql.specs.Skeleton.{skeleton};
 ghost use Rattle.ob_mean.specs.Verdict.{Tables};
 ghost use Rattle.ob_exec.specs.Agreeing.{Agrees, has_ended, public_of, seen_of};
 ghost use Rattle.ob_exec.specs.Running.{Ran, IsSilent, refusal_now};
-ghost use Rattle.ob_exec.specs.Telling.{Represents, Told};
+ghost use Rattle.ob_exec.specs.Telling.{KeepsSealed, Represents, Told};
 
 use crate::engine::Engine;
 use crate::outcome::Outcome;
@@ -43,6 +43,7 @@ impl<R: Revisions> Engine<R> {
         requires lives { has_ended self.old ≡ false }
         requires allowed { refusal_now (public_of self.old) (length (S.state store.old).asked) (Create table.now columns.now capacity) ≡ None }
         ensures ran { Ran R.state (skeleton (Create table.now columns.now capacity)) result self.old (S.state store.old) self.new (S.state store.new) }
+        ensures seals { KeepsSealed R.state self.old (S.state store.old) self.new (S.state store.new) }
         ensures started { (seen_of self.new).end ≡ Static → ⊥ }
         ensures silent { IsSilent result }
         ensures told { IsTrue (S.state store.old).tells → (tables : Tables) → Represents R.state self.old (S.state store.old) tables → (S.state store.new).lie ≡ None

@@ -1,10 +1,10 @@
 //! An engine, and how its statements end.
-ghost use Rattle.std.specs.Prelude.{◌≡◌, List, [], IfOk, false};
+ghost use Rattle.std.specs.Prelude.{◌≡◌, ◌≤◌, List, [], IfOk, false};
 ghost use Rattle.ob_base.specs.declared.seen.End.TheVariants.{Static, Whole, Cut};
 ghost use Rattle.ob_store.specs.State.{StoreState};
 ghost use Rattle.ob_mean.specs.Verdict.{ended as seen_to};
 ghost use Rattle.ob_exec.specs.Engines.{IsConfig, first_public};
-ghost use Rattle.ob_exec.specs.Agreeing.{Agrees, public_of, seen_of, has_ended, high_of};
+ghost use Rattle.ob_exec.specs.Agreeing.{Agrees, public_of, seen_of, has_ended, high_of, rows_of};
 ghost use Rattle.ob_exec.specs.Running.{answer_of, is_stop};
 
 use crate::outcome::Outcome;
@@ -52,6 +52,7 @@ impl<R: Revisions> Engine<R> {
         ensures public { IfOk result (λ e. public_of e ≡ first_public config) }
         ensures alive { IfOk result (λ e. has_ended e ≡ false) }
         ensures none_open { IfOk result (λ e. high_of e ≡ 0) }
+        ensures rows { IfOk result (λ e. rows_of e ≡ config.buffer) }
     {
         let room = Room::new(alloc, config.buffer, ROW_WIDTH, u32::from(config.pack))?;
         Ok(Engine {
@@ -87,7 +88,8 @@ impl<R: Revisions> Engine<R> {
 
     /// The greatest number of rows that were open at once.
     pub fn high(&self) -> u64
-        ensures { result ≡ high_of self.now }
+        ensures value { result ≡ high_of self.now }
+        ensures most { result ≤ rows_of self.now }
     {
         self.room.high()
     }

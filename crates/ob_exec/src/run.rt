@@ -6,7 +6,7 @@ ghost use Rattle.ob_mean.specs.Verdict.{Tables};
 ghost use Rattle.ob_exec.specs.Agreeing.{Agrees, has_ended, public_of, seen_of};
 ghost use Rattle.ob_exec.specs.Running.{Ran, RefusedEarly, Emits, SinkCause, refusal_now};
 ghost use Rattle.ob_exec.specs.Serving.{IsServed};
-ghost use Rattle.ob_exec.specs.Telling.{Represents, Told, Emitted};
+ghost use Rattle.ob_exec.specs.Telling.{KeepsSealed, Represents, Told, Emitted};
 
 use crate::engine::{Engine, LATE};
 use crate::outcome::Outcome;
@@ -23,7 +23,7 @@ impl<R: Revisions> Engine<R> {
     /// those that follow from what was public before, the statement's skeleton and what is seen of it,
     /// whatever the store answers. Where the store tells what it holds, and gave what was written: the
     /// answer, what is seen and the tables afterwards are those of the statement over the tables before;
-    /// where the store failed, the tables are those before. An answer of rows is emitted whole: its header,
+    /// where the store failed, the tables are those before. Whatever it answers, no block comes to lie in clear. An answer of rows is emitted whole: its header,
     /// its rows and their number.
     pub fn run<S: BlockStore, E: Emit>(
         &mut self,
@@ -35,6 +35,7 @@ impl<R: Revisions> Engine<R> {
         requires lives { has_ended self.old ≡ false }
         requires served { IsServed stmt.now }
         ensures ran { Ran R.state (skeleton stmt.now) result self.old (S.state store.old) self.new (S.state store.new) }
+        ensures seals { KeepsSealed R.state self.old (S.state store.old) self.new (S.state store.new) }
         ensures early { RefusedEarly (refusal_now (public_of self.old) (length (S.state store.old).asked) stmt.now) result (seen_of self.new) }
         ensures emits { IfOk result (λ outcome. (events : List Event) × E.grew out.old out.new events × Emits outcome events
             × (IsTrue (S.state store.old).tells → (tables : Tables) → Represents R.state self.old (S.state store.old) tables → (S.state store.new).lie ≡ None

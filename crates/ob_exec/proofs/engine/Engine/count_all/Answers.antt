@@ -31,6 +31,9 @@ use Rattle.ob_exec.proofs.EmitLemmas.{count_labels, count_events, count_emitted,
 use Rattle.ob_exec.proofs.RunLemmas.{ran_as}
 use Rattle.ob_exec.proofs.ToldLemmas.{told_as, fault_made, if_ok_of, on_err_of, emits_fault}
 use Rattle.ob_exec.proofs.InsertLemmas.{counted, not_counted, cut_whole, one_row, count_some, count_is, held_before, told_counted, told_not_counted}
+use Rattle.ob_exec.specs.Agreeing.{world_of}
+use Rattle.ob_exec.specs.declared.engine.Engine.{Engine}
+use Rattle.ob_exec.proofs.SealLemmas.{keeps_pass}
 use Rattle.ob_exec.proofs.engine.Engine.count_all.Goals as goal
 
 pub unreachable-requires : goal.unreachable-requires
@@ -346,3 +349,31 @@ returns-in-Err-NoMemory-clause-stopped g c =
           subst (λ (r : Result Outcome Stop). Emitted (count_of c.args.table.now) old.public (length s.asked) tables r partly.0) (sym c.cut-in-Err-NoMemory.ensures.answer)
           (count_partly c.args.table.now old.public (length s.asked) tables c.in-Ok.counted.k is NoMemory partly.0 partly.2),
     )
+
+pub returns-in-Err-clause-seals : goal.returns-in-Err-clause-seals
+returns-in-Err-clause-seals g c =
+    keeps_pass g.R.Revisions.state c.args.self.now (g.S.BlockStore.state c.args.store.now) (g.S.BlockStore.state c.room.new.self) c.room.ensures.rests c.requires.agrees c.cut-in-Err.new.self
+    (g.S.BlockStore.state c.count-2.new.store) _
+    (ap (λ (e : Engine g.row.R.Denot). world_of g.R.Revisions.state e (g.S.BlockStore.state c.count-2.new.store)) c.cut-in-Err.ensures.seen)
+    (λ good accepts. c.in-Err.ensures.seals good)
+
+pub returns-in-Ok-emit_count-clause-seals : goal.returns-in-Ok-emit_count-clause-seals
+returns-in-Ok-emit_count-clause-seals g c =
+    keeps_pass g.R.Revisions.state c.args.self.now (g.S.BlockStore.state c.args.store.now) (g.S.BlockStore.state c.room.new.self) c.room.ensures.rests c.requires.agrees c.finish.new.self
+    (g.S.BlockStore.state c.count-2.new.store) _
+    (ap (λ (e : Engine g.row.R.Denot). world_of g.R.Revisions.state e (g.S.BlockStore.state c.count-2.new.store)) c.finish.ensures.seen)
+    (λ good accepts. c.in-Ok.ensures.seals good)
+
+pub returns-in-Err-Failed-clause-seals : goal.returns-in-Err-Failed-clause-seals
+returns-in-Err-Failed-clause-seals g c =
+    keeps_pass g.R.Revisions.state c.args.self.now (g.S.BlockStore.state c.args.store.now) (g.S.BlockStore.state c.room.new.self) c.room.ensures.rests c.requires.agrees c.cut-in-Err-Failed.new.self
+    (g.S.BlockStore.state c.count-2.new.store) _
+    (ap (λ (e : Engine g.row.R.Denot). world_of g.R.Revisions.state e (g.S.BlockStore.state c.count-2.new.store)) c.cut-in-Err-Failed.ensures.seen)
+    (λ good accepts. c.in-Ok.ensures.seals good)
+
+pub returns-in-Err-NoMemory-clause-seals : goal.returns-in-Err-NoMemory-clause-seals
+returns-in-Err-NoMemory-clause-seals g c =
+    keeps_pass g.R.Revisions.state c.args.self.now (g.S.BlockStore.state c.args.store.now) (g.S.BlockStore.state c.room.new.self) c.room.ensures.rests c.requires.agrees c.cut-in-Err-NoMemory.new.self
+    (g.S.BlockStore.state c.count-2.new.store) _
+    (ap (λ (e : Engine g.row.R.Denot). world_of g.R.Revisions.state e (g.S.BlockStore.state c.count-2.new.store)) c.cut-in-Err-NoMemory.ensures.seen)
+    (λ good accepts. c.in-Ok.ensures.seals good)

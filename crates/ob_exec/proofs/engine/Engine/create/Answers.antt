@@ -13,6 +13,9 @@ use Rattle.ob_exec.specs.Schemas.{IsStored}
 use Rattle.ob_exec.proofs.RunLemmas.{ran_as, engine_after}
 use Rattle.ob_exec.proofs.ToldLemmas.{told_as, fault_made}
 use Rattle.ob_exec.proofs.CreateLemmas.{at_ok, created, not_created, told_created, told_not_created, new_stored, new_name, popped}
+use Rattle.ob_exec.specs.Agreeing.{world_of}
+use Rattle.ob_exec.specs.declared.engine.Engine.{Engine}
+use Rattle.ob_exec.proofs.SealLemmas.{keeps_rests, keeps_pass}
 use Rattle.ob_exec.proofs.engine.Engine.create.Goals as goal
 
 pub returns-in-Ok-clause-ran : goal.returns-in-Ok-clause-ran
@@ -86,3 +89,27 @@ returns-in-Err-clause-told g c tells tables held honest =
     (fault_made error c.in-Err.ensures.never) c.in-Err.ensures.err count in
     let engine = c.cut-in-Err.ensures.seen ∙ ap (λ (ts : List Table). engine_after old v room ts (Cut n) (is_stop (answer_of error))) more in
     told_as state stmt _ tables old _ _ _ _ _ c.cut-in-Err.ensures.answer engine told
+
+pub returns-then-is_err-clause-seals : goal.returns-then-is_err-clause-seals
+returns-then-is_err-clause-seals g c =
+    keeps_rests g.R.Revisions.state c.args.self.now (g.S.BlockStore.state c.args.store.now) (g.S.BlockStore.state c.room.new.self) c.room.ensures.rests c.cut.new.self
+    (ap (λ (e : Engine g.row.R.Denot). world_of g.R.Revisions.state e (g.S.BlockStore.state c.room.new.self)) c.cut.ensures.seen)
+
+pub returns-then-is_err-2-clause-seals : goal.returns-then-is_err-2-clause-seals
+returns-then-is_err-2-clause-seals g c =
+    keeps_rests g.R.Revisions.state c.args.self.now (g.S.BlockStore.state c.args.store.now) (g.S.BlockStore.state c.room.new.self) c.room.ensures.rests c.cut-then-is_err-2.new.self
+    (ap (λ (e : Engine g.row.R.Denot). world_of g.R.Revisions.state e (g.S.BlockStore.state c.room.new.self)) c.cut-then-is_err-2.ensures.seen)
+
+pub returns-in-Ok-clause-seals : goal.returns-in-Ok-clause-seals
+returns-in-Ok-clause-seals g c =
+    keeps_pass g.R.Revisions.state c.args.self.now (g.S.BlockStore.state c.args.store.now) (g.S.BlockStore.state c.room.new.self) c.room.ensures.rests c.requires.agrees c.finish.new.self
+    (g.S.BlockStore.state c.create.new.store) _
+    (ap (λ (e : Engine g.row.R.Denot). world_of g.R.Revisions.state e (g.S.BlockStore.state c.create.new.store)) c.finish.ensures.seen)
+    (λ good accepts. c.in-Ok.ensures.seals good (accepts _ _))
+
+pub returns-in-Err-clause-seals : goal.returns-in-Err-clause-seals
+returns-in-Err-clause-seals g c =
+    keeps_pass g.R.Revisions.state c.args.self.now (g.S.BlockStore.state c.args.store.now) (g.S.BlockStore.state c.room.new.self) c.room.ensures.rests c.requires.agrees c.cut-in-Err.new.self
+    (g.S.BlockStore.state c.create.new.store) _
+    (ap (λ (e : Engine g.row.R.Denot). world_of g.R.Revisions.state e (g.S.BlockStore.state c.create.new.store)) c.cut-in-Err.ensures.seen)
+    (λ good accepts. c.in-Err.ensures.seals good (accepts _ _))

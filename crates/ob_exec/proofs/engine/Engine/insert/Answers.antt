@@ -29,6 +29,8 @@ use Rattle.ob_exec.proofs.FoundLemmas.{heading_found, is_there}
 use Rattle.ob_exec.proofs.ToldLemmas.{told_as, fault_made}
 use Rattle.ob_exec.proofs.RunLemmas.{ran_as, engine_after}
 use Rattle.ob_exec.proofs.InsertLemmas.{inserted, not_inserted, told_inserted, told_not_inserted, is_answered}
+use Rattle.ob_exec.specs.Agreeing.{world_of}
+use Rattle.ob_exec.proofs.SealLemmas.{keeps_pass}
 use Rattle.ob_exec.proofs.engine.Engine.insert.Goals as goal
 
 pub unreachable-requires : goal.unreachable-requires
@@ -183,3 +185,20 @@ returns-clause-told g c tells tables held honest =
     c.args.values.now tables held c.requires.allowed error n
     (λ slots is. fault_made error (c.in-Err.ensures.told tells_now slots (subst (λ (f : Flat). Represents old.room.pack f slots (at state old.vault s1)) (sym flat_is) is) honest).0) cut count in
     told_as state stmt _ tables old t _ _ _ _ c.cut-in-Err.ensures.answer c.cut-in-Err.ensures.seen told
+
+pub returns-in-Ok-insert-clause-seals : goal.returns-in-Ok-insert-clause-seals
+returns-in-Ok-insert-clause-seals g c =
+    let found = c.in-Some.ensures.found in
+    let here = subst (λ (ts : List Table). IsAt c.args.table.now c.in-Some.i found.0 ts) c.as_slice.ensures found.1 in
+    keeps_pass g.R.Revisions.state c.args.self.now (g.S.BlockStore.state c.args.store.now) (g.S.BlockStore.state c.room.new.self) c.room.ensures.rests c.requires.agrees c.finish.new.self
+    (g.S.BlockStore.state c.insert.new.store) _
+    (ap (λ (e : Engine g.row.R.Denot). world_of g.R.Revisions.state e (g.S.BlockStore.state c.insert.new.store)) (c.finish.ensures.seen
+    ∙ ap (λ (e : Engine g.row.R.Denot). record e { seen = seen_to Whole; public = record e.public { next_region = e.vault.next } }) (c.move_table.ensures found.0 here.get)))
+    (λ good accepts. c.in-Ok-insert.ensures.seals good (accepts _ _))
+
+pub returns-clause-seals : goal.returns-clause-seals
+returns-clause-seals g c =
+    keeps_pass g.R.Revisions.state c.args.self.now (g.S.BlockStore.state c.args.store.now) (g.S.BlockStore.state c.room.new.self) c.room.ensures.rests c.requires.agrees c.cut-in-Err.new.self
+    (g.S.BlockStore.state c.insert.new.store) _
+    (ap (λ (e : Engine g.row.R.Denot). world_of g.R.Revisions.state e (g.S.BlockStore.state c.insert.new.store)) c.cut-in-Err.ensures.seen)
+    (λ good accepts. c.in-Err.ensures.seals good (accepts _ _))
