@@ -8,3 +8,4 @@ pub mod TextLemmas
 pub mod TopLemmas
 pub mod TraceLemmas
 pub mod ReplayLemmas
+pub mod LastingLemmas

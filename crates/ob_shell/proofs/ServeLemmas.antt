@@ -8,7 +8,7 @@ use Rattle.ob_base.specs.declared.refusal.Stop.TheVariants.{Tampered, SourceFaul
 use Rattle.ob_base.specs.declared.refusal.Refusal.TheVariants.{Syntax}
 use Rattle.ob_exec.specs.Agreeing.{public_of, seen_of}
 use Rattle.ob_exec.specs.Running.{Ran, RefusedEarly, RunCause, SinkCause, Emits, refusal_now}
-use Rattle.ob_exec.specs.Telling.{Represents, Told, Emitted}
+use Rattle.ob_exec.specs.Telling.{KeepsSealed, Represents, Told, Emitted}
 use Rattle.ob_exec.specs.declared.outcome.Outcome.{Outcome}
 use Rattle.ob_exec.specs.declared.outcome.Outcome.TheVariants.{Refused}
 use Rattle.ob_mean.specs.Verdict.{Tables}
@@ -32,6 +32,7 @@ pub record EngineRan {R : Type 0} (state : R → RevState) (m0 m1 : Machine R) (
   pub early : RefusedEarly (refusal_now (public_of m0.engine) (length m0.store.asked) stmt) result (seen_of m1.engine)
   pub told : IsTrue m0.store.tells → (tables : Tables) → Represents state m0.engine m0.store tables → m1.store.lie ≡ None
       → Told state stmt (length m0.store.asked) tables result m0.engine m1.engine m1.store
+  pub sealed : KeepsSealed state m0.engine m0.store m1.engine m1.store
 
 module _ {R : Type 0} (state : R → RevState) (w0 w1 : Option (List ℕ)) (m0 m1 : Machine R) (Same : Type 0) (text : List ℕ) (stmt : Stmt) where
   -- the engine answered, and the sink took these events
@@ -51,6 +52,7 @@ module _ {R : Type 0} (state : R → RevState) (w0 w1 : Option (List ℕ)) (m0 m
         events = emitted.0;
         emitted = emitted.2;
         meant = record { told = ran.told; emitted = emitted.3 };
+        sealed = ran.sealed;
         printed = refl;
       });
     };
@@ -73,6 +75,7 @@ module _ {R : Type 0} (state : R → RevState) (w0 w1 : Option (List ℕ)) (m0 m
             events = emitted.0;
             printed = record { lost = []; whole = sym (append-nil _) };
             meant = record { told = ran.told; emitted = emitted.2 };
+            sealed = ran.sealed;
           }));
           cut = Cut-whole _ _ _ _ whole.0;
         }
@@ -86,6 +89,7 @@ module _ {R : Type 0} (state : R → RevState) (w0 w1 : Option (List ℕ)) (m0 m
             events = emitted.0;
             printed = cut.0.prefix;
             meant = record { told = ran.told; emitted = emitted.2 };
+            sealed = ran.sealed;
           }));
           cut = Cut-whole _ _ _ _ cut.0.appends;
         }

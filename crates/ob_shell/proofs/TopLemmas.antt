@@ -7,7 +7,7 @@ use Rattle.ob_base.specs.Counts.{Rises}
 use Rattle.ob_base.specs.declared.refusal.Stop.{Stop}
 use Rattle.ob_base.specs.declared.refusal.Stop.TheVariants.{Tampered, SourceFault, SinkFault, NoMemory, InputLimit}
 use Rattle.ob_base.specs.declared.config.Public.{Public}
-use Rattle.ob_exec.specs.Agreeing.{public_of, high_of, world_of}
+use Rattle.ob_exec.specs.Agreeing.{public_of, high_of, rows_of, world_of}
 use Rattle.ob_exec.specs.Telling.{AreHeld}
 use Rattle.ob_mean.specs.Replay.{first_public}
 use Rattle.ob_exec.specs.declared.engine.Engine.{Engine}
@@ -28,6 +28,7 @@ use Rattle.ob_shell.specs.declared.key.FirstLine.TheVariants.{Secret, Last, Bad}
 use Rattle.ob_shell.specs.declared.top.Ending.{Ending}
 use Rattle.ob_shell.specs.declared.top.Ending.TheVariants.{Usage, BadKey, Ran as RanEnding}
 use Rattle.ob_shell.proofs.TextLemmas.{rest_of-nil, texts_of-nil}
+use Rattle.ob_shell.proofs.LastingLemmas.{HasSizes, steps_sizes, last_rows, steps_sealed, last_sealed, steps_tell, none_sealed, first_sizes}
 use Rattle.ob_shell.proofs.ReplayLemmas.{no_lie, step_goes, replayed}
 use Rattle.ob_shell.proofs.StepLemmas.{printed-nil, any_refused-nil}
 use Rattle.ob_shell.proofs.KeyLemmas.{after_line-none}
@@ -187,10 +188,14 @@ last_honest {R} state m1 m2 (text ∷ more) part (Err stop) (inl rests) none = a
 last_honest state m1 m2 (text ∷ more) part (Err stop) (inr (inl cut)) none = no_lie m1.store.lie m1.store m2.store refl cut.ran.later none
 last_honest state m1 m2 (text ∷ more) part (Err stop) (inr (inr done)) none = (step_goes state m1 m2 text done.answer done.step.done).lie none
 
+middle_sizes : {R : Type 0} (state : R → RevState) (first : Engine R) (s0 : StoreState) (middle : Machine R) (served : List (List ℕ)) (answers : List Answer)
+    → public_of first ≡ first_public 64 5 1 None → rows_of first ≡ 64 → Steps state (machine_of first s0) middle served answers → HasSizes middle
+middle_sizes state first s0 middle served answers fresh rows steps = steps_sizes state (machine_of first s0) middle served answers steps (first_sizes (machine_of first s0) fresh rows)
+
 pub ran_after : {R : Type 0} {state : R → RevState} {f0 f1 : Fetch} {l0 l1 w0 w1 : Option (List ℕ)} {s0 s1 : StoreState} (key : List ℕ) (first last : Engine R) (high : ℕ) (result : Result Bool Stop)
-    → public_of first ≡ first_public 64 5 1 None → SessionRan state f0 f1 l0 l1 w0 w1 (machine_of first s0) (machine_of last s1) result → high ≡ high_of last
+    → public_of first ≡ first_public 64 5 1 None → rows_of first ≡ 64 → ((q : ℕ) → s0.live q ≡ None) → high ≤ rows_of last → SessionRan state f0 f1 l0 l1 w0 w1 (machine_of first s0) (machine_of last s1) result → high ≡ high_of last
     → RanAfter state (Some key) f0 f1 l0 l1 w0 w1 s0 s1 high result
-ran_after {state = state} {s0 = s0} {s1 = s1} key first last high result fresh ran e = record {
+ran_after {state = state} {s0 = s0} {s1 = s1} key first last high result fresh rows empty most ran e = record {
   piece = ran.piece;
   consumed = ran.consumed;
   taken = ran.taken;
@@ -212,7 +217,11 @@ ran_after {state = state} {s0 = s0} {s1 = s1} key first last high result fresh r
     steps = ran.steps;
     rest = ran.last;
     meant = λ tells honest. meant_from state first s0 ran.middle ran.served ran.answers fresh ran.steps tells (last_honest state ran.middle (machine_of last s1) ran.more ran.part result ran.last honest);
+    sealed = λ tells good accepts. last_sealed state good accepts ran.middle (machine_of last s1) ran.more ran.part result ran.last (middle_sizes state first s0 ran.middle ran.served ran.answers fresh rows ran.steps)
+        (steps_tell state (machine_of first s0) ran.middle ran.served ran.answers ran.steps tells)
+        (steps_sealed state good accepts (machine_of first s0) ran.middle ran.served ran.answers ran.steps (first_sizes (machine_of first s0) fresh rows) tells (none_sealed state good first s0 empty));
     rows_open = e;
+    rows_few = subst (λ (n : ℕ). high ≤ n) (last_rows state ran.middle (machine_of last s1) ran.more ran.part result ran.last (middle_sizes state first s0 ran.middle ran.served ran.answers fresh rows ran.steps)) most;
   });
   cut = ran.cut;
   flag = ran.flag;

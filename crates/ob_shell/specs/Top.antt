@@ -5,12 +5,14 @@ use Rattle.clap.specs.Words.{Text}
 use Rattle.ob_base.specs.Counts.{Rises}
 use Rattle.ob_base.specs.declared.refusal.Stop.{Stop}
 use Rattle.ob_base.specs.declared.refusal.Stop.TheVariants.{Tampered, SourceFault, SinkFault, NoMemory, InputLimit}
-use Rattle.ob_exec.specs.Agreeing.{public_of, high_of}
+use Rattle.ob_exec.specs.Agreeing.{public_of, high_of, world_of}
 use Rattle.ob_exec.specs.declared.engine.Engine.{Engine}
+use Rattle.ob_exec.specs.Telling.{AcceptsRows}
 use Rattle.ob_mean.specs.Replay.{first_public}
 use Rattle.ob_print.specs.Cuts.{Cut}
 use Rattle.ob_store.specs.State.{StoreState}
 use Rattle.ob_vault.specs.State.{RevState}
+use Rattle.ob_vault.specs.Tied.{AllSealed}
 use Rattle.ob_shell.specs.Tracing.{Traced}
 use Rattle.ob_shell.specs.Usage.{Parses, is_traced}
 use Rattle.ob_shell.specs.Texts.{is_over, rest_of, texts_in}
@@ -39,7 +41,8 @@ pub record Unstarted (store0 store1 : StoreState) (high : ℕ) (served : List (L
   pub none : part ≡ []
 
 -- an engine was started with this secret, without tables, and served these texts. Where the store tells what it holds,
--- and gave what was written, their answers and accesses are those of the meaning, from no tables.
+-- and gave what was written, their answers and accesses are those of the meaning, from no tables. Where it tells, each
+-- block of a live region is sealed, of one row or dummy, under the position of a write to its place, after a stop too.
 pub record Started {R : Type 0} (state : R → RevState) (secret : Option (List ℕ)) (store0 store1 : StoreState) (high : ℕ) (served more : List (List ℕ)) (answers : List Answer)
     (part : List ℕ) (ending : Ending) : Type 0 where
   pub key : List ℕ
@@ -51,7 +54,9 @@ pub record Started {R : Type 0} (state : R → RevState) (secret : Option (List 
   pub steps : Steps state (machine_of first store0) middle served answers
   pub rest : EndingPart state middle (machine_of last store1) more part ending
   pub meant : IsTrue store0.tells → store1.lie ≡ None → Replayed state (machine_of first store0) middle [] served answers
+  pub sealed : IsTrue store0.tells → (good : ℕ → List ℕ → Bool) → AcceptsRows good 1 → AllSealed good (world_of state last store1)
   pub rows_open : high ≡ high_of last
+  pub rows_few : high ≤ 64
 
 -- what the texts did to an engine and the store
 abbrev pub Carried : {R : Type 0} (state : R → RevState) (secret : Option (List ℕ)) (store0 store1 : StoreState) (high : ℕ) (served more : List (List ℕ)) (answers : List Answer)
