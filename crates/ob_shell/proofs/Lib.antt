@@ -9,3 +9,4 @@ pub mod TopLemmas
 pub mod TraceLemmas
 pub mod ReplayLemmas
 pub mod LastingLemmas
+pub mod CalmLemmas

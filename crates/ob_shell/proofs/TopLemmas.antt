@@ -28,6 +28,7 @@ use Rattle.ob_shell.specs.declared.key.FirstLine.TheVariants.{Secret, Last, Bad}
 use Rattle.ob_shell.specs.declared.top.Ending.{Ending}
 use Rattle.ob_shell.specs.declared.top.Ending.TheVariants.{Usage, BadKey, Ran as RanEnding}
 use Rattle.ob_shell.proofs.TextLemmas.{rest_of-nil, texts_of-nil}
+use Rattle.ob_shell.proofs.CalmLemmas.{steps_calm, last_met, first_calm}
 use Rattle.ob_shell.proofs.LastingLemmas.{HasSizes, steps_sizes, last_rows, steps_sealed, last_sealed, steps_tell, none_sealed, first_sizes}
 use Rattle.ob_shell.proofs.ReplayLemmas.{no_lie, step_goes, replayed}
 use Rattle.ob_shell.proofs.StepLemmas.{printed-nil, any_refused-nil}
@@ -193,9 +194,9 @@ middle_sizes : {R : Type 0} (state : R → RevState) (first : Engine R) (s0 : St
 middle_sizes state first s0 middle served answers fresh rows steps = steps_sizes state (machine_of first s0) middle served answers steps (first_sizes (machine_of first s0) fresh rows)
 
 pub ran_after : {R : Type 0} {state : R → RevState} {f0 f1 : Fetch} {l0 l1 w0 w1 : Option (List ℕ)} {s0 s1 : StoreState} (key : List ℕ) (first last : Engine R) (high : ℕ) (result : Result Bool Stop)
-    → public_of first ≡ first_public 64 5 1 None → rows_of first ≡ 64 → ((q : ℕ) → s0.live q ≡ None) → high ≤ rows_of last → SessionRan state f0 f1 l0 l1 w0 w1 (machine_of first s0) (machine_of last s1) result → high ≡ high_of last
+    → public_of first ≡ first_public 64 5 1 None → rows_of first ≡ 64 → ((q : ℕ) → s0.live q ≡ None) → s0.lie ≡ None → high ≤ rows_of last → SessionRan state f0 f1 l0 l1 w0 w1 (machine_of first s0) (machine_of last s1) result → high ≡ high_of last
     → RanAfter state (Some key) f0 f1 l0 l1 w0 w1 s0 s1 high result
-ran_after {state = state} {s0 = s0} {s1 = s1} key first last high result fresh rows empty most ran e = record {
+ran_after {state = state} {s0 = s0} {s1 = s1} key first last high result fresh rows empty sound most ran e = record {
   piece = ran.piece;
   consumed = ran.consumed;
   taken = ran.taken;
@@ -220,6 +221,8 @@ ran_after {state = state} {s0 = s0} {s1 = s1} key first last high result fresh r
     sealed = λ tells good accepts. last_sealed state good accepts ran.middle (machine_of last s1) ran.more ran.part result ran.last (middle_sizes state first s0 ran.middle ran.served ran.answers fresh rows ran.steps)
         (steps_tell state (machine_of first s0) ran.middle ran.served ran.answers ran.steps tells)
         (steps_sealed state good accepts (machine_of first s0) ran.middle ran.served ran.answers ran.steps (first_sizes (machine_of first s0) fresh rows) tells (none_sealed state good first s0 empty));
+    changed = last_met state ran.middle (machine_of last s1) ran.more ran.part result ran.last
+        (steps_calm state (machine_of first s0) ran.middle ran.served ran.answers ran.steps (first_calm state first s0 sound));
     rows_open = e;
     rows_few = subst (λ (n : ℕ). high ≤ n) (last_rows state ran.middle (machine_of last s1) ran.more ran.part result ran.last (middle_sizes state first s0 ran.middle ran.served ran.answers fresh rows ran.steps)) most;
   });

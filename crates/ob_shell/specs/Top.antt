@@ -11,8 +11,8 @@ use Rattle.ob_exec.specs.Telling.{AcceptsRows}
 use Rattle.ob_mean.specs.Replay.{first_public}
 use Rattle.ob_print.specs.Cuts.{Cut}
 use Rattle.ob_store.specs.State.{StoreState}
-use Rattle.ob_vault.specs.State.{RevState}
-use Rattle.ob_vault.specs.Tied.{AllSealed}
+use Rattle.ob_vault.specs.State.{RevState, World}
+use Rattle.ob_vault.specs.Tied.{AllSealed, Calm, EndsAt}
 use Rattle.ob_shell.specs.Tracing.{Traced}
 use Rattle.ob_shell.specs.Usage.{Parses, is_traced}
 use Rattle.ob_shell.specs.Texts.{is_over, rest_of, texts_in}
@@ -40,6 +40,17 @@ pub record Unstarted (store0 store1 : StoreState) (high : ℕ) (served : List (L
   pub unanswered : answers ≡ []
   pub none : part ≡ []
 
+-- no changed block was read, or the first that was fits; or the run ended as tampered where it was read
+abbrev pub MeetsChange : Ending → World → Type 0
+MeetsChange Usage w = Calm w
+MeetsChange BadKey w = Calm w
+MeetsChange (Ran (Ok refused)) w = Calm w
+MeetsChange (Ran (Err (Tampered region place))) w = Calm w ⊎ EndsAt region place w
+MeetsChange (Ran (Err SourceFault)) w = Calm w
+MeetsChange (Ran (Err SinkFault)) w = Calm w
+MeetsChange (Ran (Err NoMemory)) w = Calm w
+MeetsChange (Ran (Err InputLimit)) w = Calm w
+
 -- an engine was started with this secret, without tables, and served these texts. Where the store tells what it holds,
 -- and gave what was written, their answers and accesses are those of the meaning, from no tables. Where it tells, each
 -- block of a live region is sealed, of one row or dummy, under the position of a write to its place, after a stop too.
@@ -55,6 +66,7 @@ pub record Started {R : Type 0} (state : R → RevState) (secret : Option (List 
   pub rest : EndingPart state middle (machine_of last store1) more part ending
   pub meant : IsTrue store0.tells → store1.lie ≡ None → Replayed state (machine_of first store0) middle [] served answers
   pub sealed : IsTrue store0.tells → (good : ℕ → List ℕ → Bool) → AcceptsRows good 1 → AllSealed good (world_of state last store1)
+  pub changed : MeetsChange ending (world_of state last store1)
   pub rows_open : high ≡ high_of last
   pub rows_few : high ≤ 64
 

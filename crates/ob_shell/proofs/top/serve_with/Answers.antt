@@ -10,7 +10,7 @@ returns-in-Err-clause-traced g c = traced_whole _ (traced_none _ _ _)
 
 pub returns-in-Ok-clause-ran : goal.returns-in-Ok-clause-ran
 returns-in-Ok-clause-ran g c = ran_after _ _ _ _ _ c.in-Ok.ensures.public c.in-Ok.ensures.rows
-    (λ q. g.met.S.BlockStore.starts_empty c.args.store.now q c.requires.fresh) c.high.ensures.most c.serve-ran.ensures.ran c.high.ensures.value
+    (λ q. g.met.S.BlockStore.starts_empty c.args.store.now q c.requires.fresh) (g.met.S.BlockStore.starts_honest c.args.store.now c.requires.fresh) c.high.ensures.most c.serve-ran.ensures.ran c.high.ensures.value
 
 pub serve-ran-requires : goal.serve-ran-requires
 serve-ran-requires g c = record { agrees = c.in-Ok.ensures.agrees (g.S.BlockStore.state c.args.store.now) c.requires.fresh; lives = c.in-Ok.ensures.alive }

@@ -1,0 +1,86 @@
+-- The first changed block that is read ends the run, or its tag fits.
+use Rattle.std.proofs.Common.{◌≡◌, ℕ, Bool, List, [], ◌∷◌, None, Ok, Err, Result, inl, inr, sym, subst}
+use Rattle.ob_base.specs.declared.refusal.Refusal.{Refusal}
+use Rattle.ob_base.specs.declared.refusal.Refusal.TheVariants.{Syntax, NoTable, NameTaken, NoColumn, WrongType, ValueRange, Limit, KeyRule, JoinKey, Duplicate, Full, TooManyGroups, NotConsecutive, Overflow, StoreFault}
+use Rattle.ob_base.specs.declared.refusal.Stop.{Stop}
+use Rattle.ob_base.specs.declared.refusal.Stop.TheVariants.{Tampered, SourceFault, SinkFault, NoMemory, InputLimit}
+use Rattle.ob_exec.specs.Agreeing.{world_of}
+use Rattle.ob_exec.specs.Running.{RunCause, refused_cause}
+use Rattle.ob_exec.specs.declared.engine.Engine.{Engine}
+use Rattle.ob_exec.specs.declared.outcome.Outcome.{Outcome}
+use Rattle.ob_exec.specs.declared.outcome.Outcome.TheVariants.{Created, Inserted, Changed, Deleted, Dropped, Rows, Refused}
+use Rattle.ob_shell.specs.Running.{LastPart}
+use Rattle.ob_shell.specs.Steps.{Machine, Answer, Step, Steps}
+use Rattle.ob_shell.specs.Top.{MeetsChange}
+use Rattle.ob_shell.specs.declared.top.Ending.TheVariants.{Ran as RanEnding}
+use Rattle.ob_store.specs.State.{StoreState}
+use Rattle.ob_vault.specs.State.{RevState, World}
+use Rattle.ob_vault.specs.Tied.{Calm}
+
+refused_calm : (r : Refusal) (a b : World) → refused_cause r a b → Calm a → Calm b
+refused_calm (Syntax at) a b cause = cause.1
+refused_calm NoTable a b cause = cause.1
+refused_calm NameTaken a b cause = cause.1
+refused_calm NoColumn a b cause = cause.1
+refused_calm WrongType a b cause = cause.1
+refused_calm ValueRange a b cause = cause.1
+refused_calm Limit a b cause = cause.1
+refused_calm KeyRule a b cause = cause.1
+refused_calm JoinKey a b cause = cause.1
+refused_calm Duplicate a b cause = cause.1
+refused_calm Full a b cause = cause.1
+refused_calm TooManyGroups a b cause = cause.1
+refused_calm NotConsecutive a b cause = cause.1
+refused_calm (Overflow i) a b cause = cause.1
+refused_calm StoreFault a b cause = cause.1
+
+outcome_calm : (o : Outcome) (a b : World) → RunCause (Ok o) a b → Calm a → Calm b
+outcome_calm (Refused r) a b cause = refused_calm r a b cause
+outcome_calm Created a b cause = cause.1
+outcome_calm Inserted a b cause = cause.1
+outcome_calm (Changed n) a b cause = cause.1
+outcome_calm (Deleted n) a b cause = cause.1
+outcome_calm Dropped a b cause = cause.1
+outcome_calm (Rows k) a b cause = cause.1
+
+-- after a stop
+met : (stop : Stop) (w : World) → Calm w → MeetsChange (RanEnding (Err stop)) w
+met (Tampered region place) w calm = inl calm
+met SourceFault w calm = calm
+met SinkFault w calm = calm
+met NoMemory w calm = calm
+met InputLimit w calm = calm
+
+stop_met : (stop : Stop) (a b : World) → RunCause (Err stop) a b → Calm a → MeetsChange (RanEnding (Err stop)) b
+stop_met (Tampered region place) a b cause calm = cause.1 calm
+stop_met SinkFault a b cause calm = cause.1 calm
+stop_met NoMemory a b cause calm = cause.1 calm
+stop_met SourceFault a b cause calm = absurd cause
+stop_met InputLimit a b cause calm = absurd cause
+
+module _ {R : Type 0} (state : R → RevState) where
+  abbrev IsCalm : Machine R → Type 0
+  IsCalm m = Calm (world_of state m.engine m.store)
+
+  step_calm : (m0 m1 : Machine R) (text : List ℕ) (answer : Answer) → Step state m0 m1 text answer → IsCalm m0 → IsCalm m1
+  step_calm m0 m1 text answer step calm = elim step.done [
+    | inl bad ↦ subst (λ (m : Machine R). IsCalm m) (sym bad.same) calm
+    | inr did ↦ outcome_calm answer.outcome _ _ did.ran.cause calm
+  ]
+
+  pub steps_calm : (m0 m2 : Machine R) (texts : List (List ℕ)) (answers : List Answer) → Steps state m0 m2 texts answers → IsCalm m0 → IsCalm m2
+  unfolding Steps
+  steps_calm m0 m2 [] answers steps calm = subst (λ (m : Machine R). IsCalm m) (sym steps.0) calm
+  steps_calm m0 m2 (text ∷ texts) answers steps calm = steps_calm steps.0 m2 texts steps.2 steps.5 (step_calm m0 steps.0 text steps.1 steps.4 calm)
+
+  pub last_met : (m1 m2 : Machine R) (more : List (List ℕ)) (part : List ℕ) (result : Result Bool Stop) → LastPart state m1 m2 more part result → IsCalm m1
+      → MeetsChange (RanEnding result) (world_of state m2.engine m2.store)
+  last_met m1 m2 more part (Ok flag) rests calm = subst (λ (m : Machine R). IsCalm m) (sym rests.machine) calm
+  last_met m1 m2 [] part (Err stop) rests calm = met stop _ (subst (λ (m : Machine R). IsCalm m) (sym rests.machine) calm)
+  last_met m1 m2 (text ∷ more) part (Err stop) (inl rests) calm = met stop _ (subst (λ (m : Machine R). IsCalm m) (sym rests.machine) calm)
+  last_met m1 m2 (text ∷ more) part (Err stop) (inr (inl cut)) calm = stop_met stop _ _ cut.ran.cause calm
+  last_met m1 m2 (text ∷ more) part (Err stop) (inr (inr done)) calm = met stop _ (step_calm m1 m2 text done.answer done.step calm)
+
+-- no block was read yet
+pub first_calm : {R : Type 0} (state : R → RevState) (e : Engine R) (s : StoreState) → s.lie ≡ None → Calm (world_of state e s)
+first_calm state e s none = record { calm = λ lie is. absurd (cc (none, is)) }
