@@ -76,8 +76,8 @@ module _ {R : Type 0} (state : R → RevState) where
   pub last_met : (m1 m2 : Machine R) (more : List (List ℕ)) (part : List ℕ) (result : Result Bool Stop) → LastPart state m1 m2 more part result → IsCalm m1
       → MeetsChange (RanEnding result) (world_of state m2.engine m2.store)
   last_met m1 m2 more part (Ok flag) rests calm = subst (λ (m : Machine R). IsCalm m) (sym rests.machine) calm
-  last_met m1 m2 [] part (Err stop) rests calm = met stop _ (subst (λ (m : Machine R). IsCalm m) (sym rests.machine) calm)
-  last_met m1 m2 (text ∷ more) part (Err stop) (inl rests) calm = met stop _ (subst (λ (m : Machine R). IsCalm m) (sym rests.machine) calm)
+  last_met m1 m2 [] part (Err stop) rests calm = met stop _ (subst (λ (m : Machine R). IsCalm m) (sym rests.rests.machine) calm)
+  last_met m1 m2 (text ∷ more) part (Err stop) (inl rests) calm = met stop _ (subst (λ (m : Machine R). IsCalm m) (sym rests.rests.machine) calm)
   last_met m1 m2 (text ∷ more) part (Err stop) (inr (inl cut)) calm = stop_met stop _ _ cut.ran.cause calm
   last_met m1 m2 (text ∷ more) part (Err stop) (inr (inr done)) calm = met stop _ (step_calm m1 m2 text done.answer done.step calm)
 

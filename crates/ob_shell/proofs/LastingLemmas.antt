@@ -37,8 +37,8 @@ module _ {R : Type 0} (state : R → RevState) where
 
   pub last_rows : (m1 m2 : Machine R) (more : List (List ℕ)) (part : List ℕ) (result : Result Bool Stop) → LastPart state m1 m2 more part result → HasSizes m1 → rows_of m2.engine ≡ 64
   last_rows m1 m2 more part (Ok flag) rests sizes = ap (λ (m : Machine R). rows_of m.engine) rests.machine ∙ sizes.rows
-  last_rows m1 m2 [] part (Err stop) rests sizes = ap (λ (m : Machine R). rows_of m.engine) rests.machine ∙ sizes.rows
-  last_rows m1 m2 (text ∷ more) part (Err stop) (inl rests) sizes = ap (λ (m : Machine R). rows_of m.engine) rests.machine ∙ sizes.rows
+  last_rows m1 m2 [] part (Err stop) rests sizes = ap (λ (m : Machine R). rows_of m.engine) rests.rests.machine ∙ sizes.rows
+  last_rows m1 m2 (text ∷ more) part (Err stop) (inl rests) sizes = ap (λ (m : Machine R). rows_of m.engine) rests.rests.machine ∙ sizes.rows
   last_rows m1 m2 (text ∷ more) part (Err stop) (inr (inl cut)) sizes = cut.ran.room.rows ∙ sizes.buffer
   last_rows m1 m2 (text ∷ more) part (Err stop) (inr (inr done)) sizes = (step_sizes m1 m2 text done.answer done.step sizes).rows
 
@@ -66,8 +66,8 @@ module _ {R : Type 0} (state : R → RevState) where
 
     pub last_sealed : (m1 m2 : Machine R) (more : List (List ℕ)) (part : List ℕ) (result : Result Bool Stop) → LastPart state m1 m2 more part result → HasSizes m1 → IsTrue m1.store.tells → IsSealed m1 → IsSealed m2
     last_sealed m1 m2 more part (Ok flag) rests sizes tells all = subst (λ (m : Machine R). IsSealed m) (sym rests.machine) all
-    last_sealed m1 m2 [] part (Err stop) rests sizes tells all = subst (λ (m : Machine R). IsSealed m) (sym rests.machine) all
-    last_sealed m1 m2 (text ∷ more) part (Err stop) (inl rests) sizes tells all = subst (λ (m : Machine R). IsSealed m) (sym rests.machine) all
+    last_sealed m1 m2 [] part (Err stop) rests sizes tells all = subst (λ (m : Machine R). IsSealed m) (sym rests.rests.machine) all
+    last_sealed m1 m2 (text ∷ more) part (Err stop) (inl rests) sizes tells all = subst (λ (m : Machine R). IsSealed m) (sym rests.rests.machine) all
     last_sealed m1 m2 (text ∷ more) part (Err stop) (inr (inl cut)) sizes tells all = (cut.sealed good (accepts_at m1 sizes)).seals tells all
     last_sealed m1 m2 (text ∷ more) part (Err stop) (inr (inr done)) sizes tells all = step_sealed m1 m2 text done.answer done.step sizes tells all
 

@@ -11,7 +11,7 @@ use Rattle.ob_print.specs.Cuts.{Cut}
 use Rattle.ob_print.proofs.CutLemmas.{Cut-after, Cut-whole}
 use Rattle.ob_shell.specs.Texts.{text_max, is_over, rest_after, texts_at, texts_of, tail_text}
 use Rattle.ob_shell.specs.Feeding.{Fetch, Fed}
-use Rattle.ob_shell.specs.Steps.{Machine, AnswersAll, StopsIn, IsSinkFault, printed, any_refused}
+use Rattle.ob_shell.specs.Steps.{Machine, AnswersAll, StopsIn, IsSinkFault, printed, any_refused, IsUntampered}
 use Rattle.ob_shell.specs.Running.{SoFar, SessionRan, EndsBy, stop_of, IsQuiet}
 use Rattle.ob_shell.specs.Tracing.{TracedAll, Traced}
 use Rattle.ob_shell.specs.declared.session.Halted.{Halted}
@@ -69,12 +69,12 @@ pub at_limit_is_over : (new rest : List ℕ) → new ≡ rest → length new ≡
 at_limit_is_over new rest e h = rw (← e) (grind arith)
 
 -- it stopped at the source's fault or at a limit, with every text served that had come whole
-pub ran_halt : {R : Type 0} {state : R → RevState} {f0 f2 : Fetch} {l0 l2 w0 w2 : Option (List ℕ)} {p : List ℕ} {r : Bool} {m0 m1 : Machine R} (stop : Stop)
+pub ran_halt : {R : Type 0} {state : R → RevState} {f0 f2 : Fetch} {l0 l2 w0 w2 : Option (List ℕ)} {p : List ℕ} {r : Bool} {m0 m1 : Machine R} (stop : Stop) → IsUntampered stop
     → (so : SoFar state f0 f2 l0 l2 w0 w2 p r m0 m1)
     → texts_of p f2.unread ≡ []
     → EndsBy f2 false (so.passed ++ f2.unread) [] [] (Err stop)
     → SessionRan state f0 f2 l0 l2 w0 w2 m0 m1 (Err stop)
-ran_halt {state = state} {f0 = f0} {f2 = f2} {w0 = w0} {w2 = w2} {m1 = m1} stop so none ends = record {
+ran_halt {state = state} {f0 = f0} {f2 = f2} {w0 = w0} {w2 = w2} {m1 = m1} stop fine so none ends = record {
   piece = so.fed.piece;
   consumed = so.fed.consumed;
   taken = so.fed.taken;
@@ -89,7 +89,7 @@ ran_halt {state = state} {f0 = f0} {f2 = f2} {w0 = w0} {w2 = w2} {m1 = m1} stop 
   answers = so.answers;
   steps = so.steps;
   part = [];
-  last = PartlyAt-none state m1 [] stop;
+  last = PartlyAt-none state m1 [] stop fine;
   cut = subst (λ (l : List ℕ). Cut w0 w2 (IsSinkFault stop) l) (sym (append-nil (printed so.answers))) (Cut-whole w0 w2 (IsSinkFault stop) (printed so.answers) so.appends);
   flag = tt;
   ends = subst (λ (l : List ℕ). EndsBy f2 false l [] [] (Err stop)) (sym so.fed.joined) ends;
@@ -218,19 +218,19 @@ ran_turn SourceFault so fed st no_fault limit = absurd (no_fault refl)
 ran_turn {f2 = f2} {p = p} {b = b} InputLimit so fed st no_fault limit =
     let h = limit refl in
     let now = so_far_turn so fed refl (sym h.0) h.2 in
-    ran_halt InputLimit now (texts_of-over _ _ h.1)
+    ran_halt InputLimit tt now (texts_of-over _ _ h.1)
     (refl, refl, refl, inl (rw (rest_of-append, ← now.pending_is, rest_of-over (rest_after p b) f2.unread h.1) h.1))
 
 pub ran_source_fault : {R : Type 0} {state : R → RevState} {f0 f2 : Fetch} {l0 l2 w0 w2 : Option (List ℕ)} {p : List ℕ} {r : Bool} {m0 m1 : Machine R}
     → SoFar state f0 f2 l0 l2 w0 w2 p r m0 m1 → f2.unread ≡ [] → length p < text_max
     → SessionRan state f0 f2 l0 l2 w0 w2 m0 m1 (Err SourceFault)
 ran_source_fault {p = p} so none short =
-    ran_halt SourceFault so (rw none (texts_of-nil p)) (refl, refl, refl, rw (none, append-nil, ← so.pending_is) (below_is_not_over p short))
+    ran_halt SourceFault tt so (rw none (texts_of-nil p)) (refl, refl, refl, rw (none, append-nil, ← so.pending_is) (below_is_not_over p short))
 
 pub ran_input_limit : {R : Type 0} {state : R → RevState} {f0 f2 : Fetch} {l0 l2 w0 w2 : Option (List ℕ)} {p : List ℕ} {r : Bool} {m0 m1 : Machine R}
     → SoFar state f0 f2 l0 l2 w0 w2 p r m0 m1 → f2.unread ≡ [] → f2.taken ≡ f2.limit
     → SessionRan state f0 f2 l0 l2 w0 w2 m0 m1 (Err InputLimit)
-ran_input_limit {p = p} so none full = ran_halt InputLimit so (rw none (texts_of-nil p)) (refl, refl, refl, inr full)
+ran_input_limit {p = p} so none full = ran_halt InputLimit tt so (rw none (texts_of-nil p)) (refl, refl, refl, inr full)
 
 -- the trace of all that was asked, and then of what was asked until the end
 pub traced_by : {tracing : Bool} {a0 a1 a2 : List Access} {w0 w1 w2 : Option (List ℕ)} (result : Result Bool Halted) → TracedAll tracing a0 a1 w0 w1

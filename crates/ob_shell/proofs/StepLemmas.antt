@@ -6,7 +6,7 @@ use Rattle.ob_base.specs.declared.refusal.Stop.{Stop}
 use Rattle.ob_vault.specs.State.{RevState}
 use Rattle.ob_print.proofs.CutLemmas.{Cut-whole}
 use Rattle.ob_shell.specs.Closing.{is_refused}
-use Rattle.ob_shell.specs.Steps.{Machine, Answer, Step, Steps, printed, any_refused, Rests, PartlyAt, AnswersAll, StopsIn, IsSinkFault}
+use Rattle.ob_shell.specs.Steps.{Machine, Answer, Step, Steps, printed, any_refused, Idle, IsUntampered, PartlyAt, AnswersAll, StopsIn, IsSinkFault}
 
 pub or_false : (a : Bool) → (a || false) ≡ a
 or_false true = refl
@@ -84,11 +84,11 @@ answers_one text r answer step bytes = record {
   flag = ap (λ (b : Bool). r || b) (sym (refused_one answer));
 }
 
-pub PartlyAt-none : {R : Type 0} (state : R → RevState) (m : Machine R) (texts : List (List ℕ)) (stop : Stop) → PartlyAt state m m texts stop []
-PartlyAt-none state m [] stop = record { machine = refl; none = refl }
-PartlyAt-none state m (t ∷ ts) stop = inl (record { machine = refl; none = refl })
+pub PartlyAt-none : {R : Type 0} (state : R → RevState) (m : Machine R) (texts : List (List ℕ)) (stop : Stop) → IsUntampered stop → PartlyAt state m m texts stop []
+PartlyAt-none state m [] stop fine = record { rests = record { machine = refl; none = refl }; untampered = fine }
+PartlyAt-none state m (t ∷ ts) stop fine = inl (record { rests = record { machine = refl; none = refl }; untampered = fine })
 
-pub PartlyAt-rests : {R : Type 0} (state : R → RevState) (m0 m1 : Machine R) (texts : List (List ℕ)) (stop : Stop) (bytes : List ℕ) → Rests m0 m1 bytes → PartlyAt state m0 m1 texts stop bytes
+pub PartlyAt-rests : {R : Type 0} (state : R → RevState) (m0 m1 : Machine R) (texts : List (List ℕ)) (stop : Stop) (bytes : List ℕ) → Idle m0 m1 stop bytes → PartlyAt state m0 m1 texts stop bytes
 PartlyAt-rests state m0 m1 [] stop bytes r = r
 PartlyAt-rests state m0 m1 (t ∷ ts) stop bytes r = inl r
 
@@ -98,8 +98,8 @@ PartlyAt-more state m0 m1 [] more stop bytes p = PartlyAt-rests state m0 m1 more
 PartlyAt-more state m0 m1 (t ∷ ts) more stop bytes p = p
 
 -- nothing was done of the texts
-pub stops_before : {R : Type 0} {state : R → RevState} (w : Option (List ℕ)) (m : Machine R) (texts : List (List ℕ)) (stop : Stop) → StopsIn state w w texts stop m m
-stops_before {state = state} w m texts stop = record { bytes = []; partly = PartlyAt-none state m texts stop; cut = Cut-whole w w _ [] (Appends-nil w) }
+pub stops_before : {R : Type 0} {state : R → RevState} (w : Option (List ℕ)) (m : Machine R) (texts : List (List ℕ)) (stop : Stop) → IsUntampered stop → StopsIn state w w texts stop m m
+stops_before {state = state} w m texts stop fine = record { bytes = []; partly = PartlyAt-none state m texts stop fine; cut = Cut-whole w w _ [] (Appends-nil w) }
 
 -- the only answer of a list
 record OneAnswer {R : Type 0} (state : R → RevState) (m0 m1 : Machine R) (text : List ℕ) (answers : List Answer) : Type 0 where

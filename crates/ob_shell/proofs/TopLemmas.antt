@@ -8,7 +8,7 @@ use Rattle.ob_base.specs.declared.refusal.Stop.{Stop}
 use Rattle.ob_base.specs.declared.refusal.Stop.TheVariants.{Tampered, SourceFault, SinkFault, NoMemory, InputLimit}
 use Rattle.ob_base.specs.declared.config.Public.{Public}
 use Rattle.ob_exec.specs.Agreeing.{public_of, high_of, rows_of, world_of}
-use Rattle.ob_exec.specs.Telling.{AreHeld}
+use Rattle.ob_exec.specs.Telling.{AreHeld, told_stop}
 use Rattle.ob_mean.specs.Replay.{first_public}
 use Rattle.ob_exec.specs.declared.engine.Engine.{Engine}
 use Rattle.ob_vault.specs.State.{RevState}
@@ -19,10 +19,10 @@ use Rattle.ob_shell.specs.Texts.{is_over, rest_of, texts_of, texts_in}
 use Rattle.ob_shell.specs.Feeding.{Fetch, Fed}
 use Rattle.ob_shell.specs.KeyLine.{has_lf, first_line, after_line, secret_of, KeyRead}
 use Rattle.ob_shell.specs.Replayed.{Replayed}
-use Rattle.ob_shell.specs.Steps.{Machine, Answer, Steps, machine_of, printed}
+use Rattle.ob_shell.specs.Steps.{Machine, Answer, Steps, IsUntampered, IsSinkFault, machine_of, printed}
 use Rattle.ob_shell.specs.Running.{Faults, SessionRan, LastPart, EndsBy, SinkFailed, SinksRose}
 use Rattle.ob_shell.specs.Endings.{last_line, SinkStopped}
-use Rattle.ob_shell.specs.Top.{HasSecret, RanSays, EndingSays, EndingWords, Carried, Shown, RanAfter, EndingCause, EndingFlag, StatusCause}
+use Rattle.ob_shell.specs.Top.{HasSecret, EndsUntampered, RanSays, EndingSays, EndingWords, Carried, Shown, RanAfter, EndingCause, EndingFlag, StatusCause}
 use Rattle.ob_shell.specs.declared.feed.Halt.{Halt}
 use Rattle.ob_shell.specs.declared.key.FirstLine.TheVariants.{Secret, Last, Bad}
 use Rattle.ob_shell.specs.declared.top.Ending.{Ending}
@@ -184,10 +184,33 @@ meant_from state first s0 middle served answers fresh steps tells honest =
 last_honest : {R : Type 0} (state : R → RevState) (m1 m2 : Machine R) (more : List (List ℕ)) (part : List ℕ) (result : Result Bool Stop) → LastPart state m1 m2 more part result
     → m2.store.lie ≡ None → m1.store.lie ≡ None
 last_honest {R} state m1 m2 more part (Ok flag) rests none = ap (λ (m : Machine R). m.store.lie) (sym rests.machine) ∙ none
-last_honest {R} state m1 m2 [] part (Err stop) rests none = ap (λ (m : Machine R). m.store.lie) (sym rests.machine) ∙ none
-last_honest {R} state m1 m2 (text ∷ more) part (Err stop) (inl rests) none = ap (λ (m : Machine R). m.store.lie) (sym rests.machine) ∙ none
+last_honest {R} state m1 m2 [] part (Err stop) rests none = ap (λ (m : Machine R). m.store.lie) (sym rests.rests.machine) ∙ none
+last_honest {R} state m1 m2 (text ∷ more) part (Err stop) (inl rests) none = ap (λ (m : Machine R). m.store.lie) (sym rests.rests.machine) ∙ none
 last_honest state m1 m2 (text ∷ more) part (Err stop) (inr (inl cut)) none = no_lie m1.store.lie m1.store m2.store refl cut.ran.later none
 last_honest state m1 m2 (text ∷ more) part (Err stop) (inr (inr done)) none = (step_goes state m1 m2 text done.answer done.step.done).lie none
+
+stop_told : (Cut : Type 0) (stop : Stop) → told_stop stop Cut → IsUntampered stop
+stop_told Cut (Tampered region place) told = told
+stop_told Cut SourceFault told = tt
+stop_told Cut SinkFault told = tt
+stop_told Cut NoMemory told = tt
+stop_told Cut InputLimit told = tt
+
+sink_untampered : (stop : Stop) → IsSinkFault stop → IsUntampered stop
+sink_untampered (Tampered region place) fault = fault
+sink_untampered SourceFault fault = tt
+sink_untampered SinkFault fault = tt
+sink_untampered NoMemory fault = tt
+sink_untampered InputLimit fault = tt
+
+-- where no changed block was read, the run ends by none
+last_untampered : {R : Type 0} (state : R → RevState) (m1 m2 : Machine R) (more : List (List ℕ)) (part : List ℕ) (result : Result Bool Stop) → LastPart state m1 m2 more part result
+    → IsTrue m1.store.tells → m2.store.lie ≡ None → (m0 : Machine R) (served : List (List ℕ)) (answers : List Answer) → Replayed state m0 m1 [] served answers → EndsUntampered (RanEnding result)
+last_untampered state m1 m2 more part (Ok flag) last tells honest m0 served answers meant = tt
+last_untampered state m1 m2 [] part (Err stop) idle tells honest m0 served answers meant = idle.untampered
+last_untampered state m1 m2 (text ∷ more) part (Err stop) (inl idle) tells honest m0 served answers meant = idle.untampered
+last_untampered state m1 m2 (text ∷ more) part (Err stop) (inr (inl cut)) tells honest m0 served answers meant = stop_told _ stop (cut.meant.told tells meant.left meant.held honest)
+last_untampered state m1 m2 (text ∷ more) part (Err stop) (inr (inr done)) tells honest m0 served answers meant = sink_untampered stop done.fault
 
 middle_sizes : {R : Type 0} (state : R → RevState) (first : Engine R) (s0 : StoreState) (middle : Machine R) (served : List (List ℕ)) (answers : List Answer)
     → public_of first ≡ first_public 64 5 1 None → rows_of first ≡ 64 → Steps state (machine_of first s0) middle served answers → HasSizes middle
@@ -221,6 +244,9 @@ ran_after {state = state} {s0 = s0} {s1 = s1} key first last high result fresh r
     sealed = λ tells good accepts. last_sealed state good accepts ran.middle (machine_of last s1) ran.more ran.part result ran.last (middle_sizes state first s0 ran.middle ran.served ran.answers fresh rows ran.steps)
         (steps_tell state (machine_of first s0) ran.middle ran.served ran.answers ran.steps tells)
         (steps_sealed state good accepts (machine_of first s0) ran.middle ran.served ran.answers ran.steps (first_sizes (machine_of first s0) fresh rows) tells (none_sealed state good first s0 empty));
+    untampered = λ tells honest. last_untampered state ran.middle (machine_of last s1) ran.more ran.part result ran.last
+        (steps_tell state (machine_of first s0) ran.middle ran.served ran.answers ran.steps tells) honest (machine_of first s0) ran.served ran.answers
+        (meant_from state first s0 ran.middle ran.served ran.answers fresh ran.steps tells (last_honest state ran.middle (machine_of last s1) ran.more ran.part result ran.last honest));
     changed = last_met state ran.middle (machine_of last s1) ran.more ran.part result ran.last
         (steps_calm state (machine_of first s0) ran.middle ran.served ran.answers ran.steps (first_calm state first s0 sound));
     rows_open = e;

@@ -131,11 +131,24 @@ pub record Finished {R : Type 0} (state : R → RevState) (m0 m1 : Machine R) (t
   pub whole : bytes ≡ answer.bytes
   pub fault : IsSinkFault stop
 
+-- it is no stop by a block
+abbrev pub IsUntampered : Stop → Type 0
+IsUntampered (Tampered region place) = ⊥
+IsUntampered SourceFault = Unit {0}
+IsUntampered SinkFault = Unit {0}
+IsUntampered NoMemory = Unit {0}
+IsUntampered InputLimit = Unit {0}
+
+-- nothing was done before a stop, which is none by a block
+pub record Idle {R : Type 0} (m0 m1 : Machine R) (stop : Stop) (bytes : List ℕ) : Type 0 where
+  pub rests : Rests m0 m1 bytes
+  pub untampered : IsUntampered stop
+
 -- what a stop left of the first of these texts
 abbrev pub PartlyAt : {R : Type 0} → (R → RevState) → Machine R → Machine R → List (List ℕ) → Stop → List ℕ → Type 0
-PartlyAt state m0 m1 [] stop bytes = Rests m0 m1 bytes
+PartlyAt state m0 m1 [] stop bytes = Idle m0 m1 stop bytes
 PartlyAt state m0 m1 (text ∷ texts) stop bytes =
-    Rests m0 m1 bytes ⊎ (CutStep state m0 m1 text stop bytes ⊎ Finished state m0 m1 text stop bytes)
+    Idle m0 m1 stop bytes ⊎ (CutStep state m0 m1 text stop bytes ⊎ Finished state m0 m1 text stop bytes)
 
 -- a sink took the answers of these texts, of which the flag tells whether one was a refusal, now or before
 pub record AnswersAll {R : Type 0} (state : R → RevState) (written0 written1 : Option (List ℕ)) (texts : List (List ℕ)) (refused0 refused1 : Bool)

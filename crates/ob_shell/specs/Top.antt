@@ -19,7 +19,7 @@ use Rattle.ob_shell.specs.Texts.{is_over, rest_of, texts_in}
 use Rattle.ob_shell.specs.Feeding.{Fetch}
 use Rattle.ob_shell.specs.Replayed.{Replayed}
 use Rattle.ob_shell.specs.KeyLine.{line_max, has_lf, first_line, after_line, secret_of, LineTaken}
-use Rattle.ob_shell.specs.Steps.{Machine, machine_of, Answer, Steps, Rests, printed}
+use Rattle.ob_shell.specs.Steps.{Machine, machine_of, Answer, Steps, Rests, IsUntampered, printed}
 use Rattle.ob_shell.specs.Running.{Faults, SinksRose, NoneRose, LastPart, FlagIs, EndsBy, SinkFailed, StopCause}
 use Rattle.ob_shell.specs.Endings.{status_of, last_line}
 use Rattle.ob_shell.specs.declared.top.Ending.{Ending}
@@ -51,6 +51,13 @@ MeetsChange (Ran (Err SinkFault)) w = Calm w
 MeetsChange (Ran (Err NoMemory)) w = Calm w
 MeetsChange (Ran (Err InputLimit)) w = Calm w
 
+-- it is no end by a block
+abbrev pub EndsUntampered : Ending → Type 0
+EndsUntampered Usage = Unit {0}
+EndsUntampered BadKey = Unit {0}
+EndsUntampered (Ran (Ok refused)) = Unit {0}
+EndsUntampered (Ran (Err stop)) = IsUntampered stop
+
 -- an engine was started with this secret, without tables, and served these texts. Where the store tells what it holds,
 -- and gave what was written, their answers and accesses are those of the meaning, from no tables. Where it tells, each
 -- block of a live region is sealed, of one row or dummy, under the position of a write to its place, after a stop too.
@@ -66,6 +73,7 @@ pub record Started {R : Type 0} (state : R → RevState) (secret : Option (List 
   pub rest : EndingPart state middle (machine_of last store1) more part ending
   pub meant : IsTrue store0.tells → store1.lie ≡ None → Replayed state (machine_of first store0) middle [] served answers
   pub sealed : IsTrue store0.tells → (good : ℕ → List ℕ → Bool) → AcceptsRows good 1 → AllSealed good (world_of state last store1)
+  pub untampered : IsTrue store0.tells → store1.lie ≡ None → EndsUntampered ending
   pub changed : MeetsChange ending (world_of state last store1)
   pub rows_open : high ≡ high_of last
   pub rows_few : high ≤ 64

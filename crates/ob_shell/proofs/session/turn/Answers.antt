@@ -22,7 +22,7 @@ pub returns-in-Err-InputLimit-clause-traced_stop : goal.returns-in-Err-InputLimi
 returns-in-Err-InputLimit-clause-traced_stop g c = traced_whole _ (traced_none _ _ _)
 
 pub returns-in-Err-NoMemory-clause-stopped : goal.returns-in-Err-NoMemory-clause-stopped
-returns-in-Err-NoMemory-clause-stopped g c = stops_before _ _ _ _
+returns-in-Err-NoMemory-clause-stopped g c = stops_before _ _ _ _ tt
 
 pub returns-in-Err-InputLimit-clause-stopped : goal.returns-in-Err-InputLimit-clause-stopped
-returns-in-Err-InputLimit-clause-stopped g c = stops_before _ _ _ _
+returns-in-Err-InputLimit-clause-stopped g c = stops_before _ _ _ _ tt
