@@ -7,3 +7,4 @@ pub mod ToldLemmas
 pub mod FoundLemmas
 pub mod EmitLemmas
 pub mod SealLemmas
+pub mod LawfulLemmas

@@ -1,5 +1,5 @@
 -- Blocks stay sealed while a statement runs.
-use Rattle.std.proofs.Common.{◌≡◌, ℕ, Bool, List, Some, refl, sym, ◌∙◌, subst, arith}
+use Rattle.std.proofs.Common.{◌≡◌, ℕ, Bool, List, Some, sym, ◌∙◌, subst, arith}
 use Rattle.ob_base.specs.declared.access.Access.{Access}
 use Rattle.ob_base.specs.Accesses.{nth_write}
 use Rattle.ob_base.specs.Schemas.{Columns}
@@ -10,7 +10,7 @@ use Rattle.ob_vault.specs.State.{RevState, VaultState, World}
 use Rattle.ob_vault.proofs.Runs.{seals_join}
 use Rattle.ob_flat.specs.Flats.{Accepts}
 use Rattle.ob_exec.specs.Agreeing.{Agrees, world_of}
-use Rattle.ob_exec.specs.Telling.{AcceptsRows, KeepsSealed}
+use Rattle.ob_exec.specs.Telling.{KeepsSealed}
 use Rattle.ob_exec.specs.declared.engine.Engine.{Engine}
 
 -- room for accesses changes no block

@@ -6,7 +6,7 @@ ghost use Rattle.ob_base.specs.Events.{Event, Head, Row, Close, EmitCause};
 ghost use Rattle.ob_base.specs.declared.seen.End.TheVariants.{Static};
 ghost use Rattle.ob_sql.specs.declared.stmt.Stmt.{Stmt};
 ghost use Rattle.ob_sql.specs.Skeleton.{skeleton};
-ghost use Rattle.ob_mean.specs.Verdict.{Tables};
+ghost use Rattle.ob_mean.specs.Verdict.{Tables, ended as seen_to};
 ghost use Rattle.ob_mean.specs.Prints.{Begun};
 ghost use Rattle.ob_exec.specs.Agreeing.{Agrees, has_ended, public_of, seen_of};
 ghost use Rattle.ob_exec.specs.Running.{Ran, Emits, SinkCause, refusal_now};
@@ -56,6 +56,7 @@ impl<R: Revisions> Engine<R> {
         requires allowed { refusal_now (public_of self.old) (length (S.state store.old).asked) (count_of table.now) ≡ None }
         ensures ran { Ran R.state (skeleton (count_of table.now)) result self.old (S.state store.old) self.new (S.state store.new) }
         ensures seals { KeepsSealed R.state self.old (S.state store.old) self.new (S.state store.new) }
+        ensures plain { seen_of self.new ≡ seen_to (seen_of self.new).end }
         ensures started { (seen_of self.new).end ≡ Static → ⊥ }
         ensures emits { IfOk result (λ outcome. (events : List Event) × E.grew out.old out.new events × Emits outcome events
             × (IsTrue (S.state store.old).tells → (tables : Tables) → Represents R.state self.old (S.state store.old) tables → (S.state store.new).lie ≡ None

@@ -2,6 +2,7 @@
 ghost use Rattle.std.specs.Prelude.{◌≡◌, ◌⊎◌, List, IsTrue, None, false, length, IfOk, OnErr};
 ghost use Rattle.ob_base.specs.Events.{Event};
 ghost use Rattle.ob_sql.specs.Skeleton.{skeleton};
+ghost use Rattle.ob_mean.specs.Lawful.{Lawful};
 ghost use Rattle.ob_mean.specs.Verdict.{Tables};
 ghost use Rattle.ob_exec.specs.Agreeing.{Agrees, has_ended, public_of, seen_of};
 ghost use Rattle.ob_exec.specs.Running.{Ran, RefusedEarly, Emits, SinkCause, refusal_now};
@@ -37,6 +38,7 @@ impl<R: Revisions> Engine<R> {
         ensures ran { Ran R.state (skeleton stmt.now) result self.old (S.state store.old) self.new (S.state store.new) }
         ensures seals { KeepsSealed R.state self.old (S.state store.old) self.new (S.state store.new) }
         ensures early { RefusedEarly (refusal_now (public_of self.old) (length (S.state store.old).asked) stmt.now) result (seen_of self.new) }
+        ensures lawful { Lawful (public_of self.old) (length (S.state store.old).asked) stmt.now (seen_of self.new) }
         ensures emits { IfOk result (λ outcome. (events : List Event) × E.grew out.old out.new events × Emits outcome events
             × (IsTrue (S.state store.old).tells → (tables : Tables) → Represents R.state self.old (S.state store.old) tables → (S.state store.new).lie ≡ None
             → Emitted stmt.now (public_of self.old) (length (S.state store.old).asked) tables result events)) }

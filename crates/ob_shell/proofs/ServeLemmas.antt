@@ -11,6 +11,7 @@ use Rattle.ob_exec.specs.Running.{Ran, RefusedEarly, RunCause, SinkCause, Emits,
 use Rattle.ob_exec.specs.Telling.{KeepsSealed, Represents, Told, Emitted}
 use Rattle.ob_exec.specs.declared.outcome.Outcome.{Outcome}
 use Rattle.ob_exec.specs.declared.outcome.Outcome.TheVariants.{Refused}
+use Rattle.ob_mean.specs.Lawful.{Lawful}
 use Rattle.ob_mean.specs.Verdict.{Tables}
 use Rattle.ob_print.specs.Rows.{Printed, PrintedCut, events_text}
 use Rattle.ob_print.proofs.CutLemmas.{Cut-whole}
@@ -33,6 +34,7 @@ pub record EngineRan {R : Type 0} (state : R → RevState) (m0 m1 : Machine R) (
   pub told : IsTrue m0.store.tells → (tables : Tables) → Represents state m0.engine m0.store tables → m1.store.lie ≡ None
       → Told state stmt (length m0.store.asked) tables result m0.engine m1.engine m1.store
   pub sealed : KeepsSealed state m0.engine m0.store m1.engine m1.store
+  pub lawful : Lawful (public_of m0.engine) (length m0.store.asked) stmt (seen_of m1.engine)
 
 module _ {R : Type 0} (state : R → RevState) (w0 w1 : Option (List ℕ)) (m0 m1 : Machine R) (Same : Type 0) (text : List ℕ) (stmt : Stmt) where
   -- the engine answered, and the sink took these events
@@ -53,6 +55,7 @@ module _ {R : Type 0} (state : R → RevState) (w0 w1 : Option (List ℕ)) (m0 m
         emitted = emitted.2;
         meant = record { told = ran.told; emitted = emitted.3 };
         sealed = ran.sealed;
+        lawful = ran.lawful;
         printed = refl;
       });
     };
@@ -76,6 +79,7 @@ module _ {R : Type 0} (state : R → RevState) (w0 w1 : Option (List ℕ)) (m0 m
             printed = record { lost = []; whole = sym (append-nil _) };
             meant = record { told = ran.told; emitted = emitted.2 };
             sealed = ran.sealed;
+            lawful = ran.lawful;
           }));
           cut = Cut-whole _ _ _ _ whole.0;
         }
@@ -90,6 +94,7 @@ module _ {R : Type 0} (state : R → RevState) (w0 w1 : Option (List ℕ)) (m0 m
             printed = cut.0.prefix;
             meant = record { told = ran.told; emitted = emitted.2 };
             sealed = ran.sealed;
+            lawful = ran.lawful;
           }));
           cut = Cut-whole _ _ _ _ cut.0.appends;
         }

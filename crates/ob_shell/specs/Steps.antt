@@ -9,6 +9,7 @@ use Rattle.ob_exec.specs.Agreeing.{Agrees, has_ended, public_of, seen_of}
 use Rattle.ob_exec.specs.Running.{Ran, RefusedEarly, Emits, refusal_now}
 use Rattle.ob_exec.specs.Serving.{IsServed}
 use Rattle.ob_exec.specs.Telling.{KeepsSealed, Represents, Told, Emitted}
+use Rattle.ob_mean.specs.Lawful.{Lawful}
 use Rattle.ob_mean.specs.Verdict.{Tables}
 use Rattle.ob_parse.specs.Refusal.{RefusedAt}
 use Rattle.ob_parse.specs.Statements.{Statement}
@@ -74,6 +75,7 @@ pub record Served {R : Type 0} (state : R → RevState) (m0 m1 : Machine R) (tex
   pub emitted : Emits answer.outcome events
   pub meant : DidAsMeant state m0 m1 stmt (Ok answer.outcome) events
   pub sealed : KeepsSealed state m0.engine m0.store m1.engine m1.store
+  pub lawful : Lawful (public_of m0.engine) (length m0.store.asked) stmt (seen_of m1.engine)
   pub printed : answer.bytes ≡ events_text events ++ closing_line answer.outcome
 
 -- from the first machine to the second this text was answered
@@ -96,6 +98,7 @@ pub record CutStep {R : Type 0} (state : R → RevState) (m0 m1 : Machine R) (te
   pub printed : IsCutOf bytes (events_text events)
   pub meant : DidAsMeant state m0 m1 stmt (Err stop) events
   pub sealed : KeepsSealed state m0.engine m0.store m1.engine m1.store
+  pub lawful : Lawful (public_of m0.engine) (length m0.store.asked) stmt (seen_of m1.engine)
 
 -- these texts were answered, in order
 unfoldable pub Steps : {R : Type 0} → (R → RevState) → Machine R → Machine R → List (List ℕ) → List Answer → Type 0

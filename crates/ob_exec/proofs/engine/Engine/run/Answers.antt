@@ -1,17 +1,36 @@
-use Rattle.std.proofs.Common.{◌≡◌, ◌⊎◌, inl, List, [], length, Ok, sym, ◌∙◌, ap, subst, refl}
+use Rattle.std.proofs.Common.{◌≡◌, ◌⊎◌, inl, ℕ, Option, List, [], length, Ok, append-nil, sym, ◌∙◌, ap, subst, refl}
 use Rattle.std.specs.Prelude.{None, OnErr, IfOk, IsTrue}
 use Rattle.ob_base.specs.Events.{Event}
 use Rattle.ob_sql.specs.declared.stmt.Stmt.{Stmt}
 use Rattle.ob_sql.specs.declared.stmt.Stmt.TheVariants.{Select as SelectStmt}
 use Rattle.ob_mean.specs.Verdict.{Tables}
 use Rattle.ob_exec.specs.declared.outcome.Outcome.{Outcome}
-use Rattle.ob_exec.specs.Running.{Emits, refusal_now}
+use Rattle.ob_exec.specs.Running.{Emits, Ran, RefusedEarly, refusal_now}
 use Rattle.ob_exec.specs.Serving.{IsServed, count_of}
 use Rattle.ob_exec.specs.Telling.{Represents, Emitted}
 use Rattle.ob_exec.proofs.EmitLemmas.{create_emitted, insert_emitted}
-use Rattle.ob_exec.proofs.RunLemmas.{ran_refused}
+use Rattle.ob_exec.proofs.RunLemmas.{ran_refused, early_end}
 use Rattle.ob_exec.proofs.ToldLemmas.{early_is, refused_none, silent_ok, on_err_of, told_as, told_refused, emitted_refused}
+use Rattle.ob_base.specs.declared.refusal.Refusal.{Refusal}
+use Rattle.ob_base.specs.declared.seen.End.TheVariants.{Static}
+use Rattle.ob_base.specs.declared.seen.Seen.{Seen}
+use Rattle.ob_base.specs.declared.skeleton.NewColumn.{NewColumn}
+use Rattle.ob_base.specs.declared.skeleton.Skeleton.{Skeleton}
+use Rattle.ob_base.specs.declared.skeleton.Skeleton.TheVariants.{Create as CreateSkeleton}
+use Rattle.ob_base.specs.declared.skeleton.Source.TheVariants.{Table as OneTable}
+use Rattle.ob_mean.specs.Lawful.{Lawful}
+use Rattle.ob_mean.specs.Verdict.{ended}
+use Rattle.ob_sql.specs.declared.stmt.Select.{Select}
+use Rattle.ob_sql.specs.Skeleton.{skeleton}
+use Rattle.ob_exec.specs.declared.outcome.Outcome.TheVariants.{Refused}
+use Rattle.ob_exec.specs.declared.engine.Engine.{Engine}
+use Rattle.ob_exec.proofs.LawfulLemmas.{lawful_now}
 use Rattle.ob_exec.proofs.engine.Engine.run.Goals as goal
+
+-- a SELECT that is served is a count
+count_stmt : (stmt : Stmt) (q : Select) (table : List ℕ) → stmt ≡ SelectStmt q → q.source ≡ OneTable table → IsServed stmt → stmt ≡ count_of table
+count_stmt stmt q table is source served =
+    let count = subst (λ (x : Stmt). IsServed x) is served in is ∙ (λ i. SelectStmt (record { list = count.list i; source = source i; cond = count.everything i; group = count.ungrouped i }))
 
 pub returns-in-Some-clause-ran : goal.returns-in-Some-clause-ran
 returns-in-Some-clause-ran g c =
@@ -110,8 +129,7 @@ returns-in-Table-clause-emits g c =
     let state = g.R.Revisions.state in
     let old = c.args.self.now in
     let s = g.S.BlockStore.state c.args.store.now in
-    let served = subst (λ (stmt : Stmt). IsServed stmt) c.in-Select.is c.requires.served in
-    let is : c.args.stmt.now ≡ count_of c.in-Table.table = c.in-Select.is ∙ (λ i. SelectStmt (record { list = served.list i; source = c.in-Table.is i; cond = served.everything i; group = served.ungrouped i })) in
+    let is = count_stmt c.args.stmt.now c.in-Select.select c.in-Table.table c.in-Select.is c.in-Table.is c.requires.served in
     subst (λ (stmt : Stmt). IfOk c.count_all.result (λ outcome. (events : List Event) × g.E.Emit.grew c.args.out.now c.count_all.new.out events × Emits outcome events
     × (IsTrue s.tells → (tables : Tables) → Represents state old s tables → (g.S.BlockStore.state c.count_all.new.store).lie ≡ None → Emitted stmt old.public (length s.asked) tables c.count_all.result events)))
     (sym is) c.count_all.ensures.emits
@@ -121,8 +139,43 @@ returns-in-Table-clause-stopped g c =
     let state = g.R.Revisions.state in
     let old = c.args.self.now in
     let s = g.S.BlockStore.state c.args.store.now in
-    let served = subst (λ (stmt : Stmt). IsServed stmt) c.in-Select.is c.requires.served in
-    let is : c.args.stmt.now ≡ count_of c.in-Table.table = c.in-Select.is ∙ (λ i. SelectStmt (record { list = served.list i; source = c.in-Table.is i; cond = served.everything i; group = served.ungrouped i })) in
+    let is = count_stmt c.args.stmt.now c.in-Select.select c.in-Table.table c.in-Select.is c.in-Table.is c.requires.served in
     subst (λ (stmt : Stmt). OnErr c.count_all.result ((events : List Event) × (g.E.Emit.grew c.args.out.now c.count_all.new.out events ⊎ g.E.Emit.cut c.args.out.now c.count_all.new.out events)
     × (IsTrue s.tells → (tables : Tables) → Represents state old s tables → (g.S.BlockStore.state c.count_all.new.store).lie ≡ None → Emitted stmt old.public (length s.asked) tables c.count_all.result events)))
     (sym is) c.count_all.ensures.stopped
+
+pub returns-in-Create-clause-lawful : goal.returns-in-Create-clause-lawful
+returns-in-Create-clause-lawful g c =
+    let p = c.args.self.now.public in
+    let stmt = c.args.stmt.now in
+    let ran = subst (λ (x : Skeleton). Ran g.R.Revisions.state x c.create.result c.args.self.now (g.S.BlockStore.state c.args.store.now) c.create.new.self (g.S.BlockStore.state c.create.new.store)) (ap (λ (cs : List NewColumn). CreateSkeleton c.in-Create.table cs c.in-Create.capacity) c.as_slice.ensures ∙ sym (ap skeleton c.in-Create.is)) c.create.ensures.ran in
+    lawful_now p (length (g.S.BlockStore.state c.args.store.now).asked) stmt c.create.result _ _ _ c.requires.served c.create.ensures.plain
+    (refused_none _ _ _ ((λ i. refusal_now p (sym c.count.ensures i) stmt) ∙ sym c.early_refusal.ensures ∙ c.in_default.is) c.create.ensures.started) ran.asked ran.ends
+
+pub returns-in-Insert-clause-lawful : goal.returns-in-Insert-clause-lawful
+returns-in-Insert-clause-lawful g c =
+    let p = c.args.self.now.public in
+    let stmt = c.args.stmt.now in
+    let ran = subst (λ (x : Skeleton). Ran g.R.Revisions.state x c.insert.result c.args.self.now (g.S.BlockStore.state c.args.store.now) c.insert.new.self (g.S.BlockStore.state c.insert.new.store)) (sym (ap skeleton c.in-Insert.is)) c.insert.ensures.ran in
+    lawful_now p (length (g.S.BlockStore.state c.args.store.now).asked) stmt c.insert.result _ _ _ c.requires.served c.insert.ensures.plain
+    (refused_none _ _ _ ((λ i. refusal_now p (sym c.count.ensures i) stmt) ∙ sym c.early_refusal.ensures ∙ c.in_default.is) c.insert.ensures.started) ran.asked ran.ends
+
+pub returns-in-Table-clause-lawful : goal.returns-in-Table-clause-lawful
+returns-in-Table-clause-lawful g c =
+    let p = c.args.self.now.public in
+    let stmt = c.args.stmt.now in
+    let ran = subst (λ (x : Skeleton). Ran g.R.Revisions.state x c.count_all.result c.args.self.now (g.S.BlockStore.state c.args.store.now) c.count_all.new.self (g.S.BlockStore.state c.count_all.new.store)) (sym (ap skeleton (count_stmt c.args.stmt.now c.in-Select.select c.in-Table.table c.in-Select.is c.in-Table.is c.requires.served))) c.count_all.ensures.ran in
+    lawful_now p (length (g.S.BlockStore.state c.args.store.now).asked) stmt c.count_all.result _ _ _ c.requires.served c.count_all.ensures.plain
+    (refused_none _ _ _ ((λ i. refusal_now p (sym c.count.ensures i) stmt) ∙ sym c.early_refusal.ensures ∙ c.in_default.is) c.count_all.ensures.started) ran.asked ran.ends
+
+pub returns-in-Some-clause-lawful : goal.returns-in-Some-clause-lawful
+returns-in-Some-clause-lawful g c =
+    let p = c.args.self.now.public in
+    let stmt = c.args.stmt.now in
+    let s = g.S.BlockStore.state c.args.store.now in
+    let now = (λ i. refusal_now p (sym c.count.ensures i) stmt) ∙ sym c.early_refusal.ensures ∙ c.in-Some.is in
+    let seen_is : c.refuse.new.self.seen ≡ ended Static = ap (λ (e : Engine g.row.R.Denot). e.seen) c.refuse.ensures.seen in
+    subst (λ (x : Seen). Lawful p (length s.asked) stmt x) (sym seen_is)
+    (lawful_now p (length s.asked) stmt (Ok (Refused c.in-Some.refusal)) (ended Static) s.asked s.asked c.requires.served refl
+    (subst (λ (o : Option Refusal). RefusedEarly o (Ok (Refused c.in-Some.refusal)) (ended Static)) (sym now) (refl, refl)) (sym (append-nil s.asked))
+    (early_end c.in-Some.refusal Static _ (early_is p _ stmt c.in-Some.refusal now) (inl refl)))
