@@ -10,3 +10,4 @@ pub mod TraceLemmas
 pub mod ReplayLemmas
 pub mod LastingLemmas
 pub mod CalmLemmas
+pub mod AskLemmas

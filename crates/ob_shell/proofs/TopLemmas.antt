@@ -28,6 +28,7 @@ use Rattle.ob_shell.specs.declared.key.FirstLine.TheVariants.{Secret, Last, Bad}
 use Rattle.ob_shell.specs.declared.top.Ending.{Ending}
 use Rattle.ob_shell.specs.declared.top.Ending.TheVariants.{Usage, BadKey, Ran as RanEnding}
 use Rattle.ob_shell.proofs.TextLemmas.{rest_of-nil, texts_of-nil}
+use Rattle.ob_shell.proofs.AskLemmas.{asks}
 use Rattle.ob_shell.proofs.CalmLemmas.{steps_calm, last_met, first_calm}
 use Rattle.ob_shell.proofs.LastingLemmas.{HasSizes, steps_sizes, last_rows, steps_sealed, last_sealed, steps_tell, none_sealed, first_sizes}
 use Rattle.ob_shell.proofs.ReplayLemmas.{no_lie, step_goes, replayed}
@@ -239,6 +240,7 @@ ran_after {state = state} {s0 = s0} {s1 = s1} key first last high result fresh r
     middle = ran.middle;
     last = last;
     steps = ran.steps;
+    asks = asks state ran.served (machine_of first s0) ran.middle ran.answers ran.steps;
     rest = ran.last;
     meant = λ tells honest. meant_from state first s0 ran.middle ran.served ran.answers fresh ran.steps tells (last_honest state ran.middle (machine_of last s1) ran.more ran.part result ran.last honest);
     sealed = λ tells good accepts. last_sealed state good accepts ran.middle (machine_of last s1) ran.more ran.part result ran.last (middle_sizes state first s0 ran.middle ran.served ran.answers fresh rows ran.steps)

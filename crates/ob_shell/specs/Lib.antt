@@ -11,3 +11,4 @@ pub mod Tracing
 pub mod Usage
 pub mod IsPending
 pub mod Replayed
+pub mod Asking

@@ -13,6 +13,7 @@ use Rattle.ob_print.specs.Cuts.{Cut}
 use Rattle.ob_store.specs.State.{StoreState}
 use Rattle.ob_vault.specs.State.{RevState, World}
 use Rattle.ob_vault.specs.Tied.{AllSealed, Calm, EndsAt}
+use Rattle.ob_shell.specs.Asking.{Asks}
 use Rattle.ob_shell.specs.Tracing.{Traced}
 use Rattle.ob_shell.specs.Usage.{Parses, is_traced}
 use Rattle.ob_shell.specs.Texts.{is_over, rest_of, texts_in}
@@ -58,7 +59,8 @@ EndsUntampered BadKey = Unit {0}
 EndsUntampered (Ran (Ok refused)) = Unit {0}
 EndsUntampered (Ran (Err stop)) = IsUntampered stop
 
--- an engine was started with this secret, without tables, and served these texts. Where the store tells what it holds,
+-- an engine was started with this secret, without tables, and served these texts. Whatever the store answers, their accesses
+-- are the trace of the statements that they spell and of what is seen of each, which is lawful. Where the store tells what it holds,
 -- and gave what was written, their answers and accesses are those of the meaning, from no tables. Where it tells, each
 -- block of a live region is sealed, of one row or dummy, under the position of a write to its place, after a stop too.
 pub record Started {R : Type 0} (state : R → RevState) (secret : Option (List ℕ)) (store0 store1 : StoreState) (high : ℕ) (served more : List (List ℕ)) (answers : List Answer)
@@ -70,6 +72,7 @@ pub record Started {R : Type 0} (state : R → RevState) (secret : Option (List 
   pub middle : Machine R
   pub last : Engine R
   pub steps : Steps state (machine_of first store0) middle served answers
+  pub asks : Asks (machine_of first store0) middle served
   pub rest : EndingPart state middle (machine_of last store1) more part ending
   pub meant : IsTrue store0.tells → store1.lie ≡ None → Replayed state (machine_of first store0) middle [] served answers
   pub sealed : IsTrue store0.tells → (good : ℕ → List ℕ → Bool) → AcceptsRows good 1 → AllSealed good (world_of state last store1)
