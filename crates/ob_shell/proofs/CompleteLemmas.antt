@@ -12,7 +12,7 @@ use Rattle.ob_shell.specs.Texts.{is_over, rest_of}
 use Rattle.ob_shell.specs.KeyLine.{line_max, has_lf, first_line, after_line, secret_of, LineTaken}
 use Rattle.ob_shell.specs.Running.{Faults, SinksRose}
 use Rattle.ob_shell.specs.Endings.{status_of, last_line, SinkStopped}
-use Rattle.ob_shell.specs.Top.{HasSecret, EndingSays, EndingWords, EndingCause, Shown, StatusCause, KeepsLimits, IsCompleted, Reported}
+use Rattle.ob_shell.specs.Top.{HasSecret, EndsUntampered, IsHonest, EndingSays, EndingWords, EndingCause, Shown, StatusCause, KeepsLimits, IsCompleted, Reported}
 use Rattle.ob_shell.specs.declared.top.Report.{Report}
 use Rattle.ob_shell.specs.declared.top.Ending.{Ending}
 use Rattle.ob_shell.specs.declared.top.Ending.TheVariants.{Usage, BadKey, Ran}
@@ -55,15 +55,15 @@ module _ (taken rest : List ℕ) (secret : HasSecret (taken ++ rest)) where
 limits_kept : (ending : Ending) (max : ℕ) (taken rest : List ℕ) (ended : Bool) (more : List (List ℕ)) (part : List ℕ) {Takes : Type 0}
     → Takes → EndingWords ending Takes
     → KeepsLimits max (taken ++ rest) → EndingSays ending max taken (Some rest) ended more part → (old new : Faults) → StatusCause ending old new
-    → ¬ Rises old.source new.source → ¬ SinksRose old new → IsCompleted ending
-limits_kept Usage max taken rest ended more part t words k says old new cause a c = words t
-limits_kept BadKey max taken rest ended more part t words k says old new cause a c = good_key taken rest k.secret says.1 says.0
-limits_kept (Ran (Ok refused)) max taken rest ended more part t words k says old new cause a c = tt
-limits_kept (Ran (Err (Tampered region place))) max taken rest ended more part t words k says old new cause a c = tt
-limits_kept (Ran (Err SourceFault)) max taken rest ended more part t words k says old new cause a c = a cause
-limits_kept (Ran (Err SinkFault)) max taken rest ended more part t words k says old new cause a c = c cause.1
-limits_kept (Ran (Err NoMemory)) max taken rest ended more part t words k says old new cause a c = tt
-limits_kept (Ran (Err InputLimit)) max taken rest ended more part t words k says old new cause a c =
+    → ¬ Rises old.source new.source → ¬ SinksRose old new → {Honest : Type 0} → (Honest → EndsUntampered ending) → IsCompleted Honest ending
+limits_kept Usage max taken rest ended more part t words k says old new cause a c calm = words t
+limits_kept BadKey max taken rest ended more part t words k says old new cause a c calm = good_key taken rest k.secret says.1 says.0
+limits_kept (Ran (Ok refused)) max taken rest ended more part t words k says old new cause a c calm = tt
+limits_kept (Ran (Err (Tampered region place))) max taken rest ended more part t words k says old new cause a c calm = calm
+limits_kept (Ran (Err SourceFault)) max taken rest ended more part t words k says old new cause a c calm = a cause
+limits_kept (Ran (Err SinkFault)) max taken rest ended more part t words k says old new cause a c calm = c cause.1
+limits_kept (Ran (Err NoMemory)) max taken rest ended more part t words k says old new cause a c calm = tt
+limits_kept (Ran (Err InputLimit)) max taken rest ended more part t words k says old new cause a c calm =
     elim says.limit [
       | inl over ↦ not_over taken rest k.secret (has_lf taken) refl k.texts over
       | inr full ↦ let few = k.short in absurd (omega (arith, few, full, length-append taken rest))
@@ -71,14 +71,15 @@ limits_kept (Ran (Err InputLimit)) max taken rest ended more part t words k says
 
 pub completes : {R : Type 0} {state : R → RevState} {max : ℕ} {l0 l1 w0 w1 : Option (List ℕ)} {s0 s1 : StoreState} {high : ℕ} {ending : Ending} {line : List ℕ} {F Takes : Type 0} (old new : Faults) (input : List ℕ)
     → Shown state max l0 l1 w0 w1 s0 s1 high ending line F → EndingWords ending Takes → StatusCause ending old new
-    → Takes → l0 ≡ Some input → KeepsLimits max input → ¬ Rises old.source new.source → ¬ SinksRose old new → IsCompleted ending
-completes {max = max} {l1 = l1} {ending = ending} old new input shown words cause t e k a c =
+    → Takes → l0 ≡ Some input → KeepsLimits max input → ¬ Rises old.source new.source → ¬ SinksRose old new → IsCompleted (IsHonest s0 s1) ending
+completes {max = max} {l1 = l1} {s0 = s0} {s1 = s1} {ending = ending} old new input shown words cause t e k a c =
     go l1 shown.says (subst (λ (l : Option (List ℕ)). Consumes l l1 shown.taken) e shown.given)
   where
-    go : (l : Option (List ℕ)) → EndingSays ending max shown.taken l shown.ended shown.more shown.part → Consumes (Some input) l shown.taken → IsCompleted ending
+    go : (l : Option (List ℕ)) → EndingSays ending max shown.taken l shown.ended shown.more shown.part → Consumes (Some input) l shown.taken → IsCompleted (IsHonest s0 s1) ending
     go None says given = absurd given
     go (Some rest) says given =
         limits_kept ending max shown.taken rest shown.ended shown.more shown.part t words (subst (KeepsLimits max) given k) says old new cause a c
+        (λ honest. elim shown.carried [ inl none ↦ none.untampered | inr some ↦ some.untampered honest ])
 
 -- the last line was written, or cut by a sink's fault
 pub reported_line : {R : Type 0} {state : R → RevState} {words : List Text} {max : ℕ} {report : Report} (ending : Ending) (old mid new : Faults)

@@ -11,3 +11,5 @@ pub mod ReplayLemmas
 pub mod LastingLemmas
 pub mod CalmLemmas
 pub mod AskLemmas
+pub mod FailureLemmas
+pub mod PieceLemmas

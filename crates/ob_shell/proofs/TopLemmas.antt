@@ -29,6 +29,7 @@ use Rattle.ob_shell.specs.declared.top.Ending.{Ending}
 use Rattle.ob_shell.specs.declared.top.Ending.TheVariants.{Usage, BadKey, Ran as RanEnding}
 use Rattle.ob_shell.proofs.TextLemmas.{rest_of-nil, texts_of-nil}
 use Rattle.ob_shell.proofs.AskLemmas.{asks}
+use Rattle.ob_shell.proofs.FailureLemmas.{session_fails}
 use Rattle.ob_shell.proofs.CalmLemmas.{steps_calm, last_met, first_calm}
 use Rattle.ob_shell.proofs.LastingLemmas.{HasSizes, steps_sizes, last_rows, steps_sealed, last_sealed, steps_tell, none_sealed, first_sizes}
 use Rattle.ob_shell.proofs.ReplayLemmas.{no_lie, step_goes, replayed}
@@ -64,8 +65,9 @@ after_line-more (x ∷ xs) ys h = after_line-step x xs ys (x == 10) refl h (afte
 nothing_over : is_over (rest_of [] []) ≡ false
 nothing_over = rw rest_of-nil
 
-unstarted : {R : Type 0} {state : R → RevState} (secret : Option (List ℕ)) (s : StoreState) (more : List (List ℕ)) (ending : Ending) → Carried state secret s s 0 [] more [] [] ending
-unstarted secret s more ending = inl (record { store = refl; closed = refl; unserved = refl; unanswered = refl; none = refl })
+unstarted : {R : Type 0} {state : R → RevState} (secret : Option (List ℕ)) (s : StoreState) (more : List (List ℕ)) (ending : Ending) → EndsUntampered ending
+    → Carried state secret s s 0 [] more [] [] ending
+unstarted secret s more ending untampered = inl (record { store = refl; closed = refl; unserved = refl; unanswered = refl; none = refl; untampered = untampered })
 
 no_bytes : (w : Option (List ℕ)) → Cut w w ⊥ ((printed [] ++ []) ++ [])
 no_bytes w = rw printed-nil (Cut-whole w w ⊥ [] (Appends-nil w))
@@ -95,7 +97,7 @@ module _ {R : Type 0} (state : R → RevState) (max : ℕ) (f0 f1 : Fetch) (none
         texts = rw after (texts_of-nil []);
         answers = [];
         part = [];
-        carried = unstarted _ s [] _;
+        carried = unstarted _ s [] _ tt;
         grew = no_bytes w;
         flag = tt;
         says = record { line = inr (ends.0, ends.1); cut = refl; all = record { no_more = refl; no_part = refl }; short = rw after nothing_over };
@@ -117,7 +119,7 @@ module _ {R : Type 0} (state : R → RevState) (max : ℕ) (f0 f1 : Fetch) (none
         texts = refl;
         answers = [];
         part = [];
-        carried = unstarted _ s _ _;
+        carried = unstarted _ s _ _ tt;
         grew = no_bytes w;
         flag = tt;
         says = ends;
@@ -139,7 +141,7 @@ module _ {R : Type 0} (state : R → RevState) (max : ℕ) (f0 f1 : Fetch) (none
         texts = rw (ends.1, texts_of-nil, rest_of-nil);
         answers = [];
         part = [];
-        carried = unstarted _ s [] _;
+        carried = unstarted _ s [] _ tt;
         grew = no_bytes w;
         flag = sym any_refused-nil;
         says = record {
@@ -167,7 +169,7 @@ ran_nothing secret f l w s = record {
   texts = refl;
   answers = [];
   part = [];
-  carried = unstarted secret s _ _;
+  carried = unstarted secret s _ _ tt;
   cut = rw printed-nil (Cut-whole w w ⊥ [] (Appends-nil w));
   flag = tt;
   ends = tt;
@@ -246,11 +248,12 @@ ran_after {state = state} {s0 = s0} {s1 = s1} key first last high result fresh r
     sealed = λ tells good accepts. last_sealed state good accepts ran.middle (machine_of last s1) ran.more ran.part result ran.last (middle_sizes state first s0 ran.middle ran.served ran.answers fresh rows ran.steps)
         (steps_tell state (machine_of first s0) ran.middle ran.served ran.answers ran.steps tells)
         (steps_sealed state good accepts (machine_of first s0) ran.middle ran.served ran.answers ran.steps (first_sizes (machine_of first s0) fresh rows) tells (none_sealed state good first s0 empty));
-    untampered = λ tells honest. last_untampered state ran.middle (machine_of last s1) ran.more ran.part result ran.last
-        (steps_tell state (machine_of first s0) ran.middle ran.served ran.answers ran.steps tells) honest (machine_of first s0) ran.served ran.answers
-        (meant_from state first s0 ran.middle ran.served ran.answers fresh ran.steps tells (last_honest state ran.middle (machine_of last s1) ran.more ran.part result ran.last honest));
+    untampered = λ honest. last_untampered state ran.middle (machine_of last s1) ran.more ran.part result ran.last
+        (steps_tell state (machine_of first s0) ran.middle ran.served ran.answers ran.steps honest.tells) honest.no_lie (machine_of first s0) ran.served ran.answers
+        (meant_from state first s0 ran.middle ran.served ran.answers fresh ran.steps honest.tells (last_honest state ran.middle (machine_of last s1) ran.more ran.part result ran.last honest.no_lie));
     changed = last_met state ran.middle (machine_of last s1) ran.more ran.part result ran.last
         (steps_calm state (machine_of first s0) ran.middle ran.served ran.answers ran.steps (first_calm state first s0 sound));
+    failed = session_fails state (machine_of first s0) ran.middle (machine_of last s1) ran.served ran.more ran.answers ran.part result ran.steps ran.last;
     rows_open = e;
     rows_few = subst (λ (n : ℕ). high ≤ n) (last_rows state ran.middle (machine_of last s1) ran.more ran.part result ran.last (middle_sizes state first s0 ran.middle ran.served ran.answers fresh rows ran.steps)) most;
   });
@@ -322,9 +325,9 @@ shown_ran max {f1 = f1} {f2 = f2} {l2 = l2} {w0 = w0} {w2 = w2} {s0 = s0} {s2 = 
 -- ---- before the input is read
 
 -- nothing was read
-pub shown_unread : {R : Type 0} {state : R → RevState} (max : ℕ) (l w : Option (List ℕ)) (s : StoreState) (ending : Ending) → EndingFlag ending [] → EndingSays ending max [] l false (texts_of [] (after_line [])) []
-    → Shown state max l l w w s s 0 ending [] ⊥
-shown_unread max l w s ending flag says = record {
+pub shown_unread : {R : Type 0} {state : R → RevState} (max : ℕ) (l w : Option (List ℕ)) (s : StoreState) (ending : Ending) → EndsUntampered ending → EndingFlag ending []
+    → EndingSays ending max [] l false (texts_of [] (after_line [])) [] → Shown state max l l w w s s 0 ending [] ⊥
+shown_unread max l w s ending untampered flag says = record {
   taken = [];
   given = Consumes-nil l;
   within = omega arith;
@@ -335,7 +338,7 @@ shown_unread max l w s ending flag says = record {
   texts = refl;
   answers = [];
   part = [];
-  carried = unstarted _ s _ _;
+  carried = unstarted _ s _ _ untampered;
   grew = no_bytes w;
   flag = flag;
   says = says;

@@ -12,3 +12,5 @@ pub mod Usage
 pub mod IsPending
 pub mod Replayed
 pub mod Asking
+pub mod Failures
+pub mod Pieces

@@ -16,6 +16,7 @@ use Rattle.ob_vault.specs.Tied.{AllSealed, Calm, EndsAt}
 use Rattle.ob_shell.specs.Asking.{Asks}
 use Rattle.ob_shell.specs.Tracing.{Traced}
 use Rattle.ob_shell.specs.Usage.{Parses, is_traced}
+use Rattle.ob_shell.specs.Failures.{failures, RisesBy}
 use Rattle.ob_shell.specs.Texts.{is_over, rest_of, texts_in}
 use Rattle.ob_shell.specs.Feeding.{Fetch}
 use Rattle.ob_shell.specs.Replayed.{Replayed}
@@ -33,13 +34,26 @@ EndingPart state m1 m2 more part Usage = Rests m1 m2 part
 EndingPart state m1 m2 more part BadKey = Rests m1 m2 part
 EndingPart state m1 m2 more part (Ran ran) = LastPart state m1 m2 more part ran
 
+-- it is no end by a block
+abbrev pub EndsUntampered : Ending → Type 0
+EndsUntampered Usage = Unit {0}
+EndsUntampered BadKey = Unit {0}
+EndsUntampered (Ran (Ok refused)) = Unit {0}
+EndsUntampered (Ran (Err stop)) = IsUntampered stop
+
+-- the store tells what it holds, and gave what was written
+pub record IsHonest (store0 store1 : StoreState) : Type 0 where
+  pub tells : IsTrue store0.tells
+  pub no_lie : store1.lie ≡ None
+
 -- no engine was started
-pub record Unstarted (store0 store1 : StoreState) (high : ℕ) (served : List (List ℕ)) (answers : List Answer) (part : List ℕ) : Type 0 where
+pub record Unstarted (store0 store1 : StoreState) (high : ℕ) (served : List (List ℕ)) (answers : List Answer) (part : List ℕ) (ending : Ending) : Type 0 where
   pub store : store1 ≡ store0
   pub closed : high ≡ 0
   pub unserved : served ≡ []
   pub unanswered : answers ≡ []
   pub none : part ≡ []
+  pub untampered : EndsUntampered ending
 
 -- no changed block was read, or the first that was fits; or the run ended as tampered where it was read
 abbrev pub MeetsChange : Ending → World → Type 0
@@ -51,13 +65,6 @@ MeetsChange (Ran (Err SourceFault)) w = Calm w
 MeetsChange (Ran (Err SinkFault)) w = Calm w
 MeetsChange (Ran (Err NoMemory)) w = Calm w
 MeetsChange (Ran (Err InputLimit)) w = Calm w
-
--- it is no end by a block
-abbrev pub EndsUntampered : Ending → Type 0
-EndsUntampered Usage = Unit {0}
-EndsUntampered BadKey = Unit {0}
-EndsUntampered (Ran (Ok refused)) = Unit {0}
-EndsUntampered (Ran (Err stop)) = IsUntampered stop
 
 -- an engine was started with this secret, without tables, and served these texts. Whatever the store answers, their accesses
 -- are the trace of the statements that they spell and of what is seen of each, which is lawful. Where the store tells what it holds,
@@ -76,8 +83,9 @@ pub record Started {R : Type 0} (state : R → RevState) (secret : Option (List 
   pub rest : EndingPart state middle (machine_of last store1) more part ending
   pub meant : IsTrue store0.tells → store1.lie ≡ None → Replayed state (machine_of first store0) middle [] served answers
   pub sealed : IsTrue store0.tells → (good : ℕ → List ℕ → Bool) → AcceptsRows good 1 → AllSealed good (world_of state last store1)
-  pub untampered : IsTrue store0.tells → store1.lie ≡ None → EndsUntampered ending
+  pub untampered : IsHonest store0 store1 → EndsUntampered ending
   pub changed : MeetsChange ending (world_of state last store1)
+  pub failed : RisesBy (failures answers) store0.faults store1.faults
   pub rows_open : high ≡ high_of last
   pub rows_few : high ≤ 64
 
@@ -85,7 +93,7 @@ pub record Started {R : Type 0} (state : R → RevState) (secret : Option (List 
 abbrev pub Carried : {R : Type 0} (state : R → RevState) (secret : Option (List ℕ)) (store0 store1 : StoreState) (high : ℕ) (served more : List (List ℕ)) (answers : List Answer)
     (part : List ℕ) → Ending → Type 0
 Carried state secret store0 store1 high served more answers part ending =
-    Unstarted store0 store1 high served answers part ⊎ Started state secret store0 store1 high served more answers part ending
+    Unstarted store0 store1 high served answers part ending ⊎ Started state secret store0 store1 high served more answers part ending
 
 -- what was done after the first line, which was this secret
 pub record RanAfter {R : Type 0} (state : R → RevState) (secret : Option (List ℕ)) (feed0 feed1 : Fetch) (left0 left1 written0 written1 : Option (List ℕ))
@@ -214,15 +222,15 @@ pub record KeepsLimits (max : ℕ) (input : List ℕ) : Type 0 where
   pub texts : is_over (rest_of [] (after_line input)) ≡ false
 
 -- the input was read to its end, or memory was wanting, or a block was not what was written there
-abbrev pub IsCompleted : Ending → Type 0
-IsCompleted Usage = ⊥
-IsCompleted BadKey = ⊥
-IsCompleted (Ran (Ok refused)) = Unit {0}
-IsCompleted (Ran (Err (Tampered region place))) = Unit {0}
-IsCompleted (Ran (Err SourceFault)) = ⊥
-IsCompleted (Ran (Err SinkFault)) = ⊥
-IsCompleted (Ran (Err NoMemory)) = Unit {0}
-IsCompleted (Ran (Err InputLimit)) = ⊥
+abbrev pub IsCompleted : (honest : Type 0) → Ending → Type 0
+IsCompleted honest Usage = ⊥
+IsCompleted honest BadKey = ⊥
+IsCompleted honest (Ran (Ok refused)) = Unit {0}
+IsCompleted honest (Ran (Err (Tampered region place))) = ¬ honest
+IsCompleted honest (Ran (Err SourceFault)) = ⊥
+IsCompleted honest (Ran (Err SinkFault)) = ⊥
+IsCompleted honest (Ran (Err NoMemory)) = Unit {0}
+IsCompleted honest (Ran (Err InputLimit)) = ⊥
 
 -- the whole run
 pub record Reported {R : Type 0} (state : R → RevState) (words : List Text) (max : ℕ) (left0 left1 written0 written1 : Option (List ℕ)) (store0 store1 : StoreState)
@@ -233,7 +241,7 @@ pub record Reported {R : Type 0} (state : R → RevState) (words : List Text) (m
   pub shown : Shown state max left0 left1 written0 written1 store0 store1 report.high ending (last_line ending) (SinksRose old new)
   pub cause : StatusCause ending old new
   pub completes : Parses words → (input : List ℕ) → left0 ≡ Some input → KeepsLimits max input
-      → ¬ Rises old.source new.source → ¬ SinksRose old new → IsCompleted ending
+      → ¬ Rises old.source new.source → ¬ SinksRose old new → IsCompleted (IsHonest store0 store1) ending
 
 -- the whole run over a store that never fails, tells what it holds and gives what was written
 pub record InMemory {R : Type 0} (state : R → RevState) (words : List Text) (max : ℕ)

@@ -12,7 +12,7 @@ mod words;
 
 pub use feed::{Feed, Halt};
 pub use key::{FirstLine, read_key};
-pub use laws::answers_are_meant;
+pub use laws::{answers_are_meant, texts_are_pieces};
 pub use pending::{Grown, Pending, PushStop};
 pub use session::{Halted, serve};
 pub use top::{Ended, Ending, Report, meddle_top, shell_top};

@@ -4,10 +4,10 @@ use Rattle.ob_shell.proofs.TraceLemmas.{traced_none, traced_whole}
 use Rattle.ob_shell.proofs.top.run_words.Goals as goal
 
 pub returns-in-Err-Usage-clause-shown : goal.returns-in-Err-Usage-clause-shown
-returns-in-Err-Usage-clause-shown g c = rw c.ended_at.ensures (shown_unread _ _ _ _ _ tt refl)
+returns-in-Err-Usage-clause-shown g c = rw c.ended_at.ensures (shown_unread _ _ _ _ _ tt tt refl)
 
 pub returns-in-Err-NoMemory-clause-shown : goal.returns-in-Err-NoMemory-clause-shown
-returns-in-Err-NoMemory-clause-shown g c = rw c.ended_at-in-Err-NoMemory.ensures (shown_unread _ _ _ _ _ tt tt)
+returns-in-Err-NoMemory-clause-shown g c = rw c.ended_at-in-Err-NoMemory.ensures (shown_unread _ _ _ _ _ tt tt tt)
 
 pub returns-in-Err-Usage-clause-traced : goal.returns-in-Err-Usage-clause-traced
 returns-in-Err-Usage-clause-traced g c = traced_whole _ (traced_none _ _ _)

@@ -1,0 +1,81 @@
+-- At least as many calls of the store failed as texts were answered so.
+use Rattle.std.proofs.Common.{◌≡◌, ◌≤◌, ◌+◌, ℕ, Bool, List, [], ◌∷◌, Ok, Err, Result, inl, inr, sym, ap, subst, arith}
+use Rattle.ob_base.specs.declared.refusal.Refusal.{Refusal}
+use Rattle.ob_base.specs.declared.refusal.Stop.{Stop}
+use Rattle.ob_base.specs.declared.refusal.Refusal.TheVariants.{Syntax, NoTable, NameTaken, NoColumn, WrongType, ValueRange, Limit, KeyRule, JoinKey, Duplicate, Full, TooManyGroups, NotConsecutive, Overflow, StoreFault}
+use Rattle.ob_exec.specs.Running.{RunCause, refused_cause}
+use Rattle.ob_exec.specs.declared.outcome.Outcome.{Outcome}
+use Rattle.ob_exec.specs.declared.outcome.Outcome.TheVariants.{Created, Inserted, Changed, Deleted, Dropped, Rows, Refused}
+use Rattle.ob_shell.specs.Failures.{refusal_failures, outcome_failures, failures, RisesBy}
+use Rattle.ob_shell.specs.Running.{LastPart}
+use Rattle.ob_shell.specs.Steps.{Machine, Answer, Step, Steps}
+use Rattle.ob_vault.specs.State.{RevState, World}
+
+stays : (a b : ℕ) → b ≡ a → RisesBy 0 a b
+stays a b same = omega (arith, same)
+
+grows : (a b c n m : ℕ) → RisesBy n a b → RisesBy m b c → RisesBy (n + m) a c
+grows a b c n m first second = omega (arith, first, second)
+
+later : (a b c n : ℕ) → RisesBy n a b → b ≤ c → RisesBy n a c
+later a b c n by le = omega (arith, by, le)
+
+refused : (r : Refusal) (a b : World) → refused_cause r a b → RisesBy (refusal_failures r) a.store.faults b.store.faults
+refused (Syntax at) a b cause = stays _ _ cause.0
+refused NoTable a b cause = stays _ _ cause.0
+refused NameTaken a b cause = stays _ _ cause.0
+refused NoColumn a b cause = stays _ _ cause.0
+refused WrongType a b cause = stays _ _ cause.0
+refused ValueRange a b cause = stays _ _ cause.0
+refused Limit a b cause = stays _ _ cause.0
+refused KeyRule a b cause = stays _ _ cause.0
+refused JoinKey a b cause = stays _ _ cause.0
+refused Duplicate a b cause = stays _ _ cause.0
+refused Full a b cause = stays _ _ cause.0
+refused TooManyGroups a b cause = stays _ _ cause.0
+refused NotConsecutive a b cause = stays _ _ cause.0
+refused (Overflow i) a b cause = stays _ _ cause.0
+refused StoreFault a b cause = cause.0
+
+answered : (o : Outcome) (a b : World) → RunCause (Ok o) a b → RisesBy (outcome_failures o) a.store.faults b.store.faults
+answered (Refused r) a b cause = refused r a b cause
+answered Created a b cause = stays _ _ cause.0
+answered Inserted a b cause = stays _ _ cause.0
+answered (Changed n) a b cause = stays _ _ cause.0
+answered (Deleted n) a b cause = stays _ _ cause.0
+answered Dropped a b cause = stays _ _ cause.0
+answered (Rows k) a b cause = stays _ _ cause.0
+
+module _ {R : Type 0} (state : R → RevState) where
+  step_fails : (m0 m1 : Machine R) (text : List ℕ) (answer : Answer) → Step state m0 m1 text answer → RisesBy (outcome_failures answer.outcome) m0.store.faults m1.store.faults
+  step_fails m0 m1 text answer step = elim step.done [
+    | inl bad ↦ subst (λ (o : Outcome). RisesBy (outcome_failures o) m0.store.faults m1.store.faults) (sym bad.refused) (stays _ _ (ap (λ (m : Machine R). m.store.faults) bad.same))
+    | inr did ↦ answered answer.outcome _ _ did.ran.cause
+  ]
+
+  steps_fail : (m0 m2 : Machine R) (texts : List (List ℕ)) (answers : List Answer) → Steps state m0 m2 texts answers → RisesBy (failures answers) m0.store.faults m2.store.faults
+  unfolding Steps failures
+  steps_fail m0 m2 [] answers steps =
+      subst (λ (xs : List Answer). RisesBy (failures xs) m0.store.faults m2.store.faults) (sym steps.1) (stays _ _ (ap (λ (m : Machine R). m.store.faults) steps.0))
+  steps_fail m0 m2 (text ∷ texts) answers steps =
+      subst (λ (xs : List Answer). RisesBy (failures xs) m0.store.faults m2.store.faults) (sym steps.3)
+      (grows _ _ _ _ _ (step_fails m0 steps.0 text steps.1 steps.4) (steps_fail steps.0 m2 texts steps.2 steps.5))
+
+  step_later : (m0 m1 : Machine R) (text : List ℕ) (answer : Answer) → Step state m0 m1 text answer → m0.store.faults ≤ m1.store.faults
+  step_later m0 m1 text answer step = elim step.done [
+    | inl bad ↦ omega (arith, ap (λ (m : Machine R). m.store.faults) bad.same)
+    | inr did ↦ did.ran.later.faults
+  ]
+
+  last_later : (m1 m2 : Machine R) (more : List (List ℕ)) (part : List ℕ) (result : Result Bool Stop) → LastPart state m1 m2 more part result → m1.store.faults ≤ m2.store.faults
+  last_later m1 m2 more part (Ok flag) rests = omega (arith, ap (λ (m : Machine R). m.store.faults) rests.machine)
+  last_later m1 m2 [] part (Err stop) rests = omega (arith, ap (λ (m : Machine R). m.store.faults) rests.rests.machine)
+  last_later m1 m2 (text ∷ more) part (Err stop) (inl rests) = omega (arith, ap (λ (m : Machine R). m.store.faults) rests.rests.machine)
+  last_later m1 m2 (text ∷ more) part (Err stop) (inr (inl cut)) = cut.ran.later.faults
+  last_later m1 m2 (text ∷ more) part (Err stop) (inr (inr done)) = step_later m1 m2 text done.answer done.step
+
+  -- of the texts that were served, and what was done after them
+  pub session_fails : (m0 m1 m2 : Machine R) (texts more : List (List ℕ)) (answers : List Answer) (part : List ℕ) (result : Result Bool Stop)
+      → Steps state m0 m1 texts answers → LastPart state m1 m2 more part result → RisesBy (failures answers) m0.store.faults m2.store.faults
+  session_fails m0 m1 m2 texts more answers part result steps last =
+      later _ _ _ _ (steps_fail m0 m1 texts answers steps) (last_later m1 m2 more part result last)
