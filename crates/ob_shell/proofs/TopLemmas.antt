@@ -8,8 +8,9 @@ use Rattle.ob_base.specs.declared.refusal.Stop.{Stop}
 use Rattle.ob_base.specs.declared.refusal.Stop.TheVariants.{Tampered, SourceFault, SinkFault, NoMemory, InputLimit}
 use Rattle.ob_base.specs.declared.config.Public.{Public}
 use Rattle.ob_exec.specs.Agreeing.{public_of, high_of, rows_of, world_of}
-use Rattle.ob_exec.specs.Telling.{AreHeld, told_stop}
+use Rattle.ob_exec.specs.Telling.{AreHeld, Represents, told_stop}
 use Rattle.ob_mean.specs.Replay.{first_public}
+use Rattle.ob_mean.specs.Verdict.{Tables}
 use Rattle.ob_exec.specs.declared.engine.Engine.{Engine}
 use Rattle.ob_vault.specs.State.{RevState}
 use Rattle.ob_print.specs.Cuts.{Cut}
@@ -18,8 +19,8 @@ use Rattle.ob_store.specs.State.{StoreState}
 use Rattle.ob_shell.specs.Texts.{is_over, rest_of, texts_of, texts_in}
 use Rattle.ob_shell.specs.Feeding.{Fetch, Fed}
 use Rattle.ob_shell.specs.KeyLine.{has_lf, first_line, after_line, secret_of, KeyRead}
-use Rattle.ob_shell.specs.Replayed.{Replayed}
-use Rattle.ob_shell.specs.Steps.{Machine, Answer, Steps, IsUntampered, IsSinkFault, machine_of, printed}
+use Rattle.ob_shell.specs.Replayed.{PartMeant, Replayed}
+use Rattle.ob_shell.specs.Steps.{Machine, Answer, Step, Steps, IsUntampered, IsSinkFault, machine_of, printed}
 use Rattle.ob_shell.specs.Running.{Faults, SessionRan, LastPart, EndsBy, SinkFailed, SinksRose}
 use Rattle.ob_shell.specs.Endings.{last_line, SinkStopped}
 use Rattle.ob_shell.specs.Top.{HasSecret, EndsUntampered, RanSays, EndingSays, EndingWords, Carried, Shown, RanAfter, EndingCause, EndingFlag, StatusCause}
@@ -215,6 +216,22 @@ last_untampered state m1 m2 (text ∷ more) part (Err stop) (inl idle) tells hon
 last_untampered state m1 m2 (text ∷ more) part (Err stop) (inr (inl cut)) tells honest m0 served answers meant = stop_told _ stop (cut.meant.told tells meant.left meant.held honest)
 last_untampered state m1 m2 (text ∷ more) part (Err stop) (inr (inr done)) tells honest m0 served answers meant = sink_untampered stop done.fault
 
+one_step : {R : Type 0} (state : R → RevState) (m0 m1 : Machine R) (text : List ℕ) (answer : Answer) → Step state m0 m1 text answer → Steps state m0 m1 (text ∷ []) (answer ∷ [])
+unfolding Steps
+one_step state m0 m1 text answer step = (m1, answer, [], refl, step, (refl, refl))
+
+-- where no changed block was read, what was printed last belongs to an answer that is meant
+last_meant : {R : Type 0} (state : R → RevState) (m1 m2 : Machine R) (more : List (List ℕ)) (part : List ℕ) (result : Result Bool Stop) → LastPart state m1 m2 more part result
+    → IsTrue m1.store.tells → m2.store.lie ≡ None → (tables : Tables) → Represents state m1.engine m1.store tables → PartMeant state m1 m2 tables more part
+last_meant state m1 m2 [] part (Ok flag) rests tells honest tables held = rests.none
+last_meant state m1 m2 (text ∷ more) part (Ok flag) rests tells honest tables held = inl rests.none
+last_meant state m1 m2 [] part (Err stop) idle tells honest tables held = idle.rests.none
+last_meant state m1 m2 (text ∷ more) part (Err stop) (inl idle) tells honest tables held = inl idle.rests.none
+last_meant state m1 m2 (text ∷ more) part (Err stop) (inr (inl cut)) tells honest tables held =
+    inr (inl (record { stmt = cut.stmt; spells = cut.spells; events = cut.events; begun = cut.meant.emitted tells tables held honest; printed = cut.printed }))
+last_meant state m1 m2 (text ∷ more) part (Err stop) (inr (inr done)) tells honest tables held =
+    inr (inr (record { answer = done.answer; replayed = replayed state (text ∷ []) m1 m2 tables (done.answer ∷ []) (one_step state m1 m2 text done.answer done.step) tells honest held; whole = done.whole }))
+
 middle_sizes : {R : Type 0} (state : R → RevState) (first : Engine R) (s0 : StoreState) (middle : Machine R) (served : List (List ℕ)) (answers : List Answer)
     → public_of first ≡ first_public 64 5 1 None → rows_of first ≡ 64 → Steps state (machine_of first s0) middle served answers → HasSizes middle
 middle_sizes state first s0 middle served answers fresh rows steps = steps_sizes state (machine_of first s0) middle served answers steps (first_sizes (machine_of first s0) fresh rows)
@@ -244,7 +261,11 @@ ran_after {state = state} {s0 = s0} {s1 = s1} key first last high result fresh r
     steps = ran.steps;
     asks = asks state ran.served (machine_of first s0) ran.middle ran.answers ran.steps;
     rest = ran.last;
-    meant = λ tells honest. meant_from state first s0 ran.middle ran.served ran.answers fresh ran.steps tells (last_honest state ran.middle (machine_of last s1) ran.more ran.part result ran.last honest);
+    meant = λ honest. meant_from state first s0 ran.middle ran.served ran.answers fresh ran.steps honest.tells (last_honest state ran.middle (machine_of last s1) ran.more ran.part result ran.last honest.no_lie);
+    part_meant = λ honest.
+        let before = meant_from state first s0 ran.middle ran.served ran.answers fresh ran.steps honest.tells (last_honest state ran.middle (machine_of last s1) ran.more ran.part result ran.last honest.no_lie) in
+        last_meant state ran.middle (machine_of last s1) ran.more ran.part result ran.last
+        (steps_tell state (machine_of first s0) ran.middle ran.served ran.answers ran.steps honest.tells) honest.no_lie before.left before.held;
     sealed = λ tells good accepts. last_sealed state good accepts ran.middle (machine_of last s1) ran.more ran.part result ran.last (middle_sizes state first s0 ran.middle ran.served ran.answers fresh rows ran.steps)
         (steps_tell state (machine_of first s0) ran.middle ran.served ran.answers ran.steps tells)
         (steps_sealed state good accepts (machine_of first s0) ran.middle ran.served ran.answers ran.steps (first_sizes (machine_of first s0) fresh rows) tells (none_sealed state good first s0 empty));

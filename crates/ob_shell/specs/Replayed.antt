@@ -1,15 +1,16 @@
 -- What the texts of a session answer and ask, where the store told what it holds and gave what was written.
-use Rattle.std.specs.Prelude.{ℕ, ◌≡◌, List, [], ◌∷◌, ◌++◌, length, Option, Some, None, Ok, Err}
+use Rattle.std.specs.Prelude.{ℕ, ◌≡◌, ◌⊎◌, List, [], ◌∷◌, ◌++◌, length, Option, Some, None, Ok, Err}
 use Rattle.ob_base.specs.Events.{Event}
 use Rattle.ob_base.specs.declared.refusal.Refusal.TheVariants.{Syntax, StoreFault}
 use Rattle.ob_exec.specs.Agreeing.{public_of}
-use Rattle.ob_exec.specs.Telling.{Represents, outcome_of}
+use Rattle.ob_exec.specs.Telling.{Partly, Represents, outcome_of}
 use Rattle.ob_exec.specs.declared.outcome.Outcome.TheVariants.{Refused}
 use Rattle.ob_mean.specs.Headings.{headings_of}
 use Rattle.ob_mean.specs.Prints.{Prints, Unfinished, labels_of}
 use Rattle.ob_mean.specs.Replay.{Session, Spelt, Broken, head_of, rest_of, after, after_all, all_served}
 use Rattle.ob_mean.specs.Verdict.{Tables, verdict}
 use Rattle.ob_mean.specs.declared.answer.Answer.{Answer as Meaning}
+use Rattle.ob_print.specs.Cuts.{IsCutOf}
 use Rattle.ob_print.specs.Rows.{events_text}
 use Rattle.ob_script.specs.Trace.{trace}
 use Rattle.ob_shell.specs.Closing.{closing_line}
@@ -62,3 +63,22 @@ pub record Replayed {R : Type 0} (state : R → RevState) (m0 m1 : Machine R) (t
   pub stands : after_all (session_of m0 tables) spelt broken ≡ session_of m1 left
   pub held : Represents state m1.engine m1.store left
   pub asked : m1.store.asked ≡ m0.store.asked ++ trace (public_of m0.engine) (all_served (session_of m0 tables) spelt broken)
+
+-- the statement of a text was stopped: what was printed is cut from a first part of its header and rows
+pub record StoppedIn (s : Session) (text : List ℕ) (part : List ℕ) : Type 0 where
+  pub stmt : Stmt
+  pub spells : Spells text (Ok stmt)
+  pub events : List Event
+  pub begun : Partly (labels_of stmt (headings_of s.public.tables)) (verdict s.public s.asked s.tables stmt) events
+  pub printed : IsCutOf part (events_text events)
+
+-- a text was answered as it is meant, and a sink failed within its last line or after it
+pub record AnsweredIn {R : Type 0} (state : R → RevState) (m0 m1 : Machine R) (tables : Tables) (text : List ℕ) (part : List ℕ) : Type 0 where
+  pub answer : Answer
+  pub replayed : Replayed state m0 m1 tables (text ∷ []) (answer ∷ [])
+  pub whole : part ≡ answer.bytes
+
+-- what was printed after the last answer is nothing, or belongs to the answer that the next text is to have
+abbrev pub PartMeant : {R : Type 0} → (R → RevState) → Machine R → Machine R → Tables → (more : List (List ℕ)) → (part : List ℕ) → Type 0
+PartMeant state m0 m1 tables [] part = part ≡ []
+PartMeant state m0 m1 tables (text ∷ texts) part = (part ≡ []) ⊎ (StoppedIn (session_of m0 tables) text part ⊎ AnsweredIn state m0 m1 tables text part)

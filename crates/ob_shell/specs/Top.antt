@@ -19,7 +19,7 @@ use Rattle.ob_shell.specs.Usage.{Parses, is_traced}
 use Rattle.ob_shell.specs.Failures.{failures, RisesBy}
 use Rattle.ob_shell.specs.Texts.{is_over, rest_of, texts_in}
 use Rattle.ob_shell.specs.Feeding.{Fetch}
-use Rattle.ob_shell.specs.Replayed.{Replayed}
+use Rattle.ob_shell.specs.Replayed.{PartMeant, Replayed}
 use Rattle.ob_shell.specs.KeyLine.{line_max, has_lf, first_line, after_line, secret_of, LineTaken}
 use Rattle.ob_shell.specs.Steps.{Machine, machine_of, Answer, Steps, Rests, IsUntampered, printed}
 use Rattle.ob_shell.specs.Running.{Faults, SinksRose, NoneRose, LastPart, FlagIs, EndsBy, SinkFailed, StopCause}
@@ -81,7 +81,8 @@ pub record Started {R : Type 0} (state : R → RevState) (secret : Option (List 
   pub steps : Steps state (machine_of first store0) middle served answers
   pub asks : Asks (machine_of first store0) middle served
   pub rest : EndingPart state middle (machine_of last store1) more part ending
-  pub meant : IsTrue store0.tells → store1.lie ≡ None → Replayed state (machine_of first store0) middle [] served answers
+  pub meant : IsHonest store0 store1 → Replayed state (machine_of first store0) middle [] served answers
+  pub part_meant : (honest : IsHonest store0 store1) → PartMeant state middle (machine_of last store1) (meant honest).left more part
   pub sealed : IsTrue store0.tells → (good : ℕ → List ℕ → Bool) → AcceptsRows good 1 → AllSealed good (world_of state last store1)
   pub untampered : IsHonest store0 store1 → EndsUntampered ending
   pub changed : MeetsChange ending (world_of state last store1)
