@@ -113,6 +113,7 @@ module _ {R : Type 0} (state : R → RevState) (skeleton : Skeleton) (old : Engi
   refused_now r early = record {
     asked = sym (append-nil s.asked);
     later = later_refl s;
+    keys = refl;
     ends = early_end r _ _ early (inl refl);
     cause = early_cause r _ _ early refl (λ calm. calm);
     room = agrees.room;
@@ -192,6 +193,7 @@ module _ {R : Type 0} (state : R → RevState) (skeleton : Skeleton) (old : Engi
   ran_done some tables x outcome lives answered went is same are = record {
     asked = went.did.asked ∙ ap (λ (y : List Access). s.asked ++ y) (sym is);
     later = went.lasts.later;
+    keys = went.lasts.keys;
     ends = answered_end outcome _ answered;
     cause = answered_cause outcome _ _ answered went.did.faults went.calm;
     room = free;
@@ -226,6 +228,7 @@ module _ {R : Type 0} (state : R → RevState) (skeleton : Skeleton) (old : Engi
       record {
         asked = first ∙ ap (λ (y : List Access). s.asked ++ take n y) (sym is);
         later = cut.lasts.later;
+        keys = cut.lasts.keys;
         ends = subst (λ (k : ℕ). EndsBy (answer_of e) (Cut n) k) count (cut_ends e n);
         cause = cut_cause e _ _ cut.cause;
         room = free;

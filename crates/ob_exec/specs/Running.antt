@@ -112,6 +112,7 @@ pub record Ran {R : Type 0} (state : R → RevState) (skeleton : Skeleton) (resu
     (old : Engine R) (s : StoreState) (new : Engine R) (t : StoreState) : Type 0 where
   pub asked : t.asked ≡ s.asked ++ script old.public skeleton new.seen
   pub later : Later s t
+  pub keys : new.vault.keys ≡ old.vault.keys
   pub ends : EndsBy result new.seen.end (length t.asked - length s.asked)
   pub cause : RunCause result (world_of state old s) (world_of state new t)
   pub room : IsFree old.public new.room

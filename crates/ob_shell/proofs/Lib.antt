@@ -13,3 +13,4 @@ pub mod CalmLemmas
 pub mod AskLemmas
 pub mod FailureLemmas
 pub mod PieceLemmas
+pub mod LieLemmas

@@ -33,6 +33,7 @@ use Rattle.ob_shell.proofs.AskLemmas.{asks}
 use Rattle.ob_shell.proofs.FailureLemmas.{session_fails}
 use Rattle.ob_shell.proofs.CalmLemmas.{steps_calm, last_met, first_calm}
 use Rattle.ob_shell.proofs.LastingLemmas.{HasSizes, steps_sizes, last_rows, steps_sealed, last_sealed, steps_tell, none_sealed, first_sizes}
+use Rattle.ob_shell.proofs.LieLemmas.{last_deceived, last_keys, steps_keep}
 use Rattle.ob_shell.proofs.ReplayLemmas.{no_lie, step_goes, replayed}
 use Rattle.ob_shell.proofs.StepLemmas.{printed-nil, any_refused-nil}
 use Rattle.ob_shell.proofs.KeyLemmas.{after_line-none}
@@ -261,11 +262,16 @@ ran_after {state = state} {s0 = s0} {s1 = s1} key first last high result fresh r
     steps = ran.steps;
     asks = asks state ran.served (machine_of first s0) ran.middle ran.answers ran.steps;
     rest = ran.last;
-    meant = λ honest. meant_from state first s0 ran.middle ran.served ran.answers fresh ran.steps honest.tells (last_honest state ran.middle (machine_of last s1) ran.more ran.part result ran.last honest.no_lie);
-    part_meant = λ honest.
-        let before = meant_from state first s0 ran.middle ran.served ran.answers fresh ran.steps honest.tells (last_honest state ran.middle (machine_of last s1) ran.more ran.part result ran.last honest.no_lie) in
+    same_keys = last_keys state ran.middle (machine_of last s1) ran.more ran.part result ran.last ∙ steps_keep state (machine_of first s0) ran.middle ran.served ran.answers ran.steps;
+    meant = λ undeceived. meant_from state first s0 ran.middle ran.served ran.answers fresh ran.steps undeceived.tells
+        (last_deceived state ran.middle (machine_of last s1) ran.more ran.part result ran.last
+        (steps_calm state (machine_of first s0) ran.middle ran.served ran.answers ran.steps (first_calm state first s0 sound)) undeceived.unfit);
+    part_meant = λ undeceived honest.
+        let before = meant_from state first s0 ran.middle ran.served ran.answers fresh ran.steps undeceived.tells
+        (last_deceived state ran.middle (machine_of last s1) ran.more ran.part result ran.last
+        (steps_calm state (machine_of first s0) ran.middle ran.served ran.answers ran.steps (first_calm state first s0 sound)) undeceived.unfit) in
         last_meant state ran.middle (machine_of last s1) ran.more ran.part result ran.last
-        (steps_tell state (machine_of first s0) ran.middle ran.served ran.answers ran.steps honest.tells) honest.no_lie before.left before.held;
+        (steps_tell state (machine_of first s0) ran.middle ran.served ran.answers ran.steps undeceived.tells) honest before.left before.held;
     sealed = λ tells good accepts. last_sealed state good accepts ran.middle (machine_of last s1) ran.more ran.part result ran.last (middle_sizes state first s0 ran.middle ran.served ran.answers fresh rows ran.steps)
         (steps_tell state (machine_of first s0) ran.middle ran.served ran.answers ran.steps tells)
         (steps_sealed state good accepts (machine_of first s0) ran.middle ran.served ran.answers ran.steps (first_sizes (machine_of first s0) fresh rows) tells (none_sealed state good first s0 empty));

@@ -10,9 +10,10 @@ use Rattle.ob_exec.specs.declared.engine.Engine.{Engine}
 use Rattle.ob_exec.specs.Telling.{AcceptsRows}
 use Rattle.ob_mean.specs.Replay.{first_public}
 use Rattle.ob_print.specs.Cuts.{Cut}
-use Rattle.ob_store.specs.State.{StoreState}
+use Rattle.ob_seal.specs.KeyPair.{KeyPair}
+use Rattle.ob_store.specs.State.{Lie, StoreState}
 use Rattle.ob_vault.specs.State.{RevState, World}
-use Rattle.ob_vault.specs.Tied.{AllSealed, Calm, EndsAt}
+use Rattle.ob_vault.specs.Tied.{AllSealed, Calm, EndsAt, Fits}
 use Rattle.ob_shell.specs.Asking.{Asks}
 use Rattle.ob_shell.specs.Tracing.{Traced}
 use Rattle.ob_shell.specs.Usage.{Parses, is_traced}
@@ -45,6 +46,11 @@ EndsUntampered (Ran (Err stop)) = IsUntampered stop
 pub record IsHonest (store0 store1 : StoreState) : Type 0 where
   pub tells : IsTrue store0.tells
   pub no_lie : store1.lie ≡ None
+
+-- the store tells what it holds, and of the first changed block that was read, if there is one, the tag doesn't fit
+pub record IsUndeceived (keys : KeyPair) (store0 store1 : StoreState) : Type 0 where
+  pub tells : IsTrue store0.tells
+  pub unfit : (lie : Lie) → store1.lie ≡ Some lie → ¬ Fits keys lie
 
 -- no engine was started
 pub record Unstarted (store0 store1 : StoreState) (high : ℕ) (served : List (List ℕ)) (answers : List Answer) (part : List ℕ) (ending : Ending) : Type 0 where
@@ -81,8 +87,9 @@ pub record Started {R : Type 0} (state : R → RevState) (secret : Option (List 
   pub steps : Steps state (machine_of first store0) middle served answers
   pub asks : Asks (machine_of first store0) middle served
   pub rest : EndingPart state middle (machine_of last store1) more part ending
-  pub meant : IsHonest store0 store1 → Replayed state (machine_of first store0) middle [] served answers
-  pub part_meant : (honest : IsHonest store0 store1) → PartMeant state middle (machine_of last store1) (meant honest).left more part
+  pub same_keys : last.vault.keys ≡ first.vault.keys
+  pub meant : IsUndeceived last.vault.keys store0 store1 → Replayed state (machine_of first store0) middle [] served answers
+  pub part_meant : (undeceived : IsUndeceived last.vault.keys store0 store1) → store1.lie ≡ None → PartMeant state middle (machine_of last store1) (meant undeceived).left more part
   pub sealed : IsTrue store0.tells → (good : ℕ → List ℕ → Bool) → AcceptsRows good 1 → AllSealed good (world_of state last store1)
   pub untampered : IsHonest store0 store1 → EndsUntampered ending
   pub changed : MeetsChange ending (world_of state last store1)
