@@ -15,6 +15,7 @@ use Rattle.ob_exec.specs.declared.engine.Engine.{Engine}
 use Rattle.ob_vault.specs.State.{RevState}
 use Rattle.ob_print.specs.Cuts.{Cut}
 use Rattle.ob_print.proofs.CutLemmas.{Cut-whole, Cut-after, Cut-fault, Cut-more}
+use Rattle.ob_seal.specs.Sealed.{keys_of}
 use Rattle.ob_store.specs.State.{StoreState}
 use Rattle.ob_shell.specs.Texts.{is_over, rest_of, texts_of, texts_in}
 use Rattle.ob_shell.specs.Feeding.{Fetch, Fed}
@@ -238,9 +239,9 @@ middle_sizes : {R : Type 0} (state : R → RevState) (first : Engine R) (s0 : St
 middle_sizes state first s0 middle served answers fresh rows steps = steps_sizes state (machine_of first s0) middle served answers steps (first_sizes (machine_of first s0) fresh rows)
 
 pub ran_after : {R : Type 0} {state : R → RevState} {f0 f1 : Fetch} {l0 l1 w0 w1 : Option (List ℕ)} {s0 s1 : StoreState} (key : List ℕ) (first last : Engine R) (high : ℕ) (result : Result Bool Stop)
-    → public_of first ≡ first_public 64 5 1 None → rows_of first ≡ 64 → ((q : ℕ) → s0.live q ≡ None) → s0.lie ≡ None → high ≤ rows_of last → SessionRan state f0 f1 l0 l1 w0 w1 (machine_of first s0) (machine_of last s1) result → high ≡ high_of last
+    → public_of first ≡ first_public 64 5 1 None → first.vault.keys ≡ keys_of key → rows_of first ≡ 64 → ((q : ℕ) → s0.live q ≡ None) → s0.lie ≡ None → high ≤ rows_of last → SessionRan state f0 f1 l0 l1 w0 w1 (machine_of first s0) (machine_of last s1) result → high ≡ high_of last
     → RanAfter state (Some key) f0 f1 l0 l1 w0 w1 s0 s1 high result
-ran_after {state = state} {s0 = s0} {s1 = s1} key first last high result fresh rows empty sound most ran e = record {
+ran_after {state = state} {s0 = s0} {s1 = s1} key first last high result fresh keyed rows empty sound most ran e = record {
   piece = ran.piece;
   consumed = ran.consumed;
   taken = ran.taken;
@@ -257,6 +258,7 @@ ran_after {state = state} {s0 = s0} {s1 = s1} key first last high result fresh r
     keyed = refl;
     first = first;
     fresh = fresh;
+    sealed_with = keyed;
     middle = ran.middle;
     last = last;
     steps = ran.steps;

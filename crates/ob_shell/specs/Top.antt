@@ -11,6 +11,7 @@ use Rattle.ob_exec.specs.Telling.{AcceptsRows}
 use Rattle.ob_mean.specs.Replay.{first_public}
 use Rattle.ob_print.specs.Cuts.{Cut}
 use Rattle.ob_seal.specs.KeyPair.{KeyPair}
+use Rattle.ob_seal.specs.Sealed.{keys_of}
 use Rattle.ob_store.specs.State.{Lie, StoreState}
 use Rattle.ob_vault.specs.State.{RevState, World}
 use Rattle.ob_vault.specs.Tied.{AllSealed, Calm, EndsAt, Fits}
@@ -82,6 +83,7 @@ pub record Started {R : Type 0} (state : R → RevState) (secret : Option (List 
   pub keyed : secret ≡ Some key
   pub first : Engine R
   pub fresh : public_of first ≡ first_public 64 5 1 None
+  pub sealed_with : first.vault.keys ≡ keys_of key
   pub middle : Machine R
   pub last : Engine R
   pub steps : Steps state (machine_of first store0) middle served answers

@@ -35,6 +35,7 @@ impl<R: Revisions> Vault<R> {
     /// A vault with no region.
     pub fn new(alloc: Global, keys: Keys) -> Vault<R>
         ensures ready { (s : StoreState) → s.asked ≡ [] → Ready (at R.state result s) }
+        ensures keyed { result.keys ≡ keys }
         ensures first { result.next ≡ 1 }
         ensures empty { (q : ℕ) → (R.state result.revs).live q ≡ None }
     {
