@@ -2,7 +2,7 @@
 use Rattle.std.proofs.lemmas.List.{length-map}
 use Rattle.std.proofs.Common.{◌≡◌, ◌-◌, ◌*◌, ℕ, zero, suc, false, List, [], ◌∷◌, ◌++◌, length, Some, Ok, Err, Result, OnOk, refl, sym, ◌∙◌, ap, subst, arith}
 use Rattle.std.specs.Result.{is_err}
-use Rattle.std.specs.Prelude.{Option, None, MatchOption, map, bytes_eq}
+use Rattle.std.specs.Prelude.{max, Option, None, MatchOption, map, bytes_eq}
 use Rattle.std.proofs.lemmas.Slice.Eq.{bytes_eq-Decides}
 use Rattle.std.proofs.lemmas.Bool.{cases_eq}
 use Rattle.ob_base.specs.declared.access.Access.{Access}
@@ -50,7 +50,7 @@ use Rattle.ob_exec.specs.Telling.{AreHeld, Represents, Told, outcome_of}
 use Rattle.ob_exec.proofs.TableLemmas.{tables_added, tables_kept, region_below}
 use Rattle.ob_exec.proofs.HeldLemmas.{held_kept, held_added}
 use Rattle.ob_exec.proofs.ToldLemmas.{early_held, told_cut, IsFault}
-use Rattle.ob_exec.proofs.RunLemmas.{went_room, engine_after, ran_done, ran_cut, free_after}
+use Rattle.ob_exec.proofs.RunLemmas.{went_room, engine_after, ran_done, ran_cut}
 
 -- what holds at an `Ok`, where there is no `Err`
 pub at_ok : {T E : Type 0} (r : Result T E) (P : Type 0) → is_err r ≡ false → OnOk r P → P
@@ -92,8 +92,8 @@ module _ (p : Public) (m : ℕ) (table : List ℕ) (columns : List NewColumn) (c
       no_table table p.tables i t (neither (has_table table (headings_of p.tables)) _ free.names).0 is
 
 module _ {R : Type 0} (state : R → RevState) (old : Engine R) (s s1 : StoreState) (v : Vault R) (room : RoomState) (t : StoreState)
-    (table : List ℕ) (columns : List NewColumn) (schema : Columns) (capacity high : ℕ)
-    (agrees : Agrees state old s) (rests : Rests s s1) (room_is : room ≡ record old.room { high = high }) (schema_is : schema ≡ columns_of table columns) where
+    (table : List ℕ) (columns : List NewColumn) (schema : Columns) (capacity : ℕ)
+    (agrees : Agrees state old s) (rests : Rests s s1) (room_is : room ≡ record old.room { high = max old.room.high old.room.pack }) (schema_is : schema ≡ columns_of table columns) where
   abbrev pub part : List Access
   part = create_part old.vault.next (blocks_for old.room.pack capacity) (old.room.pack * width schema)
 
@@ -114,7 +114,7 @@ module _ {R : Type 0} (state : R → RevState) (old : Engine R) (s s1 : StoreSta
         flat = subst (λ (g : ℕ). IsFlat old.public.pack (record { schema = schema; capacity = capacity; region = g }) (at state v t)) (sym agrees.next)
             (subst (λ (k : ℕ). IsFlat k (record { schema = schema; capacity = capacity; region = old.vault.next }) (at state v t)) agrees.room.pack flat);
       } in
-      ran_done state (Create table columns capacity) old s v room t agrees (free_after _ _ _ high agrees.room room_is) (one old.vault.next)
+      ran_done state (Create table columns capacity) old s v room t agrees room_is (one old.vault.next)
       (old.public.tables ++ new_table ∷ []) part Created lives tt all (script_is Whole)
       (ap (λ (c : Columns). old.public.tables ++ record { heading = record { name = table; schema = c; capacity = capacity }; region = old.public.next_region } ∷ []) schema_is)
       (tables_added old.public.pack old.vault.next old.public.tables new_table _ _ all.lasts agrees.ready refl agrees.tables agrees.next is_table
@@ -163,7 +163,7 @@ module _ {R : Type 0} (state : R → RevState) (old : Engine R) (s s1 : StoreSta
       → Ran state (Create table columns capacity) (answer_of e) old s (engine_after old v room old.public.tables (Cut n) (is_stop (answer_of e))) t
   not_created e n cut count gone =
       let all = pass_after (one old.vault.next) _ _ _ e [] part (went_room (one old.vault.next) _ s s1 agrees.ready rests) cut in
-      ran_cut state (Create table columns capacity) old s v room t agrees (free_after _ _ _ high agrees.room room_is) (one old.vault.next) n part e all (script_is (Cut n)) count
+      ran_cut state (Create table columns capacity) old s v room t agrees room_is (one old.vault.next) n part e all (script_is (Cut n)) count
       (tables_kept (one old.vault.next) old.public.pack old.public.tables _ _ all.lasts
       (λ i u is here. let less = region_below old.public.pack i old.public.tables u _ agrees.ready agrees.tables is in omega (arith, less, here))
       (λ q shape live here. absurd (cc (live, gone, here))) agrees.tables)

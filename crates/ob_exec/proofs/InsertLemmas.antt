@@ -1,5 +1,5 @@
 -- INSERT and COUNT, after their passes.
-use Rattle.std.proofs.Common.{◌≡◌, inl, inr, ◌-◌, ◌*◌, ◌==◌, ℕ, Bool, true, false, if◌then◌else◌, List, [], ◌∷◌, length, Some, None, Option, Ok, refl, sym, ◌∙◌, ap, subst, arith, slice_get, slice_set, append-nil, pos}
+use Rattle.std.proofs.Common.{◌≡◌, inl, inr, ◌-◌, ◌*◌, ◌==◌, max, ℕ, Bool, true, false, if◌then◌else◌, List, [], ◌∷◌, length, Some, None, Option, Ok, refl, sym, ◌∙◌, ap, subst, arith, slice_get, slice_set, append-nil, pos}
 use Rattle.std.specs.Option.{option_map, option_map_or}
 use Rattle.std.proofs.lemmas.Bool.{cases_eq}
 use Rattle.ob_base.specs.declared.access.Access.{Access}
@@ -62,7 +62,7 @@ use Rattle.ob_exec.proofs.TableLemmas.{tables_kept, tables_moved, region_below, 
 use Rattle.ob_exec.proofs.EmitLemmas.{selected_all}
 use Rattle.ob_exec.proofs.HeldLemmas.{held_kept, held_at, held_moved, changed_same}
 use Rattle.ob_exec.proofs.ToldLemmas.{early_held, told_cut, told_whole, IsFault}
-use Rattle.ob_exec.proofs.RunLemmas.{went_room, engine_after, ran_done, ran_cut, free_after, IsAnswered}
+use Rattle.ob_exec.proofs.RunLemmas.{went_room, engine_after, ran_done, ran_cut, IsAnswered}
 
 -- ---- what an INSERT means that is not refused early
 abbrev answered_as : (a b : Bool) → InsertedAs
@@ -112,8 +112,8 @@ is_answered Duplicate = tt
 is_answered Full = tt
 
 module _ {R : Type 0} (state : R → RevState) (old : Engine R) (s s1 : StoreState) (v : Vault R) (room : RoomState) (t : StoreState)
-    (name : List ℕ) (columns : Option (List (List ℕ))) (i : ℕ) (table : Table) (high : ℕ)
-    (agrees : Agrees state old s) (rests : Rests s s1) (room_is : room ≡ record old.room { high = high }) (here : IsAt name i table old.public.tables) where
+    (name : List ℕ) (columns : Option (List (List ℕ))) (i : ℕ) (table : Table)
+    (agrees : Agrees state old s) (rests : Rests s s1) (room_is : room ≡ record old.room { high = max old.room.high old.room.pack }) (here : IsAt name i table old.public.tables) where
   abbrev pub blocks : ℕ
   blocks = blocks_for old.room.pack table.heading.capacity
 
@@ -143,7 +143,7 @@ module _ {R : Type 0} (state : R → RevState) (old : Engine R) (s s1 : StoreSta
         flat = subst (λ (k : ℕ). IsFlat k (flat_of moved_table) (at state v t)) agrees.room.pack flat;
       } in
       let set = set_moved name g old.public.tables i table agrees.tables.names here.get here.named in
-      ran_done state (Insert name columns) old s v room t agrees (free_after _ _ _ high agrees.room room_is) (two r g)
+      ran_done state (Insert name columns) old s v room t agrees room_is (two r g)
       (slice_set old.public.tables i moved_table) part outcome lives answered all (script_is Whole)
       (set ∙ ap (λ (n : ℕ). moved name n old.public.tables) (sym agrees.next))
       (subst (λ (ts : List Table). AreTables ts old.public.pack (at state v t)) (sym set)
@@ -156,7 +156,7 @@ module _ {R : Type 0} (state : R → RevState) (old : Engine R) (s s1 : StoreSta
   not_inserted e n cut count gone =
       let g = old.vault.next in
       let all = pass_after (one g) _ _ _ e [] part (went_room (one g) _ s s1 agrees.ready rests) cut in
-      ran_cut state (Insert name columns) old s v room t agrees (free_after _ _ _ high agrees.room room_is) (one g) n part e all (script_is (Cut n)) count
+      ran_cut state (Insert name columns) old s v room t agrees room_is (one g) n part e all (script_is (Cut n)) count
       (tables_kept (one g) old.public.pack old.public.tables _ _ all.lasts
       (λ j u is at_next. let less = region_below old.public.pack j old.public.tables u _ agrees.ready agrees.tables is in omega (arith, less, at_next))
       (λ q shape live at_next. absurd (cc (live, gone, at_next))) agrees.tables)
@@ -247,8 +247,8 @@ count_some state old s name i table agrees here tables held now =
     )
 
 module _ {R : Type 0} (state : R → RevState) (old : Engine R) (s s1 : StoreState) (v : Vault R) (room : RoomState) (t : StoreState)
-    (name : List ℕ) (i : ℕ) (table : Table) (high : ℕ)
-    (agrees : Agrees state old s) (rests : Rests s s1) (room_is : room ≡ record old.room { high = high }) (here : IsAt name i table old.public.tables) where
+    (name : List ℕ) (i : ℕ) (table : Table)
+    (agrees : Agrees state old s) (rests : Rests s s1) (room_is : room ≡ record old.room { high = max old.room.high old.room.pack }) (here : IsAt name i table old.public.tables) where
   abbrev pub reads : List Access
   reads = count_part table.region (blocks_for old.room.pack table.heading.capacity)
 
@@ -265,14 +265,14 @@ module _ {R : Type 0} (state : R → RevState) (old : Engine R) (s s1 : StoreSta
       → Ran state (Groups name [] None) (Ok (Rows 1)) old s (engine_after old v room old.public.tables Whole old.ended) t
   counted went lives =
       let all = went_join none _ _ _ [] reads (went_room none _ s s1 agrees.ready rests) went in
-      ran_done state (Groups name [] None) old s v room t agrees (free_after _ _ _ high agrees.room room_is) none
+      ran_done state (Groups name [] None) old s v room t agrees room_is none
       old.public.tables reads (Rows 1) lives tt all (counts_is Whole) refl (tables_read all.lasts)
 
   pub not_counted : (e : OpErr) (n : ℕ) → PassCut e reads none (at state old.vault s1) (at state v t) → n ≡ length t.asked - length s.asked
       → Ran state (Groups name [] None) (answer_of e) old s (engine_after old v room old.public.tables (Cut n) (is_stop (answer_of e))) t
   not_counted e n cut count =
       let all = pass_after none _ _ _ e [] reads (went_room none _ s s1 agrees.ready rests) cut in
-      ran_cut state (Groups name [] None) old s v room t agrees (free_after _ _ _ high agrees.room room_is) none n reads e all (counts_is (Cut n)) count (tables_read all.lasts)
+      ran_cut state (Groups name [] None) old s v room t agrees room_is none n reads e all (counts_is (Cut n)) count (tables_read all.lasts)
 
   -- the number of rows is that of the table in place
   pub count_is : (tables : Tables) → Represents state old s tables → refusal_now old.public (length s.asked) (count_of name) ≡ None

@@ -1,5 +1,5 @@
 -- How a statement of an engine ends.
-use Rattle.std.proofs.Common.{◌≡◌, inl, inr, ◌+◌, ◌-◌, ℕ, Bool, false, List, [], ◌++◌, length, take, Some, None, Ok, Result, refl, sym, ◌∙◌, ap, subst, arith, append-nil}
+use Rattle.std.proofs.Common.{◌≡◌, inl, inr, ◌≤◌, ◌+◌, ◌-◌, max, ℕ, Bool, false, List, [], ◌++◌, length, take, Some, None, Ok, Result, refl, sym, ◌∙◌, ap, subst, arith, append-nil}
 use Rattle.ob_base.specs.declared.access.Access.{Access}
 use Rattle.ob_base.specs.declared.config.Public.{Public}
 use Rattle.ob_base.specs.declared.refusal.Refusal.{Refusal}
@@ -33,6 +33,7 @@ use Rattle.ob_exec.specs.declared.outcome.Outcome.TheVariants.{Created, Inserted
 use Rattle.ob_exec.specs.Engines.{IsFree, AreTables}
 use Rattle.ob_exec.specs.Refusals.{IsEarly}
 use Rattle.ob_exec.specs.Agreeing.{Agrees, world_of}
+use Rattle.ob_exec.specs.Opening.{Opens}
 use Rattle.ob_exec.specs.Running.{answer_of, is_stop, IsDone, refused_end, refused_cause, EndsBy, RunCause, GoesOn, Continues, Ran}
 
 abbrev pub world : VaultState → StoreState → World
@@ -108,6 +109,24 @@ early_cause NotConsecutive a b early faults calm = (faults, calm)
 early_cause (Overflow i) a b early faults calm = (faults, calm)
 early_cause StoreFault a b early faults calm = absurd early
 
+-- the room after a pass
+pub free_after : (public : Public) (old new : RoomState) (high : ℕ) → IsFree public old → new ≡ record old { high = high } → IsFree public new
+free_after public old new high free is = subst (λ (r : RoomState). IsFree public r) (sym is) (record {
+  idle = record { free = free.idle.free; shelf = free.idle.shelf; enough = free.idle.enough; wide = free.idle.wide };
+  rows = free.rows;
+  pack = free.pack;
+  some = free.some;
+  few = free.few;
+})
+
+-- nothing was asked
+pub opens_none : (high : ℕ) → Opens [] high high
+opens_none high = record { kept = omega (arith); some = λ none. absurd (cc none) }
+
+-- a row was open, whatever was asked
+pub opens_some : (part : List Access) (old pack : ℕ) → 1 ≤ pack → Opens part old (max old pack)
+opens_some part old pack some = record { kept = omega (arith); some = λ any. omega (arith, some) }
+
 module _ {R : Type 0} (state : R → RevState) (skeleton : Skeleton) (old : Engine R) (s : StoreState) (agrees : Agrees state old s) (lives : old.ended ≡ false) where
   refused_now : (r : Refusal) → IsEarly r → Ran state skeleton (Ok (Refused r)) old s (record old { seen = seen_to Static }) s
   refused_now r early = record {
@@ -117,6 +136,7 @@ module _ {R : Type 0} (state : R → RevState) (skeleton : Skeleton) (old : Engi
     ends = early_end r _ _ early (inl refl);
     cause = early_cause r _ _ early refl (λ calm. calm);
     room = agrees.room;
+    opened = opens_none old.room.high;
     goes_on = record {
       agrees = record { ready = agrees.ready; next = agrees.next; room = agrees.room; tables = agrees.tables };
       public = let same : old.public.next_region ≡ old.public.next_region + makes [] = omega (arith, makes_none) in λ i. record old.public { next_region = same i };
@@ -169,9 +189,16 @@ engine_after old v room tables end ended = record old {
 }
 
 module _ {R : Type 0} (state : R → RevState) (skeleton : Skeleton) (old : Engine R) (s : StoreState) (v : Vault R) (room : RoomState) (t : StoreState)
-    (agrees : Agrees state old s) (free : IsFree old.public room) where
+    (agrees : Agrees state old s) (room_is : room ≡ record old.room { high = max old.room.high old.room.pack }) where
   abbrev pub now : World
   now = at state v t
+
+  free : IsFree old.public room
+  free = free_after old.public old.room room _ agrees.room room_is
+
+  opened : (part : List Access) → Opens part old.room.high room.high
+  opened part = subst (λ (r : RoomState). Opens part old.room.high r.high) (sym room_is)
+      (opens_some part old.room.high old.room.pack (let some = agrees.room.some in let same = agrees.room.pack in omega (arith, some, same)))
 
   went_on : (tables : List Table) (end : End) (x : List Access) (ended : Bool) → ended ≡ false → Ready now → t.asked ≡ s.asked ++ x
       → script old.public skeleton (seen_to end) ≡ x → tables ≡ tables_then old.public skeleton end → AreTables tables old.public.pack now
@@ -197,6 +224,7 @@ module _ {R : Type 0} (state : R → RevState) (skeleton : Skeleton) (old : Engi
     ends = answered_end outcome _ answered;
     cause = answered_cause outcome _ _ answered went.did.faults went.calm;
     room = free;
+    opened = opened _;
     goes_on = went_on tables Whole x old.ended lives went.lasts.ready went.did.asked is same are;
   }
 
@@ -232,18 +260,9 @@ module _ {R : Type 0} (state : R → RevState) (skeleton : Skeleton) (old : Engi
         ends = subst (λ (k : ℕ). EndsBy (answer_of e) (Cut n) k) count (cut_ends e n);
         cause = cut_cause e _ _ cut.cause;
         room = free;
+        opened = opened _;
         goes_on = cut_on e n (went_on old.public.tables (Cut n) (take n x) false refl cut.lasts.ready first (ap (take n) is) refl are);
       }
-
--- the room after a pass
-pub free_after : (public : Public) (old new : RoomState) (high : ℕ) → IsFree public old → new ≡ record old { high = high } → IsFree public new
-free_after public old new high free is = subst (λ (r : RoomState). IsFree public r) (sym is) (record {
-  idle = record { free = free.idle.free; shelf = free.idle.shelf; enough = free.idle.enough; wide = free.idle.wide };
-  rows = free.rows;
-  pack = free.pack;
-  some = free.some;
-  few = free.few;
-})
 
 pub if_none : (o : Option ℕ) (P : Type 0) → is_some o ≡ false → IfNone o P → P
 if_none None P none h = h

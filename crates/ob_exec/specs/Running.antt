@@ -30,6 +30,7 @@ use Rattle.ob_exec.specs.declared.outcome.Outcome.{Outcome}
 use Rattle.ob_exec.specs.declared.outcome.Outcome.TheVariants.{Created, Inserted, Changed, Deleted, Dropped, Rows, Refused}
 use Rattle.ob_exec.specs.Agreeing.{Agrees, world_of}
 use Rattle.ob_exec.specs.Engines.{IsFree}
+use Rattle.ob_exec.specs.Opening.{Opens}
 
 -- the answer, or the stop, that an error of a pass makes
 abbrev pub answer_of : OpErr → Result Outcome Stop
@@ -107,7 +108,8 @@ abbrev pub Continues : {R : Type 0} → (R → RevState) → Skeleton → Result
 Continues state skeleton (Ok outcome) old new t = GoesOn state skeleton old new t
 Continues state skeleton (Err stop) old new t = new.ended ≡ true
 
--- what a statement did: exactly the accesses of what is seen of it; all rows of the room are free again
+-- what a statement did: exactly the accesses of what is seen of it; all rows of the room are free again, and one at least
+-- was open where a block was read or written
 pub record Ran {R : Type 0} (state : R → RevState) (skeleton : Skeleton) (result : Result Outcome Stop)
     (old : Engine R) (s : StoreState) (new : Engine R) (t : StoreState) : Type 0 where
   pub asked : t.asked ≡ s.asked ++ script old.public skeleton new.seen
@@ -116,6 +118,7 @@ pub record Ran {R : Type 0} (state : R → RevState) (skeleton : Skeleton) (resu
   pub ends : EndsBy result new.seen.end (length t.asked - length s.asked)
   pub cause : RunCause result (world_of state old s) (world_of state new t)
   pub room : IsFree old.public new.room
+  pub opened : Opens (script old.public skeleton new.seen) old.room.high new.room.high
   pub goes_on : Continues state skeleton result old new t
 
 -- an answer of rows is its header, its rows and their number; any other emits nothing

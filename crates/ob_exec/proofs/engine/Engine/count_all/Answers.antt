@@ -84,7 +84,7 @@ returns-in-Err-clause-ran g c =
     let n = c.count-in-Err.result - c.count-before.result in
     let count : n ≡ length t.asked - length s.asked = λ j. c.count-in-Err.ensures j - c.count-before.ensures j in
     let cut = subst (λ (f : Flat). PassCut c.in-Err.error (count_part f.region (blocks_for old.room.pack f.capacity)) none (at state old.vault s1) (at state v t)) flat_is c.in-Err.ensures.err in
-    let ran = not_counted state old s s1 v room t c.args.table.now i table _ c.requires.agrees c.room.ensures.rests c.count-2.ensures.room here c.in-Err.error n cut count in
+    let ran = not_counted state old s s1 v room t c.args.table.now i table c.requires.agrees c.room.ensures.rests c.count-2.ensures.room here c.in-Err.error n cut count in
     ran_as state (skeleton (count_of c.args.table.now)) old s t _ _ _ _ c.cut-in-Err.ensures.answer c.cut-in-Err.ensures.seen ran
 
 pub returns-in-Err-clause-told : goal.returns-in-Err-clause-told
@@ -106,7 +106,7 @@ returns-in-Err-clause-told g c tells tables held honest =
     let cut = subst (λ (f : Flat). PassCut c.in-Err.error (count_part f.region (blocks_for old.room.pack f.capacity)) none (at state old.vault s1) (at state v t)) flat_is c.in-Err.ensures.err in
     let before = held_before state old s s1 c.args.table.now i table c.requires.agrees c.room.ensures.rests here tables held in
     let fault = c.in-Err.ensures.told before.0 (subst (λ (f : Flat). Represents old.room.pack f before.0 (at state old.vault s1)) (sym flat_is) before.1) honest in
-    let told = told_not_counted state old s s1 v room t c.args.table.now i table _ c.requires.agrees c.room.ensures.rests c.count-2.ensures.room here tables held c.requires.allowed
+    let told = told_not_counted state old s s1 v room t c.args.table.now i table c.requires.agrees c.room.ensures.rests c.count-2.ensures.room here tables held c.requires.allowed
     c.in-Err.error n (fault_made c.in-Err.error (inl fault)) cut count in
     told_as state (count_of c.args.table.now) _ tables old t _ _ _ _ c.cut-in-Err.ensures.answer c.cut-in-Err.ensures.seen told
 
@@ -163,7 +163,7 @@ returns-in-Ok-emit_count-clause-ran g c =
     let here = subst (λ (ts : List Table). IsAt c.args.table.now i table ts) c.as_slice.ensures found.1 in
     let flat_is = c.flat_at-flat.ensures table (ap (λ (ts : List Table). slice_get ts i) c.as_slice-2.ensures ∙ here.get) in
     let went = subst (λ (f : Flat). Went (count_part f.region (blocks_for old.room.pack f.capacity)) none (at state old.vault s1) (at state v t)) flat_is c.in-Ok.ensures.ok in
-    let ran = counted state old s s1 v room t c.args.table.now i table _ c.requires.agrees c.room.ensures.rests c.count-2.ensures.room here went c.requires.lives in
+    let ran = counted state old s s1 v room t c.args.table.now i table c.requires.agrees c.room.ensures.rests c.count-2.ensures.room here went c.requires.lives in
     ran_as state (skeleton (count_of c.args.table.now)) old s t _ _ _ _ (ap (λ (o : Outcome). Ok o) c.finish.ensures.answer) c.finish.ensures.seen ran
 
 pub returns-in-Ok-emit_count-clause-told : goal.returns-in-Ok-emit_count-clause-told
@@ -181,10 +181,10 @@ returns-in-Ok-emit_count-clause-told g c tells tables held honest =
     let here = subst (λ (ts : List Table). IsAt c.args.table.now i table ts) c.as_slice.ensures found.1 in
     let flat_is = c.flat_at-flat.ensures table (ap (λ (ts : List Table). slice_get ts i) c.as_slice-2.ensures ∙ here.get) in
     let went = subst (λ (f : Flat). Went (count_part f.region (blocks_for old.room.pack f.capacity)) none (at state old.vault s1) (at state v t)) flat_is c.in-Ok.ensures.ok in
-    let is = count_is state old s s1 v room t c.args.table.now i table _ c.requires.agrees c.room.ensures.rests c.count-2.ensures.room here tables held c.requires.allowed c.in-Ok.counted.k
+    let is = count_is state old s s1 v room t c.args.table.now i table c.requires.agrees c.room.ensures.rests c.count-2.ensures.room here tables held c.requires.allowed c.in-Ok.counted.k
     (λ slots before. ap (λ r. r.k) (c.in-Ok.ensures.told slots (subst (λ (f : Flat). Represents old.room.pack f slots (at state old.vault s1)) (sym flat_is) before) honest)
     ∙ ap (λ (p : Condition). length (selected (is_true p) slots)) c.all.ensures) in
-    let told = told_counted state old s s1 v room t c.args.table.now i table _ c.requires.agrees c.room.ensures.rests c.count-2.ensures.room here tables held c.requires.allowed went c.in-Ok.counted.k is in
+    let told = told_counted state old s s1 v room t c.args.table.now i table c.requires.agrees c.room.ensures.rests c.count-2.ensures.room here tables held c.requires.allowed went c.in-Ok.counted.k is in
     told_as state (count_of c.args.table.now) _ tables old t _ _ _ _ (ap (λ (o : Outcome). Ok o) c.finish.ensures.answer) c.finish.ensures.seen told
 
 pub returns-in-Ok-emit_count-clause-emits : goal.returns-in-Ok-emit_count-clause-emits
@@ -205,7 +205,7 @@ returns-in-Ok-emit_count-clause-emits g c =
       c.in-Ok-emit_count.ensures.ok,
       subst (λ (o : Outcome). Emits o (count_events c.in-Ok.counted.k)) (sym c.finish.ensures.answer) (one_row count_labels (Int (pos c.in-Ok.counted.k) ∷ [])),
       λ tells tables held honest.
-          let is = count_is state old s s1 v room t c.args.table.now i table _ c.requires.agrees c.room.ensures.rests c.count-2.ensures.room here tables held c.requires.allowed c.in-Ok.counted.k
+          let is = count_is state old s s1 v room t c.args.table.now i table c.requires.agrees c.room.ensures.rests c.count-2.ensures.room here tables held c.requires.allowed c.in-Ok.counted.k
           (λ slots before. ap (λ r. r.k) (c.in-Ok.ensures.told slots (subst (λ (f : Flat). Represents old.room.pack f slots (at state old.vault s1)) (sym flat_is) before) honest)
           ∙ ap (λ (p : Condition). length (selected (is_true p) slots)) c.all.ensures) in
           subst (λ (o : Outcome). Emitted (count_of c.args.table.now) old.public (length s.asked) tables (Ok o) (count_events c.in-Ok.counted.k)) (sym c.finish.ensures.answer)
@@ -230,7 +230,7 @@ returns-in-Err-Failed-clause-ran g c =
     let n = c.count-in-Err-Failed.result - c.count-before.result in
     let count : n ≡ length t.asked - length s.asked = λ j. c.count-in-Err-Failed.ensures j - c.count-before.ensures j in
     let cut = cut_whole OpErrs.Sink none (count_part table.region (blocks_for old.room.pack table.heading.capacity)) (at state old.vault s1) (at state v t) (went.did.faults, went.calm) went in
-    let ran = not_counted state old s s1 v room t c.args.table.now i table _ c.requires.agrees c.room.ensures.rests c.count-2.ensures.room here OpErrs.Sink n cut count in
+    let ran = not_counted state old s s1 v room t c.args.table.now i table c.requires.agrees c.room.ensures.rests c.count-2.ensures.room here OpErrs.Sink n cut count in
     ran_as state (skeleton (count_of c.args.table.now)) old s t _ _ _ _ c.cut-in-Err-Failed.ensures.answer c.cut-in-Err-Failed.ensures.seen ran
 
 pub returns-in-Err-Failed-clause-told : goal.returns-in-Err-Failed-clause-told
@@ -251,7 +251,7 @@ returns-in-Err-Failed-clause-told g c tells tables held honest =
     let n = c.count-in-Err-Failed.result - c.count-before.result in
     let count : n ≡ length t.asked - length s.asked = λ j. c.count-in-Err-Failed.ensures j - c.count-before.ensures j in
     let cut = cut_whole OpErrs.Sink none (count_part table.region (blocks_for old.room.pack table.heading.capacity)) (at state old.vault s1) (at state v t) (went.did.faults, went.calm) went in
-    let told = told_not_counted state old s s1 v room t c.args.table.now i table _ c.requires.agrees c.room.ensures.rests c.count-2.ensures.room here tables held c.requires.allowed
+    let told = told_not_counted state old s s1 v room t c.args.table.now i table c.requires.agrees c.room.ensures.rests c.count-2.ensures.room here tables held c.requires.allowed
     OpErrs.Sink n tt cut count in
     told_as state (count_of c.args.table.now) _ tables old t _ _ _ _ c.cut-in-Err-Failed.ensures.answer c.cut-in-Err-Failed.ensures.seen told
 
@@ -274,7 +274,7 @@ returns-in-Err-Failed-clause-stopped g c =
       partly.0,
       inr partly.1,
       λ tells tables held honest.
-          let is = count_is state old s s1 v room t c.args.table.now i table _ c.requires.agrees c.room.ensures.rests c.count-2.ensures.room here tables held c.requires.allowed c.in-Ok.counted.k
+          let is = count_is state old s s1 v room t c.args.table.now i table c.requires.agrees c.room.ensures.rests c.count-2.ensures.room here tables held c.requires.allowed c.in-Ok.counted.k
           (λ slots before. ap (λ r. r.k) (c.in-Ok.ensures.told slots (subst (λ (f : Flat). Represents old.room.pack f slots (at state old.vault s1)) (sym flat_is) before) honest)
           ∙ ap (λ (p : Condition). length (selected (is_true p) slots)) c.all.ensures) in
           subst (λ (r : Result Outcome Stop). Emitted (count_of c.args.table.now) old.public (length s.asked) tables r partly.0) (sym c.cut-in-Err-Failed.ensures.answer)
@@ -299,7 +299,7 @@ returns-in-Err-NoMemory-clause-ran g c =
     let n = c.count-in-Err-NoMemory.result - c.count-before.result in
     let count : n ≡ length t.asked - length s.asked = λ j. c.count-in-Err-NoMemory.ensures j - c.count-before.ensures j in
     let cut = cut_whole OpErrs.NoMemory none (count_part table.region (blocks_for old.room.pack table.heading.capacity)) (at state old.vault s1) (at state v t) (went.did.faults, went.calm) went in
-    let ran = not_counted state old s s1 v room t c.args.table.now i table _ c.requires.agrees c.room.ensures.rests c.count-2.ensures.room here OpErrs.NoMemory n cut count in
+    let ran = not_counted state old s s1 v room t c.args.table.now i table c.requires.agrees c.room.ensures.rests c.count-2.ensures.room here OpErrs.NoMemory n cut count in
     ran_as state (skeleton (count_of c.args.table.now)) old s t _ _ _ _ c.cut-in-Err-NoMemory.ensures.answer c.cut-in-Err-NoMemory.ensures.seen ran
 
 pub returns-in-Err-NoMemory-clause-told : goal.returns-in-Err-NoMemory-clause-told
@@ -320,7 +320,7 @@ returns-in-Err-NoMemory-clause-told g c tells tables held honest =
     let n = c.count-in-Err-NoMemory.result - c.count-before.result in
     let count : n ≡ length t.asked - length s.asked = λ j. c.count-in-Err-NoMemory.ensures j - c.count-before.ensures j in
     let cut = cut_whole OpErrs.NoMemory none (count_part table.region (blocks_for old.room.pack table.heading.capacity)) (at state old.vault s1) (at state v t) (went.did.faults, went.calm) went in
-    let told = told_not_counted state old s s1 v room t c.args.table.now i table _ c.requires.agrees c.room.ensures.rests c.count-2.ensures.room here tables held c.requires.allowed
+    let told = told_not_counted state old s s1 v room t c.args.table.now i table c.requires.agrees c.room.ensures.rests c.count-2.ensures.room here tables held c.requires.allowed
     OpErrs.NoMemory n tt cut count in
     told_as state (count_of c.args.table.now) _ tables old t _ _ _ _ c.cut-in-Err-NoMemory.ensures.answer c.cut-in-Err-NoMemory.ensures.seen told
 
@@ -343,7 +343,7 @@ returns-in-Err-NoMemory-clause-stopped g c =
       partly.0,
       inr partly.1,
       λ tells tables held honest.
-          let is = count_is state old s s1 v room t c.args.table.now i table _ c.requires.agrees c.room.ensures.rests c.count-2.ensures.room here tables held c.requires.allowed c.in-Ok.counted.k
+          let is = count_is state old s s1 v room t c.args.table.now i table c.requires.agrees c.room.ensures.rests c.count-2.ensures.room here tables held c.requires.allowed c.in-Ok.counted.k
           (λ slots before. ap (λ r. r.k) (c.in-Ok.ensures.told slots (subst (λ (f : Flat). Represents old.room.pack f slots (at state old.vault s1)) (sym flat_is) before) honest)
           ∙ ap (λ (p : Condition). length (selected (is_true p) slots)) c.all.ensures) in
           subst (λ (r : Result Outcome Stop). Emitted (count_of c.args.table.now) old.public (length s.asked) tables r partly.0) (sym c.cut-in-Err-NoMemory.ensures.answer)

@@ -30,7 +30,7 @@ returns-in-Ok-clause-ran g c =
     let tables = pushed ∙ ap (λ (t : Table). old.public.tables ++ t ∷ []) c.new_table-new.ensures in
     let flat = subst (λ (f : Flat). IsFlat old.room.pack f (at state v t)) c.in-Ok.ensures.value c.in-Ok.ensures.flat in
     let stored = subst (λ cs. IsStored cs c.args.capacity) (sym c.new_schema-schema.ensures) (new_stored old.public _ c.args.table.now c.args.columns.now c.args.capacity c.requires.allowed) in
-    let ran = created state old _ _ v room _ c.args.table.now c.args.columns.now c.new_schema-schema.result c.args.capacity _
+    let ran = created state old _ _ v room _ c.args.table.now c.args.columns.now c.new_schema-schema.result c.args.capacity
     c.requires.agrees c.room.ensures.rests c.create.ensures.room c.new_schema-schema.ensures c.in-Ok.ensures.ok c.requires.lives stored flat
     (new_name old.public _ c.args.table.now c.args.columns.now c.args.capacity c.requires.allowed) in
     let engine = c.finish.ensures.seen ∙ ap (λ (ts : List Table). engine_after old v room ts Whole old.ended) tables in
@@ -48,7 +48,7 @@ returns-in-Ok-clause-told g c tells tables held honest =
     let more = pushed ∙ ap (λ (t : Table). old.public.tables ++ t ∷ []) c.new_table-new.ensures in
     let tells_now = subst (λ (b : Bool). IsTrue b) (sym c.room.ensures.rests.tells) tells in
     let flat = subst (λ (f : Flat). Represents old.room.pack f (empty_slots c.args.capacity) (at state v t)) c.in-Ok.ensures.value (c.in-Ok.ensures.told tells_now) in
-    let told = told_created state old _ _ v room _ c.args.table.now c.args.columns.now c.new_schema-schema.result c.args.capacity _
+    let told = told_created state old _ _ v room _ c.args.table.now c.args.columns.now c.new_schema-schema.result c.args.capacity
     c.requires.agrees c.room.ensures.rests c.create.ensures.room c.new_schema-schema.ensures tables held c.requires.allowed c.in-Ok.ensures.ok flat in
     let engine = c.finish.ensures.seen ∙ ap (λ (ts : List Table). engine_after old v room ts Whole old.ended) more in
     told_as state stmt _ tables old t _ _ _ _ (ap (λ (o : Outcome). Ok o) c.finish.ensures.answer) engine told
@@ -66,7 +66,7 @@ returns-in-Err-clause-ran g c =
     let tables = popped c.pop.result _ _ old.public.tables _ c.pop.ensures pushed in
     let count : n ≡ length (g.S.BlockStore.state c.create.new.store).asked - length (g.S.BlockStore.state c.args.store.now).asked =
     λ i. c.count.ensures i - c.count-before.ensures i in
-    let ran = not_created state old _ _ v room _ c.args.table.now c.args.columns.now c.new_schema-schema.result c.args.capacity _
+    let ran = not_created state old _ _ v room _ c.args.table.now c.args.columns.now c.new_schema-schema.result c.args.capacity
     c.requires.agrees c.room.ensures.rests c.create.ensures.room c.new_schema-schema.ensures error n c.in-Err.ensures.err count c.in-Err.ensures.gone in
     let engine = c.cut-in-Err.ensures.seen ∙ ap (λ (ts : List Table). engine_after old v room ts (Cut n) (is_stop (answer_of error))) tables in
     ran_as state (skeleton stmt) old _ _ _ _ _ _ c.cut-in-Err.ensures.answer engine ran
@@ -84,7 +84,7 @@ returns-in-Err-clause-told g c tells tables held honest =
     let more = popped c.pop.result _ _ old.public.tables _ c.pop.ensures pushed in
     let count : n ≡ length (g.S.BlockStore.state c.create.new.store).asked - length (g.S.BlockStore.state c.args.store.now).asked =
     λ i. c.count.ensures i - c.count-before.ensures i in
-    let told = told_not_created state old _ _ v room _ c.args.table.now c.args.columns.now c.new_schema-schema.result c.args.capacity _
+    let told = told_not_created state old _ _ v room _ c.args.table.now c.args.columns.now c.new_schema-schema.result c.args.capacity
     c.requires.agrees c.room.ensures.rests c.create.ensures.room c.new_schema-schema.ensures tables held c.requires.allowed error n
     (fault_made error c.in-Err.ensures.never) c.in-Err.ensures.err count in
     let engine = c.cut-in-Err.ensures.seen ∙ ap (λ (ts : List Table). engine_after old v room ts (Cut n) (is_stop (answer_of error))) more in

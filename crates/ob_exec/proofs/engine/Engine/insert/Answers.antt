@@ -89,7 +89,7 @@ returns-in-Ok-insert-clause-ran g c =
     let moved = c.in-Ok-insert.ensures.moved ∙ ap (λ (f : Flat). record f { region = next }) flat_is in
     let flat = subst (λ (f : Flat). IsFlat old.room.pack f (at state v t)) moved c.in-Ok-insert.ensures.flat in
     let gone = subst (λ (f : Flat). (state v.revs).live f.region ≡ None) flat_is c.in-Ok-insert.ensures.gone in
-    let ran = inserted state old (g.S.BlockStore.state c.args.store.now) s1 v room t c.args.table.now c.args.columns.now i table _ c.requires.agrees c.room.ensures.rests c.insert.ensures.room here
+    let ran = inserted state old (g.S.BlockStore.state c.args.store.now) s1 v room t c.args.table.now c.args.columns.now i table c.requires.agrees c.room.ensures.rests c.insert.ensures.room here
     (inserted_as c.in-Ok-insert.inserted) (is_answered c.in-Ok-insert.inserted) went c.requires.lives flat gone in
     let region : c.insert.new.flat.region ≡ next = ap (λ (f : Flat). f.region) moved in
     let move = c.move_table.ensures table here.get in
@@ -119,7 +119,7 @@ returns-in-Ok-insert-clause-told g c tells tables held honest =
     let cells_is : c.as_slice-3.result.now ≡ new_row table.heading.schema c.args.columns.now c.args.values.now =
     c.as_slice-3.ensures.value ∙ c.in-Ok.ensures.value ∙ ap (λ (f : Flat). new_row f.schema c.args.columns.now c.args.values.now) flat_is in
     let tells_now = subst (λ (b : Bool). IsTrue b) (sym c.room.ensures.rests.tells) tells in
-    let told = told_inserted state old (g.S.BlockStore.state c.args.store.now) s1 v room t c.args.table.now c.args.columns.now i table _ c.requires.agrees c.room.ensures.rests c.insert.ensures.room here
+    let told = told_inserted state old (g.S.BlockStore.state c.args.store.now) s1 v room t c.args.table.now c.args.columns.now i table c.requires.agrees c.room.ensures.rests c.insert.ensures.room here
     c.args.values.now tables held c.requires.allowed c.in-Ok-insert.inserted went
     (λ slots is.
     let before = subst (λ (f : Flat). Represents old.room.pack f slots (at state old.vault s1)) (sym flat_is) is in
@@ -156,7 +156,7 @@ returns-clause-ran g c =
     let cut = subst (λ (f : Flat). PassCut error (insert_part f.region next (blocks_for old.room.pack f.capacity) (old.room.pack * width f.schema)) (one next) (at state old.vault s1) (at state v t))
     flat_is c.in-Err.ensures.err in
     let count : n ≡ length t.asked - length s.asked = λ j. c.count.ensures j - c.count-before.ensures j in
-    let ran = not_inserted state old s s1 v room t c.args.table.now c.args.columns.now i table _ c.requires.agrees c.room.ensures.rests c.insert.ensures.room here error n cut count c.in-Err.ensures.gone in
+    let ran = not_inserted state old s s1 v room t c.args.table.now c.args.columns.now i table c.requires.agrees c.room.ensures.rests c.insert.ensures.room here error n cut count c.in-Err.ensures.gone in
     ran_as state (skeleton stmt) old s t _ _ _ _ c.cut-in-Err.ensures.answer c.cut-in-Err.ensures.seen ran
 
 pub returns-clause-told : goal.returns-clause-told
@@ -181,7 +181,7 @@ returns-clause-told g c tells tables held honest =
     flat_is c.in-Err.ensures.err in
     let count : n ≡ length t.asked - length s.asked = λ j. c.count.ensures j - c.count-before.ensures j in
     let tells_now = subst (λ (b : Bool). IsTrue b) (sym c.room.ensures.rests.tells) tells in
-    let told = told_not_inserted state old s s1 v room t c.args.table.now c.args.columns.now i table _ c.requires.agrees c.room.ensures.rests c.insert.ensures.room here
+    let told = told_not_inserted state old s s1 v room t c.args.table.now c.args.columns.now i table c.requires.agrees c.room.ensures.rests c.insert.ensures.room here
     c.args.values.now tables held c.requires.allowed error n
     (λ slots is. fault_made error (c.in-Err.ensures.told tells_now slots (subst (λ (f : Flat). Represents old.room.pack f slots (at state old.vault s1)) (sym flat_is) is) honest).0) cut count in
     told_as state stmt _ tables old t _ _ _ _ c.cut-in-Err.ensures.answer c.cut-in-Err.ensures.seen told
