@@ -1,13 +1,11 @@
 -- An input that keeps to the limits is served to its end.
 use Rattle.std.proofs.Common.{◌≡◌, ℕ, ◌≤◌, Bool, true, false, List, [], ◌++◌, length, Option, Some, None, Ok, Err, refl, ap, ◌∙◌, subst, inl, inr, arith, append-nil, length-append}
 use Rattle.std.specs.Io.KnownBytes.{Appends, Consumes}
-use Rattle.clap.specs.Words.{Text}
 use Rattle.ob_base.specs.Counts.{Rises}
 use Rattle.ob_base.specs.declared.refusal.Stop.TheVariants.{Tampered, SourceFault, SinkFault, NoMemory, InputLimit}
 use Rattle.ob_vault.specs.State.{RevState}
 use Rattle.ob_print.specs.Cuts.{Cut}
 use Rattle.ob_store.specs.State.{StoreState}
-use Rattle.ob_shell.specs.Usage.{Parses}
 use Rattle.ob_shell.specs.Texts.{is_over, rest_of}
 use Rattle.ob_shell.specs.KeyLine.{line_max, has_lf, first_line, after_line, secret_of, LineTaken}
 use Rattle.ob_shell.specs.Running.{Faults, SinksRose}
@@ -82,13 +80,13 @@ completes {max = max} {l1 = l1} {s0 = s0} {s1 = s1} {ending = ending} old new in
         (λ honest. elim shown.carried [ inl none ↦ none.untampered | inr some ↦ some.untampered honest ])
 
 -- the last line was written, or cut by a sink's fault
-pub reported_line : {R : Type 0} {state : R → RevState} {words : List Text} {max : ℕ} {report : Report} (ending : Ending) (old mid new : Faults)
+pub reported_line : {R : Type 0} {state : R → RevState} {Takes : Type 0} {max : ℕ} {report : Report} (ending : Ending) (old mid new : Faults)
     {l0 l1 w0 w1 w2 : Option (List ℕ)} {s0 s1 : StoreState} {E : Type 0} (line : List ℕ)
-    → report.status ≡ status_of ending → EndingWords ending (Parses words)
+    → report.status ≡ status_of ending → EndingWords ending Takes
     → Shown state max l0 l1 w0 w1 s0 s1 report.high ending [] (SinkStopped ending) → EndingCause ending old mid
     → line ≡ last_line ending → Cut w1 w2 E line → (E → Rises mid.out new.out) → (line ≡ [] → Appends w1 w2 line) → (line ≡ [] → new.out ≡ mid.out)
     → mid.out ≤ new.out → new.trace ≡ mid.trace → new.source ≡ mid.source
-    → Reported state words max l0 l1 w0 w2 s0 s1 old new report
+    → Reported state Takes max l0 l1 w0 w2 s0 s1 old new report
 reported_line ending old mid new line status takes shown cause is_line cut rose all none later trace source =
     let causes : StatusCause ending old new = status_cause ending old mid new cause later trace source (λ e. none (is_line ∙ e)) in
     record {
@@ -106,11 +104,11 @@ reported_line ending old mid new line status takes shown cause is_line cut rose 
     }
 
 -- no line may be written any more
-pub reported_quiet : {R : Type 0} {state : R → RevState} {words : List Text} {max : ℕ} {report : Report} (ending : Ending) (old new : Faults)
+pub reported_quiet : {R : Type 0} {state : R → RevState} {Takes : Type 0} {max : ℕ} {report : Report} (ending : Ending) (old new : Faults)
     {l0 l1 w0 w1 : Option (List ℕ)} {s0 s1 : StoreState}
-    → report.status ≡ status_of ending → EndingWords ending (Parses words)
+    → report.status ≡ status_of ending → EndingWords ending Takes
     → Shown state max l0 l1 w0 w1 s0 s1 report.high ending [] (SinkStopped ending) → EndingCause ending old new → SinksRose old new
-    → Reported state words max l0 l1 w0 w1 s0 s1 old new report
+    → Reported state Takes max l0 l1 w0 w1 s0 s1 old new report
 reported_quiet ending old new status takes shown cause rose =
     let causes : StatusCause ending old new = status_cause ending old new new cause (omega arith) refl refl (λ e. refl) in
     record {

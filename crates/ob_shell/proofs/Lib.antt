@@ -14,3 +14,7 @@ pub mod AskLemmas
 pub mod FailureLemmas
 pub mod PieceLemmas
 pub mod LieLemmas
+pub mod OpenLemmas
+pub mod CloseLemmas
+pub mod WordLemmas
+pub mod FirstPartLemmas

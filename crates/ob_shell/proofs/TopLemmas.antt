@@ -32,6 +32,7 @@ use Rattle.ob_shell.specs.declared.top.Ending.TheVariants.{Usage, BadKey, Ran as
 use Rattle.ob_shell.proofs.TextLemmas.{rest_of-nil, texts_of-nil}
 use Rattle.ob_shell.proofs.AskLemmas.{asks}
 use Rattle.ob_shell.proofs.FailureLemmas.{session_fails}
+use Rattle.ob_shell.proofs.OpenLemmas.{IsUsed, session_opens}
 use Rattle.ob_shell.proofs.CalmLemmas.{steps_calm, last_met, first_calm}
 use Rattle.ob_shell.proofs.LastingLemmas.{HasSizes, steps_sizes, last_rows, steps_sealed, last_sealed, steps_tell, none_sealed, first_sizes}
 use Rattle.ob_shell.proofs.LieLemmas.{last_deceived, last_keys, steps_keep}
@@ -239,9 +240,9 @@ middle_sizes : {R : Type 0} (state : R → RevState) (first : Engine R) (s0 : St
 middle_sizes state first s0 middle served answers fresh rows steps = steps_sizes state (machine_of first s0) middle served answers steps (first_sizes (machine_of first s0) fresh rows)
 
 pub ran_after : {R : Type 0} {state : R → RevState} {f0 f1 : Fetch} {l0 l1 w0 w1 : Option (List ℕ)} {s0 s1 : StoreState} (key : List ℕ) (first last : Engine R) (high : ℕ) (result : Result Bool Stop)
-    → public_of first ≡ first_public 64 5 1 None → first.vault.keys ≡ keys_of key → rows_of first ≡ 64 → ((q : ℕ) → s0.live q ≡ None) → s0.lie ≡ None → high ≤ rows_of last → SessionRan state f0 f1 l0 l1 w0 w1 (machine_of first s0) (machine_of last s1) result → high ≡ high_of last
+    → public_of first ≡ first_public 64 5 1 None → first.vault.keys ≡ keys_of key → rows_of first ≡ 64 → s0.asked ≡ [] → ((q : ℕ) → s0.live q ≡ None) → s0.lie ≡ None → high ≤ rows_of last → SessionRan state f0 f1 l0 l1 w0 w1 (machine_of first s0) (machine_of last s1) result → high ≡ high_of last
     → RanAfter state (Some key) f0 f1 l0 l1 w0 w1 s0 s1 high result
-ran_after {state = state} {s0 = s0} {s1 = s1} key first last high result fresh keyed rows empty sound most ran e = record {
+ran_after {state = state} {s0 = s0} {s1 = s1} key first last high result fresh keyed rows none empty sound most ran e = record {
   piece = ran.piece;
   consumed = ran.consumed;
   taken = ran.taken;
@@ -285,6 +286,7 @@ ran_after {state = state} {s0 = s0} {s1 = s1} key first last high result fresh k
     failed = session_fails state (machine_of first s0) ran.middle (machine_of last s1) ran.served ran.more ran.answers ran.part result ran.steps ran.last;
     rows_open = e;
     rows_few = subst (λ (n : ℕ). high ≤ n) (last_rows state ran.middle (machine_of last s1) ran.more ran.part result ran.last (middle_sizes state first s0 ran.middle ran.served ran.answers fresh rows ran.steps)) most;
+    rows_used = subst (λ (n : ℕ). IsUsed s1.asked n) (sym e) (session_opens state (machine_of first s0) ran.middle (machine_of last s1) ran.served ran.more ran.answers ran.part result none ran.steps ran.last);
   });
   cut = ran.cut;
   flag = ran.flag;

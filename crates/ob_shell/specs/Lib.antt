@@ -14,3 +14,6 @@ pub mod Replayed
 pub mod Asking
 pub mod Failures
 pub mod Pieces
+pub mod Closed
+pub mod Meddling
+pub mod Disturbed

@@ -1,12 +1,13 @@
 -- What a whole run promises, by its words and the bytes that its source gave.
 use Rattle.std.specs.Prelude.{ℕ, ◌≡◌, ◌+◌, ◌<◌, ◌≤◌, ◌⊎◌, Bool, true, false, List, [], ◌++◌, length, IsTrue, Option, Some, None, IsSome, Result, Ok, Err}
+use Rattle.std.specs.List.{list_any}
 use Rattle.std.specs.Io.KnownBytes.{Consumes, IsAtEnd}
-use Rattle.clap.specs.Words.{Text}
 use Rattle.ob_base.specs.Counts.{Rises}
 use Rattle.ob_base.specs.declared.refusal.Stop.{Stop}
 use Rattle.ob_base.specs.declared.refusal.Stop.TheVariants.{Tampered, SourceFault, SinkFault, NoMemory, InputLimit}
 use Rattle.ob_exec.specs.Agreeing.{public_of, high_of, world_of}
 use Rattle.ob_exec.specs.declared.engine.Engine.{Engine}
+use Rattle.ob_exec.specs.Opening.{is_of_rows}
 use Rattle.ob_exec.specs.Telling.{AcceptsRows}
 use Rattle.ob_mean.specs.Replay.{first_public}
 use Rattle.ob_print.specs.Cuts.{Cut}
@@ -16,8 +17,6 @@ use Rattle.ob_store.specs.State.{Lie, StoreState}
 use Rattle.ob_vault.specs.State.{RevState, World}
 use Rattle.ob_vault.specs.Tied.{AllSealed, Calm, EndsAt, Fits}
 use Rattle.ob_shell.specs.Asking.{Asks}
-use Rattle.ob_shell.specs.Tracing.{Traced}
-use Rattle.ob_shell.specs.Usage.{Parses, is_traced}
 use Rattle.ob_shell.specs.Failures.{failures, RisesBy}
 use Rattle.ob_shell.specs.Texts.{is_over, rest_of, texts_in}
 use Rattle.ob_shell.specs.Feeding.{Fetch}
@@ -75,8 +74,9 @@ MeetsChange (Ran (Err InputLimit)) w = Calm w
 
 -- an engine was started with this secret, without tables, and served these texts. Whatever the store answers, their accesses
 -- are the trace of the statements that they spell and of what is seen of each, which is lawful. Where the store tells what it holds,
--- and gave what was written, their answers and accesses are those of the meaning, from no tables. Where it tells, each
--- block of a live region is sealed, of one row or dummy, under the position of a write to its place, after a stop too.
+-- their answers and accesses are those of the meaning, from no tables, unless a changed block was read whose tag fits. Where it
+-- tells, each block of a live region is sealed, of one row or dummy, under the position of a write to its place, after a stop too.
+-- At most 64 rows were open at once, and at least one where a block was read or written.
 pub record Started {R : Type 0} (state : R → RevState) (secret : Option (List ℕ)) (store0 store1 : StoreState) (high : ℕ) (served more : List (List ℕ)) (answers : List Answer)
     (part : List ℕ) (ending : Ending) : Type 0 where
   pub key : List ℕ
@@ -98,6 +98,7 @@ pub record Started {R : Type 0} (state : R → RevState) (secret : Option (List 
   pub failed : RisesBy (failures answers) store0.faults store1.faults
   pub rows_open : high ≡ high_of last
   pub rows_few : high ≤ 64
+  pub rows_used : IsTrue (list_any is_of_rows store1.asked) → 1 ≤ high
 
 -- what the texts did to an engine and the store
 abbrev pub Carried : {R : Type 0} (state : R → RevState) (secret : Option (List ℕ)) (store0 store1 : StoreState) (high : ℕ) (served more : List (List ℕ)) (answers : List Answer)
@@ -242,25 +243,13 @@ IsCompleted honest (Ran (Err SinkFault)) = ⊥
 IsCompleted honest (Ran (Err NoMemory)) = Unit {0}
 IsCompleted honest (Ran (Err InputLimit)) = ⊥
 
--- the whole run
-pub record Reported {R : Type 0} (state : R → RevState) (words : List Text) (max : ℕ) (left0 left1 written0 written1 : Option (List ℕ)) (store0 store1 : StoreState)
+-- the whole run, of words that the program takes or doesn't
+pub record Reported {R : Type 0} (state : R → RevState) (Takes : Type 0) (max : ℕ) (left0 left1 written0 written1 : Option (List ℕ)) (store0 store1 : StoreState)
     (old new : Faults) (report : Report) : Type 0 where
   pub ending : Ending
   pub status : report.status ≡ status_of ending
-  pub takes : EndingWords ending (Parses words)
+  pub takes : EndingWords ending Takes
   pub shown : Shown state max left0 left1 written0 written1 store0 store1 report.high ending (last_line ending) (SinksRose old new)
   pub cause : StatusCause ending old new
-  pub completes : Parses words → (input : List ℕ) → left0 ≡ Some input → KeepsLimits max input
+  pub completes : Takes → (input : List ℕ) → left0 ≡ Some input → KeepsLimits max input
       → ¬ Rises old.source new.source → ¬ SinksRose old new → IsCompleted (IsHonest store0 store1) ending
-
--- the whole run over a store that never fails, tells what it holds and gives what was written
-pub record InMemory {R : Type 0} (state : R → RevState) (words : List Text) (max : ℕ)
-    (left0 left1 written0 written1 traced0 traced1 : Option (List ℕ)) (old new : Faults) (report : Report) : Type 0 where
-  pub store0 : StoreState
-  pub store1 : StoreState
-  pub fresh : store0.asked ≡ []
-  pub tells : store0.tells ≡ true
-  pub sound : store1.faults ≡ 0
-  pub honest : store1.lie ≡ None
-  pub reported : Reported state words max left0 left1 written0 written1 store0 store1 old new report
-  pub traced : Traced (is_traced words) store0.asked store1.asked traced0 traced1 (SinksRose old new)

@@ -1,23 +1,26 @@
 //! The top calls.
-ghost use Rattle.std.specs.Prelude.{◌≡◌, ◌≢◌, ◌≤◌, ℕ, List, [], map, Ok, Err, Some, true, false, string_bytes};
-ghost use Rattle.ob_shell.specs.Usage.{Parses, is_traced};
+ghost use Rattle.std.specs.Prelude.{◌≡◌, ◌≢◌, ◌≤◌, ℕ, List, [], map, Ok, Err, Some, true, false, ⊤, MatchOption, string_bytes};
+ghost use Rattle.ob_shell.specs.Usage.{usage, Parses, is_traced};
+ghost use Rattle.ob_shell.specs.Closed.{Unwritten, LineWritten, refused_by};
+ghost use Rattle.ob_shell.specs.Meddling.{Unserved, Meddled};
 ghost use Rattle.ob_shell.specs.KeyLine.{secret_of};
 ghost use Rattle.ob_shell.specs.Running.{Faults, SinksRose, IsQuiet, stop_of, StopCause};
 ghost use Rattle.ob_shell.specs.Tracing.{Traced};
 ghost use Rattle.ob_shell.specs.Endings;
 ghost use Rattle.ob_shell.specs.Endings.{SinkStopped};
-ghost use Rattle.ob_shell.specs.Top.{Shown, RanAfter, EndingCause, EndingWords, Reported, InMemory};
+ghost use Rattle.ob_shell.specs.Top.{Shown, RanAfter, EndingCause, Reported};
 
 use crate::feed::{Feed, Halt};
 use crate::key::{FirstLine, read_key};
 use crate::session::{Halted, serve};
-use crate::words::{WordsErr, read_words};
+use crate::words::{WordsErr, read_meddle_words, read_words};
 use ob_base::{Config, Stop};
 use ob_exec::Engine;
 use ob_io::{Sink, Source};
 use ob_print::{Line, stop_line, write_all};
 use ob_seal::Keys;
-use ob_store::{BlockStore, MemStore};
+use ob_meddle::MeddledStore;
+use ob_store::BlockStore;
 use ob_vault::{BaseRevs, Revisions};
 use std::alloc::Global;
 
@@ -189,33 +192,56 @@ fn run<I: Source, O: Sink, T: Sink, S: BlockStore>(
     }
 }
 
-// Reads the words and serves the input: all but the last line.
-fn run_words<I: Source, O: Sink, T: Sink, S: BlockStore>(
+// Writes the last line, where it may be written, and reports.
+fn close<O: Sink>(ended: Ended, out: &mut O) -> Report
+    ensures status { result.status ≡ Endings.status_of ended.ending }
+    ensures high { result.high ≡ ended.high }
+    ensures quiet { ended.quiet ≡ true → Unwritten (O.written out.old) (O.written out.new) (O.faults out.old) (O.faults out.new) }
+    ensures line { ended.quiet ≡ false → LineWritten (Endings.last_line ended.ending) (O.written out.old) (O.written out.new) (O.faults out.old) (O.faults out.new) }
+{
+    if !ended.quiet {
+        let _ = write_all(out, last_line(ended.ending).as_bytes());
+    }
+    Report {
+        status: status_of(ended.ending),
+        high: ended.high,
+    }
+}
+
+// The end where the words were not read.
+fn refuse_words<O: Sink>(error: WordsErr, out: &mut O) -> Report
+    ensures status { result.status ≡ Endings.status_of (refused_by error) }
+    ensures high { result.high ≡ 0 }
+    ensures line { LineWritten (Endings.last_line (refused_by error)) (O.written out.old) (O.written out.new) (O.faults out.old) (O.faults out.new) }
+{
+    let ending = match error {
+        WordsErr::Usage => Ending::Usage,
+        WordsErr::NoMemory => Ending::Ran(Err(Stop::NoMemory)),
+    };
+    close(ended_at(ending), out)
+}
+
+// Serves the input of words that were taken, and writes the last line.
+fn serve_over<I: Source, O: Sink, T: Sink, S: BlockStore>(
     alloc: Global,
-    words: &[String],
+    tracing: bool,
     input: &mut I,
     out: &mut O,
     trace: &mut T,
     store: &mut S,
-) -> Ended
+) -> Report
     requires { (S.state store.old).asked ≡ [] }
-    ensures shown { Shown ⟦<BaseRevs as Revisions>⟧.state 65536 (I.left input.old) (I.left input.new) (O.written out.old) (O.written out.new)
-        (S.state store.old) (S.state store.new) result.high result.ending [] (SinkStopped result.ending) }
-    ensures takes { EndingWords result.ending (Parses (map string_bytes words.now)) }
-    ensures traced { Traced (is_traced (map string_bytes words.now)) (S.state store.old).asked (S.state store.new).asked
-        (T.written trace.old) (T.written trace.new) (result.quiet ≡ true) }
-    ensures cause { EndingCause result.ending
+    ensures reported { Reported ⟦<BaseRevs as Revisions>⟧.state ⊤ 65536 (I.left input.old) (I.left input.new) (O.written out.old) (O.written out.new)
+        (S.state store.old) (S.state store.new)
         record { source = I.faults input.old; out = O.faults out.old; trace = T.faults trace.old }
-        record { source = I.faults input.new; out = O.faults out.new; trace = T.faults trace.new } }
-    ensures quiet { result.quiet ≡ true → SinksRose
+        record { source = I.faults input.new; out = O.faults out.new; trace = T.faults trace.new } result }
+    ensures traced { Traced tracing (S.state store.old).asked (S.state store.new).asked
+        (T.written trace.old) (T.written trace.new) (SinksRose
         record { source = I.faults input.old; out = O.faults out.old; trace = T.faults trace.old }
-        record { source = I.faults input.new; out = O.faults out.new; trace = T.faults trace.new } }
+        record { source = I.faults input.new; out = O.faults out.new; trace = T.faults trace.new }) }
 {
-    match read_words(alloc, words) {
-        Err(WordsErr::Usage) => ended_at(Ending::Usage),
-        Err(WordsErr::NoMemory) => ended_at(Ending::Ran(Err(Stop::NoMemory))),
-        Ok(words) => run(alloc, words.trace, input, out, trace, store),
-    }
+    let ended = run(alloc, tracing, input, out, trace, store);
+    close(ended, out)
 }
 
 /// Serves the input over a store of which nothing was asked, and writes the answers and the last line; with
@@ -229,40 +255,46 @@ pub fn shell_top<I: Source, O: Sink, T: Sink, S: BlockStore>(
     store: &mut S,
 ) -> Report
     requires { (S.state store.old).asked ≡ [] }
-    ensures reported { Reported ⟦<BaseRevs as Revisions>⟧.state (map string_bytes words.now) 65536 (I.left input.old) (I.left input.new) (O.written out.old) (O.written out.new)
+    ensures reported { Reported ⟦<BaseRevs as Revisions>⟧.state (Parses usage (map string_bytes words.now)) 65536 (I.left input.old) (I.left input.new) (O.written out.old) (O.written out.new)
         (S.state store.old) (S.state store.new)
         record { source = I.faults input.old; out = O.faults out.old; trace = T.faults trace.old }
         record { source = I.faults input.new; out = O.faults out.new; trace = T.faults trace.new } result }
-    ensures traced { Traced (is_traced (map string_bytes words.now)) (S.state store.old).asked (S.state store.new).asked
+    ensures traced { Traced (is_traced usage (map string_bytes words.now)) (S.state store.old).asked (S.state store.new).asked
         (T.written trace.old) (T.written trace.new) (SinksRose
         record { source = I.faults input.old; out = O.faults out.old; trace = T.faults trace.old }
         record { source = I.faults input.new; out = O.faults out.new; trace = T.faults trace.new }) }
 {
-    let ended = run_words(alloc, words, input, out, trace, store);
-    let report = Report {
-        status: status_of(ended.ending),
-        high: ended.high,
-    };
-    if ended.quiet {
-        return report;
+    match read_words(alloc, words) {
+        Err(error) => refuse_words(error, out),
+        Ok(words) => serve_over(alloc, words.trace, input, out, trace, store),
     }
-    let _ = write_all(out, last_line(ended.ending).as_bytes());
-    report
 }
 
-/// Serves the input over a store in memory of its own.
+/// Serves the input over a store in memory that others change as `--meddle` says, and hands it back: none exactly
+/// where the words are not taken or memory ran out before it was made. Else all is as `shell_top` says of it.
 pub fn meddle_top<I: Source, O: Sink, T: Sink>(
     alloc: Global,
     words: &[String],
     input: &mut I,
     out: &mut O,
     trace: &mut T,
-) -> Report
-    ensures { InMemory ⟦<BaseRevs as Revisions>⟧.state (map string_bytes words.now) 65536 (I.left input.old) (I.left input.new)
+) -> (Report, Option<MeddledStore>)
+    ensures { MatchOption result.1
+        (Unserved (map string_bytes words.now) (I.left input.old) (I.left input.new)
         (O.written out.old) (O.written out.new) (T.written trace.old) (T.written trace.new)
         record { source = I.faults input.old; out = O.faults out.old; trace = T.faults trace.old }
-        record { source = I.faults input.new; out = O.faults out.new; trace = T.faults trace.new } result }
+        record { source = I.faults input.new; out = O.faults out.new; trace = T.faults trace.new } result.0)
+        (λ store. Meddled ⟦<BaseRevs as Revisions>⟧.state (map string_bytes words.now) 65536 (I.left input.old) (I.left input.new)
+        (O.written out.old) (O.written out.new) (T.written trace.old) (T.written trace.new)
+        record { source = I.faults input.old; out = O.faults out.old; trace = T.faults trace.old }
+        record { source = I.faults input.new; out = O.faults out.new; trace = T.faults trace.new } store result.0) }
 {
-    let mut store = MemStore::new(alloc);
-    shell_top(alloc, words, input, out, trace, &mut store)
+    match read_meddle_words(alloc, words) {
+        Err(error) => (refuse_words(error, out), None),
+        Ok(words) => {
+            let mut store = MeddledStore::new(alloc, words.changes);
+            let report = serve_over(alloc, words.trace, input, out, trace, &mut store);
+            (report, Some(store))
+        }
+    }
 }

@@ -1,7 +1,7 @@
-//! What lies in a store, and what comes of a block that was changed.
+//! What lies in a store, and what comes of a block that others could seal.
+use crate::forging::ForgingStore;
 use crate::keeping::KeepingStore;
 use crate::session::{Case, serve};
-use crate::turning::TurningStore;
 use ob_seal::{At, Keys, unseal};
 use ob_store::MemStore;
 use std::test::Fail;
@@ -12,6 +12,10 @@ const SESSION: Case = Case {
     trace: "M 1 4 49\nW 1 0\nW 1 1\nW 1 2\nW 1 3\nM 2 4 49\nR 1 0\nR 1 1\nR 1 2\nR 1 3\nR 1 0\nW 2 0\nR 1 1\nW 2 1\nR 1 2\nW 2 2\nR 1 3\nW 2 3\nD 1\n",
     status: 0,
 };
+
+/// The same, and a count.
+const COUNTED: &str = "CREATE TABLE t (id INT PRIMARY KEY, v INT) CAPACITY 4; INSERT INTO t VALUES (1, 10); SELECT COUNT(*) FROM t;";
+const TRACE: &str = "M 1 4 49\nW 1 0\nW 1 1\nW 1 2\nW 1 3\nM 2 4 49\nR 1 0\nR 1 1\nR 1 2\nR 1 3\nR 1 0\nW 2 0\nR 1 1\nW 2 1\nR 1 2\nW 2 2\nR 1 3\nW 2 3\nD 1\nR 2 0\nR 2 1\nR 2 2\nR 2 3\n";
 
 /// The row (1, 10), as it is spelt.
 const ROW: [u8; 17] = [1, 0, 0, 0, 0, 0, 0, 0, 1, 0, 0, 0, 0, 0, 0, 0, 10];
@@ -45,31 +49,24 @@ fn each_write_has_its_number(rt: HostRuntime) -> Result<(), Fail> {
 }
 
 #[test]
-fn changed_block_ends_the_run(rt: HostRuntime) -> Result<(), Fail> {
+fn a_block_that_fits_is_taken_for_what_was_written(rt: HostRuntime) -> Result<(), Fail> {
     let a = rt.alloc();
-    let cases = [
-        (
-            8,
-            Case {
-                answers: "= created\n! tampered 1 1\n",
-                trace: "M 1 4 49\nW 1 0\nW 1 1\nW 1 2\nW 1 3\nM 2 4 49\nR 1 0\nR 1 1\n",
-                status: 4,
-                ..SESSION
-            },
-        ),
-        (
-            13,
-            Case {
-                answers: "= created\n! tampered 1 1\n",
-                trace: "M 1 4 49\nW 1 0\nW 1 1\nW 1 2\nW 1 3\nM 2 4 49\nR 1 0\nR 1 1\nR 1 2\nR 1 3\nR 1 0\nW 2 0\nR 1 1\n",
-                status: 4,
-                ..SESSION
-            },
-        ),
-    ];
-    for (turn, case) in &cases {
-        let mut store = TurningStore::new(MemStore::new(a), *turn);
-        serve(&rt, a, case, &mut store)?;
-    }
-    Ok(())
+    // in place of the dummy at place 1 of region 2, which was written sixth, at the first and only read after that
+    let mut store = ForgingStore::new(MemStore::new(a), 21, 6, ROW);
+    let case = Case {
+        text: COUNTED,
+        answers: "= created\n= inserted\n\"COUNT(*)\"\n\"2\"\n= 1 rows\n",
+        trace: TRACE,
+        status: 0,
+    };
+    serve(&rt, a, &case, &mut store)?;
+    // what fits and is no row ends the run at its place
+    let mut store = ForgingStore::new(MemStore::new(a), 21, 6, [2; 17]);
+    let case = Case {
+        text: COUNTED,
+        answers: "= created\n= inserted\n! tampered 2 1\n",
+        trace: "M 1 4 49\nW 1 0\nW 1 1\nW 1 2\nW 1 3\nM 2 4 49\nR 1 0\nR 1 1\nR 1 2\nR 1 3\nR 1 0\nW 2 0\nR 1 1\nW 2 1\nR 1 2\nW 2 2\nR 1 3\nW 2 3\nD 1\nR 2 0\nR 2 1\n",
+        status: 4,
+    };
+    serve(&rt, a, &case, &mut store)
 }

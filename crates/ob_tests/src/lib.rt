@@ -4,14 +4,14 @@
 #[cfg(test)]
 mod blocks;
 #[cfg(test)]
-mod failing;
-#[cfg(test)]
 mod faults;
 #[cfg(test)]
+mod forging;
+#[cfg(test)]
 mod keeping;
+#[cfg(test)]
+mod meddled;
 #[cfg(test)]
 mod rows;
 #[cfg(test)]
 mod session;
-#[cfg(test)]
-mod turning;

@@ -66,7 +66,7 @@ fn prints(
     let mut input = MemSource::new(bytes, Vec::new(alloc));
     let mut out = MemSink::new(alloc, 1024, Vec::new(alloc))?;
     let mut trace = MemSink::new(alloc, 1024, Vec::new(alloc))?;
-    let report = meddle_top(alloc, words, &mut input, &mut out, &mut trace);
+    let (report, _) = meddle_top(alloc, words, &mut input, &mut out, &mut trace);
     assert_eq!(rt; out.bytes(), printed.as_bytes());
     assert_eq!(rt; trace.bytes(), b"".as_slice());
     Ok(report.status)

@@ -1,4 +1,5 @@
-//! Serves the statements of standard input over a store in memory. The exit status tells how that ended.
+//! Serves the statements of standard input over a store in memory, which others change as `--meddle` says. The exit
+//! status tells how that ended.
 #![tactic(auto)]
 
 use ob_io::{StdSink, StdSource};
@@ -28,6 +29,6 @@ fn main(rt: HostRuntime) -> ExitCode {
     let mut input = StdSource::new(rt.reader());
     let mut out = StdSink::new(io::writer(&stdout));
     let mut trace = StdSink::new(io::writer(&stderr));
-    let report = meddle_top(rt.alloc(), &words, &mut input, &mut out, &mut trace);
+    let (report, _) = meddle_top(rt.alloc(), &words, &mut input, &mut out, &mut trace);
     ExitCode::from(report.status)
 }

@@ -1,0 +1,55 @@
+-- Rows were open where blocks were read or written.
+use Rattle.std.proofs.Common.{◌≡◌, ◌≤◌, ◌++◌, ◌||◌, ℕ, Bool, true, false, IsTrue, List, [], ◌∷◌, Ok, Err, Result, inl, inr, sym, ◌∙◌, ap, subst, refl, arith}
+use Rattle.std.specs.List.{list_any}
+use Rattle.std.proofs.lemmas.List.Folds.{list_any-append}
+use Rattle.ob_base.specs.declared.access.Access.{Access}
+use Rattle.ob_base.specs.declared.refusal.Stop.{Stop}
+use Rattle.ob_exec.specs.Opening.{is_of_rows, Opens}
+use Rattle.ob_shell.specs.Running.{LastPart}
+use Rattle.ob_shell.specs.Steps.{Machine, Answer, Step, Steps}
+use Rattle.ob_vault.specs.State.{RevState}
+
+-- where a block was read or written, at least one row was open
+abbrev pub IsUsed : List Access → ℕ → Type 0
+IsUsed asked high = IsTrue (list_any is_of_rows asked) → 1 ≤ high
+
+either : (a b : Bool) (old new : ℕ) → old ≤ new → (IsTrue a → 1 ≤ old) → (IsTrue b → 1 ≤ new) → IsTrue (a || b) → 1 ≤ new
+either true b old new kept used some any = let least = used refl in omega (arith, least, kept)
+either false b old new kept used some any = some any
+
+after : (s t part : List Access) (old new : ℕ) → t ≡ s ++ part → Opens part old new → IsUsed s old → IsUsed t new
+after s t part old new asked opens used any =
+    either (list_any is_of_rows s) (list_any is_of_rows part) old new opens.kept used opens.some
+    (subst (λ (b : Bool). IsTrue b) (ap (list_any is_of_rows) asked ∙ list_any-append is_of_rows s part) any)
+
+module _ {R : Type 0} (state : R → RevState) where
+  abbrev pub Used : Machine R → Type 0
+  Used m = IsUsed m.store.asked m.engine.room.high
+
+  same : (m0 m1 : Machine R) → m1 ≡ m0 → Used m0 → Used m1
+  same m0 m1 is used = subst (λ (m : Machine R). Used m) (sym is) used
+
+  step_opens : (m0 m1 : Machine R) (text : List ℕ) (answer : Answer) → Step state m0 m1 text answer → Used m0 → Used m1
+  step_opens m0 m1 text answer step used = elim step.done [
+    | inl bad ↦ same m0 m1 bad.same used
+    | inr did ↦ after _ _ _ _ _ did.ran.asked did.ran.opened used
+  ]
+
+  steps_open : (m0 m2 : Machine R) (texts : List (List ℕ)) (answers : List Answer) → Steps state m0 m2 texts answers → Used m0 → Used m2
+  unfolding Steps
+  steps_open m0 m2 [] answers steps used = same m0 m2 steps.0 used
+  steps_open m0 m2 (text ∷ texts) answers steps used = steps_open steps.0 m2 texts steps.2 steps.5 (step_opens m0 steps.0 text steps.1 steps.4 used)
+
+  last_opens : (m1 m2 : Machine R) (more : List (List ℕ)) (part : List ℕ) (result : Result Bool Stop) → LastPart state m1 m2 more part result → Used m1 → Used m2
+  last_opens m1 m2 more part (Ok flag) rests used = same m1 m2 rests.machine used
+  last_opens m1 m2 [] part (Err stop) rests used = same m1 m2 rests.rests.machine used
+  last_opens m1 m2 (text ∷ more) part (Err stop) (inl rests) used = same m1 m2 rests.rests.machine used
+  last_opens m1 m2 (text ∷ more) part (Err stop) (inr (inl cut)) used = after _ _ _ _ _ cut.ran.asked cut.ran.opened used
+  last_opens m1 m2 (text ∷ more) part (Err stop) (inr (inr done)) used = step_opens m1 m2 text done.answer done.step used
+
+  -- of the texts that were served, and what was done after them
+  pub session_opens : (m0 m1 m2 : Machine R) (texts more : List (List ℕ)) (answers : List Answer) (part : List ℕ) (result : Result Bool Stop)
+      → m0.store.asked ≡ [] → Steps state m0 m1 texts answers → LastPart state m1 m2 more part result → Used m2
+  session_opens m0 m1 m2 texts more answers part result none steps last =
+      last_opens m1 m2 more part result last (steps_open m0 m1 texts answers steps
+      (λ any. let some : IsTrue (list_any is_of_rows []) = subst (λ (asked : List Access). IsTrue (list_any is_of_rows asked)) none any in absurd (cc some)))

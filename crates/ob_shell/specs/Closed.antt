@@ -1,0 +1,26 @@
+-- The last line of a run.
+use Rattle.std.specs.Prelude.{ℕ, ◌≡◌, ◌≤◌, List, [], Option}
+use Rattle.ob_base.specs.Counts.{Rises}
+use Rattle.ob_base.specs.declared.refusal.Stop.TheVariants.{NoMemory}
+use Rattle.ob_print.specs.Cuts.{Cut}
+use Rattle.ob_shell.specs.declared.top.Ending.{Ending}
+use Rattle.ob_shell.specs.declared.top.Ending.TheVariants.{Usage, Ran}
+use Rattle.ob_shell.specs.declared.words.WordsErr.{WordsErr}
+use Rattle.ob_shell.specs.declared.words.WordsErr.TheVariants as Words
+use Rattle.std.specs.Prelude.{Err}
+
+-- nothing more was written, and no call failed
+pub record Unwritten (written0 written1 : Option (List ℕ)) (faults0 faults1 : ℕ) : Type 0 where
+  pub written : written1 ≡ written0
+  pub faults : faults1 ≡ faults0
+
+-- the line was written, or cut by a fault
+pub record LineWritten (line : List ℕ) (written0 written1 : Option (List ℕ)) (faults0 faults1 : ℕ) : Type 0 where
+  pub cut : Cut written0 written1 (Rises faults0 faults1) line
+  pub later : faults0 ≤ faults1
+  pub empty : line ≡ [] → faults1 ≡ faults0
+
+-- how a run ends whose words were not read
+abbrev pub refused_by : WordsErr → Ending
+refused_by Words.Usage = Usage
+refused_by Words.NoMemory = Ran (Err NoMemory)

@@ -1,0 +1,84 @@
+//! A store in memory whose holder has the keys: one read gives a block that was sealed for its place.
+ghost use Rattle.std.specs.Prelude.{◌≡◌, false, None, refl};
+ghost use Rattle.ob_store.specs.contracts.memory.MemStoreBlockStore.TheImpl.Laws.{starts_empty-law};
+
+use ob_base::{Access, Failed, NoMemory, StoreErr};
+use ob_seal::{At, Keys, seal};
+use ob_store::{BlockStore, MemStore};
+
+/// A row of two INT columns, as it is spelt.
+pub type Row = [u8; 17];
+
+#[derive(Drop)]
+pub struct ForgingStore {
+    inner: MemStore,
+    keys: Keys,
+    access: u64,
+    number: u64,
+    row: Row,
+}
+
+impl ForgingStore {
+    /// A store whose access of this number, counted from 1, if it is a read, gives this row, sealed under
+    /// a write number with the keys of a secret of zeros.
+    pub fn new(inner: MemStore, access: u64, number: u64, row: Row) -> ForgingStore
+        ensures { (⟦<ForgingStore as BlockStore>⟧.state result).asked ≡ (⟦<MemStore as BlockStore>⟧.state inner).asked }
+    {
+        ForgingStore {
+            inner,
+            keys: Keys::derive(&[0; 32]),
+            access,
+            number,
+            row,
+        }
+    }
+}
+
+impl BlockStore for ForgingStore {
+    ghost state = { λ s. record (⟦<MemStore as BlockStore>⟧.state s.inner) {
+      tells = false;
+      last = λ q x. None;
+      lie = None;
+    } };
+
+    ghost starts_empty = { λ s r none. starts_empty-law s.inner r none };
+
+    ghost starts_honest = { λ s none. refl };
+
+    fn room(&mut self, n: u64) -> Result<(), NoMemory> {
+        self.inner.room(n)
+    }
+
+    fn make(&mut self, region: u64, blocks: u32, len: u32) -> Result<(), StoreErr> {
+        self.inner.make(region, blocks, len)
+    }
+
+    fn read(&mut self, region: u64, place: u32, buf: &mut [u8]) -> Result<(), Failed> {
+        self.inner.read(region, place, buf)?;
+        if self.inner.count() == self.access && buf.len() == 49 {
+            let at = At {
+                region,
+                place,
+                number: self.number,
+            };
+            seal(&self.keys, at, &self.row, buf);
+        }
+        Ok(())
+    }
+
+    fn write(&mut self, region: u64, place: u32, block: &[u8]) -> Result<(), Failed> {
+        self.inner.write(region, place, block)
+    }
+
+    fn discard(&mut self, region: u64) -> Result<(), Failed> {
+        self.inner.discard(region)
+    }
+
+    fn count(&self) -> u64 {
+        self.inner.count()
+    }
+
+    fn nth(&self, i: u64) -> Access {
+        self.inner.nth(i)
+    }
+}
