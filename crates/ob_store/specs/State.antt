@@ -30,3 +30,5 @@ pub record StoreState : Type 0 where
   -- the block last written at a region's place
   pub last : ℕ → ℕ → Option (List ℕ)
   pub lie : Option Lie
+  -- the first access, counted from 1, before which others may do something, or which may fail; none where there is none
+  pub disturbed : Option ℕ

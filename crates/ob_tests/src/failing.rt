@@ -1,5 +1,5 @@
 //! A store in memory of which one read or discard fails.
-ghost use Rattle.std.specs.Prelude.{◌≡◌, ◌<◌, ◌≤◌, ◌⊎◌, ℕ, [], None, refl, length, slice_get, OnOk, OnErr};
+ghost use Rattle.std.specs.Prelude.{◌≡◌, ◌<◌, ◌≤◌, ◌⊎◌, ℕ, [], None, Some, refl, length, slice_get, OnOk, OnErr};
 ghost use Rattle.ob_store.specs.contracts.memory.MemStoreBlockStore.TheImpl.Laws.{starts_empty-law};
 
 use ob_base::{Access, Failed, NoMemory, StoreErr};
@@ -28,11 +28,17 @@ impl FailingStore {
 }
 
 impl BlockStore for FailingStore {
-    ghost state = { λ s. record (⟦<MemStore as BlockStore>⟧.state s.inner) { faults = s.faults; slips = s.slips } };
+    ghost state = { λ s. record (⟦<MemStore as BlockStore>⟧.state s.inner) {
+      faults = s.faults;
+      slips = s.slips;
+      disturbed = Some 0;
+    } };
 
     ghost starts_empty = { λ s r none. starts_empty-law s.inner r none };
 
     ghost starts_honest = { λ s none. refl };
+
+    ghost starts_steady = { λ s none before. absurd (omega before) };
 
     fn room(&mut self, n: u64) -> Result<(), NoMemory> {
         self.inner.room(n)

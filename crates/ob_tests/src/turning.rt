@@ -1,5 +1,5 @@
 //! A store in memory of which one read gives a block with a bit turned.
-ghost use Rattle.std.specs.Prelude.{◌≡◌, false, None, refl};
+ghost use Rattle.std.specs.Prelude.{◌≡◌, false, None, Some, refl};
 ghost use Rattle.ob_store.specs.contracts.memory.MemStoreBlockStore.TheImpl.Laws.{starts_empty-law};
 
 use ob_base::{Access, Failed, NoMemory, StoreErr};
@@ -25,11 +25,14 @@ impl BlockStore for TurningStore {
       tells = false;
       last = λ q x. None;
       lie = None;
+      disturbed = Some s.turn;
     } };
 
     ghost starts_empty = { λ s r none. starts_empty-law s.inner r none };
 
     ghost starts_honest = { λ s none. refl };
+
+    ghost starts_steady = { λ s none before. record { faults = refl; slips = refl; lie = refl } };
 
     fn room(&mut self, n: u64) -> Result<(), NoMemory> {
         self.inner.room(n)
