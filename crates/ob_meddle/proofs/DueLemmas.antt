@@ -1,12 +1,13 @@
 -- Changes that are due, were, or are not yet.
-use Rattle.std.proofs.Common.{◌≡◌, ℕ, zero, suc, ◌+◌, ◌≤◌, ◌==◌, Bool, true, false, List, [], ◌∷◌, ◌++◌, length, length-append, refl, ap, ◌∙◌, arith}
-use Rattle.std.specs.Prelude.{if◌then◌else◌}
+use Rattle.std.proofs.Common.{◌≡◌, ℕ, zero, suc, ◌+◌, ◌≤◌, ◌==◌, ◌<◌, Bool, true, false, List, [], ◌∷◌, ◌++◌, Option, Some, None, length, length-append, refl, ap, ◌∙◌, arith}
+use Rattle.std.specs.Prelude.{if◌then◌else◌, nat_lt}
+use Rattle.ob_store.specs.Calls.{IsBefore}
 use Rattle.ob_base.specs.declared.access.Access.{Access}
 use Rattle.ob_meddle.specs.declared.meddle.Act.{Act}
 use Rattle.ob_meddle.specs.declared.meddle.Act.TheVariants.{Fail, Flip, Copy, Older}
 use Rattle.ob_meddle.specs.declared.meddle.Meddle.{Meddle}
 use Rattle.ob_meddle.specs.Acts.{Rests, Stands, after_act, after_acts}
-use Rattle.ob_meddle.specs.Due.{is_fail, fails_at, failed_among, has_acted, are_later}
+use Rattle.ob_meddle.specs.Due.{is_fail, fails_at, failed_among, has_acted, are_later, or_first, first_of}
 
 pub more_asked : (asked : List Access) (a : Access) → length (asked ++ a ∷ []) ≡ suc (length asked)
 more_asked asked a = omega (arith, length-append asked (a ∷ []))
@@ -68,3 +69,19 @@ none_failed list (suc n) later =
     let fails = none_fails list (suc n) later in
     let before = none_failed list n (later_before list n (suc n) (omega arith) later) in
     (λ t. before t + (if fails t then 1 else 0))
+
+-- what is before the first change is before all of them
+before_both : (x : ℕ) (o : Option ℕ) (n : ℕ) → IsBefore (or_first x o) n → (n < x) × IsBefore o n
+before_both x None n before = (before, tt)
+before_both x (Some first) n before = go (nat_lt x first) refl before where
+  go : (b : Bool) → nat_lt x first ≡ b → n < (if b then x else first) → (n < x) × (n < first)
+  go true less before = (before, grind arith)
+  go false less before = (grind arith, before)
+
+pub all_later : (list : List Meddle) (n : ℕ) → IsBefore (first_of list) n → are_later list n ≡ true
+all_later [] n before = refl
+all_later (x ∷ list) n before =
+    let both = before_both x.before (first_of list) n before in
+    let rest = all_later list n both.1 in
+    let here = both.0 in
+    grind (arith, here, rest)

@@ -1,5 +1,5 @@
 -- Which changes are due at an access, or were at an earlier one.
-use Rattle.std.specs.Prelude.{ℕ, zero, suc, ◌+◌, ◌==◌, ◌&&◌, not, Bool, true, false, nat_lt, nat_le, List, if◌then◌else◌}
+use Rattle.std.specs.Prelude.{ℕ, zero, suc, ◌+◌, ◌==◌, ◌&&◌, not, Bool, true, false, nat_lt, nat_le, List, [], ◌∷◌, Option, Some, None, if◌then◌else◌}
 use Rattle.std.specs.List.{list_any, list_all}
 use Rattle.ob_base.specs.declared.access.Access.{Access}
 use Rattle.ob_base.specs.declared.access.Access.TheVariants.{Make, Read, Write, Discard}
@@ -29,6 +29,16 @@ has_acted list count = list_any (λ m. not (is_fail m.act) && (nat_lt 0 m.before
 -- whether all changes come after so many accesses
 abbrev pub are_later : List Meddle → ℕ → Bool
 are_later list count = list_all (λ m. nat_lt count m.before) list
+
+-- the first of them
+abbrev pub or_first : ℕ → Option ℕ → Option ℕ
+or_first n None = Some n
+or_first n (Some first) = Some (if nat_lt n first then n else first)
+
+-- the access that the first change comes before
+abbrev pub first_of : List Meddle → Option ℕ
+first_of [] = None
+first_of (x ∷ list) = or_first x.before (first_of list)
 
 -- whether a change copies from this region
 abbrev pub copies_from : ℕ → Act → Bool
