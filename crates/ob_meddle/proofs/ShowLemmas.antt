@@ -1,16 +1,16 @@
 -- Nothing shows before the first change.
-use Rattle.std.proofs.Common.{◌≡◌, ◌∙◌, ◌+◌, ◌≤◌, ℕ, true, false, refl, ap, List, [], ◌∷◌, ◌++◌, Option, Some, None, length, take, arith}
+use Rattle.std.proofs.Common.{subst, ◌≡◌, ◌∙◌, ◌+◌, ◌≤◌, ℕ, true, false, refl, ap, List, [], ◌∷◌, ◌++◌, Option, Some, None, length, take, arith}
 use Rattle.std.proofs.lemmas.List.{take-append-le}
 use Rattle.std.specs.Option.{ForSome}
 use Rattle.ob_base.specs.declared.access.Access.{Access}
 use Rattle.ob_store.specs.State.{Lie, Shape, StoreState}
-use Rattle.ob_store.specs.Calls.{Asks, IsQuiet}
+use Rattle.ob_store.specs.Calls.{Asks, IsBefore, IsQuiet, IsSteady}
 use Rattle.ob_store.specs.Logs.{asked_of}
 use Rattle.ob_meddle.specs.declared.caught.Caught.{Caught}
 use Rattle.ob_meddle.specs.declared.meddle.Meddle.{Meddle}
 use Rattle.ob_meddle.specs.declared.store.MeddledStore.{MeddledStore}
 use Rattle.ob_meddle.specs.Caught.{lie_of}
-use Rattle.ob_meddle.specs.Due.{has_acted, are_later, first_of}
+use Rattle.ob_meddle.specs.Due.{failed_among, has_acted, are_later, first_of}
 use Rattle.ob_meddle.specs.Fresh.{IsEarly}
 use Rattle.ob_meddle.specs.Shows.{state_of}
 use Rattle.ob_meddle.proofs.DueLemmas.{none_acted, none_failed, all_later}
@@ -19,24 +19,21 @@ pub no_lie : (list : List Meddle) (asked : List Access) (caught : Option Caught)
 no_lie list asked None caused none = refl
 no_lie list asked (Some c) caused none = absurd (cc (caused c refl, none))
 
--- the state of a store but for its regions, and for the read that was caught
-abbrev shown : MeddledStore → Option Caught → (ℕ → Option Shape) → (ℕ → ℕ → Option (List ℕ)) → StoreState
-shown m caught live last = record (state_of m) { live = live; last = last; lie = lie_of caught (asked_of m.log) }
-
-abbrev Caused : MeddledStore → Option Caught → Type 0
-Caused m caught = ForSome caught (λ c. has_acted m.list (length (asked_of m.log)) ≡ true)
-
-shown_quiet : (m : MeddledStore) (caught : Option Caught) (live : ℕ → Option Shape) (last : ℕ → ℕ → Option (List ℕ)) → Caused m caught → are_later m.list (length (asked_of m.log)) ≡ true → IsQuiet (shown m caught live last)
-shown_quiet m caught live last caused later =
-    let none = none_failed m.list (length (asked_of m.log)) later in
+-- where every change is still to come
+pub quiet_as : (s : StoreState) (list : List Meddle) (caught : Option Caught) → s.faults + s.slips ≡ failed_among list (length s.asked) → s.lie ≡ lie_of caught s.asked
+    → ForSome caught (λ c. has_acted list (length s.asked) ≡ true) → are_later list (length s.asked) ≡ true → IsQuiet s
+quiet_as s list caught counted lie caused later =
+    let none = none_failed list (length s.asked) later in
     record {
-      faults = omega (arith, none, m.counted);
-      slips = omega (arith, none, m.counted);
-      lie = no_lie m.list (asked_of m.log) caught caused (none_acted m.list (length (asked_of m.log)) later);
+      faults = omega (arith, none, counted);
+      slips = omega (arith, none, counted);
+      lie = lie ∙ no_lie list s.asked caught caused (none_acted list (length s.asked) later);
     }
 
-pub quiet_of : (m : MeddledStore) → are_later m.list (length (asked_of m.log)) ≡ true → IsQuiet (state_of m)
-quiet_of m later = shown_quiet m m.caught (state_of m).live (state_of m).last m.caused later
+pub steady_as : (s : StoreState) (list : List Meddle) (caught : Option Caught) → s.disturbed ≡ first_of list → s.faults + s.slips ≡ failed_among list (length s.asked) → s.lie ≡ lie_of caught s.asked
+    → ForSome caught (λ c. has_acted list (length s.asked) ≡ true) → IsSteady s
+steady_as s list caught names counted lie caused before =
+    quiet_as s list caught counted lie caused (all_later list (length s.asked) (subst (λ (first : Option ℕ). IsBefore first (length s.asked)) names before))
 
 -- a read that was caught stays as it was
 lie_stays : (caught : Option Caught) (old more : List Access) (a : Access) → more ≡ old ++ a ∷ [] → IsEarly caught old → lie_of caught more ≡ lie_of caught old
@@ -44,6 +41,13 @@ lie_stays None old more a e early = refl
 lie_stays (Some c) old more a e early =
     let less = early c refl in
     ap (λ (before : List Access). Some (record { region = c.region; place = c.place; bytes = take c.len c.bytes; before = before })) (ap (λ (l : List Access). take c.count l) e ∙ take-append-le c.count old (a ∷ []) (omega (arith, less)))
+
+-- the state of a store but for its regions, and for the read that was caught
+abbrev shown : MeddledStore → Option Caught → (ℕ → Option Shape) → (ℕ → ℕ → Option (List ℕ)) → StoreState
+shown m caught live last = record (state_of m) { live = live; last = last; lie = lie_of caught (asked_of m.log) }
+
+abbrev Caused : MeddledStore → Option Caught → Type 0
+Caused m caught = ForSome caught (λ c. has_acted m.list (length (asked_of m.log)) ≡ true)
 
 -- one access more was asked, and perhaps it failed
 module _ (a : Access) (old new : MeddledStore) (faults slips : ℕ) (live : ℕ → Option Shape) (last : ℕ → ℕ → Option (List ℕ)) (asked : asked_of new.log ≡ asked_of old.log ++ a ∷ []) (spare : old.log.spare ≤ new.log.spare + 1)
@@ -57,7 +61,7 @@ module _ (a : Access) (old new : MeddledStore) (faults slips : ℕ) (live : ℕ 
     tells = refl;
     lie = stays;
     disturbed = ap first_of list;
-    steady = λ before. shown_quiet new caught live last caused (all_later new.list (length (asked_of new.log)) before);
+    steady = steady_as (shown new caught live last) new.list caught refl new.counted refl caused;
   }
 
   -- no read was caught

@@ -39,7 +39,8 @@ pub struct MeddledStore {
 }
 
 impl MeddledStore {
-    ghost use Rattle.ob_meddle.specs.Shows.{list_of};
+    ghost use Rattle.ob_store.specs.Calls.{IsSteady};
+    ghost use Rattle.ob_meddle.specs.Shows.{list_of, state_of};
 
     /// A store of which nothing was asked, in which others make these changes. It takes its memory of
     /// `alloc`.
@@ -62,6 +63,7 @@ impl MeddledStore {
     fn begin(&mut self, access: Access) -> Result<(), Failed>
         requires { 1 ≤ self.old.log.spare }
         ensures asked { asked_of self.new.log ≡ asked_of self.old.log ++ access ∷ [] }
+        ensures steady { IsSteady (state_of self.new) }
         ensures spare { self.old.log.spare ≤ self.new.log.spare + 1 }
         ensures list { self.new.list ≡ self.old.list }
         ensures caught { self.new.caught ≡ self.old.caught }

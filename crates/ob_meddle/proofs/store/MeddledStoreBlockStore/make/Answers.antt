@@ -19,9 +19,6 @@ invariant_of-self c =
       caused = mid.caused;
     }
 
-pub returns-in_err-begin-clause-asks : goal.returns-in_err-begin-clause-asks
-returns-in_err-begin-clause-asks c = let begun = c.begin.ensures in asks_same _ c.args.self.now c.begin.new.self _ _ _ _ begun.asked begun.spare begun.list begun.faults begun.slips begun.caught
-
 pub returns-in-Err-clause-asks : goal.returns-in-Err-clause-asks
 returns-in-Err-clause-asks c = let begun = c.begin.ensures in asks_same _ c.args.self.now c.begin.new.self _ _ _ _ begun.asked begun.spare begun.list begun.faults begun.slips begun.caught
 

@@ -2,9 +2,6 @@ use Rattle.std.proofs.Common.{rules, Some}
 use Rattle.ob_meddle.proofs.ShowLemmas.{asks_same, asks_caught}
 use Rattle.ob_meddle.proofs.store.MeddledStoreBlockStore.read.Goals as goal
 
-pub returns-in_err-begin-clause-asks : goal.returns-in_err-begin-clause-asks
-returns-in_err-begin-clause-asks c = let begun = c.begin.ensures in asks_same _ c.args.self.now c.begin.new.self _ _ _ _ begun.asked begun.spare begun.list begun.faults begun.slips begun.caught
-
 pub returns-then-is_none-clause-asks : goal.returns-then-is_none-clause-asks
 returns-then-is_none-clause-asks c = let begun = c.begin.ensures in asks_caught _ c.args.self.now c.begin.new.self _ _ _ _ begun.asked begun.spare begun.list begun.faults begun.slips (Some c.new.result) (search rules) (search rules)
 
