@@ -12,7 +12,7 @@ use Rattle.ob_base.specs.Accesses.{writes, makes, number_of, AllBelow}
 use Rattle.ob_base.proofs.AccessLemmas.{makes-append}
 use Rattle.ob_store.specs.State.{StoreState}
 use Rattle.ob_store.specs.Calls.{Rests}
-use Rattle.ob_store.proofs.Steps.{began_take, later_refl}
+use Rattle.ob_store.proofs.Steps.{began_take, later_refl, later_rests}
 use Rattle.ob_vault.specs.State.{RevState, VaultState, World}
 use Rattle.ob_vault.specs.Tied.{Ready, Calm}
 use Rattle.ob_vault.specs.Calls.{Went}
@@ -54,7 +54,7 @@ went_room some v s t ready rests = record {
       below = ready.below;
       fits = ready.fits;
     };
-    later = record { faults = omega (arith, rests.faults); tells = rests.tells; lie = λ lie is. rests.lie ∙ is };
+    later = later_rests s t rests;
     keys = refl;
     apart = record { live = λ q off. refl; number = λ q x off. refl; turn = λ q off. refl; kept = λ q off. rests.keeps.live q; last = λ q x off. rests.keeps.last q x };
   };

@@ -1,10 +1,11 @@
 -- Blocks stay sealed while a statement runs.
-use Rattle.std.proofs.Common.{◌≡◌, ℕ, Bool, List, Some, sym, ◌∙◌, subst, arith}
+use Rattle.std.proofs.Common.{◌≡◌, ℕ, Bool, List, Some, sym, ◌∙◌, subst}
 use Rattle.ob_base.specs.declared.access.Access.{Access}
 use Rattle.ob_base.specs.Accesses.{nth_write}
 use Rattle.ob_base.specs.Schemas.{Columns}
 use Rattle.ob_store.specs.Calls.{Rests}
 use Rattle.ob_store.specs.State.{StoreState}
+use Rattle.ob_store.proofs.Steps.{later_rests}
 use Rattle.ob_vault.specs.Calls.{Seals}
 use Rattle.ob_vault.specs.State.{RevState, VaultState, World}
 use Rattle.ob_vault.proofs.Runs.{seals_join}
@@ -40,7 +41,7 @@ module _ {R : Type 0} (state : R → RevState) (old : Engine R) (s s1 : StoreSta
       → KeepsSealed state old s new t
   keeps_pass agrees new t w same pass good accepts =
       subst (λ (x : World). Seals good (world_of state old s) x) (sym same)
-      (seals_join good _ _ w (record { faults = omega (arith, rests.faults); tells = rests.tells; lie = λ lie is. rests.lie ∙ is }) (seals_rests good _ s s1 rests)
+      (seals_join good _ _ w (later_rests s s1 rests) (seals_rests good _ s s1 rests)
       (pass good (λ columns region. subst (λ (k : ℕ). Accepts good k columns region) (sym agrees.room.pack) (accepts columns region))))
 
 -- nothing was asked

@@ -1,12 +1,14 @@
 -- Changes that are due, were, or are not yet.
-use Rattle.std.proofs.Common.{◌≡◌, ℕ, zero, suc, ◌+◌, ◌≤◌, ◌==◌, Bool, true, false, List, [], ◌∷◌, ◌++◌, length, length-append, refl, ap, ◌∙◌, arith}
-use Rattle.std.specs.Prelude.{if◌then◌else◌}
+use Rattle.std.proofs.Common.{◌≡◌, ℕ, zero, suc, ◌+◌, ◌≤◌, ◌==◌, ◌<◌, Bool, true, false, List, [], ◌∷◌, ◌++◌, Option, Some, None, length, length-append, refl, sym, ap, ◌∙◌, arith}
+use Rattle.std.specs.Prelude.{if◌then◌else◌, nat_lt}
+use Rattle.std.proofs.lemmas.List.Folds.{list_all-map}
+use Rattle.ob_store.specs.Calls.{IsBefore}
 use Rattle.ob_base.specs.declared.access.Access.{Access}
 use Rattle.ob_meddle.specs.declared.meddle.Act.{Act}
 use Rattle.ob_meddle.specs.declared.meddle.Act.TheVariants.{Fail, Flip, Copy, Older}
 use Rattle.ob_meddle.specs.declared.meddle.Meddle.{Meddle}
 use Rattle.ob_meddle.specs.Acts.{Rests, Stands, after_act, after_acts}
-use Rattle.ob_meddle.specs.Due.{is_fail, fails_at, failed_among, has_acted, are_later}
+use Rattle.ob_meddle.specs.Due.{is_fail, fails_at, failed_among, has_acted, are_later, disturbance_of, disturbances}
 
 pub more_asked : (asked : List Access) (a : Access) → length (asked ++ a ∷ []) ≡ suc (length asked)
 more_asked asked a = omega (arith, length-append asked (a ∷ []))
@@ -68,3 +70,7 @@ none_failed list (suc n) later =
     let fails = none_fails list (suc n) later in
     let before = none_failed list n (later_before list n (suc n) (omega arith) later) in
     (λ t. before t + (if fails t then 1 else 0))
+
+-- the same of what the store says of them
+pub all_later : (list : List Meddle) (n : ℕ) → IsBefore (disturbances list) n → are_later list n ≡ true
+all_later list n before = sym (list_all-map (λ d. nat_lt n d.before) disturbance_of list) ∙ before

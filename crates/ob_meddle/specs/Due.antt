@@ -1,8 +1,9 @@
 -- Which changes are due at an access, or were at an earlier one.
-use Rattle.std.specs.Prelude.{ℕ, zero, suc, ◌+◌, ◌==◌, ◌&&◌, not, Bool, true, false, nat_lt, nat_le, List, if◌then◌else◌}
+use Rattle.std.specs.Prelude.{ℕ, zero, suc, ◌+◌, ◌==◌, ◌&&◌, not, Bool, true, false, nat_lt, nat_le, map, List, Option, Some, if◌then◌else◌}
 use Rattle.std.specs.List.{list_any, list_all}
 use Rattle.ob_base.specs.declared.access.Access.{Access}
 use Rattle.ob_base.specs.declared.access.Access.TheVariants.{Make, Read, Write, Discard}
+use Rattle.ob_store.specs.State.{Disturbance}
 use Rattle.ob_meddle.specs.declared.meddle.Act.{Act}
 use Rattle.ob_meddle.specs.declared.meddle.Act.TheVariants.{Fail, Flip, Copy, Older}
 use Rattle.ob_meddle.specs.declared.meddle.Meddle.{Meddle}
@@ -29,6 +30,13 @@ has_acted list count = list_any (λ m. not (is_fail m.act) && (nat_lt 0 m.before
 -- whether all changes come after so many accesses
 abbrev pub are_later : List Meddle → ℕ → Bool
 are_later list count = list_all (λ m. nat_lt count m.before) list
+
+-- what a store says of them
+abbrev pub disturbance_of : Meddle → Disturbance
+disturbance_of m = record { before = m.before; fails = is_fail m.act }
+
+abbrev pub disturbances : List Meddle → Option (List Disturbance)
+disturbances list = Some (map disturbance_of list)
 
 -- whether a change copies from this region
 abbrev pub copies_from : ℕ → Act → Bool

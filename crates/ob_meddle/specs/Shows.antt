@@ -1,13 +1,14 @@
 -- When the changes of a store show.
 use Rattle.std.specs.Prelude.{◌≡◌, ◌+◌, Bool, true, false, List, None, length}
 use Rattle.ob_store.specs.State.{StoreState}
+use Rattle.ob_store.specs.Calls.{IsQuiet}
 use Rattle.ob_meddle.specs.declared.meddle.Meddle.{Meddle}
 use Rattle.ob_meddle.specs.declared.store.MeddledStore.{MeddledStore}
 use Rattle.ob_store.specs.Logs.{asked_of}
 use Rattle.ob_meddle.specs.Acts.{Stands, rests_of, stands_of, after_acts}
 use Rattle.ob_meddle.specs.Regions.{shape_at, last_at}
 use Rattle.ob_meddle.specs.Caught.{lie_of}
-use Rattle.ob_meddle.specs.Due.{fails_at, failed_among, has_acted, are_later}
+use Rattle.ob_meddle.specs.Due.{fails_at, failed_among, has_acted, are_later, disturbances}
 
 -- the changes that a store was made with
 abbrev pub list_of : MeddledStore → List Meddle
@@ -23,6 +24,7 @@ state_of m = record {
   tells = true;
   last = λ q x. last_at (rests_of m.regions q) x;
   lie = lie_of m.caught (asked_of m.log);
+  disturbed = disturbances m.list;
 }
 
 -- what stands at a region's place, whoever put it there
@@ -37,12 +39,6 @@ standing_next m = after_acts (rests_of m.regions) m.list (length (asked_of m.log
 abbrev pub fails_next : MeddledStore → Bool
 fails_next m = fails_at m.list (length (asked_of m.log) + 1)
 
--- no call failed, and no read gave anything but what was written last
-pub record IsQuiet (s : StoreState) : Type 0 where
-  pub faults : s.faults ≡ 0
-  pub slips : s.slips ≡ 0
-  pub lie : s.lie ≡ None
-
 pub record Shows (list : List Meddle) (s : StoreState) : Type 0 where
   -- as many calls failed as there are accesses so far that were to fail
   pub counted : s.faults + s.slips ≡ failed_among list (length s.asked)
@@ -50,3 +46,5 @@ pub record Shows (list : List Meddle) (s : StoreState) : Type 0 where
   pub caused : has_acted list (length s.asked) ≡ false → s.lie ≡ None
   -- nothing shows before the first change
   pub quiet : are_later list (length s.asked) ≡ true → IsQuiet s
+  -- it says before which accesses they come, and which of them fail
+  pub disturbed : s.disturbed ≡ disturbances list

@@ -7,7 +7,7 @@ ghost use Rattle.ob_meddle.specs.Acts.{rests_of, stands_of, after_acts};
 ghost use Rattle.ob_meddle.specs.Regions.{shape_at, last_at};
 ghost use Rattle.ob_meddle.specs.Due.{fails_at, failed_among, has_acted, is_discard, is_source};
 ghost use Rattle.ob_meddle.specs.Caught.{lie_of};
-ghost use Rattle.ob_meddle.specs.Fresh.{IsFresh, IsHonest, IsEarly, fresh_live, honest_start};
+ghost use Rattle.ob_meddle.specs.Fresh.{IsFresh, IsHonest, IsEarly, fresh_live, honest_start, none_failed_yet};
 
 use crate::acts::do_acts;
 use crate::caught::Caught;
@@ -39,7 +39,8 @@ pub struct MeddledStore {
 }
 
 impl MeddledStore {
-    ghost use Rattle.ob_meddle.specs.Shows.{list_of};
+    ghost use Rattle.ob_store.specs.Calls.{IsSteady};
+    ghost use Rattle.ob_meddle.specs.Shows.{list_of, state_of};
 
     /// A store of which nothing was asked, in which others make these changes. It takes its memory of
     /// `alloc`.
@@ -62,6 +63,7 @@ impl MeddledStore {
     fn begin(&mut self, access: Access) -> Result<(), Failed>
         requires { 1 ≤ self.old.log.spare }
         ensures asked { asked_of self.new.log ≡ asked_of self.old.log ++ access ∷ [] }
+        ensures steady { IsSteady (state_of self.new) }
         ensures spare { self.old.log.spare ≤ self.new.log.spare + 1 }
         ensures list { self.new.list ≡ self.old.list }
         ensures caught { self.new.caught ≡ self.old.caught }
@@ -97,6 +99,12 @@ impl BlockStore for MeddledStore {
     ghost starts_empty = { λ m q none. fresh_live (asked_of m.log) m.regions m.fresh none q };
 
     ghost starts_honest = { λ m none. honest_start m.caught (asked_of m.log) m.early none };
+
+    ghost starts_steady = { λ m none before. record {
+      faults = (none_failed_yet m.list (asked_of m.log) m.faults m.slips m.counted none).0;
+      slips = (none_failed_yet m.list (asked_of m.log) m.faults m.slips m.counted none).1;
+      lie = honest_start m.caught (asked_of m.log) m.early none;
+    } };
 
     fn room(&mut self, n: u64) -> Result<(), NoMemory>
         ensures rests { Rests (state_of self.old) (state_of self.new) }

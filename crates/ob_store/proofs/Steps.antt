@@ -6,20 +6,22 @@ use Rattle.ob_base.specs.declared.access.Access.{Access}
 use Rattle.ob_base.specs.declared.fault.Failed.{Failed}
 use Rattle.ob_base.specs.declared.fault.StoreErr.{StoreErr}
 use Rattle.ob_base.specs.declared.fault.StoreErr.TheVariants as StoreErrs
-use Rattle.ob_store.specs.State.{Lie, StoreState}
+use Rattle.ob_store.specs.State.{Lie, Disturbance, StoreState}
 use Rattle.ob_base.specs.Counts.{Rises}
-use Rattle.ob_store.specs.Calls.{IsPlace, IsRegion, CountsMakeFault, Asks, Keeps, OnlyAt, OnlyRegion, ReadGives}
+use Rattle.ob_store.specs.Calls.{IsPlace, IsRegion, CountsMakeFault, Asks, Keeps, OnlyAt, OnlyRegion, ReadGives, Rests, IsBefore}
 use Rattle.ob_base.specs.Lists.{each}
 use Rattle.ob_store.specs.Runs.{Did, Began, Later, FailsWithin, SameRegions}
 
 pub later_refl : (s : StoreState) → Later s s
-later_refl s = record { faults = omega arith; tells = refl; lie = λ lie is. is }
+later_refl s = record { faults = omega arith; tells = refl; lie = λ lie is. is; disturbed = refl; steady = λ steady. steady }
 
 pub later_trans : (old mid new : StoreState) → Later old mid → Later mid new → Later old new
 later_trans old mid new first second = record {
   faults = omega (arith, first.faults, second.faults);
   tells = second.tells ∙ first.tells;
   lie = λ lie is. second.lie lie (first.lie lie is);
+  disturbed = second.disturbed ∙ first.disturbed;
+  steady = λ steady. second.steady (first.steady steady);
 }
 
 -- one call
@@ -28,6 +30,22 @@ later_call access old new asks = record {
   faults = asks.faults;
   tells = asks.tells;
   lie = asks.lie;
+  disturbed = asks.disturbed;
+  steady = λ steady. asks.steady;
+}
+
+-- room is made
+pub later_rests : (old new : StoreState) → Rests old new → Later old new
+later_rests old new rests = record {
+  faults = omega (arith, rests.faults);
+  tells = rests.tells;
+  lie = λ lie is. rests.lie ∙ is;
+  disturbed = rests.disturbed;
+  steady = λ steady before. let quiet = steady (subst (λ (o : Option (List Disturbance)). IsBefore o (length old.asked)) rests.disturbed (subst (λ (l : List Access). IsBefore new.disturbed (length l)) rests.asked before)) in record {
+    faults = rests.faults ∙ quiet.faults;
+    slips = rests.slips ∙ quiet.slips;
+    lie = rests.lie ∙ quiet.lie;
+  };
 }
 
 -- no lie afterwards is none throughout

@@ -1,11 +1,12 @@
 -- What each call on a store does to its state.
-use Rattle.std.specs.Prelude.{◌≡◌, ◌≢◌, ◌⊎◌, ◌<◌, ◌≤◌, ◌+◌, ℕ, IsTrue, List, [], ◌∷◌, ◌++◌, Some, None, Result, Ok, Err}
+use Rattle.std.specs.Prelude.{◌≡◌, ◌≢◌, ◌⊎◌, ◌<◌, ◌≤◌, ◌+◌, ℕ, IsTrue, List, [], ◌∷◌, ◌++◌, length, nat_lt, true, Option, Some, None, Result, Ok, Err}
+use Rattle.std.specs.List.{list_all}
 use Rattle.ob_base.specs.Counts.{Rises}
 use Rattle.ob_base.specs.declared.access.Access.{Access}
 use Rattle.ob_base.specs.declared.fault.Failed.{Failed}
 use Rattle.ob_base.specs.declared.fault.StoreErr.{StoreErr}
 use Rattle.ob_base.specs.declared.fault.StoreErr.TheVariants as StoreErrs
-use Rattle.ob_store.specs.State.{Shape, Lie, StoreState}
+use Rattle.ob_store.specs.State.{Shape, Lie, Disturbance, StoreState}
 
 pub record IsLive (s : StoreState) (region : ℕ) : Type 0 where
   pub shape : Shape
@@ -25,6 +26,21 @@ pub record IsPlace (s : StoreState) (region place len : ℕ) : Type 0 where
 pub record IsRegion (region blocks len : ℕ) (s : StoreState) : Type 0 where
   pub live : s.live region ≡ Some (record { blocks = blocks; len = len })
 
+-- all of it comes only after so many accesses
+abbrev pub IsBefore : Option (List Disturbance) → ℕ → Type 0
+IsBefore None n = ⊥
+IsBefore (Some list) n = list_all (λ d. nat_lt n d.before) list ≡ true
+
+-- no call failed, and no read gave anything but what was written last
+pub record IsQuiet (s : StoreState) : Type 0 where
+  pub faults : s.faults ≡ 0
+  pub slips : s.slips ≡ 0
+  pub lie : s.lie ≡ None
+
+-- nothing shows before the first access that others disturb
+abbrev pub IsSteady : StoreState → Type 0
+IsSteady s = IsBefore s.disturbed (length s.asked) → IsQuiet s
+
 -- one access was asked, whatever was answered; a lie stays
 pub record Asks (access : Access) (old new : StoreState) : Type 0 where
   pub asked : new.asked ≡ old.asked ++ access ∷ []
@@ -33,6 +49,8 @@ pub record Asks (access : Access) (old new : StoreState) : Type 0 where
   pub slips : old.slips ≤ new.slips
   pub tells : new.tells ≡ old.tells
   pub lie : (lie : Lie) → old.lie ≡ Some lie → new.lie ≡ Some lie
+  pub disturbed : new.disturbed ≡ old.disturbed
+  pub steady : IsSteady new
 
 -- `Failed` comes only where the count rose, and any other answer leaves it
 abbrev pub CountsFault : {T : Type 0} → Result T Failed → StoreState → StoreState → Type 0
@@ -93,4 +111,5 @@ pub record Rests (old new : StoreState) : Type 0 where
   pub slips : new.slips ≡ old.slips
   pub tells : new.tells ≡ old.tells
   pub lie : new.lie ≡ old.lie
+  pub disturbed : new.disturbed ≡ old.disturbed
   pub keeps : Keeps old new

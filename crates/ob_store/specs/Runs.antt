@@ -2,6 +2,7 @@
 use Rattle.std.specs.Prelude.{◌≡◌, ◌≢◌, ◌≤◌, ℕ, List, ◌++◌, Some}
 use Rattle.ob_base.specs.declared.access.Access.{Access}
 use Rattle.ob_store.specs.State.{Lie, StoreState}
+use Rattle.ob_store.specs.Calls.{IsSteady}
 use Rattle.ob_base.specs.Counts.{Rises}
 
 -- all of the script was asked, and no call failed
@@ -21,6 +22,8 @@ pub record Later (old new : StoreState) : Type 0 where
   pub faults : old.faults ≤ new.faults
   pub tells : new.tells ≡ old.tells
   pub lie : (lie : Lie) → old.lie ≡ Some lie → new.lie ≡ Some lie
+  pub disturbed : new.disturbed ≡ old.disturbed
+  pub steady : IsSteady old → IsSteady new
 
 -- it failed within the script, where the store failed
 pub record FailsWithin (script : List Access) (old new : StoreState) : Type 0 where

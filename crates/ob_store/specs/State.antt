@@ -14,6 +14,11 @@ pub record Lie : Type 0 where
   pub bytes : List ℕ
   pub before : List Access
 
+-- what others do just before an access, counted from 1: they make it fail, or they change blocks
+pub record Disturbance : Type 0 where
+  pub before : ℕ
+  pub fails : Bool
+
 pub record StoreState : Type 0 where
   -- the accesses so far
   pub asked : List Access
@@ -30,3 +35,5 @@ pub record StoreState : Type 0 where
   -- the block last written at a region's place
   pub last : ℕ → ℕ → Option (List ℕ)
   pub lie : Option Lie
+  -- all that others do, where the store says so
+  pub disturbed : Option (List Disturbance)

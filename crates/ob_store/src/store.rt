@@ -1,7 +1,7 @@
 ghost use Rattle.std.specs.Prelude.{◌≡◌, ◌⊎◌, ◌<◌, ◌≤◌, ℕ, [], None, length, slice_get, OnOk, OnErr};
 ghost use Rattle.ob_store.specs.State.{StoreState};
 ghost use Rattle.ob_base.specs.Accesses.{highest};
-ghost use Rattle.ob_store.specs.Calls.{IsLive, IsPlace, Asks, CountsFault, CountsSlip, CountsMakeFault, Keeps, Makes, ReadGives, OnlyAt, Holds, MayHold, OnlyRegion, Rests};
+ghost use Rattle.ob_store.specs.Calls.{IsLive, IsPlace, Asks, CountsFault, CountsSlip, CountsMakeFault, Keeps, Makes, ReadGives, OnlyAt, Holds, MayHold, OnlyRegion, Rests, IsSteady};
 
 use ob_base::{Access, Failed, NoMemory, StoreErr};
 
@@ -10,7 +10,8 @@ use ob_base::{Access, Failed, NoMemory, StoreErr};
 ///
 /// Each `make`, `read`, `write` and `discard` is one access, which the store lists whatever it answers;
 /// `room` is none. A store that tells says what was last written at each place, and which read was the
-/// first that gave other bytes (the lie). `faults` counts the calls of `make`, `read` and `write` that
+/// first that gave other bytes (the lie). `disturbed` is what others do between its accesses, where it says
+/// so: before the first such access no call fails and no read lies. `faults` counts the calls of `make`, `read` and `write` that
 /// failed, and `slips` those of `discard`; a count that stands at the last value of a `u64` counts as
 /// risen. Only `room` and `make` take memory.
 pub trait BlockStore {
@@ -94,4 +95,7 @@ pub trait BlockStore {
 
     /// Nor was there a lie.
     ghost starts_honest: { (store : Self) → (state store).asked ≡ [] → (state store).lie ≡ None };
+
+    /// Nor had a call failed, where others may not disturb the first access.
+    ghost starts_steady: { (store : Self) → (state store).asked ≡ [] → IsSteady (state store) };
 }

@@ -39,11 +39,14 @@ impl BlockStore for ForgingStore {
       tells = false;
       last = λ q x. None;
       lie = None;
+      disturbed = None;
     } };
 
     ghost starts_empty = { λ s r none. starts_empty-law s.inner r none };
 
     ghost starts_honest = { λ s none. refl };
+
+    ghost starts_steady = { λ s none before. record { faults = refl; slips = refl; lie = refl } };
 
     fn room(&mut self, n: u64) -> Result<(), NoMemory> {
         self.inner.room(n)

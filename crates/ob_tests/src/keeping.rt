@@ -1,6 +1,6 @@
 //! A store in memory that keeps each block of 49 bytes that was written to it, in order.
 ghost use Rattle.std.specs.Prelude.{◌≡◌};
-ghost use Rattle.ob_store.specs.contracts.memory.MemStoreBlockStore.TheImpl.Laws.{starts_empty-law, starts_honest-law};
+ghost use Rattle.ob_store.specs.contracts.memory.MemStoreBlockStore.TheImpl.Laws.{starts_empty-law, starts_honest-law, starts_steady-law};
 
 use ob_base::{Access, Failed, NoMemory, StoreErr};
 use ob_store::{BlockStore, MemStore};
@@ -38,6 +38,8 @@ impl BlockStore for KeepingStore {
     ghost starts_empty = { λ s r none. starts_empty-law s.inner r none };
 
     ghost starts_honest = { λ s none. starts_honest-law s.inner none };
+
+    ghost starts_steady = { λ s none. starts_steady-law s.inner none };
 
     fn room(&mut self, n: u64) -> Result<(), NoMemory> {
         self.inner.room(n)

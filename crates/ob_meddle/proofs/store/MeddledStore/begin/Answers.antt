@@ -1,9 +1,10 @@
-use Rattle.std.proofs.Common.{◌≡◌, ◌+◌, ◌∙◌, sym, ap, length, true, false, arith}
+use Rattle.std.proofs.Common.{rules, refl, ◌≡◌, ◌+◌, ◌∙◌, sym, ap, length, true, false, arith}
 use Rattle.ob_store.specs.Logs.{asked_of}
 use Rattle.ob_meddle.specs.Acts.{Rests, rests_of, stands_of, after_acts}
 use Rattle.ob_meddle.specs.Due.{fails_at}
 use Rattle.ob_meddle.proofs.DueLemmas.{more_asked, failed_few}
 use Rattle.ob_meddle.proofs.StoreLemmas.{fresh_more, counted_more, honest_more, early_more, caused_more}
+use Rattle.ob_meddle.proofs.ShowLemmas.{steady_as}
 use Rattle.ob_meddle.proofs.store.MeddledStore.begin.Goals as goal
 
 pub returns-then-not-fails_at-clause-rests : goal.returns-then-not-fails_at-clause-rests
@@ -78,3 +79,12 @@ invariant_of-self-else-matches c =
       early = early_more old.list before more c.args.access e old.caught old.early;
       caused = caused_more old.list before more c.args.access e old.caught old.caused;
     }
+
+pub returns-then-not-fails_at-clause-steady : goal.returns-then-not-fails_at-clause-steady
+returns-then-not-fails_at-clause-steady c = let old = c.args.self.now in steady_as _ old.list old.caught refl (search rules) refl (search rules)
+
+pub returns-then-matches-clause-steady : goal.returns-then-matches-clause-steady
+returns-then-matches-clause-steady c = let old = c.args.self.now in steady_as _ old.list old.caught refl (search rules) refl (search rules)
+
+pub returns-else-matches-clause-steady : goal.returns-else-matches-clause-steady
+returns-else-matches-clause-steady c = let old = c.args.self.now in steady_as _ old.list old.caught refl (search rules) refl (search rules)

@@ -2,6 +2,7 @@ use Rattle.std.proofs.Common.{length}
 use Rattle.ob_store.specs.Logs.{asked_of}
 use Rattle.ob_meddle.specs.Held.{rest_of}
 use Rattle.ob_meddle.proofs.StoreLemmas.{fresh_more, honest_added}
+use Rattle.ob_meddle.proofs.ShowLemmas.{asks_same}
 use Rattle.ob_meddle.proofs.store.MeddledStoreBlockStore.make.Goals as goal
 
 pub invariant_of-self : goal.invariant_of-self
@@ -17,3 +18,12 @@ invariant_of-self c =
       early = mid.early;
       caused = mid.caused;
     }
+
+pub returns-in-Err-clause-asks : goal.returns-in-Err-clause-asks
+returns-in-Err-clause-asks c = let begun = c.begin.ensures in asks_same _ c.args.self.now c.begin.new.self _ _ _ _ begun.asked begun.spare begun.list begun.faults begun.slips begun.caught
+
+pub returns-in-Err-add-clause-asks : goal.returns-in-Err-add-clause-asks
+returns-in-Err-add-clause-asks c = let begun = c.begin.ensures in asks_same _ c.args.self.now c.begin.new.self _ _ _ _ begun.asked begun.spare begun.list begun.faults begun.slips begun.caught
+
+pub returns-in-Ok-add-clause-asks : goal.returns-in-Ok-add-clause-asks
+returns-in-Ok-add-clause-asks c = let begun = c.begin.ensures in asks_same _ c.args.self.now c.begin.new.self _ _ _ _ begun.asked begun.spare begun.list begun.faults begun.slips begun.caught

@@ -1,0 +1,73 @@
+-- Nothing shows before the first change.
+use Rattle.std.proofs.Common.{subst, ◌≡◌, ◌∙◌, ◌+◌, ◌≤◌, ℕ, true, false, refl, ap, List, [], ◌∷◌, ◌++◌, Option, Some, None, length, take, arith}
+use Rattle.std.proofs.lemmas.List.{take-append-le}
+use Rattle.std.specs.Option.{ForSome}
+use Rattle.ob_base.specs.declared.access.Access.{Access}
+use Rattle.ob_store.specs.State.{Disturbance, Lie, Shape, StoreState}
+use Rattle.ob_store.specs.Calls.{Asks, IsBefore, IsQuiet, IsSteady}
+use Rattle.ob_store.specs.Logs.{asked_of}
+use Rattle.ob_meddle.specs.declared.caught.Caught.{Caught}
+use Rattle.ob_meddle.specs.declared.meddle.Meddle.{Meddle}
+use Rattle.ob_meddle.specs.declared.store.MeddledStore.{MeddledStore}
+use Rattle.ob_meddle.specs.Caught.{lie_of}
+use Rattle.ob_meddle.specs.Due.{failed_among, has_acted, are_later, disturbances}
+use Rattle.ob_meddle.specs.Fresh.{IsEarly}
+use Rattle.ob_meddle.specs.Shows.{state_of}
+use Rattle.ob_meddle.proofs.DueLemmas.{none_acted, none_failed, all_later}
+
+pub no_lie : (list : List Meddle) (asked : List Access) (caught : Option Caught) → ForSome caught (λ c. has_acted list (length asked) ≡ true) → has_acted list (length asked) ≡ false → lie_of caught asked ≡ None
+no_lie list asked None caused none = refl
+no_lie list asked (Some c) caused none = absurd (cc (caused c refl, none))
+
+-- where every change is still to come
+pub quiet_as : (s : StoreState) (list : List Meddle) (caught : Option Caught) → s.faults + s.slips ≡ failed_among list (length s.asked) → s.lie ≡ lie_of caught s.asked
+    → ForSome caught (λ c. has_acted list (length s.asked) ≡ true) → are_later list (length s.asked) ≡ true → IsQuiet s
+quiet_as s list caught counted lie caused later =
+    let none = none_failed list (length s.asked) later in
+    record {
+      faults = omega (arith, none, counted);
+      slips = omega (arith, none, counted);
+      lie = lie ∙ no_lie list s.asked caught caused (none_acted list (length s.asked) later);
+    }
+
+pub steady_as : (s : StoreState) (list : List Meddle) (caught : Option Caught) → s.disturbed ≡ disturbances list → s.faults + s.slips ≡ failed_among list (length s.asked) → s.lie ≡ lie_of caught s.asked
+    → ForSome caught (λ c. has_acted list (length s.asked) ≡ true) → IsSteady s
+steady_as s list caught names counted lie caused before =
+    quiet_as s list caught counted lie caused (all_later list (length s.asked) (subst (λ (o : Option (List Disturbance)). IsBefore o (length s.asked)) names before))
+
+-- a read that was caught stays as it was
+lie_stays : (caught : Option Caught) (old more : List Access) (a : Access) → more ≡ old ++ a ∷ [] → IsEarly caught old → lie_of caught more ≡ lie_of caught old
+lie_stays None old more a e early = refl
+lie_stays (Some c) old more a e early =
+    let less = early c refl in
+    ap (λ (before : List Access). Some (record { region = c.region; place = c.place; bytes = take c.len c.bytes; before = before })) (ap (λ (l : List Access). take c.count l) e ∙ take-append-le c.count old (a ∷ []) (omega (arith, less)))
+
+-- the state of a store but for its regions, and for the read that was caught
+abbrev shown : MeddledStore → Option Caught → (ℕ → Option Shape) → (ℕ → ℕ → Option (List ℕ)) → StoreState
+shown m caught live last = record (state_of m) { live = live; last = last; lie = lie_of caught (asked_of m.log) }
+
+abbrev Caused : MeddledStore → Option Caught → Type 0
+Caused m caught = ForSome caught (λ c. has_acted m.list (length (asked_of m.log)) ≡ true)
+
+-- one access more was asked, and perhaps it failed
+module _ (a : Access) (old new : MeddledStore) (faults slips : ℕ) (live : ℕ → Option Shape) (last : ℕ → ℕ → Option (List ℕ)) (asked : asked_of new.log ≡ asked_of old.log ++ a ∷ []) (spare : old.log.spare ≤ new.log.spare + 1)
+    (list : new.list ≡ old.list) (failed : new.faults ≡ old.faults + faults) (slipped : new.slips ≡ old.slips + slips) where
+  asks_of : (caught : Option Caught) → ((lie : Lie) → (state_of old).lie ≡ Some lie → lie_of caught (asked_of new.log) ≡ Some lie) → Caused new caught → Asks a (state_of old) (shown new caught live last)
+  asks_of caught stays caused = record {
+    asked = asked;
+    spare = spare;
+    faults = omega (arith, failed);
+    slips = omega (arith, slipped);
+    tells = refl;
+    lie = stays;
+    disturbed = ap disturbances list;
+    steady = steady_as (shown new caught live last) new.list caught refl new.counted refl caused;
+  }
+
+  -- no read was caught
+  pub asks_same : new.caught ≡ old.caught → Asks a (state_of old) (shown new new.caught live last)
+  asks_same same = asks_of new.caught (λ lie is. ap (λ (c : Option Caught). lie_of c (asked_of new.log)) same ∙ lie_stays old.caught (asked_of old.log) (asked_of new.log) a asked old.early ∙ is) new.caused
+
+  -- it is the first that was caught
+  pub asks_caught : (caught : Option Caught) → old.caught ≡ None → Caused new caught → Asks a (state_of old) (shown new caught live last)
+  asks_caught caught none caused = asks_of caught (λ lie is. absurd (cc (is, ap (λ (c : Option Caught). lie_of c (asked_of old.log)) none))) caused
