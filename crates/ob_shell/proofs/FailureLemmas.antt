@@ -6,6 +6,7 @@ use Rattle.ob_base.specs.declared.refusal.Refusal.TheVariants.{Syntax, NoTable, 
 use Rattle.ob_exec.specs.Running.{RunCause, refused_cause}
 use Rattle.ob_exec.specs.declared.outcome.Outcome.{Outcome}
 use Rattle.ob_exec.specs.declared.outcome.Outcome.TheVariants.{Created, Inserted, Changed, Deleted, Dropped, Rows, Refused}
+use Rattle.ob_shell.proofs.LaterLemmas.{last_later}
 use Rattle.ob_shell.specs.Failures.{refusal_failures, outcome_failures, failures, RisesBy}
 use Rattle.ob_shell.specs.Running.{LastPart}
 use Rattle.ob_shell.specs.Steps.{Machine, Answer, Step, Steps}
@@ -53,7 +54,7 @@ module _ {R : Type 0} (state : R → RevState) where
     | inr did ↦ answered answer.outcome _ _ did.ran.cause
   ]
 
-  steps_fail : (m0 m2 : Machine R) (texts : List (List ℕ)) (answers : List Answer) → Steps state m0 m2 texts answers → RisesBy (failures answers) m0.store.faults m2.store.faults
+  pub steps_fail : (m0 m2 : Machine R) (texts : List (List ℕ)) (answers : List Answer) → Steps state m0 m2 texts answers → RisesBy (failures answers) m0.store.faults m2.store.faults
   unfolding Steps failures
   steps_fail m0 m2 [] answers steps =
       subst (λ (xs : List Answer). RisesBy (failures xs) m0.store.faults m2.store.faults) (sym steps.1) (stays _ _ (ap (λ (m : Machine R). m.store.faults) steps.0))
@@ -61,21 +62,8 @@ module _ {R : Type 0} (state : R → RevState) where
       subst (λ (xs : List Answer). RisesBy (failures xs) m0.store.faults m2.store.faults) (sym steps.3)
       (grows _ _ _ _ _ (step_fails m0 steps.0 text steps.1 steps.4) (steps_fail steps.0 m2 texts steps.2 steps.5))
 
-  step_later : (m0 m1 : Machine R) (text : List ℕ) (answer : Answer) → Step state m0 m1 text answer → m0.store.faults ≤ m1.store.faults
-  step_later m0 m1 text answer step = elim step.done [
-    | inl bad ↦ omega (arith, ap (λ (m : Machine R). m.store.faults) bad.same)
-    | inr did ↦ did.ran.later.faults
-  ]
-
-  last_later : (m1 m2 : Machine R) (more : List (List ℕ)) (part : List ℕ) (result : Result Bool Stop) → LastPart state m1 m2 more part result → m1.store.faults ≤ m2.store.faults
-  last_later m1 m2 more part (Ok flag) rests = omega (arith, ap (λ (m : Machine R). m.store.faults) rests.machine)
-  last_later m1 m2 [] part (Err stop) rests = omega (arith, ap (λ (m : Machine R). m.store.faults) rests.rests.machine)
-  last_later m1 m2 (text ∷ more) part (Err stop) (inl rests) = omega (arith, ap (λ (m : Machine R). m.store.faults) rests.rests.machine)
-  last_later m1 m2 (text ∷ more) part (Err stop) (inr (inl cut)) = cut.ran.later.faults
-  last_later m1 m2 (text ∷ more) part (Err stop) (inr (inr done)) = step_later m1 m2 text done.answer done.step
-
   -- of the texts that were served, and what was done after them
   pub session_fails : (m0 m1 m2 : Machine R) (texts more : List (List ℕ)) (answers : List Answer) (part : List ℕ) (result : Result Bool Stop)
       → Steps state m0 m1 texts answers → LastPart state m1 m2 more part result → RisesBy (failures answers) m0.store.faults m2.store.faults
   session_fails m0 m1 m2 texts more answers part result steps last =
-      later _ _ _ _ (steps_fail m0 m1 texts answers steps) (last_later m1 m2 more part result last)
+      later _ _ _ _ (steps_fail m0 m1 texts answers steps) (last_later state m1 m2 more part result last).faults

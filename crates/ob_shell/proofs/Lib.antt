@@ -18,3 +18,5 @@ pub mod OpenLemmas
 pub mod CloseLemmas
 pub mod WordLemmas
 pub mod FirstPartLemmas
+pub mod LaterLemmas
+pub mod DisturbLemmas

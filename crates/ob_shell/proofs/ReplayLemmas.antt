@@ -22,10 +22,10 @@ use Rattle.ob_store.specs.State.{Lie, StoreState}
 use Rattle.ob_vault.specs.State.{RevState}
 
 -- ---- an answer is none by the store, or the store's
-record ByStore (outcome : Outcome) (cut also : Type 0) : Type 0 where
-  is : outcome ≡ Refused StoreFault
-  told : cut
-  too : also
+pub record ByStore (outcome : Outcome) (cut also : Type 0) : Type 0 where
+  pub is : outcome ≡ Refused StoreFault
+  pub told : cut
+  pub too : also
 
 refusal_cases : (r : Refusal) (whole cut with also : Type 0) → told_refusal r whole cut → told_refusal r with also → (whole × with) ⊎ ByStore (Refused r) cut also
 refusal_cases (Syntax at) whole cut with also a b = inl (a, b)
@@ -44,7 +44,7 @@ refusal_cases NotConsecutive whole cut with also a b = inl (a, b)
 refusal_cases (Overflow i) whole cut with also a b = inl (a, b)
 refusal_cases StoreFault whole cut with also a b = inr (record { is = refl; told = a; too = b })
 
-outcome_cases : (o : Outcome) (whole cut with also : Type 0) → told_outcome o whole cut → told_outcome o with also → (whole × with) ⊎ ByStore o cut also
+pub outcome_cases : (o : Outcome) (whole cut with also : Type 0) → told_outcome o whole cut → told_outcome o with also → (whole × with) ⊎ ByStore o cut also
 outcome_cases (Refused r) whole cut with also a b = refusal_cases r whole cut with also a b
 outcome_cases Created whole cut with also a b = inl (a, b)
 outcome_cases Inserted whole cut with also a b = inl (a, b)
@@ -73,6 +73,18 @@ steps_honest {R} state m0 m2 [] answers steps none = ap (λ (m : Machine R). m.s
 steps_honest state m0 m2 (text ∷ texts) answers steps none =
     (step_goes state m0 steps.0 text steps.1 steps.4.done).lie (steps_honest state steps.0 m2 texts steps.2 steps.5 none)
 
+-- ---- the session after a statement
+pub stands_after : {R : Type 0} (state : R → RevState) (m0 m1 : Machine R) (tables : Tables) (text : List ℕ) (one : Answer) (did : Served state m0 m1 text one) (how : Option ℕ) (after_it : Tables)
+    → seen_of m1.engine ≡ seen_or_cut how (session_of m0 tables) did.stmt → (after how (session_of m0 tables) did.stmt).tables ≡ after_it
+    → after how (session_of m0 tables) did.stmt ≡ session_of m1 after_it
+stands_after state m0 m1 tables text one did how after_it seen_is settles =
+    let p = public_of m0.engine in
+    let sk = skeleton did.stmt in
+    let public_is : next p sk (seen_or_cut how (session_of m0 tables) did.stmt) ≡ public_of m1.engine = ap (next p sk) (sym seen_is) ∙ sym did.ran.goes_on.public in
+    let asked_is : length m0.store.asked + length (script p sk (seen_or_cut how (session_of m0 tables) did.stmt)) ≡ length m1.store.asked =
+    ap (λ (x : Seen). length m0.store.asked + length (script p sk x)) (sym seen_is) ∙ sym (length-append m0.store.asked (script p sk (seen_of m1.engine))) ∙ ap length (sym did.ran.asked) in
+    λ i. record { public = public_is i; tables = settles i; asked = asked_is i }
+
 -- ---- one statement
 module _ {R : Type 0} (state : R → RevState) (m0 m1 m2 : Machine R) (tables : Tables) (text : List ℕ) (texts : List (List ℕ)) (one : Answer) (more answers : List Answer)
     (is : answers ≡ one ∷ more) where
@@ -94,14 +106,8 @@ module _ {R : Type 0} (state : R → RevState) (m0 m1 m2 : Machine R) (tables : 
   -- the session after it
   module _ (did : Served state m0 m1 text one) (how : Option ℕ) (after_it : Tables)
       (seen_is : seen_of m1.engine ≡ seen_or_cut how (session_of m0 tables) did.stmt) (settles : (after how (session_of m0 tables) did.stmt).tables ≡ after_it) where
-    stands_after : after how (session_of m0 tables) did.stmt ≡ session_of m1 after_it
-    stands_after =
-        let p = public_of m0.engine in
-        let sk = skeleton did.stmt in
-        let public_is : next p sk (seen_or_cut how (session_of m0 tables) did.stmt) ≡ public_of m1.engine = ap (next p sk) (sym seen_is) ∙ sym did.ran.goes_on.public in
-        let asked_is : length m0.store.asked + length (script p sk (seen_or_cut how (session_of m0 tables) did.stmt)) ≡ length m1.store.asked =
-        ap (λ (x : Seen). length m0.store.asked + length (script p sk x)) (sym seen_is) ∙ sym (length-append m0.store.asked (script p sk (seen_of m1.engine))) ∙ ap length (sym did.ran.asked) in
-        λ i. record { public = public_is i; tables = settles i; asked = asked_is i }
+    after_is : after how (session_of m0 tables) did.stmt ≡ session_of m1 after_it
+    after_is = stands_after state m0 m1 tables text one did how after_it seen_is settles
 
     go_on : AnswersIn how (session_of m0 tables) did.stmt one → Replayed state m1 m2 after_it texts more → Replayed state m0 m2 tables (text ∷ texts) answers
     unfolding Replays
@@ -112,13 +118,13 @@ module _ {R : Type 0} (state : R → RevState) (m0 m1 m2 : Machine R) (tables : 
         record {
           spelt = Ok did.stmt ∷ rest.spelt;
           broken = how ∷ rest.broken;
-          replays = (one, more, is, did.spells, answer, subst (λ (s : Session). Replays s texts rest.spelt rest.broken more) (sym stands_after) rest.replays);
+          replays = (one, more, is, did.spells, answer, subst (λ (s : Session). Replays s texts rest.spelt rest.broken more) (sym after_is) rest.replays);
           left = rest.left;
-          stands = ap (λ (s : Session). after_all s rest.spelt rest.broken) stands_after ∙ rest.stands;
+          stands = ap (λ (s : Session). after_all s rest.spelt rest.broken) after_is ∙ rest.stands;
           held = rest.held;
           asked =
               rest.asked
-              ∙ (λ i. (did.ran.asked ∙ ap (λ (x : Seen). m0.store.asked ++ script p sk x) seen_is) i ++ trace (sym stands_after i).public (all_served (sym stands_after i) rest.spelt rest.broken))
+              ∙ (λ i. (did.ran.asked ∙ ap (λ (x : Seen). m0.store.asked ++ script p sk x) seen_is) i ++ trace (sym after_is i).public (all_served (sym after_is i) rest.spelt rest.broken))
               ∙ append_assoc m0.store.asked (script p sk seen_there) _;
         }
 

@@ -1,13 +1,19 @@
 //! What follows of texts that were served one after the other.
-ghost use Rattle.std.specs.Prelude.{◌≡◌, List, [], ℕ, IsTrue, None, false};
+ghost use Rattle.std.specs.Prelude.{◌≡◌, ◌≤◌, ◌++◌, List, [], ℕ, Bool, IsTrue, None, Result, false, length};
+ghost use Rattle.ob_base.specs.declared.refusal.Stop.{Stop};
 ghost use Rattle.ob_exec.specs.Telling.{Represents};
 ghost use Rattle.ob_mean.specs.Verdict.{Tables};
+ghost use Rattle.ob_shell.specs.Disturbed.{AskedInAll};
+ghost use Rattle.ob_shell.specs.Failures.{failures};
 ghost use Rattle.ob_shell.specs.Pieces.{BeginsWith};
-ghost use Rattle.ob_shell.specs.Replayed.{Replayed};
+ghost use Rattle.ob_shell.specs.Replayed.{Replayed, session_of};
+ghost use Rattle.ob_shell.specs.Running.{LastPart};
 ghost use Rattle.ob_shell.specs.Steps.{Machine, Answer, Steps};
+ghost use Rattle.ob_store.specs.Calls.{IsBefore, IsSteady};
 ghost use Rattle.ob_shell.specs.Texts.{is_over, rest_of, texts_of};
 ghost use Rattle.ob_token.specs.Cutting.{cut};
 
+use ob_parse::one_statement;
 use ob_vault::Revisions;
 
 /// Over a store that tells what it holds, and while each block that was read was the one written there last: the
@@ -18,6 +24,24 @@ pub fn answers_are_meant<R: Revisions>()
     ensures { (texts : List (List ℕ)) (m0 m1 : Machine R) (tables : Tables) (answers : List Answer) → Steps R.state m0 m1 texts answers
         → IsTrue m0.store.tells → m1.store.lie ≡ None → Represents R.state m0.engine m0.store tables → Replayed R.state m0 m1 tables texts answers }
 {}
+
+/// Over a store that tells what it holds, and that others disturb only after the accesses of these texts: the answers
+/// are those of the meaning, and none of them is that the store failed.
+pub fn undisturbed_answers_are_meant<R: Revisions>()
+    ensures { (texts : List (List ℕ)) (m0 m1 : Machine R) (tables : Tables) (answers : List Answer) → Steps R.state m0 m1 texts answers
+        → IsTrue m0.store.tells → IsSteady m0.store → IsBefore m1.store.disturbed (length m1.store.asked) → Represents R.state m0.engine m0.store tables
+        → Replayed R.state m0 m1 tables texts answers × (failures answers ≡ 0) }
+{}
+
+/// Where others disturb such a store only after as many accesses as all texts ask by their meaning, those of a session
+/// that serves these texts, or stops before their end, are no more.
+pub fn undisturbed_sessions_stay_so<R: Revisions>()
+    ensures { (texts more : List (List ℕ)) (m0 m1 m2 : Machine R) (tables : Tables) (answers : List Answer) (part : List ℕ) (result : Result Bool Stop) (n : ℕ)
+        → Steps R.state m0 m1 texts answers → LastPart R.state m1 m2 more part result → IsTrue m0.store.tells → IsSteady m0.store
+        → Represents R.state m0.engine m0.store tables → AskedInAll (session_of m0 tables) (texts ++ more) n → IsBefore m0.store.disturbed n → length m2.store.asked ≤ n }
+{
+    one_statement();
+}
 
 /// The texts that a session cuts, a byte at a time, are the pieces that `split` finds in its bytes, one after the
 /// other, while none comes to the limit of a text: the first piece is the first text, or none where it holds nothing,

@@ -12,9 +12,11 @@ mod words;
 
 pub use feed::{Feed, Halt};
 pub use key::{FirstLine, read_key};
-pub use laws::{answers_are_meant, texts_are_pieces};
+pub use laws::{
+    answers_are_meant, texts_are_pieces, undisturbed_answers_are_meant, undisturbed_sessions_stay_so,
+};
 pub use pending::{Grown, Pending, PushStop};
 pub use session::{Halted, serve};
 pub use top::{Ended, Ending, Report, meddle_top, shell_top};
 pub use trace::trace_from;
-pub use words::{Words, WordsErr, read_words};
+pub use words::{MeddleWords, Words, WordsErr, read_meddle_words, read_words};

@@ -7,7 +7,7 @@ use Rattle.ob_base.specs.Schemas.{width}
 use Rattle.ob_vault.specs.declared.region.Region.{Region}
 use Rattle.ob_vault.specs.Rows.{joined}
 use Rattle.ob_vault.specs.Calls.{one}
-use Rattle.ob_vault.proofs.Runs.{tells_went, holds_rows, seals_join}
+use Rattle.ob_vault.proofs.Runs.{tells_went, holds_rows, seals_join, went_join}
 use Rattle.ob_blocks.specs.Blocks.{none_of}
 use Rattle.ob_flat.specs.Slots.{block_bytes}
 use Rattle.ob_flat.proofs.Runs.{pass_of, pass_more, pass_after, pass_then}
@@ -20,6 +20,13 @@ returns-in_err-region-clause-err g c =
     let next = c.args.vault.now.next in
     let blocks = blocks_for (length c.args.rows.now) c.args.capacity in
     rw (p.1, p.2) (pass_more (one next) _ _ _ (make_at next blocks (length c.args.rows.now * width c.args.schema.now)) (each blocks (write_at next)) c.in_err-region.ensures.err)
+
+pub returns-in-Ok-clause-ok : goal.returns-in-Ok-clause-ok
+returns-in-Ok-clause-ok g c =
+    let next = c.args.vault.now.next in
+    let blocks = blocks_for (length c.args.rows.now) c.args.capacity in
+    let filled = rw (c.in_ok-region.ensures.number, c.region_of_table.ensures) at c.in-Ok.ensures.ok in
+    went_join (one next) _ _ _ (make_at next blocks (length c.args.rows.now * width c.args.schema.now)) (each blocks (write_at next)) c.in_ok-region.ensures.ok filled
 
 pub returns-in-Ok-clause-seals : goal.returns-in-Ok-clause-seals
 returns-in-Ok-clause-seals g c = λ good fine.
