@@ -31,14 +31,12 @@ use Rattle.ob_token.specs.Tokens.{tokens_of}
 use Rattle.ob_vault.specs.State.{RevState, World}
 
 -- ---- fewer accesses come before as well
+less_tail : (d : Disturbance) (list : List Disturbance) (m : ℕ) → list_all (λ d. nat_lt m d.before) (d ∷ list) ≡ true → list_all (λ d. nat_lt m d.before) list ≡ true
+less_tail d list m all = grind arith
+
 all_less : (list : List Disturbance) (n m : ℕ) → n ≤ m → list_all (λ d. nat_lt m d.before) list ≡ true → list_all (λ d. nat_lt n d.before) list ≡ true
 all_less [] n m le all = refl
-all_less (d ∷ list) n m le all = let more = all_less list n m le (tail d list m all) in grind (arith, more, le, head d list m all)
-  where
-    head : (d : Disturbance) (list : List Disturbance) (m : ℕ) → list_all (λ d. nat_lt m d.before) (d ∷ list) ≡ true → nat_lt m d.before ≡ true
-    head d list m all = grind (all)
-    tail : (d : Disturbance) (list : List Disturbance) (m : ℕ) → list_all (λ d. nat_lt m d.before) (d ∷ list) ≡ true → list_all (λ d. nat_lt m d.before) list ≡ true
-    tail d list m all = grind (all)
+all_less (d ∷ list) n m le all = grind (arith, all_less list n m le (less_tail d list m all))
 
 pub before_less : (o : Option (List Disturbance)) (n m : ℕ) → n ≤ m → IsBefore o m → IsBefore o n
 before_less None n m le before = absurd before

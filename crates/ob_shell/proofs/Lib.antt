@@ -20,3 +20,4 @@ pub mod WordLemmas
 pub mod FirstPartLemmas
 pub mod LaterLemmas
 pub mod DisturbLemmas
+pub mod MeddleLemmas

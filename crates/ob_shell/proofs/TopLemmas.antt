@@ -32,6 +32,8 @@ use Rattle.ob_shell.specs.declared.top.Ending.TheVariants.{Usage, BadKey, Ran as
 use Rattle.ob_shell.proofs.TextLemmas.{rest_of-nil, texts_of-nil}
 use Rattle.ob_shell.proofs.AskLemmas.{asks}
 use Rattle.ob_shell.proofs.FailureLemmas.{session_fails}
+use Rattle.ob_shell.proofs.LaterLemmas.{steps_later, last_later}
+use Rattle.ob_store.proofs.Steps.{later_trans}
 use Rattle.ob_shell.proofs.OpenLemmas.{IsUsed, session_opens}
 use Rattle.ob_shell.proofs.CalmLemmas.{steps_calm, last_met, first_calm}
 use Rattle.ob_shell.proofs.LastingLemmas.{HasSizes, steps_sizes, last_rows, steps_sealed, last_sealed, steps_tell, none_sealed, first_sizes}
@@ -265,6 +267,7 @@ ran_after {state = state} {s0 = s0} {s1 = s1} key first last high result fresh k
     steps = ran.steps;
     asks = asks state ran.served (machine_of first s0) ran.middle ran.answers ran.steps;
     rest = ran.last;
+    later = later_trans _ _ _ (steps_later state (machine_of first s0) ran.middle ran.served ran.answers ran.steps) (last_later state ran.middle (machine_of last s1) ran.more ran.part result ran.last);
     same_keys = last_keys state ran.middle (machine_of last s1) ran.more ran.part result ran.last ∙ steps_keep state (machine_of first s0) ran.middle ran.served ran.answers ran.steps;
     meant = λ undeceived. meant_from state first s0 ran.middle ran.served ran.answers fresh ran.steps undeceived.tells
         (last_deceived state ran.middle (machine_of last s1) ran.more ran.part result ran.last

@@ -13,6 +13,7 @@ use Rattle.ob_mean.specs.Replay.{first_public}
 use Rattle.ob_print.specs.Cuts.{Cut}
 use Rattle.ob_seal.specs.KeyPair.{KeyPair}
 use Rattle.ob_seal.specs.Sealed.{keys_of}
+use Rattle.ob_store.specs.Runs.{Later}
 use Rattle.ob_store.specs.State.{Lie, StoreState}
 use Rattle.ob_vault.specs.State.{RevState, World}
 use Rattle.ob_vault.specs.Tied.{AllSealed, Calm, EndsAt, Fits}
@@ -89,6 +90,7 @@ pub record Started {R : Type 0} (state : R → RevState) (secret : Option (List 
   pub steps : Steps state (machine_of first store0) middle served answers
   pub asks : Asks (machine_of first store0) middle served
   pub rest : EndingPart state middle (machine_of last store1) more part ending
+  pub later : Later store0 store1
   pub same_keys : last.vault.keys ≡ first.vault.keys
   pub meant : IsUndeceived last.vault.keys store0 store1 → Replayed state (machine_of first store0) middle [] served answers
   pub part_meant : (undeceived : IsUndeceived last.vault.keys store0 store1) → store1.lie ≡ None → PartMeant state middle (machine_of last store1) (meant undeceived).left more part
