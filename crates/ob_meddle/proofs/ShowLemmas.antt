@@ -12,15 +12,15 @@ use Rattle.ob_meddle.specs.declared.store.MeddledStore.{MeddledStore}
 use Rattle.ob_meddle.specs.Caught.{lie_of}
 use Rattle.ob_meddle.specs.Due.{failed_among, has_acted, are_later, disturbances}
 use Rattle.ob_meddle.specs.Fresh.{IsEarly}
-use Rattle.ob_meddle.specs.Shows.{state_of}
+use Rattle.ob_meddle.specs.Shows.{list_of, state_of, Shows}
 use Rattle.ob_meddle.proofs.DueLemmas.{none_acted, none_failed, all_later}
 
-pub no_lie : (list : List Meddle) (asked : List Access) (caught : Option Caught) → ForSome caught (λ c. has_acted list (length asked) ≡ true) → has_acted list (length asked) ≡ false → lie_of caught asked ≡ None
+no_lie : (list : List Meddle) (asked : List Access) (caught : Option Caught) → ForSome caught (λ c. has_acted list (length asked) ≡ true) → has_acted list (length asked) ≡ false → lie_of caught asked ≡ None
 no_lie list asked None caused none = refl
 no_lie list asked (Some c) caused none = absurd (cc (caused c refl, none))
 
 -- where every change is still to come
-pub quiet_as : (s : StoreState) (list : List Meddle) (caught : Option Caught) → s.faults + s.slips ≡ failed_among list (length s.asked) → s.lie ≡ lie_of caught s.asked
+quiet_as : (s : StoreState) (list : List Meddle) (caught : Option Caught) → s.faults + s.slips ≡ failed_among list (length s.asked) → s.lie ≡ lie_of caught s.asked
     → ForSome caught (λ c. has_acted list (length s.asked) ≡ true) → are_later list (length s.asked) ≡ true → IsQuiet s
 quiet_as s list caught counted lie caused later =
     let none = none_failed list (length s.asked) later in
@@ -34,6 +34,15 @@ pub steady_as : (s : StoreState) (list : List Meddle) (caught : Option Caught) �
     → ForSome caught (λ c. has_acted list (length s.asked) ≡ true) → IsSteady s
 steady_as s list caught names counted lie caused before =
     quiet_as s list caught counted lie caused (all_later list (length s.asked) (subst (λ (o : Option (List Disturbance)). IsBefore o (length s.asked)) names before))
+
+-- when the changes of a store show
+pub shows : (m : MeddledStore) → Shows (list_of m) (state_of m)
+shows m = record {
+  counted = m.counted;
+  caused = no_lie m.list (asked_of m.log) m.caught m.caused;
+  quiet = quiet_as (state_of m) m.list m.caught m.counted refl m.caused;
+  disturbed = refl;
+}
 
 -- a read that was caught stays as it was
 lie_stays : (caught : Option Caught) (old more : List Access) (a : Access) → more ≡ old ++ a ∷ [] → IsEarly caught old → lie_of caught more ≡ lie_of caught old

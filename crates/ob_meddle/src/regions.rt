@@ -3,7 +3,7 @@ ghost use Rattle.std.specs.Prelude.{◌≡◌, ◌≢◌, ◌≤◌, ℕ, None, 
 ghost use Rattle.std.specs.Ordering.{nat_cmp};
 ghost use Rattle.std.specs.BTreeMap.{get};
 ghost use Rattle.ob_meddle.specs.Held.{rest_of, stand_of, Differs, Agrees};
-ghost use Rattle.ob_meddle.specs.Acts.{rests_of, stands_of, len_at, has_place};
+ghost use Rattle.ob_meddle.specs.Acts.{rests_of, stands_of, before_at, len_at, has_place};
 ghost use Rattle.ob_meddle.specs.Regions.{IsPlaceOf, last_at, shape_at};
 
 use crate::region::Region;
@@ -51,6 +51,9 @@ pub(crate) fn write(regions: &mut BTreeMap<u64, Region>, region: u64, place: u32
     ensures shapes { (q : ℕ) → shape_at (rests_of regions.new q) ≡ shape_at (rests_of regions.old q) }
     ensures last { last_at (rests_of regions.new region) place ≡ Some block.now }
     ensures lasts { (q x : ℕ) → (q ≡ region → x ≡ place → ⊥) → last_at (rests_of regions.new q) x ≡ last_at (rests_of regions.old q) x }
+    ensures rest { (q : ℕ) → q ≢ region → rests_of regions.new q ≡ rests_of regions.old q }
+    ensures before { before_at (rests_of regions.new region) place ≡ stands_of regions.old region place }
+    ensures befores { (x : ℕ) → x ≢ place → before_at (rests_of regions.new region) x ≡ before_at (rests_of regions.old region) x }
     ensures stands { stands_of regions.new region place ≡ block.now }
     ensures others { (q x : ℕ) → (q ≡ region → x ≡ place → ⊥) → stands_of regions.new q x ≡ stands_of regions.old q x }
 {

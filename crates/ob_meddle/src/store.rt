@@ -92,7 +92,8 @@ impl BlockStore for MeddledStore {
     ghost use Rattle.std.specs.Prelude.{◌≢◌, replicate, Err, is_err, OnOk, OnErr};
     ghost use Rattle.ob_base.specs.Accesses.{highest};
     ghost use Rattle.ob_store.specs.Calls.{IsLive, IsPlace, Asks, CountsFault, CountsSlip, CountsMakeFault, Keeps, Makes, ReadGives, OnlyAt, Holds, MayHold, OnlyRegion, Rests};
-    ghost use Rattle.ob_meddle.specs.Shows.{list_of, state_of, standing, standing_next, fails_next};
+    ghost use Rattle.ob_meddle.specs.Acts.{before_at, len_at, has_place};
+    ghost use Rattle.ob_meddle.specs.Shows.{list_of, state_of, standing, standing_next, held, fails_next};
 
     ghost state = { λ m. state_of m };
 
@@ -110,6 +111,8 @@ impl BlockStore for MeddledStore {
         ensures rests { Rests (state_of self.old) (state_of self.new) }
         ensures spare { OnOk result (n ≤ (state_of self.new).spare) }
         ensures list { list_of self.new ≡ list_of self.old }
+        ensures stays { standing self.new ≡ standing self.old }
+        ensures held { held self.new ≡ held self.old }
     {
         self.log.room(n)
     }
@@ -131,6 +134,8 @@ impl BlockStore for MeddledStore {
         ensures zeros { OnOk result ((x : ℕ) → x < blocks → standing self.new region x ≡ replicate len 0) }
         ensures others { OnOk result ((q x : ℕ) → q ≢ region → standing self.new q x ≡ standing_next self.old q x) }
         ensures stays { OnErr result ((q x : ℕ) → standing self.new q x ≡ standing_next self.old q x) }
+        ensures held { OnOk result ((q : ℕ) → q ≢ region → held self.new q ≡ held self.old q) }
+        ensures held_stays { OnErr result ((q : ℕ) → held self.new q ≡ held self.old q) }
     {
         self.begin(Access::Make {
             region,
@@ -159,6 +164,7 @@ impl BlockStore for MeddledStore {
         ensures fails { is_err result ≡ fails_next self.old }
         ensures gives { OnOk result (buf.new ≡ standing_next self.old region place) }
         ensures stays { standing self.new ≡ standing_next self.old }
+        ensures held { (q : ℕ) → held self.new q ≡ held self.old q }
     {
         let count = self.log.count();
         self.begin(Access::Read { region, place })?;
@@ -183,6 +189,10 @@ impl BlockStore for MeddledStore {
         ensures here { OnOk result (standing self.new region place ≡ block.now) }
         ensures others { (q x : ℕ) → (q ≡ region → x ≡ place → ⊥) → standing self.new q x ≡ standing_next self.old q x }
         ensures stays { OnErr result (standing self.new region place ≡ standing_next self.old region place) }
+        ensures held { (q : ℕ) → q ≢ region → held self.new q ≡ held self.old q }
+        ensures held_stays { OnErr result (held self.new region ≡ held self.old region) }
+        ensures before { OnOk result (before_at (held self.new region) place ≡ standing_next self.old region place) }
+        ensures befores { (x : ℕ) → x ≢ place → before_at (held self.new region) x ≡ before_at (held self.old region) x }
     {
         self.begin(Access::Write { region, place })?;
         write(&mut self.regions, region, place, block);
@@ -203,6 +213,11 @@ impl BlockStore for MeddledStore {
         ensures fails { is_err result ≡ fails_next self.old }
         ensures kept { is_source (list_of self.old) region ≡ true → standing self.new ≡ standing_next self.old }
         ensures elsewhere { (q x : ℕ) → q ≢ region → standing self.new q x ≡ standing_next self.old q x }
+        ensures stays { OnErr result (standing self.new ≡ standing_next self.old) }
+        ensures held { (q : ℕ) → q ≢ region → held self.new q ≡ held self.old q }
+        ensures held_stays { OnErr result (held self.new region ≡ held self.old region) }
+        ensures len { is_source (list_of self.old) region ≡ true → len_at (held self.new region) ≡ len_at (held self.old region) }
+        ensures places { is_source (list_of self.old) region ≡ true → (x : ℕ) → has_place x (held self.new region) ≡ has_place x (held self.old region) }
     {
         self.begin(Access::Discard { region })?;
         let kept = is_source(self.list.as_slice(), region);

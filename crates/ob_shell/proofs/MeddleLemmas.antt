@@ -1,16 +1,26 @@
 -- What the changes of a store do to a run.
 use Rattle.std.proofs.Common.{◌≡◌, ◌≢◌, ◌≤◌, ◌+◌, ◌==◌, ◌&&◌, ◌||◌, ◌++◌, ℕ, zero, suc, Bool, true, false, not, IsTrue, List, [], ◌∷◌, map, length, Option, Some, None, Ok, Err, Result, inl, inr, refl, sym, ◌∙◌, ap, subst, arith}
 use Rattle.std.specs.List.{list_all, list_any}
-use Rattle.std.specs.Prelude.{nat_lt, nat_le, if◌then◌else◌}
+use Rattle.std.specs.Prelude.{nat_lt, nat_le, ⊤, if◌then◌else◌}
 use Rattle.std.proofs.lemmas.List.Folds.{list_all-map}
 use Rattle.clap.proofs.WalkLemmas.{list_any-map}
+use Rattle.ob_base.specs.declared.access.Access.{Access}
+use Rattle.ob_base.specs.declared.config.Public.{Public}
+use Rattle.ob_base.specs.declared.schema.Table.{Table}
 use Rattle.ob_base.specs.declared.refusal.Stop.{Stop}
 use Rattle.ob_base.specs.declared.refusal.Stop.TheVariants.{Tampered, SourceFault, SinkFault, NoMemory, InputLimit}
+use Rattle.clap.specs.Words.{Text}
+use Rattle.ob_exec.specs.Agreeing.{public_of, world_of}
+use Rattle.ob_exec.specs.Telling.{AreHeld, Represents}
+use Rattle.ob_exec.specs.declared.engine.Engine.{Engine}
 use Rattle.ob_grammar.proofs.Forms.{Whatever}
 use Rattle.ob_grammar.proofs.Placed.{one_value}
 use Rattle.ob_mean.specs.Replay.{Session, first_public, first_session}
 use Rattle.ob_meddle.specs.Due.{is_fail, fails_at, failed_among, has_acted, are_later, disturbance_of, disturbances}
-use Rattle.ob_meddle.specs.Shows.{Shows}
+use Rattle.ob_meddle.specs.Shows.{Shows, list_of, state_of}
+use Rattle.ob_meddle.specs.declared.store.MeddledStore.{MeddledStore}
+use Rattle.ob_meddle.proofs.ShowLemmas.{shows}
+use Rattle.ob_meddle.proofs.DueLemmas.{all_later}
 use Rattle.ob_meddle.specs.declared.meddle.Meddle.{Meddle}
 use Rattle.ob_parse.proofs.GoodStatements.{any_end, good_statement}
 use Rattle.ob_parse.specs.StatementReading.{statement}
@@ -19,11 +29,16 @@ use Rattle.ob_shell.specs.Disturbed.{AskedInAll}
 use Rattle.ob_shell.specs.Endings.{status_of}
 use Rattle.ob_shell.specs.Failures.{failures, RisesBy}
 use Rattle.ob_shell.specs.Running.{Faults, SinksRose}
-use Rattle.ob_shell.specs.Steps.{machine_of}
-use Rattle.ob_shell.specs.Top.{EndsUntampered, IsHonest, Reported, Carried}
+use Rattle.ob_shell.specs.Meddling.{Undisturbed, Meddled}
+use Rattle.ob_shell.specs.Replayed.{session_of}
+use Rattle.ob_shell.specs.Steps.{Machine, machine_of, Answer, Steps}
+use Rattle.ob_shell.specs.Top.{EndsUntampered, EndingPart, IsHonest, Reported}
+use Rattle.ob_shell.specs.Tracing.{Traced}
+use Rattle.ob_shell.specs.Usage.{MeddleParses, ParsesChanges, is_traced, meddle_usage}
 use Rattle.ob_shell.specs.declared.top.Ending.{Ending}
 use Rattle.ob_shell.specs.declared.top.Ending.TheVariants.{Usage, BadKey, Ran}
 use Rattle.ob_shell.specs.declared.top.Report.{Report}
+use Rattle.ob_shell.proofs.CloseLemmas.{reported_taken}
 use Rattle.ob_shell.proofs.DisturbLemmas.{IsOne, before_less, session_within}
 use Rattle.ob_store.specs.Calls.{IsBefore, IsQuiet, IsSteady}
 use Rattle.ob_store.specs.Runs.{Later}
@@ -100,6 +115,26 @@ failures_none : failures [] ≡ 0
 unfolding failures
 failures_none = refl
 
+-- a count that stands at 0 did not rise
+none_rose : (n faults : ℕ) → RisesBy n faults 0 → n ≡ 0
+none_rose n faults rose = omega (arith, rose)
+
+-- no table is held where none is public
+nothing_held : {R : Type 0} (state : R → RevState) (first : Engine R) (s : StoreState) (p : Public) → public_of first ≡ p → p.tables ≡ [] → Represents state first s []
+nothing_held state first s p is none =
+    record { held = subst (λ (q : Public). AreHeld q.pack q.tables [] (world_of state first s)) (sym is) (subst (λ (ts : List Table). AreHeld p.pack ts [] (world_of state first s)) (sym none) tt) }
+
+-- what was done after the last text that was served, whatever the ending
+ending_within : {R : Type 0} (state : R → RevState) (m0 m1 m2 : Machine R) (texts more : List (List ℕ)) (answers : List Answer) (part : List ℕ) (ending : Ending) (n : ℕ)
+    → Steps state m0 m1 texts answers → EndingPart state m1 m2 more part ending → IsTrue m0.store.tells → IsSteady m0.store → Represents state m0.engine m0.store []
+    → AskedInAll (session_of m0 []) (texts ++ more) n → IsBefore m0.store.disturbed n → length m2.store.asked ≤ n
+ending_within state m0 m1 m2 texts more answers part Usage n steps rests tells steady held all before =
+    session_within unique state texts more m0 m1 m2 [] answers part (Ok false) n steps rests tells steady held all before
+ending_within state m0 m1 m2 texts more answers part BadKey n steps rests tells steady held all before =
+    session_within unique state texts more m0 m1 m2 [] answers part (Ok false) n steps rests tells steady held all before
+ending_within state m0 m1 m2 texts more answers part (Ran result) n steps last tells steady held all before =
+    session_within unique state texts more m0 m1 m2 [] answers part result n steps last tells steady held all before
+
 module _ {R : Type 0} {state : R → RevState} {Takes : Type 0} {max : ℕ} {l0 l1 w0 w1 : Option (List ℕ)} {s0 s1 : StoreState} {old new : Faults} {report : Report}
     (r : Reported state Takes max l0 l1 w0 w1 s0 s1 old new report) where
   pub reported_later : Later s0 s1
@@ -114,3 +149,68 @@ module _ {R : Type 0} {state : R → RevState} {Takes : Type 0} {max : ℕ} {l0 
     | inl none ↦ let same = ap (λ (s : StoreState). s.faults) none.store in let zero = ap failures none.unanswered ∙ failures_none in omega (arith, same, zero)
     | inr some ↦ some.failed
   ]
+
+  -- where all changes come later than what the texts ask in all
+  pub all_within : (n : ℕ) → s0.asked ≡ [] → IsTrue s0.tells → IsSteady s0 → AskedInAll (first_session (first_public 64 5 1 None)) (r.shown.served ++ r.shown.more) n → IsBefore s0.disturbed n → length s1.asked ≤ n
+  all_within n none tells steady all before = elim r.shown.carried [
+    | inl idle ↦ omega (arith, ap (λ (s : StoreState). length s.asked) idle.store, ap (λ (l : List Access). length l) none)
+    | inr some ↦
+    let here : first_session (first_public 64 5 1 None) ≡ session_of (machine_of some.first s0) [] = λ i. record { public = sym some.fresh i; tables = []; asked = length (sym none i) } in
+    ending_within state (machine_of some.first s0) some.middle (machine_of some.last s1) r.shown.served r.shown.more r.shown.answers r.shown.part r.ending n some.steps some.rest tells steady
+    (nothing_held state some.first s0 (first_public 64 5 1 None) some.fresh refl)
+    (subst (λ (s : Session). AskedInAll s (r.shown.served ++ r.shown.more) n) here all) before
+  ]
+
+  pub undisturbed : IsTrue s0.tells → IsQuiet s1 → Undisturbed r.shown.answers s0 s1 report
+  undisturbed tells quiet =
+      let honest : IsHonest s0 s1 = record { tells = tells; no_lie = quiet.lie } in
+      record {
+        honest = honest;
+        untampered = honest_status honest;
+        unfailed = none_rose _ s0.faults (subst (λ (n : ℕ). RisesBy (failures r.shown.answers) s0.faults n) quiet.faults failures_rise);
+      }
+
+-- ---- the store that is handed back
+failed_none : (list : List Meddle) → failed_among list 0 ≡ 0
+unfolding failed_among
+failed_none list = refl
+
+pub meddled : {R : Type 0} {state : R → RevState} {words : List Text} {max : ℕ} {l0 l1 w0 w1 t0 t1 : Option (List ℕ)} {old new : Faults} {report : Report}
+    (m0 m1 : MeddledStore) (list : List Meddle) → ParsesChanges words list → list_of m0 ≡ list → (state_of m0).asked ≡ []
+    → Reported state ⊤ max l0 l1 w0 w1 (state_of m0) (state_of m1) old new report
+    → Traced (is_traced meddle_usage words) (state_of m0).asked (state_of m1).asked t0 t1 (SinksRose old new)
+    → Meddled state words max l0 l1 w0 w1 t0 t1 old new m1 report
+meddled {state = state} {words = words} {max = max} {l0 = l0} {l1 = l1} {w0 = w0} {w1 = w1} {old = old} {new = new} {report = report} m0 m1 list parses same none served traced =
+    let s0 = state_of m0 in
+    let s1 = state_of m1 in
+    let r : Reported state (MeddleParses words) max l0 l1 w0 w1 s0 s1 old new report = reported_taken (list, parses) served in
+    let later = reported_later r in
+    let changes : s0.disturbed ≡ disturbances list = (shows m0).disturbed ∙ ap disturbances same in
+    let there : Shows list s1 = shows_alike (list_of m1) list (sym (shows m1).disturbed ∙ later.disturbed ∙ changes) s1 (shows m1) in
+    let steady : IsSteady s0 = λ before. (shows m0).quiet (all_later (list_of m0) (length s0.asked) (subst (λ (o : Option (List Disturbance)). IsBefore o (length s0.asked)) (shows m0).disturbed before)) in
+    let counted = (shows m0).counted ∙ ap (λ (l : List Access). failed_among (list_of m0) (length l)) none ∙ failed_none (list_of m0) in
+    let faults : s0.faults ≡ 0 = omega (arith, counted) in
+    record {
+      list = list;
+      words_are = parses;
+      start = s0;
+      fresh = none;
+      tells = refl;
+      changes = changes;
+      steady = steady;
+      reported = r;
+      traced = traced;
+      shows = there;
+      undisturbed = λ n all after.
+          let before : IsBefore s0.disturbed n = subst (λ (o : Option (List Disturbance)). IsBefore o n) (sym changes) (before_of list n after) in
+          let within = all_within r n none refl steady all before in
+          let before_there : IsBefore s1.disturbed (length s1.asked) = subst (λ (o : Option (List Disturbance)). IsBefore o (length s1.asked)) (sym later.disturbed) (before_less s0.disturbed (length s1.asked) n within before) in
+          undisturbed r refl (later.steady steady before_there);
+      unchanged = λ all.
+          let honest : IsHonest s0 s1 = record { tells = refl; no_lie = there.caused (none_acts list (length s1.asked) all) } in (honest, honest_status r honest);
+      failed =
+          let rose = failures_rise r in
+          let most = there.counted in
+          omega (arith, rose, most, faults);
+      tampered = λ is. acted_or_not (has_acted list (length s1.asked)) (λ no. honest_status r (record { tells = refl; no_lie = there.caused no }) is);
+    }
