@@ -1,7 +1,7 @@
 mod Ranges
 mod ActLemmas
-mod DueLemmas
+pub mod DueLemmas
 mod StoreLemmas
-mod ShowLemmas
+pub mod ShowLemmas
 mod ChangeLemmas
 mod Spelt
