@@ -62,7 +62,8 @@ pub fn constant<'a>(text: &[u8], tokens: &'a [Token]) -> Result<(Literal, &'a [T
 
 #[tactic(auto, unfolding(crate::specs::Reading::operand))]
 fn operand<'a>(text: &[u8], tokens: &'a [Token]) -> Result<(Against, &'a [Token]), Fault<'a>>
-    ensures { Gives (λ a. a) result (operand text.now tokens.now) }
+    ensures value { Gives (λ a. a) result (operand text.now tokens.now) }
+    ensures no_memory { IfErr result IsStuck }
 {
     if begins_name(tokens) {
         let (found, rest) = column(tokens)?;

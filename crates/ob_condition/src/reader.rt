@@ -1,10 +1,9 @@
 //! Single tokens are read.
-ghost use Rattle.std.specs.Prelude.{◌≡◌, List, true, is_some, IfErr};
+ghost use Rattle.std.specs.Prelude.{◌≡◌, true, is_some, IfErr};
 ghost use Rattle.ob_token.specs.Bytes.{unquoted};
 ghost use Rattle.ob_grammar.specs.Reader.{token};
 ghost use Rattle.ob_condition.specs.Marks.{held, key, literal_of, name_of, number_of, order_mark, order_of, short_text, sign_mark, sign_of, signed, text_at};
-ghost use Rattle.ob_condition.specs.Conditions.{bare, qualified};
-ghost use Rattle.ob_condition.specs.Reading.{begins, Begun, Gives, IsStuck, Skips, Takes, column, constant, operand};
+ghost use Rattle.ob_condition.specs.Reading.{begins, Begun, Gives, IsStuck, Skips, Takes};
 
 use arrayvec::ArrayVec;
 use ob_base::{Name, Text};
