@@ -3,7 +3,7 @@ use Rattle.std.proofs.Common.{◌≡◌, ℕ, ◌<◌, List, [], ◌∷◌, leng
 use Rattle.ob_grammar.proofs.Forms.{Whatever, takes_some}
 use Rattle.ob_grammar.proofs.Loops.{Turns, turns_end, turns_next, turns_stuck}
 use Rattle.ob_token.specs.declared.token.Token.{Token}
-use Rattle.ob_parse.specs.Reading.{begins}
+use Rattle.ob_condition.specs.Reading.{begins}
 use Rattle.ob_parse.specs.Statements.{Constraint}
 use Rattle.ob_parse.specs.StatementReading.{constrains, constraint, constraints}
 use Rattle.ob_parse.proofs.GoodStatements.{any_end, constraint_first, good_constraint}

@@ -18,13 +18,13 @@ use Rattle.ob_token.specs.declared.token.Mark.TheVariants as M
 use Rattle.ob_token.specs.declared.token.Lexeme.TheVariants as L
 use Rattle.ob_token.specs.declared.token.Token.{Token}
 use Rattle.ob_sql.specs.Search.{Search}
-use Rattle.ob_parse.specs.Marks.{flag, integer_mark, integer_of, is, key, marked, name_in, name_of, number_of}
-use Rattle.ob_parse.specs.Conditions.{Column, Condition, Constant, Where}
-use Rattle.ob_parse.specs.Reading.{column, condition, constant, where_part}
-use Rattle.ob_parse.specs.Statements.{all_columns, capped, new_column, select, set_of, Argument, Assignment, Behind, Body, Constraint, Counted, Create, Definition, Delete, Drop, Group, Groups, Insert, Itemized, Joins, Kind, Names, OneItem, Selection, Sources, Starred, Statement, Targets, Update}
+use Rattle.ob_condition.specs.Marks.{flag, is, key, marked, name_in, name_of, number_of}
+use Rattle.ob_condition.specs.Conditions.{Column, Condition, Constant, Where}
+use Rattle.ob_condition.specs.Reading.{column, condition, constant, where_part}
+use Rattle.ob_parse.specs.Statements.{all_columns, capped, integer_mark, integer_of, new_column, select, set_of, Argument, Assignment, Behind, Body, Constraint, Counted, Create, Definition, Delete, Drop, Group, Groups, Insert, Itemized, Joins, Kind, Names, OneItem, Selection, Sources, Starred, Statement, Targets, Update}
 use Rattle.ob_parse.specs.StatementReading.{all_or_column, argument, assignment, behind, body, constrains, constraint, constraints, counted, create, definition, delete, deleting, drop_table, dropping, expects, greatest, group, groups, insert, inserting, item, itemized, joined_or, joins, kind, least, names, selection, sources, starred, statement, summed, targets, update, updating, varchar}
-use Rattle.ob_parse.proofs.Told.{of, apart, apart_some, no_key}
-use Rattle.ob_parse.proofs.GoodConditions.{AfterColumn, AfterCond, column_first, good_column, good_condition, good_constant}
+use Rattle.ob_condition.proofs.Told.{of, apart, apart_some, no_key}
+use Rattle.ob_condition.proofs.GoodConditions.{AfterColumn, AfterCond, column_first, good_column, good_condition, good_constant}
 
 -- ---- helpers
 

@@ -1,9 +1,3 @@
-pub mod Quoted
-pub mod Told
-pub mod GoodConditions
-pub mod Ends
-pub mod Faults
-pub mod PrimSteps
 pub mod GoodStatements
 pub mod Constraints
 pub mod Selects

@@ -11,8 +11,8 @@ use Rattle.ob_sql.specs.declared.stmt.Stmt.{Stmt}
 use Rattle.ob_sql.specs.Search.{Search}
 use Rattle.ob_token.specs.declared.token.Mark.TheVariants as M
 use Rattle.ob_token.specs.declared.token.Token.{Token}
-use Rattle.ob_parse.specs.Marks.{key, name_of}
-use Rattle.ob_parse.specs.Conditions.{Where}
+use Rattle.ob_condition.specs.Marks.{key, name_of}
+use Rattle.ob_condition.specs.Conditions.{Where}
 use Rattle.ob_parse.specs.Statements.{all_columns, is_column, select, Behind, Groups, Itemized, Joins, OneItem, Selection, Sources, Starred}
 use Rattle.ob_parse.specs.Selects.{ColumnItem, ColumnsOfJoin, Inners, ItemsOfTable, OneSource, ThreeForms}
 

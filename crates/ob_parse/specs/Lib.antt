@@ -1,6 +1,3 @@
-pub mod Marks
-pub mod Conditions
-pub mod Reading
 pub mod Statements
 pub mod StatementReading
 pub mod Selects

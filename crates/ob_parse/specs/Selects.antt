@@ -8,8 +8,8 @@ use Rattle.ob_sql.specs.declared.stmt.Listed.TheVariants as I
 use Rattle.ob_sql.specs.declared.stmt.Stmt.{Stmt}
 use Rattle.ob_token.specs.declared.token.Mark.TheVariants as M
 use Rattle.ob_token.specs.declared.token.Token.{Token}
-use Rattle.ob_parse.specs.Marks.{key, name_of}
-use Rattle.ob_parse.specs.Conditions.{Column, Where}
+use Rattle.ob_condition.specs.Marks.{key, name_of}
+use Rattle.ob_condition.specs.Conditions.{Column, Where}
 use Rattle.ob_parse.specs.Statements.{select, Group, Joins, OneItem}
 
 -- [ INNER ] JOIN name ON column '=' column, behind a table

@@ -15,9 +15,9 @@ use Rattle.ob_sql.specs.declared.stmt.Stmt.TheVariants as S
 use Rattle.ob_token.specs.declared.token.Mark.{Mark}
 use Rattle.ob_token.specs.declared.token.Mark.TheVariants as M
 use Rattle.ob_token.specs.declared.token.Token.{Token}
-use Rattle.ob_parse.specs.Marks.{integer_of, is, key, name_of, number_of}
-use Rattle.ob_parse.specs.Reading.{Read, column, constant, where_part}
-use Rattle.ob_parse.specs.Statements.{all_columns, capped, new_column, select, set_of}
+use Rattle.ob_condition.specs.Marks.{is, key, name_of, number_of}
+use Rattle.ob_condition.specs.Reading.{Read, column, constant, where_part}
+use Rattle.ob_parse.specs.Statements.{all_columns, capped, integer_of, new_column, select, set_of}
 
 abbrev pub expects : {V : Type 0} → Mark → (List Token → Read V) → List Token → Read V
 expects m r = R.bind (R.token (key m)) (λ _. r)

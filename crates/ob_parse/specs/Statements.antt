@@ -13,11 +13,20 @@ use Rattle.ob_sql.specs.declared.stmt.Literal.{Literal}
 use Rattle.ob_sql.specs.declared.stmt.Set.{Set}
 use Rattle.ob_sql.specs.declared.stmt.Stmt.{Stmt}
 use Rattle.ob_sql.specs.declared.stmt.Stmt.TheVariants as S
+use Rattle.ob_token.specs.declared.token.Mark.{Mark}
 use Rattle.ob_token.specs.declared.token.Mark.TheVariants as M
 use Rattle.ob_token.specs.declared.token.Token.{Token}
 use Rattle.ob_sql.specs.Search.{Search}
-use Rattle.ob_parse.specs.Marks.{integer_of, key, name_of, number_of}
-use Rattle.ob_parse.specs.Conditions.{Column, Constant, Where}
+use Rattle.ob_condition.specs.Marks.{key, marked, name_of, number_of}
+use Rattle.ob_condition.specs.Conditions.{Column, Constant, Where}
+
+abbrev pub integer_mark : Mark → Option NewKind
+integer_mark M.Int = Some K.Int
+integer_mark M.Integer = Some K.Int
+integer_mark m = None
+
+abbrev pub integer_of : Token → Option NewKind
+integer_of t = marked integer_mark t.lexeme
 
 -- sizes are kept up to the largest number of 32 bits
 abbrev pub capped : ℕ → ℕ

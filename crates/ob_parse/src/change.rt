@@ -1,16 +1,14 @@
 //! CREATE, INSERT, UPDATE, DELETE and DROP are read, behind their first words.
 ghost use Rattle.std.specs.Prelude.{◌≡◌, ◌≤◌, length, IfOk};
-ghost use Rattle.ob_parse.specs.Statements.{capped, new_column, set_of};
-ghost use Rattle.ob_parse.specs.Reading.{Begun, Gives};
+ghost use Rattle.ob_parse.specs.Statements.{capped, integer_mark, integer_of, new_column, set_of};
+ghost use Rattle.ob_condition.specs.Reading.{Begun, Gives};
 ghost use Rattle.ob_parse.specs.StatementReading.{assignment, constrains, constraint, constraints, create, definition, delete, drop_table, insert, kind, names, targets, update, varchar};
-ghost use Rattle.ob_parse.specs.Marks.{integer_mark, integer_of};
-ghost use Rattle.ob_parse.specs.Reading.{begins};
+ghost use Rattle.ob_condition.specs.Reading.{begins};
 ghost use Rattle.ob_grammar.specs.Reader.{token};
 
-use crate::condition::{constant, where_part};
 use crate::part::{Part, list};
-use crate::reader::{Fault, expect, name, number, skip};
 use ob_base::{Items, Name, NewColumn, NewKind};
+use ob_condition::{Fault, constant, expect, name, number, skip, where_part};
 use ob_sql::{Literal, Set, Stmt};
 use ob_token::{Lexeme, Mark, Token};
 use std::alloc::Global;

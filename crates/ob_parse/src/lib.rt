@@ -2,11 +2,9 @@
 #![tactic(auto)]
 
 mod change;
-mod condition;
 mod outline;
 mod parser;
 mod part;
-mod reader;
 mod select;
 #[cfg(test)]
 mod spelled;

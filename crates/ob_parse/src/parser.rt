@@ -1,7 +1,7 @@
 //! A text is read as a statement.
 ghost use Rattle.std.specs.Prelude.{◌≡◌, ◌<◌, ◌↔◌, ℕ, List, length, IfOk, IfErr};
 ghost use Rattle.ob_sql.specs.declared.stmt.Stmt.{Stmt as StmtData};
-ghost use Rattle.ob_parse.specs.Reading.{Gives};
+ghost use Rattle.ob_condition.specs.Reading.{Gives};
 ghost use Rattle.ob_parse.specs.Refusal.{IsRefused, last_end, offset};
 ghost use Rattle.ob_parse.specs.StatementReading.{body, deleting, dropping, inserting, statement, updating};
 ghost use Rattle.ob_parse.specs.Selects.{ThreeForms};
@@ -10,8 +10,8 @@ ghost use Rattle.ob_token.specs.declared.token.Token.{Token as TokenData};
 ghost use Rattle.ob_token.specs.Tokens.{tokens_of};
 
 use crate::change::{create, delete, drop_table, insert, update};
-use crate::reader::{Fault, expect, skip};
 use crate::select::selection;
+use ob_condition::{Fault, expect, skip};
 use ob_sql::Stmt;
 use ob_token::{Mark, Token, tokens};
 use std::alloc::Global;

@@ -2,14 +2,13 @@
 ghost use Rattle.std.specs.Prelude.{◌≡◌, ◌≤◌, length, IfOk};
 ghost use Rattle.ob_grammar.specs.Reader.{listed, token};
 ghost use Rattle.ob_token.specs.declared.token.Mark.TheVariants.{Comma};
-ghost use Rattle.ob_parse.specs.Marks.{key, name_of};
-ghost use Rattle.ob_parse.specs.Reading.{Gives, constant};
+ghost use Rattle.ob_condition.specs.Marks.{key, name_of};
+ghost use Rattle.ob_condition.specs.Reading.{Gives, constant};
 
 use crate::change::{assignment, definition};
-use crate::condition::constant;
-use crate::reader::{Fault, name, skip};
 use crate::select::item;
 use ob_base::{Items, Name, NewColumn};
+use ob_condition::{Fault, constant, name, skip};
 use ob_sql::{Listed, Literal, Set};
 use ob_token::{Mark, Token};
 use std::alloc::Global;
@@ -18,7 +17,7 @@ use std::alloc::Global;
 pub(crate) trait Part {
     ghost use Rattle.std.specs.Prelude.{ℕ, List};
     ghost use Rattle.ob_token.specs.declared.token.Token.{Token as TokenData};
-    ghost use Rattle.ob_parse.specs.Reading.{Read};
+    ghost use Rattle.ob_condition.specs.Reading.{Read};
 
     // What reading one of the tokens of a text gives.
     ghost reading: { List ℕ → List TokenData → Read Self };
@@ -30,7 +29,7 @@ pub(crate) trait Part {
 
 impl Part for Name {
     ghost use Rattle.ob_grammar.specs.Reader.{token};
-    ghost use Rattle.ob_parse.specs.Marks.{name_of};
+    ghost use Rattle.ob_condition.specs.Marks.{name_of};
 
     ghost reading = { λ text. token name_of };
 
@@ -40,7 +39,7 @@ impl Part for Name {
 }
 
 impl Part for Literal {
-    ghost use Rattle.ob_parse.specs.Reading.{constant};
+    ghost use Rattle.ob_condition.specs.Reading.{constant};
 
     ghost reading = { λ text. constant text };
 

@@ -1,13 +1,12 @@
 //! SELECT is read, behind its first word.
 ghost use Rattle.std.specs.Prelude.{◌≡◌, ◌≤◌, length, IfOk};
 ghost use Rattle.ob_parse.specs.Statements.{all_columns, is_column};
-ghost use Rattle.ob_parse.specs.Reading.{Gives};
+ghost use Rattle.ob_condition.specs.Reading.{Gives};
 ghost use Rattle.ob_parse.specs.StatementReading.{all_or_column, argument, behind, counted, greatest, group, groups, item, itemized, joined_or, joins, least, selection, sources, starred, summed};
 
-use crate::condition::{column, where_part};
 use crate::part::list;
-use crate::reader::{Fault, expect, name, skip};
 use ob_base::{ColumnName, Name, Source};
+use ob_condition::{Fault, column, expect, name, skip, where_part};
 use ob_sql::{Listed, Select, Stmt};
 use ob_token::{Mark, Token};
 use std::alloc::Global;

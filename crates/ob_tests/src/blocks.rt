@@ -14,8 +14,11 @@ const SESSION: Case = Case {
 };
 
 /// The same, and a count.
-const COUNTED: &str = "CREATE TABLE t (id INT PRIMARY KEY, v INT) CAPACITY 4; INSERT INTO t VALUES (1, 10); SELECT COUNT(*) FROM t;";
-const TRACE: &str = "M 1 4 49\nW 1 0\nW 1 1\nW 1 2\nW 1 3\nM 2 4 49\nR 1 0\nR 1 1\nR 1 2\nR 1 3\nR 1 0\nW 2 0\nR 1 1\nW 2 1\nR 1 2\nW 2 2\nR 1 3\nW 2 3\nD 1\nR 2 0\nR 2 1\nR 2 2\nR 2 3\n";
+const COUNTED: &str =
+    "CREATE TABLE t (id INT PRIMARY KEY, v INT) CAPACITY 4; INSERT INTO t VALUES (1, 10); SELECT COUNT(*) FROM t;";
+
+const TRACE: &str =
+    "M 1 4 49\nW 1 0\nW 1 1\nW 1 2\nW 1 3\nM 2 4 49\nR 1 0\nR 1 1\nR 1 2\nR 1 3\nR 1 0\nW 2 0\nR 1 1\nW 2 1\nR 1 2\nW 2 2\nR 1 3\nW 2 3\nD 1\nR 2 0\nR 2 1\nR 2 2\nR 2 3\n";
 
 /// The row (1, 10), as it is spelt.
 const ROW: [u8; 17] = [1, 0, 0, 0, 0, 0, 0, 0, 1, 0, 0, 0, 0, 0, 0, 0, 10];

@@ -129,14 +129,25 @@ fn changes_show_or_end_the_run(rt: HostRuntime) -> Result<(), Fail> {
 
 /// Values of `--meddle` that have no form of changes.
 const MALFORMED: [&str; 9] = [
-    "", "fail", "0:fail", "01:fail", "1:fail,", "1:flip:1.0", "1:flip:1.0.x", "1:copy:1.0", "1:old:1.4294967296",
+    "",
+    "fail",
+    "0:fail",
+    "01:fail",
+    "1:fail,",
+    "1:flip:1.0",
+    "1:flip:1.0.x",
+    "1:copy:1.0",
+    "1:old:1.4294967296",
 ];
 
 #[test]
 fn changes_of_another_form_are_refused(rt: HostRuntime) -> Result<(), Fail> {
     let a = rt.alloc();
     for changes in &MALFORMED {
-        let words = vec![in a; String::from_str(a, "--meddle")?, String::from_str(a, *changes)?]?;
+        let words = vec![in a;
+            String::from_str(a, "--meddle")?,
+            String::from_str(a, *changes)?,
+        ]?;
         let mut input = MemSource::new(keyed(a, "")?, Vec::new(a));
         let mut out = MemSink::new(a, 64, Vec::new(a))?;
         let mut trace = MemSink::new(a, 64, Vec::new(a))?;
@@ -149,12 +160,21 @@ fn changes_of_another_form_are_refused(rt: HostRuntime) -> Result<(), Fail> {
 }
 
 /// The longest session: its texts, what each is answered, and at which access each ends.
-const TEXTS: &str = "CREATE TABLE t (id INT PRIMARY KEY, v INT) CAPACITY 4; INSERT INTO t VALUES (1, 10); INSERT INTO t VALUES (2, 20); INSERT INTO t VALUES (3, 10); INSERT INTO t VALUES (1, 99); SELECT COUNT(*) FROM t; SELECT COUNT(*) FROM t;";
+const TEXTS: &str =
+    "CREATE TABLE t (id INT PRIMARY KEY, v INT) CAPACITY 4; INSERT INTO t VALUES (1, 10); INSERT INTO t VALUES (2, 20); INSERT INTO t VALUES (3, 10); INSERT INTO t VALUES (1, 99); SELECT COUNT(*) FROM t; SELECT COUNT(*) FROM t;";
+
 const ANSWERS: [&str; 7] = [
-    "= created\n", "= inserted\n", "= inserted\n", "= inserted\n", "E10 duplicate\n",
-    "\"COUNT(*)\"\n\"3\"\n= 1 rows\n", "\"COUNT(*)\"\n\"3\"\n= 1 rows\n",
+    "= created\n",
+    "= inserted\n",
+    "= inserted\n",
+    "= inserted\n",
+    "E10 duplicate\n",
+    "\"COUNT(*)\"\n\"3\"\n= 1 rows\n",
+    "\"COUNT(*)\"\n\"3\"\n= 1 rows\n",
 ];
+
 const ENDS: [u64; 7] = [5, 19, 33, 47, 61, 65, 69];
+
 const TRACE: [&str; 69] = [
     "M 1 4 49\n",
     "W 1 0\n",
@@ -300,7 +320,11 @@ fn answers_but(broken: usize) -> [&'static str; 7] {
             *answer = "E02 no table\n";
         }
     } else if broken < 4 {
-        let count = if broken == 1 { ANSWERS[5] } else { "\"COUNT(*)\"\n\"2\"\n= 1 rows\n" };
+        let count = if broken == 1 {
+            ANSWERS[5]
+        } else {
+            "\"COUNT(*)\"\n\"2\"\n= 1 rows\n"
+        };
         answers[5] = count;
         answers[6] = count;
         if broken == 1 {
@@ -315,7 +339,10 @@ fn answers_but(broken: usize) -> [&'static str; 7] {
 fn every_failed_access_ends_its_statement(rt: HostRuntime) -> Result<(), Fail> {
     let a = rt.alloc();
     for (before, line) in (1..).zip(&TRACE) {
-        let change = Meddle { before, act: Act::Fail };
+        let change = Meddle {
+            before,
+            act: Act::Fail,
+        };
         let (broken, start) = statement_of(before);
         let mut answers = Vec::new(a);
         let (said, total) = if line.as_bytes()[0] == b'D' {
@@ -342,7 +369,14 @@ fn every_failed_read_of_the_source_ends_the_run(rt: HostRuntime) -> Result<(), F
         let mut out = MemSink::new(a, 1024, Vec::new(a))?;
         let mut trace = MemSink::new(a, 1024, Vec::new(a))?;
         let mut store = MeddledStore::new(a, Vec::new(a));
-        let report = shell_top(a, &Vec::new(a), &mut input, &mut out, &mut trace, &mut store);
+        let report = shell_top(
+            a,
+            &Vec::new(a),
+            &mut input,
+            &mut out,
+            &mut trace,
+            &mut store,
+        );
         assert_eq!(rt; report.status, 5);
         assert_eq!(rt; store.count(), if fail == 1 { 0 } else { 69 });
         assert!(rt; out.bytes().ends_with(b"! source fault\n".as_slice()));
@@ -370,7 +404,15 @@ fn every_failed_write_ends_the_run(rt: HostRuntime) -> Result<(), Fail> {
             let fails = vec![in a; fail]?;
             let mut input = MemSource::new(keyed(a, TEXTS)?, Vec::new(a));
             let mut out = MemSink::new(a, 1024, if of_out { fails } else { Vec::new(a) })?;
-            let mut trace = MemSink::new(a, 1024, if of_out { Vec::new(a) } else { vec![in a; fail]? })?;
+            let mut trace = MemSink::new(
+                a,
+                1024,
+                if of_out {
+                    Vec::new(a)
+                } else {
+                    vec![in a; fail]?
+                },
+            )?;
             let mut store = MeddledStore::new(a, Vec::new(a));
             let report = shell_top(a, &words, &mut input, &mut out, &mut trace, &mut store);
             assert_eq!(rt; report.status, if fail <= writes { 6 } else { 1 });
@@ -383,15 +425,24 @@ fn every_failed_write_ends_the_run(rt: HostRuntime) -> Result<(), Fail> {
 #[test]
 fn an_input_may_end_anywhere(rt: HostRuntime) -> Result<(), Fail> {
     let a = rt.alloc();
-    let text = "CREATE TABLE t (id INT PRIMARY KEY, v INT) CAPACITY 4; INSERT INTO t VALUES (1, 10); -- one\nSELECT COUNT(*) FROM t;";
-    let whole = keyed(a, text)?;
-    let mut blank = true;
-    let mut comment = false;
+    let whole = keyed(
+        a,
+        "CREATE TABLE t (id INT PRIMARY KEY, v INT) CAPACITY 4; INSERT INTO t VALUES (1, 10); -- one\nSELECT COUNT(*) FROM t; -- two",
+    )?;
+    // whether what follows the last semicolon is blank, or was but for one dash, and whether it ends in a comment
+    let (mut blank, mut dashed, mut comment) = (true, false, false);
     for length in 0..=whole.len() {
         if length > 65 {
             let b = whole[length - 1];
-            comment = (comment || b == b'-') && b != b'\n';
-            blank = b == b';' || (blank && (comment || b == b' ' || b == b'\n'));
+            if comment {
+                comment = b != b'\n';
+            } else if b == b'-' {
+                comment = dashed;
+                (blank, dashed) = (dashed, blank);
+            } else {
+                blank = b == b';' || (blank && (b == b' ' || b == b'\n'));
+                dashed = false;
+            }
         }
         let mut bytes = Vec::new(a);
         bytes.extend_from_slice(&whole[..length])?;
@@ -399,7 +450,12 @@ fn an_input_may_end_anywhere(rt: HostRuntime) -> Result<(), Fail> {
         let mut out = MemSink::new(a, 1024, Vec::new(a))?;
         let mut trace = MemSink::new(a, 1024, Vec::new(a))?;
         let (report, _) = meddle_top(a, &Vec::new(a), &mut input, &mut out, &mut trace);
-        assert_eq!(rt; report.status, if length < 64 { 2 } else if blank { 0 } else { 1 });
+        let status = match (length < 64, blank) {
+            (true, _) => 2,
+            (false, true) => 0,
+            (false, false) => 1,
+        };
+        assert_eq!(rt; report.status, status);
     }
     Ok(())
 }

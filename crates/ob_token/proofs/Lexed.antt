@@ -1,5 +1,5 @@
 -- The tokens behind a piece.
-use Rattle.std.proofs.Common.{◌≡◌, ℕ, zero, suc, pred, ◌+◌, ◌≤◌, ◌<◌, List, [], ◌∷◌, ◌++◌, length, drop, true, false, Option, Some, None, refl, sym, ◌∙◌, ap, arith, append_assoc, append-nil, length-drop}
+use Rattle.std.proofs.Common.{◌≡◌, ℕ, zero, suc, pred, ◌+◌, ◌≤◌, ◌<◌, List, [], ◌∷◌, ◌++◌, length, drop, Bool, true, false, Option, Some, None, refl, sym, ◌∙◌, ap, arith, append_assoc, append-nil, length-drop}
 use Rattle.std.specs.Prelude.{if◌then◌else◌}
 use Rattle.ob_token.specs.declared.token.Lexeme.{Lexeme}
 use Rattle.ob_token.specs.declared.token.Token.{Token}
@@ -23,46 +23,61 @@ at_piece (suc n) at (b ∷ bs) found lt m e f =
     ∙ ap (λ k. then_piece found at (at + k) (tokens_from (pred k) (suc at) bs)) e
     ∙ ap (λ ts. then_piece found at (at + suc n) ts) (skipped n (suc at) bs ∙ ap (λ k. tokens_from 0 k (drop n bs)) next)
 
--- what the loop over the pieces keeps
-pub record Cut (text : List ℕ) (found : List Token) (at : ℕ) (rest : List ℕ) : Type 0 where
-  pub tokens : tokens_of text ≡ found ++ tokens_from 0 at rest
-  pub place : at + length rest ≡ length text
+-- what the loop over the pieces before a token keeps
+pub record Left (offset : ℕ) (bytes : List ℕ) (at : ℕ) (rest : List ℕ) : Type 0 where
+  pub same : tokens_from 0 offset bytes ≡ tokens_from 0 at rest
+  pub place : at + length rest ≡ offset + length bytes
+  pub within : length rest ≤ length bytes
 
-pub cut_gap : (text : List ℕ) (found : List Token) (at n : ℕ) (rest : List ℕ) → Cut text found at rest → 0 < length rest → 0 < n → n ≤ length rest
-    → (piece rest).len ≡ n → (piece rest).lexeme ≡ None → Cut text found (at + n) (drop n rest)
-cut_gap text found at n rest cut lt m le e f = record {
-  tokens = cut.tokens ∙ ap (λ ts. found ++ ts) (at_piece n at rest None lt m e f);
-  place = omega (arith, cut.place, length-drop n rest, le);
+pub behind_gap : (offset : ℕ) (bytes : List ℕ) (at n : ℕ) (rest : List ℕ) → Left offset bytes at rest → 0 < length rest → 0 < n → n ≤ length rest
+    → (piece rest).len ≡ n → (piece rest).lexeme ≡ None → Left offset bytes (at + n) (drop n rest)
+behind_gap offset bytes at n rest left lt m le e f = record {
+  same = left.same ∙ at_piece n at rest None lt m e f;
+  place = omega (arith, left.place, length-drop n rest, le);
+  within = omega (arith, left.within, length-drop n rest);
 }
 
-pub cut_token : (text : List ℕ) (found : List Token) (at n : ℕ) (rest : List ℕ) (lexeme : Lexeme) → Cut text found at rest → 0 < length rest → 0 < n → n ≤ length rest
-    → (piece rest).len ≡ n → (piece rest).lexeme ≡ Some lexeme → bad lexeme ≡ false
-    → Cut text (found ++ record { lexeme = lexeme; from = at; to = at + n } ∷ []) (at + n) (drop n rest)
-cut_token text found at n rest lexeme cut lt m le e f good = record {
-  tokens = cut.tokens ∙ ap (λ ts. found ++ ts) (at_piece n at rest (Some lexeme) lt m e f ∙ ap (λ v. t ∷ (if v then [] else more)) good) ∙ sym (append_assoc found (t ∷ []) more);
-  place = omega (arith, cut.place, length-drop n rest, le);
-} where
-  t : Token
-  t = record { lexeme = lexeme; from = at; to = at + n }
-
-  more : List Token
-  more = tokens_from 0 (at + n) (drop n rest)
-
-pub cut_bad : (text : List ℕ) (found : List Token) (at n : ℕ) (rest : List ℕ) (lexeme : Lexeme) → Cut text found at rest → 0 < length rest → 0 < n
-    → (piece rest).len ≡ n → (piece rest).lexeme ≡ Some lexeme → bad lexeme ≡ true
-    → found ++ record { lexeme = lexeme; from = at; to = at + n } ∷ [] ≡ tokens_of text
-cut_bad text found at n rest lexeme cut lt m e f bad_one =
-    sym (cut.tokens ∙ ap (λ ts. found ++ ts) (at_piece n at rest (Some lexeme) lt m e f ∙ ap (λ v. t ∷ (if v then [] else more)) bad_one)) where
-      t : Token
-      t = record { lexeme = lexeme; from = at; to = at + n }
-
-      more : List Token
-      more = tokens_from 0 (at + n) (drop n rest)
-
-pub cut_end : (text : List ℕ) (found : List Token) (at : ℕ) (rest : List ℕ) → Cut text found at rest → length rest ≡ 0 → found ≡ tokens_of text
+nothing_left : (b : Bool) (at : ℕ) (bs : List ℕ) → (if b then [] else tokens_from 0 at bs) ≡ tokens_from 0 at (if b then [] else bs)
 unfolding tokens_from
-cut_end text found at [] cut e = let all : found ++ [] ≡ found = simp append-nil refl in sym (cut.tokens ∙ all)
-cut_end text found at (b ∷ rest) cut e = absurd (omega (arith, e))
+nothing_left true at bs = refl
+nothing_left false at bs = refl
 
-pub cut_start : (text : List ℕ) → Cut text [] 0 text
-cut_start text = record { tokens = refl; place = omega arith }
+pub at_token : (offset : ℕ) (bytes : List ℕ) (at n : ℕ) (rest : List ℕ) (lexeme : Lexeme) → Left offset bytes at rest → 0 < length rest → 0 < n
+    → (piece rest).len ≡ n → (piece rest).lexeme ≡ Some lexeme
+    → tokens_from 0 offset bytes ≡ record { lexeme = lexeme; from = at; to = at + n } ∷ tokens_from 0 (at + n) (if bad lexeme then [] else drop n rest)
+at_token offset bytes at n rest lexeme left lt m e f =
+    left.same ∙ at_piece n at rest (Some lexeme) lt m e f ∙ ap (λ ts. record { lexeme = lexeme; from = at; to = at + n } ∷ ts) (nothing_left (bad lexeme) (at + n) (drop n rest))
+
+pub unless_short : (b : Bool) (bs left : List ℕ) → left ≡ (if b then [] else bs) → length left ≤ length bs
+unless_short true bs left e = omega (arith, ap length e)
+unless_short false bs left e = omega (arith, ap length e)
+
+pub at_end : (offset : ℕ) (bytes : List ℕ) (at : ℕ) (rest : List ℕ) → Left offset bytes at rest → length rest ≡ 0 → tokens_from 0 offset bytes ≡ []
+unfolding tokens_from
+at_end offset bytes at [] left e = left.same
+at_end offset bytes at (b ∷ rest) left e = absurd (omega (arith, e))
+
+-- what the loops over the tokens keep
+pub record Counted (text : List ℕ) (n at : ℕ) (rest : List ℕ) : Type 0 where
+  pub count : n + length (tokens_from 0 at rest) ≡ length (tokens_of text)
+  pub place : at + length rest ≤ length text
+  pub bound : n + length rest ≤ length text
+
+pub record Filled (text : List ℕ) (found : List Token) (len capacity at : ℕ) (rest : List ℕ) : Type 0 where
+  pub tokens : tokens_of text ≡ found ++ tokens_from 0 at rest
+  pub room : len + length (tokens_from 0 at rest) ≡ capacity
+  pub exact : capacity ≡ length (tokens_of text)
+  pub place : at + length rest ≤ length text
+
+pub filled_more : (text : List ℕ) (found more : List Token) (len capacity at next : ℕ) (rest left : List ℕ) (t : Token) → Filled text found len capacity at rest
+    → tokens_from 0 at rest ≡ t ∷ tokens_from 0 next left → next + length left ≤ at + length rest → more ≡ found ++ t ∷ []
+    → Filled text more (len + 1) capacity next left
+filled_more text found more len capacity at next rest left t filled e le m = record {
+  tokens = filled.tokens ∙ ap (λ ts. found ++ ts) e ∙ sym (append_assoc found (t ∷ []) (tokens_from 0 next left)) ∙ ap (λ ts. ts ++ tokens_from 0 next left) (sym m);
+  room = omega (arith, filled.room, ap length e);
+  exact = filled.exact;
+  place = omega (arith, filled.place, le);
+}
+
+pub filled_all : (text : List ℕ) (found : List Token) (len capacity at : ℕ) (rest : List ℕ) → Filled text found len capacity at rest → tokens_from 0 at rest ≡ [] → found ≡ tokens_of text
+filled_all text found len capacity at rest filled e = let all : found ++ [] ≡ found = simp append-nil refl in sym (filled.tokens ∙ ap (λ ts. found ++ ts) e ∙ all)

@@ -1,9 +1,9 @@
 //! A text is cut into tokens.
-ghost use Rattle.std.specs.Prelude.{◌≡◌, ◌+◌, ◌≤◌, ◌<◌, ◌==◌, ◌++◌, true, [], ◌∷◌, length, map, drop, IfOk, IfSome, OnOk};
+ghost use Rattle.std.specs.Prelude.{◌≡◌, ◌+◌, ◌≤◌, ◌<◌, ◌==◌, ◌++◌, true, [], ◌∷◌, length, map, drop, if◌then◌else◌, vec_capacity, IfOk, IfSome, IsOk, MatchOption};
 ghost use Rattle.ob_token.specs.Bytes.{all_digits, comment_len, is_blank, is_digit, is_letter, is_printable, is_run, lower, magnitude, quoted_len, run};
 ghost use Rattle.ob_token.specs.Words.{keyword, statement_word, clause_word, column_word, aggregate_word, lone_sign, pair_sign};
 ghost use Rattle.ob_token.specs.Lexemes.{first_byte, gap, piece, run_lexeme, sign_piece, some_piece, word_lexeme};
-ghost use Rattle.ob_token.specs.Tokens.{bad, tokens_of};
+ghost use Rattle.ob_token.specs.Tokens.{bad, tokens_from, tokens_of};
 
 use crate::token::{Lexeme, Mark, Token};
 use arrayvec::ArrayVec;
@@ -352,15 +352,6 @@ fn run_piece(bytes: &[u8]) -> Piece
     Piece::of(len, run_token(&bytes[..len]))
 }
 
-fn is_bad(lexeme: &Lexeme) -> bool
-    ensures { result ≡ bad lexeme.now }
-{
-    match lexeme {
-        Lexeme::Bad => true,
-        _ => false,
-    }
-}
-
 fn piece_of(bytes: &[u8]) -> Piece
     ensures { result ≡ piece bytes.now }
 {
@@ -400,39 +391,74 @@ fn behind(bytes: &[u8], len: usize) -> &[u8]
     &bytes[len..]
 }
 
-fn keep(found: &mut Vec<Token>, token: Token) -> Result<(), NoMemory>
-    ensures { OnOk result (found.new.items ≡ found.old.items ++ token ∷ []) }
+// What is still to be cut behind a token: nothing behind bytes that are none.
+fn unless_bad<'a>(lexeme: &Lexeme, behind: &'a [u8]) -> &'a [u8]
+    ensures { result.now ≡ (if bad lexeme.now then [] else behind.now) }
 {
-    match found.push(token) {
-        Ok(()) => Ok(()),
-        Err(_) => Err(NoMemory),
+    match lexeme {
+        Lexeme::Bad => &[],
+        _ => behind,
     }
 }
 
-/// The tokens of a text in order; bytes that are no token are the last one.
-pub fn tokens(alloc: Global, text: &[u8]) -> Result<Vec<Token>, NoMemory>
-    requires { length text.now < 4294967296 }
-    ensures { IfOk result (λ found. found.items ≡ tokens_of text.now) }
+/// A token, and what is still to be cut behind it: bytes, and their offset.
+#[derive(Drop)]
+struct Cut<'a> {
+    token: Token,
+    rest: &'a [u8],
+    at: usize,
+}
+
+// The first token of bytes that stand at this offset, if there is one.
+fn first_token(bytes: &[u8], offset: usize) -> Option<Cut<'_>>
+    requires { offset + length bytes.now < 4294967296 }
+    ensures value { MatchOption result (tokens_from 0 offset bytes.now ≡ []) (λ c. tokens_from 0 offset bytes.now ≡ c.token ∷ tokens_from 0 c.at c.rest.now) }
+    ensures place { IfSome result (λ c. c.at + length c.rest.now ≤ offset + length bytes.now) }
+    ensures moves { IfSome result (λ c. length c.rest.now < length bytes.now) }
 {
-    let mut found = Vec::new(alloc);
-    let mut at: usize = 0;
-    let mut rest = text;
-    'pieces: while !rest.is_empty() {
+    let (mut rest, mut at) = (bytes, offset);
+    'gaps: while !rest.is_empty() {
         let Piece { len, lexeme } = front(rest);
         let (from, to) = (at as u32, (at + len) as u32);
         rest = behind(rest, len);
         at += len;
         if let Some(lexeme) = lexeme {
-            let last = is_bad(&lexeme);
-            match keep(&mut found, Token { lexeme, from, to }) {
-                Ok(()) => {
-                    if last {
-                        return Ok(found);
-                    }
-                }
-                Err(stop) => return Err(stop),
-            }
+            let rest = unless_bad(&lexeme, rest);
+            let token = Token { lexeme, from, to };
+            return Some(Cut { token, rest, at });
         }
+    }
+    None
+}
+
+fn count(text: &[u8]) -> usize
+    requires { length text.now < 4294967296 }
+    ensures { result ≡ length (tokens_of text.now) }
+{
+    let mut count: usize = 0;
+    let (mut left, mut offset) = (text, 0);
+    'tokens: while let Some(Cut { rest, at, .. }) = first_token(left, offset) {
+        count += 1;
+        (left, offset) = (rest, at);
+    }
+    count
+}
+
+/// The tokens of a text in order; bytes that are no token are the last one. The list is made for as many as there
+/// are, and does not grow.
+pub fn tokens(alloc: Global, text: &[u8]) -> Result<Vec<Token>, NoMemory>
+    requires { length text.now < 4294967296 }
+    ensures value { IfOk result (λ found. found.items ≡ tokens_of text.now) }
+    ensures exact { IfOk result (λ found. vec_capacity found ≡ length (tokens_of text.now)) }
+    ensures succeeds { tokens_of text.now ≡ [] → IsOk result }
+{
+    let Ok(mut found) = Vec::with_capacity(alloc, count(text)) else {
+        return Err(NoMemory);
+    };
+    let (mut left, mut offset) = (text, 0);
+    'tokens: while let Some(Cut { token, rest, at }) = first_token(left, offset) {
+        found.push_reserved(token);
+        (left, offset) = (rest, at);
     }
     Ok(found)
 }

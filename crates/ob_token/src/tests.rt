@@ -62,6 +62,7 @@ fn cuts(rt: &impl Abort, alloc: Global, cases: &[(&str, &str)]) -> Result<(), Fa
         assert!(rt; bytes.len() <= 65536);
         let mut spelled = String::new(alloc);
         let found = tokens(alloc, bytes).ok().ok_or("no memory")?;
+        assert_eq!(rt; found.capacity(), found.len());
         for token in found.as_slice() {
             spell(&mut spelled, token)?;
         }

@@ -1,7 +1,7 @@
 use Rattle.std.proofs.Common.{sym, ◌∙◌}
 use Rattle.ob_parse.specs.StatementReading.{constraint, constraints}
 use Rattle.ob_parse.proofs.Constraints.{all_read, fewer_left, one_more, stuck_there}
-use Rattle.ob_parse.proofs.Faults.{through}
+use Rattle.ob_condition.proofs.Faults.{through}
 use Rattle.ob_parse.proofs.change.constraints.Goals as goal
 
 pub parts-smaller : goal.parts-smaller

@@ -3,8 +3,8 @@ use Rattle.std.proofs.Common.{Ok}
 use Rattle.ob_grammar.specs.Reader.{listed}
 use Rattle.ob_grammar.proofs.Loops.{Left, left_next, left_stuck, left_end}
 use Rattle.ob_token.specs.declared.token.Mark.TheVariants as M
-use Rattle.ob_parse.specs.Marks.{key}
-use Rattle.ob_parse.proofs.Faults.{through}
+use Rattle.ob_condition.specs.Marks.{key}
+use Rattle.ob_condition.proofs.Faults.{through}
 use Rattle.ob_parse.proofs.part.list.Goals as goal
 
 pub parts-preserved : goal.parts-preserved

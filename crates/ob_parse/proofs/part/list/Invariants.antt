@@ -1,7 +1,7 @@
 use Rattle.std.proofs.Common.{[], ◌∷◌, ◌++◌, length}
 use Rattle.ob_grammar.proofs.Loops.{Left}
 use Rattle.ob_token.specs.declared.token.Mark.TheVariants as M
-use Rattle.ob_parse.specs.Marks.{key}
+use Rattle.ob_condition.specs.Marks.{key}
 use Rattle.ob_parse.proofs.part.list.Given as goal
 
 abbrev pub invariant-parts : goal.invariant-parts

@@ -1,8 +1,8 @@
 use Rattle.ob_grammar.proofs.Placed.{shorter}
 use Rattle.ob_parse.specs.Statements.{OneItem}
 use Rattle.ob_parse.specs.StatementReading.{item}
-use Rattle.ob_parse.proofs.Faults.{gives_within}
-use Rattle.ob_parse.proofs.GoodConditions.{AfterColumn}
+use Rattle.ob_condition.proofs.Faults.{gives_within}
+use Rattle.ob_condition.proofs.GoodConditions.{AfterColumn}
 use Rattle.ob_parse.proofs.GoodStatements.{column_end, good_item}
 use Rattle.ob_parse.proofs.part.ListedPart.read.Goals as goal
 

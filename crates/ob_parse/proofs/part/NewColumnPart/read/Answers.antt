@@ -1,7 +1,7 @@
 use Rattle.ob_grammar.proofs.Placed.{shorter}
 use Rattle.ob_parse.specs.Statements.{Definition}
 use Rattle.ob_parse.specs.StatementReading.{definition}
-use Rattle.ob_parse.proofs.Faults.{gives_within}
+use Rattle.ob_condition.proofs.Faults.{gives_within}
 use Rattle.ob_parse.proofs.GoodStatements.{AfterDefinition, definition_end, good_definition}
 use Rattle.ob_parse.proofs.part.NewColumnPart.read.Goals as goal
 

@@ -2,7 +2,7 @@ use Rattle.ob_grammar.proofs.Forms.{Whatever}
 use Rattle.ob_grammar.proofs.Placed.{shorter}
 use Rattle.ob_parse.specs.Statements.{Assignment}
 use Rattle.ob_parse.specs.StatementReading.{assignment}
-use Rattle.ob_parse.proofs.Faults.{gives_within}
+use Rattle.ob_condition.proofs.Faults.{gives_within}
 use Rattle.ob_parse.proofs.GoodStatements.{any_end, good_assignment}
 use Rattle.ob_parse.proofs.part.SetPart.read.Goals as goal
 

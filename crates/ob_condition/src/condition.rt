@@ -1,7 +1,9 @@
 //! Conditions are read, by recursive descent.
-ghost use Rattle.std.specs.Prelude.{◌≡◌, IfOk};
+ghost use Rattle.std.specs.Prelude.{◌≡◌, false, IfOk, IfErr, IsOk};
+ghost use Rattle.ob_token.specs.declared.token.Mark.TheVariants.{Where};
+ghost use Rattle.ob_condition.specs.Marks.{is};
 ghost use Rattle.ob_sql.specs.Search.{Search, Compare, Not, And, Or};
-ghost use Rattle.ob_parse.specs.Reading.{Gives, column, comparison, cond_of, condition, conj_of, constant, operand, prim, search_in, where_part};
+ghost use Rattle.ob_condition.specs.Reading.{begins, Gives, IsStuck, column, comparison, cond_of, condition, conj_of, constant, operand, prim, search_in, where_part};
 
 use crate::reader::{
     Fault, begins_name, expect, name, number, order, plain, sign, skip, with_sign,
@@ -14,9 +16,12 @@ use std::alloc::{AllocError, Global};
 /// How many of NOT and ( may stand on a path.
 const DEPTH: u32 = 32;
 
+/// A column, with its table's name and a dot before it or without (a column reference of ISO/IEC 9075:1992), and
+/// the tokens behind it. It takes no memory.
 #[tactic(auto, unfolding(crate::specs::Reading::column))]
-pub(crate) fn column(tokens: &[Token]) -> Result<(ColumnName, &[Token]), Fault<'_>>
-    ensures { Gives (λ c. c) result (column tokens.now) }
+pub fn column(tokens: &[Token]) -> Result<(ColumnName, &[Token]), Fault<'_>>
+    ensures value { Gives (λ c. c) result (column tokens.now) }
+    ensures no_memory { IfErr result IsStuck }
 {
     let (first, rest) = name(tokens)?;
     match skip(rest, Mark::Dot) {
@@ -38,12 +43,13 @@ pub(crate) fn column(tokens: &[Token]) -> Result<(ColumnName, &[Token]), Fault<'
     }
 }
 
+/// A literal, of the tokens of this text, and the tokens behind it: a number of digits with a sign or without, or
+/// a text between quotes. An integer outside 64 bits and a text above 255 bytes are kept as such. It takes no
+/// memory.
 #[tactic(auto, unfolding(crate::specs::Reading::constant))]
-pub(crate) fn constant<'a>(
-    text: &[u8],
-    tokens: &'a [Token],
-) -> Result<(Literal, &'a [Token]), Fault<'a>>
-    ensures { Gives (λ l. l) result (constant text.now tokens.now) }
+pub fn constant<'a>(text: &[u8], tokens: &'a [Token]) -> Result<(Literal, &'a [Token]), Fault<'a>>
+    ensures value { Gives (λ l. l) result (constant text.now tokens.now) }
+    ensures no_memory { IfErr result IsStuck }
 {
     match sign(tokens) {
         Some((minus, rest)) => {
@@ -56,7 +62,8 @@ pub(crate) fn constant<'a>(
 
 #[tactic(auto, unfolding(crate::specs::Reading::operand))]
 fn operand<'a>(text: &[u8], tokens: &'a [Token]) -> Result<(Against, &'a [Token]), Fault<'a>>
-    ensures { Gives (λ a. a) result (operand text.now tokens.now) }
+    ensures value { Gives (λ a. a) result (operand text.now tokens.now) }
+    ensures no_memory { IfErr result IsStuck }
 {
     if begins_name(tokens) {
         let (found, rest) = column(tokens)?;
@@ -202,13 +209,18 @@ fn condition<'a>(
     Ok((Cond::new(Box::into_inner(tree)), rest))
 }
 
+/// The condition behind WHERE, or none where the first of the tokens of this text is another, and the tokens
+/// behind it. NOT binds before AND, and AND before OR, as in ISO/IEC 9075:1992; both group to the left, and at
+/// most 32 of NOT and `(` stand on a path. It takes one box for each comparison, NOT, AND and OR, and no memory
+/// where there is no WHERE.
 #[tactic(auto, unfolding(crate::specs::Reading::where_part))]
-pub(crate) fn where_part<'a>(
+pub fn where_part<'a>(
     alloc: Global,
     text: &[u8],
     tokens: &'a [Token],
 ) -> Result<(Option<Cond>, &'a [Token]), Fault<'a>>
-    ensures { Gives (λ c. c) result (where_part text.now tokens.now) }
+    ensures value { Gives (λ c. c) result (where_part text.now tokens.now) }
+    ensures without { begins (λ t. is Where t.lexeme) tokens.now ≡ false → IsOk result }
 {
     match skip(tokens, Mark::Where) {
         Some(rest) => {

@@ -9,7 +9,7 @@ use Rattle.ob_sql.specs.declared.stmt.Literal.{Literal}
 use Rattle.ob_token.specs.declared.token.Mark.TheVariants as M
 use Rattle.ob_token.specs.declared.token.Token.{Token}
 use Rattle.ob_sql.specs.Search.{Search, Compare, Not, And, Or}
-use Rattle.ob_parse.specs.Marks.{key, literal_of, name_of, number_of, order_of, sign_of, signed}
+use Rattle.ob_condition.specs.Marks.{key, literal_of, name_of, number_of, order_of, sign_of, signed}
 
 abbrev pub bare : List ℕ → ColumnName
 bare column = record { table = None; column = column }

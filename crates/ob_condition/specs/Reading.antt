@@ -1,5 +1,5 @@
 -- What the parser computes on the tokens of a text.
-use Rattle.std.specs.Prelude.{◌≡◌, ℕ, zero, suc, List, [], ◌∷◌, Bool, false, Option, Some, None, is_some, Result, Ok, Err}
+use Rattle.std.specs.Prelude.{◌≡◌, ℕ, zero, suc, List, [], ◌∷◌, Bool, false, Option, Some, None, is_some, Result, Ok, Err, ⊤}
 use Rattle.std.specs.Borrow.{Bor}
 use Rattle.std.specs.Global.{Box}
 use Rattle.ob_grammar.specs.Reader as R
@@ -10,11 +10,11 @@ use Rattle.ob_sql.specs.declared.stmt.CondTree.{CondTree}
 use Rattle.ob_sql.specs.declared.stmt.Literal.{Literal}
 use Rattle.ob_token.specs.declared.token.Mark.TheVariants as M
 use Rattle.ob_token.specs.declared.token.Token.{Token}
-use Rattle.ob_parse.specs.declared.reader.Fault.{Fault}
-use Rattle.ob_parse.specs.declared.reader.Fault.TheVariants.{Memory, Stuck}
+use Rattle.ob_condition.specs.declared.reader.Fault.{Fault}
+use Rattle.ob_condition.specs.declared.reader.Fault.TheVariants.{Memory, Stuck}
 use Rattle.ob_sql.specs.Search.{Search, search_of, Compare, Not, And, Or}
-use Rattle.ob_parse.specs.Marks.{key, literal_of, name_of, number_of, order_of, sign_of, signed}
-use Rattle.ob_parse.specs.Conditions.{bare, qualified}
+use Rattle.ob_condition.specs.Marks.{key, literal_of, name_of, number_of, order_of, sign_of, signed}
+use Rattle.ob_condition.specs.Conditions.{bare, qualified}
 
 -- what reading tokens gives: a value and the tokens behind it, or the tokens at which it is stuck
 abbrev pub Read : Type 0 → Type 0
@@ -28,6 +28,11 @@ search_in tree = search_of tree.value
 abbrev pub Fails : {V : Type 0} → Fault → Read V → Type 0
 Fails Memory read = Unit {0}
 Fails (Stuck rest) read = read ≡ Err rest.now
+
+-- the answer is not want of memory
+abbrev pub IsStuck : Fault → Type 0
+IsStuck Memory = ⊥
+IsStuck (Stuck rest) = ⊤
 
 abbrev pub Gives : {U V : Type 0} → (U → V) → Result (U × Bor (List Token)) Fault → Read V → Type 0
 Gives view (Ok p) read = read ≡ Ok (view p.0, p.1.now)

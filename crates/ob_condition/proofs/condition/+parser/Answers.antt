@@ -5,14 +5,14 @@ use Rattle.ob_grammar.proofs.Loops.{Left, left_next, left_stuck, left_end}
 use Rattle.ob_token.specs.declared.token.Mark.TheVariants as M
 use Rattle.ob_token.specs.declared.token.Token.{Token}
 use Rattle.ob_sql.specs.Search.{Search, Not, And, Or}
-use Rattle.ob_parse.specs.Conditions.{Prim, ConjOf}
-use Rattle.ob_parse.specs.Marks.{key}
-use Rattle.ob_parse.specs.Reading.{Gives, cond_of, conj_of, prim, search_in}
-use Rattle.ob_parse.proofs.PrimSteps.{prim_flat, prim_not, prim_open, prim_leaf, closes, no_close}
-use Rattle.ob_parse.proofs.GoodConditions.{AfterColumn, AfterConj, good_prim, good_conj}
-use Rattle.ob_parse.proofs.Ends.{column_end, conj_end}
-use Rattle.ob_parse.proofs.Faults.{through, fewer}
-use Rattle.ob_parse.proofs.condition.+parser.Goals as goal
+use Rattle.ob_condition.specs.Conditions.{Prim, ConjOf}
+use Rattle.ob_condition.specs.Marks.{key}
+use Rattle.ob_condition.specs.Reading.{Gives, cond_of, conj_of, prim, search_in}
+use Rattle.ob_condition.proofs.PrimSteps.{prim_flat, prim_not, prim_open, prim_leaf, closes, no_close}
+use Rattle.ob_condition.proofs.GoodConditions.{AfterColumn, AfterConj, good_prim, good_conj}
+use Rattle.ob_condition.proofs.Ends.{column_end, conj_end}
+use Rattle.ob_condition.proofs.Faults.{through, fewer}
+use Rattle.ob_condition.proofs.condition.+parser.Goals as goal
 
 module _ (text : List ℕ) (d : ℕ) where
   no_more : (ts : List Token) (v : Search) (rest : List Token) → prim text d ts ≡ Ok (v, rest) → length rest ≤ length ts

@@ -2,9 +2,9 @@ use Rattle.std.proofs.Common.{◌+◌, ◌*◌, length}
 use Rattle.ob_grammar.proofs.Loops.{Left}
 use Rattle.ob_token.specs.declared.token.Mark.TheVariants as M
 use Rattle.ob_sql.specs.Search.{And, Or}
-use Rattle.ob_parse.specs.Marks.{key}
-use Rattle.ob_parse.specs.Reading.{conj_of, prim, search_in}
-use Rattle.ob_parse.proofs.condition.+parser.Given as goal
+use Rattle.ob_condition.specs.Marks.{key}
+use Rattle.ob_condition.specs.Reading.{conj_of, prim, search_in}
+use Rattle.ob_condition.proofs.condition.+parser.Given as goal
 
 abbrev pub decreases-cond : goal.decreases-cond
 decreases-cond l = 3 * l.depth + 2

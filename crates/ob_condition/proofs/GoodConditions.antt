@@ -15,10 +15,10 @@ use Rattle.ob_token.specs.declared.token.Lexeme.{Lexeme}
 use Rattle.ob_token.specs.declared.token.Lexeme.TheVariants as L
 use Rattle.ob_token.specs.declared.token.Token.{Token}
 use Rattle.ob_sql.specs.Search.{Search, Compare, Not, And, Or}
-use Rattle.ob_parse.specs.Marks.{is, flag, key, literal_of, name_in, name_of, number_of, order_mark, order_of, plain_literal, sign_mark, sign_of, signed, marked}
-use Rattle.ob_parse.specs.Conditions.{bare, qualified, Column, Comparison, Condition, CondOf, ConjOf, Constant, Grouped, Negated, Operand, Prim}
-use Rattle.ob_parse.specs.Reading.{column, comparison, cond_of, condition, conj_of, constant, grouped, negated, operand, prim}
-use Rattle.ob_parse.proofs.Told.{of, apart, apart_name, apart_some, no_key}
+use Rattle.ob_condition.specs.Marks.{is, flag, key, literal_of, name_in, name_of, number_of, order_mark, order_of, plain_literal, sign_mark, sign_of, signed, marked}
+use Rattle.ob_condition.specs.Conditions.{bare, qualified, Column, Comparison, Condition, CondOf, ConjOf, Constant, Grouped, Negated, Operand, Prim}
+use Rattle.ob_condition.specs.Reading.{column, comparison, cond_of, condition, conj_of, constant, grouped, negated, operand, prim}
+use Rattle.ob_condition.proofs.Told.{of, apart, apart_name, apart_some, no_key}
 
 -- what may stand behind a column, behind AND's parts, and behind a condition
 abbrev pub AfterColumn : Token → Type 0

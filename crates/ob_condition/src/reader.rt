@@ -1,10 +1,9 @@
 //! Single tokens are read.
-ghost use Rattle.std.specs.Prelude.{◌≡◌, List, true, is_some};
+ghost use Rattle.std.specs.Prelude.{◌≡◌, true, is_some, IfErr};
 ghost use Rattle.ob_token.specs.Bytes.{unquoted};
 ghost use Rattle.ob_grammar.specs.Reader.{token};
-ghost use Rattle.ob_parse.specs.Marks.{held, key, literal_of, name_of, number_of, order_mark, order_of, short_text, sign_mark, sign_of, signed, text_at};
-ghost use Rattle.ob_parse.specs.Conditions.{bare, qualified};
-ghost use Rattle.ob_parse.specs.Reading.{begins, Begun, Gives, Skips, Takes, column, constant, operand};
+ghost use Rattle.ob_condition.specs.Marks.{held, key, literal_of, name_of, number_of, order_mark, order_of, short_text, sign_mark, sign_of, signed, text_at};
+ghost use Rattle.ob_condition.specs.Reading.{begins, Begun, Gives, IsStuck, Skips, Takes};
 
 use arrayvec::ArrayVec;
 use ob_base::{Name, Text};
@@ -12,14 +11,18 @@ use ob_row::Order;
 use ob_sql::Literal;
 use ob_token::{Lexeme, Mark, Token, is_printable_byte};
 
-/// Why nothing is read: want of memory, or the first of these tokens goes on with no word.
+/// Why nothing is read.
 #[derive(Drop)]
-pub(crate) enum Fault<'a> {
+pub enum Fault<'a> {
+    /// Want of memory.
     Memory,
+    /// The tokens before these begin a word of the grammar, and with the first of these, or with the end where
+    /// there is none, no word goes on.
     Stuck(&'a [Token]),
 }
 
-pub(crate) fn skip(tokens: &[Token], mark: Mark) -> Option<&[Token]>
+/// The tokens behind the first one, where that is this keyword or sign.
+pub fn skip(tokens: &[Token], mark: Mark) -> Option<&[Token]>
     ensures { Skips (key mark) tokens.now result }
 {
     let (first, rest) = tokens.split_first()?;
@@ -29,8 +32,10 @@ pub(crate) fn skip(tokens: &[Token], mark: Mark) -> Option<&[Token]>
     }
 }
 
-pub(crate) fn expect(tokens: &[Token], mark: Mark) -> Result<&[Token], Fault<'_>>
-    ensures { Takes result (token (key mark) tokens.now) }
+/// The tokens behind the first one, which has to be this keyword or sign. It takes no memory.
+pub fn expect(tokens: &[Token], mark: Mark) -> Result<&[Token], Fault<'_>>
+    ensures value { Takes result (token (key mark) tokens.now) }
+    ensures no_memory { IfErr result IsStuck }
 {
     match skip(tokens, mark) {
         Some(rest) => Ok(rest),
@@ -38,8 +43,10 @@ pub(crate) fn expect(tokens: &[Token], mark: Mark) -> Result<&[Token], Fault<'_>
     }
 }
 
-pub(crate) fn name(tokens: &[Token]) -> Result<(Name, &[Token]), Fault<'_>>
-    ensures { Gives (λ n. n) result (token name_of tokens.now) }
+/// The name that the first token is, in lower case, and the tokens behind it. It takes no memory.
+pub fn name(tokens: &[Token]) -> Result<(Name, &[Token]), Fault<'_>>
+    ensures value { Gives (λ n. n) result (token name_of tokens.now) }
+    ensures no_memory { IfErr result IsStuck }
 {
     let Some((first, rest)) = tokens.split_first() else {
         return Err(Fault::Stuck(tokens));
@@ -50,8 +57,11 @@ pub(crate) fn name(tokens: &[Token]) -> Result<(Name, &[Token]), Fault<'_>>
     }
 }
 
-pub(crate) fn number(tokens: &[Token]) -> Result<(u64, &[Token]), Fault<'_>>
-    ensures { Gives (λ n. n) result (token number_of tokens.now) }
+/// The number that the first token is, or the largest one of 64 bits where it is greater, and the tokens behind
+/// it. It takes no memory.
+pub fn number(tokens: &[Token]) -> Result<(u64, &[Token]), Fault<'_>>
+    ensures value { Gives (λ n. n) result (token number_of tokens.now) }
+    ensures no_memory { IfErr result IsStuck }
 {
     let Some((first, rest)) = tokens.split_first() else {
         return Err(Fault::Stuck(tokens));
@@ -77,7 +87,8 @@ fn order_of_mark(mark: Mark) -> Option<Order>
 }
 
 pub(crate) fn order(tokens: &[Token]) -> Result<(Order, &[Token]), Fault<'_>>
-    ensures { Gives (λ o. o) result (token order_of tokens.now) }
+    ensures value { Gives (λ o. o) result (token order_of tokens.now) }
+    ensures no_memory { IfErr result IsStuck }
 {
     let Some((first, rest)) = tokens.split_first() else {
         return Err(Fault::Stuck(tokens));
@@ -175,7 +186,8 @@ pub(crate) fn plain<'a>(
     text: &[u8],
     tokens: &'a [Token],
 ) -> Result<(Literal, &'a [Token]), Fault<'a>>
-    ensures { Gives (λ l. l) result (token (literal_of text.now) tokens.now) }
+    ensures value { Gives (λ l. l) result (token (literal_of text.now) tokens.now) }
+    ensures no_memory { IfErr result IsStuck }
 {
     let Some((first, rest)) = tokens.split_first() else {
         return Err(Fault::Stuck(tokens));

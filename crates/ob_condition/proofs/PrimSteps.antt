@@ -4,9 +4,9 @@ use Rattle.ob_grammar.specs.Reader.{◌>>=◌, token, empty, bind, choose, taken
 use Rattle.ob_token.specs.declared.token.Mark.TheVariants as M
 use Rattle.ob_token.specs.declared.token.Token.{Token}
 use Rattle.ob_sql.specs.Search.{Search, Not}
-use Rattle.ob_parse.specs.Marks.{flag, is, key}
-use Rattle.ob_parse.specs.Reading.{comparison, cond_of, grouped, negated, prim}
-use Rattle.ob_parse.proofs.Told.{apart}
+use Rattle.ob_condition.specs.Marks.{flag, is, key}
+use Rattle.ob_condition.specs.Reading.{comparison, cond_of, grouped, negated, prim}
+use Rattle.ob_condition.proofs.Told.{apart}
 
 module _ (text : List ℕ) where
   pub prim_flat : (d : ℕ) (ts : List Token) → d ≡ 0 → prim text d ts ≡ comparison text ts

@@ -6,7 +6,7 @@ use Rattle.ob_token.specs.declared.token.Mark.{Mark}
 use Rattle.ob_token.specs.declared.token.Lexeme.{Lexeme}
 use Rattle.ob_token.specs.declared.token.Lexeme.TheVariants as L
 use Rattle.ob_token.specs.declared.token.Token.{Token}
-use Rattle.ob_parse.specs.Marks.{is, flag, name_in}
+use Rattle.ob_condition.specs.Marks.{is, flag, name_in}
 
 -- a token of this sort
 abbrev pub of : Lexeme → Token

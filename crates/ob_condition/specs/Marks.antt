@@ -2,8 +2,6 @@
 use Rattle.std.specs.Prelude.{ℕ, ◌+◌, ℤ, pos, ◌-ℤ◌, List, length, drop, Bool, true, false, ◌&&◌, nat_le, int_le, Option, Some, None, if◌then◌else◌}
 use Rattle.ob_row.specs.declared.pred.Order.{Order}
 use Rattle.ob_row.specs.declared.pred.Order.TheVariants as O
-use Rattle.ob_base.specs.declared.skeleton.NewKind.{NewKind}
-use Rattle.ob_base.specs.declared.skeleton.NewKind.TheVariants as K
 use Rattle.ob_sql.specs.declared.stmt.Literal.{Literal}
 use Rattle.ob_sql.specs.declared.stmt.Literal.TheVariants as V
 use Rattle.ob_token.specs.declared.token.Mark.{Mark}
@@ -77,14 +75,6 @@ sign_mark m = None
 
 abbrev pub sign_of : Token → Option Bool
 sign_of t = marked sign_mark t.lexeme
-
-abbrev pub integer_mark : Mark → Option NewKind
-integer_mark M.Int = Some K.Int
-integer_mark M.Integer = Some K.Int
-integer_mark m = None
-
-abbrev pub integer_of : Token → Option NewKind
-integer_of t = marked integer_mark t.lexeme
 
 -- ---- literals
 

@@ -3,9 +3,9 @@ use Rattle.std.proofs.Common.{◌≡◌, ◌<◌, ◌≤◌, List, ◌∷◌, le
 use Rattle.std.specs.Prelude.{IfOk}
 use Rattle.std.specs.Borrow.{Bor}
 use Rattle.ob_token.specs.declared.token.Token.{Token}
-use Rattle.ob_parse.specs.declared.reader.Fault.{Fault}
-use Rattle.ob_parse.specs.declared.reader.Fault.TheVariants.{Memory, Stuck}
-use Rattle.ob_parse.specs.Reading.{Fails, Gives, Read}
+use Rattle.ob_condition.specs.declared.reader.Fault.{Fault}
+use Rattle.ob_condition.specs.declared.reader.Fault.TheVariants.{Memory, Stuck}
+use Rattle.ob_condition.specs.Reading.{Fails, Gives, Read}
 
 pub through : {U V : Type 0} (fault : Fault) (x : Read U) (y : Read V) → ((rest : List Token) → x ≡ Err rest → y ≡ Err rest) → Fails fault x → Fails fault y
 through Memory x y go h = tt
