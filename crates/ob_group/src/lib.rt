@@ -8,5 +8,3 @@ mod totals;
 pub use accs::Accs;
 pub use aggregation::aggregate;
 
-// #[cfg(test)]
-// mod tests;
