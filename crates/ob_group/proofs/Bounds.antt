@@ -1,5 +1,5 @@
 -- How far totals may have come.
-use Rattle.std.proofs.Common.{◌≡◌, ◌≤◌, ◌*◌, ◌^◌, ℕ, ℤ, nat_abs, List, [], ◌∷◌, Option, Some, None, IfSome, arith}
+use Rattle.std.proofs.Common.{◌≤◌, ◌*◌, ◌^◌, ℕ, ℤ, nat_abs, List, [], ◌∷◌, Option, Some, None, IfSome, arith}
 use Rattle.ob_row.specs.declared.aggregate.Agg.{Agg}
 use Rattle.ob_row.specs.declared.aggregate.Agg.TheVariants.{CountAll, Count, Sum, Min, Max}
 use Rattle.ob_group.specs.Running.{AreUpTo, start, starts}

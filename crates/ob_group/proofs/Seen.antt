@@ -1,12 +1,11 @@
 -- What a visitor that adds up rows has seen.
-use Rattle.std.proofs.Common.{◌≡◌, ℕ, ◌+◌, ◌-◌, ℤ, Bool, true, false, cond, IsTrue, List, [], ◌∷◌, length, filter, fold, Option, Some, None, if◌then◌else◌, refl, sym, ◌∙◌, ap}
+use Rattle.std.proofs.Common.{◌≡◌, ℕ, ◌+◌, ◌-◌, ℤ, Bool, true, false, cond, List, [], ◌∷◌, length, filter, Option, Some, None, if◌then◌else◌, refl, ◌∙◌, ap}
 use Rattle.ob_row.specs.declared.aggregate.Agg.{Agg}
 use Rattle.ob_row.specs.Rows.{Row}
 use Rattle.ob_row.specs.Slots.{Slots, rows, is_selected}
 use Rattle.ob_row.specs.Truth.{is_true}
 use Rattle.ob_blocks.specs.Blocks.{scanned, up_to, none_of}
 use Rattle.ob_blocks.proofs.Blocks.{scanned-append, scanned-same}
-use Rattle.ob_flat.specs.declared.flat.Flat.{Flat}
 use Rattle.ob_group.specs.declared.aggregation.Adding.{Adding}
 use Rattle.ob_group.specs.Running.{grown_all, seen_slot}
 use Rattle.ob_group.proofs.Sums.{grown_by}

@@ -1,5 +1,5 @@
 -- Totals that grow row by row are the aggregates of the rows.
-use Rattle.std.proofs.Common.{◌≡◌, ℕ, suc, ◌+◌, ℤ, pos, ◌+ℤ◌, List, [], ◌∷◌, length, map, fold, Option, Some, None, refl, ◌∙◌, ap, arith}
+use Rattle.std.proofs.Common.{◌≡◌, ℕ, ◌+◌, ℤ, pos, ◌+ℤ◌, List, [], ◌∷◌, length, map, fold, Option, Some, None, refl, ◌∙◌, ap, arith}
 use Rattle.std.specs.Int.{int_min, int_max}
 use Rattle.std.specs.Prelude.{slice_get}
 use Rattle.std.specs.List.{cons_option}

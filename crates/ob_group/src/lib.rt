@@ -7,4 +7,3 @@ mod totals;
 
 pub use accs::Accs;
 pub use aggregation::aggregate;
-

@@ -161,13 +161,7 @@ fn in_memory(
 }
 
 // In blocks of one, two and three rows.
-fn in_packs(
-    rt: &impl Abort,
-    alloc: Global,
-    rows: &[(i64, i64)],
-    pred: &Pred,
-    wanted: &[Shown],
-) {
+fn in_packs(rt: &impl Abort, alloc: Global, rows: &[(i64, i64)], pred: &Pred, wanted: &[Shown]) {
     in_memory(rt, alloc, 1, 4, rows, pred, wanted);
     in_memory(rt, alloc, 2, 2, rows, pred, wanted);
     in_memory(rt, alloc, 3, 2, rows, pred, wanted);

@@ -1,4 +1,4 @@
-use Rattle.std.proofs.Common.{◌≡◌, ◌*◌, ℕ, ℤ, List, Option, length, filter, map, refl, sym, ◌∙◌, ap, subst}
+use Rattle.std.proofs.Common.{◌*◌, ℤ, List, Option, length, filter, map, sym, ◌∙◌, ap, subst}
 use Rattle.std.proofs.lemmas.List.{length-map}
 use Rattle.std.proofs.lemmas.Result.{err_from_is_err_and}
 use Rattle.ob_base.specs.Numbers.{blocks_for}
@@ -6,7 +6,7 @@ use Rattle.ob_row.specs.Slots.{rows}
 use Rattle.ob_row.specs.Truth.{is_true}
 use Rattle.ob_flat.specs.Flats.{whole_blocks}
 use Rattle.ob_group.specs.declared.aggregation.Adding.{Adding}
-use Rattle.ob_group.specs.Running.{AreUpTo, start, starts, total_shown}
+use Rattle.ob_group.specs.Running.{AreUpTo, start, total_shown}
 use Rattle.ob_group.proofs.Bounds.{starts_up_to}
 use Rattle.ob_group.proofs.Sums.{grown_by, totals_are}
 use Rattle.ob_group.proofs.Seen.{seen_table, totals_after}

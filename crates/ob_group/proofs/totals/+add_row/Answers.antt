@@ -1,4 +1,4 @@
-use Rattle.std.proofs.Common.{rules, ◌≡◌, ◌∷◌, ℕ, OnOk, Result, Ok, Err, subst}
+use Rattle.std.proofs.Common.{rules, ◌≡◌, ◌∷◌, OnOk, Result, Ok, Err, subst}
 use Rattle.ob_group.specs.Running.{AreUpTo}
 use Rattle.ob_group.proofs.totals.+add_row.Goals as goal
 

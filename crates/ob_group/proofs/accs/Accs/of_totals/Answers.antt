@@ -1,4 +1,4 @@
-use Rattle.std.proofs.Common.{◌≡◌, ◌<◌, ◌+◌, ℤ, List, [], ◌∷◌, ◌++◌, Option, Some, None, length, map, take, slice_index_or, slice_set, refl, sym, ◌∙◌, ap, arith}
+use Rattle.std.proofs.Common.{◌≡◌, ◌<◌, List, [], ◌∷◌, ◌++◌, None, length, map, take, slice_index_or, sym, ◌∙◌, ap, arith}
 use Rattle.std.proofs.lemmas.List.{take_all, take_more, take_more_set, length-set, map-append}
 use Rattle.ob_base.specs.declared.shown.Shown.{Shown}
 use Rattle.ob_group.specs.Running.{total_shown}
