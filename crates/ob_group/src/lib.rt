@@ -1,0 +1,9 @@
+//! Aggregates: COUNT, SUM, MIN and MAX over the rows of a table, in one pass over its blocks.
+#![tactic(auto)]
+
+mod accs;
+mod aggregation;
+mod totals;
+
+pub use accs::Accs;
+pub use aggregation::aggregate;

@@ -1,0 +1,111 @@
+//! Totals of the rows so far.
+ghost use Rattle.std.specs.Prelude.{◌≡◌, ◌≤◌, ◌<◌, ◌+◌, ◌*◌, ◌^◌, ℕ, nat_abs, length, Option, Some, Ok, IfSome, OnOk, IsOkAnd};
+ghost use Rattle.ob_base.specs.Schemas.{width};
+ghost use Rattle.ob_row.specs.Rows.{Row, cell_at};
+ghost use Rattle.ob_row.specs.Spelling.{Begins};
+ghost use Rattle.ob_row.specs.Totals.{int_of};
+ghost use Rattle.ob_group.specs.Running.{IsWithin, AreWithin, AreUpTo, together, start, starts, part, joined, grown_all};
+
+use arrayvec::ArrayVec;
+use ob_base::Schema;
+use ob_room::ClearRow;
+use ob_row::{Agg, Cell, Malformed, decode};
+
+// How two values of an aggregate are taken together.
+fn together(agg: Agg, x: i128, y: i128) -> i128
+    requires { nat_abs x + nat_abs y < 2 ^ 127 }
+    ensures value { result ≡ together agg x y }
+    ensures few { nat_abs result ≤ nat_abs x + nat_abs y }
+{
+    match agg {
+        Agg::CountAll | Agg::Count(_) | Agg::Sum(_) => x + y,
+        Agg::Min(_) => x.min(y),
+        Agg::Max(_) => x.max(y),
+    }
+}
+
+fn joined(agg: Agg, total: Option<i128>, part: Option<i64>) -> Option<i128>
+    requires { IfSome total (λ x. nat_abs x + 2 ^ 63 < 2 ^ 127) }
+    ensures value { result ≡ joined (together agg) total part }
+    ensures few { (n : ℕ) → IfSome total (λ x. nat_abs x ≤ n * 2 ^ 63) → IfSome result (λ x. nat_abs x ≤ (n + 1) * 2 ^ 63) }
+{
+    match (total, part) {
+        (None, None) => None,
+        (None, Some(y)) => Some(i128::from(y)),
+        (Some(x), None) => Some(x),
+        (Some(x), Some(y)) => Some(together(agg, x, i128::from(y))),
+    }
+}
+
+// The integer at a place of the row, if its column has integers.
+fn int_at(schema: &Schema, row: &ClearRow, i: u8) -> Result<Option<i64>, Malformed>
+    requires wide { width schema.now ≤ length row.now }
+    requires within { i < length schema.now }
+    ensures { (cells : Row) → Begins schema.now (Some cells) row.now → result ≡ Ok (int_of (cell_at cells i)) }
+{
+    match decode(schema, row, i) {
+        Ok(Cell::Int(x)) => Ok(Some(x)),
+        Ok(Cell::Text(_)) => Ok(None),
+        Err(malformed) => Err(malformed),
+    }
+}
+
+// What the row gives to an aggregate.
+fn part(agg: Agg, schema: &Schema, row: &ClearRow) -> Result<Option<i64>, Malformed>
+    requires wide { width schema.now ≤ length row.now }
+    requires within { IsWithin (length schema.now) agg }
+    ensures { (cells : Row) → Begins schema.now (Some cells) row.now → result ≡ Ok (part agg cells) }
+{
+    match agg {
+        Agg::CountAll | Agg::Count(_) => Ok(Some(1)),
+        Agg::Sum(i) | Agg::Min(i) | Agg::Max(i) => int_at(schema, row, i),
+    }
+}
+
+// Adds the row to the totals of these aggregates.
+pub(crate) fn add_row(
+    schema: &Schema,
+    row: &ClearRow,
+    aggs: &[Agg],
+    totals: &mut [Option<i128>],
+) -> Result<(), Malformed>
+    requires wide { width schema.now ≤ length row.now }
+    requires within { AreWithin (length schema.now) aggs.now }
+    requires size { length totals.old ≡ length aggs.now }
+    requires few { AreUpTo 2147483648 totals.old }
+    ensures few { OnOk result ((n : ℕ) → AreUpTo n totals.old → AreUpTo (n + 1) totals.new) }
+    ensures told { (cells : Row) → Begins schema.now (Some cells) row.now → IsOkAnd result (λ _. totals.new ≡ grown_all aggs.now cells totals.old) }
+{
+    match (aggs.split_first(), totals.split_first_mut()) {
+        (Some((agg, aggs)), Some((total, totals))) => match part(*agg, schema, row) {
+            Ok(part) => {
+                *total = joined(*agg, *total, part);
+                add_row(schema, row, aggs, totals)
+            }
+            Err(malformed) => Err(malformed),
+        },
+        _ => Ok(()),
+    }
+}
+
+// The total of no rows.
+fn start(agg: Agg) -> Option<i128>
+    ensures { result ≡ start agg }
+{
+    match agg {
+        Agg::CountAll | Agg::Count(_) => Some(0),
+        Agg::Sum(_) | Agg::Min(_) | Agg::Max(_) => None,
+    }
+}
+
+// The totals of no rows.
+pub(crate) fn starts(aggs: &[Agg]) -> ArrayVec<Option<i128>, 32>
+    requires { length aggs.now ≤ 32 }
+    ensures { result.items ≡ starts aggs.now }
+{
+    let mut totals = ArrayVec::new();
+    for agg in aggs {
+        totals.push(start(*agg));
+    }
+    totals
+}
