@@ -41,6 +41,7 @@ module _ {R : Type 0} {state : R → RevState} {Takes : Type 0} {max : ℕ} {l0 
     where
       shown_high : Shown state max l0 l1 w0 w1 s0 s1 report.high ended.ending [] (SinkStopped ended.ending)
       shown_high = subst (λ (n : ℕ). Shown state max l0 l1 w0 w1 s0 s1 n ended.ending [] (SinkStopped ended.ending)) (sym high) shown
+
       go : (b : Bool) → ended.quiet ≡ b → Reported state Takes max l0 l1 w0 w2 s0 s1 old new report
       go true is =
           let same : mid ≡ new = λ i. record { source = sym source i; out = sym (quiet is).faults i; trace = sym trace i } in

@@ -121,7 +121,7 @@ module _ (unique : IsOne) where
                 (asked_one (session_of m0 tables) text texts did.stmt n did.spells all);
           }
           | inr by ↦ let rose = (subst (λ (o : Outcome). RunCause (Ok o) (world_of state m0.engine m0.store) (world_of state m1.engine m1.store)) by.is did.ran.cause).0 in
-          let none = quiet.faults in absurd (omega (arith, rose, none))
+              let none = quiet.faults in absurd (omega (arith, rose, none))
         ]
 
     step_on : (m0 m1 : Machine R) (tables : Tables) (text : List ℕ) (texts : List (List ℕ)) (answer : Answer) (n : ℕ) → Step state m0 m1 text answer

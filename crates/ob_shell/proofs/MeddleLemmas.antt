@@ -138,11 +138,11 @@ ending_within state m0 m1 m2 texts more answers part (Ran result) n steps last t
 module _ {R : Type 0} {state : R → RevState} {Takes : Type 0} {max : ℕ} {l0 l1 w0 w1 : Option (List ℕ)} {s0 s1 : StoreState} {old new : Faults} {report : Report}
     (r : Reported state Takes max l0 l1 w0 w1 s0 s1 old new report) where
   pub reported_later : Later s0 s1
-  reported_later = elim r.shown.carried [ | inl none ↦ subst (λ (s : StoreState). Later s0 s) (sym none.store) (later_refl s0) | inr some ↦ some.later ]
+  reported_later = elim r.shown.carried [ inl none ↦ subst (λ (s : StoreState). Later s0 s) (sym none.store) (later_refl s0) | inr some ↦ some.later ]
 
   pub honest_status : IsHonest s0 s1 → report.status ≢ 4
   honest_status honest is =
-      status_not r.ending (elim r.shown.carried [ | inl none ↦ none.untampered | inr some ↦ some.untampered honest ]) (sym r.status ∙ is)
+      status_not r.ending (elim r.shown.carried [ inl none ↦ none.untampered | inr some ↦ some.untampered honest ]) (sym r.status ∙ is)
 
   pub failures_rise : RisesBy (failures r.shown.answers) s0.faults s1.faults
   failures_rise = elim r.shown.carried [
@@ -155,10 +155,10 @@ module _ {R : Type 0} {state : R → RevState} {Takes : Type 0} {max : ℕ} {l0 
   all_within n none tells steady all before = elim r.shown.carried [
     | inl idle ↦ omega (arith, ap (λ (s : StoreState). length s.asked) idle.store, ap (λ (l : List Access). length l) none)
     | inr some ↦
-    let here : first_session (first_public 64 5 1 None) ≡ session_of (machine_of some.first s0) [] = λ i. record { public = sym some.fresh i; tables = []; asked = length (sym none i) } in
-    ending_within state (machine_of some.first s0) some.middle (machine_of some.last s1) r.shown.served r.shown.more r.shown.answers r.shown.part r.ending n some.steps some.rest tells steady
-    (nothing_held state some.first s0 (first_public 64 5 1 None) some.fresh refl)
-    (subst (λ (s : Session). AskedInAll s (r.shown.served ++ r.shown.more) n) here all) before
+        let here : first_session (first_public 64 5 1 None) ≡ session_of (machine_of some.first s0) [] = λ i. record { public = sym some.fresh i; tables = []; asked = length (sym none i) } in
+        ending_within state (machine_of some.first s0) some.middle (machine_of some.last s1) r.shown.served r.shown.more r.shown.answers r.shown.part r.ending n some.steps some.rest tells steady
+        (nothing_held state some.first s0 (first_public 64 5 1 None) some.fresh refl)
+        (subst (λ (s : Session). AskedInAll s (r.shown.served ++ r.shown.more) n) here all) before
   ]
 
   pub undisturbed : IsTrue s0.tells → IsQuiet s1 → Undisturbed r.shown.answers s0 s1 report
