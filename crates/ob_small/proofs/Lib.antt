@@ -1,1 +1,4 @@
-
+pub mod Choosing
+pub mod Keeping
+pub mod Windows
+pub mod Lengths

@@ -1,0 +1,60 @@
+-- The slots that are selected.
+use Rattle.std.proofs.Common.{◌≡◌, ◌≤◌, ◌<◌, ◌+◌, ◌*◌, ◌-◌, ℕ, zero, suc, Bool, true, false, List, [], ◌∷◌, ◌++◌, Option, Some, None, length, map, take, slice_index_or, cond, refl, sym, ◌∙◌, ap, arith}
+use Rattle.std.specs.Prelude.{filter}
+use Rattle.std.proofs.lemmas.List.{take_all, take_more, append-nil}
+use Rattle.std.proofs.lemmas.List.Elements.{filter-append}
+use Rattle.ob_base.specs.Lists.{places_from}
+use Rattle.ob_row.specs.Rows.{Row}
+use Rattle.ob_row.specs.Condition.{Condition}
+use Rattle.ob_row.specs.Slots.{Slots, slot_at, is_selected, selected, small_slots}
+use Rattle.ob_row.specs.Truth.{is_true}
+use Rattle.ob_blocks.specs.Blocks.{none_of, up_to, block_at}
+use Rattle.ob_blocks.proofs.Blocks.{take_blocks, length-up_to}
+use Rattle.ob_small.specs.Keeping.{chosen}
+
+-- places counted from one further on
+places_from-suc : {A : Type 0} (p : A → Bool) (n : ℕ) (xs : List A) → places_from (suc n) p xs ≡ map suc (places_from n p xs)
+places_from-suc p n [] = refl
+places_from-suc p n (x ∷ xs) =
+    elim (p x) as (λ b. cond b (suc n ∷ places_from (suc (suc n)) p xs) (places_from (suc (suc n)) p xs) ≡ map suc (cond b (n ∷ places_from (suc n) p xs) (places_from (suc n) p xs)))
+    [ true ↦ ap (λ w. suc n ∷ w) (places_from-suc p (suc n) xs) | false ↦ places_from-suc p (suc n) xs ]
+
+map-suc : (s : Option Row) (slots : Slots) (is : List ℕ) → map (slot_at (s ∷ slots)) (map suc is) ≡ map (slot_at slots) is
+map-suc s slots [] = refl
+map-suc s slots (i ∷ is) = ap (λ w. slot_at slots i ∷ w) (map-suc s slots is)
+
+later : (p : Row → Bool) (s : Option Row) (slots : Slots) → map (slot_at (s ∷ slots)) (places_from 1 (is_selected p) slots) ≡ small_slots p slots
+later p s slots = ap (map (slot_at (s ∷ slots))) (places_from-suc (is_selected p) 0 slots) ∙ map-suc s slots (selected p slots)
+
+-- they are those at the selected places
+pub filter-small : (p : Row → Bool) (slots : Slots) → filter (is_selected p) slots ≡ small_slots p slots
+filter-small p [] = refl
+filter-small p (s ∷ slots) =
+    let rest = filter-small p slots ∙ sym (later p s slots) in
+    elim (is_selected p s) as (λ b. cond b (s ∷ filter (is_selected p) slots) (filter (is_selected p) slots) ≡ map (slot_at (s ∷ slots)) (cond b (0 ∷ places_from 1 (is_selected p) slots) (places_from 1 (is_selected p) slots)))
+    [ true ↦ ap (λ w. s ∷ w) rest | false ↦ rest ]
+
+-- as many as there are such places
+pub length-small : (p : Row → Bool) (slots : Slots) → length (small_slots p slots) ≡ length (selected p slots)
+length-small p slots = Rattle.std.proofs.lemmas.List.length-map (selected p slots) (slot_at slots)
+
+-- one slot more
+pub chosen_more : (p : Condition) (slots : Slots) (i : ℕ) (b : Bool) → i < length slots → is_selected (is_true p) (slice_index_or slots i None) ≡ b
+    → chosen p (take (i + 1) slots) ≡ chosen p (take i slots) ++ cond b (slice_index_or slots i None ∷ []) []
+chosen_more p slots i b below is =
+    ap (chosen p) (take_more slots i None below) ∙ filter-append (is_selected (is_true p)) (take i slots) (slice_index_or slots i None ∷ [])
+    ∙ ap (λ (c : Bool). chosen p (take i slots) ++ cond c (slice_index_or slots i None ∷ []) []) is
+
+-- one block more
+pub chosen_block : (p : Condition) (r : ℕ) (all : Slots) (u : ℕ) → chosen p (take (u * r) all) ++ chosen p (block_at r all u) ≡ chosen p (take ((u + 1) * r) all)
+chosen_block p r all u = sym (ap (chosen p) (take_blocks r all u) ∙ filter-append (is_selected (is_true p)) (take (u * r) all) (block_at r all u))
+
+chosen_none : (p : Condition) (n : ℕ) → chosen p (none_of n) ≡ []
+chosen_none p zero = refl
+chosen_none p (suc n) = chosen_none p n
+
+-- all blocks
+pub chosen_whole : (p : Condition) (n : ℕ) (slots : Slots) → length slots ≤ n → chosen p (take n (up_to n slots)) ≡ chosen p slots
+chosen_whole p n slots fits =
+    ap (chosen p) (take_all n (up_to n slots) (omega (arith, length-up_to n slots fits)))
+    ∙ filter-append (is_selected (is_true p)) slots (none_of (n - length slots)) ∙ ap (λ (l : Slots). chosen p slots ++ l) (chosen_none p (n - length slots)) ∙ append-nil (chosen p slots)
