@@ -45,6 +45,10 @@ chosen_more p slots i b below is =
     ap (chosen p) (take_more slots i None below) ∙ filter-append (is_selected (is_true p)) (take i slots) (slice_index_or slots i None ∷ [])
     ∙ ap (λ (c : Bool). chosen p (take i slots) ++ cond c (slice_index_or slots i None ∷ []) []) is
 
+-- no block yet
+pub chosen_first : (p : Condition) (r : ℕ) (all : Slots) → chosen p (take (0 * r) all) ≡ []
+chosen_first p r all = let none : 0 * r ≡ 0 = omega arith in ap (λ (n : ℕ). chosen p (take n all)) none
+
 -- one block more
 pub chosen_block : (p : Condition) (r : ℕ) (all : Slots) (u : ℕ) → chosen p (take (u * r) all) ++ chosen p (block_at r all u) ≡ chosen p (take ((u + 1) * r) all)
 chosen_block p r all u = sym (ap (chosen p) (take_blocks r all u) ∙ filter-append (is_selected (is_true p)) (take (u * r) all) (block_at r all u))

@@ -1,4 +1,4 @@
 pub mod Choosing
-pub mod Keeping
+pub mod Kept
 pub mod Windows
 pub mod Lengths

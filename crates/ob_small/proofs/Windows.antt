@@ -1,5 +1,5 @@
 -- The blocks of kept rows are those of the result.
-use Rattle.std.proofs.Common.{◌≡◌, ◌≤◌, ◌<◌, ◌+◌, ◌-◌, ◌*◌, ℕ, zero, suc, List, ◌++◌, Option, None, length, take, drop, slice_index_or, inl, inr, refl, sym, ◌∙◌, ap, subst, arith}
+use Rattle.std.proofs.Common.{◌≡◌, ◌≤◌, ◌<◌, ◌+◌, ◌-◌, ◌*◌, ℕ, zero, suc, List, [], ◌++◌, Option, None, length, take, drop, slice_index_or, inl, inr, refl, sym, ◌∙◌, ap, subst, arith}
 use Rattle.std.proofs.lemmas.List.{get_or_past, get_or-take, get_or-drop, get_or_append_left, get_or-replicate, length-take, length-drop, length-replicate, take_all, append-nil}
 use Rattle.std.proofs.lemmas.List.Elements as elements
 use Rattle.std.proofs.Math.Seq.{get_or-append_right}
@@ -7,7 +7,8 @@ use Rattle.std.proofs.lemmas.Bool.{cases_lt}
 use Rattle.std.specs.List.{All}
 use Rattle.ob_base.specs.Numbers.{blocks_for}
 use Rattle.ob_base.specs.Schemas.{Columns}
-use Rattle.ob_vault.specs.Rows.{row_at}
+use Rattle.ob_vault.specs.Rows.{row_at, Wide}
+use Rattle.ob_vault.specs.Places.{RowsFit}
 use Rattle.ob_vault.specs.State.{World}
 use Rattle.ob_vault.specs.Tied.{Holds}
 use Rattle.ob_row.specs.Rows.{Row}
@@ -65,6 +66,17 @@ part_at r x z rows below = get_or-take r (drop (x * r) rows) z [] below ∙ get_
 
 pub part_long : (r x : ℕ) (rows : List (List ℕ)) → x * r + r ≤ length rows → length (take r (drop (x * r) rows)) ≡ r
 part_long r x rows fits = omega (arith, length-take r (drop (x * r) rows), length-drop (x * r) rows)
+
+-- its rows fit a block
+pub part_fit : (r x w : ℕ) (rows : List (List ℕ)) → 1 ≤ r → x * r + r ≤ length rows → Wide w rows → RowsFit (take r (drop (x * r) rows)) (r * w)
+part_fit r x w rows some inside wide =
+    let long = part_long r x rows inside in
+    record {
+      each = w;
+      whole = ap (λ (n : ℕ). n * w) long;
+      some = omega (arith, long, some);
+      wide = record { wide = λ z below. subst (λ (row : List ℕ). w ≤ length row) (sym (part_at r x z rows (omega (arith, below, long)))) (wide.wide (x * r + z) (omega (arith, below, long, inside))) };
+    }
 
 -- it spells a block of the result
 pub kept_block : (columns : Columns) (r k results first x : ℕ) (slots : Slots) (rows : List (List ℕ)) → k ≤ results * r → x * r + r ≤ length rows → first + x < results
