@@ -38,3 +38,6 @@ product_few a b few less = grind arith
 -- one pass more
 pub pass_next : (j blocks : ℕ) → (j + 1) * blocks ≡ j * blocks + blocks
 pass_next j blocks = grind arith
+
+pub product_within : (a b r : ℕ) → a ≤ b → a * r ≤ b * r
+product_within a b r fits = grind arith

@@ -1,7 +1,8 @@
 ghost use Rattle.std.specs.Prelude.{◌≡◌, ◌≤◌, ◌<◌, ◌*◌, ◌⊎◌, ℕ, Bool, List, None, IfErr, OnOk, MatchResult, length};
 ghost use Rattle.ob_base.specs.Numbers.{blocks_for};
 ghost use Rattle.ob_base.specs.Schemas.{width};
-ghost use Rattle.ob_vault.specs.Tied.{Ready};
+ghost use Rattle.ob_vault.specs.declared.region.Region.{Region as Shape};
+ghost use Rattle.ob_vault.specs.Tied.{Ready, OnTurn};
 ghost use Rattle.ob_vault.specs.Calls.{Went, Seals, none};
 ghost use Rattle.ob_vault.specs.Places.{at, RowsFit};
 ghost use Rattle.ob_vault.specs.Rows.{SameSizes, Wide};
@@ -45,6 +46,7 @@ pub(crate) fn collect_blocks<S: BlockStore, R: Revisions>(
     ensures err { IfErr result (λ e. PassCut e (count_part flat.now.region (blocks_for (length rows.old) flat.now.capacity)) none (at R.state vault.old (S.state store.old)) (at R.state vault.new (S.state store.new))) }
     ensures never { IfErr result (λ e. (e ≡ OpErr.Failed) ⊎ ((place : ℕ) × (place < blocks_for (length rows.old) flat.now.capacity) × (e ≡ OpErr.Tampered flat.now.region place))) }
     ensures seals { (good : ℕ → List ℕ → Bool) → Seals good (at R.state vault.old (S.state store.old)) (at R.state vault.new (S.state store.new)) }
+    ensures turns { OnOk result ((q x : ℕ) (shape : Shape) → OnTurn q shape x (at R.state vault.old (S.state store.old)) → OnTurn q shape x (at R.state vault.new (S.state store.new))) }
     ensures spells { OnOk result (AreSlots flat.now.schema kept.new) }
     ensures told { (slots : Slots) → Represents (length rows.old) flat.now slots (at R.state vault.old (S.state store.old)) → (S.state store.new).lie ≡ None
         → MatchResult result (λ _. Keeps flat.now.schema (chosen pred.now slots) from k kept.new) (λ e. e ≡ OpErr.Failed) }

@@ -1,6 +1,8 @@
 use Rattle.std.proofs.Common.{◌≡◌, ◌≤◌, ◌*◌, ℕ, Bool, List, None, take, length}
 use Rattle.ob_base.specs.Lists.{each}
 use Rattle.ob_base.specs.Accesses.{read_at}
+use Rattle.ob_vault.specs.declared.region.Region.{Region}
+use Rattle.ob_vault.specs.Tied.{OnTurn}
 use Rattle.ob_vault.specs.Calls.{Went, Seals, none}
 use Rattle.ob_vault.specs.Rows.{SameSizes}
 use Rattle.ob_vault.specs.Places.{at}
@@ -20,6 +22,7 @@ invariant-loop-u g l =
       seals : (good : ℕ → List ℕ → Bool) → Seals good old now;
       same : SameSizes l.initial.rows l.rows;
       kept : SameSizes l.initial.kept l.kept;
+      turns : (q x : ℕ) (shape : Region) → OnTurn q shape x old → OnTurn q shape x now;
       few : l.seen ≤ l.u * pack;
       spells : AreSlots l.flat.schema l.kept;
       told : (slots : Slots) → Represents pack l.flat slots old → now.store.lie ≡ None
