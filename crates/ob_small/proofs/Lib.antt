@@ -2,3 +2,4 @@ pub mod Choosing
 pub mod Kept
 pub mod Windows
 pub mod Lengths
+pub mod Opened
