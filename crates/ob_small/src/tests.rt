@@ -113,6 +113,32 @@ fn check<S: BlockStore>(rt: &impl Abort, store: &S, from: u64, wanted: &[(u8, u6
     assert_eq!(rt; at, store.count());
 }
 
+fn insert_row<S: BlockStore, R: Revisions>(
+    rt: &impl Abort,
+    store: &mut S,
+    vault: &mut Vault<R>,
+    room: &mut Room,
+    flat: &mut Flat,
+    id: i64,
+    v: i64,
+)
+    requires ready { Ready (at R.state vault.old (S.state store.old)) }
+    requires flat { IsFlat room.old.pack flat.old (at R.state vault.old (S.state store.old)) }
+    requires size { IsSized flat.old.schema flat.old.capacity }
+    requires room { IsIdle (width flat.old.schema) room.old }
+    requires ints { (x y : ℤ) → FitsSigned w64 x → FitsSigned w64 y → FitColumns flat.old.schema (IntCell x ∷ IntCell y ∷ []) }
+    ensures ready { Ready (at R.state vault.new (S.state store.new)) }
+    ensures flat { IsFlat room.old.pack flat.new (at R.state vault.new (S.state store.new)) }
+    ensures schema { flat.new.schema ≡ flat.old.schema }
+    ensures capacity { flat.new.capacity ≡ flat.old.capacity }
+    ensures room { room.new ≡ record room.old { high = room.new.high } }
+{
+    store.room(100_000_000).expect(rt, "room");
+    assert!(rt; store.count() < 1_000_000);
+    let cells = [Cell::Int(id), Cell::Int(v)];
+    insert(store, vault, room, flat, &cells).expect(rt, "insert");
+}
+
 fn insert_rows<S: BlockStore, R: Revisions>(
     rt: &impl Abort,
     store: &mut S,
@@ -133,11 +159,31 @@ fn insert_rows<S: BlockStore, R: Revisions>(
     ensures room { room.new ≡ record room.old { high = room.new.high } }
 {
     for (id, v) in rows {
-        store.room(100_000_000).expect(rt, "room");
-        assert!(rt; store.count() < 1_000_000);
-        let cells = [Cell::Int(*id), Cell::Int(*v)];
-        insert(store, vault, room, flat, &cells).expect(rt, "insert");
+        insert_row(rt, store, vault, room, flat, *id, *v);
     }
+}
+
+fn delete_rows<S: BlockStore, R: Revisions>(
+    rt: &impl Abort,
+    store: &mut S,
+    vault: &mut Vault<R>,
+    room: &mut Room,
+    flat: &mut Flat,
+    gone: &Pred,
+)
+    requires ready { Ready (at R.state vault.old (S.state store.old)) }
+    requires flat { IsFlat room.old.pack flat.old (at R.state vault.old (S.state store.old)) }
+    requires size { IsSized flat.old.schema flat.old.capacity }
+    requires room { IsIdle (width flat.old.schema) room.old }
+    ensures ready { Ready (at R.state vault.new (S.state store.new)) }
+    ensures flat { IsFlat room.old.pack flat.new (at R.state vault.new (S.state store.new)) }
+    ensures schema { flat.new.schema ≡ flat.old.schema }
+    ensures capacity { flat.new.capacity ≡ flat.old.capacity }
+    ensures room { room.new ≡ record room.old { high = room.new.high } }
+{
+    store.room(100_000_000).expect(rt, "room");
+    assert!(rt; store.count() < 1_000_000);
+    delete(store, vault, room, flat, gone).expect(rt, "delete");
 }
 
 // What the selection of a table of four slots asks and gives: how many rows are counted, how many are
@@ -167,11 +213,13 @@ fn select_emit<S: BlockStore, R: Revisions>(
     requires room { IsIdle (width flat.now.schema) room.old }
     requires columns { length flat.now.schema ≡ 2 }
     requires names { All IsNamed flat.now.schema }
+    requires pack { 1 ≤ room.old.pack }
+    requires few { flat.now.capacity ≡ 4 }
+    requires number { (1 ≤ case.now.k) × (case.now.k ≤ 4) }
 {
     store.room(100_000_000).expect(rt, "room");
     let counted = count(store, vault, room, flat, case.pred).expect(rt, "count");
     assert_eq!(rt; counted.k, case.counted);
-    assert!(rt; 0 < case.k && case.k <= flat.capacity);
     store.room(100_000_000).expect(rt, "room");
     assert!(rt; store.count() < 1_000_000);
     let result = select(store, vault, room, flat, case.pred, case.k).expect(rt, "select");
@@ -200,6 +248,8 @@ fn session<S: BlockStore, R: Revisions>(
 )
     requires ready { Ready (at R.state vault (S.state store.old)) }
     requires room { IsIdle 17 room }
+    requires pack { 1 ≤ room.pack }
+    requires number { (1 ≤ case.now.k) × (case.now.k ≤ 4) }
 {
     let schema = two_ints();
     store.room(100_000_000).expect(rt, "room");
@@ -207,9 +257,7 @@ fn session<S: BlockStore, R: Revisions>(
     let mut flat = create(store, &mut vault, &mut room, &schema, 4).expect(rt, "create");
     insert_rows(rt, store, &mut vault, &mut room, &mut flat, rows);
     if let Some((gone, rows)) = changes {
-        store.room(100_000_000).expect(rt, "room");
-        assert!(rt; store.count() < 1_000_000);
-        delete(store, &mut vault, &mut room, &mut flat, gone).expect(rt, "delete");
+        delete_rows(rt, store, &mut vault, &mut room, &mut flat, gone);
         insert_rows(rt, store, &mut vault, &mut room, &mut flat, rows);
     }
     select_emit(rt, store, &mut vault, &mut room, &flat, case);
@@ -226,6 +274,7 @@ fn in_memory(
 )
     requires pack { (1 ≤ pack) × (pack ≤ 16) }
     requires buffer { 3 * pack + 1 ≤ buffer }
+    requires number { (1 ≤ case.now.k) × (case.now.k ≤ 4) }
 {
     let mut store = MemStore::new(alloc);
     let vault: Vault<BaseRevs> = Vault::new(alloc, Keys::derive(&[0; 32]));
