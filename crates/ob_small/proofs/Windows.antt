@@ -90,8 +90,8 @@ kept_block columns r k results first x slots rows fits inside within keeps =
       each = λ z below.
           let less : z < r = omega (arith, below, long) in
           let is : at (block_at r all (first + x)) z ≡ at (take k slots) (first * r + (x * r + z)) =
-              at-block r (first + x) z all less ∙ at-up_to (results * r) ((first + x) * r + z) (fitted k slots) ∙ at-up_to k ((first + x) * r + z) (take k slots)
-              ∙ ap (at (take k slots)) (sym (index first x r z)) in
+          at-block r (first + x) z all less ∙ at-up_to (results * r) ((first + x) * r + z) (fitted k slots) ∙ at-up_to k ((first + x) * r + z) (take k slots)
+          ∙ ap (at (take k slots)) (sym (index first x r z)) in
           subst (λ (s : Option Row). Begins columns s (row_at (take r (drop (x * r) rows)) z)) (sym is)
           (subst (Begins columns (at (take k slots) (first * r + (x * r + z)))) (sym (part_at r x z rows less)) (keeps.each (x * r + z) (omega (arith, less, inside))));
     }
@@ -99,8 +99,8 @@ kept_block columns r k results first x slots rows fits inside within keeps =
 -- and some slots where these aren't told
 pub part_slots : (columns : Columns) (r x : ℕ) (rows : List (List ℕ)) → x * r + r ≤ length rows → AreSlots columns rows → AreSlots columns (take r (drop (x * r) rows))
 part_slots columns r x rows inside are = slots_of columns (take r (drop (x * r) rows)) (λ z below.
-  let less : z < r = omega (arith, below, part_long r x rows inside) in
-  (at are.slots (x * r + z), subst (Begins columns (at are.slots (x * r + z))) (sym (part_at r x z rows less)) (are.spelt.each (x * r + z) (omega (arith, less, inside)))))
+    let less : z < r = omega (arith, below, part_long r x rows inside) in
+    (at are.slots (x * r + z), subst (Begins columns (at are.slots (x * r + z))) (sym (part_at r x z rows less)) (are.spelt.each (x * r + z) (omega (arith, less, inside)))))
 
 -- the result has these slots
 pub represents_fitted : (pack : ℕ) (flat : Flat) (p : Condition) (slots : Slots) (w : World) → All (FitsSlot flat.schema) slots

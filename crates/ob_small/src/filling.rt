@@ -64,7 +64,16 @@ pub(crate) fn fill_result<S: BlockStore, R: Revisions>(
     for j in 0..results.div_ceil(buffered) {
         let first = j * buffered;
         let n = buffered.min(results - first);
-        collect_blocks(store, vault, rows, kept, flat, pred, first * pack, to.capacity)?;
+        collect_blocks(
+            store,
+            vault,
+            rows,
+            kept,
+            flat,
+            pred,
+            first * pack,
+            to.capacity,
+        )?;
         write_blocks(store, vault, kept, pack, to, first, n)?;
     }
     Ok(())

@@ -47,14 +47,7 @@ pub(crate) fn clear_rows(rows: &mut [ClearRow])
 
 // Keeps a selected row, before which there are so many: the first row that is kept is the one of number
 // `from`, and none is kept from number `k` on.
-fn keep_row(
-    schema: &Schema,
-    row: &ClearRow,
-    seen: u32,
-    from: u32,
-    k: u32,
-    kept: &mut [ClearRow],
-)
+fn keep_row(schema: &Schema, row: &ClearRow, seen: u32, from: u32, k: u32, kept: &mut [ClearRow])
     requires row { width schema.now ≤ length row.now }
     requires wide { Wide (width schema.now) kept.old }
     ensures size { SameSizes kept.old kept.new }

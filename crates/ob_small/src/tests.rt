@@ -186,6 +186,31 @@ fn delete_rows<S: BlockStore, R: Revisions>(
     delete(store, vault, room, flat, gone).expect(rt, "delete");
 }
 
+fn change_rows<S: BlockStore, R: Revisions>(
+    rt: &impl Abort,
+    store: &mut S,
+    vault: &mut Vault<R>,
+    room: &mut Room,
+    flat: &mut Flat,
+    changes: Option<(&Pred, &[(i64, i64)])>,
+)
+    requires ready { Ready (at R.state vault.old (S.state store.old)) }
+    requires flat { IsFlat room.old.pack flat.old (at R.state vault.old (S.state store.old)) }
+    requires size { IsSized flat.old.schema flat.old.capacity }
+    requires room { IsIdle (width flat.old.schema) room.old }
+    requires ints { (x y : ℤ) → FitsSigned w64 x → FitsSigned w64 y → FitColumns flat.old.schema (IntCell x ∷ IntCell y ∷ []) }
+    ensures ready { Ready (at R.state vault.new (S.state store.new)) }
+    ensures flat { IsFlat room.old.pack flat.new (at R.state vault.new (S.state store.new)) }
+    ensures schema { flat.new.schema ≡ flat.old.schema }
+    ensures capacity { flat.new.capacity ≡ flat.old.capacity }
+    ensures room { room.new ≡ record room.old { high = room.new.high } }
+{
+    if let Some((gone, rows)) = changes {
+        delete_rows(rt, store, vault, room, flat, gone);
+        insert_rows(rt, store, vault, room, flat, rows);
+    }
+}
+
 // What the selection of a table of four slots asks and gives: how many rows are counted, how many are
 // asked for, the first cells of those that come, and the accesses from the one of an index on.
 #[derive(Drop)]
@@ -256,10 +281,7 @@ fn session<S: BlockStore, R: Revisions>(
     assert!(rt; store.count() < 1);
     let mut flat = create(store, &mut vault, &mut room, &schema, 4).expect(rt, "create");
     insert_rows(rt, store, &mut vault, &mut room, &mut flat, rows);
-    if let Some((gone, rows)) = changes {
-        delete_rows(rt, store, &mut vault, &mut room, &mut flat, gone);
-        insert_rows(rt, store, &mut vault, &mut room, &mut flat, rows);
-    }
+    change_rows(rt, store, &mut vault, &mut room, &mut flat, changes);
     select_emit(rt, store, &mut vault, &mut room, &flat, case);
 }
 

@@ -175,6 +175,6 @@ returns-clause-told g c = λ slots is nolie.
     let blocks = blocks_for pack flat.capacity in
     let last : c.loop-u.u ≡ blocks = omega (arith, c.div_ceil-blocks.ensures) in
     let all : chosen p (take (c.loop-u.u * pack) (whole_blocks pack flat.capacity slots)) ≡ chosen p slots =
-        ap (λ (n : ℕ). chosen p (take (n * pack) (whole_blocks pack flat.capacity slots))) last
-        ∙ chosen_whole p (blocks * pack) slots (omega (arith, is.size, blocks_hold pack flat.capacity c.requires.pack.0)) in
+    ap (λ (n : ℕ). chosen p (take (n * pack) (whole_blocks pack flat.capacity slots))) last
+    ∙ chosen_whole p (blocks * pack) slots (omega (arith, is.size, blocks_hold pack flat.capacity c.requires.pack.0)) in
     subst (λ (l : Slots). Keeps flat.schema l c.args.from c.args.k c.loop-u.kept) all (c.loop-u.invariant.told slots is nolie).1

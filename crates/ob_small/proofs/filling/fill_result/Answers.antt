@@ -135,8 +135,18 @@ write_blocks-requires-clause-few g c =
     let few_results : results ≤ 16777216 = omega (arith, blocks_few pack c.args.to.now.capacity c.requires.pack.0, c.requires.sized.most) in
     let few_blocks : blocks ≤ 16777216 = omega (arith, blocks_few pack c.args.flat.now.capacity c.requires.pack.0, c.requires.size.most) in
     let few_passes : div_ceil results q ≤ 16777216 = omega (arith, passes_few results q c.requires.some, few_results) in
-    omega (arith, c.requires.few, went_length _ _ _ _ c.loop-j.invariant.went, spent t to blocks results q j, rows_room j (div_ceil results q) blocks below, went_length _ _ _ _ went, reads t blocks,
-    product_few (div_ceil results q) blocks few_passes few_blocks, few_results, taken results q j _ _ c.div_ceil-results.ensures c.min-n.ensures)
+    omega (
+      arith,
+      c.requires.few,
+      went_length _ _ _ _ c.loop-j.invariant.went,
+      spent t to blocks results q j,
+      rows_room j (div_ceil results q) blocks below,
+      went_length _ _ _ _ went,
+      reads t blocks,
+      product_few (div_ceil results q) blocks few_passes few_blocks,
+      few_results,
+      taken results q j _ _ c.div_ceil-results.ensures c.min-n.ensures,
+    )
 
 pub write_blocks-requires-clause-lives : goal.write_blocks-requires-clause-lives
 write_blocks-requires-clause-lives g c = lives_went none _ _ _ c.args.to.now.region (table_region (length c.args.rows.now) c.args.to.now.schema c.args.to.now.capacity) c.in_ok-collect_blocks.ensures.ok (λ s. s) c.loop-j.invariant.lives
@@ -152,7 +162,7 @@ write_blocks-requires-clause-turn g c =
     let inside = pass_inside results q j c.requires.some below in
     let done : min (j * q) results ≡ j * q = omega (arith, inside) in
     let here : (if min (j * q) results == results then 0 else min (j * q) results) ≡ j * q =
-        ap (λ (n : ℕ). if n == results then 0 else n) done ∙ not_last (j * q) results inside in
+    ap (λ (n : ℕ). if n == results then 0 else n) done ∙ not_last (j * q) results inside in
     let turned = subst (λ (n : ℕ). OnTurn to.region (table_region pack to.schema to.capacity) n (at g.R.Revisions.state c.loop-j.vault (g.S.BlockStore.state c.loop-j.store))) here c.loop-j.invariant.turn in
     c.in_ok-collect_blocks.ensures.turns to.region (j * q) (table_region pack to.schema to.capacity) turned
 

@@ -43,14 +43,14 @@ loop-z-preserved c =
             | then-selected w ↦
                 let again = same_at rows z w.index-rows-z-then-selected.result c.loop-z-test.true w.index-rows-z-then-selected.is in
                 let next : so_far ++ slot ∷ [] ≡ before ++ chosen p (take (z + 1) slots) =
-                    append_assoc before (chosen p (take z slots)) (slot ∷ []) ∙ ap (λ (l : Slots). before ++ l) (sym (chosen_more p slots z true inside (sym is ∙ w.if-selected.true))) in
+                append_assoc before (chosen p (take z slots)) (slot ∷ []) ∙ ap (λ (l : Slots). before ++ l) (sym (chosen_more p slots z true inside (sym is ∙ w.if-selected.true))) in
                 let kept = w.keep_row.ensures.told slot so_far (subst (Begins columns slot) again begins) told.0 told.1 in (
                   w.n-is ∙ ap (λ (n : ℕ). n + 1) told.0 ∙ sym (length-append so_far (slot ∷ [])) ∙ ap length next,
                   subst (Keeps columns (before ++ chosen p (take (z + 1) slots)) c.args.from c.args.k) (sym w.kept-is) (subst (λ (l : Slots). Keeps columns l c.args.from c.args.k w.keep_row.new.kept) next kept),
                 )
             | else-selected w ↦
                 let next : so_far ≡ before ++ chosen p (take (z + 1) slots) =
-                    ap (λ (l : Slots). before ++ l) (sym (append-nil (chosen p (take z slots))) ∙ sym (chosen_more p slots z false inside (sym is ∙ w.if-selected.false))) in (
+                ap (λ (l : Slots). before ++ l) (sym (append-nil (chosen p (take z slots))) ∙ sym (chosen_more p slots z false inside (sym is ∙ w.if-selected.false))) in (
                   w.n-is ∙ told.0 ∙ ap length next,
                   subst (Keeps columns (before ++ chosen p (take (z + 1) slots)) c.args.from c.args.k) (sym w.kept-is) (subst (λ (l : Slots). Keeps columns l c.args.from c.args.k c.loop-z.kept) next told.1),
                 )

@@ -28,7 +28,7 @@ returns-clause-room g c =
     let ends = c.select_rows-result.new.rows ++ c.select_rows-result.new.kept in
     let same = subst (λ (l : List (List ℕ)). SameSizes l ends) (sym c.split_at_mut-rows.ensures.value) (sizes_join _ _ _ _ c.select_rows-result.ensures.rows c.select_rows-result.ensures.kept) in
     let high : pack + buffered_blocks pack rows * pack ≡ s.pack + buffered_blocks s.pack s.rows * s.pack =
-        ap (λ (r : ℕ). pack + buffered_blocks pack r * pack) c.rows.ensures.value ∙ ap (λ (p : ℕ). p + buffered_blocks p s.rows * p) c.pack-pack.ensures.value in
+    ap (λ (r : ℕ). pack + buffered_blocks pack r * pack) c.rows.ensures.value ∙ ap (λ (p : ℕ). p + buffered_blocks p s.rows * p) c.pack-pack.ensures.value in
     c.clear_shelf.ensures
     ∙ opened_closed (width c.args.flat.now.schema) (pack + buffered_blocks pack rows * pack) s _ ends c.requires.room fits c.open-open.ensures.value same c.pack-pack.ensures.sound
     ∙ ap (λ (n : ℕ). record s { high = max s.high n }) high

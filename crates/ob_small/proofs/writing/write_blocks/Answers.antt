@@ -70,7 +70,7 @@ returns-in_err-put-clause-seals g c = λ good fine.
     let inside : x * pack + pack ≤ length kept = omega (arith, c.requires.space, rows_room x c.args.n pack (omega arith)) in
     let same : (x * pack + pack) - x * pack ≡ pack = omega arith in
     let ok = subst (λ (m : ℕ). IsTrue (good to.region (joined ((pack * width to.schema) / length (take m (drop (x * pack) kept))) (take m (drop (x * pack) kept))))) (sym same)
-        (accepted good pack to.region to.schema (take pack (drop (x * pack) kept)) c.requires.pack.0 (part_long pack x kept inside) fine (part_slots to.schema pack x kept inside c.requires.spells)) in
+    (accepted good pack to.region to.schema (take pack (drop (x * pack) kept)) c.requires.pack.0 (part_long pack x kept inside) fine (part_slots to.schema pack x kept inside c.requires.spells)) in
     seals_join good _ _ _ c.loop-x.invariant.went.lasts.later (c.loop-x.invariant.seals good fine) (c.put.ensures.seals good shape c.loop-x.invariant.lives ok)
 
 pub loop-x-preserved : goal.loop-x-preserved
@@ -92,7 +92,7 @@ loop-x-preserved g c =
       went = went_each (one q) (write_from q first) _ _ _ x before.went c.in_ok-put.ensures.ok;
       seals = λ good fine.
           let ok = subst (λ (m : ℕ). IsTrue (good q (joined ((pack * width to.schema) / length (take m (drop (x * pack) kept))) (take m (drop (x * pack) kept))))) (sym same)
-              (accepted good pack q to.schema (take pack (drop (x * pack) kept)) c.requires.pack.0 (part_long pack x kept inside) fine (part_slots to.schema pack x kept inside c.requires.spells)) in
+          (accepted good pack q to.schema (take pack (drop (x * pack) kept)) c.requires.pack.0 (part_long pack x kept inside) fine (part_slots to.schema pack x kept inside c.requires.spells)) in
           seals_join good _ _ _ before.went.lasts.later (before.seals good fine) (c.put.ensures.seals good shape before.lives ok);
       lives = lives_only _ _ _ _ c.put.ensures.only _ _ before.lives;
       turn = subst (λ (n : ℕ). OnTurn q shape (if n == blocks then 0 else n) now) next (c.put.ensures.turn shape before.lives);
@@ -108,8 +108,8 @@ loop-x-preserved g c =
             let spelt = kept_block to.schema pack to.capacity blocks first x slots kept (blocks_hold pack to.capacity c.requires.pack.0) inside within keeps in
             let block = block_at pack (whole_blocks pack to.capacity (fitted to.capacity slots)) (first + x) in
             let bytes : joined ((pack * width to.schema) / length (take ((x * pack + pack) - x * pack) (drop (x * pack) kept))) (take ((x * pack + pack) - x * pack) (drop (x * pack) kept)) ≡ block_bytes to.schema block =
-                ap (λ (m : ℕ). joined ((pack * width to.schema) / length (take m (drop (x * pack) kept))) (take m (drop (x * pack) kept))) same
-                ∙ joined_block pack to.schema block (take pack (drop (x * pack) kept)) c.requires.pack.0 (part_long pack x kept inside) spelt in
+            ap (λ (m : ℕ). joined ((pack * width to.schema) / length (take m (drop (x * pack) kept))) (take m (drop (x * pack) kept))) same
+            ∙ joined_block pack to.schema block (take pack (drop (x * pack) kept)) c.requires.pack.0 (part_long pack x kept inside) spelt in
             let put = holds_rows q (first + x) _ _ _ bytes (c.in_ok-put.ensures.told (tells_went _ _ _ _ before.went tells) shape before.lives) in
             subst (λ (n : ℕ). Holds q n (block_bytes to.schema (block_at pack (whole_blocks pack to.capacity (fitted to.capacity slots)) n)) now) is put
       ];
