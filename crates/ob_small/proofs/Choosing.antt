@@ -1,5 +1,5 @@
 -- The slots that are selected.
-use Rattle.std.proofs.Common.{◌≡◌, ◌≤◌, ◌<◌, ◌+◌, ◌*◌, ◌-◌, ℕ, zero, suc, Bool, true, false, List, [], ◌∷◌, ◌++◌, Option, Some, None, length, map, take, slice_index_or, cond, refl, sym, ◌∙◌, ap, arith}
+use Rattle.std.proofs.Common.{◌≡◌, ◌≤◌, ◌<◌, ◌+◌, ◌*◌, ◌-◌, ℕ, zero, suc, Bool, true, false, List, [], ◌∷◌, ◌++◌, Option, Some, None, length, map, take, slice_index_or, cond, refl, sym, ◌∙◌, ap, arith, length-append, append_assoc}
 use Rattle.std.specs.Prelude.{filter}
 use Rattle.std.proofs.lemmas.List.{take_all, take_more, append-nil}
 use Rattle.std.proofs.lemmas.List.Elements.{filter-append}
@@ -12,27 +12,27 @@ use Rattle.ob_blocks.specs.Blocks.{none_of, up_to, block_at}
 use Rattle.ob_blocks.proofs.Blocks.{take_blocks, length-up_to}
 use Rattle.ob_small.specs.Keeping.{chosen}
 
--- places counted from one further on
-places_from-suc : {A : Type 0} (p : A → Bool) (n : ℕ) (xs : List A) → places_from (suc n) p xs ≡ map suc (places_from n p xs)
-places_from-suc p n [] = refl
-places_from-suc p n (x ∷ xs) =
-    elim (p x) as (λ b. cond b (suc n ∷ places_from (suc (suc n)) p xs) (places_from (suc (suc n)) p xs) ≡ map suc (cond b (n ∷ places_from (suc n) p xs) (places_from (suc n) p xs)))
-    [ true ↦ ap (λ w. suc n ∷ w) (places_from-suc p (suc n) xs) | false ↦ places_from-suc p (suc n) xs ]
+-- the slot behind the first ones
+at_seam : (first : Slots) (s : Option Row) (slots : Slots) → slot_at (first ++ s ∷ slots) (length first) ≡ s
+at_seam [] None slots = refl
+at_seam [] (Some row) slots = refl
+at_seam (x ∷ first) s slots = at_seam first s slots
 
-map-suc : (s : Option Row) (slots : Slots) (is : List ℕ) → map (slot_at (s ∷ slots)) (map suc is) ≡ map (slot_at slots) is
-map-suc s slots [] = refl
-map-suc s slots (i ∷ is) = ap (λ w. slot_at slots i ∷ w) (map-suc s slots is)
-
-later : (p : Row → Bool) (s : Option Row) (slots : Slots) → map (slot_at (s ∷ slots)) (places_from 1 (is_selected p) slots) ≡ small_slots p slots
-later p s slots = ap (map (slot_at (s ∷ slots))) (places_from-suc (is_selected p) 0 slots) ∙ map-suc s slots (selected p slots)
+-- those at the selected places behind the first ones
+behind : (p : Row → Bool) (first slots : Slots) → filter (is_selected p) slots ≡ map (slot_at (first ++ slots)) (places_from (length first) (is_selected p) slots)
+behind p first [] = refl
+behind p first (s ∷ slots) =
+    let all : (first ++ s ∷ []) ++ slots ≡ first ++ s ∷ slots = append_assoc first (s ∷ []) slots in
+    let next : length (first ++ s ∷ []) ≡ suc (length first) = omega (arith, length-append first (s ∷ [])) in
+    let rest : filter (is_selected p) slots ≡ map (slot_at (first ++ s ∷ slots)) (places_from (suc (length first)) (is_selected p) slots) =
+    behind p (first ++ s ∷ []) slots ∙ ap (λ (l : Slots). map (slot_at l) (places_from (length (first ++ s ∷ [])) (is_selected p) slots)) all
+    ∙ ap (λ (n : ℕ). map (slot_at (first ++ s ∷ slots)) (places_from n (is_selected p) slots)) next in
+    elim (is_selected p s) as (λ b. cond b (s ∷ filter (is_selected p) slots) (filter (is_selected p) slots) ≡ map (slot_at (first ++ s ∷ slots)) (cond b (length first ∷ places_from (suc (length first)) (is_selected p) slots) (places_from (suc (length first)) (is_selected p) slots)))
+    [ true ↦ ap (λ (x : Option Row). x ∷ filter (is_selected p) slots) (sym (at_seam first s slots)) ∙ ap (λ (l : Slots). slot_at (first ++ s ∷ slots) (length first) ∷ l) rest | false ↦ rest ]
 
 -- they are those at the selected places
 pub filter-small : (p : Row → Bool) (slots : Slots) → filter (is_selected p) slots ≡ small_slots p slots
-filter-small p [] = refl
-filter-small p (s ∷ slots) =
-    let rest = filter-small p slots ∙ sym (later p s slots) in
-    elim (is_selected p s) as (λ b. cond b (s ∷ filter (is_selected p) slots) (filter (is_selected p) slots) ≡ map (slot_at (s ∷ slots)) (cond b (0 ∷ places_from 1 (is_selected p) slots) (places_from 1 (is_selected p) slots)))
-    [ true ↦ ap (λ w. s ∷ w) rest | false ↦ rest ]
+filter-small p slots = behind p [] slots
 
 -- as many as there are such places
 pub length-small : (p : Row → Bool) (slots : Slots) → length (small_slots p slots) ≡ length (selected p slots)
