@@ -1,10 +1,10 @@
 -- Rows that are kept.
-use Rattle.std.proofs.Common.{◌≡◌, ◌≢◌, ◌≤◌, ◌<◌, ◌+◌, ◌-◌, ℕ, List, [], ◌∷◌, ◌++◌, Option, None, length, take, slice_index_or, slice_set, inl, inr, refl, sym, ◌∙◌, ap, subst, arith, length-append}
-use Rattle.std.proofs.lemmas.List.{get_or-take, get_or_past, get_or_append_left, get_or-set_same, get_or-set_other, length-set, length-take, take-append-le}
+use Rattle.std.proofs.Common.{◌≡◌, ◌≢◌, ◌≤◌, ◌<◌, ◌+◌, ◌-◌, ℕ, List, [], ◌∷◌, ◌++◌, Option, None, length, take, slice_index_or, slice_set, inl, inr, sym, ◌∙◌, ap, subst, arith, length-append}
+use Rattle.std.proofs.lemmas.List.{get_or-take, get_or_past, get_or_append_left, length-set, length-take}
 use Rattle.std.proofs.Math.Seq.{get_or-append_right}
 use Rattle.std.proofs.lemmas.Bool.{cases_eq, cases_lt}
-use Rattle.ob_base.specs.Schemas.{Columns, width}
-use Rattle.ob_vault.specs.Rows.{row_at, SameSizes}
+use Rattle.ob_base.specs.Schemas.{Columns}
+use Rattle.ob_vault.specs.Rows.{row_at}
 use Rattle.ob_row.specs.Rows.{Row}
 use Rattle.ob_row.specs.Slots.{Slots}
 use Rattle.ob_row.specs.Spelling.{Begins}

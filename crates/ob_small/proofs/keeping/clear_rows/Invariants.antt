@@ -1,4 +1,4 @@
-use Rattle.std.proofs.Common.{◌≡◌, ◌≤◌, ◌<◌, ℕ, None, length}
+use Rattle.std.proofs.Common.{◌<◌, ℕ, None}
 use Rattle.ob_base.specs.Schemas.{Columns, width}
 use Rattle.ob_vault.specs.Rows.{row_at, SameSizes, Wide}
 use Rattle.ob_row.specs.Spelling.{Begins}

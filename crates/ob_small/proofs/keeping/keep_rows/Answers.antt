@@ -1,6 +1,6 @@
-use Rattle.std.proofs.Common.{◌≡◌, ◌<◌, ◌+◌, ◌++◌, [], ◌∷◌, Bool, List, ℕ, None, true, false, length, take, slice_index_or, refl, sym, ◌∙◌, ap, subst, arith, length-append, append_assoc}
+use Rattle.std.proofs.Common.{◌≡◌, ◌<◌, ◌+◌, ◌++◌, [], ◌∷◌, ℕ, None, true, false, length, take, slice_index_or, sym, ◌∙◌, ap, subst, arith, length-append, append_assoc}
 use Rattle.std.proofs.lemmas.List.{append-nil, take_all}
-use Rattle.ob_vault.specs.Rows.{row_at, SameSizes}
+use Rattle.ob_vault.specs.Rows.{SameSizes}
 use Rattle.ob_vault.proofs.RowsLemmas.{same_at, sizes_trans}
 use Rattle.ob_row.specs.Slots.{Slots, is_selected}
 use Rattle.ob_row.specs.Spelling.{Begins}

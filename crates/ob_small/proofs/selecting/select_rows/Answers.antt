@@ -1,4 +1,4 @@
-use Rattle.std.proofs.Common.{◌≡◌, ◌*◌, inl, inr, List, length, sym, ◌∙◌, refl, ap, subst}
+use Rattle.std.proofs.Common.{◌*◌, inl, inr, length, ◌∙◌, refl, subst}
 use Rattle.std.proofs.lemmas.Result.{err_from_is_err_and}
 use Rattle.std.specs.Int.{div_ceil}
 use Rattle.ob_base.specs.Accesses.{make_at}

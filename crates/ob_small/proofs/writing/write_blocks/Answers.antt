@@ -1,4 +1,4 @@
-use Rattle.std.proofs.Common.{◌≡◌, ◌≤◌, ◌+◌, ◌-◌, ◌*◌, ◌<◌, ◌==◌, ◌/◌, if◌then◌else◌, ℕ, Bool, IsTrue, List, length, take, drop, inl, inr, refl, sym, ◌∙◌, ap, subst, arith}
+use Rattle.std.proofs.Common.{◌≡◌, ◌≤◌, ◌+◌, ◌-◌, ◌*◌, ◌<◌, ◌==◌, ◌/◌, if◌then◌else◌, ℕ, IsTrue, length, take, drop, inl, inr, sym, ◌∙◌, ap, subst, arith}
 use Rattle.std.proofs.lemmas.Result.{err_from_is_err_and}
 use Rattle.std.proofs.lemmas.Bool.{cases_lt}
 use Rattle.std.proofs.lemmas.Bool.Decides.{nat_tests}
@@ -11,15 +11,13 @@ use Rattle.ob_vault.specs.Places.{at, RowsFit}
 use Rattle.ob_vault.specs.Rows.{joined}
 use Rattle.ob_vault.proofs.RowsLemmas.{rows_room}
 use Rattle.ob_vault.proofs.Runs.{went_length, went_each, lives_only, written_only, holds_only, holds_rows, tells_went, may_put, seals_join}
-use Rattle.ob_row.specs.Slots.{Slots}
 use Rattle.ob_blocks.specs.Blocks.{block_at}
-use Rattle.ob_blocks.proofs.Blocks.{length-up_to}
-use Rattle.ob_flat.specs.Slots.{Spelt, AreSlots, block_bytes}
+use Rattle.ob_flat.specs.Slots.{block_bytes}
 use Rattle.ob_flat.specs.Flats.{table_region, whole_blocks}
 use Rattle.ob_flat.specs.Passes.{pass_error}
 use Rattle.ob_flat.proofs.Runs.{pass_of, pass_each}
 use Rattle.ob_flat.proofs.Tables.{accepted, joined_block, blocks_hold}
-use Rattle.ob_small.specs.Keeping.{fitted, Keeps}
+use Rattle.ob_small.specs.Keeping.{fitted}
 use Rattle.ob_small.proofs.Lengths.{writes}
 use Rattle.ob_small.proofs.Windows.{part_long, part_fit, part_slots, kept_block}
 use Rattle.ob_small.proofs.writing.write_blocks.Goals as goal
