@@ -78,6 +78,7 @@ pub(crate) fn keep_rows(
     requires few { seen + length rows.now ≤ 2147483648 }
     ensures size { SameSizes kept.old kept.new }
     ensures most { IfOk result (λ n. n ≤ seen + length rows.now) }
+    ensures read { OnOk result (AreSlots schema.now rows.now) }
     ensures spells { OnOk result (AreSlots schema.now kept.old → AreSlots schema.now kept.new) }
     ensures told { (before slots : Slots) → Spelt schema.now slots rows.now → seen ≡ length before → Keeps schema.now before from k kept.old
         → MatchResult result (λ n. (n ≡ length (before ++ chosen pred.now slots)) × Keeps schema.now (before ++ chosen pred.now slots) from k kept.new) (λ _. ⊥) }

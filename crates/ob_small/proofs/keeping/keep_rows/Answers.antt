@@ -1,4 +1,4 @@
-use Rattle.std.proofs.Common.{◌≡◌, ◌<◌, ◌+◌, ◌++◌, [], ◌∷◌, ℕ, None, true, false, length, take, slice_index_or, sym, ◌∙◌, ap, subst, arith, length-append, append_assoc}
+use Rattle.std.proofs.Common.{◌≡◌, ◌<◌, ◌+◌, ◌++◌, [], ◌∷◌, ℕ, None, true, false, length, take, slice_index_or, sym, ◌∙◌, ap, subst, arith, length-append, append_assoc, below_more}
 use Rattle.std.proofs.lemmas.List.{append-nil, take_all}
 use Rattle.ob_vault.specs.Rows.{SameSizes}
 use Rattle.ob_vault.proofs.RowsLemmas.{same_at, sizes_trans}
@@ -6,6 +6,7 @@ use Rattle.ob_row.specs.Slots.{Slots, is_selected}
 use Rattle.ob_row.specs.Spelling.{Begins}
 use Rattle.ob_row.specs.Truth.{is_true}
 use Rattle.ob_flat.specs.Slots.{AreSlots}
+use Rattle.ob_flat.proofs.Rows.{slots_of}
 use Rattle.ob_small.specs.Keeping.{chosen, Keeps}
 use Rattle.ob_small.proofs.Choosing.{chosen_more}
 use Rattle.ob_small.proofs.keeping.keep_rows.Goals as goal
@@ -21,6 +22,7 @@ loop-z-preserved c =
     let row = same_at rows z c.index-rows-z.result c.loop-z-test.true c.index-rows-z.is in
     record {
       few = elim c.if-selected.branch [ then-selected w ↦ omega (arith, w.n-is, was.few) | else-selected w ↦ omega (arith, w.n-is, was.few) ];
+      read = below_more _ _ was.read (c.in-Ok.ensures.malformed.0, subst (Begins columns c.in-Ok.ensures.malformed.0) (sym row) c.in-Ok.ensures.malformed.1);
       same = elim c.if-selected.branch [
         | then-selected w ↦ subst (SameSizes c.args.kept.now) (sym w.kept-is) (sizes_trans _ _ _ was.same w.keep_row.ensures.size)
         | else-selected w ↦ subst (SameSizes c.args.kept.now) (sym w.kept-is) was.same
@@ -56,6 +58,9 @@ loop-z-preserved c =
                 )
           ];
     }
+
+pub returns-clause-read : goal.returns-clause-read
+returns-clause-read c = slots_of c.args.schema.now c.args.rows.now (λ j below. c.loop-z.invariant.read j (omega (arith, below, c.loop-z-test.false)))
 
 pub returns-clause-told : goal.returns-clause-told
 returns-clause-told c = λ before slots spelt size keeps.
