@@ -8,15 +8,11 @@ use Rattle.ob_base.specs.Limits.{buffered}
 use Rattle.ob_base.specs.Lists.{each, tabulate}
 use Rattle.ob_base.specs.Numbers.{blocks_for, first_bucket, second_bucket}
 use Rattle.ob_row.specs.Rows.{Row, agree_at}
-use Rattle.ob_row.specs.Slots.{Slots, slot_at, kept, selected, rows}
+use Rattle.ob_row.specs.Slots.{Slots, slot_at, kept, selected, small_slots, rows}
 
 -- a test of rows, as a condition is
 abbrev pub RowTest : Type 0
 RowTest = Row → Bool
-
--- ---- Small: the selected rows in order
-abbrev pub small_slots : RowTest → Slots → Slots
-small_slots p slots = map (slot_at slots) (selected p slots)
 
 -- ---- Large: the unselected ones emptied
 abbrev pub large_slots : RowTest → Slots → Slots

@@ -1,5 +1,5 @@
 -- A table in place: a list of optional rows, as long as its capacity.
-use Rattle.std.specs.Prelude.{ℕ, ◌+◌, Bool, true, false, ◌&&◌, ◌==◌, List, [], ◌∷◌, filter_map, replicate, Option, Some, None, slice_get, if◌then◌else◌}
+use Rattle.std.specs.Prelude.{ℕ, ◌+◌, Bool, true, false, ◌&&◌, ◌==◌, List, [], ◌∷◌, map, filter_map, replicate, Option, Some, None, slice_get, if◌then◌else◌}
 use Rattle.std.specs.Option.{option_and_then}
 use Rattle.ob_base.specs.Lists.{places_of}
 use Rattle.ob_row.specs.Rows.{Row}
@@ -38,6 +38,10 @@ kept p slot = if is_selected p slot then slot else None
 -- the places of the selected rows, ascending
 abbrev pub selected : (Row → Bool) → Slots → List ℕ
 selected p slots = places_of (is_selected p) slots
+
+-- the slots of the selected rows, in order
+abbrev pub small_slots : (Row → Bool) → Slots → Slots
+small_slots p slots = map (slot_at slots) (selected p slots)
 
 -- each number is one more than the one before it
 abbrev pub is_consecutive : List ℕ → Bool

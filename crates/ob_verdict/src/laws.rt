@@ -4,9 +4,9 @@ ghost use Rattle.ob_base.specs.Limits.{buffered_blocks};
 ghost use Rattle.ob_base.specs.declared.config.Public.{Public};
 ghost use Rattle.ob_row.specs.Bags.{Same};
 ghost use Rattle.ob_row.specs.Rows.{Row, AreDistinct, pairs};
-ghost use Rattle.ob_row.specs.Slots.{Slots, rows, selected, is_consecutive};
+ghost use Rattle.ob_row.specs.Slots.{Slots, rows, selected, small_slots, is_consecutive};
 ghost use Rattle.ob_sql.specs.declared.stmt.Stmt.{Stmt};
-ghost use Rattle.ob_mean.specs.Results.{small_slots, large_slots, continuous_slots, hash_slots, unplaced, joined};
+ghost use Rattle.ob_mean.specs.Results.{large_slots, continuous_slots, hash_slots, unplaced, joined};
 ghost use Rattle.ob_mean.specs.Verdict.{Tables};
 ghost use Rattle.ob_verdict.specs.Laws.{SettlesAsStep, ShowsKindAlone, PlanIsWhole, ForcedShowsAlike, ShowsNotConsecutive, SeenIsLawful, PrintsAnswer};
 

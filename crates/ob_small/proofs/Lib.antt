@@ -1,0 +1,5 @@
+pub mod Choosing
+pub mod Kept
+pub mod Windows
+pub mod Lengths
+pub mod Opened

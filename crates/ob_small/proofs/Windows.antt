@@ -1,0 +1,113 @@
+-- The blocks of kept rows are those of the result.
+use Rattle.std.proofs.Common.{◌≡◌, ◌≤◌, ◌<◌, ◌+◌, ◌-◌, ◌*◌, ℕ, List, [], ◌++◌, Option, None, length, take, drop, slice_index_or, inl, inr, sym, ◌∙◌, ap, subst, arith}
+use Rattle.std.proofs.lemmas.List.{get_or_past, get_or-take, get_or-drop, get_or_append_left, get_or-replicate, length-take, length-drop, length-replicate, take_all, append-nil}
+use Rattle.std.proofs.lemmas.List.Elements as elements
+use Rattle.std.proofs.Math.Seq.{get_or-append_right}
+use Rattle.std.proofs.lemmas.Bool.{cases_lt}
+use Rattle.std.specs.List.{All}
+use Rattle.ob_base.specs.Numbers.{blocks_for}
+use Rattle.ob_base.specs.Schemas.{Columns}
+use Rattle.ob_vault.specs.Rows.{row_at, Wide}
+use Rattle.ob_vault.specs.Places.{RowsFit}
+use Rattle.ob_vault.specs.State.{World}
+use Rattle.ob_vault.specs.Tied.{Holds}
+use Rattle.ob_row.specs.Rows.{Row}
+use Rattle.ob_row.specs.Condition.{Condition}
+use Rattle.ob_row.specs.Slots.{Slots, is_selected}
+use Rattle.ob_row.specs.Spelling.{Begins}
+use Rattle.ob_row.specs.Truth.{is_true}
+use Rattle.ob_blocks.specs.Blocks.{none_of, up_to, block_at}
+use Rattle.ob_blocks.proofs.Blocks.{length-up_to, length-block, all_up_to}
+use Rattle.ob_flat.specs.declared.flat.Flat.{Flat}
+use Rattle.ob_flat.specs.Slots.{FitsSlot, Spelt, AreSlots, block_bytes}
+use Rattle.ob_flat.specs.Flats.{Represents, whole_blocks}
+use Rattle.ob_flat.proofs.Rows.{slots_of}
+use Rattle.ob_small.specs.Keeping.{chosen, fitted, Keeps}
+
+abbrev at : Slots → ℕ → Option Row
+at slots i = slice_index_or slots i None
+
+none_at : (n i : ℕ) → at (none_of n) i ≡ None
+none_at n i = elim (cases_lt i n) [
+  | inl less ↦ get_or-replicate n i None None less
+  | inr more ↦ get_or_past (none_of n) i None (omega (arith, length-replicate {A = Option Row} n None))
+]
+
+-- a slot past the end is empty
+at-up_to : (n i : ℕ) (slots : Slots) → at (up_to n slots) i ≡ at slots i
+at-up_to n i slots = elim (cases_lt i (length slots)) [
+  | inl less ↦ get_or_append_left slots (none_of (n - length slots)) None i less
+  | inr more ↦ get_or-append_right slots (none_of (n - length slots)) i None more ∙ none_at (n - length slots) (i - length slots) ∙ sym (get_or_past slots i None more)
+]
+
+at-block : (r x z : ℕ) (slots : Slots) → z < r → at (block_at r slots x) z ≡ at slots (x * r + z)
+at-block r x z slots below = get_or-take r (drop (x * r) slots) z None below ∙ get_or-drop (x * r) slots z None
+
+pub length-fitted : (k : ℕ) (slots : Slots) → length (fitted k slots) ≡ k
+length-fitted k slots = length-up_to k (take k slots) (omega (arith, length-take k slots))
+
+pub fits-fitted : (columns : Columns) (k : ℕ) (p : Condition) (slots : Slots) → All (FitsSlot columns) slots → All (FitsSlot columns) (fitted k (chosen p slots))
+fits-fitted columns k p slots is =
+    all_up_to (FitsSlot columns) k (take k (chosen p slots)) tt (elements.All-take (FitsSlot columns) k (chosen p slots) (elements.All-filter (is_selected (is_true p)) (FitsSlot columns) slots is))
+
+-- where their number is right
+pub fitted_whole : (k : ℕ) (slots : Slots) → k ≡ length slots → fitted k slots ≡ slots
+fitted_whole k slots same =
+    let all : take k slots ≡ slots = take_all k slots (omega (arith, same)) in
+    let none : k - length slots ≡ 0 = omega (arith, same) in
+    ap (up_to k) all ∙ ap (λ (n : ℕ). slots ++ none_of n) none ∙ append-nil slots
+
+index : (first x r z : ℕ) → first * r + (x * r + z) ≡ (first + x) * r + z
+index first x r z = grind arith
+
+-- block x of the kept rows
+pub part_at : (r x z : ℕ) (rows : List (List ℕ)) → z < r → row_at (take r (drop (x * r) rows)) z ≡ row_at rows (x * r + z)
+part_at r x z rows below = get_or-take r (drop (x * r) rows) z [] below ∙ get_or-drop (x * r) rows z []
+
+pub part_long : (r x : ℕ) (rows : List (List ℕ)) → x * r + r ≤ length rows → length (take r (drop (x * r) rows)) ≡ r
+part_long r x rows fits = omega (arith, length-take r (drop (x * r) rows), length-drop (x * r) rows)
+
+-- its rows fit a block
+pub part_fit : (r x w : ℕ) (rows : List (List ℕ)) → 1 ≤ r → x * r + r ≤ length rows → Wide w rows → RowsFit (take r (drop (x * r) rows)) (r * w)
+part_fit r x w rows some inside wide =
+    let long = part_long r x rows inside in
+    record {
+      each = w;
+      whole = ap (λ (n : ℕ). n * w) long;
+      some = omega (arith, long, some);
+      wide = record { wide = λ z below. subst (λ (row : List ℕ). w ≤ length row) (sym (part_at r x z rows (omega (arith, below, long)))) (wide.wide (x * r + z) (omega (arith, below, long, inside))) };
+    }
+
+-- it spells a block of the result
+pub kept_block : (columns : Columns) (r k results first x : ℕ) (slots : Slots) (rows : List (List ℕ)) → k ≤ results * r → x * r + r ≤ length rows → first + x < results
+    → Keeps columns slots (first * r) k rows → Spelt columns (block_at r (up_to (results * r) (fitted k slots)) (first + x)) (take r (drop (x * r) rows))
+kept_block columns r k results first x slots rows fits inside within keeps =
+    let all = up_to (results * r) (fitted k slots) in
+    let size : length all ≡ results * r = length-up_to (results * r) (fitted k slots) (omega (arith, length-fitted k slots)) in
+    let long = part_long r x rows inside in
+    record {
+      count = length-block r all (first + x) results within size ∙ sym long;
+      each = λ z below.
+          let less : z < r = omega (arith, below, long) in
+          let is : at (block_at r all (first + x)) z ≡ at (take k slots) (first * r + (x * r + z)) =
+          at-block r (first + x) z all less ∙ at-up_to (results * r) ((first + x) * r + z) (fitted k slots) ∙ at-up_to k ((first + x) * r + z) (take k slots)
+          ∙ ap (at (take k slots)) (sym (index first x r z)) in
+          subst (λ (s : Option Row). Begins columns s (row_at (take r (drop (x * r) rows)) z)) (sym is)
+          (subst (Begins columns (at (take k slots) (first * r + (x * r + z)))) (sym (part_at r x z rows less)) (keeps.each (x * r + z) (omega (arith, less, inside))));
+    }
+
+-- and some slots where these aren't told
+pub part_slots : (columns : Columns) (r x : ℕ) (rows : List (List ℕ)) → x * r + r ≤ length rows → AreSlots columns rows → AreSlots columns (take r (drop (x * r) rows))
+part_slots columns r x rows inside are = slots_of columns (take r (drop (x * r) rows)) (λ z below.
+    let less : z < r = omega (arith, below, part_long r x rows inside) in
+    (at are.slots (x * r + z), subst (Begins columns (at are.slots (x * r + z))) (sym (part_at r x z rows less)) (are.spelt.each (x * r + z) (omega (arith, less, inside)))))
+
+-- the result has these slots
+pub represents_fitted : (pack : ℕ) (flat : Flat) (p : Condition) (slots : Slots) (w : World) → All (FitsSlot flat.schema) slots
+    → ((x : ℕ) → x < blocks_for pack flat.capacity → Holds flat.region x (block_bytes flat.schema (block_at pack (whole_blocks pack flat.capacity (fitted flat.capacity (chosen p slots))) x)) w)
+    → Represents pack flat (fitted flat.capacity (chosen p slots)) w
+represents_fitted pack flat p slots w fits holds = record {
+  size = length-fitted flat.capacity (chosen p slots);
+  fits = fits-fitted flat.schema flat.capacity p slots fits;
+  holds = holds;
+}

@@ -1,0 +1,14 @@
+//! The Small select operator: as many selected rows as may be open at once are kept in each pass over a
+//! table, and then written to a fresh region.
+#![tactic(auto)]
+
+mod collecting;
+mod filling;
+mod keeping;
+mod selecting;
+mod writing;
+
+pub use selecting::select;
+
+#[cfg(test)]
+mod tests;
