@@ -1,9 +1,16 @@
 //! What follows of texts that were served one after the other.
 ghost use Rattle.std.specs.Prelude.{◌≡◌, ◌≤◌, ◌++◌, List, [], ℕ, Bool, IsTrue, None, Result, false, length};
 ghost use Rattle.ob_base.specs.declared.refusal.Stop.{Stop};
+ghost use Rattle.ob_exec.specs.Agreeing.{public_of, seen_of};
+ghost use Rattle.ob_exec.specs.Running.{RefusedEarly, refusal_now};
+ghost use Rattle.ob_exec.specs.Serving.{IsServed};
 ghost use Rattle.ob_exec.specs.Telling.{Represents};
-ghost use Rattle.ob_mean.specs.Verdict.{Tables};
-ghost use Rattle.ob_shell.specs.Disturbed.{AskedInAll};
+ghost use Rattle.ob_exec.specs.declared.outcome.Outcome.{Outcome};
+ghost use Rattle.ob_mean.specs.Verdict.{Tables, seen};
+ghost use Rattle.ob_script.specs.Script.{script};
+ghost use Rattle.ob_sql.specs.Skeleton.{skeleton};
+ghost use Rattle.ob_sql.specs.declared.stmt.Stmt.{Stmt};
+ghost use Rattle.ob_shell.specs.Disturbed.{AskedInAll, Begins};
 ghost use Rattle.ob_shell.specs.Failures.{failures};
 ghost use Rattle.ob_shell.specs.Pieces.{BeginsWith};
 ghost use Rattle.ob_shell.specs.Replayed.{Replayed, session_of};
@@ -23,6 +30,15 @@ use ob_vault::Revisions;
 pub fn answers_are_meant<R: Revisions>()
     ensures { (texts : List (List ℕ)) (m0 m1 : Machine R) (tables : Tables) (answers : List Answer) → Steps R.state m0 m1 texts answers
         → IsTrue m0.store.tells → m1.store.lie ≡ None → Represents R.state m0.engine m0.store tables → Replayed R.state m0 m1 tables texts answers }
+{}
+
+/// What a statement asks of any store, which may fail it or change what it reads, is a first part of what it asks by
+/// its meaning, over the tables that the engine and the store held before.
+pub fn a_first_part_is_asked<R: Revisions>()
+    ensures { (m0 m1 : Machine R) (tables : Tables) (stmt : Stmt) (result : Result Outcome Stop) → IsServed stmt
+        → RefusedEarly (refusal_now (public_of m0.engine) (length m0.store.asked) stmt) result (seen_of m1.engine) → Represents R.state m0.engine m0.store tables
+        → Begins (script (public_of m0.engine) (skeleton stmt) (seen_of m1.engine))
+        (script (public_of m0.engine) (skeleton stmt) (seen (public_of m0.engine) (length m0.store.asked) tables stmt)) }
 {}
 
 /// Over a store that tells what it holds, and that others disturb only after the accesses of these texts: the answers

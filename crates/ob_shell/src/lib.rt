@@ -13,7 +13,7 @@ mod words;
 pub use feed::{Feed, Halt};
 pub use key::{FirstLine, read_key};
 pub use laws::{
-    answers_are_meant, texts_are_pieces, undisturbed_answers_are_meant,
+    a_first_part_is_asked, answers_are_meant, texts_are_pieces, undisturbed_answers_are_meant,
     undisturbed_sessions_stay_so,
 };
 pub use pending::{Grown, Pending, PushStop};
