@@ -28,7 +28,10 @@ use Rattle.ob_exec.specs.declared.outcome.Outcome.{Outcome}
 use Rattle.ob_exec.specs.declared.outcome.Outcome.TheVariants.{Created, Inserted, Changed, Deleted, Dropped, Rows, Refused}
 use Rattle.ob_exec.specs.Running.{answer_of}
 use Rattle.ob_exec.specs.Serving.{count_of}
-use Rattle.ob_exec.specs.Telling.{Emitted, told_refusal, told_outcome}
+use Rattle.ob_exec.specs.Telling.{Emitted, IsUnfit, told_refusal, told_outcome}
+use Rattle.ob_store.specs.State.{Lie}
+use Rattle.ob_vault.specs.State.{World}
+use Rattle.ob_vault.specs.Tied.{Calm}
 
 -- ---- a statement that emits nothing
 either_refusal : (r : Refusal) (whole cut : Type 0) → whole → cut → told_refusal r whole cut
@@ -122,3 +125,11 @@ module _ (name : List ℕ) (p : Public) (m : ℕ) (tables : Tables) (k : ℕ) (i
   count_none (OpErrs.Tampered q x) = record { whole = count_events k; prints = prints; begun = (count_events k, refl) }
   count_none OpErrs.Sink = record { whole = count_events k; prints = prints; begun = (count_events k, refl) }
   count_none OpErrs.NoMemory = record { whole = count_events k; prints = prints; begun = (count_events k, refl) }
+
+-- a block that was changed and doesn't fit was not read
+pub unfit_none : (w : World) → Calm w → IsUnfit w → w.store.lie ≡ None
+unfit_none w calm unfit = go w.store.lie refl
+  where
+    go : (o : Option Lie) → w.store.lie ≡ o → w.store.lie ≡ None
+    go None is = is
+    go (Some lie) is = absurd (unfit.unfit lie is (calm.calm lie is))

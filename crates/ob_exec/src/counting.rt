@@ -8,10 +8,11 @@ ghost use Rattle.ob_sql.specs.declared.stmt.Stmt.{Stmt};
 ghost use Rattle.ob_sql.specs.Skeleton.{skeleton};
 ghost use Rattle.ob_mean.specs.Verdict.{Tables, ended as seen_to};
 ghost use Rattle.ob_mean.specs.Prints.{Begun};
-ghost use Rattle.ob_exec.specs.Agreeing.{Agrees, has_ended, public_of, seen_of};
+ghost use Rattle.ob_vault.specs.Tied.{Calm};
+ghost use Rattle.ob_exec.specs.Agreeing.{Agrees, has_ended, public_of, seen_of, world_of};
 ghost use Rattle.ob_exec.specs.Running.{Ran, Emits, SinkCause, refusal_now};
 ghost use Rattle.ob_exec.specs.Serving.{count_of};
-ghost use Rattle.ob_exec.specs.Telling.{KeepsSealed, Represents, Told, Emitted};
+ghost use Rattle.ob_exec.specs.Telling.{KeepsSealed, Represents, Told, Emitted, IsUnfit};
 
 use crate::engine::Engine;
 use crate::outcome::Outcome;
@@ -62,7 +63,8 @@ impl<R: Revisions> Engine<R> {
             × (IsTrue (S.state store.old).tells → (tables : Tables) → Represents R.state self.old (S.state store.old) tables → (S.state store.new).lie ≡ None
             → Emitted (count_of table.now) (public_of self.old) (length (S.state store.old).asked) tables result events)) }
         ensures stopped { OnErr result ((events : List Event) × (E.grew out.old out.new events ⊎ E.cut out.old out.new events)
-            × (IsTrue (S.state store.old).tells → (tables : Tables) → Represents R.state self.old (S.state store.old) tables → (S.state store.new).lie ≡ None
+            × (IsTrue (S.state store.old).tells → (tables : Tables) → Represents R.state self.old (S.state store.old) tables
+            → Calm (world_of R.state self.old (S.state store.old)) → IsUnfit (world_of R.state self.new (S.state store.new))
             → Emitted (count_of table.now) (public_of self.old) (length (S.state store.old).asked) tables result events)) }
         ensures sink { SinkCause result (E.faults out.old) (E.faults out.new) }
         ensures told { IsTrue (S.state store.old).tells → (tables : Tables) → Represents R.state self.old (S.state store.old) tables → (S.state store.new).lie ≡ None

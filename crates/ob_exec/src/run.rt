@@ -4,10 +4,11 @@ ghost use Rattle.ob_base.specs.Events.{Event};
 ghost use Rattle.ob_sql.specs.Skeleton.{skeleton};
 ghost use Rattle.ob_mean.specs.Lawful.{Lawful};
 ghost use Rattle.ob_mean.specs.Verdict.{Tables};
-ghost use Rattle.ob_exec.specs.Agreeing.{Agrees, has_ended, public_of, seen_of};
+ghost use Rattle.ob_vault.specs.Tied.{Calm};
+ghost use Rattle.ob_exec.specs.Agreeing.{Agrees, has_ended, public_of, seen_of, world_of};
 ghost use Rattle.ob_exec.specs.Running.{Ran, RefusedEarly, Emits, SinkCause, refusal_now};
 ghost use Rattle.ob_exec.specs.Serving.{IsServed};
-ghost use Rattle.ob_exec.specs.Telling.{KeepsSealed, Represents, Told, Emitted};
+ghost use Rattle.ob_exec.specs.Telling.{KeepsSealed, Represents, Told, Emitted, IsUnfit};
 
 use crate::engine::{Engine, LATE};
 use crate::outcome::Outcome;
@@ -24,8 +25,9 @@ impl<R: Revisions> Engine<R> {
     /// those that follow from what was public before, the statement's skeleton and what is seen of it,
     /// whatever the store answers. Where the store tells what it holds, and gave what was written: the
     /// answer, what is seen and the tables afterwards are those of the statement over the tables before;
-    /// where the store failed, the tables are those before. Whatever it answers, no block comes to lie in clear. An answer of rows is emitted whole: its header,
-    /// its rows and their number.
+    /// where the store failed, the tables are those before. What was emitted at a stop is a first part of its answer, also
+    /// where it was stopped by a block that was changed. Whatever it answers, no block comes to lie in clear. An answer of
+    /// rows is emitted whole: its header, its rows and their number.
     pub fn run<S: BlockStore, E: Emit>(
         &mut self,
         store: &mut S,
@@ -43,7 +45,8 @@ impl<R: Revisions> Engine<R> {
             × (IsTrue (S.state store.old).tells → (tables : Tables) → Represents R.state self.old (S.state store.old) tables → (S.state store.new).lie ≡ None
             → Emitted stmt.now (public_of self.old) (length (S.state store.old).asked) tables result events)) }
         ensures stopped { OnErr result ((events : List Event) × (E.grew out.old out.new events ⊎ E.cut out.old out.new events)
-            × (IsTrue (S.state store.old).tells → (tables : Tables) → Represents R.state self.old (S.state store.old) tables → (S.state store.new).lie ≡ None
+            × (IsTrue (S.state store.old).tells → (tables : Tables) → Represents R.state self.old (S.state store.old) tables
+            → Calm (world_of R.state self.old (S.state store.old)) → IsUnfit (world_of R.state self.new (S.state store.new))
             → Emitted stmt.now (public_of self.old) (length (S.state store.old).asked) tables result events)) }
         ensures sink { SinkCause result (E.faults out.old) (E.faults out.new) }
         ensures told { IsTrue (S.state store.old).tells → (tables : Tables) → Represents R.state self.old (S.state store.old) tables → (S.state store.new).lie ≡ None

@@ -62,7 +62,7 @@ module _ {R : Type 0} (state : R → RevState) where
   abbrev IsCalm : Machine R → Type 0
   IsCalm m = Calm (world_of state m.engine m.store)
 
-  step_calm : (m0 m1 : Machine R) (text : List ℕ) (answer : Answer) → Step state m0 m1 text answer → IsCalm m0 → IsCalm m1
+  pub step_calm : (m0 m1 : Machine R) (text : List ℕ) (answer : Answer) → Step state m0 m1 text answer → IsCalm m0 → IsCalm m1
   step_calm m0 m1 text answer step calm = elim step.done [
     | inl bad ↦ subst (λ (m : Machine R). IsCalm m) (sym bad.same) calm
     | inr did ↦ outcome_calm answer.outcome _ _ did.ran.cause calm

@@ -6,9 +6,9 @@ use Rattle.ob_base.specs.Events.{Event}
 use Rattle.ob_base.specs.declared.refusal.Stop.{Stop}
 use Rattle.ob_base.specs.declared.refusal.Stop.TheVariants.{Tampered, SourceFault, SinkFault, NoMemory, InputLimit}
 use Rattle.ob_base.specs.declared.refusal.Refusal.TheVariants.{Syntax}
-use Rattle.ob_exec.specs.Agreeing.{public_of, seen_of}
+use Rattle.ob_exec.specs.Agreeing.{public_of, seen_of, world_of}
 use Rattle.ob_exec.specs.Running.{Ran, RefusedEarly, RunCause, SinkCause, Emits, refusal_now}
-use Rattle.ob_exec.specs.Telling.{KeepsSealed, Represents, Told, Emitted}
+use Rattle.ob_exec.specs.Telling.{KeepsSealed, Represents, Told, Emitted, IsUnfit}
 use Rattle.ob_exec.specs.declared.outcome.Outcome.{Outcome}
 use Rattle.ob_exec.specs.declared.outcome.Outcome.TheVariants.{Refused}
 use Rattle.ob_mean.specs.Lawful.{Lawful}
@@ -20,6 +20,13 @@ use Rattle.ob_shell.specs.Running.{StopCause}
 use Rattle.ob_sql.specs.Skeleton.{skeleton}
 use Rattle.ob_sql.specs.declared.stmt.Stmt.{Stmt}
 use Rattle.ob_vault.specs.State.{RevState, World}
+use Rattle.ob_vault.specs.Tied.{Calm}
+
+-- what is emitted at a stop, unless a changed block was read that fits
+abbrev pub StopsAsMeant : {R : Type 0} → (R → RevState) → Machine R → Machine R → Stmt → Result Outcome Stop → List Event → Type 0
+StopsAsMeant state m0 m1 stmt result events =
+    IsTrue m0.store.tells → (tables : Tables) → Represents state m0.engine m0.store tables → Calm (world_of state m0.engine m0.store) → IsUnfit (world_of state m1.engine m1.store)
+    → Emitted stmt (public_of m0.engine) (length m0.store.asked) tables result events
 
 -- what is emitted where no block was other than what was written
 abbrev pub EmitsAsMeant : {R : Type 0} → (R → RevState) → Machine R → Machine R → Stmt → Result Outcome Stop → List Event → Type 0
@@ -63,7 +70,7 @@ module _ {R : Type 0} (state : R → RevState) (w0 w1 : Option (List ℕ)) (m0 m
 
   -- the engine was stopped, and the sink took these events, or a first part of them
   pub stopped_in : (result : Result Outcome Stop) → EngineRan state m0 m1 text stmt result
-      → OnErr result ((events : List Event) × ((Printed w0 w1 events × Same) ⊎ (PrintedCut w0 w1 events × Same)) × EmitsAsMeant state m0 m1 stmt result events)
+      → OnErr result ((events : List Event) × ((Printed w0 w1 events × Same) ⊎ (PrintedCut w0 w1 events × Same)) × StopsAsMeant state m0 m1 stmt result events)
       → IfErr result (λ stop. StopsIn state w0 w1 (text ∷ []) stop m0 m1)
   stopped_in (Ok outcome) ran emitted = tt
   stopped_in (Err stop) ran emitted =

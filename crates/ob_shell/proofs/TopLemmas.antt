@@ -8,11 +8,12 @@ use Rattle.ob_base.specs.declared.refusal.Stop.{Stop}
 use Rattle.ob_base.specs.declared.refusal.Stop.TheVariants.{Tampered, SourceFault, SinkFault, NoMemory, InputLimit}
 use Rattle.ob_base.specs.declared.config.Public.{Public}
 use Rattle.ob_exec.specs.Agreeing.{public_of, high_of, rows_of, world_of}
-use Rattle.ob_exec.specs.Telling.{AreHeld, Represents, told_stop}
+use Rattle.ob_exec.specs.Telling.{AreHeld, Represents, told_stop, IsUnfit}
 use Rattle.ob_mean.specs.Replay.{first_public}
 use Rattle.ob_mean.specs.Verdict.{Tables}
 use Rattle.ob_exec.specs.declared.engine.Engine.{Engine}
 use Rattle.ob_vault.specs.State.{RevState}
+use Rattle.ob_vault.specs.Tied.{Calm}
 use Rattle.ob_print.specs.Cuts.{Cut}
 use Rattle.ob_print.proofs.CutLemmas.{Cut-whole, Cut-after, Cut-fault, Cut-more}
 use Rattle.ob_seal.specs.Sealed.{keys_of}
@@ -35,7 +36,8 @@ use Rattle.ob_shell.proofs.FailureLemmas.{session_fails}
 use Rattle.ob_shell.proofs.LaterLemmas.{steps_later, last_later}
 use Rattle.ob_store.proofs.Steps.{later_trans}
 use Rattle.ob_shell.proofs.OpenLemmas.{IsUsed, session_opens}
-use Rattle.ob_shell.proofs.CalmLemmas.{steps_calm, last_met, first_calm}
+use Rattle.ob_exec.proofs.EmitLemmas.{unfit_none}
+use Rattle.ob_shell.proofs.CalmLemmas.{step_calm, steps_calm, last_met, first_calm}
 use Rattle.ob_shell.proofs.LastingLemmas.{HasSizes, steps_sizes, last_rows, steps_sealed, last_sealed, steps_tell, none_sealed, first_sizes}
 use Rattle.ob_shell.proofs.LieLemmas.{last_deceived, last_keys, steps_keep}
 use Rattle.ob_shell.proofs.ReplayLemmas.{no_lie, step_goes, replayed}
@@ -225,16 +227,17 @@ one_step : {R : Type 0} (state : R → RevState) (m0 m1 : Machine R) (text : Lis
 unfolding Steps
 one_step state m0 m1 text answer step = (m1, answer, [], refl, step, (refl, refl))
 
--- where no changed block was read, what was printed last belongs to an answer that is meant
+-- unless a changed block was read that fits, what was printed last belongs to an answer that is meant
 last_meant : {R : Type 0} (state : R → RevState) (m1 m2 : Machine R) (more : List (List ℕ)) (part : List ℕ) (result : Result Bool Stop) → LastPart state m1 m2 more part result
-    → IsTrue m1.store.tells → m2.store.lie ≡ None → (tables : Tables) → Represents state m1.engine m1.store tables → PartMeant state m1 m2 tables more part
-last_meant state m1 m2 [] part (Ok flag) rests tells honest tables held = rests.none
-last_meant state m1 m2 (text ∷ more) part (Ok flag) rests tells honest tables held = inl rests.none
-last_meant state m1 m2 [] part (Err stop) idle tells honest tables held = idle.rests.none
-last_meant state m1 m2 (text ∷ more) part (Err stop) (inl idle) tells honest tables held = inl idle.rests.none
-last_meant state m1 m2 (text ∷ more) part (Err stop) (inr (inl cut)) tells honest tables held =
-    inr (inl (record { stmt = cut.stmt; spells = cut.spells; events = cut.events; begun = cut.meant.emitted tells tables held honest; printed = cut.printed }))
-last_meant state m1 m2 (text ∷ more) part (Err stop) (inr (inr done)) tells honest tables held =
+    → IsTrue m1.store.tells → Calm (world_of state m1.engine m1.store) → IsUnfit (world_of state m2.engine m2.store) → (tables : Tables) → Represents state m1.engine m1.store tables → PartMeant state m1 m2 tables more part
+last_meant state m1 m2 [] part (Ok flag) rests tells calm unfit tables held = rests.none
+last_meant state m1 m2 (text ∷ more) part (Ok flag) rests tells calm unfit tables held = inl rests.none
+last_meant state m1 m2 [] part (Err stop) idle tells calm unfit tables held = idle.rests.none
+last_meant state m1 m2 (text ∷ more) part (Err stop) (inl idle) tells calm unfit tables held = inl idle.rests.none
+last_meant state m1 m2 (text ∷ more) part (Err stop) (inr (inl cut)) tells calm unfit tables held =
+    inr (inl (record { stmt = cut.stmt; spells = cut.spells; events = cut.events; begun = cut.meant.emitted tells tables held calm unfit; printed = cut.printed }))
+last_meant state m1 m2 (text ∷ more) part (Err stop) (inr (inr done)) tells calm unfit tables held =
+    let honest = unfit_none (world_of state m2.engine m2.store) (step_calm state m1 m2 text done.answer done.step calm) unfit in
     inr (inr (record { answer = done.answer; replayed = replayed state (text ∷ []) m1 m2 tables (done.answer ∷ []) (one_step state m1 m2 text done.answer done.step) tells honest held; whole = done.whole }))
 
 middle_sizes : {R : Type 0} (state : R → RevState) (first : Engine R) (s0 : StoreState) (middle : Machine R) (served : List (List ℕ)) (answers : List Answer)
@@ -272,12 +275,12 @@ ran_after {state = state} {s0 = s0} {s1 = s1} key first last high result fresh k
     meant = λ undeceived. meant_from state first s0 ran.middle ran.served ran.answers fresh ran.steps undeceived.tells
         (last_deceived state ran.middle (machine_of last s1) ran.more ran.part result ran.last
         (steps_calm state (machine_of first s0) ran.middle ran.served ran.answers ran.steps (first_calm state first s0 sound)) undeceived.unfit);
-    part_meant = λ undeceived honest.
+    part_meant = λ undeceived.
+        let calm = steps_calm state (machine_of first s0) ran.middle ran.served ran.answers ran.steps (first_calm state first s0 sound) in
         let before = meant_from state first s0 ran.middle ran.served ran.answers fresh ran.steps undeceived.tells
-        (last_deceived state ran.middle (machine_of last s1) ran.more ran.part result ran.last
-        (steps_calm state (machine_of first s0) ran.middle ran.served ran.answers ran.steps (first_calm state first s0 sound)) undeceived.unfit) in
+        (last_deceived state ran.middle (machine_of last s1) ran.more ran.part result ran.last calm undeceived.unfit) in
         last_meant state ran.middle (machine_of last s1) ran.more ran.part result ran.last
-        (steps_tell state (machine_of first s0) ran.middle ran.served ran.answers ran.steps undeceived.tells) honest before.left before.held;
+        (steps_tell state (machine_of first s0) ran.middle ran.served ran.answers ran.steps undeceived.tells) calm (record { unfit = undeceived.unfit }) before.left before.held;
     sealed = λ tells good accepts. last_sealed state good accepts ran.middle (machine_of last s1) ran.more ran.part result ran.last (middle_sizes state first s0 ran.middle ran.served ran.answers fresh rows ran.steps)
         (steps_tell state (machine_of first s0) ran.middle ran.served ran.answers ran.steps tells)
         (steps_sealed state good accepts (machine_of first s0) ran.middle ran.served ran.answers ran.steps (first_sizes (machine_of first s0) fresh rows) tells (none_sealed state good first s0 empty));

@@ -5,10 +5,10 @@ use Rattle.ob_base.specs.Events.{Event}
 use Rattle.ob_base.specs.declared.refusal.Refusal.TheVariants.{Syntax}
 use Rattle.ob_base.specs.declared.refusal.Stop.{Stop}
 use Rattle.ob_base.specs.declared.refusal.Stop.TheVariants.{Tampered, SourceFault, SinkFault, NoMemory, InputLimit}
-use Rattle.ob_exec.specs.Agreeing.{Agrees, has_ended, public_of, seen_of}
+use Rattle.ob_exec.specs.Agreeing.{Agrees, has_ended, public_of, seen_of, world_of}
 use Rattle.ob_exec.specs.Running.{Ran, RefusedEarly, Emits, refusal_now}
 use Rattle.ob_exec.specs.Serving.{IsServed}
-use Rattle.ob_exec.specs.Telling.{KeepsSealed, Represents, Told, Emitted}
+use Rattle.ob_exec.specs.Telling.{KeepsSealed, Represents, Told, Emitted, IsUnfit}
 use Rattle.ob_mean.specs.Lawful.{Lawful}
 use Rattle.ob_mean.specs.Verdict.{Tables}
 use Rattle.ob_parse.specs.Refusal.{RefusedAt}
@@ -24,6 +24,7 @@ use Rattle.ob_sql.specs.Skeleton.{skeleton}
 use Rattle.ob_sql.specs.declared.stmt.Stmt.{Stmt}
 use Rattle.ob_store.specs.State.{StoreState}
 use Rattle.ob_vault.specs.State.{RevState}
+use Rattle.ob_vault.specs.Tied.{Calm}
 
 -- an engine and what its store has come to
 pub record Machine (R : Type 0) : Type 0 where
@@ -59,11 +60,19 @@ pub record Misspelt {R : Type 0} (m0 m1 : Machine R) (text : List ℕ) (answer :
 
 -- where the store tells what it holds, and gave what was written: the statement did what it means for any tables that
 -- the engine and the store held before
-pub record DidAsMeant {R : Type 0} (state : R → RevState) (m0 m1 : Machine R) (stmt : Stmt) (result : Result Outcome Stop) (events : List Event) : Type 0 where
+pub record DidAsMeant {R : Type 0} (state : R → RevState) (m0 m1 : Machine R) (stmt : Stmt) (outcome : Outcome) (events : List Event) : Type 0 where
   pub told : IsTrue m0.store.tells → (tables : Tables) → Represents state m0.engine m0.store tables → m1.store.lie ≡ None
-      → Told state stmt (length m0.store.asked) tables result m0.engine m1.engine m1.store
+      → Told state stmt (length m0.store.asked) tables (Ok outcome) m0.engine m1.engine m1.store
   pub emitted : IsTrue m0.store.tells → (tables : Tables) → Represents state m0.engine m0.store tables → m1.store.lie ≡ None
-      → Emitted stmt (public_of m0.engine) (length m0.store.asked) tables result events
+      → Emitted stmt (public_of m0.engine) (length m0.store.asked) tables (Ok outcome) events
+
+-- the same of one that was stopped: also where a changed block stopped it, what was emitted is a first part of its answer
+pub record StoppedAsMeant {R : Type 0} (state : R → RevState) (m0 m1 : Machine R) (stmt : Stmt) (stop : Stop) (events : List Event) : Type 0 where
+  pub told : IsTrue m0.store.tells → (tables : Tables) → Represents state m0.engine m0.store tables → m1.store.lie ≡ None
+      → Told state stmt (length m0.store.asked) tables (Err stop) m0.engine m1.engine m1.store
+  pub emitted : IsTrue m0.store.tells → (tables : Tables) → Represents state m0.engine m0.store tables
+      → Calm (world_of state m0.engine m0.store) → IsUnfit (world_of state m1.engine m1.store)
+      → Emitted stmt (public_of m0.engine) (length m0.store.asked) tables (Err stop) events
 
 -- the engine ran a statement, and its header and rows were printed before the closing line
 pub record Served {R : Type 0} (state : R → RevState) (m0 m1 : Machine R) (text : List ℕ) (answer : Answer) : Type 0 where
@@ -73,7 +82,7 @@ pub record Served {R : Type 0} (state : R → RevState) (m0 m1 : Machine R) (tex
   pub early : RefusedEarly (refusal_now (public_of m0.engine) (length m0.store.asked) stmt) (Ok answer.outcome) (seen_of m1.engine)
   pub events : List Event
   pub emitted : Emits answer.outcome events
-  pub meant : DidAsMeant state m0 m1 stmt (Ok answer.outcome) events
+  pub meant : DidAsMeant state m0 m1 stmt answer.outcome events
   pub sealed : KeepsSealed state m0.engine m0.store m1.engine m1.store
   pub lawful : Lawful (public_of m0.engine) (length m0.store.asked) stmt (seen_of m1.engine)
   pub printed : answer.bytes ≡ events_text events ++ closing_line answer.outcome
@@ -96,7 +105,7 @@ pub record CutStep {R : Type 0} (state : R → RevState) (m0 m1 : Machine R) (te
   pub early : RefusedEarly (refusal_now (public_of m0.engine) (length m0.store.asked) stmt) (Err stop) (seen_of m1.engine)
   pub events : List Event
   pub printed : IsCutOf bytes (events_text events)
-  pub meant : DidAsMeant state m0 m1 stmt (Err stop) events
+  pub meant : StoppedAsMeant state m0 m1 stmt stop events
   pub sealed : KeepsSealed state m0.engine m0.store m1.engine m1.store
   pub lawful : Lawful (public_of m0.engine) (length m0.store.asked) stmt (seen_of m1.engine)
 

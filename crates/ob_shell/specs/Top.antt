@@ -93,7 +93,7 @@ pub record Started {R : Type 0} (state : R → RevState) (secret : Option (List 
   pub later : Later store0 store1
   pub same_keys : last.vault.keys ≡ first.vault.keys
   pub meant : IsUndeceived last.vault.keys store0 store1 → Replayed state (machine_of first store0) middle [] served answers
-  pub part_meant : (undeceived : IsUndeceived last.vault.keys store0 store1) → store1.lie ≡ None → PartMeant state middle (machine_of last store1) (meant undeceived).left more part
+  pub part_meant : (undeceived : IsUndeceived last.vault.keys store0 store1) → PartMeant state middle (machine_of last store1) (meant undeceived).left more part
   pub sealed : IsTrue store0.tells → (good : ℕ → List ℕ → Bool) → AcceptsRows good 1 → AllSealed good (world_of state last store1)
   pub untampered : IsHonest store0 store1 → EndsUntampered ending
   pub changed : MeetsChange ending (world_of state last store1)

@@ -25,10 +25,11 @@ use Rattle.ob_exec.specs.declared.outcome.Outcome.{Outcome}
 use Rattle.ob_exec.specs.Engines.{IsAt}
 use Rattle.ob_exec.specs.Running.{Emits, answer_of}
 use Rattle.ob_exec.specs.Serving.{count_of}
-use Rattle.ob_exec.specs.Telling.{Emitted, Represents as Stands}
+use Rattle.ob_exec.specs.Telling.{Emitted, IsUnfit, Represents as Stands}
+use Rattle.ob_vault.specs.Tied.{Calm}
 use Rattle.ob_exec.proofs.FoundLemmas.{is_there}
-use Rattle.ob_exec.proofs.EmitLemmas.{count_labels, count_events, count_emitted, count_partly, count_none}
-use Rattle.ob_exec.proofs.RunLemmas.{ran_as}
+use Rattle.ob_exec.proofs.EmitLemmas.{count_labels, count_events, count_emitted, count_partly, count_none, unfit_none}
+use Rattle.ob_exec.proofs.RunLemmas.{ran_as, went_room}
 use Rattle.ob_exec.proofs.ToldLemmas.{told_as, fault_made, if_ok_of, on_err_of, emits_fault}
 use Rattle.ob_exec.proofs.InsertLemmas.{counted, not_counted, cut_whole, one_row, count_some, count_is, held_before, told_counted, told_not_counted}
 use Rattle.ob_exec.specs.Agreeing.{world_of}
@@ -59,10 +60,10 @@ returns-then-is_err-clause-stopped g c =
     let table = found.0 in
     let here = subst (λ (ts : List Table). IsAt c.args.table.now i table ts) c.as_slice.ensures found.1 in
     subst (λ (r : Result Outcome Stop). OnErr r ((events : List Event) × (g.E.Emit.grew c.args.out.now c.args.out.now events ⊎ g.E.Emit.cut c.args.out.now c.args.out.now events)
-    × (IsTrue s.tells → (tables : Tables) → Stands state old s tables → (g.S.BlockStore.state c.room.new.self).lie ≡ None → Emitted (count_of c.args.table.now) old.public (length s.asked) tables r events))) (sym c.cut.ensures.answer) (
+    × (IsTrue s.tells → (tables : Tables) → Stands state old s tables → Calm (world_of state old s) → IsUnfit (world_of state c.cut.new.self (g.S.BlockStore.state c.room.new.self)) → Emitted (count_of c.args.table.now) old.public (length s.asked) tables r events))) (sym c.cut.ensures.answer) (
       [],
       inl (g.met.E.Emit.starts c.args.out.now),
-      λ tells tables held honest.
+      λ tells tables held calm unfit.
           let some = count_some state old s c.args.table.now i table c.requires.agrees here tables held c.requires.allowed in
           count_none c.args.table.now old.public (length s.asked) tables some.0 some.1 OpErrs.NoMemory,
     )
@@ -142,7 +143,7 @@ returns-in-Err-clause-stopped g c =
     on_err_of c.cut-in-Err.result (
       [],
       inl (g.met.E.Emit.starts c.args.out.now),
-      λ tells tables held honest.
+      λ tells tables held calm unfit.
           let some = count_some state old s c.args.table.now i table c.requires.agrees here tables held c.requires.allowed in
           subst (λ (r : Result Outcome Stop). Emitted (count_of c.args.table.now) old.public (length s.asked) tables r []) (sym c.cut-in-Err.ensures.answer)
           (count_none c.args.table.now old.public (length s.asked) tables some.0 some.1 c.in-Err.error),
@@ -269,11 +270,14 @@ returns-in-Err-Failed-clause-stopped g c =
     let table = found.0 in
     let here = subst (λ (ts : List Table). IsAt c.args.table.now i table ts) c.as_slice.ensures found.1 in
     let flat_is = c.flat_at-flat.ensures table (ap (λ (ts : List Table). slice_get ts i) c.as_slice-2.ensures ∙ here.get) in
+    let went = subst (λ (f : Flat). Went (count_part f.region (blocks_for old.room.pack f.capacity)) none (at state old.vault s1) (at state v t)) flat_is c.in-Ok.ensures.ok in
     let partly = c.in-Err-Failed.ensures.err in
     on_err_of c.cut-in-Err-Failed.result (
       partly.0,
       inr partly.1,
-      λ tells tables held honest.
+      λ tells tables held calm unfit.
+          let there : IsUnfit (at state v t) = subst (λ (e : Engine g.row.R.Denot). IsUnfit (world_of state e t)) c.cut-in-Err-Failed.ensures.seen unfit in
+          let honest = unfit_none (at state v t) (went.calm ((went_room none _ s s1 c.requires.agrees.ready c.room.ensures.rests).calm calm)) there in
           let is = count_is state old s s1 v room t c.args.table.now i table c.requires.agrees c.room.ensures.rests c.count-2.ensures.room here tables held c.requires.allowed c.in-Ok.counted.k
           (λ slots before. ap (λ r. r.k) (c.in-Ok.ensures.told slots (subst (λ (f : Flat). Represents old.room.pack f slots (at state old.vault s1)) (sym flat_is) before) honest)
           ∙ ap (λ (p : Condition). length (selected (is_true p) slots)) c.all.ensures) in
@@ -338,11 +342,14 @@ returns-in-Err-NoMemory-clause-stopped g c =
     let table = found.0 in
     let here = subst (λ (ts : List Table). IsAt c.args.table.now i table ts) c.as_slice.ensures found.1 in
     let flat_is = c.flat_at-flat.ensures table (ap (λ (ts : List Table). slice_get ts i) c.as_slice-2.ensures ∙ here.get) in
+    let went = subst (λ (f : Flat). Went (count_part f.region (blocks_for old.room.pack f.capacity)) none (at state old.vault s1) (at state v t)) flat_is c.in-Ok.ensures.ok in
     let partly = c.in-Err-NoMemory.ensures.err in
     on_err_of c.cut-in-Err-NoMemory.result (
       partly.0,
       inr partly.1,
-      λ tells tables held honest.
+      λ tells tables held calm unfit.
+          let there : IsUnfit (at state v t) = subst (λ (e : Engine g.row.R.Denot). IsUnfit (world_of state e t)) c.cut-in-Err-NoMemory.ensures.seen unfit in
+          let honest = unfit_none (at state v t) (went.calm ((went_room none _ s s1 c.requires.agrees.ready c.room.ensures.rests).calm calm)) there in
           let is = count_is state old s s1 v room t c.args.table.now i table c.requires.agrees c.room.ensures.rests c.count-2.ensures.room here tables held c.requires.allowed c.in-Ok.counted.k
           (λ slots before. ap (λ r. r.k) (c.in-Ok.ensures.told slots (subst (λ (f : Flat). Represents old.room.pack f slots (at state old.vault s1)) (sym flat_is) before) honest)
           ∙ ap (λ (p : Condition). length (selected (is_true p) slots)) c.all.ensures) in

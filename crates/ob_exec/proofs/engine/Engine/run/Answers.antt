@@ -7,7 +7,9 @@ use Rattle.ob_mean.specs.Verdict.{Tables}
 use Rattle.ob_exec.specs.declared.outcome.Outcome.{Outcome}
 use Rattle.ob_exec.specs.Running.{Emits, Ran, RefusedEarly, refusal_now}
 use Rattle.ob_exec.specs.Serving.{IsServed, count_of}
-use Rattle.ob_exec.specs.Telling.{Represents, Emitted}
+use Rattle.ob_exec.specs.Agreeing.{world_of}
+use Rattle.ob_exec.specs.Telling.{Represents, Emitted, IsUnfit}
+use Rattle.ob_vault.specs.Tied.{Calm}
 use Rattle.ob_exec.proofs.EmitLemmas.{create_emitted, insert_emitted}
 use Rattle.ob_exec.proofs.RunLemmas.{ran_refused, early_end}
 use Rattle.ob_exec.proofs.ToldLemmas.{early_is, refused_none, silent_ok, on_err_of, told_as, told_refused, emitted_refused}
@@ -87,7 +89,7 @@ returns-in-Create-clause-stopped g c =
     on_err_of c.create.result (
       [],
       inl (g.met.E.Emit.starts c.args.out.now),
-      λ tells tables held honest. subst (λ (stmt : Stmt). Emitted stmt p (length s.asked) tables c.create.result []) (sym c.in-Create.is) (create_emitted c.in-Create.table c.in-Create.columns c.in-Create.capacity p (length s.asked) tables c.create.result),
+      λ tells tables held calm unfit. subst (λ (stmt : Stmt). Emitted stmt p (length s.asked) tables c.create.result []) (sym c.in-Create.is) (create_emitted c.in-Create.table c.in-Create.columns c.in-Create.capacity p (length s.asked) tables c.create.result),
     )
 
 pub returns-in-Insert-clause-early : goal.returns-in-Insert-clause-early
@@ -115,7 +117,7 @@ returns-in-Insert-clause-stopped g c =
     on_err_of c.insert.result (
       [],
       inl (g.met.E.Emit.starts c.args.out.now),
-      λ tells tables held honest. subst (λ (stmt : Stmt). Emitted stmt p (length s.asked) tables c.insert.result []) (sym c.in-Insert.is) (insert_emitted c.in-Insert.table c.in-Insert.columns c.in-Insert.values p (length s.asked) tables c.insert.result),
+      λ tells tables held calm unfit. subst (λ (stmt : Stmt). Emitted stmt p (length s.asked) tables c.insert.result []) (sym c.in-Insert.is) (insert_emitted c.in-Insert.table c.in-Insert.columns c.in-Insert.values p (length s.asked) tables c.insert.result),
     )
 
 pub returns-in-Table-clause-early : goal.returns-in-Table-clause-early
@@ -141,7 +143,7 @@ returns-in-Table-clause-stopped g c =
     let s = g.S.BlockStore.state c.args.store.now in
     let is = count_stmt c.args.stmt.now c.in-Select.select c.in-Table.table c.in-Select.is c.in-Table.is c.requires.served in
     subst (λ (stmt : Stmt). OnErr c.count_all.result ((events : List Event) × (g.E.Emit.grew c.args.out.now c.count_all.new.out events ⊎ g.E.Emit.cut c.args.out.now c.count_all.new.out events)
-    × (IsTrue s.tells → (tables : Tables) → Represents state old s tables → (g.S.BlockStore.state c.count_all.new.store).lie ≡ None → Emitted stmt old.public (length s.asked) tables c.count_all.result events)))
+    × (IsTrue s.tells → (tables : Tables) → Represents state old s tables → Calm (world_of state old s) → IsUnfit (world_of state c.count_all.new.self (g.S.BlockStore.state c.count_all.new.store)) → Emitted stmt old.public (length s.asked) tables c.count_all.result events)))
     (sym is) c.count_all.ensures.stopped
 
 pub returns-in-Create-clause-lawful : goal.returns-in-Create-clause-lawful
