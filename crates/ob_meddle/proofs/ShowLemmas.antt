@@ -1,5 +1,5 @@
 -- Nothing shows before the first change.
-use Rattle.std.proofs.Common.{subst, ◌≡◌, ◌∙◌, ◌+◌, ◌≤◌, ℕ, true, false, refl, ap, List, [], ◌∷◌, ◌++◌, Option, Some, None, length, take, arith}
+use Rattle.std.proofs.Common.{subst, ◌≡◌, ◌∙◌, ◌+◌, ◌≤◌, ℕ, true, false, refl, ap, List, [], ◌∷◌, ◌++◌, map, Option, Some, None, length, take, arith}
 use Rattle.std.proofs.lemmas.List.{take-append-le}
 use Rattle.std.specs.Option.{ForSome}
 use Rattle.ob_base.specs.declared.access.Access.{Access}
@@ -7,10 +7,12 @@ use Rattle.ob_store.specs.State.{Disturbance, Lie, Shape, StoreState}
 use Rattle.ob_store.specs.Calls.{Asks, IsBefore, IsQuiet, IsSteady}
 use Rattle.ob_store.specs.Logs.{asked_of}
 use Rattle.ob_meddle.specs.declared.caught.Caught.{Caught}
+use Rattle.ob_meddle.specs.declared.meddle.Act.{Act}
+use Rattle.ob_meddle.specs.declared.meddle.Act.TheVariants.{Fail, Flip, Copy, Older}
 use Rattle.ob_meddle.specs.declared.meddle.Meddle.{Meddle}
 use Rattle.ob_meddle.specs.declared.store.MeddledStore.{MeddledStore}
 use Rattle.ob_meddle.specs.Caught.{lie_of}
-use Rattle.ob_meddle.specs.Due.{failed_among, has_acted, are_later, disturbances}
+use Rattle.ob_meddle.specs.Due.{failed_among, has_acted, are_later, spelt_act, disturbance_of, disturbances}
 use Rattle.ob_meddle.specs.Fresh.{IsEarly}
 use Rattle.ob_meddle.specs.Shows.{list_of, state_of, Shows}
 use Rattle.ob_meddle.proofs.DueLemmas.{none_acted, none_failed, all_later}
@@ -43,6 +45,47 @@ shows m = record {
   quiet = quiet_as (state_of m) m.list m.caught m.counted refl m.caused;
   disturbed = refl;
 }
+
+-- what is said of the changes is which they are
+heads : {x y : ℕ} {xs ys : List ℕ} → x ∷ xs ≡ y ∷ ys → x ≡ y
+heads e = cc e
+
+act_same : (a b : Act) → spelt_act a ≡ spelt_act b → a ≡ b
+act_same Fail Fail e = refl
+act_same Fail (Flip region place byte) e = absurd (cc e)
+act_same Fail (Copy from to) e = absurd (cc e)
+act_same Fail (Older region place) e = absurd (cc e)
+act_same (Flip region place byte) Fail e = absurd (cc e)
+act_same (Flip region place byte) (Flip region' place' byte') e = cc e
+act_same (Flip region place byte) (Copy from to) e = absurd (omega (arith, heads e))
+act_same (Flip region place byte) (Older region' place') e = absurd (cc e)
+act_same (Copy from to) Fail e = absurd (cc e)
+act_same (Copy from to) (Flip region place byte) e = absurd (omega (arith, heads e))
+act_same (Copy from to) (Copy from' to') e =
+    let a : from.region ≡ from'.region = cc e in
+    let b : from.place ≡ from'.place = cc e in
+    let c : to.region ≡ to'.region = cc e in
+    let d : to.place ≡ to'.place = cc e in
+    λ i. Copy (record { region = a i; place = b i }) (record { region = c i; place = d i })
+act_same (Copy from to) (Older region place) e = absurd (cc e)
+act_same (Older region place) Fail e = absurd (cc e)
+act_same (Older region place) (Flip region' place' byte) e = absurd (cc e)
+act_same (Older region place) (Copy from to) e = absurd (cc e)
+act_same (Older region place) (Older region' place') e = cc e
+
+changes_same : (a b : List Meddle) → map disturbance_of a ≡ map disturbance_of b → a ≡ b
+changes_same [] [] e = refl
+changes_same [] (y ∷ ys) e = absurd (cc e)
+changes_same (x ∷ xs) [] e = absurd (cc e)
+changes_same (x ∷ xs) (y ∷ ys) e =
+    let first : disturbance_of x ≡ disturbance_of y = cc e in
+    let act = act_same x.act y.act (ap (λ (d : Disturbance). d.what) first) in
+    let before : x.before ≡ y.before = ap (λ (d : Disturbance). d.before) first in
+    let rest = changes_same xs ys (cc e) in
+    λ i. record { before = before i; act = act i } ∷ rest i
+
+pub list_same : (a b : List Meddle) → disturbances a ≡ disturbances b → a ≡ b
+list_same a b e = changes_same a b (cc e)
 
 -- a read that was caught stays as it was
 lie_stays : (caught : Option Caught) (old more : List Access) (a : Access) → more ≡ old ++ a ∷ [] → IsEarly caught old → lie_of caught more ≡ lie_of caught old

@@ -1,5 +1,5 @@
 -- Which changes are due at an access, or were at an earlier one.
-use Rattle.std.specs.Prelude.{ℕ, zero, suc, ◌+◌, ◌==◌, ◌&&◌, not, Bool, true, false, nat_lt, nat_le, map, List, Option, Some, if◌then◌else◌}
+use Rattle.std.specs.Prelude.{ℕ, zero, suc, ◌+◌, ◌==◌, ◌&&◌, not, Bool, true, false, nat_lt, nat_le, map, List, [], ◌∷◌, Option, Some, if◌then◌else◌}
 use Rattle.std.specs.List.{list_any, list_all}
 use Rattle.ob_base.specs.declared.access.Access.{Access}
 use Rattle.ob_base.specs.declared.access.Access.TheVariants.{Make, Read, Write, Discard}
@@ -31,9 +31,16 @@ has_acted list count = list_any (λ m. not (is_fail m.act) && (nat_lt 0 m.before
 abbrev pub are_later : List Meddle → ℕ → Bool
 are_later list count = list_all (λ m. nat_lt count m.before) list
 
+-- an act, spelt in numbers
+abbrev pub spelt_act : Act → List ℕ
+spelt_act Fail = []
+spelt_act (Flip region place byte) = 0 ∷ region ∷ place ∷ byte ∷ []
+spelt_act (Copy from to) = 1 ∷ from.region ∷ from.place ∷ to.region ∷ to.place ∷ []
+spelt_act (Older region place) = 2 ∷ region ∷ place ∷ []
+
 -- what a store says of them
 abbrev pub disturbance_of : Meddle → Disturbance
-disturbance_of m = record { before = m.before; fails = is_fail m.act }
+disturbance_of m = record { before = m.before; fails = is_fail m.act; what = spelt_act m.act }
 
 abbrev pub disturbances : List Meddle → Option (List Disturbance)
 disturbances list = Some (map disturbance_of list)

@@ -19,7 +19,7 @@ use Rattle.ob_mean.specs.Replay.{Session, first_public, first_session}
 use Rattle.ob_meddle.specs.Due.{is_fail, fails_at, failed_among, has_acted, are_later, disturbance_of, disturbances}
 use Rattle.ob_meddle.specs.Shows.{Shows, list_of, state_of}
 use Rattle.ob_meddle.specs.declared.store.MeddledStore.{MeddledStore}
-use Rattle.ob_meddle.proofs.ShowLemmas.{shows}
+use Rattle.ob_meddle.proofs.ShowLemmas.{shows, list_same}
 use Rattle.ob_meddle.proofs.DueLemmas.{all_later}
 use Rattle.ob_meddle.specs.declared.meddle.Meddle.{Meddle}
 use Rattle.ob_parse.proofs.GoodStatements.{any_end, good_statement}
@@ -49,39 +49,6 @@ use Rattle.ob_vault.specs.State.{RevState}
 
 unique : IsOne
 unique text a b x y = one_value (Statement text) Whatever (statement text) (good_statement text) any_end (tokens_of text) a b x y
-
--- ---- lists of which a store says the same do the same to it
-module _ (a b : List Meddle) (alike : disturbances a ≡ disturbances b) where
-  same : map disturbance_of a ≡ map disturbance_of b
-  same = cc alike
-
-  fails_alike : (n : ℕ) → fails_at a n ≡ fails_at b n
-  fails_alike n =
-      let by = λ (d : Disturbance). d.fails && d.before == n in
-      list_any-map by disturbance_of a ∙ ap (list_any by) same ∙ sym (list_any-map by disturbance_of b)
-
-  failed_alike : (n : ℕ) → failed_among a n ≡ failed_among b n
-  unfolding failed_among
-  failed_alike zero = refl
-  failed_alike (suc n) = λ i. failed_alike n i + (if fails_alike (suc n) i then 1 else 0)
-
-  acted_alike : (n : ℕ) → has_acted a n ≡ has_acted b n
-  acted_alike n =
-      let by = λ (d : Disturbance). not d.fails && (nat_lt 0 d.before && nat_le d.before n) in
-      list_any-map by disturbance_of a ∙ ap (list_any by) same ∙ sym (list_any-map by disturbance_of b)
-
-  later_alike : (n : ℕ) → are_later a n ≡ are_later b n
-  later_alike n =
-      let by = λ (d : Disturbance). nat_lt n d.before in
-      sym (list_all-map by disturbance_of a) ∙ ap (list_all by) same ∙ list_all-map by disturbance_of b
-
-  pub shows_alike : (s : StoreState) → Shows a s → Shows b s
-  shows_alike s shows = record {
-    counted = shows.counted ∙ failed_alike (length s.asked);
-    caused = λ none. shows.caused (acted_alike (length s.asked) ∙ none);
-    quiet = λ later. shows.quiet (later_alike (length s.asked) ∙ later);
-    disturbed = shows.disturbed ∙ alike;
-  }
 
 -- a store says of a list what is later
 before_of : (list : List Meddle) (n : ℕ) → are_later list n ≡ true → IsBefore (disturbances list) n
@@ -185,14 +152,15 @@ meddled {state = state} {words = words} {max = max} {l0 = l0} {l1 = l1} {w0 = w0
     let s1 = state_of m1 in
     let r : Reported state (MeddleParses words) max l0 l1 w0 w1 s0 s1 old new report = reported_taken (list, parses) served in
     let later = reported_later r in
-    let changes : s0.disturbed ≡ disturbances list = (shows m0).disturbed ∙ ap disturbances same in
-    let there : Shows list s1 = shows_alike (list_of m1) list (sym (shows m1).disturbed ∙ later.disturbed ∙ changes) s1 (shows m1) in
+    let here = list_of m1 in
+    let there = shows m1 in
+    let changes : s0.disturbed ≡ disturbances here = sym later.disturbed ∙ there.disturbed in
+    let kept : list ≡ here = sym same ∙ list_same (list_of m0) here (sym (shows m0).disturbed ∙ changes) in
     let steady : IsSteady s0 = λ before. (shows m0).quiet (all_later (list_of m0) (length s0.asked) (subst (λ (o : Option (List Disturbance)). IsBefore o (length s0.asked)) (shows m0).disturbed before)) in
     let counted = (shows m0).counted ∙ ap (λ (l : List Access). failed_among (list_of m0) (length l)) none ∙ failed_none (list_of m0) in
     let faults : s0.faults ≡ 0 = omega (arith, counted) in
     record {
-      list = list;
-      words_are = parses;
+      words_are = subst (λ (l : List Meddle). ParsesChanges words l) kept parses;
       start = s0;
       fresh = none;
       tells = refl;
@@ -202,15 +170,15 @@ meddled {state = state} {words = words} {max = max} {l0 = l0} {l1 = l1} {w0 = w0
       traced = traced;
       shows = there;
       undisturbed = λ n all after.
-          let before : IsBefore s0.disturbed n = subst (λ (o : Option (List Disturbance)). IsBefore o n) (sym changes) (before_of list n after) in
+          let before : IsBefore s0.disturbed n = subst (λ (o : Option (List Disturbance)). IsBefore o n) (sym changes) (before_of here n after) in
           let within = all_within r n none refl steady all before in
           let before_there : IsBefore s1.disturbed (length s1.asked) = subst (λ (o : Option (List Disturbance)). IsBefore o (length s1.asked)) (sym later.disturbed) (before_less s0.disturbed (length s1.asked) n within before) in
           undisturbed r refl (later.steady steady before_there);
       unchanged = λ all.
-          let honest : IsHonest s0 s1 = record { tells = refl; no_lie = there.caused (none_acts list (length s1.asked) all) } in (honest, honest_status r honest);
+          let honest : IsHonest s0 s1 = record { tells = refl; no_lie = there.caused (none_acts here (length s1.asked) all) } in (honest, honest_status r honest);
       failed =
           let rose = failures_rise r in
           let most = there.counted in
           omega (arith, rose, most, faults);
-      tampered = λ is. acted_or_not (has_acted list (length s1.asked)) (λ no. honest_status r (record { tells = refl; no_lie = there.caused no }) is);
+      tampered = λ is. acted_or_not (has_acted here (length s1.asked)) (λ no. honest_status r (record { tells = refl; no_lie = there.caused no }) is);
     }

@@ -4,8 +4,7 @@ use Rattle.std.specs.List.{list_all}
 use Rattle.clap.specs.Words.{Text}
 use Rattle.ob_mean.specs.Replay.{first_public, first_session}
 use Rattle.ob_meddle.specs.Due.{is_fail, has_acted, failed_among, are_later, disturbances}
-use Rattle.ob_meddle.specs.Shows.{state_of, Shows}
-use Rattle.ob_meddle.specs.declared.meddle.Meddle.{Meddle}
+use Rattle.ob_meddle.specs.Shows.{list_of, state_of, Shows}
 use Rattle.ob_meddle.specs.declared.store.MeddledStore.{MeddledStore}
 use Rattle.ob_shell.specs.Closed.{LineWritten, refused_by}
 use Rattle.ob_shell.specs.Endings.{last_line, status_of}
@@ -44,21 +43,20 @@ pub record Undisturbed (answers : List Answer) (start end : StoreState) (report 
 -- the run over the store that is handed back, in which others make the changes that the words spell
 pub record Meddled {R : Type 0} (state : R → RevState) (words : List Text) (max : ℕ)
     (left0 left1 written0 written1 traced0 traced1 : Option (List ℕ)) (old new : Faults) (store : MeddledStore) (report : Report) : Type 0 where
-  pub list : List Meddle
-  pub words_are : ParsesChanges words list
+  pub words_are : ParsesChanges words (list_of store)
   pub start : StoreState
   pub fresh : start.asked ≡ []
   pub tells : start.tells ≡ true
-  pub changes : start.disturbed ≡ disturbances list
+  pub changes : start.disturbed ≡ disturbances (list_of store)
   pub steady : IsSteady start
   pub reported : Reported state (MeddleParses words) max left0 left1 written0 written1 start (state_of store) old new report
   pub traced : Traced (is_traced meddle_usage words) start.asked (state_of store).asked traced0 traced1 (SinksRose old new)
-  pub shows : Shows list (state_of store)
+  pub shows : Shows (list_of store) (state_of store)
   -- where all changes come after as many accesses as the texts ask in all
-  pub undisturbed : (n : ℕ) → AskedInAll (first_session (first_public 64 5 1 None)) (reported.shown.served ++ reported.shown.more) n → are_later list n ≡ true
+  pub undisturbed : (n : ℕ) → AskedInAll (first_session (first_public 64 5 1 None)) (reported.shown.served ++ reported.shown.more) n → are_later (list_of store) n ≡ true
       → Undisturbed reported.shown.answers start (state_of store) report
   -- where accesses fail and no block is changed
-  pub unchanged : IsTrue (list_all (λ m. is_fail m.act) list) → IsHonest start (state_of store) × (report.status ≢ 4)
+  pub unchanged : IsTrue (list_all (λ m. is_fail m.act) (list_of store)) → IsHonest start (state_of store) × (report.status ≢ 4)
   -- at most as many answers are that the store failed as accesses failed, and a block was changed where one ends the run
-  pub failed : RisesBy (failures reported.shown.answers) 0 (failed_among list (length (state_of store).asked))
-  pub tampered : report.status ≡ 4 → has_acted list (length (state_of store).asked) ≡ true
+  pub failed : RisesBy (failures reported.shown.answers) 0 (failed_among (list_of store) (length (state_of store).asked))
+  pub tampered : report.status ≡ 4 → has_acted (list_of store) (length (state_of store).asked) ≡ true

@@ -18,6 +18,8 @@ pub record Lie : Type 0 where
 pub record Disturbance : Type 0 where
   pub before : ℕ
   pub fails : Bool
+  -- which change it is, spelt as the store spells its own
+  pub what : List ℕ
 
 pub record StoreState : Type 0 where
   -- the accesses so far
