@@ -159,18 +159,26 @@ fn changes_of_another_form_are_refused(rt: HostRuntime) -> Result<(), Fail> {
     Ok(())
 }
 
+const CREATED: &str = "= created\n";
+
+const INSERTED: &str = "= inserted\n";
+
+const DUPLICATE: &str = "E10 duplicate\n";
+
+const TWO: &str = "\"COUNT(*)\"\n\"2\"\n= 1 rows\n";
+
+const THREE: &str = "\"COUNT(*)\"\n\"3\"\n= 1 rows\n";
+
+const NO_TABLE: &str = "E02 no table\n";
+
+const FAULT: &str = "E15 store fault\n";
+
 /// The longest session: its texts, what each is answered, and at which access each ends.
 const TEXTS: &str =
     "CREATE TABLE t (id INT PRIMARY KEY, v INT) CAPACITY 4; INSERT INTO t VALUES (1, 10); INSERT INTO t VALUES (2, 20); INSERT INTO t VALUES (3, 10); INSERT INTO t VALUES (1, 99); SELECT COUNT(*) FROM t; SELECT COUNT(*) FROM t;";
 
 const ANSWERS: [&str; 7] = [
-    "= created\n",
-    "= inserted\n",
-    "= inserted\n",
-    "= inserted\n",
-    "E10 duplicate\n",
-    "\"COUNT(*)\"\n\"3\"\n= 1 rows\n",
-    "\"COUNT(*)\"\n\"3\"\n= 1 rows\n",
+    CREATED, INSERTED, INSERTED, INSERTED, DUPLICATE, THREE, THREE,
 ];
 
 const ENDS: [u64; 7] = [5, 19, 33, 47, 61, 65, 69];
@@ -247,16 +255,32 @@ const TRACE: [&str; 69] = [
     "R 5 3\n",
 ];
 
-// The statement that asks this access, counted from 1, and how many come before it.
-fn statement_of(access: u64) -> (usize, u64) {
-    let mut before = 0;
-    for (i, end) in ENDS.iter().enumerate() {
-        if access <= *end {
-            return (i, before);
+// How many statements end before this access.
+fn ended_before(access: u64) -> usize {
+    let mut ended = 0;
+    for end in &ENDS {
+        if *end < access && ended < 7 {
+            ended += 1;
         }
-        before = *end;
     }
-    (ENDS.len(), before)
+    ended
+}
+
+// The digit at a place of a line.
+fn digit(line: &[u8], i: usize) -> u8 {
+    match line.get(i) {
+        Some(b) => b.saturating_sub(b'0'),
+        None => 0,
+    }
+}
+
+// So many of these pieces, one behind the other.
+fn joined(alloc: Global, pieces: &[&str], count: usize) -> Result<Vec<u8>, Fail> {
+    let mut all = Vec::new(alloc);
+    for piece in pieces.iter().take(count) {
+        all.extend_from_slice(piece.as_bytes())?;
+    }
+    Ok(all)
 }
 
 // Serves the long session over a store with one change, and compares what is printed, the status, and the
@@ -278,11 +302,7 @@ fn ends_so(
     assert_eq!(rt; out.bytes(), answers);
     assert_eq!(rt; report.status, status);
     assert_eq!(rt; store.count(), total);
-    let mut first = Vec::new(alloc);
-    for (number, line) in (1..=change.before).zip(&TRACE) {
-        let _ = number;
-        first.extend_from_slice(line.as_bytes())?;
-    }
+    let first = joined(alloc, &TRACE, change.before as usize)?;
     assert!(rt; trace.bytes().starts_with(&first));
     Ok(())
 }
@@ -290,73 +310,73 @@ fn ends_so(
 #[test]
 fn every_changed_read_ends_the_run(rt: HostRuntime) -> Result<(), Fail> {
     let a = rt.alloc();
-    for (before, line) in (1..).zip(&TRACE) {
+    for (before, line) in (1..=69).zip(TRACE.iter()) {
         let line = line.as_bytes();
-        if line[0] != b'R' {
+        if !line.starts_with(b"R".as_slice()) {
             continue;
         }
         let act = Act::Flip {
-            region: u64::from(line[2] - b'0'),
-            place: u32::from(line[4] - b'0'),
+            region: u64::from(digit(line, 2)),
+            place: u32::from(digit(line, 4)),
             byte: 48,
         };
-        let (i, _) = statement_of(before);
-        let mut answers = Vec::new(a);
-        for answer in &ANSWERS[..i] {
-            answers.extend_from_slice(answer.as_bytes())?;
-        }
+        let mut answers = joined(a, &ANSWERS, ended_before(before))?;
         answers.extend_from_slice(b"! tampered ".as_slice())?;
-        answers.extend_from_slice(&line[2..])?;
+        for b in line.iter().skip(2) {
+            answers.push(*b)?;
+        }
         ends_so(&rt, a, Meddle { before, act }, &answers, before, 4)?;
     }
     Ok(())
 }
 
-// What each text is answered where the store fails one of them.
-fn answers_but(broken: usize) -> [&'static str; 7] {
-    let mut answers = ANSWERS;
-    if broken == 0 {
-        for answer in answers.iter_mut() {
-            *answer = "E02 no table\n";
-        }
-    } else if broken < 4 {
-        let count = if broken == 1 {
-            ANSWERS[5]
-        } else {
-            "\"COUNT(*)\"\n\"2\"\n= 1 rows\n"
-        };
-        answers[5] = count;
-        answers[6] = count;
-        if broken == 1 {
-            answers[4] = ANSWERS[1];
+// What each text is answered where the store fails the one behind so many.
+fn answers_but(ended: usize) -> [&'static str; 7] {
+    match ended {
+        0 => [
+            FAULT, NO_TABLE, NO_TABLE, NO_TABLE, NO_TABLE, NO_TABLE, NO_TABLE,
+        ],
+        1 => [CREATED, FAULT, INSERTED, INSERTED, INSERTED, THREE, THREE],
+        2 => [CREATED, INSERTED, FAULT, INSERTED, DUPLICATE, TWO, TWO],
+        3 => [CREATED, INSERTED, INSERTED, FAULT, DUPLICATE, TWO, TWO],
+        4 => [CREATED, INSERTED, INSERTED, INSERTED, FAULT, THREE, THREE],
+        5 => [
+            CREATED, INSERTED, INSERTED, INSERTED, DUPLICATE, FAULT, THREE,
+        ],
+        _ => [
+            CREATED, INSERTED, INSERTED, INSERTED, DUPLICATE, THREE, FAULT,
+        ],
+    }
+}
+
+// How many accesses the statement of this access would still ask.
+fn left_after(access: u64) -> u64 {
+    for end in &ENDS {
+        if access <= *end {
+            return end.saturating_sub(access);
         }
     }
-    answers[broken] = "E15 store fault\n";
-    answers
+    0
 }
 
 #[test]
 fn every_failed_access_ends_its_statement(rt: HostRuntime) -> Result<(), Fail> {
     let a = rt.alloc();
-    for (before, line) in (1..).zip(&TRACE) {
-        let change = Meddle {
-            before,
-            act: Act::Fail,
-        };
-        let (broken, start) = statement_of(before);
-        let mut answers = Vec::new(a);
-        let (said, total) = if line.as_bytes()[0] == b'D' {
+    for (before, line) in (1..=69).zip(TRACE.iter()) {
+        let act = Act::Fail;
+        let ended = ended_before(before);
+        let (answers, total) = if line.as_bytes().starts_with(b"D".as_slice()) {
             (ANSWERS, 69)
-        } else if broken == 0 {
+        } else if ended == 0 {
             (answers_but(0), before)
         } else {
-            (answers_but(broken), 69 - (ENDS[broken] - before))
+            (
+                answers_but(ended),
+                69_u64.saturating_sub(left_after(before)),
+            )
         };
-        for answer in &said {
-            answers.extend_from_slice(answer.as_bytes())?;
-        }
-        let _ = start;
-        ends_so(&rt, a, change, &answers, total, 1)?;
+        let answers = joined(a, &answers, 7)?;
+        ends_so(&rt, a, Meddle { before, act }, &answers, total, 1)?;
     }
     Ok(())
 }
@@ -364,7 +384,7 @@ fn every_failed_access_ends_its_statement(rt: HostRuntime) -> Result<(), Fail> {
 #[test]
 fn every_failed_read_of_the_source_ends_the_run(rt: HostRuntime) -> Result<(), Fail> {
     let a = rt.alloc();
-    for fail in 1..=2 {
+    for (fail, total) in [(1, 0), (2, 69)] {
         let mut input = MemSource::new(keyed(a, TEXTS)?, vec![in a; fail]?);
         let mut out = MemSink::new(a, 1024, Vec::new(a))?;
         let mut trace = MemSink::new(a, 1024, Vec::new(a))?;
@@ -378,84 +398,81 @@ fn every_failed_read_of_the_source_ends_the_run(rt: HostRuntime) -> Result<(), F
             &mut store,
         );
         assert_eq!(rt; report.status, 5);
-        assert_eq!(rt; store.count(), if fail == 1 { 0 } else { 69 });
+        assert_eq!(rt; store.count(), total);
         assert!(rt; out.bytes().ends_with(b"! source fault\n".as_slice()));
     }
     Ok(())
 }
 
-// What the long session prints.
-fn printed(alloc: Global) -> Result<Vec<u8>, Fail> {
-    let mut all = Vec::new(alloc);
-    for answer in &ANSWERS {
-        all.extend_from_slice(answer.as_bytes())?;
-    }
-    Ok(all)
+// Serves the long session where these writes to the answers and to the trace fail, and compares the status.
+fn writes_so(
+    rt: &impl Abort,
+    alloc: Global,
+    of_out: Vec<u64>,
+    of_trace: Vec<u64>,
+    status: u8,
+) -> Result<(), Fail> {
+    let words = vec![in alloc; String::from_str(alloc, "--trace")?]?;
+    let mut input = MemSource::new(keyed(alloc, TEXTS)?, Vec::new(alloc));
+    let mut out = MemSink::new(alloc, 1024, of_out)?;
+    let mut trace = MemSink::new(alloc, 1024, of_trace)?;
+    let mut store = MeddledStore::new(alloc, Vec::new(alloc));
+    let report = shell_top(alloc, &words, &mut input, &mut out, &mut trace, &mut store);
+    assert_eq!(rt; report.status, status);
+    assert!(rt; joined(alloc, &ANSWERS, 7)?.starts_with(out.bytes()));
+    assert!(rt; joined(alloc, &TRACE, 69)?.starts_with(trace.bytes()));
+    Ok(())
 }
 
 #[test]
 fn every_failed_write_ends_the_run(rt: HostRuntime) -> Result<(), Fail> {
     let a = rt.alloc();
-    let words = vec![in a; String::from_str(a, "--trace")?]?;
-    let all = printed(a)?;
-    // of the writes to `out`, and then of those to the trace
-    for (writes, of_out) in [(11, true), (69, false)] {
-        for fail in 1..=writes + 1 {
-            let fails = vec![in a; fail]?;
-            let mut input = MemSource::new(keyed(a, TEXTS)?, Vec::new(a));
-            let mut out = MemSink::new(a, 1024, if of_out { fails } else { Vec::new(a) })?;
-            let mut trace = MemSink::new(
-                a,
-                1024,
-                if of_out {
-                    Vec::new(a)
-                } else {
-                    vec![in a; fail]?
-                },
-            )?;
-            let mut store = MeddledStore::new(a, Vec::new(a));
-            let report = shell_top(a, &words, &mut input, &mut out, &mut trace, &mut store);
-            assert_eq!(rt; report.status, if fail <= writes { 6 } else { 1 });
-            assert!(rt; all.starts_with(out.bytes()));
-        }
+    // the session writes its answers in 11 pieces, and a line of the trace for each access
+    for fail in 1..=11 {
+        writes_so(&rt, a, vec![in a; fail]?, Vec::new(a), 6)?;
     }
+    for fail in 1..=69 {
+        writes_so(&rt, a, Vec::new(a), vec![in a; fail]?, 6)?;
+    }
+    writes_so(&rt, a, vec![in a; 12]?, vec![in a; 70]?, 1)
+}
+
+// Serves an input, and compares the status.
+fn has_status(rt: &impl Abort, alloc: Global, input: &[u8], status: u8) -> Result<(), Fail> {
+    let mut bytes = Vec::new(alloc);
+    bytes.extend_from_slice(input)?;
+    let mut input = MemSource::new(bytes, Vec::new(alloc));
+    let mut out = MemSink::new(alloc, 1024, Vec::new(alloc))?;
+    let mut trace = MemSink::new(alloc, 1024, Vec::new(alloc))?;
+    let (report, _) = meddle_top(alloc, &Vec::new(alloc), &mut input, &mut out, &mut trace);
+    assert_eq!(rt; report.status, status);
     Ok(())
 }
 
 #[test]
 fn an_input_may_end_anywhere(rt: HostRuntime) -> Result<(), Fail> {
     let a = rt.alloc();
-    let whole = keyed(
-        a,
-        "CREATE TABLE t (id INT PRIMARY KEY, v INT) CAPACITY 4; INSERT INTO t VALUES (1, 10); -- one\nSELECT COUNT(*) FROM t; -- two",
-    )?;
+    let mut input = keyed(a, "")?;
+    for length in 0..64 {
+        has_status(&rt, a, input.as_slice().split_at(length).0, 2)?;
+    }
+    has_status(&rt, a, &input, 0)?;
     // whether what follows the last semicolon is blank, or was but for one dash, and whether it ends in a comment
     let (mut blank, mut dashed, mut comment) = (true, false, false);
-    for length in 0..=whole.len() {
-        if length > 65 {
-            let b = whole[length - 1];
-            if comment {
-                comment = b != b'\n';
-            } else if b == b'-' {
-                comment = dashed;
-                (blank, dashed) = (dashed, blank);
-            } else {
-                blank = b == b';' || (blank && (b == b' ' || b == b'\n'));
-                dashed = false;
-            }
+    let text =
+        "CREATE TABLE t (id INT PRIMARY KEY, v INT) CAPACITY 4; INSERT INTO t VALUES (1, 10); -- one\nSELECT COUNT(*) FROM t; -- two";
+    for b in text.as_bytes() {
+        input.push(*b)?;
+        if comment {
+            comment = *b != b'\n';
+        } else if *b == b'-' {
+            comment = dashed;
+            (blank, dashed) = (dashed, blank);
+        } else {
+            blank = *b == b';' || (blank && (*b == b' ' || *b == b'\n'));
+            dashed = false;
         }
-        let mut bytes = Vec::new(a);
-        bytes.extend_from_slice(&whole[..length])?;
-        let mut input = MemSource::new(bytes, Vec::new(a));
-        let mut out = MemSink::new(a, 1024, Vec::new(a))?;
-        let mut trace = MemSink::new(a, 1024, Vec::new(a))?;
-        let (report, _) = meddle_top(a, &Vec::new(a), &mut input, &mut out, &mut trace);
-        let status = match (length < 64, blank) {
-            (true, _) => 2,
-            (false, true) => 0,
-            (false, false) => 1,
-        };
-        assert_eq!(rt; report.status, status);
+        has_status(&rt, a, &input, if blank { 0 } else { 1 })?;
     }
     Ok(())
 }
