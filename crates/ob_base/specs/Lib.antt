@@ -7,6 +7,7 @@ pub mod Stored
 pub mod Limits
 pub mod Plans
 pub mod Events
+pub mod Labels
 pub mod Joins
 pub mod Texts
 pub mod IsText

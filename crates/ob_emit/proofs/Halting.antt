@@ -7,17 +7,16 @@ use Rattle.ob_base.specs.Counts.{Rises}
 use Rattle.ob_store.specs.State.{Lie}
 use Rattle.ob_seal.specs.KeyPair.{KeyPair}
 use Rattle.ob_vault.specs.State.{World}
-use Rattle.ob_vault.specs.Tied.{Calm, Fits}
+use Rattle.ob_vault.specs.Tied.{Calm, Fits, IsUnfit}
 use Rattle.ob_vault.specs.Calls.{Went, Lasts}
 use Rattle.ob_vault.specs.declared.fault.VaultErr.{VaultErr}
 use Rattle.ob_vault.specs.declared.fault.VaultErr.TheVariants as VaultErrs
 use Rattle.ob_flat.specs.declared.fault.OpErr.TheVariants.{Failed, Tampered, Sink, NoMemory}
-use Rattle.ob_flat.specs.Passes.{PassCut, pass_error}
+use Rattle.ob_flat.specs.Passes.{PassCut, pass_error, SinkCause}
 use Rattle.ob_flat.proofs.Runs.{pass_malformed}
 use Rattle.ob_emit.specs.declared.slots.Halt.{Halt}
 use Rattle.ob_emit.specs.declared.slots.Halt.TheVariants as Halts
-use Rattle.ob_emit.specs.Emitting.{HaltCause, SinkCause, halt_error}
-use Rattle.ob_emit.specs.Honest.{NoForgery}
+use Rattle.ob_emit.specs.Emitting.{HaltCause, halt_error}
 
 -- a block was read, and then it halted
 pub pass_halted : (some : ℕ → Type 0) (a b : World) (q p : ℕ) (x : List Access) (halt : Halt) → Went x some a b → PassCut (halt_error halt q p) x some a b
@@ -32,23 +31,6 @@ pub sink_halted : (T U : Type 0) (q p : ℕ) (halt : Halt) (old mid new : ℕ) �
 sink_halted T U q p Halts.Malformed old mid new same cause = cause ∙ same
 sink_halted T U q p (Halts.Emit EmitErrs.Failed) old mid new same cause = subst (λ (n : ℕ). Rises n new) same cause
 sink_halted T U q p (Halts.Emit EmitErrs.NoMemory) old mid new same cause = cause ∙ same
-
--- a run that went well told no lie, where none that fits is told later
-pub none_before : (some : ℕ → Type 0) (more : ℕ → Type 0) (x : List Access) (a b c : World) → Went x some a b → Lasts more b c → a.store.lie ≡ None → NoForgery c → b.store.lie ≡ None
-none_before some more x a b c went lasts none honest = go b.store.lie refl
-  where
-    calm : Calm a
-    calm = record { calm = λ lie told. absurd (cc (sym none ∙ told)) }
-
-    go : (o : Option Lie) → b.store.lie ≡ o → b.store.lie ≡ None
-    go None is = is
-    go (Some lie) is = absurd (honest.forged lie (lasts.later.lie lie is) (subst (λ (k : KeyPair). Fits k lie) (sym lasts.keys) ((went.calm calm).calm lie is)))
-
--- the vault gave up: the emitter was not asked
-pub sink_vault : (T : Type 0) (e : VaultErr) (old new : ℕ) → new ≡ old → SinkCause {T = T} (Err (pass_error e)) old new
-sink_vault T VaultErrs.Failed old new same = same
-sink_vault T (VaultErrs.Tampered q p) old new same = same
-sink_vault T VaultErrs.NoMemory old new same = same
 
 -- each error of a halt
 pub halt_never : (halt : Halt) (q p n : ℕ) → p < n → (halt_error halt q p ≡ Failed) ⊎ (halt_error halt q p ≡ Sink) ⊎ (halt_error halt q p ≡ NoMemory) ⊎ ((place : ℕ) × (place < n) × (halt_error halt q p ≡ Tampered q place))

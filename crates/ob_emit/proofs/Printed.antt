@@ -5,10 +5,11 @@ use Rattle.std.proofs.lemmas.List.{length-map}
 use Rattle.std.proofs.lemmas.Option.{slice_get-get_or}
 use Rattle.ob_base.specs.declared.schema.Column.{Column}
 use Rattle.ob_base.specs.Schemas.{Columns}
-use Rattle.ob_emit.specs.Emitting.{is_joined, column_label, label_at, labels_of}
+use Rattle.ob_emit.specs.Emitting.{is_joined, label_at, labels_of}
 use Rattle.ob_row.specs.declared.cell.Cell.{Cell}
 use Rattle.ob_row.specs.Rows.{Row}
 use Rattle.ob_row.specs.Totals.{shown, shown_at, printed}
+use Rattle.ob_base.specs.Labels.{column_label}
 
 -- one element more that two lists begin with
 pub take_put : {A : Type 0} (xs ys : List A) (i : ℕ) (y : A) → i < length xs → take i xs ≡ take i ys → slice_get ys i ≡ Some y → take (suc i) (slice_set xs i y) ≡ take (suc i) ys

@@ -6,7 +6,8 @@ use Rattle.ob_base.specs.declared.schema.Column.{Column}
 use Rattle.ob_base.specs.declared.shown.Shown.{Shown}
 use Rattle.ob_base.specs.declared.emit.EmitErr.TheVariants as EmitErrs
 use Rattle.ob_base.specs.Counts.{Rises}
-use Rattle.ob_base.specs.Events.{Event, Head, Row as RowEvent}
+use Rattle.ob_base.specs.Events.{Event, Head}
+use Rattle.ob_base.specs.Labels.{column_label}
 use Rattle.ob_base.specs.Schemas.{Columns}
 use Rattle.ob_row.specs.Rows.{Row}
 use Rattle.ob_row.specs.Slots.{Slots, rows}
@@ -30,22 +31,12 @@ slots_shown capacity cols i (slot ∷ slots) = slot_shown capacity cols i slot +
 abbrev pub table_shown : List ℕ → Slots → List (List Shown)
 table_shown cols slots = map (printed cols) (rows slots)
 
-abbrev pub row_events : List (List Shown) → List Event
-row_events rows = map RowEvent rows
-
 -- columns of more than one table are those of a join
 abbrev pub is_joined : Columns → Bool
 is_joined [] = false
 is_joined (c ∷ columns) = list_any (λ (d : Column). not (bytes_eq d.table c.table)) columns
 
--- the names of a column's table and its own are no longer than a name may be
-abbrev pub IsNamed : Column → Type 0
-IsNamed c = (length c.table ≤ 32) × (length c.name ≤ 32)
-
--- a column by its name, in a join by its table's and its own
-abbrev pub column_label : Bool → Column → List ℕ
-column_label joins c = if joins then c.table ++ (codes "." ++ c.name) else c.name
-
+-- the label of the column at a place
 abbrev pub label_at : Bool → Columns → ℕ → List ℕ
 label_at joins columns i = option_map_or (column_label joins) (slice_get columns i) []
 
@@ -56,36 +47,12 @@ labels_of columns cols = map (label_at (is_joined columns) columns) cols
 abbrev pub header : Columns → List ℕ → List Event
 header columns cols = Head (labels_of columns cols) ∷ []
 
--- an emitter that took some events took these behind them
-abbrev pub Leads : {E : Type 0} → (E → E → List Event → Type 0) → (E → E → List Event → Type 0) → E → E → List Event → Type 0
-Leads {E} grew to old new more = (s : E) (events : List Event) → grew s old events → to s new (events ++ more)
-
--- rows were emitted behind these events, `to - from` of them, and they are those of each source
-pub record IsEmitted {E Source : Type 0} (grew : E → E → List Event → Type 0) (head : List Event) (shown : Source → List (List Shown)) (from to : ℕ) (old new : E) : Type 0 where
-  pub rows : List (List Shown)
-  pub count : to ≡ from + length rows
-  pub leads : Leads grew grew old new (head ++ row_events rows)
-  pub told : (source : Source) → rows ≡ shown source
-
--- the output ends within these events, or is all of them, which are the first of those of each source
-pub record IsHalted {E Source : Type 0} (grew cut : E → E → List Event → Type 0) (all : Source → List Event) (old new : E) : Type 0 where
-  pub events : List Event
-  pub ends : Leads grew grew old new events ⊎ Leads grew cut old new events
-  pub told : (source : Source) → (rest : List Event) × (events ++ rest ≡ all source)
-
 -- a failure of the emitter comes only where its count of faults rose, and any other answer leaves it
 abbrev pub HaltCause : {T : Type 0} → Result T Halt → ℕ → ℕ → Type 0
 HaltCause (Ok x) old new = new ≡ old
 HaltCause (Err Halts.Malformed) old new = new ≡ old
 HaltCause (Err (Halts.Emit EmitErrs.Failed)) old new = Rises old new
 HaltCause (Err (Halts.Emit EmitErrs.NoMemory)) old new = new ≡ old
-
-abbrev pub SinkCause : {T : Type 0} → Result T OpErr → ℕ → ℕ → Type 0
-SinkCause (Ok x) old new = new ≡ old
-SinkCause (Err Failed) old new = new ≡ old
-SinkCause (Err (Tampered q p)) old new = new ≡ old
-SinkCause (Err Sink) old new = Rises old new
-SinkCause (Err NoMemory) old new = new ≡ old
 
 -- the error of a pass that halted at this block
 abbrev pub halt_error : Halt → ℕ → ℕ → OpErr

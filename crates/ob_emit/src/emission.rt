@@ -2,7 +2,7 @@ ghost use Rattle.std.specs.Prelude.{◌≡◌, ◌≤◌, ◌<◌, ◌*◌, ◌+
 ghost use Rattle.std.specs.List.{All};
 ghost use Rattle.ob_base.specs.Numbers.{blocks_for};
 ghost use Rattle.ob_base.specs.Schemas.{width};
-ghost use Rattle.ob_vault.specs.Tied.{Ready};
+ghost use Rattle.ob_vault.specs.Tied.{Ready, IsUnfit};
 ghost use Rattle.ob_vault.specs.Calls.{Went, Seals, none};
 ghost use Rattle.ob_vault.specs.Places.{at, RowsFit};
 ghost use Rattle.ob_vault.specs.Rows.{SameSizes};
@@ -10,9 +10,10 @@ ghost use Rattle.ob_script.specs.Parts.{count_part};
 ghost use Rattle.ob_blocks.specs.Idle.{IsIdle};
 ghost use Rattle.ob_row.specs.Slots.{Slots};
 ghost use Rattle.ob_flat.specs.Flats.{IsSized, IsFlat, Represents};
-ghost use Rattle.ob_flat.specs.Passes.{PassCut};
-ghost use Rattle.ob_emit.specs.Emitting.{header, row_events, table_shown, IsEmitted, IsHalted, IsNamed, SinkCause};
-ghost use Rattle.ob_emit.specs.Honest.{NoForgery};
+ghost use Rattle.ob_flat.specs.Passes.{PassCut, SinkCause};
+ghost use Rattle.ob_emit.specs.Emitting.{header, table_shown};
+ghost use Rattle.ob_base.specs.Events.{row_events, IsEmitted, IsHalted};
+ghost use Rattle.ob_base.specs.Labels.{IsNamed};
 
 use crate::emitting::emit_blocks;
 use crate::head::emit_head;
@@ -47,7 +48,7 @@ fn emit_table<S: BlockStore, R: Revisions, E: Emit>(
     ensures seals { (good : ℕ → List ℕ → Bool) → Seals good (at R.state vault.old (S.state store.old)) (at R.state vault.new (S.state store.new)) }
     ensures most { IfOk result (λ k. k ≤ flat.now.capacity) }
     ensures emitted { IfOk result (λ k. IsEmitted E.grew (header flat.now.schema cols.now) (λ (s : (slots : Slots) × Represents (length rows.old) flat.now slots (at R.state vault.old (S.state store.old)) × ((S.state store.new).lie ≡ None)). table_shown cols.now s.0) 0 k out.old out.new) }
-    ensures halted { OnErr result (IsHalted E.grew E.cut (λ (s : (slots : Slots) × Represents (length rows.old) flat.now slots (at R.state vault.old (S.state store.old)) × ((S.state store.old).lie ≡ None) × NoForgery (at R.state vault.new (S.state store.new))). header flat.now.schema cols.now ++ row_events (table_shown cols.now s.0)) out.old out.new) }
+    ensures halted { OnErr result (IsHalted E.grew E.cut (λ (s : (slots : Slots) × Represents (length rows.old) flat.now slots (at R.state vault.old (S.state store.old)) × ((S.state store.old).lie ≡ None) × IsUnfit (at R.state vault.new (S.state store.new))). header flat.now.schema cols.now ++ row_events (table_shown cols.now s.0)) out.old out.new) }
     ensures cause { SinkCause result (E.faults out.old) (E.faults out.new) }
     ensures told { (slots : Slots) → Represents (length rows.old) flat.now slots (at R.state vault.old (S.state store.old)) → (S.state store.new).lie ≡ None
         → IfErr result (λ e. (e ≡ OpErr.Failed) ⊎ (e ≡ OpErr.Sink) ⊎ (e ≡ OpErr.NoMemory)) }
@@ -93,7 +94,7 @@ pub fn emit_all<S: BlockStore, R: Revisions, E: Emit>(
     ensures room { room.new ≡ record room.old { high = max room.old.high room.old.pack } }
     ensures most { IfOk result (λ k. k ≤ flat.now.capacity) }
     ensures emitted { IfOk result (λ k. IsEmitted E.grew (header flat.now.schema cols.now) (λ (s : (slots : Slots) × Represents room.old.pack flat.now slots (at R.state vault.old (S.state store.old)) × ((S.state store.new).lie ≡ None)). table_shown cols.now s.0) 0 k out.old out.new) }
-    ensures halted { OnErr result (IsHalted E.grew E.cut (λ (s : (slots : Slots) × Represents room.old.pack flat.now slots (at R.state vault.old (S.state store.old)) × ((S.state store.old).lie ≡ None) × NoForgery (at R.state vault.new (S.state store.new))). header flat.now.schema cols.now ++ row_events (table_shown cols.now s.0)) out.old out.new) }
+    ensures halted { OnErr result (IsHalted E.grew E.cut (λ (s : (slots : Slots) × Represents room.old.pack flat.now slots (at R.state vault.old (S.state store.old)) × ((S.state store.old).lie ≡ None) × IsUnfit (at R.state vault.new (S.state store.new))). header flat.now.schema cols.now ++ row_events (table_shown cols.now s.0)) out.old out.new) }
     ensures cause { SinkCause result (E.faults out.old) (E.faults out.new) }
     ensures told { (slots : Slots) → Represents room.old.pack flat.now slots (at R.state vault.old (S.state store.old)) → (S.state store.new).lie ≡ None
         → IfErr result (λ e. (e ≡ OpErr.Failed) ⊎ (e ≡ OpErr.Sink) ⊎ (e ≡ OpErr.NoMemory)) }

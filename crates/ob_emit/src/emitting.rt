@@ -2,16 +2,16 @@ ghost use Rattle.std.specs.Prelude.{◌≡◌, ◌≤◌, ◌<◌, ◌+◌, ◌*
 ghost use Rattle.std.specs.List.{All};
 ghost use Rattle.ob_base.specs.Numbers.{blocks_for};
 ghost use Rattle.ob_base.specs.Schemas.{width};
-ghost use Rattle.ob_vault.specs.Tied.{Ready};
+ghost use Rattle.ob_vault.specs.Tied.{Ready, IsUnfit};
 ghost use Rattle.ob_vault.specs.Calls.{Went, Seals, none};
 ghost use Rattle.ob_vault.specs.Places.{at, RowsFit};
 ghost use Rattle.ob_vault.specs.Rows.{SameSizes};
 ghost use Rattle.ob_script.specs.Parts.{count_part};
 ghost use Rattle.ob_row.specs.Slots.{Slots};
 ghost use Rattle.ob_flat.specs.Flats.{IsSized, IsFlat, Represents};
-ghost use Rattle.ob_flat.specs.Passes.{PassCut};
-ghost use Rattle.ob_emit.specs.Emitting.{row_events, table_shown, IsEmitted, IsHalted, SinkCause};
-ghost use Rattle.ob_emit.specs.Honest.{NoForgery};
+ghost use Rattle.ob_flat.specs.Passes.{PassCut, SinkCause};
+ghost use Rattle.ob_emit.specs.Emitting.{table_shown};
+ghost use Rattle.ob_base.specs.Events.{row_events, IsEmitted, IsHalted};
 
 use crate::slots::emit_rows;
 use ob_base::Emit;
@@ -45,7 +45,7 @@ pub(crate) fn emit_blocks<S: BlockStore, R: Revisions, E: Emit>(
     ensures seals { (good : ℕ → List ℕ → Bool) → Seals good (at R.state vault.old (S.state store.old)) (at R.state vault.new (S.state store.new)) }
     ensures most { IfOk result (λ k. k ≤ flat.now.capacity) }
     ensures emitted { IfOk result (λ k. IsEmitted E.grew [] (λ (s : (slots : Slots) × Represents (length rows.old) flat.now slots (at R.state vault.old (S.state store.old)) × ((S.state store.new).lie ≡ None)). table_shown cols.now s.0) 0 k out.old out.new) }
-    ensures halted { OnErr result (IsHalted E.grew E.cut (λ (s : (slots : Slots) × Represents (length rows.old) flat.now slots (at R.state vault.old (S.state store.old)) × ((S.state store.old).lie ≡ None) × NoForgery (at R.state vault.new (S.state store.new))). row_events (table_shown cols.now s.0)) out.old out.new) }
+    ensures halted { OnErr result (IsHalted E.grew E.cut (λ (s : (slots : Slots) × Represents (length rows.old) flat.now slots (at R.state vault.old (S.state store.old)) × ((S.state store.old).lie ≡ None) × IsUnfit (at R.state vault.new (S.state store.new))). row_events (table_shown cols.now s.0)) out.old out.new) }
     ensures cause { SinkCause result (E.faults out.old) (E.faults out.new) }
     ensures told { (slots : Slots) → Represents (length rows.old) flat.now slots (at R.state vault.old (S.state store.old)) → (S.state store.new).lie ≡ None
         → IfErr result (λ e. (e ≡ OpErr.Failed) ⊎ (e ≡ OpErr.Sink) ⊎ (e ≡ OpErr.NoMemory)) }

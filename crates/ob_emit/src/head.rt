@@ -1,7 +1,8 @@
 ghost use Rattle.std.specs.Prelude.{◌≡◌, ◌≤◌, ◌<◌, ◌+◌, ◌++◌, OnOk, OnErr, not, bytes_eq, length, take};
 ghost use Rattle.std.specs.List.{All, list_any};
 ghost use Rattle.ob_base.specs.declared.schema.Column.{Column as TableColumn};
-ghost use Rattle.ob_base.specs.Events.{EmitCause};
+ghost use Rattle.ob_base.specs.Events.{EmitCause, Leads};
+ghost use Rattle.ob_base.specs.Labels.{column_label, IsNamed};
 ghost use Rattle.ob_emit.specs.Emitting;
 
 use arrayvec::ArrayVec;
@@ -39,8 +40,8 @@ fn push_bytes(text: &mut ArrayVec<u8, 65>, bytes: &[u8])
 
 // The label of a column: its name, in a join behind its table's and a point.
 fn label_of(joined: bool, column: &Column) -> Label
-    requires { Emitting.IsNamed column.now }
-    ensures { result ≡ Emitting.column_label joined column.now }
+    requires { IsNamed column.now }
+    ensures { result ≡ column_label joined column.now }
 {
     if joined {
         let mut text = ArrayVec::new();
@@ -58,7 +59,7 @@ fn label_of(joined: bool, column: &Column) -> Label
 fn labels_of(schema: &Schema, cols: &[u8]) -> [Label; 32]
     requires few { length cols.now ≤ 32 }
     requires within { All (λ i. i < length schema.now) cols.now }
-    requires names { All Emitting.IsNamed schema.now }
+    requires names { All IsNamed schema.now }
     ensures size { length result ≡ 32 }
     ensures value { take (length cols.now) result ≡ Emitting.labels_of schema.now cols.now }
 {
@@ -77,9 +78,9 @@ fn labels_of(schema: &Schema, cols: &[u8]) -> [Label; 32]
 pub fn emit_head<E: Emit>(schema: &Schema, cols: &[u8], out: &mut E) -> Result<(), EmitErr>
     requires few { length cols.now ≤ 32 }
     requires within { All (λ i. i < length schema.now) cols.now }
-    requires names { All Emitting.IsNamed schema.now }
-    ensures ok { OnOk result (Emitting.Leads E.grew E.grew out.old out.new (Emitting.header schema.now cols.now)) }
-    ensures err { OnErr result (Emitting.Leads E.grew E.cut out.old out.new (Emitting.header schema.now cols.now)) }
+    requires names { All IsNamed schema.now }
+    ensures ok { OnOk result (Leads E.grew E.grew out.old out.new (Emitting.header schema.now cols.now)) }
+    ensures err { OnErr result (Leads E.grew E.cut out.old out.new (Emitting.header schema.now cols.now)) }
     ensures cause { EmitCause result (E.faults out.old) (E.faults out.new) }
 {
     let labels = labels_of(schema, cols);

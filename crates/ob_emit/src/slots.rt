@@ -6,7 +6,8 @@ ghost use Rattle.ob_row.specs.Rows.{Row};
 ghost use Rattle.ob_row.specs.Slots.{Slots};
 ghost use Rattle.ob_row.specs.Spelling.{Begins};
 ghost use Rattle.ob_flat.specs.Slots.{Spelt};
-ghost use Rattle.ob_emit.specs.Emitting.{slot_shown, slots_shown, row_events, IsEmitted, IsHalted, HaltCause, halt_error};
+ghost use Rattle.ob_emit.specs.Emitting.{slot_shown, slots_shown, HaltCause, halt_error};
+ghost use Rattle.ob_base.specs.Events.{row_events, IsEmitted, IsHalted};
 
 use crate::row::shown_cells;
 use ob_base::{Emit, EmitErr};

@@ -6,7 +6,7 @@ ghost use Rattle.ob_vault.specs.Tied.{Ready};
 ghost use Rattle.ob_vault.specs.Places.{at};
 ghost use Rattle.ob_blocks.specs.Idle.{IsIdle};
 ghost use Rattle.ob_flat.specs.Flats.{IsSized};
-ghost use Rattle.ob_emit.specs.Emitting.{IsNamed};
+ghost use Rattle.ob_base.specs.Labels.{IsNamed};
 
 use super::*;
 use ob_base::{Column, Emit, EmitErr, Kind, Label, Name, Schema, Shown};

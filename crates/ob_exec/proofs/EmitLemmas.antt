@@ -28,10 +28,10 @@ use Rattle.ob_exec.specs.declared.outcome.Outcome.{Outcome}
 use Rattle.ob_exec.specs.declared.outcome.Outcome.TheVariants.{Created, Inserted, Changed, Deleted, Dropped, Rows, Refused}
 use Rattle.ob_exec.specs.Running.{answer_of}
 use Rattle.ob_exec.specs.Serving.{count_of}
-use Rattle.ob_exec.specs.Telling.{Emitted, IsUnfit, told_refusal, told_outcome}
+use Rattle.ob_exec.specs.Telling.{Emitted, told_refusal, told_outcome}
 use Rattle.ob_store.specs.State.{Lie}
 use Rattle.ob_vault.specs.State.{World}
-use Rattle.ob_vault.specs.Tied.{Calm}
+use Rattle.ob_vault.specs.Tied.{Calm, IsUnfit}
 
 -- ---- a statement that emits nothing
 either_refusal : (r : Refusal) (whole cut : Type 0) → whole → cut → told_refusal r whole cut

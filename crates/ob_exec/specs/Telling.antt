@@ -8,10 +8,9 @@ use Rattle.ob_base.specs.declared.refusal.Stop.TheVariants.{Tampered, SourceFaul
 use Rattle.ob_base.specs.declared.schema.Table.{Table}
 use Rattle.ob_base.specs.Events.{Event}
 use Rattle.ob_base.specs.Schemas.{Columns}
-use Rattle.ob_store.specs.State.{Lie, StoreState}
+use Rattle.ob_store.specs.State.{StoreState}
 use Rattle.ob_vault.specs.State.{RevState, World}
 use Rattle.ob_vault.specs.Calls.{Seals}
-use Rattle.ob_vault.specs.Tied.{Fits}
 use Rattle.ob_flat.specs.Flats as F
 use Rattle.ob_sql.specs.declared.stmt.Stmt.{Stmt}
 use Rattle.ob_sql.specs.declared.stmt.Stmt.TheVariants.{Create, Insert, Update, Delete, Drop as DropTable, Select as SelectStmt}
@@ -117,10 +116,6 @@ Told state stmt m tables (Ok outcome) old new t = told_outcome outcome (Meant st
 Told state stmt m tables (Err stop) old new t = told_stop stop (SeenCut stmt m tables old new t)
 
 -- ---- what was emitted
--- of the first changed block that was read, if there is one, the tag doesn't fit
-pub record IsUnfit (w : World) : Type 0 where
-  pub unfit : (lie : Lie) → w.store.lie ≡ Some lie → ¬ Fits w.vault.keys lie
-
 -- a first part of what an answer emits
 pub record Partly (labels : List (List ℕ)) (answer : Answer) (events : List Event) : Type 0 where
   pub whole : List Event

@@ -8,11 +8,11 @@ ghost use Rattle.ob_sql.specs.declared.stmt.Stmt.{Stmt};
 ghost use Rattle.ob_sql.specs.Skeleton.{skeleton};
 ghost use Rattle.ob_mean.specs.Verdict.{Tables, ended as seen_to};
 ghost use Rattle.ob_mean.specs.Prints.{Begun};
-ghost use Rattle.ob_vault.specs.Tied.{Calm};
+ghost use Rattle.ob_vault.specs.Tied.{Calm, IsUnfit};
 ghost use Rattle.ob_exec.specs.Agreeing.{Agrees, has_ended, public_of, seen_of, world_of};
 ghost use Rattle.ob_exec.specs.Running.{Ran, Emits, SinkCause, refusal_now};
 ghost use Rattle.ob_exec.specs.Serving.{count_of};
-ghost use Rattle.ob_exec.specs.Telling.{KeepsSealed, Represents, Told, Emitted, IsUnfit};
+ghost use Rattle.ob_exec.specs.Telling.{KeepsSealed, Represents, Told, Emitted};
 
 use crate::engine::Engine;
 use crate::outcome::Outcome;

@@ -4,11 +4,11 @@ ghost use Rattle.ob_base.specs.Events.{Event};
 ghost use Rattle.ob_sql.specs.Skeleton.{skeleton};
 ghost use Rattle.ob_mean.specs.Lawful.{Lawful};
 ghost use Rattle.ob_mean.specs.Verdict.{Tables};
-ghost use Rattle.ob_vault.specs.Tied.{Calm};
+ghost use Rattle.ob_vault.specs.Tied.{Calm, IsUnfit};
 ghost use Rattle.ob_exec.specs.Agreeing.{Agrees, has_ended, public_of, seen_of, world_of};
 ghost use Rattle.ob_exec.specs.Running.{Ran, RefusedEarly, Emits, SinkCause, refusal_now};
 ghost use Rattle.ob_exec.specs.Serving.{IsServed};
-ghost use Rattle.ob_exec.specs.Telling.{KeepsSealed, Represents, Told, Emitted, IsUnfit};
+ghost use Rattle.ob_exec.specs.Telling.{KeepsSealed, Represents, Told, Emitted};
 
 use crate::engine::{Engine, LATE};
 use crate::outcome::Outcome;

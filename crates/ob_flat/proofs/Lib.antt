@@ -4,3 +4,4 @@ pub mod Tables
 pub mod Counts
 pub mod Rooms
 pub mod Resting
+pub mod Sinks

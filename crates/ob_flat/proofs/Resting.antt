@@ -27,6 +27,7 @@ module _ (v : VaultState) (s t : StoreState) (rests : Rests s t) where
   pub flat_rests : (pack : ℕ) (flat : Flat) → IsFlat pack flat (record { vault = v; store = s }) → IsFlat pack flat (record { vault = v; store = t })
   flat_rests pack flat is = record {
     made = record {
+      order = is.made.order;
       lives = record { live = is.made.lives.live };
       turn = record { turn = is.made.turn.turn; run = is.made.turn.run };
     };

@@ -44,7 +44,7 @@ blocks_end pack capacity some = (div_ceil_times capacity pack (omega arith)).1
 -- a table of which no block was written, or that wasn't touched
 module _ (pack : ℕ) (flat : Flat) (some : ℕ → Type 0) (a b : World) (lasts : Lasts some a b) (off : some flat.region → ⊥) where
   pub made_lasts : IsMade pack flat a → IsMade pack flat b
-  made_lasts is = record { lives = lives_lasts some a b lasts _ _ off is.lives; turn = turn_lasts some a b lasts _ _ off is.turn }
+  made_lasts is = record { order = is.order; lives = lives_lasts some a b lasts _ _ off is.lives; turn = turn_lasts some a b lasts _ _ off is.turn }
 
   pub flat_lasts : IsFlat pack flat a → IsFlat pack flat b
   flat_lasts is = record { made = made_lasts is.made; written = λ p below. written_lasts some a b lasts flat.region p off (is.written p below) }

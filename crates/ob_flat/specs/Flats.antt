@@ -4,7 +4,7 @@ use Rattle.std.specs.List.{All}
 use Rattle.ob_base.specs.Numbers.{blocks_for}
 use Rattle.ob_base.specs.Schemas.{Columns, width}
 use Rattle.ob_vault.specs.declared.region.Region.{Region}
-use Rattle.ob_vault.specs.declared.region.Order.TheVariants.{Round}
+use Rattle.ob_vault.specs.declared.region.Order.{Order}
 use Rattle.ob_vault.specs.State.{World}
 use Rattle.ob_vault.specs.Tied.{Lives, Written, OnTurn, Holds}
 use Rattle.ob_blocks.specs.Blocks.{up_to, block_at}
@@ -20,14 +20,23 @@ pub record IsSized (columns : Columns) (capacity : ℕ) : Type 0 where
   pub least : 1 ≤ capacity
   pub most : capacity ≤ 16777216
 
--- the region of a table of this schema and capacity
-abbrev pub table_region : ℕ → Columns → ℕ → Region
-table_region pack columns capacity = record { blocks = blocks_for pack capacity; width = pack * width columns; order = Round }
+-- so many slots of a schema, `pack` in each block, fit a region
+pub record FitsRegion (pack : ℕ) (columns : Columns) (slots : ℕ) : Type 0 where
+  pub some : 1 ≤ length columns
+  pub few : length columns ≤ 32
+  pub wide : width columns ≤ 1024
+  pub least : 1 ≤ slots
+  pub blocks : blocks_for pack slots ≤ 134217728
 
--- it is live, and its first place is the next to be written
+-- the region of a table of this schema and capacity that is written in this order
+abbrev pub table_region : Order → ℕ → Columns → ℕ → Region
+table_region order pack columns capacity = record { blocks = blocks_for pack capacity; width = pack * width columns; order = order }
+
+-- it is live, and where it is written round and round, its first place is the next
 pub record IsMade (pack : ℕ) (flat : Flat) (w : World) : Type 0 where
-  pub lives : Lives flat.region (table_region pack flat.schema flat.capacity) w
-  pub turn : OnTurn flat.region (table_region pack flat.schema flat.capacity) 0 w
+  pub order : Order
+  pub lives : Lives flat.region (table_region order pack flat.schema flat.capacity) w
+  pub turn : OnTurn flat.region (table_region order pack flat.schema flat.capacity) 0 w
 
 -- and each of its places was written
 pub record IsFlat (pack : ℕ) (flat : Flat) (w : World) : Type 0 where

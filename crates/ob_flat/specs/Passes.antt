@@ -1,5 +1,5 @@
 -- Why a pass gave up, and what it left.
-use Rattle.std.specs.Prelude.{◌≡◌, ◌⊎◌, ℕ, List}
+use Rattle.std.specs.Prelude.{◌≡◌, ◌⊎◌, ℕ, List, Result, Ok, Err}
 use Rattle.ob_base.specs.declared.access.Access.{Access}
 use Rattle.ob_base.specs.Counts.{Rises}
 use Rattle.ob_store.specs.Runs.{Began}
@@ -29,3 +29,11 @@ pub record PassCut (e : OpErr) (script : List Access) (some : ℕ → Type 0) (o
   pub lasts : Lasts some old new
   pub began : Began script old.store new.store
   pub cause : PassCause e old new
+
+-- the emitter's failure comes only where its count of faults rose, and any other answer leaves it
+abbrev pub SinkCause : {T : Type 0} → Result T OpErr → ℕ → ℕ → Type 0
+SinkCause (Ok x) old new = new ≡ old
+SinkCause (Err Failed) old new = new ≡ old
+SinkCause (Err (Tampered q p)) old new = new ≡ old
+SinkCause (Err Sink) old new = Rises old new
+SinkCause (Err NoMemory) old new = new ≡ old

@@ -38,8 +38,9 @@ pub trait Change {
     ghost keeps: { (change : Self) (columns : Columns) (i : ℕ) (slot : Option Row) → Suits change columns → FitsSlot columns slot → FitsSlot columns (to change i slot) };
 }
 
-// Changes the rows of a block, the first of which has this index, and counts.
-pub(crate) fn change_rows<C: Change>(
+/// Changes the rows of a block, the first of which has this index, and answers how many were counted, or
+/// refuses them where one is malformed.
+pub fn change_rows<C: Change>(
     change: &C,
     first: u32,
     schema: &Schema,

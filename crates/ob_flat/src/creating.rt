@@ -13,7 +13,7 @@ ghost use Rattle.ob_blocks.specs.Blocks.{none_of};
 ghost use Rattle.ob_blocks.specs.Idle.{IsIdle};
 ghost use Rattle.ob_row.specs.Slots.{empty_slots};
 ghost use Rattle.ob_flat.specs.Slots.{Spelt};
-ghost use Rattle.ob_flat.specs.Flats.{IsSized, IsMade, IsFlat, Represents, Accepts, table_region};
+ghost use Rattle.ob_flat.specs.Flats.{IsSized, FitsRegion, IsMade, IsFlat, Represents, Accepts, table_region};
 ghost use Rattle.ob_flat.specs.Passes.{PassCut};
 
 use crate::fault::OpErr;
@@ -25,31 +25,33 @@ use ob_store::BlockStore;
 use ob_vault::{Order, Region, Revisions, Vault, VaultErr};
 
 // The region of a table.
-fn region_of_table(schema: &Schema, capacity: u32, pack: u32) -> Region
-    requires size { IsSized schema.now capacity }
+fn region_of_table(schema: &Schema, capacity: u32, pack: u32, order: Order) -> Region
+    requires size { FitsRegion pack schema.now capacity }
     requires pack { (1 ≤ pack) × (pack ≤ 16) }
-    ensures { result ≡ table_region pack schema.now capacity }
+    ensures { result ≡ table_region order pack schema.now capacity }
 {
     Region {
         blocks: capacity.div_ceil(pack),
         width: pack * width(schema),
-        order: Order::Round,
+        order,
     }
 }
 
-/// Makes the region of a table whose blocks have `pack` slots: as many blocks as hold `capacity` slots.
-/// Nothing is written to it yet. `Failed` where the store failed, or `NoMemory`.
+/// Makes the region of a table whose blocks have `pack` slots: as many blocks as hold `capacity` slots,
+/// which will be written in this order. Nothing is written to it yet. `Failed` where the store failed,
+/// or `NoMemory`.
 pub fn make_table<S: BlockStore, R: Revisions>(
     store: &mut S,
     vault: &mut Vault<R>,
     schema: &Schema,
     capacity: u32,
     pack: u32,
+    order: Order,
 ) -> Result<u64, OpErr>
     requires ready { Ready (at R.state vault.old (S.state store.old)) }
     requires spare { 1 ≤ (S.state store.old).spare }
     requires few { length (S.state store.old).asked < 2 ^ 63 + 2 ^ 60 }
-    requires size { IsSized schema.now capacity }
+    requires size { FitsRegion pack schema.now capacity }
     requires pack { (1 ≤ pack) × (pack ≤ 16) }
     ensures ok { OnOk result (Went (make_at vault.old.next (blocks_for pack capacity) (pack * width schema.now)) (one vault.old.next) (at R.state vault.old (S.state store.old)) (at R.state vault.new (S.state store.new))) }
     ensures err { IfErr result (λ e. PassCut e (make_at vault.old.next (blocks_for pack capacity) (pack * width schema.now)) (one vault.old.next) (at R.state vault.old (S.state store.old)) (at R.state vault.new (S.state store.new))) }
@@ -57,9 +59,10 @@ pub fn make_table<S: BlockStore, R: Revisions>(
     ensures gone { OnErr result ((R.state vault.new.revs).live vault.old.next ≡ None) }
     ensures seals { (good : ℕ → List ℕ → Bool) → Seals good (at R.state vault.old (S.state store.old)) (at R.state vault.new (S.state store.new)) }
     ensures number { IfOk result (λ region. region ≡ vault.old.next) }
+    ensures order { OnOk result (Lives vault.old.next (table_region order pack schema.now capacity) (at R.state vault.new (S.state store.new))) }
     ensures made { OnOk result (IsMade pack (record { schema = schema.now; capacity = capacity; region = vault.old.next }) (at R.state vault.new (S.state store.new))) }
 {
-    let shape = region_of_table(schema, capacity, pack);
+    let shape = region_of_table(schema, capacity, pack, order);
     let region = vault.make(store, shape.blocks, shape.width, shape.order)?;
     Ok(region)
 }
@@ -94,18 +97,21 @@ pub fn fill_blocks<S: BlockStore, R: Revisions>(
     Ok(())
 }
 
-// Makes a table's region, and writes these rows, which are dummies, to each of its blocks.
-fn create_blocks<S: BlockStore, R: Revisions>(
+/// Makes the region of a table that is written in this order, and writes these rows, which are dummies
+/// and as many as a block has, to each of its places, in order. `Failed` where the store failed, or
+/// `NoMemory` before anything is written; the region is forgotten then.
+pub fn create_blocks<S: BlockStore, R: Revisions>(
     store: &mut S,
     vault: &mut Vault<R>,
     rows: &[ClearRow],
     schema: &Schema,
     capacity: u32,
+    order: Order,
 ) -> Result<u64, OpErr>
     requires ready { Ready (at R.state vault.old (S.state store.old)) }
     requires spare { 1 + blocks_for (length rows.now) capacity ≤ (S.state store.old).spare }
     requires few { length (S.state store.old).asked < 2 ^ 63 + 2 ^ 59 }
-    requires size { IsSized schema.now capacity }
+    requires size { FitsRegion (length rows.now) schema.now capacity }
     requires pack { (1 ≤ length rows.now) × (length rows.now ≤ 16) }
     requires fit { RowsFit rows.now (length rows.now * width schema.now) }
     requires dummies { Spelt schema.now (none_of (length rows.now)) rows.now }
@@ -116,17 +122,18 @@ fn create_blocks<S: BlockStore, R: Revisions>(
     ensures gone { OnErr result ((R.state vault.new.revs).live vault.old.next ≡ None) }
     ensures seals { (good : ℕ → List ℕ → Bool) → Accepts good (length rows.now) schema.now vault.old.next → Seals good (at R.state vault.old (S.state store.old)) (at R.state vault.new (S.state store.new)) }
     ensures number { IfOk result (λ region. region ≡ vault.old.next) }
+    ensures order { OnOk result (Lives vault.old.next (table_region order (length rows.now) schema.now capacity) (at R.state vault.new (S.state store.new))) }
     ensures flat { OnOk result (IsFlat (length rows.now) (record { schema = schema.now; capacity = capacity; region = vault.old.next }) (at R.state vault.new (S.state store.new))) }
     ensures told { OnOk result (IsTrue (S.state store.old).tells → Represents (length rows.now) (record { schema = schema.now; capacity = capacity; region = vault.old.next }) (empty_slots capacity) (at R.state vault.new (S.state store.new))) }
 {
     let pack = rows.len() as u32;
-    let region = make_table(store, vault, schema, capacity, pack)?;
+    let region = make_table(store, vault, schema, capacity, pack, order)?;
     match fill_blocks(
         store,
         vault,
         rows,
         region,
-        region_of_table(schema, capacity, pack),
+        region_of_table(schema, capacity, pack, order),
     ) {
         Ok(()) => Ok(region),
         Err(e) => {
@@ -164,7 +171,7 @@ pub fn create<S: BlockStore, R: Revisions>(
 {
     let pack = room.pack();
     let rows = room.open(pack);
-    let result = create_blocks(store, vault, rows, schema, capacity);
+    let result = create_blocks(store, vault, rows, schema, capacity, Order::Round);
     room.clear_shelf();
     match result {
         Ok(region) => Ok(Flat {

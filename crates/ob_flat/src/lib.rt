@@ -4,6 +4,7 @@
 #![tactic(auto)]
 
 mod change;
+mod clearing;
 mod counting;
 mod creating;
 mod fault;
@@ -12,9 +13,10 @@ mod scan;
 mod swap;
 mod visit;
 
-pub use change::Change;
+pub use change::{Change, change_rows};
+pub use clearing::{clear_row, clear_rows, copy_row};
 pub use counting::{Counted, count};
-pub use creating::{create, fill_blocks, make_table};
+pub use creating::{create, create_blocks, fill_blocks, make_table};
 pub use fault::OpErr;
 pub use flat::{Flat, discard};
 pub use scan::scan_blocks;

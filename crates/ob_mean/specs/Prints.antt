@@ -7,7 +7,8 @@ use Rattle.ob_base.specs.declared.shown.Shown.{Shown}
 use Rattle.ob_base.specs.declared.skeleton.ColumnName.{ColumnName}
 use Rattle.ob_base.specs.declared.skeleton.Source.{Source}
 use Rattle.ob_base.specs.declared.skeleton.Source.TheVariants.{Table as OneTable, Join}
-use Rattle.ob_base.specs.Events.{Event, Head, Row as RowEvent, Close}
+use Rattle.ob_base.specs.Events.{Event, Head, Close, row_events}
+use Rattle.ob_base.specs.Labels.{column_label, call_label}
 use Rattle.ob_base.specs.Schemas.{Columns}
 use Rattle.ob_row.specs.Bags.{Same, Within}
 use Rattle.ob_sql.specs.declared.stmt.Listed.{Listed}
@@ -24,16 +25,9 @@ abbrev pub is_join : Source → Bool
 is_join (OneTable name) = false
 is_join (Join a b on equals) = true
 
--- a column by its name, in a join by its table's and its own
-abbrev pub column_label : (joins : Bool) → Column → List ℕ
-column_label joins c = if joins then c.table ++ codes "." ++ c.name else c.name
-
 -- the label of the column that a name means
 abbrev pub label_at : (joins : Bool) → Columns → ColumnName → List ℕ
 label_at joins cs name = option_map_or (column_label joins) (slice_get cs (place_of name cs)) []
-
-abbrev pub call_label : List ℕ → List ℕ → List ℕ
-call_label name of = name ++ codes "(" ++ of ++ codes ")"
 
 abbrev pub listed_label : (joins : Bool) → Columns → Listed → List ℕ
 listed_label joins cs (ListedColumn c) = label_at joins cs c
@@ -54,9 +48,6 @@ labels_of (SelectStmt s) hs = select_labels s hs
 labels_of _ hs = []
 
 -- ---- the events
-abbrev pub row_events : List (List Shown) → List Event
-row_events rows = map RowEvent rows
-
 -- the labels, the rows in an order in which they are the same bag, and their number
 pub record PrintsRows (labels : List (List ℕ)) (rows : List (List Shown)) (events : List Event) : Type 0 where
   pub printed : List (List Shown)

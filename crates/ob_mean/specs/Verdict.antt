@@ -23,7 +23,7 @@ use Rattle.ob_sql.specs.Skeleton.{has_totals}
 use Rattle.ob_mean.specs.declared.answer.Answer.{Answer}
 use Rattle.ob_mean.specs.Refusals.{early_refusal}
 use Rattle.ob_mean.specs.Step.{Database, join_places, select_condition, refusal_of, or_else, accepted_answer, answered}
-use Rattle.ob_mean.specs.Results.{joined, unplaced}
+use Rattle.ob_row.specs.Results.{joined, unplaced}
 
 -- the tables in place
 abbrev pub Tables : Type 0

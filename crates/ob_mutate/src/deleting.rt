@@ -15,7 +15,7 @@ ghost use Rattle.ob_flat.specs.Passes.{PassCut};
 
 use crate::rewriting::rewrite;
 use ob_base::Schema;
-use ob_flat::{Change, Flat, OpErr};
+use ob_flat::{Change, Flat, OpErr, clear_row};
 use ob_room::{ClearRow, Room};
 use ob_row::{Malformed, Pred, holds};
 use ob_store::BlockStore;
@@ -50,12 +50,6 @@ impl<'a> Change for Wipe<'a> {
         }
         Ok(selected)
     }
-}
-
-fn clear_row(row: &mut ClearRow)
-    ensures { row.new ≡ replicate (length row.old) 0 }
-{
-    row.bytes_mut().fill(0);
 }
 
 /// Empties each slot of a table whose row makes the condition true, and answers how many rows did. A

@@ -7,3 +7,4 @@ pub mod Bags
 pub mod Truth
 pub mod Totals
 pub mod Slots
+pub mod Results

@@ -8,7 +8,7 @@ use Rattle.ob_base.specs.declared.refusal.Stop.TheVariants.{Tampered, SourceFaul
 use Rattle.ob_base.specs.declared.refusal.Refusal.TheVariants.{Syntax}
 use Rattle.ob_exec.specs.Agreeing.{public_of, seen_of, world_of}
 use Rattle.ob_exec.specs.Running.{Ran, RefusedEarly, RunCause, SinkCause, Emits, refusal_now}
-use Rattle.ob_exec.specs.Telling.{KeepsSealed, Represents, Told, Emitted, IsUnfit}
+use Rattle.ob_exec.specs.Telling.{KeepsSealed, Represents, Told, Emitted}
 use Rattle.ob_exec.specs.declared.outcome.Outcome.{Outcome}
 use Rattle.ob_exec.specs.declared.outcome.Outcome.TheVariants.{Refused}
 use Rattle.ob_mean.specs.Lawful.{Lawful}
@@ -20,7 +20,7 @@ use Rattle.ob_shell.specs.Running.{StopCause}
 use Rattle.ob_sql.specs.Skeleton.{skeleton}
 use Rattle.ob_sql.specs.declared.stmt.Stmt.{Stmt}
 use Rattle.ob_vault.specs.State.{RevState, World}
-use Rattle.ob_vault.specs.Tied.{Calm}
+use Rattle.ob_vault.specs.Tied.{Calm, IsUnfit}
 
 -- what is emitted at a stop, unless a changed block was read that fits
 abbrev pub StopsAsMeant : {R : Type 0} → (R → RevState) → Machine R → Machine R → Stmt → Result Outcome Stop → List Event → Type 0

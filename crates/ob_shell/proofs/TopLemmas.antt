@@ -8,12 +8,12 @@ use Rattle.ob_base.specs.declared.refusal.Stop.{Stop}
 use Rattle.ob_base.specs.declared.refusal.Stop.TheVariants.{Tampered, SourceFault, SinkFault, NoMemory, InputLimit}
 use Rattle.ob_base.specs.declared.config.Public.{Public}
 use Rattle.ob_exec.specs.Agreeing.{public_of, high_of, rows_of, world_of}
-use Rattle.ob_exec.specs.Telling.{AreHeld, Represents, told_stop, IsUnfit}
+use Rattle.ob_exec.specs.Telling.{AreHeld, Represents, told_stop}
 use Rattle.ob_mean.specs.Replay.{first_public}
 use Rattle.ob_mean.specs.Verdict.{Tables}
 use Rattle.ob_exec.specs.declared.engine.Engine.{Engine}
 use Rattle.ob_vault.specs.State.{RevState}
-use Rattle.ob_vault.specs.Tied.{Calm}
+use Rattle.ob_vault.specs.Tied.{Calm, IsUnfit}
 use Rattle.ob_print.specs.Cuts.{Cut}
 use Rattle.ob_print.proofs.CutLemmas.{Cut-whole, Cut-after, Cut-fault, Cut-more}
 use Rattle.ob_seal.specs.Sealed.{keys_of}

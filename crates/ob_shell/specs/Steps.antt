@@ -8,7 +8,7 @@ use Rattle.ob_base.specs.declared.refusal.Stop.TheVariants.{Tampered, SourceFaul
 use Rattle.ob_exec.specs.Agreeing.{Agrees, has_ended, public_of, seen_of, world_of}
 use Rattle.ob_exec.specs.Running.{Ran, RefusedEarly, Emits, refusal_now}
 use Rattle.ob_exec.specs.Serving.{IsServed}
-use Rattle.ob_exec.specs.Telling.{KeepsSealed, Represents, Told, Emitted, IsUnfit}
+use Rattle.ob_exec.specs.Telling.{KeepsSealed, Represents, Told, Emitted}
 use Rattle.ob_mean.specs.Lawful.{Lawful}
 use Rattle.ob_mean.specs.Verdict.{Tables}
 use Rattle.ob_parse.specs.Refusal.{RefusedAt}
@@ -24,7 +24,7 @@ use Rattle.ob_sql.specs.Skeleton.{skeleton}
 use Rattle.ob_sql.specs.declared.stmt.Stmt.{Stmt}
 use Rattle.ob_store.specs.State.{StoreState}
 use Rattle.ob_vault.specs.State.{RevState}
-use Rattle.ob_vault.specs.Tied.{Calm}
+use Rattle.ob_vault.specs.Tied.{Calm, IsUnfit}
 
 -- an engine and what its store has come to
 pub record Machine (R : Type 0) : Type 0 where

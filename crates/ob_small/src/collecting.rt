@@ -13,8 +13,8 @@ ghost use Rattle.ob_flat.specs.Flats.{IsSized, IsFlat, Represents};
 ghost use Rattle.ob_flat.specs.Passes.{PassCut};
 ghost use Rattle.ob_small.specs.Keeping.{chosen, Keeps};
 
-use crate::keeping::{clear_rows, keep_rows};
-use ob_flat::{Flat, OpErr};
+use crate::keeping::keep_rows;
+use ob_flat::{Flat, OpErr, clear_rows};
 use ob_room::ClearRow;
 use ob_row::{Malformed, Pred};
 use ob_store::BlockStore;

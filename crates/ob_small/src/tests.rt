@@ -9,7 +9,7 @@ ghost use Rattle.ob_row.specs.declared.cell.Cell.TheVariants.{Int as IntCell};
 ghost use Rattle.ob_row.specs.Spelling.{Fits as FitColumns};
 ghost use Rattle.ob_blocks.specs.Idle.{IsIdle};
 ghost use Rattle.ob_flat.specs.Flats.{IsSized, IsFlat};
-ghost use Rattle.ob_emit.specs.Emitting.{IsNamed};
+ghost use Rattle.ob_base.specs.Labels.{IsNamed};
 
 use super::*;
 use ob_base::{Access, Column, Emit, EmitErr, Kind, Label, Name, Schema, Shown};

@@ -1,5 +1,5 @@
 -- How calls of a vault join to runs, and what is kept over them.
-use Rattle.std.proofs.Common.{◌≡◌, inl, inr, ℕ, suc, ◌*◌, ◌/◌, ◌+◌, ◌<◌, ◌≤◌, List, [], ◌++◌, Some, None, Bool, IsTrue, length, length-append, refl, sym, ◌∙◌, ap, subst, arith}
+use Rattle.std.proofs.Common.{◌≡◌, ◌==◌, if◌then◌else◌, inl, inr, ℕ, suc, ◌*◌, ◌/◌, ◌+◌, ◌<◌, ◌≤◌, List, [], ◌++◌, Some, None, Bool, IsTrue, length, length-append, refl, sym, ◌∙◌, ap, subst, arith}
 use Rattle.ob_base.specs.declared.access.Access.{Access}
 use Rattle.ob_store.specs.State.{StoreState}
 use Rattle.ob_base.specs.Counts.{Rises}
@@ -8,7 +8,9 @@ use Rattle.ob_store.specs.Runs.{Began, Later}
 use Rattle.ob_store.proofs.Steps.{later_refl, later_trans, did_none, did_join, began_join, began_more, parts, none_before}
 use Rattle.ob_seal.specs.Sealed.{sealed}
 use Rattle.ob_vault.specs.declared.region.Region.{Region}
-use Rattle.ob_vault.specs.declared.region.Order.TheVariants.{Any}
+use Rattle.ob_vault.specs.declared.region.Order.{Order}
+use Rattle.ob_vault.specs.declared.region.Order.TheVariants.{Round, Any}
+use Rattle.ob_vault.specs.Revs.{turn_after, place_after}
 use Rattle.ob_vault.specs.declared.fault.VaultErr.{VaultErr}
 use Rattle.ob_vault.specs.declared.fault.VaultErr.TheVariants.{Failed, Tampered, NoMemory}
 use Rattle.ob_vault.specs.State.{World}
@@ -219,6 +221,14 @@ holds_number q x shape rows w ready is within holds =
 -- a write to any place of a region without order is in turn
 pub turn_any : (q : ℕ) (shape : Region) (x : ℕ) (w : World) → shape.order ≡ Any → OnTurn q shape x w
 turn_any q shape x w any = record { turn = λ round. absurd (cc (any, round)); run = λ round off. absurd (cc (any, round)) }
+
+-- in whichever order, the next place may be written next
+pub next_turn : (q u : ℕ) (shape : Region) (w : World) → OnTurn q shape (turn_after shape u) w → OnTurn q shape (if u + 1 == shape.blocks then 0 else u + 1) w
+next_turn q u shape w turn = go shape.order refl
+  where
+    go : (o : Order) → shape.order ≡ o → OnTurn q shape (if u + 1 == shape.blocks then 0 else u + 1) w
+    go Round is = subst (λ (n : ℕ). OnTurn q shape n w) (ap (λ (o : Order). place_after o shape.blocks u) is) turn
+    go Any is = turn_any q shape (if u + 1 == shape.blocks then 0 else u + 1) w is
 
 -- a region whose lap is whole stays so while others are written
 pub turn_went : (some : ℕ → Type 0) (a b : World) (x : List Access) (q : ℕ) (shape : Region) → Went x some a b → (some q → ⊥) → OnTurn q shape 0 a → OnTurn q shape 0 b

@@ -68,6 +68,10 @@ pub record Fits (keys : KeyPair) (lie : Lie) : Type 0 where
 pub record Calm (w : World) : Type 0 where
   pub calm : (lie : Lie) → w.store.lie ≡ Some lie → Fits w.vault.keys lie
 
+-- of the first changed block that was read, if there is one, the tag doesn't fit
+pub record IsUnfit (w : World) : Type 0 where
+  pub unfit : (lie : Lie) → w.store.lie ≡ Some lie → ¬ Fits w.vault.keys lie
+
 -- the last access was the first lie
 pub record EndsAt (q x : ℕ) (w : World) : Type 0 where
   pub lie : Lie

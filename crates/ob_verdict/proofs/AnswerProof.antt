@@ -20,7 +20,7 @@ use Rattle.ob_row.specs.Rows.{Row, AreDistinct, pairs, keys_repeat}
 use Rattle.ob_row.specs.Truth.{is_true}
 use Rattle.ob_row.proofs.BagLemmas.{Same-refl, Same-trans, Same-map, Same-filter}
 use Rattle.ob_row.specs.Slots.{Slots, rows, selected, is_consecutive}
-use Rattle.ob_mean.specs.Results.{result_slots, unplaced}
+use Rattle.ob_row.specs.Results.{result_slots, unplaced}
 use Rattle.ob_verdict.proofs.ResultLemmas.{rows-small_slots, rows-large_slots}
 use Rattle.ob_verdict.proofs.HashLemmas.{rows-hash_slots}
 use Rattle.ob_verdict.proofs.TurnLemmas.{rows-continuous_slots}

@@ -9,7 +9,7 @@ use Rattle.ob_row.specs.Bags.{Inserts, further, Same}
 use Rattle.ob_row.specs.Rows.{Row}
 use Rattle.ob_row.proofs.BagLemmas.{Same-refl, Same-trans, Same-wholes, Same-map, Same-filter_map, Inserts-append, Inserts-middle}
 use Rattle.ob_row.specs.Slots.{Slots, rows, slot_at, selected}
-use Rattle.ob_mean.specs.Results.{Buckets, bucket_for, bucket_slots, has_room, put_in, filled, unplaced, unplaced_from, unplaced_or, hash_slots}
+use Rattle.ob_row.specs.Results.{Buckets, bucket_for, bucket_slots, has_room, put_in, filled, unplaced, unplaced_from, unplaced_or, hash_slots}
 use Rattle.ob_verdict.proofs.ResultLemmas.{rows-small_slots}
 use Rattle.ob_verdict.proofs.JoinLemmas.{rows-append, rows-nothing}
 

@@ -21,7 +21,7 @@ use Rattle.ob_base.specs.Joins.{chunks}
 use Rattle.ob_base.specs.Limits.{buffered, buffered_blocks}
 use Rattle.ob_base.specs.Numbers.{blocks_for}
 use Rattle.ob_script.proofs.Numbers.{ceil-ceil}
-use Rattle.ob_mean.specs.Results.{joined, joined_chunk, joined_slot, padded, chunk}
+use Rattle.ob_row.specs.Results.{joined, joined_chunk, joined_slot, padded, chunk}
 
 pub rows-append : (xs ys : Slots) → rows (xs ++ ys) ≡ rows xs ++ rows ys
 rows-append xs ys = filter_map-append (λ slot. slot) xs ys

@@ -18,7 +18,7 @@ use Rattle.ob_base.specs.Lists.{each, places_from}
 use Rattle.ob_base.specs.Plans.{choose}
 use Rattle.ob_base.specs.Stored.{Stored, headings, stored_at, heading_at}
 use Rattle.ob_row.specs.Slots.{Slots, is_consecutive, rows}
-use Rattle.ob_mean.specs.Results.{joined, joined_chunk, joined_slot, padded, chunk}
+use Rattle.ob_row.specs.Results.{joined, joined_chunk, joined_slot, padded, chunk}
 use Rattle.ob_sql.specs.declared.stmt.Stmt.{Stmt}
 use Rattle.ob_sql.specs.declared.stmt.Stmt.TheVariants.{Create, Insert, Update, Delete, Drop as DropTable, Select as SelectStmt}
 use Rattle.ob_sql.specs.Skeleton.{has_totals}

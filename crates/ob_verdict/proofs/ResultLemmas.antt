@@ -4,7 +4,7 @@ use Rattle.std.specs.Prelude.{Option, Some, None, filter}
 use Rattle.ob_base.specs.Lists.{places_from}
 use Rattle.ob_row.specs.Rows.{Row}
 use Rattle.ob_row.specs.Slots.{Slots, rows, slot_at, is_selected, selected, small_slots}
-use Rattle.ob_mean.specs.Results.{large_slots}
+use Rattle.ob_row.specs.Results.{large_slots}
 
 -- places counted from one further on
 places_from-suc : {A : Type 0} (p : A → Bool) (n : ℕ) (xs : List A) → places_from (suc n) p xs ≡ map suc (places_from n p xs)

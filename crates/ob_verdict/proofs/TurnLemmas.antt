@@ -17,7 +17,7 @@ use Rattle.ob_row.specs.Rows.{Row}
 use Rattle.ob_row.proofs.BagLemmas.{Same-map, Same-filter_map}
 use Rattle.ob_row.proofs.PairLemmas.{by_either}
 use Rattle.ob_row.specs.Slots.{Slots, rows, slot_at, selected, is_consecutive}
-use Rattle.ob_mean.specs.Results.{continuous_slots}
+use Rattle.ob_row.specs.Results.{continuous_slots}
 use Rattle.ob_verdict.proofs.ResultLemmas.{rows-small_slots}
 
 both_false : (a b : Bool) → a ≡ false → b ≡ false → (a || b) ≡ false

@@ -20,7 +20,7 @@ use Rattle.ob_sql.specs.declared.stmt.Stmt.TheVariants.{Select as SelectStmt}
 use Rattle.ob_sql.specs.Skeleton.{has_totals}
 use Rattle.ob_mean.specs.Refusals.{early_refusal}
 use Rattle.ob_mean.specs.Step.{Database, step_next, select_columns, select_condition, select_answer, selected_rows, printed_places}
-use Rattle.ob_mean.specs.Results.{result_slots}
+use Rattle.ob_row.specs.Results.{result_slots}
 use Rattle.ob_mean.specs.Verdict.{Tables, database, source_slots, selected_places, plan_for, bucket_size, first_unplaced, fallback, refusal, seen, ended, is_late}
 use Rattle.ob_mean.specs.Settle.{settle}
 use Rattle.ob_mean.specs.Lawful.{Lawful, public_headings, is_counted}

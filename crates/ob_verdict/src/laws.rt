@@ -6,7 +6,7 @@ ghost use Rattle.ob_row.specs.Bags.{Same};
 ghost use Rattle.ob_row.specs.Rows.{Row, AreDistinct, pairs};
 ghost use Rattle.ob_row.specs.Slots.{Slots, rows, selected, small_slots, is_consecutive};
 ghost use Rattle.ob_sql.specs.declared.stmt.Stmt.{Stmt};
-ghost use Rattle.ob_mean.specs.Results.{large_slots, continuous_slots, hash_slots, unplaced, joined};
+ghost use Rattle.ob_row.specs.Results.{large_slots, continuous_slots, hash_slots, unplaced, joined};
 ghost use Rattle.ob_mean.specs.Verdict.{Tables};
 ghost use Rattle.ob_verdict.specs.Laws.{SettlesAsStep, ShowsKindAlone, PlanIsWhole, ForcedShowsAlike, ShowsNotConsecutive, SeenIsLawful, PrintsAnswer};
 

@@ -4,8 +4,9 @@ use Rattle.ob_vault.specs.Places.{at}
 use Rattle.ob_row.specs.Slots.{Slots}
 use Rattle.ob_flat.specs.Flats.{Represents}
 use Rattle.ob_flat.proofs.Rooms.{shelf_wide, room_after, rows_count}
-use Rattle.ob_emit.specs.Emitting.{header, row_events, table_shown, IsEmitted, IsHalted}
-use Rattle.ob_emit.specs.Honest.{NoForgery}
+use Rattle.ob_emit.specs.Emitting.{header, table_shown}
+use Rattle.ob_base.specs.Events.{row_events, IsEmitted, IsHalted}
+use Rattle.ob_vault.specs.Tied.{IsUnfit}
 use Rattle.ob_emit.proofs.emission.emit_all.Goals as goal
 
 pub clear_shelf-requires-clause-wide : goal.clear_shelf-requires-clause-wide
@@ -30,5 +31,5 @@ returns-clause-halted g c =
     let size = rows_count (width c.args.flat.now.schema) c.pack-pack.result c.args.room.now c.open-rows.result.now c.requires.room c.open-rows.ensures.value (omega (arith, c.pack-pack.ensures.value, c.pack-pack.ensures.sound.pack_some)) ∙ c.pack-pack.ensures.value in
     let old = at g.R.Revisions.state c.args.vault.now (g.S.BlockStore.state c.args.store.now) in
     let new = at g.R.Revisions.state c.emit_table-result.new.vault (g.S.BlockStore.state c.emit_table-result.new.store) in
-    subst (λ (n : ℕ). OnErr c.emit_table-result.result (IsHalted g.E.Emit.grew g.E.Emit.cut (λ (s : (slots : Slots) × Represents n c.args.flat.now slots old × (old.store.lie ≡ None) × NoForgery new). header c.args.flat.now.schema c.args.cols.now ++ row_events (table_shown c.args.cols.now s.0)) c.args.out.now c.emit_table-result.new.out))
+    subst (λ (n : ℕ). OnErr c.emit_table-result.result (IsHalted g.E.Emit.grew g.E.Emit.cut (λ (s : (slots : Slots) × Represents n c.args.flat.now slots old × (old.store.lie ≡ None) × IsUnfit new). header c.args.flat.now.schema c.args.cols.now ++ row_events (table_shown c.args.cols.now s.0)) c.args.out.now c.emit_table-result.new.out))
     size c.emit_table-result.ensures.halted

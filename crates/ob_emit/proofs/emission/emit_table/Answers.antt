@@ -1,8 +1,8 @@
 use Rattle.std.proofs.Common.{ℕ, inr, [], ◌++◌, List, refl, ◌∙◌, ap}
 use Rattle.std.proofs.lemmas.List.{append-nil}
-use Rattle.ob_base.specs.Events.{Event}
-use Rattle.ob_emit.specs.Emitting.{header, row_events, table_shown}
-use Rattle.ob_emit.proofs.Events.{emitted_head, halted_join}
+use Rattle.ob_base.specs.Events.{Event, row_events}
+use Rattle.ob_emit.specs.Emitting.{header, table_shown}
+use Rattle.ob_base.proofs.EventLemmas.{emitted_head, halted_join}
 use Rattle.ob_emit.proofs.emission.emit_table.Goals as goal
 
 pub returns-in-Err-clause-halted : goal.returns-in-Err-clause-halted

@@ -15,9 +15,12 @@ use Rattle.ob_flat.proofs.Rooms.{same_rows}
 use Rattle.ob_flat.proofs.Rows.{wide_fit, wide_same}
 use Rattle.ob_flat.proofs.Runs.{pass_of, pass_each}
 use Rattle.ob_flat.proofs.Tables.{reads, represents_lasts, block_long, got, whole_size, index_fits}
-use Rattle.ob_emit.specs.Emitting.{slots_shown, table_shown, row_events}
-use Rattle.ob_emit.proofs.Events.{shown-block, shown-rest, shown-table, emitted_none, emitted_join, halted_join, halted_after, events_more}
-use Rattle.ob_emit.proofs.Halting.{pass_halted, sink_halted, sink_vault, halt_never, halt_told, none_before}
+use Rattle.ob_emit.specs.Emitting.{slots_shown, table_shown}
+use Rattle.ob_emit.proofs.Events.{shown-block, shown-rest, shown-table}
+use Rattle.ob_emit.proofs.Halting.{pass_halted, sink_halted, halt_never, halt_told}
+use Rattle.ob_base.specs.Events.{row_events}
+use Rattle.ob_base.proofs.EventLemmas.{emitted_none, emitted_join, halted_join, halted_after, events_more}
+use Rattle.ob_flat.proofs.Sinks.{sink_vault, none_before}
 use Rattle.ob_emit.proofs.emitting.emit_blocks.Goals as goal
 
 pub loop-u-init : goal.loop-u-init

@@ -6,7 +6,8 @@ use Rattle.ob_vault.specs.Rows.{SameSizes}
 use Rattle.ob_vault.specs.Places.{at}
 use Rattle.ob_row.specs.Slots.{Slots}
 use Rattle.ob_flat.specs.Flats.{Represents, whole_blocks}
-use Rattle.ob_emit.specs.Emitting.{slots_shown, IsEmitted}
+use Rattle.ob_emit.specs.Emitting.{slots_shown}
+use Rattle.ob_base.specs.Events.{IsEmitted}
 use Rattle.ob_emit.proofs.emitting.emit_blocks.Given as goal
 
 abbrev pub invariant-loop-u : goal.invariant-loop-u

@@ -1,5 +1,6 @@
 use Rattle.std.proofs.Common.{◌≡◌, ◌<◌, ◌+◌, ℕ, List, suc, Some, length, take, slice_set, slice_index_or, rules, ◌∙◌, sym, ap, subst, arith}
 use Rattle.std.proofs.lemmas.List.{take_all, length-set}
+use Rattle.ob_base.specs.Labels.{column_label}
 use Rattle.ob_emit.specs.Emitting
 use Rattle.ob_emit.proofs.Printed.{take_put, label_is, labels_size}
 use Rattle.ob_emit.proofs.head.labels_of.Goals as goal
@@ -23,7 +24,7 @@ loop-i-preserved c =
     let place = slice_index_or cols i 0 in
     let within : place < length columns = c.requires.within i 0 (omega arith) in
     let here = label_is (Emitting.is_joined columns) columns cols i 0 column (omega arith) within in
-    let new : c.label_of.result ≡ Emitting.column_label (Emitting.is_joined columns) (slice_index_or columns place column) = search rules in
+    let new : c.label_of.result ≡ column_label (Emitting.is_joined columns) (slice_index_or columns place column) = search rules in
     record {
       size = length-set labels i c.label_of.result ∙ c.loop-i.invariant.size;
       told = subst (λ k. take k (slice_set labels i c.label_of.result) ≡ take k (Emitting.labels_of columns cols)) next

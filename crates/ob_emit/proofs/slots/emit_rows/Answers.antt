@@ -3,8 +3,10 @@ use Rattle.std.proofs.lemmas.List.{take_all}
 use Rattle.ob_base.specs.declared.shown.Shown.{Shown}
 use Rattle.ob_row.specs.Spelling.{Begins}
 use Rattle.ob_vault.proofs.RowsLemmas.{same_at}
-use Rattle.ob_emit.specs.Emitting.{slot_shown, slots_shown, row_events}
-use Rattle.ob_emit.proofs.Events.{shown-more, shown-rest, emitted_join, halted_join, events_more, byte, within}
+use Rattle.ob_emit.specs.Emitting.{slot_shown, slots_shown}
+use Rattle.ob_emit.proofs.Events.{shown-more, shown-rest, byte, within}
+use Rattle.ob_base.specs.Events.{row_events}
+use Rattle.ob_base.proofs.EventLemmas.{emitted_join, halted_join, events_more}
 use Rattle.ob_emit.proofs.slots.emit_rows.Goals as goal
 
 pub returns-in-Err-clause-err : goal.returns-in-Err-clause-err

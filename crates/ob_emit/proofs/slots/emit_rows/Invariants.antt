@@ -1,7 +1,8 @@
 use Rattle.std.proofs.Common.{◌≡◌, ◌≤◌, ◌+◌, [], take}
 use Rattle.ob_row.specs.Slots.{Slots}
 use Rattle.ob_flat.specs.Slots.{Spelt}
-use Rattle.ob_emit.specs.Emitting.{slots_shown, IsEmitted}
+use Rattle.ob_emit.specs.Emitting.{slots_shown}
+use Rattle.ob_base.specs.Events.{IsEmitted}
 use Rattle.ob_emit.proofs.slots.emit_rows.Given as goal
 
 abbrev pub invariant-loop-z : goal.invariant-loop-z

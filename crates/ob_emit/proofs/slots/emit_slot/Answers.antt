@@ -1,8 +1,7 @@
 use Rattle.std.proofs.Common.{◌≡◌, ◌<◌, inr, [], ◌∷◌, Option, is_some, length, take, sym, ◌∙◌, ap, subst, arith}
-use Rattle.ob_base.specs.Events.{Row as RowEvent}
+use Rattle.ob_base.specs.Events.{Row as RowEvent, row_events}
 use Rattle.ob_row.specs.Rows.{Row}
 use Rattle.ob_row.specs.Spelling.{Begins}
-use Rattle.ob_emit.specs.Emitting.{row_events}
 use Rattle.ob_emit.proofs.Events.{slot_told}
 use Rattle.ob_emit.proofs.slots.emit_slot.Goals as goal
 

@@ -1,17 +1,11 @@
-use Rattle.std.proofs.Common.{◌≡◌, ◌+◌, ◌<◌, ◌==◌, if◌then◌else◌, ℕ, length, refl, ◌∙◌, ap, subst, arith, below_more}
+use Rattle.std.proofs.Common.{◌≡◌, ◌<◌, ◌==◌, if◌then◌else◌, ℕ, length, refl, ◌∙◌, arith, below_more}
 use Rattle.std.proofs.lemmas.Result.{err_from_is_err_and}
 use Rattle.std.proofs.lemmas.Bool.Decides.{nat_tests}
 use Rattle.ob_base.specs.Accesses.{write_at}
 use Rattle.ob_base.specs.Lists.{each}
 use Rattle.ob_store.proofs.Steps.{length-each}
-use Rattle.ob_vault.specs.declared.region.Region.{Region}
-use Rattle.ob_vault.specs.declared.region.Order.{Order}
-use Rattle.ob_vault.specs.declared.region.Order.TheVariants.{Round, Any}
-use Rattle.ob_vault.specs.Revs.{turn_after, place_after}
-use Rattle.ob_vault.specs.State.{World}
-use Rattle.ob_vault.specs.Tied.{OnTurn}
 use Rattle.ob_vault.specs.Calls.{one}
-use Rattle.ob_vault.proofs.Runs.{went_length, went_each, cut_each, lives_only, written_only, holds_only, tells_went, may_put, seals_join, turn_any}
+use Rattle.ob_vault.proofs.Runs.{went_length, went_each, cut_each, lives_only, written_only, holds_only, tells_went, may_put, seals_join, next_turn}
 use Rattle.ob_flat.proofs.creating.fill_blocks.Goals as goal
 
 not_last : (i n : ℕ) → i < n → (if i == n then 0 else i) ≡ i
@@ -19,14 +13,6 @@ not_last i n h = grind (arith, nat_tests)
 
 size : (q n : ℕ) → length (each n (write_at q)) ≡ n
 size q n = length-each (write_at q) 1 (λ i. refl) n ∙ omega arith
-
--- in whichever order, the next place may be written next
-next_turn : (q u : ℕ) (shape : Region) (w : World) → OnTurn q shape (turn_after shape u) w → OnTurn q shape (if u + 1 == shape.blocks then 0 else u + 1) w
-next_turn q u shape w turn = go shape.order refl
-  where
-    go : (o : Order) → shape.order ≡ o → OnTurn q shape (if u + 1 == shape.blocks then 0 else u + 1) w
-    go Round is = subst (λ (n : ℕ). OnTurn q shape n w) (ap (λ (o : Order). place_after o shape.blocks u) is) turn
-    go Any is = turn_any q shape (if u + 1 == shape.blocks then 0 else u + 1) w is
 
 pub put-requires-clause-spare : goal.put-requires-clause-spare
 put-requires-clause-spare g c = omega (arith, c.requires.spare, c.loop-u.invariant.went.spare, size c.args.region c.loop-u.u)

@@ -6,7 +6,7 @@ use Rattle.ob_base.specs.Numbers.{blocks_for}
 use Rattle.ob_base.specs.Schemas.{width}
 use Rattle.ob_script.specs.Parts.{copy_at}
 use Rattle.ob_vault.specs.Calls.{none, one}
-use Rattle.ob_vault.proofs.Runs.{went_length, went_wider, went_each, went_join, lives_went, lives_only, written_went, written_only, holds_went, holds_only, holds_rows, none_went, tells_went, fit_same, fit_trans, may_get, may_put, seals_join}
+use Rattle.ob_vault.proofs.Runs.{went_length, went_wider, went_each, went_join, lives_went, lives_only, written_went, written_only, holds_went, holds_only, holds_rows, none_went, tells_went, fit_same, fit_trans, may_get, may_put, seals_join, next_turn}
 use Rattle.ob_blocks.specs.Blocks.{block_at, map_at}
 use Rattle.ob_blocks.proofs.Blocks.{count_next, count_whole}
 use Rattle.ob_blocks.proofs.Changes.{block-map_at}
@@ -26,7 +26,7 @@ get-requires-clause-place g c =
     let flat = c.requires.flat in
     let u = c.loop-u.u in
     let went = c.loop-u.invariant.went in
-    may_get _ u (table_region (length c.args.rows.now) c.args.flat.now.schema c.args.flat.now.capacity) _ _ (lives_went _ _ _ _ _ _ went c.requires.apart flat.made.lives) (omega (arith, c.div_ceil-blocks.ensures))
+    may_get _ u (table_region flat.made.order (length c.args.rows.now) c.args.flat.now.schema c.args.flat.now.capacity) _ _ (lives_went _ _ _ _ _ _ went c.requires.apart flat.made.lives) (omega (arith, c.div_ceil-blocks.ensures))
     (fit_same _ _ _ c.loop-u.invariant.same c.requires.fit) (written_went _ _ _ _ _ u went c.requires.apart (flat.written u (omega (arith, c.div_ceil-blocks.ensures))))
 
 pub returns-in_err-get-clause-rows : goal.returns-in_err-get-clause-rows
@@ -61,7 +61,7 @@ returns-in_err-get-clause-told g c = λ tells slots is nolie.
     let below : u < blocks_for pack flat.capacity = omega (arith, c.div_ceil-blocks.ensures) in
     let went = c.loop-u.invariant.went in
     let now = represents_lasts pack flat (one c.args.to) _ _ went.lasts c.requires.apart slots is in
-    let shape = table_region pack flat.schema flat.capacity in
+    let shape = table_region c.requires.flat.made.order pack flat.schema flat.capacity in
     rw (p.1, p.2) (ap pass_error (c.in_err-get.ensures.told _ shape (lives_went _ _ _ _ _ _ went c.requires.apart c.requires.flat.made.lives) (block_long pack flat slots _ is c.requires.pack.0 u below) (now.holds u below) nolie))
 
 pub overflow_mul-u : goal.overflow_mul-u
@@ -98,7 +98,7 @@ returns-in-Err-clause-told g c = λ tells slots is nolie.
     let below : u < blocks_for pack flat.capacity = omega (arith, c.div_ceil-blocks.ensures) in
     let went = c.loop-u.invariant.went in
     let now = represents_lasts pack flat (one c.args.to) _ _ went.lasts c.requires.apart slots is in
-    let shape = table_region pack flat.schema flat.capacity in
+    let shape = table_region c.requires.flat.made.order pack flat.schema flat.capacity in
     let bytes = c.in_ok-get.ensures.told _ shape (lives_went _ _ _ _ _ _ went c.requires.apart c.requires.flat.made.lives) (block_long pack flat slots _ is c.requires.pack.0 u below) (now.holds u below) nolie in
     let same = fit_trans _ _ _ c.loop-u.invariant.same c.get.ensures.rows in
     let wide = wide_same (width flat.schema) _ _ same (wide_fit (width flat.schema) c.args.rows.now c.requires.fit) in
@@ -118,7 +118,7 @@ pub put-requires-clause-place : goal.put-requires-clause-place
 put-requires-clause-place g c =
     let u = c.loop-u.u in
     let blocks = blocks_for (length c.args.rows.now) c.args.flat.now.capacity in
-    let shape = table_region (length c.args.rows.now) c.args.flat.now.schema c.args.flat.now.capacity in
+    let shape = table_region c.loop-u.invariant.order (length c.args.rows.now) c.args.flat.now.schema c.args.flat.now.capacity in
     let here : (if u == blocks then 0 else u) ≡ u = not_last u blocks (omega (arith, c.div_ceil-blocks.ensures)) in
     let turned = c.get.ensures.turns c.args.to (if u == blocks then 0 else u) shape c.loop-u.invariant.turn in
     let same = fit_trans _ _ _ c.loop-u.invariant.same (fit_trans _ _ _ c.get.ensures.rows c.change_rows.ensures.rows) in
@@ -141,7 +141,7 @@ pub returns-in_err-put-clause-seals : goal.returns-in_err-put-clause-seals
 returns-in_err-put-clause-seals g c = λ good fine.
     let pack = length c.args.rows.now in
     let flat = c.args.flat.now in
-    let shape = table_region pack flat.schema flat.capacity in
+    let shape = table_region c.loop-u.invariant.order pack flat.schema flat.capacity in
     let before = c.loop-u.invariant in
     let got = c.in_ok-get.ensures.ok in
     let lives = lives_went _ _ _ _ c.args.to shape got (λ s. s) before.lives in
@@ -158,7 +158,7 @@ loop-u-preserved g c =
     let u = c.loop-u.u in
     let blocks = blocks_for pack flat.capacity in
     let below : u < blocks = omega (arith, c.div_ceil-blocks.ensures) in
-    let shape = table_region pack flat.schema flat.capacity in
+    let shape = table_region c.loop-u.invariant.order pack flat.schema flat.capacity in
     let before = c.loop-u.invariant in
     let read = c.in_ok-get.ensures.ok in
     let lives = lives_went _ _ _ _ to shape read (λ s. s) before.lives in
@@ -171,8 +171,9 @@ loop-u-preserved g c =
       seals = λ good fine.
           seals_join good _ _ _ before.went.lasts.later (before.seals good fine)
           (seals_join good _ _ _ read.lasts.later (c.get.ensures.seals good) (c.put.ensures.seals good shape lives (accepted good pack to flat.schema c.change_rows.new.rows c.requires.pack.0 same.count fine c.in-Ok.ensures.spells)));
+      order = before.order;
       lives = lives_only _ _ _ _ c.put.ensures.only _ _ lives;
-      turn = c.put.ensures.turn shape lives;
+      turn = next_turn to u shape _ (c.put.ensures.turn shape lives);
       written = below_more _ _
           (λ p h. written_only _ _ _ _ c.put.ensures.only _ p (λ _ at. absurd (omega (arith, at, h))) (written_went _ _ _ _ _ p read (λ s. s) (before.written p h)))
           c.put.ensures.written;
@@ -184,7 +185,7 @@ loop-u-preserved g c =
           let now = represents_lasts pack flat (one to) _ _ before.went.lasts c.requires.apart slots is in
           let whole = whole_blocks pack flat.capacity slots in
           let block = block_at pack whole u in
-          let bytes = c.in_ok-get.ensures.told _ shape (lives_went _ _ _ _ _ _ before.went c.requires.apart c.requires.flat.made.lives) (block_long pack flat slots _ is c.requires.pack.0 u below) (now.holds u below) gone in
+          let bytes = c.in_ok-get.ensures.told _ (table_region c.requires.flat.made.order pack flat.schema flat.capacity) (lives_went _ _ _ _ _ _ before.went c.requires.apart c.requires.flat.made.lives) (block_long pack flat slots _ is c.requires.pack.0 u below) (now.holds u below) gone in
           let wide = wide_same (width flat.schema) _ _ same_get (wide_fit (width flat.schema) c.args.rows.now c.requires.fit) in
           let spelt = got pack flat slots _ is c.requires.pack.0 u (length c.loop-u.rows) c.get.new.rows below before.same.count same_get.count wide bytes in
           let changed = c.in-Ok.ensures.told block spelt in

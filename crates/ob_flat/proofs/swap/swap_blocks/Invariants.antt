@@ -2,6 +2,7 @@ use Rattle.std.proofs.Common.{◌≡◌, ◌≤◌, ◌<◌, ◌==◌, ◌*◌, 
 use Rattle.ob_base.specs.Lists.{each}
 use Rattle.ob_base.specs.Numbers.{blocks_for}
 use Rattle.ob_script.specs.Parts.{copy_at}
+use Rattle.ob_vault.specs.declared.region.Order.{Order}
 use Rattle.ob_vault.specs.Calls.{Went, Seals, one}
 use Rattle.ob_vault.specs.Tied.{Lives, OnTurn, Written, Holds}
 use Rattle.ob_vault.specs.Rows.{SameSizes}
@@ -18,12 +19,12 @@ invariant-loop-u g l =
     let now = at g.R.Revisions.state l.vault (g.S.BlockStore.state l.store) in
     let pack = length l.initial.rows in
     let blocks = blocks_for pack l.flat.capacity in
-    let shape = table_region pack l.flat.schema l.flat.capacity in
     record {
       went : Went (each l.u (copy_at l.flat.region l.to)) (one l.to) old now;
       seals : (good : ℕ → List ℕ → Bool) → Accepts good pack l.flat.schema l.to → Seals good old now;
-      lives : Lives l.to shape now;
-      turn : OnTurn l.to shape (if l.u == blocks then 0 else l.u) now;
+      order : Order;
+      lives : Lives l.to (table_region order pack l.flat.schema l.flat.capacity) now;
+      turn : OnTurn l.to (table_region order pack l.flat.schema l.flat.capacity) (if l.u == blocks then 0 else l.u) now;
       written : (p : ℕ) → p < l.u → Written l.to p now;
       same : SameSizes l.initial.rows l.rows;
       few : l.k ≤ l.u * pack;

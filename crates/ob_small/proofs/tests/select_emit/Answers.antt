@@ -10,8 +10,8 @@ use Rattle.ob_flat.specs.declared.flat.Flat.{Flat}
 use Rattle.ob_flat.specs.Flats.{IsFlat}
 use Rattle.ob_flat.proofs.Resting.{ready_rests, flat_rests}
 use Rattle.ob_flat.proofs.Tables.{blocks_few}
-use Rattle.ob_emit.specs.Emitting.{IsNamed}
 use Rattle.ob_small.proofs.Lengths.{passes_few}
+use Rattle.ob_base.specs.Labels.{IsNamed}
 use Rattle.ob_small.proofs.tests.select_emit.Goals as goal
 
 few_times : (a b : ℕ) → a ≤ 4 → b ≤ 4 → a * b ≤ 16

@@ -25,8 +25,8 @@ use Rattle.ob_exec.specs.declared.outcome.Outcome.{Outcome}
 use Rattle.ob_exec.specs.Engines.{IsAt}
 use Rattle.ob_exec.specs.Running.{Emits, answer_of}
 use Rattle.ob_exec.specs.Serving.{count_of}
-use Rattle.ob_exec.specs.Telling.{Emitted, IsUnfit, Represents as Stands}
-use Rattle.ob_vault.specs.Tied.{Calm}
+use Rattle.ob_exec.specs.Telling.{Emitted, Represents as Stands}
+use Rattle.ob_vault.specs.Tied.{Calm, IsUnfit}
 use Rattle.ob_exec.proofs.FoundLemmas.{is_there}
 use Rattle.ob_exec.proofs.EmitLemmas.{count_labels, count_events, count_emitted, count_partly, count_none, unfit_none}
 use Rattle.ob_exec.proofs.RunLemmas.{ran_as, went_room}

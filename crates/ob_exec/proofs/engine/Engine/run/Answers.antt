@@ -8,8 +8,8 @@ use Rattle.ob_exec.specs.declared.outcome.Outcome.{Outcome}
 use Rattle.ob_exec.specs.Running.{Emits, Ran, RefusedEarly, refusal_now}
 use Rattle.ob_exec.specs.Serving.{IsServed, count_of}
 use Rattle.ob_exec.specs.Agreeing.{world_of}
-use Rattle.ob_exec.specs.Telling.{Represents, Emitted, IsUnfit}
-use Rattle.ob_vault.specs.Tied.{Calm}
+use Rattle.ob_exec.specs.Telling.{Represents, Emitted}
+use Rattle.ob_vault.specs.Tied.{Calm, IsUnfit}
 use Rattle.ob_exec.proofs.EmitLemmas.{create_emitted, insert_emitted}
 use Rattle.ob_exec.proofs.RunLemmas.{ran_refused, early_end}
 use Rattle.ob_exec.proofs.ToldLemmas.{early_is, refused_none, silent_ok, on_err_of, told_as, told_refused, emitted_refused}

@@ -2,7 +2,7 @@ use Rattle.std.proofs.Common.{◌<◌, ℕ, None}
 use Rattle.ob_base.specs.Schemas.{Columns, width}
 use Rattle.ob_vault.specs.Rows.{row_at, SameSizes, Wide}
 use Rattle.ob_row.specs.Spelling.{Begins}
-use Rattle.ob_small.proofs.keeping.clear_rows.Given as goal
+use Rattle.ob_flat.proofs.clearing.clear_rows.Given as goal
 
 abbrev pub invariant-loop-z : goal.invariant-loop-z
 invariant-loop-z l =

@@ -1,0 +1,27 @@
+-- Passes that ask an emitter, too.
+use Rattle.std.proofs.Common.{◌≡◌, Option, Some, None, ℕ, List, Err, refl, sym, ◌∙◌, subst}
+use Rattle.ob_base.specs.declared.access.Access.{Access}
+use Rattle.ob_store.specs.State.{Lie}
+use Rattle.ob_vault.specs.State.{World}
+use Rattle.ob_vault.specs.Tied.{Calm, Fits, IsUnfit}
+use Rattle.ob_vault.specs.Calls.{Went, Lasts}
+use Rattle.ob_vault.specs.declared.fault.VaultErr.{VaultErr}
+use Rattle.ob_vault.specs.declared.fault.VaultErr.TheVariants as VaultErrs
+use Rattle.ob_flat.specs.Passes.{pass_error, SinkCause}
+
+-- a run that went well told no lie, where none that fits is told later
+pub none_before : (some : ℕ → Type 0) (more : ℕ → Type 0) (x : List Access) (a b c : World) → Went x some a b → Lasts more b c → a.store.lie ≡ None → IsUnfit c → b.store.lie ≡ None
+none_before some more x a b c went lasts none unfit = go b.store.lie refl
+  where
+    calm : Calm a
+    calm = record { calm = λ lie told. absurd (cc (sym none ∙ told)) }
+
+    go : (o : Option Lie) → b.store.lie ≡ o → b.store.lie ≡ None
+    go None is = is
+    go (Some lie) is = absurd (unfit.unfit lie (lasts.later.lie lie is) (subst (λ k. Fits k lie) (sym lasts.keys) ((went.calm calm).calm lie is)))
+
+-- the vault gave up: the emitter was not asked
+pub sink_vault : (T : Type 0) (e : VaultErr) (old new : ℕ) → new ≡ old → SinkCause {T = T} (Err (pass_error e)) old new
+sink_vault T VaultErrs.Failed old new same = same
+sink_vault T (VaultErrs.Tampered q p) old new same = same
+sink_vault T VaultErrs.NoMemory old new same = same
