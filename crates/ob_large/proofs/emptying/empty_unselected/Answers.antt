@@ -159,7 +159,7 @@ returns-clause-told g c = λ tells slots is nolie.
     let whole = whole_blocks pack flat.capacity slots in
     let now = at g.R.Revisions.state c.loop-u.vault (g.S.BlockStore.state c.loop-u.store) in
     let all = half-all f pack blocks whole (whole_size pack flat slots _ is c.requires.pack.0) c.loop-u.u last
-        ∙ sym (map_at-map f 0 whole) ∙ map_at-up_to (λ k x. f x) (blocks * pack) slots (λ k past. refl) ∙ ap (up_to (blocks * pack)) (map_at-map f 0 slots) in
+    ∙ sym (map_at-map f 0 whole) ∙ map_at-up_to (λ k x. f x) (blocks * pack) slots (λ k past. refl) ∙ ap (up_to (blocks * pack)) (map_at-map f 0 slots) in
     let here = subst (λ (l : Slots). HoldsSlots pack flat l now) all (c.loop-u.invariant.told tells slots is nolie) in
     let fits = subst (All (FitsSlot flat.schema)) (map_at-map f 0 slots) (all-map_at (λ k x. f x) (FitsSlot flat.schema) 0 slots (λ k x fit. kept_fits flat.schema (is_true c.args.pred.now) x fit) is.fits) in
     represents_whole pack flat (map f slots) now (length-map slots f ∙ is.size) fits here

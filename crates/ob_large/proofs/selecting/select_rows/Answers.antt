@@ -75,7 +75,7 @@ returns-in-Err-clause-err g c =
     (copy_part c.args.flat.now.region next results ++ copy_part next next results) c.in_ok-region.ensures.ok cut) forgot refl
 
 pub returns-in-Err-clause-never : goal.returns-in-Err-clause-never
-returns-in-Err-clause-never g c = 
+returns-in-Err-clause-never g c =
     let never = rw c.in_ok-region.ensures.number at c.in-Err.ensures.never in
     elim never [ inl failed ↦ inl failed | inr tampered ↦ inr (inr tampered) ]
 
