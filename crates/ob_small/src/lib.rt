@@ -9,6 +9,3 @@ mod selecting;
 mod writing;
 
 pub use selecting::select;
-
-#[cfg(test)]
-mod tests;

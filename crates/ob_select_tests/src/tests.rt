@@ -8,10 +8,9 @@ ghost use Rattle.ob_vault.specs.Places.{at};
 ghost use Rattle.ob_row.specs.declared.cell.Cell.TheVariants.{Int as IntCell};
 ghost use Rattle.ob_row.specs.Spelling.{Fits as FitColumns};
 ghost use Rattle.ob_blocks.specs.Idle.{IsIdle};
-ghost use Rattle.ob_flat.specs.Flats.{IsSized, IsFlat};
+ghost use Rattle.ob_flat.specs.Flats.{IsSized, IsFlat, IsWritten};
 ghost use Rattle.ob_base.specs.Labels.{IsNamed};
 
-use super::*;
 use ob_base::{Access, Column, Emit, EmitErr, Kind, Label, Name, Schema, Shown};
 use ob_emit::emit_all;
 use ob_flat::{Flat, count, create, discard};
@@ -211,16 +210,57 @@ fn change_rows<S: BlockStore, R: Revisions>(
     }
 }
 
+#[derive(Clone, Copy, Debug, PartialEq, Eq)]
+enum Operator {
+    Small,
+    Large,
+}
+
 // What the selection of a table of four slots asks and gives: how many rows are counted, how many are
 // asked for, the first cells of those that come, and the accesses from the one of an index on.
 #[derive(Drop)]
 struct Case<'a> {
+    operator: Operator,
     pred: &'a Pred,
     counted: u32,
     k: u32,
     ids: Ids,
     from: u64,
     wanted: &'a [(u8, u64, u32, u32)],
+}
+
+// The result of a case's operator.
+fn select_by<S: BlockStore, R: Revisions>(
+    rt: &impl Abort,
+    store: &mut S,
+    vault: &mut Vault<R>,
+    room: &mut Room,
+    flat: &Flat,
+    case: &Case<'_>,
+) -> Flat
+    requires ready { Ready (at R.state vault.old (S.state store.old)) }
+    requires flat { IsFlat room.old.pack flat.now (at R.state vault.old (S.state store.old)) }
+    requires size { IsSized flat.now.schema flat.now.capacity }
+    requires room { IsIdle (width flat.now.schema) room.old }
+    requires pack { 1 ≤ room.old.pack }
+    requires few { flat.now.capacity ≡ 4 }
+    requires number { (1 ≤ case.now.k) × (case.now.k ≤ 4) }
+    ensures ready { Ready (at R.state vault.new (S.state store.new)) }
+    ensures room { room.new ≡ record room.old { high = room.new.high } }
+    ensures schema { result.schema ≡ flat.now.schema }
+    ensures capacity { (1 ≤ result.capacity) × (result.capacity ≤ 4) }
+    ensures written { IsWritten room.old.pack result (at R.state vault.new (S.state store.new)) }
+{
+    store.room(100_000_000).expect(rt, "room");
+    assert!(rt; store.count() < 1_000_000);
+    match case.operator {
+        Operator::Small => {
+            ob_small::select(store, vault, room, flat, case.pred, case.k).expect(rt, "Small")
+        }
+        Operator::Large => {
+            ob_large::select(store, vault, room, flat, case.pred, case.k).expect(rt, "Large")
+        }
+    }
 }
 
 // A table is counted, its selected rows are put into a region, emitted and discarded.
@@ -245,9 +285,7 @@ fn select_emit<S: BlockStore, R: Revisions>(
     store.room(100_000_000).expect(rt, "room");
     let counted = count(store, vault, room, flat, case.pred).expect(rt, "count");
     assert_eq!(rt; counted.k, case.counted);
-    store.room(100_000_000).expect(rt, "room");
-    assert!(rt; store.count() < 1_000_000);
-    let result = select(store, vault, room, flat, case.pred, case.k).expect(rt, "select");
+    let result = select_by(rt, store, vault, room, flat, case);
     store.room(100_000_000).expect(rt, "room");
     let mut out = Ids {
         ids: [0; 4],
@@ -321,6 +359,7 @@ fn selects_in_one_pass(rt: HostRuntime) {
         &FOUR_ROWS,
         None,
         &Case {
+            operator: Operator::Small,
             pred: &equals(1, 10),
             counted: 2,
             k: 2,
@@ -360,6 +399,7 @@ fn selects_in_two_passes(rt: HostRuntime) {
         &FOUR_ROWS,
         None,
         &Case {
+            operator: Operator::Small,
             pred: &Pred::all(),
             counted: 4,
             k: 4,
@@ -407,6 +447,7 @@ fn selects_what_was_changed(rt: HostRuntime) {
         &FOUR_ROWS,
         Some((&equals(1, 10), &[(5, 50)])),
         &Case {
+            operator: Operator::Small,
             pred: &Pred::all(),
             counted: 3,
             k: 3,
@@ -452,6 +493,7 @@ fn selects_in_packs_of_two(rt: HostRuntime) {
         &FOUR_ROWS,
         None,
         &Case {
+            operator: Operator::Small,
             pred: &equals(1, 10),
             counted: 2,
             k: 2,
@@ -485,6 +527,7 @@ fn fills_the_last_block(rt: HostRuntime) {
         &FOUR_ROWS,
         None,
         &Case {
+            operator: Operator::Small,
             pred: &Pred::compare(0, Order::Less, Operand::Cell(Cell::Int(4))),
             counted: 3,
             k: 3,
@@ -522,6 +565,7 @@ fn selects_in_packs_of_three(rt: HostRuntime) {
         &FOUR_ROWS,
         None,
         &Case {
+            operator: Operator::Small,
             pred: &Pred::all(),
             counted: 4,
             k: 4,
@@ -558,6 +602,7 @@ fn takes_the_number_as_given(rt: HostRuntime) {
         &FOUR_ROWS,
         None,
         &Case {
+            operator: Operator::Small,
             pred: &equals(1, 10),
             counted: 2,
             k: 1,
@@ -584,6 +629,7 @@ fn takes_the_number_as_given(rt: HostRuntime) {
         &FOUR_ROWS,
         None,
         &Case {
+            operator: Operator::Small,
             pred: &equals(1, 10),
             counted: 2,
             k: 3,
@@ -608,6 +654,125 @@ fn takes_the_number_as_given(rt: HostRuntime) {
                 (b'R', 6, 0, 0),
                 (b'R', 6, 1, 0),
                 (b'R', 6, 2, 0),
+                (b'D', 6, 0, 0),
+            ],
+        },
+    );
+}
+
+// The rows stay in their slots, in both passes.
+#[test]
+fn large_keeps_the_slots(rt: HostRuntime) {
+    in_memory(
+        &rt,
+        rt.alloc(),
+        4,
+        1,
+        &FOUR_ROWS,
+        None,
+        &Case {
+            operator: Operator::Large,
+            pred: &equals(1, 20),
+            counted: 2,
+            k: 2,
+            ids: Ids {
+                ids: [2, 4, 0, 0],
+                rows: 2,
+            },
+            from: 65,
+            wanted: &[
+                (b'M', 6, 4, 49),
+                (b'R', 5, 0, 0),
+                (b'W', 6, 0, 0),
+                (b'R', 5, 1, 0),
+                (b'W', 6, 1, 0),
+                (b'R', 5, 2, 0),
+                (b'W', 6, 2, 0),
+                (b'R', 5, 3, 0),
+                (b'W', 6, 3, 0),
+                (b'R', 6, 0, 0),
+                (b'W', 6, 0, 0),
+                (b'R', 6, 1, 0),
+                (b'W', 6, 1, 0),
+                (b'R', 6, 2, 0),
+                (b'W', 6, 2, 0),
+                (b'R', 6, 3, 0),
+                (b'W', 6, 3, 0),
+                (b'R', 6, 0, 0),
+                (b'R', 6, 1, 0),
+                (b'R', 6, 2, 0),
+                (b'R', 6, 3, 0),
+                (b'D', 6, 0, 0),
+            ],
+        },
+    );
+}
+
+// Blocks of two and of three rows; what is selected changes no access.
+#[test]
+fn large_in_packs(rt: HostRuntime) {
+    in_memory(
+        &rt,
+        rt.alloc(),
+        7,
+        2,
+        &FOUR_ROWS,
+        None,
+        &Case {
+            operator: Operator::Large,
+            pred: &equals(0, 3),
+            counted: 1,
+            k: 1,
+            ids: Ids {
+                ids: [3, 0, 0, 0],
+                rows: 1,
+            },
+            from: 37,
+            wanted: &[
+                (b'M', 6, 2, 66),
+                (b'R', 5, 0, 0),
+                (b'W', 6, 0, 0),
+                (b'R', 5, 1, 0),
+                (b'W', 6, 1, 0),
+                (b'R', 6, 0, 0),
+                (b'W', 6, 0, 0),
+                (b'R', 6, 1, 0),
+                (b'W', 6, 1, 0),
+                (b'R', 6, 0, 0),
+                (b'R', 6, 1, 0),
+                (b'D', 6, 0, 0),
+            ],
+        },
+    );
+    in_memory(
+        &rt,
+        rt.alloc(),
+        13,
+        3,
+        &FOUR_ROWS,
+        None,
+        &Case {
+            operator: Operator::Large,
+            pred: &Pred::all(),
+            counted: 4,
+            k: 4,
+            ids: Ids {
+                ids: [1, 2, 3, 4],
+                rows: 4,
+            },
+            from: 37,
+            wanted: &[
+                (b'M', 6, 2, 83),
+                (b'R', 5, 0, 0),
+                (b'W', 6, 0, 0),
+                (b'R', 5, 1, 0),
+                (b'W', 6, 1, 0),
+                (b'R', 6, 0, 0),
+                (b'W', 6, 0, 0),
+                (b'R', 6, 1, 0),
+                (b'W', 6, 1, 0),
+                (b'R', 6, 0, 0),
+                (b'R', 6, 1, 0),
                 (b'D', 6, 0, 0),
             ],
         },

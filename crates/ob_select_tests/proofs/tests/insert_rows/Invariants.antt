@@ -2,7 +2,7 @@ use Rattle.std.proofs.Common.{◌≡◌}
 use Rattle.ob_vault.specs.Tied.{Ready}
 use Rattle.ob_vault.specs.Places.{at}
 use Rattle.ob_flat.specs.Flats.{IsFlat}
-use Rattle.ob_small.proofs.tests.insert_rows.Given as goal
+use Rattle.ob_select_tests.proofs.tests.insert_rows.Given as goal
 
 abbrev pub invariant-loop-id : goal.invariant-loop-id
 invariant-loop-id g l =

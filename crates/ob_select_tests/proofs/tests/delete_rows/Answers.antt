@@ -1,5 +1,5 @@
 use Rattle.ob_flat.proofs.Resting.{ready_rests, flat_rests}
-use Rattle.ob_small.proofs.tests.delete_rows.Goals as goal
+use Rattle.ob_select_tests.proofs.tests.delete_rows.Goals as goal
 
 pub delete-requires-clause-ready : goal.delete-requires-clause-ready
 delete-requires-clause-ready g c = ready_rests _ _ _ c.room.ensures.rests c.requires.ready

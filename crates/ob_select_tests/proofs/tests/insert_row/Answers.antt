@@ -1,5 +1,5 @@
 use Rattle.ob_flat.proofs.Resting.{ready_rests, flat_rests}
-use Rattle.ob_small.proofs.tests.insert_row.Goals as goal
+use Rattle.ob_select_tests.proofs.tests.insert_row.Goals as goal
 
 pub insert-requires-clause-ready : goal.insert-requires-clause-ready
 insert-requires-clause-ready g c = ready_rests _ _ _ c.room.ensures.rests c.requires.ready

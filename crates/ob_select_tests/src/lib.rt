@@ -1,0 +1,5 @@
+//! Tests of the select operators.
+#![tactic(auto)]
+
+#[cfg(test)]
+mod tests;
