@@ -13,12 +13,13 @@ ghost use Rattle.ob_base.specs.Labels.{IsNamed};
 
 use ob_base::{Access, Column, Emit, EmitErr, Kind, Label, Name, Schema, Shown};
 use ob_emit::emit_all;
-use ob_flat::{Flat, count, create, discard};
+use ob_flat::{Counted, Flat, count, create, discard};
 use ob_mutate::{delete, insert};
 use ob_room::Room;
 use ob_row::{Cell, Operand, Order, Pred};
-use ob_seal::Keys;
+use ob_seal::{At, Keys, unseal};
 use ob_store::{BlockStore, MemStore};
+use ob_test_stores::KeepingStore;
 use ob_vault::{BaseRevs, Revisions, Vault};
 use std::alloc::Global;
 use std::process::Abort;
@@ -348,6 +349,68 @@ fn equals(place: u8, x: i64) -> Pred {
 
 const FOUR_ROWS: [(i64, i64); 4] = [(1, 10), (2, 20), (3, 10), (4, 20)];
 
+// A table with these rows is counted, and nothing else is asked.
+fn count_rows(rt: &impl Abort, alloc: Global, pack: u32, pred: &Pred, wanted: Counted, from: u32)
+    requires pack { (1 ≤ pack) × (pack ≤ 16) }
+{
+    let mut store = MemStore::new(alloc);
+    let mut vault: Vault<BaseRevs> = Vault::new(alloc, Keys::derive(&[0; 32]));
+    let mut room = Room::new(alloc, 49, 1024, pack).expect(rt, "rows");
+    store.room(100_000_000).expect(rt, "room");
+    assert!(rt; store.count() < 1);
+    let mut flat = create(&mut store, &mut vault, &mut room, &two_ints(), 4).expect(rt, "create");
+    insert_rows(rt, &mut store, &mut vault, &mut room, &mut flat, &FOUR_ROWS);
+    store.room(100_000_000).expect(rt, "room");
+    assert_eq!(rt; store.count(), u64::from(from));
+    let counted = count(&mut store, &mut vault, &mut room, &flat, pred).expect(rt, "count");
+    assert_eq!(rt; counted, wanted);
+    let blocks = 4_u32.div_ceil(pack);
+    assert_eq!(rt; store.count(), u64::from(from) + u64::from(blocks));
+}
+
+// Whether the slots of the selected rows follow each other, as none and one do, whatever a block has.
+#[test]
+fn counts_whether_slots_are_consecutive(rt: HostRuntime) {
+    let counted = |k, consecutive| Counted { k, consecutive };
+    for (pack, from) in [(1, 61), (2, 35), (3, 35)] {
+        count_rows(
+            &rt,
+            rt.alloc(),
+            pack,
+            &equals(1, 99),
+            counted(0, true),
+            from,
+        );
+        count_rows(&rt, rt.alloc(), pack, &equals(0, 3), counted(1, true), from);
+        count_rows(
+            &rt,
+            rt.alloc(),
+            pack,
+            &equals(1, 10),
+            counted(2, false),
+            from,
+        );
+        count_rows(&rt, rt.alloc(), pack, &Pred::all(), counted(4, true), from);
+    }
+}
+
+const IN_ONE_PASS: [(u8, u64, u32, u32); 14] = [
+    (b'R', 5, 0, 0),
+    (b'R', 5, 1, 0),
+    (b'R', 5, 2, 0),
+    (b'R', 5, 3, 0),
+    (b'M', 6, 2, 49),
+    (b'R', 5, 0, 0),
+    (b'R', 5, 1, 0),
+    (b'R', 5, 2, 0),
+    (b'R', 5, 3, 0),
+    (b'W', 6, 0, 0),
+    (b'W', 6, 1, 0),
+    (b'R', 6, 0, 0),
+    (b'R', 6, 1, 0),
+    (b'D', 6, 0, 0),
+];
+
 // One pass: both selected rows fit into the buffer.
 #[test]
 fn selects_in_one_pass(rt: HostRuntime) {
@@ -368,22 +431,32 @@ fn selects_in_one_pass(rt: HostRuntime) {
                 rows: 2,
             },
             from: 61,
-            wanted: &[
-                (b'R', 5, 0, 0),
-                (b'R', 5, 1, 0),
-                (b'R', 5, 2, 0),
-                (b'R', 5, 3, 0),
-                (b'M', 6, 2, 49),
-                (b'R', 5, 0, 0),
-                (b'R', 5, 1, 0),
-                (b'R', 5, 2, 0),
-                (b'R', 5, 3, 0),
-                (b'W', 6, 0, 0),
-                (b'W', 6, 1, 0),
-                (b'R', 6, 0, 0),
-                (b'R', 6, 1, 0),
-                (b'D', 6, 0, 0),
-            ],
+            wanted: &IN_ONE_PASS,
+        },
+    );
+}
+
+// Another selection of as many rows has the same accesses.
+#[test]
+fn selects_others_alike(rt: HostRuntime) {
+    in_memory(
+        &rt,
+        rt.alloc(),
+        4,
+        1,
+        &FOUR_ROWS,
+        None,
+        &Case {
+            operator: Operator::Small,
+            pred: &equals(1, 20),
+            counted: 2,
+            k: 2,
+            ids: Ids {
+                ids: [2, 4, 0, 0],
+                rows: 2,
+            },
+            from: 61,
+            wanted: &IN_ONE_PASS,
         },
     );
 }
@@ -672,15 +745,19 @@ fn large_keeps_the_slots(rt: HostRuntime) {
         None,
         &Case {
             operator: Operator::Large,
-            pred: &equals(1, 20),
+            pred: &equals(1, 10),
             counted: 2,
             k: 2,
             ids: Ids {
-                ids: [2, 4, 0, 0],
+                ids: [1, 3, 0, 0],
                 rows: 2,
             },
-            from: 65,
+            from: 61,
             wanted: &[
+                (b'R', 5, 0, 0),
+                (b'R', 5, 1, 0),
+                (b'R', 5, 2, 0),
+                (b'R', 5, 3, 0),
                 (b'M', 6, 4, 49),
                 (b'R', 5, 0, 0),
                 (b'W', 6, 0, 0),
@@ -720,15 +797,17 @@ fn large_in_packs(rt: HostRuntime) {
         None,
         &Case {
             operator: Operator::Large,
-            pred: &equals(0, 3),
-            counted: 1,
-            k: 1,
+            pred: &equals(1, 10),
+            counted: 2,
+            k: 2,
             ids: Ids {
-                ids: [3, 0, 0, 0],
-                rows: 1,
+                ids: [1, 3, 0, 0],
+                rows: 2,
             },
-            from: 37,
+            from: 35,
             wanted: &[
+                (b'R', 5, 0, 0),
+                (b'R', 5, 1, 0),
                 (b'M', 6, 2, 66),
                 (b'R', 5, 0, 0),
                 (b'W', 6, 0, 0),
@@ -753,12 +832,12 @@ fn large_in_packs(rt: HostRuntime) {
         None,
         &Case {
             operator: Operator::Large,
-            pred: &Pred::all(),
-            counted: 4,
-            k: 4,
+            pred: &equals(0, 3),
+            counted: 1,
+            k: 1,
             ids: Ids {
-                ids: [1, 2, 3, 4],
-                rows: 4,
+                ids: [3, 0, 0, 0],
+                rows: 1,
             },
             from: 37,
             wanted: &[
@@ -777,4 +856,42 @@ fn large_in_packs(rt: HostRuntime) {
             ],
         },
     );
+}
+
+// Each write of the Large operator has the number of all writes up to it: those of its first pass, after
+// the twenty of the table and its rows, are followed by those of its second.
+#[test]
+fn each_write_of_large_has_its_number(rt: HostRuntime) {
+    let a = rt.alloc();
+    let inner = MemStore::new(a);
+    let mut store = KeepingStore::new(a, inner);
+    let vault: Vault<BaseRevs> = Vault::new(a, Keys::derive(&[0; 32]));
+    let room = Room::new(a, 4, 1024, 1).expect(&rt, "rows");
+    let case = Case {
+        operator: Operator::Large,
+        pred: &equals(1, 10),
+        counted: 2,
+        k: 2,
+        ids: Ids {
+            ids: [1, 3, 0, 0],
+            rows: 2,
+        },
+        from: 87,
+        wanted: &[],
+    };
+    session(&rt, &mut store, vault, room, &FOUR_ROWS, None, &case);
+    let keys = Keys::derive(&[0; 32]);
+    assert_eq!(rt; store.written().len(), 28);
+    for (number, (region, place, block)) in (1..=28).zip(store.written()) {
+        let at = At {
+            region: *region,
+            place: *place,
+            number,
+        };
+        let mut row = [9; 17];
+        assert!(rt; unseal(&keys, at, block, &mut row).is_ok());
+        if number > 20 {
+            assert_eq!(rt; (*region, u64::from(*place)), (6, (number - 21) % 4));
+        }
+    }
 }

@@ -1,9 +1,9 @@
 //! What lies in a store, and what comes of a block that others could seal.
 use crate::forging::ForgingStore;
-use crate::keeping::KeepingStore;
 use crate::session::{Case, serve};
 use ob_seal::{At, Keys, unseal};
 use ob_store::MemStore;
+use ob_test_stores::KeepingStore;
 use std::test::Fail;
 
 const SESSION: Case = Case {

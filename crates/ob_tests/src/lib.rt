@@ -8,8 +8,6 @@ mod faults;
 #[cfg(test)]
 mod forging;
 #[cfg(test)]
-mod keeping;
-#[cfg(test)]
 mod meddled;
 #[cfg(test)]
 mod rows;
