@@ -78,7 +78,7 @@ pub fn rework_block<S: BlockStore, R: Revisions, W: Rework>(
     ensures told { IsTrue (S.state store.old).tells → (slots : Slots) → HoldsSlots (length rows.old) flat.now slots (at R.state vault.old (S.state store.old)) → (S.state store.new).lie ≡ None
         → MatchResult result
         (λ _. (made : Slots) × W.Makes flat.now.schema work.old work.new (place * length rows.old) (block_at (length rows.old) slots place) made
-            × HoldsSlots (length rows.old) flat.now (with_block (length rows.old) slots place made) (at R.state vault.new (S.state store.new)))
+        × HoldsSlots (length rows.old) flat.now (with_block (length rows.old) slots place made) (at R.state vault.new (S.state store.new)))
         (λ e. e ≡ OpErr.Failed) }
 {
     vault.get(store, flat.region, place, rows)?;
