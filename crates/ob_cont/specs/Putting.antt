@@ -1,10 +1,12 @@
 -- The slots of a result as a pass over a table puts them, and the order in which it is written.
-use Rattle.std.specs.Prelude.{ℕ, ◌%◌, Bool, ◌==◌, Option, slice_set, if◌then◌else◌}
+use Rattle.std.specs.Prelude.{◌≤◌, ℕ, ◌%◌, Bool, ◌==◌, List, length, Option, slice_set, if◌then◌else◌}
 use Rattle.ob_vault.specs.declared.region.Order.{Order}
 use Rattle.ob_vault.specs.declared.region.Order.TheVariants.{Round, Any}
+use Rattle.ob_base.specs.Schemas.{Columns, width}
 use Rattle.ob_row.specs.Rows.{Row}
 use Rattle.ob_row.specs.Results.{RowTest}
 use Rattle.ob_row.specs.Slots.{Slots, is_selected}
+use Rattle.ob_row.specs.Spelling.{Begins}
 use Rattle.ob_blocks.specs.Blocks.{none_of, scanned}
 
 -- the slots with this one at an index, or as they are
@@ -22,3 +24,9 @@ put_slots k p slots = scanned (put_at k p) 0 (none_of k) slots
 -- the places of blocks of one slot are written round and round; those of larger ones repeat
 abbrev pub order_for : ℕ → Order
 order_for pack = if pack == 1 then Round else Any
+
+-- a row whose first bytes spell a slot
+pub record SpellsSlot (columns : Columns) (row : List ℕ) : Type 0 where
+  pub wide : width columns ≤ length row
+  pub slot : Option Row
+  pub begins : Begins columns slot row

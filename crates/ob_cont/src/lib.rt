@@ -1,3 +1,9 @@
 //! The Continuous select operator: each slot of a table has one place in a fresh region, which is read
 //! and written whether or not the slot's row is selected.
 #![tactic(auto)]
+
+
+mod putting;
+
+
+
