@@ -2,3 +2,4 @@ pub mod Places
 pub mod Puts
 pub mod Due
 pub mod Rows
+pub mod Counting

@@ -2,8 +2,5 @@
 //! and written whether or not the slot's row is selected.
 #![tactic(auto)]
 
-
+mod filling;
 mod putting;
-
-
-

@@ -1,0 +1,43 @@
+-- How many slots of a block have a place, and the accesses of their places.
+use Rattle.std.proofs.Common.{◌≡◌, ◌≤◌, ◌<◌, ◌+◌, ◌-◌, ◌*◌, ℕ, zero, suc, min, length, refl, inl, inr, List, ◌++◌, sym, ◌∙◌, ap, subst, arith, length-append, append_assoc}
+use Rattle.std.proofs.lemmas.Bool.{cases_lt}
+use Rattle.ob_base.specs.declared.access.Access.{Access}
+use Rattle.ob_base.specs.Lists.{each}
+use Rattle.ob_base.specs.Accesses.{read_at}
+use Rattle.ob_script.specs.Parts.{slots_in, continuous_block}
+use Rattle.ob_store.proofs.Steps.{length-each, parts}
+use Rattle.ob_vault.specs.State.{World}
+use Rattle.ob_flat.specs.declared.fault.OpErr.{OpErr}
+use Rattle.ob_flat.specs.Passes.{PassCut}
+use Rattle.ob_flat.proofs.Runs.{pass_more}
+use Rattle.ob_cont.specs.Putting.{put_part}
+
+-- a slot below the capacity
+pub slot_inside : (pack n u z : ℕ) → z < pack → u * pack + z < n → z < slots_in pack n u
+slot_inside pack n u z below within = omega (arith, below, within)
+
+pub done_before : (all z : ℕ) → z < all → min z all ≡ z
+done_before all z inside = omega (arith, inside)
+
+pub done_after : (all z : ℕ) → z < all → min (z + 1) all ≡ z + 1
+done_after all z inside = omega (arith, inside)
+
+-- one behind it
+pub slot_past : (pack n u z : ℕ) → n ≤ u * pack + z → min (z + 1) (slots_in pack n u) ≡ min z (slots_in pack n u)
+slot_past pack n u z past = omega (arith, past)
+
+-- all slots of a block
+pub all_slots : (pack n u z : ℕ) → pack ≤ z → min z (slots_in pack n u) ≡ slots_in pack n u
+all_slots pack n u z past = omega (arith, past)
+
+pub puts : (g pack k u n : ℕ) → length (each n (put_part g pack k u)) ≡ 2 * n
+puts g pack k u n = length-each (put_part g pack k u) 2 (λ j. refl) n ∙ omega arith
+
+-- a pass that gave up behind one of its rounds, and before the next
+pub cut_early : (some : ℕ → Type 0) (part : ℕ → List Access) (a b : World) (e : OpErr) (n all : ℕ) → n ≤ all → PassCut e (each n part) some a b → PassCut e (each all part) some a b
+cut_early some part a b e n all within cut = elim (cases_lt n all) [
+  | inl less ↦
+      let p = parts part all n less in
+      subst (λ (l : List Access). PassCut e l some a b) (sym (p.split ∙ append_assoc (each n part) (part n) p.rest)) (pass_more some a b e (each n part) (part n ++ p.rest) cut)
+  | inr most ↦ let same : n ≡ all = omega (arith, most, within) in subst (λ (m : ℕ). PassCut e (each m part) some a b) same cut
+]
