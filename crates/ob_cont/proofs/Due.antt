@@ -1,15 +1,19 @@
 -- What stands of a result while it is written.
-use Rattle.std.proofs.Common.{◌≡◌, ◌≢◌, ◌≤◌, ◌<◌, ◌+◌, ◌-◌, ◌*◌, ◌%◌, ◌/◌, ◌==◌, ◌++◌, ℕ, Bool, true, false, length, take, inl, inr, if◌then◌else◌, refl, sym, ◌∙◌, ap, subst, arith}
+use Rattle.std.proofs.Common.{◌≡◌, ◌≢◌, ◌≤◌, ◌<◌, ◌+◌, ◌-◌, ◌*◌, ◌%◌, ◌/◌, ◌==◌, ◌++◌, ℕ, Bool, List, true, false, length, take, inl, inr, if◌then◌else◌, refl, sym, ◌∙◌, ap, subst, arith}
 use Rattle.std.proofs.Math.Nat.{div-one, mod-add-mod, mod-eq_of_lt, mod-lt, mod_self}
 use Rattle.std.proofs.lemmas.Grind.{div_ceil_times}
 use Rattle.std.proofs.lemmas.Bool.{cases_eq}
 use Rattle.std.proofs.lemmas.Bool.Decides.{nat_tests}
 use Rattle.std.specs.List.{All}
+use Rattle.ob_base.specs.declared.access.Access.{Access}
 use Rattle.ob_base.specs.Numbers.{blocks_for}
 use Rattle.ob_vault.specs.declared.region.Order.{Order}
 use Rattle.ob_vault.specs.declared.region.Order.TheVariants.{Round, Any}
 use Rattle.ob_vault.specs.State.{World}
-use Rattle.ob_vault.proofs.Runs.{turn_any}
+use Rattle.ob_vault.specs.declared.region.Region.{Region}
+use Rattle.ob_vault.specs.Tied.{OnTurn}
+use Rattle.ob_vault.specs.Calls.{Went, none}
+use Rattle.ob_vault.proofs.Runs.{turn_any, lives_went, written_went}
 use Rattle.ob_row.specs.Slots.{Slots}
 use Rattle.ob_blocks.specs.Blocks.{none_of, up_to}
 use Rattle.ob_flat.specs.declared.flat.Flat.{Flat}
@@ -52,3 +56,12 @@ turn_more pack i to w some is = elim (cases_eq pack 1) [
 pub written_due : (order : Order) (pack place : ℕ) (to : Flat) (w : World) → IsInTurn order pack to place w → IsWritten pack to w
 written_due order pack place to w is = record { order = order; lives = is.lives; written = is.written }
 
+
+-- a read leaves it so
+pub due_read : (order : Order) (pack place : ℕ) (to : Flat) (a b : World) (x : List Access) → Went x none a b → ((q y : ℕ) (shape : Region) → OnTurn q shape y a → OnTurn q shape y b)
+    → IsInTurn order pack to place a → IsInTurn order pack to place b
+due_read order pack place to a b x went turns is = record {
+  lives = lives_went none a b x to.region (table_region order pack to.schema to.capacity) went (λ s. s) is.lives;
+  turn = turns to.region place (table_region order pack to.schema to.capacity) is.turn;
+  written = λ p below. written_went none a b x to.region p went (λ s. s) (is.written p below);
+}
