@@ -1,5 +1,7 @@
 -- What stands of a result while it is written.
 use Rattle.std.proofs.Common.{◌≡◌, ◌≢◌, ◌≤◌, ◌<◌, ◌+◌, ◌-◌, ◌*◌, ◌%◌, ◌/◌, ◌==◌, ◌++◌, ℕ, Bool, List, true, false, length, take, inl, inr, if◌then◌else◌, refl, sym, ◌∙◌, ap, subst, arith}
+use Rattle.std.proofs.lemmas.List.{take_at}
+use Rattle.std.proofs.lemmas.List.Elements as elements
 use Rattle.std.proofs.Math.Nat.{div-one, mod-add-mod, mod-eq_of_lt, mod-lt, mod_self}
 use Rattle.std.proofs.lemmas.Grind.{div_ceil_times}
 use Rattle.std.proofs.lemmas.Bool.{cases_eq}
@@ -18,7 +20,8 @@ use Rattle.ob_row.specs.Slots.{Slots}
 use Rattle.ob_blocks.specs.Blocks.{none_of, up_to}
 use Rattle.ob_flat.specs.declared.flat.Flat.{Flat}
 use Rattle.ob_flat.specs.Slots.{FitsSlot}
-use Rattle.ob_flat.specs.Flats.{IsInTurn, IsWritten, HoldsSlots, Represents, table_region}
+use Rattle.ob_flat.specs.Flats.{IsInTurn, IsWritten, HoldsSlots, Represents, table_region, whole_blocks}
+use Rattle.ob_flat.proofs.Tables.{represents_whole}
 use Rattle.ob_cont.specs.Putting.{order_for}
 
 same_test : (a b : ℕ) → a ≡ b → (a == b) ≡ true
@@ -65,3 +68,9 @@ due_read order pack place to a b x went turns is = record {
   turn = turns to.region place (table_region order pack to.schema to.capacity) is.turn;
   written = λ p below. written_went none a b x to.region p went (λ s. s) (is.written p below);
 }
+
+-- its blocks are those of its slots, and of empty ones behind them
+pub represents_held : (pack : ℕ) (to : Flat) (slots : Slots) (w : World) → length slots ≡ to.capacity → HoldsSlots pack to (whole_blocks pack to.capacity slots) w → Represents pack to slots w
+represents_held pack to slots w size is =
+    let all = whole_blocks pack to.capacity slots in
+    represents_whole pack to slots w size (subst (All (FitsSlot to.schema)) (take_at slots (none_of (blocks_for pack to.capacity * pack - length slots)) (length slots) refl) (elements.All-take (FitsSlot to.schema) (length slots) all is.fits)) is

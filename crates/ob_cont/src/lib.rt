@@ -4,3 +4,6 @@
 
 mod filling;
 mod putting;
+mod selecting;
+
+pub use selecting::select;
