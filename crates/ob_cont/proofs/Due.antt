@@ -59,7 +59,6 @@ turn_more pack i to w some is = elim (cases_eq pack 1) [
 pub written_due : (order : Order) (pack place : ℕ) (to : Flat) (w : World) → IsInTurn order pack to place w → IsWritten pack to w
 written_due order pack place to w is = record { order = order; lives = is.lives; written = is.written }
 
-
 -- a read leaves it so
 pub due_read : (order : Order) (pack place : ℕ) (to : Flat) (a b : World) (x : List Access) → Went x none a b → ((q y : ℕ) (shape : Region) → OnTurn q shape y a → OnTurn q shape y b)
     → IsInTurn order pack to place a → IsInTurn order pack to place b

@@ -38,12 +38,11 @@ behind k p first made (s ∷ slots) =
     let more : length first + 1 ≡ length (first ++ s ∷ []) = omega (arith, length-append first (s ∷ [])) in
     let rest : (b : Bool) → scanned (put_at k p) (length first + 1) (put_if b (length first % k) s made) slots ≡ put_places k (first ++ s ∷ slots) (put_if b (length first % k) s made) (places_from (suc (length first)) (is_selected p) slots) =
     λ b. ap (λ (n : ℕ). scanned (put_at k p) n (put_if b (length first % k) s made) slots) more
-        ∙ behind k p (first ++ s ∷ []) (put_if b (length first % k) s made) slots
-        ∙ ap (λ (l : Slots). put_places k l (put_if b (length first % k) s made) (places_from (length (first ++ s ∷ [])) (is_selected p) slots)) all
-        ∙ ap (λ (n : ℕ). put_places k (first ++ s ∷ slots) (put_if b (length first % k) s made) (places_from n (is_selected p) slots)) next in
+    ∙ behind k p (first ++ s ∷ []) (put_if b (length first % k) s made) slots
+    ∙ ap (λ (l : Slots). put_places k l (put_if b (length first % k) s made) (places_from (length (first ++ s ∷ [])) (is_selected p) slots)) all
+    ∙ ap (λ (n : ℕ). put_places k (first ++ s ∷ slots) (put_if b (length first % k) s made) (places_from n (is_selected p) slots)) next in
     elim (is_selected p s) as (λ b. scanned (put_at k p) (length first + 1) (put_if b (length first % k) s made) slots
-        ≡ put_places k (first ++ s ∷ slots) made (cond b (length first ∷ places_from (suc (length first)) (is_selected p) slots) (places_from (suc (length first)) (is_selected p) slots)))
-    [
+    ≡ put_places k (first ++ s ∷ slots) made (cond b (length first ∷ places_from (suc (length first)) (is_selected p) slots) (places_from (suc (length first)) (is_selected p) slots))) [
       | true ↦ rest true ∙ ap (λ (x : Option Row). put_places k (first ++ s ∷ slots) (slice_set made (length first % k) x) (places_from (suc (length first)) (is_selected p) slots)) (sym (at_seam first s slots))
       | false ↦ rest false
     ]
