@@ -1,5 +1,5 @@
 -- What stands of a result while it is written.
-use Rattle.std.proofs.Common.{◌≡◌, ◌≢◌, ◌≤◌, ◌<◌, ◌+◌, ◌-◌, ◌*◌, ◌%◌, ◌/◌, ◌==◌, ◌++◌, ℕ, Bool, List, true, false, length, take, inl, inr, if◌then◌else◌, refl, sym, ◌∙◌, ap, subst, arith}
+use Rattle.std.proofs.Common.{◌≡◌, ◌≢◌, ◌≤◌, ◌+◌, ◌-◌, ◌*◌, ◌%◌, ◌/◌, ◌==◌, ℕ, Bool, List, true, false, length, inl, inr, if◌then◌else◌, refl, sym, ◌∙◌, ap, subst, arith}
 use Rattle.std.proofs.lemmas.List.{take_at}
 use Rattle.std.proofs.lemmas.List.Elements as elements
 use Rattle.std.proofs.Math.Nat.{div-one, mod-add-mod, mod-eq_of_lt, mod-lt, mod_self}
@@ -17,7 +17,7 @@ use Rattle.ob_vault.specs.Tied.{OnTurn}
 use Rattle.ob_vault.specs.Calls.{Went, none}
 use Rattle.ob_vault.proofs.Runs.{turn_any, lives_went, written_went}
 use Rattle.ob_row.specs.Slots.{Slots}
-use Rattle.ob_blocks.specs.Blocks.{none_of, up_to}
+use Rattle.ob_blocks.specs.Blocks.{none_of}
 use Rattle.ob_flat.specs.declared.flat.Flat.{Flat}
 use Rattle.ob_flat.specs.Slots.{FitsSlot}
 use Rattle.ob_flat.specs.Flats.{IsInTurn, IsWritten, HoldsSlots, Represents, table_region, whole_blocks}

@@ -1,7 +1,7 @@
 -- Where the selected places are consecutive, no later one goes over an earlier one.
-use Rattle.std.proofs.Common.{◌≡◌, ◌≢◌, ◌≤◌, ◌<◌, ◌+◌, ◌-◌, ◌*◌, ◌%◌, ◌/◌, ◌==◌, ◌&&◌, ℕ, zero, suc, Bool, true, false, IsTrue, List, [], ◌∷◌, ◌++◌, Option, Some, None, length, cond, slice_index_or, slice_set, find, if◌then◌else◌, inl, inr, refl, sym, ◌∙◌, ap, subst, arith, length-append, append_assoc, get_or-set_same, get_or-set_other}
+use Rattle.std.proofs.Common.{◌≡◌, ◌≢◌, ◌≤◌, ◌<◌, ◌+◌, ◌-◌, ◌*◌, ◌%◌, ◌/◌, ◌==◌, ◌&&◌, ℕ, zero, suc, Bool, true, false, IsTrue, List, [], ◌∷◌, ◌++◌, Option, Some, None, length, cond, slice_index_or, slice_set, find, inl, inr, refl, sym, ◌∙◌, ap, arith, length-append, append_assoc, get_or-set_same, get_or-set_other}
 use Rattle.std.specs.Option.{option_and_then}
-use Rattle.std.proofs.lemmas.List.{ext_get_or, length-replicate, length-set, get_or-replicate, get_or_append_left, get_or_past}
+use Rattle.std.proofs.lemmas.List.{ext_get_or, length-replicate, length-set, get_or-replicate, get_or_append_left}
 use Rattle.std.proofs.Math.Seq.{get_or-append_right}
 use Rattle.std.proofs.lemmas.Bool.Decides.{nat_tests}
 use Rattle.std.proofs.lemmas.Bool.{cases_lt, cases_eq}

@@ -1,18 +1,17 @@
 -- Blocks of which one slot is put, and the slots of a table's blocks.
-use Rattle.std.proofs.Common.{◌≡◌, ◌≤◌, ◌<◌, ◌+◌, ◌-◌, ◌*◌, ◌%◌, ◌/◌, ℕ, Bool, true, false, List, [], ◌∷◌, ◌++◌, Option, None, length, inl, inr, min, take, drop, slice_index_or, slice_set, refl, sym, ◌∙◌, ap, arith, length-append}
-use Rattle.std.proofs.lemmas.List.{ext_get_or, length-take, length-drop, length-set, get_or-take, get_or_append_left, drop-append-le, drop-drop, take-take, take-append-le, take-append-drop, set-append_left, set-append_right, take_all}
+use Rattle.std.proofs.Common.{◌≡◌, ◌≤◌, ◌<◌, ◌+◌, ◌-◌, ◌*◌, ◌%◌, ◌/◌, ℕ, Bool, true, false, List, [], ◌∷◌, ◌++◌, Option, length, inl, inr, take, drop, slice_set, refl, sym, ◌∙◌, ap, arith}
+use Rattle.std.proofs.lemmas.List.{length-take, length-drop, drop-append-le, drop-drop, take-take, take-append-le, take-append-drop, set-append_left, set-append_right, take_all}
 use Rattle.std.proofs.lemmas.Nat.{div-add-mod'}
 use Rattle.std.proofs.Math.Nat.{mod-lt}
 use Rattle.std.proofs.lemmas.Grind.{div_ceil_times}
 use Rattle.std.proofs.lemmas.Bool.{cases_lt}
 use Rattle.ob_base.specs.Numbers.{blocks_for}
 use Rattle.ob_script.specs.Parts.{slots_in}
-use Rattle.ob_vault.proofs.RowsLemmas.{rows_room}
 use Rattle.ob_row.specs.Rows.{Row}
 use Rattle.ob_row.specs.Results.{RowTest}
 use Rattle.ob_row.specs.Slots.{Slots, is_selected}
 use Rattle.ob_blocks.specs.Blocks.{none_of, up_to, block_at, with_block, scanned}
-use Rattle.ob_blocks.proofs.Blocks.{take_blocks, scanned-append, length-before}
+use Rattle.ob_blocks.proofs.Blocks.{take_blocks, scanned-append}
 use Rattle.ob_flat.specs.Flats.{whole_blocks}
 use Rattle.ob_cont.specs.Putting.{put_if, put_at}
 use Rattle.ob_cont.proofs.Places.{within, length-put_if}

@@ -1,7 +1,7 @@
 -- Rows of a block of which one is written.
-use Rattle.std.proofs.Common.{◌≡◌, ◌≤◌, ◌<◌, ◌+◌, ℕ, List, [], Option, None, length, slice_index_or, slice_set, get_or-set_same, get_or-set_other, inl, inr, sym, ◌∙◌, ap, subst, arith}
+use Rattle.std.proofs.Common.{◌≡◌, ◌≤◌, ◌<◌, ℕ, List, [], Option, None, length, slice_index_or, slice_set, get_or-set_same, get_or-set_other, inl, inr, sym, ◌∙◌, ap, subst, arith}
 use Rattle.std.proofs.lemmas.List.{length-set, set_past}
-use Rattle.std.proofs.lemmas.Bool.{cases_eq, cases_lt}
+use Rattle.std.proofs.lemmas.Bool.{cases_eq}
 use Rattle.ob_base.specs.Schemas.{Columns}
 use Rattle.ob_vault.specs.Rows.{row_at}
 use Rattle.ob_row.specs.Rows.{Row}

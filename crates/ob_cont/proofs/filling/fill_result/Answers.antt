@@ -1,4 +1,4 @@
-use Rattle.std.proofs.Common.{◌≡◌, ◌≤◌, ◌<◌, ◌+◌, ◌*◌, ◌/◌, ◌%◌, min, ℕ, inl, inr, length, take, sym, ◌∙◌, ap, subst, arith}
+use Rattle.std.proofs.Common.{◌≡◌, ◌<◌, ◌*◌, ◌/◌, ◌%◌, min, ℕ, inl, inr, length, take, sym, ◌∙◌, ap, subst, arith}
 use Rattle.std.proofs.lemmas.List.{take_all}
 use Rattle.std.proofs.lemmas.Result.{err_from_is_err_and}
 use Rattle.ob_base.specs.Accesses.{read_at}
@@ -9,7 +9,6 @@ use Rattle.ob_script.specs.Parts.{slots_in, continuous_block}
 use Rattle.ob_store.proofs.Steps.{none_before}
 use Rattle.ob_vault.specs.Calls.{none, one}
 use Rattle.ob_vault.specs.Places.{at, RowsFit}
-use Rattle.ob_vault.proofs.RowsLemmas.{one_more}
 use Rattle.ob_vault.proofs.Runs.{went_each, went_join, went_wider, went_length, lives_went, written_went, tells_went, none_went, fit_same, fit_trans, may_get, seals_join}
 use Rattle.ob_row.specs.Slots.{Slots}
 use Rattle.ob_row.specs.Truth.{is_true}
@@ -20,7 +19,7 @@ use Rattle.ob_flat.proofs.Rows.{wide_same}
 use Rattle.ob_flat.proofs.Runs.{pass_of, pass_each, pass_more, pass_after, pass_wider}
 use Rattle.ob_flat.proofs.Tables.{blocks_hold, represents_lasts, slots_lasts, block_long, got}
 use Rattle.ob_cont.specs.Putting.{order_for, put_at, put_part}
-use Rattle.ob_cont.proofs.Counting.{block_inside, slots_next, spent, puts, wide_rows}
+use Rattle.ob_cont.proofs.Counting.{block_inside, slots_next, spent, wide_rows}
 use Rattle.ob_cont.proofs.Due.{due_read}
 use Rattle.ob_cont.proofs.Puts.{put_block_more}
 use Rattle.ob_cont.proofs.filling.fill_result.Goals as goal

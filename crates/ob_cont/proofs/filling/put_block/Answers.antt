@@ -1,5 +1,4 @@
-use Rattle.std.proofs.Common.{◌≡◌, ◌≤◌, ◌<◌, ◌+◌, ◌*◌, ◌/◌, ◌%◌, min, ℕ, Bool, List, Option, None, Ok, inl, inr, length, take, slice_index_or, sym, ◌∙◌, ap, subst, arith, below_more}
-use Rattle.std.proofs.lemmas.List.{take_all}
+use Rattle.std.proofs.Common.{◌≡◌, ◌≤◌, ◌+◌, ◌*◌, ◌/◌, ◌%◌, min, ℕ, Bool, None, inl, inr, length, take, slice_index_or, sym, ◌∙◌, ap, subst, arith, below_more}
 use Rattle.std.proofs.lemmas.Result.{err_from_is_err_and}
 use Rattle.ob_base.specs.Lists.{each}
 use Rattle.ob_base.specs.Schemas.{Columns, width}
@@ -9,7 +8,6 @@ use Rattle.ob_vault.specs.Calls.{Went, one}
 use Rattle.ob_vault.specs.Places.{at, RowsFit}
 use Rattle.ob_vault.proofs.RowsLemmas.{same_at}
 use Rattle.ob_vault.proofs.Runs.{went_each, went_length, tells_went, none_went, fit_same, fit_trans, seals_join}
-use Rattle.ob_row.specs.Rows.{Row}
 use Rattle.ob_row.specs.Slots.{Slots, is_selected}
 use Rattle.ob_row.specs.Spelling.{Begins}
 use Rattle.ob_row.specs.Truth.{is_true}

@@ -1,4 +1,3 @@
-use Rattle.std.proofs.Common.{arith}
 use Rattle.ob_cont.proofs.Rows.{slots_put, spelt_put, spelt_past}
 use Rattle.ob_cont.proofs.putting.put_in_block.Goals as goal
 

@@ -1,11 +1,11 @@
-use Rattle.std.proofs.Common.{◌≡◌, ◌≤◌, ◌+◌, ◌*◌, ◌/◌, ◌%◌, ℕ, Result, Ok, Err, MatchResult, inl, inr, length, ◌∙◌, ap, subst, arith}
+use Rattle.std.proofs.Common.{◌≤◌, ◌+◌, ◌*◌, ◌/◌, ◌%◌, Result, Ok, Err, MatchResult, inl, inr, length, ◌∙◌, ap, subst, arith}
 use Rattle.std.proofs.Math.Nat.{mod-lt}
 use Rattle.std.proofs.lemmas.Result.{IfErr-weaker, on_ok_weaker}
 use Rattle.ob_base.specs.Numbers.{blocks_for}
 use Rattle.ob_vault.specs.Places.{at}
 use Rattle.ob_vault.proofs.RowsLemmas.{rows_room}
 use Rattle.ob_row.specs.Slots.{Slots}
-use Rattle.ob_blocks.specs.Blocks.{block_at, with_block}
+use Rattle.ob_blocks.specs.Blocks.{with_block}
 use Rattle.ob_flat.specs.Flats.{HoldsSlots}
 use Rattle.ob_cont.specs.Putting.{order_for}
 use Rattle.ob_cont.proofs.Puts.{with_put, place_within}

@@ -1,4 +1,4 @@
-use Rattle.std.proofs.Common.{◌≡◌, ◌≤◌, ◌+◌, ◌*◌, ℕ, inl, inr, length, refl, sym, ◌∙◌, ap, subst, arith}
+use Rattle.std.proofs.Common.{◌*◌, inl, inr, length, refl, subst, arith}
 use Rattle.std.proofs.lemmas.Result.{err_from_is_err_and}
 use Rattle.ob_base.specs.Lists.{each}
 use Rattle.ob_base.specs.Numbers.{blocks_for}
@@ -6,7 +6,7 @@ use Rattle.ob_base.specs.Schemas.{width}
 use Rattle.ob_script.specs.Parts.{create_part, continuous_block}
 use Rattle.ob_vault.specs.Calls.{one}
 use Rattle.ob_vault.specs.Places.{at}
-use Rattle.ob_vault.proofs.Runs.{went_join, went_length, tells_went, none_went, lives_apart, seals_join, lasts_trans}
+use Rattle.ob_vault.proofs.Runs.{went_join, went_length, tells_went, lives_apart, seals_join, lasts_trans}
 use Rattle.ob_row.specs.Slots.{Slots, empty_slots}
 use Rattle.ob_row.specs.Truth.{is_true}
 use Rattle.ob_blocks.specs.Blocks.{none_of}
