@@ -5,7 +5,6 @@ use Rattle.std.proofs.lemmas.List.Elements as elements
 use Rattle.std.proofs.Math.Nat.{div-one, mod-add-mod, mod-eq_of_lt, mod-lt, mod_self}
 use Rattle.std.proofs.lemmas.Grind.{div_ceil_times}
 use Rattle.std.proofs.lemmas.Bool.{cases_eq}
-use Rattle.std.proofs.lemmas.Bool.Decides.{nat_tests}
 use Rattle.std.specs.List.{All}
 use Rattle.ob_base.specs.declared.access.Access.{Access}
 use Rattle.ob_base.specs.Numbers.{blocks_for}
@@ -23,12 +22,7 @@ use Rattle.ob_flat.specs.Slots.{FitsSlot}
 use Rattle.ob_flat.specs.Flats.{IsInTurn, IsWritten, HoldsSlots, Represents, table_region, whole_blocks}
 use Rattle.ob_flat.proofs.Tables.{represents_whole}
 use Rattle.ob_cont.specs.Putting.{order_for}
-
-same_test : (a b : ℕ) → a ≡ b → (a == b) ≡ true
-same_test a b same = grind (arith, nat_tests)
-
-other_test : (a b : ℕ) → a ≢ b → (a == b) ≡ false
-other_test a b other = grind (arith, nat_tests)
+use Rattle.ob_cont.proofs.Places.{same_test, other_test}
 
 -- the place after place i of k, round and round
 next_place : (k i : ℕ) → 1 ≤ k → (if (i % k) / 1 + 1 == blocks_for 1 k then 0 else (i % k) / 1 + 1) ≡ ((i + 1) % k) / 1

@@ -57,10 +57,11 @@ abbrev AreApart : ℕ → List ℕ → Type 0
 AreApart k [] = Unit {0}
 AreApart k (i ∷ is) = (find (λ j. j % k == i % k) is ≡ None) × AreApart k is
 
-same_test : (a b : ℕ) → a ≡ b → (a == b) ≡ true
+-- what a test of two numbers says
+pub same_test : (a b : ℕ) → a ≡ b → (a == b) ≡ true
 same_test a b same = grind (arith, nat_tests)
 
-other_test : (a b : ℕ) → a ≢ b → (a == b) ≡ false
+pub other_test : (a b : ℕ) → a ≢ b → (a == b) ≡ false
 other_test a b other = grind (arith, nat_tests)
 
 -- then each place has what was put there
