@@ -237,13 +237,7 @@ fn session<S: BlockStore, R: Revisions>(
     select_emit(rt, store, &mut vault, &mut room, &flat, case);
 }
 
-fn in_memory(
-    rt: &impl Abort,
-    alloc: Global,
-    pack: u32,
-    rows: &[(i64, i64)],
-    case: &Case<'_>,
-)
+fn in_memory(rt: &impl Abort, alloc: Global, pack: u32, rows: &[(i64, i64)], case: &Case<'_>)
     requires pack { (1 ≤ pack) × (pack ≤ 16) }
     requires number { (1 ≤ case.now.k) × (case.now.k ≤ 5) }
 {
@@ -263,6 +257,7 @@ fn in_packs(rt: &impl Abort, alloc: Global, rows: &[(i64, i64)], case: &Case<'_>
 }
 
 const MIDDLE: [(i64, i64); 5] = [(1, 0), (2, 7), (3, 7), (4, 7), (5, 0)];
+
 const ENDS: [(i64, i64); 5] = [(1, 7), (2, 0), (3, 7), (4, 0), (5, 7)];
 
 // Slots 1 to 3 of three places: the last goes round to place 0.

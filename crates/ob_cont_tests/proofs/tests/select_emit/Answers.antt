@@ -59,3 +59,8 @@ pub discard-requires-clause-ready : goal.discard-requires-clause-ready
 discard-requires-clause-ready g c =
     let went = rw c.expect-rows.ensures at c.emit_all.ensures.ok in
     ready_rests _ _ _ c.room-4.ensures.rests went.lasts.ready
+
+pub select-requires-clause-ready : goal.select-requires-clause-ready
+select-requires-clause-ready g c =
+    let went = rw c.expect-counted.ensures at c.count.ensures.ok in
+    ready_rests _ _ _ c.room-2.ensures.rests went.lasts.ready
