@@ -4,3 +4,4 @@ pub mod Due
 pub mod Rows
 pub mod Counting
 pub mod Opened
+mod Examples
