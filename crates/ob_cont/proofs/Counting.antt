@@ -1,0 +1,77 @@
+-- How many slots of a block have a place, and the accesses of their places.
+use Rattle.std.proofs.Common.{◌≡◌, ◌≤◌, ◌<◌, ◌+◌, ◌*◌, ℕ, zero, suc, min, length, refl, inl, inr, List, ◌++◌, sym, ◌∙◌, subst, arith, length-append, append_assoc}
+use Rattle.std.proofs.lemmas.Bool.{cases_lt}
+use Rattle.ob_base.specs.declared.access.Access.{Access}
+use Rattle.ob_base.specs.Lists.{each}
+use Rattle.ob_base.specs.Accesses.{read_at, write_at, make_at}
+use Rattle.ob_script.specs.Parts.{create_part, slots_in, continuous_block}
+use Rattle.ob_store.proofs.Steps.{length-each, parts}
+use Rattle.ob_base.specs.Numbers.{blocks_for}
+use Rattle.ob_vault.specs.State.{World}
+use Rattle.ob_vault.specs.Rows.{Wide}
+use Rattle.ob_vault.specs.Places.{RowsFit}
+use Rattle.ob_vault.proofs.RowsLemmas.{rows_room, one_more}
+use Rattle.ob_flat.specs.declared.fault.OpErr.{OpErr}
+use Rattle.ob_flat.specs.Passes.{PassCut}
+use Rattle.ob_flat.proofs.Rows.{wide_fit}
+use Rattle.ob_flat.proofs.Runs.{pass_more}
+use Rattle.ob_flat.proofs.Tables.{blocks_end}
+use Rattle.ob_cont.specs.Putting.{put_part}
+
+-- a slot below the capacity
+pub slot_inside : (pack n u z : ℕ) → z < pack → u * pack + z < n → z < slots_in pack n u
+slot_inside pack n u z below within = omega (arith, below, within)
+
+pub done_before : (all z : ℕ) → z < all → min z all ≡ z
+done_before all z inside = omega (arith, inside)
+
+pub done_after : (all z : ℕ) → z < all → min (z + 1) all ≡ z + 1
+done_after all z inside = omega (arith, inside)
+
+-- one behind it
+pub slot_past : (pack n u z : ℕ) → n ≤ u * pack + z → min (z + 1) (slots_in pack n u) ≡ min z (slots_in pack n u)
+slot_past pack n u z past = omega (arith, past)
+
+-- all slots of a block
+pub all_slots : (pack n u z : ℕ) → pack ≤ z → min z (slots_in pack n u) ≡ slots_in pack n u
+all_slots pack n u z past = omega (arith, past)
+
+pub puts : (g pack k u n : ℕ) → length (each n (put_part g pack k u)) ≡ 2 * n
+puts g pack k u n = length-each (put_part g pack k u) 2 (λ j. refl) n ∙ omega arith
+
+pub creates : (g n w : ℕ) → length (create_part g n w) ≡ 1 + n
+creates g n w = omega (arith, length-append (make_at g n w) (each n (write_at g)), length-each (write_at g) 1 (λ i. refl) n)
+
+-- each block has a slot below the capacity
+pub block_inside : (pack n u : ℕ) → 1 ≤ pack → u < blocks_for pack n → u * pack < n
+block_inside pack n u some below = omega (arith, blocks_end pack n some, rows_room u (blocks_for pack n) pack below)
+
+pub slots_next : (pack n u : ℕ) → u * pack < n → u * pack + slots_in pack n u ≡ min ((u + 1) * pack) n
+slots_next pack n u inside = omega (arith, one_more u pack, inside)
+
+-- after so many blocks
+pub spent : (t g pack n k u : ℕ) → length (each u (continuous_block t g pack n k)) ≡ u + 2 * min (u * pack) n
+spent t g pack n k zero = omega arith
+spent t g pack n k (suc u) =
+    let next : suc u * pack ≡ u * pack + pack = grind arith in
+    omega (
+      arith,
+      spent t g pack n k u,
+      next,
+      puts g pack k u (slots_in pack n u),
+      length-append (each u (continuous_block t g pack n k)) (continuous_block t g pack n k u),
+      length-append (read_at t u) (each (slots_in pack n u) (put_part g pack k u)),
+    )
+
+-- rows that fit a block are as wide as its schema
+pub wide_rows : (w pack : ℕ) (rows : List (List ℕ)) → length rows ≡ pack → RowsFit rows (pack * w) → Wide w rows
+wide_rows w pack rows same fit = wide_fit w rows (subst (λ (n : ℕ). RowsFit rows (n * w)) (sym same) fit)
+
+-- a pass that gave up behind one of its rounds, and before the next
+pub cut_early : (some : ℕ → Type 0) (part : ℕ → List Access) (a b : World) (e : OpErr) (n all : ℕ) → n ≤ all → PassCut e (each n part) some a b → PassCut e (each all part) some a b
+cut_early some part a b e n all within cut = elim (cases_lt n all) [
+  | inl less ↦
+      let p = parts part all n less in
+      subst (λ (l : List Access). PassCut e l some a b) (sym (p.split ∙ append_assoc (each n part) (part n) p.rest)) (pass_more some a b e (each n part) (part n ++ p.rest) cut)
+  | inr most ↦ let same : n ≡ all = omega (arith, most, within) in subst (λ (m : ℕ). PassCut e (each m part) some a b) same cut
+]

@@ -1,0 +1,137 @@
+use Rattle.std.proofs.Common.{◌*◌, inl, inr, length, refl, subst, arith}
+use Rattle.std.proofs.lemmas.Result.{err_from_is_err_and}
+use Rattle.ob_base.specs.Lists.{each}
+use Rattle.ob_base.specs.Numbers.{blocks_for}
+use Rattle.ob_base.specs.Schemas.{width}
+use Rattle.ob_script.specs.Parts.{create_part, continuous_block}
+use Rattle.ob_vault.specs.Calls.{one}
+use Rattle.ob_vault.specs.Places.{at}
+use Rattle.ob_vault.proofs.Runs.{went_join, went_length, tells_went, lives_apart, seals_join, lasts_trans}
+use Rattle.ob_row.specs.Slots.{Slots, empty_slots}
+use Rattle.ob_row.specs.Truth.{is_true}
+use Rattle.ob_blocks.specs.Blocks.{none_of}
+use Rattle.ob_flat.specs.declared.flat.Flat.{Flat}
+use Rattle.ob_flat.specs.Flats.{Represents, HoldsSlots, Accepts, whole_blocks}
+use Rattle.ob_flat.proofs.Runs.{pass_more, pass_after, pass_then}
+use Rattle.ob_flat.proofs.Tables.{blocks_few, flat_lasts, represents_lasts, holds_whole}
+use Rattle.ob_cont.specs.Putting.{put_slots}
+use Rattle.ob_cont.proofs.Counting.{creates}
+use Rattle.ob_cont.proofs.Due.{represents_held}
+use Rattle.ob_cont.proofs.Places.{length-put_slots}
+use Rattle.ob_cont.proofs.Puts.{put_whole}
+use Rattle.ob_cont.proofs.selecting.select_rows.Goals as goal
+
+pub returns-in_err-region-clause-err : goal.returns-in_err-region-clause-err
+returns-in_err-region-clause-err g c =
+    let p = err_from_is_err_and c.from_residual.result c.from_residual.ensures.1 in
+    let next = c.args.vault.now.next in
+    let pack = length c.args.held.now in
+    let n = c.args.flat.now.capacity in
+    rw (p.1, p.2) (pass_more (one next) _ _ _ (create_part next (blocks_for pack c.args.k) (pack * width c.args.flat.now.schema))
+    (each (blocks_for pack n) (continuous_block c.args.flat.now.region next pack n c.args.k)) c.in_err-region.ensures.err)
+
+pub returns-in_err-region-clause-source : goal.returns-in_err-region-clause-source
+returns-in_err-region-clause-source g c =
+    let off = lives_apart _ _ _ c.requires.ready c.requires.flat.made.lives in
+    flat_lasts (length c.args.held.now) c.args.flat.now (one c.args.vault.now.next) _ _ c.in_err-region.ensures.err.lasts off c.requires.flat
+
+pub fill_result-requires-clause-spare : goal.fill_result-requires-clause-spare
+fill_result-requires-clause-spare g c =
+    let pack = length c.args.held.now in
+    omega (arith, c.requires.spare, c.in_ok-region.ensures.ok.spare, creates c.args.vault.now.next (blocks_for pack c.args.k) (pack * width c.args.flat.now.schema))
+
+pub fill_result-requires-clause-few : goal.fill_result-requires-clause-few
+fill_result-requires-clause-few g c =
+    let pack = length c.args.held.now in
+    omega (
+      arith,
+      c.requires.few,
+      c.requires.number,
+      c.requires.size.most,
+      went_length _ _ _ _ c.in_ok-region.ensures.ok,
+      creates c.args.vault.now.next (blocks_for pack c.args.k) (pack * width c.args.flat.now.schema),
+      blocks_few pack c.args.k c.requires.pack.0,
+      blocks_few pack c.args.flat.now.capacity c.requires.pack.0,
+    )
+
+pub fill_result-requires-clause-flat : goal.fill_result-requires-clause-flat
+fill_result-requires-clause-flat g c =
+    let off = lives_apart _ _ _ c.requires.ready c.requires.flat.made.lives in
+    flat_lasts (length c.args.held.now) c.args.flat.now (one c.args.vault.now.next) _ _ c.in_ok-region.ensures.ok.lasts off c.requires.flat
+
+pub returns-in-Ok-clause-ok : goal.returns-in-Ok-clause-ok
+returns-in-Ok-clause-ok g c =
+    let next = c.args.vault.now.next in
+    let pack = length c.args.held.now in
+    let n = c.args.flat.now.capacity in
+    let filled = rw c.in_ok-region.ensures.number at c.in-Ok.ensures.ok in
+    went_join (one next) _ _ _ (create_part next (blocks_for pack c.args.k) (pack * width c.args.flat.now.schema))
+    (each (blocks_for pack n) (continuous_block c.args.flat.now.region next pack n c.args.k)) c.in_ok-region.ensures.ok filled
+
+pub returns-in-Ok-clause-source : goal.returns-in-Ok-clause-source
+returns-in-Ok-clause-source g c =
+    let next = c.args.vault.now.next in
+    let off = lives_apart _ _ _ c.requires.ready c.requires.flat.made.lives in
+    let filled = rw c.in_ok-region.ensures.number at c.in-Ok.ensures.ok in
+    flat_lasts (length c.args.held.now) c.args.flat.now (one next) _ _ (lasts_trans (one next) _ _ _ c.in_ok-region.ensures.ok.lasts filled.lasts) off c.requires.flat
+
+pub returns-in-Ok-clause-told : goal.returns-in-Ok-clause-told
+returns-in-Ok-clause-told g c = λ tells slots is nolie.
+    let pack = length c.args.held.now in
+    let k = c.args.k in
+    let p = is_true c.args.pred.now in
+    let fresh : Flat = record { schema = c.copied.result; capacity = k; region = c.in_ok-region.region } in
+    let off = lives_apart _ _ _ c.requires.ready c.requires.flat.made.lives in
+    let made = c.in_ok-region.ensures.ok in
+    let mid = represents_lasts pack c.args.flat.now (one c.args.vault.now.next) _ _ made.lasts off slots is in
+    let empty : Represents pack fresh (empty_slots k) (at g.R.Revisions.state c.create_blocks.new.vault (g.S.BlockStore.state c.create_blocks.new.store)) =
+    rw (c.copied.ensures, c.in_ok-region.ensures.number) (c.in_ok-region.ensures.told tells) in
+    let all = c.in-Ok.ensures.told (tells_went _ _ _ _ made tells) slots (whole_blocks pack k (none_of k)) mid (holds_whole pack fresh (empty_slots k) _ c.requires.pack.0 empty) nolie in
+    represents_held pack fresh (put_slots k p slots) _ (length-put_slots k p slots)
+    (subst (λ (l : Slots). HoldsSlots pack fresh l (at g.R.Revisions.state c.fill_result.new.vault (g.S.BlockStore.state c.fill_result.new.store)))
+    (put_whole k (blocks_for pack k * pack) 0 p (none_of k) slots c.requires.number.0 (Rattle.std.proofs.lemmas.List.length-replicate k _)) all)
+
+pub returns-in-Err-clause-err : goal.returns-in-Err-clause-err
+returns-in-Err-clause-err g c =
+    let next = c.args.vault.now.next in
+    let pack = length c.args.held.now in
+    let n = c.args.flat.now.capacity in
+    let number = c.in_ok-region.ensures.number in
+    let cut = rw number at c.in-Err.ensures.err in
+    let went = c.forget.ensures.went _ c.in-Err.ensures.err.lasts.ready in
+    let forgot = rw number at went in
+    pass_then (one next) _ _ _ _ _ (pass_after (one next) _ _ _ _ (create_part next (blocks_for pack c.args.k) (pack * width c.args.flat.now.schema))
+    (each (blocks_for pack n) (continuous_block c.args.flat.now.region next pack n c.args.k)) c.in_ok-region.ensures.ok cut) forgot refl
+
+pub returns-in-Err-clause-never : goal.returns-in-Err-clause-never
+returns-in-Err-clause-never g c =
+    let never = rw c.in_ok-region.ensures.number at c.in-Err.ensures.never in
+    elim never [ inl failed ↦ inl failed | inr tampered ↦ inr (inr tampered) ]
+
+pub returns-in-Err-clause-seals : goal.returns-in-Err-clause-seals
+returns-in-Err-clause-seals g c = λ good fine.
+    let fine' : Accepts good (length c.args.held.now) c.copied.result c.in_ok-region.region = rw (c.in_ok-region.ensures.number, c.copied.ensures) fine in
+    seals_join good _ _ _ c.in_ok-region.ensures.ok.lasts.later (c.create_blocks.ensures.seals good fine)
+    (seals_join good _ _ _ c.in-Err.ensures.err.lasts.later (c.fill_result.ensures.seals good fine') (c.forget.ensures.seals _ good))
+
+pub returns-in-Err-clause-source : goal.returns-in-Err-clause-source
+returns-in-Err-clause-source g c =
+    let next = c.args.vault.now.next in
+    let number = c.in_ok-region.ensures.number in
+    let off = lives_apart _ _ _ c.requires.ready c.requires.flat.made.lives in
+    let cut = rw number at c.in-Err.ensures.err in
+    let went = c.forget.ensures.went _ c.in-Err.ensures.err.lasts.ready in
+    let forgot = rw number at went in
+    flat_lasts (length c.args.held.now) c.args.flat.now (one next) _ _ (lasts_trans (one next) _ _ _ c.in_ok-region.ensures.ok.lasts (lasts_trans (one next) _ _ _ cut.lasts forgot.lasts)) off c.requires.flat
+
+pub returns-in-Err-clause-told : goal.returns-in-Err-clause-told
+returns-in-Err-clause-told g c = λ tells slots is nolie.
+    let pack = length c.args.held.now in
+    let k = c.args.k in
+    let fresh : Flat = record { schema = c.copied.result; capacity = k; region = c.in_ok-region.region } in
+    let off = lives_apart _ _ _ c.requires.ready c.requires.flat.made.lives in
+    let made = c.in_ok-region.ensures.ok in
+    let mid = represents_lasts pack c.args.flat.now (one c.args.vault.now.next) _ _ made.lasts off slots is in
+    let empty : Represents pack fresh (empty_slots k) (at g.R.Revisions.state c.create_blocks.new.vault (g.S.BlockStore.state c.create_blocks.new.store)) =
+    rw (c.copied.ensures, c.in_ok-region.ensures.number) (c.in_ok-region.ensures.told tells) in
+    inl (c.in-Err.ensures.told (tells_went _ _ _ _ made tells) slots (whole_blocks pack k (none_of k)) mid (holds_whole pack fresh (empty_slots k) _ c.requires.pack.0 empty) nolie)
