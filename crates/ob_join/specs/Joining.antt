@@ -1,0 +1,15 @@
+-- The slots that a join makes of those of its right table.
+use Rattle.std.specs.Prelude.{◌≡◌, ℕ, Bool, nat_lt, List, Option, Some, None, find, slice_index_or, if◌then◌else◌}
+use Rattle.ob_row.specs.Rows.{Row}
+use Rattle.ob_row.specs.Slots.{Slots, rows}
+use Rattle.ob_row.specs.Results.{joined_slot}
+
+-- the right slot of index x, joined with the first left row that agrees with it; those behind the capacity are empty
+abbrev pub joined_below : (i j : ℕ) → List Row → ℕ → ℕ → Option Row → Option Row
+joined_below i j left capacity x slot = if nat_lt x capacity then joined_slot i j left slot else None
+
+-- slot i has the first row that passes the test
+pub record IsPartner (p : Row → Bool) (slots : Slots) (i : ℕ) : Type 0 where
+  pub row : Row
+  pub is : slice_index_or slots i None ≡ Some row
+  pub found : find p (rows slots) ≡ Some row
