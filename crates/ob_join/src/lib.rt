@@ -2,4 +2,5 @@
 //! right row is joined with the first of them that agrees with it.
 #![tactic(auto)]
 
+mod collecting;
 mod joining;
