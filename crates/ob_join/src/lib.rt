@@ -4,3 +4,4 @@
 
 mod collecting;
 mod joining;
+mod pairing;
