@@ -16,7 +16,7 @@ use Rattle.ob_row.specs.Spelling.{Fits, Begins, cells_width, cell_bytes, cells_b
 pub width-join : (l r : Columns) → width (l ++ r) + 1 ≡ width l + width r
 width-join l r = omega (arith, sum_by-append (λ (c : Column). kind_width c.kind) l r)
 
-fits-join : (l r : Columns) (a b : Row) → Fits l a → Fits r b → Fits (l ++ r) (a ++ b)
+pub fits-join : (l r : Columns) (a b : Row) → Fits l a → Fits r b → Fits (l ++ r) (a ++ b)
 fits-join [] r [] b h k = k
 fits-join [] r (x ∷ a) b h k = absurd h
 fits-join (c ∷ l) r [] b h k = absurd h

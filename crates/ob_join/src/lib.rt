@@ -3,5 +3,6 @@
 #![tactic(auto)]
 
 mod collecting;
+mod filling;
 mod joining;
 mod pairing;

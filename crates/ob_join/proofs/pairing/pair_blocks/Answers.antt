@@ -20,7 +20,7 @@ use Rattle.ob_flat.proofs.Runs.{pass_of, pass_each, pass_malformed, pass_more, p
 use Rattle.ob_flat.proofs.Tables.{accepted, joined_block, index_fits, represents_lasts, block_long, got}
 use Rattle.ob_join.specs.Joining.{joined_below}
 use Rattle.ob_join.proofs.Chunks.{chunk_block, pairs_length}
-use Rattle.ob_join.proofs.Filling.{filling_at, holds_at, filling_read, filling_turn, filling_more, holds_read, holds_more}
+use Rattle.ob_join.proofs.Places.{filling_at, holds_at, filling_read, filling_turn, filling_more, holds_read, holds_more}
 use Rattle.ob_join.proofs.pairing.pair_blocks.Goals as goal
 
 -- the joined rows are some slots'
