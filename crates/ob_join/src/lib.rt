@@ -6,3 +6,6 @@ mod collecting;
 mod filling;
 mod joining;
 mod pairing;
+mod tables;
+
+pub use tables::join;
