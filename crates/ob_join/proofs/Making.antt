@@ -1,7 +1,7 @@
 -- The region of a joined table.
 use Rattle.std.proofs.Common.{◌≡◌, ◌+◌, ◌*◌, ◌++◌, ◌≤◌, ℕ, List, length, sym, ◌∙◌, ap, subst, arith}
 use Rattle.std.specs.Int.{div_ceil}
-use Rattle.std.specs.Prelude.{sum_by}
+use Rattle.std.specs.Prelude.{◌⊎◌, Result, MatchResult}
 use Rattle.ob_base.specs.declared.access.Access.{Access}
 use Rattle.ob_base.specs.Accesses.{make_at}
 use Rattle.ob_base.specs.Joins.{chunks}
@@ -13,6 +13,9 @@ use Rattle.ob_vault.specs.Calls.{Went}
 use Rattle.ob_row.specs.Slots.{Slots}
 use Rattle.ob_row.specs.Results.{joined}
 use Rattle.ob_flat.specs.declared.fault.OpErr.{OpErr}
+use Rattle.ob_flat.specs.declared.fault.OpErr.TheVariants as OpErrs
+use Rattle.ob_flat.specs.declared.flat.Flat.{Flat}
+use Rattle.ob_flat.specs.Flats.{Represents}
 use Rattle.ob_flat.specs.Passes.{PassCut}
 use Rattle.ob_join.specs.Joining.{joined_in}
 use Rattle.ob_join.proofs.Pairs.{width-join}
@@ -51,3 +54,8 @@ pub joined_is : (i j pack room n m : ℕ) (left right : Slots) → length left �
 joined_is i j pack room n m left right first second =
     ap (λ (k : ℕ). joined_in i j (pack * buffered_blocks pack room) (chunks pack room k) (blocks_for pack m * pack) left right) (sym first)
     ∙ ap (λ (k : ℕ). joined_in i j (pack * buffered_blocks pack room) (chunks pack room (length left)) (blocks_for pack k * pack) left right) (sym second)
+
+-- a result has other slots where these are the same
+pub told_is : (pack : ℕ) (r : Result Flat OpErr) (x y : Slots) (w : World) → x ≡ y
+    → MatchResult r (λ fresh. Represents pack fresh x w) (λ e. (e ≡ OpErrs.Failed) ⊎ (e ≡ OpErrs.NoMemory)) → MatchResult r (λ fresh. Represents pack fresh y w) (λ e. (e ≡ OpErrs.Failed) ⊎ (e ≡ OpErrs.NoMemory))
+told_is pack r x y w same told = subst (λ (l : Slots). MatchResult r (λ fresh. Represents pack fresh l w) (λ e. (e ≡ OpErrs.Failed) ⊎ (e ≡ OpErrs.NoMemory))) same told
