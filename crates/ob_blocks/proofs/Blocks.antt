@@ -1,11 +1,12 @@
 -- Blocks of r slots.
-use Rattle.std.proofs.Common.{◌≡◌, ◌≤◌, ◌<◌, ◌+◌, ◌*◌, ◌-◌, ℕ, zero, suc, Bool, List, [], ◌∷◌, ◌++◌, Option, Some, None, length, replicate, map, take, drop, count_by, slice_index_or, if◌then◌else◌, refl, sym, ◌∙◌, ap, arith, length-append}
-use Rattle.std.proofs.lemmas.List.{length-replicate, length-take, length-drop, take_all, take_more, drop-replicate}
+use Rattle.std.proofs.Common.{◌≡◌, ◌≤◌, ◌<◌, ◌+◌, ◌*◌, ◌-◌, ℕ, zero, suc, Bool, List, [], ◌∷◌, ◌++◌, Option, Some, None, length, replicate, map, take, drop, count_by, slice_index_or, if◌then◌else◌, refl, sym, ◌∙◌, ap, arith, length-append, append_assoc}
+use Rattle.std.proofs.lemmas.List.{length-replicate, length-take, length-drop, take_all, take_more, drop-replicate, take-append-drop, take-append-le, drop-append-le}
 use Rattle.std.proofs.lemmas.List.Sums.{sum_by-append, sum_by-cons}
 use Rattle.std.proofs.lemmas.List.Elements as elements
-use Rattle.std.proofs.Math.Seq.{take-add}
+use Rattle.std.proofs.lemmas.Slice.{drop-append-drop}
+use Rattle.std.proofs.Math.Seq.{take-add, take-append_seam, drop-append_seam}
 use Rattle.std.specs.List.{All}
-use Rattle.ob_blocks.specs.Blocks.{none_of, up_to, block_at, scanned}
+use Rattle.ob_blocks.specs.Blocks.{none_of, up_to, block_at, with_block, scanned}
 
 -- the elements up to the next block
 pub take_blocks : {A : Type 0} (r : ℕ) (all : List A) (u : ℕ) → take ((u + 1) * r) all ≡ take (u * r) all ++ block_at r all u
@@ -24,6 +25,50 @@ length-before r all u blocks below size =
 
 pub all_block : {A : Type 0} (P : A → Type 0) (r : ℕ) (all : List A) (u : ℕ) → All P all → All P (block_at r all u)
 all_block P r all u is = elements.All-take P r (drop (u * r) all) (elements.All-drop P (u * r) all is)
+
+-- a list with another block p
+module _ {A : Type 0} (r blocks : ℕ) (all : List A) (size : length all ≡ blocks * r) (p : ℕ) (below : p < blocks) (block : List A) (whole : length block ≡ r) where
+  before : length (take (p * r) all) ≡ p * r
+  before = length-before r all p blocks (omega (arith, below)) size
+
+  next : (p + 1) * r ≡ p * r + r
+  next = grind arith
+
+  fits : p * r + r ≤ blocks * r
+  fits = let room : (p + 1) * r ≤ blocks * r = grind arith in omega (arith, room, next)
+
+  pub length-with_block : length (with_block r all p block) ≡ blocks * r
+  length-with_block =
+      omega (arith, before, whole, size, next, fits, length-append (take (p * r) all) (block ++ drop ((p + 1) * r) all), length-append block (drop ((p + 1) * r) all), length-drop ((p + 1) * r) all)
+
+  pub block_same : block_at r (with_block r all p block) p ≡ block
+  block_same =
+      let tail = drop ((p + 1) * r) all in
+      ap (λ (n : ℕ). take r (drop n (with_block r all p block))) (sym before)
+      ∙ ap (take r) (drop-append_seam (take (p * r) all) (block ++ tail))
+      ∙ ap (λ (n : ℕ). take n (block ++ tail)) (sym whole) ∙ take-append_seam block tail
+
+  one_before : (x : ℕ) (ys : List A) → x < p → block_at r (take (p * r) all ++ ys) x ≡ take r (drop (x * r) (take (p * r) all))
+  one_before x ys earlier =
+      let room : x * r + r ≤ p * r = (let step : (x + 1) * r ≤ p * r = grind arith in let one : (x + 1) * r ≡ x * r + r = grind arith in omega (arith, step, one)) in
+      ap (take r) (drop-append-le (x * r) (take (p * r) all) ys (omega (arith, room, before)))
+      ∙ take-append-le r (drop (x * r) (take (p * r) all)) ys (omega (arith, room, before, length-drop (x * r) (take (p * r) all)))
+
+  pub block_before : (x : ℕ) → x < p → block_at r (with_block r all p block) x ≡ block_at r all x
+  block_before x earlier =
+      one_before x (block ++ drop ((p + 1) * r) all) earlier ∙ sym (one_before x (drop (p * r) all) earlier) ∙ ap (λ (l : List A). block_at r l x) (take-append-drop (p * r) all)
+
+  pub block_after : (x : ℕ) → p < x → block_at r (with_block r all p block) x ≡ block_at r all x
+  block_after x later =
+      let room : (p + 1) * r ≤ x * r = grind arith in
+      let front : length (take (p * r) all ++ block) ≡ (p + 1) * r = omega (arith, before, whole, next, length-append (take (p * r) all) block) in
+      ap (λ (l : List A). block_at r l x) (sym (append_assoc (take (p * r) all) block (drop ((p + 1) * r) all)))
+      ∙ ap (take r) (drop-append-drop ((p + 1) * r) all (take (p * r) all ++ block) (x * r) room front)
+
+  pub all_with_block : (P : A → Type 0) → All P all → All P block → All P (with_block r all p block)
+  all_with_block P is here =
+      elements.All-append P (take (p * r) all) (block ++ drop ((p + 1) * r) all) (elements.All-take P (p * r) all is)
+      (elements.All-append P block (drop ((p + 1) * r) all) here (elements.All-drop P ((p + 1) * r) all is))
 
 module _ {A : Type 0} where
   pub length-up_to : (n : ℕ) (slots : List (Option A)) → length slots ≤ n → length (up_to n slots) ≡ n

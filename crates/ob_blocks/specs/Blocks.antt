@@ -13,6 +13,10 @@ up_to n slots = slots ++ none_of (n - length slots)
 abbrev pub block_at : {A : Type 0} → ℕ → List A → ℕ → List A
 block_at r all p = take r (drop (p * r) all)
 
+-- the list with these slots in the place of block p
+abbrev pub with_block : {A : Type 0} → ℕ → List A → ℕ → List A → List A
+with_block r all p block = take (p * r) all ++ (block ++ drop ((p + 1) * r) all)
+
 -- f of the index and what stands there, for each slot, counted from i
 abbrev pub map_at : {A B : Type 0} → (ℕ → A → B) → ℕ → List A → List B
 map_at f i [] = []

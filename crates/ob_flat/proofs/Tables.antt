@@ -1,5 +1,5 @@
 -- Tables in the vault and its store.
-use Rattle.std.proofs.Common.{◌≡◌, ◌≤◌, ◌<◌, ◌+◌, ◌*◌, ◌/◌, ℕ, Bool, IsTrue, List, Option, None, length, refl, sym, ◌∙◌, ap, subst, arith}
+use Rattle.std.proofs.Common.{◌≡◌, ◌≢◌, ◌≤◌, ◌<◌, ◌+◌, ◌*◌, ◌/◌, inl, inr, ℕ, Bool, IsTrue, List, Option, None, length, refl, sym, ◌∙◌, ap, subst, arith}
 use Rattle.std.proofs.lemmas.Grind.{div_ceil_times}
 use Rattle.std.specs.List.{All}
 use Rattle.ob_base.specs.Lists.{each}
@@ -11,19 +11,20 @@ use Rattle.ob_vault.specs.Tied.{Holds}
 use Rattle.ob_base.specs.Schemas.{Columns, width}
 use Rattle.ob_store.proofs.Steps.{length-each}
 use Rattle.ob_vault.specs.State.{World}
-use Rattle.ob_vault.specs.Calls.{Lasts}
+use Rattle.ob_vault.specs.Calls.{Lasts, Only}
 use Rattle.ob_vault.specs.Rows.{joined, Wide}
 use Rattle.ob_vault.proofs.RowsLemmas.{rows_room}
-use Rattle.ob_vault.proofs.Runs.{lives_lasts, written_lasts, holds_lasts, turn_lasts}
+use Rattle.ob_vault.proofs.Runs.{lives_lasts, written_lasts as place_lasts, holds_lasts, turn_lasts, holds_only, holds_rows}
 use Rattle.std.proofs.lemmas.List.{length-replicate}
 use Rattle.std.proofs.lemmas.List.Elements.{All-replicate}
-use Rattle.ob_blocks.specs.Blocks.{block_at, map_at, none_of}
+use Rattle.ob_blocks.specs.Blocks.{block_at, with_block, map_at, none_of}
 use Rattle.ob_blocks.proofs.Changes.{length-map_at, all-map_at, map_at-up_to}
-use Rattle.ob_blocks.proofs.Blocks.{length-up_to, length-block, all_up_to, all_block, block_none}
+use Rattle.ob_blocks.proofs.Blocks.{length-up_to, length-block, all_up_to, all_block, block_none, length-with_block, all_with_block, block_same, block_before, block_after}
+use Rattle.std.proofs.lemmas.Bool.{cases_eq, cases_lt}
 use Rattle.ob_flat.specs.declared.flat.Flat.{Flat}
 use Rattle.ob_row.specs.Slots.{Slots, empty_slots}
 use Rattle.ob_flat.specs.Slots.{FitsSlot, Spelt, AreSlots, block_bytes}
-use Rattle.ob_flat.specs.Flats.{IsMade, IsFlat, Represents, Accepts, whole_blocks}
+use Rattle.ob_flat.specs.Flats.{IsSized, FitsRegion, IsMade, IsFlat, IsWritten, HoldsSlots, Represents, Accepts, whole_blocks}
 use Rattle.ob_flat.proofs.Rows.{spelt_joined, joined_spelt, spelt_fits, width_each, block_size}
 
 -- how many accesses the reads of a table are
@@ -47,35 +48,100 @@ module _ (pack : ℕ) (flat : Flat) (some : ℕ → Type 0) (a b : World) (lasts
   made_lasts is = record { order = is.order; lives = lives_lasts some a b lasts _ _ off is.lives; turn = turn_lasts some a b lasts _ _ off is.turn }
 
   pub flat_lasts : IsFlat pack flat a → IsFlat pack flat b
-  flat_lasts is = record { made = made_lasts is.made; written = λ p below. written_lasts some a b lasts flat.region p off (is.written p below) }
+  flat_lasts is = record { made = made_lasts is.made; written = λ p below. place_lasts some a b lasts flat.region p off (is.written p below) }
+
+  pub written_lasts : IsWritten pack flat a → IsWritten pack flat b
+  written_lasts is = record { order = is.order; lives = lives_lasts some a b lasts _ _ off is.lives; written = λ p below. place_lasts some a b lasts flat.region p off (is.written p below) }
+
+  pub slots_lasts : (slots : Slots) → HoldsSlots pack flat slots a → HoldsSlots pack flat slots b
+  slots_lasts slots is = record { size = is.size; fits = is.fits; holds = λ p below. holds_lasts some a b lasts flat.region p _ off (is.holds p below) }
 
   pub represents_lasts : (slots : Slots) → Represents pack flat slots a → Represents pack flat slots b
   represents_lasts slots is = record { size = is.size; fits = is.fits; holds = λ p below. holds_lasts some a b lasts flat.region p _ off (is.holds p below) }
 
-module _ (pack : ℕ) (flat : Flat) (slots : Slots) (w : World) (is : Represents pack flat slots w) (some : 1 ≤ pack) where
-  pub whole_size : length (whole_blocks pack flat.capacity slots) ≡ blocks_for pack flat.capacity * pack
-  whole_size = length-up_to _ slots (omega (arith, is.size, blocks_hold pack flat.capacity some))
+-- a table's slots fit a region
+pub fits_sized : (pack : ℕ) (columns : Columns) (capacity : ℕ) → 1 ≤ pack → IsSized columns capacity → FitsRegion pack columns capacity
+fits_sized pack columns capacity some is = record { some = is.some; few = is.few; wide = is.wide; least = is.least; blocks = omega (arith, blocks_few pack capacity some, is.most) }
 
-  pub whole_fits : All (FitsSlot flat.schema) (whole_blocks pack flat.capacity slots)
-  whole_fits = all_up_to (FitsSlot flat.schema) _ slots tt is.fits
+-- and so do the indices of the slots of a block
+pub index_in : (pack blocks u : ℕ) → pack ≤ 16 → blocks ≤ 134217728 → u < blocks → u * pack + pack ≤ 2147483648
+index_in pack blocks u few most below =
+    let room : u * pack + pack ≤ blocks * pack = rows_room u blocks pack below in
+    let all : blocks * pack ≤ 134217728 * 16 = grind arith in
+    omega (arith, room, all)
 
+-- a table may be read
+pub written_flat : (pack : ℕ) (flat : Flat) (w : World) → IsFlat pack flat w → IsWritten pack flat w
+written_flat pack flat w is = record { order = is.made.order; lives = is.made.lives; written = is.written }
+
+-- the blocks of a region that has these slots
+module _ (pack : ℕ) (flat : Flat) (slots : Slots) (w : World) (is : HoldsSlots pack flat slots w) (some : 1 ≤ pack) where
   -- a block has `pack` slots, and the bytes of as many rows
-  pub block_slots : (u : ℕ) → u < blocks_for pack flat.capacity → length (block_at pack (whole_blocks pack flat.capacity slots) u) ≡ pack
-  block_slots u below = length-block pack (whole_blocks pack flat.capacity slots) u _ below whole_size
+  pub slots_block : (u : ℕ) → u < blocks_for pack flat.capacity → length (block_at pack slots u) ≡ pack
+  slots_block u below = length-block pack slots u _ below is.size
 
-  pub block_fits : (u : ℕ) → All (FitsSlot flat.schema) (block_at pack (whole_blocks pack flat.capacity slots) u)
-  block_fits u = all_block (FitsSlot flat.schema) pack (whole_blocks pack flat.capacity slots) u whole_fits
+  pub slots_fit : (u : ℕ) → All (FitsSlot flat.schema) (block_at pack slots u)
+  slots_fit u = all_block (FitsSlot flat.schema) pack slots u is.fits
 
-  pub block_long : (u : ℕ) → u < blocks_for pack flat.capacity → length (block_bytes flat.schema (block_at pack (whole_blocks pack flat.capacity slots) u)) ≡ pack * width flat.schema
-  block_long u below = block_size flat.schema _ (block_fits u) ∙ ap (λ (n : ℕ). n * width flat.schema) (block_slots u below)
+  pub slots_long : (u : ℕ) → u < blocks_for pack flat.capacity → length (block_bytes flat.schema (block_at pack slots u)) ≡ pack * width flat.schema
+  slots_long u below = block_size flat.schema _ (slots_fit u) ∙ ap (λ (n : ℕ). n * width flat.schema) (slots_block u below)
 
   -- the rows of a block that was read spell its slots
+  pub slots_got : (u n : ℕ) (rows : List (List ℕ)) → u < blocks_for pack flat.capacity → n ≡ pack → length rows ≡ pack → Wide (width flat.schema) rows
+      → joined ((pack * width flat.schema) / n) rows ≡ block_bytes flat.schema (block_at pack slots u) → Spelt flat.schema (block_at pack slots u) rows
+  slots_got u n rows below same size wide bytes =
+      let each : (pack * width flat.schema) / n ≡ width flat.schema = ap (λ (k : ℕ). (pack * width flat.schema) / k) same ∙ width_each pack (width flat.schema) some in
+      spelt_joined flat.schema _ rows wide (slots_block u below ∙ sym size) (slots_fit u) (ap (λ (w : ℕ). joined w rows) (sym each) ∙ bytes)
+
+  -- another block was written
+  pub slots_put : (v : World) (place : ℕ) (block : Slots) → place < blocks_for pack flat.capacity → length block ≡ pack → All (FitsSlot flat.schema) block
+      → Only flat.region place w v → Holds flat.region place (block_bytes flat.schema block) v → HoldsSlots pack flat (with_block pack slots place block) v
+  slots_put v place block below whole fits only here = record {
+    size = length-with_block pack _ slots is.size place below block whole;
+    fits = all_with_block pack _ slots is.size place below block whole (FitsSlot flat.schema) is.fits fits;
+    holds = λ p inside. elim (cases_eq p place) [
+      | inl same ↦ subst (λ (x : ℕ). Holds flat.region x (block_bytes flat.schema (block_at pack (with_block pack slots place block) x)) v) (sym same)
+          (holds_rows _ _ _ _ _ (ap (block_bytes flat.schema) (sym (block_same pack _ slots is.size place below block whole))) here)
+      | inr other ↦
+          let was = holds_only _ _ _ _ only flat.region p _ (λ _ at. other at) (is.holds p inside) in
+          holds_rows _ _ _ _ _ (ap (block_bytes flat.schema) (sym (elsewhere p other))) was
+    ];
+  }
+    where
+      elsewhere : (p : ℕ) → p ≢ place → block_at pack (with_block pack slots place block) p ≡ block_at pack slots p
+      elsewhere p other = elim (cases_lt p place) [
+        | inl earlier ↦ block_before pack _ slots is.size place below block whole p earlier
+        | inr later ↦ block_after pack _ slots is.size place below block whole p (omega (arith, later, other))
+      ]
+
+-- the slots of a table and of its region
+pub holds_whole : (pack : ℕ) (flat : Flat) (slots : Slots) (w : World) → 1 ≤ pack → Represents pack flat slots w → HoldsSlots pack flat (whole_blocks pack flat.capacity slots) w
+holds_whole pack flat slots w some is = record {
+  size = length-up_to _ slots (omega (arith, is.size, blocks_hold pack flat.capacity some));
+  fits = all_up_to (FitsSlot flat.schema) _ slots tt is.fits;
+  holds = is.holds;
+}
+
+pub represents_whole : (pack : ℕ) (flat : Flat) (slots : Slots) (w : World) → length slots ≡ flat.capacity → All (FitsSlot flat.schema) slots → HoldsSlots pack flat (whole_blocks pack flat.capacity slots) w → Represents pack flat slots w
+represents_whole pack flat slots w size fits is = record { size = size; fits = fits; holds = is.holds }
+
+module _ (pack : ℕ) (flat : Flat) (slots : Slots) (w : World) (is : Represents pack flat slots w) (some : 1 ≤ pack) where
+  pub whole_size : length (whole_blocks pack flat.capacity slots) ≡ blocks_for pack flat.capacity * pack
+  whole_size = (holds_whole pack flat slots w some is).size
+
+  pub block_fits : (u : ℕ) → All (FitsSlot flat.schema) (block_at pack (whole_blocks pack flat.capacity slots) u)
+  block_fits u = slots_fit pack flat _ w (holds_whole pack flat slots w some is) some u
+
+  pub block_slots : (u : ℕ) → u < blocks_for pack flat.capacity → length (block_at pack (whole_blocks pack flat.capacity slots) u) ≡ pack
+  block_slots u below = slots_block pack flat _ w (holds_whole pack flat slots w some is) some u below
+
+  pub block_long : (u : ℕ) → u < blocks_for pack flat.capacity → length (block_bytes flat.schema (block_at pack (whole_blocks pack flat.capacity slots) u)) ≡ pack * width flat.schema
+  block_long u below = slots_long pack flat _ w (holds_whole pack flat slots w some is) some u below
+
   pub got : (u n : ℕ) (rows : List (List ℕ)) → u < blocks_for pack flat.capacity → n ≡ pack → length rows ≡ pack → Wide (width flat.schema) rows
       → joined ((pack * width flat.schema) / n) rows ≡ block_bytes flat.schema (block_at pack (whole_blocks pack flat.capacity slots) u)
       → Spelt flat.schema (block_at pack (whole_blocks pack flat.capacity slots) u) rows
-  got u n rows below same size wide bytes =
-      let each : (pack * width flat.schema) / n ≡ width flat.schema = ap (λ (k : ℕ). (pack * width flat.schema) / k) same ∙ width_each pack (width flat.schema) some in
-      spelt_joined flat.schema _ rows wide (block_slots u below ∙ sym size) (block_fits u) (ap (λ (w : ℕ). joined w rows) (sym each) ∙ bytes)
+  got u n rows below same size wide bytes = slots_got pack flat _ w (holds_whole pack flat slots w some is) some u n rows below same size wide bytes
 
 -- the accesses of a copy
 pub copies : (q g n : ℕ) → length (each n (copy_at q g)) ≡ 2 * n

@@ -43,6 +43,18 @@ pub record IsFlat (pack : ℕ) (flat : Flat) (w : World) : Type 0 where
   pub made : IsMade pack flat w
   pub written : (p : ℕ) → p < blocks_for pack flat.capacity → Written flat.region p w
 
+-- it is live in whichever order, and each of its places was written
+pub record IsWritten (pack : ℕ) (flat : Flat) (w : World) : Type 0 where
+  pub order : Order
+  pub lives : Lives flat.region (table_region order pack flat.schema flat.capacity) w
+  pub written : (p : ℕ) → p < blocks_for pack flat.capacity → Written flat.region p w
+
+-- and in this order a write to this place is in turn
+pub record IsInTurn (order : Order) (pack : ℕ) (flat : Flat) (place : ℕ) (w : World) : Type 0 where
+  pub lives : Lives flat.region (table_region order pack flat.schema flat.capacity) w
+  pub turn : OnTurn flat.region (table_region order pack flat.schema flat.capacity) place w
+  pub written : (p : ℕ) → p < blocks_for pack flat.capacity → Written flat.region p w
+
 -- the slots, and empty ones up to the end of the last block
 abbrev pub whole_blocks : ℕ → ℕ → Slots → Slots
 whole_blocks pack capacity slots = up_to (blocks_for pack capacity * pack) slots
@@ -53,6 +65,12 @@ pub record Represents (pack : ℕ) (flat : Flat) (slots : Slots) (w : World) : T
   pub fits : All (FitsSlot flat.schema) slots
   pub holds : (p : ℕ) → p < blocks_for pack flat.capacity
       → Holds flat.region p (block_bytes flat.schema (block_at pack (whole_blocks pack flat.capacity slots) p)) w
+
+-- its blocks are those of these slots, which fill them
+pub record HoldsSlots (pack : ℕ) (flat : Flat) (slots : Slots) (w : World) : Type 0 where
+  pub size : length slots ≡ blocks_for pack flat.capacity * pack
+  pub fits : All (FitsSlot flat.schema) slots
+  pub holds : (p : ℕ) → p < blocks_for pack flat.capacity → Holds flat.region p (block_bytes flat.schema (block_at pack slots p)) w
 
 -- blocks of `pack` rows or dummies are good for a region
 pub record Accepts (good : ℕ → List ℕ → Bool) (pack : ℕ) (columns : Columns) (region : ℕ) : Type 0 where
