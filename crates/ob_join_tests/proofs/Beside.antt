@@ -1,28 +1,31 @@
 -- A table beside another that changes, and what a join of few slots asks.
-use Rattle.std.proofs.Common.{◌≡◌, ◌≢◌, ◌≤◌, ◌+◌, ◌*◌, ℕ, List, inl, inr, sym, ◌∙◌, arith}
+use Rattle.std.proofs.Common.{◌≡◌, ◌≢◌, ◌≤◌, ◌<◌, ◌+◌, ◌*◌, ℕ, zero, suc, List, [], ◌∷◌, ◌++◌, length, slice_index_or, inl, inr, arith, length-append}
 use Rattle.std.specs.Int.{div_ceil}
 use Rattle.ob_base.specs.declared.access.Access.{Access}
 use Rattle.ob_base.specs.Joins.{chunks, joined_blocks, joined_slots}
 use Rattle.ob_base.specs.Limits.{buffered_blocks}
 use Rattle.ob_base.specs.Numbers.{blocks_for}
+use Rattle.ob_base.specs.Schemas.{Columns, width}
 use Rattle.ob_vault.specs.State.{World}
 use Rattle.ob_vault.specs.Tied.{Ready}
 use Rattle.ob_vault.specs.Calls.{Went, one, two}
 use Rattle.ob_vault.proofs.Runs.{lives_apart}
 use Rattle.ob_flat.specs.declared.flat.Flat.{Flat}
-use Rattle.ob_flat.specs.Flats.{IsFlat}
+use Rattle.ob_flat.specs.Flats.{IsSized, IsFlat}
 use Rattle.ob_flat.proofs.Tables.{flat_lasts, blocks_few}
+use Rattle.ob_join.proofs.Pairs.{width-join}
+
+-- it lies in no region that is made
+pub beside_made : (pack : ℕ) (other : Flat) (a : World) → Ready a → IsFlat pack other a → other.region ≢ a.vault.next
+beside_made pack other a ready is = lives_apart _ _ a ready is.made.lives
 
 module _ (pack : ℕ) (other : Flat) (a b : World) (x : List Access) (ready : Ready a) (is : IsFlat pack other a) where
-  -- it lies in no region that is made
-  pub beside_made : other.region ≢ a.vault.next
-  beside_made = lives_apart _ _ a ready is.made.lives
-
   pub flat_made : Went x (one a.vault.next) a b → IsFlat pack other b
-  flat_made went = flat_lasts pack other (one a.vault.next) a b went.lasts beside_made is
+  flat_made went = flat_lasts pack other (one a.vault.next) a b went.lasts (beside_made pack other a ready is) is
 
   pub flat_beside : (region : ℕ) → other.region ≢ region → Went x (two region a.vault.next) a b → IsFlat pack other b
-  flat_beside region apart went = flat_lasts pack other (two region a.vault.next) a b went.lasts (λ s. elim s [ inl same ↦ apart same | inr same ↦ beside_made same ]) is
+  flat_beside region apart went =
+      flat_lasts pack other (two region a.vault.next) a b went.lasts (λ s. elim s [ inl same ↦ apart same | inr same ↦ beside_made pack other a ready is same ]) is
 
 few_times : (a b n m : ℕ) → a ≤ n → b ≤ m → a * b ≤ n * m
 few_times a b n m first second = grind arith
@@ -63,3 +66,20 @@ module _ (pack rows n m : ℕ) (some : 1 ≤ pack) (few : pack ≤ 16) (enough :
   some_slots = least_times (joined_blocks pack rows n m) pack
       (least_times (chunks pack rows n) (blocks_for pack m)
       (some_of (blocks_for pack n) (buffered_blocks pack rows) (buffered_some pack rows some enough) (some_of n pack some first.0)) (some_of m pack some second.0)) some
+
+  pub joined_sized : (l r : Columns) → length l ≡ 2 → length r ≡ 2 → width l ≡ 17 → width r ≡ 17 → IsSized (l ++ r) (joined_slots pack rows n m)
+  joined_sized l r two_left two_right left right = record {
+    some = omega (arith, length-append l r, two_left, two_right);
+    few = omega (arith, length-append l r, two_left, two_right);
+    wide = omega (arith, width-join l r, left, right);
+    least = some_slots;
+    most = omega (arith, few_slots);
+  }
+
+-- the first four columns
+pub within_four : (n : ℕ) → n ≡ 4 → (k d : ℕ) → k < 4 → slice_index_or (0 ∷ 1 ∷ 2 ∷ 3 ∷ []) k d < n
+within_four n four zero d below = omega (arith, four)
+within_four n four (suc zero) d below = omega (arith, four)
+within_four n four (suc (suc zero)) d below = omega (arith, four)
+within_four n four (suc (suc (suc zero))) d below = omega (arith, four)
+within_four n four (suc (suc (suc (suc k)))) d below = absurd (omega (arith, below))

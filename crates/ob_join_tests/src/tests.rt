@@ -264,3 +264,265 @@ fn join_emit<S: BlockStore, R: Revisions>(
         check(rt, store, from, wanted);
     }
 }
+
+// Both tables are made, filled and joined.
+fn session<S: BlockStore, R: Revisions>(
+    rt: &impl Abort,
+    store: &mut S,
+    mut vault: Vault<R>,
+    mut room: Room,
+    case: &Case<'_>,
+)
+    requires ready { Ready (at R.state vault (S.state store.old)) }
+    requires room { IsIdle 33 room }
+    requires pack { (1 ≤ room.pack) × (room.pack ≤ 16) }
+    requires left { (1 ≤ case.now.left.0) × (case.now.left.0 ≤ 8) }
+    requires right { (1 ≤ case.now.right.0) × (case.now.right.0 ≤ 8) }
+    requires columns { (case.now.columns.0 ≤ 1) × (case.now.columns.1 ≤ 1) }
+{
+    let keyed = two_ints(b"id", b"v", true);
+    let plain = two_ints(b"k", b"w", false);
+    let (slots, rows) = case.left;
+    let left = filled(rt, store, &mut vault, &mut room, &keyed, slots, rows);
+    let (slots, rows) = case.right;
+    let right = filled(rt, store, &mut vault, &mut room, &plain, slots, rows);
+    join_emit(rt, store, &mut vault, &mut room, &left, &right, case);
+}
+
+fn in_memory(rt: &impl Abort, alloc: Global, buffer: u32, pack: u32, case: &Case<'_>)
+    requires pack { (1 ≤ pack) × (pack ≤ 16) }
+    requires buffer { 3 * pack + 1 ≤ buffer }
+    requires left { (1 ≤ case.now.left.0) × (case.now.left.0 ≤ 8) }
+    requires right { (1 ≤ case.now.right.0) × (case.now.right.0 ≤ 8) }
+    requires columns { (case.now.columns.0 ≤ 1) × (case.now.columns.1 ≤ 1) }
+{
+    let mut store = MemStore::new(alloc);
+    let vault: Vault<BaseRevs> = Vault::new(alloc, Keys::derive(&[0; 32]));
+    let room = Room::new(alloc, buffer, 1024, pack).expect(rt, "rows");
+    session(rt, &mut store, vault, room, case);
+}
+
+const NONE: Rows = Rows {
+    rows: [NO_ROW; 4],
+    count: 0,
+};
+
+const FOUR: [(i64, i64); 4] = [(1, 10), (2, 20), (3, 10), (4, 20)];
+
+// Two chunks of two left rows, and a key that two right rows have.
+#[test]
+fn in_blocks_of_one(rt: HostRuntime) {
+    let case = Case {
+        left: (4, &FOUR),
+        right: (3, &[(1, 7), (1, 8)]),
+        columns: (0, 0),
+        rows: Rows {
+            rows: [(1, 10, 1, 7), (1, 10, 1, 8), NO_ROW, NO_ROW],
+            count: 2,
+        },
+        wanted: Some(&[
+            (b'M', 9, 6, 65),
+            (b'R', 5, 0, 0),
+            (b'R', 5, 1, 0),
+            (b'R', 8, 0, 0),
+            (b'W', 9, 0, 0),
+            (b'R', 8, 1, 0),
+            (b'W', 9, 1, 0),
+            (b'R', 8, 2, 0),
+            (b'W', 9, 2, 0),
+            (b'R', 5, 2, 0),
+            (b'R', 5, 3, 0),
+            (b'R', 8, 0, 0),
+            (b'W', 9, 3, 0),
+            (b'R', 8, 1, 0),
+            (b'W', 9, 4, 0),
+            (b'R', 8, 2, 0),
+            (b'W', 9, 5, 0),
+            (b'R', 9, 0, 0),
+            (b'R', 9, 1, 0),
+            (b'R', 9, 2, 0),
+            (b'R', 9, 3, 0),
+            (b'R', 9, 4, 0),
+            (b'R', 9, 5, 0),
+            (b'D', 9, 0, 0),
+        ]),
+    };
+    in_memory(&rt, rt.alloc(), 4, 1, &case);
+}
+
+// Blocks of two rows, and the right table has a slot less than its blocks.
+#[test]
+fn in_blocks_of_two(rt: HostRuntime) {
+    let case = Case {
+        left: (4, &FOUR),
+        right: (3, &[(1, 7), (1, 8)]),
+        columns: (0, 0),
+        rows: Rows {
+            rows: [(1, 10, 1, 7), (1, 10, 1, 8), NO_ROW, NO_ROW],
+            count: 2,
+        },
+        wanted: Some(&[
+            (b'M', 9, 4, 98),
+            (b'R', 5, 0, 0),
+            (b'R', 8, 0, 0),
+            (b'W', 9, 0, 0),
+            (b'R', 8, 1, 0),
+            (b'W', 9, 1, 0),
+            (b'R', 5, 1, 0),
+            (b'R', 8, 0, 0),
+            (b'W', 9, 2, 0),
+            (b'R', 8, 1, 0),
+            (b'W', 9, 3, 0),
+            (b'R', 9, 0, 0),
+            (b'R', 9, 1, 0),
+            (b'R', 9, 2, 0),
+            (b'R', 9, 3, 0),
+            (b'D', 9, 0, 0),
+        ]),
+    };
+    in_memory(&rt, rt.alloc(), 7, 2, &case);
+}
+
+// Blocks of three rows: the last left block has one slot.
+#[test]
+fn in_blocks_of_three(rt: HostRuntime) {
+    let case = Case {
+        left: (4, &FOUR),
+        right: (3, &[(4, 7), (1, 8), (4, 9)]),
+        columns: (0, 0),
+        rows: Rows {
+            rows: [(1, 10, 1, 8), (4, 20, 4, 7), (4, 20, 4, 9), NO_ROW],
+            count: 3,
+        },
+        wanted: Some(&[
+            (b'M', 10, 2, 131),
+            (b'R', 5, 0, 0),
+            (b'R', 9, 0, 0),
+            (b'W', 10, 0, 0),
+            (b'R', 5, 1, 0),
+            (b'R', 9, 0, 0),
+            (b'W', 10, 1, 0),
+            (b'R', 10, 0, 0),
+            (b'R', 10, 1, 0),
+            (b'D', 10, 0, 0),
+        ]),
+    };
+    in_memory(&rt, rt.alloc(), 10, 3, &case);
+}
+
+// A last chunk with fewer blocks than the others: the rows of the chunk before it are kept no longer.
+#[test]
+fn in_a_short_last_chunk(rt: HostRuntime) {
+    let case = Case {
+        left: (3, &[(1, 10), (2, 20), (3, 30)]),
+        right: (2, &[(3, 7), (2, 8)]),
+        columns: (0, 0),
+        rows: Rows {
+            rows: [(2, 20, 2, 8), (3, 30, 3, 7), NO_ROW, NO_ROW],
+            count: 2,
+        },
+        wanted: Some(&[
+            (b'M', 8, 4, 65),
+            (b'R', 4, 0, 0),
+            (b'R', 4, 1, 0),
+            (b'R', 7, 0, 0),
+            (b'W', 8, 0, 0),
+            (b'R', 7, 1, 0),
+            (b'W', 8, 1, 0),
+            (b'R', 4, 2, 0),
+            (b'R', 7, 0, 0),
+            (b'W', 8, 2, 0),
+            (b'R', 7, 1, 0),
+            (b'W', 8, 3, 0),
+            (b'R', 8, 0, 0),
+            (b'R', 8, 1, 0),
+            (b'R', 8, 2, 0),
+            (b'R', 8, 3, 0),
+            (b'D', 8, 0, 0),
+        ]),
+    };
+    in_memory(&rt, rt.alloc(), 4, 1, &case);
+}
+
+// A join whose accesses are those of its sizes, in buffers of so many rows and blocks of so many.
+fn in_each(rt: &impl Abort, alloc: Global, sizes: &[(u32, u32)], case: &Case<'_>)
+    requires left { (1 ≤ case.now.left.0) × (case.now.left.0 ≤ 8) }
+    requires right { (1 ≤ case.now.right.0) × (case.now.right.0 ≤ 8) }
+    requires columns { (case.now.columns.0 ≤ 1) × (case.now.columns.1 ≤ 1) }
+{
+    for (buffer, pack) in sizes {
+        assert!(rt; 1 <= *pack && *pack <= 16);
+        assert!(rt; 3 * *pack < *buffer);
+        in_memory(rt, alloc, *buffer, *pack, case);
+    }
+}
+
+// All left rows fit one chunk, and the joined rows come in order of the right slots. Rows on either side
+// have no partner, and slots stay empty.
+#[test]
+fn in_one_chunk(rt: HostRuntime) {
+    let case = Case {
+        left: (7, &[(1, 10), (2, 20), (3, 30), (5, 50)]),
+        right: (6, &[(3, 5), (9, 6), (1, 7), (3, 8)]),
+        columns: (0, 0),
+        rows: Rows {
+            rows: [(3, 30, 3, 5), (1, 10, 1, 7), (3, 30, 3, 8), NO_ROW],
+            count: 3,
+        },
+        wanted: None,
+    };
+    in_each(&rt, rt.alloc(), &[(64, 1), (64, 2), (64, 3)], &case);
+}
+
+// The same rows in chunks of two: those that join in the first come first.
+#[test]
+fn in_chunks_of_two(rt: HostRuntime) {
+    let case = Case {
+        left: (7, &[(1, 10), (2, 20), (3, 30), (5, 50)]),
+        right: (6, &[(3, 5), (9, 6), (1, 7), (3, 8)]),
+        columns: (0, 0),
+        rows: Rows {
+            rows: [(1, 10, 1, 7), (3, 30, 3, 5), (3, 30, 3, 8), NO_ROW],
+            count: 3,
+        },
+        wanted: None,
+    };
+    in_each(&rt, rt.alloc(), &[(4, 1), (7, 2)], &case);
+}
+
+// Other columns than the first, of which two left rows have equal cells: the first of them is taken.
+#[test]
+fn on_other_columns(rt: HostRuntime) {
+    let case = Case {
+        left: (4, &FOUR),
+        right: (3, &[(5, 20), (6, 10), (7, 30)]),
+        columns: (1, 1),
+        rows: Rows {
+            rows: [(2, 20, 5, 20), (1, 10, 6, 10), NO_ROW, NO_ROW],
+            count: 2,
+        },
+        wanted: None,
+    };
+    in_each(&rt, rt.alloc(), &[(64, 1), (64, 2), (64, 3)], &case);
+}
+
+#[test]
+fn of_no_rows(rt: HostRuntime) {
+    let without_left = Case {
+        left: (4, &[]),
+        right: (3, &[(1, 7), (0, 8)]),
+        columns: (0, 0),
+        rows: NONE,
+        wanted: None,
+    };
+    let without_right = Case {
+        left: (4, &FOUR),
+        right: (3, &[]),
+        columns: (0, 0),
+        rows: NONE,
+        wanted: None,
+    };
+    let sizes = [(4, 1), (7, 2), (10, 3)];
+    in_each(&rt, rt.alloc(), &sizes, &without_left);
+    in_each(&rt, rt.alloc(), &sizes, &without_right);
+}
