@@ -66,8 +66,8 @@ pub(crate) fn pair_blocks<S: BlockStore, R: Revisions>(
     ensures told { IsTrue (S.state store.old).tells → (left_slots right_slots all : Slots) → Spelt left.now left_slots kept.now → Represents (length rows.old) right.now right_slots (at R.state vault.old (S.state store.old)) → (S.state store.new).lie ≡ None
         → MatchResult result
         (λ _. ((v : ℕ) → v < blocks_for (length rows.old) right.now.capacity → block_at (length rows.old) all (chunk * blocks_for (length rows.old) right.now.capacity + v) ≡ block_at (length rows.old) (joined_chunk lcol rcol (blocks_for (length rows.old) right.now.capacity * length rows.old) left_slots right_slots) v)
-            → HoldsFirst (length rows.old) to.now all (chunk * blocks_for (length rows.old) right.now.capacity) (at R.state vault.old (S.state store.old))
-            → HoldsFirst (length rows.old) to.now all (chunk * blocks_for (length rows.old) right.now.capacity + blocks_for (length rows.old) right.now.capacity) (at R.state vault.new (S.state store.new)))
+        → HoldsFirst (length rows.old) to.now all (chunk * blocks_for (length rows.old) right.now.capacity) (at R.state vault.old (S.state store.old))
+        → HoldsFirst (length rows.old) to.now all (chunk * blocks_for (length rows.old) right.now.capacity + blocks_for (length rows.old) right.now.capacity) (at R.state vault.new (S.state store.new)))
         (λ e. e ≡ OpErr.Failed) }
 {
     let pack = rows.len() as u32;

@@ -52,13 +52,7 @@ impl Emit for Rows {
     }
 
     fn row(&mut self, cells: &[Shown]) -> Result<(), EmitErr> {
-        if let [
-            Shown::Int(a),
-            Shown::Int(b),
-            Shown::Int(c),
-            Shown::Int(d),
-        ] = cells
-        {
+        if let [Shown::Int(a), Shown::Int(b), Shown::Int(c), Shown::Int(d)] = cells {
             if self.count < 4 {
                 self.rows[self.count] = (*a, *b, *c, *d);
                 self.count += 1;
