@@ -9,8 +9,9 @@ ghost use Rattle.ob_blocks.specs.Blocks.{map_at};
 ghost use Rattle.ob_flat.specs.Slots.{Spelt, AreSlots};
 ghost use Rattle.ob_join.specs.Joining.{joined_below, IsPartner};
 
+use crate::sides::Sides;
 use ob_base::Schema;
-use ob_flat::{Flat, clear_row};
+use ob_flat::clear_row;
 use ob_room::ClearRow;
 use ob_row::{Cell, Malformed, decode, read, same_cell, width};
 
@@ -68,30 +69,27 @@ fn find_partner(schema: &Schema, kept: &[ClearRow], column: u8, cell: &Cell) -> 
 // Joins a right row with the first kept left row that agrees with it, or makes a dummy where there is
 // none, and where the right slot lies behind the capacity; refuses a right row that is malformed.
 fn join_slot(
-    left: &Schema,
+    sides: &Sides<'_>,
     kept: &[ClearRow],
-    lcol: u8,
-    right: &Schema,
     row: &ClearRow,
-    rcol: u8,
     inside: bool,
     to: &mut ClearRow,
 ) -> Result<(), Malformed>
-    requires kept { Wide (width left.now) kept.now }
-    requires row { width right.now ≤ length row.now }
-    requires to { width (left.now ++ right.now) ≤ length to.old }
-    requires lcol { lcol < length left.now }
-    requires rcol { rcol < length right.now }
+    requires kept { Wide (width sides.now.left.now.schema) kept.now }
+    requires row { width sides.now.right.now.schema ≤ length row.now }
+    requires to { width (sides.now.left.now.schema ++ sides.now.right.now.schema) ≤ length to.old }
+    requires lcol { sides.now.lcol < length sides.now.left.now.schema }
+    requires rcol { sides.now.rcol < length sides.now.right.now.schema }
     ensures size { length to.new ≡ length to.old }
-    ensures read { OnOk result ((slot : Option Row) × Begins right.now slot row.now) }
-    ensures told { (slots : Slots) (slot : Option Row) → Spelt left.now slots kept.now → Begins right.now slot row.now
-        → MatchResult result (λ _. Begins (left.now ++ right.now) (if inside then joined_slot lcol rcol (rows_of slots) slot else None) to.new) (λ _. ⊥) }
+    ensures read { OnOk result ((slot : Option Row) × Begins sides.now.right.now.schema slot row.now) }
+    ensures told { (slots : Slots) (slot : Option Row) → Spelt sides.now.left.now.schema slots kept.now → Begins sides.now.right.now.schema slot row.now
+        → MatchResult result (λ _. Begins (sides.now.left.now.schema ++ sides.now.right.now.schema) (if inside then joined_slot sides.now.lcol sides.now.rcol (rows_of slots) slot else None) to.new) (λ _. ⊥) }
 {
     clear_row(to);
-    if read(right, row)? && inside {
-        let cell = decode(right, row, rcol)?;
-        if let Some(i) = find_partner(left, kept, lcol, &cell) {
-            join_pair(left, &kept[i], right, row, to);
+    if read(&sides.right.schema, row)? && inside {
+        let cell = decode(&sides.right.schema, row, sides.rcol)?;
+        if let Some(i) = find_partner(&sides.left.schema, kept, sides.lcol, &cell) {
+            join_pair(&sides.left.schema, &kept[i], &sides.right.schema, row, to);
         }
     }
     Ok(())
@@ -100,39 +98,27 @@ fn join_slot(
 // Joins each row of a right block, the first of which has this index, with the first kept left row that
 // agrees with it; those behind the capacity become dummies. Refuses a block of which a row is malformed.
 pub(crate) fn join_rows(
-    left: &Schema,
+    sides: &Sides<'_>,
     kept: &[ClearRow],
-    lcol: u8,
-    right: &Flat,
     first: u32,
     rows: &[ClearRow],
-    rcol: u8,
     to: &mut [ClearRow],
 ) -> Result<(), Malformed>
-    requires kept { Wide (width left.now) kept.now }
-    requires rows { Wide (width right.now.schema) rows.now }
-    requires to { Wide (width (left.now ++ right.now.schema)) to.old }
+    requires kept { Wide (width sides.now.left.now.schema) kept.now }
+    requires rows { Wide (width sides.now.right.now.schema) rows.now }
+    requires to { Wide (width (sides.now.left.now.schema ++ sides.now.right.now.schema)) to.old }
     requires same { length to.old ≡ length rows.now }
     requires index { first + length rows.now ≤ 2147483648 }
-    requires lcol { lcol < length left.now }
-    requires rcol { rcol < length right.now.schema }
+    requires lcol { sides.now.lcol < length sides.now.left.now.schema }
+    requires rcol { sides.now.rcol < length sides.now.right.now.schema }
     ensures size { SameSizes to.old to.new }
-    ensures read { OnOk result (AreSlots right.now.schema rows.now) }
-    ensures told { (slots block : Slots) → Spelt left.now slots kept.now → Spelt right.now.schema block rows.now
-        → MatchResult result (λ _. Spelt (left.now ++ right.now.schema) (map_at (joined_below lcol rcol (rows_of slots) right.now.capacity) first block) to.new) (λ _. ⊥) }
+    ensures read { OnOk result (AreSlots sides.now.right.now.schema rows.now) }
+    ensures told { (slots block : Slots) → Spelt sides.now.left.now.schema slots kept.now → Spelt sides.now.right.now.schema block rows.now
+        → MatchResult result (λ _. Spelt (sides.now.left.now.schema ++ sides.now.right.now.schema) (map_at (joined_below sides.now.lcol sides.now.rcol (rows_of slots) sides.now.right.now.capacity) first block) to.new) (λ _. ⊥) }
 {
     for z in 0..rows.len() {
-        let inside = first + (z as u32) < right.capacity;
-        match join_slot(
-            left,
-            kept,
-            lcol,
-            &right.schema,
-            &rows[z],
-            rcol,
-            inside,
-            &mut to[z],
-        ) {
+        let inside = first + (z as u32) < sides.right.capacity;
+        match join_slot(sides, kept, &rows[z], inside, &mut to[z]) {
             Ok(()) => {}
             Err(malformed) => return Err(malformed),
         }

@@ -6,6 +6,7 @@ mod collecting;
 mod filling;
 mod joining;
 mod pairing;
+mod sides;
 mod tables;
 
 pub use tables::join;

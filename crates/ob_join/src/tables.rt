@@ -19,6 +19,7 @@ ghost use Rattle.ob_flat.specs.Passes.{PassCut};
 ghost use Rattle.ob_join.specs.Joining.{joined_in};
 
 use crate::filling::fill_result;
+use crate::sides::Sides;
 use ob_base::Schema;
 use ob_flat::{Flat, OpErr, make_table};
 use ob_room::{ClearRow, Room};
@@ -46,46 +47,44 @@ fn join_tables<S: BlockStore, R: Revisions>(
     out: &mut [ClearRow],
     kept: &mut [ClearRow],
     buffered: u32,
-    left: &Flat,
-    right: &Flat,
-    lcol: u8,
-    rcol: u8,
+    sides: &Sides<'_>,
 ) -> Result<Flat, OpErr>
     requires ready { Ready (at R.state vault.old (S.state store.old)) }
-    requires spare { 1 + (blocks_for (length rows.old) left.now.capacity + 2 * (div_ceil (blocks_for (length rows.old) left.now.capacity) buffered * blocks_for (length rows.old) right.now.capacity)) ≤ (S.state store.old).spare }
+    requires spare { 1 + (blocks_for (length rows.old) sides.now.left.now.capacity + 2 * (div_ceil (blocks_for (length rows.old) sides.now.left.now.capacity) buffered * blocks_for (length rows.old) sides.now.right.now.capacity)) ≤ (S.state store.old).spare }
     requires few { length (S.state store.old).asked < 2 ^ 63 + 2 ^ 59 }
-    requires left { IsFlat (length rows.old) left.now (at R.state vault.old (S.state store.old)) }
-    requires right { IsFlat (length rows.old) right.now (at R.state vault.old (S.state store.old)) }
-    requires left_size { IsSized left.now.schema left.now.capacity }
-    requires right_size { IsSized right.now.schema right.now.capacity }
-    requires sized { IsSized (left.now.schema ++ right.now.schema) (div_ceil (blocks_for (length rows.old) left.now.capacity) buffered * blocks_for (length rows.old) right.now.capacity * length rows.old) }
+    requires left { IsFlat (length rows.old) sides.now.left.now (at R.state vault.old (S.state store.old)) }
+    requires right { IsFlat (length rows.old) sides.now.right.now (at R.state vault.old (S.state store.old)) }
+    requires left_size { IsSized sides.now.left.now.schema sides.now.left.now.capacity }
+    requires right_size { IsSized sides.now.right.now.schema sides.now.right.now.capacity }
+    requires sized { IsSized (sides.now.left.now.schema ++ sides.now.right.now.schema) (div_ceil (blocks_for (length rows.old) sides.now.left.now.capacity) buffered * blocks_for (length rows.old) sides.now.right.now.capacity * length rows.old) }
     requires pack { (1 ≤ length rows.old) × (length rows.old ≤ 16) }
-    requires fit { RowsFit rows.old (length rows.old * width right.now.schema) }
+    requires fit { RowsFit rows.old (length rows.old * width sides.now.right.now.schema) }
     requires same { length out.old ≡ length rows.old }
-    requires out { RowsFit out.old (length out.old * width (left.now.schema ++ right.now.schema)) }
+    requires out { RowsFit out.old (length out.old * width (sides.now.left.now.schema ++ sides.now.right.now.schema)) }
     requires some { 1 ≤ buffered }
     requires space { length kept.old ≡ buffered * length rows.old }
-    requires kept { Wide (width left.now.schema) kept.old }
-    requires lcol { lcol < length left.now.schema }
-    requires rcol { rcol < length right.now.schema }
+    requires kept { Wide (width sides.now.left.now.schema) kept.old }
+    requires lcol { sides.now.lcol < length sides.now.left.now.schema }
+    requires rcol { sides.now.rcol < length sides.now.right.now.schema }
     ensures rows { SameSizes rows.old rows.new }
     ensures out { SameSizes out.old out.new }
     ensures kept { SameSizes kept.old kept.new }
-    ensures ok { OnOk result (Went (join_part left.now.region right.now.region vault.old.next (blocks_for (length rows.old) left.now.capacity) (blocks_for (length rows.old) right.now.capacity) buffered (length rows.old * width (left.now.schema ++ right.now.schema))) (one vault.old.next) (at R.state vault.old (S.state store.old)) (at R.state vault.new (S.state store.new))) }
-    ensures err { IfErr result (λ e. PassCut e (join_part left.now.region right.now.region vault.old.next (blocks_for (length rows.old) left.now.capacity) (blocks_for (length rows.old) right.now.capacity) buffered (length rows.old * width (left.now.schema ++ right.now.schema))) (one vault.old.next) (at R.state vault.old (S.state store.old)) (at R.state vault.new (S.state store.new))) }
-    ensures never { IfErr result (λ e. (e ≡ OpErr.Failed) ⊎ (e ≡ OpErr.NoMemory) ⊎ ((place : ℕ) × (place < blocks_for (length rows.old) left.now.capacity) × (e ≡ OpErr.Tampered left.now.region place)) ⊎ ((place : ℕ) × (place < blocks_for (length rows.old) right.now.capacity) × (e ≡ OpErr.Tampered right.now.region place))) }
-    ensures memory { result ≡ Err OpErr.NoMemory → Began (make_at vault.old.next (div_ceil (blocks_for (length rows.old) left.now.capacity) buffered * blocks_for (length rows.old) right.now.capacity) (length rows.old * width (left.now.schema ++ right.now.schema))) (S.state store.old) (S.state store.new) }
+    ensures ok { OnOk result (Went (join_part sides.now.left.now.region sides.now.right.now.region vault.old.next (blocks_for (length rows.old) sides.now.left.now.capacity) (blocks_for (length rows.old) sides.now.right.now.capacity) buffered (length rows.old * width (sides.now.left.now.schema ++ sides.now.right.now.schema))) (one vault.old.next) (at R.state vault.old (S.state store.old)) (at R.state vault.new (S.state store.new))) }
+    ensures err { IfErr result (λ e. PassCut e (join_part sides.now.left.now.region sides.now.right.now.region vault.old.next (blocks_for (length rows.old) sides.now.left.now.capacity) (blocks_for (length rows.old) sides.now.right.now.capacity) buffered (length rows.old * width (sides.now.left.now.schema ++ sides.now.right.now.schema))) (one vault.old.next) (at R.state vault.old (S.state store.old)) (at R.state vault.new (S.state store.new))) }
+    ensures never { IfErr result (λ e. (e ≡ OpErr.Failed) ⊎ (e ≡ OpErr.NoMemory) ⊎ ((place : ℕ) × (place < blocks_for (length rows.old) sides.now.left.now.capacity) × (e ≡ OpErr.Tampered sides.now.left.now.region place)) ⊎ ((place : ℕ) × (place < blocks_for (length rows.old) sides.now.right.now.capacity) × (e ≡ OpErr.Tampered sides.now.right.now.region place))) }
+    ensures memory { result ≡ Err OpErr.NoMemory → Began (make_at vault.old.next (div_ceil (blocks_for (length rows.old) sides.now.left.now.capacity) buffered * blocks_for (length rows.old) sides.now.right.now.capacity) (length rows.old * width (sides.now.left.now.schema ++ sides.now.right.now.schema))) (S.state store.old) (S.state store.new) }
     ensures gone { OnErr result ((R.state vault.new.revs).live vault.old.next ≡ None) }
-    ensures seals { (good : ℕ → List ℕ → Bool) → Accepts good (length rows.old) (left.now.schema ++ right.now.schema) vault.old.next → Seals good (at R.state vault.old (S.state store.old)) (at R.state vault.new (S.state store.new)) }
-    ensures sources { IsFlat (length rows.old) left.now (at R.state vault.new (S.state store.new)) × IsFlat (length rows.old) right.now (at R.state vault.new (S.state store.new)) }
-    ensures value { IfOk result (λ fresh. fresh ≡ record { schema = left.now.schema ++ right.now.schema; capacity = div_ceil (blocks_for (length rows.old) left.now.capacity) buffered * blocks_for (length rows.old) right.now.capacity * length rows.old; region = vault.old.next }) }
+    ensures seals { (good : ℕ → List ℕ → Bool) → Accepts good (length rows.old) (sides.now.left.now.schema ++ sides.now.right.now.schema) vault.old.next → Seals good (at R.state vault.old (S.state store.old)) (at R.state vault.new (S.state store.new)) }
+    ensures sources { IsFlat (length rows.old) sides.now.left.now (at R.state vault.new (S.state store.new)) × IsFlat (length rows.old) sides.now.right.now (at R.state vault.new (S.state store.new)) }
+    ensures value { IfOk result (λ fresh. fresh ≡ record { schema = sides.now.left.now.schema ++ sides.now.right.now.schema; capacity = div_ceil (blocks_for (length rows.old) sides.now.left.now.capacity) buffered * blocks_for (length rows.old) sides.now.right.now.capacity * length rows.old; region = vault.old.next }) }
     ensures flat { IfOk result (λ fresh. IsFlat (length rows.old) fresh (at R.state vault.new (S.state store.new))) }
-    ensures told { IsTrue (S.state store.old).tells → (left_slots right_slots : Slots) → Represents (length rows.old) left.now left_slots (at R.state vault.old (S.state store.old)) → Represents (length rows.old) right.now right_slots (at R.state vault.old (S.state store.old)) → (S.state store.new).lie ≡ None
+    ensures told { IsTrue (S.state store.old).tells → (left_slots right_slots : Slots) → Represents (length rows.old) sides.now.left.now left_slots (at R.state vault.old (S.state store.old)) → Represents (length rows.old) sides.now.right.now right_slots (at R.state vault.old (S.state store.old)) → (S.state store.new).lie ≡ None
         → MatchResult result
-        (λ fresh. Represents (length rows.old) fresh (joined_in lcol rcol (length rows.old * buffered) (div_ceil (blocks_for (length rows.old) left.now.capacity) buffered) (blocks_for (length rows.old) right.now.capacity * length rows.old) left_slots right_slots) (at R.state vault.new (S.state store.new)))
+        (λ fresh. Represents (length rows.old) fresh (joined_in sides.now.lcol sides.now.rcol (length rows.old * buffered) (div_ceil (blocks_for (length rows.old) sides.now.left.now.capacity) buffered) (blocks_for (length rows.old) sides.now.right.now.capacity * length rows.old) left_slots right_slots) (at R.state vault.new (S.state store.new)))
         (λ e. (e ≡ OpErr.Failed) ⊎ (e ≡ OpErr.NoMemory)) }
 {
     let pack = rows.len() as u32;
+    let (left, right) = (sides.left, sides.right);
     let chunks = left.capacity.div_ceil(pack).div_ceil(buffered);
     let capacity = chunks * right.capacity.div_ceil(pack) * pack;
     let schema = joined_schema(&left.schema, &right.schema);
@@ -95,9 +94,7 @@ fn join_tables<S: BlockStore, R: Revisions>(
         capacity,
         region,
     };
-    match fill_result(
-        store, vault, left, kept, lcol, buffered, right, rows, rcol, out, &fresh,
-    ) {
+    match fill_result(store, vault, kept, buffered, sides, rows, out, &fresh) {
         Ok(()) => Ok(fresh),
         Err(e) => {
             vault.forget(region);
@@ -160,9 +157,13 @@ pub fn join<S: BlockStore, R: Revisions>(
     let open = room.open(2 * pack + buffered * pack);
     let (blocks, kept) = open.split_at_mut(2 * pack as usize);
     let (rows, out) = blocks.split_at_mut(pack as usize);
-    let result = join_tables(
-        store, vault, rows, out, kept, buffered, left, right, lcol, rcol,
-    );
+    let sides = Sides {
+        left,
+        lcol,
+        right,
+        rcol,
+    };
+    let result = join_tables(store, vault, rows, out, kept, buffered, &sides);
     room.clear_shelf();
     result
 }

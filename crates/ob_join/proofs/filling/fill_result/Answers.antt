@@ -24,21 +24,21 @@ use Rattle.ob_join.proofs.filling.fill_result.Goals as goal
 
 pub loop-chunk-init : goal.loop-chunk-init
 loop-chunk-init g c =
-    let zero : 0 * blocks_for (length c.args.rows.now) c.args.right.now.capacity ≡ 0 = omega arith in
+    let zero : 0 * blocks_for (length c.args.rows.now) c.args.sides.now.right.now.capacity ≡ 0 = omega arith in
     record {
       went = went_none (one c.args.to.now.region) _ c.requires.ready;
       seals = λ good fine. seals_none good _;
       kept = same_rows c.args.kept.now;
       rows = same_rows c.args.rows.now;
       out = same_rows c.args.out.now;
-      filling = filling_at (length c.args.rows.now) c.args.to.now 0 (0 * blocks_for (length c.args.rows.now) c.args.right.now.capacity) _ (sym zero) (filling_first (length c.args.rows.now) c.args.to.now _ c.requires.made);
+      filling = filling_at (length c.args.rows.now) c.args.to.now 0 (0 * blocks_for (length c.args.rows.now) c.args.sides.now.right.now.capacity) _ (sym zero) (filling_first (length c.args.rows.now) c.args.to.now _ c.requires.made);
       told = λ tells left right first second nolie. record { holds = λ p below. absurd (omega (arith, below, zero)) };
     }
 
 pub overflow_mul-first : goal.overflow_mul-first
 overflow_mul-first g c =
     let pack = length c.args.rows.now in
-    let cap = c.args.left.now.capacity in
+    let cap = c.args.sides.now.left.now.capacity in
     let q = c.args.buffered in
     let j = c.loop-chunk.chunk in
     let lefts = blocks_for pack cap in
@@ -49,14 +49,14 @@ pub overflow_sub-lefts : goal.overflow_sub-lefts
 overflow_sub-lefts g c =
     let q = c.args.buffered in
     let j = c.loop-chunk.chunk in
-    let lefts = blocks_for (length c.args.rows.now) c.args.left.now.capacity in
+    let lefts = blocks_for (length c.args.rows.now) c.args.sides.now.left.now.capacity in
     let below = begun lefts q j _ _ c.div_ceil-lefts.ensures c.div_ceil-chunk-end.ensures c.loop-chunk-test.true in
     omega (arith, chunk_inside lefts q j c.requires.some below, c.div_ceil-lefts.ensures)
 
 pub overflow_mul-own : goal.overflow_mul-own
 overflow_mul-own g c =
     let pack = length c.args.rows.now in
-    let cap = c.args.left.now.capacity in
+    let cap = c.args.sides.now.left.now.capacity in
     let lefts = blocks_for pack cap in
     let n_is = taken lefts c.args.buffered c.loop-chunk.chunk _ _ c.div_ceil-lefts.ensures c.min-n.ensures in
     omega (arith, product_within c.min-n.result lefts pack (omega (arith, n_is)), blocks_end pack cap c.requires.pack.0, c.requires.left_size.most, c.requires.pack.1)
@@ -77,28 +77,28 @@ collect_chunk-requires-clause-spare g c =
     let pack = length c.args.rows.now in
     let q = c.args.buffered in
     let j = c.loop-chunk.chunk in
-    let lefts = blocks_for pack c.args.left.now.capacity in
-    let rights = blocks_for pack c.args.right.now.capacity in
+    let lefts = blocks_for pack c.args.sides.now.left.now.capacity in
+    let rights = blocks_for pack c.args.sides.now.right.now.capacity in
     let below = begun lefts q j _ _ c.div_ceil-lefts.ensures c.div_ceil-chunk-end.ensures c.loop-chunk-test.true in
     let n_is = taken lefts q j _ _ c.div_ceil-lefts.ensures c.min-n.ensures in
     omega (
       arith,
       c.requires.spare,
       c.loop-chunk.invariant.went.spare,
-      spent c.args.left.now.region c.args.right.now.region c.args.to.now.region lefts rights q j,
+      spent c.args.sides.now.left.now.region c.args.sides.now.right.now.region c.args.to.now.region lefts rights q j,
       rows_room j (div_ceil lefts q) rights below,
       chunk_inside lefts q j c.requires.some below,
       n_is,
     )
 
 pub collect_chunk-requires-clause-flat : goal.collect_chunk-requires-clause-flat
-collect_chunk-requires-clause-flat g c = flat_lasts (length c.args.rows.now) c.args.left.now (one c.args.to.now.region) _ _ c.loop-chunk.invariant.went.lasts c.requires.left_apart c.requires.left
+collect_chunk-requires-clause-flat g c = flat_lasts (length c.args.rows.now) c.args.sides.now.left.now (one c.args.to.now.region) _ _ c.loop-chunk.invariant.went.lasts c.requires.left_apart c.requires.left
 
 pub collect_chunk-requires-clause-within : goal.collect_chunk-requires-clause-within
 collect_chunk-requires-clause-within g c =
     let q = c.args.buffered in
     let j = c.loop-chunk.chunk in
-    let lefts = blocks_for (length c.args.rows.now) c.args.left.now.capacity in
+    let lefts = blocks_for (length c.args.rows.now) c.args.sides.now.left.now.capacity in
     let below = begun lefts q j _ _ c.div_ceil-lefts.ensures c.div_ceil-chunk-end.ensures c.loop-chunk-test.true in
     omega (arith, chunk_inside lefts q j c.requires.some below, taken lefts q j _ _ c.div_ceil-lefts.ensures c.min-n.ensures)
 
@@ -113,7 +113,7 @@ collect_chunk-requires-clause-wide g c =
     let pack = length c.args.rows.now in
     let n = c.min-n.result in
     let fits : 0 + n * pack ≤ length c.loop-chunk.kept = omega (arith, product_within n c.args.buffered pack (omega (arith, c.min-n.ensures)), c.loop-chunk.invariant.kept.count, c.requires.space) in
-    part_wide 0 (n * pack) c.loop-chunk.kept fits (width c.args.left.now.schema) (wide_same _ _ _ c.loop-chunk.invariant.kept c.requires.kept)
+    part_wide 0 (n * pack) c.loop-chunk.kept fits (width c.args.sides.now.left.now.schema) (wide_same _ _ _ c.loop-chunk.invariant.kept c.requires.kept)
 
 pub returns-in_err-collect_chunk-clause-kept : goal.returns-in_err-collect_chunk-clause-kept
 returns-in_err-collect_chunk-clause-kept g c =
@@ -128,13 +128,13 @@ pub returns-in_err-collect_chunk-clause-err : goal.returns-in_err-collect_chunk-
 returns-in_err-collect_chunk-clause-err g c =
     let p = err_from_is_err_and c.from_residual.result c.from_residual.ensures.1 in
     let pack = length c.args.rows.now in
-    let a = c.args.left.now.region in
-    let b = c.args.right.now.region in
+    let a = c.args.sides.now.left.now.region in
+    let b = c.args.sides.now.right.now.region in
     let to = c.args.to.now.region in
     let q = c.args.buffered in
     let j = c.loop-chunk.chunk in
-    let lefts = blocks_for pack c.args.left.now.capacity in
-    let rights = blocks_for pack c.args.right.now.capacity in
+    let lefts = blocks_for pack c.args.sides.now.left.now.capacity in
+    let rights = blocks_for pack c.args.sides.now.right.now.capacity in
     let below = begun lefts q j _ _ c.div_ceil-lefts.ensures c.div_ceil-chunk-end.ensures c.loop-chunk-test.true in
     let n_is = taken lefts q j _ _ c.div_ceil-lefts.ensures c.min-n.ensures in
     let cut = rw n_is at c.in_err-collect_chunk.ensures.err in
@@ -152,7 +152,7 @@ returns-in_err-collect_chunk-clause-seals g c = λ good fine. seals_join good _ 
 pub returns-in_err-collect_chunk-clause-told : goal.returns-in_err-collect_chunk-clause-told
 returns-in_err-collect_chunk-clause-told g c = λ tells left right first second nolie.
     let p = err_from_is_err_and c.from_residual.result c.from_residual.ensures.1 in
-    let now = represents_lasts (length c.args.rows.now) c.args.left.now (one c.args.to.now.region) _ _ c.loop-chunk.invariant.went.lasts c.requires.left_apart left first in
+    let now = represents_lasts (length c.args.rows.now) c.args.sides.now.left.now (one c.args.to.now.region) _ _ c.loop-chunk.invariant.went.lasts c.requires.left_apart left first in
     rw (p.1, p.2) (c.in_err-collect_chunk.ensures.told left now nolie)
 
 pub pair_blocks-requires-clause-spare : goal.pair_blocks-requires-clause-spare
@@ -160,21 +160,21 @@ pair_blocks-requires-clause-spare g c =
     let pack = length c.args.rows.now in
     let q = c.args.buffered in
     let j = c.loop-chunk.chunk in
-    let lefts = blocks_for pack c.args.left.now.capacity in
-    let rights = blocks_for pack c.args.right.now.capacity in
+    let lefts = blocks_for pack c.args.sides.now.left.now.capacity in
+    let rights = blocks_for pack c.args.sides.now.right.now.capacity in
     let below = begun lefts q j _ _ c.div_ceil-lefts.ensures c.div_ceil-chunk-end.ensures c.loop-chunk-test.true in
     let n_is = taken lefts q j _ _ c.div_ceil-lefts.ensures c.min-n.ensures in
     omega (
       arith,
       c.requires.spare,
       c.loop-chunk.invariant.went.spare,
-      spent c.args.left.now.region c.args.right.now.region c.args.to.now.region lefts rights q j,
+      spent c.args.sides.now.left.now.region c.args.sides.now.right.now.region c.args.to.now.region lefts rights q j,
       c.in_ok-collect_chunk.ensures.ok.spare,
-      reads_from c.args.left.now.region (j * q) c.min-n.result,
+      reads_from c.args.sides.now.left.now.region (j * q) c.min-n.result,
       rows_room j (div_ceil lefts q) rights below,
       chunk_inside lefts q j c.requires.some below,
       n_is,
-      ap (λ (n : ℕ). blocks_for n c.args.right.now.capacity) c.loop-chunk.invariant.rows.count,
+      ap (λ (n : ℕ). blocks_for n c.args.sides.now.right.now.capacity) c.loop-chunk.invariant.rows.count,
     )
 
 pub pair_blocks-requires-clause-few : goal.pair_blocks-requires-clause-few
@@ -182,44 +182,44 @@ pair_blocks-requires-clause-few g c =
     let pack = length c.args.rows.now in
     let q = c.args.buffered in
     let j = c.loop-chunk.chunk in
-    let lefts = blocks_for pack c.args.left.now.capacity in
-    let rights = blocks_for pack c.args.right.now.capacity in
+    let lefts = blocks_for pack c.args.sides.now.left.now.capacity in
+    let rights = blocks_for pack c.args.sides.now.right.now.capacity in
     let chunks = div_ceil lefts q in
     let below = begun lefts q j _ _ c.div_ceil-lefts.ensures c.div_ceil-chunk-end.ensures c.loop-chunk-test.true in
     let n_is = taken lefts q j _ _ c.div_ceil-lefts.ensures c.min-n.ensures in
-    let few_lefts : lefts ≤ 16777216 = omega (arith, blocks_few pack c.args.left.now.capacity c.requires.pack.0, c.requires.left_size.most) in
+    let few_lefts : lefts ≤ 16777216 = omega (arith, blocks_few pack c.args.sides.now.left.now.capacity c.requires.pack.0, c.requires.left_size.most) in
     let few_pairs : chunks * rights ≤ 16777216 = omega (arith, product_least (chunks * rights) pack c.requires.pack.0, c.requires.total, c.requires.sized.most) in
     omega (
       arith,
       c.requires.few,
       went_length _ _ _ _ c.loop-chunk.invariant.went,
-      spent c.args.left.now.region c.args.right.now.region c.args.to.now.region lefts rights q j,
+      spent c.args.sides.now.left.now.region c.args.sides.now.right.now.region c.args.to.now.region lefts rights q j,
       went_length _ _ _ _ c.in_ok-collect_chunk.ensures.ok,
-      reads_from c.args.left.now.region (j * q) c.min-n.result,
+      reads_from c.args.sides.now.left.now.region (j * q) c.min-n.result,
       rows_room j chunks rights below,
       few_lefts,
       few_pairs,
       n_is,
-      ap (λ (n : ℕ). blocks_for n c.args.right.now.capacity) c.loop-chunk.invariant.rows.count,
+      ap (λ (n : ℕ). blocks_for n c.args.sides.now.right.now.capacity) c.loop-chunk.invariant.rows.count,
     )
 
 pub pair_blocks-requires-clause-right : goal.pair_blocks-requires-clause-right
 pair_blocks-requires-clause-right g c =
-    rw c.loop-chunk.invariant.rows.count (flat_lasts (length c.args.rows.now) c.args.right.now none _ _ c.in_ok-collect_chunk.ensures.ok.lasts (λ s. s)
-    (flat_lasts (length c.args.rows.now) c.args.right.now (one c.args.to.now.region) _ _ c.loop-chunk.invariant.went.lasts c.requires.right_apart c.requires.right))
+    rw c.loop-chunk.invariant.rows.count (flat_lasts (length c.args.rows.now) c.args.sides.now.right.now none _ _ c.in_ok-collect_chunk.ensures.ok.lasts (λ s. s)
+    (flat_lasts (length c.args.rows.now) c.args.sides.now.right.now (one c.args.to.now.region) _ _ c.loop-chunk.invariant.went.lasts c.requires.right_apart c.requires.right))
 
 pub pair_blocks-requires-clause-filling : goal.pair_blocks-requires-clause-filling
 pair_blocks-requires-clause-filling g c =
     let pack = length c.args.rows.now in
-    rw c.loop-chunk.invariant.rows.count (filling_read pack c.args.to.now (c.loop-chunk.chunk * blocks_for pack c.args.right.now.capacity) _ _ _ c.in_ok-collect_chunk.ensures.ok c.in_ok-collect_chunk.ensures.turns c.loop-chunk.invariant.filling)
+    rw c.loop-chunk.invariant.rows.count (filling_read pack c.args.to.now (c.loop-chunk.chunk * blocks_for pack c.args.sides.now.right.now.capacity) _ _ _ c.in_ok-collect_chunk.ensures.ok c.in_ok-collect_chunk.ensures.turns c.loop-chunk.invariant.filling)
 
 pub pair_blocks-requires-clause-within : goal.pair_blocks-requires-clause-within
 pair_blocks-requires-clause-within g c =
     let pack = length c.args.rows.now in
     let q = c.args.buffered in
     let j = c.loop-chunk.chunk in
-    let lefts = blocks_for pack c.args.left.now.capacity in
-    let rights = blocks_for pack c.args.right.now.capacity in
+    let lefts = blocks_for pack c.args.sides.now.left.now.capacity in
+    let rights = blocks_for pack c.args.sides.now.right.now.capacity in
     let below = begun lefts q j _ _ c.div_ceil-lefts.ensures c.div_ceil-chunk-end.ensures c.loop-chunk-test.true in
     let all : blocks_for pack c.args.to.now.capacity ≡ div_ceil lefts q * rights = ap (blocks_for pack) c.requires.total ∙ whole_product (div_ceil lefts q * rights) pack c.requires.pack.0 in
     let within : j * rights + rights ≤ blocks_for pack c.args.to.now.capacity = omega (arith, all, rows_room j (div_ceil lefts q) rights below) in
@@ -227,7 +227,7 @@ pair_blocks-requires-clause-within g c =
 
 pub pair_blocks-requires-clause-fit : goal.pair_blocks-requires-clause-fit
 pair_blocks-requires-clause-fit g c =
-    subst (λ (n : ℕ). RowsFit c.loop-chunk.rows (n * width c.args.right.now.schema)) (sym c.loop-chunk.invariant.rows.count) (fit_same _ _ _ c.loop-chunk.invariant.rows c.requires.fit)
+    subst (λ (n : ℕ). RowsFit c.loop-chunk.rows (n * width c.args.sides.now.right.now.schema)) (sym c.loop-chunk.invariant.rows.count) (fit_same _ _ _ c.loop-chunk.invariant.rows c.requires.fit)
 
 pub pair_blocks-requires-clause-out : goal.pair_blocks-requires-clause-out
 pair_blocks-requires-clause-out g c =
@@ -238,7 +238,7 @@ pair_blocks-requires-clause-kept g c =
     let pack = length c.args.rows.now in
     let n = c.min-n.result in
     let fits : 0 + n * pack ≤ length c.loop-chunk.kept = omega (arith, product_within n c.args.buffered pack (omega (arith, c.min-n.ensures)), c.loop-chunk.invariant.kept.count, c.requires.space) in
-    wide_same _ _ _ c.collect_chunk.ensures.kept (part_wide 0 (n * pack) c.loop-chunk.kept fits (width c.args.left.now.schema) (wide_same _ _ _ c.loop-chunk.invariant.kept c.requires.kept))
+    wide_same _ _ _ c.collect_chunk.ensures.kept (part_wide 0 (n * pack) c.loop-chunk.kept fits (width c.args.sides.now.left.now.schema) (wide_same _ _ _ c.loop-chunk.invariant.kept c.requires.kept))
 
 pub returns-in_err-pair_blocks-clause-kept : goal.returns-in_err-pair_blocks-clause-kept
 returns-in_err-pair_blocks-clause-kept g c =
@@ -259,13 +259,13 @@ pub returns-in_err-pair_blocks-clause-err : goal.returns-in_err-pair_blocks-clau
 returns-in_err-pair_blocks-clause-err g c =
     let p = err_from_is_err_and c.from_residual-in_err-pair_blocks.result c.from_residual-in_err-pair_blocks.ensures.1 in
     let pack = length c.args.rows.now in
-    let a = c.args.left.now.region in
-    let b = c.args.right.now.region in
+    let a = c.args.sides.now.left.now.region in
+    let b = c.args.sides.now.right.now.region in
     let to = c.args.to.now.region in
     let q = c.args.buffered in
     let j = c.loop-chunk.chunk in
-    let lefts = blocks_for pack c.args.left.now.capacity in
-    let rights = blocks_for pack c.args.right.now.capacity in
+    let lefts = blocks_for pack c.args.sides.now.left.now.capacity in
+    let rights = blocks_for pack c.args.sides.now.right.now.capacity in
     let below = begun lefts q j _ _ c.div_ceil-lefts.ensures c.div_ceil-chunk-end.ensures c.loop-chunk-test.true in
     let n_is = taken lefts q j _ _ c.div_ceil-lefts.ensures c.min-n.ensures in
     let read = rw n_is at c.in_ok-collect_chunk.ensures.ok in
@@ -294,8 +294,8 @@ returns-in_err-pair_blocks-clause-told g c = λ tells left right first second no
     let went = c.loop-chunk.invariant.went in
     let cut = c.in_err-pair_blocks.ensures.err in
     let gone = Rattle.ob_store.proofs.Steps.none_before _ _ cut.lasts.later nolie in
-    let now_left = represents_lasts pack c.args.left.now (one to) _ _ went.lasts c.requires.left_apart left first in
-    let now_right = represents_lasts pack c.args.right.now none _ _ read.lasts (λ s. s) right (represents_lasts pack c.args.right.now (one to) _ _ went.lasts c.requires.right_apart right second) in
+    let now_left = represents_lasts pack c.args.sides.now.left.now (one to) _ _ went.lasts c.requires.left_apart left first in
+    let now_right = represents_lasts pack c.args.sides.now.right.now none _ _ read.lasts (λ s. s) right (represents_lasts pack c.args.sides.now.right.now (one to) _ _ went.lasts c.requires.right_apart right second) in
     let spelt = c.in_ok-collect_chunk.ensures.told left now_left gone in
     let told = rw c.loop-chunk.invariant.rows.count at c.in_err-pair_blocks.ensures.told in
     rw (p.1, p.2) (told (tells_went _ _ _ _ read (tells_went _ _ _ _ went tells)) _ right [] spelt now_right nolie)
@@ -303,8 +303,8 @@ returns-in_err-pair_blocks-clause-told g c = λ tells left right first second no
 pub loop-chunk-preserved : goal.loop-chunk-preserved
 loop-chunk-preserved g c =
     let pack = length c.args.rows.now in
-    let left = c.args.left.now in
-    let right = c.args.right.now in
+    let left = c.args.sides.now.left.now in
+    let right = c.args.sides.now.right.now in
     let to = c.args.to.now in
     let q = c.args.buffered in
     let j = c.loop-chunk.chunk in
@@ -337,13 +337,13 @@ loop-chunk-preserved g c =
           let began = none_went _ _ _ _ read gone in
           let now_left = represents_lasts pack left (one to.region) _ _ before.went.lasts c.requires.left_apart lslots first in
           let now_right = represents_lasts pack right none _ _ read.lasts (λ s. s) rslots (represents_lasts pack right (one to.region) _ _ before.went.lasts c.requires.right_apart rslots second) in
-          let all = joined_in c.args.lcol c.args.rcol (pack * q) chunks (rights * pack) lslots rslots in
+          let all = joined_in c.args.sides.now.lcol c.args.sides.now.rcol (pack * q) chunks (rights * pack) lslots rslots in
           let spelt = rw n_is at (c.in_ok-collect_chunk.ensures.told lslots now_left gone) in
           let told = rw before.rows.count at c.in_ok-pair_blocks.ensures.told in
           let made = told (tells_went _ _ _ _ read (tells_went _ _ _ _ before.went tells)) (blocks_from pack left.capacity (j * q) (min q (lefts - j * q)) lslots) rslots all spelt now_right nolie in
           let room : length rslots ≤ rights * pack = omega (arith, second.size, blocks_hold pack right.capacity c.requires.pack.0) in
           holds_at pack to (j * rights + rights) ((j + 1) * rights) all _ (next_chunk j rights)
-          (made (λ v inside. joined_kept c.args.lcol c.args.rcol pack left.capacity q rights j v lslots rslots first.size room c.requires.pack.0 c.requires.some below inside)
+          (made (λ v inside. joined_kept c.args.sides.now.lcol c.args.sides.now.rcol pack left.capacity q rights j v lslots rslots first.size room c.requires.pack.0 c.requires.some below inside)
           (holds_read pack to (j * rights) _ _ _ all read (before.told tells lslots rslots first second began)));
     }
 
@@ -352,18 +352,18 @@ returns-clause-ok g c =
     let pack = length c.args.rows.now in
     let q = c.args.buffered in
     let to = c.args.to.now.region in
-    let lefts = blocks_for pack c.args.left.now.capacity in
-    let rights = blocks_for pack c.args.right.now.capacity in
+    let lefts = blocks_for pack c.args.sides.now.left.now.capacity in
+    let rights = blocks_for pack c.args.sides.now.right.now.capacity in
     let last = all_chunks lefts q c.loop-chunk.chunk _ _ c.div_ceil-lefts.ensures c.div_ceil-chunk-end.ensures (omega arith) (omega arith) in
-    subst (λ (n : ℕ). Went (each n (join_chunk c.args.left.now.region c.args.right.now.region to lefts rights q)) (one to) (at g.R.Revisions.state c.args.vault.now (g.S.BlockStore.state c.args.store.now)) (at g.R.Revisions.state c.loop-chunk.vault (g.S.BlockStore.state c.loop-chunk.store))) last c.loop-chunk.invariant.went
+    subst (λ (n : ℕ). Went (each n (join_chunk c.args.sides.now.left.now.region c.args.sides.now.right.now.region to lefts rights q)) (one to) (at g.R.Revisions.state c.args.vault.now (g.S.BlockStore.state c.args.store.now)) (at g.R.Revisions.state c.loop-chunk.vault (g.S.BlockStore.state c.loop-chunk.store))) last c.loop-chunk.invariant.went
 
 pub returns-clause-flat : goal.returns-clause-flat
 returns-clause-flat g c =
     let pack = length c.args.rows.now in
     let q = c.args.buffered in
     let j = c.loop-chunk.chunk in
-    let lefts = blocks_for pack c.args.left.now.capacity in
-    let rights = blocks_for pack c.args.right.now.capacity in
+    let lefts = blocks_for pack c.args.sides.now.left.now.capacity in
+    let rights = blocks_for pack c.args.sides.now.right.now.capacity in
     let last = all_chunks lefts q j _ _ c.div_ceil-lefts.ensures c.div_ceil-chunk-end.ensures (omega arith) (omega arith) in
     let all : blocks_for pack c.args.to.now.capacity ≡ div_ceil lefts q * rights = ap (blocks_for pack) c.requires.total ∙ whole_product (div_ceil lefts q * rights) pack c.requires.pack.0 in
     filled pack c.args.to.now (j * rights) _ (ap (λ (k : ℕ). k * rights) last ∙ sym all) c.loop-chunk.invariant.filling
@@ -371,8 +371,8 @@ returns-clause-flat g c =
 pub returns-clause-told : goal.returns-clause-told
 returns-clause-told g c = λ tells lslots rslots first second nolie.
     let pack = length c.args.rows.now in
-    let left = c.args.left.now in
-    let right = c.args.right.now in
+    let left = c.args.sides.now.left.now in
+    let right = c.args.sides.now.right.now in
     let q = c.args.buffered in
     let j = c.loop-chunk.chunk in
     let lefts = blocks_for pack left.capacity in
@@ -380,6 +380,6 @@ returns-clause-told g c = λ tells lslots rslots first second nolie.
     let chunks = div_ceil lefts q in
     let last = all_chunks lefts q j _ _ c.div_ceil-lefts.ensures c.div_ceil-chunk-end.ensures (omega arith) (omega arith) in
     let room : length rslots ≤ rights * pack = omega (arith, second.size, blocks_hold pack right.capacity c.requires.pack.0) in
-    let all = joined_in c.args.lcol c.args.rcol (pack * q) chunks (rights * pack) lslots rslots in
-    represents_joined left.schema right.schema c.args.lcol c.args.rcol (pack * q) chunks rights pack c.args.to.now lslots rslots _ c.requires.schema c.requires.total c.requires.pack.0 room first.fits second.fits
+    let all = joined_in c.args.sides.now.lcol c.args.sides.now.rcol (pack * q) chunks (rights * pack) lslots rslots in
+    represents_joined left.schema right.schema c.args.sides.now.lcol c.args.sides.now.rcol (pack * q) chunks rights pack c.args.to.now lslots rslots _ c.requires.schema c.requires.total c.requires.pack.0 room first.fits second.fits
     (holds_at pack c.args.to.now (j * rights) (chunks * rights) all _ (ap (λ (k : ℕ). k * rights) last) (c.loop-chunk.invariant.told tells lslots rslots first second nolie))

@@ -13,13 +13,13 @@ returns-in-Err-clause-told c = λ slots block spelt right.
     let z = c.loop-z.z in
     let slot = slice_index_or block z None in
     let row = same_at c.args.rows.now z c.index-rows-z.result c.loop-z-test.true c.index-rows-z.is in
-    c.in-Err.ensures.told slots slot spelt (subst (Begins c.args.right.now.schema slot) row (right.each z c.loop-z-test.true))
+    c.in-Err.ensures.told slots slot spelt (subst (Begins c.args.sides.now.right.now.schema slot) row (right.each z c.loop-z-test.true))
 
 pub loop-z-preserved : goal.loop-z-preserved
 loop-z-preserved c =
     let z = c.loop-z.z in
-    let left = c.args.left.now in
-    let right = c.args.right.now in
+    let left = c.args.sides.now.left.now.schema in
+    let right = c.args.sides.now.right.now in
     let to = c.loop-z.to in
     let was = c.loop-z.invariant in
     let inside : z < length to = omega (arith, was.same.count, c.requires.same, c.loop-z-test.true) in
@@ -33,15 +33,15 @@ loop-z-preserved c =
       told = λ slots block spelt spelt'.
           let slot = slice_index_or block z None in
           let here = c.in-Ok.ensures.told slots slot spelt (subst (Begins right.schema slot) row (spelt'.each z c.loop-z-test.true)) in
-          spells_more (left ++ right.schema) to z new inside (λ j r. Begins (left ++ right.schema) (joined_below c.args.lcol c.args.rcol (rows slots) right.capacity (c.args.first + j) (slice_index_or block j None)) r)
+          spells_more (left ++ right.schema) to z new inside (λ j r. Begins (left ++ right.schema) (joined_below c.args.sides.now.lcol c.args.sides.now.rcol (rows slots) right.capacity (c.args.first + j) (slice_index_or block j None)) r)
           (was.told slots block spelt spelt') here;
     }
 
 pub returns-clause-read : goal.returns-clause-read
-returns-clause-read c = slots_of c.args.right.now.schema c.args.rows.now (λ j below. c.loop-z.invariant.read j (omega (arith, below, c.loop-z-test.false)))
+returns-clause-read c = slots_of c.args.sides.now.right.now.schema c.args.rows.now (λ j below. c.loop-z.invariant.read j (omega (arith, below, c.loop-z-test.false)))
 
 pub returns-clause-told : goal.returns-clause-told
 returns-clause-told c = λ slots block spelt right.
     let same = c.loop-z.invariant.same.count in
-    spelt_changed (c.args.left.now ++ c.args.right.now.schema) (joined_below c.args.lcol c.args.rcol (rows slots) c.args.right.now.capacity) c.args.first c.loop-z.z block c.loop-z.to
+    spelt_changed (c.args.sides.now.left.now.schema ++ c.args.sides.now.right.now.schema) (joined_below c.args.sides.now.lcol c.args.sides.now.rcol (rows slots) c.args.sides.now.right.now.capacity) c.args.first c.loop-z.z block c.loop-z.to
     (omega (arith, right.count, same, c.requires.same)) (omega (arith, same, c.requires.same, c.loop-z-test.false)) (c.loop-z.invariant.told slots block spelt right)

@@ -11,7 +11,7 @@ abbrev pub invariant-loop-z : goal.invariant-loop-z
 invariant-loop-z l =
     record {
       same : SameSizes l.initial.to l.to;
-      read : (j : ℕ) → j < l.z → (slot : Option Row) × Begins l.right.schema slot (row_at l.rows j);
-      told : (slots block : Slots) → Spelt l.left slots l.kept → Spelt l.right.schema block l.rows
-          → (j : ℕ) → j < l.z → Begins (l.left ++ l.right.schema) (joined_below l.fn.lcol l.fn.rcol (rows slots) l.right.capacity (l.fn.first + j) (slice_index_or block j None)) (row_at l.to j);
+      read : (j : ℕ) → j < l.z → (slot : Option Row) × Begins l.sides.right.now.schema slot (row_at l.rows j);
+      told : (slots block : Slots) → Spelt l.sides.left.now.schema slots l.kept → Spelt l.sides.right.now.schema block l.rows
+          → (j : ℕ) → j < l.z → Begins (l.sides.left.now.schema ++ l.sides.right.now.schema) (joined_below l.sides.lcol l.sides.rcol (rows slots) l.sides.right.now.capacity (l.fn.first + j) (slice_index_or block j None)) (row_at l.to j);
     }

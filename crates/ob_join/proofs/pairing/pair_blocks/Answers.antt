@@ -30,14 +30,14 @@ joined_slots left right to lcol rcol capacity first block lefts out same spelt =
 
 pub get-requires-clause-spare : goal.get-requires-clause-spare
 get-requires-clause-spare g c =
-    omega (arith, c.requires.spare, c.loop-v.invariant.went.spare, pairs_length c.args.right.now.region c.args.to.now.region (blocks_for (length c.args.rows.now) c.args.right.now.capacity) c.args.chunk c.loop-v.v, c.div_ceil-blocks.ensures)
+    omega (arith, c.requires.spare, c.loop-v.invariant.went.spare, pairs_length c.args.sides.now.right.now.region c.args.to.now.region (blocks_for (length c.args.rows.now) c.args.sides.now.right.now.capacity) c.args.chunk c.loop-v.v, c.div_ceil-blocks.ensures)
 
 pub get-requires-clause-place : goal.get-requires-clause-place
 get-requires-clause-place g c =
     let flat = c.requires.right in
     let v = c.loop-v.v in
     let went = c.loop-v.invariant.went in
-    may_get _ v (table_region flat.made.order (length c.args.rows.now) c.args.right.now.schema c.args.right.now.capacity) _ _ (lives_went _ _ _ _ _ _ went c.requires.apart flat.made.lives) (omega (arith, c.div_ceil-blocks.ensures))
+    may_get _ v (table_region flat.made.order (length c.args.rows.now) c.args.sides.now.right.now.schema c.args.sides.now.right.now.capacity) _ _ (lives_went _ _ _ _ _ _ went c.requires.apart flat.made.lives) (omega (arith, c.div_ceil-blocks.ensures))
     (fit_same _ _ _ c.loop-v.invariant.same c.requires.fit) (written_went _ _ _ _ _ v went c.requires.apart (flat.written v (omega (arith, c.div_ceil-blocks.ensures))))
 
 pub returns-in_err-get-clause-rows : goal.returns-in_err-get-clause-rows
@@ -46,10 +46,10 @@ returns-in_err-get-clause-rows g c = fit_trans _ _ _ c.loop-v.invariant.same c.g
 pub returns-in_err-get-clause-err : goal.returns-in_err-get-clause-err
 returns-in_err-get-clause-err g c =
     let p = err_from_is_err_and c.from_residual.result c.from_residual.ensures.1 in
-    let b = c.args.right.now.region in
+    let b = c.args.sides.now.right.now.region in
     let to = c.args.to.now.region in
     let v = c.loop-v.v in
-    let rights = blocks_for (length c.args.rows.now) c.args.right.now.capacity in
+    let rights = blocks_for (length c.args.rows.now) c.args.sides.now.right.now.capacity in
     rw (p.1, p.2) (pass_each (one to) (pair_at b to rights c.args.chunk) _ _ _ _ rights v (omega (arith, c.div_ceil-blocks.ensures)) c.loop-v.invariant.went
     (pass_more (one to) _ _ _ (read_at b v) (write_at to (c.args.chunk * rights + v)) (pass_wider none _ _ (one to) (λ q s. absurd s) _ _ (pass_of _ _ _ _ _ c.in_err-get.ensures.err))))
 
@@ -68,7 +68,7 @@ pub returns-in_err-get-clause-told : goal.returns-in_err-get-clause-told
 returns-in_err-get-clause-told g c = λ tells left_slots slots all spelt is nolie.
     let p = err_from_is_err_and c.from_residual.result c.from_residual.ensures.1 in
     let pack = length c.args.rows.now in
-    let flat = c.args.right.now in
+    let flat = c.args.sides.now.right.now in
     let v = c.loop-v.v in
     let below : v < blocks_for pack flat.capacity = omega (arith, c.div_ceil-blocks.ensures) in
     let went = c.loop-v.invariant.went in
@@ -77,11 +77,11 @@ returns-in_err-get-clause-told g c = λ tells left_slots slots all spelt is noli
     rw (p.1, p.2) (ap pass_error (c.in_err-get.ensures.told _ shape (lives_went _ _ _ _ _ _ went c.requires.apart c.requires.right.made.lives) (block_long pack flat slots _ is c.requires.pack.0 v below) (now.holds v below) nolie))
 
 pub overflow_mul-v : goal.overflow_mul-v
-overflow_mul-v g c = omega (arith, index_fits (length c.args.rows.now) c.args.right.now.capacity c.loop-v.v c.requires.pack.0 c.requires.pack.1 c.requires.size.most (omega (arith, c.div_ceil-blocks.ensures)))
+overflow_mul-v g c = omega (arith, index_fits (length c.args.rows.now) c.args.sides.now.right.now.capacity c.loop-v.v c.requires.pack.0 c.requires.pack.1 c.requires.size.most (omega (arith, c.div_ceil-blocks.ensures)))
 
 pub join_rows-requires-clause-rows : goal.join_rows-requires-clause-rows
 join_rows-requires-clause-rows g c =
-    wide_same _ _ _ (fit_trans _ _ _ c.loop-v.invariant.same c.get.ensures.rows) (wide_fit (width c.args.right.now.schema) c.args.rows.now c.requires.fit)
+    wide_same _ _ _ (fit_trans _ _ _ c.loop-v.invariant.same c.get.ensures.rows) (wide_fit (width c.args.sides.now.right.now.schema) c.args.rows.now c.requires.fit)
 
 pub join_rows-requires-clause-to : goal.join_rows-requires-clause-to
 join_rows-requires-clause-to g c =
@@ -93,7 +93,7 @@ join_rows-requires-clause-same g c = omega (arith, c.loop-v.invariant.out.count,
 pub join_rows-requires-clause-index : goal.join_rows-requires-clause-index
 join_rows-requires-clause-index g c =
     let same = fit_trans _ _ _ c.loop-v.invariant.same c.get.ensures.rows in
-    omega (arith, same.count, index_fits (length c.args.rows.now) c.args.right.now.capacity c.loop-v.v c.requires.pack.0 c.requires.pack.1 c.requires.size.most (omega (arith, c.div_ceil-blocks.ensures)))
+    omega (arith, same.count, index_fits (length c.args.rows.now) c.args.sides.now.right.now.capacity c.loop-v.v c.requires.pack.0 c.requires.pack.1 c.requires.size.most (omega (arith, c.div_ceil-blocks.ensures)))
 
 pub returns-in-Err-clause-rows : goal.returns-in-Err-clause-rows
 returns-in-Err-clause-rows g c = fit_trans _ _ _ c.loop-v.invariant.same c.get.ensures.rows
@@ -103,10 +103,10 @@ returns-in-Err-clause-out g c = fit_trans _ _ _ c.loop-v.invariant.out c.join_ro
 
 pub returns-in-Err-clause-err : goal.returns-in-Err-clause-err
 returns-in-Err-clause-err g c =
-    let b = c.args.right.now.region in
+    let b = c.args.sides.now.right.now.region in
     let to = c.args.to.now.region in
     let v = c.loop-v.v in
-    let rights = blocks_for (length c.args.rows.now) c.args.right.now.capacity in
+    let rights = blocks_for (length c.args.rows.now) c.args.sides.now.right.now.capacity in
     pass_each (one to) (pair_at b to rights c.args.chunk) _ _ _ _ rights v (omega (arith, c.div_ceil-blocks.ensures)) c.loop-v.invariant.went
     (pass_more (one to) _ _ _ (read_at b v) (write_at to (c.args.chunk * rights + v)) (pass_wider none _ _ (one to) (λ q s. absurd s) _ _ (pass_malformed none _ _ b v (read_at b v) c.in_ok-get.ensures.ok)))
 
@@ -119,7 +119,7 @@ returns-in-Err-clause-seals g c = λ good fine. seals_join good _ _ _ c.loop-v.i
 pub returns-in-Err-clause-told : goal.returns-in-Err-clause-told
 returns-in-Err-clause-told g c = λ tells left_slots slots all spelt is nolie.
     let pack = length c.args.rows.now in
-    let flat = c.args.right.now in
+    let flat = c.args.sides.now.right.now in
     let v = c.loop-v.v in
     let below : v < blocks_for pack flat.capacity = omega (arith, c.div_ceil-blocks.ensures) in
     let went = c.loop-v.invariant.went in
@@ -132,18 +132,18 @@ returns-in-Err-clause-told g c = λ tells left_slots slots all spelt is nolie.
 
 pub put-requires-clause-spare : goal.put-requires-clause-spare
 put-requires-clause-spare g c =
-    omega (arith, c.requires.spare, c.in_ok-get.ensures.ok.spare, c.loop-v.invariant.went.spare, pairs_length c.args.right.now.region c.args.to.now.region (blocks_for (length c.args.rows.now) c.args.right.now.capacity) c.args.chunk c.loop-v.v, c.div_ceil-blocks.ensures)
+    omega (arith, c.requires.spare, c.in_ok-get.ensures.ok.spare, c.loop-v.invariant.went.spare, pairs_length c.args.sides.now.right.now.region c.args.to.now.region (blocks_for (length c.args.rows.now) c.args.sides.now.right.now.capacity) c.args.chunk c.loop-v.v, c.div_ceil-blocks.ensures)
 
 pub put-requires-clause-few : goal.put-requires-clause-few
 put-requires-clause-few g c =
-    omega (arith, c.requires.few, went_length _ _ _ _ c.in_ok-get.ensures.ok, went_length _ _ _ _ c.loop-v.invariant.went, pairs_length c.args.right.now.region c.args.to.now.region (blocks_for (length c.args.rows.now) c.args.right.now.capacity) c.args.chunk c.loop-v.v, c.div_ceil-blocks.ensures)
+    omega (arith, c.requires.few, went_length _ _ _ _ c.in_ok-get.ensures.ok, went_length _ _ _ _ c.loop-v.invariant.went, pairs_length c.args.sides.now.right.now.region c.args.to.now.region (blocks_for (length c.args.rows.now) c.args.sides.now.right.now.capacity) c.args.chunk c.loop-v.v, c.div_ceil-blocks.ensures)
 
 pub put-requires-clause-place : goal.put-requires-clause-place
 put-requires-clause-place g c =
     let v = c.loop-v.v in
     let pack = length c.args.rows.now in
     let to = c.args.to.now in
-    let rights = blocks_for pack c.args.right.now.capacity in
+    let rights = blocks_for pack c.args.sides.now.right.now.capacity in
     let n = c.args.chunk * rights + v in
     let below : n < blocks_for pack to.capacity = omega (arith, c.requires.within, c.div_ceil-blocks.ensures) in
     let filling = filling_read pack to n _ _ _ c.in_ok-get.ensures.ok c.get.ensures.turns c.loop-v.invariant.filling in
@@ -161,10 +161,10 @@ returns-in_err-put-clause-out g c = fit_trans _ _ _ c.loop-v.invariant.out c.joi
 pub returns-in_err-put-clause-err : goal.returns-in_err-put-clause-err
 returns-in_err-put-clause-err g c =
     let p = err_from_is_err_and c.from_residual-in_err-put.result c.from_residual-in_err-put.ensures.1 in
-    let b = c.args.right.now.region in
+    let b = c.args.sides.now.right.now.region in
     let to = c.args.to.now.region in
     let v = c.loop-v.v in
-    let rights = blocks_for (length c.args.rows.now) c.args.right.now.capacity in
+    let rights = blocks_for (length c.args.rows.now) c.args.sides.now.right.now.capacity in
     let cut = rw c.div_ceil-blocks.ensures at c.in_err-put.ensures.err in
     rw (p.1, p.2) (pass_each (one to) (pair_at b to rights c.args.chunk) _ _ _ _ rights v (omega (arith, c.div_ceil-blocks.ensures)) c.loop-v.invariant.went
     (pass_after (one to) _ _ _ _ (read_at b v) (write_at to (c.args.chunk * rights + v)) (went_wider none _ _ (one to) (λ q s. absurd s) _ c.in_ok-get.ensures.ok) (pass_of _ _ _ _ _ cut)))
@@ -179,13 +179,13 @@ returns-in_err-put-clause-seals g c = λ good fine.
     let shape = table_region filling.order pack to.schema to.capacity in
     let size = fit_trans _ _ _ before.out c.join_rows.ensures.size in
     let is = c.in-Ok.ensures.read in
-    let spells = joined_slots c.args.left.now c.args.right.now.schema to.schema c.args.lcol c.args.rcol _ _ is.slots c.requires.spells.slots c.join_rows.new.to c.requires.schema (c.in-Ok.ensures.told c.requires.spells.slots is.slots c.requires.spells.spelt is.spelt) in
+    let spells = joined_slots c.args.sides.now.left.now.schema c.args.sides.now.right.now.schema to.schema c.args.sides.now.lcol c.args.sides.now.rcol _ _ is.slots c.requires.spells.slots c.join_rows.new.to c.requires.schema (c.in-Ok.ensures.told c.requires.spells.slots is.slots c.requires.spells.spelt is.spelt) in
     seals_join good _ _ _ before.went.lasts.later (before.seals good fine)
     (seals_join good _ _ _ read.lasts.later (c.get.ensures.seals good) (c.put.ensures.seals good shape filling.lives (accepted good pack to.region to.schema c.join_rows.new.to c.requires.pack.0 (size.count ∙ c.requires.same) fine spells)))
 
 pub loop-v-init : goal.loop-v-init
 loop-v-init g c =
-    let start = c.args.chunk * blocks_for (length c.args.rows.now) c.args.right.now.capacity in
+    let start = c.args.chunk * blocks_for (length c.args.rows.now) c.args.sides.now.right.now.capacity in
     let none_yet : start ≡ start + 0 = omega arith in
     record {
       went = went_none (one c.args.to.now.region) _ c.requires.ready;
@@ -199,8 +199,8 @@ loop-v-init g c =
 pub loop-v-preserved : goal.loop-v-preserved
 loop-v-preserved g c =
     let pack = length c.args.rows.now in
-    let left = c.args.left.now in
-    let flat = c.args.right.now in
+    let left = c.args.sides.now.left.now.schema in
+    let flat = c.args.sides.now.right.now in
     let to = c.args.to.now in
     let b = flat.region in
     let v = c.loop-v.v in
@@ -218,7 +218,7 @@ loop-v-preserved g c =
     let same = fit_trans _ _ _ before.same c.get.ensures.rows in
     let size = fit_trans _ _ _ before.out c.join_rows.ensures.size in
     let is = c.in-Ok.ensures.read in
-    let spells = joined_slots left flat.schema to.schema c.args.lcol c.args.rcol flat.capacity (v * pack) is.slots c.requires.spells.slots c.join_rows.new.to c.requires.schema (c.in-Ok.ensures.told c.requires.spells.slots is.slots c.requires.spells.spelt is.spelt) in
+    let spells = joined_slots left flat.schema to.schema c.args.sides.now.lcol c.args.sides.now.rcol flat.capacity (v * pack) is.slots c.requires.spells.slots c.join_rows.new.to c.requires.schema (c.in-Ok.ensures.told c.requires.spells.slots is.slots c.requires.spells.spelt is.spelt) in
     let next : start + v + 1 ≡ start + (v + 1) = omega arith in
     record {
       went = went_each (one to.region) (pair_at b to.region rights c.args.chunk) _ _ _ v before.went
@@ -238,9 +238,9 @@ loop-v-preserved g c =
           let wide = wide_same (width flat.schema) _ _ same (wide_fit (width flat.schema) c.args.rows.now c.requires.fit) in
           let right = got pack flat slots _ represents c.requires.pack.0 v (length c.loop-v.rows) c.get.new.rows below before.same.count same.count wide bytes in
           let made = c.in-Ok.ensures.told left_slots block spelt right in
-          let joined = joined_chunk c.args.lcol c.args.rcol (rights * pack) left_slots slots in
-          let same_block : map_at (joined_below c.args.lcol c.args.rcol (rows left_slots) flat.capacity) (v * pack) block ≡ block_at pack all (start + v) =
-          chunk_block c.args.lcol c.args.rcol pack flat.capacity v left_slots slots represents.size ∙ sym (blocks v below) in
+          let joined = joined_chunk c.args.sides.now.lcol c.args.sides.now.rcol (rights * pack) left_slots slots in
+          let same_block : map_at (joined_below c.args.sides.now.lcol c.args.sides.now.rcol (rows left_slots) flat.capacity) (v * pack) block ≡ block_at pack all (start + v) =
+          chunk_block c.args.sides.now.lcol c.args.sides.now.rcol pack flat.capacity v left_slots slots represents.size ∙ sym (blocks v below) in
           let made' : Spelt to.schema (block_at pack all (start + v)) c.join_rows.new.to =
           subst (λ (s : Columns). Spelt s (block_at pack all (start + v)) c.join_rows.new.to) (sym c.requires.schema) (subst (λ (l : Slots). Spelt (left ++ flat.schema) l c.join_rows.new.to) same_block made) in
           let told = rw c.div_ceil-blocks.ensures at c.in_ok-put.ensures.told in
@@ -250,12 +250,12 @@ loop-v-preserved g c =
 
 pub returns-clause-filling : goal.returns-clause-filling
 returns-clause-filling g c =
-    let rights = blocks_for (length c.args.rows.now) c.args.right.now.capacity in
+    let rights = blocks_for (length c.args.rows.now) c.args.sides.now.right.now.capacity in
     let last : c.loop-v.v ≡ rights = omega (arith, c.div_ceil-blocks.ensures) in
     filling_at (length c.args.rows.now) c.args.to.now (c.args.chunk * rights + c.loop-v.v) (c.args.chunk * rights + rights) _ (ap (λ (n : ℕ). c.args.chunk * rights + n) last) c.loop-v.invariant.filling
 
 pub returns-clause-told : goal.returns-clause-told
 returns-clause-told g c = λ tells left_slots slots all spelt is nolie blocks holds.
-    let rights = blocks_for (length c.args.rows.now) c.args.right.now.capacity in
+    let rights = blocks_for (length c.args.rows.now) c.args.sides.now.right.now.capacity in
     let last : c.loop-v.v ≡ rights = omega (arith, c.div_ceil-blocks.ensures) in
     holds_at (length c.args.rows.now) c.args.to.now (c.args.chunk * rights + c.loop-v.v) (c.args.chunk * rights + rights) all _ (ap (λ (n : ℕ). c.args.chunk * rights + n) last) (c.loop-v.invariant.told tells left_slots slots all spelt is nolie blocks holds)

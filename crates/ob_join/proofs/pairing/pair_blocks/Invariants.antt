@@ -18,15 +18,15 @@ invariant-loop-v g l =
     let old = at g.R.Revisions.state l.initial.vault (g.S.BlockStore.state l.initial.store) in
     let now = at g.R.Revisions.state l.vault (g.S.BlockStore.state l.store) in
     let pack = length l.initial.rows in
-    let rights = blocks_for pack l.right.capacity in
+    let rights = blocks_for pack l.sides.right.now.capacity in
     let start = l.fn.chunk * rights in
     record {
-      went : Went (each l.v (pair_at l.right.region l.to.region rights l.fn.chunk)) (one l.to.region) old now;
+      went : Went (each l.v (pair_at l.sides.right.now.region l.to.region rights l.fn.chunk)) (one l.to.region) old now;
       seals : (good : ℕ → List ℕ → Bool) → Accepts good pack l.to.schema l.to.region → Seals good old now;
       filling : IsFilling pack l.to (start + l.v) now;
       same : SameSizes l.initial.rows l.rows;
       out : SameSizes l.initial.out l.out;
-      told : IsTrue old.store.tells → (left_slots right_slots all : Slots) → Spelt l.left left_slots l.kept → Represents pack l.right right_slots old → now.store.lie ≡ None
-          → ((v : ℕ) → v < rights → block_at pack all (start + v) ≡ block_at pack (joined_chunk l.fn.lcol l.fn.rcol (rights * pack) left_slots right_slots) v)
+      told : IsTrue old.store.tells → (left_slots right_slots all : Slots) → Spelt l.sides.left.now.schema left_slots l.kept → Represents pack l.sides.right.now right_slots old → now.store.lie ≡ None
+          → ((v : ℕ) → v < rights → block_at pack all (start + v) ≡ block_at pack (joined_chunk l.sides.lcol l.sides.rcol (rights * pack) left_slots right_slots) v)
           → HoldsFirst pack l.to all start old → HoldsFirst pack l.to all (start + l.v) now;
     }

@@ -21,7 +21,7 @@ overflow_mul-capacity g c =
     omega (
       arith,
       product_least (c.div_ceil-chunks.result * c.div_ceil-2.result) pack c.requires.pack.0,
-      capacity_is pack c.args.left.now.capacity c.args.right.now.capacity c.args.buffered c.div_ceil.result c.div_ceil-chunks.result c.div_ceil-2.result c.div_ceil.ensures c.div_ceil-chunks.ensures c.div_ceil-2.ensures,
+      capacity_is pack c.args.sides.now.left.now.capacity c.args.sides.now.right.now.capacity c.args.buffered c.div_ceil.result c.div_ceil-chunks.result c.div_ceil-2.result c.div_ceil.ensures c.div_ceil-chunks.ensures c.div_ceil-2.ensures,
       c.requires.sized.most,
     )
 
@@ -31,22 +31,22 @@ returns-in_err-region-clause-err g c =
     let next = c.args.vault.now.next in
     let pack = length c.args.rows.now in
     let q = c.args.buffered in
-    let lefts = blocks_for pack c.args.left.now.capacity in
-    let rights = blocks_for pack c.args.right.now.capacity in
-    let wide = pack * width (c.args.left.now.schema ++ c.args.right.now.schema) in
-    let blocks = blocks_are pack c.args.left.now.capacity c.args.right.now.capacity q c.div_ceil.result c.div_ceil-chunks.result c.div_ceil-2.result c.requires.pack.0 c.div_ceil.ensures c.div_ceil-chunks.ensures c.div_ceil-2.ensures in
+    let lefts = blocks_for pack c.args.sides.now.left.now.capacity in
+    let rights = blocks_for pack c.args.sides.now.right.now.capacity in
+    let wide = pack * width (c.args.sides.now.left.now.schema ++ c.args.sides.now.right.now.schema) in
+    let blocks = blocks_are pack c.args.sides.now.left.now.capacity c.args.sides.now.right.now.capacity q c.div_ceil.result c.div_ceil-chunks.result c.div_ceil-2.result c.requires.pack.0 c.div_ceil.ensures c.div_ceil-chunks.ensures c.div_ceil-2.ensures in
     let made = cut_make next _ (div_ceil lefts q * rights) _ wide (one next) _ _ blocks (ap (λ (s : Columns). pack * width s) c.joined_schema-schema.ensures) _ c.in_err-region.ensures.err in
-    rw (p.1, p.2) (pass_more (one next) _ _ _ (make_at next (div_ceil lefts q * rights) wide) (each (div_ceil lefts q) (join_chunk c.args.left.now.region c.args.right.now.region next lefts rights q)) made)
+    rw (p.1, p.2) (pass_more (one next) _ _ _ (make_at next (div_ceil lefts q * rights) wide) (each (div_ceil lefts q) (join_chunk c.args.sides.now.left.now.region c.args.sides.now.right.now.region next lefts rights q)) made)
 
 pub returns-in_err-region-clause-memory : goal.returns-in_err-region-clause-memory
 returns-in_err-region-clause-memory g c = λ none.
     let next = c.args.vault.now.next in
     let pack = length c.args.rows.now in
     let q = c.args.buffered in
-    let lefts = blocks_for pack c.args.left.now.capacity in
-    let rights = blocks_for pack c.args.right.now.capacity in
-    let wide = pack * width (c.args.left.now.schema ++ c.args.right.now.schema) in
-    let blocks = blocks_are pack c.args.left.now.capacity c.args.right.now.capacity q c.div_ceil.result c.div_ceil-chunks.result c.div_ceil-2.result c.requires.pack.0 c.div_ceil.ensures c.div_ceil-chunks.ensures c.div_ceil-2.ensures in
+    let lefts = blocks_for pack c.args.sides.now.left.now.capacity in
+    let rights = blocks_for pack c.args.sides.now.right.now.capacity in
+    let wide = pack * width (c.args.sides.now.left.now.schema ++ c.args.sides.now.right.now.schema) in
+    let blocks = blocks_are pack c.args.sides.now.left.now.capacity c.args.sides.now.right.now.capacity q c.div_ceil.result c.div_ceil-chunks.result c.div_ceil-2.result c.requires.pack.0 c.div_ceil.ensures c.div_ceil-chunks.ensures c.div_ceil-2.ensures in
     (cut_make next _ (div_ceil lefts q * rights) _ wide (one next) _ _ blocks (ap (λ (s : Columns). pack * width s) c.joined_schema-schema.ensures) _ c.in_err-region.ensures.err).began
 
 pub returns-in_err-region-clause-sources : goal.returns-in_err-region-clause-sources
@@ -54,17 +54,17 @@ returns-in_err-region-clause-sources g c =
     let pack = length c.args.rows.now in
     let next = c.args.vault.now.next in
     let lasts = c.in_err-region.ensures.err.lasts in (
-      flat_lasts pack c.args.left.now (one next) _ _ lasts (lives_apart _ _ _ c.requires.ready c.requires.left.made.lives) c.requires.left,
-      flat_lasts pack c.args.right.now (one next) _ _ lasts (lives_apart _ _ _ c.requires.ready c.requires.right.made.lives) c.requires.right,
+      flat_lasts pack c.args.sides.now.left.now (one next) _ _ lasts (lives_apart _ _ _ c.requires.ready c.requires.left.made.lives) c.requires.left,
+      flat_lasts pack c.args.sides.now.right.now (one next) _ _ lasts (lives_apart _ _ _ c.requires.ready c.requires.right.made.lives) c.requires.right,
     )
 
 pub fill_result-requires-clause-left : goal.fill_result-requires-clause-left
 fill_result-requires-clause-left g c =
-    flat_lasts (length c.args.rows.now) c.args.left.now (one c.args.vault.now.next) _ _ c.in_ok-region.ensures.ok.lasts (lives_apart _ _ _ c.requires.ready c.requires.left.made.lives) c.requires.left
+    flat_lasts (length c.args.rows.now) c.args.sides.now.left.now (one c.args.vault.now.next) _ _ c.in_ok-region.ensures.ok.lasts (lives_apart _ _ _ c.requires.ready c.requires.left.made.lives) c.requires.left
 
 pub fill_result-requires-clause-right : goal.fill_result-requires-clause-right
 fill_result-requires-clause-right g c =
-    flat_lasts (length c.args.rows.now) c.args.right.now (one c.args.vault.now.next) _ _ c.in_ok-region.ensures.ok.lasts (lives_apart _ _ _ c.requires.ready c.requires.right.made.lives) c.requires.right
+    flat_lasts (length c.args.rows.now) c.args.sides.now.right.now (one c.args.vault.now.next) _ _ c.in_ok-region.ensures.ok.lasts (lives_apart _ _ _ c.requires.ready c.requires.right.made.lives) c.requires.right
 
 pub fill_result-requires-clause-left_apart : goal.fill_result-requires-clause-left_apart
 fill_result-requires-clause-left_apart g c = λ same. lives_apart _ _ _ c.requires.ready c.requires.left.made.lives (same ∙ c.in_ok-region.ensures.number)
@@ -77,13 +77,13 @@ returns-in-Ok-clause-ok g c =
     let next = c.args.vault.now.next in
     let pack = length c.args.rows.now in
     let q = c.args.buffered in
-    let lefts = blocks_for pack c.args.left.now.capacity in
-    let rights = blocks_for pack c.args.right.now.capacity in
-    let wide = pack * width (c.args.left.now.schema ++ c.args.right.now.schema) in
-    let blocks = blocks_are pack c.args.left.now.capacity c.args.right.now.capacity q c.div_ceil.result c.div_ceil-chunks.result c.div_ceil-2.result c.requires.pack.0 c.div_ceil.ensures c.div_ceil-chunks.ensures c.div_ceil-2.ensures in
+    let lefts = blocks_for pack c.args.sides.now.left.now.capacity in
+    let rights = blocks_for pack c.args.sides.now.right.now.capacity in
+    let wide = pack * width (c.args.sides.now.left.now.schema ++ c.args.sides.now.right.now.schema) in
+    let blocks = blocks_are pack c.args.sides.now.left.now.capacity c.args.sides.now.right.now.capacity q c.div_ceil.result c.div_ceil-chunks.result c.div_ceil-2.result c.requires.pack.0 c.div_ceil.ensures c.div_ceil-chunks.ensures c.div_ceil-2.ensures in
     let made = went_make next _ (div_ceil lefts q * rights) _ wide (one next) _ _ blocks (ap (λ (s : Columns). pack * width s) c.joined_schema-schema.ensures) c.in_ok-region.ensures.ok in
     let filled = rw c.in_ok-region.ensures.number at c.in-Ok.ensures.ok in
-    went_join (one next) _ _ _ (make_at next (div_ceil lefts q * rights) wide) (each (div_ceil lefts q) (join_chunk c.args.left.now.region c.args.right.now.region next lefts rights q)) made filled
+    went_join (one next) _ _ _ (make_at next (div_ceil lefts q * rights) wide) (each (div_ceil lefts q) (join_chunk c.args.sides.now.left.now.region c.args.sides.now.right.now.region next lefts rights q)) made filled
 
 pub returns-in-Ok-clause-seals : goal.returns-in-Ok-clause-seals
 returns-in-Ok-clause-seals g c = λ good fine.
@@ -96,8 +96,8 @@ returns-in-Ok-clause-sources g c =
     let next = c.args.vault.now.next in
     let filled = rw c.in_ok-region.ensures.number at c.in-Ok.ensures.ok in
     let lasts = lasts_trans (one next) _ _ _ c.in_ok-region.ensures.ok.lasts filled.lasts in (
-      flat_lasts pack c.args.left.now (one next) _ _ lasts (lives_apart _ _ _ c.requires.ready c.requires.left.made.lives) c.requires.left,
-      flat_lasts pack c.args.right.now (one next) _ _ lasts (lives_apart _ _ _ c.requires.ready c.requires.right.made.lives) c.requires.right,
+      flat_lasts pack c.args.sides.now.left.now (one next) _ _ lasts (lives_apart _ _ _ c.requires.ready c.requires.left.made.lives) c.requires.left,
+      flat_lasts pack c.args.sides.now.right.now (one next) _ _ lasts (lives_apart _ _ _ c.requires.ready c.requires.right.made.lives) c.requires.right,
     )
 
 pub returns-in-Ok-clause-told : goal.returns-in-Ok-clause-told
@@ -105,8 +105,8 @@ returns-in-Ok-clause-told g c = λ tells left right first second nolie.
     let pack = length c.args.rows.now in
     let next = c.args.vault.now.next in
     let made = c.in_ok-region.ensures.ok in
-    let now_left = represents_lasts pack c.args.left.now (one next) _ _ made.lasts (lives_apart _ _ _ c.requires.ready c.requires.left.made.lives) left first in
-    let now_right = represents_lasts pack c.args.right.now (one next) _ _ made.lasts (lives_apart _ _ _ c.requires.ready c.requires.right.made.lives) right second in
+    let now_left = represents_lasts pack c.args.sides.now.left.now (one next) _ _ made.lasts (lives_apart _ _ _ c.requires.ready c.requires.left.made.lives) left first in
+    let now_right = represents_lasts pack c.args.sides.now.right.now (one next) _ _ made.lasts (lives_apart _ _ _ c.requires.ready c.requires.right.made.lives) right second in
     c.in-Ok.ensures.told (tells_went _ _ _ _ made tells) left right now_left now_right nolie
 
 pub returns-in-Err-clause-err : goal.returns-in-Err-clause-err
@@ -114,17 +114,17 @@ returns-in-Err-clause-err g c =
     let next = c.args.vault.now.next in
     let pack = length c.args.rows.now in
     let q = c.args.buffered in
-    let lefts = blocks_for pack c.args.left.now.capacity in
-    let rights = blocks_for pack c.args.right.now.capacity in
-    let wide = pack * width (c.args.left.now.schema ++ c.args.right.now.schema) in
-    let blocks = blocks_are pack c.args.left.now.capacity c.args.right.now.capacity q c.div_ceil.result c.div_ceil-chunks.result c.div_ceil-2.result c.requires.pack.0 c.div_ceil.ensures c.div_ceil-chunks.ensures c.div_ceil-2.ensures in
+    let lefts = blocks_for pack c.args.sides.now.left.now.capacity in
+    let rights = blocks_for pack c.args.sides.now.right.now.capacity in
+    let wide = pack * width (c.args.sides.now.left.now.schema ++ c.args.sides.now.right.now.schema) in
+    let blocks = blocks_are pack c.args.sides.now.left.now.capacity c.args.sides.now.right.now.capacity q c.div_ceil.result c.div_ceil-chunks.result c.div_ceil-2.result c.requires.pack.0 c.div_ceil.ensures c.div_ceil-chunks.ensures c.div_ceil-2.ensures in
     let made = went_make next _ (div_ceil lefts q * rights) _ wide (one next) _ _ blocks (ap (λ (s : Columns). pack * width s) c.joined_schema-schema.ensures) c.in_ok-region.ensures.ok in
     let number = c.in_ok-region.ensures.number in
     let cut = rw number at c.in-Err.ensures.err in
     let went = c.forget.ensures.went _ c.in-Err.ensures.err.lasts.ready in
     let forgot = rw number at went in
     pass_then (one next) _ _ _ _ _ (pass_after (one next) _ _ _ _ (make_at next (div_ceil lefts q * rights) wide)
-    (each (div_ceil lefts q) (join_chunk c.args.left.now.region c.args.right.now.region next lefts rights q)) made cut) forgot refl
+    (each (div_ceil lefts q) (join_chunk c.args.sides.now.left.now.region c.args.sides.now.right.now.region next lefts rights q)) made cut) forgot refl
 
 pub returns-in-Err-clause-never : goal.returns-in-Err-clause-never
 returns-in-Err-clause-never g c = elim c.in-Err.ensures.never [ inl failed ↦ inl failed | inr tampered ↦ inr (inr tampered) ]
@@ -144,8 +144,8 @@ returns-in-Err-clause-sources g c =
     let went = c.forget.ensures.went _ c.in-Err.ensures.err.lasts.ready in
     let forgot = rw number at went in
     let lasts = lasts_trans (one next) _ _ _ c.in_ok-region.ensures.ok.lasts (lasts_trans (one next) _ _ _ cut.lasts forgot.lasts) in (
-      flat_lasts pack c.args.left.now (one next) _ _ lasts (lives_apart _ _ _ c.requires.ready c.requires.left.made.lives) c.requires.left,
-      flat_lasts pack c.args.right.now (one next) _ _ lasts (lives_apart _ _ _ c.requires.ready c.requires.right.made.lives) c.requires.right,
+      flat_lasts pack c.args.sides.now.left.now (one next) _ _ lasts (lives_apart _ _ _ c.requires.ready c.requires.left.made.lives) c.requires.left,
+      flat_lasts pack c.args.sides.now.right.now (one next) _ _ lasts (lives_apart _ _ _ c.requires.ready c.requires.right.made.lives) c.requires.right,
     )
 
 pub returns-in-Err-clause-told : goal.returns-in-Err-clause-told
@@ -153,6 +153,6 @@ returns-in-Err-clause-told g c = λ tells left right first second nolie.
     let pack = length c.args.rows.now in
     let next = c.args.vault.now.next in
     let made = c.in_ok-region.ensures.ok in
-    let now_left = represents_lasts pack c.args.left.now (one next) _ _ made.lasts (lives_apart _ _ _ c.requires.ready c.requires.left.made.lives) left first in
-    let now_right = represents_lasts pack c.args.right.now (one next) _ _ made.lasts (lives_apart _ _ _ c.requires.ready c.requires.right.made.lives) right second in
+    let now_left = represents_lasts pack c.args.sides.now.left.now (one next) _ _ made.lasts (lives_apart _ _ _ c.requires.ready c.requires.left.made.lives) left first in
+    let now_right = represents_lasts pack c.args.sides.now.right.now (one next) _ _ made.lasts (lives_apart _ _ _ c.requires.ready c.requires.right.made.lives) right second in
     inl (c.in-Err.ensures.told (tells_went _ _ _ _ made tells) left right now_left now_right nolie)
