@@ -1,8 +1,8 @@
 -- The bytes of a joined row, and the row that one is joined with.
-use Rattle.std.proofs.Common.{◌≡◌, ◌≤◌, ◌<◌, ◌+◌, ◌-◌, ◌*◌, ℕ, zero, suc, Bool, true, false, List, [], ◌∷◌, ◌++◌, Option, Some, None, length, map, take, drop, slice_index_or, cond, refl, sym, ◌∙◌, ap, subst, arith, length-append, append_assoc}
-use Rattle.std.specs.Prelude.{find, filter_map, sum_by, is_some, slice_get, replicate}
-use Rattle.std.proofs.lemmas.List.{take_all, take_more, append-nil, take_at, drop-take, take-append-drop}
-use Rattle.std.proofs.lemmas.List.Sums.{sum_by-append, sum_by-cons}
+use Rattle.std.proofs.Common.{◌≡◌, ◌≤◌, ◌<◌, ◌+◌, ◌-◌, ℕ, Bool, true, false, List, [], ◌∷◌, ◌++◌, Option, Some, None, length, take, drop, slice_index_or, cond, refl, sym, ◌∙◌, ap, subst, arith, append_assoc}
+use Rattle.std.specs.Prelude.{find, is_some, slice_get, replicate}
+use Rattle.std.proofs.lemmas.List.{take_more, take_at, drop-take, take-append-drop}
+use Rattle.std.proofs.lemmas.List.Sums.{sum_by-append}
 use Rattle.ob_base.specs.declared.schema.Column.{Column}
 use Rattle.ob_base.specs.Schemas.{Columns, kind_width, width}
 use Rattle.std.specs.Option.{option_map}

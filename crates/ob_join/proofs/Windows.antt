@@ -11,7 +11,6 @@ use Rattle.ob_store.proofs.Steps.{length-each}
 use Rattle.ob_script.specs.Parts.{read_from}
 use Rattle.ob_vault.specs.Rows.{row_at, SameSizes, Wide}
 use Rattle.ob_vault.specs.Places.{RowsFit}
-use Rattle.ob_vault.proofs.RowsLemmas.{rows_room}
 use Rattle.ob_row.specs.Rows.{Row}
 use Rattle.ob_row.specs.Slots.{Slots}
 use Rattle.ob_row.specs.Spelling.{Begins}

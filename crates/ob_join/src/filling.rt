@@ -69,13 +69,12 @@ pub(crate) fn fill_result<S: BlockStore, R: Revisions>(
         (λ e. e ≡ OpErr.Failed) }
 {
     let pack = rows.len() as u32;
-    let left = sides.left;
-    let lefts = left.capacity.div_ceil(pack);
+    let lefts = sides.left.capacity.div_ceil(pack);
     for chunk in 0..lefts.div_ceil(buffered) {
         let first = chunk * buffered;
         let n = buffered.min(lefts - first);
         let own = &mut kept[..(n * pack) as usize];
-        collect_chunk(store, vault, own, pack, left, first, n)?;
+        collect_chunk(store, vault, own, pack, sides.left, first, n)?;
         pair_blocks(store, vault, own, sides, rows, out, to, chunk)?;
     }
     Ok(())

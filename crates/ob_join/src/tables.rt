@@ -115,8 +115,9 @@ fn join_tables<S: BlockStore, R: Revisions>(
 /// The accesses follow from the capacities alone. The columns are at most 32, a joined row has at most
 /// 1,024 bytes, and the region at most 16,777,216 slots. `Failed` where the store failed, `Tampered` with
 /// the place of a block that is not what was written there last, or that has a malformed row, and
-/// `NoMemory` before anything is read. After an error the fresh region is forgotten. The join of ObliDB
-/// (Eskandarian and Zaharia, PVLDB 13(2), 2019) has such chunks, too.
+/// `NoMemory` before anything is read. After an error the fresh region is forgotten. The chunks, and the
+/// dummies for right rows without a partner, are those of the hash join of ObliDB (Eskandarian and
+/// Zaharia, PVLDB 13(2), 2019); a chunk's rows are searched one by one here.
 pub fn join<S: BlockStore, R: Revisions>(
     store: &mut S,
     vault: &mut Vault<R>,

@@ -1,18 +1,14 @@
-use Rattle.std.proofs.Common.{◌≡◌, ◌≤◌, ◌+◌, ◌*◌, ◌-◌, ◌<◌, ℕ, List, Option, inl, inr, None, length, take, drop, slice_index_or, refl, sym, ◌∙◌, ap, subst, arith}
+use Rattle.std.proofs.Common.{◌≡◌, ◌≤◌, ◌+◌, ◌*◌, ◌-◌, ◌<◌, ℕ, Option, inl, inr, None, length, take, drop, slice_index_or, refl, sym, ◌∙◌, ap, subst, arith}
 use Rattle.std.proofs.lemmas.Result.{err_from_is_err_and}
-use Rattle.ob_base.specs.Lists.{each}
 use Rattle.ob_base.specs.Numbers.{blocks_for}
 use Rattle.ob_base.specs.Schemas.{width}
 use Rattle.ob_script.specs.Parts.{read_from}
-use Rattle.ob_vault.specs.Calls.{Went, none}
-use Rattle.ob_vault.specs.Places.{at, RowsFit}
-use Rattle.ob_vault.specs.Rows.{Wide, SameSizes, row_at}
+use Rattle.ob_vault.specs.Calls.{none}
+use Rattle.ob_vault.specs.Places.{RowsFit}
 use Rattle.ob_vault.proofs.RowsLemmas.{rows_room}
-use Rattle.ob_vault.proofs.Runs.{went_none, went_each, lives_went, written_went, none_went, fit_trans, may_get, seals_none, seals_join}
+use Rattle.ob_vault.proofs.Runs.{went_each, lives_went, written_went, none_went, fit_trans, may_get, seals_join}
 use Rattle.ob_row.specs.Rows.{Row}
-use Rattle.ob_row.specs.Slots.{Slots}
 use Rattle.ob_row.specs.Spelling.{Begins}
-use Rattle.ob_blocks.specs.Blocks.{block_at}
 use Rattle.ob_flat.specs.Flats.{table_region, whole_blocks}
 use Rattle.ob_flat.specs.Passes.{pass_error}
 use Rattle.ob_flat.proofs.Rows.{slots_of, wide_same}

@@ -1,14 +1,13 @@
-use Rattle.std.proofs.Common.{◌≡◌, ◌≤◌, ◌+◌, ◌-◌, ◌*◌, ◌<◌, ◌++◌, [], min, ℕ, inl, inr, length, take, drop, sym, ◌∙◌, ap, subst, arith}
+use Rattle.std.proofs.Common.{◌≡◌, ◌≤◌, ◌+◌, ◌-◌, ◌*◌, [], min, ℕ, inl, inr, length, take, sym, ◌∙◌, ap, subst, arith}
 use Rattle.std.proofs.lemmas.List.{length-take}
 use Rattle.std.proofs.lemmas.Result.{err_from_is_err_and}
 use Rattle.std.specs.Int.{div_ceil}
 use Rattle.ob_base.specs.Lists.{each}
 use Rattle.ob_base.specs.Numbers.{blocks_for}
-use Rattle.ob_base.specs.Schemas.{Columns, width}
+use Rattle.ob_base.specs.Schemas.{width}
 use Rattle.ob_script.specs.Parts.{read_from, pair_at, join_chunk}
 use Rattle.ob_vault.specs.Calls.{Went, none, one}
 use Rattle.ob_vault.specs.Places.{at, RowsFit}
-use Rattle.ob_vault.specs.Rows.{Wide}
 use Rattle.ob_vault.proofs.RowsLemmas.{rows_room}
 use Rattle.ob_vault.proofs.Runs.{went_length, went_none, went_wider, went_each, went_join, none_went, tells_went, fit_same, fit_trans, seals_none, seals_join}
 use Rattle.ob_flat.proofs.Rooms.{same_rows}

@@ -1,7 +1,7 @@
-use Rattle.std.proofs.Common.{◌≡◌, ◌<◌, ◌+◌, Bool, true, false, Some, None, length, slice_index_or, sym, ◌∙◌, ap, subst, arith}
+use Rattle.std.proofs.Common.{◌≡◌, ◌<◌, Some, None, length, slice_index_or, sym, ◌∙◌, subst, arith}
 use Rattle.ob_vault.proofs.RowsLemmas.{same_at}
 use Rattle.ob_row.specs.Rows.{Row, cell_at, options_eq}
-use Rattle.ob_row.specs.Slots.{Slots, is_selected}
+use Rattle.ob_row.specs.Slots.{is_selected}
 use Rattle.ob_row.specs.Spelling.{Begins}
 use Rattle.ob_join.proofs.Pairs.{find_past, partner}
 use Rattle.ob_join.proofs.joining.find_partner.Goals as goal

@@ -1,5 +1,4 @@
-use Rattle.std.proofs.Common.{◌≡◌, ◌+◌, ◌-◌, ◌++◌, length, take, drop, arith}
-use Rattle.std.proofs.lemmas.Grind.{common_steps}
+use Rattle.std.proofs.Common.{◌≡◌, ◌+◌, ◌-◌, ◌++◌, length, take, drop}
 use Rattle.ob_base.specs.Schemas.{width}
 use Rattle.ob_join.proofs.Pairs.{pair_written}
 use Rattle.ob_join.proofs.joining.join_pair.Goals as goal

@@ -1,8 +1,6 @@
-use Rattle.std.proofs.Common.{◌≡◌, ◌<◌, ◌+◌, ◌++◌, ℕ, List, Option, None, length, slice_index_or, sym, ◌∙◌, ap, subst, arith, below_more}
-use Rattle.ob_vault.specs.Rows.{row_at}
+use Rattle.std.proofs.Common.{◌<◌, ◌+◌, ◌++◌, None, length, slice_index_or, sym, ◌∙◌, ap, subst, arith, below_more}
 use Rattle.ob_vault.proofs.RowsLemmas.{same_at, sizes_set, sizes_trans}
-use Rattle.ob_row.specs.Rows.{Row}
-use Rattle.ob_row.specs.Slots.{Slots, rows}
+use Rattle.ob_row.specs.Slots.{rows}
 use Rattle.ob_row.specs.Spelling.{Begins}
 use Rattle.ob_flat.proofs.Rows.{row_is, spells_more, spelt_changed, slots_of}
 use Rattle.ob_join.specs.Joining.{joined_below}

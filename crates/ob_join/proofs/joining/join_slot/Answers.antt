@@ -1,9 +1,8 @@
-use Rattle.std.proofs.Common.{◌≡◌, ◌++◌, ℕ, List, Option, Some, None, Bool, true, false, if◌then◌else◌, refl, length, slice_index_or, sym, ◌∙◌, ap, subst, arith}
-use Rattle.std.specs.Prelude.{is_some}
+use Rattle.std.proofs.Common.{◌≡◌, ◌++◌, Option, Some, None, Bool, true, false, if◌then◌else◌, refl, length, sym, ◌∙◌, ap, subst}
 use Rattle.ob_vault.specs.Rows.{row_at}
 use Rattle.ob_vault.proofs.RowsLemmas.{same_at}
 use Rattle.ob_row.specs.Rows.{Row}
-use Rattle.ob_row.specs.Slots.{Slots, rows}
+use Rattle.ob_row.specs.Slots.{rows}
 use Rattle.ob_row.specs.Spelling.{Begins}
 use Rattle.ob_row.specs.Results.{joined_slot}
 use Rattle.ob_row.proofs.SpellingLemmas.{slots-same}

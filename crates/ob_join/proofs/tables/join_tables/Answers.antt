@@ -1,4 +1,4 @@
-use Rattle.std.proofs.Common.{◌≡◌, ◌*◌, ◌++◌, ◌≤◌, ℕ, inl, inr, length, ◌∙◌, ap, refl, subst, arith}
+use Rattle.std.proofs.Common.{◌*◌, ◌++◌, inl, inr, length, ◌∙◌, ap, refl, arith}
 use Rattle.std.proofs.lemmas.Result.{err_from_is_err_and}
 use Rattle.std.specs.Int.{div_ceil}
 use Rattle.ob_base.specs.Accesses.{make_at}
