@@ -1,0 +1,129 @@
+-- The rows of some blocks among those that are kept.
+use Rattle.std.proofs.Common.{◌≡◌, ◌≤◌, ◌<◌, ◌+◌, ◌-◌, ◌*◌, ℕ, List, [], ◌++◌, Option, None, length, take, drop, slice_index_or, refl, inl, inr, sym, ◌∙◌, ap, subst, arith, length-append}
+use Rattle.std.proofs.lemmas.List.{get_or-take, get_or-drop, get_or_append_left, length-take, length-drop}
+use Rattle.std.proofs.Math.Seq.{get_or-append_right}
+use Rattle.std.proofs.lemmas.Bool.{cases_lt}
+use borrow.Rule.Slice.PartMut.{put_mid}
+use Rattle.ob_base.specs.Lists.{each}
+use Rattle.ob_base.specs.Numbers.{blocks_for}
+use Rattle.ob_base.specs.Schemas.{Columns}
+use Rattle.ob_store.proofs.Steps.{length-each}
+use Rattle.ob_script.specs.Parts.{read_from}
+use Rattle.ob_vault.specs.Rows.{row_at, SameSizes, Wide}
+use Rattle.ob_vault.specs.Places.{RowsFit}
+use Rattle.ob_row.specs.Rows.{Row}
+use Rattle.ob_row.specs.Slots.{Slots}
+use Rattle.ob_row.specs.Spelling.{Begins}
+use Rattle.ob_blocks.specs.Blocks.{block_at}
+use Rattle.ob_flat.specs.Slots.{Spelt}
+use Rattle.ob_flat.specs.Flats.{whole_blocks}
+use Rattle.ob_join.specs.Joining.{blocks_from}
+
+-- how many accesses the reads are
+pub reads_from : (q first n : ℕ) → length (each n (read_from q first)) ≡ n
+reads_from q first n = length-each (read_from q first) 1 (λ i. refl) n ∙ omega arith
+
+pub within : (a r : ℕ) → (a + r) - a ≡ r
+within a r = omega arith
+
+-- r rows from number a on
+module _ (a r : ℕ) (rows : List (List ℕ)) (fits : a + r ≤ length rows) where
+  pub part_at : (z : ℕ) → z < r → row_at (take r (drop a rows)) z ≡ row_at rows (a + z)
+  part_at z below = get_or-take r (drop a rows) z [] below ∙ get_or-drop a rows z []
+
+  pub part_long : length (take r (drop a rows)) ≡ r
+  part_long = omega (arith, length-take r (drop a rows), length-drop a rows)
+
+  pub part_wide : (w : ℕ) → Wide w rows → Wide w (take r (drop a rows))
+  part_wide w wide = record {
+    wide = λ z below.
+        let less : z < r = omega (arith, below, part_long) in
+        subst (λ (row : List ℕ). w ≤ length row) (sym (part_at z less)) (wide.wide (a + z) (omega (arith, less, fits)));
+  }
+
+  -- they fit a block
+  pub part_fit : (w : ℕ) → 1 ≤ r → Wide w rows → RowsFit (take r (drop a rows)) (r * w)
+  part_fit w some wide = record { each = w; whole = ap (λ (n : ℕ). n * w) part_long; some = omega (arith, part_long, some); wide = part_wide w wide }
+
+  -- others are put in their place
+  module _ (part : List (List ℕ)) (size : length part ≡ r) where
+    pub put_before : (j : ℕ) → j < a → row_at (put_mid a r rows part) j ≡ row_at rows j
+    put_before j less = get_or_append_left (take a rows) (part ++ drop r (drop a rows)) [] j (omega (arith, less, fits, length-take a rows)) ∙ get_or-take a rows j [] less
+
+    pub put_at : (z : ℕ) → z < r → row_at (put_mid a r rows part) (a + z) ≡ row_at part z
+    put_at z less =
+        let first : length (take a rows) ≡ a = omega (arith, fits, length-take a rows) in
+        let back : a + z - length (take a rows) ≡ z = omega (arith, first) in
+        get_or-append_right (take a rows) (part ++ drop r (drop a rows)) (a + z) [] (omega (arith, first))
+        ∙ ap (row_at (part ++ drop r (drop a rows))) back ∙ get_or_append_left part (drop r (drop a rows)) [] z (omega (arith, size, less))
+
+    put_behind : (j : ℕ) → a + r ≤ j → row_at (put_mid a r rows part) j ≡ row_at rows j
+    put_behind j more =
+        let first : length (take a rows) ≡ a = omega (arith, fits, length-take a rows) in
+        let back : a + (r + (j - length (take a rows) - length part)) ≡ j = omega (arith, first, size, more) in
+        get_or-append_right (take a rows) (part ++ drop r (drop a rows)) j [] (omega (arith, first, more))
+        ∙ get_or-append_right part (drop r (drop a rows)) (j - length (take a rows)) [] (omega (arith, first, size, more))
+        ∙ get_or-drop r (drop a rows) (j - length (take a rows) - length part) [] ∙ get_or-drop a rows (r + (j - length (take a rows) - length part)) []
+        ∙ ap (row_at rows) back
+
+    put_long : length (put_mid a r rows part) ≡ length rows
+    put_long = omega (arith, fits, size, length-append (take a rows) (part ++ drop r (drop a rows)), length-append part (drop r (drop a rows)), length-drop r (drop a rows), length-drop a rows, length-take a rows)
+
+    -- what holds of those before and of these
+    pub put_more : (P : ℕ → List ℕ → Type 0) → ((j : ℕ) → j < a → P j (row_at rows j)) → ((z : ℕ) → z < r → P (a + z) (row_at part z)) → (j : ℕ) → j < a + r → P j (row_at (put_mid a r rows part) j)
+    put_more P before these j below = elim (cases_lt j a) [
+      | inl less ↦ subst (P j) (sym (put_before j less)) (before j less)
+      | inr more ↦
+          let is : a + (j - a) ≡ j = omega (arith, more) in
+          let less : j - a < r = omega (arith, more, below) in
+          subst (λ (i : ℕ). P i (row_at (put_mid a r rows part) i)) is (subst (P (a + (j - a))) (sym (put_at (j - a) less)) (these (j - a) less))
+    ]
+
+    pub put_sizes : SameSizes (take r (drop a rows)) part → SameSizes rows (put_mid a r rows part)
+    put_sizes same = record {
+      count = put_long;
+      sizes = λ j. elim (cases_lt j a) [
+        | inl less ↦ ap length (put_before j less)
+        | inr more ↦ elim (cases_lt j (a + r)) [
+          | inl below ↦
+              let is : a + (j - a) ≡ j = omega (arith, more) in
+              let less : j - a < r = omega (arith, more, below) in
+              subst (λ (i : ℕ). length (row_at (put_mid a r rows part) i) ≡ length (row_at rows i)) is
+              (ap length (put_at (j - a) less) ∙ same.sizes (j - a) ∙ ap length (part_at (j - a) less))
+          | inr past ↦ ap length (put_behind j past)
+        ]
+      ];
+    }
+
+-- slot z of a block
+pub at-block : (r u z : ℕ) (all : Slots) → z < r → slice_index_or (block_at r all u) z None ≡ slice_index_or all (u * r + z) None
+at-block r u z all below = get_or-take r (drop (u * r) all) z None below ∙ get_or-drop (u * r) all z None
+
+-- the rows of a block that was read are those of the next slots
+pub read_next : (columns : Columns) (r first x : ℕ) (all : Slots) (rows : List (List ℕ)) → length rows ≡ r → Spelt columns (block_at r all (first + x)) rows
+    → (z : ℕ) → z < r → Begins columns (slice_index_or all (first * r + (x * r + z)) None) (row_at rows z)
+read_next columns r first x all rows size spelt z below =
+    let index : (first + x) * r + z ≡ first * r + (x * r + z) = grind arith in
+    subst (λ (s : Option Row). Begins columns s (row_at rows z)) (at-block r (first + x) z all below ∙ ap (λ (i : ℕ). slice_index_or all i None) index) (spelt.each z (omega (arith, size, below)))
+
+pub product_within : (a b r : ℕ) → a ≤ b → a * r ≤ b * r
+product_within a b r fits = grind arith
+
+pub sum_room : (first n m r : ℕ) → first + n ≤ m → first * r + n * r ≤ m * r
+sum_room first n m r fits =
+    let sum : (first + n) * r ≡ first * r + n * r = grind arith in
+    let less : (first + n) * r ≤ m * r = product_within (first + n) m r fits in
+    omega (arith, sum, less)
+
+-- the rows of all blocks that were read
+pub spelt_from : (columns : Columns) (r capacity first n : ℕ) (slots : Slots) (rows : List (List ℕ)) → length (whole_blocks r capacity slots) ≡ blocks_for r capacity * r → first + n ≤ blocks_for r capacity → length rows ≡ n * r
+    → ((j : ℕ) → j < n * r → Begins columns (slice_index_or (whole_blocks r capacity slots) (first * r + j) None) (row_at rows j)) → Spelt columns (blocks_from r capacity first n slots) rows
+spelt_from columns r capacity first n slots rows size inside long spell =
+    let all = whole_blocks r capacity slots in
+    let room : first * r + n * r ≤ blocks_for r capacity * r = sum_room first n (blocks_for r capacity) r inside in
+    record {
+      count = omega (arith, size, long, room, length-take (n * r) (drop (first * r) all), length-drop (first * r) all);
+      each = λ j below.
+          let less : j < n * r = omega (arith, below, long) in
+          subst (λ (s : Option Row). Begins columns s (row_at rows j)) (sym (get_or-take (n * r) (drop (first * r) all) j None less ∙ get_or-drop (first * r) all j None)) (spell j less);
+    }

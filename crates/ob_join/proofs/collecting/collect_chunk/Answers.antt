@@ -1,0 +1,173 @@
+use Rattle.std.proofs.Common.{◌≡◌, ◌≤◌, ◌+◌, ◌*◌, ◌-◌, ◌<◌, ℕ, Option, inl, inr, None, length, take, drop, slice_index_or, refl, sym, ◌∙◌, ap, subst, arith}
+use Rattle.std.proofs.lemmas.Result.{err_from_is_err_and}
+use Rattle.ob_base.specs.Numbers.{blocks_for}
+use Rattle.ob_base.specs.Schemas.{width}
+use Rattle.ob_script.specs.Parts.{read_from}
+use Rattle.ob_vault.specs.Calls.{none}
+use Rattle.ob_vault.specs.Places.{RowsFit}
+use Rattle.ob_vault.proofs.RowsLemmas.{rows_room}
+use Rattle.ob_vault.proofs.Runs.{went_each, lives_went, written_went, none_went, fit_trans, may_get, seals_join}
+use Rattle.ob_row.specs.Rows.{Row}
+use Rattle.ob_row.specs.Spelling.{Begins}
+use Rattle.ob_flat.specs.Flats.{table_region, whole_blocks}
+use Rattle.ob_flat.specs.Passes.{pass_error}
+use Rattle.ob_flat.proofs.Rows.{slots_of, wide_same}
+use Rattle.ob_flat.proofs.Runs.{pass_of, pass_each, pass_malformed}
+use Rattle.ob_flat.proofs.Tables.{represents_lasts, block_long, got, whole_size}
+use Rattle.ob_join.proofs.Windows.{reads_from, within, part_long, part_wide, part_fit, put_more, put_sizes, read_next, spelt_from}
+use Rattle.ob_join.proofs.collecting.collect_chunk.Goals as goal
+
+pub get-requires-clause-spare : goal.get-requires-clause-spare
+get-requires-clause-spare g c = omega (arith, c.requires.spare, c.loop-x.invariant.went.spare, reads_from c.args.flat.now.region c.args.first c.loop-x.x)
+
+pub get-requires-clause-place : goal.get-requires-clause-place
+get-requires-clause-place g c =
+    let pack = c.args.pack in
+    let x = c.loop-x.x in
+    let u = c.args.first + x in
+    let flat = c.args.flat.now in
+    let kept = c.loop-x.kept in
+    let went = c.loop-x.invariant.went in
+    let below : u < blocks_for pack flat.capacity = omega (arith, c.requires.within) in
+    let fits : x * pack + pack ≤ length kept = omega (arith, c.loop-x.invariant.kept.count, c.requires.space, rows_room x c.args.n pack (omega arith)) in
+    let fit = part_fit (x * pack) pack kept fits (width flat.schema) c.requires.pack.0 (wide_same _ _ _ c.loop-x.invariant.kept c.requires.wide) in
+    let fit' = subst (λ (m : ℕ). RowsFit (take m (drop (x * pack) kept)) (pack * width flat.schema)) (sym (within (x * pack) pack)) fit in
+    may_get _ u (table_region c.requires.flat.made.order pack flat.schema flat.capacity) _ _ (lives_went _ _ _ _ _ _ went (λ s. s) c.requires.flat.made.lives) below
+    fit' (written_went _ _ _ _ _ u went (λ s. s) (c.requires.flat.written u below))
+
+pub returns-in_err-get-clause-kept : goal.returns-in_err-get-clause-kept
+returns-in_err-get-clause-kept g c =
+    let pack = c.args.pack in
+    let x = c.loop-x.x in
+    let kept = c.loop-x.kept in
+    let fits : x * pack + pack ≤ length kept = omega (arith, c.loop-x.invariant.kept.count, c.requires.space, rows_room x c.args.n pack (omega arith)) in
+    let same = rw (within (x * pack) pack) at c.get.ensures.rows in
+    fit_trans _ _ _ c.loop-x.invariant.kept (rw (within (x * pack) pack) (put_sizes (x * pack) pack kept fits c.get.new.rows (same.count ∙ part_long (x * pack) pack kept fits) same))
+
+pub returns-in_err-get-clause-err : goal.returns-in_err-get-clause-err
+returns-in_err-get-clause-err g c =
+    let p = err_from_is_err_and c.from_residual.result c.from_residual.ensures.1 in
+    rw (p.1, p.2) (pass_each none (read_from c.args.flat.now.region c.args.first) _ _ _ _ c.args.n c.loop-x.x (omega arith) c.loop-x.invariant.went (pass_of _ _ _ _ _ c.in_err-get.ensures.err))
+
+pub returns-in_err-get-clause-never : goal.returns-in_err-get-clause-never
+returns-in_err-get-clause-never g c =
+    let p = err_from_is_err_and c.from_residual.result c.from_residual.ensures.1 in
+    rw (p.1, p.2) (elim c.in_err-get.ensures.never [
+      | inl e ↦ inl (ap pass_error e)
+      | inr e ↦ inr (c.args.first + c.loop-x.x, omega (arith, c.requires.within), ap pass_error e)
+    ])
+
+pub returns-in_err-get-clause-seals : goal.returns-in_err-get-clause-seals
+returns-in_err-get-clause-seals g c = λ good. seals_join good _ _ _ c.loop-x.invariant.went.lasts.later (c.loop-x.invariant.seals good) (c.get.ensures.seals good)
+
+pub returns-in_err-get-clause-told : goal.returns-in_err-get-clause-told
+returns-in_err-get-clause-told g c = λ slots is nolie.
+    let p = err_from_is_err_and c.from_residual.result c.from_residual.ensures.1 in
+    let pack = c.args.pack in
+    let flat = c.args.flat.now in
+    let u = c.args.first + c.loop-x.x in
+    let below : u < blocks_for pack flat.capacity = omega (arith, c.requires.within) in
+    let went = c.loop-x.invariant.went in
+    let now = represents_lasts pack flat none _ _ went.lasts (λ s. s) slots is in
+    let shape = table_region c.requires.flat.made.order pack flat.schema flat.capacity in
+    rw (p.1, p.2) (ap pass_error (c.in_err-get.ensures.told _ shape (lives_went _ _ _ _ _ _ went (λ s. s) c.requires.flat.made.lives) (block_long pack flat slots _ is c.requires.pack.0 u below) (now.holds u below) nolie))
+
+pub check_rows-requires : goal.check_rows-requires
+check_rows-requires g c =
+    let pack = c.args.pack in
+    let x = c.loop-x.x in
+    let kept = c.loop-x.kept in
+    let w = width c.args.flat.now.schema in
+    let fits : x * pack + pack ≤ length kept = omega (arith, c.loop-x.invariant.kept.count, c.requires.space, rows_room x c.args.n pack (omega arith)) in
+    let same = rw (within (x * pack) pack) at c.get.ensures.rows in
+    record { wide = wide_same w _ _ same (part_wide (x * pack) pack kept fits w (wide_same _ _ _ c.loop-x.invariant.kept c.requires.wide)) }
+
+pub returns-in-Err-clause-kept : goal.returns-in-Err-clause-kept
+returns-in-Err-clause-kept g c =
+    let pack = c.args.pack in
+    let x = c.loop-x.x in
+    let kept = c.loop-x.kept in
+    let fits : x * pack + pack ≤ length kept = omega (arith, c.loop-x.invariant.kept.count, c.requires.space, rows_room x c.args.n pack (omega arith)) in
+    let same = rw (within (x * pack) pack) at c.get.ensures.rows in
+    fit_trans _ _ _ c.loop-x.invariant.kept (rw (within (x * pack) pack) (put_sizes (x * pack) pack kept fits c.get.new.rows (same.count ∙ part_long (x * pack) pack kept fits) same))
+
+pub returns-in-Err-clause-err : goal.returns-in-Err-clause-err
+returns-in-Err-clause-err g c =
+    let q = c.args.flat.now.region in
+    let u = c.args.first + c.loop-x.x in
+    pass_each none (read_from q c.args.first) _ _ _ _ c.args.n c.loop-x.x (omega arith) c.loop-x.invariant.went (pass_malformed _ _ _ q u (read_from q c.args.first c.loop-x.x) c.in_ok-get.ensures.ok)
+
+pub returns-in-Err-clause-never : goal.returns-in-Err-clause-never
+returns-in-Err-clause-never g c = inr (c.args.first + c.loop-x.x, omega (arith, c.requires.within), refl)
+
+pub returns-in-Err-clause-seals : goal.returns-in-Err-clause-seals
+returns-in-Err-clause-seals g c = λ good. seals_join good _ _ _ c.loop-x.invariant.went.lasts.later (c.loop-x.invariant.seals good) (c.get.ensures.seals good)
+
+pub returns-in-Err-clause-told : goal.returns-in-Err-clause-told
+returns-in-Err-clause-told g c = λ slots is nolie.
+    let pack = c.args.pack in
+    let x = c.loop-x.x in
+    let kept = c.loop-x.kept in
+    let flat = c.args.flat.now in
+    let w = width flat.schema in
+    let u = c.args.first + x in
+    let below : u < blocks_for pack flat.capacity = omega (arith, c.requires.within) in
+    let went = c.loop-x.invariant.went in
+    let now = represents_lasts pack flat none _ _ went.lasts (λ s. s) slots is in
+    let shape = table_region c.requires.flat.made.order pack flat.schema flat.capacity in
+    let bytes = c.in_ok-get.ensures.told _ shape (lives_went _ _ _ _ _ _ went (λ s. s) c.requires.flat.made.lives) (block_long pack flat slots _ is c.requires.pack.0 u below) (now.holds u below) nolie in
+    let fits : x * pack + pack ≤ length kept = omega (arith, c.loop-x.invariant.kept.count, c.requires.space, rows_room x c.args.n pack (omega arith)) in
+    let long : length (take (x * pack + pack - x * pack) (drop (x * pack) kept)) ≡ pack = rw (within (x * pack) pack) (part_long (x * pack) pack kept fits) in
+    let wide = c.get.ensures.rows in
+    let same = rw (within (x * pack) pack) at c.get.ensures.rows in
+    let wide' = wide_same w _ _ same (part_wide (x * pack) pack kept fits w (wide_same _ _ _ c.loop-x.invariant.kept c.requires.wide)) in
+    absurd (c.in-Err.ensures.told _ (got pack flat slots _ is c.requires.pack.0 u (length (take (x * pack + pack - x * pack) (drop (x * pack) kept))) c.get.new.rows below long (wide.count ∙ long) wide' bytes))
+
+pub loop-x-preserved : goal.loop-x-preserved
+loop-x-preserved g c =
+    let pack = c.args.pack in
+    let x = c.loop-x.x in
+    let kept = c.loop-x.kept in
+    let flat = c.args.flat.now in
+    let w = width flat.schema in
+    let first = c.args.first in
+    let u = first + x in
+    let below : u < blocks_for pack flat.capacity = omega (arith, c.requires.within) in
+    let before = c.loop-x.invariant in
+    let went = before.went in
+    let fits : x * pack + pack ≤ length kept = omega (arith, before.kept.count, c.requires.space, rows_room x c.args.n pack (omega arith)) in
+    let same = rw (within (x * pack) pack) at c.get.ensures.rows in
+    let size = same.count ∙ part_long (x * pack) pack kept fits in
+    let next : (x + 1) * pack ≡ x * pack + pack = grind arith in
+    let read = c.in-Ok.ensures.read in
+    let wide' = wide_same w _ _ same (part_wide (x * pack) pack kept fits w (wide_same _ _ _ before.kept c.requires.wide)) in
+    record {
+      went = went_each none (read_from flat.region first) _ _ _ x went c.in_ok-get.ensures.ok;
+      seals = λ good. seals_join good _ _ _ went.lasts.later (before.seals good) (c.get.ensures.seals good);
+      kept = fit_trans _ _ _ before.kept (rw (within (x * pack) pack) (put_sizes (x * pack) pack kept fits c.get.new.rows size same));
+      turns = λ q y shape turn. c.get.ensures.turns q y shape (before.turns q y shape turn);
+      spells = λ j less. rw (within (x * pack) pack) (put_more (x * pack) pack kept fits c.get.new.rows size (λ i row. (slot : Option Row) × Begins flat.schema slot row)
+          before.spells (λ z inside. (slice_index_or read.slots z None, read.spelt.each z (omega (arith, inside, size)))) j (omega (arith, next, less)));
+      told = λ slots is nolie j less.
+          let now = represents_lasts pack flat none _ _ went.lasts (λ s. s) slots is in
+          let shape = table_region c.requires.flat.made.order pack flat.schema flat.capacity in
+          let bytes = c.in_ok-get.ensures.told _ shape (lives_went _ _ _ _ _ _ went (λ s. s) c.requires.flat.made.lives) (block_long pack flat slots _ is c.requires.pack.0 u below) (now.holds u below) nolie in
+          let long : length (take (x * pack + pack - x * pack) (drop (x * pack) kept)) ≡ pack = rw (within (x * pack) pack) (part_long (x * pack) pack kept fits) in
+          let spelt = got pack flat slots _ is c.requires.pack.0 u (length (take (x * pack + pack - x * pack) (drop (x * pack) kept))) c.get.new.rows below long size wide' bytes in
+          let whole = whole_blocks pack flat.capacity slots in
+          rw (within (x * pack) pack) (put_more (x * pack) pack kept fits c.get.new.rows size (λ i row. Begins flat.schema (slice_index_or whole (first * pack + i) None) row)
+          (before.told slots is (none_went _ _ _ _ c.in_ok-get.ensures.ok nolie)) (read_next flat.schema pack first x whole c.get.new.rows size spelt) j (omega (arith, next, less)));
+    }
+
+pub returns-clause-spells : goal.returns-clause-spells
+returns-clause-spells g c =
+    let last : c.loop-x.x ≡ c.args.n = omega arith in
+    slots_of c.args.flat.now.schema c.loop-x.kept (λ j below. c.loop-x.invariant.spells j (omega (arith, below, c.loop-x.invariant.kept.count, c.requires.space, ap (λ (n : ℕ). n * c.args.pack) last)))
+
+pub returns-clause-told : goal.returns-clause-told
+returns-clause-told g c = λ slots is nolie.
+    let pack = c.args.pack in
+    let flat = c.args.flat.now in
+    let last : c.loop-x.x ≡ c.args.n = omega arith in
+    spelt_from flat.schema pack flat.capacity c.args.first c.args.n slots c.loop-x.kept (whole_size pack flat slots _ is c.requires.pack.0) c.requires.within (c.loop-x.invariant.kept.count ∙ c.requires.space)
+    (λ j below. c.loop-x.invariant.told slots is nolie j (omega (arith, below, ap (λ (n : ℕ). n * pack) last)))

@@ -1,0 +1,127 @@
+ghost use Rattle.std.specs.Prelude.{◌≡◌, ◌≤◌, ◌<◌, ◌+◌, ◌++◌, ◌∷◌, ℕ, List, Option, Some, None, IfSome, IfNone, OnOk, MatchResult, length, take, drop, find, slice_index_or, if◌then◌else◌};
+ghost use Rattle.ob_base.specs.Schemas.{width};
+ghost use Rattle.ob_vault.specs.Rows.{SameSizes, Wide, row_at};
+ghost use Rattle.ob_row.specs.Rows.{Row, cell_at, options_eq};
+ghost use Rattle.ob_row.specs.Slots.{Slots, is_selected, rows as rows_of};
+ghost use Rattle.ob_row.specs.Spelling.{Begins};
+ghost use Rattle.ob_row.specs.Results.{joined_slot};
+ghost use Rattle.ob_blocks.specs.Blocks.{map_at};
+ghost use Rattle.ob_flat.specs.Slots.{Spelt, AreSlots};
+ghost use Rattle.ob_join.specs.Joining.{joined_below, IsPartner};
+
+use crate::sides::Sides;
+use ob_base::Schema;
+use ob_flat::clear_row;
+use ob_room::ClearRow;
+use ob_row::{Cell, Malformed, decode, read, same_cell, width};
+
+// Writes these bytes over the first ones, and the others behind them.
+fn join_bytes(left: &[u8], right: &[u8], to: &mut [u8])
+    requires { length left.now + length right.now ≤ length to.old }
+    ensures { to.new ≡ left.now ++ (right.now ++ drop (length left.now + length right.now) to.old) }
+{
+    let (first, rest) = to.split_at_mut(left.len());
+    first.copy_from_slice(left);
+    rest[..right.len()].copy_from_slice(right);
+}
+
+// Writes the left row, and the cells of the right one behind it.
+fn join_pair(left: &Schema, a: &ClearRow, right: &Schema, b: &ClearRow, to: &mut ClearRow)
+    requires left { width left.now ≤ length a.now }
+    requires right { width right.now ≤ length b.now }
+    requires to { width (left.now ++ right.now) ≤ length to.old }
+    ensures size { length to.new ≡ length to.old }
+    ensures told { (x y : Row) → Begins left.now (Some x) a.now → Begins right.now (Some y) b.now → Begins (left.now ++ right.now) (Some (x ++ y)) to.new }
+{
+    let first = &a.bytes()[..width(left) as usize];
+    let cells = &b.bytes()[1..width(right) as usize];
+    join_bytes(first, cells, to.bytes_mut());
+}
+
+// Whether the row has a cell at this place that is equal to another; a dummy has none.
+fn agrees(schema: &Schema, row: &ClearRow, column: u8, cell: &Cell) -> bool
+    requires wide { width schema.now ≤ length row.now }
+    requires within { column < length schema.now }
+    ensures { (slot : Option Row) → Begins schema.now slot row.now → result ≡ is_selected (λ a. options_eq (cell_at a column) (Some cell.now)) slot }
+{
+    match decode(schema, row, column) {
+        Ok(own) => same_cell(&own, cell),
+        Err(Malformed) => false,
+    }
+}
+
+// The first kept row with a cell at this place that is equal to another.
+fn find_partner(schema: &Schema, kept: &[ClearRow], column: u8, cell: &Cell) -> Option<usize>
+    requires wide { Wide (width schema.now) kept.now }
+    requires within { column < length schema.now }
+    ensures inside { IfSome result (λ i. i < length kept.now) }
+    ensures some { IfSome result (λ i. (slots : Slots) → Spelt schema.now slots kept.now → IsPartner (λ a. options_eq (cell_at a column) (Some cell.now)) slots i) }
+    ensures none { IfNone result ((slots : Slots) → Spelt schema.now slots kept.now → find (λ a. options_eq (cell_at a column) (Some cell.now)) (rows_of slots) ≡ None) }
+{
+    for i in 0..kept.len() {
+        if agrees(schema, &kept[i], column, cell) {
+            return Some(i);
+        }
+    }
+    None
+}
+
+// Joins a right row with the first kept left row that agrees with it, or makes a dummy where there is
+// none, and where the right slot lies behind the capacity; refuses a right row that is malformed.
+fn join_slot(
+    sides: &Sides<'_>,
+    kept: &[ClearRow],
+    row: &ClearRow,
+    inside: bool,
+    to: &mut ClearRow,
+) -> Result<(), Malformed>
+    requires kept { Wide (width sides.now.left.now.schema) kept.now }
+    requires row { width sides.now.right.now.schema ≤ length row.now }
+    requires to { width (sides.now.left.now.schema ++ sides.now.right.now.schema) ≤ length to.old }
+    requires lcol { sides.now.lcol < length sides.now.left.now.schema }
+    requires rcol { sides.now.rcol < length sides.now.right.now.schema }
+    ensures size { length to.new ≡ length to.old }
+    ensures read { OnOk result ((slot : Option Row) × Begins sides.now.right.now.schema slot row.now) }
+    ensures told { (slots : Slots) (slot : Option Row) → Spelt sides.now.left.now.schema slots kept.now → Begins sides.now.right.now.schema slot row.now
+        → MatchResult result (λ _. Begins (sides.now.left.now.schema ++ sides.now.right.now.schema) (if inside then joined_slot sides.now.lcol sides.now.rcol (rows_of slots) slot else None) to.new) (λ _. ⊥) }
+{
+    clear_row(to);
+    if read(&sides.right.schema, row)? && inside {
+        let cell = decode(&sides.right.schema, row, sides.rcol)?;
+        if let Some(i) = find_partner(&sides.left.schema, kept, sides.lcol, &cell) {
+            join_pair(&sides.left.schema, &kept[i], &sides.right.schema, row, to);
+        }
+    }
+    Ok(())
+}
+
+// Joins each row of a right block, the first of which has this index, with the first kept left row that
+// agrees with it; those behind the capacity become dummies. Refuses a block of which a row is malformed.
+pub(crate) fn join_rows(
+    sides: &Sides<'_>,
+    kept: &[ClearRow],
+    first: u32,
+    rows: &[ClearRow],
+    to: &mut [ClearRow],
+) -> Result<(), Malformed>
+    requires kept { Wide (width sides.now.left.now.schema) kept.now }
+    requires rows { Wide (width sides.now.right.now.schema) rows.now }
+    requires to { Wide (width (sides.now.left.now.schema ++ sides.now.right.now.schema)) to.old }
+    requires same { length to.old ≡ length rows.now }
+    requires index { first + length rows.now ≤ 2147483648 }
+    requires lcol { sides.now.lcol < length sides.now.left.now.schema }
+    requires rcol { sides.now.rcol < length sides.now.right.now.schema }
+    ensures size { SameSizes to.old to.new }
+    ensures read { OnOk result (AreSlots sides.now.right.now.schema rows.now) }
+    ensures told { (slots block : Slots) → Spelt sides.now.left.now.schema slots kept.now → Spelt sides.now.right.now.schema block rows.now
+        → MatchResult result (λ _. Spelt (sides.now.left.now.schema ++ sides.now.right.now.schema) (map_at (joined_below sides.now.lcol sides.now.rcol (rows_of slots) sides.now.right.now.capacity) first block) to.new) (λ _. ⊥) }
+{
+    for z in 0..rows.len() {
+        let inside = first + (z as u32) < sides.right.capacity;
+        match join_slot(sides, kept, &rows[z], inside, &mut to[z]) {
+            Ok(()) => {}
+            Err(malformed) => return Err(malformed),
+        }
+    }
+    Ok(())
+}

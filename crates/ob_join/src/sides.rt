@@ -1,0 +1,10 @@
+use ob_flat::Flat;
+
+// The two tables of a join, and the columns that are equal.
+#[derive(Drop)]
+pub(crate) struct Sides<'a> {
+    pub(crate) left: &'a Flat,
+    pub(crate) lcol: u8,
+    pub(crate) right: &'a Flat,
+    pub(crate) rcol: u8,
+}
