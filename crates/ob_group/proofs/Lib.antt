@@ -1,3 +1,6 @@
 pub mod Sums
 pub mod Seen
 pub mod Bounds
+pub mod Heads
+pub mod Groups
+pub mod Wide
