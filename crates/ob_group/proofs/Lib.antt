@@ -4,3 +4,4 @@ pub mod Bounds
 pub mod Heads
 pub mod Groups
 pub mod Wide
+pub mod TotalBytes

@@ -1,3 +1,4 @@
 pub mod Running
 pub mod Grouping
+pub mod Held
 pub mod IsAccs

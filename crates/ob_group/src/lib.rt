@@ -3,6 +3,7 @@
 
 mod accs;
 mod aggregation;
+mod fields;
 mod totals;
 
 pub use accs::Accs;
