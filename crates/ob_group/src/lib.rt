@@ -4,6 +4,7 @@
 mod accs;
 mod aggregation;
 mod fields;
+mod groups;
 mod totals;
 
 pub use accs::Accs;

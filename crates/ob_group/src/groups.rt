@@ -1,0 +1,82 @@
+//! The rows that hold the running groups, one each.
+ghost use Rattle.std.specs.Prelude.{◌≡◌, ◌≤◌, ◌<◌, ◌+◌, ◌*◌, ℕ, true, false, List, Option, Some, IsOkAnd, length};
+ghost use Rattle.ob_base.specs.Schemas.{kind_width, width};
+ghost use Rattle.ob_vault.specs.Rows.{SameSizes, Wide, row_at};
+ghost use Rattle.ob_row.specs.declared.cell.Cell.{Cell as RowCell};
+ghost use Rattle.ob_row.specs.Rows.{Row, cell_eq};
+ghost use Rattle.ob_row.specs.Spelling.{FitsKind, Begins};
+ghost use Rattle.ob_group.specs.Running.{AreWithin, starts};
+ghost use Rattle.ob_group.specs.Grouping.{Group, aggs_of, group_with, put_row, group_shown};
+ghost use Rattle.ob_group.specs.Held.{HoldsKey, HoldsGroup, AreGroups, kind_at, group_width};
+
+use crate::fields::{add_totals, key_in, put_key, show_items, start_totals};
+use ob_base::{Kind, Schema, Shown};
+use ob_room::ClearRow;
+use ob_row::{Cell, Item, Malformed, decode, same_cell};
+
+// The kind of the column at a place.
+fn kind_at(schema: &Schema, i: u8) -> Kind
+    ensures { result ≡ kind_at schema.now i }
+{
+    match schema.as_slice().get(usize::from(i)) {
+        Some(column) => column.kind,
+        None => Kind::Int,
+    }
+}
+
+// Writes a group of no rows over the first bytes.
+fn start_bytes(kind: Kind, key: &Cell, items: &[Item], bytes: &mut [u8])
+    requires fits { FitsKind kind key.now }
+    requires few { length items.now ≤ 32 }
+    requires wide { group_width kind (length items.now) ≤ length bytes.old }
+    ensures size { length bytes.new ≡ length bytes.old }
+    ensures held { HoldsGroup kind 0 (length items.now) (Some key.now, starts (aggs_of items.now)) bytes.new }
+{
+    let (field, rest) = bytes.split_at_mut(kind.width() as usize);
+    let (fields, _) = rest.split_at_mut(16 * items.len());
+    put_key(kind, key, field);
+    start_totals(items, fields);
+}
+
+// Adds the row to the group that these bytes hold.
+fn add_bytes(
+    schema: &Schema,
+    row: &ClearRow,
+    kind: Kind,
+    items: &[Item],
+    bytes: &mut [u8],
+) -> Result<(), Malformed>
+    requires row { width schema.now ≤ length row.now }
+    requires few { length items.now ≤ 32 }
+    requires within { AreWithin (length schema.now) (aggs_of items.now) }
+    requires held { (g : Group) × HoldsGroup kind 2147483648 (length items.now) g bytes.old }
+    ensures size { length bytes.new ≡ length bytes.old }
+    ensures told { (cells : Row) → Begins schema.now (Some cells) row.now → (g : Group) (m : ℕ) → m ≤ 2147483648 → HoldsGroup kind m (length items.now) g bytes.old
+        → IsOkAnd result (λ _. HoldsGroup kind (m + 1) (length items.now) (group_with (aggs_of items.now) cells g) bytes.new) }
+{
+    let (_, rest) = bytes.split_at_mut(kind.width() as usize);
+    let (fields, _) = rest.split_at_mut(16 * items.len());
+    add_totals(schema, row, items, fields)
+}
+
+// The key of the group that these bytes hold.
+fn key_of(kind: Kind, bytes: &[u8]) -> Cell
+    requires { (x : RowCell) × HoldsKey kind x bytes.now }
+    ensures { (x : RowCell) → HoldsKey kind x bytes.now → result ≡ x }
+{
+    let (field, _) = bytes.split_at(kind.width() as usize);
+    key_in(kind, field)
+}
+
+// The items of the group that these bytes hold, as they are printed.
+fn show_bytes(kind: Kind, items: &[Item], bytes: &[u8], cells: &mut [Shown])
+    requires few { length items.now ≤ 32 }
+    requires size { length cells.old ≡ length items.now }
+    requires held { (g : Group) × HoldsGroup kind 2147483648 (length items.now) g bytes.now }
+    ensures { (g : Group) (m : ℕ) → m ≤ 2147483648 → HoldsGroup kind m (length items.now) g bytes.now → cells.new ≡ group_shown items.now g }
+{
+    let key = key_of(kind, bytes);
+    let (_, rest) = bytes.split_at(kind.width() as usize);
+    let (fields, _) = rest.split_at(16 * items.len());
+    show_items(items, &key, fields, cells);
+}
