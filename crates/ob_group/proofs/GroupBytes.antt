@@ -76,3 +76,7 @@ started kind x items front fields behind fits key totals = record {
   behind = behind;
   is = ap (λ (l : List ℕ). l ++ (fields ++ behind)) key ∙ ap (λ (l : List ℕ). cell_bytes kind x ++ (l ++ behind)) totals;
 }
+
+-- a row that was written whole
+pub written : (old new : List ℕ) → length new ≡ length old → take (length old) (new ++ drop (length new) old) ≡ new
+written old new same = take_at new (drop (length new) old) (length old) same

@@ -6,3 +6,4 @@ pub mod Taking
 pub mod Wide
 pub mod TotalBytes
 pub mod GroupBytes
+pub mod Putting
