@@ -7,3 +7,4 @@ pub mod Wide
 pub mod TotalBytes
 pub mod GroupBytes
 pub mod Putting
+pub mod SlotLemmas

@@ -58,9 +58,6 @@ module _ (key : ℕ) (aggs : List Agg) (row : Row) where
     each_more : n ≤ length rows → (i : ℕ) → i < n → HoldsGroup kind (m + 1) count (group gs i) (row_at rows i)
     each_more most i below = holds_more kind m count (group gs i) (row_at rows i) (are.each most i below) (m + 1) (omega arith)
 
-    pub groups_same : AreGroups kind (m + 1) count n gs rows
-    groups_same = record { all = are.all; more = are.more; each = each_more }
-
     -- there were too many
     pub groups_past : length rows < n → AreGroups kind (m + 1) count n (put_row key aggs row gs) rows
     groups_past past = record {

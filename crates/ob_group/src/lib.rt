@@ -5,6 +5,7 @@ mod accs;
 mod aggregation;
 mod fields;
 mod groups;
+mod keeping;
 mod totals;
 
 pub use accs::Accs;
