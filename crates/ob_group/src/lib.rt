@@ -6,6 +6,7 @@ mod aggregation;
 mod fields;
 mod groups;
 mod keeping;
+mod reading;
 mod totals;
 
 pub use accs::Accs;
