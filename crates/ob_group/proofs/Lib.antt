@@ -8,3 +8,4 @@ pub mod TotalBytes
 pub mod GroupBytes
 pub mod Putting
 pub mod SlotLemmas
+pub mod Rows

@@ -2,3 +2,4 @@ pub mod Running
 pub mod Grouping
 pub mod Held
 pub mod IsAccs
+pub mod Labels

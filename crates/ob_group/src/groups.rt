@@ -1,5 +1,5 @@
 //! The rows that hold the running groups, one each.
-ghost use Rattle.std.specs.Prelude.{◌≡◌, ◌≤◌, ◌<◌, ◌+◌, ◌*◌, ℕ, true, false, List, Option, Some, IsOkAnd, length};
+ghost use Rattle.std.specs.Prelude.{◌≡◌, ◌≤◌, ◌<◌, ◌+◌, ◌*◌, ℕ, true, false, List, Option, Some, IsOkAnd, length, take};
 ghost use Rattle.ob_base.specs.Schemas.{kind_width, width};
 ghost use Rattle.ob_vault.specs.Rows.{SameSizes, Wide, row_at};
 ghost use Rattle.ob_row.specs.declared.cell.Cell.{Cell as RowCell};
@@ -15,7 +15,7 @@ use ob_room::ClearRow;
 use ob_row::{Cell, Item, Malformed, decode, same_cell};
 
 // The kind of the column at a place.
-fn kind_at(schema: &Schema, i: u8) -> Kind
+pub(crate) fn kind_at(schema: &Schema, i: u8) -> Kind
     ensures { result ≡ kind_at schema.now i }
 {
     match schema.as_slice().get(usize::from(i)) {
@@ -79,6 +79,18 @@ fn show_bytes(kind: Kind, items: &[Item], bytes: &[u8], cells: &mut [Shown])
     let (_, rest) = bytes.split_at(kind.width() as usize);
     let (fields, _) = rest.split_at(16 * items.len());
     show_items(items, &key, fields, cells);
+}
+
+// The items of a group, as they are printed, over the first of these cells.
+pub(crate) fn show_group(kind: Kind, items: &[Item], group: &ClearRow, cells: &mut [Shown])
+    requires few { length items.now ≤ 32 }
+    requires size { length items.now ≤ length cells.old }
+    requires held { (g : Group) × HoldsGroup kind 2147483648 (length items.now) g group.now }
+    ensures size { length cells.new ≡ length cells.old }
+    ensures told { (g : Group) → HoldsGroup kind 2147483648 (length items.now) g group.now → take (length items.now) cells.new ≡ group_shown items.now g }
+{
+    let (front, _) = cells.split_at_mut(items.len());
+    show_bytes(kind, items, group.bytes(), front);
 }
 
 // The place of the group with this key among the first n rows, or n where none has it.

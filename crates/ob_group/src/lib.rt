@@ -5,6 +5,8 @@ mod accs;
 mod aggregation;
 mod fields;
 mod groups;
+mod emitting;
+mod head;
 mod keeping;
 mod reading;
 mod totals;
