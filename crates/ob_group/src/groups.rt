@@ -7,7 +7,7 @@ ghost use Rattle.ob_row.specs.Rows.{Row, cell_eq};
 ghost use Rattle.ob_row.specs.Spelling.{FitsKind, Begins};
 ghost use Rattle.ob_group.specs.Running.{AreWithin, starts, grown_all};
 ghost use Rattle.ob_group.specs.Grouping.{Group, aggs_of, group_with, put_row, group_shown};
-ghost use Rattle.ob_group.specs.Held.{HoldsKey, HoldsGroup, AreGroups, kind_at, group_width};
+ghost use Rattle.ob_group.specs.Held.{HoldsKey, HoldsGroup, AreGroups, kind_at};
 
 use crate::fields::{add_totals, key_in, put_key, show_items, start_totals};
 use ob_base::{Kind, Schema, Shown};
@@ -28,7 +28,7 @@ pub(crate) fn kind_at(schema: &Schema, i: u8) -> Kind
 fn start_bytes(kind: Kind, key: &Cell, items: &[Item], bytes: &mut [u8])
     requires fits { FitsKind kind key.now }
     requires few { length items.now ≤ 32 }
-    requires wide { group_width kind (length items.now) ≤ length bytes.old }
+    requires wide { 768 ≤ length bytes.old }
     ensures size { length bytes.new ≡ length bytes.old }
     ensures held { HoldsGroup kind 0 (length items.now) (Some key.now, starts (aggs_of items.now)) bytes.new }
 {
@@ -141,7 +141,7 @@ fn start(
     requires few { length items.now ≤ 32 }
     requires within { AreWithin (length schema.now) (aggs_of items.now) }
     requires fits { FitsKind kind key.now }
-    requires wide { group_width kind (length items.now) ≤ length group.old }
+    requires wide { 768 ≤ length group.old }
     ensures size { length group.new ≡ length group.old }
     ensures told { (cells : Row) → Begins schema.now (Some cells) row.now
         → IsOkAnd result (λ _. HoldsGroup kind 1 (length items.now) (Some key.now, grown_all (aggs_of items.now) cells (starts (aggs_of items.now))) group.new) }
@@ -164,7 +164,7 @@ pub(crate) fn put_row(
     requires key { key < length schema.now }
     requires few { length items.now ≤ 32 }
     requires within { AreWithin (length schema.now) (aggs_of items.now) }
-    requires wide { Wide (group_width (kind_at schema.now key) (length items.now)) groups.old }
+    requires wide { Wide 768 groups.old }
     requires space { length groups.old ≤ 65536 }
     requires real { (cells : Row) × Begins schema.now (Some cells) row.now }
     requires held { (gs : List Group) × (m : ℕ) × (m < 2147483648) × AreGroups (kind_at schema.now key) m (length items.now) n gs groups.old }

@@ -6,7 +6,7 @@ ghost use Rattle.ob_row.specs.Truth.{is_true};
 ghost use Rattle.ob_flat.specs.Slots.{Spelt};
 ghost use Rattle.ob_group.specs.Running.{AreWithin};
 ghost use Rattle.ob_group.specs.Grouping.{Group, aggs_of, groups_with};
-ghost use Rattle.ob_group.specs.Held.{AreGroups, kind_at, group_width};
+ghost use Rattle.ob_group.specs.Held.{AreGroups, kind_at};
 
 use crate::groups::put_row;
 use ob_base::Schema;
@@ -28,7 +28,7 @@ pub(crate) fn group_rows(
     requires key { key < length schema.now }
     requires few { length items.now ≤ 32 }
     requires within { AreWithin (length schema.now) (aggs_of items.now) }
-    requires room { Wide (group_width (kind_at schema.now key) (length items.now)) groups.old }
+    requires room { Wide 768 groups.old }
     requires space { length groups.old ≤ 65536 }
     requires held { (gs : List Group) × (m : ℕ) × (m + length rows.now ≤ 2147483648) × AreGroups (kind_at schema.now key) m (length items.now) before gs groups.old }
     ensures size { SameSizes groups.old groups.new }

@@ -12,7 +12,7 @@ ghost use Rattle.ob_flat.specs.Flats.{IsSized, IsFlat, Represents, whole_blocks}
 ghost use Rattle.ob_flat.specs.Passes.{PassCut};
 ghost use Rattle.ob_group.specs.Running.{AreWithin};
 ghost use Rattle.ob_group.specs.Grouping.{aggs_of, groups_of};
-ghost use Rattle.ob_group.specs.Held.{AreGroups, kind_at, group_width};
+ghost use Rattle.ob_group.specs.Held.{AreGroups, kind_at};
 
 use crate::keeping::group_rows;
 use ob_flat::{Flat, OpErr};
@@ -43,7 +43,7 @@ pub(crate) fn group_blocks<S: BlockStore, R: Revisions>(
     requires key { key < length flat.now.schema }
     requires few { length items.now ≤ 32 }
     requires within { AreWithin (length flat.now.schema) (aggs_of items.now) }
-    requires room { Wide (group_width (kind_at flat.now.schema key) (length items.now)) groups.old }
+    requires room { Wide 768 groups.old }
     requires space { length groups.old ≤ 65536 }
     ensures rows { SameSizes rows.old rows.new }
     ensures groups { SameSizes groups.old groups.new }
