@@ -9,3 +9,5 @@ pub mod GroupBytes
 pub mod Putting
 pub mod SlotLemmas
 pub mod Rows
+pub mod Answering
+pub mod Opened

@@ -69,9 +69,9 @@ module _ (key : ℕ) (aggs : List Agg) where
     put-heads (h ∷ hs) once own new =
         let n = neither (list_any (eq h) hs) (has_repeats eq hs) once in
         let split : (b : Bool) → eq h x ≡ b → map (group_at (xs ++ x ∷ [])) ((h ∷ hs) ++ more key x (b || is_old key x hs))
-            ≡ (if b then group_with aggs x (group_at xs h) ∷ map (group_at xs) hs else group_at xs h ∷ put_row key aggs x (map (group_at xs) hs)) =
+        ≡ (if b then group_with aggs x (group_at xs h) ∷ map (group_at xs) hs else group_at xs h ∷ put_row key aggs x (map (group_at xs) hs)) =
         λ b. elim b as (λ (b : Bool). eq h x ≡ b → map (group_at (xs ++ x ∷ [])) ((h ∷ hs) ++ more key x (b || is_old key x hs))
-            ≡ (if b then group_with aggs x (group_at xs h) ∷ map (group_at xs) hs else group_at xs h ∷ put_row key aggs x (map (group_at xs) hs))) [
+        ≡ (if b then group_with aggs x (group_at xs h) ∷ map (group_at xs) hs else group_at xs h ∷ put_row key aggs x (map (group_at xs) hs))) [
           | true ↦ λ e.
               ap (map (group_at (xs ++ x ∷ []))) (append-nil (h ∷ hs))
               ∙ ap (λ (g : Group). g ∷ map (group_at (xs ++ x ∷ [])) hs) (group-same h e)

@@ -3,3 +3,4 @@ pub mod Grouping
 pub mod Held
 pub mod IsAccs
 pub mod Labels
+pub mod Answers

@@ -165,7 +165,7 @@ pub(crate) fn put_row(
     requires few { length items.now ≤ 32 }
     requires within { AreWithin (length schema.now) (aggs_of items.now) }
     requires wide { Wide 768 groups.old }
-    requires space { length groups.old ≤ 65536 }
+    requires space { length groups.old ≤ 4294967295 }
     requires real { (cells : Row) × Begins schema.now (Some cells) row.now }
     requires held { (gs : List Group) × (m : ℕ) × (m < 2147483648) × AreGroups (kind_at schema.now key) m (length items.now) n gs groups.old }
     ensures size { SameSizes groups.old groups.new }

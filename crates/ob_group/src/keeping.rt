@@ -29,7 +29,7 @@ pub(crate) fn group_rows(
     requires few { length items.now ≤ 32 }
     requires within { AreWithin (length schema.now) (aggs_of items.now) }
     requires room { Wide 768 groups.old }
-    requires space { length groups.old ≤ 65536 }
+    requires space { length groups.old ≤ 4294967295 }
     requires held { (gs : List Group) × (m : ℕ) × (m + length rows.now ≤ 2147483648) × AreGroups (kind_at schema.now key) m (length items.now) before gs groups.old }
     ensures size { SameSizes groups.old groups.new }
     ensures ok { IfOk result (λ n. (slots : Slots) × Spelt schema.now slots rows.now × ((gs : List Group) (m : ℕ) → m + length rows.now ≤ 2147483648 → AreGroups (kind_at schema.now key) m (length items.now) before gs groups.old

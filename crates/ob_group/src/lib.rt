@@ -3,9 +3,10 @@
 
 mod accs;
 mod aggregation;
-mod fields;
-mod groups;
 mod emitting;
+mod fields;
+mod grouping;
+mod groups;
 mod head;
 mod keeping;
 mod reading;
@@ -13,3 +14,5 @@ mod totals;
 
 pub use accs::Accs;
 pub use aggregation::aggregate;
+pub use grouping::{Grouped, group};
+pub use head::agg_label;

@@ -44,7 +44,7 @@ pub(crate) fn group_blocks<S: BlockStore, R: Revisions>(
     requires few { length items.now ≤ 32 }
     requires within { AreWithin (length flat.now.schema) (aggs_of items.now) }
     requires room { Wide 768 groups.old }
-    requires space { length groups.old ≤ 65536 }
+    requires space { length groups.old ≤ 4294967295 }
     ensures rows { SameSizes rows.old rows.new }
     ensures groups { SameSizes groups.old groups.new }
     ensures ok { OnOk result (Went (count_part flat.now.region (blocks_for (length rows.old) flat.now.capacity)) none (at R.state vault.old (S.state store.old)) (at R.state vault.new (S.state store.new))) }

@@ -37,27 +37,27 @@ loop-z-preserved c =
         omega (arith, length-append slots (slot ∷ []), was.kept.1),
         read_more columns rows z slots slot was.kept.1 was.kept.2 (subst (Begins columns slot) (sym row) begins),
         λ gs m few are.
-        let gs' = groups_with p c.args.key aggs gs slots in
-        let so_far = was.kept.3 gs m few are in
-        let next : m + z + 1 ≡ m + (z + 1) = omega arith in
-        elim c.if-selected.branch [
-          | then-selected+in-Ok-put_row w ↦
-              let again = same_at rows z w.index-rows-z-then-selected.result c.loop-z-test.true w.index-rows-z-then-selected.is in
-              let on = slot_on p c.args.key aggs slot (is ∙ w.if-selected.true) in
-              let here : Begins columns (Some on.0) w.index-rows-z-then-selected.result =
-              subst (Begins columns (Some on.0)) (sym row ∙ again) (subst (λ (s : Option Row). Begins columns s c.index-rows-z.result) on.1 begins) in
-              let put = w.in-Ok-put_row.ensures.told on.0 here gs' (m + z) (omega (arith, few, c.loop-z-test.true)) so_far in
-              let whole : groups_with p c.args.key aggs gs (slots ++ slot ∷ []) ≡ put_row c.args.key aggs on.0 gs' = with_more p c.args.key aggs gs slots slot ∙ on.2 gs' in
-              subst (λ (l : List (List ℕ)). AreGroups kind (m + (z + 1)) count c.if-selected.n (groups_with p c.args.key aggs gs (slots ++ slot ∷ [])) l) (sym w.groups-is)
-              (subst (λ (k : ℕ). AreGroups kind (m + (z + 1)) count k (groups_with p c.args.key aggs gs (slots ++ slot ∷ [])) w.put_row.new.groups) (sym w.n-is)
-              (subst (λ (l : List Group). AreGroups kind (m + (z + 1)) count w.in-Ok-put_row.k l w.put_row.new.groups) (sym whole)
-              (subst (λ (k : ℕ). AreGroups kind k count w.in-Ok-put_row.k (put_row c.args.key aggs on.0 gs') w.put_row.new.groups) next put)))
-          | else-selected w ↦
-              let whole : groups_with p c.args.key aggs gs (slots ++ slot ∷ []) ≡ gs' = with_more p c.args.key aggs gs slots slot ∙ slot_off p c.args.key aggs gs' slot (is ∙ w.if-selected.false) in
-              subst (λ (l : List (List ℕ)). AreGroups kind (m + (z + 1)) count c.if-selected.n (groups_with p c.args.key aggs gs (slots ++ slot ∷ [])) l) (sym w.groups-is)
-              (subst (λ (k : ℕ). AreGroups kind (m + (z + 1)) count k (groups_with p c.args.key aggs gs (slots ++ slot ∷ [])) c.loop-z.groups) (sym w.n-is)
-              (subst (λ (l : List Group). AreGroups kind (m + (z + 1)) count c.loop-z.n l c.loop-z.groups) (sym whole)
-              (groups_weak kind (m + z) (m + (z + 1)) count c.loop-z.n gs' c.loop-z.groups (omega arith) so_far)))
-        ],
+            let gs' = groups_with p c.args.key aggs gs slots in
+            let so_far = was.kept.3 gs m few are in
+            let next : m + z + 1 ≡ m + (z + 1) = omega arith in
+            elim c.if-selected.branch [
+              | then-selected+in-Ok-put_row w ↦
+                  let again = same_at rows z w.index-rows-z-then-selected.result c.loop-z-test.true w.index-rows-z-then-selected.is in
+                  let on = slot_on p c.args.key aggs slot (is ∙ w.if-selected.true) in
+                  let here : Begins columns (Some on.0) w.index-rows-z-then-selected.result =
+                  subst (Begins columns (Some on.0)) (sym row ∙ again) (subst (λ (s : Option Row). Begins columns s c.index-rows-z.result) on.1 begins) in
+                  let put = w.in-Ok-put_row.ensures.told on.0 here gs' (m + z) (omega (arith, few, c.loop-z-test.true)) so_far in
+                  let whole : groups_with p c.args.key aggs gs (slots ++ slot ∷ []) ≡ put_row c.args.key aggs on.0 gs' = with_more p c.args.key aggs gs slots slot ∙ on.2 gs' in
+                  subst (λ (l : List (List ℕ)). AreGroups kind (m + (z + 1)) count c.if-selected.n (groups_with p c.args.key aggs gs (slots ++ slot ∷ [])) l) (sym w.groups-is)
+                  (subst (λ (k : ℕ). AreGroups kind (m + (z + 1)) count k (groups_with p c.args.key aggs gs (slots ++ slot ∷ [])) w.put_row.new.groups) (sym w.n-is)
+                  (subst (λ (l : List Group). AreGroups kind (m + (z + 1)) count w.in-Ok-put_row.k l w.put_row.new.groups) (sym whole)
+                  (subst (λ (k : ℕ). AreGroups kind k count w.in-Ok-put_row.k (put_row c.args.key aggs on.0 gs') w.put_row.new.groups) next put)))
+              | else-selected w ↦
+                  let whole : groups_with p c.args.key aggs gs (slots ++ slot ∷ []) ≡ gs' = with_more p c.args.key aggs gs slots slot ∙ slot_off p c.args.key aggs gs' slot (is ∙ w.if-selected.false) in
+                  subst (λ (l : List (List ℕ)). AreGroups kind (m + (z + 1)) count c.if-selected.n (groups_with p c.args.key aggs gs (slots ++ slot ∷ [])) l) (sym w.groups-is)
+                  (subst (λ (k : ℕ). AreGroups kind (m + (z + 1)) count k (groups_with p c.args.key aggs gs (slots ++ slot ∷ [])) c.loop-z.groups) (sym w.n-is)
+                  (subst (λ (l : List Group). AreGroups kind (m + (z + 1)) count c.loop-z.n l c.loop-z.groups) (sym whole)
+                  (groups_weak kind (m + z) (m + (z + 1)) count c.loop-z.n gs' c.loop-z.groups (omega arith) so_far)))
+            ],
       );
     }

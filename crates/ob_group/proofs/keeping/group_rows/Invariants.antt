@@ -15,5 +15,5 @@ invariant-loop-z l =
       same : SameSizes l.initial.groups l.groups;
       kept : (slots : Slots) × (length slots ≡ l.z) × ((j : ℕ) → j < l.z → Begins l.schema (slice_index_or slots j None) (row_at l.rows j))
           × ((gs : List Group) (m : ℕ) → m + length l.rows ≤ 2147483648 → AreGroups kind m count l.before gs l.initial.groups
-            → AreGroups kind (m + l.z) count l.n (groups_with (is_true l.pred) l.key (aggs_of l.items) gs slots) l.groups);
+          → AreGroups kind (m + l.z) count l.n (groups_with (is_true l.pred) l.key (aggs_of l.items) gs slots) l.groups);
     }

@@ -159,14 +159,14 @@ loop-u-preserved g c =
         subst (λ (m : ℕ). AreGroups kind m count c.in-Ok.more (groups_of p c.args.key c.args.items.now (held.0 ++ block.0)) c.group_rows.new.groups) more
             (subst (λ (gs : List Group). AreGroups kind (u * pack + length c.get.new.rows) count c.in-Ok.more gs c.group_rows.new.groups) joined grown),
         λ slots is nolie.
-        let now = represents_lasts pack flat none _ _ went.lasts (λ s. s) slots is in
-        let shape = table_region c.requires.flat.made.order pack flat.schema flat.capacity in
-        let bytes = c.in_ok-get.ensures.told _ shape (lives_went _ _ _ _ _ _ went (λ s. s) c.requires.flat.made.lives) (block_long pack flat slots _ is c.requires.pack.0 u below) (now.holds u below) nolie in
-        let wide = wide_same (width flat.schema) _ _ same (wide_fit (width flat.schema) c.args.rows.now c.requires.fit) in
-        let spelt = got pack flat slots _ is c.requires.pack.0 u (length c.loop-u.rows) c.get.new.rows below c.loop-u.invariant.same.count same.count wide bytes in
-        let whole = whole_blocks pack flat.capacity slots in
-        ap (λ (l : Slots). l ++ block.0) (held.2 slots is (none_went _ _ _ _ c.in_ok-get.ensures.ok nolie))
-        ∙ ap (λ (l : Slots). take (u * pack) whole ++ l) (spelt_same flat.schema block.0 (block_at pack whole u) c.get.new.rows block.1 spelt) ∙ sym (take_blocks pack whole u),
+            let now = represents_lasts pack flat none _ _ went.lasts (λ s. s) slots is in
+            let shape = table_region c.requires.flat.made.order pack flat.schema flat.capacity in
+            let bytes = c.in_ok-get.ensures.told _ shape (lives_went _ _ _ _ _ _ went (λ s. s) c.requires.flat.made.lives) (block_long pack flat slots _ is c.requires.pack.0 u below) (now.holds u below) nolie in
+            let wide = wide_same (width flat.schema) _ _ same (wide_fit (width flat.schema) c.args.rows.now c.requires.fit) in
+            let spelt = got pack flat slots _ is c.requires.pack.0 u (length c.loop-u.rows) c.get.new.rows below c.loop-u.invariant.same.count same.count wide bytes in
+            let whole = whole_blocks pack flat.capacity slots in
+            ap (λ (l : Slots). l ++ block.0) (held.2 slots is (none_went _ _ _ _ c.in_ok-get.ensures.ok nolie))
+            ∙ ap (λ (l : Slots). take (u * pack) whole ++ l) (spelt_same flat.schema block.0 (block_at pack whole u) c.get.new.rows block.1 spelt) ∙ sym (take_blocks pack whole u),
       );
     }
   where
