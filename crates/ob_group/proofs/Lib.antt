@@ -1,3 +1,13 @@
 pub mod Sums
 pub mod Seen
 pub mod Bounds
+pub mod Heads
+pub mod Taking
+pub mod Wide
+pub mod TotalBytes
+pub mod GroupBytes
+pub mod Putting
+pub mod SlotLemmas
+pub mod Rows
+pub mod Answering
+pub mod Opened

@@ -57,7 +57,7 @@ none_grown [] = refl
 none_grown (row ∷ rows) = none_grown rows
 
 -- each by itself
-first_grown : (agg : Agg) (aggs : List Agg) (t : Option ℤ) (ts : List (Option ℤ)) (rows : List Row)
+pub first_grown : (agg : Agg) (aggs : List Agg) (t : Option ℤ) (ts : List (Option ℤ)) (rows : List Row)
     → grown_by (agg ∷ aggs) (t ∷ ts) rows ≡ fold (λ (t : Option ℤ) (row : Row). grown row agg t) t rows ∷ grown_by aggs ts rows
 first_grown agg aggs t ts [] = refl
 first_grown agg aggs t ts (row ∷ rows) = first_grown agg aggs (grown row agg t) (grown_all aggs row ts) rows

@@ -1,2 +1,6 @@
 pub mod Running
+pub mod Grouping
+pub mod Held
 pub mod IsAccs
+pub mod Labels
+pub mod Answers

@@ -8,6 +8,10 @@ use Rattle.ob_row.specs.declared.aggregate.Agg.TheVariants.{CountAll, Count, Sum
 use Rattle.ob_row.specs.Rows.{Row, cell_at}
 use Rattle.ob_row.specs.Totals.{int_of}
 
+-- the totals of some aggregates
+abbrev pub Sums : Type 0
+Sums = List (Option ℤ)
+
 -- the integers that are taken together stand in a column of the table
 abbrev pub IsWithin : ℕ → Agg → Type 0
 IsWithin n CountAll = ⊤

@@ -24,7 +24,7 @@ fn together(agg: Agg, x: i128, y: i128) -> i128
     }
 }
 
-fn joined(agg: Agg, total: Option<i128>, part: Option<i64>) -> Option<i128>
+pub(crate) fn joined(agg: Agg, total: Option<i128>, part: Option<i64>) -> Option<i128>
     requires { IfSome total (λ x. nat_abs x + 2 ^ 63 < 2 ^ 127) }
     ensures value { result ≡ joined (together agg) total part }
     ensures few { (n : ℕ) → IfSome total (λ x. nat_abs x ≤ n * 2 ^ 63) → IfSome result (λ x. nat_abs x ≤ (n + 1) * 2 ^ 63) }
@@ -51,7 +51,7 @@ fn int_at(schema: &Schema, row: &ClearRow, i: u8) -> Result<Option<i64>, Malform
 }
 
 // What the row gives to an aggregate.
-fn part(agg: Agg, schema: &Schema, row: &ClearRow) -> Result<Option<i64>, Malformed>
+pub(crate) fn part(agg: Agg, schema: &Schema, row: &ClearRow) -> Result<Option<i64>, Malformed>
     requires wide { width schema.now ≤ length row.now }
     requires within { IsWithin (length schema.now) agg }
     ensures { (cells : Row) → Begins schema.now (Some cells) row.now → result ≡ Ok (part agg cells) }
@@ -89,7 +89,7 @@ pub(crate) fn add_row(
 }
 
 // The total of no rows.
-fn start(agg: Agg) -> Option<i128>
+pub(crate) fn start(agg: Agg) -> Option<i128>
     ensures { result ≡ start agg }
 {
     match agg {

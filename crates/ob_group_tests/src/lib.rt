@@ -1,5 +1,9 @@
-//! Tests of the aggregates of tables that were filled row by row; no other function.
+//! Tests of the aggregates and the groups of tables that were filled row by row; no other function.
 #![tactic(auto)]
 
+#[cfg(test)]
+mod emitter;
+#[cfg(test)]
+mod groups;
 #[cfg(test)]
 mod tests;

@@ -1,6 +1,8 @@
 // The aggregates of tables with rows, and the accesses of them.
 ghost use Rattle.std.specs.Prelude.{◌≡◌, ◌≤◌, ◌*◌, ◌+◌, ℕ, List, [], ◌∷◌, ℤ, FitsSigned, length, max};
 ghost use Rattle.std.specs.Int.{w64};
+ghost use Rattle.std.specs.List.{All};
+ghost use Rattle.ob_base.specs.Labels.{IsNamed};
 ghost use Rattle.ob_base.specs.Schemas.{width};
 ghost use Rattle.ob_vault.specs.Tied.{Ready};
 ghost use Rattle.ob_vault.specs.Places.{at};
@@ -22,9 +24,10 @@ use ob_vault::{BaseRevs, Revisions, Vault};
 use std::alloc::Global;
 use std::process::Abort;
 
-fn column(name: &[u8], kind: Kind, key: bool) -> Column
+pub(crate) fn column(name: &[u8], kind: Kind, key: bool) -> Column
     requires { length name.now ≤ 32 }
     ensures kind { result.kind ≡ kind }
+    ensures named { IsNamed result }
 {
     Column {
         table: Name::from_bytes(b"t"),
@@ -34,10 +37,11 @@ fn column(name: &[u8], kind: Kind, key: bool) -> Column
     }
 }
 
-fn two_ints() -> Schema
+pub(crate) fn two_ints() -> Schema
     ensures size { IsSized result 4 }
     ensures count { length result ≡ 2 }
     ensures width { width result ≡ 17 }
+    ensures names { All IsNamed result }
     ensures ints { (x y : ℤ) → FitsSigned w64 x → FitsSigned w64 y → FitColumns result (IntCell x ∷ IntCell y ∷ []) }
 {
     let mut schema = Schema::new();
@@ -47,7 +51,7 @@ fn two_ints() -> Schema
 }
 
 // The reads of this region's places, in order, from the access of this index on, and no others.
-fn check_reads<S: BlockStore>(rt: &impl Abort, store: &S, from: u64, region: u64, blocks: u32) {
+pub(crate) fn check_reads<S: BlockStore>(rt: &impl Abort, store: &S, from: u64, region: u64, blocks: u32) {
     let mut at = from;
     for place in 0..blocks {
         assert!(rt; at < store.count());
@@ -83,7 +87,7 @@ fn insert_row<S: BlockStore, R: Revisions>(
     assert_eq!(rt; found, Inserted::Done);
 }
 
-fn insert_rows<S: BlockStore, R: Revisions>(
+pub(crate) fn insert_rows<S: BlockStore, R: Revisions>(
     rt: &impl Abort,
     store: &mut S,
     vault: &mut Vault<R>,
@@ -167,7 +171,7 @@ fn in_packs(rt: &impl Abort, alloc: Global, rows: &[(i64, i64)], pred: &Pred, wa
     in_memory(rt, alloc, 3, 2, rows, pred, wanted);
 }
 
-const FOUR: [(i64, i64); 4] = [(1, 10), (2, 20), (3, 10), (4, 20)];
+pub(crate) const FOUR: [(i64, i64); 4] = [(1, 10), (2, 20), (3, 10), (4, 20)];
 
 #[test]
 fn of_all_rows(rt: HostRuntime) {
@@ -275,10 +279,11 @@ fn of_great_sums(rt: HostRuntime) {
     );
 }
 
-fn id_and_text() -> Schema
+pub(crate) fn id_and_text() -> Schema
     ensures size { IsSized result 4 }
     ensures count { length result ≡ 2 }
     ensures width { width result ≡ 14 }
+    ensures names { All IsNamed result }
     ensures fits { (x : ℤ) (t : List ℕ) → FitsSigned w64 x → FitsText 4 t → FitColumns result (IntCell x ∷ TextCell t ∷ []) }
 {
     let mut schema = Schema::new();

@@ -1,0 +1,66 @@
+-- What the groups of a table's slots answer.
+use Rattle.std.proofs.Common.{◌≡◌, ◌≤◌, ◌<◌, ◌+◌, ◌-◌, ◌*◌, inl, inr, ℕ, zero, suc, Bool, true, false, nat_lt, List, [], ◌∷◌, ◌++◌, Option, Some, None, length, map, cond, if◌then◌else◌, Result, Ok, Err, refl, sym, ◌∙◌, ap, subst, arith}
+use Rattle.std.specs.List.{All}
+use Rattle.std.specs.Prelude.{filter, slice_get}
+use Rattle.std.proofs.lemmas.Bool.Decides.{nat_tests}
+use Rattle.std.proofs.lemmas.List.Sums.{fold-append}
+use Rattle.ob_base.specs.declared.shown.Shown.{Shown}
+use Rattle.ob_base.specs.Schemas.{Columns}
+use Rattle.ob_row.specs.declared.aggregate.Agg.{Agg}
+use Rattle.ob_row.specs.declared.aggregate.Item.{Item}
+use Rattle.ob_row.specs.Rows.{Row, options_eq}
+use Rattle.ob_row.specs.Slots.{Slots, rows}
+use Rattle.ob_row.specs.Spelling.{Fits}
+use Rattle.ob_row.specs.Totals.{group_heads, grouped}
+use Rattle.ob_blocks.specs.Blocks.{none_of, up_to}
+use Rattle.ob_blocks.proofs.Blocks.{all_first, all_rest}
+use Rattle.ob_flat.specs.Slots.{FitsSlot}
+use Rattle.ob_group.specs.declared.grouping.Grouped.{Grouped}
+use Rattle.ob_group.specs.declared.grouping.Grouped.TheVariants.{Groups, TooMany}
+use Rattle.ob_group.specs.Answers.{answer_of}
+use Rattle.ob_group.specs.Grouping.{Group, put_slot, aggs_of, groups_with, groups_of, groups_shown}
+use Rattle.ob_group.proofs.Heads.{cell_eq-refl}
+use Rattle.ob_group.proofs.Taking.{AreKeyed, groups-grouped, groups-number}
+
+-- a row has a cell at each place of its columns
+own_key : (columns : Columns) (row : Row) (key : ℕ) → Fits columns row → key < length columns → options_eq (slice_get row key) (slice_get row key) ≡ true
+own_key [] row key fits below = absurd (omega (arith, below))
+own_key (c ∷ columns) [] key fits below = absurd fits
+own_key (c ∷ columns) (x ∷ row) zero fits below = cell_eq-refl x
+own_key (c ∷ columns) (x ∷ row) (suc key) fits below = own_key columns row key fits.1 (omega (arith, below))
+
+pub keyed_rows : (p : Row → Bool) (columns : Columns) (key : ℕ) (slots : Slots) → key < length columns → All (FitsSlot columns) slots → AreKeyed key (filter p (rows slots))
+keyed_rows p columns key [] below fits = tt
+keyed_rows p columns key (None ∷ slots) below fits = keyed_rows p columns key slots below (all_rest (FitsSlot columns) None slots fits)
+keyed_rows p columns key (Some row ∷ slots) below fits =
+    let first = own_key columns row key (all_first (FitsSlot columns) (Some row) slots fits) below in
+    let rest = keyed_rows p columns key slots below (all_rest (FitsSlot columns) (Some row) slots fits) in
+    elim (p row) as (λ (b : Bool). AreKeyed key (cond b (row ∷ filter p (rows slots)) (filter p (rows slots)))) [ true ↦ (first, rest) | false ↦ rest ]
+
+module _ (p : Row → Bool) (key : ℕ) (items : List Item) where
+  none_more : (gs : List Group) (n : ℕ) → groups_with p key (aggs_of items) gs (none_of n) ≡ gs
+  none_more gs zero = refl
+  none_more gs (suc n) = none_more gs n
+
+  -- empty slots behind the others are nothing
+  groups-up_to : (n : ℕ) (slots : Slots) → groups_of p key items (up_to n slots) ≡ groups_of p key items slots
+  groups-up_to n slots = fold-append (put_slot p key (aggs_of items)) [] slots (none_of (n - length slots)) ∙ none_more (groups_of p key items slots) (n - length slots)
+
+  module _ (columns : Columns) (n : ℕ) (slots seen : Slots) (below : key < length columns) (fits : All (FitsSlot columns) slots) (is : seen ≡ up_to n slots) where
+    same : groups_of p key items seen ≡ groups_of p key items slots
+    same = ap (groups_of p key items) is ∙ groups-up_to n slots
+
+    pub seen_shown : groups_shown items (groups_of p key items seen) ≡ grouped key items (filter p (rows slots))
+    seen_shown = ap (groups_shown items) same ∙ groups-grouped p key items slots (keyed_rows p columns key slots below fits)
+
+    pub seen_number : length (groups_of p key items seen) ≡ length (group_heads key (filter p (rows slots)))
+    seen_number = ap (λ (gs : List Group). length gs) same ∙ groups-number p key items slots (keyed_rows p columns key slots below fits)
+
+-- the answers
+pub too_many : (most n : ℕ) → most < n → TooMany ≡ answer_of most n
+too_many most n h = let is : nat_lt most n ≡ true = grind (arith, nat_tests) in ap (λ (b : Bool). if b then TooMany else Groups n) (sym is)
+
+pub so_many : (most k n : ℕ) → k ≡ n → n ≤ most → Groups k ≡ answer_of most n
+so_many most k n same h =
+    let is : nat_lt most n ≡ false = grind (arith, nat_tests) in
+    ap Groups same ∙ ap (λ (b : Bool). if b then TooMany else Groups n) (sym is)

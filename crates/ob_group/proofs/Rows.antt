@@ -1,0 +1,39 @@
+-- The rows of groups that were emitted.
+use Rattle.std.proofs.Common.{◌≡◌, ◌≤◌, ◌<◌, ◌+◌, inl, inr, ℕ, List, [], ◌∷◌, ◌++◌, length, map, take, drop, slice_index_or, Result, Ok, Err, OnOk, OnErr, refl, sym, ◌∙◌, ap, arith}
+use Rattle.std.proofs.lemmas.List.{append-nil, map-append, take_more, take-append-drop}
+use Rattle.ob_base.specs.declared.shown.Shown.{Shown}
+use Rattle.ob_base.specs.Events.{Event, Row, row_events, Leads, IsEmitted, IsHalted}
+use Rattle.ob_base.proofs.EventLemmas.{emitted_head, emitted_join, halted_join}
+use Rattle.ob_row.specs.declared.aggregate.Item.{Item}
+use Rattle.ob_group.specs.Grouping.{Group, group_shown, groups_shown}
+use Rattle.ob_group.specs.Held.{no_group}
+
+module _ (items : List Item) (gs : List Group) (i : ℕ) where
+  -- one more, and those that are left
+  pub shown_more : i < length gs → groups_shown items (take i gs) ++ group_shown items (slice_index_or gs i no_group) ∷ [] ≡ groups_shown items (take (i + 1) gs)
+  shown_more below = sym (ap (groups_shown items) (take_more gs i no_group below) ∙ map-append (group_shown items) (take i gs) (slice_index_or gs i no_group ∷ []))
+
+  pub shown_rest : (rest : List (List Shown)) × (groups_shown items (take i gs) ++ rest ≡ groups_shown items gs)
+  shown_rest = (groups_shown items (drop i gs), sym (map-append (group_shown items) (take i gs) (drop i gs)) ∙ ap (groups_shown items) (take-append-drop i gs))
+
+module _ {E A T R : Type 0} (grew cut : E → E → List Event → Type 0) (shown : A → List Shown) (cells : List Shown) (told : (s : A) → cells ≡ shown s) (old new : E) where
+  pub one_emitted : (r : Result T R) → OnOk r (Leads grew grew old new (Row cells ∷ [])) → OnOk r (IsEmitted grew [] (λ s. shown s ∷ []) 0 1 old new)
+  one_emitted (Ok x) leads = record { rows = cells ∷ []; count = omega arith; leads = leads; told = λ s. ap (λ (l : List Shown). l ∷ []) (told s) }
+  one_emitted (Err e) leads = tt
+
+  pub one_halted : (r : Result T R) → OnErr r (Leads grew cut old new (Row cells ∷ [])) → OnErr r (IsHalted grew cut (λ s. row_events (shown s ∷ [])) old new)
+  one_halted (Ok x) leads = tt
+  one_halted (Err e) leads = record { events = Row cells ∷ []; ends = inr leads; told = λ s. ([], ap (λ (l : List Shown). Row l ∷ []) (told s)) }
+
+-- rows behind their header
+module _ {E A T R : Type 0} (grew cut : E → E → List Event → Type 0) (head : List Event) where
+  pub headed_ok : (shown : A → List (List Shown)) (n : ℕ) (a b c : E) → Leads grew grew a b head → (r : Result T R) → OnOk r (IsEmitted grew [] shown 0 n b c) → OnOk r (IsEmitted grew head shown 0 n a c)
+  headed_ok shown n a b c leads (Ok x) is =
+      emitted_join grew head (λ (s : ℕ). []) shown shown 0 0 0 n n a b c (emitted_head grew head a b leads) is (omega arith) (λ s. (0, s, refl))
+  headed_ok shown n a b c leads (Err e) is = tt
+
+  pub headed_err : (all : A → List Event) (a b c : E) → Leads grew grew a b head → (r : Result T R) → OnErr r (IsHalted grew cut all b c) → OnErr r (IsHalted grew cut (λ s. head ++ all s) a c)
+  headed_err all a b c leads (Ok x) is = tt
+  headed_err all a b c leads (Err e) is =
+      halted_join grew cut head (λ (s : ℕ). []) all (λ s. head ++ all s) 0 0 a b c (emitted_head grew head a b leads) is
+      (λ s. (0, s, [], ap (λ (l : List Event). l ++ (all s ++ [])) (append-nil head) ∙ ap (λ (l : List Event). head ++ l) (append-nil (all s))))

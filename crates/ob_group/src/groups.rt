@@ -1,0 +1,190 @@
+//! The rows that hold the running groups, one each.
+ghost use Rattle.std.specs.Prelude.{◌≡◌, ◌≤◌, ◌<◌, ◌+◌, ◌*◌, ℕ, true, false, List, Option, Some, IsOkAnd, length, take};
+ghost use Rattle.ob_base.specs.Schemas.{kind_width, width};
+ghost use Rattle.ob_vault.specs.Rows.{SameSizes, Wide, row_at};
+ghost use Rattle.ob_row.specs.declared.cell.Cell.{Cell as RowCell};
+ghost use Rattle.ob_row.specs.Rows.{Row, cell_eq};
+ghost use Rattle.ob_row.specs.Spelling.{FitsKind, Begins};
+ghost use Rattle.ob_group.specs.Running.{AreWithin, starts, grown_all};
+ghost use Rattle.ob_group.specs.Grouping.{Group, aggs_of, group_with, put_row, group_shown};
+ghost use Rattle.ob_group.specs.Held.{HoldsKey, HoldsGroup, AreGroups, kind_at};
+
+use crate::fields::{add_totals, key_in, put_key, show_items, start_totals};
+use ob_base::{Kind, Schema, Shown};
+use ob_room::ClearRow;
+use ob_row::{Cell, Item, Malformed, decode, same_cell};
+
+// The kind of the column at a place.
+pub(crate) fn kind_at(schema: &Schema, i: u8) -> Kind
+    ensures { result ≡ kind_at schema.now i }
+{
+    match schema.as_slice().get(usize::from(i)) {
+        Some(column) => column.kind,
+        None => Kind::Int,
+    }
+}
+
+// Writes a group of no rows over the first bytes.
+fn start_bytes(kind: Kind, key: &Cell, items: &[Item], bytes: &mut [u8])
+    requires fits { FitsKind kind key.now }
+    requires few { length items.now ≤ 32 }
+    requires wide { 768 ≤ length bytes.old }
+    ensures size { length bytes.new ≡ length bytes.old }
+    ensures held { HoldsGroup kind 0 (length items.now) (Some key.now, starts (aggs_of items.now)) bytes.new }
+{
+    let (field, rest) = bytes.split_at_mut(kind.width() as usize);
+    let (fields, _) = rest.split_at_mut(16 * items.len());
+    put_key(kind, key, field);
+    start_totals(items, fields);
+}
+
+// Adds the row to the group that these bytes hold.
+fn add_bytes(
+    schema: &Schema,
+    row: &ClearRow,
+    kind: Kind,
+    items: &[Item],
+    bytes: &mut [u8],
+) -> Result<(), Malformed>
+    requires row { width schema.now ≤ length row.now }
+    requires few { length items.now ≤ 32 }
+    requires within { AreWithin (length schema.now) (aggs_of items.now) }
+    requires held { (g : Group) × HoldsGroup kind 2147483648 (length items.now) g bytes.old }
+    ensures size { length bytes.new ≡ length bytes.old }
+    ensures told { (cells : Row) → Begins schema.now (Some cells) row.now → (g : Group) (m : ℕ) → m ≤ 2147483648 → HoldsGroup kind m (length items.now) g bytes.old
+        → IsOkAnd result (λ _. HoldsGroup kind (m + 1) (length items.now) (group_with (aggs_of items.now) cells g) bytes.new) }
+{
+    let (_, rest) = bytes.split_at_mut(kind.width() as usize);
+    let (fields, _) = rest.split_at_mut(16 * items.len());
+    add_totals(schema, row, items, fields)
+}
+
+// The key of the group that these bytes hold.
+fn key_of(kind: Kind, bytes: &[u8]) -> Cell
+    requires { (x : RowCell) × HoldsKey kind x bytes.now }
+    ensures { (x : RowCell) → HoldsKey kind x bytes.now → result ≡ x }
+{
+    let (field, _) = bytes.split_at(kind.width() as usize);
+    key_in(kind, field)
+}
+
+// The items of the group that these bytes hold, as they are printed.
+fn show_bytes(kind: Kind, items: &[Item], bytes: &[u8], cells: &mut [Shown])
+    requires few { length items.now ≤ 32 }
+    requires size { length cells.old ≡ length items.now }
+    requires held { (g : Group) × HoldsGroup kind 2147483648 (length items.now) g bytes.now }
+    ensures { (g : Group) (m : ℕ) → m ≤ 2147483648 → HoldsGroup kind m (length items.now) g bytes.now → cells.new ≡ group_shown items.now g }
+{
+    let key = key_of(kind, bytes);
+    let (_, rest) = bytes.split_at(kind.width() as usize);
+    let (fields, _) = rest.split_at(16 * items.len());
+    show_items(items, &key, fields, cells);
+}
+
+// The items of a group, as they are printed, over the first of these cells.
+pub(crate) fn show_group(kind: Kind, items: &[Item], group: &ClearRow, cells: &mut [Shown])
+    requires few { length items.now ≤ 32 }
+    requires size { length items.now ≤ length cells.old }
+    requires held { (g : Group) × HoldsGroup kind 2147483648 (length items.now) g group.now }
+    ensures size { length cells.new ≡ length cells.old }
+    ensures told { (g : Group) → HoldsGroup kind 2147483648 (length items.now) g group.now → take (length items.now) cells.new ≡ group_shown items.now g }
+{
+    let (front, _) = cells.split_at_mut(items.len());
+    show_bytes(kind, items, group.bytes(), front);
+}
+
+// The place of the group with this key among the first n rows, or n where none has it.
+fn place(kind: Kind, key: &Cell, groups: &[ClearRow], n: usize) -> usize
+    requires few { n ≤ length groups.now }
+    requires keys { (i : ℕ) → i < n → (x : RowCell) × HoldsKey kind x (row_at groups.now i) }
+    ensures most { result ≤ n }
+    ensures off { (i : ℕ) → i < result → (x : RowCell) → HoldsKey kind x (row_at groups.now i) → cell_eq x key.now ≡ false }
+    ensures on { result < n → (x : RowCell) → HoldsKey kind x (row_at groups.now result) → cell_eq x key.now ≡ true }
+{
+    for i in 0..n {
+        if same_cell(&key_of(kind, groups[i].bytes()), key) {
+            return i;
+        }
+    }
+    n
+}
+
+// Adds the row to a group.
+fn add(
+    schema: &Schema,
+    row: &ClearRow,
+    kind: Kind,
+    items: &[Item],
+    group: &mut ClearRow,
+) -> Result<(), Malformed>
+    requires row { width schema.now ≤ length row.now }
+    requires few { length items.now ≤ 32 }
+    requires within { AreWithin (length schema.now) (aggs_of items.now) }
+    requires held { (g : Group) × HoldsGroup kind 2147483648 (length items.now) g group.old }
+    ensures size { length group.new ≡ length group.old }
+    ensures told { (cells : Row) → Begins schema.now (Some cells) row.now → (g : Group) (m : ℕ) → m ≤ 2147483648 → HoldsGroup kind m (length items.now) g group.old
+        → IsOkAnd result (λ _. HoldsGroup kind (m + 1) (length items.now) (group_with (aggs_of items.now) cells g) group.new) }
+{
+    add_bytes(schema, row, kind, items, group.bytes_mut())
+}
+
+// Makes the row the first of a group with this key.
+fn start(
+    schema: &Schema,
+    row: &ClearRow,
+    kind: Kind,
+    key: &Cell,
+    items: &[Item],
+    group: &mut ClearRow,
+) -> Result<(), Malformed>
+    requires row { width schema.now ≤ length row.now }
+    requires few { length items.now ≤ 32 }
+    requires within { AreWithin (length schema.now) (aggs_of items.now) }
+    requires fits { FitsKind kind key.now }
+    requires wide { 768 ≤ length group.old }
+    ensures size { length group.new ≡ length group.old }
+    ensures told { (cells : Row) → Begins schema.now (Some cells) row.now
+        → IsOkAnd result (λ _. HoldsGroup kind 1 (length items.now) (Some key.now, grown_all (aggs_of items.now) cells (starts (aggs_of items.now))) group.new) }
+{
+    start_bytes(kind, key, items, group.bytes_mut());
+    add(schema, row, kind, items, group)
+}
+
+// Puts a row to the group with its key, or to a new one behind the n that there are, and answers how many
+// there are then: one more than the rows, where there are more.
+pub(crate) fn put_row(
+    schema: &Schema,
+    row: &ClearRow,
+    key: u8,
+    items: &[Item],
+    groups: &mut [ClearRow],
+    n: usize,
+) -> Result<usize, Malformed>
+    requires row { width schema.now ≤ length row.now }
+    requires key { key < length schema.now }
+    requires few { length items.now ≤ 32 }
+    requires within { AreWithin (length schema.now) (aggs_of items.now) }
+    requires wide { Wide 768 groups.old }
+    requires space { length groups.old ≤ 4294967295 }
+    requires real { (cells : Row) × Begins schema.now (Some cells) row.now }
+    requires held { (gs : List Group) × (m : ℕ) × (m < 2147483648) × AreGroups (kind_at schema.now key) m (length items.now) n gs groups.old }
+    ensures size { SameSizes groups.old groups.new }
+    ensures told { (cells : Row) → Begins schema.now (Some cells) row.now → IsOkAnd result (λ k. (gs : List Group) (m : ℕ) → m < 2147483648 → AreGroups (kind_at schema.now key) m (length items.now) n gs groups.old
+        → AreGroups (kind_at schema.now key) (m + 1) (length items.now) k (put_row key (aggs_of items.now) cells gs) groups.new) }
+{
+    if n > groups.len() {
+        return Ok(n);
+    }
+    let kind = kind_at(schema, key);
+    let cell = decode(schema, row, key)?;
+    let i = place(kind, &cell, groups, n);
+    if i < n {
+        add(schema, row, kind, items, &mut groups[i])?;
+        Ok(n)
+    } else if n < groups.len() {
+        start(schema, row, kind, &cell, items, &mut groups[n])?;
+        Ok(n + 1)
+    } else {
+        Ok(n + 1)
+    }
+}
