@@ -1,5 +1,7 @@
 pub mod Waiting
 pub mod Ranges
-pub mod Buckets
-pub mod Placing
+pub mod Showing
+pub mod Both
 pub mod Places
+pub mod Sizes
+pub mod Alike

@@ -1,5 +1,5 @@
 -- What becomes of a block that is shown to a row.
-use Rattle.std.specs.Prelude.{◌≡◌, ◌≤◌, Option, length}
+use Rattle.std.specs.Prelude.{◌≡◌, ◌≤◌, ℕ, List, Option, length}
 use Rattle.ob_base.specs.Schemas.{Columns, width}
 use Rattle.ob_row.specs.Rows.{Row}
 use Rattle.ob_row.specs.Slots.{Slots}
@@ -8,10 +8,10 @@ use Rattle.ob_hash.specs.declared.filling.Filling.{Filling}
 use Rattle.ob_hash.specs.Waiting.{waits_after, filled_with}
 
 -- the row spells a slot
-pub record Suits (columns : Columns) (filling : Filling) : Type 0 where
-  pub wide : width columns ≤ length filling.row.now
+pub record IsRow (columns : Columns) (row : List ℕ) : Type 0 where
+  pub wide : width columns ≤ length row
   pub own : Option Row
-  pub begins : Begins columns own filling.row.now
+  pub begins : Begins columns own row
 
 -- its slot goes into the first empty one, where it waits
 pub record Fills (columns : Columns) (old new : Filling) (slots made : Slots) : Type 0 where

@@ -1,3 +1,4 @@
 pub mod Waiting
 pub mod Filling
 pub mod Bucketed
+pub mod Hashing

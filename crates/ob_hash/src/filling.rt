@@ -37,11 +37,11 @@ impl<'a> Filling<'a> {
 }
 
 impl<'a> Rework for Filling<'a> {
-    ghost use Rattle.ob_hash.specs.Filling.{Suits as IsRow, Fills};
+    ghost use Rattle.ob_hash.specs.Filling.{IsRow, Fills};
 
     ghost Makes = { λ columns old new first slots made. Fills columns old new slots made };
 
-    ghost Suits = { λ filling columns. IsRow columns filling };
+    ghost Suits = { λ filling columns. IsRow columns filling.row.now };
 
     fn rework(
         &mut self,

@@ -2,4 +2,5 @@
 //! follow from the index of its slot alone.
 #![tactic(auto)]
 
+mod buckets;
 mod filling;

@@ -9,7 +9,7 @@ use Rattle.ob_row.specs.Rows.{Row}
 use Rattle.ob_row.specs.Slots.{Slots, slot_at}
 use Rattle.ob_row.specs.Results.{Buckets, has_room, bucket_for, put_in}
 use Rattle.ob_hash.specs.Bucketed.{bucket_waits, bucket_after, spread, IsBucket, AreBuckets, after_place, still_waits}
-use Rattle.ob_hash.proofs.Buckets.{still_bucket, room_bucket, full_bucket, room_bucket_waits, full_bucket_waits}
+use Rattle.ob_hash.proofs.Showing.{still_bucket, room_bucket, full_bucket, room_bucket_waits, full_bucket_waits}
 use Rattle.ob_hash.proofs.Waiting.{waits_after-false}
 
 -- none of them holds a place yet

@@ -1,0 +1,37 @@
+-- The numbers of blocks, and of accesses.
+use Rattle.std.proofs.Common.{◌≡◌, ◌≤◌, ◌<◌, ◌+◌, ◌*◌, ℕ, length, refl, sym, ◌∙◌, ap, arith}
+use Rattle.std.proofs.lemmas.Grind.{div_ceil_times}
+use Rattle.ob_base.specs.Lists.{each}
+use Rattle.ob_base.specs.Numbers.{blocks_for}
+use Rattle.ob_store.proofs.Steps.{length-each}
+use Rattle.ob_vault.proofs.RowsLemmas.{rows_room}
+use Rattle.ob_hash.specs.declared.buckets.Hashed.{Hashed}
+use Rattle.ob_hash.specs.Hashing.{IsHashed, block_part}
+
+-- whole blocks
+pub blocks_whole : (r m : ℕ) → 1 ≤ r → blocks_for r (m * r) ≡ m
+blocks_whole r m some =
+    let least = (div_ceil_times (m * r) r (omega arith)).0 in
+    let most = (div_ceil_times (m * r) r (omega arith)).1 in
+    let one : (m + 1) * r ≡ m * r + r = grind arith in
+    let below : blocks_for r (m * r) < m + 1 = grind arith in
+    let above : m ≤ blocks_for r (m * r) = grind arith in
+    omega (arith, below, above)
+
+pub product_within : (a b r : ℕ) → a ≤ b → a * r ≤ b * r
+product_within a b r fits = grind arith
+
+-- block y of a bucket is one of the result
+pub place_in : (k depth b y : ℕ) → b < k → y < depth → b * depth + y < k * depth
+place_in k depth b y below inside = omega (arith, inside, rows_room b k depth below)
+
+module _ (pack : ℕ) (hashed : Hashed) (is : IsHashed pack hashed) (some : 1 ≤ pack) where
+  pub blocks_of : blocks_for pack hashed.flat.now.capacity ≡ hashed.k * hashed.depth
+  blocks_of = ap (blocks_for pack) is.capacity ∙ blocks_whole pack (hashed.k * hashed.depth) some
+
+  pub blocks_few : hashed.k * hashed.depth ≤ 134217728
+  blocks_few = omega (arith, blocks_of, is.size.blocks)
+
+-- how many accesses the blocks of a bucket take
+pub touches : (g depth b n : ℕ) → length (each n (block_part g depth b)) ≡ 2 * n
+touches g depth b n = length-each (block_part g depth b) 2 (λ y. refl) n ∙ omega arith
