@@ -1,15 +1,25 @@
 -- What is said of a table, said of equal slots and numbers.
-use Rattle.std.proofs.Common.{◌≡◌, ℕ, refl, subst}
+use Rattle.std.proofs.Common.{◌≡◌, ◌*◌, ℕ, Bool, List, Option, Result, Ok, Err, OnOk, IfErr, refl, ◌∙◌, ap, subst}
+use Rattle.ob_base.specs.declared.access.Access.{Access}
+use Rattle.ob_base.specs.Numbers.{first_bucket, second_bucket}
 use Rattle.ob_base.specs.Schemas.{Columns}
+use Rattle.ob_store.specs.Runs.{Later}
+use Rattle.ob_vault.specs.Calls.{Went}
 use Rattle.ob_vault.specs.declared.region.Order.TheVariants.{Any}
 use Rattle.ob_vault.specs.State.{World}
 use Rattle.ob_vault.proofs.Runs.{turn_any}
+use Rattle.ob_row.specs.Rows.{Row}
+use Rattle.ob_row.specs.Results.{Buckets}
 use Rattle.ob_row.specs.Slots.{Slots}
 use Rattle.ob_blocks.specs.Blocks.{block_at, with_block}
 use Rattle.ob_flat.specs.declared.flat.Flat.{Flat}
 use Rattle.ob_flat.specs.Flats.{HoldsSlots, IsInTurn, table_region}
+use Rattle.ob_flat.specs.declared.fault.OpErr.{OpErr}
+use Rattle.ob_flat.specs.Passes.{PassCut}
 use Rattle.ob_hash.specs.declared.filling.Filling.{Filling}
+use Rattle.ob_hash.specs.Bucketed.{bucket_waits, bucket_after, spread, after_place, still_waits}
 use Rattle.ob_hash.specs.Filling.{Fills}
+use Rattle.ob_hash.proofs.Both.{ShownBoth}
 
 pub holds_alike : (pack : ℕ) (flat : Flat) (w : World) (a b : Slots) → a ≡ b → HoldsSlots pack flat a w → HoldsSlots pack flat b w
 holds_alike pack flat w a b same is = subst (λ (l : Slots). HoldsSlots pack flat l w) same is
@@ -30,3 +40,32 @@ fills_packed m n place columns old new all made same is = subst (λ (k : ℕ). F
 
 pub put_packed : (m n place : ℕ) (flat : Flat) (w : World) (all made : Slots) → m ≡ n → HoldsSlots m flat (with_block m all place made) w → HoldsSlots n flat (with_block n all place made) w
 put_packed m n place flat w all made same is = subst (λ (k : ℕ). HoldsSlots k flat (with_block k all place made) w) same is
+
+-- whatever the answer, the store went on
+pub later_of : {T : Type 0} (r : Result T OpErr) (x : List Access) (some : ℕ → Type 0) (a b : World) → OnOk r (Went x some a b) → IfErr r (λ (e : OpErr). PassCut e x some a b) → Later a.store b.store
+later_of (Ok v) x some a b went cut = went.lasts.later
+later_of (Err e) x some a b went cut = cut.lasts.later
+
+-- both buckets of a row were shown to it
+module _ (m pack k depth i b1 b2 : ℕ) (flat : Flat) (w : World) (slots : Slots) (buckets : Buckets) (own : Option Row) (waits still last : Bool) where
+  abbrev once : Slots
+  once = bucket_after (depth * pack) waits own (spread (depth * pack) slots buckets) b1
+
+  pub second_shown : m ≡ pack → b1 ≡ first_bucket k i → b2 ≡ second_bucket k i → still ≡ bucket_waits (depth * pack) waits (spread (depth * pack) slots buckets) b1
+      → ShownBoth k (depth * pack) i slots own waits buckets
+      → (last ≡ bucket_waits (depth * m) still once b2) × HoldsSlots m flat (bucket_after (depth * m) still own once b2) w
+      → (last ≡ still_waits k (depth * pack) waits i buckets) × HoldsSlots pack flat (spread (depth * pack) slots (after_place k (depth * pack) waits i buckets)) w
+  second_shown same first second was both told =
+      let n = depth * pack in
+      let all = spread n slots buckets in
+      let left : still ≡ bucket_waits n waits all (first_bucket k i) = was ∙ ap (bucket_waits n waits all) first in
+      let here : once ≡ bucket_after n waits own all (first_bucket k i) = ap (bucket_after n waits own all) first in
+      let made : bucket_after n still own once b2 ≡ spread n slots (after_place k n waits i buckets) =
+      ap (λ (b : ℕ). bucket_after n still own once b) second ∙ ap (λ (l : Slots). bucket_after n still own l (second_bucket k i)) here
+      ∙ ap (λ (b : Bool). bucket_after n b own (bucket_after n waits own all (first_bucket k i)) (second_bucket k i)) left ∙ both.after in
+      let ends : bucket_waits n still once b2 ≡ still_waits k n waits i buckets =
+      ap (bucket_waits n still once) second ∙ ap (λ (l : Slots). bucket_waits n still l (second_bucket k i)) here
+      ∙ ap (λ (b : Bool). bucket_waits n b (bucket_after n waits own all (first_bucket k i)) (second_bucket k i)) left ∙ both.still in (
+        told.0 ∙ ap (λ (j : ℕ). bucket_waits (depth * j) still once b2) same ∙ ends,
+        holds_alike pack flat w _ _ (ap (λ (j : ℕ). bucket_after (depth * j) still own once b2) same ∙ made) (holds_packed m pack flat w _ same told.1),
+      )
