@@ -1,9 +1,11 @@
 -- What is said of a table, said of equal slots and numbers.
-use Rattle.std.proofs.Common.{◌≡◌, ◌*◌, ℕ, Bool, List, Option, Result, Ok, Err, OnOk, IfErr, refl, ◌∙◌, ap, subst}
+use Rattle.std.proofs.Common.{◌≡◌, ◌*◌, ◌<◌, ◌++◌, ℕ, Bool, List, Option, Result, Ok, Err, OnOk, IfErr, refl, sym, ◌∙◌, ap, subst}
 use Rattle.ob_base.specs.declared.access.Access.{Access}
+use Rattle.ob_base.specs.Lists.{each}
 use Rattle.ob_base.specs.Numbers.{first_bucket, second_bucket}
 use Rattle.ob_base.specs.Schemas.{Columns}
 use Rattle.ob_store.specs.Runs.{Later}
+use Rattle.ob_store.proofs.Steps.{parts}
 use Rattle.ob_vault.specs.Calls.{Went}
 use Rattle.ob_vault.specs.declared.region.Order.TheVariants.{Any}
 use Rattle.ob_vault.specs.State.{World}
@@ -16,6 +18,7 @@ use Rattle.ob_flat.specs.declared.flat.Flat.{Flat}
 use Rattle.ob_flat.specs.Flats.{HoldsSlots, IsInTurn, table_region}
 use Rattle.ob_flat.specs.declared.fault.OpErr.{OpErr}
 use Rattle.ob_flat.specs.Passes.{PassCut}
+use Rattle.ob_flat.proofs.Runs.{pass_more}
 use Rattle.ob_hash.specs.declared.filling.Filling.{Filling}
 use Rattle.ob_hash.specs.Bucketed.{bucket_waits, bucket_after, spread, after_place, still_waits}
 use Rattle.ob_hash.specs.Filling.{Fills}
@@ -69,3 +72,14 @@ module _ (m pack k depth i b1 b2 : ℕ) (flat : Flat) (w : World) (slots : Slots
         told.0 ∙ ap (λ (j : ℕ). bucket_waits (depth * j) still once b2) same ∙ ends,
         holds_alike pack flat w _ _ (ap (λ (j : ℕ). bucket_after (depth * j) still own once b2) same ∙ made) (holds_packed m pack flat w _ same told.1),
       )
+
+-- so many rounds
+pub went_first : (some : ℕ → Type 0) (part : ℕ → List Access) (a b : World) (m n : ℕ) → m ≡ n → Went (each m part) some a b → Went (each n part) some a b
+went_first some part a b m n same went = subst (λ (k : ℕ). Went (each k part) some a b) same went
+
+-- which ended behind one
+pub cut_first : (some : ℕ → Type 0) (part : ℕ → List Access) (a b : World) (e : OpErr) (n i : ℕ) → i < n → PassCut e (each i part) some a b → PassCut e (each n part) some a b
+cut_first some part a b e n i below cut =
+    let p = parts part n i below in
+    subst (λ (l : List Access). PassCut e l some a b) (sym p.split)
+    (pass_more some a b e (each i part ++ part i) p.rest (pass_more some a b e (each i part) (part i) cut))

@@ -3,10 +3,12 @@ use Rattle.std.proofs.Common.{◌≡◌, ◌≤◌, ◌<◌, ◌+◌, ◌*◌, �
 use Rattle.std.proofs.lemmas.Grind.{div_ceil_times}
 use Rattle.ob_base.specs.Lists.{each}
 use Rattle.ob_base.specs.Numbers.{blocks_for}
+use Rattle.ob_script.specs.Parts.{slots_in}
+use Rattle.ob_script.proofs.Lengths.{length-hash_slot}
 use Rattle.ob_store.proofs.Steps.{length-each}
 use Rattle.ob_vault.proofs.RowsLemmas.{rows_room}
 use Rattle.ob_hash.specs.declared.buckets.Hashed.{Hashed}
-use Rattle.ob_hash.specs.Hashing.{IsHashed, block_part}
+use Rattle.ob_hash.specs.Hashing.{IsHashed, block_part, slot_part}
 
 -- whole blocks
 pub blocks_whole : (r m : ℕ) → 1 ≤ r → blocks_for r (m * r) ≡ m
@@ -35,3 +37,18 @@ module _ (pack : ℕ) (hashed : Hashed) (is : IsHashed pack hashed) (some : 1 �
 -- how many accesses the blocks of a bucket take
 pub touches : (g depth b n : ℕ) → length (each n (block_part g depth b)) ≡ 2 * n
 touches g depth b n = length-each (block_part g depth b) 2 (λ y. refl) n ∙ omega arith
+
+-- and those of so many slots
+pub slots_touch : (g k depth first n : ℕ) → length (each n (slot_part g k depth first)) ≡ n * (4 * depth)
+slots_touch g k depth first n = length-each (slot_part g k depth first) (4 * depth) (λ j. length-hash_slot g k depth (first + j)) n
+
+-- the next slot's
+pub slot_room : (j n depth : ℕ) → j < n → j * (4 * depth) + 4 * depth ≤ n * (4 * depth)
+slot_room j n depth below = rows_room j n (4 * depth) below
+
+-- the slots of a block below the capacity
+pub slots_few : (pack capacity u : ℕ) → slots_in pack capacity u ≤ pack
+slots_few pack capacity u = omega arith
+
+pub slots_inside : (pack capacity u j : ℕ) → j < slots_in pack capacity u → u * pack + j < capacity
+slots_inside pack capacity u j below = omega arith

@@ -1,7 +1,7 @@
 -- A result of buckets in the vault.
 use Rattle.std.specs.Prelude.{◌≡◌, ◌≤◌, ◌+◌, ◌*◌, ℕ, List}
 use Rattle.ob_base.specs.declared.access.Access.{Access}
-use Rattle.ob_script.specs.Parts.{copy_at}
+use Rattle.ob_script.specs.Parts.{copy_at, hash_slot}
 use Rattle.ob_vault.specs.declared.region.Order.TheVariants.{Any}
 use Rattle.ob_vault.specs.State.{World}
 use Rattle.ob_flat.specs.declared.flat.Flat.{Flat}
@@ -23,3 +23,7 @@ IsOpen pack flat w = IsInTurn Any pack flat 0 w
 -- block y of a bucket is read and written
 abbrev pub block_part : ℕ → ℕ → ℕ → ℕ → List Access
 block_part g depth bucket y = copy_at g g (bucket * depth + y)
+
+-- both buckets of slot j behind the first ones
+abbrev pub slot_part : ℕ → ℕ → ℕ → ℕ → ℕ → List Access
+slot_part g k depth first j = hash_slot g k depth (first + j)

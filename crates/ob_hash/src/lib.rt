@@ -4,3 +4,4 @@
 
 mod buckets;
 mod filling;
+mod placing;
