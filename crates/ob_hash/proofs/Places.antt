@@ -1,10 +1,12 @@
 -- The places of the selected rows, one slot after the other.
-use Rattle.std.proofs.Common.{◌≡◌, ◌≤◌, ◌<◌, ◌+◌, ◌-◌, ◌*◌, ◌/◌, ◌%◌, ◌^◌, ℕ, zero, suc, Bool, true, false, List, [], ◌∷◌, ◌++◌, Option, Some, None, IsTrue, is_some, is_none, length, take, drop, subst, replicate, slice_index_or, if◌then◌else◌, refl, sym, ◌∙◌, ap, arith}
+use Rattle.std.proofs.Common.{◌≡◌, ◌≤◌, ◌<◌, ◌+◌, ◌-◌, ◌*◌, ◌/◌, ◌%◌, ◌^◌, ℕ, zero, suc, Bool, true, false, List, [], ◌∷◌, ◌++◌, Option, Some, None, IsTrue, is_some, is_none, length, take, drop, subst, replicate, slice_index_or, if◌then◌else◌, inl, inr, refl, sym, ◌∙◌, ap, arith}
 use Rattle.std.proofs.Math.Nat.{mod-lt, div-lt_iff_lt-mul}
 use Rattle.std.proofs.lemmas.List.{take_more, take_all, length-take, get_or-take, get_or-drop, get_or_append_left}
 use Rattle.std.proofs.lemmas.List.Sums.{fold-append}
 use Rattle.ob_base.specs.Lists.{places_from}
 use Rattle.ob_base.specs.Numbers.{first_bucket, second_bucket}
+use Rattle.ob_script.specs.Parts.{slots_in}
+use Rattle.std.proofs.lemmas.Bool.{cases_lt}
 use Rattle.ob_row.specs.Rows.{Row}
 use Rattle.ob_row.specs.Slots.{Slots, slot_at, is_selected, selected}
 use Rattle.ob_row.specs.Results.{Buckets, RowTest, bucket_for, put_in, filled, unplaced_or, unplaced_from, unplaced}
@@ -119,3 +121,12 @@ module _ (k n m : ℕ) (p : RowTest) (slots : Slots) (selected : Bool) (below : 
       next ∙ ap (λ (o : Option ℕ). first_of o waits m) was
       ∙ ap (λ (b : Bool). first_of (unplaced_of k n p slots m) b m) (still ∙ ap (λ (b : Bool). still_waits k n b m (buckets_of k n p slots m)) is)
       ∙ sym (unplaced_more k n p slots m below)
+
+-- the slots up to the next block
+pub next_slots : (pack u : ℕ) (slots : Slots) → u * pack < length slots → take (u * pack + slots_in pack (length slots) u) slots ≡ take ((u + 1) * pack) slots
+next_slots pack u slots begun =
+    let next : (u + 1) * pack ≡ u * pack + pack = grind arith in
+    elim (cases_lt (length slots - u * pack) pack) [
+      | inl short ↦ take_all (u * pack + slots_in pack (length slots) u) slots (omega arith) ∙ sym (take_all ((u + 1) * pack) slots (omega (arith, next)))
+      | inr long ↦ ap (λ (n : ℕ). take n slots) (omega (arith, next))
+    ]

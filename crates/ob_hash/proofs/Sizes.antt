@@ -1,12 +1,14 @@
 -- The numbers of blocks, and of accesses.
-use Rattle.std.proofs.Common.{◌≡◌, ◌≤◌, ◌<◌, ◌+◌, ◌*◌, ℕ, length, refl, sym, ◌∙◌, ap, arith}
+use Rattle.std.proofs.Common.{◌≡◌, ◌≤◌, ◌<◌, ◌+◌, ◌*◌, ◌-◌, ℕ, min, length, refl, sym, ◌∙◌, ap, arith}
 use Rattle.std.proofs.lemmas.Grind.{div_ceil_times}
 use Rattle.ob_base.specs.Lists.{each}
 use Rattle.ob_base.specs.Numbers.{blocks_for}
-use Rattle.ob_script.specs.Parts.{slots_in}
-use Rattle.ob_script.proofs.Lengths.{length-hash_slot}
+use Rattle.ob_script.specs.Parts.{slots_in, hash_block}
+use Rattle.ob_script.proofs.Lengths.{length-hash_slot, bucket_shares}
+use Rattle.ob_script.proofs.Shares.{length-each_shares}
 use Rattle.ob_store.proofs.Steps.{length-each}
 use Rattle.ob_vault.proofs.RowsLemmas.{rows_room}
+use Rattle.ob_flat.proofs.Tables.{blocks_end}
 use Rattle.ob_hash.specs.declared.buckets.Hashed.{Hashed}
 use Rattle.ob_hash.specs.Hashing.{IsHashed, block_part, slot_part}
 
@@ -52,3 +54,19 @@ slots_few pack capacity u = omega arith
 
 pub slots_inside : (pack capacity u j : ℕ) → j < slots_in pack capacity u → u * pack + j < capacity
 slots_inside pack capacity u j below = omega arith
+
+-- and those of the first blocks of the table
+pub blocks_touch : (t g pack capacity k depth u : ℕ) → length (each u (hash_block t g pack capacity k depth)) ≡ u + 4 * depth * min capacity (u * pack)
+blocks_touch t g pack capacity k depth u =
+    length-each_shares (hash_block t g pack capacity k depth) 1 (4 * depth) pack capacity u (bucket_shares t g pack capacity k depth) ∙ omega arith
+
+shared : (a b c d : ℕ) → a + b ≤ c → d * a + b * d ≤ d * c
+shared a b c d fits = let all : (a + b) * d ≤ c * d = product_within (a + b) c d fits in omega (arith, all)
+
+-- those of the next block are left
+pub block_room : (pack capacity depth u : ℕ) → 4 * depth * min capacity (u * pack) + slots_in pack capacity u * (4 * depth) ≤ 4 * depth * capacity
+block_room pack capacity depth u = shared (min capacity (u * pack)) (slots_in pack capacity u) capacity (4 * depth) (omega arith)
+
+-- a block of the table begins below the capacity
+pub block_begins : (pack capacity u : ℕ) → 1 ≤ pack → u < blocks_for pack capacity → u * pack < capacity
+block_begins pack capacity u some below = omega (arith, blocks_end pack capacity some, rows_room u (blocks_for pack capacity) pack below)

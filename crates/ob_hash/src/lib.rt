@@ -4,4 +4,5 @@
 
 mod buckets;
 mod filling;
+mod hashing;
 mod placing;
