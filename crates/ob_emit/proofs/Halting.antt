@@ -1,18 +1,13 @@
 -- Passes that halt where the emitter did.
-use Rattle.std.proofs.Common.{◌≡◌, ◌⊎◌, ◌<◌, inl, inr, [], List, Option, Some, None, ℕ, Result, Ok, Err, MatchResult, IfErr, refl, sym, ◌∙◌, subst}
+use Rattle.std.proofs.Common.{◌≡◌, ◌⊎◌, ◌<◌, inl, inr, [], List, ℕ, Result, Ok, Err, MatchResult, IfErr, refl, ◌∙◌, subst}
 use Rattle.std.proofs.lemmas.List.{append-nil}
 use Rattle.ob_base.specs.declared.access.Access.{Access}
 use Rattle.ob_base.specs.declared.emit.EmitErr.TheVariants as EmitErrs
 use Rattle.ob_base.specs.Counts.{Rises}
-use Rattle.ob_store.specs.State.{Lie}
-use Rattle.ob_seal.specs.KeyPair.{KeyPair}
 use Rattle.ob_vault.specs.State.{World}
-use Rattle.ob_vault.specs.Tied.{Calm, Fits, IsUnfit}
-use Rattle.ob_vault.specs.Calls.{Went, Lasts}
-use Rattle.ob_vault.specs.declared.fault.VaultErr.{VaultErr}
-use Rattle.ob_vault.specs.declared.fault.VaultErr.TheVariants as VaultErrs
+use Rattle.ob_vault.specs.Calls.{Went}
 use Rattle.ob_flat.specs.declared.fault.OpErr.TheVariants.{Failed, Tampered, Sink, NoMemory}
-use Rattle.ob_flat.specs.Passes.{PassCut, pass_error, SinkCause}
+use Rattle.ob_flat.specs.Passes.{PassCut, SinkCause}
 use Rattle.ob_flat.proofs.Runs.{pass_malformed}
 use Rattle.ob_emit.specs.declared.slots.Halt.{Halt}
 use Rattle.ob_emit.specs.declared.slots.Halt.TheVariants as Halts

@@ -1,5 +1,5 @@
 -- What is emitted of a table.
-use Rattle.std.specs.Prelude.{◌≡◌, ◌⊎◌, ◌≤◌, ℕ, ◌+◌, Bool, false, not, List, [], ◌∷◌, ◌++◌, map, length, nat_lt, bytes_eq, codes, Option, Some, None, slice_get, if◌then◌else◌, Result, Ok, Err}
+use Rattle.std.specs.Prelude.{◌≡◌, ℕ, ◌+◌, Bool, false, not, List, [], ◌∷◌, ◌++◌, map, nat_lt, bytes_eq, Option, Some, None, slice_get, if◌then◌else◌, Result, Ok, Err}
 use Rattle.std.specs.List.{list_any}
 use Rattle.std.specs.Option.{option_map_or}
 use Rattle.ob_base.specs.declared.schema.Column.{Column}
@@ -13,7 +13,7 @@ use Rattle.ob_row.specs.Rows.{Row}
 use Rattle.ob_row.specs.Slots.{Slots, rows}
 use Rattle.ob_row.specs.Totals.{printed}
 use Rattle.ob_flat.specs.declared.fault.OpErr.{OpErr}
-use Rattle.ob_flat.specs.declared.fault.OpErr.TheVariants.{Failed, Tampered, Sink, NoMemory}
+use Rattle.ob_flat.specs.declared.fault.OpErr.TheVariants.{Tampered, Sink, NoMemory}
 use Rattle.ob_emit.specs.declared.slots.Halt.{Halt}
 use Rattle.ob_emit.specs.declared.slots.Halt.TheVariants as Halts
 

@@ -9,7 +9,7 @@ ghost use Rattle.ob_vault.specs.Rows.{SameSizes};
 ghost use Rattle.ob_script.specs.Parts.{count_part};
 ghost use Rattle.ob_blocks.specs.Idle.{IsIdle};
 ghost use Rattle.ob_row.specs.Slots.{Slots};
-ghost use Rattle.ob_flat.specs.Flats.{IsSized, IsFlat, Represents};
+ghost use Rattle.ob_flat.specs.Flats.{FitsRegion, IsWritten, Represents};
 ghost use Rattle.ob_flat.specs.Passes.{PassCut, SinkCause};
 ghost use Rattle.ob_emit.specs.Emitting.{header, table_shown};
 ghost use Rattle.ob_base.specs.Events.{row_events, IsEmitted, IsHalted};
@@ -34,8 +34,8 @@ fn emit_table<S: BlockStore, R: Revisions, E: Emit>(
 ) -> Result<u64, OpErr>
     requires ready { Ready (at R.state vault.old (S.state store.old)) }
     requires spare { blocks_for (length rows.old) flat.now.capacity ≤ (S.state store.old).spare }
-    requires flat { IsFlat (length rows.old) flat.now (at R.state vault.old (S.state store.old)) }
-    requires size { IsSized flat.now.schema flat.now.capacity }
+    requires flat { IsWritten (length rows.old) flat.now (at R.state vault.old (S.state store.old)) }
+    requires size { FitsRegion (length rows.old) flat.now.schema flat.now.capacity }
     requires pack { (1 ≤ length rows.old) × (length rows.old ≤ 16) }
     requires fit { RowsFit rows.old (length rows.old * width flat.now.schema) }
     requires few { length cols.now ≤ 32 }
@@ -80,8 +80,8 @@ pub fn emit_all<S: BlockStore, R: Revisions, E: Emit>(
 ) -> Result<u64, OpErr>
     requires ready { Ready (at R.state vault.old (S.state store.old)) }
     requires spare { blocks_for room.old.pack flat.now.capacity ≤ (S.state store.old).spare }
-    requires flat { IsFlat room.old.pack flat.now (at R.state vault.old (S.state store.old)) }
-    requires size { IsSized flat.now.schema flat.now.capacity }
+    requires flat { IsWritten room.old.pack flat.now (at R.state vault.old (S.state store.old)) }
+    requires size { FitsRegion room.old.pack flat.now.schema flat.now.capacity }
     requires room { IsIdle (width flat.now.schema) room.old }
     requires few { length cols.now ≤ 32 }
     requires within { All (λ i. i < length flat.now.schema) cols.now }
@@ -90,7 +90,7 @@ pub fn emit_all<S: BlockStore, R: Revisions, E: Emit>(
     ensures err { IfErr result (λ e. PassCut e (count_part flat.now.region (blocks_for room.old.pack flat.now.capacity)) none (at R.state vault.old (S.state store.old)) (at R.state vault.new (S.state store.new))) }
     ensures never { IfErr result (λ e. (e ≡ OpErr.Failed) ⊎ (e ≡ OpErr.Sink) ⊎ (e ≡ OpErr.NoMemory) ⊎ ((place : ℕ) × (place < blocks_for room.old.pack flat.now.capacity) × (e ≡ OpErr.Tampered flat.now.region place))) }
     ensures seals { (good : ℕ → List ℕ → Bool) → Seals good (at R.state vault.old (S.state store.old)) (at R.state vault.new (S.state store.new)) }
-    ensures flat { IsFlat room.old.pack flat.now (at R.state vault.new (S.state store.new)) }
+    ensures flat { IsWritten room.old.pack flat.now (at R.state vault.new (S.state store.new)) }
     ensures room { room.new ≡ record room.old { high = max room.old.high room.old.pack } }
     ensures most { IfOk result (λ k. k ≤ flat.now.capacity) }
     ensures emitted { IfOk result (λ k. IsEmitted E.grew (header flat.now.schema cols.now) (λ (s : (slots : Slots) × Represents room.old.pack flat.now slots (at R.state vault.old (S.state store.old)) × ((S.state store.new).lie ≡ None)). table_shown cols.now s.0) 0 k out.old out.new) }

@@ -8,7 +8,7 @@ ghost use Rattle.ob_vault.specs.Places.{at, RowsFit};
 ghost use Rattle.ob_vault.specs.Rows.{SameSizes};
 ghost use Rattle.ob_script.specs.Parts.{count_part};
 ghost use Rattle.ob_row.specs.Slots.{Slots};
-ghost use Rattle.ob_flat.specs.Flats.{IsSized, IsFlat, Represents};
+ghost use Rattle.ob_flat.specs.Flats.{FitsRegion, IsWritten, Represents};
 ghost use Rattle.ob_flat.specs.Passes.{PassCut, SinkCause};
 ghost use Rattle.ob_emit.specs.Emitting.{table_shown};
 ghost use Rattle.ob_base.specs.Events.{row_events, IsEmitted, IsHalted};
@@ -32,8 +32,8 @@ pub(crate) fn emit_blocks<S: BlockStore, R: Revisions, E: Emit>(
 ) -> Result<u32, OpErr>
     requires ready { Ready (at R.state vault.old (S.state store.old)) }
     requires spare { blocks_for (length rows.old) flat.now.capacity ≤ (S.state store.old).spare }
-    requires flat { IsFlat (length rows.old) flat.now (at R.state vault.old (S.state store.old)) }
-    requires size { IsSized flat.now.schema flat.now.capacity }
+    requires flat { IsWritten (length rows.old) flat.now (at R.state vault.old (S.state store.old)) }
+    requires size { FitsRegion (length rows.old) flat.now.schema flat.now.capacity }
     requires pack { (1 ≤ length rows.old) × (length rows.old ≤ 16) }
     requires fit { RowsFit rows.old (length rows.old * width flat.now.schema) }
     requires few { length cols.now ≤ 32 }

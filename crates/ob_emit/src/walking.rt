@@ -8,7 +8,7 @@ ghost use Rattle.ob_vault.specs.Rows.{SameSizes};
 ghost use Rattle.ob_script.specs.Parts.{count_part};
 ghost use Rattle.ob_blocks.specs.Idle.{IsIdle};
 ghost use Rattle.ob_row.specs.Slots.{Slots};
-ghost use Rattle.ob_flat.specs.Flats.{IsSized, IsFlat, Represents};
+ghost use Rattle.ob_flat.specs.Flats.{FitsRegion, IsWritten, Represents};
 ghost use Rattle.ob_flat.specs.Passes.{PassCut};
 
 use ob_flat::{Flat, OpErr, Visit, scan_blocks};
@@ -42,8 +42,8 @@ fn walk_blocks<S: BlockStore, R: Revisions>(
 ) -> Result<(), OpErr>
     requires ready { Ready (at R.state vault.old (S.state store.old)) }
     requires spare { blocks_for (length rows.old) flat.now.capacity ≤ (S.state store.old).spare }
-    requires flat { IsFlat (length rows.old) flat.now (at R.state vault.old (S.state store.old)) }
-    requires size { IsSized flat.now.schema flat.now.capacity }
+    requires flat { IsWritten (length rows.old) flat.now (at R.state vault.old (S.state store.old)) }
+    requires size { FitsRegion (length rows.old) flat.now.schema flat.now.capacity }
     requires pack { (1 ≤ length rows.old) × (length rows.old ≤ 16) }
     requires fit { RowsFit rows.old (length rows.old * width flat.now.schema) }
     ensures rows { SameSizes rows.old rows.new }
@@ -67,14 +67,14 @@ pub fn walk<S: BlockStore, R: Revisions>(
 ) -> Result<(), OpErr>
     requires ready { Ready (at R.state vault.old (S.state store.old)) }
     requires spare { blocks_for room.old.pack flat.now.capacity ≤ (S.state store.old).spare }
-    requires flat { IsFlat room.old.pack flat.now (at R.state vault.old (S.state store.old)) }
-    requires size { IsSized flat.now.schema flat.now.capacity }
+    requires flat { IsWritten room.old.pack flat.now (at R.state vault.old (S.state store.old)) }
+    requires size { FitsRegion room.old.pack flat.now.schema flat.now.capacity }
     requires room { IsIdle (width flat.now.schema) room.old }
     ensures ok { OnOk result (Went (count_part flat.now.region (blocks_for room.old.pack flat.now.capacity)) none (at R.state vault.old (S.state store.old)) (at R.state vault.new (S.state store.new))) }
     ensures err { IfErr result (λ e. PassCut e (count_part flat.now.region (blocks_for room.old.pack flat.now.capacity)) none (at R.state vault.old (S.state store.old)) (at R.state vault.new (S.state store.new))) }
     ensures never { IfErr result (λ e. (e ≡ OpErr.Failed) ⊎ ((place : ℕ) × (place < blocks_for room.old.pack flat.now.capacity) × (e ≡ OpErr.Tampered flat.now.region place))) }
     ensures seals { (good : ℕ → List ℕ → Bool) → Seals good (at R.state vault.old (S.state store.old)) (at R.state vault.new (S.state store.new)) }
-    ensures flat { IsFlat room.old.pack flat.now (at R.state vault.new (S.state store.new)) }
+    ensures flat { IsWritten room.old.pack flat.now (at R.state vault.new (S.state store.new)) }
     ensures room { room.new ≡ record room.old { high = max room.old.high room.old.pack } }
     ensures told { (slots : Slots) → Represents room.old.pack flat.now slots (at R.state vault.old (S.state store.old)) → (S.state store.new).lie ≡ None → IfErr result (λ e. e ≡ OpErr.Failed) }
 {

@@ -24,7 +24,7 @@ use Rattle.std.proofs.lemmas.Bool.{cases_eq, cases_lt}
 use Rattle.ob_flat.specs.declared.flat.Flat.{Flat}
 use Rattle.ob_row.specs.Slots.{Slots, empty_slots}
 use Rattle.ob_flat.specs.Slots.{FitsSlot, Spelt, AreSlots, block_bytes}
-use Rattle.ob_flat.specs.Flats.{IsMade, IsFlat, IsWritten, HoldsSlots, Represents, Accepts, whole_blocks}
+use Rattle.ob_flat.specs.Flats.{IsSized, FitsRegion, IsMade, IsFlat, IsWritten, HoldsSlots, Represents, Accepts, whole_blocks}
 use Rattle.ob_flat.proofs.Rows.{spelt_joined, joined_spelt, spelt_fits, width_each, block_size}
 
 -- how many accesses the reads of a table are
@@ -58,6 +58,17 @@ module _ (pack : ℕ) (flat : Flat) (some : ℕ → Type 0) (a b : World) (lasts
 
   pub represents_lasts : (slots : Slots) → Represents pack flat slots a → Represents pack flat slots b
   represents_lasts slots is = record { size = is.size; fits = is.fits; holds = λ p below. holds_lasts some a b lasts flat.region p _ off (is.holds p below) }
+
+-- a table's slots fit a region
+pub fits_sized : (pack : ℕ) (columns : Columns) (capacity : ℕ) → 1 ≤ pack → IsSized columns capacity → FitsRegion pack columns capacity
+fits_sized pack columns capacity some is = record { some = is.some; few = is.few; wide = is.wide; least = is.least; blocks = omega (arith, blocks_few pack capacity some, is.most) }
+
+-- and so do the indices of the slots of a block
+pub index_in : (pack blocks u : ℕ) → pack ≤ 16 → blocks ≤ 134217728 → u < blocks → u * pack + pack ≤ 2147483648
+index_in pack blocks u few most below =
+    let room : u * pack + pack ≤ blocks * pack = rows_room u blocks pack below in
+    let all : blocks * pack ≤ 134217728 * 16 = grind arith in
+    omega (arith, room, all)
 
 -- a table may be read
 pub written_flat : (pack : ℕ) (flat : Flat) (w : World) → IsFlat pack flat w → IsWritten pack flat w

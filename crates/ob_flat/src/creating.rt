@@ -59,7 +59,8 @@ pub fn make_table<S: BlockStore, R: Revisions>(
     ensures gone { OnErr result ((R.state vault.new.revs).live vault.old.next ≡ None) }
     ensures seals { (good : ℕ → List ℕ → Bool) → Seals good (at R.state vault.old (S.state store.old)) (at R.state vault.new (S.state store.new)) }
     ensures number { IfOk result (λ region. region ≡ vault.old.next) }
-    ensures order { OnOk result (Lives vault.old.next (table_region order pack schema.now capacity) (at R.state vault.new (S.state store.new))) }
+    ensures lives { OnOk result (Lives vault.old.next (table_region order pack schema.now capacity) (at R.state vault.new (S.state store.new))) }
+    ensures turn { OnOk result (OnTurn vault.old.next (table_region order pack schema.now capacity) 0 (at R.state vault.new (S.state store.new))) }
     ensures made { OnOk result (IsMade pack (record { schema = schema.now; capacity = capacity; region = vault.old.next }) (at R.state vault.new (S.state store.new))) }
 {
     let shape = region_of_table(schema, capacity, pack, order);
@@ -122,7 +123,7 @@ pub fn create_blocks<S: BlockStore, R: Revisions>(
     ensures gone { OnErr result ((R.state vault.new.revs).live vault.old.next ≡ None) }
     ensures seals { (good : ℕ → List ℕ → Bool) → Accepts good (length rows.now) schema.now vault.old.next → Seals good (at R.state vault.old (S.state store.old)) (at R.state vault.new (S.state store.new)) }
     ensures number { IfOk result (λ region. region ≡ vault.old.next) }
-    ensures order { OnOk result (Lives vault.old.next (table_region order (length rows.now) schema.now capacity) (at R.state vault.new (S.state store.new))) }
+    ensures lives { OnOk result (Lives vault.old.next (table_region order (length rows.now) schema.now capacity) (at R.state vault.new (S.state store.new))) }
     ensures flat { OnOk result (IsFlat (length rows.now) (record { schema = schema.now; capacity = capacity; region = vault.old.next }) (at R.state vault.new (S.state store.new))) }
     ensures told { OnOk result (IsTrue (S.state store.old).tells → Represents (length rows.now) (record { schema = schema.now; capacity = capacity; region = vault.old.next }) (empty_slots capacity) (at R.state vault.new (S.state store.new))) }
 {

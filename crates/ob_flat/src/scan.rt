@@ -8,7 +8,7 @@ ghost use Rattle.ob_vault.specs.Rows.{SameSizes};
 ghost use Rattle.ob_script.specs.Parts.{count_part};
 ghost use Rattle.ob_blocks.specs.Blocks.{scanned};
 ghost use Rattle.ob_row.specs.Slots.{Slots};
-ghost use Rattle.ob_flat.specs.Flats.{IsSized, IsFlat, Represents, whole_blocks};
+ghost use Rattle.ob_flat.specs.Flats.{FitsRegion, IsWritten, Represents, whole_blocks};
 ghost use Rattle.ob_flat.specs.Passes.{PassCut};
 
 use crate::fault::OpErr;
@@ -32,8 +32,8 @@ pub fn scan_blocks<S: BlockStore, R: Revisions, V: Visit>(
 ) -> Result<(), OpErr>
     requires ready { Ready (at R.state vault.old (S.state store.old)) }
     requires spare { blocks_for (length rows.old) flat.now.capacity ≤ (S.state store.old).spare }
-    requires flat { IsFlat (length rows.old) flat.now (at R.state vault.old (S.state store.old)) }
-    requires size { IsSized flat.now.schema flat.now.capacity }
+    requires flat { IsWritten (length rows.old) flat.now (at R.state vault.old (S.state store.old)) }
+    requires size { FitsRegion (length rows.old) flat.now.schema flat.now.capacity }
     requires pack { (1 ≤ length rows.old) × (length rows.old ≤ 16) }
     requires fit { RowsFit rows.old (length rows.old * width flat.now.schema) }
     requires suits { V.Suits flat.now visit.old 0 }

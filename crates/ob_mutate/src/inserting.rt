@@ -23,7 +23,7 @@ use ob_flat::{Change, Flat, OpErr, make_table, scan_blocks, swap_blocks};
 use ob_room::{ClearRow, Room};
 use ob_row::{Cell, Malformed, encode, read};
 use ob_store::BlockStore;
-use ob_vault::{Revisions, Vault};
+use ob_vault::{Order, Revisions, Vault};
 
 /// What an INSERT answers: the row was inserted; a row with its primary key is there; or each slot has a
 /// row. Of the last two the first is answered where both hold.
@@ -163,7 +163,14 @@ fn insert_rows<S: BlockStore, R: Revisions>(
         (λ e. ((e ≡ OpErr.Failed) ⊎ (e ≡ OpErr.NoMemory)) × Represents (length rows.old) flat.new slots (at R.state vault.new (S.state store.new))) }
 {
     let pack = rows.len() as u32;
-    let fresh = make_table(store, vault, &flat.schema, flat.capacity, pack)?;
+    let fresh = make_table(
+        store,
+        vault,
+        &flat.schema,
+        flat.capacity,
+        pack,
+        Order::Round,
+    )?;
     match insert_blocks(store, vault, rows, flat, fresh, cells) {
         Ok(answer) => {
             move_table(store, vault, flat, fresh);

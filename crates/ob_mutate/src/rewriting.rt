@@ -18,7 +18,7 @@ use crate::settling::move_table;
 use ob_flat::{Change, Flat, OpErr, make_table, swap_blocks};
 use ob_room::{ClearRow, Room};
 use ob_store::BlockStore;
-use ob_vault::{Revisions, Vault};
+use ob_vault::{Order, Revisions, Vault};
 
 // The whole pass over these rows, as many as a block has.
 fn rewrite_rows<S: BlockStore, R: Revisions, C: Change>(
@@ -53,7 +53,14 @@ fn rewrite_rows<S: BlockStore, R: Revisions, C: Change>(
         (λ e. ((e ≡ OpErr.Failed) ⊎ (e ≡ OpErr.NoMemory)) × Represents (length rows.old) flat.new slots (at R.state vault.new (S.state store.new))) }
 {
     let pack = rows.len() as u32;
-    let fresh = make_table(store, vault, &flat.schema, flat.capacity, pack)?;
+    let fresh = make_table(
+        store,
+        vault,
+        &flat.schema,
+        flat.capacity,
+        pack,
+        Order::Round,
+    )?;
     match swap_blocks(store, vault, rows, flat, fresh, change) {
         Ok(k) => {
             move_table(store, vault, flat, fresh);

@@ -3,13 +3,14 @@ ghost use Rattle.std.specs.Int.{div_ceil};
 ghost use Rattle.ob_base.specs.Lists.{each};
 ghost use Rattle.ob_base.specs.Numbers.{blocks_for};
 ghost use Rattle.ob_base.specs.Schemas.{width};
-ghost use Rattle.ob_vault.specs.Tied.{Ready};
+ghost use Rattle.ob_vault.specs.declared.region.Order.TheVariants.{Round};
+ghost use Rattle.ob_vault.specs.Tied.{Ready, Lives, OnTurn};
 ghost use Rattle.ob_vault.specs.Calls.{Went, Seals, one};
 ghost use Rattle.ob_vault.specs.Places.{at, RowsFit};
 ghost use Rattle.ob_vault.specs.Rows.{SameSizes, Wide};
 ghost use Rattle.ob_script.specs.Parts.{small_pass};
 ghost use Rattle.ob_row.specs.Slots.{Slots};
-ghost use Rattle.ob_flat.specs.Flats.{IsSized, IsMade, IsFlat, Represents, Accepts};
+ghost use Rattle.ob_flat.specs.Flats.{IsSized, IsFlat, Represents, Accepts, table_region};
 ghost use Rattle.ob_flat.specs.Passes.{PassCut};
 ghost use Rattle.ob_small.specs.Keeping.{chosen, fitted};
 
@@ -37,7 +38,8 @@ pub(crate) fn fill_result<S: BlockStore, R: Revisions>(
     requires spare { div_ceil (blocks_for (length rows.old) to.now.capacity) buffered * blocks_for (length rows.old) flat.now.capacity + blocks_for (length rows.old) to.now.capacity ≤ (S.state store.old).spare }
     requires few { length (S.state store.old).asked < 2 ^ 63 + 2 ^ 59 + 1 }
     requires flat { IsFlat (length rows.old) flat.now (at R.state vault.old (S.state store.old)) }
-    requires made { IsMade (length rows.old) to.now (at R.state vault.old (S.state store.old)) }
+    requires lives { Lives to.now.region (table_region Round (length rows.old) to.now.schema to.now.capacity) (at R.state vault.old (S.state store.old)) }
+    requires turn { OnTurn to.now.region (table_region Round (length rows.old) to.now.schema to.now.capacity) 0 (at R.state vault.old (S.state store.old)) }
     requires apart { flat.now.region ≢ to.now.region }
     requires schema { to.now.schema ≡ flat.now.schema }
     requires size { IsSized flat.now.schema flat.now.capacity }

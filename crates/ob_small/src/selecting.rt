@@ -22,7 +22,7 @@ use ob_flat::{Flat, OpErr, make_table};
 use ob_room::{ClearRow, Room};
 use ob_row::Pred;
 use ob_store::BlockStore;
-use ob_vault::{Revisions, Vault};
+use ob_vault::{Order, Revisions, Vault};
 
 // The whole operator over these rows, as many as a block has, and those that are kept, so many blocks.
 fn select_rows<S: BlockStore, R: Revisions>(
@@ -63,7 +63,7 @@ fn select_rows<S: BlockStore, R: Revisions>(
         (λ e. (e ≡ OpErr.Failed) ⊎ (e ≡ OpErr.NoMemory)) }
 {
     let pack = rows.len() as u32;
-    let region = make_table(store, vault, &flat.schema, k, pack)?;
+    let region = make_table(store, vault, &flat.schema, k, pack, Order::Round)?;
     let fresh = Flat {
         schema: flat.schema.copied(),
         capacity: k,

@@ -2,6 +2,7 @@ ghost use Rattle.std.specs.Prelude.{◌≡◌, ◌==◌, ◌≤◌, ◌<◌, ◌
 ghost use Rattle.ob_base.specs.Lists.{each};
 ghost use Rattle.ob_base.specs.Numbers.{blocks_for};
 ghost use Rattle.ob_base.specs.Schemas.{width};
+ghost use Rattle.ob_vault.specs.declared.region.Order.TheVariants.{Round};
 ghost use Rattle.ob_vault.specs.Tied.{Ready, Lives, Written, OnTurn, Holds};
 ghost use Rattle.ob_vault.specs.Calls.{Went, Seals, one};
 ghost use Rattle.ob_vault.specs.Places.{at};
@@ -34,8 +35,8 @@ pub(crate) fn write_blocks<S: BlockStore, R: Revisions>(
     requires few { length (S.state store.old).asked + n < 2 ^ 63 + 2 ^ 60 }
     requires size { IsSized to.now.schema to.now.capacity }
     requires pack { (1 ≤ pack) × (pack ≤ 16) }
-    requires lives { Lives to.now.region (table_region pack to.now.schema to.now.capacity) (at R.state vault.old (S.state store.old)) }
-    requires turn { OnTurn to.now.region (table_region pack to.now.schema to.now.capacity) first (at R.state vault.old (S.state store.old)) }
+    requires lives { Lives to.now.region (table_region Round pack to.now.schema to.now.capacity) (at R.state vault.old (S.state store.old)) }
+    requires turn { OnTurn to.now.region (table_region Round pack to.now.schema to.now.capacity) first (at R.state vault.old (S.state store.old)) }
     requires within { first + n ≤ blocks_for pack to.now.capacity }
     requires some { 1 ≤ n }
     requires space { n * pack ≤ length kept.now }
@@ -45,8 +46,8 @@ pub(crate) fn write_blocks<S: BlockStore, R: Revisions>(
     ensures err { IfErr result (λ e. PassCut e (each n (write_from to.now.region first)) (one to.now.region) (at R.state vault.old (S.state store.old)) (at R.state vault.new (S.state store.new))) }
     ensures never { IfErr result (λ e. e ≡ OpErr.Failed) }
     ensures seals { (good : ℕ → List ℕ → Bool) → Accepts good pack to.now.schema to.now.region → Seals good (at R.state vault.old (S.state store.old)) (at R.state vault.new (S.state store.new)) }
-    ensures lives { OnOk result (Lives to.now.region (table_region pack to.now.schema to.now.capacity) (at R.state vault.new (S.state store.new))) }
-    ensures turn { OnOk result (OnTurn to.now.region (table_region pack to.now.schema to.now.capacity) (if first + n == blocks_for pack to.now.capacity then 0 else first + n) (at R.state vault.new (S.state store.new))) }
+    ensures lives { OnOk result (Lives to.now.region (table_region Round pack to.now.schema to.now.capacity) (at R.state vault.new (S.state store.new))) }
+    ensures turn { OnOk result (OnTurn to.now.region (table_region Round pack to.now.schema to.now.capacity) (if first + n == blocks_for pack to.now.capacity then 0 else first + n) (at R.state vault.new (S.state store.new))) }
     ensures written { OnOk result ((p : ℕ) → p < first + n → (p < first → Written to.now.region p (at R.state vault.old (S.state store.old))) → Written to.now.region p (at R.state vault.new (S.state store.new))) }
     ensures told { OnOk result (IsTrue (S.state store.old).tells → (slots : Slots) → Keeps to.now.schema slots (first * pack) to.now.capacity kept.now
         → (p : ℕ) → p < first + n

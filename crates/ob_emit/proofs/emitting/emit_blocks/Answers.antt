@@ -14,7 +14,7 @@ use Rattle.ob_flat.specs.Passes.{pass_error}
 use Rattle.ob_flat.proofs.Rooms.{same_rows}
 use Rattle.ob_flat.proofs.Rows.{wide_fit, wide_same}
 use Rattle.ob_flat.proofs.Runs.{pass_of, pass_each}
-use Rattle.ob_flat.proofs.Tables.{reads, represents_lasts, block_long, got, whole_size, index_fits}
+use Rattle.ob_flat.proofs.Tables.{reads, represents_lasts, block_long, got, whole_size, index_in}
 use Rattle.ob_emit.specs.Emitting.{slots_shown, table_shown}
 use Rattle.ob_emit.proofs.Events.{shown-block, shown-rest, shown-table}
 use Rattle.ob_emit.proofs.Halting.{pass_halted, sink_halted, halt_never, halt_told}
@@ -46,7 +46,7 @@ get-requires-clause-place g c =
     let flat = c.requires.flat in
     let u = c.loop-u.u in
     let went = c.loop-u.invariant.went in
-    may_get _ u (table_region (length c.args.rows.now) c.args.flat.now.schema c.args.flat.now.capacity) _ _ (lives_went _ _ _ _ _ _ went (λ s. s) flat.made.lives) (omega (arith, c.div_ceil-blocks.ensures))
+    may_get _ u (table_region flat.order (length c.args.rows.now) c.args.flat.now.schema c.args.flat.now.capacity) _ _ (lives_went _ _ _ _ _ _ went (λ s. s) flat.lives) (omega (arith, c.div_ceil-blocks.ensures))
     (fit_same _ _ _ c.loop-u.invariant.same c.requires.fit) (written_went _ _ _ _ _ u went (λ s. s) (flat.written u (omega (arith, c.div_ceil-blocks.ensures))))
 
 pub returns-in_err-get-clause-rows : goal.returns-in_err-get-clause-rows
@@ -96,11 +96,11 @@ returns-in_err-get-clause-told g c = λ slots is nolie.
     let below : u < blocks_for pack flat.capacity = omega (arith, c.div_ceil-blocks.ensures) in
     let went = c.loop-u.invariant.went in
     let now = represents_lasts pack flat none _ _ went.lasts (λ s. s) slots is in
-    let shape = table_region pack flat.schema flat.capacity in
-    rw (p.1, p.2) (inl (ap pass_error (c.in_err-get.ensures.told _ shape (lives_went _ _ _ _ _ _ went (λ s. s) c.requires.flat.made.lives) (block_long pack flat slots _ is c.requires.pack.0 u below) (now.holds u below) nolie)))
+    let shape = table_region c.requires.flat.order pack flat.schema flat.capacity in
+    rw (p.1, p.2) (inl (ap pass_error (c.in_err-get.ensures.told _ shape (lives_went _ _ _ _ _ _ went (λ s. s) c.requires.flat.lives) (block_long pack flat slots _ is c.requires.pack.0 u below) (now.holds u below) nolie)))
 
 pub overflow_mul-u : goal.overflow_mul-u
-overflow_mul-u g c = omega (arith, index_fits (length c.args.rows.now) c.args.flat.now.capacity c.loop-u.u c.requires.pack.0 c.requires.pack.1 c.requires.size.most (omega (arith, c.div_ceil-blocks.ensures)))
+overflow_mul-u g c = omega (arith, index_in (length c.args.rows.now) (blocks_for (length c.args.rows.now) c.args.flat.now.capacity) c.loop-u.u c.requires.pack.1 c.requires.size.blocks (omega (arith, c.div_ceil-blocks.ensures)))
 
 pub emit_rows-requires-clause-wide : goal.emit_rows-requires-clause-wide
 emit_rows-requires-clause-wide g c =
@@ -109,7 +109,7 @@ emit_rows-requires-clause-wide g c =
 pub emit_rows-requires-clause-index : goal.emit_rows-requires-clause-index
 emit_rows-requires-clause-index g c =
     let same = fit_trans _ _ _ c.loop-u.invariant.same c.get.ensures.rows in
-    omega (arith, same.count, index_fits (length c.args.rows.now) c.args.flat.now.capacity c.loop-u.u c.requires.pack.0 c.requires.pack.1 c.requires.size.most (omega (arith, c.div_ceil-blocks.ensures)))
+    omega (arith, same.count, index_in (length c.args.rows.now) (blocks_for (length c.args.rows.now) c.args.flat.now.capacity) c.loop-u.u c.requires.pack.1 c.requires.size.blocks (omega (arith, c.div_ceil-blocks.ensures)))
 
 pub returns-in-Err-clause-rows : goal.returns-in-Err-clause-rows
 returns-in-Err-clause-rows g c = fit_trans _ _ _ c.loop-u.invariant.same c.get.ensures.rows
@@ -138,7 +138,7 @@ returns-in-Err-clause-halted g c =
     let went = c.loop-u.invariant.went in
     let same = fit_trans _ _ _ c.loop-u.invariant.same c.get.ensures.rows in
     let wide = wide_same (width flat.schema) _ _ same (wide_fit (width flat.schema) c.args.rows.now c.requires.fit) in
-    let shape = table_region pack flat.schema flat.capacity in
+    let shape = table_region c.requires.flat.order pack flat.schema flat.capacity in
     halted_join g.E.Emit.grew g.E.Emit.cut [] (λ s. slots_shown flat.capacity cols 0 (take (u * pack) (whole_blocks pack flat.capacity s.0))) (λ s. row_events (slots_shown flat.capacity cols (u * pack) s.0)) (λ s. row_events (table_shown cols s.0)) 0 c.loop-u.k _ _ _ c.loop-u.invariant.emitted c.in-Err.ensures.err
     (λ s.
     let slots = s.0 in
@@ -148,7 +148,7 @@ returns-in-Err-clause-halted g c =
     let nolie = none_before none none _ _ _ _ (went_each none (read_at flat.region) _ _ _ u went c.in_ok-get.ensures.ok) (went_none none _ c.in_ok-get.ensures.ok.lasts.ready).lasts s.2 s.3 in
     let gone = none_went _ _ _ _ c.in_ok-get.ensures.ok nolie in
     let now = represents_lasts pack flat none _ _ went.lasts (λ s. s) slots is in
-    let bytes = c.in_ok-get.ensures.told _ shape (lives_went _ _ _ _ _ _ went (λ s. s) c.requires.flat.made.lives) (block_long pack flat slots _ is c.requires.pack.0 u below) (now.holds u below) nolie in
+    let bytes = c.in_ok-get.ensures.told _ shape (lives_went _ _ _ _ _ _ went (λ s. s) c.requires.flat.lives) (block_long pack flat slots _ is c.requires.pack.0 u below) (now.holds u below) nolie in
     let spelt = got pack flat slots _ is c.requires.pack.0 u (length c.loop-u.rows) c.get.new.rows below c.loop-u.invariant.same.count same.count wide bytes in
     let before = length-before pack whole u (blocks_for pack flat.capacity) (omega (arith, below)) (whole_size pack flat slots _ is c.requires.pack.0) in
     let rest = shown-rest flat.capacity cols 0 ((u + 1) * pack) whole in (
@@ -167,8 +167,8 @@ returns-in-Err-clause-told g c = λ slots is nolie.
     let below : u < blocks_for pack flat.capacity = omega (arith, c.div_ceil-blocks.ensures) in
     let went = c.loop-u.invariant.went in
     let now = represents_lasts pack flat none _ _ went.lasts (λ s. s) slots is in
-    let shape = table_region pack flat.schema flat.capacity in
-    let bytes = c.in_ok-get.ensures.told _ shape (lives_went _ _ _ _ _ _ went (λ s. s) c.requires.flat.made.lives) (block_long pack flat slots _ is c.requires.pack.0 u below) (now.holds u below) nolie in
+    let shape = table_region c.requires.flat.order pack flat.schema flat.capacity in
+    let bytes = c.in_ok-get.ensures.told _ shape (lives_went _ _ _ _ _ _ went (λ s. s) c.requires.flat.lives) (block_long pack flat slots _ is c.requires.pack.0 u below) (now.holds u below) nolie in
     let same = fit_trans _ _ _ c.loop-u.invariant.same c.get.ensures.rows in
     let wide = wide_same (width flat.schema) _ _ same (wide_fit (width flat.schema) c.args.rows.now c.requires.fit) in
     let spelt = got pack flat slots _ is c.requires.pack.0 u (length c.loop-u.rows) c.get.new.rows below c.loop-u.invariant.same.count same.count wide bytes in
@@ -184,7 +184,7 @@ loop-u-preserved g c =
     let went = c.loop-u.invariant.went in
     let same = fit_trans _ _ _ c.loop-u.invariant.same c.get.ensures.rows in
     let wide = wide_same (width flat.schema) _ _ same (wide_fit (width flat.schema) c.args.rows.now c.requires.fit) in
-    let shape = table_region pack flat.schema flat.capacity in
+    let shape = table_region c.requires.flat.order pack flat.schema flat.capacity in
     record {
       went = went_each none (read_at flat.region) _ _ _ u went c.in_ok-get.ensures.ok;
       seals = λ good. seals_join good _ _ _ went.lasts.later (c.loop-u.invariant.seals good) (c.get.ensures.seals good);
@@ -198,7 +198,7 @@ loop-u-preserved g c =
           let block = block_at pack whole u in
           let gone = none_went _ _ _ _ c.in_ok-get.ensures.ok s.2 in
           let now = represents_lasts pack flat none _ _ went.lasts (λ s. s) slots is in
-          let bytes = c.in_ok-get.ensures.told _ shape (lives_went _ _ _ _ _ _ went (λ s. s) c.requires.flat.made.lives) (block_long pack flat slots _ is c.requires.pack.0 u below) (now.holds u below) s.2 in
+          let bytes = c.in_ok-get.ensures.told _ shape (lives_went _ _ _ _ _ _ went (λ s. s) c.requires.flat.lives) (block_long pack flat slots _ is c.requires.pack.0 u below) (now.holds u below) s.2 in
           let spelt = got pack flat slots _ is c.requires.pack.0 u (length c.loop-u.rows) c.get.new.rows below c.loop-u.invariant.same.count same.count wide bytes in
           let before = length-before pack whole u (blocks_for pack flat.capacity) (omega (arith, below)) (whole_size pack flat slots _ is c.requires.pack.0) in
           ((slots, is, gone), (block, spelt), shown-block flat.capacity cols pack u whole before));

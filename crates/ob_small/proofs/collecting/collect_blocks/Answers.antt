@@ -49,7 +49,7 @@ get-requires-clause-place g c =
     let flat = c.requires.flat in
     let u = c.loop-u.u in
     let went = c.loop-u.invariant.went in
-    may_get _ u (table_region (length c.args.rows.now) c.args.flat.now.schema c.args.flat.now.capacity) _ _ (lives_went _ _ _ _ _ _ went (λ s. s) flat.made.lives) (omega (arith, c.div_ceil-blocks.ensures))
+    may_get _ u (table_region flat.made.order (length c.args.rows.now) c.args.flat.now.schema c.args.flat.now.capacity) _ _ (lives_went _ _ _ _ _ _ went (λ s. s) flat.made.lives) (omega (arith, c.div_ceil-blocks.ensures))
     (fit_same _ _ _ c.loop-u.invariant.same c.requires.fit) (written_went _ _ _ _ _ u went (λ s. s) (flat.written u (omega (arith, c.div_ceil-blocks.ensures))))
 
 pub returns-in_err-get-clause-rows : goal.returns-in_err-get-clause-rows
@@ -83,7 +83,7 @@ returns-in_err-get-clause-told g c = λ slots is nolie.
     let below : u < blocks_for pack flat.capacity = omega (arith, c.div_ceil-blocks.ensures) in
     let went = c.loop-u.invariant.went in
     let now = represents_lasts pack flat none _ _ went.lasts (λ s. s) slots is in
-    let shape = table_region pack flat.schema flat.capacity in
+    let shape = table_region c.requires.flat.made.order pack flat.schema flat.capacity in
     rw (p.1, p.2) (ap pass_error (c.in_err-get.ensures.told _ shape (lives_went _ _ _ _ _ _ went (λ s. s) c.requires.flat.made.lives) (block_long pack flat slots _ is c.requires.pack.0 u below) (now.holds u below) nolie))
 
 pub keep_rows-requires-clause-wide : goal.keep_rows-requires-clause-wide
@@ -123,7 +123,7 @@ returns-in-Err-clause-told g c = λ slots is nolie.
     let below : u < blocks_for pack flat.capacity = omega (arith, c.div_ceil-blocks.ensures) in
     let went = c.loop-u.invariant.went in
     let now = represents_lasts pack flat none _ _ went.lasts (λ s. s) slots is in
-    let shape = table_region pack flat.schema flat.capacity in
+    let shape = table_region c.requires.flat.made.order pack flat.schema flat.capacity in
     let bytes = c.in_ok-get.ensures.told _ shape (lives_went _ _ _ _ _ _ went (λ s. s) c.requires.flat.made.lives) (block_long pack flat slots _ is c.requires.pack.0 u below) (now.holds u below) nolie in
     let same = fit_trans _ _ _ c.loop-u.invariant.same c.get.ensures.rows in
     let wide = wide_same (width flat.schema) _ _ same (wide_fit (width flat.schema) c.args.rows.now c.requires.fit) in
@@ -149,7 +149,7 @@ loop-u-preserved g c =
       spells = c.in-Ok.ensures.spells c.loop-u.invariant.spells;
       told = λ slots is nolie.
           let now = represents_lasts pack flat none _ _ went.lasts (λ s. s) slots is in
-          let shape = table_region pack flat.schema flat.capacity in
+          let shape = table_region c.requires.flat.made.order pack flat.schema flat.capacity in
           let bytes = c.in_ok-get.ensures.told _ shape (lives_went _ _ _ _ _ _ went (λ s. s) c.requires.flat.made.lives) (block_long pack flat slots _ is c.requires.pack.0 u below) (now.holds u below) nolie in
           let wide = wide_same (width flat.schema) _ _ same (wide_fit (width flat.schema) c.args.rows.now c.requires.fit) in
           let spelt = got pack flat slots _ is c.requires.pack.0 u (length c.loop-u.rows) c.get.new.rows below c.loop-u.invariant.same.count same.count wide bytes in

@@ -14,6 +14,7 @@ use Rattle.ob_vault.specs.Rows.{Wide}
 use Rattle.ob_vault.proofs.RowsLemmas.{rows_room}
 use Rattle.ob_vault.proofs.Runs.{went_length, went_wider, went_each, went_join, lives_went, written_went, holds_went, none_went, tells_went, fit_same, fit_trans, seals_join}
 use Rattle.ob_flat.specs.Slots.{FitsSlot}
+use Rattle.ob_vault.specs.declared.region.Order.TheVariants.{Round}
 use Rattle.ob_flat.specs.Flats.{table_region}
 use Rattle.ob_flat.proofs.Rows.{wide_same}
 use Rattle.ob_flat.proofs.Runs.{pass_each, pass_more, pass_after, pass_wider}
@@ -148,7 +149,7 @@ write_blocks-requires-clause-few g c =
     )
 
 pub write_blocks-requires-clause-lives : goal.write_blocks-requires-clause-lives
-write_blocks-requires-clause-lives g c = lives_went none _ _ _ c.args.to.now.region (table_region (length c.args.rows.now) c.args.to.now.schema c.args.to.now.capacity) c.in_ok-collect_blocks.ensures.ok (λ s. s) c.loop-j.invariant.lives
+write_blocks-requires-clause-lives g c = lives_went none _ _ _ c.args.to.now.region (table_region Round (length c.args.rows.now) c.args.to.now.schema c.args.to.now.capacity) c.in_ok-collect_blocks.ensures.ok (λ s. s) c.loop-j.invariant.lives
 
 pub write_blocks-requires-clause-turn : goal.write_blocks-requires-clause-turn
 write_blocks-requires-clause-turn g c =
@@ -162,8 +163,8 @@ write_blocks-requires-clause-turn g c =
     let done : min (j * q) results ≡ j * q = omega (arith, inside) in
     let here : (if min (j * q) results == results then 0 else min (j * q) results) ≡ j * q =
     ap (λ (n : ℕ). if n == results then 0 else n) done ∙ not_last (j * q) results inside in
-    let turned = subst (λ (n : ℕ). OnTurn to.region (table_region pack to.schema to.capacity) n (at g.R.Revisions.state c.loop-j.vault (g.S.BlockStore.state c.loop-j.store))) here c.loop-j.invariant.turn in
-    c.in_ok-collect_blocks.ensures.turns to.region (j * q) (table_region pack to.schema to.capacity) turned
+    let turned = subst (λ (n : ℕ). OnTurn to.region (table_region Round pack to.schema to.capacity) n (at g.R.Revisions.state c.loop-j.vault (g.S.BlockStore.state c.loop-j.store))) here c.loop-j.invariant.turn in
+    c.in_ok-collect_blocks.ensures.turns to.region (j * q) (table_region Round pack to.schema to.capacity) turned
 
 pub write_blocks-requires-clause-within : goal.write_blocks-requires-clause-within
 write_blocks-requires-clause-within g c =
@@ -234,7 +235,7 @@ loop-j-preserved g c =
     let n_is = taken results q j _ _ c.div_ceil-results.ensures c.min-n.ensures in
     let read = rw before.rows.count at c.in_ok-collect_blocks.ensures.ok in
     let wrote = rw n_is at c.in_ok-write_blocks.ensures.ok in
-    let shape = table_region pack to.schema to.capacity in
+    let shape = table_region Round pack to.schema to.capacity in
     let next : j * q + c.min-n.result ≡ min ((j + 1) * q) results = omega (arith, n_is, inside, pass_next j q) in
     record {
       went = went_each (one to.region) (small_pass t to.region blocks results q) _ _ _ j before.went
@@ -288,8 +289,9 @@ returns-clause-flat g c =
     let now = at g.R.Revisions.state c.loop-j.vault (g.S.BlockStore.state c.loop-j.store) in
     record {
       made = record {
+        order = Round;
         lives = c.loop-j.invariant.lives;
-        turn = subst (λ (n : ℕ). OnTurn to.region (table_region pack to.schema to.capacity) n now) (at_last (min (j * q) results) results done) c.loop-j.invariant.turn;
+        turn = subst (λ (n : ℕ). OnTurn to.region (table_region Round pack to.schema to.capacity) n now) (at_last (min (j * q) results) results done) c.loop-j.invariant.turn;
       };
       written = λ x below. c.loop-j.invariant.written x (omega (arith, done, below));
     }

@@ -9,6 +9,7 @@ use Rattle.ob_vault.specs.Places.{at}
 use Rattle.ob_row.specs.Slots.{Slots}
 use Rattle.ob_blocks.specs.Blocks.{block_at}
 use Rattle.ob_flat.specs.Slots.{block_bytes}
+use Rattle.ob_vault.specs.declared.region.Order.TheVariants.{Round}
 use Rattle.ob_flat.specs.Flats.{Represents, Accepts, table_region, whole_blocks}
 use Rattle.ob_small.specs.Keeping.{chosen, fitted}
 use Rattle.ob_small.proofs.filling.fill_result.Given as goal
@@ -22,7 +23,7 @@ invariant-loop-j g l =
     let blocks = blocks_for pack l.flat.capacity in
     let results = blocks_for pack l.to.capacity in
     let done = min (l.j * l.buffered) results in
-    let shape = table_region pack l.to.schema l.to.capacity in
+    let shape = table_region Round pack l.to.schema l.to.capacity in
     record {
       went : Went (each l.j (small_pass l.flat.region q blocks results l.buffered)) (one q) old now;
       seals : (good : ℕ → List ℕ → Bool) → Accepts good pack l.to.schema q → Seals good old now;

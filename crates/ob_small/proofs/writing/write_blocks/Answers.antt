@@ -13,6 +13,7 @@ use Rattle.ob_vault.proofs.RowsLemmas.{rows_room}
 use Rattle.ob_vault.proofs.Runs.{went_length, went_each, lives_only, written_only, holds_only, holds_rows, tells_went, may_put, seals_join}
 use Rattle.ob_blocks.specs.Blocks.{block_at}
 use Rattle.ob_flat.specs.Slots.{block_bytes}
+use Rattle.ob_vault.specs.declared.region.Order.TheVariants.{Round}
 use Rattle.ob_flat.specs.Flats.{table_region, whole_blocks}
 use Rattle.ob_flat.specs.Passes.{pass_error}
 use Rattle.ob_flat.proofs.Runs.{pass_of, pass_each}
@@ -38,7 +39,7 @@ put-requires-clause-place g c =
     let to = c.args.to.now in
     let kept = c.args.kept.now in
     let blocks = blocks_for pack to.capacity in
-    let shape = table_region pack to.schema to.capacity in
+    let shape = table_region Round pack to.schema to.capacity in
     let below : c.args.first + x < blocks = omega (arith, c.requires.within) in
     let here : (if c.args.first + x == blocks then 0 else c.args.first + x) ≡ c.args.first + x = not_last (c.args.first + x) blocks below in
     let turned = c.loop-x.invariant.turn in
@@ -64,7 +65,7 @@ returns-in_err-put-clause-seals g c = λ good fine.
     let pack = c.args.pack in
     let to = c.args.to.now in
     let kept = c.args.kept.now in
-    let shape = table_region pack to.schema to.capacity in
+    let shape = table_region Round pack to.schema to.capacity in
     let inside : x * pack + pack ≤ length kept = omega (arith, c.requires.space, rows_room x c.args.n pack (omega arith)) in
     let same : (x * pack + pack) - x * pack ≡ pack = omega arith in
     let ok = subst (λ (m : ℕ). IsTrue (good to.region (joined ((pack * width to.schema) / length (take m (drop (x * pack) kept))) (take m (drop (x * pack) kept))))) (sym same)
@@ -81,7 +82,7 @@ loop-x-preserved g c =
     let q = to.region in
     let kept = c.args.kept.now in
     let blocks = blocks_for pack to.capacity in
-    let shape = table_region pack to.schema to.capacity in
+    let shape = table_region Round pack to.schema to.capacity in
     let inside : x * pack + pack ≤ length kept = omega (arith, c.requires.space, rows_room x c.args.n pack (omega arith)) in
     let same : (x * pack + pack) - x * pack ≡ pack = omega arith in
     let next : first + x + 1 ≡ first + (x + 1) = omega arith in
@@ -117,7 +118,7 @@ pub returns-clause-turn : goal.returns-clause-turn
 returns-clause-turn g c =
     let to = c.args.to.now in
     let last : c.loop-x.x ≡ c.args.n = omega arith in
-    subst (λ (x : ℕ). OnTurn to.region (table_region c.args.pack to.schema to.capacity) (if c.args.first + x == blocks_for c.args.pack to.capacity then 0 else c.args.first + x) (at g.R.Revisions.state c.loop-x.vault (g.S.BlockStore.state c.loop-x.store))) last c.loop-x.invariant.turn
+    subst (λ (x : ℕ). OnTurn to.region (table_region Round c.args.pack to.schema to.capacity) (if c.args.first + x == blocks_for c.args.pack to.capacity then 0 else c.args.first + x) (at g.R.Revisions.state c.loop-x.vault (g.S.BlockStore.state c.loop-x.store))) last c.loop-x.invariant.turn
 
 pub returns-clause-written : goal.returns-clause-written
 returns-clause-written g c = λ p below old. c.loop-x.invariant.written p (omega (arith, below)) old

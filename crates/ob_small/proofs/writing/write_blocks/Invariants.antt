@@ -8,6 +8,7 @@ use Rattle.ob_vault.specs.Places.{at}
 use Rattle.ob_row.specs.Slots.{Slots}
 use Rattle.ob_blocks.specs.Blocks.{block_at}
 use Rattle.ob_flat.specs.Slots.{block_bytes}
+use Rattle.ob_vault.specs.declared.region.Order.TheVariants.{Round}
 use Rattle.ob_flat.specs.Flats.{Accepts, table_region, whole_blocks}
 use Rattle.ob_small.specs.Keeping.{fitted, Keeps}
 use Rattle.ob_small.proofs.writing.write_blocks.Given as goal
@@ -17,7 +18,7 @@ invariant-loop-x g l =
     let old = at g.R.Revisions.state l.initial.vault (g.S.BlockStore.state l.initial.store) in
     let now = at g.R.Revisions.state l.vault (g.S.BlockStore.state l.store) in
     let q = l.to.region in
-    let shape = table_region l.pack l.to.schema l.to.capacity in
+    let shape = table_region Round l.pack l.to.schema l.to.capacity in
     let blocks = blocks_for l.pack l.to.capacity in
     record {
       went : Went (each l.x (write_from q l.first)) (one q) old now;
