@@ -91,3 +91,6 @@ cut_first some part a b e n i below cut =
     let p = parts part n i below in
     subst (λ (l : List Access). PassCut e l some a b) (sym p.split)
     (pass_more some a b e (each i part ++ part i) p.rest (pass_more some a b e (each i part) (part i) cut))
+
+pub holds_flat : (pack : ℕ) (a b : Flat) (w : World) (slots : Slots) → a ≡ b → HoldsSlots pack a slots w → HoldsSlots pack b slots w
+holds_flat pack a b w slots same is = subst (λ (flat : Flat). HoldsSlots pack flat slots w) same is

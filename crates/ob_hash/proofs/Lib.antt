@@ -5,3 +5,4 @@ pub mod Both
 pub mod Places
 pub mod Sizes
 pub mod Alike
+pub mod Whole

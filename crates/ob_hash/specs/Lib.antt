@@ -2,3 +2,4 @@ pub mod Waiting
 pub mod Filling
 pub mod Bucketed
 pub mod Hashing
+pub mod Answers

@@ -6,3 +6,6 @@ mod buckets;
 mod filling;
 mod hashing;
 mod placing;
+mod selecting;
+
+pub use selecting::{Placed, select};
