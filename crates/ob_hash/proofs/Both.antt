@@ -1,6 +1,5 @@
 -- A row that is shown to both of its buckets.
-use Rattle.std.proofs.Common.{◌≡◌, ◌≤◌, ◌<◌, ◌+◌, ◌*◌, ◌/◌, ◌%◌, ◌^◌, ℕ, suc, Bool, true, false, ◌&&◌, not, nat_lt, List, [], ◌∷◌, ◌++◌, Option, Some, None, IsTrue, is_some, is_none, length, replicate, slice_index_or, slice_set, if◌then◌else◌, refl, sym, ◌∙◌, ap, subst, arith, length-append}
-use Rattle.std.specs.List.{All}
+use Rattle.std.proofs.Common.{◌≡◌, ◌<◌, ℕ, Bool, true, false, List, [], ◌∷◌, ◌++◌, Option, Some, None, IsTrue, is_some, is_none, length, replicate, slice_index_or, if◌then◌else◌, refl, sym, ◌∙◌, ap, subst, arith, length-append}
 use Rattle.std.proofs.lemmas.List.{length-replicate, length-set}
 use Rattle.std.proofs.lemmas.List.Elements as elements
 use Rattle.std.proofs.lemmas.Bool.Decides.{nat_tests}

@@ -1,6 +1,6 @@
 -- The region of a result, which its slots fill.
-use Rattle.std.proofs.Common.{◌≡◌, ◌≤◌, ◌+◌, ◌-◌, ◌*◌, ℕ, zero, suc, List, [], ◌++◌, Option, None, length, replicate, refl, sym, ◌∙◌, ap, arith}
-use Rattle.std.proofs.lemmas.List.{length-replicate, append-nil}
+use Rattle.std.proofs.Common.{◌≡◌, ◌≤◌, ◌+◌, ◌-◌, ◌*◌, ℕ, zero, suc, [], ◌++◌, Option, None, length, replicate, refl, sym, ◌∙◌, ap, subst, arith}
+use Rattle.std.proofs.lemmas.List.{append-nil}
 use Rattle.ob_base.specs.Numbers.{blocks_for}
 use Rattle.ob_base.specs.Schemas.{Columns}
 use Rattle.ob_vault.specs.State.{World}
@@ -12,7 +12,7 @@ use Rattle.ob_flat.specs.declared.flat.Flat.{Flat}
 use Rattle.ob_flat.specs.Flats.{IsSized, FitsRegion, Represents, HoldsSlots, whole_blocks}
 use Rattle.ob_flat.proofs.Tables.{holds_whole, represents_whole}
 use Rattle.ob_hash.specs.Bucketed.{spread}
-use Rattle.ob_hash.proofs.Alike.{holds_alike}
+use Rattle.ob_hash.proofs.Alike.{holds_alike, holds_flat}
 use Rattle.ob_hash.proofs.Sizes.{blocks_whole}
 
 -- nothing is left behind the slots
@@ -35,7 +35,7 @@ module _ (pack k depth : ℕ) (flat : Flat) (w : World) (some : 1 ≤ pack) (is 
   whole = ap (λ (c : ℕ). blocks_for pack c * pack) is ∙ ap (λ (b : ℕ). b * pack) (blocks_whole pack (k * depth) some) ∙ sym is
 
   -- at first all buckets are empty
-  pub begins_empty : (slots : Slots) → Represents pack flat (empty_slots flat.capacity) w → HoldsSlots pack flat (spread (depth * pack) slots (replicate k [])) w
+  begins_empty : (slots : Slots) → Represents pack flat (empty_slots flat.capacity) w → HoldsSlots pack flat (spread (depth * pack) slots (replicate k [])) w
   begins_empty slots none =
       let size : flat.capacity ≡ k * (depth * pack) = is ∙ grind arith in
       holds_alike pack flat w _ _ (whole_same pack flat.capacity (empty_slots flat.capacity) none.size whole ∙ ap (λ (m : ℕ). empty_slots m) size ∙ sym (spread_none k (depth * pack) slots)) (holds_whole pack flat (empty_slots flat.capacity) w some none)
@@ -63,3 +63,14 @@ region_fits pack k depth capacity columns is some one most least deep =
       least = grind arith;
       blocks = omega (arith, blocks_whole pack (k * depth) some, buckets_few k depth (omega (arith, most, is.most)) deep);
     }
+
+-- a region that was made and filled with dummies, in the words of the pass that goes on with it
+pub made_empty : (rows pack k depth next region : ℕ) (columns copied : Columns) (slots : Slots) (w : World) → rows ≡ pack → 1 ≤ pack → copied ≡ columns → region ≡ next
+    → Represents rows (record { schema = columns; capacity = (k * depth) * pack; region = next }) (empty_slots ((k * depth) * pack)) w
+    → HoldsSlots pack (record { schema = copied; capacity = (k * depth) * pack; region = region }) (spread (depth * pack) slots (replicate k [])) w
+made_empty rows pack k depth next region columns copied slots w same some is number none =
+    let made : Flat = record { schema = columns; capacity = (k * depth) * pack; region = next } in
+    let fresh : Flat = record { schema = copied; capacity = (k * depth) * pack; region = region } in
+    let equal : made ≡ fresh = cc (is, number) in
+    holds_flat pack made fresh w _ equal
+    (begins_empty pack k depth made w some refl slots (subst (λ (r : ℕ). Represents r made (empty_slots ((k * depth) * pack)) w) same none))

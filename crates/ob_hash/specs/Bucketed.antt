@@ -1,7 +1,6 @@
 -- The slots of a result as buckets, each of which lies in blocks of its own.
 use Rattle.std.specs.Prelude.{◌≡◌, ◌≤◌, ℕ, Bool, true, false, ◌&&◌, List, Option, Some, None, IsTrue, is_some, is_none, [], length, take, replicate, flat_map, if◌then◌else◌}
 use Rattle.std.specs.List.{All}
-use Rattle.ob_base.specs.Numbers.{first_bucket, second_bucket}
 use Rattle.ob_row.specs.Rows.{Row}
 use Rattle.ob_row.specs.Slots.{Slots, slot_at, selected}
 use Rattle.ob_row.specs.Results.{Buckets, RowTest, bucket_for, put_in, filled, unplaced, bucket_slots}

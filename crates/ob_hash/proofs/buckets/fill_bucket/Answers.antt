@@ -1,21 +1,19 @@
-use Rattle.std.proofs.Common.{◌≡◌, ◌≤◌, ◌<◌, ◌+◌, ◌*◌, ℕ, Bool, inl, inr, Option, length, refl, sym, ◌∙◌, ap, subst, arith}
+use Rattle.std.proofs.Common.{◌≡◌, ◌≤◌, ◌+◌, ◌*◌, ℕ, Bool, inl, inr, Option, length, refl, sym, ◌∙◌, ap, subst, arith}
 use Rattle.std.proofs.lemmas.Result.{err_from_is_err_and}
 use Rattle.ob_base.specs.Numbers.{blocks_for}
 use Rattle.ob_base.specs.Schemas.{width}
 use Rattle.ob_vault.specs.declared.region.Order.TheVariants.{Any}
 use Rattle.ob_vault.specs.Calls.{one}
-use Rattle.ob_vault.specs.Places.{at, RowsFit}
-use Rattle.ob_vault.proofs.Runs.{went_none, went_length, went_each, none_went, none_cut, tells_went, fit_same, fit_trans, seals_none, seals_join, turn_any}
+use Rattle.ob_vault.specs.Places.{RowsFit}
+use Rattle.ob_vault.proofs.Runs.{went_none, went_length, went_each, none_went, tells_went, fit_same, fit_trans, seals_none, seals_join}
 use Rattle.ob_row.specs.Rows.{Row}
 use Rattle.ob_row.specs.Slots.{Slots}
 use Rattle.ob_row.specs.Spelling.{Begins}
 use Rattle.ob_row.proofs.SpellingLemmas.{slots-same}
 use Rattle.ob_blocks.specs.Blocks.{block_at, with_block}
-use Rattle.ob_flat.specs.Flats.{HoldsSlots, IsInTurn, table_region}
 use Rattle.ob_flat.proofs.Rooms.{same_rows}
 use Rattle.ob_flat.proofs.Runs.{pass_each}
 use Rattle.ob_hash.specs.Waiting.{waits_after, filled_with}
-use Rattle.ob_hash.specs.Filling.{Fills}
 use Rattle.ob_hash.specs.Hashing.{block_part}
 use Rattle.ob_hash.proofs.Alike.{holds_alike, holds_packed, turn_packed, any_turn, fills_packed, put_packed}
 use Rattle.ob_hash.proofs.Ranges.{blocks_from, shown, shown_none, waits_none, waits_next, shown_next, waits_all, shown_all}

@@ -1,4 +1,4 @@
-use Rattle.std.proofs.Common.{◌≡◌, ◌<◌, ◌+◌, ◌*◌, ℕ, Bool, OnOk, IfErr, MatchResult, IsTrue, length, refl, sym, ◌∙◌, ap, subst, arith}
+use Rattle.std.proofs.Common.{◌≡◌, ◌<◌, ◌*◌, ℕ, length, refl, sym, subst, arith}
 use Rattle.std.proofs.lemmas.Result.{err_from_is_err_and, on_ok_weaker, IfErr-weaker, MatchResult-weaker}
 use Rattle.ob_base.specs.Numbers.{first_bucket, second_bucket}
 use Rattle.ob_base.specs.Schemas.{width}
@@ -6,8 +6,8 @@ use Rattle.ob_script.specs.Parts.{bucket_part}
 use Rattle.ob_store.proofs.Steps.{none_before}
 use Rattle.ob_vault.specs.Calls.{one}
 use Rattle.ob_vault.specs.Places.{at, RowsFit}
-use Rattle.ob_vault.proofs.Runs.{went_length, went_join, none_went, tells_went, fit_same, fit_trans, seals_join}
-use Rattle.ob_row.specs.Slots.{Slots, slot_at}
+use Rattle.ob_vault.proofs.Runs.{went_length, went_join, tells_went, fit_same, fit_trans, seals_join}
+use Rattle.ob_row.specs.Slots.{slot_at}
 use Rattle.ob_flat.specs.declared.fault.OpErr.{OpErr}
 use Rattle.ob_flat.specs.declared.fault.OpErr.TheVariants.{Failed}
 use Rattle.ob_flat.specs.Flats.{Accepts}

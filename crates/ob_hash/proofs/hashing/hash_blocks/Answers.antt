@@ -1,4 +1,4 @@
-use Rattle.std.proofs.Common.{◌≡◌, ◌≤◌, ◌<◌, ◌+◌, ◌*◌, ℕ, Bool, List, [], inl, inr, length, take, replicate, refl, sym, ◌∙◌, ap, subst, arith}
+use Rattle.std.proofs.Common.{◌≡◌, ◌≤◌, ◌<◌, ◌+◌, ◌*◌, ℕ, [], inl, inr, length, take, replicate, sym, ◌∙◌, ap, subst, arith}
 use Rattle.std.proofs.lemmas.Result.{err_from_is_err_and}
 use Rattle.ob_base.specs.Accesses.{read_at}
 use Rattle.ob_base.specs.Lists.{each}
@@ -7,7 +7,7 @@ use Rattle.ob_base.specs.Schemas.{width}
 use Rattle.ob_script.specs.Parts.{hash_block, slots_in}
 use Rattle.ob_store.proofs.Steps.{none_before}
 use Rattle.ob_vault.specs.Calls.{none, one}
-use Rattle.ob_vault.specs.Places.{at, RowsFit}
+use Rattle.ob_vault.specs.Places.{RowsFit}
 use Rattle.ob_vault.proofs.Runs.{went_none, went_length, went_wider, went_each, went_join, lives_went, written_went, none_went, tells_went, fit_same, fit_trans, may_get, seals_none, seals_join}
 use Rattle.ob_row.specs.Results.{filled, unplaced}
 use Rattle.ob_row.specs.Slots.{Slots, selected}
@@ -20,7 +20,7 @@ use Rattle.ob_flat.proofs.Runs.{pass_of, pass_each, pass_more, pass_after, pass_
 use Rattle.ob_flat.proofs.Tables.{blocks_hold, represents_lasts, slots_lasts, block_long, got}
 use Rattle.ob_hash.specs.Bucketed.{spread, buckets_of, unplaced_of}
 use Rattle.ob_hash.specs.Hashing.{slot_part}
-use Rattle.ob_hash.proofs.Alike.{holds_alike, turn_packed, holds_packed, open_went}
+use Rattle.ob_hash.proofs.Alike.{holds_alike, turn_packed, open_went}
 use Rattle.ob_hash.proofs.Places.{next_slots, buckets_all, unplaced_all}
 use Rattle.ob_hash.proofs.Sizes.{blocks_touch, block_room, block_begins}
 use Rattle.ob_hash.proofs.hashing.hash_blocks.Goals as goal

@@ -1,4 +1,4 @@
-use Rattle.std.proofs.Common.{Option, sym, subst, arith, below_more}
+use Rattle.std.proofs.Common.{sym, subst, arith, below_more}
 use Rattle.ob_vault.proofs.RowsLemmas.{same_at}
 use Rattle.ob_row.specs.Spelling.{Begins}
 use Rattle.ob_flat.proofs.Rows.{slots_of}

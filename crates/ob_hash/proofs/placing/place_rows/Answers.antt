@@ -1,29 +1,27 @@
-use Rattle.std.proofs.Common.{◌≡◌, ◌≤◌, ◌<◌, ◌+◌, ◌*◌, ◌-◌, min, ℕ, Bool, Option, None, IsTrue, is_some, inl, inr, length, slice_index_or, refl, sym, ◌∙◌, ap, subst, arith}
+use Rattle.std.proofs.Common.{◌≡◌, ◌<◌, ◌+◌, ◌*◌, ◌-◌, min, ℕ, Bool, Option, None, IsTrue, length, slice_index_or, sym, ◌∙◌, ap, subst, arith}
 use Rattle.std.proofs.lemmas.Result.{err_from_is_err_and}
-use Rattle.ob_base.specs.Lists.{each}
 use Rattle.ob_base.specs.Schemas.{Columns, width}
-use Rattle.ob_script.specs.Parts.{slots_in, hash_slot}
+use Rattle.ob_script.specs.Parts.{slots_in}
 use Rattle.ob_store.proofs.Steps.{none_before}
-use Rattle.ob_vault.specs.Calls.{Went, one}
-use Rattle.ob_vault.specs.Places.{at, RowsFit}
+use Rattle.ob_vault.specs.Calls.{one}
+use Rattle.ob_vault.specs.Places.{RowsFit}
 use Rattle.ob_vault.specs.Rows.{row_at}
 use Rattle.ob_vault.proofs.RowsLemmas.{same_at}
 use Rattle.ob_vault.proofs.Runs.{went_none, went_length, went_each, none_went, tells_went, fit_same, fit_trans, seals_none, seals_join}
 use Rattle.ob_row.specs.Rows.{Row}
-use Rattle.ob_row.specs.Slots.{Slots, slot_at, is_selected}
+use Rattle.ob_row.specs.Slots.{slot_at, is_selected}
 use Rattle.ob_row.specs.Spelling.{Begins}
 use Rattle.ob_row.specs.Truth.{is_true}
 use Rattle.ob_blocks.specs.Blocks.{block_at}
 use Rattle.ob_flat.specs.Flats.{Accepts, whole_blocks}
 use Rattle.ob_flat.proofs.Rooms.{same_rows}
-use Rattle.ob_flat.proofs.Rows.{wide_fit}
-use Rattle.ob_flat.proofs.Runs.{pass_each, pass_more, pass_malformed}
+use Rattle.ob_flat.proofs.Runs.{pass_each, pass_malformed}
 use Rattle.ob_hash.specs.Bucketed.{spread, buckets_of, unplaced_of}
 use Rattle.ob_hash.specs.Filling.{IsRow}
 use Rattle.ob_hash.specs.Hashing.{slot_part}
-use Rattle.ob_hash.proofs.Alike.{holds_alike, holds_packed, went_first, cut_first}
+use Rattle.ob_hash.proofs.Alike.{holds_alike, went_first, cut_first}
 use Rattle.ob_hash.proofs.Places.{are_buckets, block_slot, selected_some, placed, not_placed}
-use Rattle.ob_hash.proofs.Sizes.{slots_touch, slot_room, slots_inside, slots_few}
+use Rattle.ob_hash.proofs.Sizes.{slots_touch, slot_room, slots_inside}
 use Rattle.ob_hash.proofs.placing.place_rows.Goals as goal
 
 -- the slots below the capacity

@@ -1,21 +1,17 @@
-use Rattle.std.proofs.Common.{◌≡◌, ◌≤◌, ◌+◌, ◌*◌, ℕ, List, [], inl, inr, length, replicate, refl, sym, ◌∙◌, ap, subst, arith}
+use Rattle.std.proofs.Common.{◌≡◌, ◌≤◌, ◌*◌, ℕ, inl, inr, length, refl, sym, ◌∙◌, ap, subst, arith}
 use Rattle.std.proofs.lemmas.Result.{err_from_is_err_and}
 use Rattle.ob_base.specs.Lists.{each}
 use Rattle.ob_base.specs.Numbers.{blocks_for}
 use Rattle.ob_base.specs.Schemas.{width}
 use Rattle.ob_script.specs.Parts.{create_part, hash_block}
 use Rattle.ob_script.proofs.Numbers.{length-create_part}
-use Rattle.ob_store.proofs.Steps.{none_before}
 use Rattle.ob_vault.specs.Calls.{one}
-use Rattle.ob_vault.specs.Places.{at}
 use Rattle.ob_vault.proofs.Runs.{went_join, went_length, tells_went, lives_apart, seals_join, lasts_trans}
-use Rattle.ob_flat.specs.declared.flat.Flat.{Flat}
 use Rattle.ob_flat.specs.Flats.{FitsRegion, Accepts}
 use Rattle.ob_flat.proofs.Runs.{pass_more, pass_after, pass_then}
 use Rattle.ob_flat.proofs.Tables.{flat_lasts, represents_lasts, blocks_few}
-use Rattle.ob_hash.proofs.Alike.{holds_flat}
 use Rattle.ob_hash.proofs.Sizes.{blocks_whole}
-use Rattle.ob_hash.proofs.Whole.{begins_empty, is_result, buckets_few, accesses_few, region_fits}
+use Rattle.ob_hash.proofs.Whole.{made_empty, is_result, buckets_few, accesses_few, region_fits}
 use Rattle.ob_hash.proofs.selecting.select_rows.Goals as goal
 
 -- the blocks of the fresh region
@@ -107,13 +103,9 @@ returns-in-Ok-None-clause-told g c = λ tells slots is nolie.
     let off = lives_apart _ _ _ c.requires.ready c.requires.flat.made.lives in
     let created = c.in_ok-region.ensures.ok in
     let mid = represents_lasts pack flat (one next) _ _ created.lasts off slots is in
-    let made : Flat = record { schema = flat.schema; capacity = (k * depth) * pack; region = next } in
-    let fresh : Flat = record { schema = c.copied.result; capacity = (k * depth) * pack; region = c.in_ok-region.region } in
-    let same : made ≡ fresh = cc (c.copied.ensures, c.in_ok-region.ensures.number) in
-    let none = rw c.requires.count at (c.in_ok-region.ensures.told tells) in
-    let empty = holds_flat pack made fresh _ _ same (begins_empty pack k depth made _ c.requires.pack.0 refl slots none) in
+    let empty = made_empty _ pack k depth next _ flat.schema _ slots _ c.requires.count c.requires.pack.0 c.copied.ensures c.in_ok-region.ensures.number (c.in_ok-region.ensures.told tells) in
     let told = c.in-Ok-None.ensures.told (tells_went _ _ _ _ created tells) slots mid empty nolie in
-    (sym c.in-Ok-None.field-0-is ∙ told.0, is_result pack k depth fresh _ c.requires.pack.0 refl _ told.1)
+    (sym c.in-Ok-None.field-0-is ∙ told.0, is_result pack k depth _ _ c.requires.pack.0 refl _ told.1)
 
 pub returns-in-Ok-Some-clause-ok : goal.returns-in-Ok-Some-clause-ok
 returns-in-Ok-Some-clause-ok g c =
@@ -141,13 +133,9 @@ returns-in-Ok-Some-clause-told g c = λ tells slots is nolie.
     let off = lives_apart _ _ _ c.requires.ready c.requires.flat.made.lives in
     let created = c.in_ok-region.ensures.ok in
     let mid = represents_lasts pack flat (one next) _ _ created.lasts off slots is in
-    let made : Flat = record { schema = flat.schema; capacity = (k * depth) * pack; region = next } in
-    let fresh : Flat = record { schema = c.copied.result; capacity = (k * depth) * pack; region = c.in_ok-region.region } in
-    let same : made ≡ fresh = cc (c.copied.ensures, c.in_ok-region.ensures.number) in
-    let none = rw c.requires.count at (c.in_ok-region.ensures.told tells) in
-    let empty = holds_flat pack made fresh _ _ same (begins_empty pack k depth made _ c.requires.pack.0 refl slots none) in
+    let empty = made_empty _ pack k depth next _ flat.schema _ slots _ c.requires.count c.requires.pack.0 c.copied.ensures c.in_ok-region.ensures.number (c.in_ok-region.ensures.told tells) in
     let told = c.in-Ok-Some.ensures.told (tells_went _ _ _ _ created tells) slots mid empty nolie in
-    (sym c.in-Ok-Some.field-0-is ∙ told.0, is_result pack k depth fresh _ c.requires.pack.0 refl _ told.1)
+    (sym c.in-Ok-Some.field-0-is ∙ told.0, is_result pack k depth _ _ c.requires.pack.0 refl _ told.1)
 
 pub returns-in-Err-clause-err : goal.returns-in-Err-clause-err
 returns-in-Err-clause-err g c =
@@ -197,9 +185,5 @@ returns-in-Err-clause-told g c = λ tells slots is nolie.
     let off = lives_apart _ _ _ c.requires.ready c.requires.flat.made.lives in
     let created = c.in_ok-region.ensures.ok in
     let mid = represents_lasts pack flat (one next) _ _ created.lasts off slots is in
-    let made : Flat = record { schema = flat.schema; capacity = (k * depth) * pack; region = next } in
-    let fresh : Flat = record { schema = c.copied.result; capacity = (k * depth) * pack; region = c.in_ok-region.region } in
-    let same : made ≡ fresh = cc (c.copied.ensures, c.in_ok-region.ensures.number) in
-    let none = rw c.requires.count at (c.in_ok-region.ensures.told tells) in
-    let empty = holds_flat pack made fresh _ _ same (begins_empty pack k depth made _ c.requires.pack.0 refl slots none) in
+    let empty = made_empty _ pack k depth next _ flat.schema _ slots _ c.requires.count c.requires.pack.0 c.copied.ensures c.in_ok-region.ensures.number (c.in_ok-region.ensures.told tells) in
     inl (c.in-Err.ensures.told (tells_went _ _ _ _ created tells) slots mid empty nolie)
