@@ -14,7 +14,7 @@ ghost use Rattle.ob_row.specs.Truth.{is_true};
 ghost use Rattle.ob_blocks.specs.Blocks.{none_of};
 ghost use Rattle.ob_blocks.specs.Idle.{IsIdle};
 ghost use Rattle.ob_flat.specs.Slots.{Spelt};
-ghost use Rattle.ob_flat.specs.Flats.{IsSized, IsFlat, IsWritten, Represents, Accepts};
+ghost use Rattle.ob_flat.specs.Flats.{IsSized, FitsRegion, IsFlat, IsWritten, Represents, Accepts};
 ghost use Rattle.ob_flat.specs.Passes.{PassCut};
 ghost use Rattle.ob_hash.specs.Answers.{flat_of, overflow_of};
 
@@ -68,6 +68,7 @@ fn select_rows<S: BlockStore, R: Revisions>(
     ensures source { IsFlat (length rows.old) flat.now (at R.state vault.new (S.state store.new)) }
     ensures value { IfOk result (λ placed. flat_of placed ≡ record { schema = flat.now.schema; capacity = k * depth * length rows.old; region = vault.old.next }) }
     ensures flat { IfOk result (λ placed. IsWritten (length rows.old) (flat_of placed) (at R.state vault.new (S.state store.new))) }
+    ensures size { IfOk result (λ placed. FitsRegion (length rows.old) (flat_of placed).schema (flat_of placed).capacity) }
     ensures told { IsTrue (S.state store.old).tells → (slots : Slots) → Represents (length rows.old) flat.now slots (at R.state vault.old (S.state store.old)) → (S.state store.new).lie ≡ None
         → MatchResult result
         (λ placed. (overflow_of placed ≡ unplaced k (depth * length rows.old) (selected (is_true pred.now) slots))
@@ -134,6 +135,7 @@ pub fn select<S: BlockStore, R: Revisions>(
     ensures source { IsFlat room.old.pack flat.now (at R.state vault.new (S.state store.new)) }
     ensures value { IfOk result (λ placed. flat_of placed ≡ record { schema = flat.now.schema; capacity = k * depth * room.old.pack; region = vault.old.next }) }
     ensures flat { IfOk result (λ placed. IsWritten room.old.pack (flat_of placed) (at R.state vault.new (S.state store.new))) }
+    ensures size { IfOk result (λ placed. FitsRegion room.old.pack (flat_of placed).schema (flat_of placed).capacity) }
     ensures told { IsTrue (S.state store.old).tells → (slots : Slots) → Represents room.old.pack flat.now slots (at R.state vault.old (S.state store.old)) → (S.state store.new).lie ≡ None
         → MatchResult result
         (λ placed. (overflow_of placed ≡ unplaced k (depth * room.old.pack) (selected (is_true pred.now) slots))

@@ -187,3 +187,13 @@ returns-in-Err-clause-told g c = λ tells slots is nolie.
     let mid = represents_lasts pack flat (one next) _ _ created.lasts off slots is in
     let empty = made_empty _ pack k depth next _ flat.schema _ slots _ c.requires.count c.requires.pack.0 c.copied.ensures c.in_ok-region.ensures.number (c.in_ok-region.ensures.told tells) in
     inl (c.in-Err.ensures.told (tells_went _ _ _ _ created tells) slots mid empty nolie)
+
+pub returns-in-Ok-None-clause-size : goal.returns-in-Ok-None-clause-size
+returns-in-Ok-None-clause-size g c =
+    let fits = region_fits (length c.args.rows.now) c.args.k c.args.depth c.args.flat.now.capacity c.args.flat.now.schema c.requires.size c.requires.pack.0 c.requires.number.0 c.requires.number.1 c.requires.depth.0 c.requires.depth.1 in
+    rw c.copied.ensures fits
+
+pub returns-in-Ok-Some-clause-size : goal.returns-in-Ok-Some-clause-size
+returns-in-Ok-Some-clause-size g c =
+    let fits = region_fits (length c.args.rows.now) c.args.k c.args.depth c.args.flat.now.capacity c.args.flat.now.schema c.requires.size c.requires.pack.0 c.requires.number.0 c.requires.number.1 c.requires.depth.0 c.requires.depth.1 in
+    rw c.copied.ensures fits
