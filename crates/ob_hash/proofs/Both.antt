@@ -73,11 +73,11 @@ module _ (k n i : ℕ) (slots : Slots) (own : Option Row) where
       → last ≡ still_waits k n waits i buckets → end ≡ after_place k n waits i buckets → ShownBoth k n i slots own waits buckets
   both waits left last buckets made end one two is same =
       let mid : bucket_after n (bucket_waits n waits (spread n slots buckets) (first_bucket k i)) own (bucket_after n waits own (spread n slots buckets) (first_bucket k i)) (second_bucket k i)
-          ≡ bucket_after n left own (spread n slots made) (second_bucket k i) =
+      ≡ bucket_after n left own (spread n slots made) (second_bucket k i) =
       ap (λ (w : Bool). bucket_after n w own (bucket_after n waits own (spread n slots buckets) (first_bucket k i)) (second_bucket k i)) one.still
       ∙ ap (λ (l : Slots). bucket_after n left own l (second_bucket k i)) one.after in
       let mid_waits : bucket_waits n (bucket_waits n waits (spread n slots buckets) (first_bucket k i)) (bucket_after n waits own (spread n slots buckets) (first_bucket k i)) (second_bucket k i)
-          ≡ bucket_waits n left (spread n slots made) (second_bucket k i) =
+      ≡ bucket_waits n left (spread n slots made) (second_bucket k i) =
       ap (λ (w : Bool). bucket_waits n w (bucket_after n waits own (spread n slots buckets) (first_bucket k i)) (second_bucket k i)) one.still
       ∙ ap (λ (l : Slots). bucket_waits n left l (second_bucket k i)) one.after in
       record {

@@ -59,7 +59,7 @@ pub(crate) fn fill_bucket<S: BlockStore, R: Revisions>(
     ensures told { IsTrue (S.state store.old).tells → (slots : Slots) (own : Option Row) → HoldsSlots (length block.old) hashed.now.flat.now slots (at R.state vault.old (S.state store.old)) → Begins hashed.now.flat.now.schema own row.now → (S.state store.new).lie ≡ None
         → MatchResult result
         (λ still. (still ≡ bucket_waits (hashed.now.depth * length block.old) waits slots bucket)
-            × HoldsSlots (length block.old) hashed.now.flat.now (bucket_after (hashed.now.depth * length block.old) waits own slots bucket) (at R.state vault.new (S.state store.new)))
+        × HoldsSlots (length block.old) hashed.now.flat.now (bucket_after (hashed.now.depth * length block.old) waits own slots bucket) (at R.state vault.new (S.state store.new)))
         (λ e. e ≡ OpErr.Failed) }
 {
     let mut filling = Filling { row, waits };
@@ -99,7 +99,7 @@ pub(crate) fn fill_buckets<S: BlockStore, R: Revisions>(
         → Begins hashed.now.flat.now.schema (slot_at slots i) row.now → (IsTrue waits → IsTrue (is_some (slot_at slots i))) → (S.state store.new).lie ≡ None
         → MatchResult result
         (λ still. (still ≡ still_waits hashed.now.k (hashed.now.depth * length block.old) waits i buckets)
-            × HoldsSlots (length block.old) hashed.now.flat.now (spread (hashed.now.depth * length block.old) slots (after_place hashed.now.k (hashed.now.depth * length block.old) waits i buckets)) (at R.state vault.new (S.state store.new)))
+        × HoldsSlots (length block.old) hashed.now.flat.now (spread (hashed.now.depth * length block.old) slots (after_place hashed.now.k (hashed.now.depth * length block.old) waits i buckets)) (at R.state vault.new (S.state store.new)))
         (λ e. e ≡ OpErr.Failed) }
 {
     let first = first_bucket(hashed.k, i);

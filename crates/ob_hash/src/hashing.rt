@@ -59,7 +59,7 @@ pub(crate) fn hash_blocks<S: BlockStore, R: Revisions>(
         → HoldsSlots (length rows.old) hashed.now.flat.now (spread (hashed.now.depth * length rows.old) slots (replicate hashed.now.k [])) (at R.state vault.old (S.state store.old)) → (S.state store.new).lie ≡ None
         → MatchResult result
         (λ first. (first ≡ unplaced hashed.now.k (hashed.now.depth * length rows.old) (selected (is_true pred.now) slots))
-            × HoldsSlots (length rows.old) hashed.now.flat.now (hash_slots hashed.now.k (hashed.now.depth * length rows.old) (is_true pred.now) slots) (at R.state vault.new (S.state store.new)))
+        × HoldsSlots (length rows.old) hashed.now.flat.now (hash_slots hashed.now.k (hashed.now.depth * length rows.old) (is_true pred.now) slots) (at R.state vault.new (S.state store.new)))
         (λ e. e ≡ OpErr.Failed) }
 {
     let pack = rows.len() as u32;

@@ -90,7 +90,7 @@ pub(crate) fn place_rows<S: BlockStore, R: Revisions>(
         → (S.state store.new).lie ≡ None
         → MatchResult result
         (λ unplaced. (unplaced ≡ unplaced_of hashed.now.k (hashed.now.depth * length block.old) (is_true pred.now) slots (u * length block.old + slots_in (length block.old) flat.now.capacity u))
-            × HoldsSlots (length block.old) hashed.now.flat.now (spread (hashed.now.depth * length block.old) slots (buckets_of hashed.now.k (hashed.now.depth * length block.old) (is_true pred.now) slots (u * length block.old + slots_in (length block.old) flat.now.capacity u))) (at R.state vault.new (S.state store.new)))
+        × HoldsSlots (length block.old) hashed.now.flat.now (spread (hashed.now.depth * length block.old) slots (buckets_of hashed.now.k (hashed.now.depth * length block.old) (is_true pred.now) slots (u * length block.old + slots_in (length block.old) flat.now.capacity u))) (at R.state vault.new (S.state store.new)))
         (λ e. e ≡ OpErr.Failed) }
 {
     let malformed = OpErr::Tampered {

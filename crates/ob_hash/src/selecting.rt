@@ -72,7 +72,7 @@ fn select_rows<S: BlockStore, R: Revisions>(
     ensures told { IsTrue (S.state store.old).tells → (slots : Slots) → Represents (length rows.old) flat.now slots (at R.state vault.old (S.state store.old)) → (S.state store.new).lie ≡ None
         → MatchResult result
         (λ placed. (overflow_of placed ≡ unplaced k (depth * length rows.old) (selected (is_true pred.now) slots))
-            × Represents (length rows.old) (flat_of placed) (hash_slots k (depth * length rows.old) (is_true pred.now) slots) (at R.state vault.new (S.state store.new)))
+        × Represents (length rows.old) (flat_of placed) (hash_slots k (depth * length rows.old) (is_true pred.now) slots) (at R.state vault.new (S.state store.new)))
         (λ e. (e ≡ OpErr.Failed) ⊎ (e ≡ OpErr.NoMemory)) }
 {
     let capacity = k * depth * rows.len() as u32;
@@ -139,7 +139,7 @@ pub fn select<S: BlockStore, R: Revisions>(
     ensures told { IsTrue (S.state store.old).tells → (slots : Slots) → Represents room.old.pack flat.now slots (at R.state vault.old (S.state store.old)) → (S.state store.new).lie ≡ None
         → MatchResult result
         (λ placed. (overflow_of placed ≡ unplaced k (depth * room.old.pack) (selected (is_true pred.now) slots))
-            × Represents room.old.pack (flat_of placed) (hash_slots k (depth * room.old.pack) (is_true pred.now) slots) (at R.state vault.new (S.state store.new)))
+        × Represents room.old.pack (flat_of placed) (hash_slots k (depth * room.old.pack) (is_true pred.now) slots) (at R.state vault.new (S.state store.new)))
         (λ e. (e ≡ OpErr.Failed) ⊎ (e ≡ OpErr.NoMemory)) }
 {
     let pack = room.pack();

@@ -117,8 +117,12 @@ loop-y-preserved g c =
           let made : told.0 ≡ filled_with later own (block_at pack all place) =
           fills.after ∙ ap (λ (b : Bool). filled_with b fills.own (block_at pack all place)) was.1 ∙ ap (λ (o : Option Row). filled_with later o (block_at pack all place)) same_own in
           let inside : place * pack ≤ length slots =
-          omega (arith, is.size, ap (λ (n : ℕ). n * pack) (blocks_of pack hashed c.requires.hashed c.requires.pack.0),
-          product_within place (hashed.k * hashed.depth) pack (omega (arith, place_in hashed.k hashed.depth c.args.bucket y c.requires.bucket c.loop-y-test.true))) in (
+          omega (
+            arith,
+            is.size,
+            ap (λ (n : ℕ). n * pack) (blocks_of pack hashed c.requires.hashed c.requires.pack.0),
+            product_within place (hashed.k * hashed.depth) pack (omega (arith, place_in hashed.k hashed.depth c.args.bucket y c.requires.bucket c.loop-y-test.true)),
+          ) in (
             fills.row ∙ was.0,
             fills.waits ∙ ap (λ (b : Bool). waits_after b (block_at pack all place)) was.1 ∙ waits_next pack first y waits own slots inside,
             holds_alike pack flat _ _ _ (ap (λ (l : Slots). with_block pack all place l) made ∙ shown_next pack first y waits own slots inside) holds,

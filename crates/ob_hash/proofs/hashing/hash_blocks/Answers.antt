@@ -39,9 +39,9 @@ loop-u-init g c =
       block = same_rows c.args.block.now;
       open_now = c.requires.open;
       told = λ tells slots is empty nolie. (
-          ap (unplaced_of hashed.k n p slots) none,
-          holds_alike pack hashed.flat.now _ _ _ (ap (λ (m : ℕ). spread n slots (buckets_of hashed.k n p slots m)) none) empty,
-        );
+        ap (unplaced_of hashed.k n p slots) none,
+        holds_alike pack hashed.flat.now _ _ _ (ap (λ (m : ℕ). spread n slots (buckets_of hashed.k n p slots m)) none) empty,
+      );
     }
 
 pub get-requires-clause-spare : goal.get-requires-clause-spare

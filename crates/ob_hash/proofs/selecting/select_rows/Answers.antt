@@ -54,17 +54,29 @@ returns-in_err-region-clause-source g c =
 pub hash_blocks-requires-clause-spare : goal.hash_blocks-requires-clause-spare
 hash_blocks-requires-clause-spare g c =
     let blocks = blocks_for (length c.args.block.now) ((c.args.k * c.args.depth) * length c.args.rows.now) in
-    omega (arith, c.requires.spare, c.in_ok-region.ensures.ok.spare, length-create_part c.args.vault.now.next blocks (length c.args.block.now * width c.args.flat.now.schema),
-    blocks_are c.args.k c.args.depth (length c.args.rows.now) (length c.args.block.now) c.requires.count c.requires.pack.0)
+    omega (
+      arith,
+      c.requires.spare,
+      c.in_ok-region.ensures.ok.spare,
+      length-create_part c.args.vault.now.next blocks (length c.args.block.now * width c.args.flat.now.schema),
+      blocks_are c.args.k c.args.depth (length c.args.rows.now) (length c.args.block.now) c.requires.count c.requires.pack.0,
+    )
 
 pub hash_blocks-requires-clause-few : goal.hash_blocks-requires-clause-few
 hash_blocks-requires-clause-few g c =
     let flat = c.args.flat.now in
     let blocks = blocks_for (length c.args.block.now) ((c.args.k * c.args.depth) * length c.args.rows.now) in
-    omega (arith, c.requires.few, went_length _ _ _ _ c.in_ok-region.ensures.ok, length-create_part c.args.vault.now.next blocks (length c.args.block.now * width flat.schema),
-    blocks_are c.args.k c.args.depth (length c.args.rows.now) (length c.args.block.now) c.requires.count c.requires.pack.0,
-    buckets_few c.args.k c.args.depth (omega (arith, c.requires.number.1, c.requires.size.most)) c.requires.depth.1,
-    accesses_few c.args.depth flat.capacity c.requires.depth.1 c.requires.size.most, blocks_few (length c.args.rows.now) flat.capacity c.requires.pack.0, c.requires.size.most)
+    omega (
+      arith,
+      c.requires.few,
+      went_length _ _ _ _ c.in_ok-region.ensures.ok,
+      length-create_part c.args.vault.now.next blocks (length c.args.block.now * width flat.schema),
+      blocks_are c.args.k c.args.depth (length c.args.rows.now) (length c.args.block.now) c.requires.count c.requires.pack.0,
+      buckets_few c.args.k c.args.depth (omega (arith, c.requires.number.1, c.requires.size.most)) c.requires.depth.1,
+      accesses_few c.args.depth flat.capacity c.requires.depth.1 c.requires.size.most,
+      blocks_few (length c.args.rows.now) flat.capacity c.requires.pack.0,
+      c.requires.size.most,
+    )
 
 pub hash_blocks-requires-clause-flat : goal.hash_blocks-requires-clause-flat
 hash_blocks-requires-clause-flat g c =
