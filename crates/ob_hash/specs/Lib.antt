@@ -1,0 +1,5 @@
+pub mod Waiting
+pub mod Filling
+pub mod Bucketed
+pub mod Hashing
+pub mod Answers

@@ -1,0 +1,16 @@
+use Rattle.std.proofs.Common.{◌≡◌}
+use Rattle.ob_vault.specs.Tied.{Ready}
+use Rattle.ob_vault.specs.Places.{at}
+use Rattle.ob_flat.specs.Flats.{IsFlat}
+use Rattle.ob_hash_tests.proofs.tests.insert_rows.Given as goal
+
+abbrev pub invariant-loop-id : goal.invariant-loop-id
+invariant-loop-id g l =
+    let now = at g.R.Revisions.state l.vault (g.S.BlockStore.state l.store) in
+    record {
+      ready : Ready now;
+      flat : IsFlat l.initial.room.pack l.flat now;
+      schema : l.flat.schema ≡ l.initial.flat.schema;
+      capacity : l.flat.capacity ≡ l.initial.flat.capacity;
+      room : l.room ≡ record l.initial.room { high = l.room.high };
+    }
