@@ -17,18 +17,17 @@ use ob_flat::{Counted, Flat, count, create, discard};
 use ob_mutate::{delete, insert};
 use ob_room::Room;
 use ob_row::{Cell, Operand, Order, Pred};
-use ob_seal::{At, Keys, unseal};
+use ob_seal::Keys;
 use ob_store::{BlockStore, MemStore};
-use ob_test_stores::KeepingStore;
 use ob_vault::{BaseRevs, Revisions, Vault};
 use std::alloc::Global;
 use std::process::Abort;
 
 // The first cells of the rows that were emitted.
 #[derive(Clone, Copy, Debug, PartialEq, Eq)]
-struct Ids {
-    ids: [i128; 4],
-    rows: usize,
+pub(crate) struct Ids {
+    pub(crate) ids: [i128; 4],
+    pub(crate) rows: usize,
 }
 
 impl Emit for Ids {
@@ -212,7 +211,7 @@ fn change_rows<S: BlockStore, R: Revisions>(
 }
 
 #[derive(Clone, Copy, Debug, PartialEq, Eq)]
-enum Operator {
+pub(crate) enum Operator {
     Small,
     Large,
 }
@@ -220,14 +219,14 @@ enum Operator {
 // What the selection of a table of four slots asks and gives: how many rows are counted, how many are
 // asked for, the first cells of those that come, and the accesses from the one of an index on.
 #[derive(Drop)]
-struct Case<'a> {
-    operator: Operator,
-    pred: &'a Pred,
-    counted: u32,
-    k: u32,
-    ids: Ids,
-    from: u64,
-    wanted: &'a [(u8, u64, u32, u32)],
+pub(crate) struct Case<'a> {
+    pub(crate) operator: Operator,
+    pub(crate) pred: &'a Pred,
+    pub(crate) counted: u32,
+    pub(crate) k: u32,
+    pub(crate) ids: Ids,
+    pub(crate) from: u64,
+    pub(crate) wanted: &'a [(u8, u64, u32, u32)],
 }
 
 // The result of a case's operator.
@@ -301,7 +300,7 @@ fn select_emit<S: BlockStore, R: Revisions>(
 }
 
 // A table with these rows, of which some are deleted and others inserted.
-fn session<S: BlockStore, R: Revisions>(
+pub(crate) fn session<S: BlockStore, R: Revisions>(
     rt: &impl Abort,
     store: &mut S,
     mut vault: Vault<R>,
@@ -324,7 +323,7 @@ fn session<S: BlockStore, R: Revisions>(
     select_emit(rt, store, &mut vault, &mut room, &flat, case);
 }
 
-fn in_memory(
+pub(crate) fn in_memory(
     rt: &impl Abort,
     alloc: Global,
     buffer: u32,
@@ -343,11 +342,11 @@ fn in_memory(
     session(rt, &mut store, vault, room, rows, changes, case);
 }
 
-fn equals(place: u8, x: i64) -> Pred {
+pub(crate) fn equals(place: u8, x: i64) -> Pred {
     Pred::compare(place, Order::Equal, Operand::Cell(Cell::Int(x)))
 }
 
-const FOUR_ROWS: [(i64, i64); 4] = [(1, 10), (2, 20), (3, 10), (4, 20)];
+pub(crate) const FOUR_ROWS: [(i64, i64); 4] = [(1, 10), (2, 20), (3, 10), (4, 20)];
 
 // A table with these rows is counted, and nothing else is asked.
 fn count_rows(rt: &impl Abort, alloc: Global, pack: u32, pred: &Pred, wanted: Counted, from: u32)
@@ -731,167 +730,4 @@ fn takes_the_number_as_given(rt: HostRuntime) {
             ],
         },
     );
-}
-
-// The rows stay in their slots, in both passes.
-#[test]
-fn large_keeps_the_slots(rt: HostRuntime) {
-    in_memory(
-        &rt,
-        rt.alloc(),
-        4,
-        1,
-        &FOUR_ROWS,
-        None,
-        &Case {
-            operator: Operator::Large,
-            pred: &equals(1, 10),
-            counted: 2,
-            k: 2,
-            ids: Ids {
-                ids: [1, 3, 0, 0],
-                rows: 2,
-            },
-            from: 61,
-            wanted: &[
-                (b'R', 5, 0, 0),
-                (b'R', 5, 1, 0),
-                (b'R', 5, 2, 0),
-                (b'R', 5, 3, 0),
-                (b'M', 6, 4, 49),
-                (b'R', 5, 0, 0),
-                (b'W', 6, 0, 0),
-                (b'R', 5, 1, 0),
-                (b'W', 6, 1, 0),
-                (b'R', 5, 2, 0),
-                (b'W', 6, 2, 0),
-                (b'R', 5, 3, 0),
-                (b'W', 6, 3, 0),
-                (b'R', 6, 0, 0),
-                (b'W', 6, 0, 0),
-                (b'R', 6, 1, 0),
-                (b'W', 6, 1, 0),
-                (b'R', 6, 2, 0),
-                (b'W', 6, 2, 0),
-                (b'R', 6, 3, 0),
-                (b'W', 6, 3, 0),
-                (b'R', 6, 0, 0),
-                (b'R', 6, 1, 0),
-                (b'R', 6, 2, 0),
-                (b'R', 6, 3, 0),
-                (b'D', 6, 0, 0),
-            ],
-        },
-    );
-}
-
-// Blocks of two and of three rows; what is selected changes no access.
-#[test]
-fn large_in_packs(rt: HostRuntime) {
-    in_memory(
-        &rt,
-        rt.alloc(),
-        7,
-        2,
-        &FOUR_ROWS,
-        None,
-        &Case {
-            operator: Operator::Large,
-            pred: &equals(1, 10),
-            counted: 2,
-            k: 2,
-            ids: Ids {
-                ids: [1, 3, 0, 0],
-                rows: 2,
-            },
-            from: 35,
-            wanted: &[
-                (b'R', 5, 0, 0),
-                (b'R', 5, 1, 0),
-                (b'M', 6, 2, 66),
-                (b'R', 5, 0, 0),
-                (b'W', 6, 0, 0),
-                (b'R', 5, 1, 0),
-                (b'W', 6, 1, 0),
-                (b'R', 6, 0, 0),
-                (b'W', 6, 0, 0),
-                (b'R', 6, 1, 0),
-                (b'W', 6, 1, 0),
-                (b'R', 6, 0, 0),
-                (b'R', 6, 1, 0),
-                (b'D', 6, 0, 0),
-            ],
-        },
-    );
-    in_memory(
-        &rt,
-        rt.alloc(),
-        13,
-        3,
-        &FOUR_ROWS,
-        None,
-        &Case {
-            operator: Operator::Large,
-            pred: &equals(0, 3),
-            counted: 1,
-            k: 1,
-            ids: Ids {
-                ids: [3, 0, 0, 0],
-                rows: 1,
-            },
-            from: 37,
-            wanted: &[
-                (b'M', 6, 2, 83),
-                (b'R', 5, 0, 0),
-                (b'W', 6, 0, 0),
-                (b'R', 5, 1, 0),
-                (b'W', 6, 1, 0),
-                (b'R', 6, 0, 0),
-                (b'W', 6, 0, 0),
-                (b'R', 6, 1, 0),
-                (b'W', 6, 1, 0),
-                (b'R', 6, 0, 0),
-                (b'R', 6, 1, 0),
-                (b'D', 6, 0, 0),
-            ],
-        },
-    );
-}
-
-// Each write of the Large operator has the number of all writes up to it: those of its first pass, after
-// the twenty of the table and its rows, are followed by those of its second.
-#[test]
-fn each_write_of_large_has_its_number(rt: HostRuntime) {
-    let a = rt.alloc();
-    let inner = MemStore::new(a);
-    let mut store = KeepingStore::new(a, inner);
-    let vault: Vault<BaseRevs> = Vault::new(a, Keys::derive(&[0; 32]));
-    let room = Room::new(a, 4, 1024, 1).expect(&rt, "rows");
-    let case = Case {
-        operator: Operator::Large,
-        pred: &equals(1, 10),
-        counted: 2,
-        k: 2,
-        ids: Ids {
-            ids: [1, 3, 0, 0],
-            rows: 2,
-        },
-        from: 87,
-        wanted: &[],
-    };
-    session(&rt, &mut store, vault, room, &FOUR_ROWS, None, &case);
-    let keys = Keys::derive(&[0; 32]);
-    assert_eq!(rt; store.written().len(), 28);
-    for (number, (region, place, block)) in (1..=28).zip(store.written()) {
-        let at = At {
-            region: *region,
-            place: *place,
-            number,
-        };
-        let mut row = [9; 17];
-        assert!(rt; unseal(&keys, at, block, &mut row).is_ok());
-        if number > 20 {
-            assert_eq!(rt; (*region, u64::from(*place)), (6, (number - 21) % 4));
-        }
-    }
 }
