@@ -1,7 +1,6 @@
 -- The numbers of accesses, and of chunks.
 use Rattle.std.proofs.Common.{◌≡◌, ◌≤◌, ◌<◌, ◌+◌, ◌-◌, ◌*◌, ℕ, zero, suc, min, length, ◌∙◌, ap, arith, length-append}
 use Rattle.std.specs.Int.{div_ceil}
-use Rattle.std.proofs.lemmas.Grind.{div_ceil_times}
 use Rattle.ob_base.specs.Lists.{each}
 use Rattle.ob_script.specs.Parts.{read_from, pair_at, join_chunk}
 use Rattle.ob_join.proofs.Windows.{reads_from}
@@ -36,9 +35,6 @@ taken lefts q j n k same is = is ∙ ap (λ (m : ℕ). min q (m - j * q)) same
 -- all chunks
 pub all_chunks : (lefts q j n end : ℕ) → n ≡ lefts → end ≡ div_ceil n q → end ≤ j → j ≤ end → j ≡ div_ceil lefts q
 all_chunks lefts q j n end same is past within = omega (arith, past, within, is ∙ ap (λ (k : ℕ). div_ceil k q) same)
-
-pub chunks_reach : (lefts q : ℕ) → 1 ≤ q → lefts ≤ div_ceil lefts q * q
-chunks_reach lefts q some = (div_ceil_times lefts q (omega arith)).0
 
 pub next_chunk : (j n : ℕ) → j * n + n ≡ (j + 1) * n
 next_chunk j n = grind arith

@@ -41,12 +41,9 @@ pub blocks_are : (pack left right q a c b : ℕ) → 1 ≤ pack → a ≡ div_ce
 blocks_are pack left right q a c b some lefts chunked rights =
     ap (blocks_for pack) (capacity_is pack left right q a c b lefts chunked rights) ∙ whole_product (div_ceil (blocks_for pack left) q * blocks_for pack right) pack some
 
--- the rows of either table are no wider than the joined ones
+-- a left row is no wider than a joined one
 pub left_narrow : (l r : Columns) → width l ≤ width (l ++ r)
 left_narrow l r = omega (arith, width-join l r)
-
-pub right_narrow : (l r : Columns) → width r ≤ width (l ++ r)
-right_narrow l r = omega (arith, width-join l r)
 
 -- the slots of all chunks, by the tables' capacities
 pub joined_is : (i j pack room n m : ℕ) (left right : Slots) → length left ≡ n → length right ≡ m
