@@ -1,5 +1,5 @@
 -- The key of a group and its totals, in the bytes that hold them.
-use Rattle.std.proofs.Common.{◌≡◌, ◌≤◌, ◌*◌, ℕ, List, [], ◌∷◌, ◌++◌, length, take, drop, Option, Some, refl, sym, ◌∙◌, ap, subst, arith, length-append}
+use Rattle.std.proofs.Common.{◌≡◌, ◌≤◌, ◌*◌, ℕ, List, [], ◌∷◌, ◌++◌, length, take, drop, Some, refl, ◌∙◌, ap, arith, length-append}
 use Rattle.std.proofs.lemmas.List.{take_at, drop_at, length-map}
 use Rattle.ob_base.specs.declared.schema.Kind.{Kind}
 use Rattle.ob_base.specs.Schemas.{kind_width}
@@ -7,7 +7,7 @@ use Rattle.ob_row.specs.declared.aggregate.Item.{Item}
 use Rattle.ob_row.specs.declared.cell.Cell.{Cell}
 use Rattle.ob_row.specs.Spelling.{FitsKind, cell_bytes}
 use Rattle.ob_row.specs.Fields.{HoldsCell}
-use Rattle.ob_row.proofs.SpellingLemmas.{length-cell_bytes, cell_bytes-same}
+use Rattle.ob_row.proofs.SpellingLemmas.{length-cell_bytes}
 use Rattle.ob_group.specs.Running.{Sums, start, starts}
 use Rattle.ob_group.specs.Grouping.{Group, agg_of, aggs_of}
 use Rattle.ob_group.specs.Held.{total_bytes, totals_bytes, HoldTotals, HoldsKey, HoldsGroup}

@@ -1,7 +1,6 @@
-use Rattle.std.proofs.Common.{◌≡◌, ◌<◌, ℕ, true, false, List, length, sym, ◌∙◌, ap, subst, arith, below_more}
+use Rattle.std.proofs.Common.{sym, ◌∙◌, ap, subst, arith, below_more}
 use Rattle.ob_row.specs.declared.cell.Cell.{Cell}
 use Rattle.ob_row.specs.Rows.{cell_eq}
-use Rattle.ob_vault.specs.Rows.{row_at}
 use Rattle.ob_vault.proofs.RowsLemmas.{same_at}
 use Rattle.ob_group.specs.Held.{HoldsKey}
 use Rattle.ob_group.proofs.groups.place.Goals as goal

@@ -1,15 +1,14 @@
-use Rattle.std.proofs.Common.{rules, ◌≡◌, ◌<◌, ◌≤◌, ◌+◌, ℕ, List, Option, Some, length, slice_index_or, slice_set, sym, ◌∙◌, ap, subst, arith}
+use Rattle.std.proofs.Common.{◌≡◌, ◌<◌, ◌≤◌, Option, Some, length, slice_index_or, sym, subst, arith}
 use Rattle.std.specs.Prelude.{slice_get}
 use Rattle.ob_base.specs.declared.schema.Kind.{Kind}
 use Rattle.ob_row.specs.declared.cell.Cell.{Cell}
 use Rattle.ob_row.specs.Rows.{cell_at}
 use Rattle.ob_row.specs.Spelling.{FitsKind}
 use Rattle.ob_vault.specs.Rows.{row_at}
-use Rattle.ob_vault.proofs.RowsLemmas.{same_at}
 use Rattle.ob_flat.proofs.Rows.{row_is}
 use Rattle.ob_group.specs.Running.{starts, grown_all}
-use Rattle.ob_group.specs.Grouping.{Group, aggs_of, group_with, group_by, put_row}
-use Rattle.ob_group.specs.Held.{HoldsKey, HoldsGroup, AreGroups, kind_at, no_group}
+use Rattle.ob_group.specs.Grouping.{aggs_of}
+use Rattle.ob_group.specs.Held.{HoldsKey, HoldsGroup, kind_at, no_group}
 use Rattle.ob_group.proofs.GroupBytes.{holds_key, holds_more}
 use Rattle.ob_group.proofs.Putting.{fits_at, groups_past, groups_old, groups_new, groups_full}
 use Rattle.ob_group.proofs.groups.put_row.Goals as goal
