@@ -10,7 +10,7 @@ use Rattle.ob_row.specs.Rows.{Row, agree_at, cell_at, cell_eq, options_eq}
 use Rattle.ob_row.specs.declared.cell.Cell.{Cell}
 use Rattle.ob_row.specs.declared.cell.Cell.TheVariants.{Int, Text}
 
-cell_eq-same : (x y : Cell) → cell_eq x y ≡ true → x ≡ y
+pub cell_eq-same : (x y : Cell) → cell_eq x y ≡ true → x ≡ y
 cell_eq-same (Int x) (Int y) h = ap Int ((Decides-int_eq x y).0 h)
 cell_eq-same (Int x) (Text t) h = cc
 cell_eq-same (Text s) (Int y) h = cc

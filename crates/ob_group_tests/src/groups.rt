@@ -15,7 +15,7 @@ use crate::emitter::Wanted;
 use crate::tests::{FOUR, check_reads, id_and_text, insert_rows, two_ints};
 use ob_base::{EmitErr, Shown, Text};
 use ob_flat::{Flat, OpErr, create};
-use ob_group::{Grouped, group};
+use ob_group::{Grouped, agg_label, group};
 use ob_mutate::{Inserted, insert};
 use ob_room::Room;
 use ob_row::{Agg, Cell, Item, Operand, Order, Pred};
@@ -325,6 +325,22 @@ fn stopped_emitter(rt: HostRuntime) {
     }
 }
 
+// Each aggregate by its name, and its column's.
+#[test]
+fn labels_of_aggregates(rt: HostRuntime) {
+    let schema = two_ints();
+    let labels: [(Agg, &[u8]); 5] = [
+        (Agg::CountAll, b"COUNT(*)"),
+        (Agg::Count(0), b"COUNT(id)"),
+        (Agg::Sum(1), b"SUM(v)"),
+        (Agg::Min(1), b"MIN(v)"),
+        (Agg::Max(1), b"MAX(v)"),
+    ];
+    for (agg, label) in &labels {
+        assert_eq!(rt; agg_label(&schema, agg).as_bytes(), *label);
+    }
+}
+
 fn insert_text<S: BlockStore, R: Revisions>(
     rt: &impl Abort,
     store: &mut S,
@@ -352,6 +368,13 @@ fn insert_text<S: BlockStore, R: Revisions>(
     let found = insert(store, vault, room, flat, &cells).expect(rt, "insert");
     assert_eq!(rt; found, Inserted::Done);
 }
+
+const OF_TEXTS: [Item; 4] = [
+    Item::Key,
+    Item::Agg(Agg::Count(1)),
+    Item::Agg(Agg::Max(1)),
+    Item::Agg(Agg::Max(0)),
+];
 
 // Texts as keys; a column of them has no integers.
 fn texts<S: BlockStore, R: Revisions>(
@@ -395,14 +418,8 @@ fn texts<S: BlockStore, R: Revisions>(
         fault: EmitErr::Failed,
         faults: 0,
     };
-    let items = [
-        Item::Key,
-        Item::Agg(Agg::Count(1)),
-        Item::Agg(Agg::Max(1)),
-        Item::Agg(Agg::Max(0)),
-    ];
     let answer = group(
-        store, &mut vault, &mut room, &flat, &Pred::all(), 1, &items, &mut out,
+        store, &mut vault, &mut room, &flat, &Pred::all(), 1, &OF_TEXTS, &mut out,
     );
     assert_eq!(rt; answer, Ok(Grouped::Groups(2)));
     assert!(rt; out.is_same);

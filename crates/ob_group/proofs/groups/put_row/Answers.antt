@@ -34,6 +34,12 @@ add-requires-clause-held c =
     let there = subst (HoldsGroup (kind_at c.args.schema.now c.args.key) 2147483648 (length c.args.items.now) g) (sym (row_is c.args.groups.now i c.index-groups-i.result inside)) one in
     (g, subst (λ (k : Kind). HoldsGroup k 2147483648 (length c.args.items.now) g (slice_index_or c.args.groups.now i c.index-groups-i.result)) (sym c.kind_at-kind.ensures) there)
 
+pub place-i-requires-clause-fits : goal.place-i-requires-clause-fits
+place-i-requires-clause-fits c =
+    let real = c.requires.real in
+    let is : slice_get real.0 c.args.key ≡ Some c.in_ok-cell.cell = c.in_ok-cell.ensures.cell real.0 real.1 in
+    subst (λ (k : Kind). FitsKind k c.in_ok-cell.cell) (sym c.kind_at-kind.ensures) (fits_at c.args.schema.now real.0 c.args.key c.in_ok-cell.cell real.1.fits is)
+
 pub start-requires-clause-fits : goal.start-requires-clause-fits
 start-requires-clause-fits c =
     let real = c.requires.real in
