@@ -60,9 +60,7 @@ fn session<S: BlockStore, R: Revisions>(
     store.room(100_000_000).expect(rt, "room");
     assert!(rt; store.count() < 1);
     let mut flat = create(store, &mut vault, &mut room, &schema, 4).expect(rt, "create");
-    insert_rows(
-        rt, store, &mut vault, &mut room, &mut flat, case.rows,
-    );
+    insert_rows(rt, store, &mut vault, &mut room, &mut flat, case.rows);
     store.room(100_000_000).expect(rt, "room");
     let from = store.count();
     let mut out = Wanted {
@@ -84,14 +82,7 @@ fn session<S: BlockStore, R: Revisions>(
     check_reads(rt, store, from, flat.region, blocks);
 }
 
-fn in_memory(
-    rt: &impl Abort,
-    alloc: Global,
-    buffer: u32,
-    pack: u32,
-    blocks: u32,
-    case: &Case<'_>,
-)
+fn in_memory(rt: &impl Abort, alloc: Global, buffer: u32, pack: u32, blocks: u32, case: &Case<'_>)
     requires pack { (1 ≤ pack) × (pack ≤ 16) }
     requires buffer { 3 * pack + 1 ≤ buffer }
     requires key { case.now.key < 2 }
@@ -114,11 +105,7 @@ fn in_packs(rt: &impl Abort, alloc: Global, case: &Case<'_>)
     in_memory(rt, alloc, 7, 2, 2, case);
 }
 
-const COUNTED: [Item; 3] = [
-    Item::Key,
-    Item::Agg(Agg::CountAll),
-    Item::Agg(Agg::Sum(0)),
-];
+const COUNTED: [Item; 3] = [Item::Key, Item::Agg(Agg::CountAll), Item::Agg(Agg::Sum(0))];
 
 #[test]
 fn two_groups(rt: HostRuntime) {
@@ -219,10 +206,19 @@ fn of_great_sums(rt: HostRuntime) {
         &rt,
         rt.alloc(),
         &Case {
-            rows: &[(i64::MAX, 1), (i64::MIN, 2), (i64::MAX - 1, 1), (i64::MIN + 1, 2)],
+            rows: &[
+                (i64::MAX, 1),
+                (i64::MIN, 2),
+                (i64::MAX - 1, 1),
+                (i64::MIN + 1, 2),
+            ],
             pred: &Pred::all(),
             key: 1,
-            items: &[Item::Agg(Agg::Sum(0)), Item::Agg(Agg::Count(0)), Item::Agg(Agg::Sum(0))],
+            items: &[
+                Item::Agg(Agg::Sum(0)),
+                Item::Agg(Agg::Count(0)),
+                Item::Agg(Agg::Sum(0)),
+            ],
             labels: &[b"SUM(id)", b"COUNT(id)", b"SUM(id)"],
             wanted: &[
                 &[
@@ -419,7 +415,14 @@ fn texts<S: BlockStore, R: Revisions>(
         faults: 0,
     };
     let answer = group(
-        store, &mut vault, &mut room, &flat, &Pred::all(), 1, &OF_TEXTS, &mut out,
+        store,
+        &mut vault,
+        &mut room,
+        &flat,
+        &Pred::all(),
+        1,
+        &OF_TEXTS,
+        &mut out,
     );
     assert_eq!(rt; answer, Ok(Grouped::Groups(2)));
     assert!(rt; out.is_same);
