@@ -63,16 +63,7 @@ fn session<S: BlockStore, R: Revisions>(
     insert_rows(rt, store, &mut vault, &mut room, &mut flat, case.rows);
     store.room(100_000_000).expect(rt, "room");
     let from = store.count();
-    let mut out = Wanted {
-        labels: case.labels,
-        rows: case.wanted,
-        is_same: true,
-        heads: 0,
-        count: 0,
-        calls: case.calls,
-        fault: case.fault,
-        faults: 0,
-    };
+    let mut out = Wanted::new(case.labels, case.wanted, case.calls, case.fault);
     let answer = group(
         store, &mut vault, &mut room, &flat, case.pred, case.key, case.items, &mut out,
     );
@@ -391,29 +382,22 @@ fn texts<S: BlockStore, R: Revisions>(
     insert_text(rt, store, &mut vault, &mut room, &mut flat, 2, b"");
     insert_text(rt, store, &mut vault, &mut room, &mut flat, 3, b"bcde");
     store.room(100_000_000).expect(rt, "room");
-    let mut out = Wanted {
-        labels: &[b"s", b"COUNT(s)", b"MAX(s)", b"MAX(id)"],
-        rows: &[
-            &[
-                Shown::Text(Text::from_bytes(b"bcde")),
-                Shown::Int(2),
-                Shown::Null,
-                Shown::Int(3),
-            ],
-            &[
-                Shown::Text(Text::from_bytes(b"")),
-                Shown::Int(1),
-                Shown::Null,
-                Shown::Int(2),
-            ],
+    let wanted: [&[Shown]; 2] = [
+        &[
+            Shown::Text(Text::from_bytes(b"bcde")),
+            Shown::Int(2),
+            Shown::Null,
+            Shown::Int(3),
         ],
-        is_same: true,
-        heads: 0,
-        count: 0,
-        calls: 9,
-        fault: EmitErr::Failed,
-        faults: 0,
-    };
+        &[
+            Shown::Text(Text::from_bytes(b"")),
+            Shown::Int(1),
+            Shown::Null,
+            Shown::Int(2),
+        ],
+    ];
+    let labels: [&[u8]; 4] = [b"s", b"COUNT(s)", b"MAX(s)", b"MAX(id)"];
+    let mut out = Wanted::new(&labels, &wanted, 9, EmitErr::Failed);
     let answer = group(
         store,
         &mut vault,
