@@ -1,5 +1,5 @@
 -- The key of a group and its totals, in the bytes that hold them.
-use Rattle.std.proofs.Common.{◌≡◌, ◌≤◌, ◌*◌, ℕ, List, [], ◌∷◌, ◌++◌, length, take, drop, Option, Some, refl, sym, ◌∙◌, ap, subst, arith, length-append}
+use Rattle.std.proofs.Common.{◌≡◌, ◌≤◌, ◌*◌, ℕ, true, false, List, [], ◌∷◌, ◌++◌, length, take, drop, Some, refl, sym, ◌∙◌, subst, ap, arith, length-append}
 use Rattle.std.proofs.lemmas.List.{take_at, drop_at, length-map}
 use Rattle.ob_base.specs.declared.schema.Kind.{Kind}
 use Rattle.ob_base.specs.Schemas.{kind_width}
@@ -7,10 +7,12 @@ use Rattle.ob_row.specs.declared.aggregate.Item.{Item}
 use Rattle.ob_row.specs.declared.cell.Cell.{Cell}
 use Rattle.ob_row.specs.Spelling.{FitsKind, cell_bytes}
 use Rattle.ob_row.specs.Fields.{HoldsCell}
+use Rattle.ob_row.specs.Rows.{cell_eq}
 use Rattle.ob_row.proofs.SpellingLemmas.{length-cell_bytes, cell_bytes-same}
 use Rattle.ob_group.specs.Running.{Sums, start, starts}
 use Rattle.ob_group.specs.Grouping.{Group, agg_of, aggs_of}
 use Rattle.ob_group.specs.Held.{total_bytes, totals_bytes, HoldTotals, HoldsKey, HoldsGroup}
+use Rattle.ob_group.proofs.Heads.{cell_eq-same, cell_eq-refl, is_false}
 use Rattle.ob_group.proofs.Bounds.{starts_up_to, up_to_more}
 
 length-totals : (ts : Sums) → length (totals_bytes ts) ≡ 16 * length ts
@@ -80,3 +82,13 @@ started kind x items front fields behind fits key totals = record {
 -- a row that was written whole
 pub written : (old new : List ℕ) → length new ≡ length old → take (length old) (new ++ drop (length new) old) ≡ new
 written old new same = take_at new (drop (length new) old) (length old) same
+
+-- two fields are equal exactly where their keys are
+module _ (kind : Kind) (x y : Cell) (row field : List ℕ) (own : HoldsKey kind x row) (held : HoldsCell kind y field) where
+  pub same_field : take (kind_width kind) row ≡ field → cell_eq x y ≡ true
+  same_field same =
+      let is = cell_bytes-same kind x y own.fits held.fits (sym (key_field kind x row own).is ∙ same ∙ held.is) in
+      subst (λ (z : Cell). cell_eq x z ≡ true) is (cell_eq-refl x)
+
+  pub other_field : (take (kind_width kind) row ≡ field → ⊥) → cell_eq x y ≡ false
+  other_field off = is_false (cell_eq x y) (λ h. off ((key_field kind x row own).is ∙ ap (cell_bytes kind) (cell_eq-same x y h) ∙ sym held.is))

@@ -1,5 +1,5 @@
 -- The first row of each group, with one row more behind the others.
-use Rattle.std.proofs.Common.{◌≡◌, ℕ, Bool, true, false, List, [], ◌∷◌, ◌++◌, refl, sym, ◌∙◌, ap, subst, cond, append-nil}
+use Rattle.std.proofs.Common.{◌≡◌, ℕ, Bool, true, false, List, [], ◌∷◌, ◌++◌, refl, sym, ◌∙◌, ap, subst, cond}
 use Rattle.std.specs.Prelude.{filter, Option, Some, None, not, ◌||◌, if◌then◌else◌}
 use Rattle.std.specs.List.{list_any}
 use Rattle.std.proofs.lemmas.Bool.Decides.{Decides-int_eq}
@@ -10,7 +10,7 @@ use Rattle.ob_row.specs.Rows.{Row, agree_at, cell_at, cell_eq, options_eq}
 use Rattle.ob_row.specs.declared.cell.Cell.{Cell}
 use Rattle.ob_row.specs.declared.cell.Cell.TheVariants.{Int, Text}
 
-cell_eq-same : (x y : Cell) → cell_eq x y ≡ true → x ≡ y
+pub cell_eq-same : (x y : Cell) → cell_eq x y ≡ true → x ≡ y
 cell_eq-same (Int x) (Int y) h = ap Int ((Decides-int_eq x y).0 h)
 cell_eq-same (Int x) (Text t) h = cc
 cell_eq-same (Text s) (Int y) h = cc

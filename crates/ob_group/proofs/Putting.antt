@@ -1,9 +1,9 @@
 -- Where a row is put, among the groups and in their rows.
-use Rattle.std.proofs.Common.{◌≡◌, ◌≢◌, ◌≤◌, ◌<◌, ◌+◌, ◌-◌, ℕ, zero, suc, ℤ, Bool, true, false, List, [], ◌∷◌, ◌++◌, length, Option, Some, None, slice_index_or, slice_set, inl, inr, refl, sym, ◌∙◌, ap, subst, arith, length-append, get_or-set_same, get_or-set_other}
+use Rattle.std.proofs.Common.{◌≡◌, ◌≤◌, ◌<◌, ◌+◌, ◌-◌, ℕ, zero, suc, Bool, true, false, List, [], ◌∷◌, ◌++◌, length, Option, Some, slice_index_or, slice_set, inl, inr, refl, sym, ◌∙◌, ap, subst, arith, length-append, get_or-set_same, get_or-set_other}
 use Rattle.std.specs.Prelude.{if◌then◌else◌, slice_get}
 use Rattle.std.proofs.lemmas.List.{length-set, get_or_append_left}
 use Rattle.std.proofs.Math.Seq.{get_or-append_right}
-use Rattle.std.proofs.lemmas.Bool.{cases_eq, cases_lt}
+use Rattle.std.proofs.lemmas.Bool.{cases_eq}
 use Rattle.ob_base.specs.declared.schema.Kind.{Kind}
 use Rattle.ob_base.specs.Schemas.{Columns}
 use Rattle.ob_row.specs.declared.aggregate.Agg.{Agg}
@@ -11,8 +11,6 @@ use Rattle.ob_row.specs.declared.cell.Cell.{Cell}
 use Rattle.ob_row.specs.Rows.{Row, cell_at, cell_eq, options_eq}
 use Rattle.ob_row.specs.Spelling.{Fits, FitsKind}
 use Rattle.ob_vault.specs.Rows.{row_at}
-use Rattle.ob_flat.proofs.Rows.{row_same, row_other}
-use Rattle.ob_group.specs.Running.{Sums, starts, grown_all}
 use Rattle.ob_group.specs.Grouping.{Group, group_with, group_by, put_row}
 use Rattle.ob_group.specs.Held.{HoldsKey, HoldsGroup, AreGroups, kind_at, no_group}
 use Rattle.ob_group.proofs.GroupBytes.{holds_key, holds_more}

@@ -1,5 +1,5 @@
 -- What a visitor that adds up rows has seen.
-use Rattle.std.proofs.Common.{◌≡◌, ℕ, ◌+◌, ◌-◌, ℤ, Bool, true, false, cond, List, [], ◌∷◌, length, filter, Option, Some, None, if◌then◌else◌, refl, ◌∙◌, ap}
+use Rattle.std.proofs.Common.{◌≡◌, ℕ, ◌+◌, ◌-◌, Bool, true, false, cond, List, [], ◌∷◌, length, filter, Option, Some, None, if◌then◌else◌, refl, ◌∙◌, ap}
 use Rattle.ob_row.specs.declared.aggregate.Agg.{Agg}
 use Rattle.ob_row.specs.Rows.{Row}
 use Rattle.ob_row.specs.Slots.{Slots, rows, is_selected}
@@ -7,11 +7,8 @@ use Rattle.ob_row.specs.Truth.{is_true}
 use Rattle.ob_blocks.specs.Blocks.{scanned, up_to, none_of}
 use Rattle.ob_blocks.proofs.Blocks.{scanned-append, scanned-same}
 use Rattle.ob_group.specs.declared.aggregation.Adding.{Adding}
-use Rattle.ob_group.specs.Running.{grown_all, seen_slot}
+use Rattle.ob_group.specs.Running.{Sums, grown_all, seen_slot}
 use Rattle.ob_group.proofs.Sums.{grown_by}
-
-abbrev Sums : Type 0
-Sums = List (Option ℤ)
 
 abbrev step : (Row → Bool) → List Agg → Sums → ℕ → Option Row → Sums
 step p aggs ts i slot = seen_slot p aggs ts slot

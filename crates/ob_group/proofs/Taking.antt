@@ -1,6 +1,6 @@
 -- Groups that grow row by row are those of GROUP BY.
-use Rattle.std.proofs.Common.{◌≡◌, ℕ, ℤ, Bool, true, false, List, [], ◌∷◌, ◌++◌, length, map, fold, refl, sym, ◌∙◌, ap, subst, cond, append-nil, append_assoc}
-use Rattle.std.specs.Prelude.{filter, Option, Some, None, not, ◌||◌, if◌then◌else◌, ⊤}
+use Rattle.std.proofs.Common.{◌≡◌, ℕ, ℤ, Bool, true, false, List, [], ◌∷◌, ◌++◌, length, map, fold, refl, sym, ◌∙◌, ap, cond, append-nil, append_assoc}
+use Rattle.std.specs.Prelude.{filter, Option, Some, None, ◌||◌, if◌then◌else◌, ⊤}
 use Rattle.std.specs.List.{list_any}
 use Rattle.std.proofs.lemmas.List.{length-map}
 use Rattle.std.proofs.lemmas.List.Elements.{filter-append}
@@ -10,13 +10,12 @@ use Rattle.ob_base.specs.declared.shown.Shown.{Shown}
 use Rattle.ob_row.specs.declared.aggregate.Agg.{Agg}
 use Rattle.ob_row.specs.declared.aggregate.Item.{Item}
 use Rattle.ob_row.specs.declared.aggregate.Item.TheVariants.{Key, Agg as AggItem}
-use Rattle.ob_row.specs.declared.cell.Cell.{Cell}
-use Rattle.ob_row.specs.Rows.{Row, agree_at, cell_at, options_eq}
+use Rattle.ob_row.specs.Rows.{Row, agree_at, cell_at}
 use Rattle.ob_row.specs.Slots.{Slots, rows}
-use Rattle.ob_row.specs.Totals.{shown_at, item_shown, total, group_of, group_heads, grouped}
-use Rattle.ob_group.specs.Running.{Sums, start, starts, grown, grown_all, total_shown}
-use Rattle.ob_group.specs.Grouping.{Group, agg_of, aggs_of, group_with, group_by, put_row, put_slot, groups_with, groups_of, item_cell, item_cells, group_shown, groups_shown}
-use Rattle.ob_group.proofs.Heads.{agrees, agree-sym, agree-trans, is_false, neither, distinct-once, is_old, more, heads-more, none_before}
+use Rattle.ob_row.specs.Totals.{item_shown, group_of, group_heads, grouped}
+use Rattle.ob_group.specs.Running.{Sums, start, starts, grown, grown_all}
+use Rattle.ob_group.specs.Grouping.{Group, agg_of, aggs_of, group_with, group_by, put_row, groups_with, groups_of, item_cell, item_cells, groups_shown}
+use Rattle.ob_group.proofs.Heads.{agree-sym, agree-trans, is_false, neither, distinct-once, is_old, more, heads-more, none_before}
 use Rattle.ob_group.proofs.Sums.{grown_by, total_is, first_grown}
 
 -- each row has a cell at the key's place

@@ -5,7 +5,7 @@ use Rattle.std.proofs.Math.Facts.{Fits-of_z, Fits-lt-pow}
 use Rattle.std.proofs.lemmas.Int.{to_z-of_z}
 use Rattle.std.specs.Prelude.{FitsSigned, Result, Ok, Err, IsOkAnd}
 use Rattle.std.specs.Int.{w128, from_be_bytes, cast_signed, cast_unsigned}
-use Rattle.ob_group.specs.Running.{Sums, AreUpTo}
+use Rattle.ob_group.specs.Running.{Sums}
 use Rattle.ob_group.specs.Held.{total_int, total_bytes, totals_bytes, HoldTotals}
 use Rattle.ob_group.proofs.Wide.{from_be_bytes-to_be_bytes_16}
 

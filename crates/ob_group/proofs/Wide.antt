@@ -1,5 +1,5 @@
 -- Sixteen bytes spell an integer.
-use Rattle.std.proofs.Common.{◌≡◌, ◌<◌, ◌+◌, ◌*◌, ◌/◌, ◌%◌, ◌^◌, ℕ, refl, sym, ◌∙◌, arith}
+use Rattle.std.proofs.Common.{◌≡◌, ◌<◌, ◌+◌, ◌*◌, ◌/◌, ◌%◌, ◌^◌, ℕ, arith}
 use Rattle.std.proofs.Math.Nat as nat
 use Rattle.std.specs.Int.{w128, to_be_bytes, from_be_bytes}
 

@@ -1,5 +1,5 @@
 -- What a grouping pass answers.
-use Rattle.std.specs.Prelude.{ℕ, Bool, nat_lt, if◌then◌else◌}
+use Rattle.std.specs.Prelude.{ℕ, nat_lt, if◌then◌else◌}
 use Rattle.ob_group.specs.declared.grouping.Grouped.{Grouped}
 use Rattle.ob_group.specs.declared.grouping.Grouped.TheVariants.{Groups, TooMany}
 

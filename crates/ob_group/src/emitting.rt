@@ -1,10 +1,10 @@
 ghost use Rattle.std.specs.Prelude.{◌≡◌, ◌≤◌, ◌∷◌, ◌++◌, [], List, OnOk, OnErr, length};
+ghost use Rattle.std.specs.List.{All};
 ghost use Rattle.ob_base.specs.Events.{EmitCause, row_events, IsEmitted, IsHalted};
+ghost use Rattle.ob_base.specs.Labels.{IsNamed};
 ghost use Rattle.ob_group.specs.Grouping.{Group, group_shown, groups_shown};
 ghost use Rattle.ob_group.specs.Held.{HoldsGroup, AreGroups, kind_at};
 ghost use Rattle.ob_group.specs.Labels.{header};
-ghost use Rattle.std.specs.List.{All};
-ghost use Rattle.ob_base.specs.Labels.{IsNamed};
 
 use crate::groups::{kind_at, show_group};
 use crate::head::emit_head;

@@ -3,6 +3,7 @@ ghost use Rattle.std.specs.Prelude.{◌≡◌, ◌≤◌, ◌<◌, ◌+◌, ◌*
 ghost use Rattle.ob_base.specs.Schemas.{kind_width, width};
 ghost use Rattle.ob_vault.specs.Rows.{SameSizes, Wide, row_at};
 ghost use Rattle.ob_row.specs.declared.cell.Cell.{Cell as RowCell};
+ghost use Rattle.ob_row.specs.Fields.{HoldsCell};
 ghost use Rattle.ob_row.specs.Rows.{Row, cell_eq};
 ghost use Rattle.ob_row.specs.Spelling.{FitsKind, Begins};
 ghost use Rattle.ob_group.specs.Running.{AreWithin, starts, grown_all};
@@ -12,7 +13,7 @@ ghost use Rattle.ob_group.specs.Held.{HoldsKey, HoldsGroup, AreGroups, kind_at};
 use crate::fields::{add_totals, key_in, put_key, show_items, start_totals};
 use ob_base::{Kind, Schema, Shown};
 use ob_room::ClearRow;
-use ob_row::{Cell, Item, Malformed, decode, same_cell};
+use ob_row::{Cell, Item, Malformed, decode};
 
 // The kind of the column at a place.
 pub(crate) fn kind_at(schema: &Schema, i: u8) -> Kind
@@ -93,20 +94,37 @@ pub(crate) fn show_group(kind: Kind, items: &[Item], group: &ClearRow, cells: &m
     show_bytes(kind, items, group.bytes(), front);
 }
 
+// The place of the group whose key has this field among the first n rows, or n where none has it.
+fn place_of(kind: Kind, field: &[u8], groups: &[ClearRow], n: usize) -> usize
+    requires few { n ≤ length groups.now }
+    requires field { (y : RowCell) × HoldsCell kind y field.now }
+    requires keys { (i : ℕ) → i < n → (x : RowCell) × HoldsKey kind x (row_at groups.now i) }
+    ensures most { result ≤ n }
+    ensures off { (y : RowCell) → HoldsCell kind y field.now → (i : ℕ) → i < result → (x : RowCell) → HoldsKey kind x (row_at groups.now i) → cell_eq x y ≡ false }
+    ensures on { (y : RowCell) → HoldsCell kind y field.now → result < n → (x : RowCell) → HoldsKey kind x (row_at groups.now result) → cell_eq x y ≡ true }
+{
+    for i in 0..n {
+        let (own, _) = groups[i].bytes().split_at(kind.width() as usize);
+        if own == field {
+            return i;
+        }
+    }
+    n
+}
+
 // The place of the group with this key among the first n rows, or n where none has it.
 fn place(kind: Kind, key: &Cell, groups: &[ClearRow], n: usize) -> usize
+    requires fits { FitsKind kind key.now }
     requires few { n ≤ length groups.now }
     requires keys { (i : ℕ) → i < n → (x : RowCell) × HoldsKey kind x (row_at groups.now i) }
     ensures most { result ≤ n }
     ensures off { (i : ℕ) → i < result → (x : RowCell) → HoldsKey kind x (row_at groups.now i) → cell_eq x key.now ≡ false }
     ensures on { result < n → (x : RowCell) → HoldsKey kind x (row_at groups.now result) → cell_eq x key.now ≡ true }
 {
-    for i in 0..n {
-        if same_cell(&key_of(kind, groups[i].bytes()), key) {
-            return i;
-        }
-    }
-    n
+    let mut buffer = [0; 256];
+    let (field, _) = buffer.split_at_mut(kind.width() as usize);
+    put_key(kind, key, field);
+    place_of(kind, field, groups, n)
 }
 
 // Adds the row to a group.

@@ -1,4 +1,5 @@
-//! Aggregates: COUNT, SUM, MIN and MAX over the rows of a table, in one pass over its blocks.
+//! Aggregates and groups: COUNT, SUM, MIN and MAX over the rows of a table, or over those of each key, in
+//! one pass over its blocks.
 #![tactic(auto)]
 
 mod accs;

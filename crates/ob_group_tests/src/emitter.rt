@@ -7,14 +7,14 @@ use ob_base::{Emit, EmitErr, Label, Shown};
 /// Compares the header and the rows, counts them, and stops after so many calls.
 #[derive(Drop)]
 pub(crate) struct Wanted<'a> {
-    pub(crate) labels: &'a [&'a [u8]],
-    pub(crate) rows: &'a [&'a [Shown]],
+    labels: &'a [&'a [u8]],
+    rows: &'a [&'a [Shown]],
     pub(crate) is_same: bool,
     pub(crate) heads: u32,
     pub(crate) count: usize,
-    pub(crate) calls: u32,
-    pub(crate) fault: EmitErr,
-    pub(crate) faults: u64,
+    calls: u32,
+    fault: EmitErr,
+    faults: u64,
 }
 
 fn are_labels(labels: &[Label], wanted: &[&[u8]]) -> bool {
@@ -35,6 +35,25 @@ fn is_row(cells: &[Shown], row: Option<&&[Shown]>) -> bool {
 }
 
 impl<'a> Wanted<'a> {
+    /// Wants these labels and rows, and takes so many calls before its fault.
+    pub(crate) fn new(
+        labels: &'a [&'a [u8]],
+        rows: &'a [&'a [Shown]],
+        calls: u32,
+        fault: EmitErr,
+    ) -> Wanted<'a> {
+        Wanted {
+            labels,
+            rows,
+            is_same: true,
+            heads: 0,
+            count: 0,
+            calls,
+            fault,
+            faults: 0,
+        }
+    }
+
     // One call more, or the fault.
     fn take(&mut self) -> Result<(), EmitErr>
         ensures { EmitCause result self.old.faults self.new.faults }

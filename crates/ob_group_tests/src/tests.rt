@@ -51,7 +51,13 @@ pub(crate) fn two_ints() -> Schema
 }
 
 // The reads of this region's places, in order, from the access of this index on, and no others.
-pub(crate) fn check_reads<S: BlockStore>(rt: &impl Abort, store: &S, from: u64, region: u64, blocks: u32) {
+pub(crate) fn check_reads<S: BlockStore>(
+    rt: &impl Abort,
+    store: &S,
+    from: u64,
+    region: u64,
+    blocks: u32,
+) {
     let mut at = from;
     for place in 0..blocks {
         assert!(rt; at < store.count());

@@ -1,8 +1,6 @@
-use Rattle.std.proofs.Common.{ℕ, inr, [], ◌++◌, List, refl, ◌∙◌, ap, subst, length, OnOk, OnErr}
-use Rattle.ob_base.specs.declared.schema.Kind.{Kind}
-use Rattle.ob_base.specs.Events.{Event, row_events}
-use Rattle.ob_group.specs.Grouping.{Group, groups_shown}
-use Rattle.ob_group.specs.Held.{AreGroups, kind_at}
+use Rattle.std.proofs.Common.{inr, refl}
+use Rattle.ob_base.specs.Events.{row_events}
+use Rattle.ob_group.specs.Grouping.{groups_shown}
 use Rattle.ob_group.specs.Labels.{header}
 use Rattle.ob_group.proofs.Rows.{headed_ok, headed_err}
 use Rattle.ob_group.proofs.emitting.emit_answer.Goals as goal

@@ -1,4 +1,4 @@
-use Rattle.std.proofs.Common.{rules, ◌≡◌, ◌≤◌, ◌<◌, ◌+◌, ◌*◌, ◌^◌, ◌∷◌, ◌++◌, ℕ, ℤ, nat_abs, List, Option, Some, None, IfSome, IsOkAnd, suc, length, ap, ◌∙◌, sym, subst, arith}
+use Rattle.std.proofs.Common.{rules, ◌≡◌, ◌≤◌, ◌<◌, ◌+◌, ◌*◌, ◌^◌, ◌∷◌, ◌++◌, ℕ, ℤ, nat_abs, List, Option, Some, None, IfSome, suc, length, ap, ◌∙◌, sym, subst, arith}
 use Rattle.ob_row.specs.declared.aggregate.Agg.{Agg}
 use Rattle.ob_row.specs.declared.aggregate.Item.{Item}
 use Rattle.ob_group.specs.Running.{Sums, together, part, joined, grown, grown_all}

@@ -1,7 +1,6 @@
-use Rattle.std.proofs.Common.{rules, ◌≡◌, ◌∷◌, List, Option, Some, suc, length, ap, ◌∙◌, sym, subst}
+use Rattle.std.proofs.Common.{rules, ◌≡◌, ◌∷◌, List, Some, suc, length, ap, ◌∙◌, sym, subst}
 use Rattle.ob_base.specs.declared.shown.Shown.{Shown}
 use Rattle.ob_row.specs.declared.aggregate.Item.{Item}
-use Rattle.ob_group.specs.Running.{Sums}
 use Rattle.ob_group.specs.Grouping.{item_cell, item_cells}
 use Rattle.ob_group.specs.Held.{HoldTotals}
 use Rattle.ob_group.proofs.TotalBytes.{parted, within}

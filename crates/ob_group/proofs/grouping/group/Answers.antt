@@ -52,8 +52,8 @@ returns-clause-emitted g c =
     let flat = c.args.flat.now in
     let out = c.group_table-result.new.out in
     subst (λ (n : ℕ). IfOk c.group_table-result.result (λ answer. MatchGrouped answer
-        (λ k. IsEmitted g.E.Emit.grew (header flat.schema c.args.key c.args.items.now) (λ (s : (slots : Slots) × Represents n flat slots old × (new.lie ≡ None)). grouped c.args.key c.args.items.now (filter (is_true c.args.pred.now) (rows s.0))) 0 k c.args.out.now out)
-        (out ≡ c.args.out.now))) size c.group_table-result.ensures.emitted
+    (λ k. IsEmitted g.E.Emit.grew (header flat.schema c.args.key c.args.items.now) (λ (s : (slots : Slots) × Represents n flat slots old × (new.lie ≡ None)). grouped c.args.key c.args.items.now (filter (is_true c.args.pred.now) (rows s.0))) 0 k c.args.out.now out)
+    (out ≡ c.args.out.now))) size c.group_table-result.ensures.emitted
 
 pub returns-clause-halted : goal.returns-clause-halted
 returns-clause-halted g c =

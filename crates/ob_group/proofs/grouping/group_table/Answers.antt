@@ -1,11 +1,10 @@
-use Rattle.std.proofs.Common.{◌≡◌, ◌≤◌, ◌*◌, ◌++◌, ℕ, None, List, filter, length, sym, ◌∙◌, ap, arith}
+use Rattle.std.proofs.Common.{◌++◌, List, filter, length, sym, ◌∙◌, ap, arith}
 use Rattle.ob_base.specs.declared.shown.Shown.{Shown}
 use Rattle.ob_base.specs.Events.{row_events}
-use Rattle.ob_base.specs.Numbers.{blocks_for}
 use Rattle.ob_base.proofs.EventLemmas.{halted_none}
 use Rattle.ob_vault.specs.Calls.{none}
 use Rattle.ob_vault.proofs.Runs.{went_none}
-use Rattle.ob_row.specs.Slots.{Slots, rows}
+use Rattle.ob_row.specs.Slots.{rows}
 use Rattle.ob_row.specs.Truth.{is_true}
 use Rattle.ob_row.specs.Totals.{grouped}
 use Rattle.ob_flat.proofs.Sinks.{none_before}

@@ -1,6 +1,6 @@
-use Rattle.std.proofs.Common.{◌≡◌, ◌≤◌, ◌*◌, ◌+◌, ◌++◌, ℕ, List, length, take, drop, sym, ◌∙◌, ap, subst}
+use Rattle.std.proofs.Common.{◌≡◌, ◌≤◌, ◌*◌, ◌+◌, ℕ, List, length, take, drop, sym, ◌∙◌, ap, subst}
 use Rattle.ob_base.specs.Schemas.{kind_width}
-use Rattle.ob_group.specs.Running.{Sums, grown_all}
+use Rattle.ob_group.specs.Running.{grown_all}
 use Rattle.ob_group.specs.Grouping.{aggs_of}
 use Rattle.ob_group.specs.Held.{HoldTotals}
 use Rattle.ob_group.proofs.TotalBytes.{on_more}

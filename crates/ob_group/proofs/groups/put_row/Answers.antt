@@ -1,15 +1,14 @@
-use Rattle.std.proofs.Common.{rules, ◌≡◌, ◌<◌, ◌≤◌, ◌+◌, ℕ, List, Option, Some, length, slice_index_or, slice_set, sym, ◌∙◌, ap, subst, arith}
+use Rattle.std.proofs.Common.{◌≡◌, ◌<◌, ◌≤◌, Option, Some, length, slice_index_or, sym, subst, arith}
 use Rattle.std.specs.Prelude.{slice_get}
 use Rattle.ob_base.specs.declared.schema.Kind.{Kind}
 use Rattle.ob_row.specs.declared.cell.Cell.{Cell}
 use Rattle.ob_row.specs.Rows.{cell_at}
 use Rattle.ob_row.specs.Spelling.{FitsKind}
 use Rattle.ob_vault.specs.Rows.{row_at}
-use Rattle.ob_vault.proofs.RowsLemmas.{same_at}
 use Rattle.ob_flat.proofs.Rows.{row_is}
 use Rattle.ob_group.specs.Running.{starts, grown_all}
-use Rattle.ob_group.specs.Grouping.{Group, aggs_of, group_with, group_by, put_row}
-use Rattle.ob_group.specs.Held.{HoldsKey, HoldsGroup, AreGroups, kind_at, no_group}
+use Rattle.ob_group.specs.Grouping.{aggs_of}
+use Rattle.ob_group.specs.Held.{HoldsKey, HoldsGroup, kind_at, no_group}
 use Rattle.ob_group.proofs.GroupBytes.{holds_key, holds_more}
 use Rattle.ob_group.proofs.Putting.{fits_at, groups_past, groups_old, groups_new, groups_full}
 use Rattle.ob_group.proofs.groups.put_row.Goals as goal
@@ -34,6 +33,12 @@ add-requires-clause-held c =
     let one = holds_more _ held.1 (length c.args.items.now) g _ (held.3.each (omega arith) i below) 2147483648 (omega (arith, held.2)) in
     let there = subst (HoldsGroup (kind_at c.args.schema.now c.args.key) 2147483648 (length c.args.items.now) g) (sym (row_is c.args.groups.now i c.index-groups-i.result inside)) one in
     (g, subst (λ (k : Kind). HoldsGroup k 2147483648 (length c.args.items.now) g (slice_index_or c.args.groups.now i c.index-groups-i.result)) (sym c.kind_at-kind.ensures) there)
+
+pub place-i-requires-clause-fits : goal.place-i-requires-clause-fits
+place-i-requires-clause-fits c =
+    let real = c.requires.real in
+    let is : slice_get real.0 c.args.key ≡ Some c.in_ok-cell.cell = c.in_ok-cell.ensures.cell real.0 real.1 in
+    subst (λ (k : Kind). FitsKind k c.in_ok-cell.cell) (sym c.kind_at-kind.ensures) (fits_at c.args.schema.now real.0 c.args.key c.in_ok-cell.cell real.1.fits is)
 
 pub start-requires-clause-fits : goal.start-requires-clause-fits
 start-requires-clause-fits c =

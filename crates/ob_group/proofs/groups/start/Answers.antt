@@ -1,4 +1,4 @@
-use Rattle.std.proofs.Common.{◌≡◌, ◌≤◌, ◌+◌, ◌++◌, ℕ, List, Some, length, take, drop, sym, ◌∙◌, ap, subst, arith}
+use Rattle.std.proofs.Common.{ℕ, List, Some, length, sym, ◌∙◌, ap, subst, arith}
 use Rattle.ob_group.specs.Running.{starts}
 use Rattle.ob_group.specs.Grouping.{Group, aggs_of}
 use Rattle.ob_group.specs.Held.{HoldsGroup}

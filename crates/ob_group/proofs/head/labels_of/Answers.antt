@@ -1,6 +1,5 @@
 use Rattle.std.proofs.Common.{◌≡◌, ◌<◌, ℕ, List, [], ◌∷◌, ◌++◌, length, map, take, slice_index_or, rules, sym, ◌∙◌, ap, arith}
 use Rattle.std.proofs.lemmas.List.{take_all, take_more, take_more_set, length-set, map-append}
-use Rattle.ob_row.specs.declared.aggregate.Item.{Item}
 use Rattle.ob_row.specs.declared.aggregate.Item.TheVariants.{Key}
 use Rattle.ob_group.specs.Labels.{item_label}
 use Rattle.ob_group.proofs.head.labels_of.Goals as goal

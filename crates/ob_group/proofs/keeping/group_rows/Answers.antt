@@ -1,6 +1,6 @@
-use Rattle.std.proofs.Common.{◌≡◌, ◌<◌, ◌+◌, ◌++◌, ◌∷◌, [], ℕ, List, Option, Some, true, false, length, sym, ◌∙◌, ap, subst, arith, length-append}
+use Rattle.std.proofs.Common.{◌≡◌, ◌+◌, ◌++◌, ◌∷◌, [], ℕ, List, Option, Some, length, sym, ◌∙◌, subst, arith, length-append}
 use Rattle.ob_row.specs.Rows.{Row}
-use Rattle.ob_row.specs.Slots.{Slots, is_selected}
+use Rattle.ob_row.specs.Slots.{is_selected}
 use Rattle.ob_row.specs.Spelling.{Begins}
 use Rattle.ob_row.specs.Truth.{is_true}
 use Rattle.ob_vault.specs.Rows.{SameSizes}

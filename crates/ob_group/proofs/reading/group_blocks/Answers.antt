@@ -1,4 +1,4 @@
-use Rattle.std.proofs.Common.{◌≡◌, ◌≤◌, ◌+◌, ◌*◌, ◌<◌, ◌++◌, [], ℕ, List, inl, inr, None, length, take, refl, sym, ◌∙◌, ap, subst, arith}
+use Rattle.std.proofs.Common.{◌≡◌, ◌≤◌, ◌+◌, ◌*◌, ◌<◌, ◌++◌, [], ℕ, List, inl, inr, length, take, refl, sym, ◌∙◌, ap, subst, arith}
 use Rattle.std.proofs.lemmas.List.{take_all}
 use Rattle.std.proofs.lemmas.List.Sums.{fold-append}
 use Rattle.std.proofs.lemmas.Result.{err_from_is_err_and}
@@ -18,7 +18,7 @@ use Rattle.ob_flat.specs.Passes.{pass_error}
 use Rattle.ob_flat.proofs.Rooms.{same_rows}
 use Rattle.ob_flat.proofs.Rows.{wide_fit, wide_same}
 use Rattle.ob_flat.proofs.Runs.{pass_of, pass_each, pass_malformed}
-use Rattle.ob_flat.proofs.Tables.{reads, blocks_hold, index_fits, represents_lasts, block_long, got, whole_size, blocks_end}
+use Rattle.ob_flat.proofs.Tables.{reads, index_fits, represents_lasts, block_long, got, whole_size, blocks_end}
 use Rattle.ob_group.specs.Grouping.{Group, put_slot, aggs_of, groups_with, groups_of}
 use Rattle.ob_group.specs.Held.{AreGroups, kind_at}
 use Rattle.ob_group.proofs.SlotLemmas.{spelt_same, groups_weak, groups_none}
