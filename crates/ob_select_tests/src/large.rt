@@ -1,10 +1,5 @@
 //! The Large operator.
-use crate::tests::{Case, FOUR_ROWS, Ids, Operator, equals, in_memory, session};
-use ob_room::Room;
-use ob_seal::{At, Keys, unseal};
-use ob_store::MemStore;
-use ob_test_stores::KeepingStore;
-use ob_vault::{BaseRevs, Vault};
+use crate::tests::{Case, FOUR_ROWS, Ids, Operator, equals, in_memory};
 
 // The rows stay in their slots, in both passes.
 #[test]
@@ -129,42 +124,4 @@ fn large_in_packs(rt: HostRuntime) {
             ],
         },
     );
-}
-
-// Each write of the Large operator has the number of all writes up to it: those of its first pass, after
-// the twenty of the table and its rows, are followed by those of its second.
-#[test]
-fn each_write_of_large_has_its_number(rt: HostRuntime) {
-    let a = rt.alloc();
-    let inner = MemStore::new(a);
-    let mut store = KeepingStore::new(a, inner);
-    let vault: Vault<BaseRevs> = Vault::new(a, Keys::derive(&[0; 32]));
-    let room = Room::new(a, 4, 1024, 1).expect(&rt, "rows");
-    let case = Case {
-        operator: Operator::Large,
-        pred: &equals(1, 10),
-        counted: 2,
-        k: 2,
-        ids: Ids {
-            ids: [1, 3, 0, 0],
-            rows: 2,
-        },
-        from: 87,
-        wanted: &[],
-    };
-    session(&rt, &mut store, vault, room, &FOUR_ROWS, None, &case);
-    let keys = Keys::derive(&[0; 32]);
-    assert_eq!(rt; store.written().len(), 28);
-    for (number, (region, place, block)) in (1..=28).zip(store.written()) {
-        let at = At {
-            region: *region,
-            place: *place,
-            number,
-        };
-        let mut row = [9; 17];
-        assert!(rt; unseal(&keys, at, block, &mut row).is_ok());
-        if number > 20 {
-            assert_eq!(rt; (*region, u64::from(*place)), (6, (number - 21) % 4));
-        }
-    }
 }

@@ -2,6 +2,10 @@
 #![tactic(auto)]
 
 #[cfg(test)]
+mod continuous;
+#[cfg(test)]
 mod large;
+#[cfg(test)]
+mod numbers;
 #[cfg(test)]
 mod tests;

@@ -214,6 +214,7 @@ fn change_rows<S: BlockStore, R: Revisions>(
 pub(crate) enum Operator {
     Small,
     Large,
+    Continuous,
 }
 
 // What the selection of a table of four slots asks and gives: how many rows are counted, how many are
@@ -259,6 +260,9 @@ fn select_by<S: BlockStore, R: Revisions>(
         }
         Operator::Large => {
             ob_large::select(store, vault, room, flat, case.pred, case.k).expect(rt, "Large")
+        }
+        Operator::Continuous => {
+            ob_cont::select(store, vault, room, flat, case.pred, case.k).expect(rt, "Continuous")
         }
     }
 }
@@ -344,6 +348,11 @@ pub(crate) fn in_memory(
 
 pub(crate) fn equals(place: u8, x: i64) -> Pred {
     Pred::compare(place, Order::Equal, Operand::Cell(Cell::Int(x)))
+}
+
+// The rows from the second one on.
+pub(crate) fn from_second() -> Pred {
+    Pred::compare(0, Order::GreaterOrEqual, Operand::Cell(Cell::Int(2)))
 }
 
 pub(crate) const FOUR_ROWS: [(i64, i64); 4] = [(1, 10), (2, 20), (3, 10), (4, 20)];
