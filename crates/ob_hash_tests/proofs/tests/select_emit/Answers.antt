@@ -7,7 +7,6 @@ use Rattle.ob_flat.specs.declared.flat.Flat.{Flat}
 use Rattle.ob_flat.specs.Flats.{IsWritten}
 use Rattle.ob_flat.proofs.Resting.{ready_rests}
 use Rattle.ob_flat.proofs.Tables.{blocks_few}
-use Rattle.ob_hash.specs.Answers.{flat_of}
 use Rattle.ob_hash_tests.proofs.tests.select_emit.Goals as goal
 
 -- what was written doesn't hang on the store
