@@ -33,6 +33,7 @@ no_tables pack w ts none empty = record {
 pub flat_kept : (some : ℕ → Type 0) (pack : ℕ) (flat : Flat) (old new : World) → Lasts some old new → (some flat.region → ⊥) → IsFlat pack flat old → IsFlat pack flat new
 flat_kept some pack flat old new lasts apart is = record {
   made = record {
+    order = is.made.order;
     lives = record { live = lasts.apart.live flat.region apart ∙ is.made.lives.live };
     turn = record {
       turn = λ round. is.made.turn.turn round ∙ sym (lasts.apart.turn flat.region apart);
