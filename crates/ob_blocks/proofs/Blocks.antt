@@ -1,6 +1,6 @@
 -- Blocks of r slots.
 use Rattle.std.proofs.Common.{◌≡◌, ◌≤◌, ◌<◌, ◌+◌, ◌*◌, ◌-◌, ℕ, zero, suc, Bool, List, [], ◌∷◌, ◌++◌, Option, Some, None, length, replicate, map, take, drop, count_by, slice_index_or, if◌then◌else◌, refl, sym, ◌∙◌, ap, arith, length-append, append_assoc}
-use Rattle.std.proofs.lemmas.List.{length-replicate, length-take, length-drop, take_all, take_more, drop-replicate, take-append-drop, take-append-le, drop-append-le}
+use Rattle.std.proofs.lemmas.List.{get_or-take, get_or-drop, length-replicate, length-take, length-drop, take_all, take_more, drop-replicate, take-append-drop, take-append-le, drop-append-le}
 use Rattle.std.proofs.lemmas.List.Sums.{sum_by-append, sum_by-cons}
 use Rattle.std.proofs.lemmas.List.Elements as elements
 use Rattle.std.proofs.lemmas.Slice.{drop-append-drop}
@@ -154,3 +154,7 @@ block_none {A = A} r n blocks p fits below =
     ap (λ (k : ℕ). replicate n none ++ replicate (blocks * r - k) none) size ∙ replicate_join n (blocks * r - n) none ∙ ap (λ (k : ℕ). replicate k none) (omega arith) in
     let room : p * r + r ≤ blocks * r = grind arith in
     ap (λ (l : List (Option A)). block_at r l p) whole ∙ ap (take r) (drop-replicate (p * r) (blocks * r) none) ∙ take_replicate r (blocks * r - p * r) none (omega arith)
+
+-- element z of block u
+pub block-element : {A : Type 0} (r u z : ℕ) (all : List A) (d : A) → z < r → slice_index_or (block_at r all u) z d ≡ slice_index_or all (u * r + z) d
+block-element r u z all d below = get_or-take r (drop (u * r) all) z d below ∙ get_or-drop (u * r) all z d

@@ -16,6 +16,7 @@ use Rattle.ob_store.proofs.Steps.{began_take, later_refl, later_rests}
 use Rattle.ob_vault.specs.State.{RevState, VaultState, World}
 use Rattle.ob_vault.specs.Tied.{Ready, Calm}
 use Rattle.ob_vault.specs.Calls.{Went}
+use Rattle.ob_vault.proofs.Runs.{shapes_none}
 use Rattle.ob_flat.specs.declared.fault.OpErr.{OpErr}
 use Rattle.ob_flat.specs.declared.fault.OpErr.TheVariants as OpErrs
 use Rattle.ob_flat.specs.Passes.{PassCut, PassCause}
@@ -56,6 +57,7 @@ went_room some v s t ready rests = record {
     };
     later = later_rests s t rests;
     keys = refl;
+    shapes = shapes_none v s t;
     apart = record { live = λ q off. refl; number = λ q x off. refl; turn = λ q off. refl; kept = λ q off. rests.keeps.live q; last = λ q x off. rests.keeps.last q x };
   };
   did = record { asked = rests.asked ∙ sym (append-nil s.asked); faults = rests.faults };

@@ -1,5 +1,5 @@
 -- Tables in the vault and its store.
-use Rattle.std.proofs.Common.{◌≡◌, ◌≢◌, ◌≤◌, ◌<◌, ◌+◌, ◌*◌, ◌/◌, inl, inr, ℕ, Bool, IsTrue, List, Option, None, length, refl, sym, ◌∙◌, ap, subst, arith}
+use Rattle.std.proofs.Common.{◌≡◌, ◌≢◌, ◌≤◌, ◌<◌, ◌+◌, ◌*◌, ◌/◌, ◌==◌, if◌then◌else◌, inl, inr, ℕ, Bool, IsTrue, List, Option, None, length, refl, sym, ◌∙◌, ap, subst, arith}
 use Rattle.std.proofs.lemmas.Grind.{div_ceil_times}
 use Rattle.std.specs.List.{All}
 use Rattle.ob_base.specs.Lists.{each}
@@ -21,6 +21,7 @@ use Rattle.ob_blocks.specs.Blocks.{block_at, with_block, map_at, none_of}
 use Rattle.ob_blocks.proofs.Changes.{length-map_at, all-map_at, map_at-up_to}
 use Rattle.ob_blocks.proofs.Blocks.{length-up_to, length-block, all_up_to, all_block, block_none, length-with_block, all_with_block, block_same, block_before, block_after}
 use Rattle.std.proofs.lemmas.Bool.{cases_eq, cases_lt}
+use Rattle.std.proofs.lemmas.Bool.Decides.{nat_tests}
 use Rattle.ob_flat.specs.declared.flat.Flat.{Flat}
 use Rattle.ob_row.specs.Slots.{Slots, empty_slots}
 use Rattle.ob_flat.specs.Slots.{FitsSlot, Spelt, AreSlots, block_bytes}
@@ -41,6 +42,13 @@ blocks_few pack capacity some = grind arith
 -- and their slots are fewer than a block's more
 pub blocks_end : (pack capacity : ℕ) → 1 ≤ pack → blocks_for pack capacity * pack < capacity + pack
 blocks_end pack capacity some = (div_ceil_times capacity pack (omega arith)).1
+
+-- the place that is in turn behind so many, which may be the last
+pub not_last : (i n : ℕ) → i < n → (if i == n then 0 else i) ≡ i
+not_last i n below = grind (arith, nat_tests)
+
+pub at_last : (i n : ℕ) → i ≡ n → (if i == n then 0 else i) ≡ 0
+at_last i n same = grind (arith, nat_tests)
 
 -- a table of which no block was written, or that wasn't touched
 module _ (pack : ℕ) (flat : Flat) (some : ℕ → Type 0) (a b : World) (lasts : Lasts some a b) (off : some flat.region → ⊥) where
@@ -128,9 +136,6 @@ represents_whole pack flat slots w size fits is = record { size = size; fits = f
 module _ (pack : ℕ) (flat : Flat) (slots : Slots) (w : World) (is : Represents pack flat slots w) (some : 1 ≤ pack) where
   pub whole_size : length (whole_blocks pack flat.capacity slots) ≡ blocks_for pack flat.capacity * pack
   whole_size = (holds_whole pack flat slots w some is).size
-
-  pub block_fits : (u : ℕ) → All (FitsSlot flat.schema) (block_at pack (whole_blocks pack flat.capacity slots) u)
-  block_fits u = slots_fit pack flat _ w (holds_whole pack flat slots w some is) some u
 
   pub block_slots : (u : ℕ) → u < blocks_for pack flat.capacity → length (block_at pack (whole_blocks pack flat.capacity slots) u) ≡ pack
   block_slots u below = slots_block pack flat _ w (holds_whole pack flat slots w some is) some u below

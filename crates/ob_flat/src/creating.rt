@@ -167,6 +167,7 @@ pub fn create<S: BlockStore, R: Revisions>(
     ensures seals { (good : ℕ → List ℕ → Bool) → Accepts good room.old.pack schema.now vault.old.next → Seals good (at R.state vault.old (S.state store.old)) (at R.state vault.new (S.state store.new)) }
     ensures room { room.new ≡ record room.old { high = max room.old.high room.old.pack } }
     ensures value { IfOk result (λ flat. flat ≡ record { schema = schema.now; capacity = capacity; region = vault.old.next }) }
+    ensures lives { OnOk result (Lives vault.old.next (table_region Order.Round room.old.pack schema.now capacity) (at R.state vault.new (S.state store.new))) }
     ensures flat { IfOk result (λ flat. IsFlat room.old.pack flat (at R.state vault.new (S.state store.new))) }
     ensures told { IfOk result (λ flat. IsTrue (S.state store.old).tells → Represents room.old.pack flat (empty_slots capacity) (at R.state vault.new (S.state store.new))) }
 {

@@ -59,7 +59,7 @@ pub(crate) fn is_cell(kind: Kind, field: &[u8]) -> bool
 }
 
 /// The cell of this kind that the bytes spell, if they spell one.
-pub(crate) fn cell_in(kind: Kind, field: &[u8]) -> Option<Cell>
+pub fn cell_in(kind: Kind, field: &[u8]) -> Option<Cell>
     requires { length field.now ≡ kind_width kind }
     ensures some { IfSome result (λ x. HoldsCell kind x field.now) }
     ensures none { IfNone result ((x : Cell) → HoldsCell kind x field.now → ⊥) }
@@ -78,7 +78,7 @@ pub(crate) fn cell_in(kind: Kind, field: &[u8]) -> Option<Cell>
 }
 
 /// Writes a cell over a field of its kind.
-pub(crate) fn put_cell(kind: Kind, cell: &Cell, field: &mut [u8])
+pub fn put_cell(kind: Kind, cell: &Cell, field: &mut [u8])
     requires fits { FitsKind kind cell.now }
     requires wide { length field.old ≡ kind_width kind }
     ensures { field.new ≡ cell_bytes kind cell.now }

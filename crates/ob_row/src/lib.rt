@@ -14,6 +14,7 @@ mod tests;
 pub use aggregate::{Agg, Item};
 pub use cell::{Cell, Malformed, same_cell};
 pub use compare::compare_cells;
+pub use field::{cell_in, put_cell};
 pub use laws::{dummy_is_no_row, encoded_row, one_spelling, spelling_width};
 pub use pred::{Operand, Order, Pred};
 pub use row::{decode, encode, holds, is_dummy, read, width};

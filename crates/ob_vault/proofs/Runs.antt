@@ -13,13 +13,13 @@ use Rattle.ob_vault.specs.declared.region.Order.TheVariants.{Round, Any}
 use Rattle.ob_vault.specs.Revs.{turn_after, place_after}
 use Rattle.ob_vault.specs.declared.fault.VaultErr.{VaultErr}
 use Rattle.ob_vault.specs.declared.fault.VaultErr.TheVariants.{Failed, Tampered, NoMemory}
-use Rattle.ob_vault.specs.State.{World}
+use Rattle.ob_vault.specs.State.{VaultState, World}
 use Rattle.ob_base.specs.Accesses.{number_of}
 use Rattle.ob_vault.specs.Tied.{Ready, Lives, Written, OnTurn, Holds, EndsAt, at_of}
 use Rattle.ob_vault.specs.Rows.{joined, SameSizes}
 use Rattle.ob_vault.specs.Places.{RowsFit, MayGet, MayPut}
 use Rattle.ob_vault.proofs.RowsLemmas.{length-joined}
-use Rattle.ob_vault.specs.Calls.{Apart, Only, Lasts, Seals, Went, Cut, Cause}
+use Rattle.ob_vault.specs.Calls.{Apart, Only, KeepsShapes, Lasts, Seals, Went, Cut, Cause}
 
 module _ (some : ℕ → Type 0) (a b c : World) where
   pub apart_trans : Apart some a b → Apart some b c → Apart some a c
@@ -31,11 +31,24 @@ module _ (some : ℕ → Type 0) (a b c : World) where
     last = λ q x off. second.last q x off ∙ first.last q x off;
   }
 
+  shapes_trans : KeepsShapes a b → KeepsShapes b c → KeepsShapes a c
+  shapes_trans first second = record {
+    next = omega (arith, first.next, second.next);
+    shapes = λ q below. elim (second.shapes q (omega (arith, below, first.next))) [
+      | inl gone ↦ inl gone
+      | inr same ↦ elim (first.shapes q below) [
+        | inl gone ↦ inl (same ∙ gone)
+        | inr kept ↦ inr (same ∙ kept)
+      ]
+    ];
+  }
+
   pub lasts_trans : Lasts some a b → Lasts some b c → Lasts some a c
   lasts_trans first second = record {
     ready = second.ready;
     later = later_trans _ _ _ first.later second.later;
     keys = second.keys ∙ first.keys;
+    shapes = shapes_trans first.shapes second.shapes;
     apart = apart_trans first.apart second.apart;
   }
 
@@ -70,6 +83,7 @@ module _ (some : ℕ → Type 0) (a b : World) where
     ready = lasts.ready;
     later = lasts.later;
     keys = lasts.keys;
+    shapes = lasts.shapes;
     apart = record {
       live = λ q off. lasts.apart.live q (λ s. off (within q s));
       number = λ q x off. lasts.apart.number q x (λ s. off (within q s));
@@ -78,6 +92,13 @@ module _ (some : ℕ → Type 0) (a b : World) where
       last = λ q x off. lasts.apart.last q x (λ s. off (within q s));
     };
   }
+
+  -- a region that lives still has the shape that it had
+  pub shape_lasts : (q : ℕ) (shape other : Region) → Ready a → Lasts some a b → Lives q shape a → Lives q other b → Lives q shape b
+  shape_lasts q shape other ready lasts was is = elim (lasts.shapes.shapes q (ready.below q shape was.live)) [
+    | inl gone ↦ absurd (cc (gone, is.live))
+    | inr same ↦ record { live = same ∙ was.live }
+  ]
 
   pub went_wider : (more : ℕ → Type 0) → ((q : ℕ) → some q → more q) → (x : List Access) → Went x some a b → Went x more a b
   went_wider more within x went = record { lasts = lasts_wider more within went.lasts; did = went.did; spare = went.spare; calm = went.calm }
@@ -124,6 +145,10 @@ seals_join good a b c later first second = record { seals = λ tells all. second
 pub seals_none : (good : ℕ → List ℕ → Bool) (w : World) → Seals good w w
 seals_none good w = record { seals = λ tells all. all }
 
+-- a vault that has not changed keeps all shapes
+pub shapes_none : (v : VaultState) (s t : StoreState) → KeepsShapes (record { vault = v; store = s }) (record { vault = v; store = t })
+shapes_none v s t = record { next = omega arith; shapes = λ q below. inr refl }
+
 -- no call
 pub went_none : (some : ℕ → Type 0) (w : World) → Ready w → Went [] some w w
 went_none some w ready = record {
@@ -131,6 +156,7 @@ went_none some w ready = record {
     ready = ready;
     later = later_refl w.store;
     keys = refl;
+    shapes = shapes_none w.vault w.store w.store;
     apart = record { live = λ q off. refl; number = λ q x off. refl; turn = λ q off. refl; kept = λ q off. refl; last = λ q x off. refl };
   };
   did = did_none w.store;

@@ -57,6 +57,7 @@ pub record Moved (g : ℕ) (old new : World) : Type 0 where
   pub revs : OtherRegions g old.vault.revs new.vault.revs
   pub only : OnlyRegion g old.store new.store
   pub numbers : (q x : ℕ) → number_of new.store.asked q x ≡ number_of old.store.asked q x
+  pub here_shape : (new.vault.revs.live g ≡ None) ⊎ (old.vault.next ≤ g)
   pub here_live : (shape : Region) → new.vault.revs.live g ≡ Some shape → IsRegion g shape.blocks (shape.width + 32) new.store
   pub here_number : (shape : Region) → new.vault.revs.live g ≡ Some shape → (x : ℕ) → new.vault.revs.number g x ≡ number_of new.store.asked g x
   pub here_below : (shape : Region) → new.vault.revs.live g ≡ Some shape → g < new.vault.next
@@ -101,6 +102,16 @@ lasts_moved g old new ready m later = record {
   ready = ready_moved g old new ready m;
   later = later;
   keys = m.keys;
+  shapes = record {
+    next = m.up;
+    shapes = λ q below. elim (cases_eq q g) [
+      | inl here ↦ elim m.here_shape [
+        | inl gone ↦ inl (ap new.vault.revs.live here ∙ gone)
+        | inr fresh ↦ absurd (omega (arith, here, below, fresh))
+      ]
+      | inr off ↦ inr (m.revs.live q off)
+    ];
+  };
   apart = apart_moved g old new m;
 }
 
@@ -126,6 +137,7 @@ lasts_read v old new q x shape ready lives asks keeps =
       };
       later = later_call _ _ _ asks;
       keys = refl;
+      shapes = record { next = omega arith; shapes = λ r below. inr refl };
       apart = record {
         live = λ r off. refl;
         number = λ r y off. refl;
@@ -151,6 +163,7 @@ lasts_drop v revs old new g shape ready lives others gone asks only left =
       revs = others;
       only = only;
       numbers = λ q x. ap (λ (l : List Access). number_of l q x) asks.asked ∙ number_discard q x g old.asked;
+      here_shape = inl gone;
       here_live = λ s l. absurd (cc (l, gone));
       here_number = λ s l x. absurd (cc (l, gone));
       here_below = λ s l. absurd (cc (l, gone));
@@ -197,6 +210,7 @@ lasts_forget v revs s g ready others gone =
       revs = others;
       only = record { live = λ q off. refl; last = λ q x off. refl };
       numbers = λ q x. refl;
+      here_shape = inl gone;
       here_live = λ s l. absurd (cc (l, gone));
       here_number = λ s l x. absurd (cc (l, gone));
       here_below = λ s l. absurd (cc (l, gone));
@@ -279,6 +293,7 @@ module _ (v : VaultState) (revs : RevState) (old new : StoreState) (q x : ℕ) (
     ready = now_ready;
     later = later_call _ _ _ asks;
     keys = refl;
+    shapes = record { next = omega arith; shapes = λ r below. inr (wrote.live r) };
     apart = record {
       live = λ r off. wrote.live r;
       number = λ r y off. wrote.others r y (λ same _. off same);
@@ -330,6 +345,7 @@ lasts_make v revs old new shape ready wide begins asks makes' =
       revs = begins.others;
       only = makes'.others;
       numbers = numbers;
+      here_shape = inr (omega arith);
       here_live = λ s l. let same : shape ≡ s = cc (begins.here, l) in subst (λ (k : Region). IsRegion g k.blocks (k.width + 32) new) same makes'.here;
       here_number = λ s l x. begins.unwritten x ∙ sym (number_fresh g x old.asked tied.above) ∙ sym (numbers g x);
       here_below = λ s l. omega arith;
@@ -354,6 +370,7 @@ lasts_unmade v revs old new blocks len ready others gone asks keeps =
       revs = others;
       only = record { live = λ q off. keeps.live q; last = λ q x off. keeps.last q x };
       numbers = λ q x. ap (λ (l : List Access). number_of l q x) asks.asked ∙ number_make q x g blocks len old.asked;
+      here_shape = inl gone;
       here_live = λ s l. absurd (cc (l, gone));
       here_number = λ s l x. absurd (cc (l, gone));
       here_below = λ s l. absurd (cc (l, gone));

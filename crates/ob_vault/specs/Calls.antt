@@ -1,5 +1,5 @@
 -- What a call, or a run of calls, does to a vault and its store.
-use Rattle.std.specs.Prelude.{◌≡◌, ◌≢◌, ◌⊎◌, ◌≤◌, ◌+◌, ◌-◌, ℕ, Bool, IsTrue, List, length, take, drop}
+use Rattle.std.specs.Prelude.{◌≡◌, ◌≢◌, ◌⊎◌, ◌≤◌, ◌<◌, ◌+◌, ◌-◌, ℕ, Bool, IsTrue, List, None, length, take, drop}
 use Rattle.ob_base.specs.declared.access.Access.{Access}
 use Rattle.ob_base.specs.Counts.{Rises}
 use Rattle.ob_store.specs.Runs.{Did, Began, Later}
@@ -25,11 +25,17 @@ pub record Only (q x : ℕ) (old new : World) : Type 0 where
   pub number : (r y : ℕ) → (r ≡ q → y ≡ x → ⊥) → new.vault.revs.number r y ≡ old.vault.revs.number r y
   pub last : (r y : ℕ) → (r ≡ q → y ≡ x → ⊥) → new.store.last r y ≡ old.store.last r y
 
+-- a region has the shape that it was made with for as long as it lives, and none that is gone comes back
+pub record KeepsShapes (old new : World) : Type 0 where
+  pub next : old.vault.next ≤ new.vault.next
+  pub shapes : (q : ℕ) → q < old.vault.next → (new.vault.revs.live q ≡ None) ⊎ (new.vault.revs.live q ≡ old.vault.revs.live q)
+
 -- what lasts over each call, whatever it answers
 pub record Lasts (some : ℕ → Type 0) (old new : World) : Type 0 where
   pub ready : Ready new
   pub later : Later old.store new.store
   pub keys : new.vault.keys ≡ old.vault.keys
+  pub shapes : KeepsShapes old new
   pub apart : Apart some old new
 
 -- where all that lay in the store was sealed and good, it is

@@ -6,10 +6,8 @@ use Rattle.ob_base.specs.Lists.{each}
 use Rattle.ob_store.proofs.Steps.{length-each}
 use Rattle.ob_vault.specs.Calls.{one}
 use Rattle.ob_vault.proofs.Runs.{went_length, went_each, cut_each, lives_only, written_only, holds_only, tells_went, may_put, seals_join, next_turn}
+use Rattle.ob_flat.proofs.Tables.{not_last}
 use Rattle.ob_flat.proofs.creating.fill_blocks.Goals as goal
-
-not_last : (i n : ℕ) → i < n → (if i == n then 0 else i) ≡ i
-not_last i n h = grind (arith, nat_tests)
 
 size : (q n : ℕ) → length (each n (write_at q)) ≡ n
 size q n = length-each (write_at q) 1 (λ i. refl) n ∙ omega arith

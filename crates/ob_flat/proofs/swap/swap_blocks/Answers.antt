@@ -15,7 +15,7 @@ use Rattle.ob_flat.specs.Flats.{table_region, whole_blocks}
 use Rattle.ob_flat.specs.Passes.{pass_error}
 use Rattle.ob_flat.proofs.Rows.{wide_fit, wide_same}
 use Rattle.ob_flat.proofs.Runs.{pass_of, pass_each, pass_malformed, pass_more, pass_after, pass_wider}
-use Rattle.ob_flat.proofs.Tables.{accepted, joined_block, copies, index_fits, blocks_hold, represents_lasts, represents_changed, block_long, got}
+use Rattle.ob_flat.proofs.Tables.{accepted, joined_block, copies, index_fits, blocks_hold, represents_lasts, represents_changed, block_long, got, not_last}
 use Rattle.ob_flat.proofs.swap.swap_blocks.Goals as goal
 
 pub get-requires-clause-spare : goal.get-requires-clause-spare
@@ -110,9 +110,6 @@ put-requires-clause-spare g c = omega (arith, c.requires.spare, c.in_ok-get.ensu
 pub put-requires-clause-few : goal.put-requires-clause-few
 put-requires-clause-few g c =
     omega (arith, c.requires.few, went_length _ _ _ _ c.in_ok-get.ensures.ok, went_length _ _ _ _ c.loop-u.invariant.went, copies c.args.flat.now.region c.args.to c.loop-u.u, c.div_ceil-blocks.ensures)
-
-not_last : (i n : ℕ) → i < n → (if i == n then 0 else i) ≡ i
-not_last i n h = grind (arith, nat_tests)
 
 pub put-requires-clause-place : goal.put-requires-clause-place
 put-requires-clause-place g c =
