@@ -4,6 +4,7 @@ ghost use Rattle.ob_base.specs.Lists.{each};
 ghost use Rattle.ob_base.specs.Numbers.{blocks_for};
 ghost use Rattle.ob_base.specs.Schemas.{width};
 ghost use Rattle.ob_store.specs.Runs.{Began};
+ghost use Rattle.ob_vault.specs.declared.region.Order.TheVariants.{Round};
 ghost use Rattle.ob_vault.specs.Tied.{Ready, Lives, Written, OnTurn, Holds};
 ghost use Rattle.ob_vault.specs.Calls.{Went, Cut, Seals, one};
 ghost use Rattle.ob_vault.specs.Places.{at, RowsFit};
@@ -167,7 +168,7 @@ pub fn create<S: BlockStore, R: Revisions>(
     ensures seals { (good : ℕ → List ℕ → Bool) → Accepts good room.old.pack schema.now vault.old.next → Seals good (at R.state vault.old (S.state store.old)) (at R.state vault.new (S.state store.new)) }
     ensures room { room.new ≡ record room.old { high = max room.old.high room.old.pack } }
     ensures value { IfOk result (λ flat. flat ≡ record { schema = schema.now; capacity = capacity; region = vault.old.next }) }
-    ensures lives { OnOk result (Lives vault.old.next (table_region Order.Round room.old.pack schema.now capacity) (at R.state vault.new (S.state store.new))) }
+    ensures lives { OnOk result (Lives vault.old.next (table_region Round room.old.pack schema.now capacity) (at R.state vault.new (S.state store.new))) }
     ensures flat { IfOk result (λ flat. IsFlat room.old.pack flat (at R.state vault.new (S.state store.new))) }
     ensures told { IfOk result (λ flat. IsTrue (S.state store.old).tells → Represents room.old.pack flat (empty_slots capacity) (at R.state vault.new (S.state store.new))) }
 {

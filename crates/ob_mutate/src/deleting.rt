@@ -3,14 +3,15 @@ ghost use Rattle.ob_base.specs.Accesses.{make_at};
 ghost use Rattle.ob_base.specs.Numbers.{blocks_for};
 ghost use Rattle.ob_base.specs.Schemas.{width};
 ghost use Rattle.ob_store.specs.Runs.{Began};
-ghost use Rattle.ob_vault.specs.Tied.{Ready};
+ghost use Rattle.ob_vault.specs.declared.region.Order.TheVariants.{Round};
+ghost use Rattle.ob_vault.specs.Tied.{Ready, Lives};
 ghost use Rattle.ob_vault.specs.Calls.{Went, Seals, one, two};
 ghost use Rattle.ob_vault.specs.Places.{at};
 ghost use Rattle.ob_script.specs.Parts.{rewrite_part};
 ghost use Rattle.ob_row.specs.Slots.{Slots, rows, emptied};
 ghost use Rattle.ob_row.specs.Truth.{is_true};
 ghost use Rattle.ob_blocks.specs.Idle.{IsIdle};
-ghost use Rattle.ob_flat.specs.Flats.{IsSized, IsFlat, Represents, Accepts};
+ghost use Rattle.ob_flat.specs.Flats.{IsSized, IsFlat, Represents, Accepts, table_region};
 ghost use Rattle.ob_flat.specs.Passes.{PassCut};
 
 use crate::rewriting::rewrite;
@@ -82,6 +83,7 @@ pub fn delete<S: BlockStore, R: Revisions>(
     ensures room { room.new ≡ record room.old { high = max room.old.high room.old.pack } }
     ensures moved { OnOk result (flat.new ≡ record flat.old { region = vault.old.next }) }
     ensures same { OnErr result (flat.new ≡ flat.old) }
+    ensures lives { OnOk result (Lives vault.old.next (table_region Round room.old.pack flat.old.schema flat.old.capacity) (at R.state vault.new (S.state store.new))) }
     ensures flat { IsFlat room.old.pack flat.new (at R.state vault.new (S.state store.new)) }
     ensures told { IsTrue (S.state store.old).tells → (slots : Slots) → Represents room.old.pack flat.old slots (at R.state vault.old (S.state store.old)) → (S.state store.new).lie ≡ None
         → MatchResult result

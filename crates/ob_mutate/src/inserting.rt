@@ -3,7 +3,8 @@ ghost use Rattle.ob_base.specs.Accesses.{make_at};
 ghost use Rattle.ob_base.specs.Numbers.{blocks_for};
 ghost use Rattle.ob_base.specs.Schemas.{width};
 ghost use Rattle.ob_store.specs.Runs.{Began};
-ghost use Rattle.ob_vault.specs.Tied.{Ready};
+ghost use Rattle.ob_vault.specs.declared.region.Order.TheVariants.{Round};
+ghost use Rattle.ob_vault.specs.Tied.{Ready, Lives};
 ghost use Rattle.ob_vault.specs.Calls.{Went, Seals, one, two};
 ghost use Rattle.ob_vault.specs.Places.{at, RowsFit};
 ghost use Rattle.ob_vault.specs.Rows.{SameSizes};
@@ -12,7 +13,7 @@ ghost use Rattle.ob_row.specs.Rows.{Row};
 ghost use Rattle.ob_row.specs.Spelling.{Fits};
 ghost use Rattle.ob_blocks.specs.Idle.{IsIdle};
 ghost use Rattle.ob_row.specs.Slots.{Slots};
-ghost use Rattle.ob_flat.specs.Flats.{IsSized, IsMade, IsFlat, Represents, Accepts};
+ghost use Rattle.ob_flat.specs.Flats.{IsSized, IsMade, IsFlat, Represents, Accepts, table_region};
 ghost use Rattle.ob_flat.specs.Passes.{PassCut};
 ghost use Rattle.ob_mutate.specs.Inserting.{insert_answer, slots_after};
 
@@ -156,6 +157,7 @@ fn insert_rows<S: BlockStore, R: Revisions>(
     ensures seals { (good : ℕ → List ℕ → Bool) → Accepts good (length rows.old) flat.old.schema vault.old.next → Seals good (at R.state vault.old (S.state store.old)) (at R.state vault.new (S.state store.new)) }
     ensures moved { OnOk result (flat.new ≡ record flat.old { region = vault.old.next }) }
     ensures same { OnErr result (flat.new ≡ flat.old) }
+    ensures lives { OnOk result (Lives vault.old.next (table_region Round (length rows.old) flat.old.schema flat.old.capacity) (at R.state vault.new (S.state store.new))) }
     ensures flat { IsFlat (length rows.old) flat.new (at R.state vault.new (S.state store.new)) }
     ensures told { IsTrue (S.state store.old).tells → (slots : Slots) → Represents (length rows.old) flat.old slots (at R.state vault.old (S.state store.old)) → (S.state store.new).lie ≡ None
         → MatchResult result
@@ -214,6 +216,7 @@ pub fn insert<S: BlockStore, R: Revisions>(
     ensures room { room.new ≡ record room.old { high = max room.old.high room.old.pack } }
     ensures moved { OnOk result (flat.new ≡ record flat.old { region = vault.old.next }) }
     ensures same { OnErr result (flat.new ≡ flat.old) }
+    ensures lives { OnOk result (Lives vault.old.next (table_region Round room.old.pack flat.old.schema flat.old.capacity) (at R.state vault.new (S.state store.new))) }
     ensures flat { IsFlat room.old.pack flat.new (at R.state vault.new (S.state store.new)) }
     ensures told { IsTrue (S.state store.old).tells → (slots : Slots) → Represents room.old.pack flat.old slots (at R.state vault.old (S.state store.old)) → (S.state store.new).lie ≡ None
         → MatchResult result

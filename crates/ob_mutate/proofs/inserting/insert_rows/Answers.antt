@@ -7,8 +7,9 @@ use Rattle.ob_base.specs.Schemas.{width}
 use Rattle.ob_script.specs.Parts.{count_part, copy_part, insert_part}
 use Rattle.ob_vault.specs.Calls.{Went, one, two}
 use Rattle.ob_vault.specs.Places.{at}
-use Rattle.ob_vault.proofs.Runs.{went_join, went_wider, none_went, tells_went, lives_apart, seals_join, lasts_trans}
-use Rattle.ob_flat.specs.Flats.{Accepts}
+use Rattle.ob_vault.proofs.Runs.{went_join, went_wider, none_went, tells_went, lives_apart, lives_went, shape_lasts, seals_join, lasts_trans}
+use Rattle.ob_vault.specs.declared.region.Order.TheVariants.{Round}
+use Rattle.ob_flat.specs.Flats.{IsFlat, Accepts, table_region}
 use Rattle.ob_flat.specs.Passes.{PassCut}
 use Rattle.ob_flat.proofs.Runs.{pass_more, pass_after, pass_then}
 use Rattle.ob_flat.proofs.Tables.{reads, copies, flat_lasts, represents_lasts}
@@ -69,6 +70,17 @@ returns-in-Ok-clause-seals g c = λ good fine.
     let fine' : Accepts good (length c.args.rows.now) c.args.flat.now.schema c.in_ok-fresh.fresh = rw c.in_ok-fresh.ensures.number fine in
     seals_join good _ _ _ c.in_ok-fresh.ensures.ok.lasts.later (c.make_table.ensures.seals good)
     (seals_join good _ _ _ c.in-Ok.ensures.ok.lasts.later (c.insert_blocks.ensures.seals good fine') (c.move_table.ensures.seals good))
+
+pub returns-in-Ok-clause-lives : goal.returns-in-Ok-clause-lives
+returns-in-Ok-clause-lives g c =
+    let number = c.in_ok-fresh.ensures.number in
+    let next = c.args.vault.now.next in
+    let shape = table_region Round (length c.args.rows.now) c.args.flat.now.schema c.args.flat.now.capacity in
+    let off = lives_apart _ _ _ c.requires.ready c.requires.flat.made.lives in
+    let filled = rw number at c.in-Ok.ensures.ok in
+    let there : IsFlat (length c.args.rows.now) (record c.args.flat.now { region = next }) _ = rw number at c.in-Ok.ensures.flat in
+    let kept = shape_lasts (one next) _ _ next shape _ c.in_ok-fresh.ensures.ok.lasts.ready filled.lasts c.in_ok-fresh.ensures.lives there.made.lives in
+    lives_went _ _ _ _ next shape c.move_table.ensures.went (λ same. off (sym same)) kept
 
 pub returns-in-Ok-clause-flat : goal.returns-in-Ok-clause-flat
 returns-in-Ok-clause-flat g c =
