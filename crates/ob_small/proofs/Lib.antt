@@ -2,4 +2,3 @@ pub mod Choosing
 pub mod Kept
 pub mod Windows
 pub mod Lengths
-pub mod Opened

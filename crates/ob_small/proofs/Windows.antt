@@ -1,6 +1,6 @@
 -- The blocks of kept rows are those of the result.
 use Rattle.std.proofs.Common.{◌≡◌, ◌≤◌, ◌<◌, ◌+◌, ◌-◌, ◌*◌, ℕ, List, [], ◌++◌, Option, None, length, take, drop, slice_index_or, inl, inr, sym, ◌∙◌, ap, subst, arith}
-use Rattle.std.proofs.lemmas.List.{get_or_past, get_or-take, get_or-drop, get_or_append_left, get_or-replicate, length-take, length-drop, length-replicate, take_all, append-nil}
+use Rattle.std.proofs.lemmas.List.{get_or_past, get_or_append_left, get_or-replicate, length-take, length-drop, length-replicate, take_all, append-nil}
 use Rattle.std.proofs.lemmas.List.Elements as elements
 use Rattle.std.proofs.Math.Seq.{get_or-append_right}
 use Rattle.std.proofs.lemmas.Bool.{cases_lt}
@@ -17,7 +17,7 @@ use Rattle.ob_row.specs.Slots.{Slots, is_selected}
 use Rattle.ob_row.specs.Spelling.{Begins}
 use Rattle.ob_row.specs.Truth.{is_true}
 use Rattle.ob_blocks.specs.Blocks.{none_of, up_to, block_at}
-use Rattle.ob_blocks.proofs.Blocks.{length-up_to, length-block, all_up_to}
+use Rattle.ob_blocks.proofs.Blocks.{length-up_to, length-block, all_up_to, block-element}
 use Rattle.ob_flat.specs.declared.flat.Flat.{Flat}
 use Rattle.ob_flat.specs.Slots.{FitsSlot, Spelt, AreSlots, block_bytes}
 use Rattle.ob_flat.specs.Flats.{Represents, whole_blocks}
@@ -40,9 +40,6 @@ at-up_to n i slots = elim (cases_lt i (length slots)) [
   | inr more ↦ get_or-append_right slots (none_of (n - length slots)) i None more ∙ none_at (n - length slots) (i - length slots) ∙ sym (get_or_past slots i None more)
 ]
 
-at-block : (r x z : ℕ) (slots : Slots) → z < r → at (block_at r slots x) z ≡ at slots (x * r + z)
-at-block r x z slots below = get_or-take r (drop (x * r) slots) z None below ∙ get_or-drop (x * r) slots z None
-
 pub length-fitted : (k : ℕ) (slots : Slots) → length (fitted k slots) ≡ k
 length-fitted k slots = length-up_to k (take k slots) (omega (arith, length-take k slots))
 
@@ -61,9 +58,6 @@ index : (first x r z : ℕ) → first * r + (x * r + z) ≡ (first + x) * r + z
 index first x r z = grind arith
 
 -- block x of the kept rows
-pub part_at : (r x z : ℕ) (rows : List (List ℕ)) → z < r → row_at (take r (drop (x * r) rows)) z ≡ row_at rows (x * r + z)
-part_at r x z rows below = get_or-take r (drop (x * r) rows) z [] below ∙ get_or-drop (x * r) rows z []
-
 pub part_long : (r x : ℕ) (rows : List (List ℕ)) → x * r + r ≤ length rows → length (take r (drop (x * r) rows)) ≡ r
 part_long r x rows fits = omega (arith, length-take r (drop (x * r) rows), length-drop (x * r) rows)
 
@@ -75,7 +69,7 @@ part_fit r x w rows some inside wide =
       each = w;
       whole = ap (λ (n : ℕ). n * w) long;
       some = omega (arith, long, some);
-      wide = record { wide = λ z below. subst (λ (row : List ℕ). w ≤ length row) (sym (part_at r x z rows (omega (arith, below, long)))) (wide.wide (x * r + z) (omega (arith, below, long, inside))) };
+      wide = record { wide = λ z below. subst (λ (row : List ℕ). w ≤ length row) (sym (block-element r x z rows [] (omega (arith, below, long)))) (wide.wide (x * r + z) (omega (arith, below, long, inside))) };
     }
 
 -- it spells a block of the result
@@ -90,17 +84,17 @@ kept_block columns r k results first x slots rows fits inside within keeps =
       each = λ z below.
           let less : z < r = omega (arith, below, long) in
           let is : at (block_at r all (first + x)) z ≡ at (take k slots) (first * r + (x * r + z)) =
-          at-block r (first + x) z all less ∙ at-up_to (results * r) ((first + x) * r + z) (fitted k slots) ∙ at-up_to k ((first + x) * r + z) (take k slots)
+          block-element r (first + x) z all None less ∙ at-up_to (results * r) ((first + x) * r + z) (fitted k slots) ∙ at-up_to k ((first + x) * r + z) (take k slots)
           ∙ ap (at (take k slots)) (sym (index first x r z)) in
           subst (λ (s : Option Row). Begins columns s (row_at (take r (drop (x * r) rows)) z)) (sym is)
-          (subst (Begins columns (at (take k slots) (first * r + (x * r + z)))) (sym (part_at r x z rows less)) (keeps.each (x * r + z) (omega (arith, less, inside))));
+          (subst (Begins columns (at (take k slots) (first * r + (x * r + z)))) (sym (block-element r x z rows [] less)) (keeps.each (x * r + z) (omega (arith, less, inside))));
     }
 
 -- and some slots where these aren't told
 pub part_slots : (columns : Columns) (r x : ℕ) (rows : List (List ℕ)) → x * r + r ≤ length rows → AreSlots columns rows → AreSlots columns (take r (drop (x * r) rows))
 part_slots columns r x rows inside are = slots_of columns (take r (drop (x * r) rows)) (λ z below.
     let less : z < r = omega (arith, below, part_long r x rows inside) in
-    (at are.slots (x * r + z), subst (Begins columns (at are.slots (x * r + z))) (sym (part_at r x z rows less)) (are.spelt.each (x * r + z) (omega (arith, less, inside)))))
+    (at are.slots (x * r + z), subst (Begins columns (at are.slots (x * r + z))) (sym (block-element r x z rows [] less)) (are.spelt.each (x * r + z) (omega (arith, less, inside)))))
 
 -- the result has these slots
 pub represents_fitted : (pack : ℕ) (flat : Flat) (p : Condition) (slots : Slots) (w : World) → All (FitsSlot flat.schema) slots

@@ -1,7 +1,6 @@
 use Rattle.std.proofs.Common.{◌≡◌, ◌<◌, ◌+◌, ◌*◌, ◌==◌, if◌then◌else◌, ℕ, Bool, true, false, inl, inr, length, map, refl, sym, ◌∙◌, ap, subst, arith}
 use Rattle.std.proofs.lemmas.List.{length-map}
 use Rattle.std.proofs.lemmas.Result.{err_from_is_err_and}
-use Rattle.std.proofs.lemmas.Bool.Decides.{nat_tests}
 use Rattle.ob_base.specs.Numbers.{blocks_for}
 use Rattle.ob_base.specs.Schemas.{width}
 use Rattle.ob_script.specs.Parts.{copy_at}
@@ -18,12 +17,9 @@ use Rattle.ob_flat.specs.Slots.{FitsSlot}
 use Rattle.ob_large.specs.Keeping.{kept_fits}
 use Rattle.ob_flat.specs.Flats.{IsInTurn, HoldsSlots, Accepts, whole_blocks}
 use Rattle.ob_flat.proofs.Runs.{pass_each}
-use Rattle.ob_flat.proofs.Tables.{copies, holds_whole, represents_whole, whole_size}
+use Rattle.ob_flat.proofs.Tables.{not_last, at_last, copies, holds_whole, represents_whole, whole_size}
 use Rattle.ob_large.proofs.Halfway.{half, half-none, half-block, half-next, half-all}
 use Rattle.ob_large.proofs.emptying.empty_unselected.Goals as goal
-
-not_last : (i n : ℕ) → i < n → (if i == n then 0 else i) ≡ i
-not_last i n h = grind (arith, nat_tests)
 
 either : (b : Bool) (x : ℕ) → (if b then x else x) ≡ x
 either true x = refl
@@ -145,9 +141,6 @@ returns-clause-flat g c =
     let ended : (if c.loop-u.u == blocks then 0 else c.loop-u.u) ≡ 0 = at_last c.loop-u.u blocks last in
     let is = subst (λ (n : ℕ). IsInTurn c.loop-u.invariant.order pack flat n (at g.R.Revisions.state c.loop-u.vault (g.S.BlockStore.state c.loop-u.store))) ended c.loop-u.invariant.turn in
     record { made = record { order = c.loop-u.invariant.order; lives = is.lives; turn = is.turn }; written = is.written }
-  where
-    at_last : (i n : ℕ) → i ≡ n → (if i == n then 0 else i) ≡ 0
-    at_last i n h = grind (arith, nat_tests)
 
 pub returns-clause-told : goal.returns-clause-told
 returns-clause-told g c = λ tells slots is nolie.

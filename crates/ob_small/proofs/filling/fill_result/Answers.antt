@@ -1,6 +1,5 @@
 use Rattle.std.proofs.Common.{◌≡◌, ◌≤◌, ◌+◌, ◌-◌, ◌*◌, ◌<◌, ◌==◌, if◌then◌else◌, min, ℕ, length, sym, ◌∙◌, ap, subst, arith}
 use Rattle.std.proofs.lemmas.Result.{err_from_is_err_and}
-use Rattle.std.proofs.lemmas.Bool.Decides.{nat_tests}
 use Rattle.std.specs.Int.{div_ceil}
 use Rattle.std.specs.List.{All}
 use Rattle.ob_base.specs.Lists.{each}
@@ -18,17 +17,11 @@ use Rattle.ob_vault.specs.declared.region.Order.TheVariants.{Round}
 use Rattle.ob_flat.specs.Flats.{table_region}
 use Rattle.ob_flat.proofs.Rows.{wide_same}
 use Rattle.ob_flat.proofs.Runs.{pass_each, pass_more, pass_after, pass_wider}
-use Rattle.ob_flat.proofs.Tables.{reads, blocks_few, blocks_end, flat_lasts, represents_lasts}
+use Rattle.ob_flat.proofs.Tables.{reads, blocks_few, blocks_end, not_last, at_last, flat_lasts, represents_lasts}
 use Rattle.ob_small.specs.Keeping.{chosen, Keeps}
 use Rattle.ob_small.proofs.Lengths.{spent, passes_reach, pass_inside, passes_few, product_few, product_within, pass_next}
 use Rattle.ob_small.proofs.Windows.{represents_fitted}
 use Rattle.ob_small.proofs.filling.fill_result.Goals as goal
-
-not_last : (i n : ℕ) → i < n → (if i == n then 0 else i) ≡ i
-not_last i n h = grind (arith, nat_tests)
-
-at_last : (i n : ℕ) → i ≡ n → (if i == n then 0 else i) ≡ 0
-at_last i n h = grind (arith, nat_tests)
 
 -- a pass that there is
 begun : (results q j n end : ℕ) → n ≡ results → end ≡ div_ceil n q → j < end → j < div_ceil results q

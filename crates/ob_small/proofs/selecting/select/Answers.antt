@@ -2,12 +2,13 @@ use Rattle.std.proofs.Common.{◌≡◌, ◌≤◌, ◌+◌, ◌*◌, ℕ, List,
 use Rattle.ob_base.specs.Limits.{buffered_blocks}
 use Rattle.ob_base.specs.Schemas.{width}
 use Rattle.ob_vault.specs.Rows.{SameSizes}
+use Rattle.ob_vault.proofs.RowsLemmas.{sizes_join}
 use Rattle.ob_room.specs.RoomState.{RoomState}
-use Rattle.ob_small.proofs.Opened.{open_fits, sizes_join, opened_wide, opened_closed}
+use Rattle.ob_flat.proofs.Rooms.{open_fits, opened_wide, opened_closed}
 use Rattle.ob_small.proofs.selecting.select.Goals as goal
 
 opens : (s : RoomState) (pack rows : ℕ) → pack ≡ s.pack → rows ≡ s.rows → 3 * s.pack + 1 ≤ s.rows → pack + buffered_blocks pack rows * pack ≤ s.rows
-opens s pack rows same all enough = subst (λ (n : ℕ). pack + buffered_blocks pack rows * pack ≤ n) all (open_fits pack rows (omega (arith, same, all, enough)))
+opens s pack rows same all enough = omega (arith, all, open_fits 1 pack rows (omega arith) (omega (arith, same, all, enough)))
 
 pub clear_shelf-requires-clause-wide : goal.clear_shelf-requires-clause-wide
 clear_shelf-requires-clause-wide g c =

@@ -8,10 +8,11 @@ use Rattle.ob_base.specs.Schemas.{width}
 use Rattle.ob_script.specs.Parts.{small_pass}
 use Rattle.ob_vault.specs.Calls.{one}
 use Rattle.ob_vault.specs.Places.{at}
-use Rattle.ob_vault.proofs.Runs.{went_join, tells_went, lives_apart, seals_join, lasts_trans}
+use Rattle.ob_vault.proofs.Runs.{went_join, tells_went, lives_apart, shape_lasts, seals_join, lasts_trans}
 use Rattle.ob_row.specs.Slots.{Slots}
 use Rattle.ob_row.specs.Truth.{is_true}
-use Rattle.ob_flat.specs.Flats.{Represents, Accepts}
+use Rattle.ob_vault.specs.declared.region.Order.TheVariants.{Round}
+use Rattle.ob_flat.specs.Flats.{IsFlat, Represents, Accepts, table_region}
 use Rattle.ob_flat.proofs.Runs.{pass_more, pass_after, pass_then}
 use Rattle.ob_flat.proofs.Tables.{flat_lasts, represents_lasts}
 use Rattle.ob_small.specs.Keeping.{fitted}
@@ -60,6 +61,16 @@ returns-in-Ok-clause-source g c =
     let off = lives_apart _ _ _ c.requires.ready c.requires.flat.made.lives in
     let filled = rw c.in_ok-region.ensures.number at c.in-Ok.ensures.ok in
     flat_lasts (length c.args.rows.now) c.args.flat.now (one next) _ _ (lasts_trans (one next) _ _ _ c.in_ok-region.ensures.ok.lasts filled.lasts) off c.requires.flat
+
+pub returns-in-Ok-clause-lives : goal.returns-in-Ok-clause-lives
+returns-in-Ok-clause-lives g c =
+    let number = c.in_ok-region.ensures.number in
+    let next = c.args.vault.now.next in
+    let pack = length c.args.rows.now in
+    let shape = table_region Round pack c.args.flat.now.schema c.args.k in
+    let filled = rw number at c.in-Ok.ensures.ok in
+    let there : IsFlat pack (record { schema = c.copied.result; capacity = c.args.k; region = next }) _ = rw number at c.in-Ok.ensures.flat in
+    shape_lasts (one next) _ _ next shape _ c.in_ok-region.ensures.ok.lasts.ready filled.lasts c.in_ok-region.ensures.lives there.made.lives
 
 pub returns-in-Ok-clause-told : goal.returns-in-Ok-clause-told
 returns-in-Ok-clause-told g c = λ tells slots is nolie.

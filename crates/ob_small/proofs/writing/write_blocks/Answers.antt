@@ -1,7 +1,6 @@
 use Rattle.std.proofs.Common.{◌≡◌, ◌≤◌, ◌+◌, ◌-◌, ◌*◌, ◌<◌, ◌==◌, ◌/◌, if◌then◌else◌, ℕ, IsTrue, length, take, drop, inl, inr, sym, ◌∙◌, ap, subst, arith}
 use Rattle.std.proofs.lemmas.Result.{err_from_is_err_and}
 use Rattle.std.proofs.lemmas.Bool.{cases_lt}
-use Rattle.std.proofs.lemmas.Bool.Decides.{nat_tests}
 use Rattle.ob_base.specs.Numbers.{blocks_for}
 use Rattle.ob_base.specs.Schemas.{width}
 use Rattle.ob_script.specs.Parts.{write_from}
@@ -17,14 +16,11 @@ use Rattle.ob_vault.specs.declared.region.Order.TheVariants.{Round}
 use Rattle.ob_flat.specs.Flats.{table_region, whole_blocks}
 use Rattle.ob_flat.specs.Passes.{pass_error}
 use Rattle.ob_flat.proofs.Runs.{pass_of, pass_each}
-use Rattle.ob_flat.proofs.Tables.{accepted, joined_block, blocks_hold}
+use Rattle.ob_flat.proofs.Tables.{not_last, accepted, joined_block, blocks_hold}
 use Rattle.ob_small.specs.Keeping.{fitted}
 use Rattle.ob_small.proofs.Lengths.{writes}
 use Rattle.ob_small.proofs.Windows.{part_long, part_fit, part_slots, kept_block}
 use Rattle.ob_small.proofs.writing.write_blocks.Goals as goal
-
-not_last : (i n : ℕ) → i < n → (if i == n then 0 else i) ≡ i
-not_last i n h = grind (arith, nat_tests)
 
 pub put-requires-clause-spare : goal.put-requires-clause-spare
 put-requires-clause-spare g c = omega (arith, c.requires.spare, c.loop-x.invariant.went.spare, writes c.args.to.now.region c.args.first c.loop-x.x)

@@ -1,5 +1,5 @@
 use Rattle.std.proofs.Common.{◌≡◌, Bool, false, None, if◌then◌else◌, length, sym, ◌∙◌, subst}
-use Rattle.ob_row.specs.Slots.{is_selected, kept}
+use Rattle.ob_row.specs.Slots.{is_selected}
 use Rattle.ob_row.specs.Spelling.{Begins}
 use Rattle.ob_row.specs.Truth.{is_true}
 use Rattle.ob_row.proofs.SpellingLemmas.{zeros-begin}
