@@ -3,8 +3,8 @@ use Rattle.std.proofs.Common.{◌≡◌, ◌≤◌, ◌<◌, ◌+◌, ◌*◌, �
 use Rattle.std.proofs.lemmas.Bool.{cases_lt}
 use Rattle.ob_base.specs.declared.access.Access.{Access}
 use Rattle.ob_base.specs.Lists.{each}
-use Rattle.ob_base.specs.Accesses.{read_at, write_at, make_at}
-use Rattle.ob_script.specs.Parts.{create_part, slots_in, continuous_block}
+use Rattle.ob_base.specs.Accesses.{read_at}
+use Rattle.ob_script.specs.Parts.{slots_in, continuous_block}
 use Rattle.ob_store.proofs.Steps.{length-each, parts}
 use Rattle.ob_base.specs.Numbers.{blocks_for}
 use Rattle.ob_vault.specs.State.{World}
@@ -38,9 +38,6 @@ all_slots pack n u z past = omega (arith, past)
 
 pub puts : (g pack k u n : ℕ) → length (each n (put_part g pack k u)) ≡ 2 * n
 puts g pack k u n = length-each (put_part g pack k u) 2 (λ j. refl) n ∙ omega arith
-
-pub creates : (g n w : ℕ) → length (create_part g n w) ≡ 1 + n
-creates g n w = omega (arith, length-append (make_at g n w) (each n (write_at g)), length-each (write_at g) 1 (λ i. refl) n)
 
 -- each block has a slot below the capacity
 pub block_inside : (pack n u : ℕ) → 1 ≤ pack → u < blocks_for pack n → u * pack < n

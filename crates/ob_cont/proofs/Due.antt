@@ -1,5 +1,5 @@
 -- What stands of a result while it is written.
-use Rattle.std.proofs.Common.{◌≡◌, ◌≤◌, ◌+◌, ◌-◌, ◌*◌, ◌%◌, ◌/◌, ◌==◌, ℕ, Bool, List, length, inl, inr, if◌then◌else◌, refl, sym, ◌∙◌, ap, subst, arith}
+use Rattle.std.proofs.Common.{◌≡◌, ◌≤◌, ◌<◌, ◌+◌, ◌-◌, ◌*◌, ◌%◌, ◌/◌, ◌==◌, ℕ, Bool, List, length, inl, inr, if◌then◌else◌, refl, sym, ◌∙◌, ap, subst, arith}
 use Rattle.std.proofs.lemmas.List.{take_at}
 use Rattle.std.proofs.lemmas.List.Elements as elements
 use Rattle.std.proofs.Math.Nat.{div-one, mod-add-mod, mod-eq_of_lt, mod-lt, mod_self}
@@ -20,9 +20,9 @@ use Rattle.ob_blocks.specs.Blocks.{none_of}
 use Rattle.ob_flat.specs.declared.flat.Flat.{Flat}
 use Rattle.ob_flat.specs.Slots.{FitsSlot}
 use Rattle.ob_flat.specs.Flats.{IsInTurn, IsWritten, HoldsSlots, Represents, table_region, whole_blocks}
-use Rattle.ob_flat.proofs.Tables.{represents_whole}
+use Rattle.ob_flat.proofs.Tables.{represents_whole, not_last, at_last}
 use Rattle.ob_cont.specs.Putting.{order_for}
-use Rattle.ob_cont.proofs.Places.{same_test, other_test}
+use Rattle.ob_cont.proofs.Places.{other_test}
 
 -- the place after place i of k, round and round
 next_place : (k i : ℕ) → 1 ≤ k → (if (i % k) / 1 + 1 == blocks_for 1 k then 0 else (i % k) / 1 + 1) ≡ ((i + 1) % k) / 1
@@ -32,8 +32,10 @@ next_place k i some =
     let end : ((i + 1) % k) / 1 ≡ (i % k + 1) % k = div-one ((i + 1) % k) ∙ sym (mod-add-mod i k 1) in
     ap (λ (x : ℕ). if x == blocks_for 1 k then 0 else x) ones ∙ ap (λ (n : ℕ). if i % k + 1 == n then 0 else i % k + 1) all
     ∙ elim (cases_eq (i % k + 1) k) [
-      | inl same ↦ ap (λ (b : Bool). if b then 0 else i % k + 1) (same_test (i % k + 1) k same) ∙ sym (ap (λ (n : ℕ). n % k) same ∙ mod_self k)
-      | inr other ↦ ap (λ (b : Bool). if b then 0 else i % k + 1) (other_test (i % k + 1) k other) ∙ sym (mod-eq_of_lt (omega (arith, other, mod-lt i some)))
+      | inl same ↦ at_last (i % k + 1) k same ∙ sym (ap (λ (n : ℕ). n % k) same ∙ mod_self k)
+      | inr other ↦
+          let below : i % k + 1 < k = omega (arith, other, mod-lt i some) in
+          not_last (i % k + 1) k below ∙ sym (mod-eq_of_lt below)
     ] ∙ sym end
 
 -- the place of the next slot is in turn

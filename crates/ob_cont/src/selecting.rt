@@ -3,7 +3,7 @@ ghost use Rattle.ob_base.specs.Accesses.{make_at};
 ghost use Rattle.ob_base.specs.Numbers.{blocks_for};
 ghost use Rattle.ob_base.specs.Schemas.{width};
 ghost use Rattle.ob_store.specs.Runs.{Began};
-ghost use Rattle.ob_vault.specs.Tied.{Ready};
+ghost use Rattle.ob_vault.specs.Tied.{Ready, Lives};
 ghost use Rattle.ob_vault.specs.Calls.{Went, Seals, one};
 ghost use Rattle.ob_vault.specs.Places.{at, RowsFit};
 ghost use Rattle.ob_vault.specs.Rows.{SameSizes};
@@ -14,7 +14,7 @@ ghost use Rattle.ob_row.specs.Truth.{is_true};
 ghost use Rattle.ob_blocks.specs.Blocks.{none_of};
 ghost use Rattle.ob_blocks.specs.Idle.{IsIdle};
 ghost use Rattle.ob_flat.specs.Slots.{Spelt};
-ghost use Rattle.ob_flat.specs.Flats.{IsSized, IsFlat, IsWritten, Represents, Accepts};
+ghost use Rattle.ob_flat.specs.Flats.{IsSized, IsFlat, IsWritten, Represents, Accepts, table_region};
 ghost use Rattle.ob_flat.specs.Passes.{PassCut};
 ghost use Rattle.ob_cont.specs.Putting.{order_for, put_slots};
 
@@ -63,6 +63,7 @@ fn select_rows<S: BlockStore, R: Revisions>(
     ensures seals { (good : ℕ → List ℕ → Bool) → Accepts good (length held.old) flat.now.schema vault.old.next → Seals good (at R.state vault.old (S.state store.old)) (at R.state vault.new (S.state store.new)) }
     ensures source { IsFlat (length held.old) flat.now (at R.state vault.new (S.state store.new)) }
     ensures value { IfOk result (λ fresh. fresh ≡ record { schema = flat.now.schema; capacity = k; region = vault.old.next }) }
+    ensures lives { OnOk result (Lives vault.old.next (table_region (order_for (length held.old)) (length held.old) flat.now.schema k) (at R.state vault.new (S.state store.new))) }
     ensures flat { IfOk result (λ fresh. IsWritten (length held.old) fresh (at R.state vault.new (S.state store.new))) }
     ensures told { IsTrue (S.state store.old).tells → (slots : Slots) → Represents (length held.old) flat.now slots (at R.state vault.old (S.state store.old)) → (S.state store.new).lie ≡ None
         → MatchResult result
@@ -120,6 +121,7 @@ pub fn select<S: BlockStore, R: Revisions>(
     ensures room { room.new ≡ record room.old { high = max room.old.high (2 * room.old.pack) } }
     ensures source { IsFlat room.old.pack flat.now (at R.state vault.new (S.state store.new)) }
     ensures value { IfOk result (λ fresh. fresh ≡ record { schema = flat.now.schema; capacity = k; region = vault.old.next }) }
+    ensures lives { OnOk result (Lives vault.old.next (table_region (order_for room.old.pack) room.old.pack flat.now.schema k) (at R.state vault.new (S.state store.new))) }
     ensures flat { IfOk result (λ fresh. IsWritten room.old.pack fresh (at R.state vault.new (S.state store.new))) }
     ensures told { IsTrue (S.state store.old).tells → (slots : Slots) → Represents room.old.pack flat.now slots (at R.state vault.old (S.state store.old)) → (S.state store.new).lie ≡ None
         → MatchResult result

@@ -6,4 +6,3 @@ pub mod Places
 pub mod Sizes
 pub mod Alike
 pub mod Whole
-pub mod Opened

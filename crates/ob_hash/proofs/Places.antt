@@ -1,7 +1,7 @@
 -- The places of the selected rows, one slot after the other.
-use Rattle.std.proofs.Common.{◌≡◌, ◌≤◌, ◌<◌, ◌+◌, ◌-◌, ◌*◌, ◌/◌, ◌%◌, ◌^◌, ℕ, zero, suc, Bool, true, false, List, [], ◌∷◌, ◌++◌, Option, Some, None, IsTrue, is_some, is_none, length, take, drop, subst, replicate, slice_index_or, if◌then◌else◌, inl, inr, refl, sym, ◌∙◌, ap, arith}
+use Rattle.std.proofs.Common.{◌≡◌, ◌≤◌, ◌<◌, ◌+◌, ◌-◌, ◌*◌, ◌/◌, ◌%◌, ◌^◌, ℕ, zero, suc, Bool, true, false, List, [], ◌∷◌, ◌++◌, Option, Some, None, IsTrue, is_some, is_none, length, take, subst, replicate, slice_index_or, if◌then◌else◌, inl, inr, refl, sym, ◌∙◌, ap, arith}
 use Rattle.std.proofs.Math.Nat.{mod-lt, div-lt_iff_lt-mul}
-use Rattle.std.proofs.lemmas.List.{take_more, take_all, length-take, get_or-take, get_or-drop, get_or_append_left}
+use Rattle.std.proofs.lemmas.List.{take_more, take_all, length-take, get_or_append_left}
 use Rattle.std.proofs.lemmas.List.Sums.{fold-append}
 use Rattle.ob_base.specs.Lists.{places_from}
 use Rattle.ob_base.specs.Numbers.{first_bucket, second_bucket}
@@ -11,6 +11,7 @@ use Rattle.ob_row.specs.Rows.{Row}
 use Rattle.ob_row.specs.Slots.{Slots, slot_at, is_selected, selected}
 use Rattle.ob_row.specs.Results.{Buckets, RowTest, bucket_for, put_in, filled, unplaced_or, unplaced_from, unplaced}
 use Rattle.ob_blocks.specs.Blocks.{none_of, up_to, block_at}
+use Rattle.ob_blocks.proofs.Blocks.{block-element}
 use Rattle.ob_hash.specs.Bucketed.{AreBuckets, after_place, still_waits, buckets_of, unplaced_of, first_of}
 use Rattle.ob_hash.proofs.Both.{no_places, shown_both}
 
@@ -107,7 +108,7 @@ are_buckets k n p slots (suc m) some fits =
 -- a slot in its block
 pub block_slot : (r u j total : ℕ) (slots : Slots) → j < r → u * r + j < length slots → slice_index_or (block_at r (up_to total slots) u) j None ≡ slot_at slots (u * r + j)
 block_slot r u j total slots below inside =
-    get_or-take r (drop (u * r) (up_to total slots)) j None below ∙ get_or-drop (u * r) (up_to total slots) j None
+    block-element r u j (up_to total slots) None below
     ∙ get_or_append_left slots (none_of (total - length slots)) None (u * r + j) inside ∙ sym (slot_is slots (u * r + j))
 
 -- the slot of index m was shown to its buckets

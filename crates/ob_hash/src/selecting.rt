@@ -3,7 +3,8 @@ ghost use Rattle.ob_base.specs.Accesses.{make_at};
 ghost use Rattle.ob_base.specs.Numbers.{blocks_for};
 ghost use Rattle.ob_base.specs.Schemas.{width};
 ghost use Rattle.ob_store.specs.Runs.{Began};
-ghost use Rattle.ob_vault.specs.Tied.{Ready};
+ghost use Rattle.ob_vault.specs.declared.region.Order.TheVariants.{Any};
+ghost use Rattle.ob_vault.specs.Tied.{Ready, Lives};
 ghost use Rattle.ob_vault.specs.Calls.{Went, Seals, one};
 ghost use Rattle.ob_vault.specs.Places.{at, RowsFit};
 ghost use Rattle.ob_vault.specs.Rows.{SameSizes};
@@ -14,7 +15,7 @@ ghost use Rattle.ob_row.specs.Truth.{is_true};
 ghost use Rattle.ob_blocks.specs.Blocks.{none_of};
 ghost use Rattle.ob_blocks.specs.Idle.{IsIdle};
 ghost use Rattle.ob_flat.specs.Slots.{Spelt};
-ghost use Rattle.ob_flat.specs.Flats.{IsSized, FitsRegion, IsFlat, IsWritten, Represents, Accepts};
+ghost use Rattle.ob_flat.specs.Flats.{IsSized, FitsRegion, IsFlat, IsWritten, Represents, Accepts, table_region};
 ghost use Rattle.ob_flat.specs.Passes.{PassCut};
 ghost use Rattle.ob_hash.specs.Answers.{flat_of, overflow_of};
 
@@ -67,6 +68,7 @@ fn select_rows<S: BlockStore, R: Revisions>(
     ensures seals { (good : ℕ → List ℕ → Bool) → Accepts good (length rows.old) flat.now.schema vault.old.next → Seals good (at R.state vault.old (S.state store.old)) (at R.state vault.new (S.state store.new)) }
     ensures source { IsFlat (length rows.old) flat.now (at R.state vault.new (S.state store.new)) }
     ensures value { IfOk result (λ placed. flat_of placed ≡ record { schema = flat.now.schema; capacity = k * depth * length rows.old; region = vault.old.next }) }
+    ensures lives { OnOk result (Lives vault.old.next (table_region Any (length rows.old) flat.now.schema (k * depth * length rows.old)) (at R.state vault.new (S.state store.new))) }
     ensures flat { IfOk result (λ placed. IsWritten (length rows.old) (flat_of placed) (at R.state vault.new (S.state store.new))) }
     ensures size { IfOk result (λ placed. FitsRegion (length rows.old) (flat_of placed).schema (flat_of placed).capacity) }
     ensures told { IsTrue (S.state store.old).tells → (slots : Slots) → Represents (length rows.old) flat.now slots (at R.state vault.old (S.state store.old)) → (S.state store.new).lie ≡ None
@@ -134,6 +136,7 @@ pub fn select<S: BlockStore, R: Revisions>(
     ensures room { room.new ≡ record room.old { high = max room.old.high (2 * room.old.pack) } }
     ensures source { IsFlat room.old.pack flat.now (at R.state vault.new (S.state store.new)) }
     ensures value { IfOk result (λ placed. flat_of placed ≡ record { schema = flat.now.schema; capacity = k * depth * room.old.pack; region = vault.old.next }) }
+    ensures lives { OnOk result (Lives vault.old.next (table_region Any room.old.pack flat.now.schema (k * depth * room.old.pack)) (at R.state vault.new (S.state store.new))) }
     ensures flat { IfOk result (λ placed. IsWritten room.old.pack (flat_of placed) (at R.state vault.new (S.state store.new))) }
     ensures size { IfOk result (λ placed. FitsRegion room.old.pack (flat_of placed).schema (flat_of placed).capacity) }
     ensures told { IsTrue (S.state store.old).tells → (slots : Slots) → Represents room.old.pack flat.now slots (at R.state vault.old (S.state store.old)) → (S.state store.new).lie ≡ None

@@ -4,18 +4,18 @@ use Rattle.ob_base.specs.Lists.{each}
 use Rattle.ob_base.specs.Numbers.{blocks_for}
 use Rattle.ob_base.specs.Schemas.{width}
 use Rattle.ob_script.specs.Parts.{create_part, continuous_block}
+use Rattle.ob_script.proofs.Numbers.{length-create_part}
 use Rattle.ob_vault.specs.Calls.{one}
 use Rattle.ob_vault.specs.Places.{at}
-use Rattle.ob_vault.proofs.Runs.{went_join, went_length, tells_went, lives_apart, seals_join, lasts_trans}
+use Rattle.ob_vault.proofs.Runs.{went_join, went_length, tells_went, lives_apart, shape_lasts, seals_join, lasts_trans}
 use Rattle.ob_row.specs.Slots.{Slots, empty_slots}
 use Rattle.ob_row.specs.Truth.{is_true}
 use Rattle.ob_blocks.specs.Blocks.{none_of}
 use Rattle.ob_flat.specs.declared.flat.Flat.{Flat}
-use Rattle.ob_flat.specs.Flats.{Represents, HoldsSlots, Accepts, whole_blocks}
+use Rattle.ob_flat.specs.Flats.{Represents, HoldsSlots, Accepts, table_region, whole_blocks}
 use Rattle.ob_flat.proofs.Runs.{pass_more, pass_after, pass_then}
 use Rattle.ob_flat.proofs.Tables.{blocks_few, flat_lasts, represents_lasts, holds_whole}
-use Rattle.ob_cont.specs.Putting.{put_slots}
-use Rattle.ob_cont.proofs.Counting.{creates}
+use Rattle.ob_cont.specs.Putting.{order_for, put_slots}
 use Rattle.ob_cont.proofs.Due.{represents_held}
 use Rattle.ob_cont.proofs.Places.{length-put_slots}
 use Rattle.ob_cont.proofs.Puts.{put_whole}
@@ -38,7 +38,7 @@ returns-in_err-region-clause-source g c =
 pub fill_result-requires-clause-spare : goal.fill_result-requires-clause-spare
 fill_result-requires-clause-spare g c =
     let pack = length c.args.held.now in
-    omega (arith, c.requires.spare, c.in_ok-region.ensures.ok.spare, creates c.args.vault.now.next (blocks_for pack c.args.k) (pack * width c.args.flat.now.schema))
+    omega (arith, c.requires.spare, c.in_ok-region.ensures.ok.spare, length-create_part c.args.vault.now.next (blocks_for pack c.args.k) (pack * width c.args.flat.now.schema))
 
 pub fill_result-requires-clause-few : goal.fill_result-requires-clause-few
 fill_result-requires-clause-few g c =
@@ -49,7 +49,7 @@ fill_result-requires-clause-few g c =
       c.requires.number,
       c.requires.size.most,
       went_length _ _ _ _ c.in_ok-region.ensures.ok,
-      creates c.args.vault.now.next (blocks_for pack c.args.k) (pack * width c.args.flat.now.schema),
+      length-create_part c.args.vault.now.next (blocks_for pack c.args.k) (pack * width c.args.flat.now.schema),
       blocks_few pack c.args.k c.requires.pack.0,
       blocks_few pack c.args.flat.now.capacity c.requires.pack.0,
     )
@@ -74,6 +74,16 @@ returns-in-Ok-clause-source g c =
     let off = lives_apart _ _ _ c.requires.ready c.requires.flat.made.lives in
     let filled = rw c.in_ok-region.ensures.number at c.in-Ok.ensures.ok in
     flat_lasts (length c.args.held.now) c.args.flat.now (one next) _ _ (lasts_trans (one next) _ _ _ c.in_ok-region.ensures.ok.lasts filled.lasts) off c.requires.flat
+
+pub returns-in-Ok-clause-lives : goal.returns-in-Ok-clause-lives
+returns-in-Ok-clause-lives g c =
+    let next = c.args.vault.now.next in
+    let pack = length c.args.held.now in
+    let number = c.in_ok-region.ensures.number in
+    let made = rw c.order_of-order.ensures at c.in_ok-region.ensures.lives in
+    let filled = rw number at c.in-Ok.ensures.ok in
+    let written = rw number at c.in-Ok.ensures.written in
+    shape_lasts (one next) _ _ next (table_region (order_for pack) pack c.args.flat.now.schema c.args.k) _ c.in_ok-region.ensures.ok.lasts.ready filled.lasts made written.lives
 
 pub returns-in-Ok-clause-told : goal.returns-in-Ok-clause-told
 returns-in-Ok-clause-told g c = λ tells slots is nolie.

@@ -1,7 +1,8 @@
 use Rattle.std.proofs.Common.{◌≤◌, ◌*◌, ℕ, List, ◌++◌, max, sym, ◌∙◌, ap, subst, arith}
 use Rattle.ob_base.specs.Schemas.{width}
 use Rattle.ob_vault.specs.Rows.{SameSizes}
-use Rattle.ob_hash.proofs.Opened.{sizes_join, opened_wide, opened_closed}
+use Rattle.ob_vault.proofs.RowsLemmas.{sizes_join}
+use Rattle.ob_flat.proofs.Rooms.{opened_wide, opened_closed}
 use Rattle.ob_hash.proofs.selecting.select.Goals as goal
 
 pub clear_shelf-requires-clause-wide : goal.clear_shelf-requires-clause-wide
