@@ -1,5 +1,6 @@
 -- The key of a group and its totals, in the bytes that hold them.
-use Rattle.std.proofs.Common.{◌≡◌, ◌≤◌, ◌*◌, ℕ, true, false, List, [], ◌∷◌, ◌++◌, length, take, drop, Some, refl, sym, ◌∙◌, subst, ap, arith, length-append}
+use Rattle.std.proofs.Common.{◌≡◌, ◌≤◌, ◌*◌, ℕ, true, false, List, [], ◌∷◌, ◌++◌, length, take, drop, Option, Some, refl, sym, ◌∙◌, subst, ap, arith, length-append}
+use Rattle.std.specs.Prelude.{IfSome}
 use Rattle.std.proofs.lemmas.List.{take_at, drop_at, length-map}
 use Rattle.ob_base.specs.declared.schema.Kind.{Kind}
 use Rattle.ob_base.specs.Schemas.{kind_width}
@@ -32,6 +33,12 @@ module _ (kind : Kind) (x : Cell) (bytes : List ℕ) (held : HoldsKey kind x byt
   -- the key's field
   pub key_field : HoldsCell kind x (take (kind_width kind) bytes)
   key_field = record { fits = held.fits; is = ap (take (kind_width kind)) held.is ∙ take_at (cell_bytes kind x) held.behind (kind_width kind) key_size }
+
+  -- the cell that was found there is the key
+  pub found_key : (y : Cell) (found : Option Cell) (field : List ℕ) → field ≡ take (kind_width kind) bytes → IfSome found (λ (z : Cell). HoldsCell kind z field) → found ≡ Some y → y ≡ x
+  found_key y found field front some is =
+      let own : HoldsCell kind y field = subst (λ (o : Option Cell). IfSome o (λ (z : Cell). HoldsCell kind z field)) is some in
+      cell_bytes-same kind y x own.fits held.fits (sym own.is ∙ front ∙ key_field.is)
 
 module _ (kind : Kind) (m count : ℕ) (g : Group) (bytes : List ℕ) (held : HoldsGroup kind m count g bytes) where
   pub holds_key : HoldsKey kind held.key bytes

@@ -10,4 +10,3 @@ pub mod Putting
 pub mod SlotLemmas
 pub mod Rows
 pub mod Answering
-pub mod Opened

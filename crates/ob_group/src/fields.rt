@@ -1,62 +1,17 @@
-//! The bytes of a running group: its key, and its totals.
-ghost use Rattle.std.specs.Prelude.{◌≡◌, ◌≤◌, ◌<◌, ◌+◌, ◌*◌, ◌^◌, ◌-◌, ◌∷◌, ◌++◌, ℕ, ℤ, nat_abs, length, replicate, Option, Some, IfSome, IsOkAnd};
-ghost use Rattle.ob_base.specs.Schemas.{kind_width, width};
-ghost use Rattle.ob_row.specs.declared.cell.Cell.{Cell as RowCell};
+//! The bytes of the totals of a running group.
+ghost use Rattle.std.specs.Prelude.{◌≡◌, ◌≤◌, ◌<◌, ◌+◌, ◌*◌, ◌^◌, ℕ, ℤ, nat_abs, length, Option, Some, IfSome, IsOkAnd};
+ghost use Rattle.ob_base.specs.Schemas.{width};
 ghost use Rattle.ob_row.specs.Rows.{Row};
-ghost use Rattle.ob_row.specs.Spelling.{FitsKind, Begins, cell_bytes};
-ghost use Rattle.ob_row.specs.Fields.{HoldsCell};
+ghost use Rattle.ob_row.specs.Spelling.{Begins};
 ghost use Rattle.ob_group.specs.Running.{Sums, AreWithin, starts, grown_all};
 ghost use Rattle.ob_group.specs.Grouping.{agg_of, aggs_of, item_cell, item_cells};
 ghost use Rattle.ob_group.specs.Held.{total_bytes, totals_bytes, HoldTotals};
 
 use crate::accs::total_shown;
 use crate::totals::{joined, part, start};
-use ob_base::{Kind, Schema, Shown, Text};
+use ob_base::{Schema, Shown};
 use ob_room::ClearRow;
 use ob_row::{Agg, Cell, Item, Malformed};
-
-// Writes a text's length, its bytes, and zeros up to the end.
-fn put_text(text: &[u8], field: &mut [u8])
-    requires fits { length text.now ≤ length field.old - 1 }
-    requires few { length field.old ≤ 256 }
-    requires some { 1 ≤ length field.old }
-    ensures { field.new ≡ length text.now ∷ (text.now ++ replicate (length field.old - 1 - length text.now) 0) }
-{
-    let n = text.len();
-    field.fill(0);
-    field[0] = n as u8;
-    field[1..n + 1].copy_from_slice(text);
-}
-
-// Writes a key, as a row spells it.
-pub(crate) fn put_key(kind: Kind, key: &Cell, field: &mut [u8])
-    requires fits { FitsKind kind key.now }
-    requires wide { length field.old ≡ kind_width kind }
-    ensures { field.new ≡ cell_bytes kind key.now }
-{
-    match key {
-        Cell::Int(x) => field.copy_from_slice(&x.to_be_bytes()),
-        Cell::Text(text) => put_text(text.as_bytes(), field),
-    }
-}
-
-// The key that was written.
-pub(crate) fn key_in(kind: Kind, field: &[u8]) -> Cell
-    requires { (x : RowCell) × HoldsCell kind x field.now }
-    ensures { (x : RowCell) → HoldsCell kind x field.now → result ≡ x }
-{
-    match kind {
-        Kind::Int => {
-            let mut bytes = [0; 8];
-            bytes.copy_from_slice(field);
-            Cell::Int(i64::from_be_bytes(bytes))
-        }
-        Kind::Varchar(_) => {
-            let n = usize::from(field[0]);
-            Cell::Text(Text::from_bytes(&field[1..n + 1]))
-        }
-    }
-}
 
 // Writes a total; the least integer stands for none.
 fn put_total(total: Option<i128>, field: &mut [u8])

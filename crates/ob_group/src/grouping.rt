@@ -73,7 +73,8 @@ fn group_table<S: BlockStore, R: Revisions, E: Emit>(
         (out.new ≡ out.old)) }
     ensures halted { OnErr result (IsHalted E.grew E.cut (λ (s : (slots : Slots) × Represents (length rows.old) flat.now slots (at R.state vault.old (S.state store.old)) × ((S.state store.old).lie ≡ None) × IsUnfit (at R.state vault.new (S.state store.new))). header flat.now.schema key items.now ++ row_events (grouped key items.now (filter (is_true pred.now) (rows_in s.0)))) out.old out.new) }
     ensures cause { SinkCause result (E.faults out.old) (E.faults out.new) }
-    ensures after { IfErr result (λ e. (out.new ≡ out.old) ⊎ (((e ≡ OpErr.Sink) ⊎ (e ≡ OpErr.NoMemory)) × Went (count_part flat.now.region (blocks_for (length rows.old) flat.now.capacity)) none (at R.state vault.old (S.state store.old)) (at R.state vault.new (S.state store.new)))) }
+    ensures before { IfErr result (λ e. (e ≡ OpErr.Failed) ⊎ ((region : ℕ) × (place : ℕ) × (e ≡ OpErr.Tampered region place)) → out.new ≡ out.old) }
+    ensures after { IfErr result (λ e. (e ≡ OpErr.Sink) ⊎ (e ≡ OpErr.NoMemory) → Went (count_part flat.now.region (blocks_for (length rows.old) flat.now.capacity)) none (at R.state vault.old (S.state store.old)) (at R.state vault.new (S.state store.new))) }
     ensures told { (slots : Slots) → Represents (length rows.old) flat.now slots (at R.state vault.old (S.state store.old)) → (S.state store.new).lie ≡ None
         → MatchResult result (λ answer. answer ≡ answer_of (length groups.old) (length (group_heads key (filter (is_true pred.now) (rows_in slots))))) (λ e. (e ≡ OpErr.Failed) ⊎ (e ≡ OpErr.Sink) ⊎ (e ≡ OpErr.NoMemory)) }
 {
@@ -102,9 +103,10 @@ fn group_table<S: BlockStore, R: Revisions, E: Emit>(
 /// there are more keys among these rows, all blocks are read all the same, nothing is emitted, and the
 /// answer is `TooMany`.
 ///
-/// `Failed` where the store failed; `Tampered` with the place of a block that is not what was written
-/// there last, or that has a malformed row; `Sink` where the emitter failed, and `NoMemory` where it had
-/// no memory. What was emitted by then is a first part of the whole. It takes no memory itself.
+/// `Failed` where the store failed, and `Tampered` with the place of a block that is not what was written
+/// there last, or that has a malformed row: nothing is emitted then. Once all blocks were read, `Sink`
+/// where the emitter failed, and `NoMemory` where it had no memory: what was emitted by then is a first
+/// part of the whole. It takes no memory itself.
 pub fn group<S: BlockStore, R: Revisions, E: Emit>(
     store: &mut S,
     vault: &mut Vault<R>,
@@ -137,7 +139,8 @@ pub fn group<S: BlockStore, R: Revisions, E: Emit>(
         (out.new ≡ out.old)) }
     ensures halted { OnErr result (IsHalted E.grew E.cut (λ (s : (slots : Slots) × Represents room.old.pack flat.now slots (at R.state vault.old (S.state store.old)) × ((S.state store.old).lie ≡ None) × IsUnfit (at R.state vault.new (S.state store.new))). header flat.now.schema key items.now ++ row_events (grouped key items.now (filter (is_true pred.now) (rows_in s.0)))) out.old out.new) }
     ensures cause { SinkCause result (E.faults out.old) (E.faults out.new) }
-    ensures after { IfErr result (λ e. (out.new ≡ out.old) ⊎ (((e ≡ OpErr.Sink) ⊎ (e ≡ OpErr.NoMemory)) × Went (count_part flat.now.region (blocks_for room.old.pack flat.now.capacity)) none (at R.state vault.old (S.state store.old)) (at R.state vault.new (S.state store.new)))) }
+    ensures before { IfErr result (λ e. (e ≡ OpErr.Failed) ⊎ ((region : ℕ) × (place : ℕ) × (e ≡ OpErr.Tampered region place)) → out.new ≡ out.old) }
+    ensures after { IfErr result (λ e. (e ≡ OpErr.Sink) ⊎ (e ≡ OpErr.NoMemory) → Went (count_part flat.now.region (blocks_for room.old.pack flat.now.capacity)) none (at R.state vault.old (S.state store.old)) (at R.state vault.new (S.state store.new))) }
     ensures told { (slots : Slots) → Represents room.old.pack flat.now slots (at R.state vault.old (S.state store.old)) → (S.state store.new).lie ≡ None
         → MatchResult result (λ answer. answer ≡ answer_of (buffered room.old.pack room.old.rows) (length (group_heads key (filter (is_true pred.now) (rows_in slots))))) (λ e. (e ≡ OpErr.Failed) ⊎ (e ≡ OpErr.Sink) ⊎ (e ≡ OpErr.NoMemory)) }
 {

@@ -10,10 +10,10 @@ ghost use Rattle.ob_group.specs.Running.{AreWithin, starts, grown_all};
 ghost use Rattle.ob_group.specs.Grouping.{Group, aggs_of, group_with, put_row, group_shown};
 ghost use Rattle.ob_group.specs.Held.{HoldsKey, HoldsGroup, AreGroups, kind_at};
 
-use crate::fields::{add_totals, key_in, put_key, show_items, start_totals};
+use crate::fields::{add_totals, show_items, start_totals};
 use ob_base::{Kind, Schema, Shown};
 use ob_room::ClearRow;
-use ob_row::{Cell, Item, Malformed, decode};
+use ob_row::{Cell, Item, Malformed, cell_in, decode, put_cell};
 
 // The kind of the column at a place.
 pub(crate) fn kind_at(schema: &Schema, i: u8) -> Kind
@@ -35,7 +35,7 @@ fn start_bytes(kind: Kind, key: &Cell, items: &[Item], bytes: &mut [u8])
 {
     let (field, rest) = bytes.split_at_mut(kind.width() as usize);
     let (fields, _) = rest.split_at_mut(16 * items.len());
-    put_key(kind, key, field);
+    put_cell(kind, key, field);
     start_totals(items, fields);
 }
 
@@ -66,7 +66,7 @@ fn key_of(kind: Kind, bytes: &[u8]) -> Cell
     ensures { (x : RowCell) → HoldsKey kind x bytes.now → result ≡ x }
 {
     let (field, _) = bytes.split_at(kind.width() as usize);
-    key_in(kind, field)
+    cell_in(kind, field).unwrap()
 }
 
 // The items of the group that these bytes hold, as they are printed.
@@ -123,7 +123,7 @@ fn place(kind: Kind, key: &Cell, groups: &[ClearRow], n: usize) -> usize
 {
     let mut buffer = [0; 256];
     let (field, _) = buffer.split_at_mut(kind.width() as usize);
-    put_key(kind, key, field);
+    put_cell(kind, key, field);
     place_of(kind, field, groups, n)
 }
 

@@ -14,13 +14,8 @@ use Rattle.ob_blocks.specs.Blocks.{block_at}
 use Rattle.ob_flat.specs.declared.flat.Flat.{Flat}
 use Rattle.ob_flat.specs.Slots.{block_bytes}
 use Rattle.ob_flat.specs.Flats.{IsMade, IsFlat, table_region}
+use Rattle.ob_flat.proofs.Tables.{not_last, at_last}
 use Rattle.ob_join.specs.Filling.{IsFilling, HoldsFirst}
-
-not_last : (i n : ℕ) → i < n → (if i == n then 0 else i) ≡ i
-not_last i n h = grind (arith, nat_tests)
-
-at_last : (i n : ℕ) → i ≡ n → (if i == n then 0 else i) ≡ 0
-at_last i n h = grind (arith, nat_tests)
 
 at_first : (i n : ℕ) → i ≡ 0 → (if i == n then 0 else i) ≡ 0
 at_first i n h = grind (arith, nat_tests)

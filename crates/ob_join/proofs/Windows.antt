@@ -1,6 +1,6 @@
 -- The rows of some blocks among those that are kept.
-use Rattle.std.proofs.Common.{◌≡◌, ◌≤◌, ◌<◌, ◌+◌, ◌-◌, ◌*◌, ℕ, List, [], ◌++◌, Option, None, length, take, drop, slice_index_or, refl, inl, inr, sym, ◌∙◌, ap, subst, arith, length-append}
-use Rattle.std.proofs.lemmas.List.{get_or-take, get_or-drop, get_or_append_left, length-take, length-drop}
+use Rattle.std.proofs.Common.{◌≡◌, ◌≤◌, ◌<◌, ◌+◌, ◌-◌, ◌*◌, ℕ, List, [], ◌++◌, Option, None, length, take, drop, replicate, slice_index_or, refl, inl, inr, sym, ◌∙◌, ap, subst, arith, length-append}
+use Rattle.std.proofs.lemmas.List.{get_or-take, get_or-drop, get_or-replicate, get_or_append_left, length-take, length-drop, length-replicate}
 use Rattle.std.proofs.Math.Seq.{get_or-append_right}
 use Rattle.std.proofs.lemmas.Bool.{cases_lt}
 use borrow.Rule.Slice.PartMut.{put_mid}
@@ -9,12 +9,14 @@ use Rattle.ob_base.specs.Numbers.{blocks_for}
 use Rattle.ob_base.specs.Schemas.{Columns}
 use Rattle.ob_store.proofs.Steps.{length-each}
 use Rattle.ob_script.specs.Parts.{read_from}
+use Rattle.ob_room.specs.RoomState.{clear}
 use Rattle.ob_vault.specs.Rows.{row_at, SameSizes, Wide}
 use Rattle.ob_vault.specs.Places.{RowsFit}
 use Rattle.ob_row.specs.Rows.{Row}
 use Rattle.ob_row.specs.Slots.{Slots}
 use Rattle.ob_row.specs.Spelling.{Begins}
 use Rattle.ob_blocks.specs.Blocks.{block_at}
+use Rattle.ob_blocks.proofs.Blocks.{block-element}
 use Rattle.ob_flat.specs.Slots.{Spelt}
 use Rattle.ob_flat.specs.Flats.{whole_blocks}
 use Rattle.ob_join.specs.Joining.{blocks_from}
@@ -95,16 +97,22 @@ module _ (a r : ℕ) (rows : List (List ℕ)) (fits : a + r ≤ length rows) whe
       ];
     }
 
--- slot z of a block
-pub at-block : (r u z : ℕ) (all : Slots) → z < r → slice_index_or (block_at r all u) z None ≡ slice_index_or all (u * r + z) None
-at-block r u z all below = get_or-take r (drop (u * r) all) z None below ∙ get_or-drop (u * r) all z None
+-- cleared rows are as wide as those of the room
+pub clear_wide : (w v k n : ℕ) (rows : List (List ℕ)) → w ≤ v → rows ≡ drop k (replicate n (clear v)) → Wide w rows
+clear_wide w v k n rows narrow is =
+    let all : Wide w (drop k (replicate n (clear v))) = record {
+      wide = λ j below.
+          let less : k + j < n = omega (arith, below, length-drop k (replicate n (clear v)), length-replicate n (clear v)) in
+          omega (arith, narrow, ap length (get_or-drop k (replicate n (clear v)) j [] ∙ get_or-replicate n (k + j) (clear v) [] less), length-replicate {A = ℕ} v 0);
+    } in
+    subst (Wide w) (sym is) all
 
 -- the rows of a block that was read are those of the next slots
 pub read_next : (columns : Columns) (r first x : ℕ) (all : Slots) (rows : List (List ℕ)) → length rows ≡ r → Spelt columns (block_at r all (first + x)) rows
     → (z : ℕ) → z < r → Begins columns (slice_index_or all (first * r + (x * r + z)) None) (row_at rows z)
 read_next columns r first x all rows size spelt z below =
     let index : (first + x) * r + z ≡ first * r + (x * r + z) = grind arith in
-    subst (λ (s : Option Row). Begins columns s (row_at rows z)) (at-block r (first + x) z all below ∙ ap (λ (i : ℕ). slice_index_or all i None) index) (spelt.each z (omega (arith, size, below)))
+    subst (λ (s : Option Row). Begins columns s (row_at rows z)) (block-element r (first + x) z all None below ∙ ap (λ (i : ℕ). slice_index_or all i None) index) (spelt.each z (omega (arith, size, below)))
 
 pub product_within : (a b r : ℕ) → a ≤ b → a * r ≤ b * r
 product_within a b r fits = grind arith

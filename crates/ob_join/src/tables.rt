@@ -6,7 +6,8 @@ ghost use Rattle.ob_base.specs.Limits.{buffered_blocks};
 ghost use Rattle.ob_base.specs.Numbers.{blocks_for};
 ghost use Rattle.ob_base.specs.Schemas.{width};
 ghost use Rattle.ob_store.specs.Runs.{Began};
-ghost use Rattle.ob_vault.specs.Tied.{Ready};
+ghost use Rattle.ob_vault.specs.declared.region.Order.TheVariants.{Round};
+ghost use Rattle.ob_vault.specs.Tied.{Ready, Lives};
 ghost use Rattle.ob_vault.specs.Calls.{Went, Seals, one};
 ghost use Rattle.ob_vault.specs.Places.{at, RowsFit};
 ghost use Rattle.ob_vault.specs.Rows.{SameSizes, Wide};
@@ -14,7 +15,7 @@ ghost use Rattle.ob_script.specs.Parts.{join_part};
 ghost use Rattle.ob_row.specs.Slots.{Slots};
 ghost use Rattle.ob_row.specs.Results.{joined};
 ghost use Rattle.ob_blocks.specs.Idle.{IsIdle};
-ghost use Rattle.ob_flat.specs.Flats.{IsSized, IsFlat, Represents, Accepts};
+ghost use Rattle.ob_flat.specs.Flats.{IsSized, IsFlat, Represents, Accepts, table_region};
 ghost use Rattle.ob_flat.specs.Passes.{PassCut};
 ghost use Rattle.ob_join.specs.Joining.{joined_in};
 
@@ -77,6 +78,7 @@ fn join_tables<S: BlockStore, R: Revisions>(
     ensures seals { (good : ℕ → List ℕ → Bool) → Accepts good (length rows.old) (sides.now.left.now.schema ++ sides.now.right.now.schema) vault.old.next → Seals good (at R.state vault.old (S.state store.old)) (at R.state vault.new (S.state store.new)) }
     ensures sources { IsFlat (length rows.old) sides.now.left.now (at R.state vault.new (S.state store.new)) × IsFlat (length rows.old) sides.now.right.now (at R.state vault.new (S.state store.new)) }
     ensures value { IfOk result (λ fresh. fresh ≡ record { schema = sides.now.left.now.schema ++ sides.now.right.now.schema; capacity = div_ceil (blocks_for (length rows.old) sides.now.left.now.capacity) buffered * blocks_for (length rows.old) sides.now.right.now.capacity * length rows.old; region = vault.old.next }) }
+    ensures lives { OnOk result (Lives vault.old.next (table_region Round (length rows.old) (sides.now.left.now.schema ++ sides.now.right.now.schema) (div_ceil (blocks_for (length rows.old) sides.now.left.now.capacity) buffered * blocks_for (length rows.old) sides.now.right.now.capacity * length rows.old)) (at R.state vault.new (S.state store.new))) }
     ensures flat { IfOk result (λ fresh. IsFlat (length rows.old) fresh (at R.state vault.new (S.state store.new))) }
     ensures told { IsTrue (S.state store.old).tells → (left_slots right_slots : Slots) → Represents (length rows.old) sides.now.left.now left_slots (at R.state vault.old (S.state store.old)) → Represents (length rows.old) sides.now.right.now right_slots (at R.state vault.old (S.state store.old)) → (S.state store.new).lie ≡ None
         → MatchResult result
@@ -147,6 +149,7 @@ pub fn join<S: BlockStore, R: Revisions>(
     ensures room { room.new ≡ record room.old { high = max room.old.high (2 * room.old.pack + buffered_blocks room.old.pack room.old.rows * room.old.pack) } }
     ensures sources { IsFlat room.old.pack left.now (at R.state vault.new (S.state store.new)) × IsFlat room.old.pack right.now (at R.state vault.new (S.state store.new)) }
     ensures value { IfOk result (λ fresh. fresh ≡ record { schema = left.now.schema ++ right.now.schema; capacity = joined_slots room.old.pack room.old.rows left.now.capacity right.now.capacity; region = vault.old.next }) }
+    ensures lives { OnOk result (Lives vault.old.next (table_region Round room.old.pack (left.now.schema ++ right.now.schema) (joined_slots room.old.pack room.old.rows left.now.capacity right.now.capacity)) (at R.state vault.new (S.state store.new))) }
     ensures flat { IfOk result (λ fresh. IsFlat room.old.pack fresh (at R.state vault.new (S.state store.new))) }
     ensures told { IsTrue (S.state store.old).tells → (left_slots right_slots : Slots) → Represents room.old.pack left.now left_slots (at R.state vault.old (S.state store.old)) → Represents room.old.pack right.now right_slots (at R.state vault.old (S.state store.old)) → (S.state store.new).lie ≡ None
         → MatchResult result

@@ -6,18 +6,21 @@ use Rattle.ob_base.specs.Schemas.{width}
 use Rattle.ob_room.specs.RoomState.{RoomState}
 use Rattle.ob_vault.specs.Places.{at}
 use Rattle.ob_vault.specs.Rows.{SameSizes}
+use Rattle.ob_vault.proofs.RowsLemmas.{sizes_join}
 use Rattle.ob_vault.specs.Tied.{IsUnfit}
 use Rattle.ob_row.specs.Slots.{Slots, rows}
 use Rattle.ob_row.specs.Totals.{grouped}
 use Rattle.ob_row.specs.Truth.{is_true}
 use Rattle.ob_flat.specs.Flats.{Represents}
+use Rattle.ob_flat.proofs.Rooms.{open_fits, opened_wide, opened_closed}
 use Rattle.ob_group.specs.Answers.{MatchGrouped}
 use Rattle.ob_group.specs.Labels.{header}
-use Rattle.ob_group.proofs.Opened.{open_fits, sizes_join, opened_wide, opened_closed}
 use Rattle.ob_group.proofs.grouping.group.Goals as goal
 
 opens : (s : RoomState) (pack rows : ℕ) → pack ≡ s.pack → rows ≡ s.rows → 3 * s.pack + 1 ≤ s.rows → pack + buffered_blocks pack rows * pack ≤ s.rows
-opens s pack rows same all enough = subst (λ (n : ℕ). pack + buffered_blocks pack rows * pack ≤ n) all (open_fits pack rows (omega (arith, same, all, enough)))
+opens s pack rows same all enough =
+    let one : 1 * pack ≡ pack = omega arith in
+    omega (arith, all, one, open_fits 1 pack rows (omega arith) (omega (arith, same, all, enough)))
 
 pub clear_shelf-requires-clause-wide : goal.clear_shelf-requires-clause-wide
 clear_shelf-requires-clause-wide g c =

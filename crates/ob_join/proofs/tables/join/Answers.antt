@@ -4,15 +4,17 @@ use Rattle.ob_base.specs.Limits.{buffered_blocks}
 use Rattle.ob_base.specs.Numbers.{blocks_for}
 use Rattle.ob_base.specs.Schemas.{width}
 use Rattle.ob_vault.specs.Rows.{SameSizes}
+use Rattle.ob_vault.proofs.RowsLemmas.{sizes_join}
+use Rattle.ob_flat.proofs.Rooms.{open_fits, opened_wide, opened_closed}
 use Rattle.ob_room.specs.RoomState.{RoomState}
 use Rattle.ob_row.specs.Results.{joined}
 use Rattle.ob_join.specs.Joining.{joined_in}
 use Rattle.ob_join.proofs.Making.{left_narrow, joined_is, told_is}
-use Rattle.ob_join.proofs.Opened.{open_fits, clear_wide, sizes_join, opened_wide, opened_closed}
+use Rattle.ob_join.proofs.Windows.{clear_wide}
 use Rattle.ob_join.proofs.tables.join.Goals as goal
 
 opens : (s : RoomState) (pack rows : ℕ) → pack ≡ s.pack → rows ≡ s.rows → 3 * s.pack + 1 ≤ s.rows → 2 * pack + buffered_blocks pack rows * pack ≤ s.rows
-opens s pack rows same all enough = subst (λ (n : ℕ). 2 * pack + buffered_blocks pack rows * pack ≤ n) all (open_fits pack rows (omega (arith, same, all, enough)))
+opens s pack rows same all enough = subst (λ (n : ℕ). 2 * pack + buffered_blocks pack rows * pack ≤ n) all (open_fits 2 pack rows (omega arith) (omega (arith, same, all, enough)))
 
 -- three parts that are as wide as they were
 sizes_three : (all front a b c d e f : List (List ℕ)) → all ≡ front ++ c → front ≡ a ++ b → SameSizes a d → SameSizes b e → SameSizes c f → SameSizes all (d ++ e ++ f)

@@ -7,8 +7,9 @@ use Rattle.ob_base.specs.Numbers.{blocks_for}
 use Rattle.ob_base.specs.Schemas.{Columns, width}
 use Rattle.ob_script.specs.Parts.{join_chunk}
 use Rattle.ob_vault.specs.Calls.{one}
-use Rattle.ob_vault.proofs.Runs.{went_join, tells_went, lives_apart, seals_join, lasts_trans}
-use Rattle.ob_flat.specs.Flats.{Accepts}
+use Rattle.ob_vault.proofs.Runs.{went_join, tells_went, lives_apart, shape_lasts, seals_join, lasts_trans}
+use Rattle.ob_vault.specs.declared.region.Order.TheVariants.{Round}
+use Rattle.ob_flat.specs.Flats.{Accepts, table_region}
 use Rattle.ob_flat.proofs.Runs.{pass_more, pass_after, pass_then}
 use Rattle.ob_flat.proofs.Tables.{flat_lasts, represents_lasts}
 use Rattle.ob_join.proofs.Lengths.{product_least}
@@ -99,6 +100,21 @@ returns-in-Ok-clause-sources g c =
       flat_lasts pack c.args.sides.now.left.now (one next) _ _ lasts (lives_apart _ _ _ c.requires.ready c.requires.left.made.lives) c.requires.left,
       flat_lasts pack c.args.sides.now.right.now (one next) _ _ lasts (lives_apart _ _ _ c.requires.ready c.requires.right.made.lives) c.requires.right,
     )
+
+pub returns-in-Ok-clause-lives : goal.returns-in-Ok-clause-lives
+returns-in-Ok-clause-lives g c =
+    let pack = length c.args.rows.now in
+    let next = c.args.vault.now.next in
+    let lefts = c.args.sides.now.left.now in
+    let rights = c.args.sides.now.right.now in
+    let q = c.args.buffered in
+    let schema = lefts.schema ++ rights.schema in
+    let capacity = div_ceil (blocks_for pack lefts.capacity) q * blocks_for pack rights.capacity * pack in
+    let slots = capacity_is pack lefts.capacity rights.capacity q c.div_ceil.result c.div_ceil-chunks.result c.div_ceil-2.result c.div_ceil.ensures c.div_ceil-chunks.ensures c.div_ceil-2.ensures in
+    let filled = rw c.in_ok-region.ensures.number at c.in-Ok.ensures.ok in
+    let made = rw (slots, c.joined_schema-schema.ensures) at c.in_ok-region.ensures.lives in
+    let there = rw (c.in_ok-region.ensures.number, slots, c.joined_schema-schema.ensures) at c.in-Ok.ensures.flat in
+    shape_lasts (one next) _ _ next (table_region Round pack schema capacity) _ c.in_ok-region.ensures.ok.lasts.ready filled.lasts made there.made.lives
 
 pub returns-in-Ok-clause-told : goal.returns-in-Ok-clause-told
 returns-in-Ok-clause-told g c = λ tells left right first second nolie.
