@@ -9,3 +9,5 @@ mod large;
 mod numbers;
 #[cfg(test)]
 mod tests;
+#[cfg(test)]
+mod texts;

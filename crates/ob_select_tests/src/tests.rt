@@ -102,7 +102,12 @@ fn entry(access: Access) -> (u8, u64, u32, u32) {
 }
 
 // The accesses from the one of this index on, and no others.
-fn check<S: BlockStore>(rt: &impl Abort, store: &S, from: u64, wanted: &[(u8, u64, u32, u32)]) {
+pub(crate) fn check<S: BlockStore>(
+    rt: &impl Abort,
+    store: &S,
+    from: u64,
+    wanted: &[(u8, u64, u32, u32)],
+) {
     let mut at = from;
     for want in wanted {
         assert!(rt; at < store.count());
