@@ -2,8 +2,7 @@ use Rattle.std.proofs.Common.{sym, subst}
 use Rattle.ob_room.specs.RoomState.{RoomState}
 use Rattle.ob_vault.specs.Places.{at}
 use Rattle.ob_flat.specs.Flats.{IsWritten}
-use Rattle.ob_flat.proofs.Resting.{ready_rests}
-use Rattle.ob_select_tests.proofs.Resting.{written_rests}
+use Rattle.ob_flat.proofs.Resting.{ready_rests, written_rests}
 use Rattle.ob_select_tests.proofs.tests.select_emit.Goals as goal
 
 pub emit_all-requires-clause-ready : goal.emit_all-requires-clause-ready
