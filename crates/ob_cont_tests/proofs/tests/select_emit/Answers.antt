@@ -4,18 +4,12 @@ use Rattle.ob_base.specs.Labels.{IsNamed}
 use Rattle.ob_base.specs.Numbers.{blocks_for}
 use Rattle.ob_base.specs.Schemas.{Columns}
 use Rattle.ob_room.specs.RoomState.{RoomState}
-use Rattle.ob_store.specs.State.{StoreState}
-use Rattle.ob_store.specs.Calls.{Rests}
-use Rattle.ob_vault.specs.State.{VaultState}
 use Rattle.ob_vault.specs.Places.{at}
 use Rattle.ob_flat.specs.declared.flat.Flat.{Flat}
 use Rattle.ob_flat.specs.Flats.{IsWritten}
-use Rattle.ob_flat.proofs.Resting.{ready_rests}
+use Rattle.ob_flat.proofs.Resting.{ready_rests, written_rests}
 use Rattle.ob_flat.proofs.Tables.{blocks_few}
 use Rattle.ob_cont_tests.proofs.tests.select_emit.Goals as goal
-
-written_rests : (v : VaultState) (s t : StoreState) → Rests s t → (pack : ℕ) (flat : Flat) → IsWritten pack flat (record { vault = v; store = s }) → IsWritten pack flat (record { vault = v; store = t })
-written_rests v s t rests pack flat is = record { order = is.order; lives = record { live = is.lives.live }; written = λ p below. record { number = (is.written p below).number } }
 
 -- what few rows ask
 asked : (pack k n : ℕ) → 1 ≤ pack → k ≤ 5 → n ≡ 5 → 1 + blocks_for pack k + blocks_for pack n + 2 * n ≤ 21
