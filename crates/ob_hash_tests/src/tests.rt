@@ -103,13 +103,23 @@ fn entry(access: Access) -> (u8, u64, u32, u32) {
     }
 }
 
+// The access of this index; answers the next one's.
+fn check_next<S: BlockStore>(
+    rt: &impl Abort,
+    store: &S,
+    at: u64,
+    want: (u8, u64, u32, u32),
+) -> u64 {
+    assert!(rt; at < store.count());
+    assert_eq!(rt; entry(store.nth(at)), want, "at {at}");
+    at + 1
+}
+
 // The accesses from the one of this index on, and no others.
 fn check<S: BlockStore>(rt: &impl Abort, store: &S, from: u64, wanted: &[(u8, u64, u32, u32)]) {
     let mut at = from;
     for want in wanted {
-        assert!(rt; at < store.count());
-        assert_eq!(rt; entry(store.nth(at)), *want, "at {at}");
-        at += 1;
+        at = check_next(rt, store, at, *want);
     }
     assert_eq!(rt; at, store.count());
 }
@@ -606,4 +616,105 @@ fn goes_on_to_the_second_bucket(rt: HostRuntime) {
             wanted: &SIX,
         },
     );
+}
+
+// Thirteen rows, of which nine have the same second cell.
+const THIRTEEN: [(i64, i64); 13] = [
+    (1, 10),
+    (2, 10),
+    (3, 10),
+    (4, 10),
+    (5, 10),
+    (6, 10),
+    (7, 10),
+    (8, 10),
+    (9, 20),
+    (10, 10),
+    (11, 20),
+    (12, 20),
+    (13, 20),
+];
+
+// The buckets of their slots, where there are nine.
+const BUCKETS: [(u32, u32); 13] = [
+    (0, 0),
+    (5, 5),
+    (2, 1),
+    (7, 5),
+    (4, 1),
+    (0, 6),
+    (6, 2),
+    (2, 6),
+    (8, 2),
+    (5, 7),
+    (1, 2),
+    (7, 7),
+    (3, 3),
+];
+
+// The accesses of their selection into nine buckets of one block, from the one of this index on, and no
+// others.
+fn check_buckets<S: BlockStore>(rt: &impl Abort, store: &S, from: u64) {
+    let mut at = check_next(rt, store, from, (b'M', 15, 9, 49));
+    for place in 0..9 {
+        at = check_next(rt, store, at, (b'W', 15, place, 0));
+    }
+    for slot in 0..13 {
+        let (first, second) = BUCKETS[slot as usize];
+        at = check_next(rt, store, at, (b'R', 14, slot, 0));
+        at = check_next(rt, store, at, (b'R', 15, first, 0));
+        at = check_next(rt, store, at, (b'W', 15, first, 0));
+        at = check_next(rt, store, at, (b'R', 15, second, 0));
+        at = check_next(rt, store, at, (b'W', 15, second, 0));
+    }
+    assert_eq!(rt; at, store.count());
+}
+
+// A table of as many slots as it has rows, and its selection into nine buckets of one block: the slot that
+// overflows.
+fn select_into_nine<S: BlockStore, R: Revisions>(
+    rt: &impl Abort,
+    store: &mut S,
+    mut vault: Vault<R>,
+    mut room: Room,
+    rows: &[(i64, i64)],
+    pred: &Pred,
+) -> Option<u32>
+    requires ready { Ready (at R.state vault (S.state store.old)) }
+    requires room { IsIdle 17 room }
+    requires rows { (9 ≤ length rows.now) × (length rows.now ≤ 16) }
+{
+    let schema = two_ints();
+    let slots = rows.len() as u32;
+    store.room(100_000_000).expect(rt, "room");
+    assert!(rt; store.count() < 1);
+    let mut flat = create(store, &mut vault, &mut room, &schema, slots).expect(rt, "create");
+    insert_rows(rt, store, &mut vault, &mut room, &mut flat, rows);
+    store.room(100_000_000).expect(rt, "room");
+    assert!(rt; store.count() < 1_000_000);
+    let from = store.count();
+    let placed = select(store, &mut vault, &mut room, &flat, pred, 9, 1);
+    let (_, overflow) = parts(placed.expect(rt, "select"));
+    assert_eq!(rt; store.count(), from + 75);
+    check_buckets(rt, store, from);
+    overflow
+}
+
+fn overflow_of_nine(rt: &impl Abort, alloc: Global, pred: &Pred) -> Option<u32> {
+    let mut store = MemStore::new(alloc);
+    let vault: Vault<BaseRevs> = Vault::new(alloc, Keys::derive(&[0; 32]));
+    let room = Room::new(alloc, 4, 1024, 1).expect(rt, "rows");
+    select_into_nine(rt, &mut store, vault, room, &THIRTEEN, pred)
+}
+
+// Both buckets of slot 6 are full, whether or not the rows behind it are selected. The accesses are those
+// of a selection of no row.
+#[test]
+fn overflows_at_slot_six_of_thirteen(rt: HostRuntime) {
+    let nine = overflow_of_nine(&rt, rt.alloc(), &equals(1, 10));
+    assert_eq!(rt; nine, Some(6));
+    let all = overflow_of_nine(&rt, rt.alloc(), &Pred::all());
+    assert_eq!(rt; all, Some(6));
+    let none = overflow_of_nine(&rt, rt.alloc(), &equals(1, 30));
+    assert_eq!(rt; none, None);
 }

@@ -1,17 +1,11 @@
 use Rattle.std.proofs.Common.{◌≡◌, ◌≤◌, ◌*◌, ℕ, sym, ◌∙◌, ap, subst, arith}
 use Rattle.ob_room.specs.RoomState.{RoomState}
-use Rattle.ob_store.specs.State.{StoreState}
 use Rattle.ob_vault.specs.Places.{at}
-use Rattle.ob_vault.specs.State.{VaultState}
 use Rattle.ob_flat.specs.declared.flat.Flat.{Flat}
 use Rattle.ob_flat.specs.Flats.{IsWritten}
-use Rattle.ob_flat.proofs.Resting.{ready_rests}
+use Rattle.ob_flat.proofs.Resting.{ready_rests, written_rests}
 use Rattle.ob_flat.proofs.Tables.{blocks_few}
 use Rattle.ob_hash_tests.proofs.tests.select_emit.Goals as goal
-
--- what was written doesn't hang on the store
-written_rests : (v : VaultState) (s t : StoreState) (pack : ℕ) (flat : Flat) → IsWritten pack flat (record { vault = v; store = s }) → IsWritten pack flat (record { vault = v; store = t })
-written_rests v s t pack flat is = record { order = is.order; lives = record { live = is.lives.live }; written = λ p below. record { number = (is.written p below).number } }
 
 -- few buckets of few slots
 slots_few : (k depth pack : ℕ) → k ≤ 16 → depth ≤ 8 → pack ≤ 16 → (k * depth) * pack ≤ 2048
@@ -52,7 +46,7 @@ emit_all-requires-clause-flat g c =
     let pack : c.select-placed.new.room.pack ≡ c.count.new.room.pack = ap (λ (r : RoomState). r.pack) c.select-placed.ensures.room in
     let same = subst (λ (f : Flat). IsWritten c.count.new.room.pack f after) (sym c.parts-result.ensures) made in
     let here = subst (λ (n : ℕ). IsWritten n c.parts-result.result.0 after) (sym pack) same in
-    written_rests _ _ _ _ _ here
+    written_rests _ _ _ c.room-3.ensures.rests _ _ here
 
 pub discard-requires-clause-ready : goal.discard-requires-clause-ready
 discard-requires-clause-ready g c =
