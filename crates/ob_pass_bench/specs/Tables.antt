@@ -20,14 +20,24 @@ pub record HasColumns (n bytes : ℕ) (columns : Columns) : Type 0 where
   pub names : All IsNamed columns
   pub number : (y : ℤ) → FitsSigned w64 y → FitsSets columns ((1, Int y) ∷ [])
 
+-- the columns of a table that is measured
+pub record AreColumns (columns : Columns) : Type 0 where
+  pub least : 2 ≤ length columns
+  pub most : length columns ≤ 6
+  pub wide : width columns ≤ 1024
+  pub names : All IsNamed columns
+  pub number : (y : ℤ) → FitsSigned w64 y → FitsSets columns ((1, Int y) ∷ [])
+
+-- rows of it may be opened
+pub record IsOpen (columns : Columns) (room : RoomState) : Type 0 where
+  pub idle : IsIdle (width columns) room
+  pub some : 1 ≤ room.pack
+  pub broad : room.width ≡ 1024
+
 -- a pass may run over the table
 pub record MayRun (room : RoomState) (flat : Flat) (w : World) : Type 0 where
   pub ready : Ready w
   pub table : IsFlat room.pack flat w
   pub size : IsSized flat.schema flat.capacity
-  pub idle : IsIdle (width flat.schema) room
-  pub some : 1 ≤ room.pack
-  pub n : ℕ
-  pub columns : HasColumns n (width flat.schema) flat.schema
-  pub least : 2 ≤ n
-  pub most : n ≤ 6
+  pub columns : AreColumns flat.schema
+  pub place : IsOpen flat.schema room

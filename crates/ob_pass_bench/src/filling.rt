@@ -10,9 +10,9 @@ ghost use Rattle.ob_vault.specs.Calls.{Went, one};
 ghost use Rattle.ob_vault.specs.Places.{at, RowsFit};
 ghost use Rattle.ob_vault.specs.Rows.{SameSizes, Wide};
 ghost use Rattle.ob_vault.specs.Tied.{Ready, Lives, OnTurn};
-ghost use Rattle.ob_blocks.specs.Idle.{IsIdle};
 ghost use Rattle.ob_flat.specs.declared.flat.Flat.{Flat as Table};
 ghost use Rattle.ob_flat.specs.Flats.{IsSized, IsFlat, table_region};
+ghost use Rattle.ob_pass_bench.specs.Tables.{AreColumns, IsOpen, MayRun};
 
 use crate::schemas::cells_of;
 use ob_base::Schema;
@@ -124,12 +124,12 @@ pub(crate) fn filled<S: BlockStore, R: Revisions>(
 ) -> Result<Flat, OpErr>
     requires ready { Ready (at R.state vault.old (S.state store.old)) }
     requires size { IsSized schema.now capacity }
-    requires room { IsIdle (width schema.now) room.old }
-    ensures ready { OnOk result (Ready (at R.state vault.new (S.state store.new))) }
+    requires columns { AreColumns schema.now }
+    requires place { IsOpen schema.now room.old }
     ensures value { IfOk result (λ flat. (flat.schema ≡ schema.now) × (flat.capacity ≡ capacity)) }
-    ensures flat { IfOk result (λ flat. IsFlat room.old.pack flat (at R.state vault.new (S.state store.new))) }
     ensures room { OnOk result (room.new ≡ record room.old { high = max room.old.high room.old.pack }) }
-    ensures beside { OnOk result ((other : Table) → IsFlat room.old.pack other (at R.state vault.old (S.state store.old)) → IsFlat room.old.pack other (at R.state vault.new (S.state store.new))) }
+    ensures runs { IfOk result (λ flat. MayRun room.new flat (at R.state vault.new (S.state store.new))) }
+    ensures beside { OnOk result ((other : Table) → MayRun room.old other (at R.state vault.old (S.state store.old)) → MayRun room.new other (at R.state vault.new (S.state store.new))) }
 {
     make_room(store, 1 + u64::from(capacity))?;
     let pack = room.pack();

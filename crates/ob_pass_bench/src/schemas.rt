@@ -1,10 +1,11 @@
 //! The columns of the tables: two numbers, and as many texts as fill the width.
 ghost use Rattle.std.specs.Prelude.{◌≡◌, ◌≤◌, ◌+◌, ◌++◌, ◌∷◌, [], ℕ, List, IfSome, IfOk, OnOk, length};
+ghost use Rattle.ob_base.specs.Schemas.{width};
 ghost use Rattle.ob_base.specs.Labels.{IsNamed};
 ghost use Rattle.ob_base.specs.declared.schema.Kind.TheVariants.{Varchar};
 ghost use Rattle.ob_row.specs.Spelling.{FitsKind, FitsText, Fits};
 ghost use Rattle.ob_row.specs.Rows.{Row};
-ghost use Rattle.ob_pass_bench.specs.Tables.{HasColumns};
+ghost use Rattle.ob_pass_bench.specs.Tables.{HasColumns, AreColumns};
 
 use ob_base::{Column, Kind, Name, NoMemory, Schema, Text};
 use ob_row::Cell;
@@ -54,10 +55,11 @@ fn with_texts(n: u8) -> Schema
 }
 
 /// The columns of a table whose rows have so many bytes, for the widths that are measured.
-pub(crate) fn schema_of(width: u32) -> Option<Schema>
-    ensures { IfSome result (λ schema. (count : ℕ) × (2 ≤ count) × (count ≤ 6) × (width ≤ 1024) × HasColumns count width schema) }
+pub(crate) fn schema_of(bytes: u32) -> Option<Schema>
+    ensures columns { IfSome result AreColumns }
+    ensures wide { IfSome result (λ schema. width schema ≡ bytes) }
 {
-    match width {
+    match bytes {
         17 => Some(two_numbers()),
         128 => Some(with_text(two_numbers(), 110)),
         1008 => Some(with_texts(222)),

@@ -1,0 +1,40 @@
+//! The join of two tables by their keys.
+ghost use Rattle.ob_vault.specs.Places.{at};
+ghost use Rattle.ob_pass_bench.specs.Tables.{MayRun};
+
+use crate::filling::make_room;
+use ob_flat::{Flat, OpErr};
+use ob_join::join;
+use ob_room::Room;
+use ob_store::BlockStore;
+use ob_vault::{Revisions, Vault};
+
+/// The most bytes of a joined row, and the most slots of its table.
+const WIDEST: u32 = 1024;
+
+const MOST: u64 = 16_777_216;
+
+/// Joins two tables, and answers the slots of the result. `NoMemory` where it is larger than a table may be.
+pub(crate) fn join_keys<S: BlockStore, R: Revisions>(
+    store: &mut S,
+    vault: &mut Vault<R>,
+    room: &mut Room,
+    left: &Flat,
+    right: &Flat,
+) -> Result<u64, OpErr>
+    requires left { MayRun room.old left.now (at R.state vault.old (S.state store.old)) }
+    requires right { MayRun room.old right.now (at R.state vault.old (S.state store.old)) }
+{
+    let pack = room.pack();
+    let buffered = (room.rows() - 2 * pack) / pack;
+    let lefts = left.capacity.div_ceil(pack);
+    let rights = right.capacity.div_ceil(pack);
+    let blocks = u64::from(lefts.div_ceil(buffered)) * u64::from(rights);
+    let width = left.schema.width() + right.schema.width() - 1;
+    if width > WIDEST || blocks > MOST || blocks * u64::from(pack) > MOST {
+        return Err(OpErr::NoMemory);
+    }
+    make_room(store, 1 + u64::from(lefts) + 2 * blocks)?;
+    let joined = join(store, vault, room, left, right, 0, 0)?;
+    Ok(u64::from(joined.capacity))
+}
