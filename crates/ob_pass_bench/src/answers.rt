@@ -1,6 +1,4 @@
 //! The passes that answer rows: aggregates, groups and emission.
-ghost use Rattle.std.specs.Prelude.{◌≡◌, ◌≤◌, ◌<◌, ℕ, length};
-ghost use Rattle.std.specs.List.{All};
 ghost use Rattle.ob_vault.specs.Places.{at};
 ghost use Rattle.ob_pass_bench.specs.Tables.{MayRun};
 

@@ -1,5 +1,5 @@
 //! Tables full of rows.
-ghost use Rattle.std.specs.Prelude.{◌≡◌, ◌≢◌, ◌≤◌, ◌<◌, ◌+◌, ◌*◌, ◌^◌, max, ℕ, IfOk, OnOk, length};
+ghost use Rattle.std.specs.Prelude.{◌≡◌, ◌≤◌, ◌<◌, ◌+◌, ◌*◌, ◌^◌, max, IfOk, OnOk, length};
 ghost use Rattle.ob_base.specs.Accesses.{write_at};
 ghost use Rattle.ob_base.specs.Lists.{each};
 ghost use Rattle.ob_base.specs.Numbers.{blocks_for};

@@ -1,5 +1,5 @@
 //! One pass over a table of its own.
-ghost use Rattle.std.specs.Prelude.{◌≡◌, ◌≤◌};
+ghost use Rattle.std.specs.Prelude.{◌≤◌};
 ghost use Rattle.ob_vault.specs.Places.{at};
 ghost use Rattle.ob_vault.specs.Tied.{Ready};
 ghost use Rattle.ob_pass_bench.specs.Tables.{AreColumns, IsOpen, MayRun};

@@ -1,8 +1,7 @@
 //! The columns of the tables: two numbers, and as many texts as fill the width.
-ghost use Rattle.std.specs.Prelude.{◌≡◌, ◌≤◌, ◌+◌, ◌++◌, ◌∷◌, [], ℕ, List, IfSome, IfOk, OnOk, length};
+ghost use Rattle.std.specs.Prelude.{◌≡◌, ◌≤◌, ◌+◌, ◌++◌, ℕ, IfSome, IfOk, OnOk, length};
 ghost use Rattle.ob_base.specs.Schemas.{width};
 ghost use Rattle.ob_base.specs.Labels.{IsNamed};
-ghost use Rattle.ob_base.specs.declared.schema.Kind.TheVariants.{Varchar};
 ghost use Rattle.ob_row.specs.Spelling.{FitsKind, FitsText, Fits};
 ghost use Rattle.ob_row.specs.Rows.{Row};
 ghost use Rattle.ob_pass_bench.specs.Tables.{HasColumns, AreColumns};

@@ -1,8 +1,6 @@
-use Rattle.std.proofs.Common.{◌≡◌, ◌<◌, ◌==◌, if◌then◌else◌, ℕ, length, refl, ◌∙◌, arith, below_more}
-use Rattle.std.proofs.lemmas.Bool.Decides.{nat_tests}
+use Rattle.std.proofs.Common.{◌≡◌, ◌==◌, if◌then◌else◌, ℕ, length, refl, ◌∙◌, arith, below_more}
 use Rattle.ob_base.specs.Accesses.{write_at}
 use Rattle.ob_base.specs.Lists.{each}
-use Rattle.ob_base.specs.Numbers.{blocks_for}
 use Rattle.ob_base.specs.Schemas.{width}
 use Rattle.ob_store.proofs.Steps.{length-each}
 use Rattle.ob_vault.specs.declared.region.Order.TheVariants.{Round}

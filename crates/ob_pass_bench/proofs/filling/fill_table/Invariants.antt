@@ -1,7 +1,6 @@
 use Rattle.std.proofs.Common.{◌<◌, ◌==◌, if◌then◌else◌, ℕ, length}
 use Rattle.ob_base.specs.Accesses.{write_at}
 use Rattle.ob_base.specs.Lists.{each}
-use Rattle.ob_base.specs.Numbers.{blocks_for}
 use Rattle.ob_vault.specs.declared.region.Order.TheVariants.{Round}
 use Rattle.ob_vault.specs.Tied.{Lives, Written, OnTurn}
 use Rattle.ob_vault.specs.Calls.{Went, one}

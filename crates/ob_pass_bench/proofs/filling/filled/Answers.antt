@@ -1,13 +1,10 @@
 use Rattle.std.proofs.Common.{◌∙◌, arith}
 use Rattle.ob_base.specs.Schemas.{width}
-use Rattle.ob_room.specs.RoomState.{RoomState}
 use Rattle.ob_vault.specs.Calls.{one}
-use Rattle.ob_vault.specs.Places.{at}
 use Rattle.ob_vault.proofs.Runs.{lives_apart}
 use Rattle.ob_flat.proofs.Resting.{ready_rests, flat_rests}
 use Rattle.ob_flat.proofs.Rooms.{shelf_wide, room_after, rows_count}
 use Rattle.ob_flat.proofs.Tables.{flat_lasts}
-use Rattle.ob_pass_bench.specs.Tables.{MayRun}
 use Rattle.ob_pass_bench.proofs.Running.{runs_after, run_over}
 use Rattle.ob_pass_bench.proofs.filling.filled.Goals as goal
 

@@ -1,9 +1,8 @@
-use Rattle.std.proofs.Common.{◌≡◌, ◌≤◌, ◌+◌, ◌*◌, ◌++◌, ℕ, length, subst, arith, length-append}
+use Rattle.std.proofs.Common.{◌≡◌, ◌≤◌, ◌+◌, ◌*◌, ℕ, subst, arith, length-append}
 use Rattle.std.specs.Int.{div_ceil}
 use Rattle.ob_base.specs.Limits.{buffered_blocks}
 use Rattle.ob_base.specs.Numbers.{blocks_for}
 use Rattle.ob_base.specs.Joins.{joined_blocks, joined_slots}
-use Rattle.ob_base.specs.Schemas.{width}
 use Rattle.ob_join.proofs.Pairs.{width-join}
 use Rattle.ob_pass_bench.proofs.joining.join_keys.Goals as goal
 

@@ -1,7 +1,5 @@
-use Rattle.std.proofs.Common.{ℕ, List, sym, subst, arith, zero, suc, true, replicate, refl, ◌≡◌}
+use Rattle.std.proofs.Common.{ℕ, sym, subst, arith, zero, suc, replicate, refl}
 use Rattle.std.proofs.lemmas.List.{take-replicate}
-use Rattle.std.specs.List.{list_all}
-use Rattle.std.specs.Int.{is_in_range}
 use Rattle.ob_base.specs.Texts.{IsPrintable}
 use Rattle.ob_pass_bench.proofs.schemas.text_of.Goals as goal
 
