@@ -1,0 +1,92 @@
+//! The passes that answer rows: aggregates, groups and emission.
+ghost use Rattle.ob_vault.specs.Places.{at};
+ghost use Rattle.ob_pass_bench.specs.Tables.{MayRun};
+
+use crate::filling::make_room;
+use ob_base::{Emit, EmitErr, Label, Shown};
+use ob_emit::emit_all;
+use ob_flat::{Flat, OpErr};
+use ob_group::{aggregate, group};
+use ob_room::Room;
+use ob_row::{Agg, Item, Pred};
+use ob_store::BlockStore;
+use ob_vault::{Revisions, Vault};
+
+// Counts the rows that it takes.
+#[derive(Clone, Copy, Debug, PartialEq, Eq)]
+struct Counter {
+    rows: u64,
+}
+
+impl Emit for Counter {
+    ghost use Rattle.std.specs.Prelude.{⊤};
+
+    ghost grew = { λ a b events. ⊤ };
+
+    ghost cut = { λ a b events. ⊤ };
+
+    ghost faults = { λ d. 0 };
+
+    ghost starts = { λ d. tt };
+
+    fn head(&mut self, _cols: &[Label]) -> Result<(), EmitErr> {
+        Ok(())
+    }
+
+    fn row(&mut self, _cells: &[Shown]) -> Result<(), EmitErr> {
+        self.rows = self.rows.saturating_add(1);
+        Ok(())
+    }
+
+    fn close(&mut self, _k: u64) -> Result<(), EmitErr> {
+        Ok(())
+    }
+}
+
+/// Counts the rows, and sums up their keys.
+pub(crate) fn total<S: BlockStore, R: Revisions>(
+    store: &mut S,
+    vault: &mut Vault<R>,
+    room: &mut Room,
+    flat: &Flat,
+) -> Result<u64, OpErr>
+    requires { MayRun room.old flat.now (at R.state vault.old (S.state store.old)) }
+{
+    make_room(store, u64::from(flat.capacity))?;
+    let aggs = [Agg::CountAll, Agg::Sum(0)];
+    let _totals = aggregate(store, vault, room, flat, &Pred::all(), &aggs)?;
+    Ok(1)
+}
+
+/// Counts the rows of each group, and sums up their keys. There are sixteen groups.
+pub(crate) fn groups<S: BlockStore, R: Revisions>(
+    store: &mut S,
+    vault: &mut Vault<R>,
+    room: &mut Room,
+    flat: &Flat,
+) -> Result<u64, OpErr>
+    requires { MayRun room.old flat.now (at R.state vault.old (S.state store.old)) }
+{
+    make_room(store, u64::from(flat.capacity))?;
+    let items = [Item::Key, Item::Agg(Agg::CountAll), Item::Agg(Agg::Sum(0))];
+    let mut out = Counter { rows: 0 };
+    let _answer = group(store, vault, room, flat, &Pred::all(), 1, &items, &mut out)?;
+    Ok(out.rows)
+}
+
+/// Emits all columns of the rows.
+pub(crate) fn emission<S: BlockStore, R: Revisions>(
+    store: &mut S,
+    vault: &mut Vault<R>,
+    room: &mut Room,
+    flat: &Flat,
+) -> Result<u64, OpErr>
+    requires { MayRun room.old flat.now (at R.state vault.old (S.state store.old)) }
+{
+    make_room(store, u64::from(flat.capacity))?;
+    let places = [0, 1, 2, 3, 4, 5];
+    let cols = &places[..flat.schema.as_slice().len()];
+    let mut out = Counter { rows: 0 };
+    emit_all(store, vault, room, flat, cols, &mut out)?;
+    Ok(out.rows)
+}

@@ -1,0 +1,127 @@
+//! One pass over a table of its own.
+ghost use Rattle.std.specs.Prelude.{◌≤◌};
+ghost use Rattle.ob_vault.specs.Places.{at};
+ghost use Rattle.ob_vault.specs.Tied.{Ready};
+ghost use Rattle.ob_pass_bench.specs.Tables.{AreColumns, IsOpen, MayRun};
+
+use crate::answers::{emission, groups, total};
+use crate::filling::filled;
+use crate::joining::join_keys;
+use crate::mutations::{count_half, delete_half, insert_one, update_half};
+use crate::schemas::schema_of;
+use crate::selects::{continuous, hash, large, small};
+use ob_base::Schema;
+use ob_flat::{Flat, OpErr};
+use ob_room::Room;
+use ob_seal::Keys;
+use ob_store::{BlockStore, MemStore};
+use ob_vault::{BaseRevs, Revisions, Vault};
+use std::alloc::Global;
+
+/// A pass by its letter, the bytes of a row, the rows of a block, the slots of the table, the rows that may
+/// be open, and how many are selected.
+#[derive(Clone, Copy, Debug, PartialEq, Eq)]
+pub(crate) struct Case {
+    pub(crate) pass: u8,
+    pub(crate) width: u32,
+    pub(crate) pack: u32,
+    pub(crate) slots: u32,
+    pub(crate) rows: u32,
+    pub(crate) k: u32,
+}
+
+// Joins a table of numbers with another, or only fills them.
+fn run_join<S: BlockStore, R: Revisions>(
+    alloc: Global,
+    store: &mut S,
+    vault: &mut Vault<R>,
+    room: &mut Room,
+    schemas: (&Schema, &Schema),
+    case: &Case,
+) -> Result<u64, OpErr>
+    requires ready { Ready (at R.state vault.old (S.state store.old)) }
+    requires left { AreColumns schemas.0.now }
+    requires left_place { IsOpen schemas.0.now room.old }
+    requires right { AreColumns schemas.1.now }
+    requires right_place { IsOpen schemas.1.now room.old }
+    requires slots { case.now.slots ≤ 65536 }
+    requires number { (1 ≤ case.now.k) × (case.now.k ≤ case.now.slots) }
+{
+    let left = filled(alloc, store, vault, room, schemas.0, case.k, case.k)?;
+    let right = filled(alloc, store, vault, room, schemas.1, case.slots, case.slots)?;
+    if case.pass == b't' {
+        return Ok(0);
+    }
+    join_keys(store, vault, room, &left, &right)
+}
+
+// Runs the pass over a full table, or one that has a slot for the row that is inserted.
+fn run_pass<S: BlockStore, R: Revisions>(
+    alloc: Global,
+    store: &mut S,
+    vault: &mut Vault<R>,
+    room: &mut Room,
+    flat: &mut Flat,
+    case: &Case,
+) -> Result<u64, OpErr>
+    requires runs { MayRun room.old flat.old (at R.state vault.old (S.state store.old)) }
+    requires number { (1 ≤ case.now.k) × (case.now.k ≤ flat.old.capacity) }
+{
+    match case.pass {
+        b'c' => count_half(store, vault, room, flat),
+        b'i' => insert_one(alloc, store, vault, room, flat),
+        b'u' => update_half(store, vault, room, flat),
+        b'd' => delete_half(store, vault, room, flat),
+        b'S' => small(store, vault, room, flat, case.k),
+        b'L' => large(store, vault, room, flat, case.k),
+        b'C' => continuous(store, vault, room, flat, case.k),
+        b'H' => hash(store, vault, room, flat, case.k),
+        b'a' => total(store, vault, room, flat),
+        b'g' => groups(store, vault, room, flat),
+        b'e' => emission(store, vault, room, flat),
+        _ => Ok(0),
+    }
+}
+
+// Fills what the case asks for, and runs its pass.
+fn run_case<S: BlockStore, R: Revisions>(
+    alloc: Global,
+    store: &mut S,
+    vault: &mut Vault<R>,
+    room: &mut Room,
+    schemas: (&Schema, &Schema),
+    case: &Case,
+) -> Result<u64, OpErr>
+    requires ready { Ready (at R.state vault.old (S.state store.old)) }
+    requires left { AreColumns schemas.0.now }
+    requires left_place { IsOpen schemas.0.now room.old }
+    requires right { AreColumns schemas.1.now }
+    requires right_place { IsOpen schemas.1.now room.old }
+    requires slots { case.now.slots ≤ 65536 }
+    requires number { (1 ≤ case.now.k) × (case.now.k ≤ case.now.slots) }
+{
+    if case.pass == b'j' || case.pass == b't' {
+        return run_join(alloc, store, vault, room, schemas, case);
+    }
+    let full = case.slots - u32::from(case.pass == b'i');
+    let mut flat = filled(alloc, store, vault, room, schemas.1, case.slots, full)?;
+    run_pass(alloc, store, vault, room, &mut flat, case)
+}
+
+/// Runs a case over a store in memory, and answers what it gave; or none where there is no such case, or
+/// memory ran out.
+pub(crate) fn run(alloc: Global, case: &Case) -> Option<u64> {
+    let numbers = schema_of(17)?;
+    let schema = schema_of(case.width)?;
+    if case.pack < 1 || case.pack > 16 || case.rows < 3 * case.pack + 1 || case.rows > 65_536 {
+        return None;
+    }
+    if case.slots > 65_536 || case.k < 1 || case.k > case.slots {
+        return None;
+    }
+    let mut store = MemStore::new(alloc);
+    let mut vault: Vault<BaseRevs> = Vault::new(alloc, Keys::derive(&[5; 32]));
+    let mut room = Room::new(alloc, case.rows, 1024, case.pack).ok()?;
+    let schemas = (&numbers, &schema);
+    run_case(alloc, &mut store, &mut vault, &mut room, schemas, case).ok()
+}
