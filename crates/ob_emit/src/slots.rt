@@ -55,12 +55,10 @@ fn emit_slot<E: Emit>(
     match read(&flat.schema, row) {
         Ok(real) => {
             if real && i < flat.capacity {
-                match shown_cells(&flat.schema, cols, row) {
-                    Ok(cells) => match out.row(&cells[..cols.len()]) {
-                        Ok(()) => Ok(true),
-                        Err(error) => Err(Halt::Emit(error)),
-                    },
-                    Err(Malformed) => Err(Halt::Malformed),
+                let cells = shown_cells(&flat.schema, cols, row);
+                match out.row(&cells[..cols.len()]) {
+                    Ok(()) => Ok(true),
+                    Err(error) => Err(Halt::Emit(error)),
                 }
             } else {
                 Ok(false)

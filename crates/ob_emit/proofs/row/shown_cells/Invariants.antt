@@ -7,5 +7,5 @@ use Rattle.ob_emit.proofs.row.shown_cells.Given as goal
 abbrev pub invariant-loop-i : goal.invariant-loop-i
 invariant-loop-i l = record {
   size : length l.cells ≡ 32;
-  told : (row : Row) → Begins l.schema (Some row) l.row → take l.i l.cells ≡ take l.i (printed l.cols row);
+  told : (cells : Row) → Begins l.schema (Some cells) l.row → take l.i l.cells ≡ take l.i (printed l.cols cells);
 }
