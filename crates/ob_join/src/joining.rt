@@ -1,19 +1,22 @@
-ghost use Rattle.std.specs.Prelude.{◌≡◌, ◌≤◌, ◌<◌, ◌+◌, ◌++◌, ◌∷◌, ℕ, List, Option, Some, None, IfSome, IfNone, OnOk, MatchResult, length, take, drop, find, slice_index_or, if◌then◌else◌};
-ghost use Rattle.ob_base.specs.Schemas.{width};
+ghost use Rattle.std.specs.Prelude.{◌≡◌, ◌≤◌, ◌<◌, ◌+◌, ◌++◌, ◌∷◌, ◌↔◌, ℕ, List, IsTrue, Option, Some, None, IfSome, IfNone, OnOk, MatchResult, length, take, drop, find, slice_index_or, if◌then◌else◌};
+ghost use Rattle.ob_base.specs.declared.schema.Kind.{Kind as ColumnKind};
+ghost use Rattle.ob_base.specs.Schemas.{kind_width, width};
 ghost use Rattle.ob_vault.specs.Rows.{SameSizes, Wide, row_at};
 ghost use Rattle.ob_row.specs.Rows.{Row, cell_at, options_eq};
-ghost use Rattle.ob_row.specs.Slots.{Slots, is_selected, rows as rows_of};
-ghost use Rattle.ob_row.specs.Spelling.{Begins};
+ghost use Rattle.ob_row.specs.Slots.{Slots, rows as rows_of};
+ghost use Rattle.ob_row.specs.declared.cell.Cell.{Cell as RowCell};
+ghost use Rattle.ob_row.specs.Fields.{HoldsCell};
+ghost use Rattle.ob_row.specs.Spelling.{FitsKind, Begins};
 ghost use Rattle.ob_row.specs.Results.{joined_slot};
 ghost use Rattle.ob_blocks.specs.Blocks.{map_at};
 ghost use Rattle.ob_flat.specs.Slots.{Spelt, AreSlots};
-ghost use Rattle.ob_join.specs.Joining.{joined_below, IsPartner};
+ghost use Rattle.ob_join.specs.Joining.{joined_below, kind_at, has_field, IsPartner};
 
 use crate::sides::Sides;
-use ob_base::Schema;
+use ob_base::{Kind, Schema};
 use ob_flat::clear_row;
 use ob_room::ClearRow;
-use ob_row::{Cell, Malformed, decode, read, same_cell, width};
+use ob_row::{Cell, Malformed, cell_in, put_cell, read, width};
 
 // Writes these bytes over the first ones, and the others behind them.
 fn join_bytes(left: &[u8], right: &[u8], to: &mut [u8])
@@ -38,32 +41,113 @@ fn join_pair(left: &Schema, a: &ClearRow, right: &Schema, b: &ClearRow, to: &mut
     join_bytes(first, cells, to.bytes_mut());
 }
 
-// Whether the row has a cell at this place that is equal to another; a dummy has none.
-fn agrees(schema: &Schema, row: &ClearRow, column: u8, cell: &Cell) -> bool
-    requires wide { width schema.now ≤ length row.now }
-    requires within { column < length schema.now }
-    ensures { (slot : Option Row) → Begins schema.now slot row.now → result ≡ is_selected (λ a. options_eq (cell_at a column) (Some cell.now)) slot }
+// The kind of the column at a place.
+fn kind_at(schema: &Schema, column: u8) -> Kind
+    requires { column < length schema.now }
+    ensures { result ≡ kind_at schema.now column }
 {
-    match decode(schema, row, column) {
-        Ok(own) => same_cell(&own, cell),
-        Err(Malformed) => false,
-    }
+    schema.as_slice()[usize::from(column)].kind
 }
 
-// The first kept row with a cell at this place that is equal to another.
-fn find_partner(schema: &Schema, kept: &[ClearRow], column: u8, cell: &Cell) -> Option<usize>
+// Where the cells of the column at a place begin in the bytes of a row.
+fn offset(schema: &Schema, column: u8) -> usize
+    requires { column < length schema.now }
+    ensures { result ≡ width (take column schema.now) }
+{
+    let (before, _) = schema.as_slice().split_at(usize::from(column));
+    let mut at = 1;
+    for other in before {
+        at += other.kind.width() as usize;
+    }
+    at
+}
+
+// The bytes of a row from a place on, so many.
+fn field_at(row: &ClearRow, at: usize, n: usize) -> &[u8]
+    requires { at + n ≤ length row.now }
+    ensures value { result.now ≡ take n (drop at row.now) }
+    ensures len { length result.now ≡ n }
+{
+    &row.bytes()[at..at + n]
+}
+
+// Whether the bytes are those of a row, and have this field at a place.
+fn has_field(row: &ClearRow, at: usize, field: &[u8]) -> bool
+    requires some { 1 ≤ at }
+    requires wide { at + length field.now ≤ length row.now }
+    ensures { result ≡ has_field at field.now row.now }
+{
+    row.bytes()[0] == 1 && field_at(row, at, field.len()) == field
+}
+
+// The first kept row that has this field at this place.
+fn find_field(schema: &Schema, kept: &[ClearRow], column: u8, field: &[u8]) -> Option<usize>
     requires wide { Wide (width schema.now) kept.now }
     requires within { column < length schema.now }
+    requires field { length field.now ≡ kind_width (kind_at schema.now column) }
     ensures inside { IfSome result (λ i. i < length kept.now) }
-    ensures some { IfSome result (λ i. (slots : Slots) → Spelt schema.now slots kept.now → IsPartner (λ a. options_eq (cell_at a column) (Some cell.now)) slots i) }
-    ensures none { IfNone result ((slots : Slots) → Spelt schema.now slots kept.now → find (λ a. options_eq (cell_at a column) (Some cell.now)) (rows_of slots) ≡ None) }
+    ensures some { (cell : RowCell) → HoldsCell (kind_at schema.now column) cell field.now → IfSome result (λ i. (slots : Slots) → Spelt schema.now slots kept.now → IsPartner (λ a. options_eq (cell_at a column) (Some cell)) slots i) }
+    ensures none { (cell : RowCell) → HoldsCell (kind_at schema.now column) cell field.now → IfNone result ((slots : Slots) → Spelt schema.now slots kept.now → find (λ a. options_eq (cell_at a column) (Some cell)) (rows_of slots) ≡ None) }
 {
+    let at = offset(schema, column);
     for i in 0..kept.len() {
-        if agrees(schema, &kept[i], column, cell) {
+        if has_field(&kept[i], at, field) {
             return Some(i);
         }
     }
     None
+}
+
+// Whether a column of this kind holds a cell that some column holds.
+fn fits(kind: Kind, cell: &Cell) -> bool
+    requires { (other : ColumnKind) × FitsKind other cell.now }
+    ensures { IsTrue result ↔ FitsKind kind cell.now }
+{
+    match (kind, cell) {
+        (Kind::Int, Cell::Int(_)) => true,
+        (Kind::Varchar(n), Cell::Text(text)) => text.as_bytes().len() <= usize::from(n),
+        _ => false,
+    }
+}
+
+// The first kept row with a cell at this place that is equal to another.
+fn find_cell(schema: &Schema, kept: &[ClearRow], column: u8, cell: &Cell) -> Option<usize>
+    requires wide { Wide (width schema.now) kept.now }
+    requires within { column < length schema.now }
+    requires fits { (other : ColumnKind) × FitsKind other cell.now }
+    ensures inside { IfSome result (λ i. i < length kept.now) }
+    ensures some { IfSome result (λ i. (slots : Slots) → Spelt schema.now slots kept.now → IsPartner (λ a. options_eq (cell_at a column) (Some cell.now)) slots i) }
+    ensures none { IfNone result ((slots : Slots) → Spelt schema.now slots kept.now → find (λ a. options_eq (cell_at a column) (Some cell.now)) (rows_of slots) ≡ None) }
+{
+    let kind = kind_at(schema, column);
+    if !fits(kind, cell) {
+        return None;
+    }
+    let mut buffer = [0; 256];
+    let (field, _) = buffer.split_at_mut(kind.width() as usize);
+    put_cell(kind, cell, field);
+    find_field(schema, kept, column, field)
+}
+
+// The first kept row with a cell at this place that is equal to the one that a field of this kind holds.
+fn find_partner(
+    schema: &Schema,
+    kept: &[ClearRow],
+    column: u8,
+    kind: Kind,
+    field: &[u8],
+) -> Option<usize>
+    requires wide { Wide (width schema.now) kept.now }
+    requires within { column < length schema.now }
+    requires field { length field.now ≡ kind_width kind }
+    ensures inside { IfSome result (λ i. i < length kept.now) }
+    ensures some { (cell : RowCell) → HoldsCell kind cell field.now → IfSome result (λ i. (slots : Slots) → Spelt schema.now slots kept.now → IsPartner (λ a. options_eq (cell_at a column) (Some cell)) slots i) }
+    ensures none { (cell : RowCell) → HoldsCell kind cell field.now → IfNone result ((slots : Slots) → Spelt schema.now slots kept.now → find (λ a. options_eq (cell_at a column) (Some cell)) (rows_of slots) ≡ None) }
+{
+    match cell_in(kind, field) {
+        Some(cell) => find_cell(schema, kept, column, &cell),
+        None => None,
+    }
 }
 
 // Joins a right row with the first kept left row that agrees with it, or makes a dummy where there is
@@ -87,8 +171,10 @@ fn join_slot(
 {
     clear_row(to);
     if read(&sides.right.schema, row)? && inside {
-        let cell = decode(&sides.right.schema, row, sides.rcol)?;
-        if let Some(i) = find_partner(&sides.left.schema, kept, sides.lcol, &cell) {
+        let kind = kind_at(&sides.right.schema, sides.rcol);
+        let at = offset(&sides.right.schema, sides.rcol);
+        let field = field_at(row, at, kind.width() as usize);
+        if let Some(i) = find_partner(&sides.left.schema, kept, sides.lcol, kind, field) {
             join_pair(&sides.left.schema, &kept[i], &sides.right.schema, row, to);
         }
     }

@@ -1,39 +1,45 @@
-use Rattle.std.proofs.Common.{◌≡◌, ◌++◌, Option, Some, None, Bool, true, false, if◌then◌else◌, refl, length, sym, ◌∙◌, ap, subst}
+use Rattle.std.proofs.Common.{◌≡◌, ◌++◌, Option, Some, None, Bool, true, false, if◌then◌else◌, refl, length, sym, ◌∙◌, ap, subst, arith}
+use Rattle.ob_base.specs.Schemas.{kind_width}
 use Rattle.ob_vault.specs.Rows.{row_at}
 use Rattle.ob_vault.proofs.RowsLemmas.{same_at}
 use Rattle.ob_row.specs.Rows.{Row}
 use Rattle.ob_row.specs.Slots.{rows}
 use Rattle.ob_row.specs.Spelling.{Begins}
 use Rattle.ob_row.specs.Results.{joined_slot}
-use Rattle.ob_row.proofs.SpellingLemmas.{slots-same}
+use Rattle.ob_join.proofs.Fields.{field_inside, field_read}
 use Rattle.ob_join.proofs.Pairs.{joined_found, dummy, empty_joins}
 use Rattle.ob_join.proofs.joining.join_slot.Goals as goal
 use Rattle.ob_join.proofs.joining.join_slot.Goals.{else-branch-via-then-branch+else-inside, else-branch-via-else-branch}
 
+pub field_at-field-requires : goal.field_at-field-requires
+field_at-field-requires c =
+    omega (arith, field_inside c.args.sides.now.right.now.schema c.args.sides.now.rcol c.requires.rcol, c.offset-at.ensures, c.width.ensures.value, ap kind_width c.kind_at-kind.ensures, c.requires.row)
+
 pub returns-in-Some-clause-told : goal.returns-in-Some-clause-told
 returns-in-Some-clause-told c = λ slots slot spelt begins.
     let i = c.in-Some.i in
-    let right = c.in_ok-cell.ensures.malformed in
-    let b = right.0 in
-    let same : slot ≡ Some b = slots-same c.args.sides.now.right.now.schema slot (Some b) _ begins right.1 in
-    let part = c.in-Some.ensures.some slots spelt in
+    let own = field_read c.args.sides.now.right.now.schema slot c.args.sides.now.rcol c.args.row.now c.field_at-field.result.now c.kind_at-kind.result c.offset-at.result c.width.result begins (cc (c.in_ok-read.ensures.spelled slot begins, c.if-branch.true))
+    c.requires.rcol c.kind_at-kind.ensures c.offset-at.ensures c.width.ensures.value c.field_at-field.ensures.value in
+    let b = own.row in
+    let right = subst (λ (s : Option Row). Begins c.args.sides.now.right.now.schema s c.args.row.now) own.is begins in
+    let part = c.in-Some.ensures.some own.cell own.held slots spelt in
     let inside = c.in-Some.ensures.inside in
     let row = same_at c.args.kept.now i c.index-kept-i.result inside c.index-kept-i.is in
-    let own : Begins c.args.sides.now.left.now.schema (Some part.row) c.index-kept-i.result =
+    let left : Begins c.args.sides.now.left.now.schema (Some part.row) c.index-kept-i.result =
     subst (Begins c.args.sides.now.left.now.schema (Some part.row)) row (subst (λ (s : Option Row). Begins c.args.sides.now.left.now.schema s (row_at c.args.kept.now i)) part.is (spelt.each i inside)) in
     let is : joined_slot c.args.sides.now.lcol c.args.sides.now.rcol (rows slots) slot ≡ Some (part.row ++ b) =
-    ap (joined_slot c.args.sides.now.lcol c.args.sides.now.rcol (rows slots)) same ∙ joined_found c.args.sides.now.lcol c.args.sides.now.rcol (rows slots) b c.in_ok-cell.cell (Some part.row) right.2 part.found in
+    ap (joined_slot c.args.sides.now.lcol c.args.sides.now.rcol (rows slots)) own.is ∙ joined_found c.args.sides.now.lcol c.args.sides.now.rcol (rows slots) b own.cell (Some part.row) own.has part.found in
     let on : (if c.args.inside then joined_slot c.args.sides.now.lcol c.args.sides.now.rcol (rows slots) slot else None) ≡ Some (part.row ++ b) =
     ap (λ (t : Bool). if t then joined_slot c.args.sides.now.lcol c.args.sides.now.rcol (rows slots) slot else None) c.if-inside.true ∙ is in
-    subst (λ (s : Option Row). Begins (c.args.sides.now.left.now.schema ++ c.args.sides.now.right.now.schema) s c.join_pair.new.to) (sym on) (c.join_pair.ensures.told part.row b own right.1)
+    subst (λ (s : Option Row). Begins (c.args.sides.now.left.now.schema ++ c.args.sides.now.right.now.schema) s c.join_pair.new.to) (sym on) (c.join_pair.ensures.told part.row b left right)
 
 pub returns-in_default-clause-told : goal.returns-in_default-clause-told
 returns-in_default-clause-told c = λ slots slot spelt begins.
-    let right = c.in_ok-cell.ensures.malformed in
-    let b = right.0 in
-    let same : slot ≡ Some b = slots-same c.args.sides.now.right.now.schema slot (Some b) _ begins right.1 in
+    let own = field_read c.args.sides.now.right.now.schema slot c.args.sides.now.rcol c.args.row.now c.field_at-field.result.now c.kind_at-kind.result c.offset-at.result c.width.result begins (cc (c.in_ok-read.ensures.spelled slot begins, c.if-branch.true))
+    c.requires.rcol c.kind_at-kind.ensures c.offset-at.ensures c.width.ensures.value c.field_at-field.ensures.value in
+    let b = own.row in
     let is : joined_slot c.args.sides.now.lcol c.args.sides.now.rcol (rows slots) slot ≡ None =
-    ap (joined_slot c.args.sides.now.lcol c.args.sides.now.rcol (rows slots)) same ∙ joined_found c.args.sides.now.lcol c.args.sides.now.rcol (rows slots) b c.in_ok-cell.cell None right.2 (c.in_default.ensures.none slots spelt) in
+    ap (joined_slot c.args.sides.now.lcol c.args.sides.now.rcol (rows slots)) own.is ∙ joined_found c.args.sides.now.lcol c.args.sides.now.rcol (rows slots) b own.cell None own.has (c.in_default.ensures.none own.cell own.held slots spelt) in
     let on : (if c.args.inside then joined_slot c.args.sides.now.lcol c.args.sides.now.rcol (rows slots) slot else None) ≡ None =
     ap (λ (t : Bool). if t then joined_slot c.args.sides.now.lcol c.args.sides.now.rcol (rows slots) slot else None) c.if-inside.true ∙ is in
     dummy (c.args.sides.now.left.now.schema ++ c.args.sides.now.right.now.schema) (if c.args.inside then joined_slot c.args.sides.now.lcol c.args.sides.now.rcol (rows slots) slot else None) (length c.args.to.now) c.clear_row.new.row on c.requires.to c.clear_row.ensures
