@@ -31,8 +31,8 @@ words-preserved c =
           ∙ ap (λ a. xor_from (key_byte g.key g.stream) (4 * g.word_pos) (take a c.args.bytes.now) ++ drop a c.args.bytes.now) next;
     }
 
-pub returns-then-bytes-gt0 : goal.returns-then-bytes-gt0
-returns-then-bytes-gt0 c =
+pub returns-then-bytes-gt0-clause-bytes : goal.returns-then-bytes-gt0-clause-bytes
+returns-then-bytes-gt0-clause-bytes c =
     let g = c.args.rng.now in
     let i = c.words.i in
     let ended : c.words.i ≡ length c.args.bytes.now / 4 = omega arith in
