@@ -61,9 +61,7 @@ fn filled<const N: usize>(text: &[u8]) -> ArrayVec<u8, N>
     ensures { result.items ≡ text.now }
 {
     let mut bytes = ArrayVec::new();
-    for b in text {
-        bytes.push(*b);
-    }
+    bytes.try_extend_from_slice(text).unwrap();
     bytes
 }
 
