@@ -3,3 +3,4 @@ pub mod PairLemmas
 pub mod SpellingLemmas
 pub mod FieldLemmas
 pub mod CellsLemmas
+pub mod PlaceLemmas

@@ -5,6 +5,7 @@ pub mod Fields
 pub mod Cells
 pub mod Bags
 pub mod Truth
+pub mod Values
 pub mod Totals
 pub mod Slots
 pub mod Results

@@ -1,5 +1,6 @@
 -- The bytes of a row: a mark, and then each cell at its full width.
-use Rattle.std.specs.Prelude.{◌≡◌, ℕ, ◌-◌, ◌≤◌, List, [], ◌∷◌, ◌++◌, length, replicate, take, sum_by, ⊤, FitsSigned, Option, Some, None, IfSome}
+use Rattle.std.specs.Prelude.{◌≡◌, ℕ, ◌-◌, ◌≤◌, List, [], ◌∷◌, ◌++◌, length, replicate, take, sum_by, ⊤, FitsSigned, Option, Some, None, IfSome, slice_get}
+use Rattle.std.specs.Option.{option_map_or}
 use Rattle.std.specs.Int.{to_be_bytes, cast_unsigned, w64}
 use Rattle.ob_base.specs.declared.schema.Kind.{Kind}
 use Rattle.ob_base.specs.declared.schema.Kind.TheVariants.{Int as IntKind, Varchar}
@@ -24,6 +25,10 @@ FitsKind (Varchar n) (Text t) = FitsText n t
 abbrev pub IsCell : Cell → Type 0
 IsCell (Int x) = FitsSigned w64 x
 IsCell (Text t) = FitsText 255 t
+
+-- the kind of the column at a place
+abbrev pub kind_at : Columns → ℕ → Kind
+kind_at columns i = option_map_or (λ (c : Column). c.kind) (slice_get columns i) IntKind
 
 -- a cell for each column, of its kind
 abbrev pub Fits : Columns → Row → Type 0

@@ -1,5 +1,4 @@
 ghost use Rattle.std.specs.Prelude.{◌≡◌};
-ghost use Rattle.ob_row.specs.Rows.{cell_eq};
 
 use ob_base::Text;
 use thiserror::Error;
@@ -20,17 +19,6 @@ impl Cell {
             Cell::Int(x) => Cell::Int(*x),
             Cell::Text(text) => Cell::Text(text.copied()),
         }
-    }
-}
-
-/// Whether two cells are equal: integers by value, texts by their bytes.
-pub fn same_cell(a: &Cell, b: &Cell) -> bool
-    ensures { result ≡ cell_eq a.now b.now }
-{
-    match (a, b) {
-        (Cell::Int(x), Cell::Int(y)) => x == y,
-        (Cell::Text(s), Cell::Text(t)) => s.as_bytes() == t.as_bytes(),
-        _ => false,
     }
 }
 

@@ -1,24 +1,26 @@
 //! Whether the cells of a row make a condition true.
-ghost use Rattle.std.specs.Prelude.{◌≡◌, Option, Some, length};
+ghost use Rattle.std.specs.Prelude.{◌≡◌, ◌≤◌, Some, length};
+ghost use Rattle.ob_base.specs.Schemas.{width};
 ghost use Rattle.ob_row.specs.Rows.{Row, cell_cmp};
-ghost use Rattle.ob_row.specs.Spelling.{cells_width};
-ghost use Rattle.ob_row.specs.Cells.{HoldsCells};
+ghost use Rattle.ob_row.specs.Spelling.{Begins};
 ghost use Rattle.ob_row.specs.Condition.{condition_of, Compare as IsCompare};
 ghost use Rattle.ob_row.specs.Truth.{accepts, compare, is_true};
+ghost use Rattle.ob_row.specs.Values.{cell_of};
 
 use crate::cell::Cell;
 use crate::pred::{Operand, Order, Tree};
-use crate::row::cell_at;
-use ob_base::Column;
+use crate::value::{Value, value_at};
+use ob_base::Schema;
+use ob_room::ClearRow;
 use std::cmp::Ordering;
 
 // Integers by value, texts by bytes; cells of two kinds have no order.
-fn cell_cmp(a: &Cell, b: &Cell) -> Option<Ordering>
-    ensures { result ≡ cell_cmp a.now b.now }
+fn value_cmp(a: Value<'_>, b: Value<'_>) -> Option<Ordering>
+    ensures { result ≡ cell_cmp (cell_of a.entry) (cell_of b.entry) }
 {
     match (a, b) {
-        (Cell::Int(x), Cell::Int(y)) => Some(x.cmp(y)),
-        (Cell::Text(s), Cell::Text(t)) => Some(s.as_bytes().cmp(t.as_bytes())),
+        (Value::Int(x), Value::Int(y)) => Some(x.cmp(&y)),
+        (Value::Text(s), Value::Text(t)) => Some(s.cmp(t)),
         _ => None,
     }
 }
@@ -37,45 +39,54 @@ fn accepts(order: Order, answer: Ordering) -> bool
     }
 }
 
-/// Whether the first cell stands so to the second; cells of two kinds stand in no order.
-pub fn compare_cells(order: Order, a: &Cell, b: &Cell) -> bool
-    ensures { result ≡ compare order (Some a.now) (Some b.now) }
+// Whether the first value stands so to the second.
+fn compare_values(order: Order, a: Value<'_>, b: Value<'_>) -> bool
+    ensures { result ≡ compare order (Some (cell_of a.entry)) (Some (cell_of b.entry)) }
 {
-    match cell_cmp(a, b) {
+    match value_cmp(a, b) {
         Some(answer) => accepts(order, answer),
         None => false,
     }
 }
 
-// Whether the cell at a place compares so with another.
-fn compare(column: u8, order: Order, with: &Operand, columns: &[Column], fields: &[u8]) -> bool
-    requires { length fields.now ≡ cells_width columns.now }
-    ensures { (row : Row) → HoldsCells columns.now row fields.now → result ≡ is_true (IsCompare column order with.now) row }
+/// Whether the first cell stands so to the second; cells of two kinds stand in no order.
+pub fn compare_cells(order: Order, a: &Cell, b: &Cell) -> bool
+    ensures { result ≡ compare order (Some a.now) (Some b.now) }
 {
-    let Some(a) = cell_at(columns, fields, usize::from(column)) else {
+    compare_values(order, a.as_value(), b.as_value())
+}
+
+// Whether the cell at a place of the row compares so with another.
+fn compare(column: u8, order: Order, with: &Operand, schema: &Schema, row: &ClearRow) -> bool
+    requires wide { width schema.now ≤ length row.now }
+    requires real { (cells : Row) × Begins schema.now (Some cells) row.now }
+    ensures { (cells : Row) → Begins schema.now (Some cells) row.now → result ≡ is_true (IsCompare column order with.now) cells }
+{
+    let Some(a) = value_at(schema, row, column) else {
         return false;
     };
     match with {
-        Operand::Cell(b) => compare_cells(order, &a, b),
-        Operand::Column(j) => match cell_at(columns, fields, usize::from(*j)) {
-            Some(b) => compare_cells(order, &a, &b),
+        Operand::Cell(b) => compare_values(order, a, b.as_value()),
+        Operand::Column(j) => match value_at(schema, row, *j) {
+            Some(b) => compare_values(order, a, b),
             None => false,
         },
     }
 }
 
 impl Tree {
-    /// Whether the row that the bytes spell makes the condition true.
-    pub(crate) fn is_true(&self, columns: &[Column], fields: &[u8]) -> bool
-        requires { length fields.now ≡ cells_width columns.now }
-        ensures { (row : Row) → HoldsCells columns.now row fields.now → result ≡ is_true (condition_of self.now) row }
+    /// Whether the row that the first bytes spell makes the condition true.
+    pub(crate) fn is_true(&self, schema: &Schema, row: &ClearRow) -> bool
+        requires wide { width schema.now ≤ length row.now }
+        requires real { (cells : Row) × Begins schema.now (Some cells) row.now }
+        ensures { (cells : Row) → Begins schema.now (Some cells) row.now → result ≡ is_true (condition_of self.now) cells }
     {
         match self {
             Tree::All => true,
-            Tree::Compare(column, order, with) => compare(*column, *order, with, columns, fields),
-            Tree::Not(p) => !p.is_true(columns, fields),
-            Tree::And(p, q) => p.is_true(columns, fields) && q.is_true(columns, fields),
-            Tree::Or(p, q) => p.is_true(columns, fields) || q.is_true(columns, fields),
+            Tree::Compare(column, order, with) => compare(*column, *order, with, schema, row),
+            Tree::Not(p) => !p.is_true(schema, row),
+            Tree::And(p, q) => p.is_true(schema, row) && q.is_true(schema, row),
+            Tree::Or(p, q) => p.is_true(schema, row) || q.is_true(schema, row),
         }
     }
 }

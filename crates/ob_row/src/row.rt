@@ -10,8 +10,9 @@ ghost use Rattle.ob_row.specs.Truth.{is_true};
 ghost use Rattle.ob_row.specs.Slots.{is_selected};
 
 use crate::cell::{Cell, Malformed};
-use crate::field::{cell_in, is_cell, is_zero, kind_width, put_cell};
-use crate::pred::{Pred, Tree};
+use crate::field::{is_cell, is_zero, kind_width, put_cell};
+use crate::pred::Pred;
+use crate::value::value_of;
 use ob_base::{Column, Schema};
 use ob_room::ClearRow;
 
@@ -127,34 +128,6 @@ pub fn read(schema: &Schema, row: &ClearRow) -> Result<bool, Malformed>
     read_row(columns, bytes)
 }
 
-// The cell at place `i` of the row that the bytes spell.
-pub(crate) fn cell_at(columns: &[Column], fields: &[u8], i: usize) -> Option<Cell>
-    requires { length fields.now ≡ cells_width columns.now }
-    ensures { (row : Row) → HoldsCells columns.now row fields.now → result ≡ slice_get row i }
-{
-    let (column, columns) = columns.split_first()?;
-    let (field, fields) = fields.split_at(kind_width(column.kind));
-    if i == 0 {
-        cell_in(column.kind, field)
-    } else {
-        cell_at(columns, fields, i - 1)
-    }
-}
-
-fn decode_row(columns: &[Column], bytes: &[u8], i: usize) -> Result<Cell, Malformed>
-    requires width { length bytes.now ≡ width columns.now }
-    requires within { i < length columns.now }
-    ensures cell { (row : Row) → Spells columns.now (Some row) bytes.now → IsOkAnd result (λ x. slice_get row i ≡ Some x) }
-    ensures malformed { IfOk result (λ x. (row : Row) × Spells columns.now (Some row) bytes.now × (slice_get row i ≡ Some x)) }
-{
-    if is_row(columns, bytes) {
-        let (_, fields) = bytes.split_at(1);
-        cell_at(columns, fields, i).ok_or(Malformed)
-    } else {
-        Err(Malformed)
-    }
-}
-
 /// The cell at place `i` of the row that the first bytes spell; where they spell no row, as those of a
 /// dummy, they are malformed.
 pub fn decode(schema: &Schema, row: &ClearRow, i: u8) -> Result<Cell, Malformed>
@@ -163,9 +136,11 @@ pub fn decode(schema: &Schema, row: &ClearRow, i: u8) -> Result<Cell, Malformed>
     ensures cell { (r : Row) → Begins schema.now (Some r) row.now → IsOkAnd result (λ x. slice_get r i ≡ Some x) }
     ensures malformed { IfOk result (λ x. (r : Row) × Begins schema.now (Some r) row.now × (slice_get r i ≡ Some x)) }
 {
-    let columns = schema.as_slice();
-    let (bytes, _) = row.bytes().split_at(cells_width(columns) + 1);
-    decode_row(columns, bytes, usize::from(i))
+    if read(schema, row).unwrap_or(false) {
+        Ok(value_of(schema, row, i).to_cell())
+    } else {
+        Err(Malformed)
+    }
 }
 
 /// Whether all bytes are zero, as those of a dummy.
@@ -175,20 +150,6 @@ pub fn is_dummy(row: &ClearRow) -> bool
     is_zero(row.bytes())
 }
 
-// Whether the bytes spell a row that makes the condition true.
-fn holds_row(tree: &Tree, columns: &[Column], bytes: &[u8]) -> Result<bool, Malformed>
-    requires { length bytes.now ≡ width columns.now }
-    ensures truth { (slot : Option Row) → Spells columns.now slot bytes.now → result ≡ Ok (is_selected (is_true (condition_of tree.now)) slot) }
-    ensures malformed { IfOk result (λ b. (slot : Option Row) × Spells columns.now slot bytes.now × (is_selected (is_true (condition_of tree.now)) slot ≡ b)) }
-{
-    if read_row(columns, bytes)? {
-        let (_, fields) = bytes.split_at(1);
-        Ok(tree.is_true(columns, fields))
-    } else {
-        Ok(false)
-    }
-}
-
 /// Whether the first bytes, as many as a row has, spell a row that makes the condition true; those of a
 /// dummy don't, and other bytes are malformed.
 pub fn holds(pred: &Pred, schema: &Schema, row: &ClearRow) -> Result<bool, Malformed>
@@ -196,7 +157,5 @@ pub fn holds(pred: &Pred, schema: &Schema, row: &ClearRow) -> Result<bool, Malfo
     ensures truth { (slot : Option Row) → Begins schema.now slot row.now → result ≡ Ok (is_selected (is_true pred.now) slot) }
     ensures malformed { IfOk result (λ b. (slot : Option Row) × Begins schema.now slot row.now × (is_selected (is_true pred.now) slot ≡ b)) }
 {
-    let columns = schema.as_slice();
-    let (bytes, _) = row.bytes().split_at(cells_width(columns) + 1);
-    holds_row(&pred.tree, columns, bytes)
+    Ok(read(schema, row)? && pred.tree.is_true(schema, row))
 }

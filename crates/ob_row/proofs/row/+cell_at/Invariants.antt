@@ -1,5 +1,0 @@
-use Rattle.std.proofs.Common.{length}
-use Rattle.ob_row.proofs.row.+cell_at.Given as goal
-
-abbrev pub decreases-cell_at : goal.decreases-cell_at
-decreases-cell_at l = length l.columns.now
