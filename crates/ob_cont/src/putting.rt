@@ -15,9 +15,9 @@ ghost use Rattle.ob_flat.specs.Passes.{PassCut};
 ghost use Rattle.ob_cont.specs.Putting.{order_for, put_if, SpellsSlot};
 
 use ob_base::Schema;
-use ob_flat::{Flat, OpErr, Rework, copy_row, rework_block};
+use ob_flat::{Flat, OpErr, Rework, check_rows, copy_row, rework_block};
 use ob_room::ClearRow;
-use ob_row::{Malformed, read};
+use ob_row::Malformed;
 use ob_store::BlockStore;
 use ob_vault::{Revisions, Vault};
 
@@ -27,21 +27,6 @@ pub(crate) struct Putting<'a> {
     row: &'a ClearRow,
     selected: bool,
     slot: u32,
-}
-
-// Refuses the rows of a block where one is malformed.
-fn check_rows(schema: &Schema, rows: &[ClearRow]) -> Result<(), Malformed>
-    requires { Wide (width schema.now) rows.now }
-    ensures spells { OnOk result (AreSlots schema.now rows.now) }
-    ensures told { (slots : Slots) → Spelt schema.now slots rows.now → IfErr result (λ _. ⊥) }
-{
-    for z in 0..rows.len() {
-        match read(schema, &rows[z]) {
-            Ok(_) => {}
-            Err(malformed) => return Err(malformed),
-        }
-    }
-    Ok(())
 }
 
 // Puts a row into one slot of a block.

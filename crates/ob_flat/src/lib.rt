@@ -4,6 +4,7 @@
 #![tactic(auto)]
 
 mod change;
+mod checking;
 mod clearing;
 mod counting;
 mod creating;
@@ -15,6 +16,7 @@ mod swap;
 mod visit;
 
 pub use change::{Change, change_rows};
+pub use checking::check_rows;
 pub use clearing::{clear_row, clear_rows, copy_row};
 pub use counting::{Counted, count};
 pub use creating::{create, create_blocks, fill_blocks, make_table};

@@ -18,26 +18,11 @@ ghost use Rattle.ob_hash.specs.Hashing.{IsHashed, IsOpen, slot_part};
 
 use crate::buckets::{Hashed, fill_buckets};
 use ob_base::Schema;
-use ob_flat::{Flat, OpErr};
+use ob_flat::{Flat, OpErr, check_rows};
 use ob_room::ClearRow;
-use ob_row::{Malformed, Pred, holds, read};
+use ob_row::{Malformed, Pred, holds};
 use ob_store::BlockStore;
 use ob_vault::{Revisions, Vault};
-
-// Refuses the rows of a block where one is malformed.
-fn check_rows(schema: &Schema, rows: &[ClearRow]) -> Result<(), Malformed>
-    requires wide { Wide (width schema.now) rows.now }
-    ensures read { OnOk result (AreSlots schema.now rows.now) }
-    ensures told { (slots : Slots) → Spelt schema.now slots rows.now → OnErr result ⊥ }
-{
-    for z in 0..rows.len() {
-        match read(schema, &rows[z]) {
-            Ok(_) => {}
-            Err(malformed) => return Err(malformed),
-        }
-    }
-    Ok(())
-}
 
 // The first slot whose row found no bucket, where the one of index `i`, behind them, may be another.
 fn first_of(unplaced: Option<u32>, waits: bool, i: u32) -> Option<u32>

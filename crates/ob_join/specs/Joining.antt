@@ -1,10 +1,5 @@
 -- The slots that a join makes of those of its right table.
-use Rattle.std.specs.Prelude.{◌≡◌, ◌*◌, ◌==◌, ◌&&◌, ℕ, Bool, nat_lt, List, Option, Some, None, length, find, take, drop, bytes_eq, slice_get, slice_index_or, if◌then◌else◌}
-use Rattle.std.specs.Option.{option_map_or}
-use Rattle.ob_base.specs.declared.schema.Kind.{Kind}
-use Rattle.ob_base.specs.declared.schema.Kind.TheVariants.{Int as IntKind}
-use Rattle.ob_base.specs.declared.schema.Column.{Column}
-use Rattle.ob_base.specs.Schemas.{Columns}
+use Rattle.std.specs.Prelude.{◌≡◌, ◌*◌, ◌==◌, ◌&&◌, ℕ, Bool, nat_lt, List, Option, Some, None, length, find, take, drop, bytes_eq, slice_index_or, if◌then◌else◌}
 use Rattle.ob_row.specs.Rows.{Row}
 use Rattle.ob_row.specs.Slots.{Slots, rows}
 use Rattle.ob_base.specs.Lists.{each}
@@ -14,10 +9,6 @@ use Rattle.ob_flat.specs.Flats.{whole_blocks}
 -- the right slot of index x, joined with the first left row that agrees with it; those behind the capacity are empty
 abbrev pub joined_below : (i j : ℕ) → List Row → ℕ → ℕ → Option Row → Option Row
 joined_below i j left capacity x slot = if nat_lt x capacity then joined_slot i j left slot else None
-
--- the kind of the column at a place
-abbrev pub kind_at : Columns → ℕ → Kind
-kind_at columns i = option_map_or (λ (c : Column). c.kind) (slice_get columns i) IntKind
 
 -- whether the bytes have a row's mark, and this field at a place
 abbrev pub has_field : (at : ℕ) → (field bytes : List ℕ) → Bool

@@ -15,26 +15,11 @@ ghost use Rattle.ob_flat.specs.Passes.{PassCut};
 ghost use Rattle.ob_join.specs.Joining.{blocks_from};
 
 use ob_base::Schema;
-use ob_flat::{Flat, OpErr};
+use ob_flat::{Flat, OpErr, check_rows};
 use ob_room::ClearRow;
-use ob_row::{Malformed, read};
+use ob_row::Malformed;
 use ob_store::BlockStore;
 use ob_vault::{Revisions, Vault};
-
-// Refuses rows of which one is malformed.
-fn check_rows(schema: &Schema, rows: &[ClearRow]) -> Result<(), Malformed>
-    requires wide { Wide (width schema.now) rows.now }
-    ensures read { OnOk result (AreSlots schema.now rows.now) }
-    ensures told { (slots : Slots) → Spelt schema.now slots rows.now → OnErr result ⊥ }
-{
-    for z in 0..rows.len() {
-        match read(schema, &rows[z]) {
-            Ok(_) => {}
-            Err(malformed) => return Err(malformed),
-        }
-    }
-    Ok(())
-}
 
 // Reads `n` blocks of a table from place `first` on, in order, into these rows, as many as they have.
 pub(crate) fn collect_chunk<S: BlockStore, R: Revisions>(

@@ -6,17 +6,17 @@ ghost use Rattle.ob_row.specs.Rows.{Row, cell_at, options_eq};
 ghost use Rattle.ob_row.specs.Slots.{Slots, rows as rows_of};
 ghost use Rattle.ob_row.specs.declared.cell.Cell.{Cell as RowCell};
 ghost use Rattle.ob_row.specs.Fields.{HoldsCell};
-ghost use Rattle.ob_row.specs.Spelling.{FitsKind, Begins};
+ghost use Rattle.ob_row.specs.Spelling.{FitsKind, Begins, kind_at};
 ghost use Rattle.ob_row.specs.Results.{joined_slot};
 ghost use Rattle.ob_blocks.specs.Blocks.{map_at};
 ghost use Rattle.ob_flat.specs.Slots.{Spelt, AreSlots};
-ghost use Rattle.ob_join.specs.Joining.{joined_below, kind_at, has_field, IsPartner};
+ghost use Rattle.ob_join.specs.Joining.{joined_below, has_field, IsPartner};
 
 use crate::sides::Sides;
 use ob_base::{Kind, Schema};
 use ob_flat::clear_row;
 use ob_room::ClearRow;
-use ob_row::{Cell, Malformed, cell_in, put_cell, read, width};
+use ob_row::{Cell, Malformed, cell_in, kind_at, offset, put_cell, read, width};
 
 // Writes these bytes over the first ones, and the others behind them.
 fn join_bytes(left: &[u8], right: &[u8], to: &mut [u8])
@@ -39,27 +39,6 @@ fn join_pair(left: &Schema, a: &ClearRow, right: &Schema, b: &ClearRow, to: &mut
     let first = &a.bytes()[..width(left) as usize];
     let cells = &b.bytes()[1..width(right) as usize];
     join_bytes(first, cells, to.bytes_mut());
-}
-
-// The kind of the column at a place.
-fn kind_at(schema: &Schema, column: u8) -> Kind
-    requires { column < length schema.now }
-    ensures { result ≡ kind_at schema.now column }
-{
-    schema.as_slice()[usize::from(column)].kind
-}
-
-// Where the cells of the column at a place begin in the bytes of a row.
-fn offset(schema: &Schema, column: u8) -> usize
-    requires { column < length schema.now }
-    ensures { result ≡ width (take column schema.now) }
-{
-    let (before, _) = schema.as_slice().split_at(usize::from(column));
-    let mut at = 1;
-    for other in before {
-        at += other.kind.width() as usize;
-    }
-    at
 }
 
 // The bytes of a row from a place on, so many.
@@ -144,6 +123,9 @@ fn find_partner(
     ensures some { (cell : RowCell) → HoldsCell kind cell field.now → IfSome result (λ i. (slots : Slots) → Spelt schema.now slots kept.now → IsPartner (λ a. options_eq (cell_at a column) (Some cell)) slots i) }
     ensures none { (cell : RowCell) → HoldsCell kind cell field.now → IfNone result ((slots : Slots) → Spelt schema.now slots kept.now → find (λ a. options_eq (cell_at a column) (Some cell)) (rows_of slots) ≡ None) }
 {
+    if kind == kind_at(schema, column) {
+        return find_field(schema, kept, column, field);
+    }
     match cell_in(kind, field) {
         Some(cell) => find_cell(schema, kept, column, &cell),
         None => None,

@@ -5,7 +5,8 @@ use Rattle.ob_row.specs.Rows.{Row, cell_at, options_eq}
 use Rattle.ob_row.specs.Slots.{is_selected}
 use Rattle.ob_row.specs.Spelling.{Begins}
 use Rattle.ob_join.specs.Joining.{has_field}
-use Rattle.ob_join.proofs.Fields.{field_inside, has_field_is, all_found}
+use Rattle.ob_row.proofs.PlaceLemmas.{field_inside}
+use Rattle.ob_join.proofs.Fields.{has_field_is, all_found}
 use Rattle.ob_join.proofs.Pairs.{find_past, partner}
 use Rattle.ob_join.proofs.joining.find_field.Goals as goal
 

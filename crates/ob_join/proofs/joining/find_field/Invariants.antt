@@ -5,7 +5,7 @@ use Rattle.ob_row.specs.Fields.{HoldsCell}
 use Rattle.ob_row.specs.Rows.{cell_at, options_eq}
 use Rattle.ob_row.specs.Slots.{Slots, rows}
 use Rattle.ob_flat.specs.Slots.{Spelt}
-use Rattle.ob_join.specs.Joining.{kind_at}
+use Rattle.ob_row.specs.Spelling.{kind_at}
 use Rattle.ob_join.proofs.joining.find_field.Given as goal
 
 abbrev pub invariant-loop-i : goal.invariant-loop-i

@@ -5,7 +5,7 @@ use Rattle.ob_row.specs.Rows.{cell_at, options_eq}
 use Rattle.ob_row.specs.Slots.{Slots, rows}
 use Rattle.ob_flat.specs.Slots.{Spelt}
 use Rattle.ob_join.specs.Joining.{IsPartner}
-use Rattle.ob_join.proofs.Fields.{one_cell}
+use Rattle.ob_row.proofs.PlaceLemmas.{one_cell}
 use Rattle.ob_join.proofs.joining.find_partner.Goals as goal
 
 pub returns-in-Some-clause-some : goal.returns-in-Some-clause-some

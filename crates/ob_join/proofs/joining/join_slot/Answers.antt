@@ -6,7 +6,7 @@ use Rattle.ob_row.specs.Rows.{Row}
 use Rattle.ob_row.specs.Slots.{rows}
 use Rattle.ob_row.specs.Spelling.{Begins}
 use Rattle.ob_row.specs.Results.{joined_slot}
-use Rattle.ob_join.proofs.Fields.{field_inside, field_read}
+use Rattle.ob_row.proofs.PlaceLemmas.{field_inside, field_read}
 use Rattle.ob_join.proofs.Pairs.{joined_found, dummy, empty_joins}
 use Rattle.ob_join.proofs.joining.join_slot.Goals as goal
 use Rattle.ob_join.proofs.joining.join_slot.Goals.{else-branch-via-then-branch+else-inside, else-branch-via-else-branch}

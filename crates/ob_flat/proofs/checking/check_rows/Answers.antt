@@ -2,7 +2,7 @@ use Rattle.std.proofs.Common.{sym, subst, arith, below_more}
 use Rattle.ob_vault.proofs.RowsLemmas.{same_at}
 use Rattle.ob_row.specs.Spelling.{Begins}
 use Rattle.ob_flat.proofs.Rows.{slots_of}
-use Rattle.ob_hash.proofs.placing.check_rows.Goals as goal
+use Rattle.ob_flat.proofs.checking.check_rows.Goals as goal
 
 pub loop-z-preserved : goal.loop-z-preserved
 loop-z-preserved c =
