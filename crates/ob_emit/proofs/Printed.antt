@@ -1,16 +1,13 @@
 -- Cells of a row as they are printed.
-use Rattle.std.proofs.Common.{◌≡◌, ◌<◌, ℕ, Bool, zero, suc, List, [], ◌∷◌, Option, Some, length, take, drop, map, slice_get, slice_set, slice_index_or, refl, sym, ap, subst, arith}
+use Rattle.std.proofs.Common.{◌≡◌, ◌<◌, ℕ, Bool, zero, suc, List, [], ◌∷◌, Option, Some, length, take, map, slice_get, slice_set, slice_index_or, refl, ap, arith}
 use Rattle.std.specs.Option.{option_map_or}
 use Rattle.std.proofs.lemmas.List.{length-map}
 use Rattle.std.proofs.lemmas.Option.{slice_get-get_or}
 use Rattle.ob_base.specs.declared.schema.Column.{Column}
-use Rattle.ob_base.specs.Schemas.{Columns, width}
+use Rattle.ob_base.specs.Schemas.{Columns}
 use Rattle.ob_emit.specs.Emitting.{is_joined, label_at, labels_of}
 use Rattle.ob_row.specs.Rows.{Row}
-use Rattle.ob_row.specs.Spelling.{Spells, Begins}
-use Rattle.ob_row.specs.Cells.{HoldsCells}
 use Rattle.ob_row.specs.Totals.{shown_at, printed}
-use Rattle.ob_row.proofs.CellsLemmas.{holds_cells}
 use Rattle.ob_base.specs.Labels.{column_label}
 
 -- one element more that two lists begin with
@@ -28,12 +25,6 @@ pub printed_at : (cols : List ℕ) (row : Row) (i : ℕ) (d : ℕ) → i < lengt
 printed_at [] row i d below = absurd (omega (arith, below))
 printed_at (c ∷ cols) row zero d below = refl
 printed_at (c ∷ cols) row (suc i) d below = printed_at cols row i d (omega (arith, below))
-
--- behind its mark stand the fields of the row that the first bytes spell
-pub fields_held : (columns own : Columns) (cells : Row) (row bytes fields : List ℕ) → own ≡ columns → bytes ≡ take (width columns) row → fields ≡ drop 1 bytes → Begins columns (Some cells) row → HoldsCells own cells fields
-fields_held columns own cells row bytes fields same front cut spelt =
-    subst (λ (cs : Columns). HoldsCells cs cells fields) (sym same)
-    (subst (HoldsCells columns cells) (sym cut) (holds_cells columns cells bytes (subst (Spells columns (Some cells)) (sym front) spelt)))
 
 pub printed_size : (cols : List ℕ) (row : Row) → length (printed cols row) ≡ length cols
 printed_size [] row = refl

@@ -14,11 +14,12 @@ ghost use Rattle.ob_emit.specs.Emitting.{table_shown};
 ghost use Rattle.ob_base.specs.Events.{row_events, IsEmitted, IsHalted};
 
 use crate::slots::emit_rows;
-use ob_base::Emit;
+use ob_base::{Emit, Shown};
 use ob_flat::{Flat, OpErr};
 use ob_room::ClearRow;
 use ob_store::BlockStore;
 use ob_vault::{Revisions, Vault};
+use std::array;
 
 // Reads each block of a table once, in order, into these rows, as many as a block has, and emits the
 // rows that it has. Answers how many there are.
@@ -52,10 +53,11 @@ pub(crate) fn emit_blocks<S: BlockStore, R: Revisions, E: Emit>(
 {
     let pack = rows.len() as u32;
     let blocks = flat.capacity.div_ceil(pack);
+    let mut cells: [Shown; 32] = array::from_fn(|_| Shown::Null);
     let mut k = 0;
     for u in 0..blocks {
         vault.get(store, flat.region, u, rows)?;
-        match emit_rows(out, u * pack, k, flat, cols, rows) {
+        match emit_rows(out, u * pack, k, flat, cols, rows, &mut cells) {
             Ok(n) => k = n,
             Err(halt) => return Err(halt.error(flat.region, u)),
         }

@@ -33,9 +33,7 @@ fn push_bytes(text: &mut ArrayVec<u8, 65>, bytes: &[u8])
     requires { length text.old.items + length bytes.now ≤ 65 }
     ensures { text.new.items ≡ text.old.items ++ bytes.now }
 {
-    for b in bytes {
-        text.push(*b);
-    }
+    text.try_extend_from_slice(bytes).unwrap();
 }
 
 // The label of a column: its name, in a join behind its table's and a point.

@@ -9,8 +9,8 @@ ghost use Rattle.ob_flat.specs.Slots.{Spelt};
 ghost use Rattle.ob_emit.specs.Emitting.{slot_shown, slots_shown, HaltCause, halt_error};
 ghost use Rattle.ob_base.specs.Events.{row_events, IsEmitted, IsHalted};
 
-use crate::row::shown_cells;
-use ob_base::{Emit, EmitErr};
+use crate::row::show_cells;
+use ob_base::{Emit, EmitErr, Shown};
 use ob_flat::{Flat, OpErr};
 use ob_room::ClearRow;
 use ob_row::{Malformed, read};
@@ -36,16 +36,19 @@ impl Halt {
 }
 
 // Emits the row of the slot of index `i`, if it has one and lies below the capacity, and tells whether.
+// Its cells are put over the first of these.
 fn emit_slot<E: Emit>(
     out: &mut E,
     i: u32,
     flat: &Flat,
     cols: &[u8],
     row: &ClearRow,
+    cells: &mut [Shown],
 ) -> Result<bool, Halt>
     requires wide { width flat.now.schema ≤ length row.now }
-    requires few { length cols.now ≤ 32 }
+    requires few { length cols.now ≤ length cells.old }
     requires within { All (λ i. i < length flat.now.schema) cols.now }
+    ensures size { length cells.new ≡ length cells.old }
     ensures below { IfOk result (λ some. IsTrue some → i < flat.now.capacity) }
     ensures ok { IfOk result (λ some. IsEmitted E.grew [] (λ (s : (slot : Option Row) × Begins flat.now.schema slot row.now). slot_shown flat.now.capacity cols.now i s.0) 0 (if some then 1 else 0) out.old out.new) }
     ensures err { OnErr result (IsHalted E.grew E.cut (λ (s : (slot : Option Row) × Begins flat.now.schema slot row.now). row_events (slot_shown flat.now.capacity cols.now i s.0)) out.old out.new) }
@@ -55,7 +58,7 @@ fn emit_slot<E: Emit>(
     match read(&flat.schema, row) {
         Ok(real) => {
             if real && i < flat.capacity {
-                let cells = shown_cells(&flat.schema, cols, row);
+                show_cells(&flat.schema, cols, row, cells);
                 match out.row(&cells[..cols.len()]) {
                     Ok(()) => Ok(true),
                     Err(error) => Err(Halt::Emit(error)),
@@ -69,7 +72,7 @@ fn emit_slot<E: Emit>(
 }
 
 // Emits the rows of a block, the first slot of which has this index, and answers how many were emitted
-// with those before it.
+// with those before it. The cells of each are put over the first of these.
 pub(crate) fn emit_rows<E: Emit>(
     out: &mut E,
     first: u32,
@@ -77,12 +80,14 @@ pub(crate) fn emit_rows<E: Emit>(
     flat: &Flat,
     cols: &[u8],
     rows: &[ClearRow],
+    cells: &mut [Shown],
 ) -> Result<u32, Halt>
     requires wide { Wide (width flat.now.schema) rows.now }
     requires index { first + length rows.now ≤ 2147483648 }
     requires seen { (seen ≤ first) × (seen ≤ flat.now.capacity) }
-    requires few { length cols.now ≤ 32 }
+    requires few { length cols.now ≤ length cells.old }
     requires within { All (λ i. i < length flat.now.schema) cols.now }
+    ensures size { length cells.new ≡ length cells.old }
     ensures most { IfOk result (λ k. (k ≤ first + length rows.now) × (k ≤ flat.now.capacity)) }
     ensures ok { IfOk result (λ k. IsEmitted E.grew [] (λ (s : (slots : Slots) × Spelt flat.now.schema slots rows.now). slots_shown flat.now.capacity cols.now first s.0) seen k out.old out.new) }
     ensures err { OnErr result (IsHalted E.grew E.cut (λ (s : (slots : Slots) × Spelt flat.now.schema slots rows.now). row_events (slots_shown flat.now.capacity cols.now first s.0)) out.old out.new) }
@@ -91,7 +96,7 @@ pub(crate) fn emit_rows<E: Emit>(
 {
     let mut n = seen;
     for z in 0..rows.len() {
-        match emit_slot(out, first + z as u32, flat, cols, &rows[z]) {
+        match emit_slot(out, first + z as u32, flat, cols, &rows[z], cells) {
             Ok(some) => n += u32::from(some),
             Err(halt) => return Err(halt),
         }

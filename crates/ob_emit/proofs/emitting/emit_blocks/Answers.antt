@@ -1,4 +1,4 @@
-use Rattle.std.proofs.Common.{refl, ◌≡◌, ◌+◌, ◌*◌, ◌<◌, ◌≤◌, ℕ, inl, inr, [], ◌++◌, List, length, take, ◌∙◌, ap, arith}
+use Rattle.std.proofs.Common.{refl, ◌≡◌, ◌+◌, ◌*◌, ◌<◌, ◌≤◌, ℕ, inl, inr, [], ◌++◌, List, length, take, rules, ◌∙◌, ap, arith}
 use Rattle.std.proofs.lemmas.List.{take_all}
 use Rattle.std.proofs.lemmas.Result.{err_from_is_err_and}
 use Rattle.ob_base.specs.declared.shown.Shown.{Shown}
@@ -30,6 +30,7 @@ loop-u-init g c =
     let cols = c.args.cols.now in
     let start : 0 ≡ 0 * pack = omega arith in
     record {
+      cells = search rules;
       went = went_none none _ c.requires.ready;
       seals = λ good. seals_none good _;
       same = same_rows c.args.rows.now;
@@ -186,6 +187,7 @@ loop-u-preserved g c =
     let wide = wide_same (width flat.schema) _ _ same (wide_fit (width flat.schema) c.args.rows.now c.requires.fit) in
     let shape = table_region c.requires.flat.order pack flat.schema flat.capacity in
     record {
+      cells = c.emit_rows.ensures.size ∙ c.loop-u.invariant.cells;
       went = went_each none (read_at flat.region) _ _ _ u went c.in_ok-get.ensures.ok;
       seals = λ good. seals_join good _ _ _ went.lasts.later (c.loop-u.invariant.seals good) (c.get.ensures.seals good);
       same = same;

@@ -16,6 +16,7 @@ invariant-loop-u g l =
     let now = at g.R.Revisions.state l.vault (g.S.BlockStore.state l.store) in
     let pack = length l.initial.rows in
     record {
+      cells : length l.cells ≡ 32;
       went : Went (each l.u (read_at l.flat.region)) none old now;
       seals : (good : ℕ → List ℕ → Bool) → Seals good old now;
       same : SameSizes l.initial.rows l.rows;

@@ -41,6 +41,7 @@ loop-z-preserved g c =
     let one = byte some c.from-n.result c.from-n.ensures in
     let most = within some c.loop-z.n (first + z) n c.from-n.result one c.loop-z.invariant.most.0 c.loop-z.invariant.most.1 c.in-Ok.ensures.below in
     record {
+      size = c.emit_slot.ensures.size ∙ c.loop-z.invariant.size;
       most = (omega (arith, most.0), most.1);
       emitted = emitted_join g.E.Emit.grew [] (λ s. slots_shown n cols first (take z s.0)) (λ s. slot_shown n cols (first + z) s.0) (λ s. slots_shown n cols first (take (z + 1) s.0)) c.args.seen c.loop-z.n 0 (if some then 1 else 0) (c.loop-z.n + c.from-n.result) _ _ _
           c.loop-z.invariant.emitted c.in-Ok.ensures.ok (omega (arith, one))

@@ -1,4 +1,4 @@
-use Rattle.std.proofs.Common.{◌≡◌, ◌≤◌, ◌+◌, [], take}
+use Rattle.std.proofs.Common.{◌≡◌, ◌≤◌, ◌+◌, [], length, take}
 use Rattle.ob_row.specs.Slots.{Slots}
 use Rattle.ob_flat.specs.Slots.{Spelt}
 use Rattle.ob_emit.specs.Emitting.{slots_shown}
@@ -8,6 +8,7 @@ use Rattle.ob_emit.proofs.slots.emit_rows.Given as goal
 abbrev pub invariant-loop-z : goal.invariant-loop-z
 invariant-loop-z g l =
     record {
+      size : length l.cells ≡ length l.initial.cells;
       most : (l.n ≤ l.first + l.z) × (l.n ≤ l.flat.capacity);
       emitted : IsEmitted g.E.Emit.grew [] (λ (s : (slots : Slots) × Spelt l.flat.schema slots l.rows). slots_shown l.flat.capacity l.cols l.first (take l.z s.0)) l.fn.seen l.n l.initial.out l.out;
       faults : g.E.Emit.faults l.out ≡ g.E.Emit.faults l.initial.out;

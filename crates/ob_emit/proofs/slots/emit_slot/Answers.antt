@@ -7,7 +7,7 @@ use Rattle.ob_emit.proofs.slots.emit_slot.Goals as goal
 
 pub returns-in-Ok-row-clause-ok : goal.returns-in-Ok-row-clause-ok
 returns-in-Ok-row-clause-ok g c =
-    let cells = take (length c.args.cols.now) c.shown_cells-cells.result in
+    let cells = take (length c.args.cols.now) c.show_cells.new.cells in
     let below : c.args.i < c.args.flat.now.capacity = omega arith in
     record {
       rows = cells ∷ [];
@@ -17,12 +17,12 @@ returns-in-Ok-row-clause-ok g c =
           let is = c.in-Ok.ensures.spelled s.0 s.1 in
           let some : c.in-Ok.real ≡ is_some s.0 = cc is in
           slot_told c.args.flat.now.capacity c.args.cols.now c.args.i s.0 cells (sym some ∙ c.if-real.true) below
-          (λ row same. c.shown_cells-cells.ensures.told row (subst (λ (slot : Option Row). Begins c.args.flat.now.schema slot c.args.row.now) same s.1));
+          (λ row same. c.show_cells.ensures.told row (subst (λ (slot : Option Row). Begins c.args.flat.now.schema slot c.args.row.now) same s.1));
     }
 
 pub returns-in-Err-row-clause-err : goal.returns-in-Err-row-clause-err
 returns-in-Err-row-clause-err g c =
-    let cells = take (length c.args.cols.now) c.shown_cells-cells.result in
+    let cells = take (length c.args.cols.now) c.show_cells.new.cells in
     let below : c.args.i < c.args.flat.now.capacity = omega arith in
     record {
       events = RowEvent cells ∷ [];
@@ -32,6 +32,6 @@ returns-in-Err-row-clause-err g c =
           let some : c.in-Ok.real ≡ is_some s.0 = cc is in (
             [],
             ap row_events (slot_told c.args.flat.now.capacity c.args.cols.now c.args.i s.0 cells (sym some ∙ c.if-real.true) below
-                (λ row same. c.shown_cells-cells.ensures.told row (subst (λ (slot : Option Row). Begins c.args.flat.now.schema slot c.args.row.now) same s.1))),
+                (λ row same. c.show_cells.ensures.told row (subst (λ (slot : Option Row). Begins c.args.flat.now.schema slot c.args.row.now) same s.1))),
           );
     }
