@@ -1,25 +1,27 @@
--- Rows that get other cells.
-use Rattle.std.proofs.Common.{◌≡◌, ◌<◌, ℕ, zero, suc, List, [], ◌∷◌, Some, length, take, slice_get, slice_set, refl, ◌∙◌, ap, arith}
+-- Cells that are written one after the other, each at the place of its column.
+use Rattle.std.proofs.Common.{◌≡◌, ◌<◌, ◌+◌, ℕ, zero, suc, List, [], ◌∷◌, length, drop, get_or, sym, ◌∙◌, ap, subst, arith}
+use Rattle.std.specs.Prelude.{IsSomeAnd, slice_get}
+use Rattle.std.proofs.lemmas.List.{drop_more}
+use Rattle.ob_base.specs.Schemas.{Columns}
 use Rattle.ob_row.specs.declared.cell.Cell.{Cell}
-use Rattle.ob_row.specs.Rows.{Row, with_cells}
+use Rattle.ob_row.specs.Spelling.{FitsKind, kind_at}
+use Rattle.ob_mutate.specs.Changing.{FitsSets}
 
--- one element more that two lists begin with
-pub take_put : {A : Type 0} (xs ys : List A) (i : ℕ) (y : A) → i < length xs → take i xs ≡ take i ys → slice_get ys i ≡ Some y → take (suc i) (slice_set xs i y) ≡ take (suc i) ys
-take_put [] ys i y below same is = absurd (omega (arith, below))
-take_put (x ∷ xs) [] i y below same is = absurd (cc is)
-take_put (x ∷ xs) (z ∷ ys) zero y below same is = cc is
-take_put (x ∷ xs) (z ∷ ys) (suc i) y below same is =
-    let first : x ≡ z = cc same in
-    let rest : take i xs ≡ take i ys = cc same in
-    cc (first, take_put xs ys i y (omega (arith, below)) rest is)
+column_fits : (columns : Columns) (i : ℕ) (x : Cell) → IsSomeAnd (slice_get columns i) (λ c. FitsKind c.kind x) → (i < length columns) × FitsKind (kind_at columns i) x
+column_fits [] i x fit = absurd fit
+column_fits (c ∷ columns) zero x fit = (omega arith, fit)
+column_fits (c ∷ columns) (suc i) x fit = let rest = column_fits columns i x fit in (omega (arith, rest.0), rest.1)
 
-take_set : {A : Type 0} (n : ℕ) (xs : List A) (i : ℕ) (x : A) → take n (slice_set xs i x) ≡ slice_set (take n xs) i x
-take_set zero xs i x = refl
-take_set (suc n) [] i x = refl
-take_set (suc n) (y ∷ xs) zero x = refl
-take_set {A = A} (suc n) (y ∷ xs) (suc i) x = ap (λ (l : List A). y ∷ l) (take_set n xs i x)
+-- the one of an index, and those after it
+pub record IsNext (columns : Columns) (sets : List (ℕ × Cell)) (i : ℕ) (set : ℕ × Cell) : Type 0 where
+  pub is : drop i sets ≡ set ∷ drop (i + 1) sets
+  pub within : set.0 < length columns
+  pub fits : FitsKind (kind_at columns set.0) set.1
+  pub later : FitsSets columns (drop (i + 1) sets)
 
--- the first cells, with those that they get
-pub take_with : (n : ℕ) (sets : List (ℕ × Cell)) (cells : Row) → take n (with_cells sets cells) ≡ with_cells sets (take n cells)
-take_with n [] cells = refl
-take_with n (s ∷ sets) cells = take_with n sets (slice_set cells s.0 s.1) ∙ ap (with_cells sets) (take_set n cells s.0 s.1)
+pub next_set : (columns : Columns) (sets : List (ℕ × Cell)) (i : ℕ) (set : ℕ × Cell) → i < length sets → set ≡ get_or sets i set → FitsSets columns (drop i sets) → IsNext columns sets i set
+next_set columns sets i set below is fits =
+    let here : drop i sets ≡ set ∷ drop (i + 1) sets = drop_more sets i set below ∙ ap (λ (s : ℕ × Cell). s ∷ drop (i + 1) sets) (sym is) in
+    let both : FitsSets columns (set ∷ drop (i + 1) sets) = subst (FitsSets columns) here fits in
+    let column = column_fits columns set.0 set.1 both.0 in
+    record { is = here; within = column.0; fits = column.1; later = both.1 }

@@ -2,3 +2,4 @@ pub mod Keys
 pub mod Finding
 pub mod Counted
 pub mod Assigned
+pub mod Wiped

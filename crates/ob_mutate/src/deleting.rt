@@ -44,6 +44,7 @@ impl<'a> Change for Wipe<'a> {
 
     ghost keeps = { λ wipe columns i slot suits fits. emptied_fits columns (is_true wipe.pred.now) slot fits };
 
+    #[tactic(auto, using(crate::proofs::Wiped::wiped))]
     fn change(&self, _i: u32, schema: &Schema, row: &mut ClearRow) -> Result<bool, Malformed> {
         let selected = holds(self.pred, schema, row)?;
         if selected {

@@ -2,14 +2,14 @@ ghost use Rattle.std.specs.Prelude.{◌≡◌, ◌≤◌, ◌<◌, ℕ, List, Op
 ghost use Rattle.std.specs.List.{position};
 ghost use Rattle.ob_base.specs.declared.schema.Column.{Column as TableColumn};
 ghost use Rattle.ob_base.specs.Schemas.{width, key_place};
-ghost use Rattle.ob_row.specs.Rows.{Row, cell_eq};
+ghost use Rattle.ob_row.specs.Rows.{Row};
 ghost use Rattle.ob_row.specs.Spelling.{Begins, Fits};
 ghost use Rattle.ob_mutate.specs.Searches.{agrees, found};
 
 use ob_base::{Column, Schema};
 use ob_flat::{Flat, Visit};
 use ob_room::ClearRow;
-use ob_row::{Cell, Malformed, decode, read};
+use ob_row::{Cell, Malformed, read, same_value, value_of};
 
 fn key_index(columns: &[Column]) -> Option<usize>
     requires { length columns.now ≤ 32 }
@@ -29,34 +29,19 @@ pub(crate) fn key_place(schema: &Schema) -> Option<u8>
     }
 }
 
-// Whether two cells are equal: integers by value, texts by their bytes.
-fn same_cell(a: &Cell, b: &Cell) -> bool
-    ensures { result ≡ cell_eq a.now b.now }
-{
-    match (a, b) {
-        (Cell::Int(x), Cell::Int(y)) => x == y,
-        (Cell::Text(s), Cell::Text(t)) => s.as_bytes() == t.as_bytes(),
-        _ => false,
-    }
-}
-
-// Whether the row that was read has the primary key of these cells.
-fn has_key(
-    schema: &Schema,
-    key: Option<u8>,
-    cells: &[Cell],
-    row: &ClearRow,
-) -> Result<bool, Malformed>
+// Whether the row that the first bytes spell has the primary key of these cells.
+fn has_key(schema: &Schema, key: Option<u8>, cells: &[Cell], row: &ClearRow) -> bool
     requires wide { width schema.now ≤ length row.now }
+    requires real { (other : Row) × Begins schema.now (Some other) row.now }
     requires within { IfSome key (λ place. (place < length schema.now) × (place < length cells.now)) }
-    ensures { (other : Row) → Begins schema.now (Some other) row.now → result ≡ Ok (agrees key cells.now other) }
+    ensures { (other : Row) → Begins schema.now (Some other) row.now → result ≡ agrees key cells.now other }
 {
     match key {
-        None => Ok(false),
-        Some(place) => match decode(schema, row, place) {
-            Ok(cell) => Ok(same_cell(&cells[usize::from(place)], &cell)),
-            Err(malformed) => Err(malformed),
-        },
+        Some(place) => same_value(
+            cells[usize::from(place)].as_value(),
+            value_of(schema, row, place),
+        ),
+        None => false,
     }
 }
 
@@ -87,7 +72,7 @@ impl<'a> Visit for Search<'a> {
 
     fn visit(&mut self, i: u32, flat: &Flat, row: &ClearRow) -> Result<(), Malformed> {
         if read(&flat.schema, row)? {
-            if has_key(&flat.schema, self.key, self.cells, row)? {
+            if has_key(&flat.schema, self.key, self.cells, row) {
                 self.finds.duplicate = true;
             }
         } else if i < flat.capacity && self.finds.free.is_none() {

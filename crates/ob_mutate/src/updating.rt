@@ -52,7 +52,7 @@ impl<'a> Change for Assign<'a> {
     fn change(&self, _i: u32, schema: &Schema, row: &mut ClearRow) -> Result<bool, Malformed> {
         let selected = holds(self.pred, schema, row)?;
         if selected {
-            set_cells(schema, self.sets, row)?;
+            set_cells(schema, self.sets, row);
         }
         Ok(selected)
     }
