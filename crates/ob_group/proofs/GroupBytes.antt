@@ -1,19 +1,17 @@
 -- The key of a group and its totals, in the bytes that hold them.
-use Rattle.std.proofs.Common.{◌≡◌, ◌≤◌, ◌*◌, ℕ, true, false, List, [], ◌∷◌, ◌++◌, length, take, drop, Option, Some, refl, sym, ◌∙◌, subst, ap, arith, length-append}
+use Rattle.std.proofs.Common.{◌≡◌, ◌≤◌, ◌*◌, ℕ, List, [], ◌∷◌, ◌++◌, length, take, drop, Option, Some, refl, sym, ◌∙◌, subst, ap, arith, length-append}
 use Rattle.std.specs.Prelude.{IfSome}
 use Rattle.std.proofs.lemmas.List.{take_at, drop_at, length-map}
 use Rattle.ob_base.specs.declared.schema.Kind.{Kind}
 use Rattle.ob_base.specs.Schemas.{kind_width}
 use Rattle.ob_row.specs.declared.aggregate.Item.{Item}
 use Rattle.ob_row.specs.declared.cell.Cell.{Cell}
-use Rattle.ob_row.specs.Spelling.{FitsKind, cell_bytes}
+use Rattle.ob_row.specs.Spelling.{cell_bytes}
 use Rattle.ob_row.specs.Fields.{HoldsCell}
-use Rattle.ob_row.specs.Rows.{cell_eq}
 use Rattle.ob_row.proofs.SpellingLemmas.{length-cell_bytes, cell_bytes-same}
 use Rattle.ob_group.specs.Running.{Sums, start, starts}
 use Rattle.ob_group.specs.Grouping.{Group, agg_of, aggs_of}
 use Rattle.ob_group.specs.Held.{total_bytes, totals_bytes, HoldTotals, HoldsKey, HoldsGroup}
-use Rattle.ob_group.proofs.Heads.{cell_eq-same, cell_eq-refl, is_false}
 use Rattle.ob_group.proofs.Bounds.{starts_up_to, up_to_more}
 
 length-totals : (ts : Sums) → length (totals_bytes ts) ≡ 16 * length ts
@@ -73,29 +71,19 @@ module _ (kind : Kind) (m count : ℕ) (g : Group) (bytes : List ℕ) (held : Ho
   pub holds_more : (n : ℕ) → m ≤ n → HoldsGroup kind n count g bytes
   holds_more n more = record { key = held.key; same = held.same; fits = held.fits; size = held.size; few = up_to_more m n g.1 more held.few; behind = held.behind; is = held.is }
 
--- a group of no rows
-pub started : (kind : Kind) (x : Cell) (items : List Item) (front fields behind : List ℕ) → FitsKind kind x → front ≡ cell_bytes kind x → fields ≡ totals_bytes (starts (aggs_of items))
+-- a group of no rows, whose key has this field
+pub started : (kind : Kind) (x : Cell) (items : List Item) (front fields behind : List ℕ) → HoldsCell kind x front → fields ≡ totals_bytes (starts (aggs_of items))
     → HoldsGroup kind 0 (length items) (Some x, starts (aggs_of items)) (front ++ (fields ++ behind))
-started kind x items front fields behind fits key totals = record {
+started kind x items front fields behind key totals = record {
   key = x;
   same = refl;
-  fits = fits;
+  fits = key.fits;
   size = length-starts items;
   few = starts_up_to (aggs_of items);
   behind = behind;
-  is = ap (λ (l : List ℕ). l ++ (fields ++ behind)) key ∙ ap (λ (l : List ℕ). cell_bytes kind x ++ (l ++ behind)) totals;
+  is = ap (λ (l : List ℕ). l ++ (fields ++ behind)) key.is ∙ ap (λ (l : List ℕ). cell_bytes kind x ++ (l ++ behind)) totals;
 }
 
 -- a row that was written whole
 pub written : (old new : List ℕ) → length new ≡ length old → take (length old) (new ++ drop (length new) old) ≡ new
 written old new same = take_at new (drop (length new) old) (length old) same
-
--- two fields are equal exactly where their keys are
-module _ (kind : Kind) (x y : Cell) (row field : List ℕ) (own : HoldsKey kind x row) (held : HoldsCell kind y field) where
-  pub same_field : take (kind_width kind) row ≡ field → cell_eq x y ≡ true
-  same_field same =
-      let is = cell_bytes-same kind x y own.fits held.fits (sym (key_field kind x row own).is ∙ same ∙ held.is) in
-      subst (λ (z : Cell). cell_eq x z ≡ true) is (cell_eq-refl x)
-
-  pub other_field : (take (kind_width kind) row ≡ field → ⊥) → cell_eq x y ≡ false
-  other_field off = is_false (cell_eq x y) (λ h. off ((key_field kind x row own).is ∙ ap (cell_bytes kind) (cell_eq-same x y h) ∙ sym held.is))

@@ -9,12 +9,7 @@ use Rattle.ob_base.specs.Lists.{distinct, has_repeats}
 use Rattle.ob_row.specs.Rows.{Row, agree_at, cell_at, cell_eq, options_eq}
 use Rattle.ob_row.specs.declared.cell.Cell.{Cell}
 use Rattle.ob_row.specs.declared.cell.Cell.TheVariants.{Int, Text}
-
-pub cell_eq-same : (x y : Cell) → cell_eq x y ≡ true → x ≡ y
-cell_eq-same (Int x) (Int y) h = ap Int ((Decides-int_eq x y).0 h)
-cell_eq-same (Int x) (Text t) h = cc
-cell_eq-same (Text s) (Int y) h = cc
-cell_eq-same (Text s) (Text t) h = ap Text ((bytes_eq-Decides s t).0 h)
+use Rattle.ob_row.proofs.PlaceLemmas.{cell_eq-same, is_false}
 
 pub cell_eq-refl : (x : Cell) → cell_eq x x ≡ true
 cell_eq-refl (Int x) = (Decides-int_eq x x).1 refl
@@ -36,11 +31,6 @@ agree-sym key a b h =
 
 pub agree-trans : (key : ℕ) (a b c : Row) → agree_at key key a b ≡ true → agree_at key key b c ≡ true → agree_at key key a c ≡ true
 agree-trans key a b c h k = subst (λ (x : Option Cell). options_eq (cell_at a key) x ≡ true) (agrees key b c k) h
-
--- an answer that isn't true is false
-pub is_false : (b : Bool) → (b ≡ true → ⊥) → b ≡ false
-is_false true never = absurd (never refl)
-is_false false never = refl
 
 pub neither : (a b : Bool) → (a || b) ≡ false → (a ≡ false) × (b ≡ false)
 neither true b h = cc

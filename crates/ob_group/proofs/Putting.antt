@@ -1,27 +1,17 @@
 -- Where a row is put, among the groups and in their rows.
 use Rattle.std.proofs.Common.{◌≡◌, ◌≤◌, ◌<◌, ◌+◌, ◌-◌, ℕ, zero, suc, Bool, true, false, List, [], ◌∷◌, ◌++◌, length, Option, Some, slice_index_or, slice_set, inl, inr, refl, sym, ◌∙◌, ap, subst, arith, length-append, get_or-set_same, get_or-set_other}
-use Rattle.std.specs.Prelude.{if◌then◌else◌, slice_get}
+use Rattle.std.specs.Prelude.{if◌then◌else◌}
 use Rattle.std.proofs.lemmas.List.{length-set, get_or_append_left}
 use Rattle.std.proofs.Math.Seq.{get_or-append_right}
 use Rattle.std.proofs.lemmas.Bool.{cases_eq}
 use Rattle.ob_base.specs.declared.schema.Kind.{Kind}
-use Rattle.ob_base.specs.Schemas.{Columns}
 use Rattle.ob_row.specs.declared.aggregate.Agg.{Agg}
 use Rattle.ob_row.specs.declared.cell.Cell.{Cell}
 use Rattle.ob_row.specs.Rows.{Row, cell_at, cell_eq, options_eq}
-use Rattle.ob_row.specs.Spelling.{Fits, FitsKind}
 use Rattle.ob_vault.specs.Rows.{row_at}
 use Rattle.ob_group.specs.Grouping.{Group, group_with, group_by, put_row}
-use Rattle.ob_group.specs.Held.{HoldsKey, HoldsGroup, AreGroups, kind_at, no_group}
+use Rattle.ob_group.specs.Held.{HoldsKey, HoldsGroup, AreGroups, no_group}
 use Rattle.ob_group.proofs.GroupBytes.{holds_key, holds_more}
-
--- the cell of a row is of its column's kind
-pub fits_at : (columns : Columns) (row : Row) (i : ℕ) (x : Cell) → Fits columns row → slice_get row i ≡ Some x → FitsKind (kind_at columns i) x
-fits_at [] [] i x fits is = cc
-fits_at [] (y ∷ row) i x fits is = absurd fits
-fits_at (c ∷ columns) [] i x fits is = absurd fits
-fits_at (c ∷ columns) (y ∷ row) zero x fits is = let same : y ≡ x = cc in subst (FitsKind c.kind) same fits.0
-fits_at (c ∷ columns) (y ∷ row) (suc i) x fits is = fits_at columns row i x fits.1 is
 
 abbrev group : List Group → ℕ → Group
 group gs i = slice_index_or gs i no_group

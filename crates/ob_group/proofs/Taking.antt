@@ -13,9 +13,10 @@ use Rattle.ob_row.specs.declared.aggregate.Item.TheVariants.{Key, Agg as AggItem
 use Rattle.ob_row.specs.Rows.{Row, agree_at, cell_at}
 use Rattle.ob_row.specs.Slots.{Slots, rows}
 use Rattle.ob_row.specs.Totals.{item_shown, group_of, group_heads, grouped}
+use Rattle.ob_row.proofs.PlaceLemmas.{is_false}
 use Rattle.ob_group.specs.Running.{Sums, start, starts, grown, grown_all}
 use Rattle.ob_group.specs.Grouping.{Group, agg_of, aggs_of, group_with, group_by, put_row, groups_with, groups_of, item_cell, item_cells, groups_shown}
-use Rattle.ob_group.proofs.Heads.{agree-sym, agree-trans, is_false, neither, distinct-once, is_old, more, heads-more, none_before}
+use Rattle.ob_group.proofs.Heads.{agree-sym, agree-trans, neither, distinct-once, is_old, more, heads-more, none_before}
 use Rattle.ob_group.proofs.Sums.{grown_by, total_is, first_grown}
 
 -- each row has a cell at the key's place

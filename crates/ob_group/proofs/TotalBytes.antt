@@ -3,7 +3,7 @@ use Rattle.std.proofs.Common.{◌≡◌, ◌<◌, ◌≤◌, ◌*◌, ◌^◌, �
 use Rattle.std.proofs.lemmas.List.{take_at, drop_at}
 use Rattle.std.proofs.Math.Facts.{Fits-of_z, Fits-lt-pow}
 use Rattle.std.proofs.lemmas.Int.{to_z-of_z}
-use Rattle.std.specs.Prelude.{FitsSigned, Result, Ok, Err, IsOkAnd}
+use Rattle.std.specs.Prelude.{FitsSigned}
 use Rattle.std.specs.Int.{w128, from_be_bytes, cast_signed, cast_unsigned}
 use Rattle.ob_group.specs.Running.{Sums}
 use Rattle.ob_group.specs.Held.{total_int, total_bytes, totals_bytes, HoldTotals}
@@ -78,8 +78,3 @@ refilled m count t ts field bytes few is held = record {
 pub within : (m : ℕ) (t : Option ℤ) → m ≤ 2147483648 → IfSome t (λ x. nat_abs x ≤ m * 2 ^ 63) → IfSome t (λ x. nat_abs x < 2 ^ 127)
 within m None most few = tt
 within m (Some x) most few = omega (arith, most, few)
-
--- what follows from what was answered
-pub on_more : {T E : Type 0} (r : Result T E) (P Q : Type 0) → IsOkAnd r (λ _. P) → (P → Q) → IsOkAnd r (λ _. Q)
-on_more (Ok x) P Q is f = f is
-on_more (Err e) P Q is f = is

@@ -1,11 +1,7 @@
 -- The bytes of a running group: its key, as a row spells it, and 16 bytes for each total.
-use Rattle.std.specs.Prelude.{◌≡◌, ◌≤◌, ◌<◌, ℕ, ◌^◌, ◌-◌, ℤ, negsuc, List, [], ◌∷◌, ◌++◌, length, Option, Some, None, slice_get, slice_index_or}
-use Rattle.std.specs.Option.{option_map_or}
+use Rattle.std.specs.Prelude.{◌≡◌, ◌≤◌, ◌<◌, ℕ, ◌^◌, ◌-◌, ℤ, negsuc, List, [], ◌∷◌, ◌++◌, length, Option, Some, None, slice_index_or}
 use Rattle.std.specs.Int.{to_be_bytes, cast_unsigned, w128}
-use Rattle.ob_base.specs.declared.schema.Column.{Column}
 use Rattle.ob_base.specs.declared.schema.Kind.{Kind}
-use Rattle.ob_base.specs.declared.schema.Kind.TheVariants.{Int as IntKind}
-use Rattle.ob_base.specs.Schemas.{Columns}
 use Rattle.ob_row.specs.declared.cell.Cell.{Cell}
 use Rattle.ob_row.specs.Spelling.{FitsKind, cell_bytes}
 use Rattle.ob_vault.specs.Rows.{row_at}
@@ -46,10 +42,6 @@ pub record HoldsGroup (kind : Kind) (m count : ℕ) (group : Group) (row : List 
   pub few : AreUpTo m group.1
   pub behind : List ℕ
   pub is : row ≡ cell_bytes kind key ++ (totals_bytes group.1 ++ behind)
-
--- the kind of the column at a place
-abbrev pub kind_at : Columns → ℕ → Kind
-kind_at columns i = option_map_or (λ (c : Column). c.kind) (slice_get columns i) IntKind
 
 -- no group
 abbrev pub no_group : Group

@@ -42,7 +42,7 @@ impl<'a> Visit for Adding<'a> {
 
     fn visit(&mut self, _i: u32, flat: &Flat, row: &ClearRow) -> Result<(), Malformed> {
         if holds(self.pred, &flat.schema, row)? {
-            add_row(&flat.schema, row, self.aggs, self.totals.as_mut_slice())?;
+            add_row(&flat.schema, row, self.aggs, self.totals.as_mut_slice());
         }
         Ok(())
     }

@@ -1,5 +1,5 @@
 //! The bytes of the totals of a running group.
-ghost use Rattle.std.specs.Prelude.{◌≡◌, ◌≤◌, ◌<◌, ◌+◌, ◌*◌, ◌^◌, ℕ, ℤ, nat_abs, length, Option, Some, IfSome, IsOkAnd};
+ghost use Rattle.std.specs.Prelude.{◌≡◌, ◌≤◌, ◌<◌, ◌+◌, ◌*◌, ◌^◌, ℕ, ℤ, nat_abs, length, Option, Some, IfSome};
 ghost use Rattle.ob_base.specs.Schemas.{width};
 ghost use Rattle.ob_row.specs.Rows.{Row};
 ghost use Rattle.ob_row.specs.Spelling.{Begins};
@@ -11,7 +11,7 @@ use crate::accs::total_shown;
 use crate::totals::{joined, part, start};
 use ob_base::{Schema, Shown};
 use ob_room::ClearRow;
-use ob_row::{Agg, Cell, Item, Malformed};
+use ob_row::{Agg, Cell, Item};
 
 // Writes a total; the least integer stands for none.
 fn put_total(total: Option<i128>, field: &mut [u8])
@@ -62,32 +62,24 @@ pub(crate) fn start_totals(items: &[Item], fields: &mut [u8])
 }
 
 // Adds the row to the totals of these items.
-pub(crate) fn add_totals(
-    schema: &Schema,
-    row: &ClearRow,
-    items: &[Item],
-    fields: &mut [u8],
-) -> Result<(), Malformed>
+pub(crate) fn add_totals(schema: &Schema, row: &ClearRow, items: &[Item], fields: &mut [u8])
     requires wide { width schema.now ≤ length row.now }
     requires within { AreWithin (length schema.now) (aggs_of items.now) }
+    requires real { (cells : Row) × Begins schema.now (Some cells) row.now }
     requires held { (totals : Sums) × HoldTotals 2147483648 (length items.now) totals fields.old }
     ensures size { length fields.new ≡ length fields.old }
     ensures told { (cells : Row) → Begins schema.now (Some cells) row.now → (totals : Sums) (m : ℕ) → m ≤ 2147483648 → HoldTotals m (length items.now) totals fields.old
-        → IsOkAnd result (λ _. HoldTotals (m + 1) (length items.now) (grown_all (aggs_of items.now) cells totals) fields.new) }
+        → HoldTotals (m + 1) (length items.now) (grown_all (aggs_of items.now) cells totals) fields.new }
 {
     match items.split_first() {
         Some((item, items)) => {
             let agg = agg_of(*item);
             let (field, fields) = fields.split_at_mut(16);
-            match part(agg, schema, row) {
-                Ok(part) => {
-                    put_total(joined(agg, total_in(field), part), field);
-                    add_totals(schema, row, items, fields)
-                }
-                Err(malformed) => Err(malformed),
-            }
+            let total = joined(agg, total_in(field), part(agg, schema, row));
+            put_total(total, field);
+            add_totals(schema, row, items, fields);
         }
-        None => Ok(()),
+        None => {}
     }
 }
 

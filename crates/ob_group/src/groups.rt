@@ -1,63 +1,48 @@
 //! The rows that hold the running groups, one each.
-ghost use Rattle.std.specs.Prelude.{◌≡◌, ◌≤◌, ◌<◌, ◌+◌, ◌*◌, ℕ, true, false, List, Option, Some, IsOkAnd, length, take};
+ghost use Rattle.std.specs.Prelude.{◌≡◌, ◌≤◌, ◌<◌, ◌+◌, ◌*◌, ℕ, true, false, List, Option, Some, length, take};
 ghost use Rattle.ob_base.specs.Schemas.{kind_width, width};
 ghost use Rattle.ob_vault.specs.Rows.{SameSizes, Wide, row_at};
 ghost use Rattle.ob_row.specs.declared.cell.Cell.{Cell as RowCell};
 ghost use Rattle.ob_row.specs.Fields.{HoldsCell};
 ghost use Rattle.ob_row.specs.Rows.{Row, cell_eq};
-ghost use Rattle.ob_row.specs.Spelling.{FitsKind, Begins};
+ghost use Rattle.ob_row.specs.Spelling.{Begins, kind_at};
 ghost use Rattle.ob_group.specs.Running.{AreWithin, starts, grown_all};
 ghost use Rattle.ob_group.specs.Grouping.{Group, aggs_of, group_with, put_row, group_shown};
-ghost use Rattle.ob_group.specs.Held.{HoldsKey, HoldsGroup, AreGroups, kind_at};
+ghost use Rattle.ob_group.specs.Held.{HoldsKey, HoldsGroup, AreGroups};
 
 use crate::fields::{add_totals, show_items, start_totals};
 use ob_base::{Kind, Schema, Shown};
 use ob_room::ClearRow;
-use ob_row::{Cell, Item, Malformed, cell_in, decode, put_cell};
+use ob_row::{Cell, Item, cell_in, field_of, kind_at};
 
-// The kind of the column at a place.
-pub(crate) fn kind_at(schema: &Schema, i: u8) -> Kind
-    ensures { result ≡ kind_at schema.now i }
-{
-    match schema.as_slice().get(usize::from(i)) {
-        Some(column) => column.kind,
-        None => Kind::Int,
-    }
-}
-
-// Writes a group of no rows over the first bytes.
-fn start_bytes(kind: Kind, key: &Cell, items: &[Item], bytes: &mut [u8])
-    requires fits { FitsKind kind key.now }
+// Writes a group of no rows, whose key has this field, over the first bytes.
+fn start_bytes(kind: Kind, key: &[u8], items: &[Item], bytes: &mut [u8])
+    requires key { length key.now ≡ kind_width kind }
     requires few { length items.now ≤ 32 }
     requires wide { 768 ≤ length bytes.old }
     ensures size { length bytes.new ≡ length bytes.old }
-    ensures held { HoldsGroup kind 0 (length items.now) (Some key.now, starts (aggs_of items.now)) bytes.new }
+    ensures held { (x : RowCell) → HoldsCell kind x key.now → HoldsGroup kind 0 (length items.now) (Some x, starts (aggs_of items.now)) bytes.new }
 {
     let (field, rest) = bytes.split_at_mut(kind.width() as usize);
     let (fields, _) = rest.split_at_mut(16 * items.len());
-    put_cell(kind, key, field);
+    field.copy_from_slice(key);
     start_totals(items, fields);
 }
 
 // Adds the row to the group that these bytes hold.
-fn add_bytes(
-    schema: &Schema,
-    row: &ClearRow,
-    kind: Kind,
-    items: &[Item],
-    bytes: &mut [u8],
-) -> Result<(), Malformed>
+fn add_bytes(schema: &Schema, row: &ClearRow, kind: Kind, items: &[Item], bytes: &mut [u8])
     requires row { width schema.now ≤ length row.now }
     requires few { length items.now ≤ 32 }
     requires within { AreWithin (length schema.now) (aggs_of items.now) }
+    requires real { (cells : Row) × Begins schema.now (Some cells) row.now }
     requires held { (g : Group) × HoldsGroup kind 2147483648 (length items.now) g bytes.old }
     ensures size { length bytes.new ≡ length bytes.old }
     ensures told { (cells : Row) → Begins schema.now (Some cells) row.now → (g : Group) (m : ℕ) → m ≤ 2147483648 → HoldsGroup kind m (length items.now) g bytes.old
-        → IsOkAnd result (λ _. HoldsGroup kind (m + 1) (length items.now) (group_with (aggs_of items.now) cells g) bytes.new) }
+        → HoldsGroup kind (m + 1) (length items.now) (group_with (aggs_of items.now) cells g) bytes.new }
 {
     let (_, rest) = bytes.split_at_mut(kind.width() as usize);
     let (fields, _) = rest.split_at_mut(16 * items.len());
-    add_totals(schema, row, items, fields)
+    add_totals(schema, row, items, fields);
 }
 
 // The key of the group that these bytes hold.
@@ -103,8 +88,9 @@ fn place_of(kind: Kind, field: &[u8], groups: &[ClearRow], n: usize) -> usize
     ensures off { (y : RowCell) → HoldsCell kind y field.now → (i : ℕ) → i < result → (x : RowCell) → HoldsKey kind x (row_at groups.now i) → cell_eq x y ≡ false }
     ensures on { (y : RowCell) → HoldsCell kind y field.now → result < n → (x : RowCell) → HoldsKey kind x (row_at groups.now result) → cell_eq x y ≡ true }
 {
+    let width = kind.width() as usize;
     for i in 0..n {
-        let (own, _) = groups[i].bytes().split_at(kind.width() as usize);
+        let (own, _) = groups[i].bytes().split_at(width);
         if own == field {
             return i;
         }
@@ -112,60 +98,42 @@ fn place_of(kind: Kind, field: &[u8], groups: &[ClearRow], n: usize) -> usize
     n
 }
 
-// The place of the group with this key among the first n rows, or n where none has it.
-fn place(kind: Kind, key: &Cell, groups: &[ClearRow], n: usize) -> usize
-    requires fits { FitsKind kind key.now }
-    requires few { n ≤ length groups.now }
-    requires keys { (i : ℕ) → i < n → (x : RowCell) × HoldsKey kind x (row_at groups.now i) }
-    ensures most { result ≤ n }
-    ensures off { (i : ℕ) → i < result → (x : RowCell) → HoldsKey kind x (row_at groups.now i) → cell_eq x key.now ≡ false }
-    ensures on { result < n → (x : RowCell) → HoldsKey kind x (row_at groups.now result) → cell_eq x key.now ≡ true }
-{
-    let mut buffer = [0; 256];
-    let (field, _) = buffer.split_at_mut(kind.width() as usize);
-    put_cell(kind, key, field);
-    place_of(kind, field, groups, n)
-}
-
 // Adds the row to a group.
-fn add(
-    schema: &Schema,
-    row: &ClearRow,
-    kind: Kind,
-    items: &[Item],
-    group: &mut ClearRow,
-) -> Result<(), Malformed>
+fn add(schema: &Schema, row: &ClearRow, kind: Kind, items: &[Item], group: &mut ClearRow)
     requires row { width schema.now ≤ length row.now }
     requires few { length items.now ≤ 32 }
     requires within { AreWithin (length schema.now) (aggs_of items.now) }
+    requires real { (cells : Row) × Begins schema.now (Some cells) row.now }
     requires held { (g : Group) × HoldsGroup kind 2147483648 (length items.now) g group.old }
     ensures size { length group.new ≡ length group.old }
     ensures told { (cells : Row) → Begins schema.now (Some cells) row.now → (g : Group) (m : ℕ) → m ≤ 2147483648 → HoldsGroup kind m (length items.now) g group.old
-        → IsOkAnd result (λ _. HoldsGroup kind (m + 1) (length items.now) (group_with (aggs_of items.now) cells g) group.new) }
+        → HoldsGroup kind (m + 1) (length items.now) (group_with (aggs_of items.now) cells g) group.new }
 {
-    add_bytes(schema, row, kind, items, group.bytes_mut())
+    add_bytes(schema, row, kind, items, group.bytes_mut());
 }
 
-// Makes the row the first of a group with this key.
+// Makes the row the first of a group whose key has this field.
 fn start(
     schema: &Schema,
     row: &ClearRow,
     kind: Kind,
-    key: &Cell,
+    key: &[u8],
     items: &[Item],
     group: &mut ClearRow,
-) -> Result<(), Malformed>
+)
     requires row { width schema.now ≤ length row.now }
     requires few { length items.now ≤ 32 }
     requires within { AreWithin (length schema.now) (aggs_of items.now) }
-    requires fits { FitsKind kind key.now }
+    requires real { (cells : Row) × Begins schema.now (Some cells) row.now }
+    requires key { length key.now ≡ kind_width kind }
+    requires field { (x : RowCell) × HoldsCell kind x key.now }
     requires wide { 768 ≤ length group.old }
     ensures size { length group.new ≡ length group.old }
-    ensures told { (cells : Row) → Begins schema.now (Some cells) row.now
-        → IsOkAnd result (λ _. HoldsGroup kind 1 (length items.now) (Some key.now, grown_all (aggs_of items.now) cells (starts (aggs_of items.now))) group.new) }
+    ensures told { (cells : Row) → Begins schema.now (Some cells) row.now → (x : RowCell) → HoldsCell kind x key.now
+        → HoldsGroup kind 1 (length items.now) (Some x, grown_all (aggs_of items.now) cells (starts (aggs_of items.now))) group.new }
 {
     start_bytes(kind, key, items, group.bytes_mut());
-    add(schema, row, kind, items, group)
+    add(schema, row, kind, items, group);
 }
 
 // Puts a row to the group with its key, or to a new one behind the n that there are, and answers how many
@@ -177,7 +145,7 @@ pub(crate) fn put_row(
     items: &[Item],
     groups: &mut [ClearRow],
     n: usize,
-) -> Result<usize, Malformed>
+) -> usize
     requires row { width schema.now ≤ length row.now }
     requires key { key < length schema.now }
     requires few { length items.now ≤ 32 }
@@ -187,22 +155,22 @@ pub(crate) fn put_row(
     requires real { (cells : Row) × Begins schema.now (Some cells) row.now }
     requires held { (gs : List Group) × (m : ℕ) × (m < 2147483648) × AreGroups (kind_at schema.now key) m (length items.now) n gs groups.old }
     ensures size { SameSizes groups.old groups.new }
-    ensures told { (cells : Row) → Begins schema.now (Some cells) row.now → IsOkAnd result (λ k. (gs : List Group) (m : ℕ) → m < 2147483648 → AreGroups (kind_at schema.now key) m (length items.now) n gs groups.old
-        → AreGroups (kind_at schema.now key) (m + 1) (length items.now) k (put_row key (aggs_of items.now) cells gs) groups.new) }
+    ensures told { (cells : Row) → Begins schema.now (Some cells) row.now → (gs : List Group) (m : ℕ) → m < 2147483648 → AreGroups (kind_at schema.now key) m (length items.now) n gs groups.old
+        → AreGroups (kind_at schema.now key) (m + 1) (length items.now) result (put_row key (aggs_of items.now) cells gs) groups.new }
 {
     if n > groups.len() {
-        return Ok(n);
+        return n;
     }
     let kind = kind_at(schema, key);
-    let cell = decode(schema, row, key)?;
-    let i = place(kind, &cell, groups, n);
+    let field = field_of(schema, row, key);
+    let i = place_of(kind, field, groups, n);
     if i < n {
-        add(schema, row, kind, items, &mut groups[i])?;
-        Ok(n)
+        add(schema, row, kind, items, &mut groups[i]);
+        n
     } else if n < groups.len() {
-        start(schema, row, kind, &cell, items, &mut groups[n])?;
-        Ok(n + 1)
+        start(schema, row, kind, field, items, &mut groups[n]);
+        n + 1
     } else {
-        Ok(n + 1)
+        n + 1
     }
 }

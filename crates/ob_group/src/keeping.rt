@@ -2,11 +2,12 @@ ghost use Rattle.std.specs.Prelude.{◌≡◌, ◌≤◌, ◌<◌, ◌+◌, ℕ,
 ghost use Rattle.ob_base.specs.Schemas.{width};
 ghost use Rattle.ob_vault.specs.Rows.{SameSizes, Wide};
 ghost use Rattle.ob_row.specs.Slots.{Slots};
+ghost use Rattle.ob_row.specs.Spelling.{kind_at};
 ghost use Rattle.ob_row.specs.Truth.{is_true};
 ghost use Rattle.ob_flat.specs.Slots.{Spelt};
 ghost use Rattle.ob_group.specs.Running.{AreWithin};
 ghost use Rattle.ob_group.specs.Grouping.{Group, aggs_of, groups_with};
-ghost use Rattle.ob_group.specs.Held.{AreGroups, kind_at};
+ghost use Rattle.ob_group.specs.Held.{AreGroups};
 
 use crate::groups::put_row;
 use ob_base::Schema;
@@ -41,10 +42,7 @@ pub(crate) fn group_rows(
         match holds(pred, schema, &rows[z]) {
             Ok(selected) => {
                 if selected {
-                    match put_row(schema, &rows[z], key, items, groups, n) {
-                        Ok(k) => n = k,
-                        Err(malformed) => return Err(malformed),
-                    }
+                    n = put_row(schema, &rows[z], key, items, groups, n);
                 }
             }
             Err(malformed) => return Err(malformed),

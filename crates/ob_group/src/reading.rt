@@ -7,12 +7,13 @@ ghost use Rattle.ob_vault.specs.Places.{at, RowsFit};
 ghost use Rattle.ob_vault.specs.Rows.{SameSizes, Wide};
 ghost use Rattle.ob_script.specs.Parts.{count_part};
 ghost use Rattle.ob_row.specs.Slots.{Slots};
+ghost use Rattle.ob_row.specs.Spelling.{kind_at};
 ghost use Rattle.ob_row.specs.Truth.{is_true};
 ghost use Rattle.ob_flat.specs.Flats.{IsSized, IsFlat, Represents, whole_blocks};
 ghost use Rattle.ob_flat.specs.Passes.{PassCut};
 ghost use Rattle.ob_group.specs.Running.{AreWithin};
 ghost use Rattle.ob_group.specs.Grouping.{aggs_of, groups_of};
-ghost use Rattle.ob_group.specs.Held.{AreGroups, kind_at};
+ghost use Rattle.ob_group.specs.Held.{AreGroups};
 
 use crate::keeping::group_rows;
 use ob_flat::{Flat, OpErr};

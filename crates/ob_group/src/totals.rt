@@ -1,5 +1,5 @@
 //! Totals of the rows so far.
-ghost use Rattle.std.specs.Prelude.{◌≡◌, ◌≤◌, ◌<◌, ◌+◌, ◌*◌, ◌^◌, ℕ, nat_abs, length, Option, Some, Ok, IfSome, OnOk, IsOkAnd};
+ghost use Rattle.std.specs.Prelude.{◌≡◌, ◌≤◌, ◌<◌, ◌+◌, ◌*◌, ◌^◌, ℕ, nat_abs, length, Some, IfSome};
 ghost use Rattle.ob_base.specs.Schemas.{width};
 ghost use Rattle.ob_row.specs.Rows.{Row, cell_at};
 ghost use Rattle.ob_row.specs.Spelling.{Begins};
@@ -9,7 +9,7 @@ ghost use Rattle.ob_group.specs.Running.{IsWithin, AreWithin, AreUpTo, together,
 use arrayvec::ArrayVec;
 use ob_base::Schema;
 use ob_room::ClearRow;
-use ob_row::{Agg, Cell, Malformed, decode};
+use ob_row::{Agg, Value, value_of};
 
 // How two values of an aggregate are taken together.
 fn together(agg: Agg, x: i128, y: i128) -> i128
@@ -38,53 +38,47 @@ pub(crate) fn joined(agg: Agg, total: Option<i128>, part: Option<i64>) -> Option
 }
 
 // The integer at a place of the row, if its column has integers.
-fn int_at(schema: &Schema, row: &ClearRow, i: u8) -> Result<Option<i64>, Malformed>
+fn int_at(schema: &Schema, row: &ClearRow, i: u8) -> Option<i64>
     requires wide { width schema.now ≤ length row.now }
     requires within { i < length schema.now }
-    ensures { (cells : Row) → Begins schema.now (Some cells) row.now → result ≡ Ok (int_of (cell_at cells i)) }
+    requires real { (cells : Row) × Begins schema.now (Some cells) row.now }
+    ensures { (cells : Row) → Begins schema.now (Some cells) row.now → result ≡ int_of (cell_at cells i) }
 {
-    match decode(schema, row, i) {
-        Ok(Cell::Int(x)) => Ok(Some(x)),
-        Ok(Cell::Text(_)) => Ok(None),
-        Err(malformed) => Err(malformed),
+    match value_of(schema, row, i) {
+        Value::Int(x) => Some(x),
+        Value::Text(_) => None,
     }
 }
 
 // What the row gives to an aggregate.
-pub(crate) fn part(agg: Agg, schema: &Schema, row: &ClearRow) -> Result<Option<i64>, Malformed>
+pub(crate) fn part(agg: Agg, schema: &Schema, row: &ClearRow) -> Option<i64>
     requires wide { width schema.now ≤ length row.now }
     requires within { IsWithin (length schema.now) agg }
-    ensures { (cells : Row) → Begins schema.now (Some cells) row.now → result ≡ Ok (part agg cells) }
+    requires real { (cells : Row) × Begins schema.now (Some cells) row.now }
+    ensures { (cells : Row) → Begins schema.now (Some cells) row.now → result ≡ part agg cells }
 {
     match agg {
-        Agg::CountAll | Agg::Count(_) => Ok(Some(1)),
+        Agg::CountAll | Agg::Count(_) => Some(1),
         Agg::Sum(i) | Agg::Min(i) | Agg::Max(i) => int_at(schema, row, i),
     }
 }
 
 // Adds the row to the totals of these aggregates.
-pub(crate) fn add_row(
-    schema: &Schema,
-    row: &ClearRow,
-    aggs: &[Agg],
-    totals: &mut [Option<i128>],
-) -> Result<(), Malformed>
+pub(crate) fn add_row(schema: &Schema, row: &ClearRow, aggs: &[Agg], totals: &mut [Option<i128>])
     requires wide { width schema.now ≤ length row.now }
     requires within { AreWithin (length schema.now) aggs.now }
+    requires real { (cells : Row) × Begins schema.now (Some cells) row.now }
     requires size { length totals.old ≡ length aggs.now }
     requires few { AreUpTo 2147483648 totals.old }
-    ensures few { OnOk result ((n : ℕ) → AreUpTo n totals.old → AreUpTo (n + 1) totals.new) }
-    ensures told { (cells : Row) → Begins schema.now (Some cells) row.now → IsOkAnd result (λ _. totals.new ≡ grown_all aggs.now cells totals.old) }
+    ensures few { (n : ℕ) → AreUpTo n totals.old → AreUpTo (n + 1) totals.new }
+    ensures told { (cells : Row) → Begins schema.now (Some cells) row.now → totals.new ≡ grown_all aggs.now cells totals.old }
 {
     match (aggs.split_first(), totals.split_first_mut()) {
-        (Some((agg, aggs)), Some((total, totals))) => match part(*agg, schema, row) {
-            Ok(part) => {
-                *total = joined(*agg, *total, part);
-                add_row(schema, row, aggs, totals)
-            }
-            Err(malformed) => Err(malformed),
-        },
-        _ => Ok(()),
+        (Some((agg, aggs)), Some((total, totals))) => {
+            *total = joined(*agg, *total, part(*agg, schema, row));
+            add_row(schema, row, aggs, totals);
+        }
+        _ => {}
     }
 }
 

@@ -44,6 +44,7 @@ loop-i-preserved g c =
           let one = slice_index_or gs i no_group in
           let here = subst (HoldsGroup c.args.kind 2147483648 (length items) one) row (s.1.each c.requires.most i c.loop-i-test.true) in
           (s, (one, here), shown_more items gs i below));
+      size = c.emit_group.ensures.size ∙ c.loop-i.invariant.size;
       faults = c.in-Ok.ensures.cause ∙ c.loop-i.invariant.faults;
     }
 

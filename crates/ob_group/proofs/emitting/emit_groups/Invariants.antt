@@ -8,5 +8,6 @@ abbrev pub invariant-loop-i : goal.invariant-loop-i
 invariant-loop-i g l =
     record {
       emitted : IsEmitted g.E.Emit.grew [] (λ (s : (gs : List Group) × AreGroups l.kind 2147483648 (length l.items) l.n gs l.groups). groups_shown l.items (take l.i s.0)) 0 l.i l.initial.out l.out;
+      size : length l.cells ≡ 32;
       faults : g.E.Emit.faults l.out ≡ g.E.Emit.faults l.initial.out;
     }

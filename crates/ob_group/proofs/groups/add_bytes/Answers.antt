@@ -3,7 +3,6 @@ use Rattle.ob_base.specs.Schemas.{kind_width}
 use Rattle.ob_group.specs.Running.{grown_all}
 use Rattle.ob_group.specs.Grouping.{aggs_of}
 use Rattle.ob_group.specs.Held.{HoldTotals}
-use Rattle.ob_group.proofs.TotalBytes.{on_more}
 use Rattle.ob_group.proofs.GroupBytes.{rest_enough, totals_field, changed_totals}
 use Rattle.ob_group.proofs.groups.add_bytes.Goals as goal
 
@@ -28,5 +27,5 @@ returns-clause-told c = λ cells begins g m most held.
     ap (λ (w : ℕ). take (16 * n) (drop w c.args.bytes.now)) (sym c.width.ensures.value) ∙ ap (take (16 * n)) (sym c.split_at_mut-rest.ensures.back) ∙ sym c.split_at_mut-fields.ensures.front in
     let key : c.split_at_mut-rest.result.0.now ≡ take (kind_width c.args.kind) c.args.bytes.now =
     c.split_at_mut-rest.ensures.front ∙ ap (λ (w : ℕ). take w c.args.bytes.now) c.width.ensures.value in
-    on_more c.add_totals.result _ _ (c.add_totals.ensures.told cells begins g.1 m most (subst (HoldTotals m n g.1) front (totals_field c.args.kind m n g c.args.bytes.now held)))
-    (λ totals. changed_totals c.args.kind m n g c.args.bytes.now held (m + 1) (grown_all (aggs_of c.args.items.now) cells g.1) c.split_at_mut-rest.result.0.now c.add_totals.new.fields c.split_at_mut-fields.result.1.now key totals)
+    let totals = c.add_totals.ensures.told cells begins g.1 m most (subst (HoldTotals m n g.1) front (totals_field c.args.kind m n g c.args.bytes.now held)) in
+    changed_totals c.args.kind m n g c.args.bytes.now held (m + 1) (grown_all (aggs_of c.args.items.now) cells g.1) c.split_at_mut-rest.result.0.now c.add_totals.new.fields c.split_at_mut-fields.result.1.now key totals

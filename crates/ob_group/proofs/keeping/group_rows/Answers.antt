@@ -1,16 +1,16 @@
 use Rattle.std.proofs.Common.{◌≡◌, ◌+◌, ◌++◌, ◌∷◌, [], ℕ, List, Option, Some, length, sym, ◌∙◌, subst, arith, length-append}
 use Rattle.ob_row.specs.Rows.{Row}
 use Rattle.ob_row.specs.Slots.{is_selected}
-use Rattle.ob_row.specs.Spelling.{Begins}
+use Rattle.ob_row.specs.Spelling.{Begins, kind_at}
 use Rattle.ob_row.specs.Truth.{is_true}
 use Rattle.ob_vault.specs.Rows.{SameSizes}
 use Rattle.ob_vault.proofs.RowsLemmas.{same_at}
 use Rattle.ob_vault.proofs.Runs.{fit_trans}
 use Rattle.ob_group.specs.Grouping.{Group, aggs_of, put_row, groups_with}
-use Rattle.ob_group.specs.Held.{AreGroups, kind_at}
+use Rattle.ob_group.specs.Held.{AreGroups}
 use Rattle.ob_group.proofs.SlotLemmas.{with_more, slot_on, slot_off, read_more, groups_weak}
 use Rattle.ob_group.proofs.keeping.group_rows.Goals as goal
-use Rattle.ob_group.proofs.keeping.group_rows.Goals.{then-selected+in-Ok-put_row, else-selected}
+use Rattle.ob_group.proofs.keeping.group_rows.Goals.{then-selected, else-selected}
 
 pub loop-z-preserved : goal.loop-z-preserved
 loop-z-preserved c =
@@ -29,7 +29,7 @@ loop-z-preserved c =
     let is : is_selected p slot ≡ c.in-Ok.selected = c.in-Ok.ensures.malformed.2 in
     record {
       same = elim c.if-selected.branch [
-        | then-selected+in-Ok-put_row w ↦ subst (SameSizes c.args.groups.now) (sym w.groups-is) (fit_trans _ _ _ was.same w.put_row.ensures.size)
+        | then-selected w ↦ subst (SameSizes c.args.groups.now) (sym w.groups-is) (fit_trans _ _ _ was.same w.put_row-n.ensures.size)
         | else-selected w ↦ subst (SameSizes c.args.groups.now) (sym w.groups-is) was.same
       ];
       kept = (
@@ -41,17 +41,17 @@ loop-z-preserved c =
             let so_far = was.kept.3 gs m few are in
             let next : m + z + 1 ≡ m + (z + 1) = omega arith in
             elim c.if-selected.branch [
-              | then-selected+in-Ok-put_row w ↦
+              | then-selected w ↦
                   let again = same_at rows z w.index-rows-z-then-selected.result c.loop-z-test.true w.index-rows-z-then-selected.is in
                   let on = slot_on p c.args.key aggs slot (is ∙ w.if-selected.true) in
                   let here : Begins columns (Some on.0) w.index-rows-z-then-selected.result =
                   subst (Begins columns (Some on.0)) (sym row ∙ again) (subst (λ (s : Option Row). Begins columns s c.index-rows-z.result) on.1 begins) in
-                  let put = w.in-Ok-put_row.ensures.told on.0 here gs' (m + z) (omega (arith, few, c.loop-z-test.true)) so_far in
+                  let put = w.put_row-n.ensures.told on.0 here gs' (m + z) (omega (arith, few, c.loop-z-test.true)) so_far in
                   let whole : groups_with p c.args.key aggs gs (slots ++ slot ∷ []) ≡ put_row c.args.key aggs on.0 gs' = with_more p c.args.key aggs gs slots slot ∙ on.2 gs' in
                   subst (λ (l : List (List ℕ)). AreGroups kind (m + (z + 1)) count c.if-selected.n (groups_with p c.args.key aggs gs (slots ++ slot ∷ [])) l) (sym w.groups-is)
-                  (subst (λ (k : ℕ). AreGroups kind (m + (z + 1)) count k (groups_with p c.args.key aggs gs (slots ++ slot ∷ [])) w.put_row.new.groups) (sym w.n-is)
-                  (subst (λ (l : List Group). AreGroups kind (m + (z + 1)) count w.in-Ok-put_row.k l w.put_row.new.groups) (sym whole)
-                  (subst (λ (k : ℕ). AreGroups kind k count w.in-Ok-put_row.k (put_row c.args.key aggs on.0 gs') w.put_row.new.groups) next put)))
+                  (subst (λ (k : ℕ). AreGroups kind (m + (z + 1)) count k (groups_with p c.args.key aggs gs (slots ++ slot ∷ [])) w.put_row-n.new.groups) (sym w.n-is)
+                  (subst (λ (l : List Group). AreGroups kind (m + (z + 1)) count w.put_row-n.result l w.put_row-n.new.groups) (sym whole)
+                  (subst (λ (k : ℕ). AreGroups kind k count w.put_row-n.result (put_row c.args.key aggs on.0 gs') w.put_row-n.new.groups) next put)))
               | else-selected w ↦
                   let whole : groups_with p c.args.key aggs gs (slots ++ slot ∷ []) ≡ gs' = with_more p c.args.key aggs gs slots slot ∙ slot_off p c.args.key aggs gs' slot (is ∙ w.if-selected.false) in
                   subst (λ (l : List (List ℕ)). AreGroups kind (m + (z + 1)) count c.if-selected.n (groups_with p c.args.key aggs gs (slots ++ slot ∷ [])) l) (sym w.groups-is)

@@ -1,10 +1,10 @@
 use Rattle.std.proofs.Common.{◌≡◌, ◌≤◌, ◌<◌, ◌+◌, ℕ, List, None, length, slice_index_or}
 use Rattle.ob_vault.specs.Rows.{row_at, SameSizes}
 use Rattle.ob_row.specs.Slots.{Slots}
-use Rattle.ob_row.specs.Spelling.{Begins}
+use Rattle.ob_row.specs.Spelling.{Begins, kind_at}
 use Rattle.ob_row.specs.Truth.{is_true}
 use Rattle.ob_group.specs.Grouping.{Group, aggs_of, groups_with}
-use Rattle.ob_group.specs.Held.{AreGroups, kind_at}
+use Rattle.ob_group.specs.Held.{AreGroups}
 use Rattle.ob_group.proofs.keeping.group_rows.Given as goal
 
 abbrev pub invariant-loop-z : goal.invariant-loop-z

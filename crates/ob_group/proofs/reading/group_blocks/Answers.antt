@@ -10,6 +10,7 @@ use Rattle.ob_vault.specs.Calls.{Went, none}
 use Rattle.ob_vault.specs.Places.{at}
 use Rattle.ob_vault.proofs.Runs.{went_none, went_each, lives_went, written_went, none_went, fit_same, fit_trans, may_get, seals_none, seals_join}
 use Rattle.ob_row.specs.Slots.{Slots}
+use Rattle.ob_row.specs.Spelling.{kind_at}
 use Rattle.ob_row.specs.Truth.{is_true}
 use Rattle.ob_blocks.specs.Blocks.{block_at}
 use Rattle.ob_blocks.proofs.Blocks.{take_blocks}
@@ -20,7 +21,7 @@ use Rattle.ob_flat.proofs.Rows.{wide_fit, wide_same}
 use Rattle.ob_flat.proofs.Runs.{pass_of, pass_each, pass_malformed}
 use Rattle.ob_flat.proofs.Tables.{reads, index_fits, represents_lasts, block_long, got, whole_size, blocks_end}
 use Rattle.ob_group.specs.Grouping.{Group, put_slot, aggs_of, groups_with, groups_of}
-use Rattle.ob_group.specs.Held.{AreGroups, kind_at}
+use Rattle.ob_group.specs.Held.{AreGroups}
 use Rattle.ob_group.proofs.SlotLemmas.{spelt_same, groups_weak, groups_none}
 use Rattle.ob_group.proofs.reading.group_blocks.Goals as goal
 

@@ -5,10 +5,11 @@ use Rattle.ob_vault.specs.Calls.{Went, Seals, none}
 use Rattle.ob_vault.specs.Rows.{SameSizes}
 use Rattle.ob_vault.specs.Places.{at}
 use Rattle.ob_row.specs.Slots.{Slots}
+use Rattle.ob_row.specs.Spelling.{kind_at}
 use Rattle.ob_row.specs.Truth.{is_true}
 use Rattle.ob_flat.specs.Flats.{Represents, whole_blocks}
 use Rattle.ob_group.specs.Grouping.{groups_of}
-use Rattle.ob_group.specs.Held.{AreGroups, kind_at}
+use Rattle.ob_group.specs.Held.{AreGroups}
 use Rattle.ob_group.proofs.reading.group_blocks.Given as goal
 
 abbrev pub invariant-loop-u : goal.invariant-loop-u
