@@ -1,5 +1,5 @@
 -- What the tables of an engine hold, and what a statement means for them.
-use Rattle.std.specs.Prelude.{Bool, ◌≡◌, ◌-◌, ⊤, ℕ, List, [], ◌∷◌, length, Some, Result, Ok, Err}
+use Rattle.std.specs.Prelude.{Bool, ◌≡◌, ◌-◌, ⊤, ℕ, List, [], ◌∷◌, length, Result, Ok, Err}
 use Rattle.ob_base.specs.declared.config.Public.{Public}
 use Rattle.ob_base.specs.declared.refusal.Refusal.{Refusal}
 use Rattle.ob_base.specs.declared.refusal.Refusal.TheVariants.{Syntax, NoTable, NameTaken, NoColumn, WrongType, ValueRange, Limit, KeyRule, JoinKey, Duplicate, Full, TooManyGroups, NotConsecutive, Overflow, StoreFault}

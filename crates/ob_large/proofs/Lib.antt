@@ -1,1 +1,2 @@
 pub mod Halfway
+pub mod Wiped

@@ -51,6 +51,7 @@ impl<'a> Change for Unselected<'a> {
 
     ghost keeps = { λ other columns i slot suits fits. kept_fits columns (is_true other.pred.now) slot fits };
 
+    #[tactic(auto, using(crate::proofs::Wiped::wiped))]
     fn change(&self, _i: u32, schema: &Schema, row: &mut ClearRow) -> Result<bool, Malformed> {
         let selected = holds(self.pred, schema, row)?;
         if !selected {

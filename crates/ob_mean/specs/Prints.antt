@@ -1,7 +1,6 @@
 -- What is printed of an answer: the labels of its columns, its rows in some order, and their number.
-use Rattle.std.specs.Prelude.{◌≡◌, ℕ, Bool, true, false, List, [], ◌∷◌, ◌++◌, map, length, codes, if◌then◌else◌, slice_get}
+use Rattle.std.specs.Prelude.{◌≡◌, ℕ, Bool, true, false, List, [], ◌∷◌, ◌++◌, map, length, codes, slice_get}
 use Rattle.std.specs.Option.{option_map_or}
-use Rattle.ob_base.specs.declared.schema.Column.{Column}
 use Rattle.ob_base.specs.declared.schema.Heading.{Heading}
 use Rattle.ob_base.specs.declared.shown.Shown.{Shown}
 use Rattle.ob_base.specs.declared.skeleton.ColumnName.{ColumnName}

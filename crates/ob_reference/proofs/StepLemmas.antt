@@ -1,5 +1,5 @@
 -- A statement that is not refused early.
-use Rattle.std.proofs.Common.{◌≡◌, ℕ, ◌≤◌, Bool, List, length, arith}
+use Rattle.std.proofs.Common.{◌≡◌, ℕ, Bool, List, arith}
 use Rattle.std.specs.Prelude.{None}
 use Rattle.ob_base.specs.declared.schema.Heading.{Heading}
 use Rattle.ob_sql.specs.declared.stmt.Stmt.{Stmt}

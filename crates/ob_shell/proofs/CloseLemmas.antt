@@ -1,8 +1,7 @@
 -- What a run promises once its last line was written.
-use Rattle.std.proofs.Common.{◌≡◌, ℕ, ◌≤◌, Bool, true, false, List, [], ◌∷◌, ◌++◌, Option, Ok, Err, refl, sym, ◌∙◌, ap, subst, inl, inr, arith}
+use Rattle.std.proofs.Common.{◌≡◌, ℕ, Bool, true, false, List, [], ◌∷◌, ◌++◌, Option, Ok, Err, refl, sym, ◌∙◌, subst, arith}
 use Rattle.std.specs.Prelude.{⊤}
 use Rattle.std.specs.Io.KnownBytes.{Appends}
-use Rattle.ob_base.specs.Counts.{Rises}
 use Rattle.ob_print.specs.Cuts.{Cut}
 use Rattle.ob_shell.specs.Closed.{Unwritten, LineWritten, refused_by}
 use Rattle.ob_shell.specs.Endings.{status_of, last_line, SinkStopped}

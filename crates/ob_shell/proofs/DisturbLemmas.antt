@@ -1,5 +1,5 @@
 -- Before others disturb a store, what is asked and answered is what is meant.
-use Rattle.std.proofs.Common.{◌≡◌, ◌≤◌, ◌+◌, ℕ, Bool, true, IsTrue, List, [], ◌∷◌, ◌++◌, length, Option, Some, None, Ok, Err, Result, inl, inr, refl, sym, ◌∙◌, ap, subst, arith}
+use Rattle.std.proofs.Common.{◌≡◌, ◌≤◌, ℕ, Bool, true, IsTrue, List, [], ◌∷◌, ◌++◌, length, Option, Some, None, Ok, Err, Result, inl, inr, refl, sym, ◌∙◌, ap, subst, arith}
 use Rattle.std.proofs.lemmas.List.{length-append}
 use Rattle.std.specs.List.{list_all}
 use Rattle.std.specs.Prelude.{nat_lt}
@@ -11,24 +11,24 @@ use Rattle.ob_exec.specs.Telling.{Represents}
 use Rattle.ob_exec.specs.declared.outcome.Outcome.{Outcome}
 use Rattle.ob_mean.specs.Replay.{Session, after}
 use Rattle.ob_mean.specs.Settle.{settle}
-use Rattle.ob_mean.specs.Verdict.{Tables, seen}
+use Rattle.ob_mean.specs.Verdict.{Tables}
 use Rattle.ob_parse.specs.Statements.{Statement}
 use Rattle.ob_script.specs.Script.{script}
-use Rattle.ob_shell.specs.Disturbed.{Begins, AskedInAll}
+use Rattle.ob_shell.specs.Disturbed.{AskedInAll}
 use Rattle.ob_shell.specs.Failures.{failures, RisesBy}
 use Rattle.ob_shell.specs.Replayed.{session_of, Replayed}
 use Rattle.ob_shell.specs.Running.{LastPart}
 use Rattle.ob_shell.specs.Steps.{Machine, Answer, Step, Steps, Spells, Served}
 use Rattle.ob_shell.proofs.FailureLemmas.{steps_fail}
 use Rattle.ob_shell.proofs.FirstPartLemmas.{begins_meant, begins_length}
-use Rattle.ob_shell.proofs.LaterLemmas.{step_later, steps_later, last_later}
+use Rattle.ob_shell.proofs.LaterLemmas.{step_later, steps_later}
 use Rattle.ob_shell.proofs.ReplayLemmas.{outcome_cases, replayed, stands_after}
 use Rattle.ob_sql.specs.Skeleton.{skeleton}
 use Rattle.ob_sql.specs.declared.stmt.Stmt.{Stmt}
 use Rattle.ob_store.specs.Calls.{IsBefore, IsQuiet, IsSteady}
 use Rattle.ob_store.specs.State.{Disturbance}
 use Rattle.ob_token.specs.Tokens.{tokens_of}
-use Rattle.ob_vault.specs.State.{RevState, World}
+use Rattle.ob_vault.specs.State.{RevState}
 
 -- ---- fewer accesses come before as well
 less_tail : (d : Disturbance) (list : List Disturbance) (m : ℕ) → list_all (λ d. nat_lt m d.before) (d ∷ list) ≡ true → list_all (λ d. nat_lt m d.before) list ≡ true

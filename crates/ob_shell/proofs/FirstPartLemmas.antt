@@ -1,5 +1,5 @@
 -- What a statement asks of any store is a first part of what its meaning asks.
-use Rattle.std.proofs.Common.{◌≡◌, ◌≤◌, ◌+◌, ℕ, Bool, List, [], ◌∷◌, ◌++◌, length, take, drop, Option, Some, None, Ok, Err, Result, refl, sym, ◌∙◌, ap, subst, arith, append-nil}
+use Rattle.std.proofs.Common.{◌≡◌, ◌≤◌, ℕ, List, [], length, drop, Option, Some, None, Result, refl, sym, ap, subst, arith, append-nil}
 use Rattle.std.proofs.lemmas.List.{length-append, take-append-drop}
 use Rattle.ob_base.specs.declared.access.Access.{Access}
 use Rattle.ob_base.specs.declared.config.Public.{Public}
@@ -10,7 +10,6 @@ use Rattle.ob_base.specs.declared.seen.End.TheVariants.{Static, Whole, AfterCoun
 use Rattle.ob_base.specs.declared.seen.Seen.{Seen}
 use Rattle.ob_base.specs.declared.skeleton.Source.{Source}
 use Rattle.ob_base.specs.declared.skeleton.Source.TheVariants.{Table as OneTable, Join}
-use Rattle.ob_exec.specs.Agreeing.{public_of, seen_of, world_of}
 use Rattle.ob_exec.specs.Running.{RefusedEarly, refusal_now}
 use Rattle.ob_exec.specs.Serving.{IsServed, IsOneTable, IsCount, count_of}
 use Rattle.ob_exec.specs.Telling.{AreHeld}

@@ -1,5 +1,5 @@
 -- A changed block that doesn't fit was read by the last statement, if by any.
-use Rattle.std.proofs.Common.{◌≡◌, ℕ, Bool, List, [], ◌∷◌, Option, None, Some, Ok, Err, Result, inl, inr, refl, sym, ◌∙◌, ap, subst}
+use Rattle.std.proofs.Common.{◌≡◌, ℕ, Bool, List, [], ◌∷◌, Option, None, Some, Ok, Err, Result, inl, inr, refl, sym, ◌∙◌, subst}
 use Rattle.ob_base.specs.declared.refusal.Stop.{Stop}
 use Rattle.ob_exec.specs.Agreeing.{world_of}
 use Rattle.ob_seal.specs.KeyPair.{KeyPair}

@@ -1,13 +1,11 @@
 -- What the changes of a store do to a run.
-use Rattle.std.proofs.Common.{◌≡◌, ◌≢◌, ◌≤◌, ◌+◌, ◌==◌, ◌&&◌, ◌||◌, ◌++◌, ℕ, zero, suc, Bool, true, false, not, IsTrue, List, [], ◌∷◌, map, length, Option, Some, None, Ok, Err, Result, inl, inr, refl, sym, ◌∙◌, ap, subst, arith}
-use Rattle.std.specs.List.{list_all, list_any}
-use Rattle.std.specs.Prelude.{nat_lt, nat_le, ⊤, if◌then◌else◌}
+use Rattle.std.proofs.Common.{◌≡◌, ◌≢◌, ◌≤◌, ◌++◌, ℕ, Bool, true, false, not, IsTrue, List, [], ◌∷◌, length, Option, None, Ok, Err, inl, inr, refl, sym, ◌∙◌, ap, subst, arith}
+use Rattle.std.specs.List.{list_all}
+use Rattle.std.specs.Prelude.{nat_lt, ⊤}
 use Rattle.std.proofs.lemmas.List.Folds.{list_all-map}
-use Rattle.clap.proofs.WalkLemmas.{list_any-map}
 use Rattle.ob_base.specs.declared.access.Access.{Access}
 use Rattle.ob_base.specs.declared.config.Public.{Public}
 use Rattle.ob_base.specs.declared.schema.Table.{Table}
-use Rattle.ob_base.specs.declared.refusal.Stop.{Stop}
 use Rattle.ob_base.specs.declared.refusal.Stop.TheVariants.{Tampered, SourceFault, SinkFault, NoMemory, InputLimit}
 use Rattle.clap.specs.Words.{Text}
 use Rattle.ob_exec.specs.Agreeing.{public_of, world_of}
@@ -16,8 +14,8 @@ use Rattle.ob_exec.specs.declared.engine.Engine.{Engine}
 use Rattle.ob_grammar.proofs.Forms.{Whatever}
 use Rattle.ob_grammar.proofs.Placed.{one_value}
 use Rattle.ob_mean.specs.Replay.{Session, first_public, first_session}
-use Rattle.ob_meddle.specs.Due.{is_fail, fails_at, failed_among, has_acted, are_later, disturbance_of, disturbances}
-use Rattle.ob_meddle.specs.Shows.{Shows, list_of, state_of}
+use Rattle.ob_meddle.specs.Due.{is_fail, failed_among, has_acted, are_later, disturbance_of, disturbances}
+use Rattle.ob_meddle.specs.Shows.{list_of, state_of}
 use Rattle.ob_meddle.specs.declared.store.MeddledStore.{MeddledStore}
 use Rattle.ob_meddle.proofs.ShowLemmas.{shows, list_same}
 use Rattle.ob_meddle.proofs.DueLemmas.{all_later}

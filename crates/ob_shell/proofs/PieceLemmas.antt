@@ -7,7 +7,7 @@ use Rattle.std.proofs.lemmas.List.{drop-drop, length-append}
 use Rattle.std.proofs.lemmas.List.Sums.{fold-append}
 use Rattle.ob_token.specs.declared.cut.Mode.TheVariants.{Plain}
 use Rattle.ob_token.specs.declared.cut.Piece.{Piece}
-use Rattle.ob_token.specs.declared.cut.Piece.TheVariants.{More, Stmt, Empty}
+use Rattle.ob_token.specs.declared.cut.Piece.TheVariants.{Stmt, Empty}
 use Rattle.ob_token.specs.Bytes.{is_blank}
 use Rattle.ob_token.specs.Cutting.{blanks, cut, cut_from, ends_at, is_solid}
 use Rattle.ob_shell.specs.Texts.{has_none, is_over, reading_of, read_on, rest_after, texts_at, rest_of, texts_of}

@@ -1,10 +1,9 @@
 -- What a command makes of the words.
-use Rattle.std.proofs.Common.{sym, ap, ap₂, true, ◌≡◌, ◌∙◌, List, [], Option, Some, None}
+use Rattle.std.proofs.Common.{sym, ap, true, ◌≡◌, ◌∙◌, List, [], None}
 use Rattle.clap.specs.Words.{App, Text, HasMatchesOf, fault_of, first_of, first_value, is_simple, is_simple_and_free, matches_of, found_of}
 use Rattle.clap.specs.declared.parser.matches.ArgMatches.{ArgMatches}
 use Rattle.clap.proofs.WalkLemmas.{first_value-rows}
-use Rattle.ob_meddle.specs.declared.meddle.Meddle.{Meddle}
-use Rattle.ob_shell.specs.Usage.{Parses, ParsesChanges, MeddleParses, changes_of, meddle_usage}
+use Rattle.ob_shell.specs.Usage.{Parses, MeddleParses, changes_of}
 
 pub value_from : (a b : App) (m : ArgMatches) (words : List Text) (id : Text) → a ≡ b → is_simple b ≡ true → HasMatchesOf a words m
     → first_value (found_of m) id ≡ first_of id (matches_of b words)

@@ -1,9 +1,7 @@
-use Rattle.std.proofs.Common.{ap, sym, refl, codes, ◌≡◌, ◌∙◌, map, Some, None, Err, Result, Option}
+use Rattle.std.proofs.Common.{ap, sym, refl, codes, ◌∙◌, map, Err}
 use Rattle.std.specs.Prelude.{string_bytes}
-use Rattle.clap.specs.Words.{app_of, Text}
+use Rattle.clap.specs.Words.{app_of}
 use Rattle.ob_shell.specs.Usage.{meddle_usage, is_set, changes_in}
-use Rattle.ob_shell.specs.declared.words.MeddleWords.{MeddleWords}
-use Rattle.ob_shell.specs.declared.words.WordsErr.{WordsErr}
 use Rattle.ob_shell.proofs.WordLemmas.{value_from, parses_from, no_changes}
 use Rattle.ob_shell.proofs.words.read_meddle_words.Goals as goal
 
