@@ -1,0 +1,60 @@
+use Rattle.std.proofs.Common.{◌≡◌, sym, ap, subst, length, length-append, arith}
+use Rattle.std.specs.List.{All}
+use Rattle.std.proofs.lemmas.List.Elements as elements
+use Rattle.ob_base.specs.Labels.{IsNamed}
+use Rattle.ob_base.specs.Schemas.{Columns}
+use Rattle.ob_room.specs.RoomState.{RoomState}
+use Rattle.ob_vault.specs.Places.{at}
+use Rattle.ob_flat.specs.declared.flat.Flat.{Flat}
+use Rattle.ob_flat.specs.Flats.{FitsRegion, IsFlat}
+use Rattle.ob_flat.proofs.Tables.{fits_sized, written_flat}
+use Rattle.ob_pass_tests.proofs.Sizes.{few_accesses, few_slots, joined_sized, within_four}
+use Rattle.ob_pass_tests.proofs.joins.join_emit.Goals as goal
+
+pub join-requires-clause-spare : goal.join-requires-clause-spare
+join-requires-clause-spare g c =
+    let s = c.args.room.now in
+    omega (arith, c.make_room.ensures.spare, few_accesses s.pack s.rows c.args.left.now.capacity c.args.right.now.capacity c.requires.pack.0 c.requires.pack.1 c.requires.room.enough c.requires.left_few c.requires.right_few)
+
+pub join-requires-clause-sized : goal.join-requires-clause-sized
+join-requires-clause-sized g c =
+    let s = c.args.room.now in
+    joined_sized s.pack s.rows c.args.left.now.capacity c.args.right.now.capacity c.requires.pack.0 c.requires.pack.1 c.requires.room.enough c.requires.left_few c.requires.right_few
+    c.args.left.now.schema c.args.right.now.schema c.requires.left_count c.requires.right_count c.requires.left_width c.requires.right_width
+
+pub emit_discard-requires-clause-written : goal.emit_discard-requires-clause-written
+emit_discard-requires-clause-written g c =
+    let made = rw c.expect-result.ensures at c.join.ensures.flat in
+    let fresh = c.expect-result.result in
+    let after = at g.R.Revisions.state c.join.new.vault (g.S.BlockStore.state c.join.new.store) in
+    written_flat _ _ _ (subst (λ (r : RoomState). IsFlat r.pack fresh after) (sym c.join.ensures.room) made)
+
+pub emit_discard-requires-clause-size : goal.emit_discard-requires-clause-size
+emit_discard-requires-clause-size g c =
+    let s = c.args.room.now in
+    let value = rw c.expect-result.ensures at c.join.ensures.value in
+    let sized = joined_sized s.pack s.rows c.args.left.now.capacity c.args.right.now.capacity c.requires.pack.0 c.requires.pack.1 c.requires.room.enough c.requires.left_few c.requires.right_few
+    c.args.left.now.schema c.args.right.now.schema c.requires.left_count c.requires.right_count c.requires.left_width c.requires.right_width in
+    let here = subst (λ (f : Flat). FitsRegion s.pack f.schema f.capacity) (sym value) (fits_sized s.pack _ _ c.requires.pack.0 sized) in
+    subst (λ (r : RoomState). FitsRegion r.pack c.expect-result.result.schema c.expect-result.result.capacity) (sym c.join.ensures.room) here
+
+pub emit_discard-requires-clause-slots : goal.emit_discard-requires-clause-slots
+emit_discard-requires-clause-slots g c =
+    let s = c.args.room.now in
+    let value = rw c.expect-result.ensures at c.join.ensures.value in
+    omega (
+      arith,
+      ap (λ (f : Flat). f.capacity) value,
+      few_slots s.pack s.rows c.args.left.now.capacity c.args.right.now.capacity c.requires.pack.0 c.requires.pack.1 c.requires.room.enough c.requires.left_few c.requires.right_few,
+    )
+
+pub emit_discard-requires-clause-within : goal.emit_discard-requires-clause-within
+emit_discard-requires-clause-within g c =
+    let value = rw c.expect-result.ensures at c.join.ensures.value in
+    let four : length c.expect-result.result.schema ≡ 4 = omega (arith, ap (λ (f : Flat). length f.schema) value, length-append c.args.left.now.schema c.args.right.now.schema, c.requires.left_count, c.requires.right_count) in
+    within_four (length c.expect-result.result.schema) four
+
+pub emit_discard-requires-clause-names : goal.emit_discard-requires-clause-names
+emit_discard-requires-clause-names g c =
+    let value = rw c.expect-result.ensures at c.join.ensures.value in
+    subst (λ (s : Columns). All IsNamed s) (sym (ap (λ (f : Flat). f.schema) value)) (elements.All-append IsNamed c.args.left.now.schema c.args.right.now.schema c.requires.left_names c.requires.right_names)

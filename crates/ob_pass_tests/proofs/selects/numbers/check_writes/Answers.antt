@@ -1,0 +1,5 @@
+use Rattle.std.proofs.Common.{◌∙◌}
+use Rattle.ob_pass_tests.proofs.selects.numbers.check_writes.Goals as goal
+
+pub session-requires-clause-ready : goal.session-requires-clause-ready
+session-requires-clause-ready g c = c.new-vault.ensures.ready _ (c.new-store.ensures ∙ c.new-inner.ensures)

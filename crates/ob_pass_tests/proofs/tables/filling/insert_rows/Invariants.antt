@@ -1,0 +1,20 @@
+use Rattle.std.proofs.Common.{◌≡◌, ◌≢◌}
+use Rattle.ob_vault.specs.Tied.{Ready}
+use Rattle.ob_vault.specs.Places.{at}
+use Rattle.ob_flat.specs.declared.flat.Flat.{Flat}
+use Rattle.ob_flat.specs.Flats.{IsFlat}
+use Rattle.ob_pass_tests.proofs.tables.filling.insert_rows.Given as goal
+
+abbrev pub invariant-loop-row : goal.invariant-loop-row
+invariant-loop-row g l =
+    let old = at g.R.Revisions.state l.initial.vault (g.S.BlockStore.state l.initial.store) in
+    let now = at g.R.Revisions.state l.vault (g.S.BlockStore.state l.store) in
+    let pack = l.initial.room.pack in
+    record {
+      ready : Ready now;
+      flat : IsFlat pack l.flat now;
+      schema : l.flat.schema ≡ l.initial.flat.schema;
+      capacity : l.flat.capacity ≡ l.initial.flat.capacity;
+      room : l.room ≡ record l.initial.room { high = l.room.high };
+      beside : (other : Flat) → IsFlat pack other old → other.region ≢ l.initial.flat.region → IsFlat pack other now × (other.region ≢ l.flat.region);
+    }

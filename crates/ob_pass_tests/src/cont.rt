@@ -1,0 +1,273 @@
+//! What is selected of a table, and the accesses of it: counted, selected, emitted and discarded.
+ghost use Rattle.std.specs.Prelude.{◌≡◌, ◌≤◌, length};
+ghost use Rattle.std.specs.List.{All};
+ghost use Rattle.ob_base.specs.Labels.{IsNamed};
+ghost use Rattle.ob_base.specs.Schemas.{width};
+ghost use Rattle.ob_vault.specs.Tied.{Ready};
+ghost use Rattle.ob_vault.specs.Places.{at};
+ghost use Rattle.ob_blocks.specs.Idle.{IsIdle};
+ghost use Rattle.ob_flat.specs.Flats.{IsSized, IsFlat};
+
+use crate::tables::{Entry, check, counted, emit_discard, filled, make_room, opened, two_ints};
+use ob_cont::select;
+use ob_flat::Flat;
+use ob_room::Room;
+use ob_row::{Cell, Operand, Order, Pred};
+use ob_store::BlockStore;
+use ob_vault::{Revisions, Vault};
+use std::alloc::Global;
+use std::process::Abort;
+
+// What the selection of a table of five slots with these rows gives, in blocks of so many: how many rows
+// are counted, how many are asked for, the first cells of those that come, and, where they are compared,
+// the accesses.
+#[derive(Drop)]
+struct Case<'a> {
+    packs: &'a [u32],
+    rows: &'a [(i64, i64)],
+    counted: u32,
+    k: u32,
+    ids: &'a [i128],
+    wanted: Option<&'a [Entry]>,
+}
+
+// A table is counted, its rows with a 7 are put into a region, emitted and discarded.
+fn select_emit<S: BlockStore, R: Revisions>(
+    rt: &impl Abort,
+    store: &mut S,
+    vault: &mut Vault<R>,
+    room: &mut Room,
+    flat: &Flat,
+    case: &Case<'_>,
+)
+    requires ready { Ready (at R.state vault.old (S.state store.old)) }
+    requires flat { IsFlat room.old.pack flat.now (at R.state vault.old (S.state store.old)) }
+    requires size { IsSized flat.now.schema flat.now.capacity }
+    requires room { IsIdle (width flat.now.schema) room.old }
+    requires columns { length flat.now.schema ≡ 2 }
+    requires names { All IsNamed flat.now.schema }
+    requires pack { 1 ≤ room.old.pack }
+    requires few { flat.now.capacity ≡ 5 }
+    requires number { (1 ≤ case.now.k) × (case.now.k ≤ 5) }
+{
+    let pred = Pred::compare(1, Order::Equal, Operand::Cell(Cell::Int(7)));
+    make_room(rt, store);
+    let from = store.count();
+    let counted = counted(rt, store, vault, room, flat, &pred);
+    assert_eq!(rt; counted.k, case.counted);
+    make_room(rt, store);
+    let result = select(store, vault, room, flat, &pred, case.k).expect(rt, "select");
+    emit_discard(rt, store, vault, room, result, &[0], case.ids);
+    if let Some(wanted) = case.wanted {
+        check(rt, store, from, wanted);
+    }
+}
+
+fn session<S: BlockStore, R: Revisions>(
+    rt: &impl Abort,
+    store: &mut S,
+    mut vault: Vault<R>,
+    mut room: Room,
+    case: &Case<'_>,
+)
+    requires ready { Ready (at R.state vault (S.state store.old)) }
+    requires room { IsIdle 17 room }
+    requires pack { 1 ≤ room.pack }
+    requires number { (1 ≤ case.now.k) × (case.now.k ≤ 5) }
+{
+    let schema = two_ints(b"id", b"v", true);
+    let flat = filled(rt, store, &mut vault, &mut room, &schema, 5, case.rows);
+    select_emit(rt, store, &mut vault, &mut room, &flat, case);
+}
+
+fn run(rt: &impl Abort, alloc: Global, cases: &[Case<'_>]) {
+    for case in cases {
+        assert!(rt; 1 <= case.k && case.k <= 5);
+        for pack in case.packs {
+            assert!(rt; 1 <= *pack && *pack <= 16);
+            let (mut store, vault, room) = opened(rt, alloc, 64, *pack);
+            session(rt, &mut store, vault, room, case);
+        }
+    }
+}
+
+const MIDDLE: [(i64, i64); 5] = [(1, 0), (2, 7), (3, 7), (4, 7), (5, 0)];
+
+const ENDS: [(i64, i64); 5] = [(1, 7), (2, 0), (3, 7), (4, 0), (5, 7)];
+
+const WITH_ACCESSES: [Case<'static>; 3] = [
+    // Slots 1 to 3 of three places: the last goes round to place 0.
+    Case {
+        packs: &[1],
+        rows: &MIDDLE,
+        counted: 3,
+        k: 3,
+        ids: &[4, 2, 3],
+        wanted: Some(&[
+            (b'R', 6, 0, 0),
+            (b'R', 6, 1, 0),
+            (b'R', 6, 2, 0),
+            (b'R', 6, 3, 0),
+            (b'R', 6, 4, 0),
+            (b'M', 7, 3, 49),
+            (b'W', 7, 0, 0),
+            (b'W', 7, 1, 0),
+            (b'W', 7, 2, 0),
+            (b'R', 6, 0, 0),
+            (b'R', 7, 0, 0),
+            (b'W', 7, 0, 0),
+            (b'R', 6, 1, 0),
+            (b'R', 7, 1, 0),
+            (b'W', 7, 1, 0),
+            (b'R', 6, 2, 0),
+            (b'R', 7, 2, 0),
+            (b'W', 7, 2, 0),
+            (b'R', 6, 3, 0),
+            (b'R', 7, 0, 0),
+            (b'W', 7, 0, 0),
+            (b'R', 6, 4, 0),
+            (b'R', 7, 1, 0),
+            (b'W', 7, 1, 0),
+            (b'R', 7, 0, 0),
+            (b'R', 7, 1, 0),
+            (b'R', 7, 2, 0),
+            (b'D', 7, 0, 0),
+        ]),
+    },
+    // The last block of the table has one slot below the capacity.
+    Case {
+        packs: &[2],
+        rows: &MIDDLE,
+        counted: 3,
+        k: 3,
+        ids: &[4, 2, 3],
+        wanted: Some(&[
+            (b'R', 6, 0, 0),
+            (b'R', 6, 1, 0),
+            (b'R', 6, 2, 0),
+            (b'M', 7, 2, 66),
+            (b'W', 7, 0, 0),
+            (b'W', 7, 1, 0),
+            (b'R', 6, 0, 0),
+            (b'R', 7, 0, 0),
+            (b'W', 7, 0, 0),
+            (b'R', 7, 0, 0),
+            (b'W', 7, 0, 0),
+            (b'R', 6, 1, 0),
+            (b'R', 7, 1, 0),
+            (b'W', 7, 1, 0),
+            (b'R', 7, 0, 0),
+            (b'W', 7, 0, 0),
+            (b'R', 6, 2, 0),
+            (b'R', 7, 0, 0),
+            (b'W', 7, 0, 0),
+            (b'R', 7, 0, 0),
+            (b'R', 7, 1, 0),
+            (b'D', 7, 0, 0),
+        ]),
+    },
+    // The result has one block; the last block of the table has two slots below the capacity.
+    Case {
+        packs: &[3],
+        rows: &MIDDLE,
+        counted: 3,
+        k: 3,
+        ids: &[4, 2, 3],
+        wanted: Some(&[
+            (b'R', 6, 0, 0),
+            (b'R', 6, 1, 0),
+            (b'M', 7, 1, 83),
+            (b'W', 7, 0, 0),
+            (b'R', 6, 0, 0),
+            (b'R', 7, 0, 0),
+            (b'W', 7, 0, 0),
+            (b'R', 7, 0, 0),
+            (b'W', 7, 0, 0),
+            (b'R', 7, 0, 0),
+            (b'W', 7, 0, 0),
+            (b'R', 6, 1, 0),
+            (b'R', 7, 0, 0),
+            (b'W', 7, 0, 0),
+            (b'R', 7, 0, 0),
+            (b'W', 7, 0, 0),
+            (b'R', 7, 0, 0),
+            (b'D', 7, 0, 0),
+        ]),
+    },
+];
+
+#[test]
+fn asks_what_is_wanted(rt: HostRuntime) {
+    run(&rt, rt.alloc(), &WITH_ACCESSES);
+}
+
+const IN_ALL_PACKS: [Case<'static>; 7] = [
+    // At the end.
+    Case {
+        packs: &[1, 2, 3],
+        rows: &[(1, 0), (2, 0), (3, 0), (4, 7), (5, 7)],
+        counted: 2,
+        k: 2,
+        ids: &[5, 4],
+        wanted: None,
+    },
+    // At the start.
+    Case {
+        packs: &[1, 2, 3],
+        rows: &[(1, 7), (2, 7), (3, 7), (4, 7), (5, 0)],
+        counted: 4,
+        k: 4,
+        ids: &[1, 2, 3, 4],
+        wanted: None,
+    },
+    // One row.
+    Case {
+        packs: &[1, 2, 3],
+        rows: &[(1, 0), (2, 0), (3, 7), (4, 0), (5, 0)],
+        counted: 1,
+        k: 1,
+        ids: &[3],
+        wanted: None,
+    },
+    // All rows.
+    Case {
+        packs: &[1, 2, 3],
+        rows: &[(1, 7), (2, 7), (3, 7), (4, 7), (5, 7)],
+        counted: 5,
+        k: 5,
+        ids: &[1, 2, 3, 4, 5],
+        wanted: None,
+    },
+    // The table's last slot is empty.
+    Case {
+        packs: &[1, 2, 3],
+        rows: &[(1, 0), (2, 0), (3, 7), (4, 7)],
+        counted: 2,
+        k: 2,
+        ids: &[3, 4],
+        wanted: None,
+    },
+    // Of rows that have one place the last stands there.
+    Case {
+        packs: &[1, 2, 3],
+        rows: &ENDS,
+        counted: 3,
+        k: 2,
+        ids: &[5],
+        wanted: None,
+    },
+    // More places than rows: the others are dummies.
+    Case {
+        packs: &[1, 2, 3],
+        rows: &ENDS,
+        counted: 3,
+        k: 4,
+        ids: &[5, 3],
+        wanted: None,
+    },
+];
+
+#[test]
+fn selects_rows(rt: HostRuntime) {
+    run(&rt, rt.alloc(), &IN_ALL_PACKS);
+}

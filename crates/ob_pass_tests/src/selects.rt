@@ -1,0 +1,224 @@
+//! What is selected of a table, and the accesses of it: counted, selected, emitted and discarded.
+ghost use Rattle.std.specs.Prelude.{◌≡◌, ◌≤◌, [], ◌∷◌, ℤ, FitsSigned, length};
+ghost use Rattle.std.specs.Int.{w64};
+ghost use Rattle.std.specs.List.{All};
+ghost use Rattle.ob_base.specs.Labels.{IsNamed};
+ghost use Rattle.ob_base.specs.Schemas.{width};
+ghost use Rattle.ob_vault.specs.Tied.{Ready};
+ghost use Rattle.ob_vault.specs.Places.{at};
+ghost use Rattle.ob_row.specs.declared.cell.Cell.TheVariants.{Int as IntCell};
+ghost use Rattle.ob_row.specs.Spelling.{Fits as FitColumns};
+ghost use Rattle.ob_blocks.specs.Idle.{IsIdle};
+ghost use Rattle.ob_flat.specs.Flats.{IsSized, IsFlat, IsWritten};
+
+mod continuous;
+mod large;
+mod numbers;
+mod small;
+mod texts;
+
+use crate::tables::{
+    Comparison, Entry, check, condition, counted, delete_rows, emit_discard, filled, insert_rows,
+    make_room, opened, two_ints,
+};
+use ob_flat::{Counted, Flat};
+use ob_room::Room;
+use ob_row::{Order, Pred};
+use ob_store::BlockStore;
+use ob_vault::{Revisions, Vault};
+use std::alloc::Global;
+use std::process::Abort;
+
+#[derive(Clone, Copy, Debug, PartialEq, Eq)]
+pub(crate) enum Operator {
+    Small,
+    Large,
+    Continuous,
+}
+
+// What the selection of a table of four slots asks and gives, where so many rows may be open and a block
+// has so many: how many rows compare so, how many are asked for, the first cells of those that come, and
+// the accesses from the one of an index on. Where others come before it, those of a comparison go.
+#[derive(Drop)]
+pub(crate) struct Case<'a> {
+    pub(crate) operator: Operator,
+    pub(crate) open: u32,
+    pub(crate) pack: u32,
+    pub(crate) gone: Option<Comparison>,
+    pub(crate) come: Option<&'a [(i64, i64)]>,
+    pub(crate) selects: Option<Comparison>,
+    pub(crate) counted: u32,
+    pub(crate) k: u32,
+    pub(crate) ids: &'a [i128],
+    pub(crate) from: u64,
+    pub(crate) wanted: &'a [Entry],
+}
+
+// Where others come, those that make a condition true are deleted, and the others are inserted.
+fn change_rows<S: BlockStore, R: Revisions>(
+    rt: &impl Abort,
+    store: &mut S,
+    vault: &mut Vault<R>,
+    room: &mut Room,
+    flat: &mut Flat,
+    gone: &Pred,
+    come: Option<&[(i64, i64)]>,
+)
+    requires ready { Ready (at R.state vault.old (S.state store.old)) }
+    requires flat { IsFlat room.old.pack flat.old (at R.state vault.old (S.state store.old)) }
+    requires size { IsSized flat.old.schema flat.old.capacity }
+    requires room { IsIdle (width flat.old.schema) room.old }
+    requires ints { (x y : ℤ) → FitsSigned w64 x → FitsSigned w64 y → FitColumns flat.old.schema (IntCell x ∷ IntCell y ∷ []) }
+    ensures ready { Ready (at R.state vault.new (S.state store.new)) }
+    ensures flat { IsFlat room.old.pack flat.new (at R.state vault.new (S.state store.new)) }
+    ensures schema { flat.new.schema ≡ flat.old.schema }
+    ensures capacity { flat.new.capacity ≡ flat.old.capacity }
+    ensures room { room.new ≡ record room.old { high = room.new.high } }
+{
+    if let Some(rows) = come {
+        delete_rows(rt, store, vault, room, flat, gone);
+        insert_rows(rt, store, vault, room, flat, rows);
+    }
+}
+
+// The result of a case's operator.
+fn select_by<S: BlockStore, R: Revisions>(
+    rt: &impl Abort,
+    store: &mut S,
+    vault: &mut Vault<R>,
+    room: &mut Room,
+    flat: &Flat,
+    pred: &Pred,
+    case: &Case<'_>,
+) -> Flat
+    requires ready { Ready (at R.state vault.old (S.state store.old)) }
+    requires flat { IsFlat room.old.pack flat.now (at R.state vault.old (S.state store.old)) }
+    requires size { IsSized flat.now.schema flat.now.capacity }
+    requires room { IsIdle (width flat.now.schema) room.old }
+    requires pack { 1 ≤ room.old.pack }
+    requires few { flat.now.capacity ≡ 4 }
+    requires number { (1 ≤ case.now.k) × (case.now.k ≤ 4) }
+    ensures ready { Ready (at R.state vault.new (S.state store.new)) }
+    ensures room { room.new ≡ record room.old { high = room.new.high } }
+    ensures schema { result.schema ≡ flat.now.schema }
+    ensures capacity { (1 ≤ result.capacity) × (result.capacity ≤ 4) }
+    ensures written { IsWritten room.old.pack result (at R.state vault.new (S.state store.new)) }
+{
+    make_room(rt, store);
+    match case.operator {
+        Operator::Small => {
+            ob_small::select(store, vault, room, flat, pred, case.k).expect(rt, "Small")
+        }
+        Operator::Large => {
+            ob_large::select(store, vault, room, flat, pred, case.k).expect(rt, "Large")
+        }
+        Operator::Continuous => {
+            ob_cont::select(store, vault, room, flat, pred, case.k).expect(rt, "Continuous")
+        }
+    }
+}
+
+// A table is counted, its selected rows are put into a region, emitted and discarded.
+fn select_emit<S: BlockStore, R: Revisions>(
+    rt: &impl Abort,
+    store: &mut S,
+    vault: &mut Vault<R>,
+    room: &mut Room,
+    flat: &Flat,
+    case: &Case<'_>,
+)
+    requires ready { Ready (at R.state vault.old (S.state store.old)) }
+    requires flat { IsFlat room.old.pack flat.now (at R.state vault.old (S.state store.old)) }
+    requires size { IsSized flat.now.schema flat.now.capacity }
+    requires room { IsIdle (width flat.now.schema) room.old }
+    requires columns { length flat.now.schema ≡ 2 }
+    requires names { All IsNamed flat.now.schema }
+    requires pack { 1 ≤ room.old.pack }
+    requires few { flat.now.capacity ≡ 4 }
+    requires number { (1 ≤ case.now.k) × (case.now.k ≤ 4) }
+{
+    let pred = condition(case.selects);
+    let counted = counted(rt, store, vault, room, flat, &pred);
+    assert_eq!(rt; counted.k, case.counted);
+    let result = select_by(rt, store, vault, room, flat, &pred, case);
+    emit_discard(rt, store, vault, room, result, &[0], case.ids);
+    check(rt, store, case.from, case.wanted);
+}
+
+// A table of four rows, of which some are deleted and others inserted.
+pub(crate) fn session<S: BlockStore, R: Revisions>(
+    rt: &impl Abort,
+    store: &mut S,
+    mut vault: Vault<R>,
+    mut room: Room,
+    case: &Case<'_>,
+)
+    requires ready { Ready (at R.state vault (S.state store.old)) }
+    requires room { IsIdle 17 room }
+    requires pack { 1 ≤ room.pack }
+    requires number { (1 ≤ case.now.k) × (case.now.k ≤ 4) }
+{
+    let schema = two_ints(b"id", b"v", true);
+    let mut flat = filled(rt, store, &mut vault, &mut room, &schema, 4, &FOUR);
+    let gone = condition(case.gone);
+    change_rows(
+        rt, store, &mut vault, &mut room, &mut flat, &gone, case.come,
+    );
+    select_emit(rt, store, &mut vault, &mut room, &flat, case);
+}
+
+pub(crate) fn run(rt: &impl Abort, alloc: Global, cases: &[Case<'_>]) {
+    for case in cases {
+        assert!(rt; 1 <= case.pack && case.pack <= 16);
+        assert!(rt; 3 * case.pack < case.open);
+        assert!(rt; 1 <= case.k && case.k <= 4);
+        let (mut store, vault, room) = opened(rt, alloc, case.open, case.pack);
+        session(rt, &mut store, vault, room, case);
+    }
+}
+
+const FOUR: [(i64, i64); 4] = [(1, 10), (2, 20), (3, 10), (4, 20)];
+
+pub(crate) const TENS: Option<Comparison> = Some((1, Order::Equal, 10));
+
+pub(crate) const FROM_SECOND: Option<Comparison> = Some((0, Order::GreaterOrEqual, 2));
+
+// A table of four rows is counted, and nothing else is asked.
+fn count_rows<S: BlockStore, R: Revisions>(
+    rt: &impl Abort,
+    store: &mut S,
+    mut vault: Vault<R>,
+    mut room: Room,
+    selects: Option<Comparison>,
+    wanted: Counted,
+    accesses: (u32, u32),
+)
+    requires ready { Ready (at R.state vault (S.state store.old)) }
+    requires room { IsIdle 17 room }
+    requires pack { 1 ≤ room.pack }
+{
+    let schema = two_ints(b"id", b"v", true);
+    let flat = filled(rt, store, &mut vault, &mut room, &schema, 4, &FOUR);
+    assert_eq!(rt; store.count(), u64::from(accesses.0));
+    let pred = condition(selects);
+    let found = counted(rt, store, &mut vault, &mut room, &flat, &pred);
+    assert_eq!(rt; found, wanted);
+    assert_eq!(rt; store.count(), u64::from(accesses.1));
+}
+
+// Whether the slots of the selected rows follow each other, as none and one do, whatever a block has.
+#[test]
+fn counts_whether_slots_are_consecutive(rt: HostRuntime) {
+    for (pack, from, to) in [(1, 61, 65), (2, 35, 37), (3, 35, 37)] {
+        for (selects, k, consecutive) in [
+            (Some((1, Order::Equal, 99)), 0, true),
+            (Some((0, Order::Equal, 3)), 1, true),
+            (TENS, 2, false),
+            (None, 4, true),
+        ] {
+            let (mut store, vault, room) = opened(&rt, rt.alloc(), 49, pack);
+            let wanted = Counted { k, consecutive };
+            count_rows(&rt, &mut store, vault, room, selects, wanted, (from, to));
+        }
+    }
+}

@@ -1,0 +1,139 @@
+//! A table of one slot, which has a text.
+ghost use Rattle.std.specs.Prelude.{◌≡◌, ◌≤◌, [], ◌∷◌, ℕ, List, length};
+ghost use Rattle.std.specs.List.{All};
+ghost use Rattle.ob_base.specs.Labels.{IsNamed};
+ghost use Rattle.ob_base.specs.Schemas.{width};
+ghost use Rattle.ob_vault.specs.Tied.{Ready};
+ghost use Rattle.ob_vault.specs.Places.{at};
+ghost use Rattle.ob_row.specs.declared.cell.Cell.TheVariants.{Text as TextCell};
+ghost use Rattle.ob_row.specs.Spelling.{Fits as FitColumns, FitsText};
+ghost use Rattle.ob_blocks.specs.Idle.{IsIdle};
+ghost use Rattle.ob_flat.specs.Flats.{IsSized, IsFlat};
+
+use crate::tables::{Entry, check, column, counted, emit_to, insert_cells, make_room, opened};
+use ob_base::{Emit, EmitErr, Kind, Label, Schema, Shown, Text};
+use ob_flat::{Flat, create};
+use ob_room::Room;
+use ob_row::{Cell, Pred};
+use ob_store::BlockStore;
+use ob_vault::{Revisions, Vault};
+use std::process::Abort;
+
+const TEXT: &[u8] = b"a'\"";
+
+// How many rows were emitted, and how many of them have the text alone.
+#[derive(Clone, Copy, Debug, PartialEq, Eq)]
+struct Texts {
+    rows: u8,
+    same: u8,
+}
+
+impl Emit for Texts {
+    ghost use Rattle.std.specs.Prelude.{⊤};
+
+    ghost grew = { λ a b events. ⊤ };
+
+    ghost cut = { λ a b events. ⊤ };
+
+    ghost faults = { λ d. 0 };
+
+    ghost starts = { λ d. tt };
+
+    fn head(&mut self, _cols: &[Label]) -> Result<(), EmitErr> {
+        Ok(())
+    }
+
+    fn row(&mut self, cells: &[Shown]) -> Result<(), EmitErr> {
+        self.rows = self.rows.saturating_add(1);
+        if let [Shown::Text(text)] = cells {
+            if text.as_bytes() == TEXT {
+                self.same = self.same.saturating_add(1);
+            }
+        }
+        Ok(())
+    }
+
+    fn close(&mut self, _k: u64) -> Result<(), EmitErr> {
+        Ok(())
+    }
+}
+
+fn one_text() -> Schema
+    ensures size { IsSized result 1 }
+    ensures count { length result ≡ 1 }
+    ensures width { width result ≡ 6 }
+    ensures names { All IsNamed result }
+    ensures fits { (t : List ℕ) → FitsText 4 t → FitColumns result (TextCell t ∷ []) }
+{
+    let mut schema = Schema::new();
+    schema.push(column(b"x", Kind::Varchar(4), false));
+    schema
+}
+
+// The one row is counted, put into a region, emitted and discarded.
+fn select_text<S: BlockStore, R: Revisions>(
+    rt: &impl Abort,
+    store: &mut S,
+    vault: &mut Vault<R>,
+    room: &mut Room,
+    flat: &Flat,
+)
+    requires ready { Ready (at R.state vault.old (S.state store.old)) }
+    requires flat { IsFlat room.old.pack flat.now (at R.state vault.old (S.state store.old)) }
+    requires size { IsSized flat.now.schema flat.now.capacity }
+    requires room { IsIdle (width flat.now.schema) room.old }
+    requires columns { length flat.now.schema ≡ 1 }
+    requires names { All IsNamed flat.now.schema }
+    requires pack { 1 ≤ room.old.pack }
+    requires one { flat.now.capacity ≡ 1 }
+{
+    let counted = counted(rt, store, vault, room, flat, &Pred::all());
+    assert_eq!(rt; counted.k, 1);
+    make_room(rt, store);
+    let result = ob_small::select(store, vault, room, flat, &Pred::all(), 1).expect(rt, "Small");
+    let mut out = Texts { rows: 0, same: 0 };
+    let rows = emit_to(rt, store, vault, room, result, &[0], &mut out);
+    assert_eq!(rt; (rows, out), (1, Texts { rows: 1, same: 1 }));
+}
+
+const ASKED: [Entry; 13] = [
+    (b'M', 1, 1, 38),
+    (b'W', 1, 0, 0),
+    (b'M', 2, 1, 38),
+    (b'R', 1, 0, 0),
+    (b'R', 1, 0, 0),
+    (b'W', 2, 0, 0),
+    (b'D', 1, 0, 0),
+    (b'R', 2, 0, 0),
+    (b'M', 3, 1, 38),
+    (b'R', 2, 0, 0),
+    (b'W', 3, 0, 0),
+    (b'R', 3, 0, 0),
+    (b'D', 3, 0, 0),
+];
+
+fn session<S: BlockStore, R: Revisions>(
+    rt: &impl Abort,
+    store: &mut S,
+    mut vault: Vault<R>,
+    mut room: Room,
+)
+    requires ready { Ready (at R.state vault (S.state store.old)) }
+    requires room { IsIdle 6 room }
+    requires pack { 1 ≤ room.pack }
+{
+    make_room(rt, store);
+    let schema = one_text();
+    let mut flat = create(store, &mut vault, &mut room, &schema, 1).expect(rt, "create");
+    let cells = [Cell::Text(Text::from_bytes(TEXT))];
+    insert_cells(rt, store, &mut vault, &mut room, &mut flat, &cells);
+    select_text(rt, store, &mut vault, &mut room, &flat);
+    check(rt, store, 0, &ASKED);
+}
+
+// A text with both quotes in a table of one slot: all that is asked from the beginning.
+#[test]
+fn a_text_in_one_slot(rt: HostRuntime) {
+    let (mut store, vault, room) = opened(&rt, rt.alloc(), 64, 1);
+    session(&rt, &mut store, vault, room);
+}
