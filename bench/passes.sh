@@ -19,7 +19,8 @@ slots = 65536
 most_open = 65536
 depth = 5
 
-# The milliseconds of user and system time that a line takes, the least of three, and what the program answers.
+# The milliseconds of user and system time that a line takes, the least of three where it is short, and what the
+# program answers.
 known = {}
 def least(*line):
     if line not in known:
@@ -36,6 +37,8 @@ def least(*line):
             if status != 0 or not said.isdigit():
                 sys.exit(f"{given.strip()}: the program said {said!r}")
             times.append(1000 * (used.ru_utime + used.ru_stime))
+            if times[-1] > 5000:
+                break
         known[line] = min(times), int(said)
     return known[line]
 
@@ -86,8 +89,8 @@ def join(n, pack, rows, k):
     return chunks * blocks(pack, n), blocks(pack, k) + chunks * blocks(pack, n)
 
 # Each pass: its letter and that of its setup, the blocks that it seals and opens, its limit, its slots, the rows
-# that may be open, and how many are selected; of a join, the slots of the left table. Of long blocks, Hash has
-# fewer slots.
+# that may be open, and how many are selected; of a join, the slots of the left table. The program has 64 rows open
+# at most; the last two lines have as many as fit all that is selected, or the left table.
 passes = [
     ("count", "c", "s", count, 1.5, slots, 64, slots // 2),
     ("INSERT", "i", "s", insert, 1.5, slots, 64, 1),
@@ -95,12 +98,13 @@ passes = [
     ("DELETE", "d", "s", rewrite, 1.5, slots, 64, slots // 2),
     ("Large", "L", "s", large, 1.5, slots, 64, slots // 2),
     ("emission", "e", "s", count, 1.5, slots, 64, slots),
-    ("Small", "S", "s", small, 1.7, slots, most_open, slots),
+    ("Small", "S", "s", small, 1.7, slots, 64, 480),
     ("Continuous", "C", "s", continuous, 1.7, slots, 64, 4096),
     ("Hash", "H", "s", hashed, 1.7, slots, 64, 4096),
     ("aggregates", "a", "s", count, 1.7, slots, 64, slots),
     ("GROUP BY", "g", "s", count, 1.7, slots, 64, slots),
-    ("join", "j", "t", join, 1.7, slots // 16, 64, slots // 16),
+    ("join", "j", "t", join, 1.7, slots, 64, 256),
+    ("Small", "S", "s", small, 1.7, slots, most_open, slots),
     ("join", "j", "t", join, 1.7, slots // 16, most_open, slots // 16),
 ]
 
@@ -109,23 +113,21 @@ print("|---|---:|---:|---:|---:|---:|---:|---:|---:|---:|---|")
 for name, letter, setup, shape, limit, n, rows, k in passes:
     for width in (17, 128, 1024):
         for pack in (1, 8):
-            given, slots_here, chosen = width, n, k
-            if name == "Hash" and pack * width > 1000:
-                slots_here, chosen = n // 8, k // 8
+            given = width
             # A joined row has at most 1,024 bytes: with a left one of 17, the right one has these.
             if name == "join" and width == 1024:
                 given = 1008
-            case = (given, pack, slots_here, rows, chosen)
-            sealed, opened = shape(slots_here, pack, rows, chosen)
+            case = (given, pack, n, rows, k)
+            sealed, opened = shape(n, pack, rows, k)
             spent = least(letter, *case)[0] - least(setup, *case)[0]
             length = pack * given
             alone = bare(sealed, opened, length)
             if name == "join":
-                alone = join_bare(sealed, opened, pack, given, chosen)
+                alone = join_bare(sealed, opened, pack, given, k)
             ratio = spent / alone
             verdict = "" if ratio <= limit else "over"
             print(
-                f"| {name} | {width} | {pack} | {slots_here:,} | {rows:,} | {chosen:,} "
+                f"| {name} | {width} | {pack} | {n:,} | {rows:,} | {k:,} "
                 f"| {spent:.0f} | {alone:.0f} | {ratio:.2f} | {limit} | {verdict} |",
                 flush=True,
             )
