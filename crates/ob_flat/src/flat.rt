@@ -1,4 +1,4 @@
-ghost use Rattle.std.specs.Prelude.{◌≡◌, ◌≤◌, ℕ, Bool, List, None, IfErr, OnErr};
+ghost use Rattle.std.specs.Prelude.{◌≡◌, ◌≤◌, ℕ, Bool, List, None, IfErr, OnErr, OnOk};
 ghost use Rattle.ob_base.specs.Accesses.{discard_at};
 ghost use Rattle.ob_base.specs.Counts.{Rises};
 ghost use Rattle.ob_vault.specs.declared.region.Region.{Region};
@@ -35,6 +35,7 @@ pub fn discard<S: BlockStore, R: Revisions>(
     ensures went { Went (discard_at flat.region) (one flat.region) (at R.state vault.old (S.state store.old)) (at R.state vault.new (S.state store.new)) }
     ensures gone { (R.state vault.new.revs).live flat.region ≡ None }
     ensures slips { OnErr result (Rises (S.state store.old).slips (S.state store.new).slips) }
+    ensures stays { OnOk result ((S.state store.new).slips ≡ (S.state store.old).slips) }
     ensures never { IfErr result (λ e. e ≡ OpErr.Failed) }
     ensures seals { (good : ℕ → List ℕ → Bool) → Seals good (at R.state vault.old (S.state store.old)) (at R.state vault.new (S.state store.new)) }
     ensures room { _room.new ≡ _room.old }

@@ -187,6 +187,7 @@ impl<R: Revisions> Vault<R> {
         ensures turns { (q x : ℕ) (shape : Shape) → (q ≡ region → ⊥) → OnTurn q shape x (at R.state self.old (S.state store.old)) → OnTurn q shape x (at R.state self.new (S.state store.new)) }
         ensures gone { (R.state self.new.revs).live region ≡ None }
         ensures slips { OnErr result (Rises (S.state store.old).slips (S.state store.new).slips) }
+        ensures stays { OnOk result ((S.state store.new).slips ≡ (S.state store.old).slips) }
         ensures never { IfErr result (λ e. e ≡ VaultErr.Failed) }
     {
         self.revs.end(region);
