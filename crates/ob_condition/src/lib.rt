@@ -3,8 +3,6 @@
 
 mod condition;
 mod reader;
-#[cfg(test)]
-mod tests;
 
 pub use condition::{column, constant, where_part};
 pub use reader::{Fault, expect, name, number, skip};

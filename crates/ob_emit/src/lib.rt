@@ -11,6 +11,3 @@ mod walking;
 pub use emission::emit_all;
 pub use head::emit_head;
 pub use walking::walk;
-
-#[cfg(test)]
-mod tests;

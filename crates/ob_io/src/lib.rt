@@ -3,8 +3,6 @@
 
 mod sink;
 mod source;
-#[cfg(test)]
-mod tests;
 
 pub use sink::{MemSink, Sink, StdSink};
 pub use source::{MemSource, Source, StdSource};

@@ -12,8 +12,6 @@ mod listed;
 mod named;
 mod names;
 mod sources;
-#[cfg(test)]
-mod tests;
 mod values;
 
 pub use answer::Answer;

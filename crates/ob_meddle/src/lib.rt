@@ -11,8 +11,6 @@ mod meddle;
 mod region;
 mod regions;
 mod store;
-#[cfg(test)]
-mod test;
 
 pub use changes::{ChangesErr, parse_changes};
 pub use laws::changes_show;

@@ -13,6 +13,3 @@ mod updating;
 pub use deleting::delete;
 pub use inserting::{Inserted, insert};
 pub use updating::update;
-
-#[cfg(test)]
-mod tests;

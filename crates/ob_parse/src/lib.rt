@@ -6,10 +6,6 @@ mod outline;
 mod parser;
 mod part;
 mod select;
-#[cfg(test)]
-mod spelled;
-#[cfg(test)]
-mod tests;
 
 pub use outline::skeleton;
 pub use parser::{ParseErr, one_statement, parse, three_forms};

@@ -6,6 +6,8 @@ mod aggregates;
 #[cfg(test)]
 mod cont;
 #[cfg(test)]
+mod emission;
+#[cfg(test)]
 mod emitter;
 #[cfg(test)]
 mod groups;
@@ -13,6 +15,8 @@ mod groups;
 mod hash;
 #[cfg(test)]
 mod joins;
+#[cfg(test)]
+mod mutations;
 #[cfg(test)]
 mod selects;
 #[cfg(test)]

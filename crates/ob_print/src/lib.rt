@@ -4,8 +4,6 @@
 mod line;
 mod printer;
 mod row;
-#[cfg(test)]
-mod tests;
 mod write;
 
 pub use line::{Line, access_line, refusal_line, stop_line};

@@ -12,8 +12,6 @@ mod selects;
 mod sources;
 mod steps;
 mod tables;
-#[cfg(test)]
-mod tests;
 mod totals;
 mod truth;
 

@@ -8,8 +8,6 @@ mod field;
 mod laws;
 mod pred;
 mod row;
-#[cfg(test)]
-mod tests;
 mod value;
 
 pub use aggregate::{Agg, Item};

@@ -10,6 +10,10 @@ mod forging;
 #[cfg(test)]
 mod meddled;
 #[cfg(test)]
+mod printing;
+#[cfg(test)]
 mod rows;
 #[cfg(test)]
 mod session;
+#[cfg(test)]
+mod streams;

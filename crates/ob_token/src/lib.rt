@@ -3,8 +3,6 @@
 
 mod cut;
 mod lex;
-#[cfg(test)]
-mod tests;
 mod token;
 
 pub use cut::{

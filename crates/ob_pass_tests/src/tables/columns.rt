@@ -7,6 +7,7 @@ ghost use Rattle.ob_base.specs.Schemas.{width};
 ghost use Rattle.ob_row.specs.declared.cell.Cell.TheVariants.{Int as IntCell};
 ghost use Rattle.ob_row.specs.Spelling.{Fits};
 ghost use Rattle.ob_flat.specs.Flats.{IsSized};
+ghost use Rattle.ob_mutate.specs.Changing.{FitsSets};
 
 use ob_base::{Column, Kind, Name, Schema};
 
@@ -34,6 +35,7 @@ pub(crate) fn two_ints(first: &[u8], second: &[u8], key: bool) -> Schema
     ensures width { width result ≡ 17 }
     ensures ints { (x y : ℤ) → FitsSigned w64 x → FitsSigned w64 y → Fits result (IntCell x ∷ IntCell y ∷ []) }
     ensures names { All IsNamed result }
+    ensures sets { (y : ℤ) → FitsSigned w64 y → FitsSets result ((1, IntCell y) ∷ []) }
 {
     let mut schema = Schema::new();
     schema.push(column(first, Kind::Int, key));

@@ -1,8 +1,8 @@
 ghost use Rattle.std.specs.Prelude.{◌≡◌, false, codes};
 
-use crate::{Cell, Malformed, Operand, Order, Pred, decode, encode, holds, is_dummy, read, width};
 use ob_base::{Column, Kind, Name, Schema, Text};
 use ob_room::Room;
+use ob_row::{Cell, Malformed, Operand, Order, Pred, decode, encode, holds, is_dummy, read, width};
 use std::test::Fail;
 
 fn column(kind: Kind) -> Column

@@ -1,5 +1,5 @@
-use super::*;
 use ob_base::{Access, NoMemory};
+use ob_store::{BlockStore, Log, MemStore};
 use std::alloc::Global;
 use std::test::Fail;
 

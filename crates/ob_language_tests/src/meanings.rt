@@ -1,5 +1,5 @@
-use crate::{early_refusal, where_at};
 use ob_base::{Column, ColumnName, Heading, Items, Kind, Name, Public, Refusal, Schema, Table};
+use ob_mean::{early_refusal, where_at};
 use ob_row::Order;
 use ob_sql::{Against, Cond, CondTree, Literal, Set, Stmt};
 use std::alloc::Global;

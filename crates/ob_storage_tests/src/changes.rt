@@ -1,7 +1,7 @@
 ghost use Rattle.std.specs.Prelude.{◌≡◌, [], IfOk};
 
-use super::*;
 use ob_base::Access;
+use ob_meddle::{Act, ChangesErr, Meddle, MeddledStore, Spot, parse_changes};
 use ob_store::BlockStore;
 use std::alloc::Global;
 use std::test::Fail;

@@ -1,6 +1,6 @@
-use crate::reference;
 use ob_base::{ColumnName, Config, Items, Name, NewColumn, NewKind, Refusal, Shown, Source};
 use ob_mean::Answer;
+use ob_reference::reference;
 use ob_sql::{Listed, Literal, Select, Stmt};
 use std::alloc::{AllocError, Global};
 use std::test::Fail;

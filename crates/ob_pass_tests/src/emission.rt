@@ -1,20 +1,15 @@
-// What is emitted of a table, and the accesses of it.
-ghost use Rattle.std.specs.Prelude.{◌≡◌, ◌≤◌, length};
-ghost use Rattle.std.specs.List.{All};
-ghost use Rattle.ob_base.specs.Schemas.{width};
+//! What is emitted of a table, and the accesses of it.
+ghost use Rattle.std.specs.Prelude.{◌≤◌};
 ghost use Rattle.ob_vault.specs.Tied.{Ready};
 ghost use Rattle.ob_vault.specs.Places.{at};
 ghost use Rattle.ob_blocks.specs.Idle.{IsIdle};
-ghost use Rattle.ob_flat.specs.Flats.{IsSized};
-ghost use Rattle.ob_base.specs.Labels.{IsNamed};
 
-use super::*;
-use ob_base::{Column, Emit, EmitErr, Kind, Label, Name, Schema, Shown};
-use ob_flat::create;
+use crate::tables::{filled, make_room, opened, two_ints};
+use ob_base::{Emit, EmitErr, Label, Shown};
+use ob_emit::{emit_all, walk};
 use ob_room::Room;
-use ob_seal::Keys;
-use ob_store::{BlockStore, MemStore};
-use ob_vault::{BaseRevs, Revisions, Vault};
+use ob_store::BlockStore;
+use ob_vault::{Revisions, Vault};
 use std::alloc::Global;
 use std::process::Abort;
 
@@ -51,31 +46,6 @@ impl Emit for Digest {
     }
 }
 
-fn ints(name: &[u8], key: bool) -> Column
-    requires { length name.now ≤ 8 }
-    ensures kind { result.kind ≡ Kind.Int }
-    ensures named { IsNamed result }
-{
-    Column {
-        table: Name::from_bytes(b"t"),
-        name: Name::from_bytes(name),
-        kind: Kind::Int,
-        key,
-    }
-}
-
-fn two_ints() -> Schema
-    ensures size { IsSized result 4 }
-    ensures count { length result ≡ 2 }
-    ensures width { width result ≡ 17 }
-    ensures names { All IsNamed result }
-{
-    let mut schema = Schema::new();
-    schema.push(ints(b"id", true));
-    schema.push(ints(b"v", false));
-    schema
-}
-
 // A table with no rows: its header is emitted, and no row.
 fn emission<S: BlockStore, R: Revisions>(
     rt: &impl Abort,
@@ -86,12 +56,11 @@ fn emission<S: BlockStore, R: Revisions>(
 )
     requires ready { Ready (at R.state vault (S.state store.old)) }
     requires room { IsIdle 17 room }
+    requires pack { 1 ≤ room.pack }
 {
-    let schema = two_ints();
-    store.room(1000).expect(rt, "room");
-    assert!(rt; store.count() < 1);
-    let flat = create(store, &mut vault, &mut room, &schema, 4).expect(rt, "create");
-    store.room(1000).expect(rt, "room");
+    let schema = two_ints(b"id", b"v", true);
+    let flat = filled(rt, store, &mut vault, &mut room, &schema, 4, &[]);
+    make_room(rt, store);
     let mut out = Digest { labels: 0, rows: 0 };
     let rows = emit_all(store, &mut vault, &mut room, &flat, &[1, 0], &mut out);
     assert_eq!(rt; rows, Ok(0));
@@ -109,12 +78,11 @@ fn walking<S: BlockStore, R: Revisions>(
 )
     requires ready { Ready (at R.state vault (S.state store.old)) }
     requires room { IsIdle 17 room }
+    requires pack { 1 ≤ room.pack }
 {
-    let schema = two_ints();
-    store.room(1000).expect(rt, "room");
-    assert!(rt; store.count() < 1);
-    let flat = create(store, &mut vault, &mut room, &schema, 4).expect(rt, "create");
-    store.room(1000).expect(rt, "room");
+    let schema = two_ints(b"id", b"v", true);
+    let flat = filled(rt, store, &mut vault, &mut room, &schema, 4, &[]);
+    make_room(rt, store);
     assert_eq!(rt; walk(store, &mut vault, &mut room, &flat), Ok(()));
     assert_eq!(rt; store.count(), accesses);
 }
@@ -122,13 +90,9 @@ fn walking<S: BlockStore, R: Revisions>(
 fn in_memory(rt: &impl Abort, alloc: Global, pack: u32, accesses: u64)
     requires { (1 ≤ pack) × (pack ≤ 16) }
 {
-    let mut store = MemStore::new(alloc);
-    let vault: Vault<BaseRevs> = Vault::new(alloc, Keys::derive(&[0; 32]));
-    let room = Room::new(alloc, 64, 1024, pack).expect(rt, "rows");
+    let (mut store, vault, room) = opened(rt, alloc, 64, pack);
     emission(rt, &mut store, vault, room, accesses);
-    let mut store = MemStore::new(alloc);
-    let vault: Vault<BaseRevs> = Vault::new(alloc, Keys::derive(&[0; 32]));
-    let room = Room::new(alloc, 64, 1024, pack).expect(rt, "rows");
+    let (mut store, vault, room) = opened(rt, alloc, 64, pack);
     walking(rt, &mut store, vault, room, accesses);
 }
 

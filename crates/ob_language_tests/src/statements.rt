@@ -1,6 +1,6 @@
 use crate::spelled::spelled;
-use crate::{ParseErr, parse, skeleton};
 use ob_base::{NewKind, Skeleton};
+use ob_parse::{ParseErr, parse, skeleton};
 use ob_sql::Stmt;
 use std::alloc::Global;
 use std::process::Abort;

@@ -1,6 +1,6 @@
-use crate::{Printer, access_line, refusal_line, stop_line};
 use ob_base::{Access, Emit, EmitErr, Label, Refusal, Shown, Stop, Text};
 use ob_io::MemSink;
+use ob_print::{Printer, access_line, refusal_line, stop_line};
 use std::test::Fail;
 
 #[test]

@@ -1,4 +1,4 @@
-use crate::{Lexeme, Piece, Token, is_blank, split, tokens};
+use ob_token::{Lexeme, Piece, Token, is_blank, split, tokens};
 use std::alloc::Global;
 use std::mem::size_of;
 use std::process::Abort;

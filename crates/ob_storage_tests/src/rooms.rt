@@ -2,7 +2,7 @@ ghost use Rattle.std.specs.Prelude.{◌≡◌, ◌<◌, ◌≤◌, ◌+◌, ℕ,
 ghost use Rattle.ob_room.specs.RoomState.{RoomState, out, clear};
 ghost use Rattle.ob_room.specs.LendingRow.{with_shelved};
 
-use super::*;
+use ob_room::Room;
 use std::test::Fail;
 
 // Writes the first byte of the first row on the shelf.

@@ -1,5 +1,5 @@
-use crate::{MemSink, MemSource, Sink, Source, StdSink, StdSource};
 use ob_base::Failed;
+use ob_io::{MemSink, MemSource, Sink, Source, StdSink, StdSource};
 use std::test::Fail;
 
 #[test]

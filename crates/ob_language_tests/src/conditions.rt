@@ -1,5 +1,5 @@
-use crate::{Fault, column, constant, number, where_part};
 use ob_base::Text;
+use ob_condition::{Fault, column, constant, number, where_part};
 use ob_row::Order;
 use ob_sql::{Cond, CondTree, Literal};
 use ob_token::{Token, tokens};

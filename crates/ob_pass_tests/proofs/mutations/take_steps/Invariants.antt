@@ -2,7 +2,7 @@ use Rattle.std.proofs.Common.{◌≡◌}
 use Rattle.ob_vault.specs.Tied.{Ready}
 use Rattle.ob_vault.specs.Places.{at}
 use Rattle.ob_flat.specs.Flats.{IsFlat}
-use Rattle.ob_mutate.proofs.tests.take_steps.Given as goal
+use Rattle.ob_pass_tests.proofs.mutations.take_steps.Given as goal
 
 abbrev pub invariant-loop-step : goal.invariant-loop-step
 invariant-loop-step g l =

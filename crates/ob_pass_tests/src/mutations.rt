@@ -1,4 +1,4 @@
-// The accesses and the answers of whole sessions.
+//! Changes of a table: their answers and their accesses.
 ghost use Rattle.std.specs.Prelude.{◌≡◌, ◌≤◌, ◌*◌, ◌+◌, [], ◌∷◌, ℤ, FitsSigned, length, max};
 ghost use Rattle.std.specs.Int.{w64};
 ghost use Rattle.ob_base.specs.Schemas.{width};
@@ -10,66 +10,15 @@ ghost use Rattle.ob_blocks.specs.Idle.{IsIdle};
 ghost use Rattle.ob_flat.specs.Flats.{IsSized, IsFlat};
 ghost use Rattle.ob_mutate.specs.Changing.{FitsSets};
 
-use super::*;
-use ob_base::{Access, Column, Kind, Name, Schema};
-use ob_flat::{Counted, Flat, count, create, discard};
+use crate::tables::{Entry, check, condition, counted, filled, make_room, opened, two_ints};
+use ob_flat::{Counted, Flat, discard};
+use ob_mutate::{Inserted, delete, insert, update};
 use ob_room::Room;
 use ob_row::{Cell, Operand, Order, Pred};
-use ob_seal::Keys;
-use ob_store::{BlockStore, MemStore};
-use ob_vault::{BaseRevs, Revisions, Vault};
+use ob_store::BlockStore;
+use ob_vault::{Revisions, Vault};
 use std::alloc::Global;
 use std::process::Abort;
-
-// A column of integers.
-fn ints(name: &[u8], key: bool) -> Column
-    requires { length name.now ≤ 32 }
-    ensures kind { result.kind ≡ Kind.Int }
-{
-    Column {
-        table: Name::from_bytes(b"t"),
-        name: Name::from_bytes(name),
-        kind: Kind::Int,
-        key,
-    }
-}
-
-fn two_ints() -> Schema
-    ensures size { IsSized result 4 }
-    ensures width { width result ≡ 17 }
-    ensures ints { (x y : ℤ) → FitsSigned w64 x → FitsSigned w64 y → FitColumns result (IntCell x ∷ IntCell y ∷ []) }
-    ensures sets { (y : ℤ) → FitsSigned w64 y → FitsSets result ((1, IntCell y) ∷ []) }
-{
-    let mut schema = Schema::new();
-    schema.push(ints(b"id", true));
-    schema.push(ints(b"v", false));
-    schema
-}
-
-// An access by its letter: its region, its place or number of blocks, and the length of a block.
-fn entry(access: Access) -> (u8, u64, u32, u32) {
-    match access {
-        Access::Make {
-            region,
-            blocks,
-            len,
-        } => (b'M', region, blocks, len),
-        Access::Read { region, place } => (b'R', region, place, 0),
-        Access::Write { region, place } => (b'W', region, place, 0),
-        Access::Discard { region } => (b'D', region, 0, 0),
-    }
-}
-
-// The accesses from the one of this index on, and no others.
-fn check<S: BlockStore>(rt: &impl Abort, store: &S, from: u64, wanted: &[(u8, u64, u32, u32)]) {
-    let mut at = from;
-    for want in wanted {
-        assert!(rt; at < store.count());
-        assert_eq!(rt; entry(store.nth(at)), *want, "at {at}");
-        at += 1;
-    }
-    assert_eq!(rt; at, store.count());
-}
 
 // A change of the table, and what it answers.
 #[derive(Drop)]
@@ -99,8 +48,7 @@ fn take_step<S: BlockStore, R: Revisions>(
     ensures capacity { flat.new.capacity ≡ flat.old.capacity }
     ensures room { room.new ≡ record room.old { high = room.new.high } }
 {
-    store.room(100_000_000).expect(rt, "room");
-    assert!(rt; store.count() < 1_000_000);
+    make_room(rt, store);
     match step {
         Step::Insert(id, v, answer) => {
             let cells = [Cell::Int(*id), Cell::Int(*v)];
@@ -144,8 +92,8 @@ fn take_steps<S: BlockStore, R: Revisions>(
     }
 }
 
-// A table of four slots in blocks of so many rows, and its changes: what is counted of the rows that
-// make a condition true then, and the accesses from the one of an index on.
+// A table of four slots, and its changes: what is counted of the rows that make a condition true then, and
+// the accesses from the one of an index on.
 fn session<S: BlockStore, R: Revisions>(
     rt: &impl Abort,
     store: &mut S,
@@ -153,48 +101,49 @@ fn session<S: BlockStore, R: Revisions>(
     mut room: Room,
     steps: &[Step<'_>],
     pred: &Pred,
-    counted: Counted,
+    wanted_count: Counted,
     from: u64,
-    wanted: &[(u8, u64, u32, u32)],
+    wanted: &[Entry],
 )
     requires ready { Ready (at R.state vault (S.state store.old)) }
     requires room { IsIdle 17 room }
+    requires pack { 1 ≤ room.pack }
 {
-    let schema = two_ints();
-    store.room(100_000_000).expect(rt, "room");
-    assert!(rt; store.count() < 1);
-    let mut flat = create(store, &mut vault, &mut room, &schema, 4).expect(rt, "create");
+    let schema = two_ints(b"id", b"v", true);
+    let mut flat = filled(rt, store, &mut vault, &mut room, &schema, 4, &[]);
     take_steps(rt, store, &mut vault, &mut room, &mut flat, steps);
-    store.room(100_000_000).expect(rt, "room");
-    let found = count(store, &mut vault, &mut room, &flat, pred).expect(rt, "count");
-    assert_eq!(rt; found, counted);
+    let found = counted(rt, store, &mut vault, &mut room, &flat, pred);
+    assert_eq!(rt; found, wanted_count);
     check(rt, store, from, wanted);
-    store.room(1).expect(rt, "room");
+    make_room(rt, store);
     discard(store, &mut vault, &mut room, flat).expect(rt, "discard");
 }
 
+// The same in memory, in blocks of so many rows.
 fn session_in_memory(
     rt: &impl Abort,
     alloc: Global,
     pack: u32,
     steps: &[Step<'_>],
     pred: &Pred,
-    counted: Counted,
+    wanted_count: Counted,
     from: u64,
-    wanted: &[(u8, u64, u32, u32)],
+    wanted: &[Entry],
 )
     requires { (1 ≤ pack) × (pack ≤ 16) }
 {
-    let mut store = MemStore::new(alloc);
-    let vault: Vault<BaseRevs> = Vault::new(alloc, Keys::derive(&[0; 32]));
-    let room = Room::new(alloc, 64, 1024, pack).expect(rt, "rows");
+    let (mut store, vault, room) = opened(rt, alloc, 64, pack);
     session(
-        rt, &mut store, vault, room, steps, pred, counted, from, wanted,
+        rt,
+        &mut store,
+        vault,
+        room,
+        steps,
+        pred,
+        wanted_count,
+        from,
+        wanted,
     );
-}
-
-fn equals(place: u8, x: i64) -> Pred {
-    Pred::compare(place, Order::Equal, Operand::Cell(Cell::Int(x)))
 }
 
 // A table is made, a row inserted and counted; each entry as (letter, region, place or blocks, length).
@@ -205,7 +154,7 @@ fn inserts_a_row(rt: HostRuntime) {
         rt.alloc(),
         1,
         &[Step::Insert(1, 10, Inserted::Done)],
-        &equals(1, 10),
+        &condition(Some((1, Order::Equal, 10))),
         Counted {
             k: 1,
             consecutive: true,
@@ -250,7 +199,7 @@ fn refuses_a_key(rt: HostRuntime) {
             Step::Insert(1, 10, Inserted::Done),
             Step::Insert(1, 99, Inserted::Duplicate),
         ],
-        &equals(1, 10),
+        &condition(Some((1, Order::Equal, 10))),
         Counted {
             k: 1,
             consecutive: true,
@@ -294,7 +243,7 @@ fn refuses_where_full(rt: HostRuntime) {
             Step::Insert(5, 50, Inserted::Full),
             Step::Insert(1, 50, Inserted::Duplicate),
         ],
-        &equals(1, 10),
+        &condition(Some((1, Order::Equal, 10))),
         Counted {
             k: 2,
             consecutive: false,
@@ -345,7 +294,7 @@ fn packs_two(rt: HostRuntime) {
         rt.alloc(),
         2,
         &[Step::Insert(1, 10, Inserted::Done)],
-        &equals(1, 10),
+        &condition(Some((1, Order::Equal, 10))),
         Counted {
             k: 1,
             consecutive: true,
@@ -384,7 +333,7 @@ fn packs_three(rt: HostRuntime) {
             Step::Insert(5, 50, Inserted::Full),
             Step::Insert(4, 50, Inserted::Duplicate),
         ],
-        &equals(1, 10),
+        &condition(Some((1, Order::Equal, 10))),
         Counted {
             k: 2,
             consecutive: false,
@@ -408,7 +357,7 @@ fn packs_three(rt: HostRuntime) {
 // An UPDATE of one row.
 #[test]
 fn updates_a_row(rt: HostRuntime) {
-    let fourth = equals(0, 4);
+    let fourth = condition(Some((0, Order::Equal, 4)));
     session_in_memory(
         &rt,
         rt.alloc(),
@@ -420,7 +369,7 @@ fn updates_a_row(rt: HostRuntime) {
             Step::Insert(4, 20, Inserted::Done),
             Step::Update(&fourth, 30, 1),
         ],
-        &equals(1, 30),
+        &condition(Some((1, Order::Equal, 30))),
         Counted {
             k: 1,
             consecutive: true,
@@ -449,7 +398,9 @@ fn updates_a_row(rt: HostRuntime) {
 #[test]
 fn updates_by_a_condition(rt: HostRuntime) {
     let low = Pred::compare(0, Order::Less, Operand::Cell(Cell::Int(3)));
-    let either = Pred::or(rt.alloc(), low, equals(1, 20)).expect(&rt, "or");
+    let either = Pred::or(rt.alloc(), low, condition(Some((1, Order::Equal, 20)))).expect(
+        &rt, "or",
+    );
     let neither = Pred::not(rt.alloc(), either).expect(&rt, "not");
     session_in_memory(
         &rt,
@@ -462,7 +413,7 @@ fn updates_by_a_condition(rt: HostRuntime) {
             Step::Insert(4, 20, Inserted::Done),
             Step::Update(&neither, 5, 1),
         ],
-        &equals(1, 5),
+        &condition(Some((1, Order::Equal, 5))),
         Counted {
             k: 1,
             consecutive: true,
@@ -490,8 +441,8 @@ fn updates_by_a_condition(rt: HostRuntime) {
 // An UPDATE counts the rows that had the same cells before, and no others.
 #[test]
 fn updates_to_the_same(rt: HostRuntime) {
-    let ten = equals(1, 10);
-    let none = equals(1, 99);
+    let ten = condition(Some((1, Order::Equal, 10)));
+    let none = condition(Some((1, Order::Equal, 99)));
     session_in_memory(
         &rt,
         rt.alloc(),
@@ -504,7 +455,7 @@ fn updates_to_the_same(rt: HostRuntime) {
             Step::Update(&ten, 10, 2),
             Step::Update(&none, 10, 0),
         ],
-        &equals(1, 10),
+        &condition(Some((1, Order::Equal, 10))),
         Counted {
             k: 2,
             consecutive: false,
@@ -532,8 +483,13 @@ fn updates_to_the_same(rt: HostRuntime) {
 // A DELETE, after which an INSERT fills the first slot again.
 #[test]
 fn deletes_and_inserts(rt: HostRuntime) {
-    let ten = equals(1, 10);
-    let front = Pred::or(rt.alloc(), equals(1, 50), equals(0, 2)).expect(&rt, "or");
+    let ten = condition(Some((1, Order::Equal, 10)));
+    let front = Pred::or(
+        rt.alloc(),
+        condition(Some((1, Order::Equal, 50))),
+        condition(Some((0, Order::Equal, 2))),
+    )
+    .expect(&rt, "or");
     session_in_memory(
         &rt,
         rt.alloc(),
@@ -588,7 +544,7 @@ fn deletes_and_inserts(rt: HostRuntime) {
 // A DELETE of every second row.
 #[test]
 fn deletes_rows(rt: HostRuntime) {
-    let ten = equals(1, 10);
+    let ten = condition(Some((1, Order::Equal, 10)));
     session_in_memory(
         &rt,
         rt.alloc(),
@@ -629,7 +585,7 @@ fn deletes_rows(rt: HostRuntime) {
 #[test]
 fn changes_in_packs_of_three(rt: HostRuntime) {
     let all = Pred::all();
-    let twenty = equals(1, 20);
+    let twenty = condition(Some((1, Order::Equal, 20)));
     session_in_memory(
         &rt,
         rt.alloc(),

@@ -1,0 +1,15 @@
+//! Tests of the language: tokens, conditions, statements, what they mean and what they answer.
+#![tactic(auto)]
+
+#[cfg(test)]
+mod answers;
+#[cfg(test)]
+mod conditions;
+#[cfg(test)]
+mod meanings;
+#[cfg(test)]
+mod spelled;
+#[cfg(test)]
+mod statements;
+#[cfg(test)]
+mod tokens;

@@ -1,4 +1,0 @@
-use Rattle.ob_mutate.proofs.tests.session_in_memory.Goals as goal
-
-pub session-requires-clause-ready : goal.session-requires-clause-ready
-session-requires-clause-ready g c = c.new-vault.ensures.ready _ c.new-store.ensures
