@@ -11,6 +11,3 @@ column_end = (of (L.Mark M.Semicolon), refl)
 
 pub conj_end : (t : Token) × AfterConj t
 conj_end = (of (L.Mark M.Semicolon), (refl, refl))
-
-pub cond_end : (t : Token) × AfterCond t
-cond_end = (of (L.Mark M.Semicolon), (refl, refl, refl))

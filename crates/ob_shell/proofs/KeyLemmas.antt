@@ -119,13 +119,3 @@ key_too_long {b = b} {line = line} p no_lf long =
       fed = p;
       ends = (secret_of-long _ (omega (arith, far)), inr (inl (omega (arith, length-append line b.unread))));
     }
-
-pub key_halt : {a b c : Fetch} {l0 l1 l2 : Option (List ℕ)} {line : List ℕ} (h : Halt)
-    → Fed a b l0 l1 line → Fed b c l1 l2 [] → has_lf line ≡ false → length line < line_max → c.unread ≡ [] → KeyRead a c l0 l2 (Err h)
-key_halt {a = a} {c = c} {l0 = l0} {l2 = l2} {line = line} h p q no_lf short none =
-    let all : line ++ c.unread ≡ line = rw none (append-nil line) in
-    record {
-      passed = line;
-      fed = subst (λ (xs : List ℕ). Fed a c l0 l2 xs) (append-nil line) (Fed-then p q);
-      ends = rw all (no_lf, short, none);
-    }

@@ -17,9 +17,6 @@ record Keeps {R : Type 0} (m0 m1 : Machine R) : Type 0 where
 keeps_same : {R : Type 0} (m0 m1 : Machine R) → m1 ≡ m0 → Keeps m0 m1
 keeps_same {R} m0 m1 same = subst (λ (m : Machine R). Keeps m0 m) (sym same) (record { keys = refl; lie = λ lie is. is })
 
-keeps_both : {R : Type 0} (m0 m1 m2 : Machine R) → Keeps m0 m1 → Keeps m1 m2 → Keeps m0 m2
-keeps_both m0 m1 m2 first second = record { keys = second.keys ∙ first.keys; lie = λ lie is. second.lie lie (first.lie lie is) }
-
 module _ {R : Type 0} (state : R → RevState) where
   step_keeps : (m0 m1 : Machine R) (text : List ℕ) (answer : Answer) → Step state m0 m1 text answer → Keeps m0 m1
   step_keeps m0 m1 text answer step = elim step.done [

@@ -115,25 +115,3 @@ misspelt state w m text at spells = record {
   appends = Appends-nil w;
   step = record { done = inl (record { same = refl; at = at; spells = spells; refused = refl; line = refl }) };
 }
-
-pub never_source : (stop : Stop) (old new : World) → RunCause (Err stop) old new → stop ≡ SourceFault → ⊥
-never_source (Tampered region place) old new h e = cc
-never_source SinkFault old new h e = cc
-never_source NoMemory old new h e = cc
-never_source SourceFault old new h e = h
-never_source InputLimit old new h e = h
-
-pub never_limit : (stop : Stop) (old new : World) → RunCause (Err stop) old new → stop ≡ InputLimit → ⊥
-never_limit (Tampered region place) old new h e = cc
-never_limit SinkFault old new h e = cc
-never_limit NoMemory old new h e = cc
-never_limit SourceFault old new h e = h
-never_limit InputLimit old new h e = h
-
-pub stop_cause : (stop : Stop) (old new : ℕ) → SinkCause (Err stop) old new → (stop ≡ SourceFault → ⊥) → (stop ≡ InputLimit → ⊥)
-    → StopCause {T = Outcome} (record { source = 0; out = old; trace = 0 }) (record { source = 0; out = new; trace = 0 }) (Err stop)
-stop_cause (Tampered region place) old new h x y = (refl, h, omega arith)
-stop_cause SinkFault old new h x y = (refl, inl h)
-stop_cause NoMemory old new h x y = (refl, h, omega arith)
-stop_cause SourceFault old new h x y = absurd (x refl)
-stop_cause InputLimit old new h x y = absurd (y refl)

@@ -399,10 +399,6 @@ whole_of {w0 = w0} {w1 = w1} c = elim c.all [ inl e ↦ subst (λ (l : List ℕ)
 pub rises_later : (a b c : ℕ) → Rises a b → b ≤ c → Rises a c
 rises_later a b c h l = omega arith
 
-pub at_err : {T E : Type 0} (r : Result T E) (P : Type 0) → OnErr r P → IsErr r → P
-at_err (Ok x) P p h = absurd (cc)
-at_err (Err x) P p h = p
-
 pub at_ok : {T E : Type 0} (r : Result T E) (P : Type 0) → OnOk r P → IsOk r → P
 at_ok (Ok x) P p h = p
 at_ok (Err x) P p h = absurd (cc)

@@ -66,19 +66,3 @@ traced_whole F p = record { seen = p.seen; grew = p.grew; cut = Cut-whole _ _ F 
 -- what was asked since the mark
 pub since : (asked0 asked1 seen : List Access) (mark : ℕ) → asked1 ≡ asked0 ++ seen → mark ≡ length asked0 → drop mark asked1 ≡ seen
 since asked0 asked1 seen mark e m = rw (m, e) (drop-append_seam asked0 seen)
-
--- nothing of what was asked was written
-pub traced_not : (tracing : Bool) (asked0 asked1 seen : List Access) (w : Option (List ℕ)) {F : Type 0} → asked1 ≡ asked0 ++ seen → F → Traced tracing asked0 asked1 w w F
-traced_not tracing asked0 asked1 seen w e f = record { seen = seen; grew = e; cut = Cut-more (traced tracing seen) (Cut-whole w w _ [] (Appends-nil w)) f }
-
-pub traced_weaker : {tracing : Bool} {a0 a1 : List Access} {w0 w1 : Option (List ℕ)} {F G : Type 0} → (F → G) → Traced tracing a0 a1 w0 w1 F → Traced tracing a0 a1 w0 w1 G
-traced_weaker h p = record {
-  seen = p.seen;
-  grew = p.grew;
-  cut = record {
-    grown = p.cut.grown;
-    appends = p.cut.appends;
-    prefix = p.cut.prefix;
-    all = elim p.cut.all [ inl e ↦ inl e | inr f ↦ inr (h f) ];
-  };
-}

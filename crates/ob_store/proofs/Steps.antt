@@ -56,12 +56,6 @@ none_before old new later none = none_of old.lie later.lie
     none_of None stays = refl
     none_of (Some lie) stays = absurd (cc (stays lie refl, none))
 
-pub keeps_refl : (s : StoreState) → Keeps s s
-keeps_refl s = record { live = λ q. refl; last = λ q x. refl }
-
-pub keeps_trans : (old mid new : StoreState) → Keeps old mid → Keeps mid new → Keeps old new
-keeps_trans old mid new first second = record { live = λ q. second.live q ∙ first.live q; last = λ q x. second.last q x ∙ first.last q x }
-
 -- at an `Err`, and where the call may be `Err`
 pub on_err : {T E P : Type 0} (r : Result T E) → P → OnErr r P
 on_err (Ok x) p = tt
@@ -126,18 +120,9 @@ fails_each part n i old mid new below first second =
     let some : FailsWithin (each i part ++ part i ++ p.rest) old new = fails_more (each i part ++ part i) p.rest old new (fails_join (each i part) (part i) old mid new first second) in
     subst (λ (l : List Access). FailsWithin l old new) (sym p.split) some
 
--- a part that was done
-pub did_each : (part : ℕ → List Access) (i : ℕ) (old mid new : StoreState) → Did (each i part) old mid → Did (part i) mid new → Did (each (i + 1) part) old new
-did_each part i old mid new first second =
-    let next : suc i ≡ i + 1 = omega arith in
-    subst (λ (k : ℕ). Did (each k part) old new) next (did_join (each i part) (part i) old mid new first second)
-
 -- one call
 pub did_call : (access : Access) (old new : StoreState) → Asks access old new → new.faults ≡ old.faults → Did (access ∷ []) old new
 did_call access old new asks faults = record { asked = asks.asked; faults = faults }
-
-pub fails_call : (access : Access) (old new : StoreState) → Asks access old new → Rises old.faults new.faults → FailsWithin (access ∷ []) old new
-fails_call access old new asks rises = record { began = record { done = access ∷ []; rest = []; split = refl; asked = asks.asked }; rises = rises }
 
 -- two lists are equal or they aren't
 pub list_cases : (a b : List ℕ) → (a ≡ b) ⊎ (a ≢ b)
@@ -163,10 +148,6 @@ pub length-each : (part : ℕ → List Access) (size : ℕ) → ((i : ℕ) → l
 length-each part size sizes zero = omega arith
 length-each part size sizes (suc n) = omega (arith, length-append (each n part) (part n), sizes n, length-each part size sizes n)
 
--- a region that is kept has its places
-pub region_kept : (region blocks len : ℕ) (old new : StoreState) → IsRegion region blocks len old → Keeps old new → IsRegion region blocks len new
-region_kept region blocks len old new is keeps = record { live = keeps.live region ∙ is.live }
-
 pub place_in : (region blocks len place other : ℕ) (s : StoreState) → IsRegion region blocks len s → place < blocks → other ≡ len → 33 ≤ len → len ≤ 16416 → IsPlace s region place other
 place_in region blocks len place other s is within same small large = record {
   shape = record { blocks = blocks; len = len };
@@ -177,41 +158,11 @@ place_in region blocks len place other s is within same small large = record {
   large = omega arith;
 }
 
-pub same_refl : (region : ℕ) (s : StoreState) → SameRegions region s s
-same_refl region s = record { live = λ q. refl; last = λ q x other. refl }
-
-pub same_trans : (region : ℕ) (old mid new : StoreState) → SameRegions region old mid → SameRegions region mid new → SameRegions region old new
-same_trans region old mid new first second = record { live = λ q. second.live q ∙ first.live q; last = λ q x other. second.last q x other ∙ first.last q x other }
-
-pub same_keeps : (region : ℕ) (old new : StoreState) → Keeps old new → SameRegions region old new
-same_keeps region old new keeps = record { live = keeps.live; last = λ q x other. keeps.last q x }
-
 pub same_at : (region place : ℕ) (old new : StoreState) → OnlyAt region place old new → SameRegions region old new
 same_at region place old new only = record { live = only.live; last = λ q x other. only.elsewhere q x (λ same. absurd (other same)) }
 
-pub region_same : (region blocks len : ℕ) (old new : StoreState) → IsRegion region blocks len old → SameRegions region old new → IsRegion region blocks len new
-region_same region blocks len old new is same = record { live = same.live region ∙ is.live }
-
-pub only_same : (region : ℕ) (old mid new : StoreState) → OnlyRegion region old mid → SameRegions region mid new → OnlyRegion region old new
-only_same region old mid new first second = record {
-  live = λ q other. second.live q ∙ first.live q other;
-  last = λ q x other. second.last q x other ∙ first.last q x other;
-}
-
--- a fault after a run without one
-pub make_fault_after : {T : Type 0} (script : List Access) (r : Result T StoreErr) (old mid new : StoreState) → Did script old mid → CountsMakeFault r mid new → CountsMakeFault r old new
-make_fault_after script (Ok x) old mid new did after = after ∙ did.faults
-make_fault_after script (Err StoreErrs.NoMemory) old mid new did after = after ∙ did.faults
-make_fault_after script (Err StoreErrs.Failed) old mid new did after = subst (λ (n : ℕ). Rises n new.faults) did.faults after
-
 pub began_call : (access : Access) (old new : StoreState) → Asks access old new → Began (access ∷ []) old new
 began_call access old new asks = record { done = access ∷ []; rest = []; split = refl; asked = asks.asked }
-
-pub began_each : (part : ℕ → List Access) (n i : ℕ) (old mid new : StoreState) → i < n → Did (each i part) old mid → Began (part i) mid new → Began (each n part) old new
-began_each part n i old mid new below first second =
-    let p = parts part n i below in
-    let some : Began (each i part ++ part i ++ p.rest) old new = began_more (each i part ++ part i) p.rest old new (began_join (each i part) (part i) old mid new first second) in
-    subst (λ (l : List Access). Began l old new) (sym p.split) some
 
 -- the first n of the script, n being how many were asked
 pub began_take : (script : List Access) (old new : StoreState) → Began script old new → new.asked ≡ old.asked ++ take (length new.asked - length old.asked) script
@@ -226,9 +177,3 @@ cut_each part n i old mid new r first second below = on_err r (fails_each part n
 
 pub cut_first : {T : Type 0} (a b : List Access) (old new : StoreState) (r : Result T Failed) → FailsWithin a old new → OnErr r (FailsWithin (a ++ b) old new)
 cut_first a b old new r first = on_err r (fails_more a b old new first)
-
-pub cut_second : {T : Type 0} (a b : List Access) (old mid new : StoreState) (r : Result T Failed) → Did a old mid → FailsWithin b mid new → OnErr r (FailsWithin (a ++ b) old new)
-cut_second a b old mid new r first second = on_err r (fails_join a b old mid new first second)
-
-pub began_cut : {T E : Type 0} (part : ℕ → List Access) (n i : ℕ) (old mid new : StoreState) (r : Result T E) → Did (each i part) old mid → Began (part i) mid new → i < n → OnErr r (Began (each n part) old new)
-began_cut part n i old mid new r first second below = on_err r (began_each part n i old mid new below first second)

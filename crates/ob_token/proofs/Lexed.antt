@@ -69,15 +69,5 @@ pub record Filled (text : List ℕ) (found : List Token) (len capacity at : ℕ)
   pub exact : capacity ≡ length (tokens_of text)
   pub place : at + length rest ≤ length text
 
-pub filled_more : (text : List ℕ) (found more : List Token) (len capacity at next : ℕ) (rest left : List ℕ) (t : Token) → Filled text found len capacity at rest
-    → tokens_from 0 at rest ≡ t ∷ tokens_from 0 next left → next + length left ≤ at + length rest → more ≡ found ++ t ∷ []
-    → Filled text more (len + 1) capacity next left
-filled_more text found more len capacity at next rest left t filled e le m = record {
-  tokens = filled.tokens ∙ ap (λ ts. found ++ ts) e ∙ sym (append_assoc found (t ∷ []) (tokens_from 0 next left)) ∙ ap (λ ts. ts ++ tokens_from 0 next left) (sym m);
-  room = omega (arith, filled.room, ap length e);
-  exact = filled.exact;
-  place = omega (arith, filled.place, le);
-}
-
 pub filled_all : (text : List ℕ) (found : List Token) (len capacity at : ℕ) (rest : List ℕ) → Filled text found len capacity at rest → tokens_from 0 at rest ≡ [] → found ≡ tokens_of text
 filled_all text found len capacity at rest filled e = let all : found ++ [] ≡ found = simp append-nil refl in sym (filled.tokens ∙ ap (λ ts. found ++ ts) e ∙ all)

@@ -178,25 +178,6 @@ module _ (some : ℕ → Type 0) (part : ℕ → List Access) (a b c : World) wh
       subst (λ (l : List Access). Cut e l some a c) (sym p.split)
       (cut_more some a c e (each i part ++ part i) p.rest (cut_after some a b c e (each i part) (part i) first second))
 
--- a run that was cut, after which a region is forgotten
-pub cut_then : (some : ℕ → Type 0) (e : VaultErr) (x : List Access) (a b c : World) → Cut e x some a b → Went [] some b c → c.store ≡ b.store → Cut e x some a c
-cut_then some e x a b c cut went same = record {
-  lasts = lasts_trans some a b c cut.lasts went.lasts;
-  began = subst (λ (s : StoreState). Began x a.store s) (sym same) cut.began;
-  cause = go e cut.cause;
-}
-  where
-    ends : (q p : ℕ) → EndsAt q p b → EndsAt q p c
-    ends q p is = record { lie = is.lie; told = ap (λ (s : StoreState). s.lie) same ∙ is.told; asked = ap (λ (s : StoreState). s.asked) same ∙ is.asked; at_region = is.at_region; at_place = is.at_place }
-
-    faults : c.store.faults ≡ b.store.faults
-    faults = ap (λ (s : StoreState). s.faults) same
-
-    go : (e : VaultErr) → Cause e a b → Cause e a c
-    go Failed (rises, calm) = (subst (λ (n : ℕ). Rises a.store.faults n) (sym faults) rises, λ was. went.calm (calm was))
-    go NoMemory (kept, calm) = (faults ∙ kept, λ was. went.calm (calm was))
-    go (Tampered q p) (kept, calm) = (faults ∙ kept, λ was. elim (calm was) [ inl still ↦ inl (went.calm still) | inr is ↦ inr (ends q p is) ])
-
 pub went_length : (some : ℕ → Type 0) (x : List Access) (a b : World) → Went x some a b → length b.store.asked ≡ length a.store.asked + length x
 went_length some x a b went = ap length went.did.asked ∙ length-append a.store.asked x
 
@@ -229,21 +210,6 @@ may_get q x shape rows w lives within fit written = record { place = record { sh
 pub may_put : (q x : ℕ) (shape : Region) (rows : List (List ℕ)) (w : World) → Lives q shape w → x < shape.blocks → RowsFit rows shape.width → OnTurn q shape x w → MayPut q x rows w
 may_put q x shape rows w lives within fit turn = record { place = record { shape = shape; lives = lives; within = within; fit = fit }; turn = turn }
 
-each_is : (n e w : ℕ) → 1 ≤ n → n * e ≡ w → w / n ≡ e
-each_is n e w some is = grind arith
-
--- the bytes of rows that fit
-pub joined_size : (rows : List (List ℕ)) (width : ℕ) → RowsFit rows width → length (joined (width / length rows) rows) ≡ width
-joined_size rows width fit =
-    let is = each_is (length rows) fit.each width fit.some fit.whole in
-    ap (λ (w : ℕ). length (joined w rows)) is ∙ length-joined fit.each rows fit.wide.wide ∙ fit.whole
-
--- the number of what stands at a place of a live region is the position of its last write
-pub holds_number : (q x : ℕ) (shape : Region) (rows : List ℕ) (w : World) → Ready w → Lives q shape w → x < shape.blocks → Holds q x rows w
-    → w.store.last q x ≡ Some (sealed w.vault.keys (at_of q x (number_of w.store.asked q x)) rows)
-holds_number q x shape rows w ready is within holds =
-    holds.last ∙ ap (λ (n : ℕ). Some (sealed w.vault.keys (at_of q x n) rows)) (ready.tied.numbers q x shape is.live within)
-
 -- a write to any place of a region without order is in turn
 pub turn_any : (q : ℕ) (shape : Region) (x : ℕ) (w : World) → shape.order ≡ Any → OnTurn q shape x w
 turn_any q shape x w any = record { turn = λ round. absurd (cc (any, round)); run = λ round off. absurd (cc (any, round)) }
@@ -255,10 +221,6 @@ next_turn q u shape w turn = go shape.order refl
     go : (o : Order) → shape.order ≡ o → OnTurn q shape (if u + 1 == shape.blocks then 0 else u + 1) w
     go Round is = subst (λ (n : ℕ). OnTurn q shape n w) (ap (λ (o : Order). place_after o shape.blocks u) is) turn
     go Any is = turn_any q shape (if u + 1 == shape.blocks then 0 else u + 1) w is
-
--- a region whose lap is whole stays so while others are written
-pub turn_went : (some : ℕ → Type 0) (a b : World) (x : List Access) (q : ℕ) (shape : Region) → Went x some a b → (some q → ⊥) → OnTurn q shape 0 a → OnTurn q shape 0 b
-turn_went some a b x q shape went off is = record { turn = λ round. is.turn round ∙ sym (went.lasts.apart.turn q off); run = λ round nonzero. absurd (nonzero refl) }
 
 -- the same after any answer
 module _ (some : ℕ → Type 0) (a b : World) (lasts : Lasts some a b) where

@@ -182,9 +182,6 @@ seals_drop good v revs old new g asks only left =
       ];
     }
 
-pub seals_forget : (good : ℕ → List ℕ → Bool) (v : VaultState) (revs : RevState) (s : StoreState) → Seals good (world v s) (world (record v { revs = revs }) s)
-seals_forget good v revs s = record { seals = λ tells all. record { all = all.all } }
-
 pub seals_read : (good : ℕ → List ℕ → Bool) (v : VaultState) (old new : StoreState) (q x : ℕ) → Asks (Read q x) old new → Keeps old new → Seals good (world v old) (world v new)
 seals_read good v old new q x asks keeps = record { seals = λ tells all. sealed_keeps good (world v old) (world v new) (Read q x) refl asks keeps all }
 
@@ -197,25 +194,6 @@ pub seals_unmade : (good : ℕ → List ℕ → Bool) (v : VaultState) (revs : R
     → Seals good (world v old) (world (record v { next = v.next + 1; revs = revs }) new)
 seals_unmade good v revs old new g blocks len asks keeps =
     record { seals = λ tells all. sealed_keeps good (world v old) (world (record v { next = v.next + 1; revs = revs }) new) (Make g blocks len) refl asks keeps all }
-
--- no call on the store
-pub lasts_forget : (v : VaultState) (revs : RevState) (s : StoreState) (g : ℕ) → Ready (world v s) → OtherRegions g v.revs revs → revs.live g ≡ None → Lasts (one g) (world v s) (world (record v { revs = revs }) s)
-lasts_forget v revs s g ready others gone =
-    lasts_moved g (world v s) (world (record v { revs = revs }) s) ready (record {
-      keys = refl;
-      count = ready.tied.count;
-      next = ready.tied.next;
-      above = ready.tied.above;
-      up = omega arith;
-      revs = others;
-      only = record { live = λ q off. refl; last = λ q x off. refl };
-      numbers = λ q x. refl;
-      here_shape = inl gone;
-      here_live = λ s l. absurd (cc (l, gone));
-      here_number = λ s l x. absurd (cc (l, gone));
-      here_below = λ s l. absurd (cc (l, gone));
-      here_fits = λ s l. absurd (cc (l, gone));
-    }) (later_refl s)
 
 -- a call that answered
 pub went_call : (a : Access) (some : ℕ → Type 0) (old new : World) → Lasts some old new → Asks a old.store new.store → new.store.faults ≡ old.store.faults → new.store.lie ≡ old.store.lie → Went (a ∷ []) some old new
