@@ -5,3 +5,6 @@ pub mod Counts
 pub mod Rooms
 pub mod Resting
 pub mod Sinks
+pub mod Loops
+pub mod Opened
+pub mod Halves

@@ -1,5 +1,5 @@
 -- Tables in the vault and its store.
-use Rattle.std.proofs.Common.{◌≡◌, ◌≢◌, ◌≤◌, ◌<◌, ◌+◌, ◌*◌, ◌/◌, ◌==◌, if◌then◌else◌, inl, inr, ℕ, Bool, IsTrue, List, Option, None, length, refl, sym, ◌∙◌, ap, subst, arith}
+use Rattle.std.proofs.Common.{◌≡◌, ◌≢◌, ◌≤◌, ◌<◌, ◌+◌, ◌*◌, ◌/◌, ◌==◌, if◌then◌else◌, inl, inr, ℕ, Bool, IsTrue, List, Option, None, Fits, w32, mul-le-mul, length, refl, sym, ◌∙◌, ap, subst, arith}
 use Rattle.std.proofs.lemmas.Grind.{div_ceil_times}
 use Rattle.std.specs.List.{All}
 use Rattle.ob_base.specs.Lists.{each}
@@ -7,7 +7,9 @@ use Rattle.ob_base.specs.Numbers.{blocks_for}
 use Rattle.ob_base.specs.Accesses.{read_at}
 use Rattle.ob_script.specs.Parts.{copy_at}
 use Rattle.ob_row.specs.Rows.{Row}
-use Rattle.ob_vault.specs.Tied.{Holds}
+use Rattle.ob_vault.specs.declared.region.Region.{Region}
+use Rattle.ob_vault.specs.declared.region.Order.{Order}
+use Rattle.ob_vault.specs.Tied.{Holds, Lives, OnTurn, Written}
 use Rattle.ob_base.specs.Schemas.{Columns, width}
 use Rattle.ob_store.proofs.Steps.{length-each}
 use Rattle.ob_vault.specs.State.{World}
@@ -25,7 +27,7 @@ use Rattle.std.proofs.lemmas.Bool.Decides.{nat_tests}
 use Rattle.ob_flat.specs.declared.flat.Flat.{Flat}
 use Rattle.ob_row.specs.Slots.{Slots, empty_slots}
 use Rattle.ob_flat.specs.Slots.{FitsSlot, Spelt, AreSlots, block_bytes}
-use Rattle.ob_flat.specs.Flats.{IsSized, FitsRegion, IsMade, IsFlat, IsWritten, HoldsSlots, Represents, Accepts, whole_blocks}
+use Rattle.ob_flat.specs.Flats.{IsSized, FitsRegion, IsMade, IsFlat, IsWritten, HoldsSlots, Represents, Accepts, table_region, whole_blocks}
 use Rattle.ob_flat.proofs.Rows.{spelt_joined, joined_spelt, spelt_fits, width_each, block_size}
 
 -- how many accesses the reads of a table are
@@ -193,3 +195,47 @@ represents_none pack flat w some holds =
       fits = All-replicate (FitsSlot flat.schema) flat.capacity none tt;
       holds = λ p below. subst (λ (l : Slots). Holds flat.region p (block_bytes flat.schema l) w) (sym (block_none pack flat.capacity (blocks_for pack flat.capacity) p fits below)) (holds p below);
     }
+
+-- a table whose parts are the same is the same
+pub same_flat : {columns schema : Columns} {q region : ℕ} (capacity : ℕ) → columns ≡ schema → q ≡ region
+    → ◌≡◌ {A = Flat} (record { schema = columns; capacity = capacity; region = q }) (record { schema = schema; capacity = capacity; region = region })
+same_flat {columns} {schema} {q} {region} capacity same number =
+    ap (λ (s : Columns). record { schema = s; capacity = capacity; region = q }) same ∙ ap (λ (r : ℕ). record { schema = schema; capacity = capacity; region = r }) number
+
+-- and is what that is
+pub flat_again : {n pack : ℕ} {a b : Flat} {w : World} → n ≡ pack → b ≡ a → IsFlat n a w → IsFlat pack b w
+flat_again {n} {pack} {a} {b} {w} size same is = subst (λ (k : ℕ). IsFlat k b w) size (subst (λ (flat : Flat). IsFlat n flat w) (sym same) is)
+
+pub represents_again : {n pack : ℕ} {a b : Flat} {slots : Slots} {w : World} → n ≡ pack → b ≡ a → Represents n a slots w → Represents pack b slots w
+represents_again {n} {pack} {a} {b} {slots} {w} size same is = subst (λ (k : ℕ). Represents k b slots w) size (subst (λ (flat : Flat). Represents n flat slots w) (sym same) is)
+
+-- the bytes of a block's rows are few
+pub block_w32 : {pack columns_width w : ℕ} → pack ≤ 16 → columns_width ≤ 1024 → w ≡ columns_width → Fits w32 (pack * w)
+block_w32 {pack} {columns_width} {w} few wide same =
+    let each : w ≤ 1024 = subst (λ (k : ℕ). k ≤ 1024) (sym same) wide in
+    let all : pack * w ≤ 16 * 1024 = mul-le-mul few each in
+    omega (arith, all)
+
+-- a region of the same parts
+pub same_region : {n m w v : ℕ} (order : Order) (pack : ℕ) → n ≡ m → w ≡ v → ◌≡◌ {A = Region} (record { blocks = n; width = pack * w; order = order }) (record { blocks = m; width = pack * v; order = order })
+same_region {n} {m} {w} {v} order pack blocks each =
+    ap (λ (k : ℕ). record { blocks = k; width = pack * w; order = order }) blocks ∙ ap (λ (k : ℕ). record { blocks = m; width = pack * k; order = order }) each
+
+-- a region of the vault, and a write to it that is in turn, under another name
+pub lives_as : {p q : ℕ} {r s : Region} {w : World} → p ≡ q → r ≡ s → Lives q s w → Lives p r w
+lives_as {p} {q} {r} {s} {w} number same is = subst (λ (k : ℕ). Lives k r w) (sym number) (subst (λ (x : Region). Lives q x w) (sym same) is)
+
+pub turn_as : {p q x : ℕ} {r s : Region} {w : World} → p ≡ q → r ≡ s → OnTurn q s x w → OnTurn p r x w
+turn_as {p} {q} {x} {r} {s} {w} number same is = subst (λ (k : ℕ). OnTurn k r x w) (sym number) (subst (λ (y : Region). OnTurn q y x w) (sym same) is)
+
+-- a table all of whose blocks were written
+pub flat_filled : {p : ℕ} {r : Region} {w : World} (order : Order) (pack : ℕ) (flat : Flat) → p ≡ flat.region → r ≡ table_region order pack flat.schema flat.capacity → Lives p r w → OnTurn p r 0 w
+    → ((x : ℕ) → x < r.blocks → Written p x w) → IsFlat pack flat w
+flat_filled {p} {r} {w} order pack flat number same lives turn written = record {
+  made = record { order = order; lives = lives_as (sym number) (sym same) lives; turn = turn_as (sym number) (sym same) turn };
+  written = λ x below. subst (λ (q : ℕ). Written q x w) number (written x (subst (λ (k : ℕ). x < k) (sym (ap (λ (y : Region). y.blocks) same)) below));
+}
+
+-- a table, by its parts
+pub flat_is : {s z : Columns} {n m q r : ℕ} → s ≡ z → n ≡ m → q ≡ r → ◌≡◌ {A = Flat} (record { schema = s; capacity = n; region = q }) (record { schema = z; capacity = m; region = r })
+flat_is schema capacity region = cc

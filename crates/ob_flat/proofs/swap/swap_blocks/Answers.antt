@@ -1,11 +1,11 @@
-use Rattle.std.proofs.Common.{refl, ◌≡◌, ◌+◌, ◌*◌, ◌<◌, ◌≤◌, ◌==◌, if◌then◌else◌, ℕ, inl, inr, length, take, count_by, ◌∙◌, ap, arith, below_more}
-use Rattle.std.proofs.lemmas.Result.{err_from_is_err_and}
+use Rattle.std.proofs.Common.{refl, ◌≡◌, ◌+◌, ◌*◌, ◌<◌, ◌≤◌, ◌==◌, if◌then◌else◌, ℕ, inl, inr, length, take, count_by, ◌∙◌, ap, sym, subst, arith, below_more}
+use Rattle.std.proofs.lemmas.Result.{err_from_is_err_and, IfOk-from_err}
 use Rattle.ob_base.specs.Accesses.{read_at, write_at}
 use Rattle.ob_base.specs.Numbers.{blocks_for}
 use Rattle.ob_base.specs.Schemas.{width}
 use Rattle.ob_script.specs.Parts.{copy_at}
 use Rattle.ob_vault.specs.Calls.{none, one}
-use Rattle.ob_vault.proofs.Runs.{went_length, went_wider, went_each, went_join, lives_went, lives_only, written_went, written_only, holds_went, holds_only, holds_rows, none_went, tells_went, fit_same, fit_trans, may_get, may_put, seals_join, next_turn}
+use Rattle.ob_vault.proofs.Runs.{went_length, went_wider, went_each, went_join, lives_went, lives_only, written_went, written_only, holds_went, holds_only, holds_rows, none_went, tells_went, fit_same, fit_trans, may_get, may_put, seals_join, seals_none, went_none, next_turn}
 use Rattle.ob_blocks.specs.Blocks.{block_at, map_at}
 use Rattle.ob_blocks.proofs.Blocks.{count_next, count_whole}
 use Rattle.ob_blocks.proofs.Changes.{block-map_at}
@@ -13,6 +13,8 @@ use Rattle.ob_flat.specs.Slots.{block_bytes}
 use Rattle.ob_flat.specs.Flats.{table_region, whole_blocks}
 use Rattle.ob_flat.specs.Passes.{pass_error}
 use Rattle.ob_flat.proofs.Rows.{wide_fit, wide_same}
+use Rattle.ob_flat.proofs.Rooms.{same_rows}
+use Rattle.ob_flat.proofs.Loops.{below_all, at_end, nearer, pack_fits, count_fits, first_place, went_all, flat_all, no_less, none_counted, count_start}
 use Rattle.ob_flat.proofs.Runs.{pass_of, pass_each, pass_malformed, pass_more, pass_after, pass_wider}
 use Rattle.ob_flat.proofs.Tables.{accepted, joined_block, copies, index_fits, blocks_hold, represents_lasts, represents_changed, block_long, got, not_last}
 use Rattle.ob_flat.proofs.swap.swap_blocks.Goals as goal
@@ -25,8 +27,8 @@ get-requires-clause-place g c =
     let flat = c.requires.flat in
     let u = c.loop-u.u in
     let went = c.loop-u.invariant.went in
-    may_get _ u (table_region flat.made.order (length c.args.rows.now) c.args.flat.now.schema c.args.flat.now.capacity) _ _ (lives_went _ _ _ _ _ _ went c.requires.apart flat.made.lives) (omega (arith, c.div_ceil-blocks.ensures))
-    (fit_same _ _ _ c.loop-u.invariant.same c.requires.fit) (written_went _ _ _ _ _ u went c.requires.apart (flat.written u (omega (arith, c.div_ceil-blocks.ensures))))
+    may_get _ u (table_region flat.made.order (length c.args.rows.now) c.args.flat.now.schema c.args.flat.now.capacity) _ _ (lives_went _ _ _ _ _ _ went c.requires.apart flat.made.lives) (below_all c.loop-u-test.true c.div_ceil-blocks.ensures)
+    (fit_same _ _ _ c.loop-u.invariant.same c.requires.fit) (written_went _ _ _ _ _ u went c.requires.apart (flat.written u (below_all c.loop-u-test.true c.div_ceil-blocks.ensures)))
 
 pub returns-in_err-get-clause-rows : goal.returns-in_err-get-clause-rows
 returns-in_err-get-clause-rows g c = fit_trans _ _ _ c.loop-u.invariant.same c.get.ensures.rows
@@ -37,7 +39,7 @@ returns-in_err-get-clause-err g c =
     let q = c.args.flat.now.region in
     let to = c.args.to in
     let u = c.loop-u.u in
-    rw (p.1, p.2) (pass_each (one to) (copy_at q to) _ _ _ _ (blocks_for (length c.args.rows.now) c.args.flat.now.capacity) u (omega (arith, c.div_ceil-blocks.ensures)) c.loop-u.invariant.went
+    rw (p.1, p.2) (pass_each (one to) (copy_at q to) _ _ _ _ (blocks_for (length c.args.rows.now) c.args.flat.now.capacity) u (below_all c.loop-u-test.true c.div_ceil-blocks.ensures) c.loop-u.invariant.went
     (pass_more (one to) _ _ _ (read_at q u) (write_at to u) (pass_wider none _ _ (one to) (λ q s. absurd s) _ _ (pass_of _ _ _ _ _ c.in_err-get.ensures.err))))
 
 pub returns-in_err-get-clause-never : goal.returns-in_err-get-clause-never
@@ -45,7 +47,7 @@ returns-in_err-get-clause-never g c =
     let p = err_from_is_err_and c.from_residual.result c.from_residual.ensures.1 in
     rw (p.1, p.2) (elim c.in_err-get.ensures.never [
       | inl e ↦ inl (ap pass_error e)
-      | inr e ↦ inr (c.loop-u.u, omega (arith, c.div_ceil-blocks.ensures), ap pass_error e)
+      | inr e ↦ inr (c.loop-u.u, below_all c.loop-u-test.true c.div_ceil-blocks.ensures, ap pass_error e)
     ])
 
 pub returns-in_err-get-clause-seals : goal.returns-in_err-get-clause-seals
@@ -57,14 +59,14 @@ returns-in_err-get-clause-told g c = λ tells slots is nolie.
     let pack = length c.args.rows.now in
     let flat = c.args.flat.now in
     let u = c.loop-u.u in
-    let below : u < blocks_for pack flat.capacity = omega (arith, c.div_ceil-blocks.ensures) in
+    let below : u < blocks_for pack flat.capacity = below_all c.loop-u-test.true c.div_ceil-blocks.ensures in
     let went = c.loop-u.invariant.went in
     let now = represents_lasts pack flat (one c.args.to) _ _ went.lasts c.requires.apart slots is in
     let shape = table_region c.requires.flat.made.order pack flat.schema flat.capacity in
     rw (p.1, p.2) (ap pass_error (c.in_err-get.ensures.told _ shape (lives_went _ _ _ _ _ _ went c.requires.apart c.requires.flat.made.lives) (block_long pack flat slots _ is c.requires.pack.0 u below) (now.holds u below) nolie))
 
 pub overflow_mul-u : goal.overflow_mul-u
-overflow_mul-u g c = omega (arith, index_fits (length c.args.rows.now) c.args.flat.now.capacity c.loop-u.u c.requires.pack.0 c.requires.pack.1 c.requires.size.most (omega (arith, c.div_ceil-blocks.ensures)))
+overflow_mul-u g c = omega (arith, index_fits (length c.args.rows.now) c.args.flat.now.capacity c.loop-u.u c.requires.pack.0 c.requires.pack.1 c.requires.size.most (below_all c.loop-u-test.true c.div_ceil-blocks.ensures))
 
 pub change_rows-requires-clause-wide : goal.change_rows-requires-clause-wide
 change_rows-requires-clause-wide g c =
@@ -73,7 +75,7 @@ change_rows-requires-clause-wide g c =
 pub change_rows-requires-clause-index : goal.change_rows-requires-clause-index
 change_rows-requires-clause-index g c =
     let same = fit_trans _ _ _ c.loop-u.invariant.same c.get.ensures.rows in
-    omega (arith, same.count, index_fits (length c.args.rows.now) c.args.flat.now.capacity c.loop-u.u c.requires.pack.0 c.requires.pack.1 c.requires.size.most (omega (arith, c.div_ceil-blocks.ensures)))
+    omega (arith, same.count, index_fits (length c.args.rows.now) c.args.flat.now.capacity c.loop-u.u c.requires.pack.0 c.requires.pack.1 c.requires.size.most (below_all c.loop-u-test.true c.div_ceil-blocks.ensures))
 
 pub returns-in-Err-clause-rows : goal.returns-in-Err-clause-rows
 returns-in-Err-clause-rows g c = fit_trans _ _ _ c.loop-u.invariant.same (fit_trans _ _ _ c.get.ensures.rows c.change_rows.ensures.rows)
@@ -83,7 +85,7 @@ returns-in-Err-clause-err g c =
     let q = c.args.flat.now.region in
     let to = c.args.to in
     let u = c.loop-u.u in
-    pass_each (one to) (copy_at q to) _ _ _ _ (blocks_for (length c.args.rows.now) c.args.flat.now.capacity) u (omega (arith, c.div_ceil-blocks.ensures)) c.loop-u.invariant.went
+    pass_each (one to) (copy_at q to) _ _ _ _ (blocks_for (length c.args.rows.now) c.args.flat.now.capacity) u (below_all c.loop-u-test.true c.div_ceil-blocks.ensures) c.loop-u.invariant.went
     (pass_more (one to) _ _ _ (read_at q u) (write_at to u) (pass_wider none _ _ (one to) (λ q s. absurd s) _ _ (pass_malformed none _ _ q u (read_at q u) c.in_ok-get.ensures.ok)))
 
 pub returns-in-Err-clause-seals : goal.returns-in-Err-clause-seals
@@ -94,7 +96,7 @@ returns-in-Err-clause-told g c = λ tells slots is nolie.
     let pack = length c.args.rows.now in
     let flat = c.args.flat.now in
     let u = c.loop-u.u in
-    let below : u < blocks_for pack flat.capacity = omega (arith, c.div_ceil-blocks.ensures) in
+    let below : u < blocks_for pack flat.capacity = below_all c.loop-u-test.true c.div_ceil-blocks.ensures in
     let went = c.loop-u.invariant.went in
     let now = represents_lasts pack flat (one c.args.to) _ _ went.lasts c.requires.apart slots is in
     let shape = table_region c.requires.flat.made.order pack flat.schema flat.capacity in
@@ -115,10 +117,10 @@ put-requires-clause-place g c =
     let u = c.loop-u.u in
     let blocks = blocks_for (length c.args.rows.now) c.args.flat.now.capacity in
     let shape = table_region c.loop-u.invariant.order (length c.args.rows.now) c.args.flat.now.schema c.args.flat.now.capacity in
-    let here : (if u == blocks then 0 else u) ≡ u = not_last u blocks (omega (arith, c.div_ceil-blocks.ensures)) in
+    let here : (if u == blocks then 0 else u) ≡ u = not_last u blocks (below_all c.loop-u-test.true c.div_ceil-blocks.ensures) in
     let turned = c.get.ensures.turns c.args.to (if u == blocks then 0 else u) shape c.loop-u.invariant.turn in
     let same = fit_trans _ _ _ c.loop-u.invariant.same (fit_trans _ _ _ c.get.ensures.rows c.change_rows.ensures.rows) in
-    may_put _ u shape _ _ (lives_went _ _ _ _ c.args.to shape c.in_ok-get.ensures.ok (λ s. s) c.loop-u.invariant.lives) (omega (arith, c.div_ceil-blocks.ensures))
+    may_put _ u shape _ _ (lives_went _ _ _ _ c.args.to shape c.in_ok-get.ensures.ok (λ s. s) c.loop-u.invariant.lives) (below_all c.loop-u-test.true c.div_ceil-blocks.ensures)
     (fit_same _ _ _ same c.requires.fit) (rw here at turned)
 
 pub returns-in_err-put-clause-rows : goal.returns-in_err-put-clause-rows
@@ -130,7 +132,7 @@ returns-in_err-put-clause-err g c =
     let q = c.args.flat.now.region in
     let to = c.args.to in
     let u = c.loop-u.u in
-    rw (p.1, p.2) (pass_each (one to) (copy_at q to) _ _ _ _ (blocks_for (length c.args.rows.now) c.args.flat.now.capacity) u (omega (arith, c.div_ceil-blocks.ensures)) c.loop-u.invariant.went
+    rw (p.1, p.2) (pass_each (one to) (copy_at q to) _ _ _ _ (blocks_for (length c.args.rows.now) c.args.flat.now.capacity) u (below_all c.loop-u-test.true c.div_ceil-blocks.ensures) c.loop-u.invariant.went
     (pass_after (one to) _ _ _ _ (read_at q u) (write_at to u) (went_wider none _ _ (one to) (λ q s. absurd s) _ c.in_ok-get.ensures.ok) (pass_of _ _ _ _ _ c.in_err-put.ensures.err)))
 
 pub returns-in_err-put-clause-seals : goal.returns-in_err-put-clause-seals
@@ -153,7 +155,7 @@ loop-u-preserved g c =
     let to = c.args.to in
     let u = c.loop-u.u in
     let blocks = blocks_for pack flat.capacity in
-    let below : u < blocks = omega (arith, c.div_ceil-blocks.ensures) in
+    let below : u < blocks = below_all c.loop-u-test.true c.div_ceil-blocks.ensures in
     let shape = table_region c.loop-u.invariant.order pack flat.schema flat.capacity in
     let before = c.loop-u.invariant in
     let read = c.in_ok-get.ensures.ok in
@@ -203,14 +205,97 @@ returns-clause-told g c = λ tells slots is nolie.
     let pack = length c.args.rows.now in
     let flat = c.args.flat.now in
     let blocks = blocks_for pack flat.capacity in
-    let last : c.loop-u.u ≡ blocks = omega (arith, c.div_ceil-blocks.ensures) in
+    let last : c.loop-u.u ≡ blocks = at_end c.loop-u.auto.u-end c.loop-u-test.false c.div_ceil-blocks.ensures in
     let picks = g.C.Change.picks c.args.change.now in
     let f = g.C.Change.to c.args.change.now in
     let was = c.loop-u.invariant.told tells slots is nolie in (
       was.0 ∙ ap (λ (n : ℕ). count_by picks (take (n * pack) (whole_blocks pack flat.capacity slots))) last
           ∙ count_whole picks blocks pack slots (g.met.C.Change.none c.args.change.now) (omega (arith, is.size, blocks_hold pack flat.capacity c.requires.pack.0)),
-      represents_changed pack flat c.args.to f slots _ _ c.requires.pack.0 is c.requires.past (λ i slot fits. g.met.C.Change.keeps c.args.change.now flat.schema i slot c.requires.suits fits) (λ p below. was.1 p (omega (arith, last, below))),
+      represents_changed pack flat c.args.to f slots _ _ c.requires.pack.0 is c.requires.past (λ i slot fits. g.met.C.Change.keeps c.args.change.now flat.schema i slot c.requires.suits fits) (λ p below. was.1 p (below_all below (sym last))),
     )
 
 pub returns-in-Err-clause-never : goal.returns-in-Err-clause-never
-returns-in-Err-clause-never g c = inr (c.loop-u.u, omega (arith, c.div_ceil-blocks.ensures), refl)
+returns-in-Err-clause-never g c = inr (c.loop-u.u, below_all c.loop-u-test.true c.div_ceil-blocks.ensures, refl)
+
+pub overflow_cast-pack : goal.overflow_cast-pack
+overflow_cast-pack g c = pack_fits (length c.args.rows.now) c.requires.pack.1
+
+pub div_ceil-blocks-requires : goal.div_ceil-blocks-requires
+div_ceil-blocks-requires g c = c.requires.pack.0
+
+pub loop-u-init : goal.loop-u-init
+loop-u-init g c = record {
+  went = went_none (one c.args.to) _ c.requires.ready;
+  seals = λ good fine. seals_none good _;
+  order = c.requires.made.order;
+  lives = c.requires.made.lives;
+  turn = rw (first_place (blocks_for (length c.args.rows.now) c.args.flat.now.capacity)) c.requires.made.turn;
+  written = λ p below. absurd (no_less p below);
+  same = same_rows c.args.rows.now;
+  few = none_counted (length c.args.rows.now);
+  told = λ tells slots is nolie. (count_start (g.C.Change.picks c.args.change.now) (whole_blocks (length c.args.rows.now) c.args.flat.now.capacity slots) (length c.args.rows.now), λ p below. absurd (no_less p below));
+}
+
+pub get-requires-clause-ready : goal.get-requires-clause-ready
+get-requires-clause-ready g c = c.loop-u.invariant.went.lasts.ready
+
+pub returns-in_err-get-clause-ok : goal.returns-in_err-get-clause-ok
+returns-in_err-get-clause-ok g c = IfOk-from_err c.from_residual.result _ c.from_residual.ensures.0
+
+pub returns-in_err-get-clause-flat : goal.returns-in_err-get-clause-flat
+returns-in_err-get-clause-flat g c = IfOk-from_err c.from_residual.result _ c.from_residual.ensures.0
+
+pub returns-in_err-get-clause-most : goal.returns-in_err-get-clause-most
+returns-in_err-get-clause-most g c = IfOk-from_err c.from_residual.result _ c.from_residual.ensures.0
+
+pub change_rows-requires-clause-suits : goal.change_rows-requires-clause-suits
+change_rows-requires-clause-suits g c = c.requires.suits
+
+pub overflow_add-k : goal.overflow_add-k
+overflow_add-k g c =
+    let same = fit_trans _ _ _ c.loop-u.invariant.same c.get.ensures.rows in
+    count_fits c.loop-u.k c.in-Ok.picked (length c.get.new.rows) (length c.args.rows.now) c.loop-u.u c.loop-u.invariant.few c.in-Ok.ensures.most same.count
+    (index_fits (length c.args.rows.now) c.args.flat.now.capacity c.loop-u.u c.requires.pack.0 c.requires.pack.1 c.requires.size.most (below_all c.loop-u-test.true c.div_ceil-blocks.ensures))
+
+pub put-requires-clause-ready : goal.put-requires-clause-ready
+put-requires-clause-ready g c = c.in_ok-get.ensures.ok.lasts.ready
+
+pub returns-in_err-put-clause-ok : goal.returns-in_err-put-clause-ok
+returns-in_err-put-clause-ok g c = IfOk-from_err c.from_residual-in_err-put.result _ c.from_residual-in_err-put.ensures.0
+
+pub returns-in_err-put-clause-never : goal.returns-in_err-put-clause-never
+returns-in_err-put-clause-never g c =
+    let p = err_from_is_err_and c.from_residual-in_err-put.result c.from_residual-in_err-put.ensures.1 in
+    rw (p.1, p.2) (inl (ap pass_error c.in_err-put.ensures.never))
+
+pub returns-in_err-put-clause-flat : goal.returns-in_err-put-clause-flat
+returns-in_err-put-clause-flat g c = IfOk-from_err c.from_residual-in_err-put.result _ c.from_residual-in_err-put.ensures.0
+
+pub returns-in_err-put-clause-most : goal.returns-in_err-put-clause-most
+returns-in_err-put-clause-most g c = IfOk-from_err c.from_residual-in_err-put.result _ c.from_residual-in_err-put.ensures.0
+
+pub returns-in_err-put-clause-told : goal.returns-in_err-put-clause-told
+returns-in_err-put-clause-told g c = λ tells slots is nolie.
+    let p = err_from_is_err_and c.from_residual-in_err-put.result c.from_residual-in_err-put.ensures.1 in
+    rw (p.1, p.2) (ap pass_error c.in_err-put.ensures.never)
+
+pub loop-u-smaller : goal.loop-u-smaller
+loop-u-smaller g c = nearer c.loop-u.u c.div_ceil-blocks.result c.loop-u-test.true
+
+pub returns-clause-rows : goal.returns-clause-rows
+returns-clause-rows g c = c.loop-u.invariant.same
+
+pub returns-clause-ok : goal.returns-clause-ok
+returns-clause-ok g c = went_all (copy_at c.args.flat.now.region c.args.to) (at_end c.loop-u.auto.u-end c.loop-u-test.false c.div_ceil-blocks.ensures) c.loop-u.invariant.went
+
+pub returns-clause-seals : goal.returns-clause-seals
+returns-clause-seals g c = c.loop-u.invariant.seals
+
+pub returns-clause-flat : goal.returns-clause-flat
+returns-clause-flat g c =
+    flat_all (length c.args.rows.now) c.loop-u.u c.loop-u.invariant.order (record c.args.flat.now { region = c.args.to }) _
+    (at_end c.loop-u.auto.u-end c.loop-u-test.false c.div_ceil-blocks.ensures) c.loop-u.invariant.lives c.loop-u.invariant.turn c.loop-u.invariant.written
+
+pub returns-clause-most : goal.returns-clause-most
+returns-clause-most g c =
+    subst (λ (n : ℕ). c.loop-u.k ≤ n * length c.args.rows.now) (at_end c.loop-u.auto.u-end c.loop-u-test.false c.div_ceil-blocks.ensures) c.loop-u.invariant.few
