@@ -1,5 +1,5 @@
 -- The first empty slot, and a row with the key.
-use Rattle.std.proofs.Common.{◌≡◌, ◌≢◌, ◌≤◌, ◌<◌, ◌+◌, ◌-◌, ◌==◌, ◌&&◌, ◌||◌, ℕ, suc, Bool, true, false, not, nat_lt, List, [], ◌∷◌, Option, Some, None, is_some, length, if◌then◌else◌, refl, sym, ◌∙◌, ap, arith}
+use Rattle.std.proofs.Common.{◌≡◌, ◌≢◌, ◌≤◌, ◌<◌, ◌+◌, ◌-◌, ◌==◌, ◌&&◌, ◌||◌, ℕ, suc, Bool, true, false, not, nat_lt, List, [], ◌∷◌, Option, Some, None, IfSome, is_some, length, if◌then◌else◌, refl, sym, ◌∙◌, ap, arith}
 use Rattle.std.proofs.lemmas.Bool.Decides.{nat_tests}
 use Rattle.std.specs.List.{list_any}
 use Rattle.ob_base.specs.Schemas.{Columns, key_place}
@@ -36,10 +36,6 @@ record IsFound (key : Option ℕ) (row : Row) (i : ℕ) (slots : Slots) (old new
 or_false : (b : Bool) → (b || false) ≡ b
 or_false true = refl
 or_false false = refl
-
-free_seen : (o later : Option ℕ) (i : ℕ) (f : Finds) → f.free ≡ o → (if true && not (is_some o) then record f { free = Some i } else f).free ≡ first_of o (Some i)
-free_seen None later i f is = refl
-free_seen (Some j) later i f is = is
 
 seen : (key : Option ℕ) (row : Row) (n i : ℕ) (f : Finds) (slots : Slots) → i + length slots ≤ n → IsFound key row i slots f (scanned (found key row n) i f slots)
 seen key row n i f [] fits = record { free = go f.free refl; duplicate = sym (or_false f.duplicate) }
@@ -188,6 +184,14 @@ answered columns row slots f is = go (has_key (key_place columns) row (rows slot
           answer = ap (λ (b : Bool). if b then Duplicate else (if is_some f.free then Done else Full)) dup ∙ ap (λ (o : Option ℕ). if is_some o then Done else Full) some ∙ sym ans;
           after = ap (λ (b : Bool). map_at (put_at (if b then None else f.free) row) 0 slots) dup ∙ ap (λ (o : Option ℕ). map_at (put_at o row) 0 slots) some ∙ put_first 0 target row slots free ∙ sym (ap (λ (a : Inserted). slots_after a row slots) ans);
         }
+
+-- no row is put past the capacity
+pub past_target : (t : Option ℕ) (duplicate : Bool) (free : Option ℕ) (row : Row) (capacity : ℕ) → t ≡ (if duplicate then None else free) → IfSome free (λ slot. slot < capacity)
+    → (i : ℕ) → capacity ≤ i → put_at t row i None ≡ None
+past_target t true free row capacity is within i past = ap (λ (o : Option ℕ). put_at o row i None) is
+past_target t false None row capacity is within i past = ap (λ (o : Option ℕ). put_at o row i None) is
+past_target t false (Some slot) row capacity is within i past =
+    ap (λ (o : Option ℕ). put_at o row i None) is ∙ ap (λ (b : Bool). if b then Some row else None) (eq_other i slot (λ same. absurd (omega (arith, same, within, past))))
 
 -- what a visitor keeps beside its finds
 pub finds_of : {S : Type 0} (view : S → Finds) (same : S → S → Type 0) (f : S → ℕ → Option Row → S) (key : Option ℕ) (row : Row) (n i : ℕ) (s : S) (slots : Slots)

@@ -7,13 +7,16 @@ use Rattle.ob_base.specs.Schemas.{width}
 use Rattle.ob_script.specs.Parts.{count_part, copy_part, insert_part}
 use Rattle.ob_vault.specs.Calls.{Went, one, two}
 use Rattle.ob_vault.specs.Places.{at}
-use Rattle.ob_vault.proofs.Runs.{went_join, went_wider, none_went, tells_went, lives_apart, lives_went, shape_lasts, seals_join, lasts_trans}
+use Rattle.ob_vault.proofs.Runs.{went_length, went_join, went_wider, none_went, tells_went, lives_apart, lives_went, shape_lasts, seals_join, lasts_trans}
 use Rattle.ob_vault.specs.declared.region.Order.TheVariants.{Round}
 use Rattle.ob_flat.specs.Flats.{IsFlat, Accepts, table_region}
 use Rattle.ob_flat.specs.Passes.{PassCut}
 use Rattle.ob_flat.proofs.Runs.{pass_more, pass_after, pass_then}
-use Rattle.ob_flat.proofs.Tables.{reads, copies, flat_lasts, represents_lasts}
+use Rattle.ob_flat.proofs.Loops.{few_first}
+use Rattle.ob_flat.proofs.Rooms.{same_rows}
+use Rattle.ob_flat.proofs.Tables.{reads, copies, fits_sized, flat_lasts, represents_lasts}
 use Rattle.ob_mutate.specs.Inserting.{slots_after}
+use Rattle.ob_mutate.proofs.Fresh.{room_one, room_after, few_after, never_made, never_cut, not_memory}
 use Rattle.ob_mutate.proofs.inserting.insert_rows.Goals as goal
 
 -- the four parts of the pass
@@ -143,3 +146,137 @@ returns-in-Err-clause-told g c = λ tells slots is nolie.
     let lasts = lasts_trans (one next) _ _ _ made.lasts (lasts_trans (one next) _ _ _ cut.lasts forgot.lasts) in
     let mid = represents_lasts pack c.args.flat.now (one next) _ _ made.lasts off slots is in
     (inl (c.in-Err.ensures.told (tells_went _ _ _ _ made tells) slots mid nolie), represents_lasts pack c.args.flat.now (one next) _ _ lasts off slots is)
+
+pub make_table-requires-clause-ready : goal.make_table-requires-clause-ready
+make_table-requires-clause-ready g c = c.requires.ready
+
+pub make_table-requires-clause-spare : goal.make_table-requires-clause-spare
+make_table-requires-clause-spare g c = room_one (3 * blocks_for (length c.args.rows.now) c.args.flat.now.capacity) _ c.requires.spare
+
+pub make_table-requires-clause-few : goal.make_table-requires-clause-few
+make_table-requires-clause-few g c = few_first c.requires.few
+
+pub make_table-requires-clause-size : goal.make_table-requires-clause-size
+make_table-requires-clause-size g c = fits_sized (length c.args.rows.now) c.args.flat.now.schema c.args.flat.now.capacity c.requires.pack.0 c.requires.size
+
+pub make_table-requires-clause-pack : goal.make_table-requires-clause-pack
+make_table-requires-clause-pack g c = c.requires.pack
+
+pub insert_blocks-requires-clause-ready : goal.insert_blocks-requires-clause-ready
+insert_blocks-requires-clause-ready g c = c.in_ok-fresh.ensures.ok.lasts.ready
+
+pub insert_blocks-requires-clause-spare : goal.insert_blocks-requires-clause-spare
+insert_blocks-requires-clause-spare g c = room_after (3 * blocks_for (length c.args.rows.now) c.args.flat.now.capacity) _ _ c.requires.spare c.in_ok-fresh.ensures.ok.spare
+
+pub insert_blocks-requires-clause-few : goal.insert_blocks-requires-clause-few
+insert_blocks-requires-clause-few g c = few_after 3 (length c.args.rows.now) c.args.flat.now.capacity _ _ (omega arith) c.requires.pack.0 c.requires.size.most c.requires.few (went_length _ _ _ _ c.in_ok-fresh.ensures.ok)
+
+pub insert_blocks-requires-clause-made : goal.insert_blocks-requires-clause-made
+insert_blocks-requires-clause-made g c = rw c.in_ok-fresh.ensures.number c.in_ok-fresh.ensures.made
+
+pub insert_blocks-requires-clause-apart : goal.insert_blocks-requires-clause-apart
+insert_blocks-requires-clause-apart g c = λ same. lives_apart _ _ _ c.requires.ready c.requires.flat.made.lives (same ∙ c.in_ok-fresh.ensures.number)
+
+pub insert_blocks-requires-clause-size : goal.insert_blocks-requires-clause-size
+insert_blocks-requires-clause-size g c = c.requires.size
+
+pub insert_blocks-requires-clause-pack : goal.insert_blocks-requires-clause-pack
+insert_blocks-requires-clause-pack g c = c.requires.pack
+
+pub insert_blocks-requires-clause-fit : goal.insert_blocks-requires-clause-fit
+insert_blocks-requires-clause-fit g c = c.requires.fit
+
+pub insert_blocks-requires-clause-cells : goal.insert_blocks-requires-clause-cells
+insert_blocks-requires-clause-cells g c = c.requires.cells
+
+pub move_table-requires-clause-ready : goal.move_table-requires-clause-ready
+move_table-requires-clause-ready g c = c.in-Ok.ensures.ok.lasts.ready
+
+pub move_table-requires-clause-lives : goal.move_table-requires-clause-lives
+move_table-requires-clause-lives g c =
+    let off = lives_apart _ _ _ c.requires.ready c.requires.flat.made.lives in
+    (_, lives_went _ _ _ _ _ _ c.in-Ok.ensures.ok (λ same. off (same ∙ c.in_ok-fresh.ensures.number)) (lives_went _ _ _ _ _ _ c.in_ok-fresh.ensures.ok off c.requires.flat.made.lives))
+
+pub returns-in-Err-clause-ok : goal.returns-in-Err-clause-ok
+returns-in-Err-clause-ok g c = tt
+
+pub returns-in-Err-clause-moved : goal.returns-in-Err-clause-moved
+returns-in-Err-clause-moved g c = tt
+
+pub returns-in-Err-clause-lives : goal.returns-in-Err-clause-lives
+returns-in-Err-clause-lives g c = tt
+
+pub returns-in-Err-clause-same : goal.returns-in-Err-clause-same
+returns-in-Err-clause-same g c = refl
+
+pub returns-in-Err-clause-rows : goal.returns-in-Err-clause-rows
+returns-in-Err-clause-rows g c = c.insert_blocks.ensures.rows
+
+pub returns-in-Err-clause-never : goal.returns-in-Err-clause-never
+returns-in-Err-clause-never g c = never_cut c.in-Err.ensures.never
+
+pub returns-in-Err-clause-memory : goal.returns-in-Err-clause-memory
+returns-in-Err-clause-memory g c = λ same. absurd (not_memory _ _ _ _ c.in-Err.ensures.never refl same)
+
+pub returns-in-Err-clause-gone : goal.returns-in-Err-clause-gone
+returns-in-Err-clause-gone g c = rw c.in_ok-fresh.ensures.number at c.forget.ensures.gone
+
+pub returns-in-Ok-clause-err : goal.returns-in-Ok-clause-err
+returns-in-Ok-clause-err g c = tt
+
+pub returns-in-Ok-clause-never : goal.returns-in-Ok-clause-never
+returns-in-Ok-clause-never g c = tt
+
+pub returns-in-Ok-clause-same : goal.returns-in-Ok-clause-same
+returns-in-Ok-clause-same g c = tt
+
+pub returns-in-Ok-clause-rows : goal.returns-in-Ok-clause-rows
+returns-in-Ok-clause-rows g c = c.insert_blocks.ensures.rows
+
+pub returns-in-Ok-clause-memory : goal.returns-in-Ok-clause-memory
+returns-in-Ok-clause-memory g c = λ same. absurd cc
+
+pub returns-in-Ok-clause-gone : goal.returns-in-Ok-clause-gone
+returns-in-Ok-clause-gone g c = c.move_table.ensures.gone
+
+pub returns-in-Ok-clause-moved : goal.returns-in-Ok-clause-moved
+returns-in-Ok-clause-moved g c = rw c.in_ok-fresh.ensures.number at c.move_table.ensures.flat
+
+pub returns-in_err-fresh-clause-ok : goal.returns-in_err-fresh-clause-ok
+returns-in_err-fresh-clause-ok g c =
+    let p = err_from_is_err_and c.from_residual.result c.from_residual.ensures.1 in
+    rw p.1 tt
+
+pub returns-in_err-fresh-clause-moved : goal.returns-in_err-fresh-clause-moved
+returns-in_err-fresh-clause-moved g c =
+    let p = err_from_is_err_and c.from_residual.result c.from_residual.ensures.1 in
+    rw p.1 tt
+
+pub returns-in_err-fresh-clause-lives : goal.returns-in_err-fresh-clause-lives
+returns-in_err-fresh-clause-lives g c =
+    let p = err_from_is_err_and c.from_residual.result c.from_residual.ensures.1 in
+    rw p.1 tt
+
+pub returns-in_err-fresh-clause-same : goal.returns-in_err-fresh-clause-same
+returns-in_err-fresh-clause-same g c =
+    let p = err_from_is_err_and c.from_residual.result c.from_residual.ensures.1 in
+    rw p.1 refl
+
+pub returns-in_err-fresh-clause-rows : goal.returns-in_err-fresh-clause-rows
+returns-in_err-fresh-clause-rows g c = same_rows c.args.rows.now
+
+pub returns-in_err-fresh-clause-never : goal.returns-in_err-fresh-clause-never
+returns-in_err-fresh-clause-never g c =
+    let p = err_from_is_err_and c.from_residual.result c.from_residual.ensures.1 in
+    rw (p.1, p.2) (never_made c.in_err-fresh.ensures.never)
+
+pub returns-in_err-fresh-clause-memory : goal.returns-in_err-fresh-clause-memory
+returns-in_err-fresh-clause-memory g c = λ same. c.in_err-fresh.ensures.err.began
+
+pub returns-in_err-fresh-clause-gone : goal.returns-in_err-fresh-clause-gone
+returns-in_err-fresh-clause-gone g c =
+    let p = err_from_is_err_and c.from_residual.result c.from_residual.ensures.1 in
+    rw p.1 c.in_err-fresh.ensures.gone
+
+pub returns-in_err-fresh-clause-seals : goal.returns-in_err-fresh-clause-seals
+returns-in_err-fresh-clause-seals g c = λ good fine. c.make_table.ensures.seals good
