@@ -1,13 +1,18 @@
 -- Passes that halt where the emitter did.
-use Rattle.std.proofs.Common.{◌≡◌, ◌⊎◌, ◌<◌, inl, inr, [], List, ℕ, Result, Ok, Err, MatchResult, IfErr, refl, ◌∙◌, subst}
+use Rattle.std.proofs.Common.{◌≡◌, ◌⊎◌, ◌<◌, ◌++◌, inl, inr, [], List, ℕ, Result, Ok, Err, MatchResult, IfErr, refl, sym, ◌∙◌, subst, append_assoc}
 use Rattle.std.proofs.lemmas.List.{append-nil}
 use Rattle.ob_base.specs.declared.access.Access.{Access}
 use Rattle.ob_base.specs.declared.emit.EmitErr.TheVariants as EmitErrs
+use Rattle.ob_base.specs.declared.shown.Shown.{Shown}
 use Rattle.ob_base.specs.Counts.{Rises}
+use Rattle.ob_base.specs.Events.{Event, row_events, Leads, IsEmitted}
 use Rattle.ob_vault.specs.State.{World}
+use Rattle.ob_vault.specs.Tied.{Ready}
 use Rattle.ob_vault.specs.Calls.{Went}
+use Rattle.ob_vault.proofs.Runs.{went_none}
+use Rattle.ob_flat.specs.declared.fault.OpErr.{OpErr}
 use Rattle.ob_flat.specs.declared.fault.OpErr.TheVariants.{Failed, Tampered, Sink, NoMemory}
-use Rattle.ob_flat.specs.Passes.{PassCut, SinkCause}
+use Rattle.ob_flat.specs.Passes.{PassCause, PassCut, SinkCause}
 use Rattle.ob_flat.proofs.Runs.{pass_malformed}
 use Rattle.ob_emit.specs.declared.slots.Halt.{Halt}
 use Rattle.ob_emit.specs.declared.slots.Halt.TheVariants as Halts
@@ -42,3 +47,17 @@ halt_told (Halts.Emit EmitErrs.NoMemory) q p well = inr (inr refl)
 pub if_err : {T E : Type 0} (P : T → Type 0) (F : E → Type 0) (r : Result T E) → MatchResult r P F → IfErr r F
 if_err P F (Ok x) is = tt
 if_err P F (Err e) is = is
+
+-- nothing was asked
+pub cut_none : (e : OpErr) (some : ℕ → Type 0) (x : List Access) (w : World) → Ready w → PassCause e w w → PassCut e x some w w
+cut_none e some x w ready cause = record { lasts = (went_none some w ready).lasts; began = record { done = []; rest = x; split = refl; asked = sym (append-nil w.store.asked) }; cause = cause }
+
+-- a header was emitted, and then rows
+pub emitted_under : {E Source : Type 0} (grew : E → E → List Event → Type 0) (head : List Event) (shown : Source → List (List Shown)) (k n : ℕ) (a b c : E)
+    → Leads grew grew a b head → IsEmitted grew [] shown 0 k b c → n ≡ k → IsEmitted grew head shown 0 n a c
+emitted_under grew head shown k n a b c first second same = record {
+  rows = second.rows;
+  count = same ∙ second.count;
+  leads = λ s events is. subst (grew s c) (append_assoc events head (row_events second.rows)) (second.leads s (events ++ head) (first s events is));
+  told = second.told;
+}

@@ -1,4 +1,5 @@
-use Rattle.std.proofs.Common.{refl, ◌≡◌, ◌+◌, ◌*◌, ◌<◌, ◌≤◌, ℕ, inl, inr, [], ◌++◌, List, length, take, rules, ◌∙◌, ap, arith}
+use Rattle.std.proofs.Common.{refl, ◌≡◌, ◌+◌, ◌*◌, ◌<◌, ◌≤◌, ℕ, inl, inr, [], ◌++◌, List, length, take, rules, ◌∙◌, ap, subst, arith}
+use borrow.Author.Count.{falls}
 use Rattle.std.proofs.lemmas.List.{take_all}
 use Rattle.std.proofs.lemmas.Result.{err_from_is_err_and}
 use Rattle.ob_base.specs.declared.shown.Shown.{Shown}
@@ -22,6 +23,10 @@ use Rattle.ob_base.specs.Events.{row_events}
 use Rattle.ob_base.proofs.EventLemmas.{emitted_none, emitted_join, halted_join, halted_after, events_more}
 use Rattle.ob_flat.proofs.Sinks.{sink_vault, none_before}
 use Rattle.ob_emit.proofs.emitting.emit_blocks.Goals as goal
+
+-- a block within the table
+inside : {u d b : ℕ} → d ≡ b → u < d → u < b
+inside {u} same below = subst (λ (n : ℕ). u < n) same below
 
 pub loop-u-init : goal.loop-u-init
 loop-u-init g c =
@@ -47,8 +52,8 @@ get-requires-clause-place g c =
     let flat = c.requires.flat in
     let u = c.loop-u.u in
     let went = c.loop-u.invariant.went in
-    may_get _ u (table_region flat.order (length c.args.rows.now) c.args.flat.now.schema c.args.flat.now.capacity) _ _ (lives_went _ _ _ _ _ _ went (λ s. s) flat.lives) (omega (arith, c.div_ceil-blocks.ensures))
-    (fit_same _ _ _ c.loop-u.invariant.same c.requires.fit) (written_went _ _ _ _ _ u went (λ s. s) (flat.written u (omega (arith, c.div_ceil-blocks.ensures))))
+    may_get _ u (table_region flat.order (length c.args.rows.now) c.args.flat.now.schema c.args.flat.now.capacity) _ _ (lives_went _ _ _ _ _ _ went (λ s. s) flat.lives) (inside c.div_ceil-blocks.ensures c.loop-u-test.true)
+    (fit_same _ _ _ c.loop-u.invariant.same c.requires.fit) (written_went _ _ _ _ _ u went (λ s. s) (flat.written u (inside c.div_ceil-blocks.ensures c.loop-u-test.true)))
 
 pub returns-in_err-get-clause-rows : goal.returns-in_err-get-clause-rows
 returns-in_err-get-clause-rows g c = fit_trans _ _ _ c.loop-u.invariant.same c.get.ensures.rows
@@ -56,14 +61,14 @@ returns-in_err-get-clause-rows g c = fit_trans _ _ _ c.loop-u.invariant.same c.g
 pub returns-in_err-get-clause-err : goal.returns-in_err-get-clause-err
 returns-in_err-get-clause-err g c =
     let p = err_from_is_err_and c.from_residual.result c.from_residual.ensures.1 in
-    rw (p.1, p.2) (pass_each none (read_at c.args.flat.now.region) _ _ _ _ (blocks_for (length c.args.rows.now) c.args.flat.now.capacity) c.loop-u.u (omega (arith, c.div_ceil-blocks.ensures)) c.loop-u.invariant.went (pass_of _ _ _ _ _ c.in_err-get.ensures.err))
+    rw (p.1, p.2) (pass_each none (read_at c.args.flat.now.region) _ _ _ _ (blocks_for (length c.args.rows.now) c.args.flat.now.capacity) c.loop-u.u (inside c.div_ceil-blocks.ensures c.loop-u-test.true) c.loop-u.invariant.went (pass_of _ _ _ _ _ c.in_err-get.ensures.err))
 
 pub returns-in_err-get-clause-never : goal.returns-in_err-get-clause-never
 returns-in_err-get-clause-never g c =
     let p = err_from_is_err_and c.from_residual.result c.from_residual.ensures.1 in
     rw (p.1, p.2) (elim c.in_err-get.ensures.never [
       | inl e ↦ inl (ap pass_error e)
-      | inr e ↦ inr (inr (inr (c.loop-u.u, omega (arith, c.div_ceil-blocks.ensures), ap pass_error e)))
+      | inr e ↦ inr (inr (inr (c.loop-u.u, inside c.div_ceil-blocks.ensures c.loop-u-test.true, ap pass_error e)))
     ])
 
 pub returns-in_err-get-clause-seals : goal.returns-in_err-get-clause-seals
@@ -94,14 +99,14 @@ returns-in_err-get-clause-told g c = λ slots is nolie.
     let pack = length c.args.rows.now in
     let flat = c.args.flat.now in
     let u = c.loop-u.u in
-    let below : u < blocks_for pack flat.capacity = omega (arith, c.div_ceil-blocks.ensures) in
+    let below : u < blocks_for pack flat.capacity = inside c.div_ceil-blocks.ensures c.loop-u-test.true in
     let went = c.loop-u.invariant.went in
     let now = represents_lasts pack flat none _ _ went.lasts (λ s. s) slots is in
     let shape = table_region c.requires.flat.order pack flat.schema flat.capacity in
     rw (p.1, p.2) (inl (ap pass_error (c.in_err-get.ensures.told _ shape (lives_went _ _ _ _ _ _ went (λ s. s) c.requires.flat.lives) (block_long pack flat slots _ is c.requires.pack.0 u below) (now.holds u below) nolie)))
 
 pub overflow_mul-u : goal.overflow_mul-u
-overflow_mul-u g c = omega (arith, index_in (length c.args.rows.now) (blocks_for (length c.args.rows.now) c.args.flat.now.capacity) c.loop-u.u c.requires.pack.1 c.requires.size.blocks (omega (arith, c.div_ceil-blocks.ensures)))
+overflow_mul-u g c = omega (arith, index_in (length c.args.rows.now) (blocks_for (length c.args.rows.now) c.args.flat.now.capacity) c.loop-u.u c.requires.pack.1 c.requires.size.blocks (inside c.div_ceil-blocks.ensures c.loop-u-test.true))
 
 pub emit_rows-requires-clause-wide : goal.emit_rows-requires-clause-wide
 emit_rows-requires-clause-wide g c =
@@ -110,7 +115,7 @@ emit_rows-requires-clause-wide g c =
 pub emit_rows-requires-clause-index : goal.emit_rows-requires-clause-index
 emit_rows-requires-clause-index g c =
     let same = fit_trans _ _ _ c.loop-u.invariant.same c.get.ensures.rows in
-    omega (arith, same.count, index_in (length c.args.rows.now) (blocks_for (length c.args.rows.now) c.args.flat.now.capacity) c.loop-u.u c.requires.pack.1 c.requires.size.blocks (omega (arith, c.div_ceil-blocks.ensures)))
+    omega (arith, same.count, index_in (length c.args.rows.now) (blocks_for (length c.args.rows.now) c.args.flat.now.capacity) c.loop-u.u c.requires.pack.1 c.requires.size.blocks (inside c.div_ceil-blocks.ensures c.loop-u-test.true))
 
 pub returns-in-Err-clause-rows : goal.returns-in-Err-clause-rows
 returns-in-Err-clause-rows g c = fit_trans _ _ _ c.loop-u.invariant.same c.get.ensures.rows
@@ -118,10 +123,10 @@ returns-in-Err-clause-rows g c = fit_trans _ _ _ c.loop-u.invariant.same c.get.e
 pub returns-in-Err-clause-err : goal.returns-in-Err-clause-err
 returns-in-Err-clause-err g c =
     let q = c.args.flat.now.region in
-    rw c.error.ensures (pass_each none (read_at q) _ _ _ _ (blocks_for (length c.args.rows.now) c.args.flat.now.capacity) c.loop-u.u (omega (arith, c.div_ceil-blocks.ensures)) c.loop-u.invariant.went (pass_halted _ _ _ q c.loop-u.u (read_at q c.loop-u.u) c.in-Err.halt c.in_ok-get.ensures.ok))
+    rw c.error.ensures (pass_each none (read_at q) _ _ _ _ (blocks_for (length c.args.rows.now) c.args.flat.now.capacity) c.loop-u.u (inside c.div_ceil-blocks.ensures c.loop-u-test.true) c.loop-u.invariant.went (pass_halted _ _ _ q c.loop-u.u (read_at q c.loop-u.u) c.in-Err.halt c.in_ok-get.ensures.ok))
 
 pub returns-in-Err-clause-never : goal.returns-in-Err-clause-never
-returns-in-Err-clause-never g c = rw c.error.ensures (halt_never c.in-Err.halt c.args.flat.now.region c.loop-u.u (blocks_for (length c.args.rows.now) c.args.flat.now.capacity) (omega (arith, c.div_ceil-blocks.ensures)))
+returns-in-Err-clause-never g c = rw c.error.ensures (halt_never c.in-Err.halt c.args.flat.now.region c.loop-u.u (blocks_for (length c.args.rows.now) c.args.flat.now.capacity) (inside c.div_ceil-blocks.ensures c.loop-u-test.true))
 
 pub returns-in-Err-clause-seals : goal.returns-in-Err-clause-seals
 returns-in-Err-clause-seals g c = λ good. seals_join good _ _ _ c.loop-u.invariant.went.lasts.later (c.loop-u.invariant.seals good) (c.get.ensures.seals good)
@@ -135,7 +140,7 @@ returns-in-Err-clause-halted g c =
     let flat = c.args.flat.now in
     let cols = c.args.cols.now in
     let u = c.loop-u.u in
-    let below : u < blocks_for pack flat.capacity = omega (arith, c.div_ceil-blocks.ensures) in
+    let below : u < blocks_for pack flat.capacity = inside c.div_ceil-blocks.ensures c.loop-u-test.true in
     let went = c.loop-u.invariant.went in
     let same = fit_trans _ _ _ c.loop-u.invariant.same c.get.ensures.rows in
     let wide = wide_same (width flat.schema) _ _ same (wide_fit (width flat.schema) c.args.rows.now c.requires.fit) in
@@ -165,7 +170,7 @@ returns-in-Err-clause-told g c = λ slots is nolie.
     let pack = length c.args.rows.now in
     let flat = c.args.flat.now in
     let u = c.loop-u.u in
-    let below : u < blocks_for pack flat.capacity = omega (arith, c.div_ceil-blocks.ensures) in
+    let below : u < blocks_for pack flat.capacity = inside c.div_ceil-blocks.ensures c.loop-u-test.true in
     let went = c.loop-u.invariant.went in
     let now = represents_lasts pack flat none _ _ went.lasts (λ s. s) slots is in
     let shape = table_region c.requires.flat.order pack flat.schema flat.capacity in
@@ -181,7 +186,7 @@ loop-u-preserved g c =
     let flat = c.args.flat.now in
     let cols = c.args.cols.now in
     let u = c.loop-u.u in
-    let below : u < blocks_for pack flat.capacity = omega (arith, c.div_ceil-blocks.ensures) in
+    let below : u < blocks_for pack flat.capacity = inside c.div_ceil-blocks.ensures c.loop-u-test.true in
     let went = c.loop-u.invariant.went in
     let same = fit_trans _ _ _ c.loop-u.invariant.same c.get.ensures.rows in
     let wide = wide_same (width flat.schema) _ _ same (wide_fit (width flat.schema) c.args.rows.now c.requires.fit) in
@@ -228,3 +233,71 @@ returns-clause-emitted g c =
           ∙ ap (slots_shown flat.capacity cols 0) (take_all (blocks * pack) whole (omega (arith, whole_size pack flat s.0 _ s.1 c.requires.pack.0)))
           ∙ shown-table flat.capacity cols (blocks * pack) s.0 s.1.size;
     }
+
+pub get-requires-clause-ready : goal.get-requires-clause-ready
+get-requires-clause-ready g c = c.loop-u.invariant.went.lasts.ready
+
+pub emit_rows-requires-clause-few : goal.emit_rows-requires-clause-few
+emit_rows-requires-clause-few g c = rw c.loop-u.invariant.cells c.requires.few
+
+pub emit_rows-requires-clause-seen : goal.emit_rows-requires-clause-seen
+emit_rows-requires-clause-seen g c = c.loop-u.invariant.most
+
+pub emit_rows-requires-clause-within : goal.emit_rows-requires-clause-within
+emit_rows-requires-clause-within g c = c.requires.within
+
+pub loop-u-smaller : goal.loop-u-smaller
+loop-u-smaller g c = falls _ _ c.loop-u-test.true
+
+pub returns-clause-err : goal.returns-clause-err
+returns-clause-err g c = tt
+
+pub returns-clause-halted : goal.returns-clause-halted
+returns-clause-halted g c = tt
+
+pub returns-clause-never : goal.returns-clause-never
+returns-clause-never g c = tt
+
+pub returns-clause-rows : goal.returns-clause-rows
+returns-clause-rows g c = c.loop-u.invariant.same
+
+pub returns-clause-seals : goal.returns-clause-seals
+returns-clause-seals g c = c.loop-u.invariant.seals
+
+pub returns-clause-most : goal.returns-clause-most
+returns-clause-most g c = c.loop-u.invariant.most.1
+
+pub returns-clause-cause : goal.returns-clause-cause
+returns-clause-cause g c = c.loop-u.invariant.faults
+
+pub returns-clause-told : goal.returns-clause-told
+returns-clause-told g c = λ slots is nolie. tt
+
+pub returns-in-Err-clause-ok : goal.returns-in-Err-clause-ok
+returns-in-Err-clause-ok g c = tt
+
+pub returns-in-Err-clause-emitted : goal.returns-in-Err-clause-emitted
+returns-in-Err-clause-emitted g c = tt
+
+pub returns-in-Err-clause-most : goal.returns-in-Err-clause-most
+returns-in-Err-clause-most g c = tt
+
+pub returns-in_err-get-clause-ok : goal.returns-in_err-get-clause-ok
+returns-in_err-get-clause-ok g c =
+    let p = err_from_is_err_and c.from_residual.result c.from_residual.ensures.1 in
+    rw p.1 tt
+
+pub returns-in_err-get-clause-emitted : goal.returns-in_err-get-clause-emitted
+returns-in_err-get-clause-emitted g c =
+    let p = err_from_is_err_and c.from_residual.result c.from_residual.ensures.1 in
+    rw p.1 tt
+
+pub returns-in_err-get-clause-most : goal.returns-in_err-get-clause-most
+returns-in_err-get-clause-most g c =
+    let p = err_from_is_err_and c.from_residual.result c.from_residual.ensures.1 in
+    rw p.1 tt
+
+pub returns-clause-ok : goal.returns-clause-ok
+returns-clause-ok g c =
+    let last : c.loop-u.u ≡ blocks_for (length c.args.rows.now) c.args.flat.now.capacity = omega (arith, c.div_ceil-blocks.ensures) in
+    rw last at c.loop-u.invariant.went
