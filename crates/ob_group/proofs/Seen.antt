@@ -1,8 +1,8 @@
 -- What a visitor that adds up rows has seen.
-use Rattle.std.proofs.Common.{◌≡◌, ℕ, ◌+◌, ◌-◌, Bool, true, false, cond, List, [], ◌∷◌, length, filter, Option, Some, None, if◌then◌else◌, refl, ◌∙◌, ap}
+use Rattle.std.proofs.Common.{◌≡◌, ℕ, ◌+◌, ◌-◌, Bool, true, false, cond, List, [], ◌∷◌, length, filter, Option, Some, None, if◌then◌else◌, refl, ◌∙◌}
 use Rattle.ob_row.specs.declared.aggregate.Agg.{Agg}
 use Rattle.ob_row.specs.Rows.{Row}
-use Rattle.ob_row.specs.Slots.{Slots, rows, is_selected}
+use Rattle.ob_row.specs.Slots.{Slots, rows}
 use Rattle.ob_row.specs.Truth.{is_true}
 use Rattle.ob_blocks.specs.Blocks.{scanned, up_to, none_of}
 use Rattle.ob_blocks.proofs.Blocks.{scanned-append, scanned-same}
@@ -36,12 +36,3 @@ after s i slot = record s { totals = record { items = seen_slot (is_true s.pred.
 pub totals_after : (s : Adding) (i : ℕ) (slots : Slots) → (scanned after i s slots).totals.items ≡ scanned (step (is_true s.pred.now) s.aggs.now) i s.totals.items slots
 totals_after s i [] = refl
 totals_after s i (slot ∷ slots) = totals_after (after s i slot) (i + 1) slots
-
--- a slot without a selected row adds nothing, and one with a selected row adds it
-pub not_seen : (p : Row → Bool) (aggs : List Agg) (ts : Sums) (slot : Option Row) → is_selected p slot ≡ false → seen_slot p aggs ts slot ≡ ts
-not_seen p aggs ts None e = refl
-not_seen p aggs ts (Some row) e = ap (λ (b : Bool). if b then grown_all aggs row ts else ts) e
-
-pub seen_one : (p : Row → Bool) (aggs : List Agg) (ts : Sums) (slot : Option Row) → is_selected p slot ≡ true → (row : Row) × (slot ≡ Some row) × (seen_slot p aggs ts slot ≡ grown_all aggs row ts)
-seen_one p aggs ts None e = absurd (cc)
-seen_one p aggs ts (Some row) e = (row, refl, ap (λ (b : Bool). if b then grown_all aggs row ts else ts) e)

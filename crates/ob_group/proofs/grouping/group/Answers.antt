@@ -1,68 +1,67 @@
-use Rattle.std.proofs.Common.{◌≡◌, ◌≤◌, ◌+◌, ◌*◌, ◌++◌, ℕ, List, None, IfOk, OnErr, filter, length, max, sym, ◌∙◌, ap, subst, arith}
+use Rattle.std.proofs.Common.{ℕ, ◌+◌, max, sym, ◌∙◌, ap}
 use Rattle.std.proofs.Math.Nat.{mul_comm}
-use Rattle.ob_base.specs.Events.{row_events, IsEmitted, IsHalted}
-use Rattle.ob_base.specs.Limits.{buffered_blocks, buffered}
+use Rattle.ob_base.specs.Limits.{buffered_blocks}
 use Rattle.ob_base.specs.Schemas.{width}
-use Rattle.ob_room.specs.RoomState.{RoomState}
-use Rattle.ob_vault.specs.Places.{at}
-use Rattle.ob_vault.specs.Rows.{SameSizes}
-use Rattle.ob_vault.proofs.RowsLemmas.{sizes_join}
-use Rattle.ob_vault.specs.Tied.{IsUnfit}
-use Rattle.ob_row.specs.Slots.{Slots, rows}
-use Rattle.ob_row.specs.Totals.{grouped}
-use Rattle.ob_row.specs.Truth.{is_true}
-use Rattle.ob_flat.specs.Flats.{Represents}
-use Rattle.ob_flat.proofs.Rooms.{open_fits, opened_wide, opened_closed}
-use Rattle.ob_group.specs.Answers.{MatchGrouped}
-use Rattle.ob_group.specs.Labels.{header}
+use Rattle.ob_flat.proofs.Rooms.{block_fits}
+use Rattle.ob_flat.proofs.Opened.{block_few, front_clear, back_count, back_wide, ends_wide, ends_closed}
 use Rattle.ob_group.proofs.grouping.group.Goals as goal
 
-opens : (s : RoomState) (pack rows : ℕ) → pack ≡ s.pack → rows ≡ s.rows → 3 * s.pack + 1 ≤ s.rows → pack + buffered_blocks pack rows * pack ≤ s.rows
-opens s pack rows same all enough =
-    let one : 1 * pack ≡ pack = omega arith in
-    omega (arith, all, one, open_fits 1 pack rows (omega arith) (omega (arith, same, all, enough)))
+pub group_table-result-requires-clause-spare : goal.group_table-result-requires-clause-spare
+group_table-result-requires-clause-spare g c = simp (sym (c.split_at_mut-rows.ensures.front_len ∙ c.pack-pack.ensures.value)) at c.requires.spare
+
+pub group_table-result-requires-clause-flat : goal.group_table-result-requires-clause-flat
+group_table-result-requires-clause-flat g c = simp (sym (c.split_at_mut-rows.ensures.front_len ∙ c.pack-pack.ensures.value)) at c.requires.flat
+
+pub group_table-result-requires-clause-pack : goal.group_table-result-requires-clause-pack
+group_table-result-requires-clause-pack g c = block_few c.args.room.now c.pack-pack.ensures.sound (c.split_at_mut-rows.ensures.front_len ∙ c.pack-pack.ensures.value)
+
+pub group_table-result-requires-clause-fit : goal.group_table-result-requires-clause-fit
+group_table-result-requires-clause-fit g c =
+    block_fits (width c.args.flat.now.schema) c.args.room.now c.requires.room c.pack-pack.ensures.sound c.pack-pack.ensures.value (front_clear c.args.room.now c.pack-pack.ensures.value c.rows.ensures.value c.open-open.ensures.value c.split_at_mut-rows.ensures.front)
+
+pub group_table-result-requires-clause-room : goal.group_table-result-requires-clause-room
+group_table-result-requires-clause-room g c = back_wide c.args.room.now c.pack-pack.ensures.value c.rows.ensures.value c.open-open.ensures.value 768 c.requires.wide c.split_at_mut-rows.ensures.back
 
 pub clear_shelf-requires-clause-wide : goal.clear_shelf-requires-clause-wide
 clear_shelf-requires-clause-wide g c =
-    let s = c.args.room.now in
-    let pack = c.pack-pack.result in
-    let rows = c.rows.result in
-    let fits = opens s pack rows c.pack-pack.ensures.value c.rows.ensures.value c.requires.room.enough in
-    let ends = c.group_table-result.new.rows ++ c.group_table-result.new.groups in
-    let same = subst (λ (l : List (List ℕ)). SameSizes l ends) (sym c.split_at_mut-rows.ensures.value) (sizes_join _ _ _ _ c.group_table-result.ensures.rows c.group_table-result.ensures.groups) in
-    opened_wide (width c.args.flat.now.schema) (pack + buffered_blocks pack rows * pack) s _ ends c.requires.room fits c.open-open.ensures.value same
+    ends_wide c.args.room.now c.pack-pack.ensures.value c.rows.ensures.value c.open-open.ensures.value (width c.args.flat.now.schema) c.requires.room c.split_at_mut-rows.ensures.value c.group_table-result.ensures.rows c.group_table-result.ensures.groups
+
+pub returns-clause-ok : goal.returns-clause-ok
+returns-clause-ok g c = simp (c.split_at_mut-rows.ensures.front_len ∙ c.pack-pack.ensures.value) at c.group_table-result.ensures.ok
+
+pub returns-clause-err : goal.returns-clause-err
+returns-clause-err g c = simp (c.split_at_mut-rows.ensures.front_len ∙ c.pack-pack.ensures.value) at c.group_table-result.ensures.err
+
+pub returns-clause-never : goal.returns-clause-never
+returns-clause-never g c = simp (c.split_at_mut-rows.ensures.front_len ∙ c.pack-pack.ensures.value) at c.group_table-result.ensures.never
+
+pub returns-clause-seals : goal.returns-clause-seals
+returns-clause-seals g c = c.group_table-result.ensures.seals
 
 pub returns-clause-room : goal.returns-clause-room
 returns-clause-room g c =
-    let s = c.args.room.now in
-    let pack = c.pack-pack.result in
-    let rows = c.rows.result in
-    let fits = opens s pack rows c.pack-pack.ensures.value c.rows.ensures.value c.requires.room.enough in
-    let ends = c.group_table-result.new.rows ++ c.group_table-result.new.groups in
-    let same = subst (λ (l : List (List ℕ)). SameSizes l ends) (sym c.split_at_mut-rows.ensures.value) (sizes_join _ _ _ _ c.group_table-result.ensures.rows c.group_table-result.ensures.groups) in
-    let high : pack + buffered_blocks pack rows * pack ≡ s.pack + buffered s.pack s.rows =
-    ap (λ (r : ℕ). pack + buffered_blocks pack r * pack) c.rows.ensures.value ∙ ap (λ (p : ℕ). p + buffered_blocks p s.rows * p) c.pack-pack.ensures.value
-    ∙ ap (λ (n : ℕ). s.pack + n) (mul_comm (buffered_blocks s.pack s.rows) s.pack) in
     c.clear_shelf.ensures
-    ∙ opened_closed (width c.args.flat.now.schema) (pack + buffered_blocks pack rows * pack) s _ ends c.requires.room fits c.open-open.ensures.value same c.pack-pack.ensures.sound
-    ∙ ap (λ (n : ℕ). record s { high = max s.high n }) high
+    ∙ ends_closed c.args.room.now c.pack-pack.ensures.value c.rows.ensures.value c.open-open.ensures.value (width c.args.flat.now.schema) c.requires.room c.split_at_mut-rows.ensures.value c.group_table-result.ensures.rows c.group_table-result.ensures.groups c.pack-pack.ensures.sound
+    ∙ ap (λ (n : ℕ). record c.args.room.now { high = max c.args.room.now.high (c.args.room.now.pack + n) }) (mul_comm (buffered_blocks c.args.room.now.pack c.args.room.now.rows) c.args.room.now.pack)
+
+pub returns-clause-most : goal.returns-clause-most
+returns-clause-most g c = simp (back_count c.args.room.now c.pack-pack.ensures.value c.rows.ensures.value c.open-open.ensures.value c.split_at_mut-rows.ensures.back ∙ mul_comm (buffered_blocks c.args.room.now.pack c.args.room.now.rows) c.args.room.now.pack) at c.group_table-result.ensures.most
 
 pub returns-clause-emitted : goal.returns-clause-emitted
-returns-clause-emitted g c =
-    let size : length c.split_at_mut-rows.result.0.now ≡ c.args.room.now.pack = c.split_at_mut-rows.ensures.front_len ∙ c.pack-pack.ensures.value in
-    let old = at g.R.Revisions.state c.args.vault.now (g.S.BlockStore.state c.args.store.now) in
-    let new = g.S.BlockStore.state c.group_table-result.new.store in
-    let flat = c.args.flat.now in
-    let out = c.group_table-result.new.out in
-    subst (λ (n : ℕ). IfOk c.group_table-result.result (λ answer. MatchGrouped answer
-    (λ k. IsEmitted g.E.Emit.grew (header flat.schema c.args.key c.args.items.now) (λ (s : (slots : Slots) × Represents n flat slots old × (new.lie ≡ None)). grouped c.args.key c.args.items.now (filter (is_true c.args.pred.now) (rows s.0))) 0 k c.args.out.now out)
-    (out ≡ c.args.out.now))) size c.group_table-result.ensures.emitted
+returns-clause-emitted g c = simp (c.split_at_mut-rows.ensures.front_len ∙ c.pack-pack.ensures.value) at c.group_table-result.ensures.emitted
 
 pub returns-clause-halted : goal.returns-clause-halted
-returns-clause-halted g c =
-    let size : length c.split_at_mut-rows.result.0.now ≡ c.args.room.now.pack = c.split_at_mut-rows.ensures.front_len ∙ c.pack-pack.ensures.value in
-    let old = at g.R.Revisions.state c.args.vault.now (g.S.BlockStore.state c.args.store.now) in
-    let new = at g.R.Revisions.state c.group_table-result.new.vault (g.S.BlockStore.state c.group_table-result.new.store) in
-    let flat = c.args.flat.now in
-    subst (λ (n : ℕ). OnErr c.group_table-result.result (IsHalted g.E.Emit.grew g.E.Emit.cut (λ (s : (slots : Slots) × Represents n flat slots old × (old.store.lie ≡ None) × IsUnfit new). header flat.schema c.args.key c.args.items.now ++ row_events (grouped c.args.key c.args.items.now (filter (is_true c.args.pred.now) (rows s.0)))) c.args.out.now c.group_table-result.new.out))
-    size c.group_table-result.ensures.halted
+returns-clause-halted g c = simp (c.split_at_mut-rows.ensures.front_len ∙ c.pack-pack.ensures.value) at c.group_table-result.ensures.halted
+
+pub returns-clause-cause : goal.returns-clause-cause
+returns-clause-cause g c = c.group_table-result.ensures.cause
+
+pub returns-clause-before : goal.returns-clause-before
+returns-clause-before g c = c.group_table-result.ensures.before
+
+pub returns-clause-after : goal.returns-clause-after
+returns-clause-after g c = simp (c.split_at_mut-rows.ensures.front_len ∙ c.pack-pack.ensures.value) at c.group_table-result.ensures.after
+
+pub returns-clause-told : goal.returns-clause-told
+returns-clause-told g c =
+    simp (c.split_at_mut-rows.ensures.front_len ∙ c.pack-pack.ensures.value, back_count c.args.room.now c.pack-pack.ensures.value c.rows.ensures.value c.open-open.ensures.value c.split_at_mut-rows.ensures.back ∙ mul_comm (buffered_blocks c.args.room.now.pack c.args.room.now.rows) c.args.room.now.pack) at c.group_table-result.ensures.told

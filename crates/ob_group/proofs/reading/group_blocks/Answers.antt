@@ -5,9 +5,7 @@ use Rattle.std.proofs.lemmas.Result.{err_from_is_err_and}
 use Rattle.ob_base.specs.Accesses.{read_at}
 use Rattle.ob_base.specs.Numbers.{blocks_for}
 use Rattle.ob_base.specs.Schemas.{width}
-use Rattle.ob_script.specs.Parts.{count_part}
-use Rattle.ob_vault.specs.Calls.{Went, none}
-use Rattle.ob_vault.specs.Places.{at}
+use Rattle.ob_vault.specs.Calls.{none}
 use Rattle.ob_vault.proofs.Runs.{went_none, went_each, lives_went, written_went, none_went, fit_same, fit_trans, may_get, seals_none, seals_join}
 use Rattle.ob_row.specs.Slots.{Slots}
 use Rattle.ob_row.specs.Spelling.{kind_at}
@@ -28,6 +26,30 @@ use Rattle.ob_group.proofs.reading.group_blocks.Goals as goal
 none_taken : (r : ℕ) (all : Slots) → [] ≡ take (0 * r) all
 none_taken r all = let none : 0 ≡ 0 * r = omega arith in ap (λ (n : ℕ). take n all) none
 
+-- one more may be asked
+spare_left : (old new asked u n : ℕ) → n ≤ old → old ≤ new + asked → asked ≡ u → u < n → 1 ≤ new
+spare_left old new asked u n enough kept same below = omega (arith, enough, kept, same, below)
+
+-- the places of one more block are few
+fits : (pack capacity u m : ℕ) → 1 ≤ pack → pack ≤ 16 → capacity ≤ 16777216 → u < blocks_for pack capacity → m ≡ pack → u * pack + m ≤ 2147483648
+fits pack capacity u m some few most below same = omega (arith, same, index_fits pack capacity u some few most below)
+
+next : (u pack m : ℕ) → m ≡ pack → u * pack + m ≡ (u + 1) * pack
+next u pack m same = let step : (u + 1) * pack ≡ u * pack + pack = grind arith in omega (arith, step, same)
+
+-- the last was reached
+reached : (u n blocks : ℕ) → u ≤ n → n ≤ u → n ≡ blocks → u ≡ blocks
+reached u n blocks most least same = omega (arith, most, least, same)
+
+size_most : (a b n : ℕ) → a ≡ b → n ≡ b → n ≤ a
+size_most a b n same size = omega (arith, same, size)
+
+-- all of them are, too
+few_all : (pack capacity u : ℕ) → 1 ≤ pack → pack ≤ 16 → capacity ≤ 16777216 → u ≡ blocks_for pack capacity → u * pack ≤ 2147483648
+few_all pack capacity u some few most last =
+    let all : u * pack ≡ blocks_for pack capacity * pack = ap (λ (n : ℕ). n * pack) last in
+    omega (arith, all, blocks_end pack capacity some, most, few)
+
 pub loop-u-init : goal.loop-u-init
 loop-u-init g c =
     let pack = length c.args.rows.now in
@@ -43,15 +65,16 @@ loop-u-init g c =
     }
 
 pub get-requires-clause-spare : goal.get-requires-clause-spare
-get-requires-clause-spare g c = omega (arith, c.requires.spare, c.loop-u.invariant.went.spare, reads c.args.flat.now.region c.loop-u.u, c.div_ceil-blocks.ensures)
+get-requires-clause-spare g c =
+    spare_left _ _ _ _ _ c.requires.spare c.loop-u.invariant.went.spare (reads c.args.flat.now.region c.loop-u.u) (subst (λ (n : ℕ). c.loop-u.u < n) c.div_ceil-blocks.ensures c.loop-u-test.true)
 
 pub get-requires-clause-place : goal.get-requires-clause-place
 get-requires-clause-place g c =
     let flat = c.requires.flat in
     let u = c.loop-u.u in
     let went = c.loop-u.invariant.went in
-    may_get _ u (table_region _ (length c.args.rows.now) c.args.flat.now.schema c.args.flat.now.capacity) _ _ (lives_went _ _ _ _ _ _ went (λ s. s) flat.made.lives) (omega (arith, c.div_ceil-blocks.ensures))
-    (fit_same _ _ _ c.loop-u.invariant.same c.requires.fit) (written_went _ _ _ _ _ u went (λ s. s) (flat.written u (omega (arith, c.div_ceil-blocks.ensures))))
+    may_get _ u (table_region _ (length c.args.rows.now) c.args.flat.now.schema c.args.flat.now.capacity) _ _ (lives_went _ _ _ _ _ _ went (λ s. s) flat.made.lives) (subst (λ (n : ℕ). c.loop-u.u < n) c.div_ceil-blocks.ensures c.loop-u-test.true)
+    (fit_same _ _ _ c.loop-u.invariant.same c.requires.fit) (written_went _ _ _ _ _ u went (λ s. s) (flat.written u (subst (λ (n : ℕ). c.loop-u.u < n) c.div_ceil-blocks.ensures c.loop-u-test.true)))
 
 pub returns-in_err-get-clause-rows : goal.returns-in_err-get-clause-rows
 returns-in_err-get-clause-rows g c = fit_trans _ _ _ c.loop-u.invariant.same c.get.ensures.rows
@@ -59,14 +82,14 @@ returns-in_err-get-clause-rows g c = fit_trans _ _ _ c.loop-u.invariant.same c.g
 pub returns-in_err-get-clause-err : goal.returns-in_err-get-clause-err
 returns-in_err-get-clause-err g c =
     let p = err_from_is_err_and c.from_residual.result c.from_residual.ensures.1 in
-    rw (p.1, p.2) (pass_each none (read_at c.args.flat.now.region) _ _ _ _ (blocks_for (length c.args.rows.now) c.args.flat.now.capacity) c.loop-u.u (omega (arith, c.div_ceil-blocks.ensures)) c.loop-u.invariant.went (pass_of _ _ _ _ _ c.in_err-get.ensures.err))
+    rw (p.1, p.2) (pass_each none (read_at c.args.flat.now.region) _ _ _ _ (blocks_for (length c.args.rows.now) c.args.flat.now.capacity) c.loop-u.u (subst (λ (n : ℕ). c.loop-u.u < n) c.div_ceil-blocks.ensures c.loop-u-test.true) c.loop-u.invariant.went (pass_of _ _ _ _ _ c.in_err-get.ensures.err))
 
 pub returns-in_err-get-clause-never : goal.returns-in_err-get-clause-never
 returns-in_err-get-clause-never g c =
     let p = err_from_is_err_and c.from_residual.result c.from_residual.ensures.1 in
     rw (p.1, p.2) (elim c.in_err-get.ensures.never [
       | inl e ↦ inl (ap pass_error e)
-      | inr e ↦ inr (c.loop-u.u, omega (arith, c.div_ceil-blocks.ensures), ap pass_error e)
+      | inr e ↦ inr (c.loop-u.u, subst (λ (n : ℕ). c.loop-u.u < n) c.div_ceil-blocks.ensures c.loop-u-test.true, ap pass_error e)
     ])
 
 pub returns-in_err-get-clause-seals : goal.returns-in_err-get-clause-seals
@@ -78,7 +101,7 @@ returns-in_err-get-clause-told g c = λ slots is nolie.
     let pack = length c.args.rows.now in
     let flat = c.args.flat.now in
     let u = c.loop-u.u in
-    let below : u < blocks_for pack flat.capacity = omega (arith, c.div_ceil-blocks.ensures) in
+    let below = subst (λ (n : ℕ). u < n) c.div_ceil-blocks.ensures c.loop-u-test.true in
     let went = c.loop-u.invariant.went in
     let now = represents_lasts pack flat none _ _ went.lasts (λ s. s) slots is in
     let shape = table_region c.requires.flat.made.order pack flat.schema flat.capacity in
@@ -95,9 +118,7 @@ pub group_rows-requires-clause-held : goal.group_rows-requires-clause-held
 group_rows-requires-clause-held g c =
     let same = fit_trans _ _ _ c.loop-u.invariant.same c.get.ensures.rows in
     let held = c.loop-u.invariant.held in
-    let fits : c.loop-u.u * length c.args.rows.now + length c.get.new.rows ≤ 2147483648 =
-    omega (arith, same.count, index_fits (length c.args.rows.now) c.args.flat.now.capacity c.loop-u.u c.requires.pack.0 c.requires.pack.1 c.requires.size.most (omega (arith, c.div_ceil-blocks.ensures))) in
-    (_, _, fits, held.1)
+    (_, _, fits (length c.args.rows.now) c.args.flat.now.capacity c.loop-u.u (length c.get.new.rows) c.requires.pack.0 c.requires.pack.1 c.requires.size.most (subst (λ (n : ℕ). c.loop-u.u < n) c.div_ceil-blocks.ensures c.loop-u-test.true) same.count, held.1)
 
 pub returns-in-Err-clause-rows : goal.returns-in-Err-clause-rows
 returns-in-Err-clause-rows g c = fit_trans _ _ _ c.loop-u.invariant.same c.get.ensures.rows
@@ -108,10 +129,10 @@ returns-in-Err-clause-groups g c = fit_trans _ _ _ c.loop-u.invariant.kept c.gro
 pub returns-in-Err-clause-err : goal.returns-in-Err-clause-err
 returns-in-Err-clause-err g c =
     let q = c.args.flat.now.region in
-    pass_each none (read_at q) _ _ _ _ (blocks_for (length c.args.rows.now) c.args.flat.now.capacity) c.loop-u.u (omega (arith, c.div_ceil-blocks.ensures)) c.loop-u.invariant.went (pass_malformed _ _ _ q c.loop-u.u (read_at q c.loop-u.u) c.in_ok-get.ensures.ok)
+    pass_each none (read_at q) _ _ _ _ (blocks_for (length c.args.rows.now) c.args.flat.now.capacity) c.loop-u.u (subst (λ (n : ℕ). c.loop-u.u < n) c.div_ceil-blocks.ensures c.loop-u-test.true) c.loop-u.invariant.went (pass_malformed _ _ _ q c.loop-u.u (read_at q c.loop-u.u) c.in_ok-get.ensures.ok)
 
 pub returns-in-Err-clause-never : goal.returns-in-Err-clause-never
-returns-in-Err-clause-never g c = inr (c.loop-u.u, omega (arith, c.div_ceil-blocks.ensures), refl)
+returns-in-Err-clause-never g c = inr (c.loop-u.u, subst (λ (n : ℕ). c.loop-u.u < n) c.div_ceil-blocks.ensures c.loop-u-test.true, refl)
 
 pub returns-in-Err-clause-seals : goal.returns-in-Err-clause-seals
 returns-in-Err-clause-seals g c = λ good. seals_join good _ _ _ c.loop-u.invariant.went.lasts.later (c.loop-u.invariant.seals good) (c.get.ensures.seals good)
@@ -121,7 +142,7 @@ returns-in-Err-clause-told g c = λ slots is nolie.
     let pack = length c.args.rows.now in
     let flat = c.args.flat.now in
     let u = c.loop-u.u in
-    let below : u < blocks_for pack flat.capacity = omega (arith, c.div_ceil-blocks.ensures) in
+    let below = subst (λ (n : ℕ). u < n) c.div_ceil-blocks.ensures c.loop-u-test.true in
     let went = c.loop-u.invariant.went in
     let now = represents_lasts pack flat none _ _ went.lasts (λ s. s) slots is in
     let shape = table_region c.requires.flat.made.order pack flat.schema flat.capacity in
@@ -139,15 +160,14 @@ loop-u-preserved g c =
     let aggs = aggs_of c.args.items.now in
     let kind = kind_at flat.schema c.args.key in
     let count = length c.args.items.now in
-    let below : u < blocks_for pack flat.capacity = omega (arith, c.div_ceil-blocks.ensures) in
+    let below = subst (λ (n : ℕ). u < n) c.div_ceil-blocks.ensures c.loop-u-test.true in
     let went = c.loop-u.invariant.went in
     let same = fit_trans _ _ _ c.loop-u.invariant.same c.get.ensures.rows in
     let held = c.loop-u.invariant.held in
     let block = c.in-Ok.ensures.ok in
-    let fits : u * pack + length c.get.new.rows ≤ 2147483648 =
-    omega (arith, same.count, index_fits pack flat.capacity u c.requires.pack.0 c.requires.pack.1 c.requires.size.most below) in
+    let few = fits pack flat.capacity u (length c.get.new.rows) c.requires.pack.0 c.requires.pack.1 c.requires.size.most below same.count in
     let more : u * pack + length c.get.new.rows ≡ (u + 1) * pack = next u pack (length c.get.new.rows) same.count in
-    let grown = block.2 (groups_of p c.args.key c.args.items.now held.0) (u * pack) fits held.1 in
+    let grown = block.2 (groups_of p c.args.key c.args.items.now held.0) (u * pack) few held.1 in
     let joined : groups_with p c.args.key aggs (groups_of p c.args.key c.args.items.now held.0) block.0 ≡ groups_of p c.args.key c.args.items.now (held.0 ++ block.0) =
     sym (fold-append (put_slot p c.args.key aggs) [] held.0 block.0) in
     record {
@@ -170,14 +190,9 @@ loop-u-preserved g c =
             ∙ ap (λ (l : Slots). take (u * pack) whole ++ l) (spelt_same flat.schema block.0 (block_at pack whole u) c.get.new.rows block.1 spelt) ∙ sym (take_blocks pack whole u),
       );
     }
-  where
-    next : (u pack m : ℕ) → m ≡ pack → u * pack + m ≡ (u + 1) * pack
-    next u pack m same = let step : (u + 1) * pack ≡ u * pack + pack = grind arith in omega (arith, step, same)
 
 pub returns-clause-ok : goal.returns-clause-ok
-returns-clause-ok g c =
-    let last : c.loop-u.u ≡ blocks_for (length c.args.rows.now) c.args.flat.now.capacity = omega (arith, c.div_ceil-blocks.ensures) in
-    subst (λ (n : ℕ). Went (count_part c.args.flat.now.region n) none (at g.R.Revisions.state c.args.vault.now (g.S.BlockStore.state c.args.store.now)) (at g.R.Revisions.state c.loop-u.vault (g.S.BlockStore.state c.loop-u.store))) last c.loop-u.invariant.went
+returns-clause-ok g c = simp (reached c.loop-u.u _ _ c.loop-u.auto.u-end c.loop-u-test.false c.div_ceil-blocks.ensures) at c.loop-u.invariant.went
 
 pub returns-clause-held : goal.returns-clause-held
 returns-clause-held g c =
@@ -185,11 +200,11 @@ returns-clause-held g c =
     let flat = c.args.flat.now in
     let blocks = blocks_for pack flat.capacity in
     let u = c.loop-u.u in
-    let last : u ≡ blocks = omega (arith, c.div_ceil-blocks.ensures) in
+    let last = reached c.loop-u.u _ _ c.loop-u.auto.u-end c.loop-u-test.false c.div_ceil-blocks.ensures in
     let held = c.loop-u.invariant.held in
     let all : u * pack ≡ blocks * pack = ap (λ (n : ℕ). n * pack) last in
-    let few : u * pack ≤ 2147483648 = omega (arith, all, blocks_end pack flat.capacity c.requires.pack.0, c.requires.size.most, c.requires.pack.1) in (
+    let few = few_all pack flat.capacity u c.requires.pack.0 c.requires.pack.1 c.requires.size.most last in (
       held.0,
       groups_weak (kind_at flat.schema c.args.key) (u * pack) 2147483648 (length c.args.items.now) c.loop-u.n _ c.loop-u.groups few held.1,
-      λ slots is nolie. held.2 slots is nolie ∙ take_all (u * pack) (whole_blocks pack flat.capacity slots) (omega (arith, all, whole_size pack flat slots _ is c.requires.pack.0)),
+      λ slots is nolie. held.2 slots is nolie ∙ take_all (u * pack) (whole_blocks pack flat.capacity slots) (size_most _ _ _ all (whole_size pack flat slots _ is c.requires.pack.0)),
     )
