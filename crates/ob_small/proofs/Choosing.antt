@@ -6,7 +6,7 @@ use Rattle.std.proofs.lemmas.List.Elements.{filter-append}
 use Rattle.ob_base.specs.Lists.{places_from}
 use Rattle.ob_row.specs.Rows.{Row}
 use Rattle.ob_row.specs.Condition.{Condition}
-use Rattle.ob_row.specs.Slots.{Slots, slot_at, is_selected, selected, small_slots}
+use Rattle.ob_row.specs.Slots.{Slots, slot_at, is_selected, small_slots}
 use Rattle.ob_row.specs.Truth.{is_true}
 use Rattle.ob_blocks.specs.Blocks.{none_of, up_to, block_at}
 use Rattle.ob_blocks.proofs.Blocks.{take_blocks, length-up_to}
@@ -33,10 +33,6 @@ behind p first (s ∷ slots) =
 -- they are those at the selected places
 pub filter-small : (p : Row → Bool) (slots : Slots) → filter (is_selected p) slots ≡ small_slots p slots
 filter-small p slots = behind p [] slots
-
--- as many as there are such places
-pub length-small : (p : Row → Bool) (slots : Slots) → length (small_slots p slots) ≡ length (selected p slots)
-length-small p slots = Rattle.std.proofs.lemmas.List.length-map (selected p slots) (slot_at slots)
 
 -- one slot more
 pub chosen_more : (p : Condition) (slots : Slots) (i : ℕ) (b : Bool) → i < length slots → is_selected (is_true p) (slice_index_or slots i None) ≡ b

@@ -1,3 +1,4 @@
+pub mod Errors
 pub mod Choosing
 pub mod Kept
 pub mod Windows

@@ -1,6 +1,6 @@
 -- The blocks of kept rows are those of the result.
-use Rattle.std.proofs.Common.{◌≡◌, ◌≤◌, ◌<◌, ◌+◌, ◌-◌, ◌*◌, ℕ, List, [], ◌++◌, Option, None, length, take, drop, slice_index_or, inl, inr, sym, ◌∙◌, ap, subst, arith}
-use Rattle.std.proofs.lemmas.List.{get_or_past, get_or_append_left, get_or-replicate, length-take, length-drop, length-replicate, take_all, append-nil}
+use Rattle.std.proofs.Common.{◌≡◌, ◌≤◌, ◌<◌, ◌+◌, ◌-◌, ◌*◌, ℕ, List, [], Option, None, length, take, drop, slice_index_or, inl, inr, sym, ◌∙◌, ap, subst, arith}
+use Rattle.std.proofs.lemmas.List.{get_or_past, get_or_append_left, get_or-replicate, length-take, length-drop, length-replicate}
 use Rattle.std.proofs.lemmas.List.Elements as elements
 use Rattle.std.proofs.Math.Seq.{get_or-append_right}
 use Rattle.std.proofs.lemmas.Bool.{cases_lt}
@@ -46,13 +46,6 @@ length-fitted k slots = length-up_to k (take k slots) (omega (arith, length-take
 pub fits-fitted : (columns : Columns) (k : ℕ) (p : Condition) (slots : Slots) → All (FitsSlot columns) slots → All (FitsSlot columns) (fitted k (chosen p slots))
 fits-fitted columns k p slots is =
     all_up_to (FitsSlot columns) k (take k (chosen p slots)) tt (elements.All-take (FitsSlot columns) k (chosen p slots) (elements.All-filter (is_selected (is_true p)) (FitsSlot columns) slots is))
-
--- where their number is right
-pub fitted_whole : (k : ℕ) (slots : Slots) → k ≡ length slots → fitted k slots ≡ slots
-fitted_whole k slots same =
-    let all : take k slots ≡ slots = take_all k slots (omega (arith, same)) in
-    let none : k - length slots ≡ 0 = omega (arith, same) in
-    ap (up_to k) all ∙ ap (λ (n : ℕ). slots ++ none_of n) none ∙ append-nil slots
 
 index : (first x r z : ℕ) → first * r + (x * r + z) ≡ (first + x) * r + z
 index first x r z = grind arith

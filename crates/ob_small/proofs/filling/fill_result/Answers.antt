@@ -1,4 +1,4 @@
-use Rattle.std.proofs.Common.{◌≡◌, ◌≤◌, ◌+◌, ◌-◌, ◌*◌, ◌<◌, ◌==◌, if◌then◌else◌, min, ℕ, length, sym, ◌∙◌, ap, subst, arith}
+use Rattle.std.proofs.Common.{◌≡◌, ◌≤◌, ◌+◌, ◌-◌, ◌*◌, ◌<◌, ◌==◌, if◌then◌else◌, min, ℕ, Bool, true, false, inl, Fits, w32, length, refl, sym, ◌∙◌, ap, subst, arith}
 use Rattle.std.proofs.lemmas.Result.{err_from_is_err_and}
 use Rattle.std.specs.Int.{div_ceil}
 use Rattle.std.specs.List.{All}
@@ -11,14 +11,16 @@ use Rattle.ob_vault.specs.Calls.{Went, none, one}
 use Rattle.ob_vault.specs.Places.{at, RowsFit}
 use Rattle.ob_vault.specs.Rows.{Wide}
 use Rattle.ob_vault.proofs.RowsLemmas.{rows_room}
-use Rattle.ob_vault.proofs.Runs.{went_length, went_wider, went_each, went_join, lives_went, written_went, holds_went, none_went, tells_went, fit_same, fit_trans, seals_join}
-use Rattle.ob_flat.specs.Slots.{FitsSlot}
+use Rattle.ob_vault.proofs.Runs.{went_none, seals_none, went_length, went_wider, went_each, went_join, lives_went, written_went, holds_went, none_went, tells_went, fit_same, fit_trans, seals_join}
+use Rattle.ob_flat.specs.Slots.{FitsSlot, AreSlots}
 use Rattle.ob_vault.specs.declared.region.Order.TheVariants.{Round}
 use Rattle.ob_flat.specs.Flats.{table_region}
+use Rattle.ob_flat.proofs.Rooms.{same_rows}
 use Rattle.ob_flat.proofs.Rows.{wide_same}
 use Rattle.ob_flat.proofs.Runs.{pass_each, pass_more, pass_after, pass_wider}
 use Rattle.ob_flat.proofs.Tables.{reads, blocks_few, blocks_end, not_last, at_last, flat_lasts, represents_lasts}
 use Rattle.ob_small.specs.Keeping.{chosen, Keeps}
+use Rattle.ob_small.proofs.Errors.{not_ok}
 use Rattle.ob_small.proofs.Lengths.{spent, passes_reach, pass_inside, passes_few, product_few, product_within, pass_next}
 use Rattle.ob_small.proofs.Windows.{represents_fitted}
 use Rattle.ob_small.proofs.filling.fill_result.Goals as goal
@@ -30,6 +32,26 @@ begun results q j n end same is below = omega (arith, below, is ∙ ap (λ (k : 
 -- the blocks that it writes
 taken : (results q j n k : ℕ) → n ≡ results → k ≡ min q (n - j * q) → k ≡ min q (results - j * q)
 taken results q j n k same is = is ∙ ap (λ (m : ℕ). min q (m - j * q)) same
+
+-- before the first pass
+either_none : (b : Bool) → ◌≡◌ {A = ℕ} (if b then 0 else 0) 0
+either_none true = refl
+either_none false = refl
+
+at_first : (q results : ℕ) → (if min (0 * q) results == results then 0 else min (0 * q) results) ≡ 0
+at_first q results =
+    let none : min (0 * q) results ≡ 0 = omega arith in
+    ap (λ (n : ℕ). if n == results then 0 else n) none ∙ either_none (0 == results)
+
+no_place : (P : Type 0) (p q results : ℕ) → p < min (0 * q) results → P
+no_place P p q results less = let none : min (0 * q) results ≡ 0 = omega arith in absurd (omega (arith, less, none))
+
+-- the first block of a pass
+first_fits : (pack capacity n : ℕ) → 1 ≤ pack → capacity ≤ 16777216 → n < blocks_for pack capacity → Fits w32 n
+first_fits pack capacity n some most inside = omega (arith, most, inside, blocks_few pack capacity some)
+
+first_least : (n m results : ℕ) → m ≡ results → n < results → n ≤ m
+first_least n m results same inside = omega (arith, same, inside)
 
 pub overflow_mul-first-in-loop-j : goal.overflow_mul-first-in-loop-j
 overflow_mul-first-in-loop-j g c =
@@ -267,7 +289,7 @@ returns-clause-ok g c =
     let to = c.args.to.now.region in
     let blocks = blocks_for pack c.args.flat.now.capacity in
     let results = blocks_for pack c.args.to.now.capacity in
-    let last = whole results q c.loop-j.j _ _ c.div_ceil-results.ensures c.div_ceil-j-end.ensures (omega arith) (omega arith) in
+    let last = whole results q c.loop-j.j _ _ c.div_ceil-results.ensures c.div_ceil-j-end.ensures c.loop-j-test.false c.loop-j.auto.j-end in
     subst (λ (n : ℕ). Went (each n (small_pass c.args.flat.now.region to blocks results q)) (one to) (at g.R.Revisions.state c.args.vault.now (g.S.BlockStore.state c.args.store.now)) (at g.R.Revisions.state c.loop-j.vault (g.S.BlockStore.state c.loop-j.store))) last c.loop-j.invariant.went
 
 pub returns-clause-flat : goal.returns-clause-flat
@@ -277,7 +299,7 @@ returns-clause-flat g c =
     let q = c.args.buffered in
     let j = c.loop-j.j in
     let results = blocks_for pack to.capacity in
-    let last = whole results q j _ _ c.div_ceil-results.ensures c.div_ceil-j-end.ensures (omega arith) (omega arith) in
+    let last = whole results q j _ _ c.div_ceil-results.ensures c.div_ceil-j-end.ensures c.loop-j-test.false c.loop-j.auto.j-end in
     let done = all_done results q j c.requires.some last in
     let now = at g.R.Revisions.state c.loop-j.vault (g.S.BlockStore.state c.loop-j.store) in
     record {
@@ -286,7 +308,7 @@ returns-clause-flat g c =
         lives = c.loop-j.invariant.lives;
         turn = subst (λ (n : ℕ). OnTurn to.region (table_region Round pack to.schema to.capacity) n now) (at_last (min (j * q) results) results done) c.loop-j.invariant.turn;
       };
-      written = λ x below. c.loop-j.invariant.written x (omega (arith, done, below));
+      written = λ x below. c.loop-j.invariant.written x (subst (λ (n : ℕ). x < n) (sym done) below);
     }
 
 pub returns-clause-told : goal.returns-clause-told
@@ -296,7 +318,91 @@ returns-clause-told g c = λ tells slots is nolie.
     let q = c.args.buffered in
     let j = c.loop-j.j in
     let results = blocks_for pack to.capacity in
-    let last = whole results q j _ _ c.div_ceil-results.ensures c.div_ceil-j-end.ensures (omega arith) (omega arith) in
+    let last = whole results q j _ _ c.div_ceil-results.ensures c.div_ceil-j-end.ensures c.loop-j-test.false c.loop-j.auto.j-end in
     let done = all_done results q j c.requires.some last in
     represents_fitted pack to c.args.pred.now slots _ (subst (λ (s : Columns). All (FitsSlot s) slots) (sym c.requires.schema) is.fits)
-    (λ x below. c.loop-j.invariant.told tells slots is nolie x (omega (arith, done, below)))
+    (λ x below. c.loop-j.invariant.told tells slots is nolie x (subst (λ (n : ℕ). x < n) (sym done) below))
+
+pub loop-j-init : goal.loop-j-init
+loop-j-init g c =
+    let to = c.args.to.now in
+    let q = c.args.buffered in
+    let results = blocks_for (length c.args.rows.now) to.capacity in
+    record {
+      went = went_none (one to.region) _ c.requires.ready;
+      seals = λ good fine. seals_none good _;
+      rows = same_rows c.args.rows.now;
+      kept = same_rows c.args.kept.now;
+      lives = c.requires.lives;
+      turn = subst (λ (n : ℕ). OnTurn to.region (table_region Round (length c.args.rows.now) to.schema to.capacity) n (at g.R.Revisions.state c.args.vault.now (g.S.BlockStore.state c.args.store.now))) (sym (at_first q results)) c.requires.turn;
+      written = λ p less. no_place _ p q results less;
+      told = λ tells slots is nolie p less. no_place _ p q results less;
+    }
+
+pub overflow_mul-first : goal.overflow_mul-first
+overflow_mul-first g c =
+    first_fits (length c.args.rows.now) c.args.to.now.capacity (c.loop-j.j * c.args.buffered) c.requires.pack.0 c.requires.sized.most
+    (pass_inside (blocks_for (length c.args.rows.now) c.args.to.now.capacity) c.args.buffered c.loop-j.j c.requires.some (begun (blocks_for (length c.args.rows.now) c.args.to.now.capacity) c.args.buffered c.loop-j.j _ _ c.div_ceil-results.ensures c.div_ceil-j-end.ensures c.loop-j-test.true))
+
+pub overflow_sub-results : goal.overflow_sub-results
+overflow_sub-results g c =
+    first_least (c.loop-j.j * c.args.buffered) _ _ c.div_ceil-results.ensures
+    (pass_inside (blocks_for (length c.args.rows.now) c.args.to.now.capacity) c.args.buffered c.loop-j.j c.requires.some (begun (blocks_for (length c.args.rows.now) c.args.to.now.capacity) c.args.buffered c.loop-j.j _ _ c.div_ceil-results.ensures c.div_ceil-j-end.ensures c.loop-j-test.true))
+
+pub collect_blocks-requires-clause-ready : goal.collect_blocks-requires-clause-ready
+collect_blocks-requires-clause-ready g c = c.loop-j.invariant.went.lasts.ready
+
+pub collect_blocks-requires-clause-size : goal.collect_blocks-requires-clause-size
+collect_blocks-requires-clause-size g c = c.requires.size
+
+pub collect_blocks-requires-clause-pack : goal.collect_blocks-requires-clause-pack
+collect_blocks-requires-clause-pack g c = subst (λ (n : ℕ). (1 ≤ n) × (n ≤ 16)) (sym c.loop-j.invariant.rows.count) c.requires.pack
+
+pub returns-in_err-collect_blocks-clause-ok : goal.returns-in_err-collect_blocks-clause-ok
+returns-in_err-collect_blocks-clause-ok g c = not_ok _ (err_from_is_err_and c.from_residual.result c.from_residual.ensures.1).1
+
+pub returns-in_err-collect_blocks-clause-flat : goal.returns-in_err-collect_blocks-clause-flat
+returns-in_err-collect_blocks-clause-flat g c = not_ok _ (err_from_is_err_and c.from_residual.result c.from_residual.ensures.1).1
+
+pub write_blocks-requires-clause-ready : goal.write_blocks-requires-clause-ready
+write_blocks-requires-clause-ready g c = c.in_ok-collect_blocks.ensures.ok.lasts.ready
+
+pub write_blocks-requires-clause-size : goal.write_blocks-requires-clause-size
+write_blocks-requires-clause-size g c = c.requires.sized
+
+pub write_blocks-requires-clause-pack : goal.write_blocks-requires-clause-pack
+write_blocks-requires-clause-pack g c = c.requires.pack
+
+pub write_blocks-requires-clause-spells : goal.write_blocks-requires-clause-spells
+write_blocks-requires-clause-spells g c = subst (λ (s : Columns). AreSlots s c.collect_blocks.new.kept) (sym c.requires.schema) c.in_ok-collect_blocks.ensures.spells
+
+pub returns-in_err-write_blocks-clause-ok : goal.returns-in_err-write_blocks-clause-ok
+returns-in_err-write_blocks-clause-ok g c = not_ok _ (err_from_is_err_and c.from_residual-in_err-write_blocks.result c.from_residual-in_err-write_blocks.ensures.1).1
+
+pub returns-in_err-write_blocks-clause-flat : goal.returns-in_err-write_blocks-clause-flat
+returns-in_err-write_blocks-clause-flat g c = not_ok _ (err_from_is_err_and c.from_residual-in_err-write_blocks.result c.from_residual-in_err-write_blocks.ensures.1).1
+
+pub returns-in_err-write_blocks-clause-never : goal.returns-in_err-write_blocks-clause-never
+returns-in_err-write_blocks-clause-never g c =
+    let p = err_from_is_err_and c.from_residual-in_err-write_blocks.result c.from_residual-in_err-write_blocks.ensures.1 in
+    rw (p.1, p.2) (inl c.in_err-write_blocks.ensures.never)
+
+pub returns-in_err-write_blocks-clause-told : goal.returns-in_err-write_blocks-clause-told
+returns-in_err-write_blocks-clause-told g c = λ tells slots is nolie.
+    let p = err_from_is_err_and c.from_residual-in_err-write_blocks.result c.from_residual-in_err-write_blocks.ensures.1 in
+    rw (p.1, p.2) c.in_err-write_blocks.ensures.never
+
+pub returns-clause-rows : goal.returns-clause-rows
+returns-clause-rows g c = c.loop-j.invariant.rows
+
+pub returns-clause-kept : goal.returns-clause-kept
+returns-clause-kept g c = c.loop-j.invariant.kept
+
+pub returns-clause-seals : goal.returns-clause-seals
+returns-clause-seals g c = c.loop-j.invariant.seals
+
+pub returns-clause-err : goal.returns-clause-err
+returns-clause-err g c = tt
+
+pub returns-clause-never : goal.returns-clause-never
+returns-clause-never g c = tt

@@ -1,35 +1,75 @@
-use Rattle.std.proofs.Common.{◌≡◌, ◌≤◌, ◌+◌, ◌*◌, ℕ, List, ◌++◌, max, sym, ◌∙◌, ap, subst, arith}
+use Rattle.std.proofs.Common.{◌≡◌, ◌*◌, ℕ, sym, ◌∙◌, ap}
 use Rattle.ob_base.specs.Limits.{buffered_blocks}
 use Rattle.ob_base.specs.Schemas.{width}
-use Rattle.ob_vault.specs.Rows.{SameSizes}
-use Rattle.ob_vault.proofs.RowsLemmas.{sizes_join}
-use Rattle.ob_room.specs.RoomState.{RoomState}
-use Rattle.ob_flat.proofs.Rooms.{open_fits, opened_wide, opened_closed}
+use Rattle.ob_flat.proofs.Rooms.{block_fits}
+use Rattle.ob_flat.proofs.Opened.{block_few, buffered_some, front_clear, back_blocks, back_wide, ends_wide, ends_closed}
 use Rattle.ob_small.proofs.selecting.select.Goals as goal
 
-opens : (s : RoomState) (pack rows : ℕ) → pack ≡ s.pack → rows ≡ s.rows → 3 * s.pack + 1 ≤ s.rows → pack + buffered_blocks pack rows * pack ≤ s.rows
-opens s pack rows same all enough = omega (arith, all, open_fits 1 pack rows (omega arith) (omega (arith, same, all, enough)))
+count_same : {a b c d : ℕ} → a ≡ b → c ≡ d → buffered_blocks a c ≡ buffered_blocks b d
+count_same {a} {b} {c} {d} first second = ap (λ (n : ℕ). buffered_blocks n c) first ∙ ap (λ (n : ℕ). buffered_blocks b n) second
+
+pub select_rows-result-requires-clause-spare : goal.select_rows-result-requires-clause-spare
+select_rows-result-requires-clause-spare g c = simp (sym (c.split_at_mut-rows.ensures.front_len ∙ c.pack-pack.ensures.value)) at (simp (sym (count_same c.pack-pack.ensures.value c.rows.ensures.value)) at c.requires.spare)
+
+pub select_rows-result-requires-clause-flat : goal.select_rows-result-requires-clause-flat
+select_rows-result-requires-clause-flat g c = simp (sym (c.split_at_mut-rows.ensures.front_len ∙ c.pack-pack.ensures.value)) at c.requires.flat
+
+pub select_rows-result-requires-clause-pack : goal.select_rows-result-requires-clause-pack
+select_rows-result-requires-clause-pack g c = block_few c.args.room.now c.pack-pack.ensures.sound (c.split_at_mut-rows.ensures.front_len ∙ c.pack-pack.ensures.value)
+
+pub select_rows-result-requires-clause-fit : goal.select_rows-result-requires-clause-fit
+select_rows-result-requires-clause-fit g c =
+    block_fits (width c.args.flat.now.schema) c.args.room.now c.requires.room c.pack-pack.ensures.sound c.pack-pack.ensures.value (front_clear c.args.room.now c.pack-pack.ensures.value c.rows.ensures.value c.open-open.ensures.value c.split_at_mut-rows.ensures.front)
+
+pub select_rows-result-requires-clause-some : goal.select_rows-result-requires-clause-some
+select_rows-result-requires-clause-some g c = buffered_some c.args.room.now c.pack-pack.ensures.sound c.pack-pack.ensures.value c.rows.ensures.value c.requires.room.enough
+
+pub select_rows-result-requires-clause-space : goal.select_rows-result-requires-clause-space
+select_rows-result-requires-clause-space g c =
+    back_blocks c.args.room.now c.pack-pack.ensures.value c.rows.ensures.value c.open-open.ensures.value c.split_at_mut-rows.ensures.back
+    ∙ ap (λ (n : ℕ). buffered_blocks c.pack-pack.result c.rows.result * n) (sym c.split_at_mut-rows.ensures.front_len)
+
+pub select_rows-result-requires-clause-wide : goal.select_rows-result-requires-clause-wide
+select_rows-result-requires-clause-wide g c = back_wide c.args.room.now c.pack-pack.ensures.value c.rows.ensures.value c.open-open.ensures.value (width c.args.flat.now.schema) c.requires.room.wide c.split_at_mut-rows.ensures.back
 
 pub clear_shelf-requires-clause-wide : goal.clear_shelf-requires-clause-wide
 clear_shelf-requires-clause-wide g c =
-    let s = c.args.room.now in
-    let pack = c.pack-pack.result in
-    let rows = c.rows.result in
-    let fits = opens s pack rows c.pack-pack.ensures.value c.rows.ensures.value c.requires.room.enough in
-    let ends = c.select_rows-result.new.rows ++ c.select_rows-result.new.kept in
-    let same = subst (λ (l : List (List ℕ)). SameSizes l ends) (sym c.split_at_mut-rows.ensures.value) (sizes_join _ _ _ _ c.select_rows-result.ensures.rows c.select_rows-result.ensures.kept) in
-    opened_wide (width c.args.flat.now.schema) (pack + buffered_blocks pack rows * pack) s _ ends c.requires.room fits c.open-open.ensures.value same
+    ends_wide c.args.room.now c.pack-pack.ensures.value c.rows.ensures.value c.open-open.ensures.value (width c.args.flat.now.schema) c.requires.room c.split_at_mut-rows.ensures.value c.select_rows-result.ensures.rows c.select_rows-result.ensures.kept
+
+pub returns-clause-ok : goal.returns-clause-ok
+returns-clause-ok g c = simp (c.split_at_mut-rows.ensures.front_len ∙ c.pack-pack.ensures.value, count_same c.pack-pack.ensures.value c.rows.ensures.value) at c.select_rows-result.ensures.ok
+
+pub returns-clause-err : goal.returns-clause-err
+returns-clause-err g c = simp (c.split_at_mut-rows.ensures.front_len ∙ c.pack-pack.ensures.value, count_same c.pack-pack.ensures.value c.rows.ensures.value) at c.select_rows-result.ensures.err
+
+pub returns-clause-never : goal.returns-clause-never
+returns-clause-never g c = simp (c.split_at_mut-rows.ensures.front_len ∙ c.pack-pack.ensures.value) at c.select_rows-result.ensures.never
+
+pub returns-clause-memory : goal.returns-clause-memory
+returns-clause-memory g c = simp (c.split_at_mut-rows.ensures.front_len ∙ c.pack-pack.ensures.value) at c.select_rows-result.ensures.memory
+
+pub returns-clause-gone : goal.returns-clause-gone
+returns-clause-gone g c = c.select_rows-result.ensures.gone
+
+pub returns-clause-seals : goal.returns-clause-seals
+returns-clause-seals g c = simp (c.split_at_mut-rows.ensures.front_len ∙ c.pack-pack.ensures.value) at c.select_rows-result.ensures.seals
 
 pub returns-clause-room : goal.returns-clause-room
 returns-clause-room g c =
-    let s = c.args.room.now in
-    let pack = c.pack-pack.result in
-    let rows = c.rows.result in
-    let fits = opens s pack rows c.pack-pack.ensures.value c.rows.ensures.value c.requires.room.enough in
-    let ends = c.select_rows-result.new.rows ++ c.select_rows-result.new.kept in
-    let same = subst (λ (l : List (List ℕ)). SameSizes l ends) (sym c.split_at_mut-rows.ensures.value) (sizes_join _ _ _ _ c.select_rows-result.ensures.rows c.select_rows-result.ensures.kept) in
-    let high : pack + buffered_blocks pack rows * pack ≡ s.pack + buffered_blocks s.pack s.rows * s.pack =
-    ap (λ (r : ℕ). pack + buffered_blocks pack r * pack) c.rows.ensures.value ∙ ap (λ (p : ℕ). p + buffered_blocks p s.rows * p) c.pack-pack.ensures.value in
     c.clear_shelf.ensures
-    ∙ opened_closed (width c.args.flat.now.schema) (pack + buffered_blocks pack rows * pack) s _ ends c.requires.room fits c.open-open.ensures.value same c.pack-pack.ensures.sound
-    ∙ ap (λ (n : ℕ). record s { high = max s.high n }) high
+    ∙ ends_closed c.args.room.now c.pack-pack.ensures.value c.rows.ensures.value c.open-open.ensures.value (width c.args.flat.now.schema) c.requires.room c.split_at_mut-rows.ensures.value c.select_rows-result.ensures.rows c.select_rows-result.ensures.kept c.pack-pack.ensures.sound
+
+pub returns-clause-source : goal.returns-clause-source
+returns-clause-source g c = simp (c.split_at_mut-rows.ensures.front_len ∙ c.pack-pack.ensures.value) at c.select_rows-result.ensures.source
+
+pub returns-clause-value : goal.returns-clause-value
+returns-clause-value g c = c.select_rows-result.ensures.value
+
+pub returns-clause-lives : goal.returns-clause-lives
+returns-clause-lives g c = simp (c.split_at_mut-rows.ensures.front_len ∙ c.pack-pack.ensures.value) at c.select_rows-result.ensures.lives
+
+pub returns-clause-flat : goal.returns-clause-flat
+returns-clause-flat g c = simp (c.split_at_mut-rows.ensures.front_len ∙ c.pack-pack.ensures.value) at c.select_rows-result.ensures.flat
+
+pub returns-clause-told : goal.returns-clause-told
+returns-clause-told g c = simp (c.split_at_mut-rows.ensures.front_len ∙ c.pack-pack.ensures.value) at c.select_rows-result.ensures.told
