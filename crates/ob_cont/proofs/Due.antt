@@ -19,7 +19,7 @@ use Rattle.ob_row.specs.Slots.{Slots}
 use Rattle.ob_blocks.specs.Blocks.{none_of}
 use Rattle.ob_flat.specs.declared.flat.Flat.{Flat}
 use Rattle.ob_flat.specs.Slots.{FitsSlot}
-use Rattle.ob_flat.specs.Flats.{IsInTurn, IsWritten, HoldsSlots, Represents, table_region, whole_blocks}
+use Rattle.ob_flat.specs.Flats.{IsInTurn, HoldsSlots, Represents, table_region, whole_blocks}
 use Rattle.ob_flat.proofs.Tables.{represents_whole, not_last, at_last}
 use Rattle.ob_cont.specs.Putting.{order_for}
 use Rattle.ob_cont.proofs.Places.{other_test}
@@ -50,10 +50,6 @@ turn_more pack i to w some is = elim (cases_eq pack 1) [
       let any : order_for pack ≡ Any = ap (λ (b : Bool). if b then Round else Any) (other_test pack 1 more) in
       record { lives = is.lives; turn = turn_any to.region (table_region (order_for pack) pack to.schema to.capacity) (((i + 1) % to.capacity) / pack) w any; written = is.written }
 ]
-
--- each of its places was written
-pub written_due : (order : Order) (pack place : ℕ) (to : Flat) (w : World) → IsInTurn order pack to place w → IsWritten pack to w
-written_due order pack place to w is = record { order = order; lives = is.lives; written = is.written }
 
 -- a read leaves it so
 pub due_read : (order : Order) (pack place : ℕ) (to : Flat) (a b : World) (x : List Access) → Went x none a b → ((q y : ℕ) (shape : Region) → OnTurn q shape y a → OnTurn q shape y b)

@@ -4,3 +4,4 @@ pub mod Due
 pub mod Rows
 pub mod Counting
 mod Examples
+pub mod Fresh

@@ -1,4 +1,4 @@
-use Rattle.std.proofs.Common.{◌≡◌, ◌<◌, ◌*◌, ◌/◌, ◌%◌, min, ℕ, inl, inr, length, take, sym, ◌∙◌, ap, subst, arith}
+use Rattle.std.proofs.Common.{◌≡◌, ◌≤◌, ◌<◌, ◌+◌, ◌-◌, ◌*◌, ◌/◌, ◌%◌, min, ℕ, inl, inr, length, take, sym, ◌∙◌, ap, subst, arith}
 use Rattle.std.proofs.lemmas.List.{take_all}
 use Rattle.std.proofs.lemmas.Result.{err_from_is_err_and}
 use Rattle.ob_base.specs.Accesses.{read_at}
@@ -23,6 +23,52 @@ use Rattle.ob_cont.proofs.Counting.{block_inside, slots_next, spent, wide_rows}
 use Rattle.ob_cont.proofs.Due.{due_read}
 use Rattle.ob_cont.proofs.Puts.{put_block_more}
 use Rattle.ob_cont.proofs.filling.fill_result.Goals as goal
+
+-- one block less is left
+nearer : {u n : ℕ} → u < n → n - (u + 1) < n - u
+nearer less = omega arith
+
+all_done : {u n : ℕ} → u ≤ n → n ≤ u → u ≡ n
+all_done less more = omega arith
+
+pub get-requires-clause-ready : goal.get-requires-clause-ready
+get-requires-clause-ready g c = c.loop-u.invariant.went.lasts.ready
+
+pub returns-in_err-get-clause-held : goal.returns-in_err-get-clause-held
+returns-in_err-get-clause-held g c = c.loop-u.invariant.held
+
+pub returns-in_err-get-clause-ok : goal.returns-in_err-get-clause-ok
+returns-in_err-get-clause-ok g c = let p = err_from_is_err_and c.from_residual.result c.from_residual.ensures.1 in rw p.1 tt
+
+pub returns-in_err-get-clause-written : goal.returns-in_err-get-clause-written
+returns-in_err-get-clause-written g c = let p = err_from_is_err_and c.from_residual.result c.from_residual.ensures.1 in rw p.1 tt
+
+pub returns-in_err-put_block-clause-ok : goal.returns-in_err-put_block-clause-ok
+returns-in_err-put_block-clause-ok g c = let p = err_from_is_err_and c.from_residual-in_err-put_block.result c.from_residual-in_err-put_block.ensures.1 in rw p.1 tt
+
+pub returns-in_err-put_block-clause-written : goal.returns-in_err-put_block-clause-written
+returns-in_err-put_block-clause-written g c = let p = err_from_is_err_and c.from_residual-in_err-put_block.result c.from_residual-in_err-put_block.ensures.1 in rw p.1 tt
+
+pub loop-u-smaller : goal.loop-u-smaller
+loop-u-smaller g c = nearer c.loop-u-test.true
+
+pub returns-clause-rows : goal.returns-clause-rows
+returns-clause-rows g c = c.loop-u.invariant.same
+
+pub returns-clause-held : goal.returns-clause-held
+returns-clause-held g c = c.loop-u.invariant.held
+
+pub returns-clause-ok : goal.returns-clause-ok
+returns-clause-ok g c = rw (all_done c.loop-u.auto.u-end c.loop-u-test.false ∙ c.div_ceil-u-end.ensures) at c.loop-u.invariant.went
+
+pub returns-clause-err : goal.returns-clause-err
+returns-clause-err g c = tt
+
+pub returns-clause-never : goal.returns-clause-never
+returns-clause-never g c = tt
+
+pub returns-clause-seals : goal.returns-clause-seals
+returns-clause-seals g c = c.loop-u.invariant.seals
 
 pub get-requires-clause-spare : goal.get-requires-clause-spare
 get-requires-clause-spare g c =

@@ -4,12 +4,13 @@ use Rattle.ob_base.specs.Schemas.{width}
 use Rattle.ob_row.specs.Slots.{Slots}
 use Rattle.ob_row.specs.Truth.{is_true}
 use Rattle.ob_room.specs.RoomState.{RoomState, clear}
-use Rattle.ob_vault.specs.Places.{at}
+use Rattle.ob_vault.specs.Places.{at, RowsFit}
 use Rattle.ob_vault.specs.Rows.{SameSizes}
 use Rattle.ob_vault.proofs.RowsLemmas.{sizes_join}
 use Rattle.ob_flat.specs.Flats.{Represents}
 use Rattle.ob_flat.proofs.Rooms.{opened_wide, opened_closed}
 use Rattle.ob_cont.proofs.Places.{put_consecutive}
+use Rattle.ob_flat.proofs.Halves.{both_fit, both_free, pack_fits, half_within, first_count, second_count, first_fit, second_fit, second_spelt}
 use Rattle.ob_cont.proofs.selecting.select.Goals as goal
 
 -- the second block has as many rows as the first
@@ -81,3 +82,63 @@ returns-clause-exact g c = λ tells slots number consecutive is nolie.
     let told = rw same at c.select_rows-result.ensures.told in
     at_ok c.select_rows-result.result _ _ _ (λ fresh held. subst (λ (l : Slots). Represents c.args.room.now.pack fresh l (at g.R.Revisions.state c.select_rows-result.new.vault (g.S.BlockStore.state c.select_rows-result.new.store))) (put_consecutive c.args.k (is_true c.args.pred.now) slots consecutive (omega (arith, number))) held)
     (told tells slots is nolie)
+
+pub overflow_mul-pack : goal.overflow_mul-pack
+overflow_mul-pack g c = both_fit (width c.args.flat.now.schema) c.args.room.now c.requires.room c.pack-pack.ensures.sound c.pack-pack.ensures.value
+
+pub open-open-requires-clause-free : goal.open-open-requires-clause-free
+open-open-requires-clause-free g c = both_free (width c.args.flat.now.schema) c.args.room.now c.requires.room c.pack-pack.ensures.sound c.pack-pack.ensures.value
+
+pub open-open-requires-clause-shelf : goal.open-open-requires-clause-shelf
+open-open-requires-clause-shelf g c = c.requires.room.shelf
+
+pub overflow_cast-pack : goal.overflow_cast-pack
+overflow_cast-pack g c = pack_fits (width c.args.flat.now.schema) c.args.room.now c.requires.room c.pack-pack.ensures.sound c.pack-pack.ensures.value
+
+pub split_at_mut-rows-requires : goal.split_at_mut-rows-requires
+split_at_mut-rows-requires g c = half_within (width c.args.flat.now.schema) c.args.room.now c.requires.room c.pack-pack.ensures.sound c.pack-pack.ensures.value c.open-open.ensures.value
+
+pub select_rows-result-requires-clause-ready : goal.select_rows-result-requires-clause-ready
+select_rows-result-requires-clause-ready g c = c.requires.ready
+
+pub select_rows-result-requires-clause-few : goal.select_rows-result-requires-clause-few
+select_rows-result-requires-clause-few g c = c.requires.few
+
+pub select_rows-result-requires-clause-size : goal.select_rows-result-requires-clause-size
+select_rows-result-requires-clause-size g c = c.requires.size
+
+pub select_rows-result-requires-clause-number : goal.select_rows-result-requires-clause-number
+select_rows-result-requires-clause-number g c = c.requires.number
+
+pub select_rows-result-requires-clause-spare : goal.select_rows-result-requires-clause-spare
+select_rows-result-requires-clause-spare g c = rw (second_count (width c.args.flat.now.schema) c.args.room.now c.requires.room c.pack-pack.ensures.sound c.pack-pack.ensures.value c.open-open.ensures.value c.split_at_mut-rows.ensures.back) c.requires.spare
+
+pub select_rows-result-requires-clause-flat : goal.select_rows-result-requires-clause-flat
+select_rows-result-requires-clause-flat g c = rw (second_count (width c.args.flat.now.schema) c.args.room.now c.requires.room c.pack-pack.ensures.sound c.pack-pack.ensures.value c.open-open.ensures.value c.split_at_mut-rows.ensures.back) c.requires.flat
+
+pub select_rows-result-requires-clause-pack : goal.select_rows-result-requires-clause-pack
+select_rows-result-requires-clause-pack g c = rw (second_count (width c.args.flat.now.schema) c.args.room.now c.requires.room c.pack-pack.ensures.sound c.pack-pack.ensures.value c.open-open.ensures.value c.split_at_mut-rows.ensures.back) (c.pack-pack.ensures.sound.pack_some, c.pack-pack.ensures.sound.pack_few)
+
+pub select_rows-result-requires-clause-count : goal.select_rows-result-requires-clause-count
+select_rows-result-requires-clause-count g c = first_count (width c.args.flat.now.schema) c.args.room.now c.requires.room c.pack-pack.ensures.sound c.pack-pack.ensures.value c.open-open.ensures.value c.split_at_mut-rows.ensures.front ∙ sym (second_count (width c.args.flat.now.schema) c.args.room.now c.requires.room c.pack-pack.ensures.sound c.pack-pack.ensures.value c.open-open.ensures.value c.split_at_mut-rows.ensures.back)
+
+pub select_rows-result-requires-clause-fit : goal.select_rows-result-requires-clause-fit
+select_rows-result-requires-clause-fit g c = subst (λ (n : ℕ). RowsFit c.split_at_mut-rows.result.0.now (n * width c.args.flat.now.schema)) (first_count (width c.args.flat.now.schema) c.args.room.now c.requires.room c.pack-pack.ensures.sound c.pack-pack.ensures.value c.open-open.ensures.value c.split_at_mut-rows.ensures.front ∙ sym (second_count (width c.args.flat.now.schema) c.args.room.now c.requires.room c.pack-pack.ensures.sound c.pack-pack.ensures.value c.open-open.ensures.value c.split_at_mut-rows.ensures.back)) (first_fit (width c.args.flat.now.schema) c.args.room.now c.requires.room c.pack-pack.ensures.sound c.pack-pack.ensures.value c.open-open.ensures.value c.split_at_mut-rows.ensures.front)
+
+pub select_rows-result-requires-clause-space : goal.select_rows-result-requires-clause-space
+select_rows-result-requires-clause-space g c = second_fit (width c.args.flat.now.schema) c.args.room.now c.requires.room c.pack-pack.ensures.sound c.pack-pack.ensures.value c.open-open.ensures.value c.split_at_mut-rows.ensures.back
+
+pub select_rows-result-requires-clause-dummies : goal.select_rows-result-requires-clause-dummies
+select_rows-result-requires-clause-dummies g c = second_spelt c.args.flat.now.schema c.args.room.now _ c.requires.room c.open-open.ensures.value c.split_at_mut-rows.ensures.back
+
+pub returns-clause-gone : goal.returns-clause-gone
+returns-clause-gone g c = c.select_rows-result.ensures.gone
+
+pub returns-clause-value : goal.returns-clause-value
+returns-clause-value g c = c.select_rows-result.ensures.value
+
+pub returns-clause-err : goal.returns-clause-err
+returns-clause-err g c = rw (second_count (width c.args.flat.now.schema) c.args.room.now c.requires.room c.pack-pack.ensures.sound c.pack-pack.ensures.value c.open-open.ensures.value c.split_at_mut-rows.ensures.back) at c.select_rows-result.ensures.err
+
+pub returns-clause-seals : goal.returns-clause-seals
+returns-clause-seals g c = rw (second_count (width c.args.flat.now.schema) c.args.room.now c.requires.room c.pack-pack.ensures.sound c.pack-pack.ensures.value c.open-open.ensures.value c.split_at_mut-rows.ensures.back) at c.select_rows-result.ensures.seals

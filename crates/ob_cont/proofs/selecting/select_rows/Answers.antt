@@ -1,4 +1,4 @@
-use Rattle.std.proofs.Common.{◌*◌, inl, inr, length, refl, subst, arith}
+use Rattle.std.proofs.Common.{◌*◌, inl, inr, length, refl, ◌∙◌, subst, arith}
 use Rattle.std.proofs.lemmas.Result.{err_from_is_err_and}
 use Rattle.ob_base.specs.Lists.{each}
 use Rattle.ob_base.specs.Numbers.{blocks_for}
@@ -13,12 +13,14 @@ use Rattle.ob_row.specs.Truth.{is_true}
 use Rattle.ob_blocks.specs.Blocks.{none_of}
 use Rattle.ob_flat.specs.declared.flat.Flat.{Flat}
 use Rattle.ob_flat.specs.Flats.{Represents, HoldsSlots, Accepts, table_region, whole_blocks}
+use Rattle.ob_flat.proofs.Rooms.{same_rows}
 use Rattle.ob_flat.proofs.Runs.{pass_more, pass_after, pass_then}
-use Rattle.ob_flat.proofs.Tables.{blocks_few, flat_lasts, represents_lasts, holds_whole}
+use Rattle.ob_flat.proofs.Tables.{fits_sized, flat_is, blocks_few, flat_lasts, represents_lasts, holds_whole}
 use Rattle.ob_cont.specs.Putting.{order_for, put_slots}
 use Rattle.ob_cont.proofs.Due.{represents_held}
 use Rattle.ob_cont.proofs.Places.{length-put_slots}
 use Rattle.ob_cont.proofs.Puts.{put_whole}
+use Rattle.ob_cont.proofs.Fresh.{sized_less, first_spared}
 use Rattle.ob_cont.proofs.selecting.select_rows.Goals as goal
 
 pub returns-in_err-region-clause-err : goal.returns-in_err-region-clause-err
@@ -145,3 +147,136 @@ returns-in-Err-clause-told g c = λ tells slots is nolie.
     let empty : Represents pack fresh (empty_slots k) (at g.R.Revisions.state c.create_blocks.new.vault (g.S.BlockStore.state c.create_blocks.new.store)) =
     rw (c.copied.ensures, c.in_ok-region.ensures.number) (c.in_ok-region.ensures.told tells) in
     inl (c.in-Err.ensures.told (tells_went _ _ _ _ made tells) slots (whole_blocks pack k (none_of k)) mid (holds_whole pack fresh (empty_slots k) _ c.requires.pack.0 empty) nolie)
+
+pub create_blocks-requires-clause-ready : goal.create_blocks-requires-clause-ready
+create_blocks-requires-clause-ready g c = c.requires.ready
+
+pub create_blocks-requires-clause-few : goal.create_blocks-requires-clause-few
+create_blocks-requires-clause-few g c = c.requires.few
+
+pub create_blocks-requires-clause-pack : goal.create_blocks-requires-clause-pack
+create_blocks-requires-clause-pack g c = c.requires.pack
+
+pub create_blocks-requires-clause-dummies : goal.create_blocks-requires-clause-dummies
+create_blocks-requires-clause-dummies g c = c.requires.dummies
+
+pub create_blocks-requires-clause-spare : goal.create_blocks-requires-clause-spare
+create_blocks-requires-clause-spare g c = first_spared _ _ _ c.requires.spare
+
+pub create_blocks-requires-clause-size : goal.create_blocks-requires-clause-size
+create_blocks-requires-clause-size g c = fits_sized _ _ _ c.requires.pack.0 (sized_less c.requires.size c.requires.number.0 c.requires.number.1)
+
+pub create_blocks-requires-clause-fit : goal.create_blocks-requires-clause-fit
+create_blocks-requires-clause-fit g c = c.requires.space
+
+pub returns-in_err-region-clause-memory : goal.returns-in_err-region-clause-memory
+returns-in_err-region-clause-memory g c = λ is.
+    let p = err_from_is_err_and c.from_residual.result c.from_residual.ensures.1 in
+    c.in_err-region.ensures.memory (cc (is, p.1, p.2))
+
+pub returns-in_err-region-clause-seals : goal.returns-in_err-region-clause-seals
+returns-in_err-region-clause-seals g c = λ good fine. c.create_blocks.ensures.seals good fine
+
+pub returns-in_err-region-clause-rows : goal.returns-in_err-region-clause-rows
+returns-in_err-region-clause-rows g c = same_rows c.args.rows.now
+
+pub returns-in_err-region-clause-held : goal.returns-in_err-region-clause-held
+returns-in_err-region-clause-held g c = same_rows c.args.held.now
+
+pub returns-in_err-region-clause-ok : goal.returns-in_err-region-clause-ok
+returns-in_err-region-clause-ok g c = let p = err_from_is_err_and c.from_residual.result c.from_residual.ensures.1 in rw p.1 tt
+
+pub returns-in_err-region-clause-value : goal.returns-in_err-region-clause-value
+returns-in_err-region-clause-value g c = let p = err_from_is_err_and c.from_residual.result c.from_residual.ensures.1 in rw p.1 tt
+
+pub returns-in_err-region-clause-lives : goal.returns-in_err-region-clause-lives
+returns-in_err-region-clause-lives g c = let p = err_from_is_err_and c.from_residual.result c.from_residual.ensures.1 in rw p.1 tt
+
+pub returns-in_err-region-clause-flat : goal.returns-in_err-region-clause-flat
+returns-in_err-region-clause-flat g c = let p = err_from_is_err_and c.from_residual.result c.from_residual.ensures.1 in rw p.1 tt
+
+pub returns-in_err-region-clause-never : goal.returns-in_err-region-clause-never
+returns-in_err-region-clause-never g c = let p = err_from_is_err_and c.from_residual.result c.from_residual.ensures.1 in rw (p.1, p.2) (elim c.in_err-region.ensures.never [ inl failed ↦ inl failed | inr none ↦ inr (inl none) ])
+
+pub returns-in_err-region-clause-gone : goal.returns-in_err-region-clause-gone
+returns-in_err-region-clause-gone g c = let p = err_from_is_err_and c.from_residual.result c.from_residual.ensures.1 in rw p.1 c.in_err-region.ensures.gone
+
+pub returns-in_err-region-clause-told : goal.returns-in_err-region-clause-told
+returns-in_err-region-clause-told g c = λ tells slots is nolie. let p = err_from_is_err_and c.from_residual.result c.from_residual.ensures.1 in rw (p.1, p.2) c.in_err-region.ensures.never
+
+pub fill_result-requires-clause-ready : goal.fill_result-requires-clause-ready
+fill_result-requires-clause-ready g c = c.in_ok-region.ensures.ok.lasts.ready
+
+pub fill_result-requires-clause-apart : goal.fill_result-requires-clause-apart
+fill_result-requires-clause-apart g c = λ same. lives_apart _ _ _ c.requires.ready c.requires.flat.made.lives (same ∙ c.in_ok-region.ensures.number)
+
+pub fill_result-requires-clause-schema : goal.fill_result-requires-clause-schema
+fill_result-requires-clause-schema g c = c.copied.ensures
+
+pub fill_result-requires-clause-size : goal.fill_result-requires-clause-size
+fill_result-requires-clause-size g c = c.requires.size
+
+pub fill_result-requires-clause-pack : goal.fill_result-requires-clause-pack
+fill_result-requires-clause-pack g c = c.requires.pack
+
+pub fill_result-requires-clause-fit : goal.fill_result-requires-clause-fit
+fill_result-requires-clause-fit g c = c.requires.fit
+
+pub fill_result-requires-clause-count : goal.fill_result-requires-clause-count
+fill_result-requires-clause-count g c = c.requires.count
+
+pub fill_result-requires-clause-space : goal.fill_result-requires-clause-space
+fill_result-requires-clause-space g c = c.requires.space
+
+pub returns-in-Ok-clause-rows : goal.returns-in-Ok-clause-rows
+returns-in-Ok-clause-rows g c = c.fill_result.ensures.rows
+
+pub returns-in-Ok-clause-held : goal.returns-in-Ok-clause-held
+returns-in-Ok-clause-held g c = c.fill_result.ensures.held
+
+pub returns-in-Ok-clause-err : goal.returns-in-Ok-clause-err
+returns-in-Ok-clause-err g c = tt
+
+pub returns-in-Ok-clause-never : goal.returns-in-Ok-clause-never
+returns-in-Ok-clause-never g c = tt
+
+pub returns-in-Ok-clause-gone : goal.returns-in-Ok-clause-gone
+returns-in-Ok-clause-gone g c = tt
+
+pub returns-in-Ok-clause-memory : goal.returns-in-Ok-clause-memory
+returns-in-Ok-clause-memory g c = λ none. cc
+
+pub returns-in-Ok-clause-value : goal.returns-in-Ok-clause-value
+returns-in-Ok-clause-value g c = flat_is c.copied.ensures refl c.in_ok-region.ensures.number
+
+pub returns-in-Err-clause-rows : goal.returns-in-Err-clause-rows
+returns-in-Err-clause-rows g c = c.fill_result.ensures.rows
+
+pub returns-in-Err-clause-held : goal.returns-in-Err-clause-held
+returns-in-Err-clause-held g c = c.fill_result.ensures.held
+
+pub returns-in-Err-clause-ok : goal.returns-in-Err-clause-ok
+returns-in-Err-clause-ok g c = tt
+
+pub returns-in-Err-clause-value : goal.returns-in-Err-clause-value
+returns-in-Err-clause-value g c = tt
+
+pub returns-in-Err-clause-lives : goal.returns-in-Err-clause-lives
+returns-in-Err-clause-lives g c = tt
+
+pub returns-in-Err-clause-flat : goal.returns-in-Err-clause-flat
+returns-in-Err-clause-flat g c = tt
+
+pub returns-in-Err-clause-gone : goal.returns-in-Err-clause-gone
+returns-in-Err-clause-gone g c = rw (← c.in_ok-region.ensures.number) c.forget.ensures.gone
+
+pub fill_result-requires-clause-region : goal.fill_result-requires-clause-region
+fill_result-requires-clause-region g c = rw c.copied.ensures (fits_sized _ _ _ c.requires.pack.0 (sized_less c.requires.size c.requires.number.0 c.requires.number.1))
+
+pub returns-in-Ok-clause-seals : goal.returns-in-Ok-clause-seals
+returns-in-Ok-clause-seals g c = λ good fine.
+    let fine' : Accepts good (length c.args.held.now) c.copied.result c.in_ok-region.region = rw (c.in_ok-region.ensures.number, c.copied.ensures) fine in
+    seals_join good _ _ _ c.in_ok-region.ensures.ok.lasts.later (c.create_blocks.ensures.seals good fine) (c.fill_result.ensures.seals good fine')
+
+pub returns-in-Ok-clause-flat : goal.returns-in-Ok-clause-flat
+returns-in-Ok-clause-flat g c = c.in-Ok.ensures.written
