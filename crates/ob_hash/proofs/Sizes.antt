@@ -1,5 +1,5 @@
 -- The numbers of blocks, and of accesses.
-use Rattle.std.proofs.Common.{◌≡◌, ◌≤◌, ◌<◌, ◌+◌, ◌*◌, ℕ, min, length, refl, ◌∙◌, ap, arith}
+use Rattle.std.proofs.Common.{◌≡◌, ◌≤◌, ◌<◌, ◌+◌, ◌-◌, ◌*◌, ℕ, min, length, refl, ◌∙◌, ap, arith}
 use Rattle.std.proofs.lemmas.Grind.{div_ceil_times}
 use Rattle.ob_base.specs.Lists.{each}
 use Rattle.ob_base.specs.Numbers.{blocks_for}
@@ -24,6 +24,10 @@ blocks_whole r m some =
 
 pub product_within : (a b r : ℕ) → a ≤ b → a * r ≤ b * r
 product_within a b r fits = grind arith
+
+-- after one more, there are fewer left
+pub nearer : {j n : ℕ} → j < n → n - (j + 1) < n - j
+nearer less = omega arith
 
 -- block y of a bucket is one of the result
 pub place_in : (k depth b y : ℕ) → b < k → y < depth → b * depth + y < k * depth

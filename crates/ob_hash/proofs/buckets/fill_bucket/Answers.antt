@@ -1,4 +1,4 @@
-use Rattle.std.proofs.Common.{◌≡◌, ◌≤◌, ◌+◌, ◌*◌, ℕ, Bool, inl, inr, Option, length, refl, sym, ◌∙◌, ap, subst, arith}
+use Rattle.std.proofs.Common.{◌≡◌, ◌≤◌, ◌<◌, ◌+◌, ◌*◌, ℕ, Fits, w32, Bool, inl, inr, Option, length, refl, sym, ◌∙◌, ap, subst, arith}
 use Rattle.std.proofs.lemmas.Result.{err_from_is_err_and}
 use Rattle.ob_base.specs.Numbers.{blocks_for}
 use Rattle.ob_base.specs.Schemas.{width}
@@ -17,8 +17,67 @@ use Rattle.ob_hash.specs.Waiting.{waits_after, filled_with}
 use Rattle.ob_hash.specs.Hashing.{block_part}
 use Rattle.ob_hash.proofs.Alike.{holds_alike, holds_packed, turn_packed, any_turn, fills_packed, put_packed}
 use Rattle.ob_hash.proofs.Ranges.{blocks_from, shown, shown_none, waits_none, waits_next, shown_next, waits_all, shown_all}
-use Rattle.ob_hash.proofs.Sizes.{blocks_of, blocks_few, place_in, product_within, touches}
+use Rattle.ob_hash.proofs.Sizes.{nearer, blocks_of, blocks_few, place_in, product_within, touches}
 use Rattle.ob_hash.proofs.buckets.fill_bucket.Goals as goal
+
+-- the first place of a bucket
+start_fits : (k depth b y : ℕ) → b < k → y < depth → k * depth ≤ 134217728 → Fits w32 (b * depth)
+start_fits k depth b y below inside few = omega (arith, few, place_in k depth b y below inside)
+
+-- all blocks
+all_done : {y n : ℕ} → y ≤ n → n ≤ y → y ≡ n
+all_done less more = omega arith
+
+pub overflow_mul-place : goal.overflow_mul-place
+overflow_mul-place g c = start_fits c.args.hashed.now.k c.args.hashed.now.depth c.args.bucket c.loop-y.y c.requires.bucket c.loop-y-test.true (blocks_few (length c.args.block.now) c.args.hashed.now c.requires.hashed c.requires.pack.0)
+
+pub rework_block-requires-clause-ready : goal.rework_block-requires-clause-ready
+rework_block-requires-clause-ready g c = c.loop-y.invariant.went.lasts.ready
+
+pub rework_block-requires-clause-turn : goal.rework_block-requires-clause-turn
+rework_block-requires-clause-turn g c = (Any, turn_packed _ _ _ c.args.hashed.now.flat.now _ (sym c.loop-y.invariant.same.count) (any_turn (length c.args.block.now) 0 _ c.args.hashed.now.flat.now _ c.loop-y.invariant.open_now))
+
+pub rework_block-requires-clause-size : goal.rework_block-requires-clause-size
+rework_block-requires-clause-size g c = rw c.loop-y.invariant.same.count c.requires.hashed.size
+
+pub rework_block-requires-clause-pack : goal.rework_block-requires-clause-pack
+rework_block-requires-clause-pack g c = rw c.loop-y.invariant.same.count c.requires.pack
+
+pub rework_block-requires-clause-suits : goal.rework_block-requires-clause-suits
+rework_block-requires-clause-suits g c = c.loop-y.invariant.row
+
+pub returns-in_err-rework_block-clause-block : goal.returns-in_err-rework_block-clause-block
+returns-in_err-rework_block-clause-block g c = fit_trans _ _ _ c.loop-y.invariant.same c.rework_block.ensures.rows
+
+pub returns-in_err-rework_block-clause-ok : goal.returns-in_err-rework_block-clause-ok
+returns-in_err-rework_block-clause-ok g c = let p = err_from_is_err_and c.from_residual.result c.from_residual.ensures.1 in rw p.1 tt
+
+pub returns-in_err-rework_block-clause-open : goal.returns-in_err-rework_block-clause-open
+returns-in_err-rework_block-clause-open g c = let p = err_from_is_err_and c.from_residual.result c.from_residual.ensures.1 in rw p.1 tt
+
+pub returns-in_err-rework_block-clause-seals : goal.returns-in_err-rework_block-clause-seals
+returns-in_err-rework_block-clause-seals g c = λ good fine. seals_join good _ _ _ c.loop-y.invariant.went.lasts.later (c.loop-y.invariant.seals good fine) (c.rework_block.ensures.seals good (rw c.loop-y.invariant.same.count fine))
+
+pub loop-y-smaller : goal.loop-y-smaller
+loop-y-smaller g c = nearer c.loop-y-test.true
+
+pub returns-clause-block : goal.returns-clause-block
+returns-clause-block g c = c.loop-y.invariant.same
+
+pub returns-clause-ok : goal.returns-clause-ok
+returns-clause-ok g c = rw (all_done c.loop-y.auto.y-end c.loop-y-test.false) at c.loop-y.invariant.went
+
+pub returns-clause-err : goal.returns-clause-err
+returns-clause-err g c = tt
+
+pub returns-clause-never : goal.returns-clause-never
+returns-clause-never g c = tt
+
+pub returns-clause-seals : goal.returns-clause-seals
+returns-clause-seals g c = c.loop-y.invariant.seals
+
+pub returns-clause-open : goal.returns-clause-open
+returns-clause-open g c = c.loop-y.invariant.open_now
 
 pub loop-y-init : goal.loop-y-init
 loop-y-init g c =

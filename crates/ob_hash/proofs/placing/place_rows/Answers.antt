@@ -1,5 +1,6 @@
-use Rattle.std.proofs.Common.{◌≡◌, ◌<◌, ◌+◌, ◌*◌, ◌-◌, min, ℕ, Bool, Option, None, IsTrue, length, slice_index_or, sym, ◌∙◌, ap, subst, arith}
+use Rattle.std.proofs.Common.{◌≡◌, ◌≤◌, ◌<◌, ◌+◌, ◌*◌, ◌-◌, min, ℕ, Fits, w32, w64, Bool, Option, None, IsTrue, inl, inr, length, refl, slice_index_or, sym, ◌∙◌, ap, subst, arith}
 use Rattle.std.proofs.lemmas.Result.{err_from_is_err_and}
+use Rattle.ob_base.specs.Numbers.{blocks_for}
 use Rattle.ob_base.specs.Schemas.{Columns, width}
 use Rattle.ob_script.specs.Parts.{slots_in}
 use Rattle.ob_store.proofs.Steps.{none_before}
@@ -16,17 +17,125 @@ use Rattle.ob_blocks.specs.Blocks.{block_at}
 use Rattle.ob_flat.specs.Flats.{Accepts, whole_blocks}
 use Rattle.ob_flat.proofs.Rooms.{same_rows}
 use Rattle.ob_flat.proofs.Runs.{pass_each, pass_malformed}
+use Rattle.ob_flat.proofs.Tables.{index_fits}
 use Rattle.ob_hash.specs.Bucketed.{spread, buckets_of, unplaced_of}
 use Rattle.ob_hash.specs.Filling.{IsRow}
 use Rattle.ob_hash.specs.Hashing.{slot_part}
 use Rattle.ob_hash.proofs.Alike.{holds_alike, went_first, cut_first}
 use Rattle.ob_hash.proofs.Places.{are_buckets, block_slot, selected_some, placed, not_placed}
-use Rattle.ob_hash.proofs.Sizes.{slots_touch, slot_room, slots_inside}
+use Rattle.ob_hash.proofs.Sizes.{nearer, block_begins, slots_touch, slot_room, slots_inside}
 use Rattle.ob_hash.proofs.placing.place_rows.Goals as goal
 
 -- the slots below the capacity
 ends : (rows pack capacity u n : ℕ) → rows ≡ pack → n ≡ min rows (capacity - u * rows) → n ≡ slots_in pack capacity u
 ends rows pack capacity u n same is = is ∙ ap (λ (r : ℕ). slots_in r capacity u) same
+
+-- where the slots of a block begin, and the others
+module _ {rows pack : ℕ} (capacity u : ℕ) (same : rows ≡ pack) (some : 1 ≤ pack) (few : pack ≤ 16) (most : capacity ≤ 16777216) (below : u < blocks_for pack capacity) where
+  first_is : u * rows ≡ u * pack
+  first_is = ap (λ (n : ℕ). u * n) same
+
+  first_fits : Fits w32 (u * rows)
+  first_fits = omega (arith, first_is, index_fits pack capacity u some few most below)
+
+  first_begins : u * rows ≤ capacity
+  first_begins = omega (arith, first_is, block_begins pack capacity u some below)
+
+  next_fits : {j n : ℕ} → n ≡ min rows (capacity - u * rows) → j < n → Fits w32 (u * rows + j)
+  next_fits is less = omega (arith, is, less, first_is, same, index_fits pack capacity u some few most below)
+
+  index_small : {j n : ℕ} → n ≡ min rows (capacity - u * rows) → j < n → Fits w64 j
+  index_small is less = omega (arith, is, less, same, few)
+
+pub overflow_mul-first : goal.overflow_mul-first
+overflow_mul-first g c = first_fits c.args.flat.now.capacity c.args.u c.requires.count c.requires.pack.0 c.requires.pack.1 c.requires.size.most c.requires.place
+
+pub overflow_sub-flat : goal.overflow_sub-flat
+overflow_sub-flat g c = first_begins c.args.flat.now.capacity c.args.u c.requires.count c.requires.pack.0 c.requires.pack.1 c.requires.size.most c.requires.place
+
+pub overflow_cast-row : goal.overflow_cast-row
+overflow_cast-row g c = index_small c.args.flat.now.capacity c.args.u c.requires.count c.requires.pack.0 c.requires.pack.1 c.requires.size.most c.requires.place c.min-j-end.ensures c.loop-j-test.true
+
+pub overflow_add-i : goal.overflow_add-i
+overflow_add-i g c = next_fits c.args.flat.now.capacity c.args.u c.requires.count c.requires.pack.0 c.requires.pack.1 c.requires.size.most c.requires.place c.min-j-end.ensures c.loop-j-test.true
+
+pub returns-in-Err-clause-block : goal.returns-in-Err-clause-block
+returns-in-Err-clause-block g c = same_rows c.args.block.now
+
+pub returns-in-Err-clause-read : goal.returns-in-Err-clause-read
+returns-in-Err-clause-read g c = tt
+
+pub returns-in-Err-clause-ok : goal.returns-in-Err-clause-ok
+returns-in-Err-clause-ok g c = tt
+
+pub returns-in-Err-clause-open : goal.returns-in-Err-clause-open
+returns-in-Err-clause-open g c = tt
+
+pub returns-in-Err-clause-never : goal.returns-in-Err-clause-never
+returns-in-Err-clause-never g c = inr (inl refl)
+
+pub returns-in-Err-clause-seals : goal.returns-in-Err-clause-seals
+returns-in-Err-clause-seals g c = λ good fine. seals_none good _
+
+pub fill_buckets-requires-clause-ready : goal.fill_buckets-requires-clause-ready
+fill_buckets-requires-clause-ready g c = c.loop-j.invariant.went.lasts.ready
+
+pub fill_buckets-requires-clause-hashed : goal.fill_buckets-requires-clause-hashed
+fill_buckets-requires-clause-hashed g c = rw c.loop-j.invariant.same.count c.requires.hashed
+
+pub fill_buckets-requires-clause-open : goal.fill_buckets-requires-clause-open
+fill_buckets-requires-clause-open g c = rw c.loop-j.invariant.same.count c.loop-j.invariant.open_now
+
+pub fill_buckets-requires-clause-pack : goal.fill_buckets-requires-clause-pack
+fill_buckets-requires-clause-pack g c = rw c.loop-j.invariant.same.count c.requires.pack
+
+pub returns-in_err-waits-in-Ok-holds-clause-read : goal.returns-in_err-waits-in-Ok-holds-clause-read
+returns-in_err-waits-in-Ok-holds-clause-read g c = let p = err_from_is_err_and c.from_residual.result c.from_residual.ensures.1 in rw p.1 tt
+
+pub returns-in_err-waits-in-Ok-holds-clause-ok : goal.returns-in_err-waits-in-Ok-holds-clause-ok
+returns-in_err-waits-in-Ok-holds-clause-ok g c = let p = err_from_is_err_and c.from_residual.result c.from_residual.ensures.1 in rw p.1 tt
+
+pub returns-in_err-waits-in-Ok-holds-clause-open : goal.returns-in_err-waits-in-Ok-holds-clause-open
+returns-in_err-waits-in-Ok-holds-clause-open g c = let p = err_from_is_err_and c.from_residual.result c.from_residual.ensures.1 in rw p.1 tt
+
+pub returns-in_err-waits-in-Ok-holds-clause-never : goal.returns-in_err-waits-in-Ok-holds-clause-never
+returns-in_err-waits-in-Ok-holds-clause-never g c = let p = err_from_is_err_and c.from_residual.result c.from_residual.ensures.1 in rw (p.1, p.2) (elim c.in_err-waits-in-Ok-holds.ensures.never [ inl e ↦ inl e | inr e ↦ inr (inr e) ])
+
+pub returns-in-Err-holds-clause-block : goal.returns-in-Err-holds-clause-block
+returns-in-Err-holds-clause-block g c = c.loop-j.invariant.same
+
+pub returns-in-Err-holds-clause-read : goal.returns-in-Err-holds-clause-read
+returns-in-Err-holds-clause-read g c = tt
+
+pub returns-in-Err-holds-clause-ok : goal.returns-in-Err-holds-clause-ok
+returns-in-Err-holds-clause-ok g c = tt
+
+pub returns-in-Err-holds-clause-open : goal.returns-in-Err-holds-clause-open
+returns-in-Err-holds-clause-open g c = tt
+
+pub returns-in-Err-holds-clause-never : goal.returns-in-Err-holds-clause-never
+returns-in-Err-holds-clause-never g c = inr (inl refl)
+
+pub returns-in-Err-holds-clause-seals : goal.returns-in-Err-holds-clause-seals
+returns-in-Err-holds-clause-seals g c = c.loop-j.invariant.seals
+
+pub loop-j-smaller : goal.loop-j-smaller
+loop-j-smaller g c = nearer c.loop-j-test.true
+
+pub returns-clause-block : goal.returns-clause-block
+returns-clause-block g c = c.loop-j.invariant.same
+
+pub returns-clause-err : goal.returns-clause-err
+returns-clause-err g c = tt
+
+pub returns-clause-never : goal.returns-clause-never
+returns-clause-never g c = tt
+
+pub returns-clause-seals : goal.returns-clause-seals
+returns-clause-seals g c = c.loop-j.invariant.seals
+
+pub returns-clause-open : goal.returns-clause-open
+returns-clause-open g c = c.loop-j.invariant.open_now
 
 pub loop-j-init : goal.loop-j-init
 loop-j-init g c =

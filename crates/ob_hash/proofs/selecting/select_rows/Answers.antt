@@ -8,8 +8,9 @@ use Rattle.ob_script.proofs.Numbers.{length-create_part}
 use Rattle.ob_vault.specs.Calls.{one}
 use Rattle.ob_vault.proofs.Runs.{went_join, went_length, tells_went, lives_apart, seals_join, lasts_trans}
 use Rattle.ob_flat.specs.Flats.{FitsRegion, Accepts}
+use Rattle.ob_flat.proofs.Rooms.{same_rows}
 use Rattle.ob_flat.proofs.Runs.{pass_more, pass_after, pass_then}
-use Rattle.ob_flat.proofs.Tables.{flat_lasts, represents_lasts, blocks_few}
+use Rattle.ob_flat.proofs.Tables.{flat_is, flat_lasts, represents_lasts, blocks_few}
 use Rattle.ob_hash.proofs.Sizes.{blocks_whole}
 use Rattle.ob_hash.proofs.Whole.{made_empty, is_result, buckets_few, accesses_few, region_fits}
 use Rattle.ob_hash.proofs.selecting.select_rows.Goals as goal
@@ -209,3 +210,155 @@ pub returns-in-Ok-Some-clause-size : goal.returns-in-Ok-Some-clause-size
 returns-in-Ok-Some-clause-size g c =
     let fits = region_fits (length c.args.rows.now) c.args.k c.args.depth c.args.flat.now.capacity c.args.flat.now.schema c.requires.size c.requires.pack.0 c.requires.number.0 c.requires.number.1 c.requires.depth.0 c.requires.depth.1 in
     rw c.copied.ensures fits
+
+pub create_blocks-requires-clause-ready : goal.create_blocks-requires-clause-ready
+create_blocks-requires-clause-ready g c = c.requires.ready
+
+pub create_blocks-requires-clause-few : goal.create_blocks-requires-clause-few
+create_blocks-requires-clause-few g c = c.requires.few
+
+pub create_blocks-requires-clause-dummies : goal.create_blocks-requires-clause-dummies
+create_blocks-requires-clause-dummies g c = c.requires.dummies
+
+pub create_blocks-requires-clause-pack : goal.create_blocks-requires-clause-pack
+create_blocks-requires-clause-pack g c = rw c.requires.count c.requires.pack
+
+pub create_blocks-requires-clause-fit : goal.create_blocks-requires-clause-fit
+create_blocks-requires-clause-fit g c = c.requires.space
+
+pub returns-in_err-region-clause-seals : goal.returns-in_err-region-clause-seals
+returns-in_err-region-clause-seals g c = λ good fine.
+    let fine' : Accepts good (length c.args.block.now) c.args.flat.now.schema c.args.vault.now.next = rw c.requires.count fine in
+    c.create_blocks.ensures.seals good fine'
+
+pub returns-in_err-region-clause-rows : goal.returns-in_err-region-clause-rows
+returns-in_err-region-clause-rows g c = same_rows c.args.rows.now
+
+pub returns-in_err-region-clause-block : goal.returns-in_err-region-clause-block
+returns-in_err-region-clause-block g c = same_rows c.args.block.now
+
+pub returns-in_err-region-clause-ok : goal.returns-in_err-region-clause-ok
+returns-in_err-region-clause-ok g c = let p = err_from_is_err_and c.from_residual.result c.from_residual.ensures.1 in rw p.1 tt
+
+pub returns-in_err-region-clause-value : goal.returns-in_err-region-clause-value
+returns-in_err-region-clause-value g c = let p = err_from_is_err_and c.from_residual.result c.from_residual.ensures.1 in rw p.1 tt
+
+pub returns-in_err-region-clause-lives : goal.returns-in_err-region-clause-lives
+returns-in_err-region-clause-lives g c = let p = err_from_is_err_and c.from_residual.result c.from_residual.ensures.1 in rw p.1 tt
+
+pub returns-in_err-region-clause-flat : goal.returns-in_err-region-clause-flat
+returns-in_err-region-clause-flat g c = let p = err_from_is_err_and c.from_residual.result c.from_residual.ensures.1 in rw p.1 tt
+
+pub returns-in_err-region-clause-never : goal.returns-in_err-region-clause-never
+returns-in_err-region-clause-never g c = let p = err_from_is_err_and c.from_residual.result c.from_residual.ensures.1 in rw (p.1, p.2) (elim c.in_err-region.ensures.never [ inl failed ↦ inl failed | inr none ↦ inr (inl none) ])
+
+pub returns-in_err-region-clause-gone : goal.returns-in_err-region-clause-gone
+returns-in_err-region-clause-gone g c = let p = err_from_is_err_and c.from_residual.result c.from_residual.ensures.1 in rw p.1 c.in_err-region.ensures.gone
+
+pub returns-in_err-region-clause-told : goal.returns-in_err-region-clause-told
+returns-in_err-region-clause-told g c = λ tells slots is nolie. let p = err_from_is_err_and c.from_residual.result c.from_residual.ensures.1 in rw (p.1, p.2) c.in_err-region.ensures.never
+
+pub hash_blocks-requires-clause-ready : goal.hash_blocks-requires-clause-ready
+hash_blocks-requires-clause-ready g c = c.in_ok-region.ensures.ok.lasts.ready
+
+pub hash_blocks-requires-clause-apart : goal.hash_blocks-requires-clause-apart
+hash_blocks-requires-clause-apart g c = λ same. lives_apart _ _ _ c.requires.ready c.requires.flat.made.lives (same ∙ c.in_ok-region.ensures.number)
+
+pub hash_blocks-requires-clause-schema : goal.hash_blocks-requires-clause-schema
+hash_blocks-requires-clause-schema g c = c.copied.ensures
+
+pub hash_blocks-requires-clause-size : goal.hash_blocks-requires-clause-size
+hash_blocks-requires-clause-size g c = c.requires.size
+
+pub hash_blocks-requires-clause-pack : goal.hash_blocks-requires-clause-pack
+hash_blocks-requires-clause-pack g c = c.requires.pack
+
+pub hash_blocks-requires-clause-fit : goal.hash_blocks-requires-clause-fit
+hash_blocks-requires-clause-fit g c = c.requires.fit
+
+pub hash_blocks-requires-clause-count : goal.hash_blocks-requires-clause-count
+hash_blocks-requires-clause-count g c = c.requires.count
+
+pub hash_blocks-requires-clause-space : goal.hash_blocks-requires-clause-space
+hash_blocks-requires-clause-space g c = c.requires.space
+
+pub returns-in-Ok-None-clause-rows : goal.returns-in-Ok-None-clause-rows
+returns-in-Ok-None-clause-rows g c = c.hash_blocks.ensures.rows
+
+pub returns-in-Ok-None-clause-block : goal.returns-in-Ok-None-clause-block
+returns-in-Ok-None-clause-block g c = c.hash_blocks.ensures.block
+
+pub returns-in-Ok-None-clause-err : goal.returns-in-Ok-None-clause-err
+returns-in-Ok-None-clause-err g c = tt
+
+pub returns-in-Ok-None-clause-never : goal.returns-in-Ok-None-clause-never
+returns-in-Ok-None-clause-never g c = tt
+
+pub returns-in-Ok-None-clause-gone : goal.returns-in-Ok-None-clause-gone
+returns-in-Ok-None-clause-gone g c = tt
+
+pub returns-in-Ok-None-clause-memory : goal.returns-in-Ok-None-clause-memory
+returns-in-Ok-None-clause-memory g c = λ none. cc
+
+pub returns-in-Ok-None-clause-value : goal.returns-in-Ok-None-clause-value
+returns-in-Ok-None-clause-value g c = flat_is c.copied.ensures refl c.in_ok-region.ensures.number
+
+pub returns-in-Ok-Some-clause-rows : goal.returns-in-Ok-Some-clause-rows
+returns-in-Ok-Some-clause-rows g c = c.hash_blocks.ensures.rows
+
+pub returns-in-Ok-Some-clause-block : goal.returns-in-Ok-Some-clause-block
+returns-in-Ok-Some-clause-block g c = c.hash_blocks.ensures.block
+
+pub returns-in-Ok-Some-clause-err : goal.returns-in-Ok-Some-clause-err
+returns-in-Ok-Some-clause-err g c = tt
+
+pub returns-in-Ok-Some-clause-never : goal.returns-in-Ok-Some-clause-never
+returns-in-Ok-Some-clause-never g c = tt
+
+pub returns-in-Ok-Some-clause-gone : goal.returns-in-Ok-Some-clause-gone
+returns-in-Ok-Some-clause-gone g c = tt
+
+pub returns-in-Ok-Some-clause-memory : goal.returns-in-Ok-Some-clause-memory
+returns-in-Ok-Some-clause-memory g c = λ none. cc
+
+pub returns-in-Ok-Some-clause-value : goal.returns-in-Ok-Some-clause-value
+returns-in-Ok-Some-clause-value g c = flat_is c.copied.ensures refl c.in_ok-region.ensures.number
+
+pub returns-in-Err-clause-rows : goal.returns-in-Err-clause-rows
+returns-in-Err-clause-rows g c = c.hash_blocks.ensures.rows
+
+pub returns-in-Err-clause-block : goal.returns-in-Err-clause-block
+returns-in-Err-clause-block g c = c.hash_blocks.ensures.block
+
+pub returns-in-Err-clause-ok : goal.returns-in-Err-clause-ok
+returns-in-Err-clause-ok g c = tt
+
+pub returns-in-Err-clause-value : goal.returns-in-Err-clause-value
+returns-in-Err-clause-value g c = tt
+
+pub returns-in-Err-clause-lives : goal.returns-in-Err-clause-lives
+returns-in-Err-clause-lives g c = tt
+
+pub returns-in-Err-clause-flat : goal.returns-in-Err-clause-flat
+returns-in-Err-clause-flat g c = tt
+
+pub returns-in-Err-clause-size : goal.returns-in-Err-clause-size
+returns-in-Err-clause-size g c = tt
+
+pub returns-in-Err-clause-gone : goal.returns-in-Err-clause-gone
+returns-in-Err-clause-gone g c = rw (← c.in_ok-region.ensures.number) c.forget.ensures.gone
+
+pub returns-in-Ok-None-clause-seals : goal.returns-in-Ok-None-clause-seals
+returns-in-Ok-None-clause-seals g c = λ good fine.
+    let there : Accepts good (length c.args.rows.now) c.args.flat.now.schema c.in_ok-region.region = rw c.in_ok-region.ensures.number fine in
+    let fine' : Accepts good (length c.args.block.now) c.args.flat.now.schema c.args.vault.now.next = rw c.requires.count fine in
+    seals_join good _ _ _ c.in_ok-region.ensures.ok.lasts.later (c.create_blocks.ensures.seals good fine') (c.hash_blocks.ensures.seals good there)
+
+pub returns-in-Ok-Some-clause-seals : goal.returns-in-Ok-Some-clause-seals
+returns-in-Ok-Some-clause-seals g c = λ good fine.
+    let there : Accepts good (length c.args.rows.now) c.args.flat.now.schema c.in_ok-region.region = rw c.in_ok-region.ensures.number fine in
+    let fine' : Accepts good (length c.args.block.now) c.args.flat.now.schema c.args.vault.now.next = rw c.requires.count fine in
+    seals_join good _ _ _ c.in_ok-region.ensures.ok.lasts.later (c.create_blocks.ensures.seals good fine') (c.hash_blocks.ensures.seals good there)
+
+pub returns-in_err-region-clause-size : goal.returns-in_err-region-clause-size
+returns-in_err-region-clause-size g c = let p = err_from_is_err_and c.from_residual.result c.from_residual.ensures.1 in rw p.1 tt
