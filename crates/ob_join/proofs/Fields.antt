@@ -1,14 +1,10 @@
 -- The field of a column in the bytes of a row.
-use Rattle.std.proofs.Common.{◌≡◌, ◌<◌, ◌≤◌, ◌+◌, ℕ, ℤ, zero, suc, Bool, false, List, [], ◌++◌, Option, Some, None, length, take, drop, slice_index_or, refl, sym, ◌∙◌, ap, subst, arith, one-add}
-use Rattle.std.specs.Prelude.{IfSome, FitsSigned, ◌==◌, ◌&&◌, find, bytes_eq, replicate}
-use Rattle.std.specs.Int.{w64}
+use Rattle.std.proofs.Common.{◌≡◌, ◌<◌, ◌≤◌, ◌+◌, ℕ, zero, suc, Bool, false, List, [], ◌++◌, Option, Some, None, length, take, drop, slice_index_or, refl, sym, ◌∙◌, ap, subst, arith, one-add}
+use Rattle.std.specs.Prelude.{IfSome, ◌==◌, ◌&&◌, find, bytes_eq, replicate}
 use Rattle.std.proofs.Math.Seq.{take-length}
 use Rattle.std.proofs.lemmas.List.{take_all, take-append-drop}
-use Rattle.ob_base.specs.declared.schema.Kind.{Kind}
-use Rattle.ob_base.specs.declared.schema.Kind.TheVariants.{Int as IntKind, Varchar}
 use Rattle.ob_base.specs.Schemas.{Columns, kind_width, width}
 use Rattle.ob_row.specs.declared.cell.Cell.{Cell}
-use Rattle.ob_row.specs.declared.cell.Cell.TheVariants.{Int}
 use Rattle.ob_row.specs.Fields.{HoldsCell}
 use Rattle.ob_row.specs.Rows.{Row, cell_at, cell_eq, options_eq}
 use Rattle.ob_row.specs.Slots.{Slots, rows, is_selected}
@@ -64,11 +60,6 @@ module _ (cs : Columns) (i : ℕ) (y : Cell) (below : i < length cs) (never : Fi
   pub none_fits : (slots : Slots) (kept : List (List ℕ)) → Spelt cs slots kept → find agrees (rows slots) ≡ None
   none_fits slots kept spelt =
       subst (λ (l : Slots). find agrees (rows l) ≡ None) (take-length slots) (off_first slots kept spelt (length slots) (omega arith))
-
--- an integer is one of 64 bits where some column holds it
-pub fits_int : (other : Kind) (x : ℤ) → FitsKind other (Int x) → FitsSigned w64 x
-fits_int IntKind x h = h
-fits_int (Varchar n) x h = absurd h
 
 -- no row before the end passes
 pub all_found : (p : Row → Bool) (slots : Slots) (i : ℕ) → length slots ≤ i → find p (rows (take i slots)) ≡ None → find p (rows slots) ≡ None

@@ -1,5 +1,5 @@
 -- The region of a joined table.
-use Rattle.std.proofs.Common.{◌≡◌, ◌*◌, ◌++◌, ◌≤◌, ℕ, List, length, sym, ◌∙◌, ap, subst, arith}
+use Rattle.std.proofs.Common.{◌≡◌, ◌+◌, ◌*◌, ◌++◌, ◌≤◌, ℕ, List, length, sym, ◌∙◌, ap, subst, arith, length-append}
 use Rattle.std.specs.Int.{div_ceil}
 use Rattle.std.specs.Prelude.{◌⊎◌, Result, MatchResult}
 use Rattle.ob_base.specs.declared.access.Access.{Access}
@@ -45,6 +45,10 @@ blocks_are pack left right q a c b some lefts chunked rights =
 pub left_narrow : (l r : Columns) → width l ≤ width (l ++ r)
 left_narrow l r = omega (arith, width-join l r)
 
+-- nor a right one
+pub right_narrow : (l r : Columns) → width r ≤ width (l ++ r)
+right_narrow l r = omega (arith, width-join l r)
+
 -- the slots of all chunks, by the tables' capacities
 pub joined_is : (i j pack room n m : ℕ) (left right : Slots) → length left ≡ n → length right ≡ m
     → joined_in i j (pack * buffered_blocks pack room) (chunks pack room n) (blocks_for pack m * pack) left right ≡ joined i j pack room left right
@@ -56,3 +60,7 @@ joined_is i j pack room n m left right first second =
 pub told_is : (pack : ℕ) (r : Result Flat OpErr) (x y : Slots) (w : World) → x ≡ y
     → MatchResult r (λ fresh. Represents pack fresh x w) (λ e. (e ≡ OpErrs.Failed) ⊎ (e ≡ OpErrs.NoMemory)) → MatchResult r (λ fresh. Represents pack fresh y w) (λ e. (e ≡ OpErrs.Failed) ⊎ (e ≡ OpErrs.NoMemory))
 told_is pack r x y w same told = subst (λ (l : Slots). MatchResult r (λ fresh. Represents pack fresh l w) (λ e. (e ≡ OpErrs.Failed) ⊎ (e ≡ OpErrs.NoMemory))) same told
+
+-- its columns are those of both tables
+pub columns_few : (l r : Columns) → length (l ++ r) ≤ 32 → length l + length r ≤ 32
+columns_few l r few = omega (arith, few, length-append l r)

@@ -1,5 +1,5 @@
 -- The rows of some blocks among those that are kept.
-use Rattle.std.proofs.Common.{◌≡◌, ◌≤◌, ◌<◌, ◌+◌, ◌-◌, ◌*◌, ℕ, List, [], ◌++◌, Option, None, length, take, drop, replicate, slice_index_or, refl, inl, inr, sym, ◌∙◌, ap, subst, arith, length-append}
+use Rattle.std.proofs.Common.{◌≡◌, ◌≤◌, ◌<◌, ◌+◌, ◌-◌, ◌*◌, ℕ, Fits, w32, w64, List, [], ◌++◌, Option, None, length, take, drop, replicate, slice_index_or, refl, inl, inr, sym, ◌∙◌, ap, subst, arith, length-append}
 use Rattle.std.proofs.lemmas.List.{get_or-take, get_or-drop, get_or-replicate, get_or_append_left, length-take, length-drop, length-replicate}
 use Rattle.std.proofs.Math.Seq.{get_or-append_right}
 use Rattle.std.proofs.lemmas.Bool.{cases_lt}
@@ -17,6 +17,7 @@ use Rattle.ob_row.specs.Slots.{Slots}
 use Rattle.ob_row.specs.Spelling.{Begins}
 use Rattle.ob_blocks.specs.Blocks.{block_at}
 use Rattle.ob_blocks.proofs.Blocks.{block-element}
+use Rattle.ob_flat.proofs.Tables.{blocks_few, index_fits}
 use Rattle.ob_flat.specs.Slots.{Spelt}
 use Rattle.ob_flat.specs.Flats.{whole_blocks}
 use Rattle.ob_join.specs.Joining.{blocks_from}
@@ -27,6 +28,39 @@ reads_from q first n = length-each (read_from q first) 1 (λ i. refl) n ∙ omeg
 
 pub within : (a r : ℕ) → (a + r) - a ≡ r
 within a r = omega arith
+
+pub part_within : (a r : ℕ) → a ≤ a + r
+part_within a r = omega arith
+
+-- before the first block, in a turn, and behind the last
+pub none_below : (j r : ℕ) → j < 0 * r → ⊥
+none_below j r less = omega arith
+
+pub nearer : {x n : ℕ} → x < n → n - (x + 1) < n - x
+nearer less = omega arith
+
+pub all_done : {x n : ℕ} → x ≤ n → n ≤ x → x ≡ n
+all_done less more = omega arith
+
+-- where the rows of a block lie among those of all
+module _ (pack capacity first n x : ℕ) (some : 1 ≤ pack) (few : pack ≤ 16) (most : capacity ≤ 16777216) (inside : first + n ≤ blocks_for pack capacity) (less : x < n) where
+  ends : x * pack + pack ≤ 16777232
+  ends = index_fits pack capacity x some few most (omega (arith, inside, less))
+
+  pub row_fits : Fits w32 (x * pack)
+  row_fits = omega (arith, ends)
+
+  pub row_small : Fits w64 (x * pack)
+  row_small = omega (arith, ends)
+
+  pub rows_small : Fits w64 (x * pack + pack)
+  rows_small = omega (arith, ends)
+
+  pub bytes_small : Fits w64 (x * pack * 24)
+  bytes_small = omega (arith, ends)
+
+  pub place_fits : Fits w32 (first + x)
+  place_fits = omega (arith, inside, less, blocks_few pack capacity some, most)
 
 -- r rows from number a on
 module _ (a r : ℕ) (rows : List (List ℕ)) (fits : a + r ≤ length rows) where
@@ -135,3 +169,14 @@ spelt_from columns r capacity first n slots rows size inside long spell =
           let less : j < n * r = omega (arith, below, long) in
           subst (λ (s : Option Row). Begins columns s (row_at rows j)) (sym (get_or-take (n * r) (drop (first * r) all) j None less ∙ get_or-drop (first * r) all j None)) (spell j less);
     }
+
+-- the first place of a chunk, and the others
+module _ {blocks rights : ℕ} (chunk pack capacity : ℕ) (some : 1 ≤ pack) (most : capacity ≤ 16777216) (inside : chunk * rights + rights ≤ blocks_for pack capacity) (is : blocks ≡ rights) where
+  first_is : chunk * blocks ≡ chunk * rights
+  first_is = ap (λ (n : ℕ). chunk * n) is
+
+  pub first_fits : Fits w32 (chunk * blocks)
+  first_fits = omega (arith, first_is, inside, blocks_few pack capacity some, most)
+
+  pub next_fits : {v : ℕ} → v < blocks → Fits w32 (chunk * blocks + v)
+  next_fits less = omega (arith, first_is, is, less, inside, blocks_few pack capacity some, most)

@@ -6,16 +6,90 @@ use Rattle.ob_script.specs.Parts.{read_from}
 use Rattle.ob_vault.specs.Calls.{none}
 use Rattle.ob_vault.specs.Places.{RowsFit}
 use Rattle.ob_vault.proofs.RowsLemmas.{rows_room}
-use Rattle.ob_vault.proofs.Runs.{went_each, lives_went, written_went, none_went, fit_trans, may_get, seals_join}
+use Rattle.ob_vault.proofs.Runs.{went_none, seals_none, went_each, lives_went, written_went, none_went, fit_trans, may_get, seals_join}
 use Rattle.ob_row.specs.Rows.{Row}
 use Rattle.ob_row.specs.Spelling.{Begins}
 use Rattle.ob_flat.specs.Flats.{table_region, whole_blocks}
 use Rattle.ob_flat.specs.Passes.{pass_error}
+use Rattle.ob_flat.proofs.Rooms.{same_rows}
 use Rattle.ob_flat.proofs.Rows.{slots_of, wide_same}
 use Rattle.ob_flat.proofs.Runs.{pass_of, pass_each, pass_malformed}
 use Rattle.ob_flat.proofs.Tables.{represents_lasts, block_long, got, whole_size}
-use Rattle.ob_join.proofs.Windows.{reads_from, within, part_long, part_wide, part_fit, put_more, put_sizes, read_next, spelt_from}
+use Rattle.ob_join.proofs.Windows.{row_fits, row_small, rows_small, bytes_small, place_fits, part_within, none_below, nearer, all_done, reads_from, within, part_long, part_wide, part_fit, put_more, put_sizes, read_next, spelt_from}
 use Rattle.ob_join.proofs.collecting.collect_chunk.Goals as goal
+
+pub loop-x-init : goal.loop-x-init
+loop-x-init g c = record {
+  went = went_none none _ c.requires.ready;
+  seals = λ good. seals_none good _;
+  kept = same_rows c.args.kept.now;
+  turns = λ q y shape turn. turn;
+  spells = λ j less. absurd (none_below j c.args.pack less);
+  told = λ slots is nolie j less. absurd (none_below j c.args.pack less);
+}
+
+pub overflow_mul-row : goal.overflow_mul-row
+overflow_mul-row g c = row_fits c.args.pack c.args.flat.now.capacity c.args.first c.args.n c.loop-x.x c.requires.pack.0 c.requires.pack.1 c.requires.size.most c.requires.within c.loop-x-test.true
+
+pub overflow_cast-row : goal.overflow_cast-row
+overflow_cast-row g c = row_small c.args.pack c.args.flat.now.capacity c.args.first c.args.n c.loop-x.x c.requires.pack.0 c.requires.pack.1 c.requires.size.most c.requires.within c.loop-x-test.true
+
+pub overflow_add-rows : goal.overflow_add-rows
+overflow_add-rows g c = rows_small c.args.pack c.args.flat.now.capacity c.args.first c.args.n c.loop-x.x c.requires.pack.0 c.requires.pack.1 c.requires.size.most c.requires.within c.loop-x-test.true
+
+pub offset_bounds-kept-row : goal.offset_bounds-kept-row
+offset_bounds-kept-row g c = bytes_small c.args.pack c.args.flat.now.capacity c.args.first c.args.n c.loop-x.x c.requires.pack.0 c.requires.pack.1 c.requires.size.most c.requires.within c.loop-x-test.true
+
+pub slice_bounds-rows-count : goal.slice_bounds-rows-count
+slice_bounds-rows-count g c = part_within (c.loop-x.x * c.args.pack) c.args.pack
+
+pub overflow_add-first : goal.overflow_add-first
+overflow_add-first g c = place_fits c.args.pack c.args.flat.now.capacity c.args.first c.args.n c.loop-x.x c.requires.pack.0 c.requires.pack.1 c.requires.size.most c.requires.within c.loop-x-test.true
+
+pub overflow_add-result : goal.overflow_add-result
+overflow_add-result g c = place_fits c.args.pack c.args.flat.now.capacity c.args.first c.args.n c.loop-x.x c.requires.pack.0 c.requires.pack.1 c.requires.size.most c.requires.within c.loop-x-test.true
+
+pub get-requires-clause-ready : goal.get-requires-clause-ready
+get-requires-clause-ready g c = c.loop-x.invariant.went.lasts.ready
+
+pub returns-in_err-get-clause-ok : goal.returns-in_err-get-clause-ok
+returns-in_err-get-clause-ok g c = let p = err_from_is_err_and c.from_residual.result c.from_residual.ensures.1 in rw p.1 tt
+
+pub returns-in_err-get-clause-turns : goal.returns-in_err-get-clause-turns
+returns-in_err-get-clause-turns g c = let p = err_from_is_err_and c.from_residual.result c.from_residual.ensures.1 in rw p.1 tt
+
+pub returns-in_err-get-clause-spells : goal.returns-in_err-get-clause-spells
+returns-in_err-get-clause-spells g c = let p = err_from_is_err_and c.from_residual.result c.from_residual.ensures.1 in rw p.1 tt
+
+pub returns-in-Err-clause-ok : goal.returns-in-Err-clause-ok
+returns-in-Err-clause-ok g c = tt
+
+pub returns-in-Err-clause-turns : goal.returns-in-Err-clause-turns
+returns-in-Err-clause-turns g c = tt
+
+pub returns-in-Err-clause-spells : goal.returns-in-Err-clause-spells
+returns-in-Err-clause-spells g c = tt
+
+pub loop-x-smaller : goal.loop-x-smaller
+loop-x-smaller g c = nearer c.loop-x-test.true
+
+pub returns-clause-kept : goal.returns-clause-kept
+returns-clause-kept g c = c.loop-x.invariant.kept
+
+pub returns-clause-ok : goal.returns-clause-ok
+returns-clause-ok g c = rw (all_done c.loop-x.auto.x-end c.loop-x-test.false) at c.loop-x.invariant.went
+
+pub returns-clause-err : goal.returns-clause-err
+returns-clause-err g c = tt
+
+pub returns-clause-never : goal.returns-clause-never
+returns-clause-never g c = tt
+
+pub returns-clause-seals : goal.returns-clause-seals
+returns-clause-seals g c = c.loop-x.invariant.seals
+
+pub returns-clause-turns : goal.returns-clause-turns
+returns-clause-turns g c = c.loop-x.invariant.turns
 
 pub get-requires-clause-spare : goal.get-requires-clause-spare
 get-requires-clause-spare g c = omega (arith, c.requires.spare, c.loop-x.invariant.went.spare, reads_from c.args.flat.now.region c.args.first c.loop-x.x)

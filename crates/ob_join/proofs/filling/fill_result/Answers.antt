@@ -18,7 +18,7 @@ use Rattle.ob_join.specs.Joining.{blocks_from, joined_in}
 use Rattle.ob_join.proofs.Lengths.{spent, begun, taken, all_chunks, next_chunk, product_least}
 use Rattle.ob_join.proofs.Places.{filling_first, filling_at, filling_read, filled, holds_at, holds_read}
 use Rattle.ob_join.proofs.Results.{chunk_inside, joined_kept, represents_joined, whole_product}
-use Rattle.ob_join.proofs.Windows.{reads_from, product_within, part_wide, put_sizes}
+use Rattle.ob_join.proofs.Windows.{nearer, reads_from, product_within, part_wide, put_sizes}
 use Rattle.ob_join.proofs.filling.fill_result.Goals as goal
 
 pub loop-chunk-init : goal.loop-chunk-init
@@ -382,3 +382,81 @@ returns-clause-told g c = λ tells lslots rslots first second nolie.
     let all = joined_in c.args.sides.now.lcol c.args.sides.now.rcol (pack * q) chunks (rights * pack) lslots rslots in
     represents_joined left.schema right.schema c.args.sides.now.lcol c.args.sides.now.rcol (pack * q) chunks rights pack c.args.to.now lslots rslots _ c.requires.schema c.requires.total c.requires.pack.0 room first.fits second.fits
     (holds_at pack c.args.to.now (j * rights) (chunks * rights) all _ (ap (λ (k : ℕ). k * rights) last) (c.loop-chunk.invariant.told tells lslots rslots first second nolie))
+
+pub collect_chunk-requires-clause-ready : goal.collect_chunk-requires-clause-ready
+collect_chunk-requires-clause-ready g c = c.loop-chunk.invariant.went.lasts.ready
+
+pub collect_chunk-requires-clause-size : goal.collect_chunk-requires-clause-size
+collect_chunk-requires-clause-size g c = c.requires.left_size
+
+pub collect_chunk-requires-clause-pack : goal.collect_chunk-requires-clause-pack
+collect_chunk-requires-clause-pack g c = c.requires.pack
+
+pub returns-in_err-collect_chunk-clause-rows : goal.returns-in_err-collect_chunk-clause-rows
+returns-in_err-collect_chunk-clause-rows g c = c.loop-chunk.invariant.rows
+
+pub returns-in_err-collect_chunk-clause-out : goal.returns-in_err-collect_chunk-clause-out
+returns-in_err-collect_chunk-clause-out g c = c.loop-chunk.invariant.out
+
+pub returns-in_err-collect_chunk-clause-ok : goal.returns-in_err-collect_chunk-clause-ok
+returns-in_err-collect_chunk-clause-ok g c = let p = err_from_is_err_and c.from_residual.result c.from_residual.ensures.1 in rw p.1 tt
+
+pub returns-in_err-collect_chunk-clause-flat : goal.returns-in_err-collect_chunk-clause-flat
+returns-in_err-collect_chunk-clause-flat g c = let p = err_from_is_err_and c.from_residual.result c.from_residual.ensures.1 in rw p.1 tt
+
+pub pair_blocks-requires-clause-ready : goal.pair_blocks-requires-clause-ready
+pair_blocks-requires-clause-ready g c = c.in_ok-collect_chunk.ensures.ok.lasts.ready
+
+pub pair_blocks-requires-clause-apart : goal.pair_blocks-requires-clause-apart
+pair_blocks-requires-clause-apart g c = c.requires.right_apart
+
+pub pair_blocks-requires-clause-schema : goal.pair_blocks-requires-clause-schema
+pair_blocks-requires-clause-schema g c = c.requires.schema
+
+pub pair_blocks-requires-clause-size : goal.pair_blocks-requires-clause-size
+pair_blocks-requires-clause-size g c = c.requires.right_size
+
+pub pair_blocks-requires-clause-sized : goal.pair_blocks-requires-clause-sized
+pair_blocks-requires-clause-sized g c = c.requires.sized
+
+pub pair_blocks-requires-clause-pack : goal.pair_blocks-requires-clause-pack
+pair_blocks-requires-clause-pack g c = rw c.loop-chunk.invariant.rows.count c.requires.pack
+
+pub pair_blocks-requires-clause-same : goal.pair_blocks-requires-clause-same
+pair_blocks-requires-clause-same g c = c.loop-chunk.invariant.out.count ∙ c.requires.same ∙ sym c.loop-chunk.invariant.rows.count
+
+pub pair_blocks-requires-clause-spells : goal.pair_blocks-requires-clause-spells
+pair_blocks-requires-clause-spells g c = c.in_ok-collect_chunk.ensures.spells
+
+pub pair_blocks-requires-clause-lcol : goal.pair_blocks-requires-clause-lcol
+pair_blocks-requires-clause-lcol g c = c.requires.lcol
+
+pub pair_blocks-requires-clause-rcol : goal.pair_blocks-requires-clause-rcol
+pair_blocks-requires-clause-rcol g c = c.requires.rcol
+
+pub returns-in_err-pair_blocks-clause-ok : goal.returns-in_err-pair_blocks-clause-ok
+returns-in_err-pair_blocks-clause-ok g c = let p = err_from_is_err_and c.from_residual-in_err-pair_blocks.result c.from_residual-in_err-pair_blocks.ensures.1 in rw p.1 tt
+
+pub returns-in_err-pair_blocks-clause-flat : goal.returns-in_err-pair_blocks-clause-flat
+returns-in_err-pair_blocks-clause-flat g c = let p = err_from_is_err_and c.from_residual-in_err-pair_blocks.result c.from_residual-in_err-pair_blocks.ensures.1 in rw p.1 tt
+
+pub loop-chunk-smaller : goal.loop-chunk-smaller
+loop-chunk-smaller g c = nearer c.loop-chunk-test.true
+
+pub returns-clause-kept : goal.returns-clause-kept
+returns-clause-kept g c = c.loop-chunk.invariant.kept
+
+pub returns-clause-rows : goal.returns-clause-rows
+returns-clause-rows g c = c.loop-chunk.invariant.rows
+
+pub returns-clause-out : goal.returns-clause-out
+returns-clause-out g c = c.loop-chunk.invariant.out
+
+pub returns-clause-seals : goal.returns-clause-seals
+returns-clause-seals g c = c.loop-chunk.invariant.seals
+
+pub returns-clause-err : goal.returns-clause-err
+returns-clause-err g c = tt
+
+pub returns-clause-never : goal.returns-clause-never
+returns-clause-never g c = tt

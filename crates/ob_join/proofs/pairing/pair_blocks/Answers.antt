@@ -21,6 +21,7 @@ use Rattle.ob_flat.proofs.Tables.{accepted, joined_block, index_fits, represents
 use Rattle.ob_join.specs.Joining.{joined_below}
 use Rattle.ob_join.proofs.Chunks.{chunk_block, pairs_length}
 use Rattle.ob_join.proofs.Places.{filling_at, holds_at, filling_read, filling_turn, filling_more, holds_read, holds_more}
+use Rattle.ob_join.proofs.Windows.{first_fits, next_fits, nearer, all_done}
 use Rattle.ob_join.proofs.pairing.pair_blocks.Goals as goal
 
 -- the joined rows are some slots'
@@ -259,3 +260,66 @@ returns-clause-told g c = λ tells left_slots slots all spelt is nolie blocks ho
     let rights = blocks_for (length c.args.rows.now) c.args.sides.now.right.now.capacity in
     let last : c.loop-v.v ≡ rights = omega (arith, c.div_ceil-blocks.ensures) in
     holds_at (length c.args.rows.now) c.args.to.now (c.args.chunk * rights + c.loop-v.v) (c.args.chunk * rights + rights) all _ (ap (λ (n : ℕ). c.args.chunk * rights + n) last) (c.loop-v.invariant.told tells left_slots slots all spelt is nolie blocks holds)
+
+pub overflow_mul-first : goal.overflow_mul-first
+overflow_mul-first g c = first_fits c.args.chunk (length c.args.rows.now) c.args.to.now.capacity c.requires.pack.0 c.requires.sized.most c.requires.within c.div_ceil-blocks.ensures
+
+pub overflow_add-first : goal.overflow_add-first
+overflow_add-first g c = next_fits c.args.chunk (length c.args.rows.now) c.args.to.now.capacity c.requires.pack.0 c.requires.sized.most c.requires.within c.div_ceil-blocks.ensures c.loop-v-test.true
+
+pub get-requires-clause-ready : goal.get-requires-clause-ready
+get-requires-clause-ready g c = c.loop-v.invariant.went.lasts.ready
+
+pub returns-in_err-get-clause-out : goal.returns-in_err-get-clause-out
+returns-in_err-get-clause-out g c = c.loop-v.invariant.out
+
+pub returns-in_err-get-clause-ok : goal.returns-in_err-get-clause-ok
+returns-in_err-get-clause-ok g c = let p = err_from_is_err_and c.from_residual.result c.from_residual.ensures.1 in rw p.1 tt
+
+pub returns-in_err-get-clause-filling : goal.returns-in_err-get-clause-filling
+returns-in_err-get-clause-filling g c = let p = err_from_is_err_and c.from_residual.result c.from_residual.ensures.1 in rw p.1 tt
+
+pub join_rows-requires-clause-kept : goal.join_rows-requires-clause-kept
+join_rows-requires-clause-kept g c = c.requires.kept
+
+pub join_rows-requires-clause-lcol : goal.join_rows-requires-clause-lcol
+join_rows-requires-clause-lcol g c = c.requires.lcol
+
+pub join_rows-requires-clause-rcol : goal.join_rows-requires-clause-rcol
+join_rows-requires-clause-rcol g c = c.requires.rcol
+
+pub returns-in-Err-clause-ok : goal.returns-in-Err-clause-ok
+returns-in-Err-clause-ok g c = tt
+
+pub returns-in-Err-clause-filling : goal.returns-in-Err-clause-filling
+returns-in-Err-clause-filling g c = tt
+
+pub put-requires-clause-ready : goal.put-requires-clause-ready
+put-requires-clause-ready g c = c.in_ok-get.ensures.ok.lasts.ready
+
+pub returns-in_err-put-clause-ok : goal.returns-in_err-put-clause-ok
+returns-in_err-put-clause-ok g c = let p = err_from_is_err_and c.from_residual-in_err-put.result c.from_residual-in_err-put.ensures.1 in rw p.1 tt
+
+pub returns-in_err-put-clause-filling : goal.returns-in_err-put-clause-filling
+returns-in_err-put-clause-filling g c = let p = err_from_is_err_and c.from_residual-in_err-put.result c.from_residual-in_err-put.ensures.1 in rw p.1 tt
+
+pub loop-v-smaller : goal.loop-v-smaller
+loop-v-smaller g c = nearer c.loop-v-test.true
+
+pub returns-clause-rows : goal.returns-clause-rows
+returns-clause-rows g c = c.loop-v.invariant.same
+
+pub returns-clause-out : goal.returns-clause-out
+returns-clause-out g c = c.loop-v.invariant.out
+
+pub returns-clause-ok : goal.returns-clause-ok
+returns-clause-ok g c = rw (all_done c.loop-v.auto.v-end c.loop-v-test.false ∙ c.div_ceil-blocks.ensures) at c.loop-v.invariant.went
+
+pub returns-clause-err : goal.returns-clause-err
+returns-clause-err g c = tt
+
+pub returns-clause-never : goal.returns-clause-never
+returns-clause-never g c = tt
+
+pub returns-clause-seals : goal.returns-clause-seals
+returns-clause-seals g c = c.loop-v.invariant.seals

@@ -7,13 +7,15 @@ use Rattle.ob_base.specs.Numbers.{blocks_for}
 use Rattle.ob_base.specs.Schemas.{Columns, width}
 use Rattle.ob_script.specs.Parts.{join_chunk}
 use Rattle.ob_vault.specs.Calls.{one}
-use Rattle.ob_vault.proofs.Runs.{went_join, tells_went, lives_apart, shape_lasts, seals_join, lasts_trans}
+use Rattle.ob_vault.proofs.Runs.{went_join, went_length, tells_went, lives_apart, shape_lasts, seals_join, lasts_trans}
 use Rattle.ob_vault.specs.declared.region.Order.TheVariants.{Round}
 use Rattle.ob_flat.specs.Flats.{Accepts, table_region}
 use Rattle.ob_flat.proofs.Runs.{pass_more, pass_after, pass_then}
-use Rattle.ob_flat.proofs.Tables.{flat_lasts, represents_lasts}
+use Rattle.ob_flat.proofs.Loops.{spare_first, spare_rest, few_left}
+use Rattle.ob_flat.proofs.Tables.{fits_sized, flat_is, flat_lasts, represents_lasts}
+use Rattle.ob_flat.proofs.Rooms.{same_rows}
 use Rattle.ob_join.proofs.Lengths.{product_least}
-use Rattle.ob_join.proofs.Making.{went_make, cut_make, capacity_is, blocks_are}
+use Rattle.ob_join.proofs.Making.{went_make, cut_make, capacity_is, blocks_are, columns_few}
 use Rattle.ob_join.proofs.tables.join_tables.Goals as goal
 
 pub overflow_mul-capacity : goal.overflow_mul-capacity
@@ -172,3 +174,156 @@ returns-in-Err-clause-told g c = λ tells left right first second nolie.
     let now_left = represents_lasts pack c.args.sides.now.left.now (one next) _ _ made.lasts (lives_apart _ _ _ c.requires.ready c.requires.left.made.lives) left first in
     let now_right = represents_lasts pack c.args.sides.now.right.now (one next) _ _ made.lasts (lives_apart _ _ _ c.requires.ready c.requires.right.made.lives) right second in
     inl (c.in-Err.ensures.told (tells_went _ _ _ _ made tells) left right now_left now_right nolie)
+
+pub joined_schema-schema-requires : goal.joined_schema-schema-requires
+joined_schema-schema-requires g c = columns_few _ _ c.requires.sized.few
+
+pub make_table-requires-clause-ready : goal.make_table-requires-clause-ready
+make_table-requires-clause-ready g c = c.requires.ready
+
+pub make_table-requires-clause-spare : goal.make_table-requires-clause-spare
+make_table-requires-clause-spare g c = spare_first _ c.requires.spare
+
+pub make_table-requires-clause-size : goal.make_table-requires-clause-size
+make_table-requires-clause-size g c = rw (capacity_is (length c.args.rows.now) c.args.sides.now.left.now.capacity c.args.sides.now.right.now.capacity c.args.buffered _ _ _ c.div_ceil.ensures c.div_ceil-chunks.ensures c.div_ceil-2.ensures, c.joined_schema-schema.ensures) (fits_sized _ _ _ c.requires.pack.0 c.requires.sized)
+
+pub make_table-requires-clause-pack : goal.make_table-requires-clause-pack
+make_table-requires-clause-pack g c = c.requires.pack
+
+pub returns-in_err-region-clause-rows : goal.returns-in_err-region-clause-rows
+returns-in_err-region-clause-rows g c = same_rows c.args.rows.now
+
+pub returns-in_err-region-clause-out : goal.returns-in_err-region-clause-out
+returns-in_err-region-clause-out g c = same_rows c.args.out.now
+
+pub returns-in_err-region-clause-kept : goal.returns-in_err-region-clause-kept
+returns-in_err-region-clause-kept g c = same_rows c.args.kept.now
+
+pub returns-in_err-region-clause-ok : goal.returns-in_err-region-clause-ok
+returns-in_err-region-clause-ok g c = let p = err_from_is_err_and c.from_residual.result c.from_residual.ensures.1 in rw p.1 tt
+
+pub returns-in_err-region-clause-value : goal.returns-in_err-region-clause-value
+returns-in_err-region-clause-value g c = let p = err_from_is_err_and c.from_residual.result c.from_residual.ensures.1 in rw p.1 tt
+
+pub returns-in_err-region-clause-lives : goal.returns-in_err-region-clause-lives
+returns-in_err-region-clause-lives g c = let p = err_from_is_err_and c.from_residual.result c.from_residual.ensures.1 in rw p.1 tt
+
+pub returns-in_err-region-clause-flat : goal.returns-in_err-region-clause-flat
+returns-in_err-region-clause-flat g c = let p = err_from_is_err_and c.from_residual.result c.from_residual.ensures.1 in rw p.1 tt
+
+pub returns-in_err-region-clause-never : goal.returns-in_err-region-clause-never
+returns-in_err-region-clause-never g c = let p = err_from_is_err_and c.from_residual.result c.from_residual.ensures.1 in rw (p.1, p.2) (elim c.in_err-region.ensures.never [ inl failed ↦ inl failed | inr none ↦ inr (inl none) ])
+
+pub returns-in_err-region-clause-gone : goal.returns-in_err-region-clause-gone
+returns-in_err-region-clause-gone g c = let p = err_from_is_err_and c.from_residual.result c.from_residual.ensures.1 in rw p.1 c.in_err-region.ensures.gone
+
+pub returns-in_err-region-clause-seals : goal.returns-in_err-region-clause-seals
+returns-in_err-region-clause-seals g c = λ good fine. c.make_table.ensures.seals good
+
+pub returns-in_err-region-clause-told : goal.returns-in_err-region-clause-told
+returns-in_err-region-clause-told g c = λ tells left right first second nolie. let p = err_from_is_err_and c.from_residual.result c.from_residual.ensures.1 in rw (p.1, p.2) c.in_err-region.ensures.never
+
+pub fill_result-requires-clause-ready : goal.fill_result-requires-clause-ready
+fill_result-requires-clause-ready g c = c.in_ok-region.ensures.ok.lasts.ready
+
+pub fill_result-requires-clause-spare : goal.fill_result-requires-clause-spare
+fill_result-requires-clause-spare g c = spare_rest c.requires.spare c.in_ok-region.ensures.ok.spare refl
+
+pub fill_result-requires-clause-few : goal.fill_result-requires-clause-few
+fill_result-requires-clause-few g c = few_left c.requires.few (went_length _ _ _ _ c.in_ok-region.ensures.ok)
+
+pub fill_result-requires-clause-made : goal.fill_result-requires-clause-made
+fill_result-requires-clause-made g c = rw c.in_ok-region.ensures.number c.in_ok-region.ensures.made
+
+pub fill_result-requires-clause-schema : goal.fill_result-requires-clause-schema
+fill_result-requires-clause-schema g c = c.joined_schema-schema.ensures
+
+pub fill_result-requires-clause-total : goal.fill_result-requires-clause-total
+fill_result-requires-clause-total g c = capacity_is (length c.args.rows.now) c.args.sides.now.left.now.capacity c.args.sides.now.right.now.capacity c.args.buffered _ _ _ c.div_ceil.ensures c.div_ceil-chunks.ensures c.div_ceil-2.ensures
+
+pub fill_result-requires-clause-left_size : goal.fill_result-requires-clause-left_size
+fill_result-requires-clause-left_size g c = c.requires.left_size
+
+pub fill_result-requires-clause-right_size : goal.fill_result-requires-clause-right_size
+fill_result-requires-clause-right_size g c = c.requires.right_size
+
+pub fill_result-requires-clause-pack : goal.fill_result-requires-clause-pack
+fill_result-requires-clause-pack g c = c.requires.pack
+
+pub fill_result-requires-clause-fit : goal.fill_result-requires-clause-fit
+fill_result-requires-clause-fit g c = c.requires.fit
+
+pub fill_result-requires-clause-same : goal.fill_result-requires-clause-same
+fill_result-requires-clause-same g c = c.requires.same
+
+pub fill_result-requires-clause-some : goal.fill_result-requires-clause-some
+fill_result-requires-clause-some g c = c.requires.some
+
+pub fill_result-requires-clause-space : goal.fill_result-requires-clause-space
+fill_result-requires-clause-space g c = c.requires.space
+
+pub fill_result-requires-clause-kept : goal.fill_result-requires-clause-kept
+fill_result-requires-clause-kept g c = c.requires.kept
+
+pub fill_result-requires-clause-lcol : goal.fill_result-requires-clause-lcol
+fill_result-requires-clause-lcol g c = c.requires.lcol
+
+pub fill_result-requires-clause-rcol : goal.fill_result-requires-clause-rcol
+fill_result-requires-clause-rcol g c = c.requires.rcol
+
+pub fill_result-requires-clause-sized : goal.fill_result-requires-clause-sized
+fill_result-requires-clause-sized g c = rw (capacity_is (length c.args.rows.now) c.args.sides.now.left.now.capacity c.args.sides.now.right.now.capacity c.args.buffered _ _ _ c.div_ceil.ensures c.div_ceil-chunks.ensures c.div_ceil-2.ensures, c.joined_schema-schema.ensures) c.requires.sized
+
+pub fill_result-requires-clause-out : goal.fill_result-requires-clause-out
+fill_result-requires-clause-out g c = rw c.joined_schema-schema.ensures c.requires.out
+
+pub returns-in-Ok-clause-rows : goal.returns-in-Ok-clause-rows
+returns-in-Ok-clause-rows g c = c.fill_result.ensures.rows
+
+pub returns-in-Ok-clause-out : goal.returns-in-Ok-clause-out
+returns-in-Ok-clause-out g c = c.fill_result.ensures.out
+
+pub returns-in-Ok-clause-kept : goal.returns-in-Ok-clause-kept
+returns-in-Ok-clause-kept g c = c.fill_result.ensures.kept
+
+pub returns-in-Ok-clause-err : goal.returns-in-Ok-clause-err
+returns-in-Ok-clause-err g c = tt
+
+pub returns-in-Ok-clause-never : goal.returns-in-Ok-clause-never
+returns-in-Ok-clause-never g c = tt
+
+pub returns-in-Ok-clause-gone : goal.returns-in-Ok-clause-gone
+returns-in-Ok-clause-gone g c = tt
+
+pub returns-in-Ok-clause-memory : goal.returns-in-Ok-clause-memory
+returns-in-Ok-clause-memory g c = λ none. cc
+
+pub returns-in-Ok-clause-value : goal.returns-in-Ok-clause-value
+returns-in-Ok-clause-value g c = flat_is c.joined_schema-schema.ensures (capacity_is (length c.args.rows.now) c.args.sides.now.left.now.capacity c.args.sides.now.right.now.capacity c.args.buffered _ _ _ c.div_ceil.ensures c.div_ceil-chunks.ensures c.div_ceil-2.ensures) c.in_ok-region.ensures.number
+
+pub returns-in-Ok-clause-flat : goal.returns-in-Ok-clause-flat
+returns-in-Ok-clause-flat g c = c.in-Ok.ensures.flat
+
+pub returns-in-Err-clause-rows : goal.returns-in-Err-clause-rows
+returns-in-Err-clause-rows g c = c.fill_result.ensures.rows
+
+pub returns-in-Err-clause-out : goal.returns-in-Err-clause-out
+returns-in-Err-clause-out g c = c.fill_result.ensures.out
+
+pub returns-in-Err-clause-kept : goal.returns-in-Err-clause-kept
+returns-in-Err-clause-kept g c = c.fill_result.ensures.kept
+
+pub returns-in-Err-clause-ok : goal.returns-in-Err-clause-ok
+returns-in-Err-clause-ok g c = tt
+
+pub returns-in-Err-clause-value : goal.returns-in-Err-clause-value
+returns-in-Err-clause-value g c = tt
+
+pub returns-in-Err-clause-lives : goal.returns-in-Err-clause-lives
+returns-in-Err-clause-lives g c = tt
+
+pub returns-in-Err-clause-flat : goal.returns-in-Err-clause-flat
+returns-in-Err-clause-flat g c = tt
+
+pub returns-in-Err-clause-gone : goal.returns-in-Err-clause-gone
+returns-in-Err-clause-gone g c = rw (← c.in_ok-region.ensures.number) c.forget.ensures.gone
