@@ -2,7 +2,7 @@
 use Rattle.std.proofs.lemmas.List.{length-map}
 use Rattle.std.proofs.Common.{◌≡◌, ◌-◌, ◌*◌, ℕ, zero, suc, false, List, [], ◌∷◌, ◌++◌, length, Some, Ok, Err, Result, OnOk, refl, sym, ◌∙◌, ap, subst, arith}
 use Rattle.std.specs.Result.{is_err}
-use Rattle.std.specs.Prelude.{max, Option, None, MatchOption, map, bytes_eq}
+use Rattle.std.specs.Prelude.{◌<◌, ◌≤◌, max, Option, None, MatchOption, map, bytes_eq}
 use Rattle.std.proofs.lemmas.Slice.Eq.{bytes_eq-Decides}
 use Rattle.std.proofs.lemmas.Bool.{cases_eq}
 use Rattle.ob_base.specs.declared.access.Access.{Access}
@@ -19,9 +19,10 @@ use Rattle.ob_base.specs.Numbers.{blocks_for}
 use Rattle.ob_base.specs.Schemas.{Columns, width, new_column, columns_of}
 use Rattle.ob_base.specs.Stored.{has_table}
 use Rattle.ob_room.specs.RoomState.{RoomState}
+use Rattle.ob_blocks.specs.Idle.{IsIdle}
 use Rattle.ob_store.specs.State.{StoreState}
 use Rattle.ob_store.specs.Calls.{Rests}
-use Rattle.ob_vault.specs.State.{RevState}
+use Rattle.ob_vault.specs.State.{RevState, World}
 use Rattle.ob_vault.specs.declared.vault.Vault.{Vault}
 use Rattle.ob_vault.specs.Places.{at}
 use Rattle.ob_vault.specs.Calls.{Went, one}
@@ -29,7 +30,7 @@ use Rattle.ob_vault.proofs.Runs.{went_join}
 use Rattle.ob_script.specs.Parts.{create_part}
 use Rattle.ob_script.specs.Script.{whole_script}
 use Rattle.ob_flat.specs.declared.fault.OpErr.{OpErr}
-use Rattle.ob_flat.specs.Flats.{IsFlat, Represents as FlatRepresents}
+use Rattle.ob_flat.specs.Flats.{IsFlat, IsSized, Represents as FlatRepresents}
 use Rattle.ob_flat.specs.Passes.{PassCut}
 use Rattle.ob_flat.proofs.Runs.{pass_after}
 use Rattle.ob_row.specs.Slots.{empty_slots}
@@ -37,8 +38,8 @@ use Rattle.ob_sql.specs.declared.stmt.Stmt.TheVariants.{Create as CreateStmt}
 use Rattle.ob_mean.specs.Headings.{headings_of}
 use Rattle.ob_mean.specs.Step.{accepted_answer, answered, followed}
 use Rattle.ob_mean.specs.Settle.{settled}
-use Rattle.ob_mean.specs.Verdict.{Tables, database, is_late, refusal, ended as seen_to}
-use Rattle.ob_mean.proofs.EarlyLemmas.{allowed, within, neither}
+use Rattle.ob_mean.specs.Verdict.{Tables, seen, database, is_late, refusal, ended as seen_to}
+use Rattle.ob_mean.proofs.EarlyLemmas.{allowed, within, neither, IsWithin}
 use Rattle.ob_mean.proofs.VerdictLemmas.{refused_late, seen_late}
 use Rattle.ob_exec.specs.declared.engine.Engine.{Engine}
 use Rattle.ob_exec.specs.declared.outcome.Outcome.TheVariants.{Created}
@@ -50,7 +51,7 @@ use Rattle.ob_exec.specs.Telling.{AreHeld, Represents, Told, outcome_of}
 use Rattle.ob_exec.proofs.TableLemmas.{tables_added, tables_kept, region_below}
 use Rattle.ob_exec.proofs.HeldLemmas.{held_kept, held_added}
 use Rattle.ob_exec.proofs.ToldLemmas.{early_held, told_cut, IsFault}
-use Rattle.ob_exec.proofs.RunLemmas.{went_room, engine_after, ran_done, ran_cut}
+use Rattle.ob_exec.proofs.RunLemmas.{early_few, went_room, engine_after, ran_done, ran_cut}
 
 -- what holds at an `Ok`, where there is no `Err`
 pub at_ok : {T E : Type 0} (r : Result T E) (P : Type 0) → is_err r ≡ false → OnOk r P → P
@@ -90,6 +91,31 @@ module _ (p : Public) (m : ℕ) (table : List ℕ) (columns : List NewColumn) (c
   new_name i t is =
       let free = allowed (is_late m) p.pack p.buffer (headings_of p.tables) (CreateStmt table columns capacity) now in
       no_table table p.tables i t (neither (has_table table (headings_of p.tables)) _ free.names).0 is
+
+  pub new_within : IsWithin (headings_of p.tables) table columns capacity
+  new_within = within (headings_of p.tables) table columns capacity (allowed (is_late m) p.pack p.buffer (headings_of p.tables) (CreateStmt table columns capacity) now).limits
+
+  pub new_few : length columns ≤ 32
+  new_few = let few = new_within.few in omega (arith, few)
+
+  pub new_asked : (n : ℕ) → n ≡ m → n < 9799832789158199296
+  new_asked n same = early_few m n (allowed (is_late m) p.pack p.buffer (headings_of p.tables) (CreateStmt table columns capacity) now).early same
+
+  pub new_size : (schema : Columns) → schema ≡ columns_of table columns → IsSized schema capacity
+  new_size schema is =
+      let few = new_stored.few in
+      let most = new_stored.most in
+      subst (λ (cs : Columns). IsSized cs capacity) (sym is)
+      (record { some = new_stored.some; few = omega (arith, few); wide = new_stored.wide; least = new_stored.least; most = omega (arith, most) })
+
+  pub new_idle : (schema : Columns) (room : RoomState) → schema ≡ columns_of table columns → IsIdle 1024 room → IsIdle (width schema) room
+  new_idle schema room is idle =
+      let wide = new_stored.wide in
+      let wider = idle.wide in
+      subst (λ (cs : Columns). IsIdle (width cs) room) (sym is) (record { free = idle.free; shelf = idle.shelf; enough = idle.enough; wide = omega (arith, wide, wider) })
+
+  pub new_seen : (tables : Tables) (w : World) → AreHeld p.pack p.tables tables w → seen p m tables (CreateStmt table columns capacity) ≡ seen_to Whole
+  new_seen tables w held = seen_late p m tables (CreateStmt table columns capacity) (early_held p m (CreateStmt table columns capacity) tables w None held now)
 
 module _ {R : Type 0} (state : R → RevState) (old : Engine R) (s s1 : StoreState) (v : Vault R) (room : RoomState) (t : StoreState)
     (table : List ℕ) (columns : List NewColumn) (schema : Columns) (capacity : ℕ)

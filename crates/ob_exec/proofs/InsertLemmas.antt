@@ -26,7 +26,9 @@ use Rattle.ob_script.specs.Parts.{insert_part, count_part}
 use Rattle.ob_script.specs.Script.{whole_script, mutation_script, blocks_of, extent_of}
 use Rattle.ob_script.specs.Trace.{moved}
 use Rattle.ob_flat.specs.declared.fault.OpErr.{OpErr}
-use Rattle.ob_flat.specs.Flats.{IsFlat, Represents as FlatRepresents}
+use Rattle.ob_flat.specs.Flats.{IsFlat, IsSized, Represents as FlatRepresents}
+use Rattle.ob_flat.specs.declared.flat.Flat.{Flat}
+use Rattle.ob_blocks.specs.Idle.{IsIdle}
 use Rattle.ob_flat.specs.Passes.{PassCut, PassCause}
 use Rattle.ob_flat.proofs.Resting.{represents_rests}
 use Rattle.ob_flat.proofs.Runs.{pass_after}
@@ -52,13 +54,13 @@ use Rattle.ob_exec.specs.declared.outcome.Outcome.{Outcome}
 use Rattle.ob_exec.specs.declared.outcome.Outcome.TheVariants.{Inserted, Rows}
 use Rattle.ob_exec.specs.Engines.{IsAt, IsTable, AreTables, flat_of}
 use Rattle.ob_exec.specs.Agreeing.{Agrees, world_of}
-use Rattle.ob_exec.specs.Running.{Ran, answer_of, is_stop, inserted_as, refusal_now, IsAnswer}
+use Rattle.ob_exec.specs.Running.{Ran, answer_of, is_stop, inserted_as, refusal_now, IsAnswer, Emits}
 use Rattle.ob_exec.specs.Serving.{count_of}
 use Rattle.ob_exec.specs.Telling.{AreHeld, Represents, Told, done_of, outcome_of}
 use Rattle.ob_base.specs.declared.shown.Shown.{Shown}
 use Rattle.ob_base.specs.declared.shown.Shown.TheVariants.{Int}
 use Rattle.ob_base.specs.Events.{Head, Row as RowEvent, Close}
-use Rattle.ob_exec.proofs.TableLemmas.{tables_kept, tables_moved, region_below, stored_found, set_moved}
+use Rattle.ob_exec.proofs.TableLemmas.{flat_kept, tables_kept, tables_moved, region_below, stored_found, set_moved}
 use Rattle.ob_exec.proofs.EmitLemmas.{selected_all}
 use Rattle.ob_exec.proofs.HeldLemmas.{held_kept, held_at, held_moved, changed_same}
 use Rattle.ob_exec.proofs.ToldLemmas.{early_held, told_cut, told_whole, IsFault}
@@ -215,6 +217,36 @@ module _ {R : Type 0} (state : R → RevState) (old : Engine R) (s s1 : StoreSta
       (seen_late old.public (length s.asked) tables (InsertStmt name columns values) early)
       (held_kept (one old.vault.next) old.public.pack old.public.tables tables _ _ all.lasts
       (λ j u is same. let less = region_below old.public.pack j old.public.tables u _ agrees.ready agrees.tables is in omega (arith, less, same)) held.held)
+
+-- an INSERT emits nothing
+pub silent_inserted : (answer : InsertedAs) → Emits (inserted_as answer) []
+silent_inserted Done = refl
+silent_inserted Duplicate = refl
+silent_inserted Full = refl
+
+-- what a pass asks of a table that was found, after room was made
+module _ {R : Type 0} (state : R → RevState) (old : Engine R) (s s1 : StoreState) (i : ℕ) (table : Table) (agrees : Agrees state old s) (rests : Rests s s1)
+    (get : slice_get old.public.tables i ≡ Some table) (flat : Flat) (flat_is : flat ≡ flat_of table) where
+  pub found_flat : IsFlat old.room.pack flat (at state old.vault s1)
+  found_flat =
+      subst (λ (f : Flat). IsFlat old.room.pack f (at state old.vault s1)) (sym flat_is)
+      (flat_kept none old.room.pack (flat_of table) (world_of state old s) _ (went_room none _ s s1 agrees.ready rests).lasts (λ off. off)
+      (subst (λ (k : ℕ). IsFlat k (flat_of table) (world_of state old s)) (sym agrees.room.pack) (agrees.tables.each i table get).flat))
+
+  pub found_size : IsSized flat.schema flat.capacity
+  found_size =
+      let stored = (agrees.tables.each i table get).stored in
+      let few = stored.few in
+      let most = stored.most in
+      subst (λ (f : Flat). IsSized f.schema f.capacity) (sym flat_is)
+      (record { some = stored.some; few = omega (arith, few); wide = stored.wide; least = stored.least; most = omega (arith, most) })
+
+  pub found_room : IsIdle (width flat.schema) old.room
+  found_room =
+      let idle = agrees.room.idle in
+      let wide = (agrees.tables.each i table get).stored.wide in
+      let wider = idle.wide in
+      subst (λ (f : Flat). IsIdle (width f.schema) old.room) (sym flat_is) (record { free = idle.free; shelf = idle.shelf; enough = idle.enough; wide = omega (arith, wide, wider) })
 
 -- ---- a count
 -- a pass that went to its end, and was given up afterwards

@@ -1,9 +1,10 @@
 -- How a statement of an engine ends.
-use Rattle.std.proofs.Common.{◌≡◌, inl, inr, ◌≤◌, ◌+◌, ◌-◌, max, ℕ, Bool, false, List, [], ◌++◌, length, take, Some, None, Ok, Result, refl, sym, ◌∙◌, ap, subst, arith, append-nil}
+use Rattle.std.proofs.Common.{◌≡◌, inl, inr, ◌≤◌, ◌+◌, ◌-◌, max, ℕ, Bool, true, false, List, [], ◌++◌, length, take, Ok, Err, Result, refl, sym, ◌∙◌, ap, subst, arith, append-nil}
 use Rattle.ob_base.specs.declared.access.Access.{Access}
 use Rattle.ob_base.specs.declared.config.Public.{Public}
 use Rattle.ob_base.specs.declared.refusal.Refusal.{Refusal}
 use Rattle.ob_base.specs.declared.refusal.Stop.{Stop}
+use Rattle.ob_base.specs.declared.refusal.Stop.TheVariants as Stops
 use Rattle.ob_base.specs.declared.refusal.Refusal.TheVariants.{Syntax, NoTable, NameTaken, NoColumn, WrongType, ValueRange, Limit, KeyRule, JoinKey, Duplicate, Full, TooManyGroups, NotConsecutive, Overflow, StoreFault}
 use Rattle.ob_base.specs.declared.seen.End.{End}
 use Rattle.ob_base.specs.declared.seen.End.TheVariants.{Static, Whole, Cut}
@@ -12,6 +13,7 @@ use Rattle.ob_base.specs.Accesses.{writes, makes, number_of, AllBelow}
 use Rattle.ob_base.proofs.AccessLemmas.{makes-append}
 use Rattle.ob_store.specs.State.{StoreState}
 use Rattle.ob_store.specs.Calls.{Rests}
+use Rattle.ob_store.specs.Runs.{Began}
 use Rattle.ob_store.proofs.Steps.{began_take, later_refl, later_rests}
 use Rattle.ob_vault.specs.State.{RevState, VaultState, World}
 use Rattle.ob_vault.specs.Tied.{Ready, Calm}
@@ -21,13 +23,15 @@ use Rattle.ob_flat.specs.declared.fault.OpErr.{OpErr}
 use Rattle.ob_flat.specs.declared.fault.OpErr.TheVariants as OpErrs
 use Rattle.ob_flat.specs.Passes.{PassCut, PassCause}
 use Rattle.ob_script.specs.Script.{script, whole_script}
-use Rattle.std.specs.Prelude.{Option, IfNone, is_some}
+use Rattle.std.specs.Prelude.{◌<◌}
+use Rattle.std.proofs.lemmas.Bool.Decides.{nat_tests}
+use Rattle.std.proofs.lemmas.List.{length-append}
 use Rattle.ob_script.specs.Trace.{tables_after, tables_then}
 use Rattle.ob_base.specs.declared.schema.Table.{Table}
 use Rattle.ob_room.specs.RoomState.{RoomState}
 use Rattle.ob_vault.specs.declared.vault.Vault.{Vault}
 use Rattle.ob_vault.specs.Places.{at}
-use Rattle.ob_mean.specs.Verdict.{ended as seen_to}
+use Rattle.ob_mean.specs.Verdict.{is_late, ended as seen_to}
 use Rattle.ob_exec.specs.declared.engine.Engine.{Engine}
 use Rattle.ob_exec.specs.declared.outcome.Outcome.{Outcome}
 use Rattle.ob_exec.specs.declared.outcome.Outcome.TheVariants.{Created, Inserted, Changed, Deleted, Dropped, Rows, Refused}
@@ -266,12 +270,42 @@ module _ {R : Type 0} (state : R → RevState) (skeleton : Skeleton) (old : Engi
         goes_on = cut_on e n (went_on old.public.tables (Cut n) (take n x) false refl cut.lasts.ready first (ap (take n) is) refl are);
       }
 
-pub if_none : (o : Option ℕ) (P : Type 0) → is_some o ≡ false → IfNone o P → P
-if_none None P none h = h
-if_none (Some x) P none h = absurd (cc none)
-
 -- the same, of an equal answer and an equal engine
 pub ran_as : {R : Type 0} (state : R → RevState) (skeleton : Skeleton) (old : Engine R) (s : StoreState) (t : StoreState) (r q : Result Outcome Stop) (new same : Engine R)
     → r ≡ q → new ≡ same → Ran state skeleton q old s same t → Ran state skeleton r old s new t
 ran_as {R} state skeleton old s t r q new same answer is ran =
     subst (λ (e : Engine R). Ran state skeleton r old s e t) (sym is) (subst (λ (a : Result Outcome Stop). Ran state skeleton a old s same t) (sym answer) ran)
+
+-- a statement that is not late begins below the last access of a pass
+pub early_few : (m n : ℕ) → is_late m ≡ false → n ≡ m → n < 9799832789158199296
+early_few m n late same =
+    let small : m < 9223372036854775808 = grind (arith, nat_tests) in
+    omega (arith, small, same)
+
+-- a count of accesses falls in no pass
+pub count_rises : (a b : ℕ) (x : List Access) (old mid new : StoreState) → a ≡ length old.asked → Rests old mid → Began x mid new → b ≡ length new.asked → a ≤ b
+count_rises a b x old mid new before rests began after =
+    let more : length new.asked ≡ length mid.asked + length began.done = ap length began.asked ∙ length-append mid.asked began.done in
+    let same : length mid.asked ≡ length old.asked = ap length rests.asked in
+    omega (arith, before, after, more, same)
+
+-- no room for the accesses: nothing was asked
+pub ran_no_room : {R : Type 0} (state : R → RevState) (skeleton : Skeleton) (old : Engine R) (s t : StoreState) (tables : List Table) → Agrees state old s → Rests s t
+    → Ran state skeleton (Err Stops.NoMemory) old s (engine_after old old.vault old.room tables (Cut 0) true) t
+ran_no_room state skeleton old s t tables agrees rests =
+    let same : length t.asked ≡ length s.asked = ap length rests.asked in
+    let none : 0 ≡ length t.asked - length s.asked = omega (arith, same) in
+    record {
+      asked = rests.asked ∙ sym (append-nil s.asked);
+      later = later_rests s t rests;
+      keys = refl;
+      ends = ap (λ (n : ℕ). Cut n) none;
+      cause = (rests.faults, λ calm. record { calm = λ lie is. calm.calm lie (sym rests.lie ∙ is) });
+      room = agrees.room;
+      opened = opens_none old.room.high;
+      goes_on = refl;
+    }
+
+-- a store that no call was made on
+pub rests_refl : (s : StoreState) → Rests s s
+rests_refl s = record { spare = omega (arith); asked = refl; faults = refl; slips = refl; tells = refl; lie = refl; disturbed = refl; keeps = record { live = λ q. refl; last = λ q x. refl } }

@@ -1,17 +1,21 @@
 -- What a statement did is what it means.
-use Rattle.std.proofs.Common.{◌≡◌, ◌⊎◌, inl, inr, ◌-◌, ℕ, Result, Bool, true, false, List, length, Option, Some, None, Ok, Err, [], refl, sym, ◌∙◌, ap, subst}
-use Rattle.std.specs.Prelude.{nat_lt, IfOk, OnErr, ⊤, ◌∷◌}
+use Rattle.std.proofs.Common.{◌≡◌, ◌⊎◌, inl, inr, ◌-◌, ℕ, arith, Result, Bool, true, false, List, length, Option, Some, None, Ok, Err, [], refl, sym, ◌∙◌, ap, subst}
+use Rattle.std.specs.Prelude.{◌<◌, nat_lt, IfOk, OnErr, ⊤, ◌∷◌}
 use Rattle.ob_base.specs.declared.config.Public.{Public}
 use Rattle.ob_base.specs.declared.refusal.Refusal.{Refusal}
 use Rattle.ob_base.specs.declared.refusal.Refusal.TheVariants.{Syntax, NoTable, NameTaken, NoColumn, WrongType, ValueRange, Limit, KeyRule, JoinKey, Duplicate, Full, TooManyGroups, NotConsecutive, Overflow, StoreFault}
 use Rattle.ob_base.specs.declared.refusal.Stop.{Stop}
+use Rattle.ob_base.specs.declared.refusal.Stop.TheVariants as Stops
 use Rattle.ob_base.specs.declared.schema.Heading.{Heading}
+use Rattle.ob_base.specs.declared.schema.Table.{Table}
 use Rattle.ob_base.specs.declared.seen.Seen.{Seen}
+use Rattle.ob_base.specs.declared.seen.End.{End}
 use Rattle.ob_base.specs.declared.seen.End.TheVariants.{Static, Whole, Cut}
 use Rattle.ob_base.specs.declared.skeleton.Skeleton.{Skeleton}
 use Rattle.ob_base.specs.Stored.{headings}
 use Rattle.ob_room.specs.RoomState.{RoomState}
 use Rattle.ob_store.specs.State.{StoreState}
+use Rattle.ob_store.specs.Calls.{Rests}
 use Rattle.ob_vault.specs.State.{RevState, World}
 use Rattle.ob_vault.specs.declared.vault.Vault.{Vault}
 use Rattle.ob_vault.specs.Places.{at}
@@ -26,24 +30,33 @@ use Rattle.ob_mean.specs.Prints.{Prints, labels_of}
 use Rattle.ob_mean.specs.Refusals.{first_holding, early_conditions, early_refusal}
 use Rattle.ob_mean.specs.Settle.{settled}
 use Rattle.ob_mean.specs.Step.{accepted_answer, answered, followed}
-use Rattle.ob_mean.proofs.VerdictLemmas.{refused_early, seen_early}
+use Rattle.ob_mean.proofs.VerdictLemmas.{refused_early, seen_early, seen_late}
+use Rattle.ob_mean.proofs.EarlyLemmas.{allowed}
 use Rattle.ob_mean.specs.Replay.{held_if, cut_at, count_end, first_end}
-use Rattle.ob_mean.specs.Verdict.{Tables, database, is_late, refusal, verdict, seen, ended as seen_to}
+use Rattle.ob_mean.specs.Verdict.{Tables, database, is_late, refusal, verdict, seen, seen_started, ended as seen_to}
 use Rattle.ob_exec.specs.declared.engine.Engine.{Engine}
 use Rattle.ob_exec.specs.declared.outcome.Outcome.{Outcome}
 use Rattle.ob_exec.specs.declared.outcome.Outcome.TheVariants.{Created, Inserted, Changed, Deleted, Dropped, Rows, Refused}
 use Rattle.ob_exec.specs.Agreeing.{world_of}
 use Rattle.ob_exec.specs.Refusals.{IsEarly}
-use Rattle.ob_exec.specs.Running.{answer_of, is_stop, refusal_now, RefusedEarly, Emits, IsSilent}
+use Rattle.ob_exec.specs.Running.{answer_of, is_stop, refusal_now, RefusedEarly, Emits, IsSilent, SinkCause}
 use Rattle.ob_exec.specs.Telling.{AreHeld, Represents, Told, Emitted, outcome_of, told_refusal, told_outcome}
 use Rattle.ob_exec.proofs.HeldLemmas.{held_headings}
-use Rattle.ob_exec.proofs.RunLemmas.{IsAnswered, engine_after}
+use Rattle.ob_exec.proofs.RunLemmas.{IsAnswered, early_few, engine_after}
 
 -- the refusal by what is public is that by the tables in place
 pub early_held : (p : Public) (m : ℕ) (stmt : Stmt) (tables : Tables) (w : World) (o : Option Refusal) → AreHeld p.pack p.tables tables w → refusal_now p m stmt ≡ o
     → early_refusal (is_late m) p.pack p.buffer (headings tables) stmt ≡ o
 early_held p m stmt tables w o held now =
     ap (λ (hs : List Heading). early_refusal (is_late m) p.pack p.buffer hs stmt) (held_headings p.pack p.tables tables w held) ∙ now
+
+-- a statement that is not refused before any access
+module _ (p : Public) (m : ℕ) (stmt : Stmt) (now : refusal_now p m stmt ≡ None) where
+  pub started_seen : (tables : Tables) (w : World) → AreHeld p.pack p.tables tables w → seen p m tables stmt ≡ seen_started p tables stmt
+  started_seen tables w held = seen_late p m tables stmt (early_held p m stmt tables w None held now)
+
+  pub few_asked : (n : ℕ) → n ≡ m → n < 9799832789158199296
+  few_asked n same = early_few m n (allowed (is_late m) p.pack p.buffer (headings_of p.tables) stmt now).early same
 
 pub told_early : (r : Refusal) (whole cut : Type 0) → IsEarly r → whole → told_refusal r whole cut
 told_early (Syntax at) whole cut early is = is
@@ -87,6 +100,24 @@ cut_seen p s n k now whole same =
     })
     ∙ ap (cut_at k p s) (sym whole)
 
+-- nothing but its end is seen of a statement
+pub plain_as : (now : Seen) (end : End) → now ≡ seen_to end → now ≡ seen_to now.end
+plain_as now end is = is ∙ ap (λ (x : Seen). seen_to x.end) (sym is)
+
+-- a statement that was not refused before any access
+pub started_whole : (now : Seen) → now ≡ seen_to Whole → now.end ≡ Static → ⊥
+started_whole now is here = let ends : Whole ≡ Static = sym (ap (λ (x : Seen). x.end) is) ∙ here in absurd (cc ends)
+
+pub started_cut : (now : Seen) (n : ℕ) → now ≡ seen_to (Cut n) → now.end ≡ Static → ⊥
+started_cut now n is here = let ends : Cut n ≡ Static = sym (ap (λ (x : Seen). x.end) is) ∙ here in absurd (cc ends)
+
+-- no room for the accesses: nothing was asked
+pub told_no_room : {R : Type 0} (state : R → RevState) (old : Engine R) (s t : StoreState) (stmt : Stmt) (tables : Tables) (ts : List Table) → Rests s t → seen old.public (length s.asked) tables stmt ≡ seen_to Whole
+    → Told state stmt (length s.asked) tables (Err Stops.NoMemory) old (engine_after old old.vault old.room ts (Cut 0) true) t
+told_no_room state old s t stmt tables ts rests whole =
+    let same : length t.asked ≡ length s.asked = ap length rests.asked in
+    cut_seen old.public (skeleton stmt) 0 _ _ whole (omega (arith, same))
+
 -- the block was not refused
 abbrev pub IsFault : OpErr → Type 0
 IsFault OpErrs.Failed = Unit {0}
@@ -113,6 +144,22 @@ pub told_as : {R : Type 0} (state : R → RevState) (stmt : Stmt) (m : ℕ) (tab
     → r ≡ q → new ≡ same → Told state stmt m tables q old same t → Told state stmt m tables r old new t
 told_as {R} state stmt m tables old t r q new same answer is told =
     subst (λ (e : Engine R). Told state stmt m tables r old e t) (sym is) (subst (λ (a : Result Outcome Stop). Told state stmt m tables a old same t) (sym answer) told)
+
+-- a fault of the store, or want of memory, emits nothing
+pub silent_fault : (e : OpErr) → (e ≡ OpErrs.Failed) ⊎ (e ≡ OpErrs.NoMemory) → IsSilent (answer_of e)
+silent_fault e (inl is) = subst (λ (x : OpErr). IsSilent (answer_of x)) (sym is) refl
+silent_fault e (inr is) = subst (λ (x : OpErr). IsSilent (answer_of x)) (sym is) tt
+
+-- nor does any error of an INSERT's pass
+pub silent_pass : (e : OpErr) (q n : ℕ) → (e ≡ OpErrs.Failed) ⊎ (e ≡ OpErrs.NoMemory) ⊎ ((place : ℕ) × (place < n) × (e ≡ OpErrs.Tampered q place)) → IsSilent (answer_of e)
+silent_pass e q n (inl is) = silent_fault e (inl is)
+silent_pass e q n (inr (inl is)) = silent_fault e (inr is)
+silent_pass e q n (inr (inr (place, less, is))) = subst (λ (x : OpErr). IsSilent (answer_of x)) (sym is) tt
+
+-- nor any error of a pass that only reads
+pub silent_read : (e : OpErr) (q n : ℕ) → (e ≡ OpErrs.Failed) ⊎ ((place : ℕ) × (place < n) × (e ≡ OpErrs.Tampered q place)) → IsSilent (answer_of e)
+silent_read e q n (inl is) = silent_fault e (inl is)
+silent_read e q n (inr (place, less, is)) = subst (λ (x : OpErr). IsSilent (answer_of x)) (sym is) tt
 
 -- what holds of each answer holds where there is one
 pub if_ok_of : {T E : Type 0} {P : T → Type 0} (r q : Result T E) → r ≡ q → ((x : T) → q ≡ Ok x → P x) → IfOk r P
@@ -146,6 +193,23 @@ early_is p m stmt r is = holding_early (early_conditions (is_late m) p.pack p.bu
 pub refused_none : (o : Option Refusal) (result : Result Outcome Stop) (now : Seen) → o ≡ None → (now.end ≡ Static → ⊥) → RefusedEarly o result now
 refused_none None result now is started = started
 refused_none (Some r) result now is started = absurd (cc is)
+
+-- a refusal that was found is the answer
+pub refused_some : (o : Option Refusal) (r : Refusal) (result : Result Outcome Stop) (now : Seen) → o ≡ Some r → result ≡ Ok (Refused r) → now ≡ seen_to Static → RefusedEarly o result now
+refused_some o r result now is answer seen = subst (λ (x : Option Refusal). RefusedEarly x result now) (sym is) (answer, seen)
+
+-- a refusal that was found is that of the statement
+pub now_is : (p : Public) (m n : ℕ) (stmt : Stmt) (o q : Option Refusal) → n ≡ m → o ≡ refusal_now p n stmt → o ≡ q → refusal_now p m stmt ≡ q
+now_is p m n stmt o q count found is = (λ i. refusal_now p (sym count i) stmt) ∙ sym found ∙ is
+
+-- an emitter did not fail where nothing was emitted
+pub silent_sink : (r : Result Outcome Stop) (n : ℕ) → IsSilent r → SinkCause r n n
+silent_sink (Ok outcome) n silent = refl
+silent_sink (Err Stops.SinkFault) n silent = absurd silent
+silent_sink (Err (Stops.Tampered region place)) n silent = refl
+silent_sink (Err Stops.NoMemory) n silent = refl
+silent_sink (Err Stops.SourceFault) n silent = absurd silent
+silent_sink (Err Stops.InputLimit) n silent = absurd silent
 
 pub silent_ok : {P : Outcome → Type 0} (r : Result Outcome Stop) → IsSilent r → ((o : Outcome) → Emits o [] → P o) → IfOk r P
 silent_ok (Ok o) silent h = h o silent

@@ -1,9 +1,10 @@
-use Rattle.std.proofs.Common.{◌≡◌, ◌⊎◌, inl, inr, ◌-◌, IsTrue, List, [], ◌∷◌, length, Ok, Result, sym, ◌∙◌, subst, ap, arith, slice_get, pos}
+use Rattle.std.proofs.Common.{◌≡◌, ◌≤◌, ◌⊎◌, inl, inr, ◌-◌, ℕ, refl, IsTrue, List, [], ◌∷◌, length, Ok, Result, sym, ◌∙◌, subst, ap, arith, slice_get, pos}
 use Rattle.std.specs.Prelude.{OnErr}
 use Rattle.std.proofs.lemmas.Option.{slice_get_within}
 use Rattle.ob_base.specs.declared.refusal.Stop.{Stop}
 use Rattle.ob_base.specs.declared.refusal.Stop.TheVariants.{SinkFault, NoMemory}
 use Rattle.ob_base.specs.declared.schema.Table.{Table}
+use Rattle.ob_base.specs.declared.seen.End.TheVariants.{Whole, Cut}
 use Rattle.ob_base.specs.Numbers.{blocks_for}
 use Rattle.ob_base.specs.Events.{Event}
 use Rattle.ob_base.specs.declared.shown.Shown.TheVariants.{Int}
@@ -23,18 +24,19 @@ use Rattle.ob_mean.specs.Verdict.{Tables, is_late}
 use Rattle.ob_mean.proofs.EarlyLemmas.{allowed}
 use Rattle.ob_exec.specs.declared.outcome.Outcome.{Outcome}
 use Rattle.ob_exec.specs.Engines.{IsAt}
-use Rattle.ob_exec.specs.Running.{Emits, answer_of}
+use Rattle.ob_exec.specs.Running.{Emits, IsSilent, SinkCause, answer_of}
 use Rattle.ob_exec.specs.Serving.{count_of}
 use Rattle.ob_exec.specs.Telling.{Emitted, Represents as Stands}
 use Rattle.ob_vault.specs.Tied.{Calm, IsUnfit}
 use Rattle.ob_exec.proofs.FoundLemmas.{is_there}
 use Rattle.ob_exec.proofs.EmitLemmas.{count_labels, count_events, count_emitted, count_partly, count_none, unfit_none}
-use Rattle.ob_exec.proofs.RunLemmas.{ran_as, went_room}
-use Rattle.ob_exec.proofs.ToldLemmas.{told_as, fault_made, if_ok_of, on_err_of, emits_fault}
-use Rattle.ob_exec.proofs.InsertLemmas.{counted, not_counted, cut_whole, one_row, count_some, count_is, held_before, told_counted, told_not_counted}
+use Rattle.ob_exec.proofs.RunLemmas.{count_rises, ran_as, ran_no_room, went_room}
+use Rattle.ob_exec.proofs.ToldLemmas.{told_as, told_no_room, started_seen, silent_read, silent_sink, plain_as, started_whole, started_cut, fault_made, if_ok_of, on_err_of, emits_fault}
+use Rattle.ob_exec.proofs.InsertLemmas.{counted, not_counted, cut_whole, one_row, count_some, count_is, held_before, told_counted, told_not_counted, found_flat, found_size, found_room}
 use Rattle.ob_exec.specs.Agreeing.{world_of}
 use Rattle.ob_exec.specs.declared.engine.Engine.{Engine}
-use Rattle.ob_exec.proofs.SealLemmas.{keeps_pass}
+use Rattle.ob_exec.proofs.SealLemmas.{keeps_pass, keeps_rests}
+use Rattle.ob_exec.proofs.CreateLemmas.{at_ok}
 use Rattle.ob_exec.proofs.engine.Engine.count_all.Goals as goal
 
 pub unreachable-requires : goal.unreachable-requires
@@ -384,3 +386,119 @@ returns-in-Err-NoMemory-clause-seals g c =
     (g.S.BlockStore.state c.count-2.new.store) _
     (ap (λ (e : Engine g.row.R.Denot). world_of g.R.Revisions.state e (g.S.BlockStore.state c.count-2.new.store)) c.cut-in-Err-NoMemory.ensures.seen)
     (λ good accepts. c.in-Ok.ensures.seals good)
+
+pub returns-then-is_err-clause-ran : goal.returns-then-is_err-clause-ran
+returns-then-is_err-clause-ran g c =
+    let state = g.R.Revisions.state in
+    let old = c.args.self.now in
+    ran_as state (skeleton (count_of c.args.table.now)) old _ _ _ _ _ _ c.cut.ensures.answer c.cut.ensures.seen
+    (ran_no_room state _ old (g.S.BlockStore.state c.args.store.now) (g.S.BlockStore.state c.room.new.self) old.public.tables c.requires.agrees c.room.ensures.rests)
+
+pub returns-then-is_err-clause-seals : goal.returns-then-is_err-clause-seals
+returns-then-is_err-clause-seals g c =
+    keeps_rests g.R.Revisions.state c.args.self.now (g.S.BlockStore.state c.args.store.now) (g.S.BlockStore.state c.room.new.self) c.room.ensures.rests c.cut.new.self
+    (ap (λ (e : Engine g.row.R.Denot). world_of g.R.Revisions.state e (g.S.BlockStore.state c.room.new.self)) c.cut.ensures.seen)
+
+pub returns-then-is_err-clause-plain : goal.returns-then-is_err-clause-plain
+returns-then-is_err-clause-plain g c = plain_as _ (Cut 0) (ap (λ (e : Engine g.row.R.Denot). e.seen) c.cut.ensures.seen)
+
+pub returns-then-is_err-clause-started : goal.returns-then-is_err-clause-started
+returns-then-is_err-clause-started g c = started_cut _ 0 (ap (λ (e : Engine g.row.R.Denot). e.seen) c.cut.ensures.seen)
+
+pub returns-then-is_err-clause-emits : goal.returns-then-is_err-clause-emits
+returns-then-is_err-clause-emits g c = if_ok_of c.cut.result (answer_of OpErrs.NoMemory) c.cut.ensures.answer (λ outcome is. absurd (cc is))
+
+pub returns-then-is_err-clause-sink : goal.returns-then-is_err-clause-sink
+returns-then-is_err-clause-sink g c = subst (λ (r : Result Outcome Stop). SinkCause r (g.E.Emit.faults c.args.out.now) (g.E.Emit.faults c.args.out.now)) (sym c.cut.ensures.answer) refl
+
+pub returns-then-is_err-clause-told : goal.returns-then-is_err-clause-told
+returns-then-is_err-clause-told g c tells tables held honest =
+    let state = g.R.Revisions.state in
+    let old = c.args.self.now in
+    let stmt = count_of c.args.table.now in
+    told_as state stmt _ tables old _ _ _ _ _ c.cut.ensures.answer c.cut.ensures.seen
+    (told_no_room state old (g.S.BlockStore.state c.args.store.now) (g.S.BlockStore.state c.room.new.self) stmt tables old.public.tables c.room.ensures.rests (started_seen old.public _ stmt c.requires.allowed tables _ held.held))
+
+pub div_ceil-blocks-requires : goal.div_ceil-blocks-requires
+div_ceil-blocks-requires g c = omega (arith, c.from.ensures, c.requires.agrees.room.some)
+
+pub count-requires-clause-ready : goal.count-requires-clause-ready
+count-requires-clause-ready g c = (went_room none _ (g.S.BlockStore.state c.args.store.now) (g.S.BlockStore.state c.room.new.self) c.requires.agrees.ready c.room.ensures.rests).lasts.ready
+
+pub count-requires-clause-spare : goal.count-requires-clause-spare
+count-requires-clause-spare g c =
+    let spare = (g.S.BlockStore.state c.room.new.self).spare in
+    subst (λ (n : ℕ). n ≤ spare) (c.from-2.ensures ∙ c.div_ceil-blocks.ensures ∙ ap (λ (k : ℕ). blocks_for k c.flat_at-flat.result.capacity) (c.from.ensures ∙ sym c.requires.agrees.room.pack))
+    (at_ok c.room.result _ (sym c.is_err.ensures.value ∙ c.if-is_err.false) c.room.ensures.spare)
+
+pub count-requires-clause-flat : goal.count-requires-clause-flat
+count-requires-clause-flat g c =
+    let found = c.in-Some.ensures.found in
+    let get = ap (λ (ts : List Table). slice_get ts c.in-Some.i) (sym c.as_slice.ensures) ∙ found.1.get in
+    found_flat g.R.Revisions.state c.args.self.now (g.S.BlockStore.state c.args.store.now) (g.S.BlockStore.state c.room.new.self) c.in-Some.i found.0 c.requires.agrees c.room.ensures.rests get c.flat_at-flat.result
+    (c.flat_at-flat.ensures found.0 (ap (λ (ts : List Table). slice_get ts c.in-Some.i) c.as_slice-2.ensures ∙ get))
+
+pub count-requires-clause-size : goal.count-requires-clause-size
+count-requires-clause-size g c =
+    let found = c.in-Some.ensures.found in
+    let get = ap (λ (ts : List Table). slice_get ts c.in-Some.i) (sym c.as_slice.ensures) ∙ found.1.get in
+    found_size g.R.Revisions.state c.args.self.now (g.S.BlockStore.state c.args.store.now) (g.S.BlockStore.state c.room.new.self) c.in-Some.i found.0 c.requires.agrees c.room.ensures.rests get c.flat_at-flat.result
+    (c.flat_at-flat.ensures found.0 (ap (λ (ts : List Table). slice_get ts c.in-Some.i) c.as_slice-2.ensures ∙ get))
+
+pub count-requires-clause-room : goal.count-requires-clause-room
+count-requires-clause-room g c =
+    let found = c.in-Some.ensures.found in
+    let get = ap (λ (ts : List Table). slice_get ts c.in-Some.i) (sym c.as_slice.ensures) ∙ found.1.get in
+    found_room g.R.Revisions.state c.args.self.now (g.S.BlockStore.state c.args.store.now) (g.S.BlockStore.state c.room.new.self) c.in-Some.i found.0 c.requires.agrees c.room.ensures.rests get c.flat_at-flat.result
+    (c.flat_at-flat.ensures found.0 (ap (λ (ts : List Table). slice_get ts c.in-Some.i) c.as_slice-2.ensures ∙ get))
+
+pub overflow_sub-count : goal.overflow_sub-count
+overflow_sub-count g c = count_rises c.count-before.result c.count-in-Err.result _ (g.S.BlockStore.state c.args.store.now) (g.S.BlockStore.state c.room.new.self) (g.S.BlockStore.state c.count-2.new.store) c.count-before.ensures c.room.ensures.rests c.in-Err.ensures.err.began c.count-in-Err.ensures
+
+pub returns-in-Err-clause-plain : goal.returns-in-Err-clause-plain
+returns-in-Err-clause-plain g c = plain_as _ (Cut (c.count-in-Err.result - c.count-before.result)) (ap (λ (e : Engine g.row.R.Denot). e.seen) c.cut-in-Err.ensures.seen)
+
+pub returns-in-Err-clause-started : goal.returns-in-Err-clause-started
+returns-in-Err-clause-started g c = started_cut _ (c.count-in-Err.result - c.count-before.result) (ap (λ (e : Engine g.row.R.Denot). e.seen) c.cut-in-Err.ensures.seen)
+
+pub returns-in-Err-clause-sink : goal.returns-in-Err-clause-sink
+returns-in-Err-clause-sink g c = silent_sink c.cut-in-Err.result _ (subst (λ (r : Result Outcome Stop). IsSilent r) (sym c.cut-in-Err.ensures.answer) (silent_read c.in-Err.error _ _ c.in-Err.ensures.never))
+
+pub returns-in-Ok-emit_count-clause-plain : goal.returns-in-Ok-emit_count-clause-plain
+returns-in-Ok-emit_count-clause-plain g c = plain_as _ Whole (ap (λ (e : Engine g.row.R.Denot). e.seen) c.finish.ensures.seen)
+
+pub returns-in-Ok-emit_count-clause-started : goal.returns-in-Ok-emit_count-clause-started
+returns-in-Ok-emit_count-clause-started g c = started_whole _ (ap (λ (e : Engine g.row.R.Denot). e.seen) c.finish.ensures.seen)
+
+pub returns-in-Ok-emit_count-clause-stopped : goal.returns-in-Ok-emit_count-clause-stopped
+returns-in-Ok-emit_count-clause-stopped g c = tt
+
+pub returns-in-Err-Failed-clause-plain : goal.returns-in-Err-Failed-clause-plain
+returns-in-Err-Failed-clause-plain g c = plain_as _ (Cut (c.count-in-Err-Failed.result - c.count-before.result)) (ap (λ (e : Engine g.row.R.Denot). e.seen) c.cut-in-Err-Failed.ensures.seen)
+
+pub returns-in-Err-Failed-clause-started : goal.returns-in-Err-Failed-clause-started
+returns-in-Err-Failed-clause-started g c = started_cut _ (c.count-in-Err-Failed.result - c.count-before.result) (ap (λ (e : Engine g.row.R.Denot). e.seen) c.cut-in-Err-Failed.ensures.seen)
+
+pub returns-in-Err-Failed-clause-emits : goal.returns-in-Err-Failed-clause-emits
+returns-in-Err-Failed-clause-emits g c = if_ok_of c.cut-in-Err-Failed.result (answer_of OpErrs.Sink) c.cut-in-Err-Failed.ensures.answer (λ outcome is. absurd (cc is))
+
+pub returns-in-Err-NoMemory-clause-plain : goal.returns-in-Err-NoMemory-clause-plain
+returns-in-Err-NoMemory-clause-plain g c = plain_as _ (Cut (c.count-in-Err-NoMemory.result - c.count-before.result)) (ap (λ (e : Engine g.row.R.Denot). e.seen) c.cut-in-Err-NoMemory.ensures.seen)
+
+pub returns-in-Err-NoMemory-clause-started : goal.returns-in-Err-NoMemory-clause-started
+returns-in-Err-NoMemory-clause-started g c = started_cut _ (c.count-in-Err-NoMemory.result - c.count-before.result) (ap (λ (e : Engine g.row.R.Denot). e.seen) c.cut-in-Err-NoMemory.ensures.seen)
+
+pub returns-in-Err-NoMemory-clause-emits : goal.returns-in-Err-NoMemory-clause-emits
+returns-in-Err-NoMemory-clause-emits g c = if_ok_of c.cut-in-Err-NoMemory.result (answer_of OpErrs.NoMemory) c.cut-in-Err-NoMemory.ensures.answer (λ outcome is. absurd (cc is))
+
+pub overflow_sub-count-in-Err-Failed : goal.overflow_sub-count-in-Err-Failed
+overflow_sub-count-in-Err-Failed g c =
+    let went = c.in-Ok.ensures.ok in
+    count_rises c.count-before.result c.count-in-Err-Failed.result _ (g.S.BlockStore.state c.args.store.now) (g.S.BlockStore.state c.room.new.self) (g.S.BlockStore.state c.count-2.new.store) c.count-before.ensures c.room.ensures.rests
+    (cut_whole OpErrs.NoMemory none _ _ _ (went.did.faults, went.calm) went).began c.count-in-Err-Failed.ensures
+
+pub overflow_sub-count-in-Err-NoMemory : goal.overflow_sub-count-in-Err-NoMemory
+overflow_sub-count-in-Err-NoMemory g c =
+    let went = c.in-Ok.ensures.ok in
+    count_rises c.count-before.result c.count-in-Err-NoMemory.result _ (g.S.BlockStore.state c.args.store.now) (g.S.BlockStore.state c.room.new.self) (g.S.BlockStore.state c.count-2.new.store) c.count-before.ensures c.room.ensures.rests
+    (cut_whole OpErrs.NoMemory none _ _ _ (went.did.faults, went.calm) went).began c.count-in-Err-NoMemory.ensures

@@ -1,4 +1,4 @@
-use Rattle.std.proofs.Common.{◌≡◌, Bool, IsTrue, List, [], ◌∷◌, ◌++◌, Ok, ◌-◌, sym, ◌∙◌, subst, ap, length}
+use Rattle.std.proofs.Common.{◌≡◌, ◌≤◌, ◌+◌, ℕ, arith, refl, Result, Bool, IsTrue, List, [], ◌∷◌, ◌++◌, Ok, ◌-◌, sym, ◌∙◌, subst, ap, length}
 use Rattle.ob_base.specs.declared.schema.Table.{Table}
 use Rattle.ob_base.specs.declared.seen.End.TheVariants.{Whole, Cut}
 use Rattle.ob_sql.specs.declared.stmt.Stmt.TheVariants.{Create}
@@ -6,13 +6,16 @@ use Rattle.ob_sql.specs.Skeleton.{skeleton}
 use Rattle.ob_flat.specs.declared.flat.Flat.{Flat}
 use Rattle.ob_flat.specs.Flats.{IsFlat, Represents}
 use Rattle.ob_vault.specs.Places.{at}
+use Rattle.ob_vault.specs.Calls.{none}
+use Rattle.ob_base.specs.Numbers.{blocks_for}
+use Rattle.ob_base.specs.declared.refusal.Stop.{Stop}
 use Rattle.ob_row.specs.Slots.{empty_slots}
 use Rattle.ob_exec.specs.declared.outcome.Outcome.{Outcome}
-use Rattle.ob_exec.specs.Running.{answer_of, is_stop}
+use Rattle.ob_exec.specs.Running.{answer_of, is_stop, Emits, IsSilent}
 use Rattle.ob_exec.specs.Schemas.{IsStored}
-use Rattle.ob_exec.proofs.RunLemmas.{ran_as, engine_after}
-use Rattle.ob_exec.proofs.ToldLemmas.{told_as, fault_made}
-use Rattle.ob_exec.proofs.CreateLemmas.{at_ok, created, not_created, told_created, told_not_created, new_stored, new_name, popped}
+use Rattle.ob_exec.proofs.RunLemmas.{went_room, count_rises, ran_as, ran_no_room, engine_after}
+use Rattle.ob_exec.proofs.ToldLemmas.{told_as, told_no_room, fault_made, silent_fault, plain_as, started_whole, started_cut}
+use Rattle.ob_exec.proofs.CreateLemmas.{at_ok, created, not_created, told_created, told_not_created, new_stored, new_name, new_within, new_few, new_asked, new_size, new_idle, new_seen, popped}
 use Rattle.ob_exec.specs.Agreeing.{world_of}
 use Rattle.ob_exec.specs.declared.engine.Engine.{Engine}
 use Rattle.ob_exec.proofs.SealLemmas.{keeps_rests, keeps_pass}
@@ -113,3 +116,102 @@ returns-in-Err-clause-seals g c =
     (g.S.BlockStore.state c.create.new.store) _
     (ap (λ (e : Engine g.row.R.Denot). world_of g.R.Revisions.state e (g.S.BlockStore.state c.create.new.store)) c.cut-in-Err.ensures.seen)
     (λ good accepts. c.in-Err.ensures.seals good (accepts _ _))
+
+pub new_schema-schema-requires-clause-few : goal.new_schema-schema-requires-clause-few
+new_schema-schema-requires-clause-few g c = new_few c.args.self.now.public (length (g.S.BlockStore.state c.args.store.now).asked) c.args.table.now c.args.columns.now c.args.capacity c.requires.allowed
+
+pub new_schema-schema-requires-clause-sizes : goal.new_schema-schema-requires-clause-sizes
+new_schema-schema-requires-clause-sizes g c = (new_within c.args.self.now.public (length (g.S.BlockStore.state c.args.store.now).asked) c.args.table.now c.args.columns.now c.args.capacity c.requires.allowed).sizes
+
+pub div_ceil-blocks-requires : goal.div_ceil-blocks-requires
+div_ceil-blocks-requires g c = omega (arith, c.from.ensures, c.requires.agrees.room.some)
+
+pub overflow_add-from : goal.overflow_add-from
+overflow_add-from g c = omega (arith, c.from-2.ensures, c.div_ceil-blocks.type_inv)
+
+pub returns-then-is_err-clause-ran : goal.returns-then-is_err-clause-ran
+returns-then-is_err-clause-ran g c =
+    let state = g.R.Revisions.state in
+    let old = c.args.self.now in
+    ran_as state (skeleton (Create c.args.table.now c.args.columns.now c.args.capacity)) old _ _ _ _ _ _ c.cut.ensures.answer c.cut.ensures.seen
+    (ran_no_room state _ old (g.S.BlockStore.state c.args.store.now) (g.S.BlockStore.state c.room.new.self) c.args.self.now.public.tables c.requires.agrees c.room.ensures.rests)
+
+pub returns-then-is_err-clause-plain : goal.returns-then-is_err-clause-plain
+returns-then-is_err-clause-plain g c = plain_as _ (Cut 0) (ap (λ (e : Engine g.row.R.Denot). e.seen) c.cut.ensures.seen)
+
+pub returns-then-is_err-clause-started : goal.returns-then-is_err-clause-started
+returns-then-is_err-clause-started g c = started_cut _ 0 (ap (λ (e : Engine g.row.R.Denot). e.seen) c.cut.ensures.seen)
+
+pub returns-then-is_err-clause-silent : goal.returns-then-is_err-clause-silent
+returns-then-is_err-clause-silent g c = subst (λ (r : Result Outcome Stop). IsSilent r) (sym c.cut.ensures.answer) tt
+
+pub returns-then-is_err-clause-told : goal.returns-then-is_err-clause-told
+returns-then-is_err-clause-told g c tells tables held honest =
+    let state = g.R.Revisions.state in
+    let old = c.args.self.now in
+    let stmt = Create c.args.table.now c.args.columns.now c.args.capacity in
+    told_as state stmt _ tables old _ _ _ _ _ c.cut.ensures.answer c.cut.ensures.seen
+    (told_no_room state old (g.S.BlockStore.state c.args.store.now) (g.S.BlockStore.state c.room.new.self) stmt tables c.args.self.now.public.tables c.room.ensures.rests (new_seen c.args.self.now.public (length (g.S.BlockStore.state c.args.store.now).asked) c.args.table.now c.args.columns.now c.args.capacity c.requires.allowed tables _ held.held))
+
+pub returns-then-is_err-2-clause-ran : goal.returns-then-is_err-2-clause-ran
+returns-then-is_err-2-clause-ran g c =
+    let state = g.R.Revisions.state in
+    let old = c.args.self.now in
+    ran_as state (skeleton (Create c.args.table.now c.args.columns.now c.args.capacity)) old _ _ _ _ _ _ c.cut-then-is_err-2.ensures.answer c.cut-then-is_err-2.ensures.seen
+    (ran_no_room state _ old (g.S.BlockStore.state c.args.store.now) (g.S.BlockStore.state c.room.new.self) c.push.new.self c.requires.agrees c.room.ensures.rests)
+
+pub returns-then-is_err-2-clause-plain : goal.returns-then-is_err-2-clause-plain
+returns-then-is_err-2-clause-plain g c = plain_as _ (Cut 0) (ap (λ (e : Engine g.row.R.Denot). e.seen) c.cut-then-is_err-2.ensures.seen)
+
+pub returns-then-is_err-2-clause-started : goal.returns-then-is_err-2-clause-started
+returns-then-is_err-2-clause-started g c = started_cut _ 0 (ap (λ (e : Engine g.row.R.Denot). e.seen) c.cut-then-is_err-2.ensures.seen)
+
+pub returns-then-is_err-2-clause-silent : goal.returns-then-is_err-2-clause-silent
+returns-then-is_err-2-clause-silent g c = subst (λ (r : Result Outcome Stop). IsSilent r) (sym c.cut-then-is_err-2.ensures.answer) tt
+
+pub returns-then-is_err-2-clause-told : goal.returns-then-is_err-2-clause-told
+returns-then-is_err-2-clause-told g c tells tables held honest =
+    let state = g.R.Revisions.state in
+    let old = c.args.self.now in
+    let stmt = Create c.args.table.now c.args.columns.now c.args.capacity in
+    told_as state stmt _ tables old _ _ _ _ _ c.cut-then-is_err-2.ensures.answer c.cut-then-is_err-2.ensures.seen
+    (told_no_room state old (g.S.BlockStore.state c.args.store.now) (g.S.BlockStore.state c.room.new.self) stmt tables c.push.new.self c.room.ensures.rests (new_seen c.args.self.now.public (length (g.S.BlockStore.state c.args.store.now).asked) c.args.table.now c.args.columns.now c.args.capacity c.requires.allowed tables _ held.held))
+
+pub create-requires-clause-ready : goal.create-requires-clause-ready
+create-requires-clause-ready g c = (went_room none _ (g.S.BlockStore.state c.args.store.now) (g.S.BlockStore.state c.room.new.self) c.requires.agrees.ready c.room.ensures.rests).lasts.ready
+
+pub create-requires-clause-spare : goal.create-requires-clause-spare
+create-requires-clause-spare g c =
+    let spare = (g.S.BlockStore.state c.room.new.self).spare in
+    subst (λ (n : ℕ). 1 + n ≤ spare) (c.from-2.ensures ∙ c.div_ceil-blocks.ensures ∙ ap (λ (k : ℕ). blocks_for k c.args.capacity) (c.from.ensures ∙ sym c.requires.agrees.room.pack))
+    (at_ok c.room.result _ (sym c.is_err.ensures.value ∙ c.if-is_err.false) c.room.ensures.spare)
+
+pub create-requires-clause-few : goal.create-requires-clause-few
+create-requires-clause-few g c = new_asked c.args.self.now.public (length (g.S.BlockStore.state c.args.store.now).asked) c.args.table.now c.args.columns.now c.args.capacity c.requires.allowed _ (ap length c.room.ensures.rests.asked)
+
+pub create-requires-clause-size : goal.create-requires-clause-size
+create-requires-clause-size g c = new_size c.args.self.now.public (length (g.S.BlockStore.state c.args.store.now).asked) c.args.table.now c.args.columns.now c.args.capacity c.requires.allowed c.new_schema-schema.result c.new_schema-schema.ensures
+
+pub create-requires-clause-room : goal.create-requires-clause-room
+create-requires-clause-room g c = new_idle c.args.self.now.public (length (g.S.BlockStore.state c.args.store.now).asked) c.args.table.now c.args.columns.now c.args.capacity c.requires.allowed c.new_schema-schema.result c.args.self.now.room c.new_schema-schema.ensures c.requires.agrees.room.idle
+
+pub overflow_sub-count : goal.overflow_sub-count
+overflow_sub-count g c = count_rises c.count-before.result c.count.result _ (g.S.BlockStore.state c.args.store.now) (g.S.BlockStore.state c.room.new.self) (g.S.BlockStore.state c.create.new.store) c.count-before.ensures c.room.ensures.rests c.in-Err.ensures.err.began c.count.ensures
+
+pub returns-in-Ok-clause-plain : goal.returns-in-Ok-clause-plain
+returns-in-Ok-clause-plain g c = plain_as _ Whole (ap (λ (e : Engine g.row.R.Denot). e.seen) c.finish.ensures.seen)
+
+pub returns-in-Ok-clause-started : goal.returns-in-Ok-clause-started
+returns-in-Ok-clause-started g c = started_whole _ (ap (λ (e : Engine g.row.R.Denot). e.seen) c.finish.ensures.seen)
+
+pub returns-in-Ok-clause-silent : goal.returns-in-Ok-clause-silent
+returns-in-Ok-clause-silent g c = subst (λ (o : Outcome). Emits o []) (sym c.finish.ensures.answer) refl
+
+pub returns-in-Err-clause-plain : goal.returns-in-Err-clause-plain
+returns-in-Err-clause-plain g c = plain_as _ (Cut (c.count.result - c.count-before.result)) (ap (λ (e : Engine g.row.R.Denot). e.seen) c.cut-in-Err.ensures.seen)
+
+pub returns-in-Err-clause-started : goal.returns-in-Err-clause-started
+returns-in-Err-clause-started g c = started_cut _ (c.count.result - c.count-before.result) (ap (λ (e : Engine g.row.R.Denot). e.seen) c.cut-in-Err.ensures.seen)
+
+pub returns-in-Err-clause-silent : goal.returns-in-Err-clause-silent
+returns-in-Err-clause-silent g c = subst (λ (r : Result Outcome Stop). IsSilent r) (sym c.cut-in-Err.ensures.answer) (silent_fault c.in-Err.error c.in-Err.ensures.never)

@@ -1,11 +1,12 @@
-use Rattle.std.proofs.Common.{◌≡◌, ◌*◌, ◌-◌, ℕ, Bool, IsTrue, List, Ok, sym, ◌∙◌, subst, ap, arith, length, slice_get, slice_set}
+use Rattle.std.proofs.Common.{◌≡◌, ◌≤◌, ◌+◌, ◌*◌, ◌-◌, ℕ, Result, [], Bool, IsTrue, List, Ok, sym, ◌∙◌, subst, ap, arith, length, slice_get, slice_set}
 use Rattle.std.specs.Prelude.{All, None}
 use Rattle.std.proofs.lemmas.Option.{slice_get_within}
 use Rattle.ob_base.specs.declared.schema.Table.{Table}
-use Rattle.ob_base.specs.declared.seen.End.TheVariants.{Whole}
+use Rattle.ob_base.specs.declared.seen.End.TheVariants.{Whole, Cut}
+use Rattle.ob_base.specs.declared.refusal.Stop.{Stop}
 use Rattle.ob_base.specs.Numbers.{blocks_for}
 use Rattle.ob_base.specs.Schemas.{Columns, width}
-use Rattle.ob_vault.specs.Calls.{Went, one, two}
+use Rattle.ob_vault.specs.Calls.{Went, none, one, two}
 use Rattle.ob_vault.specs.Places.{at}
 use Rattle.ob_script.specs.Parts.{insert_part}
 use Rattle.ob_flat.specs.declared.flat.Flat.{Flat}
@@ -24,13 +25,14 @@ use Rattle.ob_mean.proofs.InsertLemmas.{insert_fits}
 use Rattle.ob_exec.specs.declared.engine.Engine.{Engine}
 use Rattle.ob_exec.specs.declared.outcome.Outcome.{Outcome}
 use Rattle.ob_exec.specs.Engines.{IsAt}
-use Rattle.ob_exec.specs.Running.{inserted_as}
+use Rattle.ob_exec.specs.Running.{inserted_as, Emits, IsSilent}
 use Rattle.ob_exec.proofs.FoundLemmas.{heading_found, is_there}
-use Rattle.ob_exec.proofs.ToldLemmas.{told_as, fault_made}
-use Rattle.ob_exec.proofs.RunLemmas.{ran_as, engine_after}
-use Rattle.ob_exec.proofs.InsertLemmas.{inserted, not_inserted, told_inserted, told_not_inserted, is_answered}
+use Rattle.ob_exec.proofs.ToldLemmas.{told_as, told_no_room, fault_made, few_asked, started_seen, silent_pass, plain_as, started_whole, started_cut}
+use Rattle.ob_exec.proofs.RunLemmas.{went_room, count_rises, rests_refl, ran_as, ran_no_room, engine_after}
+use Rattle.ob_exec.proofs.InsertLemmas.{inserted, not_inserted, told_inserted, told_not_inserted, is_answered, silent_inserted, found_flat, found_size, found_room}
 use Rattle.ob_exec.specs.Agreeing.{world_of}
-use Rattle.ob_exec.proofs.SealLemmas.{keeps_pass}
+use Rattle.ob_exec.proofs.SealLemmas.{keeps_pass, keeps_rests}
+use Rattle.ob_exec.proofs.CreateLemmas.{at_ok}
 use Rattle.ob_exec.proofs.engine.Engine.insert.Goals as goal
 
 pub unreachable-requires : goal.unreachable-requires
@@ -202,3 +204,124 @@ returns-clause-seals g c =
     (g.S.BlockStore.state c.insert.new.store) _
     (ap (λ (e : Engine g.row.R.Denot). world_of g.R.Revisions.state e (g.S.BlockStore.state c.insert.new.store)) c.cut-in-Err.ensures.seen)
     (λ good accepts. c.in-Err.ensures.seals good (accepts _ _))
+
+pub returns-in_default-new_row-clause-ran : goal.returns-in_default-new_row-clause-ran
+returns-in_default-new_row-clause-ran g c =
+    let state = g.R.Revisions.state in
+    let old = c.args.self.now in
+    ran_as state (skeleton (Insert c.args.table.now c.args.columns.now c.args.values.now)) old _ _ _ _ _ _ c.cut.ensures.answer c.cut.ensures.seen
+    (ran_no_room state _ old (g.S.BlockStore.state c.args.store.now) (g.S.BlockStore.state c.args.store.now) old.public.tables c.requires.agrees (rests_refl (g.S.BlockStore.state c.args.store.now)))
+
+pub returns-in_default-new_row-clause-seals : goal.returns-in_default-new_row-clause-seals
+returns-in_default-new_row-clause-seals g c =
+    keeps_rests g.R.Revisions.state c.args.self.now (g.S.BlockStore.state c.args.store.now) (g.S.BlockStore.state c.args.store.now) (rests_refl (g.S.BlockStore.state c.args.store.now)) c.cut.new.self
+    (ap (λ (e : Engine g.row.R.Denot). world_of g.R.Revisions.state e (g.S.BlockStore.state c.args.store.now)) c.cut.ensures.seen)
+
+pub returns-in_default-new_row-clause-plain : goal.returns-in_default-new_row-clause-plain
+returns-in_default-new_row-clause-plain g c = plain_as _ (Cut 0) (ap (λ (e : Engine g.row.R.Denot). e.seen) c.cut.ensures.seen)
+
+pub returns-in_default-new_row-clause-started : goal.returns-in_default-new_row-clause-started
+returns-in_default-new_row-clause-started g c = started_cut _ 0 (ap (λ (e : Engine g.row.R.Denot). e.seen) c.cut.ensures.seen)
+
+pub returns-in_default-new_row-clause-silent : goal.returns-in_default-new_row-clause-silent
+returns-in_default-new_row-clause-silent g c = subst (λ (r : Result Outcome Stop). IsSilent r) (sym c.cut.ensures.answer) tt
+
+pub returns-in_default-new_row-clause-told : goal.returns-in_default-new_row-clause-told
+returns-in_default-new_row-clause-told g c tells tables held honest =
+    let state = g.R.Revisions.state in
+    let old = c.args.self.now in
+    let stmt = Insert c.args.table.now c.args.columns.now c.args.values.now in
+    told_as state stmt _ tables old _ _ _ _ _ c.cut.ensures.answer c.cut.ensures.seen
+    (told_no_room state old (g.S.BlockStore.state c.args.store.now) (g.S.BlockStore.state c.args.store.now) stmt tables old.public.tables (rests_refl (g.S.BlockStore.state c.args.store.now)) (started_seen old.public _ stmt c.requires.allowed tables _ held.held))
+
+pub returns-then-is_err-clause-ran : goal.returns-then-is_err-clause-ran
+returns-then-is_err-clause-ran g c =
+    let state = g.R.Revisions.state in
+    let old = c.args.self.now in
+    ran_as state (skeleton (Insert c.args.table.now c.args.columns.now c.args.values.now)) old _ _ _ _ _ _ c.cut-then-is_err.ensures.answer c.cut-then-is_err.ensures.seen
+    (ran_no_room state _ old (g.S.BlockStore.state c.args.store.now) (g.S.BlockStore.state c.room.new.self) old.public.tables c.requires.agrees c.room.ensures.rests)
+
+pub returns-then-is_err-clause-seals : goal.returns-then-is_err-clause-seals
+returns-then-is_err-clause-seals g c =
+    keeps_rests g.R.Revisions.state c.args.self.now (g.S.BlockStore.state c.args.store.now) (g.S.BlockStore.state c.room.new.self) c.room.ensures.rests c.cut-then-is_err.new.self
+    (ap (λ (e : Engine g.row.R.Denot). world_of g.R.Revisions.state e (g.S.BlockStore.state c.room.new.self)) c.cut-then-is_err.ensures.seen)
+
+pub returns-then-is_err-clause-plain : goal.returns-then-is_err-clause-plain
+returns-then-is_err-clause-plain g c = plain_as _ (Cut 0) (ap (λ (e : Engine g.row.R.Denot). e.seen) c.cut-then-is_err.ensures.seen)
+
+pub returns-then-is_err-clause-started : goal.returns-then-is_err-clause-started
+returns-then-is_err-clause-started g c = started_cut _ 0 (ap (λ (e : Engine g.row.R.Denot). e.seen) c.cut-then-is_err.ensures.seen)
+
+pub returns-then-is_err-clause-silent : goal.returns-then-is_err-clause-silent
+returns-then-is_err-clause-silent g c = subst (λ (r : Result Outcome Stop). IsSilent r) (sym c.cut-then-is_err.ensures.answer) tt
+
+pub returns-then-is_err-clause-told : goal.returns-then-is_err-clause-told
+returns-then-is_err-clause-told g c tells tables held honest =
+    let state = g.R.Revisions.state in
+    let old = c.args.self.now in
+    let stmt = Insert c.args.table.now c.args.columns.now c.args.values.now in
+    told_as state stmt _ tables old _ _ _ _ _ c.cut-then-is_err.ensures.answer c.cut-then-is_err.ensures.seen
+    (told_no_room state old (g.S.BlockStore.state c.args.store.now) (g.S.BlockStore.state c.room.new.self) stmt tables old.public.tables c.room.ensures.rests (started_seen old.public _ stmt c.requires.allowed tables _ held.held))
+
+pub div_ceil-blocks-requires : goal.div_ceil-blocks-requires
+div_ceil-blocks-requires g c = omega (arith, c.from.ensures, c.requires.agrees.room.some)
+
+pub overflow_mul-from : goal.overflow_mul-from
+overflow_mul-from g c = omega (arith, c.from-2.ensures, c.div_ceil-blocks.type_inv)
+
+pub overflow_add-from : goal.overflow_add-from
+overflow_add-from g c = omega (arith, c.from-2.ensures, c.div_ceil-blocks.type_inv)
+
+pub insert-requires-clause-ready : goal.insert-requires-clause-ready
+insert-requires-clause-ready g c = (went_room none _ (g.S.BlockStore.state c.args.store.now) (g.S.BlockStore.state c.room.new.self) c.requires.agrees.ready c.room.ensures.rests).lasts.ready
+
+pub insert-requires-clause-spare : goal.insert-requires-clause-spare
+insert-requires-clause-spare g c =
+    let spare = (g.S.BlockStore.state c.room.new.self).spare in
+    subst (λ (n : ℕ). 3 * n + 2 ≤ spare) (c.from-2.ensures ∙ c.div_ceil-blocks.ensures ∙ ap (λ (k : ℕ). blocks_for k c.flat_at-flat.result.capacity) (c.from.ensures ∙ sym c.requires.agrees.room.pack))
+    (at_ok c.room.result _ (sym c.is_err.ensures.value ∙ c.if-is_err.false) c.room.ensures.spare)
+
+pub insert-requires-clause-few : goal.insert-requires-clause-few
+insert-requires-clause-few g c = few_asked c.args.self.now.public _ (Insert c.args.table.now c.args.columns.now c.args.values.now) c.requires.allowed _ (ap length c.room.ensures.rests.asked)
+
+pub insert-requires-clause-flat : goal.insert-requires-clause-flat
+insert-requires-clause-flat g c =
+    let found = c.in-Some.ensures.found in
+    let get = ap (λ (ts : List Table). slice_get ts c.in-Some.i) (sym c.as_slice.ensures) ∙ found.1.get in
+    found_flat g.R.Revisions.state c.args.self.now (g.S.BlockStore.state c.args.store.now) (g.S.BlockStore.state c.room.new.self) c.in-Some.i found.0 c.requires.agrees c.room.ensures.rests get c.flat_at-flat.result
+    (c.flat_at-flat.ensures found.0 (ap (λ (ts : List Table). slice_get ts c.in-Some.i) c.as_slice-2.ensures ∙ get))
+
+pub insert-requires-clause-size : goal.insert-requires-clause-size
+insert-requires-clause-size g c =
+    let found = c.in-Some.ensures.found in
+    let get = ap (λ (ts : List Table). slice_get ts c.in-Some.i) (sym c.as_slice.ensures) ∙ found.1.get in
+    found_size g.R.Revisions.state c.args.self.now (g.S.BlockStore.state c.args.store.now) (g.S.BlockStore.state c.room.new.self) c.in-Some.i found.0 c.requires.agrees c.room.ensures.rests get c.flat_at-flat.result
+    (c.flat_at-flat.ensures found.0 (ap (λ (ts : List Table). slice_get ts c.in-Some.i) c.as_slice-2.ensures ∙ get))
+
+pub insert-requires-clause-room : goal.insert-requires-clause-room
+insert-requires-clause-room g c =
+    let found = c.in-Some.ensures.found in
+    let get = ap (λ (ts : List Table). slice_get ts c.in-Some.i) (sym c.as_slice.ensures) ∙ found.1.get in
+    found_room g.R.Revisions.state c.args.self.now (g.S.BlockStore.state c.args.store.now) (g.S.BlockStore.state c.room.new.self) c.in-Some.i found.0 c.requires.agrees c.room.ensures.rests get c.flat_at-flat.result
+    (c.flat_at-flat.ensures found.0 (ap (λ (ts : List Table). slice_get ts c.in-Some.i) c.as_slice-2.ensures ∙ get))
+
+pub returns-in-Ok-insert-clause-plain : goal.returns-in-Ok-insert-clause-plain
+returns-in-Ok-insert-clause-plain g c = plain_as _ Whole (ap (λ (e : Engine g.row.R.Denot). e.seen) c.finish.ensures.seen)
+
+pub returns-in-Ok-insert-clause-started : goal.returns-in-Ok-insert-clause-started
+returns-in-Ok-insert-clause-started g c = started_whole _ (ap (λ (e : Engine g.row.R.Denot). e.seen) c.finish.ensures.seen)
+
+pub returns-in-Ok-insert-clause-silent : goal.returns-in-Ok-insert-clause-silent
+returns-in-Ok-insert-clause-silent g c = subst (λ (o : Outcome). Emits o []) (sym (c.finish.ensures.answer ∙ c.outcome_of.ensures)) (silent_inserted c.in-Ok-insert.inserted)
+
+pub overflow_sub-count : goal.overflow_sub-count
+overflow_sub-count g c = count_rises c.count-before.result c.count.result _ (g.S.BlockStore.state c.args.store.now) (g.S.BlockStore.state c.room.new.self) (g.S.BlockStore.state c.insert.new.store) c.count-before.ensures c.room.ensures.rests c.in-Err.ensures.err.began c.count.ensures
+
+pub returns-clause-plain : goal.returns-clause-plain
+returns-clause-plain g c = plain_as _ (Cut (c.count.result - c.count-before.result)) (ap (λ (e : Engine g.row.R.Denot). e.seen) c.cut-in-Err.ensures.seen)
+
+pub returns-clause-started : goal.returns-clause-started
+returns-clause-started g c = started_cut _ (c.count.result - c.count-before.result) (ap (λ (e : Engine g.row.R.Denot). e.seen) c.cut-in-Err.ensures.seen)
+
+pub returns-clause-silent : goal.returns-clause-silent
+returns-clause-silent g c = subst (λ (r : Result Outcome Stop). IsSilent r) (sym c.cut-in-Err.ensures.answer) (silent_pass c.in-Err.error _ _ c.in-Err.ensures.never)

@@ -1,24 +1,26 @@
 use Rattle.std.proofs.Common.{◌≡◌, ◌⊎◌, inl, ℕ, Option, List, [], length, Ok, append-nil, sym, ◌∙◌, ap, subst, refl}
 use Rattle.std.specs.Prelude.{None, OnErr, IfOk, IsTrue}
 use Rattle.ob_base.specs.Events.{Event}
+use Rattle.ob_sql.specs.declared.stmt.Literal.{Literal}
 use Rattle.ob_sql.specs.declared.stmt.Stmt.{Stmt}
-use Rattle.ob_sql.specs.declared.stmt.Stmt.TheVariants.{Select as SelectStmt}
+use Rattle.ob_sql.specs.declared.stmt.Stmt.TheVariants.{Create, Insert, Select as SelectStmt}
 use Rattle.ob_mean.specs.Verdict.{Tables}
 use Rattle.ob_exec.specs.declared.outcome.Outcome.{Outcome}
 use Rattle.ob_exec.specs.Running.{Emits, Ran, RefusedEarly, refusal_now}
-use Rattle.ob_exec.specs.Serving.{IsServed, count_of}
+use Rattle.ob_exec.specs.Serving.{IsServed, IsOneTable, count_of}
 use Rattle.ob_exec.specs.Agreeing.{world_of}
-use Rattle.ob_exec.specs.Telling.{Represents, Emitted}
+use Rattle.ob_exec.specs.Telling.{Represents, Emitted, Told}
 use Rattle.ob_vault.specs.Tied.{Calm, IsUnfit}
 use Rattle.ob_exec.proofs.EmitLemmas.{create_emitted, insert_emitted}
 use Rattle.ob_exec.proofs.RunLemmas.{ran_refused, early_end}
-use Rattle.ob_exec.proofs.ToldLemmas.{early_is, refused_none, silent_ok, on_err_of, told_as, told_refused, emitted_refused}
+use Rattle.ob_exec.proofs.ToldLemmas.{early_is, now_is, refused_none, refused_some, silent_ok, silent_sink, on_err_of, told_as, told_refused, emitted_refused}
 use Rattle.ob_base.specs.declared.refusal.Refusal.{Refusal}
 use Rattle.ob_base.specs.declared.seen.End.TheVariants.{Static}
 use Rattle.ob_base.specs.declared.seen.Seen.{Seen}
 use Rattle.ob_base.specs.declared.skeleton.NewColumn.{NewColumn}
 use Rattle.ob_base.specs.declared.skeleton.Skeleton.{Skeleton}
 use Rattle.ob_base.specs.declared.skeleton.Skeleton.TheVariants.{Create as CreateSkeleton}
+use Rattle.ob_base.specs.declared.skeleton.Source.{Source}
 use Rattle.ob_base.specs.declared.skeleton.Source.TheVariants.{Table as OneTable}
 use Rattle.ob_mean.specs.Lawful.{Lawful}
 use Rattle.ob_mean.specs.Verdict.{ended}
@@ -27,6 +29,7 @@ use Rattle.ob_sql.specs.Skeleton.{skeleton}
 use Rattle.ob_exec.specs.declared.outcome.Outcome.TheVariants.{Refused}
 use Rattle.ob_exec.specs.declared.engine.Engine.{Engine}
 use Rattle.ob_exec.proofs.LawfulLemmas.{lawful_now}
+use Rattle.ob_exec.proofs.SealLemmas.{keeps_none}
 use Rattle.ob_exec.proofs.engine.Engine.run.Goals as goal
 
 -- a SELECT that is served is a count
@@ -181,3 +184,117 @@ returns-in-Some-clause-lawful g c =
     (lawful_now p (length s.asked) stmt (Ok (Refused c.in-Some.refusal)) (ended Static) s.asked s.asked c.requires.served refl
     (subst (λ (o : Option Refusal). RefusedEarly o (Ok (Refused c.in-Some.refusal)) (ended Static)) (sym now) (refl, refl)) (sym (append-nil s.asked))
     (early_end c.in-Some.refusal Static _ (early_is p _ stmt c.in-Some.refusal now) (inl refl)))
+
+pub early_refusal-requires-clause-pack : goal.early_refusal-requires-clause-pack
+early_refusal-requires-clause-pack g c = c.requires.agrees.room.some
+
+pub returns-in-Some-clause-seals : goal.returns-in-Some-clause-seals
+returns-in-Some-clause-seals g c =
+    let s = g.S.BlockStore.state c.args.store.now in
+    keeps_none g.R.Revisions.state c.args.self.now s c.refuse.new.self (ap (λ (e : Engine g.row.R.Denot). world_of g.R.Revisions.state e s) c.refuse.ensures.seen)
+
+pub returns-in-Some-clause-early : goal.returns-in-Some-clause-early
+returns-in-Some-clause-early g c =
+    refused_some _ c.in-Some.refusal _ _ (now_is c.args.self.now.public _ c.count.result c.args.stmt.now c.early_refusal.result _ c.count.ensures c.early_refusal.ensures c.in-Some.is)
+    (ap (λ (o : Outcome). Ok o) c.refuse.ensures.answer) (ap (λ (e : Engine g.row.R.Denot). e.seen) c.refuse.ensures.seen)
+
+pub returns-in-Some-clause-stopped : goal.returns-in-Some-clause-stopped
+returns-in-Some-clause-stopped g c = tt
+
+pub returns-in-Some-clause-sink : goal.returns-in-Some-clause-sink
+returns-in-Some-clause-sink g c = refl
+
+pub create-requires-clause-agrees : goal.create-requires-clause-agrees
+create-requires-clause-agrees g c = c.requires.agrees
+
+pub create-requires-clause-lives : goal.create-requires-clause-lives
+create-requires-clause-lives g c = c.requires.lives
+
+pub create-requires-clause-allowed : goal.create-requires-clause-allowed
+create-requires-clause-allowed g c =
+    let p = c.args.self.now.public in
+    subst (λ (stmt : Stmt). refusal_now p (length (g.S.BlockStore.state c.args.store.now).asked) stmt ≡ None)
+    (c.in-Create.is ∙ ap (λ (cs : List NewColumn). Create c.in-Create.table cs c.in-Create.capacity) (sym c.as_slice.ensures))
+    (now_is p _ c.count.result c.args.stmt.now c.early_refusal.result _ c.count.ensures c.early_refusal.ensures c.in_default.is)
+
+pub insert-requires-clause-agrees : goal.insert-requires-clause-agrees
+insert-requires-clause-agrees g c = c.requires.agrees
+
+pub insert-requires-clause-lives : goal.insert-requires-clause-lives
+insert-requires-clause-lives g c = c.requires.lives
+
+pub insert-requires-clause-allowed : goal.insert-requires-clause-allowed
+insert-requires-clause-allowed g c =
+    let p = c.args.self.now.public in
+    subst (λ (stmt : Stmt). refusal_now p (length (g.S.BlockStore.state c.args.store.now).asked) stmt ≡ None)
+    (c.in-Insert.is ∙ ap (λ (vs : List Literal). Insert c.in-Insert.table c.in-Insert.columns vs) (sym c.as_slice-in-Insert.ensures))
+    (now_is p _ c.count.result c.args.stmt.now c.early_refusal.result _ c.count.ensures c.early_refusal.ensures c.in_default.is)
+
+pub count_all-requires-clause-agrees : goal.count_all-requires-clause-agrees
+count_all-requires-clause-agrees g c = c.requires.agrees
+
+pub count_all-requires-clause-lives : goal.count_all-requires-clause-lives
+count_all-requires-clause-lives g c = c.requires.lives
+
+pub count_all-requires-clause-allowed : goal.count_all-requires-clause-allowed
+count_all-requires-clause-allowed g c =
+    let p = c.args.self.now.public in
+    subst (λ (stmt : Stmt). refusal_now p (length (g.S.BlockStore.state c.args.store.now).asked) stmt ≡ None)
+    (count_stmt c.args.stmt.now c.in-Select.select c.in-Table.table c.in-Select.is c.in-Table.is c.requires.served)
+    (now_is p _ c.count.result c.args.stmt.now c.early_refusal.result _ c.count.ensures c.early_refusal.ensures c.in_default.is)
+
+pub unreachable-requires : goal.unreachable-requires
+unreachable-requires g c =
+    let count = subst (λ (x : Stmt). IsServed x) c.in-Select.is c.requires.served in
+    subst (λ (x : Source). IsOneTable x) c.in-Join.is count.source
+
+pub returns-in-Create-clause-ran : goal.returns-in-Create-clause-ran
+returns-in-Create-clause-ran g c =
+    subst (λ (x : Skeleton). Ran g.R.Revisions.state x c.create.result c.args.self.now (g.S.BlockStore.state c.args.store.now) c.create.new.self (g.S.BlockStore.state c.create.new.store))
+    (ap (λ (cs : List NewColumn). CreateSkeleton c.in-Create.table cs c.in-Create.capacity) c.as_slice.ensures ∙ sym (ap skeleton c.in-Create.is)) c.create.ensures.ran
+
+pub returns-in-Create-clause-seals : goal.returns-in-Create-clause-seals
+returns-in-Create-clause-seals g c = c.create.ensures.seals
+
+pub returns-in-Create-clause-sink : goal.returns-in-Create-clause-sink
+returns-in-Create-clause-sink g c = silent_sink c.create.result _ c.create.ensures.silent
+
+pub returns-in-Create-clause-told : goal.returns-in-Create-clause-told
+returns-in-Create-clause-told g c tells tables held honest =
+    let s = g.S.BlockStore.state c.args.store.now in
+    subst (λ (stmt : Stmt). Told g.R.Revisions.state stmt (length s.asked) tables c.create.result c.args.self.now c.create.new.self (g.S.BlockStore.state c.create.new.store))
+    (ap (λ (cs : List NewColumn). Create c.in-Create.table cs c.in-Create.capacity) c.as_slice.ensures ∙ sym c.in-Create.is) (c.create.ensures.told tells tables held honest)
+
+pub returns-in-Insert-clause-ran : goal.returns-in-Insert-clause-ran
+returns-in-Insert-clause-ran g c =
+    subst (λ (x : Skeleton). Ran g.R.Revisions.state x c.insert.result c.args.self.now (g.S.BlockStore.state c.args.store.now) c.insert.new.self (g.S.BlockStore.state c.insert.new.store))
+    (sym (ap skeleton c.in-Insert.is)) c.insert.ensures.ran
+
+pub returns-in-Insert-clause-seals : goal.returns-in-Insert-clause-seals
+returns-in-Insert-clause-seals g c = c.insert.ensures.seals
+
+pub returns-in-Insert-clause-sink : goal.returns-in-Insert-clause-sink
+returns-in-Insert-clause-sink g c = silent_sink c.insert.result _ c.insert.ensures.silent
+
+pub returns-in-Insert-clause-told : goal.returns-in-Insert-clause-told
+returns-in-Insert-clause-told g c tells tables held honest =
+    let s = g.S.BlockStore.state c.args.store.now in
+    subst (λ (stmt : Stmt). Told g.R.Revisions.state stmt (length s.asked) tables c.insert.result c.args.self.now c.insert.new.self (g.S.BlockStore.state c.insert.new.store))
+    (ap (λ (vs : List Literal). Insert c.in-Insert.table c.in-Insert.columns vs) c.as_slice-in-Insert.ensures ∙ sym c.in-Insert.is) (c.insert.ensures.told tells tables held honest)
+
+pub returns-in-Table-clause-ran : goal.returns-in-Table-clause-ran
+returns-in-Table-clause-ran g c =
+    subst (λ (x : Skeleton). Ran g.R.Revisions.state x c.count_all.result c.args.self.now (g.S.BlockStore.state c.args.store.now) c.count_all.new.self (g.S.BlockStore.state c.count_all.new.store))
+    (sym (ap skeleton (count_stmt c.args.stmt.now c.in-Select.select c.in-Table.table c.in-Select.is c.in-Table.is c.requires.served))) c.count_all.ensures.ran
+
+pub returns-in-Table-clause-seals : goal.returns-in-Table-clause-seals
+returns-in-Table-clause-seals g c = c.count_all.ensures.seals
+
+pub returns-in-Table-clause-sink : goal.returns-in-Table-clause-sink
+returns-in-Table-clause-sink g c = c.count_all.ensures.sink
+
+pub returns-in-Table-clause-told : goal.returns-in-Table-clause-told
+returns-in-Table-clause-told g c tells tables held honest =
+    let s = g.S.BlockStore.state c.args.store.now in
+    subst (λ (stmt : Stmt). Told g.R.Revisions.state stmt (length s.asked) tables c.count_all.result c.args.self.now c.count_all.new.self (g.S.BlockStore.state c.count_all.new.store))
+    (sym (count_stmt c.args.stmt.now c.in-Select.select c.in-Table.table c.in-Select.is c.in-Table.is c.requires.served)) (c.count_all.ensures.told tells tables held honest)
