@@ -2,3 +2,4 @@ pub mod SourceLemmas
 pub mod PlaceLemmas
 pub mod SelectLemmas
 pub mod StepLemmas
+pub mod TableLemmas
