@@ -78,7 +78,8 @@ impl Name {
 
     /// Its bytes.
     pub fn as_bytes(&self) -> &[u8]
-        ensures { result.now ≡ self.now }
+        ensures value { result.now ≡ self.now }
+        ensures few { length self.now ≤ 32 }
     {
         self.bytes.as_slice()
     }

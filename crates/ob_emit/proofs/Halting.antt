@@ -61,3 +61,9 @@ emitted_under grew head shown k n a b c first second same = record {
   leads = λ s events is. subst (grew s c) (append_assoc events head (row_events second.rows)) (second.leads s (events ++ head) (first s events is));
   told = second.told;
 }
+
+-- the store did not fail
+pub halt_not_failed : (halt : Halt) (q p : ℕ) → halt_error halt q p ≡ Failed → ⊥
+halt_not_failed Halts.Malformed q p is = absurd (cc is)
+halt_not_failed (Halts.Emit EmitErrs.Failed) q p is = absurd (cc is)
+halt_not_failed (Halts.Emit EmitErrs.NoMemory) q p is = absurd (cc is)

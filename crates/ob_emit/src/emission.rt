@@ -1,4 +1,4 @@
-ghost use Rattle.std.specs.Prelude.{◌≡◌, ◌≤◌, ◌<◌, ◌*◌, ◌++◌, ◌⊎◌, max, ℕ, Bool, List, None, IfOk, IfErr, OnOk, OnErr, length};
+ghost use Rattle.std.specs.Prelude.{◌≡◌, ◌≤◌, ◌<◌, ◌*◌, ◌++◌, ◌⊎◌, max, ℕ, Bool, List, None, Err, IfOk, IfErr, OnOk, OnErr, length};
 ghost use Rattle.std.specs.List.{All};
 ghost use Rattle.ob_base.specs.Numbers.{blocks_for};
 ghost use Rattle.ob_base.specs.Schemas.{width};
@@ -13,7 +13,6 @@ ghost use Rattle.ob_flat.specs.Flats.{FitsRegion, IsWritten, Represents};
 ghost use Rattle.ob_flat.specs.Passes.{PassCut, SinkCause};
 ghost use Rattle.ob_emit.specs.Emitting.{header, table_shown};
 ghost use Rattle.ob_base.specs.Events.{row_events, IsEmitted, IsHalted};
-ghost use Rattle.ob_base.specs.Labels.{IsNamed};
 
 use crate::emitting::emit_blocks;
 use crate::head::emit_head;
@@ -40,7 +39,6 @@ fn emit_table<S: BlockStore, R: Revisions, E: Emit>(
     requires fit { RowsFit rows.old (length rows.old * width flat.now.schema) }
     requires few { length cols.now ≤ 32 }
     requires within { All (λ i. i < length flat.now.schema) cols.now }
-    requires names { All IsNamed flat.now.schema }
     ensures rows { SameSizes rows.old rows.new }
     ensures ok { OnOk result (Went (count_part flat.now.region (blocks_for (length rows.old) flat.now.capacity)) none (at R.state vault.old (S.state store.old)) (at R.state vault.new (S.state store.new))) }
     ensures err { IfErr result (λ e. PassCut e (count_part flat.now.region (blocks_for (length rows.old) flat.now.capacity)) none (at R.state vault.old (S.state store.old)) (at R.state vault.new (S.state store.new))) }
@@ -49,6 +47,7 @@ fn emit_table<S: BlockStore, R: Revisions, E: Emit>(
     ensures most { IfOk result (λ k. k ≤ flat.now.capacity) }
     ensures emitted { IfOk result (λ k. IsEmitted E.grew (header flat.now.schema cols.now) (λ (s : (slots : Slots) × Represents (length rows.old) flat.now slots (at R.state vault.old (S.state store.old)) × ((S.state store.new).lie ≡ None)). table_shown cols.now s.0) 0 k out.old out.new) }
     ensures halted { OnErr result (IsHalted E.grew E.cut (λ (s : (slots : Slots) × Represents (length rows.old) flat.now slots (at R.state vault.old (S.state store.old)) × ((S.state store.old).lie ≡ None) × IsUnfit (at R.state vault.new (S.state store.new))). header flat.now.schema cols.now ++ row_events (table_shown cols.now s.0)) out.old out.new) }
+    ensures failed { result ≡ Err OpErr.Failed → IsHalted E.grew E.grew (λ (s : (slots : Slots) × Represents (length rows.old) flat.now slots (at R.state vault.old (S.state store.old)) × ((S.state store.old).lie ≡ None) × IsUnfit (at R.state vault.new (S.state store.new))). header flat.now.schema cols.now ++ row_events (table_shown cols.now s.0)) out.old out.new }
     ensures cause { SinkCause result (E.faults out.old) (E.faults out.new) }
     ensures told { (slots : Slots) → Represents (length rows.old) flat.now slots (at R.state vault.old (S.state store.old)) → (S.state store.new).lie ≡ None
         → IfErr result (λ e. (e ≡ OpErr.Failed) ⊎ (e ≡ OpErr.Sink) ⊎ (e ≡ OpErr.NoMemory)) }
@@ -85,7 +84,6 @@ pub fn emit_all<S: BlockStore, R: Revisions, E: Emit>(
     requires room { IsIdle (width flat.now.schema) room.old }
     requires few { length cols.now ≤ 32 }
     requires within { All (λ i. i < length flat.now.schema) cols.now }
-    requires names { All IsNamed flat.now.schema }
     ensures ok { OnOk result (Went (count_part flat.now.region (blocks_for room.old.pack flat.now.capacity)) none (at R.state vault.old (S.state store.old)) (at R.state vault.new (S.state store.new))) }
     ensures err { IfErr result (λ e. PassCut e (count_part flat.now.region (blocks_for room.old.pack flat.now.capacity)) none (at R.state vault.old (S.state store.old)) (at R.state vault.new (S.state store.new))) }
     ensures never { IfErr result (λ e. (e ≡ OpErr.Failed) ⊎ (e ≡ OpErr.Sink) ⊎ (e ≡ OpErr.NoMemory) ⊎ ((place : ℕ) × (place < blocks_for room.old.pack flat.now.capacity) × (e ≡ OpErr.Tampered flat.now.region place))) }
@@ -95,6 +93,7 @@ pub fn emit_all<S: BlockStore, R: Revisions, E: Emit>(
     ensures most { IfOk result (λ k. k ≤ flat.now.capacity) }
     ensures emitted { IfOk result (λ k. IsEmitted E.grew (header flat.now.schema cols.now) (λ (s : (slots : Slots) × Represents room.old.pack flat.now slots (at R.state vault.old (S.state store.old)) × ((S.state store.new).lie ≡ None)). table_shown cols.now s.0) 0 k out.old out.new) }
     ensures halted { OnErr result (IsHalted E.grew E.cut (λ (s : (slots : Slots) × Represents room.old.pack flat.now slots (at R.state vault.old (S.state store.old)) × ((S.state store.old).lie ≡ None) × IsUnfit (at R.state vault.new (S.state store.new))). header flat.now.schema cols.now ++ row_events (table_shown cols.now s.0)) out.old out.new) }
+    ensures failed { result ≡ Err OpErr.Failed → IsHalted E.grew E.grew (λ (s : (slots : Slots) × Represents room.old.pack flat.now slots (at R.state vault.old (S.state store.old)) × ((S.state store.old).lie ≡ None) × IsUnfit (at R.state vault.new (S.state store.new))). header flat.now.schema cols.now ++ row_events (table_shown cols.now s.0)) out.old out.new }
     ensures cause { SinkCause result (E.faults out.old) (E.faults out.new) }
     ensures told { (slots : Slots) → Represents room.old.pack flat.now slots (at R.state vault.old (S.state store.old)) → (S.state store.new).lie ≡ None
         → IfErr result (λ e. (e ≡ OpErr.Failed) ⊎ (e ≡ OpErr.Sink) ⊎ (e ≡ OpErr.NoMemory)) }

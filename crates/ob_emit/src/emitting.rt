@@ -1,4 +1,4 @@
-ghost use Rattle.std.specs.Prelude.{◌≡◌, ◌≤◌, ◌<◌, ◌+◌, ◌*◌, ◌⊎◌, ℕ, Bool, List, [], None, IfOk, IfErr, OnOk, OnErr, length};
+ghost use Rattle.std.specs.Prelude.{◌≡◌, ◌≤◌, ◌<◌, ◌+◌, ◌*◌, ◌⊎◌, ℕ, Bool, List, [], None, Err, IfOk, IfErr, OnOk, OnErr, length};
 ghost use Rattle.std.specs.List.{All};
 ghost use Rattle.ob_base.specs.Numbers.{blocks_for};
 ghost use Rattle.ob_base.specs.Schemas.{width};
@@ -47,6 +47,7 @@ pub(crate) fn emit_blocks<S: BlockStore, R: Revisions, E: Emit>(
     ensures most { IfOk result (λ k. k ≤ flat.now.capacity) }
     ensures emitted { IfOk result (λ k. IsEmitted E.grew [] (λ (s : (slots : Slots) × Represents (length rows.old) flat.now slots (at R.state vault.old (S.state store.old)) × ((S.state store.new).lie ≡ None)). table_shown cols.now s.0) 0 k out.old out.new) }
     ensures halted { OnErr result (IsHalted E.grew E.cut (λ (s : (slots : Slots) × Represents (length rows.old) flat.now slots (at R.state vault.old (S.state store.old)) × ((S.state store.old).lie ≡ None) × IsUnfit (at R.state vault.new (S.state store.new))). row_events (table_shown cols.now s.0)) out.old out.new) }
+    ensures failed { result ≡ Err OpErr.Failed → IsHalted E.grew E.grew (λ (s : (slots : Slots) × Represents (length rows.old) flat.now slots (at R.state vault.old (S.state store.old)) × ((S.state store.old).lie ≡ None) × IsUnfit (at R.state vault.new (S.state store.new))). row_events (table_shown cols.now s.0)) out.old out.new }
     ensures cause { SinkCause result (E.faults out.old) (E.faults out.new) }
     ensures told { (slots : Slots) → Represents (length rows.old) flat.now slots (at R.state vault.old (S.state store.old)) → (S.state store.new).lie ≡ None
         → IfErr result (λ e. (e ≡ OpErr.Failed) ⊎ (e ≡ OpErr.Sink) ⊎ (e ≡ OpErr.NoMemory)) }

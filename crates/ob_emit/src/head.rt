@@ -2,7 +2,7 @@ ghost use Rattle.std.specs.Prelude.{◌≡◌, ◌≤◌, ◌<◌, ◌+◌, ◌+
 ghost use Rattle.std.specs.List.{All, list_any};
 ghost use Rattle.ob_base.specs.declared.schema.Column.{Column as TableColumn};
 ghost use Rattle.ob_base.specs.Events.{EmitCause, Leads};
-ghost use Rattle.ob_base.specs.Labels.{column_label, IsNamed};
+ghost use Rattle.ob_base.specs.Labels.{column_label};
 ghost use Rattle.ob_emit.specs.Emitting;
 
 use arrayvec::ArrayVec;
@@ -38,7 +38,6 @@ fn push_bytes(text: &mut ArrayVec<u8, 65>, bytes: &[u8])
 
 // The label of a column: its name, in a join behind its table's and a point.
 fn label_of(joined: bool, column: &Column) -> Label
-    requires { IsNamed column.now }
     ensures { result ≡ column_label joined column.now }
 {
     if joined {
@@ -57,7 +56,6 @@ fn label_of(joined: bool, column: &Column) -> Label
 fn labels_of(schema: &Schema, cols: &[u8]) -> [Label; 32]
     requires few { length cols.now ≤ 32 }
     requires within { All (λ i. i < length schema.now) cols.now }
-    requires names { All IsNamed schema.now }
     ensures size { length result ≡ 32 }
     ensures value { take (length cols.now) result ≡ Emitting.labels_of schema.now cols.now }
 {
@@ -76,7 +74,6 @@ fn labels_of(schema: &Schema, cols: &[u8]) -> [Label; 32]
 pub fn emit_head<E: Emit>(schema: &Schema, cols: &[u8], out: &mut E) -> Result<(), EmitErr>
     requires few { length cols.now ≤ 32 }
     requires within { All (λ i. i < length schema.now) cols.now }
-    requires names { All IsNamed schema.now }
     ensures ok { OnOk result (Leads E.grew E.grew out.old out.new (Emitting.header schema.now cols.now)) }
     ensures err { OnErr result (Leads E.grew E.cut out.old out.new (Emitting.header schema.now cols.now)) }
     ensures cause { EmitCause result (E.faults out.old) (E.faults out.new) }

@@ -1,11 +1,11 @@
-ghost use Rattle.std.specs.Prelude.{◌≡◌, ◌≤◌, ◌<◌, ◌+◌, ◌++◌, [], IsTrue, Option, IfOk, IfErr, OnErr, length, if◌then◌else◌};
+ghost use Rattle.std.specs.Prelude.{◌≡◌, ◌≤◌, ◌<◌, ◌+◌, ◌++◌, [], IsTrue, Option, IfOk, IfErr, OnOk, OnErr, length, if◌then◌else◌};
 ghost use Rattle.std.specs.List.{All};
 ghost use Rattle.ob_base.specs.Schemas.{width};
 ghost use Rattle.ob_vault.specs.Rows.{Wide};
 ghost use Rattle.ob_row.specs.Rows.{Row};
 ghost use Rattle.ob_row.specs.Slots.{Slots};
 ghost use Rattle.ob_row.specs.Spelling.{Begins};
-ghost use Rattle.ob_flat.specs.Slots.{Spelt};
+ghost use Rattle.ob_flat.specs.Slots.{Spelt, AreSlots};
 ghost use Rattle.ob_emit.specs.Emitting.{slot_shown, slots_shown, HaltCause, halt_error};
 ghost use Rattle.ob_base.specs.Events.{row_events, IsEmitted, IsHalted};
 
@@ -52,6 +52,7 @@ fn emit_slot<E: Emit>(
     ensures below { IfOk result (λ some. IsTrue some → i < flat.now.capacity) }
     ensures ok { IfOk result (λ some. IsEmitted E.grew [] (λ (s : (slot : Option Row) × Begins flat.now.schema slot row.now). slot_shown flat.now.capacity cols.now i s.0) 0 (if some then 1 else 0) out.old out.new) }
     ensures err { OnErr result (IsHalted E.grew E.cut (λ (s : (slot : Option Row) × Begins flat.now.schema slot row.now). row_events (slot_shown flat.now.capacity cols.now i s.0)) out.old out.new) }
+    ensures read { OnOk result ((slot : Option Row) × Begins flat.now.schema slot row.now) }
     ensures malformed { IfErr result (λ halt. halt ≡ Halt.Malformed → (slot : Option Row) → Begins flat.now.schema slot row.now → ⊥) }
     ensures cause { HaltCause result (E.faults out.old) (E.faults out.new) }
 {
@@ -91,6 +92,7 @@ pub(crate) fn emit_rows<E: Emit>(
     ensures most { IfOk result (λ k. (k ≤ first + length rows.now) × (k ≤ flat.now.capacity)) }
     ensures ok { IfOk result (λ k. IsEmitted E.grew [] (λ (s : (slots : Slots) × Spelt flat.now.schema slots rows.now). slots_shown flat.now.capacity cols.now first s.0) seen k out.old out.new) }
     ensures err { OnErr result (IsHalted E.grew E.cut (λ (s : (slots : Slots) × Spelt flat.now.schema slots rows.now). row_events (slots_shown flat.now.capacity cols.now first s.0)) out.old out.new) }
+    ensures read { OnOk result (AreSlots flat.now.schema rows.now) }
     ensures malformed { IfErr result (λ halt. halt ≡ Halt.Malformed → (slots : Slots) → Spelt flat.now.schema slots rows.now → ⊥) }
     ensures cause { HaltCause result (E.faults out.old) (E.faults out.new) }
 {

@@ -8,3 +8,4 @@ pub mod Sinks
 pub mod Loops
 pub mod Opened
 pub mod Halves
+pub mod WordLemmas

@@ -1,6 +1,7 @@
 -- How parts of a pass join where one of them gave up.
 use Rattle.std.proofs.Common.{◌≡◌, inl, inr, ℕ, ◌<◌, List, [], ◌++◌, Result, Ok, Err, sym, ◌∙◌, ap, subst}
 use Rattle.ob_base.specs.declared.access.Access.{Access}
+use Rattle.ob_base.specs.Accesses.{read_at}
 use Rattle.ob_base.specs.Counts.{Rises}
 use Rattle.ob_base.specs.Lists.{each}
 use Rattle.ob_store.specs.State.{StoreState}
@@ -28,7 +29,7 @@ pass_of e x some a b cut = record { lasts = cut.lasts; began = cut.began; cause 
 module _ (some : ℕ → Type 0) (a b c : World) where
   cause_after : (e : OpErr) (x : List Access) → Went x some a b → PassCause e b c → PassCause e a c
   cause_after Failed x first (rises, calm) = (subst (λ (n : ℕ). Rises n c.store.faults) first.did.faults rises, λ was. calm (first.calm was))
-  cause_after (Tampered q p) x first (same, calm) = (same ∙ first.did.faults, λ was. calm (first.calm was))
+  cause_after (Tampered q p) x first (same, last, calm) = (same ∙ first.did.faults, last, λ was. calm (first.calm was))
   cause_after Sink x first (same, calm) = (same ∙ first.did.faults, λ was. calm (first.calm was))
   cause_after NoMemory x first (same, calm) = (same ∙ first.did.faults, λ was. calm (first.calm was))
 
@@ -49,11 +50,11 @@ module _ (some : ℕ → Type 0) (a b : World) where
   pass_wider more within e x cut = record { lasts = lasts_wider some a b more within cut.lasts; began = cut.began; cause = cut.cause }
 
   -- a block that was read held a malformed row
-  pub pass_malformed : (q p : ℕ) (x : List Access) → Went x some a b → PassCut (Tampered q p) x some a b
-  pass_malformed q p x went = record {
+  pub pass_malformed : (q p : ℕ) → Went (read_at q p) some a b → PassCut (Tampered q p) (read_at q p) some a b
+  pass_malformed q p went = record {
     lasts = went.lasts;
-    began = record { done = x; rest = []; split = Rattle.std.proofs.lemmas.List.append-nil x; asked = went.did.asked };
-    cause = (went.did.faults, λ was. inl (went.calm was));
+    began = record { done = read_at q p; rest = []; split = Rattle.std.proofs.lemmas.List.append-nil (read_at q p); asked = went.did.asked };
+    cause = (went.did.faults, record { before = a.store.asked; asked = went.did.asked }, λ was. inl (went.calm was));
   }
 
 -- in one of its rounds
@@ -81,7 +82,7 @@ pass_then some e x a b c cut went same = record {
     go Failed (rises, calm) = (subst (λ (n : ℕ). Rises a.store.faults n) (sym faults) rises, λ was. went.calm (calm was))
     go NoMemory (kept, calm) = (faults ∙ kept, λ was. went.calm (calm was))
     go Sink (kept, calm) = (faults ∙ kept, λ was. went.calm (calm was))
-    go (Tampered q p) (kept, calm) = (faults ∙ kept, λ was. elim (calm was) [ inl still ↦ inl (went.calm still) | inr is ↦ inr (ends q p is) ])
+    go (Tampered q p) (kept, last, calm) = (faults ∙ kept, record { before = last.before; asked = ap (λ (s : StoreState). s.asked) same ∙ last.asked }, λ was. elim (calm was) [ inl still ↦ inl (went.calm still) | inr is ↦ inr (ends q p is) ])
 
 -- what went well is no error
 pub ok_no_error : {A E P : Type 0} {a : A} {e : E} → Ok a ≡ Err e → P

@@ -2,3 +2,4 @@ pub mod Slots
 pub mod Flats
 pub mod Passes
 pub mod Counts
+pub mod Words

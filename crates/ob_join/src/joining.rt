@@ -1,16 +1,14 @@
-ghost use Rattle.std.specs.Prelude.{◌≡◌, ◌≤◌, ◌<◌, ◌+◌, ◌++◌, ◌∷◌, ◌↔◌, ℕ, List, IsTrue, Option, Some, None, IfSome, IfNone, OnOk, MatchResult, length, take, drop, find, slice_index_or, if◌then◌else◌};
+ghost use Rattle.std.specs.Prelude.{◌≡◌, ◌≤◌, ◌<◌, ◌+◌, ◌++◌, ◌↔◌, IsTrue, Option, Some, IfSome, IfNone, OnOk, MatchResult, length, take, drop};
 ghost use Rattle.ob_base.specs.declared.schema.Kind.{Kind as ColumnKind};
 ghost use Rattle.ob_base.specs.Schemas.{kind_width, width};
-ghost use Rattle.ob_vault.specs.Rows.{SameSizes, Wide, row_at};
-ghost use Rattle.ob_row.specs.Rows.{Row, cell_at, options_eq};
-ghost use Rattle.ob_row.specs.Slots.{Slots, rows as rows_of};
+ghost use Rattle.ob_vault.specs.Rows.{SameSizes, Wide};
+ghost use Rattle.ob_row.specs.Rows.{Row};
+ghost use Rattle.ob_row.specs.Slots.{Slots};
 ghost use Rattle.ob_row.specs.declared.cell.Cell.{Cell as RowCell};
 ghost use Rattle.ob_row.specs.Fields.{HoldsCell};
 ghost use Rattle.ob_row.specs.Spelling.{FitsKind, Begins, kind_at};
-ghost use Rattle.ob_row.specs.Results.{joined_slot};
-ghost use Rattle.ob_blocks.specs.Blocks.{map_at};
 ghost use Rattle.ob_flat.specs.Slots.{Spelt, AreSlots};
-ghost use Rattle.ob_join.specs.Joining.{joined_below, has_field, IsPartner};
+ghost use Rattle.ob_join.specs.Joining.{HasColumns, FindsAt, FindsNone, agrees, columns_of, slot_of, block_of, has_field};
 
 use crate::sides::Sides;
 use ob_base::{Kind, Schema};
@@ -34,7 +32,8 @@ fn join_pair(left: &Schema, a: &ClearRow, right: &Schema, b: &ClearRow, to: &mut
     requires right { width right.now ≤ length b.now }
     requires to { width (left.now ++ right.now) ≤ length to.old }
     ensures size { length to.new ≡ length to.old }
-    ensures told { (x y : Row) → Begins left.now (Some x) a.now → Begins right.now (Some y) b.now → Begins (left.now ++ right.now) (Some (x ++ y)) to.new }
+    ensures told { (x y : Row) → Begins left.now (Some x) a.now → Begins right.now (Some y) b.now
+        → Begins (left.now ++ right.now) (Some (x ++ y)) to.new }
 {
     let first = &a.bytes()[..width(left) as usize];
     let cells = &b.bytes()[1..width(right) as usize];
@@ -65,8 +64,10 @@ fn find_field(schema: &Schema, kept: &[ClearRow], column: u8, field: &[u8]) -> O
     requires within { column < length schema.now }
     requires field { length field.now ≡ kind_width (kind_at schema.now column) }
     ensures inside { IfSome result (λ i. i < length kept.now) }
-    ensures some { (cell : RowCell) → HoldsCell (kind_at schema.now column) cell field.now → IfSome result (λ i. (slots : Slots) → Spelt schema.now slots kept.now → IsPartner (λ a. options_eq (cell_at a column) (Some cell)) slots i) }
-    ensures none { (cell : RowCell) → HoldsCell (kind_at schema.now column) cell field.now → IfNone result ((slots : Slots) → Spelt schema.now slots kept.now → find (λ a. options_eq (cell_at a column) (Some cell)) (rows_of slots) ≡ None) }
+    ensures some { (cell : RowCell) → HoldsCell (kind_at schema.now column) cell field.now
+        → IfSome result (FindsAt (agrees column cell) schema.now kept.now) }
+    ensures none { (cell : RowCell) → HoldsCell (kind_at schema.now column) cell field.now
+        → IfNone result (FindsNone (agrees column cell) schema.now kept.now) }
 {
     let at = offset(schema, column);
     for i in 0..kept.len() {
@@ -95,8 +96,8 @@ fn find_cell(schema: &Schema, kept: &[ClearRow], column: u8, cell: &Cell) -> Opt
     requires within { column < length schema.now }
     requires fits { (other : ColumnKind) × FitsKind other cell.now }
     ensures inside { IfSome result (λ i. i < length kept.now) }
-    ensures some { IfSome result (λ i. (slots : Slots) → Spelt schema.now slots kept.now → IsPartner (λ a. options_eq (cell_at a column) (Some cell.now)) slots i) }
-    ensures none { IfNone result ((slots : Slots) → Spelt schema.now slots kept.now → find (λ a. options_eq (cell_at a column) (Some cell.now)) (rows_of slots) ≡ None) }
+    ensures some { IfSome result (FindsAt (agrees column cell.now) schema.now kept.now) }
+    ensures none { IfNone result (FindsNone (agrees column cell.now) schema.now kept.now) }
 {
     let kind = kind_at(schema, column);
     if !fits(kind, cell) {
@@ -120,8 +121,10 @@ fn find_partner(
     requires within { column < length schema.now }
     requires field { length field.now ≡ kind_width kind }
     ensures inside { IfSome result (λ i. i < length kept.now) }
-    ensures some { (cell : RowCell) → HoldsCell kind cell field.now → IfSome result (λ i. (slots : Slots) → Spelt schema.now slots kept.now → IsPartner (λ a. options_eq (cell_at a column) (Some cell)) slots i) }
-    ensures none { (cell : RowCell) → HoldsCell kind cell field.now → IfNone result ((slots : Slots) → Spelt schema.now slots kept.now → find (λ a. options_eq (cell_at a column) (Some cell)) (rows_of slots) ≡ None) }
+    ensures some { (cell : RowCell) → HoldsCell kind cell field.now
+        → IfSome result (FindsAt (agrees column cell) schema.now kept.now) }
+    ensures none { (cell : RowCell) → HoldsCell kind cell field.now
+        → IfNone result (FindsNone (agrees column cell) schema.now kept.now) }
 {
     if kind == kind_at(schema, column) {
         return find_field(schema, kept, column, field);
@@ -143,13 +146,16 @@ fn join_slot(
 ) -> Result<(), Malformed>
     requires kept { Wide (width sides.now.left.now.schema) kept.now }
     requires row { width sides.now.right.now.schema ≤ length row.now }
-    requires to { width (sides.now.left.now.schema ++ sides.now.right.now.schema) ≤ length to.old }
-    requires lcol { sides.now.lcol < length sides.now.left.now.schema }
-    requires rcol { sides.now.rcol < length sides.now.right.now.schema }
+    requires to { width (columns_of sides.now) ≤ length to.old }
+    requires columns { HasColumns sides.now }
     ensures size { length to.new ≡ length to.old }
-    ensures read { OnOk result ((slot : Option Row) × Begins sides.now.right.now.schema slot row.now) }
-    ensures told { (slots : Slots) (slot : Option Row) → Spelt sides.now.left.now.schema slots kept.now → Begins sides.now.right.now.schema slot row.now
-        → MatchResult result (λ _. Begins (sides.now.left.now.schema ++ sides.now.right.now.schema) (if inside then joined_slot sides.now.lcol sides.now.rcol (rows_of slots) slot else None) to.new) (λ _. ⊥) }
+    ensures read { OnOk result
+        ((slot : Option Row) × Begins sides.now.right.now.schema slot row.now) }
+    ensures told { (left : Slots) (slot : Option Row)
+        → Spelt sides.now.left.now.schema left kept.now
+        → Begins sides.now.right.now.schema slot row.now
+        → MatchResult result
+        (λ _. Begins (columns_of sides.now) (slot_of sides.now left inside slot) to.new) (λ _. ⊥) }
 {
     clear_row(to);
     if read(&sides.right.schema, row)? && inside {
@@ -174,15 +180,17 @@ pub(crate) fn join_rows(
 ) -> Result<(), Malformed>
     requires kept { Wide (width sides.now.left.now.schema) kept.now }
     requires rows { Wide (width sides.now.right.now.schema) rows.now }
-    requires to { Wide (width (sides.now.left.now.schema ++ sides.now.right.now.schema)) to.old }
+    requires to { Wide (width (columns_of sides.now)) to.old }
     requires same { length to.old ≡ length rows.now }
     requires index { first + length rows.now ≤ 2147483648 }
-    requires lcol { sides.now.lcol < length sides.now.left.now.schema }
-    requires rcol { sides.now.rcol < length sides.now.right.now.schema }
+    requires columns { HasColumns sides.now }
     ensures size { SameSizes to.old to.new }
     ensures read { OnOk result (AreSlots sides.now.right.now.schema rows.now) }
-    ensures told { (slots block : Slots) → Spelt sides.now.left.now.schema slots kept.now → Spelt sides.now.right.now.schema block rows.now
-        → MatchResult result (λ _. Spelt (sides.now.left.now.schema ++ sides.now.right.now.schema) (map_at (joined_below sides.now.lcol sides.now.rcol (rows_of slots) sides.now.right.now.capacity) first block) to.new) (λ _. ⊥) }
+    ensures told { (left block : Slots)
+        → Spelt sides.now.left.now.schema left kept.now
+        → Spelt sides.now.right.now.schema block rows.now
+        → MatchResult result
+        (λ _. Spelt (columns_of sides.now) (block_of sides.now left first block) to.new) (λ _. ⊥) }
 {
     for z in 0..rows.len() {
         let inside = first + (z as u32) < sides.right.capacity;

@@ -1,2 +1,3 @@
 pub mod Halfway
 pub mod Wiped
+pub mod Selected

@@ -6,7 +6,8 @@ use Rattle.ob_row.specs.Slots.{is_selected, kept}
 use Rattle.ob_flat.specs.Slots.{FitsSlot}
 
 -- such a slot is one of its table
-pub kept_fits : (columns : Columns) (p : Row → Bool) (slot : Option Row) → FitsSlot columns slot → FitsSlot columns (kept p slot)
+pub kept_fits : (columns : Columns) (p : Row → Bool) (slot : Option Row)
+    → FitsSlot columns slot → FitsSlot columns (kept p slot)
 kept_fits columns p slot fits = go (is_selected p slot)
   where
     go : (b : Bool) → FitsSlot columns (if b then slot else None)

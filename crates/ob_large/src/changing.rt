@@ -49,7 +49,8 @@ impl<'a> Change for Unselected<'a> {
 
     ghost none = { λ other. refl };
 
-    ghost keeps = { λ other columns i slot suits fits. kept_fits columns (is_true other.pred.now) slot fits };
+    ghost keeps = { λ other columns i slot suits fits.
+        kept_fits columns (is_true other.pred.now) slot fits };
 
     #[tactic(auto, using(crate::proofs::Wiped::wiped))]
     fn change(&self, _i: u32, schema: &Schema, row: &mut ClearRow) -> Result<bool, Malformed> {
@@ -66,7 +67,8 @@ impl<'a> Rework for Unselected<'a> {
     ghost use Rattle.ob_row.specs.Slots.{kept};
     ghost use Rattle.ob_row.specs.Truth.{is_true};
 
-    ghost Makes = { λ columns old new first slots made. made ≡ map (kept (is_true old.pred.now)) slots };
+    ghost Makes = { λ columns old new first slots made.
+        made ≡ map (kept (is_true old.pred.now)) slots };
 
     ghost Suits = { λ other columns. ⊤ };
 

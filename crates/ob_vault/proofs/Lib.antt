@@ -2,3 +2,4 @@ pub mod WorldSteps
 pub mod Lies
 pub mod Runs
 pub mod RowsLemmas
+pub mod WordLemmas

@@ -67,6 +67,7 @@ module _ (v : VaultState) (q x : ℕ) (bytes : List ℕ) (old new : StoreState) 
       began = began_call _ _ _ asks;
       cause = (
         faults,
+        record { before = old.asked; asked = asks.asked },
         λ calm. elim (lie_after q x bytes old new asks gives) [
           | inl same ↦ inl (same_calm same calm)
           | inr is ↦ inr (record {

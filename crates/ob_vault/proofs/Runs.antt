@@ -62,7 +62,7 @@ module _ (some : ℕ → Type 0) (a b c : World) where
 
   cause_after : (e : VaultErr) (x : List Access) → Went x some a b → Cause e b c → Cause e a c
   cause_after Failed x first (rises, calm) = (subst (λ (n : ℕ). Rises n c.store.faults) first.did.faults rises, λ was. calm (first.calm was))
-  cause_after (Tampered q p) x first (same, calm) = (same ∙ first.did.faults, λ was. calm (first.calm was))
+  cause_after (Tampered q p) x first (same, ends, calm) = (same ∙ first.did.faults, ends, λ was. calm (first.calm was))
   cause_after NoMemory x first (same, calm) = (same ∙ first.did.faults, λ was. calm (first.calm was))
 
   -- a run that was cut in its second part

@@ -1,6 +1,7 @@
 -- What a call, or a run of calls, does to a vault and its store.
-use Rattle.std.specs.Prelude.{◌≡◌, ◌≢◌, ◌⊎◌, ◌≤◌, ◌<◌, ◌+◌, ◌-◌, ℕ, Bool, IsTrue, List, None, length, take, drop}
+use Rattle.std.specs.Prelude.{◌≡◌, ◌≢◌, ◌⊎◌, ◌≤◌, ◌<◌, ◌+◌, ◌-◌, ℕ, Bool, IsTrue, List, [], ◌∷◌, ◌++◌, None, length, take, drop}
 use Rattle.ob_base.specs.declared.access.Access.{Access}
+use Rattle.ob_base.specs.declared.access.Access.TheVariants.{Read}
 use Rattle.ob_base.specs.Counts.{Rises}
 use Rattle.ob_store.specs.Runs.{Did, Began, Later}
 use Rattle.ob_vault.specs.declared.fault.VaultErr.{VaultErr}
@@ -49,10 +50,15 @@ pub record Went (script : List Access) (some : ℕ → Type 0) (old new : World)
   pub spare : old.store.spare ≤ new.store.spare + length script
   pub calm : Calm old → Calm new
 
+-- the last access read this place
+pub record EndsRead (q x : ℕ) (w : World) : Type 0 where
+  pub before : List Access
+  pub asked : w.store.asked ≡ before ++ Read q x ∷ []
+
 -- why a call gave up
 abbrev pub Cause : VaultErr → World → World → Type 0
 Cause Failed old new = Rises old.store.faults new.store.faults × (Calm old → Calm new)
-Cause (Tampered q x) old new = (new.store.faults ≡ old.store.faults) × (Calm old → Calm new ⊎ EndsAt q x new)
+Cause (Tampered q x) old new = (new.store.faults ≡ old.store.faults) × EndsRead q x new × (Calm old → Calm new ⊎ EndsAt q x new)
 Cause NoMemory old new = (new.store.faults ≡ old.store.faults) × (Calm old → Calm new)
 
 -- a first part of the script was asked, and no other region has changed

@@ -7,3 +7,4 @@ pub mod Tied
 pub mod Calls
 pub mod Places
 pub mod Rows
+pub mod Words

@@ -156,6 +156,9 @@ impl<R: Revisions> Vault<R> {
         ensures turn { (shape : Shape) → Lives region shape (at R.state self.old (S.state store.old)) → OnTurn region shape (turn_after shape place) (at R.state self.new (S.state store.new)) }
         ensures written { Written region place (at R.state self.new (S.state store.new)) }
         ensures never { IfErr result (λ e. e ≡ VaultErr.Failed) }
+        ensures number { (R.state self.new.revs).number region place ≡ self.old.count + 1 }
+        ensures failed { OnErr result (IsTrue (S.state store.old).tells → (shape : Shape) → Lives region shape (at R.state self.old (S.state store.old))
+            → ((S.state store.new).last region place ≡ (S.state store.old).last region place) ⊎ Holds region place (joined (shape.width / length rows.now) rows.now) (at R.state self.new (S.state store.new))) }
         ensures told { OnOk result (IsTrue (S.state store.old).tells → (shape : Shape) → Lives region shape (at R.state self.old (S.state store.old))
             → Holds region place (joined (shape.width / length rows.now) rows.now) (at R.state self.new (S.state store.new))) }
     {

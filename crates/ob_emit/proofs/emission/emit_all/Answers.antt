@@ -46,9 +46,6 @@ emit_table-result-requires-clause-few g c = c.requires.few
 pub emit_table-result-requires-clause-within : goal.emit_table-result-requires-clause-within
 emit_table-result-requires-clause-within g c = c.requires.within
 
-pub emit_table-result-requires-clause-names : goal.emit_table-result-requires-clause-names
-emit_table-result-requires-clause-names g c = c.requires.names
-
 pub emit_table-result-requires-clause-spare : goal.emit_table-result-requires-clause-spare
 emit_table-result-requires-clause-spare g c = simp (sym (block_count c.args.room.now c.pack-pack.ensures.value c.open-rows.ensures.value)) at c.requires.spare
 
@@ -100,3 +97,11 @@ open-rows-requires-clause-free g c = shelf_free (width c.args.flat.now.schema) c
 pub clear_shelf-requires-clause-held : goal.clear_shelf-requires-clause-held
 clear_shelf-requires-clause-held g c =
     shelf_held (width c.args.flat.now.schema) c.args.room.now c.emit_table-result.new.rows c.requires.room c.pack-pack.ensures.value c.open-rows.ensures.value c.emit_table-result.ensures.rows
+
+pub returns-clause-failed : goal.returns-clause-failed
+returns-clause-failed g c = λ failed.
+    let size = block_count c.args.room.now c.pack-pack.ensures.value c.open-rows.ensures.value in
+    let old = at g.R.Revisions.state c.args.vault.now (g.S.BlockStore.state c.args.store.now) in
+    let new = at g.R.Revisions.state c.emit_table-result.new.vault (g.S.BlockStore.state c.emit_table-result.new.store) in
+    subst (λ (n : ℕ). IsHalted g.E.Emit.grew g.E.Emit.grew (λ (s : (slots : Slots) × Represents n c.args.flat.now slots old × (old.store.lie ≡ None) × IsUnfit new). header c.args.flat.now.schema c.args.cols.now ++ row_events (table_shown c.args.cols.now s.0)) c.args.out.now c.emit_table-result.new.out)
+    size (c.emit_table-result.ensures.failed failed)

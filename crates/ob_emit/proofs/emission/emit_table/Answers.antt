@@ -35,9 +35,6 @@ emit_head-requires-clause-few g c = c.requires.few
 pub emit_head-requires-clause-within : goal.emit_head-requires-clause-within
 emit_head-requires-clause-within g c = c.requires.within
 
-pub emit_head-requires-clause-names : goal.emit_head-requires-clause-names
-emit_head-requires-clause-names g c = c.requires.names
-
 pub emit_blocks-requires-clause-ready : goal.emit_blocks-requires-clause-ready
 emit_blocks-requires-clause-ready g c = c.requires.ready
 
@@ -174,3 +171,13 @@ returns-in-Err-NoMemory-clause-cause g c = rw c.in-Err-NoMemory.field-0-is at c.
 
 pub returns-in-Err-NoMemory-clause-err : goal.returns-in-Err-NoMemory-clause-err
 returns-in-Err-NoMemory-clause-err g c = cut_none _ none _ _ c.requires.ready (refl, λ was. was)
+
+pub returns-in-Err-clause-failed : goal.returns-in-Err-clause-failed
+returns-in-Err-clause-failed g c = λ failed.
+    let cols = c.args.cols.now in
+    let head = header c.args.flat.now.schema cols in
+    halted_join g.E.Emit.grew g.E.Emit.grew head (λ (s : ℕ). []) (λ s. row_events (table_shown cols s.0)) (λ s. head ++ row_events (table_shown cols s.0)) 0 0 _ _ _
+    (emitted_head g.E.Emit.grew head _ _ c.in-Ok.ensures.ok) (c.in-Err.ensures.failed (cc failed))
+    (λ s.
+    let events = row_events (table_shown cols s.0) in
+    (0, s, [], ap (λ (l : List Event). l ++ (events ++ [])) (append-nil head) ∙ ap (λ (l : List Event). head ++ l) (append-nil events)))

@@ -18,7 +18,7 @@ use Rattle.ob_flat.proofs.Runs.{pass_of, pass_each}
 use Rattle.ob_flat.proofs.Tables.{reads, represents_lasts, block_long, got, whole_size, index_in}
 use Rattle.ob_emit.specs.Emitting.{slots_shown, table_shown}
 use Rattle.ob_emit.proofs.Events.{shown-block, shown-rest, shown-table}
-use Rattle.ob_emit.proofs.Halting.{pass_halted, sink_halted, halt_never, halt_told}
+use Rattle.ob_emit.proofs.Halting.{pass_halted, sink_halted, halt_never, halt_told, halt_not_failed}
 use Rattle.ob_base.specs.Events.{row_events}
 use Rattle.ob_base.proofs.EventLemmas.{emitted_none, emitted_join, halted_join, halted_after, events_more}
 use Rattle.ob_flat.proofs.Sinks.{sink_vault, none_before}
@@ -301,3 +301,19 @@ pub returns-clause-ok : goal.returns-clause-ok
 returns-clause-ok g c =
     let last : c.loop-u.u ≡ blocks_for (length c.args.rows.now) c.args.flat.now.capacity = omega (arith, c.div_ceil-blocks.ensures) in
     rw last at c.loop-u.invariant.went
+
+pub returns-in_err-get-clause-failed : goal.returns-in_err-get-clause-failed
+returns-in_err-get-clause-failed g c = λ failed.
+    let pack = length c.args.rows.now in
+    let flat = c.args.flat.now in
+    let cols = c.args.cols.now in
+    let u = c.loop-u.u in
+    halted_after g.E.Emit.grew g.E.Emit.grew [] (λ s. slots_shown flat.capacity cols 0 (take (u * pack) (whole_blocks pack flat.capacity s.0))) (λ s. row_events (table_shown cols s.0)) 0 c.loop-u.k _ _ c.loop-u.invariant.emitted
+    (λ s.
+    let whole = whole_blocks pack flat.capacity s.0 in
+    let gone = none_before _ _ _ _ _ _ c.loop-u.invariant.went c.in_err-get.ensures.err.lasts s.2 s.3 in
+    let rest = shown-rest flat.capacity cols 0 (u * pack) whole in
+    ((s.0, s.1, gone), row_events rest.0, events_more [] (slots_shown flat.capacity cols 0 (take (u * pack) whole)) rest.0 (table_shown cols s.0) (rest.1 ∙ shown-table flat.capacity cols (blocks_for pack flat.capacity * pack) s.0 s.1.size)))
+
+pub returns-in-Err-clause-failed : goal.returns-in-Err-clause-failed
+returns-in-Err-clause-failed g c = λ failed. absurd (halt_not_failed c.in-Err.halt c.args.flat.now.region c.loop-u.u (cc (failed, c.error.ensures)))

@@ -1,4 +1,5 @@
-use Rattle.std.proofs.Common.{◌<◌, ◌+◌, [], ◌++◌, List, None, length, take, slice_index_or, if◌then◌else◌, ◌∙◌, ap, subst, arith}
+use Rattle.std.proofs.Common.{◌<◌, ◌+◌, [], ◌++◌, List, None, length, take, slice_index_or, if◌then◌else◌, ◌∙◌, sym, ap, subst, arith, below_more}
+use Rattle.ob_flat.proofs.Rows.{slots_of}
 use Rattle.std.proofs.lemmas.List.{take_all}
 use Rattle.ob_base.specs.declared.shown.Shown.{Shown}
 use Rattle.ob_row.specs.Spelling.{Begins}
@@ -52,6 +53,11 @@ loop-z-preserved g c =
           let row = same_at c.args.rows.now z c.index-rows-z.result c.loop-z-test.true c.index-rows-z.is in
           let here = subst (Begins c.args.flat.now.schema slot) row (s.1.each z c.loop-z-test.true) in
           (s, (slot, here), shown-more n cols first z slots inside));
+      read =
+          let columns = c.args.flat.now.schema in
+          let slot = c.in-Ok.ensures.read in
+          let row = same_at c.args.rows.now z c.index-rows-z.result c.loop-z-test.true c.index-rows-z.is in
+          below_more _ _ c.loop-z.invariant.read (slot.0, subst (Begins columns slot.0) (sym row) slot.1);
       faults = c.in-Ok.ensures.cause ∙ c.loop-z.invariant.faults;
     }
 
@@ -64,3 +70,6 @@ returns-clause-ok g c =
       leads = e.leads;
       told = λ s. e.told s ∙ ap (slots_shown c.args.flat.now.capacity c.args.cols.now c.args.first) (take_all c.loop-z.z s.0 (omega (arith, s.1.count, c.loop-z-test.false)));
     }
+
+pub returns-clause-read : goal.returns-clause-read
+returns-clause-read g c = slots_of c.args.flat.now.schema c.args.rows.now (λ j below. c.loop-z.invariant.read j (omega (arith, below, c.loop-z-test.false)))

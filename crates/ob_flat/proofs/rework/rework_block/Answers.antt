@@ -54,7 +54,7 @@ pub returns-in-Err-clause-err : goal.returns-in-Err-clause-err
 returns-in-Err-clause-err g c =
     let q = c.args.flat.now.region in
     let x = c.args.place in
-    pass_more (one q) _ _ _ (read_at q x) (write_at q x) (pass_wider none _ _ (one q) (λ q s. absurd s) _ _ (pass_malformed none _ _ q x (read_at q x) c.in_ok-get.ensures.ok))
+    pass_more (one q) _ _ _ (read_at q x) (write_at q x) (pass_wider none _ _ (one q) (λ q s. absurd s) _ _ (pass_malformed none _ _ q x c.in_ok-get.ensures.ok))
 
 pub returns-in-Err-clause-told : goal.returns-in-Err-clause-told
 returns-in-Err-clause-told g c = λ tells slots is nolie.

@@ -61,7 +61,7 @@ visit_rows-requires-clause-wide g c =
 pub returns-in-Err-clause-err : goal.returns-in-Err-clause-err
 returns-in-Err-clause-err g c =
     let q = c.args.flat.now.region in
-    pass_each none (read_at q) _ _ _ _ (blocks_for (length c.args.rows.now) c.args.flat.now.capacity) c.loop-u.u (below_all c.loop-u-test.true c.div_ceil-blocks.ensures) c.loop-u.invariant.went (pass_malformed _ _ _ q c.loop-u.u (read_at q c.loop-u.u) c.in_ok-get.ensures.ok)
+    pass_each none (read_at q) _ _ _ _ (blocks_for (length c.args.rows.now) c.args.flat.now.capacity) c.loop-u.u (below_all c.loop-u-test.true c.div_ceil-blocks.ensures) c.loop-u.invariant.went (pass_malformed _ _ _ q c.loop-u.u c.in_ok-get.ensures.ok)
 
 pub returns-in-Err-clause-seals : goal.returns-in-Err-clause-seals
 returns-in-Err-clause-seals g c = λ good. seals_join good _ _ _ c.loop-u.invariant.went.lasts.later (c.loop-u.invariant.seals good) (c.get.ensures.seals good)

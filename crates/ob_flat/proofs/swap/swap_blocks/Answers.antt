@@ -86,7 +86,7 @@ returns-in-Err-clause-err g c =
     let to = c.args.to in
     let u = c.loop-u.u in
     pass_each (one to) (copy_at q to) _ _ _ _ (blocks_for (length c.args.rows.now) c.args.flat.now.capacity) u (below_all c.loop-u-test.true c.div_ceil-blocks.ensures) c.loop-u.invariant.went
-    (pass_more (one to) _ _ _ (read_at q u) (write_at to u) (pass_wider none _ _ (one to) (λ q s. absurd s) _ _ (pass_malformed none _ _ q u (read_at q u) c.in_ok-get.ensures.ok)))
+    (pass_more (one to) _ _ _ (read_at q u) (write_at to u) (pass_wider none _ _ (one to) (λ q s. absurd s) _ _ (pass_malformed none _ _ q u c.in_ok-get.ensures.ok)))
 
 pub returns-in-Err-clause-seals : goal.returns-in-Err-clause-seals
 returns-in-Err-clause-seals g c = λ good fine. seals_join good _ _ _ c.loop-u.invariant.went.lasts.later (c.loop-u.invariant.seals good fine) (c.get.ensures.seals good)

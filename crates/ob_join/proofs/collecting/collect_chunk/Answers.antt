@@ -11,6 +11,7 @@ use Rattle.ob_row.specs.Rows.{Row}
 use Rattle.ob_row.specs.Spelling.{Begins}
 use Rattle.ob_flat.specs.Flats.{table_region, whole_blocks}
 use Rattle.ob_flat.specs.Passes.{pass_error}
+use Rattle.ob_flat.specs.Words.{blocks_of}
 use Rattle.ob_flat.proofs.Rooms.{same_rows}
 use Rattle.ob_flat.proofs.Rows.{slots_of, wide_same}
 use Rattle.ob_flat.proofs.Runs.{pass_of, pass_each, pass_malformed}
@@ -20,7 +21,7 @@ use Rattle.ob_join.proofs.collecting.collect_chunk.Goals as goal
 
 pub loop-x-init : goal.loop-x-init
 loop-x-init g c = record {
-  went = went_none none _ c.requires.ready;
+  went = went_none none _ c.requires.asks.ready;
   seals = λ good. seals_none good _;
   kept = same_rows c.args.kept.now;
   turns = λ q y shape turn. turn;
@@ -29,70 +30,31 @@ loop-x-init g c = record {
 }
 
 pub overflow_mul-row : goal.overflow_mul-row
-overflow_mul-row g c = row_fits c.args.pack c.args.flat.now.capacity c.args.first c.args.n c.loop-x.x c.requires.pack.0 c.requires.pack.1 c.requires.size.most c.requires.within c.loop-x-test.true
+overflow_mul-row g c = row_fits c.args.pack c.args.flat.now.capacity c.args.first c.args.n c.loop-x.x c.requires.table.some c.requires.table.most c.requires.table.size.most c.requires.within c.loop-x-test.true
 
 pub overflow_cast-row : goal.overflow_cast-row
-overflow_cast-row g c = row_small c.args.pack c.args.flat.now.capacity c.args.first c.args.n c.loop-x.x c.requires.pack.0 c.requires.pack.1 c.requires.size.most c.requires.within c.loop-x-test.true
+overflow_cast-row g c = row_small c.args.pack c.args.flat.now.capacity c.args.first c.args.n c.loop-x.x c.requires.table.some c.requires.table.most c.requires.table.size.most c.requires.within c.loop-x-test.true
 
 pub overflow_add-rows : goal.overflow_add-rows
-overflow_add-rows g c = rows_small c.args.pack c.args.flat.now.capacity c.args.first c.args.n c.loop-x.x c.requires.pack.0 c.requires.pack.1 c.requires.size.most c.requires.within c.loop-x-test.true
+overflow_add-rows g c = rows_small c.args.pack c.args.flat.now.capacity c.args.first c.args.n c.loop-x.x c.requires.table.some c.requires.table.most c.requires.table.size.most c.requires.within c.loop-x-test.true
 
 pub offset_bounds-kept-row : goal.offset_bounds-kept-row
-offset_bounds-kept-row g c = bytes_small c.args.pack c.args.flat.now.capacity c.args.first c.args.n c.loop-x.x c.requires.pack.0 c.requires.pack.1 c.requires.size.most c.requires.within c.loop-x-test.true
+offset_bounds-kept-row g c = bytes_small c.args.pack c.args.flat.now.capacity c.args.first c.args.n c.loop-x.x c.requires.table.some c.requires.table.most c.requires.table.size.most c.requires.within c.loop-x-test.true
 
 pub slice_bounds-rows-count : goal.slice_bounds-rows-count
 slice_bounds-rows-count g c = part_within (c.loop-x.x * c.args.pack) c.args.pack
 
 pub overflow_add-first : goal.overflow_add-first
-overflow_add-first g c = place_fits c.args.pack c.args.flat.now.capacity c.args.first c.args.n c.loop-x.x c.requires.pack.0 c.requires.pack.1 c.requires.size.most c.requires.within c.loop-x-test.true
+overflow_add-first g c = place_fits c.args.pack c.args.flat.now.capacity c.args.first c.args.n c.loop-x.x c.requires.table.some c.requires.table.most c.requires.table.size.most c.requires.within c.loop-x-test.true
 
 pub overflow_add-result : goal.overflow_add-result
-overflow_add-result g c = place_fits c.args.pack c.args.flat.now.capacity c.args.first c.args.n c.loop-x.x c.requires.pack.0 c.requires.pack.1 c.requires.size.most c.requires.within c.loop-x-test.true
+overflow_add-result g c = place_fits c.args.pack c.args.flat.now.capacity c.args.first c.args.n c.loop-x.x c.requires.table.some c.requires.table.most c.requires.table.size.most c.requires.within c.loop-x-test.true
 
 pub get-requires-clause-ready : goal.get-requires-clause-ready
 get-requires-clause-ready g c = c.loop-x.invariant.went.lasts.ready
 
-pub returns-in_err-get-clause-ok : goal.returns-in_err-get-clause-ok
-returns-in_err-get-clause-ok g c = let p = err_from_is_err_and c.from_residual.result c.from_residual.ensures.1 in rw p.1 tt
-
-pub returns-in_err-get-clause-turns : goal.returns-in_err-get-clause-turns
-returns-in_err-get-clause-turns g c = let p = err_from_is_err_and c.from_residual.result c.from_residual.ensures.1 in rw p.1 tt
-
-pub returns-in_err-get-clause-spells : goal.returns-in_err-get-clause-spells
-returns-in_err-get-clause-spells g c = let p = err_from_is_err_and c.from_residual.result c.from_residual.ensures.1 in rw p.1 tt
-
-pub returns-in-Err-clause-ok : goal.returns-in-Err-clause-ok
-returns-in-Err-clause-ok g c = tt
-
-pub returns-in-Err-clause-turns : goal.returns-in-Err-clause-turns
-returns-in-Err-clause-turns g c = tt
-
-pub returns-in-Err-clause-spells : goal.returns-in-Err-clause-spells
-returns-in-Err-clause-spells g c = tt
-
-pub loop-x-smaller : goal.loop-x-smaller
-loop-x-smaller g c = nearer c.loop-x-test.true
-
-pub returns-clause-kept : goal.returns-clause-kept
-returns-clause-kept g c = c.loop-x.invariant.kept
-
-pub returns-clause-ok : goal.returns-clause-ok
-returns-clause-ok g c = rw (all_done c.loop-x.auto.x-end c.loop-x-test.false) at c.loop-x.invariant.went
-
-pub returns-clause-err : goal.returns-clause-err
-returns-clause-err g c = tt
-
-pub returns-clause-never : goal.returns-clause-never
-returns-clause-never g c = tt
-
-pub returns-clause-seals : goal.returns-clause-seals
-returns-clause-seals g c = c.loop-x.invariant.seals
-
-pub returns-clause-turns : goal.returns-clause-turns
-returns-clause-turns g c = c.loop-x.invariant.turns
-
 pub get-requires-clause-spare : goal.get-requires-clause-spare
-get-requires-clause-spare g c = omega (arith, c.requires.spare, c.loop-x.invariant.went.spare, reads_from c.args.flat.now.region c.args.first c.loop-x.x)
+get-requires-clause-spare g c = omega (arith, c.requires.asks.spare, c.loop-x.invariant.went.spare, reads_from c.args.flat.now.region c.args.first c.loop-x.x)
 
 pub get-requires-clause-place : goal.get-requires-clause-place
 get-requires-clause-place g c =
@@ -104,47 +66,10 @@ get-requires-clause-place g c =
     let went = c.loop-x.invariant.went in
     let below : u < blocks_for pack flat.capacity = omega (arith, c.requires.within) in
     let fits : x * pack + pack ≤ length kept = omega (arith, c.loop-x.invariant.kept.count, c.requires.space, rows_room x c.args.n pack (omega arith)) in
-    let fit = part_fit (x * pack) pack kept fits (width flat.schema) c.requires.pack.0 (wide_same _ _ _ c.loop-x.invariant.kept c.requires.wide) in
+    let fit = part_fit (x * pack) pack kept fits (width flat.schema) c.requires.table.some (wide_same _ _ _ c.loop-x.invariant.kept c.requires.wide) in
     let fit' = subst (λ (m : ℕ). RowsFit (take m (drop (x * pack) kept)) (pack * width flat.schema)) (sym (within (x * pack) pack)) fit in
-    may_get _ u (table_region c.requires.flat.made.order pack flat.schema flat.capacity) _ _ (lives_went _ _ _ _ _ _ went (λ s. s) c.requires.flat.made.lives) below
-    fit' (written_went _ _ _ _ _ u went (λ s. s) (c.requires.flat.written u below))
-
-pub returns-in_err-get-clause-kept : goal.returns-in_err-get-clause-kept
-returns-in_err-get-clause-kept g c =
-    let pack = c.args.pack in
-    let x = c.loop-x.x in
-    let kept = c.loop-x.kept in
-    let fits : x * pack + pack ≤ length kept = omega (arith, c.loop-x.invariant.kept.count, c.requires.space, rows_room x c.args.n pack (omega arith)) in
-    let same = rw (within (x * pack) pack) at c.get.ensures.rows in
-    fit_trans _ _ _ c.loop-x.invariant.kept (rw (within (x * pack) pack) (put_sizes (x * pack) pack kept fits c.get.new.rows (same.count ∙ part_long (x * pack) pack kept fits) same))
-
-pub returns-in_err-get-clause-err : goal.returns-in_err-get-clause-err
-returns-in_err-get-clause-err g c =
-    let p = err_from_is_err_and c.from_residual.result c.from_residual.ensures.1 in
-    rw (p.1, p.2) (pass_each none (read_from c.args.flat.now.region c.args.first) _ _ _ _ c.args.n c.loop-x.x (omega arith) c.loop-x.invariant.went (pass_of _ _ _ _ _ c.in_err-get.ensures.err))
-
-pub returns-in_err-get-clause-never : goal.returns-in_err-get-clause-never
-returns-in_err-get-clause-never g c =
-    let p = err_from_is_err_and c.from_residual.result c.from_residual.ensures.1 in
-    rw (p.1, p.2) (elim c.in_err-get.ensures.never [
-      | inl e ↦ inl (ap pass_error e)
-      | inr e ↦ inr (c.args.first + c.loop-x.x, omega (arith, c.requires.within), ap pass_error e)
-    ])
-
-pub returns-in_err-get-clause-seals : goal.returns-in_err-get-clause-seals
-returns-in_err-get-clause-seals g c = λ good. seals_join good _ _ _ c.loop-x.invariant.went.lasts.later (c.loop-x.invariant.seals good) (c.get.ensures.seals good)
-
-pub returns-in_err-get-clause-told : goal.returns-in_err-get-clause-told
-returns-in_err-get-clause-told g c = λ slots is nolie.
-    let p = err_from_is_err_and c.from_residual.result c.from_residual.ensures.1 in
-    let pack = c.args.pack in
-    let flat = c.args.flat.now in
-    let u = c.args.first + c.loop-x.x in
-    let below : u < blocks_for pack flat.capacity = omega (arith, c.requires.within) in
-    let went = c.loop-x.invariant.went in
-    let now = represents_lasts pack flat none _ _ went.lasts (λ s. s) slots is in
-    let shape = table_region c.requires.flat.made.order pack flat.schema flat.capacity in
-    rw (p.1, p.2) (ap pass_error (c.in_err-get.ensures.told _ shape (lives_went _ _ _ _ _ _ went (λ s. s) c.requires.flat.made.lives) (block_long pack flat slots _ is c.requires.pack.0 u below) (now.holds u below) nolie))
+    may_get _ u (table_region c.requires.table.written.made.order pack flat.schema flat.capacity) _ _ (lives_went _ _ _ _ _ _ went (λ s. s) c.requires.table.written.made.lives) below
+    fit' (written_went _ _ _ _ _ u went (λ s. s) (c.requires.table.written.written u below))
 
 pub check_rows-requires : goal.check_rows-requires
 check_rows-requires g c =
@@ -156,6 +81,15 @@ check_rows-requires g c =
     let same = rw (within (x * pack) pack) at c.get.ensures.rows in
     record { wide = wide_same w _ _ same (part_wide (x * pack) pack kept fits w (wide_same _ _ _ c.loop-x.invariant.kept c.requires.wide)) }
 
+pub returns-in_err-get-clause-kept : goal.returns-in_err-get-clause-kept
+returns-in_err-get-clause-kept g c =
+    let pack = c.args.pack in
+    let x = c.loop-x.x in
+    let kept = c.loop-x.kept in
+    let fits : x * pack + pack ≤ length kept = omega (arith, c.loop-x.invariant.kept.count, c.requires.space, rows_room x c.args.n pack (omega arith)) in
+    let same = rw (within (x * pack) pack) at c.get.ensures.rows in
+    fit_trans _ _ _ c.loop-x.invariant.kept (rw (within (x * pack) pack) (put_sizes (x * pack) pack kept fits c.get.new.rows (same.count ∙ part_long (x * pack) pack kept fits) same))
+
 pub returns-in-Err-clause-kept : goal.returns-in-Err-clause-kept
 returns-in-Err-clause-kept g c =
     let pack = c.args.pack in
@@ -165,37 +99,8 @@ returns-in-Err-clause-kept g c =
     let same = rw (within (x * pack) pack) at c.get.ensures.rows in
     fit_trans _ _ _ c.loop-x.invariant.kept (rw (within (x * pack) pack) (put_sizes (x * pack) pack kept fits c.get.new.rows (same.count ∙ part_long (x * pack) pack kept fits) same))
 
-pub returns-in-Err-clause-err : goal.returns-in-Err-clause-err
-returns-in-Err-clause-err g c =
-    let q = c.args.flat.now.region in
-    let u = c.args.first + c.loop-x.x in
-    pass_each none (read_from q c.args.first) _ _ _ _ c.args.n c.loop-x.x (omega arith) c.loop-x.invariant.went (pass_malformed _ _ _ q u (read_from q c.args.first c.loop-x.x) c.in_ok-get.ensures.ok)
-
-pub returns-in-Err-clause-never : goal.returns-in-Err-clause-never
-returns-in-Err-clause-never g c = inr (c.args.first + c.loop-x.x, omega (arith, c.requires.within), refl)
-
-pub returns-in-Err-clause-seals : goal.returns-in-Err-clause-seals
-returns-in-Err-clause-seals g c = λ good. seals_join good _ _ _ c.loop-x.invariant.went.lasts.later (c.loop-x.invariant.seals good) (c.get.ensures.seals good)
-
-pub returns-in-Err-clause-told : goal.returns-in-Err-clause-told
-returns-in-Err-clause-told g c = λ slots is nolie.
-    let pack = c.args.pack in
-    let x = c.loop-x.x in
-    let kept = c.loop-x.kept in
-    let flat = c.args.flat.now in
-    let w = width flat.schema in
-    let u = c.args.first + x in
-    let below : u < blocks_for pack flat.capacity = omega (arith, c.requires.within) in
-    let went = c.loop-x.invariant.went in
-    let now = represents_lasts pack flat none _ _ went.lasts (λ s. s) slots is in
-    let shape = table_region c.requires.flat.made.order pack flat.schema flat.capacity in
-    let bytes = c.in_ok-get.ensures.told _ shape (lives_went _ _ _ _ _ _ went (λ s. s) c.requires.flat.made.lives) (block_long pack flat slots _ is c.requires.pack.0 u below) (now.holds u below) nolie in
-    let fits : x * pack + pack ≤ length kept = omega (arith, c.loop-x.invariant.kept.count, c.requires.space, rows_room x c.args.n pack (omega arith)) in
-    let long : length (take (x * pack + pack - x * pack) (drop (x * pack) kept)) ≡ pack = rw (within (x * pack) pack) (part_long (x * pack) pack kept fits) in
-    let wide = c.get.ensures.rows in
-    let same = rw (within (x * pack) pack) at c.get.ensures.rows in
-    let wide' = wide_same w _ _ same (part_wide (x * pack) pack kept fits w (wide_same _ _ _ c.loop-x.invariant.kept c.requires.wide)) in
-    absurd (c.in-Err.ensures.told _ (got pack flat slots _ is c.requires.pack.0 u (length (take (x * pack + pack - x * pack) (drop (x * pack) kept))) c.get.new.rows below long (wide.count ∙ long) wide' bytes))
+pub loop-x-smaller : goal.loop-x-smaller
+loop-x-smaller g c = nearer c.loop-x-test.true
 
 pub loop-x-preserved : goal.loop-x-preserved
 loop-x-preserved g c =
@@ -224,24 +129,83 @@ loop-x-preserved g c =
           before.spells (λ z inside. (slice_index_or read.slots z None, read.spelt.each z (omega (arith, inside, size)))) j (omega (arith, next, less)));
       told = λ slots is nolie j less.
           let now = represents_lasts pack flat none _ _ went.lasts (λ s. s) slots is in
-          let shape = table_region c.requires.flat.made.order pack flat.schema flat.capacity in
-          let bytes = c.in_ok-get.ensures.told _ shape (lives_went _ _ _ _ _ _ went (λ s. s) c.requires.flat.made.lives) (block_long pack flat slots _ is c.requires.pack.0 u below) (now.holds u below) nolie in
+          let shape = table_region c.requires.table.written.made.order pack flat.schema flat.capacity in
+          let bytes = c.in_ok-get.ensures.told _ shape (lives_went _ _ _ _ _ _ went (λ s. s) c.requires.table.written.made.lives) (block_long pack flat slots _ is c.requires.table.some u below) (now.holds u below) nolie in
           let long : length (take (x * pack + pack - x * pack) (drop (x * pack) kept)) ≡ pack = rw (within (x * pack) pack) (part_long (x * pack) pack kept fits) in
-          let spelt = got pack flat slots _ is c.requires.pack.0 u (length (take (x * pack + pack - x * pack) (drop (x * pack) kept))) c.get.new.rows below long size wide' bytes in
+          let spelt = got pack flat slots _ is c.requires.table.some u (length (take (x * pack + pack - x * pack) (drop (x * pack) kept))) c.get.new.rows below long size wide' bytes in
           let whole = whole_blocks pack flat.capacity slots in
           rw (within (x * pack) pack) (put_more (x * pack) pack kept fits c.get.new.rows size (λ i row. Begins flat.schema (slice_index_or whole (first * pack + i) None) row)
           (before.told slots is (none_went _ _ _ _ c.in_ok-get.ensures.ok nolie)) (read_next flat.schema pack first x whole c.get.new.rows size spelt) j (omega (arith, next, less)));
     }
 
-pub returns-clause-spells : goal.returns-clause-spells
-returns-clause-spells g c =
-    let last : c.loop-x.x ≡ c.args.n = omega arith in
-    slots_of c.args.flat.now.schema c.loop-x.kept (λ j below. c.loop-x.invariant.spells j (omega (arith, below, c.loop-x.invariant.kept.count, c.requires.space, ap (λ (n : ℕ). n * c.args.pack) last)))
+pub returns-clause-kept : goal.returns-clause-kept
+returns-clause-kept g c = c.loop-x.invariant.kept
 
-pub returns-clause-told : goal.returns-clause-told
-returns-clause-told g c = λ slots is nolie.
+pub returns-in_err-get-clause-collects : goal.returns-in_err-get-clause-collects
+returns-in_err-get-clause-collects g c =
+    let p = err_from_is_err_and c.from_residual.result c.from_residual.ensures.1 in
     let pack = c.args.pack in
     let flat = c.args.flat.now in
+    let u = c.args.first + c.loop-x.x in
+    let below : u < blocks_of pack flat = omega (arith, c.requires.within) in
+    let before = c.loop-x.invariant in
+    rw (p.1, p.2) (record {
+      ran = record { ok = tt; err = pass_each none (read_from flat.region c.args.first) _ _ _ _ c.args.n c.loop-x.x (omega arith) before.went (pass_of _ _ _ _ _ c.in_err-get.ensures.err) };
+      never = elim c.in_err-get.ensures.never [
+        | inl e ↦ inl (ap pass_error e)
+        | inr e ↦ inr (record { place = u; below = below; is = ap pass_error e })
+      ];
+      seals = record { seals = λ good. seals_join good _ _ _ before.went.lasts.later (before.seals good) (c.get.ensures.seals good) };
+      turns = tt;
+      spells = tt;
+      told = λ slots is nolie.
+          let now = represents_lasts pack flat none _ _ before.went.lasts (λ s. s) slots is in
+          let shape = table_region c.requires.table.written.made.order pack flat.schema flat.capacity in
+          ap pass_error (c.in_err-get.ensures.told _ shape (lives_went _ _ _ _ _ _ before.went (λ s. s) c.requires.table.written.made.lives) (block_long pack flat slots _ is c.requires.table.some u below) (now.holds u below) nolie);
+    })
+
+pub returns-in-Err-clause-collects : goal.returns-in-Err-clause-collects
+returns-in-Err-clause-collects g c =
+    let pack = c.args.pack in
+    let flat = c.args.flat.now in
+    let x = c.loop-x.x in
+    let u = c.args.first + x in
+    let below : u < blocks_of pack flat = omega (arith, c.requires.within) in
+    let before = c.loop-x.invariant in
+    let went = before.went in
+    record {
+      ran = record { ok = tt; err = pass_each none (read_from flat.region c.args.first) _ _ _ _ c.args.n x (omega arith) went (pass_malformed _ _ _ flat.region u (read_from flat.region c.args.first x) c.in_ok-get.ensures.ok) };
+      never = inr (record { place = u; below = below; is = refl });
+      seals = record { seals = λ good. seals_join good _ _ _ went.lasts.later (before.seals good) (c.get.ensures.seals good) };
+      turns = tt;
+      spells = tt;
+      told = λ slots is nolie.
+          let kept = c.loop-x.kept in
+          let w = width flat.schema in
+          let now = represents_lasts pack flat none _ _ went.lasts (λ s. s) slots is in
+          let shape = table_region c.requires.table.written.made.order pack flat.schema flat.capacity in
+          let bytes = c.in_ok-get.ensures.told _ shape (lives_went _ _ _ _ _ _ went (λ s. s) c.requires.table.written.made.lives) (block_long pack flat slots _ is c.requires.table.some u below) (now.holds u below) nolie in
+          let fits : x * pack + pack ≤ length kept = omega (arith, c.loop-x.invariant.kept.count, c.requires.space, rows_room x c.args.n pack (omega arith)) in
+          let long : length (take (x * pack + pack - x * pack) (drop (x * pack) kept)) ≡ pack = rw (within (x * pack) pack) (part_long (x * pack) pack kept fits) in
+          let wide = c.get.ensures.rows in
+          let same = rw (within (x * pack) pack) at c.get.ensures.rows in
+          let wide' = wide_same w _ _ same (part_wide (x * pack) pack kept fits w (wide_same _ _ _ c.loop-x.invariant.kept c.requires.wide)) in
+          absurd (c.in-Err.ensures.told _ (got pack flat slots _ is c.requires.table.some u (length (take (x * pack + pack - x * pack) (drop (x * pack) kept))) c.get.new.rows below long (wide.count ∙ long) wide' bytes));
+    }
+
+pub returns-clause-collects : goal.returns-clause-collects
+returns-clause-collects g c =
+    let pack = c.args.pack in
+    let flat = c.args.flat.now in
+    let all = c.loop-x.invariant in
     let last : c.loop-x.x ≡ c.args.n = omega arith in
-    spelt_from flat.schema pack flat.capacity c.args.first c.args.n slots c.loop-x.kept (whole_size pack flat slots _ is c.requires.pack.0) c.requires.within (c.loop-x.invariant.kept.count ∙ c.requires.space)
-    (λ j below. c.loop-x.invariant.told slots is nolie j (omega (arith, below, ap (λ (n : ℕ). n * pack) last)))
+    record {
+      ran = record { ok = rw (all_done c.loop-x.auto.x-end c.loop-x-test.false) at all.went; err = tt };
+      never = tt;
+      seals = record { seals = all.seals };
+      turns = record { stay = all.turns };
+      spells = slots_of flat.schema c.loop-x.kept (λ j below. all.spells j (omega (arith, below, all.kept.count, c.requires.space, ap (λ (n : ℕ). n * pack) last)));
+      told = λ slots is nolie.
+          spelt_from flat.schema pack flat.capacity c.args.first c.args.n slots c.loop-x.kept (whole_size pack flat slots _ is c.requires.table.some) c.requires.within (c.loop-x.invariant.kept.count ∙ c.requires.space)
+          (λ j below. c.loop-x.invariant.told slots is nolie j (omega (arith, below, ap (λ (n : ℕ). n * pack) last)));
+    }

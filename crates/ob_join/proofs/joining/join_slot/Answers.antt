@@ -13,13 +13,13 @@ use Rattle.ob_join.proofs.joining.join_slot.Goals.{else-branch-via-then-branch+e
 
 pub field_at-field-requires : goal.field_at-field-requires
 field_at-field-requires c =
-    omega (arith, field_inside c.args.sides.now.right.now.schema c.args.sides.now.rcol c.requires.rcol, c.offset-at.ensures, c.width.ensures.value, ap kind_width c.kind_at-kind.ensures, c.requires.row)
+    omega (arith, field_inside c.args.sides.now.right.now.schema c.args.sides.now.rcol c.requires.columns.rcol, c.offset-at.ensures, c.width.ensures.value, ap kind_width c.kind_at-kind.ensures, c.requires.row)
 
 pub returns-in-Some-clause-told : goal.returns-in-Some-clause-told
 returns-in-Some-clause-told c = λ slots slot spelt begins.
     let i = c.in-Some.i in
     let own = field_read c.args.sides.now.right.now.schema slot c.args.sides.now.rcol c.args.row.now c.field_at-field.result.now c.kind_at-kind.result c.offset-at.result c.width.result begins (cc (c.in_ok-read.ensures.spelled slot begins, c.if-branch.true))
-    c.requires.rcol c.kind_at-kind.ensures c.offset-at.ensures c.width.ensures.value c.field_at-field.ensures.value in
+    c.requires.columns.rcol c.kind_at-kind.ensures c.offset-at.ensures c.width.ensures.value c.field_at-field.ensures.value in
     let b = own.row in
     let right = subst (λ (s : Option Row). Begins c.args.sides.now.right.now.schema s c.args.row.now) own.is begins in
     let part = c.in-Some.ensures.some own.cell own.held slots spelt in
@@ -36,7 +36,7 @@ returns-in-Some-clause-told c = λ slots slot spelt begins.
 pub returns-in_default-clause-told : goal.returns-in_default-clause-told
 returns-in_default-clause-told c = λ slots slot spelt begins.
     let own = field_read c.args.sides.now.right.now.schema slot c.args.sides.now.rcol c.args.row.now c.field_at-field.result.now c.kind_at-kind.result c.offset-at.result c.width.result begins (cc (c.in_ok-read.ensures.spelled slot begins, c.if-branch.true))
-    c.requires.rcol c.kind_at-kind.ensures c.offset-at.ensures c.width.ensures.value c.field_at-field.ensures.value in
+    c.requires.columns.rcol c.kind_at-kind.ensures c.offset-at.ensures c.width.ensures.value c.field_at-field.ensures.value in
     let b = own.row in
     let is : joined_slot c.args.sides.now.lcol c.args.sides.now.rcol (rows slots) slot ≡ None =
     ap (joined_slot c.args.sides.now.lcol c.args.sides.now.rcol (rows slots)) own.is ∙ joined_found c.args.sides.now.lcol c.args.sides.now.rcol (rows slots) b own.cell None own.has (c.in_default.ensures.none own.cell own.held slots spelt) in

@@ -1,4 +1,4 @@
-use Rattle.std.proofs.Common.{◌≡◌, ◌≤◌, ◌+◌, ◌*◌, ℕ, subst, arith, length-append}
+use Rattle.std.proofs.Common.{rules, ◌≡◌, ◌≤◌, ◌+◌, ◌*◌, ℕ, subst, arith, length-append}
 use Rattle.std.specs.Int.{div_ceil}
 use Rattle.ob_base.specs.Limits.{buffered_blocks}
 use Rattle.ob_base.specs.Numbers.{blocks_for}
@@ -22,8 +22,8 @@ slots_most blocks p q pack rows' rows n m most is same shown opened small =
     (subst (λ (k : ℕ). joined_blocks q rows' n m * k ≤ most) same
     (subst (λ (k : ℕ). k * p ≤ most) is small)))
 
-pub join-requires-clause-sized : goal.join-requires-clause-sized
-join-requires-clause-sized g c =
+pub join-requires-clause-tables : goal.join-requires-clause-tables
+join-requires-clause-tables g c =
     let l = c.args.left.now.schema in
     let r = c.args.right.now.schema in
     let pack = c.args.room.now.pack in
@@ -35,9 +35,17 @@ join-requires-clause-sized g c =
     let chunks = some_of (blocks_for pack n) (buffered_blocks pack rows) (buffered_some pack rows some c.requires.left.place.idle.enough) lefts in
     let rights = some_of m pack some c.requires.right.size.least in
     record {
-      some = omega (arith, length-append l r, c.requires.left.columns.least);
-      few = omega (arith, length-append l r, c.requires.left.columns.most, c.requires.right.columns.most);
-      wide = omega (arith, width-join l r, c.if-width-gt-WIDEST.false, c.width.ensures.value, c.width-2.ensures.value);
-      least = least_times _ pack (least_times _ _ chunks rights) some;
-      most = slots_most _ _ _ pack _ rows n m 16777216 c.blocks_of-blocks.ensures c.from.ensures c.pack-pack.ensures.value c.rows.ensures.value (omega (arith, c.if-blocks-from-gt-MOST.false));
+      left = search rules;
+      right = search rules;
+      left_size = c.requires.left.size;
+      right_size = c.requires.right.size;
+      sized = record {
+        some = omega (arith, length-append l r, c.requires.left.columns.least);
+        few = omega (arith, length-append l r, c.requires.left.columns.most, c.requires.right.columns.most);
+        wide = omega (arith, width-join l r, c.if-width-gt-WIDEST.false, c.width.ensures.value, c.width-2.ensures.value);
+        least = least_times _ pack (least_times _ _ chunks rights) some;
+        most = slots_most _ _ _ pack _ rows n m 16777216 c.blocks_of-blocks.ensures c.from.ensures c.pack-pack.ensures.value c.rows.ensures.value (omega (arith, c.if-blocks-from-gt-MOST.false));
+      };
+      lcol = omega (arith, c.requires.left.columns.least);
+      rcol = omega (arith, c.requires.right.columns.least);
     }

@@ -1,4 +1,4 @@
-use Rattle.std.proofs.Common.{◌≡◌, ◌+◌, inr, ℕ, ◌/◌, length, ◌∙◌, ap, arith}
+use Rattle.std.proofs.Common.{◌≡◌, ◌+◌, inl, inr, ℕ, ◌/◌, length, ◌∙◌, ap, arith}
 use Rattle.ob_seal.specs.Sealed.{sealed}
 use Rattle.ob_vault.specs.Rows.{joined}
 use Rattle.ob_vault.specs.Tied.{at_of}
@@ -62,3 +62,19 @@ returns-in-Err-clause-seals g c = λ good shape is fine.
     let width : c.shape-shape.result.width ≡ shape.width = cc (lives, is.live) in
     let block = c.shut.ensures ∙ ap (λ (n : ℕ). sealed c.args.self.now.keys (at_of c.args.region c.args.place (c.args.self.now.count + 1)) (joined (n / length c.args.rows.now) c.args.rows.now)) width in
     seals_write _ _ _ _ _ _ _ c.requires.ready lives (c.wrote.ensures c.shape-shape.result lives) c.write.ensures.asks c.write.ensures.only good _ _ fine block (λ tells. c.in-Err.ensures.err.last)
+
+pub returns-in-Err-clause-failed : goal.returns-in-Err-clause-failed
+returns-in-Err-clause-failed g c = λ tells shape is.
+    let lives = c.shape-shape.ensures in
+    let width : c.shape-shape.result.width ≡ shape.width = cc (lives, is.live) in
+    let block = c.shut.ensures ∙ ap (λ (n : ℕ). sealed c.args.self.now.keys (at_of c.args.region c.args.place (c.args.self.now.count + 1)) (joined (n / length c.args.rows.now) c.args.rows.now)) width in
+    elim c.in-Err.ensures.err.last [
+      | inl same ↦ inl same
+      | inr is ↦ inr (holds_write _ _ _ _ _ _ _ c.requires.ready lives (c.wrote.ensures c.shape-shape.result lives) c.write.ensures.asks c.write.ensures.only _ _ block is)
+    ]
+
+pub returns-in-Ok-clause-number : goal.returns-in-Ok-clause-number
+returns-in-Ok-clause-number g c = (c.wrote.ensures c.shape-shape.result c.shape-shape.ensures).here
+
+pub returns-in-Err-clause-number : goal.returns-in-Err-clause-number
+returns-in-Err-clause-number g c = (c.wrote.ensures c.shape-shape.result c.shape-shape.ensures).here

@@ -1,0 +1,67 @@
+-- The words of the passes' contracts, from one call to the next.
+use Rattle.std.proofs.Common.{[], ◌≡◌, ◌++◌, ℕ, Bool, List, None, Result, Ok, Err, IfErr, refl}
+use Rattle.ob_base.specs.declared.access.Access.{Access}
+use Rattle.ob_base.specs.Schemas.{Columns}
+use Rattle.ob_vault.specs.declared.region.Order.{Order}
+use Rattle.ob_vault.specs.State.{World}
+use Rattle.ob_vault.specs.Tied.{Lives}
+use Rattle.ob_vault.specs.Calls.{Went, Seals, Lasts, one}
+use Rattle.ob_vault.proofs.Runs.{went_join, seals_join, shape_lasts}
+use Rattle.ob_flat.specs.declared.fault.OpErr.{OpErr}
+use Rattle.ob_flat.specs.declared.flat.Flat.{Flat}
+use Rattle.ob_flat.specs.Flats.{IsFlat, table_region}
+use Rattle.ob_flat.specs.Passes.{PassCut}
+use Rattle.ob_flat.specs.Words.{Ran, SealsTable, Makes}
+use Rattle.ob_flat.proofs.Runs.{pass_more, pass_after, pass_then}
+
+-- every error of one call is one of another
+pub if_err : {T : Type 0} {P Q : OpErr → Type 0} → ((e : OpErr) → P e → Q e) → (r : Result T OpErr) → IfErr r P → IfErr r Q
+if_err more (Ok x) is = tt
+if_err more (Err e) is = more e is
+
+-- a run of two parts, the first of which was cut, or went whole
+pub ran_more : {T : Type 0} {some : ℕ → Type 0} {a b : World} {e : OpErr} (x y : List Access) → PassCut e x some a b → Ran {T = T} (x ++ y) some (Err e) a b
+ran_more x y cut = record { ok = tt; err = pass_more _ _ _ _ x y cut }
+
+pub ran_after : {T : Type 0} {some : ℕ → Type 0} {a b c : World} (r : Result T OpErr) (x y : List Access) → Went x some a b → Ran y some r b c → Ran (x ++ y) some r a c
+ran_after (Ok v) x y went ran = record { ok = went_join _ _ _ _ x y went ran.ok; err = tt }
+ran_after (Err e) x y went ran = record { ok = tt; err = pass_after _ _ _ _ e x y went ran.err }
+
+pub ran_lasts : {T : Type 0} {some : ℕ → Type 0} {a b : World} {x : List Access} (r : Result T OpErr) → Ran x some r a b → Lasts some a b
+ran_lasts (Ok v) ran = ran.ok.lasts
+ran_lasts (Err e) ran = ran.err.lasts
+
+-- what a region takes
+pub seals_any : {pack region : ℕ} {columns : Columns} {a b : World} → ((good : ℕ → List ℕ → Bool) → Seals good a b) → SealsTable pack columns region a b
+seals_any all = record { seals = λ good fine. all good }
+
+pub seals_after : {some : ℕ → Type 0} {pack region : ℕ} {columns : Columns} {a b c : World} → Lasts some a b → SealsTable pack columns region a b → SealsTable pack columns region b c → SealsTable pack columns region a c
+seals_after lasts first second = record { seals = λ good fine. seals_join good _ _ _ lasts.later (first.seals good fine) (second.seals good fine) }
+
+-- a table's region was made
+module _ (order : Order) (pack : ℕ) (made : Flat) (old mid : World) (x : List Access) (went : Went x (one made.region) old mid) (seals : (good : ℕ → List ℕ → Bool) → Seals good old mid) where
+  -- and filled
+  pub makes_ok : (new : World) → Lives made.region (table_region order pack made.schema made.capacity) mid → Lasts (one made.region) mid new → IsFlat pack made new
+      → SealsTable pack made.schema made.region mid new → Makes order pack made (Ok made) old new
+  makes_ok new lives lasts filled sealed = record {
+    value = refl;
+    lives = shape_lasts (one made.region) _ _ made.region (table_region order pack made.schema made.capacity) _ went.lasts.ready lasts lives filled.made.lives;
+    flat = filled;
+    gone = tt;
+    seals = seals_after went.lasts (seals_any seals) sealed;
+  }
+
+  -- or not, and forgotten
+  pub makes_err : (e : OpErr) (late new : World) → Lasts (one made.region) mid late → SealsTable pack made.schema made.region mid late → ((good : ℕ → List ℕ → Bool) → Seals good late new)
+      → new.vault.revs.live made.region ≡ None → Makes order pack made (Err e) old new
+  makes_err e late new lasts sealed forgot gone = record {
+    value = tt;
+    lives = tt;
+    flat = tt;
+    gone = gone;
+    seals = seals_after went.lasts (seals_any seals) (seals_after lasts sealed (seals_any forgot));
+  }
+
+  pub cut_forgot : {T : Type 0} (e : OpErr) (y : List Access) (late new : World) → Ran {T = T} y (one made.region) (Err e) mid late → Went [] (one made.region) late new → new.store ≡ late.store
+      → PassCut e (x ++ y) (one made.region) old new
+  cut_forgot {T} e y late new ran forgot same = pass_then (one made.region) e _ old late new (ran_after {T = T} (Err e) x y went ran).err forgot same

@@ -1,0 +1,66 @@
+-- The words of the passes' contracts.
+use Rattle.std.specs.Prelude.{◌≡◌, ◌<◌, ◌≤◌, ◌*◌, ℕ, Bool, List, None, Result, Err, OnOk, OnErr, IfOk, IfErr, length}
+use Rattle.ob_base.specs.declared.access.Access.{Access}
+use Rattle.ob_base.specs.Numbers.{blocks_for}
+use Rattle.ob_base.specs.Schemas.{Columns, width}
+use Rattle.ob_store.specs.Runs.{Began}
+use Rattle.ob_vault.specs.declared.region.Order.{Order}
+use Rattle.ob_vault.specs.State.{World}
+use Rattle.ob_vault.specs.Tied.{Lives}
+use Rattle.ob_vault.specs.Calls.{Went, Seals}
+use Rattle.ob_vault.specs.Places.{RowsFit}
+use Rattle.ob_flat.specs.declared.flat.Flat.{Flat}
+use Rattle.ob_flat.specs.declared.fault.OpErr.{OpErr}
+use Rattle.ob_flat.specs.declared.fault.OpErr.TheVariants.{Tampered, NoMemory}
+use Rattle.ob_flat.specs.Flats.{IsSized, IsFlat, Accepts, table_region}
+use Rattle.ob_flat.specs.Passes.{PassCut}
+
+-- on `Ok` all of the script was asked, and on an error a first part of it
+pub record Ran {T : Type 0} (script : List Access) (some : ℕ → Type 0)
+    (result : Result T OpErr) (old new : World) : Type 0 where
+  pub ok : OnOk result (Went script some old new)
+  pub err : IfErr result (λ e. PassCut e script some old new)
+
+-- a block of the region is not what was written there, or has a malformed row
+pub record TamperedIn (region blocks : ℕ) (e : OpErr) : Type 0 where
+  pub place : ℕ
+  pub below : place < blocks
+  pub is : e ≡ Tampered region place
+
+-- how many blocks a table has
+abbrev pub blocks_of : ℕ → Flat → ℕ
+blocks_of pack flat = blocks_for pack flat.capacity
+
+-- the same table in another region
+abbrev pub moved : Flat → ℕ → Flat
+moved flat region = record flat { region = region }
+
+-- a table that a pass may go through
+pub record IsTable (pack : ℕ) (flat : Flat) (w : World) : Type 0 where
+  pub some : 1 ≤ pack
+  pub most : pack ≤ 16
+  pub size : IsSized flat.schema flat.capacity
+  pub written : IsFlat pack flat w
+
+-- rows that are as wide as a block's of this schema
+abbrev pub FitBlock : Columns → List (List ℕ) → Type 0
+FitBlock columns rows = RowsFit rows (length rows * width columns)
+
+-- the same if blocks of such rows are good for this region
+pub record SealsTable (pack : ℕ) (columns : Columns) (region : ℕ) (old new : World) : Type 0 where
+  pub seals : (good : ℕ → List ℕ → Bool) → Accepts good pack columns region → Seals good old new
+
+-- on `Ok` a table was made, each of whose places was written, and on an error its region is gone
+pub record Makes (order : Order) (pack : ℕ) (made : Flat)
+    (result : Result Flat OpErr) (old new : World) : Type 0 where
+  pub value : IfOk result (λ fresh. fresh ≡ made)
+  pub lives : OnOk result
+      (Lives made.region (table_region order pack made.schema made.capacity) new)
+  pub flat : IfOk result (λ fresh. IsFlat pack fresh new)
+  pub gone : OnErr result (new.vault.revs.live made.region ≡ None)
+  pub seals : SealsTable pack made.schema made.region old new
+
+-- want of memory comes in this part of the script
+pub record NoMemoryIn {T : Type 0} (script : List Access)
+    (result : Result T OpErr) (old new : World) : Type 0 where
+  pub began : result ≡ Err NoMemory → Began script old.store new.store

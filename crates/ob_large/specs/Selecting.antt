@@ -1,0 +1,76 @@
+-- What the two passes of a Large selection do, and both together.
+use Rattle.std.specs.Prelude.{◌≡◌, ◌*◌, ◌++◌, ◌⊎◌, ℕ, Bool, List, Result, OnOk, IfErr, MatchResult}
+use Rattle.ob_base.specs.declared.access.Access.{Access}
+use Rattle.ob_base.specs.Accesses.{make_at}
+use Rattle.ob_base.specs.Schemas.{width}
+use Rattle.ob_script.specs.Parts.{copy_part, large_part}
+use Rattle.ob_row.specs.Rows.{Row}
+use Rattle.ob_row.specs.Slots.{Slots}
+use Rattle.ob_row.specs.Results.{large_slots}
+use Rattle.ob_vault.specs.declared.region.Order.TheVariants.{Round}
+use Rattle.ob_vault.specs.State.{World}
+use Rattle.ob_vault.specs.Calls.{one}
+use Rattle.ob_flat.specs.declared.flat.Flat.{Flat}
+use Rattle.ob_flat.specs.declared.fault.OpErr.{OpErr}
+use Rattle.ob_flat.specs.declared.fault.OpErr.TheVariants.{Failed, NoMemory}
+use Rattle.ob_flat.specs.Flats.{IsMade, IsFlat, Represents}
+use Rattle.ob_vault.specs.Words.{IsHonest}
+use Rattle.ob_flat.specs.Words.{Ran, TamperedIn, SealsTable, Makes, NoMemoryIn, blocks_of, moved}
+
+-- what is asked to copy a table, and then to go through the copy
+abbrev pub fill_script : ℕ → Flat → ℕ → List Access
+fill_script pack flat to =
+    copy_part flat.region to (blocks_of pack flat) ++ copy_part to to (blocks_of pack flat)
+
+-- to make its region before
+abbrev pub make_script : ℕ → Flat → ℕ → List Access
+make_script pack flat to = make_at to (blocks_of pack flat) (pack * width flat.schema)
+
+-- and all of it
+abbrev pub large_script : ℕ → Flat → ℕ → List Access
+large_script pack flat to =
+    large_part flat.region to (blocks_of pack flat) (pack * width flat.schema)
+
+-- each slot of a table whose row isn't selected was emptied, in place
+pub record Empties {T : Type 0} (pack : ℕ) (flat : Flat) (p : Row → Bool)
+    (result : Result T OpErr) (old new : World) : Type 0 where
+  pub ran : Ran (copy_part flat.region flat.region (blocks_of pack flat)) (one flat.region)
+      result old new
+  pub never : IfErr result (λ e. (e ≡ Failed) ⊎ TamperedIn flat.region (blocks_of pack flat) e)
+  pub seals : SealsTable pack flat.schema flat.region old new
+  pub table : OnOk result (IsFlat pack flat new)
+  pub told : IsHonest old new → (slots : Slots) → Represents pack flat slots old
+      → MatchResult result (λ _. Represents pack flat (large_slots p slots) new) (λ e. e ≡ Failed)
+
+-- a new table is the same as another, but for its region, which has no blocks yet
+pub record IsNew (pack : ℕ) (flat to : Flat) (w : World) : Type 0 where
+  pub same : to ≡ moved flat to.region
+  pub made : IsMade pack to w
+  pub apart : flat.region ≡ to.region → ⊥
+
+-- the selected rows of a table were copied to a new region, each to its slot
+pub record Fills {T : Type 0} (pack : ℕ) (flat : Flat) (to : ℕ) (p : Row → Bool)
+    (result : Result T OpErr) (old new : World) : Type 0 where
+  pub ran : Ran (fill_script pack flat to) (one to) result old new
+  pub never : IfErr result (λ e. (e ≡ Failed)
+      ⊎ TamperedIn flat.region (blocks_of pack flat) e ⊎ TamperedIn to (blocks_of pack flat) e)
+  pub seals : SealsTable pack flat.schema to old new
+  pub table : OnOk result (IsFlat pack (moved flat to) new)
+  pub told : IsHonest old new → (slots : Slots) → Represents pack flat slots old
+      → MatchResult result
+      (λ _. Represents pack (moved flat to) (large_slots p slots) new) (λ e. e ≡ Failed)
+
+-- and that region was made before
+pub record Selects (pack : ℕ) (flat : Flat) (p : Row → Bool)
+    (result : Result Flat OpErr) (old new : World) : Type 0 where
+  pub ran : Ran (large_script pack flat old.vault.next) (one old.vault.next) result old new
+  pub never : IfErr result (λ e. (e ≡ Failed) ⊎ (e ≡ NoMemory)
+      ⊎ TamperedIn flat.region (blocks_of pack flat) e
+      ⊎ TamperedIn old.vault.next (blocks_of pack flat) e)
+  pub memory : NoMemoryIn (make_script pack flat old.vault.next) result old new
+  pub makes : Makes Round pack (moved flat old.vault.next) result old new
+  pub source : IsFlat pack flat new
+  pub told : IsHonest old new → (slots : Slots) → Represents pack flat slots old
+      → MatchResult result
+      (λ fresh. Represents pack fresh (large_slots p slots) new)
+      (λ e. (e ≡ Failed) ⊎ (e ≡ NoMemory))

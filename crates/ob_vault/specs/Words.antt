@@ -1,0 +1,26 @@
+-- The words of contracts over a vault and its store.
+use Rattle.std.specs.Prelude.{◌≡◌, ◌<◌, ◌≤◌, ◌+◌, ◌^◌, ℕ, Bool, IsTrue, List, None, length}
+use Rattle.ob_vault.specs.State.{World}
+use Rattle.ob_vault.specs.Tied.{Ready}
+use Rattle.ob_vault.specs.Calls.{Seals}
+
+-- a vault that belongs to its store, which may be asked n more times
+pub record MayAsk (n : ℕ) (w : World) : Type 0 where
+  pub ready : Ready w
+  pub spare : n ≤ w.store.spare
+  pub few : length w.store.asked + n < 2 ^ 63 + 2 ^ 60
+
+-- the same before a whole operation
+pub record MayStart (n : ℕ) (w : World) : Type 0 where
+  pub ready : Ready w
+  pub spare : n ≤ w.store.spare
+  pub few : length w.store.asked < 2 ^ 63 + 2 ^ 59
+
+-- the store says what was written to it, and no block that was read is another
+pub record IsHonest (old new : World) : Type 0 where
+  pub tells : IsTrue old.store.tells
+  pub nolie : new.store.lie ≡ None
+
+-- where all was sealed and good, it is
+pub record SealsAll (old new : World) : Type 0 where
+  pub seals : (good : ℕ → List ℕ → Bool) → Seals good old new
