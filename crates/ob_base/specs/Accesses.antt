@@ -17,12 +17,6 @@ make_at region blocks width = Make region blocks (width + 32) ∷ []
 abbrev pub discard_at : ℕ → List Access
 discard_at region = Discard region ∷ []
 
-abbrev pub is_make : Access → Bool
-is_make (Make region blocks len) = true
-is_make (Read region place) = false
-is_make (Write region place) = false
-is_make (Discard region) = false
-
 abbrev pub region_of : Access → ℕ
 region_of (Make region blocks len) = region
 region_of (Read region place) = region

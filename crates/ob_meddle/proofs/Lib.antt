@@ -1,4 +1,3 @@
-mod Ranges
 mod ActLemmas
 pub mod DueLemmas
 mod StoreLemmas

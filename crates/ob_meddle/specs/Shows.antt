@@ -5,6 +5,7 @@ use Rattle.ob_store.specs.Calls.{IsQuiet}
 use Rattle.ob_meddle.specs.declared.meddle.Meddle.{Meddle}
 use Rattle.ob_meddle.specs.declared.store.MeddledStore.{MeddledStore}
 use Rattle.ob_store.specs.Logs.{asked_of}
+use Rattle.ob_store.specs.Gave.{gave_of}
 use Rattle.ob_meddle.specs.Acts.{Rests, Stands, rests_of, stands_of, after_acts}
 use Rattle.ob_meddle.specs.Regions.{shape_at, last_at}
 use Rattle.ob_meddle.specs.Caught.{lie_of}
@@ -24,6 +25,7 @@ state_of m = record {
   tells = true;
   last = λ q x. last_at (rests_of m.regions q) x;
   lie = lie_of m.caught (asked_of m.log);
+  gave = gave_of (stands_of m.regions) (asked_of m.log);
   disturbed = disturbances m.list;
 }
 

@@ -1,4 +1,5 @@
 //! Laws of a store that others change.
+ghost use Rattle.std.specs.Prelude.{◌≡◌, true};
 ghost use Rattle.ob_meddle.specs.Shows.{list_of, Shows};
 
 use crate::store::MeddledStore;
@@ -7,4 +8,9 @@ use ob_store::BlockStore;
 /// When its changes show: in its counts of failed calls, and in its lie.
 pub fn changes_show()
     ensures { (m : MeddledStore) → Shows (list_of m) (⟦<MeddledStore as BlockStore>⟧.state m) }
+{}
+
+/// It tells what was written to it, and the first read that gave something else.
+pub fn meddled_tells()
+    ensures { (m : MeddledStore) → (⟦<MeddledStore as BlockStore>⟧.state m).tells ≡ true }
 {}

@@ -13,6 +13,6 @@ mod regions;
 mod store;
 
 pub use changes::{ChangesErr, parse_changes};
-pub use laws::changes_show;
+pub use laws::{changes_show, meddled_tells};
 pub use meddle::{Act, Meddle, Spot};
 pub use store::MeddledStore;

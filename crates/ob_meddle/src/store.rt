@@ -159,6 +159,7 @@ impl BlockStore for MeddledStore {
         ensures slips { (state_of self.new).slips ≡ (state_of self.old).slips }
         ensures keeps { Keeps (state_of self.old) (state_of self.new) }
         ensures ok { OnOk result (ReadGives region place buf.new (state_of self.old) (state_of self.new)) }
+        ensures gave { OnOk result ((state_of self.new).gave ≡ buf.new) }
         ensures err { OnErr result ((state_of self.new).lie ≡ (state_of self.old).lie) }
         ensures list { list_of self.new ≡ list_of self.old }
         ensures fails { is_err result ≡ fails_next self.old }

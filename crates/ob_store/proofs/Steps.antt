@@ -1,16 +1,12 @@
 -- How a run goes on by a call, and how runs are joined.
-use Rattle.std.proofs.Common.{◌≡◌, ◌≢◌, ◌⊎◌, inl, inr, ℕ, zero, suc, ◌+◌, ◌*◌, ◌<◌, ◌≤◌, List, [], ◌∷◌, ◌++◌, ◌-◌, take, length, Option, Some, None, Result, Ok, Err, OnErr, refl, sym, ◌∙◌, ap, subst, arith, append_assoc, length-append}
+use Rattle.std.proofs.Common.{◌≡◌, ◌≢◌, ◌⊎◌, inl, inr, ℕ, zero, suc, ◌*◌, ◌<◌, ◌≤◌, List, [], ◌∷◌, ◌++◌, ◌-◌, take, length, Option, Some, None, refl, sym, ◌∙◌, ap, subst, arith, append_assoc, length-append}
 use Rattle.std.proofs.lemmas.List.{append-nil, take_at}
 use Rattle.std.proofs.lemmas.Bool.{cases_eq}
 use Rattle.ob_base.specs.declared.access.Access.{Access}
-use Rattle.ob_base.specs.declared.fault.Failed.{Failed}
-use Rattle.ob_base.specs.declared.fault.StoreErr.{StoreErr}
-use Rattle.ob_base.specs.declared.fault.StoreErr.TheVariants as StoreErrs
 use Rattle.ob_store.specs.State.{Lie, Disturbance, StoreState}
-use Rattle.ob_base.specs.Counts.{Rises}
-use Rattle.ob_store.specs.Calls.{IsPlace, IsRegion, CountsMakeFault, Asks, Keeps, OnlyAt, OnlyRegion, ReadGives, Rests, IsBefore}
+use Rattle.ob_store.specs.Calls.{Asks, ReadGives, Rests, IsBefore}
 use Rattle.ob_base.specs.Lists.{each}
-use Rattle.ob_store.specs.Runs.{Did, Began, Later, FailsWithin, SameRegions}
+use Rattle.ob_store.specs.Runs.{Did, Began, Later}
 
 pub later_refl : (s : StoreState) → Later s s
 later_refl s = record { faults = omega arith; tells = refl; lie = λ lie is. is; disturbed = refl; steady = λ steady. steady }
@@ -56,11 +52,6 @@ none_before old new later none = none_of old.lie later.lie
     none_of None stays = refl
     none_of (Some lie) stays = absurd (cc (stays lie refl, none))
 
--- at an `Err`, and where the call may be `Err`
-pub on_err : {T E P : Type 0} (r : Result T E) → P → OnErr r P
-on_err (Ok x) p = tt
-on_err (Err e) p = p
-
 pub did_none : (s : StoreState) → Did [] s s
 did_none s = record { asked = sym (append-nil s.asked); faults = refl }
 
@@ -86,15 +77,6 @@ began_more a b old new first = record {
   asked = first.asked;
 }
 
-pub fails_join : (a b : List Access) (old mid new : StoreState) → Did a old mid → FailsWithin b mid new → FailsWithin (a ++ b) old new
-fails_join a b old mid new first second = record {
-  began = began_join a b old mid new first second.began;
-  rises = subst (λ (n : ℕ). Rises n new.faults) first.faults second.rises;
-}
-
-pub fails_more : (a b : List Access) (old new : StoreState) → FailsWithin a old new → FailsWithin (a ++ b) old new
-fails_more a b old new first = record { began = began_more a b old new first.began; rises = first.rises }
-
 -- the first i parts and some rest
 pub record Parts (part : ℕ → List Access) (n i : ℕ) : Type 0 where
   pub rest : List Access
@@ -112,13 +94,6 @@ parts part (suc n) i below = elim (le_cases i n (omega arith)) [
   where
     le_cases : (i n : ℕ) → i ≤ n → (i < n) ⊎ (i ≡ n)
     le_cases i n le = elim (cases_eq i n) [ inl same ↦ inr same | inr other ↦ inl (omega arith) ]
-
--- a part that failed
-pub fails_each : (part : ℕ → List Access) (n i : ℕ) (old mid new : StoreState) → i < n → Did (each i part) old mid → FailsWithin (part i) mid new → FailsWithin (each n part) old new
-fails_each part n i old mid new below first second =
-    let p = parts part n i below in
-    let some : FailsWithin (each i part ++ part i ++ p.rest) old new = fails_more (each i part ++ part i) p.rest old new (fails_join (each i part) (part i) old mid new first second) in
-    subst (λ (l : List Access). FailsWithin l old new) (sym p.split) some
 
 -- one call
 pub did_call : (access : Access) (old new : StoreState) → Asks access old new → new.faults ≡ old.faults → Did (access ∷ []) old new
@@ -148,19 +123,6 @@ pub length-each : (part : ℕ → List Access) (size : ℕ) → ((i : ℕ) → l
 length-each part size sizes zero = omega arith
 length-each part size sizes (suc n) = omega (arith, length-append (each n part) (part n), sizes n, length-each part size sizes n)
 
-pub place_in : (region blocks len place other : ℕ) (s : StoreState) → IsRegion region blocks len s → place < blocks → other ≡ len → 33 ≤ len → len ≤ 16416 → IsPlace s region place other
-place_in region blocks len place other s is within same small large = record {
-  shape = record { blocks = blocks; len = len };
-  live = is.live;
-  within = within;
-  same_len = same;
-  small = omega arith;
-  large = omega arith;
-}
-
-pub same_at : (region place : ℕ) (old new : StoreState) → OnlyAt region place old new → SameRegions region old new
-same_at region place old new only = record { live = only.live; last = λ q x other. only.elsewhere q x (λ same. absurd (other same)) }
-
 pub began_call : (access : Access) (old new : StoreState) → Asks access old new → Began (access ∷ []) old new
 began_call access old new asks = record { done = access ∷ []; rest = []; split = refl; asked = asks.asked }
 
@@ -170,10 +132,3 @@ began_take script old new began =
     let size : length new.asked - length old.asked ≡ length began.done = omega (arith, ap length began.asked, length-append old.asked began.done) in
     let front : take (length began.done) script ≡ began.done = ap (λ (l : List Access). take (length began.done) l) (sym began.split) ∙ take_at began.done began.rest (length began.done) refl in
     began.asked ∙ ap (λ (l : List Access). old.asked ++ l) (sym front) ∙ ap (λ (n : ℕ). old.asked ++ take n script) (sym size)
-
--- at an `Err`: within a part, in the first of two scripts, in the second
-pub cut_each : {T : Type 0} (part : ℕ → List Access) (n i : ℕ) (old mid new : StoreState) (r : Result T Failed) → Did (each i part) old mid → FailsWithin (part i) mid new → i < n → OnErr r (FailsWithin (each n part) old new)
-cut_each part n i old mid new r first second below = on_err r (fails_each part n i old mid new below first second)
-
-pub cut_first : {T : Type 0} (a b : List Access) (old new : StoreState) (r : Result T Failed) → FailsWithin a old new → OnErr r (FailsWithin (a ++ b) old new)
-cut_first a b old new r first = on_err r (fails_more a b old new first)

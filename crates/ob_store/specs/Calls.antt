@@ -111,5 +111,6 @@ pub record Rests (old new : StoreState) : Type 0 where
   pub slips : new.slips ≡ old.slips
   pub tells : new.tells ≡ old.tells
   pub lie : new.lie ≡ old.lie
+  pub gave : new.gave ≡ old.gave
   pub disturbed : new.disturbed ≡ old.disturbed
   pub keeps : Keeps old new

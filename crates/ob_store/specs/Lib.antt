@@ -1,5 +1,6 @@
 pub mod State
 pub mod Calls
+pub mod Gave
 pub mod Runs
 pub mod Memory
 pub mod Fresh

@@ -1,9 +1,8 @@
 -- What a run of calls on a store asks, and what lasts over it.
-use Rattle.std.specs.Prelude.{◌≡◌, ◌≢◌, ◌≤◌, ℕ, List, ◌++◌, Some}
+use Rattle.std.specs.Prelude.{◌≡◌, ◌≤◌, List, ◌++◌, Some}
 use Rattle.ob_base.specs.declared.access.Access.{Access}
 use Rattle.ob_store.specs.State.{Lie, StoreState}
 use Rattle.ob_store.specs.Calls.{IsSteady}
-use Rattle.ob_base.specs.Counts.{Rises}
 
 -- all of the script was asked, and no call failed
 pub record Did (script : List Access) (old new : StoreState) : Type 0 where
@@ -24,13 +23,3 @@ pub record Later (old new : StoreState) : Type 0 where
   pub lie : (lie : Lie) → old.lie ≡ Some lie → new.lie ≡ Some lie
   pub disturbed : new.disturbed ≡ old.disturbed
   pub steady : IsSteady old → IsSteady new
-
--- it failed within the script, where the store failed
-pub record FailsWithin (script : List Access) (old new : StoreState) : Type 0 where
-  pub began : Began script old new
-  pub rises : Rises old.faults new.faults
-
--- no region came or went, and only in this one may blocks have changed
-pub record SameRegions (region : ℕ) (old new : StoreState) : Type 0 where
-  pub live : (q : ℕ) → new.live q ≡ old.live q
-  pub last : (q x : ℕ) → q ≢ region → new.last q x ≡ old.last q x

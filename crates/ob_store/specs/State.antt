@@ -37,5 +37,7 @@ pub record StoreState : Type 0 where
   -- the block last written at a region's place
   pub last : ℕ → ℕ → Option (List ℕ)
   pub lie : Option Lie
+  -- the bytes that the last read gave, where the last access is a read that went well
+  pub gave : List ℕ
   -- all that others do, where the store says so
   pub disturbed : Option (List Disturbance)

@@ -186,10 +186,14 @@ fn lengthen(cycles: &mut Vec<Access>, starts: &mut Vec<Start>, count: u64, acces
     requires cycles { vec_len cycles.old < vec_capacity cycles.old }
     requires starts { vec_len starts.old < vec_capacity starts.old }
     ensures log { IsLog cycles.new.items starts.new.items (count + 1) }
-    ensures runs { runs_of cycles.new.items starts.new.items (length starts.new.items) (length cycles.new.items) (count + 1)
-        ≡ added access (runs_of cycles.old.items starts.old.items (length starts.old.items) (length cycles.old.items) count) }
-    ensures cycles { vec_capacity cycles.old - vec_len cycles.old ≤ vec_capacity cycles.new - vec_len cycles.new + 1 }
-    ensures starts { vec_capacity starts.old - vec_len starts.old ≤ vec_capacity starts.new - vec_len starts.new + 1 }
+    ensures runs { runs_of cycles.new.items starts.new.items (length starts.new.items)
+        (length cycles.new.items) (count + 1)
+        ≡ added access (runs_of cycles.old.items starts.old.items (length starts.old.items)
+        (length cycles.old.items) count) }
+    ensures cycles { vec_capacity cycles.old - vec_len cycles.old
+        ≤ vec_capacity cycles.new - vec_len cycles.new + 1 }
+    ensures starts { vec_capacity starts.old - vec_len starts.old
+        ≤ vec_capacity starts.new - vec_len starts.new + 1 }
 {
     let place = place_of(access);
     prove!(place <= u32::MAX);
@@ -218,7 +222,8 @@ fn place_of(access: Access) -> u32
 // How many of the last runs are one run together with an access.
 fn joined(cycles: &[Access], starts: &[Start], count: u64, access: Access) -> usize
     requires { IsLog cycles.now starts.now count }
-    ensures { result ≡ joins access (runs_of cycles.now starts.now (length starts.now) (length cycles.now) count) }
+    ensures { result
+        ≡ joins access (runs_of cycles.now starts.now (length starts.now) (length cycles.now) count) }
 {
     if starts.is_empty() {
         return 0;
@@ -241,7 +246,8 @@ fn joined(cycles: &[Access], starts: &[Start], count: u64, access: Access) -> us
 fn comes_round(size: usize, cycles: &[Access], starts: &[Start], count: u64, access: Access) -> bool
     requires some { 0 < size }
     requires log { IsLog cycles.now starts.now count }
-    ensures { result ≡ comes_round size access (runs_of cycles.now starts.now (length starts.now) (length cycles.now) count) }
+    ensures { result ≡ comes_round size access
+        (runs_of cycles.now starts.now (length starts.now) (length cycles.now) count) }
 {
     if starts.len() < size {
         return false;

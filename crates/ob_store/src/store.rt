@@ -10,10 +10,11 @@ use ob_base::{Access, Failed, NoMemory, StoreErr};
 ///
 /// Each `make`, `read`, `write` and `discard` is one access, which the store lists whatever it answers;
 /// `room` is none. A store that tells says what was last written at each place, and which read was the
-/// first that gave other bytes (the lie). `disturbed` is what others do between its accesses, where it says
-/// so: before the first such access no call fails and no read lies. `faults` counts the calls of `make`, `read` and `write` that
-/// failed, and `slips` those of `discard`; a count that stands at the last value of a `u64` counts as
-/// risen. Only `room` and `make` take memory.
+/// first that gave other bytes (the lie). `gave` is what the last read gave, of any store. `disturbed` is
+/// what others do between its accesses, where it says so: before the first such access no call fails and
+/// no read lies. `faults` counts the calls of `make`, `read` and `write` that failed, and `slips` those of
+/// `discard`; a count that stands at the last value of a `u64` counts as risen. Only `room` and `make` take
+/// memory.
 pub trait BlockStore {
     ghost state: { Self → StoreState };
 
@@ -50,7 +51,9 @@ pub trait BlockStore {
         ensures cause { CountsFault result (state self.old) (state self.new) }
         ensures slips { (state self.new).slips ≡ (state self.old).slips }
         ensures keeps { Keeps (state self.old) (state self.new) }
-        ensures ok { OnOk result (ReadGives region place buf.new (state self.old) (state self.new)) }
+        ensures ok { OnOk result
+            (ReadGives region place buf.new (state self.old) (state self.new)) }
+        ensures gave { OnOk result ((state self.new).gave ≡ buf.new) }
         ensures err { OnErr result ((state self.new).lie ≡ (state self.old).lie) };
 
     /// Writes a block at a place of a live region.
@@ -64,7 +67,8 @@ pub trait BlockStore {
         ensures slips { (state self.new).slips ≡ (state self.old).slips }
         ensures only { OnlyAt region place (state self.old) (state self.new) }
         ensures ok { OnOk result (Holds region place block.now (state self.old) (state self.new)) }
-        ensures err { OnErr result (MayHold region place block.now (state self.old) (state self.new)) }
+        ensures err { OnErr result
+            (MayHold region place block.now (state self.old) (state self.new)) }
         ensures lie { (state self.new).lie ≡ (state self.old).lie };
 
     /// Takes a live region out of the store.
@@ -78,7 +82,8 @@ pub trait BlockStore {
         ensures faults { (state self.new).faults ≡ (state self.old).faults }
         ensures others { OnlyRegion region (state self.old) (state self.new) }
         ensures ok { OnOk result ((state self.new).live region ≡ None) }
-        ensures err { OnErr result (((state self.new).live region ≡ None) ⊎ Keeps (state self.old) (state self.new)) }
+        ensures err { OnErr result
+            (((state self.new).live region ≡ None) ⊎ Keeps (state self.old) (state self.new)) }
         ensures lie { (state self.new).lie ≡ (state self.old).lie };
 
     /// How many accesses were asked so far.
@@ -91,7 +96,8 @@ pub trait BlockStore {
         ensures { slice_get (state self.now).asked i ≡ Some result };
 
     /// Before the first access no region is live.
-    ghost starts_empty: { (store : Self) (region : ℕ) → (state store).asked ≡ [] → (state store).live region ≡ None };
+    ghost starts_empty: { (store : Self) (region : ℕ) → (state store).asked ≡ []
+        → (state store).live region ≡ None };
 
     /// Nor was there a lie.
     ghost starts_honest: { (store : Self) → (state store).asked ≡ [] → (state store).lie ≡ None };

@@ -1,7 +1,7 @@
 use Rattle.std.proofs.Common.{◌∙◌, ◌*◌, ap, take, drop, arith}
 use Rattle.std.specs.Prelude.{List, ℕ}
 use Rattle.std.proofs.lemmas.List.{drop-replicate, take-replicate}
-use Rattle.ob_meddle.proofs.Ranges.{rows_apart}
+use Rattle.ob_store.proofs.Ranges.{rows_apart}
 use Rattle.ob_meddle.proofs.blocks.Blocks.new.Goals as goal
 
 pub returns-clause-zeros : goal.returns-clause-zeros

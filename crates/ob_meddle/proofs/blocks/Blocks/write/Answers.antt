@@ -1,5 +1,5 @@
 use Rattle.std.proofs.Common.{◌≡◌, ◌+◌, ◌*◌, ◌-◌, ◌≤◌, length, ap, arith}
-use Rattle.ob_meddle.proofs.Ranges.{block_other, rows_apart}
+use Rattle.ob_store.proofs.Ranges.{block_other, rows_apart}
 use Rattle.ob_meddle.proofs.blocks.Blocks.write.Goals as goal
 
 pub returns-clause-others : goal.returns-clause-others
