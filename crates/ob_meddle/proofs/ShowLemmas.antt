@@ -95,16 +95,16 @@ lie_stays (Some c) old more a e early =
     ap (λ (before : List Access). Some (record { region = c.region; place = c.place; bytes = take c.len c.bytes; before = before })) (ap (λ (l : List Access). take c.count l) e ∙ take-append-le c.count old (a ∷ []) (omega (arith, less)))
 
 -- the state of a store but for its regions, and for the read that was caught
-abbrev shown : MeddledStore → Option Caught → (ℕ → Option Shape) → (ℕ → ℕ → Option (List ℕ)) → StoreState
-shown m caught live last = record (state_of m) { live = live; last = last; lie = lie_of caught (asked_of m.log) }
+abbrev shown : MeddledStore → Option Caught → (ℕ → Option Shape) → (ℕ → ℕ → Option (List ℕ)) → List ℕ → StoreState
+shown m caught live last gave = record (state_of m) { live = live; last = last; lie = lie_of caught (asked_of m.log); gave = gave }
 
 abbrev Caused : MeddledStore → Option Caught → Type 0
 Caused m caught = ForSome caught (λ c. has_acted m.list (length (asked_of m.log)) ≡ true)
 
 -- one access more was asked, and perhaps it failed
-module _ (a : Access) (old new : MeddledStore) (faults slips : ℕ) (live : ℕ → Option Shape) (last : ℕ → ℕ → Option (List ℕ)) (asked : asked_of new.log ≡ asked_of old.log ++ a ∷ []) (spare : old.log.spare ≤ new.log.spare + 1)
+module _ (a : Access) (old new : MeddledStore) (faults slips : ℕ) (live : ℕ → Option Shape) (last : ℕ → ℕ → Option (List ℕ)) (gave : List ℕ) (asked : asked_of new.log ≡ asked_of old.log ++ a ∷ []) (spare : old.log.spare ≤ new.log.spare + 1)
     (list : new.list ≡ old.list) (failed : new.faults ≡ old.faults + faults) (slipped : new.slips ≡ old.slips + slips) where
-  asks_of : (caught : Option Caught) → ((lie : Lie) → (state_of old).lie ≡ Some lie → lie_of caught (asked_of new.log) ≡ Some lie) → Caused new caught → Asks a (state_of old) (shown new caught live last)
+  asks_of : (caught : Option Caught) → ((lie : Lie) → (state_of old).lie ≡ Some lie → lie_of caught (asked_of new.log) ≡ Some lie) → Caused new caught → Asks a (state_of old) (shown new caught live last gave)
   asks_of caught stays caused = record {
     asked = asked;
     spare = spare;
@@ -113,13 +113,13 @@ module _ (a : Access) (old new : MeddledStore) (faults slips : ℕ) (live : ℕ 
     tells = refl;
     lie = stays;
     disturbed = ap disturbances list;
-    steady = steady_as (shown new caught live last) new.list caught refl new.counted refl caused;
+    steady = steady_as (shown new caught live last gave) new.list caught refl new.counted refl caused;
   }
 
   -- no read was caught
-  pub asks_same : new.caught ≡ old.caught → Asks a (state_of old) (shown new new.caught live last)
+  pub asks_same : new.caught ≡ old.caught → Asks a (state_of old) (shown new new.caught live last gave)
   asks_same same = asks_of new.caught (λ lie is. ap (λ (c : Option Caught). lie_of c (asked_of new.log)) same ∙ lie_stays old.caught (asked_of old.log) (asked_of new.log) a asked old.early ∙ is) new.caused
 
   -- it is the first that was caught
-  pub asks_caught : (caught : Option Caught) → old.caught ≡ None → Caused new caught → Asks a (state_of old) (shown new caught live last)
+  pub asks_caught : (caught : Option Caught) → old.caught ≡ None → Caused new caught → Asks a (state_of old) (shown new caught live last gave)
   asks_caught caught none caused = asks_of caught (λ lie is. absurd (cc (is, ap (λ (c : Option Caught). lie_of c (asked_of old.log)) none))) caused
