@@ -1,41 +1,31 @@
 -- Numbers after one more access.
-use Rattle.std.proofs.Common.{◌≡◌, ◌≢◌, inl, inr, ◌==◌, ◌&&◌, ℕ, ◌+◌, ◌-◌, ◌<◌, ◌≤◌, Bool, true, false, Some, None, length, List, [], ◌∷◌, ◌++◌, if◌then◌else◌, refl, ◌∙◌, ap, arith}
+use Rattle.std.proofs.Common.{◌≡◌, ◌≢◌, ◌⊎◌, inl, inr, zero, suc, take, slice_get, sym, ◌==◌, ◌&&◌, ℕ, ◌+◌, ◌-◌, ◌<◌, ◌≤◌, Bool, true, false, Some, None, length, List, [], ◌∷◌, ◌++◌, if◌then◌else◌, refl, ◌∙◌, ap, arith}
 use Rattle.std.proofs.lemmas.Bool.{cases_eq}
 use Rattle.std.proofs.lemmas.Bool.Decides.{nat_tests}
 use Rattle.ob_base.specs.declared.access.Access.{Access}
 use Rattle.ob_base.specs.declared.access.Access.TheVariants.{Make, Read, Write, Discard}
-use Rattle.ob_base.specs.Accesses.{highest, AllBelow, region_of, writes, makes, number_from, number_of, nth_write}
+use Rattle.ob_base.specs.Accesses.{highest, AllBelow, region_of, writes, makes, number_from, nth_write}
 
-from_read : (n found region place q x : ℕ) (asked : List Access) → number_from n found region place (asked ++ Read q x ∷ []) ≡ number_from n found region place asked
+-- a read leaves the numbers
+pub number_read : (n found region place q x : ℕ) (asked : List Access) → number_from n found region place (asked ++ Read q x ∷ []) ≡ number_from n found region place asked
 unfolding number_from
-from_read n found region place q x [] = refl
-from_read n found region place q x (Make a b c ∷ rest) = from_read n found region place q x rest
-from_read n found region place q x (Read a b ∷ rest) = from_read n found region place q x rest
-from_read n found region place q x (Write a b ∷ rest) = from_read (n + 1) (if (a == region) && (b == place) then n + 1 else found) region place q x rest
-from_read n found region place q x (Discard a ∷ rest) = from_read n found region place q x rest
-
--- a read leaves them
-pub number_read : (region place q x : ℕ) (asked : List Access) → number_of (asked ++ Read q x ∷ []) region place ≡ number_of asked region place
-unfolding number_of
-number_read region place q x asked = from_read 0 0 region place q x asked
-
-from_write : (n found region place q x : ℕ) (asked : List Access) → number_from n found region place (asked ++ Write q x ∷ []) ≡ (if (q == region) && (x == place) then n + writes asked + 1 else number_from n found region place asked)
-unfolding number_from writes
-from_write n found region place q x [] = ap (λ (k : ℕ). if (q == region) && (x == place) then k + 1 else found) (omega arith)
-from_write n found region place q x (Make a b c ∷ rest) = from_write n found region place q x rest
-from_write n found region place q x (Read a b ∷ rest) = from_write n found region place q x rest
-from_write n found region place q x (Write a b ∷ rest) =
-    let put = if (a == region) && (b == place) then n + 1 else found in
-    let sum : n + 1 + writes rest ≡ n + (1 + writes rest) = omega arith in
-    from_write (n + 1) put region place q x rest ∙ ap (λ (k : ℕ). if (q == region) && (x == place) then k + 1 else number_from (n + 1) put region place rest) sum
-from_write n found region place q x (Discard a ∷ rest) = from_write n found region place q x rest
+number_read n found region place q x [] = refl
+number_read n found region place q x (Make a b c ∷ rest) = number_read n found region place q x rest
+number_read n found region place q x (Read a b ∷ rest) = number_read n found region place q x rest
+number_read n found region place q x (Write a b ∷ rest) = number_read (n + 1) (if (a == region) && (b == place) then n + 1 else found) region place q x rest
+number_read n found region place q x (Discard a ∷ rest) = number_read n found region place q x rest
 
 -- a write gives its place the next number, and leaves the others
-pub number_write : (region place q x : ℕ) (asked : List Access) → number_of (asked ++ Write q x ∷ []) region place ≡ (if (q == region) && (x == place) then writes asked + 1 else number_of asked region place)
-unfolding number_of
-number_write region place q x asked =
-    let none : 0 + writes asked ≡ writes asked = omega arith in
-    from_write 0 0 region place q x asked ∙ ap (λ (k : ℕ). if (q == region) && (x == place) then k + 1 else number_of asked region place) none
+pub number_write : (n found region place q x : ℕ) (asked : List Access) → number_from n found region place (asked ++ Write q x ∷ []) ≡ (if (q == region) && (x == place) then n + writes asked + 1 else number_from n found region place asked)
+unfolding number_from writes
+number_write n found region place q x [] = ap (λ (k : ℕ). if (q == region) && (x == place) then k + 1 else found) (omega arith)
+number_write n found region place q x (Make a b c ∷ rest) = number_write n found region place q x rest
+number_write n found region place q x (Read a b ∷ rest) = number_write n found region place q x rest
+number_write n found region place q x (Write a b ∷ rest) =
+    let put = if (a == region) && (b == place) then n + 1 else found in
+    let sum : n + 1 + writes rest ≡ n + (1 + writes rest) = omega arith in
+    number_write (n + 1) put region place q x rest ∙ ap (λ (k : ℕ). if (q == region) && (x == place) then k + 1 else number_from (n + 1) put region place rest) sum
+number_write n found region place q x (Discard a ∷ rest) = number_write n found region place q x rest
 
 pub writes_read : (q x : ℕ) (asked : List Access) → writes (asked ++ Read q x ∷ []) ≡ writes asked
 unfolding writes
@@ -53,11 +43,11 @@ writes_write q x (Read a b ∷ rest) = writes_write q x rest
 writes_write q x (Write a b ∷ rest) = let more : 1 + (writes rest + 1) ≡ 1 + writes rest + 1 = omega arith in ap (λ (n : ℕ). 1 + n) (writes_write q x rest) ∙ more
 writes_write q x (Discard a ∷ rest) = writes_write q x rest
 
-pub number_write_here : (region place : ℕ) (asked : List Access) → number_of (asked ++ Write region place ∷ []) region place ≡ writes asked + 1
-number_write_here region place asked = number_write region place region place asked ∙ grind (arith, nat_tests)
+pub number_write_here : (n found region place : ℕ) (asked : List Access) → number_from n found region place (asked ++ Write region place ∷ []) ≡ n + writes asked + 1
+number_write_here n found region place asked = number_write n found region place region place asked ∙ grind (arith, nat_tests)
 
-pub number_write_other : (region place q x : ℕ) (asked : List Access) → (region ≡ q → place ≡ x → ⊥) → number_of (asked ++ Write q x ∷ []) region place ≡ number_of asked region place
-number_write_other region place q x asked off = number_write region place q x asked ∙ other (writes asked + 1) (number_of asked region place)
+pub number_write_other : (n found region place q x : ℕ) (asked : List Access) → (region ≡ q → place ≡ x → ⊥) → number_from n found region place (asked ++ Write q x ∷ []) ≡ number_from n found region place asked
+number_write_other n found region place q x asked off = number_write n found region place q x asked ∙ other (n + writes asked + 1) (number_from n found region place asked)
   where
     first : (u v : ℕ) → region ≢ q → (if (q == region) && (x == place) then u else v) ≡ v
     first u v na = grind (arith, nat_tests)
@@ -71,29 +61,21 @@ number_write_other region place q x asked off = number_write region place q x as
       | inr na ↦ first u v na
     ]
 
-from_make : (n found region place q blocks len : ℕ) (asked : List Access) → number_from n found region place (asked ++ Make q blocks len ∷ []) ≡ number_from n found region place asked
+pub number_make : (n found region place q blocks len : ℕ) (asked : List Access) → number_from n found region place (asked ++ Make q blocks len ∷ []) ≡ number_from n found region place asked
 unfolding number_from
-from_make n found region place q x y [] = refl
-from_make n found region place q x y (Make a b c ∷ rest) = from_make n found region place q x y rest
-from_make n found region place q x y (Read a b ∷ rest) = from_make n found region place q x y rest
-from_make n found region place q x y (Write a b ∷ rest) = from_make (n + 1) (if (a == region) && (b == place) then n + 1 else found) region place q x y rest
-from_make n found region place q x y (Discard a ∷ rest) = from_make n found region place q x y rest
+number_make n found region place q x y [] = refl
+number_make n found region place q x y (Make a b c ∷ rest) = number_make n found region place q x y rest
+number_make n found region place q x y (Read a b ∷ rest) = number_make n found region place q x y rest
+number_make n found region place q x y (Write a b ∷ rest) = number_make (n + 1) (if (a == region) && (b == place) then n + 1 else found) region place q x y rest
+number_make n found region place q x y (Discard a ∷ rest) = number_make n found region place q x y rest
 
-pub number_make : (region place q blocks len : ℕ) (asked : List Access) → number_of (asked ++ Make q blocks len ∷ []) region place ≡ number_of asked region place
-unfolding number_of
-number_make region place q blocks len asked = from_make 0 0 region place q blocks len asked
-
-from_discard : (n found region place q : ℕ) (asked : List Access) → number_from n found region place (asked ++ Discard q ∷ []) ≡ number_from n found region place asked
+pub number_discard : (n found region place q : ℕ) (asked : List Access) → number_from n found region place (asked ++ Discard q ∷ []) ≡ number_from n found region place asked
 unfolding number_from
-from_discard n found region place q [] = refl
-from_discard n found region place q (Make a b c ∷ rest) = from_discard n found region place q rest
-from_discard n found region place q (Read a b ∷ rest) = from_discard n found region place q rest
-from_discard n found region place q (Write a b ∷ rest) = from_discard (n + 1) (if (a == region) && (b == place) then n + 1 else found) region place q rest
-from_discard n found region place q (Discard a ∷ rest) = from_discard n found region place q rest
-
-pub number_discard : (region place q : ℕ) (asked : List Access) → number_of (asked ++ Discard q ∷ []) region place ≡ number_of asked region place
-unfolding number_of
-number_discard region place q asked = from_discard 0 0 region place q asked
+number_discard n found region place q [] = refl
+number_discard n found region place q (Make a b c ∷ rest) = number_discard n found region place q rest
+number_discard n found region place q (Read a b ∷ rest) = number_discard n found region place q rest
+number_discard n found region place q (Write a b ∷ rest) = number_discard (n + 1) (if (a == region) && (b == place) then n + 1 else found) region place q rest
+number_discard n found region place q (Discard a ∷ rest) = number_discard n found region place q rest
 
 pub writes_make : (q blocks len : ℕ) (asked : List Access) → writes (asked ++ Make q blocks len ∷ []) ≡ writes asked
 unfolding writes
@@ -154,22 +136,18 @@ highest_below n (Read q x ∷ rest) one all = highest_below n rest one all.1
 highest_below n (Write q x ∷ rest) one all = highest_below n rest one all.1
 highest_below n (Discard q ∷ rest) one all = highest_below n rest one all.1
 
-from_fresh : (n found region place : ℕ) (asked : List Access) → AllBelow region asked → number_from n found region place asked ≡ found
+-- no place of a region above all was written
+pub number_fresh : (n found region place : ℕ) (asked : List Access) → AllBelow region asked → number_from n found region place asked ≡ found
 unfolding number_from
-from_fresh n found region place [] all = refl
-from_fresh n found region place (Make q blocks len ∷ rest) all = from_fresh n found region place rest all.1
-from_fresh n found region place (Read q x ∷ rest) all = from_fresh n found region place rest all.1
-from_fresh n found region place (Discard q ∷ rest) all = from_fresh n found region place rest all.1
-from_fresh n found region place (Write q x ∷ rest) all =
-    from_fresh (n + 1) (if (q == region) && (x == place) then n + 1 else found) region place rest all.1 ∙ off (n + 1) found (omega (arith, all.0))
+number_fresh n found region place [] all = refl
+number_fresh n found region place (Make q blocks len ∷ rest) all = number_fresh n found region place rest all.1
+number_fresh n found region place (Read q x ∷ rest) all = number_fresh n found region place rest all.1
+number_fresh n found region place (Discard q ∷ rest) all = number_fresh n found region place rest all.1
+number_fresh n found region place (Write q x ∷ rest) all =
+    number_fresh (n + 1) (if (q == region) && (x == place) then n + 1 else found) region place rest all.1 ∙ off (n + 1) found (omega (arith, all.0))
   where
     off : (u v : ℕ) → q ≢ region → (if (q == region) && (x == place) then u else v) ≡ v
     off u v na = grind (arith, nat_tests)
-
--- no place of a region above all has a number
-pub number_fresh : (region place : ℕ) (asked : List Access) → AllBelow region asked → number_of asked region place ≡ 0
-unfolding number_of
-number_fresh region place asked all = from_fresh 0 0 region place asked all
 
 pub writes_few : (asked : List Access) → writes asked ≤ length asked
 unfolding writes
@@ -221,3 +199,77 @@ makes-append (Make q blocks len ∷ rest) more = omega (arith, makes-append rest
 makes-append (Read q x ∷ rest) more = makes-append rest more
 makes-append (Write q x ∷ rest) more = makes-append rest more
 makes-append (Discard q ∷ rest) more = makes-append rest more
+
+-- where a place's number is from: it was found before, or it is that of a write to the place
+abbrev pub NumberFrom : ℕ → ℕ → ℕ → ℕ → ℕ → List Access → Type 0
+NumberFrom m n found region place asked = (m ≡ found) ⊎ ((n < m) × (nth_write (m - n) asked ≡ Some (region, place)))
+
+own_write : (n found region place a b : ℕ) (rest : List Access) → ((f : ℕ) → NumberFrom (number_from (n + 1) f region place rest) (n + 1) f region place rest)
+    → NumberFrom (number_from n found region place (Write a b ∷ rest)) n found region place (Write a b ∷ rest)
+unfolding number_from nth_write
+own_write n found region place a b rest behind = go ((a == region) && (b == place)) refl
+  where
+    after : (m : ℕ) → n + 1 < m → nth_write (m - (n + 1)) rest ≡ Some (region, place) → (n < m) × ((if m - n == 1 then Some (a, b) else nth_write (m - n - 1) rest) ≡ Some (region, place))
+    after m more is =
+        let not_first : (m - n == 1) ≡ false = grind (arith, nat_tests) in
+        let less : m - n - 1 ≡ m - (n + 1) = omega arith in
+        (omega arith, ap (λ (t : Bool). if t then Some (a, b) else nth_write (m - n - 1) rest) not_first ∙ ap (λ (k : ℕ). nth_write k rest) less ∙ is)
+
+    first : (m : ℕ) → m ≡ n + 1 → ((a == region) && (b == place)) ≡ true → (n < m) × ((if m - n == 1 then Some (a, b) else nth_write (m - n - 1) rest) ≡ Some (region, place))
+    first m is here =
+        let one : (m - n == 1) ≡ true = grind (arith, nat_tests) in
+        let in_region : a ≡ region = grind (arith, nat_tests) in
+        let at_place : b ≡ place = grind (arith, nat_tests) in
+        (omega arith, ap (λ (t : Bool). if t then Some (a, b) else nth_write (m - n - 1) rest) one ∙ (λ i. Some (in_region i, at_place i)))
+
+    go : (t : Bool) → ((a == region) && (b == place)) ≡ t → NumberFrom (number_from (n + 1) (if t then n + 1 else found) region place rest) n found region place (Write a b ∷ rest)
+    go true here = elim (behind (n + 1)) [ inl is ↦ inr (first _ is here) | inr more ↦ inr (after _ more.0 more.1) ]
+    go false off = elim (behind found) [ inl is ↦ inl is | inr more ↦ inr (after _ more.0 more.1) ]
+
+pub number_own : (n found region place : ℕ) (asked : List Access) → NumberFrom (number_from n found region place asked) n found region place asked
+unfolding number_from nth_write
+number_own n found region place [] = inl refl
+number_own n found region place (Make a b c ∷ rest) = number_own n found region place rest
+number_own n found region place (Read a b ∷ rest) = number_own n found region place rest
+number_own n found region place (Discard a ∷ rest) = number_own n found region place rest
+number_own n found region place (Write a b ∷ rest) = own_write n found region place a b rest (λ f. number_own (n + 1) f region place rest)
+
+-- the write at a position has the number of the writes before it and 1
+pub write_named : (asked : List Access) (i q x : ℕ) → slice_get asked i ≡ Some (Write q x) → nth_write (writes (take i asked) + 1) asked ≡ Some (q, x)
+unfolding writes nth_write
+write_named [] i q x is = absurd (cc is)
+write_named (Write a b ∷ rest) zero q x is = let r : a ≡ q = cc is in let p : b ≡ x = cc is in λ i. Some (r i, p i)
+write_named (Make a b c ∷ rest) zero q x is = absurd (cc is)
+write_named (Read a b ∷ rest) zero q x is = absurd (cc is)
+write_named (Discard a ∷ rest) zero q x is = absurd (cc is)
+write_named (Write a b ∷ rest) (suc i) q x is =
+    let n = writes (take i rest) in
+    let later : (1 + n + 1 == 1) ≡ false = grind (arith, nat_tests) in
+    let back : 1 + n + 1 - 1 ≡ n + 1 = omega arith in
+    ap (λ (t : Bool). if t then Some (a, b) else nth_write (1 + n + 1 - 1) rest) later ∙ ap (λ (k : ℕ). nth_write k rest) back ∙ write_named rest i q x is
+write_named (Make a b c ∷ rest) (suc i) q x is = write_named rest i q x is
+write_named (Read a b ∷ rest) (suc i) q x is = write_named rest i q x is
+write_named (Discard a ∷ rest) (suc i) q x is = write_named rest i q x is
+
+some_before : (a : Access) (rest : List Access) (j q x : ℕ) → a ≡ Write q x → 0 ≡ writes (take (suc j) (a ∷ rest)) → ⊥
+unfolding writes
+some_before (Write a b) rest j q x is none = omega (arith, none)
+some_before (Make a b c) rest j q x is none = cc is
+some_before (Read a b) rest j q x is none = cc is
+some_before (Discard a) rest j q x is none = cc is
+
+one_less : (a : Access) (xs ys : List Access) → writes (a ∷ xs) ≡ writes (a ∷ ys) → writes xs ≡ writes ys
+unfolding writes
+one_less (Write a b) xs ys same = omega (arith, same)
+one_less (Make a b c) xs ys same = same
+one_less (Read a b) xs ys same = same
+one_less (Discard a) xs ys same = same
+
+-- no two writes have as many before them
+pub write_apart : (asked : List Access) (i j q x r y : ℕ) → slice_get asked i ≡ Some (Write q x) → slice_get asked j ≡ Some (Write r y) → writes (take i asked) ≡ writes (take j asked) → i ≡ j
+unfolding writes
+write_apart [] i j q x r y is at same = absurd (cc is)
+write_apart (a ∷ rest) zero zero q x r y is at same = refl
+write_apart (a ∷ rest) zero (suc j) q x r y is at same = absurd (some_before a rest j q x (cc is) same)
+write_apart (a ∷ rest) (suc i) zero q x r y is at same = absurd (some_before a rest i r y (cc at) (sym same))
+write_apart (a ∷ rest) (suc i) (suc j) q x r y is at same = ap suc (write_apart rest i j q x r y is at (one_less a (take i rest) (take j rest) same))
