@@ -1,5 +1,5 @@
 -- What acts make of what stands in a store.
-use Rattle.std.specs.Prelude.{ℕ, ◌&&◌, ◌==◌, Bool, false, List, [], ◌∷◌, Option, Some, None, nat_lt, if◌then◌else◌}
+use Rattle.std.specs.Prelude.{◌≡◌, ◌≢◌, ℕ, ◌&&◌, ◌==◌, Bool, false, List, [], ◌∷◌, Option, Some, None, nat_lt, if◌then◌else◌}
 use Rattle.std.specs.Ordering.{nat_cmp}
 use Rattle.std.specs.BTreeMap.{BTreeMap, get}
 use Rattle.ob_meddle.specs.declared.meddle.Act.{Act}
@@ -15,6 +15,18 @@ Stands = ℕ → ℕ → List ℕ
 
 abbrev pub Rests : Type 0
 Rests = ℕ → Option Rest
+
+-- nothing stands otherwise but at this place
+abbrev pub OnlyStand : (region place : ℕ) → (old new : Stands) → Type 0
+OnlyStand region place old new = (q x : ℕ) → (q ≡ region → x ≡ place → ⊥) → new q x ≡ old q x
+
+-- nothing stands otherwise but in this region
+abbrev pub OtherStands : (region : ℕ) → (old new : Stands) → Type 0
+OtherStands region old new = (q x : ℕ) → q ≢ region → new q x ≡ old q x
+
+-- nor is the rest of another
+abbrev pub OtherRests : (region : ℕ) → (old new : Rests) → Type 0
+OtherRests region old new = (q : ℕ) → q ≢ region → new q ≡ old q
 
 abbrev pub rest_at : Option Region → Option Rest
 rest_at None = None

@@ -8,3 +8,4 @@ pub mod Caught
 pub mod Fresh
 pub mod Shows
 pub mod Changes
+pub mod Calls

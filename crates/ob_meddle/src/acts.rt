@@ -4,7 +4,7 @@ ghost use Rattle.std.specs.Ordering.{nat_cmp};
 ghost use Rattle.std.specs.BTreeMap.{get};
 ghost use Rattle.ob_meddle.specs.Flips.{flipped};
 ghost use Rattle.ob_meddle.specs.Held.{can_flip, has_older, can_hold};
-ghost use Rattle.ob_meddle.specs.Acts.{rests_of, stands_of, allows, before_at, can_copy, after_act, after_acts, has_place, len_at};
+ghost use Rattle.ob_meddle.specs.Acts.{OnlyStand, rests_of, stands_of, allows, before_at, can_copy, after_act, after_acts, has_place, len_at};
 
 use crate::blocks::LONGEST;
 use crate::meddle::{Act, Meddle, Spot};
@@ -13,8 +13,11 @@ use std::collections::BTreeMap;
 
 fn flip(regions: &mut BTreeMap<u64, Region>, region: u64, place: u32, byte: u32)
     ensures rests { (q : ℕ) → rests_of regions.new q ≡ rests_of regions.old q }
-    ensures here { stands_of regions.new region place ≡ (if allows (can_flip place byte) (rests_of regions.old region) then flipped byte (stands_of regions.old region place) else stands_of regions.old region place) }
-    ensures others { (q x : ℕ) → (q ≡ region → x ≡ place → ⊥) → stands_of regions.new q x ≡ stands_of regions.old q x }
+    ensures here { stands_of regions.new region place
+        ≡ (if allows (can_flip place byte) (rests_of regions.old region)
+        then flipped byte (stands_of regions.old region place)
+        else stands_of regions.old region place) }
+    ensures others { OnlyStand region place (stands_of regions.old) (stands_of regions.new) }
 {
     if let Some(region) = regions.get_mut(&region) {
         region.flip(place, byte);
@@ -23,8 +26,11 @@ fn flip(regions: &mut BTreeMap<u64, Region>, region: u64, place: u32, byte: u32)
 
 fn age(regions: &mut BTreeMap<u64, Region>, region: u64, place: u32)
     ensures rests { (q : ℕ) → rests_of regions.new q ≡ rests_of regions.old q }
-    ensures here { stands_of regions.new region place ≡ (if allows (has_older place) (rests_of regions.old region) then before_at (rests_of regions.old region) place else stands_of regions.old region place) }
-    ensures others { (q x : ℕ) → (q ≡ region → x ≡ place → ⊥) → stands_of regions.new q x ≡ stands_of regions.old q x }
+    ensures here { stands_of regions.new region place
+        ≡ (if allows (has_older place) (rests_of regions.old region)
+        then before_at (rests_of regions.old region) place
+        else stands_of regions.old region place) }
+    ensures others { OnlyStand region place (stands_of regions.old) (stands_of regions.new) }
 {
     if let Some(region) = regions.get_mut(&region) {
         region.age(place);
@@ -35,10 +41,12 @@ fn age(regions: &mut BTreeMap<u64, Region>, region: u64, place: u32)
 fn read(regions: &BTreeMap<u64, Region>, spot: Spot, buffer: &mut [u8]) -> Option<usize>
     requires { length buffer.old ≡ 16416 }
     ensures none { IfNone result (has_place spot.place (rests_of regions.now spot.region) ≡ false) }
-    ensures some { IfSome result (λ len. has_place spot.place (rests_of regions.now spot.region) ≡ true) }
+    ensures some { IfSome result (λ len. has_place spot.place (rests_of regions.now spot.region)
+        ≡ true) }
     ensures len { IfSome result (λ len. len ≡ len_at (rests_of regions.now spot.region)) }
     ensures short { IfSome result (λ len. len ≤ 16416) }
-    ensures block { IfSome result (λ len. take len buffer.new ≡ stands_of regions.now spot.region spot.place) }
+    ensures block { IfSome result (λ len. take len buffer.new
+        ≡ stands_of regions.now spot.region spot.place) }
     ensures stays { length buffer.new ≡ 16416 }
 {
     let region = regions.get(&spot.region)?;
@@ -52,8 +60,10 @@ fn read(regions: &BTreeMap<u64, Region>, spot: Spot, buffer: &mut [u8]) -> Optio
 
 fn put(regions: &mut BTreeMap<u64, Region>, to: Spot, block: &[u8])
     ensures rests { (q : ℕ) → rests_of regions.new q ≡ rests_of regions.old q }
-    ensures here { stands_of regions.new to.region to.place ≡ (if allows (can_hold to.place (length block.now)) (rests_of regions.old to.region) then block.now else stands_of regions.old to.region to.place) }
-    ensures others { (q x : ℕ) → (q ≡ to.region → x ≡ to.place → ⊥) → stands_of regions.new q x ≡ stands_of regions.old q x }
+    ensures here { stands_of regions.new to.region to.place
+        ≡ (if allows (can_hold to.place (length block.now)) (rests_of regions.old to.region)
+        then block.now else stands_of regions.old to.region to.place) }
+    ensures others { OnlyStand to.region to.place (stands_of regions.old) (stands_of regions.new) }
 {
     if let Some(region) = regions.get_mut(&to.region) {
         region.put(to.place, block);
@@ -62,8 +72,11 @@ fn put(regions: &mut BTreeMap<u64, Region>, to: Spot, block: &[u8])
 
 fn copy(regions: &mut BTreeMap<u64, Region>, from: Spot, to: Spot)
     ensures rests { (q : ℕ) → rests_of regions.new q ≡ rests_of regions.old q }
-    ensures here { stands_of regions.new to.region to.place ≡ (if can_copy (rests_of regions.old from.region) from.place (rests_of regions.old to.region) to.place then stands_of regions.old from.region from.place else stands_of regions.old to.region to.place) }
-    ensures others { (q x : ℕ) → (q ≡ to.region → x ≡ to.place → ⊥) → stands_of regions.new q x ≡ stands_of regions.old q x }
+    ensures here { stands_of regions.new to.region to.place
+        ≡ (if can_copy (rests_of regions.old from.region) from.place
+        (rests_of regions.old to.region) to.place then stands_of regions.old from.region from.place
+        else stands_of regions.old to.region to.place) }
+    ensures others { OnlyStand to.region to.place (stands_of regions.old) (stands_of regions.new) }
 {
     let mut buffer = [0; LONGEST];
     if let Some(len) = read(regions, from, &mut buffer) {
@@ -73,7 +86,8 @@ fn copy(regions: &mut BTreeMap<u64, Region>, from: Spot, to: Spot)
 
 fn act(regions: &mut BTreeMap<u64, Region>, act: Act)
     ensures rests { rests_of regions.new ≡ rests_of regions.old }
-    ensures stands { stands_of regions.new ≡ after_act (rests_of regions.old) act (stands_of regions.old) }
+    ensures stands { stands_of regions.new
+        ≡ after_act (rests_of regions.old) act (stands_of regions.old) }
 {
     match act {
         Act::Fail => {}
@@ -90,7 +104,8 @@ fn act(regions: &mut BTreeMap<u64, Region>, act: Act)
 /// Does the acts that come before an access, in order.
 pub(crate) fn do_acts(regions: &mut BTreeMap<u64, Region>, list: &[Meddle], number: u64)
     ensures rests { rests_of regions.new ≡ rests_of regions.old }
-    ensures stands { stands_of regions.new ≡ after_acts (rests_of regions.old) list.now number (stands_of regions.old) }
+    ensures stands { stands_of regions.new
+        ≡ after_acts (rests_of regions.old) list.now number (stands_of regions.old) }
 {
     match list.split_first() {
         None => {}

@@ -26,7 +26,8 @@ impl Blocks {
         requires len { len ≤ 16416 }
         ensures count { IfOk result (λ b. b.count ≡ count) }
         ensures len { IfOk result (λ b. b.len ≡ len) }
-        ensures zeros { IfOk result (λ b. (place : ℕ) → place < count → block_at b place ≡ replicate len 0) }
+        ensures zeros { IfOk result (λ b. (place : ℕ) → place < count
+            → block_at b place ≡ replicate len 0) }
     {
         let size = count as usize * len as usize;
         Ok(Blocks {

@@ -31,7 +31,8 @@ impl Region {
         ensures blocks { IfOk result (λ r. (rest_of r).blocks ≡ blocks) }
         ensures len { IfOk result (λ r. (rest_of r).len ≡ len) }
         ensures unwritten { IfOk result (λ r. (place : ℕ) → (rest_of r).last place ≡ None) }
-        ensures zeros { IfOk result (λ r. (place : ℕ) → place < blocks → stand_of r place ≡ replicate len 0) }
+        ensures zeros { IfOk result (λ r. (place : ℕ) → place < blocks
+            → stand_of r place ≡ replicate len 0) }
     {
         Ok(Region {
             live: true,
@@ -84,9 +85,11 @@ impl Region {
         ensures blocks { (rest_of self.new).blocks ≡ (rest_of self.old).blocks }
         ensures len { (rest_of self.new).len ≡ (rest_of self.old).len }
         ensures last { (rest_of self.new).last place ≡ Some block.now }
-        ensures lasts { (x : ℕ) → x ≢ place → (rest_of self.new).last x ≡ (rest_of self.old).last x }
+        ensures lasts { (x : ℕ) → x ≢ place
+            → (rest_of self.new).last x ≡ (rest_of self.old).last x }
         ensures before { (rest_of self.new).before place ≡ stand_of self.old place }
-        ensures befores { (x : ℕ) → x ≢ place → (rest_of self.new).before x ≡ (rest_of self.old).before x }
+        ensures befores { (x : ℕ) → x ≢ place
+            → (rest_of self.new).before x ≡ (rest_of self.old).before x }
         ensures stands { stand_of self.new place ≡ block.now }
         ensures others { (x : ℕ) → x ≢ place → stand_of self.new x ≡ stand_of self.old x }
     {
@@ -99,7 +102,9 @@ impl Region {
     /// Inverts the lowest bit of a byte.
     pub(crate) fn flip(&mut self, place: u32, byte: u32)
         ensures rest { rest_of self.new ≡ rest_of self.old }
-        ensures here { stand_of self.new place ≡ (if can_flip place byte (rest_of self.old) then flipped byte (stand_of self.old place) else stand_of self.old place) }
+        ensures here { stand_of self.new place
+            ≡ (if can_flip place byte (rest_of self.old) then flipped byte (stand_of self.old place)
+            else stand_of self.old place) }
         ensures others { (x : ℕ) → x ≢ place → stand_of self.new x ≡ stand_of self.old x }
     {
         if self.live && self.has(place) && byte < self.stands.len {
@@ -110,7 +115,9 @@ impl Region {
     /// Puts back what stood at a place before its last write.
     pub(crate) fn age(&mut self, place: u32)
         ensures rest { rest_of self.new ≡ rest_of self.old }
-        ensures here { stand_of self.new place ≡ (if has_older place (rest_of self.old) then (rest_of self.old).before place else stand_of self.old place) }
+        ensures here { stand_of self.new place
+            ≡ (if has_older place (rest_of self.old) then (rest_of self.old).before place
+            else stand_of self.old place) }
         ensures others { (x : ℕ) → x ≢ place → stand_of self.new x ≡ stand_of self.old x }
     {
         if self.live && self.has(place) && self.written[place as usize] {
@@ -121,7 +128,9 @@ impl Region {
     /// Puts a block at a place.
     pub(crate) fn put(&mut self, place: u32, block: &[u8])
         ensures rest { rest_of self.new ≡ rest_of self.old }
-        ensures here { stand_of self.new place ≡ (if can_hold place (length block.now) (rest_of self.old) then block.now else stand_of self.old place) }
+        ensures here { stand_of self.new place
+            ≡ (if can_hold place (length block.now) (rest_of self.old) then block.now
+            else stand_of self.old place) }
         ensures others { (x : ℕ) → x ≢ place → stand_of self.new x ≡ stand_of self.old x }
     {
         if self.live && self.has(place) && block.len() == self.len() {

@@ -3,7 +3,7 @@ ghost use Rattle.std.specs.Prelude.{◌≡◌, ◌≢◌, ◌≤◌, ℕ, None, 
 ghost use Rattle.std.specs.Ordering.{nat_cmp};
 ghost use Rattle.std.specs.BTreeMap.{get};
 ghost use Rattle.ob_meddle.specs.Held.{rest_of, stand_of, Differs, Agrees};
-ghost use Rattle.ob_meddle.specs.Acts.{rests_of, stands_of, before_at, len_at, has_place};
+ghost use Rattle.ob_meddle.specs.Acts.{OnlyStand, OtherStands, OtherRests, rests_of, stands_of, before_at, len_at, has_place};
 ghost use Rattle.ob_meddle.specs.Regions.{IsPlaceOf, last_at, shape_at};
 
 use crate::region::Region;
@@ -18,10 +18,12 @@ pub(crate) fn add(
 ) -> Result<(), NoMemory>
     ensures rest { OnOk result (rests_of regions.new region ≡ Some (rest_of made)) }
     ensures here { OnOk result ((x : ℕ) → stands_of regions.new region x ≡ stand_of made x) }
-    ensures others { OnOk result ((q : ℕ) → q ≢ region → rests_of regions.new q ≡ rests_of regions.old q) }
-    ensures stands { OnOk result ((q x : ℕ) → q ≢ region → stands_of regions.new q x ≡ stands_of regions.old q x) }
+    ensures others { OnOk result (OtherRests region (rests_of regions.old) (rests_of regions.new)) }
+    ensures stands { OnOk result (OtherStands region (stands_of regions.old)
+        (stands_of regions.new)) }
     ensures none { OnErr result ((q : ℕ) → rests_of regions.new q ≡ rests_of regions.old q) }
-    ensures stay { OnErr result ((q x : ℕ) → stands_of regions.new q x ≡ stands_of regions.old q x) }
+    ensures stay { OnErr result ((q x : ℕ)
+        → stands_of regions.new q x ≡ stands_of regions.old q x) }
 {
     match regions.insert(region, made) {
         Ok(_) => Ok(()),
@@ -33,7 +35,8 @@ pub(crate) fn add(
 pub(crate) fn read(regions: &BTreeMap<u64, Region>, region: u64, place: u32, buf: &mut [u8]) -> bool
     requires { IsPlaceOf (rests_of regions.now region) place (length buf.old) }
     ensures bytes { buf.new ≡ stands_of regions.now region place }
-    ensures differs { result ≡ true → Differs buf.new (last_at (rests_of regions.now region) place) }
+    ensures differs { result ≡ true
+        → Differs buf.new (last_at (rests_of regions.now region) place) }
     ensures agrees { result ≡ false → Agrees buf.new (last_at (rests_of regions.now region) place) }
 {
     match regions.get(&region) {
@@ -48,14 +51,18 @@ pub(crate) fn read(regions: &BTreeMap<u64, Region>, region: u64, place: u32, buf
 /// Writes a block at a place.
 pub(crate) fn write(regions: &mut BTreeMap<u64, Region>, region: u64, place: u32, block: &[u8])
     requires { IsPlaceOf (rests_of regions.old region) place (length block.now) }
-    ensures shapes { (q : ℕ) → shape_at (rests_of regions.new q) ≡ shape_at (rests_of regions.old q) }
+    ensures shapes { (q : ℕ) → shape_at (rests_of regions.new q)
+        ≡ shape_at (rests_of regions.old q) }
     ensures last { last_at (rests_of regions.new region) place ≡ Some block.now }
-    ensures lasts { (q x : ℕ) → (q ≡ region → x ≡ place → ⊥) → last_at (rests_of regions.new q) x ≡ last_at (rests_of regions.old q) x }
-    ensures rest { (q : ℕ) → q ≢ region → rests_of regions.new q ≡ rests_of regions.old q }
-    ensures before { before_at (rests_of regions.new region) place ≡ stands_of regions.old region place }
-    ensures befores { (x : ℕ) → x ≢ place → before_at (rests_of regions.new region) x ≡ before_at (rests_of regions.old region) x }
+    ensures lasts { (q x : ℕ) → (q ≡ region → x ≡ place → ⊥)
+        → last_at (rests_of regions.new q) x ≡ last_at (rests_of regions.old q) x }
+    ensures rest { OtherRests region (rests_of regions.old) (rests_of regions.new) }
+    ensures before { before_at (rests_of regions.new region) place
+        ≡ stands_of regions.old region place }
+    ensures befores { (x : ℕ) → x ≢ place
+        → before_at (rests_of regions.new region) x ≡ before_at (rests_of regions.old region) x }
     ensures stands { stands_of regions.new region place ≡ block.now }
-    ensures others { (q x : ℕ) → (q ≡ region → x ≡ place → ⊥) → stands_of regions.new q x ≡ stands_of regions.old q x }
+    ensures others { OnlyStand region place (stands_of regions.old) (stands_of regions.new) }
 {
     match regions.get_mut(&region) {
         Some(region) => region.write(place, block),
@@ -67,11 +74,14 @@ pub(crate) fn write(regions: &mut BTreeMap<u64, Region>, region: u64, place: u32
 pub(crate) fn retire(regions: &mut BTreeMap<u64, Region>, region: u64, kept: bool)
     ensures gone { shape_at (rests_of regions.new region) ≡ None }
     ensures unread { (x : ℕ) → last_at (rests_of regions.new region) x ≡ None }
-    ensures others { (q : ℕ) → q ≢ region → rests_of regions.new q ≡ rests_of regions.old q }
-    ensures stands { (q x : ℕ) → q ≢ region → stands_of regions.new q x ≡ stands_of regions.old q x }
-    ensures kept { kept ≡ true → (x : ℕ) → stands_of regions.new region x ≡ stands_of regions.old region x }
-    ensures len { kept ≡ true → len_at (rests_of regions.new region) ≡ len_at (rests_of regions.old region) }
-    ensures places { kept ≡ true → (x : ℕ) → has_place x (rests_of regions.new region) ≡ has_place x (rests_of regions.old region) }
+    ensures others { OtherRests region (rests_of regions.old) (rests_of regions.new) }
+    ensures stands { OtherStands region (stands_of regions.old) (stands_of regions.new) }
+    ensures kept { kept ≡ true → (x : ℕ)
+        → stands_of regions.new region x ≡ stands_of regions.old region x }
+    ensures len { kept ≡ true → len_at (rests_of regions.new region)
+        ≡ len_at (rests_of regions.old region) }
+    ensures places { kept ≡ true → (x : ℕ)
+        → has_place x (rests_of regions.new region) ≡ has_place x (rests_of regions.old region) }
 {
     if kept {
         if let Some(region) = regions.get_mut(&region) {

@@ -68,10 +68,15 @@ impl MeddledStore {
         ensures list { self.new.list ≡ self.old.list }
         ensures caught { self.new.caught ≡ self.old.caught }
         ensures rests { (q : ℕ) → rests_of self.new.regions q ≡ rests_of self.old.regions q }
-        ensures stands { stands_of self.new.regions ≡ after_acts (rests_of self.old.regions) self.old.list (length (asked_of self.old.log) + 1) (stands_of self.old.regions) }
-        ensures fails { is_err result ≡ fails_at self.old.list (length (asked_of self.old.log) + 1) }
-        ensures faults { self.new.faults ≡ self.old.faults + (if is_err result && not (is_discard access) then 1 else 0) }
-        ensures slips { self.new.slips ≡ self.old.slips + (if is_err result && is_discard access then 1 else 0) }
+        ensures stands { stands_of self.new.regions
+            ≡ after_acts (rests_of self.old.regions) self.old.list
+            (length (asked_of self.old.log) + 1) (stands_of self.old.regions) }
+        ensures fails { is_err result ≡ fails_at self.old.list
+            (length (asked_of self.old.log) + 1) }
+        ensures faults { self.new.faults ≡ self.old.faults
+            + (if is_err result && not (is_discard access) then 1 else 0) }
+        ensures slips { self.new.slips ≡ self.old.slips
+            + (if is_err result && is_discard access then 1 else 0) }
     {
         self.log.push(access);
         let number = self.log.count();
@@ -89,11 +94,11 @@ impl MeddledStore {
 }
 
 impl BlockStore for MeddledStore {
-    ghost use Rattle.std.specs.Prelude.{◌≢◌, replicate, Err, is_err, OnOk, OnErr};
+    ghost use Rattle.std.specs.Prelude.{OnOk, OnErr};
     ghost use Rattle.ob_base.specs.Accesses.{highest};
     ghost use Rattle.ob_store.specs.Calls.{IsLive, IsPlace, Asks, CountsFault, CountsSlip, CountsMakeFault, Keeps, Makes, ReadGives, OnlyAt, Holds, MayHold, OnlyRegion, Rests};
-    ghost use Rattle.ob_meddle.specs.Acts.{before_at, len_at, has_place};
-    ghost use Rattle.ob_meddle.specs.Shows.{list_of, state_of, standing, standing_next, held, fails_next};
+    ghost use Rattle.ob_meddle.specs.Calls.{Made, Gave, Wrote, Retired};
+    ghost use Rattle.ob_meddle.specs.Shows.{list_of, state_of, standing, held};
 
     ghost state = { λ m. state_of m };
 
@@ -122,20 +127,14 @@ impl BlockStore for MeddledStore {
         requires next { highest (state_of self.old).asked < region }
         requires blocks { (1 ≤ blocks) × (blocks ≤ 134217728) }
         requires len { (33 ≤ len) × (len ≤ 16416) }
-        ensures asks { Asks (Access.Make region blocks len) (state_of self.old) (state_of self.new) }
+        ensures asks { Asks (Access.Make region blocks len) (state_of self.old)
+            (state_of self.new) }
         ensures cause { CountsMakeFault result (state_of self.old) (state_of self.new) }
         ensures slips { (state_of self.new).slips ≡ (state_of self.old).slips }
         ensures ok { OnOk result (Makes region blocks len (state_of self.old) (state_of self.new)) }
         ensures err { OnErr result (Keeps (state_of self.old) (state_of self.new)) }
         ensures lie { (state_of self.new).lie ≡ (state_of self.old).lie }
-        ensures list { list_of self.new ≡ list_of self.old }
-        ensures fails { fails_next self.old ≡ true → result ≡ Err StoreErr.Failed }
-        ensures does { fails_next self.old ≡ false → result ≢ Err StoreErr.Failed }
-        ensures zeros { OnOk result ((x : ℕ) → x < blocks → standing self.new region x ≡ replicate len 0) }
-        ensures others { OnOk result ((q x : ℕ) → q ≢ region → standing self.new q x ≡ standing_next self.old q x) }
-        ensures stays { OnErr result ((q x : ℕ) → standing self.new q x ≡ standing_next self.old q x) }
-        ensures held { OnOk result ((q : ℕ) → q ≢ region → held self.new q ≡ held self.old q) }
-        ensures held_stays { OnErr result ((q : ℕ) → held self.new q ≡ held self.old q) }
+        ensures made { Made region blocks len result self.old self.new }
     {
         self.begin(Access::Make {
             region,
@@ -158,14 +157,11 @@ impl BlockStore for MeddledStore {
         ensures cause { CountsFault result (state_of self.old) (state_of self.new) }
         ensures slips { (state_of self.new).slips ≡ (state_of self.old).slips }
         ensures keeps { Keeps (state_of self.old) (state_of self.new) }
-        ensures ok { OnOk result (ReadGives region place buf.new (state_of self.old) (state_of self.new)) }
+        ensures ok { OnOk result (ReadGives region place buf.new (state_of self.old)
+            (state_of self.new)) }
         ensures gave { OnOk result ((state_of self.new).gave ≡ buf.new) }
         ensures err { OnErr result ((state_of self.new).lie ≡ (state_of self.old).lie) }
-        ensures list { list_of self.new ≡ list_of self.old }
-        ensures fails { is_err result ≡ fails_next self.old }
-        ensures gives { OnOk result (buf.new ≡ standing_next self.old region place) }
-        ensures stays { standing self.new ≡ standing_next self.old }
-        ensures held { (q : ℕ) → held self.new q ≡ held self.old q }
+        ensures stands { Gave region place buf.new result self.old self.new }
     {
         let count = self.log.count();
         self.begin(Access::Read { region, place })?;
@@ -182,18 +178,11 @@ impl BlockStore for MeddledStore {
         ensures cause { CountsFault result (state_of self.old) (state_of self.new) }
         ensures slips { (state_of self.new).slips ≡ (state_of self.old).slips }
         ensures only { OnlyAt region place (state_of self.old) (state_of self.new) }
-        ensures ok { OnOk result (Holds region place block.now (state_of self.old) (state_of self.new)) }
+        ensures ok { OnOk result (Holds region place block.now (state_of self.old)
+            (state_of self.new)) }
         ensures err { OnErr result (Keeps (state_of self.old) (state_of self.new)) }
         ensures lie { (state_of self.new).lie ≡ (state_of self.old).lie }
-        ensures list { list_of self.new ≡ list_of self.old }
-        ensures fails { is_err result ≡ fails_next self.old }
-        ensures here { OnOk result (standing self.new region place ≡ block.now) }
-        ensures others { (q x : ℕ) → (q ≡ region → x ≡ place → ⊥) → standing self.new q x ≡ standing_next self.old q x }
-        ensures stays { OnErr result (standing self.new region place ≡ standing_next self.old region place) }
-        ensures held { (q : ℕ) → q ≢ region → held self.new q ≡ held self.old q }
-        ensures held_stays { OnErr result (held self.new region ≡ held self.old region) }
-        ensures before { OnOk result (before_at (held self.new region) place ≡ standing_next self.old region place) }
-        ensures befores { (x : ℕ) → x ≢ place → before_at (held self.new region) x ≡ before_at (held self.old region) x }
+        ensures wrote { Wrote region place block.now result self.old self.new }
     {
         self.begin(Access::Write { region, place })?;
         write(&mut self.regions, region, place, block);
@@ -210,15 +199,7 @@ impl BlockStore for MeddledStore {
         ensures ok { OnOk result ((state_of self.new).live region ≡ None) }
         ensures err { OnErr result (Keeps (state_of self.old) (state_of self.new)) }
         ensures lie { (state_of self.new).lie ≡ (state_of self.old).lie }
-        ensures list { list_of self.new ≡ list_of self.old }
-        ensures fails { is_err result ≡ fails_next self.old }
-        ensures kept { is_source (list_of self.old) region ≡ true → standing self.new ≡ standing_next self.old }
-        ensures elsewhere { (q x : ℕ) → q ≢ region → standing self.new q x ≡ standing_next self.old q x }
-        ensures stays { OnErr result (standing self.new ≡ standing_next self.old) }
-        ensures held { (q : ℕ) → q ≢ region → held self.new q ≡ held self.old q }
-        ensures held_stays { OnErr result (held self.new region ≡ held self.old region) }
-        ensures len { is_source (list_of self.old) region ≡ true → len_at (held self.new region) ≡ len_at (held self.old region) }
-        ensures places { is_source (list_of self.old) region ≡ true → (x : ℕ) → has_place x (held self.new region) ≡ has_place x (held self.old region) }
+        ensures retired { Retired region result self.old self.new }
     {
         self.begin(Access::Discard { region })?;
         let kept = is_source(self.list.as_slice(), region);

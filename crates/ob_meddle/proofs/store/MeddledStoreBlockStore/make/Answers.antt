@@ -1,4 +1,4 @@
-use Rattle.std.proofs.Common.{length}
+use Rattle.std.proofs.Common.{length, rules}
 use Rattle.ob_store.specs.Logs.{asked_of}
 use Rattle.ob_meddle.specs.Held.{rest_of}
 use Rattle.ob_meddle.proofs.StoreLemmas.{fresh_more, honest_added}
@@ -27,3 +27,15 @@ returns-in-Err-add-clause-asks c = let begun = c.begin.ensures in asks_same _ c.
 
 pub returns-in-Ok-add-clause-asks : goal.returns-in-Ok-add-clause-asks
 returns-in-Ok-add-clause-asks c = let begun = c.begin.ensures in asks_same _ c.args.self.now c.begin.new.self _ _ _ _ _ begun.asked begun.spare begun.list begun.faults begun.slips begun.caught
+
+pub returns-in_err-begin-clause-made : goal.returns-in_err-begin-clause-made
+returns-in_err-begin-clause-made c = record {
+  list = search rules;
+  fails = search rules;
+  does = search rules;
+  zeros = search rules;
+  others = search rules;
+  stays = search rules;
+  rests = search rules;
+  rests_stay = search rules;
+}
