@@ -3,3 +3,4 @@ pub mod Lies
 pub mod Runs
 pub mod RowsLemmas
 pub mod WordLemmas
+pub mod LawLemmas

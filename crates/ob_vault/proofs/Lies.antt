@@ -1,17 +1,19 @@
 -- Lies and the reads that told them.
 use Rattle.std.proofs.Common.{◌≡◌, ◌⊎◌, inl, inr, ℕ, ◌-◌, List, [], ◌∷◌, Option, Some, None, length, take, drop, refl, sym, ◌∙◌, ap, subst}
+use Rattle.ob_base.specs.declared.access.Access.{Access}
 use Rattle.ob_base.specs.declared.access.Access.TheVariants.{Read}
 use Rattle.ob_store.specs.State.{Lie, StoreState}
 use Rattle.ob_base.specs.Counts.{Rises}
 use Rattle.ob_store.specs.Calls.{Asks, ReadGives}
 use Rattle.ob_store.proofs.Steps.{list_cases, began_call, did_call}
 use Rattle.ob_seal.specs.KeyPair.{KeyPair}
-use Rattle.ob_seal.specs.Sealed.{tag_of}
+use Rattle.ob_seal.specs.Sealed.{sealed, tag_of}
 use Rattle.ob_vault.specs.declared.fault.VaultErr.TheVariants as VaultErrs
 use Rattle.ob_vault.specs.State.{VaultState}
-use Rattle.ob_base.specs.Accesses.{number_of}
+use Rattle.ob_vault.specs.Numbers.{number_after, last_number}
+use Rattle.ob_base.proofs.AccessLemmas.{number_read}
 use Rattle.ob_vault.specs.Tied.{Fits, Calm, at_of}
-use Rattle.ob_vault.specs.Calls.{Lasts, Went, Cut, none}
+use Rattle.ob_vault.specs.Calls.{Lasts, Went, Cut, Unfit, Opened, none}
 
 -- what a read does to the lie: nothing, or it is this
 lie_after : (region place : ℕ) (bytes : List ℕ) (old new : StoreState) → Asks (Read region place) old new → ReadGives region place bytes old new
@@ -40,13 +42,24 @@ module _ (v : VaultState) (q x : ℕ) (bytes : List ℕ) (old new : StoreState) 
   same_calm : new.lie ≡ old.lie → Calm (record { vault = v; store = old }) → Calm (record { vault = v; store = new })
   same_calm same calm = record { calm = λ lie is. calm.calm lie (sym same ∙ is) }
 
+  -- a read leaves the numbers
+  number_stays : number_after v.start new.asked q x ≡ number_after v.start old.asked q x
+  number_stays = ap (λ (l : List Access). number_after v.start l q x) asks.asked ∙ number_read v.start.writes (v.start.given q x) q x q x old.asked
+
+  -- what it gave hasn't the tag, or was opened
+  pub read_unfit : new.gave ≡ bytes → (FitsAs v.keys q x (number_after v.start old.asked q x) bytes → ⊥) → Unfit q x (record { vault = v; store = new })
+  read_unfit gave off = record { differs = λ same. off (subst (FitsAs v.keys q x (number_after v.start old.asked q x)) gave (same ∙ ap (λ (n : ℕ). tag_of v.keys (at_of q x n) (take (length new.gave - 32) new.gave)) number_stays)) }
+
+  pub read_opened : (rows : List ℕ) → new.gave ≡ bytes → bytes ≡ sealed v.keys (at_of q x (number_after v.start old.asked q x)) rows → Opened q x rows (record { vault = v; store = new })
+  read_opened rows gave is = record { gave = gave ∙ is ∙ ap (λ (n : ℕ). sealed v.keys (at_of q x n) rows) (sym number_stays) }
+
   -- a read that failed
   pub read_failed : Rises old.faults new.faults → new.lie ≡ old.lie → Cut VaultErrs.Failed (Read q x ∷ []) none (record { vault = v; store = old }) (record { vault = v; store = new })
   read_failed rises same = record { lasts = lasts; began = began_call _ _ _ asks; cause = (rises, same_calm same) }
 
   module _ (gives : ReadGives q x bytes old new) (faults : new.faults ≡ old.faults) where
     -- one whose block fits
-    pub read_went : FitsAs v.keys q x (number_of old.asked q x) bytes → Went (Read q x ∷ []) none (record { vault = v; store = old }) (record { vault = v; store = new })
+    pub read_went : FitsAs v.keys q x (number_after v.start old.asked q x) bytes → Went (Read q x ∷ []) none (record { vault = v; store = old }) (record { vault = v; store = new })
     read_went tag = record {
       lasts = lasts;
       did = did_call _ _ _ asks faults;
@@ -55,19 +68,20 @@ module _ (v : VaultState) (q x : ℕ) (bytes : List ℕ) (old new : StoreState) 
         | inl same ↦ same_calm same calm
         | inr is ↦
             let here : Lie = record { region = q; place = x; bytes = bytes; before = old.asked } in
-            let fits : Fits v.keys here = record { tag = tag } in
-            record { calm = λ lie now. let at : here ≡ lie = cc (is, now) in subst (λ (l : Lie). Fits v.keys l) at fits }
+            let fits : Fits v.keys v.start here = record { tag = tag } in
+            record { calm = λ lie now. let at : here ≡ lie = cc (is, now) in subst (λ (l : Lie). Fits v.keys v.start l) at fits }
       ];
     }
 
     -- one whose block doesn't
-    pub read_tampered : Cut (VaultErrs.Tampered q x) (Read q x ∷ []) none (record { vault = v; store = old }) (record { vault = v; store = new })
-    read_tampered = record {
+    pub read_tampered : Unfit q x (record { vault = v; store = new }) → Cut (VaultErrs.Tampered q x) (Read q x ∷ []) none (record { vault = v; store = old }) (record { vault = v; store = new })
+    read_tampered unfit = record {
       lasts = lasts;
       began = began_call _ _ _ asks;
       cause = (
         faults,
         record { before = old.asked; asked = asks.asked },
+        unfit,
         λ calm. elim (lie_after q x bytes old new asks gives) [
           | inl same ↦ inl (same_calm same calm)
           | inr is ↦ inr (record {

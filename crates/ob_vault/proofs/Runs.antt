@@ -5,7 +5,7 @@ use Rattle.ob_store.specs.State.{StoreState}
 use Rattle.ob_base.specs.Counts.{Rises}
 use Rattle.ob_base.specs.Lists.{each}
 use Rattle.ob_store.specs.Runs.{Began, Later}
-use Rattle.ob_store.proofs.Steps.{later_refl, later_trans, did_none, did_join, began_join, began_more, parts, none_before}
+use Rattle.ob_store.proofs.Steps.{later_trans, did_none, did_join, began_join, began_more, parts, none_before}
 use Rattle.ob_seal.specs.Sealed.{sealed}
 use Rattle.ob_vault.specs.declared.region.Region.{Region}
 use Rattle.ob_vault.specs.declared.region.Order.{Order}
@@ -18,7 +18,7 @@ use Rattle.ob_base.specs.Accesses.{number_of}
 use Rattle.ob_vault.specs.Tied.{Ready, Lives, Written, OnTurn, Holds, EndsAt, at_of}
 use Rattle.ob_vault.specs.Rows.{joined, SameSizes}
 use Rattle.ob_vault.specs.Places.{RowsFit, MayGet, MayPut}
-use Rattle.ob_vault.proofs.RowsLemmas.{length-joined}
+use Rattle.ob_vault.proofs.WorldSteps.{lasts_none}
 use Rattle.ob_vault.specs.Calls.{Apart, Only, KeepsShapes, Lasts, Seals, Went, Cut, Cause}
 
 module _ (some : ℕ → Type 0) (a b c : World) where
@@ -48,6 +48,7 @@ module _ (some : ℕ → Type 0) (a b c : World) where
     ready = second.ready;
     later = later_trans _ _ _ first.later second.later;
     keys = second.keys ∙ first.keys;
+    start = second.start ∙ first.start;
     shapes = shapes_trans first.shapes second.shapes;
     apart = apart_trans first.apart second.apart;
   }
@@ -62,7 +63,7 @@ module _ (some : ℕ → Type 0) (a b c : World) where
 
   cause_after : (e : VaultErr) (x : List Access) → Went x some a b → Cause e b c → Cause e a c
   cause_after Failed x first (rises, calm) = (subst (λ (n : ℕ). Rises n c.store.faults) first.did.faults rises, λ was. calm (first.calm was))
-  cause_after (Tampered q p) x first (same, ends, calm) = (same ∙ first.did.faults, ends, λ was. calm (first.calm was))
+  cause_after (Tampered q p) x first (same, ends, unfit, calm) = (same ∙ first.did.faults, ends, unfit, λ was. calm (first.calm was))
   cause_after NoMemory x first (same, calm) = (same ∙ first.did.faults, λ was. calm (first.calm was))
 
   -- a run that was cut in its second part
@@ -83,6 +84,7 @@ module _ (some : ℕ → Type 0) (a b : World) where
     ready = lasts.ready;
     later = lasts.later;
     keys = lasts.keys;
+    start = lasts.start;
     shapes = lasts.shapes;
     apart = record {
       live = λ q off. lasts.apart.live q (λ s. off (within q s));
@@ -152,13 +154,7 @@ shapes_none v s t = record { next = omega arith; shapes = λ q below. inr refl }
 -- no call
 pub went_none : (some : ℕ → Type 0) (w : World) → Ready w → Went [] some w w
 went_none some w ready = record {
-  lasts = record {
-    ready = ready;
-    later = later_refl w.store;
-    keys = refl;
-    shapes = shapes_none w.vault w.store w.store;
-    apart = record { live = λ q off. refl; number = λ q x off. refl; turn = λ q off. refl; kept = λ q off. refl; last = λ q x off. refl };
-  };
+  lasts = lasts_none some w ready;
   did = did_none w.store;
   spare = omega arith;
   calm = λ calm. calm;

@@ -1,37 +1,49 @@
 -- What each call of a vault does to it and its store.
-use Rattle.std.proofs.Common.{◌≡◌, ◌⊎◌, inl, inr, ℕ, ◌+◌, ◌<◌, ◌≤◌, List, [], ◌∷◌, Some, None, Bool, IsTrue, refl, sym, ◌∙◌, ap, subst, arith}
+use Rattle.std.proofs.Common.{◌≡◌, ◌≢◌, ◌==◌, if◌then◌else◌, true, false, Err, Option, ◌⊎◌, inl, inr, ℕ, ◌+◌, ◌-◌, ◌<◌, ◌≤◌, List, [], ◌∷◌, ◌++◌, Some, None, Bool, IsTrue, refl, sym, ◌∙◌, ap, subst, arith}
 use Rattle.std.proofs.lemmas.Bool.{cases_eq}
+use Rattle.std.proofs.lemmas.List.{append-nil}
 use Rattle.ob_base.specs.declared.access.Access.{Access}
 use Rattle.ob_base.specs.declared.access.Access.TheVariants.{Make, Read, Write, Discard}
-use Rattle.ob_store.specs.State.{StoreState}
+use Rattle.ob_store.specs.State.{Lie, StoreState}
 use Rattle.ob_base.specs.Counts.{Rises}
 use Rattle.ob_store.specs.Calls.{IsRegion, Asks, Keeps, OnlyAt, OnlyRegion, Makes}
 use Rattle.ob_store.specs.Runs.{Later}
-use Rattle.ob_store.proofs.Steps.{later_call, later_refl, did_call, began_call}
+use Rattle.ob_store.proofs.Steps.{later_call, later_refl, did_none, did_call, began_call}
 use Rattle.ob_seal.specs.KeyPair.{KeyPair}
 use Rattle.ob_seal.specs.Sealed.{sealed}
 use Rattle.ob_vault.specs.declared.region.Region.{Region}
 use Rattle.ob_vault.specs.declared.fault.VaultErr.TheVariants as VaultErrs
-use Rattle.ob_vault.specs.Revs.{OtherRegions, Begins, Wrote}
-use Rattle.ob_vault.specs.State.{RevState, VaultState, World}
-use Rattle.ob_base.specs.Accesses.{writes, makes, number_of, nth_write}
+use Rattle.ob_vault.specs.Revs.{OtherRegions, Begins, Wrote, turn_after, place_after}
+use Rattle.ob_vault.specs.declared.region.Order.{Order}
+use Rattle.ob_vault.specs.declared.region.Order.TheVariants.{Round, Any}
+use Rattle.ob_vault.specs.State.{Start, RevState, VaultState, World, from_nothing}
+use Rattle.ob_base.specs.Accesses.{writes, makes, nth_write, make_at}
 use Rattle.ob_base.specs.Accesses.{AllBelow}
-use Rattle.ob_vault.specs.Tied.{Ready, SealedAt, AllSealed, Fits, Holds, at_of}
+use Rattle.ob_vault.specs.Numbers.{number_after, last_number, IsNumber, IsStart}
+use Rattle.ob_vault.specs.Tied.{Ready, SealedAt, AllSealed, Fits, Calm, OnTurn, Holds, at_of}
 use Rattle.ob_vault.specs.Calls.{Apart, Only, Lasts, Seals, Went, Cut, none, one}
+use Rattle.ob_vault.specs.VaultCalls.{MakesRegion, Forgets}
 use Rattle.ob_base.proofs.AccessLemmas.{number_read, number_make, number_discard, number_write_here, number_write_other, writes_read, writes_write, writes_make, writes_discard, makes_more, below_more, below_up, number_fresh, went_on, went_last}
 
-module _ (good : ℕ → List ℕ → Bool) (old new : World) (a : Access) (keys : new.vault.keys ≡ old.vault.keys) (asks : Asks a old.store new.store) where
-  kept_at : (q x : ℕ) (b : List ℕ) → SealedAt good old.vault.keys old.store.asked q x b → SealedAt good new.vault.keys new.store.asked q x b
+-- the number of a write is one after more accesses too
+pub number_stays : (old new : World) (more : List Access) (q x n : ℕ) → new.vault.start ≡ old.vault.start → new.store.asked ≡ old.store.asked ++ more → IsNumber old q x n → IsNumber new q x n
+number_stays old new more q x n start asked is = elim is [
+  | inl went ↦ inl ((λ i. nth_write (n - (start i).writes) (asked i)) ∙ went_on (n - old.vault.start.writes) old.store.asked more (q, x) went)
+  | inr given ↦ inr (given.0 ∙ ap (λ (s : Start). s.given q x) (sym start), given.1)
+]
+
+module _ (good : ℕ → List ℕ → Bool) (old new : World) (a : Access) (keys : new.vault.keys ≡ old.vault.keys) (start : new.vault.start ≡ old.vault.start) (asks : Asks a old.store new.store) where
+  kept_at : (q x : ℕ) (b : List ℕ) → SealedAt good old q x b → SealedAt good new q x b
   kept_at q x b s = record {
     number = s.number;
     rows = s.rows;
     is = s.is ∙ ap (λ (k : KeyPair). sealed k (at_of q x s.number) s.rows) (sym keys);
-    went = ap (nth_write s.number) asks.asked ∙ went_on s.number old.store.asked (a ∷ []) (q, x) s.went;
+    went = number_stays old new (a ∷ []) q x s.number start asks.asked s.went;
     fine = s.fine;
   }
 
   pub sealed_kept : ((q x : ℕ) (b : List ℕ) → (new.store.live q ≡ None → ⊥) → new.store.last q x ≡ Some b
-      → SealedAt good new.vault.keys new.store.asked q x b ⊎ ((old.store.live q ≡ None → ⊥) × (old.store.last q x ≡ Some b))) → AllSealed good old → AllSealed good new
+      → SealedAt good new q x b ⊎ ((old.store.live q ≡ None → ⊥) × (old.store.last q x ≡ Some b))) → AllSealed good old → AllSealed good new
   sealed_kept each all = record { all = λ q x b live at. elim (each q x b live at) [ inl s ↦ s | inr o ↦ kept_at q x b (all.all q x b o.0 o.1) ] }
 
   pub sealed_keeps : Keeps old.store new.store → AllSealed good old → AllSealed good new
@@ -50,22 +62,24 @@ module _ (good : ℕ → List ℕ → Bool) (old new : World) (a : Access) (keys
 -- a call that may have changed one region, and no number
 pub record Moved (g : ℕ) (old new : World) : Type 0 where
   pub keys : new.vault.keys ≡ old.vault.keys
-  pub count : new.vault.count ≡ writes new.store.asked
-  pub next : new.vault.next ≡ 1 + makes new.store.asked
+  pub start : new.vault.start ≡ old.vault.start
+  pub count : new.vault.count ≡ new.vault.start.writes + writes new.store.asked
+  pub next : new.vault.next ≡ new.vault.start.region + 1 + makes new.store.asked
   pub above : AllBelow new.vault.next new.store.asked
   pub up : old.vault.next ≤ new.vault.next
   pub revs : OtherRegions g old.vault.revs new.vault.revs
   pub only : OnlyRegion g old.store new.store
-  pub numbers : (q x : ℕ) → number_of new.store.asked q x ≡ number_of old.store.asked q x
+  pub numbers : (q x : ℕ) → last_number new q x ≡ last_number old q x
   pub here_shape : (new.vault.revs.live g ≡ None) ⊎ (old.vault.next ≤ g)
   pub here_live : (shape : Region) → new.vault.revs.live g ≡ Some shape → IsRegion g shape.blocks (shape.width + 32) new.store
-  pub here_number : (shape : Region) → new.vault.revs.live g ≡ Some shape → (x : ℕ) → new.vault.revs.number g x ≡ number_of new.store.asked g x
+  pub here_number : (shape : Region) → new.vault.revs.live g ≡ Some shape → (x : ℕ) → new.vault.revs.number g x ≡ last_number new g x
   pub here_below : (shape : Region) → new.vault.revs.live g ≡ Some shape → g < new.vault.next
   pub here_fits : (shape : Region) → new.vault.revs.live g ≡ Some shape → (1 ≤ shape.width) × (shape.width ≤ 16384)
 
 pub ready_moved : (g : ℕ) (old new : World) → Ready old → Moved g old new → Ready new
 ready_moved g old new ready m = record {
   tied = record {
+    start = subst IsStart (sym m.start) ready.tied.start;
     count = m.count;
     next = m.next;
     above = m.above;
@@ -74,7 +88,7 @@ ready_moved g old new ready m = record {
       | inr off ↦ record { live = m.only.live q off ∙ (ready.tied.live q shape (sym (m.revs.live q off) ∙ l)).live }
     ];
     numbers = λ q x shape l h. elim (cases_eq q g) [
-      | inl here ↦ ap (λ (k : ℕ). new.vault.revs.number k x) here ∙ m.here_number shape (sym (ap new.vault.revs.live here) ∙ l) x ∙ sym (ap (λ (k : ℕ). number_of new.store.asked k x) here)
+      | inl here ↦ ap (λ (k : ℕ). new.vault.revs.number k x) here ∙ m.here_number shape (sym (ap new.vault.revs.live here) ∙ l) x ∙ sym (ap (λ (k : ℕ). last_number new k x) here)
       | inr off ↦ m.revs.number q x off ∙ ready.tied.numbers q x shape (sym (m.revs.live q off) ∙ l) h ∙ sym (m.numbers q x)
     ];
   };
@@ -102,6 +116,7 @@ lasts_moved g old new ready m later = record {
   ready = ready_moved g old new ready m;
   later = later;
   keys = m.keys;
+  start = m.start;
   shapes = record {
     next = m.up;
     shapes = λ q below. elim (cases_eq q g) [
@@ -115,18 +130,38 @@ lasts_moved g old new ready m later = record {
   apart = apart_moved g old new m;
 }
 
-abbrev world : VaultState → StoreState → World
+abbrev pub world : VaultState → StoreState → World
 world v s = record { vault = v; store = s }
+
+-- over a call whose read told no lie
+pub fits_lasts : (some : ℕ → Type 0) (old new : World) (lie : Lie) → Lasts some old new → Fits old.vault.keys old.vault.start lie → Fits new.vault.keys new.vault.start lie
+fits_lasts some old new lie lasts fits = subst (λ (k : KeyPair). Fits k new.vault.start lie) (sym lasts.keys) (subst (λ (s : Start). Fits old.vault.keys s lie) (sym lasts.start) fits)
+
+pub calm_lasts : (some : ℕ → Type 0) (old new : World) → Lasts some old new → new.store.lie ≡ old.store.lie → Calm old → Calm new
+calm_lasts some old new lasts same calm = record { calm = λ lie is. fits_lasts some old new lie lasts (calm.calm lie (sym same ∙ is)) }
+
+-- no call
+pub lasts_none : (some : ℕ → Type 0) (w : World) → Ready w → Lasts some w w
+lasts_none some w ready = record {
+  ready = ready;
+  later = later_refl w.store;
+  keys = refl;
+  start = refl;
+  shapes = record { next = omega arith; shapes = λ q below. inr refl };
+  apart = record { live = λ q off. refl; number = λ q x off. refl; turn = λ q off. refl; kept = λ q off. refl; last = λ q x off. refl };
+}
 
 -- a read
 pub lasts_read : (v : VaultState) (old new : StoreState) (q x : ℕ) (shape : Region) → Ready (world v old) → v.revs.live q ≡ Some shape → Asks (Read q x) old new → Keeps old new → Lasts none (world v old) (world v new)
 lasts_read v old new q x shape ready lives asks keeps =
     let tied = ready.tied in
-    let numbers : (r y : ℕ) → number_of new.asked r y ≡ number_of old.asked r y = λ r y. ap (λ (l : List Access). number_of l r y) asks.asked ∙ number_read r y q x old.asked in
+    let numbers : (r y : ℕ) → number_after v.start new.asked r y ≡ number_after v.start old.asked r y =
+    λ r y. ap (λ (l : List Access). number_after v.start l r y) asks.asked ∙ number_read v.start.writes (v.start.given r y) r y q x old.asked in
     record {
       ready = record {
         tied = record {
-          count = tied.count ∙ sym (ap writes asks.asked ∙ writes_read q x old.asked);
+          start = tied.start;
+          count = tied.count ∙ sym (ap (λ (l : List Access). v.start.writes + writes l) asks.asked ∙ ap (λ (n : ℕ). v.start.writes + n) (writes_read q x old.asked));
           next = omega (arith, tied.next, ap makes asks.asked, makes_more old.asked (Read q x));
           above = subst (AllBelow v.next) (sym asks.asked) (below_more v.next old.asked (Read q x) tied.above (ready.below q shape lives));
           live = λ r s l. record { live = keeps.live r ∙ (tied.live r s l).live };
@@ -137,6 +172,7 @@ lasts_read v old new q x shape ready lives asks keeps =
       };
       later = later_call _ _ _ asks;
       keys = refl;
+      start = refl;
       shapes = record { next = omega arith; shapes = λ r below. inr refl };
       apart = record {
         live = λ r off. refl;
@@ -156,19 +192,57 @@ lasts_drop v revs old new g shape ready lives others gone asks only left =
     let now = world (record v { revs = revs }) new in
     lasts_moved g was now ready (record {
       keys = refl;
-      count = tied.count ∙ sym (ap writes asks.asked ∙ writes_discard g old.asked);
+      start = refl;
+      count = tied.count ∙ sym (ap (λ (l : List Access). v.start.writes + writes l) asks.asked ∙ ap (λ (n : ℕ). v.start.writes + n) (writes_discard g old.asked));
       next = omega (arith, tied.next, ap makes asks.asked, makes_more old.asked (Discard g));
       above = subst (AllBelow v.next) (sym asks.asked) (below_more v.next old.asked (Discard g) tied.above (ready.below g shape lives));
       up = omega arith;
       revs = others;
       only = only;
-      numbers = λ q x. ap (λ (l : List Access). number_of l q x) asks.asked ∙ number_discard q x g old.asked;
+      numbers = λ q x. ap (λ (l : List Access). number_after v.start l q x) asks.asked ∙ number_discard v.start.writes (v.start.given q x) q x g old.asked;
       here_shape = inl gone;
       here_live = λ s l. absurd (cc (l, gone));
       here_number = λ s l x. absurd (cc (l, gone));
       here_below = λ s l. absurd (cc (l, gone));
       here_fits = λ s l. absurd (cc (l, gone));
     }) (later_call _ _ _ asks)
+
+-- a region that the vault alone forgets
+pub lasts_forget : (v : VaultState) (revs : RevState) (s : StoreState) (g : ℕ) → Ready (world v s) → OtherRegions g v.revs revs → revs.live g ≡ None → Lasts (one g) (world v s) (world (record v { revs = revs }) s)
+lasts_forget v revs s g ready others gone =
+    let tied = ready.tied in
+    lasts_moved g (world v s) (world (record v { revs = revs }) s) ready (record {
+      keys = refl;
+      start = refl;
+      count = tied.count;
+      next = tied.next;
+      above = tied.above;
+      up = omega arith;
+      revs = others;
+      only = record { live = λ q off. refl; last = λ q x off. refl };
+      numbers = λ q x. refl;
+      here_shape = inl gone;
+      here_live = λ s l. absurd (cc (l, gone));
+      here_number = λ s l x. absurd (cc (l, gone));
+      here_below = λ s l. absurd (cc (l, gone));
+      here_fits = λ s l. absurd (cc (l, gone));
+    }) (later_refl s)
+
+pub forgets_region : (v : VaultState) (revs : RevState) (s : StoreState) (g : ℕ) → OtherRegions g v.revs revs → revs.live g ≡ None → Forgets g (world v s) (world (record v { revs = revs }) s)
+forgets_region v revs s g others gone = record {
+  went = λ ready. let lasts = lasts_forget v revs s g ready others gone in record {
+    lasts = lasts;
+    did = did_none s;
+    spare = omega arith;
+    calm = calm_lasts _ _ _ lasts refl;
+  };
+  seals = λ good. record {
+    seals = λ tells all. record {
+      all = λ q x b live at. let is = all.all q x b live at in record { number = is.number; rows = is.rows; is = is.is; went = is.went; fine = is.fine };
+    };
+  };
+  gone = gone;
+}
 
 pub seals_drop : (good : ℕ → List ℕ → Bool) (v : VaultState) (revs : RevState) (old new : StoreState) (g : ℕ) → Asks (Discard g) old new → OnlyRegion g old new → (new.live g ≡ None) ⊎ Keeps old new
     → Seals good (world v old) (world (record v { revs = revs }) new)
@@ -177,23 +251,23 @@ seals_drop good v revs old new g asks only left =
     let now = world (record v { revs = revs }) new in
     record {
       seals = λ tells all. elim left [
-        | inl left ↦ sealed_but good was now (Discard g) refl asks g only (inl left) all
-        | inr keeps ↦ sealed_keeps good was now (Discard g) refl asks keeps all
+        | inl left ↦ sealed_but good was now (Discard g) refl refl asks g only (inl left) all
+        | inr keeps ↦ sealed_keeps good was now (Discard g) refl refl asks keeps all
       ];
     }
 
 pub seals_read : (good : ℕ → List ℕ → Bool) (v : VaultState) (old new : StoreState) (q x : ℕ) → Asks (Read q x) old new → Keeps old new → Seals good (world v old) (world v new)
-seals_read good v old new q x asks keeps = record { seals = λ tells all. sealed_keeps good (world v old) (world v new) (Read q x) refl asks keeps all }
+seals_read good v old new q x asks keeps = record { seals = λ tells all. sealed_keeps good (world v old) (world v new) (Read q x) refl refl asks keeps all }
 
 pub seals_make : (good : ℕ → List ℕ → Bool) (v : VaultState) (revs : RevState) (old new : StoreState) (g blocks len : ℕ) → Asks (Make g blocks len) old new → Makes g blocks len old new
     → Seals good (world v old) (world (record v { next = v.next + 1; revs = revs }) new)
 seals_make good v revs old new g blocks len asks makes' =
-    record { seals = λ tells all. sealed_but good (world v old) (world (record v { next = v.next + 1; revs = revs }) new) (Make g blocks len) refl asks g makes'.others (inr makes'.empty) all }
+    record { seals = λ tells all. sealed_but good (world v old) (world (record v { next = v.next + 1; revs = revs }) new) (Make g blocks len) refl refl asks g makes'.others (inr makes'.empty) all }
 
 pub seals_unmade : (good : ℕ → List ℕ → Bool) (v : VaultState) (revs : RevState) (old new : StoreState) (g blocks len : ℕ) → Asks (Make g blocks len) old new → Keeps old new
     → Seals good (world v old) (world (record v { next = v.next + 1; revs = revs }) new)
 seals_unmade good v revs old new g blocks len asks keeps =
-    record { seals = λ tells all. sealed_keeps good (world v old) (world (record v { next = v.next + 1; revs = revs }) new) (Make g blocks len) refl asks keeps all }
+    record { seals = λ tells all. sealed_keeps good (world v old) (world (record v { next = v.next + 1; revs = revs }) new) (Make g blocks len) refl refl asks keeps all }
 
 -- a call that answered
 pub went_call : (a : Access) (some : ℕ → Type 0) (old new : World) → Lasts some old new → Asks a old.store new.store → new.store.faults ≡ old.store.faults → new.store.lie ≡ old.store.lie → Went (a ∷ []) some old new
@@ -201,29 +275,30 @@ went_call a some old new lasts asks faults lie = record {
   lasts = lasts;
   did = did_call a old.store new.store asks faults;
   spare = asks.spare;
-  calm = λ calm. record { calm = λ l is. subst (λ (k : KeyPair). Fits k l) (sym lasts.keys) (calm.calm l (sym lie ∙ is)) };
+  calm = calm_lasts some old new lasts lie;
 }
 
 module _ (v : VaultState) (revs : RevState) (old new : StoreState) (q x : ℕ) (shape : Region) (ready : Ready (world v old)) (lives : v.revs.live q ≡ Some shape)
     (wrote : Wrote q shape x (v.count + 1) v.revs revs) (asks : Asks (Write q x) old new) (only : OnlyAt q x old new) where
-  number_here : number_of new.asked q x ≡ v.count + 1
-  number_here = ap (λ (l : List Access). number_of l q x) asks.asked ∙ number_write_here q x old.asked ∙ ap (λ (n : ℕ). n + 1) (sym ready.tied.count)
+  number_here : number_after v.start new.asked q x ≡ v.count + 1
+  number_here = ap (λ (l : List Access). number_after v.start l q x) asks.asked ∙ number_write_here v.start.writes (v.start.given q x) q x old.asked ∙ ap (λ (n : ℕ). n + 1) (sym ready.tied.count)
 
-  number_other : (r y : ℕ) → (r ≡ q → y ≡ x → ⊥) → number_of new.asked r y ≡ number_of old.asked r y
-  number_other r y off = ap (λ (l : List Access). number_of l r y) asks.asked ∙ number_write_other r y q x old.asked off
+  number_other : (r y : ℕ) → (r ≡ q → y ≡ x → ⊥) → number_after v.start new.asked r y ≡ number_after v.start old.asked r y
+  number_other r y off = ap (λ (l : List Access). number_after v.start l r y) asks.asked ∙ number_write_other v.start.writes (v.start.given r y) r y q x old.asked off
 
   now_ready : Ready (world (record v { count = v.count + 1; revs = revs }) new)
   now_ready =
       let tied = ready.tied in
       record {
         tied = record {
-          count = ap (λ (n : ℕ). n + 1) tied.count ∙ sym (ap writes asks.asked ∙ writes_write q x old.asked);
+          start = tied.start;
+          count = omega (arith, tied.count, ap writes asks.asked, writes_write q x old.asked);
           next = omega (arith, tied.next, ap makes asks.asked, makes_more old.asked (Write q x));
           above = subst (AllBelow v.next) (sym asks.asked) (below_more v.next old.asked (Write q x) tied.above (ready.below q shape lives));
           live = λ r s l. record { live = only.live r ∙ (tied.live r s (sym (wrote.live r) ∙ l)).live };
           numbers = λ r y s l h. elim (cases_eq r q) [
             | inl in_region ↦ elim (cases_eq y x) [
-              | inl here ↦ (λ i. revs.number (in_region i) (here i)) ∙ wrote.here ∙ sym number_here ∙ sym (λ i. number_of new.asked (in_region i) (here i))
+              | inl here ↦ (λ i. revs.number (in_region i) (here i)) ∙ wrote.here ∙ sym number_here ∙ sym (λ i. number_after v.start new.asked (in_region i) (here i))
               | inr off ↦ wrote.others r y (λ _ same. off same) ∙ tied.numbers r y s (sym (wrote.live r) ∙ l) h ∙ sym (number_other r y (λ _ same. off same))
             ]
             | inr off ↦ wrote.others r y (λ same _. off same) ∙ tied.numbers r y s (sym (wrote.live r) ∙ l) h ∙ sym (number_other r y (λ same _. off same))
@@ -235,10 +310,13 @@ module _ (v : VaultState) (revs : RevState) (old new : StoreState) (q x : ℕ) (
 
   now_sealed : (good : ℕ → List ℕ → Bool) (block rows : List ℕ) → IsTrue (good q rows) → block ≡ sealed v.keys (at_of q x (v.count + 1)) rows → (new.last q x ≡ old.last q x) ⊎ (new.last q x ≡ Some block)
       → AllSealed good (world v old) → AllSealed good (world (record v { count = v.count + 1; revs = revs }) new)
-  now_sealed good block rows fine is left all = sealed_kept good (world v old) (world (record v { count = v.count + 1; revs = revs }) new) (Write q x) refl asks each all
+  now_sealed good block rows fine is left all = sealed_kept good (world v old) (world (record v { count = v.count + 1; revs = revs }) new) (Write q x) refl refl asks each all
     where
+      now : World
+      now = world (record v { count = v.count + 1; revs = revs }) new
+
       Goal : ℕ → ℕ → List ℕ → Type 0
-      Goal r y b = SealedAt good v.keys new.asked r y b ⊎ ((old.live r ≡ None → ⊥) × (old.last r y ≡ Some b))
+      Goal r y b = SealedAt good now r y b ⊎ ((old.live r ≡ None → ⊥) × (old.last r y ≡ Some b))
 
       at_place : (b : List ℕ) → (new.live q ≡ None → ⊥) → new.last q x ≡ Some b → (new.last q x ≡ old.last q x) ⊎ (new.last q x ≡ Some block) → Goal q x b
       at_place b live at (inl same) = inr ((λ n. live (only.live q ∙ n)), sym same ∙ at)
@@ -249,7 +327,7 @@ module _ (v : VaultState) (revs : RevState) (old new : StoreState) (q x : ℕ) (
             rows = rows;
             is = same ∙ is;
             fine = fine;
-            went = ap (nth_write (v.count + 1)) asks.asked ∙ went_last (v.count + 1) q x old.asked (ap (λ (n : ℕ). n + 1) ready.tied.count);
+            went = inl (ap (nth_write (v.count + 1 - v.start.writes)) asks.asked ∙ went_last (v.count + 1 - v.start.writes) q x old.asked (omega (arith, ready.tied.count)));
           })
 
       each : (r y : ℕ) (b : List ℕ) → (new.live r ≡ None → ⊥) → new.last r y ≡ Some b → Goal r y b
@@ -271,6 +349,7 @@ module _ (v : VaultState) (revs : RevState) (old new : StoreState) (q x : ℕ) (
     ready = now_ready;
     later = later_call _ _ _ asks;
     keys = refl;
+    start = refl;
     shapes = record { next = omega arith; shapes = λ r below. inr (wrote.live r) };
     apart = record {
       live = λ r off. wrote.live r;
@@ -293,6 +372,21 @@ module _ (v : VaultState) (revs : RevState) (old new : StoreState) (q x : ℕ) (
     last = only.elsewhere;
   }
 
+  -- the next place of a round region
+  pub turn_write : OnTurn q shape (turn_after shape x) (world (record v { count = v.count + 1; revs = revs }) new)
+  turn_write = record {
+    turn = λ round. sym wrote.turn;
+    run = λ round some. ap (revs.number q) (before shape.order round some) ∙ wrote.here;
+  }
+    where
+      back : (t : Bool) → (if t then 0 else x + 1) ≢ 0 → (if t then 0 else x + 1) - 1 ≡ x
+      back true some = absurd (some refl)
+      back false some = omega arith
+
+      before : (o : Order) → o ≡ Round → place_after o shape.blocks x ≢ 0 → place_after o shape.blocks x - 1 ≡ x
+      before Round round some = back (x + 1 == shape.blocks) some
+      before Any round some = absurd (cc round)
+
   pub holds_write : (rows block : List ℕ) → block ≡ sealed v.keys (at_of q x (v.count + 1)) rows → new.last q x ≡ Some block → Holds q x rows (world (record v { count = v.count + 1; revs = revs }) new)
   holds_write rows block is last = record { last = last ∙ ap (λ (b : List ℕ). Some b) (is ∙ ap (λ (n : ℕ). sealed v.keys (at_of q x n) rows) (sym wrote.here)) }
 
@@ -301,7 +395,7 @@ pub cut_call : (a : Access) (some : ℕ → Type 0) (old new : World) → Lasts 
 cut_call a some old new lasts asks rises lie = record {
   lasts = lasts;
   began = began_call a old.store new.store asks;
-  cause = (rises, λ calm. record { calm = λ l is. subst (λ (k : KeyPair). Fits k l) (sym lasts.keys) (calm.calm l (sym lie ∙ is)) });
+  cause = (rises, calm_lasts some old new lasts lie);
 }
 
 -- a region that was made
@@ -313,10 +407,12 @@ lasts_make v revs old new shape ready wide begins asks makes' =
     let access = Make g shape.blocks (shape.width + 32) in
     let was = world v old in
     let now = world (record v { next = v.next + 1; revs = revs }) new in
-    let numbers : (q x : ℕ) → number_of new.asked q x ≡ number_of old.asked q x = λ q x. ap (λ (l : List Access). number_of l q x) asks.asked ∙ number_make q x g shape.blocks (shape.width + 32) old.asked in
+    let numbers : (q x : ℕ) → number_after v.start new.asked q x ≡ number_after v.start old.asked q x =
+    λ q x. ap (λ (l : List Access). number_after v.start l q x) asks.asked ∙ number_make v.start.writes (v.start.given q x) q x g shape.blocks (shape.width + 32) old.asked in
     lasts_moved g was now ready (record {
       keys = refl;
-      count = tied.count ∙ sym (ap writes asks.asked ∙ writes_make g shape.blocks (shape.width + 32) old.asked);
+      start = refl;
+      count = omega (arith, tied.count, ap writes asks.asked, writes_make g shape.blocks (shape.width + 32) old.asked);
       next = omega (arith, tied.next, ap makes asks.asked, makes_more old.asked access);
       above = subst (AllBelow (v.next + 1)) (sym asks.asked) (below_more (v.next + 1) old.asked access (below_up v.next (v.next + 1) old.asked (omega arith) tied.above) (omega arith));
       up = omega arith;
@@ -325,7 +421,7 @@ lasts_make v revs old new shape ready wide begins asks makes' =
       numbers = numbers;
       here_shape = inr (omega arith);
       here_live = λ s l. let same : shape ≡ s = cc (begins.here, l) in subst (λ (k : Region). IsRegion g k.blocks (k.width + 32) new) same makes'.here;
-      here_number = λ s l x. begins.unwritten x ∙ sym (number_fresh g x old.asked tied.above) ∙ sym (numbers g x);
+      here_number = λ s l x. begins.unwritten x ∙ sym (tied.start.fresh g x (omega (arith, tied.next))) ∙ sym (number_fresh v.start.writes (v.start.given g x) g x old.asked tied.above) ∙ sym (numbers g x);
       here_below = λ s l. omega arith;
       here_fits = λ s l. let same : shape ≡ s = cc (begins.here, l) in subst (λ (k : Region). (1 ≤ k.width) × (k.width ≤ 16384)) same wide;
     }) (later_call _ _ _ asks)
@@ -341,13 +437,14 @@ lasts_unmade v revs old new blocks len ready others gone asks keeps =
     let now = world (record v { next = v.next + 1; revs = revs }) new in
     lasts_moved g was now ready (record {
       keys = refl;
-      count = tied.count ∙ sym (ap writes asks.asked ∙ writes_make g blocks len old.asked);
+      start = refl;
+      count = omega (arith, tied.count, ap writes asks.asked, writes_make g blocks len old.asked);
       next = omega (arith, tied.next, ap makes asks.asked, makes_more old.asked access);
       above = subst (AllBelow (v.next + 1)) (sym asks.asked) (below_more (v.next + 1) old.asked access (below_up v.next (v.next + 1) old.asked (omega arith) tied.above) (omega arith));
       up = omega arith;
       revs = others;
       only = record { live = λ q off. keeps.live q; last = λ q x off. keeps.last q x };
-      numbers = λ q x. ap (λ (l : List Access). number_of l q x) asks.asked ∙ number_make q x g blocks len old.asked;
+      numbers = λ q x. ap (λ (l : List Access). number_after v.start l q x) asks.asked ∙ number_make v.start.writes (v.start.given q x) q x g blocks len old.asked;
       here_shape = inl gone;
       here_live = λ s l. absurd (cc (l, gone));
       here_number = λ s l x. absurd (cc (l, gone));
@@ -362,20 +459,48 @@ others_twice g a b c first second = record {
   turn = λ q off. second.turn q off ∙ first.turn q off;
 }
 
+-- no region has the next number
+next_none : (o : Option Region) → ((shape : Region) → o ≡ Some shape → ⊥) → o ≡ None
+next_none None off = refl
+next_none (Some shape) off = absurd (off shape refl)
+
+-- a make for which the vault had no memory
+pub unmade : (v : VaultState) (s : StoreState) (blocks width : ℕ) (order : Order) → Ready (world v s) → MakesRegion blocks width order (Err VaultErrs.NoMemory) (world v s) (world v s)
+unmade v s blocks width order ready = record {
+  ok = tt;
+  err = record {
+    lasts = lasts_none (one v.next) (world v s) ready;
+    began = record { done = []; rest = make_at v.next blocks width; split = refl; asked = sym (append-nil s.asked) };
+    cause = (refl, λ calm. calm);
+  };
+  never = inr refl;
+  seals = λ good. record { seals = λ tells all. all };
+  number = tt;
+  lives = tt;
+  turn = tt;
+  gone = next_none (v.revs.live v.next) (λ shape is. absurd (omega (arith, ready.below v.next shape is)));
+}
+
 -- a make for which the store had no memory
 pub cut_call_none : (a : Access) (some : ℕ → Type 0) (old new : World) → Lasts some old new → Asks a old.store new.store → new.store.faults ≡ old.store.faults → new.store.lie ≡ old.store.lie → Cut VaultErrs.NoMemory (a ∷ []) some old new
 cut_call_none a some old new lasts asks faults lie = record {
   lasts = lasts;
   began = began_call a old.store new.store asks;
-  cause = (faults, λ calm. record { calm = λ l is. subst (λ (k : KeyPair). Fits k l) (sym lasts.keys) (calm.calm l (sym lie ∙ is)) });
+  cause = (faults, calm_lasts some old new lasts lie);
 }
 
-pub ready_new : (w : World) → w.store.asked ≡ [] → w.vault.count ≡ 0 → w.vault.next ≡ 1 → ((q : ℕ) → w.vault.revs.live q ≡ None) → Ready w
+-- no earlier run has left a number
+pub start_nothing : IsStart from_nothing
+start_nothing = record { fresh = λ q x above. refl; within = λ q x. omega arith; alone = λ q x r y same some. absurd (some refl) }
+
+-- before the first access
+pub ready_new : (w : World) → w.store.asked ≡ [] → IsStart w.vault.start → w.vault.count ≡ w.vault.start.writes → w.vault.next ≡ w.vault.start.region + 1 → ((q : ℕ) → w.vault.revs.live q ≡ None) → Ready w
 unfolding writes makes
-ready_new w none count next empty = record {
+ready_new w none start count next empty = record {
   tied = record {
-    count = count ∙ sym (ap writes none);
-    next = next ∙ sym (ap (λ (l : List Access). 1 + makes l) none);
+    start = start;
+    count = omega (arith, count, ap writes none);
+    next = omega (arith, next, ap makes none);
     above = subst (AllBelow w.vault.next) (sym none) tt;
     live = λ q s l. absurd (cc (l, empty q));
     numbers = λ q x s l h. absurd (cc (l, empty q));

@@ -8,8 +8,8 @@ use Rattle.ob_vault.specs.declared.fault.VaultErr.{VaultErr}
 use Rattle.ob_vault.specs.declared.fault.VaultErr.TheVariants.{Failed, Tampered, NoMemory}
 use Rattle.ob_vault.specs.State.{World}
 use Rattle.ob_vault.specs.Tied.{Ready, AllSealed, Calm, EndsAt, at_of}
-use Rattle.ob_seal.specs.Sealed.{tag_of}
-use Rattle.ob_store.specs.Calls.{ReadGives}
+use Rattle.ob_vault.specs.Numbers.{last_number}
+use Rattle.ob_seal.specs.Sealed.{sealed, tag_of}
 
 -- nothing has changed in any other region
 pub record Apart (some : ℕ → Type 0) (old new : World) : Type 0 where
@@ -36,6 +36,7 @@ pub record Lasts (some : ℕ → Type 0) (old new : World) : Type 0 where
   pub ready : Ready new
   pub later : Later old.store new.store
   pub keys : new.vault.keys ≡ old.vault.keys
+  pub start : new.vault.start ≡ old.vault.start
   pub shapes : KeepsShapes old new
   pub apart : Apart some old new
 
@@ -55,10 +56,19 @@ pub record EndsRead (q x : ℕ) (w : World) : Type 0 where
   pub before : List Access
   pub asked : w.store.asked ≡ before ++ Read q x ∷ []
 
+-- the block that the last read gave hasn't the tag of the place and the number of its last write
+pub record Unfit (q x : ℕ) (w : World) : Type 0 where
+  pub differs : drop (length w.store.gave - 32) w.store.gave
+      ≢ tag_of w.vault.keys (at_of q x (last_number w q x)) (take (length w.store.gave - 32) w.store.gave)
+
+-- it is that of these rows, sealed under that number
+pub record Opened (q x : ℕ) (rows : List ℕ) (w : World) : Type 0 where
+  pub gave : w.store.gave ≡ sealed w.vault.keys (at_of q x (last_number w q x)) rows
+
 -- why a call gave up
 abbrev pub Cause : VaultErr → World → World → Type 0
 Cause Failed old new = Rises old.store.faults new.store.faults × (Calm old → Calm new)
-Cause (Tampered q x) old new = (new.store.faults ≡ old.store.faults) × EndsRead q x new × (Calm old → Calm new ⊎ EndsAt q x new)
+Cause (Tampered q x) old new = (new.store.faults ≡ old.store.faults) × EndsRead q x new × Unfit q x new × (Calm old → Calm new ⊎ EndsAt q x new)
 Cause NoMemory old new = (new.store.faults ≡ old.store.faults) × (Calm old → Calm new)
 
 -- a first part of the script was asked, and no other region has changed
@@ -66,12 +76,6 @@ pub record Cut (e : VaultErr) (script : List Access) (some : ℕ → Type 0) (ol
   pub lasts : Lasts some old new
   pub began : Began script old.store new.store
   pub cause : Cause e old new
-
--- the store gave a block whose tag is not that of the place and its number
-pub record Refuses (q x : ℕ) (old new : World) : Type 0 where
-  pub bytes : List ℕ
-  pub gave : ReadGives q x bytes old.store new.store
-  pub differs : drop (length bytes - 32) bytes ≢ tag_of old.vault.keys (at_of q x (old.vault.revs.number q x)) (take (length bytes - 32) bytes)
 
 abbrev pub none : ℕ → Type 0
 none q = ⊥

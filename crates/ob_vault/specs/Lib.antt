@@ -3,8 +3,10 @@ pub mod Revs
 pub mod Vecs
 pub mod Laps
 pub mod IsLaps
+pub mod Numbers
 pub mod Tied
 pub mod Calls
 pub mod Places
 pub mod Rows
+pub mod VaultCalls
 pub mod Words

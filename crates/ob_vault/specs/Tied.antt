@@ -10,16 +10,18 @@ use Rattle.ob_seal.specs.Sealed.{sealed, tag_of}
 use Rattle.ob_seal.specs.declared.At.{At}
 use Rattle.ob_vault.specs.declared.region.Region.{Region}
 use Rattle.ob_vault.specs.declared.region.Order.TheVariants.{Round}
-use Rattle.ob_vault.specs.State.{World}
-use Rattle.ob_base.specs.Accesses.{writes, makes, number_of, nth_write}
+use Rattle.ob_vault.specs.State.{Start, World}
+use Rattle.ob_vault.specs.Numbers.{number_after, last_number, IsNumber, IsStart}
+use Rattle.ob_base.specs.Accesses.{writes, makes}
 
 -- the vault's numbers are those of the accesses, and its regions are live in the store
 pub record Tied (w : World) : Type 0 where
-  pub count : w.vault.count ≡ writes w.store.asked
-  pub next : w.vault.next ≡ 1 + makes w.store.asked
+  pub start : IsStart w.vault.start
+  pub count : w.vault.count ≡ w.vault.start.writes + writes w.store.asked
+  pub next : w.vault.next ≡ w.vault.start.region + 1 + makes w.store.asked
   pub above : AllBelow w.vault.next w.store.asked
   pub live : (q : ℕ) (shape : Region) → w.vault.revs.live q ≡ Some shape → IsRegion q shape.blocks (shape.width + 32) w.store
-  pub numbers : (q x : ℕ) (shape : Region) → w.vault.revs.live q ≡ Some shape → x < shape.blocks → w.vault.revs.number q x ≡ number_of w.store.asked q x
+  pub numbers : (q x : ℕ) (shape : Region) → w.vault.revs.live q ≡ Some shape → x < shape.blocks → w.vault.revs.number q x ≡ last_number w q x
 
 -- what each call asks of a vault and a store, and leaves
 pub record Ready (w : World) : Type 0 where
@@ -48,29 +50,33 @@ at_of q x n = record { region = q; place = x; number = n }
 pub record Holds (q x : ℕ) (rows : List ℕ) (w : World) : Type 0 where
   pub last : w.store.last q x ≡ Some (sealed w.vault.keys (at_of q x (w.vault.revs.number q x)) rows)
 
--- a block is some rows' that are good for its region, sealed under the position of a write to its place
-pub record SealedAt (good : ℕ → List ℕ → Bool) (keys : KeyPair) (asked : List Access) (q x : ℕ) (block : List ℕ) : Type 0 where
+-- a block is some rows' that are good for its region, sealed under the number of a write to its place
+pub record SealedAt (good : ℕ → List ℕ → Bool) (w : World) (q x : ℕ) (block : List ℕ) : Type 0 where
   pub number : ℕ
   pub rows : List ℕ
-  pub is : block ≡ sealed keys (at_of q x number) rows
-  pub went : nth_write number asked ≡ Some (q, x)
+  pub is : block ≡ sealed w.vault.keys (at_of q x number) rows
+  pub went : IsNumber w q x number
   pub fine : IsTrue (good q rows)
 
 -- nothing lies in clear
 pub record AllSealed (good : ℕ → List ℕ → Bool) (w : World) : Type 0 where
-  pub all : (q x : ℕ) (block : List ℕ) → w.store.live q ≢ None → w.store.last q x ≡ Some block → SealedAt good w.vault.keys w.store.asked q x block
+  pub all : (q x : ℕ) (block : List ℕ) → w.store.live q ≢ None → w.store.last q x ≡ Some block → SealedAt good w q x block
+
+-- the place of a lie and the number of its last write then
+abbrev pub at_lie : Start → Lie → At
+at_lie start lie = at_of lie.region lie.place (number_after start lie.before lie.region lie.place)
 
 -- the block of a lie has the tag of its place and number
-pub record Fits (keys : KeyPair) (lie : Lie) : Type 0 where
-  pub tag : drop (length lie.bytes - 32) lie.bytes ≡ tag_of keys (at_of lie.region lie.place (number_of lie.before lie.region lie.place)) (take (length lie.bytes - 32) lie.bytes)
+pub record Fits (keys : KeyPair) (start : Start) (lie : Lie) : Type 0 where
+  pub tag : drop (length lie.bytes - 32) lie.bytes ≡ tag_of keys (at_lie start lie) (take (length lie.bytes - 32) lie.bytes)
 
 -- no lie is told, or one that fits
 pub record Calm (w : World) : Type 0 where
-  pub calm : (lie : Lie) → w.store.lie ≡ Some lie → Fits w.vault.keys lie
+  pub calm : (lie : Lie) → w.store.lie ≡ Some lie → Fits w.vault.keys w.vault.start lie
 
 -- of the first changed block that was read, if there is one, the tag doesn't fit
 pub record IsUnfit (w : World) : Type 0 where
-  pub unfit : (lie : Lie) → w.store.lie ≡ Some lie → ¬ Fits w.vault.keys lie
+  pub unfit : (lie : Lie) → w.store.lie ≡ Some lie → ¬ Fits w.vault.keys w.vault.start lie
 
 -- the last access was the first lie
 pub record EndsAt (q x : ℕ) (w : World) : Type 0 where

@@ -19,18 +19,13 @@ pub struct Vault<R> {
 }
 
 impl<R: Revisions> Vault<R> {
-    ghost use Rattle.std.specs.Prelude.{◌≡◌, ◌<◌, ◌≤◌, ◌+◌, ◌/◌, ◌^◌, ◌⊎◌, [], ℕ, Bool, List, Some, None, IsTrue, Err, IfOk, IfErr, OnOk, OnErr, MatchResult, length};
+    ghost use Rattle.std.specs.Prelude.{◌≡◌, ◌<◌, ◌≤◌, ◌+◌, ◌^◌, [], ℕ, Some, None, length};
     ghost use Rattle.ob_store.specs.State.{StoreState};
-    ghost use Rattle.ob_base.specs.Counts.{Rises};
-    ghost use Rattle.ob_base.specs.Accesses.{read_at, write_at};
     ghost use Rattle.ob_vault.specs.declared.region.Region.{Region as Shape};
-    ghost use Rattle.ob_vault.specs.State.{World};
-    ghost use Rattle.ob_vault.specs.Revs.{turn_after};
-    ghost use Rattle.ob_vault.specs.Tied.{Ready, Lives, Written, OnTurn, Holds};
-    ghost use Rattle.ob_base.specs.Accesses.{make_at, discard_at};
-    ghost use Rattle.ob_vault.specs.Calls.{Went, Cut, Only, Seals, Refuses, none, one};
-    ghost use Rattle.ob_vault.specs.Rows.{joined, Tails, SameSizes};
-    ghost use Rattle.ob_vault.specs.Places.{at, PlaceIn, MayGet, MayPut};
+    ghost use Rattle.ob_vault.specs.Tied.{Ready, Lives};
+    ghost use Rattle.ob_vault.specs.Rows.{SameSizes};
+    ghost use Rattle.ob_vault.specs.Places.{at, MayGet, MayPut};
+    ghost use Rattle.ob_vault.specs.VaultCalls.{MakesRegion, Gets, Puts, DropsRegion, Forgets};
 
     /// A vault with no region.
     pub fn new(alloc: Global, keys: Keys) -> Vault<R>
@@ -61,14 +56,8 @@ impl<R: Revisions> Vault<R> {
         requires few { length (S.state store.old).asked < 2 ^ 63 + 2 ^ 60 }
         requires blocks { (1 ≤ blocks) × (blocks ≤ 134217728) }
         requires width { (1 ≤ width) × (width ≤ 16384) }
-        ensures ok { OnOk result (Went (make_at self.old.next blocks width) (one self.old.next) (at R.state self.old (S.state store.old)) (at R.state self.new (S.state store.new))) }
-        ensures err { IfErr result (λ e. Cut e (make_at self.old.next blocks width) (one self.old.next) (at R.state self.old (S.state store.old)) (at R.state self.new (S.state store.new))) }
-        ensures seals { (good : ℕ → List ℕ → Bool) → Seals good (at R.state self.old (S.state store.old)) (at R.state self.new (S.state store.new)) }
-        ensures number { IfOk result (λ g. g ≡ self.old.next) }
-        ensures gone { OnErr result ((R.state self.new.revs).live self.old.next ≡ None) }
-        ensures never { IfErr result (λ e. (e ≡ VaultErr.Failed) ⊎ (e ≡ VaultErr.NoMemory)) }
-        ensures lives { OnOk result (Lives self.old.next (record { blocks = blocks; width = width; order = order }) (at R.state self.new (S.state store.new))) }
-        ensures turn { OnOk result (OnTurn self.old.next (record { blocks = blocks; width = width; order = order }) 0 (at R.state self.new (S.state store.new))) }
+        ensures makes { MakesRegion blocks width order result
+            (at R.state self.old (S.state store.old)) (at R.state self.new (S.state store.new)) }
     {
         let region = self.next;
         let shape = Region {
@@ -104,17 +93,9 @@ impl<R: Revisions> Vault<R> {
         requires ready { Ready (at R.state self.old (S.state store.old)) }
         requires spare { 1 ≤ (S.state store.old).spare }
         requires place { MayGet region place rows.old (at R.state self.old (S.state store.old)) }
-        ensures ok { OnOk result (Went (read_at region place) none (at R.state self.old (S.state store.old)) (at R.state self.new (S.state store.new))) }
-        ensures err { IfErr result (λ e. Cut e (read_at region place) none (at R.state self.old (S.state store.old)) (at R.state self.new (S.state store.new))) }
-        ensures seals { (good : ℕ → List ℕ → Bool) → Seals good (at R.state self.old (S.state store.old)) (at R.state self.new (S.state store.new)) }
-        ensures never { IfErr result (λ e. (e ≡ VaultErr.Failed) ⊎ (e ≡ VaultErr.Tampered region place)) }
-        ensures refuses { result ≡ Err (VaultErr.Tampered region place) → Refuses region place (at R.state self.old (S.state store.old)) (at R.state self.new (S.state store.new)) }
         ensures rows { SameSizes rows.old rows.new }
-        ensures tails { OnOk result ((shape : Shape) → Lives region shape (at R.state self.old (S.state store.old)) → Tails (shape.width / length rows.old) rows.new) }
-        ensures turns { (q x : ℕ) (shape : Shape) → OnTurn q shape x (at R.state self.old (S.state store.old)) → OnTurn q shape x (at R.state self.new (S.state store.new)) }
-        ensures told { (bytes : List ℕ) (shape : Shape) → Lives region shape (at R.state self.old (S.state store.old)) → length bytes ≡ shape.width
-            → Holds region place bytes (at R.state self.old (S.state store.old)) → (S.state store.new).lie ≡ None
-            → MatchResult result (λ _. joined (shape.width / length rows.old) rows.new ≡ bytes) (λ e. e ≡ VaultErr.Failed) }
+        ensures gets { Gets region place rows.old rows.new result
+            (at R.state self.old (S.state store.old)) (at R.state self.new (S.state store.new)) }
     {
         let shape = self.revs.shape(region);
         let number = self.revs.number(region, place);
@@ -148,19 +129,8 @@ impl<R: Revisions> Vault<R> {
         requires spare { 1 ≤ (S.state store.old).spare }
         requires few { length (S.state store.old).asked < 2 ^ 63 + 2 ^ 60 }
         requires place { MayPut region place rows.now (at R.state self.old (S.state store.old)) }
-        ensures ok { OnOk result (Went (write_at region place) (one region) (at R.state self.old (S.state store.old)) (at R.state self.new (S.state store.new))) }
-        ensures err { IfErr result (λ e. Cut e (write_at region place) (one region) (at R.state self.old (S.state store.old)) (at R.state self.new (S.state store.new))) }
-        ensures seals { (good : ℕ → List ℕ → Bool) (shape : Shape) → Lives region shape (at R.state self.old (S.state store.old)) → IsTrue (good region (joined (shape.width / length rows.now) rows.now))
-            → Seals good (at R.state self.old (S.state store.old)) (at R.state self.new (S.state store.new)) }
-        ensures only { Only region place (at R.state self.old (S.state store.old)) (at R.state self.new (S.state store.new)) }
-        ensures turn { (shape : Shape) → Lives region shape (at R.state self.old (S.state store.old)) → OnTurn region shape (turn_after shape place) (at R.state self.new (S.state store.new)) }
-        ensures written { Written region place (at R.state self.new (S.state store.new)) }
-        ensures never { IfErr result (λ e. e ≡ VaultErr.Failed) }
-        ensures number { (R.state self.new.revs).number region place ≡ self.old.count + 1 }
-        ensures failed { OnErr result (IsTrue (S.state store.old).tells → (shape : Shape) → Lives region shape (at R.state self.old (S.state store.old))
-            → ((S.state store.new).last region place ≡ (S.state store.old).last region place) ⊎ Holds region place (joined (shape.width / length rows.now) rows.now) (at R.state self.new (S.state store.new))) }
-        ensures told { OnOk result (IsTrue (S.state store.old).tells → (shape : Shape) → Lives region shape (at R.state self.old (S.state store.old))
-            → Holds region place (joined (shape.width / length rows.now) rows.now) (at R.state self.new (S.state store.new))) }
+        ensures puts { Puts region place rows.now result
+            (at R.state self.old (S.state store.old)) (at R.state self.new (S.state store.new)) }
     {
         let shape = self.revs.shape(region);
         let width = shape.width as usize / rows.len();
@@ -185,13 +155,8 @@ impl<R: Revisions> Vault<R> {
         requires ready { Ready (at R.state self.old (S.state store.old)) }
         requires spare { 1 ≤ (S.state store.old).spare }
         requires lives { (shape : Shape) × Lives region shape (at R.state self.old (S.state store.old)) }
-        ensures went { Went (discard_at region) (one region) (at R.state self.old (S.state store.old)) (at R.state self.new (S.state store.new)) }
-        ensures seals { (good : ℕ → List ℕ → Bool) → Seals good (at R.state self.old (S.state store.old)) (at R.state self.new (S.state store.new)) }
-        ensures turns { (q x : ℕ) (shape : Shape) → (q ≡ region → ⊥) → OnTurn q shape x (at R.state self.old (S.state store.old)) → OnTurn q shape x (at R.state self.new (S.state store.new)) }
-        ensures gone { (R.state self.new.revs).live region ≡ None }
-        ensures slips { OnErr result (Rises (S.state store.old).slips (S.state store.new).slips) }
-        ensures stays { OnOk result ((S.state store.new).slips ≡ (S.state store.old).slips) }
-        ensures never { IfErr result (λ e. e ≡ VaultErr.Failed) }
+        ensures drops { DropsRegion region result
+            (at R.state self.old (S.state store.old)) (at R.state self.new (S.state store.new)) }
     {
         self.revs.end(region);
         match store.discard(region) {
@@ -202,9 +167,7 @@ impl<R: Revisions> Vault<R> {
 
     /// Takes a region out of the vault, and leaves it in the store.
     pub fn forget(&mut self, region: u64)
-        ensures went { (s : StoreState) → Ready (at R.state self.old s) → Went [] (one region) (at R.state self.old s) (at R.state self.new s) }
-        ensures gone { (R.state self.new.revs).live region ≡ None }
-        ensures seals { (s : StoreState) (good : ℕ → List ℕ → Bool) → Seals good (at R.state self.old s) (at R.state self.new s) }
+        ensures forgets { (s : StoreState) → Forgets region (at R.state self.old s) (at R.state self.new s) }
     {
         self.revs.end(region);
     }

@@ -1,47 +1,96 @@
-use Rattle.std.proofs.Common.{◌≡◌, ◌+◌, ◌-◌, ℕ, length, ◌/◌, take, sym, ◌∙◌, ap, arith}
+use Rattle.std.proofs.Common.{◌≡◌, ◌+◌, ◌-◌, inl, inr, ℕ, List, length, ◌/◌, take, refl, sym, ◌∙◌, ap, subst, arith}
 use Rattle.std.proofs.lemmas.Grind.{common_steps}
+use Rattle.ob_store.specs.Calls.{ReadGives}
 use Rattle.ob_store.proofs.Steps.{none_before, later_call, read_true}
 use Rattle.ob_seal.specs.Sealed.{sealed, tag_of}
-use Rattle.ob_vault.specs.Rows.{joined}
+use Rattle.ob_vault.specs.Rows.{joined, Tails}
 use Rattle.ob_vault.specs.Tied.{at_of}
-use Rattle.ob_base.specs.Accesses.{number_of}
+use Rattle.ob_vault.specs.Numbers.{number_after}
+use Rattle.ob_vault.specs.State.{from_nothing}
 use Rattle.ob_vault.proofs.WorldSteps.{lasts_read, seals_read}
-use Rattle.ob_vault.proofs.Lies.{read_went, read_tampered, read_failed}
+use Rattle.ob_vault.proofs.Lies.{read_went, read_tampered, read_failed, read_unfit, read_opened}
 use Rattle.ob_vault.proofs.vault.Vault.get.Goals as goal
 
-pub returns-in-Err-clause-err : goal.returns-in-Err-clause-err
-returns-in-Err-clause-err g c =
+pub returns-in-Err-clause-gets : goal.returns-in-Err-clause-gets
+returns-in-Err-clause-gets g c =
     let lasts = lasts_read _ _ _ _ _ _ c.requires.ready c.shape-shape.ensures c.load.ensures.asks c.load.ensures.keeps in
-    read_failed _ _ _ (take (c.shape-shape.result.width + 32) c.load.new.block) _ _ lasts c.load.ensures.asks c.in-Err.ensures.cause c.in-Err.ensures.err
+    record {
+      ok = tt;
+      err = read_failed _ _ _ (take (c.shape-shape.result.width + 32) c.load.new.block) _ _ lasts c.load.ensures.asks c.in-Err.ensures.cause c.in-Err.ensures.err;
+      never = inl refl;
+      seals = λ good. seals_read good _ _ _ _ _ c.load.ensures.asks c.load.ensures.keeps;
+      turns = λ r y shape turn. record { turn = turn.turn; run = turn.run };
+      gave = λ off. absurd (off refl);
+      opened = tt;
+      tails = tt;
+      kept = refl;
+      told = λ bytes shape lives long holds none. refl;
+    }
 
-pub returns-then-open-clause-ok : goal.returns-then-open-clause-ok
-returns-then-open-clause-ok g c =
-    let lasts = lasts_read _ _ _ _ _ _ c.requires.ready c.shape-shape.ensures c.load.ensures.asks c.load.ensures.keeps in
+pub returns-then-open-clause-gets : goal.returns-then-open-clause-gets
+returns-then-open-clause-gets g c =
     let place = c.requires.place.place in
-    let number : c.number-number.result ≡ number_of (g.S.BlockStore.state c.args.store.now).asked c.args.region c.args.place =
-    c.number-number.ensures ∙ c.requires.ready.tied.numbers _ _ place.shape place.lives.live place.within in
+    let keys = c.args.self.now.keys in
+    let q = c.args.region in
+    let x = c.args.place in
+    let old = g.S.BlockStore.state c.args.store.now in
+    let new = g.S.BlockStore.state c.load.new.store in
     let block = take (c.shape-shape.result.width + 32) c.load.new.block in
-    read_went _ _ _ _ _ _ lasts c.load.ensures.asks c.in-Ok.ensures.ok c.in-Ok.ensures.cause
-    (c.open.ensures.tag c.if-open.true ∙ ap (λ (n : ℕ). tag_of c.args.self.now.keys (at_of c.args.region c.args.place n) (take (length block - 32) block)) number)
-
-pub returns-else-open-clause-err : goal.returns-else-open-clause-err
-returns-else-open-clause-err g c =
     let lasts = lasts_read _ _ _ _ _ _ c.requires.ready c.shape-shape.ensures c.load.ensures.asks c.load.ensures.keeps in
-    read_tampered _ _ _ _ _ _ lasts c.load.ensures.asks c.in-Ok.ensures.ok c.in-Ok.ensures.cause
+    let number : c.number-number.result ≡ number_after from_nothing old.asked q x = c.number-number.ensures ∙ c.requires.ready.tied.numbers _ _ place.shape place.lives.live place.within in
+    let gave = c.in-Ok.ensures.gave in
+    record {
+      ok = read_went _ _ _ _ _ _ lasts c.load.ensures.asks c.in-Ok.ensures.ok c.in-Ok.ensures.cause
+          (c.open.ensures.tag c.if-open.true ∙ ap (λ (n : ℕ). tag_of keys (at_of q x n) (take (length block - 32) block)) number);
+      err = tt;
+      never = tt;
+      seals = λ good. seals_read good _ _ _ _ _ c.load.ensures.asks c.load.ensures.keeps;
+      turns = λ r y shape turn. record { turn = turn.turn; run = turn.run };
+      gave = λ off. subst (λ (b : List ℕ). ReadGives q x b old new) (sym gave) c.in-Ok.ensures.ok;
+      opened = λ shape lives.
+          let width : c.shape-shape.result.width ≡ shape.width = cc (c.shape-shape.ensures, lives.live) in
+          read_opened _ _ _ _ _ _ lasts c.load.ensures.asks _ gave
+          (c.open.ensures.opened c.if-open.true ∙ (λ i. sealed keys (at_of q x (number i)) (joined (width i / length c.args.rows.now) c.open.new.rows)));
+      tails = λ shape lives.
+          let width : c.shape-shape.result.width ≡ shape.width = cc (c.shape-shape.ensures, lives.live) in
+          subst (λ (n : ℕ). Tails (n / length c.args.rows.now) c.open.new.rows) width (c.open.ensures.tails c.if-open.true);
+      kept = tt;
+      told = λ bytes shape lives size holds none.
+          let block = read_true _ _ _ _ _ c.in-Ok.ensures.ok (none_before _ _ (later_call _ _ _ c.load.ensures.asks) none) none _ holds.last in
+          let width : c.shape-shape.result.width ≡ shape.width = cc (c.shape-shape.ensures, lives.live) in
+          let long : c.shape-shape.result.width + 32 ≡ length (take (c.shape-shape.result.width + 32) c.load.new.block) = grind (arith, common_steps, (c.requires.ready.fits _ _ c.shape-shape.ensures).1) in
+          ap (λ (n : ℕ). joined (n / length c.args.rows.now) c.open.new.rows) (sym width)
+          ∙ (c.open.ensures.opens bytes (omega (arith, long)) (block ∙ ap (λ (n : ℕ). sealed keys (at_of q x n) bytes) (sym c.number-number.ensures))).1;
+    }
 
-pub returns-then-open-clause-told : goal.returns-then-open-clause-told
-returns-then-open-clause-told g c = λ rows shape is size holds none.
-    let number = c.number-number.ensures in
-    let block = read_true _ _ _ _ _ c.in-Ok.ensures.ok (none_before _ _ (later_call _ _ _ c.load.ensures.asks) none) none _ holds.last in
-    let width : c.shape-shape.result.width ≡ shape.width = cc (c.shape-shape.ensures, is.live) in
-    let long : c.shape-shape.result.width + 32 ≡ length (take (c.shape-shape.result.width + 32) c.load.new.block) = grind (arith, common_steps, (c.requires.ready.fits _ _ c.shape-shape.ensures).1) in
-    ap (λ (n : ℕ). joined (n / length c.args.rows.now) c.open.new.rows) (sym width) ∙ (c.open.ensures.opens rows (omega (arith, long)) (block ∙ ap (λ (n : ℕ). sealed c.args.self.now.keys (at_of c.args.region c.args.place n) rows) (sym number))).1
-
-pub returns-in-Err-clause-seals : goal.returns-in-Err-clause-seals
-returns-in-Err-clause-seals g c = λ good. seals_read good _ _ _ _ _ c.load.ensures.asks c.load.ensures.keeps
-
-pub returns-then-open-clause-seals : goal.returns-then-open-clause-seals
-returns-then-open-clause-seals g c = λ good. seals_read good _ _ _ _ _ c.load.ensures.asks c.load.ensures.keeps
-
-pub returns-else-open-clause-seals : goal.returns-else-open-clause-seals
-returns-else-open-clause-seals g c = λ good. seals_read good _ _ _ _ _ c.load.ensures.asks c.load.ensures.keeps
+pub returns-else-open-clause-gets : goal.returns-else-open-clause-gets
+returns-else-open-clause-gets g c =
+    let place = c.requires.place.place in
+    let keys = c.args.self.now.keys in
+    let q = c.args.region in
+    let x = c.args.place in
+    let old = g.S.BlockStore.state c.args.store.now in
+    let new = g.S.BlockStore.state c.load.new.store in
+    let block = take (c.shape-shape.result.width + 32) c.load.new.block in
+    let lasts = lasts_read _ _ _ _ _ _ c.requires.ready c.shape-shape.ensures c.load.ensures.asks c.load.ensures.keeps in
+    let number : c.number-number.result ≡ number_after from_nothing old.asked q x = c.number-number.ensures ∙ c.requires.ready.tied.numbers _ _ place.shape place.lives.live place.within in
+    let gave = c.in-Ok.ensures.gave in
+    record {
+      ok = tt;
+      err = read_tampered _ _ _ _ _ _ lasts c.load.ensures.asks c.in-Ok.ensures.ok c.in-Ok.ensures.cause
+          (read_unfit _ _ _ _ _ _ lasts c.load.ensures.asks gave
+          (λ fits. c.open.ensures.bad c.if-open.false (fits ∙ ap (λ (n : ℕ). tag_of keys (at_of q x n) (take (length block - 32) block)) (sym number))));
+      never = inr refl;
+      seals = λ good. seals_read good _ _ _ _ _ c.load.ensures.asks c.load.ensures.keeps;
+      turns = λ r y shape turn. record { turn = turn.turn; run = turn.run };
+      gave = λ off. subst (λ (b : List ℕ). ReadGives q x b old new) (sym gave) c.in-Ok.ensures.ok;
+      opened = tt;
+      tails = tt;
+      kept = c.open.ensures.kept c.if-open.false;
+      told = λ bytes shape lives size holds none.
+          let block = read_true _ _ _ _ _ c.in-Ok.ensures.ok (none_before _ _ (later_call _ _ _ c.load.ensures.asks) none) none _ holds.last in
+          let width : c.shape-shape.result.width ≡ shape.width = cc (c.shape-shape.ensures, lives.live) in
+          let long : c.shape-shape.result.width + 32 ≡ length (take (c.shape-shape.result.width + 32) c.load.new.block) = grind (arith, common_steps, (c.requires.ready.fits _ _ c.shape-shape.ensures).1) in
+          let fits = (c.open.ensures.opens bytes (omega (arith, long)) (block ∙ ap (λ (n : ℕ). sealed keys (at_of q x n) bytes) (sym c.number-number.ensures))).0 in
+          absurd (cc (fits, c.if-open.false));
+    }

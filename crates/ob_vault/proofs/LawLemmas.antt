@@ -1,0 +1,61 @@
+-- Why no two writes have one number, and what a tag that fits at two heads shows.
+use Rattle.std.proofs.Common.{◌≡◌, ◌≢◌, inl, inr, ◌+◌, ◌-◌, ℕ, List, [], ◌∷◌, ◌++◌, Some, length, length-append, drop, take, refl, sym, ◌∙◌, ap, subst, arith}
+use Rattle.std.proofs.lemmas.List.{take_at, drop_at}
+use Rattle.ob_base.specs.declared.access.Access.{Access}
+use Rattle.ob_base.specs.declared.access.Access.TheVariants.{Make, Read, Write, Discard}
+use Rattle.ob_base.specs.Accesses.{writes, nth_write}
+use Rattle.ob_base.proofs.AccessLemmas.{number_own, write_named, write_apart}
+use Rattle.ob_store.specs.State.{Lie}
+use Rattle.ob_seal.specs.KeyPair.{KeyPair}
+use Rattle.ob_seal.specs.Sealed.{InRange, TwoTexts, sealed, ciphered, tag_of}
+use Rattle.ob_seal.specs.declared.At.{At}
+use Rattle.ob_seal.proofs.HeadsApart.{heads_apart, length-tag_of}
+use Rattle.ob_vault.specs.State.{Start, World}
+use Rattle.ob_vault.specs.Numbers.{IsNumber, IsWrite, last_number, write_number}
+use Rattle.ob_vault.specs.Tied.{Tied, Fits, at_lie}
+
+pub writes_apart : (w : World) (i j q x r y : ℕ) → IsWrite i q x w → IsWrite j r y w → write_number i w ≡ write_number j w → i ≡ j
+writes_apart w i j q x r y is at same = write_apart w.store.asked i j q x r y is.is at.is (omega (arith, same))
+
+pub write_is : (w : World) (i q x : ℕ) → IsWrite i q x w → IsNumber w q x (write_number i w)
+write_is w i q x is =
+    let n = writes (take i w.store.asked) + 1 in
+    let own : w.vault.start.writes + n - w.vault.start.writes ≡ n = omega arith in
+    inl (ap (λ (k : ℕ). nth_write k w.store.asked) own ∙ write_named w.store.asked i q x is.is)
+
+pub last_is : (w : World) (q x : ℕ) → last_number w q x ≢ 0 → IsNumber w q x (last_number w q x)
+last_is w q x some = elim (number_own w.vault.start.writes (w.vault.start.given q x) q x w.store.asked) [
+  | inl given ↦ inr (given, some)
+  | inr own ↦ inl own.1
+]
+
+-- no write has the number 0
+none_first : (asked : List Access) (p : ℕ × ℕ) → nth_write 0 asked ≡ Some p → ⊥
+unfolding nth_write
+none_first [] p is = cc is
+none_first (Write q x ∷ rest) p is = none_first rest p is
+none_first (Make q blocks len ∷ rest) p is = none_first rest p is
+none_first (Read q x ∷ rest) p is = none_first rest p is
+none_first (Discard q ∷ rest) p is = none_first rest p is
+
+-- a number of an earlier run is none of this one
+early : (w : World) (q x r y n : ℕ) → Tied w → nth_write (n - w.vault.start.writes) w.store.asked ≡ Some (q, x) → n ≡ w.vault.start.given r y → ⊥
+early w q x r y n tied is given =
+    let none : n - w.vault.start.writes ≡ 0 = omega (arith, given, tied.start.within r y) in
+    none_first w.store.asked (q, x) (ap (λ (k : ℕ). nth_write k w.store.asked) (sym none) ∙ is)
+
+pub numbers_alone : (w : World) (q x r y n : ℕ) → Tied w → IsNumber w q x n → IsNumber w r y n → (q ≡ r) × (x ≡ y)
+numbers_alone w q x r y n tied (inl is) (inl at) = let both : ◌≡◌ {A = ℕ × ℕ} (q, x) (r, y) = cc (is, at) in (ap (λ (p : ℕ × ℕ). p.0) both, ap (λ (p : ℕ × ℕ). p.1) both)
+numbers_alone w q x r y n tied (inl is) (inr given) = absurd (early w q x r y n tied is given.0)
+numbers_alone w q x r y n tied (inr given) (inl at) = absurd (early w r y q x n tied at given.0)
+numbers_alone w q x r y n tied (inr one) (inr other) = tied.start.alone q x r y (sym one.0 ∙ other.0) (λ zero. one.1 (one.0 ∙ zero))
+
+pub lies_apart : (keys : KeyPair) (start : Start) (lie : Lie) (a : At) (rows : List ℕ) → lie.bytes ≡ sealed keys a rows → InRange a → InRange (at_lie start lie) → a ≢ at_lie start lie
+    → Fits keys start lie → TwoTexts keys
+lies_apart keys start lie a rows is fa fb off fits =
+    let text = ciphered keys a rows in
+    let tag = tag_of keys a text in
+    let size : length lie.bytes - 32 ≡ length text = omega (arith, ap length is, length-append text tag, length-tag_of keys a text) in
+    let front : take (length lie.bytes - 32) lie.bytes ≡ text = (λ i. take (size i) (is i)) ∙ take_at text tag (length text) refl in
+    let behind : drop (length lie.bytes - 32) lie.bytes ≡ tag = (λ i. drop (size i) (is i)) ∙ drop_at text tag (length text) refl in
+    heads_apart keys a (at_lie start lie) text fa fb off (sym behind ∙ fits.tag ∙ ap (tag_of keys (at_lie start lie)) front)

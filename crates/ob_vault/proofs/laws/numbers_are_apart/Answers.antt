@@ -1,0 +1,14 @@
+use Rattle.ob_vault.proofs.LawLemmas.{writes_apart, write_is, last_is, numbers_alone}
+use Rattle.ob_vault.proofs.laws.numbers_are_apart.Goals as goal
+
+pub returns-clause-writes : goal.returns-clause-writes
+returns-clause-writes c = writes_apart
+
+pub returns-clause-named : goal.returns-clause-named
+returns-clause-named c = write_is
+
+pub returns-clause-last : goal.returns-clause-last
+returns-clause-last c = last_is
+
+pub returns-clause-alone : goal.returns-clause-alone
+returns-clause-alone c = numbers_alone

@@ -1,0 +1,33 @@
+-- The numbers of writes and of places, where a run goes on from an earlier one.
+use Rattle.std.specs.Prelude.{◌≡◌, ◌≢◌, ◌⊎◌, ◌<◌, ◌≤◌, ◌+◌, ◌-◌, ℕ, List, Some, slice_get, take}
+use Rattle.ob_base.specs.declared.access.Access.{Access}
+use Rattle.ob_base.specs.declared.access.Access.TheVariants.{Write}
+use Rattle.ob_base.specs.Accesses.{writes, number_from, nth_write}
+use Rattle.ob_vault.specs.State.{Start, World}
+
+-- the number of the last write to a place: that of a write of this run, or the one that was given
+abbrev pub number_after : Start → List Access → ℕ → ℕ → ℕ
+number_after start asked q x = number_from start.writes (start.given q x) q x asked
+
+abbrev pub last_number : World → ℕ → ℕ → ℕ
+last_number w q x = number_after w.vault.start w.store.asked q x
+
+-- whether a number is that of a write to the place: of this run, whose writes count on from 1 behind those
+-- of the earlier one, or of the last one before it
+abbrev pub IsNumber : World → ℕ → ℕ → ℕ → Type 0
+IsNumber w q x n = (nth_write (n - w.vault.start.writes) w.store.asked ≡ Some (q, x)) ⊎ ((n ≡ w.vault.start.given q x) × (n ≢ 0))
+
+-- what an earlier run may leave: its regions and its writes are those that it counted, and no two places have
+-- one number
+pub record IsStart (start : Start) : Type 0 where
+  pub fresh : (q x : ℕ) → start.region < q → start.given q x ≡ 0
+  pub within : (q x : ℕ) → start.given q x ≤ start.writes
+  pub alone : (q x r y : ℕ) → start.given q x ≡ start.given r y → start.given q x ≢ 0 → (q ≡ r) × (x ≡ y)
+
+-- the access at a position, from 0, is a write to this place
+pub record IsWrite (i q x : ℕ) (w : World) : Type 0 where
+  pub is : slice_get w.store.asked i ≡ Some (Write q x)
+
+-- its number
+abbrev pub write_number : ℕ → World → ℕ
+write_number i w = w.vault.start.writes + (writes (take i w.store.asked) + 1)

@@ -1,0 +1,29 @@
+//! Laws of the numbers of writes, and of tags.
+ghost use Rattle.std.specs.Prelude.{◌≡◌, ◌≢◌, ℕ, List};
+ghost use Rattle.ob_store.specs.State.{Lie};
+ghost use Rattle.ob_seal.specs.KeyPair.{KeyPair};
+ghost use Rattle.ob_seal.specs.Sealed.{InRange, TwoTexts, sealed, tag_of};
+ghost use Rattle.ob_seal.specs.declared.At.{At as Head};
+ghost use Rattle.ob_vault.specs.State.{Start, World};
+ghost use Rattle.ob_vault.specs.Numbers.{IsNumber, IsWrite, last_number, write_number};
+ghost use Rattle.ob_vault.specs.Tied.{Tied, Fits, at_lie};
+
+/// No two writes have one number, and the number of a place is that of a write to it alone.
+pub fn numbers_are_apart()
+    ensures writes { (w : World) (i j q x r y : ℕ) → IsWrite i q x w → IsWrite j r y w
+        → write_number i w ≡ write_number j w → i ≡ j }
+    ensures named { (w : World) (i q x : ℕ) → IsWrite i q x w → IsNumber w q x (write_number i w) }
+    ensures last { (w : World) (q x : ℕ) → last_number w q x ≢ 0 → IsNumber w q x (last_number w q x) }
+    ensures alone { (w : World) (q x r y n : ℕ) → Tied w → IsNumber w q x n → IsNumber w r y n
+        → (q ≡ r) × (x ≡ y) }
+{}
+
+/// A tag that is right for one text at two places, or under two numbers, is one tag of two texts.
+pub fn tags_tell_places()
+    ensures heads { (keys : KeyPair) (a b : Head) (text : List ℕ) → InRange a → InRange b → a ≢ b
+        → tag_of keys a text ≡ tag_of keys b text → TwoTexts keys }
+    // a block that was sealed for another place, or at another write, and is taken all the same
+    ensures lies { (keys : KeyPair) (start : Start) (lie : Lie) (a : Head) (rows : List ℕ)
+        → lie.bytes ≡ sealed keys a rows → InRange a → InRange (at_lie start lie)
+        → a ≢ at_lie start lie → Fits keys start lie → TwoTexts keys }
+{}
