@@ -6,6 +6,7 @@ use Rattle.ob_vault.specs.declared.region.Order.{Order}
 use Rattle.ob_vault.specs.State.{World}
 use Rattle.ob_vault.specs.Tied.{Lives}
 use Rattle.ob_vault.specs.Calls.{Went, Seals, Lasts, one}
+use Rattle.ob_vault.specs.Words.{SealsAll}
 use Rattle.ob_vault.proofs.Runs.{went_join, seals_join, shape_lasts}
 use Rattle.ob_flat.specs.declared.fault.OpErr.{OpErr}
 use Rattle.ob_flat.specs.declared.flat.Flat.{Flat}
@@ -38,6 +39,9 @@ tampered_after went same is = record { place = is.place; below = is.below; is = 
 -- what a region takes
 pub seals_any : {pack region : ℕ} {columns : Columns} {a b : World} → ((good : ℕ → List ℕ → Bool) → Seals good a b) → SealsTable pack columns region a b
 seals_any all = record { seals = λ good fine. all good }
+
+pub sealed_after : {some : ℕ → Type 0} {a b c : World} → Lasts some a b → SealsAll a b → ((good : ℕ → List ℕ → Bool) → Seals good b c) → SealsAll a c
+sealed_after lasts first second = record { seals = λ good. seals_join good _ _ _ lasts.later (first.seals good) (second good) }
 
 pub seals_after : {some : ℕ → Type 0} {pack region : ℕ} {columns : Columns} {a b c : World} → Lasts some a b → SealsTable pack columns region a b → SealsTable pack columns region b c → SealsTable pack columns region a c
 seals_after lasts first second = record { seals = λ good fine. seals_join good _ _ _ lasts.later (first.seals good fine) (second.seals good fine) }

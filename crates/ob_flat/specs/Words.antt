@@ -6,7 +6,7 @@ use Rattle.ob_base.specs.Schemas.{Columns, width}
 use Rattle.ob_store.specs.Runs.{Began}
 use Rattle.ob_vault.specs.declared.region.Order.{Order}
 use Rattle.ob_vault.specs.State.{World}
-use Rattle.ob_vault.specs.Tied.{Lives}
+use Rattle.ob_vault.specs.Tied.{Ready, Lives}
 use Rattle.ob_vault.specs.Calls.{Went, Seals}
 use Rattle.ob_vault.specs.Places.{RowsFit}
 use Rattle.ob_flat.specs.declared.flat.Flat.{Flat}
@@ -14,6 +14,11 @@ use Rattle.ob_flat.specs.declared.fault.OpErr.{OpErr}
 use Rattle.ob_flat.specs.declared.fault.OpErr.TheVariants.{Tampered, NoMemory}
 use Rattle.ob_flat.specs.Flats.{IsSized, IsFlat, Accepts, table_region}
 use Rattle.ob_flat.specs.Passes.{PassCut}
+
+-- a vault that belongs to its store, which has n accesses left
+pub record HasSpare (n : ℕ) (w : World) : Type 0 where
+  pub ready : Ready w
+  pub spare : n ≤ w.store.spare
 
 -- on `Ok` all of the script was asked, and on an error a first part of it
 pub record Ran {T : Type 0} (script : List Access) (some : ℕ → Type 0)
