@@ -4,3 +4,4 @@ pub mod Passes
 pub mod Counts
 pub mod Words
 pub mod Scans
+pub mod Counted

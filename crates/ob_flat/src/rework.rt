@@ -44,7 +44,10 @@ pub trait Rework {
         ensures suits { OnOk result (Suits self.new schema.now) }
         ensures spells { OnOk result (AreSlots schema.now rows.new) }
         ensures told { (slots : Slots) → Spelt schema.now slots rows.old
-            → MatchResult result (λ _. (made : Slots) × Makes schema.now self.old self.new first slots made × Spelt schema.now made rows.new) (λ _. ⊥) };
+            → MatchResult result
+            (λ _. (made : Slots) × Makes schema.now self.old self.new first slots made
+            × Spelt schema.now made rows.new)
+            (λ _. ⊥) };
 }
 
 /// Reads a block of a table, changes it, and writes it to its place again, through these rows, of which
