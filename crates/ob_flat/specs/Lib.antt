@@ -5,3 +5,4 @@ pub mod Counts
 pub mod Words
 pub mod Scans
 pub mod Counted
+pub mod Swaps
