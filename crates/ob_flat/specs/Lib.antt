@@ -6,3 +6,4 @@ pub mod Words
 pub mod Scans
 pub mod Counted
 pub mod Swaps
+pub mod Reworks
