@@ -7,3 +7,4 @@ pub mod Scans
 pub mod Counted
 pub mod Swaps
 pub mod Reworks
+pub mod Creates
