@@ -8,3 +8,4 @@ pub mod Counted
 pub mod Swaps
 pub mod Reworks
 pub mod Creates
+pub mod Discards
