@@ -1,5 +1,5 @@
 -- The words of the passes' contracts, from one call to the next.
-use Rattle.std.proofs.Common.{[], ◌≡◌, ◌++◌, ℕ, Bool, List, None, Result, Ok, Err, IfErr, refl}
+use Rattle.std.proofs.Common.{[], ◌≡◌, ◌++◌, ℕ, Bool, List, None, Result, Ok, Err, refl}
 use Rattle.ob_base.specs.declared.access.Access.{Access}
 use Rattle.ob_base.specs.Schemas.{Columns}
 use Rattle.ob_vault.specs.declared.region.Order.{Order}
@@ -14,11 +14,6 @@ use Rattle.ob_flat.specs.Flats.{IsFlat, table_region}
 use Rattle.ob_flat.specs.Passes.{PassCut}
 use Rattle.ob_flat.specs.Words.{Ran, TamperedIn, SealsTable, Makes}
 use Rattle.ob_flat.proofs.Runs.{pass_more, pass_after, pass_then}
-
--- every error of one call is one of another
-pub if_err : {T : Type 0} {P Q : OpErr → Type 0} → ((e : OpErr) → P e → Q e) → (r : Result T OpErr) → IfErr r P → IfErr r Q
-if_err more (Ok x) is = tt
-if_err more (Err e) is = more e is
 
 -- a run of two parts, the first of which was cut, or went whole
 pub ran_more : {T : Type 0} {some : ℕ → Type 0} {a b : World} {e : OpErr} (x y : List Access) → PassCut e x some a b → Ran {T = T} (x ++ y) some (Err e) a b
