@@ -3,3 +3,9 @@ pub mod Flats
 pub mod Passes
 pub mod Counts
 pub mod Words
+pub mod Scans
+pub mod Counted
+pub mod Swaps
+pub mod Reworks
+pub mod Creates
+pub mod Discards

@@ -6,7 +6,7 @@ use Rattle.ob_base.specs.Schemas.{Columns, width}
 use Rattle.ob_store.specs.Runs.{Began}
 use Rattle.ob_vault.specs.declared.region.Order.{Order}
 use Rattle.ob_vault.specs.State.{World}
-use Rattle.ob_vault.specs.Tied.{Lives}
+use Rattle.ob_vault.specs.Tied.{Ready, Lives}
 use Rattle.ob_vault.specs.Calls.{Went, Seals}
 use Rattle.ob_vault.specs.Places.{RowsFit}
 use Rattle.ob_flat.specs.declared.flat.Flat.{Flat}
@@ -15,21 +15,26 @@ use Rattle.ob_flat.specs.declared.fault.OpErr.TheVariants.{Tampered, NoMemory}
 use Rattle.ob_flat.specs.Flats.{IsSized, IsFlat, Accepts, table_region}
 use Rattle.ob_flat.specs.Passes.{PassCut}
 
+-- a vault that belongs to its store, which has n accesses left
+pub record HasSpare (n : ℕ) (w : World) : Type 0 where
+  pub ready : Ready w
+  pub spare : n ≤ w.store.spare
+
 -- on `Ok` all of the script was asked, and on an error a first part of it
 pub record Ran {T : Type 0} (script : List Access) (some : ℕ → Type 0)
     (result : Result T OpErr) (old new : World) : Type 0 where
   pub ok : OnOk result (Went script some old new)
   pub err : IfErr result (λ e. PassCut e script some old new)
 
--- a block of the region is not what was written there, or has a malformed row
-pub record TamperedIn (region blocks : ℕ) (e : OpErr) : Type 0 where
-  pub place : ℕ
-  pub below : place < blocks
-  pub is : e ≡ Tampered region place
-
 -- how many blocks a table has
 abbrev pub blocks_of : ℕ → Flat → ℕ
 blocks_of pack flat = blocks_for pack flat.capacity
+
+-- a block of the table is not what was written there, or has a malformed row
+pub record TamperedIn (pack : ℕ) (flat : Flat) (e : OpErr) (w : World) : Type 0 where
+  pub place : ℕ
+  pub below : place < blocks_of pack flat
+  pub is : e ≡ Tampered flat.region place
 
 -- the same table in another region
 abbrev pub moved : Flat → ℕ → Flat
