@@ -11,19 +11,6 @@ use Rattle.ob_row.specs.Slots.{Slots}
 use Rattle.ob_flat.specs.Flats.{IsFlat, IsWritten, Represents}
 
 module _ (v : VaultState) (s t : StoreState) (rests : Rests s t) where
-  pub ready_rests : Ready (record { vault = v; store = s }) → Ready (record { vault = v; store = t })
-  ready_rests ready = record {
-    tied = record {
-      count = ready.tied.count ∙ ap writes (sym rests.asked);
-      next = ready.tied.next ∙ ap (λ (l : List Access). 1 + makes l) (sym rests.asked);
-      above = subst (AllBelow v.next) (sym rests.asked) ready.tied.above;
-      live = λ q shape live. record { live = rests.keeps.live q ∙ (ready.tied.live q shape live).live };
-      numbers = λ q x shape live below. ready.tied.numbers q x shape live below ∙ ap (λ (l : List Access). number_of l q x) (sym rests.asked);
-    };
-    below = ready.below;
-    fits = ready.fits;
-  }
-
   pub flat_rests : (pack : ℕ) (flat : Flat) → IsFlat pack flat (record { vault = v; store = s }) → IsFlat pack flat (record { vault = v; store = t })
   flat_rests pack flat is = record {
     made = record {

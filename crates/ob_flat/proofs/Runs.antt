@@ -23,7 +23,7 @@ pass_of e x some a b cut = record { lasts = cut.lasts; began = cut.began; cause 
   where
     go : (e : VaultErr) → Cause e a b → PassCause (pass_error e) a b
     go VaultErrs.Failed cause = cause
-    go (VaultErrs.Tampered q p) cause = cause
+    go (VaultErrs.Tampered q p) (kept, last, unfit, calm) = (kept, last, calm)
     go VaultErrs.NoMemory cause = cause
 
 module _ (some : ℕ → Type 0) (a b c : World) where

@@ -1,5 +1,5 @@
 -- The words of the passes' contracts.
-use Rattle.std.specs.Prelude.{◌≡◌, ◌<◌, ◌≤◌, ◌*◌, ℕ, Bool, List, None, Result, Err, OnOk, OnErr, IfOk, IfErr, length}
+use Rattle.std.specs.Prelude.{◌≡◌, ◌⊎◌, ◌<◌, ◌≤◌, ◌*◌, ℕ, Bool, List, None, Result, Err, OnOk, OnErr, IfOk, IfErr, length}
 use Rattle.ob_base.specs.declared.access.Access.{Access}
 use Rattle.ob_base.specs.Numbers.{blocks_for}
 use Rattle.ob_base.specs.Schemas.{Columns, width}
@@ -7,11 +7,14 @@ use Rattle.ob_store.specs.Runs.{Began}
 use Rattle.ob_vault.specs.declared.region.Order.{Order}
 use Rattle.ob_vault.specs.State.{World}
 use Rattle.ob_vault.specs.Tied.{Ready, Lives}
-use Rattle.ob_vault.specs.Calls.{Went, Seals}
+use Rattle.ob_vault.specs.Calls.{Went, Seals, Unfit, Opened}
 use Rattle.ob_vault.specs.Places.{RowsFit}
 use Rattle.ob_flat.specs.declared.flat.Flat.{Flat}
 use Rattle.ob_flat.specs.declared.fault.OpErr.{OpErr}
 use Rattle.ob_flat.specs.declared.fault.OpErr.TheVariants.{Tampered, NoMemory}
+use Rattle.std.specs.List.{All}
+use Rattle.ob_row.specs.Slots.{Slots}
+use Rattle.ob_flat.specs.Slots.{FitsSlot, block_bytes}
 use Rattle.ob_flat.specs.Flats.{IsSized, IsFlat, Accepts, table_region}
 use Rattle.ob_flat.specs.Passes.{PassCut}
 
@@ -30,11 +33,25 @@ pub record Ran {T : Type 0} (script : List Access) (some : ℕ → Type 0)
 abbrev pub blocks_of : ℕ → Flat → ℕ
 blocks_of pack flat = blocks_for pack flat.capacity
 
--- a block of the table is not what was written there, or has a malformed row
+-- under the number of its last write something was sealed for this place of which a part is no row and
+-- no dummy
+pub record IsMalformed (pack : ℕ) (flat : Flat) (place : ℕ) (w : World) : Type 0 where
+  pub bytes : List ℕ
+  pub opened : Opened flat.region place bytes w
+  pub none : (slots : Slots) → length slots ≡ pack → All (FitsSlot flat.schema) slots
+      → bytes ≡ block_bytes flat.schema slots → ⊥
+
+-- the block that was read at this place hasn't the tag of its last write, or has a malformed row
+pub record TamperedAt (pack : ℕ) (flat : Flat) (place : ℕ) (e : OpErr) (w : World) : Type 0 where
+  pub is : e ≡ Tampered flat.region place
+  pub why : Unfit flat.region place w ⊎ IsMalformed pack flat place w
+
+-- at some place of the table
 pub record TamperedIn (pack : ℕ) (flat : Flat) (e : OpErr) (w : World) : Type 0 where
   pub place : ℕ
   pub below : place < blocks_of pack flat
   pub is : e ≡ Tampered flat.region place
+  pub why : Unfit flat.region place w ⊎ IsMalformed pack flat place w
 
 -- the same table in another region
 abbrev pub moved : Flat → ℕ → Flat

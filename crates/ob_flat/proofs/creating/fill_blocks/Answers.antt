@@ -43,12 +43,12 @@ returns-in_err-put g c =
     let p = err_from_is_err_and c.from_residual.result c.from_residual.ensures.1 in
     let q = c.args.region in
     let before = c.loop-u.invariant in
-    let put = c.in_err-put.ensures in
+    let put = c.in_err-put.ensures.puts in
     rw (p.1, p.2) (record { fills = record {
       ok = tt;
       err = cut_each (one q) (write_at q) _ _ _ _ c.args.shape.blocks c.loop-u.u c.loop-u-test.true before.went put.err;
       never = put.never;
-      seals = λ good fine. seals_join good _ _ _ before.went.lasts.later (before.seals good fine) (c.put.ensures.seals good c.args.shape before.lives fine);
+      seals = λ good fine. seals_join good _ _ _ before.went.lasts.later (before.seals good fine) (c.put.ensures.puts.seals good c.args.shape before.lives fine);
       filled = tt;
       told = tt;
     } })
@@ -58,16 +58,16 @@ loop-u-preserved g c =
     let before = c.loop-u.invariant in
     let shape = c.args.shape in
     record {
-      went = went_each (one c.args.region) (write_at c.args.region) _ _ _ c.loop-u.u before.went c.in_ok-put.ensures.ok;
-      seals = λ good fine. seals_join good _ _ _ before.went.lasts.later (before.seals good fine) (c.put.ensures.seals good shape before.lives fine);
-      lives = lives_only _ _ _ _ c.put.ensures.only _ _ before.lives;
-      turn = next_turn c.args.region c.loop-u.u shape _ (c.put.ensures.turn shape before.lives);
+      went = went_each (one c.args.region) (write_at c.args.region) _ _ _ c.loop-u.u before.went c.in_ok-put.ensures.puts.ok;
+      seals = λ good fine. seals_join good _ _ _ before.went.lasts.later (before.seals good fine) (c.put.ensures.puts.seals good shape before.lives fine);
+      lives = lives_only _ _ _ _ c.put.ensures.puts.only _ _ before.lives;
+      turn = next_turn c.args.region c.loop-u.u shape _ (c.put.ensures.puts.turn shape before.lives);
       written = below_more _ _
-          (λ p h. written_only _ _ _ _ c.put.ensures.only _ p (λ _ at. absurd (omega (arith, at, h))) (before.written p h))
-          c.put.ensures.written;
+          (λ p h. written_only _ _ _ _ c.put.ensures.puts.only _ p (λ _ at. absurd (omega (arith, at, h))) (before.written p h))
+          c.put.ensures.puts.written;
       told = λ tells. below_more _ _
-          (λ p h. holds_only _ _ _ _ c.put.ensures.only _ p _ (λ _ at. absurd (omega (arith, at, h))) (before.told tells p h))
-          (c.in_ok-put.ensures.told (tells_went _ _ _ _ before.went tells) shape before.lives);
+          (λ p h. holds_only _ _ _ _ c.put.ensures.puts.only _ p _ (λ _ at. absurd (omega (arith, at, h))) (before.told tells p h))
+          (c.in_ok-put.ensures.puts.told (tells_went _ _ _ _ before.went tells) shape before.lives);
     }
 
 pub loop-u-smaller : goal.loop-u-smaller

@@ -10,7 +10,7 @@ use Rattle.ob_flat.proofs.creating.make_table.Goals as goal
 pub returns-in_err-region : goal.returns-in_err-region
 returns-in_err-region g c =
     let p = err_from_is_err_and c.from_residual.result c.from_residual.ensures.1 in
-    let made = rw c.region_of_table-shape.ensures at c.in_err-region.ensures in
+    let made = rw c.region_of_table-shape.ensures at c.in_err-region.ensures.makes in
     rw (p.1, p.2) (record { makes = record {
       ran = record { ok = tt; err = pass_of _ _ _ _ _ made.err };
       never = elim made.never [ inl failed ↦ inl (ap pass_error failed) | inr none ↦ inr (ap pass_error none) ];
@@ -19,12 +19,12 @@ returns-in_err-region g c =
       turn = tt;
       made = tt;
       gone = made.gone;
-      seals = record { seals = c.make.ensures.seals };
+      seals = record { seals = c.make.ensures.makes.seals };
     } })
 
 pub returns : goal.returns
 returns g c =
-    let made = rw c.region_of_table-shape.ensures at c.in_ok-region.ensures in
+    let made = rw c.region_of_table-shape.ensures at c.in_ok-region.ensures.makes in
     record { makes = record {
       ran = record { ok = made.ok; err = tt };
       never = tt;
@@ -33,5 +33,5 @@ returns g c =
       turn = made.turn;
       made = record { order = c.args.order; lives = made.lives; turn = made.turn };
       gone = tt;
-      seals = record { seals = c.make.ensures.seals };
+      seals = record { seals = c.make.ensures.makes.seals };
     } }

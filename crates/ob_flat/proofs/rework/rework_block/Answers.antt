@@ -16,7 +16,7 @@ use Rattle.ob_flat.proofs.Rows.{wide_fit, wide_same, spelt_fits}
 use Rattle.ob_flat.proofs.Loops.{pack_fits, index_w32, less_same, one_of_two, one_is_left}
 use Rattle.ob_flat.proofs.Runs.{pass_of, pass_more, pass_after, pass_wider, pass_malformed}
 use Rattle.ob_flat.proofs.Tables.{index_in, slots_long, slots_got, slots_lasts, slots_put, accepted, joined_block, rows_lasts, block_only, block_put}
-use Rattle.ob_flat.proofs.WordLemmas.{seals_any, seals_after}
+use Rattle.ob_flat.proofs.WordLemmas.{seals_any, seals_after, get_refused, rows_malformed}
 use Rattle.ob_flat.proofs.rework.rework_block.Goals as goal
 
 pub get-requires : goal.get-requires
@@ -41,14 +41,11 @@ returns-in_err-get-clause-reworks g c =
     let flat = c.args.flat.now in
     let q = flat.region in
     let x = c.args.place in
-    let read = c.in_err-get.ensures in
+    let read = c.in_err-get.ensures.gets in
     rw (p.1, p.2) (record {
       ran = record { ok = tt; err = pass_more (one q) _ _ _ (read_at q x) (write_at q x) (pass_wider none _ _ (one q) (λ q s. absurd s) _ _ (pass_of _ _ _ _ _ read.err)) };
-      never = elim read.never [
-        | inl failed ↦ inl (ap pass_error failed)
-        | inr tampered ↦ inr (ap pass_error tampered)
-      ];
-      seals = seals_any c.get.ensures.seals;
+      never = get_refused pack flat x _ read.err read.never;
+      seals = seals_any c.get.ensures.gets.seals;
       suits = tt;
       turn = tt;
       rows = tt;
@@ -87,17 +84,18 @@ returns-in-Err-clause-reworks g c =
     let flat = c.args.flat.now in
     let q = flat.region in
     let x = c.args.place in
-    let read = c.in_ok-get.ensures in
+    let read = c.in_ok-get.ensures.gets in
+    let shape = table_region table.order pack flat.schema flat.capacity in
+    let wide = wide_same (width flat.schema) _ _ c.get.ensures.rows (wide_fit (width flat.schema) c.args.rows.now c.requires.fit) in
     record {
       ran = record { ok = tt; err = pass_more (one q) _ _ _ (read_at q x) (write_at q x) (pass_wider none _ _ (one q) (λ q s. absurd s) _ _ (pass_malformed none _ _ q x read.ok)) };
-      never = inr refl;
-      seals = seals_any c.get.ensures.seals;
+      never = inr (rows_malformed pack c.get.new.rows table.some refl c.get.ensures.rows.count wide (read.opened shape table.turn.lives) c.in-Err.ensures.told);
+      seals = seals_any c.get.ensures.gets.seals;
       suits = tt;
       turn = tt;
       rows = tt;
       told = λ honest slots is.
-          let bytes = read.told _ (table_region table.order pack flat.schema flat.capacity) table.turn.lives (slots_long pack flat slots _ is table.some x table.within) (is.holds x table.within) honest.nolie in
-          let wide = wide_same (width flat.schema) _ _ c.get.ensures.rows (wide_fit (width flat.schema) c.args.rows.now c.requires.fit) in
+          let bytes = read.told _ shape table.turn.lives (slots_long pack flat slots _ is table.some x table.within) (is.holds x table.within) honest.nolie in
           absurd (c.in-Err.ensures.told _ (slots_got pack flat slots _ is table.some x pack c.get.new.rows table.within refl c.get.ensures.rows.count wide bytes));
     }
 
@@ -106,14 +104,14 @@ put-requires g c =
     let table = c.requires.table in
     let flat = c.args.flat.now in
     let x = c.args.place in
-    let read = c.in_ok-get.ensures.ok in
+    let read = c.in_ok-get.ensures.gets.ok in
     let shape = table_region table.order (length c.args.rows.now) flat.schema flat.capacity in
     let same = fit_trans _ _ _ c.get.ensures.rows c.rework.ensures.rows in
     record {
       ready = read.lasts.ready;
       spare = one_is_left c.requires.spare.spare read.spare;
       few = less_same (went_length _ _ _ _ read) c.requires.few;
-      place = may_put _ x shape _ _ (lives_went none _ _ _ flat.region shape read (λ s. s) table.turn.lives) table.within (fit_same _ _ _ same c.requires.fit) (c.get.ensures.turns flat.region x shape table.turn.turn);
+      place = may_put _ x shape _ _ (lives_went none _ _ _ flat.region shape read (λ s. s) table.turn.lives) table.within (fit_same _ _ _ same c.requires.fit) (c.get.ensures.gets.turns flat.region x shape table.turn.turn);
     }
 
 pub returns-in_err-put-clause-rows : goal.returns-in_err-put-clause-rows
@@ -127,18 +125,18 @@ returns-in_err-put-clause-reworks g c =
     let flat = c.args.flat.now in
     let q = flat.region in
     let x = c.args.place in
-    let read = c.in_ok-get.ensures.ok in
-    let put = c.in_err-put.ensures in
+    let read = c.in_ok-get.ensures.gets.ok in
+    let put = c.in_err-put.ensures.puts in
     let shape = table_region table.order pack flat.schema flat.capacity in
     let lives = lives_went none _ _ _ q shape read (λ s. s) table.turn.lives in
     let same = fit_trans _ _ _ c.get.ensures.rows c.rework.ensures.rows in
     let mid = at g.R.Revisions.state c.get.new.self (g.S.BlockStore.state c.get.new.store) in
     let new = at g.R.Revisions.state c.put.new.self (g.S.BlockStore.state c.put.new.store) in
-    let sealed : SealsTable pack flat.schema q mid new = record { seals = λ good fine. c.put.ensures.seals good shape lives (accepted good pack q flat.schema c.rework.new.rows table.some same.count fine c.in-Ok.ensures.spells) } in
+    let sealed : SealsTable pack flat.schema q mid new = record { seals = λ good fine. c.put.ensures.puts.seals good shape lives (accepted good pack q flat.schema c.rework.new.rows table.some same.count fine c.in-Ok.ensures.spells) } in
     rw (p.1, p.2) (record {
       ran = record { ok = tt; err = pass_after (one q) _ _ _ _ (read_at q x) (write_at q x) (went_wider none _ _ (one q) (λ q s. absurd s) _ read) (pass_of _ _ _ _ _ put.err) };
       never = inl (ap pass_error put.never);
-      seals = seals_after read.lasts (seals_any c.get.ensures.seals) sealed;
+      seals = seals_after read.lasts (seals_any c.get.ensures.gets.seals) sealed;
       suits = tt;
       turn = tt;
       rows = tt;
@@ -156,19 +154,19 @@ returns-clause-reworks g c =
     let q = flat.region in
     let x = c.args.place in
     let below = table.within in
-    let read = c.in_ok-get.ensures.ok in
-    let put = c.in_ok-put.ensures in
-    let only = c.put.ensures.only in
+    let read = c.in_ok-get.ensures.gets.ok in
+    let put = c.in_ok-put.ensures.puts in
+    let only = c.put.ensures.puts.only in
     let shape = table_region table.order pack flat.schema flat.capacity in
     let lives = lives_went none _ _ _ q shape read (λ s. s) table.turn.lives in
     let same = fit_trans _ _ _ c.get.ensures.rows c.rework.ensures.rows in
     let mid = at g.R.Revisions.state c.get.new.self (g.S.BlockStore.state c.get.new.store) in
     let new = at g.R.Revisions.state c.put.new.self (g.S.BlockStore.state c.put.new.store) in
-    let sealed : SealsTable pack flat.schema q mid new = record { seals = λ good fine. c.put.ensures.seals good shape lives (accepted good pack q flat.schema c.rework.new.rows table.some same.count fine c.in-Ok.ensures.spells) } in
+    let sealed : SealsTable pack flat.schema q mid new = record { seals = λ good fine. c.put.ensures.puts.seals good shape lives (accepted good pack q flat.schema c.rework.new.rows table.some same.count fine c.in-Ok.ensures.spells) } in
     record {
       ran = record { ok = went_join (one q) _ _ _ (read_at q x) (write_at q x) (went_wider none _ _ (one q) (λ q s. absurd s) _ read) put.ok; err = tt };
       never = tt;
-      seals = seals_after read.lasts (seals_any c.get.ensures.seals) sealed;
+      seals = seals_after read.lasts (seals_any c.get.ensures.gets.seals) sealed;
       suits = c.in-Ok.ensures.suits;
       turn = record {
         moves = λ order is.
@@ -176,9 +174,9 @@ returns-clause-reworks g c =
             let here = lives_went none _ _ _ q region read (λ s. s) is.lives in
             record {
               lives = lives_only _ _ _ _ only _ _ here;
-              turn = next_turn q x region _ (c.put.ensures.turn region here);
+              turn = next_turn q x region _ (c.put.ensures.puts.turn region here);
               written = λ p less. elim (cases_eq p x) [
-                | inl same ↦ subst (λ (n : ℕ). Written q n new) (sym same) c.put.ensures.written
+                | inl same ↦ subst (λ (n : ℕ). Written q n new) (sym same) c.put.ensures.puts.written
                 | inr other ↦ written_only _ _ _ _ only _ p (λ _ at. other at) (written_went none _ _ _ _ p read (λ s. s) (is.written p less))
               ];
             };
@@ -194,7 +192,7 @@ returns-clause-reworks g c =
           };
       told = λ honest slots is.
           let gone = honest_before put.ok.lasts honest in
-          let bytes = c.in_ok-get.ensures.told _ shape table.turn.lives (slots_long pack flat slots _ is table.some x below) (is.holds x below) gone.nolie in
+          let bytes = c.in_ok-get.ensures.gets.told _ shape table.turn.lives (slots_long pack flat slots _ is table.some x below) (is.holds x below) gone.nolie in
           let wide = wide_same (width flat.schema) _ _ c.get.ensures.rows (wide_fit (width flat.schema) c.args.rows.now c.requires.fit) in
           let spelt = slots_got pack flat slots _ is table.some x pack c.get.new.rows below refl c.get.ensures.rows.count wide bytes in
           let made = c.in-Ok.ensures.told (block_at pack slots x) spelt in

@@ -14,7 +14,7 @@ use Rattle.ob_flat.proofs.Rooms.{same_rows}
 use Rattle.ob_flat.proofs.Loops.{below_all, at_end, nearer, pack_fits, index_w32, zero_times, spare_more, went_all, scan_start}
 use Rattle.ob_flat.proofs.Runs.{pass_of, pass_each, pass_malformed}
 use Rattle.ob_flat.proofs.Tables.{reads, index_in, represents_lasts, block_long, got, whole_size}
-use Rattle.ob_flat.proofs.WordLemmas.{sealed_after}
+use Rattle.ob_flat.proofs.WordLemmas.{sealed_after, tampered_in, get_refused, rows_malformed}
 use Rattle.ob_flat.proofs.scan.scan_blocks.Goals as goal
 
 pub overflow_cast-pack : goal.overflow_cast-pack
@@ -59,14 +59,11 @@ returns-in_err-get-clause-scans g c =
     let u = c.loop-u.u in
     let below : u < blocks_of pack flat = below_all c.loop-u-test.true c.div_ceil-blocks.ensures in
     let before = c.loop-u.invariant in
-    let read = c.in_err-get.ensures in
+    let read = c.in_err-get.ensures.gets in
     rw (p.1, p.2) (record {
       ran = record { ok = tt; err = pass_each none (read_at flat.region) _ _ _ _ (blocks_of pack flat) u below before.went (pass_of _ _ _ _ _ read.err) };
-      never = elim read.never [
-        | inl failed ↦ inl (ap pass_error failed)
-        | inr tampered ↦ inr (record { place = u; below = below; is = ap pass_error tampered })
-      ];
-      seals = sealed_after before.went.lasts before.seals c.get.ensures.seals;
+      never = elim (get_refused pack flat u _ read.err read.never) [ inl failed ↦ inl failed | inr there ↦ inr (tampered_in below there) ];
+      seals = sealed_after before.went.lasts before.seals c.get.ensures.gets.seals;
       suits = tt;
       told = λ slots is nolie.
           let now = represents_lasts pack flat none _ _ before.went.lasts (λ s. s) slots is in
@@ -102,17 +99,19 @@ returns-in-Err-clause-scans g c =
     let u = c.loop-u.u in
     let below : u < blocks_of pack flat = below_all c.loop-u-test.true c.div_ceil-blocks.ensures in
     let before = c.loop-u.invariant in
-    let read = c.in_ok-get.ensures in
+    let read = c.in_ok-get.ensures.gets in
+    let same = fit_trans _ _ _ before.same c.get.ensures.rows in
+    let wide = wide_same (width flat.schema) _ _ same (wide_fit (width flat.schema) c.args.rows.now c.requires.fit) in
+    let shape = table_region table.written.order pack flat.schema flat.capacity in
+    let lives = lives_went _ _ _ _ flat.region shape before.went (λ s. s) table.written.lives in
     record {
       ran = record { ok = tt; err = pass_each none (read_at flat.region) _ _ _ _ (blocks_of pack flat) u below before.went (pass_malformed _ _ _ flat.region u read.ok) };
-      never = inr (record { place = u; below = below; is = refl });
-      seals = sealed_after before.went.lasts before.seals c.get.ensures.seals;
+      never = inr (tampered_in below (rows_malformed (length c.loop-u.rows) c.get.new.rows table.some before.same.count same.count wide (read.opened shape lives) c.in-Err.ensures.told));
+      seals = sealed_after before.went.lasts before.seals c.get.ensures.gets.seals;
       suits = tt;
       told = λ slots is nolie.
           let now = represents_lasts pack flat none _ _ before.went.lasts (λ s. s) slots is in
-          let bytes = read.told _ (table_region table.written.order pack flat.schema flat.capacity) (lives_went _ _ _ _ _ _ before.went (λ s. s) table.written.lives) (block_long pack flat slots _ is table.some u below) (now.holds u below) nolie in
-          let same = fit_trans _ _ _ before.same c.get.ensures.rows in
-          let wide = wide_same (width flat.schema) _ _ same (wide_fit (width flat.schema) c.args.rows.now c.requires.fit) in
+          let bytes = read.told _ shape lives (block_long pack flat slots _ is table.some u below) (now.holds u below) nolie in
           absurd (c.in-Err.ensures.told _ (got pack flat slots _ is table.some u (length c.loop-u.rows) c.get.new.rows below before.same.count same.count wide bytes));
     }
 
@@ -124,11 +123,11 @@ loop-u-preserved g c =
     let u = c.loop-u.u in
     let below : u < blocks_of pack flat = below_all c.loop-u-test.true c.div_ceil-blocks.ensures in
     let before = c.loop-u.invariant in
-    let read = c.in_ok-get.ensures in
+    let read = c.in_ok-get.ensures.gets in
     let same = fit_trans _ _ _ before.same c.get.ensures.rows in
     record {
       went = went_each none (read_at flat.region) _ _ _ u before.went read.ok;
-      seals = sealed_after before.went.lasts before.seals c.get.ensures.seals;
+      seals = sealed_after before.went.lasts before.seals c.get.ensures.gets.seals;
       same = same;
       suits = subst (g.V.Visit.Suits flat c.visit_rows.new.visit) (more u pack (length c.get.new.rows) same.count) c.in-Ok.ensures.suits;
       told = λ slots is nolie.

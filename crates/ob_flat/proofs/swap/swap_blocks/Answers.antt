@@ -19,7 +19,7 @@ use Rattle.ob_flat.proofs.Rooms.{same_rows}
 use Rattle.ob_flat.proofs.Loops.{below_all, at_end, nearer, pack_fits, count_fits, first_place, went_all, flat_all, no_less, none_counted, count_start}
 use Rattle.ob_flat.proofs.Runs.{pass_of, pass_each, pass_malformed, pass_more, pass_after, pass_wider}
 use Rattle.ob_flat.proofs.Tables.{accepted, joined_block, copies, index_fits, blocks_hold, represents_lasts, represents_changed, block_long, got, not_last, block_lasts, block_only, block_put}
-use Rattle.ob_flat.proofs.WordLemmas.{seals_any, seals_after}
+use Rattle.ob_flat.proofs.WordLemmas.{seals_any, seals_after, tampered_in, get_refused, rows_malformed}
 use Rattle.ob_flat.proofs.swap.swap_blocks.Goals as goal
 
 pub overflow_cast-pack : goal.overflow_cast-pack
@@ -73,18 +73,15 @@ returns-in_err-get-clause-swaps g c =
     let u = c.loop-u.u in
     let below : u < blocks_of pack flat = below_all c.loop-u-test.true c.div_ceil-blocks.ensures in
     let before = c.loop-u.invariant in
-    let read = c.in_err-get.ensures in
+    let read = c.in_err-get.ensures.gets in
     rw (p.1, p.2) (record {
       ran = record {
         ok = tt;
         err = pass_each (one to) (copy_at flat.region to) _ _ _ _ (blocks_of pack flat) u below before.went
             (pass_more (one to) _ _ _ (read_at flat.region u) (write_at to u) (pass_wider none _ _ (one to) (λ q s. absurd s) _ _ (pass_of _ _ _ _ _ read.err)));
       };
-      never = elim read.never [
-        | inl failed ↦ inl (ap pass_error failed)
-        | inr tampered ↦ inr (record { place = u; below = below; is = ap pass_error tampered })
-      ];
-      seals = seals_after before.went.lasts before.seals (seals_any c.get.ensures.seals);
+      never = elim (get_refused pack flat u _ read.err read.never) [ inl failed ↦ inl failed | inr there ↦ inr (tampered_in below there) ];
+      seals = seals_after before.went.lasts before.seals (seals_any c.get.ensures.gets.seals);
       table = tt;
       rows = tt;
       most = tt;
@@ -130,24 +127,25 @@ returns-in-Err-clause-swaps g c =
     let u = c.loop-u.u in
     let below : u < blocks_of pack flat = below_all c.loop-u-test.true c.div_ceil-blocks.ensures in
     let before = c.loop-u.invariant in
-    let read = c.in_ok-get.ensures in
+    let read = c.in_ok-get.ensures.gets in
+    let shape = table_region table.written.made.order pack flat.schema flat.capacity in
+    let lives = lives_went _ _ _ _ flat.region shape before.went c.requires.apart table.written.made.lives in
+    let same = fit_trans _ _ _ before.same c.get.ensures.rows in
+    let wide = wide_same (width flat.schema) _ _ same (wide_fit (width flat.schema) c.args.rows.now c.requires.fit) in
     record {
       ran = record {
         ok = tt;
         err = pass_each (one to) (copy_at flat.region to) _ _ _ _ (blocks_of pack flat) u below before.went
             (pass_more (one to) _ _ _ (read_at flat.region u) (write_at to u) (pass_wider none _ _ (one to) (λ q s. absurd s) _ _ (pass_malformed none _ _ flat.region u read.ok)));
       };
-      never = inr (record { place = u; below = below; is = refl });
-      seals = seals_after before.went.lasts before.seals (seals_any c.get.ensures.seals);
+      never = inr (tampered_in below (rows_malformed (length c.loop-u.rows) c.get.new.rows table.some before.same.count same.count wide (read.opened shape lives) c.in-Err.ensures.told));
+      seals = seals_after before.went.lasts before.seals (seals_any c.get.ensures.gets.seals);
       table = tt;
       rows = tt;
       most = tt;
       told = λ honest slots is.
           let now = represents_lasts pack flat (one to) _ _ before.went.lasts c.requires.apart slots is in
-          let shape = table_region table.written.made.order pack flat.schema flat.capacity in
-          let bytes = read.told _ shape (lives_went _ _ _ _ _ _ before.went c.requires.apart table.written.made.lives) (block_long pack flat slots _ is table.some u below) (now.holds u below) honest.nolie in
-          let same = fit_trans _ _ _ before.same c.get.ensures.rows in
-          let wide = wide_same (width flat.schema) _ _ same (wide_fit (width flat.schema) c.args.rows.now c.requires.fit) in
+          let bytes = read.told _ shape lives (block_long pack flat slots _ is table.some u below) (now.holds u below) honest.nolie in
           absurd (c.in-Err.ensures.told _ (got pack flat slots _ is table.some u (length c.loop-u.rows) c.get.new.rows below before.same.count same.count wide bytes));
     }
 
@@ -157,12 +155,12 @@ put-requires g c =
     let flat = c.args.flat.now in
     let u = c.loop-u.u in
     let before = c.loop-u.invariant in
-    let read = c.in_ok-get.ensures.ok in
+    let read = c.in_ok-get.ensures.gets.ok in
     let below : u < blocks_of pack flat = below_all c.loop-u-test.true c.div_ceil-blocks.ensures in
     let shape = table_region before.order pack flat.schema flat.capacity in
     let asks = asks_after {m = 1} (asks_after {m = 2} c.requires.asks before.went (omega (arith, copies flat.region c.args.to u, below))) read (omega arith) in
     let here : (if u == blocks_of pack flat then 0 else u) ≡ u = not_last u (blocks_of pack flat) below in
-    let turned = c.get.ensures.turns c.args.to (if u == blocks_of pack flat then 0 else u) shape before.turn in
+    let turned = c.get.ensures.gets.turns c.args.to (if u == blocks_of pack flat then 0 else u) shape before.turn in
     let same = fit_trans _ _ _ before.same (fit_trans _ _ _ c.get.ensures.rows c.change_rows.ensures.rows) in
     record {
       ready = asks.ready;
@@ -183,14 +181,14 @@ returns-in_err-put-clause-swaps g c =
     let u = c.loop-u.u in
     let below : u < blocks_of pack flat = below_all c.loop-u-test.true c.div_ceil-blocks.ensures in
     let before = c.loop-u.invariant in
-    let read = c.in_ok-get.ensures.ok in
-    let put = c.in_err-put.ensures in
+    let read = c.in_ok-get.ensures.gets.ok in
+    let put = c.in_err-put.ensures.puts in
     let shape = table_region before.order pack flat.schema flat.capacity in
     let lives = lives_went _ _ _ _ to shape read (λ s. s) before.lives in
     let same = fit_trans _ _ _ before.same (fit_trans _ _ _ c.get.ensures.rows c.change_rows.ensures.rows) in
     let mid = at g.R.Revisions.state c.get.new.self (g.S.BlockStore.state c.get.new.store) in
     let new = at g.R.Revisions.state c.put.new.self (g.S.BlockStore.state c.put.new.store) in
-    let sealed : SealsTable pack flat.schema to mid new = record { seals = λ good fine. c.put.ensures.seals good shape lives (accepted good pack to flat.schema c.change_rows.new.rows c.requires.table.some same.count fine c.in-Ok.ensures.spells) } in
+    let sealed : SealsTable pack flat.schema to mid new = record { seals = λ good fine. c.put.ensures.puts.seals good shape lives (accepted good pack to flat.schema c.change_rows.new.rows c.requires.table.some same.count fine c.in-Ok.ensures.spells) } in
     rw (p.1, p.2) (record {
       ran = record {
         ok = tt;
@@ -198,7 +196,7 @@ returns-in_err-put-clause-swaps g c =
             (pass_after (one to) _ _ _ _ (read_at flat.region u) (write_at to u) (went_wider none _ _ (one to) (λ q s. absurd s) _ read) (pass_of _ _ _ _ _ put.err));
       };
       never = inl (ap pass_error put.never);
-      seals = seals_after before.went.lasts before.seals (seals_after read.lasts (seals_any c.get.ensures.seals) sealed);
+      seals = seals_after before.went.lasts before.seals (seals_after read.lasts (seals_any c.get.ensures.gets.seals) sealed);
       table = tt;
       rows = tt;
       most = tt;
@@ -216,9 +214,9 @@ loop-u-preserved g c =
     let below : u < blocks_of pack flat = below_all c.loop-u-test.true c.div_ceil-blocks.ensures in
     let before = c.loop-u.invariant in
     let shape = table_region before.order pack flat.schema flat.capacity in
-    let read = c.in_ok-get.ensures.ok in
-    let put = c.in_ok-put.ensures in
-    let only = c.put.ensures.only in
+    let read = c.in_ok-get.ensures.gets.ok in
+    let put = c.in_ok-put.ensures.puts in
+    let only = c.put.ensures.puts.only in
     let lives = lives_went _ _ _ _ to shape read (λ s. s) before.lives in
     let same_get = fit_trans _ _ _ before.same c.get.ensures.rows in
     let same = fit_trans _ _ _ same_get c.change_rows.ensures.rows in
@@ -226,17 +224,17 @@ loop-u-preserved g c =
     let now = at g.R.Revisions.state c.loop-u.vault (g.S.BlockStore.state c.loop-u.store) in
     let mid = at g.R.Revisions.state c.get.new.self (g.S.BlockStore.state c.get.new.store) in
     let new = at g.R.Revisions.state c.put.new.self (g.S.BlockStore.state c.put.new.store) in
-    let sealed : SealsTable pack flat.schema to mid new = record { seals = λ good fine. c.put.ensures.seals good shape lives (accepted good pack to flat.schema c.change_rows.new.rows table.some same.count fine c.in-Ok.ensures.spells) } in
+    let sealed : SealsTable pack flat.schema to mid new = record { seals = λ good fine. c.put.ensures.puts.seals good shape lives (accepted good pack to flat.schema c.change_rows.new.rows table.some same.count fine c.in-Ok.ensures.spells) } in
     record {
       went = went_each (one to) (copy_at q to) _ _ _ u before.went
           (went_join (one to) _ _ _ (read_at q u) (write_at to u) (went_wider none _ _ (one to) (λ q s. absurd s) _ read) put.ok);
-      seals = seals_after before.went.lasts before.seals (seals_after read.lasts (seals_any c.get.ensures.seals) sealed);
+      seals = seals_after before.went.lasts before.seals (seals_after read.lasts (seals_any c.get.ensures.gets.seals) sealed);
       order = before.order;
       lives = lives_only _ _ _ _ only _ _ lives;
-      turn = next_turn to u shape _ (c.put.ensures.turn shape lives);
+      turn = next_turn to u shape _ (c.put.ensures.puts.turn shape lives);
       written = below_more _ _
           (λ p h. written_only _ _ _ _ only _ p (λ _ at. absurd (omega (arith, at, h))) (written_went _ _ _ _ _ p read (λ s. s) (before.written p h)))
-          c.put.ensures.written;
+          c.put.ensures.puts.written;
       same = same;
       few = more u pack c.loop-u.k c.in-Ok.picked (length c.get.new.rows) before.few c.in-Ok.ensures.most same_get.count;
       rows = λ tells.
@@ -250,7 +248,7 @@ loop-u-preserved g c =
           let here = represents_lasts pack flat (one to) _ _ before.went.lasts c.requires.apart slots is in
           let whole = whole_blocks pack flat.capacity slots in
           let block = block_at pack whole u in
-          let bytes = c.in_ok-get.ensures.told _ (table_region table.written.made.order pack flat.schema flat.capacity) (lives_went _ _ _ _ _ _ before.went c.requires.apart table.written.made.lives) (block_long pack flat slots _ is table.some u below) (here.holds u below) gone.nolie in
+          let bytes = c.in_ok-get.ensures.gets.told _ (table_region table.written.made.order pack flat.schema flat.capacity) (lives_went _ _ _ _ _ _ before.went c.requires.apart table.written.made.lives) (block_long pack flat slots _ is table.some u below) (here.holds u below) gone.nolie in
           let wide = wide_same (width flat.schema) _ _ same_get (wide_fit (width flat.schema) c.args.rows.now c.requires.fit) in
           let spelt = got pack flat slots _ is table.some u (length c.loop-u.rows) c.get.new.rows below before.same.count same_get.count wide bytes in
           let changed = c.in-Ok.ensures.told block spelt in
