@@ -223,7 +223,8 @@ fn place_of(access: Access) -> u32
 fn joined(cycles: &[Access], starts: &[Start], count: u64, access: Access) -> usize
     requires { IsLog cycles.now starts.now count }
     ensures { result
-        ≡ joins access (runs_of cycles.now starts.now (length starts.now) (length cycles.now) count) }
+        ≡ joins access (runs_of cycles.now starts.now
+            (length starts.now) (length cycles.now) count) }
 {
     if starts.is_empty() {
         return 0;

@@ -18,7 +18,8 @@ pub struct KeepingStore {
 impl KeepingStore {
     /// A store in memory to which nothing was written.
     pub fn new(alloc: Global, inner: MemStore) -> KeepingStore
-        ensures { (⟦<KeepingStore as BlockStore>⟧.state result).asked ≡ (⟦<MemStore as BlockStore>⟧.state inner).asked }
+        ensures { (⟦<KeepingStore as BlockStore>⟧.state result).asked
+            ≡ (⟦<MemStore as BlockStore>⟧.state inner).asked }
     {
         KeepingStore {
             inner,

@@ -10,7 +10,7 @@ use Rattle.ob_seal.specs.KeyPair.{KeyPair}
 use Rattle.ob_seal.specs.Sealed.{sealed, tag_of}
 use Rattle.ob_vault.specs.declared.fault.VaultErr.TheVariants as VaultErrs
 use Rattle.ob_vault.specs.State.{VaultState}
-use Rattle.ob_vault.specs.Numbers.{number_after, last_number}
+use Rattle.ob_vault.specs.Numbers.{number_after}
 use Rattle.ob_base.proofs.AccessLemmas.{number_read}
 use Rattle.ob_vault.specs.Tied.{Fits, Calm, at_of}
 use Rattle.ob_vault.specs.Calls.{Lasts, Went, Cut, Unfit, Opened, none}

@@ -1,10 +1,10 @@
 -- How calls of a vault join to runs, and what is kept over them.
-use Rattle.std.proofs.Common.{◌≡◌, ◌==◌, if◌then◌else◌, inl, inr, ℕ, suc, ◌*◌, ◌/◌, ◌+◌, ◌<◌, ◌≤◌, List, [], ◌++◌, Some, None, Bool, IsTrue, length, length-append, refl, sym, ◌∙◌, ap, subst, arith}
+use Rattle.std.proofs.Common.{◌≡◌, ◌==◌, if◌then◌else◌, inl, inr, ℕ, suc, ◌*◌, ◌+◌, ◌<◌, List, [], ◌++◌, Some, None, Bool, IsTrue, length, length-append, refl, sym, ◌∙◌, ap, subst, arith}
 use Rattle.ob_base.specs.declared.access.Access.{Access}
 use Rattle.ob_store.specs.State.{StoreState}
 use Rattle.ob_base.specs.Counts.{Rises}
 use Rattle.ob_base.specs.Lists.{each}
-use Rattle.ob_store.specs.Runs.{Began, Later}
+use Rattle.ob_store.specs.Runs.{Later}
 use Rattle.ob_store.proofs.Steps.{later_trans, did_none, did_join, began_join, began_more, parts, none_before}
 use Rattle.ob_seal.specs.Sealed.{sealed}
 use Rattle.ob_vault.specs.declared.region.Region.{Region}
@@ -14,9 +14,8 @@ use Rattle.ob_vault.specs.Revs.{turn_after, place_after}
 use Rattle.ob_vault.specs.declared.fault.VaultErr.{VaultErr}
 use Rattle.ob_vault.specs.declared.fault.VaultErr.TheVariants.{Failed, Tampered, NoMemory}
 use Rattle.ob_vault.specs.State.{VaultState, World}
-use Rattle.ob_base.specs.Accesses.{number_of}
-use Rattle.ob_vault.specs.Tied.{Ready, Lives, Written, OnTurn, Holds, EndsAt, at_of}
-use Rattle.ob_vault.specs.Rows.{joined, SameSizes}
+use Rattle.ob_vault.specs.Tied.{Ready, Lives, Written, OnTurn, Holds, at_of}
+use Rattle.ob_vault.specs.Rows.{SameSizes}
 use Rattle.ob_vault.specs.Places.{RowsFit, MayGet, MayPut}
 use Rattle.ob_vault.proofs.WorldSteps.{lasts_none}
 use Rattle.ob_vault.specs.Calls.{Apart, Only, KeepsShapes, Lasts, Seals, Went, Cut, Cause}

@@ -8,7 +8,7 @@ use Rattle.ob_base.specs.Accesses.{AllBelow, writes, makes, number_of, nth_write
 use Rattle.ob_seal.specs.Sealed.{sealed, tag_of}
 use Rattle.ob_vault.specs.State.{Start, VaultState, World, from_nothing}
 use Rattle.ob_vault.specs.Numbers.{number_after, last_number}
-use Rattle.ob_vault.specs.Tied.{Ready, SealedAt, Calm, at_of}
+use Rattle.ob_vault.specs.Tied.{Ready, SealedAt, at_of}
 use Rattle.ob_vault.specs.Calls.{Went, Lasts, Seals, Unfit, Opened}
 use Rattle.ob_vault.specs.Words.{MayAsk, MayStart, IsHonest}
 use Rattle.ob_vault.proofs.WorldSteps.{world, calm_lasts, number_stays}

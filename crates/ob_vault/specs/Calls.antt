@@ -59,7 +59,8 @@ pub record EndsRead (q x : ℕ) (w : World) : Type 0 where
 -- the block that the last read gave hasn't the tag of the place and the number of its last write
 pub record Unfit (q x : ℕ) (w : World) : Type 0 where
   pub differs : drop (length w.store.gave - 32) w.store.gave
-      ≢ tag_of w.vault.keys (at_of q x (last_number w q x)) (take (length w.store.gave - 32) w.store.gave)
+      ≢ tag_of w.vault.keys (at_of q x (last_number w q x))
+      (take (length w.store.gave - 32) w.store.gave)
 
 -- it is that of these rows, sealed under that number
 pub record Opened (q x : ℕ) (rows : List ℕ) (w : World) : Type 0 where

@@ -15,7 +15,8 @@ last_number w q x = number_after w.vault.start w.store.asked q x
 -- whether a number is that of a write to the place: of this run, whose writes count on from 1 behind those
 -- of the earlier one, or of the last one before it
 abbrev pub IsNumber : World → ℕ → ℕ → ℕ → Type 0
-IsNumber w q x n = (nth_write (n - w.vault.start.writes) w.store.asked ≡ Some (q, x)) ⊎ ((n ≡ w.vault.start.given q x) × (n ≢ 0))
+IsNumber w q x n = (nth_write (n - w.vault.start.writes) w.store.asked ≡ Some (q, x))
+    ⊎ ((n ≡ w.vault.start.given q x) × (n ≢ 0))
 
 -- what an earlier run may leave: its regions and its writes are those that it counted, and no two places have
 -- one number

@@ -1,7 +1,6 @@
 -- How a vault and its store belong together.
 use Rattle.std.specs.Prelude.{◌≡◌, ◌≢◌, ◌<◌, ◌≤◌, ◌+◌, ◌-◌, ℕ, Bool, IsTrue, List, [], ◌∷◌, ◌++◌, length, take, drop, Some, None}
 use Rattle.ob_base.specs.Accesses.{AllBelow}
-use Rattle.ob_base.specs.declared.access.Access.{Access}
 use Rattle.ob_base.specs.declared.access.Access.TheVariants.{Read}
 use Rattle.ob_store.specs.State.{Lie}
 use Rattle.ob_store.specs.Calls.{IsRegion}

@@ -14,18 +14,23 @@ use Rattle.ob_vault.specs.Tied.{Ready, Lives, Written, OnTurn, Holds}
 use Rattle.ob_vault.specs.Calls.{Went, Cut, Only, Seals, Opened, none, one}
 
 -- a region is made under the next number, or that number is used up
-pub record MakesRegion (blocks width : ℕ) (order : Order) (result : Result ℕ VaultErr) (old new : World) : Type 0 where
+pub record MakesRegion (blocks width : ℕ) (order : Order) (result : Result ℕ VaultErr)
+    (old new : World) : Type 0 where
   pub ok : OnOk result (Went (make_at old.vault.next blocks width) (one old.vault.next) old new)
-  pub err : IfErr result (λ e. Cut e (make_at old.vault.next blocks width) (one old.vault.next) old new)
+  pub err : IfErr result (λ e.
+      Cut e (make_at old.vault.next blocks width) (one old.vault.next) old new)
   pub never : IfErr result (λ e. (e ≡ Failed) ⊎ (e ≡ NoMemory))
   pub seals : (good : ℕ → List ℕ → Bool) → Seals good old new
   pub number : IfOk result (λ g. g ≡ old.vault.next)
-  pub lives : OnOk result (Lives old.vault.next (record { blocks = blocks; width = width; order = order }) new)
-  pub turn : OnOk result (OnTurn old.vault.next (record { blocks = blocks; width = width; order = order }) 0 new)
+  pub lives : OnOk result
+      (Lives old.vault.next (record { blocks = blocks; width = width; order = order }) new)
+  pub turn : OnOk result
+      (OnTurn old.vault.next (record { blocks = blocks; width = width; order = order }) 0 new)
   pub gone : OnErr result (new.vault.revs.live old.vault.next ≡ None)
 
 -- the rows of a place are read into some, or these stay as they were
-pub record Gets {T : Type 0} (q x : ℕ) (before after : List (List ℕ)) (result : Result T VaultErr) (old new : World) : Type 0 where
+pub record Gets {T : Type 0} (q x : ℕ) (before after : List (List ℕ)) (result : Result T VaultErr)
+    (old new : World) : Type 0 where
   pub ok : OnOk result (Went (read_at q x) none old new)
   pub err : IfErr result (λ e. Cut e (read_at q x) none old new)
   pub never : IfErr result (λ e. (e ≡ Failed) ⊎ (e ≡ Tampered q x))
@@ -34,16 +39,21 @@ pub record Gets {T : Type 0} (q x : ℕ) (before after : List (List ℕ)) (resul
   -- what the store gave, unless it failed
   pub gave : (result ≡ Err Failed → ⊥) → ReadGives q x new.store.gave old.store new.store
   -- over any store the rows are those of a block that was sealed for the place and its number
-  pub opened : OnOk result ((shape : Region) → Lives q shape old → Opened q x (joined (shape.width / length before) after) new)
-  pub tails : OnOk result ((shape : Region) → Lives q shape old → Tails (shape.width / length before) after)
+  pub opened : OnOk result ((shape : Region) → Lives q shape old
+      → Opened q x (joined (shape.width / length before) after) new)
+  pub tails : OnOk result ((shape : Region) → Lives q shape old
+      → Tails (shape.width / length before) after)
   -- no byte of a block that is refused reaches them
   pub kept : OnErr result (after ≡ before)
   -- they are those that were put last, where no read gave another block
-  pub told : (bytes : List ℕ) (shape : Region) → Lives q shape old → length bytes ≡ shape.width → Holds q x bytes old → new.store.lie ≡ None
-      → MatchResult result (λ _. joined (shape.width / length before) after ≡ bytes) (λ e. e ≡ Failed)
+  pub told : (bytes : List ℕ) (shape : Region) → Lives q shape old → length bytes ≡ shape.width
+      → Holds q x bytes old → new.store.lie ≡ None
+      → MatchResult result (λ _. joined (shape.width / length before) after ≡ bytes)
+      (λ e. e ≡ Failed)
 
 -- rows are put at a place under the next write number
-pub record Puts {T : Type 0} (q x : ℕ) (rows : List (List ℕ)) (result : Result T VaultErr) (old new : World) : Type 0 where
+pub record Puts {T : Type 0} (q x : ℕ) (rows : List (List ℕ)) (result : Result T VaultErr)
+    (old new : World) : Type 0 where
   pub ok : OnOk result (Went (write_at q x) (one q) old new)
   pub err : IfErr result (λ e. Cut e (write_at q x) (one q) old new)
   pub never : IfErr result (λ e. e ≡ Failed)
@@ -51,20 +61,23 @@ pub record Puts {T : Type 0} (q x : ℕ) (rows : List (List ℕ)) (result : Resu
   pub number : new.vault.revs.number q x ≡ old.vault.count + 1
   pub written : Written q x new
   pub turn : (shape : Region) → Lives q shape old → OnTurn q shape (turn_after shape x) new
-  pub seals : (good : ℕ → List ℕ → Bool) (shape : Region) → Lives q shape old → IsTrue (good q (joined (shape.width / length rows) rows))
-      → Seals good old new
+  pub seals : (good : ℕ → List ℕ → Bool) (shape : Region) → Lives q shape old
+      → IsTrue (good q (joined (shape.width / length rows) rows)) → Seals good old new
   pub told : OnOk result (IsTrue old.store.tells → (shape : Region) → Lives q shape old
       → Holds q x (joined (shape.width / length rows) rows) new)
   -- a write that failed leaves the old block there, or the new one
   pub failed : OnErr result (IsTrue old.store.tells → (shape : Region) → Lives q shape old
-      → (new.store.last q x ≡ old.store.last q x) ⊎ Holds q x (joined (shape.width / length rows) rows) new)
+      → (new.store.last q x ≡ old.store.last q x)
+      ⊎ Holds q x (joined (shape.width / length rows) rows) new)
 
 -- a region is taken out of the vault, and out of the store unless it answers otherwise
-pub record DropsRegion {T : Type 0} (q : ℕ) (result : Result T VaultErr) (old new : World) : Type 0 where
+pub record DropsRegion {T : Type 0} (q : ℕ) (result : Result T VaultErr)
+    (old new : World) : Type 0 where
   pub went : Went (discard_at q) (one q) old new
   pub never : IfErr result (λ e. e ≡ Failed)
   pub seals : (good : ℕ → List ℕ → Bool) → Seals good old new
-  pub turns : (r y : ℕ) (shape : Region) → (r ≡ q → ⊥) → OnTurn r shape y old → OnTurn r shape y new
+  pub turns : (r y : ℕ) (shape : Region) → (r ≡ q → ⊥)
+      → OnTurn r shape y old → OnTurn r shape y new
   pub gone : new.vault.revs.live q ≡ None
   pub slips : OnErr result (Rises old.store.slips new.store.slips)
   pub stays : OnOk result (new.store.slips ≡ old.store.slips)

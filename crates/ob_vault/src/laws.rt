@@ -13,7 +13,8 @@ pub fn numbers_are_apart()
     ensures writes { (w : World) (i j q x r y : ℕ) → IsWrite i q x w → IsWrite j r y w
         → write_number i w ≡ write_number j w → i ≡ j }
     ensures named { (w : World) (i q x : ℕ) → IsWrite i q x w → IsNumber w q x (write_number i w) }
-    ensures last { (w : World) (q x : ℕ) → last_number w q x ≢ 0 → IsNumber w q x (last_number w q x) }
+    ensures last { (w : World) (q x : ℕ) → last_number w q x ≢ 0
+        → IsNumber w q x (last_number w q x) }
     ensures alone { (w : World) (q x r y n : ℕ) → Tied w → IsNumber w q x n → IsNumber w r y n
         → (q ≡ r) × (x ≡ y) }
 {}

@@ -82,7 +82,7 @@ impl<R: Revisions> Vault<R> {
         }
     }
 
-    /// Reads the rows of a place, or refuses.
+    /// Reads the rows of a place, or refuses and leaves these rows as they were.
     pub fn get<S: BlockStore>(
         &mut self,
         store: &mut S,
@@ -154,7 +154,8 @@ impl<R: Revisions> Vault<R> {
     pub fn drop_region<S: BlockStore>(&mut self, store: &mut S, region: u64) -> Result<(), VaultErr>
         requires ready { Ready (at R.state self.old (S.state store.old)) }
         requires spare { 1 ≤ (S.state store.old).spare }
-        requires lives { (shape : Shape) × Lives region shape (at R.state self.old (S.state store.old)) }
+        requires lives { (shape : Shape)
+            × Lives region shape (at R.state self.old (S.state store.old)) }
         ensures drops { DropsRegion region result
             (at R.state self.old (S.state store.old)) (at R.state self.new (S.state store.new)) }
     {
@@ -167,7 +168,8 @@ impl<R: Revisions> Vault<R> {
 
     /// Takes a region out of the vault, and leaves it in the store.
     pub fn forget(&mut self, region: u64)
-        ensures forgets { (s : StoreState) → Forgets region (at R.state self.old s) (at R.state self.new s) }
+        ensures forgets { (s : StoreState)
+            → Forgets region (at R.state self.old s) (at R.state self.new s) }
     {
         self.revs.end(region);
     }

@@ -1,4 +1,4 @@
-use Rattle.std.proofs.Common.{◌≡◌, ◌+◌, inl, inr, ℕ, ◌/◌, List, Option, Some, length, refl, sym, ◌∙◌, ap, subst, arith}
+use Rattle.std.proofs.Common.{◌≡◌, ◌+◌, inl, inr, ℕ, ◌/◌, List, Option, Some, length, refl, ◌∙◌, ap, subst, arith}
 use Rattle.ob_seal.specs.KeyPair.{KeyPair}
 use Rattle.ob_seal.specs.Sealed.{sealed}
 use Rattle.ob_seal.specs.declared.At.{At}
