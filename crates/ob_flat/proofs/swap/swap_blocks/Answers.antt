@@ -240,8 +240,8 @@ loop-u-preserved g c =
       rows = λ tells.
           let tells' = tells_went _ _ _ _ read (tells_went _ _ _ _ before.went tells) in
           below_more _ _
-              (λ p h. block_only pack flat.schema mid new to u to p only (λ _ at. absurd (omega (arith, at, h))) (block_lasts pack flat.schema none now mid to p read.lasts (λ s. s) (before.rows tells p h)))
-              (block_put pack flat.schema c.change_rows.new.rows to u new table.some same.count c.in-Ok.ensures.spells (put.told tells' shape lives));
+          (λ p h. block_only pack flat.schema mid new to u to p only (λ _ at. absurd (omega (arith, at, h))) (block_lasts pack flat.schema none now mid to p read.lasts (λ s. s) (before.rows tells p h)))
+          (block_put pack flat.schema c.change_rows.new.rows to u new table.some same.count c.in-Ok.ensures.spells (put.told tells' shape lives));
       told = λ honest slots is.
           let gone = honest_before put.ok.lasts honest in
           let start = honest_before read.lasts gone in

@@ -21,7 +21,7 @@ use Rattle.ob_join.proofs.collecting.collect_chunk.Goals as goal
 
 pub loop-x-init : goal.loop-x-init
 loop-x-init g c = record {
-  went = went_none none _ c.requires.asks.ready;
+  went = went_none none _ c.requires.spare.ready;
   seals = λ good. seals_none good _;
   kept = same_rows c.args.kept.now;
   turns = λ q y shape turn. turn;
@@ -54,7 +54,7 @@ pub get-requires-clause-ready : goal.get-requires-clause-ready
 get-requires-clause-ready g c = c.loop-x.invariant.went.lasts.ready
 
 pub get-requires-clause-spare : goal.get-requires-clause-spare
-get-requires-clause-spare g c = omega (arith, c.requires.asks.spare, c.loop-x.invariant.went.spare, reads_from c.args.flat.now.region c.args.first c.loop-x.x)
+get-requires-clause-spare g c = omega (arith, c.requires.spare.spare, c.loop-x.invariant.went.spare, reads_from c.args.flat.now.region c.args.first c.loop-x.x)
 
 pub get-requires-clause-place : goal.get-requires-clause-place
 get-requires-clause-place g c =
@@ -121,21 +121,21 @@ loop-x-preserved g c =
     let read = c.in-Ok.ensures.read in
     let wide' = wide_same w _ _ same (part_wide (x * pack) pack kept fits w (wide_same _ _ _ before.kept c.requires.wide)) in
     record {
-      went = went_each none (read_from flat.region first) _ _ _ x went c.in_ok-get.ensures.ok;
-      seals = λ good. seals_join good _ _ _ went.lasts.later (before.seals good) (c.get.ensures.seals good);
+      went = went_each none (read_from flat.region first) _ _ _ x went c.in_ok-get.ensures.gets.ok;
+      seals = λ good. seals_join good _ _ _ went.lasts.later (before.seals good) (c.get.ensures.gets.seals good);
       kept = fit_trans _ _ _ before.kept (rw (within (x * pack) pack) (put_sizes (x * pack) pack kept fits c.get.new.rows size same));
-      turns = λ q y shape turn. c.get.ensures.turns q y shape (before.turns q y shape turn);
+      turns = λ q y shape turn. c.get.ensures.gets.turns q y shape (before.turns q y shape turn);
       spells = λ j less. rw (within (x * pack) pack) (put_more (x * pack) pack kept fits c.get.new.rows size (λ i row. (slot : Option Row) × Begins flat.schema slot row)
           before.spells (λ z inside. (slice_index_or read.slots z None, read.spelt.each z (omega (arith, inside, size)))) j (omega (arith, next, less)));
       told = λ slots is nolie j less.
           let now = represents_lasts pack flat none _ _ went.lasts (λ s. s) slots is in
           let shape = table_region c.requires.table.written.made.order pack flat.schema flat.capacity in
-          let bytes = c.in_ok-get.ensures.told _ shape (lives_went _ _ _ _ _ _ went (λ s. s) c.requires.table.written.made.lives) (block_long pack flat slots _ is c.requires.table.some u below) (now.holds u below) nolie in
+          let bytes = c.in_ok-get.ensures.gets.told _ shape (lives_went _ _ _ _ _ _ went (λ s. s) c.requires.table.written.made.lives) (block_long pack flat slots _ is c.requires.table.some u below) (now.holds u below) nolie in
           let long : length (take (x * pack + pack - x * pack) (drop (x * pack) kept)) ≡ pack = rw (within (x * pack) pack) (part_long (x * pack) pack kept fits) in
           let spelt = got pack flat slots _ is c.requires.table.some u (length (take (x * pack + pack - x * pack) (drop (x * pack) kept))) c.get.new.rows below long size wide' bytes in
           let whole = whole_blocks pack flat.capacity slots in
           rw (within (x * pack) pack) (put_more (x * pack) pack kept fits c.get.new.rows size (λ i row. Begins flat.schema (slice_index_or whole (first * pack + i) None) row)
-          (before.told slots is (none_went _ _ _ _ c.in_ok-get.ensures.ok nolie)) (read_next flat.schema pack first x whole c.get.new.rows size spelt) j (omega (arith, next, less)));
+          (before.told slots is (none_went _ _ _ _ c.in_ok-get.ensures.gets.ok nolie)) (read_next flat.schema pack first x whole c.get.new.rows size spelt) j (omega (arith, next, less)));
     }
 
 pub returns-clause-kept : goal.returns-clause-kept
@@ -150,18 +150,18 @@ returns-in_err-get-clause-collects g c =
     let below : u < blocks_of pack flat = omega (arith, c.requires.within) in
     let before = c.loop-x.invariant in
     rw (p.1, p.2) (record {
-      ran = record { ok = tt; err = pass_each none (read_from flat.region c.args.first) _ _ _ _ c.args.n c.loop-x.x (omega arith) before.went (pass_of _ _ _ _ _ c.in_err-get.ensures.err) };
-      never = elim c.in_err-get.ensures.never [
+      ran = record { ok = tt; err = pass_each none (read_from flat.region c.args.first) _ _ _ _ c.args.n c.loop-x.x (omega arith) before.went (pass_of _ _ _ _ _ c.in_err-get.ensures.gets.err) };
+      never = elim c.in_err-get.ensures.gets.never [
         | inl e ↦ inl (ap pass_error e)
         | inr e ↦ inr (record { place = u; below = below; is = ap pass_error e })
       ];
-      seals = record { seals = λ good. seals_join good _ _ _ before.went.lasts.later (before.seals good) (c.get.ensures.seals good) };
+      seals = record { seals = λ good. seals_join good _ _ _ before.went.lasts.later (before.seals good) (c.get.ensures.gets.seals good) };
       turns = tt;
       spells = tt;
       told = λ slots is nolie.
           let now = represents_lasts pack flat none _ _ before.went.lasts (λ s. s) slots is in
           let shape = table_region c.requires.table.written.made.order pack flat.schema flat.capacity in
-          ap pass_error (c.in_err-get.ensures.told _ shape (lives_went _ _ _ _ _ _ before.went (λ s. s) c.requires.table.written.made.lives) (block_long pack flat slots _ is c.requires.table.some u below) (now.holds u below) nolie);
+          ap pass_error (c.in_err-get.ensures.gets.told _ shape (lives_went _ _ _ _ _ _ before.went (λ s. s) c.requires.table.written.made.lives) (block_long pack flat slots _ is c.requires.table.some u below) (now.holds u below) nolie);
     })
 
 pub returns-in-Err-clause-collects : goal.returns-in-Err-clause-collects
@@ -174,9 +174,9 @@ returns-in-Err-clause-collects g c =
     let before = c.loop-x.invariant in
     let went = before.went in
     record {
-      ran = record { ok = tt; err = pass_each none (read_from flat.region c.args.first) _ _ _ _ c.args.n x (omega arith) went (pass_malformed _ _ _ flat.region u c.in_ok-get.ensures.ok) };
+      ran = record { ok = tt; err = pass_each none (read_from flat.region c.args.first) _ _ _ _ c.args.n x (omega arith) went (pass_malformed _ _ _ flat.region u c.in_ok-get.ensures.gets.ok) };
       never = inr (record { place = u; below = below; is = refl });
-      seals = record { seals = λ good. seals_join good _ _ _ went.lasts.later (before.seals good) (c.get.ensures.seals good) };
+      seals = record { seals = λ good. seals_join good _ _ _ went.lasts.later (before.seals good) (c.get.ensures.gets.seals good) };
       turns = tt;
       spells = tt;
       told = λ slots is nolie.
@@ -184,7 +184,7 @@ returns-in-Err-clause-collects g c =
           let w = width flat.schema in
           let now = represents_lasts pack flat none _ _ went.lasts (λ s. s) slots is in
           let shape = table_region c.requires.table.written.made.order pack flat.schema flat.capacity in
-          let bytes = c.in_ok-get.ensures.told _ shape (lives_went _ _ _ _ _ _ went (λ s. s) c.requires.table.written.made.lives) (block_long pack flat slots _ is c.requires.table.some u below) (now.holds u below) nolie in
+          let bytes = c.in_ok-get.ensures.gets.told _ shape (lives_went _ _ _ _ _ _ went (λ s. s) c.requires.table.written.made.lives) (block_long pack flat slots _ is c.requires.table.some u below) (now.holds u below) nolie in
           let fits : x * pack + pack ≤ length kept = omega (arith, c.loop-x.invariant.kept.count, c.requires.space, rows_room x c.args.n pack (omega arith)) in
           let long : length (take (x * pack + pack - x * pack) (drop (x * pack) kept)) ≡ pack = rw (within (x * pack) pack) (part_long (x * pack) pack kept fits) in
           let wide = c.get.ensures.rows in

@@ -67,7 +67,7 @@ put-requires-clause-place g c =
     let rights = blocks_for pack c.args.sides.now.right.now.capacity in
     let n = c.args.chunk * rights + v in
     let below : n < blocks_for pack to.capacity = omega (arith, c.requires.within, c.div_ceil-blocks.ensures) in
-    let filling = filling_read pack to n _ _ _ c.in_ok-get.ensures.ok c.get.ensures.turns c.loop-v.invariant.filling in
+    let filling = filling_read pack to n _ _ _ c.in_ok-get.ensures.gets.ok c.get.ensures.gets.turns c.loop-v.invariant.filling in
     let shape = table_region filling.order pack to.schema to.capacity in
     let size = fit_trans _ _ _ c.loop-v.invariant.out c.join_rows.ensures.size in
     let fit = subst (λ (k : ℕ). RowsFit c.join_rows.new.to (k * width to.schema)) c.requires.buffers.same (fit_same _ _ _ size (out_fits c.requires.target.schema c.requires.buffers.out_fit)) in
@@ -98,12 +98,12 @@ loop-v-preserved g c =
     let start = c.args.chunk * rights in
     let below : v < rights = omega (arith, c.div_ceil-blocks.ensures) in
     let before = c.loop-v.invariant in
-    let read = c.in_ok-get.ensures.ok in
-    let wrote = rw c.div_ceil-blocks.ensures at c.in_ok-put.ensures.ok in
-    let only = rw c.div_ceil-blocks.ensures at c.put.ensures.only in
-    let turn = rw c.div_ceil-blocks.ensures at c.put.ensures.turn in
-    let written = rw c.div_ceil-blocks.ensures at c.put.ensures.written in
-    let filling = filling_read pack to (start + v) _ _ _ read c.get.ensures.turns before.filling in
+    let read = c.in_ok-get.ensures.gets.ok in
+    let wrote = rw c.div_ceil-blocks.ensures at c.in_ok-put.ensures.puts.ok in
+    let only = rw c.div_ceil-blocks.ensures at c.put.ensures.puts.only in
+    let turn = rw c.div_ceil-blocks.ensures at c.put.ensures.puts.turn in
+    let written = rw c.div_ceil-blocks.ensures at c.put.ensures.puts.written in
+    let filling = filling_read pack to (start + v) _ _ _ read c.get.ensures.gets.turns before.filling in
     let shape = table_region filling.order pack to.schema to.capacity in
     let same = fit_trans _ _ _ before.same c.get.ensures.rows in
     let size = fit_trans _ _ _ before.out c.join_rows.ensures.size in
@@ -113,8 +113,8 @@ loop-v-preserved g c =
     record {
       went = went_each (one to.region) (pair_at b to.region rights c.args.chunk) _ _ _ v before.went
           (went_join (one to.region) _ _ _ (read_at b v) (write_at to.region (start + v)) (went_wider none _ _ (one to.region) (λ q s. absurd s) _ read) wrote);
-      seals = seals_after before.went.lasts before.seals (seals_after read.lasts (seals_any c.get.ensures.seals)
-          (record { seals = λ good fine. c.put.ensures.seals good shape filling.lives (accepted good pack to.region to.schema c.join_rows.new.to c.requires.buffers.some (size.count ∙ c.requires.buffers.same) fine spells) }));
+      seals = seals_after before.went.lasts before.seals (seals_after read.lasts (seals_any c.get.ensures.gets.seals)
+          (record { seals = λ good fine. c.put.ensures.puts.seals good shape filling.lives (accepted good pack to.region to.schema c.join_rows.new.to c.requires.buffers.some (size.count ∙ c.requires.buffers.same) fine spells) }));
       filling = filling_at pack to (start + v + 1) (start + (v + 1)) _ next (filling_more pack to (start + v) _ _ only turn written filling);
       same = same;
       out = size;
@@ -123,7 +123,7 @@ loop-v-preserved g c =
           let began = honest_before read.lasts kept in
           let now = represents_lasts pack flat (one to.region) _ _ before.went.lasts c.requires.target.apart slots represents in
           let block = block_at pack (whole_blocks pack flat.capacity slots) v in
-          let bytes = c.in_ok-get.ensures.told _ (table_region c.requires.right.written.made.order pack flat.schema flat.capacity) (lives_went _ _ _ _ _ _ before.went c.requires.target.apart c.requires.right.written.made.lives) (block_long pack flat slots _ represents c.requires.buffers.some v below) (now.holds v below) kept.nolie in
+          let bytes = c.in_ok-get.ensures.gets.told _ (table_region c.requires.right.written.made.order pack flat.schema flat.capacity) (lives_went _ _ _ _ _ _ before.went c.requires.target.apart c.requires.right.written.made.lives) (block_long pack flat slots _ represents c.requires.buffers.some v below) (now.holds v below) kept.nolie in
           let wide = wide_same (width flat.schema) _ _ same (wide_fit (width flat.schema) c.args.rows.now c.requires.buffers.rows_fit) in
           let right = got pack flat slots _ represents c.requires.buffers.some v (length c.loop-v.rows) c.get.new.rows below before.same.count same.count wide bytes in
           let made = c.in-Ok.ensures.told left_slots block spelt right in
@@ -132,7 +132,7 @@ loop-v-preserved g c =
           chunk_block c.args.sides.now.lcol c.args.sides.now.rcol pack flat.capacity v left_slots slots represents.size ∙ sym (chunk.same v below) in
           let made' : Spelt to.schema (block_at pack all (start + v)) c.join_rows.new.to =
           subst (λ (s : Columns). Spelt s (block_at pack all (start + v)) c.join_rows.new.to) (sym c.requires.target.schema) (subst (λ (l : Slots). Spelt (left ++ flat.schema) l c.join_rows.new.to) same_block made) in
-          let told = rw c.div_ceil-blocks.ensures at c.in_ok-put.ensures.told in
+          let told = rw c.div_ceil-blocks.ensures at c.in_ok-put.ensures.puts.told in
           let here = holds_rows to.region (start + v) _ _ _ (joined_block pack to.schema _ c.join_rows.new.to c.requires.buffers.some (size.count ∙ c.requires.buffers.same) made') (told (honest_after read (honest_after before.went honest)).tells shape filling.lives) in
           holds_at pack to (start + v + 1) (start + (v + 1)) all _ next (holds_more pack to (start + v) _ _ all only here (holds_read pack to (start + v) _ _ _ all read (before.told began left_slots slots all spelt represents chunk holds)));
     }
@@ -150,7 +150,7 @@ pub join_rows-requires-clause-kept : goal.join_rows-requires-clause-kept
 join_rows-requires-clause-kept g c = c.requires.kept.wide
 
 pub put-requires-clause-ready : goal.put-requires-clause-ready
-put-requires-clause-ready g c = c.in_ok-get.ensures.ok.lasts.ready
+put-requires-clause-ready g c = c.in_ok-get.ensures.gets.ok.lasts.ready
 
 pub loop-v-smaller : goal.loop-v-smaller
 loop-v-smaller g c = nearer c.loop-v-test.true
@@ -187,12 +187,12 @@ get-requires-clause-spare g c =
 pub put-requires-clause-spare : goal.put-requires-clause-spare
 put-requires-clause-spare g c =
     let below : c.loop-v.v < rights (join_of (length c.args.rows.now) c.args.sides.now) = omega (arith, c.div_ceil-blocks.ensures) in
-    (asks_after {m = 1} (asks_after {m = 2} c.requires.asks c.loop-v.invariant.went (omega (arith, (pairs_length c.args.sides.now.right.now.region c.args.to.now.region (blocks_for (length c.args.rows.now) c.args.sides.now.right.now.capacity) c.args.chunk c.loop-v.v), below))) c.in_ok-get.ensures.ok (omega arith)).spare
+    (asks_after {m = 1} (asks_after {m = 2} c.requires.asks c.loop-v.invariant.went (omega (arith, (pairs_length c.args.sides.now.right.now.region c.args.to.now.region (blocks_for (length c.args.rows.now) c.args.sides.now.right.now.capacity) c.args.chunk c.loop-v.v), below))) c.in_ok-get.ensures.gets.ok (omega arith)).spare
 
 pub put-requires-clause-few : goal.put-requires-clause-few
 put-requires-clause-few g c =
     let below : c.loop-v.v < rights (join_of (length c.args.rows.now) c.args.sides.now) = omega (arith, c.div_ceil-blocks.ensures) in
-    let asks = asks_after {m = 1} (asks_after {m = 2} c.requires.asks c.loop-v.invariant.went (omega (arith, (pairs_length c.args.sides.now.right.now.region c.args.to.now.region (blocks_for (length c.args.rows.now) c.args.sides.now.right.now.capacity) c.args.chunk c.loop-v.v), below))) c.in_ok-get.ensures.ok (omega arith) in
+    let asks = asks_after {m = 1} (asks_after {m = 2} c.requires.asks c.loop-v.invariant.went (omega (arith, (pairs_length c.args.sides.now.right.now.region c.args.to.now.region (blocks_for (length c.args.rows.now) c.args.sides.now.right.now.capacity) c.args.chunk c.loop-v.v), below))) c.in_ok-get.ensures.gets.ok (omega arith) in
     omega (arith, asks.few)
 
 pub join_rows-requires-clause-to : goal.join_rows-requires-clause-to
@@ -219,18 +219,18 @@ returns-in_err-get-clause-pairs g c =
       ran = record {
         ok = tt;
         err = pass_each (one to) (pair_at b to rights c.args.chunk) _ _ _ _ rights v below went
-            (pass_more (one to) _ _ _ (read_at b v) (write_at to (c.args.chunk * rights + v)) (pass_wider none _ _ (one to) (λ q s. absurd s) _ _ (pass_of _ _ _ _ _ c.in_err-get.ensures.err)));
+            (pass_more (one to) _ _ _ (read_at b v) (write_at to (c.args.chunk * rights + v)) (pass_wider none _ _ (one to) (λ q s. absurd s) _ _ (pass_of _ _ _ _ _ c.in_err-get.ensures.gets.err)));
       };
-      never = elim c.in_err-get.ensures.never [
+      never = elim c.in_err-get.ensures.gets.never [
         | inl e ↦ inl (ap pass_error e)
         | inr e ↦ inr (record { place = v; below = below; is = ap pass_error e })
       ];
-      seals = seals_after went.lasts before.seals (seals_any c.get.ensures.seals);
+      seals = seals_after went.lasts before.seals (seals_any c.get.ensures.gets.seals);
       filling = tt;
       told = λ honest left_slots slots all spelt is.
           let now = represents_lasts pack flat (one c.args.to.now.region) _ _ went.lasts c.requires.target.apart slots is in
           let shape = table_region c.requires.right.written.made.order pack flat.schema flat.capacity in
-          (ap pass_error (c.in_err-get.ensures.told _ shape (lives_went _ _ _ _ _ _ went c.requires.target.apart c.requires.right.written.made.lives) (block_long pack flat slots _ is c.requires.buffers.some v below) (now.holds v below) honest.nolie));
+          (ap pass_error (c.in_err-get.ensures.gets.told _ shape (lives_went _ _ _ _ _ _ went c.requires.target.apart c.requires.right.written.made.lives) (block_long pack flat slots _ is c.requires.buffers.some v below) (now.holds v below) honest.nolie));
     })
 
 pub returns-in-Err-clause-pairs : goal.returns-in-Err-clause-pairs
@@ -248,15 +248,15 @@ returns-in-Err-clause-pairs g c =
       ran = record {
         ok = tt;
         err = pass_each (one to) (pair_at b to rights c.args.chunk) _ _ _ _ rights v below went
-            (pass_more (one to) _ _ _ (read_at b v) (write_at to (c.args.chunk * rights + v)) (pass_wider none _ _ (one to) (λ q s. absurd s) _ _ (pass_malformed none _ _ b v c.in_ok-get.ensures.ok)));
+            (pass_more (one to) _ _ _ (read_at b v) (write_at to (c.args.chunk * rights + v)) (pass_wider none _ _ (one to) (λ q s. absurd s) _ _ (pass_malformed none _ _ b v c.in_ok-get.ensures.gets.ok)));
       };
       never = inr (record { place = v; below = below; is = refl });
-      seals = seals_after went.lasts before.seals (seals_any c.get.ensures.seals);
+      seals = seals_after went.lasts before.seals (seals_any c.get.ensures.gets.seals);
       filling = tt;
       told = λ honest left_slots slots all spelt is.
           let now = represents_lasts pack flat (one c.args.to.now.region) _ _ went.lasts c.requires.target.apart slots is in
           let shape = table_region c.requires.right.written.made.order pack flat.schema flat.capacity in
-          let bytes = c.in_ok-get.ensures.told _ shape (lives_went _ _ _ _ _ _ went c.requires.target.apart c.requires.right.written.made.lives) (block_long pack flat slots _ is c.requires.buffers.some v below) (now.holds v below) honest.nolie in
+          let bytes = c.in_ok-get.ensures.gets.told _ shape (lives_went _ _ _ _ _ _ went c.requires.target.apart c.requires.right.written.made.lives) (block_long pack flat slots _ is c.requires.buffers.some v below) (now.holds v below) honest.nolie in
           let same = fit_trans _ _ _ c.loop-v.invariant.same c.get.ensures.rows in
           let wide = wide_same (width flat.schema) _ _ same (wide_fit (width flat.schema) c.args.rows.now c.requires.buffers.rows_fit) in
           absurd (c.in-Err.ensures.told left_slots _ spelt (got pack flat slots _ is c.requires.buffers.some v (length c.loop-v.rows) c.get.new.rows below c.loop-v.invariant.same.count same.count wide bytes));
@@ -275,15 +275,15 @@ returns-in_err-put-clause-pairs g c =
     let below : v < rights = omega (arith, c.div_ceil-blocks.ensures) in
     let before = c.loop-v.invariant in
     let went = before.went in
-    let cut = rw c.div_ceil-blocks.ensures at c.in_err-put.ensures.err in
-    let read = c.in_ok-get.ensures.ok in
-    let filling = filling_read pack table _ _ _ _ read c.get.ensures.turns before.filling in
+    let cut = rw c.div_ceil-blocks.ensures at c.in_err-put.ensures.puts.err in
+    let read = c.in_ok-get.ensures.gets.ok in
+    let filling = filling_read pack table _ _ _ _ read c.get.ensures.gets.turns before.filling in
     let shape = table_region filling.order pack table.schema table.capacity in
     let size = fit_trans _ _ _ before.out c.join_rows.ensures.size in
     let is = c.in-Ok.ensures.read in
     let lefts = c.requires.kept.spells in
     let spells = joined_slots c.args.sides.now.left.now.schema flat.schema table.schema c.args.sides.now.lcol c.args.sides.now.rcol _ _ is.slots lefts.slots c.join_rows.new.to c.requires.target.schema (c.in-Ok.ensures.told lefts.slots is.slots lefts.spelt is.spelt) in
-    let failed = c.in_err-put.ensures.never in
+    let failed = c.in_err-put.ensures.puts.never in
     rw (p.1, p.2) (record {
       ran = record {
         ok = tt;
@@ -291,8 +291,8 @@ returns-in_err-put-clause-pairs g c =
             (pass_after (one to) _ _ _ _ (read_at b v) (write_at to (c.args.chunk * rights + v)) (went_wider none _ _ (one to) (λ q s. absurd s) _ read) (pass_of _ _ _ _ _ cut));
       };
       never = inl (ap pass_error failed);
-      seals = seals_after went.lasts before.seals (seals_after read.lasts (seals_any c.get.ensures.seals)
-          (record { seals = λ good fine. c.put.ensures.seals good shape filling.lives (accepted good pack to table.schema c.join_rows.new.to c.requires.buffers.some (size.count ∙ c.requires.buffers.same) fine spells) }));
+      seals = seals_after went.lasts before.seals (seals_after read.lasts (seals_any c.get.ensures.gets.seals)
+          (record { seals = λ good fine. c.put.ensures.puts.seals good shape filling.lives (accepted good pack to table.schema c.join_rows.new.to c.requires.buffers.some (size.count ∙ c.requires.buffers.same) fine spells) }));
       filling = tt;
       told = λ honest left_slots slots all spelt is. ap pass_error failed;
     })
