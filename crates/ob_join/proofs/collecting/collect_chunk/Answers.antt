@@ -15,6 +15,7 @@ use Rattle.ob_flat.specs.Words.{blocks_of}
 use Rattle.ob_flat.proofs.Rooms.{same_rows}
 use Rattle.ob_flat.proofs.Rows.{slots_of, wide_same}
 use Rattle.ob_flat.proofs.Runs.{pass_of, pass_each, pass_malformed}
+use Rattle.ob_flat.proofs.WordLemmas.{tampered_in, get_refused, rows_malformed}
 use Rattle.ob_flat.proofs.Tables.{represents_lasts, block_long, got, whole_size}
 use Rattle.ob_join.proofs.Windows.{row_fits, row_small, rows_small, bytes_small, place_fits, part_within, none_below, nearer, all_done, reads_from, within, part_long, part_wide, part_fit, put_more, put_sizes, read_next, spelt_from}
 use Rattle.ob_join.proofs.collecting.collect_chunk.Goals as goal
@@ -151,10 +152,7 @@ returns-in_err-get-clause-collects g c =
     let before = c.loop-x.invariant in
     rw (p.1, p.2) (record {
       ran = record { ok = tt; err = pass_each none (read_from flat.region c.args.first) _ _ _ _ c.args.n c.loop-x.x (omega arith) before.went (pass_of _ _ _ _ _ c.in_err-get.ensures.gets.err) };
-      never = elim c.in_err-get.ensures.gets.never [
-        | inl e ↦ inl (ap pass_error e)
-        | inr e ↦ inr (record { place = u; below = below; is = ap pass_error e })
-      ];
+      never = elim (get_refused pack flat u _ c.in_err-get.ensures.gets.err c.in_err-get.ensures.gets.never) [ inl failed ↦ inl failed | inr there ↦ inr (tampered_in below there) ];
       seals = record { seals = λ good. seals_join good _ _ _ before.went.lasts.later (before.seals good) (c.get.ensures.gets.seals good) };
       turns = tt;
       spells = tt;
@@ -173,23 +171,25 @@ returns-in-Err-clause-collects g c =
     let below : u < blocks_of pack flat = omega (arith, c.requires.within) in
     let before = c.loop-x.invariant in
     let went = before.went in
+    let kept = c.loop-x.kept in
+    let w = width flat.schema in
+    let shape = table_region c.requires.table.written.made.order pack flat.schema flat.capacity in
+    let lives = lives_went _ _ _ _ flat.region shape went (λ s. s) c.requires.table.written.made.lives in
+    let fits : x * pack + pack ≤ length kept = omega (arith, c.loop-x.invariant.kept.count, c.requires.space, rows_room x c.args.n pack (omega arith)) in
+    let long : length (take (x * pack + pack - x * pack) (drop (x * pack) kept)) ≡ pack = rw (within (x * pack) pack) (part_long (x * pack) pack kept fits) in
+    let wide = c.get.ensures.rows in
+    let same = rw (within (x * pack) pack) at c.get.ensures.rows in
+    let wide' = wide_same w _ _ same (part_wide (x * pack) pack kept fits w (wide_same _ _ _ c.loop-x.invariant.kept c.requires.wide)) in
     record {
       ran = record { ok = tt; err = pass_each none (read_from flat.region c.args.first) _ _ _ _ c.args.n x (omega arith) went (pass_malformed _ _ _ flat.region u c.in_ok-get.ensures.gets.ok) };
-      never = inr (record { place = u; below = below; is = refl });
+      never = inr (tampered_in below (rows_malformed (length (take (x * pack + pack - x * pack) (drop (x * pack) kept))) c.get.new.rows c.requires.table.some long (wide.count ∙ long) wide'
+          (c.in_ok-get.ensures.gets.opened shape lives) c.in-Err.ensures.told));
       seals = record { seals = λ good. seals_join good _ _ _ went.lasts.later (before.seals good) (c.get.ensures.gets.seals good) };
       turns = tt;
       spells = tt;
       told = λ slots is nolie.
-          let kept = c.loop-x.kept in
-          let w = width flat.schema in
           let now = represents_lasts pack flat none _ _ went.lasts (λ s. s) slots is in
-          let shape = table_region c.requires.table.written.made.order pack flat.schema flat.capacity in
-          let bytes = c.in_ok-get.ensures.gets.told _ shape (lives_went _ _ _ _ _ _ went (λ s. s) c.requires.table.written.made.lives) (block_long pack flat slots _ is c.requires.table.some u below) (now.holds u below) nolie in
-          let fits : x * pack + pack ≤ length kept = omega (arith, c.loop-x.invariant.kept.count, c.requires.space, rows_room x c.args.n pack (omega arith)) in
-          let long : length (take (x * pack + pack - x * pack) (drop (x * pack) kept)) ≡ pack = rw (within (x * pack) pack) (part_long (x * pack) pack kept fits) in
-          let wide = c.get.ensures.rows in
-          let same = rw (within (x * pack) pack) at c.get.ensures.rows in
-          let wide' = wide_same w _ _ same (part_wide (x * pack) pack kept fits w (wide_same _ _ _ c.loop-x.invariant.kept c.requires.wide)) in
+          let bytes = c.in_ok-get.ensures.gets.told _ shape lives (block_long pack flat slots _ is c.requires.table.some u below) (now.holds u below) nolie in
           absurd (c.in-Err.ensures.told _ (got pack flat slots _ is c.requires.table.some u (length (take (x * pack + pack - x * pack) (drop (x * pack) kept))) c.get.new.rows below long (wide.count ∙ long) wide' bytes));
     }
 

@@ -19,7 +19,7 @@ use Rattle.ob_flat.proofs.Runs.{pass_of, pass_each, pass_malformed, pass_more, p
 use Rattle.ob_flat.proofs.Tables.{accepted, joined_block, index_fits, represents_lasts, block_long, got}
 use Rattle.ob_flat.specs.Words.{FitBlock, blocks_of}
 use Rattle.ob_vault.proofs.WordLemmas.{asks_after, honest_before, honest_after}
-use Rattle.ob_flat.proofs.WordLemmas.{seals_any, seals_after}
+use Rattle.ob_flat.proofs.WordLemmas.{seals_any, seals_after, tampered_in, get_refused, rows_malformed}
 use Rattle.ob_join.specs.Join.{join_of, rights}
 use Rattle.ob_join.specs.Joining.{joined_below}
 use Rattle.ob_join.proofs.Chunks.{chunk_block, pairs_length}
@@ -221,10 +221,7 @@ returns-in_err-get-clause-pairs g c =
         err = pass_each (one to) (pair_at b to rights c.args.chunk) _ _ _ _ rights v below went
             (pass_more (one to) _ _ _ (read_at b v) (write_at to (c.args.chunk * rights + v)) (pass_wider none _ _ (one to) (λ q s. absurd s) _ _ (pass_of _ _ _ _ _ c.in_err-get.ensures.gets.err)));
       };
-      never = elim c.in_err-get.ensures.gets.never [
-        | inl e ↦ inl (ap pass_error e)
-        | inr e ↦ inr (record { place = v; below = below; is = ap pass_error e })
-      ];
+      never = elim (get_refused pack flat v _ c.in_err-get.ensures.gets.err c.in_err-get.ensures.gets.never) [ inl failed ↦ inl failed | inr there ↦ inr (tampered_in below there) ];
       seals = seals_after went.lasts before.seals (seals_any c.get.ensures.gets.seals);
       filling = tt;
       told = λ honest left_slots slots all spelt is.
@@ -244,21 +241,24 @@ returns-in-Err-clause-pairs g c =
     let below : v < rights = omega (arith, c.div_ceil-blocks.ensures) in
     let before = c.loop-v.invariant in
     let went = before.went in
+    let shape = table_region c.requires.right.written.made.order pack flat.schema flat.capacity in
+    let lives = lives_went _ _ _ _ b shape went c.requires.target.apart c.requires.right.written.made.lives in
+    let same = fit_trans _ _ _ before.same c.get.ensures.rows in
+    let wide = wide_same (width flat.schema) _ _ same (wide_fit (width flat.schema) c.args.rows.now c.requires.buffers.rows_fit) in
+    let lefts = c.requires.kept.spells in
     record {
       ran = record {
         ok = tt;
         err = pass_each (one to) (pair_at b to rights c.args.chunk) _ _ _ _ rights v below went
             (pass_more (one to) _ _ _ (read_at b v) (write_at to (c.args.chunk * rights + v)) (pass_wider none _ _ (one to) (λ q s. absurd s) _ _ (pass_malformed none _ _ b v c.in_ok-get.ensures.gets.ok)));
       };
-      never = inr (record { place = v; below = below; is = refl });
+      never = inr (tampered_in below (rows_malformed (length c.loop-v.rows) c.get.new.rows c.requires.buffers.some before.same.count same.count wide (c.in_ok-get.ensures.gets.opened shape lives)
+          (λ slots is. c.in-Err.ensures.told lefts.slots slots lefts.spelt is)));
       seals = seals_after went.lasts before.seals (seals_any c.get.ensures.gets.seals);
       filling = tt;
       told = λ honest left_slots slots all spelt is.
           let now = represents_lasts pack flat (one c.args.to.now.region) _ _ went.lasts c.requires.target.apart slots is in
-          let shape = table_region c.requires.right.written.made.order pack flat.schema flat.capacity in
-          let bytes = c.in_ok-get.ensures.gets.told _ shape (lives_went _ _ _ _ _ _ went c.requires.target.apart c.requires.right.written.made.lives) (block_long pack flat slots _ is c.requires.buffers.some v below) (now.holds v below) honest.nolie in
-          let same = fit_trans _ _ _ c.loop-v.invariant.same c.get.ensures.rows in
-          let wide = wide_same (width flat.schema) _ _ same (wide_fit (width flat.schema) c.args.rows.now c.requires.buffers.rows_fit) in
+          let bytes = c.in_ok-get.ensures.gets.told _ shape lives (block_long pack flat slots _ is c.requires.buffers.some v below) (now.holds v below) honest.nolie in
           absurd (c.in-Err.ensures.told left_slots _ spelt (got pack flat slots _ is c.requires.buffers.some v (length c.loop-v.rows) c.get.new.rows below c.loop-v.invariant.same.count same.count wide bytes));
     }
 

@@ -131,9 +131,10 @@ returns-in-Err-clause-joins g c =
     let count = blocks_are join.pack join.left.capacity join.right.capacity join.buffered _ _ _ c.requires.buffers.some c.div_ceil.ensures c.div_ceil-chunks.ensures c.div_ceil-2.ensures in
     let went = went_make next _ (blocks join) _ (join.pack * width (columns join)) (one next) _ _ count (ap (λ (s : Columns). join.pack * width s) c.joined_schema-schema.ensures) made.ran.ok in
     let fills = rw made.number at c.in-Err.ensures.fills in
-    let forgot = rw made.number at c.forget.ensures.went _ fills.ran.err.lasts.ready in
-    let gone = rw made.number at c.forget.ensures.gone in
-    joins_err join _ c.requires.starts.ready c.requires.tables _ went made.seals.seals _ _ _ fills forgot refl (c.forget.ensures.seals _) gone
+    let forgets = c.forget.ensures.forgets (g.S.BlockStore.state c.fill_result.new.store) in
+    let forgot = rw made.number at forgets.went fills.ran.err.lasts.ready in
+    let gone = rw made.number at forgets.gone in
+    joins_err join _ c.requires.starts.ready c.requires.tables _ went made.seals.seals _ _ _ fills forgot refl forgets.seals gone
 
 pub returns-in-Err-clause-told : goal.returns-in-Err-clause-told
 returns-in-Err-clause-told g c =

@@ -19,7 +19,7 @@ use Rattle.ob_flat.specs.Reworks.{MayRework}
 use Rattle.ob_flat.proofs.Runs.{pass_each}
 use Rattle.ob_flat.proofs.Tables.{not_last, at_last, copies, fits_sized, holds_whole, represents_whole, whole_size}
 use Rattle.ob_vault.proofs.WordLemmas.{asks_after, honest_before, honest_after}
-use Rattle.ob_flat.proofs.WordLemmas.{seals_any, seals_after}
+use Rattle.ob_flat.proofs.WordLemmas.{seals_any, seals_after, tampered_in}
 use Rattle.ob_large.proofs.Halfway.{half, half-none, half-block, half-next, half-all}
 use Rattle.ob_large.proofs.emptying.empty_unselected.Goals as goal
 
@@ -89,7 +89,7 @@ returns-in_err-rework_block-clause-empties g c =
     let below : c.loop-u.u < blocks_of pack flat = omega (arith, c.div_ceil-blocks.ensures) in
     rw (p.1, p.2) (record {
       ran = record { ok = tt; err = pass_each (one q) (copy_at q q) _ _ _ _ (blocks_of pack flat) c.loop-u.u below before.went cut };
-      never = elim reworks.never [ inl e ↦ inl e | inr e ↦ inr (record { place = c.loop-u.u; below = below; is = e }) ];
+      never = elim reworks.never [ inl e ↦ inl e | inr there ↦ inr (tampered_in below there) ];
       seals = seals_after before.went.lasts before.seals reworks.seals;
       table = tt;
       rows = tt;

@@ -76,6 +76,7 @@ pub returns-in-Err-clause-selects : goal.returns-in-Err-clause-selects
 returns-in-Err-clause-selects g c =
     let made = c.in_ok-region.ensures.makes in
     let fills = rw made.number at c.in-Err.ensures.fills in
-    let forgot = rw made.number at c.forget.ensures.went _ fills.ran.err.lasts.ready in
-    let gone = rw made.number at c.forget.ensures.gone in
-    selects_err _ _ _ _ _ c.requires.starts.ready c.requires.table made.ran.ok made.seals.seals _ _ _ fills forgot refl (c.forget.ensures.seals _) gone
+    let forgets = c.forget.ensures.forgets (g.S.BlockStore.state c.fill_fresh.new.store) in
+    let forgot = rw made.number at forgets.went fills.ran.err.lasts.ready in
+    let gone = rw made.number at forgets.gone in
+    selects_err _ _ _ _ _ c.requires.starts.ready c.requires.table made.ran.ok made.seals.seals _ _ _ fills forgot refl forgets.seals gone
