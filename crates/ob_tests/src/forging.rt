@@ -1,5 +1,5 @@
 //! A store in memory whose holder has the keys: one read gives a block that was sealed for its place.
-ghost use Rattle.std.specs.Prelude.{◌≡◌, false, None, refl};
+ghost use Rattle.std.specs.Prelude.{◌≡◌, false, None, refl, if◌then◌else◌};
 ghost use Rattle.ob_store.specs.contracts.memory.MemStoreBlockStore.TheImpl.Laws.{starts_empty-law};
 
 use ob_base::{Access, Failed, NoMemory, StoreErr};
@@ -16,13 +16,16 @@ pub struct ForgingStore {
     access: u64,
     number: u64,
     row: Row,
+    forged: bool,
+    block: [u8; 49],
 }
 
 impl ForgingStore {
     /// A store whose access of this number, counted from 1, if it is a read, gives this row, sealed under
     /// a write number with the keys of a secret of zeros.
     pub fn new(inner: MemStore, access: u64, number: u64, row: Row) -> ForgingStore
-        ensures { (⟦<ForgingStore as BlockStore>⟧.state result).asked ≡ (⟦<MemStore as BlockStore>⟧.state inner).asked }
+        ensures { (⟦<ForgingStore as BlockStore>⟧.state result).asked
+            ≡ (⟦<MemStore as BlockStore>⟧.state inner).asked }
     {
         ForgingStore {
             inner,
@@ -30,6 +33,8 @@ impl ForgingStore {
             access,
             number,
             row,
+            forged: false,
+            block: [0; 49],
         }
     }
 }
@@ -39,6 +44,7 @@ impl BlockStore for ForgingStore {
       tells = false;
       last = λ q x. None;
       lie = None;
+      gave = if s.forged then s.block else (⟦<MemStore as BlockStore>⟧.state s.inner).gave;
       disturbed = None;
     } };
 
@@ -58,13 +64,15 @@ impl BlockStore for ForgingStore {
 
     fn read(&mut self, region: u64, place: u32, buf: &mut [u8]) -> Result<(), Failed> {
         self.inner.read(region, place, buf)?;
-        if self.inner.count() == self.access && buf.len() == 49 {
+        self.forged = self.inner.count() == self.access && buf.len() == 49;
+        if self.forged {
             let at = At {
                 region,
                 place,
                 number: self.number,
             };
             seal(&self.keys, at, &self.row, buf);
+            self.block.copy_from_slice(buf);
         }
         Ok(())
     }

@@ -3,7 +3,6 @@ use Rattle.std.proofs.Common.{◌≡◌, ◌⊎◌, inl, inr, ℕ, ◌-◌, List
 use Rattle.ob_base.specs.declared.access.Access.{Access}
 use Rattle.ob_base.specs.declared.access.Access.TheVariants.{Read}
 use Rattle.ob_store.specs.State.{Lie, StoreState}
-use Rattle.ob_base.specs.Counts.{Rises}
 use Rattle.ob_store.specs.Calls.{Asks, ReadGives}
 use Rattle.ob_store.proofs.Steps.{list_cases, began_call, did_call}
 use Rattle.ob_seal.specs.KeyPair.{KeyPair}
@@ -12,7 +11,8 @@ use Rattle.ob_vault.specs.declared.fault.VaultErr.TheVariants as VaultErrs
 use Rattle.ob_vault.specs.State.{VaultState}
 use Rattle.ob_vault.specs.Numbers.{number_after}
 use Rattle.ob_base.proofs.AccessLemmas.{number_read}
-use Rattle.ob_vault.specs.Tied.{Fits, Calm, at_of}
+use Rattle.ob_vault.specs.Tied.{Fits, at_of}
+use Rattle.ob_vault.proofs.WorldSteps.{world, calm_lasts}
 use Rattle.ob_vault.specs.Calls.{Lasts, Went, Cut, Unfit, Opened, none}
 
 -- what a read does to the lie: nothing, or it is this
@@ -38,34 +38,27 @@ lie_after region place bytes old new asks gives = go old.lie refl
 abbrev pub FitsAs : KeyPair → ℕ → ℕ → ℕ → List ℕ → Type 0
 FitsAs keys q x n bytes = drop (length bytes - 32) bytes ≡ tag_of keys (at_of q x n) (take (length bytes - 32) bytes)
 
-module _ (v : VaultState) (q x : ℕ) (bytes : List ℕ) (old new : StoreState) (lasts : Lasts none (record { vault = v; store = old }) (record { vault = v; store = new })) (asks : Asks (Read q x) old new) where
-  same_calm : new.lie ≡ old.lie → Calm (record { vault = v; store = old }) → Calm (record { vault = v; store = new })
-  same_calm same calm = record { calm = λ lie is. calm.calm lie (sym same ∙ is) }
-
+module _ (v : VaultState) (q x : ℕ) (old new : StoreState) (asks : Asks (Read q x) old new) where
   -- a read leaves the numbers
-  number_stays : number_after v.start new.asked q x ≡ number_after v.start old.asked q x
-  number_stays = ap (λ (l : List Access). number_after v.start l q x) asks.asked ∙ number_read v.start.writes (v.start.given q x) q x q x old.asked
+  number_read_on : number_after v.start new.asked q x ≡ number_after v.start old.asked q x
+  number_read_on = ap (λ (l : List Access). number_after v.start l q x) asks.asked ∙ number_read v.start.writes (v.start.given q x) q x q x old.asked
 
   -- what it gave hasn't the tag, or was opened
-  pub read_unfit : new.gave ≡ bytes → (FitsAs v.keys q x (number_after v.start old.asked q x) bytes → ⊥) → Unfit q x (record { vault = v; store = new })
-  read_unfit gave off = record { differs = λ same. off (subst (FitsAs v.keys q x (number_after v.start old.asked q x)) gave (same ∙ ap (λ (n : ℕ). tag_of v.keys (at_of q x n) (take (length new.gave - 32) new.gave)) number_stays)) }
+  pub read_unfit : (bytes : List ℕ) → new.gave ≡ bytes → (FitsAs v.keys q x (number_after v.start old.asked q x) bytes → ⊥) → Unfit q x (world v new)
+  read_unfit bytes gave off = record { differs = λ same. off (subst (FitsAs v.keys q x (number_after v.start old.asked q x)) gave (same ∙ ap (λ (n : ℕ). tag_of v.keys (at_of q x n) (take (length new.gave - 32) new.gave)) number_read_on)) }
 
-  pub read_opened : (rows : List ℕ) → new.gave ≡ bytes → bytes ≡ sealed v.keys (at_of q x (number_after v.start old.asked q x)) rows → Opened q x rows (record { vault = v; store = new })
-  read_opened rows gave is = record { gave = gave ∙ is ∙ ap (λ (n : ℕ). sealed v.keys (at_of q x n) rows) (sym number_stays) }
+  pub read_opened : (bytes rows : List ℕ) → new.gave ≡ bytes → bytes ≡ sealed v.keys (at_of q x (number_after v.start old.asked q x)) rows → Opened q x rows (world v new)
+  read_opened bytes rows gave is = record { gave = gave ∙ is ∙ ap (λ (n : ℕ). sealed v.keys (at_of q x n) rows) (sym number_read_on) }
 
-  -- a read that failed
-  pub read_failed : Rises old.faults new.faults → new.lie ≡ old.lie → Cut VaultErrs.Failed (Read q x ∷ []) none (record { vault = v; store = old }) (record { vault = v; store = new })
-  read_failed rises same = record { lasts = lasts; began = began_call _ _ _ asks; cause = (rises, same_calm same) }
-
-  module _ (gives : ReadGives q x bytes old new) (faults : new.faults ≡ old.faults) where
+  module _ (bytes : List ℕ) (lasts : Lasts none (world v old) (world v new)) (gives : ReadGives q x bytes old new) (faults : new.faults ≡ old.faults) where
     -- one whose block fits
-    pub read_went : FitsAs v.keys q x (number_after v.start old.asked q x) bytes → Went (Read q x ∷ []) none (record { vault = v; store = old }) (record { vault = v; store = new })
+    pub read_went : FitsAs v.keys q x (number_after v.start old.asked q x) bytes → Went (Read q x ∷ []) none (world v old) (world v new)
     read_went tag = record {
       lasts = lasts;
       did = did_call _ _ _ asks faults;
       spare = asks.spare;
       calm = λ calm. elim (lie_after q x bytes old new asks gives) [
-        | inl same ↦ same_calm same calm
+        | inl same ↦ calm_lasts none (world v old) (world v new) lasts same calm
         | inr is ↦
             let here : Lie = record { region = q; place = x; bytes = bytes; before = old.asked } in
             let fits : Fits v.keys v.start here = record { tag = tag } in
@@ -74,7 +67,7 @@ module _ (v : VaultState) (q x : ℕ) (bytes : List ℕ) (old new : StoreState) 
     }
 
     -- one whose block doesn't
-    pub read_tampered : Unfit q x (record { vault = v; store = new }) → Cut (VaultErrs.Tampered q x) (Read q x ∷ []) none (record { vault = v; store = old }) (record { vault = v; store = new })
+    pub read_tampered : Unfit q x (world v new) → Cut (VaultErrs.Tampered q x) (Read q x ∷ []) none (world v old) (world v new)
     read_tampered unfit = record {
       lasts = lasts;
       began = began_call _ _ _ asks;
@@ -83,7 +76,7 @@ module _ (v : VaultState) (q x : ℕ) (bytes : List ℕ) (old new : StoreState) 
         record { before = old.asked; asked = asks.asked },
         unfit,
         λ calm. elim (lie_after q x bytes old new asks gives) [
-          | inl same ↦ inl (same_calm same calm)
+          | inl same ↦ inl (calm_lasts none (world v old) (world v new) lasts same calm)
           | inr is ↦ inr (record {
             lie = record { region = q; place = x; bytes = bytes; before = old.asked };
             told = is;

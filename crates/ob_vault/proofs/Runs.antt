@@ -104,9 +104,6 @@ module _ (some : ℕ → Type 0) (a b : World) where
   pub went_wider : (more : ℕ → Type 0) → ((q : ℕ) → some q → more q) → (x : List Access) → Went x some a b → Went x more a b
   went_wider more within x went = record { lasts = lasts_wider more within went.lasts; did = went.did; spare = went.spare; calm = went.calm }
 
-  pub cut_wider : (more : ℕ → Type 0) → ((q : ℕ) → some q → more q) → (e : VaultErr) (x : List Access) → Cut e x some a b → Cut e x more a b
-  cut_wider more within e x cut = record { lasts = lasts_wider more within cut.lasts; began = cut.began; cause = cut.cause }
-
   pub lives_went : (x : List Access) (q : ℕ) (shape : Region) → Went x some a b → (some q → ⊥) → Lives q shape a → Lives q shape b
   lives_went x q shape went off is = record { live = went.lasts.apart.live q off ∙ is.live }
 
@@ -122,9 +119,6 @@ module _ (some : ℕ → Type 0) (a b : World) where
 
   pub none_went : (x : List Access) → Went x some a b → b.store.lie ≡ None → a.store.lie ≡ None
   none_went x went none = none_before _ _ went.lasts.later none
-
-  pub none_cut : (e : VaultErr) (x : List Access) → Cut e x some a b → b.store.lie ≡ None → a.store.lie ≡ None
-  none_cut e x cut none = none_before _ _ cut.lasts.later none
 
 -- the same over a write to one place
 module _ (r y : ℕ) (a b : World) (only : Only r y a b) where

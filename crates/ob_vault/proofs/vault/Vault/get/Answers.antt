@@ -7,8 +7,8 @@ use Rattle.ob_vault.specs.Rows.{joined, Tails}
 use Rattle.ob_vault.specs.Tied.{at_of}
 use Rattle.ob_vault.specs.Numbers.{number_after}
 use Rattle.ob_vault.specs.State.{from_nothing}
-use Rattle.ob_vault.proofs.WorldSteps.{lasts_read, seals_read}
-use Rattle.ob_vault.proofs.Lies.{read_went, read_tampered, read_failed, read_unfit, read_opened}
+use Rattle.ob_vault.proofs.WorldSteps.{lasts_read, seals_read, cut_call}
+use Rattle.ob_vault.proofs.Lies.{read_went, read_tampered, read_unfit, read_opened}
 use Rattle.ob_vault.proofs.vault.Vault.get.Goals as goal
 
 pub returns-in-Err-clause-gets : goal.returns-in-Err-clause-gets
@@ -16,7 +16,7 @@ returns-in-Err-clause-gets g c =
     let lasts = lasts_read _ _ _ _ _ _ c.requires.ready c.shape-shape.ensures c.load.ensures.asks c.load.ensures.keeps in
     record {
       ok = tt;
-      err = read_failed _ _ _ (take (c.shape-shape.result.width + 32) c.load.new.block) _ _ lasts c.load.ensures.asks c.in-Err.ensures.cause c.in-Err.ensures.err;
+      err = cut_call _ _ _ _ lasts c.load.ensures.asks c.in-Err.ensures.cause c.in-Err.ensures.err;
       never = inl refl;
       seals = λ good. seals_read good _ _ _ _ _ c.load.ensures.asks c.load.ensures.keeps;
       turns = λ r y shape turn. record { turn = turn.turn; run = turn.run };
@@ -40,7 +40,7 @@ returns-then-open-clause-gets g c =
     let number : c.number-number.result ≡ number_after from_nothing old.asked q x = c.number-number.ensures ∙ c.requires.ready.tied.numbers _ _ place.shape place.lives.live place.within in
     let gave = c.in-Ok.ensures.gave in
     record {
-      ok = read_went _ _ _ _ _ _ lasts c.load.ensures.asks c.in-Ok.ensures.ok c.in-Ok.ensures.cause
+      ok = read_went _ _ _ _ _ c.load.ensures.asks _ lasts c.in-Ok.ensures.ok c.in-Ok.ensures.cause
           (c.open.ensures.tag c.if-open.true ∙ ap (λ (n : ℕ). tag_of keys (at_of q x n) (take (length block - 32) block)) number);
       err = tt;
       never = tt;
@@ -49,7 +49,7 @@ returns-then-open-clause-gets g c =
       gave = λ off. subst (λ (b : List ℕ). ReadGives q x b old new) (sym gave) c.in-Ok.ensures.ok;
       opened = λ shape lives.
           let width : c.shape-shape.result.width ≡ shape.width = cc (c.shape-shape.ensures, lives.live) in
-          read_opened _ _ _ _ _ _ lasts c.load.ensures.asks _ gave
+          read_opened _ _ _ _ _ c.load.ensures.asks _ _ gave
           (c.open.ensures.opened c.if-open.true ∙ (λ i. sealed keys (at_of q x (number i)) (joined (width i / length c.args.rows.now) c.open.new.rows)));
       tails = λ shape lives.
           let width : c.shape-shape.result.width ≡ shape.width = cc (c.shape-shape.ensures, lives.live) in
@@ -77,8 +77,8 @@ returns-else-open-clause-gets g c =
     let gave = c.in-Ok.ensures.gave in
     record {
       ok = tt;
-      err = read_tampered _ _ _ _ _ _ lasts c.load.ensures.asks c.in-Ok.ensures.ok c.in-Ok.ensures.cause
-          (read_unfit _ _ _ _ _ _ lasts c.load.ensures.asks gave
+      err = read_tampered _ _ _ _ _ c.load.ensures.asks _ lasts c.in-Ok.ensures.ok c.in-Ok.ensures.cause
+          (read_unfit _ _ _ _ _ c.load.ensures.asks _ gave
           (λ fits. c.open.ensures.bad c.if-open.false (fits ∙ ap (λ (n : ℕ). tag_of keys (at_of q x n) (take (length block - 32) block)) (sym number))));
       never = inr refl;
       seals = λ good. seals_read good _ _ _ _ _ c.load.ensures.asks c.load.ensures.keeps;
