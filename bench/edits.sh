@@ -37,7 +37,7 @@ if named:
 # The crates that are tried and those that they use, with what was kept of them.
 copied = set(tried).union(*[below(name, set()) for name in tried])
 (work / "crates").mkdir()
-shutil.copy(top / "crates.txt", work)
+(work / "crates.txt").write_text("".join(f"{name}: {' '.join(uses[name])}\n" for name in uses if name in copied))
 shutil.copy(top / "HANDLES", work)
 for name in copied:
     shutil.copytree(top / "crates" / name, work / "crates" / name, ignore=shutil.ignore_patterns("must-fail"))
