@@ -3,7 +3,17 @@ use crate::session::keyed;
 use ob_io::{MemSink, MemSource};
 use ob_shell::shell_top;
 use ob_store::{BlockStore, MemStore};
+use std::alloc::Global;
+use std::process::Abort;
 use std::test::Fail;
+
+/// The longest session: its texts, what they are answered, and its accesses.
+const TEXTS: &str =
+    "CREATE TABLE t (id INT PRIMARY KEY, v INT) CAPACITY 4; INSERT INTO t VALUES (1, 10); INSERT INTO t VALUES (2, 20); INSERT INTO t VALUES (3, 10); INSERT INTO t VALUES (1, 99); SELECT COUNT(*) FROM t; SELECT COUNT(*) FROM t;";
+
+const ANSWERS: &str = "= created\n= inserted\n= inserted\n= inserted\nE10 duplicate\n\"COUNT(*)\"\n\"3\"\n= 1 rows\n\"COUNT(*)\"\n\"3\"\n= 1 rows\n";
+
+const TRACE: &str = "M 1 4 49\nW 1 0\nW 1 1\nW 1 2\nW 1 3\nM 2 4 49\nR 1 0\nR 1 1\nR 1 2\nR 1 3\nR 1 0\nW 2 0\nR 1 1\nW 2 1\nR 1 2\nW 2 2\nR 1 3\nW 2 3\nD 1\nM 3 4 49\nR 2 0\nR 2 1\nR 2 2\nR 2 3\nR 2 0\nW 3 0\nR 2 1\nW 3 1\nR 2 2\nW 3 2\nR 2 3\nW 3 3\nD 2\nM 4 4 49\nR 3 0\nR 3 1\nR 3 2\nR 3 3\nR 3 0\nW 4 0\nR 3 1\nW 4 1\nR 3 2\nW 4 2\nR 3 3\nW 4 3\nD 3\nM 5 4 49\nR 4 0\nR 4 1\nR 4 2\nR 4 3\nR 4 0\nW 5 0\nR 4 1\nW 5 1\nR 4 2\nW 5 2\nR 4 3\nW 5 3\nD 4\nR 5 0\nR 5 1\nR 5 2\nR 5 3\nR 5 0\nR 5 1\nR 5 2\nR 5 3\n";
 
 #[test]
 fn source_fails(rt: HostRuntime) -> Result<(), Fail> {
@@ -33,4 +43,60 @@ fn sink_fails(rt: HostRuntime) -> Result<(), Fail> {
     assert_eq!(rt; report.status, 6);
     assert_eq!(rt; store.count(), 5);
     Ok(())
+}
+
+#[test]
+fn every_failed_read_of_the_source_ends_the_run(rt: HostRuntime) -> Result<(), Fail> {
+    let a = rt.alloc();
+    for (fail, total) in [(1, 0), (2, 69)] {
+        let mut input = MemSource::new(keyed(a, TEXTS)?, vec![in a; fail]?);
+        let mut out = MemSink::new(a, 1024, Vec::new(a))?;
+        let mut trace = MemSink::new(a, 1024, Vec::new(a))?;
+        let mut store = MemStore::new(a);
+        let report = shell_top(
+            a,
+            &Vec::new(a),
+            &mut input,
+            &mut out,
+            &mut trace,
+            &mut store,
+        );
+        assert_eq!(rt; report.status, 5);
+        assert_eq!(rt; store.count(), total);
+        assert!(rt; out.bytes().ends_with(b"! source fault\n".as_slice()));
+    }
+    Ok(())
+}
+
+// Serves the long session where these writes to the answers and to the trace fail, and compares the status.
+fn writes_so(
+    rt: &impl Abort,
+    alloc: Global,
+    of_out: Vec<u64>,
+    of_trace: Vec<u64>,
+    status: u8,
+) -> Result<(), Fail> {
+    let words = vec![in alloc; String::from_str(alloc, "--trace")?]?;
+    let mut input = MemSource::new(keyed(alloc, TEXTS)?, Vec::new(alloc));
+    let mut out = MemSink::new(alloc, 1024, of_out)?;
+    let mut trace = MemSink::new(alloc, 1024, of_trace)?;
+    let mut store = MemStore::new(alloc);
+    let report = shell_top(alloc, &words, &mut input, &mut out, &mut trace, &mut store);
+    assert_eq!(rt; report.status, status);
+    assert!(rt; ANSWERS.as_bytes().starts_with(out.bytes()));
+    assert!(rt; TRACE.as_bytes().starts_with(trace.bytes()));
+    Ok(())
+}
+
+#[test]
+fn every_failed_write_ends_the_run(rt: HostRuntime) -> Result<(), Fail> {
+    let a = rt.alloc();
+    // the session writes its answers in 11 pieces, and a line of the trace for each access
+    for fail in 1..=11 {
+        writes_so(&rt, a, vec![in a; fail]?, Vec::new(a), 6)?;
+    }
+    for fail in 1..=69 {
+        writes_so(&rt, a, Vec::new(a), vec![in a; fail]?, 6)?;
+    }
+    writes_so(&rt, a, vec![in a; 12]?, vec![in a; 70]?, 1)
 }

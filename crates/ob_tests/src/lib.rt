@@ -8,11 +8,7 @@ mod faults;
 #[cfg(test)]
 mod forging;
 #[cfg(test)]
-mod meddled;
-#[cfg(test)]
 mod printing;
-#[cfg(test)]
-mod rows;
 #[cfg(test)]
 mod session;
 #[cfg(test)]

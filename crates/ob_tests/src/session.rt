@@ -2,7 +2,7 @@
 ghost use Rattle.std.specs.Prelude.{◌≡◌, []};
 
 use ob_io::{MemSink, MemSource};
-use ob_shell::{meddle_top, shell_top};
+use ob_shell::shell_top;
 use ob_store::BlockStore;
 use std::alloc::Global;
 use std::process::Abort;
@@ -42,23 +42,5 @@ pub fn serve<S: BlockStore>(
     assert_eq!(rt; out.bytes(), case.answers.as_bytes());
     assert_eq!(rt; trace.bytes(), case.trace.as_bytes());
     assert_eq!(rt; report.status, case.status);
-    Ok(())
-}
-
-/// Serves a case with these words over the store that they ask for.
-pub fn serve_words(
-    rt: &impl Abort,
-    alloc: Global,
-    words: &[String],
-    case: &Case,
-) -> Result<(), Fail> {
-    let mut input = MemSource::new(keyed(alloc, case.text)?, Vec::new(alloc));
-    let mut out = MemSink::new(alloc, 1024, Vec::new(alloc))?;
-    let mut trace = MemSink::new(alloc, 1024, Vec::new(alloc))?;
-    let (report, store) = meddle_top(alloc, words, &mut input, &mut out, &mut trace);
-    assert_eq!(rt; out.bytes(), case.answers.as_bytes());
-    assert_eq!(rt; trace.bytes(), case.trace.as_bytes());
-    assert_eq!(rt; report.status, case.status);
-    assert!(rt; store.is_some());
     Ok(())
 }

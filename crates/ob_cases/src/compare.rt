@@ -1,0 +1,97 @@
+//! What came of a case, beside what was wanted.
+use crate::case::{Case, Part};
+
+/// What came of a session.
+#[derive(Clone, Copy)]
+pub struct Came<'a> {
+    pub answers: &'a [u8],
+    /// The accesses, one a line.
+    pub trace: &'a [u8],
+    pub status: u8,
+}
+
+/// The first part in which what came is other than what a case wants.
+pub fn difference(case: &Case, came: &Came) -> Option<Part> {
+    let answered = match &case.answers {
+        Some(wanted) => wanted.as_slice() == came.answers,
+        None => true,
+    };
+    if !answered {
+        return Some(Part::Answers);
+    }
+    let traced = match &case.accesses {
+        Some(wanted) => is_traced(wanted.as_slice(), came.trace),
+        None => true,
+    };
+    if !traced {
+        return Some(Part::Accesses);
+    }
+    if case.total.is_some_and(|total| total != lines_in(came.trace)) {
+        return Some(Part::Total);
+    }
+    if case.status != u64::from(came.status) {
+        return Some(Part::Status);
+    }
+    None
+}
+
+// How many lines end in these bytes.
+fn lines_in(bytes: &[u8]) -> u64 {
+    let mut n: u64 = 0;
+    for b in bytes {
+        if *b == b'\n' {
+            n = n.saturating_add(1);
+        }
+    }
+    n
+}
+
+// Whether a trace is as it is wanted, line by line, where a line that is a number stands for so many accesses.
+fn is_traced(wanted: &[u8], trace: &[u8]) -> bool {
+    let mut rest = trace;
+    for line in wanted.split(|b| *b == b'\n') {
+        if line.is_empty() {
+            continue;
+        }
+        let behind = match count_of(line) {
+            Some(n) => behind_lines(rest, n),
+            None => behind_line(rest, line),
+        };
+        match behind {
+            Some(more) => rest = more,
+            None => return false,
+        }
+    }
+    rest.is_empty()
+}
+
+// The number that a line is.
+fn count_of(line: &[u8]) -> Option<u64> {
+    let mut n: u64 = 0;
+    for b in line {
+        if !b.is_ascii_digit() {
+            return None;
+        }
+        n = n
+            .saturating_mul(10)
+            .saturating_add(u64::from(b.saturating_sub(b'0')));
+    }
+    Some(n)
+}
+
+// What follows so many lines, where there are as many.
+fn behind_lines(bytes: &[u8], n: u64) -> Option<&[u8]> {
+    let mut rest = bytes;
+    for _ in 0..n {
+        match rest.iter().position(|b| *b == b'\n') {
+            Some(i) => rest = &rest[i + 1..],
+            None => return None,
+        }
+    }
+    Some(rest)
+}
+
+// What follows this line, where it is the first.
+fn behind_line<'a>(bytes: &'a [u8], line: &[u8]) -> Option<&'a [u8]> {
+    bytes.strip_prefix(line)?.strip_prefix(b"\n".as_slice())
+}
