@@ -52,7 +52,8 @@ impl Model for MemSink {
 impl MemSink {
     /// An empty sink that takes `room` bytes. Its calls, counted from 1, fail where `fail` has their number.
     pub fn new(alloc: Global, room: usize, fail: Vec<u64>) -> Result<MemSink, NoMemory>
-        ensures { IfOk result (λ k. k ≡ record { written = []; room = room; fail = fail.items; calls = 0; faults = 0 }) }
+        ensures { IfOk result (λ k. k ≡ record
+            { written = []; room = room; fail = fail.items; calls = 0; faults = 0 }) }
     {
         let Ok(bytes) = Vec::with_capacity(alloc, room) else {
             return Err(NoMemory);
@@ -82,13 +83,17 @@ impl Sink for MemSink {
     fn write(&mut self, piece: &[u8]) -> Result<usize, Failed>
         ensures bound { WritesAtMost result piece.now }
         ensures some { 0 < length piece.now → IfOk result (λ n. 0 < n) }
-        ensures bytes { WriteAppends (Some self.old.written) (Some self.new.written) result piece.now }
+        ensures bytes { WriteAppends (Some self.old.written) (Some self.new.written) result
+            piece.now }
         ensures cause { HasCause self.old.faults self.new.faults result }
         ensures calls { self.new.calls ≡ min (self.old.calls + 1) (2 ^ 64 - 1) }
         ensures fail { self.new.fail ≡ self.old.fail }
-        ensures fails { IsErr result ↔ (IsTrue (list_any (λ n. n == self.new.calls) self.old.fail) ⊎ ((self.old.room ≡ 0) × (0 < length piece.now))) }
+        ensures fails { IsErr result ↔
+            (IsTrue (list_any (λ n. n == self.new.calls) self.old.fail)
+            ⊎ ((self.old.room ≡ 0) × (0 < length piece.now))) }
         ensures most { IfOk result (λ n. n ≡ min (length piece.now) self.old.room) }
-        ensures room { self.new.room + length self.new.written ≡ self.old.room + length self.old.written }
+        ensures room { self.new.room + length self.new.written ≡ self.old.room
+            + length self.old.written }
     {
         self.calls = self.calls.saturating_add(1);
         if self.fail.contains(&self.calls) || (self.room == 0 && !piece.is_empty()) {

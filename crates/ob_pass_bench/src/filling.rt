@@ -91,15 +91,24 @@ fn fill_table<S: BlockStore, R: Revisions>(
 ) -> Result<(), OpErr>
     requires ready { Ready (at R.state vault.old (S.state store.old)) }
     requires spare { blocks_for (length rows.old) flat.now.capacity ≤ (S.state store.old).spare }
-    requires few { length (S.state store.old).asked + blocks_for (length rows.old) flat.now.capacity < 2 ^ 63 + 2 ^ 60 }
-    requires lives { Lives flat.now.region (table_region Round (length rows.old) flat.now.schema flat.now.capacity) (at R.state vault.old (S.state store.old)) }
-    requires turn { OnTurn flat.now.region (table_region Round (length rows.old) flat.now.schema flat.now.capacity) 0 (at R.state vault.old (S.state store.old)) }
+    requires few { length (S.state store.old).asked + blocks_for (length rows.old) flat.now.capacity
+        < 2 ^ 63 + 2 ^ 60 }
+    requires lives { Lives flat.now.region
+        (table_region Round (length rows.old) flat.now.schema flat.now.capacity)
+        (at R.state vault.old (S.state store.old)) }
+    requires turn { OnTurn flat.now.region
+        (table_region Round (length rows.old) flat.now.schema flat.now.capacity) 0
+        (at R.state vault.old (S.state store.old)) }
     requires size { IsSized flat.now.schema flat.now.capacity }
     requires pack { (1 ≤ length rows.old) × (length rows.old ≤ 16) }
     requires fit { RowsFit rows.old (length rows.old * width flat.now.schema) }
     ensures rows { SameSizes rows.old rows.new }
-    ensures ok { OnOk result (Went (each (blocks_for (length rows.old) flat.now.capacity) (write_at flat.now.region)) (one flat.now.region) (at R.state vault.old (S.state store.old)) (at R.state vault.new (S.state store.new))) }
-    ensures flat { OnOk result (IsFlat (length rows.old) flat.now (at R.state vault.new (S.state store.new))) }
+    ensures ok { OnOk result (Went
+        (each (blocks_for (length rows.old) flat.now.capacity) (write_at flat.now.region))
+        (one flat.now.region) (at R.state vault.old (S.state store.old))
+        (at R.state vault.new (S.state store.new))) }
+    ensures flat { OnOk result (IsFlat (length rows.old) flat.now
+        (at R.state vault.new (S.state store.new))) }
 {
     let pack = rows.len() as u32;
     for u in 0..flat.capacity.div_ceil(pack) {
@@ -127,9 +136,13 @@ pub(crate) fn filled<S: BlockStore, R: Revisions>(
     requires columns { AreColumns schema.now }
     requires place { IsOpen schema.now room.old }
     ensures value { IfOk result (λ flat. (flat.schema ≡ schema.now) × (flat.capacity ≡ capacity)) }
-    ensures room { OnOk result (room.new ≡ record room.old { high = max room.old.high room.old.pack }) }
-    ensures runs { IfOk result (λ flat. MayRun room.new flat (at R.state vault.new (S.state store.new))) }
-    ensures beside { OnOk result ((other : Table) → MayRun room.old other (at R.state vault.old (S.state store.old)) → MayRun room.new other (at R.state vault.new (S.state store.new))) }
+    ensures room { OnOk result (room.new
+        ≡ record room.old { high = max room.old.high room.old.pack }) }
+    ensures runs { IfOk result (λ flat. MayRun room.new flat
+        (at R.state vault.new (S.state store.new))) }
+    ensures beside { OnOk result ((other : Table)
+        → MayRun room.old other (at R.state vault.old (S.state store.old))
+        → MayRun room.new other (at R.state vault.new (S.state store.new))) }
 {
     make_room(store, 1 + u64::from(capacity))?;
     let pack = room.pack();

@@ -37,7 +37,8 @@ fn two_numbers() -> Schema
 // The same columns, and one of texts of at most so many bytes.
 fn with_text(mut schema: Schema, n: u8) -> Schema
     requires few { length schema ≤ 5 }
-    ensures { (count width : ℕ) → HasColumns count width schema → HasColumns (count + 1) (width + (n + 1)) result }
+    ensures { (count width : ℕ) → HasColumns count width schema
+        → HasColumns (count + 1) (width + (n + 1)) result }
 {
     schema.push(column(b"s", Kind::Varchar(n), false));
     schema
@@ -88,7 +89,8 @@ fn cell_of(column: &Column, i: u32) -> Cell
 
 // Adds the cells of these columns.
 fn push_cells(columns: &[Column], i: u32, cells: &mut Vec<Cell>) -> Result<(), NoMemory>
-    ensures { OnOk result ((row : Row) × (cells.new.items ≡ cells.old.items ++ row) × Fits columns.now row) }
+    ensures { OnOk result ((row : Row) × (cells.new.items ≡ cells.old.items ++ row)
+        × Fits columns.now row) }
 {
     match columns.split_first() {
         None => Ok(()),

@@ -78,7 +78,8 @@ fn numbered(start: &[u8], n: u32) -> Line
 // A word, a region and a place in it.
 fn placed(start: &[u8], region: u64, place: u32) -> Line
     requires { length start.now ≤ 16 }
-    ensures { result ≡ start.now ++ (decimal region ++ (codes " " ++ (decimal place ++ codes "\n"))) }
+    ensures { result ≡ start.now ++
+        (decimal region ++ (codes " " ++ (decimal place ++ codes "\n"))) }
 {
     let mut line = Line::new(start);
     line.push_number(region, b" ");

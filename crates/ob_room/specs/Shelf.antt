@@ -1,5 +1,5 @@
 -- What the calls on the shelf leave.
-use Rattle.std.specs.Prelude.{◌≡◌, ◌≤◌, ℕ, List, [], ◌++◌, ◌+◌, length, replicate, map, max, slice_index_or, slice_set}
+use Rattle.std.specs.Prelude.{◌≡◌, ◌≤◌, ℕ, List, [], ◌++◌, ◌+◌, length, replicate, map, max}
 use Rattle.ob_room.specs.RoomState.{RoomState, out, clear}
 
 -- n zero rows more on the shelf, from those that lay free
@@ -25,10 +25,6 @@ cleared s = record s {
   free = s.free ++ replicate (length s.shelf) (clear s.width);
   shelf = [];
 }
-
--- one row over another
-abbrev pub copied_row : RoomState → ℕ → ℕ → RoomState
-copied_row s from to = record s { shelf = slice_set s.shelf to (slice_index_or s.shelf from []) }
 
 -- what is true of each room
 pub record IsSound (s : RoomState) : Type 0 where

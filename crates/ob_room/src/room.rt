@@ -42,10 +42,8 @@ impl Model for Room {
 
 impl Room {
     ghost use Rattle.ob_room.specs.LendingRow.{LendsRow};
-    ghost use Rattle.ob_room.specs.LendingRows.{LendsRows};
     ghost use Rattle.ob_room.specs.LendingOpen.{LendsOpen};
-    ghost use Rattle.ob_room.specs.Shelf.{ShelvesClear, cleared, copied_row, AreWide, IsSound};
-    ghost use Rattle.std.specs.Prelude.{take, drop};
+    ghost use Rattle.ob_room.specs.Shelf.{ShelvesClear, cleared, AreWide, IsSound};
 
     /// A room of `rows` rows, each `width` bytes wide and all free, for blocks of `pack` rows (1 to 16).
     pub fn new(alloc: Global, rows: u32, width: u32, pack: u32) -> Result<Room, NoMemory>
@@ -123,7 +121,11 @@ impl Room {
         ensures { MatchOption result
             ((out self.old ≡ self.old.rows) × (self.new ≡ self.old))
             (λ row. (row ≡ clear self.old.width) × (self.old.free ≡ self.new.free ++ row ∷ [])
-            × (self.new ≡ record self.old { free = self.new.free; high = max self.old.high (out self.old + 1) })) }
+            × (self.new ≡ record self.old {
+              free = self.new.free;
+              high = max self.old.high
+                  (out self.old + 1);
+            })) }
     {
         let FreeRow { bytes } = self.free.pop()?;
         let out = (self.rows as usize - self.free.len()) as u64;
@@ -166,7 +168,8 @@ impl Room {
     pub fn unshelve(&mut self) -> Option<ClearRow>
         ensures { MatchOption result
             ((self.old.shelf ≡ []) × (self.new ≡ self.old))
-            (λ row. (self.old.shelf ≡ self.new.shelf ++ row ∷ []) × (self.new ≡ record self.old { shelf = self.new.shelf })) }
+            (λ row. (self.old.shelf ≡ self.new.shelf ++ row ∷ [])
+            × (self.new ≡ record self.old { shelf = self.new.shelf })) }
     {
         self.shelf.pop()
     }
@@ -206,24 +209,6 @@ impl Room {
         self.shelf.as_mut_slice()
     }
 
-    /// The `n` rows on the shelf from row `from` on.
-    pub fn shelf_rows(&self, from: u32, n: u32) -> &[ClearRow]
-        requires { from + n ≤ length self.now.shelf }
-        ensures { result.now ≡ take n (drop from self.now.shelf) }
-    {
-        &self.shelf[from as usize..from as usize + n as usize]
-    }
-
-    /// The `n` rows on the shelf from row `from` on, to be written.
-    pub fn shelf_rows_mut(&mut self, from: u32, n: u32) -> &mut [ClearRow]
-        requires { from + n ≤ length self.old.shelf }
-        ensures* writes_back { sem 𝓛 (LendsRows self.entry from result) }
-        ensures value { result.now ≡ take n (drop from self.old.shelf) }
-    {
-        self.shelf
-            .slice_mut(from as usize..from as usize + n as usize)
-    }
-
     /// Takes all rows from the shelf, and writes zeros over them.
     pub fn clear_shelf(&mut self)
         requires wide { AreWide self.old.width self.old.shelf }
@@ -232,27 +217,6 @@ impl Room {
     {
         while let Some(row) = self.unshelve() {
             self.give(row);
-        }
-    }
-
-    /// Copies row `from` of the shelf over row `to`, which is as wide.
-    pub fn copy_row(&mut self, from: u32, to: u32)
-        requires from { from < length self.old.shelf }
-        requires to { to < length self.old.shelf }
-        requires same { length (slice_index_or self.old.shelf from []) ≡ length (slice_index_or self.old.shelf to []) }
-        ensures { self.new ≡ copied_row self.old from to }
-    {
-        let (from, to) = (from as usize, to as usize);
-        if from < to {
-            let (left, right) = self.shelf.split_at_mut(to);
-            let row = &mut right[0];
-            let source = &left[from];
-            row.bytes.copy_from_slice(&source.bytes);
-        } else if to < from {
-            let (left, right) = self.shelf.split_at_mut(from);
-            let row = &mut left[to];
-            let source = &right[0];
-            row.bytes.copy_from_slice(&source.bytes);
         }
     }
 }

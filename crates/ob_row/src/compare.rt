@@ -60,7 +60,8 @@ pub fn compare_cells(order: Order, a: &Cell, b: &Cell) -> bool
 fn compare(column: u8, order: Order, with: &Operand, schema: &Schema, row: &ClearRow) -> bool
     requires wide { width schema.now ≤ length row.now }
     requires real { (cells : Row) × Begins schema.now (Some cells) row.now }
-    ensures { (cells : Row) → Begins schema.now (Some cells) row.now → result ≡ is_true (IsCompare column order with.now) cells }
+    ensures { (cells : Row) → Begins schema.now (Some cells) row.now
+        → result ≡ is_true (IsCompare column order with.now) cells }
 {
     let Some(a) = value_at(schema, row, column) else {
         return false;
@@ -79,7 +80,8 @@ impl Tree {
     pub(crate) fn is_true(&self, schema: &Schema, row: &ClearRow) -> bool
         requires wide { width schema.now ≤ length row.now }
         requires real { (cells : Row) × Begins schema.now (Some cells) row.now }
-        ensures { (cells : Row) → Begins schema.now (Some cells) row.now → result ≡ is_true (condition_of self.now) cells }
+        ensures { (cells : Row) → Begins schema.now (Some cells) row.now
+            → result ≡ is_true (condition_of self.now) cells }
     {
         match self {
             Tree::All => true,

@@ -94,7 +94,8 @@ fn put_text(text: &[u8], field: &mut [u8])
     requires fits { length text.now ≤ length field.old - 1 }
     requires few { length field.old ≤ 256 }
     requires some { 1 ≤ length field.old }
-    ensures { field.new ≡ length text.now ∷ (text.now ++ replicate (length field.old - 1 - length text.now) 0) }
+    ensures { field.new ≡ length text.now
+        ∷ (text.now ++ replicate (length field.old - 1 - length text.now) 0) }
 {
     let n = text.len();
     field.fill(0);

@@ -6,12 +6,14 @@ ghost use Rattle.ob_row.specs.Spelling.{Fits, Begins, row_bytes, dummy_bytes};
 
 /// Two rows of one schema with equal bytes are equal.
 pub fn one_spelling()
-    ensures { (columns : Columns) (a b : Row) → Fits columns a → Fits columns b → row_bytes columns a ≡ row_bytes columns b → a ≡ b }
+    ensures { (columns : Columns) (a b : Row) → Fits columns a → Fits columns b
+        → row_bytes columns a ≡ row_bytes columns b → a ≡ b }
 {}
 
 /// A row's bytes are as many as its schema's width.
 pub fn spelling_width()
-    ensures { (columns : Columns) (row : Row) → Fits columns row → length (row_bytes columns row) ≡ width columns }
+    ensures { (columns : Columns) (row : Row) → Fits columns row
+        → length (row_bytes columns row) ≡ width columns }
 {}
 
 /// No row is spelled as a dummy.
@@ -21,5 +23,6 @@ pub fn dummy_is_no_row()
 
 /// What was encoded is what is decoded.
 pub fn encoded_row()
-    ensures { (columns : Columns) (row : Row) (behind : List ℕ) → Fits columns row → Begins columns (Some row) (row_bytes columns row ++ behind) }
+    ensures { (columns : Columns) (row : Row) (behind : List ℕ) → Fits columns row
+        → Begins columns (Some row) (row_bytes columns row ++ behind) }
 {}

@@ -56,7 +56,8 @@ fn put_cells(columns: &[Column], cells: &[Cell], fields: &mut [u8])
 pub fn encode(schema: &Schema, cells: &[Cell], row: &mut ClearRow)
     requires fits { Fits schema.now cells.now }
     requires wide { width schema.now ≤ length row.old }
-    ensures value { row.new ≡ row_bytes schema.now cells.now ++ replicate (length row.old - width schema.now) 0 }
+    ensures value { row.new ≡ row_bytes schema.now cells.now
+        ++ replicate (length row.old - width schema.now) 0 }
     ensures len { length row.new ≡ length row.old }
 {
     put_row(schema.as_slice(), cells, row.bytes_mut());
@@ -66,7 +67,8 @@ fn put_row(columns: &[Column], cells: &[Cell], bytes: &mut [u8])
     requires few { length columns.now ≤ 32 }
     requires fits { Fits columns.now cells.now }
     requires wide { width columns.now ≤ length bytes.old }
-    ensures { bytes.new ≡ row_bytes columns.now cells.now ++ replicate (length bytes.old - width columns.now) 0 }
+    ensures { bytes.new ≡ row_bytes columns.now cells.now
+        ++ replicate (length bytes.old - width columns.now) 0 }
 {
     let (mark, rest) = bytes.split_at_mut(1);
     let (fields, behind) = rest.split_at_mut(cells_width(columns));
@@ -105,8 +107,10 @@ fn is_row(columns: &[Column], bytes: &[u8]) -> bool
 // Whether the bytes, as many as a row has, spell a row, and not a dummy.
 fn read_row(columns: &[Column], bytes: &[u8]) -> Result<bool, Malformed>
     requires { length bytes.now ≡ width columns.now }
-    ensures spelled { (slot : Option Row) → Spells columns.now slot bytes.now → result ≡ Ok (is_some slot) }
-    ensures malformed { IfOk result (λ b. (slot : Option Row) × Spells columns.now slot bytes.now × (is_some slot ≡ b)) }
+    ensures spelled { (slot : Option Row) → Spells columns.now slot bytes.now
+        → result ≡ Ok (is_some slot) }
+    ensures malformed { IfOk result
+        (λ b. (slot : Option Row) × Spells columns.now slot bytes.now × (is_some slot ≡ b)) }
 {
     if is_row(columns, bytes) {
         Ok(true)
@@ -120,8 +124,10 @@ fn read_row(columns: &[Column], bytes: &[u8]) -> Result<bool, Malformed>
 /// Whether the first bytes, as many as a row has, spell a row, and not a dummy; else they are malformed.
 pub fn read(schema: &Schema, row: &ClearRow) -> Result<bool, Malformed>
     requires { width schema.now ≤ length row.now }
-    ensures spelled { (slot : Option Row) → Begins schema.now slot row.now → result ≡ Ok (is_some slot) }
-    ensures malformed { IfOk result (λ b. (slot : Option Row) × Begins schema.now slot row.now × (is_some slot ≡ b)) }
+    ensures spelled { (slot : Option Row) → Begins schema.now slot row.now
+        → result ≡ Ok (is_some slot) }
+    ensures malformed { IfOk result
+        (λ b. (slot : Option Row) × Begins schema.now slot row.now × (is_some slot ≡ b)) }
 {
     let columns = schema.as_slice();
     let (bytes, _) = row.bytes().split_at(cells_width(columns) + 1);
@@ -133,8 +139,10 @@ pub fn read(schema: &Schema, row: &ClearRow) -> Result<bool, Malformed>
 pub fn decode(schema: &Schema, row: &ClearRow, i: u8) -> Result<Cell, Malformed>
     requires wide { width schema.now ≤ length row.now }
     requires within { i < length schema.now }
-    ensures cell { (r : Row) → Begins schema.now (Some r) row.now → IsOkAnd result (λ x. slice_get r i ≡ Some x) }
-    ensures malformed { IfOk result (λ x. (r : Row) × Begins schema.now (Some r) row.now × (slice_get r i ≡ Some x)) }
+    ensures cell { (r : Row) → Begins schema.now (Some r) row.now
+        → IsOkAnd result (λ x. slice_get r i ≡ Some x) }
+    ensures malformed { IfOk result
+        (λ x. (r : Row) × Begins schema.now (Some r) row.now × (slice_get r i ≡ Some x)) }
 {
     if read(schema, row).unwrap_or(false) {
         Ok(value_of(schema, row, i).to_cell())
@@ -154,8 +162,11 @@ pub fn is_dummy(row: &ClearRow) -> bool
 /// dummy don't, and other bytes are malformed.
 pub fn holds(pred: &Pred, schema: &Schema, row: &ClearRow) -> Result<bool, Malformed>
     requires { width schema.now ≤ length row.now }
-    ensures truth { (slot : Option Row) → Begins schema.now slot row.now → result ≡ Ok (is_selected (is_true pred.now) slot) }
-    ensures malformed { IfOk result (λ b. (slot : Option Row) × Begins schema.now slot row.now × (is_selected (is_true pred.now) slot ≡ b)) }
+    ensures truth { (slot : Option Row) → Begins schema.now slot row.now
+        → result ≡ Ok (is_selected (is_true pred.now) slot) }
+    ensures malformed { IfOk result
+        (λ b. (slot : Option Row) × Begins schema.now slot row.now
+        × (is_selected (is_true pred.now) slot ≡ b)) }
 {
     Ok(read(schema, row)? && pred.tree.is_true(schema, row))
 }

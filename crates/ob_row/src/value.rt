@@ -90,7 +90,9 @@ pub fn field_of<'a>(schema: &Schema, row: &'a ClearRow, i: u8) -> &'a [u8]
     requires wide { width schema.now ≤ length row.now }
     requires within { i < length schema.now }
     ensures len { length result.now ≡ kind_width (kind_at schema.now i) }
-    ensures told { (cells : Row) → Begins schema.now (Some cells) row.now → (cell : RowCell) × (slice_get cells i ≡ Some cell) × HoldsCell (kind_at schema.now i) cell result.now }
+    ensures told { (cells : Row) → Begins schema.now (Some cells) row.now
+        → (cell : RowCell) × (slice_get cells i ≡ Some cell)
+        × HoldsCell (kind_at schema.now i) cell result.now }
 {
     let from = offset(schema, i);
     let (_, rest) = row.bytes().split_at(from);
@@ -103,7 +105,8 @@ pub fn value_of<'a>(schema: &Schema, row: &'a ClearRow, i: u8) -> Value<'a>
     requires wide { width schema.now ≤ length row.now }
     requires within { i < length schema.now }
     requires real { (cells : Row) × Begins schema.now (Some cells) row.now }
-    ensures value { (cells : Row) → Begins schema.now (Some cells) row.now → slice_get cells i ≡ Some (cell_of result) }
+    ensures value { (cells : Row) → Begins schema.now (Some cells) row.now
+        → slice_get cells i ≡ Some (cell_of result) }
     ensures cell { IsCell (cell_of result) }
 {
     value_in(kind_at(schema, i), field_of(schema, row, i))
@@ -113,7 +116,8 @@ pub fn value_of<'a>(schema: &Schema, row: &'a ClearRow, i: u8) -> Value<'a>
 pub(crate) fn value_at<'a>(schema: &Schema, row: &'a ClearRow, i: u8) -> Option<Value<'a>>
     requires wide { width schema.now ≤ length row.now }
     requires real { (cells : Row) × Begins schema.now (Some cells) row.now }
-    ensures { (cells : Row) → Begins schema.now (Some cells) row.now → option_map cell_of result ≡ slice_get cells i }
+    ensures { (cells : Row) → Begins schema.now (Some cells) row.now
+        → option_map cell_of result ≡ slice_get cells i }
 {
     if usize::from(i) < schema.as_slice().len() {
         Some(value_of(schema, row, i))
@@ -146,7 +150,8 @@ fn set_field(schema: &Schema, i: u8, cell: &Cell, bytes: &mut [u8])
     requires within { i < length schema.now }
     requires fits { FitsKind (kind_at schema.now i) cell.now }
     ensures size { length bytes.new ≡ length bytes.old }
-    ensures told { (cells : Row) → Begins schema.now (Some cells) bytes.old → Begins schema.now (Some (slice_set cells i cell.now)) bytes.new }
+    ensures told { (cells : Row) → Begins schema.now (Some cells) bytes.old
+        → Begins schema.now (Some (slice_set cells i cell.now)) bytes.new }
 {
     let kind = kind_at(schema, i);
     let (_, rest) = bytes.split_at_mut(offset(schema, i));
@@ -160,7 +165,8 @@ pub fn set_cell(schema: &Schema, i: u8, cell: &Cell, row: &mut ClearRow)
     requires within { i < length schema.now }
     requires fits { FitsKind (kind_at schema.now i) cell.now }
     ensures size { length row.new ≡ length row.old }
-    ensures told { (cells : Row) → Begins schema.now (Some cells) row.old → Begins schema.now (Some (slice_set cells i cell.now)) row.new }
+    ensures told { (cells : Row) → Begins schema.now (Some cells) row.old
+        → Begins schema.now (Some (slice_set cells i cell.now)) row.new }
 {
     set_field(schema, i, cell, row.bytes_mut());
 }

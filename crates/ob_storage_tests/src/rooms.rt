@@ -9,7 +9,8 @@ use std::test::Fail;
 fn mark_first(room: &mut Room, byte: u8)
     requires some { 0 < length room.old.shelf }
     requires wide { 0 < length (slice_index_or room.old.shelf 0 []) }
-    ensures { room.new ≡ with_shelved room.old 0 (slice_set (slice_index_or room.old.shelf 0 []) 0 byte) }
+    ensures { room.new ≡ with_shelved room.old 0
+        (slice_set (slice_index_or room.old.shelf 0 []) 0 byte) }
 {
     let row = room.shelf_mut(0);
     let bytes = row.bytes_mut();

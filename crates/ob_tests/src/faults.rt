@@ -11,9 +11,11 @@ use std::test::Fail;
 const TEXTS: &str =
     "CREATE TABLE t (id INT PRIMARY KEY, v INT) CAPACITY 4; INSERT INTO t VALUES (1, 10); INSERT INTO t VALUES (2, 20); INSERT INTO t VALUES (3, 10); INSERT INTO t VALUES (1, 99); SELECT COUNT(*) FROM t; SELECT COUNT(*) FROM t;";
 
-const ANSWERS: &str = "= created\n= inserted\n= inserted\n= inserted\nE10 duplicate\n\"COUNT(*)\"\n\"3\"\n= 1 rows\n\"COUNT(*)\"\n\"3\"\n= 1 rows\n";
+const ANSWERS: &str =
+    "= created\n= inserted\n= inserted\n= inserted\nE10 duplicate\n\"COUNT(*)\"\n\"3\"\n= 1 rows\n\"COUNT(*)\"\n\"3\"\n= 1 rows\n";
 
-const TRACE: &str = "M 1 4 49\nW 1 0\nW 1 1\nW 1 2\nW 1 3\nM 2 4 49\nR 1 0\nR 1 1\nR 1 2\nR 1 3\nR 1 0\nW 2 0\nR 1 1\nW 2 1\nR 1 2\nW 2 2\nR 1 3\nW 2 3\nD 1\nM 3 4 49\nR 2 0\nR 2 1\nR 2 2\nR 2 3\nR 2 0\nW 3 0\nR 2 1\nW 3 1\nR 2 2\nW 3 2\nR 2 3\nW 3 3\nD 2\nM 4 4 49\nR 3 0\nR 3 1\nR 3 2\nR 3 3\nR 3 0\nW 4 0\nR 3 1\nW 4 1\nR 3 2\nW 4 2\nR 3 3\nW 4 3\nD 3\nM 5 4 49\nR 4 0\nR 4 1\nR 4 2\nR 4 3\nR 4 0\nW 5 0\nR 4 1\nW 5 1\nR 4 2\nW 5 2\nR 4 3\nW 5 3\nD 4\nR 5 0\nR 5 1\nR 5 2\nR 5 3\nR 5 0\nR 5 1\nR 5 2\nR 5 3\n";
+const TRACE: &str =
+    "M 1 4 49\nW 1 0\nW 1 1\nW 1 2\nW 1 3\nM 2 4 49\nR 1 0\nR 1 1\nR 1 2\nR 1 3\nR 1 0\nW 2 0\nR 1 1\nW 2 1\nR 1 2\nW 2 2\nR 1 3\nW 2 3\nD 1\nM 3 4 49\nR 2 0\nR 2 1\nR 2 2\nR 2 3\nR 2 0\nW 3 0\nR 2 1\nW 3 1\nR 2 2\nW 3 2\nR 2 3\nW 3 3\nD 2\nM 4 4 49\nR 3 0\nR 3 1\nR 3 2\nR 3 3\nR 3 0\nW 4 0\nR 3 1\nW 4 1\nR 3 2\nW 4 2\nR 3 3\nW 4 3\nD 3\nM 5 4 49\nR 4 0\nR 4 1\nR 4 2\nR 4 3\nR 4 0\nW 5 0\nR 4 1\nW 5 1\nR 4 2\nW 5 2\nR 4 3\nW 5 3\nD 4\nR 5 0\nR 5 1\nR 5 2\nR 5 3\nR 5 0\nR 5 1\nR 5 2\nR 5 3\n";
 
 #[test]
 fn source_fails(rt: HostRuntime) -> Result<(), Fail> {
