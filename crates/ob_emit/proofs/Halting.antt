@@ -2,6 +2,7 @@
 use Rattle.std.proofs.Common.{◌≡◌, ◌⊎◌, ◌<◌, ◌++◌, inl, inr, [], List, ℕ, Result, Ok, Err, MatchResult, IfErr, refl, sym, ◌∙◌, subst, append_assoc}
 use Rattle.std.proofs.lemmas.List.{append-nil}
 use Rattle.ob_base.specs.declared.access.Access.{Access}
+use Rattle.ob_base.specs.Accesses.{read_at}
 use Rattle.ob_base.specs.declared.emit.EmitErr.TheVariants as EmitErrs
 use Rattle.ob_base.specs.declared.shown.Shown.{Shown}
 use Rattle.ob_base.specs.Counts.{Rises}
@@ -19,12 +20,12 @@ use Rattle.ob_emit.specs.declared.slots.Halt.TheVariants as Halts
 use Rattle.ob_emit.specs.Emitting.{HaltCause, halt_error}
 
 -- a block was read, and then it halted
-pub pass_halted : (some : ℕ → Type 0) (a b : World) (q p : ℕ) (x : List Access) (halt : Halt) → Went x some a b → PassCut (halt_error halt q p) x some a b
-pass_halted some a b q p x Halts.Malformed went = pass_malformed some a b q p x went
-pass_halted some a b q p x (Halts.Emit EmitErrs.Failed) went =
-    record { lasts = went.lasts; began = record { done = x; rest = []; split = append-nil x; asked = went.did.asked }; cause = (went.did.faults, went.calm) }
-pass_halted some a b q p x (Halts.Emit EmitErrs.NoMemory) went =
-    record { lasts = went.lasts; began = record { done = x; rest = []; split = append-nil x; asked = went.did.asked }; cause = (went.did.faults, went.calm) }
+pub pass_halted : (some : ℕ → Type 0) (a b : World) (q p : ℕ) (halt : Halt) → Went (read_at q p) some a b → PassCut (halt_error halt q p) (read_at q p) some a b
+pass_halted some a b q p Halts.Malformed went = pass_malformed some a b q p went
+pass_halted some a b q p (Halts.Emit EmitErrs.Failed) went =
+    record { lasts = went.lasts; began = record { done = read_at q p; rest = []; split = append-nil (read_at q p); asked = went.did.asked }; cause = (went.did.faults, went.calm) }
+pass_halted some a b q p (Halts.Emit EmitErrs.NoMemory) went =
+    record { lasts = went.lasts; began = record { done = read_at q p; rest = []; split = append-nil (read_at q p); asked = went.did.asked }; cause = (went.did.faults, went.calm) }
 
 -- the emitter's count of faults, where nothing had failed before
 pub sink_halted : (T U : Type 0) (q p : ℕ) (halt : Halt) (old mid new : ℕ) → mid ≡ old → HaltCause {T = T} (Err halt) mid new → SinkCause {T = U} (Err (halt_error halt q p)) old new

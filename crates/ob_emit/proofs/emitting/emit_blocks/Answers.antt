@@ -123,7 +123,7 @@ returns-in-Err-clause-rows g c = fit_trans _ _ _ c.loop-u.invariant.same c.get.e
 pub returns-in-Err-clause-err : goal.returns-in-Err-clause-err
 returns-in-Err-clause-err g c =
     let q = c.args.flat.now.region in
-    rw c.error.ensures (pass_each none (read_at q) _ _ _ _ (blocks_for (length c.args.rows.now) c.args.flat.now.capacity) c.loop-u.u (inside c.div_ceil-blocks.ensures c.loop-u-test.true) c.loop-u.invariant.went (pass_halted _ _ _ q c.loop-u.u (read_at q c.loop-u.u) c.in-Err.halt c.in_ok-get.ensures.ok))
+    rw c.error.ensures (pass_each none (read_at q) _ _ _ _ (blocks_for (length c.args.rows.now) c.args.flat.now.capacity) c.loop-u.u (inside c.div_ceil-blocks.ensures c.loop-u-test.true) c.loop-u.invariant.went (pass_halted _ _ _ q c.loop-u.u c.in-Err.halt c.in_ok-get.ensures.ok))
 
 pub returns-in-Err-clause-never : goal.returns-in-Err-clause-never
 returns-in-Err-clause-never g c = rw c.error.ensures (halt_never c.in-Err.halt c.args.flat.now.region c.loop-u.u (blocks_for (length c.args.rows.now) c.args.flat.now.capacity) (inside c.div_ceil-blocks.ensures c.loop-u-test.true))
