@@ -11,7 +11,7 @@ use Rattle.ob_flat.specs.declared.fault.OpErr.{OpErr}
 use Rattle.ob_flat.specs.declared.flat.Flat.{Flat}
 use Rattle.ob_flat.specs.Flats.{IsFlat, table_region}
 use Rattle.ob_flat.specs.Passes.{PassCut}
-use Rattle.ob_flat.specs.Words.{Ran, SealsTable, Makes}
+use Rattle.ob_flat.specs.Words.{Ran, TamperedIn, SealsTable, Makes}
 use Rattle.ob_flat.proofs.Runs.{pass_more, pass_after, pass_then}
 
 -- every error of one call is one of another
@@ -30,6 +30,10 @@ ran_after (Err e) x y went ran = record { ok = tt; err = pass_after _ _ _ _ e x 
 pub ran_lasts : {T : Type 0} {some : ℕ → Type 0} {a b : World} {x : List Access} (r : Result T OpErr) → Ran x some r a b → Lasts some a b
 ran_lasts (Ok v) ran = ran.ok.lasts
 ran_lasts (Err e) ran = ran.err.lasts
+
+-- a refusal stays what it was while a region is forgotten
+pub tampered_after : {pack : ℕ} {flat : Flat} {e : OpErr} {some : ℕ → Type 0} {a b : World} → Went [] some a b → b.store ≡ a.store → TamperedIn pack flat e a → TamperedIn pack flat e b
+tampered_after went same is = record { place = is.place; below = is.below; is = is.is }
 
 -- what a region takes
 pub seals_any : {pack region : ℕ} {columns : Columns} {a b : World} → ((good : ℕ → List ℕ → Bool) → Seals good a b) → SealsTable pack columns region a b

@@ -21,15 +21,15 @@ pub record Ran {T : Type 0} (script : List Access) (some : ℕ → Type 0)
   pub ok : OnOk result (Went script some old new)
   pub err : IfErr result (λ e. PassCut e script some old new)
 
--- a block of the region is not what was written there, or has a malformed row
-pub record TamperedIn (region blocks : ℕ) (e : OpErr) : Type 0 where
-  pub place : ℕ
-  pub below : place < blocks
-  pub is : e ≡ Tampered region place
-
 -- how many blocks a table has
 abbrev pub blocks_of : ℕ → Flat → ℕ
 blocks_of pack flat = blocks_for pack flat.capacity
+
+-- a block of the table is not what was written there, or has a malformed row
+pub record TamperedIn (pack : ℕ) (flat : Flat) (e : OpErr) (w : World) : Type 0 where
+  pub place : ℕ
+  pub below : place < blocks_of pack flat
+  pub is : e ≡ Tampered flat.region place
 
 -- the same table in another region
 abbrev pub moved : Flat → ℕ → Flat

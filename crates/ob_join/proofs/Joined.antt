@@ -13,7 +13,7 @@ use Rattle.ob_flat.specs.Passes.{PassCut}
 use Rattle.ob_flat.proofs.Runs.{not_memory}
 use Rattle.ob_flat.proofs.Tables.{flat_lasts, represents_lasts}
 use Rattle.ob_vault.proofs.WordLemmas.{honest_after, honest_same}
-use Rattle.ob_flat.proofs.WordLemmas.{makes_ok, makes_err, cut_forgot, ran_more, ran_after, seals_any}
+use Rattle.ob_flat.proofs.WordLemmas.{makes_ok, makes_err, cut_forgot, tampered_after, ran_more, ran_after, seals_any}
 use Rattle.ob_join.specs.Join.{Join, MayJoin, Fills, Joins, TellsSlots, table, make_script, fill_script, result_slots}
 
 module _ (j : Join) (old : World) (ready : Ready old) (may : MayJoin j old) where
@@ -76,7 +76,11 @@ module _ (j : Join) (old : World) (ready : Ready old) (may : MayJoin j old) wher
         let still = may_lasts new ended.lasts in
         record {
           ran = record { ok = tt; err = ended };
-          never = elim fills.never [ inl failed ↦ inl failed | inr tampered ↦ inr (inr tampered) ];
+          never = elim fills.never [
+            | inl failed ↦ inl failed
+            | inr (inl there) ↦ inr (inr (inl (tampered_after forgot same there)))
+            | inr (inr there) ↦ inr (inr (inr (tampered_after forgot same there)))
+          ];
           memory = record { began = λ is. elim fills.never [ inl failed ↦ not_memory failed is | inr (inl there) ↦ absurd (cc (is, there.is)) | inr (inr there) ↦ absurd (cc (is, there.is)) ] };
           makes = makes_err Round j.pack (table j next) _ _ (make_script j next) went seals e _ _ fills.ran.err.lasts fills.seals sealed gone;
           left = still.left;

@@ -154,7 +154,7 @@ pub record IsNew (j : Join) (to : Flat) (w : World) : Type 0 where
 pub record Collects {T : Type 0} (pack : ℕ) (flat : Flat) (first n : ℕ) (kept : List (List ℕ))
     (result : Result T OpErr) (old new : World) : Type 0 where
   pub ran : Ran (each n (read_from flat.region first)) none result old new
-  pub never : IfErr result (λ e. (e ≡ Failed) ⊎ TamperedIn flat.region (blocks_of pack flat) e)
+  pub never : IfErr result (λ e. (e ≡ Failed) ⊎ TamperedIn pack flat e new)
   pub seals : SealsAll old new
   pub turns : OnOk result (TurnsStay old new)
   pub spells : OnOk result (AreSlots flat.schema kept)
@@ -172,7 +172,7 @@ pub record HasChunk (j : Join) (chunk : ℕ) (left right all : Slots) : Type 0 w
 pub record PairsUp {T : Type 0} (j : Join) (kept : List (List ℕ)) (to : Flat) (chunk : ℕ)
     (result : Result T OpErr) (old new : World) : Type 0 where
   pub ran : Ran (pairs_script j to.region chunk) (one to.region) result old new
-  pub never : IfErr result (λ e. (e ≡ Failed) ⊎ TamperedIn j.right.region (rights j) e)
+  pub never : IfErr result (λ e. (e ≡ Failed) ⊎ TamperedIn j.pack j.right e new)
   pub seals : SealsTable j.pack to.schema to.region old new
   pub filling : OnOk result (IsFilling j.pack to (chunk * rights j + rights j) new)
   pub told : IsHonest old new → (left right all : Slots)
@@ -187,7 +187,7 @@ pub record Fills {T : Type 0} (j : Join) (to : ℕ)
     (result : Result T OpErr) (old new : World) : Type 0 where
   pub ran : Ran (fill_script j to) (one to) result old new
   pub never : IfErr result (λ e. (e ≡ Failed)
-      ⊎ TamperedIn j.left.region (lefts j) e ⊎ TamperedIn j.right.region (rights j) e)
+      ⊎ TamperedIn j.pack j.left e new ⊎ TamperedIn j.pack j.right e new)
   pub seals : SealsTable j.pack (columns j) to old new
   pub filled : OnOk result (IsFlat j.pack (table j to) new)
   pub told : IsHonest old new → (left right : Slots)
@@ -199,7 +199,7 @@ pub record Fills {T : Type 0} (j : Join) (to : ℕ)
 pub record Joins (j : Join) (result : Result Flat OpErr) (old new : World) : Type 0 where
   pub ran : Ran (join_script j old.vault.next) (one old.vault.next) result old new
   pub never : IfErr result (λ e. (e ≡ Failed) ⊎ (e ≡ NoMemory)
-      ⊎ TamperedIn j.left.region (lefts j) e ⊎ TamperedIn j.right.region (rights j) e)
+      ⊎ TamperedIn j.pack j.left e new ⊎ TamperedIn j.pack j.right e new)
   pub memory : NoMemoryIn (make_script j old.vault.next) result old new
   pub makes : Makes Round j.pack (table j old.vault.next) result old new
   pub left : IsFlat j.pack j.left new

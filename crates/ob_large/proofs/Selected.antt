@@ -18,7 +18,7 @@ use Rattle.ob_flat.specs.Words.{SealsTable, IsTable, blocks_of, moved}
 use Rattle.ob_flat.proofs.Runs.{not_memory}
 use Rattle.ob_flat.proofs.Tables.{flat_lasts, represents_lasts}
 use Rattle.ob_vault.proofs.WordLemmas.{honest_before, honest_after, honest_same}
-use Rattle.ob_flat.proofs.WordLemmas.{makes_ok, makes_err, cut_forgot, if_err, ran_after, ran_lasts, seals_after}
+use Rattle.ob_flat.proofs.WordLemmas.{makes_ok, makes_err, cut_forgot, tampered_after, if_err, ran_after, ran_lasts, seals_after}
 use Rattle.ob_large.specs.Selecting.{Empties, Fills, Selects, fill_script}
 
 -- a table was copied, and then the copy gone through
@@ -67,7 +67,11 @@ module _ (pack : ℕ) (flat : Flat) (p : Row → Bool) (old mid : World) (ready 
       let ended = cut_forgot Round pack (moved flat next) _ _ made went seals e (fill_script pack flat next) late new fills.ran forgot same in
       record {
         ran = record { ok = tt; err = ended };
-        never = elim fills.never [ inl failed ↦ inl failed | inr tampered ↦ inr (inr tampered) ];
+        never = elim fills.never [
+          | inl failed ↦ inl failed
+          | inr (inl there) ↦ inr (inr (inl (tampered_after forgot same there)))
+          | inr (inr there) ↦ inr (inr (inr (tampered_after forgot same there)))
+        ];
         memory = record { began = λ is. elim fills.never [ inl failed ↦ not_memory failed is | inr (inl there) ↦ absurd (cc (is, there.is)) | inr (inr there) ↦ absurd (cc (is, there.is)) ] };
         makes = makes_err Round pack (moved flat next) _ _ made went seals e _ _ fills.ran.err.lasts fills.seals sealed gone;
         source = flat_lasts pack flat (one next) _ _ ended.lasts off table.written;

@@ -36,7 +36,7 @@ pub record Empties {T : Type 0} (pack : ℕ) (flat : Flat) (p : Row → Bool)
     (result : Result T OpErr) (old new : World) : Type 0 where
   pub ran : Ran (copy_part flat.region flat.region (blocks_of pack flat)) (one flat.region)
       result old new
-  pub never : IfErr result (λ e. (e ≡ Failed) ⊎ TamperedIn flat.region (blocks_of pack flat) e)
+  pub never : IfErr result (λ e. (e ≡ Failed) ⊎ TamperedIn pack flat e new)
   pub seals : SealsTable pack flat.schema flat.region old new
   pub table : OnOk result (IsFlat pack flat new)
   pub told : IsHonest old new → (slots : Slots) → Represents pack flat slots old
@@ -53,7 +53,7 @@ pub record Fills {T : Type 0} (pack : ℕ) (flat : Flat) (to : ℕ) (p : Row →
     (result : Result T OpErr) (old new : World) : Type 0 where
   pub ran : Ran (fill_script pack flat to) (one to) result old new
   pub never : IfErr result (λ e. (e ≡ Failed)
-      ⊎ TamperedIn flat.region (blocks_of pack flat) e ⊎ TamperedIn to (blocks_of pack flat) e)
+      ⊎ TamperedIn pack flat e new ⊎ TamperedIn pack (moved flat to) e new)
   pub seals : SealsTable pack flat.schema to old new
   pub table : OnOk result (IsFlat pack (moved flat to) new)
   pub told : IsHonest old new → (slots : Slots) → Represents pack flat slots old
@@ -65,8 +65,7 @@ pub record Selects (pack : ℕ) (flat : Flat) (p : Row → Bool)
     (result : Result Flat OpErr) (old new : World) : Type 0 where
   pub ran : Ran (large_script pack flat old.vault.next) (one old.vault.next) result old new
   pub never : IfErr result (λ e. (e ≡ Failed) ⊎ (e ≡ NoMemory)
-      ⊎ TamperedIn flat.region (blocks_of pack flat) e
-      ⊎ TamperedIn old.vault.next (blocks_of pack flat) e)
+      ⊎ TamperedIn pack flat e new ⊎ TamperedIn pack (moved flat old.vault.next) e new)
   pub memory : NoMemoryIn (make_script pack flat old.vault.next) result old new
   pub makes : Makes Round pack (moved flat old.vault.next) result old new
   pub source : IsFlat pack flat new

@@ -174,7 +174,7 @@ returns-in-Err-clause-collects g c =
     let before = c.loop-x.invariant in
     let went = before.went in
     record {
-      ran = record { ok = tt; err = pass_each none (read_from flat.region c.args.first) _ _ _ _ c.args.n x (omega arith) went (pass_malformed _ _ _ flat.region u (read_from flat.region c.args.first x) c.in_ok-get.ensures.ok) };
+      ran = record { ok = tt; err = pass_each none (read_from flat.region c.args.first) _ _ _ _ c.args.n x (omega arith) went (pass_malformed _ _ _ flat.region u c.in_ok-get.ensures.ok) };
       never = inr (record { place = u; below = below; is = refl });
       seals = record { seals = λ good. seals_join good _ _ _ went.lasts.later (before.seals good) (c.get.ensures.seals good) };
       turns = tt;

@@ -248,7 +248,7 @@ returns-in-Err-clause-pairs g c =
       ran = record {
         ok = tt;
         err = pass_each (one to) (pair_at b to rights c.args.chunk) _ _ _ _ rights v below went
-            (pass_more (one to) _ _ _ (read_at b v) (write_at to (c.args.chunk * rights + v)) (pass_wider none _ _ (one to) (λ q s. absurd s) _ _ (pass_malformed none _ _ b v (read_at b v) c.in_ok-get.ensures.ok)));
+            (pass_more (one to) _ _ _ (read_at b v) (write_at to (c.args.chunk * rights + v)) (pass_wider none _ _ (one to) (λ q s. absurd s) _ _ (pass_malformed none _ _ b v c.in_ok-get.ensures.ok)));
       };
       never = inr (record { place = v; below = below; is = refl });
       seals = seals_after went.lasts before.seals (seals_any c.get.ensures.seals);
