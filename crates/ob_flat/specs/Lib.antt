@@ -3,3 +3,4 @@ pub mod Flats
 pub mod Passes
 pub mod Counts
 pub mod Words
+pub mod Emission
