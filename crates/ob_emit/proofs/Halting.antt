@@ -1,5 +1,5 @@
 -- Passes that halt where the emitter did.
-use Rattle.std.proofs.Common.{◌≡◌, ◌⊎◌, ◌<◌, ◌++◌, inl, inr, [], List, ℕ, Result, Ok, Err, MatchResult, IfErr, refl, sym, ◌∙◌, subst, append_assoc}
+use Rattle.std.proofs.Common.{◌≡◌, ◌⊎◌, ◌<◌, ◌++◌, inl, inr, [], List, ℕ, Result, Ok, Err, MatchResult, OnOk, IfErr, refl, sym, ◌∙◌, subst, append_assoc}
 use Rattle.std.proofs.lemmas.List.{append-nil}
 use Rattle.ob_base.specs.declared.access.Access.{Access}
 use Rattle.ob_base.specs.Accesses.{read_at}
@@ -11,9 +11,11 @@ use Rattle.ob_vault.specs.State.{World}
 use Rattle.ob_vault.specs.Tied.{Ready}
 use Rattle.ob_vault.specs.Calls.{Went}
 use Rattle.ob_vault.proofs.Runs.{went_none}
+use Rattle.ob_flat.specs.declared.flat.Flat.{Flat}
 use Rattle.ob_flat.specs.declared.fault.OpErr.{OpErr}
 use Rattle.ob_flat.specs.declared.fault.OpErr.TheVariants.{Failed, Tampered, Sink, NoMemory}
 use Rattle.ob_flat.specs.Passes.{PassCause, PassCut, SinkCause}
+use Rattle.ob_flat.specs.Words.{Ran, TamperedIn, blocks_of}
 use Rattle.ob_flat.proofs.Runs.{pass_malformed}
 use Rattle.ob_emit.specs.declared.slots.Halt.{Halt}
 use Rattle.ob_emit.specs.declared.slots.Halt.TheVariants as Halts
@@ -34,10 +36,11 @@ sink_halted T U q p (Halts.Emit EmitErrs.Failed) old mid new same cause = subst 
 sink_halted T U q p (Halts.Emit EmitErrs.NoMemory) old mid new same cause = cause ∙ same
 
 -- each error of a halt
-pub halt_never : (halt : Halt) (q p n : ℕ) → p < n → (halt_error halt q p ≡ Failed) ⊎ (halt_error halt q p ≡ Sink) ⊎ (halt_error halt q p ≡ NoMemory) ⊎ ((place : ℕ) × (place < n) × (halt_error halt q p ≡ Tampered q place))
-halt_never Halts.Malformed q p n below = inr (inr (inr (p, below, refl)))
-halt_never (Halts.Emit EmitErrs.Failed) q p n below = inr (inl refl)
-halt_never (Halts.Emit EmitErrs.NoMemory) q p n below = inr (inr (inl refl))
+pub halt_never : (halt : Halt) (pack : ℕ) (flat : Flat) (p : ℕ) (w : World) → p < blocks_of pack flat
+    → (halt_error halt flat.region p ≡ Failed) ⊎ (halt_error halt flat.region p ≡ Sink) ⊎ (halt_error halt flat.region p ≡ NoMemory) ⊎ TamperedIn pack flat (halt_error halt flat.region p) w
+halt_never Halts.Malformed pack flat p w below = inr (inr (inr (record { place = p; below = below; is = refl })))
+halt_never (Halts.Emit EmitErrs.Failed) pack flat p w below = inr (inl refl)
+halt_never (Halts.Emit EmitErrs.NoMemory) pack flat p w below = inr (inr (inl refl))
 
 pub halt_told : (halt : Halt) (q p : ℕ) → (halt ≡ Halts.Malformed → ⊥) → (halt_error halt q p ≡ Failed) ⊎ (halt_error halt q p ≡ Sink) ⊎ (halt_error halt q p ≡ NoMemory)
 halt_told Halts.Malformed q p well = absurd (well refl)
@@ -68,3 +71,7 @@ pub halt_not_failed : (halt : Halt) (q p : ℕ) → halt_error halt q p ≡ Fail
 halt_not_failed Halts.Malformed q p is = absurd (cc is)
 halt_not_failed (Halts.Emit EmitErrs.Failed) q p is = absurd (cc is)
 halt_not_failed (Halts.Emit EmitErrs.NoMemory) q p is = absurd (cc is)
+
+-- a run, by its two outcomes
+pub ran_of : {T : Type 0} {x : List Access} {some : ℕ → Type 0} {a b : World} {r : Result T OpErr} → OnOk r (Went x some a b) → IfErr r (λ e. PassCut e x some a b) → Ran x some r a b
+ran_of ok err = record { ok = ok; err = err }
