@@ -22,7 +22,7 @@ use Rattle.ob_flat.specs.declared.flat.Flat.{Flat}
 use Rattle.ob_flat.specs.declared.fault.OpErr.{OpErr}
 use Rattle.ob_flat.specs.declared.fault.OpErr.TheVariants.{Failed, Tampered, Sink, NoMemory}
 use Rattle.ob_flat.specs.Slots.{AreSlots}
-use Rattle.ob_flat.specs.Flats.{IsWritten, Represents}
+use Rattle.ob_flat.specs.Flats.{IsWritten}
 use Rattle.ob_flat.specs.Passes.{SinkCause}
 use Rattle.ob_flat.specs.Words.{Ran, TamperedIn, blocks_of}
 use Rattle.ob_flat.specs.Emission.{SlotsToEnd, SlotsToHalt}

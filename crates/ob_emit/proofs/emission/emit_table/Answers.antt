@@ -1,4 +1,4 @@
-use Rattle.std.proofs.Common.{inl, inr, refl, ◌≡◌, ◌∙◌, ap, subst}
+use Rattle.std.proofs.Common.{inl, inr, refl}
 use Rattle.ob_flat.proofs.Rooms.{same_rows}
 use Rattle.ob_emit.specs.Emitting.{header}
 use Rattle.ob_emit.proofs.Emitted.{emits_under, emits_headless}

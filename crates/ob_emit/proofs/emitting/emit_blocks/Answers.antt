@@ -4,7 +4,6 @@ use Rattle.std.proofs.lemmas.List.{take_all}
 use Rattle.std.proofs.lemmas.Result.{err_from_is_err_and}
 use Rattle.ob_base.specs.declared.shown.Shown.{Shown}
 use Rattle.ob_base.specs.Accesses.{read_at}
-use Rattle.ob_base.specs.Numbers.{blocks_for}
 use Rattle.ob_base.specs.Schemas.{width}
 use Rattle.ob_vault.specs.Calls.{none}
 use Rattle.ob_vault.proofs.Runs.{went_each, went_none, lives_went, written_went, none_went, fit_same, fit_trans, may_get, seals_join, seals_none}
@@ -77,13 +76,13 @@ returns-in_err-get-clause-emits g c =
     let cut = c.in_err-get.ensures.err in
     let ended = pass_each none (read_at flat.region) _ _ _ _ (blocks_of pack flat) u below before.went (pass_of _ _ _ _ _ cut) in
     let grown = halted_after g.E.Emit.grew g.E.Emit.grew [] (λ s. slots_shown flat.capacity cols 0 (take (u * pack) (whole_blocks pack flat.capacity s.slots))) (λ (s : SlotsToHalt pack flat _ _). row_events (table_shown cols s.slots)) 0 c.loop-u.k _ _ before.emitted
-        (λ s.
-        let whole = whole_blocks pack flat.capacity s.slots in
-        let rest = shown-rest flat.capacity cols 0 (u * pack) whole in (
-          record { slots = s.slots; is = s.is; nolie = none_before _ _ _ _ _ _ before.went cut.lasts s.nolie s.unfit },
-          row_events rest.0,
-          events_more [] (slots_shown flat.capacity cols 0 (take (u * pack) whole)) rest.0 (table_shown cols s.slots) (rest.1 ∙ shown-table flat.capacity cols (blocks_of pack flat * pack) s.slots s.is.size),
-        )) in
+    (λ s.
+    let whole = whole_blocks pack flat.capacity s.slots in
+    let rest = shown-rest flat.capacity cols 0 (u * pack) whole in (
+      record { slots = s.slots; is = s.is; nolie = none_before _ _ _ _ _ _ before.went cut.lasts s.nolie s.unfit },
+      row_events rest.0,
+      events_more [] (slots_shown flat.capacity cols 0 (take (u * pack) whole)) rest.0 (table_shown cols s.slots) (rest.1 ∙ shown-table flat.capacity cols (blocks_of pack flat * pack) s.slots s.is.size),
+    )) in
     rw (p.1, p.2) (record {
       ran = record { ok = tt; err = ended };
       never = elim c.in_err-get.ensures.never [

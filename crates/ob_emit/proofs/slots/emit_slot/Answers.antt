@@ -1,4 +1,4 @@
-use Rattle.std.proofs.Common.{◌≡◌, ◌<◌, ◌&&◌, inr, [], ◌∷◌, Option, is_some, length, take, sym, ◌∙◌, ap, subst, arith}
+use Rattle.std.proofs.Common.{◌≡◌, ◌<◌, inr, [], ◌∷◌, Option, is_some, length, take, sym, ◌∙◌, ap, subst, arith}
 use Rattle.ob_base.specs.Events.{Row as RowEvent, row_events}
 use Rattle.ob_row.specs.Rows.{Row}
 use Rattle.ob_row.specs.Spelling.{Begins}
