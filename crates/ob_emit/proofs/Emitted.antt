@@ -4,6 +4,7 @@ use Rattle.std.proofs.lemmas.List.{append-nil}
 use Rattle.ob_base.specs.declared.shown.Shown.{Shown}
 use Rattle.ob_base.specs.Events.{Event, row_events, Leads, IsHalted}
 use Rattle.ob_base.proofs.EventLemmas.{emitted_head, halted_join}
+use Rattle.ob_script.specs.Parts.{count_part}
 use Rattle.ob_vault.specs.State.{World}
 use Rattle.ob_vault.specs.Tied.{Ready}
 use Rattle.ob_vault.specs.Calls.{none}
@@ -13,7 +14,8 @@ use Rattle.ob_flat.specs.declared.fault.OpErr.{OpErr}
 use Rattle.ob_flat.specs.declared.fault.OpErr.TheVariants.{Sink, NoMemory}
 use Rattle.ob_flat.specs.Flats.{IsWritten}
 use Rattle.ob_flat.specs.Passes.{PassCause, SinkCause}
-use Rattle.ob_emit.specs.Emitting.{Emits, emit_script, table_shown}
+use Rattle.ob_flat.specs.Words.{blocks_of}
+use Rattle.ob_emit.specs.Emitting.{Emits, table_shown}
 use Rattle.ob_emit.proofs.Halting.{cut_none, emitted_under}
 
 -- the output of rows that were emitted in full may also have been cut
@@ -41,19 +43,19 @@ module _ {E : Type 0} {grew cut : E → E → List Event → Type 0} {faults : E
       ran = is.ran;
       never = tt;
       seals = is.seals;
-      table = is.table;
+      source = is.source;
       most = is.most;
       emitted = emitted_under grew head (λ s. table_shown cols s.slots) _ _ _ _ _ leads is.emitted refl;
       halted = tt;
       failed = λ wrong. absurd (cc wrong);
       cause = is.cause ∙ same;
-      told = λ s. tt;
+      told = λ slots is nolie. tt;
     }
     emits_under (Err e) is = record {
       ran = is.ran;
       never = is.never;
       seals = is.seals;
-      table = is.table;
+      source = is.source;
       most = tt;
       emitted = tt;
       halted = joined head (λ s. table_shown cols s.slots) leads is.halted;
@@ -66,14 +68,14 @@ module _ {E : Type 0} {grew cut : E → E → List Event → Type 0} {faults : E
   pub emits_headless : {w : World} (e : OpErr) → Ready w → IsWritten pack flat w → (e ≡ Sink) ⊎ (e ≡ NoMemory) → PassCause e w w → Leads grew cut a b head → SinkCause {T = ℕ} (Err e) (faults a) (faults b)
       → Emits grew cut faults pack flat cols head (Err e) w w a b
   emits_headless {w} e ready written either why leads cause = record {
-    ran = record { ok = tt; err = cut_none e none (emit_script pack flat) w ready why };
+    ran = record { ok = tt; err = cut_none e none (count_part flat.region (blocks_of pack flat)) w ready why };
     never = elim either [ inl sink ↦ inr (inl sink) | inr memory ↦ inr (inr (inl memory)) ];
     seals = record { seals = λ good. seals_none good _ };
-    table = written;
+    source = written;
     most = tt;
     emitted = tt;
     halted = record { events = head; ends = inr leads; told = λ s. (row_events (table_shown cols s.slots), refl) };
     failed = λ failed. elim either [ inl sink ↦ absurd (cc (failed, sink)) | inr memory ↦ absurd (cc (failed, memory)) ];
     cause = cause;
-    told = λ s. inr either;
+    told = λ slots is nolie. inr either;
   }

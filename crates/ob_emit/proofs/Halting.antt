@@ -1,5 +1,5 @@
 -- Passes that halt where the emitter did.
-use Rattle.std.proofs.Common.{◌≡◌, ◌⊎◌, ◌<◌, ◌++◌, inl, inr, [], List, ℕ, Result, Ok, Err, MatchResult, OnOk, IfErr, refl, sym, ◌∙◌, subst, append_assoc}
+use Rattle.std.proofs.Common.{◌≡◌, ◌⊎◌, ◌<◌, ◌++◌, inl, inr, [], List, ℕ, Result, Ok, Err, MatchResult, IfErr, refl, sym, ◌∙◌, subst, append_assoc}
 use Rattle.std.proofs.lemmas.List.{append-nil}
 use Rattle.ob_base.specs.declared.access.Access.{Access}
 use Rattle.ob_base.specs.Accesses.{read_at}
@@ -15,7 +15,7 @@ use Rattle.ob_flat.specs.declared.flat.Flat.{Flat}
 use Rattle.ob_flat.specs.declared.fault.OpErr.{OpErr}
 use Rattle.ob_flat.specs.declared.fault.OpErr.TheVariants.{Failed, Sink, NoMemory}
 use Rattle.ob_flat.specs.Passes.{PassCause, PassCut, SinkCause}
-use Rattle.ob_flat.specs.Words.{Ran, TamperedIn, blocks_of}
+use Rattle.ob_flat.specs.Words.{TamperedIn, blocks_of}
 use Rattle.ob_flat.proofs.Runs.{pass_malformed}
 use Rattle.ob_emit.specs.declared.slots.Halt.{Halt}
 use Rattle.ob_emit.specs.declared.slots.Halt.TheVariants as Halts
@@ -71,7 +71,3 @@ pub halt_not_failed : (halt : Halt) (q p : ℕ) → halt_error halt q p ≡ Fail
 halt_not_failed Halts.Malformed q p is = absurd (cc is)
 halt_not_failed (Halts.Emit EmitErrs.Failed) q p is = absurd (cc is)
 halt_not_failed (Halts.Emit EmitErrs.NoMemory) q p is = absurd (cc is)
-
--- a run, by its two outcomes
-pub ran_of : {T : Type 0} {x : List Access} {some : ℕ → Type 0} {a b : World} {r : Result T OpErr} → OnOk r (Went x some a b) → IfErr r (λ e. PassCut e x some a b) → Ran x some r a b
-ran_of ok err = record { ok = ok; err = err }

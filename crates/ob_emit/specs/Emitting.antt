@@ -6,7 +6,6 @@ use Rattle.ob_base.specs.declared.schema.Column.{Column}
 use Rattle.ob_base.specs.declared.shown.Shown.{Shown}
 use Rattle.ob_base.specs.declared.emit.EmitErr.TheVariants as EmitErrs
 use Rattle.ob_base.specs.Counts.{Rises}
-use Rattle.ob_base.specs.declared.access.Access.{Access}
 use Rattle.ob_base.specs.Events.{Event, Head, row_events, IsEmitted, IsHalted}
 use Rattle.ob_base.specs.Labels.{column_label}
 use Rattle.ob_base.specs.Schemas.{Columns}
@@ -22,7 +21,7 @@ use Rattle.ob_flat.specs.declared.flat.Flat.{Flat}
 use Rattle.ob_flat.specs.declared.fault.OpErr.{OpErr}
 use Rattle.ob_flat.specs.declared.fault.OpErr.TheVariants.{Failed, Tampered, Sink, NoMemory}
 use Rattle.ob_flat.specs.Slots.{AreSlots}
-use Rattle.ob_flat.specs.Flats.{IsWritten}
+use Rattle.ob_flat.specs.Flats.{IsWritten, Represents}
 use Rattle.ob_flat.specs.Passes.{SinkCause}
 use Rattle.ob_flat.specs.Words.{Ran, TamperedIn, blocks_of}
 use Rattle.ob_flat.specs.Emission.{SlotsToEnd, SlotsToHalt}
@@ -85,64 +84,61 @@ pub record IsSlot (columns : Columns) (row : List ℕ) : Type 0 where
 -- the row of the slot of index i was emitted, if it has one below the capacity
 pub record EmitsSlot {E : Type 0} (grew cut : E → E → List Event → Type 0) (faults : E → ℕ)
     (flat : Flat) (cols : List ℕ) (i : ℕ) (row : List ℕ)
-    (result : Result Bool Halt) (before after : E) : Type 0 where
+    (result : Result Bool Halt) (out_old out_new : E) : Type 0 where
   pub below : IfOk result (λ some. IsTrue some → i < flat.capacity)
   pub emitted : IfOk result (λ some. IsEmitted grew []
       (λ (s : IsSlot flat.schema row). slot_shown flat.capacity cols i s.slot)
-      0 (if some then 1 else 0) before after)
+      0 (if some then 1 else 0) out_old out_new)
   pub halted : OnErr result (IsHalted grew cut
       (λ (s : IsSlot flat.schema row). row_events (slot_shown flat.capacity cols i s.slot))
-      before after)
+      out_old out_new)
   pub read : OnOk result (IsSlot flat.schema row)
   pub malformed : IfErr result (λ halt. halt ≡ Halts.Malformed → IsSlot flat.schema row → ⊥)
-  pub cause : HaltCause result (faults before) (faults after)
+  pub cause : HaltCause result (faults out_old) (faults out_new)
 
 -- the rows of a block were, of which the first slot has this index, behind as many as were seen
 pub record EmitsRows {E : Type 0} (grew cut : E → E → List Event → Type 0) (faults : E → ℕ)
     (flat : Flat) (cols : List ℕ) (first seen : ℕ) (rows : List (List ℕ))
-    (result : Result ℕ Halt) (before after : E) : Type 0 where
+    (result : Result ℕ Halt) (out_old out_new : E) : Type 0 where
   pub most : IfOk result (λ k. (k ≤ first + length rows) × (k ≤ flat.capacity))
   pub emitted : IfOk result (λ k. IsEmitted grew []
       (λ (s : AreSlots flat.schema rows). slots_shown flat.capacity cols first s.slots)
-      seen k before after)
+      seen k out_old out_new)
   pub halted : OnErr result (IsHalted grew cut
       (λ (s : AreSlots flat.schema rows). row_events (slots_shown flat.capacity cols first s.slots))
-      before after)
+      out_old out_new)
   pub read : OnOk result (AreSlots flat.schema rows)
   pub malformed : IfErr result (λ halt. halt ≡ Halts.Malformed → AreSlots flat.schema rows → ⊥)
-  pub cause : HaltCause result (faults before) (faults after)
+  pub cause : HaltCause result (faults out_old) (faults out_new)
 
--- each block of a table is read, in order
-abbrev pub emit_script : ℕ → Flat → List Access
-emit_script pack flat = count_part flat.region (blocks_of pack flat)
-
--- they were read, and the rows of the table emitted behind this header
+-- each block of a table was read, in order, and its rows emitted behind this header
 pub record Emits {E : Type 0} (grew cut : E → E → List Event → Type 0) (faults : E → ℕ)
     (pack : ℕ) (flat : Flat) (cols : List ℕ) (head : List Event)
-    (result : Result ℕ OpErr) (old new : World) (before after : E) : Type 0 where
-  pub ran : Ran (emit_script pack flat) none result old new
+    (result : Result ℕ OpErr) (old new : World) (out_old out_new : E) : Type 0 where
+  pub ran : Ran (count_part flat.region (blocks_of pack flat)) none result old new
   pub never : IfErr result (λ e. (e ≡ Failed) ⊎ (e ≡ Sink) ⊎ (e ≡ NoMemory)
       ⊎ TamperedIn pack flat e new)
   pub seals : SealsAll old new
-  pub table : IsWritten pack flat new
+  pub source : IsWritten pack flat new
   pub most : IfOk result (λ k. k ≤ flat.capacity)
   pub emitted : IfOk result (λ k. IsEmitted grew head
-      (λ (s : SlotsToEnd pack flat old new). table_shown cols s.slots) 0 k before after)
+      (λ (s : SlotsToEnd pack flat old new). table_shown cols s.slots) 0 k out_old out_new)
   pub halted : OnErr result (IsHalted grew cut
       (λ (s : SlotsToHalt pack flat old new). head ++ row_events (table_shown cols s.slots))
-      before after)
+      out_old out_new)
   pub failed : result ≡ Err Failed → IsHalted grew grew
       (λ (s : SlotsToHalt pack flat old new). head ++ row_events (table_shown cols s.slots))
-      before after
-  pub cause : SinkCause result (faults before) (faults after)
-  pub told : SlotsToEnd pack flat old new
+      out_old out_new
+  pub cause : SinkCause result (faults out_old) (faults out_new)
+  pub told : (slots : Slots) → Represents pack flat slots old → new.store.lie ≡ None
       → IfErr result (λ e. (e ≡ Failed) ⊎ (e ≡ Sink) ⊎ (e ≡ NoMemory))
 
--- they were read, and nothing was emitted
+-- each was read, and nothing emitted
 pub record Walks {T : Type 0} (pack : ℕ) (flat : Flat)
     (result : Result T OpErr) (old new : World) : Type 0 where
-  pub ran : Ran (emit_script pack flat) none result old new
+  pub ran : Ran (count_part flat.region (blocks_of pack flat)) none result old new
   pub never : IfErr result (λ e. (e ≡ Failed) ⊎ TamperedIn pack flat e new)
   pub seals : SealsAll old new
-  pub table : IsWritten pack flat new
-  pub told : SlotsToEnd pack flat old new → IfErr result (λ e. e ≡ Failed)
+  pub source : IsWritten pack flat new
+  pub told : (slots : Slots) → Represents pack flat slots old → new.store.lie ≡ None
+      → IfErr result (λ e. e ≡ Failed)

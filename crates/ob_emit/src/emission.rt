@@ -2,10 +2,10 @@ ghost use Rattle.std.specs.Prelude.{◌≡◌, max, length};
 ghost use Rattle.ob_base.specs.Schemas.{width};
 ghost use Rattle.ob_vault.specs.Places.{at};
 ghost use Rattle.ob_vault.specs.Rows.{SameSizes};
-ghost use Rattle.ob_vault.specs.Words.{MayRead};
 ghost use Rattle.ob_blocks.specs.Idle.{IsIdle};
 ghost use Rattle.ob_flat.specs.Flats.{FitsRegion, IsWritten};
-ghost use Rattle.ob_flat.specs.Words.{IsReadable, FitBlock, blocks_of};
+ghost use Rattle.ob_flat.specs.Words.{HasSpare, FitBlock, blocks_of};
+ghost use Rattle.ob_flat.specs.Scans.{MayScan};
 ghost use Rattle.ob_emit.specs.Emitting.{AreColumns, Emits, header};
 
 use crate::emitting::emit_blocks;
@@ -25,9 +25,9 @@ fn emit_table<S: BlockStore, R: Revisions, E: Emit>(
     cols: &[u8],
     out: &mut E,
 ) -> Result<u64, OpErr>
-    requires reads { MayRead (blocks_of (length rows.old) flat.now)
+    requires spare { HasSpare (blocks_of (length rows.old) flat.now)
         (at R.state vault.old (S.state store.old)) }
-    requires table { IsReadable (length rows.old) flat.now
+    requires table { MayScan (length rows.old) flat.now
         (at R.state vault.old (S.state store.old)) }
     requires fit { FitBlock flat.now.schema rows.old }
     requires columns { AreColumns flat.now.schema cols.now }
@@ -62,7 +62,7 @@ pub fn emit_all<S: BlockStore, R: Revisions, E: Emit>(
     cols: &[u8],
     out: &mut E,
 ) -> Result<u64, OpErr>
-    requires reads { MayRead (blocks_of room.old.pack flat.now)
+    requires spare { HasSpare (blocks_of room.old.pack flat.now)
         (at R.state vault.old (S.state store.old)) }
     requires flat { IsWritten room.old.pack flat.now (at R.state vault.old (S.state store.old)) }
     requires size { FitsRegion room.old.pack flat.now.schema flat.now.capacity }

@@ -1,8 +1,8 @@
 ghost use Rattle.std.specs.Prelude.{[], length};
 ghost use Rattle.ob_vault.specs.Places.{at};
 ghost use Rattle.ob_vault.specs.Rows.{SameSizes};
-ghost use Rattle.ob_vault.specs.Words.{MayRead};
-ghost use Rattle.ob_flat.specs.Words.{IsReadable, FitBlock, blocks_of};
+ghost use Rattle.ob_flat.specs.Words.{HasSpare, FitBlock, blocks_of};
+ghost use Rattle.ob_flat.specs.Scans.{MayScan};
 ghost use Rattle.ob_emit.specs.Emitting.{AreColumns, Emits};
 
 use crate::slots::emit_rows;
@@ -23,9 +23,9 @@ pub(crate) fn emit_blocks<S: BlockStore, R: Revisions, E: Emit>(
     cols: &[u8],
     out: &mut E,
 ) -> Result<u32, OpErr>
-    requires reads { MayRead (blocks_of (length rows.old) flat.now)
+    requires spare { HasSpare (blocks_of (length rows.old) flat.now)
         (at R.state vault.old (S.state store.old)) }
-    requires table { IsReadable (length rows.old) flat.now
+    requires table { MayScan (length rows.old) flat.now
         (at R.state vault.old (S.state store.old)) }
     requires fit { FitBlock flat.now.schema rows.old }
     requires columns { AreColumns flat.now.schema cols.now }

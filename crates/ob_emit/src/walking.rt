@@ -2,10 +2,10 @@ ghost use Rattle.std.specs.Prelude.{◌≡◌, max, length};
 ghost use Rattle.ob_base.specs.Schemas.{width};
 ghost use Rattle.ob_vault.specs.Places.{at};
 ghost use Rattle.ob_vault.specs.Rows.{SameSizes};
-ghost use Rattle.ob_vault.specs.Words.{MayRead};
 ghost use Rattle.ob_blocks.specs.Idle.{IsIdle};
 ghost use Rattle.ob_flat.specs.Flats.{FitsRegion, IsWritten};
-ghost use Rattle.ob_flat.specs.Words.{IsReadable, FitBlock, blocks_of};
+ghost use Rattle.ob_flat.specs.Words.{HasSpare, FitBlock, blocks_of};
+ghost use Rattle.ob_flat.specs.Scans.{MayScan};
 ghost use Rattle.ob_emit.specs.Emitting.{Walks};
 
 use ob_flat::{Flat, OpErr, Visit, scan_blocks};
@@ -37,9 +37,9 @@ fn walk_blocks<S: BlockStore, R: Revisions>(
     rows: &mut [ClearRow],
     flat: &Flat,
 ) -> Result<(), OpErr>
-    requires reads { MayRead (blocks_of (length rows.old) flat.now)
+    requires spare { HasSpare (blocks_of (length rows.old) flat.now)
         (at R.state vault.old (S.state store.old)) }
-    requires table { IsReadable (length rows.old) flat.now
+    requires table { MayScan (length rows.old) flat.now
         (at R.state vault.old (S.state store.old)) }
     requires fit { FitBlock flat.now.schema rows.old }
     ensures rows { SameSizes rows.old rows.new }
@@ -58,7 +58,7 @@ pub fn walk<S: BlockStore, R: Revisions>(
     room: &mut Room,
     flat: &Flat,
 ) -> Result<(), OpErr>
-    requires reads { MayRead (blocks_of room.old.pack flat.now)
+    requires spare { HasSpare (blocks_of room.old.pack flat.now)
         (at R.state vault.old (S.state store.old)) }
     requires flat { IsWritten room.old.pack flat.now (at R.state vault.old (S.state store.old)) }
     requires size { FitsRegion room.old.pack flat.now.schema flat.now.capacity }

@@ -27,7 +27,7 @@ use Rattle.std.proofs.lemmas.Bool.Decides.{nat_tests}
 use Rattle.ob_flat.specs.declared.flat.Flat.{Flat}
 use Rattle.ob_row.specs.Slots.{Slots, empty_slots}
 use Rattle.ob_flat.specs.Slots.{FitsSlot, Spelt, AreSlots, block_bytes}
-use Rattle.ob_flat.specs.Flats.{IsSized, FitsRegion, IsMade, IsFlat, IsWritten, HoldsSlots, Represents, Accepts, table_region, whole_blocks}
+use Rattle.ob_flat.specs.Flats.{IsSized, FitsRegion, IsMade, IsFlat, IsWritten, HoldsSlots, HoldsBlock, HoldsRows, Represents, Accepts, table_region, whole_blocks}
 use Rattle.ob_flat.proofs.Rows.{spelt_joined, joined_spelt, spelt_fits, width_each, block_size}
 
 -- how many accesses the reads of a table are
@@ -68,6 +68,16 @@ module _ (pack : ℕ) (flat : Flat) (some : ℕ → Type 0) (a b : World) (lasts
 
   pub represents_lasts : (slots : Slots) → Represents pack flat slots a → Represents pack flat slots b
   represents_lasts slots is = record { size = is.size; fits = is.fits; holds = λ p below. holds_lasts some a b lasts flat.region p _ off (is.holds p below) }
+
+  pub rows_lasts : HoldsRows pack flat a → HoldsRows pack flat b
+  rows_lasts is = record { each = λ p below. let here = is.each p below in record { slots = here.slots; size = here.size; fits = here.fits; holds = holds_lasts some a b lasts flat.region p _ off here.holds } }
+
+-- a block of rows or dummies that wasn't touched
+pub block_lasts : (pack : ℕ) (columns : Columns) (some : ℕ → Type 0) (a b : World) (q x : ℕ) → Lasts some a b → (some q → ⊥) → HoldsBlock pack columns q x a → HoldsBlock pack columns q x b
+block_lasts pack columns some a b q x lasts off is = record { slots = is.slots; size = is.size; fits = is.fits; holds = holds_lasts some a b lasts q x _ off is.holds }
+
+pub block_only : (pack : ℕ) (columns : Columns) (a b : World) (r y q x : ℕ) → Only r y a b → (q ≡ r → x ≡ y → ⊥) → HoldsBlock pack columns q x a → HoldsBlock pack columns q x b
+block_only pack columns a b r y q x only off is = record { slots = is.slots; size = is.size; fits = is.fits; holds = holds_only _ _ _ _ only q x _ off is.holds }
 
 -- a table's slots fit a region
 pub fits_sized : (pack : ℕ) (columns : Columns) (capacity : ℕ) → 1 ≤ pack → IsSized columns capacity → FitsRegion pack columns capacity
@@ -183,6 +193,16 @@ pub accepted : (good : ℕ → List ℕ → Bool) (pack region : ℕ) (columns :
 accepted good pack region columns rows some size fine is =
     subst (λ (bytes : List ℕ). IsTrue (good region bytes)) (sym (joined_block pack columns is.slots rows some size is.spelt))
     (fine.accepts is.slots (is.spelt.count ∙ size) (spelt_fits columns is.slots rows is.spelt))
+
+-- the rows of a block were written
+pub block_put : (pack : ℕ) (columns : Columns) (rows : List (List ℕ)) (q x : ℕ) (w : World) → 1 ≤ pack → length rows ≡ pack → AreSlots columns rows
+    → Holds q x (joined ((pack * width columns) / length rows) rows) w → HoldsBlock pack columns q x w
+block_put pack columns rows q x w some size is holds = record {
+  slots = is.slots;
+  size = is.spelt.count ∙ size;
+  fits = spelt_fits columns is.slots rows is.spelt;
+  holds = holds_rows _ _ _ _ _ (joined_block pack columns is.slots rows some size is.spelt) holds;
+}
 
 -- a table with no rows
 pub represents_none : (pack : ℕ) (flat : Flat) (w : World) → 1 ≤ pack

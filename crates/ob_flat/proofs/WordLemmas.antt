@@ -1,11 +1,12 @@
 -- The words of the passes' contracts, from one call to the next.
-use Rattle.std.proofs.Common.{[], ◌≡◌, ◌++◌, ℕ, Bool, List, None, Result, Ok, Err, IfErr, refl}
+use Rattle.std.proofs.Common.{[], ◌≡◌, ◌++◌, ℕ, Bool, List, None, Result, Ok, Err, refl}
 use Rattle.ob_base.specs.declared.access.Access.{Access}
 use Rattle.ob_base.specs.Schemas.{Columns}
 use Rattle.ob_vault.specs.declared.region.Order.{Order}
 use Rattle.ob_vault.specs.State.{World}
 use Rattle.ob_vault.specs.Tied.{Lives}
 use Rattle.ob_vault.specs.Calls.{Went, Seals, Lasts, one}
+use Rattle.ob_vault.specs.Words.{SealsAll}
 use Rattle.ob_vault.proofs.Runs.{went_join, seals_join, shape_lasts}
 use Rattle.ob_flat.specs.declared.fault.OpErr.{OpErr}
 use Rattle.ob_flat.specs.declared.flat.Flat.{Flat}
@@ -13,11 +14,6 @@ use Rattle.ob_flat.specs.Flats.{IsFlat, table_region}
 use Rattle.ob_flat.specs.Passes.{PassCut}
 use Rattle.ob_flat.specs.Words.{Ran, TamperedIn, SealsTable, Makes}
 use Rattle.ob_flat.proofs.Runs.{pass_more, pass_after, pass_then}
-
--- every error of one call is one of another
-pub if_err : {T : Type 0} {P Q : OpErr → Type 0} → ((e : OpErr) → P e → Q e) → (r : Result T OpErr) → IfErr r P → IfErr r Q
-if_err more (Ok x) is = tt
-if_err more (Err e) is = more e is
 
 -- a run of two parts, the first of which was cut, or went whole
 pub ran_more : {T : Type 0} {some : ℕ → Type 0} {a b : World} {e : OpErr} (x y : List Access) → PassCut e x some a b → Ran {T = T} (x ++ y) some (Err e) a b
@@ -38,6 +34,9 @@ tampered_after went same is = record { place = is.place; below = is.below; is = 
 -- what a region takes
 pub seals_any : {pack region : ℕ} {columns : Columns} {a b : World} → ((good : ℕ → List ℕ → Bool) → Seals good a b) → SealsTable pack columns region a b
 seals_any all = record { seals = λ good fine. all good }
+
+pub sealed_after : {some : ℕ → Type 0} {a b c : World} → Lasts some a b → SealsAll a b → ((good : ℕ → List ℕ → Bool) → Seals good b c) → SealsAll a c
+sealed_after lasts first second = record { seals = λ good. seals_join good _ _ _ lasts.later (first.seals good) (second good) }
 
 pub seals_after : {some : ℕ → Type 0} {pack region : ℕ} {columns : Columns} {a b c : World} → Lasts some a b → SealsTable pack columns region a b → SealsTable pack columns region b c → SealsTable pack columns region a c
 seals_after lasts first second = record { seals = λ good fine. seals_join good _ _ _ lasts.later (first.seals good fine) (second.seals good fine) }

@@ -10,10 +10,10 @@ use Rattle.ob_flat.specs.Flats.{Represents}
 
 -- an emitter took these events, or its output ends within them
 pub record Takes {E T : Type 0} (grew cut : E → E → List Event → Type 0) (faults : E → ℕ)
-    (events : List Event) (result : Result T EmitErr) (before after : E) : Type 0 where
-  pub ok : OnOk result (Leads grew grew before after events)
-  pub err : OnErr result (Leads grew cut before after events)
-  pub cause : EmitCause result (faults before) (faults after)
+    (events : List Event) (result : Result T EmitErr) (out_old out_new : E) : Type 0 where
+  pub ok : OnOk result (Leads grew grew out_old out_new events)
+  pub err : OnErr result (Leads grew cut out_old out_new events)
+  pub cause : EmitCause result (faults out_old) (faults out_new)
 
 -- the slots of a table, each block of which was read as it was written
 pub record SlotsToEnd (pack : ℕ) (flat : Flat) (old new : World) : Type 0 where

@@ -72,6 +72,18 @@ pub record HoldsSlots (pack : ℕ) (flat : Flat) (slots : Slots) (w : World) : T
   pub fits : All (FitsSlot flat.schema) slots
   pub holds : (p : ℕ) → p < blocks_for pack flat.capacity → Holds flat.region p (block_bytes flat.schema (block_at pack slots p)) w
 
+-- the block that was written to the place is one of rows or dummies
+pub record HoldsBlock (pack : ℕ) (columns : Columns) (q x : ℕ) (w : World) : Type 0 where
+  pub slots : Slots
+  pub size : length slots ≡ pack
+  pub fits : All (FitsSlot columns) slots
+  pub holds : Holds q x (block_bytes columns slots) w
+
+-- and so is each of a table's
+pub record HoldsRows (pack : ℕ) (flat : Flat) (w : World) : Type 0 where
+  pub each : (p : ℕ) → p < blocks_for pack flat.capacity
+      → HoldsBlock pack flat.schema flat.region p w
+
 -- blocks of `pack` rows or dummies are good for a region
 pub record Accepts (good : ℕ → List ℕ → Bool) (pack : ℕ) (columns : Columns) (region : ℕ) : Type 0 where
   pub accepts : (slots : Slots) → length slots ≡ pack → All (FitsSlot columns) slots → IsTrue (good region (block_bytes columns slots))

@@ -4,3 +4,9 @@ pub mod Passes
 pub mod Counts
 pub mod Words
 pub mod Emission
+pub mod Scans
+pub mod Counted
+pub mod Swaps
+pub mod Reworks
+pub mod Creates
+pub mod Discards

@@ -6,14 +6,19 @@ use Rattle.ob_base.specs.Schemas.{Columns, width}
 use Rattle.ob_store.specs.Runs.{Began}
 use Rattle.ob_vault.specs.declared.region.Order.{Order}
 use Rattle.ob_vault.specs.State.{World}
-use Rattle.ob_vault.specs.Tied.{Lives}
+use Rattle.ob_vault.specs.Tied.{Ready, Lives}
 use Rattle.ob_vault.specs.Calls.{Went, Seals}
 use Rattle.ob_vault.specs.Places.{RowsFit}
 use Rattle.ob_flat.specs.declared.flat.Flat.{Flat}
 use Rattle.ob_flat.specs.declared.fault.OpErr.{OpErr}
 use Rattle.ob_flat.specs.declared.fault.OpErr.TheVariants.{Tampered, NoMemory}
-use Rattle.ob_flat.specs.Flats.{IsSized, FitsRegion, IsFlat, IsWritten, Accepts, table_region}
+use Rattle.ob_flat.specs.Flats.{IsSized, IsFlat, Accepts, table_region}
 use Rattle.ob_flat.specs.Passes.{PassCut}
+
+-- a vault that belongs to its store, which has n accesses left
+pub record HasSpare (n : ℕ) (w : World) : Type 0 where
+  pub ready : Ready w
+  pub spare : n ≤ w.store.spare
 
 -- on `Ok` all of the script was asked, and on an error a first part of it
 pub record Ran {T : Type 0} (script : List Access) (some : ℕ → Type 0)
@@ -41,13 +46,6 @@ pub record IsTable (pack : ℕ) (flat : Flat) (w : World) : Type 0 where
   pub most : pack ≤ 16
   pub size : IsSized flat.schema flat.capacity
   pub written : IsFlat pack flat w
-
--- the same where it is only read, in whichever order it is written
-pub record IsReadable (pack : ℕ) (flat : Flat) (w : World) : Type 0 where
-  pub some : 1 ≤ pack
-  pub most : pack ≤ 16
-  pub size : FitsRegion pack flat.schema flat.capacity
-  pub written : IsWritten pack flat w
 
 -- rows that are as wide as a block's of this schema
 abbrev pub FitBlock : Columns → List (List ℕ) → Type 0

@@ -29,13 +29,17 @@ pub trait Change {
         ensures size { length row.new ≡ length row.old }
         ensures spells { OnOk result ((slot : Option Row) × Begins schema.now slot row.new) }
         ensures told { (slot : Option Row) → Begins schema.now slot row.old
-            → MatchResult result (λ picked. (picked ≡ picks self.now slot) × Begins schema.now (to self.now i slot) row.new) (λ _. ⊥) };
+            → MatchResult result
+            (λ picked. (picked ≡ picks self.now slot)
+            × Begins schema.now (to self.now i slot) row.new)
+            (λ _. ⊥) };
 
     /// No empty slot is counted.
     ghost none: { (change : Self) → picks change None ≡ false };
 
     /// A row that fits the schema becomes one that does.
-    ghost keeps: { (change : Self) (columns : Columns) (i : ℕ) (slot : Option Row) → Suits change columns → FitsSlot columns slot → FitsSlot columns (to change i slot) };
+    ghost keeps: { (change : Self) (columns : Columns) (i : ℕ) (slot : Option Row)
+        → Suits change columns → FitsSlot columns slot → FitsSlot columns (to change i slot) };
 }
 
 /// Changes the rows of a block, the first of which has this index, and answers how many were counted, or
@@ -53,7 +57,10 @@ pub fn change_rows<C: Change>(
     ensures most { IfOk result (λ k. k ≤ length rows.old) }
     ensures spells { OnOk result (AreSlots schema.now rows.new) }
     ensures told { (slots : Slots) → Spelt schema.now slots rows.old
-        → MatchResult result (λ k. (k ≡ count_by (C.picks change.now) slots) × Spelt schema.now (map_at (C.to change.now) first slots) rows.new) (λ _. ⊥) }
+        → MatchResult result
+        (λ k. (k ≡ count_by (C.picks change.now) slots)
+        × Spelt schema.now (map_at (C.to change.now) first slots) rows.new)
+        (λ _. ⊥) }
 {
     let mut n = 0;
     for z in 0..rows.len() {

@@ -21,7 +21,8 @@ pub fn copy_row(schema: &Schema, from: &ClearRow, to: &mut ClearRow)
     requires from { width schema.now ≤ length from.now }
     requires to { width schema.now ≤ length to.old }
     ensures size { length to.new ≡ length to.old }
-    ensures begins { (slot : Option Row) → Begins schema.now slot from.now → Begins schema.now slot to.new }
+    ensures begins { (slot : Option Row) → Begins schema.now slot from.now
+        → Begins schema.now slot to.new }
 {
     copy_front(&from.bytes()[..width(schema) as usize], to.bytes_mut());
 }
@@ -36,7 +37,8 @@ pub fn clear_row(row: &mut ClearRow)
 /// Makes each row a dummy.
 pub fn clear_rows(rows: &mut [ClearRow])
     ensures size { SameSizes rows.old rows.new }
-    ensures none { (columns : Columns) → Wide (width columns) rows.old → (i : ℕ) → i < length rows.old → Begins columns None (row_at rows.new i) }
+    ensures none { (columns : Columns) → Wide (width columns) rows.old
+        → (i : ℕ) → i < length rows.old → Begins columns None (row_at rows.new i) }
 {
     for z in 0..rows.len() {
         clear_row(&mut rows[z]);

@@ -1,17 +1,12 @@
-ghost use Rattle.std.specs.Prelude.{◌≡◌, ◌≤◌, ◌<◌, ◌+◌, ◌*◌, ◌^◌, ◌⊎◌, ◌&&◌, max, nat_lt, ℕ, Bool, List, None, IfOk, IfErr, OnOk, MatchResult, length};
-ghost use Rattle.ob_base.specs.Numbers.{blocks_for};
+ghost use Rattle.std.specs.Prelude.{◌≡◌, max, length};
 ghost use Rattle.ob_base.specs.Schemas.{width};
-ghost use Rattle.ob_vault.specs.Tied.{Ready};
-ghost use Rattle.ob_vault.specs.Calls.{Went, Seals, none};
-ghost use Rattle.ob_vault.specs.Places.{at, RowsFit};
+ghost use Rattle.ob_vault.specs.Places.{at};
 ghost use Rattle.ob_vault.specs.Rows.{SameSizes};
-ghost use Rattle.ob_script.specs.Parts.{count_part};
 ghost use Rattle.ob_blocks.specs.Idle.{IsIdle};
-ghost use Rattle.ob_row.specs.Slots.{Slots, selected, is_consecutive};
-ghost use Rattle.ob_flat.specs.Flats.{IsSized, IsFlat, Represents};
-ghost use Rattle.ob_flat.specs.Passes.{PassCut};
-ghost use Rattle.ob_flat.specs.Counts.{tallied};
 ghost use Rattle.ob_row.specs.Truth.{is_true};
+ghost use Rattle.ob_flat.specs.Flats.{IsSized, IsFlat};
+ghost use Rattle.ob_flat.specs.Words.{HasSpare, IsTable, FitBlock, blocks_of};
+ghost use Rattle.ob_flat.specs.Counted.{CountsRows};
 
 use crate::fault::OpErr;
 use crate::flat::Flat;
@@ -51,7 +46,9 @@ impl<'a> Visit for Counting<'a> {
     ghost use Rattle.ob_row.specs.Truth.{is_true};
     ghost use Rattle.ob_flat.specs.Counts.{tallied};
 
-    ghost after = { λ flat c i slot. record c { tally = tallied (is_selected (is_true c.pred.now) slot && nat_lt i flat.capacity) i c.tally } };
+    ghost after = { λ flat c i slot. record c {
+      tally = tallied (is_selected (is_true c.pred.now) slot && nat_lt i flat.capacity) i c.tally;
+    } };
 
     ghost Suits = { λ flat c i. (c.tally.k ≤ i) × (c.tally.k ≤ flat.capacity) };
 
@@ -74,22 +71,13 @@ fn count_blocks<S: BlockStore, R: Revisions>(
     flat: &Flat,
     pred: &Pred,
 ) -> Result<Counted, OpErr>
-    requires ready { Ready (at R.state vault.old (S.state store.old)) }
-    requires spare { blocks_for (length rows.old) flat.now.capacity ≤ (S.state store.old).spare }
-    requires flat { IsFlat (length rows.old) flat.now (at R.state vault.old (S.state store.old)) }
-    requires size { IsSized flat.now.schema flat.now.capacity }
-    requires pack { (1 ≤ length rows.old) × (length rows.old ≤ 16) }
-    requires fit { RowsFit rows.old (length rows.old * width flat.now.schema) }
+    requires spare { HasSpare (blocks_of (length rows.old) flat.now)
+        (at R.state vault.old (S.state store.old)) }
+    requires table { IsTable (length rows.old) flat.now (at R.state vault.old (S.state store.old)) }
+    requires fit { FitBlock flat.now.schema rows.old }
     ensures rows { SameSizes rows.old rows.new }
-    ensures ok { OnOk result (Went (count_part flat.now.region (blocks_for (length rows.old) flat.now.capacity)) none (at R.state vault.old (S.state store.old)) (at R.state vault.new (S.state store.new))) }
-    ensures err { IfErr result (λ e. PassCut e (count_part flat.now.region (blocks_for (length rows.old) flat.now.capacity)) none (at R.state vault.old (S.state store.old)) (at R.state vault.new (S.state store.new))) }
-    ensures never { IfErr result (λ e. (e ≡ OpErr.Failed) ⊎ ((place : ℕ) × (place < blocks_for (length rows.old) flat.now.capacity) × (e ≡ OpErr.Tampered flat.now.region place))) }
-    ensures seals { (good : ℕ → List ℕ → Bool) → Seals good (at R.state vault.old (S.state store.old)) (at R.state vault.new (S.state store.new)) }
-    ensures most { IfOk result (λ counted. counted.k ≤ flat.now.capacity) }
-    ensures told { (slots : Slots) → Represents (length rows.old) flat.now slots (at R.state vault.old (S.state store.old)) → (S.state store.new).lie ≡ None
-        → MatchResult result
-        (λ counted. counted ≡ record { k = length (selected (is_true pred.now) slots); consecutive = is_consecutive (selected (is_true pred.now) slots) })
-        (λ e. e ≡ OpErr.Failed) }
+    ensures counts { CountsRows (length rows.old) flat.now (is_true pred.now) result
+        (at R.state vault.old (S.state store.old)) (at R.state vault.new (S.state store.new)) }
 {
     let mut counting = Counting {
         pred,
@@ -116,22 +104,14 @@ pub fn count<S: BlockStore, R: Revisions>(
     flat: &Flat,
     pred: &Pred,
 ) -> Result<Counted, OpErr>
-    requires ready { Ready (at R.state vault.old (S.state store.old)) }
-    requires spare { blocks_for room.old.pack flat.now.capacity ≤ (S.state store.old).spare }
+    requires spare { HasSpare (blocks_of room.old.pack flat.now)
+        (at R.state vault.old (S.state store.old)) }
     requires flat { IsFlat room.old.pack flat.now (at R.state vault.old (S.state store.old)) }
     requires size { IsSized flat.now.schema flat.now.capacity }
     requires room { IsIdle (width flat.now.schema) room.old }
-    ensures ok { OnOk result (Went (count_part flat.now.region (blocks_for room.old.pack flat.now.capacity)) none (at R.state vault.old (S.state store.old)) (at R.state vault.new (S.state store.new))) }
-    ensures err { IfErr result (λ e. PassCut e (count_part flat.now.region (blocks_for room.old.pack flat.now.capacity)) none (at R.state vault.old (S.state store.old)) (at R.state vault.new (S.state store.new))) }
-    ensures never { IfErr result (λ e. (e ≡ OpErr.Failed) ⊎ ((place : ℕ) × (place < blocks_for room.old.pack flat.now.capacity) × (e ≡ OpErr.Tampered flat.now.region place))) }
-    ensures seals { (good : ℕ → List ℕ → Bool) → Seals good (at R.state vault.old (S.state store.old)) (at R.state vault.new (S.state store.new)) }
-    ensures flat { IsFlat room.old.pack flat.now (at R.state vault.new (S.state store.new)) }
     ensures room { room.new ≡ record room.old { high = max room.old.high room.old.pack } }
-    ensures most { IfOk result (λ counted. counted.k ≤ flat.now.capacity) }
-    ensures told { (slots : Slots) → Represents room.old.pack flat.now slots (at R.state vault.old (S.state store.old)) → (S.state store.new).lie ≡ None
-        → MatchResult result
-        (λ counted. counted ≡ record { k = length (selected (is_true pred.now) slots); consecutive = is_consecutive (selected (is_true pred.now) slots) })
-        (λ e. e ≡ OpErr.Failed) }
+    ensures counts { CountsRows room.old.pack flat.now (is_true pred.now) result
+        (at R.state vault.old (S.state store.old)) (at R.state vault.new (S.state store.new)) }
 {
     let pack = room.pack();
     let rows = room.open(pack);

@@ -1,21 +1,17 @@
-ghost use Rattle.std.specs.Prelude.{◌≡◌, ◌≤◌, ◌<◌, ◌+◌, ◌*◌, ◌/◌, ◌^◌, ◌⊎◌, max, ℕ, Bool, List, IsTrue, None, Err, IfOk, IfErr, OnOk, OnErr, length};
-ghost use Rattle.ob_base.specs.Accesses.{make_at, write_at};
-ghost use Rattle.ob_base.specs.Lists.{each};
+ghost use Rattle.std.specs.Prelude.{◌≡◌, ◌≤◌, ◌<◌, ◌+◌, ◌/◌, ◌^◌, max, length};
 ghost use Rattle.ob_base.specs.Numbers.{blocks_for};
 ghost use Rattle.ob_base.specs.Schemas.{width};
-ghost use Rattle.ob_store.specs.Runs.{Began};
 ghost use Rattle.ob_vault.specs.declared.region.Order.TheVariants.{Round};
-ghost use Rattle.ob_vault.specs.Tied.{Ready, Lives, Written, OnTurn, Holds};
-ghost use Rattle.ob_vault.specs.Calls.{Went, Cut, Seals, one};
+ghost use Rattle.ob_vault.specs.Tied.{Lives, OnTurn};
 ghost use Rattle.ob_vault.specs.Places.{at, RowsFit};
 ghost use Rattle.ob_vault.specs.Rows.{joined};
-ghost use Rattle.ob_script.specs.Parts.{create_part};
+ghost use Rattle.ob_vault.specs.Words.{MayAsk, MayStart};
 ghost use Rattle.ob_blocks.specs.Blocks.{none_of};
 ghost use Rattle.ob_blocks.specs.Idle.{IsIdle};
-ghost use Rattle.ob_row.specs.Slots.{empty_slots};
 ghost use Rattle.ob_flat.specs.Slots.{Spelt};
-ghost use Rattle.ob_flat.specs.Flats.{IsSized, FitsRegion, IsMade, IsFlat, Represents, Accepts, table_region};
-ghost use Rattle.ob_flat.specs.Passes.{PassCut};
+ghost use Rattle.ob_flat.specs.Flats.{IsSized, FitsRegion, table_region};
+ghost use Rattle.ob_flat.specs.Words.{HasSpare, FitBlock};
+ghost use Rattle.ob_flat.specs.Creates.{MakesRegion, FillsRegion, CreatesRegion, Creates, table_of};
 
 use crate::fault::OpErr;
 use crate::flat::Flat;
@@ -49,20 +45,13 @@ pub fn make_table<S: BlockStore, R: Revisions>(
     pack: u32,
     order: Order,
 ) -> Result<u64, OpErr>
-    requires ready { Ready (at R.state vault.old (S.state store.old)) }
-    requires spare { 1 ≤ (S.state store.old).spare }
+    requires spare { HasSpare 1 (at R.state vault.old (S.state store.old)) }
     requires few { length (S.state store.old).asked < 2 ^ 63 + 2 ^ 60 }
     requires size { FitsRegion pack schema.now capacity }
     requires pack { (1 ≤ pack) × (pack ≤ 16) }
-    ensures ok { OnOk result (Went (make_at vault.old.next (blocks_for pack capacity) (pack * width schema.now)) (one vault.old.next) (at R.state vault.old (S.state store.old)) (at R.state vault.new (S.state store.new))) }
-    ensures err { IfErr result (λ e. PassCut e (make_at vault.old.next (blocks_for pack capacity) (pack * width schema.now)) (one vault.old.next) (at R.state vault.old (S.state store.old)) (at R.state vault.new (S.state store.new))) }
-    ensures never { IfErr result (λ e. (e ≡ OpErr.Failed) ⊎ (e ≡ OpErr.NoMemory)) }
-    ensures gone { OnErr result ((R.state vault.new.revs).live vault.old.next ≡ None) }
-    ensures seals { (good : ℕ → List ℕ → Bool) → Seals good (at R.state vault.old (S.state store.old)) (at R.state vault.new (S.state store.new)) }
-    ensures number { IfOk result (λ region. region ≡ vault.old.next) }
-    ensures lives { OnOk result (Lives vault.old.next (table_region order pack schema.now capacity) (at R.state vault.new (S.state store.new))) }
-    ensures turn { OnOk result (OnTurn vault.old.next (table_region order pack schema.now capacity) 0 (at R.state vault.new (S.state store.new))) }
-    ensures made { OnOk result (IsMade pack (record { schema = schema.now; capacity = capacity; region = vault.old.next }) (at R.state vault.new (S.state store.new))) }
+    ensures makes { MakesRegion order pack (table_of schema.now capacity vault.old.next)
+        result (at R.state vault.old (S.state store.old))
+        (at R.state vault.new (S.state store.new)) }
 {
     let shape = region_of_table(schema, capacity, pack, order);
     let region = vault.make(store, shape.blocks, shape.width, shape.order)?;
@@ -78,20 +67,13 @@ pub fn fill_blocks<S: BlockStore, R: Revisions>(
     region: u64,
     shape: Region,
 ) -> Result<(), VaultErr>
-    requires ready { Ready (at R.state vault.old (S.state store.old)) }
-    requires spare { shape.blocks ≤ (S.state store.old).spare }
-    requires few { length (S.state store.old).asked + shape.blocks < 2 ^ 63 + 2 ^ 60 }
+    requires asks { MayAsk shape.blocks (at R.state vault.old (S.state store.old)) }
     requires lives { Lives region shape (at R.state vault.old (S.state store.old)) }
     requires turn { OnTurn region shape 0 (at R.state vault.old (S.state store.old)) }
     requires fit { RowsFit rows.now shape.width }
-    ensures ok { OnOk result (Went (each shape.blocks (write_at region)) (one region) (at R.state vault.old (S.state store.old)) (at R.state vault.new (S.state store.new))) }
-    ensures err { IfErr result (λ e. Cut e (each shape.blocks (write_at region)) (one region) (at R.state vault.old (S.state store.old)) (at R.state vault.new (S.state store.new))) }
-    ensures never { IfErr result (λ e. e ≡ VaultErr.Failed) }
-    ensures seals { (good : ℕ → List ℕ → Bool) → IsTrue (good region (joined (shape.width / length rows.now) rows.now)) → Seals good (at R.state vault.old (S.state store.old)) (at R.state vault.new (S.state store.new)) }
-    ensures lives { OnOk result (Lives region shape (at R.state vault.new (S.state store.new))) }
-    ensures turn { OnOk result (OnTurn region shape 0 (at R.state vault.new (S.state store.new))) }
-    ensures written { OnOk result ((p : ℕ) → p < shape.blocks → Written region p (at R.state vault.new (S.state store.new))) }
-    ensures told { OnOk result (IsTrue (S.state store.old).tells → (p : ℕ) → p < shape.blocks → Holds region p (joined (shape.width / length rows.now) rows.now) (at R.state vault.new (S.state store.new))) }
+    ensures fills { FillsRegion region shape
+        (joined (shape.width / length rows.now) rows.now) result
+        (at R.state vault.old (S.state store.old)) (at R.state vault.new (S.state store.new)) }
 {
     for u in 0..shape.blocks {
         vault.put(store, region, u, rows)?;
@@ -110,23 +92,15 @@ pub fn create_blocks<S: BlockStore, R: Revisions>(
     capacity: u32,
     order: Order,
 ) -> Result<u64, OpErr>
-    requires ready { Ready (at R.state vault.old (S.state store.old)) }
-    requires spare { 1 + blocks_for (length rows.now) capacity ≤ (S.state store.old).spare }
-    requires few { length (S.state store.old).asked < 2 ^ 63 + 2 ^ 59 }
+    requires starts { MayStart (1 + blocks_for (length rows.now) capacity)
+        (at R.state vault.old (S.state store.old)) }
     requires size { FitsRegion (length rows.now) schema.now capacity }
     requires pack { (1 ≤ length rows.now) × (length rows.now ≤ 16) }
-    requires fit { RowsFit rows.now (length rows.now * width schema.now) }
+    requires fit { FitBlock schema.now rows.now }
     requires dummies { Spelt schema.now (none_of (length rows.now)) rows.now }
-    ensures ok { OnOk result (Went (create_part vault.old.next (blocks_for (length rows.now) capacity) (length rows.now * width schema.now)) (one vault.old.next) (at R.state vault.old (S.state store.old)) (at R.state vault.new (S.state store.new))) }
-    ensures err { IfErr result (λ e. PassCut e (create_part vault.old.next (blocks_for (length rows.now) capacity) (length rows.now * width schema.now)) (one vault.old.next) (at R.state vault.old (S.state store.old)) (at R.state vault.new (S.state store.new))) }
-    ensures never { IfErr result (λ e. (e ≡ OpErr.Failed) ⊎ (e ≡ OpErr.NoMemory)) }
-    ensures memory { result ≡ Err OpErr.NoMemory → Began (make_at vault.old.next (blocks_for (length rows.now) capacity) (length rows.now * width schema.now)) (S.state store.old) (S.state store.new) }
-    ensures gone { OnErr result ((R.state vault.new.revs).live vault.old.next ≡ None) }
-    ensures seals { (good : ℕ → List ℕ → Bool) → Accepts good (length rows.now) schema.now vault.old.next → Seals good (at R.state vault.old (S.state store.old)) (at R.state vault.new (S.state store.new)) }
-    ensures number { IfOk result (λ region. region ≡ vault.old.next) }
-    ensures lives { OnOk result (Lives vault.old.next (table_region order (length rows.now) schema.now capacity) (at R.state vault.new (S.state store.new))) }
-    ensures flat { OnOk result (IsFlat (length rows.now) (record { schema = schema.now; capacity = capacity; region = vault.old.next }) (at R.state vault.new (S.state store.new))) }
-    ensures told { OnOk result (IsTrue (S.state store.old).tells → Represents (length rows.now) (record { schema = schema.now; capacity = capacity; region = vault.old.next }) (empty_slots capacity) (at R.state vault.new (S.state store.new))) }
+    ensures creates { CreatesRegion order (length rows.now)
+        (table_of schema.now capacity vault.old.next) result
+        (at R.state vault.old (S.state store.old)) (at R.state vault.new (S.state store.new)) }
 {
     let pack = rows.len() as u32;
     let region = make_table(store, vault, schema, capacity, pack, order)?;
@@ -155,22 +129,14 @@ pub fn create<S: BlockStore, R: Revisions>(
     schema: &Schema,
     capacity: u32,
 ) -> Result<Flat, OpErr>
-    requires ready { Ready (at R.state vault.old (S.state store.old)) }
-    requires spare { 1 + blocks_for room.old.pack capacity ≤ (S.state store.old).spare }
-    requires few { length (S.state store.old).asked < 2 ^ 63 + 2 ^ 59 }
+    requires starts { MayStart (1 + blocks_for room.old.pack capacity)
+        (at R.state vault.old (S.state store.old)) }
     requires size { IsSized schema.now capacity }
     requires room { IsIdle (width schema.now) room.old }
-    ensures ok { OnOk result (Went (create_part vault.old.next (blocks_for room.old.pack capacity) (room.old.pack * width schema.now)) (one vault.old.next) (at R.state vault.old (S.state store.old)) (at R.state vault.new (S.state store.new))) }
-    ensures err { IfErr result (λ e. PassCut e (create_part vault.old.next (blocks_for room.old.pack capacity) (room.old.pack * width schema.now)) (one vault.old.next) (at R.state vault.old (S.state store.old)) (at R.state vault.new (S.state store.new))) }
-    ensures never { IfErr result (λ e. (e ≡ OpErr.Failed) ⊎ (e ≡ OpErr.NoMemory)) }
-    ensures memory { result ≡ Err OpErr.NoMemory → Began (make_at vault.old.next (blocks_for room.old.pack capacity) (room.old.pack * width schema.now)) (S.state store.old) (S.state store.new) }
-    ensures gone { OnErr result ((R.state vault.new.revs).live vault.old.next ≡ None) }
-    ensures seals { (good : ℕ → List ℕ → Bool) → Accepts good room.old.pack schema.now vault.old.next → Seals good (at R.state vault.old (S.state store.old)) (at R.state vault.new (S.state store.new)) }
     ensures room { room.new ≡ record room.old { high = max room.old.high room.old.pack } }
-    ensures value { IfOk result (λ flat. flat ≡ record { schema = schema.now; capacity = capacity; region = vault.old.next }) }
-    ensures lives { OnOk result (Lives vault.old.next (table_region Round room.old.pack schema.now capacity) (at R.state vault.new (S.state store.new))) }
-    ensures flat { IfOk result (λ flat. IsFlat room.old.pack flat (at R.state vault.new (S.state store.new))) }
-    ensures told { IfOk result (λ flat. IsTrue (S.state store.old).tells → Represents room.old.pack flat (empty_slots capacity) (at R.state vault.new (S.state store.new))) }
+    ensures creates { Creates Round room.old.pack (table_of schema.now capacity vault.old.next)
+        result (at R.state vault.old (S.state store.old))
+        (at R.state vault.new (S.state store.new)) }
 {
     let pack = room.pack();
     let rows = room.open(pack);

@@ -1,14 +1,11 @@
-ghost use Rattle.std.specs.Prelude.{◌≡◌, ◌≤◌, ℕ, Bool, List, None, IfErr, OnErr, OnOk};
-ghost use Rattle.ob_base.specs.Accesses.{discard_at};
-ghost use Rattle.ob_base.specs.Counts.{Rises};
 ghost use Rattle.ob_vault.specs.declared.region.Region.{Region};
-ghost use Rattle.ob_vault.specs.Tied.{Ready, Lives};
-ghost use Rattle.ob_vault.specs.Calls.{Went, Seals, one};
+ghost use Rattle.ob_vault.specs.Tied.{Lives};
 ghost use Rattle.ob_vault.specs.Places.{at};
+ghost use Rattle.ob_flat.specs.Words.{HasSpare};
+ghost use Rattle.ob_flat.specs.Discards.{Discards};
 
 use crate::fault::OpErr;
 use ob_base::Schema;
-use ob_room::Room;
 use ob_store::BlockStore;
 use ob_vault::{Revisions, Vault};
 
@@ -26,19 +23,13 @@ pub struct Flat {
 pub fn discard<S: BlockStore, R: Revisions>(
     store: &mut S,
     vault: &mut Vault<R>,
-    _room: &mut Room,
     flat: Flat,
 ) -> Result<(), OpErr>
-    requires ready { Ready (at R.state vault.old (S.state store.old)) }
-    requires spare { 1 ≤ (S.state store.old).spare }
-    requires lives { (shape : Region) × Lives flat.region shape (at R.state vault.old (S.state store.old)) }
-    ensures went { Went (discard_at flat.region) (one flat.region) (at R.state vault.old (S.state store.old)) (at R.state vault.new (S.state store.new)) }
-    ensures gone { (R.state vault.new.revs).live flat.region ≡ None }
-    ensures slips { OnErr result (Rises (S.state store.old).slips (S.state store.new).slips) }
-    ensures stays { OnOk result ((S.state store.new).slips ≡ (S.state store.old).slips) }
-    ensures never { IfErr result (λ e. e ≡ OpErr.Failed) }
-    ensures seals { (good : ℕ → List ℕ → Bool) → Seals good (at R.state vault.old (S.state store.old)) (at R.state vault.new (S.state store.new)) }
-    ensures room { _room.new ≡ _room.old }
+    requires spare { HasSpare 1 (at R.state vault.old (S.state store.old)) }
+    requires lives { (shape : Region)
+        × Lives flat.region shape (at R.state vault.old (S.state store.old)) }
+    ensures discards { Discards flat.region result
+        (at R.state vault.old (S.state store.old)) (at R.state vault.new (S.state store.new)) }
 {
     vault.drop_region(store, flat.region)?;
     Ok(())

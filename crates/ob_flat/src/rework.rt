@@ -1,17 +1,11 @@
-ghost use Rattle.std.specs.Prelude.{◌≡◌, ◌≤◌, ◌<◌, ◌+◌, ◌*◌, ◌^◌, ◌==◌, ◌⊎◌, ℕ, Bool, List, IsTrue, None, if◌then◌else◌, IfErr, OnOk, MatchResult, length};
-ghost use Rattle.ob_base.specs.Numbers.{blocks_for};
+ghost use Rattle.std.specs.Prelude.{◌≡◌, ◌≤◌, ◌<◌, ◌+◌, ◌^◌, ℕ, OnOk, MatchResult, length};
 ghost use Rattle.ob_base.specs.Schemas.{Columns, width};
-ghost use Rattle.ob_vault.specs.declared.region.Order.{Order};
-ghost use Rattle.ob_vault.specs.Tied.{Ready};
-ghost use Rattle.ob_vault.specs.Calls.{Went, Seals, one};
-ghost use Rattle.ob_vault.specs.Places.{at, RowsFit};
+ghost use Rattle.ob_vault.specs.Places.{at};
 ghost use Rattle.ob_vault.specs.Rows.{SameSizes, Wide};
-ghost use Rattle.ob_script.specs.Parts.{copy_at};
-ghost use Rattle.ob_blocks.specs.Blocks.{block_at, with_block};
 ghost use Rattle.ob_row.specs.Slots.{Slots};
 ghost use Rattle.ob_flat.specs.Slots.{Spelt, AreSlots};
-ghost use Rattle.ob_flat.specs.Flats.{FitsRegion, IsInTurn, HoldsSlots, Accepts};
-ghost use Rattle.ob_flat.specs.Passes.{PassCut};
+ghost use Rattle.ob_flat.specs.Words.{HasSpare, FitBlock};
+ghost use Rattle.ob_flat.specs.Reworks.{MayRework, Reworks};
 
 use crate::fault::OpErr;
 use crate::flat::Flat;
@@ -44,7 +38,10 @@ pub trait Rework {
         ensures suits { OnOk result (Suits self.new schema.now) }
         ensures spells { OnOk result (AreSlots schema.now rows.new) }
         ensures told { (slots : Slots) → Spelt schema.now slots rows.old
-            → MatchResult result (λ _. (made : Slots) × Makes schema.now self.old self.new first slots made × Spelt schema.now made rows.new) (λ _. ⊥) };
+            → MatchResult result
+            (λ _. (made : Slots) × Makes schema.now self.old self.new first slots made
+            × Spelt schema.now made rows.new)
+            (λ _. ⊥) };
 }
 
 /// Reads a block of a table, changes it, and writes it to its place again, through these rows, of which
@@ -58,28 +55,17 @@ pub fn rework_block<S: BlockStore, R: Revisions, W: Rework>(
     place: u32,
     work: &mut W,
 ) -> Result<(), OpErr>
-    requires ready { Ready (at R.state vault.old (S.state store.old)) }
-    requires spare { 2 ≤ (S.state store.old).spare }
+    requires spare { HasSpare 2 (at R.state vault.old (S.state store.old)) }
     requires few { length (S.state store.old).asked + 1 < 2 ^ 63 + 2 ^ 60 }
-    requires turn { (order : Order) × IsInTurn order (length rows.old) flat.now place (at R.state vault.old (S.state store.old)) }
-    requires place { place < blocks_for (length rows.old) flat.now.capacity }
-    requires size { FitsRegion (length rows.old) flat.now.schema flat.now.capacity }
-    requires pack { (1 ≤ length rows.old) × (length rows.old ≤ 16) }
-    requires fit { RowsFit rows.old (length rows.old * width flat.now.schema) }
+    requires table { MayRework (length rows.old) flat.now place
+        (at R.state vault.old (S.state store.old)) }
+    requires fit { FitBlock flat.now.schema rows.old }
     requires suits { W.Suits work.old flat.now.schema }
     ensures rows { SameSizes rows.old rows.new }
-    ensures ok { OnOk result (Went (copy_at flat.now.region flat.now.region place) (one flat.now.region) (at R.state vault.old (S.state store.old)) (at R.state vault.new (S.state store.new))) }
-    ensures err { IfErr result (λ e. PassCut e (copy_at flat.now.region flat.now.region place) (one flat.now.region) (at R.state vault.old (S.state store.old)) (at R.state vault.new (S.state store.new))) }
-    ensures never { IfErr result (λ e. (e ≡ OpErr.Failed) ⊎ (e ≡ OpErr.Tampered flat.now.region place)) }
-    ensures seals { (good : ℕ → List ℕ → Bool) → Accepts good (length rows.old) flat.now.schema flat.now.region → Seals good (at R.state vault.old (S.state store.old)) (at R.state vault.new (S.state store.new)) }
-    ensures suits { OnOk result (W.Suits work.new flat.now.schema) }
-    ensures turn { OnOk result ((order : Order) → IsInTurn order (length rows.old) flat.now place (at R.state vault.old (S.state store.old))
-        → IsInTurn order (length rows.old) flat.now (if place + 1 == blocks_for (length rows.old) flat.now.capacity then 0 else place + 1) (at R.state vault.new (S.state store.new))) }
-    ensures told { IsTrue (S.state store.old).tells → (slots : Slots) → HoldsSlots (length rows.old) flat.now slots (at R.state vault.old (S.state store.old)) → (S.state store.new).lie ≡ None
-        → MatchResult result
-        (λ _. (made : Slots) × W.Makes flat.now.schema work.old work.new (place * length rows.old) (block_at (length rows.old) slots place) made
-        × HoldsSlots (length rows.old) flat.now (with_block (length rows.old) slots place made) (at R.state vault.new (S.state store.new)))
-        (λ e. e ≡ OpErr.Failed) }
+    ensures reworks { Reworks (length rows.old) flat.now place
+        (W.Makes flat.now.schema work.old work.new) (W.Suits work.new flat.now.schema)
+        result (at R.state vault.old (S.state store.old))
+        (at R.state vault.new (S.state store.new)) }
 {
     vault.get(store, flat.region, place, rows)?;
     let first = place * rows.len() as u32;

@@ -27,7 +27,8 @@ pub trait Visit {
         requires suits { Suits flat.now self.old i }
         ensures suits { OnOk result (Suits flat.now self.new (i + 1)) }
         ensures spells { OnOk result ((slot : Option Row) × Begins flat.now.schema slot row.now) }
-        ensures told { (slot : Option Row) → Begins flat.now.schema slot row.now → MatchResult result (λ _. self.new ≡ after flat.now self.old i slot) (λ _. ⊥) };
+        ensures told { (slot : Option Row) → Begins flat.now.schema slot row.now
+            → MatchResult result (λ _. self.new ≡ after flat.now self.old i slot) (λ _. ⊥) };
 }
 
 // Sees the rows of a block, the first of which has this index.
@@ -42,7 +43,8 @@ pub(crate) fn visit_rows<V: Visit>(
     requires suits { V.Suits flat.now visit.old first }
     ensures suits { OnOk result (V.Suits flat.now visit.new (first + length rows.now)) }
     ensures told { (slots : Slots) → Spelt flat.now.schema slots rows.now
-        → MatchResult result (λ _. visit.new ≡ scanned (V.after flat.now) first visit.old slots) (λ _. ⊥) }
+        → MatchResult result
+        (λ _. visit.new ≡ scanned (V.after flat.now) first visit.old slots) (λ _. ⊥) }
 {
     for z in 0..rows.len() {
         match visit.visit(first + z as u32, flat, &rows[z]) {

@@ -1,5 +1,6 @@
 -- A Large selection, from one step to the next.
-use Rattle.std.proofs.Common.{◌≡◌, ◌*◌, inl, inr, ℕ, Bool, List, [], None, Result, Ok, Err}
+use Rattle.std.proofs.Common.{◌≡◌, ◌*◌, inl, inr, ℕ, Bool, IsTrue, List, [], None, Result, Ok, Err}
+use Rattle.std.proofs.lemmas.Result.{on_ok_weaker, IfErr-weaker}
 use Rattle.ob_base.specs.Accesses.{make_at}
 use Rattle.ob_base.specs.Schemas.{width}
 use Rattle.ob_script.specs.Parts.{copy_part}
@@ -9,30 +10,32 @@ use Rattle.ob_vault.specs.declared.region.Order.TheVariants.{Round}
 use Rattle.ob_vault.specs.State.{World}
 use Rattle.ob_vault.specs.Tied.{Ready, Lives}
 use Rattle.ob_vault.specs.Calls.{Went, Seals, one}
-use Rattle.ob_vault.proofs.Runs.{lives_apart}
+use Rattle.ob_vault.proofs.Runs.{lives_apart, tells_went}
 use Rattle.ob_flat.specs.declared.flat.Flat.{Flat}
 use Rattle.ob_flat.specs.declared.fault.OpErr.{OpErr}
-use Rattle.ob_flat.specs.Flats.{Represents, table_region}
+use Rattle.ob_flat.specs.Flats.{HoldsRows, Represents, table_region}
 use Rattle.ob_vault.specs.Words.{IsHonest}
 use Rattle.ob_flat.specs.Words.{SealsTable, IsTable, blocks_of, moved}
 use Rattle.ob_flat.proofs.Runs.{not_memory}
 use Rattle.ob_flat.proofs.Tables.{flat_lasts, represents_lasts}
 use Rattle.ob_vault.proofs.WordLemmas.{honest_before, honest_after, honest_same}
-use Rattle.ob_flat.proofs.WordLemmas.{makes_ok, makes_err, cut_forgot, tampered_after, if_err, ran_after, ran_lasts, seals_after}
+use Rattle.ob_flat.proofs.WordLemmas.{makes_ok, makes_err, cut_forgot, tampered_after, ran_after, ran_lasts, seals_after}
 use Rattle.ob_large.specs.Selecting.{Empties, Fills, Selects, fill_script}
 
 -- a table was copied, and then the copy gone through
 pub fills_after : {T : Type 0} (pack : ℕ) (flat : Flat) (to : ℕ) (p : Row → Bool) (r : Result T OpErr) (old mid new : World)
     → Went (copy_part flat.region to (blocks_of pack flat)) (one to) old mid → SealsTable pack flat.schema to old mid
+    → (IsTrue old.store.tells → HoldsRows pack (moved flat to) mid)
     → (IsHonest old mid → (slots : Slots) → Represents pack flat slots old → Represents pack (moved flat to) slots mid)
     → Empties pack (moved flat to) p r mid new → Fills pack flat to p r old new
-fills_after pack flat to p r old mid new went seals copied empties =
+fills_after pack flat to p r old mid new went seals rows copied empties =
     let lasts = ran_lasts r empties.ran in
     record {
       ran = ran_after r (copy_part flat.region to (blocks_of pack flat)) (copy_part to to (blocks_of pack flat)) went empties.ran;
-      never = if_err (λ e err. elim err [ inl failed ↦ inl failed | inr there ↦ inr (inr there) ]) r empties.never;
+      never = IfErr-weaker r _ _ (λ e err. elim err [ inl failed ↦ inl failed | inr there ↦ inr (inr there) ]) empties.never;
       seals = seals_after went.lasts seals empties.seals;
       table = empties.table;
+      rows = on_ok_weaker r (λ more tells. more (tells_went _ _ _ _ went tells) (rows tells)) empties.rows;
       told = λ honest slots is. empties.told (honest_after went honest) slots (copied (honest_before lasts honest) slots is);
     }
 
@@ -53,6 +56,7 @@ module _ (pack : ℕ) (flat : Flat) (p : Row → Bool) (old mid : World) (ready 
         never = tt;
         memory = record { began = λ is. absurd (cc is) };
         makes = makes_ok Round pack (moved flat next) _ _ made went seals _ lives fills.ran.ok.lasts fills.table fills.seals;
+        rows = λ tells. fills.rows (tells_went _ _ _ _ went tells);
         source = flat_lasts pack flat (one next) _ _ filled.ok.lasts off table.written;
         told = λ honest slots is. fills.told (honest_after went honest) slots (represents_lasts pack flat (one next) _ _ went.lasts off slots is);
       }
@@ -74,6 +78,7 @@ module _ (pack : ℕ) (flat : Flat) (p : Row → Bool) (old mid : World) (ready 
         ];
         memory = record { began = λ is. elim fills.never [ inl failed ↦ not_memory failed is | inr (inl there) ↦ absurd (cc (is, there.is)) | inr (inr there) ↦ absurd (cc (is, there.is)) ] };
         makes = makes_err Round pack (moved flat next) _ _ made went seals e _ _ fills.ran.err.lasts fills.seals sealed gone;
+        rows = tt;
         source = flat_lasts pack flat (one next) _ _ ended.lasts off table.written;
         told = λ honest slots is. inl (fills.told (honest_after went (honest_same same honest)) slots (represents_lasts pack flat (one next) _ _ went.lasts off slots is));
       }

@@ -1,7 +1,6 @@
 -- What the two passes of a Large selection do, and both together.
-use Rattle.std.specs.Prelude.{◌≡◌, ◌*◌, ◌++◌, ◌⊎◌, ℕ, Bool, List, Result, OnOk, IfErr, MatchResult}
+use Rattle.std.specs.Prelude.{◌≡◌, ◌*◌, ◌++◌, ◌⊎◌, ℕ, Bool, List, IsTrue, Result, OnOk, IfOk, IfErr, MatchResult}
 use Rattle.ob_base.specs.declared.access.Access.{Access}
-use Rattle.ob_base.specs.Accesses.{make_at}
 use Rattle.ob_base.specs.Schemas.{width}
 use Rattle.ob_script.specs.Parts.{copy_part, large_part}
 use Rattle.ob_row.specs.Rows.{Row}
@@ -13,18 +12,15 @@ use Rattle.ob_vault.specs.Calls.{one}
 use Rattle.ob_flat.specs.declared.flat.Flat.{Flat}
 use Rattle.ob_flat.specs.declared.fault.OpErr.{OpErr}
 use Rattle.ob_flat.specs.declared.fault.OpErr.TheVariants.{Failed, NoMemory}
-use Rattle.ob_flat.specs.Flats.{IsMade, IsFlat, Represents}
+use Rattle.ob_flat.specs.Flats.{IsMade, IsFlat, HoldsRows, Represents}
 use Rattle.ob_vault.specs.Words.{IsHonest}
 use Rattle.ob_flat.specs.Words.{Ran, TamperedIn, SealsTable, Makes, NoMemoryIn, blocks_of, moved}
+use Rattle.ob_flat.specs.Creates.{make_script}
 
 -- what is asked to copy a table, and then to go through the copy
 abbrev pub fill_script : ℕ → Flat → ℕ → List Access
 fill_script pack flat to =
     copy_part flat.region to (blocks_of pack flat) ++ copy_part to to (blocks_of pack flat)
-
--- to make its region before
-abbrev pub make_script : ℕ → Flat → ℕ → List Access
-make_script pack flat to = make_at to (blocks_of pack flat) (pack * width flat.schema)
 
 -- and all of it
 abbrev pub large_script : ℕ → Flat → ℕ → List Access
@@ -39,6 +35,8 @@ pub record Empties {T : Type 0} (pack : ℕ) (flat : Flat) (p : Row → Bool)
   pub never : IfErr result (λ e. (e ≡ Failed) ⊎ TamperedIn pack flat e new)
   pub seals : SealsTable pack flat.schema flat.region old new
   pub table : OnOk result (IsFlat pack flat new)
+  pub rows : OnOk result (IsTrue old.store.tells
+      → HoldsRows pack flat old → HoldsRows pack flat new)
   pub told : IsHonest old new → (slots : Slots) → Represents pack flat slots old
       → MatchResult result (λ _. Represents pack flat (large_slots p slots) new) (λ e. e ≡ Failed)
 
@@ -56,6 +54,7 @@ pub record Fills {T : Type 0} (pack : ℕ) (flat : Flat) (to : ℕ) (p : Row →
       ⊎ TamperedIn pack flat e new ⊎ TamperedIn pack (moved flat to) e new)
   pub seals : SealsTable pack flat.schema to old new
   pub table : OnOk result (IsFlat pack (moved flat to) new)
+  pub rows : OnOk result (IsTrue old.store.tells → HoldsRows pack (moved flat to) new)
   pub told : IsHonest old new → (slots : Slots) → Represents pack flat slots old
       → MatchResult result
       (λ _. Represents pack (moved flat to) (large_slots p slots) new) (λ e. e ≡ Failed)
@@ -66,8 +65,9 @@ pub record Selects (pack : ℕ) (flat : Flat) (p : Row → Bool)
   pub ran : Ran (large_script pack flat old.vault.next) (one old.vault.next) result old new
   pub never : IfErr result (λ e. (e ≡ Failed) ⊎ (e ≡ NoMemory)
       ⊎ TamperedIn pack flat e new ⊎ TamperedIn pack (moved flat old.vault.next) e new)
-  pub memory : NoMemoryIn (make_script pack flat old.vault.next) result old new
+  pub memory : NoMemoryIn (make_script pack (moved flat old.vault.next)) result old new
   pub makes : Makes Round pack (moved flat old.vault.next) result old new
+  pub rows : IfOk result (λ fresh. IsTrue old.store.tells → HoldsRows pack fresh new)
   pub source : IsFlat pack flat new
   pub told : IsHonest old new → (slots : Slots) → Represents pack flat slots old
       → MatchResult result

@@ -10,11 +10,6 @@ pub record MayAsk (n : ℕ) (w : World) : Type 0 where
   pub spare : n ≤ w.store.spare
   pub few : length w.store.asked + n < 2 ^ 63 + 2 ^ 60
 
--- the same where it is only read
-pub record MayRead (n : ℕ) (w : World) : Type 0 where
-  pub ready : Ready w
-  pub spare : n ≤ w.store.spare
-
 -- the same before a whole operation
 pub record MayStart (n : ℕ) (w : World) : Type 0 where
   pub ready : Ready w

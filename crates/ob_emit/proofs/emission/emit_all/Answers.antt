@@ -10,8 +10,8 @@ open-rows-requires-clause-shelf g c = c.requires.room.shelf
 pub open-rows-requires-clause-free : goal.open-rows-requires-clause-free
 open-rows-requires-clause-free g c = shelf_free (width c.args.flat.now.schema) c.args.room.now c.requires.room c.pack-pack.ensures.value
 
-pub emit_table-result-requires-clause-reads : goal.emit_table-result-requires-clause-reads
-emit_table-result-requires-clause-reads g c = simp (sym (block_count c.args.room.now c.pack-pack.ensures.value c.open-rows.ensures.value)) at c.requires.reads
+pub emit_table-result-requires-clause-spare : goal.emit_table-result-requires-clause-spare
+emit_table-result-requires-clause-spare g c = simp (sym (block_count c.args.room.now c.pack-pack.ensures.value c.open-rows.ensures.value)) at c.requires.spare
 
 pub emit_table-result-requires-clause-table : goal.emit_table-result-requires-clause-table
 emit_table-result-requires-clause-table g c =

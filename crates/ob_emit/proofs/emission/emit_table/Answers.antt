@@ -14,12 +14,12 @@ returns-in-Err-clause-emits g c =
 
 pub returns-in-Err-Failed-clause-emits : goal.returns-in-Err-Failed-clause-emits
 returns-in-Err-Failed-clause-emits g c =
-    emits_headless (header c.args.flat.now.schema c.args.cols.now) _ c.requires.reads.ready c.requires.table.written (inl refl) (refl, λ was. was) c.in-Err-Failed.ensures.err
+    emits_headless (header c.args.flat.now.schema c.args.cols.now) _ c.requires.spare.ready c.requires.table.written (inl refl) (refl, λ was. was) c.in-Err-Failed.ensures.err
     (rw c.in-Err-Failed.field-0-is at c.in-Err-Failed.ensures.cause)
 
 pub returns-in-Err-NoMemory-clause-emits : goal.returns-in-Err-NoMemory-clause-emits
 returns-in-Err-NoMemory-clause-emits g c =
-    emits_headless (header c.args.flat.now.schema c.args.cols.now) _ c.requires.reads.ready c.requires.table.written (inr refl) (refl, λ was. was) c.in-Err-NoMemory.ensures.err
+    emits_headless (header c.args.flat.now.schema c.args.cols.now) _ c.requires.spare.ready c.requires.table.written (inr refl) (refl, λ was. was) c.in-Err-NoMemory.ensures.err
     (rw c.in-Err-NoMemory.field-0-is at c.in-Err-NoMemory.ensures.cause)
 
 pub returns-in-Err-Failed-clause-rows : goal.returns-in-Err-Failed-clause-rows
@@ -37,8 +37,8 @@ returns-in-Ok-emit_blocks-clause-rows g c = c.emit_blocks.ensures.rows
 pub emit_head-requires : goal.emit_head-requires
 emit_head-requires g c = c.requires.columns
 
-pub emit_blocks-requires-clause-reads : goal.emit_blocks-requires-clause-reads
-emit_blocks-requires-clause-reads g c = c.requires.reads
+pub emit_blocks-requires-clause-spare : goal.emit_blocks-requires-clause-spare
+emit_blocks-requires-clause-spare g c = c.requires.spare
 
 pub emit_blocks-requires-clause-table : goal.emit_blocks-requires-clause-table
 emit_blocks-requires-clause-table g c = c.requires.table

@@ -38,7 +38,7 @@ loop-u-init g c =
     let start : 0 ≡ 0 * pack = omega arith in
     record {
       cells = search rules;
-      went = went_none none _ c.requires.reads.ready;
+      went = went_none none _ c.requires.spare.ready;
       seals = λ good. seals_none good _;
       same = same_rows c.args.rows.now;
       most = (omega arith, omega arith);
@@ -50,7 +50,7 @@ pub get-requires-clause-ready : goal.get-requires-clause-ready
 get-requires-clause-ready g c = c.loop-u.invariant.went.lasts.ready
 
 pub get-requires-clause-spare : goal.get-requires-clause-spare
-get-requires-clause-spare g c = omega (arith, c.requires.reads.spare, c.loop-u.invariant.went.spare, reads c.args.flat.now.region c.loop-u.u, c.div_ceil-blocks.ensures)
+get-requires-clause-spare g c = omega (arith, c.requires.spare.spare, c.loop-u.invariant.went.spare, reads c.args.flat.now.region c.loop-u.u, c.div_ceil-blocks.ensures)
 
 pub get-requires-clause-place : goal.get-requires-clause-place
 get-requires-clause-place g c =
@@ -90,16 +90,16 @@ returns-in_err-get-clause-emits g c =
         | inr e ↦ inr (inr (inr (record { place = u; below = below; is = ap pass_error e })))
       ];
       seals = record { seals = λ good. seals_join good _ _ _ before.went.lasts.later (before.seals good) (c.get.ensures.seals good) };
-      table = written_lasts pack flat none _ _ ended.lasts (λ s. s) c.requires.table.written;
+      source = written_lasts pack flat none _ _ ended.lasts (λ s. s) c.requires.table.written;
       most = tt;
       emitted = tt;
       halted = halted_whole grown;
       failed = λ failed. grown;
       cause = sink_vault ℕ _ _ _ before.faults;
-      told = λ s.
-          let now = represents_lasts pack flat none _ _ before.went.lasts (λ x. x) s.slots s.is in
+      told = λ slots is nolie.
+          let now = represents_lasts pack flat none _ _ before.went.lasts (λ x. x) slots is in
           let shape = table_region c.requires.table.written.order pack flat.schema flat.capacity in
-          inl (ap pass_error (c.in_err-get.ensures.told _ shape (lives_went _ _ _ _ _ _ before.went (λ x. x) c.requires.table.written.lives) (block_long pack flat s.slots _ s.is c.requires.table.some u below) (now.holds u below) s.nolie));
+          inl (ap pass_error (c.in_err-get.ensures.told _ shape (lives_went _ _ _ _ _ _ before.went (λ x. x) c.requires.table.written.lives) (block_long pack flat slots _ is c.requires.table.some u below) (now.holds u below) nolie));
     })
 
 pub overflow_mul-u : goal.overflow_mul-u
@@ -146,7 +146,7 @@ returns-in-Err-clause-emits g c =
       ran = record { ok = tt; err = ended };
       never = halt_never halt pack flat u _ below;
       seals = record { seals = λ good. seals_join good _ _ _ went.lasts.later (before.seals good) (c.get.ensures.seals good) };
-      table = written_lasts pack flat none _ _ ended.lasts (λ s. s) c.requires.table.written;
+      source = written_lasts pack flat none _ _ ended.lasts (λ s. s) c.requires.table.written;
       most = tt;
       emitted = tt;
       halted = halted_join g.E.Emit.grew g.E.Emit.cut [] (λ s. slots_shown flat.capacity cols 0 (take (u * pack) (whole_blocks pack flat.capacity s.slots))) (λ s. row_events (slots_shown flat.capacity cols (u * pack) s.slots)) (λ s. row_events (table_shown cols s.slots)) 0 c.loop-u.k _ _ _ before.emitted block_of.halted
@@ -170,11 +170,11 @@ returns-in-Err-clause-emits g c =
           ));
       failed = λ failed. absurd (halt_not_failed halt flat.region u (cc failed));
       cause = sink_halted ℕ ℕ flat.region u halt _ _ _ before.faults block_of.cause;
-      told = λ s.
-          let now = represents_lasts pack flat none _ _ went.lasts (λ x. x) s.slots s.is in
-          let bytes = read.told _ shape (lives_went _ _ _ _ _ _ went (λ x. x) c.requires.table.written.lives) (block_long pack flat s.slots _ s.is c.requires.table.some u below) (now.holds u below) s.nolie in
-          let spelt = got pack flat s.slots _ s.is c.requires.table.some u (length c.loop-u.rows) c.get.new.rows below before.same.count same.count wide bytes in
-          halt_told halt flat.region u (λ bad. block_of.malformed bad (record { slots = block_at pack (whole_blocks pack flat.capacity s.slots) u; spelt = spelt }));
+      told = λ slots is nolie.
+          let now = represents_lasts pack flat none _ _ went.lasts (λ x. x) slots is in
+          let bytes = read.told _ shape (lives_went _ _ _ _ _ _ went (λ x. x) c.requires.table.written.lives) (block_long pack flat slots _ is c.requires.table.some u below) (now.holds u below) nolie in
+          let spelt = got pack flat slots _ is c.requires.table.some u (length c.loop-u.rows) c.get.new.rows below before.same.count same.count wide bytes in
+          halt_told halt flat.region u (λ bad. block_of.malformed bad (record { slots = block_at pack (whole_blocks pack flat.capacity slots) u; spelt = spelt }));
     })
 
 pub loop-u-smaller : goal.loop-u-smaller
@@ -234,7 +234,7 @@ returns-clause-emits g c =
       ran = record { ok = rw last at all.went; err = tt };
       never = tt;
       seals = record { seals = all.seals };
-      table = written_lasts pack flat none _ _ all.went.lasts (λ s. s) c.requires.table.written;
+      source = written_lasts pack flat none _ _ all.went.lasts (λ s. s) c.requires.table.written;
       most = all.most.1;
       emitted = record {
         rows = e.rows;
@@ -249,5 +249,5 @@ returns-clause-emits g c =
       halted = tt;
       failed = λ is. absurd (cc is);
       cause = all.faults;
-      told = λ s. tt;
+      told = λ slots is nolie. tt;
     }

@@ -1,7 +1,18 @@
 use Rattle.std.proofs.Common.{◌∙◌, sym}
 use Rattle.ob_base.specs.Schemas.{width}
-use Rattle.ob_flat.proofs.Rooms.{shelf_wide, room_after, block_count, block_fits}
+use Rattle.ob_flat.proofs.Rooms.{shelf_wide, room_after, block_count, block_fits, block_some}
 use Rattle.ob_flat.proofs.counting.count.Goals as goal
+
+pub count_blocks-result-requires : goal.count_blocks-result-requires
+count_blocks-result-requires g c =
+    let s = c.args.room.now in
+    let count = block_count s c.pack-pack.ensures.value c.open-rows.ensures.value in
+    let some = block_some s c.pack-pack.ensures.sound c.pack-pack.ensures.value c.open-rows.ensures.value in
+    record {
+      spare = simp (sym count) at c.requires.spare;
+      table = record { some = some.0; most = some.1; size = c.requires.size; written = simp (sym count) at c.requires.flat };
+      fit = block_fits (width c.args.flat.now.schema) s c.requires.room c.pack-pack.ensures.sound c.pack-pack.ensures.value c.open-rows.ensures.value;
+    }
 
 pub clear_shelf-requires-clause-wide : goal.clear_shelf-requires-clause-wide
 clear_shelf-requires-clause-wide g c =
@@ -12,24 +23,5 @@ returns-clause-room g c =
     c.clear_shelf.ensures
     ∙ room_after (width c.args.flat.now.schema) c.pack-pack.result c.args.room.now _ c.count_blocks-result.new.rows c.requires.room c.pack-pack.ensures.sound c.pack-pack.ensures.value c.open-rows.ensures.value c.count_blocks-result.ensures.rows
 
-pub count_blocks-result-requires-clause-spare : goal.count_blocks-result-requires-clause-spare
-count_blocks-result-requires-clause-spare g c = simp (sym (block_count c.args.room.now c.pack-pack.ensures.value c.open-rows.ensures.value)) at c.requires.spare
-
-pub count_blocks-result-requires-clause-flat : goal.count_blocks-result-requires-clause-flat
-count_blocks-result-requires-clause-flat g c = simp (sym (block_count c.args.room.now c.pack-pack.ensures.value c.open-rows.ensures.value)) at c.requires.flat
-
-pub count_blocks-result-requires-clause-fit : goal.count_blocks-result-requires-clause-fit
-count_blocks-result-requires-clause-fit g c =
-    block_fits (width c.args.flat.now.schema) c.args.room.now c.requires.room c.pack-pack.ensures.sound c.pack-pack.ensures.value c.open-rows.ensures.value
-
-pub returns-clause-ok : goal.returns-clause-ok
-returns-clause-ok g c = simp (block_count c.args.room.now c.pack-pack.ensures.value c.open-rows.ensures.value) at c.count_blocks-result.ensures.ok
-
-pub returns-clause-err : goal.returns-clause-err
-returns-clause-err g c = simp (block_count c.args.room.now c.pack-pack.ensures.value c.open-rows.ensures.value) at c.count_blocks-result.ensures.err
-
-pub returns-clause-never : goal.returns-clause-never
-returns-clause-never g c = simp (block_count c.args.room.now c.pack-pack.ensures.value c.open-rows.ensures.value) at c.count_blocks-result.ensures.never
-
-pub returns-clause-told : goal.returns-clause-told
-returns-clause-told g c = simp (block_count c.args.room.now c.pack-pack.ensures.value c.open-rows.ensures.value) at c.count_blocks-result.ensures.told
+pub returns-clause-counts : goal.returns-clause-counts
+returns-clause-counts g c = simp (block_count c.args.room.now c.pack-pack.ensures.value c.open-rows.ensures.value) at c.count_blocks-result.ensures.counts

@@ -30,8 +30,7 @@ make_table-requires g c =
     let join = join_of (length c.args.rows.now) c.args.sides.now in
     let slots = capacity_is join.pack join.left.capacity join.right.capacity join.buffered _ _ _ c.div_ceil.ensures c.div_ceil-chunks.ensures c.div_ceil-2.ensures in
     record {
-      ready = c.requires.starts.ready;
-      spare = omega (arith, c.requires.starts.spare);
+      spare = record { ready = c.requires.starts.ready; spare = omega (arith, c.requires.starts.spare) };
       few = omega (arith, c.requires.starts.few);
       size = rw (slots, c.joined_schema-schema.ensures) (fits_sized _ _ _ c.requires.buffers.some c.requires.tables.sized);
       pack = (c.requires.buffers.some, c.requires.buffers.most);
@@ -52,27 +51,27 @@ returns-in_err-region-clause-joins g c =
     let join = join_of (length c.args.rows.now) c.args.sides.now in
     let next = c.args.vault.now.next in
     let count = blocks_are join.pack join.left.capacity join.right.capacity join.buffered _ _ _ c.requires.buffers.some c.div_ceil.ensures c.div_ceil-chunks.ensures c.div_ceil-2.ensures in
-    let cut = c.in_err-region.ensures in
-    let made = cut_make next _ (blocks join) _ (join.pack * width (columns join)) (one next) _ _ count (ap (λ (s : Columns). join.pack * width s) c.joined_schema-schema.ensures) _ cut.err in
-    rw (p.1, p.2) (joins_none join _ c.requires.starts.ready c.requires.tables _ _ made cut.never cut.gone c.make_table.ensures.seals)
+    let cut = c.in_err-region.ensures.makes in
+    let made = cut_make next _ (blocks join) _ (join.pack * width (columns join)) (one next) _ _ count (ap (λ (s : Columns). join.pack * width s) c.joined_schema-schema.ensures) _ cut.ran.err in
+    rw (p.1, p.2) (joins_none join _ c.requires.starts.ready c.requires.tables _ _ made cut.never cut.gone cut.seals.seals)
 
 pub returns-in_err-region-clause-told : goal.returns-in_err-region-clause-told
 returns-in_err-region-clause-told g c =
     let p = err_from_is_err_and c.from_residual.result c.from_residual.ensures.1 in
-    rw (p.1, p.2) (record { told = λ honest left right first second. c.in_err-region.ensures.never })
+    rw (p.1, p.2) (record { told = λ honest left right first second. c.in_err-region.ensures.makes.never })
 
 pub fill_result-requires : goal.fill_result-requires
 fill_result-requires g c =
     let join = join_of (length c.args.rows.now) c.args.sides.now in
-    let made = c.in_ok-region.ensures in
+    let made = c.in_ok-region.ensures.makes in
     let ready = c.requires.starts.ready in
     let tables = c.requires.tables in
     let few = blocks_few join.pack join.left.capacity c.requires.buffers.some in
     let least = product_least (blocks join) join.pack c.requires.buffers.some in
     let capacity = capacity_is join.pack join.left.capacity join.right.capacity join.buffered _ _ _ c.div_ceil.ensures c.div_ceil-chunks.ensures c.div_ceil-2.ensures in
     record {
-      asks = asks_after (asks_start c.requires.starts (omega (arith, few, tables.left_size.most, least, tables.sized.most))) made.ok (omega arith);
-      tables = may_lasts join _ ready tables _ made.ok.lasts;
+      asks = asks_after (asks_start c.requires.starts (omega (arith, few, tables.left_size.most, least, tables.sized.most))) made.ran.ok (omega arith);
+      tables = may_lasts join _ ready tables _ made.ran.ok.lasts;
       new = record {
         same = flat_is c.joined_schema-schema.ensures capacity refl;
         made = rw made.number made.made;
@@ -96,24 +95,24 @@ pub returns-in-Ok-clause-joins : goal.returns-in-Ok-clause-joins
 returns-in-Ok-clause-joins g c =
     let join = join_of (length c.args.rows.now) c.args.sides.now in
     let next = c.args.vault.now.next in
-    let made = c.in_ok-region.ensures in
+    let made = c.in_ok-region.ensures.makes in
     let capacity = capacity_is join.pack join.left.capacity join.right.capacity join.buffered _ _ _ c.div_ceil.ensures c.div_ceil-chunks.ensures c.div_ceil-2.ensures in
     let count = blocks_are join.pack join.left.capacity join.right.capacity join.buffered _ _ _ c.requires.buffers.some c.div_ceil.ensures c.div_ceil-chunks.ensures c.div_ceil-2.ensures in
-    let went = went_make next _ (blocks join) _ (join.pack * width (columns join)) (one next) _ _ count (ap (λ (s : Columns). join.pack * width s) c.joined_schema-schema.ensures) made.ok in
+    let went = went_make next _ (blocks join) _ (join.pack * width (columns join)) (one next) _ _ count (ap (λ (s : Columns). join.pack * width s) c.joined_schema-schema.ensures) made.ran.ok in
     let lives = rw (capacity, c.joined_schema-schema.ensures) at made.lives in
     let fills = rw made.number at c.in-Ok.ensures.fills in
-    rw (c.joined_schema-schema.ensures, capacity, made.number) (joins_ok join _ c.requires.starts.ready c.requires.tables _ went c.make_table.ensures.seals _ _ lives fills)
+    rw (c.joined_schema-schema.ensures, capacity, made.number) (joins_ok join _ c.requires.starts.ready c.requires.tables _ went made.seals.seals _ _ lives fills)
 
 pub returns-in-Ok-clause-told : goal.returns-in-Ok-clause-told
 returns-in-Ok-clause-told g c =
     let join = join_of (length c.args.rows.now) c.args.sides.now in
     let next = c.args.vault.now.next in
-    let made = c.in_ok-region.ensures in
+    let made = c.in_ok-region.ensures.makes in
     let capacity = capacity_is join.pack join.left.capacity join.right.capacity join.buffered _ _ _ c.div_ceil.ensures c.div_ceil-chunks.ensures c.div_ceil-2.ensures in
     let count = blocks_are join.pack join.left.capacity join.right.capacity join.buffered _ _ _ c.requires.buffers.some c.div_ceil.ensures c.div_ceil-chunks.ensures c.div_ceil-2.ensures in
-    let went = went_make next _ (blocks join) _ (join.pack * width (columns join)) (one next) _ _ count (ap (λ (s : Columns). join.pack * width s) c.joined_schema-schema.ensures) made.ok in
+    let went = went_make next _ (blocks join) _ (join.pack * width (columns join)) (one next) _ _ count (ap (λ (s : Columns). join.pack * width s) c.joined_schema-schema.ensures) made.ran.ok in
     let fills = rw made.number at c.in-Ok.ensures.fills in
-    rw (c.joined_schema-schema.ensures, capacity, made.number) (tells_ok join _ c.requires.starts.ready c.requires.tables _ went c.make_table.ensures.seals _ _ fills)
+    rw (c.joined_schema-schema.ensures, capacity, made.number) (tells_ok join _ c.requires.starts.ready c.requires.tables _ went made.seals.seals _ _ fills)
 
 pub returns-in-Err-clause-rows : goal.returns-in-Err-clause-rows
 returns-in-Err-clause-rows g c = c.fill_result.ensures.rows
@@ -128,20 +127,20 @@ pub returns-in-Err-clause-joins : goal.returns-in-Err-clause-joins
 returns-in-Err-clause-joins g c =
     let join = join_of (length c.args.rows.now) c.args.sides.now in
     let next = c.args.vault.now.next in
-    let made = c.in_ok-region.ensures in
+    let made = c.in_ok-region.ensures.makes in
     let count = blocks_are join.pack join.left.capacity join.right.capacity join.buffered _ _ _ c.requires.buffers.some c.div_ceil.ensures c.div_ceil-chunks.ensures c.div_ceil-2.ensures in
-    let went = went_make next _ (blocks join) _ (join.pack * width (columns join)) (one next) _ _ count (ap (λ (s : Columns). join.pack * width s) c.joined_schema-schema.ensures) made.ok in
+    let went = went_make next _ (blocks join) _ (join.pack * width (columns join)) (one next) _ _ count (ap (λ (s : Columns). join.pack * width s) c.joined_schema-schema.ensures) made.ran.ok in
     let fills = rw made.number at c.in-Err.ensures.fills in
     let forgot = rw made.number at c.forget.ensures.went _ fills.ran.err.lasts.ready in
     let gone = rw made.number at c.forget.ensures.gone in
-    joins_err join _ c.requires.starts.ready c.requires.tables _ went c.make_table.ensures.seals _ _ _ fills forgot refl (c.forget.ensures.seals _) gone
+    joins_err join _ c.requires.starts.ready c.requires.tables _ went made.seals.seals _ _ _ fills forgot refl (c.forget.ensures.seals _) gone
 
 pub returns-in-Err-clause-told : goal.returns-in-Err-clause-told
 returns-in-Err-clause-told g c =
     let join = join_of (length c.args.rows.now) c.args.sides.now in
     let next = c.args.vault.now.next in
-    let made = c.in_ok-region.ensures in
+    let made = c.in_ok-region.ensures.makes in
     let count = blocks_are join.pack join.left.capacity join.right.capacity join.buffered _ _ _ c.requires.buffers.some c.div_ceil.ensures c.div_ceil-chunks.ensures c.div_ceil-2.ensures in
-    let went = went_make next _ (blocks join) _ (join.pack * width (columns join)) (one next) _ _ count (ap (λ (s : Columns). join.pack * width s) c.joined_schema-schema.ensures) made.ok in
+    let went = went_make next _ (blocks join) _ (join.pack * width (columns join)) (one next) _ _ count (ap (λ (s : Columns). join.pack * width s) c.joined_schema-schema.ensures) made.ran.ok in
     let fills = rw made.number at c.in-Err.ensures.fills in
-    tells_err join _ c.requires.starts.ready c.requires.tables _ went c.make_table.ensures.seals _ _ _ fills refl
+    tells_err join _ c.requires.starts.ready c.requires.tables _ went made.seals.seals _ _ _ fills refl

@@ -5,7 +5,7 @@ use Rattle.ob_base.specs.Schemas.{width}
 use Rattle.ob_script.specs.Parts.{copy_at}
 use Rattle.ob_vault.specs.Calls.{one}
 use Rattle.ob_vault.specs.Places.{at, RowsFit}
-use Rattle.ob_vault.proofs.Runs.{went_each, went_none, fit_same, fit_trans, seals_none}
+use Rattle.ob_vault.proofs.Runs.{tells_went, went_each, went_none, fit_same, fit_trans, seals_none}
 use Rattle.ob_blocks.specs.Blocks.{block_at, with_block, up_to}
 use Rattle.ob_blocks.proofs.Changes.{map_at-map, map_at-up_to, all-map_at}
 use Rattle.ob_row.specs.Slots.{Slots, kept}
@@ -14,7 +14,8 @@ use Rattle.std.specs.List.{All}
 use Rattle.ob_flat.specs.Slots.{FitsSlot}
 use Rattle.ob_large.specs.Keeping.{kept_fits}
 use Rattle.ob_flat.specs.Flats.{IsInTurn, HoldsSlots, whole_blocks}
-use Rattle.ob_flat.specs.Words.{SealsTable, blocks_of}
+use Rattle.ob_flat.specs.Words.{blocks_of}
+use Rattle.ob_flat.specs.Reworks.{MayRework}
 use Rattle.ob_flat.proofs.Runs.{pass_each}
 use Rattle.ob_flat.proofs.Tables.{not_last, at_last, copies, fits_sized, holds_whole, represents_whole, whole_size}
 use Rattle.ob_vault.proofs.WordLemmas.{asks_after, honest_before, honest_after}
@@ -38,6 +39,7 @@ loop-u-init g c =
       order = is.made.order;
       turn = subst (λ (n : ℕ). IsInTurn is.made.order pack flat n old) (sym (either _ 0)) (record { lives = is.made.lives; turn = is.made.turn; written = is.written });
       same = record { count = refl; sizes = λ j. refl };
+      rows = λ tells rows. rows;
       told = λ honest slots here.
           subst (λ (l : Slots). HoldsSlots pack flat l old) (sym (half-none (kept (is_true c.args.pred.now)) pack (whole_blocks pack flat.capacity slots))) (holds_whole pack flat slots old c.requires.table.some here);
     }
@@ -54,14 +56,18 @@ rework_block-requires g c =
     let asks = asks_after {m = 2} c.requires.asks before.went (omega (arith, copies q q u, below)) in
     let here = subst (λ (n : ℕ). IsInTurn before.order pack flat n now) (not_last u (blocks_of pack flat) below) before.turn in
     let count = before.same.count in
+    let may : MayRework pack flat u now = record {
+      some = c.requires.table.some;
+      most = c.requires.table.most;
+      size = fits_sized pack flat.schema flat.capacity c.requires.table.some c.requires.table.size;
+      within = below;
+      order = before.order;
+      turn = here;
+    } in
     record {
-      ready = asks.ready;
-      spare = asks.spare;
+      spare = record { ready = asks.ready; spare = asks.spare };
       few = omega (arith, asks.few);
-      turn = (before.order, subst (λ (n : ℕ). IsInTurn before.order n flat u now) (sym count) here);
-      place = rw count below;
-      size = rw count (fits_sized pack flat.schema flat.capacity c.requires.table.some c.requires.table.size);
-      pack = (omega (arith, count, c.requires.table.some), omega (arith, count, c.requires.table.most));
+      table = subst (λ (n : ℕ). MayRework n flat u now) (sym count) may;
       fit = subst (λ (n : ℕ). RowsFit c.loop-u.rows (n * width flat.schema)) (sym count) (fit_same c.args.rows.now c.loop-u.rows _ before.same c.requires.fit);
       suits = tt;
     }
@@ -78,18 +84,17 @@ returns-in_err-rework_block-clause-empties g c =
     let before = c.loop-u.invariant in
     let count = before.same.count in
     let now = at g.R.Revisions.state c.loop-u.vault (g.S.BlockStore.state c.loop-u.store) in
-    let new = at g.R.Revisions.state c.rework_block.new.vault (g.S.BlockStore.state c.rework_block.new.store) in
-    let cut = c.in_err-rework_block.ensures.err in
+    let reworks = rw count at c.in_err-rework_block.ensures.reworks in
+    let cut = reworks.ran.err in
     let below : c.loop-u.u < blocks_of pack flat = omega (arith, c.div_ceil-blocks.ensures) in
     rw (p.1, p.2) (record {
       ran = record { ok = tt; err = pass_each (one q) (copy_at q q) _ _ _ _ (blocks_of pack flat) c.loop-u.u below before.went cut };
-      never = elim c.in_err-rework_block.ensures.never [ inl e ↦ inl e | inr e ↦ inr (record { place = c.loop-u.u; below = below; is = e }) ];
-      seals = seals_after before.went.lasts before.seals (subst (λ (n : ℕ). SealsTable n flat.schema q now new) count (record { seals = c.rework_block.ensures.seals }));
+      never = elim reworks.never [ inl e ↦ inl e | inr e ↦ inr (record { place = c.loop-u.u; below = below; is = e }) ];
+      seals = seals_after before.went.lasts before.seals reworks.seals;
       table = tt;
+      rows = tt;
       told = λ honest slots is.
-          let was = before.told (honest_before cut.lasts honest) slots is in
-          let all = half (kept (is_true c.args.pred.now)) pack c.loop-u.u (whole_blocks pack flat.capacity slots) in
-          c.in_err-rework_block.ensures.told (honest_after before.went honest).tells all (subst (λ (n : ℕ). HoldsSlots n flat all now) (sym count) was) honest.nolie;
+          reworks.told (honest_after before.went honest) (half (kept (is_true c.args.pred.now)) pack c.loop-u.u (whole_blocks pack flat.capacity slots)) (before.told (honest_before cut.lasts honest) slots is);
     })
 
 pub loop-u-preserved : goal.loop-u-preserved
@@ -105,25 +110,22 @@ loop-u-preserved g c =
     let f = kept (is_true c.args.pred.now) in
     let now = at g.R.Revisions.state c.loop-u.vault (g.S.BlockStore.state c.loop-u.store) in
     let new = at g.R.Revisions.state c.rework_block.new.vault (g.S.BlockStore.state c.rework_block.new.store) in
-    let next = c.in_ok-rework_block.ensures in
+    let reworks = rw count at c.in_ok-rework_block.ensures.reworks in
     record {
-      went = went_each (one q) (copy_at q q) _ _ _ u before.went next.ok;
-      seals = seals_after before.went.lasts before.seals (subst (λ (n : ℕ). SealsTable n flat.schema q now new) count (record { seals = c.rework_block.ensures.seals }));
+      went = went_each (one q) (copy_at q q) _ _ _ u before.went reworks.ran.ok;
+      seals = seals_after before.went.lasts before.seals reworks.seals;
       order = before.order;
-      turn =
-          let here = subst (λ (n : ℕ). IsInTurn before.order pack flat n now) (not_last u blocks below) before.turn in
-          let there = next.turn before.order (subst (λ (n : ℕ). IsInTurn before.order n flat u now) (sym count) here) in
-          subst (λ (n : ℕ). IsInTurn before.order n flat (if u + 1 == blocks_of n flat then 0 else u + 1) new) count there;
+      turn = reworks.turn.moves before.order (subst (λ (n : ℕ). IsInTurn before.order pack flat n now) (not_last u blocks below) before.turn);
       same = fit_trans _ _ _ before.same c.rework_block.ensures.rows;
       told = λ honest slots is.
           let whole = whole_blocks pack flat.capacity slots in
           let size = whole_size pack flat slots _ is c.requires.table.some in
           let all = half f pack u whole in
-          let was = subst (λ (n : ℕ). HoldsSlots n flat all now) (sym count) (before.told (honest_before next.ok.lasts honest) slots is) in
-          let made = next.told (honest_after before.went honest).tells all was honest.nolie in
-          let there = subst (λ (n : ℕ). HoldsSlots n flat (with_block n all u made.0) new) count made.2 in
-          let is_made = made.1 ∙ ap (λ (n : ℕ). map f (block_at n all u)) count ∙ ap (map f) (half-block f pack blocks whole size u below) in
-          subst (λ (l : Slots). HoldsSlots pack flat l new) (ap (with_block pack all u) is_made ∙ half-next f pack blocks whole size u below) there;
+          let was = before.told (honest_before reworks.ran.ok.lasts honest) slots is in
+          let made = reworks.told (honest_after before.went honest) all was in
+          let is_made = made.1 ∙ ap (map f) (half-block f pack blocks whole size u below) in
+          subst (λ (l : Slots). HoldsSlots pack flat l new) (ap (with_block pack all u) is_made ∙ half-next f pack blocks whole size u below) made.2;
+      rows = λ tells is. reworks.rows (tells_went _ _ _ _ before.went tells) (before.rows tells is);
     }
 
 pub returns-clause-rows : goal.returns-clause-rows
@@ -145,6 +147,7 @@ returns-clause-empties g c =
       never = tt;
       seals = all.seals;
       table = record { made = record { order = all.order; lives = is.lives; turn = is.turn }; written = is.written };
+      rows = all.rows;
       told = λ honest slots is.
           let whole = whole_blocks pack flat.capacity slots in
           let same = half-all f pack blocks whole (whole_size pack flat slots _ is c.requires.table.some) c.loop-u.u last

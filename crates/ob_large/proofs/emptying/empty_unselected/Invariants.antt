@@ -1,4 +1,4 @@
-use Rattle.std.proofs.Common.{◌==◌, if◌then◌else◌, length}
+use Rattle.std.proofs.Common.{◌==◌, if◌then◌else◌, IsTrue, length}
 use Rattle.ob_base.specs.Lists.{each}
 use Rattle.ob_script.specs.Parts.{copy_at}
 use Rattle.ob_vault.specs.declared.region.Order.{Order}
@@ -7,7 +7,7 @@ use Rattle.ob_vault.specs.Rows.{SameSizes}
 use Rattle.ob_vault.specs.Places.{at}
 use Rattle.ob_row.specs.Slots.{Slots, kept}
 use Rattle.ob_row.specs.Truth.{is_true}
-use Rattle.ob_flat.specs.Flats.{IsInTurn, HoldsSlots, Represents, whole_blocks}
+use Rattle.ob_flat.specs.Flats.{IsInTurn, HoldsSlots, HoldsRows, Represents, whole_blocks}
 use Rattle.ob_vault.specs.Words.{IsHonest}
 use Rattle.ob_flat.specs.Words.{SealsTable, blocks_of}
 use Rattle.ob_large.proofs.Halfway.{half}
@@ -25,6 +25,7 @@ invariant-loop-u g l =
       order : Order;
       turn : IsInTurn order pack flat (if l.u == blocks_of pack flat then 0 else l.u) now;
       same : SameSizes l.initial.rows l.rows;
+      rows : IsTrue old.store.tells → HoldsRows pack flat old → HoldsRows pack flat now;
       told : IsHonest old now → (slots : Slots) → Represents pack flat slots old
           → HoldsSlots pack flat (half (kept (is_true l.pred)) pack l.u (whole_blocks pack flat.capacity slots)) now;
     }

@@ -22,24 +22,18 @@ copied i [] = refl
 copied {A = A} i (x ∷ xs) = ap (λ (l : List A). x ∷ l) (copied (i + 1) xs)
 
 copied_slots : (pack : ℕ) (made : Flat) (old mid : World) (is : Slots → Type 0) {k : Slots → Type 0}
-    → (IsTrue old.store.tells → (slots : Slots) → is slots → mid.store.lie ≡ None → k slots × Represents pack made (map_at (λ i x. x) 0 slots) mid)
+    → (IsHonest old mid → (slots : Slots) → is slots → k slots × Represents pack made (map_at (λ i x. x) 0 slots) mid)
     → IsHonest old mid → (slots : Slots) → is slots → Represents pack made slots mid
-copied_slots pack made old mid is told honest slots here = subst (λ (l : Slots). Represents pack made l mid) (copied 0 slots) (told honest.tells slots here honest.nolie).1
+copied_slots pack made old mid is told honest slots here = subst (λ (l : Slots). Represents pack made l mid) (copied 0 slots) (told honest slots here).1
 
 pub swap_blocks-requires : goal.swap_blocks-requires
 swap_blocks-requires g c =
     let old = at g.R.Revisions.state c.args.vault.now (g.S.BlockStore.state c.args.store.now) in
-    let table = c.requires.table in
-    let asks = asks_fewer {m = 2 * blocks_of (length c.args.rows.now) c.args.flat.now} c.requires.asks (omega arith) in
     record {
-      ready = asks.ready;
-      spare = asks.spare;
-      few = asks.few;
-      flat = table.written;
+      asks = asks_fewer {m = 2 * blocks_of (length c.args.rows.now) c.args.flat.now} c.requires.asks (omega arith);
+      table = c.requires.table;
       made = subst (λ (f : Flat). IsMade (length c.args.rows.now) f old) c.requires.new.same c.requires.new.made;
       apart = c.requires.new.apart;
-      size = table.size;
-      pack = (table.some, table.most);
       fit = c.requires.fit;
       suits = tt;
       past = λ i behind. refl;
@@ -54,13 +48,14 @@ returns-in_err-swap_blocks-clause-fills g c =
     let flat = c.args.flat.now in
     let to = c.args.to.now.region in
     let blocks = blocks_of (length c.args.rows.now) flat in
-    let cut = c.in_err-swap_blocks.ensures in
+    let swaps = c.in_err-swap_blocks.ensures.swaps in
     rw (p.1, p.2) (record {
-      ran = ran_more (copy_part flat.region to blocks) (copy_part to to blocks) cut.err;
-      never = elim cut.never [ inl e ↦ inl e | inr e ↦ inr (inl (record { place = e.0; below = e.1; is = e.2 })) ];
-      seals = record { seals = c.swap_blocks.ensures.seals };
+      ran = ran_more (copy_part flat.region to blocks) (copy_part to to blocks) swaps.ran.err;
+      never = elim swaps.never [ inl failed ↦ inl failed | inr there ↦ inr (inl there) ];
+      seals = swaps.seals;
       table = tt;
-      told = λ honest slots is. cut.told honest.tells slots is honest.nolie;
+      rows = tt;
+      told = swaps.told;
     })
 
 pub empty_unselected-requires : goal.empty_unselected-requires
@@ -70,10 +65,10 @@ empty_unselected-requires g c =
     let to = c.args.to.now in
     let same = c.requires.new.same in
     let sizes = c.swap_blocks.ensures.rows in
-    let went = c.in_ok-swap_blocks.ensures.ok in
+    let swaps = c.in_ok-swap_blocks.ensures.swaps in
     let mid = at g.R.Revisions.state c.swap_blocks.new.vault (g.S.BlockStore.state c.swap_blocks.new.store) in
-    let asks = asks_after {m = 2 * blocks_of (length rows) flat} c.requires.asks went (omega (arith, copies flat.region to.region (blocks_of (length rows) flat))) in
-    let table : IsTable (length rows) (moved flat to.region) mid = record { some = c.requires.table.some; most = c.requires.table.most; size = c.requires.table.size; written = c.in_ok-swap_blocks.ensures.flat } in
+    let asks = asks_after {m = 2 * blocks_of (length rows) flat} c.requires.asks swaps.ran.ok (omega (arith, copies flat.region to.region (blocks_of (length rows) flat))) in
+    let table : IsTable (length rows) (moved flat to.region) mid = record { some = c.requires.table.some; most = c.requires.table.most; size = c.requires.table.size; written = swaps.table } in
     let fit = fit_same rows c.swap_blocks.new.rows _ sizes c.requires.fit in
     record {
       asks = rw (sizes.count, same) asks;
@@ -87,21 +82,21 @@ returns-in_err-empty_unselected-clause-rows g c = fit_trans _ _ _ c.swap_blocks.
 pub returns-in_err-empty_unselected-clause-fills : goal.returns-in_err-empty_unselected-clause-fills
 returns-in_err-empty_unselected-clause-fills g c =
     let p = err_from_is_err_and c.from_residual-in_err-empty_unselected.result c.from_residual-in_err-empty_unselected.ensures.1 in
-    let swapped = c.in_ok-swap_blocks.ensures in
+    let swaps = c.in_ok-swap_blocks.ensures.swaps in
     let old = at g.R.Revisions.state c.args.vault.now (g.S.BlockStore.state c.args.store.now) in
     let mid = at g.R.Revisions.state c.swap_blocks.new.vault (g.S.BlockStore.state c.swap_blocks.new.store) in
-    let copies = copied_slots (length c.args.rows.now) (moved c.args.flat.now c.args.to.now.region) old mid _ swapped.told in
+    let copies = copied_slots (length c.args.rows.now) (moved c.args.flat.now c.args.to.now.region) old mid _ swaps.told in
     let empties = rw (c.swap_blocks.ensures.rows.count, c.requires.new.same) at c.in_err-empty_unselected.ensures.empties in
-    rw (p.1, p.2) (fills_after _ _ _ _ _ _ _ _ swapped.ok (record { seals = c.swap_blocks.ensures.seals }) copies empties)
+    rw (p.1, p.2) (fills_after _ _ _ _ _ _ _ _ swaps.ran.ok swaps.seals swaps.rows copies empties)
 
 pub returns-clause-rows : goal.returns-clause-rows
 returns-clause-rows g c = fit_trans _ _ _ c.swap_blocks.ensures.rows c.empty_unselected.ensures.rows
 
 pub returns-clause-fills : goal.returns-clause-fills
 returns-clause-fills g c =
-    let swapped = c.in_ok-swap_blocks.ensures in
+    let swaps = c.in_ok-swap_blocks.ensures.swaps in
     let old = at g.R.Revisions.state c.args.vault.now (g.S.BlockStore.state c.args.store.now) in
     let mid = at g.R.Revisions.state c.swap_blocks.new.vault (g.S.BlockStore.state c.swap_blocks.new.store) in
-    let copies = copied_slots (length c.args.rows.now) (moved c.args.flat.now c.args.to.now.region) old mid _ swapped.told in
+    let copies = copied_slots (length c.args.rows.now) (moved c.args.flat.now c.args.to.now.region) old mid _ swaps.told in
     let empties = rw (c.swap_blocks.ensures.rows.count, c.requires.new.same) at c.in_ok-empty_unselected.ensures.empties in
-    fills_after _ _ _ _ _ _ _ _ swapped.ok (record { seals = c.swap_blocks.ensures.seals }) copies empties
+    fills_after _ _ _ _ _ _ _ _ swaps.ran.ok swaps.seals swaps.rows copies empties
