@@ -2,6 +2,7 @@
 use Rattle.std.proofs.Common.{◌≡◌, ◌⊎◌, ◌<◌, ◌++◌, inl, inr, [], List, ℕ, Result, Ok, Err, MatchResult, IfErr, refl, sym, ◌∙◌, subst, append_assoc}
 use Rattle.std.proofs.lemmas.List.{append-nil}
 use Rattle.ob_base.specs.declared.access.Access.{Access}
+use Rattle.ob_base.specs.Accesses.{read_at}
 use Rattle.ob_base.specs.declared.emit.EmitErr.TheVariants as EmitErrs
 use Rattle.ob_base.specs.declared.shown.Shown.{Shown}
 use Rattle.ob_base.specs.Counts.{Rises}
@@ -10,21 +11,23 @@ use Rattle.ob_vault.specs.State.{World}
 use Rattle.ob_vault.specs.Tied.{Ready}
 use Rattle.ob_vault.specs.Calls.{Went}
 use Rattle.ob_vault.proofs.Runs.{went_none}
+use Rattle.ob_flat.specs.declared.flat.Flat.{Flat}
 use Rattle.ob_flat.specs.declared.fault.OpErr.{OpErr}
-use Rattle.ob_flat.specs.declared.fault.OpErr.TheVariants.{Failed, Tampered, Sink, NoMemory}
+use Rattle.ob_flat.specs.declared.fault.OpErr.TheVariants.{Failed, Sink, NoMemory}
 use Rattle.ob_flat.specs.Passes.{PassCause, PassCut, SinkCause}
+use Rattle.ob_flat.specs.Words.{TamperedIn, blocks_of}
 use Rattle.ob_flat.proofs.Runs.{pass_malformed}
 use Rattle.ob_emit.specs.declared.slots.Halt.{Halt}
 use Rattle.ob_emit.specs.declared.slots.Halt.TheVariants as Halts
 use Rattle.ob_emit.specs.Emitting.{HaltCause, halt_error}
 
 -- a block was read, and then it halted
-pub pass_halted : (some : ℕ → Type 0) (a b : World) (q p : ℕ) (x : List Access) (halt : Halt) → Went x some a b → PassCut (halt_error halt q p) x some a b
-pass_halted some a b q p x Halts.Malformed went = pass_malformed some a b q p x went
-pass_halted some a b q p x (Halts.Emit EmitErrs.Failed) went =
-    record { lasts = went.lasts; began = record { done = x; rest = []; split = append-nil x; asked = went.did.asked }; cause = (went.did.faults, went.calm) }
-pass_halted some a b q p x (Halts.Emit EmitErrs.NoMemory) went =
-    record { lasts = went.lasts; began = record { done = x; rest = []; split = append-nil x; asked = went.did.asked }; cause = (went.did.faults, went.calm) }
+pub pass_halted : (some : ℕ → Type 0) (a b : World) (q p : ℕ) (halt : Halt) → Went (read_at q p) some a b → PassCut (halt_error halt q p) (read_at q p) some a b
+pass_halted some a b q p Halts.Malformed went = pass_malformed some a b q p went
+pass_halted some a b q p (Halts.Emit EmitErrs.Failed) went =
+    record { lasts = went.lasts; began = record { done = read_at q p; rest = []; split = append-nil (read_at q p); asked = went.did.asked }; cause = (went.did.faults, went.calm) }
+pass_halted some a b q p (Halts.Emit EmitErrs.NoMemory) went =
+    record { lasts = went.lasts; began = record { done = read_at q p; rest = []; split = append-nil (read_at q p); asked = went.did.asked }; cause = (went.did.faults, went.calm) }
 
 -- the emitter's count of faults, where nothing had failed before
 pub sink_halted : (T U : Type 0) (q p : ℕ) (halt : Halt) (old mid new : ℕ) → mid ≡ old → HaltCause {T = T} (Err halt) mid new → SinkCause {T = U} (Err (halt_error halt q p)) old new
@@ -33,10 +36,11 @@ sink_halted T U q p (Halts.Emit EmitErrs.Failed) old mid new same cause = subst 
 sink_halted T U q p (Halts.Emit EmitErrs.NoMemory) old mid new same cause = cause ∙ same
 
 -- each error of a halt
-pub halt_never : (halt : Halt) (q p n : ℕ) → p < n → (halt_error halt q p ≡ Failed) ⊎ (halt_error halt q p ≡ Sink) ⊎ (halt_error halt q p ≡ NoMemory) ⊎ ((place : ℕ) × (place < n) × (halt_error halt q p ≡ Tampered q place))
-halt_never Halts.Malformed q p n below = inr (inr (inr (p, below, refl)))
-halt_never (Halts.Emit EmitErrs.Failed) q p n below = inr (inl refl)
-halt_never (Halts.Emit EmitErrs.NoMemory) q p n below = inr (inr (inl refl))
+pub halt_never : (halt : Halt) (pack : ℕ) (flat : Flat) (p : ℕ) (w : World) → p < blocks_of pack flat
+    → (halt_error halt flat.region p ≡ Failed) ⊎ (halt_error halt flat.region p ≡ Sink) ⊎ (halt_error halt flat.region p ≡ NoMemory) ⊎ TamperedIn pack flat (halt_error halt flat.region p) w
+halt_never Halts.Malformed pack flat p w below = inr (inr (inr (record { place = p; below = below; is = refl })))
+halt_never (Halts.Emit EmitErrs.Failed) pack flat p w below = inr (inl refl)
+halt_never (Halts.Emit EmitErrs.NoMemory) pack flat p w below = inr (inr (inl refl))
 
 pub halt_told : (halt : Halt) (q p : ℕ) → (halt ≡ Halts.Malformed → ⊥) → (halt_error halt q p ≡ Failed) ⊎ (halt_error halt q p ≡ Sink) ⊎ (halt_error halt q p ≡ NoMemory)
 halt_told Halts.Malformed q p well = absurd (well refl)

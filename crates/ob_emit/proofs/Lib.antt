@@ -1,4 +1,4 @@
 pub mod Printed
 pub mod Events
 pub mod Halting
-pub mod Lasting
+pub mod Emitted

@@ -1,19 +1,30 @@
--- What is emitted of a table.
-use Rattle.std.specs.Prelude.{◌≡◌, ℕ, ◌+◌, Bool, false, not, List, [], ◌∷◌, ◌++◌, map, nat_lt, bytes_eq, Option, Some, None, slice_get, if◌then◌else◌, Result, Ok, Err}
-use Rattle.std.specs.List.{list_any}
+-- What is emitted of a table, and how.
+use Rattle.std.specs.Prelude.{◌≡◌, ◌⊎◌, ◌<◌, ◌≤◌, ℕ, ◌+◌, Bool, IsTrue, false, not, List, [], ◌∷◌, ◌++◌, map, nat_lt, bytes_eq, Option, Some, None, slice_get, if◌then◌else◌, Result, Ok, Err, OnOk, OnErr, IfOk, IfErr, length}
+use Rattle.std.specs.List.{All, list_any}
 use Rattle.std.specs.Option.{option_map_or}
 use Rattle.ob_base.specs.declared.schema.Column.{Column}
 use Rattle.ob_base.specs.declared.shown.Shown.{Shown}
 use Rattle.ob_base.specs.declared.emit.EmitErr.TheVariants as EmitErrs
 use Rattle.ob_base.specs.Counts.{Rises}
-use Rattle.ob_base.specs.Events.{Event, Head}
+use Rattle.ob_base.specs.Events.{Event, Head, row_events, IsEmitted, IsHalted}
 use Rattle.ob_base.specs.Labels.{column_label}
 use Rattle.ob_base.specs.Schemas.{Columns}
 use Rattle.ob_row.specs.Rows.{Row}
 use Rattle.ob_row.specs.Slots.{Slots, rows}
 use Rattle.ob_row.specs.Totals.{printed}
+use Rattle.ob_row.specs.Spelling.{Begins}
+use Rattle.ob_script.specs.Parts.{count_part}
+use Rattle.ob_vault.specs.State.{World}
+use Rattle.ob_vault.specs.Calls.{none}
+use Rattle.ob_vault.specs.Words.{SealsAll}
+use Rattle.ob_flat.specs.declared.flat.Flat.{Flat}
 use Rattle.ob_flat.specs.declared.fault.OpErr.{OpErr}
-use Rattle.ob_flat.specs.declared.fault.OpErr.TheVariants.{Tampered, Sink, NoMemory}
+use Rattle.ob_flat.specs.declared.fault.OpErr.TheVariants.{Failed, Tampered, Sink, NoMemory}
+use Rattle.ob_flat.specs.Slots.{AreSlots}
+use Rattle.ob_flat.specs.Flats.{IsWritten, Represents}
+use Rattle.ob_flat.specs.Passes.{SinkCause}
+use Rattle.ob_flat.specs.Words.{Ran, TamperedIn, blocks_of}
+use Rattle.ob_flat.specs.Emission.{SlotsToEnd, SlotsToHalt}
 use Rattle.ob_emit.specs.declared.slots.Halt.{Halt}
 use Rattle.ob_emit.specs.declared.slots.Halt.TheVariants as Halts
 
@@ -59,3 +70,75 @@ abbrev pub halt_error : Halt → ℕ → ℕ → OpErr
 halt_error Halts.Malformed region place = Tampered region place
 halt_error (Halts.Emit EmitErrs.Failed) region place = Sink
 halt_error (Halts.Emit EmitErrs.NoMemory) region place = NoMemory
+
+-- places of columns, no more than a table may have
+pub record AreColumns (columns : Columns) (cols : List ℕ) : Type 0 where
+  pub few : length cols ≤ 32
+  pub within : All (λ i. i < length columns) cols
+
+-- the first bytes spell a slot
+pub record IsSlot (columns : Columns) (row : List ℕ) : Type 0 where
+  pub slot : Option Row
+  pub is : Begins columns slot row
+
+-- the row of the slot of index i was emitted, if it has one below the capacity
+pub record EmitsSlot {E : Type 0} (grew cut : E → E → List Event → Type 0) (faults : E → ℕ)
+    (flat : Flat) (cols : List ℕ) (i : ℕ) (row : List ℕ)
+    (result : Result Bool Halt) (out_old out_new : E) : Type 0 where
+  pub below : IfOk result (λ some. IsTrue some → i < flat.capacity)
+  pub emitted : IfOk result (λ some. IsEmitted grew []
+      (λ (s : IsSlot flat.schema row). slot_shown flat.capacity cols i s.slot)
+      0 (if some then 1 else 0) out_old out_new)
+  pub halted : OnErr result (IsHalted grew cut
+      (λ (s : IsSlot flat.schema row). row_events (slot_shown flat.capacity cols i s.slot))
+      out_old out_new)
+  pub read : OnOk result (IsSlot flat.schema row)
+  pub malformed : IfErr result (λ halt. halt ≡ Halts.Malformed → IsSlot flat.schema row → ⊥)
+  pub cause : HaltCause result (faults out_old) (faults out_new)
+
+-- the rows of a block were, of which the first slot has this index, behind as many as were seen
+pub record EmitsRows {E : Type 0} (grew cut : E → E → List Event → Type 0) (faults : E → ℕ)
+    (flat : Flat) (cols : List ℕ) (first seen : ℕ) (rows : List (List ℕ))
+    (result : Result ℕ Halt) (out_old out_new : E) : Type 0 where
+  pub most : IfOk result (λ k. (k ≤ first + length rows) × (k ≤ flat.capacity))
+  pub emitted : IfOk result (λ k. IsEmitted grew []
+      (λ (s : AreSlots flat.schema rows). slots_shown flat.capacity cols first s.slots)
+      seen k out_old out_new)
+  pub halted : OnErr result (IsHalted grew cut
+      (λ (s : AreSlots flat.schema rows). row_events (slots_shown flat.capacity cols first s.slots))
+      out_old out_new)
+  pub read : OnOk result (AreSlots flat.schema rows)
+  pub malformed : IfErr result (λ halt. halt ≡ Halts.Malformed → AreSlots flat.schema rows → ⊥)
+  pub cause : HaltCause result (faults out_old) (faults out_new)
+
+-- each block of a table was read, in order, and its rows emitted behind this header
+pub record Emits {E : Type 0} (grew cut : E → E → List Event → Type 0) (faults : E → ℕ)
+    (pack : ℕ) (flat : Flat) (cols : List ℕ) (head : List Event)
+    (result : Result ℕ OpErr) (old new : World) (out_old out_new : E) : Type 0 where
+  pub ran : Ran (count_part flat.region (blocks_of pack flat)) none result old new
+  pub never : IfErr result (λ e. (e ≡ Failed) ⊎ (e ≡ Sink) ⊎ (e ≡ NoMemory)
+      ⊎ TamperedIn pack flat e new)
+  pub seals : SealsAll old new
+  pub source : IsWritten pack flat new
+  pub most : IfOk result (λ k. k ≤ flat.capacity)
+  pub emitted : IfOk result (λ k. IsEmitted grew head
+      (λ (s : SlotsToEnd pack flat old new). table_shown cols s.slots) 0 k out_old out_new)
+  pub halted : OnErr result (IsHalted grew cut
+      (λ (s : SlotsToHalt pack flat old new). head ++ row_events (table_shown cols s.slots))
+      out_old out_new)
+  pub failed : result ≡ Err Failed → IsHalted grew grew
+      (λ (s : SlotsToHalt pack flat old new). head ++ row_events (table_shown cols s.slots))
+      out_old out_new
+  pub cause : SinkCause result (faults out_old) (faults out_new)
+  pub told : (slots : Slots) → Represents pack flat slots old → new.store.lie ≡ None
+      → IfErr result (λ e. (e ≡ Failed) ⊎ (e ≡ Sink) ⊎ (e ≡ NoMemory))
+
+-- each was read, and nothing emitted
+pub record Walks {T : Type 0} (pack : ℕ) (flat : Flat)
+    (result : Result T OpErr) (old new : World) : Type 0 where
+  pub ran : Ran (count_part flat.region (blocks_of pack flat)) none result old new
+  pub never : IfErr result (λ e. (e ≡ Failed) ⊎ TamperedIn pack flat e new)
+  pub seals : SealsAll old new
+  pub source : IsWritten pack flat new
+  pub told : (slots : Slots) → Represents pack flat slots old → new.store.lie ≡ None
+      → IfErr result (λ e. e ≡ Failed)

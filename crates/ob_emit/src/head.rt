@@ -1,9 +1,10 @@
-ghost use Rattle.std.specs.Prelude.{◌≡◌, ◌≤◌, ◌<◌, ◌+◌, ◌++◌, OnOk, OnErr, not, bytes_eq, length, take};
-ghost use Rattle.std.specs.List.{All, list_any};
+ghost use Rattle.std.specs.Prelude.{◌≡◌, ◌≤◌, ◌+◌, ◌++◌, not, bytes_eq, length, take};
+ghost use Rattle.std.specs.List.{list_any};
 ghost use Rattle.ob_base.specs.declared.schema.Column.{Column as TableColumn};
-ghost use Rattle.ob_base.specs.Events.{EmitCause, Leads};
 ghost use Rattle.ob_base.specs.Labels.{column_label};
+ghost use Rattle.ob_flat.specs.Emission.{Takes};
 ghost use Rattle.ob_emit.specs.Emitting;
+ghost use Rattle.ob_emit.specs.Emitting.{AreColumns};
 
 use arrayvec::ArrayVec;
 use ob_base::{Column, Emit, EmitErr, Label, Schema};
@@ -54,8 +55,7 @@ fn label_of(joined: bool, column: &Column) -> Label
 // The labels of the columns at these places, in the first places of an array that holds those of any
 // table.
 fn labels_of(schema: &Schema, cols: &[u8]) -> [Label; 32]
-    requires few { length cols.now ≤ 32 }
-    requires within { All (λ i. i < length schema.now) cols.now }
+    requires { AreColumns schema.now cols.now }
     ensures size { length result ≡ 32 }
     ensures value { take (length cols.now) result ≡ Emitting.labels_of schema.now cols.now }
 {
@@ -72,11 +72,9 @@ fn labels_of(schema: &Schema, cols: &[u8]) -> [Label; 32]
 /// name, a point, and its own. It is a join where the columns are of more than one table. `Failed` where
 /// the emitter failed, or its want of memory.
 pub fn emit_head<E: Emit>(schema: &Schema, cols: &[u8], out: &mut E) -> Result<(), EmitErr>
-    requires few { length cols.now ≤ 32 }
-    requires within { All (λ i. i < length schema.now) cols.now }
-    ensures ok { OnOk result (Leads E.grew E.grew out.old out.new (Emitting.header schema.now cols.now)) }
-    ensures err { OnErr result (Leads E.grew E.cut out.old out.new (Emitting.header schema.now cols.now)) }
-    ensures cause { EmitCause result (E.faults out.old) (E.faults out.new) }
+    requires { AreColumns schema.now cols.now }
+    ensures { Takes E.grew E.cut E.faults (Emitting.header schema.now cols.now)
+        result out.old out.new }
 {
     let labels = labels_of(schema, cols);
     out.head(&labels[..cols.len()])

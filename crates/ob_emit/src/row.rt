@@ -29,7 +29,8 @@ pub(crate) fn show_cells(schema: &Schema, cols: &[u8], row: &ClearRow, cells: &m
     requires within { All (λ i. i < length schema.now) cols.now }
     requires real { (own : Row) × Begins schema.now (Some own) row.now }
     ensures size { length cells.new ≡ length cells.old }
-    ensures told { (own : Row) → Begins schema.now (Some own) row.now → take (length cols.now) cells.new ≡ printed cols.now own }
+    ensures told { (own : Row) → Begins schema.now (Some own) row.now
+        → take (length cols.now) cells.new ≡ printed cols.now own }
 {
     for z in 0..cols.len() {
         put_shown(value_of(schema, row, cols[z]), &mut cells[z]);

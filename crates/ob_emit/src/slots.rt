@@ -1,13 +1,8 @@
-ghost use Rattle.std.specs.Prelude.{◌≡◌, ◌≤◌, ◌<◌, ◌+◌, ◌++◌, [], IsTrue, Option, IfOk, IfErr, OnOk, OnErr, length, if◌then◌else◌};
+ghost use Rattle.std.specs.Prelude.{◌≡◌, ◌≤◌, ◌<◌, ◌+◌, length};
 ghost use Rattle.std.specs.List.{All};
 ghost use Rattle.ob_base.specs.Schemas.{width};
 ghost use Rattle.ob_vault.specs.Rows.{Wide};
-ghost use Rattle.ob_row.specs.Rows.{Row};
-ghost use Rattle.ob_row.specs.Slots.{Slots};
-ghost use Rattle.ob_row.specs.Spelling.{Begins};
-ghost use Rattle.ob_flat.specs.Slots.{Spelt, AreSlots};
-ghost use Rattle.ob_emit.specs.Emitting.{slot_shown, slots_shown, HaltCause, halt_error};
-ghost use Rattle.ob_base.specs.Events.{row_events, IsEmitted, IsHalted};
+ghost use Rattle.ob_emit.specs.Emitting.{EmitsSlot, EmitsRows, halt_error};
 
 use crate::row::show_cells;
 use ob_base::{Emit, EmitErr, Shown};
@@ -49,12 +44,8 @@ fn emit_slot<E: Emit>(
     requires few { length cols.now ≤ length cells.old }
     requires within { All (λ i. i < length flat.now.schema) cols.now }
     ensures size { length cells.new ≡ length cells.old }
-    ensures below { IfOk result (λ some. IsTrue some → i < flat.now.capacity) }
-    ensures ok { IfOk result (λ some. IsEmitted E.grew [] (λ (s : (slot : Option Row) × Begins flat.now.schema slot row.now). slot_shown flat.now.capacity cols.now i s.0) 0 (if some then 1 else 0) out.old out.new) }
-    ensures err { OnErr result (IsHalted E.grew E.cut (λ (s : (slot : Option Row) × Begins flat.now.schema slot row.now). row_events (slot_shown flat.now.capacity cols.now i s.0)) out.old out.new) }
-    ensures read { OnOk result ((slot : Option Row) × Begins flat.now.schema slot row.now) }
-    ensures malformed { IfErr result (λ halt. halt ≡ Halt.Malformed → (slot : Option Row) → Begins flat.now.schema slot row.now → ⊥) }
-    ensures cause { HaltCause result (E.faults out.old) (E.faults out.new) }
+    ensures emits { EmitsSlot E.grew E.cut E.faults flat.now cols.now i row.now result
+        out.old out.new }
 {
     match read(&flat.schema, row) {
         Ok(real) => {
@@ -89,12 +80,8 @@ pub(crate) fn emit_rows<E: Emit>(
     requires few { length cols.now ≤ length cells.old }
     requires within { All (λ i. i < length flat.now.schema) cols.now }
     ensures size { length cells.new ≡ length cells.old }
-    ensures most { IfOk result (λ k. (k ≤ first + length rows.now) × (k ≤ flat.now.capacity)) }
-    ensures ok { IfOk result (λ k. IsEmitted E.grew [] (λ (s : (slots : Slots) × Spelt flat.now.schema slots rows.now). slots_shown flat.now.capacity cols.now first s.0) seen k out.old out.new) }
-    ensures err { OnErr result (IsHalted E.grew E.cut (λ (s : (slots : Slots) × Spelt flat.now.schema slots rows.now). row_events (slots_shown flat.now.capacity cols.now first s.0)) out.old out.new) }
-    ensures read { OnOk result (AreSlots flat.now.schema rows.now) }
-    ensures malformed { IfErr result (λ halt. halt ≡ Halt.Malformed → (slots : Slots) → Spelt flat.now.schema slots rows.now → ⊥) }
-    ensures cause { HaltCause result (E.faults out.old) (E.faults out.new) }
+    ensures emits { EmitsRows E.grew E.cut E.faults flat.now cols.now first seen rows.now result
+        out.old out.new }
 {
     let mut n = seen;
     for z in 0..rows.len() {

@@ -1,15 +1,12 @@
-ghost use Rattle.std.specs.Prelude.{◌≡◌, ◌≤◌, ◌<◌, ◌*◌, ◌⊎◌, max, ℕ, Bool, List, None, IfErr, OnOk, length};
-ghost use Rattle.ob_base.specs.Numbers.{blocks_for};
+ghost use Rattle.std.specs.Prelude.{◌≡◌, max, length};
 ghost use Rattle.ob_base.specs.Schemas.{width};
-ghost use Rattle.ob_vault.specs.Tied.{Ready};
-ghost use Rattle.ob_vault.specs.Calls.{Went, Seals, none};
-ghost use Rattle.ob_vault.specs.Places.{at, RowsFit};
+ghost use Rattle.ob_vault.specs.Places.{at};
 ghost use Rattle.ob_vault.specs.Rows.{SameSizes};
-ghost use Rattle.ob_script.specs.Parts.{count_part};
 ghost use Rattle.ob_blocks.specs.Idle.{IsIdle};
-ghost use Rattle.ob_row.specs.Slots.{Slots};
-ghost use Rattle.ob_flat.specs.Flats.{FitsRegion, IsWritten, Represents};
-ghost use Rattle.ob_flat.specs.Passes.{PassCut};
+ghost use Rattle.ob_flat.specs.Flats.{FitsRegion, IsWritten};
+ghost use Rattle.ob_flat.specs.Words.{HasSpare, FitBlock, blocks_of};
+ghost use Rattle.ob_flat.specs.Scans.{MayScan};
+ghost use Rattle.ob_emit.specs.Emitting.{Walks};
 
 use ob_flat::{Flat, OpErr, Visit, scan_blocks};
 use ob_room::{ClearRow, Room};
@@ -40,18 +37,14 @@ fn walk_blocks<S: BlockStore, R: Revisions>(
     rows: &mut [ClearRow],
     flat: &Flat,
 ) -> Result<(), OpErr>
-    requires ready { Ready (at R.state vault.old (S.state store.old)) }
-    requires spare { blocks_for (length rows.old) flat.now.capacity ≤ (S.state store.old).spare }
-    requires flat { IsWritten (length rows.old) flat.now (at R.state vault.old (S.state store.old)) }
-    requires size { FitsRegion (length rows.old) flat.now.schema flat.now.capacity }
-    requires pack { (1 ≤ length rows.old) × (length rows.old ≤ 16) }
-    requires fit { RowsFit rows.old (length rows.old * width flat.now.schema) }
+    requires spare { HasSpare (blocks_of (length rows.old) flat.now)
+        (at R.state vault.old (S.state store.old)) }
+    requires table { MayScan (length rows.old) flat.now
+        (at R.state vault.old (S.state store.old)) }
+    requires fit { FitBlock flat.now.schema rows.old }
     ensures rows { SameSizes rows.old rows.new }
-    ensures ok { OnOk result (Went (count_part flat.now.region (blocks_for (length rows.old) flat.now.capacity)) none (at R.state vault.old (S.state store.old)) (at R.state vault.new (S.state store.new))) }
-    ensures err { IfErr result (λ e. PassCut e (count_part flat.now.region (blocks_for (length rows.old) flat.now.capacity)) none (at R.state vault.old (S.state store.old)) (at R.state vault.new (S.state store.new))) }
-    ensures never { IfErr result (λ e. (e ≡ OpErr.Failed) ⊎ ((place : ℕ) × (place < blocks_for (length rows.old) flat.now.capacity) × (e ≡ OpErr.Tampered flat.now.region place))) }
-    ensures seals { (good : ℕ → List ℕ → Bool) → Seals good (at R.state vault.old (S.state store.old)) (at R.state vault.new (S.state store.new)) }
-    ensures told { (slots : Slots) → Represents (length rows.old) flat.now slots (at R.state vault.old (S.state store.old)) → (S.state store.new).lie ≡ None → IfErr result (λ e. e ≡ OpErr.Failed) }
+    ensures walks { Walks (length rows.old) flat.now result
+        (at R.state vault.old (S.state store.old)) (at R.state vault.new (S.state store.new)) }
 {
     scan_blocks(store, vault, rows, flat, &mut Look)
 }
@@ -65,18 +58,14 @@ pub fn walk<S: BlockStore, R: Revisions>(
     room: &mut Room,
     flat: &Flat,
 ) -> Result<(), OpErr>
-    requires ready { Ready (at R.state vault.old (S.state store.old)) }
-    requires spare { blocks_for room.old.pack flat.now.capacity ≤ (S.state store.old).spare }
+    requires spare { HasSpare (blocks_of room.old.pack flat.now)
+        (at R.state vault.old (S.state store.old)) }
     requires flat { IsWritten room.old.pack flat.now (at R.state vault.old (S.state store.old)) }
     requires size { FitsRegion room.old.pack flat.now.schema flat.now.capacity }
     requires room { IsIdle (width flat.now.schema) room.old }
-    ensures ok { OnOk result (Went (count_part flat.now.region (blocks_for room.old.pack flat.now.capacity)) none (at R.state vault.old (S.state store.old)) (at R.state vault.new (S.state store.new))) }
-    ensures err { IfErr result (λ e. PassCut e (count_part flat.now.region (blocks_for room.old.pack flat.now.capacity)) none (at R.state vault.old (S.state store.old)) (at R.state vault.new (S.state store.new))) }
-    ensures never { IfErr result (λ e. (e ≡ OpErr.Failed) ⊎ ((place : ℕ) × (place < blocks_for room.old.pack flat.now.capacity) × (e ≡ OpErr.Tampered flat.now.region place))) }
-    ensures seals { (good : ℕ → List ℕ → Bool) → Seals good (at R.state vault.old (S.state store.old)) (at R.state vault.new (S.state store.new)) }
-    ensures flat { IsWritten room.old.pack flat.now (at R.state vault.new (S.state store.new)) }
     ensures room { room.new ≡ record room.old { high = max room.old.high room.old.pack } }
-    ensures told { (slots : Slots) → Represents room.old.pack flat.now slots (at R.state vault.old (S.state store.old)) → (S.state store.new).lie ≡ None → IfErr result (λ e. e ≡ OpErr.Failed) }
+    ensures walks { Walks room.old.pack flat.now result
+        (at R.state vault.old (S.state store.old)) (at R.state vault.new (S.state store.new)) }
 {
     let pack = room.pack();
     let rows = room.open(pack);

@@ -3,6 +3,7 @@ pub mod Flats
 pub mod Passes
 pub mod Counts
 pub mod Words
+pub mod Emission
 pub mod Scans
 pub mod Counted
 pub mod Swaps

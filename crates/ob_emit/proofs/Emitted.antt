@@ -1,0 +1,81 @@
+-- A table's rows behind its header.
+use Rattle.std.proofs.Common.{◌≡◌, ◌⊎◌, inl, inr, ℕ, List, [], ◌++◌, Result, Ok, Err, refl, ◌∙◌, ap, subst}
+use Rattle.std.proofs.lemmas.List.{append-nil}
+use Rattle.ob_base.specs.declared.shown.Shown.{Shown}
+use Rattle.ob_base.specs.Events.{Event, row_events, Leads, IsHalted}
+use Rattle.ob_base.proofs.EventLemmas.{emitted_head, halted_join}
+use Rattle.ob_script.specs.Parts.{count_part}
+use Rattle.ob_vault.specs.State.{World}
+use Rattle.ob_vault.specs.Tied.{Ready}
+use Rattle.ob_vault.specs.Calls.{none}
+use Rattle.ob_vault.proofs.Runs.{seals_none}
+use Rattle.ob_flat.specs.declared.flat.Flat.{Flat}
+use Rattle.ob_flat.specs.declared.fault.OpErr.{OpErr}
+use Rattle.ob_flat.specs.declared.fault.OpErr.TheVariants.{Sink, NoMemory}
+use Rattle.ob_flat.specs.Flats.{IsWritten}
+use Rattle.ob_flat.specs.Passes.{PassCause, SinkCause}
+use Rattle.ob_flat.specs.Words.{blocks_of}
+use Rattle.ob_emit.specs.Emitting.{Emits, table_shown}
+use Rattle.ob_emit.proofs.Halting.{cut_none, emitted_under}
+
+-- the output of rows that were emitted in full may also have been cut
+pub halted_whole : {E A : Type 0} {grew cut : E → E → List Event → Type 0} {all : A → List Event} {a b : E} → IsHalted grew grew all a b → IsHalted grew cut all a b
+halted_whole {E} {A} {grew} {cut} {all} {a} {b} is = record { events = is.events; ends = inl (whole is.ends); told = is.told }
+  where
+    whole : {P : Type 0} → P ⊎ P → P
+    whole (inl x) = x
+    whole (inr x) = x
+
+joined : {E A : Type 0} {grew to : E → E → List Event → Type 0} {a b c : E} (head : List Event) (shown : A → List (List Shown)) → Leads grew grew a b head
+    → IsHalted grew to (λ s. row_events (shown s)) b c → IsHalted grew to (λ s. head ++ row_events (shown s)) a c
+joined {E} {A} {grew} {to} head shown leads rest =
+    halted_join grew to head (λ (s : ℕ). []) (λ s. row_events (shown s)) (λ s. head ++ row_events (shown s)) 0 0 _ _ _
+    (emitted_head grew head _ _ leads) rest
+    (λ s.
+    let events = row_events (shown s) in
+    (0, s, [], ap (λ (l : List Event). l ++ (events ++ [])) (append-nil head) ∙ ap (λ (l : List Event). head ++ l) (append-nil events)))
+
+module _ {E : Type 0} {grew cut : E → E → List Event → Type 0} {faults : E → ℕ} {pack : ℕ} {flat : Flat} {cols : List ℕ} (head : List Event) {a b : E} where
+  module _ {old new : World} {c : E} (leads : Leads grew grew a b head) (same : faults b ≡ faults a) where
+    -- the header was emitted before
+    pub emits_under : (r : Result ℕ OpErr) → Emits grew cut faults pack flat cols [] r old new b c → Emits grew cut faults pack flat cols head r old new a c
+    emits_under (Ok k) is = record {
+      ran = is.ran;
+      never = tt;
+      seals = is.seals;
+      source = is.source;
+      most = is.most;
+      emitted = emitted_under grew head (λ s. table_shown cols s.slots) _ _ _ _ _ leads is.emitted refl;
+      halted = tt;
+      failed = λ wrong. absurd (cc wrong);
+      cause = is.cause ∙ same;
+      told = λ slots is nolie. tt;
+    }
+    emits_under (Err e) is = record {
+      ran = is.ran;
+      never = is.never;
+      seals = is.seals;
+      source = is.source;
+      most = tt;
+      emitted = tt;
+      halted = joined head (λ s. table_shown cols s.slots) leads is.halted;
+      failed = λ failed. joined head (λ s. table_shown cols s.slots) leads (is.failed (cc failed));
+      cause = subst (λ (n : ℕ). SinkCause {T = ℕ} (Err e) n (faults c)) same is.cause;
+      told = is.told;
+    }
+
+  -- the output ends within the header
+  pub emits_headless : {w : World} (e : OpErr) → Ready w → IsWritten pack flat w → (e ≡ Sink) ⊎ (e ≡ NoMemory) → PassCause e w w → Leads grew cut a b head → SinkCause {T = ℕ} (Err e) (faults a) (faults b)
+      → Emits grew cut faults pack flat cols head (Err e) w w a b
+  emits_headless {w} e ready written either why leads cause = record {
+    ran = record { ok = tt; err = cut_none e none (count_part flat.region (blocks_of pack flat)) w ready why };
+    never = elim either [ inl sink ↦ inr (inl sink) | inr memory ↦ inr (inr (inl memory)) ];
+    seals = record { seals = λ good. seals_none good _ };
+    source = written;
+    most = tt;
+    emitted = tt;
+    halted = record { events = head; ends = inr leads; told = λ s. (row_events (table_shown cols s.slots), refl) };
+    failed = λ failed. elim either [ inl sink ↦ absurd (cc (failed, sink)) | inr memory ↦ absurd (cc (failed, memory)) ];
+    cause = cause;
+    told = λ slots is nolie. inr either;
+  }
