@@ -13,9 +13,10 @@ use Rattle.ob_vault.specs.Calls.{Went}
 use Rattle.ob_vault.proofs.Runs.{went_none}
 use Rattle.ob_flat.specs.declared.flat.Flat.{Flat}
 use Rattle.ob_flat.specs.declared.fault.OpErr.{OpErr}
-use Rattle.ob_flat.specs.declared.fault.OpErr.TheVariants.{Failed, Sink, NoMemory}
+use Rattle.ob_flat.specs.declared.fault.OpErr.TheVariants.{Failed, Tampered, Sink, NoMemory}
 use Rattle.ob_flat.specs.Passes.{PassCause, PassCut, SinkCause}
-use Rattle.ob_flat.specs.Words.{TamperedIn, blocks_of}
+use Rattle.ob_flat.specs.Words.{TamperedAt, TamperedIn, blocks_of}
+use Rattle.ob_flat.proofs.WordLemmas.{tampered_in}
 use Rattle.ob_flat.proofs.Runs.{pass_malformed}
 use Rattle.ob_emit.specs.declared.slots.Halt.{Halt}
 use Rattle.ob_emit.specs.declared.slots.Halt.TheVariants as Halts
@@ -37,10 +38,11 @@ sink_halted T U q p (Halts.Emit EmitErrs.NoMemory) old mid new same cause = caus
 
 -- each error of a halt
 pub halt_never : (halt : Halt) (pack : ℕ) (flat : Flat) (p : ℕ) (w : World) → p < blocks_of pack flat
+    → (halt ≡ Halts.Malformed → TamperedAt pack flat p (Tampered flat.region p) w)
     → (halt_error halt flat.region p ≡ Failed) ⊎ (halt_error halt flat.region p ≡ Sink) ⊎ (halt_error halt flat.region p ≡ NoMemory) ⊎ TamperedIn pack flat (halt_error halt flat.region p) w
-halt_never Halts.Malformed pack flat p w below = inr (inr (inr (record { place = p; below = below; is = refl })))
-halt_never (Halts.Emit EmitErrs.Failed) pack flat p w below = inr (inl refl)
-halt_never (Halts.Emit EmitErrs.NoMemory) pack flat p w below = inr (inr (inl refl))
+halt_never Halts.Malformed pack flat p w below bad = inr (inr (inr (tampered_in below (bad refl))))
+halt_never (Halts.Emit EmitErrs.Failed) pack flat p w below bad = inr (inl refl)
+halt_never (Halts.Emit EmitErrs.NoMemory) pack flat p w below bad = inr (inr (inl refl))
 
 pub halt_told : (halt : Halt) (q p : ℕ) → (halt ≡ Halts.Malformed → ⊥) → (halt_error halt q p ≡ Failed) ⊎ (halt_error halt q p ≡ Sink) ⊎ (halt_error halt q p ≡ NoMemory)
 halt_told Halts.Malformed q p well = absurd (well refl)

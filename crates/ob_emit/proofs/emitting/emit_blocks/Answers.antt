@@ -15,6 +15,7 @@ use Rattle.ob_flat.specs.Passes.{pass_error}
 use Rattle.ob_flat.specs.Emission.{SlotsToHalt}
 use Rattle.ob_flat.proofs.Rooms.{same_rows}
 use Rattle.ob_flat.proofs.Rows.{wide_fit, wide_same}
+use Rattle.ob_flat.proofs.WordLemmas.{tampered_in, get_refused, rows_malformed}
 use Rattle.ob_flat.proofs.Runs.{pass_of, pass_each}
 use Rattle.ob_flat.proofs.Tables.{written_lasts, reads, represents_lasts, block_long, got, whole_size, index_in}
 use Rattle.ob_emit.specs.Emitting.{slots_shown, table_shown}
@@ -73,7 +74,7 @@ returns-in_err-get-clause-emits g c =
     let u = c.loop-u.u in
     let below : u < blocks_of pack flat = inside c.div_ceil-blocks.ensures c.loop-u-test.true in
     let before = c.loop-u.invariant in
-    let cut = c.in_err-get.ensures.err in
+    let cut = c.in_err-get.ensures.gets.err in
     let ended = pass_each none (read_at flat.region) _ _ _ _ (blocks_of pack flat) u below before.went (pass_of _ _ _ _ _ cut) in
     let grown = halted_after g.E.Emit.grew g.E.Emit.grew [] (λ s. slots_shown flat.capacity cols 0 (take (u * pack) (whole_blocks pack flat.capacity s.slots))) (λ (s : SlotsToHalt pack flat _ _). row_events (table_shown cols s.slots)) 0 c.loop-u.k _ _ before.emitted
     (λ s.
@@ -85,11 +86,8 @@ returns-in_err-get-clause-emits g c =
     )) in
     rw (p.1, p.2) (record {
       ran = record { ok = tt; err = ended };
-      never = elim c.in_err-get.ensures.never [
-        | inl e ↦ inl (ap pass_error e)
-        | inr e ↦ inr (inr (inr (record { place = u; below = below; is = ap pass_error e })))
-      ];
-      seals = record { seals = λ good. seals_join good _ _ _ before.went.lasts.later (before.seals good) (c.get.ensures.seals good) };
+      never = elim (get_refused pack flat u _ cut c.in_err-get.ensures.gets.never) [ inl failed ↦ inl failed | inr there ↦ inr (inr (inr (tampered_in below there))) ];
+      seals = record { seals = λ good. seals_join good _ _ _ before.went.lasts.later (before.seals good) (c.get.ensures.gets.seals good) };
       source = written_lasts pack flat none _ _ ended.lasts (λ s. s) c.requires.table.written;
       most = tt;
       emitted = tt;
@@ -99,7 +97,7 @@ returns-in_err-get-clause-emits g c =
       told = λ slots is nolie.
           let now = represents_lasts pack flat none _ _ before.went.lasts (λ x. x) slots is in
           let shape = table_region c.requires.table.written.order pack flat.schema flat.capacity in
-          inl (ap pass_error (c.in_err-get.ensures.told _ shape (lives_went _ _ _ _ _ _ before.went (λ x. x) c.requires.table.written.lives) (block_long pack flat slots _ is c.requires.table.some u below) (now.holds u below) nolie));
+          inl (ap pass_error (c.in_err-get.ensures.gets.told _ shape (lives_went _ _ _ _ _ _ before.went (λ x. x) c.requires.table.written.lives) (block_long pack flat slots _ is c.requires.table.some u below) (now.holds u below) nolie));
     })
 
 pub overflow_mul-u : goal.overflow_mul-u
@@ -136,16 +134,18 @@ returns-in-Err-clause-emits g c =
     let below : u < blocks_of pack flat = inside c.div_ceil-blocks.ensures c.loop-u-test.true in
     let before = c.loop-u.invariant in
     let went = before.went in
-    let read = c.in_ok-get.ensures in
+    let read = c.in_ok-get.ensures.gets in
     let block_of = c.in-Err.ensures.emits in
     let same = fit_trans _ _ _ before.same c.get.ensures.rows in
     let wide = wide_same (width flat.schema) _ _ same (wide_fit (width flat.schema) c.args.rows.now c.requires.fit) in
     let shape = table_region c.requires.table.written.order pack flat.schema flat.capacity in
+    let lives = lives_went _ _ _ _ flat.region shape went (λ x. x) c.requires.table.written.lives in
     let ended = pass_each none (read_at flat.region) _ _ _ _ (blocks_of pack flat) u below went (pass_halted _ _ _ flat.region u halt read.ok) in
     rw c.error.ensures (record {
       ran = record { ok = tt; err = ended };
-      never = halt_never halt pack flat u _ below;
-      seals = record { seals = λ good. seals_join good _ _ _ went.lasts.later (before.seals good) (c.get.ensures.seals good) };
+      never = halt_never halt pack flat u _ below (λ bad. rows_malformed (length c.loop-u.rows) c.get.new.rows c.requires.table.some before.same.count same.count wide (read.opened shape lives)
+          (λ slots is. block_of.malformed bad (record { slots = slots; spelt = is })));
+      seals = record { seals = λ good. seals_join good _ _ _ went.lasts.later (before.seals good) (c.get.ensures.gets.seals good) };
       source = written_lasts pack flat none _ _ ended.lasts (λ s. s) c.requires.table.written;
       most = tt;
       emitted = tt;
@@ -158,7 +158,7 @@ returns-in-Err-clause-emits g c =
           let nolie = none_before none none _ _ _ _ (went_each none (read_at flat.region) _ _ _ u went read.ok) (went_none none _ read.ok.lasts.ready).lasts s.nolie s.unfit in
           let gone = none_went _ _ _ _ read.ok nolie in
           let now = represents_lasts pack flat none _ _ went.lasts (λ x. x) slots is in
-          let bytes = read.told _ shape (lives_went _ _ _ _ _ _ went (λ x. x) c.requires.table.written.lives) (block_long pack flat slots _ is c.requires.table.some u below) (now.holds u below) nolie in
+          let bytes = read.told _ shape lives (block_long pack flat slots _ is c.requires.table.some u below) (now.holds u below) nolie in
           let spelt = got pack flat slots _ is c.requires.table.some u (length c.loop-u.rows) c.get.new.rows below before.same.count same.count wide bytes in
           let first = length-before pack whole u (blocks_of pack flat) (omega (arith, below)) (whole_size pack flat slots _ is c.requires.table.some) in
           let rest = shown-rest flat.capacity cols 0 ((u + 1) * pack) whole in (
@@ -172,7 +172,7 @@ returns-in-Err-clause-emits g c =
       cause = sink_halted ℕ ℕ flat.region u halt _ _ _ before.faults block_of.cause;
       told = λ slots is nolie.
           let now = represents_lasts pack flat none _ _ went.lasts (λ x. x) slots is in
-          let bytes = read.told _ shape (lives_went _ _ _ _ _ _ went (λ x. x) c.requires.table.written.lives) (block_long pack flat slots _ is c.requires.table.some u below) (now.holds u below) nolie in
+          let bytes = read.told _ shape lives (block_long pack flat slots _ is c.requires.table.some u below) (now.holds u below) nolie in
           let spelt = got pack flat slots _ is c.requires.table.some u (length c.loop-u.rows) c.get.new.rows below before.same.count same.count wide bytes in
           halt_told halt flat.region u (λ bad. block_of.malformed bad (record { slots = block_at pack (whole_blocks pack flat.capacity slots) u; spelt = spelt }));
     })
@@ -189,7 +189,7 @@ loop-u-preserved g c =
     let below : u < blocks_of pack flat = inside c.div_ceil-blocks.ensures c.loop-u-test.true in
     let before = c.loop-u.invariant in
     let went = before.went in
-    let read = c.in_ok-get.ensures in
+    let read = c.in_ok-get.ensures.gets in
     let block_of = c.in-Ok.ensures.emits in
     let same = fit_trans _ _ _ before.same c.get.ensures.rows in
     let wide = wide_same (width flat.schema) _ _ same (wide_fit (width flat.schema) c.args.rows.now c.requires.fit) in
@@ -197,7 +197,7 @@ loop-u-preserved g c =
     record {
       cells = c.emit_rows.ensures.size ∙ before.cells;
       went = went_each none (read_at flat.region) _ _ _ u went read.ok;
-      seals = λ good. seals_join good _ _ _ went.lasts.later (before.seals good) (c.get.ensures.seals good);
+      seals = λ good. seals_join good _ _ _ went.lasts.later (before.seals good) (c.get.ensures.gets.seals good);
       same = same;
       most = (more u pack c.in-Ok.n (length c.get.new.rows) same.count block_of.most.0, block_of.most.1);
       emitted = emitted_join g.E.Emit.grew [] (λ s. slots_shown flat.capacity cols 0 (take (u * pack) (whole_blocks pack flat.capacity s.slots))) (λ s. slots_shown flat.capacity cols (u * pack) s.slots) (λ s. slots_shown flat.capacity cols 0 (take ((u + 1) * pack) (whole_blocks pack flat.capacity s.slots))) 0 c.loop-u.k c.loop-u.k c.in-Ok.n c.in-Ok.n _ _ _ before.emitted block_of.emitted (omega arith)
