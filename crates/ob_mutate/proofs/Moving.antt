@@ -30,7 +30,7 @@ use Rattle.ob_mutate.specs.Mutating.{FillsFresh, IsDropped, Mutates, copy_script
 pub places : (pack : ℕ) (flat : Flat) (to : ℕ) → length (place_script pack flat to) ≤ 3 * blocks_of pack flat
 places pack flat to = omega (arith, length-append (count_part flat.region (blocks_of pack flat)) (copy_script pack flat to), reads flat.region (blocks_of pack flat), copies flat.region to (blocks_of pack flat))
 
-pub four_parts : (pack : ℕ) (flat : Flat) (to : ℕ) → make_script pack (moved flat to) ++ (place_script pack flat to ++ discard_at flat.region) ≡ insert_script pack flat to
+four_parts : (pack : ℕ) (flat : Flat) (to : ℕ) → make_script pack (moved flat to) ++ (place_script pack flat to ++ discard_at flat.region) ≡ insert_script pack flat to
 four_parts pack flat to = ap (λ (l : List Access). make_script pack (moved flat to) ++ l) (append_assoc (count_part flat.region (blocks_of pack flat)) (copy_script pack flat to) (discard_at flat.region))
 
 -- a pass over its blocks filled a fresh region
@@ -155,3 +155,7 @@ rewrites_as {T} {pack} {flat} {left} {script} {answer} {other} {after} {later} {
   holds = is.holds;
   told = λ honest slots here. match_ok _ r (λ x both. (both.0 ∙ words slots, subst (λ (l : Slots). Represents pack left l new) (slots_are slots) both.1)) (is.told honest slots here);
 }
+
+pub as_insert : {T : Type 0} {pack : ℕ} {flat left : Flat} (to : ℕ) {answer : Slots → T} {after : Slots → Slots} {r : Result T OpErr} {old new : World}
+    → Mutates pack flat left (make_script pack (moved flat to) ++ (place_script pack flat to ++ discard_at flat.region)) answer after r old new → Mutates pack flat left (insert_script pack flat to) answer after r old new
+as_insert {T} {pack} {flat} {left} to {answer} {after} {r} {old} {new} is = subst (λ (l : List Access). Mutates pack flat left l answer after r old new) (four_parts pack flat to) is

@@ -7,7 +7,7 @@ use Rattle.ob_flat.proofs.Rooms.{same_rows}
 use Rattle.ob_flat.proofs.Tables.{fits_sized}
 use Rattle.ob_mutate.specs.Inserting.{insert_answer}
 use Rattle.ob_mutate.specs.Mutating.{Mutates, place_script, inserted_slots}
-use Rattle.ob_mutate.proofs.Moving.{mutates_none, mutates_ok, mutates_err, fill_asks, drop_spare, table_stands, places, four_parts}
+use Rattle.ob_mutate.proofs.Moving.{mutates_none, mutates_ok, mutates_err, fill_asks, drop_spare, table_stands, places, as_insert}
 use Rattle.ob_mutate.proofs.inserting.insert_rows.Goals as goal
 
 pub make_table-requires : goal.make_table-requires
@@ -32,7 +32,7 @@ returns-in_err-fresh-clause-inserts g c =
     let cells = c.args.cells.now in
     let next = c.args.vault.now.next in
     let all = mutates_none pack flat (place_script pack flat next) (insert_answer flat.schema cells) (inserted_slots flat cells) _ c.requires.starts.ready c.requires.table _ _ c.in_err-fresh.ensures.makes in
-    rw (p.1, p.2) (subst (λ (l : List Access). Mutates pack flat flat l (insert_answer flat.schema cells) (inserted_slots flat cells) _ _ _) (four_parts pack flat next) all)
+    rw (p.1, p.2) (as_insert next all)
 
 pub insert_blocks-requires : goal.insert_blocks-requires
 insert_blocks-requires g c =
@@ -79,7 +79,7 @@ returns-in-Ok-clause-inserts g c =
     let makes = c.in_ok-fresh.ensures.makes in
     let fills = rw makes.number at c.in-Ok.ensures.fills in
     let all = mutates_ok pack flat (place_script pack flat next) (insert_answer flat.schema cells) (inserted_slots flat cells) _ c.requires.starts.ready c.requires.table _ makes _ _ _ fills c.move_table.ensures.dropped in
-    rw (c.move_table.ensures.flat, makes.number) (subst (λ (l : List Access). Mutates pack flat (moved flat next) l (insert_answer flat.schema cells) (inserted_slots flat cells) _ _ _) (four_parts pack flat next) all)
+    rw (c.move_table.ensures.flat, makes.number) (as_insert next all)
 
 pub returns-in-Err-clause-rows : goal.returns-in-Err-clause-rows
 returns-in-Err-clause-rows g c = c.insert_blocks.ensures.rows
@@ -95,4 +95,4 @@ returns-in-Err-clause-inserts g c =
     let forgot = rw makes.number at c.forget.ensures.went _ fills.ran.err.lasts.ready in
     let gone = rw makes.number at c.forget.ensures.gone in
     let all = mutates_err pack flat (place_script pack flat next) (insert_answer flat.schema cells) (inserted_slots flat cells) _ c.requires.starts.ready c.requires.table _ makes _ _ _ fills forgot refl (c.forget.ensures.seals _) gone in
-    subst (λ (l : List Access). Mutates pack flat flat l (insert_answer flat.schema cells) (inserted_slots flat cells) _ _ _) (four_parts pack flat next) all
+    as_insert next all
