@@ -1,8 +1,8 @@
-use Rattle.std.proofs.Common.{inl, length, refl, ◌∙◌, ap, arith}
+use Rattle.std.proofs.Common.{[], ◌≡◌, inl, ℕ, None, length, refl, ◌∙◌, ap, subst, arith}
 use Rattle.std.proofs.lemmas.Result.{err_from_is_err_and}
 use Rattle.ob_base.specs.Accesses.{write_at}
 use Rattle.ob_base.specs.Lists.{each}
-use Rattle.ob_vault.specs.Calls.{one}
+use Rattle.ob_vault.specs.Calls.{Went, one}
 use Rattle.ob_vault.specs.Places.{at}
 use Rattle.ob_vault.proofs.Runs.{tells_went, holds_rows, went_join}
 use Rattle.ob_vault.proofs.WordLemmas.{asks_start, asks_after}
@@ -89,11 +89,13 @@ returns-in-Err g c =
     let flat = table_of c.args.schema.now c.args.capacity c.args.vault.now.next in
     let makes = c.in_ok-region.ensures.makes in
     let fills = rw (makes.number, c.region_of_table.ensures) at c.in-Err.ensures.fills in
-    let forgot = rw makes.number at (c.forget.ensures.forgets (g.S.BlockStore.state c.fill_blocks.new.store)).went fills.err.lasts.ready in
-    let gone = rw makes.number at (c.forget.ensures.forgets (g.S.BlockStore.state c.fill_blocks.new.store)).gone in
+    let forgets = c.forget.ensures.forgets (g.S.BlockStore.state c.fill_blocks.new.store) in
     let failed = c.from.ensures ∙ ap pass_error fills.never in
     let mid = at g.R.Revisions.state c.make_table.new.vault (g.S.BlockStore.state c.make_table.new.store) in
     let late = at g.R.Revisions.state c.fill_blocks.new.vault (g.S.BlockStore.state c.fill_blocks.new.store) in
+    let new = at g.R.Revisions.state c.forget.new.self (g.S.BlockStore.state c.fill_blocks.new.store) in
+    let forgot = subst (λ (q : ℕ). Went [] (one q) late new) makes.number (forgets.went fills.err.lasts.ready) in
+    let gone = subst (λ (q : ℕ). new.vault.revs.live q ≡ None) makes.number forgets.gone in
     let sealed : SealsTable pack flat.schema flat.region mid late = record { seals = λ good fine. fills.seals good (accepted good pack flat.region flat.schema rows c.requires.pack.0 refl fine (record { slots = none_of pack; spelt = c.requires.dummies })) } in
     record {
       creates = record {
@@ -107,7 +109,7 @@ returns-in-Err g c =
         lives = tt;
         table = tt;
         gone = gone;
-        seals = seals_after makes.ran.ok.lasts (seals_any makes.seals.seals) (seals_after fills.err.lasts sealed (seals_any (c.forget.ensures.forgets (g.S.BlockStore.state c.fill_blocks.new.store)).seals));
+        seals = seals_after makes.ran.ok.lasts (seals_any makes.seals.seals) (seals_after fills.err.lasts sealed (seals_any forgets.seals));
         told = tt;
       };
     }

@@ -48,7 +48,7 @@ returns-in_err-get-clause-reworks g c =
       seals = seals_any c.get.ensures.gets.seals;
       suits = tt;
       turn = tt;
-      rows = tt;
+      holds = tt;
       told = λ honest slots is. ap pass_error (read.told _ (table_region table.order pack flat.schema flat.capacity) table.turn.lives (slots_long pack flat slots _ is table.some x table.within) (is.holds x table.within) honest.nolie);
     })
 
@@ -93,7 +93,7 @@ returns-in-Err-clause-reworks g c =
       seals = seals_any c.get.ensures.gets.seals;
       suits = tt;
       turn = tt;
-      rows = tt;
+      holds = tt;
       told = λ honest slots is.
           let bytes = read.told _ shape table.turn.lives (slots_long pack flat slots _ is table.some x table.within) (is.holds x table.within) honest.nolie in
           absurd (c.in-Err.ensures.told _ (slots_got pack flat slots _ is table.some x pack c.get.new.rows table.within refl c.get.ensures.rows.count wide bytes));
@@ -139,7 +139,7 @@ returns-in_err-put-clause-reworks g c =
       seals = seals_after read.lasts (seals_any c.get.ensures.gets.seals) sealed;
       suits = tt;
       turn = tt;
-      rows = tt;
+      holds = tt;
       told = λ honest slots is. ap pass_error put.never;
     })
 
@@ -181,7 +181,7 @@ returns-clause-reworks g c =
               ];
             };
       };
-      rows = λ tells is.
+      holds = λ tells is.
           let was = rows_lasts pack flat none _ _ read.lasts (λ s. s) is in
           let here = block_put pack flat.schema c.rework.new.rows q x new table.some same.count c.in-Ok.ensures.spells (put.told (tells_went _ _ _ _ read tells) shape lives) in
           record {

@@ -82,18 +82,18 @@ returns-in_err-get-clause-rows g c = fit_trans _ _ _ c.loop-u.invariant.same c.g
 pub returns-in_err-get-clause-err : goal.returns-in_err-get-clause-err
 returns-in_err-get-clause-err g c =
     let p = err_from_is_err_and c.from_residual.result c.from_residual.ensures.1 in
-    rw (p.1, p.2) (pass_each none (read_at c.args.flat.now.region) _ _ _ _ (blocks_for (length c.args.rows.now) c.args.flat.now.capacity) c.loop-u.u (subst (λ (n : ℕ). c.loop-u.u < n) c.div_ceil-blocks.ensures c.loop-u-test.true) c.loop-u.invariant.went (pass_of _ _ _ _ _ c.in_err-get.ensures.err))
+    rw (p.1, p.2) (pass_each none (read_at c.args.flat.now.region) _ _ _ _ (blocks_for (length c.args.rows.now) c.args.flat.now.capacity) c.loop-u.u (subst (λ (n : ℕ). c.loop-u.u < n) c.div_ceil-blocks.ensures c.loop-u-test.true) c.loop-u.invariant.went (pass_of _ _ _ _ _ c.in_err-get.ensures.gets.err))
 
 pub returns-in_err-get-clause-never : goal.returns-in_err-get-clause-never
 returns-in_err-get-clause-never g c =
     let p = err_from_is_err_and c.from_residual.result c.from_residual.ensures.1 in
-    rw (p.1, p.2) (elim c.in_err-get.ensures.never [
+    rw (p.1, p.2) (elim c.in_err-get.ensures.gets.never [
       | inl e ↦ inl (ap pass_error e)
       | inr e ↦ inr (c.loop-u.u, subst (λ (n : ℕ). c.loop-u.u < n) c.div_ceil-blocks.ensures c.loop-u-test.true, ap pass_error e)
     ])
 
 pub returns-in_err-get-clause-seals : goal.returns-in_err-get-clause-seals
-returns-in_err-get-clause-seals g c = λ good. seals_join good _ _ _ c.loop-u.invariant.went.lasts.later (c.loop-u.invariant.seals good) (c.get.ensures.seals good)
+returns-in_err-get-clause-seals g c = λ good. seals_join good _ _ _ c.loop-u.invariant.went.lasts.later (c.loop-u.invariant.seals good) (c.get.ensures.gets.seals good)
 
 pub returns-in_err-get-clause-told : goal.returns-in_err-get-clause-told
 returns-in_err-get-clause-told g c = λ slots is nolie.
@@ -105,7 +105,7 @@ returns-in_err-get-clause-told g c = λ slots is nolie.
     let went = c.loop-u.invariant.went in
     let now = represents_lasts pack flat none _ _ went.lasts (λ s. s) slots is in
     let shape = table_region c.requires.flat.made.order pack flat.schema flat.capacity in
-    rw (p.1, p.2) (ap pass_error (c.in_err-get.ensures.told _ shape (lives_went _ _ _ _ _ _ went (λ s. s) c.requires.flat.made.lives) (block_long pack flat slots _ is c.requires.pack.0 u below) (now.holds u below) nolie))
+    rw (p.1, p.2) (ap pass_error (c.in_err-get.ensures.gets.told _ shape (lives_went _ _ _ _ _ _ went (λ s. s) c.requires.flat.made.lives) (block_long pack flat slots _ is c.requires.pack.0 u below) (now.holds u below) nolie))
 
 pub group_rows-requires-clause-wide : goal.group_rows-requires-clause-wide
 group_rows-requires-clause-wide g c =
@@ -129,13 +129,13 @@ returns-in-Err-clause-groups g c = fit_trans _ _ _ c.loop-u.invariant.kept c.gro
 pub returns-in-Err-clause-err : goal.returns-in-Err-clause-err
 returns-in-Err-clause-err g c =
     let q = c.args.flat.now.region in
-    pass_each none (read_at q) _ _ _ _ (blocks_for (length c.args.rows.now) c.args.flat.now.capacity) c.loop-u.u (subst (λ (n : ℕ). c.loop-u.u < n) c.div_ceil-blocks.ensures c.loop-u-test.true) c.loop-u.invariant.went (pass_malformed _ _ _ q c.loop-u.u (read_at q c.loop-u.u) c.in_ok-get.ensures.ok)
+    pass_each none (read_at q) _ _ _ _ (blocks_for (length c.args.rows.now) c.args.flat.now.capacity) c.loop-u.u (subst (λ (n : ℕ). c.loop-u.u < n) c.div_ceil-blocks.ensures c.loop-u-test.true) c.loop-u.invariant.went (pass_malformed _ _ _ q c.loop-u.u (read_at q c.loop-u.u) c.in_ok-get.ensures.gets.ok)
 
 pub returns-in-Err-clause-never : goal.returns-in-Err-clause-never
 returns-in-Err-clause-never g c = inr (c.loop-u.u, subst (λ (n : ℕ). c.loop-u.u < n) c.div_ceil-blocks.ensures c.loop-u-test.true, refl)
 
 pub returns-in-Err-clause-seals : goal.returns-in-Err-clause-seals
-returns-in-Err-clause-seals g c = λ good. seals_join good _ _ _ c.loop-u.invariant.went.lasts.later (c.loop-u.invariant.seals good) (c.get.ensures.seals good)
+returns-in-Err-clause-seals g c = λ good. seals_join good _ _ _ c.loop-u.invariant.went.lasts.later (c.loop-u.invariant.seals good) (c.get.ensures.gets.seals good)
 
 pub returns-in-Err-clause-told : goal.returns-in-Err-clause-told
 returns-in-Err-clause-told g c = λ slots is nolie.
@@ -146,7 +146,7 @@ returns-in-Err-clause-told g c = λ slots is nolie.
     let went = c.loop-u.invariant.went in
     let now = represents_lasts pack flat none _ _ went.lasts (λ s. s) slots is in
     let shape = table_region c.requires.flat.made.order pack flat.schema flat.capacity in
-    let bytes = c.in_ok-get.ensures.told _ shape (lives_went _ _ _ _ _ _ went (λ s. s) c.requires.flat.made.lives) (block_long pack flat slots _ is c.requires.pack.0 u below) (now.holds u below) nolie in
+    let bytes = c.in_ok-get.ensures.gets.told _ shape (lives_went _ _ _ _ _ _ went (λ s. s) c.requires.flat.made.lives) (block_long pack flat slots _ is c.requires.pack.0 u below) (now.holds u below) nolie in
     let same = fit_trans _ _ _ c.loop-u.invariant.same c.get.ensures.rows in
     let wide = wide_same (width flat.schema) _ _ same (wide_fit (width flat.schema) c.args.rows.now c.requires.fit) in
     absurd (c.in-Err.ensures.told _ (got pack flat slots _ is c.requires.pack.0 u (length c.loop-u.rows) c.get.new.rows below c.loop-u.invariant.same.count same.count wide bytes))
@@ -171,8 +171,8 @@ loop-u-preserved g c =
     let joined : groups_with p c.args.key aggs (groups_of p c.args.key c.args.items.now held.0) block.0 ≡ groups_of p c.args.key c.args.items.now (held.0 ++ block.0) =
     sym (fold-append (put_slot p c.args.key aggs) [] held.0 block.0) in
     record {
-      went = went_each none (read_at flat.region) _ _ _ u went c.in_ok-get.ensures.ok;
-      seals = λ good. seals_join good _ _ _ went.lasts.later (c.loop-u.invariant.seals good) (c.get.ensures.seals good);
+      went = went_each none (read_at flat.region) _ _ _ u went c.in_ok-get.ensures.gets.ok;
+      seals = λ good. seals_join good _ _ _ went.lasts.later (c.loop-u.invariant.seals good) (c.get.ensures.gets.seals good);
       same = same;
       kept = fit_trans _ _ _ c.loop-u.invariant.kept c.group_rows.ensures.size;
       held = (
@@ -182,11 +182,11 @@ loop-u-preserved g c =
         λ slots is nolie.
             let now = represents_lasts pack flat none _ _ went.lasts (λ s. s) slots is in
             let shape = table_region c.requires.flat.made.order pack flat.schema flat.capacity in
-            let bytes = c.in_ok-get.ensures.told _ shape (lives_went _ _ _ _ _ _ went (λ s. s) c.requires.flat.made.lives) (block_long pack flat slots _ is c.requires.pack.0 u below) (now.holds u below) nolie in
+            let bytes = c.in_ok-get.ensures.gets.told _ shape (lives_went _ _ _ _ _ _ went (λ s. s) c.requires.flat.made.lives) (block_long pack flat slots _ is c.requires.pack.0 u below) (now.holds u below) nolie in
             let wide = wide_same (width flat.schema) _ _ same (wide_fit (width flat.schema) c.args.rows.now c.requires.fit) in
             let spelt = got pack flat slots _ is c.requires.pack.0 u (length c.loop-u.rows) c.get.new.rows below c.loop-u.invariant.same.count same.count wide bytes in
             let whole = whole_blocks pack flat.capacity slots in
-            ap (λ (l : Slots). l ++ block.0) (held.2 slots is (none_went _ _ _ _ c.in_ok-get.ensures.ok nolie))
+            ap (λ (l : Slots). l ++ block.0) (held.2 slots is (none_went _ _ _ _ c.in_ok-get.ensures.gets.ok nolie))
             ∙ ap (λ (l : Slots). take (u * pack) whole ++ l) (spelt_same flat.schema block.0 (block_at pack whole u) c.get.new.rows block.1 spelt) ∙ sym (take_blocks pack whole u),
       );
     }
