@@ -30,9 +30,11 @@ impl<'a> Visit for Adding<'a> {
     ghost use Rattle.ob_row.specs.Truth.{is_true};
     ghost use Rattle.ob_group.specs.Running.{AreWithin, AreUpTo, seen_slot};
 
-    ghost after = { λ flat s i slot. record s { totals = record {
+    ghost after = { λ flat s i slot. record s {
+      totals = record {
         items = seen_slot (is_true s.pred.now) s.aggs.now s.totals.items slot;
-      } } };
+      };
+    } };
 
     ghost Suits = { λ flat s i. AreWithin (length flat.schema) s.aggs.now
         × (length s.totals.items ≡ length s.aggs.now) × AreUpTo i s.totals.items };

@@ -1,4 +1,4 @@
-ghost use Rattle.std.specs.Prelude.{◌≡◌, ◌≤◌, [], length};
+ghost use Rattle.std.specs.Prelude.{◌≡◌, ◌≤◌, ◌<◌, [], ◌∷◌, length};
 ghost use Rattle.ob_row.specs.Spelling.{kind_at};
 ghost use Rattle.ob_group.specs.Held.{IsGroup, HasGroups};
 ghost use Rattle.ob_group.specs.Labels.{header};
@@ -64,6 +64,7 @@ pub(crate) fn emit_answer<E: Emit>(
     n: usize,
 ) -> Result<(), EmitErr>
     requires few { length items.now ≤ 32 }
+    requires key { key < length schema.now }
     requires most { n ≤ length groups.now }
     requires held { HasGroups (kind_at schema.now key) (length items.now) n groups.now }
     ensures { EmitsGroups E.grew E.cut E.faults (kind_at schema.now key) items.now n

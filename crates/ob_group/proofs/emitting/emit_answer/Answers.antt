@@ -1,6 +1,5 @@
 use Rattle.std.proofs.Common.{inr, refl}
 use Rattle.ob_base.specs.Events.{row_events}
-use Rattle.ob_row.specs.Spelling.{kind_at}
 use Rattle.ob_group.specs.Grouping.{groups_shown}
 use Rattle.ob_group.specs.Labels.{header}
 use Rattle.ob_group.proofs.Rows.{headed}

@@ -5,7 +5,7 @@ use Rattle.ob_base.specs.Events.{row_events}
 use Rattle.ob_base.proofs.EventLemmas.{emitted_join, halted_join, events_more}
 use Rattle.ob_vault.proofs.RowsLemmas.{same_at}
 use Rattle.ob_group.specs.Grouping.{group_shown, groups_shown}
-use Rattle.ob_group.specs.Held.{HoldsGroup, HasGroups, no_group}
+use Rattle.ob_group.specs.Held.{HoldsGroup, no_group}
 use Rattle.ob_group.proofs.Rows.{shown_more, shown_rest}
 use Rattle.ob_group.proofs.emitting.emit_groups.Goals as goal
 

@@ -1,4 +1,4 @@
-use Rattle.std.proofs.Common.{◌≡◌, ◌*◌, ℕ, Bool, List, None, take, length}
+use Rattle.std.proofs.Common.{◌≡◌, ◌*◌, None, take, length}
 use Rattle.ob_base.specs.Lists.{each}
 use Rattle.ob_base.specs.Accesses.{read_at}
 use Rattle.ob_vault.specs.Calls.{Went, none}
