@@ -43,7 +43,8 @@ fn int_at(schema: &Schema, row: &ClearRow, i: u8) -> Option<i64>
     requires wide { width schema.now ≤ length row.now }
     requires within { i < length schema.now }
     requires real { (cells : Row) × Begins schema.now (Some cells) row.now }
-    ensures { (cells : Row) → Begins schema.now (Some cells) row.now → result ≡ int_of (cell_at cells i) }
+    ensures { (cells : Row) → Begins schema.now (Some cells) row.now
+        → result ≡ int_of (cell_at cells i) }
 {
     match value_of(schema, row, i) {
         Value::Int(x) => Some(x),
