@@ -42,9 +42,6 @@ index_w32 u pack room = omega arith
 pub spare_more : {all now asked i n : ℕ} → n ≤ all → all ≤ now + asked → asked ≡ i → i < n → 1 ≤ now
 spare_more enough spare same below = omega arith
 
-pub few_more : {now asked i n m : ℕ} (was : ℕ) → was + n < m → now ≡ was + asked → asked ≡ i → i < n → now < m
-few_more was few more same below = omega arith
-
 pub one_of_two : {n : ℕ} → 2 ≤ n → 1 ≤ n
 one_of_two enough = omega arith
 
@@ -66,9 +63,6 @@ few_first few = omega arith
 
 pub few_left : {new old : ℕ} → old < 2 ^ 63 + 2 ^ 59 → new ≡ old + 1 → new < 2 ^ 63 + 2 ^ 59 + 1
 few_left few more = omega (arith, few, more)
-
-pub few_rest : {now n k : ℕ} (was : ℕ) → now ≡ was + 1 → was < 2 ^ 63 + 2 ^ 59 → n ≤ 134217728 → k ≡ n → now + k < 2 ^ 63 + 2 ^ 60
-few_rest was more few most same = omega arith
 
 -- nothing before the first one
 pub zero_times : (n : ℕ) → 0 ≡ 0 * n

@@ -8,7 +8,7 @@ use Rattle.ob_vault.specs.State.{VaultState}
 use Rattle.ob_vault.specs.Tied.{Ready}
 use Rattle.ob_flat.specs.declared.flat.Flat.{Flat}
 use Rattle.ob_row.specs.Slots.{Slots}
-use Rattle.ob_flat.specs.Flats.{IsFlat, IsWritten, Represents}
+use Rattle.ob_flat.specs.Flats.{IsFlat, Represents}
 
 module _ (v : VaultState) (s t : StoreState) (rests : Rests s t) where
   pub ready_rests : Ready (record { vault = v; store = s }) → Ready (record { vault = v; store = t })
@@ -33,9 +33,6 @@ module _ (v : VaultState) (s t : StoreState) (rests : Rests s t) where
     };
     written = λ p below. record { number = (is.written p below).number };
   }
-
-  pub written_rests : (pack : ℕ) (flat : Flat) → IsWritten pack flat (record { vault = v; store = s }) → IsWritten pack flat (record { vault = v; store = t })
-  written_rests pack flat is = record { order = is.order; lives = record { live = is.lives.live }; written = λ p below. record { number = (is.written p below).number } }
 
   pub represents_rests : (pack : ℕ) (flat : Flat) (slots : Slots) → Represents pack flat slots (record { vault = v; store = s }) → Represents pack flat slots (record { vault = v; store = t })
   represents_rests pack flat slots is = record { size = is.size; fits = is.fits; holds = λ p below. record { last = rests.keeps.last flat.region p ∙ (is.holds p below).last } }

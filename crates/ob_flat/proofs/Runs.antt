@@ -1,5 +1,5 @@
 -- How parts of a pass join where one of them gave up.
-use Rattle.std.proofs.Common.{◌≡◌, inl, inr, ℕ, ◌<◌, List, [], ◌++◌, Result, Ok, Err, sym, ◌∙◌, ap, subst}
+use Rattle.std.proofs.Common.{◌≡◌, inl, inr, ℕ, ◌<◌, List, [], ◌++◌, Result, Err, sym, ◌∙◌, ap, subst}
 use Rattle.ob_base.specs.declared.access.Access.{Access}
 use Rattle.ob_base.specs.Accesses.{read_at}
 use Rattle.ob_base.specs.Counts.{Rises}
@@ -83,14 +83,6 @@ pass_then some e x a b c cut went same = record {
     go NoMemory (kept, calm) = (faults ∙ kept, λ was. went.calm (calm was))
     go Sink (kept, calm) = (faults ∙ kept, λ was. went.calm (calm was))
     go (Tampered q p) (kept, last, calm) = (faults ∙ kept, record { before = last.before; asked = ap (λ (s : StoreState). s.asked) same ∙ last.asked }, λ was. elim (calm was) [ inl still ↦ inl (went.calm still) | inr is ↦ inr (ends q p is) ])
-
--- what went well is no error
-pub ok_no_error : {A E P : Type 0} {a : A} {e : E} → Ok a ≡ Err e → P
-ok_no_error same = cc
-
--- the same error, whatever else would have been answered
-pub same_error : {A B E : Type 0} {e f : E} → ◌≡◌ {A = Result A E} (Err e) (Err f) → ◌≡◌ {A = Result B E} (Err e) (Err f)
-same_error same = cc
 
 pub not_memory : {A P : Type 0} {e : OpErr} → e ≡ Failed → ◌≡◌ {A = Result A OpErr} (Err e) (Err NoMemory) → P
 not_memory failed same = cc

@@ -106,6 +106,10 @@ module _ (pack : ℕ) (flat : Flat) (slots : Slots) (w : World) (is : HoldsSlots
   pub slots_long : (u : ℕ) → u < blocks_for pack flat.capacity → length (block_bytes flat.schema (block_at pack slots u)) ≡ pack * width flat.schema
   slots_long u below = block_size flat.schema _ (slots_fit u) ∙ ap (λ (n : ℕ). n * width flat.schema) (slots_block u below)
 
+  -- each block is one of rows or dummies
+  pub slots_rows : HoldsRows pack flat w
+  slots_rows = record { each = λ p below. record { slots = block_at pack slots p; size = slots_block p below; fits = slots_fit p; holds = is.holds p below } }
+
   -- the rows of a block that was read spell its slots
   pub slots_got : (u n : ℕ) (rows : List (List ℕ)) → u < blocks_for pack flat.capacity → n ≡ pack → length rows ≡ pack → Wide (width flat.schema) rows
       → joined ((pack * width flat.schema) / n) rows ≡ block_bytes flat.schema (block_at pack slots u) → Spelt flat.schema (block_at pack slots u) rows
@@ -215,19 +219,6 @@ represents_none pack flat w some holds =
       fits = All-replicate (FitsSlot flat.schema) flat.capacity none tt;
       holds = λ p below. subst (λ (l : Slots). Holds flat.region p (block_bytes flat.schema l) w) (sym (block_none pack flat.capacity (blocks_for pack flat.capacity) p fits below)) (holds p below);
     }
-
--- a table whose parts are the same is the same
-pub same_flat : {columns schema : Columns} {q region : ℕ} (capacity : ℕ) → columns ≡ schema → q ≡ region
-    → ◌≡◌ {A = Flat} (record { schema = columns; capacity = capacity; region = q }) (record { schema = schema; capacity = capacity; region = region })
-same_flat {columns} {schema} {q} {region} capacity same number =
-    ap (λ (s : Columns). record { schema = s; capacity = capacity; region = q }) same ∙ ap (λ (r : ℕ). record { schema = schema; capacity = capacity; region = r }) number
-
--- and is what that is
-pub flat_again : {n pack : ℕ} {a b : Flat} {w : World} → n ≡ pack → b ≡ a → IsFlat n a w → IsFlat pack b w
-flat_again {n} {pack} {a} {b} {w} size same is = subst (λ (k : ℕ). IsFlat k b w) size (subst (λ (flat : Flat). IsFlat n flat w) (sym same) is)
-
-pub represents_again : {n pack : ℕ} {a b : Flat} {slots : Slots} {w : World} → n ≡ pack → b ≡ a → Represents n a slots w → Represents pack b slots w
-represents_again {n} {pack} {a} {b} {slots} {w} size same is = subst (λ (k : ℕ). Represents k b slots w) size (subst (λ (flat : Flat). Represents n flat slots w) (sym same) is)
 
 -- the bytes of a block's rows are few
 pub block_w32 : {pack columns_width w : ℕ} → pack ≤ 16 → columns_width ≤ 1024 → w ≡ columns_width → Fits w32 (pack * w)

@@ -1,5 +1,5 @@
 -- What a call does that makes the region of a table, or fills it.
-use Rattle.std.specs.Prelude.{◌≡◌, ◌⊎◌, ◌≤◌, ◌<◌, ◌*◌, ℕ, Bool, List, IsTrue, None, Result, OnOk, OnErr, IfOk, IfErr}
+use Rattle.std.specs.Prelude.{◌≡◌, ◌⊎◌, ◌<◌, ◌*◌, ℕ, Bool, List, IsTrue, None, Result, OnOk, OnErr, IfOk, IfErr}
 use Rattle.ob_base.specs.declared.access.Access.{Access}
 use Rattle.ob_base.specs.Accesses.{make_at, write_at}
 use Rattle.ob_base.specs.Lists.{each}

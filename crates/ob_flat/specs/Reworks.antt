@@ -41,7 +41,7 @@ pub record Reworks {T : Type 0} (pack : ℕ) (flat : Flat) (place : ℕ)
   pub seals : SealsTable pack flat.schema flat.region old new
   pub suits : OnOk result Suits
   pub turn : OnOk result (MovesTurn pack flat place old new)
-  pub rows : OnOk result (IsTrue old.store.tells
+  pub holds : OnOk result (IsTrue old.store.tells
       → HoldsRows pack flat old → HoldsRows pack flat new)
   pub told : IsHonest old new → (slots : Slots) → HoldsSlots pack flat slots old
       → MatchResult result

@@ -21,7 +21,7 @@ pub record Swaps (pack : ℕ) (flat : Flat) (to : ℕ) (picks : Option Row → B
   pub never : IfErr result (λ e. (e ≡ Failed) ⊎ TamperedIn pack flat e new)
   pub seals : SealsTable pack flat.schema to old new
   pub table : OnOk result (IsFlat pack (moved flat to) new)
-  pub rows : OnOk result (IsTrue old.store.tells → HoldsRows pack (moved flat to) new)
+  pub holds : OnOk result (IsTrue old.store.tells → HoldsRows pack (moved flat to) new)
   pub most : IfOk result (λ k. k ≤ blocks_of pack flat * pack)
   pub told : IsHonest old new → (slots : Slots) → Represents pack flat slots old
       → MatchResult result

@@ -2,8 +2,7 @@ ghost use Rattle.std.specs.Prelude.{◌≡◌, ◌≤◌, ◌+◌, ◌*◌, leng
 ghost use Rattle.ob_base.specs.Schemas.{width};
 ghost use Rattle.ob_vault.specs.Places.{at};
 ghost use Rattle.ob_vault.specs.Rows.{SameSizes, Wide};
-ghost use Rattle.ob_vault.specs.Words.{MayAsk};
-ghost use Rattle.ob_flat.specs.Words.{IsTable, blocks_of};
+ghost use Rattle.ob_flat.specs.Words.{HasSpare, IsTable, blocks_of};
 ghost use Rattle.ob_join.specs.Join.{Collects};
 
 use ob_base::Schema;
@@ -23,7 +22,7 @@ pub(crate) fn collect_chunk<S: BlockStore, R: Revisions>(
     first: u32,
     n: u32,
 ) -> Result<(), OpErr>
-    requires asks { MayAsk n (at R.state vault.old (S.state store.old)) }
+    requires spare { HasSpare n (at R.state vault.old (S.state store.old)) }
     requires table { IsTable pack flat.now (at R.state vault.old (S.state store.old)) }
     requires within { first + n ≤ blocks_of pack flat.now }
     requires space { length kept.old ≡ n * pack }

@@ -35,7 +35,7 @@ fills_after pack flat to p r old mid new went seals rows copied empties =
       never = IfErr-weaker r _ _ (λ e err. elim err [ inl failed ↦ inl failed | inr there ↦ inr (inr there) ]) empties.never;
       seals = seals_after went.lasts seals empties.seals;
       table = empties.table;
-      rows = on_ok_weaker r (λ more tells. more (tells_went _ _ _ _ went tells) (rows tells)) empties.rows;
+      holds = on_ok_weaker r (λ more tells. more (tells_went _ _ _ _ went tells) (rows tells)) empties.holds;
       told = λ honest slots is. empties.told (honest_after went honest) slots (copied (honest_before lasts honest) slots is);
     }
 
@@ -56,7 +56,7 @@ module _ (pack : ℕ) (flat : Flat) (p : Row → Bool) (old mid : World) (ready 
         never = tt;
         memory = record { began = λ is. absurd (cc is) };
         makes = makes_ok Round pack (moved flat next) _ _ made went seals _ lives fills.ran.ok.lasts fills.table fills.seals;
-        rows = λ tells. fills.rows (tells_went _ _ _ _ went tells);
+        holds = λ tells. fills.holds (tells_went _ _ _ _ went tells);
         source = flat_lasts pack flat (one next) _ _ filled.ok.lasts off table.written;
         told = λ honest slots is. fills.told (honest_after went honest) slots (represents_lasts pack flat (one next) _ _ went.lasts off slots is);
       }
@@ -78,7 +78,7 @@ module _ (pack : ℕ) (flat : Flat) (p : Row → Bool) (old mid : World) (ready 
         ];
         memory = record { began = λ is. elim fills.never [ inl failed ↦ not_memory failed is | inr (inl there) ↦ absurd (cc (is, there.is)) | inr (inr there) ↦ absurd (cc (is, there.is)) ] };
         makes = makes_err Round pack (moved flat next) _ _ made went seals e _ _ fills.ran.err.lasts fills.seals sealed gone;
-        rows = tt;
+        holds = tt;
         source = flat_lasts pack flat (one next) _ _ ended.lasts off table.written;
         told = λ honest slots is. inl (fills.told (honest_after went (honest_same same honest)) slots (represents_lasts pack flat (one next) _ _ went.lasts off slots is));
       }

@@ -35,7 +35,7 @@ pub record Empties {T : Type 0} (pack : ℕ) (flat : Flat) (p : Row → Bool)
   pub never : IfErr result (λ e. (e ≡ Failed) ⊎ TamperedIn pack flat e new)
   pub seals : SealsTable pack flat.schema flat.region old new
   pub table : OnOk result (IsFlat pack flat new)
-  pub rows : OnOk result (IsTrue old.store.tells
+  pub holds : OnOk result (IsTrue old.store.tells
       → HoldsRows pack flat old → HoldsRows pack flat new)
   pub told : IsHonest old new → (slots : Slots) → Represents pack flat slots old
       → MatchResult result (λ _. Represents pack flat (large_slots p slots) new) (λ e. e ≡ Failed)
@@ -54,7 +54,7 @@ pub record Fills {T : Type 0} (pack : ℕ) (flat : Flat) (to : ℕ) (p : Row →
       ⊎ TamperedIn pack flat e new ⊎ TamperedIn pack (moved flat to) e new)
   pub seals : SealsTable pack flat.schema to old new
   pub table : OnOk result (IsFlat pack (moved flat to) new)
-  pub rows : OnOk result (IsTrue old.store.tells → HoldsRows pack (moved flat to) new)
+  pub holds : OnOk result (IsTrue old.store.tells → HoldsRows pack (moved flat to) new)
   pub told : IsHonest old new → (slots : Slots) → Represents pack flat slots old
       → MatchResult result
       (λ _. Represents pack (moved flat to) (large_slots p slots) new) (λ e. e ≡ Failed)
@@ -67,7 +67,7 @@ pub record Selects (pack : ℕ) (flat : Flat) (p : Row → Bool)
       ⊎ TamperedIn pack flat e new ⊎ TamperedIn pack (moved flat old.vault.next) e new)
   pub memory : NoMemoryIn (make_script pack (moved flat old.vault.next)) result old new
   pub makes : Makes Round pack (moved flat old.vault.next) result old new
-  pub rows : IfOk result (λ fresh. IsTrue old.store.tells → HoldsRows pack fresh new)
+  pub holds : IfOk result (λ fresh. IsTrue old.store.tells → HoldsRows pack fresh new)
   pub source : IsFlat pack flat new
   pub told : IsHonest old new → (slots : Slots) → Represents pack flat slots old
       → MatchResult result

@@ -4,3 +4,4 @@ pub mod Counted
 pub mod Assigned
 pub mod Wiped
 pub mod Fresh
+pub mod Moving

@@ -1,3 +1,4 @@
 pub mod Searches
 pub mod Inserting
+pub mod Mutating
 pub mod Changing

@@ -13,7 +13,8 @@ pub(crate) fn set_cells(schema: &Schema, sets: &[(u8, Cell)], row: &mut ClearRow
     requires wide { width schema.now ≤ length row.old }
     requires sets { FitsSets schema.now sets.now }
     ensures size { length row.new ≡ length row.old }
-    ensures told { (cells : Row) → Begins schema.now (Some cells) row.old → Begins schema.now (Some (with_cells sets.now cells)) row.new }
+    ensures told { (cells : Row) → Begins schema.now (Some cells) row.old
+        → Begins schema.now (Some (with_cells sets.now cells)) row.new }
 {
     for (place, cell) in sets {
         set_cell(schema, *place, cell, row);

@@ -1,21 +1,15 @@
-ghost use Rattle.std.specs.Prelude.{◌≡◌, ◌≢◌, ◌≤◌, ◌<◌, ◌+◌, ◌*◌, ◌++◌, ◌^◌, ◌⊎◌, max, ℕ, Bool, List, Option, Some, IsTrue, None, Err, IfOk, IfErr, IfSome, OnOk, OnErr, MatchResult, length, is_some, if◌then◌else◌};
-ghost use Rattle.ob_base.specs.Accesses.{make_at};
-ghost use Rattle.ob_base.specs.Numbers.{blocks_for};
+ghost use Rattle.std.specs.Prelude.{◌≡◌, ◌≢◌, ◌+◌, ◌*◌, max, Option, None, length, is_some, if◌then◌else◌};
 ghost use Rattle.ob_base.specs.Schemas.{width};
-ghost use Rattle.ob_store.specs.Runs.{Began};
-ghost use Rattle.ob_vault.specs.declared.region.Order.TheVariants.{Round};
-ghost use Rattle.ob_vault.specs.Tied.{Ready, Lives};
-ghost use Rattle.ob_vault.specs.Calls.{Went, Seals, one, two};
-ghost use Rattle.ob_vault.specs.Places.{at, RowsFit};
+ghost use Rattle.ob_vault.specs.Places.{at};
 ghost use Rattle.ob_vault.specs.Rows.{SameSizes};
-ghost use Rattle.ob_script.specs.Parts.{count_part, copy_part, insert_part};
+ghost use Rattle.ob_vault.specs.Words.{MayAsk, MayStart};
 ghost use Rattle.ob_row.specs.Rows.{Row};
 ghost use Rattle.ob_row.specs.Spelling.{Fits};
 ghost use Rattle.ob_blocks.specs.Idle.{IsIdle};
-ghost use Rattle.ob_row.specs.Slots.{Slots};
-ghost use Rattle.ob_flat.specs.Flats.{IsSized, IsMade, IsFlat, Represents, Accepts, table_region};
-ghost use Rattle.ob_flat.specs.Passes.{PassCut};
-ghost use Rattle.ob_mutate.specs.Inserting.{insert_answer, slots_after};
+ghost use Rattle.ob_flat.specs.Flats.{IsSized, IsMade, IsFlat};
+ghost use Rattle.ob_flat.specs.Words.{IsTable, FitBlock, blocks_of, moved};
+ghost use Rattle.ob_mutate.specs.Inserting.{insert_answer};
+ghost use Rattle.ob_mutate.specs.Mutating.{FillsFresh, Inserts, place_script, inserted_slots};
 
 use crate::searching::{Finds, Search, key_place};
 use crate::settling::move_table;
@@ -55,7 +49,8 @@ impl<'a> Change for Put<'a> {
 
     ghost none = { λ put. refl };
 
-    ghost keeps = { λ put columns i slot suits fits. put_fits columns put.target put.cells.now i slot suits fits };
+    ghost keeps = { λ put columns i slot suits fits.
+        put_fits columns put.target put.cells.now i slot suits fits };
 
     fn change(&self, i: u32, schema: &Schema, row: &mut ClearRow) -> Result<bool, Malformed> {
         read(schema, row)?;
@@ -68,7 +63,8 @@ impl<'a> Change for Put<'a> {
 
 impl Finds {
     fn answer(self) -> Inserted
-        ensures { result ≡ (if self.duplicate then Inserted.Duplicate else (if is_some self.free then Inserted.Done else Inserted.Full)) }
+        ensures { result ≡ (if self.duplicate then Inserted.Duplicate
+            else (if is_some self.free then Inserted.Done else Inserted.Full)) }
     {
         match (self.duplicate, self.free) {
             (true, _) => Inserted::Duplicate,
@@ -94,26 +90,19 @@ fn insert_blocks<S: BlockStore, R: Revisions>(
     fresh: u64,
     cells: &[Cell],
 ) -> Result<Inserted, OpErr>
-    requires ready { Ready (at R.state vault.old (S.state store.old)) }
-    requires spare { 3 * blocks_for (length rows.old) flat.now.capacity ≤ (S.state store.old).spare }
-    requires few { length (S.state store.old).asked + 3 * blocks_for (length rows.old) flat.now.capacity < 2 ^ 63 + 2 ^ 60 }
-    requires flat { IsFlat (length rows.old) flat.now (at R.state vault.old (S.state store.old)) }
-    requires made { IsMade (length rows.old) (record flat.now { region = fresh }) (at R.state vault.old (S.state store.old)) }
+    requires asks { MayAsk (3 * blocks_of (length rows.old) flat.now)
+        (at R.state vault.old (S.state store.old)) }
+    requires table { IsTable (length rows.old) flat.now (at R.state vault.old (S.state store.old)) }
+    requires made { IsMade (length rows.old) (moved flat.now fresh)
+        (at R.state vault.old (S.state store.old)) }
     requires apart { flat.now.region ≢ fresh }
-    requires size { IsSized flat.now.schema flat.now.capacity }
-    requires pack { (1 ≤ length rows.old) × (length rows.old ≤ 16) }
-    requires fit { RowsFit rows.old (length rows.old * width flat.now.schema) }
+    requires fit { FitBlock flat.now.schema rows.old }
     requires cells { Fits flat.now.schema cells.now }
     ensures rows { SameSizes rows.old rows.new }
-    ensures ok { OnOk result (Went (count_part flat.now.region (blocks_for (length rows.old) flat.now.capacity) ++ copy_part flat.now.region fresh (blocks_for (length rows.old) flat.now.capacity)) (one fresh) (at R.state vault.old (S.state store.old)) (at R.state vault.new (S.state store.new))) }
-    ensures err { IfErr result (λ e. PassCut e (count_part flat.now.region (blocks_for (length rows.old) flat.now.capacity) ++ copy_part flat.now.region fresh (blocks_for (length rows.old) flat.now.capacity)) (one fresh) (at R.state vault.old (S.state store.old)) (at R.state vault.new (S.state store.new))) }
-    ensures never { IfErr result (λ e. (e ≡ OpErr.Failed) ⊎ ((place : ℕ) × (place < blocks_for (length rows.old) flat.now.capacity) × (e ≡ OpErr.Tampered flat.now.region place))) }
-    ensures seals { (good : ℕ → List ℕ → Bool) → Accepts good (length rows.old) flat.now.schema fresh → Seals good (at R.state vault.old (S.state store.old)) (at R.state vault.new (S.state store.new)) }
-    ensures flat { OnOk result (IsFlat (length rows.old) (record flat.now { region = fresh }) (at R.state vault.new (S.state store.new))) }
-    ensures told { IsTrue (S.state store.old).tells → (slots : Slots) → Represents (length rows.old) flat.now slots (at R.state vault.old (S.state store.old)) → (S.state store.new).lie ≡ None
-        → MatchResult result
-        (λ answer. (answer ≡ insert_answer flat.now.schema cells.now slots) × Represents (length rows.old) (record flat.now { region = fresh }) (slots_after answer cells.now slots) (at R.state vault.new (S.state store.new)))
-        (λ e. e ≡ OpErr.Failed) }
+    ensures fills { FillsFresh (length rows.old) flat.now fresh
+        (place_script (length rows.old) flat.now fresh)
+        (insert_answer flat.now.schema cells.now) (inserted_slots flat.now cells.now) result
+        (at R.state vault.old (S.state store.old)) (at R.state vault.new (S.state store.new)) }
 {
     let mut search = Search {
         key: key_place(&flat.schema),
@@ -140,29 +129,14 @@ fn insert_rows<S: BlockStore, R: Revisions>(
     flat: &mut Flat,
     cells: &[Cell],
 ) -> Result<Inserted, OpErr>
-    requires ready { Ready (at R.state vault.old (S.state store.old)) }
-    requires spare { 3 * blocks_for (length rows.old) flat.old.capacity + 2 ≤ (S.state store.old).spare }
-    requires few { length (S.state store.old).asked < 2 ^ 63 + 2 ^ 59 }
-    requires flat { IsFlat (length rows.old) flat.old (at R.state vault.old (S.state store.old)) }
-    requires size { IsSized flat.old.schema flat.old.capacity }
-    requires pack { (1 ≤ length rows.old) × (length rows.old ≤ 16) }
-    requires fit { RowsFit rows.old (length rows.old * width flat.old.schema) }
+    requires starts { MayStart (3 * blocks_of (length rows.old) flat.old + 2)
+        (at R.state vault.old (S.state store.old)) }
+    requires table { IsTable (length rows.old) flat.old (at R.state vault.old (S.state store.old)) }
+    requires fit { FitBlock flat.old.schema rows.old }
     requires cells { Fits flat.old.schema cells.now }
     ensures rows { SameSizes rows.old rows.new }
-    ensures ok { OnOk result (Went (insert_part flat.old.region vault.old.next (blocks_for (length rows.old) flat.old.capacity) (length rows.old * width flat.old.schema)) (two flat.old.region vault.old.next) (at R.state vault.old (S.state store.old)) (at R.state vault.new (S.state store.new))) }
-    ensures err { IfErr result (λ e. PassCut e (insert_part flat.old.region vault.old.next (blocks_for (length rows.old) flat.old.capacity) (length rows.old * width flat.old.schema)) (one vault.old.next) (at R.state vault.old (S.state store.old)) (at R.state vault.new (S.state store.new))) }
-    ensures never { IfErr result (λ e. (e ≡ OpErr.Failed) ⊎ (e ≡ OpErr.NoMemory) ⊎ ((place : ℕ) × (place < blocks_for (length rows.old) flat.old.capacity) × (e ≡ OpErr.Tampered flat.old.region place))) }
-    ensures memory { result ≡ Err OpErr.NoMemory → Began (make_at vault.old.next (blocks_for (length rows.old) flat.old.capacity) (length rows.old * width flat.old.schema)) (S.state store.old) (S.state store.new) }
-    ensures gone { MatchResult result (λ _. (R.state vault.new.revs).live flat.old.region ≡ None) (λ _. (R.state vault.new.revs).live vault.old.next ≡ None) }
-    ensures seals { (good : ℕ → List ℕ → Bool) → Accepts good (length rows.old) flat.old.schema vault.old.next → Seals good (at R.state vault.old (S.state store.old)) (at R.state vault.new (S.state store.new)) }
-    ensures moved { OnOk result (flat.new ≡ record flat.old { region = vault.old.next }) }
-    ensures same { OnErr result (flat.new ≡ flat.old) }
-    ensures lives { OnOk result (Lives vault.old.next (table_region Round (length rows.old) flat.old.schema flat.old.capacity) (at R.state vault.new (S.state store.new))) }
-    ensures flat { IsFlat (length rows.old) flat.new (at R.state vault.new (S.state store.new)) }
-    ensures told { IsTrue (S.state store.old).tells → (slots : Slots) → Represents (length rows.old) flat.old slots (at R.state vault.old (S.state store.old)) → (S.state store.new).lie ≡ None
-        → MatchResult result
-        (λ answer. (answer ≡ insert_answer flat.old.schema cells.now slots) × Represents (length rows.old) flat.new (slots_after answer cells.now slots) (at R.state vault.new (S.state store.new)))
-        (λ e. ((e ≡ OpErr.Failed) ⊎ (e ≡ OpErr.NoMemory)) × Represents (length rows.old) flat.new slots (at R.state vault.new (S.state store.new))) }
+    ensures inserts { Inserts (length rows.old) flat.old flat.new cells.now result
+        (at R.state vault.old (S.state store.old)) (at R.state vault.new (S.state store.new)) }
 {
     let pack = rows.len() as u32;
     let fresh = make_table(
@@ -200,28 +174,15 @@ pub fn insert<S: BlockStore, R: Revisions>(
     flat: &mut Flat,
     cells: &[Cell],
 ) -> Result<Inserted, OpErr>
-    requires ready { Ready (at R.state vault.old (S.state store.old)) }
-    requires spare { 3 * blocks_for room.old.pack flat.old.capacity + 2 ≤ (S.state store.old).spare }
-    requires few { length (S.state store.old).asked < 2 ^ 63 + 2 ^ 59 }
+    requires starts { MayStart (3 * blocks_of room.old.pack flat.old + 2)
+        (at R.state vault.old (S.state store.old)) }
     requires flat { IsFlat room.old.pack flat.old (at R.state vault.old (S.state store.old)) }
     requires size { IsSized flat.old.schema flat.old.capacity }
     requires room { IsIdle (width flat.old.schema) room.old }
     requires cells { Fits flat.old.schema cells.now }
-    ensures ok { OnOk result (Went (insert_part flat.old.region vault.old.next (blocks_for room.old.pack flat.old.capacity) (room.old.pack * width flat.old.schema)) (two flat.old.region vault.old.next) (at R.state vault.old (S.state store.old)) (at R.state vault.new (S.state store.new))) }
-    ensures err { IfErr result (λ e. PassCut e (insert_part flat.old.region vault.old.next (blocks_for room.old.pack flat.old.capacity) (room.old.pack * width flat.old.schema)) (one vault.old.next) (at R.state vault.old (S.state store.old)) (at R.state vault.new (S.state store.new))) }
-    ensures never { IfErr result (λ e. (e ≡ OpErr.Failed) ⊎ (e ≡ OpErr.NoMemory) ⊎ ((place : ℕ) × (place < blocks_for room.old.pack flat.old.capacity) × (e ≡ OpErr.Tampered flat.old.region place))) }
-    ensures memory { result ≡ Err OpErr.NoMemory → Began (make_at vault.old.next (blocks_for room.old.pack flat.old.capacity) (room.old.pack * width flat.old.schema)) (S.state store.old) (S.state store.new) }
-    ensures gone { MatchResult result (λ _. (R.state vault.new.revs).live flat.old.region ≡ None) (λ _. (R.state vault.new.revs).live vault.old.next ≡ None) }
-    ensures seals { (good : ℕ → List ℕ → Bool) → Accepts good room.old.pack flat.old.schema vault.old.next → Seals good (at R.state vault.old (S.state store.old)) (at R.state vault.new (S.state store.new)) }
     ensures room { room.new ≡ record room.old { high = max room.old.high room.old.pack } }
-    ensures moved { OnOk result (flat.new ≡ record flat.old { region = vault.old.next }) }
-    ensures same { OnErr result (flat.new ≡ flat.old) }
-    ensures lives { OnOk result (Lives vault.old.next (table_region Round room.old.pack flat.old.schema flat.old.capacity) (at R.state vault.new (S.state store.new))) }
-    ensures flat { IsFlat room.old.pack flat.new (at R.state vault.new (S.state store.new)) }
-    ensures told { IsTrue (S.state store.old).tells → (slots : Slots) → Represents room.old.pack flat.old slots (at R.state vault.old (S.state store.old)) → (S.state store.new).lie ≡ None
-        → MatchResult result
-        (λ answer. (answer ≡ insert_answer flat.old.schema cells.now slots) × Represents room.old.pack flat.new (slots_after answer cells.now slots) (at R.state vault.new (S.state store.new)))
-        (λ e. ((e ≡ OpErr.Failed) ⊎ (e ≡ OpErr.NoMemory)) × Represents room.old.pack flat.new slots (at R.state vault.new (S.state store.new))) }
+    ensures inserts { Inserts room.old.pack flat.old flat.new cells.now result
+        (at R.state vault.old (S.state store.old)) (at R.state vault.new (S.state store.new)) }
 {
     let pack = room.pack();
     let rows = room.open(pack);

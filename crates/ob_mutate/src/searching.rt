@@ -34,7 +34,8 @@ fn has_key(schema: &Schema, key: Option<u8>, cells: &[Cell], row: &ClearRow) -> 
     requires wide { width schema.now ≤ length row.now }
     requires real { (other : Row) × Begins schema.now (Some other) row.now }
     requires within { IfSome key (λ place. (place < length schema.now) × (place < length cells.now)) }
-    ensures { (other : Row) → Begins schema.now (Some other) row.now → result ≡ agrees key cells.now other }
+    ensures { (other : Row) → Begins schema.now (Some other) row.now
+        → result ≡ agrees key cells.now other }
 {
     match key {
         Some(place) => same_value(
@@ -66,9 +67,11 @@ impl<'a> Visit for Search<'a> {
     ghost use Rattle.ob_row.specs.Spelling.{Fits};
     ghost use Rattle.ob_mutate.specs.Searches.{found};
 
-    ghost after = { λ flat s i slot. record s { finds = found s.key s.cells.now flat.capacity s.finds i slot } };
+    ghost after = { λ flat s i slot.
+        record s { finds = found s.key s.cells.now flat.capacity s.finds i slot } };
 
-    ghost Suits = { λ flat s i. (s.key ≡ key_place flat.schema) × Fits flat.schema s.cells.now × IfSome s.finds.free (λ slot. slot < flat.capacity) };
+    ghost Suits = { λ flat s i. (s.key ≡ key_place flat.schema) × Fits flat.schema s.cells.now
+        × IfSome s.finds.free (λ slot. slot < flat.capacity) };
 
     fn visit(&mut self, i: u32, flat: &Flat, row: &ClearRow) -> Result<(), Malformed> {
         if read(&flat.schema, row)? {

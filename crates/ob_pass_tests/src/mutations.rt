@@ -116,7 +116,7 @@ fn session<S: BlockStore, R: Revisions>(
     assert_eq!(rt; found, wanted_count);
     check(rt, store, from, wanted);
     make_room(rt, store);
-    discard(store, &mut vault, &mut room, flat).expect(rt, "discard");
+    discard(store, &mut vault, flat).expect(rt, "discard");
 }
 
 // The same in memory, in blocks of so many rows.

@@ -68,7 +68,7 @@ pub(crate) fn emit_to<S: BlockStore, R: Revisions, E: Emit>(
     make_room(rt, store);
     let rows = emit_all(store, vault, room, &flat, cols, out).expect(rt, "emit");
     make_room(rt, store);
-    discard(store, vault, room, flat).expect(rt, "discard");
+    discard(store, vault, flat).expect(rt, "discard");
     rows
 }
 

@@ -2,7 +2,7 @@ use Rattle.std.proofs.Common.{◌≡◌, ◌∙◌, refl, sym, length}
 use Rattle.ob_base.specs.Schemas.{width}
 use Rattle.ob_flat.specs.Creates.{table_of}
 use Rattle.ob_flat.proofs.Rooms.{shelf_wide, shelf_held, room_after, same_rows, block_count, block_fits, block_some, shelf_free, clear_spelt}
-use Rattle.ob_flat.proofs.Tables.{fits_sized, same_flat, flat_again, represents_again}
+use Rattle.ob_flat.proofs.Tables.{fits_sized, flat_is}
 use Rattle.ob_flat.proofs.creating.create.Goals as goal
 
 pub open-rows-requires-clause-free : goal.open-rows-requires-clause-free
@@ -42,7 +42,7 @@ returns-in-Ok-clause-creates g c =
     let count = block_count c.args.room.now c.pack-pack.ensures.value c.open-rows.ensures.value in
     let flat = table_of c.args.schema.now c.args.capacity c.args.vault.now.next in
     let creates = rw count at c.in-Ok.ensures.creates in
-    let value : table_of c.copied.result c.args.capacity c.in-Ok.region ≡ flat = same_flat c.args.capacity c.copied.ensures creates.number in
+    let value : table_of c.copied.result c.args.capacity c.in-Ok.region ≡ flat = flat_is c.copied.ensures refl creates.number in
     rw value (record {
       ran = record { ok = creates.ran.ok; err = tt };
       never = tt;

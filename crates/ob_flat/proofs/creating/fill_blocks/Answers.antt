@@ -44,14 +44,16 @@ returns-in_err-put g c =
     let q = c.args.region in
     let before = c.loop-u.invariant in
     let put = c.in_err-put.ensures in
-    rw (p.1, p.2) (record { fills = record {
-      ok = tt;
-      err = cut_each (one q) (write_at q) _ _ _ _ c.args.shape.blocks c.loop-u.u c.loop-u-test.true before.went put.err;
-      never = put.never;
-      seals = λ good fine. seals_join good _ _ _ before.went.lasts.later (before.seals good fine) (c.put.ensures.seals good c.args.shape before.lives fine);
-      filled = tt;
-      told = tt;
-    } })
+    rw (p.1, p.2) (record {
+      fills = record {
+        ok = tt;
+        err = cut_each (one q) (write_at q) _ _ _ _ c.args.shape.blocks c.loop-u.u c.loop-u-test.true before.went put.err;
+        never = put.never;
+        seals = λ good fine. seals_join good _ _ _ before.went.lasts.later (before.seals good fine) (c.put.ensures.seals good c.args.shape before.lives fine);
+        filled = tt;
+        told = tt;
+      };
+    })
 
 pub loop-u-preserved : goal.loop-u-preserved
 loop-u-preserved g c =
@@ -79,15 +81,17 @@ returns g c =
     let blocks = c.args.shape.blocks in
     let last : c.loop-u.u ≡ blocks = at_end c.loop-u.auto.u-end c.loop-u-test.false refl in
     let turned = all.turn in
-    record { fills = record {
-      ok = went_all (write_at c.args.region) last all.went;
-      err = tt;
-      never = tt;
-      seals = all.seals;
-      filled = record {
-        lives = all.lives;
-        turn = rw (at_last c.loop-u.u blocks last) at turned;
-        written = λ p below. all.written p (below_all below (sym last));
+    record {
+      fills = record {
+        ok = went_all (write_at c.args.region) last all.went;
+        err = tt;
+        never = tt;
+        seals = all.seals;
+        filled = record {
+          lives = all.lives;
+          turn = rw (at_last c.loop-u.u blocks last) at turned;
+          written = λ p below. all.written p (below_all below (sym last));
+        };
+        told = λ tells p below. all.told tells p (below_all below (sym last));
       };
-      told = λ tells p below. all.told tells p (below_all below (sym last));
-    } }
+    }

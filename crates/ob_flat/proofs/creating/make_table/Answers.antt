@@ -1,9 +1,6 @@
-use Rattle.std.proofs.Common.{◌*◌, inl, inr, ap}
+use Rattle.std.proofs.Common.{inl, inr, ap}
 use Rattle.std.proofs.lemmas.Result.{err_from_is_err_and}
-use Rattle.ob_base.specs.Schemas.{width}
 use Rattle.ob_flat.specs.Passes.{pass_error}
-use Rattle.ob_flat.specs.Words.{blocks_of}
-use Rattle.ob_flat.specs.Creates.{table_of}
 use Rattle.ob_flat.proofs.Runs.{pass_of}
 use Rattle.ob_flat.proofs.creating.make_table.Goals as goal
 
@@ -11,27 +8,31 @@ pub returns-in_err-region : goal.returns-in_err-region
 returns-in_err-region g c =
     let p = err_from_is_err_and c.from_residual.result c.from_residual.ensures.1 in
     let made = rw c.region_of_table-shape.ensures at c.in_err-region.ensures in
-    rw (p.1, p.2) (record { makes = record {
-      ran = record { ok = tt; err = pass_of _ _ _ _ _ made.err };
-      never = elim made.never [ inl failed ↦ inl (ap pass_error failed) | inr none ↦ inr (ap pass_error none) ];
-      number = tt;
-      lives = tt;
-      turn = tt;
-      made = tt;
-      gone = made.gone;
-      seals = record { seals = c.make.ensures.seals };
-    } })
+    rw (p.1, p.2) (record {
+      makes = record {
+        ran = record { ok = tt; err = pass_of _ _ _ _ _ made.err };
+        never = elim made.never [ inl failed ↦ inl (ap pass_error failed) | inr none ↦ inr (ap pass_error none) ];
+        number = tt;
+        lives = tt;
+        turn = tt;
+        made = tt;
+        gone = made.gone;
+        seals = record { seals = c.make.ensures.seals };
+      };
+    })
 
 pub returns : goal.returns
 returns g c =
     let made = rw c.region_of_table-shape.ensures at c.in_ok-region.ensures in
-    record { makes = record {
-      ran = record { ok = made.ok; err = tt };
-      never = tt;
-      number = made.number;
-      lives = made.lives;
-      turn = made.turn;
-      made = record { order = c.args.order; lives = made.lives; turn = made.turn };
-      gone = tt;
-      seals = record { seals = c.make.ensures.seals };
-    } }
+    record {
+      makes = record {
+        ran = record { ok = made.ok; err = tt };
+        never = tt;
+        number = made.number;
+        lives = made.lives;
+        turn = made.turn;
+        made = record { order = c.args.order; lives = made.lives; turn = made.turn };
+        gone = tt;
+        seals = record { seals = c.make.ensures.seals };
+      };
+    }

@@ -1,4 +1,4 @@
-use Rattle.std.proofs.Common.{◌≡◌, ◌≤◌, ◌+◌, ◌*◌, ℕ, inl, inr, length, refl, Fits, w32, sym, ap, subst, ◌∙◌}
+use Rattle.std.proofs.Common.{◌≤◌, ◌+◌, ◌*◌, ℕ, inl, inr, length, refl, Fits, w32, sym, ap, subst, ◌∙◌}
 use Rattle.std.proofs.lemmas.Result.{err_from_is_err_and}
 use Rattle.ob_base.specs.Accesses.{read_at, write_at}
 use Rattle.ob_base.specs.Schemas.{width}
@@ -51,7 +51,7 @@ returns-in_err-get-clause-reworks g c =
       seals = seals_any c.get.ensures.seals;
       suits = tt;
       turn = tt;
-      rows = tt;
+      holds = tt;
       told = λ honest slots is. ap pass_error (read.told _ (table_region table.order pack flat.schema flat.capacity) table.turn.lives (slots_long pack flat slots _ is table.some x table.within) (is.holds x table.within) honest.nolie);
     })
 
@@ -94,7 +94,7 @@ returns-in-Err-clause-reworks g c =
       seals = seals_any c.get.ensures.seals;
       suits = tt;
       turn = tt;
-      rows = tt;
+      holds = tt;
       told = λ honest slots is.
           let bytes = read.told _ (table_region table.order pack flat.schema flat.capacity) table.turn.lives (slots_long pack flat slots _ is table.some x table.within) (is.holds x table.within) honest.nolie in
           let wide = wide_same (width flat.schema) _ _ c.get.ensures.rows (wide_fit (width flat.schema) c.args.rows.now c.requires.fit) in
@@ -141,7 +141,7 @@ returns-in_err-put-clause-reworks g c =
       seals = seals_after read.lasts (seals_any c.get.ensures.seals) sealed;
       suits = tt;
       turn = tt;
-      rows = tt;
+      holds = tt;
       told = λ honest slots is. ap pass_error put.never;
     })
 
@@ -183,7 +183,7 @@ returns-clause-reworks g c =
               ];
             };
       };
-      rows = λ tells is.
+      holds = λ tells is.
           let was = rows_lasts pack flat none _ _ read.lasts (λ s. s) is in
           let here = block_put pack flat.schema c.rework.new.rows q x new table.some same.count c.in-Ok.ensures.spells (put.told (tells_went _ _ _ _ read tells) shape lives) in
           record {

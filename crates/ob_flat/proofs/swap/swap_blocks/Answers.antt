@@ -41,7 +41,7 @@ loop-u-init g c =
       written = λ p below. absurd (no_less p below);
       same = same_rows c.args.rows.now;
       few = none_counted pack;
-      rows = λ tells p below. absurd (no_less p below);
+      holds = λ tells p below. absurd (no_less p below);
       told = λ honest slots is. (count_start (g.C.Change.picks c.args.change.now) (whole_blocks pack flat.capacity slots) pack, λ p below. absurd (no_less p below));
     }
 
@@ -86,7 +86,7 @@ returns-in_err-get-clause-swaps g c =
       ];
       seals = seals_after before.went.lasts before.seals (seals_any c.get.ensures.seals);
       table = tt;
-      rows = tt;
+      holds = tt;
       most = tt;
       told = λ honest slots is.
           let now = represents_lasts pack flat (one to) _ _ before.went.lasts c.requires.apart slots is in
@@ -140,7 +140,7 @@ returns-in-Err-clause-swaps g c =
       never = inr (record { place = u; below = below; is = refl });
       seals = seals_after before.went.lasts before.seals (seals_any c.get.ensures.seals);
       table = tt;
-      rows = tt;
+      holds = tt;
       most = tt;
       told = λ honest slots is.
           let now = represents_lasts pack flat (one to) _ _ before.went.lasts c.requires.apart slots is in
@@ -200,7 +200,7 @@ returns-in_err-put-clause-swaps g c =
       never = inl (ap pass_error put.never);
       seals = seals_after before.went.lasts before.seals (seals_after read.lasts (seals_any c.get.ensures.seals) sealed);
       table = tt;
-      rows = tt;
+      holds = tt;
       most = tt;
       told = λ honest slots is. ap pass_error put.never;
     })
@@ -239,11 +239,11 @@ loop-u-preserved g c =
           c.put.ensures.written;
       same = same;
       few = more u pack c.loop-u.k c.in-Ok.picked (length c.get.new.rows) before.few c.in-Ok.ensures.most same_get.count;
-      rows = λ tells.
+      holds = λ tells.
           let tells' = tells_went _ _ _ _ read (tells_went _ _ _ _ before.went tells) in
           below_more _ _
-              (λ p h. block_only pack flat.schema mid new to u to p only (λ _ at. absurd (omega (arith, at, h))) (block_lasts pack flat.schema none now mid to p read.lasts (λ s. s) (before.rows tells p h)))
-              (block_put pack flat.schema c.change_rows.new.rows to u new table.some same.count c.in-Ok.ensures.spells (put.told tells' shape lives));
+          (λ p h. block_only pack flat.schema mid new to u to p only (λ _ at. absurd (omega (arith, at, h))) (block_lasts pack flat.schema none now mid to p read.lasts (λ s. s) (before.holds tells p h)))
+          (block_put pack flat.schema c.change_rows.new.rows to u new table.some same.count c.in-Ok.ensures.spells (put.told tells' shape lives));
       told = λ honest slots is.
           let gone = honest_before put.ok.lasts honest in
           let start = honest_before read.lasts gone in
@@ -288,7 +288,7 @@ returns-clause-swaps g c =
       never = tt;
       seals = all.seals;
       table = flat_all pack c.loop-u.u all.order (moved flat to) _ last all.lives all.turn all.written;
-      rows = λ tells. record { each = λ p below. all.rows tells p (below_all below (sym last)) };
+      holds = λ tells. record { each = λ p below. all.holds tells p (below_all below (sym last)) };
       most = subst (λ (n : ℕ). c.loop-u.k ≤ n * pack) last all.few;
       told = λ honest slots is.
           let was = all.told honest slots is in (

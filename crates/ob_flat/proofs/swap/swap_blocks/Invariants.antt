@@ -30,7 +30,7 @@ invariant-loop-u g l =
       written : (p : ℕ) → p < l.u → Written l.to p now;
       same : SameSizes l.initial.rows l.rows;
       few : l.k ≤ l.u * pack;
-      rows : IsTrue old.store.tells → (p : ℕ) → p < l.u → HoldsBlock pack l.flat.schema l.to p now;
+      holds : IsTrue old.store.tells → (p : ℕ) → p < l.u → HoldsBlock pack l.flat.schema l.to p now;
       told : IsHonest old now → (slots : Slots) → Represents pack l.flat slots old
           → (l.k ≡ count_by (g.C.Change.picks l.change) (take (l.u * pack) (whole_blocks pack l.flat.capacity slots)))
           × ((p : ℕ) → p < l.u → Holds l.to p (block_bytes l.flat.schema (block_at pack (map_at (g.C.Change.to l.change) 0 (whole_blocks pack l.flat.capacity slots)) p)) now);

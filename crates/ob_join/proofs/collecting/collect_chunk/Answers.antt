@@ -21,7 +21,7 @@ use Rattle.ob_join.proofs.collecting.collect_chunk.Goals as goal
 
 pub loop-x-init : goal.loop-x-init
 loop-x-init g c = record {
-  went = went_none none _ c.requires.asks.ready;
+  went = went_none none _ c.requires.spare.ready;
   seals = λ good. seals_none good _;
   kept = same_rows c.args.kept.now;
   turns = λ q y shape turn. turn;
@@ -54,7 +54,7 @@ pub get-requires-clause-ready : goal.get-requires-clause-ready
 get-requires-clause-ready g c = c.loop-x.invariant.went.lasts.ready
 
 pub get-requires-clause-spare : goal.get-requires-clause-spare
-get-requires-clause-spare g c = omega (arith, c.requires.asks.spare, c.loop-x.invariant.went.spare, reads_from c.args.flat.now.region c.args.first c.loop-x.x)
+get-requires-clause-spare g c = omega (arith, c.requires.spare.spare, c.loop-x.invariant.went.spare, reads_from c.args.flat.now.region c.args.first c.loop-x.x)
 
 pub get-requires-clause-place : goal.get-requires-clause-place
 get-requires-clause-place g c =

@@ -143,8 +143,8 @@ loop-chunk-init g c =
       told = λ honest left right first second. record { holds = λ p below. absurd (omega (arith, below, zero)) };
     }
 
-pub collect_chunk-requires-clause-asks : goal.collect_chunk-requires-clause-asks
-collect_chunk-requires-clause-asks g c =
+pub collect_chunk-requires-clause-spare : goal.collect_chunk-requires-clause-spare
+collect_chunk-requires-clause-spare g c =
     let pack = length c.args.rows.now in
     let join = join_of pack c.args.sides.now in
     let left = c.args.sides.now.left.now in
@@ -155,7 +155,8 @@ collect_chunk-requires-clause-asks g c =
     let before = c.loop-chunk.invariant in
     let below = begun (lefts join) q j _ _ c.div_ceil-lefts.ensures c.div_ceil-chunk-end.ensures c.loop-chunk-test.true in
     let n_is = taken (lefts join) q j _ _ c.div_ceil-lefts.ensures c.min-n.ensures in
-    asks_after c.requires.asks before.went (omega (arith, spent left.region right.region to.region (lefts join) (rights join) q j, rows_room j (chunks join) (rights join) below, chunk_inside (lefts join) q j c.requires.kept.some below, n_is))
+    let asks = asks_after {m = c.min-n.result} c.requires.asks before.went (omega (arith, spent left.region right.region to.region (lefts join) (rights join) q j, rows_room j (chunks join) (rights join) below, chunk_inside (lefts join) q j c.requires.kept.some below, n_is)) in
+    record { ready = asks.ready; spare = asks.spare }
 
 pub collect_chunk-requires-clause-table : goal.collect_chunk-requires-clause-table
 collect_chunk-requires-clause-table g c =

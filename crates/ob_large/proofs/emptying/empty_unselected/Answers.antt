@@ -39,7 +39,7 @@ loop-u-init g c =
       order = is.made.order;
       turn = subst (λ (n : ℕ). IsInTurn is.made.order pack flat n old) (sym (either _ 0)) (record { lives = is.made.lives; turn = is.made.turn; written = is.written });
       same = record { count = refl; sizes = λ j. refl };
-      rows = λ tells rows. rows;
+      holds = λ tells is. is;
       told = λ honest slots here.
           subst (λ (l : Slots). HoldsSlots pack flat l old) (sym (half-none (kept (is_true c.args.pred.now)) pack (whole_blocks pack flat.capacity slots))) (holds_whole pack flat slots old c.requires.table.some here);
     }
@@ -92,7 +92,7 @@ returns-in_err-rework_block-clause-empties g c =
       never = elim reworks.never [ inl e ↦ inl e | inr e ↦ inr (record { place = c.loop-u.u; below = below; is = e }) ];
       seals = seals_after before.went.lasts before.seals reworks.seals;
       table = tt;
-      rows = tt;
+      holds = tt;
       told = λ honest slots is.
           reworks.told (honest_after before.went honest) (half (kept (is_true c.args.pred.now)) pack c.loop-u.u (whole_blocks pack flat.capacity slots)) (before.told (honest_before cut.lasts honest) slots is);
     })
@@ -125,7 +125,7 @@ loop-u-preserved g c =
           let made = reworks.told (honest_after before.went honest) all was in
           let is_made = made.1 ∙ ap (map f) (half-block f pack blocks whole size u below) in
           subst (λ (l : Slots). HoldsSlots pack flat l new) (ap (with_block pack all u) is_made ∙ half-next f pack blocks whole size u below) made.2;
-      rows = λ tells is. reworks.rows (tells_went _ _ _ _ before.went tells) (before.rows tells is);
+      holds = λ tells is. reworks.holds (tells_went _ _ _ _ before.went tells) (before.holds tells is);
     }
 
 pub returns-clause-rows : goal.returns-clause-rows
@@ -147,7 +147,7 @@ returns-clause-empties g c =
       never = tt;
       seals = all.seals;
       table = record { made = record { order = all.order; lives = is.lives; turn = is.turn }; written = is.written };
-      rows = all.rows;
+      holds = all.holds;
       told = λ honest slots is.
           let whole = whole_blocks pack flat.capacity slots in
           let same = half-all f pack blocks whole (whole_size pack flat slots _ is c.requires.table.some) c.loop-u.u last

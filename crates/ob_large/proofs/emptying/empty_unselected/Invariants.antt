@@ -25,7 +25,7 @@ invariant-loop-u g l =
       order : Order;
       turn : IsInTurn order pack flat (if l.u == blocks_of pack flat then 0 else l.u) now;
       same : SameSizes l.initial.rows l.rows;
-      rows : IsTrue old.store.tells → HoldsRows pack flat old → HoldsRows pack flat now;
+      holds : IsTrue old.store.tells → HoldsRows pack flat old → HoldsRows pack flat now;
       told : IsHonest old now → (slots : Slots) → Represents pack flat slots old
           → HoldsSlots pack flat (half (kept (is_true l.pred)) pack l.u (whole_blocks pack flat.capacity slots)) now;
     }

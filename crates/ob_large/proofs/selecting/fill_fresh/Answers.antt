@@ -54,7 +54,7 @@ returns-in_err-swap_blocks-clause-fills g c =
       never = elim swaps.never [ inl failed ↦ inl failed | inr there ↦ inr (inl there) ];
       seals = swaps.seals;
       table = tt;
-      rows = tt;
+      holds = tt;
       told = swaps.told;
     })
 
@@ -87,7 +87,7 @@ returns-in_err-empty_unselected-clause-fills g c =
     let mid = at g.R.Revisions.state c.swap_blocks.new.vault (g.S.BlockStore.state c.swap_blocks.new.store) in
     let copies = copied_slots (length c.args.rows.now) (moved c.args.flat.now c.args.to.now.region) old mid _ swaps.told in
     let empties = rw (c.swap_blocks.ensures.rows.count, c.requires.new.same) at c.in_err-empty_unselected.ensures.empties in
-    rw (p.1, p.2) (fills_after _ _ _ _ _ _ _ _ swaps.ran.ok swaps.seals swaps.rows copies empties)
+    rw (p.1, p.2) (fills_after _ _ _ _ _ _ _ _ swaps.ran.ok swaps.seals swaps.holds copies empties)
 
 pub returns-clause-rows : goal.returns-clause-rows
 returns-clause-rows g c = fit_trans _ _ _ c.swap_blocks.ensures.rows c.empty_unselected.ensures.rows
@@ -99,4 +99,4 @@ returns-clause-fills g c =
     let mid = at g.R.Revisions.state c.swap_blocks.new.vault (g.S.BlockStore.state c.swap_blocks.new.store) in
     let copies = copied_slots (length c.args.rows.now) (moved c.args.flat.now c.args.to.now.region) old mid _ swaps.told in
     let empties = rw (c.swap_blocks.ensures.rows.count, c.requires.new.same) at c.in_ok-empty_unselected.ensures.empties in
-    fills_after _ _ _ _ _ _ _ _ swaps.ran.ok swaps.seals swaps.rows copies empties
+    fills_after _ _ _ _ _ _ _ _ swaps.ran.ok swaps.seals swaps.holds copies empties

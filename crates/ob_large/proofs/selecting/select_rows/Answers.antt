@@ -40,7 +40,7 @@ returns-in_err-region-clause-selects g c =
       never = elim made.never [ inl failed ↦ inl failed | inr none ↦ inr (inl none) ];
       memory = record { began = λ is. cut.began };
       makes = record { value = tt; lives = tt; flat = tt; gone = made.gone; seals = seals_any made.seals.seals };
-      rows = tt;
+      holds = tt;
       source = flat_lasts pack flat (one next) _ _ cut.lasts off c.requires.table.written;
       told = λ honest slots is. made.never;
     })

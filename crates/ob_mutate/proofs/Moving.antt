@@ -1,0 +1,161 @@
+-- A mutation, from one step to the next.
+use Rattle.std.proofs.Common.{◌≡◌, ◌⊎◌, ◌++◌, ◌+◌, ◌*◌, ◌≤◌, inl, inr, ℕ, Bool, List, [], Option, None, Result, Ok, Err, length, length-append, append_assoc, ap, count_by, refl, sym, ◌∙◌, subst, arith}
+use Rattle.ob_base.specs.declared.access.Access.{Access}
+use Rattle.ob_base.specs.Accesses.{discard_at}
+use Rattle.ob_script.specs.Parts.{count_part}
+use Rattle.ob_vault.specs.declared.region.Order.TheVariants.{Round}
+use Rattle.ob_vault.specs.State.{World}
+use Rattle.ob_vault.specs.Tied.{Ready}
+use Rattle.ob_vault.specs.Calls.{Went, Seals, Lasts, one, two}
+use Rattle.ob_vault.specs.Words.{MayAsk, MayStart}
+use Rattle.ob_vault.proofs.Runs.{went_join, went_wider, lives_apart, lives_went, shape_lasts, tells_went}
+use Rattle.ob_vault.proofs.WordLemmas.{asks_start, asks_after, honest_before, honest_after, honest_same}
+use Rattle.ob_row.specs.Slots.{Slots}
+use Rattle.ob_flat.specs.declared.flat.Flat.{Flat}
+use Rattle.ob_flat.specs.declared.fault.OpErr.{OpErr}
+use Rattle.ob_flat.specs.declared.fault.OpErr.TheVariants.{Failed, NoMemory}
+use Rattle.ob_flat.specs.Flats.{Represents, table_region}
+use Rattle.ob_flat.specs.Words.{IsTable, HasSpare, blocks_of, moved}
+use Rattle.ob_flat.specs.Creates.{MakesRegion, make_script}
+use Rattle.ob_flat.specs.Swaps.{Swaps}
+use Rattle.ob_row.specs.Rows.{Row}
+use Rattle.ob_blocks.specs.Blocks.{map_at}
+use Rattle.ob_flat.proofs.Runs.{not_memory, pass_more}
+use Rattle.ob_flat.proofs.Tables.{reads, copies, blocks_few, flat_lasts, rows_lasts, represents_lasts}
+use Rattle.ob_flat.proofs.WordLemmas.{cut_forgot, ran_more, seals_any, seals_after, tampered_after}
+use Rattle.ob_mutate.proofs.Counted.{match_ok}
+use Rattle.ob_mutate.specs.Mutating.{FillsFresh, IsDropped, Mutates, copy_script, place_script, insert_script}
+
+-- what is asked where a row is inserted
+pub places : (pack : ℕ) (flat : Flat) (to : ℕ) → length (place_script pack flat to) ≤ 3 * blocks_of pack flat
+places pack flat to = omega (arith, length-append (count_part flat.region (blocks_of pack flat)) (copy_script pack flat to), reads flat.region (blocks_of pack flat), copies flat.region to (blocks_of pack flat))
+
+four_parts : (pack : ℕ) (flat : Flat) (to : ℕ) → make_script pack (moved flat to) ++ (place_script pack flat to ++ discard_at flat.region) ≡ insert_script pack flat to
+four_parts pack flat to = ap (λ (l : List Access). make_script pack (moved flat to) ++ l) (append_assoc (count_part flat.region (blocks_of pack flat)) (copy_script pack flat to) (discard_at flat.region))
+
+-- a pass over its blocks filled a fresh region
+pub fills_swapped : (pack : ℕ) (flat : Flat) (to : ℕ) (picks : Option Row → Bool) (f : ℕ → Option Row → Option Row) (r : Result ℕ OpErr) (old new : World)
+    → Swaps pack flat to picks f r old new → FillsFresh pack flat to (copy_script pack flat to) (count_by picks) (map_at f 0) r old new
+fills_swapped pack flat to picks f r old new swaps = record { ran = swaps.ran; never = swaps.never; seals = swaps.seals; table = swaps.table; holds = swaps.holds; told = swaps.told }
+
+-- of a table that may be changed
+module _ {T : Type 0} (pack : ℕ) (flat : Flat) (fill : List Access) (answer : Slots → T) (after : Slots → Slots) (old : World) (ready : Ready old) (table : IsTable pack flat old) where
+  -- the whole script
+  abbrev whole : List Access
+  whole = make_script pack (moved flat old.vault.next) ++ (fill ++ discard_at flat.region)
+
+  off : flat.region ≡ old.vault.next → ⊥
+  off = lives_apart _ _ _ ready table.written.made.lives
+
+  -- the region was not made
+  pub mutates_none : (e : OpErr) (new : World) → MakesRegion Round pack (moved flat old.vault.next) (Err e) old new → Mutates pack flat flat whole answer after (Err e) old new
+  mutates_none e new makes =
+      let next = old.vault.next in
+      let lasts = makes.ran.err.lasts in
+      record {
+        ok = tt;
+        err = pass_more (one next) _ _ _ (make_script pack (moved flat next)) (fill ++ discard_at flat.region) makes.ran.err;
+        never = elim makes.never [ inl failed ↦ inl failed | inr none ↦ inr (inl none) ];
+        memory = record { began = λ is. makes.ran.err.began };
+        gone = makes.gone;
+        seals = seals_any makes.seals.seals;
+        moves = tt;
+        same = refl;
+        lives = tt;
+        table = flat_lasts pack flat (one next) _ _ lasts off table.written;
+        holds = rows_lasts pack flat (one next) _ _ lasts off;
+        told = λ honest slots is. (makes.never, represents_lasts pack flat (one next) _ _ lasts off slots is);
+      }
+
+  module _ {g : ℕ} (mid : World) (makes : MakesRegion Round pack (moved flat old.vault.next) (Ok g) old mid) where
+    -- it was, and filled
+    pub mutates_ok : (x : T) (late new : World) → FillsFresh pack flat old.vault.next fill answer after (Ok x) mid late → IsDropped flat.region late new
+        → Mutates pack flat (moved flat old.vault.next) whole answer after (Ok x) old new
+    mutates_ok x late new fills dropped =
+        let next = old.vault.next in
+        let fresh = moved flat next in
+        let both = two flat.region next in
+        let made = makes.ran.ok in
+        let filled = fills.ran.ok in
+        let away : next ≡ flat.region → ⊥ = λ same. off (sym same) in
+        let shape = table_region Round pack flat.schema flat.capacity in
+        record {
+          ok = went_join both _ _ _ (make_script pack fresh) (fill ++ discard_at flat.region) (went_wider (one next) _ _ both (λ r s. inr s) _ made)
+              (went_join both _ _ _ fill (discard_at flat.region) (went_wider (one next) _ _ both (λ r s. inr s) _ filled) (went_wider (one flat.region) _ _ both (λ r s. inl s) _ dropped.went));
+          err = tt;
+          never = tt;
+          memory = record { began = λ is. absurd (cc is) };
+          gone = dropped.gone;
+          seals = seals_after made.lasts (seals_any makes.seals.seals) (seals_after filled.lasts fills.seals (seals_any dropped.seals.seals));
+          moves = refl;
+          same = tt;
+          lives = lives_went _ _ _ _ next shape dropped.went away (shape_lasts (one next) _ _ next shape _ made.lasts.ready filled.lasts makes.lives fills.table.made.lives);
+          table = flat_lasts pack fresh (one flat.region) _ _ dropped.went.lasts away fills.table;
+          holds = λ tells. rows_lasts pack fresh (one flat.region) _ _ dropped.went.lasts away (fills.holds (tells_went _ _ _ _ made tells));
+          told = λ honest slots is.
+              let there = represents_lasts pack flat (one next) _ _ made.lasts off slots is in
+              let done = fills.told (honest_after made (honest_before dropped.went.lasts honest)) slots there in
+              (done.0, represents_lasts pack fresh (one flat.region) _ _ dropped.went.lasts away (after slots) done.1);
+        }
+
+    -- or was cut, and is forgotten
+    pub mutates_err : (e : OpErr) (late new : World) → FillsFresh pack flat old.vault.next fill answer after (Err e) mid late → Went [] (one old.vault.next) late new → new.store ≡ late.store
+        → ((good : ℕ → List ℕ → Bool) → Seals good late new) → new.vault.revs.live old.vault.next ≡ None → Mutates pack flat flat whole answer after (Err e) old new
+    mutates_err e late new fills forgot same sealed gone =
+        let next = old.vault.next in
+        let fresh = moved flat next in
+        let ended = cut_forgot Round pack fresh _ _ (make_script pack fresh) makes.ran.ok makes.seals.seals e (fill ++ discard_at flat.region) late new (ran_more {T = T} fill (discard_at flat.region) fills.ran.err) forgot same in
+        let lasts = ended.lasts in
+        record {
+          ok = tt;
+          err = ended;
+          never = elim fills.never [ inl failed ↦ inl failed | inr there ↦ inr (inr (tampered_after forgot same there)) ];
+          memory = record { began = λ is. elim fills.never [ inl failed ↦ not_memory failed is | inr there ↦ absurd (cc (is, there.is)) ] };
+          gone = gone;
+          seals = seals_after makes.ran.ok.lasts (seals_any makes.seals.seals) (seals_after fills.ran.err.lasts fills.seals (seals_any sealed));
+          moves = tt;
+          same = refl;
+          lives = tt;
+          table = flat_lasts pack flat (one next) _ _ lasts off table.written;
+          holds = rows_lasts pack flat (one next) _ _ lasts off;
+          told = λ honest slots is.
+              let there = represents_lasts pack flat (one next) _ _ makes.ran.ok.lasts off slots is in
+              (inl (fills.told (honest_after makes.ran.ok (honest_same same honest)) slots there), represents_lasts pack flat (one next) _ _ lasts off slots is);
+        }
+
+    -- what may be asked to fill it
+    pub fill_asks : (n : ℕ) → MayStart (n + 2) old → n ≤ 3 * blocks_of pack flat → MayAsk n mid
+    fill_asks n starts most =
+        let few = blocks_few pack flat.capacity table.some in
+        asks_after (asks_start starts (omega (arith, few, table.size.most, most))) makes.ran.ok (omega arith)
+
+    -- and then to discard the old one
+    pub drop_spare : (n : ℕ) (late : World) → MayStart (n + 2) old → length fill ≤ n → Went fill (one old.vault.next) mid late → HasSpare 1 late
+    drop_spare n late starts most filled = record { ready = filled.lasts.ready; spare = omega (arith, starts.spare, makes.ran.ok.spare, filled.spare, most) }
+
+    -- the table stands
+    pub table_stands : IsTable pack flat mid
+    table_stands = record { some = table.some; most = table.most; size = table.size; written = flat_lasts pack flat (one old.vault.next) _ _ makes.ran.ok.lasts off table.written }
+
+-- the same, where the answer and the slots are written in other words
+pub rewrites_as : {T : Type 0} {pack : ℕ} {flat left : Flat} {script : List Access} {answer other : Slots → T} {after later : Slots → Slots} {r : Result T OpErr} {old new : World}
+    → ((slots : Slots) → answer slots ≡ other slots) → ((slots : Slots) → after slots ≡ later slots)
+    → Mutates pack flat left script answer after r old new → Mutates pack flat left script other later r old new
+rewrites_as {T} {pack} {flat} {left} {script} {answer} {other} {after} {later} {r} {old} {new} words slots_are is = record {
+  ok = is.ok;
+  err = is.err;
+  never = is.never;
+  memory = is.memory;
+  gone = is.gone;
+  seals = is.seals;
+  moves = is.moves;
+  same = is.same;
+  lives = is.lives;
+  table = is.table;
+  holds = is.holds;
+  told = λ honest slots here. match_ok _ r (λ x both. (both.0 ∙ words slots, subst (λ (l : Slots). Represents pack left l new) (slots_are slots) both.1)) (is.told honest slots here);
+}
+
+pub as_insert : {T : Type 0} {pack : ℕ} {flat left : Flat} (to : ℕ) {answer : Slots → T} {after : Slots → Slots} {r : Result T OpErr} {old new : World}
+    → Mutates pack flat left (make_script pack (moved flat to) ++ (place_script pack flat to ++ discard_at flat.region)) answer after r old new → Mutates pack flat left (insert_script pack flat to) answer after r old new
+as_insert {T} {pack} {flat} {left} to {answer} {after} {r} {old} {new} is = subst (λ (l : List Access). Mutates pack flat left l answer after r old new) (four_parts pack flat to) is
