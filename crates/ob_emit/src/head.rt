@@ -12,7 +12,8 @@ use std::array;
 
 // Whether a column is of another table.
 fn has_other(table: &[u8], columns: &[Column]) -> bool
-    ensures { result ≡ list_any (λ (c : TableColumn). not (bytes_eq c.table table.now)) columns.now }
+    ensures { result
+        ≡ list_any (λ (c : TableColumn). not (bytes_eq c.table table.now)) columns.now }
 {
     match columns.split_first() {
         None => false,

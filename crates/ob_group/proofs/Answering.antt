@@ -1,10 +1,14 @@
 -- What the groups of a table's slots answer.
-use Rattle.std.proofs.Common.{◌≡◌, ◌≤◌, ◌<◌, ◌-◌, ℕ, zero, suc, Bool, true, false, nat_lt, List, [], ◌∷◌, Some, None, length, cond, if◌then◌else◌, refl, sym, ◌∙◌, ap, arith}
+use Rattle.std.proofs.Common.{◌≡◌, ◌⊎◌, inl, inr, Err, ◌≤◌, ◌<◌, ◌-◌, ℕ, zero, suc, Bool, true, false, nat_lt, List, [], ◌∷◌, Some, None, length, cond, if◌then◌else◌, refl, sym, ◌∙◌, ap, arith}
 use Rattle.std.specs.List.{All}
 use Rattle.std.specs.Prelude.{filter, slice_get}
 use Rattle.std.proofs.lemmas.Bool.Decides.{nat_tests}
 use Rattle.std.proofs.lemmas.List.Sums.{fold-append}
+use Rattle.std.proofs.lemmas.List.{append-nil}
+use Rattle.ob_base.specs.declared.access.Access.{Access}
 use Rattle.ob_base.specs.Schemas.{Columns}
+use Rattle.ob_vault.specs.State.{World}
+use Rattle.ob_vault.specs.Calls.{Went, none}
 use Rattle.ob_row.specs.declared.aggregate.Item.{Item}
 use Rattle.ob_row.specs.Rows.{Row, options_eq}
 use Rattle.ob_row.specs.Slots.{Slots, rows}
@@ -12,7 +16,12 @@ use Rattle.ob_row.specs.Spelling.{Fits}
 use Rattle.ob_row.specs.Totals.{group_heads, grouped}
 use Rattle.ob_blocks.specs.Blocks.{none_of, up_to}
 use Rattle.ob_blocks.proofs.Blocks.{all_first, all_rest}
+use Rattle.ob_flat.specs.declared.flat.Flat.{Flat}
+use Rattle.ob_flat.specs.declared.fault.OpErr.{OpErr}
+use Rattle.ob_flat.specs.declared.fault.OpErr.TheVariants.{Failed, Tampered, Sink, NoMemory}
 use Rattle.ob_flat.specs.Slots.{FitsSlot}
+use Rattle.ob_flat.specs.Passes.{PassCause, PassCut, SinkCause}
+use Rattle.ob_flat.specs.Words.{TamperedIn}
 use Rattle.ob_group.specs.declared.grouping.Grouped.TheVariants.{Groups, TooMany}
 use Rattle.ob_group.specs.Answers.{answer_of}
 use Rattle.ob_group.specs.Grouping.{Group, put_slot, aggs_of, groups_with, groups_of, groups_shown}
@@ -61,3 +70,30 @@ pub so_many : (most k n : ℕ) → k ≡ n → n ≤ most → Groups k ≡ answe
 so_many most k n same h =
     let is : nat_lt most n ≡ false = grind (arith, nat_tests) in
     ap Groups same ∙ ap (λ (b : Bool). if b then TooMany else Groups n) (sym is)
+
+-- all was asked, and then the emitter gave up
+pub read_all : {e : OpErr} {x : List Access} {a b : World} → (e ≡ Sink) ⊎ (e ≡ NoMemory) → Went x none a b → PassCut e x none a b
+read_all {e} {x} {a} {b} either went = record {
+  lasts = went.lasts;
+  began = record { done = x; rest = []; split = append-nil x; asked = went.did.asked };
+  cause = go e either;
+}
+  where
+    go : (e : OpErr) → (e ≡ Sink) ⊎ (e ≡ NoMemory) → PassCause e a b
+    go Failed either = elim either [ inl sink ↦ absurd (cc sink) | inr memory ↦ absurd (cc memory) ]
+    go (Tampered q p) either = elim either [ inl sink ↦ absurd (cc sink) | inr memory ↦ absurd (cc memory) ]
+    go Sink either = (went.did.faults, went.calm)
+    go NoMemory either = (went.did.faults, went.calm)
+
+-- the emitter wasn't asked
+pub unasked : (T : Type 0) {pack : ℕ} {flat : Flat} {w : World} (n : ℕ) (e : OpErr) → (e ≡ Failed) ⊎ TamperedIn pack flat e w → SinkCause {T = T} (Err e) n n
+unasked T n Failed either = refl
+unasked T n (Tampered q p) either = refl
+unasked T n Sink either = elim either [ inl failed ↦ absurd (cc failed) | inr there ↦ absurd (cc there.is) ]
+unasked T n NoMemory either = refl
+
+pub not_sink : {P : Type 0} {pack : ℕ} {flat : Flat} {w : World} {e : OpErr} → (e ≡ Failed) ⊎ TamperedIn pack flat e w → (e ≡ Sink) ⊎ (e ≡ NoMemory) → P
+not_sink either other = elim either [
+  | inl failed ↦ elim other [ inl sink ↦ absurd (cc (failed, sink)) | inr memory ↦ absurd (cc (failed, memory)) ]
+  | inr there ↦ elim other [ inl sink ↦ absurd (cc (there.is, sink)) | inr memory ↦ absurd (cc (there.is, memory)) ]
+]

@@ -1,12 +1,15 @@
 -- The rows of groups that were emitted.
-use Rattle.std.proofs.Common.{◌≡◌, ◌<◌, ◌+◌, inr, ℕ, List, [], ◌∷◌, ◌++◌, length, take, drop, slice_index_or, Result, Ok, Err, OnOk, OnErr, refl, sym, ◌∙◌, ap, arith}
+use Rattle.std.proofs.Common.{◌≡◌, ◌<◌, ◌+◌, inr, ℕ, List, [], ◌∷◌, ◌++◌, length, take, drop, slice_index_or, Result, Ok, Err, OnOk, OnErr, refl, sym, ◌∙◌, ap, subst, arith}
 use Rattle.std.proofs.lemmas.List.{append-nil, map-append, take_more, take-append-drop}
 use Rattle.ob_base.specs.declared.shown.Shown.{Shown}
-use Rattle.ob_base.specs.Events.{Event, Row, row_events, Leads, IsEmitted, IsHalted}
+use Rattle.ob_base.specs.declared.emit.EmitErr.{EmitErr}
+use Rattle.ob_base.specs.declared.schema.Kind.{Kind}
+use Rattle.ob_base.specs.Events.{Event, Row, EmitCause, row_events, Leads, IsEmitted, IsHalted}
 use Rattle.ob_base.proofs.EventLemmas.{emitted_head, emitted_join, halted_join}
 use Rattle.ob_row.specs.declared.aggregate.Item.{Item}
 use Rattle.ob_group.specs.Grouping.{Group, group_shown, groups_shown}
 use Rattle.ob_group.specs.Held.{no_group}
+use Rattle.ob_group.specs.Passes.{EmitsGroups}
 
 module _ (items : List Item) (gs : List Group) (i : ℕ) where
   -- one more, and those that are left
@@ -26,14 +29,19 @@ module _ {E A T R : Type 0} (grew cut : E → E → List Event → Type 0) (show
   one_halted (Err e) leads = record { events = Row cells ∷ []; ends = inr leads; told = λ s. ([], ap (λ (l : List Shown). Row l ∷ []) (told s)) }
 
 -- rows behind their header
-module _ {E A T R : Type 0} (grew cut : E → E → List Event → Type 0) (head : List Event) where
-  pub headed_ok : (shown : A → List (List Shown)) (n : ℕ) (a b c : E) → Leads grew grew a b head → (r : Result T R) → OnOk r (IsEmitted grew [] shown 0 n b c) → OnOk r (IsEmitted grew head shown 0 n a c)
-  headed_ok shown n a b c leads (Ok x) is =
-      emitted_join grew head (λ (s : ℕ). []) shown shown 0 0 0 n n a b c (emitted_head grew head a b leads) is (omega arith) (λ s. (0, s, refl))
-  headed_ok shown n a b c leads (Err e) is = tt
-
-  pub headed_err : (all : A → List Event) (a b c : E) → Leads grew grew a b head → (r : Result T R) → OnErr r (IsHalted grew cut all b c) → OnErr r (IsHalted grew cut (λ s. head ++ all s) a c)
-  headed_err all a b c leads (Ok x) is = tt
-  headed_err all a b c leads (Err e) is =
-      halted_join grew cut head (λ (s : ℕ). []) all (λ s. head ++ all s) 0 0 a b c (emitted_head grew head a b leads) is
-      (λ s. (0, s, [], ap (λ (l : List Event). l ++ (all s ++ [])) (append-nil head) ∙ ap (λ (l : List Event). head ++ l) (append-nil (all s))))
+pub headed : {E T : Type 0} {grew cut : E → E → List Event → Type 0} {faults : E → ℕ} {kind : Kind} {items : List Item} {n : ℕ} {rows : List (List ℕ)} {a b c : E} (head : List Event)
+    → Leads grew grew a b head → faults b ≡ faults a → (r : Result T EmitErr)
+    → EmitsGroups grew cut faults kind items n rows [] r b c → EmitsGroups grew cut faults kind items n rows head r a c
+headed {grew = grew} {items = items} {n = n} {a = a} {b = b} {c = c} head leads same (Ok x) is = record {
+  emitted = emitted_join grew head (λ (s : ℕ). []) (λ s. groups_shown items s.groups) (λ s. groups_shown items s.groups) 0 0 0 n n a b c (emitted_head grew head a b leads) is.emitted (omega arith) (λ s. (0, s, refl));
+  halted = tt;
+  cause = is.cause ∙ same;
+}
+headed {T = T} {grew = grew} {cut = cut} {faults = faults} {items = items} {a = a} {b = b} {c = c} head leads same (Err e) is = record {
+  emitted = tt;
+  halted = halted_join grew cut head (λ (s : ℕ). []) (λ s. row_events (groups_shown items s.groups)) (λ s. head ++ row_events (groups_shown items s.groups)) 0 0 a b c (emitted_head grew head a b leads) is.halted
+      (λ s.
+      let events = row_events (groups_shown items s.groups) in
+      (0, s, [], ap (λ (l : List Event). l ++ (events ++ [])) (append-nil head) ∙ ap (λ (l : List Event). head ++ l) (append-nil events)));
+  cause = subst (λ (k : ℕ). EmitCause {T = T} (Err e) k (faults c)) same is.cause;
+}

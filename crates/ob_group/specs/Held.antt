@@ -1,5 +1,5 @@
 -- The bytes of a running group: its key, as a row spells it, and 16 bytes for each total.
-use Rattle.std.specs.Prelude.{◌≡◌, ◌≤◌, ◌<◌, ℕ, ◌^◌, ◌-◌, ℤ, negsuc, List, [], ◌∷◌, ◌++◌, length, Option, Some, None, slice_index_or}
+use Rattle.std.specs.Prelude.{◌≡◌, ◌≤◌, ◌<◌, ℕ, ◌+◌, ◌^◌, ◌-◌, ℤ, negsuc, List, [], ◌∷◌, ◌++◌, length, Option, Some, None, slice_index_or}
 use Rattle.std.specs.Int.{to_be_bytes, cast_unsigned, w128}
 use Rattle.ob_base.specs.declared.schema.Kind.{Kind}
 use Rattle.ob_row.specs.declared.cell.Cell.{Cell}
@@ -52,3 +52,20 @@ pub record AreGroups (kind : Kind) (m count n : ℕ) (groups : List Group) (rows
   pub all : n ≤ length rows → length groups ≡ n
   pub more : length rows < n → length rows < length groups
   pub each : n ≤ length rows → (i : ℕ) → i < n → HoldsGroup kind m count (slice_index_or groups i no_group) (row_at rows i)
+
+-- a row holds a group of some of a table's rows
+pub record IsGroup (kind : Kind) (count : ℕ) (row : List ℕ) : Type 0 where
+  pub group : Group
+  pub is : HoldsGroup kind 2147483648 count group row
+
+-- the first rows hold n of them
+pub record HasGroups (kind : Kind) (count n : ℕ) (rows : List (List ℕ)) : Type 0 where
+  pub groups : List Group
+  pub are : AreGroups kind 2147483648 count n groups rows
+
+-- and there may be so many rows more
+pub record MayGrow (kind : Kind) (count n more : ℕ) (rows : List (List ℕ)) : Type 0 where
+  pub groups : List Group
+  pub m : ℕ
+  pub room : m + more ≤ 2147483648
+  pub are : AreGroups kind m count n groups rows

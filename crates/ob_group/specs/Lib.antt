@@ -4,3 +4,4 @@ pub mod Held
 pub mod IsAccs
 pub mod Labels
 pub mod Answers
+pub mod Passes

@@ -39,10 +39,12 @@ pub(crate) fn total_shown(total: Option<i128>) -> Shown
 }
 
 impl Accs {
-    // The totals, as they are printed.
-    pub(crate) fn of_totals(totals: &[Option<i128>]) -> Accs
-        requires { length totals.now ≤ 32 }
-        ensures { result ≡ map total_shown totals.now }
+    // So many cells: those of the totals, as they are printed, where there are as many.
+    pub(crate) fn of_totals(totals: &[Option<i128>], n: usize) -> Accs
+        requires few { length totals.now ≤ 32 }
+        requires most { n ≤ 32 }
+        ensures size { length result ≡ n }
+        ensures value { length totals.now ≡ n → result ≡ map total_shown totals.now }
     {
         let mut cells: [Shown; 32] = array::from_fn(|_| Shown::Null);
         for i in 0..totals.len() {
@@ -50,7 +52,7 @@ impl Accs {
         }
         Accs {
             cells,
-            count: totals.len() as u8,
+            count: n as u8,
         }
     }
 

@@ -1,18 +1,12 @@
-ghost use Rattle.std.specs.Prelude.{◌≡◌, ◌≤◌, ◌<◌, ◌+◌, ◌*◌, ◌^◌, ◌⊎◌, max, ℕ, Bool, List, None, IfErr, OnOk, MatchResult, length, filter};
-ghost use Rattle.ob_base.specs.Numbers.{blocks_for};
+ghost use Rattle.std.specs.Prelude.{◌≡◌, max, length};
 ghost use Rattle.ob_base.specs.Schemas.{width};
-ghost use Rattle.ob_vault.specs.Tied.{Ready};
-ghost use Rattle.ob_vault.specs.Calls.{Went, Seals, none};
-ghost use Rattle.ob_vault.specs.Places.{at, RowsFit};
+ghost use Rattle.ob_vault.specs.Places.{at};
 ghost use Rattle.ob_vault.specs.Rows.{SameSizes};
-ghost use Rattle.ob_script.specs.Parts.{count_part};
 ghost use Rattle.ob_blocks.specs.Idle.{IsIdle};
-ghost use Rattle.ob_row.specs.Slots.{Slots, rows as rows_in};
-ghost use Rattle.ob_row.specs.Totals.{totals};
 ghost use Rattle.ob_row.specs.Truth.{is_true};
-ghost use Rattle.ob_flat.specs.Flats.{IsSized, IsFlat, Represents};
-ghost use Rattle.ob_flat.specs.Passes.{PassCut};
-ghost use Rattle.ob_group.specs.Running.{AreWithin};
+ghost use Rattle.ob_flat.specs.Flats.{IsSized, IsFlat};
+ghost use Rattle.ob_flat.specs.Words.{HasSpare, IsTable, FitBlock, blocks_of};
+ghost use Rattle.ob_group.specs.Passes.{AreAggs, Aggregates};
 
 use crate::accs::Accs;
 use crate::totals::{add_row, starts};
@@ -36,9 +30,14 @@ impl<'a> Visit for Adding<'a> {
     ghost use Rattle.ob_row.specs.Truth.{is_true};
     ghost use Rattle.ob_group.specs.Running.{AreWithin, AreUpTo, seen_slot};
 
-    ghost after = { λ flat s i slot. record s { totals = record { items = seen_slot (is_true s.pred.now) s.aggs.now s.totals.items slot } } };
+    ghost after = { λ flat s i slot. record s {
+      totals = record {
+        items = seen_slot (is_true s.pred.now) s.aggs.now s.totals.items slot;
+      };
+    } };
 
-    ghost Suits = { λ flat s i. AreWithin (length flat.schema) s.aggs.now × (length s.totals.items ≡ length s.aggs.now) × AreUpTo i s.totals.items };
+    ghost Suits = { λ flat s i. AreWithin (length flat.schema) s.aggs.now
+        × (length s.totals.items ≡ length s.aggs.now) × AreUpTo i s.totals.items };
 
     fn visit(&mut self, _i: u32, flat: &Flat, row: &ClearRow) -> Result<(), Malformed> {
         if holds(self.pred, &flat.schema, row)? {
@@ -56,21 +55,14 @@ fn aggregate_blocks<S: BlockStore, R: Revisions>(
     pred: &Pred,
     aggs: &[Agg],
 ) -> Result<Accs, OpErr>
-    requires ready { Ready (at R.state vault.old (S.state store.old)) }
-    requires spare { blocks_for (length rows.old) flat.now.capacity ≤ (S.state store.old).spare }
-    requires flat { IsFlat (length rows.old) flat.now (at R.state vault.old (S.state store.old)) }
-    requires size { IsSized flat.now.schema flat.now.capacity }
-    requires pack { (1 ≤ length rows.old) × (length rows.old ≤ 16) }
-    requires fit { RowsFit rows.old (length rows.old * width flat.now.schema) }
-    requires few { length aggs.now ≤ 32 }
-    requires within { AreWithin (length flat.now.schema) aggs.now }
+    requires spare { HasSpare (blocks_of (length rows.old) flat.now)
+        (at R.state vault.old (S.state store.old)) }
+    requires table { IsTable (length rows.old) flat.now (at R.state vault.old (S.state store.old)) }
+    requires fit { FitBlock flat.now.schema rows.old }
+    requires aggs { AreAggs flat.now.schema aggs.now }
     ensures rows { SameSizes rows.old rows.new }
-    ensures ok { OnOk result (Went (count_part flat.now.region (blocks_for (length rows.old) flat.now.capacity)) none (at R.state vault.old (S.state store.old)) (at R.state vault.new (S.state store.new))) }
-    ensures err { IfErr result (λ e. PassCut e (count_part flat.now.region (blocks_for (length rows.old) flat.now.capacity)) none (at R.state vault.old (S.state store.old)) (at R.state vault.new (S.state store.new))) }
-    ensures never { IfErr result (λ e. (e ≡ OpErr.Failed) ⊎ ((place : ℕ) × (place < blocks_for (length rows.old) flat.now.capacity) × (e ≡ OpErr.Tampered flat.now.region place))) }
-    ensures seals { (good : ℕ → List ℕ → Bool) → Seals good (at R.state vault.old (S.state store.old)) (at R.state vault.new (S.state store.new)) }
-    ensures told { (slots : Slots) → Represents (length rows.old) flat.now slots (at R.state vault.old (S.state store.old)) → (S.state store.new).lie ≡ None
-        → MatchResult result (λ accs. accs ≡ totals aggs.now (filter (is_true pred.now) (rows_in slots))) (λ e. e ≡ OpErr.Failed) }
+    ensures aggregates { Aggregates (length rows.old) flat.now (is_true pred.now) aggs.now result
+        (at R.state vault.old (S.state store.old)) (at R.state vault.new (S.state store.new)) }
 {
     let mut adding = Adding {
         pred,
@@ -78,7 +70,7 @@ fn aggregate_blocks<S: BlockStore, R: Revisions>(
         totals: starts(aggs),
     };
     scan_blocks(store, vault, rows, flat, &mut adding)?;
-    Ok(Accs::of_totals(adding.totals.as_slice()))
+    Ok(Accs::of_totals(adding.totals.as_slice(), aggs.len()))
 }
 
 /// The aggregates of the rows of a table that make the condition true, one cell for each: reads each
@@ -96,21 +88,15 @@ pub fn aggregate<S: BlockStore, R: Revisions>(
     pred: &Pred,
     aggs: &[Agg],
 ) -> Result<Accs, OpErr>
-    requires ready { Ready (at R.state vault.old (S.state store.old)) }
-    requires spare { blocks_for room.old.pack flat.now.capacity ≤ (S.state store.old).spare }
+    requires spare { HasSpare (blocks_of room.old.pack flat.now)
+        (at R.state vault.old (S.state store.old)) }
     requires flat { IsFlat room.old.pack flat.now (at R.state vault.old (S.state store.old)) }
     requires size { IsSized flat.now.schema flat.now.capacity }
     requires room { IsIdle (width flat.now.schema) room.old }
-    requires few { length aggs.now ≤ 32 }
-    requires within { AreWithin (length flat.now.schema) aggs.now }
-    ensures ok { OnOk result (Went (count_part flat.now.region (blocks_for room.old.pack flat.now.capacity)) none (at R.state vault.old (S.state store.old)) (at R.state vault.new (S.state store.new))) }
-    ensures err { IfErr result (λ e. PassCut e (count_part flat.now.region (blocks_for room.old.pack flat.now.capacity)) none (at R.state vault.old (S.state store.old)) (at R.state vault.new (S.state store.new))) }
-    ensures never { IfErr result (λ e. (e ≡ OpErr.Failed) ⊎ ((place : ℕ) × (place < blocks_for room.old.pack flat.now.capacity) × (e ≡ OpErr.Tampered flat.now.region place))) }
-    ensures seals { (good : ℕ → List ℕ → Bool) → Seals good (at R.state vault.old (S.state store.old)) (at R.state vault.new (S.state store.new)) }
-    ensures flat { IsFlat room.old.pack flat.now (at R.state vault.new (S.state store.new)) }
+    requires aggs { AreAggs flat.now.schema aggs.now }
     ensures room { room.new ≡ record room.old { high = max room.old.high room.old.pack } }
-    ensures told { (slots : Slots) → Represents room.old.pack flat.now slots (at R.state vault.old (S.state store.old)) → (S.state store.new).lie ≡ None
-        → MatchResult result (λ accs. accs ≡ totals aggs.now (filter (is_true pred.now) (rows_in slots))) (λ e. e ≡ OpErr.Failed) }
+    ensures aggregates { Aggregates room.old.pack flat.now (is_true pred.now) aggs.now result
+        (at R.state vault.old (S.state store.old)) (at R.state vault.new (S.state store.new)) }
 {
     let pack = room.pack();
     let rows = room.open(pack);

@@ -1,11 +1,8 @@
-ghost use Rattle.std.specs.Prelude.{◌≡◌, ◌≤◌, ◌<◌, ◌∷◌, ◌++◌, [], List, OnOk, OnErr, length};
-ghost use Rattle.std.specs.List.{All};
-ghost use Rattle.ob_base.specs.Events.{EmitCause, row_events, IsEmitted, IsHalted};
-ghost use Rattle.ob_base.specs.Labels.{IsNamed};
+ghost use Rattle.std.specs.Prelude.{◌≡◌, ◌≤◌, ◌<◌, [], ◌∷◌, length};
 ghost use Rattle.ob_row.specs.Spelling.{kind_at};
-ghost use Rattle.ob_group.specs.Grouping.{Group, group_shown, groups_shown};
-ghost use Rattle.ob_group.specs.Held.{HoldsGroup, AreGroups};
+ghost use Rattle.ob_group.specs.Held.{IsGroup, HasGroups};
 ghost use Rattle.ob_group.specs.Labels.{header};
+ghost use Rattle.ob_group.specs.Passes.{EmitsGroup, EmitsGroups};
 
 use crate::groups::show_group;
 use crate::head::emit_head;
@@ -24,11 +21,10 @@ fn emit_group<E: Emit>(
 ) -> Result<(), EmitErr>
     requires few { length items.now ≤ 32 }
     requires size { length items.now ≤ length cells.old }
-    requires held { (g : Group) × HoldsGroup kind 2147483648 (length items.now) g group.now }
+    requires held { IsGroup kind (length items.now) group.now }
     ensures size { length cells.new ≡ length cells.old }
-    ensures ok { OnOk result (IsEmitted E.grew [] (λ (s : (g : Group) × HoldsGroup kind 2147483648 (length items.now) g group.now). group_shown items.now s.0 ∷ []) 0 1 out.old out.new) }
-    ensures err { OnErr result (IsHalted E.grew E.cut (λ (s : (g : Group) × HoldsGroup kind 2147483648 (length items.now) g group.now). row_events (group_shown items.now s.0 ∷ [])) out.old out.new) }
-    ensures cause { EmitCause result (E.faults out.old) (E.faults out.new) }
+    ensures emits { EmitsGroup E.grew E.cut E.faults kind items.now group.now result
+        out.old out.new }
 {
     show_group(kind, items, group, cells);
     out.row(&cells[..items.len()])
@@ -44,10 +40,9 @@ pub(crate) fn emit_groups<E: Emit>(
 ) -> Result<(), EmitErr>
     requires few { length items.now ≤ 32 }
     requires most { n ≤ length groups.now }
-    requires held { (gs : List Group) × AreGroups kind 2147483648 (length items.now) n gs groups.now }
-    ensures ok { OnOk result (IsEmitted E.grew [] (λ (s : (gs : List Group) × AreGroups kind 2147483648 (length items.now) n gs groups.now). groups_shown items.now s.0) 0 n out.old out.new) }
-    ensures err { OnErr result (IsHalted E.grew E.cut (λ (s : (gs : List Group) × AreGroups kind 2147483648 (length items.now) n gs groups.now). row_events (groups_shown items.now s.0)) out.old out.new) }
-    ensures cause { EmitCause result (E.faults out.old) (E.faults out.new) }
+    requires held { HasGroups kind (length items.now) n groups.now }
+    ensures { EmitsGroups E.grew E.cut E.faults kind items.now n groups.now [] result
+        out.old out.new }
 {
     let mut cells: [Shown; 32] = array::from_fn(|_| Shown::Null);
     for i in 0..n {
@@ -69,13 +64,11 @@ pub(crate) fn emit_answer<E: Emit>(
     n: usize,
 ) -> Result<(), EmitErr>
     requires few { length items.now ≤ 32 }
-    requires names { All IsNamed schema.now }
     requires key { key < length schema.now }
     requires most { n ≤ length groups.now }
-    requires held { (gs : List Group) × AreGroups (kind_at schema.now key) 2147483648 (length items.now) n gs groups.now }
-    ensures ok { OnOk result (IsEmitted E.grew (header schema.now key items.now) (λ (s : (gs : List Group) × AreGroups (kind_at schema.now key) 2147483648 (length items.now) n gs groups.now). groups_shown items.now s.0) 0 n out.old out.new) }
-    ensures err { OnErr result (IsHalted E.grew E.cut (λ (s : (gs : List Group) × AreGroups (kind_at schema.now key) 2147483648 (length items.now) n gs groups.now). header schema.now key items.now ++ row_events (groups_shown items.now s.0)) out.old out.new) }
-    ensures cause { EmitCause result (E.faults out.old) (E.faults out.new) }
+    requires held { HasGroups (kind_at schema.now key) (length items.now) n groups.now }
+    ensures { EmitsGroups E.grew E.cut E.faults (kind_at schema.now key) items.now n
+        groups.now (header schema.now key items.now) result out.old out.new }
 {
     match emit_head(schema, key, items, out) {
         Ok(()) => emit_groups(out, kind_at(schema, key), items, groups, n),

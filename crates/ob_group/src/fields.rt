@@ -28,7 +28,8 @@ fn put_total(total: Option<i128>, field: &mut [u8])
 // The total that was written.
 fn total_in(field: &[u8]) -> Option<i128>
     requires { length field.now ≡ 16 }
-    ensures { (total : Option ℤ) → IfSome total (λ x. nat_abs x < 2 ^ 127) → field.now ≡ total_bytes total → result ≡ total }
+    ensures { (total : Option ℤ) → IfSome total (λ x. nat_abs x < 2 ^ 127)
+        → field.now ≡ total_bytes total → result ≡ total }
 {
     let mut bytes = [0; 16];
     bytes.copy_from_slice(field);
@@ -68,8 +69,11 @@ pub(crate) fn add_totals(schema: &Schema, row: &ClearRow, items: &[Item], fields
     requires real { (cells : Row) × Begins schema.now (Some cells) row.now }
     requires held { (totals : Sums) × HoldTotals 2147483648 (length items.now) totals fields.old }
     ensures size { length fields.new ≡ length fields.old }
-    ensures told { (cells : Row) → Begins schema.now (Some cells) row.now → (totals : Sums) (m : ℕ) → m ≤ 2147483648 → HoldTotals m (length items.now) totals fields.old
-        → HoldTotals (m + 1) (length items.now) (grown_all (aggs_of items.now) cells totals) fields.new }
+    ensures told { (cells : Row) → Begins schema.now (Some cells) row.now
+        → (totals : Sums) (m : ℕ) → m ≤ 2147483648
+        → HoldTotals m (length items.now) totals fields.old
+        → HoldTotals (m + 1) (length items.now)
+        (grown_all (aggs_of items.now) cells totals) fields.new }
 {
     match items.split_first() {
         Some((item, items)) => {
@@ -100,7 +104,9 @@ fn item_cell(key: &Cell, item: Item, total: Option<i128>) -> Shown
 pub(crate) fn show_items(items: &[Item], key: &Cell, fields: &[u8], cells: &mut [Shown])
     requires size { length cells.old ≡ length items.now }
     requires held { (totals : Sums) × HoldTotals 2147483648 (length items.now) totals fields.now }
-    ensures { (totals : Sums) (m : ℕ) → m ≤ 2147483648 → HoldTotals m (length items.now) totals fields.now → cells.new ≡ item_cells (Some key.now) items.now totals }
+    ensures { (totals : Sums) (m : ℕ) → m ≤ 2147483648
+        → HoldTotals m (length items.now) totals fields.now
+        → cells.new ≡ item_cells (Some key.now) items.now totals }
 {
     match (items.split_first(), cells.split_first_mut()) {
         (Some((item, items)), Some((cell, cells))) => {

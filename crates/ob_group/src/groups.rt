@@ -1,14 +1,15 @@
 //! The rows that hold the running groups, one each.
 ghost use Rattle.std.specs.Prelude.{◌≡◌, ◌≤◌, ◌<◌, ◌+◌, ◌*◌, ℕ, true, false, List, Option, Some, length, take};
 ghost use Rattle.ob_base.specs.Schemas.{kind_width, width};
-ghost use Rattle.ob_vault.specs.Rows.{SameSizes, Wide, row_at};
+ghost use Rattle.ob_vault.specs.Rows.{SameSizes, row_at};
 ghost use Rattle.ob_row.specs.declared.cell.Cell.{Cell as RowCell};
 ghost use Rattle.ob_row.specs.Fields.{HoldsCell};
 ghost use Rattle.ob_row.specs.Rows.{Row, cell_eq};
 ghost use Rattle.ob_row.specs.Spelling.{Begins, kind_at};
 ghost use Rattle.ob_group.specs.Running.{AreWithin, starts, grown_all};
-ghost use Rattle.ob_group.specs.Grouping.{Group, aggs_of, group_with, put_row, group_shown};
-ghost use Rattle.ob_group.specs.Held.{HoldsKey, HoldsGroup, AreGroups};
+ghost use Rattle.ob_group.specs.Grouping.{Group, aggs_of, put_row, group_shown};
+ghost use Rattle.ob_group.specs.Held.{HoldsKey, HoldsGroup, AreGroups, IsGroup, MayGrow};
+ghost use Rattle.ob_group.specs.Passes.{AreItems, AreGroupRows, IsRow, AddsTo};
 
 use crate::fields::{add_totals, show_items, start_totals};
 use ob_base::{Kind, Schema, Shown};
@@ -21,7 +22,8 @@ fn start_bytes(kind: Kind, key: &[u8], items: &[Item], bytes: &mut [u8])
     requires few { length items.now ≤ 32 }
     requires wide { 768 ≤ length bytes.old }
     ensures size { length bytes.new ≡ length bytes.old }
-    ensures held { (x : RowCell) → HoldsCell kind x key.now → HoldsGroup kind 0 (length items.now) (Some x, starts (aggs_of items.now)) bytes.new }
+    ensures held { (x : RowCell) → HoldsCell kind x key.now
+        → HoldsGroup kind 0 (length items.now) (Some x, starts (aggs_of items.now)) bytes.new }
 {
     let (field, rest) = bytes.split_at_mut(kind.width() as usize);
     let (fields, _) = rest.split_at_mut(16 * items.len());
@@ -31,14 +33,11 @@ fn start_bytes(kind: Kind, key: &[u8], items: &[Item], bytes: &mut [u8])
 
 // Adds the row to the group that these bytes hold.
 fn add_bytes(schema: &Schema, row: &ClearRow, kind: Kind, items: &[Item], bytes: &mut [u8])
-    requires row { width schema.now ≤ length row.now }
+    requires row { IsRow schema.now row.now }
     requires few { length items.now ≤ 32 }
     requires within { AreWithin (length schema.now) (aggs_of items.now) }
-    requires real { (cells : Row) × Begins schema.now (Some cells) row.now }
-    requires held { (g : Group) × HoldsGroup kind 2147483648 (length items.now) g bytes.old }
-    ensures size { length bytes.new ≡ length bytes.old }
-    ensures told { (cells : Row) → Begins schema.now (Some cells) row.now → (g : Group) (m : ℕ) → m ≤ 2147483648 → HoldsGroup kind m (length items.now) g bytes.old
-        → HoldsGroup kind (m + 1) (length items.now) (group_with (aggs_of items.now) cells g) bytes.new }
+    requires held { IsGroup kind (length items.now) bytes.old }
+    ensures { AddsTo schema.now kind items.now row.now bytes.old bytes.new }
 {
     let (_, rest) = bytes.split_at_mut(kind.width() as usize);
     let (fields, _) = rest.split_at_mut(16 * items.len());
@@ -58,8 +57,9 @@ fn key_of(kind: Kind, bytes: &[u8]) -> Cell
 fn show_bytes(kind: Kind, items: &[Item], bytes: &[u8], cells: &mut [Shown])
     requires few { length items.now ≤ 32 }
     requires size { length cells.old ≡ length items.now }
-    requires held { (g : Group) × HoldsGroup kind 2147483648 (length items.now) g bytes.now }
-    ensures { (g : Group) (m : ℕ) → m ≤ 2147483648 → HoldsGroup kind m (length items.now) g bytes.now → cells.new ≡ group_shown items.now g }
+    requires held { IsGroup kind (length items.now) bytes.now }
+    ensures { (s : IsGroup kind (length items.now) bytes.now)
+        → cells.new ≡ group_shown items.now s.group }
 {
     let key = key_of(kind, bytes);
     let (_, rest) = bytes.split_at(kind.width() as usize);
@@ -71,9 +71,10 @@ fn show_bytes(kind: Kind, items: &[Item], bytes: &[u8], cells: &mut [Shown])
 pub(crate) fn show_group(kind: Kind, items: &[Item], group: &ClearRow, cells: &mut [Shown])
     requires few { length items.now ≤ 32 }
     requires size { length items.now ≤ length cells.old }
-    requires held { (g : Group) × HoldsGroup kind 2147483648 (length items.now) g group.now }
+    requires held { IsGroup kind (length items.now) group.now }
     ensures size { length cells.new ≡ length cells.old }
-    ensures told { (g : Group) → HoldsGroup kind 2147483648 (length items.now) g group.now → take (length items.now) cells.new ≡ group_shown items.now g }
+    ensures told { (s : IsGroup kind (length items.now) group.now)
+        → take (length items.now) cells.new ≡ group_shown items.now s.group }
 {
     let (front, _) = cells.split_at_mut(items.len());
     show_bytes(kind, items, group.bytes(), front);
@@ -85,8 +86,10 @@ fn place_of(kind: Kind, field: &[u8], groups: &[ClearRow], n: usize) -> usize
     requires field { (y : RowCell) × HoldsCell kind y field.now }
     requires keys { (i : ℕ) → i < n → (x : RowCell) × HoldsKey kind x (row_at groups.now i) }
     ensures most { result ≤ n }
-    ensures off { (y : RowCell) → HoldsCell kind y field.now → (i : ℕ) → i < result → (x : RowCell) → HoldsKey kind x (row_at groups.now i) → cell_eq x y ≡ false }
-    ensures on { (y : RowCell) → HoldsCell kind y field.now → result < n → (x : RowCell) → HoldsKey kind x (row_at groups.now result) → cell_eq x y ≡ true }
+    ensures off { (y : RowCell) → HoldsCell kind y field.now → (i : ℕ) → i < result
+        → (x : RowCell) → HoldsKey kind x (row_at groups.now i) → cell_eq x y ≡ false }
+    ensures on { (y : RowCell) → HoldsCell kind y field.now → result < n
+        → (x : RowCell) → HoldsKey kind x (row_at groups.now result) → cell_eq x y ≡ true }
 {
     let width = kind.width() as usize;
     for i in 0..n {
@@ -100,14 +103,11 @@ fn place_of(kind: Kind, field: &[u8], groups: &[ClearRow], n: usize) -> usize
 
 // Adds the row to a group.
 fn add(schema: &Schema, row: &ClearRow, kind: Kind, items: &[Item], group: &mut ClearRow)
-    requires row { width schema.now ≤ length row.now }
+    requires row { IsRow schema.now row.now }
     requires few { length items.now ≤ 32 }
     requires within { AreWithin (length schema.now) (aggs_of items.now) }
-    requires real { (cells : Row) × Begins schema.now (Some cells) row.now }
-    requires held { (g : Group) × HoldsGroup kind 2147483648 (length items.now) g group.old }
-    ensures size { length group.new ≡ length group.old }
-    ensures told { (cells : Row) → Begins schema.now (Some cells) row.now → (g : Group) (m : ℕ) → m ≤ 2147483648 → HoldsGroup kind m (length items.now) g group.old
-        → HoldsGroup kind (m + 1) (length items.now) (group_with (aggs_of items.now) cells g) group.new }
+    requires held { IsGroup kind (length items.now) group.old }
+    ensures { AddsTo schema.now kind items.now row.now group.old group.new }
 {
     add_bytes(schema, row, kind, items, group.bytes_mut());
 }
@@ -121,16 +121,17 @@ fn start(
     items: &[Item],
     group: &mut ClearRow,
 )
-    requires row { width schema.now ≤ length row.now }
+    requires row { IsRow schema.now row.now }
     requires few { length items.now ≤ 32 }
     requires within { AreWithin (length schema.now) (aggs_of items.now) }
-    requires real { (cells : Row) × Begins schema.now (Some cells) row.now }
     requires key { length key.now ≡ kind_width kind }
     requires field { (x : RowCell) × HoldsCell kind x key.now }
     requires wide { 768 ≤ length group.old }
     ensures size { length group.new ≡ length group.old }
-    ensures told { (cells : Row) → Begins schema.now (Some cells) row.now → (x : RowCell) → HoldsCell kind x key.now
-        → HoldsGroup kind 1 (length items.now) (Some x, grown_all (aggs_of items.now) cells (starts (aggs_of items.now))) group.new }
+    ensures told { (cells : Row) → Begins schema.now (Some cells) row.now
+        → (x : RowCell) → HoldsCell kind x key.now
+        → HoldsGroup kind 1 (length items.now)
+        (Some x, grown_all (aggs_of items.now) cells (starts (aggs_of items.now))) group.new }
 {
     start_bytes(kind, key, items, group.bytes_mut());
     add(schema, row, kind, items, group);
@@ -146,17 +147,16 @@ pub(crate) fn put_row(
     groups: &mut [ClearRow],
     n: usize,
 ) -> usize
-    requires row { width schema.now ≤ length row.now }
-    requires key { key < length schema.now }
-    requires few { length items.now ≤ 32 }
-    requires within { AreWithin (length schema.now) (aggs_of items.now) }
-    requires wide { Wide 768 groups.old }
-    requires space { length groups.old ≤ 4294967295 }
-    requires real { (cells : Row) × Begins schema.now (Some cells) row.now }
-    requires held { (gs : List Group) × (m : ℕ) × (m < 2147483648) × AreGroups (kind_at schema.now key) m (length items.now) n gs groups.old }
+    requires row { IsRow schema.now row.now }
+    requires items { AreItems schema.now key items.now }
+    requires groups { AreGroupRows groups.old }
+    requires held { MayGrow (kind_at schema.now key) (length items.now) n 1 groups.old }
     ensures size { SameSizes groups.old groups.new }
-    ensures told { (cells : Row) → Begins schema.now (Some cells) row.now → (gs : List Group) (m : ℕ) → m < 2147483648 → AreGroups (kind_at schema.now key) m (length items.now) n gs groups.old
-        → AreGroups (kind_at schema.now key) (m + 1) (length items.now) result (put_row key (aggs_of items.now) cells gs) groups.new }
+    ensures told { (cells : Row) → Begins schema.now (Some cells) row.now
+        → (gs : List Group) (m : ℕ) → m < 2147483648
+        → AreGroups (kind_at schema.now key) m (length items.now) n gs groups.old
+        → AreGroups (kind_at schema.now key) (m + 1) (length items.now) result
+        (put_row key (aggs_of items.now) cells gs) groups.new }
 {
     if n > groups.len() {
         return n;

@@ -1,7 +1,6 @@
-ghost use Rattle.std.specs.Prelude.{◌≡◌, ◌≤◌, ◌+◌, ◌++◌, ◌∷◌, [], OnOk, OnErr, length, map, take};
-ghost use Rattle.std.specs.List.{All};
-ghost use Rattle.ob_base.specs.Events.{EmitCause, Leads};
-ghost use Rattle.ob_base.specs.Labels.{call_label, IsNamed};
+ghost use Rattle.std.specs.Prelude.{◌≡◌, ◌≤◌, ◌+◌, ◌++◌, length, map, take};
+ghost use Rattle.ob_base.specs.Labels.{call_label};
+ghost use Rattle.ob_flat.specs.Emission.{Takes};
 ghost use Rattle.ob_group.specs.Labels.{label_at, agg_label, item_label, header};
 
 use arrayvec::ArrayVec;
@@ -20,7 +19,6 @@ fn push_bytes(text: &mut ArrayVec<u8, 65>, bytes: &[u8])
 
 // The name of the column at a place.
 fn name_at(schema: &Schema, i: u8) -> &[u8]
-    requires { All IsNamed schema.now }
     ensures value { result.now ≡ label_at schema.now i }
     ensures few { length result.now ≤ 32 }
 {
@@ -45,7 +43,6 @@ fn call_label(name: &[u8], of: &[u8]) -> Label
 
 /// What heads an aggregate's cells: its name, and in parentheses its column's, or an asterisk.
 pub fn agg_label(schema: &Schema, agg: &Agg) -> Label
-    requires names { All IsNamed schema.now }
     ensures { result ≡ agg_label schema.now agg.now }
 {
     match agg {
@@ -59,7 +56,6 @@ pub fn agg_label(schema: &Schema, agg: &Agg) -> Label
 
 // The label of an item: the key's column by its name.
 fn item_label(schema: &Schema, key: u8, item: &Item) -> Label
-    requires names { All IsNamed schema.now }
     ensures { result ≡ item_label schema.now key item.now }
 {
     match item {
@@ -71,7 +67,6 @@ fn item_label(schema: &Schema, key: u8, item: &Item) -> Label
 // The labels of the items, in the first places of an array that holds those of any answer.
 fn labels_of(schema: &Schema, key: u8, items: &[Item]) -> [Label; 32]
     requires few { length items.now ≤ 32 }
-    requires names { All IsNamed schema.now }
     ensures size { length result ≡ 32 }
     ensures value { take (length items.now) result ≡ map (item_label schema.now key) items.now }
 {
@@ -89,11 +84,9 @@ pub(crate) fn emit_head<E: Emit>(
     items: &[Item],
     out: &mut E,
 ) -> Result<(), EmitErr>
-    requires few { length items.now ≤ 32 }
-    requires names { All IsNamed schema.now }
-    ensures ok { OnOk result (Leads E.grew E.grew out.old out.new (header schema.now key items.now)) }
-    ensures err { OnErr result (Leads E.grew E.cut out.old out.new (header schema.now key items.now)) }
-    ensures cause { EmitCause result (E.faults out.old) (E.faults out.new) }
+    requires { length items.now ≤ 32 }
+    ensures { Takes E.grew E.cut E.faults (header schema.now key items.now) result
+        out.old out.new }
 {
     let labels = labels_of(schema, key, items);
     out.head(&labels[..items.len()])

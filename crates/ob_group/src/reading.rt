@@ -1,19 +1,9 @@
-ghost use Rattle.std.specs.Prelude.{◌≡◌, ◌≤◌, ◌<◌, ◌*◌, ◌⊎◌, ℕ, Bool, List, None, ⊤, IfOk, IfErr, OnOk, MatchResult, length};
-ghost use Rattle.ob_base.specs.Numbers.{blocks_for};
-ghost use Rattle.ob_base.specs.Schemas.{width};
-ghost use Rattle.ob_vault.specs.Tied.{Ready};
-ghost use Rattle.ob_vault.specs.Calls.{Went, Seals, none};
-ghost use Rattle.ob_vault.specs.Places.{at, RowsFit};
-ghost use Rattle.ob_vault.specs.Rows.{SameSizes, Wide};
-ghost use Rattle.ob_script.specs.Parts.{count_part};
-ghost use Rattle.ob_row.specs.Slots.{Slots};
-ghost use Rattle.ob_row.specs.Spelling.{kind_at};
+ghost use Rattle.std.specs.Prelude.{length};
+ghost use Rattle.ob_vault.specs.Places.{at};
+ghost use Rattle.ob_vault.specs.Rows.{SameSizes};
 ghost use Rattle.ob_row.specs.Truth.{is_true};
-ghost use Rattle.ob_flat.specs.Flats.{IsSized, IsFlat, Represents, whole_blocks};
-ghost use Rattle.ob_flat.specs.Passes.{PassCut};
-ghost use Rattle.ob_group.specs.Running.{AreWithin};
-ghost use Rattle.ob_group.specs.Grouping.{aggs_of, groups_of};
-ghost use Rattle.ob_group.specs.Held.{AreGroups};
+ghost use Rattle.ob_flat.specs.Words.{HasSpare, IsTable, FitBlock, blocks_of};
+ghost use Rattle.ob_group.specs.Passes.{AreItems, AreGroupRows, Gathers};
 
 use crate::keeping::group_rows;
 use ob_flat::{Flat, OpErr};
@@ -35,27 +25,17 @@ pub(crate) fn group_blocks<S: BlockStore, R: Revisions>(
     key: u8,
     items: &[Item],
 ) -> Result<usize, OpErr>
-    requires ready { Ready (at R.state vault.old (S.state store.old)) }
-    requires spare { blocks_for (length rows.old) flat.now.capacity ≤ (S.state store.old).spare }
-    requires flat { IsFlat (length rows.old) flat.now (at R.state vault.old (S.state store.old)) }
-    requires size { IsSized flat.now.schema flat.now.capacity }
-    requires pack { (1 ≤ length rows.old) × (length rows.old ≤ 16) }
-    requires fit { RowsFit rows.old (length rows.old * width flat.now.schema) }
-    requires key { key < length flat.now.schema }
-    requires few { length items.now ≤ 32 }
-    requires within { AreWithin (length flat.now.schema) (aggs_of items.now) }
-    requires room { Wide 768 groups.old }
-    requires space { length groups.old ≤ 4294967295 }
+    requires spare { HasSpare (blocks_of (length rows.old) flat.now)
+        (at R.state vault.old (S.state store.old)) }
+    requires table { IsTable (length rows.old) flat.now (at R.state vault.old (S.state store.old)) }
+    requires fit { FitBlock flat.now.schema rows.old }
+    requires items { AreItems flat.now.schema key items.now }
+    requires places { AreGroupRows groups.old }
     ensures rows { SameSizes rows.old rows.new }
     ensures groups { SameSizes groups.old groups.new }
-    ensures ok { OnOk result (Went (count_part flat.now.region (blocks_for (length rows.old) flat.now.capacity)) none (at R.state vault.old (S.state store.old)) (at R.state vault.new (S.state store.new))) }
-    ensures err { IfErr result (λ e. PassCut e (count_part flat.now.region (blocks_for (length rows.old) flat.now.capacity)) none (at R.state vault.old (S.state store.old)) (at R.state vault.new (S.state store.new))) }
-    ensures never { IfErr result (λ e. (e ≡ OpErr.Failed) ⊎ ((place : ℕ) × (place < blocks_for (length rows.old) flat.now.capacity) × (e ≡ OpErr.Tampered flat.now.region place))) }
-    ensures seals { (good : ℕ → List ℕ → Bool) → Seals good (at R.state vault.old (S.state store.old)) (at R.state vault.new (S.state store.new)) }
-    ensures held { IfOk result (λ n. (seen : Slots) × AreGroups (kind_at flat.now.schema key) 2147483648 (length items.now) n (groups_of (is_true pred.now) key items.now seen) groups.new
-        × ((slots : Slots) → Represents (length rows.old) flat.now slots (at R.state vault.old (S.state store.old)) → (S.state store.new).lie ≡ None → seen ≡ whole_blocks (length rows.old) flat.now.capacity slots)) }
-    ensures told { (slots : Slots) → Represents (length rows.old) flat.now slots (at R.state vault.old (S.state store.old)) → (S.state store.new).lie ≡ None
-        → MatchResult result (λ _. ⊤) (λ e. e ≡ OpErr.Failed) }
+    ensures gathers { Gathers (length rows.old) flat.now (is_true pred.now) key items.now groups.new
+        result
+        (at R.state vault.old (S.state store.old)) (at R.state vault.new (S.state store.new)) }
 {
     let pack = rows.len() as u32;
     let blocks = flat.capacity.div_ceil(pack);

@@ -27,7 +27,8 @@ fn together(agg: Agg, x: i128, y: i128) -> i128
 pub(crate) fn joined(agg: Agg, total: Option<i128>, part: Option<i64>) -> Option<i128>
     requires { IfSome total (λ x. nat_abs x + 2 ^ 63 < 2 ^ 127) }
     ensures value { result ≡ joined (together agg) total part }
-    ensures few { (n : ℕ) → IfSome total (λ x. nat_abs x ≤ n * 2 ^ 63) → IfSome result (λ x. nat_abs x ≤ (n + 1) * 2 ^ 63) }
+    ensures few { (n : ℕ) → IfSome total (λ x. nat_abs x ≤ n * 2 ^ 63)
+        → IfSome result (λ x. nat_abs x ≤ (n + 1) * 2 ^ 63) }
 {
     match (total, part) {
         (None, None) => None,
@@ -42,7 +43,8 @@ fn int_at(schema: &Schema, row: &ClearRow, i: u8) -> Option<i64>
     requires wide { width schema.now ≤ length row.now }
     requires within { i < length schema.now }
     requires real { (cells : Row) × Begins schema.now (Some cells) row.now }
-    ensures { (cells : Row) → Begins schema.now (Some cells) row.now → result ≡ int_of (cell_at cells i) }
+    ensures { (cells : Row) → Begins schema.now (Some cells) row.now
+        → result ≡ int_of (cell_at cells i) }
 {
     match value_of(schema, row, i) {
         Value::Int(x) => Some(x),
@@ -71,7 +73,8 @@ pub(crate) fn add_row(schema: &Schema, row: &ClearRow, aggs: &[Agg], totals: &mu
     requires size { length totals.old ≡ length aggs.now }
     requires few { AreUpTo 2147483648 totals.old }
     ensures few { (n : ℕ) → AreUpTo n totals.old → AreUpTo (n + 1) totals.new }
-    ensures told { (cells : Row) → Begins schema.now (Some cells) row.now → totals.new ≡ grown_all aggs.now cells totals.old }
+    ensures told { (cells : Row) → Begins schema.now (Some cells) row.now
+        → totals.new ≡ grown_all aggs.now cells totals.old }
 {
     match (aggs.split_first(), totals.split_first_mut()) {
         (Some((agg, aggs)), Some((total, totals))) => {

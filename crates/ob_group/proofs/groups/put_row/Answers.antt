@@ -19,15 +19,14 @@ returns-then-n-groups-clause-told c = λ cells begins gs m few are.
 
 pub place_of-i-requires-clause-field : goal.place_of-i-requires-clause-field
 place_of-i-requires-clause-field c =
-    let real = c.requires.real in
-    let is = c.field_of-field.ensures.told real.0 real.1 in
+    let is = c.field_of-field.ensures.told c.requires.row.cells c.requires.row.is in
     (is.0, subst (λ (k : Kind). HoldsCell k is.0 c.field_of-field.result.now) (sym c.kind_at-kind.ensures) is.2)
 
 pub place_of-i-requires-clause-keys : goal.place_of-i-requires-clause-keys
 place_of-i-requires-clause-keys c = λ i below.
     let held = c.requires.held in
-    let one = held.3.each (omega arith) i below in
-    (one.key, subst (λ (k : Kind). HoldsKey k one.key (row_at c.args.groups.now i)) (sym c.kind_at-kind.ensures) (holds_key _ held.1 (length c.args.items.now) _ _ one))
+    let one = held.are.each (omega arith) i below in
+    (one.key, subst (λ (k : Kind). HoldsKey k one.key (row_at c.args.groups.now i)) (sym c.kind_at-kind.ensures) (holds_key _ held.m (length c.args.items.now) _ _ one))
 
 pub add-requires-clause-held : goal.add-requires-clause-held
 add-requires-clause-held c =
@@ -35,18 +34,17 @@ add-requires-clause-held c =
     let i = c.place_of-i.result in
     let below : i < c.args.n = omega arith in
     let inside : i < length c.args.groups.now = omega arith in
-    let g = slice_index_or held.0 i no_group in
-    let one = holds_more _ held.1 (length c.args.items.now) g _ (held.3.each (omega arith) i below) 2147483648 (omega (arith, held.2)) in
+    let g = slice_index_or held.groups i no_group in
+    let one = holds_more _ held.m (length c.args.items.now) g _ (held.are.each (omega arith) i below) 2147483648 (omega (arith, held.room)) in
     let there = subst (HoldsGroup (kind_at c.args.schema.now c.args.key) 2147483648 (length c.args.items.now) g) (sym (row_is c.args.groups.now i c.index-groups-i.result inside)) one in
-    (g, subst (λ (k : Kind). HoldsGroup k 2147483648 (length c.args.items.now) g (slice_index_or c.args.groups.now i c.index-groups-i.result)) (sym c.kind_at-kind.ensures) there)
+    record { group = g; is = subst (λ (k : Kind). HoldsGroup k 2147483648 (length c.args.items.now) g (slice_index_or c.args.groups.now i c.index-groups-i.result)) (sym c.kind_at-kind.ensures) there }
 
 pub start-requires-clause-key : goal.start-requires-clause-key
 start-requires-clause-key c = c.field_of-field.ensures.len ∙ ap kind_width (sym c.kind_at-kind.ensures)
 
 pub start-requires-clause-field : goal.start-requires-clause-field
 start-requires-clause-field c =
-    let real = c.requires.real in
-    let is = c.field_of-field.ensures.told real.0 real.1 in
+    let is = c.field_of-field.ensures.told c.requires.row.cells c.requires.row.is in
     (is.0, subst (λ (k : Kind). HoldsCell k is.0 c.field_of-field.result.now) (sym c.kind_at-kind.ensures) is.2)
 
 pub returns-then-i-n-clause-told : goal.returns-then-i-n-clause-told

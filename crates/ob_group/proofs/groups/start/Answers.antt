@@ -11,7 +11,7 @@ add-requires-clause-held c =
     let x = c.requires.field.0 in
     let g : Group = (Some x, starts (aggs_of c.args.items.now)) in
     let held = subst (HoldsGroup c.args.kind 0 n g) (sym (written c.args.group.now c.start_bytes.new.bytes (c.start_bytes.ensures.size ∙ ap (λ (l : List ℕ). length l) c.bytes_mut.ensures.value))) (c.start_bytes.ensures.held x c.requires.field.1) in
-    (g, holds_more c.args.kind 0 n g _ held 2147483648 (omega arith))
+    record { group = g; is = holds_more c.args.kind 0 n g _ held 2147483648 (omega arith) }
 
 pub returns-clause-told : goal.returns-clause-told
 returns-clause-told c = λ cells begins x field.

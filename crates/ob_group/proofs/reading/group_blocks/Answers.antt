@@ -6,7 +6,7 @@ use Rattle.ob_base.specs.Accesses.{read_at}
 use Rattle.ob_base.specs.Numbers.{blocks_for}
 use Rattle.ob_base.specs.Schemas.{width}
 use Rattle.ob_vault.specs.Calls.{none}
-use Rattle.ob_vault.proofs.Runs.{went_none, went_each, lives_went, written_went, none_went, fit_same, fit_trans, may_get, seals_none, seals_join}
+use Rattle.ob_vault.proofs.Runs.{went_none, went_each, lives_went, written_went, none_went, fit_same, fit_trans, may_get, seals_none}
 use Rattle.ob_row.specs.Slots.{Slots}
 use Rattle.ob_row.specs.Spelling.{kind_at}
 use Rattle.ob_row.specs.Truth.{is_true}
@@ -14,12 +14,14 @@ use Rattle.ob_blocks.specs.Blocks.{block_at}
 use Rattle.ob_blocks.proofs.Blocks.{take_blocks}
 use Rattle.ob_flat.specs.Flats.{table_region, whole_blocks}
 use Rattle.ob_flat.specs.Passes.{pass_error}
+use Rattle.ob_flat.specs.Words.{blocks_of}
 use Rattle.ob_flat.proofs.Rooms.{same_rows}
 use Rattle.ob_flat.proofs.Rows.{wide_fit, wide_same}
 use Rattle.ob_flat.proofs.Runs.{pass_of, pass_each, pass_malformed}
-use Rattle.ob_flat.proofs.Tables.{reads, index_fits, represents_lasts, block_long, got, whole_size, blocks_end}
+use Rattle.ob_flat.proofs.Tables.{reads, flat_lasts, index_fits, represents_lasts, block_long, got, whole_size, blocks_end}
 use Rattle.ob_group.specs.Grouping.{Group, put_slot, aggs_of, groups_with, groups_of}
 use Rattle.ob_group.specs.Held.{AreGroups}
+use Rattle.ob_flat.proofs.WordLemmas.{sealed_after}
 use Rattle.ob_group.proofs.SlotLemmas.{spelt_same, groups_weak, groups_none}
 use Rattle.ob_group.proofs.reading.group_blocks.Goals as goal
 
@@ -57,8 +59,8 @@ loop-u-init g c =
     let groups = c.args.groups.now in
     let kind = kind_at c.args.flat.now.schema c.args.key in
     record {
-      went = went_none none _ c.requires.ready;
-      seals = λ good. seals_none good _;
+      went = went_none none _ c.requires.spare.ready;
+      seals = record { seals = λ good. seals_none good _ };
       same = same_rows c.args.rows.now;
       kept = same_rows groups;
       held = ([], subst (λ (m : ℕ). AreGroups kind m (length c.args.items.now) 0 [] groups) zero (groups_none kind (length c.args.items.now) groups), λ slots is nolie. none_taken pack (whole_blocks pack c.args.flat.now.capacity slots));
@@ -66,59 +68,68 @@ loop-u-init g c =
 
 pub get-requires-clause-spare : goal.get-requires-clause-spare
 get-requires-clause-spare g c =
-    spare_left _ _ _ _ _ c.requires.spare c.loop-u.invariant.went.spare (reads c.args.flat.now.region c.loop-u.u) (subst (λ (n : ℕ). c.loop-u.u < n) c.div_ceil-blocks.ensures c.loop-u-test.true)
+    spare_left _ _ _ _ _ c.requires.spare.spare c.loop-u.invariant.went.spare (reads c.args.flat.now.region c.loop-u.u) (subst (λ (n : ℕ). c.loop-u.u < n) c.div_ceil-blocks.ensures c.loop-u-test.true)
 
 pub get-requires-clause-place : goal.get-requires-clause-place
 get-requires-clause-place g c =
-    let flat = c.requires.flat in
+    let flat = c.requires.table.written in
     let u = c.loop-u.u in
+    let below = subst (λ (n : ℕ). u < n) c.div_ceil-blocks.ensures c.loop-u-test.true in
     let went = c.loop-u.invariant.went in
-    may_get _ u (table_region _ (length c.args.rows.now) c.args.flat.now.schema c.args.flat.now.capacity) _ _ (lives_went _ _ _ _ _ _ went (λ s. s) flat.made.lives) (subst (λ (n : ℕ). c.loop-u.u < n) c.div_ceil-blocks.ensures c.loop-u-test.true)
-    (fit_same _ _ _ c.loop-u.invariant.same c.requires.fit) (written_went _ _ _ _ _ u went (λ s. s) (flat.written u (subst (λ (n : ℕ). c.loop-u.u < n) c.div_ceil-blocks.ensures c.loop-u-test.true)))
+    may_get _ u (table_region _ (length c.args.rows.now) c.args.flat.now.schema c.args.flat.now.capacity) _ _ (lives_went _ _ _ _ _ _ went (λ s. s) flat.made.lives) below
+    (fit_same _ _ _ c.loop-u.invariant.same c.requires.fit) (written_went _ _ _ _ _ u went (λ s. s) (flat.written u below))
 
 pub returns-in_err-get-clause-rows : goal.returns-in_err-get-clause-rows
 returns-in_err-get-clause-rows g c = fit_trans _ _ _ c.loop-u.invariant.same c.get.ensures.rows
 
-pub returns-in_err-get-clause-err : goal.returns-in_err-get-clause-err
-returns-in_err-get-clause-err g c =
+pub returns-in_err-get-clause-gathers : goal.returns-in_err-get-clause-gathers
+returns-in_err-get-clause-gathers g c =
     let p = err_from_is_err_and c.from_residual.result c.from_residual.ensures.1 in
-    rw (p.1, p.2) (pass_each none (read_at c.args.flat.now.region) _ _ _ _ (blocks_for (length c.args.rows.now) c.args.flat.now.capacity) c.loop-u.u (subst (λ (n : ℕ). c.loop-u.u < n) c.div_ceil-blocks.ensures c.loop-u-test.true) c.loop-u.invariant.went (pass_of _ _ _ _ _ c.in_err-get.ensures.gets.err))
-
-pub returns-in_err-get-clause-never : goal.returns-in_err-get-clause-never
-returns-in_err-get-clause-never g c =
-    let p = err_from_is_err_and c.from_residual.result c.from_residual.ensures.1 in
-    rw (p.1, p.2) (elim c.in_err-get.ensures.gets.never [
-      | inl e ↦ inl (ap pass_error e)
-      | inr e ↦ inr (c.loop-u.u, subst (λ (n : ℕ). c.loop-u.u < n) c.div_ceil-blocks.ensures c.loop-u-test.true, ap pass_error e)
-    ])
-
-pub returns-in_err-get-clause-seals : goal.returns-in_err-get-clause-seals
-returns-in_err-get-clause-seals g c = λ good. seals_join good _ _ _ c.loop-u.invariant.went.lasts.later (c.loop-u.invariant.seals good) (c.get.ensures.gets.seals good)
-
-pub returns-in_err-get-clause-told : goal.returns-in_err-get-clause-told
-returns-in_err-get-clause-told g c = λ slots is nolie.
-    let p = err_from_is_err_and c.from_residual.result c.from_residual.ensures.1 in
+    let table = c.requires.table in
     let pack = length c.args.rows.now in
     let flat = c.args.flat.now in
     let u = c.loop-u.u in
-    let below = subst (λ (n : ℕ). u < n) c.div_ceil-blocks.ensures c.loop-u-test.true in
-    let went = c.loop-u.invariant.went in
-    let now = represents_lasts pack flat none _ _ went.lasts (λ s. s) slots is in
-    let shape = table_region c.requires.flat.made.order pack flat.schema flat.capacity in
-    rw (p.1, p.2) (ap pass_error (c.in_err-get.ensures.gets.told _ shape (lives_went _ _ _ _ _ _ went (λ s. s) c.requires.flat.made.lives) (block_long pack flat slots _ is c.requires.pack.0 u below) (now.holds u below) nolie))
+    let below : u < blocks_of pack flat = subst (λ (n : ℕ). u < n) c.div_ceil-blocks.ensures c.loop-u-test.true in
+    let before = c.loop-u.invariant in
+    let read = c.in_err-get.ensures in
+    let ended = pass_each none (read_at flat.region) _ _ _ _ (blocks_of pack flat) u below before.went (pass_of _ _ _ _ _ read.err) in
+    rw (p.1, p.2) (record {
+      ran = record { ok = tt; err = ended };
+      never = elim read.never [
+        | inl failed ↦ inl (ap pass_error failed)
+        | inr tampered ↦ inr (record { place = u; below = below; is = ap pass_error tampered })
+      ];
+      seals = sealed_after before.went.lasts before.seals c.get.ensures.seals;
+      source = flat_lasts pack flat none _ _ ended.lasts (λ s. s) table.written;
+      held = tt;
+      told = λ slots is nolie.
+          let now = represents_lasts pack flat none _ _ before.went.lasts (λ s. s) slots is in
+          ap pass_error (read.told _ (table_region table.written.made.order pack flat.schema flat.capacity) (lives_went _ _ _ _ _ _ before.went (λ s. s) table.written.made.lives) (block_long pack flat slots _ is table.some u below) (now.holds u below) nolie);
+    })
 
 pub group_rows-requires-clause-wide : goal.group_rows-requires-clause-wide
 group_rows-requires-clause-wide g c =
     wide_same _ _ _ (fit_trans _ _ _ c.loop-u.invariant.same c.get.ensures.rows) (wide_fit (width c.args.flat.now.schema) c.args.rows.now c.requires.fit)
 
-pub group_rows-requires-clause-room : goal.group_rows-requires-clause-room
-group_rows-requires-clause-room g c = wide_same _ _ _ c.loop-u.invariant.kept c.requires.room
+pub group_rows-requires-clause-items : goal.group_rows-requires-clause-items
+group_rows-requires-clause-items g c = c.requires.items
+
+pub group_rows-requires-clause-groups : goal.group_rows-requires-clause-groups
+group_rows-requires-clause-groups g c =
+    let kept = c.loop-u.invariant.kept in
+    record { wide = wide_same _ _ _ kept c.requires.places.wide; few = subst (λ (n : ℕ). n ≤ 4294967295) (sym kept.count) c.requires.places.few }
 
 pub group_rows-requires-clause-held : goal.group_rows-requires-clause-held
 group_rows-requires-clause-held g c =
+    let table = c.requires.table in
     let same = fit_trans _ _ _ c.loop-u.invariant.same c.get.ensures.rows in
     let held = c.loop-u.invariant.held in
-    (_, _, fits (length c.args.rows.now) c.args.flat.now.capacity c.loop-u.u (length c.get.new.rows) c.requires.pack.0 c.requires.pack.1 c.requires.size.most (subst (λ (n : ℕ). c.loop-u.u < n) c.div_ceil-blocks.ensures c.loop-u-test.true) same.count, held.1)
+    record {
+      groups = _;
+      m = _;
+      room = fits (length c.args.rows.now) c.args.flat.now.capacity c.loop-u.u (length c.get.new.rows) table.some table.most table.size.most (subst (λ (n : ℕ). c.loop-u.u < n) c.div_ceil-blocks.ensures c.loop-u-test.true) same.count;
+      are = held.1;
+    }
 
 pub returns-in-Err-clause-rows : goal.returns-in-Err-clause-rows
 returns-in-Err-clause-rows g c = fit_trans _ _ _ c.loop-u.invariant.same c.get.ensures.rows
@@ -126,33 +137,34 @@ returns-in-Err-clause-rows g c = fit_trans _ _ _ c.loop-u.invariant.same c.get.e
 pub returns-in-Err-clause-groups : goal.returns-in-Err-clause-groups
 returns-in-Err-clause-groups g c = fit_trans _ _ _ c.loop-u.invariant.kept c.group_rows.ensures.size
 
-pub returns-in-Err-clause-err : goal.returns-in-Err-clause-err
-returns-in-Err-clause-err g c =
-    let q = c.args.flat.now.region in
-    pass_each none (read_at q) _ _ _ _ (blocks_for (length c.args.rows.now) c.args.flat.now.capacity) c.loop-u.u (subst (λ (n : ℕ). c.loop-u.u < n) c.div_ceil-blocks.ensures c.loop-u-test.true) c.loop-u.invariant.went (pass_malformed _ _ _ q c.loop-u.u (read_at q c.loop-u.u) c.in_ok-get.ensures.gets.ok)
-
-pub returns-in-Err-clause-never : goal.returns-in-Err-clause-never
-returns-in-Err-clause-never g c = inr (c.loop-u.u, subst (λ (n : ℕ). c.loop-u.u < n) c.div_ceil-blocks.ensures c.loop-u-test.true, refl)
-
-pub returns-in-Err-clause-seals : goal.returns-in-Err-clause-seals
-returns-in-Err-clause-seals g c = λ good. seals_join good _ _ _ c.loop-u.invariant.went.lasts.later (c.loop-u.invariant.seals good) (c.get.ensures.gets.seals good)
-
-pub returns-in-Err-clause-told : goal.returns-in-Err-clause-told
-returns-in-Err-clause-told g c = λ slots is nolie.
+pub returns-in-Err-clause-gathers : goal.returns-in-Err-clause-gathers
+returns-in-Err-clause-gathers g c =
+    let table = c.requires.table in
     let pack = length c.args.rows.now in
     let flat = c.args.flat.now in
     let u = c.loop-u.u in
-    let below = subst (λ (n : ℕ). u < n) c.div_ceil-blocks.ensures c.loop-u-test.true in
-    let went = c.loop-u.invariant.went in
-    let now = represents_lasts pack flat none _ _ went.lasts (λ s. s) slots is in
-    let shape = table_region c.requires.flat.made.order pack flat.schema flat.capacity in
-    let bytes = c.in_ok-get.ensures.gets.told _ shape (lives_went _ _ _ _ _ _ went (λ s. s) c.requires.flat.made.lives) (block_long pack flat slots _ is c.requires.pack.0 u below) (now.holds u below) nolie in
-    let same = fit_trans _ _ _ c.loop-u.invariant.same c.get.ensures.rows in
-    let wide = wide_same (width flat.schema) _ _ same (wide_fit (width flat.schema) c.args.rows.now c.requires.fit) in
-    absurd (c.in-Err.ensures.told _ (got pack flat slots _ is c.requires.pack.0 u (length c.loop-u.rows) c.get.new.rows below c.loop-u.invariant.same.count same.count wide bytes))
+    let below : u < blocks_of pack flat = subst (λ (n : ℕ). u < n) c.div_ceil-blocks.ensures c.loop-u-test.true in
+    let before = c.loop-u.invariant in
+    let read = c.in_ok-get.ensures in
+    let ended = pass_each none (read_at flat.region) _ _ _ _ (blocks_of pack flat) u below before.went (pass_malformed _ _ _ flat.region u read.ok) in
+    record {
+      ran = record { ok = tt; err = ended };
+      never = inr (record { place = u; below = below; is = refl });
+      seals = sealed_after before.went.lasts before.seals c.get.ensures.seals;
+      source = flat_lasts pack flat none _ _ ended.lasts (λ s. s) table.written;
+      held = tt;
+      told = λ slots is nolie.
+          let now = represents_lasts pack flat none _ _ before.went.lasts (λ s. s) slots is in
+          let bytes = read.told _ (table_region table.written.made.order pack flat.schema flat.capacity) (lives_went _ _ _ _ _ _ before.went (λ s. s) table.written.made.lives) (block_long pack flat slots _ is table.some u below) (now.holds u below) nolie in
+          let same = fit_trans _ _ _ before.same c.get.ensures.rows in
+          let wide = wide_same (width flat.schema) _ _ same (wide_fit (width flat.schema) c.args.rows.now c.requires.fit) in
+          let spelt = got pack flat slots _ is table.some u (length c.loop-u.rows) c.get.new.rows below before.same.count same.count wide bytes in
+          absurd (c.in-Err.ensures.malformed (record { slots = block_at pack (whole_blocks pack flat.capacity slots) u; spelt = spelt }));
+    }
 
 pub loop-u-preserved : goal.loop-u-preserved
 loop-u-preserved g c =
+    let table = c.requires.table in
     let pack = length c.args.rows.now in
     let flat = c.args.flat.now in
     let u = c.loop-u.u in
@@ -164,47 +176,54 @@ loop-u-preserved g c =
     let went = c.loop-u.invariant.went in
     let same = fit_trans _ _ _ c.loop-u.invariant.same c.get.ensures.rows in
     let held = c.loop-u.invariant.held in
-    let block = c.in-Ok.ensures.ok in
-    let few = fits pack flat.capacity u (length c.get.new.rows) c.requires.pack.0 c.requires.pack.1 c.requires.size.most below same.count in
+    let block = c.in-Ok.ensures.held in
+    let few = fits pack flat.capacity u (length c.get.new.rows) table.some table.most table.size.most below same.count in
     let more : u * pack + length c.get.new.rows ≡ (u + 1) * pack = next u pack (length c.get.new.rows) same.count in
-    let grown = block.2 (groups_of p c.args.key c.args.items.now held.0) (u * pack) few held.1 in
-    let joined : groups_with p c.args.key aggs (groups_of p c.args.key c.args.items.now held.0) block.0 ≡ groups_of p c.args.key c.args.items.now (held.0 ++ block.0) =
-    sym (fold-append (put_slot p c.args.key aggs) [] held.0 block.0) in
+    let grown = block.put (groups_of p c.args.key c.args.items.now held.0) (u * pack) few held.1 in
+    let joined : groups_with p c.args.key aggs (groups_of p c.args.key c.args.items.now held.0) block.slots ≡ groups_of p c.args.key c.args.items.now (held.0 ++ block.slots) =
+    sym (fold-append (put_slot p c.args.key aggs) [] held.0 block.slots) in
     record {
-      went = went_each none (read_at flat.region) _ _ _ u went c.in_ok-get.ensures.gets.ok;
-      seals = λ good. seals_join good _ _ _ went.lasts.later (c.loop-u.invariant.seals good) (c.get.ensures.gets.seals good);
+      went = went_each none (read_at flat.region) _ _ _ u went c.in_ok-get.ensures.ok;
+      seals = sealed_after went.lasts c.loop-u.invariant.seals c.get.ensures.seals;
       same = same;
       kept = fit_trans _ _ _ c.loop-u.invariant.kept c.group_rows.ensures.size;
       held = (
-        held.0 ++ block.0,
-        subst (λ (m : ℕ). AreGroups kind m count c.in-Ok.more (groups_of p c.args.key c.args.items.now (held.0 ++ block.0)) c.group_rows.new.groups) more
+        held.0 ++ block.slots,
+        subst (λ (m : ℕ). AreGroups kind m count c.in-Ok.more (groups_of p c.args.key c.args.items.now (held.0 ++ block.slots)) c.group_rows.new.groups) more
             (subst (λ (gs : List Group). AreGroups kind (u * pack + length c.get.new.rows) count c.in-Ok.more gs c.group_rows.new.groups) joined grown),
         λ slots is nolie.
             let now = represents_lasts pack flat none _ _ went.lasts (λ s. s) slots is in
-            let shape = table_region c.requires.flat.made.order pack flat.schema flat.capacity in
-            let bytes = c.in_ok-get.ensures.gets.told _ shape (lives_went _ _ _ _ _ _ went (λ s. s) c.requires.flat.made.lives) (block_long pack flat slots _ is c.requires.pack.0 u below) (now.holds u below) nolie in
+            let shape = table_region table.written.made.order pack flat.schema flat.capacity in
+            let bytes = c.in_ok-get.ensures.told _ shape (lives_went _ _ _ _ _ _ went (λ s. s) table.written.made.lives) (block_long pack flat slots _ is table.some u below) (now.holds u below) nolie in
             let wide = wide_same (width flat.schema) _ _ same (wide_fit (width flat.schema) c.args.rows.now c.requires.fit) in
-            let spelt = got pack flat slots _ is c.requires.pack.0 u (length c.loop-u.rows) c.get.new.rows below c.loop-u.invariant.same.count same.count wide bytes in
+            let spelt = got pack flat slots _ is table.some u (length c.loop-u.rows) c.get.new.rows below c.loop-u.invariant.same.count same.count wide bytes in
             let whole = whole_blocks pack flat.capacity slots in
-            ap (λ (l : Slots). l ++ block.0) (held.2 slots is (none_went _ _ _ _ c.in_ok-get.ensures.gets.ok nolie))
-            ∙ ap (λ (l : Slots). take (u * pack) whole ++ l) (spelt_same flat.schema block.0 (block_at pack whole u) c.get.new.rows block.1 spelt) ∙ sym (take_blocks pack whole u),
+            ap (λ (l : Slots). l ++ block.slots) (held.2 slots is (none_went _ _ _ _ c.in_ok-get.ensures.ok nolie))
+            ∙ ap (λ (l : Slots). take (u * pack) whole ++ l) (spelt_same flat.schema block.slots (block_at pack whole u) c.get.new.rows block.spelt spelt) ∙ sym (take_blocks pack whole u),
       );
     }
 
-pub returns-clause-ok : goal.returns-clause-ok
-returns-clause-ok g c = simp (reached c.loop-u.u _ _ c.loop-u.auto.u-end c.loop-u-test.false c.div_ceil-blocks.ensures) at c.loop-u.invariant.went
-
-pub returns-clause-held : goal.returns-clause-held
-returns-clause-held g c =
+pub returns-clause-gathers : goal.returns-clause-gathers
+returns-clause-gathers g c =
+    let table = c.requires.table in
     let pack = length c.args.rows.now in
     let flat = c.args.flat.now in
-    let blocks = blocks_for pack flat.capacity in
+    let blocks = blocks_of pack flat in
     let u = c.loop-u.u in
     let last = reached c.loop-u.u _ _ c.loop-u.auto.u-end c.loop-u-test.false c.div_ceil-blocks.ensures in
-    let held = c.loop-u.invariant.held in
+    let done = c.loop-u.invariant in
+    let held = done.held in
     let all : u * pack ≡ blocks * pack = ap (λ (n : ℕ). n * pack) last in
-    let few = few_all pack flat.capacity u c.requires.pack.0 c.requires.pack.1 c.requires.size.most last in (
-      held.0,
-      groups_weak (kind_at flat.schema c.args.key) (u * pack) 2147483648 (length c.args.items.now) c.loop-u.n _ c.loop-u.groups few held.1,
-      λ slots is nolie. held.2 slots is nolie ∙ take_all (u * pack) (whole_blocks pack flat.capacity slots) (size_most _ _ _ all (whole_size pack flat slots _ is c.requires.pack.0)),
-    )
+    let few = few_all pack flat.capacity u table.some table.most table.size.most last in
+    record {
+      ran = record { ok = simp last at done.went; err = tt };
+      never = tt;
+      seals = done.seals;
+      source = flat_lasts pack flat none _ _ done.went.lasts (λ s. s) table.written;
+      held = record {
+        seen = held.0;
+        are = groups_weak (kind_at flat.schema c.args.key) (u * pack) 2147483648 (length c.args.items.now) c.loop-u.n _ c.loop-u.groups few held.1;
+        told = λ slots is nolie. held.2 slots is nolie ∙ take_all (u * pack) (whole_blocks pack flat.capacity slots) (size_most _ _ _ all (whole_size pack flat slots _ is table.some));
+      };
+      told = λ slots is nolie. tt;
+    }

@@ -1,7 +1,8 @@
-use Rattle.std.proofs.Common.{◌≡◌, ◌*◌, ℕ, Bool, List, None, take, length}
+use Rattle.std.proofs.Common.{◌≡◌, ◌*◌, None, take, length}
 use Rattle.ob_base.specs.Lists.{each}
 use Rattle.ob_base.specs.Accesses.{read_at}
-use Rattle.ob_vault.specs.Calls.{Went, Seals, none}
+use Rattle.ob_vault.specs.Calls.{Went, none}
+use Rattle.ob_vault.specs.Words.{SealsAll}
 use Rattle.ob_vault.specs.Rows.{SameSizes}
 use Rattle.ob_vault.specs.Places.{at}
 use Rattle.ob_row.specs.Slots.{Slots}
@@ -19,7 +20,7 @@ invariant-loop-u g l =
     let pack = length l.initial.rows in
     record {
       went : Went (each l.u (read_at l.flat.region)) none old now;
-      seals : (good : ℕ → List ℕ → Bool) → Seals good old now;
+      seals : SealsAll old now;
       same : SameSizes l.initial.rows l.rows;
       kept : SameSizes l.initial.groups l.groups;
       held : (seen : Slots) × AreGroups (kind_at l.flat.schema l.key) (l.u * pack) (length l.items) l.n (groups_of (is_true l.pred) l.key l.items seen) l.groups

@@ -92,7 +92,8 @@ returns-in-Err-clause-inserts g c =
     let next = c.args.vault.now.next in
     let makes = c.in_ok-fresh.ensures.makes in
     let fills = rw makes.number at c.in-Err.ensures.fills in
-    let forgot = rw makes.number at c.forget.ensures.went _ fills.ran.err.lasts.ready in
-    let gone = rw makes.number at c.forget.ensures.gone in
-    let all = mutates_err pack flat (place_script pack flat next) (insert_answer flat.schema cells) (inserted_slots flat cells) _ c.requires.starts.ready c.requires.table _ makes _ _ _ fills forgot refl (c.forget.ensures.seals _) gone in
+    let forgets = c.forget.ensures.forgets (g.S.BlockStore.state c.insert_blocks.new.store) in
+    let forgot = rw makes.number at forgets.went fills.ran.err.lasts.ready in
+    let gone = rw makes.number at forgets.gone in
+    let all = mutates_err pack flat (place_script pack flat next) (insert_answer flat.schema cells) (inserted_slots flat cells) _ c.requires.starts.ready c.requires.table _ makes _ _ _ fills forgot refl forgets.seals gone in
     as_insert next all

@@ -90,8 +90,9 @@ returns-in-Err-clause-rewrites g c =
     let flat = c.args.flat.now in
     let makes = c.in_ok-fresh.ensures.makes in
     let swaps = rw makes.number at c.in-Err.ensures.swaps in
-    let forgot = rw makes.number at c.forget.ensures.went _ swaps.ran.err.lasts.ready in
-    let gone = rw makes.number at c.forget.ensures.gone in
+    let forgets = c.forget.ensures.forgets (g.S.BlockStore.state c.swap_blocks.new.store) in
+    let forgot = rw makes.number at forgets.went swaps.ran.err.lasts.ready in
+    let gone = rw makes.number at forgets.gone in
     let change = c.args.change.now in
     mutates_err pack flat (copy_script pack flat c.args.vault.now.next) (count_by (g.C.Change.picks change)) (map_at (g.C.Change.to change) 0) _ c.requires.starts.ready c.requires.table
-    _ makes _ _ _ (fills_swapped pack flat _ _ _ _ _ _ swaps) forgot refl (c.forget.ensures.seals _) gone
+    _ makes _ _ _ (fills_swapped pack flat _ _ _ _ _ _ swaps) forgot refl forgets.seals gone

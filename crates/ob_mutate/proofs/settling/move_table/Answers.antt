@@ -6,5 +6,5 @@ drop_region-requires g c = record { ready = c.requires.spare.ready; spare = c.re
 
 pub returns : goal.returns
 returns g c =
-    let drop = c.drop_region.ensures in
+    let drop = c.drop_region.ensures.drops in
     record { flat = refl; dropped = record { went = drop.went; gone = drop.gone; seals = record { seals = drop.seals } } }
