@@ -99,7 +99,7 @@ returns-in_err-get-clause-gathers g c =
         | inl failed ↦ inl (ap pass_error failed)
         | inr tampered ↦ inr (record { place = u; below = below; is = ap pass_error tampered })
       ];
-      seals = sealed_after before.went.lasts before.seals c.get.ensures.seals;
+      seals = sealed_after before.went.lasts before.seals c.get.ensures.gets.seals;
       source = flat_lasts pack flat none _ _ ended.lasts (λ s. s) table.written;
       held = tt;
       told = λ slots is nolie.
@@ -150,7 +150,7 @@ returns-in-Err-clause-gathers g c =
     record {
       ran = record { ok = tt; err = ended };
       never = inr (record { place = u; below = below; is = refl });
-      seals = sealed_after before.went.lasts before.seals c.get.ensures.seals;
+      seals = sealed_after before.went.lasts before.seals c.get.ensures.gets.seals;
       source = flat_lasts pack flat none _ _ ended.lasts (λ s. s) table.written;
       held = tt;
       told = λ slots is nolie.
@@ -183,8 +183,8 @@ loop-u-preserved g c =
     let joined : groups_with p c.args.key aggs (groups_of p c.args.key c.args.items.now held.0) block.slots ≡ groups_of p c.args.key c.args.items.now (held.0 ++ block.slots) =
     sym (fold-append (put_slot p c.args.key aggs) [] held.0 block.slots) in
     record {
-      went = went_each none (read_at flat.region) _ _ _ u went c.in_ok-get.ensures.ok;
-      seals = sealed_after went.lasts c.loop-u.invariant.seals c.get.ensures.seals;
+      went = went_each none (read_at flat.region) _ _ _ u went c.in_ok-get.ensures.gets.ok;
+      seals = sealed_after went.lasts c.loop-u.invariant.seals c.get.ensures.gets.seals;
       same = same;
       kept = fit_trans _ _ _ c.loop-u.invariant.kept c.group_rows.ensures.size;
       held = (
@@ -194,11 +194,11 @@ loop-u-preserved g c =
         λ slots is nolie.
             let now = represents_lasts pack flat none _ _ went.lasts (λ s. s) slots is in
             let shape = table_region table.written.made.order pack flat.schema flat.capacity in
-            let bytes = c.in_ok-get.ensures.told _ shape (lives_went _ _ _ _ _ _ went (λ s. s) table.written.made.lives) (block_long pack flat slots _ is table.some u below) (now.holds u below) nolie in
+            let bytes = c.in_ok-get.ensures.gets.told _ shape (lives_went _ _ _ _ _ _ went (λ s. s) table.written.made.lives) (block_long pack flat slots _ is table.some u below) (now.holds u below) nolie in
             let wide = wide_same (width flat.schema) _ _ same (wide_fit (width flat.schema) c.args.rows.now c.requires.fit) in
             let spelt = got pack flat slots _ is table.some u (length c.loop-u.rows) c.get.new.rows below c.loop-u.invariant.same.count same.count wide bytes in
             let whole = whole_blocks pack flat.capacity slots in
-            ap (λ (l : Slots). l ++ block.slots) (held.2 slots is (none_went _ _ _ _ c.in_ok-get.ensures.ok nolie))
+            ap (λ (l : Slots). l ++ block.slots) (held.2 slots is (none_went _ _ _ _ c.in_ok-get.ensures.gets.ok nolie))
             ∙ ap (λ (l : Slots). take (u * pack) whole ++ l) (spelt_same flat.schema block.slots (block_at pack whole u) c.get.new.rows block.spelt spelt) ∙ sym (take_blocks pack whole u),
       );
     }
