@@ -21,7 +21,7 @@ use Rattle.ob_flat.proofs.Runs.{pass_of, pass_each, pass_malformed}
 use Rattle.ob_flat.proofs.Tables.{reads, flat_lasts, index_fits, represents_lasts, block_long, got, whole_size, blocks_end}
 use Rattle.ob_group.specs.Grouping.{Group, put_slot, aggs_of, groups_with, groups_of}
 use Rattle.ob_group.specs.Held.{AreGroups}
-use Rattle.ob_flat.proofs.WordLemmas.{sealed_after}
+use Rattle.ob_flat.proofs.WordLemmas.{sealed_after, tampered_in, get_refused, rows_malformed}
 use Rattle.ob_group.proofs.SlotLemmas.{spelt_same, groups_weak, groups_none}
 use Rattle.ob_group.proofs.reading.group_blocks.Goals as goal
 
@@ -91,14 +91,11 @@ returns-in_err-get-clause-gathers g c =
     let u = c.loop-u.u in
     let below : u < blocks_of pack flat = subst (λ (n : ℕ). u < n) c.div_ceil-blocks.ensures c.loop-u-test.true in
     let before = c.loop-u.invariant in
-    let read = c.in_err-get.ensures in
+    let read = c.in_err-get.ensures.gets in
     let ended = pass_each none (read_at flat.region) _ _ _ _ (blocks_of pack flat) u below before.went (pass_of _ _ _ _ _ read.err) in
     rw (p.1, p.2) (record {
       ran = record { ok = tt; err = ended };
-      never = elim read.never [
-        | inl failed ↦ inl (ap pass_error failed)
-        | inr tampered ↦ inr (record { place = u; below = below; is = ap pass_error tampered })
-      ];
+      never = elim (get_refused pack flat u _ read.err read.never) [ inl failed ↦ inl failed | inr there ↦ inr (tampered_in below there) ];
       seals = sealed_after before.went.lasts before.seals c.get.ensures.gets.seals;
       source = flat_lasts pack flat none _ _ ended.lasts (λ s. s) table.written;
       held = tt;
@@ -145,19 +142,22 @@ returns-in-Err-clause-gathers g c =
     let u = c.loop-u.u in
     let below : u < blocks_of pack flat = subst (λ (n : ℕ). u < n) c.div_ceil-blocks.ensures c.loop-u-test.true in
     let before = c.loop-u.invariant in
-    let read = c.in_ok-get.ensures in
+    let read = c.in_ok-get.ensures.gets in
+    let same = fit_trans _ _ _ before.same c.get.ensures.rows in
+    let wide = wide_same (width flat.schema) _ _ same (wide_fit (width flat.schema) c.args.rows.now c.requires.fit) in
+    let shape = table_region table.written.made.order pack flat.schema flat.capacity in
+    let lives = lives_went _ _ _ _ flat.region shape before.went (λ s. s) table.written.made.lives in
     let ended = pass_each none (read_at flat.region) _ _ _ _ (blocks_of pack flat) u below before.went (pass_malformed _ _ _ flat.region u read.ok) in
     record {
       ran = record { ok = tt; err = ended };
-      never = inr (record { place = u; below = below; is = refl });
+      never = inr (tampered_in below (rows_malformed (length c.loop-u.rows) c.get.new.rows table.some before.same.count same.count wide (read.opened shape lives)
+          (λ slots is. c.in-Err.ensures.malformed (record { slots = slots; spelt = is }))));
       seals = sealed_after before.went.lasts before.seals c.get.ensures.gets.seals;
       source = flat_lasts pack flat none _ _ ended.lasts (λ s. s) table.written;
       held = tt;
       told = λ slots is nolie.
           let now = represents_lasts pack flat none _ _ before.went.lasts (λ s. s) slots is in
-          let bytes = read.told _ (table_region table.written.made.order pack flat.schema flat.capacity) (lives_went _ _ _ _ _ _ before.went (λ s. s) table.written.made.lives) (block_long pack flat slots _ is table.some u below) (now.holds u below) nolie in
-          let same = fit_trans _ _ _ before.same c.get.ensures.rows in
-          let wide = wide_same (width flat.schema) _ _ same (wide_fit (width flat.schema) c.args.rows.now c.requires.fit) in
+          let bytes = read.told _ shape lives (block_long pack flat slots _ is table.some u below) (now.holds u below) nolie in
           let spelt = got pack flat slots _ is table.some u (length c.loop-u.rows) c.get.new.rows below before.same.count same.count wide bytes in
           absurd (c.in-Err.ensures.malformed (record { slots = block_at pack (whole_blocks pack flat.capacity slots) u; spelt = spelt }));
     }
