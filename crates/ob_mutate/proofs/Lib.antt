@@ -3,5 +3,4 @@ pub mod Finding
 pub mod Counted
 pub mod Assigned
 pub mod Wiped
-pub mod Fresh
 pub mod Moving

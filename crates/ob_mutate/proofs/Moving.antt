@@ -1,19 +1,18 @@
 -- A mutation, from one step to the next.
-use Rattle.std.proofs.Common.{◌≡◌, ◌⊎◌, ◌++◌, ◌+◌, ◌*◌, ◌≤◌, inl, inr, ℕ, Bool, List, [], Option, None, Result, Ok, Err, length, length-append, append_assoc, ap, count_by, refl, sym, ◌∙◌, subst, arith}
+use Rattle.std.proofs.Common.{◌≡◌, ◌++◌, ◌+◌, ◌*◌, ◌≤◌, inl, inr, ℕ, Bool, List, [], Option, None, Result, Ok, Err, length, length-append, append_assoc, ap, count_by, refl, sym, ◌∙◌, subst, arith}
 use Rattle.ob_base.specs.declared.access.Access.{Access}
 use Rattle.ob_base.specs.Accesses.{discard_at}
 use Rattle.ob_script.specs.Parts.{count_part}
 use Rattle.ob_vault.specs.declared.region.Order.TheVariants.{Round}
 use Rattle.ob_vault.specs.State.{World}
 use Rattle.ob_vault.specs.Tied.{Ready}
-use Rattle.ob_vault.specs.Calls.{Went, Seals, Lasts, one, two}
+use Rattle.ob_vault.specs.Calls.{Went, Seals, one, two}
 use Rattle.ob_vault.specs.Words.{MayAsk, MayStart}
 use Rattle.ob_vault.proofs.Runs.{went_join, went_wider, lives_apart, lives_went, shape_lasts, tells_went}
 use Rattle.ob_vault.proofs.WordLemmas.{asks_start, asks_after, honest_before, honest_after, honest_same}
 use Rattle.ob_row.specs.Slots.{Slots}
 use Rattle.ob_flat.specs.declared.flat.Flat.{Flat}
 use Rattle.ob_flat.specs.declared.fault.OpErr.{OpErr}
-use Rattle.ob_flat.specs.declared.fault.OpErr.TheVariants.{Failed, NoMemory}
 use Rattle.ob_flat.specs.Flats.{Represents, table_region}
 use Rattle.ob_flat.specs.Words.{IsTable, HasSpare, blocks_of, moved}
 use Rattle.ob_flat.specs.Creates.{MakesRegion, make_script}

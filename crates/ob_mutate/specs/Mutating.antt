@@ -1,5 +1,5 @@
 -- What INSERT, UPDATE and DELETE do to a table.
-use Rattle.std.specs.Prelude.{◌≡◌, ◌⊎◌, ◌*◌, ◌++◌, ℕ, Bool, IsTrue, List, Option, None, Result, OnOk, OnErr, IfErr, MatchResult, map, count_by}
+use Rattle.std.specs.Prelude.{◌≡◌, ◌⊎◌, ◌*◌, ◌++◌, ℕ, IsTrue, List, None, Result, OnOk, OnErr, IfErr, MatchResult, map, count_by}
 use Rattle.std.specs.Option.{option_map}
 use Rattle.ob_base.specs.declared.access.Access.{Access}
 use Rattle.ob_base.specs.Accesses.{discard_at}

@@ -33,7 +33,8 @@ pub(crate) fn key_place(schema: &Schema) -> Option<u8>
 fn has_key(schema: &Schema, key: Option<u8>, cells: &[Cell], row: &ClearRow) -> bool
     requires wide { width schema.now ≤ length row.now }
     requires real { (other : Row) × Begins schema.now (Some other) row.now }
-    requires within { IfSome key (λ place. (place < length schema.now) × (place < length cells.now)) }
+    requires within { IfSome key
+        (λ place. (place < length schema.now) × (place < length cells.now)) }
     ensures { (other : Row) → Begins schema.now (Some other) row.now
         → result ≡ agrees key cells.now other }
 {

@@ -1,4 +1,4 @@
-use Rattle.std.proofs.Common.{◌≡◌, ◌<◌, ◌+◌, ◌*◌, ◌==◌, if◌then◌else◌, ℕ, Bool, true, false, inl, inr, length, map, refl, sym, ◌∙◌, ap, subst, arith}
+use Rattle.std.proofs.Common.{◌≡◌, ◌<◌, ◌*◌, if◌then◌else◌, ℕ, Bool, true, false, inl, inr, length, map, refl, sym, ◌∙◌, ap, subst, arith}
 use Rattle.std.proofs.lemmas.List.{length-map}
 use Rattle.std.proofs.lemmas.Result.{err_from_is_err_and}
 use Rattle.ob_base.specs.Schemas.{width}
@@ -6,7 +6,7 @@ use Rattle.ob_script.specs.Parts.{copy_at}
 use Rattle.ob_vault.specs.Calls.{one}
 use Rattle.ob_vault.specs.Places.{at, RowsFit}
 use Rattle.ob_vault.proofs.Runs.{tells_went, went_each, went_none, fit_same, fit_trans, seals_none}
-use Rattle.ob_blocks.specs.Blocks.{block_at, with_block, up_to}
+use Rattle.ob_blocks.specs.Blocks.{with_block, up_to}
 use Rattle.ob_blocks.proofs.Changes.{map_at-map, map_at-up_to, all-map_at}
 use Rattle.ob_row.specs.Slots.{Slots, kept}
 use Rattle.ob_row.specs.Truth.{is_true}

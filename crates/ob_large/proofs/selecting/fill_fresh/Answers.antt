@@ -1,4 +1,4 @@
-use Rattle.std.proofs.Common.{None, IsTrue, ◌≡◌, ◌+◌, ◌*◌, ℕ, List, [], ◌∷◌, inl, inr, length, refl, ap, subst, arith}
+use Rattle.std.proofs.Common.{◌≡◌, ◌+◌, ◌*◌, ℕ, List, [], ◌∷◌, inl, inr, length, refl, ap, subst, arith}
 use Rattle.std.proofs.lemmas.Result.{err_from_is_err_and}
 use Rattle.ob_script.specs.Parts.{copy_part}
 use Rattle.ob_vault.specs.State.{World}

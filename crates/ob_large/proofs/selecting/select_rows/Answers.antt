@@ -1,9 +1,8 @@
-use Rattle.std.proofs.Common.{◌*◌, inl, inr, length, ◌∙◌, refl, arith}
+use Rattle.std.proofs.Common.{inl, inr, length, ◌∙◌, refl, arith}
 use Rattle.std.proofs.lemmas.Result.{err_from_is_err_and}
-use Rattle.ob_base.specs.Schemas.{width}
 use Rattle.ob_vault.specs.Calls.{one}
 use Rattle.ob_vault.proofs.Runs.{lives_apart}
-use Rattle.ob_flat.specs.Words.{blocks_of, moved}
+use Rattle.ob_flat.specs.Words.{moved}
 use Rattle.ob_flat.specs.Creates.{make_script}
 use Rattle.ob_flat.proofs.Rooms.{same_rows}
 use Rattle.ob_flat.proofs.Tables.{flat_lasts, blocks_few, fits_sized}

@@ -1,4 +1,4 @@
-use Rattle.std.proofs.Common.{◌≡◌, ◌≤◌, ◌+◌, ◌*◌, ◌++◌, ℕ, Option, None, false, inl, inr, length, refl, sym, ◌∙◌, ap, subst, arith}
+use Rattle.std.proofs.Common.{◌≡◌, ◌*◌, ℕ, Option, None, false, length, refl, sym, ◌∙◌, ap, subst, arith}
 use Rattle.std.proofs.lemmas.Result.{err_from_is_err_and}
 use Rattle.ob_base.specs.Schemas.{width}
 use Rattle.ob_script.specs.Parts.{count_part}
@@ -17,7 +17,6 @@ use Rattle.ob_flat.proofs.WordLemmas.{seals_any, seals_after}
 use Rattle.ob_mutate.specs.declared.searching.Search.{Search}
 use Rattle.ob_mutate.specs.declared.searching.Finds.{Finds}
 use Rattle.ob_mutate.specs.Searches.{found, put_at}
-use Rattle.ob_mutate.specs.Inserting.{insert_answer}
 use Rattle.ob_mutate.specs.Mutating.{copy_script, inserted_slots}
 use Rattle.ob_mutate.proofs.Finding.{IsSearched, searched, answered, finds_of, past_target}
 use Rattle.ob_mutate.proofs.inserting.insert_blocks.Goals as goal

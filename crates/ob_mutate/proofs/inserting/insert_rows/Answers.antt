@@ -1,12 +1,11 @@
-use Rattle.std.proofs.Common.{◌+◌, ◌*◌, ◌≤◌, ℕ, List, length, sym, ◌∙◌, refl, subst, arith}
+use Rattle.std.proofs.Common.{◌*◌, length, ◌∙◌, refl, arith}
 use Rattle.std.proofs.lemmas.Result.{err_from_is_err_and}
-use Rattle.ob_base.specs.declared.access.Access.{Access}
 use Rattle.ob_vault.proofs.Runs.{lives_apart, lives_went}
-use Rattle.ob_flat.specs.Words.{blocks_of, moved}
+use Rattle.ob_flat.specs.Words.{blocks_of}
 use Rattle.ob_flat.proofs.Rooms.{same_rows}
 use Rattle.ob_flat.proofs.Tables.{fits_sized}
 use Rattle.ob_mutate.specs.Inserting.{insert_answer}
-use Rattle.ob_mutate.specs.Mutating.{Mutates, place_script, inserted_slots}
+use Rattle.ob_mutate.specs.Mutating.{place_script, inserted_slots}
 use Rattle.ob_mutate.proofs.Moving.{mutates_none, mutates_ok, mutates_err, fill_asks, drop_spare, table_stands, places, as_insert}
 use Rattle.ob_mutate.proofs.inserting.insert_rows.Goals as goal
 

@@ -1,12 +1,11 @@
-use Rattle.std.proofs.Common.{◌+◌, ◌*◌, ◌≤◌, ℕ, length, count_by, sym, ◌∙◌, refl, subst, arith}
+use Rattle.std.proofs.Common.{◌*◌, length, count_by, ◌∙◌, refl, arith}
 use Rattle.std.proofs.lemmas.Result.{err_from_is_err_and}
 use Rattle.ob_vault.proofs.Runs.{lives_apart, lives_went}
-use Rattle.ob_vault.specs.Places.{at}
 use Rattle.ob_blocks.specs.Blocks.{map_at}
-use Rattle.ob_flat.specs.Words.{blocks_of, moved}
+use Rattle.ob_flat.specs.Words.{blocks_of}
 use Rattle.ob_flat.proofs.Rooms.{same_rows}
 use Rattle.ob_flat.proofs.Tables.{copies, fits_sized}
-use Rattle.ob_mutate.specs.Mutating.{FillsFresh, copy_script}
+use Rattle.ob_mutate.specs.Mutating.{copy_script}
 use Rattle.ob_mutate.proofs.Moving.{mutates_none, mutates_ok, mutates_err, fill_asks, drop_spare, table_stands, fills_swapped}
 use Rattle.ob_mutate.proofs.rewriting.rewrite_rows.Goals as goal
 
