@@ -51,7 +51,8 @@ use Rattle.ob_exec.specs.Telling.{AreHeld, Represents, Told, outcome_of}
 use Rattle.ob_exec.proofs.TableLemmas.{tables_added, tables_kept, region_below}
 use Rattle.ob_exec.proofs.HeldLemmas.{held_kept, held_added}
 use Rattle.ob_exec.proofs.ToldLemmas.{early_held, told_cut, IsFault}
-use Rattle.ob_exec.proofs.RunLemmas.{early_few, went_room, engine_after, ran_done, ran_cut}
+use Rattle.ob_vault.proofs.WordLemmas.{went_rests}
+use Rattle.ob_exec.proofs.RunLemmas.{early_few, engine_after, ran_done, ran_cut}
 
 -- what holds at an `Ok`, where there is no `Err`
 pub at_ok : {T E : Type 0} (r : Result T E) (P : Type 0) → is_err r ≡ false → OnOk r P → P
@@ -134,7 +135,7 @@ module _ {R : Type 0} (state : R → RevState) (old : Engine R) (s s1 : StoreSta
       → ((i : ℕ) (u : Table) → IsAt table i u old.public.tables → ⊥)
       → Ran state (Create table columns capacity) (Ok Created) old s (engine_after old v room (old.public.tables ++ new_table ∷ []) Whole old.ended) t
   created went lives stored flat unnamed =
-      let all = went_join (one old.vault.next) _ _ _ [] part (went_room (one old.vault.next) _ s s1 agrees.ready rests) went in
+      let all = went_join (one old.vault.next) _ _ _ [] part (went_rests _ s s1 rests (one old.vault.next) agrees.ready) went in
       let is_table : IsTable old.public.pack new_table (at state v t) = record {
         stored = stored;
         flat = subst (λ (g : ℕ). IsFlat old.public.pack (record { schema = schema; capacity = capacity; region = g }) (at state v t)) (sym agrees.next)
@@ -155,7 +156,7 @@ module _ {R : Type 0} (state : R → RevState) (old : Engine R) (s s1 : StoreSta
       → FlatRepresents old.room.pack (record { schema = schema; capacity = capacity; region = old.vault.next }) (empty_slots capacity) (at state v t)
       → Told state (CreateStmt table columns capacity) (length s.asked) tables (Ok Created) old (engine_after old v room (old.public.tables ++ new_table ∷ []) Whole old.ended) t
   told_created tables held now went is =
-      let all = went_join (one old.vault.next) _ _ _ [] part (went_room (one old.vault.next) _ s s1 agrees.ready rests) went in
+      let all = went_join (one old.vault.next) _ _ _ [] part (went_rests _ s s1 rests (one old.vault.next) agrees.ready) went in
       let none = told_rests tables held now in
       let early = early_held old.public (length s.asked) (CreateStmt table columns capacity) tables (world_of state old s) None held.held now in
       let flat = subst (λ (g : ℕ). FlatRepresents old.public.pack (record { schema = schema; capacity = capacity; region = g }) (empty_slots capacity) (at state v t)) (sym agrees.next)
@@ -177,7 +178,7 @@ module _ {R : Type 0} (state : R → RevState) (old : Engine R) (s s1 : StoreSta
       → (e : OpErr) (n : ℕ) → IsFault e → PassCut e part (one old.vault.next) (at state old.vault s1) (at state v t) → n ≡ length t.asked - length s.asked
       → Told state (CreateStmt table columns capacity) (length s.asked) tables (answer_of e) old (engine_after old v room old.public.tables (Cut n) (is_stop (answer_of e))) t
   told_not_created tables held now e n fault cut count =
-      let all = pass_after (one old.vault.next) _ _ _ e [] part (went_room (one old.vault.next) _ s s1 agrees.ready rests) cut in
+      let all = pass_after (one old.vault.next) _ _ _ e [] part (went_rests _ s s1 rests (one old.vault.next) agrees.ready) cut in
       let early = early_held old.public (length s.asked) (CreateStmt table columns capacity) tables (world_of state old s) None held.held now in
       told_cut state old (length s.asked) v room t (CreateStmt table columns capacity) tables e n fault count
       (seen_late old.public (length s.asked) tables (CreateStmt table columns capacity) early)
@@ -188,7 +189,7 @@ module _ {R : Type 0} (state : R → RevState) (old : Engine R) (s s1 : StoreSta
       → ((state v.revs).live old.vault.next ≡ None)
       → Ran state (Create table columns capacity) (answer_of e) old s (engine_after old v room old.public.tables (Cut n) (is_stop (answer_of e))) t
   not_created e n cut count gone =
-      let all = pass_after (one old.vault.next) _ _ _ e [] part (went_room (one old.vault.next) _ s s1 agrees.ready rests) cut in
+      let all = pass_after (one old.vault.next) _ _ _ e [] part (went_rests _ s s1 rests (one old.vault.next) agrees.ready) cut in
       ran_cut state (Create table columns capacity) old s v room t agrees room_is (one old.vault.next) n part e all (script_is (Cut n)) count
       (tables_kept (one old.vault.next) old.public.pack old.public.tables _ _ all.lasts
       (λ i u is here. let less = region_below old.public.pack i old.public.tables u _ agrees.ready agrees.tables is in omega (arith, less, here))

@@ -64,7 +64,8 @@ use Rattle.ob_exec.proofs.TableLemmas.{flat_kept, tables_kept, tables_moved, reg
 use Rattle.ob_exec.proofs.EmitLemmas.{selected_all}
 use Rattle.ob_exec.proofs.HeldLemmas.{held_kept, held_at, held_moved, changed_same}
 use Rattle.ob_exec.proofs.ToldLemmas.{early_held, told_cut, told_whole, IsFault}
-use Rattle.ob_exec.proofs.RunLemmas.{went_room, engine_after, ran_done, ran_cut, IsAnswered}
+use Rattle.ob_vault.proofs.WordLemmas.{went_rests}
+use Rattle.ob_exec.proofs.RunLemmas.{engine_after, ran_done, ran_cut, IsAnswered}
 
 -- ---- what an INSERT means that is not refused early
 abbrev answered_as : (a b : Bool) → InsertedAs
@@ -139,7 +140,7 @@ module _ {R : Type 0} (state : R → RevState) (old : Engine R) (s s1 : StoreSta
   inserted outcome answered went lives flat gone =
       let r = table.region in
       let g = old.vault.next in
-      let all = went_join (two r g) _ _ _ [] part (went_room (two r g) _ s s1 agrees.ready rests) went in
+      let all = went_join (two r g) _ _ _ [] part (went_rests _ s s1 rests (two r g) agrees.ready) went in
       let is_table : IsTable old.public.pack moved_table (at state v t) = record {
         stored = (agrees.tables.each i table here.get).stored;
         flat = subst (λ (k : ℕ). IsFlat k (flat_of moved_table) (at state v t)) agrees.room.pack flat;
@@ -157,7 +158,7 @@ module _ {R : Type 0} (state : R → RevState) (old : Engine R) (s s1 : StoreSta
       → Ran state (Insert name columns) (answer_of e) old s (engine_after old v room old.public.tables (Cut n) (is_stop (answer_of e))) t
   not_inserted e n cut count gone =
       let g = old.vault.next in
-      let all = pass_after (one g) _ _ _ e [] part (went_room (one g) _ s s1 agrees.ready rests) cut in
+      let all = pass_after (one g) _ _ _ e [] part (went_rests _ s s1 rests (one g) agrees.ready) cut in
       ran_cut state (Insert name columns) old s v room t agrees room_is (one g) n part e all (script_is (Cut n)) count
       (tables_kept (one g) old.public.pack old.public.tables _ _ all.lasts
       (λ j u is at_next. let less = region_below old.public.pack j old.public.tables u _ agrees.ready agrees.tables is in omega (arith, less, at_next))
@@ -179,7 +180,7 @@ module _ {R : Type 0} (state : R → RevState) (old : Engine R) (s s1 : StoreSta
   told_inserted values tables held now answer went told =
       let r = table.region in
       let g = old.vault.next in
-      let all = went_join (two r g) _ _ _ [] part (went_room (two r g) _ s s1 agrees.ready rests) went in
+      let all = went_join (two r g) _ _ _ [] part (went_rests _ s s1 rests (two r g) agrees.ready) went in
       let beside = held_at old.public.pack name old.public.tables tables i table (world_of state old s) agrees.tables.names held.held here.get here.named in
       let x = beside.table in
       let before = represents_rests _ s s1 rests old.room.pack (flat_of table) x.held
@@ -208,7 +209,7 @@ module _ {R : Type 0} (state : R → RevState) (old : Engine R) (s s1 : StoreSta
       → PassCut e part (one old.vault.next) (at state old.vault s1) (at state v t) → n ≡ length t.asked - length s.asked
       → Told state (InsertStmt name columns values) (length s.asked) tables (answer_of e) old (engine_after old v room old.public.tables (Cut n) (is_stop (answer_of e))) t
   told_not_inserted values tables held now e n fault cut count =
-      let all = pass_after (one old.vault.next) _ _ _ e [] part (went_room (one old.vault.next) _ s s1 agrees.ready rests) cut in
+      let all = pass_after (one old.vault.next) _ _ _ e [] part (went_rests _ s s1 rests (one old.vault.next) agrees.ready) cut in
       let early = early_held old.public (length s.asked) (InsertStmt name columns values) tables (world_of state old s) None held.held now in
       let beside = held_at old.public.pack name old.public.tables tables i table (world_of state old s) agrees.tables.names held.held here.get here.named in
       let before = represents_rests _ s s1 rests old.room.pack (flat_of table) beside.table.held
@@ -230,7 +231,7 @@ module _ {R : Type 0} (state : R → RevState) (old : Engine R) (s s1 : StoreSta
   pub found_flat : IsFlat old.room.pack flat (at state old.vault s1)
   found_flat =
       subst (λ (f : Flat). IsFlat old.room.pack f (at state old.vault s1)) (sym flat_is)
-      (flat_kept none old.room.pack (flat_of table) (world_of state old s) _ (went_room none _ s s1 agrees.ready rests).lasts (λ off. off)
+      (flat_kept none old.room.pack (flat_of table) (world_of state old s) _ (went_rests _ s s1 rests none agrees.ready).lasts (λ off. off)
       (subst (λ (k : ℕ). IsFlat k (flat_of table) (world_of state old s)) (sym agrees.room.pack) (agrees.tables.each i table get).flat))
 
   pub found_size : IsSized flat.schema flat.capacity
@@ -296,14 +297,14 @@ module _ {R : Type 0} (state : R → RevState) (old : Engine R) (s s1 : StoreSta
   pub counted : Went reads none (at state old.vault s1) (at state v t) → old.ended ≡ false
       → Ran state (Groups name [] None) (Ok (Rows 1)) old s (engine_after old v room old.public.tables Whole old.ended) t
   counted went lives =
-      let all = went_join none _ _ _ [] reads (went_room none _ s s1 agrees.ready rests) went in
+      let all = went_join none _ _ _ [] reads (went_rests _ s s1 rests none agrees.ready) went in
       ran_done state (Groups name [] None) old s v room t agrees room_is none
       old.public.tables reads (Rows 1) lives tt all (counts_is Whole) refl (tables_read all.lasts)
 
   pub not_counted : (e : OpErr) (n : ℕ) → PassCut e reads none (at state old.vault s1) (at state v t) → n ≡ length t.asked - length s.asked
       → Ran state (Groups name [] None) (answer_of e) old s (engine_after old v room old.public.tables (Cut n) (is_stop (answer_of e))) t
   not_counted e n cut count =
-      let all = pass_after none _ _ _ e [] reads (went_room none _ s s1 agrees.ready rests) cut in
+      let all = pass_after none _ _ _ e [] reads (went_rests _ s s1 rests none agrees.ready) cut in
       ran_cut state (Groups name [] None) old s v room t agrees room_is none n reads e all (counts_is (Cut n)) count (tables_read all.lasts)
 
   -- the number of rows is that of the table in place
@@ -329,7 +330,7 @@ module _ {R : Type 0} (state : R → RevState) (old : Engine R) (s s1 : StoreSta
       → (k : ℕ) → verdict old.public (length s.asked) tables (count_of name) ≡ A.Rows ((Int (pos k) ∷ []) ∷ [])
       → Told state (count_of name) (length s.asked) tables (Ok (Rows 1)) old (engine_after old v room old.public.tables Whole old.ended) t
   told_counted tables held now went k is =
-      let all = went_join none _ _ _ [] reads (went_room none _ s s1 agrees.ready rests) went in
+      let all = went_join none _ _ _ [] reads (went_rests _ s s1 rests none agrees.ready) went in
       let early = early_held old.public (length s.asked) (count_of name) tables (world_of state old s) None held.held now in
       record {
         answer = sym (ap (outcome_of (count_of name)) is);
@@ -344,7 +345,7 @@ module _ {R : Type 0} (state : R → RevState) (old : Engine R) (s s1 : StoreSta
       → (e : OpErr) (n : ℕ) → IsFault e → PassCut e reads none (at state old.vault s1) (at state v t) → n ≡ length t.asked - length s.asked
       → Told state (count_of name) (length s.asked) tables (answer_of e) old (engine_after old v room old.public.tables (Cut n) (is_stop (answer_of e))) t
   told_not_counted tables held now e n fault cut count =
-      let all = pass_after none _ _ _ e [] reads (went_room none _ s s1 agrees.ready rests) cut in
+      let all = pass_after none _ _ _ e [] reads (went_rests _ s s1 rests none agrees.ready) cut in
       told_cut state old (length s.asked) v room t (count_of name) tables e n fault count (count_seen tables held now) (count_held tables held all.lasts)
 
 -- the answer of one row

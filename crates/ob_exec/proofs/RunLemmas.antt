@@ -15,7 +15,7 @@ use Rattle.ob_store.specs.State.{StoreState}
 use Rattle.ob_store.specs.Calls.{Rests}
 use Rattle.ob_store.specs.Runs.{Began}
 use Rattle.ob_store.proofs.Steps.{began_take, later_refl, later_rests}
-use Rattle.ob_vault.specs.State.{RevState, VaultState, World}
+use Rattle.ob_vault.specs.State.{RevState, VaultState, Start, World}
 use Rattle.ob_vault.specs.Tied.{Ready, Calm}
 use Rattle.ob_vault.specs.Calls.{Went}
 use Rattle.ob_vault.proofs.Runs.{shapes_none}
@@ -44,37 +44,12 @@ use Rattle.ob_exec.specs.Running.{answer_of, is_stop, IsDone, refused_end, refus
 abbrev pub world : VaultState → StoreState → World
 world v s = record { vault = v; store = s }
 
--- room for accesses changes nothing else
-pub went_room : (some : ℕ → Type 0) (v : VaultState) (s t : StoreState) → Ready (world v s) → Rests s t → Went [] some (world v s) (world v t)
-went_room some v s t ready rests = record {
-  lasts = record {
-    ready = record {
-      tied = record {
-        count = ready.tied.count ∙ sym (ap writes rests.asked);
-        next = ready.tied.next ∙ sym (ap (λ (x : List Access). 1 + makes x) rests.asked);
-        above = subst (λ (x : List Access). AllBelow v.next x) (sym rests.asked) ready.tied.above;
-        live = λ q shape live. record { live = rests.keeps.live q ∙ (ready.tied.live q shape live).live };
-        numbers = λ q x shape live within. ready.tied.numbers q x shape live within ∙ sym (ap (λ (y : List Access). number_of y q x) rests.asked);
-      };
-      below = ready.below;
-      fits = ready.fits;
-    };
-    later = later_rests s t rests;
-    keys = refl;
-    shapes = shapes_none v s t;
-    apart = record { live = λ q off. refl; number = λ q x off. refl; turn = λ q off. refl; kept = λ q off. rests.keeps.live q; last = λ q x off. rests.keeps.last q x };
-  };
-  did = record { asked = rests.asked ∙ sym (append-nil s.asked); faults = rests.faults };
-  spare = omega (arith, rests.spare);
-  calm = λ calm. record { calm = λ lie is. calm.calm lie (sym rests.lie ∙ is) };
-}
-
 -- the next region after some accesses
-pub next_after : (a b : World) (x : List Access) → Ready a → Ready b → b.store.asked ≡ a.store.asked ++ x → b.vault.next ≡ a.vault.next + makes x
-next_after a b x was is asked =
+pub next_after : (a b : World) (x : List Access) → Ready a → Ready b → b.vault.start ≡ a.vault.start → b.store.asked ≡ a.store.asked ++ x → b.vault.next ≡ a.vault.next + makes x
+next_after a b x was is start asked =
     let sum = makes-append a.store.asked x in
     let all = ap makes asked in
-    omega (arith, was.tied.next, is.tied.next, sum, all)
+    omega (arith, was.tied.next, is.tied.next, ap (λ (s : Start). s.region) start, sum, all)
 
 makes_none : makes [] ≡ 0
 unfolding makes
@@ -210,7 +185,7 @@ module _ {R : Type 0} (state : R → RevState) (skeleton : Skeleton) (old : Engi
       → script old.public skeleton (seen_to end) ≡ x → tables ≡ tables_then old.public skeleton end → AreTables tables old.public.pack now
       → GoesOn state skeleton old (engine_after old v room tables end ended) t
   went_on tables end x ended lives ready asked is same are =
-      let number = next_after (world_of state old s) now x agrees.ready ready asked in
+      let number = next_after (world_of state old s) now x agrees.ready ready refl asked in
       let region : v.next ≡ old.public.next_region + makes (script old.public skeleton (seen_to end)) =
       number ∙ ap (λ (n : ℕ). n + makes x) (sym agrees.next) ∙ ap (λ (y : List Access). old.public.next_region + makes y) (sym is) in
       record {
@@ -242,7 +217,7 @@ module _ {R : Type 0} (state : R → RevState) (skeleton : Skeleton) (old : Engi
 
   cut_cause : (e : OpErr) (a b : World) → PassCause e a b → RunCause (answer_of e) a b
   cut_cause OpErrs.Failed a b cause = cause
-  cut_cause (OpErrs.Tampered q x) a b cause = cause
+  cut_cause (OpErrs.Tampered q x) a b (faults, last, calm) = (faults, calm)
   cut_cause OpErrs.Sink a b cause = cause
   cut_cause OpErrs.NoMemory a b cause = cause
 

@@ -9,31 +9,16 @@ use Rattle.ob_store.proofs.Steps.{later_rests}
 use Rattle.ob_vault.specs.Calls.{Seals}
 use Rattle.ob_vault.specs.State.{RevState, VaultState, World}
 use Rattle.ob_vault.proofs.Runs.{seals_join}
+use Rattle.ob_vault.proofs.WordLemmas.{seals_rests}
 use Rattle.ob_flat.specs.Flats.{Accepts}
 use Rattle.ob_exec.specs.Agreeing.{Agrees, world_of}
 use Rattle.ob_exec.specs.Telling.{KeepsSealed}
 use Rattle.ob_exec.specs.declared.engine.Engine.{Engine}
 
--- room for accesses changes no block
-seals_rests : (good : ℕ → List ℕ → Bool) (v : VaultState) (s t : StoreState) → Rests s t → Seals good (record { vault = v; store = s }) (record { vault = v; store = t })
-seals_rests good v s t rests = record {
-  seals = λ tells all. record {
-    all = λ q x block live last.
-        let was = all.all q x block (λ none. live (rests.keeps.live q ∙ none)) (sym (rests.keeps.last q x) ∙ last) in
-        record {
-          number = was.number;
-          rows = was.rows;
-          is = was.is;
-          went = subst (λ (a : List Access). nth_write was.number a ≡ Some (q, x)) (sym rests.asked) was.went;
-          fine = was.fine;
-        };
-  };
-}
-
 module _ {R : Type 0} (state : R → RevState) (old : Engine R) (s s1 : StoreState) (rests : Rests s s1) where
   -- nothing but room was made
   pub keeps_rests : (new : Engine R) → world_of state new s1 ≡ world_of state old s1 → KeepsSealed state old s new s1
-  keeps_rests new same good accepts = subst (λ (w : World). Seals good (world_of state old s) w) (sym same) (seals_rests good _ s s1 rests)
+  keeps_rests new same good accepts = subst (λ (w : World). Seals good (world_of state old s) w) (sym same) (seals_rests _ s s1 rests good)
 
   -- a pass came after it
   pub keeps_pass : (agrees : Agrees state old s) (new : Engine R) (t : StoreState) (w : World) → world_of state new t ≡ w
@@ -41,7 +26,7 @@ module _ {R : Type 0} (state : R → RevState) (old : Engine R) (s s1 : StoreSta
       → KeepsSealed state old s new t
   keeps_pass agrees new t w same pass good accepts =
       subst (λ (x : World). Seals good (world_of state old s) x) (sym same)
-      (seals_join good _ _ w (later_rests s s1 rests) (seals_rests good _ s s1 rests)
+      (seals_join good _ _ w (later_rests s s1 rests) (seals_rests _ s s1 rests good)
       (pass good (λ columns region. subst (λ (k : ℕ). Accepts good k columns region) (sym agrees.room.pack) (accepts columns region))))
 
 -- nothing was asked

@@ -34,6 +34,8 @@ use Rattle.ob_mean.proofs.VerdictLemmas.{refused_early, seen_early, seen_late}
 use Rattle.ob_mean.proofs.EarlyLemmas.{allowed}
 use Rattle.ob_mean.specs.Replay.{held_if, cut_at, count_end, first_end}
 use Rattle.ob_mean.specs.Verdict.{Tables, database, is_late, refusal, verdict, seen, seen_started, ended as seen_to}
+use Rattle.ob_flat.specs.declared.flat.Flat.{Flat}
+use Rattle.ob_flat.specs.Words.{TamperedIn}
 use Rattle.ob_exec.specs.declared.engine.Engine.{Engine}
 use Rattle.ob_exec.specs.declared.outcome.Outcome.{Outcome}
 use Rattle.ob_exec.specs.declared.outcome.Outcome.TheVariants.{Created, Inserted, Changed, Deleted, Dropped, Rows, Refused}
@@ -151,15 +153,15 @@ silent_fault e (inl is) = subst (λ (x : OpErr). IsSilent (answer_of x)) (sym is
 silent_fault e (inr is) = subst (λ (x : OpErr). IsSilent (answer_of x)) (sym is) tt
 
 -- nor does any error of an INSERT's pass
-pub silent_pass : (e : OpErr) (q n : ℕ) → (e ≡ OpErrs.Failed) ⊎ (e ≡ OpErrs.NoMemory) ⊎ ((place : ℕ) × (place < n) × (e ≡ OpErrs.Tampered q place)) → IsSilent (answer_of e)
-silent_pass e q n (inl is) = silent_fault e (inl is)
-silent_pass e q n (inr (inl is)) = silent_fault e (inr is)
-silent_pass e q n (inr (inr (place, less, is))) = subst (λ (x : OpErr). IsSilent (answer_of x)) (sym is) tt
+pub silent_pass : {pack : ℕ} {flat : Flat} {w : World} (e : OpErr) → (e ≡ OpErrs.Failed) ⊎ (e ≡ OpErrs.NoMemory) ⊎ TamperedIn pack flat e w → IsSilent (answer_of e)
+silent_pass e (inl is) = silent_fault e (inl is)
+silent_pass e (inr (inl is)) = silent_fault e (inr is)
+silent_pass e (inr (inr there)) = subst (λ (x : OpErr). IsSilent (answer_of x)) (sym there.is) tt
 
 -- nor any error of a pass that only reads
-pub silent_read : (e : OpErr) (q n : ℕ) → (e ≡ OpErrs.Failed) ⊎ ((place : ℕ) × (place < n) × (e ≡ OpErrs.Tampered q place)) → IsSilent (answer_of e)
-silent_read e q n (inl is) = silent_fault e (inl is)
-silent_read e q n (inr (place, less, is)) = subst (λ (x : OpErr). IsSilent (answer_of x)) (sym is) tt
+pub silent_read : {pack : ℕ} {flat : Flat} {w : World} (e : OpErr) → (e ≡ OpErrs.Failed) ⊎ TamperedIn pack flat e w → IsSilent (answer_of e)
+silent_read e (inl is) = silent_fault e (inl is)
+silent_read e (inr there) = subst (λ (x : OpErr). IsSilent (answer_of x)) (sym there.is) tt
 
 -- what holds of each answer holds where there is one
 pub if_ok_of : {T E : Type 0} {P : T → Type 0} (r q : Result T E) → r ≡ q → ((x : T) → q ≡ Ok x → P x) → IfOk r P

@@ -30,7 +30,8 @@ use Rattle.ob_exec.specs.Telling.{Emitted, Represents as Stands}
 use Rattle.ob_vault.specs.Tied.{Calm, IsUnfit}
 use Rattle.ob_exec.proofs.FoundLemmas.{is_there}
 use Rattle.ob_exec.proofs.EmitLemmas.{count_labels, count_events, count_emitted, count_partly, count_none, unfit_none}
-use Rattle.ob_exec.proofs.RunLemmas.{count_rises, ran_as, ran_no_room, went_room}
+use Rattle.ob_vault.proofs.WordLemmas.{went_rests}
+use Rattle.ob_exec.proofs.RunLemmas.{count_rises, ran_as, ran_no_room}
 use Rattle.ob_exec.proofs.ToldLemmas.{told_as, told_no_room, started_seen, silent_read, silent_sink, plain_as, started_whole, started_cut, fault_made, if_ok_of, on_err_of, emits_fault}
 use Rattle.ob_exec.proofs.InsertLemmas.{counted, not_counted, cut_whole, one_row, count_some, count_is, held_before, told_counted, told_not_counted, found_flat, found_size, found_room}
 use Rattle.ob_exec.specs.Agreeing.{world_of}
@@ -86,7 +87,7 @@ returns-in-Err-clause-ran g c =
     let flat_is = c.flat_at-flat.ensures table (ap (λ (ts : List Table). slice_get ts i) c.as_slice-2.ensures ∙ here.get) in
     let n = c.count-in-Err.result - c.count-before.result in
     let count : n ≡ length t.asked - length s.asked = λ j. c.count-in-Err.ensures j - c.count-before.ensures j in
-    let cut = subst (λ (f : Flat). PassCut c.in-Err.error (count_part f.region (blocks_for old.room.pack f.capacity)) none (at state old.vault s1) (at state v t)) flat_is c.in-Err.ensures.err in
+    let cut = subst (λ (f : Flat). PassCut c.in-Err.error (count_part f.region (blocks_for old.room.pack f.capacity)) none (at state old.vault s1) (at state v t)) flat_is c.in-Err.ensures.counts.ran.err in
     let ran = not_counted state old s s1 v room t c.args.table.now i table c.requires.agrees c.room.ensures.rests c.count-2.ensures.room here c.in-Err.error n cut count in
     ran_as state (skeleton (count_of c.args.table.now)) old s t _ _ _ _ c.cut-in-Err.ensures.answer c.cut-in-Err.ensures.seen ran
 
@@ -106,9 +107,9 @@ returns-in-Err-clause-told g c tells tables held honest =
     let flat_is = c.flat_at-flat.ensures table (ap (λ (ts : List Table). slice_get ts i) c.as_slice-2.ensures ∙ here.get) in
     let n = c.count-in-Err.result - c.count-before.result in
     let count : n ≡ length t.asked - length s.asked = λ j. c.count-in-Err.ensures j - c.count-before.ensures j in
-    let cut = subst (λ (f : Flat). PassCut c.in-Err.error (count_part f.region (blocks_for old.room.pack f.capacity)) none (at state old.vault s1) (at state v t)) flat_is c.in-Err.ensures.err in
+    let cut = subst (λ (f : Flat). PassCut c.in-Err.error (count_part f.region (blocks_for old.room.pack f.capacity)) none (at state old.vault s1) (at state v t)) flat_is c.in-Err.ensures.counts.ran.err in
     let before = held_before state old s s1 c.args.table.now i table c.requires.agrees c.room.ensures.rests here tables held in
-    let fault = c.in-Err.ensures.told before.0 (subst (λ (f : Flat). Represents old.room.pack f before.0 (at state old.vault s1)) (sym flat_is) before.1) honest in
+    let fault = c.in-Err.ensures.counts.told before.0 (subst (λ (f : Flat). Represents old.room.pack f before.0 (at state old.vault s1)) (sym flat_is) before.1) honest in
     let told = told_not_counted state old s s1 v room t c.args.table.now i table c.requires.agrees c.room.ensures.rests c.count-2.ensures.room here tables held c.requires.allowed
     c.in-Err.error n (fault_made c.in-Err.error (inl fault)) cut count in
     told_as state (count_of c.args.table.now) _ tables old t _ _ _ _ c.cut-in-Err.ensures.answer c.cut-in-Err.ensures.seen told
@@ -165,7 +166,7 @@ returns-in-Ok-emit_count-clause-ran g c =
     let table = found.0 in
     let here = subst (λ (ts : List Table). IsAt c.args.table.now i table ts) c.as_slice.ensures found.1 in
     let flat_is = c.flat_at-flat.ensures table (ap (λ (ts : List Table). slice_get ts i) c.as_slice-2.ensures ∙ here.get) in
-    let went = subst (λ (f : Flat). Went (count_part f.region (blocks_for old.room.pack f.capacity)) none (at state old.vault s1) (at state v t)) flat_is c.in-Ok.ensures.ok in
+    let went = subst (λ (f : Flat). Went (count_part f.region (blocks_for old.room.pack f.capacity)) none (at state old.vault s1) (at state v t)) flat_is c.in-Ok.ensures.counts.ran.ok in
     let ran = counted state old s s1 v room t c.args.table.now i table c.requires.agrees c.room.ensures.rests c.count-2.ensures.room here went c.requires.lives in
     ran_as state (skeleton (count_of c.args.table.now)) old s t _ _ _ _ (ap (λ (o : Outcome). Ok o) c.finish.ensures.answer) c.finish.ensures.seen ran
 
@@ -183,9 +184,9 @@ returns-in-Ok-emit_count-clause-told g c tells tables held honest =
     let table = found.0 in
     let here = subst (λ (ts : List Table). IsAt c.args.table.now i table ts) c.as_slice.ensures found.1 in
     let flat_is = c.flat_at-flat.ensures table (ap (λ (ts : List Table). slice_get ts i) c.as_slice-2.ensures ∙ here.get) in
-    let went = subst (λ (f : Flat). Went (count_part f.region (blocks_for old.room.pack f.capacity)) none (at state old.vault s1) (at state v t)) flat_is c.in-Ok.ensures.ok in
+    let went = subst (λ (f : Flat). Went (count_part f.region (blocks_for old.room.pack f.capacity)) none (at state old.vault s1) (at state v t)) flat_is c.in-Ok.ensures.counts.ran.ok in
     let is = count_is state old s s1 v room t c.args.table.now i table c.requires.agrees c.room.ensures.rests c.count-2.ensures.room here tables held c.requires.allowed c.in-Ok.counted.k
-    (λ slots before. ap (λ r. r.k) (c.in-Ok.ensures.told slots (subst (λ (f : Flat). Represents old.room.pack f slots (at state old.vault s1)) (sym flat_is) before) honest)
+    (λ slots before. ap (λ r. r.k) (c.in-Ok.ensures.counts.told slots (subst (λ (f : Flat). Represents old.room.pack f slots (at state old.vault s1)) (sym flat_is) before) honest)
     ∙ ap (λ (p : Condition). length (selected (is_true p) slots)) c.all.ensures) in
     let told = told_counted state old s s1 v room t c.args.table.now i table c.requires.agrees c.room.ensures.rests c.count-2.ensures.room here tables held c.requires.allowed went c.in-Ok.counted.k is in
     told_as state (count_of c.args.table.now) _ tables old t _ _ _ _ (ap (λ (o : Outcome). Ok o) c.finish.ensures.answer) c.finish.ensures.seen told
@@ -209,7 +210,7 @@ returns-in-Ok-emit_count-clause-emits g c =
       subst (λ (o : Outcome). Emits o (count_events c.in-Ok.counted.k)) (sym c.finish.ensures.answer) (one_row count_labels (Int (pos c.in-Ok.counted.k) ∷ [])),
       λ tells tables held honest.
           let is = count_is state old s s1 v room t c.args.table.now i table c.requires.agrees c.room.ensures.rests c.count-2.ensures.room here tables held c.requires.allowed c.in-Ok.counted.k
-          (λ slots before. ap (λ r. r.k) (c.in-Ok.ensures.told slots (subst (λ (f : Flat). Represents old.room.pack f slots (at state old.vault s1)) (sym flat_is) before) honest)
+          (λ slots before. ap (λ r. r.k) (c.in-Ok.ensures.counts.told slots (subst (λ (f : Flat). Represents old.room.pack f slots (at state old.vault s1)) (sym flat_is) before) honest)
           ∙ ap (λ (p : Condition). length (selected (is_true p) slots)) c.all.ensures) in
           subst (λ (o : Outcome). Emitted (count_of c.args.table.now) old.public (length s.asked) tables (Ok o) (count_events c.in-Ok.counted.k)) (sym c.finish.ensures.answer)
           (count_emitted c.args.table.now old.public (length s.asked) tables c.in-Ok.counted.k is),
@@ -229,7 +230,7 @@ returns-in-Err-Failed-clause-ran g c =
     let table = found.0 in
     let here = subst (λ (ts : List Table). IsAt c.args.table.now i table ts) c.as_slice.ensures found.1 in
     let flat_is = c.flat_at-flat.ensures table (ap (λ (ts : List Table). slice_get ts i) c.as_slice-2.ensures ∙ here.get) in
-    let went = subst (λ (f : Flat). Went (count_part f.region (blocks_for old.room.pack f.capacity)) none (at state old.vault s1) (at state v t)) flat_is c.in-Ok.ensures.ok in
+    let went = subst (λ (f : Flat). Went (count_part f.region (blocks_for old.room.pack f.capacity)) none (at state old.vault s1) (at state v t)) flat_is c.in-Ok.ensures.counts.ran.ok in
     let n = c.count-in-Err-Failed.result - c.count-before.result in
     let count : n ≡ length t.asked - length s.asked = λ j. c.count-in-Err-Failed.ensures j - c.count-before.ensures j in
     let cut = cut_whole OpErrs.Sink none (count_part table.region (blocks_for old.room.pack table.heading.capacity)) (at state old.vault s1) (at state v t) (went.did.faults, went.calm) went in
@@ -250,7 +251,7 @@ returns-in-Err-Failed-clause-told g c tells tables held honest =
     let table = found.0 in
     let here = subst (λ (ts : List Table). IsAt c.args.table.now i table ts) c.as_slice.ensures found.1 in
     let flat_is = c.flat_at-flat.ensures table (ap (λ (ts : List Table). slice_get ts i) c.as_slice-2.ensures ∙ here.get) in
-    let went = subst (λ (f : Flat). Went (count_part f.region (blocks_for old.room.pack f.capacity)) none (at state old.vault s1) (at state v t)) flat_is c.in-Ok.ensures.ok in
+    let went = subst (λ (f : Flat). Went (count_part f.region (blocks_for old.room.pack f.capacity)) none (at state old.vault s1) (at state v t)) flat_is c.in-Ok.ensures.counts.ran.ok in
     let n = c.count-in-Err-Failed.result - c.count-before.result in
     let count : n ≡ length t.asked - length s.asked = λ j. c.count-in-Err-Failed.ensures j - c.count-before.ensures j in
     let cut = cut_whole OpErrs.Sink none (count_part table.region (blocks_for old.room.pack table.heading.capacity)) (at state old.vault s1) (at state v t) (went.did.faults, went.calm) went in
@@ -272,16 +273,16 @@ returns-in-Err-Failed-clause-stopped g c =
     let table = found.0 in
     let here = subst (λ (ts : List Table). IsAt c.args.table.now i table ts) c.as_slice.ensures found.1 in
     let flat_is = c.flat_at-flat.ensures table (ap (λ (ts : List Table). slice_get ts i) c.as_slice-2.ensures ∙ here.get) in
-    let went = subst (λ (f : Flat). Went (count_part f.region (blocks_for old.room.pack f.capacity)) none (at state old.vault s1) (at state v t)) flat_is c.in-Ok.ensures.ok in
+    let went = subst (λ (f : Flat). Went (count_part f.region (blocks_for old.room.pack f.capacity)) none (at state old.vault s1) (at state v t)) flat_is c.in-Ok.ensures.counts.ran.ok in
     let partly = c.in-Err-Failed.ensures.err in
     on_err_of c.cut-in-Err-Failed.result (
       partly.0,
       inr partly.1,
       λ tells tables held calm unfit.
           let there : IsUnfit (at state v t) = subst (λ (e : Engine g.row.R.Denot). IsUnfit (world_of state e t)) c.cut-in-Err-Failed.ensures.seen unfit in
-          let honest = unfit_none (at state v t) (went.calm ((went_room none _ s s1 c.requires.agrees.ready c.room.ensures.rests).calm calm)) there in
+          let honest = unfit_none (at state v t) (went.calm ((went_rests _ s s1 c.room.ensures.rests none c.requires.agrees.ready).calm calm)) there in
           let is = count_is state old s s1 v room t c.args.table.now i table c.requires.agrees c.room.ensures.rests c.count-2.ensures.room here tables held c.requires.allowed c.in-Ok.counted.k
-          (λ slots before. ap (λ r. r.k) (c.in-Ok.ensures.told slots (subst (λ (f : Flat). Represents old.room.pack f slots (at state old.vault s1)) (sym flat_is) before) honest)
+          (λ slots before. ap (λ r. r.k) (c.in-Ok.ensures.counts.told slots (subst (λ (f : Flat). Represents old.room.pack f slots (at state old.vault s1)) (sym flat_is) before) honest)
           ∙ ap (λ (p : Condition). length (selected (is_true p) slots)) c.all.ensures) in
           subst (λ (r : Result Outcome Stop). Emitted (count_of c.args.table.now) old.public (length s.asked) tables r partly.0) (sym c.cut-in-Err-Failed.ensures.answer)
           (count_partly c.args.table.now old.public (length s.asked) tables c.in-Ok.counted.k is SinkFault partly.0 partly.2),
@@ -301,7 +302,7 @@ returns-in-Err-NoMemory-clause-ran g c =
     let table = found.0 in
     let here = subst (λ (ts : List Table). IsAt c.args.table.now i table ts) c.as_slice.ensures found.1 in
     let flat_is = c.flat_at-flat.ensures table (ap (λ (ts : List Table). slice_get ts i) c.as_slice-2.ensures ∙ here.get) in
-    let went = subst (λ (f : Flat). Went (count_part f.region (blocks_for old.room.pack f.capacity)) none (at state old.vault s1) (at state v t)) flat_is c.in-Ok.ensures.ok in
+    let went = subst (λ (f : Flat). Went (count_part f.region (blocks_for old.room.pack f.capacity)) none (at state old.vault s1) (at state v t)) flat_is c.in-Ok.ensures.counts.ran.ok in
     let n = c.count-in-Err-NoMemory.result - c.count-before.result in
     let count : n ≡ length t.asked - length s.asked = λ j. c.count-in-Err-NoMemory.ensures j - c.count-before.ensures j in
     let cut = cut_whole OpErrs.NoMemory none (count_part table.region (blocks_for old.room.pack table.heading.capacity)) (at state old.vault s1) (at state v t) (went.did.faults, went.calm) went in
@@ -322,7 +323,7 @@ returns-in-Err-NoMemory-clause-told g c tells tables held honest =
     let table = found.0 in
     let here = subst (λ (ts : List Table). IsAt c.args.table.now i table ts) c.as_slice.ensures found.1 in
     let flat_is = c.flat_at-flat.ensures table (ap (λ (ts : List Table). slice_get ts i) c.as_slice-2.ensures ∙ here.get) in
-    let went = subst (λ (f : Flat). Went (count_part f.region (blocks_for old.room.pack f.capacity)) none (at state old.vault s1) (at state v t)) flat_is c.in-Ok.ensures.ok in
+    let went = subst (λ (f : Flat). Went (count_part f.region (blocks_for old.room.pack f.capacity)) none (at state old.vault s1) (at state v t)) flat_is c.in-Ok.ensures.counts.ran.ok in
     let n = c.count-in-Err-NoMemory.result - c.count-before.result in
     let count : n ≡ length t.asked - length s.asked = λ j. c.count-in-Err-NoMemory.ensures j - c.count-before.ensures j in
     let cut = cut_whole OpErrs.NoMemory none (count_part table.region (blocks_for old.room.pack table.heading.capacity)) (at state old.vault s1) (at state v t) (went.did.faults, went.calm) went in
@@ -344,16 +345,16 @@ returns-in-Err-NoMemory-clause-stopped g c =
     let table = found.0 in
     let here = subst (λ (ts : List Table). IsAt c.args.table.now i table ts) c.as_slice.ensures found.1 in
     let flat_is = c.flat_at-flat.ensures table (ap (λ (ts : List Table). slice_get ts i) c.as_slice-2.ensures ∙ here.get) in
-    let went = subst (λ (f : Flat). Went (count_part f.region (blocks_for old.room.pack f.capacity)) none (at state old.vault s1) (at state v t)) flat_is c.in-Ok.ensures.ok in
+    let went = subst (λ (f : Flat). Went (count_part f.region (blocks_for old.room.pack f.capacity)) none (at state old.vault s1) (at state v t)) flat_is c.in-Ok.ensures.counts.ran.ok in
     let partly = c.in-Err-NoMemory.ensures.err in
     on_err_of c.cut-in-Err-NoMemory.result (
       partly.0,
       inr partly.1,
       λ tells tables held calm unfit.
           let there : IsUnfit (at state v t) = subst (λ (e : Engine g.row.R.Denot). IsUnfit (world_of state e t)) c.cut-in-Err-NoMemory.ensures.seen unfit in
-          let honest = unfit_none (at state v t) (went.calm ((went_room none _ s s1 c.requires.agrees.ready c.room.ensures.rests).calm calm)) there in
+          let honest = unfit_none (at state v t) (went.calm ((went_rests _ s s1 c.room.ensures.rests none c.requires.agrees.ready).calm calm)) there in
           let is = count_is state old s s1 v room t c.args.table.now i table c.requires.agrees c.room.ensures.rests c.count-2.ensures.room here tables held c.requires.allowed c.in-Ok.counted.k
-          (λ slots before. ap (λ r. r.k) (c.in-Ok.ensures.told slots (subst (λ (f : Flat). Represents old.room.pack f slots (at state old.vault s1)) (sym flat_is) before) honest)
+          (λ slots before. ap (λ r. r.k) (c.in-Ok.ensures.counts.told slots (subst (λ (f : Flat). Represents old.room.pack f slots (at state old.vault s1)) (sym flat_is) before) honest)
           ∙ ap (λ (p : Condition). length (selected (is_true p) slots)) c.all.ensures) in
           subst (λ (r : Result Outcome Stop). Emitted (count_of c.args.table.now) old.public (length s.asked) tables r partly.0) (sym c.cut-in-Err-NoMemory.ensures.answer)
           (count_partly c.args.table.now old.public (length s.asked) tables c.in-Ok.counted.k is NoMemory partly.0 partly.2),
@@ -364,28 +365,28 @@ returns-in-Err-clause-seals g c =
     keeps_pass g.R.Revisions.state c.args.self.now (g.S.BlockStore.state c.args.store.now) (g.S.BlockStore.state c.room.new.self) c.room.ensures.rests c.requires.agrees c.cut-in-Err.new.self
     (g.S.BlockStore.state c.count-2.new.store) _
     (ap (λ (e : Engine g.row.R.Denot). world_of g.R.Revisions.state e (g.S.BlockStore.state c.count-2.new.store)) c.cut-in-Err.ensures.seen)
-    (λ good accepts. c.in-Err.ensures.seals good)
+    (λ good accepts. c.in-Err.ensures.counts.seals.seals good)
 
 pub returns-in-Ok-emit_count-clause-seals : goal.returns-in-Ok-emit_count-clause-seals
 returns-in-Ok-emit_count-clause-seals g c =
     keeps_pass g.R.Revisions.state c.args.self.now (g.S.BlockStore.state c.args.store.now) (g.S.BlockStore.state c.room.new.self) c.room.ensures.rests c.requires.agrees c.finish.new.self
     (g.S.BlockStore.state c.count-2.new.store) _
     (ap (λ (e : Engine g.row.R.Denot). world_of g.R.Revisions.state e (g.S.BlockStore.state c.count-2.new.store)) c.finish.ensures.seen)
-    (λ good accepts. c.in-Ok.ensures.seals good)
+    (λ good accepts. c.in-Ok.ensures.counts.seals.seals good)
 
 pub returns-in-Err-Failed-clause-seals : goal.returns-in-Err-Failed-clause-seals
 returns-in-Err-Failed-clause-seals g c =
     keeps_pass g.R.Revisions.state c.args.self.now (g.S.BlockStore.state c.args.store.now) (g.S.BlockStore.state c.room.new.self) c.room.ensures.rests c.requires.agrees c.cut-in-Err-Failed.new.self
     (g.S.BlockStore.state c.count-2.new.store) _
     (ap (λ (e : Engine g.row.R.Denot). world_of g.R.Revisions.state e (g.S.BlockStore.state c.count-2.new.store)) c.cut-in-Err-Failed.ensures.seen)
-    (λ good accepts. c.in-Ok.ensures.seals good)
+    (λ good accepts. c.in-Ok.ensures.counts.seals.seals good)
 
 pub returns-in-Err-NoMemory-clause-seals : goal.returns-in-Err-NoMemory-clause-seals
 returns-in-Err-NoMemory-clause-seals g c =
     keeps_pass g.R.Revisions.state c.args.self.now (g.S.BlockStore.state c.args.store.now) (g.S.BlockStore.state c.room.new.self) c.room.ensures.rests c.requires.agrees c.cut-in-Err-NoMemory.new.self
     (g.S.BlockStore.state c.count-2.new.store) _
     (ap (λ (e : Engine g.row.R.Denot). world_of g.R.Revisions.state e (g.S.BlockStore.state c.count-2.new.store)) c.cut-in-Err-NoMemory.ensures.seen)
-    (λ good accepts. c.in-Ok.ensures.seals good)
+    (λ good accepts. c.in-Ok.ensures.counts.seals.seals good)
 
 pub returns-then-is_err-clause-ran : goal.returns-then-is_err-clause-ran
 returns-then-is_err-clause-ran g c =
@@ -422,14 +423,14 @@ returns-then-is_err-clause-told g c tells tables held honest =
 pub div_ceil-blocks-requires : goal.div_ceil-blocks-requires
 div_ceil-blocks-requires g c = omega (arith, c.from.ensures, c.requires.agrees.room.some)
 
-pub count-requires-clause-ready : goal.count-requires-clause-ready
-count-requires-clause-ready g c = (went_room none _ (g.S.BlockStore.state c.args.store.now) (g.S.BlockStore.state c.room.new.self) c.requires.agrees.ready c.room.ensures.rests).lasts.ready
-
 pub count-requires-clause-spare : goal.count-requires-clause-spare
 count-requires-clause-spare g c =
     let spare = (g.S.BlockStore.state c.room.new.self).spare in
-    subst (λ (n : ℕ). n ≤ spare) (c.from-2.ensures ∙ c.div_ceil-blocks.ensures ∙ ap (λ (k : ℕ). blocks_for k c.flat_at-flat.result.capacity) (c.from.ensures ∙ sym c.requires.agrees.room.pack))
-    (at_ok c.room.result _ (sym c.is_err.ensures.value ∙ c.if-is_err.false) c.room.ensures.spare)
+    record {
+      ready = (went_rests _ (g.S.BlockStore.state c.args.store.now) (g.S.BlockStore.state c.room.new.self) c.room.ensures.rests none c.requires.agrees.ready).lasts.ready;
+      spare = subst (λ (n : ℕ). n ≤ spare) (c.from-2.ensures ∙ c.div_ceil-blocks.ensures ∙ ap (λ (k : ℕ). blocks_for k c.flat_at-flat.result.capacity) (c.from.ensures ∙ sym c.requires.agrees.room.pack))
+    (at_ok c.room.result _ (sym c.is_err.ensures.value ∙ c.if-is_err.false) c.room.ensures.spare);
+    }
 
 pub count-requires-clause-flat : goal.count-requires-clause-flat
 count-requires-clause-flat g c =
@@ -453,7 +454,7 @@ count-requires-clause-room g c =
     (c.flat_at-flat.ensures found.0 (ap (λ (ts : List Table). slice_get ts c.in-Some.i) c.as_slice-2.ensures ∙ get))
 
 pub overflow_sub-count : goal.overflow_sub-count
-overflow_sub-count g c = count_rises c.count-before.result c.count-in-Err.result _ (g.S.BlockStore.state c.args.store.now) (g.S.BlockStore.state c.room.new.self) (g.S.BlockStore.state c.count-2.new.store) c.count-before.ensures c.room.ensures.rests c.in-Err.ensures.err.began c.count-in-Err.ensures
+overflow_sub-count g c = count_rises c.count-before.result c.count-in-Err.result _ (g.S.BlockStore.state c.args.store.now) (g.S.BlockStore.state c.room.new.self) (g.S.BlockStore.state c.count-2.new.store) c.count-before.ensures c.room.ensures.rests c.in-Err.ensures.counts.ran.err.began c.count-in-Err.ensures
 
 pub returns-in-Err-clause-plain : goal.returns-in-Err-clause-plain
 returns-in-Err-clause-plain g c = plain_as _ (Cut (c.count-in-Err.result - c.count-before.result)) (ap (λ (e : Engine g.row.R.Denot). e.seen) c.cut-in-Err.ensures.seen)
@@ -462,7 +463,7 @@ pub returns-in-Err-clause-started : goal.returns-in-Err-clause-started
 returns-in-Err-clause-started g c = started_cut _ (c.count-in-Err.result - c.count-before.result) (ap (λ (e : Engine g.row.R.Denot). e.seen) c.cut-in-Err.ensures.seen)
 
 pub returns-in-Err-clause-sink : goal.returns-in-Err-clause-sink
-returns-in-Err-clause-sink g c = silent_sink c.cut-in-Err.result _ (subst (λ (r : Result Outcome Stop). IsSilent r) (sym c.cut-in-Err.ensures.answer) (silent_read c.in-Err.error _ _ c.in-Err.ensures.never))
+returns-in-Err-clause-sink g c = silent_sink c.cut-in-Err.result _ (subst (λ (r : Result Outcome Stop). IsSilent r) (sym c.cut-in-Err.ensures.answer) (silent_read c.in-Err.error c.in-Err.ensures.counts.never))
 
 pub returns-in-Ok-emit_count-clause-plain : goal.returns-in-Ok-emit_count-clause-plain
 returns-in-Ok-emit_count-clause-plain g c = plain_as _ Whole (ap (λ (e : Engine g.row.R.Denot). e.seen) c.finish.ensures.seen)
@@ -493,12 +494,12 @@ returns-in-Err-NoMemory-clause-emits g c = if_ok_of c.cut-in-Err-NoMemory.result
 
 pub overflow_sub-count-in-Err-Failed : goal.overflow_sub-count-in-Err-Failed
 overflow_sub-count-in-Err-Failed g c =
-    let went = c.in-Ok.ensures.ok in
+    let went = c.in-Ok.ensures.counts.ran.ok in
     count_rises c.count-before.result c.count-in-Err-Failed.result _ (g.S.BlockStore.state c.args.store.now) (g.S.BlockStore.state c.room.new.self) (g.S.BlockStore.state c.count-2.new.store) c.count-before.ensures c.room.ensures.rests
     (cut_whole OpErrs.NoMemory none _ _ _ (went.did.faults, went.calm) went).began c.count-in-Err-Failed.ensures
 
 pub overflow_sub-count-in-Err-NoMemory : goal.overflow_sub-count-in-Err-NoMemory
 overflow_sub-count-in-Err-NoMemory g c =
-    let went = c.in-Ok.ensures.ok in
+    let went = c.in-Ok.ensures.counts.ran.ok in
     count_rises c.count-before.result c.count-in-Err-NoMemory.result _ (g.S.BlockStore.state c.args.store.now) (g.S.BlockStore.state c.room.new.self) (g.S.BlockStore.state c.count-2.new.store) c.count-before.ensures c.room.ensures.rests
     (cut_whole OpErrs.NoMemory none _ _ _ (went.did.faults, went.calm) went).began c.count-in-Err-NoMemory.ensures

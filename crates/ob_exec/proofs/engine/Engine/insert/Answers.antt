@@ -28,8 +28,10 @@ use Rattle.ob_exec.specs.Engines.{IsAt}
 use Rattle.ob_exec.specs.Running.{inserted_as, Emits, IsSilent}
 use Rattle.ob_exec.proofs.FoundLemmas.{heading_found, is_there}
 use Rattle.ob_exec.proofs.ToldLemmas.{told_as, told_no_room, fault_made, few_asked, started_seen, silent_pass, plain_as, started_whole, started_cut}
-use Rattle.ob_exec.proofs.RunLemmas.{went_room, count_rises, rests_refl, ran_as, ran_no_room, engine_after}
+use Rattle.ob_vault.proofs.WordLemmas.{went_rests}
+use Rattle.ob_exec.proofs.RunLemmas.{count_rises, rests_refl, ran_as, ran_no_room, engine_after}
 use Rattle.ob_exec.proofs.InsertLemmas.{inserted, not_inserted, told_inserted, told_not_inserted, is_answered, silent_inserted, found_flat, found_size, found_room}
+use Rattle.ob_mutate.specs.declared.inserting.Inserted.{Inserted}
 use Rattle.ob_exec.specs.Agreeing.{world_of}
 use Rattle.ob_exec.proofs.SealLemmas.{keeps_pass, keeps_rests}
 use Rattle.ob_exec.proofs.CreateLemmas.{at_ok}
@@ -87,10 +89,10 @@ returns-in-Ok-insert-clause-ran g c =
     let here = subst (λ (ts : List Table). IsAt c.args.table.now i table ts) c.as_slice.ensures found.1 in
     let flat_is = c.flat_at-flat.ensures table (ap (λ (ts : List Table). slice_get ts i) c.as_slice-2.ensures ∙ here.get) in
     let went = subst (λ (f : Flat). Went (insert_part f.region next (blocks_for old.room.pack f.capacity) (old.room.pack * width f.schema)) (two f.region next) (at state old.vault s1) (at state v t))
-    flat_is c.in-Ok-insert.ensures.ok in
-    let moved = c.in-Ok-insert.ensures.moved ∙ ap (λ (f : Flat). record f { region = next }) flat_is in
-    let flat = subst (λ (f : Flat). IsFlat old.room.pack f (at state v t)) moved c.in-Ok-insert.ensures.flat in
-    let gone = subst (λ (f : Flat). (state v.revs).live f.region ≡ None) flat_is c.in-Ok-insert.ensures.gone in
+    flat_is c.in-Ok-insert.ensures.inserts.ok in
+    let moved = c.in-Ok-insert.ensures.inserts.moves ∙ ap (λ (f : Flat). record f { region = next }) flat_is in
+    let flat = subst (λ (f : Flat). IsFlat old.room.pack f (at state v t)) moved c.in-Ok-insert.ensures.inserts.table in
+    let gone = subst (λ (f : Flat). (state v.revs).live f.region ≡ None) flat_is c.in-Ok-insert.ensures.inserts.gone in
     let ran = inserted state old (g.S.BlockStore.state c.args.store.now) s1 v room t c.args.table.now c.args.columns.now i table c.requires.agrees c.room.ensures.rests c.insert.ensures.room here
     (inserted_as c.in-Ok-insert.inserted) (is_answered c.in-Ok-insert.inserted) went c.requires.lives flat gone in
     let region : c.insert.new.flat.region ≡ next = ap (λ (f : Flat). f.region) moved in
@@ -116,8 +118,8 @@ returns-in-Ok-insert-clause-told g c tells tables held honest =
     let here = subst (λ (ts : List Table). IsAt c.args.table.now i table ts) c.as_slice.ensures found.1 in
     let flat_is = c.flat_at-flat.ensures table (ap (λ (ts : List Table). slice_get ts i) c.as_slice-2.ensures ∙ here.get) in
     let went = subst (λ (f : Flat). Went (insert_part f.region next (blocks_for old.room.pack f.capacity) (old.room.pack * width f.schema)) (two f.region next) (at state old.vault s1) (at state v t))
-    flat_is c.in-Ok-insert.ensures.ok in
-    let moved = c.in-Ok-insert.ensures.moved ∙ ap (λ (f : Flat). record f { region = next }) flat_is in
+    flat_is c.in-Ok-insert.ensures.inserts.ok in
+    let moved = c.in-Ok-insert.ensures.inserts.moves ∙ ap (λ (f : Flat). record f { region = next }) flat_is in
     let cells_is : c.as_slice-3.result.now ≡ new_row table.heading.schema c.args.columns.now c.args.values.now =
     c.as_slice-3.ensures.value ∙ c.in-Ok.ensures.value ∙ ap (λ (f : Flat). new_row f.schema c.args.columns.now c.args.values.now) flat_is in
     let tells_now = subst (λ (b : Bool). IsTrue b) (sym c.room.ensures.rests.tells) tells in
@@ -125,10 +127,11 @@ returns-in-Ok-insert-clause-told g c tells tables held honest =
     c.args.values.now tables held c.requires.allowed c.in-Ok-insert.inserted went
     (λ slots is.
     let before = subst (λ (f : Flat). Represents old.room.pack f slots (at state old.vault s1)) (sym flat_is) is in
-    let got = c.in-Ok-insert.ensures.told tells_now slots before honest in (
+    let got = c.in-Ok-insert.ensures.inserts.told (record { tells = tells_now; nolie = honest }) slots before in
+    let after = subst (λ (a : Inserted). Represents old.room.pack c.insert.new.flat (slots_after a c.as_slice-3.result.now slots) (at state v t)) (sym got.0) got.1 in (
       got.0 ∙ (λ j. insert_answer (flat_is j).schema (cells_is j) slots),
       subst (λ (f : Flat). Represents old.room.pack f (slots_after c.in-Ok-insert.inserted (new_row table.heading.schema c.args.columns.now c.args.values.now) slots) (at state v t)) moved
-          (subst (λ (r : Row). Represents old.room.pack c.insert.new.flat (slots_after c.in-Ok-insert.inserted r slots) (at state v t)) cells_is got.1),
+          (subst (λ (r : Row). Represents old.room.pack c.insert.new.flat (slots_after c.in-Ok-insert.inserted r slots) (at state v t)) cells_is after),
     )) in
     let region : c.insert.new.flat.region ≡ next = ap (λ (f : Flat). f.region) moved in
     let move = c.move_table.ensures table here.get in
@@ -156,9 +159,9 @@ returns-clause-ran g c =
     let here = subst (λ (ts : List Table). IsAt c.args.table.now i table ts) c.as_slice.ensures found.1 in
     let flat_is = c.flat_at-flat.ensures table (ap (λ (ts : List Table). slice_get ts i) c.as_slice-2.ensures ∙ here.get) in
     let cut = subst (λ (f : Flat). PassCut error (insert_part f.region next (blocks_for old.room.pack f.capacity) (old.room.pack * width f.schema)) (one next) (at state old.vault s1) (at state v t))
-    flat_is c.in-Err.ensures.err in
+    flat_is c.in-Err.ensures.inserts.err in
     let count : n ≡ length t.asked - length s.asked = λ j. c.count.ensures j - c.count-before.ensures j in
-    let ran = not_inserted state old s s1 v room t c.args.table.now c.args.columns.now i table c.requires.agrees c.room.ensures.rests c.insert.ensures.room here error n cut count c.in-Err.ensures.gone in
+    let ran = not_inserted state old s s1 v room t c.args.table.now c.args.columns.now i table c.requires.agrees c.room.ensures.rests c.insert.ensures.room here error n cut count c.in-Err.ensures.inserts.gone in
     ran_as state (skeleton stmt) old s t _ _ _ _ c.cut-in-Err.ensures.answer c.cut-in-Err.ensures.seen ran
 
 pub returns-clause-told : goal.returns-clause-told
@@ -180,12 +183,12 @@ returns-clause-told g c tells tables held honest =
     let here = subst (λ (ts : List Table). IsAt c.args.table.now i table ts) c.as_slice.ensures found.1 in
     let flat_is = c.flat_at-flat.ensures table (ap (λ (ts : List Table). slice_get ts i) c.as_slice-2.ensures ∙ here.get) in
     let cut = subst (λ (f : Flat). PassCut error (insert_part f.region next (blocks_for old.room.pack f.capacity) (old.room.pack * width f.schema)) (one next) (at state old.vault s1) (at state v t))
-    flat_is c.in-Err.ensures.err in
+    flat_is c.in-Err.ensures.inserts.err in
     let count : n ≡ length t.asked - length s.asked = λ j. c.count.ensures j - c.count-before.ensures j in
     let tells_now = subst (λ (b : Bool). IsTrue b) (sym c.room.ensures.rests.tells) tells in
     let told = told_not_inserted state old s s1 v room t c.args.table.now c.args.columns.now i table c.requires.agrees c.room.ensures.rests c.insert.ensures.room here
     c.args.values.now tables held c.requires.allowed error n
-    (λ slots is. fault_made error (c.in-Err.ensures.told tells_now slots (subst (λ (f : Flat). Represents old.room.pack f slots (at state old.vault s1)) (sym flat_is) is) honest).0) cut count in
+    (λ slots is. fault_made error (c.in-Err.ensures.inserts.told (record { tells = tells_now; nolie = honest }) slots (subst (λ (f : Flat). Represents old.room.pack f slots (at state old.vault s1)) (sym flat_is) is)).0) cut count in
     told_as state stmt _ tables old t _ _ _ _ c.cut-in-Err.ensures.answer c.cut-in-Err.ensures.seen told
 
 pub returns-in-Ok-insert-clause-seals : goal.returns-in-Ok-insert-clause-seals
@@ -196,14 +199,14 @@ returns-in-Ok-insert-clause-seals g c =
     (g.S.BlockStore.state c.insert.new.store) _
     (ap (λ (e : Engine g.row.R.Denot). world_of g.R.Revisions.state e (g.S.BlockStore.state c.insert.new.store)) (c.finish.ensures.seen
     ∙ ap (λ (e : Engine g.row.R.Denot). record e { seen = seen_to Whole; public = record e.public { next_region = e.vault.next } }) (c.move_table.ensures found.0 here.get)))
-    (λ good accepts. c.in-Ok-insert.ensures.seals good (accepts _ _))
+    (λ good accepts. c.in-Ok-insert.ensures.inserts.seals.seals good (accepts _ _))
 
 pub returns-clause-seals : goal.returns-clause-seals
 returns-clause-seals g c =
     keeps_pass g.R.Revisions.state c.args.self.now (g.S.BlockStore.state c.args.store.now) (g.S.BlockStore.state c.room.new.self) c.room.ensures.rests c.requires.agrees c.cut-in-Err.new.self
     (g.S.BlockStore.state c.insert.new.store) _
     (ap (λ (e : Engine g.row.R.Denot). world_of g.R.Revisions.state e (g.S.BlockStore.state c.insert.new.store)) c.cut-in-Err.ensures.seen)
-    (λ good accepts. c.in-Err.ensures.seals good (accepts _ _))
+    (λ good accepts. c.in-Err.ensures.inserts.seals.seals good (accepts _ _))
 
 pub returns-in_default-new_row-clause-ran : goal.returns-in_default-new_row-clause-ran
 returns-in_default-new_row-clause-ran g c =
@@ -272,17 +275,15 @@ overflow_mul-from g c = omega (arith, c.from-2.ensures, c.div_ceil-blocks.type_i
 pub overflow_add-from : goal.overflow_add-from
 overflow_add-from g c = omega (arith, c.from-2.ensures, c.div_ceil-blocks.type_inv)
 
-pub insert-requires-clause-ready : goal.insert-requires-clause-ready
-insert-requires-clause-ready g c = (went_room none _ (g.S.BlockStore.state c.args.store.now) (g.S.BlockStore.state c.room.new.self) c.requires.agrees.ready c.room.ensures.rests).lasts.ready
-
-pub insert-requires-clause-spare : goal.insert-requires-clause-spare
-insert-requires-clause-spare g c =
+pub insert-requires-clause-starts : goal.insert-requires-clause-starts
+insert-requires-clause-starts g c =
     let spare = (g.S.BlockStore.state c.room.new.self).spare in
-    subst (λ (n : ℕ). 3 * n + 2 ≤ spare) (c.from-2.ensures ∙ c.div_ceil-blocks.ensures ∙ ap (λ (k : ℕ). blocks_for k c.flat_at-flat.result.capacity) (c.from.ensures ∙ sym c.requires.agrees.room.pack))
-    (at_ok c.room.result _ (sym c.is_err.ensures.value ∙ c.if-is_err.false) c.room.ensures.spare)
-
-pub insert-requires-clause-few : goal.insert-requires-clause-few
-insert-requires-clause-few g c = few_asked c.args.self.now.public _ (Insert c.args.table.now c.args.columns.now c.args.values.now) c.requires.allowed _ (ap length c.room.ensures.rests.asked)
+    record {
+      ready = (went_rests _ (g.S.BlockStore.state c.args.store.now) (g.S.BlockStore.state c.room.new.self) c.room.ensures.rests none c.requires.agrees.ready).lasts.ready;
+      spare = subst (λ (n : ℕ). 3 * n + 2 ≤ spare) (c.from-2.ensures ∙ c.div_ceil-blocks.ensures ∙ ap (λ (k : ℕ). blocks_for k c.flat_at-flat.result.capacity) (c.from.ensures ∙ sym c.requires.agrees.room.pack))
+    (at_ok c.room.result _ (sym c.is_err.ensures.value ∙ c.if-is_err.false) c.room.ensures.spare);
+      few = few_asked c.args.self.now.public _ (Insert c.args.table.now c.args.columns.now c.args.values.now) c.requires.allowed _ (ap length c.room.ensures.rests.asked);
+    }
 
 pub insert-requires-clause-flat : goal.insert-requires-clause-flat
 insert-requires-clause-flat g c =
@@ -315,7 +316,7 @@ pub returns-in-Ok-insert-clause-silent : goal.returns-in-Ok-insert-clause-silent
 returns-in-Ok-insert-clause-silent g c = subst (λ (o : Outcome). Emits o []) (sym (c.finish.ensures.answer ∙ c.outcome_of.ensures)) (silent_inserted c.in-Ok-insert.inserted)
 
 pub overflow_sub-count : goal.overflow_sub-count
-overflow_sub-count g c = count_rises c.count-before.result c.count.result _ (g.S.BlockStore.state c.args.store.now) (g.S.BlockStore.state c.room.new.self) (g.S.BlockStore.state c.insert.new.store) c.count-before.ensures c.room.ensures.rests c.in-Err.ensures.err.began c.count.ensures
+overflow_sub-count g c = count_rises c.count-before.result c.count.result _ (g.S.BlockStore.state c.args.store.now) (g.S.BlockStore.state c.room.new.self) (g.S.BlockStore.state c.insert.new.store) c.count-before.ensures c.room.ensures.rests c.in-Err.ensures.inserts.err.began c.count.ensures
 
 pub returns-clause-plain : goal.returns-clause-plain
 returns-clause-plain g c = plain_as _ (Cut (c.count.result - c.count-before.result)) (ap (λ (e : Engine g.row.R.Denot). e.seen) c.cut-in-Err.ensures.seen)
@@ -324,4 +325,4 @@ pub returns-clause-started : goal.returns-clause-started
 returns-clause-started g c = started_cut _ (c.count.result - c.count-before.result) (ap (λ (e : Engine g.row.R.Denot). e.seen) c.cut-in-Err.ensures.seen)
 
 pub returns-clause-silent : goal.returns-clause-silent
-returns-clause-silent g c = subst (λ (r : Result Outcome Stop). IsSilent r) (sym c.cut-in-Err.ensures.answer) (silent_pass c.in-Err.error _ _ c.in-Err.ensures.never)
+returns-clause-silent g c = subst (λ (r : Result Outcome Stop). IsSilent r) (sym c.cut-in-Err.ensures.answer) (silent_pass c.in-Err.error c.in-Err.ensures.inserts.never)
