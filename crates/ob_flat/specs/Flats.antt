@@ -70,7 +70,8 @@ pub record Represents (pack : ℕ) (flat : Flat) (slots : Slots) (w : World) : T
 pub record HoldsSlots (pack : ℕ) (flat : Flat) (slots : Slots) (w : World) : Type 0 where
   pub size : length slots ≡ blocks_for pack flat.capacity * pack
   pub fits : All (FitsSlot flat.schema) slots
-  pub holds : (p : ℕ) → p < blocks_for pack flat.capacity → Holds flat.region p (block_bytes flat.schema (block_at pack slots p)) w
+  pub holds : (p : ℕ) → p < blocks_for pack flat.capacity
+      → Holds flat.region p (block_bytes flat.schema (block_at pack slots p)) w
 
 -- the block that was written to the place is one of rows or dummies
 pub record HoldsBlock (pack : ℕ) (columns : Columns) (q x : ℕ) (w : World) : Type 0 where
@@ -86,4 +87,5 @@ pub record HoldsRows (pack : ℕ) (flat : Flat) (w : World) : Type 0 where
 
 -- blocks of `pack` rows or dummies are good for a region
 pub record Accepts (good : ℕ → List ℕ → Bool) (pack : ℕ) (columns : Columns) (region : ℕ) : Type 0 where
-  pub accepts : (slots : Slots) → length slots ≡ pack → All (FitsSlot columns) slots → IsTrue (good region (block_bytes columns slots))
+  pub accepts : (slots : Slots) → length slots ≡ pack → All (FitsSlot columns) slots
+      → IsTrue (good region (block_bytes columns slots))

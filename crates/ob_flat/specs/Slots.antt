@@ -18,7 +18,8 @@ block_bytes columns slots = concat (map (slot_bytes columns) slots)
 -- the rows of a block spell these slots
 pub record Spelt (columns : Columns) (slots : Slots) (rows : List (List ℕ)) : Type 0 where
   pub count : length slots ≡ length rows
-  pub each : (j : ℕ) → j < length rows → Begins columns (slice_index_or slots j None) (row_at rows j)
+  pub each : (j : ℕ) → j < length rows
+      → Begins columns (slice_index_or slots j None) (row_at rows j)
 
 -- each spells a slot
 pub record AreSlots (columns : Columns) (rows : List (List ℕ)) : Type 0 where

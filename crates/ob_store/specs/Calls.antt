@@ -87,7 +87,8 @@ pub record Makes (region blocks len : ℕ) (old new : StoreState) : Type 0 where
 pub record ReadGives (region place : ℕ) (bytes : List ℕ) (old new : StoreState) : Type 0 where
   pub unwritten : old.lie ≡ None → old.last region place ≡ None → new.lie ≡ None
   pub honest : old.lie ≡ None → old.last region place ≡ Some bytes → new.lie ≡ None
-  pub caught : (block : List ℕ) → old.lie ≡ None → old.last region place ≡ Some block → block ≢ bytes
+  pub caught : (block : List ℕ) → old.lie ≡ None → old.last region place ≡ Some block
+      → block ≢ bytes
       → new.lie ≡ Some (record { region = region; place = place; bytes = bytes; before = old.asked })
 
 -- nothing but this place may have changed

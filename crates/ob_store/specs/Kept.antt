@@ -28,4 +28,6 @@ Sound starts (suc k) to end =
 
 pub record IsLog (cycles : List Access) (starts : List Start) (count : ℕ) : Type 0 where
   pub sound : Sound starts (length starts) (length cycles) count
-  pub places : (i : ℕ) → i < count → place_of (at (spelt (runs_of cycles starts (length starts) (length cycles) count)) i) < 2 ^ 32
+  pub places : (i : ℕ) → i < count
+      → place_of (at (spelt (runs_of cycles starts (length starts) (length cycles) count)) i)
+      < 2 ^ 32

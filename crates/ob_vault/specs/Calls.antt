@@ -23,13 +23,15 @@ pub record Apart (some : ℕ → Type 0) (old new : World) : Type 0 where
 pub record Only (q x : ℕ) (old new : World) : Type 0 where
   pub keys : new.vault.keys ≡ old.vault.keys
   pub live : (r : ℕ) → new.vault.revs.live r ≡ old.vault.revs.live r
-  pub number : (r y : ℕ) → (r ≡ q → y ≡ x → ⊥) → new.vault.revs.number r y ≡ old.vault.revs.number r y
+  pub number : (r y : ℕ) → (r ≡ q → y ≡ x → ⊥) → new.vault.revs.number r y
+      ≡ old.vault.revs.number r y
   pub last : (r y : ℕ) → (r ≡ q → y ≡ x → ⊥) → new.store.last r y ≡ old.store.last r y
 
 -- a region has the shape that it was made with for as long as it lives, and none that is gone comes back
 pub record KeepsShapes (old new : World) : Type 0 where
   pub next : old.vault.next ≤ new.vault.next
-  pub shapes : (q : ℕ) → q < old.vault.next → (new.vault.revs.live q ≡ None) ⊎ (new.vault.revs.live q ≡ old.vault.revs.live q)
+  pub shapes : (q : ℕ) → q < old.vault.next → (new.vault.revs.live q ≡ None)
+      ⊎ (new.vault.revs.live q ≡ old.vault.revs.live q)
 
 -- what lasts over each call, whatever it answers
 pub record Lasts (some : ℕ → Type 0) (old new : World) : Type 0 where

@@ -23,7 +23,8 @@ IsNumber w q x n = (nth_write (n - w.vault.start.writes) w.store.asked ≡ Some 
 pub record IsStart (start : Start) : Type 0 where
   pub fresh : (q x : ℕ) → start.region < q → start.given q x ≡ 0
   pub within : (q x : ℕ) → start.given q x ≤ start.writes
-  pub alone : (q x r y : ℕ) → start.given q x ≡ start.given r y → start.given q x ≢ 0 → (q ≡ r) × (x ≡ y)
+  pub alone : (q x r y : ℕ) → start.given q x ≡ start.given r y → start.given q x ≢ 0 → (q ≡ r)
+      × (x ≡ y)
 
 -- the access at a position, from 0, is a write to this place
 pub record IsWrite (i q x : ℕ) (w : World) : Type 0 where

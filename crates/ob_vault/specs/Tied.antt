@@ -19,14 +19,17 @@ pub record Tied (w : World) : Type 0 where
   pub count : w.vault.count ≡ w.vault.start.writes + writes w.store.asked
   pub next : w.vault.next ≡ w.vault.start.region + 1 + makes w.store.asked
   pub above : AllBelow w.vault.next w.store.asked
-  pub live : (q : ℕ) (shape : Region) → w.vault.revs.live q ≡ Some shape → IsRegion q shape.blocks (shape.width + 32) w.store
-  pub numbers : (q x : ℕ) (shape : Region) → w.vault.revs.live q ≡ Some shape → x < shape.blocks → w.vault.revs.number q x ≡ last_number w q x
+  pub live : (q : ℕ) (shape : Region) → w.vault.revs.live q ≡ Some shape
+      → IsRegion q shape.blocks (shape.width + 32) w.store
+  pub numbers : (q x : ℕ) (shape : Region) → w.vault.revs.live q ≡ Some shape → x < shape.blocks
+      → w.vault.revs.number q x ≡ last_number w q x
 
 -- what each call asks of a vault and a store, and leaves
 pub record Ready (w : World) : Type 0 where
   pub tied : Tied w
   pub below : (q : ℕ) (shape : Region) → w.vault.revs.live q ≡ Some shape → q < w.vault.next
-  pub fits : (q : ℕ) (shape : Region) → w.vault.revs.live q ≡ Some shape → (1 ≤ shape.width) × (shape.width ≤ 16384)
+  pub fits : (q : ℕ) (shape : Region) → w.vault.revs.live q ≡ Some shape → (1 ≤ shape.width)
+      × (shape.width ≤ 16384)
 
 -- a region of the vault
 pub record Lives (q : ℕ) (shape : Region) (w : World) : Type 0 where
@@ -47,7 +50,8 @@ at_of q x n = record { region = q; place = x; number = n }
 -- the block last written at the place is that of these rows, sealed under the number that the vault
 -- keeps of it
 pub record Holds (q x : ℕ) (rows : List ℕ) (w : World) : Type 0 where
-  pub last : w.store.last q x ≡ Some (sealed w.vault.keys (at_of q x (w.vault.revs.number q x)) rows)
+  pub last : w.store.last q x ≡ Some
+      (sealed w.vault.keys (at_of q x (w.vault.revs.number q x)) rows)
 
 -- a block is some rows' that are good for its region, sealed under the number of a write to its place
 pub record SealedAt (good : ℕ → List ℕ → Bool) (w : World) (q x : ℕ) (block : List ℕ) : Type 0 where
@@ -59,7 +63,8 @@ pub record SealedAt (good : ℕ → List ℕ → Bool) (w : World) (q x : ℕ) (
 
 -- nothing lies in clear
 pub record AllSealed (good : ℕ → List ℕ → Bool) (w : World) : Type 0 where
-  pub all : (q x : ℕ) (block : List ℕ) → w.store.live q ≢ None → w.store.last q x ≡ Some block → SealedAt good w q x block
+  pub all : (q x : ℕ) (block : List ℕ) → w.store.live q ≢ None → w.store.last q x ≡ Some block
+      → SealedAt good w q x block
 
 -- the place of a lie and the number of its last write then
 abbrev pub at_lie : Start → Lie → At
@@ -67,7 +72,8 @@ at_lie start lie = at_of lie.region lie.place (number_after start lie.before lie
 
 -- the block of a lie has the tag of its place and number
 pub record Fits (keys : KeyPair) (start : Start) (lie : Lie) : Type 0 where
-  pub tag : drop (length lie.bytes - 32) lie.bytes ≡ tag_of keys (at_lie start lie) (take (length lie.bytes - 32) lie.bytes)
+  pub tag : drop (length lie.bytes - 32) lie.bytes
+      ≡ tag_of keys (at_lie start lie) (take (length lie.bytes - 32) lie.bytes)
 
 -- no lie is told, or one that fits
 pub record Calm (w : World) : Type 0 where
