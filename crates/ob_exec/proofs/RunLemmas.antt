@@ -283,4 +283,4 @@ ran_no_room state skeleton old s t tables agrees rests =
 
 -- a store that no call was made on
 pub rests_refl : (s : StoreState) → Rests s s
-rests_refl s = record { spare = omega (arith); asked = refl; faults = refl; slips = refl; tells = refl; lie = refl; disturbed = refl; keeps = record { live = λ q. refl; last = λ q x. refl } }
+rests_refl s = record { spare = omega (arith); asked = refl; gave = refl; faults = refl; slips = refl; tells = refl; lie = refl; disturbed = refl; keeps = record { live = λ q. refl; last = λ q x. refl } }

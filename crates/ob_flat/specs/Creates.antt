@@ -37,7 +37,7 @@ create_script pack flat =
     create_part flat.region (blocks_of pack flat) (pack * width flat.schema)
 
 -- the region of a table was made, and nothing written to it, or it is gone
-pub record MakesRegion (order : Order) (pack : ℕ) (flat : Flat)
+pub record MakesTable (order : Order) (pack : ℕ) (flat : Flat)
     (result : Result ℕ OpErr) (old new : World) : Type 0 where
   pub ran : Ran (make_script pack flat) (one flat.region) result old new
   pub never : IfErr result (λ e. (e ≡ Failed) ⊎ (e ≡ NoMemory))

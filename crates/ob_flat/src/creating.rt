@@ -11,7 +11,7 @@ ghost use Rattle.ob_blocks.specs.Idle.{IsIdle};
 ghost use Rattle.ob_flat.specs.Slots.{Spelt};
 ghost use Rattle.ob_flat.specs.Flats.{IsSized, FitsRegion, table_region};
 ghost use Rattle.ob_flat.specs.Words.{HasSpare, FitBlock};
-ghost use Rattle.ob_flat.specs.Creates.{MakesRegion, FillsRegion, CreatesRegion, Creates, table_of};
+ghost use Rattle.ob_flat.specs.Creates.{MakesTable, FillsRegion, CreatesRegion, Creates, table_of};
 
 use crate::fault::OpErr;
 use crate::flat::Flat;
@@ -49,7 +49,7 @@ pub fn make_table<S: BlockStore, R: Revisions>(
     requires few { length (S.state store.old).asked < 2 ^ 63 + 2 ^ 60 }
     requires size { FitsRegion pack schema.now capacity }
     requires pack { (1 ≤ pack) × (pack ≤ 16) }
-    ensures makes { MakesRegion order pack (table_of schema.now capacity vault.old.next)
+    ensures makes { MakesTable order pack (table_of schema.now capacity vault.old.next)
         result (at R.state vault.old (S.state store.old))
         (at R.state vault.new (S.state store.new)) }
 {

@@ -15,7 +15,7 @@ use Rattle.ob_flat.specs.declared.flat.Flat.{Flat}
 use Rattle.ob_flat.specs.declared.fault.OpErr.{OpErr}
 use Rattle.ob_flat.specs.Flats.{Represents, table_region}
 use Rattle.ob_flat.specs.Words.{IsTable, HasSpare, blocks_of, moved}
-use Rattle.ob_flat.specs.Creates.{MakesRegion, make_script}
+use Rattle.ob_flat.specs.Creates.{MakesTable, make_script}
 use Rattle.ob_flat.specs.Swaps.{Swaps}
 use Rattle.ob_row.specs.Rows.{Row}
 use Rattle.ob_blocks.specs.Blocks.{map_at}
@@ -47,7 +47,7 @@ module _ {T : Type 0} (pack : ℕ) (flat : Flat) (fill : List Access) (answer : 
   off = lives_apart _ _ _ ready table.written.made.lives
 
   -- the region was not made
-  pub mutates_none : (e : OpErr) (new : World) → MakesRegion Round pack (moved flat old.vault.next) (Err e) old new → Mutates pack flat flat whole answer after (Err e) old new
+  pub mutates_none : (e : OpErr) (new : World) → MakesTable Round pack (moved flat old.vault.next) (Err e) old new → Mutates pack flat flat whole answer after (Err e) old new
   mutates_none e new makes =
       let next = old.vault.next in
       let lasts = makes.ran.err.lasts in
@@ -66,7 +66,7 @@ module _ {T : Type 0} (pack : ℕ) (flat : Flat) (fill : List Access) (answer : 
         told = λ honest slots is. (makes.never, represents_lasts pack flat (one next) _ _ lasts off slots is);
       }
 
-  module _ {g : ℕ} (mid : World) (makes : MakesRegion Round pack (moved flat old.vault.next) (Ok g) old mid) where
+  module _ {g : ℕ} (mid : World) (makes : MakesTable Round pack (moved flat old.vault.next) (Ok g) old mid) where
     -- it was, and filled
     pub mutates_ok : (x : T) (late new : World) → FillsFresh pack flat old.vault.next fill answer after (Ok x) mid late → IsDropped flat.region late new
         → Mutates pack flat (moved flat old.vault.next) whole answer after (Ok x) old new
