@@ -1,20 +1,11 @@
 -- How many slots of a block have a place, and the accesses of their places.
-use Rattle.std.proofs.Common.{◌≡◌, ◌≤◌, ◌<◌, ◌+◌, ◌*◌, ℕ, zero, suc, min, length, refl, inl, inr, List, ◌++◌, sym, ◌∙◌, subst, arith, length-append, append_assoc}
-use Rattle.std.proofs.lemmas.Bool.{cases_lt}
-use Rattle.ob_base.specs.declared.access.Access.{Access}
+use Rattle.std.proofs.Common.{◌≡◌, ◌≤◌, ◌<◌, ◌+◌, ◌*◌, ℕ, zero, suc, min, length, refl, ◌∙◌, arith, length-append}
 use Rattle.ob_base.specs.Lists.{each}
 use Rattle.ob_base.specs.Accesses.{read_at}
 use Rattle.ob_script.specs.Parts.{slots_in, continuous_block}
-use Rattle.ob_store.proofs.Steps.{length-each, parts}
+use Rattle.ob_store.proofs.Steps.{length-each}
 use Rattle.ob_base.specs.Numbers.{blocks_for}
-use Rattle.ob_vault.specs.State.{World}
-use Rattle.ob_vault.specs.Rows.{Wide}
-use Rattle.ob_vault.specs.Places.{RowsFit}
 use Rattle.ob_vault.proofs.RowsLemmas.{rows_room, one_more}
-use Rattle.ob_flat.specs.declared.fault.OpErr.{OpErr}
-use Rattle.ob_flat.specs.Passes.{PassCut}
-use Rattle.ob_flat.proofs.Rows.{wide_fit}
-use Rattle.ob_flat.proofs.Runs.{pass_more}
 use Rattle.ob_flat.proofs.Tables.{blocks_end}
 use Rattle.ob_cont.specs.Putting.{put_part}
 

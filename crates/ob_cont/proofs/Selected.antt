@@ -1,28 +1,26 @@
 -- A Continuous selection, from one step to the next.
-use Rattle.std.proofs.Common.{◌≡◌, ◌≤◌, ◌<◌, ◌+◌, ◌*◌, inl, inr, ℕ, Bool, IsTrue, List, [], None, Result, Ok, Err, IfOk, MatchResult, length, refl, sym, ◌∙◌, ap, subst, arith}
+use Rattle.std.proofs.Common.{◌≡◌, ◌≤◌, ◌*◌, inl, inr, ℕ, IsTrue, Ok, Err, length, refl, subst, arith}
 use Rattle.std.proofs.lemmas.List.{length-replicate}
-use Rattle.ob_base.specs.declared.access.Access.{Access}
 use Rattle.ob_base.specs.Numbers.{blocks_for}
-use Rattle.ob_row.specs.Rows.{Row}
 use Rattle.ob_row.specs.Results.{RowTest, continuous_slots}
 use Rattle.ob_row.specs.Slots.{Slots, selected, is_consecutive, empty_slots}
 use Rattle.ob_vault.specs.State.{World}
-use Rattle.ob_vault.specs.Tied.{Ready, Lives}
-use Rattle.ob_vault.specs.Calls.{Went, Seals, one}
+use Rattle.ob_vault.specs.Tied.{Ready}
+use Rattle.ob_vault.specs.Calls.{one}
 use Rattle.ob_vault.specs.Words.{IsHonest}
 use Rattle.ob_vault.specs.VaultCalls.{Forgets}
 use Rattle.ob_vault.proofs.Runs.{lives_apart, tells_went, shape_lasts}
 use Rattle.ob_vault.proofs.WordLemmas.{honest_after, honest_same}
-use Rattle.ob_blocks.specs.Blocks.{none_of, scanned}
+use Rattle.ob_blocks.specs.Blocks.{none_of}
 use Rattle.ob_flat.specs.declared.flat.Flat.{Flat}
 use Rattle.ob_flat.specs.declared.fault.OpErr.{OpErr}
 use Rattle.ob_flat.specs.Flats.{HoldsSlots, Represents, table_region, whole_blocks}
-use Rattle.ob_flat.specs.Words.{SealsTable, IsTable}
+use Rattle.ob_flat.specs.Words.{IsTable}
 use Rattle.ob_flat.specs.Creates.{CreatesRegion, create_script, table_of}
 use Rattle.ob_flat.proofs.Runs.{pass_then, not_memory}
 use Rattle.ob_flat.proofs.Tables.{flat_lasts, represents_lasts, holds_whole, slots_rows}
 use Rattle.ob_flat.proofs.WordLemmas.{ran_after, seals_any, seals_after, tampered_after}
-use Rattle.ob_cont.specs.Putting.{order_for, put_at, put_slots}
+use Rattle.ob_cont.specs.Putting.{order_for, put_slots}
 use Rattle.ob_cont.specs.Selecting.{Fills, Selects, fill_script}
 use Rattle.ob_cont.proofs.Due.{represents_held}
 use Rattle.ob_cont.proofs.Places.{length-put_slots, put_consecutive}
@@ -52,10 +50,10 @@ module _ (pack : ℕ) (flat : Flat) (p : RowTest) (k region : ℕ) (old mid : Wo
       let filled = ran_after (Ok u) (create_script pack to) (fill_script pack flat to) went fills.ran in
       let told : IsHonest old new → (slots : Slots) → Represents pack flat slots old → Represents pack to (put_slots k p slots) new =
       λ honest slots is.
-          let mine = represents_lasts pack flat (one next) old mid went.lasts off slots is in
-          let all = fills.told (honest_after went honest) slots (whole_blocks pack k (none_of k)) mine (empty honest.tells) in
-          represents_held pack to (put_slots k p slots) new (length-put_slots k p slots)
-          (subst (λ (l : Slots). HoldsSlots pack to l new) (put_whole k (blocks_for pack k * pack) 0 p (none_of k) slots least (length-replicate k _)) all) in
+      let mine = represents_lasts pack flat (one next) old mid went.lasts off slots is in
+      let all = fills.told (honest_after went honest) slots (whole_blocks pack k (none_of k)) mine (empty honest.tells) in
+      represents_held pack to (put_slots k p slots) new (length-put_slots k p slots)
+      (subst (λ (l : Slots). HoldsSlots pack to l new) (put_whole k (blocks_for pack k * pack) 0 p (none_of k) slots least (length-replicate k _)) all) in
       record {
         ran = record { ok = filled.ok; err = tt };
         never = tt;

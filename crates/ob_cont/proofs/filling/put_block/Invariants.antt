@@ -1,4 +1,4 @@
-use Rattle.std.proofs.Common.{◌≡◌, ◌<◌, ◌+◌, ◌*◌, ◌/◌, ◌%◌, min, ℕ, List, IsTrue, take, length}
+use Rattle.std.proofs.Common.{◌+◌, ◌*◌, min, IsTrue, take, length}
 use Rattle.ob_base.specs.Lists.{each}
 use Rattle.ob_script.specs.Parts.{slots_in}
 use Rattle.ob_vault.specs.Calls.{Went, one}

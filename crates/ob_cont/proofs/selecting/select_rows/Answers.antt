@@ -1,4 +1,4 @@
-use Rattle.std.proofs.Common.{◌+◌, ◌*◌, inl, inr, length, refl, ◌∙◌, arith}
+use Rattle.std.proofs.Common.{◌*◌, inl, inr, length, refl, ◌∙◌, arith}
 use Rattle.std.proofs.lemmas.Result.{err_from_is_err_and}
 use Rattle.ob_base.specs.Schemas.{width}
 use Rattle.ob_script.proofs.Numbers.{length-create_part}
@@ -8,7 +8,7 @@ use Rattle.ob_vault.proofs.WordLemmas.{asks_start, asks_after}
 use Rattle.ob_flat.specs.Words.{blocks_of}
 use Rattle.ob_flat.specs.Creates.{create_script, table_of}
 use Rattle.ob_flat.proofs.Rooms.{same_rows}
-use Rattle.ob_flat.proofs.Tables.{fits_sized, flat_is, blocks_few, flat_lasts}
+use Rattle.ob_flat.proofs.Tables.{fits_sized, blocks_few, flat_lasts}
 use Rattle.ob_flat.proofs.WordLemmas.{ran_more}
 use Rattle.ob_cont.specs.Selecting.{fill_length, fill_script}
 use Rattle.ob_cont.specs.Putting.{order_for}
