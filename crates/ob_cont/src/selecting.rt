@@ -71,9 +71,9 @@ fn select_rows<S: BlockStore, R: Revisions>(
 ///
 /// The accesses follow from `k` and not from the rows: where two selected rows have one place, the later
 /// one stands there, and a dummy where none has. `Failed` where the store failed, `Tampered` with the
-/// place of a block, of the table or of the fresh region, that is not what was written there last, or
-/// that has a malformed row, and `NoMemory` before anything is written. After an error the fresh region
-/// is forgotten.
+/// place of the block that was read last, of the table or of the fresh region, where it is not what was
+/// written there last or has a malformed row, and `NoMemory` before anything is written. After an error
+/// the fresh region is forgotten.
 pub fn select<S: BlockStore, R: Revisions>(
     store: &mut S,
     vault: &mut Vault<R>,
