@@ -20,7 +20,7 @@ use Rattle.ob_sql.specs.declared.stmt.Stmt.{Stmt}
 use Rattle.ob_sql.specs.declared.stmt.Stmt.TheVariants.{Create as CreateStmt, Insert as InsertStmt}
 use Rattle.ob_mean.specs.declared.answer.Answer.{Answer}
 use Rattle.ob_mean.specs.declared.answer.Answer.TheVariants as A
-use Rattle.ob_mean.specs.Headings.{headings_of}
+use Rattle.ob_base.specs.Stored.{headings_of}
 use Rattle.ob_mean.specs.Prints.{Prints, Unfinished, Begun, labels_of}
 use Rattle.ob_mean.specs.Step.{answered}
 use Rattle.ob_mean.specs.Verdict.{Tables, verdict, refusal}

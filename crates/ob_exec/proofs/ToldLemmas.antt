@@ -25,7 +25,7 @@ use Rattle.ob_sql.specs.declared.stmt.Stmt.{Stmt}
 use Rattle.ob_sql.specs.Skeleton.{skeleton}
 use Rattle.ob_mean.specs.declared.answer.Answer.{Answer}
 use Rattle.ob_mean.specs.declared.answer.Answer.TheVariants as A
-use Rattle.ob_mean.specs.Headings.{headings_of}
+use Rattle.ob_base.specs.Stored.{headings_of}
 use Rattle.ob_mean.specs.Prints.{Prints, labels_of}
 use Rattle.ob_mean.specs.Refusals.{first_holding, early_conditions, early_refusal}
 use Rattle.ob_mean.specs.Settle.{settled}

@@ -19,7 +19,7 @@ use Rattle.ob_token.specs.declared.token.Lexeme.TheVariants as L
 use Rattle.ob_token.specs.declared.token.Token.{Token}
 use Rattle.ob_sql.specs.Search.{Search}
 use Rattle.ob_condition.specs.Marks.{flag, is, key, marked, name_in, name_of, number_of}
-use Rattle.ob_condition.specs.Conditions.{Column, Condition, Constant, Where}
+use Rattle.ob_condition.specs.Conditions.{Column, Searching, Constant, Where}
 use Rattle.ob_condition.specs.Reading.{column, condition, constant, where_part}
 use Rattle.ob_parse.specs.Statements.{all_columns, capped, integer_mark, integer_of, new_column, of_items, rows, set_of, Argument, Assignment, Behind, Body, Constraint, Counted, Create, Definition, Delete, Drop, Group, Groups, Insert, Itemized, Joins, Kind, Names, OneItem, Selection, Sources, Starred, Statement, Targets, Update}
 use Rattle.ob_parse.specs.StatementReading.{all_or_column, argument, assignment, behind, body, constrains, constraint, constraints, counted, create, definition, delete, deleting, drop_table, dropping, expects, greatest, group, groups, insert, inserting, item, itemized, joined_or, joins, kind, least, names, selection, sources, starred, statement, summed, targets, update, updating, varchar}
@@ -212,7 +212,7 @@ unfolding targets
 good_targets = good_perhaps (key M.Open) (of (L.Mark M.Open)) refl Names NoOpen names good_names (λ t f. no_key M.Open t.lexeme f) open_end
 
 pub where_leads : (text : List ℕ) (Q : Token → Type 0) → ((t : Token) (u : Unit {0}) → key M.Where t ≡ Some u → Q t) → (v : Option Search) (w : List Token) → Where text v w → Leads Q w
-where_leads text Q so v w h = leads_perhaps (key M.Where) (Condition text 32) Q so v w h
+where_leads text Q so v w h = leads_perhaps (key M.Where) (Searching text 32) Q so v w h
 
 module _ (text : List ℕ) where
   pub good_insert : Good (Insert text) Final (insert text)
@@ -235,8 +235,8 @@ module _ (text : List ℕ) where
 
   pub good_where : Good (Where text) AfterWhere (where_part text)
   unfolding where_part
-  good_where = good_perhaps (key M.Where) (of (L.Mark M.Where)) refl (Condition text 32) AfterWhere (condition text 32)
-      (good_under (Condition text 32) AfterCond AfterWhere (condition text 32) (good_condition text 32) (λ t f. f.0)) (λ t f. no_key M.Where t.lexeme f.1) where_end
+  good_where = good_perhaps (key M.Where) (of (L.Mark M.Where)) refl (Searching text 32) AfterWhere (condition text 32)
+      (good_under (Searching text 32) AfterCond AfterWhere (condition text 32) (good_condition text 32) (λ t f. f.0)) (λ t f. no_key M.Where t.lexeme f.1) where_end
 
   good_last_where : (f : Option Search → Stmt) → Good (G.Bind (Where text) (λ cond. G.Empty (f cond))) Final (R.bind (where_part text) (λ cond. R.empty (f cond)))
   good_last_where f = good_map (Where text) f Final (where_part text) (good_under (Where text) AfterWhere Final (where_part text) good_where after_where) final_end

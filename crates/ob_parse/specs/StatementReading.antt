@@ -1,5 +1,5 @@
 -- What the parser computes for statements.
-use Rattle.std.specs.Prelude.{ℕ, ◌+◌, List, ◌||◌, length, Bool, true, false, Option, Some, None, is_some}
+use Rattle.std.specs.Prelude.{ℕ, ◌+◌, List, ◌||◌, length, Bool, true, false, Option, None, is_some}
 use Rattle.ob_grammar.specs.Reader as R
 use Rattle.ob_base.specs.declared.skeleton.ColumnName.{ColumnName}
 use Rattle.ob_base.specs.declared.skeleton.NewColumn.{NewColumn}

@@ -8,7 +8,7 @@ ghost use Rattle.ob_row.specs.Slots.{Slots, rows, selected, small_slots, is_cons
 ghost use Rattle.ob_sql.specs.declared.stmt.Stmt.{Stmt};
 ghost use Rattle.ob_row.specs.Results.{large_slots, continuous_slots, hash_slots, unplaced, joined};
 ghost use Rattle.ob_mean.specs.Verdict.{Tables};
-ghost use Rattle.ob_verdict.specs.Laws.{SettlesAsStep, ShowsKindAlone, PlanIsWhole, ForcedShowsAlike, ShowsNotConsecutive, SeenIsLawful, PrintsAnswer};
+ghost use Rattle.ob_verdict.specs.Laws.{SettlesAsStep, ShowsKindAlone, PlanIsWhole, ForcedShowsAlike, ShowsNotConsecutive, SeenIsLawful, CutIsLawful, PrintsAnswer};
 
 /// Being the same bag is an equivalence, and is kept where lists are joined, mapped and filtered.
 pub fn bags_are_kept<A, B>()
@@ -32,6 +32,7 @@ pub fn seen_laws()
     ensures forced_alike { ForcedShowsAlike }
     ensures one_refusal_shows { ShowsNotConsecutive }
     ensures lawful { SeenIsLawful }
+    ensures cut_is_lawful { CutIsLawful }
 {}
 
 /// Each plan's result has the selected rows, each as often.
