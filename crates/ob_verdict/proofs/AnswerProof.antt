@@ -139,7 +139,7 @@ source-same p ts (Join a b on equals) one h k j =
     (λ t. pairs (join_places (Join a b on equals) (sym e t)).0 (join_places (Join a b on equals) (sym e t)).1 (sym (rows-slots_at a ts) t) (sym (rows-slots_at b ts) t))
     (rows-joined places.0 places.1 p.pack p.buffer (slots_at a ts) (slots_at b ts) distinct one h)
 
-both_none : (a b : Option Refusal) → option_or a b ≡ None → (a ≡ None) × (b ≡ None)
+pub both_none : (a b : Option Refusal) → option_or a b ≡ None → (a ≡ None) × (b ≡ None)
 both_none None b h = (refl, h)
 both_none (Some x) b h = absurd (cc)
 

@@ -8,7 +8,7 @@ ghost use Rattle.ob_row.specs.Slots.{Slots, rows, selected, small_slots, is_cons
 ghost use Rattle.ob_sql.specs.declared.stmt.Stmt.{Stmt};
 ghost use Rattle.ob_row.specs.Results.{large_slots, continuous_slots, hash_slots, unplaced, joined};
 ghost use Rattle.ob_mean.specs.Verdict.{Tables};
-ghost use Rattle.ob_verdict.specs.Laws.{SettlesAsStep, ShowsKindAlone, PlanIsWhole, ForcedShowsAlike, ShowsNotConsecutive, SeenIsLawful, CutIsLawful, PrintsAnswer};
+ghost use Rattle.ob_verdict.specs.Laws.{SettlesAsStep, KeepsInPlace, ShowsKindAlone, PlanIsWhole, ForcedShowsAlike, ShowsNotConsecutive, SeenIsLawful, CutIsLawful, PrintsAnswer};
 
 /// Being the same bag is an equivalence, and is kept where lists are joined, mapped and filtered.
 pub fn bags_are_kept<A, B>()
@@ -23,6 +23,12 @@ pub fn bags_are_kept<A, B>()
 /// The tables in place and the tables as bags go on alike.
 pub fn settles_as_step()
     ensures { (p : Public) (m : ℕ) (ts : Tables) (stmt : Stmt) → SettlesAsStep p m ts stmt }
+{}
+
+/// A statement leaves the tables in place, with as many slots as their capacities, distinct primary keys, and
+/// columns that name their tables.
+pub fn keeps_in_place()
+    ensures { (p : Public) (m : ℕ) (ts : Tables) (stmt : Stmt) → KeepsInPlace p m ts stmt }
 {}
 
 /// What is seen of a statement tells no more than its kind, the number of its rows and its plan.
