@@ -28,31 +28,20 @@ use Rattle.ob_exec.specs.declared.outcome.Outcome.{Outcome}
 use Rattle.ob_exec.specs.declared.outcome.Outcome.TheVariants.{Created, Inserted, Changed, Deleted, Dropped, Rows, Refused}
 use Rattle.ob_exec.specs.Running.{answer_of}
 use Rattle.ob_exec.specs.Serving.{count_of}
-use Rattle.ob_exec.specs.Telling.{Emitted, told_refusal, told_outcome}
+use Rattle.ob_exec.specs.Refusals.{by_fault}
+use Rattle.ob_base.specs.Refusals.{is_store_fault}
+use Rattle.ob_exec.specs.Telling.{Emitted, told_outcome}
 use Rattle.ob_store.specs.State.{Lie}
 use Rattle.ob_vault.specs.State.{World}
 use Rattle.ob_vault.specs.Tied.{Calm, IsUnfit}
 
 -- ---- a statement that emits nothing
-either_refusal : (r : Refusal) (whole cut : Type 0) → whole → cut → told_refusal r whole cut
-either_refusal (Syntax at) whole cut is off = is
-either_refusal NoTable whole cut is off = is
-either_refusal NameTaken whole cut is off = is
-either_refusal NoColumn whole cut is off = is
-either_refusal WrongType whole cut is off = is
-either_refusal ValueRange whole cut is off = is
-either_refusal Limit whole cut is off = is
-either_refusal KeyRule whole cut is off = is
-either_refusal JoinKey whole cut is off = is
-either_refusal Duplicate whole cut is off = is
-either_refusal Full whole cut is off = is
-either_refusal TooManyGroups whole cut is off = is
-either_refusal NotConsecutive whole cut is off = is
-either_refusal (Overflow i) whole cut is off = is
-either_refusal StoreFault whole cut is off = off
+either_fault : (failed : Bool) (cut whole : Type 0) → whole → cut → by_fault failed cut whole
+either_fault true cut whole is off = off
+either_fault false cut whole is off = is
 
 either : (outcome : Outcome) (whole cut : Type 0) → whole → cut → told_outcome outcome whole cut
-either (Refused r) whole cut is off = either_refusal r whole cut is off
+either (Refused r) whole cut is off = either_fault (is_store_fault r) cut whole is off
 either Created whole cut is off = is
 either Inserted whole cut is off = is
 either (Changed n) whole cut is off = is

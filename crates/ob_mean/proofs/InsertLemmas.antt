@@ -171,7 +171,7 @@ literal_of p q c (n ∷ names) (v ∷ values) l h hp hq =
 at_most : (n m : ℕ) → nat_lt n m ≡ false → m ≤ n
 at_most n m h = grind (arith, nat_tests)
 
-fits_kind : (k : Kind) (v : Literal) → is_of_kind k v ≡ true → is_too_large_for k v ≡ false → IsCell (literal_cell v) → FitsKind k (literal_cell v)
+pub fits_kind : (k : Kind) (v : Literal) → is_of_kind k v ≡ true → is_too_large_for k v ≡ false → IsCell (literal_cell v) → FitsKind k (literal_cell v)
 fits_kind IntKind (IntLiteral x) h l cell = cell
 fits_kind IntKind OutOfRange h l cell = absurd (true≢false l)
 fits_kind IntKind (TextLiteral t) h l cell = absurd (false≢true h)
