@@ -83,15 +83,15 @@ unfolding makes
 makes_none = refl
 
 -- a refusal before any access is none by the store
-pub of_other : {cut whole : Type 0} (failed : Bool) → failed ≡ false → whole → by_fault failed cut whole
-of_other true e h = absurd (cc e)
-of_other false e h = h
+pub of_other : (cut whole : Type 0) (failed : Bool) → failed ≡ false → whole → by_fault failed cut whole
+of_other cut whole true e h = absurd (cc e)
+of_other cut whole false e h = h
 
 pub early_end : (r : Refusal) (end : End) (n : ℕ) → IsEarly r → IsDone end → refused_end r end n
-early_end r end n early done = of_other {cut = end ≡ Cut n} (is_store_fault r) early done
+early_end r end n early done = of_other (end ≡ Cut n) (IsDone end) (is_store_fault r) early done
 
 pub early_cause : (r : Refusal) (a b : World) → IsEarly r → b.store.faults ≡ a.store.faults → (Calm a → Calm b) → refused_cause r a b
-early_cause r a b early faults calm = of_other {cut = Rises a.store.faults b.store.faults × (Calm a → Calm b)} (is_store_fault r) early (faults, calm)
+early_cause r a b early faults calm = of_other (Rises a.store.faults b.store.faults × (Calm a → Calm b)) ((b.store.faults ≡ a.store.faults) × (Calm a → Calm b)) (is_store_fault r) early (faults, calm)
 
 -- the room after a pass
 pub free_after : (public : Public) (old new : RoomState) (high : ℕ) → IsFree public old → new ≡ record old { high = high } → IsFree public new

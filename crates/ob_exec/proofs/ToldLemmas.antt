@@ -60,7 +60,7 @@ module _ (p : Public) (m : ℕ) (stmt : Stmt) (now : refusal_now p m stmt ≡ No
   few_asked n same = early_few m n (allowed (is_late m) p.pack p.buffer (headings_of p.tables) stmt now).early same
 
 pub told_early : (r : Refusal) (whole cut : Type 0) → IsEarly r → whole → told_refusal r whole cut
-told_early r whole cut early is = of_other {cut = cut} (is_store_fault r) early is
+told_early r whole cut early is = of_other cut whole (is_store_fault r) early is
 
 -- an answer that is none by the store
 pub told_whole : (outcome : Outcome) (whole cut : Type 0) → IsAnswered outcome → whole → told_outcome outcome whole cut

@@ -14,6 +14,7 @@ use Rattle.ob_base.specs.Events.{Event, Head, Row, Close}
 use Rattle.ob_store.specs.State.{StoreState}
 use Rattle.ob_store.specs.Runs.{Later}
 use Rattle.ob_vault.specs.State.{RevState, World}
+use Rattle.ob_vault.specs.Calls.{EndsRead}
 use Rattle.ob_vault.specs.Tied.{Calm, EndsAt}
 use Rattle.ob_script.specs.Script.{script}
 use Rattle.ob_mean.specs.Refusals.{early_refusal}
@@ -82,8 +83,8 @@ abbrev pub refused_cause : Refusal → World → World → Type 0
 refused_cause r old new =
     by_fault (is_store_fault r) (Rises old.store.faults new.store.faults × (Calm old → Calm new)) ((new.store.faults ≡ old.store.faults) × (Calm old → Calm new))
 
--- the store's faults rose exactly where the answer is that it failed; a changed block was read only
--- where the session ends as tampered, at its place, or its tag fits
+-- the store's faults rose exactly where the answer is that it failed; a session that ends as tampered ends with the
+-- read of that place, and a changed block was read only there, or its tag fits
 abbrev pub RunCause : Result Outcome Stop → World → World → Type 0
 RunCause (Ok (Refused r)) old new = refused_cause r old new
 RunCause (Ok Created) old new = (new.store.faults ≡ old.store.faults) × (Calm old → Calm new)
@@ -92,7 +93,7 @@ RunCause (Ok (Changed k)) old new = (new.store.faults ≡ old.store.faults) × (
 RunCause (Ok (Deleted k)) old new = (new.store.faults ≡ old.store.faults) × (Calm old → Calm new)
 RunCause (Ok Dropped) old new = (new.store.faults ≡ old.store.faults) × (Calm old → Calm new)
 RunCause (Ok (Rows k)) old new = (new.store.faults ≡ old.store.faults) × (Calm old → Calm new)
-RunCause (Err (Tampered q x)) old new = (new.store.faults ≡ old.store.faults) × (Calm old → Calm new ⊎ EndsAt q x new)
+RunCause (Err (Tampered q x)) old new = (new.store.faults ≡ old.store.faults) × EndsRead q x new × (Calm old → Calm new ⊎ EndsAt q x new)
 RunCause (Err SinkFault) old new = (new.store.faults ≡ old.store.faults) × (Calm old → Calm new)
 RunCause (Err NoMemory) old new = (new.store.faults ≡ old.store.faults) × (Calm old → Calm new)
 RunCause (Err SourceFault) old new = ⊥

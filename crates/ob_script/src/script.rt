@@ -115,7 +115,8 @@ fn push_small(
     requires buffered { IsFew buffered }
     requires some { 1 ≤ buffered }
     requires width { width ≤ 2 ^ 24 }
-    ensures adds { Adds sections.old sections.new (small_part from to blocks results buffered width) }
+    ensures adds { Adds sections.old sections.new
+        (small_part from to blocks results buffered width) }
     ensures few { length sections.new ≡ length sections.old + 2 }
 {
     sections.push(Section::Make {

@@ -53,7 +53,8 @@ pub fn results_have_selected()
         rows (large_slots test slots) ≡ filter test (rows slots) }
     ensures continuous { (k : ℕ) (test : Row → Bool) (slots : Slots) → 0 < k →
         length (selected test slots) ≤ k →
-        is_consecutive (selected test slots) ≡ true → Same (filter test (rows slots)) (rows (continuous_slots k test slots)) }
+        is_consecutive (selected test slots) ≡ true →
+        Same (filter test (rows slots)) (rows (continuous_slots k test slots)) }
     ensures hash { (k n : ℕ) (test : Row → Bool) (slots : Slots) → 0 < k →
         unplaced k n (selected test slots) ≡ None →
         Same (filter test (rows slots)) (rows (hash_slots k n test slots)) }
