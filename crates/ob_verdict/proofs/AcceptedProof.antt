@@ -1,5 +1,5 @@
 -- What is known of a statement that is not refused before its first access.
-use Rattle.std.proofs.Common.{◌≡◌, ◌⊎◌, inl, inr, ℕ, zero, suc, ◌+◌, ◌-◌, ◌*◌, ◌<◌, ◌≤◌, Bool, true, false, List, [], ◌∷◌, ◌++◌, map, length, refl, sym, ◌∙◌, ap, subst, cond, arith}
+use Rattle.std.proofs.Common.{◌≡◌, ◌⊎◌, inl, inr, ℕ, suc, ◌+◌, ◌-◌, ◌*◌, ◌<◌, ◌≤◌, Bool, true, false, List, [], ◌∷◌, ◌++◌, map, length, refl, sym, ◌∙◌, ap, subst, cond, arith}
 use Rattle.std.specs.Prelude.{Option, Some, None, IfSome, IsSomeAnd, not, nat_lt, nat_le, ◌||◌, ◌&&◌, ◌==◌, is_some, filter_map, flat_map, option_to_list, slice_get, unwrap_or, bytes_eq, if◌then◌else◌}
 use Rattle.std.specs.List.{All, list_any}
 use Rattle.std.specs.Option.{option_map_or}
@@ -19,9 +19,8 @@ use Rattle.ob_base.specs.declared.skeleton.Source.{Source}
 use Rattle.ob_base.specs.declared.skeleton.Source.TheVariants.{Table as OneTable, Join}
 use Rattle.ob_base.specs.Joins.{joined_slots}
 use Rattle.ob_base.specs.Lists.{first, places_from, places_of}
-use Rattle.ob_base.specs.Schemas.{Columns, same_kind}
+use Rattle.ob_base.specs.Schemas.{Columns, same_kind, width}
 use Rattle.ob_base.specs.Stored.{has_table, heading_at, headings_of}
-use Rattle.ob_row.specs.declared.aggregate.Agg.{Agg}
 use Rattle.ob_row.specs.declared.aggregate.Agg.TheVariants.{CountAll as CountAllAgg, Count as CountAgg, Sum as SumAgg, Min as MinAgg, Max as MaxAgg}
 use Rattle.ob_row.specs.Spelling.{FitsKind, IsCell}
 use Rattle.ob_script.specs.Sizes.{IsPublic, IsTable}
@@ -30,20 +29,19 @@ use Rattle.ob_sql.specs.declared.stmt.Against.TheVariants.{Literal as LiteralAga
 use Rattle.ob_sql.specs.declared.stmt.Listed.{Listed}
 use Rattle.ob_sql.specs.declared.stmt.Listed.TheVariants.{Column as ListedColumn, CountAll, Count, Sum, Min, Max}
 use Rattle.ob_sql.specs.declared.stmt.SelectRows.{SelectRows}
-use Rattle.ob_sql.specs.declared.stmt.SelectTotals.{SelectTotals}
 use Rattle.ob_sql.specs.declared.stmt.Set.{Set}
 use Rattle.ob_sql.specs.declared.stmt.Stmt.{Stmt}
 use Rattle.ob_sql.specs.declared.stmt.Stmt.TheVariants.{Create, Insert, Update, Delete, Drop as DropTable, SelectRows as RowsStmt, SelectTotals as TotalsStmt}
 use Rattle.ob_sql.specs.Skeleton.{named_by}
 use Rattle.ob_mean.specs.Names.{columns_at, is_named, literal_cell, meant_by, place_of, unqualified}
-use Rattle.ob_mean.specs.Kinds.{Comparison, against_kind, against_too_large, comparison_columns, is_of_kind, is_too_large_for, mistype_columns, mistype_comparisons, overflow_columns, overflow_comparisons}
+use Rattle.ob_mean.specs.Kinds.{Comparison, against_kind, against_too_large, are_texts, at_kind, comparison_columns, is_of_kind, is_too_large_for, is_wrong_comparison, number_columns, mistype_columns, mistype_comparisons, overflow_columns, overflow_comparisons}
 use Rattle.ob_mean.specs.Lawful.{capacity_at, counted_slots, statement_slots}
-use Rattle.ob_mean.specs.Refusals.{compared, is_across, is_key, early_refusal, joins_past, joins_past_at, lack_columns, left_place, means_one, right_place, scope_of, source_tables}
-use Rattle.ob_mean.specs.Step.{agg_of}
+use Rattle.ob_mean.specs.Refusals.{assignments, compared, early_refusal, has_wrong_type, is_across, is_badly_typed, is_key, is_out_of_range, items_of, join_columns, joins_past, joins_past_at, lack_columns, lacks_column, left_place, listed, means_one, named_columns, right_place, scope_of, select_lacks_column, source_tables}
+use Rattle.ob_mean.specs.Step.{agg_of, select_columns, totals_columns}
 use Rattle.ob_mean.proofs.EarlyLemmas.{allowed, neither}
 use Rattle.ob_mean.proofs.InsertLemmas.{fits_kind}
 use Rattle.ob_mean.proofs.NameLemmas.{has_table_found}
-use Rattle.ob_verdict.specs.Accepted.{IsPlace, agg_places, RowsFit, TotalsFit, JoinFits, PlacesFit, TotalsPlacesFit, JoinsFit, SetFits, AgainstFits, ComparisonFits, SetsFit, ConditionsFit, BucketsFit}
+use Rattle.ob_verdict.specs.Accepted.{IsPlace, agg_places, PlacesFit, TotalsPlacesFit, JoinsFit, SetFits, AgainstFits, ComparisonFits, SetsFit, ConditionsFit, BucketsFit}
 
 at_most : (n m : ℕ) → nat_lt n m ≡ false → m ≤ n
 at_most n m h = grind (arith, nat_tests)
@@ -62,8 +60,30 @@ meant name cs h = go (meant_by name cs) refl h where
   go [] e h = absurd (cc)
   go (x ∷ ps) e h = let r = first_within 0 (is_named name) cs x (ap first e) in omega arith
 
-parts : {A : Type 0} (p : A → Bool) (xs ys : List A) → list_any p (xs ++ ys) ≡ false → (list_any p xs ≡ false) × (list_any p ys ≡ false)
-parts p xs ys h = neither (list_any p xs) (list_any p ys) (sym (list_any-append p xs ys) ∙ h)
+known_parts : (cs : Columns) (xs ys : List ColumnName) → lack_columns cs (xs ++ ys) ≡ false → (lack_columns cs xs ≡ false) × (lack_columns cs ys ≡ false)
+known_parts cs xs ys h = neither (lack_columns cs xs) (lack_columns cs ys) (sym (list_any-append (λ name. not (means_one cs name)) xs ys) ∙ h)
+
+-- all names of a statement mean a column, those outside its WHERE and those of it
+names_known : (hs : List Heading) (stmt : Stmt) → lacks_column hs stmt ≡ false → (lack_columns (scope_of stmt hs) (named_columns stmt) ≡ false) × (select_lacks_column hs stmt ≡ false)
+names_known hs stmt h =
+    let both = neither (lack_columns (scope_of stmt hs) (named_columns stmt ++ flat_map comparison_columns (compared stmt))) (select_lacks_column hs stmt) h in
+    ((known_parts (scope_of stmt hs) (named_columns stmt) (flat_map comparison_columns (compared stmt)) both.0).0, both.1)
+
+-- its values and its comparisons are of their columns' kinds, and none is too large
+types_right : (hs : List Heading) (stmt : Stmt) → has_wrong_type hs stmt ≡ false
+    → (mistype_columns (scope_of stmt hs) (assignments stmt (scope_of stmt hs)) ≡ false) × (mistype_comparisons (scope_of stmt hs) (compared stmt) ≡ false)
+types_right hs stmt h =
+    let cs = scope_of stmt hs in
+    let a = mistype_columns cs (assignments stmt cs) in
+    let b = mistype_comparisons cs (compared stmt) in
+    let c = are_texts cs (flat_map number_columns (items_of stmt)) in
+    let first = neither (a || b || c) (is_badly_typed cs stmt) h in
+    let second = neither (a || b) c first.0 in
+    neither a b second.0
+
+values_right : (hs : List Heading) (stmt : Stmt) → is_out_of_range hs stmt ≡ false
+    → (overflow_columns (scope_of stmt hs) (assignments stmt (scope_of stmt hs)) ≡ false) × (overflow_comparisons (compared stmt) ≡ false)
+values_right hs stmt h = neither (overflow_columns (scope_of stmt hs) (assignments stmt (scope_of stmt hs))) (overflow_comparisons (compared stmt)) h
 
 one_meant : (name : ColumnName) (cs : Columns) → not (means_one cs name) ≡ false → IsPlace cs (place_of name cs)
 one_meant name cs h = meant name cs (not-false (means_one cs name) h)
@@ -93,9 +113,10 @@ printed_within cs (Some names) h = All-map (IsPlace cs) (λ c. place_of c cs) na
 pub places_fit : PlacesFit
 places_fit late pack rows hs s accepted =
     let free = allowed late pack rows hs (RowsStmt s) accepted in
-    let named = parts _ _ _ (neither _ _ free.columns).0 in
-    let list = parts _ _ _ named.0 in
-    record { few = at_most 32 _ (neither _ _ free.limits).0; printed = printed_within _ s.list list.0 }
+    let known = names_known hs (RowsStmt s) free.columns in
+    let list = known_parts (select_columns s hs) (listed s) (join_columns s.source) known.0 in
+    let limits = neither (nat_lt 32 (length (listed s))) (joins_past pack rows hs s.source) free.limits in
+    record { few = at_most 32 (length (listed s)) limits.0; printed = printed_within (select_columns s hs) s.list list.0 }
 
 -- ---- totals
 aggregates_within : (cs : Columns) (items : List Listed) → lack_columns cs (flat_map named_by items) ≡ false
@@ -128,9 +149,10 @@ key_within cs (Some key) h = one_meant key cs (neither (not (means_one cs key)) 
 pub totals_places_fit : TotalsPlacesFit
 totals_places_fit late pack rows hs s accepted =
     let free = allowed late pack rows hs (TotalsStmt s) accepted in
-    let named = parts _ _ _ (neither _ _ free.columns).0 in
-    let both = parts _ _ _ named.0 in
-    record { few = at_most 32 _ free.limits; aggregates = aggregates_within _ s.items both.0; key = key_within _ s.group both.1 }
+    let cs = totals_columns s hs in
+    let known = names_known hs (TotalsStmt s) free.columns in
+    let both = known_parts cs (flat_map named_by s.items) (option_to_list s.group) known.0 in
+    record { few = at_most 32 (length s.items) free.limits; aggregates = aggregates_within cs s.items both.0; key = key_within cs s.group both.1 }
 
 -- ---- joins
 is_less : (x n : ℕ) → nat_lt x n ≡ true → x < n
@@ -186,25 +208,29 @@ pub joins_fit : JoinsFit
 joins_fit late pack rows hs list a b on equals where_ left right at_left at_right accepted =
     let s : SelectRows = record { list = list; source = Join a b on equals; cond = where_ } in
     let free = allowed late pack rows hs (RowsStmt s) accepted in
-    let columns = neither _ _ free.columns in
     let l = columns_at a hs in
     let r = columns_at b hs in
-    let known = (parts _ _ _ (parts _ _ _ columns.0).0).1 in
-    let fit : ColumnsFit l r on equals = columns_fit l r on equals (not-false _ columns.1) known (not-false _ free.joins) in
+    let names = names_known hs (RowsStmt s) free.columns in
+    let known = known_parts (l ++ r) (listed s) (on ∷ equals ∷ []) names.0 in
+    let fit : ColumnsFit l r on equals =
+    columns_fit l r on equals (not-false (is_across (length l) (l ++ r) on equals) names.1) known.1 (not-false (is_key l (left_place (length l) (l ++ r) on equals)) free.joins) in
     let there : ColumnsFit left.schema right.schema on equals =
     subst (λ c. ColumnsFit c right.schema on equals) (schema_at a hs left at_left) (subst (λ c. ColumnsFit l c on equals) (schema_at b hs right at_right) fit) in
-    let past : joins_past_at pack rows (Some left) (Some right) ≡ false = (λ t. joins_past_at pack rows (sym at_left t) (sym at_right t)) ∙ (neither _ _ free.limits).1 in
-    let sizes = neither _ _ past in
-    record { left_column = there.left; right_column = there.right; key = there.key; wide = at_most 1024 _ sizes.0; slots = at_most 16777216 _ sizes.1 }
+    let limits = neither (nat_lt 32 (length (listed s))) (joins_past_at pack rows (heading_at a hs) (heading_at b hs)) free.limits in
+    let past : joins_past_at pack rows (Some left) (Some right) ≡ false = (λ t. joins_past_at pack rows (sym at_left t) (sym at_right t)) ∙ limits.1 in
+    let sizes = neither (nat_lt 1024 (width (left.schema ++ right.schema))) (nat_lt 16777216 (joined_slots pack rows left.capacity right.capacity)) past in
+    record { left_column = there.left; right_column = there.right; key = there.key; wide = at_most 1024 (width (left.schema ++ right.schema)) sizes.0; slots = at_most 16777216 (joined_slots pack rows left.capacity right.capacity) sizes.1 }
 
 -- ---- cells
 set_fits : (cs : Columns) (sets : List Set) → mistype_columns cs (map (λ (s : Set). (unqualified s.column, s.value)) sets) ≡ false
     → overflow_columns cs (map (λ (s : Set). (unqualified s.column, s.value)) sets) ≡ false → All (SetFits cs) sets
 set_fits cs [] m o = All-nil _
 set_fits cs (s ∷ sets) m o =
-    let typed = neither _ _ m in
-    let sized = neither _ _ o in
-    All-cons (SetFits cs) s sets (at_column (slice_get cs (place_of (unqualified s.column) cs)) (not-false _ typed.0) sized.0) (set_fits cs sets typed.1 sized.1)
+    let rest = map (λ (s : Set). (unqualified s.column, s.value)) sets in
+    let typed = neither (not (at_kind (λ k. is_of_kind k s.value) (unqualified s.column) cs)) (mistype_columns cs rest) m in
+    let sized = neither (at_kind (λ k. is_too_large_for k s.value) (unqualified s.column) cs) (overflow_columns cs rest) o in
+    All-cons (SetFits cs) s sets
+    (at_column (slice_get cs (place_of (unqualified s.column) cs)) (not-false (at_kind (λ k. is_of_kind k s.value) (unqualified s.column) cs) typed.0) sized.0) (set_fits cs sets typed.1 sized.1)
   where
     at_column : (c : Option Column) → option_map_or (λ (c : Column). is_of_kind c.kind s.value) c false ≡ true → option_map_or (λ (c : Column). is_too_large_for c.kind s.value) c false ≡ false
         → IsCell (literal_cell s.value) → IsSomeAnd c (λ c. FitsKind c.kind (literal_cell s.value))
@@ -214,7 +240,7 @@ set_fits cs (s ∷ sets) m o =
 pub sets_fit : SetsFit
 sets_fit late pack rows hs table sets cond accepted =
     let free = allowed late pack rows hs (Update table sets cond) accepted in
-    set_fits (columns_at table hs) sets (neither _ _ (neither _ _ (neither _ _ free.types).0).0).0 (neither _ _ free.values).0
+    set_fits (columns_at table hs) sets (types_right hs (Update table sets cond) free.types).0 (values_right hs (Update table sets cond) free.values).0
 
 some_of_kind : (p : Kind → Bool) (o : Option Column) → option_map_or (λ (c : Column). p c.kind) o false ≡ true → IsSomeAnd o (λ c. p c.kind ≡ true)
 some_of_kind p None h = absurd (cc)
@@ -232,14 +258,14 @@ comparison_fits cs c (Some d) typed sized = against_fits cs d.kind c.1 typed siz
 comparisons_fit : (cs : Columns) (xs : List Comparison) → mistype_comparisons cs xs ≡ false → overflow_comparisons xs ≡ false → All (ComparisonFits cs) xs
 comparisons_fit cs [] m o = All-nil _
 comparisons_fit cs (c ∷ xs) m o =
-    let typed = neither _ _ m in
-    let sized = neither _ _ o in
-    All-cons (ComparisonFits cs) c xs (comparison_fits cs c (slice_get cs (place_of c.0 cs)) (not-false _ typed.0) sized.0) (comparisons_fit cs xs typed.1 sized.1)
+    let typed = neither (is_wrong_comparison cs c) (mistype_comparisons cs xs) m in
+    let sized = neither (against_too_large c.1) (overflow_comparisons xs) o in
+    All-cons (ComparisonFits cs) c xs (comparison_fits cs c (slice_get cs (place_of c.0 cs)) (not-false (at_kind (against_kind c.1 cs) c.0 cs) typed.0) sized.0) (comparisons_fit cs xs typed.1 sized.1)
 
 pub conditions_fit : ConditionsFit
 conditions_fit late pack rows hs stmt accepted =
     let free = allowed late pack rows hs stmt accepted in
-    comparisons_fit (scope_of stmt hs) (compared stmt) (neither _ _ (neither _ _ (neither _ _ free.types).0).0).1 (neither _ _ free.values).1
+    comparisons_fit (scope_of stmt hs) (compared stmt) (types_right hs stmt free.types).1 (values_right hs stmt free.values).1
 
 -- ---- hash regions
 capacity_few : (name : List ℕ) (ts : List Table) → All IsTable ts → capacity_at name (headings_of ts) ≤ 1048576
@@ -251,25 +277,26 @@ capacity_few name (t ∷ ts) all =
     [ true ↦ one.capacity | false ↦ rest ]
 
 there_is : (name : List ℕ) (hs : List Heading) → not (has_table name hs) ≡ false → is_some (heading_at name hs) ≡ true
-there_is name hs h = sym (has_table_found name hs) ∙ not-false _ h
+there_is name hs h = sym (has_table_found name hs) ∙ not-false (has_table name hs) h
 
 joined_few : (pack rows : ℕ) (l r : Option Heading) → is_some l ≡ true → is_some r ≡ true → joins_past_at pack rows l r ≡ false
     → joined_slots pack rows (option_map_or (λ (h : Heading). h.capacity) l 0) (option_map_or (λ (h : Heading). h.capacity) r 0) ≤ 16777216
 joined_few pack rows None r e f h = absurd (cc)
 joined_few pack rows (Some l) None e f h = absurd (cc)
-joined_few pack rows (Some l) (Some r) e f h = at_most 16777216 _ (neither _ _ h).1
+joined_few pack rows (Some l) (Some r) e f h =
+    at_most 16777216 (joined_slots pack rows l.capacity r.capacity) (neither (nat_lt 1024 (width (l.schema ++ r.schema))) (nat_lt 16777216 (joined_slots pack rows l.capacity r.capacity)) h).1
 
 source_few : (p : Public) (source : Source) → All IsTable p.tables → list_any (λ name. not (has_table name (headings_of p.tables))) (source_tables source) ≡ false
     → joins_past p.pack p.buffer (headings_of p.tables) source ≡ false → counted_slots p source ≤ 16777216
 source_few p (OneTable name) tables there past = let few = capacity_few name p.tables tables in omega arith
 source_few p (Join a b on equals) tables there past =
-    let first = neither _ _ there in
-    let second = neither _ _ first.1 in
+    let first = neither (not (has_table a (headings_of p.tables))) (list_any (λ name. not (has_table name (headings_of p.tables))) (b ∷ [])) there in
+    let second = neither (not (has_table b (headings_of p.tables))) false first.1 in
     joined_few p.pack p.buffer (heading_at a (headings_of p.tables)) (heading_at b (headings_of p.tables)) (there_is a (headings_of p.tables) first.0) (there_is b (headings_of p.tables) second.0) past
 
 slots_few : (p : Public) (late : Bool) (stmt : Stmt) → IsPublic p → early_refusal late p.pack p.buffer (headings_of p.tables) stmt ≡ None → statement_slots p stmt ≤ 16777216
 slots_few p late (RowsStmt s) public accepted =
-    let free = allowed late p.pack p.buffer (headings_of p.tables) (RowsStmt s) accepted in source_few p s.source public.tables free.tables (neither _ _ free.limits).1
+    let free = allowed late p.pack p.buffer (headings_of p.tables) (RowsStmt s) accepted in source_few p s.source public.tables free.tables (neither (nat_lt 32 (length (listed s))) (joins_past p.pack p.buffer (headings_of p.tables) s.source) free.limits).1
 slots_few p late (TotalsStmt s) public accepted = omega arith
 slots_few p late (Create a b c) public accepted = omega arith
 slots_few p late (Insert a b c) public accepted = omega arith

@@ -1,9 +1,9 @@
 -- A statement leaves the tables in place: as many slots, distinct keys, and columns that name their table.
-use Rattle.std.proofs.Common.{◌≡◌, ◌≢◌, ℕ, suc, zero, ◌+◌, ◌-◌, ◌<◌, ◌≤◌, Bool, true, false, List, [], ◌∷◌, ◌++◌, map, length, refl, sym, ◌∙◌, ap, subst, cond, get_or, arith}
+use Rattle.std.proofs.Common.{◌≡◌, ◌≢◌, ℕ, suc, zero, ◌+◌, ◌<◌, Bool, true, false, List, [], ◌∷◌, ◌++◌, map, length, refl, sym, ◌∙◌, ap, subst, cond, arith}
 use Rattle.std.specs.Prelude.{Option, Some, None, filter, not, bytes_eq, slice_get, slice_set, ◌||◌, ◌==◌}
 use Rattle.std.proofs.lemmas.Bool.Decides.{nat_tests}
-use Rattle.std.specs.List.{All, list_any}
-use Rattle.std.specs.Option.{option_map, option_map_or, option_or}
+use Rattle.std.specs.List.{list_any}
+use Rattle.std.specs.Option.{option_map, option_map_or}
 use Rattle.std.proofs.lemmas.List.{length-map, length-replicate}
 use Rattle.std.proofs.lemmas.List.Elements.{All-map}
 use Rattle.ob_base.specs.declared.config.Public.{Public}
@@ -15,11 +15,11 @@ use Rattle.ob_base.specs.declared.skeleton.NewColumn.{NewColumn}
 use Rattle.ob_base.specs.Limits.{buffered}
 use Rattle.ob_base.specs.Lists.{first, has_repeats, places_from}
 use Rattle.ob_base.specs.Schemas.{Columns, columns_of, key_place, new_column}
-use Rattle.ob_base.specs.Stored.{Stored, NamesTable, headings, heading_at, stored_at, changed_at, dropped_at}
+use Rattle.ob_base.specs.Stored.{Stored, headings, stored_at, changed_at, dropped_at}
 use Rattle.ob_row.specs.Bags.{Inserts, here, further}
 use Rattle.ob_row.specs.Condition.{Condition}
 use Rattle.ob_row.specs.declared.cell.Cell.{Cell}
-use Rattle.ob_row.specs.Rows.{Row, agree_at, cell_at, cell_eq, options_eq, has_key, keys_repeat, with_cells}
+use Rattle.ob_row.specs.Rows.{Row, agree_at, cell_at, options_eq, has_key, keys_repeat, with_cells}
 use Rattle.ob_row.specs.Slots.{Slots, rows, emptied, fill_first, empty_slots}
 use Rattle.ob_row.specs.Truth.{is_true, updated}
 use Rattle.ob_row.proofs.PairLemmas.{cell_eq-refl, options_eq-both}
@@ -27,10 +27,10 @@ use Rattle.ob_sql.specs.declared.stmt.Set.{Set}
 use Rattle.ob_sql.specs.declared.stmt.Stmt.{Stmt}
 use Rattle.ob_sql.specs.declared.stmt.Stmt.TheVariants.{Create, Insert, Update, Delete, Drop as DropTable, SelectRows as RowsStmt, SelectTotals as TotalsStmt}
 use Rattle.ob_mean.specs.Names.{columns_at, place_of, unqualified, where_at}
-use Rattle.ob_mean.specs.Refusals.{early_refusal, breaks_key_rule, sets_key}
-use Rattle.ob_mean.specs.Step.{insert_refusal, late_refusal, new_row, set_cells, followed, refusal_of}
+use Rattle.ob_mean.specs.Refusals.{early_refusal, sets_key}
+use Rattle.ob_mean.specs.Step.{insert_refusal, late_refusal, new_row, set_cells, followed}
 use Rattle.ob_mean.specs.Verdict.{Tables, database, is_late, last_refusal, refusal}
-use Rattle.ob_mean.specs.Settle.{settle, settled}
+use Rattle.ob_mean.specs.Settle.{settled}
 use Rattle.ob_mean.proofs.EarlyLemmas.{allowed, neither}
 use Rattle.ob_mean.proofs.VerdictLemmas.{headings-database, heading-stored, stored-database}
 use Rattle.ob_verdict.specs.Laws.{IsInPlace, AreInPlace, KeepsInPlace}

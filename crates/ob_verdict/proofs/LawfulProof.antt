@@ -1,6 +1,6 @@
 -- What is seen of a statement is lawful.
-use Rattle.std.proofs.Common.{◌≡◌, ◌⊎◌, inl, inr, ◌≢◌, ℕ, suc, zero, ◌+◌, ◌-◌, ◌*◌, ◌≤◌, ◌<◌, Bool, true, false, List, [], ◌∷◌, ◌++◌, map, length, refl, sym, ◌∙◌, ap, subst, cond, arith}
-use Rattle.std.specs.Prelude.{Option, Some, None, is_some, nat_le, bytes_eq, ⊤}
+use Rattle.std.proofs.Common.{◌≡◌, inl, inr, ◌≢◌, ℕ, suc, zero, ◌+◌, ◌-◌, ◌*◌, ◌≤◌, ◌<◌, Bool, true, false, List, [], ◌∷◌, ◌++◌, map, length, refl, sym, ◌∙◌, ap, subst, cond, arith}
+use Rattle.std.specs.Prelude.{Option, Some, None, is_some, nat_le, bytes_eq}
 use Rattle.std.specs.Option.{option_map_or}
 use Rattle.std.proofs.lemmas.Bool.Decides.{nat_tests}
 use Rattle.std.proofs.lemmas.List.{length-append, length-map}
@@ -33,7 +33,7 @@ use Rattle.ob_mean.specs.Refusals.{early_refusal}
 use Rattle.ob_mean.specs.Step.{select_condition}
 use Rattle.ob_row.specs.Truth.{is_true}
 use Rattle.ob_mean.specs.Verdict.{Tables, seen, seen_started, seen_rows, seen_with, ended, counted, is_late, plan_for, fallback, first_unplaced, source_slots, slots_at, selected_places}
-use Rattle.ob_mean.specs.Replay.{count_end, walk_end, ending_len, done_of, held_if, cut_at}
+use Rattle.ob_mean.specs.Replay.{count_end, walk_end, ending_len, done_of, held_if}
 use Rattle.ob_script.specs.Script.{whole_script, table_script, join_script, extent_of, blocks_of, rows_width, joined_extent, plan_part, result_blocks}
 use Rattle.ob_script.specs.Parts.{count_part, join_part}
 use Rattle.ob_row.specs.Rows.{Row}
@@ -42,7 +42,7 @@ use Rattle.std.proofs.lemmas.List.{length-replicate}
 use Rattle.std.specs.Prelude.{replicate}
 use Rattle.ob_base.specs.Joins.{chunks, joined_slots}
 use Rattle.ob_base.specs.Numbers.{blocks_for}
-use Rattle.ob_mean.specs.Lawful.{Lawful, Holds, IsCount, IsPlan, EndsFrom, EndsUnplanned, is_counted, statement_slots, counted_slots, capacity_at, CutUpTo}
+use Rattle.ob_mean.specs.Lawful.{Lawful, Holds, IsCount, IsPlan, EndsUnplanned, is_counted, statement_slots, counted_slots, capacity_at, CutUpTo}
 use Rattle.ob_verdict.specs.Laws.{AreInPlace, SeenIsLawful, CutIsLawful}
 
 -- it isn't cut off

@@ -1,6 +1,6 @@
 -- What the seen of a statement tells.
 use Rattle.std.proofs.Common.{◌≡◌, ℕ, Bool, true, false, List, [], ◌∷◌, length, refl, sym, ◌∙◌, ap, subst, cond}
-use Rattle.std.specs.Prelude.{Option, Some, None, not, is_some, ◌||◌, nat_le, ◌*◌}
+use Rattle.std.specs.Prelude.{Option, Some, None, is_some, nat_le, ◌*◌}
 use Rattle.ob_base.specs.declared.config.Public.{Public}
 use Rattle.ob_base.specs.declared.config.Plan.{Plan}
 use Rattle.ob_base.specs.declared.config.Plan.TheVariants.{Small, Large, Continuous, Hash}
