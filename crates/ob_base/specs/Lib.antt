@@ -11,3 +11,6 @@ pub mod Labels
 pub mod Joins
 pub mod Texts
 pub mod IsText
+pub mod Refusals
+pub mod Publics
+pub mod Trees

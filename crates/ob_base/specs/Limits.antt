@@ -1,8 +1,5 @@
 -- Limits on sizes.
-use Rattle.std.specs.Prelude.{ℕ, ◌-◌, ◌*◌, ◌/◌, Bool, nat_le, ◌&&◌}
-
-abbrev pub is_between : ℕ → ℕ → ℕ → Bool
-is_between low high n = nat_le low n && nat_le n high
+use Rattle.std.specs.Prelude.{ℕ, ◌-◌, ◌*◌, ◌/◌}
 
 -- the blocks that a pass may buffer beside two open ones, where so many rows may be open
 abbrev pub buffered_blocks : ℕ → ℕ → ℕ

@@ -1,6 +1,6 @@
 //! What takes the rows of an answer.
-ghost use Rattle.std.specs.Prelude.{◌≡◌, ◌++◌, ℕ, List, [], ◌∷◌, OnOk, OnErr};
-ghost use Rattle.ob_base.specs.Events.{Event, Head, Row, Close, EmitCause};
+ghost use Rattle.std.specs.Prelude.{[], ◌∷◌, OnOk, OnErr};
+ghost use Rattle.ob_base.specs.Events.{Head, Row, Close, EmitCause, Leads};
 
 use crate::shown::Shown;
 use crate::text::Label;
@@ -31,20 +31,20 @@ pub trait Emit {
 
     /// Takes the labels of the columns.
     fn head(&mut self, cols: &[Label]) -> Result<(), EmitErr>
-        ensures ok { OnOk result ((s : Self) (events : List Event) → grew s self.old events → grew s self.new (events ++ Head cols.now ∷ [])) }
-        ensures err { OnErr result ((s : Self) (events : List Event) → grew s self.old events → cut s self.new (events ++ Head cols.now ∷ [])) }
+        ensures ok { OnOk result (Leads grew grew self.old self.new (Head cols.now ∷ [])) }
+        ensures err { OnErr result (Leads grew cut self.old self.new (Head cols.now ∷ [])) }
         ensures cause { EmitCause result (faults self.old) (faults self.new) };
 
     /// Takes a row.
     fn row(&mut self, cells: &[Shown]) -> Result<(), EmitErr>
-        ensures ok { OnOk result ((s : Self) (events : List Event) → grew s self.old events → grew s self.new (events ++ Row cells.now ∷ [])) }
-        ensures err { OnErr result ((s : Self) (events : List Event) → grew s self.old events → cut s self.new (events ++ Row cells.now ∷ [])) }
+        ensures ok { OnOk result (Leads grew grew self.old self.new (Row cells.now ∷ [])) }
+        ensures err { OnErr result (Leads grew cut self.old self.new (Row cells.now ∷ [])) }
         ensures cause { EmitCause result (faults self.old) (faults self.new) };
 
     /// Takes the number of the rows, which ends the answer.
     fn close(&mut self, k: u64) -> Result<(), EmitErr>
-        ensures ok { OnOk result ((s : Self) (events : List Event) → grew s self.old events → grew s self.new (events ++ Close k ∷ [])) }
-        ensures err { OnErr result ((s : Self) (events : List Event) → grew s self.old events → cut s self.new (events ++ Close k ∷ [])) }
+        ensures ok { OnOk result (Leads grew grew self.old self.new (Close k ∷ [])) }
+        ensures err { OnErr result (Leads grew cut self.old self.new (Close k ∷ [])) }
         ensures cause { EmitCause result (faults self.old) (faults self.new) };
 
     ghost starts: { (s : Self) → grew s s [] };

@@ -55,7 +55,9 @@ impl<T> Items<T> {
 
     /// Takes the last element away, if there is one.
     pub fn pop(&mut self) -> Option<T>
-        ensures { MatchOption result ((self.old ≡ []) × (self.new ≡ [])) (λ x. self.old ≡ self.new ++ x ∷ []) }
+        ensures { MatchOption result
+            ((self.old ≡ []) × (self.new ≡ []))
+            (λ x. self.old ≡ self.new ++ x ∷ []) }
     {
         self.items.pop()
     }

@@ -16,7 +16,7 @@ use Rattle.ob_token.specs.declared.token.Lexeme.TheVariants as L
 use Rattle.ob_token.specs.declared.token.Token.{Token}
 use Rattle.ob_sql.specs.Search.{Search, Compare, Not, And, Or}
 use Rattle.ob_condition.specs.Marks.{is, flag, key, literal_of, name_in, name_of, number_of, order_mark, order_of, plain_literal, sign_mark, sign_of, signed, marked}
-use Rattle.ob_condition.specs.Conditions.{bare, qualified, Column, Comparison, Condition, CondOf, ConjOf, Constant, Grouped, Negated, Operand, Prim}
+use Rattle.ob_condition.specs.Conditions.{bare, qualified, Column, Comparison, Searching, CondOf, ConjOf, Constant, Grouped, Negated, Operand, Prim}
 use Rattle.ob_condition.specs.Reading.{column, comparison, cond_of, condition, conj_of, constant, grouped, negated, operand, prim}
 use Rattle.ob_condition.proofs.Told.{of, apart, apart_name, apart_some, no_key}
 
@@ -155,6 +155,6 @@ good_prim text (suc d) = one_deeper text (Prim text d) (prim text d) (good_prim 
 pub good_conj : (text : List ℕ) (d : ℕ) → Good (ConjOf (Prim text d)) AfterConj (conj_of (prim text d))
 good_conj text d = good_conj_of (Prim text d) (prim text d) (good_prim text d)
 
-pub good_condition : (text : List ℕ) (d : ℕ) → Good (Condition text d) AfterCond (condition text d)
-unfolding Condition
+pub good_condition : (text : List ℕ) (d : ℕ) → Good (Searching text d) AfterCond (condition text d)
+unfolding Searching
 good_condition text d = good_cond_of (Prim text d) (prim text d) (good_prim text d)

@@ -53,9 +53,10 @@ unfoldable pub Prim : List ℕ → ℕ → Search → List Token → Type 0
 Prim text zero = Comparison text
 Prim text (suc depth) = Either (Negated (Prim text depth)) (Either (Grouped (Prim text depth)) (Comparison text))
 
-unfoldable pub Condition : List ℕ → ℕ → Search → List Token → Type 0
-Condition text depth = CondOf (Prim text depth)
+-- cond, on a path of which so many NOT and ( may stand
+unfoldable pub Searching : List ℕ → ℕ → Search → List Token → Type 0
+Searching text depth = CondOf (Prim text depth)
 
 -- [ WHERE cond ]
 abbrev pub Where : List ℕ → Option Search → List Token → Type 0
-Where text = Perhaps (key M.Where) (Condition text 32)
+Where text = Perhaps (key M.Where) (Searching text 32)

@@ -35,7 +35,7 @@ use Rattle.ob_flat.specs.Passes.{PassCut}
 use Rattle.ob_flat.proofs.Runs.{pass_after}
 use Rattle.ob_row.specs.Slots.{empty_slots}
 use Rattle.ob_sql.specs.declared.stmt.Stmt.TheVariants.{Create as CreateStmt}
-use Rattle.ob_mean.specs.Headings.{headings_of}
+use Rattle.ob_base.specs.Stored.{headings_of}
 use Rattle.ob_mean.specs.Step.{accepted_answer, answered, followed}
 use Rattle.ob_mean.specs.Settle.{settled}
 use Rattle.ob_mean.specs.Verdict.{Tables, seen, database, is_late, refusal, ended as seen_to}

@@ -1,5 +1,5 @@
 -- What statements emit, and what an early refusal does.
-use Rattle.std.proofs.Common.{◌≡◌, ℕ, suc, List, [], ◌∷◌, length, Option, Some, None, Result, Ok, Err, refl, sym, ap, subst, pos}
+use Rattle.std.proofs.Common.{◌≡◌, ℕ, suc, Bool, true, false, List, [], ◌∷◌, length, Option, Some, None, Result, Ok, Err, refl, sym, ap, subst, pos}
 use Rattle.std.specs.Prelude.{codes}
 use Rattle.ob_base.specs.declared.config.Public.{Public}
 use Rattle.ob_base.specs.declared.refusal.Refusal.{Refusal}
@@ -20,7 +20,7 @@ use Rattle.ob_sql.specs.declared.stmt.Stmt.{Stmt}
 use Rattle.ob_sql.specs.declared.stmt.Stmt.TheVariants.{Create as CreateStmt, Insert as InsertStmt}
 use Rattle.ob_mean.specs.declared.answer.Answer.{Answer}
 use Rattle.ob_mean.specs.declared.answer.Answer.TheVariants as A
-use Rattle.ob_mean.specs.Headings.{headings_of}
+use Rattle.ob_base.specs.Stored.{headings_of}
 use Rattle.ob_mean.specs.Prints.{Prints, Unfinished, Begun, labels_of}
 use Rattle.ob_mean.specs.Step.{answered}
 use Rattle.ob_mean.specs.Verdict.{Tables, verdict, refusal}
@@ -28,31 +28,20 @@ use Rattle.ob_exec.specs.declared.outcome.Outcome.{Outcome}
 use Rattle.ob_exec.specs.declared.outcome.Outcome.TheVariants.{Created, Inserted, Changed, Deleted, Dropped, Rows, Refused}
 use Rattle.ob_exec.specs.Running.{answer_of}
 use Rattle.ob_exec.specs.Serving.{count_of}
-use Rattle.ob_exec.specs.Telling.{Emitted, told_refusal, told_outcome}
+use Rattle.ob_exec.specs.Refusals.{by_fault}
+use Rattle.ob_base.specs.Refusals.{is_store_fault}
+use Rattle.ob_exec.specs.Telling.{Emitted, told_outcome}
 use Rattle.ob_store.specs.State.{Lie}
 use Rattle.ob_vault.specs.State.{World}
 use Rattle.ob_vault.specs.Tied.{Calm, IsUnfit}
 
 -- ---- a statement that emits nothing
-either_refusal : (r : Refusal) (whole cut : Type 0) → whole → cut → told_refusal r whole cut
-either_refusal (Syntax at) whole cut is off = is
-either_refusal NoTable whole cut is off = is
-either_refusal NameTaken whole cut is off = is
-either_refusal NoColumn whole cut is off = is
-either_refusal WrongType whole cut is off = is
-either_refusal ValueRange whole cut is off = is
-either_refusal Limit whole cut is off = is
-either_refusal KeyRule whole cut is off = is
-either_refusal JoinKey whole cut is off = is
-either_refusal Duplicate whole cut is off = is
-either_refusal Full whole cut is off = is
-either_refusal TooManyGroups whole cut is off = is
-either_refusal NotConsecutive whole cut is off = is
-either_refusal (Overflow i) whole cut is off = is
-either_refusal StoreFault whole cut is off = off
+either_fault : (failed : Bool) (cut whole : Type 0) → whole → cut → by_fault failed cut whole
+either_fault true cut whole is off = off
+either_fault false cut whole is off = is
 
 either : (outcome : Outcome) (whole cut : Type 0) → whole → cut → told_outcome outcome whole cut
-either (Refused r) whole cut is off = either_refusal r whole cut is off
+either (Refused r) whole cut is off = either_fault (is_store_fault r) cut whole is off
 either Created whole cut is off = is
 either Inserted whole cut is off = is
 either (Changed n) whole cut is off = is

@@ -5,7 +5,7 @@ use Rattle.std.specs.Option.{option_map}
 use Rattle.ob_base.specs.declared.schema.Heading.{Heading}
 use Rattle.ob_base.specs.declared.schema.Table.{Table}
 use Rattle.ob_base.specs.Stored.{Stored, headings, heading_at, has_table, stored_regions}
-use Rattle.ob_mean.specs.Headings.{headings_of}
+use Rattle.ob_base.specs.Stored.{headings_of}
 use Rattle.ob_mean.proofs.VerdictLemmas.{heading-stored}
 use Rattle.ob_exec.specs.Engines.{IsAt}
 use Rattle.ob_exec.proofs.TableLemmas.{AreNamed, named, stored_found}

@@ -11,7 +11,7 @@ use Rattle.ob_vault.specs.State.{World}
 use Rattle.ob_vault.specs.Calls.{Lasts}
 use Rattle.ob_flat.specs.Flats.{Represents}
 use Rattle.ob_flat.proofs.Tables.{represents_lasts}
-use Rattle.ob_mean.specs.Headings.{headings_of}
+use Rattle.ob_base.specs.Stored.{headings_of}
 use Rattle.ob_mean.specs.Verdict.{Tables}
 use Rattle.ob_exec.specs.Engines.{flat_of}
 use Rattle.ob_exec.specs.Telling.{AreHeld}

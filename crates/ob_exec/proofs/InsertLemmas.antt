@@ -1,6 +1,6 @@
 -- INSERT and COUNT, after their passes.
 use Rattle.std.proofs.Common.{◌≡◌, inl, inr, ◌-◌, ◌*◌, ◌==◌, max, ℕ, Bool, true, false, if◌then◌else◌, List, [], ◌∷◌, length, Some, None, Option, Ok, refl, sym, ◌∙◌, ap, subst, arith, slice_get, slice_set, append-nil, pos}
-use Rattle.std.specs.Option.{option_map, option_map_or}
+use Rattle.std.specs.Option.{option_map, option_map_or, option_or}
 use Rattle.std.proofs.lemmas.Bool.{cases_eq}
 use Rattle.ob_base.specs.declared.access.Access.{Access}
 use Rattle.ob_base.specs.declared.config.Public.{Public}
@@ -45,7 +45,7 @@ use Rattle.ob_sql.specs.declared.stmt.Stmt.TheVariants.{Insert as InsertStmt}
 use Rattle.ob_mean.specs.declared.answer.Answer.TheVariants as A
 use Rattle.ob_mean.specs.Names.{columns_at}
 use Rattle.ob_mean.specs.Refusals.{early_refusal}
-use Rattle.ob_mean.specs.Step.{new_row, insert_refusal, or_else, answered, followed}
+use Rattle.ob_mean.specs.Step.{new_row, insert_refusal, answered, followed}
 use Rattle.ob_mean.specs.Settle.{settle, settled}
 use Rattle.ob_mean.proofs.VerdictLemmas.{heading-stored, stored-database, refused_late, seen_late, counted as count_meant}
 use Rattle.ob_mean.specs.Verdict.{Tables, is_late, refusal, verdict, seen, ended as seen_to}
@@ -74,13 +74,13 @@ answered_as a b = if a then Duplicate else (if b then Full else Done)
 abbrev refused_as : (a b : Bool) → Option Refusal
 refused_as a b = if a then Some R.Duplicate else (if b then Some R.Full else None)
 
-outcome_plain : (a b : Bool) (stmt : Stmt) → done_of stmt ≡ Inserted → inserted_as (answered_as a b) ≡ outcome_of stmt (answered (or_else (refused_as a b) None) A.Done)
+outcome_plain : (a b : Bool) (stmt : Stmt) → done_of stmt ≡ Inserted → inserted_as (answered_as a b) ≡ outcome_of stmt (answered (option_or (refused_as a b) None) A.Done)
 outcome_plain true b stmt is = refl
 outcome_plain false true stmt is = refl
 outcome_plain false false stmt is = sym is
 
 settle_plain : (a b : Bool) (name : List ℕ) (row : Row) (tables : Tables)
-    → followed (or_else (refused_as a b) None) (changed_at name (fill_first row) tables) tables ≡ changed_at name (λ slots. slots_after (answered_as a b) row slots) tables
+    → followed (option_or (refused_as a b) None) (changed_at name (fill_first row) tables) tables ≡ changed_at name (λ slots. slots_after (answered_as a b) row slots) tables
 settle_plain true b name row tables = sym (changed_same name tables)
 settle_plain false true name row tables = sym (changed_same name tables)
 settle_plain false false name row tables = refl
@@ -94,25 +94,25 @@ insert_meant p m tables name columns values x row answer early found size row_is
     let stmt = InsertStmt name columns values in
     let a = has_key (key_place x.heading.schema) row (rows x.held) in
     let b = length (rows x.held) == length x.held in
-    let refusal_is : refusal p m tables stmt ≡ or_else (refused_as a b) None =
+    let refusal_is : refusal p m tables stmt ≡ option_or (refused_as a b) None =
     refused_late p m tables stmt early
-    ∙ ap (λ (o : Option (Stored (List Row))). or_else (option_map_or (λ (t : Stored (List Row)). insert_refusal t (new_row t.heading.schema columns values)) o None) None)
+    ∙ ap (λ (o : Option (Stored (List Row))). option_or (option_map_or (λ (t : Stored (List Row)). insert_refusal t (new_row t.heading.schema columns values)) o None) None)
     (stored-database name tables ∙ ap (option_map (λ (u : Stored Slots). record { heading = u.heading; held = rows u.held })) found)
-    ∙ ap (λ (r : Row). or_else (insert_refusal (record { heading = x.heading; held = rows x.held }) r) None) (sym row_is)
-    ∙ ap (λ (n : ℕ). or_else (if a then Some R.Duplicate else (if length (rows x.held) == n then Some R.Full else None)) None) (sym size) in
+    ∙ ap (λ (r : Row). option_or (insert_refusal (record { heading = x.heading; held = rows x.held }) r) None) (sym row_is)
+    ∙ ap (λ (n : ℕ). option_or (if a then Some R.Duplicate else (if length (rows x.held) == n then Some R.Full else None)) None) (sym size) in
     let schema_is : columns_at name (headings tables) ≡ x.heading.schema =
     ap (λ (o : Option Heading). option_map_or (λ (h : Heading). h.schema) o []) (heading-stored name tables ∙ ap (option_map (λ (u : Stored Slots). u.heading)) found) in (
       ap inserted_as is ∙ outcome_plain a b stmt refl ∙ ap (λ (o : Option Refusal). outcome_of stmt (answered o A.Done)) (sym refusal_is),
       ap (λ (o : Option Refusal). followed o (settled tables stmt) tables) refusal_is
-          ∙ ap (λ (r : Row). followed (or_else (refused_as a b) None) (changed_at name (fill_first r) tables) tables) (ap (λ (cs : Columns). new_row cs columns values) schema_is ∙ sym row_is)
+          ∙ ap (λ (r : Row). followed (option_or (refused_as a b) None) (changed_at name (fill_first r) tables) tables) (ap (λ (cs : Columns). new_row cs columns values) schema_is ∙ sym row_is)
           ∙ settle_plain a b name row tables
           ∙ ap (λ (k : InsertedAs). changed_at name (λ slots. slots_after k row slots) tables) (sym is),
     )
 
 pub is_answered : (answer : InsertedAs) → IsAnswered (inserted_as answer)
 is_answered Done = tt
-is_answered Duplicate = tt
-is_answered Full = tt
+is_answered Duplicate = refl
+is_answered Full = refl
 
 module _ {R : Type 0} (state : R → RevState) (old : Engine R) (s s1 : StoreState) (v : Vault R) (room : RoomState) (t : StoreState)
     (name : List ℕ) (columns : Option (List (List ℕ))) (i : ℕ) (table : Table)

@@ -1,5 +1,5 @@
 -- What is seen of a statement is lawful, whatever the store does.
-use Rattle.std.proofs.Common.{◌≡◌, inl, inr, ◌-◌, ◌≤◌, ℕ, false, List, ◌++◌, length, take, Option, Some, None, Result, Ok, Err, refl, sym, ◌∙◌, ap, subst, arith}
+use Rattle.std.proofs.Common.{◌≡◌, inl, inr, ◌-◌, ◌≤◌, ℕ, Bool, true, false, List, ◌++◌, length, take, Option, Some, None, Result, Ok, Err, refl, sym, ◌∙◌, ap, subst, arith}
 use Rattle.std.specs.Prelude.{IsSome, not, ◌||◌, is_some}
 use Rattle.std.specs.List.{list_any}
 use Rattle.std.proofs.lemmas.List.{length-append, length-take}
@@ -13,15 +13,16 @@ use Rattle.ob_base.specs.declared.seen.End.TheVariants.{Static, Whole, AfterCoun
 use Rattle.ob_base.specs.declared.seen.Seen.{Seen}
 use Rattle.ob_base.specs.declared.skeleton.Skeleton.{Skeleton}
 use Rattle.ob_script.specs.Script.{script, whole_script}
-use Rattle.ob_sql.specs.declared.stmt.Listed.{Listed}
 use Rattle.ob_sql.specs.declared.stmt.Stmt.{Stmt}
-use Rattle.ob_sql.specs.declared.stmt.Stmt.TheVariants.{Create, Insert, Update, Delete, Drop as DropTable, Select as SelectStmt}
-use Rattle.ob_sql.specs.Skeleton.{skeleton, is_aggregate, listed}
-use Rattle.ob_mean.specs.Lawful.{Lawful, is_counted, CutUpTo}
+use Rattle.ob_sql.specs.declared.stmt.Stmt.TheVariants.{Create, Insert, Update, Delete, Drop as DropTable, SelectRows as RowsStmt, SelectTotals as TotalsStmt}
+use Rattle.ob_sql.specs.Skeleton.{skeleton}
+use Rattle.ob_mean.specs.Lawful.{Lawful, is_counted, EndsUncounted, CutUpTo}
 use Rattle.ob_mean.specs.Verdict.{ended}
 use Rattle.ob_exec.specs.declared.outcome.Outcome.{Outcome}
 use Rattle.ob_exec.specs.declared.outcome.Outcome.TheVariants.{Created, Inserted, Changed, Deleted, Dropped, Rows, Refused}
 use Rattle.ob_exec.specs.Running.{EndsBy, IsDone, RefusedEarly, refused_end, refusal_now}
+use Rattle.ob_exec.specs.Refusals.{by_fault}
+use Rattle.ob_base.specs.Refusals.{is_store_fault}
 use Rattle.ob_exec.specs.Serving.{IsServed}
 
 -- no SELECT of rows is served
@@ -31,7 +32,8 @@ served_uncounted (Insert table columns values) served = refl
 served_uncounted (Update table sets cond) served = refl
 served_uncounted (Delete table cond) served = refl
 served_uncounted (DropTable table) served = refl
-served_uncounted (SelectStmt s) served = ap (λ (items : Option (List Listed)). not (list_any is_aggregate (listed items) || is_some s.group)) served.list
+served_uncounted (RowsStmt s) served = absurd served
+served_uncounted (TotalsStmt s) served = refl
 
 -- ---- how it ends
 done_cut : (k : ℕ) → IsDone (Cut k) → ⊥
@@ -43,38 +45,16 @@ done_after (inl is) = cc is
 done_after (inr is) = cc is
 
 refused_cut : (r : Refusal) (k n : ℕ) → refused_end r (Cut k) n → k ≡ n
-refused_cut (Syntax at) k n is = absurd (done_cut k is)
-refused_cut NoTable k n is = absurd (done_cut k is)
-refused_cut NameTaken k n is = absurd (done_cut k is)
-refused_cut NoColumn k n is = absurd (done_cut k is)
-refused_cut WrongType k n is = absurd (done_cut k is)
-refused_cut ValueRange k n is = absurd (done_cut k is)
-refused_cut Limit k n is = absurd (done_cut k is)
-refused_cut KeyRule k n is = absurd (done_cut k is)
-refused_cut JoinKey k n is = absurd (done_cut k is)
-refused_cut Duplicate k n is = absurd (done_cut k is)
-refused_cut Full k n is = absurd (done_cut k is)
-refused_cut TooManyGroups k n is = absurd (done_cut k is)
-refused_cut NotConsecutive k n is = absurd (done_cut k is)
-refused_cut (Overflow i) k n is = absurd (done_cut k is)
-refused_cut StoreFault k n is = cc is
+refused_cut r k n is = go (is_store_fault r) is where
+  go : (failed : Bool) → by_fault failed (Cut k ≡ Cut n) (IsDone (Cut k)) → k ≡ n
+  go true is = cc is
+  go false is = absurd (done_cut k is)
 
 refused_after : (r : Refusal) (n : ℕ) → refused_end r AfterCount n → ⊥
-refused_after (Syntax at) n is = done_after is
-refused_after NoTable n is = done_after is
-refused_after NameTaken n is = done_after is
-refused_after NoColumn n is = done_after is
-refused_after WrongType n is = done_after is
-refused_after ValueRange n is = done_after is
-refused_after Limit n is = done_after is
-refused_after KeyRule n is = done_after is
-refused_after JoinKey n is = done_after is
-refused_after Duplicate n is = done_after is
-refused_after Full n is = done_after is
-refused_after TooManyGroups n is = done_after is
-refused_after NotConsecutive n is = done_after is
-refused_after (Overflow i) n is = done_after is
-refused_after StoreFault n is = cc is
+refused_after r n is = go (is_store_fault r) is where
+  go : (failed : Bool) → by_fault failed (AfterCount ≡ Cut n) (IsDone AfterCount) → ⊥
+  go true is = cc is
+  go false is = done_after is
 
 ends_cut : (result : Result Outcome Stop) (k n : ℕ) → EndsBy result (Cut k) n → k ≡ n
 ends_cut (Ok (Refused r)) k n is = refused_cut r k n is
@@ -117,18 +97,19 @@ static_as : (o : Option Refusal) (result : Result Outcome Stop) (now : Seen) →
 static_as None result now early = (λ is. absurd (early is), λ some. absurd (cc some))
 static_as (Some r) result now early = (λ is. refl, λ some. ap (λ (x : Seen). x.end) early.1)
 
+-- nothing is held
+held_nothing : (stmt : Stmt) (end : End) → is_counted stmt ≡ false → (end ≡ AfterCount → ⊥) → EndsUncounted stmt end
+held_nothing stmt Static uncounted after = tt
+held_nothing stmt Whole uncounted after = uncounted
+held_nothing stmt AfterCount uncounted after = after refl
+held_nothing stmt (Cut n) uncounted after = tt
+
 plain : (p : Public) (m : ℕ) (stmt : Stmt) (result : Result Outcome Stop) (end : End) (before after : List Access) → is_counted stmt ≡ false
     → RefusedEarly (refusal_now p m stmt) result (ended end) → after ≡ before ++ script p (skeleton stmt) (ended end) → EndsBy result end (length after - length before)
     → Lawful p m stmt (ended end)
 plain p m stmt result end before after uncounted early asked ends = record {
   static = static_as (refusal_now p m stmt) result (ended end) early;
-  counted_only = tt;
-  counted = λ counted whole. absurd (cc (counted, uncounted));
-  plan = tt;
-  plan_only = refl;
-  then = tt;
-  refused = tt;
-  after_count = λ is. absurd (ends_after result (length after - length before) (subst (λ (e : End). EndsBy result e (length after - length before)) is ends));
+  holds = held_nothing stmt end uncounted (λ is. ends_after result (length after - length before) (subst (λ (e : End). EndsBy result e (length after - length before)) is ends));
   cut = within p (skeleton stmt) result end before after asked ends;
 }
 

@@ -36,7 +36,9 @@ use Rattle.ob_exec.specs.declared.engine.Engine.{Engine}
 use Rattle.ob_exec.specs.declared.outcome.Outcome.{Outcome}
 use Rattle.ob_exec.specs.declared.outcome.Outcome.TheVariants.{Created, Inserted, Changed, Deleted, Dropped, Rows, Refused}
 use Rattle.ob_exec.specs.Engines.{IsFree, AreTables}
-use Rattle.ob_exec.specs.Refusals.{IsEarly}
+use Rattle.ob_exec.specs.Refusals.{IsEarly, by_fault}
+use Rattle.ob_base.specs.Counts.{Rises}
+use Rattle.ob_base.specs.Refusals.{is_store_fault}
 use Rattle.ob_exec.specs.Agreeing.{Agrees, world_of}
 use Rattle.ob_exec.specs.Opening.{Opens}
 use Rattle.ob_exec.specs.Running.{answer_of, is_stop, IsDone, refused_end, refused_cause, EndsBy, RunCause, GoesOn, Continues, Ran}
@@ -56,39 +58,15 @@ unfolding makes
 makes_none = refl
 
 -- a refusal before any access is none by the store
+pub of_other : (cut whole : Type 0) (failed : Bool) → failed ≡ false → whole → by_fault failed cut whole
+of_other cut whole true e h = absurd (cc e)
+of_other cut whole false e h = h
+
 pub early_end : (r : Refusal) (end : End) (n : ℕ) → IsEarly r → IsDone end → refused_end r end n
-early_end (Syntax at) end n early done = done
-early_end NoTable end n early done = done
-early_end NameTaken end n early done = done
-early_end NoColumn end n early done = done
-early_end WrongType end n early done = done
-early_end ValueRange end n early done = done
-early_end Limit end n early done = done
-early_end KeyRule end n early done = done
-early_end JoinKey end n early done = done
-early_end Duplicate end n early done = done
-early_end Full end n early done = done
-early_end TooManyGroups end n early done = done
-early_end NotConsecutive end n early done = done
-early_end (Overflow i) end n early done = done
-early_end StoreFault end n early done = absurd early
+early_end r end n early done = of_other (end ≡ Cut n) (IsDone end) (is_store_fault r) early done
 
 pub early_cause : (r : Refusal) (a b : World) → IsEarly r → b.store.faults ≡ a.store.faults → (Calm a → Calm b) → refused_cause r a b
-early_cause (Syntax at) a b early faults calm = (faults, calm)
-early_cause NoTable a b early faults calm = (faults, calm)
-early_cause NameTaken a b early faults calm = (faults, calm)
-early_cause NoColumn a b early faults calm = (faults, calm)
-early_cause WrongType a b early faults calm = (faults, calm)
-early_cause ValueRange a b early faults calm = (faults, calm)
-early_cause Limit a b early faults calm = (faults, calm)
-early_cause KeyRule a b early faults calm = (faults, calm)
-early_cause JoinKey a b early faults calm = (faults, calm)
-early_cause Duplicate a b early faults calm = (faults, calm)
-early_cause Full a b early faults calm = (faults, calm)
-early_cause TooManyGroups a b early faults calm = (faults, calm)
-early_cause NotConsecutive a b early faults calm = (faults, calm)
-early_cause (Overflow i) a b early faults calm = (faults, calm)
-early_cause StoreFault a b early faults calm = absurd early
+early_cause r a b early faults calm = of_other (Rises a.store.faults b.store.faults × (Calm a → Calm b)) ((b.store.faults ≡ a.store.faults) × (Calm a → Calm b)) (is_store_fault r) early (faults, calm)
 
 -- the room after a pass
 pub free_after : (public : Public) (old new : RoomState) (high : ℕ) → IsFree public old → new ≡ record old { high = high } → IsFree public new

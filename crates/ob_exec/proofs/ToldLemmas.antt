@@ -1,6 +1,6 @@
 -- What a statement did is what it means.
 use Rattle.std.proofs.Common.{◌≡◌, ◌⊎◌, inl, inr, ◌-◌, ℕ, arith, Result, Bool, true, false, List, length, Option, Some, None, Ok, Err, [], refl, sym, ◌∙◌, ap, subst}
-use Rattle.std.specs.Prelude.{◌<◌, nat_lt, IfOk, OnErr, ⊤, ◌∷◌}
+use Rattle.std.specs.Prelude.{◌<◌, nat_le, IfOk, OnErr, ⊤, ◌∷◌}
 use Rattle.ob_base.specs.declared.config.Public.{Public}
 use Rattle.ob_base.specs.declared.refusal.Refusal.{Refusal}
 use Rattle.ob_base.specs.declared.refusal.Refusal.TheVariants.{Syntax, NoTable, NameTaken, NoColumn, WrongType, ValueRange, Limit, KeyRule, JoinKey, Duplicate, Full, TooManyGroups, NotConsecutive, Overflow, StoreFault}
@@ -25,14 +25,14 @@ use Rattle.ob_sql.specs.declared.stmt.Stmt.{Stmt}
 use Rattle.ob_sql.specs.Skeleton.{skeleton}
 use Rattle.ob_mean.specs.declared.answer.Answer.{Answer}
 use Rattle.ob_mean.specs.declared.answer.Answer.TheVariants as A
-use Rattle.ob_mean.specs.Headings.{headings_of}
+use Rattle.ob_base.specs.Stored.{headings_of}
 use Rattle.ob_mean.specs.Prints.{Prints, labels_of}
 use Rattle.ob_mean.specs.Refusals.{first_holding, early_conditions, early_refusal}
 use Rattle.ob_mean.specs.Settle.{settled}
 use Rattle.ob_mean.specs.Step.{accepted_answer, answered, followed}
 use Rattle.ob_mean.proofs.VerdictLemmas.{refused_early, seen_early, seen_late}
 use Rattle.ob_mean.proofs.EarlyLemmas.{allowed}
-use Rattle.ob_mean.specs.Replay.{held_if, cut_at, count_end, first_end}
+use Rattle.ob_mean.specs.Replay.{held_if, done_of, cut_at, count_end, walk_end}
 use Rattle.ob_mean.specs.Verdict.{Tables, database, is_late, refusal, verdict, seen, seen_started, ended as seen_to}
 use Rattle.ob_flat.specs.declared.flat.Flat.{Flat}
 use Rattle.ob_flat.specs.Words.{TamperedIn}
@@ -41,10 +41,11 @@ use Rattle.ob_exec.specs.declared.outcome.Outcome.{Outcome}
 use Rattle.ob_exec.specs.declared.outcome.Outcome.TheVariants.{Created, Inserted, Changed, Deleted, Dropped, Rows, Refused}
 use Rattle.ob_exec.specs.Agreeing.{world_of}
 use Rattle.ob_exec.specs.Refusals.{IsEarly}
+use Rattle.ob_base.specs.Refusals.{is_store_fault}
 use Rattle.ob_exec.specs.Running.{answer_of, is_stop, refusal_now, RefusedEarly, Emits, IsSilent, SinkCause}
 use Rattle.ob_exec.specs.Telling.{AreHeld, Represents, Told, Emitted, outcome_of, told_refusal, told_outcome}
 use Rattle.ob_exec.proofs.HeldLemmas.{held_headings}
-use Rattle.ob_exec.proofs.RunLemmas.{IsAnswered, early_few, engine_after}
+use Rattle.ob_exec.proofs.RunLemmas.{of_other, IsAnswered, early_few, engine_after}
 
 -- the refusal by what is public is that by the tables in place
 pub early_held : (p : Public) (m : ℕ) (stmt : Stmt) (tables : Tables) (w : World) (o : Option Refusal) → AreHeld p.pack p.tables tables w → refusal_now p m stmt ≡ o
@@ -61,21 +62,7 @@ module _ (p : Public) (m : ℕ) (stmt : Stmt) (now : refusal_now p m stmt ≡ No
   few_asked n same = early_few m n (allowed (is_late m) p.pack p.buffer (headings_of p.tables) stmt now).early same
 
 pub told_early : (r : Refusal) (whole cut : Type 0) → IsEarly r → whole → told_refusal r whole cut
-told_early (Syntax at) whole cut early is = is
-told_early NoTable whole cut early is = is
-told_early NameTaken whole cut early is = is
-told_early NoColumn whole cut early is = is
-told_early WrongType whole cut early is = is
-told_early ValueRange whole cut early is = is
-told_early Limit whole cut early is = is
-told_early KeyRule whole cut early is = is
-told_early JoinKey whole cut early is = is
-told_early Duplicate whole cut early is = is
-told_early Full whole cut early is = is
-told_early TooManyGroups whole cut early is = is
-told_early NotConsecutive whole cut early is = is
-told_early (Overflow i) whole cut early is = is
-told_early StoreFault whole cut early is = absurd early
+told_early r whole cut early is = of_other cut whole (is_store_fault r) early is
 
 -- an answer that is none by the store
 pub told_whole : (outcome : Outcome) (whole cut : Type 0) → IsAnswered outcome → whole → told_outcome outcome whole cut
@@ -92,15 +79,15 @@ held_none true o is = is
 held_none false o is = refl
 
 -- nothing but the end is seen of a statement without a count that was cut off
-cut_seen : (p : Public) (s : Skeleton) (n k : ℕ) (now : Seen) → now ≡ seen_to Whole → n ≡ k → seen_to (Cut n) ≡ cut_at k p s now
-cut_seen p s n k now whole same =
+cut_seen : (failed : Bool) (p : Public) (s : Skeleton) (n k : ℕ) (now : Seen) → now ≡ seen_to Whole → n ≡ k → seen_to (Cut n) ≡ cut_at failed k p s now
+cut_seen failed p s n k now whole same =
     (λ i. record {
-      k = sym (held_none (nat_lt (count_end p s) k) (seen_to (Cut k)).k refl) i;
-      plan = sym (held_none (nat_lt (count_end p s) k) (seen_to (Cut k)).plan refl) i;
-      then = sym (held_none (nat_lt (first_end p s (seen_to Whole)) k) (seen_to (Cut k)).then refl) i;
+      k = sym (held_none (nat_le (count_end p s) (done_of failed k)) (seen_to (Cut k)).k refl) i;
+      plan = sym (held_none (nat_le (count_end p s) (done_of failed k)) (seen_to (Cut k)).plan refl) i;
+      then = sym (held_none (nat_le (walk_end p s (seen_to Whole)) (done_of failed k)) (seen_to (Cut k)).then refl) i;
       end = Cut (same i);
     })
-    ∙ ap (cut_at k p s) (sym whole)
+    ∙ ap (cut_at failed k p s) (sym whole)
 
 -- nothing but its end is seen of a statement
 pub plain_as : (now : Seen) (end : End) → now ≡ seen_to end → now ≡ seen_to now.end
@@ -118,7 +105,7 @@ pub told_no_room : {R : Type 0} (state : R → RevState) (old : Engine R) (s t :
     → Told state stmt (length s.asked) tables (Err Stops.NoMemory) old (engine_after old old.vault old.room ts (Cut 0) true) t
 told_no_room state old s t stmt tables ts rests whole =
     let same : length t.asked ≡ length s.asked = ap length rests.asked in
-    cut_seen old.public (skeleton stmt) 0 _ _ whole (omega (arith, same))
+    cut_seen false old.public (skeleton stmt) 0 _ _ whole (omega (arith, same))
 
 -- the block was not refused
 abbrev pub IsFault : OpErr → Type 0
@@ -131,10 +118,10 @@ module _ {R : Type 0} (state : R → RevState) (old : Engine R) (m : ℕ) (v : V
   pub told_cut : (e : OpErr) (n : ℕ) → IsFault e → n ≡ length t.asked - m → seen old.public m tables stmt ≡ seen_to Whole
       → AreHeld old.public.pack old.public.tables tables (at state v t)
       → Told state stmt m tables (answer_of e) old (engine_after old v room old.public.tables (Cut n) (is_stop (answer_of e))) t
-  told_cut OpErrs.Failed n fault count whole held = record { seen = cut_seen old.public (skeleton stmt) n _ _ whole count; held = record { held = held } }
+  told_cut OpErrs.Failed n fault count whole held = record { seen = cut_seen true old.public (skeleton stmt) n _ _ whole count; held = record { held = held } }
   told_cut (OpErrs.Tampered q x) n fault count whole held = absurd fault
-  told_cut OpErrs.Sink n fault count whole held = cut_seen old.public (skeleton stmt) n _ _ whole count
-  told_cut OpErrs.NoMemory n fault count whole held = cut_seen old.public (skeleton stmt) n _ _ whole count
+  told_cut OpErrs.Sink n fault count whole held = cut_seen false old.public (skeleton stmt) n _ _ whole count
+  told_cut OpErrs.NoMemory n fault count whole held = cut_seen false old.public (skeleton stmt) n _ _ whole count
 
 -- an error that the store or want of memory made
 pub fault_made : (e : OpErr) → (e ≡ OpErrs.Failed) ⊎ (e ≡ OpErrs.NoMemory) → IsFault e
@@ -190,7 +177,7 @@ holding_early ((true, q) ∷ xs) r early is = let same : q ≡ r = cc is in subs
 holding_early ((false, q) ∷ xs) r early is = holding_early xs r early.1 is
 
 pub early_is : (p : Public) (m : ℕ) (stmt : Stmt) (r : Refusal) → refusal_now p m stmt ≡ Some r → IsEarly r
-early_is p m stmt r is = holding_early (early_conditions (is_late m) p.pack p.buffer (headings_of p.tables) stmt) r (tt, (tt, (tt, (tt, (tt, (tt, (tt, (tt, tt)))))))) is
+early_is p m stmt r is = holding_early (early_conditions (is_late m) p.pack p.buffer (headings_of p.tables) stmt) r (refl, (refl, (refl, (refl, (refl, (refl, (refl, (refl, tt)))))))) is
 
 pub refused_none : (o : Option Refusal) (result : Result Outcome Stop) (now : Seen) → o ≡ None → (now.end ≡ Static → ⊥) → RefusedEarly o result now
 refused_none None result now is started = started

@@ -30,17 +30,6 @@ pub record IsConfig (config : Config) : Type 0 where
   pub depth_least : 1 ≤ config.depth
   pub depth_most : config.depth ≤ 8
 
--- what is public before the first statement
-abbrev pub first_public : Config → Public
-first_public config = record {
-  tables = [];
-  next_region = 1;
-  buffer = config.buffer;
-  depth = config.depth;
-  pack = config.pack;
-  plan = config.plan;
-}
-
 -- the room has the rows of the buffer, all of them free
 pub record IsFree (public : Public) (room : RoomState) : Type 0 where
   pub idle : IsIdle 1024 room

@@ -1,21 +1,13 @@
 -- Refusals, and who they come from.
+use Rattle.std.specs.Prelude.{◌≡◌, Bool, true, false}
 use Rattle.ob_base.specs.declared.refusal.Refusal.{Refusal}
-use Rattle.ob_base.specs.declared.refusal.Refusal.TheVariants.{Syntax, NoTable, NameTaken, NoColumn, WrongType, ValueRange, Limit, KeyRule, JoinKey, Duplicate, Full, TooManyGroups, NotConsecutive, Overflow, StoreFault}
+use Rattle.ob_base.specs.Refusals.{is_store_fault}
 
 -- a refusal that is none by the store
 abbrev pub IsEarly : Refusal → Type 0
-IsEarly (Syntax at) = Unit {0}
-IsEarly NoTable = Unit {0}
-IsEarly NameTaken = Unit {0}
-IsEarly NoColumn = Unit {0}
-IsEarly WrongType = Unit {0}
-IsEarly ValueRange = Unit {0}
-IsEarly Limit = Unit {0}
-IsEarly KeyRule = Unit {0}
-IsEarly JoinKey = Unit {0}
-IsEarly Duplicate = Unit {0}
-IsEarly Full = Unit {0}
-IsEarly TooManyGroups = Unit {0}
-IsEarly NotConsecutive = Unit {0}
-IsEarly (Overflow i) = Unit {0}
-IsEarly StoreFault = ⊥
+IsEarly r = is_store_fault r ≡ false
+
+-- the first where the store failed, else the second
+abbrev pub by_fault : (failed : Bool) → (cut whole : Type 0) → Type 0
+by_fault true cut whole = cut
+by_fault false cut whole = whole

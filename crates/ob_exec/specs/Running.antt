@@ -9,15 +9,17 @@ use Rattle.ob_base.specs.declared.seen.End.{End}
 use Rattle.ob_base.specs.declared.seen.End.TheVariants.{Static, Whole, Cut}
 use Rattle.ob_base.specs.declared.skeleton.Skeleton.{Skeleton}
 use Rattle.ob_base.specs.Counts.{Rises}
+use Rattle.ob_base.specs.Refusals.{is_store_fault}
 use Rattle.ob_base.specs.Events.{Event, Head, Row, Close}
 use Rattle.ob_store.specs.State.{StoreState}
 use Rattle.ob_store.specs.Runs.{Later}
 use Rattle.ob_vault.specs.State.{RevState, World}
+use Rattle.ob_vault.specs.Calls.{EndsRead}
 use Rattle.ob_vault.specs.Tied.{Calm, EndsAt}
 use Rattle.ob_script.specs.Script.{script}
 use Rattle.ob_mean.specs.Refusals.{early_refusal}
 use Rattle.ob_mean.specs.Verdict.{is_late, ended as seen_to}
-use Rattle.ob_mean.specs.Headings.{headings_of}
+use Rattle.ob_base.specs.Stored.{headings_of}
 use Rattle.ob_sql.specs.declared.stmt.Stmt.{Stmt}
 use Rattle.ob_base.specs.declared.config.Public.{Public}
 use Rattle.ob_script.specs.Trace.{next}
@@ -31,6 +33,7 @@ use Rattle.ob_exec.specs.declared.outcome.Outcome.TheVariants.{Created, Inserted
 use Rattle.ob_exec.specs.Agreeing.{Agrees, world_of}
 use Rattle.ob_exec.specs.Engines.{IsFree}
 use Rattle.ob_exec.specs.Opening.{Opens}
+use Rattle.ob_exec.specs.Refusals.{by_fault}
 
 -- the answer, or the stop, that an error of a pass makes
 abbrev pub answer_of : OpErr → Result Outcome Stop
@@ -63,8 +66,7 @@ abbrev pub IsDone : End → Type 0
 IsDone end = (end ≡ Static) ⊎ (end ≡ Whole)
 
 abbrev pub refused_end : Refusal → End → ℕ → Type 0
-refused_end Refusal.StoreFault end n = end ≡ Cut n
-refused_end _ end n = IsDone end
+refused_end r end n = by_fault (is_store_fault r) (end ≡ Cut n) (IsDone end)
 
 -- a statement is cut, after the accesses that it asked, exactly where it was stopped or the store failed
 abbrev pub EndsBy : Result Outcome Stop → End → ℕ → Type 0
@@ -78,11 +80,11 @@ EndsBy (Ok (Rows k)) end n = end ≡ Whole
 EndsBy (Err stop) end n = end ≡ Cut n
 
 abbrev pub refused_cause : Refusal → World → World → Type 0
-refused_cause Refusal.StoreFault old new = Rises old.store.faults new.store.faults × (Calm old → Calm new)
-refused_cause _ old new = (new.store.faults ≡ old.store.faults) × (Calm old → Calm new)
+refused_cause r old new =
+    by_fault (is_store_fault r) (Rises old.store.faults new.store.faults × (Calm old → Calm new)) ((new.store.faults ≡ old.store.faults) × (Calm old → Calm new))
 
--- the store's faults rose exactly where the answer is that it failed; a changed block was read only
--- where the session ends as tampered, at its place, or its tag fits
+-- the store's faults rose exactly where the answer is that it failed; a session that ends as tampered ends with the
+-- read of that place, and a changed block was read only there, or its tag fits
 abbrev pub RunCause : Result Outcome Stop → World → World → Type 0
 RunCause (Ok (Refused r)) old new = refused_cause r old new
 RunCause (Ok Created) old new = (new.store.faults ≡ old.store.faults) × (Calm old → Calm new)
@@ -91,7 +93,7 @@ RunCause (Ok (Changed k)) old new = (new.store.faults ≡ old.store.faults) × (
 RunCause (Ok (Deleted k)) old new = (new.store.faults ≡ old.store.faults) × (Calm old → Calm new)
 RunCause (Ok Dropped) old new = (new.store.faults ≡ old.store.faults) × (Calm old → Calm new)
 RunCause (Ok (Rows k)) old new = (new.store.faults ≡ old.store.faults) × (Calm old → Calm new)
-RunCause (Err (Tampered q x)) old new = (new.store.faults ≡ old.store.faults) × (Calm old → Calm new ⊎ EndsAt q x new)
+RunCause (Err (Tampered q x)) old new = (new.store.faults ≡ old.store.faults) × EndsRead q x new × (Calm old → Calm new ⊎ EndsAt q x new)
 RunCause (Err SinkFault) old new = (new.store.faults ≡ old.store.faults) × (Calm old → Calm new)
 RunCause (Err NoMemory) old new = (new.store.faults ≡ old.store.faults) × (Calm old → Calm new)
 RunCause (Err SourceFault) old new = ⊥

@@ -1,20 +1,13 @@
 -- The statements that are served so far.
-use Rattle.std.specs.Prelude.{◌≡◌, ℕ, List, [], ◌∷◌, Some, None}
-use Rattle.ob_base.specs.declared.skeleton.Source.{Source}
-use Rattle.ob_base.specs.declared.skeleton.Source.TheVariants.{Table as OneTable, Join}
+use Rattle.std.specs.Prelude.{◌≡◌, ℕ, List, [], ◌∷◌, None}
 use Rattle.ob_sql.specs.declared.stmt.Listed.TheVariants.{CountAll}
-use Rattle.ob_sql.specs.declared.stmt.Select.{Select}
+use Rattle.ob_sql.specs.declared.stmt.SelectTotals.{SelectTotals}
 use Rattle.ob_sql.specs.declared.stmt.Stmt.{Stmt}
-use Rattle.ob_sql.specs.declared.stmt.Stmt.TheVariants.{Create, Insert, Update, Delete, Drop as DropTable, Select as SelectStmt}
-
-abbrev pub IsOneTable : Source → Type 0
-IsOneTable (OneTable name) = Unit {0}
-IsOneTable (Join a b on equals) = ⊥
+use Rattle.ob_sql.specs.declared.stmt.Stmt.TheVariants.{Create, Insert, Update, Delete, Drop as DropTable, SelectRows as RowsStmt, SelectTotals as TotalsStmt}
 
 -- SELECT COUNT(*) of a whole table
-pub record IsCount (s : Select) : Type 0 where
-  pub list : s.list ≡ Some (CountAll ∷ [])
-  pub source : IsOneTable s.source
+pub record IsCount (s : SelectTotals) : Type 0 where
+  pub items : s.items ≡ CountAll ∷ []
   pub everything : s.cond ≡ None
   pub ungrouped : s.group ≡ None
 
@@ -24,7 +17,8 @@ IsServed (Insert table columns values) = Unit {0}
 IsServed (Update table sets cond) = ⊥
 IsServed (Delete table cond) = ⊥
 IsServed (DropTable table) = ⊥
-IsServed (SelectStmt s) = IsCount s
+IsServed (RowsStmt s) = ⊥
+IsServed (TotalsStmt s) = IsCount s
 
 abbrev pub count_of : List ℕ → Stmt
-count_of name = SelectStmt (record { list = Some (CountAll ∷ []); source = OneTable name; cond = None; group = None })
+count_of name = TotalsStmt (record { items = CountAll ∷ []; table = name; cond = None; group = None })

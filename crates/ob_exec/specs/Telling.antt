@@ -1,8 +1,9 @@
 -- What the tables of an engine hold, and what a statement means for them.
-use Rattle.std.specs.Prelude.{Bool, ◌≡◌, ◌-◌, ⊤, ℕ, List, [], ◌∷◌, length, Result, Ok, Err}
+use Rattle.std.specs.Prelude.{Bool, true, false, ◌≡◌, ◌-◌, ⊤, ℕ, List, [], ◌∷◌, length, Result, Ok, Err}
 use Rattle.ob_base.specs.declared.config.Public.{Public}
 use Rattle.ob_base.specs.declared.refusal.Refusal.{Refusal}
-use Rattle.ob_base.specs.declared.refusal.Refusal.TheVariants.{Syntax, NoTable, NameTaken, NoColumn, WrongType, ValueRange, Limit, KeyRule, JoinKey, Duplicate, Full, TooManyGroups, NotConsecutive, Overflow, StoreFault}
+use Rattle.ob_base.specs.Refusals.{is_store_fault}
+use Rattle.ob_exec.specs.Refusals.{by_fault}
 use Rattle.ob_base.specs.declared.refusal.Stop.{Stop}
 use Rattle.ob_base.specs.declared.refusal.Stop.TheVariants.{Tampered, SourceFault, SinkFault, NoMemory, InputLimit}
 use Rattle.ob_base.specs.declared.schema.Table.{Table}
@@ -13,7 +14,7 @@ use Rattle.ob_vault.specs.State.{RevState, World}
 use Rattle.ob_vault.specs.Calls.{Seals}
 use Rattle.ob_flat.specs.Flats as F
 use Rattle.ob_sql.specs.declared.stmt.Stmt.{Stmt}
-use Rattle.ob_sql.specs.declared.stmt.Stmt.TheVariants.{Create, Insert, Update, Delete, Drop as DropTable, Select as SelectStmt}
+use Rattle.ob_sql.specs.declared.stmt.Stmt.TheVariants.{Create, Insert, Update, Delete, Drop as DropTable, SelectRows as RowsStmt, SelectTotals as TotalsStmt}
 use Rattle.ob_sql.specs.Skeleton.{skeleton}
 use Rattle.ob_mean.specs.declared.answer.Answer.{Answer}
 use Rattle.ob_mean.specs.declared.answer.Answer.TheVariants as A
@@ -21,7 +22,7 @@ use Rattle.ob_mean.specs.Verdict.{Tables, verdict, seen}
 use Rattle.ob_mean.specs.Settle.{settle}
 use Rattle.ob_mean.specs.Replay.{cut_at}
 use Rattle.ob_mean.specs.Prints.{Prints, Unfinished, Begun, labels_of}
-use Rattle.ob_mean.specs.Headings.{headings_of}
+use Rattle.ob_base.specs.Stored.{headings_of}
 use Rattle.ob_exec.specs.declared.engine.Engine.{Engine}
 use Rattle.ob_exec.specs.declared.outcome.Outcome.{Outcome}
 use Rattle.ob_exec.specs.declared.outcome.Outcome.TheVariants.{Created, Inserted, Changed, Deleted, Dropped, Rows, Refused}
@@ -48,7 +49,8 @@ done_of (Insert table columns values) = Inserted
 done_of (Update table sets cond) = Changed 0
 done_of (Delete table cond) = Deleted 0
 done_of (DropTable table) = Dropped
-done_of (SelectStmt s) = Rows 0
+done_of (RowsStmt s) = Rows 0
+done_of (TotalsStmt s) = Rows 0
 
 abbrev pub changed_of : Stmt → ℕ → Outcome
 changed_of (Delete table cond) n = Deleted n
@@ -67,31 +69,17 @@ pub record Meant {R : Type 0} (state : R → RevState) (stmt : Stmt) (m : ℕ) (
   pub seen : new.seen ≡ seen old.public m tables stmt
   pub held : Represents state new t (settle old.public m tables stmt)
 
--- what is seen of one that was cut off
-abbrev pub SeenCut : {R : Type 0} → Stmt → (m : ℕ) → Tables → (old new : Engine R) → StoreState → Type 0
-SeenCut stmt m tables old new t = new.seen ≡ cut_at (length t.asked - m) old.public (skeleton stmt) (seen old.public m tables stmt)
+-- what is seen of one that was cut off, at an access that failed or behind one
+abbrev pub SeenCut : {R : Type 0} → (failed : Bool) → Stmt → (m : ℕ) → Tables → (old new : Engine R) → StoreState → Type 0
+SeenCut failed stmt m tables old new t = new.seen ≡ cut_at failed (length t.asked - m) old.public (skeleton stmt) (seen old.public m tables stmt)
 
 -- one that the store cut off: the tables are as they were
 pub record Kept {R : Type 0} (state : R → RevState) (stmt : Stmt) (m : ℕ) (tables : Tables) (old new : Engine R) (t : StoreState) : Type 0 where
-  pub seen : SeenCut stmt m tables old new t
+  pub seen : SeenCut true stmt m tables old new t
   pub held : Represents state new t tables
 
 abbrev pub told_refusal : Refusal → (whole cut : Type 0) → Type 0
-told_refusal StoreFault whole cut = cut
-told_refusal (Syntax at) whole cut = whole
-told_refusal NoTable whole cut = whole
-told_refusal NameTaken whole cut = whole
-told_refusal NoColumn whole cut = whole
-told_refusal WrongType whole cut = whole
-told_refusal ValueRange whole cut = whole
-told_refusal Limit whole cut = whole
-told_refusal KeyRule whole cut = whole
-told_refusal JoinKey whole cut = whole
-told_refusal Duplicate whole cut = whole
-told_refusal Full whole cut = whole
-told_refusal TooManyGroups whole cut = whole
-told_refusal NotConsecutive whole cut = whole
-told_refusal (Overflow i) whole cut = whole
+told_refusal r whole cut = by_fault (is_store_fault r) cut whole
 
 -- the first for an answer, the second for one that the store cut off
 abbrev pub told_outcome : Outcome → (whole cut : Type 0) → Type 0
@@ -113,7 +101,7 @@ told_stop InputLimit cut = ⊥
 
 abbrev pub Told : {R : Type 0} → (R → RevState) → Stmt → (m : ℕ) → Tables → Result Outcome Stop → (old new : Engine R) → StoreState → Type 0
 Told state stmt m tables (Ok outcome) old new t = told_outcome outcome (Meant state stmt m tables outcome old new t) (Kept state stmt m tables old new t)
-Told state stmt m tables (Err stop) old new t = told_stop stop (SeenCut stmt m tables old new t)
+Told state stmt m tables (Err stop) old new t = told_stop stop (SeenCut false stmt m tables old new t)
 
 -- ---- what was emitted
 -- a first part of what an answer emits

@@ -3,7 +3,8 @@ ghost use Rattle.std.specs.Prelude.{◌≡◌, ◌≤◌, List, [], IfOk, false}
 ghost use Rattle.ob_base.specs.declared.seen.End.TheVariants.{Static, Whole, Cut};
 ghost use Rattle.ob_store.specs.State.{StoreState};
 ghost use Rattle.ob_mean.specs.Verdict.{ended as seen_to};
-ghost use Rattle.ob_exec.specs.Engines.{IsConfig, first_public};
+ghost use Rattle.ob_exec.specs.Engines.{IsConfig};
+ghost use Rattle.ob_base.specs.Publics.{first_public};
 ghost use Rattle.ob_exec.specs.Agreeing.{Agrees, public_of, seen_of, engine_keys, has_ended, high_of, rows_of};
 ghost use Rattle.ob_exec.specs.Running.{answer_of, is_stop};
 
@@ -49,7 +50,8 @@ impl<R: Revisions> Engine<R> {
     pub fn start(alloc: Global, config: Config, keys: Keys) -> Result<Engine<R>, NoMemory>
         requires { IsConfig config }
         ensures agrees { IfOk result (λ e. (s : StoreState) → s.asked ≡ [] → Agrees R.state e s) }
-        ensures public { IfOk result (λ e. public_of e ≡ first_public config) }
+        ensures public { IfOk result (λ e.
+            public_of e ≡ first_public config.buffer config.depth config.pack config.plan) }
         ensures keyed { IfOk result (λ e. engine_keys e ≡ keys) }
         ensures alive { IfOk result (λ e. has_ended e ≡ false) }
         ensures none_open { IfOk result (λ e. high_of e ≡ 0) }

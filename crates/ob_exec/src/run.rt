@@ -12,7 +12,7 @@ ghost use Rattle.ob_exec.specs.Telling.{KeepsSealed, Represents, Told, Emitted};
 
 use crate::engine::{Engine, LATE};
 use crate::outcome::Outcome;
-use ob_base::{Emit, Source, Stop};
+use ob_base::{Emit, Stop};
 use ob_mean::early_refusal;
 use ob_sql::Stmt;
 use ob_store::BlockStore;
@@ -66,11 +66,11 @@ impl<R: Revisions> Engine<R> {
                 columns,
                 values,
             } => self.insert(store, table, columns, values.as_slice()),
-            Stmt::Select(select) => match &select.source {
-                Source::Table(table) => self.count_all(store, table, out),
-                Source::Join { .. } => unreachable!(),
-            },
-            Stmt::Update { .. } | Stmt::Delete { .. } | Stmt::Drop { .. } => unreachable!(),
+            Stmt::SelectTotals(select) => self.count_all(store, &select.table, out),
+            Stmt::Update { .. }
+            | Stmt::Delete { .. }
+            | Stmt::Drop { .. }
+            | Stmt::SelectRows(_) => unreachable!(),
         }
     }
 }

@@ -3,8 +3,7 @@ ghost use Rattle.std.specs.Prelude.{◌≡◌, ◌↔◌, [], ◌∷◌, IsTrue}
 ghost use Rattle.ob_sql.specs.declared.stmt.Listed.TheVariants.{CountAll};
 ghost use Rattle.ob_exec.specs.Serving.{IsCount, IsServed};
 
-use ob_base::Source;
-use ob_sql::{Listed, Select, Stmt};
+use ob_sql::{Listed, SelectTotals, Stmt};
 
 fn is_count_alone(items: &[Listed]) -> bool
     ensures { IsTrue result ↔ (items.now ≡ CountAll ∷ []) }
@@ -15,11 +14,11 @@ fn is_count_alone(items: &[Listed]) -> bool
     }
 }
 
-fn is_count(select: &Select) -> bool
+fn is_count(select: &SelectTotals) -> bool
     ensures { IsTrue result ↔ IsCount select.now }
 {
-    match (&select.list, &select.source, &select.cond, &select.group) {
-        (Some(items), Source::Table(_), None, None) => is_count_alone(items.as_slice()),
+    match (&select.cond, &select.group) {
+        (None, None) => is_count_alone(select.items.as_slice()),
         _ => false,
     }
 }
@@ -31,7 +30,10 @@ pub fn is_served(stmt: &Stmt) -> bool
     match stmt {
         Stmt::Create { .. } => true,
         Stmt::Insert { .. } => true,
-        Stmt::Select(select) => is_count(select),
-        Stmt::Update { .. } | Stmt::Delete { .. } | Stmt::Drop { .. } => false,
+        Stmt::SelectTotals(select) => is_count(select),
+        Stmt::Update { .. }
+        | Stmt::Delete { .. }
+        | Stmt::Drop { .. }
+        | Stmt::SelectRows(_) => false,
     }
 }

@@ -1,7 +1,7 @@
 use ob_base::{ColumnName, Config, Items, Name, NewColumn, NewKind, Refusal, Shown, Source};
 use ob_mean::Answer;
 use ob_reference::reference;
-use ob_sql::{Listed, Literal, Select, Stmt};
+use ob_sql::{Listed, Literal, SelectRows, SelectTotals, Stmt};
 use std::alloc::{AllocError, Global};
 use std::test::Fail;
 
@@ -29,13 +29,12 @@ fn insert(alloc: Global) -> Result<Stmt, AllocError> {
     })
 }
 
-// SELECT *, or the count and the sum of each group.
-fn select(list: Option<Items<Listed>>, group: Option<ColumnName>) -> Stmt {
-    Stmt::Select(Select {
-        list,
+// SELECT *.
+fn select_all() -> Stmt {
+    Stmt::SelectRows(SelectRows {
+        list: None,
         source: Source::Table(Name::from_bytes(b"t")),
         cond: None,
-        group,
     })
 }
 
@@ -46,11 +45,17 @@ fn column() -> ColumnName {
     }
 }
 
+// The count and the sum of each group.
 fn grouped(alloc: Global) -> Result<Stmt, AllocError> {
-    let mut list = Vec::new(alloc);
-    list.push(Listed::CountAll)?;
-    list.push(Listed::Sum(column()))?;
-    Ok(select(Some(Items::from_vec(list)), Some(column())))
+    let mut items = Vec::new(alloc);
+    items.push(Listed::CountAll)?;
+    items.push(Listed::Sum(column()))?;
+    Ok(Stmt::SelectTotals(SelectTotals {
+        items: Items::from_vec(items),
+        table: Name::from_bytes(b"t"),
+        cond: None,
+        group: Some(column()),
+    }))
 }
 
 fn given(alloc: Global) -> Result<Vec<Stmt>, AllocError> {
@@ -59,7 +64,7 @@ fn given(alloc: Global) -> Result<Vec<Stmt>, AllocError> {
     stmts.push(insert(alloc)?)?;
     stmts.push(insert(alloc)?)?;
     stmts.push(insert(alloc)?)?;
-    stmts.push(select(None, None))?;
+    stmts.push(select_all())?;
     stmts.push(grouped(alloc)?)?;
     Ok(stmts)
 }

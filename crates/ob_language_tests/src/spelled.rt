@@ -2,7 +2,9 @@
 //! each comparison, NOT, AND and OR in parentheses of its own.
 use ob_base::{ColumnName, Name, NewColumn, NewKind, Source};
 use ob_row::Order;
-use ob_sql::{Against, Cond, CondTree, Listed, Literal, Select, Set, Stmt};
+use ob_sql::{
+    Against, Cond, CondTree, Listed, Literal, SelectRows, SelectTotals, Set, Stmt,
+};
 use std::alloc::{AllocError, Global};
 
 /// The statement, written out.
@@ -50,7 +52,8 @@ pub(crate) fn spelled(alloc: Global, stmt: &Stmt) -> Result<String, AllocError> 
             filter(&mut out, cond)?;
         }
         Stmt::Drop { table } => headed(&mut out, "drop ", table)?,
-        Stmt::Select(found) => selection(&mut out, found)?,
+        Stmt::SelectRows(found) => rows(&mut out, found)?,
+        Stmt::SelectTotals(found) => totals(&mut out, found)?,
     }
     Ok(out)
 }
@@ -170,12 +173,12 @@ fn item(out: &mut String, item: &Listed) -> Result<(), AllocError> {
     }
 }
 
-fn selection(out: &mut String, select: &Select) -> Result<(), AllocError> {
+fn rows(out: &mut String, select: &SelectRows) -> Result<(), AllocError> {
     out.push_str("select")?;
     match &select.list {
-        Some(items) => {
-            for listed in items.as_slice() {
-                item(out, listed)?;
+        Some(columns) => {
+            for named in columns.as_slice() {
+                of_column(out, " ", named)?;
             }
         }
         None => out.push_str(" all")?,
@@ -194,6 +197,15 @@ fn selection(out: &mut String, select: &Select) -> Result<(), AllocError> {
             of_column(out, " = ", equals)?;
         }
     }
+    filter(out, &select.cond)
+}
+
+fn totals(out: &mut String, select: &SelectTotals) -> Result<(), AllocError> {
+    out.push_str("totals")?;
+    for listed in select.items.as_slice() {
+        item(out, listed)?;
+    }
+    headed(out, " from ", &select.table)?;
     filter(out, &select.cond)?;
     match &select.group {
         Some(named) => of_column(out, " group ", named),

@@ -461,10 +461,10 @@ fn changed(rt: HostRuntime) -> Result<(), Fail> {
 #[test]
 fn selected(rt: HostRuntime) -> Result<(), Fail> {
     let cases = [
-        ("SELECT COUNT(*) FROM t;", "select count-all from t"),
+        ("SELECT COUNT(*) FROM t;", "totals count-all from t"),
         (
             "SELECT COUNT(*) FROM t WHERE v = 5;",
-            "select count-all from t where (v = 5)",
+            "totals count-all from t where (v = 5)",
         ),
         ("SELECT * FROM t;", "select all from t"),
         ("SELECT * FROM s;", "select all from s"),
@@ -494,15 +494,15 @@ fn selected(rt: HostRuntime) -> Result<(), Fail> {
         ),
         (
             "SELECT v, COUNT(*), SUM(id) FROM t GROUP BY v;",
-            "select v count-all sum:id from t group v",
+            "totals v count-all sum:id from t group v",
         ),
         (
             "SELECT COUNT(*), SUM(v), MIN(v), MAX(v) FROM t;",
-            "select count-all sum:v min:v max:v from t",
+            "totals count-all sum:v min:v max:v from t",
         ),
         (
             "SELECT v, id FROM t GROUP BY v;",
-            "select v id from t group v",
+            "totals v id from t group v",
         ),
         ("SELECT x FROM t;", "select x from t"),
         (
@@ -543,7 +543,7 @@ fn selected(rt: HostRuntime) -> Result<(), Fail> {
         ),
         (
             "SELECT v, COUNT(*) FROM g GROUP BY v;",
-            "select v count-all from g group v",
+            "totals v count-all from g group v",
         ),
         (
             "SELECT * FROM g JOIN h ON g.id = h.k;",
@@ -551,7 +551,7 @@ fn selected(rt: HostRuntime) -> Result<(), Fail> {
         ),
         (
             "SELECT COUNT(*), SUM(v) FROM g;",
-            "select count-all sum:v from g",
+            "totals count-all sum:v from g",
         ),
         (
             "select A from T where a <> -1 and B != '' or c <= d -- e\n;",
@@ -563,7 +563,7 @@ fn selected(rt: HostRuntime) -> Result<(), Fail> {
         ),
         (
             "SELECT t.a, COUNT(t.b) FROM t WHERE a = 1 OR b = 2 AND c = 3 OR d = 4 GROUP BY t.a;",
-            "select t.a count:t.b from t where (((a = 1) or ((b = 2) and (c = 3))) or (d = 4)) group t.a",
+            "totals t.a count:t.b from t where (((a = 1) or ((b = 2) and (c = 3))) or (d = 4)) group t.a",
         ),
         (
             "SELECT a FROM t WHERE a = 1 AND NOT b = 2 AND (c = 3 OR d = 4);",
@@ -579,7 +579,7 @@ fn selected(rt: HostRuntime) -> Result<(), Fail> {
         ),
         (
             "SELECT COUNT(*) FROM t WHERE ((((((((((((((((((((((((((((((((v = 1))))))))))))))))))))))))))))))));",
-            "select count-all from t where (v = 1)",
+            "totals count-all from t where (v = 1)",
         ),
     ];
     spells(&rt, rt.alloc(), &cases)

@@ -7,7 +7,7 @@ use Rattle.ob_base.specs.declared.refusal.Refusal.{Refusal}
 use Rattle.ob_base.specs.declared.refusal.Refusal.TheVariants.{NoTable, NameTaken, NoColumn, WrongType, ValueRange, Limit, KeyRule, JoinKey}
 use Rattle.ob_base.specs.declared.schema.Heading.{Heading}
 use Rattle.ob_base.specs.declared.skeleton.NewColumn.{NewColumn}
-use Rattle.ob_base.specs.Limits.{is_between}
+use Rattle.std.specs.Int.{is_in_range}
 use Rattle.ob_base.specs.Schemas.{width, columns_of}
 use Rattle.ob_sql.specs.declared.stmt.Stmt.{Stmt}
 use Rattle.ob_mean.specs.Refusals.{first_holding, early_refusal, is_size, creates_past, is_past_limit, lacks_table, takes_name, lacks_column, has_wrong_type, is_out_of_range, breaks_key_rule, joins_off_key}
@@ -76,7 +76,7 @@ pub record IsWithin (hs : List Heading) (table : List ℕ) (columns : List NewCo
   pub wide : width (columns_of table columns) ≤ 1024
   pub tables : length hs < 64
 
-bounds : (low high n : ℕ) → not (is_between low high n) ≡ false → (low ≤ n) × (n ≤ high)
+bounds : (low high n : ℕ) → not (is_in_range low high n) ≡ false → (low ≤ n) × (n ≤ high)
 bounds low high n h = (grind (arith, nat_tests), grind (arith, nat_tests))
 
 at_most : (n m : ℕ) → nat_lt n m ≡ false → m ≤ n
@@ -96,7 +96,7 @@ five false false false false false h = (refl, refl, refl, refl, refl)
 
 pub within : (hs : List Heading) (table : List ℕ) (columns : List NewColumn) (capacity : ℕ) → creates_past hs table columns capacity ≡ false → IsWithin hs table columns capacity
 within hs table columns capacity h =
-    let all = five (not (is_between 1 1048576 capacity)) (not (is_between 1 16 (length columns))) (list_any (λ (c : NewColumn). not (is_size c.kind)) columns)
+    let all = five (not (is_in_range 1 1048576 capacity)) (not (is_in_range 1 16 (length columns))) (list_any (λ (c : NewColumn). not (is_size c.kind)) columns)
     (nat_lt 1024 (width (columns_of table columns))) (nat_le 64 (length hs)) h in
     let capacity_is = bounds 1 1048576 capacity all.0 in
     let length_is = bounds 1 16 (length columns) all.1 in

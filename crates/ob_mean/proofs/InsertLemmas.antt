@@ -22,7 +22,7 @@ use Rattle.ob_row.specs.Spelling.{FitsKind, IsCell, Fits}
 use Rattle.ob_sql.specs.declared.stmt.Literal.{Literal}
 use Rattle.ob_sql.specs.declared.stmt.Literal.TheVariants.{Int as IntLiteral, OutOfRange, Text as TextLiteral, TooLong}
 use Rattle.ob_sql.specs.declared.stmt.Stmt.TheVariants.{Insert}
-use Rattle.ob_mean.specs.Names.{is_named, unqualified, cell_of, columns_at}
+use Rattle.ob_mean.specs.Names.{is_named, unqualified, literal_cell, columns_at}
 use Rattle.ob_mean.specs.Kinds.{is_of_kind, is_too_large_for, at_kind}
 use Rattle.ob_mean.specs.Refusals.{insert_columns, means_one, is_incomplete, early_refusal}
 use Rattle.ob_mean.specs.Step.{given_cell, new_row}
@@ -151,14 +151,14 @@ all_found (c ∷ cs) h =
 literal_of : (p q : ColumnName × Literal → Bool) (c : Column) (names : List (List ℕ)) (values : List Literal) →
     length names ≤ length values → list_any (bytes_eq c.name) names ≡ true →
     list_any p (zip (map unqualified names) values) ≡ false → list_any q (zip (map unqualified names) values) ≡ false →
-    (v : Literal) × (given_cell (zip names values) c ≡ cell_of v ∷ []) × (p (unqualified c.name, v) ≡ false) × (q (unqualified c.name, v) ≡ false)
+    (v : Literal) × (given_cell (zip names values) c ≡ literal_cell v ∷ []) × (p (unqualified c.name, v) ≡ false) × (q (unqualified c.name, v) ≡ false)
 literal_of p q c [] values l h hp hq = absurd (false≢true h)
 literal_of p q c (n ∷ names) [] l h hp hq = absurd (omega arith)
 literal_of p q c (n ∷ names) (v ∷ values) l h hp hq =
     let a = neither (p (unqualified n, v)) (list_any p (zip (map unqualified names) values)) hp in
     let b = neither (q (unqualified n, v)) (list_any q (zip (map unqualified names) values)) hq in
     let rest = find (λ (g : List ℕ × Literal). bytes_eq c.name g.0) (zip names values) in
-    let cell : Option (List ℕ × Literal) → List Cell = λ o. option_map_or (λ (g : List ℕ × Literal). cell_of g.1 ∷ []) o [] in
+    let cell : Option (List ℕ × Literal) → List Cell = λ o. option_map_or (λ (g : List ℕ × Literal). literal_cell g.1 ∷ []) o [] in
     elim (cases_Bool (bytes_eq c.name n)) [
       | inl same ↦
           let e : n ≡ c.name = sym (same_name c.name n same) in
@@ -171,7 +171,7 @@ literal_of p q c (n ∷ names) (v ∷ values) l h hp hq =
 at_most : (n m : ℕ) → nat_lt n m ≡ false → m ≤ n
 at_most n m h = grind (arith, nat_tests)
 
-fits_kind : (k : Kind) (v : Literal) → is_of_kind k v ≡ true → is_too_large_for k v ≡ false → IsCell (cell_of v) → FitsKind k (cell_of v)
+pub fits_kind : (k : Kind) (v : Literal) → is_of_kind k v ≡ true → is_too_large_for k v ≡ false → IsCell (literal_cell v) → FitsKind k (literal_cell v)
 fits_kind IntKind (IntLiteral x) h l cell = cell
 fits_kind IntKind OutOfRange h l cell = absurd (true≢false l)
 fits_kind IntKind (TextLiteral t) h l cell = absurd (false≢true h)
@@ -205,7 +205,7 @@ fits_part cs (d ∷ ds) names values l found given typed sized =
     let of_kind : is_of_kind d.kind r.0 ≡ true =
     sym (kind_found (λ k. is_of_kind k r.0) d.name cs d found.0) ∙ not-false (at_kind (λ k. is_of_kind k r.0) (unqualified d.name) cs) r.2 in
     let not_large : is_too_large_for d.kind r.0 ≡ false = sym (kind_found (λ k. is_too_large_for k r.0) d.name cs d found.0) ∙ r.3 in
-    fits_next d ds (given_cell (zip names values) d) (cell_of r.0) (flat_map (given_cell (zip names values)) ds) r.1
+    fits_next d ds (given_cell (zip names values) d) (literal_cell r.0) (flat_map (given_cell (zip names values)) ds) r.1
     (fits_kind d.kind r.0 of_kind not_large) (fits_part cs ds names values l found.1 a.1 typed sized)
 
 -- no more names than columns

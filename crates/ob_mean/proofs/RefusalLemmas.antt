@@ -10,7 +10,7 @@ use Rattle.ob_base.specs.declared.schema.Kind.TheVariants.{Int as IntKind}
 use Rattle.ob_base.specs.declared.skeleton.ColumnName.{ColumnName}
 use Rattle.ob_sql.specs.declared.stmt.Literal.{Literal}
 use Rattle.ob_sql.specs.declared.stmt.Stmt.{Stmt}
-use Rattle.ob_sql.specs.declared.stmt.Stmt.TheVariants.{Create, Insert, Update, Delete, Drop as DropTable, Select as SelectStmt}
+use Rattle.ob_sql.specs.declared.stmt.Stmt.TheVariants.{Create, Insert, Update, Delete, Drop as DropTable, SelectRows as RowsStmt, SelectTotals as TotalsStmt}
 use Rattle.ob_mean.specs.Names.{columns_at, source_columns}
 use Rattle.ob_mean.specs.Kinds.{Comparison, comparison_columns, is_of_kind, is_too_large_for, at_kind, is_wrong_comparison, against_too_large, number_columns}
 use Rattle.ob_mean.specs.Refusals.{assignments, items_of, is_badly_typed, scope_of, compared, named_columns, means_one, joins_apart, has_stray_column, select_lacks_column, lacks_column, has_wrong_type, is_out_of_range}
@@ -26,7 +26,8 @@ scope (Insert table columns values) hs = append-nil (columns_at table hs)
 scope (Update table sets cond) hs = append-nil (columns_at table hs)
 scope (Delete table cond) hs = append-nil (columns_at table hs)
 scope (DropTable table) hs = refl
-scope (SelectStmt s) hs = source_scope s.source hs
+scope (RowsStmt s) hs = source_scope s.source hs
+scope (TotalsStmt s) hs = append-nil (columns_at s.table hs)
 
 apart : (s : Source) (hs : List Heading) → joins_apart_in (left_of_source s hs) (right_of_source s hs) s ≡ joins_apart hs s
 apart (OneTable name) hs = refl
@@ -38,7 +39,8 @@ select_lacks (Insert table columns values) hs = refl
 select_lacks (Update table sets cond) hs = refl
 select_lacks (Delete table cond) hs = refl
 select_lacks (DropTable table) hs = refl
-select_lacks (SelectStmt s) hs = λ t. not (apart s.source hs t) || has_stray_column (source_scope s.source hs t) s
+select_lacks (RowsStmt s) hs = λ t. not (apart s.source hs t)
+select_lacks (TotalsStmt s) hs = λ t. has_stray_column (append-nil (columns_at s.table hs) t) s
 
 pub lacks_is : (stmt : Stmt) (hs : List Heading) → lacks_in (left_of stmt hs) (right_of stmt hs) stmt ≡ lacks_column hs stmt
 lacks_is stmt hs = λ t. list_any (λ name. not (means_one (scope stmt hs t) name)) (named_columns stmt ++ flat_map comparison_columns (compared stmt)) || select_lacks stmt hs t

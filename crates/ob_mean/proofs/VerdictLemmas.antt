@@ -1,23 +1,22 @@
 -- What a statement that is not refused early is answered, and what is seen of it.
 use Rattle.std.proofs.Common.{◌≡◌, ℕ, true, false, cond, List, [], ◌∷◌, length, Option, Some, None, refl, ◌∙◌, ap}
 use Rattle.std.specs.Prelude.{bytes_eq, filter, is_some, if◌then◌else◌, pos}
-use Rattle.std.specs.Option.{option_map, option_map_or}
+use Rattle.std.specs.Option.{option_map, option_map_or, option_or}
 use Rattle.ob_base.specs.declared.config.Public.{Public}
 use Rattle.ob_base.specs.declared.refusal.Refusal.{Refusal}
 use Rattle.ob_base.specs.declared.schema.Heading.{Heading}
 use Rattle.ob_base.specs.declared.seen.End.TheVariants.{Static}
 use Rattle.ob_base.specs.declared.shown.Shown.TheVariants.{Int as ShownInt}
-use Rattle.ob_base.specs.declared.skeleton.Source.TheVariants.{Table as OneTable}
 use Rattle.ob_base.specs.Limits.{buffered}
 use Rattle.ob_base.specs.Stored.{Stored, headings, heading_at, stored_at}
 use Rattle.ob_row.specs.Rows.{Row}
 use Rattle.ob_row.specs.Slots.{Slots, rows}
 use Rattle.ob_sql.specs.declared.stmt.Listed.TheVariants.{CountAll}
 use Rattle.ob_sql.specs.declared.stmt.Stmt.{Stmt}
-use Rattle.ob_sql.specs.declared.stmt.Stmt.TheVariants.{Select as SelectStmt}
+use Rattle.ob_sql.specs.declared.stmt.Stmt.TheVariants.{SelectTotals as TotalsStmt}
 use Rattle.ob_mean.specs.declared.answer.Answer.TheVariants.{Rows}
 use Rattle.ob_mean.specs.Refusals.{early_refusal}
-use Rattle.ob_mean.specs.Step.{rows_at, or_else, late_refusal, accepted_answer, answered}
+use Rattle.ob_mean.specs.Step.{rows_at, late_refusal, accepted_answer, answered}
 use Rattle.ob_mean.specs.Verdict.{Tables, database, is_late, last_refusal, refusal, verdict, seen, seen_started, ended}
 
 pub headings-database : (ts : Tables) → headings (database ts) ≡ headings ts
@@ -42,18 +41,18 @@ heading-stored {A} name (t ∷ ts) =
 module _ (p : Public) (m : ℕ) (ts : Tables) (stmt : Stmt) (r : Refusal) (early : early_refusal (is_late m) p.pack p.buffer (headings ts) stmt ≡ Some r) where
   pub refused_early : refusal p m ts stmt ≡ Some r
   refused_early =
-      ap (λ (hs : List Heading). or_else (or_else (early_refusal (is_late m) p.pack p.buffer hs stmt) (late_refusal (buffered p.pack p.buffer) (database ts) stmt)) (last_refusal p ts stmt)) (headings-database ts)
-      ∙ ap (λ (o : Option Refusal). or_else (or_else o (late_refusal (buffered p.pack p.buffer) (database ts) stmt)) (last_refusal p ts stmt)) early
+      ap (λ (hs : List Heading). option_or (option_or (early_refusal (is_late m) p.pack p.buffer hs stmt) (late_refusal (buffered p.pack p.buffer) (database ts) stmt)) (last_refusal p ts stmt)) (headings-database ts)
+      ∙ ap (λ (o : Option Refusal). option_or (option_or o (late_refusal (buffered p.pack p.buffer) (database ts) stmt)) (last_refusal p ts stmt)) early
 
   pub seen_early : seen p m ts stmt ≡ ended Static
   seen_early = ap (λ (o : Option Refusal). if is_some o then ended Static else seen_started p ts stmt) early
 
 -- ---- not refused early
 module _ (p : Public) (m : ℕ) (ts : Tables) (stmt : Stmt) (early : early_refusal (is_late m) p.pack p.buffer (headings ts) stmt ≡ None) where
-  pub refused_late : refusal p m ts stmt ≡ or_else (late_refusal (buffered p.pack p.buffer) (database ts) stmt) (last_refusal p ts stmt)
+  pub refused_late : refusal p m ts stmt ≡ option_or (late_refusal (buffered p.pack p.buffer) (database ts) stmt) (last_refusal p ts stmt)
   refused_late =
-      ap (λ (hs : List Heading). or_else (or_else (early_refusal (is_late m) p.pack p.buffer hs stmt) (late_refusal (buffered p.pack p.buffer) (database ts) stmt)) (last_refusal p ts stmt)) (headings-database ts)
-      ∙ ap (λ (o : Option Refusal). or_else (or_else o (late_refusal (buffered p.pack p.buffer) (database ts) stmt)) (last_refusal p ts stmt)) early
+      ap (λ (hs : List Heading). option_or (option_or (early_refusal (is_late m) p.pack p.buffer hs stmt) (late_refusal (buffered p.pack p.buffer) (database ts) stmt)) (last_refusal p ts stmt)) (headings-database ts)
+      ∙ ap (λ (o : Option Refusal). option_or (option_or o (late_refusal (buffered p.pack p.buffer) (database ts) stmt)) (last_refusal p ts stmt)) early
 
   pub seen_late : seen p m ts stmt ≡ seen_started p ts stmt
   seen_late = ap (λ (o : Option Refusal). if is_some o then ended Static else seen_started p ts stmt) early
@@ -64,7 +63,7 @@ filter-all [] = refl
 filter-all (x ∷ xs) = ap (λ (ys : List Row). x ∷ ys) (filter-all xs)
 
 abbrev pub count_all : List ℕ → Stmt
-count_all name = SelectStmt (record { list = Some (CountAll ∷ []); source = OneTable name; cond = None; group = None })
+count_all name = TotalsStmt (record { items = CountAll ∷ []; table = name; cond = None; group = None })
 
 pub counted : (p : Public) (m : ℕ) (ts : Tables) (name : List ℕ) (t : Stored Slots) → early_refusal (is_late m) p.pack p.buffer (headings ts) (count_all name) ≡ None
     → stored_at name ts ≡ Some t → verdict p m ts (count_all name) ≡ Rows ((ShownInt (pos (length (rows t.held))) ∷ []) ∷ [])

@@ -12,12 +12,13 @@ use Rattle.ob_base.specs.Schemas.{Columns}
 use Rattle.ob_row.specs.Bags.{Same, Within}
 use Rattle.ob_sql.specs.declared.stmt.Listed.{Listed}
 use Rattle.ob_sql.specs.declared.stmt.Listed.TheVariants.{Column as ListedColumn, CountAll, Count, Sum, Min, Max}
-use Rattle.ob_sql.specs.declared.stmt.Select.{Select}
+use Rattle.ob_sql.specs.declared.stmt.SelectRows.{SelectRows}
+use Rattle.ob_sql.specs.declared.stmt.SelectTotals.{SelectTotals}
 use Rattle.ob_sql.specs.declared.stmt.Stmt.{Stmt}
-use Rattle.ob_sql.specs.declared.stmt.Stmt.TheVariants.{Select as SelectStmt}
+use Rattle.ob_sql.specs.declared.stmt.Stmt.TheVariants.{SelectRows as RowsStmt, SelectTotals as TotalsStmt}
 use Rattle.ob_mean.specs.declared.answer.Answer.{Answer}
 use Rattle.ob_mean.specs.declared.answer.Answer.TheVariants.{Done, Changed, Rows, Refused}
-use Rattle.ob_mean.specs.Names.{source_columns, place_of}
+use Rattle.ob_mean.specs.Names.{columns_at, source_columns, place_of}
 
 -- ---- the labels
 abbrev pub is_join : Source → Bool
@@ -28,22 +29,26 @@ is_join (Join a b on equals) = true
 abbrev pub label_at : (joins : Bool) → Columns → ColumnName → List ℕ
 label_at joins cs name = option_map_or (column_label joins) (slice_get cs (place_of name cs)) []
 
-abbrev pub listed_label : (joins : Bool) → Columns → Listed → List ℕ
-listed_label joins cs (ListedColumn c) = label_at joins cs c
-listed_label joins cs CountAll = codes "COUNT(*)"
-listed_label joins cs (Count c) = call_label (codes "COUNT") (label_at joins cs c)
-listed_label joins cs (Sum c) = call_label (codes "SUM") (label_at joins cs c)
-listed_label joins cs (Min c) = call_label (codes "MIN") (label_at joins cs c)
-listed_label joins cs (Max c) = call_label (codes "MAX") (label_at joins cs c)
+abbrev pub item_label : Columns → Listed → List ℕ
+item_label cs (ListedColumn c) = label_at false cs c
+item_label cs CountAll = codes "COUNT(*)"
+item_label cs (Count c) = call_label (codes "COUNT") (label_at false cs c)
+item_label cs (Sum c) = call_label (codes "SUM") (label_at false cs c)
+item_label cs (Min c) = call_label (codes "MIN") (label_at false cs c)
+item_label cs (Max c) = call_label (codes "MAX") (label_at false cs c)
 
 -- `*` stands for all columns
-abbrev pub select_labels : Select → List Heading → List (List ℕ)
-select_labels s hs =
+abbrev pub rows_labels : SelectRows → List Heading → List (List ℕ)
+rows_labels s hs =
     let cs = source_columns s.source hs in
-    option_map_or (map (listed_label (is_join s.source) cs)) s.list (map (column_label (is_join s.source)) cs)
+    option_map_or (map (label_at (is_join s.source) cs)) s.list (map (column_label (is_join s.source)) cs)
+
+abbrev pub totals_labels : SelectTotals → List Heading → List (List ℕ)
+totals_labels s hs = map (item_label (columns_at s.table hs)) s.items
 
 abbrev pub labels_of : Stmt → List Heading → List (List ℕ)
-labels_of (SelectStmt s) hs = select_labels s hs
+labels_of (RowsStmt s) hs = rows_labels s hs
+labels_of (TotalsStmt s) hs = totals_labels s hs
 labels_of _ hs = []
 
 -- ---- the events

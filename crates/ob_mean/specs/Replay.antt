@@ -1,7 +1,7 @@
 -- What a list of texts answers, and what is seen of each statement.
-use Rattle.std.specs.Prelude.{ℕ, ◌+◌, ◌-◌, Bool, nat_lt, List, [], ◌∷◌, length, Option, Some, None, Result, Ok, Err, if◌then◌else◌}
+use Rattle.std.specs.Prelude.{◌≡◌, ℕ, ◌+◌, ◌-◌, ◌≤◌, Bool, true, nat_le, List, [], ◌∷◌, length, Option, Some, None, Result, Ok, Err, if◌then◌else◌, ⊤}
 use Rattle.ob_base.specs.declared.config.Public.{Public}
-use Rattle.ob_base.specs.declared.config.Plan.{Plan}
+use Rattle.ob_base.specs.Stored.{headings}
 use Rattle.ob_base.specs.declared.refusal.Refusal.TheVariants.{Syntax, StoreFault}
 use Rattle.ob_base.specs.declared.seen.Seen.{Seen}
 use Rattle.ob_base.specs.declared.seen.End.TheVariants.{Whole, Cut}
@@ -14,7 +14,8 @@ use Rattle.ob_script.specs.Script.{script, whole_script}
 use Rattle.ob_script.specs.Trace.{Served, next}
 use Rattle.ob_mean.specs.declared.answer.Answer.{Answer}
 use Rattle.ob_mean.specs.declared.answer.Answer.TheVariants.{Refused}
-use Rattle.ob_mean.specs.Verdict.{Tables, verdict, seen, ended}
+use Rattle.ob_mean.specs.Refusals.{early_refusal}
+use Rattle.ob_mean.specs.Verdict.{Tables, verdict, seen, ended, is_late}
 use Rattle.ob_mean.specs.Settle.{settle}
 
 -- what is public, the tables, and how many accesses were asked
@@ -30,7 +31,7 @@ Spelt = Result Stmt ℕ
 abbrev pub seen_now : Session → Stmt → Seen
 seen_now s stmt = seen s.public s.asked s.tables stmt
 
--- ---- a statement that the store cut off
+-- ---- a statement that was cut off
 -- the accesses until the rows are counted
 abbrev pub count_end : Public → Skeleton → ℕ
 count_end p s = length (whole_script p s (ended Whole))
@@ -40,27 +41,32 @@ abbrev pub ending_len : Skeleton → ℕ
 ending_len (Rows (Join a b on equals) columns) = 1
 ending_len _ = 0
 
--- the accesses until the result of the first plan is read back and discarded
-abbrev pub first_end : Public → Skeleton → Seen → ℕ
-first_end p s seen = length (whole_script p s (record seen { then = None })) - ending_len s
+-- the accesses until the result of the first plan has been read back; it is discarded behind them
+abbrev pub walk_end : Public → Skeleton → Seen → ℕ
+walk_end p s seen = length (whole_script p s (record seen { then = None })) - (ending_len s + 1)
+
+-- how many of n accesses were carried out, where the last of them failed or didn't
+abbrev pub done_of : (failed : Bool) → (n : ℕ) → ℕ
+done_of failed n = if failed then n - 1 else n
 
 abbrev pub held_if : {A : Type 0} → Bool → Option A → Option A
 held_if b o = if b then o else None
 
--- what is seen where the nth access failed: k and the plan once the count has ended, the second plan once the first one has
-abbrev pub cut_at : ℕ → Public → Skeleton → Seen → Seen
-cut_at n p s seen =
+-- what is seen of a statement that was cut off after n accesses, of which the last failed or didn't: k and the plan
+-- once the count has ended, the second plan once the first one's result has been read back
+abbrev pub cut_at : (failed : Bool) → (n : ℕ) → Public → Skeleton → Seen → Seen
+cut_at failed n p s seen =
     record {
-      k = held_if (nat_lt (count_end p s) n) seen.k;
-      plan = held_if (nat_lt (count_end p s) n) seen.plan;
-      then = held_if (nat_lt (first_end p s seen) n) seen.then;
+      k = held_if (nat_le (count_end p s) (done_of failed n)) seen.k;
+      plan = held_if (nat_le (count_end p s) (done_of failed n)) seen.plan;
+      then = held_if (nat_le (walk_end p s seen) (done_of failed n)) seen.then;
       end = Cut n;
     }
 
--- the same for each statement: whole, or cut off
+-- the same for each statement: whole, or cut off by the store, whose last access failed
 abbrev pub seen_or_cut : Option ℕ → Session → Stmt → Seen
 seen_or_cut None s stmt = seen_now s stmt
-seen_or_cut (Some n) s stmt = cut_at n s.public (skeleton stmt) (seen_now s stmt)
+seen_or_cut (Some n) s stmt = cut_at true n s.public (skeleton stmt) (seen_now s stmt)
 
 abbrev pub served : Option ℕ → Session → Stmt → Served
 served broken s stmt = record { skeleton = skeleton stmt; seen = seen_or_cut broken s stmt }
@@ -108,9 +114,18 @@ after_all s [] bs = s
 after_all s (Ok stmt ∷ texts) bs = after_all (after (head_of bs) s stmt) texts (rest_of bs)
 after_all s (Err at ∷ texts) bs = after_all s texts (rest_of bs)
 
--- no tables, and nothing asked
-abbrev pub first_public : (buffer depth pack : ℕ) → Option Plan → Public
-first_public buffer depth pack plan = record { tables = []; next_region = 1; buffer = buffer; depth = depth; pack = pack; plan = plan }
+-- the store cuts off only a statement that is not refused before its first access, at one of its accesses
+abbrev pub IsCutOff : Option ℕ → Session → Stmt → Type 0
+IsCutOff None s stmt = ⊤
+IsCutOff (Some n) s stmt =
+    (early_refusal (is_late s.asked) s.public.pack s.public.buffer (headings s.tables) stmt ≡ None)
+    × (1 ≤ n) × (n ≤ length (whole_script s.public (skeleton stmt) (seen_now s stmt)))
 
+abbrev pub AreCutOff : Session → List Spelt → Broken → Type 0
+AreCutOff s [] bs = bs ≡ []
+AreCutOff s (Ok stmt ∷ texts) bs = IsCutOff (head_of bs) s stmt × AreCutOff (after (head_of bs) s stmt) texts (rest_of bs)
+AreCutOff s (Err at ∷ texts) bs = (head_of bs ≡ None) × AreCutOff s texts (rest_of bs)
+
+-- no tables, and nothing asked
 abbrev pub first_session : Public → Session
 first_session p = record { public = p; tables = []; asked = 0 }

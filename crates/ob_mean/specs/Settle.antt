@@ -7,7 +7,7 @@ use Rattle.ob_base.specs.Stored.{headings, changed_at, dropped_at}
 use Rattle.ob_row.specs.Slots.{empty_slots, fill_first, emptied}
 use Rattle.ob_row.specs.Truth.{is_true, updated}
 use Rattle.ob_sql.specs.declared.stmt.Stmt.{Stmt}
-use Rattle.ob_sql.specs.declared.stmt.Stmt.TheVariants.{Create, Insert, Update, Delete, Drop as DropTable, Select as SelectStmt}
+use Rattle.ob_sql.specs.declared.stmt.Stmt.TheVariants.{Create, Insert, Update, Delete, Drop as DropTable, SelectRows as RowsStmt, SelectTotals as TotalsStmt}
 use Rattle.ob_mean.specs.Names.{columns_at, where_at}
 use Rattle.ob_mean.specs.Step.{new_row, set_cells, followed}
 use Rattle.ob_mean.specs.Verdict.{Tables, refusal}
@@ -21,7 +21,8 @@ settled ts (Update table sets cond) =
     let cs = columns_at table (headings ts) in changed_at table (map (option_map (updated (where_at cond cs) (set_cells sets cs)))) ts
 settled ts (Delete table cond) = changed_at table (map (emptied (is_true (where_at cond (columns_at table (headings ts)))))) ts
 settled ts (DropTable table) = dropped_at table ts
-settled ts (SelectStmt s) = ts
+settled ts (RowsStmt s) = ts
+settled ts (TotalsStmt s) = ts
 
 -- a refused statement changes nothing
 abbrev pub settle : Public → (m : ℕ) → Tables → Stmt → Tables

@@ -1,6 +1,6 @@
 -- What the engine answers, and what a watcher sees of it.
 use Rattle.std.specs.Prelude.{ℕ, ◌*◌, ◌^◌, nat_le, Bool, List, [], ◌∷◌, map, length, Option, Some, None, is_some, if◌then◌else◌}
-use Rattle.std.specs.Option.{option_map_or, option_map}
+use Rattle.std.specs.Option.{option_map_or, option_map, option_or}
 use Rattle.ob_base.specs.declared.config.Public.{Public}
 use Rattle.ob_base.specs.declared.config.Plan.{Plan}
 use Rattle.ob_base.specs.declared.config.Plan.TheVariants.{Small, Large, Continuous, Hash}
@@ -16,13 +16,12 @@ use Rattle.ob_base.specs.Plans.{choose}
 use Rattle.ob_base.specs.Stored.{Stored, headings, stored_at}
 use Rattle.ob_row.specs.Slots.{Slots, rows, selected, is_consecutive}
 use Rattle.ob_row.specs.Truth.{is_true}
-use Rattle.ob_sql.specs.declared.stmt.Select.{Select}
+use Rattle.ob_sql.specs.declared.stmt.SelectRows.{SelectRows}
 use Rattle.ob_sql.specs.declared.stmt.Stmt.{Stmt}
-use Rattle.ob_sql.specs.declared.stmt.Stmt.TheVariants.{Select as SelectStmt}
-use Rattle.ob_sql.specs.Skeleton.{has_totals}
+use Rattle.ob_sql.specs.declared.stmt.Stmt.TheVariants.{SelectRows as RowsStmt}
 use Rattle.ob_mean.specs.declared.answer.Answer.{Answer}
 use Rattle.ob_mean.specs.Refusals.{early_refusal}
-use Rattle.ob_mean.specs.Step.{Database, join_places, select_condition, refusal_of, or_else, accepted_answer, answered}
+use Rattle.ob_mean.specs.Step.{Database, join_places, select_condition, refusal_of, accepted_answer, answered}
 use Rattle.ob_row.specs.Results.{joined, unplaced}
 
 -- the tables in place
@@ -42,7 +41,7 @@ source_slots p (OneTable name) ts = slots_at name ts
 source_slots p (Join a b on equals) ts =
     let places = join_places (Join a b on equals) (headings ts) in joined places.0 places.1 p.pack p.buffer (slots_at a ts) (slots_at b ts)
 
-abbrev pub selected_places : Public → Select → Tables → List ℕ
+abbrev pub selected_places : Public → SelectRows → Tables → List ℕ
 selected_places p q ts = selected (is_true (select_condition q (headings ts))) (source_slots p q.source ts)
 
 -- the plan for these selected places of n
@@ -69,11 +68,8 @@ abbrev pub rows_refusal : Public → List ℕ → Option Refusal
 rows_refusal p [] = None
 rows_refusal p (i ∷ is) = forced_refusal p p.plan (i ∷ is)
 
-abbrev pub select_refusal : Public → Tables → Select → Option Refusal
-select_refusal p ts q = if has_totals q then None else rows_refusal p (selected_places p q ts)
-
 abbrev pub last_refusal : Public → Tables → Stmt → Option Refusal
-last_refusal p ts (SelectStmt q) = select_refusal p ts q
+last_refusal p ts (RowsStmt q) = rows_refusal p (selected_places p q ts)
 last_refusal p ts _ = None
 
 -- so many accesses were asked that no statement is served
@@ -82,7 +78,7 @@ is_late m = nat_le (2 ^ 63) m
 
 -- the refusal of a statement, where m accesses were asked before
 abbrev pub refusal : Public → (m : ℕ) → Tables → Stmt → Option Refusal
-refusal p m ts stmt = or_else (refusal_of (is_late m) p.pack p.buffer (database ts) stmt) (last_refusal p ts stmt)
+refusal p m ts stmt = option_or (refusal_of (is_late m) p.pack p.buffer (database ts) stmt) (last_refusal p ts stmt)
 
 abbrev pub verdict : Public → (m : ℕ) → Tables → Stmt → Answer
 verdict p m ts stmt = answered (refusal p m ts stmt) (accepted_answer (database ts) stmt)
@@ -112,12 +108,8 @@ abbrev pub seen_rows : Public → (n : ℕ) → List ℕ → Seen
 seen_rows p n [] = counted 0 None None Whole
 seen_rows p n (i ∷ is) = seen_with p (plan_for p n (i ∷ is)) (i ∷ is)
 
-abbrev pub seen_select : Public → Tables → Select → Seen
-seen_select p ts q =
-    if has_totals q then ended Whole else seen_rows p (length (source_slots p q.source ts)) (selected_places p q ts)
-
 abbrev pub seen_started : Public → Tables → Stmt → Seen
-seen_started p ts (SelectStmt q) = seen_select p ts q
+seen_started p ts (RowsStmt q) = seen_rows p (length (source_slots p q.source ts)) (selected_places p q ts)
 seen_started p ts _ = ended Whole
 
 abbrev pub seen : Public → (m : ℕ) → Tables → Stmt → Seen

@@ -2,7 +2,7 @@
 ghost use Rattle.std.specs.Prelude.{◌≡◌, ◌≤◌, ◌++◌, length, IfOk};
 ghost use Rattle.ob_row.specs.Spelling.{IsCell};
 ghost use Rattle.ob_sql.specs.Search.{search_of};
-ghost use Rattle.ob_mean.specs.Names.{cell_of, operand_of, condition_at, where_at};
+ghost use Rattle.ob_mean.specs.Names.{literal_cell, operand_at, condition_at, where_at};
 
 use crate::names::place_of;
 use ob_base::{Column, Text};
@@ -11,8 +11,8 @@ use ob_sql::{Against, Cond, CondTree, Literal};
 use std::alloc::{AllocError, Global};
 
 /// The cell of a literal; one that no cell holds is refused before.
-pub fn cell_of(literal: &Literal) -> Cell
-    ensures value { result ≡ cell_of literal.now }
+pub fn literal_cell(literal: &Literal) -> Cell
+    ensures value { result ≡ literal_cell literal.now }
     ensures held { IsCell result }
 {
     match literal {
@@ -23,13 +23,13 @@ pub fn cell_of(literal: &Literal) -> Cell
     }
 }
 
-fn operand_of(with: &Against, left: &[Column], right: &[Column]) -> Operand
+fn operand_at(with: &Against, left: &[Column], right: &[Column]) -> Operand
     requires left { length left.now ≤ 32 }
     requires right { length right.now ≤ 32 }
-    ensures { result ≡ operand_of with.now (left.now ++ right.now) }
+    ensures { result ≡ operand_at with.now (left.now ++ right.now) }
 {
     match with {
-        Against::Literal(literal) => Operand::Cell(cell_of(literal)),
+        Against::Literal(literal) => Operand::Cell(literal_cell(literal)),
         Against::Column(name) => Operand::Column(place_of(name, left, right) as u8),
     }
 }
@@ -48,7 +48,7 @@ fn condition_at(
         CondTree::Compare(name, order, with) => Ok(Pred::compare(
             place_of(name, left, right) as u8,
             *order,
-            operand_of(with, left, right),
+            operand_at(with, left, right),
         )),
         CondTree::Not(p) => Pred::not(alloc, condition_at(alloc, p, left, right)?),
         CondTree::And(p, q) => {

@@ -3,8 +3,8 @@ ghost use Rattle.std.specs.Prelude.{◌≡◌, ◌≤◌, ◌++◌, length, not,
 ghost use Rattle.std.specs.List.{list_any};
 ghost use Rattle.std.specs.Prelude.{Option};
 ghost use Rattle.ob_sql.specs.Search.{search_of};
-ghost use Rattle.ob_mean.specs.Kinds.{Comparison, comparisons, where_comparisons, comparison_columns, is_wrong_comparison, against_too_large};
-ghost use Rattle.ob_mean.specs.Refusals.{means_one};
+ghost use Rattle.ob_mean.specs.Kinds.{comparisons, where_comparisons, comparison_columns, mistype_comparisons, overflow_comparisons};
+ghost use Rattle.ob_mean.specs.Refusals.{lack_columns};
 
 use crate::kinds::{is_against_too_large, is_wrong_comparison};
 use crate::names::means_one;
@@ -14,7 +14,8 @@ use ob_sql::{Against, Cond, CondTree};
 fn comparison_lacks(name: &ColumnName, with: &Against, left: &[Column], right: &[Column]) -> bool
     requires left { length left.now ≤ 32 }
     requires right { length right.now ≤ 32 }
-    ensures { result ≡ list_any (λ n. not (means_one (left.now ++ right.now) n)) (comparison_columns (name.now, with.now)) }
+    ensures { result
+        ≡ lack_columns (left.now ++ right.now) (comparison_columns (name.now, with.now)) }
 {
     let lacks = !means_one(name, left, right);
     match with {
@@ -27,7 +28,9 @@ fn comparison_lacks(name: &ColumnName, with: &Against, left: &[Column], right: &
 fn tree_lacks(tree: &CondTree, left: &[Column], right: &[Column]) -> bool
     requires left { length left.now ≤ 32 }
     requires right { length right.now ≤ 32 }
-    ensures { result ≡ list_any (λ n. not (means_one (left.now ++ right.now) n)) (flat_map comparison_columns (comparisons (search_of tree.now))) }
+    ensures { result
+        ≡ lack_columns (left.now ++ right.now)
+        (flat_map comparison_columns (comparisons (search_of tree.now))) }
 {
     match tree {
         CondTree::Compare(name, _, with) => comparison_lacks(name, with, left, right),
@@ -41,7 +44,8 @@ fn tree_lacks(tree: &CondTree, left: &[Column], right: &[Column]) -> bool
 fn tree_mistypes(tree: &CondTree, left: &[Column], right: &[Column]) -> bool
     requires left { length left.now ≤ 32 }
     requires right { length right.now ≤ 32 }
-    ensures { result ≡ list_any (is_wrong_comparison (left.now ++ right.now)) (comparisons (search_of tree.now)) }
+    ensures { result
+        ≡ mistype_comparisons (left.now ++ right.now) (comparisons (search_of tree.now)) }
 {
     match tree {
         CondTree::Compare(name, _, with) => is_wrong_comparison(name, with, left, right),
@@ -53,7 +57,7 @@ fn tree_mistypes(tree: &CondTree, left: &[Column], right: &[Column]) -> bool
 
 #[tactic(auto, using(crate::proofs::CondLemmas::any_append))]
 fn tree_exceeds(tree: &CondTree) -> bool
-    ensures { result ≡ list_any (λ (c : Comparison). against_too_large c.1) (comparisons (search_of tree.now)) }
+    ensures { result ≡ overflow_comparisons (comparisons (search_of tree.now)) }
 {
     match tree {
         CondTree::Compare(_, _, with) => is_against_too_large(with),
@@ -67,7 +71,9 @@ fn tree_exceeds(tree: &CondTree) -> bool
 pub(crate) fn lacks(cond: &Option<Cond>, left: &[Column], right: &[Column]) -> bool
     requires left { length left.now ≤ 32 }
     requires right { length right.now ≤ 32 }
-    ensures { result ≡ list_any (λ n. not (means_one (left.now ++ right.now) n)) (flat_map comparison_columns (where_comparisons cond.now)) }
+    ensures { result
+        ≡ lack_columns (left.now ++ right.now)
+        (flat_map comparison_columns (where_comparisons cond.now)) }
 {
     match cond {
         None => false,
@@ -79,7 +85,7 @@ pub(crate) fn lacks(cond: &Option<Cond>, left: &[Column], right: &[Column]) -> b
 pub(crate) fn mistypes(cond: &Option<Cond>, left: &[Column], right: &[Column]) -> bool
     requires left { length left.now ≤ 32 }
     requires right { length right.now ≤ 32 }
-    ensures { result ≡ list_any (is_wrong_comparison (left.now ++ right.now)) (where_comparisons cond.now) }
+    ensures { result ≡ mistype_comparisons (left.now ++ right.now) (where_comparisons cond.now) }
 {
     match cond {
         None => false,
@@ -89,7 +95,7 @@ pub(crate) fn mistypes(cond: &Option<Cond>, left: &[Column], right: &[Column]) -
 
 /// Whether it compares one with a literal that no cell holds.
 pub(crate) fn exceeds(cond: &Option<Cond>) -> bool
-    ensures { result ≡ list_any (λ (c : Comparison). against_too_large c.1) (where_comparisons cond.now) }
+    ensures { result ≡ overflow_comparisons (where_comparisons cond.now) }
 {
     match cond {
         None => false,

@@ -3,7 +3,7 @@ ghost use Rattle.std.specs.Prelude.{◌≡◌, ◌≤◌, ◌+◌, ◌++◌, ℕ
 ghost use Rattle.std.specs.List.{list_any};
 ghost use Rattle.ob_base.specs.Schemas.{width, kind_width, kind_of, new_column, columns_of};
 ghost use Rattle.ob_base.specs.declared.skeleton.NewColumn.{NewColumn};
-ghost use Rattle.ob_mean.specs.Headings.{headings_of};
+ghost use Rattle.ob_base.specs.Stored.{headings_of};
 ghost use Rattle.ob_mean.specs.Refusals.{is_size, creates_past};
 
 use ob_base::{Column, Kind, Name, NewColumn, NewKind, Schema, Table};
@@ -46,7 +46,8 @@ fn has_bad_size(columns: &[NewColumn]) -> bool
 
 /// Whether a new table is past the limits, or there are too many.
 pub(crate) fn creates_past(tables: &[Table], columns: &[NewColumn], capacity: u32) -> bool
-    ensures { (table : List ℕ) → result ≡ creates_past (headings_of tables.now) table columns.now capacity }
+    ensures { (table : List ℕ) →
+        result ≡ creates_past (headings_of tables.now) table columns.now capacity }
 {
     capacity < 1
         || capacity > 1_048_576

@@ -1,26 +1,24 @@
 //! Which statements are refused before any access.
-ghost use Rattle.std.specs.Prelude.{◌≡◌, ◌≤◌, ◌+◌, ◌*◌, ◌++◌, ◌∷◌, [], Option, Some, None, List, ℕ, Bool, length, map, not, unwrap_or, option_to_list, zip, bytes_eq, slice_get, false, ◌||◌};
+ghost use Rattle.std.specs.Prelude.{◌≡◌, ◌≤◌, ◌+◌, ◌*◌, ◌++◌, ◌||◌, [], List, ℕ, length, map, not, unwrap_or, option_to_list, zip, bytes_eq, slice_get, false};
 ghost use Rattle.std.specs.Option.{option_map_or};
 ghost use Rattle.std.specs.List.{list_any};
 ghost use Rattle.ob_base.specs.declared.schema.Column.{Column};
-ghost use Rattle.ob_base.specs.declared.skeleton.ColumnName.{ColumnName};
-ghost use Rattle.ob_sql.specs.declared.stmt.Literal.{Literal};
 ghost use Rattle.ob_sql.specs.declared.stmt.Set.{Set};
-ghost use Rattle.ob_mean.specs.Headings.{headings_of};
+ghost use Rattle.ob_base.specs.Stored.{headings_of};
 ghost use Rattle.ob_mean.specs.Names.{unqualified, place_of};
-ghost use Rattle.ob_mean.specs.Kinds.{at_kind, is_of_kind, is_too_large_for};
-ghost use Rattle.ob_mean.specs.Refusals.{early_refusal, first_holding, lacks_table, takes_name, is_past_limit, breaks_key_rule, joins_off_key, is_incomplete, assignments, insert_columns, named_columns, means_one};
-ghost use Rattle.ob_mean.specs.Scopes.{HasOneTable, left_of, right_of, select_lacks_in, lacks_in, mistypes_in, overflows_in};
+ghost use Rattle.ob_mean.specs.Kinds.{mistype_columns, overflow_columns};
+ghost use Rattle.ob_mean.specs.Refusals.{early_refusal, first_holding, lacks_table, takes_name, is_past_limit, breaks_key_rule, joins_off_key, is_incomplete, insert_columns, lack_columns, sets_key};
+ghost use Rattle.ob_mean.specs.Scopes.{HasOneTable, left_of, right_of, lacks_in, mistypes_in, overflows_in};
 
 use crate::conds::{exceeds, lacks, mistypes};
 use crate::creates::{creates_past, has_more_keys};
 use crate::kinds::{overflows, takes};
-use crate::listed::{has_stray_column, items_lack, items_mistype, listed};
+use crate::listed::{columns_lack, has_stray_column, items_lack, items_mistype, listed};
 use crate::named::{Named, has_name, has_repeats, lack_column, mistype, overflow};
 use crate::names::{column_at, columns_at, has_table, means_one, place_of, unqualified};
 use crate::sources;
 use ob_base::{Column, ColumnName, Items, Name, Public, Refusal, Table};
-use ob_sql::{Literal, Select, Set, Stmt};
+use ob_sql::{Literal, SelectRows, SelectTotals, Set, Stmt};
 
 // A table that is to exist doesn't.
 fn lacks_table(tables: &[Table], stmt: &Stmt) -> bool
@@ -32,7 +30,8 @@ fn lacks_table(tables: &[Table], stmt: &Stmt) -> bool
         Stmt::Update { table, .. } => !has_table(tables, table),
         Stmt::Delete { table, .. } => !has_table(tables, table),
         Stmt::Drop { table } => !has_table(tables, table),
-        Stmt::Select(select) => sources::source_lacks(tables, &select.source),
+        Stmt::SelectRows(select) => sources::source_lacks(tables, &select.source),
+        Stmt::SelectTotals(select) => !has_table(tables, &select.table),
     }
 }
 
@@ -58,14 +57,15 @@ fn takes_name(tables: &[Table], stmt: &Stmt) -> bool
         Stmt::Update { sets, .. } => has_repeats(sets.as_slice()),
         Stmt::Delete { .. } => false,
         Stmt::Drop { .. } => false,
-        Stmt::Select(select) => sources::joins_itself(&select.source),
+        Stmt::SelectRows(select) => sources::joins_itself(&select.source),
+        Stmt::SelectTotals(_) => false,
     }
 }
 
 fn group_lacks(group: &Option<ColumnName>, left: &[Column], right: &[Column]) -> bool
     requires left { length left.now ≤ 32 }
     requires right { length right.now ≤ 32 }
-    ensures { result ≡ list_any (λ name. not (means_one (left.now ++ right.now) name)) (option_to_list group.now) }
+    ensures { result ≡ lack_columns (left.now ++ right.now) (option_to_list group.now) }
 {
     match group {
         None => false,
@@ -73,36 +73,30 @@ fn group_lacks(group: &Option<ColumnName>, left: &[Column], right: &[Column]) ->
     }
 }
 
-// A name outside the WHERE that means no column, or more than one.
+// A name of a SELECT of rows that no column has, or columns of ON that aren't one of each table.
 #[tactic(auto, using(crate::proofs::CondLemmas::any_append))]
-fn select_names_lack(select: &Select, left: &[Column], right: &[Column]) -> bool
+fn rows_lack(select: &SelectRows, left: &[Column], right: &[Column]) -> bool
     requires left { length left.now ≤ 32 }
     requires right { length right.now ≤ 32 }
-    ensures { result ≡ list_any (λ name. not (means_one (left.now ++ right.now) name)) (named_columns (Stmt.Select select.now)) }
+    ensures { result ≡ lacks_in left.now right.now (Stmt.SelectRows select.now) }
 {
-    items_lack(listed(&select.list), left, right)
-        || group_lacks(&select.group, left, right)
+    columns_lack(listed(&select.list), left, right)
         || sources::on_lacks(&select.source, left, right)
-}
-
-// The columns of ON aren't one of each table, or a plain column strays.
-fn select_strays(select: &Select, left: &[Column], right: &[Column]) -> bool
-    requires left { length left.now ≤ 32 }
-    requires right { length right.now ≤ 32 }
-    ensures { result ≡ select_lacks_in left.now right.now (Stmt.Select select.now) }
-{
-    !sources::joins_apart(&select.source, left, right) || has_stray_column(select, left, right)
-}
-
-#[tactic(auto, using(crate::proofs::CondLemmas::any_append))]
-fn select_lacks(select: &Select, left: &[Column], right: &[Column]) -> bool
-    requires left { length left.now ≤ 32 }
-    requires right { length right.now ≤ 32 }
-    ensures { result ≡ lacks_in left.now right.now (Stmt.Select select.now) }
-{
-    select_names_lack(select, left, right)
         || lacks(&select.cond, left, right)
-        || select_strays(select, left, right)
+        || !sources::joins_apart(&select.source, left, right)
+}
+
+// A name of a SELECT of totals that no column has, or a plain column that strays.
+#[tactic(auto, using(crate::proofs::CondLemmas::any_append))]
+fn totals_lack(select: &SelectTotals, left: &[Column], right: &[Column]) -> bool
+    requires left { length left.now ≤ 32 }
+    requires right { length right.now ≤ 32 }
+    ensures { result ≡ lacks_in left.now right.now (Stmt.SelectTotals select.now) }
+{
+    items_lack(select.items.as_slice(), left, right)
+        || group_lacks(&select.group, left, right)
+        || lacks(&select.cond, left, right)
+        || has_stray_column(select, left, right)
 }
 
 // A name that no column has there.
@@ -120,14 +114,16 @@ fn lacks_column(stmt: &Stmt, left: &[Column], right: &[Column]) -> bool
         }
         Stmt::Delete { cond, .. } => lacks(cond, left, right),
         Stmt::Drop { .. } => false,
-        Stmt::Select(select) => select_lacks(select, left, right),
+        Stmt::SelectRows(select) => rows_lack(select, left, right),
+        Stmt::SelectTotals(select) => totals_lack(select, left, right),
     }
 }
 
 fn sets_lack(sets: &[Set], left: &[Column], right: &[Column]) -> bool
     requires left { length left.now ≤ 32 }
     requires right { length right.now ≤ 32 }
-    ensures { result ≡ list_any (λ name. not (means_one (left.now ++ right.now) name)) (map (λ (s : Set). unqualified s.column) sets.now) }
+    ensures { result ≡ lack_columns (left.now ++ right.now)
+        (map (λ (s : Set). unqualified s.column) sets.now) }
 {
     match sets.split_first() {
         None => false,
@@ -140,7 +136,8 @@ fn sets_lack(sets: &[Set], left: &[Column], right: &[Column]) -> bool
 fn sets_mistype(sets: &[Set], left: &[Column], right: &[Column]) -> bool
     requires left { length left.now ≤ 32 }
     requires right { length right.now ≤ 32 }
-    ensures { result ≡ list_any (λ (a : ColumnName × Literal). not (at_kind (λ k. is_of_kind k a.1) a.0 (left.now ++ right.now))) (map (λ (s : Set). (unqualified s.column, s.value)) sets.now) }
+    ensures { result ≡ mistype_columns (left.now ++ right.now)
+        (map (λ (s : Set). (unqualified s.column, s.value)) sets.now) }
 {
     match sets.split_first() {
         None => false,
@@ -154,7 +151,8 @@ fn sets_mistype(sets: &[Set], left: &[Column], right: &[Column]) -> bool
 fn sets_overflow(sets: &[Set], left: &[Column], right: &[Column]) -> bool
     requires left { length left.now ≤ 32 }
     requires right { length right.now ≤ 32 }
-    ensures { result ≡ list_any (λ (a : ColumnName × Literal). at_kind (λ k. is_too_large_for k a.1) a.0 (left.now ++ right.now)) (map (λ (s : Set). (unqualified s.column, s.value)) sets.now) }
+    ensures { result ≡ overflow_columns (left.now ++ right.now)
+        (map (λ (s : Set). (unqualified s.column, s.value)) sets.now) }
 {
     match sets.split_first() {
         None => false,
@@ -174,7 +172,8 @@ fn values_mistype(
 ) -> bool
     requires left { length left.now ≤ 32 }
     requires right { right.now ≡ [] }
-    ensures { result ≡ list_any (λ (a : ColumnName × Literal). not (at_kind (λ k. is_of_kind k a.1) a.0 (left.now ++ right.now))) (zip (map unqualified (insert_columns names.now (left.now ++ right.now))) values.now) }
+    ensures { result ≡ mistype_columns (left.now ++ right.now)
+        (zip (map unqualified (insert_columns names.now (left.now ++ right.now))) values.now) }
 {
     match names {
         None => mistype(left, values, left, right),
@@ -190,7 +189,8 @@ fn values_overflow(
 ) -> bool
     requires left { length left.now ≤ 32 }
     requires right { right.now ≡ [] }
-    ensures { result ≡ list_any (λ (a : ColumnName × Literal). at_kind (λ k. is_too_large_for k a.1) a.0 (left.now ++ right.now)) (zip (map unqualified (insert_columns names.now (left.now ++ right.now))) values.now) }
+    ensures { result ≡ overflow_columns (left.now ++ right.now)
+        (zip (map unqualified (insert_columns names.now (left.now ++ right.now))) values.now) }
 {
     match names {
         None => overflow(left, values, left, right),
@@ -200,7 +200,9 @@ fn values_overflow(
 
 // A column that none of the names names.
 fn leaves_out<T: Named>(columns: &[Column], names: &[T]) -> bool
-    ensures { result ≡ list_any (λ (c : Column). not (list_any (bytes_eq c.name) (map T.name_of names.now))) columns.now }
+    ensures { result
+        ≡ list_any
+        (λ (c : Column). not (list_any (bytes_eq c.name) (map T.name_of names.now))) columns.now }
 {
     columns.iter().any(|column| !has_name(names, &column.name))
 }
@@ -223,14 +225,20 @@ fn is_incomplete(
     left_out || values.len() != left.len()
 }
 
-fn select_mistypes(select: &Select, left: &[Column], right: &[Column]) -> bool
+fn rows_mistype(select: &SelectRows, left: &[Column], right: &[Column]) -> bool
     requires left { length left.now ≤ 32 }
     requires right { length right.now ≤ 32 }
-    ensures { result ≡ mistypes_in left.now right.now (Stmt.Select select.now) }
+    ensures { result ≡ mistypes_in left.now right.now (Stmt.SelectRows select.now) }
 {
-    mistypes(&select.cond, left, right)
-        || items_mistype(listed(&select.list), left, right)
-        || !sources::joins_kinds(&select.source, left, right)
+    mistypes(&select.cond, left, right) || !sources::joins_kinds(&select.source, left, right)
+}
+
+fn totals_mistype(select: &SelectTotals, left: &[Column], right: &[Column]) -> bool
+    requires left { length left.now ≤ 32 }
+    requires right { length right.now ≤ 32 }
+    ensures { result ≡ mistypes_in left.now right.now (Stmt.SelectTotals select.now) }
+{
+    mistypes(&select.cond, left, right) || items_mistype(select.items.as_slice(), left, right)
 }
 
 fn insert_mistypes(
@@ -241,7 +249,8 @@ fn insert_mistypes(
 ) -> bool
     requires left { length left.now ≤ 32 }
     requires right { right.now ≡ [] }
-    ensures { (table : List ℕ) → result ≡ mistypes_in left.now right.now (Stmt.Insert table names.now values.now) }
+    ensures { (table : List ℕ) →
+        result ≡ mistypes_in left.now right.now (Stmt.Insert table names.now values.now) }
 {
     values_mistype(names, values, left, right) || is_incomplete(names, values, left, right)
 }
@@ -265,7 +274,8 @@ fn mistypes_any(stmt: &Stmt, left: &[Column], right: &[Column]) -> bool
         }
         Stmt::Delete { cond, .. } => mistypes(cond, left, right),
         Stmt::Drop { .. } => false,
-        Stmt::Select(select) => select_mistypes(select, left, right),
+        Stmt::SelectRows(select) => rows_mistype(select, left, right),
+        Stmt::SelectTotals(select) => totals_mistype(select, left, right),
     }
 }
 
@@ -288,7 +298,8 @@ fn overflows_any(stmt: &Stmt, left: &[Column], right: &[Column]) -> bool
         }
         Stmt::Delete { cond, .. } => exceeds(cond),
         Stmt::Drop { .. } => false,
-        Stmt::Select(select) => exceeds(&select.cond),
+        Stmt::SelectRows(select) => exceeds(&select.cond),
+        Stmt::SelectTotals(select) => exceeds(&select.cond),
     }
 }
 
@@ -296,7 +307,8 @@ fn overflows_any(stmt: &Stmt, left: &[Column], right: &[Column]) -> bool
 fn is_past_limit(public: &Public, stmt: &Stmt) -> bool
     requires pack { 1 ≤ public.now.pack }
     requires buffer { 3 * public.now.pack + 1 ≤ public.now.buffer }
-    ensures { result ≡ is_past_limit public.now.pack public.now.buffer (headings_of public.now.tables) stmt.now }
+    ensures { result
+        ≡ is_past_limit public.now.pack public.now.buffer (headings_of public.now.tables) stmt.now }
 {
     match stmt {
         Stmt::Create {
@@ -304,9 +316,10 @@ fn is_past_limit(public: &Public, stmt: &Stmt) -> bool
             capacity,
             ..
         } => creates_past(public.tables.as_slice(), columns.as_slice(), *capacity),
-        Stmt::Select(select) => {
+        Stmt::SelectRows(select) => {
             listed(&select.list).len() > 32 || sources::joins_past(public, &select.source)
         }
+        Stmt::SelectTotals(select) => select.items.as_slice().len() > 32,
         _ => false,
     }
 }
@@ -315,7 +328,9 @@ fn is_past_limit(public: &Public, stmt: &Stmt) -> bool
 fn meets_limit(late: bool, public: &Public, stmt: &Stmt) -> bool
     requires pack { 1 ≤ public.now.pack }
     requires buffer { 3 * public.now.pack + 1 ≤ public.now.buffer }
-    ensures { result ≡ (is_past_limit public.now.pack public.now.buffer (headings_of public.now.tables) stmt.now || late) }
+    ensures { result
+        ≡ (is_past_limit public.now.pack public.now.buffer (headings_of public.now.tables) stmt.now
+        || late) }
 {
     is_past_limit(public, stmt) || late
 }
@@ -323,7 +338,7 @@ fn meets_limit(late: bool, public: &Public, stmt: &Stmt) -> bool
 // One of the columns is the primary key.
 fn sets_key(sets: &[Set], columns: &[Column]) -> bool
     requires { length columns.now ≤ 32 }
-    ensures { result ≡ list_any (λ (s : Set). option_map_or (λ (c : Column). c.key) (slice_get (columns.now ++ []) (place_of (unqualified s.column) (columns.now ++ []))) false) sets.now }
+    ensures { result ≡ sets_key (columns.now ++ []) sets.now }
 {
     match sets.split_first() {
         None => false,
@@ -335,7 +350,9 @@ fn sets_key(sets: &[Set], columns: &[Column]) -> bool
 
 fn is_key_named(name: &ColumnName, columns: &[Column]) -> bool
     requires { length columns.now ≤ 32 }
-    ensures { result ≡ option_map_or (λ (c : Column). c.key) (slice_get (columns.now ++ []) (place_of name.now (columns.now ++ []))) false }
+    ensures { result
+        ≡ option_map_or (λ (c : Column). c.key)
+        (slice_get (columns.now ++ []) (place_of name.now (columns.now ++ []))) false }
 {
     match column_at(columns, &[], place_of(name, columns, &[])) {
         None => false,
@@ -359,7 +376,7 @@ fn joins_off_key(tables: &[Table], stmt: &Stmt) -> bool
     ensures { result ≡ joins_off_key (headings_of tables.now) stmt.now }
 {
     match stmt {
-        Stmt::Select(select) => sources::joins_off_key(tables, &select.source),
+        Stmt::SelectRows(select) => sources::joins_off_key(tables, &select.source),
         _ => false,
     }
 }
@@ -375,7 +392,8 @@ fn left_columns<'a>(tables: &'a [Table], stmt: &Stmt) -> &'a [Column]
         Stmt::Update { table, .. } => columns_at(tables, table),
         Stmt::Delete { table, .. } => columns_at(tables, table),
         Stmt::Drop { .. } => &[],
-        Stmt::Select(select) => sources::left_of(tables, &select.source),
+        Stmt::SelectRows(select) => sources::left_of(tables, &select.source),
+        Stmt::SelectTotals(select) => columns_at(tables, &select.table),
     }
 }
 
@@ -391,7 +409,8 @@ fn right_columns<'a>(tables: &'a [Table], stmt: &Stmt) -> &'a [Column]
         Stmt::Update { .. } => &[],
         Stmt::Delete { .. } => &[],
         Stmt::Drop { .. } => &[],
-        Stmt::Select(select) => sources::right_of(tables, &select.source),
+        Stmt::SelectRows(select) => sources::right_of(tables, &select.source),
+        Stmt::SelectTotals(_) => &[],
     }
 }
 
@@ -416,7 +435,9 @@ fn first_of(conditions: &[(bool, Refusal)]) -> Option<Refusal>
 pub fn early_refusal(late: bool, public: &Public, stmt: &Stmt) -> Option<Refusal>
     requires pack { 1 ≤ public.now.pack }
     requires buffer { 3 * public.now.pack + 1 ≤ public.now.buffer }
-    ensures { result ≡ early_refusal late public.now.pack public.now.buffer (headings_of public.now.tables) stmt.now }
+    ensures { result
+        ≡ early_refusal late public.now.pack public.now.buffer
+        (headings_of public.now.tables) stmt.now }
 {
     let tables = public.tables.as_slice();
     let left = left_columns(tables, stmt);

@@ -62,7 +62,8 @@ pub(crate) fn overflows(
 ) -> bool
     requires left { length left.now ≤ 32 }
     requires right { length right.now ≤ 32 }
-    ensures { result ≡ at_kind (λ k. is_too_large_for k literal.now) name.now (left.now ++ right.now) }
+    ensures { result
+        ≡ at_kind (λ k. is_too_large_for k literal.now) name.now (left.now ++ right.now) }
 {
     match kind_meant(name, left, right) {
         Some(kind) => is_too_large_for(kind, literal),
@@ -86,7 +87,9 @@ pub(crate) fn is_number(name: &ColumnName, left: &[Column], right: &[Column]) ->
 pub(crate) fn are_alike(a: &ColumnName, b: &ColumnName, left: &[Column], right: &[Column]) -> bool
     requires left { length left.now ≤ 32 }
     requires right { length right.now ≤ 32 }
-    ensures { result ≡ at_kind (λ k. at_kind (same_kind k) b.now (left.now ++ right.now)) a.now (left.now ++ right.now) }
+    ensures { result
+        ≡ at_kind (λ k. at_kind (same_kind k) b.now (left.now ++ right.now)) a.now
+        (left.now ++ right.now) }
 {
     match (kind_meant(a, left, right), kind_meant(b, left, right)) {
         (Some(kind), Some(other)) => same_kind(kind, other),

@@ -15,9 +15,10 @@ mod sources;
 mod values;
 
 pub use answer::Answer;
-pub use condition::{cell_of, where_at};
+pub use condition::{literal_cell, where_at};
 pub use creates::new_schema;
 pub use early::early_refusal;
 pub use items::{agg_of, item_of};
 pub use names::place_of;
+pub use sources::{left_place, right_place};
 pub use values::{new_row, set_cell};

@@ -1,50 +1,41 @@
 //! What a SELECT lists.
-ghost use Rattle.std.specs.Prelude.{◌≡◌, ◌≤◌, ◌++◌, Bool, length, not, flat_map};
+ghost use Rattle.std.specs.Prelude.{◌≡◌, ◌≤◌, ◌++◌, [], length, not, flat_map, unwrap_or};
 ghost use Rattle.std.specs.List.{list_any};
-ghost use Rattle.ob_base.specs.Schemas.{same_kind};
-ghost use Rattle.ob_base.specs.declared.schema.Kind.TheVariants.{Int as IntKind};
-ghost use Rattle.ob_sql.specs.Skeleton.{listed, is_aggregate, has_totals, named_by};
-ghost use Rattle.ob_mean.specs.Kinds.{at_kind, number_columns, plain_columns};
-ghost use Rattle.ob_mean.specs.Refusals.{means_one, is_group, has_stray_column};
+ghost use Rattle.ob_sql.specs.Skeleton.{named_by};
+ghost use Rattle.ob_mean.specs.Kinds.{are_texts, number_columns, plain_columns};
+ghost use Rattle.ob_mean.specs.Refusals.{lack_columns, is_group, has_stray_column};
 
 use crate::kinds::is_number;
 use crate::names::{means_one, place_of};
 use ob_base::{Column, ColumnName, Items};
-use ob_sql::{Listed, Select};
+use ob_sql::{Listed, SelectTotals};
 
-/// The items, none for `*`.
-pub(crate) fn listed(list: &Option<Items<Listed>>) -> &[Listed]
-    ensures { result.now ≡ listed list.now }
+/// The columns, none for `*`.
+pub(crate) fn listed(list: &Option<Items<ColumnName>>) -> &[ColumnName]
+    ensures { result.now ≡ unwrap_or list.now [] }
 {
     match list {
         None => &[],
-        Some(items) => items.as_slice(),
+        Some(columns) => columns.as_slice(),
     }
 }
 
-fn is_aggregate(item: &Listed) -> bool
-    ensures { result ≡ is_aggregate item.now }
+/// Whether one of these names means no column, or more than one.
+pub(crate) fn columns_lack(names: &[ColumnName], left: &[Column], right: &[Column]) -> bool
+    requires left { length left.now ≤ 32 }
+    requires right { length right.now ≤ 32 }
+    ensures { result ≡ lack_columns (left.now ++ right.now) names.now }
 {
-    !matches!(item, Listed::Column(_))
-}
-
-fn has_aggregate(items: &[Listed]) -> bool
-    ensures { result ≡ list_any is_aggregate items.now }
-{
-    items.iter().any(|item| is_aggregate(item))
-}
-
-/// Whether a SELECT answers totals, in place of rows.
-pub(crate) fn has_totals(select: &Select) -> bool
-    ensures { result ≡ has_totals select.now }
-{
-    has_aggregate(listed(&select.list)) || select.group.is_some()
+    match names.split_first() {
+        None => false,
+        Some((name, names)) => !means_one(name, left, right) || columns_lack(names, left, right),
+    }
 }
 
 fn item_lacks(item: &Listed, left: &[Column], right: &[Column]) -> bool
     requires left { length left.now ≤ 32 }
     requires right { length right.now ≤ 32 }
-    ensures { result ≡ list_any (λ name. not (means_one (left.now ++ right.now) name)) (named_by item.now) }
+    ensures { result ≡ lack_columns (left.now ++ right.now) (named_by item.now) }
 {
     match item {
         Listed::CountAll => false,
@@ -61,7 +52,7 @@ fn item_lacks(item: &Listed, left: &[Column], right: &[Column]) -> bool
 pub(crate) fn items_lack(items: &[Listed], left: &[Column], right: &[Column]) -> bool
     requires left { length left.now ≤ 32 }
     requires right { length right.now ≤ 32 }
-    ensures { result ≡ list_any (λ name. not (means_one (left.now ++ right.now) name)) (flat_map named_by items.now) }
+    ensures { result ≡ lack_columns (left.now ++ right.now) (flat_map named_by items.now) }
 {
     match items.split_first() {
         None => false,
@@ -72,7 +63,7 @@ pub(crate) fn items_lack(items: &[Listed], left: &[Column], right: &[Column]) ->
 fn item_mistypes(item: &Listed, left: &[Column], right: &[Column]) -> bool
     requires left { length left.now ≤ 32 }
     requires right { length right.now ≤ 32 }
-    ensures { result ≡ list_any (λ name. not (at_kind (same_kind IntKind) name (left.now ++ right.now))) (number_columns item.now) }
+    ensures { result ≡ are_texts (left.now ++ right.now) (number_columns item.now) }
 {
     match item {
         Listed::Sum(name) | Listed::Min(name) | Listed::Max(name) => !is_number(name, left, right),
@@ -85,7 +76,7 @@ fn item_mistypes(item: &Listed, left: &[Column], right: &[Column]) -> bool
 pub(crate) fn items_mistype(items: &[Listed], left: &[Column], right: &[Column]) -> bool
     requires left { length left.now ≤ 32 }
     requires right { length right.now ≤ 32 }
-    ensures { result ≡ list_any (λ name. not (at_kind (same_kind IntKind) name (left.now ++ right.now))) (flat_map number_columns items.now) }
+    ensures { result ≡ are_texts (left.now ++ right.now) (flat_map number_columns items.now) }
 {
     match items.split_first() {
         None => false,
@@ -114,7 +105,9 @@ fn is_group(
 fn item_strays(group: &Option<ColumnName>, item: &Listed, left: &[Column], right: &[Column]) -> bool
     requires left { length left.now ≤ 32 }
     requires right { length right.now ≤ 32 }
-    ensures { result ≡ list_any (λ name. not (is_group (left.now ++ right.now) group.now name)) (plain_columns item.now) }
+    ensures { result ≡ list_any
+        (λ name. not (is_group (left.now ++ right.now) group.now name))
+        (plain_columns item.now) }
 {
     match item {
         Listed::Column(name) => !is_group(group, name, left, right),
@@ -131,7 +124,9 @@ fn items_stray(
 ) -> bool
     requires left { length left.now ≤ 32 }
     requires right { length right.now ≤ 32 }
-    ensures { result ≡ list_any (λ name. not (is_group (left.now ++ right.now) group.now name)) (flat_map plain_columns items.now) }
+    ensures { result ≡ list_any
+        (λ name. not (is_group (left.now ++ right.now) group.now name))
+        (flat_map plain_columns items.now) }
 {
     match items.split_first() {
         None => false,
@@ -141,11 +136,11 @@ fn items_stray(
     }
 }
 
-/// Whether a plain column stands beside aggregates, and isn't the group's.
-pub(crate) fn has_stray_column(select: &Select, left: &[Column], right: &[Column]) -> bool
+/// Whether a plain column stands there that isn't the one of GROUP BY.
+pub(crate) fn has_stray_column(select: &SelectTotals, left: &[Column], right: &[Column]) -> bool
     requires left { length left.now ≤ 32 }
     requires right { length right.now ≤ 32 }
     ensures { result ≡ has_stray_column (left.now ++ right.now) select.now }
 {
-    has_totals(select) && items_stray(&select.group, listed(&select.list), left, right)
+    items_stray(&select.group, select.items.as_slice(), left, right)
 }

@@ -5,8 +5,8 @@ ghost use Rattle.ob_base.specs.Lists.{has_repeats};
 ghost use Rattle.ob_base.specs.declared.skeleton.ColumnName.{ColumnName};
 ghost use Rattle.ob_sql.specs.declared.stmt.Literal.{Literal};
 ghost use Rattle.ob_mean.specs.Names.{unqualified};
-ghost use Rattle.ob_mean.specs.Kinds.{at_kind, is_of_kind, is_too_large_for};
-ghost use Rattle.ob_mean.specs.Refusals.{means_one};
+ghost use Rattle.ob_mean.specs.Kinds.{mistype_columns, overflow_columns};
+ghost use Rattle.ob_mean.specs.Refusals.{lack_columns};
 
 use crate::kinds::{overflows, takes};
 use crate::names::{means_one, unqualified};
@@ -80,7 +80,8 @@ pub(crate) fn has_repeats<T: Named>(items: &[T]) -> bool
 pub(crate) fn lack_column<T: Named>(items: &[T], left: &[Column], right: &[Column]) -> bool
     requires left { length left.now ≤ 32 }
     requires right { length right.now ≤ 32 }
-    ensures { result ≡ list_any (λ name. not (means_one (left.now ++ right.now) name)) (map unqualified (map T.name_of items.now)) }
+    ensures { result
+        ≡ lack_columns (left.now ++ right.now) (map unqualified (map T.name_of items.now)) }
 {
     match items.split_first() {
         None => false,
@@ -99,7 +100,9 @@ pub(crate) fn mistype<T: Named>(
 ) -> bool
     requires left { length left.now ≤ 32 }
     requires right { length right.now ≤ 32 }
-    ensures { result ≡ list_any (λ (a : ColumnName × Literal). not (at_kind (λ k. is_of_kind k a.1) a.0 (left.now ++ right.now))) (zip (map unqualified (map T.name_of items.now)) values.now) }
+    ensures { result
+        ≡ mistype_columns (left.now ++ right.now)
+        (zip (map unqualified (map T.name_of items.now)) values.now) }
 {
     match (items.split_first(), values.split_first()) {
         (Some((item, items)), Some((value, values))) => {
@@ -119,7 +122,9 @@ pub(crate) fn overflow<T: Named>(
 ) -> bool
     requires left { length left.now ≤ 32 }
     requires right { length right.now ≤ 32 }
-    ensures { result ≡ list_any (λ (a : ColumnName × Literal). at_kind (λ k. is_too_large_for k a.1) a.0 (left.now ++ right.now)) (zip (map unqualified (map T.name_of items.now)) values.now) }
+    ensures { result
+        ≡ overflow_columns (left.now ++ right.now)
+        (zip (map unqualified (map T.name_of items.now)) values.now) }
 {
     match (items.split_first(), values.split_first()) {
         (Some((item, items)), Some((value, values))) => {

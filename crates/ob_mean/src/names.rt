@@ -1,7 +1,7 @@
 //! What the names of a statement mean.
 ghost use Rattle.std.specs.Prelude.{◌≡◌, ◌≤◌, ◌<◌, ◌++◌, Option, Some, None, [], length, slice_get, IfSome, IfNone, count_by, position};
 ghost use Rattle.ob_base.specs.Stored.{has_table, heading_at};
-ghost use Rattle.ob_mean.specs.Headings.{headings_of};
+ghost use Rattle.ob_base.specs.Stored.{headings_of};
 ghost use Rattle.ob_mean.specs.Names.{columns_at, is_named, place_of, unqualified};
 ghost use Rattle.ob_mean.specs.Refusals.{means_one};
 ghost use Rattle.ob_mean.specs.Kinds.{kind_meant};

@@ -4,9 +4,9 @@ ghost use Rattle.std.specs.List.{list_any};
 ghost use Rattle.ob_base.specs.Schemas.{same_kind, key_place};
 ghost use Rattle.ob_base.specs.Stored.{has_table};
 ghost use Rattle.ob_base.specs.Joins.{joined_slots};
-ghost use Rattle.ob_mean.specs.Headings.{headings_of};
+ghost use Rattle.ob_base.specs.Stored.{headings_of};
 ghost use Rattle.ob_mean.specs.Kinds.{at_kind};
-ghost use Rattle.ob_mean.specs.Refusals.{source_tables, joins_itself, joins_kinds, joins_past, joins_past_at, joins_off_key_at, join_columns, is_key, left_place, is_across, means_one};
+ghost use Rattle.ob_mean.specs.Refusals.{source_tables, joins_itself, joins_kinds, joins_past, joins_past_at, joins_off_key_at, join_columns, is_key, left_place, right_place, is_across, lack_columns};
 ghost use Rattle.ob_mean.specs.Scopes.{left_of_source, right_of_source, joins_apart_in};
 
 use crate::kinds::are_alike;
@@ -15,7 +15,9 @@ use ob_base::{Column, ColumnName, Heading, Public, Source, Table};
 use ob_row::width;
 
 pub(crate) fn source_lacks(tables: &[Table], source: &Source) -> bool
-    ensures { result ≡ list_any (λ name. not (has_table name (headings_of tables.now))) (source_tables source.now) }
+    ensures { result
+        ≡ list_any (λ name. not (has_table name (headings_of tables.now)))
+        (source_tables source.now) }
 {
     match source {
         Source::Table(name) => !has_table(tables, name),
@@ -81,7 +83,7 @@ pub(crate) fn joins_apart(source: &Source, left: &[Column], right: &[Column]) ->
 pub(crate) fn on_lacks(source: &Source, left: &[Column], right: &[Column]) -> bool
     requires left { length left.now ≤ 32 }
     requires right { length right.now ≤ 32 }
-    ensures { result ≡ list_any (λ name. not (means_one (left.now ++ right.now) name)) (join_columns source.now) }
+    ensures { result ≡ lack_columns (left.now ++ right.now) (join_columns source.now) }
 {
     match source {
         Source::Table(_) => false,
@@ -120,7 +122,8 @@ fn joined_slots(public: &Public, n: u32, m: u32) -> u128
 fn headings_past(public: &Public, left: &Heading, right: &Heading) -> bool
     requires pack { 1 ≤ public.now.pack }
     requires buffer { 3 * public.now.pack + 1 ≤ public.now.buffer }
-    ensures { result ≡ joins_past_at public.now.pack public.now.buffer (Some left.now) (Some right.now) }
+    ensures { result
+        ≡ joins_past_at public.now.pack public.now.buffer (Some left.now) (Some right.now) }
 {
     u64::from(width(&left.schema)) + u64::from(width(&right.schema)) > 1025
         || joined_slots(public, left.capacity, right.capacity) > 16_777_216
@@ -130,7 +133,8 @@ fn headings_past(public: &Public, left: &Heading, right: &Heading) -> bool
 pub(crate) fn joins_past(public: &Public, source: &Source) -> bool
     requires pack { 1 ≤ public.now.pack }
     requires buffer { 3 * public.now.pack + 1 ≤ public.now.buffer }
-    ensures { result ≡ joins_past public.now.pack public.now.buffer (headings_of public.now.tables) source.now }
+    ensures { result
+        ≡ joins_past public.now.pack public.now.buffer (headings_of public.now.tables) source.now }
 {
     let tables = public.tables.as_slice();
     match source {
@@ -160,10 +164,13 @@ fn is_key(columns: &[Column], i: usize) -> bool
     }
 }
 
-fn left_place(on: &ColumnName, equals: &ColumnName, left: &[Column], right: &[Column]) -> usize
+/// The place of the left table's column of ON, whichever side it stands on.
+pub fn left_place(on: &ColumnName, equals: &ColumnName, left: &[Column], right: &[Column]) -> usize
     requires left { length left.now ≤ 32 }
     requires right { length right.now ≤ 32 }
-    ensures { result ≡ left_place (length left.now) (left.now ++ right.now) on.now equals.now }
+    ensures value { result
+        ≡ left_place (length left.now) (left.now ++ right.now) on.now equals.now }
+    ensures few { result < 64 }
 {
     let i = place_of(on, left, right);
     if i < left.len() {
@@ -173,10 +180,28 @@ fn left_place(on: &ColumnName, equals: &ColumnName, left: &[Column], right: &[Co
     }
 }
 
+/// The place of the right table's column of ON, among that table's own.
+pub fn right_place(on: &ColumnName, equals: &ColumnName, left: &[Column], right: &[Column]) -> usize
+    requires left { length left.now ≤ 32 }
+    requires right { length right.now ≤ 32 }
+    ensures value { result
+        ≡ right_place (length left.now) (left.now ++ right.now) on.now equals.now }
+    ensures few { result < 64 }
+{
+    let i = place_of(on, left, right);
+    if i < left.len() {
+        place_of(equals, left, right).saturating_sub(left.len())
+    } else {
+        i.saturating_sub(left.len())
+    }
+}
+
 fn on_off_key(on: &ColumnName, equals: &ColumnName, left: &[Column], right: &[Column]) -> bool
     requires left { length left.now ≤ 32 }
     requires right { length right.now ≤ 32 }
-    ensures { result ≡ not (is_key left.now (left_place (length left.now) (left.now ++ right.now) on.now equals.now)) }
+    ensures { result
+        ≡ not (is_key left.now
+        (left_place (length left.now) (left.now ++ right.now) on.now equals.now)) }
 {
     !is_key(left, left_place(on, equals, left, right))
 }

@@ -3,11 +3,11 @@ ghost use Rattle.std.specs.Prelude.{◌≡◌, ◌≤◌, ◌<◌, ◌++◌, Opt
 ghost use Rattle.std.specs.List.{All};
 ghost use Rattle.ob_row.specs.Spelling.{IsCell};
 ghost use Rattle.ob_sql.specs.declared.stmt.Literal.{Literal};
-ghost use Rattle.ob_mean.specs.Names.{place_of, unqualified, cell_of};
+ghost use Rattle.ob_mean.specs.Names.{place_of, unqualified, literal_cell};
 ghost use Rattle.ob_mean.specs.Refusals.{insert_columns};
 ghost use Rattle.ob_mean.specs.Step.{given_cell, new_row};
 
-use crate::condition::cell_of;
+use crate::condition::literal_cell;
 use crate::named::Named;
 use crate::names::{place_of, unqualified};
 use ob_base::{Column, Items, Name, NoMemory, Schema};
@@ -17,13 +17,14 @@ use std::alloc::Global;
 
 // The cell beside this name.
 fn cell_beside<T: Named>(column: &Column, names: &[T], values: &[Literal]) -> Option<Cell>
-    ensures value { option_to_list result ≡ given_cell (zip (map T.name_of names.now) values.now) column.now }
+    ensures value { option_to_list result
+        ≡ given_cell (zip (map T.name_of names.now) values.now) column.now }
     ensures held { IfSome result IsCell }
 {
     match (names.split_first(), values.split_first()) {
         (Some((name, names)), Some((value, values))) => {
             if column.name.as_bytes() == name.name().as_bytes() {
-                Some(cell_of(value))
+                Some(literal_cell(value))
             } else {
                 cell_beside(column, names, values)
             }
@@ -40,7 +41,8 @@ fn given_cell(
     values: &[Literal],
     columns: &[Column],
 ) -> Option<Cell>
-    ensures value { option_to_list result ≡ given_cell (zip (insert_columns names.now columns.now) values.now) column.now }
+    ensures value { option_to_list result
+        ≡ given_cell (zip (insert_columns names.now columns.now) values.now) column.now }
     ensures held { IfSome result IsCell }
 {
     match names {
@@ -57,7 +59,11 @@ fn add_cells(
     values: &[Literal],
     cells: &mut Vec<Cell>,
 ) -> Result<(), NoMemory>
-    ensures value { OnOk result (cells.new.items ≡ cells.old.items ++ flat_map (given_cell (zip (insert_columns names.now schema.now) values.now)) columns.now) }
+    ensures value { OnOk result
+        (cells.new.items
+        ≡ cells.old.items
+        ++ flat_map
+        (given_cell (zip (insert_columns names.now schema.now) values.now)) columns.now) }
     ensures held { All IsCell cells.old.items → OnOk result (All IsCell cells.new.items) }
 {
     match columns.split_first() {
@@ -96,11 +102,11 @@ pub fn new_row(
 pub fn set_cell(set: &Set, columns: &[Column]) -> (u8, Cell)
     requires { length columns.now ≤ 32 }
     ensures place { result.0 ≡ place_of (unqualified set.now.column) columns.now }
-    ensures cell { result.1 ≡ cell_of set.now.value }
+    ensures cell { result.1 ≡ literal_cell set.now.value }
     ensures held { IsCell result.1 }
 {
     (
         place_of(&unqualified(&set.column), columns, &[]) as u8,
-        cell_of(&set.value),
+        literal_cell(&set.value),
     )
 }

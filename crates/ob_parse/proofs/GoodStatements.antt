@@ -19,9 +19,9 @@ use Rattle.ob_token.specs.declared.token.Lexeme.TheVariants as L
 use Rattle.ob_token.specs.declared.token.Token.{Token}
 use Rattle.ob_sql.specs.Search.{Search}
 use Rattle.ob_condition.specs.Marks.{flag, is, key, marked, name_in, name_of, number_of}
-use Rattle.ob_condition.specs.Conditions.{Column, Condition, Constant, Where}
+use Rattle.ob_condition.specs.Conditions.{Column, Searching, Constant, Where}
 use Rattle.ob_condition.specs.Reading.{column, condition, constant, where_part}
-use Rattle.ob_parse.specs.Statements.{all_columns, capped, integer_mark, integer_of, new_column, select, set_of, Argument, Assignment, Behind, Body, Constraint, Counted, Create, Definition, Delete, Drop, Group, Groups, Insert, Itemized, Joins, Kind, Names, OneItem, Selection, Sources, Starred, Statement, Targets, Update}
+use Rattle.ob_parse.specs.Statements.{all_columns, capped, integer_mark, integer_of, new_column, of_items, rows, set_of, Argument, Assignment, Behind, Body, Constraint, Counted, Create, Definition, Delete, Drop, Group, Groups, Insert, Itemized, Joins, Kind, Names, OneItem, Selection, Sources, Starred, Statement, Targets, Update}
 use Rattle.ob_parse.specs.StatementReading.{all_or_column, argument, assignment, behind, body, constrains, constraint, constraints, counted, create, definition, delete, deleting, drop_table, dropping, expects, greatest, group, groups, insert, inserting, item, itemized, joined_or, joins, kind, least, names, selection, sources, starred, statement, summed, targets, update, updating, varchar}
 use Rattle.ob_condition.proofs.Told.{of, apart, apart_some, no_key}
 use Rattle.ob_condition.proofs.GoodConditions.{AfterColumn, AfterCond, column_first, good_column, good_condition, good_constant}
@@ -212,7 +212,7 @@ unfolding targets
 good_targets = good_perhaps (key M.Open) (of (L.Mark M.Open)) refl Names NoOpen names good_names (λ t f. no_key M.Open t.lexeme f) open_end
 
 pub where_leads : (text : List ℕ) (Q : Token → Type 0) → ((t : Token) (u : Unit {0}) → key M.Where t ≡ Some u → Q t) → (v : Option Search) (w : List Token) → Where text v w → Leads Q w
-where_leads text Q so v w h = leads_perhaps (key M.Where) (Condition text 32) Q so v w h
+where_leads text Q so v w h = leads_perhaps (key M.Where) (Searching text 32) Q so v w h
 
 module _ (text : List ℕ) where
   pub good_insert : Good (Insert text) Final (insert text)
@@ -235,8 +235,8 @@ module _ (text : List ℕ) where
 
   pub good_where : Good (Where text) AfterWhere (where_part text)
   unfolding where_part
-  good_where = good_perhaps (key M.Where) (of (L.Mark M.Where)) refl (Condition text 32) AfterWhere (condition text 32)
-      (good_under (Condition text 32) AfterCond AfterWhere (condition text 32) (good_condition text 32) (λ t f. f.0)) (λ t f. no_key M.Where t.lexeme f.1) where_end
+  good_where = good_perhaps (key M.Where) (of (L.Mark M.Where)) refl (Searching text 32) AfterWhere (condition text 32)
+      (good_under (Searching text 32) AfterCond AfterWhere (condition text 32) (good_condition text 32) (λ t f. f.0)) (λ t f. no_key M.Where t.lexeme f.1) where_end
 
   good_last_where : (f : Option Search → Stmt) → Good (G.Bind (Where text) (λ cond. G.Empty (f cond))) Final (R.bind (where_part text) (λ cond. R.empty (f cond)))
   good_last_where f = good_map (Where text) f Final (where_part text) (good_under (Where text) AfterWhere Final (where_part text) good_where after_where) final_end
@@ -390,27 +390,27 @@ groups_source (F.Join left right on equals) v w h = inl h.1
 module _ (text : List ℕ) where
   good_starred : Good (Starred text) Final (starred text)
   unfolding starred
-  good_starred = word M.From refl (named (λ a. good_before (Behind a) (λ source. G.Bind (Where text) (λ cond. G.Empty (select None source cond None))) AfterSource Final
-      (behind a) (λ source. R.bind (where_part text) (λ cond. R.empty (select None source cond None))) (good_behind a)
-      (λ source. good_last_where text (λ cond. select None source cond None))
-      (λ source v w h. last_where_leads text (λ cond. select None source cond None) AfterSource (after_source M.Where refl refl refl) v w h)
+  good_starred = word M.From refl (named (λ a. good_before (Behind a) (λ source. G.Bind (Where text) (λ cond. G.Empty (rows None source cond))) AfterSource Final
+      (behind a) (λ source. R.bind (where_part text) (λ cond. R.empty (rows None source cond))) (good_behind a)
+      (λ source. good_last_where text (λ cond. rows None source cond))
+      (λ source v w h. last_where_leads text (λ cond. rows None source cond) AfterSource (after_source M.Where refl refl refl) v w h)
       final_source final_end) final_end) final_end
 
   abbrev Ending : List Item → Source → Stmt → List Token → Type 0
-  Ending items source = G.Bind (Where text) (λ cond. G.Bind (Groups source) (λ found. G.Empty (select (Some items) source cond found)))
+  Ending items source = G.Bind (Where text) (λ cond. G.Bind (Groups source) (λ found. G.Empty (of_items items source cond found)))
 
   good_ending : (items : List Item) (source : Source) → Good (Ending items source) Final
-      (R.bind (where_part text) (λ cond. R.bind (groups source) (λ found. R.empty (select (Some items) source cond found))))
-  good_ending items source = good_before (Where text) (λ cond. G.Bind (Groups source) (λ found. G.Empty (select (Some items) source cond found))) AfterWhere Final
-      (where_part text) (λ cond. R.bind (groups source) (λ found. R.empty (select (Some items) source cond found))) (good_where text)
-      (λ cond. good_map (Groups source) (select (Some items) source cond) Final (groups source) (good_groups source) final_end)
-      (λ cond v w h. leads_bind (Groups source) (λ found. G.Empty (select (Some items) source cond found)) AfterWhere (groups_lead source) (λ u v w e. inl e.1) v w h)
+      (R.bind (where_part text) (λ cond. R.bind (groups source) (λ found. R.empty (of_items items source cond found))))
+  good_ending items source = good_before (Where text) (λ cond. G.Bind (Groups source) (λ found. G.Empty (of_items items source cond found))) AfterWhere Final
+      (where_part text) (λ cond. R.bind (groups source) (λ found. R.empty (of_items items source cond found))) (good_where text)
+      (λ cond. good_map (Groups source) (of_items items source cond) Final (groups source) (good_groups source) final_end)
+      (λ cond v w h. leads_bind (Groups source) (λ found. G.Empty (of_items items source cond found)) AfterWhere (groups_lead source) (λ u v w e. inl e.1) v w h)
       after_where final_end
 
   ending_leads : (items : List Item) (source : Source) (v : Stmt) (w : List Token) → Ending items source v w → Leads AfterSource w
-  ending_leads items source v w h = leads_bind (Where text) (λ cond. G.Bind (Groups source) (λ found. G.Empty (select (Some items) source cond found))) AfterSource
+  ending_leads items source v w h = leads_bind (Where text) (λ cond. G.Bind (Groups source) (λ found. G.Empty (of_items items source cond found))) AfterSource
       (where_leads text AfterSource (after_source M.Where refl refl refl))
-      (λ cond v w k. leads_bind (Groups source) (λ found. G.Empty (select (Some items) source cond found)) AfterSource (groups_source source) (λ u v w e. inl e.1) v w k) v w h
+      (λ cond v w k. leads_bind (Groups source) (λ found. G.Empty (of_items items source cond found)) AfterSource (groups_source source) (λ u v w e. inl e.1) v w k) v w h
 
   abbrev ItemsEnd : Token → Type 0
   ItemsEnd t = (is M.Dot t.lexeme ≡ false) × (is M.Comma t.lexeme ≡ false)
@@ -421,10 +421,10 @@ module _ (text : List ℕ) where
       (λ items. G.Bind (G.Token (key M.From)) (λ _. G.Bind (G.Token name_of) (λ a. G.Bind (Sources (all_columns items) a) (Ending items)))) ItemsEnd Final
       (R.listed (key M.Comma) item)
       (λ items. expects M.From (R.bind (R.token name_of) (λ a. R.bind (sources (all_columns items) a) (λ source.
-      R.bind (where_part text) (λ cond. R.bind (groups source) (λ found. R.empty (select (Some items) source cond found)))))))
+      R.bind (where_part text) (λ cond. R.bind (groups source) (λ found. R.empty (of_items items source cond found)))))))
       (list_of ItemsEnd good_item (λ t f. f.1) (λ t f. f.0) (other_some M.Comma M.Dot refl) (of (L.Mark M.Semicolon), (refl, refl)))
       (λ items. word M.From refl (named (λ a. good_before (Sources (all_columns items) a) (Ending items) AfterSource Final
-      (sources (all_columns items) a) (λ source. R.bind (where_part text) (λ cond. R.bind (groups source) (λ found. R.empty (select (Some items) source cond found))))
+      (sources (all_columns items) a) (λ source. R.bind (where_part text) (λ cond. R.bind (groups source) (λ found. R.empty (of_items items source cond found))))
       (good_sources (all_columns items) a) (good_ending items) (ending_leads items) final_source final_end) final_end) final_end)
       (λ items v w h. begins_word M.From ItemsEnd (λ t u e. (other M.From M.Dot refl t u e, other M.From M.Comma refl t u e)) w h) final_end
 

@@ -1,6 +1,8 @@
 -- SELECT, read with what its three forms have in common once, is the three forms.
 use Rattle.std.proofs.Common.{◌≡◌, ℕ, List, [], ◌∷◌, ◌++◌, inl, inr, Bool, true, false, Option, Some, None, refl, sym, ◌∙◌, ap, subst, append_assoc}
-use Rattle.std.specs.Prelude.{◌&&◌}
+use Rattle.std.specs.Prelude.{◌&&◌, map}
+use Rattle.std.specs.List.{flat_map}
+use Rattle.std.proofs.lemmas.List.{append-nil, flat_map_more, map_push}
 use Rattle.ob_grammar.specs.Language.{Token as OneToken, Empty, Bind, Either, Iter, stop, turn, Next, Listed}
 use Rattle.ob_base.specs.declared.skeleton.ColumnName.{ColumnName}
 use Rattle.ob_base.specs.declared.skeleton.Source.{Source}
@@ -9,12 +11,13 @@ use Rattle.ob_sql.specs.declared.stmt.Listed.{Listed as Item}
 use Rattle.ob_sql.specs.declared.stmt.Listed.TheVariants as I
 use Rattle.ob_sql.specs.declared.stmt.Stmt.{Stmt}
 use Rattle.ob_sql.specs.Search.{Search}
+use Rattle.ob_sql.specs.Skeleton.{named_by}
 use Rattle.ob_token.specs.declared.token.Mark.TheVariants as M
 use Rattle.ob_token.specs.declared.token.Token.{Token}
 use Rattle.ob_condition.specs.Marks.{key, name_of}
-use Rattle.ob_condition.specs.Conditions.{Where}
-use Rattle.ob_parse.specs.Statements.{all_columns, is_column, select, Behind, Groups, Itemized, Joins, OneItem, Selection, Sources, Starred}
-use Rattle.ob_parse.specs.Selects.{ColumnItem, ColumnsOfJoin, Inners, ItemsOfTable, OneSource, ThreeForms}
+use Rattle.ob_condition.specs.Conditions.{Column, Where}
+use Rattle.ob_parse.specs.Statements.{all_columns, is_column, of_items, rows, Behind, Groups, Itemized, Joins, OneItem, Selection, Sources, Starred}
+use Rattle.ob_parse.specs.Selects.{ColumnsOfJoin, Inners, ItemsOfTable, OneSource, ThreeForms}
 
 -- ---- one after the other
 
@@ -78,7 +81,22 @@ columns_end (j ∷ items) i = and_last (is_column j) (all_columns (items ++ i �
 other_item : (i j : Item) → i ≡ j → is_column j ≡ false → is_column i ≡ true → ⊥
 other_item i j e n c = let both : true ≡ false = sym c ∙ ap is_column e ∙ n in absurd (cc both)
 
-to_column : (i : Item) (w : List Token) → OneItem i w → is_column i ≡ true → ColumnItem i w
+-- a list of plain columns
+abbrev plain : List ColumnName → List Item
+plain columns = map I.Column columns
+
+are_columns : (columns : List ColumnName) → all_columns (plain columns) ≡ true
+are_columns [] = refl
+are_columns (c ∷ columns) = are_columns columns
+
+names_of : (columns : List ColumnName) → flat_map named_by (plain columns) ≡ columns
+names_of [] = refl
+names_of (c ∷ columns) = ap (λ l. c ∷ l) (names_of columns)
+
+abbrev ColumnOf : Item → List Token → Type 0
+ColumnOf i w = (a : ColumnName) × Column a w × (i ≡ I.Column a)
+
+to_column : (i : Item) (w : List Token) → OneItem i w → is_column i ≡ true → ColumnOf i w
 to_column i w (inl (u, x, y, k, (u1, x1, y1, k1, (j, x2, y2, inl (u3, x3, y3, k3, (is, n3), e3), (u4, x4, y4, k4, (same, n4), e4), e2), e1), e)) c =
     absurd (other_item i I.CountAll (same ∙ is) refl c)
 to_column i w (inl (u, x, y, k, (u1, x1, y1, k1, (j, x2, y2, inr (a, x3, y3, k3, (is, n3), e3), (u4, x4, y4, k4, (same, n4), e4), e2), e1), e)) c =
@@ -86,64 +104,61 @@ to_column i w (inl (u, x, y, k, (u1, x1, y1, k1, (j, x2, y2, inr (a, x3, y3, k3,
 to_column i w (inr (inl (u, x, y, k, (a, x1, y1, k1, (is, n), e1), e))) c = absurd (other_item i (I.Sum a) is refl c)
 to_column i w (inr (inr (inl (u, x, y, k, (a, x1, y1, k1, (is, n), e1), e)))) c = absurd (other_item i (I.Min a) is refl c)
 to_column i w (inr (inr (inr (inl (u, x, y, k, (a, x1, y1, k1, (is, n), e1), e))))) c = absurd (other_item i (I.Max a) is refl c)
-to_column i w (inr (inr (inr (inr h)))) c = h
+to_column i w (inr (inr (inr (inr (a, x, y, h, (is, n), e))))) c = (a, subst (Column a) (sym (e ∙ ap (λ zs. x ++ zs) n ∙ append-nil x)) h, is)
 
-of_column : (i : Item) (w : List Token) → ColumnItem i w → OneItem i w × (is_column i ≡ true)
-of_column i w (a, x, y, h, (is, n), e) = (inr (inr (inr (inr (a, x, y, h, (is, n), e)))), ap is_column is)
+of_column : (a : ColumnName) (w : List Token) → Column a w → OneItem (I.Column a) w
+of_column a w h = inr (inr (inr (inr (a, w, [], h, (refl, refl), sym (append-nil w)))))
 
-abbrev More : (Item → List Token → Type 0) → List Item → List Item → List Token → Type 0
+abbrev More : {V : Type 0} → (V → List Token → Type 0) → List V → List V → List Token → Type 0
 More A = Iter (Next (key M.Comma) (λ s v. s ++ v ∷ []) A)
 
-more_of_columns : (s v : List Item) (ts : List Token) → More ColumnItem s v ts → all_columns s ≡ true → More OneItem s v ts × (all_columns v ≡ true)
-more_of_columns _ _ _ (stop s) c = (stop s, c)
-more_of_columns _ _ _ (turn s m v x xs (u, p, q, k, (i, a, b, h, (is, n), e1), e) ms) c =
-    let one = of_column i a h in
-    let all : all_columns m ≡ true = ap all_columns is ∙ columns_end s i ∙ ap (λ b. b && is_column i) c ∙ one.1 in
-    let more = more_of_columns m v xs ms all in
-    (turn s m v x xs (u, p, q, k, (i, a, b, one.0, (is, n), e1), e) more.0, more.1)
+more_of_columns : (s v : List ColumnName) (ts : List Token) → More Column s v ts → More OneItem (plain s) (plain v) ts
+more_of_columns _ _ _ (stop s) = stop (plain s)
+more_of_columns _ _ _ (turn s m v x xs (u, p, q, k, (i, a, b, h, (is, n), e1), e) ms) =
+    turn (plain s) (plain m) (plain v) x xs (u, p, q, k, (I.Column i, a, b, of_column i a h, (ap plain is ∙ map_push I.Column s i, n), e1), e) (more_of_columns m v xs ms)
 
-more_to_columns : (s v : List Item) (ts : List Token) → More OneItem s v ts → all_columns v ≡ true → More ColumnItem s v ts × (all_columns s ≡ true)
-more_to_columns _ _ _ (stop s) c = (stop s, c)
+more_to_columns : (s v : List Item) (ts : List Token) → More OneItem s v ts → all_columns v ≡ true → More Column (flat_map named_by s) (flat_map named_by v) ts × (all_columns s ≡ true)
+more_to_columns _ _ _ (stop s) c = (stop (flat_map named_by s), c)
 more_to_columns _ _ _ (turn s m v x xs (u, p, q, k, (i, a, b, h, (is, n), e1), e) ms) c =
     let more = more_to_columns m v xs ms c in
     let both : (all_columns s && is_column i) ≡ true = sym (ap all_columns is ∙ columns_end s i) ∙ more.1 in
-    (turn s m v x xs (u, p, q, k, (i, a, b, to_column i a h (second_true (all_columns s) (is_column i) both), (is, n), e1), e) more.0, first_true (all_columns s) (is_column i) both)
+    let one : ColumnOf i a = to_column i a h (second_true (all_columns s) (is_column i) both) in
+    let names : flat_map named_by m ≡ flat_map named_by s ++ one.0 ∷ [] =
+    ap (flat_map named_by) is ∙ sym (flat_map_more named_by [] s i) ∙ ap (λ j. flat_map named_by s ++ named_by j) one.2 in
+    (turn (flat_map named_by s) (flat_map named_by m) (flat_map named_by v) x xs (u, p, q, k, (one.0, a, b, one.1, (names, n), e1), e) more.0, first_true (all_columns s) (is_column i) both)
 
-list_of_columns : (items : List Item) (ts : List Token) → Listed (key M.Comma) ColumnItem items ts → Listed (key M.Comma) OneItem items ts × (all_columns items ≡ true)
-list_of_columns items ts (i, x, y, h, ms, e) =
-    let one = of_column i x h in
-    let more = more_of_columns (i ∷ []) items y ms (ap (λ b. b && true) one.1) in
-    ((i, x, y, one.0, more.0, e), more.1)
+list_of_columns : (columns : List ColumnName) (ts : List Token) → Listed (key M.Comma) Column columns ts → Listed (key M.Comma) OneItem (plain columns) ts
+list_of_columns columns ts (i, x, y, h, ms, e) = (I.Column i, x, y, of_column i x h, more_of_columns (i ∷ []) columns y ms, e)
 
-list_to_columns : (items : List Item) (ts : List Token) → Listed (key M.Comma) OneItem items ts → all_columns items ≡ true → Listed (key M.Comma) ColumnItem items ts
+list_to_columns : (items : List Item) (ts : List Token) → Listed (key M.Comma) OneItem items ts → all_columns items ≡ true → Listed (key M.Comma) Column (flat_map named_by items) ts
 list_to_columns items ts (i, x, y, h, ms, e) c =
     let more = more_to_columns (i ∷ []) items y ms c in
-    (i, x, y, to_column i x h (first_true (is_column i) true more.1), more.0, e)
+    let one : ColumnOf i x = to_column i x h (first_true (is_column i) true more.1) in
+    (one.0, x, y, one.1, subst (λ l. More Column l (flat_map named_by items) y) (ap (λ j. named_by j ++ []) one.2) more.0, e)
 
 -- ---- GROUP BY behind one table alone
 
 module _ (items : List Item) (cond : Option Search) where
   abbrev Ends : Source → Stmt → List Token → Type 0
-  Ends source = Bind (Groups source) (λ group. Empty (select (Some items) source cond group))
+  Ends source = Bind (Groups source) (λ group. Empty (of_items items source cond group))
 
   ends_table : (source : Source) (a : List ℕ) → source ≡ F.Table a → (s : Stmt) (w : List Token) → Ends source s w → Ends (F.Table a) s w
   ends_table source a e s w h = subst (λ f. Ends f s w) e h
 
-  ends_join : (source : Source) (a : List ℕ) → IsJoin a source → (s : Stmt) (w : List Token) → Ends source s w → Empty (select (Some items) source cond None) s w
-  ends_join (F.Table b) a (right, on, equals, e) s w h = absurd (cc e)
-  ends_join (F.Join b r o q) a is s w (group, x, y, (none, nx), (same, ny), e) =
-      (same ∙ ap (λ g. select (Some items) (F.Join b r o q) cond g) none, e ∙ ap (λ zs. zs ++ y) nx ∙ ny)
+  abbrev AsRows : Source → Stmt → List Token → Type 0
+  AsRows source = Empty (rows (Some (flat_map named_by items)) source cond)
 
-  join_ends : (source : Source) (a : List ℕ) → IsJoin a source → (s : Stmt) (w : List Token) → Empty (select (Some items) source cond None) s w → Ends source s w
+  ends_join : (source : Source) (a : List ℕ) → IsJoin a source → (s : Stmt) (w : List Token) → Ends source s w → AsRows source s w
+  ends_join (F.Table b) a (right, on, equals, e) s w h = absurd (cc e)
+  ends_join (F.Join b r o q) a is s w (group, x, y, (none, nx), (same, ny), e) = (same, e ∙ ap (λ zs. zs ++ y) nx ∙ ny)
+
+  join_ends : (source : Source) (a : List ℕ) → IsJoin a source → (s : Stmt) (w : List Token) → AsRows source s w → Ends source s w
   join_ends (F.Table b) a (right, on, equals, e) s w h = absurd (cc e)
   join_ends (F.Join b r o q) a is s w (same, n) = (None, [], [], (refl, refl), (same, refl), n)
 
 module _ (text : List ℕ) where
-  abbrev Filtered : Option (List Item) → Source → Stmt → List Token → Type 0
-  Filtered list source = Bind (Where text) (λ cond. Empty (select list source cond None))
-
-  abbrev Ending : List Item → Source → Stmt → List Token → Type 0
-  Ending items source = Bind (Where text) (λ cond. Ends items cond source)
+  abbrev Filtered : Option (List ColumnName) → Source → Stmt → List Token → Type 0
+  Filtered list source = Bind (Where text) (λ cond. Empty (rows list source cond))
 
   -- ---- a list
 
@@ -154,7 +169,7 @@ module _ (text : List ℕ) where
   to_two s ts (items, x, y, h, (u, from, y1, k, (a, xn, y2, n, (source, xs, y3, hs, rest, e3), e2), e1), e) = go (all_columns items) refl hs where
     join : all_columns items ≡ true → Inners a source xs → Two s ts
     join c inners = inl (
-      items,
+      flat_map named_by items,
       x,
       y,
       list_to_columns items x h c,
@@ -168,7 +183,7 @@ module _ (text : List ℕ) where
           xn ++ xs,
           y3,
           (a, xn, xs, n, inners, refl),
-          then_so (Where text) (λ cond. Ends items cond source) (λ cond. Empty (select (Some items) source cond None))
+          then_so (Where text) (λ cond. Ends items cond source) (λ cond. AsRows items cond source)
               (λ cond s w ends. ends_join items cond source a (inners_join a source xs inners) s w ends) s y3 rest,
           e2 ∙ ap (λ zs. xn ++ zs) e3 ∙ sym (append_assoc xn xs y3),
         ),
@@ -217,12 +232,13 @@ module _ (text : List ℕ) where
   table_alone false a = (refl, refl)
 
   of_two : (s : Stmt) (ts : List Token) → Two s ts → Itemized text s ts
-  of_two s ts (inl (items, x, y, h, (u, from, y1, k, (source, xj, y3, (a, xn, xs, n, inners, ej), rest, e2), e1), e)) =
-      let list = list_of_columns items x h in (
+  of_two s ts (inl (columns, x, y, h, (u, from, y1, k, (source, xj, y3, (a, xn, xs, n, inners, ej), rest, e2), e1), e)) =
+      let items = plain columns in
+      let same : rows (Some columns) source ≡ rows (Some (flat_map named_by items)) source = ap (λ l. rows (Some l) source) (sym (names_of columns)) in (
         items,
         x,
         y,
-        list.0,
+        list_of_columns columns x h,
         (
           u,
           from,
@@ -237,9 +253,9 @@ module _ (text : List ℕ) where
               source,
               xs,
               y3,
-              subst (λ b. Sources b a source xs) (sym list.1) (behind_of a source xs inners),
-              then_so (Where text) (λ cond. Empty (select (Some items) source cond None)) (λ cond. Ends items cond source)
-                  (λ cond s w ends. join_ends items cond source a (inners_join a source xs inners) s w ends) s y3 rest,
+              subst (λ b. Sources b a source xs) (sym (are_columns columns)) (behind_of a source xs inners),
+              then_so (Where text) (λ cond. Empty (rows (Some columns) source cond)) (λ cond. Ends items cond source)
+                  (λ cond s w ends. join_ends items cond source a (inners_join a source xs inners) s w (ends.0 ∙ (λ t. same t cond), ends.1)) s y3 rest,
               refl,
             ),
             e2 ∙ ap (λ zs. zs ++ y3) ej ∙ append_assoc xn xs y3,

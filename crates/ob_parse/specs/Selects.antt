@@ -3,14 +3,12 @@ use Rattle.std.specs.Prelude.{ℕ, List, Some, None}
 use Rattle.ob_grammar.specs.Language.{Token as OneToken, Empty, Bind, Either, Listed}
 use Rattle.ob_base.specs.declared.skeleton.Source.{Source}
 use Rattle.ob_base.specs.declared.skeleton.Source.TheVariants as F
-use Rattle.ob_sql.specs.declared.stmt.Listed.{Listed as Item}
-use Rattle.ob_sql.specs.declared.stmt.Listed.TheVariants as I
 use Rattle.ob_sql.specs.declared.stmt.Stmt.{Stmt}
 use Rattle.ob_token.specs.declared.token.Mark.TheVariants as M
 use Rattle.ob_token.specs.declared.token.Token.{Token}
 use Rattle.ob_condition.specs.Marks.{key, name_of}
 use Rattle.ob_condition.specs.Conditions.{Column, Where}
-use Rattle.ob_parse.specs.Statements.{select, Group, Joins, OneItem}
+use Rattle.ob_parse.specs.Statements.{of_table, rows, Group, Joins, OneItem}
 
 -- [ INNER ] JOIN name ON column '=' column, behind a table
 abbrev pub Inners : List ℕ → Source → List Token → Type 0
@@ -24,24 +22,20 @@ Joined = Bind (OneToken name_of) Inners
 abbrev pub OneSource : Source → List Token → Type 0
 OneSource = Either (Bind (OneToken name_of) (λ a. Empty (F.Table a))) Joined
 
--- a column that is listed
-abbrev pub ColumnItem : Item → List Token → Type 0
-ColumnItem = Bind Column (λ c. Empty (I.Column c))
-
 module _ (text : List ℕ) where
   -- '*' FROM source [ WHERE cond ]
   abbrev pub AllOf : Stmt → List Token → Type 0
-  AllOf = Bind (OneToken (key M.Star)) (λ _. Bind (OneToken (key M.From)) (λ _. Bind OneSource (λ source. Bind (Where text) (λ cond. Empty (select None source cond None)))))
+  AllOf = Bind (OneToken (key M.Star)) (λ _. Bind (OneToken (key M.From)) (λ _. Bind OneSource (λ source. Bind (Where text) (λ cond. Empty (rows None source cond)))))
 
   -- column { ',' column } FROM joined [ WHERE cond ]
   abbrev pub ColumnsOfJoin : Stmt → List Token → Type 0
-  ColumnsOfJoin = Bind (Listed (key M.Comma) ColumnItem) (λ items. Bind (OneToken (key M.From)) (λ _. Bind Joined (λ source.
-      Bind (Where text) (λ cond. Empty (select (Some items) source cond None)))))
+  ColumnsOfJoin = Bind (Listed (key M.Comma) Column) (λ columns. Bind (OneToken (key M.From)) (λ _. Bind Joined (λ source.
+      Bind (Where text) (λ cond. Empty (rows (Some columns) source cond)))))
 
-  -- item { ',' item } FROM name [ WHERE cond ] [ GROUP BY column ]
+  -- item { ',' item } FROM name [ WHERE cond ] [ GROUP BY column ], which are rows or totals
   abbrev pub ItemsOfTable : Stmt → List Token → Type 0
   ItemsOfTable = Bind (Listed (key M.Comma) OneItem) (λ items. Bind (OneToken (key M.From)) (λ _. Bind (OneToken name_of) (λ a.
-      Bind (Where text) (λ cond. Bind Group (λ group. Empty (select (Some items) (F.Table a) cond group))))))
+      Bind (Where text) (λ cond. Bind Group (λ group. Empty (of_table items a cond group))))))
 
   -- the three forms, without SELECT
   abbrev pub ThreeForms : Stmt → List Token → Type 0

@@ -1,5 +1,5 @@
 -- What the parser computes for statements.
-use Rattle.std.specs.Prelude.{ℕ, ◌+◌, List, ◌||◌, length, Bool, true, false, Option, Some, None, is_some}
+use Rattle.std.specs.Prelude.{ℕ, ◌+◌, List, ◌||◌, length, Bool, true, false, Option, None, is_some}
 use Rattle.ob_grammar.specs.Reader as R
 use Rattle.ob_base.specs.declared.skeleton.ColumnName.{ColumnName}
 use Rattle.ob_base.specs.declared.skeleton.NewColumn.{NewColumn}
@@ -17,7 +17,7 @@ use Rattle.ob_token.specs.declared.token.Mark.TheVariants as M
 use Rattle.ob_token.specs.declared.token.Token.{Token}
 use Rattle.ob_condition.specs.Marks.{is, key, name_of, number_of}
 use Rattle.ob_condition.specs.Reading.{Read, column, constant, where_part}
-use Rattle.ob_parse.specs.Statements.{all_columns, capped, integer_of, new_column, select, set_of}
+use Rattle.ob_parse.specs.Statements.{all_columns, capped, integer_of, new_column, of_items, rows, set_of}
 
 abbrev pub expects : {V : Type 0} → Mark → (List Token → Read V) → List Token → Read V
 expects m r = R.bind (R.token (key m)) (λ _. r)
@@ -110,11 +110,11 @@ groups (F.Join left right on equals) = R.empty None
 
 module _ (text : List ℕ) where
   unfoldable pub starred : List Token → Read Stmt
-  starred = expects M.From (R.bind (R.token name_of) (λ a. R.bind (behind a) (λ source. R.bind (where_part text) (λ cond. R.empty (select None source cond None)))))
+  starred = expects M.From (R.bind (R.token name_of) (λ a. R.bind (behind a) (λ source. R.bind (where_part text) (λ cond. R.empty (rows None source cond)))))
 
   unfoldable pub itemized : List Token → Read Stmt
   itemized = R.bind (R.listed (key M.Comma) item) (λ items. expects M.From (R.bind (R.token name_of) (λ a. R.bind (sources (all_columns items) a) (λ source.
-      R.bind (where_part text) (λ cond. R.bind (groups source) (λ group. R.empty (select (Some items) source cond group)))))))
+      R.bind (where_part text) (λ cond. R.bind (groups source) (λ group. R.empty (of_items items source cond group)))))))
 
   unfoldable pub selection : List Token → Read Stmt
   selection = R.choose (λ t. is_some (key M.Star t)) (expects M.Star starred) itemized

@@ -1,5 +1,6 @@
 -- The grammar of statements, with the statement that each list of tokens spells.
-use Rattle.std.specs.Prelude.{ℕ, ◌+◌, min, List, [], ◌∷◌, Bool, true, false, ◌&&◌, Option, Some, None}
+use Rattle.std.specs.Prelude.{ℕ, ◌+◌, min, List, [], ◌∷◌, Bool, true, false, ◌&&◌, Option, Some, None, if◌then◌else◌}
+use Rattle.std.specs.List.{flat_map}
 use Rattle.ob_grammar.specs.Language.{Token as OneToken, Empty, Bind, Either, Iter, Listed, Perhaps}
 use Rattle.ob_base.specs.declared.skeleton.ColumnName.{ColumnName}
 use Rattle.ob_base.specs.declared.skeleton.NewColumn.{NewColumn}
@@ -17,6 +18,7 @@ use Rattle.ob_token.specs.declared.token.Mark.{Mark}
 use Rattle.ob_token.specs.declared.token.Mark.TheVariants as M
 use Rattle.ob_token.specs.declared.token.Token.{Token}
 use Rattle.ob_sql.specs.Search.{Search}
+use Rattle.ob_sql.specs.Skeleton.{named_by}
 use Rattle.ob_condition.specs.Marks.{key, marked, name_of, number_of}
 use Rattle.ob_condition.specs.Conditions.{Column, Constant, Where}
 
@@ -113,8 +115,11 @@ Joins left = Bind (OneToken name_of) (λ right. Bind (OneToken (key M.On)) (λ _
 abbrev pub Group : Option ColumnName → List Token → Type 0
 Group = Perhaps (key M.Group) (Bind (OneToken (key M.By)) (λ _. Column))
 
-abbrev pub select : Option (List Item) → Source → Option Search → Option ColumnName → Stmt
-select list source cond group = S.Select (record { list = list; source = source; cond = cond; group = group })
+abbrev pub rows : Option (List ColumnName) → Source → Option Search → Stmt
+rows list source cond = S.SelectRows (record { list = list; source = source; cond = cond })
+
+abbrev pub totals : List Item → List ℕ → Option Search → Option ColumnName → Stmt
+totals items table cond group = S.SelectTotals (record { items = items; table = table; cond = cond; group = group })
 
 abbrev pub is_column : Item → Bool
 is_column (I.Column c) = true
@@ -127,6 +132,16 @@ is_column (I.Max c) = false
 abbrev pub all_columns : List Item → Bool
 all_columns [] = true
 all_columns (item ∷ items) = is_column item && all_columns items
+
+-- items of a table: plain columns without GROUP BY are rows, any other are totals
+abbrev pub of_table : List Item → List ℕ → Option Search → Option ColumnName → Stmt
+of_table items table cond (Some key) = totals items table cond (Some key)
+of_table items table cond None = if all_columns items then rows (Some (flat_map named_by items)) (F.Table table) cond else totals items table cond None
+
+-- and those of a join are rows
+abbrev pub of_items : List Item → Source → Option Search → Option ColumnName → Stmt
+of_items items (F.Table table) cond group = of_table items table cond group
+of_items items (F.Join left right on equals) cond group = rows (Some (flat_map named_by items)) (F.Join left right on equals) cond
 
 -- name | joined, behind the name
 abbrev pub Behind : List ℕ → Source → List Token → Type 0
@@ -145,12 +160,12 @@ Groups (F.Join left right on equals) = Empty None
 module _ (text : List ℕ) where
   -- FROM source [ WHERE cond ], behind SELECT '*'
   abbrev pub Starred : Stmt → List Token → Type 0
-  Starred = Bind (OneToken (key M.From)) (λ _. Bind (OneToken name_of) (λ a. Bind (Behind a) (λ source. Bind (Where text) (λ cond. Empty (select None source cond None)))))
+  Starred = Bind (OneToken (key M.From)) (λ _. Bind (OneToken name_of) (λ a. Bind (Behind a) (λ source. Bind (Where text) (λ cond. Empty (rows None source cond)))))
 
   -- column { ',' column } FROM joined [ WHERE cond ] | item { ',' item } FROM name [ WHERE cond ] [ GROUP BY column ]
   abbrev pub Itemized : Stmt → List Token → Type 0
   Itemized = Bind (Listed (key M.Comma) OneItem) (λ items. Bind (OneToken (key M.From)) (λ _. Bind (OneToken name_of) (λ a. Bind (Sources (all_columns items) a) (λ source.
-      Bind (Where text) (λ cond. Bind (Groups source) (λ group. Empty (select (Some items) source cond group)))))))
+      Bind (Where text) (λ cond. Bind (Groups source) (λ group. Empty (of_items items source cond group)))))))
 
   -- select, without its first word
   abbrev pub Selection : Stmt → List Token → Type 0

@@ -1,12 +1,12 @@
 //! What of a statement a watcher may know.
-ghost use Rattle.std.specs.Prelude.{◌≡◌, ◌++◌, IfOk, OnOk, map, true, false};
-ghost use Rattle.std.specs.List.{flat_map, list_any};
+ghost use Rattle.std.specs.Prelude.{◌≡◌, ◌++◌, IfOk, OnOk, map};
+ghost use Rattle.std.specs.List.{flat_map};
 ghost use Rattle.ob_sql.specs.declared.stmt.Set.{Set as SetData};
-ghost use Rattle.ob_base.specs.declared.skeleton.Skeleton.TheVariants.{Insert};
+ghost use Rattle.ob_base.specs.declared.skeleton.Skeleton.TheVariants.{Insert, Rows};
 ghost use Rattle.ob_sql.specs.Skeleton as outline;
 
 use ob_base::{ColumnName, Items, Name, NewColumn, NoMemory, Skeleton, Source};
-use ob_sql::{Listed, Select, Set, Stmt};
+use ob_sql::{Listed, SelectRows, SelectTotals, Set, Stmt};
 use std::alloc::Global;
 
 fn copied_column(column: &ColumnName) -> ColumnName
@@ -90,34 +90,17 @@ fn set_names(alloc: Global, sets: &[Set]) -> Result<Items<Name>, NoMemory>
     Ok(Items::from_vec(found))
 }
 
-fn is_aggregate(item: &Listed) -> bool
-    ensures { result ≡ outline.is_aggregate item.now }
+fn column_names(alloc: Global, columns: &[ColumnName]) -> Result<Items<ColumnName>, NoMemory>
+    ensures { IfOk result (λ l. l ≡ columns.now) }
 {
-    match item {
-        Listed::Column(_) => false,
-        _ => true,
-    }
-}
-
-fn any_aggregate(items: &[Listed]) -> bool
-    ensures { result ≡ list_any outline.is_aggregate items.now }
-{
-    for item in items {
-        if is_aggregate(item) {
-            return true;
+    let mut found = Vec::new(alloc);
+    for column in columns {
+        match found.push(copied_column(column)) {
+            Ok(()) => {}
+            Err(_) => return Err(NoMemory),
         }
     }
-    false
-}
-
-fn has_totals(select: &Select) -> bool
-    ensures { result ≡ outline.has_totals select.now }
-{
-    let listed = match &select.list {
-        Some(items) => any_aggregate(items.as_slice()),
-        None => false,
-    };
-    listed || select.group.is_some()
+    Ok(Items::from_vec(found))
 }
 
 // The column that an item names is kept behind those before it.
@@ -138,7 +121,8 @@ fn keep_named(found: &mut Vec<ColumnName>, item: &Listed) -> Result<(), NoMemory
     }
 }
 
-fn named(alloc: Global, items: &[Listed]) -> Result<Items<ColumnName>, NoMemory>
+/// The columns that items name.
+pub(crate) fn named(alloc: Global, items: &[Listed]) -> Result<Items<ColumnName>, NoMemory>
     ensures { IfOk result (λ l. l ≡ flat_map outline.named_by items.now) }
 {
     let mut found = Vec::new(alloc);
@@ -151,38 +135,11 @@ fn named(alloc: Global, items: &[Listed]) -> Result<Items<ColumnName>, NoMemory>
     Ok(Items::from_vec(found))
 }
 
-fn source_table(source: &Source) -> Name
-    ensures { result ≡ outline.source_table source.now }
-{
-    match source {
-        Source::Table(name) => name.copied(),
-        Source::Join { left, .. } => left.copied(),
-    }
-}
-
-fn of_totals(alloc: Global, select: &Select) -> Result<Skeleton, NoMemory>
-    ensures { IfOk result (λ s. s ≡ outline.select_skeleton select.now true) }
+fn of_rows(alloc: Global, select: &SelectRows) -> Result<Skeleton, NoMemory>
+    ensures { IfOk result (λ s. s ≡ Rows select.now.source select.now.list) }
 {
     let columns = match &select.list {
-        Some(items) => named(alloc, items.as_slice())?,
-        None => Items::from_vec(Vec::new(alloc)),
-    };
-    let key = match &select.group {
-        Some(column) => Some(copied_column(column)),
-        None => None,
-    };
-    Ok(Skeleton::Groups {
-        table: source_table(&select.source),
-        columns,
-        key,
-    })
-}
-
-fn of_rows(alloc: Global, select: &Select) -> Result<Skeleton, NoMemory>
-    ensures { IfOk result (λ s. s ≡ outline.select_skeleton select.now false) }
-{
-    let columns = match &select.list {
-        Some(items) => Some(named(alloc, items.as_slice())?),
+        Some(columns) => Some(column_names(alloc, columns.as_slice())?),
         None => None,
     };
     Ok(Skeleton::Rows {
@@ -191,14 +148,18 @@ fn of_rows(alloc: Global, select: &Select) -> Result<Skeleton, NoMemory>
     })
 }
 
-fn of_select(alloc: Global, select: &Select) -> Result<Skeleton, NoMemory>
-    ensures { IfOk result (λ s. s ≡ outline.select_skeleton select.now (outline.has_totals select.now)) }
+fn of_totals(alloc: Global, select: &SelectTotals) -> Result<Skeleton, NoMemory>
+    ensures { IfOk result (λ s. s ≡ outline.skeleton (Stmt.SelectTotals select.now)) }
 {
-    if has_totals(select) {
-        of_totals(alloc, select)
-    } else {
-        of_rows(alloc, select)
-    }
+    let key = match &select.group {
+        Some(column) => Some(copied_column(column)),
+        None => None,
+    };
+    Ok(Skeleton::Groups {
+        table: select.table.copied(),
+        columns: named(alloc, select.items.as_slice())?,
+        key,
+    })
 }
 
 fn of_insert(
@@ -243,6 +204,7 @@ pub fn skeleton(alloc: Global, stmt: &Stmt) -> Result<Skeleton, NoMemory>
         Stmt::Drop { table } => Ok(Skeleton::Drop {
             table: table.copied(),
         }),
-        Stmt::Select(select) => of_select(alloc, select),
+        Stmt::SelectRows(select) => of_rows(alloc, select),
+        Stmt::SelectTotals(select) => of_totals(alloc, select),
     }
 }

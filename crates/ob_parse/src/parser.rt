@@ -166,10 +166,12 @@ pub fn parse(alloc: Global, text: &[u8]) -> Result<Stmt, ParseErr>
 
 /// SELECT, of which the parser reads once what its forms have in common, is the three forms that it is written in.
 pub fn three_forms()
-    ensures { (text : List ℕ) (s : StmtData) (tokens : List TokenData) → Selection text s tokens ↔ ThreeForms text s tokens }
+    ensures { (text : List ℕ) (s : StmtData) (tokens : List TokenData) →
+        Selection text s tokens ↔ ThreeForms text s tokens }
 {}
 
 /// A text spells at most one statement, so that the one which `parse` finds is the one.
 pub fn one_statement()
-    ensures { (text : List ℕ) (s t : StmtData) → Statement text s (tokens_of text) → Statement text t (tokens_of text) → s ≡ t }
+    ensures { (text : List ℕ) (s t : StmtData) →
+        Statement text s (tokens_of text) → Statement text t (tokens_of text) → s ≡ t }
 {}

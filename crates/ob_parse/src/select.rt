@@ -1,13 +1,16 @@
 //! SELECT is read, behind its first word.
-ghost use Rattle.std.specs.Prelude.{◌≡◌, ◌≤◌, length, IfOk};
-ghost use Rattle.ob_parse.specs.Statements.{all_columns, is_column};
+ghost use Rattle.std.specs.Prelude.{◌≡◌, Some, IfOk};
+ghost use Rattle.std.specs.List.{flat_map};
+ghost use Rattle.ob_sql.specs.Skeleton.{named_by};
+ghost use Rattle.ob_parse.specs.Statements.{all_columns, is_column, of_items, of_table, rows};
 ghost use Rattle.ob_condition.specs.Reading.{Gives};
 ghost use Rattle.ob_parse.specs.StatementReading.{all_or_column, argument, behind, counted, greatest, group, groups, item, itemized, joined_or, joins, least, selection, sources, starred, summed};
 
+use crate::outline::named;
 use crate::part::list;
-use ob_base::{ColumnName, Name, Source};
+use ob_base::{ColumnName, Items, Name, NoMemory, Source};
 use ob_condition::{Fault, column, expect, name, skip, where_part};
-use ob_sql::{Listed, Select, Stmt};
+use ob_sql::{Cond, Listed, SelectRows, SelectTotals, Stmt};
 use ob_token::{Mark, Token};
 use std::alloc::Global;
 
@@ -207,13 +210,69 @@ fn starred<'a>(
     let (left, rest) = name(rest)?;
     let (source, rest) = behind(left, rest)?;
     let (cond, rest) = where_part(alloc, text, rest)?;
-    let found = Select {
+    let found = SelectRows {
         list: None,
         source,
         cond,
-        group: None,
     };
-    Ok((Stmt::Select(found), rest))
+    Ok((Stmt::SelectRows(found), rest))
+}
+
+// The rows of these columns.
+fn rows_of(
+    alloc: Global,
+    columns: &[Listed],
+    source: Source,
+    cond: Option<Cond>,
+) -> Result<Stmt, NoMemory>
+    ensures { IfOk result (λ s. s ≡ rows (Some (flat_map named_by columns.now)) source cond) }
+{
+    match named(alloc, columns) {
+        Ok(columns) => Ok(Stmt::SelectRows(SelectRows {
+            list: Some(columns),
+            source,
+            cond,
+        })),
+        Err(_) => Err(NoMemory),
+    }
+}
+
+// The statement of these items of a table.
+fn of_table(
+    alloc: Global,
+    items: Items<Listed>,
+    table: Name,
+    cond: Option<Cond>,
+    group: Option<ColumnName>,
+) -> Result<Stmt, NoMemory>
+    ensures { IfOk result (λ s. s ≡ of_table items table cond group) }
+{
+    if group.is_none() && are_plain(items.as_slice()) {
+        rows_of(alloc, items.as_slice(), Source::Table(table), cond)
+    } else {
+        Ok(Stmt::SelectTotals(SelectTotals {
+            items,
+            table,
+            cond,
+            group,
+        }))
+    }
+}
+
+// The statement of these items.
+fn of_items(
+    alloc: Global,
+    items: Items<Listed>,
+    source: Source,
+    cond: Option<Cond>,
+    group: Option<ColumnName>,
+) -> Result<Stmt, NoMemory>
+    ensures { IfOk result (λ s. s ≡ of_items items source cond group) }
+{
+    match source {
+        Source::Table(table) => of_table(alloc, items, table, cond, group),
+        Source::Join { .. } => rows_of(alloc, items.as_slice(), source, cond),
+    }
 }
 
 #[tactic(auto, unfolding(crate::specs::StatementReading::itemized))]
@@ -230,13 +289,10 @@ fn itemized<'a>(
     let (source, rest) = sources(are_plain(items.as_slice()), left, rest)?;
     let (cond, rest) = where_part(alloc, text, rest)?;
     let (group, rest) = groups(&source, rest)?;
-    let found = Select {
-        list: Some(items),
-        source,
-        cond,
-        group,
-    };
-    Ok((Stmt::Select(found), rest))
+    match of_items(alloc, items, source, cond, group) {
+        Ok(found) => Ok((found, rest)),
+        Err(_) => Err(Fault::Memory),
+    }
 }
 
 #[tactic(auto, unfolding(crate::specs::StatementReading::selection))]

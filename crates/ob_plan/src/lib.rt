@@ -5,27 +5,29 @@ ghost use Rattle.std.specs.Prelude.{◌≡◌, ◌*◌, ◌≤◌};
 ghost use Rattle.ob_base.specs.Limits.{buffered};
 ghost use Rattle.ob_base.specs.Plans.{choose};
 
-use ob_base::{Config, Plan};
+use ob_base::{Plan, Public};
 
-/// The plan for `k` selected rows among `n` slots, which stand side by side or don't.
-pub fn plan(n: u32, k: u32, consecutive: bool, config: &Config) -> Plan
-    requires pack { 1 ≤ config.now.pack }
-    requires buffer { 2 * config.now.pack ≤ config.now.buffer }
-    ensures { result ≡ choose config.now.plan (buffered config.now.pack config.now.buffer) n k consecutive }
+/// The plan for `k` selected rows among `n` slots, which stand side by side or don't: the one that is
+/// forced, or else by the rows that may be buffered.
+pub fn plan(n: u32, k: u32, consecutive: bool, public: &Public) -> Plan
+    requires pack { 1 ≤ public.now.pack }
+    requires buffer { 2 * public.now.pack ≤ public.now.buffer }
+    ensures { result
+        ≡ choose public.now.plan (buffered public.now.pack public.now.buffer) n k consecutive }
 {
-    match config.plan {
+    match public.plan {
         Some(plan) => plan,
-        None => by_sizes(n, k, consecutive, config),
+        None => by_sizes(n, k, consecutive, public),
     }
 }
 
-fn by_sizes(n: u32, k: u32, consecutive: bool, config: &Config) -> Plan
-    requires pack { 1 ≤ config.now.pack }
-    requires buffer { 2 * config.now.pack ≤ config.now.buffer }
-    ensures { result ≡ choose None (buffered config.now.pack config.now.buffer) n k consecutive }
+fn by_sizes(n: u32, k: u32, consecutive: bool, public: &Public) -> Plan
+    requires pack { 1 ≤ public.now.pack }
+    requires buffer { 2 * public.now.pack ≤ public.now.buffer }
+    ensures { result ≡ choose None (buffered public.now.pack public.now.buffer) n k consecutive }
 {
-    let pack = u32::from(config.pack);
-    let buffered = u64::from((config.buffer - 2 * pack) / pack) * u64::from(pack);
+    let pack = u32::from(public.pack);
+    let buffered = u64::from((public.buffer - 2 * pack) / pack) * u64::from(pack);
     if u64::from(k) <= 4 * buffered {
         Plan::Small
     } else if consecutive {
@@ -40,20 +42,23 @@ fn by_sizes(n: u32, k: u32, consecutive: bool, config: &Config) -> Plan
 #[cfg(test)]
 mod tests {
     use super::plan;
-    use ob_base::{Config, Plan};
+    use ob_base::{Items, Plan, Public};
 
     #[test]
     fn chooses_by_sizes(rt: HostRuntime) {
-        let config = Config {
+        let mut public = Public {
+            tables: Items::new(rt.alloc()),
+            next_region: 1,
             buffer: 4,
             depth: 5,
             pack: 1,
             plan: None,
-            max_input: 1024,
         };
-        assert_eq!(rt; plan(10, 8, false, &config), Plan::Small);
-        assert_eq!(rt; plan(10, 9, true, &config), Plan::Continuous);
-        assert_eq!(rt; plan(10, 9, false, &config), Plan::Large);
-        assert_eq!(rt; plan(100, 9, false, &config), Plan::Hash);
+        assert_eq!(rt; plan(10, 8, false, &public), Plan::Small);
+        assert_eq!(rt; plan(10, 9, true, &public), Plan::Continuous);
+        assert_eq!(rt; plan(10, 9, false, &public), Plan::Large);
+        assert_eq!(rt; plan(100, 9, false, &public), Plan::Hash);
+        public.plan = Some(Plan::Large);
+        assert_eq!(rt; plan(10, 8, false, &public), Plan::Large);
     }
 }

@@ -3,7 +3,7 @@ use Rattle.std.proofs.Common.{◌≡◌, ℕ, Bool, List, arith}
 use Rattle.std.specs.Prelude.{None}
 use Rattle.ob_base.specs.declared.schema.Heading.{Heading}
 use Rattle.ob_sql.specs.declared.stmt.Stmt.{Stmt}
-use Rattle.ob_sql.specs.declared.stmt.Stmt.TheVariants.{Create, Insert, Update, Delete, Drop as DropTable, Select as SelectStmt}
+use Rattle.ob_sql.specs.declared.stmt.Stmt.TheVariants.{Create, Insert, Update, Delete, Drop as DropTable, SelectRows, SelectTotals}
 use Rattle.ob_mean.specs.Refusals.{early_refusal}
 use Rattle.ob_mean.proofs.EarlyLemmas.{allowed, within}
 use Rattle.ob_reference.specs.Runs.{HasSizes}
@@ -17,4 +17,5 @@ sizes late pack rows hs (Insert table columns values) h = tt
 sizes late pack rows hs (Update table sets c) h = tt
 sizes late pack rows hs (Delete table c) h = tt
 sizes late pack rows hs (DropTable table) h = tt
-sizes late pack rows hs (SelectStmt s) h = tt
+sizes late pack rows hs (SelectRows s) h = tt
+sizes late pack rows hs (SelectTotals s) h = tt

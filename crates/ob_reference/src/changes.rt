@@ -38,7 +38,8 @@ fn put_cells(sets: &[Set], schema: &Schema, cells: &mut [Cell])
 }
 
 fn update_row(sets: &[Set], cond: &Option<Cond>, schema: &Schema, row: &mut Tuple)
-    ensures { row.new ≡ updated (where_at cond.now schema.now) (set_cells sets.now schema.now) row.old }
+    ensures { row.new
+        ≡ updated (where_at cond.now schema.now) (set_cells sets.now schema.now) row.old }
 {
     if selects_of(cond, schema, row) {
         put_cells(sets, schema, row.cells.as_mut_slice());
@@ -46,7 +47,8 @@ fn update_row(sets: &[Set], cond: &Option<Cond>, schema: &Schema, row: &mut Tupl
 }
 
 fn update_rows(sets: &[Set], cond: &Option<Cond>, schema: &Schema, rows: &mut [Tuple])
-    ensures { rows.new ≡ map (updated (where_at cond.now schema.now) (set_cells sets.now schema.now)) rows.old }
+    ensures { rows.new
+        ≡ map (updated (where_at cond.now schema.now) (set_cells sets.now schema.now)) rows.old }
 {
     match rows.split_first_mut() {
         None => {}
@@ -67,14 +69,19 @@ fn count_selected(cond: &Option<Cond>, schema: &Schema, rows: &[Tuple]) -> usize
 }
 
 fn delete_rows(cond: &Option<Cond>, schema: &Schema, rows: &mut Vec<Tuple>)
-    ensures { rows.new.items ≡ filter (λ row. not (is_true (where_at cond.now schema.now) row)) rows.old.items }
+    ensures { rows.new.items
+        ≡ filter (λ row. not (is_true (where_at cond.now schema.now) row)) rows.old.items }
 {
     rows.retain(|row| !selects_of(cond, schema, row));
 }
 
 fn update_held(sets: &[Set], cond: &Option<Cond>, held: &mut Held) -> usize
-    ensures count { result ≡ count_by (is_true (where_at cond.now held.old.heading.schema)) held.old.held }
-    ensures next { held.new ≡ record { heading = held.old.heading; held = map (updated (where_at cond.now held.old.heading.schema) (set_cells sets.now held.old.heading.schema)) held.old.held } }
+    ensures count { result
+        ≡ count_by (is_true (where_at cond.now held.old.heading.schema)) held.old.held }
+    ensures next { held.new
+        ≡ record { heading = held.old.heading; held = map
+        (updated (where_at cond.now held.old.heading.schema)
+        (set_cells sets.now held.old.heading.schema)) held.old.held } }
 {
     let count = count_selected(cond, &held.heading.schema, held.rows.as_slice());
     update_rows(sets, cond, &held.heading.schema, held.rows.as_mut_slice());
@@ -82,8 +89,11 @@ fn update_held(sets: &[Set], cond: &Option<Cond>, held: &mut Held) -> usize
 }
 
 fn delete_held(cond: &Option<Cond>, held: &mut Held) -> usize
-    ensures count { result ≡ count_by (is_true (where_at cond.now held.old.heading.schema)) held.old.held }
-    ensures next { held.new ≡ record { heading = held.old.heading; held = filter (λ row. not (is_true (where_at cond.now held.old.heading.schema) row)) held.old.held } }
+    ensures count { result
+        ≡ count_by (is_true (where_at cond.now held.old.heading.schema)) held.old.held }
+    ensures next { held.new
+        ≡ record { heading = held.old.heading; held = filter
+        (λ row. not (is_true (where_at cond.now held.old.heading.schema) row)) held.old.held } }
 {
     let count = count_selected(cond, &held.heading.schema, held.rows.as_slice());
     delete_rows(cond, &held.heading.schema, &mut held.rows);
@@ -91,7 +101,8 @@ fn delete_held(cond: &Option<Cond>, held: &mut Held) -> usize
 }
 
 fn update_at(tables: &mut [Held], table: &Name, sets: &[Set], cond: &Option<Cond>) -> usize
-    ensures count { Changed result ≡ accepted_answer tables.old (Update table.now sets.now cond.now) }
+    ensures count { Changed result
+        ≡ accepted_answer tables.old (Update table.now sets.now cond.now) }
     ensures next { tables.new ≡ accepted_next tables.old (Update table.now sets.now cond.now) }
 {
     match tables.split_first_mut() {
@@ -125,7 +136,8 @@ fn delete_at(tables: &mut [Held], table: &Name, cond: &Option<Cond>) -> usize
 impl Database {
     /// Carries an UPDATE out that is not refused, and says how many rows it changed.
     pub fn update(&mut self, table: &Name, sets: &[Set], cond: &Option<Cond>) -> u64
-        ensures answer { Changed result ≡ accepted_answer self.old (Update table.now sets.now cond.now) }
+        ensures answer { Changed result
+            ≡ accepted_answer self.old (Update table.now sets.now cond.now) }
         ensures next { self.new ≡ accepted_next self.old (Update table.now sets.now cond.now) }
     {
         update_at(self.tables.as_mut_slice(), table, sets, cond) as u64

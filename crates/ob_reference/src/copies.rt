@@ -70,7 +70,9 @@ fn add_joined(
     right: &[Tuple],
     to: &mut Vec<Tuple>,
 ) -> Result<(), NoMemory>
-    ensures { OnOk result (to.new.items ≡ to.old.items ++ map (λ b. left.now ++ b) (filter (agree_at i j left.now) right.now)) }
+    ensures { OnOk result
+        (to.new.items
+        ≡ to.old.items ++ map (λ b. left.now ++ b) (filter (agree_at i j left.now) right.now)) }
 {
     match right.split_first() {
         None => Ok(()),

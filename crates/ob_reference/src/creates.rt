@@ -13,7 +13,8 @@ use std::alloc::Global;
 
 // The place of the table of this name.
 fn place_of(tables: &[Held], name: &Name) -> Option<usize>
-    ensures { MatchOption result (dropped_at name.now tables.now ≡ tables.now) (λ i. (i < length tables.now) × (dropped_at name.now tables.now ≡ remove tables.now i)) }
+    ensures { MatchOption result (dropped_at name.now tables.now ≡ tables.now)
+        (λ i. (i < length tables.now) × (dropped_at name.now tables.now ≡ remove tables.now i)) }
 {
     match tables.split_first() {
         None => None,
@@ -41,7 +42,8 @@ impl Database {
     ) -> Result<(), NoMemory>
         requires few { length columns.now ≤ 32 }
         requires sizes { list_any (λ (c : NewColumn). not (is_size c.kind)) columns.now ≡ false }
-        ensures next { OnOk result (self.new ≡ accepted_next self.old (Create table.now columns.now capacity)) }
+        ensures next { OnOk result
+            (self.new ≡ accepted_next self.old (Create table.now columns.now capacity)) }
         ensures err { OnErr result (self.new ≡ self.old) }
     {
         let heading = Heading {

@@ -89,7 +89,8 @@ fn add_items(
     items: &[Item],
     fields: &mut Items<Shown>,
 ) -> Result<(), NoMemory>
-    ensures { OnOk result (fields.new ≡ fields.old ++ map (item_shown key row.now group.now) items.now) }
+    ensures { OnOk result
+        (fields.new ≡ fields.old ++ map (item_shown key row.now group.now) items.now) }
 {
     match items.split_first() {
         None => Ok(()),
@@ -108,7 +109,9 @@ fn group_row(
     items: &[Item],
     rows: &[Tuple],
 ) -> Result<Items<Shown>, NoMemory>
-    ensures { IfOk result (λ fields. fields ≡ map (item_shown key row.now (group_of key rows.now row.now)) items.now) }
+    ensures { IfOk result
+        (λ fields. fields
+        ≡ map (item_shown key row.now (group_of key rows.now row.now)) items.now) }
 {
     match group_of(alloc, key, row, rows) {
         Err(_) => Err(NoMemory),
@@ -130,7 +133,10 @@ fn add_groups(
     rows: &[Tuple],
     answer: &mut Items<Items<Shown>>,
 ) -> Result<(), NoMemory>
-    ensures { OnOk result (answer.new ≡ answer.old ++ map (λ row. map (item_shown key row (group_of key rows.now row)) items.now) heads.now) }
+    ensures { OnOk result
+        (answer.new
+        ≡ answer.old
+        ++ map (λ row. map (item_shown key row (group_of key rows.now row)) items.now) heads.now) }
 {
     match heads.split_first() {
         None => Ok(()),
@@ -153,7 +159,8 @@ pub(crate) fn add_listed(
 ) -> Result<(), NoMemory>
     requires left { length left.now ≤ 32 }
     requires right { length right.now ≤ 32 }
-    ensures { OnOk result (items.new.items ≡ items.old.items ++ map (item_of (left.now ++ right.now)) listed.now) }
+    ensures { OnOk result
+        (items.new.items ≡ items.old.items ++ map (item_of (left.now ++ right.now)) listed.now) }
 {
     match listed.split_first() {
         None => Ok(()),

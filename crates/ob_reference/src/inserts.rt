@@ -63,7 +63,10 @@ fn new_row(
 // Adds a row, or says why it is refused.
 fn insert_row(held: &mut Held, row: Tuple) -> Result<Option<Refusal>, NoMemory>
     ensures refusal { IfOk result (λ r. r ≡ insert_refusal held.old row) }
-    ensures next { IfOk result (λ r. held.new ≡ followed r (record { heading = held.old.heading; held = held.old.held ++ row ∷ [] }) held.old) }
+    ensures next { IfOk result
+        (λ r. held.new
+        ≡ followed r
+        (record { heading = held.old.heading; held = held.old.held ++ row ∷ [] }) held.old) }
     ensures err { OnErr result (held.new ≡ held.old) }
 {
     if has_key(&held.heading.schema, row.as_slice(), held.rows.as_slice()) {
@@ -84,8 +87,13 @@ fn insert_held(
     names: &Option<Items<Name>>,
     values: &[Literal],
 ) -> Result<Option<Refusal>, NoMemory>
-    ensures refusal { IfOk result (λ r. r ≡ insert_refusal held.old (new_row held.old.heading.schema names.now values.now)) }
-    ensures next { IfOk result (λ r. held.new ≡ followed r (record { heading = held.old.heading; held = held.old.held ++ new_row held.old.heading.schema names.now values.now ∷ [] }) held.old) }
+    ensures refusal { IfOk result
+        (λ r. r ≡ insert_refusal held.old (new_row held.old.heading.schema names.now values.now)) }
+    ensures next { IfOk result
+        (λ r. held.new
+        ≡ followed r
+        (record { heading = held.old.heading; held = held.old.held
+        ++ new_row held.old.heading.schema names.now values.now ∷ [] }) held.old) }
     ensures err { OnErr result (held.new ≡ held.old) }
 {
     match new_row(alloc, &held.heading.schema, names, values) {
@@ -101,8 +109,12 @@ fn insert_at(
     names: &Option<Items<Name>>,
     values: &[Literal],
 ) -> Result<Option<Refusal>, NoMemory>
-    ensures refusal { IfOk result (λ r. r ≡ late_refusal 0 tables.old (Insert table.now names.now values.now)) }
-    ensures next { IfOk result (λ r. tables.new ≡ followed r (accepted_next tables.old (Insert table.now names.now values.now)) tables.old) }
+    ensures refusal { IfOk result
+        (λ r. r ≡ late_refusal 0 tables.old (Insert table.now names.now values.now)) }
+    ensures next { IfOk result
+        (λ r. tables.new
+        ≡ followed r
+        (accepted_next tables.old (Insert table.now names.now values.now)) tables.old) }
     ensures err { OnErr result (tables.new ≡ tables.old) }
 {
     match tables.split_first_mut() {
@@ -131,8 +143,13 @@ impl Database {
         names: &Option<Items<Name>>,
         values: &[Literal],
     ) -> Result<Option<Refusal>, NoMemory>
-        ensures refusal { (groups : ℕ) → IfOk result (λ r. r ≡ late_refusal groups self.old (Insert table.now names.now values.now)) }
-        ensures next { IfOk result (λ r. self.new ≡ followed r (accepted_next self.old (Insert table.now names.now values.now)) self.old) }
+        ensures refusal { (groups : ℕ) →
+            IfOk result
+            (λ r. r ≡ late_refusal groups self.old (Insert table.now names.now values.now)) }
+        ensures next { IfOk result
+            (λ r. self.new
+            ≡ followed r
+            (accepted_next self.old (Insert table.now names.now values.now)) self.old) }
         ensures err { OnErr result (self.new ≡ self.old) }
     {
         insert_at(alloc, self.tables.as_mut_slice(), table, names, values)

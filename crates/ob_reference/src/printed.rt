@@ -1,19 +1,17 @@
 //! The answer of a SELECT of rows.
-ghost use Rattle.std.specs.Prelude.{◌≡◌, ◌≤◌, ◌+◌, ◌++◌, ◌∷◌, [], true, IfOk, OnOk, flat_map, length, map};
+ghost use Rattle.std.specs.Prelude.{◌≡◌, ◌≤◌, ◌+◌, ◌++◌, ◌∷◌, [], true, IfOk, OnOk, length, map};
 ghost use Rattle.ob_base.specs.Lists.{places_from};
 ghost use Rattle.ob_base.specs.declared.schema.Column.{Column};
-ghost use Rattle.ob_base.specs.declared.skeleton.ColumnName.{ColumnName};
 ghost use Rattle.ob_row.specs.Rows.{cell_at};
 ghost use Rattle.ob_row.specs.Totals.{shown, shown_at, printed};
-ghost use Rattle.ob_sql.specs.Skeleton.{named_by};
 ghost use Rattle.ob_mean.specs.Names.{place_of};
-ghost use Rattle.ob_mean.specs.Step.{printed_places};
+ghost use Rattle.ob_mean.specs.Step.{printed_places, rows_answer};
 
 use crate::tables::Tuple;
 use ob_base::{Column, ColumnName, Items, NoMemory, Shown};
 use ob_mean::place_of;
 use ob_row::Cell;
-use ob_sql::{Listed, Select};
+use ob_sql::SelectRows;
 use std::alloc::Global;
 
 fn shown(cell: &Cell) -> Shown
@@ -44,43 +42,24 @@ fn add_place(places: &mut Vec<usize>, i: usize) -> Result<(), NoMemory>
     }
 }
 
-// Adds the place of the column that an item names, if it names one.
-fn add_named(
-    item: &Listed,
-    left: &[Column],
-    right: &[Column],
-    places: &mut Vec<usize>,
-) -> Result<(), NoMemory>
-    requires left { length left.now ≤ 32 }
-    requires right { length right.now ≤ 32 }
-    ensures { OnOk result (places.new.items ≡ places.old.items ++ map (λ c. place_of c (left.now ++ right.now)) (named_by item.now)) }
-{
-    match item {
-        Listed::CountAll => Ok(()),
-        Listed::Column(name) => add_place(places, place_of(name, left, right)),
-        Listed::Count(name) => add_place(places, place_of(name, left, right)),
-        Listed::Sum(name) => add_place(places, place_of(name, left, right)),
-        Listed::Min(name) => add_place(places, place_of(name, left, right)),
-        Listed::Max(name) => add_place(places, place_of(name, left, right)),
-    }
-}
-
+// Adds the places of the columns that these names mean.
 #[tactic(auto, using(crate::proofs::PlaceLemmas::map_append))]
-fn add_listed(
-    items: &[Listed],
+fn add_named(
+    names: &[ColumnName],
     left: &[Column],
     right: &[Column],
     places: &mut Vec<usize>,
 ) -> Result<(), NoMemory>
     requires left { length left.now ≤ 32 }
     requires right { length right.now ≤ 32 }
-    ensures { OnOk result (places.new.items ≡ places.old.items ++ map (λ c. place_of c (left.now ++ right.now)) (flat_map named_by items.now)) }
+    ensures { OnOk result (places.new.items
+        ≡ places.old.items ++ map (λ c. place_of c (left.now ++ right.now)) names.now) }
 {
-    match items.split_first() {
+    match names.split_first() {
         None => Ok(()),
-        Some((item, items)) => match add_named(item, left, right, places) {
+        Some((name, names)) => match add_place(places, place_of(name, left, right)) {
             Err(_) => Err(NoMemory),
-            Ok(()) => add_listed(items, left, right, places),
+            Ok(()) => add_named(names, left, right, places),
         },
     }
 }
@@ -89,7 +68,9 @@ fn add_listed(
 #[tactic(auto, using(crate::proofs::PlaceLemmas::places_next))]
 fn add_all(first: usize, columns: &[Column], places: &mut Vec<usize>) -> Result<(), NoMemory>
     requires { first + length columns.now ≤ 64 }
-    ensures { OnOk result (places.new.items ≡ places.old.items ++ places_from first (λ (_ : Column). true) columns.now) }
+    ensures { OnOk result
+        (places.new.items
+        ≡ places.old.items ++ places_from first (λ (_ : Column). true) columns.now) }
 {
     match columns.split_first() {
         None => Ok(()),
@@ -104,17 +85,18 @@ fn add_all(first: usize, columns: &[Column], places: &mut Vec<usize>) -> Result<
 #[tactic(auto, using(crate::proofs::PlaceLemmas::places_both))]
 fn printed_places(
     alloc: Global,
-    select: &Select,
+    select: &SelectRows,
     left: &[Column],
     right: &[Column],
 ) -> Result<Vec<usize>, NoMemory>
     requires left { length left.now ≤ 32 }
     requires right { length right.now ≤ 32 }
-    ensures { IfOk result (λ places. places.items ≡ printed_places select.now (left.now ++ right.now)) }
+    ensures { IfOk result
+        (λ places. places.items ≡ printed_places select.now (left.now ++ right.now)) }
 {
     let mut places = Vec::new(alloc);
     match &select.list {
-        Some(items) => match add_listed(items.as_slice(), left, right, &mut places) {
+        Some(names) => match add_named(names.as_slice(), left, right, &mut places) {
             Err(_) => Err(NoMemory),
             Ok(()) => Ok(places),
         },
@@ -163,17 +145,18 @@ fn add_printed(
     }
 }
 
-/// The rows of an answer without totals.
+/// The rows of the answer of a SELECT of rows.
 pub(crate) fn printed_rows(
     alloc: Global,
-    select: &Select,
+    select: &SelectRows,
     left: &[Column],
     right: &[Column],
     rows: &[Tuple],
 ) -> Result<Items<Items<Shown>>, NoMemory>
     requires left { length left.now ≤ 32 }
     requires right { length right.now ≤ 32 }
-    ensures { IfOk result (λ answer. answer ≡ map (printed (printed_places select.now (left.now ++ right.now))) rows.now) }
+    ensures { IfOk result
+        (λ answer. answer ≡ rows_answer select.now (left.now ++ right.now) rows.now) }
 {
     match printed_places(alloc, select, left, right) {
         Err(_) => Err(NoMemory),

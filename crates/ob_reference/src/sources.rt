@@ -4,19 +4,18 @@ ghost use Rattle.ob_base.specs.Stored.{headings};
 ghost use Rattle.ob_base.specs.declared.skeleton.Source.TheVariants.{Join};
 ghost use Rattle.ob_row.specs.Truth.{is_true};
 ghost use Rattle.ob_mean.specs.Names.{where_at, source_columns};
-ghost use Rattle.ob_mean.specs.Refusals.{left_place, right_place};
 ghost use Rattle.ob_mean.specs.Scopes.{left_of_source, right_of_source};
-ghost use Rattle.ob_mean.specs.Step.{source_rows, selected_rows};
+ghost use Rattle.ob_mean.specs.Step.{source_rows, selected_rows, totalled_rows};
 
 use crate::copies::{add_pairs, add_rows};
 use crate::tables::{Held, Tuple, columns_at, rows_at};
 use crate::truth::selects;
 use ob_base::{Column, ColumnName, Name, NoMemory, Source};
-use ob_mean::place_of;
-use ob_sql::{Cond, Select};
+use ob_mean::{left_place, right_place};
+use ob_sql::{Cond, SelectRows, SelectTotals};
 use std::alloc::Global;
 
-/// The columns of the one table that a SELECT is on, or of its left one.
+/// The columns of the one table that a SELECT of rows is on, or of its left one.
 pub(crate) fn left_of<'a>(tables: &'a [Held], source: &Source) -> &'a [Column]
     ensures value { result.now ≡ left_of_source source.now (headings tables.now) }
     ensures few { length result.now ≤ 32 }
@@ -38,33 +37,6 @@ pub(crate) fn right_of<'a>(tables: &'a [Held], source: &Source) -> &'a [Column]
     }
 }
 
-fn left_place(on: &ColumnName, equals: &ColumnName, left: &[Column], right: &[Column]) -> usize
-    requires left { length left.now ≤ 32 }
-    requires right { length right.now ≤ 32 }
-    ensures { result ≡ left_place (length left.now) (left.now ++ right.now) on.now equals.now }
-{
-    let i = place_of(on, left, right);
-    if i < left.len() {
-        i
-    } else {
-        place_of(equals, left, right)
-    }
-}
-
-// The place among the right table's own columns.
-fn right_place(on: &ColumnName, equals: &ColumnName, left: &[Column], right: &[Column]) -> usize
-    requires left { length left.now ≤ 32 }
-    requires right { length right.now ≤ 32 }
-    ensures { result ≡ right_place (length left.now) (left.now ++ right.now) on.now equals.now }
-{
-    let i = place_of(on, left, right);
-    if i < left.len() {
-        place_of(equals, left, right).saturating_sub(left.len())
-    } else {
-        i.saturating_sub(left.len())
-    }
-}
-
 // Adds the joined rows of two tables.
 fn add_join(
     alloc: Global,
@@ -75,7 +47,9 @@ fn add_join(
     equals: &ColumnName,
     to: &mut Vec<Tuple>,
 ) -> Result<(), NoMemory>
-    ensures { OnOk result (to.new.items ≡ to.old.items ++ source_rows (Join left.now right.now on.now equals.now) tables.now) }
+    ensures { OnOk result
+        (to.new.items
+        ≡ to.old.items ++ source_rows (Join left.now right.now on.now equals.now) tables.now) }
 {
     let left_columns = columns_at(tables, left);
     let right_columns = columns_at(tables, right);
@@ -125,17 +99,18 @@ fn source_rows(alloc: Global, tables: &[Held], source: &Source) -> Result<Vec<Tu
 fn keep_selected(cond: &Option<Cond>, left: &[Column], right: &[Column], rows: &mut Vec<Tuple>)
     requires left { length left.now ≤ 32 }
     requires right { length right.now ≤ 32 }
-    ensures { rows.new.items ≡ filter (is_true (where_at cond.now (left.now ++ right.now))) rows.old.items }
+    ensures { rows.new.items
+        ≡ filter (is_true (where_at cond.now (left.now ++ right.now))) rows.old.items }
 {
     rows.retain(|row| selects(cond, left, right, row.as_slice()));
 }
 
-/// The rows that a SELECT selects.
+/// The rows that a SELECT of rows selects.
 #[tactic(auto, using(crate::proofs::SourceLemmas::source_split))]
 pub(crate) fn selected_rows(
     alloc: Global,
     tables: &[Held],
-    select: &Select,
+    select: &SelectRows,
 ) -> Result<Vec<Tuple>, NoMemory>
     ensures { IfOk result (λ rows. rows.items ≡ selected_rows select.now tables.now) }
 {
@@ -145,6 +120,26 @@ pub(crate) fn selected_rows(
             let left = left_of(tables, &select.source);
             let right = right_of(tables, &select.source);
             keep_selected(&select.cond, left, right, &mut rows);
+            Ok(rows)
+        }
+    }
+}
+
+/// The rows that a SELECT of totals selects.
+#[tactic(auto, using(ob_mean::proofs::CondLemmas::one_table))]
+pub(crate) fn totalled_rows(
+    alloc: Global,
+    tables: &[Held],
+    select: &SelectTotals,
+) -> Result<Vec<Tuple>, NoMemory>
+    ensures { IfOk result (λ rows. rows.items ≡ totalled_rows select.now tables.now) }
+{
+    let mut rows = Vec::new(alloc);
+    match add_rows(alloc, rows_at(tables, &select.table), &mut rows) {
+        Err(_) => Err(NoMemory),
+        Ok(()) => {
+            let columns = columns_at(tables, &select.table);
+            keep_selected(&select.cond, columns, &[], &mut rows);
             Ok(rows)
         }
     }

@@ -3,7 +3,7 @@ ghost use Rattle.std.specs.Prelude.{◌≡◌, ◌≤◌, ◌+◌, ◌*◌, ◌+
 ghost use Rattle.ob_base.specs.Limits.{buffered};
 ghost use Rattle.ob_base.specs.Stored.{headings};
 ghost use Rattle.ob_mean.specs.declared.answer.Answer.TheVariants.{Done};
-ghost use Rattle.ob_mean.specs.Headings.{headings_of};
+ghost use Rattle.ob_base.specs.Stored.{headings_of};
 ghost use Rattle.ob_mean.specs.Refusals.{early_refusal};
 ghost use Rattle.ob_mean.specs.Step.{late_refusal, answered, followed, accepted_answer, accepted_next};
 ghost use Rattle.ob_reference.specs.Runs.{HasSizes, answer, next};
@@ -73,7 +73,9 @@ fn early_of(
 ) -> Result<Option<Refusal>, NoMemory>
     requires pack { 1 ≤ config.now.pack }
     requires buffer { 3 * config.now.pack + 1 ≤ config.now.buffer }
-    ensures { IfOk result (λ r. r ≡ early_refusal false config.now.pack config.now.buffer (headings tables.now) stmt.now) }
+    ensures { IfOk result
+        (λ r. r ≡ early_refusal false config.now.pack config.now.buffer
+        (headings tables.now) stmt.now) }
 {
     match public_of(alloc, config, tables) {
         Err(_) => Err(NoMemory),
@@ -104,8 +106,13 @@ impl Database {
     // Carries a statement out that is not refused early, or refuses it.
     fn carry_out(&mut self, alloc: Global, limit: u64, stmt: &Stmt) -> Result<Answer, NoMemory>
         requires { HasSizes stmt.now }
-        ensures answer { IfOk result (λ a. a ≡ answered (late_refusal limit self.old stmt.now) (accepted_answer self.old stmt.now)) }
-        ensures next { OnOk result (self.new ≡ followed (late_refusal limit self.old stmt.now) (accepted_next self.old stmt.now) self.old) }
+        ensures answer { IfOk result
+            (λ a. a ≡ answered (late_refusal limit self.old stmt.now)
+            (accepted_answer self.old stmt.now)) }
+        ensures next { OnOk result
+            (self.new
+            ≡ followed (late_refusal limit self.old stmt.now)
+            (accepted_next self.old stmt.now) self.old) }
         ensures err { OnErr result (self.new ≡ self.old) }
     {
         match stmt {
@@ -133,7 +140,8 @@ impl Database {
                 self.drop_table(table);
                 Ok(Answer::Done)
             }
-            Stmt::Select(select) => self.select(alloc, limit, select),
+            Stmt::SelectRows(select) => self.select_rows(alloc, select),
+            Stmt::SelectTotals(select) => self.select_totals(alloc, limit, select),
         }
     }
 

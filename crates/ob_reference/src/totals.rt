@@ -100,7 +100,9 @@ pub(crate) fn add_totals(
 ) -> Result<(), NoMemory>
     requires left { length left.now ≤ 32 }
     requires right { length right.now ≤ 32 }
-    ensures { OnOk result (fields.new ≡ fields.old ++ totals (filter_map (agg_of (left.now ++ right.now)) items.now) rows.now) }
+    ensures { OnOk result
+        (fields.new
+        ≡ fields.old ++ totals (filter_map (agg_of (left.now ++ right.now)) items.now) rows.now) }
 {
     match items.split_first() {
         None => Ok(()),

@@ -1,13 +1,13 @@
 //! Whether the cells of a row make a condition true.
 ghost use Rattle.std.specs.Prelude.{◌≡◌, ◌≤◌, ◌++◌, Some, length, slice_get};
 ghost use Rattle.ob_row.specs.Rows.{agree_at};
-ghost use Rattle.ob_row.specs.Truth.{compare, is_true, operand_of as operand_in};
+ghost use Rattle.ob_row.specs.Truth.{compare, is_true, operand_of};
 ghost use Rattle.ob_sql.specs.Search.{search_of};
-ghost use Rattle.ob_mean.specs.Names.{operand_of, condition_at, where_at};
+ghost use Rattle.ob_mean.specs.Names.{operand_at, condition_at, where_at};
 
 use crate::tables::Tuple;
 use ob_base::{Column, Schema};
-use ob_mean::{cell_of, place_of};
+use ob_mean::{literal_cell, place_of};
 use ob_row::{Cell, Order, compare_cells, same_cell};
 use ob_sql::{Against, Cond, CondTree};
 
@@ -22,10 +22,11 @@ fn compare(
 ) -> bool
     requires left { length left.now ≤ 32 }
     requires right { length right.now ≤ 32 }
-    ensures { result ≡ compare order (Some a.now) (operand_in (operand_of with.now (left.now ++ right.now)) row.now) }
+    ensures { result ≡ compare order (Some a.now)
+        (operand_of (operand_at with.now (left.now ++ right.now)) row.now) }
 {
     match with {
-        Against::Literal(literal) => compare_cells(order, a, &cell_of(literal)),
+        Against::Literal(literal) => compare_cells(order, a, &literal_cell(literal)),
         Against::Column(name) => match row.get(place_of(name, left, right)) {
             Some(b) => compare_cells(order, a, b),
             None => false,

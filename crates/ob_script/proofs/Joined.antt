@@ -1,4 +1,4 @@
--- The accesses of pieces that follow one another.
+-- The accesses of sections that follow one another.
 use Rattle.std.proofs.Common.{◌≡◌, ℕ, List, [], ◌∷◌, ◌++◌, ◌+◌, ◌-◌, ◌*◌, ◌≤◌, ◌^◌, ◌∙◌, ap, append-nil, arith}
 use Rattle.std.proofs.lemmas.Grind.{flat_map-append}
 use Rattle.std.proofs.Math.Nat.{le-mul_of_pos_right, div-le_self}
@@ -6,11 +6,11 @@ use Rattle.ob_base.specs.Numbers.{blocks_for}
 use Rattle.std.proofs.lemmas.List.Sums.{sum_by-append}
 use Rattle.ob_base.specs.declared.schema.Column.{Column}
 use Rattle.ob_base.specs.Schemas.{Columns, width, kind_width}
-use Rattle.ob_script.specs.declared.piece.Piece.{Piece}
-use Rattle.ob_script.specs.Pieces.{accesses_of, all_accesses}
+use Rattle.ob_script.specs.declared.section.Section.{Section}
+use Rattle.ob_script.specs.Sections.{accesses_of, all_accesses}
 
-pub all_more : (pieces : List Piece) (piece : Piece) → all_accesses (pieces ++ piece ∷ []) ≡ all_accesses pieces ++ accesses_of piece
-all_more pieces piece = flat_map-append accesses_of pieces (piece ∷ []) ∙ ap (λ w. all_accesses pieces ++ w) (append-nil (accesses_of piece))
+pub all_more : (sections : List Section) (section : Section) → all_accesses (sections ++ section ∷ []) ≡ all_accesses sections ++ accesses_of section
+all_more sections section = flat_map-append accesses_of sections (section ∷ []) ∙ ap (λ w. all_accesses sections ++ w) (append-nil (accesses_of section))
 
 -- a joined row has one mark
 pub width_both : (a b : Columns) → width (a ++ b) ≡ width a + width b - 1

@@ -7,3 +7,4 @@ pub mod Places
 pub mod Joined
 pub mod Numbers
 pub mod Few
+pub mod Makes

@@ -1,12 +1,12 @@
--- The number of accesses of a piece.
+-- The number of accesses of a section.
 use Rattle.std.proofs.Common.{◌≡◌, ℕ, ◌+◌, ◌*◌, length, refl, arith}
 use Rattle.std.specs.Int.{div_ceil}
-use Rattle.ob_script.specs.declared.piece.Piece.{Piece}
-use Rattle.ob_script.specs.declared.piece.Piece.TheVariants.{Make, Reads, Writes, Copies, Discard, Passes, Turns, Buckets, Pairs}
-use Rattle.ob_script.specs.Pieces.{accesses_of, IsSized}
+use Rattle.ob_script.specs.declared.section.Section.{Section}
+use Rattle.ob_script.specs.declared.section.Section.TheVariants.{Make, Reads, Writes, Copies, Discard, Passes, Turns, Buckets, Pairs}
+use Rattle.ob_script.specs.Sections.{accesses_of, IsSized}
 use Rattle.ob_script.proofs.Lengths.{length-count_part, length-writes, length-copy_part, length-passes, length-turns, length-buckets, length-pairs}
 
-abbrev pub size_of : Piece → ℕ
+abbrev pub size_of : Section → ℕ
 size_of (Make region blocks width) = 1
 size_of (Reads region blocks) = blocks
 size_of (Writes region blocks) = blocks
@@ -17,7 +17,7 @@ size_of (Turns from to pack slots rows) = div_ceil slots pack + 2 * slots
 size_of (Buckets from to pack slots rows depth) = div_ceil slots pack + 4 * depth * slots
 size_of (Pairs left right to lefts rights buffered) = div_ceil lefts buffered * (2 * rights) + lefts
 
-pub size_is : (p : Piece) → IsSized p → length (accesses_of p) ≡ size_of p
+pub size_is : (p : Section) → IsSized p → length (accesses_of p) ≡ size_of p
 size_is (Make region blocks width) h = refl
 size_is (Reads region blocks) h = length-count_part region blocks
 size_is (Writes region blocks) h = length-writes region blocks

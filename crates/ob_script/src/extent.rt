@@ -1,7 +1,7 @@
 //! Where rows lie.
 ghost use Rattle.std.specs.Prelude.{◌≡◌, ◌≤◌, ℕ, List, [], All, IfSome, IfNone};
 ghost use Rattle.ob_base.specs.Schemas.{width, kind_width, kind_of, columns_of};
-ghost use Rattle.ob_base.specs.Stored.{stored_at, stored_regions};
+ghost use Rattle.ob_base.specs.Stored.{stored_at, stored_region, stored_regions};
 ghost use Rattle.ob_script.specs.Script.{extent_of};
 ghost use Rattle.ob_script.specs.Sizes.{IsTable};
 
@@ -19,7 +19,8 @@ pub(crate) struct Extent {
 pub(crate) fn table_at<'a>(tables: &'a [Table], name: &Name) -> Option<&'a Table>
     requires { All IsTable tables.now }
     ensures none { IfNone result (stored_at name.now (stored_regions tables.now) ≡ None) }
-    ensures some { IfSome result (λ t. stored_at name.now (stored_regions tables.now) ≡ Some (record { heading = t.now.heading; held = t.now.region })) }
+    ensures some { IfSome result (λ t.
+        stored_at name.now (stored_regions tables.now) ≡ Some (stored_region t.now)) }
     ensures sized { IfSome result (λ t. IsTable t.now) }
 {
     for table in tables {
@@ -33,7 +34,7 @@ pub(crate) fn table_at<'a>(tables: &'a [Table], name: &Name) -> Option<&'a Table
 /// Where its rows lie.
 pub(crate) fn extent_of(table: &Table) -> Extent
     requires { IsTable table.now }
-    ensures { result ≡ extent_of (record { heading = table.now.heading; held = table.now.region }) }
+    ensures { result ≡ extent_of (stored_region table.now) }
 {
     Extent {
         region: table.region,

@@ -3,9 +3,9 @@ ghost use Rattle.std.specs.Prelude.{◌≡◌, ◌≢◌, ◌<◌, ◌+◌, ◌*
 ghost use Rattle.ob_base.specs.declared.config.Public.{Public};
 ghost use Rattle.ob_base.specs.declared.seen.Seen.{Seen};
 ghost use Rattle.ob_base.specs.declared.skeleton.Skeleton.{Skeleton};
+ghost use Rattle.ob_base.specs.Accesses.{makes};
 ghost use Rattle.ob_script.specs.Script.{script};
 ghost use Rattle.ob_script.specs.Sizes.{IsPublic, IsWithin};
-ghost use Rattle.ob_script.specs.Trace.{Served, trace};
 ghost use Rattle.std.specs.Int.{div_ceil};
 ghost use Rattle.ob_base.specs.Numbers.{blocks_for};
 ghost use Rattle.ob_script.specs.Parts.{count_part, create_part, insert_part, rewrite_part, small_part, large_part, continuous_part, hash_part, emission_part, join_part};
@@ -15,32 +15,54 @@ use ob_base::End;
 /// How many accesses each part of a statement asks.
 pub fn part_lengths()
     ensures create { (g blocks width : ℕ) → length (create_part g blocks width) ≡ 1 + blocks }
-    ensures insert { (t g blocks width : ℕ) → length (insert_part t g blocks width) ≡ 3 * blocks + 2 }
-    ensures rewrite { (t g blocks width : ℕ) → length (rewrite_part t g blocks width) ≡ 2 * blocks + 2 }
+    ensures insert { (t g blocks width : ℕ) →
+        length (insert_part t g blocks width) ≡ 3 * blocks + 2 }
+    ensures rewrite { (t g blocks width : ℕ) →
+        length (rewrite_part t g blocks width) ≡ 2 * blocks + 2 }
     ensures count { (t blocks : ℕ) → length (count_part t blocks) ≡ blocks }
     ensures small { (t g blocks results buffered width : ℕ) → 0 < buffered →
-        length (small_part t g blocks results buffered width) ≡ 1 + (div_ceil results buffered * blocks + results) }
-    ensures large { (t g blocks width : ℕ) → length (large_part t g blocks width) ≡ 1 + 4 * blocks }
+        length (small_part t g blocks results buffered width)
+        ≡ 1 + (div_ceil results buffered * blocks + results) }
+    ensures large { (t g blocks width : ℕ) →
+        length (large_part t g blocks width) ≡ 1 + 4 * blocks }
     ensures continuous { (t g pack n k width : ℕ) → 0 < pack →
-        length (continuous_part t g pack n k width) ≡ 1 + blocks_for pack k + (blocks_for pack n + 2 * n) }
+        length (continuous_part t g pack n k width)
+        ≡ 1 + blocks_for pack k + (blocks_for pack n + 2 * n) }
     ensures hash { (t g pack n k depth width : ℕ) → 0 < pack →
-        length (hash_part t g pack n k depth width) ≡ 1 + k * depth + (blocks_for pack n + 4 * depth * n) }
+        length (hash_part t g pack n k depth width)
+        ≡ 1 + k * depth + (blocks_for pack n + 4 * depth * n) }
     ensures emission { (g blocks : ℕ) → length (emission_part g blocks) ≡ blocks + 1 }
     ensures join { (a b g lefts rights buffered width : ℕ) → 0 < buffered →
-        length (join_part a b g lefts rights buffered width) ≡ 1 + (div_ceil lefts buffered * (2 * rights) + lefts) }
+        length (join_part a b g lefts rights buffered width)
+        ≡ 1 + (div_ceil lefts buffered * (2 * rights) + lefts) }
+{}
+
+/// How many regions each part of a statement asks for: one where it writes to a new region, else none.
+pub fn part_makes()
+    ensures create { (g blocks width : ℕ) → makes (create_part g blocks width) ≡ 1 }
+    ensures insert { (t g blocks width : ℕ) → makes (insert_part t g blocks width) ≡ 1 }
+    ensures rewrite { (t g blocks width : ℕ) → makes (rewrite_part t g blocks width) ≡ 1 }
+    ensures count { (t blocks : ℕ) → makes (count_part t blocks) ≡ 0 }
+    ensures small { (t g blocks results buffered width : ℕ) →
+        makes (small_part t g blocks results buffered width) ≡ 1 }
+    ensures large { (t g blocks width : ℕ) → makes (large_part t g blocks width) ≡ 1 }
+    ensures continuous { (t g pack n k width : ℕ) →
+        makes (continuous_part t g pack n k width) ≡ 1 }
+    ensures hash { (t g pack n k depth width : ℕ) →
+        makes (hash_part t g pack n k depth width) ≡ 1 }
+    ensures emission { (g blocks : ℕ) → makes (emission_part g blocks) ≡ 0 }
+    ensures join { (a b g lefts rights buffered width : ℕ) →
+        makes (join_part a b g lefts rights buffered width) ≡ 1 }
 {}
 
 /// As many buffers of blocks hold the blocks of so many rows, as buffers of rows hold the rows.
 pub fn buffers_by_rows()
-    ensures { (n pack buffered : ℕ) → 0 < pack → 0 < buffered → div_ceil (blocks_for pack n) buffered ≡ div_ceil n (pack * buffered) }
+    ensures { (n pack buffered : ℕ) → 0 < pack → 0 < buffered →
+        div_ceil (blocks_for pack n) buffered ≡ div_ceil n (pack * buffered) }
 {}
 
 /// No statement asks 2^49 accesses or more.
 pub fn scripts_are_short()
-    ensures { (p : Public) (s : Skeleton) (seen : Seen) → IsPublic p → (seen.end ≢ End.Static → IsWithin p s seen) → length (script p s seen) < 2 ^ 49 }
-{}
-
-/// Sessions that begin alike, and of whose statements the same is seen, ask the same.
-pub fn seen_alike_asks_alike()
-    ensures { (p q : Public) (xs ys : List Served) → p ≡ q → xs ≡ ys → trace p xs ≡ trace q ys }
+    ensures { (p : Public) (s : Skeleton) (seen : Seen) → IsPublic p →
+        (seen.end ≢ End.Static → IsWithin p s seen) → length (script p s seen) < 2 ^ 49 }
 {}

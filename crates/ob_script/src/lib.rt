@@ -4,11 +4,11 @@
 mod bucket;
 mod extent;
 mod laws;
-mod piece;
-mod pieces;
 mod place;
 mod script;
+mod section;
+mod sections;
 
 pub use bucket::{first_bucket, second_bucket};
-pub use laws::{buffers_by_rows, part_lengths, scripts_are_short, seen_alike_asks_alike};
+pub use laws::{buffers_by_rows, part_lengths, part_makes, scripts_are_short};
 pub use script::{script_len, script_nth};

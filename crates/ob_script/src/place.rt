@@ -3,7 +3,7 @@ ghost use Rattle.std.specs.Prelude.{◌≡◌, ◌≤◌, ◌<◌, ◌*◌, ◌/
 ghost use Rattle.std.specs.Int.{div_ceil};
 ghost use Rattle.ob_base.specs.Lists.{each};
 ghost use Rattle.ob_script.specs.Parts.{small_pass, continuous_block, bucket_part, hash_slot, hash_block, join_chunk};
-ghost use Rattle.ob_script.specs.Pieces.{IsFew};
+ghost use Rattle.ob_script.specs.Sections.{IsFew};
 
 use crate::bucket::{first_bucket, second_bucket};
 use ob_base::Access;
@@ -43,8 +43,11 @@ pub(crate) fn pass_nth(
     requires results { IsFew results }
     requires buffered { IsFew buffered }
     requires some { 1 ≤ buffered }
-    requires within { i < length (each (div_ceil results buffered) (small_pass from to blocks results buffered)) }
-    ensures { slice_get (each (div_ceil results buffered) (small_pass from to blocks results buffered)) i ≡ Some result }
+    requires within { i < length
+        (each (div_ceil results buffered) (small_pass from to blocks results buffered)) }
+    ensures { slice_get
+        (each (div_ceil results buffered) (small_pass from to blocks results buffered)) i
+        ≡ Some result }
 {
     let turn = u64::from(blocks) + u64::from(buffered);
     let pass = i / turn;
@@ -69,8 +72,11 @@ pub(crate) fn turn_nth(from: u64, to: u64, pack: u32, slots: u32, rows: u32, i: 
     requires pack { 1 ≤ pack }
     requires few { pack ≤ 16 }
     requires rows { 1 ≤ rows }
-    requires within { i < length (each (div_ceil slots pack) (continuous_block from to pack slots rows)) }
-    ensures { slice_get (each (div_ceil slots pack) (continuous_block from to pack slots rows)) i ≡ Some result }
+    requires within { i < length
+        (each (div_ceil slots pack) (continuous_block from to pack slots rows)) }
+    ensures { slice_get
+        (each (div_ceil slots pack) (continuous_block from to pack slots rows)) i
+        ≡ Some result }
 {
     let turn = 1 + 2 * u64::from(pack);
     let block = i / turn;
@@ -104,8 +110,11 @@ pub(crate) fn bucket_nth(
     requires rows { IsFew rows }
     requires deep { 1 ≤ depth }
     requires depth { depth ≤ 8 }
-    requires within { i < length (each (div_ceil slots pack) (hash_block from to pack slots rows depth)) }
-    ensures { slice_get (each (div_ceil slots pack) (hash_block from to pack slots rows depth)) i ≡ Some result }
+    requires within { i < length
+        (each (div_ceil slots pack) (hash_block from to pack slots rows depth)) }
+    ensures { slice_get
+        (each (div_ceil slots pack) (hash_block from to pack slots rows depth)) i
+        ≡ Some result }
 {
     let turn = 1 + 4 * u64::from(depth) * u64::from(pack);
     let block = i / turn;
@@ -165,8 +174,11 @@ pub(crate) fn pair_nth(
     requires joined { IsFew (div_ceil lefts buffered * rights) }
     requires buffered { IsFew buffered }
     requires some { 1 ≤ buffered }
-    requires within { i < length (each (div_ceil lefts buffered) (join_chunk left right to lefts rights buffered)) }
-    ensures { slice_get (each (div_ceil lefts buffered) (join_chunk left right to lefts rights buffered)) i ≡ Some result }
+    requires within { i < length
+        (each (div_ceil lefts buffered) (join_chunk left right to lefts rights buffered)) }
+    ensures { slice_get
+        (each (div_ceil lefts buffered) (join_chunk left right to lefts rights buffered)) i
+        ≡ Some result }
 {
     let turn = u64::from(buffered) + 2 * u64::from(rights);
     let chunk = i / turn;

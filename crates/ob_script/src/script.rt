@@ -5,77 +5,78 @@ ghost use Rattle.ob_base.specs.Accesses.{discard_at};
 ghost use Rattle.ob_base.specs.Numbers.{blocks_for};
 ghost use Rattle.ob_base.specs.Joins.{chunks, joined_blocks, joined_slots};
 ghost use Rattle.ob_base.specs.Limits.{buffered_blocks};
+ghost use Rattle.ob_base.specs.Stored.{stored_region};
 ghost use Rattle.ob_script.specs.Parts.{count_part, create_part, insert_part, rewrite_part, small_part, large_part, emission_part, join_part};
-ghost use Rattle.ob_script.specs.Pieces.{all_accesses, IsFew};
+ghost use Rattle.ob_script.specs.Sections.{all_accesses, Adds, IsFew};
 ghost use Rattle.ob_script.specs.Script.{script, whole_script, with_table, mutation_script, blocks_of, extent_of, source_script, join_script, joined_extent, select_part, after_count, result_part, plan_part, result_blocks, rows_width};
 ghost use Rattle.ob_script.specs.Sizes.{IsPublic, IsCounted, IsWithin, IsSourceCounted, IsTable};
 
 use crate::extent::{Extent, extent_of, new_width, table_at};
-use crate::piece::Piece;
-use crate::pieces::Pieces;
+use crate::section::Section;
+use crate::sections::Sections;
 use ob_base::{Access, End, Name, Plan, Public, Seen, Skeleton, Source, Table};
 
 // A new region that is filled in order.
 #[tactic(auto, using(crate::proofs::Joined::all_more))]
-fn push_create(pieces: &mut Pieces, region: u64, blocks: u32, width: u32)
-    requires room { length pieces.old ≤ 14 }
+fn push_create(sections: &mut Sections, region: u64, blocks: u32, width: u32)
+    requires room { length sections.old ≤ 14 }
     requires width { width ≤ 2 ^ 24 }
-    ensures adds { all_accesses pieces.new ≡ all_accesses pieces.old ++ create_part region blocks width }
-    ensures few { length pieces.new ≡ length pieces.old + 2 }
+    ensures adds { Adds sections.old sections.new (create_part region blocks width) }
+    ensures few { length sections.new ≡ length sections.old + 2 }
 {
-    pieces.push(Piece::Make {
+    sections.push(Section::Make {
         region,
         blocks,
         width,
     });
-    pieces.push(Piece::Writes { region, blocks });
+    sections.push(Section::Writes { region, blocks });
 }
 
 // INSERT.
 #[tactic(auto, using(crate::proofs::Joined::all_more))]
-fn push_insert(pieces: &mut Pieces, from: u64, to: u64, blocks: u32, width: u32)
-    requires room { length pieces.old ≤ 12 }
+fn push_insert(sections: &mut Sections, from: u64, to: u64, blocks: u32, width: u32)
+    requires room { length sections.old ≤ 12 }
     requires width { width ≤ 2 ^ 24 }
-    ensures { all_accesses pieces.new ≡ all_accesses pieces.old ++ insert_part from to blocks width }
+    ensures { Adds sections.old sections.new (insert_part from to blocks width) }
 {
-    pieces.push(Piece::Make {
+    sections.push(Section::Make {
         region: to,
         blocks,
         width,
     });
-    pieces.push(Piece::Reads {
+    sections.push(Section::Reads {
         region: from,
         blocks,
     });
-    pieces.push(Piece::Copies { from, to, blocks });
-    pieces.push(Piece::Discard { region: from });
+    sections.push(Section::Copies { from, to, blocks });
+    sections.push(Section::Discard { region: from });
 }
 
 // UPDATE and DELETE.
 #[tactic(auto, using(crate::proofs::Joined::all_more))]
-fn push_rewrite(pieces: &mut Pieces, from: u64, to: u64, blocks: u32, width: u32)
-    requires room { length pieces.old ≤ 13 }
+fn push_rewrite(sections: &mut Sections, from: u64, to: u64, blocks: u32, width: u32)
+    requires room { length sections.old ≤ 13 }
     requires width { width ≤ 2 ^ 24 }
-    ensures { all_accesses pieces.new ≡ all_accesses pieces.old ++ rewrite_part from to blocks width }
+    ensures { Adds sections.old sections.new (rewrite_part from to blocks width) }
 {
-    pieces.push(Piece::Make {
+    sections.push(Section::Make {
         region: to,
         blocks,
         width,
     });
-    pieces.push(Piece::Copies { from, to, blocks });
-    pieces.push(Piece::Discard { region: from });
+    sections.push(Section::Copies { from, to, blocks });
+    sections.push(Section::Discard { region: from });
 }
 
 // A result is read in order and discarded.
 #[tactic(auto, using(crate::proofs::Joined::all_more))]
-fn push_emission(pieces: &mut Pieces, region: u64, blocks: u32)
-    requires room { length pieces.old ≤ 14 }
-    ensures adds { all_accesses pieces.new ≡ all_accesses pieces.old ++ emission_part region blocks }
-    ensures few { length pieces.new ≡ length pieces.old + 2 }
+fn push_emission(sections: &mut Sections, region: u64, blocks: u32)
+    requires room { length sections.old ≤ 14 }
+    ensures adds { Adds sections.old sections.new (emission_part region blocks) }
+    ensures few { length sections.new ≡ length sections.old + 2 }
 {
-    pieces.push(Piece::Reads { region, blocks });
-    pieces.push(Piece::Discard { region });
+    sections.push(Section::Reads { region, blocks });
+    sections.push(Section::Discard { region });
 }
 
 // The blocks of so many slots.
@@ -100,7 +101,7 @@ fn buffered(public: &Public) -> u32
 // Small's result.
 #[tactic(auto, using(crate::proofs::Joined::all_more))]
 fn push_small(
-    pieces: &mut Pieces,
+    sections: &mut Sections,
     from: u64,
     to: u64,
     blocks: u32,
@@ -108,21 +109,22 @@ fn push_small(
     buffered: u32,
     width: u32,
 )
-    requires room { length pieces.old ≤ 14 }
+    requires room { length sections.old ≤ 14 }
     requires blocks { IsFew blocks }
     requires results { IsFew results }
     requires buffered { IsFew buffered }
     requires some { 1 ≤ buffered }
     requires width { width ≤ 2 ^ 24 }
-    ensures adds { all_accesses pieces.new ≡ all_accesses pieces.old ++ small_part from to blocks results buffered width }
-    ensures few { length pieces.new ≡ length pieces.old + 2 }
+    ensures adds { Adds sections.old sections.new
+        (small_part from to blocks results buffered width) }
+    ensures few { length sections.new ≡ length sections.old + 2 }
 {
-    pieces.push(Piece::Make {
+    sections.push(Section::Make {
         region: to,
         blocks: results,
         width,
     });
-    pieces.push(Piece::Passes {
+    sections.push(Section::Passes {
         from,
         to,
         blocks,
@@ -133,19 +135,19 @@ fn push_small(
 
 // Large's result.
 #[tactic(auto, using(crate::proofs::Joined::all_more))]
-fn push_large(pieces: &mut Pieces, from: u64, to: u64, blocks: u32, width: u32)
-    requires room { length pieces.old ≤ 13 }
+fn push_large(sections: &mut Sections, from: u64, to: u64, blocks: u32, width: u32)
+    requires room { length sections.old ≤ 13 }
     requires width { width ≤ 2 ^ 24 }
-    ensures adds { all_accesses pieces.new ≡ all_accesses pieces.old ++ large_part from to blocks width }
-    ensures few { length pieces.new ≡ length pieces.old + 3 }
+    ensures adds { Adds sections.old sections.new (large_part from to blocks width) }
+    ensures few { length sections.new ≡ length sections.old + 3 }
 {
-    pieces.push(Piece::Make {
+    sections.push(Section::Make {
         region: to,
         blocks,
         width,
     });
-    pieces.push(Piece::Copies { from, to, blocks });
-    pieces.push(Piece::Copies {
+    sections.push(Section::Copies { from, to, blocks });
+    sections.push(Section::Copies {
         from: to,
         to,
         blocks,
@@ -154,15 +156,15 @@ fn push_large(pieces: &mut Pieces, from: u64, to: u64, blocks: u32, width: u32)
 
 // The way to the result of `k` rows.
 #[tactic(auto, using(crate::proofs::Joined::all_more))]
-fn push_plan(pieces: &mut Pieces, public: &Public, plan: Plan, k: u32, to: u64, from: Extent)
-    requires room { length pieces.old ≤ 13 }
+fn push_plan(sections: &mut Sections, public: &Public, plan: Plan, k: u32, to: u64, from: Extent)
+    requires room { length sections.old ≤ 13 }
     requires public { IsPublic public.now }
     requires some { 1 ≤ k }
     requires rows { IsFew k }
     requires slots { IsFew from.slots }
     requires width { from.width ≤ 1024 }
-    ensures adds { all_accesses pieces.new ≡ all_accesses pieces.old ++ plan_part public.now plan k to from }
-    ensures few { length pieces.new ≤ length pieces.old + 3 }
+    ensures adds { Adds sections.old sections.new (plan_part public.now plan k to from) }
+    ensures few { length sections.new ≤ length sections.old + 3 }
 {
     let pack = u32::from(public.pack);
     let depth = u32::from(public.depth);
@@ -172,7 +174,7 @@ fn push_plan(pieces: &mut Pieces, public: &Public, plan: Plan, k: u32, to: u64, 
     match plan {
         Plan::Small => {
             push_small(
-                pieces,
+                sections,
                 from.region,
                 to,
                 blocks,
@@ -181,10 +183,10 @@ fn push_plan(pieces: &mut Pieces, public: &Public, plan: Plan, k: u32, to: u64, 
                 width,
             );
         }
-        Plan::Large => push_large(pieces, from.region, to, blocks, width),
+        Plan::Large => push_large(sections, from.region, to, blocks, width),
         Plan::Continuous => {
-            push_create(pieces, to, results, width);
-            pieces.push(Piece::Turns {
+            push_create(sections, to, results, width);
+            sections.push(Section::Turns {
                 from: from.region,
                 to,
                 pack,
@@ -193,8 +195,8 @@ fn push_plan(pieces: &mut Pieces, public: &Public, plan: Plan, k: u32, to: u64, 
             });
         }
         Plan::Hash => {
-            push_create(pieces, to, k * depth, width);
-            pieces.push(Piece::Buckets {
+            push_create(sections, to, k * depth, width);
+            sections.push(Section::Buckets {
                 from: from.region,
                 to,
                 pack,
@@ -221,27 +223,27 @@ fn result_blocks(public: &Public, plan: Plan, k: u32, from: Extent) -> u32
 
 // A plan's result, and what it is read back by.
 fn push_result(
-    pieces: &mut Pieces,
+    sections: &mut Sections,
     public: &Public,
     plan: Option<Plan>,
     k: u32,
     to: u64,
     from: Extent,
 )
-    requires room { length pieces.old ≤ 11 }
+    requires room { length sections.old ≤ 11 }
     requires public { IsPublic public.now }
     requires some { OnSome plan (1 ≤ k) }
     requires rows { IsFew k }
     requires slots { IsFew from.slots }
     requires width { from.width ≤ 1024 }
-    ensures adds { all_accesses pieces.new ≡ all_accesses pieces.old ++ result_part public.now plan k to from }
-    ensures few { length pieces.new ≤ length pieces.old + 5 }
+    ensures adds { Adds sections.old sections.new (result_part public.now plan k to from) }
+    ensures few { length sections.new ≤ length sections.old + 5 }
 {
     match plan {
         None => {}
         Some(plan) => {
-            push_plan(pieces, public, plan, k, to, from);
-            push_emission(pieces, to, result_blocks(public, plan, k, from));
+            push_plan(sections, public, plan, k, to, from);
+            push_emission(sections, to, result_blocks(public, plan, k, from));
         }
     }
 }
@@ -249,28 +251,29 @@ fn push_result(
 // The count of `from`, and once it is known, the results and the discarding of `ending`.
 #[tactic(auto, using(crate::proofs::Joined::all_more))]
 fn push_select(
-    pieces: &mut Pieces,
+    sections: &mut Sections,
     public: &Public,
     seen: &Seen,
     to: u64,
     from: Extent,
     ending: Option<u64>,
 )
-    requires room { length pieces.old ≤ 4 }
+    requires room { length sections.old ≤ 4 }
     requires public { IsPublic public.now }
     requires counted { IsCounted seen.now from }
     requires next { to < 2 ^ 64 - 1 }
-    ensures { all_accesses pieces.new ≡ all_accesses pieces.old ++ select_part public.now seen.now to from (option_map_or discard_at ending []) }
+    ensures { Adds sections.old sections.new
+        (select_part public.now seen.now to from (option_map_or discard_at ending [])) }
 {
-    pieces.push(Piece::Reads {
+    sections.push(Section::Reads {
         region: from.region,
         blocks: blocks_of(public, from.slots),
     });
     if let Some(k) = seen.k {
-        push_result(pieces, public, seen.plan, k as u32, to, from);
-        push_result(pieces, public, seen.then, k as u32, to + 1, from);
+        push_result(sections, public, seen.plan, k as u32, to, from);
+        push_result(sections, public, seen.then, k as u32, to + 1, from);
         if let Some(region) = ending {
-            pieces.push(Piece::Discard { region });
+            sections.push(Section::Discard { region });
         }
     }
 }
@@ -289,8 +292,10 @@ fn joined_blocks(public: &Public, left: &Table, right: &Table) -> u32
     requires public { IsPublic public.now }
     requires left { IsTable left.now }
     requires right { IsTable right.now }
-    requires few { IsFew (joined_slots public.now.pack public.now.buffer left.now.heading.capacity right.now.heading.capacity) }
-    ensures value { result ≡ joined_blocks public.now.pack public.now.buffer left.now.heading.capacity right.now.heading.capacity }
+    requires few { IsFew (joined_slots public.now.pack public.now.buffer
+        left.now.heading.capacity right.now.heading.capacity) }
+    ensures value { result ≡ joined_blocks public.now.pack public.now.buffer
+        left.now.heading.capacity right.now.heading.capacity }
     ensures few { IsFew result }
 {
     let rights = u64::from(blocks_of(public, right.heading.capacity));
@@ -304,7 +309,8 @@ fn joined(public: &Public, left: &Table, right: &Table) -> Extent
     requires public { IsPublic public.now }
     requires left { IsTable left.now }
     requires right { IsTable right.now }
-    requires few { IsFew (joined_slots public.now.pack public.now.buffer left.now.heading.capacity right.now.heading.capacity) }
+    requires few { IsFew (joined_slots public.now.pack public.now.buffer
+        left.now.heading.capacity right.now.heading.capacity) }
     ensures { result ≡ joined_extent public.now left.now.heading right.now.heading }
 {
     Extent {
@@ -316,24 +322,26 @@ fn joined(public: &Public, left: &Table, right: &Table) -> Extent
 
 // A SELECT over a join.
 #[tactic(auto, using(crate::proofs::Joined::all_more))]
-fn push_join(pieces: &mut Pieces, public: &Public, seen: &Seen, left: &Table, right: &Table)
-    requires room { pieces.old ≡ [] }
+fn push_join(sections: &mut Sections, public: &Public, seen: &Seen, left: &Table, right: &Table)
+    requires room { sections.old ≡ [] }
     requires public { IsPublic public.now }
     requires left { IsTable left.now }
     requires right { IsTable right.now }
-    requires counted { IsCounted seen.now (joined_extent public.now left.now.heading right.now.heading) }
-    ensures { all_accesses pieces.new ≡ join_script public.now seen.now (record { heading = left.now.heading; held = left.now.region }) (record { heading = right.now.heading; held = right.now.region }) }
+    requires counted { IsCounted seen.now
+        (joined_extent public.now left.now.heading right.now.heading) }
+    ensures { all_accesses sections.new ≡ join_script public.now seen.now
+        (stored_region left.now) (stored_region right.now) }
 {
     let lefts = blocks_of(public, left.heading.capacity);
     let rights = blocks_of(public, right.heading.capacity);
     let to = public.next_region;
     let pairs = joined(public, left, right);
-    pieces.push(Piece::Make {
+    sections.push(Section::Make {
         region: to,
         blocks: joined_blocks(public, left, right),
         width: u32::from(public.pack) * pairs.width,
     });
-    pieces.push(Piece::Pairs {
+    sections.push(Section::Pairs {
         left: left.region,
         right: right.region,
         to,
@@ -341,22 +349,22 @@ fn push_join(pieces: &mut Pieces, public: &Public, seen: &Seen, left: &Table, ri
         rights,
         buffered: buffered(public),
     });
-    push_select(pieces, public, seen, to + 1, pairs, Some(to));
+    push_select(sections, public, seen, to + 1, pairs, Some(to));
 }
 
 // A SELECT of rows.
-fn push_source(pieces: &mut Pieces, public: &Public, seen: &Seen, source: &Source)
-    requires room { pieces.old ≡ [] }
+fn push_source(sections: &mut Sections, public: &Public, seen: &Seen, source: &Source)
+    requires room { sections.old ≡ [] }
     requires public { IsPublic public.now }
     requires counted { IsSourceCounted public.now seen.now source.now }
-    ensures { all_accesses pieces.new ≡ source_script public.now seen.now source.now }
+    ensures { all_accesses sections.new ≡ source_script public.now seen.now source.now }
 {
     let tables = public.tables.as_slice();
     match source {
         Source::Table(name) => {
             if let Some(table) = table_at(tables, name) {
                 push_select(
-                    pieces,
+                    sections,
                     public,
                     seen,
                     public.next_region,
@@ -369,17 +377,18 @@ fn push_source(pieces: &mut Pieces, public: &Public, seen: &Seen, source: &Sourc
             if let Some(left) = table_at(tables, left)
                 && let Some(right) = table_at(tables, right)
             {
-                push_join(pieces, public, seen, left, right);
+                push_join(sections, public, seen, left, right);
             }
         }
     }
 }
 
 // INSERT, UPDATE or DELETE of a table.
-fn push_mutation(pieces: &mut Pieces, public: &Public, name: &Name, inserts: bool)
-    requires room { pieces.old ≡ [] }
+fn push_mutation(sections: &mut Sections, public: &Public, name: &Name, inserts: bool)
+    requires room { sections.old ≡ [] }
     requires public { IsPublic public.now }
-    ensures { all_accesses pieces.new ≡ with_table name.now public.now (mutation_script public.now (if inserts then insert_part else rewrite_part)) }
+    ensures { all_accesses sections.new ≡ with_table name.now public.now
+        (mutation_script public.now (if inserts then insert_part else rewrite_part)) }
 {
     if let Some(table) = table_at(public.tables.as_slice(), name) {
         let from = extent_of(table);
@@ -387,22 +396,22 @@ fn push_mutation(pieces: &mut Pieces, public: &Public, name: &Name, inserts: boo
         let blocks = blocks_of(public, from.slots);
         let width = u32::from(public.pack) * from.width;
         if inserts {
-            push_insert(pieces, from.region, to, blocks, width);
+            push_insert(sections, from.region, to, blocks, width);
         } else {
-            push_rewrite(pieces, from.region, to, blocks, width);
+            push_rewrite(sections, from.region, to, blocks, width);
         }
     }
 }
 
 // DROP of a table.
 #[tactic(auto, using(crate::proofs::Joined::all_more))]
-fn push_drop(pieces: &mut Pieces, public: &Public, name: &Name)
-    requires room { pieces.old ≡ [] }
+fn push_drop(sections: &mut Sections, public: &Public, name: &Name)
+    requires room { sections.old ≡ [] }
     requires public { IsPublic public.now }
-    ensures { all_accesses pieces.new ≡ with_table name.now public.now (λ t. discard_at t.held) }
+    ensures { all_accesses sections.new ≡ with_table name.now public.now (λ t. discard_at t.held) }
 {
     if let Some(table) = table_at(public.tables.as_slice(), name) {
-        pieces.push(Piece::Discard {
+        sections.push(Section::Discard {
             region: table.region,
         });
     }
@@ -410,13 +419,14 @@ fn push_drop(pieces: &mut Pieces, public: &Public, name: &Name)
 
 // Aggregates and GROUP BY over a table.
 #[tactic(auto, using(crate::proofs::Joined::all_more))]
-fn push_groups(pieces: &mut Pieces, public: &Public, name: &Name)
-    requires room { pieces.old ≡ [] }
+fn push_groups(sections: &mut Sections, public: &Public, name: &Name)
+    requires room { sections.old ≡ [] }
     requires public { IsPublic public.now }
-    ensures { all_accesses pieces.new ≡ with_table name.now public.now (λ t. count_part t.held (blocks_of public.now (extent_of t))) }
+    ensures { all_accesses sections.new ≡ with_table name.now public.now
+        (λ t. count_part t.held (blocks_of public.now (extent_of t))) }
 {
     if let Some(table) = table_at(public.tables.as_slice(), name) {
-        pieces.push(Piece::Reads {
+        sections.push(Section::Reads {
             region: table.region,
             blocks: blocks_of(public, table.heading.capacity),
         });
@@ -424,31 +434,31 @@ fn push_groups(pieces: &mut Pieces, public: &Public, name: &Name)
 }
 
 // All that a statement asks which is not refused before.
-fn whole(public: &Public, skeleton: &Skeleton, seen: &Seen) -> Pieces
+fn whole(public: &Public, skeleton: &Skeleton, seen: &Seen) -> Sections
     requires public { IsPublic public.now }
     requires within { IsWithin public.now skeleton.now seen.now }
     ensures { all_accesses result ≡ whole_script public.now skeleton.now seen.now }
 {
-    let mut pieces = Pieces::new();
+    let mut sections = Sections::new();
     match skeleton {
         Skeleton::Create {
             columns,
             capacity,
             ..
         } => push_create(
-            &mut pieces,
+            &mut sections,
             public.next_region,
             blocks_of(public, *capacity),
             u32::from(public.pack) * new_width(columns.as_slice()),
         ),
-        Skeleton::Insert { table, .. } => push_mutation(&mut pieces, public, table, true),
-        Skeleton::Update { table, .. } => push_mutation(&mut pieces, public, table, false),
-        Skeleton::Delete { table } => push_mutation(&mut pieces, public, table, false),
-        Skeleton::Drop { table } => push_drop(&mut pieces, public, table),
-        Skeleton::Rows { source, .. } => push_source(&mut pieces, public, seen, source),
-        Skeleton::Groups { table, .. } => push_groups(&mut pieces, public, table),
+        Skeleton::Insert { table, .. } => push_mutation(&mut sections, public, table, true),
+        Skeleton::Update { table, .. } => push_mutation(&mut sections, public, table, false),
+        Skeleton::Delete { table } => push_mutation(&mut sections, public, table, false),
+        Skeleton::Drop { table } => push_drop(&mut sections, public, table),
+        Skeleton::Rows { source, .. } => push_source(&mut sections, public, seen, source),
+        Skeleton::Groups { table, .. } => push_groups(&mut sections, public, table),
     }
-    pieces
+    sections
 }
 
 /// The number of accesses of a statement.

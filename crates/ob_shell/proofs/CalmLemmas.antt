@@ -1,7 +1,9 @@
 -- The first changed block that is read ends the run, or its tag fits.
-use Rattle.std.proofs.Common.{◌≡◌, ℕ, Bool, List, [], ◌∷◌, None, Ok, Err, Result, inl, inr, sym, subst}
+use Rattle.std.proofs.Common.{◌≡◌, ℕ, Bool, true, false, List, [], ◌∷◌, None, Ok, Err, Result, inl, inr, sym, subst}
 use Rattle.ob_base.specs.declared.refusal.Refusal.{Refusal}
-use Rattle.ob_base.specs.declared.refusal.Refusal.TheVariants.{Syntax, NoTable, NameTaken, NoColumn, WrongType, ValueRange, Limit, KeyRule, JoinKey, Duplicate, Full, TooManyGroups, NotConsecutive, Overflow, StoreFault}
+use Rattle.ob_base.specs.Counts.{Rises}
+use Rattle.ob_base.specs.Refusals.{is_store_fault}
+use Rattle.ob_exec.specs.Refusals.{by_fault}
 use Rattle.ob_base.specs.declared.refusal.Stop.{Stop}
 use Rattle.ob_base.specs.declared.refusal.Stop.TheVariants.{Tampered, SourceFault, SinkFault, NoMemory, InputLimit}
 use Rattle.ob_exec.specs.Agreeing.{world_of}
@@ -18,21 +20,10 @@ use Rattle.ob_vault.specs.State.{RevState, World}
 use Rattle.ob_vault.specs.Tied.{Calm}
 
 refused_calm : (r : Refusal) (a b : World) → refused_cause r a b → Calm a → Calm b
-refused_calm (Syntax at) a b cause = cause.1
-refused_calm NoTable a b cause = cause.1
-refused_calm NameTaken a b cause = cause.1
-refused_calm NoColumn a b cause = cause.1
-refused_calm WrongType a b cause = cause.1
-refused_calm ValueRange a b cause = cause.1
-refused_calm Limit a b cause = cause.1
-refused_calm KeyRule a b cause = cause.1
-refused_calm JoinKey a b cause = cause.1
-refused_calm Duplicate a b cause = cause.1
-refused_calm Full a b cause = cause.1
-refused_calm TooManyGroups a b cause = cause.1
-refused_calm NotConsecutive a b cause = cause.1
-refused_calm (Overflow i) a b cause = cause.1
-refused_calm StoreFault a b cause = cause.1
+refused_calm r a b cause = go (is_store_fault r) cause where
+  go : (failed : Bool) → by_fault failed (Rises a.store.faults b.store.faults × (Calm a → Calm b)) ((b.store.faults ≡ a.store.faults) × (Calm a → Calm b)) → Calm a → Calm b
+  go true cause = cause.1
+  go false cause = cause.1
 
 outcome_calm : (o : Outcome) (a b : World) → RunCause (Ok o) a b → Calm a → Calm b
 outcome_calm (Refused r) a b cause = refused_calm r a b cause
@@ -52,7 +43,7 @@ met NoMemory w calm = calm
 met InputLimit w calm = calm
 
 stop_met : (stop : Stop) (a b : World) → RunCause (Err stop) a b → Calm a → MeetsChange (RanEnding (Err stop)) b
-stop_met (Tampered region place) a b cause calm = cause.1 calm
+stop_met (Tampered region place) a b cause calm = cause.2 calm
 stop_met SinkFault a b cause calm = cause.1 calm
 stop_met NoMemory a b cause calm = cause.1 calm
 stop_met SourceFault a b cause calm = absurd cause

@@ -1,8 +1,12 @@
 -- At least as many calls of the store failed as texts were answered so.
-use Rattle.std.proofs.Common.{◌≡◌, ◌≤◌, ◌+◌, ℕ, Bool, List, [], ◌∷◌, Ok, Result, inl, inr, sym, ap, subst, arith}
+use Rattle.std.specs.Prelude.{if◌then◌else◌}
+use Rattle.std.proofs.Common.{◌≡◌, ◌≤◌, ◌+◌, ℕ, Bool, true, false, List, [], ◌∷◌, Ok, Result, inl, inr, sym, ap, subst, arith}
 use Rattle.ob_base.specs.declared.refusal.Refusal.{Refusal}
 use Rattle.ob_base.specs.declared.refusal.Stop.{Stop}
-use Rattle.ob_base.specs.declared.refusal.Refusal.TheVariants.{Syntax, NoTable, NameTaken, NoColumn, WrongType, ValueRange, Limit, KeyRule, JoinKey, Duplicate, Full, TooManyGroups, NotConsecutive, Overflow, StoreFault}
+use Rattle.ob_base.specs.Counts.{Rises}
+use Rattle.ob_base.specs.Refusals.{is_store_fault}
+use Rattle.ob_exec.specs.Refusals.{by_fault}
+use Rattle.ob_vault.specs.Tied.{Calm}
 use Rattle.ob_exec.specs.Running.{RunCause, refused_cause}
 use Rattle.ob_exec.specs.declared.outcome.Outcome.{Outcome}
 use Rattle.ob_exec.specs.declared.outcome.Outcome.TheVariants.{Created, Inserted, Changed, Deleted, Dropped, Rows, Refused}
@@ -22,21 +26,11 @@ later : (a b c n : ℕ) → RisesBy n a b → b ≤ c → RisesBy n a c
 later a b c n by le = omega (arith, by, le)
 
 refused : (r : Refusal) (a b : World) → refused_cause r a b → RisesBy (refusal_failures r) a.store.faults b.store.faults
-refused (Syntax at) a b cause = stays _ _ cause.0
-refused NoTable a b cause = stays _ _ cause.0
-refused NameTaken a b cause = stays _ _ cause.0
-refused NoColumn a b cause = stays _ _ cause.0
-refused WrongType a b cause = stays _ _ cause.0
-refused ValueRange a b cause = stays _ _ cause.0
-refused Limit a b cause = stays _ _ cause.0
-refused KeyRule a b cause = stays _ _ cause.0
-refused JoinKey a b cause = stays _ _ cause.0
-refused Duplicate a b cause = stays _ _ cause.0
-refused Full a b cause = stays _ _ cause.0
-refused TooManyGroups a b cause = stays _ _ cause.0
-refused NotConsecutive a b cause = stays _ _ cause.0
-refused (Overflow i) a b cause = stays _ _ cause.0
-refused StoreFault a b cause = cause.0
+refused r a b cause = go (is_store_fault r) cause where
+  go : (failed : Bool) → by_fault failed (Rises a.store.faults b.store.faults × (Calm a → Calm b)) ((b.store.faults ≡ a.store.faults) × (Calm a → Calm b))
+      → RisesBy (if failed then 1 else 0) a.store.faults b.store.faults
+  go true cause = cause.0
+  go false cause = stays _ _ cause.0
 
 answered : (o : Outcome) (a b : World) → RunCause (Ok o) a b → RisesBy (outcome_failures o) a.store.faults b.store.faults
 answered (Refused r) a b cause = refused r a b cause

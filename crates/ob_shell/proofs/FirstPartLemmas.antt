@@ -8,10 +8,8 @@ use Rattle.ob_base.specs.declared.refusal.Stop.{Stop}
 use Rattle.ob_base.specs.declared.seen.End.{End}
 use Rattle.ob_base.specs.declared.seen.End.TheVariants.{Static, Whole, AfterCount, Cut}
 use Rattle.ob_base.specs.declared.seen.Seen.{Seen}
-use Rattle.ob_base.specs.declared.skeleton.Source.{Source}
-use Rattle.ob_base.specs.declared.skeleton.Source.TheVariants.{Table as OneTable, Join}
 use Rattle.ob_exec.specs.Running.{RefusedEarly, refusal_now}
-use Rattle.ob_exec.specs.Serving.{IsServed, IsOneTable, IsCount, count_of}
+use Rattle.ob_exec.specs.Serving.{IsServed, IsCount, count_of}
 use Rattle.ob_exec.specs.Telling.{AreHeld}
 use Rattle.ob_exec.specs.declared.outcome.Outcome.{Outcome}
 use Rattle.ob_exec.proofs.ToldLemmas.{early_held}
@@ -20,9 +18,9 @@ use Rattle.ob_mean.proofs.VerdictLemmas.{seen_late}
 use Rattle.ob_script.specs.Script.{script, until_end, whole_script}
 use Rattle.ob_shell.specs.Disturbed.{Begins}
 use Rattle.ob_sql.specs.Skeleton.{skeleton}
-use Rattle.ob_sql.specs.declared.stmt.Select.{Select}
+use Rattle.ob_sql.specs.declared.stmt.SelectTotals.{SelectTotals}
 use Rattle.ob_sql.specs.declared.stmt.Stmt.{Stmt}
-use Rattle.ob_sql.specs.declared.stmt.Stmt.TheVariants.{Create, Insert, Update, Delete, Drop as DropTable, Select as SelectStmt}
+use Rattle.ob_sql.specs.declared.stmt.Stmt.TheVariants.{Create, Insert, Update, Delete, Drop as DropTable, SelectRows as RowsStmt, SelectTotals as TotalsStmt}
 use Rattle.ob_vault.specs.State.{World}
 
 pub begins_length : (part whole : List Access) → Begins part whole → length part ≤ length whole
@@ -35,12 +33,8 @@ first_of_whole AfterCount all = record { rest = []; joined = sym (append-nil all
 first_of_whole (Cut n) all = record { rest = drop n all; joined = sym (take-append-drop n all) }
 
 -- a SELECT that is served is a count
-count_stmt : (q : Select) (source : Source) → q.source ≡ source → IsCount q → IsOneTable source → (name : List ℕ) × (SelectStmt q ≡ count_of name)
-count_stmt q (OneTable name) is count one = (
-  name,
-  λ i. SelectStmt (record { list = count.list i; source = is i; cond = count.everything i; group = count.ungrouped i }),
-)
-count_stmt q (Join a b on equals) is count one = absurd one
+count_stmt : (q : SelectTotals) → IsCount q → TotalsStmt q ≡ count_of q.table
+count_stmt q count = λ i. TotalsStmt (record { items = count.items i; table = q.table; cond = count.everything i; group = count.ungrouped i })
 
 module _ (p : Public) (m : ℕ) (tables : Tables) (w : World) (held : AreHeld p.pack p.tables tables w) where
   -- all accesses are the same, whatever is seen, and the meaning's go to their end
@@ -58,11 +52,12 @@ module _ (p : Public) (m : ℕ) (tables : Tables) (w : World) (held : AreHeld p.
   served_late (Update table sets cond) here served now = absurd served
   served_late (Delete table cond) here served now = absurd served
   served_late (DropTable table) here served now = absurd served
-  served_late (SelectStmt q) here served now =
-      let count = count_stmt q q.source refl served served.source in
-      let now_there : refusal_now p m (count_of count.0) ≡ None = subst (λ (stmt : Stmt). refusal_now p m stmt ≡ None) count.1 now in
-      subst (λ (stmt : Stmt). Begins (script p (skeleton stmt) here) (script p (skeleton stmt) (seen p m tables stmt))) (sym count.1)
-      (whole_of (count_of count.0) here (seen_late p m tables (count_of count.0) (early_held p m (count_of count.0) tables w None held now_there)) refl)
+  served_late (RowsStmt q) here served now = absurd served
+  served_late (TotalsStmt q) here served now =
+      let count = count_stmt q served in
+      let now_there : refusal_now p m (count_of q.table) ≡ None = subst (λ (stmt : Stmt). refusal_now p m stmt ≡ None) count now in
+      subst (λ (stmt : Stmt). Begins (script p (skeleton stmt) here) (script p (skeleton stmt) (seen p m tables stmt))) (sym count)
+      (whole_of (count_of q.table) here (seen_late p m tables (count_of q.table) (early_held p m (count_of q.table) tables w None held now_there)) refl)
 
   served_by : (o : Option Refusal) (stmt : Stmt) (result : Result Outcome Stop) (here : Seen) → IsServed stmt → refusal_now p m stmt ≡ o → RefusedEarly o result here
       → Begins (script p (skeleton stmt) here) (script p (skeleton stmt) (seen p m tables stmt))

@@ -13,7 +13,8 @@ use Rattle.ob_exec.specs.Telling.{AreHeld, Represents}
 use Rattle.ob_exec.specs.declared.engine.Engine.{Engine}
 use Rattle.ob_grammar.proofs.Forms.{Whatever}
 use Rattle.ob_grammar.proofs.Placed.{one_value}
-use Rattle.ob_mean.specs.Replay.{Session, first_public, first_session}
+use Rattle.ob_base.specs.Publics.{first_public}
+use Rattle.ob_mean.specs.Replay.{Session, first_session}
 use Rattle.ob_meddle.specs.Due.{is_fail, failed_among, has_acted, are_later, disturbance_of, disturbances}
 use Rattle.ob_meddle.specs.Shows.{list_of, state_of}
 use Rattle.ob_meddle.specs.declared.store.MeddledStore.{MeddledStore}

@@ -1,8 +1,10 @@
 -- The answers of texts that were served are those of the meaning.
-use Rattle.std.proofs.Common.{◌≡◌, ◌⊎◌, inl, inr, ◌+◌, ◌-◌, ℕ, IsTrue, Bool, List, [], ◌∷◌, ◌++◌, length, Option, Some, None, Ok, Err, refl, sym, ◌∙◌, ap, subst, append-nil, append_assoc}
+use Rattle.std.proofs.Common.{◌≡◌, ◌⊎◌, inl, inr, ◌+◌, ◌-◌, ℕ, IsTrue, Bool, true, false, List, [], ◌∷◌, ◌++◌, length, Option, Some, None, Ok, Err, refl, sym, ◌∙◌, ap, subst, append-nil, append_assoc}
 use Rattle.std.proofs.lemmas.List.{length-append}
 use Rattle.ob_base.specs.declared.refusal.Refusal.{Refusal}
-use Rattle.ob_base.specs.declared.refusal.Refusal.TheVariants.{Syntax, NoTable, NameTaken, NoColumn, WrongType, ValueRange, Limit, KeyRule, JoinKey, Duplicate, Full, TooManyGroups, NotConsecutive, Overflow, StoreFault}
+use Rattle.ob_base.specs.Refusals.{is_store_fault}
+use Rattle.ob_exec.specs.Refusals.{by_fault}
+use Rattle.ob_base.specs.declared.refusal.Refusal.TheVariants.{StoreFault}
 use Rattle.ob_base.specs.declared.seen.Seen.{Seen}
 use Rattle.ob_exec.specs.Agreeing.{public_of, seen_of}
 use Rattle.ob_exec.specs.Telling.{Represents, told_refusal, told_outcome}
@@ -27,22 +29,15 @@ pub record ByStore (outcome : Outcome) (cut also : Type 0) : Type 0 where
   pub told : cut
   pub too : also
 
+fault_is : (r : Refusal) → is_store_fault r ≡ true → r ≡ StoreFault
+fault_is StoreFault h = refl
+fault_is r h = absurd (cc h)
+
 refusal_cases : (r : Refusal) (whole cut with also : Type 0) → told_refusal r whole cut → told_refusal r with also → (whole × with) ⊎ ByStore (Refused r) cut also
-refusal_cases (Syntax at) whole cut with also a b = inl (a, b)
-refusal_cases NoTable whole cut with also a b = inl (a, b)
-refusal_cases NameTaken whole cut with also a b = inl (a, b)
-refusal_cases NoColumn whole cut with also a b = inl (a, b)
-refusal_cases WrongType whole cut with also a b = inl (a, b)
-refusal_cases ValueRange whole cut with also a b = inl (a, b)
-refusal_cases Limit whole cut with also a b = inl (a, b)
-refusal_cases KeyRule whole cut with also a b = inl (a, b)
-refusal_cases JoinKey whole cut with also a b = inl (a, b)
-refusal_cases Duplicate whole cut with also a b = inl (a, b)
-refusal_cases Full whole cut with also a b = inl (a, b)
-refusal_cases TooManyGroups whole cut with also a b = inl (a, b)
-refusal_cases NotConsecutive whole cut with also a b = inl (a, b)
-refusal_cases (Overflow i) whole cut with also a b = inl (a, b)
-refusal_cases StoreFault whole cut with also a b = inr (record { is = refl; told = a; too = b })
+refusal_cases r whole cut with also a b = go (is_store_fault r) refl a b where
+  go : (failed : Bool) → is_store_fault r ≡ failed → by_fault failed cut whole → by_fault failed also with → (whole × with) ⊎ ByStore (Refused r) cut also
+  go true e a b = inr (record { is = ap Refused (fault_is r e); told = a; too = b })
+  go false e a b = inl (a, b)
 
 pub outcome_cases : (o : Outcome) (whole cut with also : Type 0) → told_outcome o whole cut → told_outcome o with also → (whole × with) ⊎ ByStore o cut also
 outcome_cases (Refused r) whole cut with also a b = refusal_cases r whole cut with also a b

@@ -9,7 +9,7 @@ use Rattle.ob_base.specs.declared.refusal.Stop.TheVariants.{Tampered, SourceFaul
 use Rattle.ob_base.specs.declared.config.Public.{Public}
 use Rattle.ob_exec.specs.Agreeing.{public_of, high_of, rows_of, world_of}
 use Rattle.ob_exec.specs.Telling.{AreHeld, Represents, told_stop}
-use Rattle.ob_mean.specs.Replay.{first_public}
+use Rattle.ob_base.specs.Publics.{first_public}
 use Rattle.ob_mean.specs.Verdict.{Tables}
 use Rattle.ob_exec.specs.declared.engine.Engine.{Engine}
 use Rattle.ob_vault.specs.State.{RevState}

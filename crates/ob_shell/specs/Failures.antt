@@ -1,14 +1,13 @@
 -- How many texts were answered that the store had failed.
-use Rattle.std.specs.Prelude.{◌+◌, ◌-◌, ◌^◌, ◌≤◌, min, ℕ, List, [], ◌∷◌}
+use Rattle.std.specs.Prelude.{◌+◌, ◌-◌, ◌^◌, ◌≤◌, min, ℕ, List, [], ◌∷◌, if◌then◌else◌}
 use Rattle.ob_base.specs.declared.refusal.Refusal.{Refusal}
-use Rattle.ob_base.specs.declared.refusal.Refusal.TheVariants.{StoreFault}
+use Rattle.ob_base.specs.Refusals.{is_store_fault}
 use Rattle.ob_exec.specs.declared.outcome.Outcome.{Outcome}
 use Rattle.ob_exec.specs.declared.outcome.Outcome.TheVariants.{Created, Inserted, Changed, Deleted, Dropped, Rows, Refused}
 use Rattle.ob_shell.specs.Steps.{Answer}
 
 abbrev pub refusal_failures : Refusal → ℕ
-refusal_failures StoreFault = 1
-refusal_failures _ = 0
+refusal_failures r = if is_store_fault r then 1 else 0
 
 abbrev pub outcome_failures : Outcome → ℕ
 outcome_failures Created = 0

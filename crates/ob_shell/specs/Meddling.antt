@@ -2,7 +2,8 @@
 use Rattle.std.specs.Prelude.{ℕ, ◌≡◌, ◌≢◌, ◌++◌, true, List, [], Option, None, length, IsTrue}
 use Rattle.std.specs.List.{list_all}
 use Rattle.clap.specs.Words.{Text}
-use Rattle.ob_mean.specs.Replay.{first_public, first_session}
+use Rattle.ob_base.specs.Publics.{first_public}
+use Rattle.ob_mean.specs.Replay.{first_session}
 use Rattle.ob_meddle.specs.Due.{is_fail, has_acted, failed_among, are_later, disturbances}
 use Rattle.ob_meddle.specs.Shows.{list_of, state_of, Shows}
 use Rattle.ob_meddle.specs.declared.store.MeddledStore.{MeddledStore}

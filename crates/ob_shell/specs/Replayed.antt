@@ -5,7 +5,7 @@ use Rattle.ob_base.specs.declared.refusal.Refusal.TheVariants.{Syntax, StoreFaul
 use Rattle.ob_exec.specs.Agreeing.{public_of}
 use Rattle.ob_exec.specs.Telling.{Partly, Represents, outcome_of}
 use Rattle.ob_exec.specs.declared.outcome.Outcome.TheVariants.{Refused}
-use Rattle.ob_mean.specs.Headings.{headings_of}
+use Rattle.ob_base.specs.Stored.{headings_of}
 use Rattle.ob_mean.specs.Prints.{Prints, Unfinished, labels_of}
 use Rattle.ob_mean.specs.Replay.{Session, Spelt, Broken, head_of, rest_of, after, after_all, all_served}
 use Rattle.ob_mean.specs.Verdict.{Tables, verdict}

@@ -7,7 +7,7 @@ use Rattle.ob_base.specs.declared.refusal.Stop.TheVariants.{Tampered, SourceFaul
 use Rattle.ob_print.specs.Cuts.{Cut}
 use Rattle.ob_shell.specs.Texts.{is_over, rest_of, texts_of, texts_in}
 use Rattle.ob_shell.specs.Feeding.{Fetch, Fed}
-use Rattle.ob_shell.specs.Steps.{Machine, Answer, Steps, PartlyAt, Rests, IsSinkFault, printed, any_refused}
+use Rattle.ob_shell.specs.Steps.{Machine, Answer, Steps, PartlyAt, IsUndone, IsSinkFault, printed, any_refused}
 use Rattle.ob_vault.specs.State.{RevState}
 use Rattle.ob_shell.specs.declared.session.Halted.{Halted}
 
@@ -75,7 +75,7 @@ EndsBy feed1 ended bytes more part (Err NoMemory) = Unit {0}
 
 -- what was done after the last text that was served whole
 abbrev pub LastPart : {R : Type 0} → (R → RevState) → Machine R → Machine R → List (List ℕ) → List ℕ → Result Bool Stop → Type 0
-LastPart state m1 m2 more part (Ok refused) = Rests m1 m2 part
+LastPart state m1 m2 more part (Ok refused) = IsUndone m1 m2 part
 LastPart state m1 m2 more part (Err stop) = PartlyAt state m1 m2 more stop part
 
 -- the answer of a session that came to its end tells whether a text was refused

@@ -132,7 +132,7 @@ IsSinkFault NoMemory = ⊥
 IsSinkFault InputLimit = ⊥
 
 -- nothing was done
-pub record Rests {R : Type 0} (m0 m1 : Machine R) (bytes : List ℕ) : Type 0 where
+pub record IsUndone {R : Type 0} (m0 m1 : Machine R) (bytes : List ℕ) : Type 0 where
   pub machine : m1 ≡ m0
   pub none : bytes ≡ []
 
@@ -153,7 +153,7 @@ IsUntampered InputLimit = Unit {0}
 
 -- nothing was done before a stop, which is none by a block
 pub record Idle {R : Type 0} (m0 m1 : Machine R) (stop : Stop) (bytes : List ℕ) : Type 0 where
-  pub rests : Rests m0 m1 bytes
+  pub rests : IsUndone m0 m1 bytes
   pub untampered : IsUntampered stop
 
 -- what a stop left of the first of these texts

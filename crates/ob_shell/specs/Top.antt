@@ -9,7 +9,7 @@ use Rattle.ob_exec.specs.Agreeing.{public_of, high_of, world_of}
 use Rattle.ob_exec.specs.declared.engine.Engine.{Engine}
 use Rattle.ob_exec.specs.Opening.{is_of_rows}
 use Rattle.ob_exec.specs.Telling.{AcceptsRows}
-use Rattle.ob_mean.specs.Replay.{first_public}
+use Rattle.ob_base.specs.Publics.{first_public}
 use Rattle.ob_print.specs.Cuts.{Cut}
 use Rattle.ob_seal.specs.KeyPair.{KeyPair}
 use Rattle.ob_seal.specs.Sealed.{keys_of}
@@ -23,7 +23,7 @@ use Rattle.ob_shell.specs.Texts.{is_over, rest_of, texts_in}
 use Rattle.ob_shell.specs.Feeding.{Fetch}
 use Rattle.ob_shell.specs.Replayed.{PartMeant, Replayed}
 use Rattle.ob_shell.specs.KeyLine.{line_max, has_lf, first_line, after_line, secret_of, LineTaken}
-use Rattle.ob_shell.specs.Steps.{Machine, machine_of, Answer, Steps, Rests, IsUntampered, printed}
+use Rattle.ob_shell.specs.Steps.{Machine, machine_of, Answer, Steps, IsUndone, IsUntampered, printed}
 use Rattle.ob_shell.specs.Running.{Faults, SinksRose, NoneRose, LastPart, FlagIs, EndsBy, SinkFailed, StopCause}
 use Rattle.ob_shell.specs.Endings.{status_of, last_line}
 use Rattle.ob_shell.specs.declared.top.Ending.{Ending}
@@ -32,8 +32,8 @@ use Rattle.ob_shell.specs.declared.top.Report.{Report}
 
 -- what the last part did, by the ending
 abbrev pub EndingPart : {R : Type 0} → (R → RevState) → Machine R → Machine R → List (List ℕ) → List ℕ → Ending → Type 0
-EndingPart state m1 m2 more part Usage = Rests m1 m2 part
-EndingPart state m1 m2 more part BadKey = Rests m1 m2 part
+EndingPart state m1 m2 more part Usage = IsUndone m1 m2 part
+EndingPart state m1 m2 more part BadKey = IsUndone m1 m2 part
 EndingPart state m1 m2 more part (Ran ran) = LastPart state m1 m2 more part ran
 
 -- it is no end by a block

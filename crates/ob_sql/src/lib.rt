@@ -3,4 +3,4 @@
 
 mod stmt;
 
-pub use stmt::{Against, Cond, CondTree, Listed, Literal, Select, Set, Stmt};
+pub use stmt::{Against, Cond, CondTree, Listed, Literal, SelectRows, SelectTotals, Set, Stmt};

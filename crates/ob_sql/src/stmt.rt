@@ -65,7 +65,7 @@ impl Cond {
     }
 }
 
-/// What a SELECT lists.
+/// What a SELECT of totals lists; a plain column is the one of its GROUP BY.
 #[derive(Drop)]
 pub enum Listed {
     Column(ColumnName),
@@ -83,11 +83,19 @@ pub struct Set {
     pub value: Literal,
 }
 
-/// A SELECT; no list stands for `*`.
+/// A SELECT of the rows of a table or of a join; no list stands for `*`.
 #[derive(Drop)]
-pub struct Select {
-    pub list: Option<Items<Listed>>,
+pub struct SelectRows {
+    pub list: Option<Items<ColumnName>>,
     pub source: Source,
+    pub cond: Option<Cond>,
+}
+
+/// A SELECT of totals of a table: aggregates, or with GROUP BY a row for each group.
+#[derive(Drop)]
+pub struct SelectTotals {
+    pub items: Items<Listed>,
+    pub table: Name,
     pub cond: Option<Cond>,
     pub group: Option<ColumnName>,
 }
@@ -117,5 +125,6 @@ pub enum Stmt {
     Drop {
         table: Name,
     },
-    Select(Select),
+    SelectRows(SelectRows),
+    SelectTotals(SelectTotals),
 }

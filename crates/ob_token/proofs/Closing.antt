@@ -12,7 +12,8 @@ use Rattle.ob_token.specs.declared.cut.Mode.{Mode}
 use Rattle.ob_token.specs.declared.cut.Mode.TheVariants.{Plain, Dash, Comment, Quote}
 use Rattle.ob_token.specs.declared.cut.Piece.TheVariants.{Stmt}
 use Rattle.ob_token.specs.Bytes.{all_digits, comment_len, is_blank, is_digit, is_printable, is_run, lower, magnitude, quoted_len, run}
-use Rattle.ob_token.specs.Words.{aggregate_word, clause_word, column_word, keyword, lone_sign, or_else, pair_sign, statement_word}
+use Rattle.std.specs.Option.{option_or}
+use Rattle.ob_token.specs.Words.{aggregate_word, clause_word, column_word, keyword, lone_sign, pair_sign, statement_word}
 use Rattle.ob_token.specs.Lexemes.{first_byte, gap, lone_piece, named, piece, run_lexeme, sign_piece, some_piece, text_piece}
 use Rattle.ob_token.specs.Tokens.{then_piece, tokens_from, tokens_of}
 use Rattle.ob_token.specs.Cutting.{blanks, cut, cut_from, ended, ends_at, is_solid, mode_after, solid_after}
@@ -131,7 +132,7 @@ passed : (v : Bool) (m : Mark) (rest : Option Mark) → v ≡ false → none_or_
 passed true m rest e f = absurd (cc e)
 passed false m rest e f = f
 
-either_other : (a b : Option Mark) → none_or_other a ≡ true → none_or_other b ≡ true → none_or_other (or_else a b) ≡ true
+either_other : (a b : Option Mark) → none_or_other a ≡ true → none_or_other b ≡ true → none_or_other (option_or a b) ≡ true
 either_other (Some m) b e f = e
 either_other None b e f = f
 
@@ -155,8 +156,8 @@ aggregate_other w = on (bytes_eq w (codes "count")) M.Count _ refl (on (bytes_eq
     (on (bytes_eq w (codes "max")) M.Max _ refl refl)))
 
 keyword_other : (w : List ℕ) → none_or_other (keyword w) ≡ true
-keyword_other w = either_other (statement_word w) (or_else (clause_word w) (or_else (column_word w) (aggregate_word w))) (statement_other w)
-    (either_other (clause_word w) (or_else (column_word w) (aggregate_word w)) (clause_other w)
+keyword_other w = either_other (statement_word w) (option_or (clause_word w) (option_or (column_word w) (aggregate_word w))) (statement_other w)
+    (either_other (clause_word w) (option_or (column_word w) (aggregate_word w)) (clause_other w)
     (either_other (column_word w) (aggregate_word w) (column_other w) (aggregate_other w)))
 
 pair_other : (a b : ℕ) → none_or_other (pair_sign a b) ≡ true

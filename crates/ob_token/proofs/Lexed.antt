@@ -1,5 +1,5 @@
 -- The tokens behind a piece.
-use Rattle.std.proofs.Common.{◌≡◌, ℕ, zero, suc, pred, ◌+◌, ◌≤◌, ◌<◌, List, [], ◌∷◌, ◌++◌, length, drop, Bool, true, false, Option, Some, None, refl, sym, ◌∙◌, ap, arith, append_assoc, append-nil, length-drop}
+use Rattle.std.proofs.Common.{◌≡◌, ℕ, zero, suc, pred, ◌+◌, ◌≤◌, ◌<◌, List, [], ◌∷◌, ◌++◌, length, drop, Bool, true, false, Option, Some, None, refl, sym, ◌∙◌, ap, arith, append-nil, length-drop}
 use Rattle.std.specs.Prelude.{if◌then◌else◌}
 use Rattle.ob_token.specs.declared.token.Lexeme.{Lexeme}
 use Rattle.ob_token.specs.declared.token.Token.{Token}

@@ -1,28 +1,26 @@
 -- Bytes of a text, and what they make up.
-use Rattle.std.specs.Prelude.{ℕ, suc, ◌+◌, ◌*◌, ◌-◌, List, [], ◌∷◌, Bool, true, false, ◌&&◌, ◌||◌, ◌==◌, nat_le, Option, Some, None, min, if◌then◌else◌}
-
-abbrev pub is_within : ℕ → ℕ → ℕ → Bool
-is_within low high b = nat_le low b && nat_le b high
+use Rattle.std.specs.Prelude.{ℕ, suc, ◌+◌, ◌*◌, ◌-◌, List, [], ◌∷◌, Bool, true, false, ◌&&◌, ◌||◌, ◌==◌, Option, Some, None, min, if◌then◌else◌}
+use Rattle.std.specs.Int.{is_in_range}
 
 -- space, tab, CR, LF
 abbrev pub is_blank : ℕ → Bool
 is_blank b = b == 32 || b == 9 || b == 13 || b == 10
 
 abbrev pub is_digit : ℕ → Bool
-is_digit b = is_within 48 57 b
+is_digit b = is_in_range 48 57 b
 
 abbrev pub is_letter : ℕ → Bool
-is_letter b = is_within 65 90 b || is_within 97 122 b
+is_letter b = is_in_range 65 90 b || is_in_range 97 122 b
 
 -- letters, digits and _
 abbrev pub is_run : ℕ → Bool
 is_run b = is_letter b || is_digit b || b == 95
 
 abbrev pub is_printable : ℕ → Bool
-is_printable b = is_within 32 126 b
+is_printable b = is_in_range 32 126 b
 
 abbrev pub lower : ℕ → ℕ
-lower b = if is_within 65 90 b then b + 32 else b
+lower b = if is_in_range 65 90 b then b + 32 else b
 
 -- the run at the front
 abbrev pub run : List ℕ → List ℕ

@@ -3,7 +3,7 @@ use Rattle.std.specs.Prelude.{ℕ, suc, List, [], ◌∷◌, length, map, ◌&&�
 use Rattle.ob_token.specs.declared.token.Mark.{Mark}
 use Rattle.ob_token.specs.declared.token.Lexeme.{Lexeme}
 use Rattle.ob_token.specs.declared.token.Lexeme.TheVariants as L
-use Rattle.ob_token.specs.declared.lex.Piece.{Piece}
+use Rattle.ob_token.specs.declared.lex.Lexed.{Lexed}
 use Rattle.ob_token.specs.Bytes.{all_digits, comment_len, is_blank, is_digit, is_run, lower, magnitude, quoted_len, run}
 use Rattle.ob_token.specs.Words.{keyword, lone_sign, pair_sign}
 
@@ -23,22 +23,22 @@ abbrev pub run_lexeme : List ℕ → Lexeme
 run_lexeme [] = L.Bad
 run_lexeme (b ∷ bs) = if is_digit b then number_lexeme (b ∷ bs) else word_lexeme (b ∷ bs)
 
-abbrev pub some_piece : ℕ → Lexeme → Piece
+abbrev pub some_piece : ℕ → Lexeme → Lexed
 some_piece n lexeme = record { len = n; lexeme = Some lexeme }
 
 -- blanks and comments are no tokens
-abbrev pub gap : ℕ → Piece
+abbrev pub gap : ℕ → Lexed
 gap n = record { len = n; lexeme = None }
 
-abbrev pub text_piece : Option ℕ → Piece
+abbrev pub text_piece : Option ℕ → Lexed
 text_piece None = some_piece 1 L.Bad
 text_piece (Some n) = some_piece (suc n) L.Text
 
-abbrev pub lone_piece : Option Mark → Piece
+abbrev pub lone_piece : Option Mark → Lexed
 lone_piece None = some_piece 1 L.Bad
 lone_piece (Some m) = some_piece 1 (L.Mark m)
 
-abbrev pub sign_piece : Option Mark → ℕ → Piece
+abbrev pub sign_piece : Option Mark → ℕ → Lexed
 sign_piece (Some m) a = some_piece 2 (L.Mark m)
 sign_piece None a = lone_piece (lone_sign a)
 
@@ -47,7 +47,7 @@ abbrev pub first_byte : List ℕ → ℕ
 first_byte [] = 0
 first_byte (b ∷ bs) = b
 
-abbrev pub piece : List ℕ → Piece
+abbrev pub piece : List ℕ → Lexed
 piece [] = gap 0
 piece (b ∷ bs) =
     if is_blank b then gap 1

@@ -1,12 +1,9 @@
 -- Keywords and signs.
 use Rattle.std.specs.Prelude.{ℕ, List, ◌&&◌, ◌==◌, Option, Some, None, codes, if◌then◌else◌}
 use Rattle.std.specs.Str.{bytes_eq}
+use Rattle.std.specs.Option.{option_or}
 use Rattle.ob_token.specs.declared.token.Mark.{Mark}
 use Rattle.ob_token.specs.declared.token.Mark.TheVariants as M
-
-abbrev pub or_else : Option Mark → Option Mark → Option Mark
-or_else (Some m) other = Some m
-or_else None other = other
 
 abbrev pub statement_word : List ℕ → Option Mark
 statement_word w =
@@ -57,7 +54,7 @@ aggregate_word w =
 
 -- the keyword of these letters, which are in lower case
 abbrev pub keyword : List ℕ → Option Mark
-keyword w = or_else (statement_word w) (or_else (clause_word w) (or_else (column_word w) (aggregate_word w)))
+keyword w = option_or (statement_word w) (option_or (clause_word w) (option_or (column_word w) (aggregate_word w)))
 
 -- the sign of two bytes
 abbrev pub pair_sign : ℕ → ℕ → Option Mark

@@ -145,5 +145,6 @@ pub fn is_blank(bytes: &[u8]) -> bool
 /// Cutting and tokens agree on quotes and comments: of the tokens of a text that `split` finds, only the last byte
 /// is a semicolon.
 pub fn semicolon_is_last()
-    ensures { (bytes : List ℕ) (from to : ℕ) → cutting.cut bytes ≡ Stmt from to → SemicolonsEndAt (to - from) (tokens_of (take (to - from) (drop from bytes))) }
+    ensures { (bytes : List ℕ) (from to : ℕ) → cutting.cut bytes ≡ Stmt from to →
+        SemicolonsEndAt (to - from) (tokens_of (take (to - from) (drop from bytes))) }
 {}

@@ -301,22 +301,22 @@ fn run_token(run: &[u8]) -> Lexeme
 
 /// The bytes at the front of a text that are one token, or none.
 #[derive(Debug, Drop)]
-pub(crate) struct Piece {
+pub(crate) struct Lexed {
     pub len: usize,
     pub lexeme: Option<Lexeme>,
 }
 
-impl Piece {
-    fn gap(len: usize) -> Piece
+impl Lexed {
+    fn gap(len: usize) -> Lexed
         ensures { result ≡ gap len }
     {
-        Piece { len, lexeme: None }
+        Lexed { len, lexeme: None }
     }
 
-    fn of(len: usize, lexeme: Lexeme) -> Piece
+    fn of(len: usize, lexeme: Lexeme) -> Lexed
         ensures { result ≡ some_piece len lexeme }
     {
-        Piece {
+        Lexed {
             len,
             lexeme: Some(lexeme),
         }
@@ -332,43 +332,43 @@ fn first_or_zero(bytes: &[u8]) -> u8
     }
 }
 
-fn sign_or_bad(a: u8, b: u8) -> Piece
+fn sign_or_bad(a: u8, b: u8) -> Lexed
     ensures { result ≡ sign_piece (pair_sign a b) a }
 {
     if let Some(found) = sign_of_two(a, b) {
-        return Piece::of(2, Lexeme::Mark(found));
+        return Lexed::of(2, Lexeme::Mark(found));
     }
     match sign_of_one(a) {
-        Some(found) => Piece::of(1, Lexeme::Mark(found)),
-        None => Piece::of(1, Lexeme::Bad),
+        Some(found) => Lexed::of(1, Lexeme::Mark(found)),
+        None => Lexed::of(1, Lexeme::Bad),
     }
 }
 
 #[tactic(auto, using(crate::proofs::Pieces::run_taken, crate::proofs::Pieces::run_short))]
-fn run_piece(bytes: &[u8]) -> Piece
+fn run_piece(bytes: &[u8]) -> Lexed
     ensures { result ≡ some_piece (length (run bytes.now)) (run_lexeme (run bytes.now)) }
 {
     let len = run_len(bytes);
-    Piece::of(len, run_token(&bytes[..len]))
+    Lexed::of(len, run_token(&bytes[..len]))
 }
 
-fn piece_of(bytes: &[u8]) -> Piece
+fn piece_of(bytes: &[u8]) -> Lexed
     ensures { result ≡ piece bytes.now }
 {
     let Some((first, rest)) = bytes.split_first() else {
-        return Piece::gap(0);
+        return Lexed::gap(0);
     };
     let second = first_or_zero(rest);
     if is_blank_byte(*first) {
-        Piece::gap(1)
+        Lexed::gap(1)
     } else if *first == b'-' && second == b'-' {
-        Piece::gap(line_len(bytes))
+        Lexed::gap(line_len(bytes))
     } else if is_run_byte(*first) {
         run_piece(bytes)
     } else if *first == b'\'' {
         match text_len(rest) {
-            Some(len) => Piece::of(len + 1, Lexeme::Text),
-            None => Piece::of(1, Lexeme::Bad),
+            Some(len) => Lexed::of(len + 1, Lexeme::Text),
+            None => Lexed::of(1, Lexeme::Bad),
         }
     } else {
         sign_or_bad(*first, second)
@@ -376,7 +376,7 @@ fn piece_of(bytes: &[u8]) -> Piece
 }
 
 // The piece at the front of these bytes.
-fn front(bytes: &[u8]) -> Piece
+fn front(bytes: &[u8]) -> Lexed
     ensures value { result ≡ piece bytes.now }
     ensures fits { result.len ≤ length bytes.now }
     ensures moves { 0 < length bytes.now → 0 < result.len }
@@ -412,13 +412,15 @@ struct Cut<'a> {
 // The first token of bytes that stand at this offset, if there is one.
 fn first_token(bytes: &[u8], offset: usize) -> Option<Cut<'_>>
     requires { offset + length bytes.now < 4294967296 }
-    ensures value { MatchOption result (tokens_from 0 offset bytes.now ≡ []) (λ c. tokens_from 0 offset bytes.now ≡ c.token ∷ tokens_from 0 c.at c.rest.now) }
+    ensures value { MatchOption result
+        (tokens_from 0 offset bytes.now ≡ [])
+        (λ c. tokens_from 0 offset bytes.now ≡ c.token ∷ tokens_from 0 c.at c.rest.now) }
     ensures place { IfSome result (λ c. c.at + length c.rest.now ≤ offset + length bytes.now) }
     ensures moves { IfSome result (λ c. length c.rest.now < length bytes.now) }
 {
     let (mut rest, mut at) = (bytes, offset);
     'gaps: while !rest.is_empty() {
-        let Piece { len, lexeme } = front(rest);
+        let Lexed { len, lexeme } = front(rest);
         let (from, to) = (at as u32, (at + len) as u32);
         rest = behind(rest, len);
         at += len;

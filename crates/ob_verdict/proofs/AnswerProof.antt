@@ -2,7 +2,7 @@
 use Rattle.std.proofs.Common.{◌≡◌, ℕ, ◌<◌, Bool, true, false, List, [], ◌∷◌, map, length, refl, sym, ap, subst, cond, inl, inr, ◌⊎◌, ◌*◌, ◌≤◌, arith}
 use Rattle.std.proofs.lemmas.Bool.Decides.{Decides-eqb}
 use Rattle.std.specs.Prelude.{Option, Some, None, filter, not, bytes_eq, ◌==◌, is_some, nat_le}
-use Rattle.std.specs.Option.{option_map_or, option_map}
+use Rattle.std.specs.Option.{option_map_or, option_map, option_or}
 use Rattle.ob_base.specs.declared.config.Public.{Public}
 use Rattle.ob_base.specs.declared.config.Plan.{Plan}
 use Rattle.ob_base.specs.declared.config.Plan.TheVariants.{Small, Large, Continuous, Hash}
@@ -25,16 +25,16 @@ use Rattle.ob_verdict.proofs.ResultLemmas.{rows-small_slots, rows-large_slots}
 use Rattle.ob_verdict.proofs.HashLemmas.{rows-hash_slots}
 use Rattle.ob_verdict.proofs.TurnLemmas.{rows-continuous_slots}
 use Rattle.ob_verdict.proofs.JoinLemmas.{rows-joined}
-use Rattle.ob_sql.specs.declared.stmt.Select.{Select}
-use Rattle.ob_sql.specs.declared.stmt.Stmt.TheVariants.{Select as SelectStmt}
-use Rattle.ob_sql.specs.Skeleton.{has_totals}
+use Rattle.ob_sql.specs.declared.stmt.SelectRows.{SelectRows}
+use Rattle.ob_sql.specs.declared.stmt.Stmt.TheVariants.{SelectRows as RowsStmt}
 use Rattle.ob_mean.specs.Names.{columns_at}
-use Rattle.ob_mean.specs.Refusals.{first_holding, early_conditions, early_refusal, is_key, joins_off_key_at}
-use Rattle.ob_mean.specs.Step.{rows_at, source_rows, join_places, or_else, select_columns, select_condition, printed_places}
+use Rattle.ob_mean.specs.Refusals.{early_refusal, is_key, joins_off_key_at}
+use Rattle.ob_mean.proofs.EarlyLemmas.{allowed}
+use Rattle.ob_mean.proofs.VerdictLemmas.{headings-database}
+use Rattle.ob_mean.specs.Step.{rows_at, source_rows, join_places, select_columns, select_condition, printed_places}
 use Rattle.ob_row.specs.Totals.{printed}
 use Rattle.ob_mean.specs.Verdict.{Tables, database, slots_at, source_slots, plan_for, bucket_size, first_unplaced, fallback, forced_refusal, rows_refusal, last_refusal, is_late}
-use Rattle.ob_verdict.specs.Laws.{last_plan, result_of, printed_rows, KeysAreDistinct, PrintsAnswer}
-use Rattle.ob_verdict.proofs.SettleProof.{headings-database}
+use Rattle.ob_verdict.specs.Laws.{last_plan, result_of, printed_rows, AreInPlace, PrintsAnswer}
 
 -- the plan finds a place for each of these
 abbrev PlanFits : Plan → ℕ → List ℕ → Type 0
@@ -107,43 +107,28 @@ rows-slots_at name (t ∷ ts) =
     elim (bytes_eq t.heading.name name) as (λ b. option_map_or (λ (x : Stored (List Row)). x.held) (cond b (Some (record { heading = t.heading; held = rows t.held })) (stored_at name (database ts))) [] ≡ rows (option_map_or (λ (x : Stored Slots). x.held) (cond b (Some t) (stored_at name ts)) []))
     [ true ↦ refl | false ↦ rows-slots_at name ts ]
 
-keys-distinct : (name : List ℕ) (ts : Tables) → KeysAreDistinct ts → keys_repeat (key_place (columns_at name (headings ts))) (rows (slots_at name ts)) ≡ false
+keys-distinct : (name : List ℕ) (ts : Tables) → AreInPlace ts → keys_repeat (key_place (columns_at name (headings ts))) (rows (slots_at name ts)) ≡ false
 keys-distinct name [] h = refl
 keys-distinct name (t ∷ ts) h =
     elim (bytes_eq t.heading.name name) as (λ b. keys_repeat (key_place (option_map_or (λ (g : Heading). g.schema) (cond b (Some t.heading) (heading_at name (headings ts))) [])) (rows (option_map_or (λ (x : Stored Slots). x.held) (cond b (Some t) (stored_at name ts)) [])) ≡ false)
-    [ true ↦ h.0 | false ↦ keys-distinct name ts h.1 ]
+    [ true ↦ h.0.keys | false ↦ keys-distinct name ts h.1 ]
 
 key_is : (o : Option ℕ) (i : ℕ) → option_map_or (λ j. i == j) o false ≡ true → o ≡ Some i
 key_is None i h = cc
 key_is (Some j) i h = ap Some (sym ((Decides-eqb i j).0 h))
 
-distinct_at : (name : List ℕ) (ts : Tables) (i : ℕ) → KeysAreDistinct ts → is_key (columns_at name (headings ts)) i ≡ true → AreDistinct i (rows (slots_at name ts))
+distinct_at : (name : List ℕ) (ts : Tables) (i : ℕ) → AreInPlace ts → is_key (columns_at name (headings ts)) i ≡ true → AreDistinct i (rows (slots_at name ts))
 distinct_at name ts i h k =
     subst (λ o. keys_repeat o (rows (slots_at name ts)) ≡ false) (key_is (key_place (columns_at name (headings ts))) i k) (keys-distinct name ts h)
 
--- none of the conditions holds
-NoneHolds : List (Bool × Refusal) → Type 0
-NoneHolds [] = Unit {0}
-NoneHolds (x ∷ xs) = (x.0 ≡ false) × NoneHolds xs
-
-not_first : (b : Bool) (r : Refusal) (rest : Option Refusal) → cond b (Some r) rest ≡ None → (b ≡ false) × (rest ≡ None)
-not_first true r rest h = absurd (cc)
-not_first false r rest h = (refl, h)
-
-none_holds : (xs : List (Bool × Refusal)) → first_holding xs ≡ None → NoneHolds xs
-unfolding NoneHolds
-none_holds [] h = tt
-none_holds (x ∷ xs) h = let n = not_first x.0 x.1 (first_holding xs) h in (n.0, none_holds xs n.1)
-
-on_key : (b : Bool) (pack room : ℕ) (hs : List Heading) (q : Select) → early_refusal b pack room hs (SelectStmt q) ≡ None → joins_off_key_at hs q.source ≡ false
-unfolding NoneHolds
-on_key b pack room hs q h = (none_holds (early_conditions b pack room hs (SelectStmt q)) h).1.1.1.1.1.1.1.0
+on_key : (b : Bool) (pack room : ℕ) (hs : List Heading) (q : SelectRows) → early_refusal b pack room hs (RowsStmt q) ≡ None → joins_off_key_at hs q.source ≡ false
+on_key b pack room hs q h = (allowed b pack room hs (RowsStmt q) h).joins
 
 not_false : (b : Bool) → not b ≡ false → b ≡ true
 not_false true h = refl
 not_false false h = cc
 
-source-same : (p : Public) (ts : Tables) (source : Source) → 1 ≤ p.pack → 1 ≤ buffered_blocks p.pack p.buffer → KeysAreDistinct ts → joins_off_key_at (headings ts) source ≡ false →
+source-same : (p : Public) (ts : Tables) (source : Source) → 1 ≤ p.pack → 1 ≤ buffered_blocks p.pack p.buffer → AreInPlace ts → joins_off_key_at (headings ts) source ≡ false →
     Same (source_rows source (database ts)) (rows (source_slots p source ts))
 source-same p ts (OneTable name) one h k j = subst (λ w. Same (rows_at name (database ts)) w) (rows-slots_at name ts) (Same-refl _)
 source-same p ts (Join a b on equals) one h k j =
@@ -154,7 +139,7 @@ source-same p ts (Join a b on equals) one h k j =
     (λ t. pairs (join_places (Join a b on equals) (sym e t)).0 (join_places (Join a b on equals) (sym e t)).1 (sym (rows-slots_at a ts) t) (sym (rows-slots_at b ts) t))
     (rows-joined places.0 places.1 p.pack p.buffer (slots_at a ts) (slots_at b ts) distinct one h)
 
-both_none : (a b : Option Refusal) → or_else a b ≡ None → (a ≡ None) × (b ≡ None)
+pub both_none : (a b : Option Refusal) → option_or a b ≡ None → (a ≡ None) × (b ≡ None)
 both_none None b h = (refl, h)
 both_none (Some x) b h = absurd (cc)
 
@@ -162,19 +147,15 @@ not_empty : (p : Public) (places : List ℕ) → 0 < length places → rows_refu
 not_empty p [] h r = absurd (omega arith)
 not_empty p (i ∷ is) h r = r
 
-of_rows : (b : Bool) (r : Option Refusal) → b ≡ false → cond b None r ≡ None → r ≡ None
-of_rows true r h e = absurd (cc)
-of_rows false r h e = e
-
 pub prints_answer : PrintsAnswer
-prints_answer p m ts q one s k r t h =
-    let both = both_none _ (last_refusal p ts (SelectStmt q)) r in
-    let early = (both_none (early_refusal (is_late m) p.pack p.buffer (headings (database ts)) (SelectStmt q)) _ both.0).0 in
-    let key = on_key (is_late m) p.pack p.buffer (headings ts) q (subst (λ hs. early_refusal (is_late m) p.pack p.buffer hs (SelectStmt q) ≡ None) (headings-database ts) early) in
+prints_answer p m ts q one s k r h =
+    let both = both_none _ (last_refusal p ts (RowsStmt q)) r in
+    let early = (both_none (early_refusal (is_late m) p.pack p.buffer (headings (database ts)) (RowsStmt q)) _ both.0).0 in
+    let key = on_key (is_late m) p.pack p.buffer (headings ts) q (subst (λ hs. early_refusal (is_late m) p.pack p.buffer hs (RowsStmt q) ≡ None) (headings-database ts) early) in
     let slots = source_slots p q.source ts in
     let test = is_true (select_condition q (headings ts)) in
     let places = selected test slots in
-    let accepts = not_empty p places h (of_rows (has_totals q) _ t both.1) in
+    let accepts = not_empty p places h both.1 in
     let plan = plan_for p (length slots) places in
     let same : Same (filter test (source_rows q.source (database ts))) (rows (result_of p ts q)) =
     Same-trans _ _ _ (Same-filter test _ _ (source-same p ts q.source one s k key))

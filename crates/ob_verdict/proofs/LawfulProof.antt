@@ -1,82 +1,85 @@
 -- What is seen of a statement is lawful.
-use Rattle.std.proofs.Common.{◌≡◌, ◌⊎◌, inl, ◌≢◌, ℕ, suc, zero, ◌+◌, ◌-◌, ◌*◌, ◌≤◌, Bool, true, false, List, [], ◌∷◌, map, length, refl, sym, ◌∙◌, ap, subst, cond, arith}
-use Rattle.std.specs.Prelude.{Option, Some, None, not, is_some, IsSome, IsNone, IfSome, IfNone, IsTrue, nat_le, bytes_eq}
+use Rattle.std.proofs.Common.{◌≡◌, inl, inr, ◌≢◌, ℕ, suc, zero, ◌+◌, ◌-◌, ◌*◌, ◌≤◌, ◌<◌, Bool, true, false, List, [], ◌∷◌, ◌++◌, map, length, refl, sym, ◌∙◌, ap, subst, cond, arith}
+use Rattle.std.specs.Prelude.{Option, Some, None, is_some, nat_le, bytes_eq}
 use Rattle.std.specs.Option.{option_map_or}
+use Rattle.std.proofs.lemmas.Bool.Decides.{nat_tests}
 use Rattle.std.proofs.lemmas.List.{length-append, length-map}
 use Rattle.std.proofs.Math.Nat.{zero-mul, suc-mul, mul_assoc}
+use Rattle.ob_base.specs.declared.access.Access.{Access}
+use Rattle.ob_base.specs.declared.access.Access.TheVariants.{Discard}
 use Rattle.ob_base.specs.declared.config.Public.{Public}
 use Rattle.ob_base.specs.declared.config.Plan.{Plan}
 use Rattle.ob_base.specs.declared.config.Plan.TheVariants.{Small, Large, Continuous, Hash}
 use Rattle.ob_base.specs.declared.seen.Seen.{Seen}
-use Rattle.ob_base.specs.declared.seen.End.TheVariants.{Static, Whole, AfterCount}
+use Rattle.ob_base.specs.declared.seen.End.{End}
+use Rattle.ob_base.specs.declared.seen.End.TheVariants.{Static, Whole, AfterCount, Cut}
 use Rattle.ob_base.specs.declared.refusal.Refusal.{Refusal}
 use Rattle.ob_base.specs.declared.schema.Heading.{Heading}
+use Rattle.ob_base.specs.declared.skeleton.ColumnName.{ColumnName}
 use Rattle.ob_base.specs.declared.skeleton.Source.{Source}
 use Rattle.ob_base.specs.declared.skeleton.Source.TheVariants.{Table as OneTable, Join}
-use Rattle.ob_base.specs.Limits.{buffered}
+use Rattle.ob_base.specs.declared.skeleton.Skeleton.{Skeleton}
+use Rattle.ob_base.specs.declared.skeleton.Skeleton.TheVariants.{Create as CreateSkeleton, Insert as InsertSkeleton, Update as UpdateSkeleton, Delete as DeleteSkeleton, Drop as DropSkeleton, Rows, Groups}
+use Rattle.ob_base.specs.Limits.{buffered, buffered_blocks}
 use Rattle.ob_base.specs.Lists.{each, places_from}
 use Rattle.ob_base.specs.Plans.{choose}
-use Rattle.ob_base.specs.Stored.{Stored, headings, stored_at, heading_at}
-use Rattle.ob_row.specs.Slots.{Slots, is_consecutive, rows}
+use Rattle.ob_base.specs.Stored.{Stored, headings, headings_of, stored_at, stored_regions, heading_at}
+use Rattle.ob_row.specs.Slots.{Slots, is_consecutive, rows, selected}
 use Rattle.ob_row.specs.Results.{joined, joined_chunk, joined_slot, padded, chunk}
 use Rattle.ob_sql.specs.declared.stmt.Stmt.{Stmt}
-use Rattle.ob_sql.specs.declared.stmt.Stmt.TheVariants.{Create, Insert, Update, Delete, Drop as DropTable, Select as SelectStmt}
-use Rattle.ob_sql.specs.Skeleton.{has_totals}
-use Rattle.ob_mean.specs.Refusals.{early_refusal}
-use Rattle.ob_mean.specs.Verdict.{Tables, seen_started, seen_rows, seen_with, ended, counted, is_late, plan_for, fallback, first_unplaced, source_slots, slots_at, selected_places}
-use Rattle.ob_mean.specs.Replay.{count_end, first_end}
-use Rattle.ob_script.specs.Script.{whole_script}
+use Rattle.ob_sql.specs.declared.stmt.Stmt.TheVariants.{Create, Insert, Update, Delete, Drop as DropTable, SelectRows as RowsStmt, SelectTotals as TotalsStmt}
 use Rattle.ob_sql.specs.Skeleton.{skeleton}
+use Rattle.ob_mean.specs.Refusals.{early_refusal}
+use Rattle.ob_mean.specs.Step.{select_condition}
+use Rattle.ob_row.specs.Truth.{is_true}
+use Rattle.ob_mean.specs.Verdict.{Tables, seen, seen_started, seen_rows, seen_with, ended, counted, is_late, plan_for, fallback, first_unplaced, source_slots, slots_at, selected_places}
+use Rattle.ob_mean.specs.Replay.{count_end, walk_end, ending_len, done_of, held_if}
+use Rattle.ob_script.specs.Script.{whole_script, table_script, join_script, extent_of, blocks_of, rows_width, joined_extent, plan_part, result_blocks}
+use Rattle.ob_script.specs.Parts.{count_part, join_part}
 use Rattle.ob_row.specs.Rows.{Row}
 use Rattle.std.proofs.lemmas.Grind.{div_ceil_times}
 use Rattle.std.proofs.lemmas.List.{length-replicate}
 use Rattle.std.specs.Prelude.{replicate}
 use Rattle.ob_base.specs.Joins.{chunks, joined_slots}
 use Rattle.ob_base.specs.Numbers.{blocks_for}
-use Rattle.ob_base.specs.declared.seen.End.{End}
-use Rattle.ob_mean.specs.Lawful.{Lawful, public_headings, is_counted, statement_slots, counted_slots, capacity_at, IsCut, CutFrom, CutUpTo}
-use Rattle.ob_verdict.specs.Laws.{AreInPlace}
-use Rattle.ob_verdict.specs.Laws.{SeenIsLawful}
+use Rattle.ob_mean.specs.Lawful.{Lawful, Holds, IsCount, IsPlan, EndsUnplanned, is_counted, statement_slots, counted_slots, capacity_at, CutUpTo}
+use Rattle.ob_verdict.specs.Laws.{AreInPlace, SeenIsLawful, CutIsLawful}
 
 -- it isn't cut off
 abbrev NotCut : End → Type 0
-NotCut end = (m : ℕ) → CutFrom m end × CutUpTo m end
+NotCut end = (m : ℕ) → CutUpTo m end
 
--- the laws of what is seen once a statement has made an access, over n slots
-record Started (p : Public) (n : ℕ) (c : Bool) (x : Seen) : Type 0 where
+-- the laws of what is seen once a statement has made an access
+record Started (p : Public) (stmt : Stmt) (x : Seen) : Type 0 where
   pub not_static : x.end ≢ Static
   pub not_cut : NotCut x.end
-  pub counted_only : IfSome x.k (λ k. IsTrue c × (k ≤ n))
-  pub counted : IsTrue c → x.end ≡ Whole → IsSome x.k
-  pub plan : IfSome x.plan (λ plan. IfSome x.k (λ k. (1 ≤ k) × ((c : Bool) × (plan ≡ choose p.plan (buffered p.pack p.buffer) n k c))))
-  pub plan_only : IfNone x.k (IsNone x.plan)
-  pub then : IfSome x.then (λ plan. (plan ≡ Small) × (x.plan ≡ Some Hash) × IsNone p.plan)
-  pub refused : IfSome x.k (λ k. 1 ≤ k → IsNone x.plan → (p.plan ≡ Some Continuous) × ((x.end ≡ AfterCount) ⊎ IsCut x.end))
-  pub after_count : x.end ≡ AfterCount → IfSome x.k (λ k. (1 ≤ k) × IsNone x.plan) × IsSome x.k
+  pub holds : Holds p stmt x x.k x.plan x.then
 
-whole_not_cut : NotCut Whole
-whole_not_cut m = (tt, tt)
+kind_alone : (p : Public) (stmt : Stmt) → is_counted stmt ≡ false → Started p stmt (ended Whole)
+kind_alone p stmt e = record { not_static = λ e. cc; not_cut = λ m. tt; holds = e }
 
-kind_alone : (p : Public) (n : ℕ) → Started p n false (ended Whole)
-kind_alone p n = record { not_static = λ e. cc; not_cut = whole_not_cut; counted_only = tt; counted = λ t e. t; plan = tt; plan_only = refl; then = tt; refused = tt; after_count = λ e. cc }
+module _ (p : Public) (stmt : Stmt) (rows : is_counted stmt ≡ true) where
+  abbrev n : ℕ
+  n = statement_slots p stmt
 
-no_rows : (p : Public) (n : ℕ) → Started p n true (counted 0 None None Whole)
-no_rows p n = record { not_static = λ e. cc; not_cut = whole_not_cut; counted_only = (refl, omega arith); counted = λ t e. refl; plan = tt; plan_only = tt; then = tt; refused = λ h. absurd (omega arith); after_count = λ e. cc }
+  count_of : (k : ℕ) → k ≤ n → IsCount p stmt k
+  count_of k l = record { counted = rows; most = l }
 
-planned : (p : Public) (n k : ℕ) (plan : Plan) (second : Option Plan) (c : Bool) → 1 ≤ k → k ≤ n → plan ≡ choose p.plan (buffered p.pack p.buffer) n k c →
-    IfSome second (λ x. (x ≡ Small) × (Some plan ≡ Some Hash) × IsNone p.plan) → Started p n true (counted k (Some plan) second Whole)
-planned p n k plan second c h l e s =
-    record { not_static = λ e. cc; not_cut = whole_not_cut; counted_only = (refl, l); counted = λ t e. refl; plan = (h, (c, e)); plan_only = tt; then = s; refused = λ h f. cc; after_count = λ e. cc }
+  no_rows : Started p stmt (counted 0 None None Whole)
+  no_rows = record { not_static = λ e. cc; not_cut = λ m. tt; holds = (count_of 0 (omega arith), refl) }
 
-stopped : (p : Public) (n k : ℕ) → 1 ≤ k → k ≤ n → p.plan ≡ Some Continuous → Started p n true (counted k None None AfterCount)
-stopped p n k h l e =
-    record { not_static = λ e. cc; not_cut = λ m. (tt, tt); counted_only = (refl, l); counted = λ t e. cc; plan = tt; plan_only = tt; then = tt; refused = λ h f. (e, inl refl); after_count = λ e. ((h, refl), refl) }
+  plan_of : (k : ℕ) (plan : Plan) (c : Bool) → 1 ≤ k → plan ≡ choose p.plan (buffered p.pack p.buffer) n k c → IsPlan p stmt k plan
+  plan_of k plan c h e = record { some = h; chosen = (c, e) }
 
--- a plan after the first is Small, where none is forced
-second_plan : (p : Public) (forced : Option Plan) (left : Option ℕ) → p.plan ≡ forced → IfSome (fallback forced left) (λ x. (x ≡ Small) × (Some Hash ≡ Some Hash) × IsNone p.plan)
-second_plan p (Some plan) left e = tt
-second_plan p None None e = tt
-second_plan p None (Some i) e = (refl, refl, ap is_some e)
+  stopped : (k : ℕ) → 1 ≤ k → k ≤ n → p.plan ≡ Some Continuous → Started p stmt (counted k None None AfterCount)
+  stopped k h l e = record { not_static = λ e. cc; not_cut = λ m. tt; holds = (count_of k l, (h, e)) }
+
+  -- a plan after Hash is Small, where none is forced
+  hash_holds : (k : ℕ) (forced : Option Plan) (left : Option ℕ) → p.plan ≡ forced → IsCount p stmt k → IsPlan p stmt k Hash
+      → Holds p stmt (counted k (Some Hash) (fallback forced left) Whole) (Some k) (Some Hash) (fallback forced left)
+  hash_holds k (Some plan) left e count is = (count, is, tt)
+  hash_holds k None None e count is = (count, is, tt)
+  hash_holds k None (Some i) e count is = (count, is, tt, e)
 
 -- Continuous for places that are not consecutive is forced
 forced_only : (forced : Option Plan) (s n k : ℕ) → choose forced s n k false ≡ Continuous → forced ≡ Some Continuous
@@ -87,20 +90,32 @@ forced_only None s n k h = absurd (unforced (nat_le k (4 * s)) (nat_le (3 * n) (
   unforced false true h = cc
   unforced false false h = cc
 
-with_plan : (p : Public) (n : ℕ) (plan : Plan) (places : List ℕ) → 1 ≤ length places → length places ≤ n →
-    choose p.plan (buffered p.pack p.buffer) n (length places) (is_consecutive places) ≡ plan → Started p n true (seen_with p plan places)
-with_plan p n Small places h l e = planned p n (length places) Small None (is_consecutive places) h l (sym e) tt
-with_plan p n Large places h l e = planned p n (length places) Large None (is_consecutive places) h l (sym e) tt
-with_plan p n Hash places h l e = planned p n (length places) Hash _ (is_consecutive places) h l (sym e) (second_plan p p.plan (first_unplaced p places) refl)
-with_plan p n Continuous places h l e = at_answer (is_consecutive places) e where
-  at_answer : (b : Bool) → choose p.plan (buffered p.pack p.buffer) n (length places) b ≡ Continuous →
-      Started p n true (cond b (counted (length places) (Some Continuous) None Whole) (counted (length places) None None AfterCount))
-  at_answer true e = planned p n (length places) Continuous None true h l (sym e) tt
-  at_answer false e = stopped p n (length places) h l (forced_only p.plan (buffered p.pack p.buffer) n (length places) e)
+module _ (p : Public) (stmt : Stmt) (counts : is_counted stmt ≡ true) where
+  abbrev slots : ℕ
+  slots = statement_slots p stmt
 
-rows_started : (p : Public) (n : ℕ) (places : List ℕ) → length places ≤ n → Started p n true (seen_rows p n places)
-rows_started p n [] l = no_rows p n
-rows_started p n (i ∷ is) l = with_plan p n (plan_for p n (i ∷ is)) (i ∷ is) (omega arith) l refl
+  planned : (k : ℕ) (plan : Plan) (c : Bool) → 1 ≤ k → k ≤ slots → choose p.plan (buffered p.pack p.buffer) slots k c ≡ plan → IsCount p stmt k × IsPlan p stmt k plan
+  planned k plan c h l e = (count_of p stmt counts k l, plan_of p stmt counts k plan c h (sym e))
+
+  with_plan : (plan : Plan) (places : List ℕ) → 1 ≤ length places → length places ≤ slots →
+      choose p.plan (buffered p.pack p.buffer) slots (length places) (is_consecutive places) ≡ plan → Started p stmt (seen_with p plan places)
+  with_plan Small places h l e =
+      let both = planned (length places) Small (is_consecutive places) h l e in record { not_static = λ e. cc; not_cut = λ m. tt; holds = (both.0, both.1, tt) }
+  with_plan Large places h l e =
+      let both = planned (length places) Large (is_consecutive places) h l e in record { not_static = λ e. cc; not_cut = λ m. tt; holds = (both.0, both.1, tt) }
+  with_plan Hash places h l e =
+      let both = planned (length places) Hash (is_consecutive places) h l e in
+      record { not_static = λ e. cc; not_cut = λ m. tt; holds = hash_holds p stmt counts (length places) p.plan (first_unplaced p places) refl both.0 both.1 }
+  with_plan Continuous places h l e = at_answer (is_consecutive places) e where
+    at_answer : (b : Bool) → choose p.plan (buffered p.pack p.buffer) slots (length places) b ≡ Continuous →
+        Started p stmt (cond b (counted (length places) (Some Continuous) None Whole) (counted (length places) None None AfterCount))
+    at_answer true e =
+        let both = planned (length places) Continuous true h l e in record { not_static = λ e. cc; not_cut = λ m. tt; holds = (both.0, both.1, tt) }
+    at_answer false e = stopped p stmt counts (length places) h l (forced_only p.plan (buffered p.pack p.buffer) slots (length places) e)
+
+  rows_started : (places : List ℕ) → length places ≤ slots → Started p stmt (seen_rows p slots places)
+  rows_started [] l = no_rows p stmt counts
+  rows_started (i ∷ is) l = with_plan (plan_for p slots (i ∷ is)) (i ∷ is) (omega arith) l refl
 
 length-places_from : {A : Type 0} (f : A → Bool) (n : ℕ) (xs : List A) → length (places_from n f xs) ≤ length xs
 length-places_from f n [] = omega arith
@@ -108,12 +123,15 @@ length-places_from f n (x ∷ xs) =
     let h = length-places_from f (suc n) xs in
     elim (f x) as (λ b. length (cond b (n ∷ places_from (suc n) f xs) (places_from (suc n) f xs)) ≤ suc (length xs)) [ true ↦ omega arith | false ↦ omega arith ]
 
+selected_few : (test : Row → Bool) (slots : Slots) → length (selected test slots) ≤ length slots
+selected_few test slots = length-places_from _ 0 slots
+
 -- the number of slots that a SELECT counts over is public
 slots-capacity : (name : List ℕ) (ts : Tables) → AreInPlace ts → length (slots_at name ts) ≡ capacity_at name (headings ts)
 slots-capacity name [] h = refl
 slots-capacity name (t ∷ ts) h =
     elim (bytes_eq t.heading.name name) as (λ b. length (option_map_or (λ (t : Stored Slots). t.held) (cond b (Some t) (stored_at name ts)) []) ≡ option_map_or (λ (g : Heading). g.capacity) (cond b (Some t.heading) (heading_at name (headings ts))) 0)
-    [ true ↦ h.0 | false ↦ slots-capacity name ts h.1 ]
+    [ true ↦ h.0.slots | false ↦ slots-capacity name ts h.1 ]
 
 length-each : {A : Type 0} (n m : ℕ) (f : ℕ → List A) → ((i : ℕ) → length (f i) ≡ m) → length (each n f) ≡ n * m
 length-each zero m f h = sym (zero-mul m)
@@ -132,63 +150,203 @@ length-joined i j pack room left right some =
     length-padded m rows' (let e = length-map right (joined_slot i j (rows (chunk (buffered pack room) q left))) in omega arith))
     ∙ sym (mul_assoc (chunks pack room (length left)) (blocks_for pack (length right)) pack)
 
-source-slots : (p : Public) (ts : Tables) (source : Source) → 1 ≤ p.pack → headings ts ≡ public_headings p → AreInPlace ts → length (source_slots p source ts) ≡ counted_slots p source
+source-slots : (p : Public) (ts : Tables) (source : Source) → 1 ≤ p.pack → headings ts ≡ headings_of p.tables → AreInPlace ts → length (source_slots p source ts) ≡ counted_slots p source
 source-slots p ts (OneTable name) some e h = slots-capacity name ts h ∙ ap (capacity_at name) e
 source-slots p ts (Join a b on equals) some e h =
     length-joined _ _ p.pack p.buffer (slots_at a ts) (slots_at b ts) some
     ∙ (λ t. joined_slots p.pack p.buffer (slots-capacity a ts h t) (slots-capacity b ts h t))
     ∙ (λ t. joined_slots p.pack p.buffer (capacity_at a (e t)) (capacity_at b (e t)))
 
-all_started : (p : Public) (ts : Tables) (stmt : Stmt) → 1 ≤ p.pack → headings ts ≡ public_headings p → AreInPlace ts → Started p (statement_slots p stmt) (is_counted stmt) (seen_started p ts stmt)
-all_started p ts (Create a b c) some e h = kind_alone p 0
-all_started p ts (Insert a b c) some e h = kind_alone p 0
-all_started p ts (Update a b c) some e h = kind_alone p 0
-all_started p ts (Delete a b) some e h = kind_alone p 0
-all_started p ts (DropTable a) some e h = kind_alone p 0
-all_started p ts (SelectStmt q) some e h =
-    subst (λ n. Started p n (not (has_totals q)) (cond (has_totals q) (ended Whole) (seen_rows p (length (source_slots p q.source ts)) (selected_places p q ts)))) (source-slots p ts q.source some e h)
-    (at_kind (has_totals q)) where
-      at_kind : (b : Bool) → Started p (length (source_slots p q.source ts)) (not b) (cond b (ended Whole) (seen_rows p (length (source_slots p q.source ts)) (selected_places p q ts)))
-      at_kind true = kind_alone p _
-      at_kind false = rows_started p _ _ (length-places_from _ 0 (source_slots p q.source ts))
-
-with_more : (A C D : Type 0) (B : ℕ → Type 0) (o : Option ℕ) → C → D → IfSome o (λ k. A × B k) → IfSome o (λ k. A × C × B k × D)
-with_more A C D B None c d h = tt
-with_more A C D B (Some k) c d h = (h.0, c, h.1, d)
-
-with_last : (A B C : Plan → Type 0) (D : Type 0) (o : Option Plan) → D → IfSome o (λ x. A x × B x × C x) → IfSome o (λ x. A x × B x × C x × D)
-with_last A B C D None d h = tt
-with_last A B C D (Some x) d h = (h.0, h.1, h.2, d)
+all_started : (p : Public) (ts : Tables) (stmt : Stmt) → 1 ≤ p.pack → headings ts ≡ headings_of p.tables → AreInPlace ts → Started p stmt (seen_started p ts stmt)
+all_started p ts (Create a b c) some e h = kind_alone p (Create a b c) refl
+all_started p ts (Insert a b c) some e h = kind_alone p (Insert a b c) refl
+all_started p ts (Update a b c) some e h = kind_alone p (Update a b c) refl
+all_started p ts (Delete a b) some e h = kind_alone p (Delete a b) refl
+all_started p ts (DropTable a) some e h = kind_alone p (DropTable a) refl
+all_started p ts (TotalsStmt q) some e h = kind_alone p (TotalsStmt q) refl
+all_started p ts (RowsStmt q) some e h =
+    let size : length (source_slots p q.source ts) ≡ counted_slots p q.source = source-slots p ts q.source some e h in
+    let few : length (selected_places p q ts) ≤ counted_slots p q.source = let l = selected_few (is_true (select_condition q (headings ts))) (source_slots p q.source ts) in omega (arith, l, size) in
+    subst (λ n. Started p (RowsStmt q) (seen_rows p n (selected_places p q ts))) (sym size) (rows_started p (RowsStmt q) refl (selected_places p q ts) few)
 
 not_both : {b : Bool} → b ≡ true → b ≡ false → ⊥
 not_both h k = cc
 
-early_or_started : (p : Public) (m : ℕ) (stmt : Stmt) (r : Option Refusal) (x : Seen) → early_refusal (is_late m) p.pack p.buffer (public_headings p) stmt ≡ r →
-    Started p (statement_slots p stmt) (is_counted stmt) x → Lawful p m stmt (cond (is_some r) (ended Static) x)
-early_or_started p m stmt (Some r) x e s = record {
-  static = (λ _. ap is_some e, λ _. refl);
-  counted_only = tt;
-  counted = λ t f. cc;
-  plan = tt;
-  plan_only = refl;
-  then = tt;
-  refused = tt;
-  after_count = λ f. cc;
-  cut = tt;
-}
+early_or_started : (p : Public) (m : ℕ) (stmt : Stmt) (r : Option Refusal) (x : Seen) → early_refusal (is_late m) p.pack p.buffer (headings_of p.tables) stmt ≡ r →
+    Started p stmt x → Lawful p m stmt (cond (is_some r) (ended Static) x)
+early_or_started p m stmt (Some r) x e s = record { static = (λ _. ap is_some e, λ _. refl); holds = tt; cut = tt }
 early_or_started p m stmt None x e s = record {
   static = (λ f. absurd (s.not_static f), λ f. absurd (not_both f (ap is_some e)));
-  counted_only = with_more (IsTrue (is_counted stmt)) (x.end ≢ Static) (CutFrom (count_end p (skeleton stmt)) x.end) (λ k. k ≤ statement_slots p stmt) x.k s.not_static (s.not_cut (count_end p (skeleton stmt))).0 s.counted_only;
-  counted = s.counted;
-  plan = s.plan;
-  plan_only = s.plan_only;
-  then = with_last (λ plan. plan ≡ Small) (λ _. x.plan ≡ Some Hash) (λ _. IsNone p.plan) (CutFrom (first_end p (skeleton stmt) x) x.end) x.then (s.not_cut (first_end p (skeleton stmt) x)).0 s.then;
-  refused = s.refused;
-  after_count = s.after_count;
-  cut = (s.not_cut (length (whole_script p (skeleton stmt) x))).1;
+  holds = s.holds;
+  cut = s.not_cut (length (whole_script p (skeleton stmt) x));
 }
+
+early-public : (p : Public) (m : ℕ) (ts : Tables) (stmt : Stmt) → headings ts ≡ headings_of p.tables
+    → early_refusal (is_late m) p.pack p.buffer (headings ts) stmt ≡ early_refusal (is_late m) p.pack p.buffer (headings_of p.tables) stmt
+early-public p m ts stmt e = ap (λ hs. early_refusal (is_late m) p.pack p.buffer hs stmt) e
 
 pub seen_is_lawful : SeenIsLawful
 seen_is_lawful p m ts stmt some e h =
-    let early : early_refusal (is_late m) p.pack p.buffer (headings ts) stmt ≡ early_refusal (is_late m) p.pack p.buffer (public_headings p) stmt = ap (λ hs. early_refusal (is_late m) p.pack p.buffer hs stmt) e in
-    early_or_started p m stmt (early_refusal (is_late m) p.pack p.buffer (headings ts) stmt) (seen_started p ts stmt) (sym early) (all_started p ts stmt some e h)
+    early_or_started p m stmt (early_refusal (is_late m) p.pack p.buffer (headings ts) stmt) (seen_started p ts stmt) (sym (early-public p m ts stmt e)) (all_started p ts stmt some e h)
+
+-- ---- a statement that was cut off
+abbrev seen_of : Option ℕ → (plan second : Option Plan) → End → Seen
+seen_of k plan second end = record { k = k; plan = plan; then = second; end = end }
+
+-- a script is the same however it ended
+same_script : (p : Public) (s : Skeleton) (k : Option ℕ) (plan second : Option Plan) (a b : End) → whole_script p s (seen_of k plan second a) ≡ whole_script p s (seen_of k plan second b)
+same_script p (CreateSkeleton table cs n) k plan second a b = refl
+same_script p (InsertSkeleton table cs) k plan second a b = refl
+same_script p (UpdateSkeleton table cs) k plan second a b = refl
+same_script p (DeleteSkeleton table) k plan second a b = refl
+same_script p (DropSkeleton table) k plan second a b = refl
+same_script p (Rows (OneTable name) cs) k plan second a b = refl
+same_script p (Rows (Join left right on equals) cs) k plan second a b = refl
+same_script p (Groups table cs key) k plan second a b = refl
+
+-- the result of a plan is read back behind the count, and a block at least is left to discard
+behind : (counted plan back ending : List Access) (last : Access) → length (counted ++ []) + (length ending + 1) ≤ length (counted ++ ((plan ++ (back ++ last ∷ [])) ++ ([] ++ ending)))
+behind counted plan back ending last =
+    let a = length-append counted [] in
+    let b = length-append counted ((plan ++ (back ++ last ∷ [])) ++ ([] ++ ending)) in
+    let c = length-append (plan ++ (back ++ last ∷ [])) ([] ++ ending) in
+    let d = length-append plan (back ++ last ∷ []) in
+    let e = length-append back (last ∷ []) in
+    omega (arith, a, b, c, d, e)
+
+in_front : (front short long : List Access) (m : ℕ) → length short + m ≤ length long → length (front ++ short) ≤ length (front ++ long) - m
+in_front front short long m h = let a = length-append front short in let b = length-append front long in omega (arith, a, b)
+
+walk_of_table : (p : Public) (k : ℕ) (plan : Plan) (end : End) (o : Option (Stored ℕ))
+    → length (option_map_or (table_script p (ended Whole)) o []) ≤ length (option_map_or (table_script p (seen_of (Some k) (Some plan) None end)) o []) - (0 + 1)
+walk_of_table p k plan end None = omega arith
+walk_of_table p k plan end (Some t) =
+    let from = extent_of t in
+    let count = count_part from.region (blocks_of p from) in
+    let result = plan_part p plan k p.next_region from in
+    let back = count_part p.next_region (result_blocks p plan k from) in
+    in_front [] (count ++ []) (count ++ ((result ++ (back ++ Discard p.next_region ∷ [])) ++ [])) 1 (behind count result back [] (Discard p.next_region))
+
+walk_of_join : (p : Public) (k : ℕ) (plan : Plan) (end : End) (l r : Option (Stored ℕ))
+    → length (option_map_or (λ left. option_map_or (λ right. join_script p (ended Whole) left right) r []) l [])
+    ≤ length (option_map_or (λ left. option_map_or (λ right. join_script p (seen_of (Some k) (Some plan) None end) left right) r []) l []) - (1 + 1)
+walk_of_join p k plan end None r = omega arith
+walk_of_join p k plan end (Some left) None = omega arith
+walk_of_join p k plan end (Some left) (Some right) =
+    let from = joined_extent p left.heading right.heading in
+    let g = p.next_region + 1 in
+    let pairs =
+    join_part left.held right.held p.next_region (blocks_of p (extent_of left)) (blocks_of p (extent_of right)) (buffered_blocks p.pack p.buffer) (rows_width p from) in
+    let count = count_part from.region (blocks_of p from) in
+    let back = count_part g (result_blocks p plan k from) in
+    let result = plan_part p plan k g from in
+    in_front pairs (count ++ []) (count ++ ((result ++ (back ++ Discard g ∷ [])) ++ (Discard p.next_region ∷ []))) 2 (behind count result back (Discard p.next_region ∷ []) (Discard g))
+
+count_before_walk : (p : Public) (source : Source) (cs : Option (List ColumnName)) (k : ℕ) (plan : Plan) (second : Option Plan) (end : End)
+    → count_end p (Rows source cs) ≤ walk_end p (Rows source cs) (seen_of (Some k) (Some plan) second end)
+count_before_walk p (OneTable name) cs k plan second end = walk_of_table p k plan end (stored_at name (stored_regions p.tables))
+count_before_walk p (Join a b on equals) cs k plan second end = walk_of_join p k plan end (stored_at a (stored_regions p.tables)) (stored_at b (stored_regions p.tables))
+
+not_second : (p : Public) (stmt : Stmt) (k : Option ℕ) (plan : Option Plan) (second : Plan) (end : End) → is_counted stmt ≡ false
+    → Holds p stmt (seen_of k plan (Some second) end) k plan (Some second) → ⊥
+not_second p stmt (Some k) (Some Hash) Small end e h = not_both h.0.counted e
+not_second p stmt (Some k) (Some plan) second end e h = h
+not_second p stmt (Some k) None second end e h = h
+not_second p stmt None (Some plan) second end e h = h
+not_second p stmt None None second end e h = h
+
+walks : (p : Public) (stmt : Stmt) (k : Option ℕ) (plan : Option Plan) (second : Plan) (end : End) → Holds p stmt (seen_of k plan (Some second) end) k plan (Some second)
+    → count_end p (skeleton stmt) ≤ walk_end p (skeleton stmt) (seen_of k plan (Some second) end)
+walks p (RowsStmt q) (Some k) (Some plan) second end h = count_before_walk p q.source q.list k plan (Some second) end
+walks p (RowsStmt q) (Some k) None second end h = absurd h
+walks p (RowsStmt q) None (Some plan) second end h = absurd h
+walks p (RowsStmt q) None None second end h = absurd h
+walks p (TotalsStmt q) k plan second end h = absurd (not_second p (TotalsStmt q) k plan second end refl h)
+walks p (Create a b c) k plan second end h = absurd (not_second p (Create a b c) k plan second end refl h)
+walks p (Insert a b c) k plan second end h = absurd (not_second p (Insert a b c) k plan second end refl h)
+walks p (Update a b c) k plan second end h = absurd (not_second p (Update a b c) k plan second end refl h)
+walks p (Delete a b) k plan second end h = absurd (not_second p (Delete a b) k plan second end refl h)
+walks p (DropTable a) k plan second end h = absurd (not_second p (DropTable a) k plan second end refl h)
+
+module _ (p : Public) (stmt : Stmt) (n done : ℕ) (within : done ≤ n) (last : n ≤ done + 1) where
+  abbrev Cutting : Option ℕ → (plan second : Option Plan) → Type 0
+  Cutting k plan second = Holds p stmt (seen_of k plan second (Cut n)) k plan second × (n ≤ length (whole_script p (skeleton stmt) (seen_of k plan second (Cut n))))
+
+  abbrev IsLong : Option ℕ → (plan second : Option Plan) → End → Type 0
+  IsLong k plan second end = n ≤ length (whole_script p (skeleton stmt) (seen_of k plan second end))
+
+  long : (k : Option ℕ) (plan second : Option Plan) (end : End) → IsLong k plan second end → IsLong k plan second (Cut n)
+  long k plan second end h = subst (λ (x : List Access). n ≤ length x) (same_script p (skeleton stmt) k plan second end (Cut n)) h
+
+  unplanned : (k m : ℕ) (end : End) → m ≤ n → EndsUnplanned p k m end → EndsUnplanned p k m (Cut n)
+  unplanned k m Static le h = absurd h
+  unplanned k m Whole le h = (le, inl h)
+  unplanned k m AfterCount le h = (le, inr h.1)
+  unplanned k m (Cut j) le h = (le, h.1)
+
+  uncounted : done < count_end p (skeleton stmt) → Cutting None None None
+  uncounted less = (tt, long None None None Whole (omega arith))
+
+  kept_one : (k : Option ℕ) (plan : Option Plan) (end : End) → Holds p stmt (seen_of k plan None end) k plan None → IsLong k plan None end → count_end p (skeleton stmt) ≤ done → Cutting k plan None
+  kept_one None None end h l le = (tt, long None None None end l)
+  kept_one None (Some plan) end h l le = absurd h
+  kept_one (Some k) None end h l le = ((h.0, unplanned k (count_end p (skeleton stmt)) end (omega arith) h.1), long (Some k) None None end l)
+  kept_one (Some k) (Some plan) end h l le = ((h.0, h.1, omega arith), long (Some k) (Some plan) None end l)
+
+  kept_two : (k : Option ℕ) (plan : Option Plan) (second : Plan) (end : End) → Holds p stmt (seen_of k plan (Some second) end) k plan (Some second) → IsLong k plan (Some second) end
+      → walk_end p (skeleton stmt) (seen_of k plan (Some second) end) ≤ done → Cutting k plan (Some second)
+  kept_two (Some k) (Some Hash) Small end h l le =
+      let walk : walk_end p (skeleton stmt) (seen_of (Some k) (Some Hash) (Some Small) (Cut n)) ≤ n =
+      subst (λ (x : List Access). length x - (ending_len (skeleton stmt) + 1) ≤ n) (same_script p (skeleton stmt) (Some k) (Some Hash) None end (Cut n)) (omega arith) in
+      ((h.0, h.1, walk, h.3), long (Some k) (Some Hash) (Some Small) end l)
+  kept_two (Some k) (Some plan) second end h l le = absurd h
+  kept_two (Some k) None second end h l le = absurd h
+  kept_two None (Some plan) second end h l le = absurd h
+  kept_two None None second end h l le = absurd h
+
+  unwalked : (k : Option ℕ) (plan : Option Plan) (second : Plan) (end : End) → Holds p stmt (seen_of k plan (Some second) end) k plan (Some second)
+      → count_end p (skeleton stmt) ≤ done → done < walk_end p (skeleton stmt) (seen_of k plan (Some second) end) → Cutting k plan None
+  unwalked (Some k) (Some Hash) Small end h le less = ((h.0, h.1, omega arith), long (Some k) (Some Hash) None end (omega arith))
+  unwalked (Some k) (Some plan) second end h le less = absurd h
+  unwalked (Some k) None second end h le less = absurd h
+  unwalked None (Some plan) second end h le less = absurd h
+  unwalked None None second end h le less = absurd h
+
+  at_least : (m : ℕ) → nat_le m done ≡ true → m ≤ done
+  at_least m e = grind (arith, nat_tests)
+
+  above : (m : ℕ) → nat_le m done ≡ false → done < m
+  above m e = grind (arith, nat_tests)
+
+  cutting : (held walked : Bool) (k : Option ℕ) (plan second : Option Plan) (end : End) → nat_le (count_end p (skeleton stmt)) done ≡ held
+      → nat_le (walk_end p (skeleton stmt) (seen_of k plan second end)) done ≡ walked → Holds p stmt (seen_of k plan second end) k plan second → IsLong k plan second end
+      → Cutting (held_if held k) (held_if held plan) (held_if walked second)
+  cutting false false k plan None end e f h l = uncounted (above _ e)
+  cutting false true k plan None end e f h l = uncounted (above _ e)
+  cutting false false k plan (Some s) end e f h l = uncounted (above _ e)
+  cutting false true k plan (Some s) end e f h l =
+      let a = above _ e in let b = at_least _ f in let c = walks p stmt k plan s end h in absurd (omega arith)
+  cutting true false k plan None end e f h l = kept_one k plan end h l (at_least _ e)
+  cutting true true k plan None end e f h l = kept_one k plan end h l (at_least _ e)
+  cutting true false k plan (Some s) end e f h l = unwalked k plan s end h (at_least _ e) (above _ f)
+  cutting true true k plan (Some s) end e f h l = kept_two k plan s end h l (at_least _ f)
+
+done_within : (failed : Bool) (n : ℕ) → (done_of failed n ≤ n) × (n ≤ done_of failed n + 1)
+done_within true n = (omega arith, omega arith)
+done_within false n = (omega arith, omega arith)
+
+not_static : (n : ℕ) → Cut n ≡ Static → ⊥
+not_static n e = cc
+
+pub cut_is_lawful : CutIsLawful
+cut_is_lawful p m ts stmt failed n some e h early long =
+    let x = seen p m ts stmt in
+    let law = seen_is_lawful p m ts stmt some e h in
+    let bounds = done_within failed n in
+    let none = sym (early-public p m ts stmt e) ∙ early in
+    let both = cutting p stmt n (done_of failed n) bounds.0 bounds.1 (nat_le (count_end p (skeleton stmt)) (done_of failed n)) (nat_le (walk_end p (skeleton stmt) x) (done_of failed n)) x.k x.plan x.then x.end refl refl law.holds long in
+    record {
+      static = (λ f. absurd (not_static n f), λ f. absurd (not_both f (ap is_some none)));
+      holds = both.0;
+      cut = both.1;
+    }

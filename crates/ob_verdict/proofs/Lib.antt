@@ -7,6 +7,9 @@ pub mod SettleProof
 pub mod SeenProof
 pub mod LawfulProof
 pub mod AnswerProof
+pub mod InPlaceProof
+pub mod MovingProof
+pub mod AcceptedProof
 pub mod Sessions
 pub mod TableSessions
 pub mod LongSessions

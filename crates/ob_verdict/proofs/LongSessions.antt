@@ -10,11 +10,12 @@ use Rattle.ob_base.specs.declared.skeleton.Source.TheVariants.{Table as OneTable
 use Rattle.ob_base.specs.Accesses.{makes}
 use Rattle.ob_row.specs.declared.pred.Order.TheVariants.{Equal, NotEqual, Greater, LessOrEqual}
 use Rattle.ob_sql.specs.declared.stmt.Listed.TheVariants.{Column as ListedColumn, CountAll, Sum}
-use Rattle.ob_sql.specs.declared.stmt.Stmt.TheVariants.{Create, Insert, Update, Delete, Drop as DropTable, Select as SelectStmt}
+use Rattle.ob_sql.specs.declared.stmt.Stmt.TheVariants.{Create, Insert, Update, Delete, Drop as DropTable, SelectRows as RowsStmt, SelectTotals as TotalsStmt}
 use Rattle.ob_sql.specs.Search.{Search, Or}
 use Rattle.ob_mean.specs.declared.answer.Answer.{Answer}
 use Rattle.ob_mean.specs.declared.answer.Answer.TheVariants.{Done, Changed, Rows}
-use Rattle.ob_mean.specs.Replay.{Spelt, Session, after_all, all_served, first_public, first_session, seen_now}
+use Rattle.ob_mean.specs.Replay.{Spelt, Session, after_all, all_served, first_session, seen_now}
+use Rattle.ob_base.specs.Publics.{first_public}
 use Rattle.ob_verdict.proofs.Sessions.{id, v, col, of_table, int, compare, column, insert, answers_of, asked_by, ints}
 
 abbrev g : List ℕ
@@ -24,22 +25,22 @@ abbrev h : List ℕ
 h = codes "h"
 
 abbrev from_g : Search → Spelt
-from_g c = Ok (SelectStmt (record { list = None; source = OneTable g; cond = Some c; group = None }))
+from_g c = Ok (RowsStmt (record { list = None; source = OneTable g; cond = Some c }))
 
 abbrev column_of_g : List ℕ → Search → Spelt
-column_of_g x c = Ok (SelectStmt (record { list = Some (ListedColumn (col x) ∷ []); source = OneTable g; cond = Some c; group = None }))
+column_of_g x c = Ok (RowsStmt (record { list = Some (col x ∷ []); source = OneTable g; cond = Some c }))
 
 -- the generated input of one row
 abbrev generated : List Spelt
 generated =
     Ok (Create g (column id 1 ∷ column v 0 ∷ []) 1) ∷ insert g 1 7
     ∷ from_g (compare v Equal 3) ∷ column_of_g id (compare id Greater 0) ∷ column_of_g v (compare v NotEqual 9)
-    ∷ Ok (SelectStmt (record { list = Some (ListedColumn (col v) ∷ CountAll ∷ []); source = OneTable g; cond = None; group = Some (col v) }))
+    ∷ Ok (TotalsStmt (record { items = ListedColumn (col v) ∷ CountAll ∷ []; table = g; cond = None; group = Some (col v) }))
     ∷ Ok (Update g (record { column = v; value = int 10 } ∷ []) (Some (compare v Equal 1)))
     ∷ Ok (Delete g (Some (compare v Equal 2)))
     ∷ Ok (Create h (column (codes "k") 0 ∷ []) 4) ∷ Ok (Insert h None (int 1 ∷ []))
-    ∷ Ok (SelectStmt (record { list = None; source = Join g h (of_table g id) (of_table h (codes "k")); cond = None; group = None }))
-    ∷ Ok (SelectStmt (record { list = Some (CountAll ∷ Sum (col v) ∷ []); source = OneTable g; cond = None; group = None }))
+    ∷ Ok (RowsStmt (record { list = None; source = Join g h (of_table g id) (of_table h (codes "k")); cond = None }))
+    ∷ Ok (TotalsStmt (record { items = CountAll ∷ Sum (col v) ∷ []; table = g; cond = None; group = None }))
     ∷ Ok (DropTable g) ∷ Ok (DropTable h) ∷ []
 
 -- five rows in all
@@ -97,7 +98,7 @@ abbrev thirteen : List Spelt
 thirteen = Ok (Create c (column id 1 ∷ []) 13) ∷ inserts 13
 
 abbrev nine_of_them : Spelt
-nine_of_them = Ok (SelectStmt (record { list = None; source = OneTable c; cond = Some (Or (compare id LessOrEqual 8) (compare id Equal 10)); group = None }))
+nine_of_them = Ok (RowsStmt (record { list = None; source = OneTable c; cond = Some (Or (compare id LessOrEqual 8) (compare id Equal 10)) }))
 
 abbrev seen_in : Session → Spelt → Option Seen
 seen_in s (Ok stmt) = Some (seen_now s stmt)

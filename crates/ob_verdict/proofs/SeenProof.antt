@@ -1,6 +1,6 @@
 -- What the seen of a statement tells.
 use Rattle.std.proofs.Common.{◌≡◌, ℕ, Bool, true, false, List, [], ◌∷◌, length, refl, sym, ◌∙◌, ap, subst, cond}
-use Rattle.std.specs.Prelude.{Option, Some, None, not, is_some, ◌||◌, nat_le, ◌*◌}
+use Rattle.std.specs.Prelude.{Option, Some, None, is_some, nat_le, ◌*◌}
 use Rattle.ob_base.specs.declared.config.Public.{Public}
 use Rattle.ob_base.specs.declared.config.Plan.{Plan}
 use Rattle.ob_base.specs.declared.config.Plan.TheVariants.{Small, Large, Continuous, Hash}
@@ -9,18 +9,13 @@ use Rattle.ob_base.specs.declared.seen.End.{End}
 use Rattle.ob_base.specs.declared.seen.End.TheVariants.{Static, Whole, AfterCount}
 use Rattle.ob_base.specs.declared.refusal.Refusal.{Refusal}
 use Rattle.ob_base.specs.declared.refusal.Refusal.TheVariants.{NotConsecutive, Duplicate, Full as FullTable, TooManyGroups, Overflow}
-use Rattle.ob_mean.specs.Step.{late_refusal, or_else, insert_refusal, new_row, Database, overgroups, select_columns, selected_rows}
-use Rattle.ob_base.specs.declared.schema.Column.{Column}
-use Rattle.ob_base.specs.declared.skeleton.ColumnName.{ColumnName}
-use Rattle.ob_verdict.proofs.SettleProof.{headings-database}
-use Rattle.ob_sql.specs.Skeleton.{is_aggregate, listed}
-use Rattle.std.specs.List.{list_any}
+use Rattle.ob_mean.specs.Step.{late_refusal, insert_refusal, new_row, Database, overgroups, totals_columns, totalled_rows}
+use Rattle.ob_mean.proofs.VerdictLemmas.{headings-database}
 use Rattle.ob_mean.specs.Verdict.{database, refusal, last_refusal, rows_refusal, forced_refusal, first_unplaced, fallback, source_slots, selected_places}
 use Rattle.ob_base.specs.Plans.{choose}
-use Rattle.std.specs.Option.{option_map, option_map_or}
+use Rattle.std.specs.Option.{option_map, option_map_or, option_or}
 use Rattle.ob_sql.specs.declared.stmt.Stmt.{Stmt}
-use Rattle.ob_sql.specs.declared.stmt.Stmt.TheVariants.{Create, Insert, Update, Delete, Drop as DropTable, Select as SelectStmt}
-use Rattle.ob_sql.specs.Skeleton.{has_totals}
+use Rattle.ob_sql.specs.declared.stmt.Stmt.TheVariants.{Create, Insert, Update, Delete, Drop as DropTable, SelectRows as RowsStmt, SelectTotals as TotalsStmt}
 use Rattle.ob_row.specs.Slots.{is_consecutive}
 use Rattle.ob_mean.specs.Verdict.{Tables, seen, seen_started, seen_rows, seen_with, ended, counted, is_late, plan_for}
 use Rattle.ob_mean.specs.Refusals.{early_refusal}
@@ -33,17 +28,14 @@ use Rattle.ob_verdict.specs.Laws.{IsStarted, ShowsKindAlone, PlanIsWhole, Forced
 seen-started : (p : Public) (m : ℕ) (ts : Tables) (stmt : Stmt) → IsStarted p m ts stmt → seen p m ts stmt ≡ seen_started p ts stmt
 seen-started p m ts stmt h = ap (λ r. cond (is_some r) (ended Static) (seen_started p ts stmt)) h
 
-totals_kind : (b : Bool) (rest : Seen) → not b ≡ false → cond b (ended Whole) rest ≡ ended Whole
-totals_kind true rest h = refl
-totals_kind false rest h = cc
-
 started-kind : (p : Public) (ts : Tables) (stmt : Stmt) → is_counted stmt ≡ false → seen_started p ts stmt ≡ ended Whole
 started-kind p ts (Create a b c) h = refl
 started-kind p ts (Insert a b c) h = refl
 started-kind p ts (Update a b c) h = refl
 started-kind p ts (Delete a b) h = refl
 started-kind p ts (DropTable a) h = refl
-started-kind p ts (SelectStmt q) h = totals_kind (has_totals q) _ h
+started-kind p ts (RowsStmt q) h = cc
+started-kind p ts (TotalsStmt q) h = refl
 
 pub shows_kind_alone : ShowsKindAlone
 shows_kind_alone p m ts stmt h k = seen-started p m ts stmt h ∙ started-kind p ts stmt k
@@ -78,7 +70,8 @@ started-plan p ts (Insert a b c) = ended-plan Whole
 started-plan p ts (Update a b c) = ended-plan Whole
 started-plan p ts (Delete a b) = ended-plan Whole
 started-plan p ts (DropTable a) = ended-plan Whole
-started-plan p ts (SelectStmt q) = of_cond PlanEnds (has_totals q) _ _ (ended-plan Whole) (seen_rows-plan p _ _)
+started-plan p ts (RowsStmt q) = seen_rows-plan p _ _
+started-plan p ts (TotalsStmt q) = ended-plan Whole
 
 pub plan_is_whole : PlanIsWhole
 unfolding PlanEnds
@@ -118,7 +111,8 @@ late-not s db (Insert table b c) h = stored-not (λ t. new_row t.heading.schema 
 late-not s db (Update a b c) h = cc
 late-not s db (Delete a b) h = cc
 late-not s db (DropTable a) h = cc
-late-not s db (SelectStmt q) h = groups-not _ h
+late-not s db (RowsStmt q) h = cc
+late-not s db (TotalsStmt q) h = groups-not _ h
 
 -- a plan's refusal: Continuous where the places are not consecutive, and never another
 overflow-not : (o : Option ℕ) → NotSame (option_map Overflow o)
@@ -157,56 +151,33 @@ unfolding Shows
 rows-shows p n [] = (λ e. cc, λ e. cc)
 rows-shows p n (i ∷ is) = plan-shows p (buffered p.pack p.buffer) n (length (i ∷ is)) (i ∷ is) p.plan
 
-select-shows : (b : Bool) (s : Seen) (r : Option Refusal) → Shows s r → Shows (cond b (ended Whole) s) (cond b None r)
-unfolding Shows
-select-shows true s r h = (λ e. cc, λ e. cc)
-select-shows false s r h = h
+or_none : (a : Option Refusal) → a ≡ option_or a None
+or_none None = refl
+or_none (Some x) = refl
 
-last-shows : (p : Public) (ts : Tables) (stmt : Stmt) → Shows (seen_started p ts stmt) (last_refusal p ts stmt)
-unfolding Shows
-last-shows p ts (Create a b c) = (λ e. cc, λ e. cc)
-last-shows p ts (Insert a b c) = (λ e. cc, λ e. cc)
-last-shows p ts (Update a b c) = (λ e. cc, λ e. cc)
-last-shows p ts (Delete a b) = (λ e. cc, λ e. cc)
-last-shows p ts (DropTable a) = (λ e. cc, λ e. cc)
-last-shows p ts (SelectStmt q) = select-shows (has_totals q) _ _ (rows-shows p (length (source_slots p q.source ts)) (selected_places p q ts))
-
-or_else_none : (a : Option Refusal) → a ≡ or_else a None
-or_else_none None = refl
-or_else_none (Some x) = refl
-
-groups-not-either : (b : Bool) → NotSame (or_else (cond b (Some TooManyGroups) None) None)
+groups-not-either : (b : Bool) → NotSame (option_or (cond b (Some TooManyGroups) None) None)
 unfolding NotSame
 groups-not-either true h = cc
 groups-not-either false h = cc
 
--- too many groups, which shows nothing, or what the rows show
-grouped-shows : (a : Bool) (g : Option ColumnName) (s : ℕ) (cs : List Column) (rows : List Row) (x : Seen) (r : Option Refusal) → Shows x r →
-    Shows (cond (a || is_some g) (ended Whole) x) (or_else (cond (overgroups s g cs rows) (Some TooManyGroups) None) (cond (a || is_some g) None r))
-unfolding Shows NotSame
-grouped-shows true None s cs rows x r h = (λ e. cc, λ e. cc)
-grouped-shows false None s cs rows x r h = h
-grouped-shows true (Some g) s cs rows x r h = (λ e. cc, λ e. absurd (groups-not-either (overgroups s (Some g) cs rows) e))
-grouped-shows false (Some g) s cs rows x r h = (λ e. cc, λ e. absurd (groups-not-either (overgroups s (Some g) cs rows) e))
-
-late-shows : (p : Public) (ts : Tables) (stmt : Stmt) → Shows (seen_started p ts stmt) (or_else (late_refusal (buffered p.pack p.buffer) (database ts) stmt) (last_refusal p ts stmt))
+late-shows : (p : Public) (ts : Tables) (stmt : Stmt) → Shows (seen_started p ts stmt) (option_or (late_refusal (buffered p.pack p.buffer) (database ts) stmt) (last_refusal p ts stmt))
 unfolding Shows NotSame
 late-shows p ts (Create a b c) = (λ e. cc, λ e. cc)
-late-shows p ts (Insert a b c) = (λ e. cc, λ e. absurd (late-not (buffered p.pack p.buffer) (database ts) (Insert a b c) (or_else_none _ ∙ e)))
+late-shows p ts (Insert a b c) = (λ e. cc, λ e. absurd (late-not (buffered p.pack p.buffer) (database ts) (Insert a b c) (or_none _ ∙ e)))
 late-shows p ts (Update a b c) = (λ e. cc, λ e. cc)
 late-shows p ts (Delete a b) = (λ e. cc, λ e. cc)
 late-shows p ts (DropTable a) = (λ e. cc, λ e. cc)
-late-shows p ts (SelectStmt q) =
-    grouped-shows (list_any is_aggregate (listed q.list)) q.group (buffered p.pack p.buffer) (select_columns q (headings (database ts))) (selected_rows q (database ts)) _ _
-    (rows-shows p (length (source_slots p q.source ts)) (selected_places p q ts))
+late-shows p ts (RowsStmt q) = rows-shows p (length (source_slots p q.source ts)) (selected_places p q ts)
+late-shows p ts (TotalsStmt q) =
+    (λ e. cc, λ e. absurd (groups-not-either (overgroups (buffered p.pack p.buffer) q.group (totals_columns q (headings (database ts))) (totalled_rows q (database ts))) e))
 
 pub shows_not_consecutive : ShowsNotConsecutive
 unfolding Shows
 shows_not_consecutive p m ts stmt h =
     let hs : early_refusal (is_late m) p.pack p.buffer (headings (database ts)) stmt ≡ None = subst (λ w. early_refusal (is_late m) p.pack p.buffer w stmt ≡ None) (sym (headings-database ts)) h in
     let s : seen p m ts stmt ≡ seen_started p ts stmt = seen-started p m ts stmt h in
-    let r : refusal p m ts stmt ≡ or_else (late_refusal (buffered p.pack p.buffer) (database ts) stmt) (last_refusal p ts stmt) =
-    ap (λ e. or_else (or_else e (late_refusal (buffered p.pack p.buffer) (database ts) stmt)) (last_refusal p ts stmt)) hs in
+    let r : refusal p m ts stmt ≡ option_or (late_refusal (buffered p.pack p.buffer) (database ts) stmt) (last_refusal p ts stmt) =
+    ap (λ e. option_or (option_or e (late_refusal (buffered p.pack p.buffer) (database ts) stmt)) (last_refusal p ts stmt)) hs in
     let both = late-shows p ts stmt in
     (λ e. r ∙ both.0 (sym (ap (λ x. x.end) s) ∙ e), λ e. ap (λ x. x.end) s ∙ both.1 (sym r ∙ e))
 
@@ -237,7 +208,8 @@ started-second p ts (Insert a b c) = λ x e. refl
 started-second p ts (Update a b c) = λ x e. refl
 started-second p ts (Delete a b) = λ x e. refl
 started-second p ts (DropTable a) = λ x e. refl
-started-second p ts (SelectStmt q) = of_cond (λ s. (plan : Plan) → p.plan ≡ Some plan → s.then ≡ None) (has_totals q) _ _ (λ x e. refl) (seen_rows-second p _ _)
+started-second p ts (RowsStmt q) = seen_rows-second p _ _
+started-second p ts (TotalsStmt q) = λ x e. refl
 
 all-second : (p : Public) (m : ℕ) (ts : Tables) (stmt : Stmt) → NoSecond p.plan (seen p m ts stmt)
 unfolding NoSecond

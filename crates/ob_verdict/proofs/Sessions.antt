@@ -18,12 +18,13 @@ use Rattle.ob_sql.specs.declared.stmt.Literal.{Literal}
 use Rattle.ob_sql.specs.declared.stmt.Literal.TheVariants.{Int as IntLiteral}
 use Rattle.ob_sql.specs.declared.stmt.Against.TheVariants.{Literal as LiteralAgainst}
 use Rattle.ob_sql.specs.declared.stmt.Listed.{Listed}
-use Rattle.ob_sql.specs.declared.stmt.Stmt.TheVariants.{Create, Insert, Update, Select as SelectStmt}
+use Rattle.ob_sql.specs.declared.stmt.Stmt.TheVariants.{Create, Insert, Update, SelectRows as RowsStmt, SelectTotals as TotalsStmt}
 use Rattle.ob_sql.specs.Search.{Search, Compare}
 use Rattle.ob_script.specs.Trace.{trace}
 use Rattle.ob_mean.specs.declared.answer.Answer.{Answer}
 use Rattle.ob_verdict.specs.Laws.{result_of}
-use Rattle.ob_mean.specs.Replay.{Spelt, Session, Broken, answers, all_served, after_all, first_public, first_session}
+use Rattle.ob_mean.specs.Replay.{Spelt, Session, Broken, answers, all_served, after_all, first_session}
+use Rattle.ob_base.specs.Publics.{first_public}
 
 abbrev pub col : List ℕ → ColumnName
 col n = record { table = None; column = n }
@@ -67,13 +68,16 @@ abbrev pub two_tables : List Spelt
 two_tables = four_rows ++ Ok (Create u (column (codes "k") 0 ∷ column (codes "w") 0 ∷ []) 3) ∷ insert u 1 7 ∷ insert u 1 8 ∷ []
 
 abbrev pub select_where : Option Search → Spelt
-select_where c = Ok (SelectStmt (record { list = None; source = OneTable t; cond = c; group = None }))
+select_where c = Ok (RowsStmt (record { list = None; source = OneTable t; cond = c }))
+
+abbrev pub select_columns : List ColumnName → Spelt
+select_columns xs = Ok (RowsStmt (record { list = Some xs; source = OneTable t; cond = None }))
 
 abbrev pub select_items : List Listed → Option Search → Option ColumnName → Spelt
-select_items xs c g = Ok (SelectStmt (record { list = Some xs; source = OneTable t; cond = c; group = g }))
+select_items xs c g = Ok (TotalsStmt (record { items = xs; table = t; cond = c; group = g }))
 
-abbrev pub join_on : ColumnName → ColumnName → Option (List Listed) → Option Search → Spelt
-join_on a b xs c = Ok (SelectStmt (record { list = xs; source = Join t u a b; cond = c; group = None }))
+abbrev pub join_on : ColumnName → ColumnName → Option (List ColumnName) → Option Search → Spelt
+join_on a b xs c = Ok (RowsStmt (record { list = xs; source = Join t u a b; cond = c }))
 
 abbrev pub update_v : ℕ → Option Search → Spelt
 update_v x c = Ok (Update t (record { column = v; value = int x } ∷ []) c)
@@ -106,7 +110,7 @@ last_trace p setup texts = let s = after_all (first_session p) setup [] in trace
 
 -- the slots of the result of a SELECT of rows
 abbrev pub result_in : Session → Spelt → Slots
-result_in s (Ok (SelectStmt q)) = result_of s.public s.tables q
+result_in s (Ok (RowsStmt q)) = result_of s.public s.tables q
 result_in s _ = []
 
 abbrev pub result_after : Public → List Spelt → Spelt → Slots

@@ -1,8 +1,8 @@
 -- The tables in place and the tables as bags go on alike.
-use Rattle.std.proofs.Common.{◌≡◌, ℕ, ◌<◌, Bool, true, false, List, [], ◌∷◌, ◌++◌, map, length, refl, sym, ap, subst, cond, append-nil, arith}
+use Rattle.std.proofs.Common.{◌≡◌, ℕ, ◌<◌, Bool, true, false, List, [], ◌∷◌, ◌++◌, map, length, refl, sym, subst, cond, append-nil, arith}
 use Rattle.std.proofs.lemmas.Bool.Decides.{nat_tests}
 use Rattle.std.specs.Prelude.{Option, Some, None, filter, not, bytes_eq, ◌==◌}
-use Rattle.std.specs.Option.{option_map_or}
+use Rattle.std.specs.Option.{option_map_or, option_or}
 use Rattle.ob_base.specs.declared.config.Public.{Public}
 use Rattle.ob_base.specs.declared.schema.Heading.{Heading}
 use Rattle.ob_base.specs.declared.refusal.Refusal.{Refusal}
@@ -13,17 +13,14 @@ use Rattle.ob_row.specs.Rows.{Row}
 use Rattle.ob_row.specs.Slots.{Slots, rows, fill_first, empty_slots}
 use Rattle.ob_verdict.proofs.SlotLemmas.{rows-map, rows-emptied, rows-empty_slots, length-rows, rows-fill_first}
 use Rattle.ob_sql.specs.declared.stmt.Stmt.{Stmt}
-use Rattle.ob_sql.specs.declared.stmt.Stmt.TheVariants.{Create, Insert, Update, Delete, Drop as DropTable, Select as SelectStmt}
-use Rattle.ob_mean.specs.Step.{Database, step_next, insert_refusal, refusal_of, or_else, followed, new_row, set_cells}
+use Rattle.ob_sql.specs.declared.stmt.Stmt.TheVariants.{Create, Insert, Update, Delete, Drop as DropTable, SelectRows as RowsStmt, SelectTotals as TotalsStmt}
+use Rattle.ob_mean.specs.Step.{Database, step_next, insert_refusal, refusal_of, followed, new_row, set_cells}
 use Rattle.ob_mean.specs.Names.{columns_at, where_at}
 use Rattle.ob_row.specs.Truth.{is_true, updated}
 use Rattle.ob_mean.specs.Verdict.{Tables, database, is_late, last_refusal}
 use Rattle.ob_mean.specs.Settle.{settled}
+use Rattle.ob_mean.proofs.VerdictLemmas.{headings-database}
 use Rattle.ob_verdict.specs.Laws.{SameTables, AreInPlace, SettlesAsStep}
-
-pub headings-database : (ts : Tables) → headings (database ts) ≡ headings ts
-headings-database [] = refl
-headings-database (t ∷ ts) = ap (λ hs. t.heading ∷ hs) (headings-database ts)
 
 SameTables-refl : (db : Database) → SameTables db db
 SameTables-refl [] = refl
@@ -73,28 +70,28 @@ inserted-same name row made (t ∷ ts) p =
     SameTables (database (cond b (record { heading = t.heading; held = fill_first row t.held } ∷ ts) (t ∷ changed_at name (fill_first row) ts)))
     (cond b (record { heading = t.heading; held = rows t.held ++ row ∷ [] } ∷ database ts) (record { heading = t.heading; held = rows t.held } ∷ changed_at name (λ rs. rs ++ row ∷ []) (database ts)))) [
       | true ↦ λ h.
-          let space : length (rows t.held) < length t.held = has_space (length (rows t.held)) t.heading.capacity t.held refl p.0 (no_second _ _ _ _ h) in
+          let space : length (rows t.held) < length t.held = has_space (length (rows t.held)) t.heading.capacity t.held refl p.0.slots (no_second _ _ _ _ h) in
           (refl, Same-put_in_at (rows t.held) row (rows (fill_first row t.held)) (rows-fill_first row t.held space), SameTables-refl (database ts))
       | false ↦ λ h. (refl, Same-refl (rows t.held), inserted-same name row made ts p.1 h)
     ]
 
 -- what follows where nothing refuses is the same
 followed-same : (r : Option Refusal) (next : Tables) (accepted : Database) (ts : Tables) → (r ≡ None → SameTables (database next) accepted) →
-    SameTables (database (followed (or_else r None) next ts)) (followed r accepted (database ts))
+    SameTables (database (followed (option_or r None) next ts)) (followed r accepted (database ts))
 followed-same None next accepted ts h = h refl
 followed-same (Some r) next accepted ts h = SameTables-refl (database ts)
 
-unchanged-same : (r l : Option Refusal) (ts : Tables) → SameTables (database (followed (or_else r l) ts ts)) (followed r (database ts) (database ts))
+unchanged-same : (r l : Option Refusal) (ts : Tables) → SameTables (database (followed (option_or r l) ts ts)) (followed r (database ts) (database ts))
 unchanged-same None None ts = SameTables-refl (database ts)
 unchanged-same None (Some l) ts = SameTables-refl (database ts)
 unchanged-same (Some r) l ts = SameTables-refl (database ts)
 
-second_none : {R : Type 0} (a b : Option R) → or_else a b ≡ None → b ≡ None
+second_none : {R : Type 0} (a b : Option R) → option_or a b ≡ None → b ≡ None
 second_none None b h = h
 second_none (Some x) b h = cc
 
 settles-early : (p : Public) (ts : Tables) (stmt : Stmt) → AreInPlace ts →
-    SameTables (database (followed (or_else (refusal_of false p.pack p.buffer (database ts) stmt) (last_refusal p ts stmt)) (settled ts stmt) ts)) (step_next p (database ts) stmt)
+    SameTables (database (followed (option_or (refusal_of false p.pack p.buffer (database ts) stmt) (last_refusal p ts stmt)) (settled ts stmt) ts)) (step_next p (database ts) stmt)
 settles-early p ts (Create table columns capacity) place =
     followed-same _ _ _ ts (λ _. created-same _ capacity ts)
 settles-early p ts (Insert table columns values) place =
@@ -110,11 +107,13 @@ settles-early p ts (Delete table cond) place =
     subst (λ hs. SameTables (database (settled ts (Delete table cond))) (changed_at table (filter (λ row. not (is_true (where_at cond (columns_at table hs)) row))) (database ts))) (sym (headings-database ts))
     (changed-same table _ _ (rows-emptied (is_true (where_at cond (columns_at table (headings ts))))) ts))
 settles-early p ts (DropTable table) place = followed-same _ _ _ ts (λ _. dropped-same table ts)
-settles-early p ts (SelectStmt q) place =
-    unchanged-same (refusal_of false p.pack p.buffer (database ts) (SelectStmt q)) (last_refusal p ts (SelectStmt q)) ts
+settles-early p ts (RowsStmt q) place =
+    unchanged-same (refusal_of false p.pack p.buffer (database ts) (RowsStmt q)) (last_refusal p ts (RowsStmt q)) ts
+settles-early p ts (TotalsStmt q) place =
+    unchanged-same (refusal_of false p.pack p.buffer (database ts) (TotalsStmt q)) (last_refusal p ts (TotalsStmt q)) ts
 
 pub settles : (p : Public) (m : ℕ) (ts : Tables) (stmt : Stmt) → SettlesAsStep p m ts stmt
 settles p m ts stmt h place =
     let e : is_late m ≡ false = grind (arith, nat_tests) in
-    subst (λ l. SameTables (database (followed (or_else (refusal_of l p.pack p.buffer (database ts) stmt) (last_refusal p ts stmt)) (settled ts stmt) ts)) (step_next p (database ts) stmt)) (sym e)
+    subst (λ l. SameTables (database (followed (option_or (refusal_of l p.pack p.buffer (database ts) stmt) (last_refusal p ts stmt)) (settled ts stmt) ts)) (step_next p (database ts) stmt)) (sym e)
     (settles-early p ts stmt place)

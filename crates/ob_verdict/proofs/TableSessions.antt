@@ -11,14 +11,14 @@ use Rattle.ob_base.specs.Accesses.{makes}
 use Rattle.ob_base.specs.Numbers.{first_bucket, second_bucket}
 use Rattle.ob_base.specs.Plans.{choose}
 use Rattle.ob_row.specs.declared.pred.Order.TheVariants.{Equal, Less, GreaterOrEqual}
-use Rattle.ob_sql.specs.declared.stmt.Listed.{Listed}
 use Rattle.ob_sql.specs.declared.stmt.Listed.TheVariants.{Column as ListedColumn, CountAll, Sum, Min, Max}
 use Rattle.ob_sql.specs.declared.stmt.Literal.TheVariants.{Text as TextLiteral}
-use Rattle.ob_sql.specs.declared.stmt.Stmt.TheVariants.{Insert, Update, Delete, Drop as DropTable, Select as SelectStmt}
+use Rattle.ob_sql.specs.declared.stmt.Stmt.TheVariants.{Insert, Update, Delete, Drop as DropTable, SelectRows as RowsStmt}
 use Rattle.ob_sql.specs.Search.{Search, Not, Or}
 use Rattle.ob_mean.specs.declared.answer.Answer.TheVariants.{Done, Changed, Rows, Refused}
-use Rattle.ob_mean.specs.Replay.{Spelt, first_public, first_session, answers}
-use Rattle.ob_verdict.proofs.Sessions.{t, u, id, v, col, of_table, int, compare, create_t, insert, four_rows, two_tables, select_where, select_items, join_on, update_v, by_four, forced, in_pairs, trace_of, answers_of, asked_by, last_answers, last_trace, result_after, row_of, ints}
+use Rattle.ob_mean.specs.Replay.{Spelt, first_session, answers}
+use Rattle.ob_base.specs.Publics.{first_public}
+use Rattle.ob_verdict.proofs.Sessions.{t, u, id, v, col, of_table, int, compare, create_t, insert, four_rows, two_tables, select_where, select_columns, select_items, join_on, update_v, by_four, forced, in_pairs, trace_of, answers_of, asked_by, last_answers, last_trace, result_after, row_of, ints}
 use Rattle.std.specs.Prelude.{Option}
 
 abbrev count_all : Spelt
@@ -36,7 +36,7 @@ t_id = of_table t id
 abbrev u_k : ColumnName
 u_k = of_table u (codes "k")
 
-abbrev join_all : Option (List Listed) → Option Search → Spelt
+abbrev join_all : Option (List ColumnName) → Option Search → Spelt
 join_all xs c = join_on t_id u_k xs c
 
 created : last_answers by_four [] (create_t ∷ []) ≡ Done ∷ []
@@ -243,11 +243,11 @@ pairs_total : asked_by by_four (two_tables ++ (join_all None None ∷ [])) ≡ 1
 unfolding makes
 pairs_total = refl
 
-pairs_in_order : last_answers by_four two_tables (join_all (Some (ListedColumn (col (codes "w")) ∷ ListedColumn (col id) ∷ [])) None ∷ []) ≡ Rows (ints (7 ∷ 1 ∷ []) ∷ ints (8 ∷ 1 ∷ []) ∷ []) ∷ []
+pairs_in_order : last_answers by_four two_tables (join_all (Some (col (codes "w") ∷ col id ∷ [])) None ∷ []) ≡ Rows (ints (7 ∷ 1 ∷ []) ∷ ints (8 ∷ 1 ∷ []) ∷ []) ∷ []
 unfolding makes
 pairs_in_order = refl
 
-pairs_in_order_total : asked_by by_four (two_tables ++ (join_all (Some (ListedColumn (col (codes "w")) ∷ ListedColumn (col id) ∷ [])) None ∷ [])) ≡ 123
+pairs_in_order_total : asked_by by_four (two_tables ++ (join_all (Some (col (codes "w") ∷ col id ∷ [])) None ∷ [])) ≡ 123
 unfolding makes
 pairs_in_order_total = refl
 
@@ -416,14 +416,14 @@ chosen = (refl, refl, refl, refl)
 
 -- refused before any access
 refused_early : last_answers by_four four_rows
-    (select_items (ListedColumn (col v) ∷ ListedColumn (col id) ∷ []) None (Some (col v)) ∷ select_items (ListedColumn (col (codes "x")) ∷ []) None None
-    ∷ Ok (Update t (record { column = id; value = int 9 } ∷ []) None) ∷ Ok (SelectStmt (record { list = None; source = Join t t t_id t_id; cond = None; group = None }))
+    (select_items (ListedColumn (col v) ∷ ListedColumn (col id) ∷ []) None (Some (col v)) ∷ select_columns (col (codes "x") ∷ [])
+    ∷ Ok (Update t (record { column = id; value = int 9 } ∷ []) None) ∷ Ok (RowsStmt (record { list = None; source = Join t t t_id t_id; cond = None }))
     ∷ Ok (Insert t None (TextLiteral (codes "a") ∷ int 1 ∷ [])) ∷ []) ≡
     Refused NoColumn ∷ Refused NoColumn ∷ Refused KeyRule ∷ Refused NameTaken ∷ Refused WrongType ∷ []
 unfolding makes
 refused_early = refl
 
-off_key : last_answers by_four two_tables (Ok (SelectStmt (record { list = None; source = Join u t u_k t_id; cond = None; group = None })) ∷ []) ≡ Refused JoinKey ∷ []
+off_key : last_answers by_four two_tables (Ok (RowsStmt (record { list = None; source = Join u t u_k t_id; cond = None })) ∷ []) ≡ Refused JoinKey ∷ []
 unfolding makes
 off_key = refl
 

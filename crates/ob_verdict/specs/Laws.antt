@@ -1,5 +1,5 @@
 -- What is proved of these definitions.
-use Rattle.std.specs.Prelude.{◌≡◌, ◌↔◌, ℕ, ◌<◌, ◌≤◌, ◌^◌, false, List, [], ◌∷◌, map, length, Some, None, is_some, ⊤, if◌then◌else◌}
+use Rattle.std.specs.Prelude.{◌≡◌, ◌↔◌, ℕ, ◌<◌, ◌≤◌, ◌^◌, Bool, false, List, [], ◌∷◌, map, length, Some, None, is_some, ⊤, if◌then◌else◌}
 use Rattle.ob_base.specs.declared.config.Public.{Public}
 use Rattle.ob_base.specs.declared.config.Plan.{Plan}
 use Rattle.ob_base.specs.declared.config.Plan.TheVariants.{Small, Hash}
@@ -8,22 +8,24 @@ use Rattle.ob_base.specs.declared.refusal.Refusal.TheVariants.{NotConsecutive}
 use Rattle.ob_base.specs.declared.shown.Shown.{Shown}
 use Rattle.ob_base.specs.Limits.{buffered_blocks}
 use Rattle.ob_base.specs.Schemas.{key_place}
-use Rattle.ob_base.specs.Stored.{headings}
+use Rattle.ob_base.specs.Stored.{Stored, NamesTable, headings, headings_of}
 use Rattle.ob_row.specs.Bags.{Same}
 use Rattle.ob_row.specs.Rows.{keys_repeat}
 use Rattle.ob_row.specs.Slots.{Slots, rows}
 use Rattle.ob_row.specs.Totals.{printed}
 use Rattle.ob_row.specs.Truth.{is_true}
-use Rattle.ob_sql.specs.declared.stmt.Select.{Select}
+use Rattle.ob_sql.specs.declared.stmt.SelectRows.{SelectRows}
 use Rattle.ob_sql.specs.declared.stmt.Stmt.{Stmt}
-use Rattle.ob_sql.specs.declared.stmt.Stmt.TheVariants.{Select as SelectStmt}
-use Rattle.ob_sql.specs.Skeleton.{has_totals}
+use Rattle.ob_sql.specs.declared.stmt.Stmt.TheVariants.{SelectRows as RowsStmt}
+use Rattle.ob_sql.specs.Skeleton.{skeleton}
 use Rattle.ob_mean.specs.Refusals.{early_refusal}
-use Rattle.ob_mean.specs.Step.{Database, step_next, select_columns, select_condition, select_answer, selected_rows, printed_places}
+use Rattle.ob_mean.specs.Step.{Database, step_next, select_columns, select_condition, rows_answer, selected_rows, printed_places}
 use Rattle.ob_row.specs.Results.{result_slots}
 use Rattle.ob_mean.specs.Verdict.{Tables, database, source_slots, selected_places, plan_for, bucket_size, first_unplaced, fallback, refusal, seen, ended, is_late}
 use Rattle.ob_mean.specs.Settle.{settle}
-use Rattle.ob_mean.specs.Lawful.{Lawful, public_headings, is_counted}
+use Rattle.ob_mean.specs.Lawful.{Lawful, is_counted}
+use Rattle.ob_mean.specs.Replay.{cut_at}
+use Rattle.ob_script.specs.Script.{whole_script}
 
 -- ---- the tables in place and the tables as bags
 -- the same tables in the same order, each with the same bag of rows
@@ -32,10 +34,19 @@ SameTables [] bs = bs ≡ []
 SameTables (a ∷ xs) [] = ⊥
 SameTables (a ∷ xs) (b ∷ ys) = (a.heading ≡ b.heading) × Same a.held b.held × SameTables xs ys
 
--- each table has as many slots as its capacity
+-- a table has as many slots as its capacity, its rows have distinct primary keys, and its columns name it
+pub record IsInPlace (t : Stored Slots) : Type 0 where
+  pub slots : length t.held ≡ t.heading.capacity
+  pub keys : keys_repeat (key_place t.heading.schema) (rows t.held) ≡ false
+  pub named : NamesTable t.heading
+
 abbrev pub AreInPlace : Tables → Type 0
 AreInPlace [] = ⊤
-AreInPlace (t ∷ ts) = (length t.held ≡ t.heading.capacity) × AreInPlace ts
+AreInPlace (t ∷ ts) = IsInPlace t × AreInPlace ts
+
+-- a statement leaves them so
+abbrev pub KeepsInPlace : Public → ℕ → Tables → Stmt → Type 0
+KeepsInPlace p m ts stmt = AreInPlace ts → AreInPlace (settle p m ts stmt)
 
 abbrev pub SettlesAsStep : Public → ℕ → Tables → Stmt → Type 0
 SettlesAsStep p m ts stmt = m < 2 ^ 63 → AreInPlace ts → SameTables (database (settle p m ts stmt)) (step_next p (database ts) stmt)
@@ -63,7 +74,12 @@ abbrev pub ShowsNotConsecutive : Type 0
 ShowsNotConsecutive = (p : Public) (m : ℕ) (ts : Tables) (stmt : Stmt) → IsStarted p m ts stmt → ((seen p m ts stmt).end ≡ AfterCount) ↔ (refusal p m ts stmt ≡ Some NotConsecutive)
 
 abbrev pub SeenIsLawful : Type 0
-SeenIsLawful = (p : Public) (m : ℕ) (ts : Tables) (stmt : Stmt) → 1 ≤ p.pack → headings ts ≡ public_headings p → AreInPlace ts → Lawful p m stmt (seen p m ts stmt)
+SeenIsLawful = (p : Public) (m : ℕ) (ts : Tables) (stmt : Stmt) → 1 ≤ p.pack → headings ts ≡ headings_of p.tables → AreInPlace ts → Lawful p m stmt (seen p m ts stmt)
+
+-- the same where it was cut off after so many of its accesses, of which the last failed or didn't
+abbrev pub CutIsLawful : Type 0
+CutIsLawful = (p : Public) (m : ℕ) (ts : Tables) (stmt : Stmt) (failed : Bool) (n : ℕ) → 1 ≤ p.pack → headings ts ≡ headings_of p.tables → AreInPlace ts → IsStarted p m ts stmt →
+    n ≤ length (whole_script p (skeleton stmt) (seen p m ts stmt)) → Lawful p m stmt (cut_at failed n p (skeleton stmt) (seen p m ts stmt))
 
 -- ---- what a SELECT of rows prints from its result
 -- the plan by which the rows are printed: the one after the first, where there is one
@@ -72,21 +88,17 @@ last_plan p Hash places = if is_some (fallback p.plan (first_unplaced p places))
 last_plan p plan places = plan
 
 -- the result of a SELECT of rows of which at least one is selected
-abbrev pub result_of : Public → Tables → Select → Slots
+abbrev pub result_of : Public → Tables → SelectRows → Slots
 result_of p ts q =
     let places = selected_places p q ts in
     let slots = source_slots p q.source ts in
     result_slots (last_plan p (plan_for p (length slots) places) places) (length places) (bucket_size p) (is_true (select_condition q (headings ts))) slots
 
 -- its rows as they are printed, in order of their places
-abbrev pub printed_rows : Public → Tables → Select → List (List Shown)
+abbrev pub printed_rows : Public → Tables → SelectRows → List (List Shown)
 printed_rows p ts q = map (printed (printed_places q (select_columns q (headings ts)))) (rows (result_of p ts q))
 
-abbrev pub KeysAreDistinct : Tables → Type 0
-KeysAreDistinct [] = ⊤
-KeysAreDistinct (t ∷ ts) = (keys_repeat (key_place t.heading.schema) (rows t.held) ≡ false) × KeysAreDistinct ts
-
 abbrev pub PrintsAnswer : Type 0
-PrintsAnswer = (p : Public) (m : ℕ) (ts : Tables) (q : Select) → 1 ≤ p.pack → 1 ≤ buffered_blocks p.pack p.buffer → KeysAreDistinct ts →
-    refusal p m ts (SelectStmt q) ≡ None → has_totals q ≡ false → 0 < length (selected_places p q ts) →
-    Same (select_answer q (select_columns q (headings (database ts))) (selected_rows q (database ts)) false) (printed_rows p ts q)
+PrintsAnswer = (p : Public) (m : ℕ) (ts : Tables) (q : SelectRows) → 1 ≤ p.pack → 1 ≤ buffered_blocks p.pack p.buffer → AreInPlace ts →
+    refusal p m ts (RowsStmt q) ≡ None → 0 < length (selected_places p q ts) →
+    Same (rows_answer q (select_columns q (headings (database ts))) (selected_rows q (database ts))) (printed_rows p ts q)

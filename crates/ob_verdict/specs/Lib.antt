@@ -1,1 +1,3 @@
 pub mod Laws
+pub mod Accepted
+pub mod Moving

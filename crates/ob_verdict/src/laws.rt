@@ -8,7 +8,10 @@ ghost use Rattle.ob_row.specs.Slots.{Slots, rows, selected, small_slots, is_cons
 ghost use Rattle.ob_sql.specs.declared.stmt.Stmt.{Stmt};
 ghost use Rattle.ob_row.specs.Results.{large_slots, continuous_slots, hash_slots, unplaced, joined};
 ghost use Rattle.ob_mean.specs.Verdict.{Tables};
-ghost use Rattle.ob_verdict.specs.Laws.{SettlesAsStep, ShowsKindAlone, PlanIsWhole, ForcedShowsAlike, ShowsNotConsecutive, SeenIsLawful, PrintsAnswer};
+ghost use Rattle.ob_base.specs.declared.schema.Table.{Table};
+ghost use Rattle.ob_verdict.specs.Accepted.{PlacesFit, TotalsPlacesFit, JoinsFit, SetsFit, ConditionsFit, BucketsFit};
+ghost use Rattle.ob_verdict.specs.Moving.{Moves, CreatesNew, DropsOne};
+ghost use Rattle.ob_verdict.specs.Laws.{SettlesAsStep, KeepsInPlace, ShowsKindAlone, PlanIsWhole, ForcedShowsAlike, ShowsNotConsecutive, SeenIsLawful, CutIsLawful, PrintsAnswer};
 
 /// Being the same bag is an equivalence, and is kept where lists are joined, mapped and filtered.
 pub fn bags_are_kept<A, B>()
@@ -17,12 +20,19 @@ pub fn bags_are_kept<A, B>()
     ensures chained { (xs ys zs : List A) → Same xs ys → Same ys zs → Same xs zs }
     ensures joined { (xs ys us vs : List A) → Same xs ys → Same us vs → Same (xs ++ us) (ys ++ vs) }
     ensures mapped { (f : A → B) (xs ys : List A) → Same xs ys → Same (map f xs) (map f ys) }
-    ensures filtered { (p : A → Bool) (xs ys : List A) → Same xs ys → Same (filter p xs) (filter p ys) }
+    ensures filtered { (p : A → Bool) (xs ys : List A) → Same xs ys →
+        Same (filter p xs) (filter p ys) }
 {}
 
 /// The tables in place and the tables as bags go on alike.
 pub fn settles_as_step()
     ensures { (p : Public) (m : ℕ) (ts : Tables) (stmt : Stmt) → SettlesAsStep p m ts stmt }
+{}
+
+/// A statement leaves the tables in place, with as many slots as their capacities, distinct primary keys, and
+/// columns that name their tables.
+pub fn keeps_in_place()
+    ensures { (p : Public) (m : ℕ) (ts : Tables) (stmt : Stmt) → KeepsInPlace p m ts stmt }
 {}
 
 /// What is seen of a statement tells no more than its kind, the number of its rows and its plan.
@@ -32,25 +42,50 @@ pub fn seen_laws()
     ensures forced_alike { ForcedShowsAlike }
     ensures one_refusal_shows { ShowsNotConsecutive }
     ensures lawful { SeenIsLawful }
+    ensures cut_is_lawful { CutIsLawful }
 {}
 
 /// Each plan's result has the selected rows, each as often.
 pub fn results_have_selected()
-    ensures small { (test : Row → Bool) (slots : Slots) → rows (small_slots test slots) ≡ filter test (rows slots) }
-    ensures large { (test : Row → Bool) (slots : Slots) → rows (large_slots test slots) ≡ filter test (rows slots) }
-    ensures continuous { (k : ℕ) (test : Row → Bool) (slots : Slots) → 0 < k → length (selected test slots) ≤ k →
-        is_consecutive (selected test slots) ≡ true → Same (filter test (rows slots)) (rows (continuous_slots k test slots)) }
-    ensures hash { (k n : ℕ) (test : Row → Bool) (slots : Slots) → 0 < k → unplaced k n (selected test slots) ≡ None →
+    ensures small { (test : Row → Bool) (slots : Slots) →
+        rows (small_slots test slots) ≡ filter test (rows slots) }
+    ensures large { (test : Row → Bool) (slots : Slots) →
+        rows (large_slots test slots) ≡ filter test (rows slots) }
+    ensures continuous { (k : ℕ) (test : Row → Bool) (slots : Slots) → 0 < k →
+        length (selected test slots) ≤ k →
+        is_consecutive (selected test slots) ≡ true →
+        Same (filter test (rows slots)) (rows (continuous_slots k test slots)) }
+    ensures hash { (k n : ℕ) (test : Row → Bool) (slots : Slots) → 0 < k →
+        unplaced k n (selected test slots) ≡ None →
         Same (filter test (rows slots)) (rows (hash_slots k n test slots)) }
 {}
 
 /// The joined slots have the pairs, where the left keys are distinct.
 pub fn joined_pairs()
-    ensures { (i j pack room : ℕ) (left right : Slots) → AreDistinct i (rows left) → 1 ≤ pack → 1 ≤ buffered_blocks pack room →
+    ensures { (i j pack room : ℕ) (left right : Slots) → AreDistinct i (rows left) → 1 ≤ pack →
+        1 ≤ buffered_blocks pack room →
         Same (pairs i j (rows left) (rows right)) (rows (joined i j pack room left right)) }
 {}
 
 /// What a SELECT of rows prints from its result is its answer, by each plan and over a join.
 pub fn prints_answer()
     ensures { PrintsAnswer }
+{}
+
+/// A statement that is not refused before its first access names columns that there are, by their places;
+/// its cells fit their columns, and what it makes is within its sizes.
+pub fn accepted_laws()
+    ensures rows { PlacesFit }
+    ensures totals { TotalsPlacesFit }
+    ensures joins { JoinsFit }
+    ensures sets { SetsFit }
+    ensures conditions { ConditionsFit }
+    ensures buckets { BucketsFit }
+{}
+
+/// Where no two tables have one name, a statement changes what stands at its table's name, and no other.
+pub fn moving_laws()
+    ensures moves { (name : List ℕ) (region : ℕ) (ts : List Table) → Moves name region ts }
+    ensures creates { CreatesNew }
+    ensures drops { DropsOne }
 {}

@@ -4,5 +4,6 @@
 mod laws;
 
 pub use laws::{
-    bags_are_kept, joined_pairs, prints_answer, results_have_selected, seen_laws, settles_as_step,
+    accepted_laws, bags_are_kept, joined_pairs, keeps_in_place, moving_laws, prints_answer,
+    results_have_selected, seen_laws, settles_as_step,
 };

@@ -1,7 +1,7 @@
 use Rattle.std.proofs.Common.{sym, ◌∙◌, ap, nat_lt}
 use Rattle.std.specs.Prelude.{sum_by}
 use Rattle.ob_base.specs.declared.skeleton.NewColumn.{NewColumn}
-use Rattle.ob_mean.specs.Headings.{headings_of}
+use Rattle.ob_base.specs.Stored.{headings_of}
 use Rattle.ob_mean.specs.Refusals.{breaks_key_rule}
 use Rattle.ob_mean.proofs.early.breaks_key_rule.Goals as goal
 

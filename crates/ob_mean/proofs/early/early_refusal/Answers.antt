@@ -1,6 +1,6 @@
 use Rattle.std.proofs.Common.{[], ◌∷◌, ◌∙◌, ap}
 use Rattle.ob_base.specs.declared.refusal.Refusal.TheVariants.{NoTable, NameTaken, NoColumn, WrongType, ValueRange, Limit, KeyRule, JoinKey}
-use Rattle.ob_mean.specs.Headings.{headings_of}
+use Rattle.ob_base.specs.Stored.{headings_of}
 use Rattle.ob_mean.specs.Refusals.{first_holding, lacks_table, takes_name, lacks_column, has_wrong_type, is_out_of_range, breaks_key_rule, joins_off_key}
 use Rattle.ob_mean.specs.Scopes.{lacks_in, mistypes_in, overflows_in}
 use Rattle.ob_mean.proofs.RefusalLemmas.{lacks_is, mistypes_is, overflows_is}

@@ -1,6 +1,6 @@
 use Rattle.std.proofs.Common.{◌≡◌, drop}
 use Rattle.ob_base.specs.Stored.{heading_at}
-use Rattle.ob_mean.specs.Headings.{headings_of}
+use Rattle.ob_base.specs.Stored.{headings_of}
 use Rattle.ob_mean.proofs.names.heading_at.Given as goal
 
 abbrev pub invariant-loop-table : goal.invariant-loop-table

@@ -1,6 +1,6 @@
 use Rattle.std.proofs.Common.{◌++◌, length, sym, ◌∙◌, ap}
 use Rattle.std.specs.Prelude.{not}
-use Rattle.ob_mean.specs.Headings.{headings_of}
+use Rattle.ob_base.specs.Stored.{headings_of}
 use Rattle.ob_mean.specs.Refusals.{is_key, left_place, joins_off_key_at}
 use Rattle.ob_mean.proofs.sources.joins_off_key.Goals as goal
 

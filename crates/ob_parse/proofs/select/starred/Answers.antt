@@ -8,14 +8,14 @@ use Rattle.ob_token.specs.declared.token.Token.{Token}
 use Rattle.ob_condition.specs.Marks.{key, name_of}
 use Rattle.ob_condition.specs.Reading.{Read, where_part}
 use Rattle.ob_condition.proofs.Faults.{through}
-use Rattle.ob_parse.specs.Statements.{select}
+use Rattle.ob_parse.specs.Statements.{rows}
 use Rattle.ob_parse.specs.StatementReading.{behind, starred}
 use Rattle.ob_parse.proofs.Steps.{handed_on, step_done, step_stuck}
 use Rattle.ob_parse.proofs.select.starred.Goals as goal
 
 -- behind the source, behind the table and behind FROM
 abbrev found : Source → Option Search → List Token → Read Stmt
-found source cond = R.empty (select None source cond None)
+found source cond = R.empty (rows None source cond)
 
 abbrev filtered : List ℕ → Source → List Token → Read Stmt
 filtered text source = R.bind (where_part text) (found source)

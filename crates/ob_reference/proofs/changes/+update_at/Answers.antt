@@ -8,19 +8,19 @@ use Rattle.ob_reference.proofs.changes.+update_at.Goals as goal
 pub returns-then-eq-clause-count : goal.returns-then-eq-clause-count
 returns-then-eq-clause-count t c =
     counted_here c.args.table.now c.args.cond.now c.in-Some.held.now c.in-Some.tables.now c.in-Some.ensures.cases.0
-    (same_name c.if-eq.ensures c.as_bytes.ensures c.heading.ensures c.as_bytes-in-Some.ensures) c.update_held.ensures.count
+    (same_name c.if-eq.ensures c.as_bytes.ensures.value c.heading.ensures c.as_bytes-in-Some.ensures.value) c.update_held.ensures.count
 
 pub returns-then-eq-clause-next : goal.returns-then-eq-clause-next
 returns-then-eq-clause-next t c =
     put_here c.args.table.now (λ cs. map (updated (where_at c.args.cond.now cs) (set_cells c.args.sets.now cs))) c.in-Some.held.now c.in-Some.tables.now c.in-Some.ensures.cases.0
-    (same_name c.if-eq.ensures c.as_bytes.ensures c.heading.ensures c.as_bytes-in-Some.ensures) c.update_held.ensures.next
+    (same_name c.if-eq.ensures c.as_bytes.ensures.value c.heading.ensures c.as_bytes-in-Some.ensures.value) c.update_held.ensures.next
 
 pub returns-else-eq-clause-count : goal.returns-else-eq-clause-count
 returns-else-eq-clause-count t c =
     counted_behind c.args.table.now c.args.cond.now c.in-Some.held.now c.in-Some.tables.now c.in-Some.ensures.cases.0
-    (same_name c.if-eq.ensures c.as_bytes.ensures c.heading.ensures c.as_bytes-in-Some.ensures) c.update_at.ensures.count
+    (same_name c.if-eq.ensures c.as_bytes.ensures.value c.heading.ensures c.as_bytes-in-Some.ensures.value) c.update_at.ensures.count
 
 pub returns-else-eq-clause-next : goal.returns-else-eq-clause-next
 returns-else-eq-clause-next t c =
     put_behind c.args.table.now (λ cs. map (updated (where_at c.args.cond.now cs) (set_cells c.args.sets.now cs))) c.in-Some.held.now c.in-Some.tables.now c.in-Some.ensures.cases.0
-    (same_name c.if-eq.ensures c.as_bytes.ensures c.heading.ensures c.as_bytes-in-Some.ensures) c.update_at.ensures.next
+    (same_name c.if-eq.ensures c.as_bytes.ensures.value c.heading.ensures c.as_bytes-in-Some.ensures.value) c.update_at.ensures.next

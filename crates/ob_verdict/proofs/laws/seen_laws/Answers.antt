@@ -1,5 +1,5 @@
 use Rattle.ob_verdict.proofs.SeenProof.{shows_kind_alone, plan_is_whole, forced_shows_alike, shows_not_consecutive}
-use Rattle.ob_verdict.proofs.LawfulProof.{seen_is_lawful}
+use Rattle.ob_verdict.proofs.LawfulProof.{seen_is_lawful, cut_is_lawful}
 use Rattle.ob_verdict.proofs.laws.seen_laws.Goals as goal
 
 pub returns : goal.returns
@@ -9,4 +9,5 @@ returns c = record {
   forced_alike = forced_shows_alike;
   one_refusal_shows = shows_not_consecutive;
   lawful = seen_is_lawful;
+  cut_is_lawful = cut_is_lawful;
 }

@@ -19,7 +19,7 @@ use Rattle.ob_row.specs.Condition.{Condition}
 use Rattle.ob_row.specs.Slots.{selected}
 use Rattle.ob_row.specs.Truth.{is_true}
 use Rattle.ob_sql.specs.Skeleton.{skeleton}
-use Rattle.ob_mean.specs.Headings.{headings_of}
+use Rattle.ob_base.specs.Stored.{headings_of}
 use Rattle.ob_mean.specs.Verdict.{Tables, is_late}
 use Rattle.ob_mean.proofs.EarlyLemmas.{allowed}
 use Rattle.ob_exec.specs.declared.outcome.Outcome.{Outcome}

@@ -17,7 +17,7 @@ use Rattle.ob_row.specs.Spelling.{Fits, IsCell}
 use Rattle.ob_mutate.specs.Inserting.{insert_answer, slots_after}
 use Rattle.ob_sql.specs.declared.stmt.Stmt.TheVariants.{Insert}
 use Rattle.ob_sql.specs.Skeleton.{skeleton}
-use Rattle.ob_mean.specs.Headings.{headings_of}
+use Rattle.ob_base.specs.Stored.{headings_of}
 use Rattle.ob_mean.specs.Step.{new_row}
 use Rattle.ob_mean.specs.Verdict.{is_late, ended as seen_to}
 use Rattle.ob_mean.proofs.EarlyLemmas.{allowed}

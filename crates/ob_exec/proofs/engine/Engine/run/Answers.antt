@@ -3,11 +3,11 @@ use Rattle.std.specs.Prelude.{None, OnErr, IfOk, IsTrue}
 use Rattle.ob_base.specs.Events.{Event}
 use Rattle.ob_sql.specs.declared.stmt.Literal.{Literal}
 use Rattle.ob_sql.specs.declared.stmt.Stmt.{Stmt}
-use Rattle.ob_sql.specs.declared.stmt.Stmt.TheVariants.{Create, Insert, Select as SelectStmt}
+use Rattle.ob_sql.specs.declared.stmt.Stmt.TheVariants.{Create, Insert, SelectTotals as TotalsStmt}
 use Rattle.ob_mean.specs.Verdict.{Tables}
 use Rattle.ob_exec.specs.declared.outcome.Outcome.{Outcome}
 use Rattle.ob_exec.specs.Running.{Emits, Ran, RefusedEarly, refusal_now}
-use Rattle.ob_exec.specs.Serving.{IsServed, IsOneTable, count_of}
+use Rattle.ob_exec.specs.Serving.{IsServed, count_of}
 use Rattle.ob_exec.specs.Agreeing.{world_of}
 use Rattle.ob_exec.specs.Telling.{Represents, Emitted, Told}
 use Rattle.ob_vault.specs.Tied.{Calm, IsUnfit}
@@ -20,11 +20,9 @@ use Rattle.ob_base.specs.declared.seen.Seen.{Seen}
 use Rattle.ob_base.specs.declared.skeleton.NewColumn.{NewColumn}
 use Rattle.ob_base.specs.declared.skeleton.Skeleton.{Skeleton}
 use Rattle.ob_base.specs.declared.skeleton.Skeleton.TheVariants.{Create as CreateSkeleton}
-use Rattle.ob_base.specs.declared.skeleton.Source.{Source}
-use Rattle.ob_base.specs.declared.skeleton.Source.TheVariants.{Table as OneTable}
 use Rattle.ob_mean.specs.Lawful.{Lawful}
 use Rattle.ob_mean.specs.Verdict.{ended}
-use Rattle.ob_sql.specs.declared.stmt.Select.{Select}
+use Rattle.ob_sql.specs.declared.stmt.SelectTotals.{SelectTotals}
 use Rattle.ob_sql.specs.Skeleton.{skeleton}
 use Rattle.ob_exec.specs.declared.outcome.Outcome.TheVariants.{Refused}
 use Rattle.ob_exec.specs.declared.engine.Engine.{Engine}
@@ -33,9 +31,9 @@ use Rattle.ob_exec.proofs.SealLemmas.{keeps_none}
 use Rattle.ob_exec.proofs.engine.Engine.run.Goals as goal
 
 -- a SELECT that is served is a count
-count_stmt : (stmt : Stmt) (q : Select) (table : List ℕ) → stmt ≡ SelectStmt q → q.source ≡ OneTable table → IsServed stmt → stmt ≡ count_of table
-count_stmt stmt q table is source served =
-    let count = subst (λ (x : Stmt). IsServed x) is served in is ∙ (λ i. SelectStmt (record { list = count.list i; source = source i; cond = count.everything i; group = count.ungrouped i }))
+count_stmt : (stmt : Stmt) (q : SelectTotals) → stmt ≡ TotalsStmt q → IsServed stmt → stmt ≡ count_of q.table
+count_stmt stmt q is served =
+    let count = subst (λ (x : Stmt). IsServed x) is served in is ∙ (λ i. TotalsStmt (record { items = count.items i; table = q.table; cond = count.everything i; group = count.ungrouped i }))
 
 pub returns-in-Some-clause-ran : goal.returns-in-Some-clause-ran
 returns-in-Some-clause-ran g c =
@@ -123,28 +121,28 @@ returns-in-Insert-clause-stopped g c =
       λ tells tables held calm unfit. subst (λ (stmt : Stmt). Emitted stmt p (length s.asked) tables c.insert.result []) (sym c.in-Insert.is) (insert_emitted c.in-Insert.table c.in-Insert.columns c.in-Insert.values p (length s.asked) tables c.insert.result),
     )
 
-pub returns-in-Table-clause-early : goal.returns-in-Table-clause-early
-returns-in-Table-clause-early g c =
+pub returns-in-SelectTotals-clause-early : goal.returns-in-SelectTotals-clause-early
+returns-in-SelectTotals-clause-early g c =
     let p = c.args.self.now.public in
     let stmt = c.args.stmt.now in
     refused_none _ _ _ ((λ i. refusal_now p (sym c.count.ensures i) stmt) ∙ sym c.early_refusal.ensures ∙ c.in_default.is) c.count_all.ensures.started
 
-pub returns-in-Table-clause-emits : goal.returns-in-Table-clause-emits
-returns-in-Table-clause-emits g c =
+pub returns-in-SelectTotals-clause-emits : goal.returns-in-SelectTotals-clause-emits
+returns-in-SelectTotals-clause-emits g c =
     let state = g.R.Revisions.state in
     let old = c.args.self.now in
     let s = g.S.BlockStore.state c.args.store.now in
-    let is = count_stmt c.args.stmt.now c.in-Select.select c.in-Table.table c.in-Select.is c.in-Table.is c.requires.served in
+    let is = count_stmt c.args.stmt.now c.in-SelectTotals.select c.in-SelectTotals.is c.requires.served in
     subst (λ (stmt : Stmt). IfOk c.count_all.result (λ outcome. (events : List Event) × g.E.Emit.grew c.args.out.now c.count_all.new.out events × Emits outcome events
     × (IsTrue s.tells → (tables : Tables) → Represents state old s tables → (g.S.BlockStore.state c.count_all.new.store).lie ≡ None → Emitted stmt old.public (length s.asked) tables c.count_all.result events)))
     (sym is) c.count_all.ensures.emits
 
-pub returns-in-Table-clause-stopped : goal.returns-in-Table-clause-stopped
-returns-in-Table-clause-stopped g c =
+pub returns-in-SelectTotals-clause-stopped : goal.returns-in-SelectTotals-clause-stopped
+returns-in-SelectTotals-clause-stopped g c =
     let state = g.R.Revisions.state in
     let old = c.args.self.now in
     let s = g.S.BlockStore.state c.args.store.now in
-    let is = count_stmt c.args.stmt.now c.in-Select.select c.in-Table.table c.in-Select.is c.in-Table.is c.requires.served in
+    let is = count_stmt c.args.stmt.now c.in-SelectTotals.select c.in-SelectTotals.is c.requires.served in
     subst (λ (stmt : Stmt). OnErr c.count_all.result ((events : List Event) × (g.E.Emit.grew c.args.out.now c.count_all.new.out events ⊎ g.E.Emit.cut c.args.out.now c.count_all.new.out events)
     × (IsTrue s.tells → (tables : Tables) → Represents state old s tables → Calm (world_of state old s) → IsUnfit (world_of state c.count_all.new.self (g.S.BlockStore.state c.count_all.new.store)) → Emitted stmt old.public (length s.asked) tables c.count_all.result events)))
     (sym is) c.count_all.ensures.stopped
@@ -165,11 +163,11 @@ returns-in-Insert-clause-lawful g c =
     lawful_now p (length (g.S.BlockStore.state c.args.store.now).asked) stmt c.insert.result _ _ _ c.requires.served c.insert.ensures.plain
     (refused_none _ _ _ ((λ i. refusal_now p (sym c.count.ensures i) stmt) ∙ sym c.early_refusal.ensures ∙ c.in_default.is) c.insert.ensures.started) ran.asked ran.ends
 
-pub returns-in-Table-clause-lawful : goal.returns-in-Table-clause-lawful
-returns-in-Table-clause-lawful g c =
+pub returns-in-SelectTotals-clause-lawful : goal.returns-in-SelectTotals-clause-lawful
+returns-in-SelectTotals-clause-lawful g c =
     let p = c.args.self.now.public in
     let stmt = c.args.stmt.now in
-    let ran = subst (λ (x : Skeleton). Ran g.R.Revisions.state x c.count_all.result c.args.self.now (g.S.BlockStore.state c.args.store.now) c.count_all.new.self (g.S.BlockStore.state c.count_all.new.store)) (sym (ap skeleton (count_stmt c.args.stmt.now c.in-Select.select c.in-Table.table c.in-Select.is c.in-Table.is c.requires.served))) c.count_all.ensures.ran in
+    let ran = subst (λ (x : Skeleton). Ran g.R.Revisions.state x c.count_all.result c.args.self.now (g.S.BlockStore.state c.args.store.now) c.count_all.new.self (g.S.BlockStore.state c.count_all.new.store)) (sym (ap skeleton (count_stmt c.args.stmt.now c.in-SelectTotals.select c.in-SelectTotals.is c.requires.served))) c.count_all.ensures.ran in
     lawful_now p (length (g.S.BlockStore.state c.args.store.now).asked) stmt c.count_all.result _ _ _ c.requires.served c.count_all.ensures.plain
     (refused_none _ _ _ ((λ i. refusal_now p (sym c.count.ensures i) stmt) ∙ sym c.early_refusal.ensures ∙ c.in_default.is) c.count_all.ensures.started) ran.asked ran.ends
 
@@ -240,13 +238,8 @@ pub count_all-requires-clause-allowed : goal.count_all-requires-clause-allowed
 count_all-requires-clause-allowed g c =
     let p = c.args.self.now.public in
     subst (λ (stmt : Stmt). refusal_now p (length (g.S.BlockStore.state c.args.store.now).asked) stmt ≡ None)
-    (count_stmt c.args.stmt.now c.in-Select.select c.in-Table.table c.in-Select.is c.in-Table.is c.requires.served)
+    (count_stmt c.args.stmt.now c.in-SelectTotals.select c.in-SelectTotals.is c.requires.served)
     (now_is p _ c.count.result c.args.stmt.now c.early_refusal.result _ c.count.ensures c.early_refusal.ensures c.in_default.is)
-
-pub unreachable-requires : goal.unreachable-requires
-unreachable-requires g c =
-    let count = subst (λ (x : Stmt). IsServed x) c.in-Select.is c.requires.served in
-    subst (λ (x : Source). IsOneTable x) c.in-Join.is count.source
 
 pub returns-in-Create-clause-ran : goal.returns-in-Create-clause-ran
 returns-in-Create-clause-ran g c =
@@ -282,19 +275,19 @@ returns-in-Insert-clause-told g c tells tables held honest =
     subst (λ (stmt : Stmt). Told g.R.Revisions.state stmt (length s.asked) tables c.insert.result c.args.self.now c.insert.new.self (g.S.BlockStore.state c.insert.new.store))
     (ap (λ (vs : List Literal). Insert c.in-Insert.table c.in-Insert.columns vs) c.as_slice-in-Insert.ensures ∙ sym c.in-Insert.is) (c.insert.ensures.told tells tables held honest)
 
-pub returns-in-Table-clause-ran : goal.returns-in-Table-clause-ran
-returns-in-Table-clause-ran g c =
+pub returns-in-SelectTotals-clause-ran : goal.returns-in-SelectTotals-clause-ran
+returns-in-SelectTotals-clause-ran g c =
     subst (λ (x : Skeleton). Ran g.R.Revisions.state x c.count_all.result c.args.self.now (g.S.BlockStore.state c.args.store.now) c.count_all.new.self (g.S.BlockStore.state c.count_all.new.store))
-    (sym (ap skeleton (count_stmt c.args.stmt.now c.in-Select.select c.in-Table.table c.in-Select.is c.in-Table.is c.requires.served))) c.count_all.ensures.ran
+    (sym (ap skeleton (count_stmt c.args.stmt.now c.in-SelectTotals.select c.in-SelectTotals.is c.requires.served))) c.count_all.ensures.ran
 
-pub returns-in-Table-clause-seals : goal.returns-in-Table-clause-seals
-returns-in-Table-clause-seals g c = c.count_all.ensures.seals
+pub returns-in-SelectTotals-clause-seals : goal.returns-in-SelectTotals-clause-seals
+returns-in-SelectTotals-clause-seals g c = c.count_all.ensures.seals
 
-pub returns-in-Table-clause-sink : goal.returns-in-Table-clause-sink
-returns-in-Table-clause-sink g c = c.count_all.ensures.sink
+pub returns-in-SelectTotals-clause-sink : goal.returns-in-SelectTotals-clause-sink
+returns-in-SelectTotals-clause-sink g c = c.count_all.ensures.sink
 
-pub returns-in-Table-clause-told : goal.returns-in-Table-clause-told
-returns-in-Table-clause-told g c tells tables held honest =
+pub returns-in-SelectTotals-clause-told : goal.returns-in-SelectTotals-clause-told
+returns-in-SelectTotals-clause-told g c tells tables held honest =
     let s = g.S.BlockStore.state c.args.store.now in
     subst (λ (stmt : Stmt). Told g.R.Revisions.state stmt (length s.asked) tables c.count_all.result c.args.self.now c.count_all.new.self (g.S.BlockStore.state c.count_all.new.store))
-    (sym (count_stmt c.args.stmt.now c.in-Select.select c.in-Table.table c.in-Select.is c.in-Table.is c.requires.served)) (c.count_all.ensures.told tells tables held honest)
+    (sym (count_stmt c.args.stmt.now c.in-SelectTotals.select c.in-SelectTotals.is c.requires.served)) (c.count_all.ensures.told tells tables held honest)

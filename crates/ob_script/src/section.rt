@@ -1,13 +1,13 @@
 //! The parts of which every script is joined.
 ghost use Rattle.std.specs.Prelude.{◌≡◌, ◌≤◌, ◌<◌, ◌^◌, true, Some, length, slice_get};
-ghost use Rattle.ob_script.specs.Pieces.{accesses_of, is_even, IsSized};
+ghost use Rattle.ob_script.specs.Sections.{accesses_of, is_even, IsSized};
 
 use crate::place::{bucket_nth, copied, pair_nth, pass_nth, turn_nth};
 use ob_base::Access;
 
 /// A part of a script; `blocks` are those of the region that is read.
 #[derive(Clone, Copy, Debug, PartialEq, Eq)]
-pub(crate) enum Piece {
+pub(crate) enum Section {
     /// A region is made, of blocks of this width and a tag.
     Make {
         region: u64,
@@ -70,7 +70,7 @@ pub(crate) enum Piece {
     },
 }
 
-impl Piece {
+impl Section {
     /// The number of its accesses.
     #[tactic(auto, using(crate::proofs::Sizes::size_is))]
     pub(crate) fn len(&self) -> u64
@@ -79,27 +79,27 @@ impl Piece {
         ensures few { result < 2 ^ 49 }
     {
         match *self {
-            Piece::Make { .. } => 1,
-            Piece::Reads { blocks, .. } => u64::from(blocks),
-            Piece::Writes { blocks, .. } => u64::from(blocks),
-            Piece::Copies { blocks, .. } => 2 * u64::from(blocks),
-            Piece::Discard { .. } => 1,
-            Piece::Passes {
+            Section::Make { .. } => 1,
+            Section::Reads { blocks, .. } => u64::from(blocks),
+            Section::Writes { blocks, .. } => u64::from(blocks),
+            Section::Copies { blocks, .. } => 2 * u64::from(blocks),
+            Section::Discard { .. } => 1,
+            Section::Passes {
                 blocks,
                 results,
                 buffered,
                 ..
             } => { u64::from(results.div_ceil(buffered)) * u64::from(blocks) + u64::from(results) }
-            Piece::Turns { pack, slots, .. } => {
+            Section::Turns { pack, slots, .. } => {
                 u64::from(slots.div_ceil(pack)) + 2 * u64::from(slots)
             }
-            Piece::Buckets {
+            Section::Buckets {
                 pack,
                 slots,
                 depth,
                 ..
             } => { u64::from(slots.div_ceil(pack)) + 4 * u64::from(depth) * u64::from(slots) }
-            Piece::Pairs {
+            Section::Pairs {
                 lefts,
                 rights,
                 buffered,
@@ -117,21 +117,21 @@ impl Piece {
         ensures { slice_get (accesses_of self.now) i ≡ Some result }
     {
         match *self {
-            Piece::Passes {
+            Section::Passes {
                 from,
                 to,
                 blocks,
                 results,
                 buffered,
             } => pass_nth(from, to, blocks, results, buffered, i),
-            Piece::Turns {
+            Section::Turns {
                 from,
                 to,
                 pack,
                 slots,
                 rows,
             } => turn_nth(from, to, pack, slots, rows, i),
-            Piece::Buckets {
+            Section::Buckets {
                 from,
                 to,
                 pack,
@@ -139,7 +139,7 @@ impl Piece {
                 rows,
                 depth,
             } => bucket_nth(from, to, pack, slots, rows, depth, i),
-            Piece::Pairs {
+            Section::Pairs {
                 left,
                 right,
                 to,
@@ -151,7 +151,7 @@ impl Piece {
         }
     }
 
-    // The same of a piece whose blocks are all asked alike.
+    // The same of a section whose blocks are all asked alike.
     #[tactic(auto, using(crate::proofs::Sizes::size_is, crate::proofs::Places::at_read, crate::proofs::Places::at_write, crate::proofs::Places::at_copy))]
     fn even_nth(&self, i: u64) -> Access
         requires even { is_even self.now ≡ true }
@@ -160,7 +160,7 @@ impl Piece {
         ensures { slice_get (accesses_of self.now) i ≡ Some result }
     {
         match *self {
-            Piece::Make {
+            Section::Make {
                 region,
                 blocks,
                 width,
@@ -169,23 +169,23 @@ impl Piece {
                 blocks,
                 len: width + 32,
             },
-            Piece::Reads { region, .. } => Access::Read {
+            Section::Reads { region, .. } => Access::Read {
                 region,
                 place: i as u32,
             },
-            Piece::Writes { region, .. } => Access::Write {
+            Section::Writes { region, .. } => Access::Write {
                 region,
                 place: i as u32,
             },
-            Piece::Copies { from, to, .. } => copied(i, from, to, (i / 2) as u32),
-            Piece::Discard { region } => Access::Discard { region },
+            Section::Copies { from, to, .. } => copied(i, from, to, (i / 2) as u32),
+            Section::Discard { region } => Access::Discard { region },
             _ => unreachable!(),
         }
     }
 }
 
-impl Default for Piece {
-    fn default() -> Piece {
-        Piece::Discard { region: 0 }
+impl Default for Section {
+    fn default() -> Section {
+        Section::Discard { region: 0 }
     }
 }

@@ -1,47 +1,47 @@
-//! A list of pieces, which is a script.
+//! A list of sections, which is a script.
 ghost use Rattle.std.specs.Prelude.{◌≡◌, ◌≤◌, ◌<◌, ◌+◌, All, [], ◌∷◌, ◌++◌, Some, length, slice_get};
-ghost use Rattle.ob_script.specs.Pieces.{accesses_of, all_accesses, IsSized};
+ghost use Rattle.ob_script.specs.Sections.{accesses_of, all_accesses, IsSized};
 
-use crate::piece::Piece;
+use crate::section::Section;
 use arrayvec::ArrayVec;
 use ob_base::Access;
 use std::marker::Model;
 
-/// At most 16 pieces, whose accesses follow one another.
+/// At most 16 sections, whose accesses follow one another.
 #[derive(Drop)]
-pub(crate) struct Pieces {
-    items: ArrayVec<Piece, 16>,
+pub(crate) struct Sections {
+    items: ArrayVec<Section, 16>,
 }
 
-impl Model for Pieces {
+impl Model for Sections {
     ghost use Rattle.std.specs.Prelude.{List, All, length, ◌≤◌};
-    ghost use Rattle.ob_script.specs.declared.piece.Piece.{Piece};
-    ghost use Rattle.ob_script.specs.Pieces.{AreSized};
+    ghost use Rattle.ob_script.specs.declared.section.Section.{Section};
+    ghost use Rattle.ob_script.specs.Sections.{AreSized};
 
-    ghost Value = { List Piece };
+    ghost Value = { List Section };
 
     ghost view = { λ p. p.items.items };
 
     ghost invariant = { λ p. AreSized p.items.items };
 }
 
-impl Pieces {
-    pub(crate) fn new() -> Pieces
+impl Sections {
+    pub(crate) fn new() -> Sections
         ensures { result ≡ [] }
     {
-        Pieces {
+        Sections {
             items: ArrayVec::new(),
         }
     }
 
-    /// Adds a piece at the end.
+    /// Adds a section at the end.
     #[tactic(auto, using(crate::proofs::Joined::all_more))]
-    pub(crate) fn push(&mut self, piece: Piece)
+    pub(crate) fn push(&mut self, section: Section)
         requires room { length self.old < 16 }
-        requires sized { IsSized piece }
-        ensures value { self.new ≡ self.old ++ piece ∷ [] }
+        requires sized { IsSized section }
+        ensures value { self.new ≡ self.old ++ section ∷ [] }
     {
-        self.items.push(piece);
+        self.items.push(section);
     }
 
     /// The number of accesses.
@@ -49,8 +49,8 @@ impl Pieces {
         ensures { result ≡ length (all_accesses self.now) }
     {
         let mut sum = 0;
-        for piece in self.items.as_slice() {
-            sum += piece.len();
+        for section in self.items.as_slice() {
+            sum += section.len();
         }
         sum
     }
@@ -65,17 +65,17 @@ impl Pieces {
 }
 
 #[tactic(auto, using(crate::proofs::Eaches::get_front, crate::proofs::Eaches::get_back))]
-fn nth_of(pieces: &[Piece], i: u64) -> Access
-    requires sized { All IsSized pieces.now }
-    requires within { i < length (all_accesses pieces.now) }
-    ensures { slice_get (all_accesses pieces.now) i ≡ Some result }
+fn nth_of(sections: &[Section], i: u64) -> Access
+    requires sized { All IsSized sections.now }
+    requires within { i < length (all_accesses sections.now) }
+    ensures { slice_get (all_accesses sections.now) i ≡ Some result }
 {
-    match pieces.split_first() {
+    match sections.split_first() {
         None => unreachable!(),
-        Some((piece, rest)) => {
-            let len = piece.len();
+        Some((section, rest)) => {
+            let len = section.len();
             if i < len {
-                piece.nth(i)
+                section.nth(i)
             } else {
                 nth_of(rest, i - len)
             }

@@ -1,15 +1,15 @@
 -- The parts of which every script is joined.
-use Rattle.std.specs.Prelude.{◌≤◌, ◌<◌, ◌^◌, ℕ, ◌*◌, Bool, true, false, List, length, All, ⊤}
+use Rattle.std.specs.Prelude.{◌≡◌, ◌++◌, ◌≤◌, ◌<◌, ◌^◌, ℕ, ◌*◌, Bool, true, false, List, length, All, ⊤}
 use Rattle.std.specs.Int.{div_ceil}
 use Rattle.std.specs.List.{flat_map}
 use Rattle.ob_base.specs.declared.access.Access.{Access}
 use Rattle.ob_base.specs.Accesses.{write_at, make_at, discard_at}
 use Rattle.ob_base.specs.Lists.{each}
-use Rattle.ob_script.specs.declared.piece.Piece.{Piece}
-use Rattle.ob_script.specs.declared.piece.Piece.TheVariants.{Make, Reads, Writes, Copies, Discard, Passes, Turns, Buckets, Pairs}
+use Rattle.ob_script.specs.declared.section.Section.{Section}
+use Rattle.ob_script.specs.declared.section.Section.TheVariants.{Make, Reads, Writes, Copies, Discard, Passes, Turns, Buckets, Pairs}
 use Rattle.ob_script.specs.Parts.{count_part, copy_part, small_pass, continuous_block, hash_block, join_chunk}
 
-abbrev pub accesses_of : Piece → List Access
+abbrev pub accesses_of : Section → List Access
 accesses_of (Make region blocks width) = make_at region blocks width
 accesses_of (Reads region blocks) = count_part region blocks
 accesses_of (Writes region blocks) = each blocks (write_at region)
@@ -21,7 +21,7 @@ accesses_of (Buckets from to pack slots rows depth) = each (div_ceil slots pack)
 accesses_of (Pairs left right to lefts rights buffered) = each (div_ceil lefts buffered) (join_chunk left right to lefts rights buffered)
 
 -- whether each of its blocks is asked alike, and not in passes or rounds
-abbrev pub is_even : Piece → Bool
+abbrev pub is_even : Section → Bool
 is_even (Make region blocks width) = true
 is_even (Reads region blocks) = true
 is_even (Writes region blocks) = true
@@ -32,15 +32,19 @@ is_even (Turns from to pack slots rows) = false
 is_even (Buckets from to pack slots rows depth) = false
 is_even (Pairs left right to lefts rights buffered) = false
 
-abbrev pub all_accesses : List Piece → List Access
-all_accesses pieces = flat_map accesses_of pieces
+abbrev pub all_accesses : List Section → List Access
+all_accesses sections = flat_map accesses_of sections
+
+-- behind the sections that there were, these accesses follow
+abbrev pub Adds : (old new : List Section) → List Access → Type 0
+Adds old new more = all_accesses new ≡ all_accesses old ++ more
 
 -- so many blocks or slots a region has at most
 abbrev pub IsFew : ℕ → Type 0
 IsFew n = n ≤ 2 ^ 24
 
 -- the numbers are within their limits
-abbrev pub IsSized : Piece → Type 0
+abbrev pub IsSized : Section → Type 0
 IsSized (Make region blocks width) = width ≤ 2 ^ 24
 IsSized (Reads region blocks) = blocks < 2 ^ 32
 IsSized (Writes region blocks) = blocks < 2 ^ 32
@@ -52,6 +56,6 @@ IsSized (Buckets from to pack slots rows depth) = IsFew slots × (1 ≤ pack) ×
 IsSized (Pairs left right to lefts rights buffered) = IsFew lefts × IsFew rights × IsFew (div_ceil lefts buffered * rights) × IsFew buffered × (1 ≤ buffered)
 
 -- what is true of each list of them
-pub record AreSized (pieces : List Piece) : Type 0 where
-  pub each_one : All IsSized pieces
-  pub few : length pieces ≤ 16
+pub record AreSized (sections : List Section) : Type 0 where
+  pub each_one : All IsSized sections
+  pub few : length sections ≤ 16

@@ -1,7 +1,0 @@
-use Rattle.std.proofs.Common.{◌≡◌, drop}
-use Rattle.std.specs.List.{list_any}
-use Rattle.ob_sql.specs.Skeleton.{is_aggregate}
-use Rattle.ob_parse.proofs.outline.any_aggregate.Given as goal
-
-abbrev pub invariant-loop-item : goal.invariant-loop-item
-invariant-loop-item l = list_any is_aggregate l.items ≡ list_any is_aggregate (drop l.item-index l.items)

@@ -1,5 +1,0 @@
-use Rattle.std.proofs.Common.{length}
-use Rattle.ob_reference.proofs.printed.+add_listed.Given as goal
-
-abbrev pub decreases-add_listed : goal.decreases-add_listed
-decreases-add_listed l = length l.items.now
