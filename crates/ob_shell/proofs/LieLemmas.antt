@@ -6,7 +6,7 @@ use Rattle.ob_seal.specs.KeyPair.{KeyPair}
 use Rattle.ob_shell.specs.Running.{LastPart}
 use Rattle.ob_shell.specs.Steps.{Machine, Answer, Step, Steps}
 use Rattle.ob_store.specs.State.{Lie}
-use Rattle.ob_vault.specs.State.{RevState}
+use Rattle.ob_vault.specs.State.{RevState, from_nothing}
 use Rattle.ob_vault.specs.Tied.{Calm, Fits}
 
 -- the keys are the same, and a lie stays
@@ -40,11 +40,11 @@ module _ {R : Type 0} (state : R → RevState) where
   last_keys m1 m2 more part result last = (last_keeps m1 m2 more part result last).keys
 
   none_by : (found : Option Lie) (m1 m2 : Machine R) → m1.store.lie ≡ found → Keeps m1 m2 → Calm (world_of state m1.engine m1.store)
-      → ((lie : Lie) → m2.store.lie ≡ Some lie → Fits m2.engine.vault.keys lie → ⊥) → found ≡ None
+      → ((lie : Lie) → m2.store.lie ≡ Some lie → Fits m2.engine.vault.keys from_nothing lie → ⊥) → found ≡ None
   none_by None m1 m2 is keeps calm unfit = refl
-  none_by (Some lie) m1 m2 is keeps calm unfit = absurd (unfit lie (keeps.lie lie is) (subst (λ (k : KeyPair). Fits k lie) (sym keeps.keys) (calm.calm lie is)))
+  none_by (Some lie) m1 m2 is keeps calm unfit = absurd (unfit lie (keeps.lie lie is) (subst (λ (k : KeyPair). Fits k from_nothing lie) (sym keeps.keys) (calm.calm lie is)))
 
   -- before the last part no block was changed, where the first that was doesn't fit
   pub last_deceived : (m1 m2 : Machine R) (more : List (List ℕ)) (part : List ℕ) (result : Result Bool Stop) → LastPart state m1 m2 more part result → Calm (world_of state m1.engine m1.store)
-      → ((lie : Lie) → m2.store.lie ≡ Some lie → Fits m2.engine.vault.keys lie → ⊥) → m1.store.lie ≡ None
+      → ((lie : Lie) → m2.store.lie ≡ Some lie → Fits m2.engine.vault.keys from_nothing lie → ⊥) → m1.store.lie ≡ None
   last_deceived m1 m2 more part result last calm unfit = none_by m1.store.lie m1 m2 refl (last_keeps m1 m2 more part result last) calm unfit

@@ -15,7 +15,7 @@ use Rattle.ob_seal.specs.KeyPair.{KeyPair}
 use Rattle.ob_seal.specs.Sealed.{keys_of}
 use Rattle.ob_store.specs.Runs.{Later}
 use Rattle.ob_store.specs.State.{Lie, StoreState}
-use Rattle.ob_vault.specs.State.{RevState, World}
+use Rattle.ob_vault.specs.State.{RevState, World, from_nothing}
 use Rattle.ob_vault.specs.Tied.{AllSealed, Calm, EndsAt, Fits}
 use Rattle.ob_shell.specs.Asking.{Asks}
 use Rattle.ob_shell.specs.Failures.{failures, RisesBy}
@@ -51,7 +51,7 @@ pub record IsHonest (store0 store1 : StoreState) : Type 0 where
 -- the store tells what it holds, and of the first changed block that was read, if there is one, the tag doesn't fit
 pub record IsUndeceived (keys : KeyPair) (store0 store1 : StoreState) : Type 0 where
   pub tells : IsTrue store0.tells
-  pub unfit : (lie : Lie) → store1.lie ≡ Some lie → ¬ Fits keys lie
+  pub unfit : (lie : Lie) → store1.lie ≡ Some lie → ¬ Fits keys from_nothing lie
 
 -- no engine was started
 pub record Unstarted (store0 store1 : StoreState) (high : ℕ) (served : List (List ℕ)) (answers : List Answer) (part : List ℕ) (ending : Ending) : Type 0 where
