@@ -1,18 +1,22 @@
 -- What the groups of a table's slots answer.
-use Rattle.std.proofs.Common.{◌≡◌, ◌⊎◌, inl, inr, Err, ◌≤◌, ◌<◌, ◌-◌, ℕ, zero, suc, Bool, true, false, nat_lt, List, [], ◌∷◌, Some, None, length, cond, if◌then◌else◌, refl, sym, ◌∙◌, ap, arith}
+use Rattle.std.proofs.Common.{◌≡◌, ◌⊎◌, inl, inr, Ok, Err, ◌++◌, ◌≤◌, ◌<◌, ◌-◌, ℕ, zero, suc, Bool, true, false, nat_lt, List, [], ◌∷◌, Some, None, length, cond, if◌then◌else◌, refl, sym, ◌∙◌, ap, arith}
 use Rattle.std.specs.List.{All}
 use Rattle.std.specs.Prelude.{filter, slice_get}
 use Rattle.std.proofs.lemmas.Bool.Decides.{nat_tests}
 use Rattle.std.proofs.lemmas.List.Sums.{fold-append}
 use Rattle.std.proofs.lemmas.List.{append-nil}
 use Rattle.ob_base.specs.declared.access.Access.{Access}
+use Rattle.ob_base.specs.declared.shown.Shown.{Shown}
+use Rattle.ob_base.specs.Events.{Event, row_events, IsHalted}
 use Rattle.ob_base.specs.Schemas.{Columns}
 use Rattle.ob_vault.specs.State.{World}
 use Rattle.ob_vault.specs.Calls.{Went, none}
+use Rattle.ob_vault.proofs.Runs.{went_none}
+use Rattle.ob_flat.proofs.Sinks.{none_before}
 use Rattle.ob_row.specs.declared.aggregate.Item.{Item}
 use Rattle.ob_row.specs.Rows.{Row, options_eq}
 use Rattle.ob_row.specs.Slots.{Slots, rows}
-use Rattle.ob_row.specs.Spelling.{Fits}
+use Rattle.ob_row.specs.Spelling.{Fits, kind_at}
 use Rattle.ob_row.specs.Totals.{group_heads, grouped}
 use Rattle.ob_blocks.specs.Blocks.{none_of, up_to}
 use Rattle.ob_blocks.proofs.Blocks.{all_first, all_rest}
@@ -22,8 +26,12 @@ use Rattle.ob_flat.specs.declared.fault.OpErr.TheVariants.{Failed, Tampered, Sin
 use Rattle.ob_flat.specs.Slots.{FitsSlot}
 use Rattle.ob_flat.specs.Passes.{PassCause, PassCut, SinkCause}
 use Rattle.ob_flat.specs.Words.{TamperedIn}
+use Rattle.ob_group.specs.declared.grouping.Grouped.{Grouped}
 use Rattle.ob_group.specs.declared.grouping.Grouped.TheVariants.{Groups, TooMany}
 use Rattle.ob_group.specs.Answers.{answer_of}
+use Rattle.ob_group.specs.Held.{HasGroups}
+use Rattle.ob_group.specs.Labels.{header}
+use Rattle.ob_group.specs.Passes.{Gathers, GroupsRows}
 use Rattle.ob_group.specs.Grouping.{Group, put_slot, aggs_of, groups_with, groups_of, groups_shown}
 use Rattle.ob_group.proofs.Heads.{cell_eq-refl}
 use Rattle.ob_group.proofs.Taking.{AreKeyed, groups-grouped, groups-number}
@@ -97,3 +105,35 @@ not_sink either other = elim either [
   | inl failed ↦ elim other [ inl sink ↦ absurd (cc (failed, sink)) | inr memory ↦ absurd (cc (failed, memory)) ]
   | inr there ↦ elim other [ inl sink ↦ absurd (cc (there.is, sink)) | inr memory ↦ absurd (cc (there.is, memory)) ]
 ]
+
+-- all was asked and the groups kept, and then the emitter gave up
+module _ {E : Type 0} {grew cut : E → E → List Event → Type 0} {faults : E → ℕ} {places pack : ℕ} {flat : Flat} {p : Row → Bool} {key : ℕ} {items : List Item} {groups : List (List ℕ)} {n : ℕ} {old new : World} {a b : E} where
+  pub gave_up : (e : OpErr) → (e ≡ Sink) ⊎ (e ≡ NoMemory) → key < length flat.schema → Gathers pack flat p key items groups (Ok n) old new
+      → IsHalted grew cut (λ (s : HasGroups (kind_at flat.schema key) (length items) n groups). header flat.schema key items ++ row_events (groups_shown items s.groups)) a b
+      → SinkCause {T = Grouped} (Err e) (faults a) (faults b) → GroupsRows grew cut faults places pack flat p key items (Err e) old new a b
+  gave_up e either below all halted cause =
+      let went = all.ran.ok in
+      record {
+        ran = record { ok = tt; err = read_all either went };
+        never = elim either [ inl sink ↦ inr (inl sink) | inr memory ↦ inr (inr (inl memory)) ];
+        seals = all.seals;
+        source = all.source;
+        most = tt;
+        emitted = tt;
+        halted = record {
+          events = halted.events;
+          ends = halted.ends;
+          told = λ s.
+              let held = all.held in
+              let nolie = none_before none none _ _ _ _ went (went_none none _ went.lasts.ready).lasts s.nolie s.unfit in
+              let r = halted.told (record { groups = groups_of p key items held.seen; are = held.are }) in
+              (r.0, r.1 ∙ ap (λ (l : List (List Shown)). header flat.schema key items ++ row_events l) (seen_shown p key items flat.schema _ s.slots held.seen below s.is.fits (held.told s.slots s.is nolie)));
+        };
+        cause = cause;
+        before = λ other. elim either [
+          | inl sink ↦ elim other [ inl failed ↦ absurd (cc (failed, sink)) | inr there ↦ absurd (cc (there.2, sink)) ]
+          | inr memory ↦ elim other [ inl failed ↦ absurd (cc (failed, memory)) | inr there ↦ absurd (cc (there.2, memory)) ]
+        ];
+        after = λ is. went;
+        told = λ slots is nolie. inr either;
+      }

@@ -1,17 +1,13 @@
-use Rattle.std.proofs.Common.{◌++◌, inl, inr, List, filter, length, refl, sym, ◌∙◌, ap, arith}
-use Rattle.ob_base.specs.declared.shown.Shown.{Shown}
+use Rattle.std.proofs.Common.{◌++◌, inl, inr, filter, length, refl, sym, ◌∙◌, arith}
 use Rattle.ob_base.specs.Events.{row_events}
 use Rattle.ob_base.proofs.EventLemmas.{halted_none}
-use Rattle.ob_vault.specs.Calls.{none}
-use Rattle.ob_vault.proofs.Runs.{went_none}
 use Rattle.ob_row.specs.Slots.{rows}
 use Rattle.ob_row.specs.Truth.{is_true}
 use Rattle.ob_row.specs.Totals.{grouped}
-use Rattle.ob_flat.proofs.Sinks.{none_before}
 use Rattle.ob_group.specs.declared.grouping.Grouped.{Grouped}
 use Rattle.ob_group.specs.Grouping.{groups_of}
 use Rattle.ob_group.specs.Labels.{header}
-use Rattle.ob_group.proofs.Answering.{seen_shown, seen_number, too_many, so_many, read_all, unasked, not_sink}
+use Rattle.ob_group.proofs.Answering.{seen_shown, seen_number, too_many, so_many, gave_up, unasked, not_sink}
 use Rattle.ob_group.proofs.grouping.group_table.Goals as goal
 
 pub emit_answer-requires-clause-held : goal.emit_answer-requires-clause-held
@@ -93,35 +89,8 @@ returns-in-Err-Failed-clause-groups g c = c.group_blocks.ensures.groups
 
 pub returns-in-Err-Failed-clause-answers : goal.returns-in-Err-Failed-clause-answers
 returns-in-Err-Failed-clause-answers g c =
-    let flat = c.args.flat.now in
-    let p = is_true c.args.pred.now in
-    let key = c.args.key in
-    let items = c.args.items.now in
-    let all = c.in-Ok.ensures.gathers in
-    let held = all.held in
-    let went = all.ran.ok in
     let answer = c.in-Err-Failed.ensures in
-    let h = answer.halted in
-    record {
-      ran = record { ok = tt; err = read_all (inl refl) went };
-      never = inr (inl refl);
-      seals = all.seals;
-      source = all.source;
-      most = tt;
-      emitted = tt;
-      halted = record {
-        events = h.events;
-        ends = h.ends;
-        told = λ s.
-            let nolie = none_before none none _ _ _ _ went (went_none none _ went.lasts.ready).lasts s.nolie s.unfit in
-            let r = h.told (record { groups = groups_of p key items held.seen; are = held.are }) in
-            (r.0, r.1 ∙ ap (λ (l : List (List Shown)). header flat.schema key items ++ row_events l) (seen_shown p key items flat.schema _ s.slots held.seen c.requires.items.key s.is.fits (held.told s.slots s.is nolie)));
-      };
-      cause = rw c.in-Err-Failed.field-0-is at answer.cause;
-      before = λ either. elim either [ inl failed ↦ absurd (cc failed) | inr there ↦ absurd (cc there.2) ];
-      after = λ is. went;
-      told = λ slots is nolie. inr (inl refl);
-    }
+    gave_up _ (inl refl) c.requires.items.key c.in-Ok.ensures.gathers answer.halted (rw c.in-Err-Failed.field-0-is at answer.cause)
 
 pub returns-in-Err-NoMemory-clause-rows : goal.returns-in-Err-NoMemory-clause-rows
 returns-in-Err-NoMemory-clause-rows g c = c.group_blocks.ensures.rows
@@ -131,35 +100,8 @@ returns-in-Err-NoMemory-clause-groups g c = c.group_blocks.ensures.groups
 
 pub returns-in-Err-NoMemory-clause-answers : goal.returns-in-Err-NoMemory-clause-answers
 returns-in-Err-NoMemory-clause-answers g c =
-    let flat = c.args.flat.now in
-    let p = is_true c.args.pred.now in
-    let key = c.args.key in
-    let items = c.args.items.now in
-    let all = c.in-Ok.ensures.gathers in
-    let held = all.held in
-    let went = all.ran.ok in
     let answer = c.in-Err-NoMemory.ensures in
-    let h = answer.halted in
-    record {
-      ran = record { ok = tt; err = read_all (inr refl) went };
-      never = inr (inr (inl refl));
-      seals = all.seals;
-      source = all.source;
-      most = tt;
-      emitted = tt;
-      halted = record {
-        events = h.events;
-        ends = h.ends;
-        told = λ s.
-            let nolie = none_before none none _ _ _ _ went (went_none none _ went.lasts.ready).lasts s.nolie s.unfit in
-            let r = h.told (record { groups = groups_of p key items held.seen; are = held.are }) in
-            (r.0, r.1 ∙ ap (λ (l : List (List Shown)). header flat.schema key items ++ row_events l) (seen_shown p key items flat.schema _ s.slots held.seen c.requires.items.key s.is.fits (held.told s.slots s.is nolie)));
-      };
-      cause = rw c.in-Err-NoMemory.field-0-is at answer.cause;
-      before = λ either. elim either [ inl failed ↦ absurd (cc failed) | inr there ↦ absurd (cc there.2) ];
-      after = λ is. went;
-      told = λ slots is nolie. inr (inr refl);
-    }
+    gave_up _ (inr refl) c.requires.items.key c.in-Ok.ensures.gathers answer.halted (rw c.in-Err-NoMemory.field-0-is at answer.cause)
 
 pub returns-in-Err-clause-rows : goal.returns-in-Err-clause-rows
 returns-in-Err-clause-rows g c = c.group_blocks.ensures.rows
