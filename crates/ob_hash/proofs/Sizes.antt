@@ -9,8 +9,8 @@ use Rattle.ob_script.proofs.Shares.{length-each_shares}
 use Rattle.ob_store.proofs.Steps.{length-each}
 use Rattle.ob_vault.proofs.RowsLemmas.{rows_room}
 use Rattle.ob_flat.proofs.Tables.{blocks_end}
-use Rattle.ob_hash.specs.declared.buckets.Hashed.{Hashed}
-use Rattle.ob_hash.specs.Hashing.{IsHashed, block_part, slot_part}
+use Rattle.ob_flat.specs.Words.{blocks_of}
+use Rattle.ob_hash.specs.Hashing.{Layout, IsHashed, block_part, slot_part}
 
 -- whole blocks
 pub blocks_whole : (r m : ℕ) → 1 ≤ r → blocks_for r (m * r) ≡ m
@@ -33,12 +33,16 @@ nearer less = omega arith
 pub place_in : (k depth b y : ℕ) → b < k → y < depth → b * depth + y < k * depth
 place_in k depth b y below inside = omega (arith, inside, rows_room b k depth below)
 
-module _ (pack : ℕ) (hashed : Hashed) (is : IsHashed pack hashed) (some : 1 ≤ pack) where
-  pub blocks_of : blocks_for pack hashed.flat.now.capacity ≡ hashed.k * hashed.depth
-  blocks_of = ap (blocks_for pack) is.capacity ∙ blocks_whole pack (hashed.k * hashed.depth) some
+-- the blocks of a result
+module _ {l : Layout} (is : IsHashed l) where
+  pub result_blocks : blocks_of l.pack l.table ≡ l.k * l.depth
+  result_blocks = ap (blocks_for l.pack) is.capacity ∙ blocks_whole l.pack (l.k * l.depth) is.some
 
-  pub blocks_few : hashed.k * hashed.depth ≤ 134217728
-  blocks_few = omega (arith, blocks_of, is.size.blocks)
+  pub result_few : l.k * l.depth ≤ 134217728
+  result_few = omega (arith, result_blocks, is.size.blocks)
+
+  pub result_place : {b y : ℕ} → b < l.k → y < l.depth → b * l.depth + y < blocks_of l.pack l.table
+  result_place {b} {y} below inside = omega (arith, result_blocks, place_in l.k l.depth b y below inside)
 
 -- how many accesses the blocks of a bucket take
 pub touches : (g depth b n : ℕ) → length (each n (block_part g depth b)) ≡ 2 * n
