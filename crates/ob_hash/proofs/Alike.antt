@@ -22,6 +22,7 @@ use Rattle.ob_flat.proofs.Runs.{pass_more}
 use Rattle.ob_hash.specs.declared.filling.Filling.{Filling}
 use Rattle.ob_hash.specs.Bucketed.{bucket_waits, bucket_after, spread, after_place, still_waits}
 use Rattle.ob_hash.specs.Filling.{Fills}
+use Rattle.ob_hash.specs.Hashing.{Layout, bucket_size}
 use Rattle.ob_hash.proofs.Both.{ShownBoth}
 
 pub holds_alike : (pack : ℕ) (flat : Flat) (w : World) (a b : Slots) → a ≡ b → HoldsSlots pack flat a w → HoldsSlots pack flat b w
@@ -58,28 +59,18 @@ later_of (Ok v) x some a b went cut = went.lasts.later
 later_of (Err e) x some a b went cut = cut.lasts.later
 
 -- both buckets of a row were shown to it
-module _ (m pack k depth i b1 b2 : ℕ) (flat : Flat) (w : World) (slots : Slots) (buckets : Buckets) (own : Option Row) (waits still last : Bool) where
-  abbrev once : Slots
-  once = bucket_after (depth * pack) waits own (spread (depth * pack) slots buckets) b1
-
-  pub second_shown : m ≡ pack → b1 ≡ first_bucket k i → b2 ≡ second_bucket k i → still ≡ bucket_waits (depth * pack) waits (spread (depth * pack) slots buckets) b1
-      → ShownBoth k (depth * pack) i slots own waits buckets
-      → (last ≡ bucket_waits (depth * m) still once b2) × HoldsSlots m flat (bucket_after (depth * m) still own once b2) w
-      → (last ≡ still_waits k (depth * pack) waits i buckets) × HoldsSlots pack flat (spread (depth * pack) slots (after_place k (depth * pack) waits i buckets)) w
-  second_shown same first second was both told =
-      let n = depth * pack in
-      let all = spread n slots buckets in
-      let left : still ≡ bucket_waits n waits all (first_bucket k i) = was ∙ ap (bucket_waits n waits all) first in
-      let here : once ≡ bucket_after n waits own all (first_bucket k i) = ap (bucket_after n waits own all) first in
-      let made : bucket_after n still own once b2 ≡ spread n slots (after_place k n waits i buckets) =
-      ap (λ (b : ℕ). bucket_after n still own once b) second ∙ ap (λ (l : Slots). bucket_after n still own l (second_bucket k i)) here
-      ∙ ap (λ (b : Bool). bucket_after n b own (bucket_after n waits own all (first_bucket k i)) (second_bucket k i)) left ∙ both.after in
-      let ends : bucket_waits n still once b2 ≡ still_waits k n waits i buckets =
-      ap (bucket_waits n still once) second ∙ ap (λ (l : Slots). bucket_waits n still l (second_bucket k i)) here
-      ∙ ap (λ (b : Bool). bucket_waits n b (bucket_after n waits own all (first_bucket k i)) (second_bucket k i)) left ∙ both.still in (
-        told.0 ∙ ap (λ (j : ℕ). bucket_waits (depth * j) still once b2) same ∙ ends,
-        holds_alike pack flat w _ _ (ap (λ (j : ℕ). bucket_after (depth * j) still own once b2) same ∙ made) (holds_packed m pack flat w _ same told.1),
-      )
+pub second_shown : (l : Layout) (i : ℕ) (w : World) (slots : Slots) (buckets : Buckets) (own : Option Row) (waits still last : Bool)
+    → still ≡ bucket_waits (bucket_size l) waits (spread (bucket_size l) slots buckets) (first_bucket l.k i)
+    → ShownBoth l.k (bucket_size l) i slots own waits buckets
+    → (last ≡ bucket_waits (bucket_size l) still (bucket_after (bucket_size l) waits own (spread (bucket_size l) slots buckets) (first_bucket l.k i)) (second_bucket l.k i))
+    × HoldsSlots l.pack l.table (bucket_after (bucket_size l) still own (bucket_after (bucket_size l) waits own (spread (bucket_size l) slots buckets) (first_bucket l.k i)) (second_bucket l.k i)) w
+    → (last ≡ still_waits l.k (bucket_size l) waits i buckets) × HoldsSlots l.pack l.table (spread (bucket_size l) slots (after_place l.k (bucket_size l) waits i buckets)) w
+second_shown l i w slots buckets own waits still last was both told =
+    let n = bucket_size l in
+    let once = bucket_after n waits own (spread n slots buckets) (first_bucket l.k i) in (
+      told.0 ∙ ap (λ (b : Bool). bucket_waits n b once (second_bucket l.k i)) was ∙ both.still,
+      holds_alike l.pack l.table w _ _ (ap (λ (b : Bool). bucket_after n b own once (second_bucket l.k i)) was ∙ both.after) told.1,
+    )
 
 -- so many rounds
 pub went_first : (some : ℕ → Type 0) (part : ℕ → List Access) (a b : World) (m n : ℕ) → m ≡ n → Went (each m part) some a b → Went (each n part) some a b

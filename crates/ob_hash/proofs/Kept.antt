@@ -38,7 +38,7 @@ keeps_none l w ready is = record {
 
 module _ {T : Type 0} {l : Layout} {a b c : World} where
   -- one part, and then another
-  pub keeps_after : (x y : List Access) (r : Result T OpErr) → Kept l x a b → KeepsBuckets l y r b c → KeepsBuckets l (x ++ y) r a c
+  pub keeps_after : {U : Type 0} {u : U} (x y : List Access) (r : Result T OpErr) → KeepsBuckets l x (Ok u) a b → KeepsBuckets l y r b c → KeepsBuckets l (x ++ y) r a c
   keeps_after x y r first second = record {
     ran = ran_after r x y first.ran.ok second.ran;
     seals = seals_after first.ran.ok.lasts first.seals second.seals;
