@@ -12,7 +12,12 @@ use Rattle.ob_row.specs.Slots.{Slots, slot_at, is_selected, selected}
 use Rattle.ob_row.specs.Results.{Buckets, RowTest, bucket_for, put_in, filled, unplaced_or, unplaced_from, unplaced}
 use Rattle.ob_blocks.specs.Blocks.{none_of, up_to, block_at}
 use Rattle.ob_blocks.proofs.Blocks.{block-element}
-use Rattle.ob_hash.specs.Bucketed.{AreBuckets, after_place, still_waits, buckets_of, unplaced_of, first_of}
+use Rattle.ob_vault.specs.State.{World}
+use Rattle.ob_flat.specs.Flats.{HoldsSlots}
+use Rattle.ob_hash.specs.Bucketed.{AreBuckets, spread, after_place, still_waits, buckets_of, unplaced_of, first_of}
+use Rattle.ob_hash.specs.Hashing.{Layout, bucket_size}
+use Rattle.ob_hash.specs.Selecting.{HasPlaced}
+use Rattle.ob_hash.proofs.Alike.{holds_alike}
 use Rattle.ob_hash.proofs.Both.{no_places, shown_both}
 
 pub slot_is : (slots : Slots) (i : ℕ) → slot_at slots i ≡ slice_index_or slots i None
@@ -122,6 +127,21 @@ module _ (k n m : ℕ) (p : RowTest) (slots : Slots) (selected : Bool) (below : 
       next ∙ ap (λ (o : Option ℕ). first_of o waits m) was
       ∙ ap (λ (b : Bool). first_of (unplaced_of k n p slots m) b m) (still ∙ ap (λ (b : Bool). still_waits k n b m (buckets_of k n p slots m)) is)
       ∙ sym (unplaced_more k n p slots m below)
+
+-- the same number of slots
+pub placed_same : {l : Layout} {p : RowTest} {slots : Slots} {m n : ℕ} {overflow : Option ℕ} {w : World} → m ≡ n → HasPlaced l p slots m overflow w → HasPlaced l p slots n overflow w
+placed_same {l} {p} {slots} {m} {n} {overflow} {w} same is = subst (λ (i : ℕ). HasPlaced l p slots i overflow w) same is
+
+-- what the result holds once one more was shown
+pub placed_next : (l : Layout) (p : RowTest) (slots : Slots) (m : ℕ) (selected waits : Bool) (before after : Option ℕ) (w : World) → m < length slots → selected ≡ is_selected p (slot_at slots m)
+    → before ≡ unplaced_of l.k (bucket_size l) p slots m → after ≡ first_of before waits m
+    → (waits ≡ still_waits l.k (bucket_size l) selected m (buckets_of l.k (bucket_size l) p slots m))
+    × HoldsSlots l.pack l.table (spread (bucket_size l) slots (after_place l.k (bucket_size l) selected m (buckets_of l.k (bucket_size l) p slots m))) w
+    → HasPlaced l p slots (m + 1) after w
+placed_next l p slots m selected waits before after w below is was next told = record {
+  first = not_placed l.k (bucket_size l) m p slots selected below is waits before after told.0 was next;
+  holds = holds_alike l.pack l.table w _ _ (ap (spread (bucket_size l) slots) (placed l.k (bucket_size l) m p slots selected below is)) told.1;
+}
 
 -- the slots up to the next block
 pub next_slots : (pack u : ℕ) (slots : Slots) → u * pack < length slots → take (u * pack + slots_in pack (length slots) u) slots ≡ take ((u + 1) * pack) slots
