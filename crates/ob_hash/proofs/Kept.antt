@@ -83,19 +83,19 @@ keeps_block l place Makes Suits r a b is reworks = record {
 }
 
 -- a block of another table was read
-module _ (l : Layout) (q x : ℕ) (a b : World) (seals : (good : ℕ → List ℕ → Bool) → Seals good a b) where
-  pub keeps_read : Went (read_at q x) none a b → IsOpen l a → Kept l (read_at q x) a b
-  keeps_read went is = record {
-    ran = record { ok = went_wider none _ _ (one l.table.region) (λ q s. absurd s) _ went; err = tt };
-    seals = seals_any seals;
-    stays = open_went l.pack 0 l.table none _ _ _ went (λ s. s) is;
-    rows = λ tells rows. rows_lasts l.pack l.table none _ _ went.lasts (λ s. s) rows;
-  }
+pub keeps_read : (l : Layout) (q x : ℕ) (a b : World) → ((good : ℕ → List ℕ → Bool) → Seals good a b) → Went (read_at q x) none a b → IsOpen l a → Kept l (read_at q x) a b
+keeps_read l q x a b seals went is = record {
+  ran = record { ok = went_wider none _ _ (one l.table.region) (λ q s. absurd s) _ went; err = tt };
+  seals = seals_any seals;
+  stays = open_went l.pack 0 l.table none _ _ _ went (λ s. s) is;
+  rows = λ tells rows. rows_lasts l.pack l.table none _ _ went.lasts (λ s. s) rows;
+}
 
-  pub keeps_refused : {T : Type 0} (e : OpErr) → PassCut e (read_at q x) none a b → KeepsBuckets {T = T} l (read_at q x) (Err e) a b
-  keeps_refused e cut = record {
-    ran = record { ok = tt; err = pass_wider none _ _ (one l.table.region) (λ q s. absurd s) _ _ cut };
-    seals = seals_any seals;
-    stays = tt;
-    rows = tt;
-  }
+-- or refused
+pub keeps_refused : {T : Type 0} (l : Layout) (q x : ℕ) (a b : World) → ((good : ℕ → List ℕ → Bool) → Seals good a b) → (e : OpErr) → PassCut e (read_at q x) none a b → KeepsBuckets {T = T} l (read_at q x) (Err e) a b
+keeps_refused l q x a b seals e cut = record {
+  ran = record { ok = tt; err = pass_wider none _ _ (one l.table.region) (λ q s. absurd s) _ _ cut };
+  seals = seals_any seals;
+  stays = tt;
+  rows = tt;
+}

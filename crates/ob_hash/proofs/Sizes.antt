@@ -78,3 +78,8 @@ block_room pack capacity depth u = shared (min capacity (u * pack)) (slots_in pa
 -- a block of the table begins below the capacity
 pub block_begins : (pack capacity u : ℕ) → 1 ≤ pack → u < blocks_for pack capacity → u * pack < capacity
 block_begins pack capacity u some below = omega (arith, blocks_end pack capacity some, rows_room u (blocks_for pack capacity) pack below)
+
+-- that block and those of its slots are left
+pub table_room : (t g pack capacity k depth u : ℕ) → u < blocks_for pack capacity
+    → length (each u (hash_block t g pack capacity k depth)) + (1 + slots_in pack capacity u * (4 * depth)) ≤ blocks_for pack capacity + 4 * depth * capacity
+table_room t g pack capacity k depth u below = omega (arith, below, blocks_touch t g pack capacity k depth u, block_room pack capacity depth u)

@@ -36,7 +36,7 @@ pub(crate) fn fill_bucket<S: BlockStore, R: Revisions>(
     requires asks { MayAsk (2 * hashed.now.depth)
         (at R.state vault.old (S.state store.old)) }
     requires hashed { IsHashed (layout_of (length block.old) hashed.now) }
-    requires open { IsOpen (layout_of (length block.old) hashed.now)
+    requires live { IsOpen (layout_of (length block.old) hashed.now)
         (at R.state vault.old (S.state store.old)) }
     requires bucket { bucket < hashed.now.k }
     requires fit { FitBlock hashed.now.flat.now.schema block.old }
@@ -67,7 +67,7 @@ pub(crate) fn fill_buckets<S: BlockStore, R: Revisions>(
     requires asks { MayAsk (4 * hashed.now.depth)
         (at R.state vault.old (S.state store.old)) }
     requires hashed { IsHashed (layout_of (length block.old) hashed.now) }
-    requires open { IsOpen (layout_of (length block.old) hashed.now)
+    requires live { IsOpen (layout_of (length block.old) hashed.now)
         (at R.state vault.old (S.state store.old)) }
     requires fit { FitBlock hashed.now.flat.now.schema block.old }
     requires row { IsRow hashed.now.flat.now.schema row.now }

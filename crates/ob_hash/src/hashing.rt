@@ -31,7 +31,7 @@ pub(crate) fn hash_blocks<S: BlockStore, R: Revisions>(
         (at R.state vault.old (S.state store.old)) }
     requires table { IsTable (length rows.old) flat.now (at R.state vault.old (S.state store.old)) }
     requires hashed { IsHashed (layout_of (length rows.old) hashed.now) }
-    requires open { IsOpen (layout_of (length rows.old) hashed.now)
+    requires live { IsOpen (layout_of (length rows.old) hashed.now)
         (at R.state vault.old (S.state store.old)) }
     requires source { IsSource (layout_of (length rows.old) hashed.now) flat.now }
     requires buffers { AreBuffers (layout_of (length rows.old) hashed.now) rows.old block.old }

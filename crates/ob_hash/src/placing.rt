@@ -43,7 +43,7 @@ pub(crate) fn place_rows<S: BlockStore, R: Revisions>(
     requires asks { MayAsk (block_length (layout_of (length block.old) hashed.now) flat.now u)
         (at R.state vault.old (S.state store.old)) }
     requires hashed { IsHashed (layout_of (length block.old) hashed.now) }
-    requires open { IsOpen (layout_of (length block.old) hashed.now)
+    requires live { IsOpen (layout_of (length block.old) hashed.now)
         (at R.state vault.old (S.state store.old)) }
     requires rows { IsBlock (layout_of (length block.old) hashed.now) flat.now u rows.now }
     requires fit { FitBlock flat.now.schema block.old }

@@ -47,7 +47,7 @@ loop-y-init g c =
     let first = c.args.bucket * hashed.depth in
     let waits = c.args.waits in
     record {
-      keeps = keeps_none (layout_of pack hashed) _ c.requires.asks.ready c.requires.open;
+      keeps = keeps_none (layout_of pack hashed) _ c.requires.asks.ready c.requires.live;
       same = same_rows c.args.block.now;
       row = c.requires.row;
       told = λ honest slots own is begins. (refl, sym (waits_none pack first waits slots), holds_alike pack hashed.flat.now _ _ _ (sym (shown_none pack first waits own slots)) is);

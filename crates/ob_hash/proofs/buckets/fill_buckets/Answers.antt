@@ -48,8 +48,8 @@ fill_bucket-requires-2-clause-fit g c =
 pub fill_bucket-requires-2-clause-hashed : goal.fill_bucket-requires-2-clause-hashed
 fill_bucket-requires-2-clause-hashed g c = rw c.fill_bucket.ensures.block.count c.requires.hashed
 
-pub fill_bucket-requires-2-clause-open : goal.fill_bucket-requires-2-clause-open
-fill_bucket-requires-2-clause-open g c = rw c.fill_bucket.ensures.block.count c.in_ok-still.ensures.fills.keeps.stays
+pub fill_bucket-requires-2-clause-live : goal.fill_bucket-requires-2-clause-live
+fill_bucket-requires-2-clause-live g c = rw c.fill_bucket.ensures.block.count c.in_ok-still.ensures.fills.keeps.stays
 
 pub returns-clause-block : goal.returns-clause-block
 returns-clause-block g c = fit_trans _ _ _ c.fill_bucket.ensures.block c.fill_bucket-2.ensures.block

@@ -85,7 +85,7 @@ loop-j-init g c =
     let l = layout_of (length c.args.block.now) c.args.hashed.now in
     let here : c.args.u * l.pack ≡ c.args.u * l.pack + 0 = omega arith in
     record {
-      keeps = keeps_none l _ c.requires.asks.ready c.requires.open;
+      keeps = keeps_none l _ c.requires.asks.ready c.requires.live;
       same = same_rows c.args.block.now;
       told = λ honest slots size spelt is. placed_same here is;
     }
@@ -116,8 +116,8 @@ fill_buckets-requires-clause-asks g c =
 pub fill_buckets-requires-clause-hashed : goal.fill_buckets-requires-clause-hashed
 fill_buckets-requires-clause-hashed g c = rw c.loop-j.invariant.same.count c.requires.hashed
 
-pub fill_buckets-requires-clause-open : goal.fill_buckets-requires-clause-open
-fill_buckets-requires-clause-open g c = rw c.loop-j.invariant.same.count c.loop-j.invariant.keeps.stays
+pub fill_buckets-requires-clause-live : goal.fill_buckets-requires-clause-live
+fill_buckets-requires-clause-live g c = rw c.loop-j.invariant.same.count c.loop-j.invariant.keeps.stays
 
 pub fill_buckets-requires-clause-fit : goal.fill_buckets-requires-clause-fit
 fill_buckets-requires-clause-fit g c =
