@@ -7,3 +7,4 @@ pub mod Sizes
 pub mod Alike
 pub mod Whole
 pub mod Kept
+pub mod Selected

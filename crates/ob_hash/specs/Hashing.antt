@@ -115,7 +115,7 @@ table_script l flat =
 abbrev pub select_script : Layout → Flat → List Access
 select_script l flat =
     hash_part flat.region l.table.region l.pack flat.capacity l.k l.depth
-    (l.pack * width flat.schema)
+    (l.pack * width l.table.schema)
 
 -- how many accesses the last three are
 abbrev pub block_length : Layout → Flat → ℕ → ℕ
