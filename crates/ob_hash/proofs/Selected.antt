@@ -1,5 +1,5 @@
 -- A selection into buckets, from one step to the next.
-use Rattle.std.proofs.Common.{◌≡◌, ◌*◌, ◌⊎◌, inl, inr, ℕ, Bool, List, [], Option, None, Ok, Err, refl, sym, ◌∙◌, subst}
+use Rattle.std.proofs.Common.{◌≡◌, ◌*◌, inl, inr, ℕ, Bool, List, [], Option, None, Ok, Err, refl, sym, ◌∙◌, subst}
 use Rattle.ob_base.specs.Schemas.{width}
 use Rattle.ob_script.specs.Parts.{create_part}
 use Rattle.ob_row.specs.Results.{RowTest, hash_slots}
@@ -7,12 +7,12 @@ use Rattle.ob_vault.specs.declared.region.Order.TheVariants.{Any}
 use Rattle.ob_vault.specs.State.{World}
 use Rattle.ob_vault.specs.Calls.{Went, Seals, one}
 use Rattle.ob_vault.proofs.Runs.{tells_went, turn_any}
-use Rattle.ob_vault.proofs.WordLemmas.{honest_before, honest_after, honest_same}
+use Rattle.ob_vault.proofs.WordLemmas.{honest_after, honest_same}
 use Rattle.ob_flat.specs.declared.flat.Flat.{Flat}
 use Rattle.ob_flat.specs.declared.fault.OpErr.{OpErr}
 use Rattle.ob_flat.specs.Flats.{IsFlat, HoldsRows, Represents, table_region}
 use Rattle.ob_flat.specs.Words.{IsTable}
-use Rattle.ob_flat.specs.Creates.{CreatesRegion, create_script}
+use Rattle.ob_flat.specs.Creates.{CreatesRegion}
 use Rattle.ob_flat.proofs.Runs.{not_memory, pass_then}
 use Rattle.ob_flat.proofs.Tables.{flat_lasts, represents_lasts, holds_whole, slots_rows}
 use Rattle.ob_flat.proofs.WordLemmas.{ran_more, ran_after, seals_any, seals_after, tampered_after}

@@ -57,9 +57,6 @@ pub slot_room : (j n depth : ℕ) → j < n → j * (4 * depth) + 4 * depth ≤ 
 slot_room j n depth below = rows_room j n (4 * depth) below
 
 -- the slots of a block below the capacity
-pub slots_few : (pack capacity u : ℕ) → slots_in pack capacity u ≤ pack
-slots_few pack capacity u = omega arith
-
 pub slots_inside : (pack capacity u j : ℕ) → j < slots_in pack capacity u → u * pack + j < capacity
 slots_inside pack capacity u j below = omega arith
 

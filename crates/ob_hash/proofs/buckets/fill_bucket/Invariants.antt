@@ -1,4 +1,4 @@
-use Rattle.std.proofs.Common.{◌≡◌, ◌*◌, ℕ, Option, length}
+use Rattle.std.proofs.Common.{◌≡◌, ◌*◌, Option, length}
 use Rattle.ob_base.specs.Lists.{each}
 use Rattle.ob_vault.specs.Rows.{SameSizes}
 use Rattle.ob_vault.specs.Places.{at}

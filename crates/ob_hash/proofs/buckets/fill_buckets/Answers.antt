@@ -1,8 +1,8 @@
-use Rattle.std.proofs.Common.{◌≡◌, ◌<◌, ◌+◌, ◌*◌, ℕ, length, refl, sym, subst, arith}
+use Rattle.std.proofs.Common.{◌≡◌, ◌<◌, ◌*◌, ℕ, length, refl, sym, subst, arith}
 use Rattle.std.proofs.lemmas.Result.{err_from_is_err_and, MatchResult-weaker}
 use Rattle.ob_base.specs.Numbers.{first_bucket, second_bucket}
 use Rattle.ob_base.specs.Schemas.{width}
-use Rattle.ob_vault.specs.Places.{at, RowsFit}
+use Rattle.ob_vault.specs.Places.{RowsFit}
 use Rattle.ob_vault.proofs.Runs.{fit_same, fit_trans}
 use Rattle.ob_vault.proofs.WordLemmas.{asks_fewer, asks_after, honest_before, honest_after}
 use Rattle.ob_row.specs.Slots.{slot_at}

@@ -1,11 +1,11 @@
-use Rattle.std.proofs.Common.{◌≡◌, ◌≤◌, ◌<◌, ◌+◌, ◌*◌, ℕ, inl, inr, length, refl, sym, ◌∙◌, ap, subst, arith}
+use Rattle.std.proofs.Common.{◌≡◌, ◌≤◌, ◌<◌, ◌*◌, ℕ, inl, inr, length, sym, ◌∙◌, ap, subst, arith}
 use Rattle.std.specs.Prelude.{⊤}
 use Rattle.std.proofs.lemmas.Result.{err_from_is_err_and}
 use Rattle.ob_base.specs.Accesses.{read_at}
 use Rattle.ob_base.specs.Schemas.{Columns, width}
 use Rattle.ob_script.specs.Parts.{hash_block}
-use Rattle.ob_vault.specs.Calls.{none, one}
-use Rattle.ob_vault.specs.Places.{at, RowsFit}
+use Rattle.ob_vault.specs.Calls.{one}
+use Rattle.ob_vault.specs.Places.{RowsFit}
 use Rattle.ob_vault.proofs.Runs.{lives_went, written_went, fit_same, fit_trans, may_get}
 use Rattle.ob_vault.proofs.WordLemmas.{asks_after, honest_before, honest_after}
 use Rattle.ob_row.specs.Truth.{is_true}

@@ -1,4 +1,4 @@
-use Rattle.std.proofs.Common.{◌≤◌, ◌*◌, ℕ, List, ◌++◌, max, length, sym, ◌∙◌, ap, subst, arith}
+use Rattle.std.proofs.Common.{◌≤◌, ◌*◌, ℕ, List, ◌++◌, max, sym, ◌∙◌, ap, subst, arith}
 use Rattle.ob_base.specs.Schemas.{width}
 use Rattle.ob_vault.specs.Rows.{SameSizes}
 use Rattle.ob_vault.proofs.RowsLemmas.{sizes_join}

@@ -1,4 +1,4 @@
-use Rattle.std.proofs.Common.{◌≡◌, ◌≤◌, ◌<◌, ◌+◌, ◌*◌, ◌^◌, ℕ, length, refl, sym, ◌∙◌, ap, subst, arith}
+use Rattle.std.proofs.Common.{◌≡◌, ◌*◌, ℕ, length, refl, sym, ◌∙◌, ap, subst, arith}
 use Rattle.std.proofs.lemmas.Result.{err_from_is_err_and}
 use Rattle.ob_base.specs.Numbers.{blocks_for}
 use Rattle.ob_base.specs.Schemas.{width}
@@ -8,7 +8,7 @@ use Rattle.ob_vault.proofs.Runs.{lives_apart}
 use Rattle.ob_vault.proofs.WordLemmas.{asks_start, asks_after}
 use Rattle.ob_flat.specs.Flats.{FitsRegion}
 use Rattle.ob_flat.proofs.Rooms.{same_rows}
-use Rattle.ob_flat.proofs.Tables.{flat_lasts, blocks_few}
+use Rattle.ob_flat.proofs.Tables.{flat_lasts}
 use Rattle.ob_hash.specs.Hashing.{IsSource, layout_at}
 use Rattle.ob_hash.proofs.Selected.{made_open, selects_none, selects_ok, selects_err}
 use Rattle.ob_hash.proofs.Sizes.{result_blocks}
