@@ -3,3 +3,4 @@ pub mod Kept
 pub mod Windows
 pub mod Lengths
 pub mod Places
+pub mod Selected
