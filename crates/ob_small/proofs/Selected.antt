@@ -1,6 +1,6 @@
 -- A Small selection, from one step to the next.
-use Rattle.std.proofs.Common.{◌≡◌, ◌≤◌, ◌-◌, inl, inr, ℕ, Bool, IsTrue, List, [], ◌++◌, None, Result, Ok, Err, IfOk, length, map, take, sym, ◌∙◌, ap, subst, arith}
-use Rattle.std.specs.Prelude.{◌⊎◌, MatchResult}
+use Rattle.std.proofs.Common.{◌≡◌, ◌-◌, inl, inr, ℕ, Bool, List, [], ◌++◌, None, Ok, Err, length, sym, ◌∙◌, ap, subst, arith}
+use Rattle.std.specs.Prelude.{◌⊎◌}
 use Rattle.std.proofs.lemmas.List.{length-map, take_all, append-nil}
 use Rattle.ob_row.specs.Slots.{Slots, slot_at, selected, small_slots}
 use Rattle.ob_vault.specs.declared.region.Order.TheVariants.{Round}
@@ -11,7 +11,6 @@ use Rattle.ob_vault.specs.Calls.{Went, Seals, one}
 use Rattle.ob_vault.proofs.Runs.{lives_apart, tells_went}
 use Rattle.ob_vault.proofs.WordLemmas.{honest_after, honest_same}
 use Rattle.ob_blocks.specs.Blocks.{none_of}
-use Rattle.ob_flat.specs.declared.flat.Flat.{Flat}
 use Rattle.ob_flat.specs.declared.fault.OpErr.{OpErr}
 use Rattle.ob_flat.specs.declared.fault.OpErr.TheVariants.{Failed, NoMemory}
 use Rattle.ob_flat.specs.Flats.{Represents, table_region}

@@ -1,4 +1,4 @@
-use Rattle.std.proofs.Common.{◌≡◌, ◌≤◌, ◌+◌, ◌-◌, ◌*◌, ◌<◌, min, ℕ, inl, inr, Fits, w32, length, refl, sym, ◌∙◌, ap, subst, arith}
+use Rattle.std.proofs.Common.{◌≡◌, ◌≤◌, ◌+◌, ◌-◌, ◌*◌, ◌<◌, min, ℕ, inl, Fits, w32, length, sym, ◌∙◌, ap, subst, arith}
 use Rattle.std.proofs.lemmas.Result.{err_from_is_err_and}
 use Rattle.std.specs.Int.{div_ceil}
 use Rattle.std.specs.List.{All}
@@ -6,28 +6,25 @@ use Rattle.ob_base.specs.Lists.{each}
 use Rattle.ob_base.specs.Numbers.{blocks_for}
 use Rattle.ob_base.specs.Schemas.{Columns, width}
 use Rattle.ob_script.specs.Parts.{count_part, write_from}
-use Rattle.ob_vault.specs.State.{World}
-use Rattle.ob_vault.specs.Tied.{Written}
 use Rattle.ob_vault.specs.Calls.{none, one}
 use Rattle.ob_vault.specs.Places.{at}
 use Rattle.ob_vault.specs.Rows.{Wide}
-use Rattle.ob_vault.specs.Words.{MayAsk}
 use Rattle.ob_vault.proofs.RowsLemmas.{rows_room}
 use Rattle.ob_vault.proofs.Runs.{went_none, seals_none, went_wider, went_each, went_join, written_went, holds_went, tells_went, fit_same, fit_trans}
 use Rattle.ob_vault.proofs.WordLemmas.{asks_after, honest_before, honest_after}
 use Rattle.ob_row.specs.Slots.{Slots, small_slots}
 use Rattle.ob_flat.specs.declared.flat.Flat.{Flat}
 use Rattle.ob_flat.specs.Slots.{FitsSlot, AreSlots}
-use Rattle.ob_flat.specs.Flats.{IsSized, IsFlat, HoldsBlock, HoldsRows, Represents}
-use Rattle.ob_flat.specs.Words.{IsTable, SealsTable, FitBlock}
+use Rattle.ob_flat.specs.Flats.{IsSized, IsFlat, HoldsRows, Represents}
+use Rattle.ob_flat.specs.Words.{IsTable}
 use Rattle.ob_flat.proofs.Loops.{nearer, pack_fits, went_all}
 use Rattle.ob_flat.proofs.Rooms.{same_rows}
 use Rattle.ob_flat.proofs.Rows.{wide_same}
 use Rattle.ob_flat.proofs.Runs.{pass_each, pass_more, pass_after, pass_wider}
 use Rattle.ob_flat.proofs.Tables.{reads, blocks_few, blocks_end, flat_lasts, represents_lasts, block_lasts}
-use Rattle.ob_flat.proofs.WordLemmas.{seals_any, seals_after, tampered_in}
+use Rattle.ob_flat.proofs.WordLemmas.{seals_any, seals_after}
 use Rattle.ob_small.specs.Keeping.{chosen, fitted, AreKept}
-use Rattle.ob_small.specs.Selection.{AreBlocks, select_of, blocks, results, passes, table, pass_script}
+use Rattle.ob_small.specs.Selection.{select_of, blocks, results, passes, table, pass_script}
 use Rattle.ob_small.proofs.Choosing.{filter-small}
 use Rattle.ob_small.proofs.Lengths.{spent, passes_reach, pass_inside, product_within, pass_next}
 use Rattle.ob_small.proofs.Places.{next_at, next_first, next_read, next_last}

@@ -1,4 +1,4 @@
-use Rattle.std.proofs.Common.{sym, ◌∙◌, ◌*◌, ℕ, ap, length}
+use Rattle.std.proofs.Common.{sym, ◌∙◌, ◌*◌, ℕ, ap}
 use Rattle.ob_base.specs.Limits.{buffered_blocks}
 use Rattle.ob_base.specs.Schemas.{width}
 use Rattle.ob_flat.proofs.Rooms.{block_fits}

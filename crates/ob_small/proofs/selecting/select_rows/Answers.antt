@@ -1,6 +1,5 @@
-use Rattle.std.proofs.Common.{◌≤◌, ◌*◌, ◌+◌, ◌^◌, ℕ, length, ◌∙◌, refl, arith}
+use Rattle.std.proofs.Common.{◌≤◌, ◌+◌, ◌^◌, ℕ, length, ◌∙◌, refl, arith}
 use Rattle.std.proofs.lemmas.Result.{err_from_is_err_and}
-use Rattle.std.specs.Int.{div_ceil}
 use Rattle.ob_base.specs.Schemas.{Columns}
 use Rattle.ob_vault.specs.Calls.{one}
 use Rattle.ob_vault.proofs.Runs.{lives_apart}

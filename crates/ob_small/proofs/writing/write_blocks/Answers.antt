@@ -1,4 +1,4 @@
-use Rattle.std.proofs.Common.{◌≡◌, ◌≤◌, ◌+◌, ◌-◌, ◌*◌, ◌<◌, ◌/◌, Fits, w32, w64, ℕ, IsTrue, length, take, drop, ap, sym, ◌∙◌, subst, refl, arith}
+use Rattle.std.proofs.Common.{◌≡◌, ◌≤◌, ◌+◌, ◌-◌, ◌*◌, ◌<◌, ◌/◌, Fits, w32, w64, ℕ, IsTrue, length, take, drop, ap, sym, subst, refl, arith}
 use Rattle.std.proofs.lemmas.Result.{err_from_is_err_and}
 use Rattle.ob_base.specs.Numbers.{blocks_for}
 use Rattle.ob_base.specs.Schemas.{width}
@@ -11,7 +11,6 @@ use Rattle.ob_vault.proofs.RowsLemmas.{rows_room}
 use Rattle.ob_vault.proofs.Runs.{went_none, seals_none, went_each, written_only, holds_only, holds_rows, tells_went, may_put}
 use Rattle.ob_vault.proofs.WordLemmas.{asks_after}
 use Rattle.ob_blocks.specs.Blocks.{block_at}
-use Rattle.ob_flat.specs.Slots.{block_bytes}
 use Rattle.ob_flat.specs.Flats.{HoldsBlock, table_region, whole_blocks}
 use Rattle.ob_flat.specs.Passes.{pass_error}
 use Rattle.ob_flat.specs.Words.{SealsTable}
@@ -175,7 +174,7 @@ loop-x-preserved g c =
     } in
     let here : IsTrue (g.S.BlockStore.state c.args.store.now).tells → Holds q (first + x) (joined ((pack * width to.schema) / length rows) rows) now =
     λ tells. subst (λ (m : ℕ). Holds q (first + x) (joined ((pack * width to.schema) / length (take m (drop (x * pack) kept))) (take m (drop (x * pack) kept))) now) same
-        (put.told (tells_went _ _ _ _ before.went tells) shape before.next.lives) in
+    (put.told (tells_went _ _ _ _ before.went tells) shape before.next.lives) in
     record {
       went = went_each (one q) (write_from q first) _ _ _ x before.went put.ok;
       seals = seals_after before.went.lasts before.seals sealed;
