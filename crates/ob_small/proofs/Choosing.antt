@@ -5,9 +5,7 @@ use Rattle.std.proofs.lemmas.List.{take_all, take_more, append-nil}
 use Rattle.std.proofs.lemmas.List.Elements.{filter-append}
 use Rattle.ob_base.specs.Lists.{places_from}
 use Rattle.ob_row.specs.Rows.{Row}
-use Rattle.ob_row.specs.Condition.{Condition}
 use Rattle.ob_row.specs.Slots.{Slots, slot_at, is_selected, small_slots}
-use Rattle.ob_row.specs.Truth.{is_true}
 use Rattle.ob_blocks.specs.Blocks.{none_of, up_to, block_at}
 use Rattle.ob_blocks.proofs.Blocks.{take_blocks, length-up_to}
 use Rattle.ob_small.specs.Keeping.{chosen}
@@ -35,26 +33,26 @@ pub filter-small : (p : Row → Bool) (slots : Slots) → filter (is_selected p)
 filter-small p slots = behind p [] slots
 
 -- one slot more
-pub chosen_more : (p : Condition) (slots : Slots) (i : ℕ) (b : Bool) → i < length slots → is_selected (is_true p) (slice_index_or slots i None) ≡ b
+pub chosen_more : (p : Row → Bool) (slots : Slots) (i : ℕ) (b : Bool) → i < length slots → is_selected p (slice_index_or slots i None) ≡ b
     → chosen p (take (i + 1) slots) ≡ chosen p (take i slots) ++ cond b (slice_index_or slots i None ∷ []) []
 chosen_more p slots i b below is =
-    ap (chosen p) (take_more slots i None below) ∙ filter-append (is_selected (is_true p)) (take i slots) (slice_index_or slots i None ∷ [])
+    ap (chosen p) (take_more slots i None below) ∙ filter-append (is_selected p) (take i slots) (slice_index_or slots i None ∷ [])
     ∙ ap (λ (c : Bool). chosen p (take i slots) ++ cond c (slice_index_or slots i None ∷ []) []) is
 
 -- no block yet
-pub chosen_first : (p : Condition) (r : ℕ) (all : Slots) → chosen p (take (0 * r) all) ≡ []
+pub chosen_first : (p : Row → Bool) (r : ℕ) (all : Slots) → chosen p (take (0 * r) all) ≡ []
 chosen_first p r all = let none : 0 * r ≡ 0 = omega arith in ap (λ (n : ℕ). chosen p (take n all)) none
 
 -- one block more
-pub chosen_block : (p : Condition) (r : ℕ) (all : Slots) (u : ℕ) → chosen p (take (u * r) all) ++ chosen p (block_at r all u) ≡ chosen p (take ((u + 1) * r) all)
-chosen_block p r all u = sym (ap (chosen p) (take_blocks r all u) ∙ filter-append (is_selected (is_true p)) (take (u * r) all) (block_at r all u))
+pub chosen_block : (p : Row → Bool) (r : ℕ) (all : Slots) (u : ℕ) → chosen p (take (u * r) all) ++ chosen p (block_at r all u) ≡ chosen p (take ((u + 1) * r) all)
+chosen_block p r all u = sym (ap (chosen p) (take_blocks r all u) ∙ filter-append (is_selected p) (take (u * r) all) (block_at r all u))
 
-chosen_none : (p : Condition) (n : ℕ) → chosen p (none_of n) ≡ []
+chosen_none : (p : Row → Bool) (n : ℕ) → chosen p (none_of n) ≡ []
 chosen_none p zero = refl
 chosen_none p (suc n) = chosen_none p n
 
 -- all blocks
-pub chosen_whole : (p : Condition) (n : ℕ) (slots : Slots) → length slots ≤ n → chosen p (take n (up_to n slots)) ≡ chosen p slots
+pub chosen_whole : (p : Row → Bool) (n : ℕ) (slots : Slots) → length slots ≤ n → chosen p (take n (up_to n slots)) ≡ chosen p slots
 chosen_whole p n slots fits =
     ap (chosen p) (take_all n (up_to n slots) (omega (arith, length-up_to n slots fits)))
-    ∙ filter-append (is_selected (is_true p)) slots (none_of (n - length slots)) ∙ ap (λ (l : Slots). chosen p slots ++ l) (chosen_none p (n - length slots)) ∙ append-nil (chosen p slots)
+    ∙ filter-append (is_selected p) slots (none_of (n - length slots)) ∙ ap (λ (l : Slots). chosen p slots ++ l) (chosen_none p (n - length slots)) ∙ append-nil (chosen p slots)

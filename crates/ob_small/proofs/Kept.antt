@@ -10,7 +10,7 @@ use Rattle.ob_row.specs.Slots.{Slots}
 use Rattle.ob_row.specs.Spelling.{Begins}
 use Rattle.ob_flat.specs.Slots.{AreSlots}
 use Rattle.ob_flat.proofs.Rows.{slots_of, row_same, row_other}
-use Rattle.ob_small.specs.Keeping.{Keeps}
+use Rattle.ob_small.specs.Keeping.{AreKept}
 
 abbrev at : Slots → ℕ → Option Row
 at slots i = slice_index_or slots i None
@@ -37,9 +37,9 @@ at_pushed k slots slot i same inside =
     let first : i - length slots ≡ 0 = omega arith in
     get_or-take k (slots ++ slot ∷ []) i None inside ∙ get_or-append_right slots (slot ∷ []) i None (omega arith) ∙ ap (λ (n : ℕ). at (slot ∷ []) n) first
 
-module _ (columns : Columns) (slots : Slots) (slot : Option Row) (from k : ℕ) (rows : List (List ℕ)) (keeps : Keeps columns slots from k rows) where
+module _ (columns : Columns) (slots : Slots) (slot : Option Row) (from k : ℕ) (rows : List (List ℕ)) (keeps : AreKept columns slots from k rows) where
   -- a row that isn't kept
-  pub keeps_off : ((i : ℕ) → i < length rows → from + i ≡ length slots → k ≤ from + i) → Keeps columns (slots ++ slot ∷ []) from k rows
+  pub keeps_off : ((i : ℕ) → i < length rows → from + i ≡ length slots → k ≤ from + i) → AreKept columns (slots ++ slot ∷ []) from k rows
   keeps_off off = record {
     each = λ i below. subst (λ (s : Option Row). Begins columns s (row_at rows i)) (sym (elim (cases_eq (from + i) (length slots)) [
       | inl same ↦ at_taken k (from + i) (slots ++ slot ∷ []) (off i below same) ∙ sym (at_taken k (from + i) slots (off i below same))
@@ -48,7 +48,7 @@ module _ (columns : Columns) (slots : Slots) (slot : Option Row) (from k : ℕ) 
   }
 
   -- one that is
-  pub keeps_on : (i : ℕ) (row : List ℕ) → i < length rows → from + i ≡ length slots → from + i < k → Begins columns slot row → Keeps columns (slots ++ slot ∷ []) from k (slice_set rows i row)
+  pub keeps_on : (i : ℕ) (row : List ℕ) → i < length rows → from + i ≡ length slots → from + i < k → Begins columns slot row → AreKept columns (slots ++ slot ∷ []) from k (slice_set rows i row)
   keeps_on i row inside here below begins = record {
     each = λ j within. elim (cases_eq j i) [
       | inl same ↦
@@ -70,7 +70,7 @@ slots_put columns rows i row inside are begins = slots_of columns (slice_set row
 ])
 
 -- nothing is kept of no slots
-pub keeps_none : (columns : Columns) (from k : ℕ) (rows : List (List ℕ)) → ((i : ℕ) → i < length rows → Begins columns None (row_at rows i)) → Keeps columns [] from k rows
+pub keeps_none : (columns : Columns) (from k : ℕ) (rows : List (List ℕ)) → ((i : ℕ) → i < length rows → Begins columns None (row_at rows i)) → AreKept columns [] from k rows
 keeps_none columns from k rows none = record {
   each = λ i below. subst (λ (s : Option Row). Begins columns s (row_at rows i)) (sym (get_or_past (take k []) (from + i) None (omega (arith, length-take {A = Option Row} k [])))) (none i below);
 }

@@ -1,5 +1,6 @@
-pub mod Errors
 pub mod Choosing
 pub mod Kept
 pub mod Windows
 pub mod Lengths
+pub mod Places
+pub mod Selected

@@ -1,5 +1,5 @@
 -- The blocks of kept rows are those of the result.
-use Rattle.std.proofs.Common.{◌≡◌, ◌≤◌, ◌<◌, ◌+◌, ◌-◌, ◌*◌, ℕ, List, [], Option, None, length, take, drop, slice_index_or, inl, inr, sym, ◌∙◌, ap, subst, arith}
+use Rattle.std.proofs.Common.{◌≡◌, ◌≤◌, ◌<◌, ◌+◌, ◌-◌, ◌*◌, ℕ, Bool, List, [], Option, None, length, take, drop, slice_index_or, inl, inr, sym, ◌∙◌, ap, subst, arith}
 use Rattle.std.proofs.lemmas.List.{get_or_past, get_or_append_left, get_or-replicate, length-take, length-drop, length-replicate}
 use Rattle.std.proofs.lemmas.List.Elements as elements
 use Rattle.std.proofs.Math.Seq.{get_or-append_right}
@@ -12,17 +12,15 @@ use Rattle.ob_vault.specs.Places.{RowsFit}
 use Rattle.ob_vault.specs.State.{World}
 use Rattle.ob_vault.specs.Tied.{Holds}
 use Rattle.ob_row.specs.Rows.{Row}
-use Rattle.ob_row.specs.Condition.{Condition}
 use Rattle.ob_row.specs.Slots.{Slots, is_selected}
 use Rattle.ob_row.specs.Spelling.{Begins}
-use Rattle.ob_row.specs.Truth.{is_true}
 use Rattle.ob_blocks.specs.Blocks.{none_of, up_to, block_at}
 use Rattle.ob_blocks.proofs.Blocks.{length-up_to, length-block, all_up_to, block-element}
 use Rattle.ob_flat.specs.declared.flat.Flat.{Flat}
 use Rattle.ob_flat.specs.Slots.{FitsSlot, Spelt, AreSlots, block_bytes}
 use Rattle.ob_flat.specs.Flats.{Represents, whole_blocks}
 use Rattle.ob_flat.proofs.Rows.{slots_of}
-use Rattle.ob_small.specs.Keeping.{chosen, fitted, Keeps}
+use Rattle.ob_small.specs.Keeping.{chosen, fitted, AreKept}
 
 abbrev at : Slots → ℕ → Option Row
 at slots i = slice_index_or slots i None
@@ -43,9 +41,9 @@ at-up_to n i slots = elim (cases_lt i (length slots)) [
 pub length-fitted : (k : ℕ) (slots : Slots) → length (fitted k slots) ≡ k
 length-fitted k slots = length-up_to k (take k slots) (omega (arith, length-take k slots))
 
-pub fits-fitted : (columns : Columns) (k : ℕ) (p : Condition) (slots : Slots) → All (FitsSlot columns) slots → All (FitsSlot columns) (fitted k (chosen p slots))
+pub fits-fitted : (columns : Columns) (k : ℕ) (p : Row → Bool) (slots : Slots) → All (FitsSlot columns) slots → All (FitsSlot columns) (fitted k (chosen p slots))
 fits-fitted columns k p slots is =
-    all_up_to (FitsSlot columns) k (take k (chosen p slots)) tt (elements.All-take (FitsSlot columns) k (chosen p slots) (elements.All-filter (is_selected (is_true p)) (FitsSlot columns) slots is))
+    all_up_to (FitsSlot columns) k (take k (chosen p slots)) tt (elements.All-take (FitsSlot columns) k (chosen p slots) (elements.All-filter (is_selected p) (FitsSlot columns) slots is))
 
 index : (first x r z : ℕ) → first * r + (x * r + z) ≡ (first + x) * r + z
 index first x r z = grind arith
@@ -67,7 +65,7 @@ part_fit r x w rows some inside wide =
 
 -- it spells a block of the result
 pub kept_block : (columns : Columns) (r k results first x : ℕ) (slots : Slots) (rows : List (List ℕ)) → k ≤ results * r → x * r + r ≤ length rows → first + x < results
-    → Keeps columns slots (first * r) k rows → Spelt columns (block_at r (up_to (results * r) (fitted k slots)) (first + x)) (take r (drop (x * r) rows))
+    → AreKept columns slots (first * r) k rows → Spelt columns (block_at r (up_to (results * r) (fitted k slots)) (first + x)) (take r (drop (x * r) rows))
 kept_block columns r k results first x slots rows fits inside within keeps =
     let all = up_to (results * r) (fitted k slots) in
     let size : length all ≡ results * r = length-up_to (results * r) (fitted k slots) (omega (arith, length-fitted k slots)) in
@@ -90,7 +88,7 @@ part_slots columns r x rows inside are = slots_of columns (take r (drop (x * r) 
     (at are.slots (x * r + z), subst (Begins columns (at are.slots (x * r + z))) (sym (block-element r x z rows [] less)) (are.spelt.each (x * r + z) (omega (arith, less, inside)))))
 
 -- the result has these slots
-pub represents_fitted : (pack : ℕ) (flat : Flat) (p : Condition) (slots : Slots) (w : World) → All (FitsSlot flat.schema) slots
+pub represents_fitted : (pack : ℕ) (flat : Flat) (p : Row → Bool) (slots : Slots) (w : World) → All (FitsSlot flat.schema) slots
     → ((x : ℕ) → x < blocks_for pack flat.capacity → Holds flat.region x (block_bytes flat.schema (block_at pack (whole_blocks pack flat.capacity (fitted flat.capacity (chosen p slots))) x)) w)
     → Represents pack flat (fitted flat.capacity (chosen p slots)) w
 represents_fitted pack flat p slots w fits holds = record {

@@ -1,17 +1,10 @@
-ghost use Rattle.std.specs.Prelude.{◌≡◌, ◌≤◌, ◌<◌, ◌*◌, ◌⊎◌, ℕ, Bool, List, None, IfErr, OnOk, MatchResult, length};
-ghost use Rattle.ob_base.specs.Numbers.{blocks_for};
+ghost use Rattle.std.specs.Prelude.{length};
 ghost use Rattle.ob_base.specs.Schemas.{width};
-ghost use Rattle.ob_vault.specs.declared.region.Region.{Region as Shape};
-ghost use Rattle.ob_vault.specs.Tied.{Ready, OnTurn};
-ghost use Rattle.ob_vault.specs.Calls.{Went, Seals, none};
-ghost use Rattle.ob_vault.specs.Places.{at, RowsFit};
+ghost use Rattle.ob_vault.specs.Places.{at};
 ghost use Rattle.ob_vault.specs.Rows.{SameSizes, Wide};
-ghost use Rattle.ob_script.specs.Parts.{count_part};
-ghost use Rattle.ob_row.specs.Slots.{Slots};
-ghost use Rattle.ob_flat.specs.Slots.{AreSlots};
-ghost use Rattle.ob_flat.specs.Flats.{IsSized, IsFlat, Represents};
-ghost use Rattle.ob_flat.specs.Passes.{PassCut};
-ghost use Rattle.ob_small.specs.Keeping.{chosen, Keeps};
+ghost use Rattle.ob_row.specs.Truth.{is_true};
+ghost use Rattle.ob_flat.specs.Words.{HasSpare, IsTable, FitBlock, blocks_of};
+ghost use Rattle.ob_small.specs.Selection.{Collects};
 
 use crate::keeping::keep_rows;
 use ob_flat::{Flat, OpErr, clear_rows};
@@ -33,23 +26,15 @@ pub(crate) fn collect_blocks<S: BlockStore, R: Revisions>(
     from: u32,
     k: u32,
 ) -> Result<(), OpErr>
-    requires ready { Ready (at R.state vault.old (S.state store.old)) }
-    requires spare { blocks_for (length rows.old) flat.now.capacity ≤ (S.state store.old).spare }
-    requires flat { IsFlat (length rows.old) flat.now (at R.state vault.old (S.state store.old)) }
-    requires size { IsSized flat.now.schema flat.now.capacity }
-    requires pack { (1 ≤ length rows.old) × (length rows.old ≤ 16) }
-    requires fit { RowsFit rows.old (length rows.old * width flat.now.schema) }
+    requires spare { HasSpare (blocks_of (length rows.old) flat.now)
+        (at R.state vault.old (S.state store.old)) }
+    requires table { IsTable (length rows.old) flat.now (at R.state vault.old (S.state store.old)) }
+    requires fit { FitBlock flat.now.schema rows.old }
     requires wide { Wide (width flat.now.schema) kept.old }
     ensures rows { SameSizes rows.old rows.new }
     ensures kept { SameSizes kept.old kept.new }
-    ensures ok { OnOk result (Went (count_part flat.now.region (blocks_for (length rows.old) flat.now.capacity)) none (at R.state vault.old (S.state store.old)) (at R.state vault.new (S.state store.new))) }
-    ensures err { IfErr result (λ e. PassCut e (count_part flat.now.region (blocks_for (length rows.old) flat.now.capacity)) none (at R.state vault.old (S.state store.old)) (at R.state vault.new (S.state store.new))) }
-    ensures never { IfErr result (λ e. (e ≡ OpErr.Failed) ⊎ ((place : ℕ) × (place < blocks_for (length rows.old) flat.now.capacity) × (e ≡ OpErr.Tampered flat.now.region place))) }
-    ensures seals { (good : ℕ → List ℕ → Bool) → Seals good (at R.state vault.old (S.state store.old)) (at R.state vault.new (S.state store.new)) }
-    ensures turns { OnOk result ((q x : ℕ) (shape : Shape) → OnTurn q shape x (at R.state vault.old (S.state store.old)) → OnTurn q shape x (at R.state vault.new (S.state store.new))) }
-    ensures spells { OnOk result (AreSlots flat.now.schema kept.new) }
-    ensures told { (slots : Slots) → Represents (length rows.old) flat.now slots (at R.state vault.old (S.state store.old)) → (S.state store.new).lie ≡ None
-        → MatchResult result (λ _. Keeps flat.now.schema (chosen pred.now slots) from k kept.new) (λ e. e ≡ OpErr.Failed) }
+    ensures collects { Collects (length rows.old) flat.now (is_true pred.now) from k kept.new result
+        (at R.state vault.old (S.state store.old)) (at R.state vault.new (S.state store.new)) }
 {
     clear_rows(kept);
     let pack = rows.len() as u32;

@@ -1,18 +1,9 @@
-ghost use Rattle.std.specs.Prelude.{◌≡◌, ◌≢◌, ◌≤◌, ◌<◌, ◌+◌, ◌*◌, ◌^◌, ◌⊎◌, ℕ, Bool, List, IsTrue, None, IfErr, OnOk, MatchResult, length};
-ghost use Rattle.std.specs.Int.{div_ceil};
-ghost use Rattle.ob_base.specs.Lists.{each};
-ghost use Rattle.ob_base.specs.Numbers.{blocks_for};
-ghost use Rattle.ob_base.specs.Schemas.{width};
-ghost use Rattle.ob_vault.specs.declared.region.Order.TheVariants.{Round};
-ghost use Rattle.ob_vault.specs.Tied.{Ready, Lives, OnTurn};
-ghost use Rattle.ob_vault.specs.Calls.{Went, Seals, one};
-ghost use Rattle.ob_vault.specs.Places.{at, RowsFit};
-ghost use Rattle.ob_vault.specs.Rows.{SameSizes, Wide};
-ghost use Rattle.ob_script.specs.Parts.{small_pass};
-ghost use Rattle.ob_row.specs.Slots.{Slots};
-ghost use Rattle.ob_flat.specs.Flats.{IsSized, IsFlat, Represents, Accepts, table_region};
-ghost use Rattle.ob_flat.specs.Passes.{PassCut};
-ghost use Rattle.ob_small.specs.Keeping.{chosen, fitted};
+ghost use Rattle.std.specs.Prelude.{length};
+ghost use Rattle.ob_vault.specs.Places.{at};
+ghost use Rattle.ob_vault.specs.Rows.{SameSizes};
+ghost use Rattle.ob_vault.specs.Words.{MayAsk};
+ghost use Rattle.ob_flat.specs.Words.{IsTable, FitBlock};
+ghost use Rattle.ob_small.specs.Selection.{IsNew, AreBuffers, Fills, select_of, fill_length};
 
 use crate::collecting::collect_blocks;
 use crate::writing::write_blocks;
@@ -34,32 +25,20 @@ pub(crate) fn fill_result<S: BlockStore, R: Revisions>(
     pred: &Pred,
     to: &Flat,
 ) -> Result<(), OpErr>
-    requires ready { Ready (at R.state vault.old (S.state store.old)) }
-    requires spare { div_ceil (blocks_for (length rows.old) to.now.capacity) buffered * blocks_for (length rows.old) flat.now.capacity + blocks_for (length rows.old) to.now.capacity ≤ (S.state store.old).spare }
-    requires few { length (S.state store.old).asked < 2 ^ 63 + 2 ^ 59 + 1 }
-    requires flat { IsFlat (length rows.old) flat.now (at R.state vault.old (S.state store.old)) }
-    requires lives { Lives to.now.region (table_region Round (length rows.old) to.now.schema to.now.capacity) (at R.state vault.old (S.state store.old)) }
-    requires turn { OnTurn to.now.region (table_region Round (length rows.old) to.now.schema to.now.capacity) 0 (at R.state vault.old (S.state store.old)) }
-    requires apart { flat.now.region ≢ to.now.region }
-    requires schema { to.now.schema ≡ flat.now.schema }
-    requires size { IsSized flat.now.schema flat.now.capacity }
-    requires sized { IsSized to.now.schema to.now.capacity }
-    requires pack { (1 ≤ length rows.old) × (length rows.old ≤ 16) }
-    requires fit { RowsFit rows.old (length rows.old * width flat.now.schema) }
-    requires some { 1 ≤ buffered }
-    requires space { length kept.old ≡ buffered * length rows.old }
-    requires wide { Wide (width flat.now.schema) kept.old }
+    requires asks { MayAsk
+        (fill_length (select_of (length rows.old) buffered flat.now pred.now to.now.capacity))
+        (at R.state vault.old (S.state store.old)) }
+    requires table { IsTable (length rows.old) flat.now (at R.state vault.old (S.state store.old)) }
+    requires new { IsNew (select_of (length rows.old) buffered flat.now pred.now to.now.capacity)
+        to.now (at R.state vault.old (S.state store.old)) }
+    requires fit { FitBlock flat.now.schema rows.old }
+    requires buffers { AreBuffers
+        (select_of (length rows.old) buffered flat.now pred.now to.now.capacity) kept.old }
     ensures rows { SameSizes rows.old rows.new }
     ensures kept { SameSizes kept.old kept.new }
-    ensures ok { OnOk result (Went (each (div_ceil (blocks_for (length rows.old) to.now.capacity) buffered) (small_pass flat.now.region to.now.region (blocks_for (length rows.old) flat.now.capacity) (blocks_for (length rows.old) to.now.capacity) buffered)) (one to.now.region) (at R.state vault.old (S.state store.old)) (at R.state vault.new (S.state store.new))) }
-    ensures err { IfErr result (λ e. PassCut e (each (div_ceil (blocks_for (length rows.old) to.now.capacity) buffered) (small_pass flat.now.region to.now.region (blocks_for (length rows.old) flat.now.capacity) (blocks_for (length rows.old) to.now.capacity) buffered)) (one to.now.region) (at R.state vault.old (S.state store.old)) (at R.state vault.new (S.state store.new))) }
-    ensures never { IfErr result (λ e. (e ≡ OpErr.Failed) ⊎ ((place : ℕ) × (place < blocks_for (length rows.old) flat.now.capacity) × (e ≡ OpErr.Tampered flat.now.region place))) }
-    ensures seals { (good : ℕ → List ℕ → Bool) → Accepts good (length rows.old) to.now.schema to.now.region → Seals good (at R.state vault.old (S.state store.old)) (at R.state vault.new (S.state store.new)) }
-    ensures flat { OnOk result (IsFlat (length rows.old) to.now (at R.state vault.new (S.state store.new))) }
-    ensures told { IsTrue (S.state store.old).tells → (slots : Slots) → Represents (length rows.old) flat.now slots (at R.state vault.old (S.state store.old)) → (S.state store.new).lie ≡ None
-        → MatchResult result
-        (λ _. Represents (length rows.old) to.now (fitted to.now.capacity (chosen pred.now slots)) (at R.state vault.new (S.state store.new)))
-        (λ e. e ≡ OpErr.Failed) }
+    ensures fills { Fills (select_of (length rows.old) buffered flat.now pred.now to.now.capacity)
+        to.now.region result
+        (at R.state vault.old (S.state store.old)) (at R.state vault.new (S.state store.new)) }
 {
     let pack = rows.len() as u32;
     let results = to.capacity.div_ceil(pack);

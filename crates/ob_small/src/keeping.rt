@@ -1,11 +1,8 @@
-ghost use Rattle.std.specs.Prelude.{◌≡◌, ◌≤◌, ◌<◌, ◌+◌, ◌++◌, ◌∷◌, [], ℕ, List, Option, None, IfOk, OnOk, MatchResult, length, drop, replicate};
-ghost use Rattle.ob_base.specs.Schemas.{Columns, width};
-ghost use Rattle.ob_vault.specs.Rows.{SameSizes, Wide, row_at};
-ghost use Rattle.ob_row.specs.Rows.{Row};
-ghost use Rattle.ob_row.specs.Slots.{Slots};
-ghost use Rattle.ob_row.specs.Spelling.{Begins};
-ghost use Rattle.ob_flat.specs.Slots.{Spelt, AreSlots};
-ghost use Rattle.ob_small.specs.Keeping.{chosen, Keeps};
+ghost use Rattle.std.specs.Prelude.{◌≤◌, ◌+◌, length};
+ghost use Rattle.ob_base.specs.Schemas.{width};
+ghost use Rattle.ob_vault.specs.Rows.{SameSizes, Wide};
+ghost use Rattle.ob_row.specs.Truth.{is_true};
+ghost use Rattle.ob_small.specs.Keeping.{KeepsRow, KeepsRows};
 
 use ob_base::Schema;
 use ob_flat::copy_row;
@@ -18,9 +15,7 @@ fn keep_row(schema: &Schema, row: &ClearRow, seen: u32, from: u32, k: u32, kept:
     requires row { width schema.now ≤ length row.now }
     requires wide { Wide (width schema.now) kept.old }
     ensures size { SameSizes kept.old kept.new }
-    ensures spells { ((slot : Option Row) × Begins schema.now slot row.now) → AreSlots schema.now kept.old → AreSlots schema.now kept.new }
-    ensures told { (slot : Option Row) (before : Slots) → Begins schema.now slot row.now → seen ≡ length before → Keeps schema.now before from k kept.old
-        → Keeps schema.now (before ++ slot ∷ []) from k kept.new }
+    ensures keeps { KeepsRow schema.now row.now seen from k kept.old kept.new }
 {
     if from <= seen && seen < k {
         let i = (seen - from) as usize;
@@ -44,11 +39,8 @@ pub(crate) fn keep_rows(
     requires kept { Wide (width schema.now) kept.old }
     requires few { seen + length rows.now ≤ 2147483648 }
     ensures size { SameSizes kept.old kept.new }
-    ensures most { IfOk result (λ n. n ≤ seen + length rows.now) }
-    ensures read { OnOk result (AreSlots schema.now rows.now) }
-    ensures spells { OnOk result (AreSlots schema.now kept.old → AreSlots schema.now kept.new) }
-    ensures told { (before slots : Slots) → Spelt schema.now slots rows.now → seen ≡ length before → Keeps schema.now before from k kept.old
-        → MatchResult result (λ n. (n ≡ length (before ++ chosen pred.now slots)) × Keeps schema.now (before ++ chosen pred.now slots) from k kept.new) (λ _. ⊥) }
+    ensures keeps { KeepsRows (is_true pred.now) schema.now rows.now seen from k result
+        kept.old kept.new }
 {
     let mut n = seen;
     for z in 0..rows.len() {

@@ -1,17 +1,15 @@
-use Rattle.std.proofs.Common.{◌≡◌, ◌<◌, ◌*◌, ◌==◌, if◌then◌else◌, min, ℕ, Bool, List, IsTrue, None, length}
+use Rattle.std.proofs.Common.{◌<◌, ◌*◌, min, ℕ, IsTrue, length}
 use Rattle.ob_base.specs.Lists.{each}
-use Rattle.ob_base.specs.Numbers.{blocks_for}
-use Rattle.ob_script.specs.Parts.{small_pass}
-use Rattle.ob_vault.specs.Tied.{Lives, Written, OnTurn, Holds}
-use Rattle.ob_vault.specs.Calls.{Went, Seals, one}
+use Rattle.ob_vault.specs.Tied.{Written}
+use Rattle.ob_vault.specs.Calls.{Went, one}
 use Rattle.ob_vault.specs.Rows.{SameSizes}
 use Rattle.ob_vault.specs.Places.{at}
+use Rattle.ob_vault.specs.Words.{IsHonest}
 use Rattle.ob_row.specs.Slots.{Slots}
-use Rattle.ob_blocks.specs.Blocks.{block_at}
-use Rattle.ob_flat.specs.Slots.{block_bytes}
-use Rattle.ob_vault.specs.declared.region.Order.TheVariants.{Round}
-use Rattle.ob_flat.specs.Flats.{Represents, Accepts, table_region, whole_blocks}
-use Rattle.ob_small.specs.Keeping.{chosen, fitted}
+use Rattle.ob_flat.specs.Flats.{HoldsBlock, Represents}
+use Rattle.ob_flat.specs.Words.{SealsTable}
+use Rattle.ob_small.specs.Keeping.{chosen}
+use Rattle.ob_small.specs.Selection.{IsNext, HoldsChosen, select_of, results, pass_script}
 use Rattle.ob_small.proofs.filling.fill_result.Given as goal
 
 abbrev pub invariant-loop-j : goal.invariant-loop-j
@@ -19,19 +17,16 @@ invariant-loop-j g l =
     let old = at g.R.Revisions.state l.initial.vault (g.S.BlockStore.state l.initial.store) in
     let now = at g.R.Revisions.state l.vault (g.S.BlockStore.state l.store) in
     let pack = length l.initial.rows in
-    let q = l.to.region in
-    let blocks = blocks_for pack l.flat.capacity in
-    let results = blocks_for pack l.to.capacity in
-    let done = min (l.j * l.buffered) results in
-    let shape = table_region Round pack l.to.schema l.to.capacity in
+    let to = l.to in
+    let s = select_of pack l.buffered l.flat l.pred to.capacity in
+    let done = min (l.j * l.buffered) (results s) in
     record {
-      went : Went (each l.j (small_pass l.flat.region q blocks results l.buffered)) (one q) old now;
-      seals : (good : ℕ → List ℕ → Bool) → Accepts good pack l.to.schema q → Seals good old now;
+      went : Went (each l.j (pass_script s to.region)) (one to.region) old now;
+      seals : SealsTable pack l.flat.schema to.region old now;
       rows : SameSizes l.initial.rows l.rows;
       kept : SameSizes l.initial.kept l.kept;
-      lives : Lives q shape now;
-      turn : OnTurn q shape (if done == results then 0 else done) now;
-      written : (p : ℕ) → p < done → Written q p now;
-      told : IsTrue old.store.tells → (slots : Slots) → Represents pack l.flat slots old → now.store.lie ≡ None → (p : ℕ) → p < done
-          → Holds q p (block_bytes l.to.schema (block_at pack (whole_blocks pack l.to.capacity (fitted l.to.capacity (chosen l.pred slots))) p)) now;
+      next : IsNext pack to done now;
+      written : (p : ℕ) → p < done → Written to.region p now;
+      blocks : IsTrue old.store.tells → (p : ℕ) → p < done → HoldsBlock pack to.schema to.region p now;
+      told : IsHonest old now → (slots : Slots) → Represents pack l.flat slots old → (p : ℕ) → p < done → HoldsChosen pack to (chosen s.p slots) p now;
     }

@@ -1,145 +1,42 @@
-use Rattle.std.proofs.Common.{◌≤◌, ◌*◌, ℕ, arith, inl, inr, length, ◌∙◌, refl, subst}
+use Rattle.std.proofs.Common.{◌≤◌, ◌+◌, ◌^◌, ℕ, length, ◌∙◌, refl, arith}
 use Rattle.std.proofs.lemmas.Result.{err_from_is_err_and}
-use Rattle.std.specs.Int.{div_ceil}
-use Rattle.ob_base.specs.Accesses.{make_at}
-use Rattle.ob_base.specs.Lists.{each}
-use Rattle.ob_base.specs.Numbers.{blocks_for}
-use Rattle.ob_base.specs.Schemas.{Columns, width}
-use Rattle.ob_script.specs.Parts.{small_pass}
+use Rattle.ob_base.specs.Schemas.{Columns}
 use Rattle.ob_vault.specs.Calls.{one}
-use Rattle.ob_vault.specs.Places.{at}
-use Rattle.ob_vault.proofs.Runs.{went_join, went_length, tells_went, lives_apart, shape_lasts, seals_join, lasts_trans}
-use Rattle.ob_row.specs.Slots.{Slots}
-use Rattle.ob_row.specs.Truth.{is_true}
-use Rattle.ob_vault.specs.declared.region.Order.TheVariants.{Round}
-use Rattle.ob_flat.specs.Flats.{IsSized, IsFlat, Represents, Accepts, table_region}
-use Rattle.ob_flat.proofs.Loops.{spare_first, spare_rest, few_first, few_left}
+use Rattle.ob_vault.proofs.Runs.{lives_apart}
+use Rattle.ob_vault.proofs.WordLemmas.{asks_start, asks_after}
+use Rattle.ob_flat.specs.Flats.{IsSized}
+use Rattle.ob_flat.proofs.Loops.{pack_fits}
 use Rattle.ob_flat.proofs.Rooms.{same_rows}
-use Rattle.ob_flat.proofs.Runs.{pass_more, pass_after, pass_then}
-use Rattle.ob_flat.proofs.Tables.{flat_lasts, represents_lasts, fits_sized}
-use Rattle.ob_small.specs.Keeping.{fitted}
-use Rattle.ob_small.proofs.Errors.{not_ok, if_ok}
-use Rattle.ob_small.proofs.Choosing.{filter-small}
+use Rattle.ob_flat.proofs.Tables.{flat_lasts, blocks_few, fits_sized}
+use Rattle.ob_small.specs.Selection.{Selection, select_of, blocks, results, passes, fill_length}
+use Rattle.ob_small.proofs.Lengths.{passes_few, product_few}
+use Rattle.ob_small.proofs.Selected.{selects_none, selects_ok, selects_err}
 use Rattle.ob_small.proofs.selecting.select_rows.Goals as goal
 
 -- a table of fewer slots
 sized_less : (columns : Columns) (n k : ℕ) → IsSized columns n → (1 ≤ k) × (k ≤ n) → IsSized columns k
 sized_less columns n k is some = record { some = is.some; few = is.few; wide = is.wide; least = some.0; most = omega (arith, is.most, some.1) }
 
-pub returns-in_err-region-clause-err : goal.returns-in_err-region-clause-err
-returns-in_err-region-clause-err g c =
-    let p = err_from_is_err_and c.from_residual.result c.from_residual.ensures.1 in
-    let next = c.args.vault.now.next in
-    let pack = length c.args.rows.now in
-    let results = blocks_for pack c.args.k in
-    rw (p.1, p.2) (pass_more (one next) _ _ _ (make_at next results (pack * width c.args.flat.now.schema))
-    (each (div_ceil results c.args.buffered) (small_pass c.args.flat.now.region next (blocks_for pack c.args.flat.now.capacity) results c.args.buffered)) c.in_err-region.ensures.err)
+-- what fills a result is not too much
+fill_few : (s : Selection) → 1 ≤ s.pack → 1 ≤ s.buffered → s.k ≤ 16777216 → s.flat.capacity ≤ 16777216 → 1 + fill_length s ≤ 2 ^ 59
+fill_few s some buffered few most =
+    let few_results : results s ≤ 16777216 = omega (arith, blocks_few s.pack s.k some, few) in
+    let few_blocks : blocks s ≤ 16777216 = omega (arith, blocks_few s.pack s.flat.capacity some, most) in
+    let few_passes : passes s ≤ 16777216 = omega (arith, passes_few (results s) s.buffered buffered, few_results) in
+    omega (arith, product_few (passes s) (blocks s) few_passes few_blocks, few_results)
 
-pub returns-in_err-region-clause-source : goal.returns-in_err-region-clause-source
-returns-in_err-region-clause-source g c =
-    let off = lives_apart _ _ _ c.requires.ready c.requires.flat.made.lives in
-    flat_lasts (length c.args.rows.now) c.args.flat.now (one c.args.vault.now.next) _ _ c.in_err-region.ensures.err.lasts off c.requires.flat
+pub overflow_cast-pack : goal.overflow_cast-pack
+overflow_cast-pack g c = pack_fits (length c.args.rows.now) c.requires.table.most
 
-pub fill_result-requires-clause-flat : goal.fill_result-requires-clause-flat
-fill_result-requires-clause-flat g c =
-    let off = lives_apart _ _ _ c.requires.ready c.requires.flat.made.lives in
-    flat_lasts (length c.args.rows.now) c.args.flat.now (one c.args.vault.now.next) _ _ c.in_ok-region.ensures.ok.lasts off c.requires.flat
-
-pub fill_result-requires-clause-apart : goal.fill_result-requires-clause-apart
-fill_result-requires-clause-apart g c = λ same. lives_apart _ _ _ c.requires.ready c.requires.flat.made.lives (same ∙ c.in_ok-region.ensures.number)
-
-pub returns-in-Ok-clause-ok : goal.returns-in-Ok-clause-ok
-returns-in-Ok-clause-ok g c =
-    let next = c.args.vault.now.next in
-    let pack = length c.args.rows.now in
-    let results = blocks_for pack c.args.k in
-    let filled = rw c.in_ok-region.ensures.number at c.in-Ok.ensures.ok in
-    went_join (one next) _ _ _ (make_at next results (pack * width c.args.flat.now.schema))
-    (each (div_ceil results c.args.buffered) (small_pass c.args.flat.now.region next (blocks_for pack c.args.flat.now.capacity) results c.args.buffered)) c.in_ok-region.ensures.ok filled
-
-pub returns-in-Ok-clause-seals : goal.returns-in-Ok-clause-seals
-returns-in-Ok-clause-seals g c = λ good fine.
-    let fine' : Accepts good (length c.args.rows.now) c.copied.result c.in_ok-region.region = rw (c.in_ok-region.ensures.number, c.copied.ensures) fine in
-    seals_join good _ _ _ c.in_ok-region.ensures.ok.lasts.later (c.make_table.ensures.seals good) (c.fill_result.ensures.seals good fine')
-
-pub returns-in-Ok-clause-source : goal.returns-in-Ok-clause-source
-returns-in-Ok-clause-source g c =
-    let next = c.args.vault.now.next in
-    let off = lives_apart _ _ _ c.requires.ready c.requires.flat.made.lives in
-    let filled = rw c.in_ok-region.ensures.number at c.in-Ok.ensures.ok in
-    flat_lasts (length c.args.rows.now) c.args.flat.now (one next) _ _ (lasts_trans (one next) _ _ _ c.in_ok-region.ensures.ok.lasts filled.lasts) off c.requires.flat
-
-pub returns-in-Ok-clause-lives : goal.returns-in-Ok-clause-lives
-returns-in-Ok-clause-lives g c =
-    let number = c.in_ok-region.ensures.number in
-    let next = c.args.vault.now.next in
-    let pack = length c.args.rows.now in
-    let shape = table_region Round pack c.args.flat.now.schema c.args.k in
-    let filled = rw number at c.in-Ok.ensures.ok in
-    let there : IsFlat pack (record { schema = c.copied.result; capacity = c.args.k; region = next }) _ = rw number at c.in-Ok.ensures.flat in
-    shape_lasts (one next) _ _ next shape _ c.in_ok-region.ensures.ok.lasts.ready filled.lasts c.in_ok-region.ensures.lives there.made.lives
-
-pub returns-in-Ok-clause-told : goal.returns-in-Ok-clause-told
-returns-in-Ok-clause-told g c = λ tells slots is nolie.
-    let pack = length c.args.rows.now in
-    let off = lives_apart _ _ _ c.requires.ready c.requires.flat.made.lives in
-    let made = c.in_ok-region.ensures.ok in
-    let mid = represents_lasts pack c.args.flat.now (one c.args.vault.now.next) _ _ made.lasts off slots is in
-    let all = c.in-Ok.ensures.told (tells_went _ _ _ _ made tells) slots mid nolie in
-    subst (λ (l : Slots). Represents pack (record { schema = c.copied.result; capacity = c.args.k; region = c.in_ok-region.region }) (fitted c.args.k l) (at g.R.Revisions.state c.fill_result.new.vault (g.S.BlockStore.state c.fill_result.new.store))) (filter-small (is_true c.args.pred.now) slots) all
-
-pub returns-in-Err-clause-err : goal.returns-in-Err-clause-err
-returns-in-Err-clause-err g c =
-    let next = c.args.vault.now.next in
-    let pack = length c.args.rows.now in
-    let results = blocks_for pack c.args.k in
-    let number = c.in_ok-region.ensures.number in
-    let cut = rw number at c.in-Err.ensures.err in
-    let went = c.forget.ensures.went _ c.in-Err.ensures.err.lasts.ready in
-    let forgot = rw number at went in
-    pass_then (one next) _ _ _ _ _ (pass_after (one next) _ _ _ _ (make_at next results (pack * width c.args.flat.now.schema))
-    (each (div_ceil results c.args.buffered) (small_pass c.args.flat.now.region next (blocks_for pack c.args.flat.now.capacity) results c.args.buffered)) c.in_ok-region.ensures.ok cut) forgot refl
-
-pub returns-in-Err-clause-never : goal.returns-in-Err-clause-never
-returns-in-Err-clause-never g c = elim c.in-Err.ensures.never [ inl failed ↦ inl failed | inr tampered ↦ inr (inr tampered) ]
-
-pub returns-in-Err-clause-seals : goal.returns-in-Err-clause-seals
-returns-in-Err-clause-seals g c = λ good fine.
-    let fine' : Accepts good (length c.args.rows.now) c.copied.result c.in_ok-region.region = rw (c.in_ok-region.ensures.number, c.copied.ensures) fine in
-    seals_join good _ _ _ c.in_ok-region.ensures.ok.lasts.later (c.make_table.ensures.seals good)
-    (seals_join good _ _ _ c.in-Err.ensures.err.lasts.later (c.fill_result.ensures.seals good fine') (c.forget.ensures.seals _ good))
-
-pub returns-in-Err-clause-source : goal.returns-in-Err-clause-source
-returns-in-Err-clause-source g c =
-    let next = c.args.vault.now.next in
-    let number = c.in_ok-region.ensures.number in
-    let off = lives_apart _ _ _ c.requires.ready c.requires.flat.made.lives in
-    let cut = rw number at c.in-Err.ensures.err in
-    let went = c.forget.ensures.went _ c.in-Err.ensures.err.lasts.ready in
-    let forgot = rw number at went in
-    flat_lasts (length c.args.rows.now) c.args.flat.now (one next) _ _ (lasts_trans (one next) _ _ _ c.in_ok-region.ensures.ok.lasts (lasts_trans (one next) _ _ _ cut.lasts forgot.lasts)) off c.requires.flat
-
-pub returns-in-Err-clause-told : goal.returns-in-Err-clause-told
-returns-in-Err-clause-told g c = λ tells slots is nolie.
-    let off = lives_apart _ _ _ c.requires.ready c.requires.flat.made.lives in
-    let made = c.in_ok-region.ensures.ok in
-    let mid = represents_lasts (length c.args.rows.now) c.args.flat.now (one c.args.vault.now.next) _ _ made.lasts off slots is in
-    inl (c.in-Err.ensures.told (tells_went _ _ _ _ made tells) slots mid nolie)
-
-pub make_table-requires-clause-ready : goal.make_table-requires-clause-ready
-make_table-requires-clause-ready g c = c.requires.ready
-
-pub make_table-requires-clause-spare : goal.make_table-requires-clause-spare
-make_table-requires-clause-spare g c = spare_first _ c.requires.spare
-
-pub make_table-requires-clause-few : goal.make_table-requires-clause-few
-make_table-requires-clause-few g c = few_first c.requires.few
-
-pub make_table-requires-clause-size : goal.make_table-requires-clause-size
-make_table-requires-clause-size g c = fits_sized (length c.args.rows.now) c.args.flat.now.schema c.args.k c.requires.pack.0 (sized_less c.args.flat.now.schema c.args.flat.now.capacity c.args.k c.requires.size c.requires.number)
-
-pub make_table-requires-clause-pack : goal.make_table-requires-clause-pack
-make_table-requires-clause-pack g c = c.requires.pack
+pub make_table-requires : goal.make_table-requires
+make_table-requires g c =
+    let table = c.requires.table in
+    record {
+      spare = record { ready = c.requires.starts.ready; spare = omega (arith, c.requires.starts.spare) };
+      few = omega (arith, c.requires.starts.few);
+      size = fits_sized (length c.args.rows.now) c.args.flat.now.schema c.args.k table.some (sized_less c.args.flat.now.schema c.args.flat.now.capacity c.args.k table.size c.requires.number);
+      pack = (table.some, table.most);
+    }
 
 pub returns-in_err-region-clause-rows : goal.returns-in_err-region-clause-rows
 returns-in_err-region-clause-rows g c = same_rows c.args.rows.now
@@ -147,77 +44,35 @@ returns-in_err-region-clause-rows g c = same_rows c.args.rows.now
 pub returns-in_err-region-clause-kept : goal.returns-in_err-region-clause-kept
 returns-in_err-region-clause-kept g c = same_rows c.args.kept.now
 
-pub returns-in_err-region-clause-ok : goal.returns-in_err-region-clause-ok
-returns-in_err-region-clause-ok g c = not_ok _ (err_from_is_err_and c.from_residual.result c.from_residual.ensures.1).1
-
-pub returns-in_err-region-clause-value : goal.returns-in_err-region-clause-value
-returns-in_err-region-clause-value g c = if_ok _ (err_from_is_err_and c.from_residual.result c.from_residual.ensures.1).1
-
-pub returns-in_err-region-clause-lives : goal.returns-in_err-region-clause-lives
-returns-in_err-region-clause-lives g c = not_ok _ (err_from_is_err_and c.from_residual.result c.from_residual.ensures.1).1
-
-pub returns-in_err-region-clause-flat : goal.returns-in_err-region-clause-flat
-returns-in_err-region-clause-flat g c = if_ok _ (err_from_is_err_and c.from_residual.result c.from_residual.ensures.1).1
-
-pub returns-in_err-region-clause-never : goal.returns-in_err-region-clause-never
-returns-in_err-region-clause-never g c =
+pub returns-in_err-region-clause-selects : goal.returns-in_err-region-clause-selects
+returns-in_err-region-clause-selects g c =
     let p = err_from_is_err_and c.from_residual.result c.from_residual.ensures.1 in
-    rw (p.1, p.2) (elim c.in_err-region.ensures.never [ inl failed ↦ inl failed | inr none ↦ inr (inl none) ])
+    let s = select_of (length c.args.rows.now) c.args.buffered c.args.flat.now c.args.pred.now c.args.k in
+    let made = c.in_err-region.ensures.makes in
+    rw (p.1, p.2) (selects_none s _ c.requires.starts.ready c.requires.table _ _ made.ran.err made.never made.gone made.seals.seals)
 
-pub returns-in_err-region-clause-memory : goal.returns-in_err-region-clause-memory
-returns-in_err-region-clause-memory g c = λ is. c.in_err-region.ensures.err.began
-
-pub returns-in_err-region-clause-gone : goal.returns-in_err-region-clause-gone
-returns-in_err-region-clause-gone g c =
-    let p = err_from_is_err_and c.from_residual.result c.from_residual.ensures.1 in
-    rw p.1 c.in_err-region.ensures.gone
-
-pub returns-in_err-region-clause-seals : goal.returns-in_err-region-clause-seals
-returns-in_err-region-clause-seals g c = λ good fine. c.make_table.ensures.seals good
-
-pub returns-in_err-region-clause-told : goal.returns-in_err-region-clause-told
-returns-in_err-region-clause-told g c = λ tells slots is nolie.
-    let p = err_from_is_err_and c.from_residual.result c.from_residual.ensures.1 in
-    rw (p.1, p.2) c.in_err-region.ensures.never
-
-pub fill_result-requires-clause-ready : goal.fill_result-requires-clause-ready
-fill_result-requires-clause-ready g c = c.in_ok-region.ensures.ok.lasts.ready
-
-pub fill_result-requires-clause-spare : goal.fill_result-requires-clause-spare
-fill_result-requires-clause-spare g c = spare_rest c.requires.spare c.in_ok-region.ensures.ok.spare refl
-
-pub fill_result-requires-clause-few : goal.fill_result-requires-clause-few
-fill_result-requires-clause-few g c = few_left c.requires.few (went_length _ _ _ _ c.in_ok-region.ensures.ok)
-
-pub fill_result-requires-clause-lives : goal.fill_result-requires-clause-lives
-fill_result-requires-clause-lives g c = rw (c.in_ok-region.ensures.number, c.copied.ensures) c.in_ok-region.ensures.lives
-
-pub fill_result-requires-clause-turn : goal.fill_result-requires-clause-turn
-fill_result-requires-clause-turn g c = rw (c.in_ok-region.ensures.number, c.copied.ensures) c.in_ok-region.ensures.turn
-
-pub fill_result-requires-clause-schema : goal.fill_result-requires-clause-schema
-fill_result-requires-clause-schema g c = c.copied.ensures
-
-pub fill_result-requires-clause-size : goal.fill_result-requires-clause-size
-fill_result-requires-clause-size g c = c.requires.size
-
-pub fill_result-requires-clause-sized : goal.fill_result-requires-clause-sized
-fill_result-requires-clause-sized g c = rw c.copied.ensures (sized_less c.args.flat.now.schema c.args.flat.now.capacity c.args.k c.requires.size c.requires.number)
-
-pub fill_result-requires-clause-pack : goal.fill_result-requires-clause-pack
-fill_result-requires-clause-pack g c = c.requires.pack
-
-pub fill_result-requires-clause-fit : goal.fill_result-requires-clause-fit
-fill_result-requires-clause-fit g c = c.requires.fit
-
-pub fill_result-requires-clause-some : goal.fill_result-requires-clause-some
-fill_result-requires-clause-some g c = c.requires.some
-
-pub fill_result-requires-clause-space : goal.fill_result-requires-clause-space
-fill_result-requires-clause-space g c = c.requires.space
-
-pub fill_result-requires-clause-wide : goal.fill_result-requires-clause-wide
-fill_result-requires-clause-wide g c = c.requires.wide
+pub fill_result-requires : goal.fill_result-requires
+fill_result-requires g c =
+    let pack = length c.args.rows.now in
+    let flat = c.args.flat.now in
+    let s = select_of pack c.args.buffered flat c.args.pred.now c.args.k in
+    let made = c.in_ok-region.ensures.makes in
+    let table = c.requires.table in
+    let off = lives_apart _ _ _ c.requires.starts.ready table.written.made.lives in
+    let most : c.args.k ≤ 16777216 = omega (arith, c.requires.number.1, table.size.most) in
+    record {
+      asks = asks_after {m = fill_length s} (asks_start c.requires.starts (fill_few s table.some c.requires.buffers.some most table.size.most)) made.ran.ok (omega arith);
+      table = record { some = table.some; most = table.most; size = table.size; written = flat_lasts pack flat (one c.args.vault.now.next) _ _ made.ran.ok.lasts off table.written };
+      new = record {
+        same = rw c.copied.ensures;
+        least = c.requires.number.0;
+        most = most;
+        made = rw (made.number, c.copied.ensures) made.made;
+        apart = λ same. off (same ∙ made.number);
+      };
+      fit = c.requires.fit;
+      buffers = record { some = c.requires.buffers.some; space = c.requires.buffers.space; wide = c.requires.buffers.wide };
+    }
 
 pub returns-in-Ok-clause-rows : goal.returns-in-Ok-clause-rows
 returns-in-Ok-clause-rows g c = c.fill_result.ensures.rows
@@ -225,35 +80,25 @@ returns-in-Ok-clause-rows g c = c.fill_result.ensures.rows
 pub returns-in-Ok-clause-kept : goal.returns-in-Ok-clause-kept
 returns-in-Ok-clause-kept g c = c.fill_result.ensures.kept
 
+pub returns-in-Ok-clause-selects : goal.returns-in-Ok-clause-selects
+returns-in-Ok-clause-selects g c =
+    let s = select_of (length c.args.rows.now) c.args.buffered c.args.flat.now c.args.pred.now c.args.k in
+    let made = c.in_ok-region.ensures.makes in
+    let fills = rw made.number at c.in-Ok.ensures.fills in
+    rw (c.copied.ensures, made.number) (selects_ok s _ c.requires.starts.ready c.requires.table _ made.ran.ok made.seals.seals _ _ made.lives fills)
+
 pub returns-in-Err-clause-rows : goal.returns-in-Err-clause-rows
 returns-in-Err-clause-rows g c = c.fill_result.ensures.rows
 
 pub returns-in-Err-clause-kept : goal.returns-in-Err-clause-kept
 returns-in-Err-clause-kept g c = c.fill_result.ensures.kept
 
-pub returns-in-Ok-clause-err : goal.returns-in-Ok-clause-err
-returns-in-Ok-clause-err g c = tt
-
-pub returns-in-Ok-clause-never : goal.returns-in-Ok-clause-never
-returns-in-Ok-clause-never g c = tt
-
-pub returns-in-Ok-clause-gone : goal.returns-in-Ok-clause-gone
-returns-in-Ok-clause-gone g c = tt
-
-pub returns-in-Ok-clause-flat : goal.returns-in-Ok-clause-flat
-returns-in-Ok-clause-flat g c = c.in-Ok.ensures.flat
-
-pub returns-in-Err-clause-ok : goal.returns-in-Err-clause-ok
-returns-in-Err-clause-ok g c = tt
-
-pub returns-in-Err-clause-value : goal.returns-in-Err-clause-value
-returns-in-Err-clause-value g c = tt
-
-pub returns-in-Err-clause-lives : goal.returns-in-Err-clause-lives
-returns-in-Err-clause-lives g c = tt
-
-pub returns-in-Err-clause-flat : goal.returns-in-Err-clause-flat
-returns-in-Err-clause-flat g c = tt
-
-pub returns-in-Err-clause-gone : goal.returns-in-Err-clause-gone
-returns-in-Err-clause-gone g c = rw (← c.in_ok-region.ensures.number) c.forget.ensures.gone
+pub returns-in-Err-clause-selects : goal.returns-in-Err-clause-selects
+returns-in-Err-clause-selects g c =
+    let s = select_of (length c.args.rows.now) c.args.buffered c.args.flat.now c.args.pred.now c.args.k in
+    let made = c.in_ok-region.ensures.makes in
+    let fills = rw made.number at c.in-Err.ensures.fills in
+    let forgets = c.forget.ensures.forgets (g.S.BlockStore.state c.fill_result.new.store) in
+    let forgot = rw made.number at forgets.went fills.ran.err.lasts.ready in
+    let gone = rw made.number at forgets.gone in
+    selects_err s _ c.requires.starts.ready c.requires.table _ made.ran.ok made.seals.seals _ _ _ fills forgot refl forgets.seals gone

@@ -1,32 +1,26 @@
-use Rattle.std.proofs.Common.{◌<◌, ◌+◌, ◌*◌, ◌==◌, if◌then◌else◌, ℕ, Bool, List, IsTrue}
+use Rattle.std.proofs.Common.{◌+◌, ◌*◌, IsTrue}
 use Rattle.ob_base.specs.Lists.{each}
-use Rattle.ob_base.specs.Numbers.{blocks_for}
 use Rattle.ob_script.specs.Parts.{write_from}
-use Rattle.ob_vault.specs.Tied.{Lives, Written, OnTurn, Holds}
-use Rattle.ob_vault.specs.Calls.{Went, Seals, one}
+use Rattle.ob_vault.specs.Tied.{Written}
+use Rattle.ob_vault.specs.Calls.{Went, one}
 use Rattle.ob_vault.specs.Places.{at}
 use Rattle.ob_row.specs.Slots.{Slots}
-use Rattle.ob_blocks.specs.Blocks.{block_at}
-use Rattle.ob_flat.specs.Slots.{block_bytes}
-use Rattle.ob_vault.specs.declared.region.Order.TheVariants.{Round}
-use Rattle.ob_flat.specs.Flats.{Accepts, table_region, whole_blocks}
-use Rattle.ob_small.specs.Keeping.{fitted, Keeps}
+use Rattle.ob_flat.specs.Flats.{HoldsBlock}
+use Rattle.ob_flat.specs.Words.{SealsTable}
+use Rattle.ob_small.specs.Keeping.{AreKept}
+use Rattle.ob_small.specs.Selection.{IsNext, Extends, HoldsChosen}
 use Rattle.ob_small.proofs.writing.write_blocks.Given as goal
 
 abbrev pub invariant-loop-x : goal.invariant-loop-x
 invariant-loop-x g l =
     let old = at g.R.Revisions.state l.initial.vault (g.S.BlockStore.state l.initial.store) in
     let now = at g.R.Revisions.state l.vault (g.S.BlockStore.state l.store) in
-    let q = l.to.region in
-    let shape = table_region Round l.pack l.to.schema l.to.capacity in
-    let blocks = blocks_for l.pack l.to.capacity in
+    let to = l.to in
     record {
-      went : Went (each l.x (write_from q l.first)) (one q) old now;
-      seals : (good : ℕ → List ℕ → Bool) → Accepts good l.pack l.to.schema q → Seals good old now;
-      lives : Lives q shape now;
-      turn : OnTurn q shape (if l.first + l.x == blocks then 0 else l.first + l.x) now;
-      written : (p : ℕ) → p < l.first + l.x → (p < l.first → Written q p old) → Written q p now;
-      told : IsTrue old.store.tells → (slots : Slots) → Keeps l.to.schema slots (l.first * l.pack) l.to.capacity l.kept → (p : ℕ) → p < l.first + l.x
-          → (p < l.first → Holds q p (block_bytes l.to.schema (block_at l.pack (whole_blocks l.pack l.to.capacity (fitted l.to.capacity slots)) p)) old)
-          → Holds q p (block_bytes l.to.schema (block_at l.pack (whole_blocks l.pack l.to.capacity (fitted l.to.capacity slots)) p)) now;
+      went : Went (each l.x (write_from to.region l.first)) (one to.region) old now;
+      seals : SealsTable l.pack to.schema to.region old now;
+      next : IsNext l.pack to (l.first + l.x) now;
+      written : Extends (Written to.region) l.first l.x old now;
+      rows : IsTrue old.store.tells → Extends (HoldsBlock l.pack to.schema to.region) l.first l.x old now;
+      told : IsTrue old.store.tells → (slots : Slots) → AreKept to.schema slots (l.first * l.pack) to.capacity l.kept → Extends (HoldsChosen l.pack to slots) l.first l.x old now;
     }
