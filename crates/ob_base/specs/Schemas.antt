@@ -21,10 +21,6 @@ kind_width (Varchar n) = n + 1
 abbrev pub width : Columns → ℕ
 width columns = 1 + sum_by (λ (c : Column). kind_width c.kind) columns
 
--- a sealed block of this many rows: their bytes and the tag
-abbrev pub block_len : ℕ → Columns → ℕ
-block_len pack columns = pack * width columns + 32
-
 -- integer with integer, text with text
 abbrev pub same_kind : Kind → Kind → Bool
 same_kind Int Int = true

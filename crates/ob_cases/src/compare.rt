@@ -26,7 +26,10 @@ pub fn difference(case: &Case, came: &Came) -> Option<Part> {
     if !traced {
         return Some(Part::Accesses);
     }
-    if case.total.is_some_and(|total| total != lines_in(came.trace)) {
+    if case
+        .total
+        .is_some_and(|total| total != lines_in(came.trace))
+    {
         return Some(Part::Total);
     }
     if case.status != u64::from(came.status) {

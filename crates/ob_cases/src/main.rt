@@ -10,8 +10,8 @@ mod serving;
 
 use case::{Case, LineErr};
 use serving::{Served, serve};
-use std::process::ExitCode;
 use std::io::{self, Print, Write};
+use std::process::ExitCode;
 use std::rt::{Env, Files};
 use std::{env, fs};
 

@@ -2,9 +2,7 @@
 //! each comparison, NOT, AND and OR in parentheses of its own.
 use ob_base::{ColumnName, Name, NewColumn, NewKind, Source};
 use ob_row::Order;
-use ob_sql::{
-    Against, Cond, CondTree, Listed, Literal, SelectRows, SelectTotals, Set, Stmt,
-};
+use ob_sql::{Against, Cond, CondTree, Listed, Literal, SelectRows, SelectTotals, Set, Stmt};
 use std::alloc::{AllocError, Global};
 
 /// The statement, written out.

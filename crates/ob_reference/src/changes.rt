@@ -79,9 +79,12 @@ fn update_held(sets: &[Set], cond: &Option<Cond>, held: &mut Held) -> usize
     ensures count { result
         ≡ count_by (is_true (where_at cond.now held.old.heading.schema)) held.old.held }
     ensures next { held.new
-        ≡ record { heading = held.old.heading; held = map
-        (updated (where_at cond.now held.old.heading.schema)
-        (set_cells sets.now held.old.heading.schema)) held.old.held } }
+        ≡ record {
+          heading = held.old.heading;
+          held = map
+              (updated (where_at cond.now held.old.heading.schema)
+              (set_cells sets.now held.old.heading.schema)) held.old.held;
+        } }
 {
     let count = count_selected(cond, &held.heading.schema, held.rows.as_slice());
     update_rows(sets, cond, &held.heading.schema, held.rows.as_mut_slice());
@@ -92,8 +95,11 @@ fn delete_held(cond: &Option<Cond>, held: &mut Held) -> usize
     ensures count { result
         ≡ count_by (is_true (where_at cond.now held.old.heading.schema)) held.old.held }
     ensures next { held.new
-        ≡ record { heading = held.old.heading; held = filter
-        (λ row. not (is_true (where_at cond.now held.old.heading.schema) row)) held.old.held } }
+        ≡ record {
+          heading = held.old.heading;
+          held = filter
+              (λ row. not (is_true (where_at cond.now held.old.heading.schema) row)) held.old.held;
+        } }
 {
     let count = count_selected(cond, &held.heading.schema, held.rows.as_slice());
     delete_rows(cond, &held.heading.schema, &mut held.rows);

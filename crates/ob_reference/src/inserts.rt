@@ -92,8 +92,11 @@ fn insert_held(
     ensures next { IfOk result
         (λ r. held.new
         ≡ followed r
-        (record { heading = held.old.heading; held = held.old.held
-        ++ new_row held.old.heading.schema names.now values.now ∷ [] }) held.old) }
+        (record {
+          heading = held.old.heading;
+          held = held.old.held
+              ++ new_row held.old.heading.schema names.now values.now ∷ [];
+        }) held.old) }
     ensures err { OnErr result (held.new ≡ held.old) }
 {
     match new_row(alloc, &held.heading.schema, names, values) {

@@ -151,8 +151,8 @@ impl Database {
     ) -> Result<Answer, NoMemory>
         ensures { IfOk result (λ a. a
             ≡ answered
-                (late_refusal limit self.now (TotalsStmt select.now))
-                (accepted_answer self.now (TotalsStmt select.now))) }
+            (late_refusal limit self.now (TotalsStmt select.now))
+            (accepted_answer self.now (TotalsStmt select.now))) }
     {
         let tables = self.tables.as_slice();
         match totalled_rows(alloc, tables, select) {

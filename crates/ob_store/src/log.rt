@@ -224,7 +224,7 @@ fn joined(cycles: &[Access], starts: &[Start], count: u64, access: Access) -> us
     requires { IsLog cycles.now starts.now count }
     ensures { result
         ≡ joins access (runs_of cycles.now starts.now
-            (length starts.now) (length cycles.now) count) }
+        (length starts.now) (length cycles.now) count) }
 {
     if starts.is_empty() {
         return 0;

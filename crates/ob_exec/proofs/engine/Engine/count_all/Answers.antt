@@ -429,7 +429,7 @@ count-requires-clause-spare g c =
     record {
       ready = (went_rests _ (g.S.BlockStore.state c.args.store.now) (g.S.BlockStore.state c.room.new.self) c.room.ensures.rests none c.requires.agrees.ready).lasts.ready;
       spare = subst (λ (n : ℕ). n ≤ spare) (c.from-2.ensures ∙ c.div_ceil-blocks.ensures ∙ ap (λ (k : ℕ). blocks_for k c.flat_at-flat.result.capacity) (c.from.ensures ∙ sym c.requires.agrees.room.pack))
-    (at_ok c.room.result _ (sym c.is_err.ensures.value ∙ c.if-is_err.false) c.room.ensures.spare);
+          (at_ok c.room.result _ (sym c.is_err.ensures.value ∙ c.if-is_err.false) c.room.ensures.spare);
     }
 
 pub count-requires-clause-flat : goal.count-requires-clause-flat

@@ -184,7 +184,7 @@ create-requires-clause-starts g c =
     record {
       ready = (went_rests _ (g.S.BlockStore.state c.args.store.now) (g.S.BlockStore.state c.room.new.self) c.room.ensures.rests none c.requires.agrees.ready).lasts.ready;
       spare = subst (λ (n : ℕ). 1 + n ≤ spare) (c.from-2.ensures ∙ c.div_ceil-blocks.ensures ∙ ap (λ (k : ℕ). blocks_for k c.args.capacity) (c.from.ensures ∙ sym c.requires.agrees.room.pack))
-    (at_ok c.room.result _ (sym c.is_err.ensures.value ∙ c.if-is_err.false) c.room.ensures.spare);
+          (at_ok c.room.result _ (sym c.is_err.ensures.value ∙ c.if-is_err.false) c.room.ensures.spare);
       few = new_asked c.args.self.now.public (length (g.S.BlockStore.state c.args.store.now).asked) c.args.table.now c.args.columns.now c.args.capacity c.requires.allowed _ (ap length c.room.ensures.rests.asked);
     }
 
