@@ -9,7 +9,3 @@ column_label joins c = if joins then c.table ++ codes "." ++ c.name else c.name
 -- an aggregate of it
 abbrev pub call_label : List ℕ → List ℕ → List ℕ
 call_label name of = name ++ codes "(" ++ of ++ codes ")"
-
--- the names of a column's table and its own are no longer than a name may be
-abbrev pub IsNamed : Column → Type 0
-IsNamed c = (length c.table ≤ 32) × (length c.name ≤ 32)
