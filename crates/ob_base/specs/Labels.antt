@@ -1,5 +1,5 @@
 -- The labels of an answer's columns.
-use Rattle.std.specs.Prelude.{◌≤◌, Bool, ℕ, List, ◌++◌, length, codes, if◌then◌else◌}
+use Rattle.std.specs.Prelude.{Bool, ℕ, List, ◌++◌, codes, if◌then◌else◌}
 use Rattle.ob_base.specs.declared.schema.Column.{Column}
 
 -- a column by its name, in a join by its table's and its own

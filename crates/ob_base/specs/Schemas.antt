@@ -1,5 +1,5 @@
 -- Schemas and what stands in them.
-use Rattle.std.specs.Prelude.{ℕ, ◌+◌, ◌*◌, Bool, true, false, List, map, sum_by, nat_lt, Option}
+use Rattle.std.specs.Prelude.{ℕ, ◌+◌, Bool, true, false, List, map, sum_by, nat_lt, Option}
 use Rattle.ob_base.specs.declared.schema.Kind.{Kind}
 use Rattle.ob_base.specs.declared.schema.Kind.TheVariants.{Int, Varchar}
 use Rattle.ob_base.specs.declared.schema.Column.{Column}
