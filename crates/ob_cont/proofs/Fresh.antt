@@ -1,5 +1,5 @@
 -- The fresh region of a select.
-use Rattle.std.proofs.Common.{◌≤◌, ◌+◌, ℕ, arith}
+use Rattle.std.proofs.Common.{◌≤◌, ℕ, arith}
 use Rattle.ob_base.specs.Schemas.{Columns}
 use Rattle.ob_flat.specs.Flats.{IsSized}
 

@@ -1,5 +1,5 @@
 -- What a Continuous selection does with one row, with a block of a table, and with all of it.
-use Rattle.std.specs.Prelude.{◌≡◌, ◌⊎◌, ◌≤◌, ◌<◌, ◌+◌, ◌*◌, ◌/◌, ◌%◌, ℕ, Bool, List, IsTrue, Option, None, Result, OnOk, OnErr, IfOk, IfErr, MatchResult, length, take}
+use Rattle.std.specs.Prelude.{◌≡◌, ◌⊎◌, ◌≤◌, ◌<◌, ◌+◌, ◌*◌, ◌%◌, ℕ, Bool, List, IsTrue, Option, None, Result, OnOk, OnErr, IfOk, IfErr, MatchResult, length, take}
 use Rattle.ob_base.specs.declared.access.Access.{Access}
 use Rattle.ob_base.specs.Lists.{each}
 use Rattle.ob_base.specs.Numbers.{blocks_for}
@@ -22,16 +22,9 @@ use Rattle.ob_flat.specs.Slots.{Spelt, AreSlots}
 use Rattle.ob_flat.specs.Flats.{IsSized, FitsRegion, IsInTurn, IsFlat, IsWritten, HoldsSlots, HoldsRows, Represents, table_region}
 use Rattle.ob_flat.specs.Words.{Ran, TamperedAt, TamperedIn, SealsTable, NoMemoryIn, FitBlock, blocks_of}
 use Rattle.ob_flat.specs.Creates.{make_script, table_of}
-use Rattle.ob_cont.specs.Putting.{order_for, put_if, put_at, put_slots, put_part}
+use Rattle.ob_cont.specs.Putting.{order_for, put_if, put_at, put_slots, place_of, put_part}
 
--- the block of a result in which slot i has its place
-abbrev pub place_of : ℕ → Flat → ℕ → ℕ
-place_of pack to i = (i % to.capacity) / pack
-
--- what is asked to put the row of slot i, those of block u, and those of all blocks of a table
-abbrev pub row_script : ℕ → Flat → ℕ → List Access
-row_script pack to i = copy_at to.region to.region (place_of pack to i)
-
+-- what is asked to put the rows of block u, and those of all blocks of a table
 abbrev pub block_script : ℕ → Flat → Flat → ℕ → List Access
 block_script pack flat to u =
     each (slots_in pack flat.capacity u) (put_part to.region pack to.capacity u)
@@ -58,7 +51,7 @@ pub record IsDue (pack : ℕ) (to : Flat) (i : ℕ) (w : World) : Type 0 where
   pub some : 1 ≤ pack
   pub most : pack ≤ 16
   pub size : FitsRegion pack to.schema to.capacity
-  pub turn : IsInTurn (order_for pack) pack to (place_of pack to i) w
+  pub turn : IsInTurn (order_for pack) pack to (place_of pack to.capacity i) w
 
 -- a result of a table each of whose places was written, the first of which may be next
 pub record IsTarget (pack : ℕ) (flat to : Flat) (w : World) : Type 0 where
@@ -84,10 +77,13 @@ pub record AreBuffers (flat : Flat) (rows held : List (List ℕ)) : Type 0 where
 -- the block with the place of slot i was read and written, with the slot's row where it is selected
 pub record PutsRow {T : Type 0} (pack : ℕ) (to : Flat) (i : ℕ) (row : List ℕ) (is_put : Bool)
     (result : Result T OpErr) (old new : World) : Type 0 where
-  pub ran : Ran (row_script pack to i) (one to.region) result old new
-  pub never : IfErr result (λ e. (e ≡ Failed) ⊎ TamperedAt pack to (place_of pack to i) e new)
+  pub ran : Ran (copy_at to.region to.region (place_of pack to.capacity i)) (one to.region)
+      result old new
+  pub never : IfErr result (λ e. (e ≡ Failed)
+      ⊎ TamperedAt pack to (place_of pack to.capacity i) e new)
   pub seals : SealsTable pack to.schema to.region old new
-  pub turn : OnOk result (IsInTurn (order_for pack) pack to (place_of pack to (i + 1)) new)
+  pub turn : OnOk result
+      (IsInTurn (order_for pack) pack to (place_of pack to.capacity (i + 1)) new)
   pub rows : OnOk result (IsTrue old.store.tells → HoldsRows pack to old → HoldsRows pack to new)
   pub told : IsHonest old new → (there : Option Row) (made : Slots)
       → Begins to.schema there row → HoldsSlots pack to made old
@@ -102,7 +98,7 @@ pub record PutsBlock {T : Type 0} (pack : ℕ) (flat : Flat) (p : RowTest) (to :
   pub never : IfErr result (λ e. (e ≡ Failed) ⊎ TamperedIn pack to e new)
   pub seals : SealsTable pack to.schema to.region old new
   pub turn : OnOk result (IsInTurn (order_for pack) pack to
-      (place_of pack to (u * pack + slots_in pack flat.capacity u)) new)
+      (place_of pack to.capacity (u * pack + slots_in pack flat.capacity u)) new)
   pub rows : OnOk result (IsTrue old.store.tells → HoldsRows pack to old → HoldsRows pack to new)
   pub told : IsHonest old new → (slots made : Slots)
       → Spelt flat.schema slots block → HoldsSlots pack to made old

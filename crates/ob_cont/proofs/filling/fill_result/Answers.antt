@@ -19,8 +19,8 @@ use Rattle.ob_flat.proofs.Rows.{wide_fit, wide_same}
 use Rattle.ob_flat.proofs.Runs.{pass_of, pass_each, pass_more, pass_after, pass_wider, pass_malformed}
 use Rattle.ob_flat.proofs.Tables.{blocks_hold, represents_lasts, slots_lasts, rows_lasts, block_long, got}
 use Rattle.ob_flat.proofs.WordLemmas.{seals_any, seals_after, tampered_in, get_refused, rows_malformed}
-use Rattle.ob_cont.specs.Putting.{order_for, put_at}
-use Rattle.ob_cont.specs.Selecting.{IsDue, IsBlock, block_script, place_of}
+use Rattle.ob_cont.specs.Putting.{order_for, put_at, place_of}
+use Rattle.ob_cont.specs.Selecting.{IsDue, IsBlock, block_script}
 use Rattle.ob_cont.proofs.Counting.{block_inside, slots_next, block_left}
 use Rattle.ob_cont.proofs.Due.{due_read, due_first}
 use Rattle.ob_cont.proofs.Puts.{put_block_more}
@@ -160,8 +160,8 @@ put_block-requires g c =
     let left = asks_after {m = 1 + 2 * slots_in pack flat.capacity u} c.requires.asks before.went (block_left flat.region to.region pack flat.capacity to.capacity u table.some below) in
     let asks = asks_after {m = 2 * slots_in pack flat.capacity u} left read (omega arith) in
     let here : min (u * pack) flat.capacity ≡ u * pack = omega (arith, block_inside pack flat.capacity u table.some below) in
-    let turn = due_read (order_for pack) pack (place_of pack to (min (u * pack) flat.capacity)) to _ _ _ read c.get.ensures.gets.turns before.turn in
-    let due : IsDue pack to (u * pack) mid = record { some = table.some; most = table.most; size = target.size; turn = subst (λ (i : ℕ). IsInTurn (order_for pack) pack to (place_of pack to i) mid) here turn } in
+    let turn = due_read (order_for pack) pack (place_of pack to.capacity (min (u * pack) flat.capacity)) to _ _ _ read c.get.ensures.gets.turns before.turn in
+    let due : IsDue pack to (u * pack) mid = record { some = table.some; most = table.most; size = target.size; turn = subst (λ (i : ℕ). IsInTurn (order_for pack) pack to (place_of pack to.capacity i) mid) here turn } in
     let block : IsBlock pack flat u c.get.new.rows = record {
       size = table.size;
       within = below;
@@ -244,7 +244,7 @@ loop-u-preserved g c =
       seals = seals_after before.went.lasts before.seals (seals_after read.lasts (seals_any c.get.ensures.gets.seals) puts.seals);
       same = same;
       held = fit_trans _ _ _ before.held c.put_block.ensures.held;
-      turn = subst (λ (i : ℕ). IsInTurn (order_for pack) pack to (place_of pack to i) last) (slots_next pack n u inside) puts.turn;
+      turn = subst (λ (i : ℕ). IsInTurn (order_for pack) pack to (place_of pack to.capacity i) last) (slots_next pack n u inside) puts.turn;
       rows = λ tells is. puts.rows (tells_went _ _ _ _ read (tells_went _ _ _ _ before.went tells)) (rows_lasts pack to none _ _ read.lasts (λ s. s) (before.rows tells is));
       told = λ honest slots made is holds.
           let gone = honest_before puts.ran.ok.lasts honest in

@@ -10,8 +10,7 @@ use Rattle.ob_row.specs.Truth.{is_true}
 use Rattle.ob_blocks.specs.Blocks.{scanned}
 use Rattle.ob_flat.specs.Flats.{IsInTurn, HoldsSlots, HoldsRows, Represents}
 use Rattle.ob_flat.specs.Words.{SealsTable}
-use Rattle.ob_cont.specs.Putting.{order_for, put_at}
-use Rattle.ob_cont.specs.Selecting.{place_of}
+use Rattle.ob_cont.specs.Putting.{order_for, put_at, place_of}
 use Rattle.ob_cont.proofs.filling.fill_result.Given as goal
 
 abbrev pub invariant-loop-u : goal.invariant-loop-u
@@ -25,7 +24,7 @@ invariant-loop-u g l =
       seals : SealsTable pack l.to.schema l.to.region old now;
       same : SameSizes l.initial.rows l.rows;
       held : SameSizes l.initial.held l.held;
-      turn : IsInTurn (order_for pack) pack l.to (place_of pack l.to (min (l.u * pack) n)) now;
+      turn : IsInTurn (order_for pack) pack l.to (place_of pack l.to.capacity (min (l.u * pack) n)) now;
       rows : IsTrue old.store.tells → HoldsRows pack l.to old → HoldsRows pack l.to now;
       told : IsHonest old now → (slots made : Slots) → Represents pack l.flat slots old → HoldsSlots pack l.to made old
           → HoldsSlots pack l.to (scanned (put_at l.to.capacity (is_true l.pred)) 0 made (take (l.u * pack) slots)) now;

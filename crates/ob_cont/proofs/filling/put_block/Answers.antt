@@ -19,8 +19,8 @@ use Rattle.ob_flat.proofs.Rooms.{same_rows}
 use Rattle.ob_flat.proofs.Runs.{pass_each}
 use Rattle.ob_flat.proofs.Tables.{index_fits}
 use Rattle.ob_flat.proofs.WordLemmas.{seals_any, seals_after, tampered_in}
-use Rattle.ob_cont.specs.Putting.{order_for, put_if, put_at, put_part, SpellsSlot}
-use Rattle.ob_cont.specs.Selecting.{IsDue, place_of}
+use Rattle.ob_cont.specs.Putting.{order_for, put_if, put_at, put_part, SpellsSlot, place_of}
+use Rattle.ob_cont.specs.Selecting.{IsDue}
 use Rattle.ob_cont.proofs.Counting.{slot_inside, done_before, done_after, slot_past, all_slots, puts}
 use Rattle.ob_cont.proofs.Puts.{place_within}
 use Rattle.ob_cont.proofs.filling.put_block.Goals as goal
@@ -72,7 +72,7 @@ put_row-requires g c =
       some = due.some;
       most = due.most;
       size = due.size;
-      turn = subst (λ (n : ℕ). IsInTurn (order_for pack) pack to (place_of pack to (u * pack + n)) now) before c.loop-z.invariant.turn;
+      turn = subst (λ (n : ℕ). IsInTurn (order_for pack) pack to (place_of pack to.capacity (u * pack + n)) now) before c.loop-z.invariant.turn;
     } in
     let fit = fit_same _ _ _ same c.requires.fit in
     record {
@@ -99,7 +99,7 @@ loop-z-init g c =
       went = subst (λ (n : ℕ). Went (each n (put_part to.region pack to.capacity u)) (one to.region) old old) none (went_none _ _ c.requires.asks.ready);
       seals = seals_any (λ good. seals_none good _);
       same = same_rows c.args.held.now;
-      turn = subst (λ (i : ℕ). IsInTurn (order_for pack) pack to (place_of pack to i) old) first c.requires.due.turn;
+      turn = subst (λ (i : ℕ). IsInTurn (order_for pack) pack to (place_of pack to.capacity i) old) first c.requires.due.turn;
       rows = λ tells rows. rows;
       told = λ honest slots made spelt holds. subst (λ (n : ℕ). HoldsSlots pack to (scanned (put_at to.capacity (is_true c.args.pred.now)) (u * pack) made (take n slots)) old) none holds;
     }
@@ -163,7 +163,7 @@ loop-z-preserved g c =
             went = subst (λ (m : ℕ). Went (each m part) (one to.region) old now) (sym n) (went_each (one to.region) part _ _ _ z (rw b at before.went) puts.ran.ok);
             seals = seals_after before.went.lasts before.seals puts.seals;
             same = fit_trans _ _ _ before.same w.put_row.ensures.held;
-            turn = subst (λ (m : ℕ). IsInTurn (order_for pack) pack to (place_of pack to m) now) (omega (arith, n)) puts.turn;
+            turn = subst (λ (m : ℕ). IsInTurn (order_for pack) pack to (place_of pack to.capacity m) now) (omega (arith, n)) puts.turn;
             rows = λ tells is. puts.rows (tells_went _ _ _ _ before.went tells) (before.rows tells is);
             told = λ honest slots made spelt holds.
                 let slot = slice_index_or slots z None in
@@ -188,7 +188,7 @@ loop-z-preserved g c =
             went = subst (λ (m : ℕ). Went (each m part) (one to.region) old now) same before.went;
             seals = before.seals;
             same = before.same;
-            turn = subst (λ (m : ℕ). IsInTurn (order_for pack) pack to (place_of pack to (u * pack + m)) now) same before.turn;
+            turn = subst (λ (m : ℕ). IsInTurn (order_for pack) pack to (place_of pack to.capacity (u * pack + m)) now) same before.turn;
             rows = before.rows;
             told = λ honest slots made spelt holds. subst (λ (m : ℕ). HoldsSlots pack to (scanned (put_at to.capacity p) (u * pack) made (take m slots)) now) same (before.told honest slots made spelt holds);
           })
@@ -212,7 +212,7 @@ returns-clause-puts g c =
       ran = record { ok = rw all at before.went; err = tt };
       never = tt;
       seals = before.seals;
-      turn = subst (λ (n : ℕ). IsInTurn (order_for pack) pack to (place_of pack to (u * pack + n)) now) all before.turn;
+      turn = subst (λ (n : ℕ). IsInTurn (order_for pack) pack to (place_of pack to.capacity (u * pack + n)) now) all before.turn;
       rows = before.rows;
       told = λ honest slots made spelt holds.
           subst (λ (n : ℕ). HoldsSlots pack to (scanned (put_at to.capacity (is_true c.args.pred.now)) (u * pack) made (take n slots)) now) all (before.told honest slots made spelt holds);

@@ -11,8 +11,7 @@ use Rattle.ob_blocks.specs.Blocks.{scanned}
 use Rattle.ob_flat.specs.Slots.{Spelt}
 use Rattle.ob_flat.specs.Flats.{IsInTurn, HoldsSlots, HoldsRows}
 use Rattle.ob_flat.specs.Words.{SealsTable}
-use Rattle.ob_cont.specs.Putting.{order_for, put_at, put_part}
-use Rattle.ob_cont.specs.Selecting.{place_of}
+use Rattle.ob_cont.specs.Putting.{order_for, put_at, put_part, place_of}
 use Rattle.ob_cont.proofs.filling.put_block.Given as goal
 
 abbrev pub invariant-loop-z : goal.invariant-loop-z
@@ -25,7 +24,7 @@ invariant-loop-z g l =
       went : Went (each n (put_part l.to.region pack l.to.capacity l.fn.u)) (one l.to.region) old now;
       seals : SealsTable pack l.to.schema l.to.region old now;
       same : SameSizes l.initial.held l.held;
-      turn : IsInTurn (order_for pack) pack l.to (place_of pack l.to (l.fn.u * pack + n)) now;
+      turn : IsInTurn (order_for pack) pack l.to (place_of pack l.to.capacity (l.fn.u * pack + n)) now;
       rows : IsTrue old.store.tells → HoldsRows pack l.to old → HoldsRows pack l.to now;
       told : IsHonest old now → (slots made : Slots) → Spelt l.flat.schema slots l.rows → HoldsSlots pack l.to made old
           → HoldsSlots pack l.to (scanned (put_at l.to.capacity (is_true l.pred)) (l.fn.u * pack) made (take n slots)) now;
