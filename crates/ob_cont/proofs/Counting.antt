@@ -1,20 +1,11 @@
 -- How many slots of a block have a place, and the accesses of their places.
-use Rattle.std.proofs.Common.{◌≡◌, ◌≤◌, ◌<◌, ◌+◌, ◌*◌, ℕ, zero, suc, min, length, refl, inl, inr, List, ◌++◌, sym, ◌∙◌, subst, arith, length-append, append_assoc}
-use Rattle.std.proofs.lemmas.Bool.{cases_lt}
-use Rattle.ob_base.specs.declared.access.Access.{Access}
+use Rattle.std.proofs.Common.{◌≡◌, ◌≤◌, ◌<◌, ◌+◌, ◌*◌, ℕ, zero, suc, min, length, refl, ◌∙◌, arith, length-append}
 use Rattle.ob_base.specs.Lists.{each}
 use Rattle.ob_base.specs.Accesses.{read_at}
 use Rattle.ob_script.specs.Parts.{slots_in, continuous_block}
-use Rattle.ob_store.proofs.Steps.{length-each, parts}
+use Rattle.ob_store.proofs.Steps.{length-each}
 use Rattle.ob_base.specs.Numbers.{blocks_for}
-use Rattle.ob_vault.specs.State.{World}
-use Rattle.ob_vault.specs.Rows.{Wide}
-use Rattle.ob_vault.specs.Places.{RowsFit}
 use Rattle.ob_vault.proofs.RowsLemmas.{rows_room, one_more}
-use Rattle.ob_flat.specs.declared.fault.OpErr.{OpErr}
-use Rattle.ob_flat.specs.Passes.{PassCut}
-use Rattle.ob_flat.proofs.Rows.{wide_fit}
-use Rattle.ob_flat.proofs.Runs.{pass_more}
 use Rattle.ob_flat.proofs.Tables.{blocks_end}
 use Rattle.ob_cont.specs.Putting.{put_part}
 
@@ -60,15 +51,6 @@ spent t g pack n k (suc u) =
       length-append (read_at t u) (each (slots_in pack n u) (put_part g pack k u)),
     )
 
--- rows that fit a block are as wide as its schema
-pub wide_rows : (w pack : ℕ) (rows : List (List ℕ)) → length rows ≡ pack → RowsFit rows (pack * w) → Wide w rows
-wide_rows w pack rows same fit = wide_fit w rows (subst (λ (n : ℕ). RowsFit rows (n * w)) (sym same) fit)
-
--- a pass that gave up behind one of its rounds, and before the next
-pub cut_early : (some : ℕ → Type 0) (part : ℕ → List Access) (a b : World) (e : OpErr) (n all : ℕ) → n ≤ all → PassCut e (each n part) some a b → PassCut e (each all part) some a b
-cut_early some part a b e n all within cut = elim (cases_lt n all) [
-  | inl less ↦
-      let p = parts part all n less in
-      subst (λ (l : List Access). PassCut e l some a b) (sym (p.split ∙ append_assoc (each n part) (part n) p.rest)) (pass_more some a b e (each n part) (part n ++ p.rest) cut)
-  | inr most ↦ let same : n ≡ all = omega (arith, most, within) in subst (λ (m : ℕ). PassCut e (each m part) some a b) same cut
-]
+-- enough are left for block u
+pub block_left : (t g pack n k u : ℕ) → 1 ≤ pack → u < blocks_for pack n → length (each u (continuous_block t g pack n k)) + (1 + 2 * slots_in pack n u) ≤ blocks_for pack n + 2 * n
+block_left t g pack n k u some below = omega (arith, spent t g pack n k u, block_inside pack n u some below, below)

@@ -1,8 +1,8 @@
 -- What stands of a result while it is written.
-use Rattle.std.proofs.Common.{◌≡◌, ◌≤◌, ◌<◌, ◌+◌, ◌-◌, ◌*◌, ◌%◌, ◌/◌, ◌==◌, ℕ, Bool, List, length, inl, inr, if◌then◌else◌, refl, sym, ◌∙◌, ap, subst, arith}
+use Rattle.std.proofs.Common.{◌≡◌, ◌≤◌, ◌<◌, ◌+◌, ◌-◌, ◌*◌, ◌%◌, ◌/◌, ◌==◌, min, ℕ, Bool, List, Some, length, inl, inr, if◌then◌else◌, refl, sym, ◌∙◌, ap, subst, arith}
 use Rattle.std.proofs.lemmas.List.{take_at}
 use Rattle.std.proofs.lemmas.List.Elements as elements
-use Rattle.std.proofs.Math.Nat.{div-one, mod-add-mod, mod-eq_of_lt, mod-lt, mod_self}
+use Rattle.std.proofs.Math.Nat.{div-one, zero-div, mod-add-mod, mod-eq_of_lt, mod-lt, mod_self}
 use Rattle.std.proofs.lemmas.Grind.{div_ceil_times}
 use Rattle.std.proofs.lemmas.Bool.{cases_eq}
 use Rattle.std.specs.List.{All}
@@ -12,14 +12,14 @@ use Rattle.ob_vault.specs.declared.region.Order.{Order}
 use Rattle.ob_vault.specs.declared.region.Order.TheVariants.{Round, Any}
 use Rattle.ob_vault.specs.State.{World}
 use Rattle.ob_vault.specs.declared.region.Region.{Region}
-use Rattle.ob_vault.specs.Tied.{OnTurn}
+use Rattle.ob_vault.specs.Tied.{Lives, OnTurn}
 use Rattle.ob_vault.specs.Calls.{Went, none}
 use Rattle.ob_vault.proofs.Runs.{turn_any, lives_went, written_went}
 use Rattle.ob_row.specs.Slots.{Slots}
 use Rattle.ob_blocks.specs.Blocks.{none_of}
 use Rattle.ob_flat.specs.declared.flat.Flat.{Flat}
 use Rattle.ob_flat.specs.Slots.{FitsSlot}
-use Rattle.ob_flat.specs.Flats.{IsInTurn, HoldsSlots, Represents, table_region, whole_blocks}
+use Rattle.ob_flat.specs.Flats.{IsInTurn, IsFlat, HoldsSlots, Represents, table_region, whole_blocks}
 use Rattle.ob_flat.proofs.Tables.{represents_whole, not_last, at_last}
 use Rattle.ob_cont.specs.Putting.{order_for}
 use Rattle.ob_cont.proofs.Places.{other_test}
@@ -50,6 +50,27 @@ turn_more pack i to w some is = elim (cases_eq pack 1) [
       let any : order_for pack ≡ Any = ap (λ (b : Bool). if b then Round else Any) (other_test pack 1 more) in
       record { lives = is.lives; turn = turn_any to.region (table_region (order_for pack) pack to.schema to.capacity) (((i + 1) % to.capacity) / pack) w any; written = is.written }
 ]
+
+-- so is that of the first one in a new table
+pub in_turn : (order : Order) (pack : ℕ) (to : Flat) (w : World) → Lives to.region (table_region order pack to.schema to.capacity) w → IsFlat pack to w → IsInTurn order pack to 0 w
+in_turn order pack to w lives is = record {
+  lives = lives;
+  turn = subst (λ (shape : Region). OnTurn to.region shape 0 w) (same _ _ (sym is.made.lives.live ∙ lives.live)) is.made.turn;
+  written = is.written;
+}
+  where
+    same : (a b : Region) → Some a ≡ Some b → a ≡ b
+    same a b some = cc
+
+-- as that of the first one is
+pub due_first : (pack n : ℕ) (to : Flat) (w : World) → 1 ≤ to.capacity → IsInTurn (order_for pack) pack to 0 w → IsInTurn (order_for pack) pack to ((min (0 * pack) n % to.capacity) / pack) w
+due_first pack n to w least is = subst (λ (x : ℕ). IsInTurn (order_for pack) pack to x w) (sym first) is
+  where
+    none : min (0 * pack) n ≡ 0
+    none = omega arith
+
+    first : (min (0 * pack) n % to.capacity) / pack ≡ 0
+    first = ap (λ (i : ℕ). (i % to.capacity) / pack) none ∙ ap (λ (i : ℕ). i / pack) (mod-eq_of_lt least) ∙ zero-div pack
 
 -- a read leaves it so
 pub due_read : (order : Order) (pack place : ℕ) (to : Flat) (a b : World) (x : List Access) → Went x none a b → ((q y : ℕ) (shape : Region) → OnTurn q shape y a → OnTurn q shape y b)

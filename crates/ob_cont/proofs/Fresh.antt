@@ -1,12 +1,8 @@
 -- The fresh region of a select.
-use Rattle.std.proofs.Common.{◌≤◌, ◌+◌, ℕ, arith}
+use Rattle.std.proofs.Common.{◌≤◌, ℕ, arith}
 use Rattle.ob_base.specs.Schemas.{Columns}
 use Rattle.ob_flat.specs.Flats.{IsSized}
 
 -- fewer slots are within the limits too
 pub sized_less : {columns : Columns} {n k : ℕ} → IsSized columns n → 1 ≤ k → k ≤ n → IsSized columns k
 sized_less {columns} {n} {k} size some less = record { some = size.some; few = size.few; wide = size.wide; least = some; most = omega (arith, less, size.most) }
-
--- the accesses that fill it are spared
-pub first_spared : (a b c : ℕ) {d : ℕ} → 1 + a + b + c ≤ d → 1 + a ≤ d
-first_spared a b c spare = omega (arith, spare)

@@ -3,5 +3,6 @@ pub mod Puts
 pub mod Due
 pub mod Rows
 pub mod Counting
+pub mod Selected
 mod Examples
 pub mod Fresh

@@ -23,9 +23,13 @@ put_at k p made i slot = put_if (is_selected p slot) (i % k) slot made
 abbrev pub put_slots : ℕ → RowTest → Slots → Slots
 put_slots k p slots = scanned (put_at k p) 0 (none_of k) slots
 
--- the block of slot u * pack + j's place is read and written
+-- the block of a result of k slots in which slot i has its place
+abbrev pub place_of : ℕ → ℕ → ℕ → ℕ
+place_of pack k i = (i % k) / pack
+
+-- that of slot u * pack + j is read and written
 abbrev pub put_part : ℕ → ℕ → ℕ → ℕ → ℕ → List Access
-put_part g pack k u j = copy_at g g (((u * pack + j) % k) / pack)
+put_part g pack k u j = copy_at g g (place_of pack k (u * pack + j))
 
 -- the places of blocks of one slot are written round and round; those of larger ones repeat
 abbrev pub order_for : ℕ → Order

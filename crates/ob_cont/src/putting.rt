@@ -1,18 +1,14 @@
-ghost use Rattle.std.specs.Prelude.{◌≡◌, ◌≤◌, ◌<◌, ◌+◌, ◌*◌, ◌/◌, ◌%◌, ◌^◌, ◌⊎◌, ℕ, Bool, List, Option, IsTrue, None, IfErr, OnOk, MatchResult, length, slice_set};
-ghost use Rattle.ob_base.specs.Numbers.{blocks_for};
+ghost use Rattle.std.specs.Prelude.{◌≡◌, ◌≤◌, ◌<◌, ◌+◌, ◌^◌, Option, length, slice_set};
 ghost use Rattle.ob_base.specs.Schemas.{Columns, width};
-ghost use Rattle.ob_vault.specs.Tied.{Ready};
-ghost use Rattle.ob_vault.specs.Calls.{Went, Seals, one};
-ghost use Rattle.ob_vault.specs.Places.{at, RowsFit};
-ghost use Rattle.ob_vault.specs.Rows.{SameSizes, Wide};
-ghost use Rattle.ob_script.specs.Parts.{copy_at};
 ghost use Rattle.ob_row.specs.Rows.{Row};
 ghost use Rattle.ob_row.specs.Slots.{Slots};
 ghost use Rattle.ob_row.specs.Spelling.{Begins};
+ghost use Rattle.ob_vault.specs.Places.{at};
+ghost use Rattle.ob_vault.specs.Rows.{SameSizes, Wide};
 ghost use Rattle.ob_flat.specs.Slots.{Spelt, AreSlots};
-ghost use Rattle.ob_flat.specs.Flats.{FitsRegion, IsInTurn, HoldsSlots, Accepts};
-ghost use Rattle.ob_flat.specs.Passes.{PassCut};
-ghost use Rattle.ob_cont.specs.Putting.{order_for, put_if, SpellsSlot};
+ghost use Rattle.ob_flat.specs.Words.{HasSpare, FitBlock};
+ghost use Rattle.ob_cont.specs.Putting.{put_if, SpellsSlot};
+ghost use Rattle.ob_cont.specs.Selecting.{IsDue, PutsRow};
 
 use ob_base::Schema;
 use ob_flat::{Flat, OpErr, Rework, check_rows, copy_row, rework_block};
@@ -35,7 +31,9 @@ fn put_in_block(schema: &Schema, row: &ClearRow, slot: u32, rows: &mut [ClearRow
     requires row { SpellsSlot schema.now row.now }
     ensures rows { SameSizes rows.old rows.new }
     ensures spells { AreSlots schema.now rows.old → AreSlots schema.now rows.new }
-    ensures told { (there : Option Row) (slots : Slots) → Begins schema.now there row.now → Spelt schema.now slots rows.old → Spelt schema.now (slice_set slots slot there) rows.new }
+    ensures told { (there : Option Row) (slots : Slots)
+        → Begins schema.now there row.now → Spelt schema.now slots rows.old
+        → Spelt schema.now (slice_set slots slot there) rows.new }
 {
     let z = slot as usize;
     if z < rows.len() {
@@ -49,7 +47,9 @@ impl<'a> Rework for Putting<'a> {
     ghost use Rattle.ob_row.specs.Spelling.{Begins};
     ghost use Rattle.ob_cont.specs.Putting.{put_if, SpellsSlot};
 
-    ghost Makes = { λ columns putting after first slots made. (there : Option Row) → Begins columns there putting.row.now → made ≡ put_if putting.selected putting.slot there slots };
+    ghost Makes = { λ columns putting after first slots made.
+        (there : Option Row) → Begins columns there putting.row.now
+        → made ≡ put_if putting.selected putting.slot there slots };
 
     ghost Suits = { λ putting columns. SpellsSlot columns putting.row.now };
 
@@ -78,24 +78,14 @@ pub(crate) fn put_row<S: BlockStore, R: Revisions>(
     selected: bool,
     i: u32,
 ) -> Result<(), OpErr>
-    requires ready { Ready (at R.state vault.old (S.state store.old)) }
-    requires spare { 2 ≤ (S.state store.old).spare }
+    requires spare { HasSpare 2 (at R.state vault.old (S.state store.old)) }
     requires few { length (S.state store.old).asked + 1 < 2 ^ 63 + 2 ^ 60 }
-    requires turn { IsInTurn (order_for (length held.old)) (length held.old) to.now ((i % to.now.capacity) / length held.old) (at R.state vault.old (S.state store.old)) }
-    requires size { FitsRegion (length held.old) to.now.schema to.now.capacity }
-    requires pack { (1 ≤ length held.old) × (length held.old ≤ 16) }
-    requires fit { RowsFit held.old (length held.old * width to.now.schema) }
+    requires due { IsDue (length held.old) to.now i (at R.state vault.old (S.state store.old)) }
+    requires fit { FitBlock to.now.schema held.old }
     requires row { SpellsSlot to.now.schema row.now }
     ensures held { SameSizes held.old held.new }
-    ensures ok { OnOk result (Went (copy_at to.now.region to.now.region ((i % to.now.capacity) / length held.old)) (one to.now.region) (at R.state vault.old (S.state store.old)) (at R.state vault.new (S.state store.new))) }
-    ensures err { IfErr result (λ e. PassCut e (copy_at to.now.region to.now.region ((i % to.now.capacity) / length held.old)) (one to.now.region) (at R.state vault.old (S.state store.old)) (at R.state vault.new (S.state store.new))) }
-    ensures never { IfErr result (λ e. (e ≡ OpErr.Failed) ⊎ ((place : ℕ) × (place < blocks_for (length held.old) to.now.capacity) × (e ≡ OpErr.Tampered to.now.region place))) }
-    ensures seals { (good : ℕ → List ℕ → Bool) → Accepts good (length held.old) to.now.schema to.now.region → Seals good (at R.state vault.old (S.state store.old)) (at R.state vault.new (S.state store.new)) }
-    ensures turn { OnOk result (IsInTurn (order_for (length held.old)) (length held.old) to.now (((i + 1) % to.now.capacity) / length held.old) (at R.state vault.new (S.state store.new))) }
-    ensures told { IsTrue (S.state store.old).tells → (there : Option Row) (made : Slots) → Begins to.now.schema there row.now → HoldsSlots (length held.old) to.now made (at R.state vault.old (S.state store.old)) → (S.state store.new).lie ≡ None
-        → MatchResult result
-        (λ _. HoldsSlots (length held.old) to.now (put_if selected (i % to.now.capacity) there made) (at R.state vault.new (S.state store.new)))
-        (λ e. e ≡ OpErr.Failed) }
+    ensures puts { PutsRow (length held.old) to.now i row.now selected result
+        (at R.state vault.old (S.state store.old)) (at R.state vault.new (S.state store.new)) }
 {
     let pack = held.len() as u32;
     let slot = i % to.capacity;

@@ -1,87 +1,11 @@
-use Rattle.std.proofs.Common.{◌≡◌, ◌≤◌, ◌+◌, ◌*◌, ◌++◌, ℕ, List, Result, Ok, Err, IfOk, MatchResult, length, replicate, max, sym, ◌∙◌, ap, subst, arith}
-use Rattle.std.proofs.lemmas.List.{length-replicate}
+use Rattle.std.proofs.Common.{◌≤◌, ◌*◌, ◌++◌, ℕ, List, max, sym, ◌∙◌, ap, subst, arith}
 use Rattle.ob_base.specs.Schemas.{width}
-use Rattle.ob_row.specs.Slots.{Slots}
-use Rattle.ob_row.specs.Truth.{is_true}
-use Rattle.ob_room.specs.RoomState.{RoomState, clear}
-use Rattle.ob_vault.specs.Places.{at, RowsFit}
 use Rattle.ob_vault.specs.Rows.{SameSizes}
 use Rattle.ob_vault.proofs.RowsLemmas.{sizes_join}
-use Rattle.ob_flat.specs.Flats.{Represents}
 use Rattle.ob_flat.proofs.Rooms.{opened_wide, opened_closed}
-use Rattle.ob_cont.proofs.Places.{put_consecutive}
 use Rattle.ob_flat.proofs.Halves.{both_fit, both_free, pack_fits, half_within, first_count, second_count, first_fit, second_fit, second_spelt}
+use Rattle.ob_flat.proofs.Opened.{block_few}
 use Rattle.ob_cont.proofs.selecting.select.Goals as goal
-
--- the second block has as many rows as the first
-second_block : (pack n : ℕ) (s : RoomState) (all : List (List ℕ)) → pack ≡ s.pack → all ≡ replicate (2 * pack) (clear s.width) → n + pack ≡ length all → n ≡ s.pack
-second_block pack n s all same value split = omega (arith, same, split, ap length value, length-replicate (2 * pack) (clear s.width))
-
-pub clear_shelf-requires-clause-wide : goal.clear_shelf-requires-clause-wide
-clear_shelf-requires-clause-wide g c =
-    let s = c.args.room.now in
-    let n = 2 * c.pack-pack.result in
-    let fits : n ≤ s.rows = omega (arith, c.pack-pack.ensures.value, c.requires.room.enough) in
-    let ends = c.select_rows-result.new.rows ++ c.select_rows-result.new.held in
-    let same = subst (λ (l : List (List ℕ)). SameSizes l ends) (sym c.split_at_mut-rows.ensures.value) (sizes_join _ _ _ _ c.select_rows-result.ensures.rows c.select_rows-result.ensures.held) in
-    opened_wide (width c.args.flat.now.schema) n s _ ends c.requires.room fits c.open-open.ensures.value same
-
-pub returns-clause-ok : goal.returns-clause-ok
-returns-clause-ok g c =
-    let same = second_block c.pack-pack.result _ c.args.room.now _ c.pack-pack.ensures.value c.open-open.ensures.value c.split_at_mut-rows.ensures.back_len in
-    rw same at c.select_rows-result.ensures.ok
-
-pub returns-clause-never : goal.returns-clause-never
-returns-clause-never g c =
-    let same = second_block c.pack-pack.result _ c.args.room.now _ c.pack-pack.ensures.value c.open-open.ensures.value c.split_at_mut-rows.ensures.back_len in
-    rw same at c.select_rows-result.ensures.never
-
-pub returns-clause-memory : goal.returns-clause-memory
-returns-clause-memory g c =
-    let same = second_block c.pack-pack.result _ c.args.room.now _ c.pack-pack.ensures.value c.open-open.ensures.value c.split_at_mut-rows.ensures.back_len in
-    rw same at c.select_rows-result.ensures.memory
-
-pub returns-clause-room : goal.returns-clause-room
-returns-clause-room g c =
-    let s = c.args.room.now in
-    let n = 2 * c.pack-pack.result in
-    let fits : n ≤ s.rows = omega (arith, c.pack-pack.ensures.value, c.requires.room.enough) in
-    let ends = c.select_rows-result.new.rows ++ c.select_rows-result.new.held in
-    let same = subst (λ (l : List (List ℕ)). SameSizes l ends) (sym c.split_at_mut-rows.ensures.value) (sizes_join _ _ _ _ c.select_rows-result.ensures.rows c.select_rows-result.ensures.held) in
-    c.clear_shelf.ensures
-    ∙ opened_closed (width c.args.flat.now.schema) n s _ ends c.requires.room fits c.open-open.ensures.value same c.pack-pack.ensures.sound
-    ∙ ap (λ (p : ℕ). record s { high = max s.high (2 * p) }) c.pack-pack.ensures.value
-
-pub returns-clause-source : goal.returns-clause-source
-returns-clause-source g c =
-    let same = second_block c.pack-pack.result _ c.args.room.now _ c.pack-pack.ensures.value c.open-open.ensures.value c.split_at_mut-rows.ensures.back_len in
-    rw same at c.select_rows-result.ensures.source
-
-pub returns-clause-lives : goal.returns-clause-lives
-returns-clause-lives g c =
-    let same = second_block c.pack-pack.result _ c.args.room.now _ c.pack-pack.ensures.value c.open-open.ensures.value c.split_at_mut-rows.ensures.back_len in
-    rw same at c.select_rows-result.ensures.lives
-
-pub returns-clause-flat : goal.returns-clause-flat
-returns-clause-flat g c =
-    let same = second_block c.pack-pack.result _ c.args.room.now _ c.pack-pack.ensures.value c.open-open.ensures.value c.split_at_mut-rows.ensures.back_len in
-    rw same at c.select_rows-result.ensures.flat
-
-pub returns-clause-told : goal.returns-clause-told
-returns-clause-told g c =
-    let same = second_block c.pack-pack.result _ c.args.room.now _ c.pack-pack.ensures.value c.open-open.ensures.value c.split_at_mut-rows.ensures.back_len in
-    rw same at c.select_rows-result.ensures.told
-
-at_ok : {T E : Type 0} (r : Result T E) (P Q : T → Type 0) (F : E → Type 0) → ((x : T) → P x → Q x) → MatchResult r P F → IfOk r Q
-at_ok (Ok x) P Q F more is = more x is
-at_ok (Err e) P Q F more is = tt
-
-pub returns-clause-exact : goal.returns-clause-exact
-returns-clause-exact g c = λ tells slots number consecutive is nolie.
-    let same = second_block c.pack-pack.result _ c.args.room.now _ c.pack-pack.ensures.value c.open-open.ensures.value c.split_at_mut-rows.ensures.back_len in
-    let told = rw same at c.select_rows-result.ensures.told in
-    at_ok c.select_rows-result.result _ _ _ (λ fresh held. subst (λ (l : Slots). Represents c.args.room.now.pack fresh l (at g.R.Revisions.state c.select_rows-result.new.vault (g.S.BlockStore.state c.select_rows-result.new.store))) (put_consecutive c.args.k (is_true c.args.pred.now) slots consecutive (omega (arith, number))) held)
-    (told tells slots is nolie)
 
 pub overflow_mul-pack : goal.overflow_mul-pack
 overflow_mul-pack g c = both_fit (width c.args.flat.now.schema) c.args.room.now c.requires.room c.pack-pack.ensures.sound c.pack-pack.ensures.value
@@ -98,47 +22,50 @@ overflow_cast-pack g c = pack_fits (width c.args.flat.now.schema) c.args.room.no
 pub split_at_mut-rows-requires : goal.split_at_mut-rows-requires
 split_at_mut-rows-requires g c = half_within (width c.args.flat.now.schema) c.args.room.now c.requires.room c.pack-pack.ensures.sound c.pack-pack.ensures.value c.open-open.ensures.value
 
-pub select_rows-result-requires-clause-ready : goal.select_rows-result-requires-clause-ready
-select_rows-result-requires-clause-ready g c = c.requires.ready
+pub select_rows-result-requires : goal.select_rows-result-requires
+select_rows-result-requires g c =
+    let w = width c.args.flat.now.schema in
+    let s = c.args.room.now in
+    let room = c.requires.room in
+    let sound = c.pack-pack.ensures.sound in
+    let same = c.pack-pack.ensures.value in
+    let value = c.open-open.ensures.value in
+    let first = first_count w s room sound same value c.split_at_mut-rows.ensures.front in
+    let second = second_count w s room sound same value c.split_at_mut-rows.ensures.back in
+    let few = block_few s sound second in
+    record {
+      starts = rw second c.requires.starts;
+      table = record { some = few.0; most = few.1; size = c.requires.size; written = rw second c.requires.flat };
+      number = c.requires.number;
+      buffers = record {
+        count = first ∙ sym second;
+        rows_fit = first_fit w s room sound same value c.split_at_mut-rows.ensures.front;
+        held_fit = second_fit w s room sound same value c.split_at_mut-rows.ensures.back;
+      };
+      dummies = second_spelt c.args.flat.now.schema s _ room value c.split_at_mut-rows.ensures.back;
+    }
 
-pub select_rows-result-requires-clause-few : goal.select_rows-result-requires-clause-few
-select_rows-result-requires-clause-few g c = c.requires.few
+pub clear_shelf-requires-clause-wide : goal.clear_shelf-requires-clause-wide
+clear_shelf-requires-clause-wide g c =
+    let s = c.args.room.now in
+    let n = 2 * c.pack-pack.result in
+    let fits : n ≤ s.rows = omega (arith, c.pack-pack.ensures.value, c.requires.room.enough) in
+    let ends = c.select_rows-result.new.rows ++ c.select_rows-result.new.held in
+    let same = subst (λ (l : List (List ℕ)). SameSizes l ends) (sym c.split_at_mut-rows.ensures.value) (sizes_join _ _ _ _ c.select_rows-result.ensures.rows c.select_rows-result.ensures.held) in
+    opened_wide (width c.args.flat.now.schema) n s _ ends c.requires.room fits c.open-open.ensures.value same
 
-pub select_rows-result-requires-clause-size : goal.select_rows-result-requires-clause-size
-select_rows-result-requires-clause-size g c = c.requires.size
+pub returns-clause-room : goal.returns-clause-room
+returns-clause-room g c =
+    let s = c.args.room.now in
+    let n = 2 * c.pack-pack.result in
+    let fits : n ≤ s.rows = omega (arith, c.pack-pack.ensures.value, c.requires.room.enough) in
+    let ends = c.select_rows-result.new.rows ++ c.select_rows-result.new.held in
+    let same = subst (λ (l : List (List ℕ)). SameSizes l ends) (sym c.split_at_mut-rows.ensures.value) (sizes_join _ _ _ _ c.select_rows-result.ensures.rows c.select_rows-result.ensures.held) in
+    c.clear_shelf.ensures
+    ∙ opened_closed (width c.args.flat.now.schema) n s _ ends c.requires.room fits c.open-open.ensures.value same c.pack-pack.ensures.sound
+    ∙ ap (λ (p : ℕ). record s { high = max s.high (2 * p) }) c.pack-pack.ensures.value
 
-pub select_rows-result-requires-clause-number : goal.select_rows-result-requires-clause-number
-select_rows-result-requires-clause-number g c = c.requires.number
-
-pub select_rows-result-requires-clause-spare : goal.select_rows-result-requires-clause-spare
-select_rows-result-requires-clause-spare g c = rw (second_count (width c.args.flat.now.schema) c.args.room.now c.requires.room c.pack-pack.ensures.sound c.pack-pack.ensures.value c.open-open.ensures.value c.split_at_mut-rows.ensures.back) c.requires.spare
-
-pub select_rows-result-requires-clause-flat : goal.select_rows-result-requires-clause-flat
-select_rows-result-requires-clause-flat g c = rw (second_count (width c.args.flat.now.schema) c.args.room.now c.requires.room c.pack-pack.ensures.sound c.pack-pack.ensures.value c.open-open.ensures.value c.split_at_mut-rows.ensures.back) c.requires.flat
-
-pub select_rows-result-requires-clause-pack : goal.select_rows-result-requires-clause-pack
-select_rows-result-requires-clause-pack g c = rw (second_count (width c.args.flat.now.schema) c.args.room.now c.requires.room c.pack-pack.ensures.sound c.pack-pack.ensures.value c.open-open.ensures.value c.split_at_mut-rows.ensures.back) (c.pack-pack.ensures.sound.pack_some, c.pack-pack.ensures.sound.pack_few)
-
-pub select_rows-result-requires-clause-count : goal.select_rows-result-requires-clause-count
-select_rows-result-requires-clause-count g c = first_count (width c.args.flat.now.schema) c.args.room.now c.requires.room c.pack-pack.ensures.sound c.pack-pack.ensures.value c.open-open.ensures.value c.split_at_mut-rows.ensures.front ∙ sym (second_count (width c.args.flat.now.schema) c.args.room.now c.requires.room c.pack-pack.ensures.sound c.pack-pack.ensures.value c.open-open.ensures.value c.split_at_mut-rows.ensures.back)
-
-pub select_rows-result-requires-clause-fit : goal.select_rows-result-requires-clause-fit
-select_rows-result-requires-clause-fit g c = subst (λ (n : ℕ). RowsFit c.split_at_mut-rows.result.0.now (n * width c.args.flat.now.schema)) (first_count (width c.args.flat.now.schema) c.args.room.now c.requires.room c.pack-pack.ensures.sound c.pack-pack.ensures.value c.open-open.ensures.value c.split_at_mut-rows.ensures.front ∙ sym (second_count (width c.args.flat.now.schema) c.args.room.now c.requires.room c.pack-pack.ensures.sound c.pack-pack.ensures.value c.open-open.ensures.value c.split_at_mut-rows.ensures.back)) (first_fit (width c.args.flat.now.schema) c.args.room.now c.requires.room c.pack-pack.ensures.sound c.pack-pack.ensures.value c.open-open.ensures.value c.split_at_mut-rows.ensures.front)
-
-pub select_rows-result-requires-clause-space : goal.select_rows-result-requires-clause-space
-select_rows-result-requires-clause-space g c = second_fit (width c.args.flat.now.schema) c.args.room.now c.requires.room c.pack-pack.ensures.sound c.pack-pack.ensures.value c.open-open.ensures.value c.split_at_mut-rows.ensures.back
-
-pub select_rows-result-requires-clause-dummies : goal.select_rows-result-requires-clause-dummies
-select_rows-result-requires-clause-dummies g c = second_spelt c.args.flat.now.schema c.args.room.now _ c.requires.room c.open-open.ensures.value c.split_at_mut-rows.ensures.back
-
-pub returns-clause-gone : goal.returns-clause-gone
-returns-clause-gone g c = c.select_rows-result.ensures.gone
-
-pub returns-clause-value : goal.returns-clause-value
-returns-clause-value g c = c.select_rows-result.ensures.value
-
-pub returns-clause-err : goal.returns-clause-err
-returns-clause-err g c = rw (second_count (width c.args.flat.now.schema) c.args.room.now c.requires.room c.pack-pack.ensures.sound c.pack-pack.ensures.value c.open-open.ensures.value c.split_at_mut-rows.ensures.back) at c.select_rows-result.ensures.err
-
-pub returns-clause-seals : goal.returns-clause-seals
-returns-clause-seals g c = rw (second_count (width c.args.flat.now.schema) c.args.room.now c.requires.room c.pack-pack.ensures.sound c.pack-pack.ensures.value c.open-open.ensures.value c.split_at_mut-rows.ensures.back) at c.select_rows-result.ensures.seals
+pub returns-clause-selects : goal.returns-clause-selects
+returns-clause-selects g c =
+    let second = second_count (width c.args.flat.now.schema) c.args.room.now c.requires.room c.pack-pack.ensures.sound c.pack-pack.ensures.value c.open-open.ensures.value c.split_at_mut-rows.ensures.back in
+    rw second at c.select_rows-result.ensures.selects
