@@ -6,3 +6,5 @@ pub mod Places
 pub mod Sizes
 pub mod Alike
 pub mod Whole
+pub mod Kept
+pub mod Selected

@@ -9,10 +9,17 @@ use Rattle.ob_script.specs.Parts.{slots_in}
 use Rattle.std.proofs.lemmas.Bool.{cases_lt}
 use Rattle.ob_row.specs.Rows.{Row}
 use Rattle.ob_row.specs.Slots.{Slots, slot_at, is_selected, selected}
-use Rattle.ob_row.specs.Results.{Buckets, RowTest, bucket_for, put_in, filled, unplaced_or, unplaced_from, unplaced}
+use Rattle.ob_row.specs.Results.{Buckets, RowTest, bucket_for, put_in, filled, unplaced_or, unplaced_from, unplaced, hash_slots}
 use Rattle.ob_blocks.specs.Blocks.{none_of, up_to, block_at}
 use Rattle.ob_blocks.proofs.Blocks.{block-element}
-use Rattle.ob_hash.specs.Bucketed.{AreBuckets, after_place, still_waits, buckets_of, unplaced_of, first_of}
+use Rattle.ob_vault.specs.State.{World}
+use Rattle.ob_vault.specs.Calls.{Lasts}
+use Rattle.ob_flat.specs.Flats.{HoldsSlots}
+use Rattle.ob_flat.proofs.Tables.{slots_lasts}
+use Rattle.ob_hash.specs.Bucketed.{AreBuckets, spread, after_place, still_waits, buckets_of, unplaced_of, first_of}
+use Rattle.ob_hash.specs.Hashing.{Layout, bucket_size}
+use Rattle.ob_hash.specs.Selecting.{HasPlaced}
+use Rattle.ob_hash.proofs.Alike.{holds_alike}
 use Rattle.ob_hash.proofs.Both.{no_places, shown_both}
 
 pub slot_is : (slots : Slots) (i : ℕ) → slot_at slots i ≡ slice_index_or slots i None
@@ -123,11 +130,52 @@ module _ (k n m : ℕ) (p : RowTest) (slots : Slots) (selected : Bool) (below : 
       ∙ ap (λ (b : Bool). first_of (unplaced_of k n p slots m) b m) (still ∙ ap (λ (b : Bool). still_waits k n b m (buckets_of k n p slots m)) is)
       ∙ sym (unplaced_more k n p slots m below)
 
+-- the same number of slots
+pub placed_same : {l : Layout} {p : RowTest} {slots : Slots} {m n : ℕ} {overflow : Option ℕ} {w : World} → m ≡ n → HasPlaced l p slots m overflow w → HasPlaced l p slots n overflow w
+placed_same {l} {p} {slots} {m} {n} {overflow} {w} same is = subst (λ (i : ℕ). HasPlaced l p slots i overflow w) same is
+
+-- what the result holds once one more was shown
+pub placed_next : (l : Layout) (p : RowTest) (slots : Slots) (m : ℕ) (selected waits : Bool) (before after : Option ℕ) (w : World) → m < length slots → selected ≡ is_selected p (slot_at slots m)
+    → before ≡ unplaced_of l.k (bucket_size l) p slots m → after ≡ first_of before waits m
+    → (waits ≡ still_waits l.k (bucket_size l) selected m (buckets_of l.k (bucket_size l) p slots m))
+    × HoldsSlots l.pack l.table (spread (bucket_size l) slots (after_place l.k (bucket_size l) selected m (buckets_of l.k (bucket_size l) p slots m))) w
+    → HasPlaced l p slots (m + 1) after w
+placed_next l p slots m selected waits before after w below is was next told = record {
+  first = not_placed l.k (bucket_size l) m p slots selected below is waits before after told.0 was next;
+  holds = holds_alike l.pack l.table w _ _ (ap (spread (bucket_size l) slots) (placed l.k (bucket_size l) m p slots selected below is)) told.1;
+}
+
+-- no slot yet
+pub placed_none : (l : Layout) (p : RowTest) (slots : Slots) (w : World) → HoldsSlots l.pack l.table (spread (bucket_size l) slots (replicate l.k [])) w → HasPlaced l p slots (0 * l.pack) None w
+placed_none l p slots w empty =
+    let none : 0 ≡ 0 * l.pack = omega arith in
+    placed_same none (record { first = refl; holds = empty })
+
+-- where other regions were asked
+pub placed_lasts : {l : Layout} {p : RowTest} {slots : Slots} {m : ℕ} {overflow : Option ℕ} {some : ℕ → Type 0} {a b : World} → Lasts some a b → (some l.table.region → ⊥)
+    → HasPlaced l p slots m overflow a → HasPlaced l p slots m overflow b
+placed_lasts {l} {some = some} lasts off is = record { first = is.first; holds = slots_lasts l.pack l.table some _ _ lasts off _ is.holds }
+
+-- the same slots
+pub placed_taken : {l : Layout} {p : RowTest} {slots : Slots} {m n : ℕ} {overflow : Option ℕ} {w : World} → take m slots ≡ take n slots → HasPlaced l p slots m overflow w → HasPlaced l p slots n overflow w
+placed_taken {l} {p} {slots} {w = w} same is = record {
+  first = is.first ∙ ap (λ (s : Slots). unplaced l.k (bucket_size l) (selected p s)) same;
+  holds = holds_alike l.pack l.table w _ _ (ap (λ (s : Slots). spread (bucket_size l) slots (filled l.k (bucket_size l) (replicate l.k []) (selected p s))) same) is.holds;
+}
+
+-- all of them
+pub placed_all : {l : Layout} {p : RowTest} {slots : Slots} {m : ℕ} {overflow : Option ℕ} {w : World} → length slots ≤ m → HasPlaced l p slots m overflow w
+    → (overflow ≡ unplaced l.k (bucket_size l) (selected p slots)) × HoldsSlots l.pack l.table (hash_slots l.k (bucket_size l) p slots) w
+placed_all {l} {p} {slots} {m} {w = w} all is = (
+  is.first ∙ unplaced_all l.k (bucket_size l) p slots m all,
+  holds_alike l.pack l.table w _ _ (ap (spread (bucket_size l) slots) (buckets_all l.k (bucket_size l) p slots m all)) is.holds,
+)
+
 -- the slots up to the next block
-pub next_slots : (pack u : ℕ) (slots : Slots) → u * pack < length slots → take (u * pack + slots_in pack (length slots) u) slots ≡ take ((u + 1) * pack) slots
-next_slots pack u slots begun =
+pub next_slots : (pack u capacity : ℕ) (slots : Slots) → length slots ≡ capacity → u * pack < length slots → take (u * pack + slots_in pack capacity u) slots ≡ take ((u + 1) * pack) slots
+next_slots pack u capacity slots size begun =
     let next : (u + 1) * pack ≡ u * pack + pack = grind arith in
-    elim (cases_lt (length slots - u * pack) pack) [
-      | inl short ↦ take_all (u * pack + slots_in pack (length slots) u) slots (omega arith) ∙ sym (take_all ((u + 1) * pack) slots (omega (arith, next)))
+    elim (cases_lt (capacity - u * pack) pack) [
+      | inl short ↦ take_all (u * pack + slots_in pack capacity u) slots (omega (arith, size)) ∙ sym (take_all ((u + 1) * pack) slots (omega (arith, next, size)))
       | inr long ↦ ap (λ (n : ℕ). take n slots) (omega (arith, next))
     ]

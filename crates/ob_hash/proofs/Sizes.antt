@@ -9,8 +9,8 @@ use Rattle.ob_script.proofs.Shares.{length-each_shares}
 use Rattle.ob_store.proofs.Steps.{length-each}
 use Rattle.ob_vault.proofs.RowsLemmas.{rows_room}
 use Rattle.ob_flat.proofs.Tables.{blocks_end}
-use Rattle.ob_hash.specs.declared.buckets.Hashed.{Hashed}
-use Rattle.ob_hash.specs.Hashing.{IsHashed, block_part, slot_part}
+use Rattle.ob_flat.specs.Words.{blocks_of}
+use Rattle.ob_hash.specs.Hashing.{Layout, IsHashed, block_part, slot_part}
 
 -- whole blocks
 pub blocks_whole : (r m : ℕ) → 1 ≤ r → blocks_for r (m * r) ≡ m
@@ -33,12 +33,16 @@ nearer less = omega arith
 pub place_in : (k depth b y : ℕ) → b < k → y < depth → b * depth + y < k * depth
 place_in k depth b y below inside = omega (arith, inside, rows_room b k depth below)
 
-module _ (pack : ℕ) (hashed : Hashed) (is : IsHashed pack hashed) (some : 1 ≤ pack) where
-  pub blocks_of : blocks_for pack hashed.flat.now.capacity ≡ hashed.k * hashed.depth
-  blocks_of = ap (blocks_for pack) is.capacity ∙ blocks_whole pack (hashed.k * hashed.depth) some
+-- the blocks of a result
+module _ {l : Layout} (is : IsHashed l) where
+  pub result_blocks : blocks_of l.pack l.table ≡ l.k * l.depth
+  result_blocks = ap (blocks_for l.pack) is.capacity ∙ blocks_whole l.pack (l.k * l.depth) is.some
 
-  pub blocks_few : hashed.k * hashed.depth ≤ 134217728
-  blocks_few = omega (arith, blocks_of, is.size.blocks)
+  pub result_few : l.k * l.depth ≤ 134217728
+  result_few = omega (arith, result_blocks, is.size.blocks)
+
+  pub result_place : {b y : ℕ} → b < l.k → y < l.depth → b * l.depth + y < blocks_of l.pack l.table
+  result_place {b} {y} below inside = omega (arith, result_blocks, place_in l.k l.depth b y below inside)
 
 -- how many accesses the blocks of a bucket take
 pub touches : (g depth b n : ℕ) → length (each n (block_part g depth b)) ≡ 2 * n
@@ -53,9 +57,6 @@ pub slot_room : (j n depth : ℕ) → j < n → j * (4 * depth) + 4 * depth ≤ 
 slot_room j n depth below = rows_room j n (4 * depth) below
 
 -- the slots of a block below the capacity
-pub slots_few : (pack capacity u : ℕ) → slots_in pack capacity u ≤ pack
-slots_few pack capacity u = omega arith
-
 pub slots_inside : (pack capacity u j : ℕ) → j < slots_in pack capacity u → u * pack + j < capacity
 slots_inside pack capacity u j below = omega arith
 
@@ -74,3 +75,8 @@ block_room pack capacity depth u = shared (min capacity (u * pack)) (slots_in pa
 -- a block of the table begins below the capacity
 pub block_begins : (pack capacity u : ℕ) → 1 ≤ pack → u < blocks_for pack capacity → u * pack < capacity
 block_begins pack capacity u some below = omega (arith, blocks_end pack capacity some, rows_room u (blocks_for pack capacity) pack below)
+
+-- that block and those of its slots are left
+pub table_room : (t g pack capacity k depth u : ℕ) → u < blocks_for pack capacity
+    → length (each u (hash_block t g pack capacity k depth)) + (1 + slots_in pack capacity u * (4 * depth)) ≤ blocks_for pack capacity + 4 * depth * capacity
+table_room t g pack capacity k depth u below = omega (arith, below, blocks_touch t g pack capacity k depth u, block_room pack capacity depth u)

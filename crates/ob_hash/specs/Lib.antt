@@ -3,3 +3,4 @@ pub mod Filling
 pub mod Bucketed
 pub mod Hashing
 pub mod Answers
+pub mod Selecting

@@ -23,9 +23,12 @@ impl<'a> Filling<'a> {
         requires wide { width schema.now ≤ length slot.old }
         ensures size { length slot.new ≡ length slot.old }
         ensures row { self.new.row.now ≡ self.old.row.now }
-        ensures spells { OnOk result (((own : Option Row) × Begins schema.now own self.old.row.now) → ((s : Option Row) × Begins schema.now s slot.new)) }
-        ensures told { (own s : Option Row) → Begins schema.now own self.old.row.now → Begins schema.now s slot.old
-            → MatchResult result (λ _. (self.new.waits ≡ self.old.waits && is_some s) × Begins schema.now (slot_after self.old.waits own s) slot.new) (λ _. ⊥) }
+        ensures spells { OnOk result (((own : Option Row) × Begins schema.now own self.old.row.now)
+            → ((s : Option Row) × Begins schema.now s slot.new)) }
+        ensures told { (own s : Option Row)
+            → Begins schema.now own self.old.row.now → Begins schema.now s slot.old
+            → MatchResult result (λ _. (self.new.waits ≡ self.old.waits && is_some s)
+            × Begins schema.now (slot_after self.old.waits own s) slot.new) (λ _. ⊥) }
     {
         let taken = read(schema, slot)?;
         if self.waits && !taken {

@@ -1,23 +1,16 @@
-ghost use Rattle.std.specs.Prelude.{◌≡◌, ◌≤◌, ◌<◌, ◌+◌, ◌*◌, ◌^◌, ◌⊎◌, max, ℕ, Bool, List, IsTrue, None, Err, IfOk, IfErr, OnErr, OnOk, MatchResult, length};
-ghost use Rattle.ob_base.specs.Accesses.{make_at};
-ghost use Rattle.ob_base.specs.Numbers.{blocks_for};
+ghost use Rattle.std.specs.Prelude.{◌≡◌, ◌*◌, max, length};
 ghost use Rattle.ob_base.specs.Schemas.{width};
-ghost use Rattle.ob_store.specs.Runs.{Began};
-ghost use Rattle.ob_vault.specs.declared.region.Order.TheVariants.{Any};
-ghost use Rattle.ob_vault.specs.Tied.{Ready, Lives};
-ghost use Rattle.ob_vault.specs.Calls.{Went, Seals, one};
-ghost use Rattle.ob_vault.specs.Places.{at, RowsFit};
+ghost use Rattle.ob_vault.specs.Places.{at};
 ghost use Rattle.ob_vault.specs.Rows.{SameSizes};
-ghost use Rattle.ob_script.specs.Parts.{hash_part};
-ghost use Rattle.ob_row.specs.Results.{unplaced, hash_slots};
-ghost use Rattle.ob_row.specs.Slots.{Slots, selected};
+ghost use Rattle.ob_vault.specs.Words.{MayStart};
 ghost use Rattle.ob_row.specs.Truth.{is_true};
 ghost use Rattle.ob_blocks.specs.Blocks.{none_of};
 ghost use Rattle.ob_blocks.specs.Idle.{IsIdle};
 ghost use Rattle.ob_flat.specs.Slots.{Spelt};
-ghost use Rattle.ob_flat.specs.Flats.{IsSized, FitsRegion, IsFlat, IsWritten, Represents, Accepts, table_region};
-ghost use Rattle.ob_flat.specs.Passes.{PassCut};
-ghost use Rattle.ob_hash.specs.Answers.{flat_of, overflow_of};
+ghost use Rattle.ob_flat.specs.Flats.{IsSized, IsFlat};
+ghost use Rattle.ob_flat.specs.Words.{IsTable};
+ghost use Rattle.ob_hash.specs.Hashing.{FitsBuckets, AreBuffers, layout_at, select_length};
+ghost use Rattle.ob_hash.specs.Selecting.{Selects};
 
 use crate::buckets::Hashed;
 use crate::hashing::hash_blocks;
@@ -46,36 +39,19 @@ fn select_rows<S: BlockStore, R: Revisions>(
     k: u32,
     depth: u32,
 ) -> Result<Placed, OpErr>
-    requires ready { Ready (at R.state vault.old (S.state store.old)) }
-    requires spare { 1 + (k * depth + (blocks_for (length rows.old) flat.now.capacity + 4 * depth * flat.now.capacity)) ≤ (S.state store.old).spare }
-    requires few { length (S.state store.old).asked < 2 ^ 63 + 2 ^ 59 }
-    requires flat { IsFlat (length rows.old) flat.now (at R.state vault.old (S.state store.old)) }
-    requires size { IsSized flat.now.schema flat.now.capacity }
-    requires number { (1 ≤ k) × (k ≤ flat.now.capacity) }
-    requires depth { (1 ≤ depth) × (depth ≤ 8) }
-    requires pack { (1 ≤ length rows.old) × (length rows.old ≤ 16) }
-    requires fit { RowsFit rows.old (length rows.old * width flat.now.schema) }
-    requires count { length block.old ≡ length rows.old }
-    requires space { RowsFit block.old (length block.old * width flat.now.schema) }
+    requires starts { MayStart
+        (select_length (layout_at (length rows.old) flat.now k depth vault.old.next) flat.now)
+        (at R.state vault.old (S.state store.old)) }
+    requires table { IsTable (length rows.old) flat.now (at R.state vault.old (S.state store.old)) }
+    requires sizes { FitsBuckets k depth flat.now }
+    requires buffers { AreBuffers
+        (layout_at (length rows.old) flat.now k depth vault.old.next) rows.old block.old }
     requires dummies { Spelt flat.now.schema (none_of (length block.old)) block.old }
     ensures rows { SameSizes rows.old rows.new }
     ensures block { SameSizes block.old block.new }
-    ensures ok { OnOk result (Went (hash_part flat.now.region vault.old.next (length rows.old) flat.now.capacity k depth (length rows.old * width flat.now.schema)) (one vault.old.next) (at R.state vault.old (S.state store.old)) (at R.state vault.new (S.state store.new))) }
-    ensures err { IfErr result (λ e. PassCut e (hash_part flat.now.region vault.old.next (length rows.old) flat.now.capacity k depth (length rows.old * width flat.now.schema)) (one vault.old.next) (at R.state vault.old (S.state store.old)) (at R.state vault.new (S.state store.new))) }
-    ensures never { IfErr result (λ e. (e ≡ OpErr.Failed) ⊎ (e ≡ OpErr.NoMemory) ⊎ ((place : ℕ) × (place < blocks_for (length rows.old) flat.now.capacity) × (e ≡ OpErr.Tampered flat.now.region place)) ⊎ ((place : ℕ) × (place < k * depth) × (e ≡ OpErr.Tampered vault.old.next place))) }
-    ensures memory { result ≡ Err OpErr.NoMemory → Began (make_at vault.old.next (k * depth) (length rows.old * width flat.now.schema)) (S.state store.old) (S.state store.new) }
-    ensures gone { OnErr result ((R.state vault.new.revs).live vault.old.next ≡ None) }
-    ensures seals { (good : ℕ → List ℕ → Bool) → Accepts good (length rows.old) flat.now.schema vault.old.next → Seals good (at R.state vault.old (S.state store.old)) (at R.state vault.new (S.state store.new)) }
-    ensures source { IsFlat (length rows.old) flat.now (at R.state vault.new (S.state store.new)) }
-    ensures value { IfOk result (λ placed. flat_of placed ≡ record { schema = flat.now.schema; capacity = k * depth * length rows.old; region = vault.old.next }) }
-    ensures lives { OnOk result (Lives vault.old.next (table_region Any (length rows.old) flat.now.schema (k * depth * length rows.old)) (at R.state vault.new (S.state store.new))) }
-    ensures flat { IfOk result (λ placed. IsWritten (length rows.old) (flat_of placed) (at R.state vault.new (S.state store.new))) }
-    ensures size { IfOk result (λ placed. FitsRegion (length rows.old) (flat_of placed).schema (flat_of placed).capacity) }
-    ensures told { IsTrue (S.state store.old).tells → (slots : Slots) → Represents (length rows.old) flat.now slots (at R.state vault.old (S.state store.old)) → (S.state store.new).lie ≡ None
-        → MatchResult result
-        (λ placed. (overflow_of placed ≡ unplaced k (depth * length rows.old) (selected (is_true pred.now) slots))
-        × Represents (length rows.old) (flat_of placed) (hash_slots k (depth * length rows.old) (is_true pred.now) slots) (at R.state vault.new (S.state store.new)))
-        (λ e. (e ≡ OpErr.Failed) ⊎ (e ≡ OpErr.NoMemory)) }
+    ensures selects { Selects (layout_at (length rows.old) flat.now k depth vault.old.next)
+        flat.now (is_true pred.now) result
+        (at R.state vault.old (S.state store.old)) (at R.state vault.new (S.state store.new)) }
 {
     let capacity = k * depth * rows.len() as u32;
     let region = create_blocks(store, vault, block, &flat.schema, capacity, Order::Any)?;
@@ -119,31 +95,17 @@ pub fn select<S: BlockStore, R: Revisions>(
     k: u32,
     depth: u8,
 ) -> Result<Placed, OpErr>
-    requires ready { Ready (at R.state vault.old (S.state store.old)) }
-    requires spare { 1 + (k * depth + (blocks_for room.old.pack flat.now.capacity + 4 * depth * flat.now.capacity)) ≤ (S.state store.old).spare }
-    requires few { length (S.state store.old).asked < 2 ^ 63 + 2 ^ 59 }
+    requires starts { MayStart
+        (select_length (layout_at room.old.pack flat.now k depth vault.old.next) flat.now)
+        (at R.state vault.old (S.state store.old)) }
     requires flat { IsFlat room.old.pack flat.now (at R.state vault.old (S.state store.old)) }
     requires size { IsSized flat.now.schema flat.now.capacity }
+    requires sizes { FitsBuckets k depth flat.now }
     requires room { IsIdle (width flat.now.schema) room.old }
-    requires number { (1 ≤ k) × (k ≤ flat.now.capacity) }
-    requires depth { (1 ≤ depth) × (depth ≤ 8) }
-    ensures ok { OnOk result (Went (hash_part flat.now.region vault.old.next room.old.pack flat.now.capacity k depth (room.old.pack * width flat.now.schema)) (one vault.old.next) (at R.state vault.old (S.state store.old)) (at R.state vault.new (S.state store.new))) }
-    ensures err { IfErr result (λ e. PassCut e (hash_part flat.now.region vault.old.next room.old.pack flat.now.capacity k depth (room.old.pack * width flat.now.schema)) (one vault.old.next) (at R.state vault.old (S.state store.old)) (at R.state vault.new (S.state store.new))) }
-    ensures never { IfErr result (λ e. (e ≡ OpErr.Failed) ⊎ (e ≡ OpErr.NoMemory) ⊎ ((place : ℕ) × (place < blocks_for room.old.pack flat.now.capacity) × (e ≡ OpErr.Tampered flat.now.region place)) ⊎ ((place : ℕ) × (place < k * depth) × (e ≡ OpErr.Tampered vault.old.next place))) }
-    ensures memory { result ≡ Err OpErr.NoMemory → Began (make_at vault.old.next (k * depth) (room.old.pack * width flat.now.schema)) (S.state store.old) (S.state store.new) }
-    ensures gone { OnErr result ((R.state vault.new.revs).live vault.old.next ≡ None) }
-    ensures seals { (good : ℕ → List ℕ → Bool) → Accepts good room.old.pack flat.now.schema vault.old.next → Seals good (at R.state vault.old (S.state store.old)) (at R.state vault.new (S.state store.new)) }
     ensures room { room.new ≡ record room.old { high = max room.old.high (2 * room.old.pack) } }
-    ensures source { IsFlat room.old.pack flat.now (at R.state vault.new (S.state store.new)) }
-    ensures value { IfOk result (λ placed. flat_of placed ≡ record { schema = flat.now.schema; capacity = k * depth * room.old.pack; region = vault.old.next }) }
-    ensures lives { OnOk result (Lives vault.old.next (table_region Any room.old.pack flat.now.schema (k * depth * room.old.pack)) (at R.state vault.new (S.state store.new))) }
-    ensures flat { IfOk result (λ placed. IsWritten room.old.pack (flat_of placed) (at R.state vault.new (S.state store.new))) }
-    ensures size { IfOk result (λ placed. FitsRegion room.old.pack (flat_of placed).schema (flat_of placed).capacity) }
-    ensures told { IsTrue (S.state store.old).tells → (slots : Slots) → Represents room.old.pack flat.now slots (at R.state vault.old (S.state store.old)) → (S.state store.new).lie ≡ None
-        → MatchResult result
-        (λ placed. (overflow_of placed ≡ unplaced k (depth * room.old.pack) (selected (is_true pred.now) slots))
-        × Represents room.old.pack (flat_of placed) (hash_slots k (depth * room.old.pack) (is_true pred.now) slots) (at R.state vault.new (S.state store.new)))
-        (λ e. (e ≡ OpErr.Failed) ⊎ (e ≡ OpErr.NoMemory)) }
+    ensures selects { Selects (layout_at room.old.pack flat.now k depth vault.old.next)
+        flat.now (is_true pred.now) result
+        (at R.state vault.old (S.state store.old)) (at R.state vault.new (S.state store.new)) }
 {
     let pack = room.pack();
     let open = room.open(2 * pack);

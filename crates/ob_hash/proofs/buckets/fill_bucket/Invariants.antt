@@ -1,15 +1,16 @@
-use Rattle.std.proofs.Common.{◌≡◌, ◌*◌, ℕ, Bool, List, Option, IsTrue, None, length}
+use Rattle.std.proofs.Common.{◌≡◌, ◌*◌, Option, length}
 use Rattle.ob_base.specs.Lists.{each}
-use Rattle.ob_vault.specs.Calls.{Went, Seals, one}
 use Rattle.ob_vault.specs.Rows.{SameSizes}
 use Rattle.ob_vault.specs.Places.{at}
+use Rattle.ob_vault.specs.Words.{IsHonest}
 use Rattle.ob_row.specs.Rows.{Row}
 use Rattle.ob_row.specs.Slots.{Slots}
 use Rattle.ob_row.specs.Spelling.{Begins}
-use Rattle.ob_flat.specs.Flats.{HoldsSlots, Accepts}
+use Rattle.ob_flat.specs.Flats.{HoldsSlots}
 use Rattle.ob_hash.specs.Waiting.{waits_after}
 use Rattle.ob_hash.specs.Filling.{IsRow}
-use Rattle.ob_hash.specs.Hashing.{IsOpen, block_part}
+use Rattle.ob_hash.specs.Hashing.{block_part, layout_of}
+use Rattle.ob_hash.proofs.Kept.{Kept}
 use Rattle.ob_hash.proofs.Ranges.{blocks_from, shown}
 use Rattle.ob_hash.proofs.buckets.fill_bucket.Given as goal
 
@@ -21,11 +22,9 @@ invariant-loop-y g l =
     let flat = l.hashed.flat.now in
     let first = l.bucket * l.hashed.depth in
     record {
-      went : Went (each l.y (block_part flat.region l.hashed.depth l.bucket)) (one flat.region) old now;
-      seals : (good : ℕ → List ℕ → Bool) → Accepts good pack flat.schema flat.region → Seals good old now;
+      keeps : Kept (layout_of pack l.hashed) (each l.y (block_part flat.region l.hashed.depth l.bucket)) old now;
       same : SameSizes l.initial.block l.block;
-      open_now : IsOpen pack flat now;
       row : IsRow flat.schema l.filling.row.now;
-      told : IsTrue old.store.tells → (slots : Slots) (own : Option Row) → HoldsSlots pack flat slots old → Begins flat.schema own l.row → now.store.lie ≡ None
+      told : IsHonest old now → (slots : Slots) (own : Option Row) → HoldsSlots pack flat slots old → Begins flat.schema own l.row
           → (l.filling.row.now ≡ l.row) × (l.filling.waits ≡ waits_after l.waits (blocks_from pack first l.y slots)) × HoldsSlots pack flat (shown pack first l.y l.waits own slots) now;
     }
