@@ -1,8 +1,6 @@
 -- The tables that are measured.
 use Rattle.std.specs.Prelude.{◌≡◌, ◌≤◌, ℕ, ℤ, [], ◌∷◌, FitsSigned, length}
 use Rattle.std.specs.Int.{w64}
-use Rattle.std.specs.List.{All}
-use Rattle.ob_base.specs.Labels.{IsNamed}
 use Rattle.ob_base.specs.Schemas.{Columns, width}
 use Rattle.ob_room.specs.RoomState.{RoomState}
 use Rattle.ob_vault.specs.State.{World}
@@ -17,7 +15,6 @@ use Rattle.ob_mutate.specs.Changing.{FitsSets}
 pub record HasColumns (n bytes : ℕ) (columns : Columns) : Type 0 where
   pub count : length columns ≡ n
   pub wide : width columns ≡ bytes
-  pub names : All IsNamed columns
   pub number : (y : ℤ) → FitsSigned w64 y → FitsSets columns ((1, Int y) ∷ [])
 
 -- the columns of a table that is measured
@@ -25,7 +22,6 @@ pub record AreColumns (columns : Columns) : Type 0 where
   pub least : 2 ≤ length columns
   pub most : length columns ≤ 6
   pub wide : width columns ≤ 1024
-  pub names : All IsNamed columns
   pub number : (y : ℤ) → FitsSigned w64 y → FitsSets columns ((1, Int y) ∷ [])
 
 -- rows of it may be opened

@@ -1,17 +1,18 @@
 //! Tables full of rows.
-ghost use Rattle.std.specs.Prelude.{◌≡◌, ◌≤◌, ◌<◌, ◌+◌, ◌*◌, ◌^◌, max, IfOk, OnOk, length};
+ghost use Rattle.std.specs.Prelude.{◌≡◌, ◌≤◌, ◌<◌, ◌+◌, ◌^◌, max, IfOk, OnOk, length};
 ghost use Rattle.ob_base.specs.Accesses.{write_at};
 ghost use Rattle.ob_base.specs.Lists.{each};
-ghost use Rattle.ob_base.specs.Numbers.{blocks_for};
 ghost use Rattle.ob_base.specs.Schemas.{width};
 ghost use Rattle.ob_store.specs.Calls.{Rests};
 ghost use Rattle.ob_vault.specs.declared.region.Order.TheVariants.{Round};
 ghost use Rattle.ob_vault.specs.Calls.{Went, one};
-ghost use Rattle.ob_vault.specs.Places.{at, RowsFit};
+ghost use Rattle.ob_vault.specs.Places.{at};
 ghost use Rattle.ob_vault.specs.Rows.{SameSizes, Wide};
 ghost use Rattle.ob_vault.specs.Tied.{Ready, Lives, OnTurn};
+ghost use Rattle.ob_vault.specs.Words.{MayAsk};
 ghost use Rattle.ob_flat.specs.declared.flat.Flat.{Flat as Table};
 ghost use Rattle.ob_flat.specs.Flats.{IsSized, IsFlat, table_region};
+ghost use Rattle.ob_flat.specs.Words.{FitBlock, blocks_of};
 ghost use Rattle.ob_pass_bench.specs.Tables.{AreColumns, IsOpen, MayRun};
 
 use crate::schemas::cells_of;
@@ -89,10 +90,8 @@ fn fill_table<S: BlockStore, R: Revisions>(
     flat: &Flat,
     full: u32,
 ) -> Result<(), OpErr>
-    requires ready { Ready (at R.state vault.old (S.state store.old)) }
-    requires spare { blocks_for (length rows.old) flat.now.capacity ≤ (S.state store.old).spare }
-    requires few { length (S.state store.old).asked + blocks_for (length rows.old) flat.now.capacity
-        < 2 ^ 63 + 2 ^ 60 }
+    requires asks { MayAsk (blocks_of (length rows.old) flat.now)
+        (at R.state vault.old (S.state store.old)) }
     requires lives { Lives flat.now.region
         (table_region Round (length rows.old) flat.now.schema flat.now.capacity)
         (at R.state vault.old (S.state store.old)) }
@@ -101,10 +100,10 @@ fn fill_table<S: BlockStore, R: Revisions>(
         (at R.state vault.old (S.state store.old)) }
     requires size { IsSized flat.now.schema flat.now.capacity }
     requires pack { (1 ≤ length rows.old) × (length rows.old ≤ 16) }
-    requires fit { RowsFit rows.old (length rows.old * width flat.now.schema) }
+    requires fit { FitBlock flat.now.schema rows.old }
     ensures rows { SameSizes rows.old rows.new }
     ensures ok { OnOk result (Went
-        (each (blocks_for (length rows.old) flat.now.capacity) (write_at flat.now.region))
+        (each (blocks_of (length rows.old) flat.now) (write_at flat.now.region))
         (one flat.now.region) (at R.state vault.old (S.state store.old))
         (at R.state vault.new (S.state store.new))) }
     ensures flat { OnOk result (IsFlat (length rows.old) flat.now

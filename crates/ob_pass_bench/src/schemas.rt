@@ -1,7 +1,6 @@
 //! The columns of the tables: two numbers, and as many texts as fill the width.
 ghost use Rattle.std.specs.Prelude.{◌≡◌, ◌≤◌, ◌+◌, ◌++◌, ℕ, IfSome, IfOk, OnOk, length};
 ghost use Rattle.ob_base.specs.Schemas.{width};
-ghost use Rattle.ob_base.specs.Labels.{IsNamed};
 ghost use Rattle.ob_row.specs.Spelling.{FitsKind, FitsText, Fits};
 ghost use Rattle.ob_row.specs.Rows.{Row};
 ghost use Rattle.ob_pass_bench.specs.Tables.{HasColumns, AreColumns};
@@ -13,8 +12,7 @@ use std::alloc::Global;
 // A column of this kind.
 fn column(name: &[u8], kind: Kind, key: bool) -> Column
     requires { length name.now ≤ 32 }
-    ensures kind { result.kind ≡ kind }
-    ensures named { IsNamed result }
+    ensures { result.kind ≡ kind }
 {
     Column {
         table: Name::from_bytes(b"t"),

@@ -1,8 +1,6 @@
 //! The aggregates of tables with rows, and the accesses of them.
 ghost use Rattle.std.specs.Prelude.{◌≡◌, ◌≤◌, ℕ, List, [], ◌∷◌, ℤ, FitsSigned, length};
 ghost use Rattle.std.specs.Int.{w64};
-ghost use Rattle.std.specs.List.{All};
-ghost use Rattle.ob_base.specs.Labels.{IsNamed};
 ghost use Rattle.ob_base.specs.Schemas.{width};
 ghost use Rattle.ob_vault.specs.Tied.{Ready};
 ghost use Rattle.ob_vault.specs.Places.{at};
@@ -10,16 +8,15 @@ ghost use Rattle.ob_row.specs.declared.cell.Cell.TheVariants.{Int as IntCell, Te
 ghost use Rattle.ob_row.specs.Spelling.{Fits as FitColumns, FitsText};
 ghost use Rattle.ob_blocks.specs.Idle.{IsIdle};
 ghost use Rattle.ob_flat.specs.Flats.{IsSized};
-ghost use Rattle.ob_group.specs.Running.{AreWithin};
 
-use crate::tables::{column, filled, insert_cells, make_room, opened, two_ints};
+use crate::tables::{FOUR, column, filled, insert_cells, make_room, opened, two_ints};
 use ob_base::{Access, Kind, Schema, Shown, Text};
 use ob_flat::create;
 use ob_group::aggregate;
 use ob_room::Room;
 use ob_row::{Agg, Cell, Operand, Order, Pred};
 use ob_store::BlockStore;
-use ob_vault::{Revisions, Vault};
+use ob_vault::{BaseRevs, Revisions, Vault};
 use std::alloc::Global;
 use std::process::Abort;
 
@@ -77,12 +74,10 @@ fn session<S: BlockStore, R: Revisions>(
 // In blocks of one, two and three rows.
 fn in_packs(rt: &impl Abort, alloc: Global, rows: &[(i64, i64)], pred: &Pred, wanted: &[Shown]) {
     for (pack, blocks) in [(1, 4), (2, 2), (3, 2)] {
-        let (mut store, vault, room) = opened(rt, alloc, 64, pack);
+        let (mut store, vault, room) = opened::<BaseRevs>(rt, alloc, 64, pack);
         session(rt, &mut store, vault, room, rows, pred, wanted, blocks);
     }
 }
-
-pub(crate) const FOUR: [(i64, i64); 4] = [(1, 10), (2, 20), (3, 10), (4, 20)];
 
 #[test]
 fn of_all_rows(rt: HostRuntime) {
@@ -194,8 +189,8 @@ pub(crate) fn id_and_text() -> Schema
     ensures size { IsSized result 4 }
     ensures count { length result ≡ 2 }
     ensures width { width result ≡ 14 }
-    ensures names { All IsNamed result }
-    ensures fits { (x : ℤ) (t : List ℕ) → FitsSigned w64 x → FitsText 4 t → FitColumns result (IntCell x ∷ TextCell t ∷ []) }
+    ensures fits { (x : ℤ) (t : List ℕ) → FitsSigned w64 x → FitsText 4 t
+        → FitColumns result (IntCell x ∷ TextCell t ∷ []) }
 {
     let mut schema = Schema::new();
     schema.push(column(b"id", Kind::Int, true));
@@ -241,6 +236,6 @@ fn of_texts<S: BlockStore, R: Revisions>(
 
 #[test]
 fn of_a_column_of_texts(rt: HostRuntime) {
-    let (mut store, vault, room) = opened(&rt, rt.alloc(), 64, 1);
+    let (mut store, vault, room) = opened::<BaseRevs>(&rt, rt.alloc(), 64, 1);
     of_texts(&rt, &mut store, vault, room);
 }

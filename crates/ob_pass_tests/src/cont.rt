@@ -1,7 +1,5 @@
 //! What is selected of a table, and the accesses of it: counted, selected, emitted and discarded.
 ghost use Rattle.std.specs.Prelude.{◌≡◌, ◌≤◌, length};
-ghost use Rattle.std.specs.List.{All};
-ghost use Rattle.ob_base.specs.Labels.{IsNamed};
 ghost use Rattle.ob_base.specs.Schemas.{width};
 ghost use Rattle.ob_vault.specs.Tied.{Ready};
 ghost use Rattle.ob_vault.specs.Places.{at};
@@ -14,7 +12,7 @@ use ob_flat::Flat;
 use ob_room::Room;
 use ob_row::{Cell, Operand, Order, Pred};
 use ob_store::BlockStore;
-use ob_vault::{Revisions, Vault};
+use ob_vault::{BaseRevs, Revisions, Vault};
 use std::alloc::Global;
 use std::process::Abort;
 
@@ -45,7 +43,6 @@ fn select_emit<S: BlockStore, R: Revisions>(
     requires size { IsSized flat.now.schema flat.now.capacity }
     requires room { IsIdle (width flat.now.schema) room.old }
     requires columns { length flat.now.schema ≡ 2 }
-    requires names { All IsNamed flat.now.schema }
     requires pack { 1 ≤ room.old.pack }
     requires few { flat.now.capacity ≡ 5 }
     requires number { (1 ≤ case.now.k) × (case.now.k ≤ 5) }
@@ -85,7 +82,7 @@ fn run(rt: &impl Abort, alloc: Global, cases: &[Case<'_>]) {
         assert!(rt; 1 <= case.k && case.k <= 5);
         for pack in case.packs {
             assert!(rt; 1 <= *pack && *pack <= 16);
-            let (mut store, vault, room) = opened(rt, alloc, 64, *pack);
+            let (mut store, vault, room) = opened::<BaseRevs>(rt, alloc, 64, *pack);
             session(rt, &mut store, vault, room, case);
         }
     }

@@ -9,7 +9,7 @@ use ob_base::{Emit, EmitErr, Label, Shown};
 use ob_emit::{emit_all, walk};
 use ob_room::Room;
 use ob_store::BlockStore;
-use ob_vault::{Revisions, Vault};
+use ob_vault::{BaseRevs, Revisions, Vault};
 use std::alloc::Global;
 use std::process::Abort;
 
@@ -90,9 +90,9 @@ fn walking<S: BlockStore, R: Revisions>(
 fn in_memory(rt: &impl Abort, alloc: Global, pack: u32, accesses: u64)
     requires { (1 ≤ pack) × (pack ≤ 16) }
 {
-    let (mut store, vault, room) = opened(rt, alloc, 64, pack);
+    let (mut store, vault, room) = opened::<BaseRevs>(rt, alloc, 64, pack);
     emission(rt, &mut store, vault, room, accesses);
-    let (mut store, vault, room) = opened(rt, alloc, 64, pack);
+    let (mut store, vault, room) = opened::<BaseRevs>(rt, alloc, 64, pack);
     walking(rt, &mut store, vault, room, accesses);
 }
 

@@ -1,5 +1,4 @@
 // An emitter that compares what it takes with what is wanted.
-ghost use Rattle.std.specs.Prelude.{◌≡◌};
 ghost use Rattle.ob_base.specs.Events.{EmitCause};
 
 use ob_base::{Emit, EmitErr, Label, Shown};

@@ -1,21 +1,21 @@
 //! The groups of tables with rows, and the accesses of them.
-ghost use Rattle.std.specs.Prelude.{◌≡◌, ◌≤◌, ◌<◌, ◌*◌, ◌+◌, length};
+ghost use Rattle.std.specs.Prelude.{◌≤◌, ◌<◌, ◌*◌, ◌+◌, length};
 ghost use Rattle.ob_vault.specs.Tied.{Ready};
 ghost use Rattle.ob_vault.specs.Places.{at};
 ghost use Rattle.ob_blocks.specs.Idle.{IsIdle};
 ghost use Rattle.ob_group.specs.Running.{AreWithin};
 ghost use Rattle.ob_group.specs.Grouping.{aggs_of};
 
-use crate::aggregates::{FOUR, check_reads, id_and_text};
+use crate::aggregates::{check_reads, id_and_text};
 use crate::emitter::Wanted;
-use crate::tables::{filled, insert_cells, make_room, opened, two_ints};
+use crate::tables::{FOUR, filled, insert_cells, make_room, opened, two_ints};
 use ob_base::{EmitErr, Shown, Text};
 use ob_flat::{OpErr, create};
 use ob_group::{Grouped, agg_label, group};
 use ob_room::Room;
 use ob_row::{Agg, Cell, Item, Operand, Order, Pred};
 use ob_store::BlockStore;
-use ob_vault::{Revisions, Vault};
+use ob_vault::{BaseRevs, Revisions, Vault};
 use std::alloc::Global;
 use std::process::Abort;
 
@@ -72,7 +72,7 @@ fn in_memory(rt: &impl Abort, alloc: Global, buffer: u32, pack: u32, blocks: u32
     requires few { length case.now.items.now ≤ 32 }
     requires within { AreWithin 2 (aggs_of case.now.items.now) }
 {
-    let (mut store, vault, room) = opened(rt, alloc, buffer, pack);
+    let (mut store, vault, room) = opened::<BaseRevs>(rt, alloc, buffer, pack);
     session(rt, &mut store, vault, room, case, blocks);
 }
 
@@ -380,6 +380,6 @@ fn texts<S: BlockStore, R: Revisions>(
 
 #[test]
 fn of_texts(rt: HostRuntime) {
-    let (mut store, vault, room) = opened(&rt, rt.alloc(), 7, 2);
+    let (mut store, vault, room) = opened::<BaseRevs>(&rt, rt.alloc(), 7, 2);
     texts(&rt, &mut store, vault, room);
 }

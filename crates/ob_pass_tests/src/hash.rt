@@ -1,7 +1,5 @@
 //! What is selected into buckets, and the accesses of it: counted, selected, emitted and discarded.
 ghost use Rattle.std.specs.Prelude.{◌≡◌, ◌≤◌, length};
-ghost use Rattle.std.specs.List.{All};
-ghost use Rattle.ob_base.specs.Labels.{IsNamed};
 ghost use Rattle.ob_base.specs.Schemas.{width};
 ghost use Rattle.ob_vault.specs.Tied.{Ready};
 ghost use Rattle.ob_vault.specs.Places.{at};
@@ -10,7 +8,7 @@ ghost use Rattle.ob_flat.specs.Flats.{IsSized, IsFlat};
 ghost use Rattle.ob_hash.specs.Answers.{flat_of};
 
 use crate::tables::{
-    Comparison, Entry, check, check_next, condition, counted, emit_discard, filled, make_room,
+    Comparison, Entry, FOUR, check, check_next, condition, counted, emit_discard, filled, make_room,
     opened, two_ints,
 };
 use ob_flat::Flat;
@@ -18,7 +16,7 @@ use ob_hash::{Placed, select};
 use ob_room::Room;
 use ob_row::{Order, Pred};
 use ob_store::BlockStore;
-use ob_vault::{Revisions, Vault};
+use ob_vault::{BaseRevs, Revisions, Vault};
 use std::alloc::Global;
 use std::process::Abort;
 
@@ -62,7 +60,6 @@ fn select_emit<S: BlockStore, R: Revisions>(
     requires size { IsSized flat.now.schema flat.now.capacity }
     requires room { IsIdle (width flat.now.schema) room.old }
     requires columns { length flat.now.schema ≡ 2 }
-    requires names { All IsNamed flat.now.schema }
     requires pack { (1 ≤ room.old.pack) × (room.old.pack ≤ 16) }
     requires few { flat.now.capacity ≤ 16 }
     requires number { (1 ≤ case.now.k) × (case.now.k ≤ flat.now.capacity) }
@@ -99,8 +96,6 @@ fn session<S: BlockStore, R: Revisions>(
     let flat = filled(rt, store, &mut vault, &mut room, &schema, slots, case.rows);
     select_emit(rt, store, &mut vault, &mut room, &flat, case);
 }
-
-const FOUR: [(i64, i64); 4] = [(1, 10), (2, 20), (3, 10), (4, 20)];
 
 // Two buckets of one block each, by which the slots 0 and 2 go to the one and 1 and 3 to the other.
 const SINGLE: [Entry; 26] = [
@@ -372,7 +367,7 @@ fn selects_into_buckets(rt: HostRuntime) {
         assert!(rt; 1 <= case.rows.len() && case.rows.len() <= 16);
         assert!(rt; 1 <= case.k && case.k as usize <= case.rows.len());
         assert!(rt; 1 <= case.depth && case.depth <= 8);
-        let (mut store, vault, room) = opened(&rt, rt.alloc(), 3 * case.pack + 1, case.pack);
+        let (mut store, vault, room) = opened::<BaseRevs>(&rt, rt.alloc(), 3 * case.pack + 1, case.pack);
         session(&rt, &mut store, vault, room, case);
     }
 }
@@ -461,7 +456,7 @@ fn overflows_at_slot_six_of_thirteen(rt: HostRuntime) {
         (None, Some(6)),
         (Some((1, Order::Equal, 30)), None),
     ] {
-        let (mut store, vault, room) = opened(&rt, rt.alloc(), 4, 1);
+        let (mut store, vault, room) = opened::<BaseRevs>(&rt, rt.alloc(), 4, 1);
         let pred = condition(selects);
         let overflow = select_into_nine(&rt, &mut store, vault, room, &pred);
         assert_eq!(rt; overflow, wanted);

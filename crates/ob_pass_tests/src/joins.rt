@@ -1,19 +1,17 @@
 //! Joins of two tables with rows: what comes of them, and their accesses.
-ghost use Rattle.std.specs.Prelude.{◌≡◌, ◌≤◌, ◌*◌, ◌+◌, length};
-ghost use Rattle.std.specs.List.{All};
-ghost use Rattle.ob_base.specs.Labels.{IsNamed};
+ghost use Rattle.std.specs.Prelude.{◌≡◌, ◌≤◌, length};
 ghost use Rattle.ob_base.specs.Schemas.{width};
 ghost use Rattle.ob_vault.specs.Tied.{Ready};
 ghost use Rattle.ob_vault.specs.Places.{at};
 ghost use Rattle.ob_blocks.specs.Idle.{IsIdle};
 ghost use Rattle.ob_flat.specs.Flats.{IsFlat};
 
-use crate::tables::{Entry, check, emit_discard, filled, make_room, opened, two_ints};
+use crate::tables::{Entry, FOUR, check, emit_discard, filled, make_room, opened, two_ints};
 use ob_flat::Flat;
 use ob_join::join;
 use ob_room::Room;
 use ob_store::BlockStore;
-use ob_vault::{Revisions, Vault};
+use ob_vault::{BaseRevs, Revisions, Vault};
 use std::alloc::Global;
 use std::process::Abort;
 
@@ -46,8 +44,6 @@ fn join_emit<S: BlockStore, R: Revisions>(
     requires right_count { length right.now.schema ≡ 2 }
     requires left_width { width left.now.schema ≡ 17 }
     requires right_width { width right.now.schema ≡ 17 }
-    requires left_names { All IsNamed left.now.schema }
-    requires right_names { All IsNamed right.now.schema }
     requires left_few { (1 ≤ left.now.capacity) × (left.now.capacity ≤ 8) }
     requires right_few { (1 ≤ right.now.capacity) × (right.now.capacity ≤ 8) }
     requires room { IsIdle 33 room.old }
@@ -96,13 +92,11 @@ fn run(rt: &impl Abort, alloc: Global, cases: &[Case<'_>]) {
         for (rows, pack) in case.sizes {
             assert!(rt; 1 <= *pack && *pack <= 16);
             assert!(rt; 3 * *pack < *rows);
-            let (mut store, vault, room) = opened(rt, alloc, *rows, *pack);
+            let (mut store, vault, room) = opened::<BaseRevs>(rt, alloc, *rows, *pack);
             session(rt, &mut store, vault, room, case);
         }
     }
 }
-
-const FOUR: [(i64, i64); 4] = [(1, 10), (2, 20), (3, 10), (4, 20)];
 
 const WITH_ACCESSES: [Case<'static>; 4] = [
     // Two chunks of two left rows, and a key that two right rows have.

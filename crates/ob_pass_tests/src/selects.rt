@@ -1,15 +1,11 @@
 //! What is selected of a table, and the accesses of it: counted, selected, emitted and discarded.
-ghost use Rattle.std.specs.Prelude.{◌≡◌, ◌≤◌, [], ◌∷◌, ℤ, FitsSigned, length};
-ghost use Rattle.std.specs.Int.{w64};
-ghost use Rattle.std.specs.List.{All};
-ghost use Rattle.ob_base.specs.Labels.{IsNamed};
+ghost use Rattle.std.specs.Prelude.{◌≡◌, ◌≤◌, length};
 ghost use Rattle.ob_base.specs.Schemas.{width};
 ghost use Rattle.ob_vault.specs.Tied.{Ready};
 ghost use Rattle.ob_vault.specs.Places.{at};
-ghost use Rattle.ob_row.specs.declared.cell.Cell.TheVariants.{Int as IntCell};
-ghost use Rattle.ob_row.specs.Spelling.{Fits as FitColumns};
 ghost use Rattle.ob_blocks.specs.Idle.{IsIdle};
 ghost use Rattle.ob_flat.specs.Flats.{IsSized, IsFlat, IsWritten};
+ghost use Rattle.ob_pass_tests.specs.Tables.{TakesInts};
 
 mod continuous;
 mod large;
@@ -18,14 +14,14 @@ mod small;
 mod texts;
 
 use crate::tables::{
-    Comparison, Entry, check, condition, counted, delete_rows, emit_discard, filled, insert_rows,
-    make_room, opened, two_ints,
+    Comparison, Entry, FOUR, TENS, check, condition, counted, delete_rows, emit_discard, filled,
+    insert_rows, make_room, opened, two_ints,
 };
 use ob_flat::{Counted, Flat};
 use ob_room::Room;
 use ob_row::{Order, Pred};
 use ob_store::BlockStore;
-use ob_vault::{Revisions, Vault};
+use ob_vault::{BaseRevs, Revisions, Vault, VecRevs};
 use std::alloc::Global;
 use std::process::Abort;
 
@@ -68,7 +64,7 @@ fn change_rows<S: BlockStore, R: Revisions>(
     requires flat { IsFlat room.old.pack flat.old (at R.state vault.old (S.state store.old)) }
     requires size { IsSized flat.old.schema flat.old.capacity }
     requires room { IsIdle (width flat.old.schema) room.old }
-    requires ints { (x y : ℤ) → FitsSigned w64 x → FitsSigned w64 y → FitColumns flat.old.schema (IntCell x ∷ IntCell y ∷ []) }
+    requires ints { TakesInts flat.old.schema }
     ensures ready { Ready (at R.state vault.new (S.state store.new)) }
     ensures flat { IsFlat room.old.pack flat.new (at R.state vault.new (S.state store.new)) }
     ensures schema { flat.new.schema ≡ flat.old.schema }
@@ -81,15 +77,16 @@ fn change_rows<S: BlockStore, R: Revisions>(
     }
 }
 
-// The result of a case's operator.
-fn select_by<S: BlockStore, R: Revisions>(
+// The result of an operator that is asked for so many rows.
+pub(crate) fn select_by<S: BlockStore, R: Revisions>(
     rt: &impl Abort,
     store: &mut S,
     vault: &mut Vault<R>,
     room: &mut Room,
     flat: &Flat,
     pred: &Pred,
-    case: &Case<'_>,
+    operator: Operator,
+    k: u32,
 ) -> Flat
     requires ready { Ready (at R.state vault.old (S.state store.old)) }
     requires flat { IsFlat room.old.pack flat.now (at R.state vault.old (S.state store.old)) }
@@ -97,7 +94,7 @@ fn select_by<S: BlockStore, R: Revisions>(
     requires room { IsIdle (width flat.now.schema) room.old }
     requires pack { 1 ≤ room.old.pack }
     requires few { flat.now.capacity ≡ 4 }
-    requires number { (1 ≤ case.now.k) × (case.now.k ≤ 4) }
+    requires number { (1 ≤ k) × (k ≤ 4) }
     ensures ready { Ready (at R.state vault.new (S.state store.new)) }
     ensures room { room.new ≡ record room.old { high = room.new.high } }
     ensures schema { result.schema ≡ flat.now.schema }
@@ -105,16 +102,13 @@ fn select_by<S: BlockStore, R: Revisions>(
     ensures written { IsWritten room.old.pack result (at R.state vault.new (S.state store.new)) }
 {
     make_room(rt, store);
-    match case.operator {
-        Operator::Small => {
-            ob_small::select(store, vault, room, flat, pred, case.k).expect(rt, "Small")
-        }
-        Operator::Large => {
-            ob_large::select(store, vault, room, flat, pred, case.k).expect(rt, "Large")
-        }
-        Operator::Continuous => {
-            ob_cont::select(store, vault, room, flat, pred, case.k).expect(rt, "Continuous")
-        }
+    match operator {
+        Operator::Small => ob_small::select(store, vault, room, flat, pred, k).expect(rt, "Small"),
+        Operator::Large => ob_large::select(store, vault, room, flat, pred, k).expect(rt, "Large"),
+        Operator::Continuous => ob_large::select(store, vault, room, flat, pred, k).expect(
+            rt,
+            "Continuous",
+        ),
     }
 }
 
@@ -132,7 +126,6 @@ fn select_emit<S: BlockStore, R: Revisions>(
     requires size { IsSized flat.now.schema flat.now.capacity }
     requires room { IsIdle (width flat.now.schema) room.old }
     requires columns { length flat.now.schema ≡ 2 }
-    requires names { All IsNamed flat.now.schema }
     requires pack { 1 ≤ room.old.pack }
     requires few { flat.now.capacity ≡ 4 }
     requires number { (1 ≤ case.now.k) × (case.now.k ≤ 4) }
@@ -140,7 +133,7 @@ fn select_emit<S: BlockStore, R: Revisions>(
     let pred = condition(case.selects);
     let counted = counted(rt, store, vault, room, flat, &pred);
     assert_eq!(rt; counted.k, case.counted);
-    let result = select_by(rt, store, vault, room, flat, &pred, case);
+    let result = select_by(rt, store, vault, room, flat, &pred, case.operator, case.k);
     emit_discard(rt, store, vault, room, result, &[0], case.ids);
     check(rt, store, case.from, case.wanted);
 }
@@ -167,19 +160,18 @@ pub(crate) fn session<S: BlockStore, R: Revisions>(
     select_emit(rt, store, &mut vault, &mut room, &flat, case);
 }
 
+// Each case over each kind of revisions.
 pub(crate) fn run(rt: &impl Abort, alloc: Global, cases: &[Case<'_>]) {
     for case in cases {
         assert!(rt; 1 <= case.pack && case.pack <= 16);
         assert!(rt; 3 * case.pack < case.open);
         assert!(rt; 1 <= case.k && case.k <= 4);
-        let (mut store, vault, room) = opened(rt, alloc, case.open, case.pack);
+        let (mut store, vault, room) = opened::<BaseRevs>(rt, alloc, case.open, case.pack);
+        session(rt, &mut store, vault, room, case);
+        let (mut store, vault, room) = opened::<VecRevs>(rt, alloc, case.open, case.pack);
         session(rt, &mut store, vault, room, case);
     }
 }
-
-const FOUR: [(i64, i64); 4] = [(1, 10), (2, 20), (3, 10), (4, 20)];
-
-pub(crate) const TENS: Option<Comparison> = Some((1, Order::Equal, 10));
 
 pub(crate) const FROM_SECOND: Option<Comparison> = Some((0, Order::GreaterOrEqual, 2));
 
@@ -216,7 +208,7 @@ fn counts_whether_slots_are_consecutive(rt: HostRuntime) {
             (TENS, 2, false),
             (None, 4, true),
         ] {
-            let (mut store, vault, room) = opened(&rt, rt.alloc(), 49, pack);
+            let (mut store, vault, room) = opened::<BaseRevs>(&rt, rt.alloc(), 49, pack);
             let wanted = Counted { k, consecutive };
             count_rows(&rt, &mut store, vault, room, selects, wanted, (from, to));
         }

@@ -11,8 +11,8 @@ mod passes;
 
 pub(crate) use accesses::{Entry, check, check_next};
 pub(crate) use columns::{column, two_ints};
-pub(crate) use conditions::{Comparison, condition};
+pub(crate) use conditions::{Comparison, TENS, condition};
 pub(crate) use emitted::Ints;
-pub(crate) use filling::{delete_rows, filled, insert_cells, insert_rows};
+pub(crate) use filling::{FOUR, delete_rows, filled, insert_cells, insert_rows};
 pub(crate) use opening::{make_room, opened};
 pub(crate) use passes::{counted, emit_discard, emit_to};

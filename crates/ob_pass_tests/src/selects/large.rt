@@ -1,5 +1,6 @@
 //! The Large operator.
-use crate::selects::{Case, Operator, TENS, run};
+use crate::selects::{Case, Operator, run};
+use crate::tables::TENS;
 use ob_row::Order;
 
 const CASES: [Case<'static>; 3] = [

@@ -1,7 +1,8 @@
 //! The numbers of the writes of a select.
-ghost use Rattle.std.specs.Prelude.{◌≡◌, ◌≤◌};
+ghost use Rattle.std.specs.Prelude.{◌≤◌};
 
-use crate::selects::{Case, FROM_SECOND, Operator, TENS, session};
+use crate::selects::{Case, FROM_SECOND, Operator, session};
+use crate::tables::TENS;
 use ob_room::Room;
 use ob_seal::{At, Keys, unseal};
 use ob_store::MemStore;

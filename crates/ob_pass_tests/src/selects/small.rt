@@ -1,6 +1,6 @@
 //! The Small operator.
-use crate::selects::{Case, Operator, TENS, run};
-use crate::tables::Entry;
+use crate::selects::{Case, Operator, run};
+use crate::tables::{Entry, TENS};
 use ob_row::Order;
 
 const IN_ONE_PASS: [Entry; 14] = [

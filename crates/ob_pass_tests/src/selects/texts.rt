@@ -1,7 +1,5 @@
 //! A table of one slot, which has a text.
 ghost use Rattle.std.specs.Prelude.{◌≡◌, ◌≤◌, [], ◌∷◌, ℕ, List, length};
-ghost use Rattle.std.specs.List.{All};
-ghost use Rattle.ob_base.specs.Labels.{IsNamed};
 ghost use Rattle.ob_base.specs.Schemas.{width};
 ghost use Rattle.ob_vault.specs.Tied.{Ready};
 ghost use Rattle.ob_vault.specs.Places.{at};
@@ -16,7 +14,7 @@ use ob_flat::{Flat, create};
 use ob_room::Room;
 use ob_row::{Cell, Pred};
 use ob_store::BlockStore;
-use ob_vault::{Revisions, Vault};
+use ob_vault::{BaseRevs, Revisions, Vault};
 use std::process::Abort;
 
 const TEXT: &[u8] = b"a'\"";
@@ -62,7 +60,6 @@ fn one_text() -> Schema
     ensures size { IsSized result 1 }
     ensures count { length result ≡ 1 }
     ensures width { width result ≡ 6 }
-    ensures names { All IsNamed result }
     ensures fits { (t : List ℕ) → FitsText 4 t → FitColumns result (TextCell t ∷ []) }
 {
     let mut schema = Schema::new();
@@ -83,7 +80,6 @@ fn select_text<S: BlockStore, R: Revisions>(
     requires size { IsSized flat.now.schema flat.now.capacity }
     requires room { IsIdle (width flat.now.schema) room.old }
     requires columns { length flat.now.schema ≡ 1 }
-    requires names { All IsNamed flat.now.schema }
     requires pack { 1 ≤ room.old.pack }
     requires one { flat.now.capacity ≡ 1 }
 {
@@ -134,6 +130,6 @@ fn session<S: BlockStore, R: Revisions>(
 // A text with both quotes in a table of one slot: all that is asked from the beginning.
 #[test]
 fn a_text_in_one_slot(rt: HostRuntime) {
-    let (mut store, vault, room) = opened(&rt, rt.alloc(), 64, 1);
+    let (mut store, vault, room) = opened::<BaseRevs>(&rt, rt.alloc(), 64, 1);
     session(&rt, &mut store, vault, room);
 }

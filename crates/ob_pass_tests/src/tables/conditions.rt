@@ -9,6 +9,9 @@ use ob_row::{Cell, Operand, Order, Pred};
 /// The place of a column, and how its cell compares with which number.
 pub(crate) type Comparison = (u8, Order, i64);
 
+/// The second cell is 10.
+pub(crate) const TENS: Option<Comparison> = Some((1, Order::Equal, 10));
+
 /// The condition that a row compares so, or that all rows make true.
 pub(crate) fn condition(comparison: Option<Comparison>) -> Pred
     ensures none { comparison ≡ None → result ≡ IsAll }

@@ -1,5 +1,5 @@
 //! An emitter that keeps integers.
-ghost use Rattle.std.specs.Prelude.{◌≡◌, ℕ, ⊤, []};
+ghost use Rattle.std.specs.Prelude.{◌≡◌, ⊤, []};
 
 use arrayvec::ArrayVec;
 use ob_base::{Emit, EmitErr, Label, Shown};

@@ -1,14 +1,12 @@
 //! Rows that are put into tables one by one.
-ghost use Rattle.std.specs.Prelude.{◌≡◌, ◌≢◌, ◌≤◌, [], ◌∷◌, ℤ, FitsSigned, max};
-ghost use Rattle.std.specs.Int.{w64};
+ghost use Rattle.std.specs.Prelude.{◌≡◌, ◌≤◌, max};
 ghost use Rattle.ob_base.specs.Schemas.{width};
 ghost use Rattle.ob_vault.specs.Tied.{Ready};
 ghost use Rattle.ob_vault.specs.Places.{at};
-ghost use Rattle.ob_row.specs.declared.cell.Cell.TheVariants.{Int as IntCell};
 ghost use Rattle.ob_row.specs.Spelling.{Fits};
 ghost use Rattle.ob_blocks.specs.Idle.{IsIdle};
-ghost use Rattle.ob_flat.specs.declared.flat.Flat.{Flat as Table};
 ghost use Rattle.ob_flat.specs.Flats.{IsSized, IsFlat};
+ghost use Rattle.ob_pass_tests.specs.Tables.{TakesInts, KeepsOthers, KeepsAll};
 
 use crate::tables::opening::make_room;
 use ob_base::Schema;
@@ -19,6 +17,9 @@ use ob_row::{Cell, Pred};
 use ob_store::BlockStore;
 use ob_vault::{Revisions, Vault};
 use std::process::Abort;
+
+/// Rows of two numbers.
+pub(crate) const FOUR: [(i64, i64); 4] = [(1, 10), (2, 20), (3, 10), (4, 20)];
 
 /// Inserts a row, for which the table has an empty slot and no row of its key. A table beside it stays.
 pub(crate) fn insert_cells<S: BlockStore, R: Revisions>(
@@ -38,8 +39,8 @@ pub(crate) fn insert_cells<S: BlockStore, R: Revisions>(
     ensures flat { IsFlat room.old.pack flat.new (at R.state vault.new (S.state store.new)) }
     ensures moved { flat.new ≡ record flat.old { region = vault.old.next } }
     ensures room { room.new ≡ record room.old { high = max room.old.high room.old.pack } }
-    ensures beside { (other : Table) → IsFlat room.old.pack other (at R.state vault.old (S.state store.old)) → other.region ≢ flat.old.region
-        → IsFlat room.old.pack other (at R.state vault.new (S.state store.new)) × (other.region ≢ flat.new.region) }
+    ensures beside { KeepsOthers room.old.pack flat.old flat.new
+        (at R.state vault.old (S.state store.old)) (at R.state vault.new (S.state store.new)) }
 {
     make_room(rt, store);
     let found = insert(store, vault, room, flat, cells).expect(rt, "insert");
@@ -59,14 +60,14 @@ pub(crate) fn insert_rows<S: BlockStore, R: Revisions>(
     requires flat { IsFlat room.old.pack flat.old (at R.state vault.old (S.state store.old)) }
     requires size { IsSized flat.old.schema flat.old.capacity }
     requires room { IsIdle (width flat.old.schema) room.old }
-    requires ints { (x y : ℤ) → FitsSigned w64 x → FitsSigned w64 y → Fits flat.old.schema (IntCell x ∷ IntCell y ∷ []) }
+    requires ints { TakesInts flat.old.schema }
     ensures ready { Ready (at R.state vault.new (S.state store.new)) }
     ensures flat { IsFlat room.old.pack flat.new (at R.state vault.new (S.state store.new)) }
     ensures schema { flat.new.schema ≡ flat.old.schema }
     ensures capacity { flat.new.capacity ≡ flat.old.capacity }
     ensures room { room.new ≡ record room.old { high = room.new.high } }
-    ensures beside { (other : Table) → IsFlat room.old.pack other (at R.state vault.old (S.state store.old)) → other.region ≢ flat.old.region
-        → IsFlat room.old.pack other (at R.state vault.new (S.state store.new)) × (other.region ≢ flat.new.region) }
+    ensures beside { KeepsOthers room.old.pack flat.old flat.new
+        (at R.state vault.old (S.state store.old)) (at R.state vault.new (S.state store.new)) }
 {
     for row in rows {
         let cells = [Cell::Int(row.0), Cell::Int(row.1)];
@@ -110,13 +111,14 @@ pub(crate) fn filled<S: BlockStore, R: Revisions>(
     requires size { IsSized schema.now capacity }
     requires room { IsIdle (width schema.now) room.old }
     requires pack { 1 ≤ room.old.pack }
-    requires ints { (x y : ℤ) → FitsSigned w64 x → FitsSigned w64 y → Fits schema.now (IntCell x ∷ IntCell y ∷ []) }
+    requires ints { TakesInts schema.now }
     ensures ready { Ready (at R.state vault.new (S.state store.new)) }
     ensures flat { IsFlat room.old.pack result (at R.state vault.new (S.state store.new)) }
     ensures schema { result.schema ≡ schema.now }
     ensures capacity { result.capacity ≡ capacity }
     ensures room { room.new ≡ record room.old { high = room.new.high } }
-    ensures beside { (other : Table) → IsFlat room.old.pack other (at R.state vault.old (S.state store.old)) → IsFlat room.old.pack other (at R.state vault.new (S.state store.new)) }
+    ensures beside { KeepsAll room.old.pack
+        (at R.state vault.old (S.state store.old)) (at R.state vault.new (S.state store.new)) }
 {
     make_room(rt, store);
     let mut flat = create(store, vault, room, schema, capacity).expect(rt, "create");

@@ -8,22 +8,22 @@ ghost use Rattle.ob_blocks.specs.Idle.{IsIdle};
 use ob_room::Room;
 use ob_seal::Keys;
 use ob_store::{BlockStore, MemStore};
-use ob_vault::{BaseRevs, Revisions, Vault};
+use ob_vault::{Revisions, Vault};
 use std::alloc::Global;
 use std::process::Abort;
 
 /// A store in memory of which nothing was asked, a vault for it, and a room of so many rows of 1,024 bytes
 /// for blocks of `pack`.
-pub(crate) fn opened(
+pub(crate) fn opened<R: Revisions>(
     rt: &impl Abort,
     alloc: Global,
     rows: u32,
     pack: u32,
-) -> (MemStore, Vault<BaseRevs>, Room)
+) -> (MemStore, Vault<R>, Room)
     requires pack { (1 ≤ pack) × (pack ≤ 16) }
     requires rows { 3 * pack + 1 ≤ rows }
     ensures none { (⟦<MemStore as BlockStore>⟧.state result.0).asked ≡ [] }
-    ensures ready { Ready (at ⟦<BaseRevs as Revisions>⟧.state result.1 (⟦<MemStore as BlockStore>⟧.state result.0)) }
+    ensures ready { Ready (at R.state result.1 (⟦<MemStore as BlockStore>⟧.state result.0)) }
     ensures first { result.1.next ≡ 1 }
     ensures rows { result.2.rows ≡ rows }
     ensures width { result.2.width ≡ 1024 }
@@ -31,7 +31,7 @@ pub(crate) fn opened(
     ensures idle { (n : ℕ) → n ≤ 1024 → IsIdle n result.2 }
 {
     let store = MemStore::new(alloc);
-    let vault: Vault<BaseRevs> = Vault::new(alloc, Keys::derive(&[0; 32]));
+    let vault: Vault<R> = Vault::new(alloc, Keys::derive(&[0; 32]));
     let room = Room::new(alloc, rows, 1024, pack).expect(rt, "rows");
     (store, vault, room)
 }

@@ -1,12 +1,11 @@
 //! What stands around a pass: its count, and the emission and the discard of its result.
-ghost use Rattle.std.specs.Prelude.{◌≡◌, ◌≤◌, ◌<◌, length, max};
-ghost use Rattle.std.specs.List.{All};
-ghost use Rattle.ob_base.specs.Labels.{IsNamed};
+ghost use Rattle.std.specs.Prelude.{◌≡◌, ◌≤◌, max};
 ghost use Rattle.ob_base.specs.Schemas.{width};
 ghost use Rattle.ob_vault.specs.Tied.{Ready};
 ghost use Rattle.ob_vault.specs.Places.{at};
 ghost use Rattle.ob_blocks.specs.Idle.{IsIdle};
 ghost use Rattle.ob_flat.specs.Flats.{FitsRegion, IsSized, IsFlat, IsWritten};
+ghost use Rattle.ob_emit.specs.Emitting.{AreColumns};
 
 use crate::tables::emitted::Ints;
 use crate::tables::opening::make_room;
@@ -58,9 +57,7 @@ pub(crate) fn emit_to<S: BlockStore, R: Revisions, E: Emit>(
     requires slots { flat.capacity ≤ 16777216 }
     requires room { IsIdle (width flat.schema) room.old }
     requires pack { 1 ≤ room.old.pack }
-    requires few { length cols.now ≤ 32 }
-    requires within { All (λ i. i < length flat.schema) cols.now }
-    requires names { All IsNamed flat.schema }
+    requires columns { AreColumns flat.schema cols.now }
     ensures ready { Ready (at R.state vault.new (S.state store.new)) }
     ensures room { room.new ≡ record room.old { high = max room.old.high room.old.pack } }
     ensures most { result ≤ flat.capacity }
@@ -88,9 +85,7 @@ pub(crate) fn emit_discard<S: BlockStore, R: Revisions>(
     requires slots { flat.capacity ≤ 16777216 }
     requires room { IsIdle (width flat.schema) room.old }
     requires pack { 1 ≤ room.old.pack }
-    requires few { length cols.now ≤ 32 }
-    requires within { All (λ i. i < length flat.schema) cols.now }
-    requires names { All IsNamed flat.schema }
+    requires columns { AreColumns flat.schema cols.now }
     ensures ready { Ready (at R.state vault.new (S.state store.new)) }
     ensures room { room.new ≡ record room.old { high = max room.old.high room.old.pack } }
 {

@@ -25,10 +25,10 @@ fill_rows-requires-clause-index g c =
     omega (arith, c.loop-u.invariant.sizes.count, index_fits (length c.args.rows.now) c.args.flat.now.capacity c.loop-u.u c.requires.pack.0 c.requires.pack.1 c.requires.size.most (omega arith))
 
 pub put-requires-clause-spare : goal.put-requires-clause-spare
-put-requires-clause-spare g c = omega (arith, c.requires.spare, c.loop-u.invariant.went.spare, size c.args.flat.now.region c.loop-u.u)
+put-requires-clause-spare g c = omega (arith, c.requires.asks.spare, c.loop-u.invariant.went.spare, size c.args.flat.now.region c.loop-u.u)
 
 pub put-requires-clause-few : goal.put-requires-clause-few
-put-requires-clause-few g c = omega (arith, c.requires.few, went_length _ _ _ _ c.loop-u.invariant.went, size c.args.flat.now.region c.loop-u.u)
+put-requires-clause-few g c = omega (arith, c.requires.asks.few, went_length _ _ _ _ c.loop-u.invariant.went, size c.args.flat.now.region c.loop-u.u)
 
 pub put-requires-clause-place : goal.put-requires-clause-place
 put-requires-clause-place g c =
@@ -46,10 +46,10 @@ loop-u-preserved g c =
     let shape = table_region Round (length c.args.rows.now) c.args.flat.now.schema c.args.flat.now.capacity in
     record {
       sizes = fit_trans _ _ _ before.sizes c.fill_rows.ensures;
-      went = went_each (one q) (write_at q) _ _ _ c.loop-u.u before.went c.in_ok-put.ensures.ok;
-      lives = lives_only _ _ _ _ c.put.ensures.only _ _ before.lives;
-      turn = next_turn q c.loop-u.u shape _ (c.put.ensures.turn shape before.lives);
+      went = went_each (one q) (write_at q) _ _ _ c.loop-u.u before.went c.in_ok-put.ensures.puts.ok;
+      lives = lives_only _ _ _ _ c.put.ensures.puts.only _ _ before.lives;
+      turn = next_turn q c.loop-u.u shape _ (c.put.ensures.puts.turn shape before.lives);
       written = below_more _ _
-          (λ p h. written_only _ _ _ _ c.put.ensures.only _ p (λ _ at. absurd (omega (arith, at, h))) (before.written p h))
-          c.put.ensures.written;
+          (λ p h. written_only _ _ _ _ c.put.ensures.puts.only _ p (λ _ at. absurd (omega (arith, at, h))) (before.written p h))
+          c.put.ensures.puts.written;
     }

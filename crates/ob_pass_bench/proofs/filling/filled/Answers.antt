@@ -2,7 +2,8 @@ use Rattle.std.proofs.Common.{◌∙◌, arith}
 use Rattle.ob_base.specs.Schemas.{width}
 use Rattle.ob_vault.specs.Calls.{one}
 use Rattle.ob_vault.proofs.Runs.{lives_apart}
-use Rattle.ob_flat.proofs.Resting.{ready_rests, flat_rests}
+use Rattle.ob_vault.proofs.WordLemmas.{ready_rests}
+use Rattle.ob_flat.proofs.Resting.{flat_rests}
 use Rattle.ob_flat.proofs.Rooms.{shelf_wide, room_after, rows_count}
 use Rattle.ob_flat.proofs.Tables.{flat_lasts}
 use Rattle.ob_pass_bench.proofs.Running.{runs_after, run_over}
@@ -29,6 +30,6 @@ returns-in-Ok-clause-beside g c = λ other is.
     let pack = c.args.room.now.pack in
     let before = flat_rests _ _ _ c.make_room.ensures.rests pack other is.table in
     let apart = lives_apart _ _ _ (ready_rests _ _ _ c.make_room.ensures.rests c.requires.ready) before.made.lives in
-    let made = flat_lasts pack other (one c.args.vault.now.next) _ _ c.in_ok-region.ensures.ok.lasts apart before in
-    let now = flat_lasts pack other (one c.in_ok-region.region) _ _ c.in-Ok.ensures.ok.lasts (λ same. apart (same ∙ c.in_ok-region.ensures.number)) made in
+    let made = flat_lasts pack other (one c.args.vault.now.next) _ _ c.in_ok-region.ensures.makes.ran.ok.lasts apart before in
+    let now = flat_lasts pack other (one c.in_ok-region.region) _ _ c.in-Ok.ensures.ok.lasts (λ same. apart (same ∙ c.in_ok-region.ensures.makes.number)) made in
     runs_after _ _ _ other _ (returns-in-Ok-clause-room g c) (record { ready = c.in-Ok.ensures.ok.lasts.ready; table = now; size = is.size; columns = is.columns; place = is.place })

@@ -1,13 +1,7 @@
-use Rattle.std.proofs.Common.{rules}
-use Rattle.ob_vault.specs.Places.{at}
-use Rattle.ob_flat.specs.Flats.{IsFlat}
-use Rattle.ob_flat.proofs.Resting.{ready_rests, flat_rests}
+use Rattle.std.proofs.Common.{arith}
+use Rattle.ob_pass_tests.proofs.Rested.{few_blocks, spare_rests}
 use Rattle.ob_pass_tests.proofs.groups.session.Goals as goal
 
-pub group-answer-requires-clause-ready : goal.group-answer-requires-clause-ready
-group-answer-requires-clause-ready g c = ready_rests _ _ _ c.make_room.ensures.rests c.filled-flat.ensures.ready
-
-pub group-answer-requires-clause-flat : goal.group-answer-requires-clause-flat
-group-answer-requires-clause-flat g c =
-    let made : IsFlat c.filled-flat.new.room.pack c.filled-flat.result (at g.R.Revisions.state c.filled-flat.new.vault (g.S.BlockStore.state c.filled-flat.new.store)) = search rules in
-    flat_rests _ _ _ c.make_room.ensures.rests _ _ made
+pub group-answer-requires-clause-spare : goal.group-answer-requires-clause-spare
+group-answer-requires-clause-spare g c =
+    spare_rests _ _ _ c.make_room.ensures.rests c.filled-flat.ensures.ready _ (omega (arith, c.make_room.ensures.spare, few_blocks c.filled-flat.new.room.pack c.filled-flat.result.capacity (omega (arith, c.filled-flat.ensures.capacity))))

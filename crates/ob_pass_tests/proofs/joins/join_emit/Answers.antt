@@ -1,8 +1,4 @@
 use Rattle.std.proofs.Common.{rules, ◌≡◌, sym, ap, subst, length, length-append, arith}
-use Rattle.std.specs.List.{All}
-use Rattle.std.proofs.lemmas.List.Elements as elements
-use Rattle.ob_base.specs.Labels.{IsNamed}
-use Rattle.ob_base.specs.Schemas.{Columns}
 use Rattle.ob_room.specs.RoomState.{RoomState}
 use Rattle.ob_vault.specs.Places.{at}
 use Rattle.ob_flat.specs.declared.flat.Flat.{Flat}
@@ -60,13 +56,8 @@ emit_discard-requires-clause-slots g c =
       few_slots s.pack s.rows c.args.left.now.capacity c.args.right.now.capacity c.requires.pack.0 c.requires.pack.1 c.requires.room.enough c.requires.left_few c.requires.right_few,
     )
 
-pub emit_discard-requires-clause-within : goal.emit_discard-requires-clause-within
-emit_discard-requires-clause-within g c =
+pub emit_discard-requires-clause-columns : goal.emit_discard-requires-clause-columns
+emit_discard-requires-clause-columns g c =
     let value = rw c.expect-result.ensures at c.join.ensures.joins.makes.value in
     let four : length c.expect-result.result.schema ≡ 4 = omega (arith, ap (λ (f : Flat). length f.schema) value, length-append c.args.left.now.schema c.args.right.now.schema, c.requires.left_count, c.requires.right_count) in
-    within_four (length c.expect-result.result.schema) four
-
-pub emit_discard-requires-clause-names : goal.emit_discard-requires-clause-names
-emit_discard-requires-clause-names g c =
-    let value = rw c.expect-result.ensures at c.join.ensures.joins.makes.value in
-    subst (λ (s : Columns). All IsNamed s) (sym (ap (λ (f : Flat). f.schema) value)) (elements.All-append IsNamed c.args.left.now.schema c.args.right.now.schema c.requires.left_names c.requires.right_names)
+    record { few = omega arith; within = within_four (length c.expect-result.result.schema) four }

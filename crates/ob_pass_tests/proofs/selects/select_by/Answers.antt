@@ -4,6 +4,7 @@ use Rattle.ob_base.specs.Limits.{buffered_blocks}
 use Rattle.ob_base.specs.Numbers.{blocks_for}
 use Rattle.ob_flat.proofs.Tables.{blocks_few}
 use Rattle.ob_small.proofs.Lengths.{passes_few}
+use Rattle.ob_pass_tests.proofs.Rested.{few_blocks, starts_rests}
 use Rattle.ob_pass_tests.proofs.selects.select_by.Goals as goal
 
 few_times : (a b : ℕ) → a ≤ 4 → b ≤ 4 → a * b ≤ 16
@@ -22,7 +23,14 @@ asked pack rows k n some enough few four =
     let blocks : blocks_for pack n ≤ 4 = omega (arith, blocks_few pack n some, four) in
     omega (arith, few_times (div_ceil (blocks_for pack k) q) (blocks_for pack n) passes blocks, results)
 
-pub select-requires-clause-spare : goal.select-requires-clause-spare
-select-requires-clause-spare g c =
-    let fact = asked c.args.room.now.pack c.args.room.now.rows c.args.case.now.k c.args.flat.now.capacity c.requires.pack c.requires.room.enough c.requires.number.1 c.requires.few in
-    omega (arith, c.make_room.ensures.spare, fact)
+pub select-requires-clause-starts : goal.select-requires-clause-starts
+select-requires-clause-starts g c =
+    let room = c.make_room.ensures in
+    let s = c.args.room.now in
+    let fact = asked s.pack s.rows c.args.k c.args.flat.now.capacity c.requires.pack c.requires.room.enough c.requires.number.1 c.requires.few in
+    starts_rests _ _ _ room.rests c.requires.ready _ (omega (arith, room.spare, fact)) room.few
+
+pub select-requires-in-Large-clause-starts : goal.select-requires-in-Large-clause-starts
+select-requires-in-Large-clause-starts g c =
+    let room = c.make_room.ensures in
+    starts_rests _ _ _ room.rests c.requires.ready _ (omega (arith, room.spare, few_blocks c.args.room.now.pack c.args.flat.now.capacity c.requires.size.most)) room.few

@@ -1,10 +1,6 @@
-use Rattle.std.proofs.Common.{◌≡◌, sym, ap, subst}
-use Rattle.std.specs.List.{All}
-use Rattle.ob_base.specs.Labels.{IsNamed}
-use Rattle.ob_base.specs.Schemas.{Columns}
+use Rattle.std.proofs.Common.{sym, subst}
 use Rattle.ob_room.specs.RoomState.{RoomState}
 use Rattle.ob_vault.specs.Places.{at}
-use Rattle.ob_flat.specs.declared.flat.Flat.{Flat}
 use Rattle.ob_flat.specs.Flats.{IsWritten}
 use Rattle.ob_flat.proofs.Tables.{written_flat}
 use Rattle.ob_pass_tests.proofs.selects.texts.select_text.Goals as goal
@@ -13,11 +9,5 @@ pub emit_to-rows-requires-clause-written : goal.emit_to-rows-requires-clause-wri
 emit_to-rows-requires-clause-written g c =
     let result = c.expect-result.result in
     let after = at g.R.Revisions.state c.select-2.new.vault (g.S.BlockStore.state c.select-2.new.store) in
-    let flat = rw c.expect-result.ensures at c.select-2.ensures.flat in
+    let flat = rw c.expect-result.ensures at c.select-2.ensures.selects.makes.flat in
     subst (λ (r : RoomState). IsWritten r.pack result after) (sym c.select-2.ensures.room) (written_flat _ result after flat)
-
-pub emit_to-rows-requires-clause-names : goal.emit_to-rows-requires-clause-names
-emit_to-rows-requires-clause-names g c =
-    let value = rw c.expect-result.ensures at c.select-2.ensures.value in
-    let same : c.expect-result.result.schema ≡ c.args.flat.now.schema = ap (λ (f : Flat). f.schema) value in
-    subst (λ (l : Columns). All IsNamed l) (sym same) c.requires.names
