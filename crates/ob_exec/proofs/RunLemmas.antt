@@ -195,7 +195,7 @@ module _ {R : Type 0} (state : R → RevState) (skeleton : Skeleton) (old : Engi
 
   cut_cause : (e : OpErr) (a b : World) → PassCause e a b → RunCause (answer_of e) a b
   cut_cause OpErrs.Failed a b cause = cause
-  cut_cause (OpErrs.Tampered q x) a b (faults, last, calm) = (faults, calm)
+  cut_cause (OpErrs.Tampered q x) a b cause = cause
   cut_cause OpErrs.Sink a b cause = cause
   cut_cause OpErrs.NoMemory a b cause = cause
 
