@@ -79,7 +79,7 @@ keeps_block l place Makes Suits r a b is reworks = record {
   ran = reworks.ran;
   seals = reworks.seals;
   stays = on_ok_weaker r (λ moves. any_turn l.pack _ 0 l.table b (moves.moves Any (any_turn l.pack 0 place l.table a is))) reworks.turn;
-  rows = reworks.rows;
+  rows = reworks.holds;
 }
 
 -- a block of another table was read

@@ -8,8 +8,8 @@ ghost use Rattle.ob_flat.specs.Flats.{IsSized, IsFlat};
 ghost use Rattle.ob_hash.specs.Answers.{flat_of};
 
 use crate::tables::{
-    Comparison, Entry, FOUR, check, check_next, condition, counted, emit_discard, filled, make_room,
-    opened, two_ints,
+    Comparison, Entry, FOUR, check, check_next, condition, counted, emit_discard, filled,
+    make_room, opened, two_ints,
 };
 use ob_flat::Flat;
 use ob_hash::{Placed, select};
@@ -367,7 +367,12 @@ fn selects_into_buckets(rt: HostRuntime) {
         assert!(rt; 1 <= case.rows.len() && case.rows.len() <= 16);
         assert!(rt; 1 <= case.k && case.k as usize <= case.rows.len());
         assert!(rt; 1 <= case.depth && case.depth <= 8);
-        let (mut store, vault, room) = opened::<BaseRevs>(&rt, rt.alloc(), 3 * case.pack + 1, case.pack);
+        let (mut store, vault, room) = opened::<BaseRevs>(
+            &rt,
+            rt.alloc(),
+            3 * case.pack + 1,
+            case.pack,
+        );
         session(&rt, &mut store, vault, room, case);
     }
 }

@@ -59,7 +59,7 @@ returns-clause-puts g c =
       never = reworks.never;
       seals = reworks.seals;
       turn = on_ok_weaker c.rework_block.result (λ turn. turn_more pack c.args.i to new due.size.least (turn.moves (order_for pack) due.turn)) reworks.turn;
-      rows = reworks.rows;
+      rows = reworks.holds;
       told = λ honest there made begins holds.
           let fits : (slot / pack) * pack + pack ≤ length made = omega (arith, holds.size, rows_room (slot / pack) (blocks_of pack to) pack within) in
           match_weaker c.rework_block.result _ _ _ (λ _ all. held pack to c.args.selected slot there made all.0 new due.some fits (all.1 there begins) all.2) (reworks.told honest made holds);
