@@ -67,10 +67,8 @@ impl<R: Revisions> Engine<R> {
                 values,
             } => self.insert(store, table, columns, values.as_slice()),
             Stmt::SelectTotals(select) => self.count_all(store, &select.table, out),
-            Stmt::Update { .. }
-            | Stmt::Delete { .. }
-            | Stmt::Drop { .. }
-            | Stmt::SelectRows(_) => unreachable!(),
+            Stmt::Update { .. } | Stmt::Delete { .. } | Stmt::Drop { .. } | Stmt::SelectRows(_) =>
+                unreachable!(),
         }
     }
 }

@@ -31,9 +31,7 @@ pub fn is_served(stmt: &Stmt) -> bool
         Stmt::Create { .. } => true,
         Stmt::Insert { .. } => true,
         Stmt::SelectTotals(select) => is_count(select),
-        Stmt::Update { .. }
-        | Stmt::Delete { .. }
-        | Stmt::Drop { .. }
-        | Stmt::SelectRows(_) => false,
+        Stmt::Update { .. } | Stmt::Delete { .. } | Stmt::Drop { .. } | Stmt::SelectRows(_) =>
+            false,
     }
 }

@@ -52,7 +52,7 @@ differ-turned i a b h = go (agree_at i i b a) refl where
   go true e = let f = agree-turned i b a e in absurd (cc (h, f))
   go false e = refl
 
-none_either : (a b : Bool) → a ≡ false → b ≡ false → (a || b) ≡ false
+pub none_either : (a b : Bool) → a ≡ false → b ≡ false → (a || b) ≡ false
 none_either a b e f = ap (λ t. t || b) e ∙ f
 
 -- a row that no other agrees with, put in among rows of distinct keys

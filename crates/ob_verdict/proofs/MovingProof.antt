@@ -11,6 +11,7 @@ use Rattle.ob_base.specs.Schemas.{columns_of}
 use Rattle.ob_base.specs.Stored.{Stored, AreApart, has_table, headings_of, stored_region}
 use Rattle.ob_mean.proofs.EarlyLemmas.{neither}
 use Rattle.ob_script.specs.Trace.{moved}
+use Rattle.ob_verdict.proofs.InPlaceProof.{none_either}
 use Rattle.ob_verdict.specs.Moving.{table_at, Moves, CreatesNew, DropsOne}
 
 same_name : (a b : List ℕ) → bytes_eq a b ≡ true → a ≡ b
@@ -72,9 +73,6 @@ added_others t other (u ∷ ts) off = ap (cond (bytes_eq u.heading.name other) (
 
 abbrev names : List Table → List (List ℕ)
 names ts = map (λ (h : Heading). h.name) (headings_of ts)
-
-none_either : (a b : Bool) → a ≡ false → b ≡ false → (a || b) ≡ false
-none_either a b e f = ap (λ t. t || b) e ∙ f
 
 any_added : (name : List ℕ) (t : Table) (ts : List Table) → bytes_eq name t.heading.name ≡ false → list_any (bytes_eq name) (names ts) ≡ false → list_any (bytes_eq name) (names (ts ++ t ∷ [])) ≡ false
 any_added name t [] off none = none_either (bytes_eq name t.heading.name) false off refl
