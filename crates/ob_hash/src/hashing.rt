@@ -15,9 +15,9 @@ use ob_row::{Malformed, Pred};
 use ob_store::BlockStore;
 use ob_vault::{Revisions, Vault};
 
-// Reads each block of a table, in order, into these rows, as many as a block has, and shows each row
-// below the capacity to its two buckets, through the rows of `block`. Answers the first slot whose row
-// found none, where all buckets were empty before.
+// Reads each block of a table, in order, into these rows, as many as a block has, refuses it where one
+// is malformed, and else shows each row below the capacity to its two buckets, through the rows of
+// `block`. Answers the first slot whose row found none, where all buckets were empty before.
 pub(crate) fn hash_blocks<S: BlockStore, R: Revisions>(
     store: &mut S,
     vault: &mut Vault<R>,
