@@ -105,7 +105,7 @@ pub(crate) fn select_by<S: BlockStore, R: Revisions>(
     match operator {
         Operator::Small => ob_small::select(store, vault, room, flat, pred, k).expect(rt, "Small"),
         Operator::Large => ob_large::select(store, vault, room, flat, pred, k).expect(rt, "Large"),
-        Operator::Continuous => ob_large::select(store, vault, room, flat, pred, k).expect(
+        Operator::Continuous => ob_cont::select(store, vault, room, flat, pred, k).expect(
             rt,
             "Continuous",
         ),

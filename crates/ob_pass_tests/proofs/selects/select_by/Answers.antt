@@ -34,3 +34,11 @@ pub select-requires-in-Large-clause-starts : goal.select-requires-in-Large-claus
 select-requires-in-Large-clause-starts g c =
     let room = c.make_room.ensures in
     starts_rests _ _ _ room.rests c.requires.ready _ (omega (arith, room.spare, few_blocks c.args.room.now.pack c.args.flat.now.capacity c.requires.size.most)) room.few
+
+pub select-requires-in-Continuous-clause-starts : goal.select-requires-in-Continuous-clause-starts
+select-requires-in-Continuous-clause-starts g c =
+    let room = c.make_room.ensures in
+    let pack = c.args.room.now.pack in
+    let some = c.requires.pack in
+    let n = c.args.flat.now.capacity in
+    starts_rests _ _ _ room.rests c.requires.ready _ (omega (arith, room.spare, blocks_few pack c.args.k some, blocks_few pack n some, c.requires.few, c.requires.number.1)) room.few
