@@ -2,6 +2,7 @@
 #![tactic(auto)]
 
 mod access;
+mod comparison;
 mod config;
 mod emit;
 mod fault;
@@ -14,6 +15,7 @@ mod skeleton;
 mod text;
 
 pub use access::Access;
+pub use comparison::ComparisonOperator;
 pub use config::{Config, Plan, Public};
 pub use emit::{Emit, EmitErr};
 pub use fault::{Failed, NoMemory, StoreErr};

@@ -5,7 +5,7 @@ use Rattle.ob_grammar.specs.Reader as R
 use Rattle.ob_grammar.proofs.Good.{Reader, Good, Begins, good_token, good_choose}
 use Rattle.ob_grammar.proofs.Forms.{begins_key, begins_so, nothing_begins, begins_token, begins_bind, begins_either, some_key, good_before, good_then, good_keyed, good_map, good_last, good_chain, good_keyed_or, good_keyed_or_empty}
 use Rattle.ob_base.specs.declared.skeleton.ColumnName.{ColumnName}
-use Rattle.ob_row.specs.declared.pred.Order.TheVariants as O
+use Rattle.ob_base.specs.declared.comparison.ComparisonOperator.TheVariants as O
 use Rattle.ob_sql.specs.declared.stmt.Against.TheVariants as A
 use Rattle.ob_sql.specs.declared.stmt.Against.{Against}
 use Rattle.ob_sql.specs.declared.stmt.Literal.{Literal}

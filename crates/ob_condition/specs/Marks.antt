@@ -1,7 +1,7 @@
 -- What a token is in the grammar.
 use Rattle.std.specs.Prelude.{ℕ, ◌+◌, ℤ, pos, ◌-ℤ◌, List, length, drop, Bool, true, false, ◌&&◌, nat_le, int_le, Option, Some, None, if◌then◌else◌}
-use Rattle.ob_row.specs.declared.pred.Order.{Order}
-use Rattle.ob_row.specs.declared.pred.Order.TheVariants as O
+use Rattle.ob_base.specs.declared.comparison.ComparisonOperator.{ComparisonOperator}
+use Rattle.ob_base.specs.declared.comparison.ComparisonOperator.TheVariants as O
 use Rattle.ob_sql.specs.declared.stmt.Literal.{Literal}
 use Rattle.ob_sql.specs.declared.stmt.Literal.TheVariants as V
 use Rattle.ob_token.specs.declared.token.Mark.{Mark}
@@ -55,7 +55,7 @@ marked f (L.Number n) = None
 marked f L.Text = None
 marked f L.Bad = None
 
-abbrev pub order_mark : Mark → Option Order
+abbrev pub order_mark : Mark → Option ComparisonOperator
 order_mark M.Equal = Some O.Equal
 order_mark M.NotEqual = Some O.NotEqual
 order_mark M.Less = Some O.Less
@@ -64,7 +64,7 @@ order_mark M.Greater = Some O.Greater
 order_mark M.GreaterOrEqual = Some O.GreaterOrEqual
 order_mark m = None
 
-abbrev pub order_of : Token → Option Order
+abbrev pub order_of : Token → Option ComparisonOperator
 order_of t = marked order_mark t.lexeme
 
 -- whether a sign makes a number negative

@@ -6,8 +6,7 @@ ghost use Rattle.ob_condition.specs.Marks.{held, key, literal_of, name_of, numbe
 ghost use Rattle.ob_condition.specs.Reading.{begins, Begun, Gives, IsStuck, Skips, Takes};
 
 use arrayvec::ArrayVec;
-use ob_base::{Name, Text};
-use ob_row::Order;
+use ob_base::{ComparisonOperator, Name, Text};
 use ob_sql::Literal;
 use ob_token::{Lexeme, Mark, Token, is_printable_byte};
 
@@ -72,21 +71,21 @@ pub fn number(tokens: &[Token]) -> Result<(u64, &[Token]), Fault<'_>>
     }
 }
 
-fn order_of_mark(mark: Mark) -> Option<Order>
+fn order_of_mark(mark: Mark) -> Option<ComparisonOperator>
     ensures { result ≡ order_mark mark }
 {
     match mark {
-        Mark::Equal => Some(Order::Equal),
-        Mark::NotEqual => Some(Order::NotEqual),
-        Mark::Less => Some(Order::Less),
-        Mark::LessOrEqual => Some(Order::LessOrEqual),
-        Mark::Greater => Some(Order::Greater),
-        Mark::GreaterOrEqual => Some(Order::GreaterOrEqual),
+        Mark::Equal => Some(ComparisonOperator::Equal),
+        Mark::NotEqual => Some(ComparisonOperator::NotEqual),
+        Mark::Less => Some(ComparisonOperator::Less),
+        Mark::LessOrEqual => Some(ComparisonOperator::LessOrEqual),
+        Mark::Greater => Some(ComparisonOperator::Greater),
+        Mark::GreaterOrEqual => Some(ComparisonOperator::GreaterOrEqual),
         _ => None,
     }
 }
 
-pub(crate) fn order(tokens: &[Token]) -> Result<(Order, &[Token]), Fault<'_>>
+pub(crate) fn order(tokens: &[Token]) -> Result<(ComparisonOperator, &[Token]), Fault<'_>>
     ensures value { Gives (λ o. o) result (token order_of tokens.now) }
     ensures no_memory { IfErr result IsStuck }
 {

@@ -2,7 +2,7 @@
 use Rattle.std.specs.Prelude.{◌≡◌, ℕ, Bool}
 use Rattle.ob_base.specs.declared.config.Public.{Public}
 use Rattle.ob_base.specs.declared.seen.Seen.{Seen}
-use Rattle.ob_seal.specs.KeyPair.{KeyPair}
+use Rattle.ob_seal.specs.KeySet.{KeySet}
 use Rattle.ob_store.specs.State.{StoreState}
 use Rattle.ob_vault.specs.State.{RevState, World}
 use Rattle.ob_vault.specs.Tied.{Ready}
@@ -15,7 +15,7 @@ abbrev pub public_of : {R : Type 0} → Engine R → Public
 public_of e = e.public
 
 -- the keys that its blocks are sealed with
-abbrev pub engine_keys : {R : Type 0} → Engine R → KeyPair
+abbrev pub engine_keys : {R : Type 0} → Engine R → KeySet
 engine_keys e = e.vault.keys
 
 -- what was seen of the last statement

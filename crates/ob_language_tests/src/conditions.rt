@@ -1,6 +1,5 @@
-use ob_base::Text;
+use ob_base::{ComparisonOperator, Text};
 use ob_condition::{Fault, column, constant, number, where_part};
-use ob_row::Order;
 use ob_sql::{Cond, CondTree, Literal};
 use ob_token::{Token, tokens};
 use std::alloc::{AllocError, Global};
@@ -32,12 +31,12 @@ fn shape(out: &mut String, tree: &CondTree) -> Result<(), AllocError> {
                 write!(out, "{letter}")?;
             }
             out.push_str(match *order {
-                Order::Equal => "= ",
-                Order::NotEqual => "<> ",
-                Order::Less => "< ",
-                Order::LessOrEqual => "<= ",
-                Order::Greater => "> ",
-                Order::GreaterOrEqual => ">= ",
+                ComparisonOperator::Equal => "= ",
+                ComparisonOperator::NotEqual => "<> ",
+                ComparisonOperator::Less => "< ",
+                ComparisonOperator::LessOrEqual => "<= ",
+                ComparisonOperator::Greater => "> ",
+                ComparisonOperator::GreaterOrEqual => ">= ",
             })
         }
         CondTree::Not(inner) => {

@@ -1,6 +1,8 @@
-use ob_base::{Column, ColumnName, Heading, Items, Kind, Name, Public, Refusal, Schema, Table};
+use ob_base::{
+    Column, ColumnName, ComparisonOperator, Heading, Items, Kind, Name, Public, Refusal, Schema,
+    Table,
+};
 use ob_mean::{early_refusal, where_at};
-use ob_row::Order;
 use ob_sql::{Against, Cond, CondTree, Literal, Set, Stmt};
 use std::alloc::Global;
 use std::test::Fail;
@@ -39,7 +41,7 @@ fn named(name: &Name) -> ColumnName {
 fn is_ten(name: &Name) -> CondTree {
     CondTree::Compare(
         named(name),
-        Order::Equal,
+        ComparisonOperator::Equal,
         Against::Literal(Literal::Int(10)),
     )
 }

@@ -1,7 +1,6 @@
 //! Statements written out with each of their parts in its place, for tests: a text between `<` and `>`, and
 //! each comparison, NOT, AND and OR in parentheses of its own.
-use ob_base::{ColumnName, Name, NewColumn, NewKind, Source};
-use ob_row::Order;
+use ob_base::{ColumnName, ComparisonOperator, Name, NewColumn, NewKind, Source};
 use ob_sql::{Against, Cond, CondTree, Listed, Literal, SelectRows, SelectTotals, Set, Stmt};
 use std::alloc::{AllocError, Global};
 
@@ -105,14 +104,14 @@ fn column(out: &mut String, column: &ColumnName) -> Result<(), AllocError> {
     bytes(out, column.column.as_bytes())
 }
 
-fn sign(order: Order) -> &'static str {
+fn sign(order: ComparisonOperator) -> &'static str {
     match order {
-        Order::Equal => " = ",
-        Order::NotEqual => " <> ",
-        Order::Less => " < ",
-        Order::LessOrEqual => " <= ",
-        Order::Greater => " > ",
-        Order::GreaterOrEqual => " >= ",
+        ComparisonOperator::Equal => " = ",
+        ComparisonOperator::NotEqual => " <> ",
+        ComparisonOperator::Less => " < ",
+        ComparisonOperator::LessOrEqual => " <= ",
+        ComparisonOperator::Greater => " > ",
+        ComparisonOperator::GreaterOrEqual => " >= ",
     }
 }
 

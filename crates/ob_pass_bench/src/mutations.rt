@@ -4,17 +4,18 @@ ghost use Rattle.ob_pass_bench.specs.Tables.{MayRun};
 
 use crate::filling::make_room;
 use crate::schemas::cells_of;
+use ob_base::ComparisonOperator;
 use ob_flat::{Flat, OpErr, count};
 use ob_mutate::{Inserted, delete, insert, update};
 use ob_room::Room;
-use ob_row::{Cell, Operand, Order, Pred};
+use ob_row::{Cell, Operand, Pred};
 use ob_store::BlockStore;
 use ob_vault::{Revisions, Vault};
 use std::alloc::Global;
 
 // True of every second row.
 fn half() -> Pred {
-    Pred::compare(1, Order::Less, Operand::Cell(Cell::Int(8)))
+    Pred::compare(1, ComparisonOperator::Less, Operand::Cell(Cell::Int(8)))
 }
 
 /// Counts half of the rows.

@@ -4,10 +4,11 @@ ghost use Rattle.ob_vault.specs.Places.{at};
 ghost use Rattle.ob_pass_bench.specs.Tables.{MayRun};
 
 use crate::filling::make_room;
+use ob_base::ComparisonOperator;
 use ob_flat::{Flat, OpErr};
 use ob_hash::Placed;
 use ob_room::Room;
-use ob_row::{Cell, Operand, Order, Pred};
+use ob_row::{Cell, Operand, Pred};
 use ob_store::BlockStore;
 use ob_vault::{Revisions, Vault};
 
@@ -16,7 +17,11 @@ const DEPTH: u8 = 5;
 
 // True of the rows whose key is below a number.
 fn below(k: u32) -> Pred {
-    Pred::compare(0, Order::Less, Operand::Cell(Cell::Int(i64::from(k))))
+    Pred::compare(
+        0,
+        ComparisonOperator::Less,
+        Operand::Cell(Cell::Int(i64::from(k))),
+    )
 }
 
 /// Puts `k` rows into a table of their own, by Small.

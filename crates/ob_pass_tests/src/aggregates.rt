@@ -10,11 +10,11 @@ ghost use Rattle.ob_blocks.specs.Idle.{IsIdle};
 ghost use Rattle.ob_flat.specs.Flats.{IsSized};
 
 use crate::tables::{FOUR, column, filled, insert_cells, make_room, opened, two_ints};
-use ob_base::{Access, Kind, Schema, Shown, Text};
+use ob_base::{Access, ComparisonOperator, Kind, Schema, Shown, Text};
 use ob_flat::create;
 use ob_group::aggregate;
 use ob_room::Room;
-use ob_row::{Agg, Cell, Operand, Order, Pred};
+use ob_row::{Agg, Cell, Operand, Pred};
 use ob_store::BlockStore;
 use ob_vault::{BaseRevs, Revisions, Vault};
 use std::alloc::Global;
@@ -104,7 +104,7 @@ fn of_selected_rows(rt: HostRuntime) {
         &rt,
         rt.alloc(),
         &[(1, 5), (2, -7), (3, 9), (4, 3)],
-        &Pred::compare(0, Order::Less, Operand::Cell(Cell::Int(4))),
+        &Pred::compare(0, ComparisonOperator::Less, Operand::Cell(Cell::Int(4))),
         &[
             Shown::Int(3),
             Shown::Int(3),
@@ -140,7 +140,7 @@ fn of_no_selected_rows(rt: HostRuntime) {
         &rt,
         rt.alloc(),
         &FOUR,
-        &Pred::compare(1, Order::Equal, Operand::Cell(Cell::Int(99))),
+        &Pred::compare(1, ComparisonOperator::Equal, Operand::Cell(Cell::Int(99))),
         &[
             Shown::Int(0),
             Shown::Int(0),

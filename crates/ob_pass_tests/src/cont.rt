@@ -7,10 +7,11 @@ ghost use Rattle.ob_blocks.specs.Idle.{IsIdle};
 ghost use Rattle.ob_flat.specs.Flats.{IsSized, IsFlat};
 
 use crate::tables::{Entry, check, counted, emit_discard, filled, make_room, opened, two_ints};
+use ob_base::ComparisonOperator;
 use ob_cont::select;
 use ob_flat::Flat;
 use ob_room::Room;
-use ob_row::{Cell, Operand, Order, Pred};
+use ob_row::{Cell, Operand, Pred};
 use ob_store::BlockStore;
 use ob_vault::{BaseRevs, Revisions, Vault};
 use std::alloc::Global;
@@ -47,7 +48,7 @@ fn select_emit<S: BlockStore, R: Revisions>(
     requires few { flat.now.capacity ≡ 5 }
     requires number { (1 ≤ case.now.k) × (case.now.k ≤ 5) }
 {
-    let pred = Pred::compare(1, Order::Equal, Operand::Cell(Cell::Int(7)));
+    let pred = Pred::compare(1, ComparisonOperator::Equal, Operand::Cell(Cell::Int(7)));
     make_room(rt, store);
     let from = store.count();
     let counted = counted(rt, store, vault, room, flat, &pred);

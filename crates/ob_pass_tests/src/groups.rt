@@ -9,11 +9,11 @@ ghost use Rattle.ob_group.specs.Grouping.{aggs_of};
 use crate::aggregates::{check_reads, id_and_text};
 use crate::emitter::Wanted;
 use crate::tables::{FOUR, filled, insert_cells, make_room, opened, two_ints};
-use ob_base::{EmitErr, Shown, Text};
+use ob_base::{ComparisonOperator, EmitErr, Shown, Text};
 use ob_flat::{OpErr, create};
 use ob_group::{Grouped, agg_label, group};
 use ob_room::Room;
-use ob_row::{Agg, Cell, Item, Operand, Order, Pred};
+use ob_row::{Agg, Cell, Item, Operand, Pred};
 use ob_store::BlockStore;
 use ob_vault::{BaseRevs, Revisions, Vault};
 use std::alloc::Global;
@@ -143,7 +143,7 @@ fn of_selected_rows(rt: HostRuntime) {
         rt.alloc(),
         &Case {
             rows: &[(1, 30), (2, 20), (3, 10), (4, 20)],
-            pred: &Pred::compare(0, Order::Greater, Operand::Cell(Cell::Int(1))),
+            pred: &Pred::compare(0, ComparisonOperator::Greater, Operand::Cell(Cell::Int(1))),
             key: 1,
             items: &COUNTED,
             labels: &[b"v", b"COUNT(*)", b"SUM(id)"],
@@ -167,7 +167,7 @@ fn of_no_selected_rows(rt: HostRuntime) {
         rt.alloc(),
         &Case {
             rows: &FOUR,
-            pred: &Pred::compare(1, Order::Equal, Operand::Cell(Cell::Int(99))),
+            pred: &Pred::compare(1, ComparisonOperator::Equal, Operand::Cell(Cell::Int(99))),
             key: 1,
             items: &COUNTED,
             labels: &[b"v", b"COUNT(*)", b"SUM(id)"],

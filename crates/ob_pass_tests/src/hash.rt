@@ -11,10 +11,11 @@ use crate::tables::{
     Comparison, Entry, FOUR, check, check_next, condition, counted, emit_discard, filled,
     make_room, opened, two_ints,
 };
+use ob_base::ComparisonOperator;
 use ob_flat::Flat;
 use ob_hash::{Placed, select};
 use ob_room::Room;
-use ob_row::{Order, Pred};
+use ob_row::Pred;
 use ob_store::BlockStore;
 use ob_vault::{BaseRevs, Revisions, Vault};
 use std::alloc::Global;
@@ -278,7 +279,7 @@ const CASES: [Case<'static>; 7] = [
     Case {
         pack: 1,
         rows: &[(1, 10), (2, 20), (3, 20), (4, 10)],
-        selects: Some((1, Order::Equal, 20)),
+        selects: Some((1, ComparisonOperator::Equal, 20)),
         counted: 2,
         k: 2,
         depth: 1,
@@ -290,7 +291,7 @@ const CASES: [Case<'static>; 7] = [
     Case {
         pack: 1,
         rows: &FOUR,
-        selects: Some((1, Order::Equal, 10)),
+        selects: Some((1, ComparisonOperator::Equal, 10)),
         counted: 2,
         k: 2,
         depth: 1,
@@ -314,7 +315,7 @@ const CASES: [Case<'static>; 7] = [
     Case {
         pack: 2,
         rows: &FOUR,
-        selects: Some((1, Order::Equal, 10)),
+        selects: Some((1, ComparisonOperator::Equal, 10)),
         counted: 2,
         k: 2,
         depth: 1,
@@ -338,7 +339,7 @@ const CASES: [Case<'static>; 7] = [
     Case {
         pack: 1,
         rows: &FOUR,
-        selects: Some((1, Order::Equal, 10)),
+        selects: Some((1, ComparisonOperator::Equal, 10)),
         counted: 2,
         k: 2,
         depth: 2,
@@ -350,7 +351,7 @@ const CASES: [Case<'static>; 7] = [
     Case {
         pack: 1,
         rows: &[(1, 10), (2, 20), (3, 20), (4, 20), (5, 20), (6, 10)],
-        selects: Some((1, Order::Equal, 10)),
+        selects: Some((1, ComparisonOperator::Equal, 10)),
         counted: 2,
         k: 2,
         depth: 1,
@@ -457,9 +458,9 @@ fn select_into_nine<S: BlockStore, R: Revisions>(
 #[test]
 fn overflows_at_slot_six_of_thirteen(rt: HostRuntime) {
     for (selects, wanted) in [
-        (Some((1, Order::Equal, 10)), Some(6)),
+        (Some((1, ComparisonOperator::Equal, 10)), Some(6)),
         (None, Some(6)),
-        (Some((1, Order::Equal, 30)), None),
+        (Some((1, ComparisonOperator::Equal, 30)), None),
     ] {
         let (mut store, vault, room) = opened::<BaseRevs>(&rt, rt.alloc(), 4, 1);
         let pred = condition(selects);

@@ -10,10 +10,11 @@ ghost use Rattle.ob_pass_tests.specs.Tables.{TakesInts, SetsSecond};
 use crate::tables::{
     Comparison, Entry, FOUR, TENS, check, condition, counted, filled, make_room, opened, two_ints,
 };
+use ob_base::ComparisonOperator;
 use ob_flat::{Counted, Flat, discard};
 use ob_mutate::{Inserted, delete, insert, update};
 use ob_room::Room;
-use ob_row::{Cell, Operand, Order, Pred};
+use ob_row::{Cell, Operand, Pred};
 use ob_store::BlockStore;
 use ob_vault::{BaseRevs, Revisions, Vault, VecRevs};
 use std::alloc::Global;
@@ -390,9 +391,9 @@ const CASES: [Case<'static>; 9] = [
             Step::Insert(2, 20, Inserted::Done),
             Step::Insert(3, 10, Inserted::Done),
             Step::Insert(4, 20, Inserted::Done),
-            Step::Update(Some((0, Order::Equal, 4)), 30, 1),
+            Step::Update(Some((0, ComparisonOperator::Equal, 4)), 30, 1),
         ],
-        counts: Some((1, Order::Equal, 30)),
+        counts: Some((1, ComparisonOperator::Equal, 30)),
         counted: Counted {
             k: 1,
             consecutive: true,
@@ -424,7 +425,7 @@ const CASES: [Case<'static>; 9] = [
             Step::Insert(3, 10, Inserted::Done),
             Step::Insert(4, 20, Inserted::Done),
             Step::Update(TENS, 10, 2),
-            Step::Update(Some((1, Order::Equal, 99)), 10, 0),
+            Step::Update(Some((1, ComparisonOperator::Equal, 99)), 10, 0),
         ],
         counts: TENS,
         counted: Counted {
@@ -490,7 +491,7 @@ const CASES: [Case<'static>; 9] = [
             Step::Insert(2, 20, Inserted::Done),
             Step::Insert(3, 10, Inserted::Done),
             Step::Insert(4, 20, Inserted::Done),
-            Step::Delete(Some((1, Order::Equal, 20)), 2),
+            Step::Delete(Some((1, ComparisonOperator::Equal, 20)), 2),
             Step::Update(None, 7, 2),
             Step::Delete(None, 2),
         ],
@@ -578,7 +579,7 @@ fn update_by<S: BlockStore, R: Revisions>(
     let sets = [(1, Cell::Int(5))];
     let rows = update(store, &mut vault, &mut room, &mut flat, pred, &sets).expect(rt, "update");
     assert_eq!(rt; rows, 1);
-    let fives = condition(Some((1, Order::Equal, 5)));
+    let fives = condition(Some((1, ComparisonOperator::Equal, 5)));
     let one = Counted {
         k: 1,
         consecutive: true,
@@ -591,10 +592,13 @@ fn update_by<S: BlockStore, R: Revisions>(
 // An UPDATE by a condition that joins and negates others.
 #[test]
 fn updates_by_a_condition(rt: HostRuntime) {
-    let low = Pred::compare(0, Order::Less, Operand::Cell(Cell::Int(3)));
-    let either = Pred::or(rt.alloc(), low, condition(Some((1, Order::Equal, 20)))).expect(
-        &rt, "or",
-    );
+    let low = Pred::compare(0, ComparisonOperator::Less, Operand::Cell(Cell::Int(3)));
+    let either = Pred::or(
+        rt.alloc(),
+        low,
+        condition(Some((1, ComparisonOperator::Equal, 20))),
+    )
+    .expect(&rt, "or");
     let neither = Pred::not(rt.alloc(), either).expect(&rt, "not");
     let (mut store, vault, room) = opened::<BaseRevs>(&rt, rt.alloc(), 64, 1);
     update_by(&rt, &mut store, vault, room, &neither);
@@ -607,8 +611,8 @@ fn updates_by_a_condition(rt: HostRuntime) {
 fn deletes_and_inserts(rt: HostRuntime) {
     let front = Pred::or(
         rt.alloc(),
-        condition(Some((1, Order::Equal, 50))),
-        condition(Some((0, Order::Equal, 2))),
+        condition(Some((1, ComparisonOperator::Equal, 50))),
+        condition(Some((0, ComparisonOperator::Equal, 2))),
     )
     .expect(&rt, "or");
     session_in_memory(

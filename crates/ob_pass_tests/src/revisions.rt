@@ -10,8 +10,8 @@ use crate::selects::{FROM_SECOND, Operator, select_by};
 use crate::tables::{
     Comparison, Entry, FOUR, check, condition, emit_discard, filled, opened, two_ints,
 };
+use ob_base::ComparisonOperator;
 use ob_room::Room;
-use ob_row::Order;
 use ob_store::BlockStore;
 use ob_vault::{BaseRevs, Revisions, Vault, VecRevs};
 use std::process::Abort;
@@ -25,7 +25,7 @@ struct Case<'a> {
     wanted: &'a [Entry],
 }
 
-const THIRD: Option<Comparison> = Some((0, Order::Equal, 3));
+const THIRD: Option<Comparison> = Some((0, ComparisonOperator::Equal, 3));
 
 // The accesses of the update: what is asked before it are those of a table and its four rows.
 const UPDATED: [Entry; 10] = [

@@ -17,9 +17,10 @@ use crate::tables::{
     Comparison, Entry, FOUR, TENS, check, condition, counted, delete_rows, emit_discard, filled,
     insert_rows, make_room, opened, two_ints,
 };
+use ob_base::ComparisonOperator;
 use ob_flat::{Counted, Flat};
 use ob_room::Room;
-use ob_row::{Order, Pred};
+use ob_row::Pred;
 use ob_store::BlockStore;
 use ob_vault::{BaseRevs, Revisions, Vault, VecRevs};
 use std::alloc::Global;
@@ -173,7 +174,7 @@ pub(crate) fn run(rt: &impl Abort, alloc: Global, cases: &[Case<'_>]) {
     }
 }
 
-pub(crate) const FROM_SECOND: Option<Comparison> = Some((0, Order::GreaterOrEqual, 2));
+pub(crate) const FROM_SECOND: Option<Comparison> = Some((0, ComparisonOperator::GreaterOrEqual, 2));
 
 // A table of four rows is counted, and nothing else is asked.
 fn count_rows<S: BlockStore, R: Revisions>(
@@ -203,8 +204,8 @@ fn count_rows<S: BlockStore, R: Revisions>(
 fn counts_whether_slots_are_consecutive(rt: HostRuntime) {
     for (pack, from, to) in [(1, 61, 65), (2, 35, 37), (3, 35, 37)] {
         for (selects, k, consecutive) in [
-            (Some((1, Order::Equal, 99)), 0, true),
-            (Some((0, Order::Equal, 3)), 1, true),
+            (Some((1, ComparisonOperator::Equal, 99)), 0, true),
+            (Some((0, ComparisonOperator::Equal, 3)), 1, true),
             (TENS, 2, false),
             (None, 4, true),
         ] {

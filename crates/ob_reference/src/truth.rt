@@ -6,14 +6,14 @@ ghost use Rattle.ob_sql.specs.Search.{search_of};
 ghost use Rattle.ob_mean.specs.Names.{operand_at, condition_at, where_at};
 
 use crate::tables::Tuple;
-use ob_base::{Column, Schema};
+use ob_base::{Column, ComparisonOperator, Schema};
 use ob_mean::{literal_cell, place_of};
-use ob_row::{Cell, Order, compare_cells, same_cell};
+use ob_row::{Cell, compare_cells, same_cell};
 use ob_sql::{Against, Cond, CondTree};
 
 // Whether a cell compares so with what a column is compared with.
 fn compare(
-    order: Order,
+    order: ComparisonOperator,
     a: &Cell,
     with: &Against,
     left: &[Column],

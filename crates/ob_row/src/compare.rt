@@ -8,13 +8,13 @@ ghost use Rattle.ob_row.specs.Truth.{accepts, compare, is_true};
 ghost use Rattle.ob_row.specs.Values.{cell_of};
 
 use crate::cell::Cell;
-use crate::pred::{Operand, Order, Tree};
+use crate::pred::{Operand, Tree};
 use crate::value::{Value, value_at};
 use ob_base::Schema;
 use ob_room::ClearRow;
 use std::cmp::Ordering;
 
-// Integers by value, texts by bytes; cells of two kinds have no order.
+// Integers by value, texts by bytes; cells of two kinds have no operator.
 fn value_cmp(a: Value<'_>, b: Value<'_>) -> Option<Ordering>
     ensures { result ≡ cell_cmp (cell_of a.entry) (cell_of b.entry) }
 {
@@ -25,51 +25,57 @@ fn value_cmp(a: Value<'_>, b: Value<'_>) -> Option<Ordering>
     }
 }
 
-// Whether an order takes this answer of a comparison.
-fn accepts(order: Order, answer: Ordering) -> bool
-    ensures { result ≡ accepts order answer }
+// Whether an operator takes this answer of a comparison.
+fn accepts(operator: ComparisonOperator, answer: Ordering) -> bool
+    ensures { result ≡ accepts operator answer }
 {
-    match order {
-        Order::Equal => answer.is_eq(),
-        Order::NotEqual => answer.is_ne(),
-        Order::Less => answer.is_lt(),
-        Order::LessOrEqual => answer.is_le(),
-        Order::Greater => answer.is_gt(),
-        Order::GreaterOrEqual => answer.is_ge(),
+    match operator {
+        ComparisonOperator::Equal => answer.is_eq(),
+        ComparisonOperator::NotEqual => answer.is_ne(),
+        ComparisonOperator::Less => answer.is_lt(),
+        ComparisonOperator::LessOrEqual => answer.is_le(),
+        ComparisonOperator::Greater => answer.is_gt(),
+        ComparisonOperator::GreaterOrEqual => answer.is_ge(),
     }
 }
 
 // Whether the first value stands so to the second.
-fn compare_values(order: Order, a: Value<'_>, b: Value<'_>) -> bool
-    ensures { result ≡ compare order (Some (cell_of a.entry)) (Some (cell_of b.entry)) }
+fn compare_values(operator: ComparisonOperator, a: Value<'_>, b: Value<'_>) -> bool
+    ensures { result ≡ compare operator (Some (cell_of a.entry)) (Some (cell_of b.entry)) }
 {
     match value_cmp(a, b) {
-        Some(answer) => accepts(order, answer),
+        Some(answer) => accepts(operator, answer),
         None => false,
     }
 }
 
-/// Whether the first cell stands so to the second; cells of two kinds stand in no order.
-pub fn compare_cells(order: Order, a: &Cell, b: &Cell) -> bool
-    ensures { result ≡ compare order (Some a.now) (Some b.now) }
+/// Whether the first cell stands so to the second; cells of two kinds stand in no operator.
+pub fn compare_cells(operator: ComparisonOperator, a: &Cell, b: &Cell) -> bool
+    ensures { result ≡ compare operator (Some a.now) (Some b.now) }
 {
-    compare_values(order, a.as_value(), b.as_value())
+    compare_values(operator, a.as_value(), b.as_value())
 }
 
 // Whether the cell at a place of the row compares so with another.
-fn compare(column: u8, order: Order, with: &Operand, schema: &Schema, row: &ClearRow) -> bool
+fn compare(
+    column: u8,
+    operator: ComparisonOperator,
+    with: &Operand,
+    schema: &Schema,
+    row: &ClearRow,
+) -> bool
     requires wide { width schema.now ≤ length row.now }
     requires real { (cells : Row) × Begins schema.now (Some cells) row.now }
     ensures { (cells : Row) → Begins schema.now (Some cells) row.now
-        → result ≡ is_true (IsCompare column order with.now) cells }
+        → result ≡ is_true (IsCompare column operator with.now) cells }
 {
     let Some(a) = value_at(schema, row, column) else {
         return false;
     };
     match with {
-        Operand::Cell(b) => compare_values(order, a, b.as_value()),
+        Operand::Cell(b) => compare_values(operator, a, b.as_value()),
         Operand::Column(j) => match value_at(schema, row, *j) {
-            Some(b) => compare_values(order, a, b),
+            Some(b) => compare_values(operator, a, b),
             None => false,
         },
     }
@@ -85,7 +91,7 @@ impl Tree {
     {
         match self {
             Tree::All => true,
-            Tree::Compare(column, order, with) => compare(*column, *order, with, schema, row),
+            Tree::Compare(column, operator, with) => compare(*column, *operator, with, schema, row),
             Tree::Not(p) => !p.is_true(schema, row),
             Tree::And(p, q) => p.is_true(schema, row) && q.is_true(schema, row),
             Tree::Or(p, q) => p.is_true(schema, row) || q.is_true(schema, row),

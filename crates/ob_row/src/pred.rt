@@ -2,19 +2,9 @@
 ghost use Rattle.std.specs.Prelude.{◌≡◌, IfOk};
 
 use crate::cell::Cell;
+use ob_base::ComparisonOperator;
 use std::alloc::{AllocError, Global};
 use std::marker::Model;
-
-/// How two cells are compared.
-#[derive(Clone, Copy, Debug, PartialEq, Eq)]
-pub enum Order {
-    Equal,
-    NotEqual,
-    Less,
-    LessOrEqual,
-    Greater,
-    GreaterOrEqual,
-}
 
 /// What a column is compared with: a value, or the column at a place.
 #[derive(Debug, PartialEq, Eq, Drop)]
@@ -26,7 +16,7 @@ pub enum Operand {
 #[derive(Drop)]
 pub(crate) enum Tree {
     All,
-    Compare(u8, Order, Operand),
+    Compare(u8, ComparisonOperator, Operand),
     Not(Box<Tree>),
     And(Box<Tree>, Box<Tree>),
     Or(Box<Tree>, Box<Tree>),
@@ -59,11 +49,11 @@ impl Pred {
     }
 
     /// True where the cell at a place compares so with another.
-    pub fn compare(column: u8, order: Order, with: Operand) -> Pred
-        ensures { result ≡ IsCompare column order with }
+    pub fn compare(column: u8, operator: ComparisonOperator, with: Operand) -> Pred
+        ensures { result ≡ IsCompare column operator with }
     {
         Pred {
-            tree: Tree::Compare(column, order, with),
+            tree: Tree::Compare(column, operator, with),
         }
     }
 

@@ -2,7 +2,7 @@
 use Rattle.std.proofs.Common.{◌≡◌, ℕ, Bool, List, [], ◌∷◌, Option, None, Some, Ok, Err, Result, inl, inr, refl, sym, ◌∙◌, subst}
 use Rattle.ob_base.specs.declared.refusal.Stop.{Stop}
 use Rattle.ob_exec.specs.Agreeing.{world_of}
-use Rattle.ob_seal.specs.KeyPair.{KeyPair}
+use Rattle.ob_seal.specs.KeySet.{KeySet}
 use Rattle.ob_shell.specs.Running.{LastPart}
 use Rattle.ob_shell.specs.Steps.{Machine, Answer, Step, Steps}
 use Rattle.ob_store.specs.State.{Lie}
@@ -42,7 +42,7 @@ module _ {R : Type 0} (state : R → RevState) where
   none_by : (found : Option Lie) (m1 m2 : Machine R) → m1.store.lie ≡ found → Keeps m1 m2 → Calm (world_of state m1.engine m1.store)
       → ((lie : Lie) → m2.store.lie ≡ Some lie → Fits m2.engine.vault.keys from_nothing lie → ⊥) → found ≡ None
   none_by None m1 m2 is keeps calm unfit = refl
-  none_by (Some lie) m1 m2 is keeps calm unfit = absurd (unfit lie (keeps.lie lie is) (subst (λ (k : KeyPair). Fits k from_nothing lie) (sym keeps.keys) (calm.calm lie is)))
+  none_by (Some lie) m1 m2 is keeps calm unfit = absurd (unfit lie (keeps.lie lie is) (subst (λ (k : KeySet). Fits k from_nothing lie) (sym keeps.keys) (calm.calm lie is)))
 
   -- before the last part no block was changed, where the first that was doesn't fit
   pub last_deceived : (m1 m2 : Machine R) (more : List (List ℕ)) (part : List ℕ) (result : Result Bool Stop) → LastPart state m1 m2 more part result → Calm (world_of state m1.engine m1.store)

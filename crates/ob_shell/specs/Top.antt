@@ -11,7 +11,7 @@ use Rattle.ob_exec.specs.Opening.{is_of_rows}
 use Rattle.ob_exec.specs.Telling.{AcceptsRows}
 use Rattle.ob_base.specs.Publics.{first_public}
 use Rattle.ob_print.specs.Cuts.{Cut}
-use Rattle.ob_seal.specs.KeyPair.{KeyPair}
+use Rattle.ob_seal.specs.KeySet.{KeySet}
 use Rattle.ob_seal.specs.Sealed.{keys_of}
 use Rattle.ob_store.specs.Runs.{Later}
 use Rattle.ob_store.specs.State.{Lie, StoreState}
@@ -49,7 +49,7 @@ pub record IsHonest (store0 store1 : StoreState) : Type 0 where
   pub no_lie : store1.lie ≡ None
 
 -- the store tells what it holds, and of the first changed block that was read, if there is one, the tag doesn't fit
-pub record IsUndeceived (keys : KeyPair) (store0 store1 : StoreState) : Type 0 where
+pub record IsUndeceived (keys : KeySet) (store0 store1 : StoreState) : Type 0 where
   pub tells : IsTrue store0.tells
   pub unfit : (lie : Lie) → store1.lie ≡ Some lie → ¬ Fits keys from_nothing lie
 

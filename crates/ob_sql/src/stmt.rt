@@ -1,6 +1,5 @@
 //! Statements as they are written.
-use ob_base::{ColumnName, Items, Name, NewColumn, Source, Text};
-use ob_row::Order;
+use ob_base::{ColumnName, ComparisonOperator, Items, Name, NewColumn, Source, Text};
 use std::marker::Model;
 
 /// A literal; one that no cell holds is kept as such.
@@ -24,7 +23,7 @@ pub enum Against {
 /// A condition as a tree.
 #[derive(Drop)]
 pub enum CondTree {
-    Compare(ColumnName, Order, Against),
+    Compare(ColumnName, ComparisonOperator, Against),
     Not(Box<CondTree>),
     And(Box<CondTree>, Box<CondTree>),
     Or(Box<CondTree>, Box<CondTree>),

@@ -1,8 +1,8 @@
 ghost use Rattle.std.specs.Prelude.{◌≡◌, false, codes};
 
-use ob_base::{Column, Kind, Name, Schema, Text};
+use ob_base::{Column, ComparisonOperator, Kind, Name, Schema, Text};
 use ob_room::Room;
-use ob_row::{Cell, Malformed, Operand, Order, Pred, decode, encode, holds, is_dummy, read, width};
+use ob_row::{Cell, Malformed, Operand, Pred, decode, encode, holds, is_dummy, read, width};
 use std::test::Fail;
 
 fn column(kind: Kind) -> Column
@@ -43,10 +43,10 @@ fn spells_texts(rt: HostRuntime) -> Result<(), Fail> {
     schema.push(column(Kind::Varchar(4)));
     let text = Pred::compare(
         1,
-        Order::Less,
+        ComparisonOperator::Less,
         Operand::Cell(Cell::Text(Text::from_bytes(b"abc"))),
     );
-    let number = Pred::compare(0, Order::Greater, Operand::Cell(Cell::Int(-1)));
+    let number = Pred::compare(0, ComparisonOperator::Greater, Operand::Cell(Cell::Int(-1)));
     let both = Pred::and(rt.alloc(), text, Pred::not(rt.alloc(), number)?)?;
     let any = Pred::or(rt.alloc(), both, Pred::all())?;
     if let Some(mut row) = room.take() {

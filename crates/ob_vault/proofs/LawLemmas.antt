@@ -6,7 +6,7 @@ use Rattle.ob_base.specs.declared.access.Access.TheVariants.{Make, Read, Write, 
 use Rattle.ob_base.specs.Accesses.{writes, nth_write}
 use Rattle.ob_base.proofs.AccessLemmas.{number_own, write_named, write_apart}
 use Rattle.ob_store.specs.State.{Lie}
-use Rattle.ob_seal.specs.KeyPair.{KeyPair}
+use Rattle.ob_seal.specs.KeySet.{KeySet}
 use Rattle.ob_seal.specs.Sealed.{InRange, TwoTexts, sealed, ciphered, tag_of}
 use Rattle.ob_seal.specs.declared.At.{At}
 use Rattle.ob_seal.proofs.HeadsApart.{heads_apart, length-tag_of}
@@ -50,7 +50,7 @@ numbers_alone w q x r y n tied (inl is) (inr given) = absurd (early w q x r y n 
 numbers_alone w q x r y n tied (inr given) (inl at) = absurd (early w r y q x n tied at given.0)
 numbers_alone w q x r y n tied (inr one) (inr other) = tied.start.alone q x r y (sym one.0 ∙ other.0) (λ zero. one.1 (one.0 ∙ zero))
 
-pub lies_apart : (keys : KeyPair) (start : Start) (lie : Lie) (a : At) (rows : List ℕ) → lie.bytes ≡ sealed keys a rows → InRange a → InRange (at_lie start lie) → a ≢ at_lie start lie
+pub lies_apart : (keys : KeySet) (start : Start) (lie : Lie) (a : At) (rows : List ℕ) → lie.bytes ≡ sealed keys a rows → InRange a → InRange (at_lie start lie) → a ≢ at_lie start lie
     → Fits keys start lie → TwoTexts keys
 lies_apart keys start lie a rows is fa fb off fits =
     let text = ciphered keys a rows in

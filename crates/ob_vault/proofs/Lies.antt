@@ -5,7 +5,7 @@ use Rattle.ob_base.specs.declared.access.Access.TheVariants.{Read}
 use Rattle.ob_store.specs.State.{Lie, StoreState}
 use Rattle.ob_store.specs.Calls.{Asks, ReadGives}
 use Rattle.ob_store.proofs.Steps.{list_cases, began_call, did_call}
-use Rattle.ob_seal.specs.KeyPair.{KeyPair}
+use Rattle.ob_seal.specs.KeySet.{KeySet}
 use Rattle.ob_seal.specs.Sealed.{sealed, tag_of}
 use Rattle.ob_vault.specs.declared.fault.VaultErr.TheVariants as VaultErrs
 use Rattle.ob_vault.specs.State.{VaultState}
@@ -35,7 +35,7 @@ lie_after region place bytes old new asks gives = go old.lie refl
     go (Some lie) was = inl (asks.lie lie was ∙ sym was)
 
 -- the tag of these bytes is that of their place and number
-abbrev pub FitsAs : KeyPair → ℕ → ℕ → ℕ → List ℕ → Type 0
+abbrev pub FitsAs : KeySet → ℕ → ℕ → ℕ → List ℕ → Type 0
 FitsAs keys q x n bytes = drop (length bytes - 32) bytes ≡ tag_of keys (at_of q x n) (take (length bytes - 32) bytes)
 
 module _ (v : VaultState) (q x : ℕ) (old new : StoreState) (asks : Asks (Read q x) old new) where

@@ -9,7 +9,7 @@ use Rattle.ob_base.specs.Counts.{Rises}
 use Rattle.ob_store.specs.Calls.{IsRegion, Asks, Keeps, OnlyAt, OnlyRegion, Makes}
 use Rattle.ob_store.specs.Runs.{Later}
 use Rattle.ob_store.proofs.Steps.{later_call, later_refl, did_none, did_call, began_call}
-use Rattle.ob_seal.specs.KeyPair.{KeyPair}
+use Rattle.ob_seal.specs.KeySet.{KeySet}
 use Rattle.ob_seal.specs.Sealed.{sealed}
 use Rattle.ob_vault.specs.declared.region.Region.{Region}
 use Rattle.ob_vault.specs.declared.fault.VaultErr.TheVariants as VaultErrs
@@ -37,7 +37,7 @@ module _ (good : ℕ → List ℕ → Bool) (old new : World) (a : Access) (keys
   kept_at q x b s = record {
     number = s.number;
     rows = s.rows;
-    is = s.is ∙ ap (λ (k : KeyPair). sealed k (at_of q x s.number) s.rows) (sym keys);
+    is = s.is ∙ ap (λ (k : KeySet). sealed k (at_of q x s.number) s.rows) (sym keys);
     went = number_stays old new (a ∷ []) q x s.number start asks.asked s.went;
     fine = s.fine;
   }
@@ -135,7 +135,7 @@ world v s = record { vault = v; store = s }
 
 -- over a call whose read told no lie
 pub fits_lasts : (some : ℕ → Type 0) (old new : World) (lie : Lie) → Lasts some old new → Fits old.vault.keys old.vault.start lie → Fits new.vault.keys new.vault.start lie
-fits_lasts some old new lie lasts fits = subst (λ (k : KeyPair). Fits k new.vault.start lie) (sym lasts.keys) (subst (λ (s : Start). Fits old.vault.keys s lie) (sym lasts.start) fits)
+fits_lasts some old new lie lasts fits = subst (λ (k : KeySet). Fits k new.vault.start lie) (sym lasts.keys) (subst (λ (s : Start). Fits old.vault.keys s lie) (sym lasts.start) fits)
 
 pub calm_lasts : (some : ℕ → Type 0) (old new : World) → Lasts some old new → new.store.lie ≡ old.store.lie → Calm old → Calm new
 calm_lasts some old new lasts same calm = record { calm = λ lie is. fits_lasts some old new lie lasts (calm.calm lie (sym same ∙ is)) }

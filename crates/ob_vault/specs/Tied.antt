@@ -4,7 +4,7 @@ use Rattle.ob_base.specs.Accesses.{AllBelow}
 use Rattle.ob_base.specs.declared.access.Access.TheVariants.{Read}
 use Rattle.ob_store.specs.State.{Lie}
 use Rattle.ob_store.specs.Calls.{IsRegion}
-use Rattle.ob_seal.specs.KeyPair.{KeyPair}
+use Rattle.ob_seal.specs.KeySet.{KeySet}
 use Rattle.ob_seal.specs.Sealed.{sealed, tag_of}
 use Rattle.ob_seal.specs.declared.At.{At}
 use Rattle.ob_vault.specs.declared.region.Region.{Region}
@@ -71,7 +71,7 @@ abbrev pub at_lie : Start → Lie → At
 at_lie start lie = at_of lie.region lie.place (number_after start lie.before lie.region lie.place)
 
 -- the block of a lie has the tag of its place and number
-pub record Fits (keys : KeyPair) (start : Start) (lie : Lie) : Type 0 where
+pub record Fits (keys : KeySet) (start : Start) (lie : Lie) : Type 0 where
   pub tag : drop (length lie.bytes - 32) lie.bytes
       ≡ tag_of keys (at_lie start lie) (take (length lie.bytes - 32) lie.bytes)
 

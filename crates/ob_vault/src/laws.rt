@@ -1,7 +1,7 @@
 //! Laws of the numbers of writes, and of tags.
 ghost use Rattle.std.specs.Prelude.{◌≡◌, ◌≢◌, ℕ, List};
 ghost use Rattle.ob_store.specs.State.{Lie};
-ghost use Rattle.ob_seal.specs.KeyPair.{KeyPair};
+ghost use Rattle.ob_seal.specs.KeySet.{KeySet};
 ghost use Rattle.ob_seal.specs.Sealed.{InRange, TwoTexts, sealed, tag_of};
 ghost use Rattle.ob_seal.specs.declared.At.{At as Head};
 ghost use Rattle.ob_vault.specs.State.{Start, World};
@@ -21,10 +21,10 @@ pub fn numbers_are_apart()
 
 /// A tag that is right for one text at two places, or under two numbers, is one tag of two texts.
 pub fn tags_tell_places()
-    ensures heads { (keys : KeyPair) (a b : Head) (text : List ℕ) → InRange a → InRange b → a ≢ b
+    ensures heads { (keys : KeySet) (a b : Head) (text : List ℕ) → InRange a → InRange b → a ≢ b
         → tag_of keys a text ≡ tag_of keys b text → TwoTexts keys }
     // a block that was sealed for another place, or at another write, and is taken all the same
-    ensures lies { (keys : KeyPair) (start : Start) (lie : Lie) (a : Head) (rows : List ℕ)
+    ensures lies { (keys : KeySet) (start : Start) (lie : Lie) (a : Head) (rows : List ℕ)
         → lie.bytes ≡ sealed keys a rows → InRange a → InRange (at_lie start lie)
         → a ≢ at_lie start lie → Fits keys start lie → TwoTexts keys }
 {}

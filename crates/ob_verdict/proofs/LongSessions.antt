@@ -8,7 +8,7 @@ use Rattle.ob_base.specs.declared.seen.End.TheVariants.{Whole}
 use Rattle.ob_base.specs.declared.seen.Seen.{Seen}
 use Rattle.ob_base.specs.declared.skeleton.Source.TheVariants.{Table as OneTable, Join}
 use Rattle.ob_base.specs.Accesses.{makes}
-use Rattle.ob_row.specs.declared.pred.Order.TheVariants.{Equal, NotEqual, Greater, LessOrEqual}
+use Rattle.ob_base.specs.declared.comparison.ComparisonOperator.TheVariants.{Equal, NotEqual, Greater, LessOrEqual}
 use Rattle.ob_sql.specs.declared.stmt.Listed.TheVariants.{Column as ListedColumn, CountAll, Sum}
 use Rattle.ob_sql.specs.declared.stmt.Stmt.TheVariants.{Create, Insert, Update, Delete, Drop as DropTable, SelectRows as RowsStmt, SelectTotals as TotalsStmt}
 use Rattle.ob_sql.specs.Search.{Search, Or}

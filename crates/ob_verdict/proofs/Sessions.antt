@@ -11,7 +11,7 @@ use Rattle.ob_base.specs.declared.skeleton.NewColumn.{NewColumn}
 use Rattle.ob_base.specs.declared.skeleton.NewKind.TheVariants.{Int as NewInt}
 use Rattle.ob_base.specs.declared.skeleton.Source.TheVariants.{Table as OneTable, Join}
 use Rattle.ob_row.specs.declared.cell.Cell.TheVariants.{Int}
-use Rattle.ob_row.specs.declared.pred.Order.{Order}
+use Rattle.ob_base.specs.declared.comparison.ComparisonOperator.{ComparisonOperator}
 use Rattle.ob_row.specs.Rows.{Row}
 use Rattle.ob_row.specs.Slots.{Slots}
 use Rattle.ob_sql.specs.declared.stmt.Literal.{Literal}
@@ -47,7 +47,7 @@ v = codes "v"
 abbrev pub int : ℕ → Literal
 int x = IntLiteral (pos x)
 
-abbrev pub compare : List ℕ → Order → ℕ → Search
+abbrev pub compare : List ℕ → ComparisonOperator → ℕ → Search
 compare c op x = Compare (col c) op (LiteralAgainst (int x))
 
 abbrev pub column : List ℕ → ℕ → NewColumn

@@ -10,7 +10,7 @@ use Rattle.ob_base.specs.declared.skeleton.Source.TheVariants.{Join}
 use Rattle.ob_base.specs.Accesses.{makes}
 use Rattle.ob_base.specs.Numbers.{first_bucket, second_bucket}
 use Rattle.ob_base.specs.Plans.{choose}
-use Rattle.ob_row.specs.declared.pred.Order.TheVariants.{Equal, Less, GreaterOrEqual}
+use Rattle.ob_base.specs.declared.comparison.ComparisonOperator.TheVariants.{Equal, Less, GreaterOrEqual}
 use Rattle.ob_sql.specs.declared.stmt.Listed.TheVariants.{Column as ListedColumn, CountAll, Sum, Min, Max}
 use Rattle.ob_sql.specs.declared.stmt.Literal.TheVariants.{Text as TextLiteral}
 use Rattle.ob_sql.specs.declared.stmt.Stmt.TheVariants.{Insert, Update, Delete, Drop as DropTable, SelectRows as RowsStmt}

@@ -1,7 +1,7 @@
 //! The Large operator.
 use crate::selects::{Case, Operator, run};
 use crate::tables::TENS;
-use ob_row::Order;
+use ob_base::ComparisonOperator;
 
 const CASES: [Case<'static>; 3] = [
     // The rows stay in their slots, in both passes.
@@ -81,7 +81,7 @@ const CASES: [Case<'static>; 3] = [
         pack: 3,
         gone: None,
         come: None,
-        selects: Some((0, Order::Equal, 3)),
+        selects: Some((0, ComparisonOperator::Equal, 3)),
         counted: 1,
         k: 1,
         ids: &[3],

@@ -1,7 +1,7 @@
 //! The Small operator.
 use crate::selects::{Case, Operator, run};
 use crate::tables::{Entry, TENS};
-use ob_row::Order;
+use ob_base::ComparisonOperator;
 
 const IN_ONE_PASS: [Entry; 14] = [
     (b'R', 5, 0, 0),
@@ -42,7 +42,7 @@ const CASES: [Case<'static>; 9] = [
         pack: 1,
         gone: None,
         come: None,
-        selects: Some((1, Order::Equal, 20)),
+        selects: Some((1, ComparisonOperator::Equal, 20)),
         counted: 2,
         k: 2,
         ids: &[2, 4],
@@ -151,7 +151,7 @@ const CASES: [Case<'static>; 9] = [
         pack: 2,
         gone: None,
         come: None,
-        selects: Some((0, Order::Less, 4)),
+        selects: Some((0, ComparisonOperator::Less, 4)),
         counted: 3,
         k: 3,
         ids: &[1, 2, 3],

@@ -1,5 +1,5 @@
 use Rattle.std.proofs.Common.{◌≡◌, ◌+◌, inl, inr, ℕ, ◌/◌, List, Option, Some, length, refl, ◌∙◌, ap, subst, arith}
-use Rattle.ob_seal.specs.KeyPair.{KeyPair}
+use Rattle.ob_seal.specs.KeySet.{KeySet}
 use Rattle.ob_seal.specs.Sealed.{sealed}
 use Rattle.ob_seal.specs.declared.At.{At}
 use Rattle.ob_vault.specs.declared.region.Region.{Region}
@@ -25,7 +25,7 @@ turn_of : (q x : ℕ) (a b : Region) (w : World) → OnTurn q a (turn_after a x)
 turn_of q x a b w is same = subst (λ (s : Region). OnTurn q s (turn_after s x) w) same is
 
 -- the block that was shut, by any way of naming the shape
-block_of : (keys : KeyPair) (at : At) (n : ℕ) (rows : List (List ℕ)) (block : List ℕ) (a : Region) → block ≡ sealed keys at (joined (a.width / n) rows)
+block_of : (keys : KeySet) (at : At) (n : ℕ) (rows : List (List ℕ)) (block : List ℕ) (a : Region) → block ≡ sealed keys at (joined (a.width / n) rows)
     → (b : Region) → a ≡ b → block ≡ sealed keys at (joined (b.width / n) rows)
 block_of keys at n rows block a is b same = is ∙ ap (λ (s : Region). sealed keys at (joined (s.width / n) rows)) same
 
