@@ -9,7 +9,7 @@ use Rattle.ob_base.specs.declared.skeleton.Source.TheVariants.{Table as OneTable
 use Rattle.ob_base.specs.Events.{Event, Head, Close, row_events}
 use Rattle.ob_base.specs.Labels.{column_label, call_label}
 use Rattle.ob_base.specs.Schemas.{Columns}
-use Rattle.ob_row.specs.Bags.{Same, Within}
+use Rattle.ob_row.specs.Bags.{Same}
 use Rattle.ob_sql.specs.declared.stmt.Listed.{Listed}
 use Rattle.ob_sql.specs.declared.stmt.Listed.TheVariants.{Column as ListedColumn, CountAll, Count, Sum, Min, Max}
 use Rattle.ob_sql.specs.declared.stmt.SelectRows.{SelectRows}
@@ -69,10 +69,10 @@ Prints labels (Refused r) events = events ≡ []
 abbrev pub Begun : List Event → List Event → Type 0
 Begun done whole = (rest : List Event) × (done ++ rest ≡ whole)
 
--- of an answer that was stopped: a first part of its header and of rows of its bag
+-- of an answer that was cut off: a first part of its header and its rows, in an order in which they are the same bag
 pub record UnfinishedRows (labels : List (List ℕ)) (rows : List (List Shown)) (events : List Event) : Type 0 where
   pub printed : List (List Shown)
-  pub within : Within printed rows
+  pub same : Same printed rows
   pub begun : Begun events (Head labels ∷ row_events printed)
 
 abbrev pub Unfinished : (labels : List (List ℕ)) → Answer → List Event → Type 0

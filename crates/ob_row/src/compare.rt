@@ -10,7 +10,7 @@ ghost use Rattle.ob_row.specs.Values.{cell_of};
 use crate::cell::Cell;
 use crate::pred::{Operand, Tree};
 use crate::value::{Value, value_at};
-use ob_base::Schema;
+use ob_base::{ComparisonOperator, Schema};
 use ob_room::ClearRow;
 use std::cmp::Ordering;
 
