@@ -50,6 +50,8 @@ pub struct Case {
     pub accesses: Option<Vec<u8>>,
     pub total: Option<u64>,
     pub status: u64,
+    /// Whether the rows of an answer may come in any order.
+    pub unordered: bool,
     /// What has to differ: this case wants something wrong, to show that it is noticed.
     pub differs: Option<Part>,
 }
@@ -93,6 +95,7 @@ impl Case {
             accesses: None,
             total: None,
             status: 0,
+            unordered: false,
             differs: None,
         })
     }
@@ -120,6 +123,10 @@ impl Case {
             }
             "status" => {
                 self.status = number(rest)?;
+                Ok(())
+            }
+            "unordered" => {
+                self.unordered = true;
                 Ok(())
             }
             "differs" => match Part::of_word(rest) {

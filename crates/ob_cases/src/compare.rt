@@ -1,5 +1,6 @@
 //! What came of a case, beside what was wanted.
-use crate::case::{Case, Part};
+use crate::case::{Case, LineErr, Part};
+use std::alloc::{AllocError, Global};
 
 /// What came of a session.
 #[derive(Clone, Copy)]
@@ -11,31 +12,53 @@ pub struct Came<'a> {
 }
 
 /// The first part in which what came is other than what a case wants.
-pub fn difference(case: &Case, came: &Came) -> Option<Part> {
+pub fn difference(alloc: Global, case: &Case, came: &Came) -> Result<Option<Part>, LineErr> {
     let answered = match &case.answers {
+        Some(wanted) if case.unordered => {
+            ordered(alloc, wanted.as_slice())? == ordered(alloc, came.answers)?
+        }
         Some(wanted) => wanted.as_slice() == came.answers,
         None => true,
     };
     if !answered {
-        return Some(Part::Answers);
+        return Ok(Some(Part::Answers));
     }
     let traced = match &case.accesses {
         Some(wanted) => is_traced(wanted.as_slice(), came.trace),
         None => true,
     };
     if !traced {
-        return Some(Part::Accesses);
+        return Ok(Some(Part::Accesses));
     }
     if case
         .total
         .is_some_and(|total| total != lines_in(came.trace))
     {
-        return Some(Part::Total);
+        return Ok(Some(Part::Total));
     }
     if case.status != u64::from(came.status) {
-        return Some(Part::Status);
+        return Ok(Some(Part::Status));
     }
-    None
+    Ok(None)
+}
+
+// The lines of some answers, in which the rows behind each header are sorted.
+fn ordered(alloc: Global, answers: &[u8]) -> Result<Vec<&[u8]>, AllocError> {
+    let mut lines = Vec::new(alloc);
+    let mut rows = Vec::new(alloc);
+    let mut is_row = false;
+    for line in answers.split(|b| *b == b'\n') {
+        let quoted = line.starts_with(b"\"");
+        if quoted && is_row {
+            rows.push(line)?;
+        } else {
+            rows.sort()?;
+            lines.append(&mut rows)?;
+            lines.push(line)?;
+        }
+        is_row = quoted;
+    }
+    Ok(lines)
 }
 
 // How many lines end in these bytes.

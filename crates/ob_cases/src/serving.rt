@@ -43,7 +43,7 @@ pub fn serve(alloc: Global, case: &Case) -> Result<Served, LineErr> {
         status: report.status,
     };
     Ok(Served {
-        differs: difference(case, &came),
+        differs: difference(alloc, case, &came)?,
         answers: copied(alloc, came.answers)?,
         trace: copied(alloc, came.trace)?,
         status: came.status,

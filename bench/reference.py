@@ -1,0 +1,274 @@
+#!/usr/bin/env python3
+"""Writes crates/ob_cases/data/reference.case: sessions made from the grammar at random (always the same ones), with the
+answers of the plain evaluator, which the program of crates/ob_answers prints. No answer of the engine goes into them.
+
+usage: bench/reference.py PATH-OF-ob_answers      (cd crates/ob_answers && rt run < stdin builds it: out/ob_answers)
+"""
+import pathlib
+import random
+import subprocess
+import sys
+
+SESSIONS = 240
+DATA = pathlib.Path(__file__).resolve().parent.parent / "crates/ob_cases/data"
+
+# The rows that may be open, those of a block, and the plan: each session has one of these.
+SETTINGS = [(64, 1, ""), (4, 1, ""), (7, 2, ""), (16, 4, ""), (10, 3, ""), (64, 16, ""), (8, 1, "small"), (8, 2, "large"), (5, 1, "")]
+NAMES = ["id", "v", "w", "name", "city", "total", "k1", "_x"]
+WORDS = ["", "a", "ab", "it's", "Zoe", "x y", "--no comment", "a;b", "zzzzzzzzzzzz"]
+
+
+class Table:
+    """A table as its CREATE describes it."""
+
+    def __init__(self, name, columns, capacity):
+        self.name, self.columns, self.capacity = name, columns, capacity
+
+
+class Maker:
+    """Makes the texts of one session."""
+
+    def __init__(self, seed):
+        self.random = random.Random(seed)
+        self.tables = {}
+
+    def one(self, *choices):
+        return self.random.choice(choices)
+
+    def chance(self, percent):
+        return self.random.randrange(100) < percent
+
+    def word(self, text):
+        """A keyword in some case."""
+        return self.one(text, text, text.lower(), text.capitalize())
+
+    def integer(self):
+        n = self.one(*range(-3, 9), 100, -(2**63), 2**63 - 1) if not self.chance(3) else self.one(2**63, -(2**63) - 1, 10**30)
+        return self.one("+", "") + str(n) if n >= 0 else str(n)
+
+    def text(self):
+        said = self.one(*WORDS) if not self.chance(3) else "y" * self.one(20, 256)
+        return "'" + said.replace("'", "''") + "'"
+
+    def literal(self, kind):
+        if self.chance(4):
+            return self.one(self.integer(), self.text())
+        return self.integer() if kind == "INT" else self.text()
+
+    def table(self):
+        names = list(self.tables)
+        if not names or self.chance(3):
+            return self.one("nothing", "t9")
+        return self.random.choice(names)
+
+    def columns(self, name):
+        return self.tables[name].columns if name in self.tables else [("id", "INT", False)]
+
+    # ---- the parts of statements
+    def create(self):
+        name = self.one("t", "u", "s", "T")
+        columns, used = [], []
+        for _ in range(self.one(1, 2, 2, 3, 3, 4)):
+            free = [it for it in NAMES if it not in used] if not self.chance(3) else NAMES
+            column = self.random.choice(free)
+            used.append(column)
+            columns.append([column, self.one("INT", "INT", "INTEGER", f"VARCHAR({self.one(1, 4, 12, 20)})"), ""])
+        if self.chance(75):
+            columns[0][2] = " " + self.word("PRIMARY KEY") + self.one("", " NOT NULL")
+        if self.chance(2):
+            columns[-1][2] += " PRIMARY KEY"
+        capacity = self.one(1, 2, 5, 8, 12, 16, 24) if not self.chance(3) else self.one(0, 1048577)
+        said = ", ".join(f"{c} {self.word(k) if '(' not in k else k}{more}" for c, k, more in columns)
+        made = Table(name.lower(), [(c, "INT" if k.startswith("INT") else "TEXT", "PRIMARY" in m.upper()) for c, k, m in columns], capacity)
+        return f"{self.word('CREATE TABLE')} {name} ({said}) {self.word('CAPACITY')} {capacity};", ("create", made)
+
+    def insert(self):
+        name = self.table()
+        columns = list(self.columns(name))
+        listed = ""
+        if self.chance(30):
+            self.random.shuffle(columns)
+            listed = " (" + ", ".join(c for c, _, _ in columns) + ")"
+        values = [self.literal(kind) for _, kind, _ in columns]
+        if self.chance(3):
+            values.append("1")
+        return f"{self.word('INSERT INTO')} {name}{listed} {self.word('VALUES')} ({', '.join(values)});", ("insert",)
+
+    def named(self, scope):
+        """A column of the scope, a list of tables, with its table or without, and its kind."""
+        name = self.random.choice(scope)
+        column, kind, _ = self.random.choice(self.columns(name))
+        if self.chance(2):
+            return self.one("none", f"{name}.none", f"zz.{column}"), kind
+        return (f"{name}.{column}" if self.chance(30) or len(scope) > 1 and self.chance(80) else column), kind
+
+    def comparison(self, scope):
+        column, kind = self.named(scope)
+        other = self.literal(kind) if self.chance(80) else self.named(scope)[0]
+        return f"{column} {self.one('=', '<>', '!=', '<', '<=', '>', '>=')} {other}"
+
+    def condition(self, scope, depth=3):
+        if depth == 0 or self.chance(45):
+            return self.comparison(scope)
+        left = self.condition(scope, depth - 1)
+        how = self.one("not", "and", "or", "()")
+        if how == "not":
+            return f"{self.word('NOT')} {self.one(left, '(' + left + ')')}"
+        if how == "()":
+            return f"({left})"
+        return f"{left} {self.word(how.upper())} {self.condition(scope, depth - 1)}"
+
+    def where(self, scope, percent=70):
+        return f" {self.word('WHERE')} {self.condition(scope)}" if self.chance(percent) else ""
+
+    def update(self):
+        name = self.table()
+        sets = []
+        for column, kind, key in self.random.sample(self.columns(name), self.one(1, min(2, len(self.columns(name))))):
+            if key and not self.chance(5):
+                continue
+            sets.append(f"{column} = {self.literal(kind)}")
+        if not sets:
+            return self.delete()
+        return f"{self.word('UPDATE')} {name} {self.word('SET')} {', '.join(sets)}{self.where([name])};", ("update",)
+
+    def delete(self):
+        name = self.table()
+        return f"{self.word('DELETE FROM')} {name}{self.where([name], 85)};", ("delete",)
+
+    def drop(self):
+        name = self.table()
+        return f"{self.word('DROP TABLE')} {name};", ("drop", name)
+
+    def select(self):
+        name = self.table()
+        if self.chance(30):
+            chosen, labels = "*", [c for c, _, _ in self.columns(name)]
+        else:
+            names = [self.named([name])[0] for _ in range(self.one(1, 2, 3))]
+            chosen, labels = ", ".join(names), [it.split(".")[-1] for it in names]
+        return f"{self.word('SELECT')} {chosen} {self.word('FROM')} {name}{self.where([name])};", ("rows", labels)
+
+    def join(self):
+        if len(self.tables) < 2 and not self.chance(5):
+            return self.select()
+        left, right = self.table(), self.table()
+        if left == right and not self.chance(5):
+            return self.select()
+        keys = [c for c, _, key in self.columns(left) if key] or [self.columns(left)[0][0]]
+        ons = [f"{left}.{keys[0]}", f"{right}.{self.random.choice(self.columns(right))[0]}"]
+        if self.chance(30):
+            ons.reverse()
+        scope = [left, right]
+        if self.chance(40):
+            chosen, labels = "*", [f"{t}.{c}" for t in scope for c, _, _ in self.columns(t)]
+        else:
+            names = [self.named(scope)[0] for _ in range(self.one(1, 2, 3))]
+            chosen = ", ".join(names)
+            homes = {c: t for t in reversed(scope) for c, _, _ in self.columns(t)}
+            labels = [it if "." in it else f"{homes.get(it, left)}.{it}" for it in names]
+        inner = self.one("JOIN", "INNER JOIN")
+        said = f"{self.word('SELECT')} {chosen} {self.word('FROM')} {left} {self.word(inner)} {right} {self.word('ON')} {ons[0]} = {ons[1]}"
+        return f"{said}{self.where(scope, 50)};", ("rows", labels)
+
+    def item(self, scope):
+        column, kind = self.named(scope)
+        label = column.split(".")[-1]
+        how = self.one("COUNT(*)", "COUNT", "SUM", "MIN", "MAX")
+        if how == "COUNT(*)":
+            return self.word("COUNT") + "(*)", "COUNT(*)"
+        if how != "COUNT" and kind != "INT" and not self.chance(5):
+            how = "COUNT"
+        return f"{self.word(how)}({column})", f"{how}({label})"
+
+    def totals(self):
+        name = self.table()
+        items = [self.item([name]) for _ in range(self.one(1, 2, 3))]
+        said = ", ".join(text for text, _ in items)
+        return f"{self.word('SELECT')} {said} {self.word('FROM')} {name}{self.where([name], 50)};", ("rows", [label for _, label in items])
+
+    def groups(self):
+        name = self.table()
+        key, _ = self.named([name])
+        items = [self.item([name]) for _ in range(self.one(1, 2))]
+        items.insert(self.one(0, len(items)), (key, key.split(".")[-1]))
+        said = ", ".join(text for text, _ in items)
+        text = f"{self.word('SELECT')} {said} {self.word('FROM')} {name}{self.where([name], 40)} {self.word('GROUP BY')} {key};"
+        return text, ("rows", [label for _, label in items])
+
+    def broken(self):
+        text, _ = self.one(self.select, self.insert, self.update, self.create, self.groups)()
+        at = self.random.randrange(len(text))
+        return self.one(text[:at] + text[at + 1 :], text[:at] + self.one("%", ")", "FROM ", "'", ", ") + text[at:], text.replace(" ", " -- a comment\n", 1)), ("unknown",)
+
+    def statement(self, n):
+        if n == 0 or n == 1 and self.chance(60):
+            return self.create()
+        if n < 9:
+            return self.insert()
+        kinds = [self.insert] * 4 + [self.select] * 5 + [self.join] * 3 + [self.totals] * 2 + [self.groups] * 2
+        return self.one(*kinds, self.update, self.update, self.delete, self.drop, self.create, self.broken)()
+
+
+def main():
+    program = sys.argv[1]
+    out = ["# Sessions made from the grammar, with the answers of the plain evaluator (bench/reference.py).", ""]
+    for seed in range(SESSIONS):
+        buffer, pack, plan = SETTINGS[seed % len(SETTINGS)]
+        maker, texts, told, kinds = Maker(seed), [], [], []
+        for n in range(24):
+            text, kind = maker.statement(n)
+            said = answers(program, buffer, pack, [*texts, text])
+            if len(said) != len(texts) + 1:
+                # (no text, or more than one)
+                continue
+            texts.append(text)
+            kinds.append(kind)
+            told = said
+            follow(maker, kind, said[-1])
+        out += case(seed, buffer, pack, plan, texts, kinds, told)
+    (DATA / "reference.case").write_text("\n".join(out) + "\n")
+
+
+def answers(program, buffer, pack, texts):
+    """What the plain evaluator answers to each of these, its lines in a list."""
+    ran = subprocess.run([program, str(buffer), str(pack)], input="\n".join(texts), capture_output=True, text=True, check=True)
+    told, lines = [], []
+    for line in ran.stdout.splitlines():
+        lines.append(line)
+        if not line.startswith('"'):
+            told.append(lines)
+            lines = []
+    return told
+
+
+def follow(maker, kind, said):
+    """Keeps in mind which tables there are."""
+    if said == ["= done"] and kind[0] == "create":
+        maker.tables[kind[1].name] = kind[1]
+    if said == ["= done"] and kind[0] == "drop":
+        del maker.tables[kind[1]]
+
+
+def printed(kind, lines):
+    """The lines that the program has to answer with."""
+    last = lines[-1]
+    if last.endswith(" rows"):
+        return [",".join(f'"{label}"' for label in kind[1]), *lines]
+    if last == "= done":
+        return [{"create": "= created", "insert": "= inserted", "drop": "= dropped"}[kind[0]]]
+    if last.endswith(" changed"):
+        return [last.replace("changed", "updated" if kind[0] == "update" else "deleted")]
+    return lines
+
+
+def case(seed, buffer, pack, plan, texts, kinds, told):
+    words = f"words --buffer {buffer} --pack {pack}" + (f" --plan {plan}" if plan else "")
+    lines = [f"case session {seed}", words, "unordered", *[f"> {line}" for text in texts for line in text.split("\n")]]
+    for kind, said in zip(kinds, told):
+        lines += [f"< {line}" for line in printed(kind, said)]
+    refused = any(said[-1].startswith("E") for said in told)
+    return [*lines, f"status {int(refused)}", ""]
+
+
+main()
