@@ -13,9 +13,10 @@ use ob_print::{Line, Printer, refusal_line, write_all};
 use ob_reference::Database;
 use ob_token::{Piece, split};
 use std::alloc::Global;
+use std::io::{self, Input, Print};
 use std::process::ExitCode;
 use std::rt::Env;
-use std::{env, io};
+use std::env;
 
 /// A text of more bytes is not read.
 const LONGEST: usize = 65_536;
@@ -150,14 +151,14 @@ fn answer_all<K: Sink>(
     Ok(())
 }
 
-fn run<R: AllocGlobal + Read + Print>(rt: &R, config: &Config) -> io::Result<ExitCode>
+fn run<R: AllocGlobal + Input + Print>(rt: &R, config: &Config) -> io::Result<ExitCode>
     requires pack { 1 ≤ config.now.pack }
     requires buffer { 3 * config.now.pack + 1 ≤ config.now.buffer }
 {
     let alloc = rt.alloc();
-    let input = io::read_to_string(alloc, rt.stdin())?;
-    let stdout = rt.stdout();
-    let mut out = StdSink::new(io::writer(&stdout));
+    let input = io::read_to_string(alloc, rt.reader())?;
+    
+    let mut out = StdSink::new(io::writer(rt));
     match answer_all(alloc, config, input.as_bytes(), &mut out) {
         Ok(()) => Ok(ExitCode::from(0)),
         Err(Fault::Memory) => Ok(ExitCode::from(7)),

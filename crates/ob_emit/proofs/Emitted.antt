@@ -13,7 +13,7 @@ use Rattle.ob_flat.specs.declared.flat.Flat.{Flat}
 use Rattle.ob_flat.specs.declared.fault.OpErr.{OpErr}
 use Rattle.ob_flat.specs.declared.fault.OpErr.TheVariants.{Sink, NoMemory}
 use Rattle.ob_flat.specs.Flats.{IsWritten}
-use Rattle.ob_flat.specs.Passes.{PassCause, SinkCause}
+use Rattle.ob_flat.specs.Passes.{PassCause, SinkCause, is_of_access}
 use Rattle.ob_flat.specs.Words.{blocks_of}
 use Rattle.ob_emit.specs.Emitting.{Emits, table_shown}
 use Rattle.ob_emit.proofs.Halting.{cut_none, emitted_under}
@@ -68,7 +68,7 @@ module _ {E : Type 0} {grew cut : E → E → List Event → Type 0} {faults : E
   pub emits_headless : {w : World} (e : OpErr) → Ready w → IsWritten pack flat w → (e ≡ Sink) ⊎ (e ≡ NoMemory) → PassCause e w w → Leads grew cut a b head → SinkCause {T = ℕ} (Err e) (faults a) (faults b)
       → Emits grew cut faults pack flat cols head (Err e) w w a b
   emits_headless {w} e ready written either why leads cause = record {
-    ran = record { ok = tt; err = cut_none e none (count_part flat.region (blocks_of pack flat)) w ready why };
+    ran = record { ok = tt; err = cut_none e none (count_part flat.region (blocks_of pack flat)) w ready (elim either [ inl sink ↦ ap is_of_access sink | inr memory ↦ ap is_of_access memory ]) why };
     never = elim either [ inl sink ↦ inr (inl sink) | inr memory ↦ inr (inr (inl memory)) ];
     seals = record { seals = λ good. seals_none good _ };
     source = written;

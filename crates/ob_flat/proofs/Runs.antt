@@ -1,5 +1,5 @@
 -- How parts of a pass join where one of them gave up.
-use Rattle.std.proofs.Common.{◌≡◌, inl, inr, ℕ, ◌<◌, List, [], ◌++◌, Result, Err, sym, ◌∙◌, ap, subst}
+use Rattle.std.proofs.Common.{◌≡◌, inl, inr, ℕ, ◌<◌, List, [], ◌++◌, IsTrue, length, length-append, Result, Err, sym, ◌∙◌, ap, subst, arith}
 use Rattle.ob_base.specs.declared.access.Access.{Access}
 use Rattle.ob_base.specs.Accesses.{read_at}
 use Rattle.ob_base.specs.Counts.{Rises}
@@ -12,15 +12,21 @@ use Rattle.ob_vault.specs.declared.fault.VaultErr.TheVariants as VaultErrs
 use Rattle.ob_vault.specs.State.{World}
 use Rattle.ob_vault.specs.Tied.{EndsAt}
 use Rattle.ob_vault.specs.Calls.{Went, Cut, Cause}
-use Rattle.ob_vault.proofs.Runs.{lasts_trans, lasts_wider}
+use Rattle.ob_vault.proofs.Runs.{lasts_trans, lasts_wider, asked_after}
 use Rattle.ob_flat.specs.declared.fault.OpErr.{OpErr}
 use Rattle.ob_flat.specs.declared.fault.OpErr.TheVariants.{Failed, Tampered, Sink, NoMemory}
-use Rattle.ob_flat.specs.Passes.{pass_error, PassCause, PassCut}
+use Rattle.ob_flat.specs.Passes.{pass_error, PassCause, is_of_access, PassCut}
 
 -- a call of the vault that gave up
 pub pass_of : (e : VaultErr) (x : List Access) (some : ℕ → Type 0) (a b : World) → Cut e x some a b → PassCut (pass_error e) x some a b
-pass_of e x some a b cut = record { lasts = cut.lasts; began = cut.began; cause = go e cut.cause }
+pass_of e x some a b cut = record { lasts = cut.lasts; began = cut.began; asks = asked e cut.asks; cause = go e cut.cause }
   where
+    asked : (e : VaultErr) → ((e ≡ VaultErrs.NoMemory → ⊥) → length a.store.asked < length b.store.asked)
+        → IsTrue (is_of_access (pass_error e)) → length a.store.asked < length b.store.asked
+    asked VaultErrs.Failed asks is = asks (λ no. absurd (cc no))
+    asked (VaultErrs.Tampered q p) asks is = asks (λ no. absurd (cc no))
+    asked VaultErrs.NoMemory asks is = absurd is
+
     go : (e : VaultErr) → Cause e a b → PassCause (pass_error e) a b
     go VaultErrs.Failed cause = cause
     go (VaultErrs.Tampered q p) (kept, last, unfit, calm) = (kept, last, calm)
@@ -38,22 +44,30 @@ module _ (some : ℕ → Type 0) (a b c : World) where
   pass_after e x y first second = record {
     lasts = lasts_trans some a b c first.lasts second.lasts;
     began = began_join x y _ _ _ first.did second.began;
+    asks = λ is. asked_after some a b c x first (second.asks is);
     cause = cause_after e x first second.cause;
   }
+
+-- a block was read
+asked_read : (q p : ℕ) (some : ℕ → Type 0) (a b : World) → Went (read_at q p) some a b → length a.store.asked < length b.store.asked
+asked_read q p some a b went =
+    let n = ap (λ (l : List Access). length l) went.did.asked ∙ length-append a.store.asked (read_at q p) in
+    omega (arith, n)
 
 module _ (some : ℕ → Type 0) (a b : World) where
   -- in its first part
   pub pass_more : (e : OpErr) (x y : List Access) → PassCut e x some a b → PassCut e (x ++ y) some a b
-  pass_more e x y first = record { lasts = first.lasts; began = began_more x y _ _ first.began; cause = first.cause }
+  pass_more e x y first = record { lasts = first.lasts; began = began_more x y _ _ first.began; asks = first.asks; cause = first.cause }
 
   pub pass_wider : (more : ℕ → Type 0) → ((q : ℕ) → some q → more q) → (e : OpErr) (x : List Access) → PassCut e x some a b → PassCut e x more a b
-  pass_wider more within e x cut = record { lasts = lasts_wider some a b more within cut.lasts; began = cut.began; cause = cut.cause }
+  pass_wider more within e x cut = record { lasts = lasts_wider some a b more within cut.lasts; began = cut.began; asks = cut.asks; cause = cut.cause }
 
   -- a block that was read held a malformed row
   pub pass_malformed : (q p : ℕ) → Went (read_at q p) some a b → PassCut (Tampered q p) (read_at q p) some a b
   pass_malformed q p went = record {
     lasts = went.lasts;
     began = record { done = read_at q p; rest = []; split = Rattle.std.proofs.lemmas.List.append-nil (read_at q p); asked = went.did.asked };
+    asks = λ is. asked_read q p some a b went;
     cause = (went.did.faults, record { before = a.store.asked; asked = went.did.asked }, λ was. inl (went.calm was));
   }
 
@@ -69,6 +83,7 @@ pub pass_then : (some : ℕ → Type 0) (e : OpErr) (x : List Access) (a b c : W
 pass_then some e x a b c cut went same = record {
   lasts = lasts_trans some a b c cut.lasts went.lasts;
   began = subst (λ (s : StoreState). Began x a.store s) (sym same) cut.began;
+  asks = λ is. subst (λ (s : StoreState). length a.store.asked < length s.asked) (sym same) (cut.asks is);
   cause = go e cut.cause;
 }
   where

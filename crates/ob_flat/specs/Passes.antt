@@ -1,5 +1,5 @@
 -- Why a pass gave up, and what it left.
-use Rattle.std.specs.Prelude.{◌≡◌, ◌⊎◌, ℕ, List, Result, Ok, Err}
+use Rattle.std.specs.Prelude.{◌≡◌, ◌⊎◌, ◌<◌, ℕ, Bool, true, false, IsTrue, List, length, Result, Ok, Err}
 use Rattle.ob_base.specs.declared.access.Access.{Access}
 use Rattle.ob_base.specs.Counts.{Rises}
 use Rattle.ob_store.specs.Runs.{Began}
@@ -24,10 +24,19 @@ PassCause (Tampered q x) old new = (new.store.faults ≡ old.store.faults) × En
 PassCause Sink old new = (new.store.faults ≡ old.store.faults) × (Calm old → Calm new)
 PassCause NoMemory old new = (new.store.faults ≡ old.store.faults) × (Calm old → Calm new)
 
--- a first part of the script was asked, and no other region has changed
+-- an error of an access, which was not carried out
+abbrev pub is_of_access : OpErr → Bool
+is_of_access Failed = true
+is_of_access (Tampered region place) = true
+is_of_access Sink = false
+is_of_access NoMemory = false
+
+-- a first part of the script was asked, that access too where it is one of an access, and no other region
+-- has changed
 pub record PassCut (e : OpErr) (script : List Access) (some : ℕ → Type 0) (old new : World) : Type 0 where
   pub lasts : Lasts some old new
   pub began : Began script old.store new.store
+  pub asks : IsTrue (is_of_access e) → length old.store.asked < length new.store.asked
   pub cause : PassCause e old new
 
 -- the emitter's failure comes only where its count of faults rose, and any other answer leaves it

@@ -1,5 +1,5 @@
 -- What the groups of a table's slots answer.
-use Rattle.std.proofs.Common.{◌≡◌, ◌⊎◌, inl, inr, Ok, Err, ◌++◌, ◌≤◌, ◌<◌, ◌-◌, ℕ, zero, suc, Bool, true, false, nat_lt, List, [], ◌∷◌, Some, None, length, cond, if◌then◌else◌, refl, sym, ◌∙◌, ap, arith}
+use Rattle.std.proofs.Common.{◌≡◌, ◌⊎◌, inl, inr, Ok, Err, ◌++◌, ◌≤◌, ◌<◌, ◌-◌, ℕ, zero, suc, Bool, true, false, IsTrue, nat_lt, List, [], ◌∷◌, Some, None, length, cond, if◌then◌else◌, refl, sym, ◌∙◌, ap, arith}
 use Rattle.std.specs.List.{All}
 use Rattle.std.specs.Prelude.{filter, slice_get}
 use Rattle.std.proofs.lemmas.Bool.Decides.{nat_tests}
@@ -24,7 +24,7 @@ use Rattle.ob_flat.specs.declared.flat.Flat.{Flat}
 use Rattle.ob_flat.specs.declared.fault.OpErr.{OpErr}
 use Rattle.ob_flat.specs.declared.fault.OpErr.TheVariants.{Failed, Tampered, Sink, NoMemory}
 use Rattle.ob_flat.specs.Slots.{FitsSlot}
-use Rattle.ob_flat.specs.Passes.{PassCause, PassCut, SinkCause}
+use Rattle.ob_flat.specs.Passes.{is_of_access, PassCause, PassCut, SinkCause}
 use Rattle.ob_flat.specs.Words.{TamperedIn}
 use Rattle.ob_group.specs.declared.grouping.Grouped.{Grouped}
 use Rattle.ob_group.specs.declared.grouping.Grouped.TheVariants.{Groups, TooMany}
@@ -84,9 +84,16 @@ pub read_all : {e : OpErr} {x : List Access} {a b : World} → (e ≡ Sink) ⊎ 
 read_all {e} {x} {a} {b} either went = record {
   lasts = went.lasts;
   began = record { done = x; rest = []; split = append-nil x; asked = went.did.asked };
+  asks = asked e either;
   cause = go e either;
 }
   where
+    asked : (e : OpErr) → (e ≡ Sink) ⊎ (e ≡ NoMemory) → IsTrue (is_of_access e) → length a.store.asked < length b.store.asked
+    asked Failed either is = elim either [ inl sink ↦ absurd (cc sink) | inr memory ↦ absurd (cc memory) ]
+    asked (Tampered q p) either is = elim either [ inl sink ↦ absurd (cc sink) | inr memory ↦ absurd (cc memory) ]
+    asked Sink either is = absurd is
+    asked NoMemory either is = absurd is
+
     go : (e : OpErr) → (e ≡ Sink) ⊎ (e ≡ NoMemory) → PassCause e a b
     go Failed either = elim either [ inl sink ↦ absurd (cc sink) | inr memory ↦ absurd (cc memory) ]
     go (Tampered q p) either = elim either [ inl sink ↦ absurd (cc sink) | inr memory ↦ absurd (cc memory) ]

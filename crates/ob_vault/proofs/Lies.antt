@@ -12,7 +12,7 @@ use Rattle.ob_vault.specs.State.{VaultState}
 use Rattle.ob_vault.specs.Numbers.{number_after}
 use Rattle.ob_base.proofs.AccessLemmas.{number_read}
 use Rattle.ob_vault.specs.Tied.{Fits, at_of}
-use Rattle.ob_vault.proofs.WorldSteps.{world, calm_lasts}
+use Rattle.ob_vault.proofs.WorldSteps.{world, calm_lasts, asked_call}
 use Rattle.ob_vault.specs.Calls.{Lasts, Went, Cut, Unfit, Opened, none}
 
 -- what a read does to the lie: nothing, or it is this
@@ -71,6 +71,7 @@ module _ (v : VaultState) (q x : ℕ) (old new : StoreState) (asks : Asks (Read 
     read_tampered unfit = record {
       lasts = lasts;
       began = began_call _ _ _ asks;
+      asks = λ some. asked_call _ _ _ asks;
       cause = (
         faults,
         record { before = old.asked; asked = asks.asked },

@@ -65,18 +65,25 @@ module _ (some : ℕ → Type 0) (a b c : World) where
   cause_after (Tampered q p) x first (same, ends, unfit, calm) = (same ∙ first.did.faults, ends, unfit, λ was. calm (first.calm was))
   cause_after NoMemory x first (same, calm) = (same ∙ first.did.faults, λ was. calm (first.calm was))
 
+  -- more was asked behind some accesses
+  pub asked_after : (x : List Access) → Went x some a b → length b.store.asked < length c.store.asked → length a.store.asked < length c.store.asked
+  asked_after x first more =
+      let n = ap (λ (l : List Access). length l) first.did.asked ∙ length-append a.store.asked x in
+      omega (arith, n, more)
+
   -- a run that was cut in its second part
   pub cut_after : (e : VaultErr) (x y : List Access) → Went x some a b → Cut e y some b c → Cut e (x ++ y) some a c
   cut_after e x y first second = record {
     lasts = lasts_trans first.lasts second.lasts;
     began = began_join x y _ _ _ first.did second.began;
+    asks = λ some. asked_after x first (second.asks some);
     cause = cause_after e x first second.cause;
   }
 
 module _ (some : ℕ → Type 0) (a b : World) where
   -- in its first part
   pub cut_more : (e : VaultErr) (x y : List Access) → Cut e x some a b → Cut e (x ++ y) some a b
-  cut_more e x y first = record { lasts = first.lasts; began = began_more x y _ _ first.began; cause = first.cause }
+  cut_more e x y first = record { lasts = first.lasts; began = began_more x y _ _ first.began; asks = first.asks; cause = first.cause }
 
   pub lasts_wider : (more : ℕ → Type 0) → ((q : ℕ) → some q → more q) → Lasts some a b → Lasts more a b
   lasts_wider more within lasts = record {

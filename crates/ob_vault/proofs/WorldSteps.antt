@@ -390,11 +390,18 @@ module _ (v : VaultState) (revs : RevState) (old new : StoreState) (q x : ℕ) (
   pub holds_write : (rows block : List ℕ) → block ≡ sealed v.keys (at_of q x (v.count + 1)) rows → new.last q x ≡ Some block → Holds q x rows (world (record v { count = v.count + 1; revs = revs }) new)
   holds_write rows block is last = record { last = last ∙ ap (λ (b : List ℕ). Some b) (is ∙ ap (λ (n : ℕ). sealed v.keys (at_of q x n) rows) (sym wrote.here)) }
 
+-- a call asks an access
+pub asked_call : (a : Access) (old new : StoreState) → Asks a old new → length old.asked < length new.asked
+asked_call a old new asks =
+    let n = ap (λ (l : List Access). length l) asks.asked ∙ length-append old.asked (a ∷ []) in
+    omega (arith, n)
+
 -- a call that failed
 pub cut_call : (a : Access) (some : ℕ → Type 0) (old new : World) → Lasts some old new → Asks a old.store new.store → Rises old.store.faults new.store.faults → new.store.lie ≡ old.store.lie → Cut VaultErrs.Failed (a ∷ []) some old new
 cut_call a some old new lasts asks rises lie = record {
   lasts = lasts;
   began = began_call a old.store new.store asks;
+  asks = λ some. asked_call a old.store new.store asks;
   cause = (rises, calm_lasts some old new lasts lie);
 }
 
@@ -471,6 +478,7 @@ unmade v s blocks width order ready = record {
   err = record {
     lasts = lasts_none (one v.next) (world v s) ready;
     began = record { done = []; rest = make_at v.next blocks width; split = refl; asked = sym (append-nil s.asked) };
+    asks = λ some. absurd (some refl);
     cause = (refl, λ calm. calm);
   };
   never = inr refl;
@@ -486,6 +494,7 @@ pub cut_call_none : (a : Access) (some : ℕ → Type 0) (old new : World) → L
 cut_call_none a some old new lasts asks faults lie = record {
   lasts = lasts;
   began = began_call a old.store new.store asks;
+  asks = λ some. absurd (some refl);
   cause = (faults, calm_lasts some old new lasts lie);
 }
 

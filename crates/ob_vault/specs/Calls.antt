@@ -74,10 +74,12 @@ Cause Failed old new = Rises old.store.faults new.store.faults × (Calm old → 
 Cause (Tampered q x) old new = (new.store.faults ≡ old.store.faults) × EndsRead q x new × Unfit q x new × (Calm old → Calm new ⊎ EndsAt q x new)
 Cause NoMemory old new = (new.store.faults ≡ old.store.faults) × (Calm old → Calm new)
 
--- a first part of the script was asked, and no other region has changed
+-- a first part of the script was asked, an access at least unless memory was wanted, and no other
+-- region has changed
 pub record Cut (e : VaultErr) (script : List Access) (some : ℕ → Type 0) (old new : World) : Type 0 where
   pub lasts : Lasts some old new
   pub began : Began script old.store new.store
+  pub asks : (e ≡ NoMemory → ⊥) → length old.store.asked < length new.store.asked
   pub cause : Cause e old new
 
 abbrev pub none : ℕ → Type 0
