@@ -1,5 +1,5 @@
 -- Passes that halt where the emitter did.
-use Rattle.std.proofs.Common.{◌≡◌, ◌⊎◌, ◌<◌, ◌++◌, inl, inr, [], List, ℕ, Bool, false, IsTrue, Result, Ok, Err, MatchResult, IfErr, refl, sym, ◌∙◌, subst, append_assoc}
+use Rattle.std.proofs.Common.{◌≡◌, ◌⊎◌, ◌<◌, ◌++◌, inl, inr, [], List, ℕ, false, Result, Ok, Err, MatchResult, IfErr, refl, sym, ◌∙◌, subst, append_assoc}
 use Rattle.std.proofs.lemmas.List.{append-nil}
 use Rattle.ob_base.specs.declared.access.Access.{Access}
 use Rattle.ob_base.specs.Accesses.{read_at}
@@ -26,9 +26,9 @@ use Rattle.ob_emit.specs.Emitting.{HaltCause, halt_error}
 pub pass_halted : (some : ℕ → Type 0) (a b : World) (q p : ℕ) (halt : Halt) → Went (read_at q p) some a b → PassCut (halt_error halt q p) (read_at q p) some a b
 pass_halted some a b q p Halts.Malformed went = pass_malformed some a b q p went
 pass_halted some a b q p (Halts.Emit EmitErrs.Failed) went =
-    record { lasts = went.lasts; began = record { done = read_at q p; rest = []; split = append-nil (read_at q p); asked = went.did.asked }; asks = λ is. absurd is; cause = (went.did.faults, went.calm) }
+    record { lasts = went.lasts; began = record { done = read_at q p; rest = []; split = append-nil (read_at q p); asked = went.did.asked }; asks = λ is. absurd (cc is); cause = (went.did.faults, went.calm) }
 pass_halted some a b q p (Halts.Emit EmitErrs.NoMemory) went =
-    record { lasts = went.lasts; began = record { done = read_at q p; rest = []; split = append-nil (read_at q p); asked = went.did.asked }; asks = λ is. absurd is; cause = (went.did.faults, went.calm) }
+    record { lasts = went.lasts; began = record { done = read_at q p; rest = []; split = append-nil (read_at q p); asked = went.did.asked }; asks = λ is. absurd (cc is); cause = (went.did.faults, went.calm) }
 
 -- the emitter's count of faults, where nothing had failed before
 pub sink_halted : (T U : Type 0) (q p : ℕ) (halt : Halt) (old mid new : ℕ) → mid ≡ old → HaltCause {T = T} (Err halt) mid new → SinkCause {T = U} (Err (halt_error halt q p)) old new
@@ -56,7 +56,7 @@ if_err P F (Err e) is = is
 
 -- nothing was asked
 pub cut_none : (e : OpErr) (some : ℕ → Type 0) (x : List Access) (w : World) → Ready w → is_of_access e ≡ false → PassCause e w w → PassCut e x some w w
-cut_none e some x w ready none cause = record { lasts = (went_none some w ready).lasts; began = record { done = []; rest = x; split = refl; asked = sym (append-nil w.store.asked) }; asks = λ is. absurd (subst (λ (b : Bool). IsTrue b) none is); cause = cause }
+cut_none e some x w ready none cause = record { lasts = (went_none some w ready).lasts; began = record { done = []; rest = x; split = refl; asked = sym (append-nil w.store.asked) }; asks = λ is. absurd (cc (none, is)); cause = cause }
 
 -- a header was emitted, and then rows
 pub emitted_under : {E Source : Type 0} (grew : E → E → List Event → Type 0) (head : List Event) (shown : Source → List (List Shown)) (k n : ℕ) (a b c : E)

@@ -25,7 +25,7 @@ pass_of e x some a b cut = record { lasts = cut.lasts; began = cut.began; asks =
         → IsTrue (is_of_access (pass_error e)) → length a.store.asked < length b.store.asked
     asked VaultErrs.Failed asks is = asks (λ no. absurd (cc no))
     asked (VaultErrs.Tampered q p) asks is = asks (λ no. absurd (cc no))
-    asked VaultErrs.NoMemory asks is = absurd is
+    asked VaultErrs.NoMemory asks is = absurd (cc is)
 
     go : (e : VaultErr) → Cause e a b → PassCause (pass_error e) a b
     go VaultErrs.Failed cause = cause

@@ -91,8 +91,8 @@ read_all {e} {x} {a} {b} either went = record {
     asked : (e : OpErr) → (e ≡ Sink) ⊎ (e ≡ NoMemory) → IsTrue (is_of_access e) → length a.store.asked < length b.store.asked
     asked Failed either is = elim either [ inl sink ↦ absurd (cc sink) | inr memory ↦ absurd (cc memory) ]
     asked (Tampered q p) either is = elim either [ inl sink ↦ absurd (cc sink) | inr memory ↦ absurd (cc memory) ]
-    asked Sink either is = absurd is
-    asked NoMemory either is = absurd is
+    asked Sink either is = absurd (cc is)
+    asked NoMemory either is = absurd (cc is)
 
     go : (e : OpErr) → (e ≡ Sink) ⊎ (e ≡ NoMemory) → PassCause e a b
     go Failed either = elim either [ inl sink ↦ absurd (cc sink) | inr memory ↦ absurd (cc memory) ]
