@@ -197,9 +197,12 @@ class Maker:
         return text, ("rows", [label for _, label in items])
 
     def broken(self):
-        text, _ = self.one(self.select, self.insert, self.update, self.create, self.groups)()
+        """A statement with a byte less, with a token more, or with a comment."""
+        text, kind = self.one(self.select, self.insert, self.update, self.create, self.groups)()
         at = self.random.randrange(len(text))
-        return self.one(text[:at] + text[at + 1 :], text[:at] + self.one("%", ")", "FROM ", "'", ", ") + text[at:], text.replace(" ", " -- a comment\n", 1)), ("unknown",)
+        if self.chance(30):
+            return text.replace(" ", " -- a comment; 'quoted\n", 1), kind
+        return self.one(text[:at] + text[at + 1 :], text[:at] + self.one("%", ")", "FROM ", "'", ", ") + text[at:]), ("unknown",)
 
     def statement(self, n):
         if n == 0 or n == 1 and self.chance(60):
@@ -221,6 +224,9 @@ def main():
             said = answers(program, buffer, pack, [*texts, text])
             if len(said) != len(texts) + 1:
                 # (no text, or more than one)
+                continue
+            if kind[0] == "unknown" and not said[-1][-1].startswith("E"):
+                # (a statement still, but nobody knows of which kind)
                 continue
             texts.append(text)
             kinds.append(kind)

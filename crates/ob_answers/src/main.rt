@@ -3,7 +3,7 @@
 //! Two words, if there are any, are the rows that may be open and those of a block.
 #![tactic(auto)]
 
-ghost use Rattle.std.specs.Prelude.{◌≤◌, ◌+◌, ◌*◌};
+ghost use Rattle.std.specs.Prelude.{◌≤◌, ◌+◌, ◌*◌, IfSome};
 
 use ob_base::{Config, Emit, EmitErr, Items, NoMemory, Refusal, Shown};
 use ob_io::{Sink, StdSink};
@@ -13,10 +13,10 @@ use ob_print::{Line, Printer, refusal_line, write_all};
 use ob_reference::Database;
 use ob_token::{Piece, split};
 use std::alloc::Global;
+use std::env;
 use std::io::{self, Input, Print};
 use std::process::ExitCode;
 use std::rt::Env;
-use std::env;
 
 /// A text of more bytes is not read.
 const LONGEST: usize = 65_536;
@@ -45,6 +45,8 @@ impl From<EmitErr> for Fault {
 
 // The settings of a session with so many rows open, so many of them in a block.
 fn settings(buffer: u32, pack: u8) -> Option<Config>
+    ensures pack { IfSome result (λ c. 1 ≤ c.pack) }
+    ensures buffer { IfSome result (λ c. 3 * c.pack + 1 ≤ c.buffer) }
 {
     let least = u32::from(pack) * 3 + 1;
     if pack == 0 || buffer < least {
@@ -60,7 +62,10 @@ fn settings(buffer: u32, pack: u8) -> Option<Config>
 }
 
 // The settings that the words name.
-fn settings_of<R: Env + AllocGlobal>(rt: &R) -> Option<Config> {
+fn settings_of<R: Env + AllocGlobal>(rt: &R) -> Option<Config>
+    ensures pack { IfSome result (λ c. 1 ≤ c.pack) }
+    ensures buffer { IfSome result (λ c. 3 * c.pack + 1 ≤ c.buffer) }
+{
     let mut words = env::args(rt).ok()?.skip(1);
     let buffer = match words.next() {
         Some(word) => word.as_str().parse::<u32>().ok()?,
@@ -73,10 +78,7 @@ fn settings_of<R: Env + AllocGlobal>(rt: &R) -> Option<Config> {
     settings(buffer, pack)
 }
 
-fn print_rows<K: Sink>(
-    printer: &mut Printer<'_, K>,
-    rows: &[Items<Shown>],
-) -> Result<(), Fault> {
+fn print_rows<K: Sink>(printer: &mut Printer<'_, K>, rows: &[Items<Shown>]) -> Result<(), Fault> {
     for row in rows {
         printer.row(row.as_slice())?;
     }
@@ -140,11 +142,11 @@ fn answer_all<K: Sink>(
     for _ in 0..input.len() {
         match split(rest) {
             Piece::More { .. } => return Ok(()),
-            Piece::Empty { to } => rest = &rest[to..],
+            Piece::Empty { to } => rest = rest.get(to..).unwrap_or(&[]),
             Piece::Stmt { from, to } => {
-                let answer = answer_of(alloc, config, &mut db, &rest[from..to])?;
-                print_answer(alloc, out, &answer)?;
-                rest = &rest[to..];
+                let text = rest.get(from..to).unwrap_or(&[]);
+                print_answer(alloc, out, &answer_of(alloc, config, &mut db, text)?)?;
+                rest = rest.get(to..).unwrap_or(&[]);
             }
         }
     }
@@ -157,7 +159,7 @@ fn run<R: AllocGlobal + Input + Print>(rt: &R, config: &Config) -> io::Result<Ex
 {
     let alloc = rt.alloc();
     let input = io::read_to_string(alloc, rt.reader())?;
-    
+
     let mut out = StdSink::new(io::writer(rt));
     match answer_all(alloc, config, input.as_bytes(), &mut out) {
         Ok(()) => Ok(ExitCode::from(0)),
