@@ -6,5 +6,5 @@ pub mod Opening
 pub mod Running
 pub mod Memory
 pub mod Telling
-pub mod Serving
 pub mod Selecting
+pub mod Serving

@@ -1,5 +1,5 @@
 -- A SELECT of rows from one region, a table's or a joined one: its count, its plans, and the rows that are emitted.
-use Rattle.std.specs.Prelude.{◌≡◌, ◌⊎◌, ◌×◌, ◌≤◌, ◌-◌, ⊤, ⊥, ℕ, Bool, List, [], ◌∷◌, ◌++◌, map, length, IsTrue, IsSome, None, Some, Option, Result, Ok, Err, OnErr, IfOk, IfErr, MatchResult, nat_le}
+use Rattle.std.specs.Prelude.{◌≡◌, ◌⊎◌, ◌<◌, ◌≤◌, ◌+◌, ◌-◌, ◌^◌, ⊤, ⊥, ℕ, Bool, List, [], ◌∷◌, ◌++◌, map, length, IsTrue, IsSome, None, Some, Option, Result, Ok, Err, OnOk, OnErr, IfOk, IfErr, MatchResult, nat_le}
 use Rattle.ob_base.specs.declared.access.Access.{Access}
 use Rattle.ob_base.specs.declared.config.Plan.{Plan}
 use Rattle.ob_base.specs.declared.config.Plan.TheVariants.{Small, Continuous, Hash}
@@ -22,31 +22,44 @@ use Rattle.ob_row.specs.Truth.{is_true}
 use Rattle.ob_script.specs.declared.extent.Extent.{Extent}
 use Rattle.ob_script.specs.Script.{blocks_of, select_part}
 use Rattle.ob_vault.specs.State.{World}
-use Rattle.ob_vault.specs.Tied.{IsUnfit}
+use Rattle.ob_vault.specs.Tied.{Ready, IsUnfit}
 use Rattle.ob_vault.specs.Calls.{Seals}
 use Rattle.ob_vault.specs.Words.{IsHonest}
 use Rattle.ob_flat.specs.declared.fault.OpErr.{OpErr}
 use Rattle.ob_flat.specs.declared.fault.OpErr.TheVariants.{Failed, Tampered, Sink, NoMemory}
 use Rattle.ob_flat.specs.declared.flat.Flat.{Flat}
-use Rattle.ob_flat.specs.Flats.{Represents}
+use Rattle.ob_flat.specs.Flats.{IsSized, IsFlat, Represents}
 use Rattle.ob_flat.specs.Passes.{SinkCause}
 use Rattle.ob_flat.specs.Words.{Ran}
-use Rattle.ob_emit.specs.Emitting.{header}
+use Rattle.ob_emit.specs.Emitting.{AreColumns, header}
 use Rattle.ob_mean.specs.Replay.{done_of, held_if}
 use Rattle.ob_mean.specs.Verdict.{bucket_size, rows_refusal, seen_rows, plan_for}
 use Rattle.ob_verdict.specs.Laws.{last_plan}
+use Rattle.ob_exec.specs.declared.selecting.Query.{Query}
 use Rattle.ob_exec.specs.declared.selecting.Selected.{Selected}
 use Rattle.ob_exec.specs.declared.selecting.Selected.TheVariants.{Rows, Refused}
+use Rattle.ob_exec.specs.Engines.{AreSettings, IsFree}
 use Rattle.ob_exec.specs.Memory.{AtMake, is_reading}
 use Rattle.ob_exec.specs.Telling.{AcceptsRows}
 use Rattle.std.specs.List.{list_all}
 
--- what is public, the region as a table, the condition, and the places of the columns that are printed
+-- what is public, the region as a table, the condition, the places of the columns that are printed, and how many
+-- accesses will follow that room is kept for
 pub record Selection : Type 0 where
   pub public : Public
   pub flat : Flat
   pub condition : Condition
   pub cols : List ℕ
+  pub ending : ℕ
+
+abbrev pub selection_of : Public → Query → Selection
+selection_of public query = record {
+  public = public;
+  flat = query.flat.now;
+  condition = query.pred.now;
+  cols = query.cols.now;
+  ending = query.ending;
+}
 
 -- its region, and the places of the selected slots
 abbrev pub extent : Selection → Extent
@@ -172,7 +185,18 @@ pub record HoldsSeen (q : Selection) (slots : Slots) (failed : Bool) (n : ℕ) (
   pub second : seen.then
       ≡ held_if (nat_le (walked_after q (seen_of q slots)) (done_of failed n)) (seen_of q slots).then
 
--- ---- what a selection does
+-- ---- what a selection asks
+pub record MaySelect (q : Selection) (room : RoomState) (w : World) : Type 0 where
+  pub settings : AreSettings q.public
+  pub room : IsFree q.public room
+  pub ready : Ready w
+  pub spare : counted_after q + q.ending ≤ w.store.spare
+  pub few : length w.store.asked < 2 ^ 63 + 2 ^ 58
+  pub flat : IsFlat q.public.pack q.flat w
+  pub size : IsSized q.flat.schema q.flat.capacity
+  pub columns : AreColumns q.flat.schema q.cols
+
+-- ---- what it does
 -- the error of an access, which was not carried out
 abbrev pub is_of_access : OpErr → Bool
 is_of_access Failed = true
@@ -215,6 +239,7 @@ pub record SelectsFrom {E : Type 0} (grew cut : E → E → List Event → Type 
     (out_old out_new : E) : Type 0 where
   pub ran : Ran (selection_script q seen old.vault.next) (from old.vault.next) result old new
   pub gone : (r : ℕ) → old.vault.next ≤ r → new.vault.revs.live r ≡ None
+  pub spare : OnOk result (q.ending ≤ new.store.spare)
   pub seals : SealsRows q.public.pack old new
   pub holds : MayHold q seen.k seen.plan seen.then
   pub ended : IfOk result (λ answer. EndsAs q answer seen)
