@@ -2,6 +2,8 @@
 #![tactic(auto)]
 
 mod creating;
+mod deleting;
+mod dropping;
 mod engine;
 mod inserting;
 mod outcome;
@@ -10,6 +12,7 @@ mod run;
 mod selecting;
 mod tables;
 mod totals;
+mod updating;
 
 pub use engine::Engine;
 pub use outcome::Outcome;

@@ -1,10 +1,14 @@
 //! Tables by their names.
 ghost use Rattle.std.specs.Prelude.{◌≡◌, ◌<◌, ℕ, List, length, Some, slice_get, slice_set, IfSome, IfNone};
+ghost use Rattle.std.specs.List.{remove};
 ghost use Rattle.ob_base.specs.declared.schema.Table.{Table as TableOf};
 ghost use Rattle.ob_exec.specs.Engines.{IsAt};
 
+use crate::engine::Engine;
 use ob_base::{Items, Name, Table};
 use ob_flat::Flat;
+use ob_vault::Revisions;
+use std::mem;
 
 /// The place of the table of this name, if there is one.
 pub(crate) fn find_table(tables: &[Table], name: &Name) -> Option<usize>
@@ -32,12 +36,27 @@ pub(crate) fn flat_at(tables: &[Table], i: usize) -> Flat
     }
 }
 
-/// The tables, the one at a place in another region.
-pub(crate) fn with_region(tables: Items<Table>, i: usize, region: u64) -> Items<Table>
-    requires { i < length tables }
-    ensures { (t : TableOf) → slice_get tables i ≡ Some t → result ≡ slice_set tables i (record t { region = region }) }
-{
-    let mut tables = tables.into_vec();
-    tables[i].region = region;
-    Items::from_vec(tables)
+impl<R: Revisions> Engine<R> {
+    /// The table at a place now lies in another region.
+    pub(crate) fn move_table(&mut self, i: usize, region: u64)
+        requires { i < length self.old.public.tables }
+        ensures { (t : TableOf) → slice_get self.old.public.tables i ≡ Some t
+            → self.new ≡ record self.old { public = record self.old.public {
+              tables = slice_set self.old.public.tables i (record t { region = region }) } } }
+    {
+        let mut tables = mem::replace(&mut self.public.tables, Items::new(self.alloc)).into_vec();
+        tables[i].region = region;
+        self.public.tables = Items::from_vec(tables);
+    }
+
+    /// The table at a place is taken out.
+    pub(crate) fn remove_table(&mut self, i: usize)
+        requires { i < length self.old.public.tables }
+        ensures { self.new ≡ record self.old { public = record self.old.public {
+          tables = remove self.old.public.tables i } } }
+    {
+        let mut tables = mem::replace(&mut self.public.tables, Items::new(self.alloc)).into_vec();
+        let _ = tables.remove(i);
+        self.public.tables = Items::from_vec(tables);
+    }
 }
