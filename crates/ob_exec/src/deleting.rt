@@ -7,7 +7,6 @@ ghost use Rattle.ob_exec.specs.Serving.{ServesSilently};
 
 use crate::engine::Engine;
 use crate::outcome::Outcome;
-use crate::tables::{find_table, flat_at};
 use ob_base::{Name, Stop};
 use ob_flat::OpErr;
 use ob_mean::where_at;
@@ -30,16 +29,12 @@ impl<R: Revisions> Engine<R> {
         ensures serves { ServesSilently R.state (Delete table.now cond.now) result
             self.old (S.state store.old) self.new (S.state store.new) }
     {
-        let Some(i) = find_table(self.public.tables.as_slice(), table) else {
-            unreachable!()
-        };
-        let mut flat = flat_at(self.public.tables.as_slice(), i);
+        let (i, mut flat) = self.table_at(table);
         let Ok(pred) = where_at(self.alloc, cond, flat.schema.as_slice(), &[]) else {
             return self.cut(0, OpErr::NoMemory);
         };
         let before = store.count();
-        let blocks = flat.capacity.div_ceil(u32::from(self.public.pack));
-        if store.room(2 * u64::from(blocks) + 2).is_err() {
+        if self.make_room(store, &flat, 2).is_err() {
             return self.cut(0, OpErr::NoMemory);
         }
         match ob_mutate::delete(store, &mut self.vault, &mut self.room, &mut flat, &pred) {

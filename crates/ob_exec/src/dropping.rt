@@ -7,7 +7,6 @@ ghost use Rattle.ob_exec.specs.Serving.{ServesSilently};
 
 use crate::engine::Engine;
 use crate::outcome::Outcome;
-use crate::tables::{find_table, flat_at};
 use ob_base::{Name, Stop};
 use ob_flat::OpErr;
 use ob_store::BlockStore;
@@ -27,10 +26,7 @@ impl<R: Revisions> Engine<R> {
         ensures serves { ServesSilently R.state (DropTable table.now) result
             self.old (S.state store.old) self.new (S.state store.new) }
     {
-        let Some(i) = find_table(self.public.tables.as_slice(), table) else {
-            unreachable!()
-        };
-        let flat = flat_at(self.public.tables.as_slice(), i);
+        let (i, flat) = self.table_at(table);
         if store.room(1).is_err() {
             return self.cut(0, OpErr::NoMemory);
         }

@@ -7,7 +7,6 @@ ghost use Rattle.ob_exec.specs.Serving.{ServesSilently};
 
 use crate::engine::Engine;
 use crate::outcome::Outcome;
-use crate::tables::{find_table, flat_at};
 use ob_base::{Items, Name, Refusal, Stop};
 use ob_flat::OpErr;
 use ob_mean::new_row;
@@ -42,16 +41,12 @@ impl<R: Revisions> Engine<R> {
         ensures serves { ServesSilently R.state (Insert table.now columns.now values.now) result
             self.old (S.state store.old) self.new (S.state store.new) }
     {
-        let Some(i) = find_table(self.public.tables.as_slice(), table) else {
-            unreachable!()
-        };
-        let mut flat = flat_at(self.public.tables.as_slice(), i);
+        let (i, mut flat) = self.table_at(table);
         let Ok(cells) = new_row(self.alloc, &flat.schema, columns, values) else {
             return self.cut(0, OpErr::NoMemory);
         };
         let before = store.count();
-        let blocks = flat.capacity.div_ceil(u32::from(self.public.pack));
-        if store.room(3 * u64::from(blocks) + 2).is_err() {
+        if self.make_room(store, &flat, 3).is_err() {
             return self.cut(0, OpErr::NoMemory);
         }
         match ob_mutate::insert(

@@ -1,12 +1,17 @@
 //! Tables by their names.
-ghost use Rattle.std.specs.Prelude.{◌≡◌, ◌<◌, ℕ, List, length, Some, slice_get, slice_set, IfSome, IfNone};
+ghost use Rattle.std.specs.Prelude.{◌≡◌, ◌<◌, ◌≤◌, ◌+◌, ◌*◌, ℕ, true, List, length, Some, slice_get, slice_set, IfSome, IfNone, OnOk};
 ghost use Rattle.std.specs.List.{remove};
 ghost use Rattle.ob_base.specs.declared.schema.Table.{Table as TableOf};
-ghost use Rattle.ob_exec.specs.Engines.{IsAt};
+ghost use Rattle.ob_base.specs.Numbers.{blocks_for};
+ghost use Rattle.ob_base.specs.Stored.{has_table, headings_of};
+ghost use Rattle.ob_store.specs.Calls.{Rests};
+ghost use Rattle.ob_exec.specs.Agreeing.{public_of};
+ghost use Rattle.ob_exec.specs.Engines.{IsAt, IsFound};
 
 use crate::engine::Engine;
-use ob_base::{Items, Name, Table};
+use ob_base::{Items, Name, NoMemory, Table};
 use ob_flat::Flat;
+use ob_store::BlockStore;
 use ob_vault::Revisions;
 use std::mem;
 
@@ -37,6 +42,35 @@ pub(crate) fn flat_at(tables: &[Table], i: usize) -> Flat
 }
 
 impl<R: Revisions> Engine<R> {
+    /// The place of the table of this name, which there is, and the table as the passes take it.
+    pub(crate) fn table_at(&self, name: &Name) -> (usize, Flat)
+        requires { has_table name.now (headings_of (public_of self.now).tables) ≡ true }
+        ensures { IsFound name.now result.0 result.1 (public_of self.now).tables }
+    {
+        let tables = self.public.tables.as_slice();
+        let Some(i) = find_table(tables, name) else {
+            unreachable!()
+        };
+        (i, flat_at(tables, i))
+    }
+
+    /// Has the store keep room for so many accesses of each block of a table, and two more.
+    pub(crate) fn make_room<S: BlockStore>(
+        &self,
+        store: &mut S,
+        flat: &Flat,
+        turns: u64,
+    ) -> Result<(), NoMemory>
+        requires pack { 1 ≤ (public_of self.now).pack }
+        requires turns { turns ≤ 3 }
+        ensures rests { Rests (S.state store.old) (S.state store.new) }
+        ensures spare { OnOk result (turns
+            * blocks_for (public_of self.now).pack flat.now.capacity + 2 ≤ (S.state store.new).spare) }
+    {
+        let blocks = flat.capacity.div_ceil(u32::from(self.public.pack));
+        store.room(turns * u64::from(blocks) + 2)
+    }
+
     /// The table at a place now lies in another region.
     pub(crate) fn move_table(&mut self, i: usize, region: u64)
         requires { i < length self.old.public.tables }

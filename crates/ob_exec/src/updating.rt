@@ -11,7 +11,6 @@ ghost use Rattle.std.specs.List.{All};
 
 use crate::engine::Engine;
 use crate::outcome::Outcome;
-use crate::tables::{find_table, flat_at};
 use ob_base::{Column, Name, NoMemory, Stop};
 use ob_flat::OpErr;
 use ob_mean::{set_cell, where_at};
@@ -53,10 +52,7 @@ impl<R: Revisions> Engine<R> {
         ensures serves { ServesSilently R.state (Update table.now sets.now cond.now) result
             self.old (S.state store.old) self.new (S.state store.new) }
     {
-        let Some(i) = find_table(self.public.tables.as_slice(), table) else {
-            unreachable!()
-        };
-        let mut flat = flat_at(self.public.tables.as_slice(), i);
+        let (i, mut flat) = self.table_at(table);
         let Ok(pred) = where_at(self.alloc, cond, flat.schema.as_slice(), &[]) else {
             return self.cut(0, OpErr::NoMemory);
         };
@@ -64,8 +60,7 @@ impl<R: Revisions> Engine<R> {
             return self.cut(0, OpErr::NoMemory);
         };
         let before = store.count();
-        let blocks = flat.capacity.div_ceil(u32::from(self.public.pack));
-        if store.room(2 * u64::from(blocks) + 2).is_err() {
+        if self.make_room(store, &flat, 2).is_err() {
             return self.cut(0, OpErr::NoMemory);
         }
         match ob_mutate::update(
