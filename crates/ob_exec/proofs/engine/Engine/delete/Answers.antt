@@ -38,7 +38,8 @@ returns-in-Ok-delete g c =
     let table = found.table in
     let flat = c.table_at-i.result.1 in
     let pred = c.in-Ok.pred in
-    let pred_is : pred ≡ where_at c.args.cond.now table.heading.schema = ? in
+    let pred_is : pred ≡ where_at c.args.cond.now table.heading.schema =
+    c.in-Ok.ensures ∙ ap (where_at c.args.cond.now) (append-nil c.as_slice.result.now ∙ c.as_slice.ensures.value ∙ ap (λ (f : Flat). f.schema) found.is) in
     record {
       serves =
           mutated g.R.Revisions.state (Delete c.args.table.now c.args.cond.now) c.args.table.now rewrite_part Deleted (λ slots. count_by (is_true pred) (rows slots))
@@ -58,7 +59,8 @@ returns g c =
     let table = found.table in
     let flat = c.table_at-i.result.1 in
     let pred = c.in-Ok.pred in
-    let pred_is : pred ≡ where_at c.args.cond.now table.heading.schema = ? in
+    let pred_is : pred ≡ where_at c.args.cond.now table.heading.schema =
+    c.in-Ok.ensures ∙ ap (where_at c.args.cond.now) (append-nil c.as_slice.result.now ∙ c.as_slice.ensures.value ∙ ap (λ (f : Flat). f.schema) found.is) in
     record {
       serves =
           unmutated g.R.Revisions.state (Delete c.args.table.now c.args.cond.now) c.args.table.now rewrite_part Deleted (λ slots. count_by (is_true pred) (rows slots))
