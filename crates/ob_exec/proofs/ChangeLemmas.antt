@@ -1,5 +1,6 @@
 -- What UPDATE and DELETE make of a table.
-use Rattle.std.proofs.Common.{◌≡◌, ℕ, Bool, List, [], ◌++◌, length, map, Some, None, Option, refl, sym, ◌∙◌, ap}
+use Rattle.std.proofs.Common.{◌≡◌, ℕ, suc, List, [], ◌∷◌, ◌++◌, length, map, Some, None, Option, refl, sym, ◌∙◌, ap, subst, arith}
+use Rattle.std.specs.List.{All}
 use Rattle.std.specs.Prelude.{count_by}
 use Rattle.std.specs.Option.{option_map, option_map_or}
 use Rattle.ob_base.specs.declared.config.Public.{Public}
@@ -7,7 +8,7 @@ use Rattle.ob_base.specs.declared.refusal.Refusal.{Refusal}
 use Rattle.ob_base.specs.declared.schema.Heading.{Heading}
 use Rattle.ob_base.specs.Accesses.{discard_at}
 use Rattle.ob_base.specs.Schemas.{Columns}
-use Rattle.ob_base.specs.Stored.{Stored, headings, stored_at, changed_at}
+use Rattle.ob_base.specs.Stored.{Stored, headings, headings_of, heading_at, stored_at, changed_at}
 use Rattle.ob_script.specs.Parts.{copy_part, rewrite_part}
 use Rattle.ob_row.specs.declared.cell.Cell.{Cell}
 use Rattle.ob_row.specs.Condition.{Condition}
@@ -18,7 +19,10 @@ use Rattle.ob_sql.specs.declared.stmt.Set.{Set}
 use Rattle.ob_sql.specs.declared.stmt.Stmt.{Stmt}
 use Rattle.ob_sql.specs.declared.stmt.Stmt.TheVariants.{Update, Delete}
 use Rattle.ob_sql.specs.Search.{Search}
-use Rattle.ob_mean.specs.Names.{columns_at, where_at}
+use Rattle.ob_mean.specs.Names.{columns_at, literal_cell, place_of, unqualified, where_at}
+use Rattle.ob_mutate.specs.Changing.{FitsSets}
+use Rattle.ob_verdict.specs.Accepted.{SetFits}
+use Rattle.ob_verdict.proofs.AcceptedProof.{sets_fit}
 use Rattle.ob_mean.specs.Refusals.{early_refusal}
 use Rattle.ob_mean.specs.Step.{accepted_answer, answered, followed, rows_at, set_cells}
 use Rattle.ob_mean.specs.Settle.{settled}
@@ -26,7 +30,8 @@ use Rattle.ob_mean.proofs.VerdictLemmas.{headings-database, heading-stored, stor
 use Rattle.ob_mean.specs.Verdict.{Tables, database, is_late, refusal}
 use Rattle.ob_exec.specs.declared.outcome.Outcome.{Outcome}
 use Rattle.ob_exec.specs.declared.outcome.Outcome.TheVariants.{Changed, Deleted}
-use Rattle.ob_exec.specs.Running.{Emits}
+use Rattle.ob_exec.specs.Running.{Emits, refusal_now}
+use Rattle.ob_exec.specs.Schemas.{IsSet}
 use Rattle.ob_exec.specs.Telling.{outcome_of}
 use Rattle.ob_exec.proofs.MutateLemmas.{Alters}
 
@@ -99,3 +104,18 @@ delete_alters p m name cond heading pred pred_is = record {
         here = refl;
       };
 }
+
+-- the cells that are set, where each value fits its column
+sets_hold : (cs : Columns) (sets : List Set) → All (SetFits cs) sets → All IsSet (set_cells sets cs) → FitsSets cs (set_cells sets cs)
+sets_hold cs [] fit held = tt
+sets_hold cs (s ∷ sets) fit held = (
+  fit 0 s (omega (arith)) (held 0 (place_of (unqualified s.column) cs, literal_cell s.value) (omega (arith))),
+  sets_hold cs sets (λ k d less. fit (suc k) d (omega (arith, less))) (λ k d less. held (suc k) d (omega (arith, less))),
+)
+
+pub sets_found : (p : Public) (m : ℕ) (name : List ℕ) (sets : List Set) (cond : Option Search) (heading : Heading) (cs : Columns) (cells : List (ℕ × Cell))
+    → refusal_now p m (Update name sets cond) ≡ None → heading_at name (headings_of p.tables) ≡ Some heading → cs ≡ heading.schema → cells ≡ set_cells sets cs → All IsSet cells → FitsSets cs cells
+sets_found p m name sets cond heading cs cells now found schema_is cells_is held =
+    let columns_is : columns_at name (headings_of p.tables) ≡ cs = ap (λ (o : Option Heading). option_map_or (λ (h : Heading). h.schema) o []) found ∙ sym schema_is in
+    let fit = subst (λ (c : Columns). All (SetFits c) sets) columns_is (sets_fit (is_late m) p.pack p.buffer (headings_of p.tables) name sets cond now) in
+    subst (λ (xs : List (ℕ × Cell)). FitsSets cs xs) (sym cells_is) (sets_hold cs sets fit (subst (λ (xs : List (ℕ × Cell)). All IsSet xs) cells_is held))

@@ -1,5 +1,6 @@
 -- CREATE TABLE, after its pass.
 use Rattle.std.proofs.lemmas.List.{length-map}
+use Rattle.std.proofs.lemmas.List.Elements.{All-map}
 use Rattle.std.proofs.Common.{◌≡◌, ◌-◌, ◌*◌, ℕ, zero, suc, false, List, [], ◌∷◌, ◌++◌, length, Some, Ok, Err, Result, OnOk, refl, sym, ◌∙◌, ap, subst, arith}
 use Rattle.std.specs.List.{All}
 use Rattle.std.specs.Result.{is_err}
@@ -73,8 +74,7 @@ named_alike table [] = refl
 named_alike table (c ∷ cs) = ap (λ (names : List (List ℕ)). c.name ∷ names) (named_alike table cs)
 
 names_table : (table : List ℕ) (columns : List NewColumn) → All (λ (c : Column). c.table ≡ table) (columns_of table columns)
-names_table table [] = tt
-names_table table (c ∷ cs) = (refl, names_table table cs)
+names_table table columns = All-map (λ (c : Column). c.table ≡ table) (new_column table) columns (λ k d less. refl)
 
 no_table : (name : List ℕ) (ts : List Table) (i : ℕ) (t : Table) → has_table name (headings_of ts) ≡ false → IsAt name i t ts → ⊥
 no_table name [] zero t none is = absurd (cc is.get)

@@ -1,12 +1,11 @@
 //! UPDATE.
 ghost use Rattle.std.specs.Prelude.{◌≡◌, ◌≤◌, None, false, length, IfOk};
-ghost use Rattle.ob_mutate.specs.Changing.{FitsSets};
 ghost use Rattle.ob_sql.specs.declared.stmt.Stmt.TheVariants.{Update};
 ghost use Rattle.ob_mean.specs.Step.{set_cells};
 ghost use Rattle.ob_exec.specs.Agreeing.{Agrees, has_ended, public_of};
 ghost use Rattle.ob_exec.specs.Running.{refusal_now};
+ghost use Rattle.ob_exec.specs.Schemas.{IsSet};
 ghost use Rattle.ob_exec.specs.Serving.{ServesSilently};
-ghost use Rattle.ob_verdict.specs.Accepted.{SetFits};
 ghost use Rattle.std.specs.List.{All};
 
 use crate::engine::Engine;
@@ -22,10 +21,9 @@ use std::alloc::Global;
 
 // The places of the columns that are set, each with its cell.
 fn set_cells(alloc: Global, sets: &[Set], columns: &[Column]) -> Result<Vec<(u8, Cell)>, NoMemory>
-    requires few { length columns.now ≤ 32 }
-    requires fit { All (SetFits columns.now) sets.now }
+    requires { length columns.now ≤ 32 }
     ensures value { IfOk result (λ cells. cells.items ≡ set_cells sets.now columns.now) }
-    ensures fit { IfOk result (λ cells. FitsSets columns.now cells.items) }
+    ensures held { IfOk result (λ cells. All IsSet cells.items) }
 {
     let mut cells = Vec::new(alloc);
     for set in sets {

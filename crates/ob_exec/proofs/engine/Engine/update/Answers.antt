@@ -1,11 +1,13 @@
-use Rattle.std.proofs.Common.{◌≡◌, ◌-◌, ◌++◌, List, [], Ok, refl, sym, ◌∙◌, ap, append-nil, length, map}
+use Rattle.std.proofs.Common.{◌≡◌, ◌-◌, ◌++◌, ℕ, List, [], Ok, refl, sym, ◌∙◌, subst, ap, append-nil, length, map}
 use Rattle.std.specs.Option.{option_map}
+use Rattle.std.specs.List.{All}
 use Rattle.std.specs.Prelude.{count_by}
 use Rattle.std.proofs.lemmas.Option.{slice_get_within}
 use Rattle.ob_base.specs.declared.seen.End.TheVariants.{Whole}
 use Rattle.ob_base.specs.Schemas.{Columns}
 use Rattle.ob_script.specs.Parts.{rewrite_part}
 use Rattle.ob_flat.specs.declared.flat.Flat.{Flat}
+use Rattle.ob_row.specs.declared.cell.Cell.{Cell}
 use Rattle.ob_row.specs.Slots.{Slots, rows}
 use Rattle.ob_row.specs.Truth.{is_true, updated}
 use Rattle.ob_sql.specs.declared.stmt.Stmt.TheVariants.{Update}
@@ -15,10 +17,20 @@ use Rattle.ob_mean.specs.Verdict.{ended as seen_to}
 use Rattle.ob_exec.specs.declared.engine.Engine.{Engine}
 use Rattle.ob_exec.specs.declared.outcome.Outcome.{Outcome}
 use Rattle.ob_exec.specs.declared.outcome.Outcome.TheVariants.{Changed}
-use Rattle.ob_exec.proofs.ChangeLemmas.{update_alters}
+use Rattle.ob_exec.specs.Schemas.{IsSet}
+use Rattle.ob_exec.proofs.ChangeLemmas.{sets_found, update_alters}
+use Rattle.ob_exec.proofs.FoundLemmas.{heading_found}
 use Rattle.ob_exec.proofs.MutateLemmas.{mutated, unmutated}
 use Rattle.ob_exec.proofs.SilentLemmas.{serves_as, unasked}
 use Rattle.ob_exec.proofs.engine.Engine.update.Goals as goal
+
+pub update-requires-clause-sets : goal.update-requires-clause-sets
+update-requires-clause-sets g c =
+    let found = c.table_at-i.ensures in
+    let held = subst (λ (xs : List (ℕ × Cell)). All IsSet xs) (sym c.as_slice-3.ensures.value) c.in-Ok-set_cells.ensures.held in
+    sets_found c.args.self.now.public (length (g.S.BlockStore.state c.args.store.now).asked) c.args.table.now c.args.sets.now c.args.cond.now found.table.heading c.table_at-i.result.1.schema c.as_slice-3.result.now
+    c.requires.allowed (heading_found c.args.table.now c.args.self.now.public.tables c.table_at-i.result.0 found.table c.requires.agrees.tables.names found.here.get found.here.named) (ap (λ (f : Flat). f.schema) found.is)
+    (c.as_slice-3.ensures.value ∙ c.in-Ok-set_cells.ensures.value ∙ ap (set_cells c.args.sets.now) c.as_slice-2.ensures.value) held
 
 pub move_table-requires : goal.move_table-requires
 move_table-requires g c = slice_get_within c.args.self.now.public.tables c.table_at-i.result.0 c.table_at-i.ensures.table c.table_at-i.ensures.here.get
