@@ -21,10 +21,12 @@ use Rattle.ob_vault.specs.State.{RevState, World}
 use Rattle.ob_vault.specs.declared.region.Region.{Region}
 use Rattle.ob_vault.specs.declared.vault.Vault.{Vault}
 use Rattle.ob_vault.specs.Places.{at}
+use Rattle.ob_vault.specs.Tied.{Lives}
 use Rattle.ob_vault.specs.Calls.{Lasts, Went, one}
 use Rattle.ob_vault.proofs.Runs.{went_join}
 use Rattle.ob_vault.proofs.WordLemmas.{went_rests}
 use Rattle.ob_flat.specs.declared.fault.OpErr.{OpErr}
+use Rattle.ob_flat.specs.declared.flat.Flat.{Flat}
 use Rattle.ob_flat.specs.Discards.{Discards}
 use Rattle.ob_flat.proofs.Tables.{represents_lasts}
 use Rattle.ob_script.specs.Script.{whole_script}
@@ -179,6 +181,12 @@ held_removed pack r name (u ∷ ts) (x ∷ xs) (suc i) t old new names held last
     head false miss rest =
         subst (λ (b : Bool). AreHeld pack (u ∷ remove ts i) (if b then xs else x ∷ dropped_at name xs) new) (sym miss)
         (held.0, represents_lasts pack (flat_of u) (one r) old new lasts (apart 0 u refl (λ off. omega (arith, off))) x.held held.1, rest)
+
+-- its region is live
+pub lives_found : {R : Type 0} (state : R → RevState) (old : Engine R) (s s1 : StoreState) (i : ℕ) (table : Table) (flat : Flat) → Agrees state old s → slice_get old.public.tables i ≡ Some table
+    → flat ≡ flat_of table → (shape : Region) × Lives flat.region shape (at state old.vault s1)
+lives_found state old s s1 i table flat agrees get is =
+    let lives = (agrees.tables.each i table get).flat.made.lives.live in (_, record { live = ap (λ (f : Flat). (state old.vault.revs).live f.region) is ∙ lives })
 
 -- nothing was opened
 opens_discard : (r high : ℕ) → Opens (discard_at r) high high

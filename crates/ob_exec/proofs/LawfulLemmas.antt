@@ -97,3 +97,11 @@ lawful_now p m stmt result now before after uncounted is whole early asked ends 
     subst (λ (x : Seen). Lawful p m stmt x) (sym is)
     (plain p m stmt result now.end before after uncounted whole (subst (λ (x : Seen). RefusedEarly (refusal_now p m stmt) result x) is early)
     (asked ∙ ap (λ (x : Seen). before ++ script p (skeleton stmt) x) is) ends)
+
+-- nor before any access
+pub lawful_refused : (p : Public) (m : ℕ) (stmt : Stmt) (r : Refusal) → refusal_now p m stmt ≡ Some r → Lawful p m stmt (ended Static)
+lawful_refused p m stmt r now = record {
+  static = (λ is. subst (λ (o : Option Refusal). IsSome o) (sym now) refl, λ some. refl);
+  holds = tt;
+  cut = tt;
+}

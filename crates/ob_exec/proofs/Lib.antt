@@ -4,7 +4,6 @@ pub mod ToldLemmas
 pub mod SealLemmas
 pub mod HeldLemmas
 pub mod FoundLemmas
-pub mod ReadyLemmas
 pub mod SilentLemmas
 pub mod MutateLemmas
 pub mod CreateLemmas
@@ -12,4 +11,5 @@ pub mod InsertLemmas
 pub mod ChangeLemmas
 pub mod DropLemmas
 pub mod LawfulLemmas
+pub mod ServeLemmas
 pub mod EmitLemmas

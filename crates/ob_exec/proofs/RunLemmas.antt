@@ -84,8 +84,9 @@ pub opens_some : (part : List Access) (old pack : ℕ) → 1 ≤ pack → Opens 
 opens_some part old pack some = record { kept = omega (arith); some = λ any. omega (arith, some) }
 
 module _ {R : Type 0} (state : R → RevState) (skeleton : Skeleton) (old : Engine R) (s : StoreState) (agrees : Agrees state old s) (lives : old.ended ≡ false) where
-  refused_now : (r : Refusal) → IsEarly r → Ran state skeleton (Ok (Refused r)) old s (record old { seen = seen_to Static }) s
-  refused_now r early = record {
+  -- a refusal before any access
+  pub ran_refused : (r : Refusal) → IsEarly r → Ran state skeleton (Ok (Refused r)) old s (record old { seen = seen_to Static }) s
+  ran_refused r early = record {
     asked = sym (append-nil s.asked);
     later = later_refl s;
     keys = refl;
@@ -99,12 +100,6 @@ module _ {R : Type 0} (state : R → RevState) (skeleton : Skeleton) (old : Engi
       lives = lives;
     };
   }
-
-  -- a refusal before any access
-  pub ran_refused : (r : Refusal) (outcome : Outcome) (new : Engine R) → IsEarly r → outcome ≡ Refused r → new ≡ record old { seen = seen_to Static } → Ran state skeleton (Ok outcome) old s new s
-  ran_refused r outcome new early answer is =
-      subst (λ (e : Engine R). Ran state skeleton (Ok outcome) old s e s) (sym is)
-      (subst (λ (o : Outcome). Ran state skeleton (Ok o) old s (record old { seen = seen_to Static }) s) (sym answer) (refused_now r early))
 
 -- an answer after all accesses
 pub record IsAnswered (outcome : Outcome) : Type 0 where
