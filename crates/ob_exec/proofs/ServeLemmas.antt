@@ -164,3 +164,11 @@ module _ {R E : Type 0} (state : R → RevState) (grew cut : E → E → List Ev
           held = λ tables reads. tt;
         };
       }
+
+-- a statement by what its kind says of it
+pub served_as : {R E : Type 0} (state : R → RevState) (grew cut : E → E → List Event → Type 0) (faults : E → ℕ) (stmt other : Stmt) (old : Engine R) (s : StoreState) (out : E) (result : Result Outcome Stop)
+    (new : Engine R) (t : StoreState) → grew out out [] → other ≡ stmt → refusal_now old.public (length s.asked) stmt ≡ None → is_counted other ≡ false
+    → ((tables : Tables) → IsBare (accepted_answer (database tables) other)) → ServesSilently state other result old s new t → Serves state grew cut faults stmt result old s new t out out
+served_as state grew cut faults stmt other old s out result new t starts is now uncounted bare serves =
+    subst (λ (x : Stmt). Serves state grew cut faults x result old s new t out out) is
+    (serves_silently state grew cut faults other old s out starts result new t (ap (refusal_now old.public (length s.asked)) is ∙ now) uncounted bare serves)
