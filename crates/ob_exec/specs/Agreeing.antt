@@ -8,7 +8,7 @@ use Rattle.ob_vault.specs.State.{RevState, World}
 use Rattle.ob_vault.specs.Tied.{Ready}
 use Rattle.ob_vault.specs.Places.{at}
 use Rattle.ob_exec.specs.declared.engine.Engine.{Engine}
-use Rattle.ob_exec.specs.Engines.{IsFree, AreTables}
+use Rattle.ob_exec.specs.Engines.{AreSettings, IsFree, AreTables}
 
 -- what is public
 abbrev pub public_of : {R : Type 0} → Engine R → Public
@@ -42,5 +42,6 @@ world_of state e s = at state e.vault s
 pub record Agrees {R : Type 0} (state : R → RevState) (e : Engine R) (s : StoreState) : Type 0 where
   pub ready : Ready (world_of state e s)
   pub next : e.public.next_region ≡ e.vault.next
+  pub settings : AreSettings e.public
   pub room : IsFree e.public e.room
   pub tables : AreTables e.public.tables e.public.pack (world_of state e s)

@@ -17,26 +17,29 @@ flat_of t = record { schema = t.heading.schema; capacity = t.heading.capacity; r
 
 -- a table whose sizes are within their limits, and whose region is live and written
 pub record IsTable (pack : ℕ) (t : Table) (w : World) : Type 0 where
-  pub stored : IsStored t.heading.schema t.heading.capacity
+  pub stored : IsStored t.heading
   pub flat : IsFlat pack (flat_of t) w
 
 -- settings within their limits
-pub record IsConfig (config : Config) : Type 0 where
-  pub least : 4 ≤ config.buffer
-  pub most : config.buffer ≤ 65536
-  pub blocks : 3 * config.pack + 1 ≤ config.buffer
-  pub pack_least : 1 ≤ config.pack
-  pub pack_most : config.pack ≤ 16
-  pub depth_least : 1 ≤ config.depth
-  pub depth_most : config.depth ≤ 8
+pub record IsSettings (buffer depth pack : ℕ) : Type 0 where
+  pub blocks : 3 * pack + 1 ≤ buffer
+  pub most : buffer ≤ 65536
+  pub depth_least : 1 ≤ depth
+  pub depth_most : depth ≤ 8
+  pub pack_least : 1 ≤ pack
+  pub pack_most : pack ≤ 16
+
+abbrev pub IsConfig : Config → Type 0
+IsConfig config = IsSettings config.buffer config.depth config.pack
+
+abbrev pub AreSettings : Public → Type 0
+AreSettings p = IsSettings p.buffer p.depth p.pack
 
 -- the room has the rows of the buffer, all of them free
 pub record IsFree (public : Public) (room : RoomState) : Type 0 where
   pub idle : IsIdle 1024 room
   pub rows : room.rows ≡ public.buffer
   pub pack : room.pack ≡ public.pack
-  pub some : 1 ≤ public.pack
-  pub few : public.pack ≤ 16
 
 -- the tables, each in a region of its own, are all that lives in the vault; their names are distinct
 pub record AreTables (tables : List Table) (pack : ℕ) (w : World) : Type 0 where
@@ -49,3 +52,9 @@ pub record AreTables (tables : List Table) (pack : ℕ) (w : World) : Type 0 whe
 pub record IsAt (name : List ℕ) (i : ℕ) (t : Table) (tables : List Table) : Type 0 where
   pub get : slice_get tables i ≡ Some t
   pub named : t.heading.name ≡ name
+
+-- the place of a table by its name, and the table as the passes see it
+pub record IsFound (name : List ℕ) (i : ℕ) (flat : Flat) (tables : List Table) : Type 0 where
+  pub table : Table
+  pub here : IsAt name i table tables
+  pub is : flat ≡ flat_of table

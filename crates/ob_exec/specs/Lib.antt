@@ -4,5 +4,7 @@ pub mod Refusals
 pub mod Agreeing
 pub mod Opening
 pub mod Running
-pub mod Serving
+pub mod Memory
 pub mod Telling
+pub mod Selecting
+pub mod Serving

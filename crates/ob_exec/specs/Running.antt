@@ -1,5 +1,5 @@
 -- What a statement does, whatever it is answered.
-use Rattle.std.specs.Prelude.{◌≡◌, ◌⊎◌, ◌-◌, ℕ, Bool, true, false, List, [], ◌∷◌, ◌++◌, length, IsTrue, Result, Ok, Err, Option, Some, None}
+use Rattle.std.specs.Prelude.{◌≡◌, ◌⊎◌, ◌-◌, ◌<◌, ◌^◌, ⊤, ℕ, Bool, true, false, List, [], ◌∷◌, ◌++◌, length, IsTrue, Result, Ok, Err, Option, Some, None}
 use Rattle.std.specs.List.{list_all}
 use Rattle.ob_base.specs.declared.refusal.Refusal.{Refusal}
 use Rattle.ob_base.specs.declared.refusal.Stop.{Stop}
@@ -33,7 +33,7 @@ use Rattle.ob_exec.specs.declared.outcome.Outcome.TheVariants.{Created, Inserted
 use Rattle.ob_exec.specs.Agreeing.{Agrees, world_of}
 use Rattle.ob_exec.specs.Engines.{IsFree}
 use Rattle.ob_exec.specs.Opening.{Opens}
-use Rattle.ob_exec.specs.Refusals.{by_fault}
+use Rattle.ob_exec.specs.Refusals.{refused_end, by_fault}
 
 -- the answer, or the stop, that an error of a pass makes
 abbrev pub answer_of : OpErr → Result Outcome Stop
@@ -61,38 +61,26 @@ abbrev pub is_stop : {T E : Type 0} → Result T E → Bool
 is_stop (Ok x) = false
 is_stop (Err e) = true
 
--- it went to its end, or was refused before any access
-abbrev pub IsDone : End → Type 0
-IsDone end = (end ≡ Static) ⊎ (end ≡ Whole)
+-- whether it is the store that failed
+abbrev pub is_fault : Outcome → Bool
+is_fault (Refused r) = is_store_fault r
+is_fault _ = false
 
-abbrev pub refused_end : Refusal → End → ℕ → Type 0
-refused_end r end n = by_fault (is_store_fault r) (end ≡ Cut n) (IsDone end)
+-- how a statement of n accesses ends that is answered so: it is cut, after those that it asked, exactly where it was
+-- stopped or the store failed
+abbrev pub outcome_end : Outcome → (n : ℕ) → End
+outcome_end (Refused r) n = refused_end r n
+outcome_end _ n = Whole
 
--- a statement is cut, after the accesses that it asked, exactly where it was stopped or the store failed
-abbrev pub EndsBy : Result Outcome Stop → End → ℕ → Type 0
-EndsBy (Ok (Refused r)) end n = refused_end r end n
-EndsBy (Ok Created) end n = end ≡ Whole
-EndsBy (Ok Inserted) end n = end ≡ Whole
-EndsBy (Ok (Changed k)) end n = end ≡ Whole
-EndsBy (Ok (Deleted k)) end n = end ≡ Whole
-EndsBy (Ok Dropped) end n = end ≡ Whole
-EndsBy (Ok (Rows k)) end n = end ≡ Whole
-EndsBy (Err stop) end n = end ≡ Cut n
-
-abbrev pub refused_cause : Refusal → World → World → Type 0
-refused_cause r old new =
-    by_fault (is_store_fault r) (Rises old.store.faults new.store.faults × (Calm old → Calm new)) ((new.store.faults ≡ old.store.faults) × (Calm old → Calm new))
+abbrev pub result_end : Result Outcome Stop → (n : ℕ) → End
+result_end (Ok outcome) n = outcome_end outcome n
+result_end (Err stop) n = Cut n
 
 -- the store's faults rose exactly where the answer is that it failed; a session that ends as tampered ends with the
 -- read of that place, and a changed block was read only there, or its tag fits
 abbrev pub RunCause : Result Outcome Stop → World → World → Type 0
-RunCause (Ok (Refused r)) old new = refused_cause r old new
-RunCause (Ok Created) old new = (new.store.faults ≡ old.store.faults) × (Calm old → Calm new)
-RunCause (Ok Inserted) old new = (new.store.faults ≡ old.store.faults) × (Calm old → Calm new)
-RunCause (Ok (Changed k)) old new = (new.store.faults ≡ old.store.faults) × (Calm old → Calm new)
-RunCause (Ok (Deleted k)) old new = (new.store.faults ≡ old.store.faults) × (Calm old → Calm new)
-RunCause (Ok Dropped) old new = (new.store.faults ≡ old.store.faults) × (Calm old → Calm new)
-RunCause (Ok (Rows k)) old new = (new.store.faults ≡ old.store.faults) × (Calm old → Calm new)
+RunCause (Ok outcome) old new =
+    by_fault (is_fault outcome) (Rises old.store.faults new.store.faults) (new.store.faults ≡ old.store.faults) × (Calm old → Calm new)
 RunCause (Err (Tampered q x)) old new = (new.store.faults ≡ old.store.faults) × EndsRead q x new × (Calm old → Calm new ⊎ EndsAt q x new)
 RunCause (Err SinkFault) old new = (new.store.faults ≡ old.store.faults) × (Calm old → Calm new)
 RunCause (Err NoMemory) old new = (new.store.faults ≡ old.store.faults) × (Calm old → Calm new)
@@ -117,33 +105,30 @@ pub record Ran {R : Type 0} (state : R → RevState) (skeleton : Skeleton) (resu
   pub asked : t.asked ≡ s.asked ++ script old.public skeleton new.seen
   pub later : Later s t
   pub keys : new.vault.keys ≡ old.vault.keys
-  pub ends : EndsBy result new.seen.end (length t.asked - length s.asked)
+  pub ends : new.seen.end ≡ result_end result (length t.asked - length s.asked)
   pub cause : RunCause result (world_of state old s) (world_of state new t)
   pub room : IsFree old.public new.room
   pub opened : Opens (script old.public skeleton new.seen) old.room.high new.room.high
   pub goes_on : Continues state skeleton result old new t
 
--- an answer of rows is its header, its rows and their number; any other emits nothing
+-- an answer of rows is its header, its rows and their number
 abbrev pub is_row : Event → Bool
 is_row (Head labels) = false
 is_row (Row cells) = true
 is_row (Close k) = false
 
-pub record IsAnswer (k : ℕ) (events : List Event) : Type 0 where
-  pub labels : List (List ℕ)
+pub record IsAnswer (labels : List (List ℕ)) (k : ℕ) (events : List Event) : Type 0 where
   pub rows : List Event
   pub are_rows : IsTrue (list_all is_row rows)
   pub count : length rows ≡ k
+  pub few : k < 2 ^ 32
   pub is : events ≡ Head labels ∷ (rows ++ Close k ∷ [])
 
-abbrev pub Emits : Outcome → List Event → Type 0
-Emits (Rows k) events = IsAnswer k events
-Emits Created events = events ≡ []
-Emits Inserted events = events ≡ []
-Emits (Changed k) events = events ≡ []
-Emits (Deleted k) events = events ≡ []
-Emits Dropped events = events ≡ []
-Emits (Refused r) events = events ≡ []
+-- any other emits nothing, but for what was emitted until the store failed
+abbrev pub Emits : (labels : List (List ℕ)) → Outcome → List Event → Type 0
+Emits labels (Rows k) events = IsAnswer labels k events
+Emits labels (Refused r) events = by_fault (is_store_fault r) ⊤ (events ≡ [])
+Emits labels _ events = events ≡ []
 
 -- a stop by the sink comes only where a call of the emitter failed, and always where one did
 abbrev pub SinkCause : Result Outcome Stop → ℕ → ℕ → Type 0
@@ -154,9 +139,9 @@ SinkCause (Err NoMemory) old new = new ≡ old
 SinkCause (Err SourceFault) old new = ⊥
 SinkCause (Err InputLimit) old new = ⊥
 
--- nothing was emitted, and no emitter failed
+-- what a statement may answer that emits nothing, and meets no emitter
 abbrev pub IsSilent : Result Outcome Stop → Type 0
-IsSilent (Ok outcome) = Emits outcome []
+IsSilent (Ok outcome) = Emits [] outcome []
 IsSilent (Err SinkFault) = ⊥
 IsSilent (Err (Tampered region place)) = Unit {0}
 IsSilent (Err NoMemory) = Unit {0}

@@ -1,24 +1,78 @@
--- The statements that are served so far.
-use Rattle.std.specs.Prelude.{◌≡◌, ℕ, List, [], ◌∷◌, None}
-use Rattle.ob_sql.specs.declared.stmt.Listed.TheVariants.{CountAll}
-use Rattle.ob_sql.specs.declared.stmt.SelectTotals.{SelectTotals}
+-- What a call of the engine does.
+use Rattle.std.specs.Prelude.{◌≡◌, ◌⊎◌, ℕ, List, Result, Ok, Err, IfOk, OnErr, IfErr, length}
+use Rattle.ob_base.specs.declared.refusal.Stop.{Stop}
+use Rattle.ob_base.specs.declared.refusal.Stop.TheVariants.{NoMemory}
+use Rattle.ob_base.specs.declared.seen.End.TheVariants.{Static, AfterCount}
+use Rattle.ob_base.specs.Events.{Event}
+use Rattle.ob_store.specs.State.{StoreState}
+use Rattle.ob_vault.specs.State.{RevState}
 use Rattle.ob_sql.specs.declared.stmt.Stmt.{Stmt}
-use Rattle.ob_sql.specs.declared.stmt.Stmt.TheVariants.{Create, Insert, Update, Delete, Drop as DropTable, SelectRows as RowsStmt, SelectTotals as TotalsStmt}
+use Rattle.ob_sql.specs.Skeleton.{skeleton}
+use Rattle.ob_mean.specs.Lawful.{Lawful}
+use Rattle.ob_mean.specs.Verdict.{Tables, verdict, ended as seen_to}
+use Rattle.ob_exec.specs.declared.engine.Engine.{Engine}
+use Rattle.ob_exec.specs.declared.outcome.Outcome.{Outcome}
+use Rattle.ob_exec.specs.Running.{Ran, RefusedEarly, Emits, SinkCause, IsSilent, refusal_now}
+use Rattle.ob_exec.specs.Memory.{LacksMemory}
+use Rattle.ob_exec.specs.Telling.{KeepsSealed, ReadsTrue, ReadsTrueUntil, SeenCut, Told, is_refused, IsNotTampered, Partly, Emitted, answer_labels}
 
--- SELECT COUNT(*) of a whole table
-pub record IsCount (s : SelectTotals) : Type 0 where
-  pub items : s.items ≡ CountAll ∷ []
-  pub everything : s.cond ≡ None
-  pub ungrouped : s.group ≡ None
+-- what an answer emitted
+pub record Answered {R E : Type 0} (state : R → RevState) (grew : E → E → List Event → Type 0)
+    (stmt : Stmt) (outcome : Outcome) (old : Engine R) (s t : StoreState) (out_old out_new : E) : Type 0 where
+  pub events : List Event
+  pub took : grew out_old out_new events
+  pub emits : Emits (answer_labels stmt old.public) outcome events
+  pub told : (tables : Tables) → ReadsTrue state old s t tables
+      → Emitted stmt old.public (length s.asked) tables outcome events
 
-abbrev pub IsServed : Stmt → Type 0
-IsServed (Create table columns capacity) = Unit {0}
-IsServed (Insert table columns values) = Unit {0}
-IsServed (Update table sets cond) = ⊥
-IsServed (Delete table cond) = ⊥
-IsServed (DropTable table) = ⊥
-IsServed (RowsStmt s) = ⊥
-IsServed (TotalsStmt s) = IsCount s
+-- what was emitted until a stop
+pub record Stopped {R E : Type 0} (state : R → RevState) (grew cut : E → E → List Event → Type 0)
+    (stmt : Stmt) (old : Engine R) (s : StoreState) (new : Engine R) (t : StoreState)
+    (out_old out_new : E) : Type 0 where
+  pub events : List Event
+  pub ends : grew out_old out_new events ⊎ cut out_old out_new events
+  pub told : (tables : Tables) → ReadsTrueUntil state old s new t tables
+      → Partly (answer_labels stmt old.public) (verdict old.public (length s.asked) tables stmt) events
 
-abbrev pub count_of : List ℕ → Stmt
-count_of name = TotalsStmt (record { items = CountAll ∷ []; table = name; cond = None; group = None })
+-- what is known of a statement by its meaning
+pub record Means {R : Type 0} (state : R → RevState) (stmt : Stmt) (result : Result Outcome Stop)
+    (old : Engine R) (s : StoreState) (new : Engine R) (t : StoreState) : Type 0 where
+  -- the answer, what is seen and the tables afterwards are those of the statement over the tables before
+  pub told : (tables : Tables) → ReadsTrue state old s t tables
+      → IfOk result (λ outcome. Told state stmt (length s.asked) tables outcome old new t)
+  pub honest : (tables : Tables) → ReadsTrue state old s t tables → IfErr result IsNotTampered
+  -- so is what is seen until a stop
+  pub held : (tables : Tables) → ReadsTrueUntil state old s new t tables
+      → IfErr result (λ stop. SeenCut (is_refused stop) stmt (length s.asked) tables old new t)
+
+-- a statement was carried out
+pub record Serves {R E : Type 0} (state : R → RevState) (grew cut : E → E → List Event → Type 0)
+    (faults : E → ℕ) (stmt : Stmt) (result : Result Outcome Stop)
+    (old : Engine R) (s : StoreState) (new : Engine R) (t : StoreState)
+    (out_old out_new : E) : Type 0 where
+  -- whatever the store answers, its accesses are those of what is public, its skeleton and what is seen of it
+  pub ran : Ran state (skeleton stmt) result old s new t
+  -- it is refused before any access exactly where its meaning says so
+  pub early : RefusedEarly (refusal_now old.public (length s.asked) stmt) result new.seen
+  -- what is seen may be seen
+  pub lawful : Lawful old.public (length s.asked) stmt new.seen
+  -- want of memory tells nothing of rows
+  pub memory : result ≡ Err NoMemory → LacksMemory old.public stmt new.seen s t
+  -- nothing comes to lie in clear
+  pub seals : KeepsSealed state old s new t
+  pub answered : IfOk result (λ outcome. Answered state grew stmt outcome old s t out_old out_new)
+  pub stopped : OnErr result (Stopped state grew cut stmt old s new t out_old out_new)
+  pub sink : SinkCause result (faults out_old) (faults out_new)
+  pub means : Means state stmt result old s new t
+
+-- the same of a statement that emits nothing and of which nothing is counted, once it isn't refused before any access
+pub record ServesSilently {R : Type 0} (state : R → RevState) (stmt : Stmt) (result : Result Outcome Stop)
+    (old : Engine R) (s : StoreState) (new : Engine R) (t : StoreState) : Type 0 where
+  pub ran : Ran state (skeleton stmt) result old s new t
+  pub started : new.seen.end ≡ Static → ⊥
+  pub uncounted : new.seen.end ≡ AfterCount → ⊥
+  pub plain : new.seen ≡ seen_to new.seen.end
+  pub silent : IsSilent result
+  pub memory : result ≡ Err NoMemory → LacksMemory old.public stmt new.seen s t
+  pub seals : KeepsSealed state old s new t
+  pub means : Means state stmt result old s new t

@@ -1,16 +1,15 @@
 -- What the tables of an engine hold, and what a statement means for them.
-use Rattle.std.specs.Prelude.{Bool, true, false, ◌≡◌, ◌-◌, ⊤, ℕ, List, [], ◌∷◌, length, Result, Ok, Err}
+use Rattle.std.specs.Prelude.{Bool, true, false, ◌≡◌, ◌-◌, ⊤, ℕ, List, [], ◌∷◌, length, IsTrue, None}
 use Rattle.ob_base.specs.declared.config.Public.{Public}
-use Rattle.ob_base.specs.declared.refusal.Refusal.{Refusal}
-use Rattle.ob_base.specs.Refusals.{is_store_fault}
 use Rattle.ob_exec.specs.Refusals.{by_fault}
 use Rattle.ob_base.specs.declared.refusal.Stop.{Stop}
-use Rattle.ob_base.specs.declared.refusal.Stop.TheVariants.{Tampered, SourceFault, SinkFault, NoMemory, InputLimit}
+use Rattle.ob_base.specs.declared.refusal.Stop.TheVariants.{Tampered}
 use Rattle.ob_base.specs.declared.schema.Table.{Table}
 use Rattle.ob_base.specs.Events.{Event}
 use Rattle.ob_base.specs.Schemas.{Columns}
 use Rattle.ob_store.specs.State.{StoreState}
 use Rattle.ob_vault.specs.State.{RevState, World}
+use Rattle.ob_vault.specs.Tied.{Calm, IsUnfit}
 use Rattle.ob_vault.specs.Calls.{Seals}
 use Rattle.ob_flat.specs.Flats as F
 use Rattle.ob_sql.specs.declared.stmt.Stmt.{Stmt}
@@ -28,6 +27,8 @@ use Rattle.ob_exec.specs.declared.outcome.Outcome.{Outcome}
 use Rattle.ob_exec.specs.declared.outcome.Outcome.TheVariants.{Created, Inserted, Changed, Deleted, Dropped, Rows, Refused}
 use Rattle.ob_exec.specs.Engines.{flat_of}
 use Rattle.ob_exec.specs.Agreeing.{world_of}
+use Rattle.ob_exec.specs.Running.{is_fault}
+use Rattle.ob_verdict.specs.Laws.{AreInPlace}
 
 -- ---- the tables
 -- each table's region holds the slots of the table in place that stands beside it
@@ -37,9 +38,23 @@ AreHeld pack [] (held ∷ tables) w = ⊥
 AreHeld pack (t ∷ ts) [] w = ⊥
 AreHeld pack (t ∷ ts) (held ∷ tables) w = (held.heading ≡ t.heading) × F.Represents pack (flat_of t) held.held w × AreHeld pack ts tables w
 
--- an engine and its store hold these tables in place
+-- an engine and its store hold these tables in place, whose primary keys are distinct
 pub record Represents {R : Type 0} (state : R → RevState) (e : Engine R) (s : StoreState) (tables : Tables) : Type 0 where
   pub held : AreHeld e.public.pack e.public.tables tables (world_of state e s)
+  pub in_place : AreInPlace tables
+
+-- the store told what it holds, the engine and it held these tables, and each block that was read is the one written last
+pub record ReadsTrue {R : Type 0} (state : R → RevState) (old : Engine R) (s t : StoreState) (tables : Tables) : Type 0 where
+  pub tells : IsTrue s.tells
+  pub held : Represents state old s tables
+  pub nolie : t.lie ≡ None
+
+-- the same until a statement ended, maybe with the first block that isn't and doesn't fit either
+pub record ReadsTrueUntil {R : Type 0} (state : R → RevState) (old : Engine R) (s : StoreState) (new : Engine R) (t : StoreState) (tables : Tables) : Type 0 where
+  pub tells : IsTrue s.tells
+  pub held : Represents state old s tables
+  pub calm : Calm (world_of state old s)
+  pub unfit : IsUnfit (world_of state new t)
 
 -- ---- the answer
 -- the outcome of a statement's answer
@@ -78,32 +93,24 @@ pub record Kept {R : Type 0} (state : R → RevState) (stmt : Stmt) (m : ℕ) (t
   pub seen : SeenCut true stmt m tables old new t
   pub held : Represents state new t tables
 
-abbrev pub told_refusal : Refusal → (whole cut : Type 0) → Type 0
-told_refusal r whole cut = by_fault (is_store_fault r) cut whole
+-- a statement that was answered
+abbrev pub Told : {R : Type 0} → (R → RevState) → Stmt → (m : ℕ) → Tables → Outcome → (old new : Engine R) → StoreState → Type 0
+Told state stmt m tables outcome old new t = by_fault (is_fault outcome) (Kept state stmt m tables old new t) (Meant state stmt m tables outcome old new t)
 
--- the first for an answer, the second for one that the store cut off
-abbrev pub told_outcome : Outcome → (whole cut : Type 0) → Type 0
-told_outcome (Refused r) whole cut = told_refusal r whole cut
-told_outcome Created whole cut = whole
-told_outcome Inserted whole cut = whole
-told_outcome (Changed n) whole cut = whole
-told_outcome (Deleted n) whole cut = whole
-told_outcome Dropped whole cut = whole
-told_outcome (Rows k) whole cut = whole
+-- whether the access that a statement was stopped at is the last, and was not carried out
+abbrev pub is_refused : Stop → Bool
+is_refused (Tampered region place) = true
+is_refused _ = false
 
--- no block was other than what was written: nothing is refused as tampered
-abbrev pub told_stop : Stop → (cut : Type 0) → Type 0
-told_stop (Tampered region place) cut = ⊥
-told_stop SinkFault cut = cut
-told_stop NoMemory cut = cut
-told_stop SourceFault cut = ⊥
-told_stop InputLimit cut = ⊥
-
-abbrev pub Told : {R : Type 0} → (R → RevState) → Stmt → (m : ℕ) → Tables → Result Outcome Stop → (old new : Engine R) → StoreState → Type 0
-Told state stmt m tables (Ok outcome) old new t = told_outcome outcome (Meant state stmt m tables outcome old new t) (Kept state stmt m tables old new t)
-Told state stmt m tables (Err stop) old new t = told_stop stop (SeenCut false stmt m tables old new t)
+-- a read that gave what was written is not refused as tampered
+abbrev pub IsNotTampered : Stop → Type 0
+IsNotTampered stop = is_refused stop ≡ false
 
 -- ---- what was emitted
+-- the labels of a statement's answer
+abbrev pub answer_labels : Stmt → Public → List (List ℕ)
+answer_labels stmt p = labels_of stmt (headings_of p.tables)
+
 -- a first part of what an answer emits
 pub record Partly (labels : List (List ℕ)) (answer : Answer) (events : List Event) : Type 0 where
   pub whole : List Event
@@ -111,10 +118,11 @@ pub record Partly (labels : List (List ℕ)) (answer : Answer) (events : List Ev
   pub begun : Begun events whole
 
 -- the events of an answer, or of one that the store cut off
-abbrev pub Emitted : Stmt → Public → (m : ℕ) → Tables → Result Outcome Stop → List Event → Type 0
-Emitted stmt p m tables (Ok outcome) events =
-    told_outcome outcome (Prints (labels_of stmt (headings_of p.tables)) (verdict p m tables stmt) events) (Unfinished (labels_of stmt (headings_of p.tables)) (verdict p m tables stmt) events)
-Emitted stmt p m tables (Err stop) events = Partly (labels_of stmt (headings_of p.tables)) (verdict p m tables stmt) events
+abbrev pub Emitted : Stmt → Public → (m : ℕ) → Tables → Outcome → List Event → Type 0
+Emitted stmt p m tables outcome events =
+    by_fault (is_fault outcome)
+    (Unfinished (answer_labels stmt p) (verdict p m tables stmt) events)
+    (Prints (answer_labels stmt p) (verdict p m tables stmt) events)
 
 -- ---- nothing lies in clear
 -- blocks of this many rows or dummies are good in every region

@@ -1,15 +1,18 @@
 //! The engine: statements over sealed tables in a block store that others watch and change.
 #![tactic(auto)]
 
-mod counting;
 mod creating;
+mod deleting;
+mod dropping;
 mod engine;
 mod inserting;
 mod outcome;
+mod rows;
 mod run;
-mod serving;
+mod selecting;
 mod tables;
+mod totals;
+mod updating;
 
 pub use engine::Engine;
 pub use outcome::Outcome;
-pub use serving::is_served;

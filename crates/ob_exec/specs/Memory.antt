@@ -1,0 +1,50 @@
+-- Where want of memory may stop a statement.
+use Rattle.std.specs.Prelude.{◌≡◌, ◌⊎◌, ℕ, Bool, true, false, List, [], ◌∷◌, ◌++◌, IsTrue, IsSome}
+use Rattle.std.specs.List.{list_all}
+use Rattle.ob_base.specs.declared.access.Access.{Access}
+use Rattle.ob_base.specs.declared.access.Access.TheVariants.{Make, Read, Write, Discard}
+use Rattle.ob_base.specs.declared.config.Public.{Public}
+use Rattle.ob_base.specs.declared.seen.Seen.{Seen}
+use Rattle.ob_sql.specs.declared.stmt.Stmt.{Stmt}
+use Rattle.ob_sql.specs.declared.stmt.Stmt.TheVariants.{SelectRows as RowsStmt, SelectTotals as TotalsStmt}
+use Rattle.ob_sql.specs.Skeleton.{skeleton}
+use Rattle.ob_script.specs.Script.{whole_script}
+use Rattle.ob_store.specs.State.{StoreState}
+
+abbrev pub is_make : Access → Bool
+is_make (Make region blocks len) = true
+is_make _ = false
+
+-- a read or a discard
+abbrev pub is_reading : Access → Bool
+is_reading (Read region place) = true
+is_reading (Discard region) = true
+is_reading _ = false
+
+abbrev pub starts_with_make : List Access → Bool
+starts_with_make [] = false
+starts_with_make (a ∷ rest) = is_make a
+
+abbrev pub ends_with_make : List Access → Bool
+ends_with_make [] = false
+ends_with_make (a ∷ []) = is_make a
+ends_with_make (a ∷ b ∷ rest) = ends_with_make (b ∷ rest)
+
+-- before the first access, at a make or just before it
+abbrev pub AtMake : (done rest : List Access) → Type 0
+AtMake done rest = (done ≡ []) ⊎ IsTrue (ends_with_make done) ⊎ IsTrue (starts_with_make rest)
+
+-- where rows are emitted: of a SELECT of rows once it has counted and nothing is left to be written, of one of totals once
+-- all was read
+abbrev pub AtEmission : Stmt → Seen → (rest : List Access) → Type 0
+AtEmission (RowsStmt s) seen rest = IsSome seen.k × IsTrue (list_all is_reading rest)
+AtEmission (TotalsStmt s) seen rest = rest ≡ []
+AtEmission _ seen rest = ⊥
+
+-- what was asked of a statement that is stopped so, and what would have followed
+pub record LacksMemory (p : Public) (stmt : Stmt) (seen : Seen) (s t : StoreState) : Type 0 where
+  pub done : List Access
+  pub rest : List Access
+  pub split : done ++ rest ≡ whole_script p (skeleton stmt) seen
+  pub asked : t.asked ≡ s.asked ++ done
+  pub place : AtMake done rest ⊎ AtEmission stmt seen rest

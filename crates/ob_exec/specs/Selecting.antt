@@ -1,0 +1,258 @@
+-- A SELECT of rows from one region, a table's or a joined one: its count, its plans, and the rows that are emitted.
+use Rattle.std.specs.Prelude.{◌≡◌, ◌⊎◌, ◌<◌, ◌≤◌, ◌+◌, ◌-◌, ◌^◌, ⊤, ⊥, ℕ, Bool, List, [], ◌∷◌, ◌++◌, map, length, IsTrue, IsSome, None, Some, Option, Result, Ok, Err, OnOk, OnErr, IfOk, IfErr, MatchResult, nat_le}
+use Rattle.ob_base.specs.declared.access.Access.{Access}
+use Rattle.ob_base.specs.declared.config.Plan.{Plan}
+use Rattle.ob_base.specs.declared.config.Plan.TheVariants.{Small, Continuous, Hash}
+use Rattle.ob_base.specs.declared.config.Public.{Public}
+use Rattle.ob_base.specs.declared.refusal.Refusal.{Refusal}
+use Rattle.ob_base.specs.declared.refusal.Refusal.TheVariants.{NotConsecutive, Overflow}
+use Rattle.ob_base.specs.declared.seen.Seen.{Seen}
+use Rattle.ob_base.specs.declared.seen.End.TheVariants.{Whole, AfterCount}
+use Rattle.ob_base.specs.declared.shown.Shown.{Shown}
+use Rattle.ob_base.specs.Events.{Event, IsEmitted, IsHalted, row_events}
+use Rattle.ob_base.specs.Limits.{buffered}
+use Rattle.ob_base.specs.Plans.{choose}
+use Rattle.ob_base.specs.Schemas.{width}
+use Rattle.ob_room.specs.RoomState.{RoomState}
+use Rattle.ob_row.specs.Condition.{Condition}
+use Rattle.ob_row.specs.Results.{result_slots}
+use Rattle.ob_row.specs.Rows.{printed}
+use Rattle.ob_row.specs.Slots.{Slots, rows, selected}
+use Rattle.ob_row.specs.Truth.{is_true}
+use Rattle.ob_script.specs.declared.extent.Extent.{Extent}
+use Rattle.ob_script.specs.Script.{blocks_of, select_part}
+use Rattle.ob_vault.specs.State.{World}
+use Rattle.ob_vault.specs.Tied.{Ready, IsUnfit}
+use Rattle.ob_vault.specs.Calls.{Seals}
+use Rattle.ob_vault.specs.Words.{IsHonest}
+use Rattle.ob_flat.specs.declared.fault.OpErr.{OpErr}
+use Rattle.ob_flat.specs.declared.fault.OpErr.TheVariants.{Failed, Tampered, Sink, NoMemory}
+use Rattle.ob_flat.specs.declared.flat.Flat.{Flat}
+use Rattle.ob_flat.specs.Flats.{IsSized, IsFlat, Represents}
+use Rattle.ob_flat.specs.Passes.{SinkCause}
+use Rattle.ob_flat.specs.Words.{Ran}
+use Rattle.ob_emit.specs.Emitting.{AreColumns, header}
+use Rattle.ob_mean.specs.Replay.{done_of, held_if}
+use Rattle.ob_mean.specs.Verdict.{bucket_size, rows_refusal, seen_rows, plan_for}
+use Rattle.ob_verdict.specs.Laws.{last_plan}
+use Rattle.ob_exec.specs.declared.selecting.Query.{Query}
+use Rattle.ob_exec.specs.declared.selecting.Selected.{Selected}
+use Rattle.ob_exec.specs.declared.selecting.Selected.TheVariants.{Rows, Refused}
+use Rattle.ob_exec.specs.Engines.{AreSettings, IsFree}
+use Rattle.ob_exec.specs.Memory.{AtMake, is_reading}
+use Rattle.ob_exec.specs.Telling.{AcceptsRows}
+use Rattle.std.specs.List.{list_all}
+
+-- what is public, the region as a table, the condition, the places of the columns that are printed, and how many
+-- accesses will follow that room is kept for
+pub record Selection : Type 0 where
+  pub public : Public
+  pub flat : Flat
+  pub condition : Condition
+  pub cols : List ℕ
+  pub ending : ℕ
+
+abbrev pub selection_of : Public → Query → Selection
+selection_of public query = record {
+  public = public;
+  flat = query.flat.now;
+  condition = query.pred.now;
+  cols = query.cols.now;
+  ending = query.ending;
+}
+
+-- its region, and the places of the selected slots
+abbrev pub extent : Selection → Extent
+extent q = record { region = q.flat.region; slots = q.flat.capacity; width = width q.flat.schema }
+
+abbrev pub places : Selection → Slots → List ℕ
+places q slots = selected (is_true q.condition) slots
+
+-- what is asked, by what is seen, where g is the next region
+abbrev pub selection_script : Selection → Seen → (g : ℕ) → List Access
+selection_script q seen g = select_part q.public seen g (extent q) []
+
+-- the accesses until the rows are counted, and until the first plan's result has been read back
+abbrev pub counted_after : Selection → ℕ
+counted_after q = blocks_of q.public (extent q)
+
+abbrev pub walked_after : Selection → Seen → ℕ
+walked_after q seen = length (selection_script q (record seen { then = None }) 0) - 1
+
+-- ---- the meaning
+abbrev pub selected_as : Option Refusal → (k : ℕ) → Selected
+selected_as None k = Rows k
+selected_as (Some r) k = Refused r
+
+abbrev pub answer_of : Selection → Slots → Selected
+answer_of q slots = selected_as (rows_refusal q.public (places q slots)) (length (places q slots))
+
+-- what is seen of it where it comes to its end
+abbrev pub seen_of : Selection → Slots → Seen
+seen_of q slots = seen_rows q.public (length slots) (places q slots)
+
+-- the slots of its last result
+abbrev pub result_of : Selection → Slots → Slots
+result_of q slots =
+    let chosen = places q slots in
+    result_slots (last_plan q.public (plan_for q.public (length slots) chosen) chosen)
+    (length chosen) (bucket_size q.public) (is_true q.condition) slots
+
+-- its rows as they are printed, in order of their slots; none where none is selected
+abbrev pub shown_where : (places : List ℕ) → List (List Shown) → List (List Shown)
+shown_where [] shown = []
+shown_where (i ∷ is) shown = shown
+
+abbrev pub shown_rows : Selection → Slots → List (List Shown)
+shown_rows q slots = shown_where (places q slots) (map (printed q.cols) (rows (result_of q slots)))
+
+-- all that is emitted: nothing of what is refused
+abbrev pub emitted_unless : Option Refusal → List Event → List Event
+emitted_unless None events = events
+emitted_unless (Some r) events = []
+
+abbrev pub answer_events : Selection → Slots → List Event
+answer_events q slots =
+    emitted_unless (rows_refusal q.public (places q slots))
+    (header q.flat.schema q.cols ++ row_events (shown_rows q slots))
+
+-- ---- what is known of the slots
+-- those of a table, each block of which was read as it was written
+pub record SelectsToEnd (q : Selection) (old new : World) : Type 0 where
+  pub tells : IsTrue old.store.tells
+  pub slots : Slots
+  pub is : Represents q.public.pack q.flat slots old
+  pub nolie : new.store.lie ≡ None
+
+-- and of one that was read so until the selection halted, maybe at a changed block
+pub record SelectsToHalt (q : Selection) (old new : World) : Type 0 where
+  pub tells : IsTrue old.store.tells
+  pub slots : Slots
+  pub is : Represents q.public.pack q.flat slots old
+  pub nolie : old.store.lie ≡ None
+  pub unfit : IsUnfit new
+
+-- ---- what may be held of k, the plan and the one after it, whatever the rows are
+pub record IsPlanOf (q : Selection) (k : ℕ) (plan : Plan) : Type 0 where
+  pub some : 1 ≤ k
+  pub consecutive : Bool
+  pub chosen : plan ≡ choose q.public.plan (buffered q.public.pack q.public.buffer) q.flat.capacity k consecutive
+
+abbrev pub MayHold : Selection → (k : Option ℕ) → (plan second : Option Plan) → Type 0
+MayHold q None None None = ⊤
+MayHold q (Some k) None None = (k ≤ q.flat.capacity) × ((k ≡ 0) ⊎ (q.public.plan ≡ Some Continuous))
+MayHold q (Some k) (Some plan) None = (k ≤ q.flat.capacity) × IsPlanOf q k plan
+MayHold q (Some k) (Some Hash) (Some Small) = (k ≤ q.flat.capacity) × IsPlanOf q k Hash × (q.public.plan ≡ None)
+MayHold q _ _ _ = ⊥
+
+-- so many rows were emitted, and none where there is no plan
+pub record EndsCounted (k : ℕ) (seen : Seen) : Type 0 where
+  pub count : seen.k ≡ Some k
+  pub end : seen.end ≡ Whole
+  pub none : seen.plan ≡ None → k ≡ 0
+
+-- a forced Continuous refused more rows than none, after the count
+pub record EndsUnplanned (q : Selection) (seen : Seen) : Type 0 where
+  pub k : ℕ
+  pub some : 1 ≤ k
+  pub count : seen.k ≡ Some k
+  pub forced : q.public.plan ≡ Some Continuous
+  pub plan : seen.plan ≡ None
+  pub end : seen.end ≡ AfterCount
+
+-- a forced Hash left a row out
+pub record EndsOverflowed (q : Selection) (seen : Seen) : Type 0 where
+  pub forced : q.public.plan ≡ Some Hash
+  pub plan : seen.plan ≡ Some Hash
+  pub second : seen.then ≡ None
+  pub end : seen.end ≡ Whole
+
+abbrev pub EndsAs : Selection → Selected → Seen → Type 0
+EndsAs q (Rows k) seen = EndsCounted k seen
+EndsAs q (Refused NotConsecutive) seen = EndsUnplanned q seen
+EndsAs q (Refused (Overflow i)) seen = EndsOverflowed q seen
+EndsAs q (Refused _) seen = ⊥
+
+-- what is held was reached within n accesses
+pub record Reaches (q : Selection) (seen : Seen) (n : ℕ) : Type 0 where
+  pub count : IsSome seen.k → counted_after q ≤ n
+  pub walk : IsSome seen.then → walked_after q seen ≤ n
+
+-- what is held after n accesses, of which the last was carried out or not, is what is seen of these slots
+pub record HoldsSeen (q : Selection) (slots : Slots) (failed : Bool) (n : ℕ) (seen : Seen) : Type 0 where
+  pub k : seen.k ≡ held_if (nat_le (counted_after q) (done_of failed n)) (seen_of q slots).k
+  pub plan : seen.plan ≡ held_if (nat_le (counted_after q) (done_of failed n)) (seen_of q slots).plan
+  pub second : seen.then
+      ≡ held_if (nat_le (walked_after q (seen_of q slots)) (done_of failed n)) (seen_of q slots).then
+
+-- ---- what a selection asks
+pub record MaySelect (q : Selection) (room : RoomState) (w : World) : Type 0 where
+  pub settings : AreSettings q.public
+  pub room : IsFree q.public room
+  pub ready : Ready w
+  pub spare : counted_after q + q.ending ≤ w.store.spare
+  pub few : length w.store.asked < 2 ^ 63 + 2 ^ 58
+  pub flat : IsFlat q.public.pack q.flat w
+  pub size : IsSized q.flat.schema q.flat.capacity
+  pub columns : AreColumns q.flat.schema q.cols
+
+-- ---- what it does
+-- the error of an access, which was not carried out
+abbrev pub is_of_access : OpErr → Bool
+is_of_access Failed = true
+is_of_access (Tampered region place) = true
+is_of_access Sink = false
+is_of_access NoMemory = false
+
+-- regions from this number on
+abbrev pub from : ℕ → ℕ → Type 0
+from g region = g ≤ region
+
+-- want of memory comes before or at a make, or once it has counted and nothing is left to be written
+pub record LacksMemoryIn (q : Selection) (seen : Seen) (old new : World) : Type 0 where
+  pub done : List Access
+  pub rest : List Access
+  pub split : done ++ rest ≡ selection_script q seen old.vault.next
+  pub asked : new.store.asked ≡ old.store.asked ++ done
+  pub some : done ≡ [] → ⊥
+  pub place : AtMake done rest ⊎ (IsSome seen.k × IsTrue (list_all is_reading rest))
+
+-- rows were emitted, or nothing of what was refused
+abbrev pub EmitsSelected : {E : Type 0} → (grew : E → E → List Event → Type 0) → Selection → Selected → (old new : World) → (out_old out_new : E) → Type 0
+EmitsSelected grew q (Rows k) old new out_old out_new =
+    IsEmitted grew (header q.flat.schema q.cols) (λ (s : SelectsToEnd q old new). shown_rows q s.slots) 0 k out_old out_new
+EmitsSelected grew q (Refused r) old new out_old out_new = out_new ≡ out_old
+
+-- blocks of rows are sealed where they lie
+abbrev pub SealsRows : (pack : ℕ) → (old new : World) → Type 0
+SealsRows pack old new = (good : ℕ → List ℕ → Bool) → AcceptsRows good pack → Seals good old new
+
+-- all rows of the room are free again, and one at least was open
+pub record UsesRoom (old new : RoomState) : Type 0 where
+  pub same : new ≡ record old { high = new.high }
+  pub kept : old.high ≤ new.high
+  pub some : 1 ≤ new.high
+
+-- the rows of a region were counted, put into a result or two, and emitted; no region is left but those that there were
+pub record SelectsFrom {E : Type 0} (grew cut : E → E → List Event → Type 0) (faults : E → ℕ)
+    (q : Selection) (result : Result Selected OpErr) (seen : Seen) (old new : World)
+    (out_old out_new : E) : Type 0 where
+  pub ran : Ran (selection_script q seen old.vault.next) (from old.vault.next) result old new
+  pub gone : (r : ℕ) → old.vault.next ≤ r → new.vault.revs.live r ≡ None
+  pub spare : OnOk result (q.ending ≤ new.store.spare)
+  pub seals : SealsRows q.public.pack old new
+  pub holds : MayHold q seen.k seen.plan seen.then
+  pub ended : IfOk result (λ answer. EndsAs q answer seen)
+  pub reached : OnErr result (Reaches q seen (length new.store.asked - length old.store.asked))
+  pub memory : result ≡ Err NoMemory → LacksMemoryIn q seen old new
+  pub emitted : IfOk result (λ answer. EmitsSelected grew q answer old new out_old out_new)
+  pub halted : OnErr result (IsHalted grew cut
+      (λ (s : SelectsToHalt q old new). answer_events q s.slots) out_old out_new)
+  pub failed : result ≡ Err Failed → IsHalted grew grew
+      (λ (s : SelectsToHalt q old new). answer_events q s.slots) out_old out_new
+  pub sink : SinkCause result (faults out_old) (faults out_new)
+  pub told : (s : SelectsToEnd q old new) → MatchResult result
+      (λ answer. (answer ≡ answer_of q s.slots) × (seen ≡ seen_of q s.slots))
+      (λ e. (e ≡ Failed) ⊎ (e ≡ Sink) ⊎ (e ≡ NoMemory))
+  pub held : (s : SelectsToHalt q old new) → IfErr result (λ e.
+      HoldsSeen q s.slots (is_of_access e) (length new.store.asked - length old.store.asked) seen)

@@ -1,0 +1,53 @@
+//! A SELECT of rows from one region, a table's or a joined one.
+ghost use Rattle.std.specs.Prelude.{◌≡◌};
+ghost use Rattle.ob_base.specs.declared.seen.End.TheVariants.{Whole};
+ghost use Rattle.ob_vault.specs.Places.{at};
+ghost use Rattle.ob_mean.specs.Verdict.{ended as seen_to};
+ghost use Rattle.ob_exec.specs.Selecting.{MaySelect, SelectsFrom, UsesRoom, selection_of};
+
+use ob_base::{Emit, Public, Refusal, Seen};
+use ob_flat::{Flat, OpErr};
+use ob_room::Room;
+use ob_row::Pred;
+use ob_store::BlockStore;
+use ob_vault::{Revisions, Vault};
+
+/// What is selected from a region: the rows that make a condition true, and of these the cells of the
+/// columns at these places. So many accesses will follow, for which the store is to keep room.
+pub(crate) struct Query<'a> {
+    pub(crate) flat: &'a Flat,
+    pub(crate) pred: &'a Pred,
+    pub(crate) cols: &'a [u8],
+    pub(crate) ending: u64,
+}
+
+/// How a selection was answered: so many rows were emitted, or it was refused for its rows.
+#[derive(Clone, Copy, Debug, PartialEq, Eq)]
+pub(crate) enum Selected {
+    Rows(u32),
+    Refused(Refusal),
+}
+
+/// Selects from a region: its rows are counted, then put into a fresh region by the plan for so many, and
+/// the result is emitted and discarded. Where a Hash that wasn't forced left a row out, its result is
+/// walked and discarded, and Small takes its place. `seen` has afterwards what is known by what was asked,
+/// on an error too; no region is left but those that there were.
+pub(crate) fn select_from<S: BlockStore, R: Revisions, E: Emit>(
+    store: &mut S,
+    vault: &mut Vault<R>,
+    room: &mut Room,
+    public: &Public,
+    query: &Query<'_>,
+    seen: &mut Seen,
+    out: &mut E,
+) -> Result<Selected, OpErr>
+    requires may { MaySelect (selection_of public.now query) room.old
+        (at R.state vault.old (S.state store.old)) }
+    requires fresh { seen.old ≡ seen_to Whole }
+    ensures room { UsesRoom room.old room.new }
+    ensures selects { SelectsFrom E.grew E.cut E.faults (selection_of public.now query) result seen.new
+        (at R.state vault.old (S.state store.old)) (at R.state vault.new (S.state store.new))
+        out.old out.new }
+{
+    unreachable!()
+}

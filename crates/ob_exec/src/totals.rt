@@ -1,0 +1,32 @@
+//! SELECT of totals: aggregates, and GROUP BY.
+ghost use Rattle.std.specs.Prelude.{◌≡◌, None, false, length};
+ghost use Rattle.ob_sql.specs.declared.stmt.Stmt.TheVariants.{SelectTotals as TotalsStmt};
+ghost use Rattle.ob_exec.specs.Agreeing.{Agrees, has_ended, public_of};
+ghost use Rattle.ob_exec.specs.Running.{refusal_now};
+ghost use Rattle.ob_exec.specs.Serving.{Serves};
+
+use crate::engine::Engine;
+use crate::outcome::Outcome;
+use ob_base::{Emit, Stop};
+use ob_sql::SelectTotals;
+use ob_store::BlockStore;
+use ob_vault::Revisions;
+
+impl<R: Revisions> Engine<R> {
+    // Aggregates of a table's rows, or of each group of them.
+    pub(crate) fn select_totals<S: BlockStore, E: Emit>(
+        &mut self,
+        store: &mut S,
+        select: &SelectTotals,
+        out: &mut E,
+    ) -> Result<Outcome, Stop>
+        requires agrees { Agrees R.state self.old (S.state store.old) }
+        requires lives { has_ended self.old ≡ false }
+        requires allowed { refusal_now (public_of self.old) (length (S.state store.old).asked)
+            (TotalsStmt select.now) ≡ None }
+        ensures serves { Serves R.state E.grew E.cut E.faults (TotalsStmt select.now) result
+            self.old (S.state store.old) self.new (S.state store.new) out.old out.new }
+    {
+        unreachable!()
+    }
+}
