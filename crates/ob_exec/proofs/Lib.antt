@@ -8,3 +8,6 @@ pub mod FoundLemmas
 pub mod EmitLemmas
 pub mod SealLemmas
 pub mod LawfulLemmas
+pub mod TotalsLemmas
+pub mod ReadLemmas
+pub mod TotalsServed

@@ -1,5 +1,5 @@
 -- A SELECT of rows from one region, a table's or a joined one: its count, its plans, and the rows that are emitted.
-use Rattle.std.specs.Prelude.{◌≡◌, ◌⊎◌, ◌<◌, ◌≤◌, ◌+◌, ◌-◌, ◌^◌, ⊤, ⊥, ℕ, Bool, List, [], ◌∷◌, ◌++◌, map, length, IsTrue, IsSome, None, Some, Option, Result, Ok, Err, OnOk, OnErr, IfOk, IfErr, MatchResult, nat_le}
+use Rattle.std.specs.Prelude.{◌≡◌, ◌⊎◌, ◌<◌, ◌≤◌, ◌+◌, ◌-◌, ◌^◌, ⊤, ℕ, Bool, List, [], ◌∷◌, ◌++◌, map, length, IsTrue, IsSome, None, Some, Option, Result, Ok, Err, OnOk, OnErr, IfOk, IfErr, MatchResult, nat_le}
 use Rattle.ob_base.specs.declared.access.Access.{Access}
 use Rattle.ob_base.specs.declared.config.Plan.{Plan}
 use Rattle.ob_base.specs.declared.config.Plan.TheVariants.{Small, Continuous, Hash}

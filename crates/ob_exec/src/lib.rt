@@ -9,6 +9,7 @@ mod rows;
 mod run;
 mod selecting;
 mod tables;
+mod totalling;
 mod totals;
 
 pub use engine::Engine;

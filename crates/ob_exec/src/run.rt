@@ -66,7 +66,7 @@ impl<R: Revisions> Engine<R> {
                 columns,
                 values,
             } => self.insert(store, table, columns, values.as_slice()),
-            Stmt::SelectTotals(select) => self.count_all(store, &select.table, out),
+            Stmt::SelectTotals(select) => self.select_totals(store, select, out),
             Stmt::Update { .. } | Stmt::Delete { .. } | Stmt::Drop { .. } | Stmt::SelectRows(_) =>
                 unreachable!(),
         }
