@@ -11,3 +11,4 @@ pub mod LawfulLemmas
 pub mod TotalsLemmas
 pub mod ReadLemmas
 pub mod TotalsServed
+pub mod TotallingLemmas

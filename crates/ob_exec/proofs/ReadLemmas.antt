@@ -17,6 +17,7 @@ use Rattle.ob_store.specs.Calls.{Rests}
 use Rattle.ob_store.proofs.Steps.{began_take}
 use Rattle.ob_script.specs.Parts.{count_part}
 use Rattle.ob_script.specs.Script.{script, whole_script, blocks_of, extent_of}
+use Rattle.ob_script.specs.Trace.{tables_then}
 use Rattle.ob_vault.specs.State.{RevState, World}
 use Rattle.ob_vault.specs.Tied.{Ready, Calm, Fits, IsUnfit}
 use Rattle.ob_vault.specs.Calls.{Lasts, Went, none}
@@ -90,9 +91,9 @@ module _ {R : Type 0} (state : R → RevState) (old : Engine R) (s s1 : StoreSta
   opened : (part : List Access) → Opens part old.room.high room.high
   opened part = record { kept = uses.kept; some = λ any. uses.some }
 
-  went_on : (end : End) (x : List Access) (ended : Bool) → ended ≡ false → Ready now → t.asked ≡ s.asked ++ x → script old.public select (seen_to end) ≡ x
+  went_on : (end : End) (x : List Access) (ended : Bool) → ended ≡ false → Ready now → t.asked ≡ s.asked ++ x → script old.public select (seen_to end) ≡ x → old.public.tables ≡ tables_then old.public select end
       → AreTables old.public.tables old.public.pack now → GoesOn state select old (engine_after old v room old.public.tables end ended) t
-  went_on end x ended lives ready asked is are =
+  went_on end x ended lives ready asked is same are =
       let number = next_after (world_of state old s) now x agrees.ready ready refl asked in
       let region : v.next ≡ old.public.next_region + makes (script old.public select (seen_to end)) =
       number ∙ ap (λ (n : ℕ). n + makes x) (sym agrees.next) ∙ ap (λ (y : List Access). old.public.next_region + makes y) (sym is) in
@@ -105,7 +106,7 @@ module _ {R : Type 0} (state : R → RevState) (old : Engine R) (s s1 : StoreSta
           room = record { idle = free.idle; rows = free.rows; pack = free.pack };
           tables = are;
         };
-        public = λ j. record old.public { next_region = region j };
+        public = λ j. record old.public { tables = same j; next_region = region j };
         lives = lives;
       }
 
@@ -125,7 +126,7 @@ module _ {R : Type 0} (state : R → RevState) (old : Engine R) (s s1 : StoreSta
         cause = (of_other _ _ _ answered.own all.did.faults, all.calm);
         room = free;
         opened = opened _;
-        goes_on = went_on Whole reads old.ended lives all.lasts.ready all.did.asked (reads_is Whole) (tables_read all.lasts);
+        goes_on = went_on Whole reads old.ended lives all.lasts.ready all.did.asked (reads_is Whole) refl (tables_read all.lasts);
       }
 
   cut_ends : (e : OpErr) (n : ℕ) → Cut n ≡ result_end (answer_of e) n
@@ -164,5 +165,5 @@ module _ {R : Type 0} (state : R → RevState) (old : Engine R) (s s1 : StoreSta
         cause = cut_cause e _ _ all.cause;
         room = free;
         opened = opened _;
-        goes_on = cut_on e n (went_on (Cut n) (take n reads) false refl all.lasts.ready first (ap (take n) (reads_is (Cut n))) (tables_read all.lasts));
+        goes_on = cut_on e n (went_on (Cut n) (take n reads) false refl all.lasts.ready first (ap (take n) (reads_is (Cut n))) refl (tables_read all.lasts));
       }

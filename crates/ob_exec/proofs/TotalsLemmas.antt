@@ -1,6 +1,6 @@
 -- A SELECT of totals: what its pass did is what it means.
 use Rattle.std.proofs.Common.{◌≡◌, inl, inr, ◌≤◌, max, ℕ, Bool, true, false, if◌then◌else◌, List, [], ◌∷◌, ◌++◌, length, map, Option, Some, None, Result, Ok, Err, refl, sym, ◌∙◌, ap, subst, arith, append_assoc}
-use Rattle.std.specs.Prelude.{codes, filter_map, not, ◌==◌, ◌||◌, nat_lt}
+use Rattle.std.specs.Prelude.{OnOk, OnErr, filter_map, not, ◌==◌, ◌||◌, nat_lt}
 use Rattle.std.specs.List.{All, list_all, list_any, flat_map}
 use Rattle.std.proofs.lemmas.Bool.Decides.{nat_tests}
 use Rattle.std.proofs.lemmas.List.{append-nil, length-map}
@@ -11,7 +11,8 @@ use Rattle.ob_base.specs.declared.refusal.Refusal.TheVariants.{TooManyGroups}
 use Rattle.ob_base.specs.declared.schema.Heading.{Heading}
 use Rattle.ob_base.specs.declared.shown.Shown.{Shown}
 use Rattle.ob_base.specs.declared.skeleton.ColumnName.{ColumnName}
-use Rattle.ob_base.specs.Events.{Event, Head, Row as RowEvent, Close, row_events, Leads}
+use Rattle.ob_base.specs.declared.emit.EmitErr.{EmitErr}
+use Rattle.ob_base.specs.Events.{Event, EmitCause, Head, Row as RowEvent, Close, row_events, Leads}
 use Rattle.ob_base.specs.Labels.{call_label}
 use Rattle.ob_base.specs.Schemas.{Columns}
 use Rattle.ob_room.specs.RoomState.{RoomState}
@@ -45,7 +46,7 @@ use Rattle.ob_exec.specs.declared.outcome.Outcome.TheVariants.{Rows, Refused}
 use Rattle.ob_exec.specs.Running.{IsAnswer, Emits, is_row}
 use Rattle.ob_exec.specs.Selecting.{UsesRoom}
 use Rattle.ob_exec.specs.Telling.{Partly, outcome_of}
-use Rattle.ob_exec.specs.Totalling.{TotalsFit, agg_at, answer_of, totalled}
+use Rattle.ob_exec.specs.Totalling.{Gives, TotalsFit, agg_at, answer_of, totalled}
 
 -- ---- the items
 module _ (cs : Columns) where
@@ -162,6 +163,27 @@ leads_join grew to a b c x y first second = λ s events is. subst (to s c) (appe
 pub leads_none : {E : Type 0} (grew : E → E → List Event → Type 0) (a : E) → Leads grew grew a a []
 leads_none grew a = λ s events is. subst (grew s a) (sym (append-nil events)) is
 
+module _ {E T : Type 0} (grew cut : E → E → List Event → Type 0) (faults : E → ℕ) where
+  -- some events, and then others
+  pub gives_more : (a b c : E) (x y : List Event) → Leads grew grew a b x → faults b ≡ faults a → (r : Result T EmitErr) → Gives grew cut faults y r b c → Gives grew cut faults (x ++ y) r a c
+  gives_more a b c x y first same (Ok z) is = record { ok = leads_join grew grew a b c x y first is.ok; err = tt; cause = is.cause ∙ same }
+  gives_more a b c x y first same (Err e) is =
+      let rest = is.err in
+      record {
+        ok = tt;
+        err = (x ++ rest.0, leads_join grew cut a b c x rest.0 first rest.1, (rest.2.0, append_assoc x rest.0 rest.2.0 ∙ ap (λ (l : List Event). x ++ l) rest.2.1));
+        cause = subst (λ (k : ℕ). EmitCause {T = T} (Err e) k (faults c)) same is.cause;
+      }
+
+  -- those of one call
+  pub gives_one : (a b : E) (x : List Event) (r : Result T EmitErr) → OnOk r (Leads grew grew a b x) → OnErr r (Leads grew cut a b x) → EmitCause r (faults a) (faults b) → Gives grew cut faults x r a b
+  gives_one a b x (Ok z) ok err cause = record { ok = ok; err = tt; cause = cause }
+  gives_one a b x (Err e) ok err cause = record { ok = tt; err = (x, err, ([], append-nil x)); cause = cause }
+
+  -- the first of them failed
+  pub gives_front : (a b : E) (x y : List Event) (e : EmitErr) → Leads grew cut a b x → EmitCause {T = T} (Err e) (faults a) (faults b) → Gives {T = T} grew cut faults (x ++ y) (Err e) a b
+  gives_front a b x y e err cause = record { ok = tt; err = (x, err, (y, refl)); cause = cause }
+
 -- the events of rows
 abbrev pub all_events : List (List ℕ) → List (List Shown) → List Event
 all_events labels rows = Head labels ∷ (row_events rows ++ Close (length rows) ∷ [])
@@ -190,13 +212,13 @@ are_rows : (rows : List (List Shown)) → list_all is_row (row_events rows) ≡ 
 are_rows [] = refl
 are_rows (row ∷ rows) = are_rows rows
 
-pub is_answer : (labels : List (List ℕ)) (rows : List (List Shown)) (k : ℕ) → k ≡ length rows → k ≤ 65536 → IsAnswer labels k (Head labels ∷ (row_events rows ++ Close k ∷ []))
+pub is_answer : (labels : List (List ℕ)) (rows : List (List Shown)) (k : ℕ) → k ≡ length rows → k ≤ 65536 → IsAnswer labels k (all_events labels rows)
 is_answer labels rows k count few = record {
   rows = row_events rows;
   are_rows = are_rows rows;
   count = length-map rows RowEvent ∙ sym count;
   few = omega (arith, few);
-  is = refl;
+  is = ap (λ (n : ℕ). Head labels ∷ (row_events rows ++ Close n ∷ [])) (sym count);
 }
 
 -- ---- the room

@@ -85,15 +85,16 @@ pub record TotalsFit (cs : Columns) (s : SelectTotals) : Type 0 where
   pub key : IfSome s.group (λ key. place_of key cs < length cs)
   pub own : has_stray_column cs s ≡ false
 
--- a table of which totals are made, by its select's condition, in an idle room
-pub record MayTotal (flat : Flat) (condition : Condition) (s : SelectTotals) (room : RoomState) (w : World) : Type 0 where
+-- a table of which totals are made by its select's condition, and an idle room
+pub record MayTotal (flat : Flat) (condition : Condition) (s : SelectTotals)
+    (room : RoomState) (w : World) : Type 0 where
   pub some : 1 ≤ room.pack
   pub few : room.rows ≤ 65536
-  pub room : IsIdle 1024 room
+  pub idle : IsIdle 1024 room
   pub spare : HasSpare (blocks_of room.pack flat) w
-  pub flat : IsFlat room.pack flat w
+  pub written : IsFlat room.pack flat w
   pub size : IsSized flat.schema flat.capacity
-  pub condition : condition ≡ where_at s.cond flat.schema
+  pub meant : condition ≡ where_at s.cond flat.schema
   pub items : TotalsFit flat.schema s
 
 -- ---- what is done

@@ -1,5 +1,5 @@
-use Rattle.std.proofs.Common.{◌≡◌, ◌<◌, List, [], ◌∷◌, ◌++◌, length, map, take, slice_index_or, rules, sym, ◌∙◌, ap, arith}
-use Rattle.std.proofs.lemmas.List.{take_all, take_more, take_more_set, length-set, map-append}
+use Rattle.std.proofs.Common.{◌≡◌, ◌<◌, List, [], ◌∷◌, ◌++◌, length, map, take, slice_index_or, sym, ◌∙◌, ap, arith}
+use Rattle.std.proofs.lemmas.List.{get_or_default, take_all, take_more, take_more_set, length-set, map-append}
 use Rattle.ob_row.specs.declared.aggregate.Agg.{Agg}
 use Rattle.ob_sql.specs.declared.stmt.Listed.TheVariants.{CountAll}
 use Rattle.ob_exec.specs.Totalling.{agg_at}
@@ -13,7 +13,8 @@ loop-i-preserved c =
     let agg = agg_at c.args.columns.now in
     let item = slice_index_or items i CountAll in
     let inside : i < length aggs = omega (arith, c.loop-i.invariant.size, c.requires.few) in
-    let new : c.agg_at.result ≡ agg item = search rules in
+    let below : i < length items = omega arith in
+    let new : c.agg_at.result ≡ agg item = c.agg_at.ensures ∙ ap agg (c.index-items-i.is ∙ get_or_default items i c.index-items-i.result CountAll below) in
     record {
       size = length-set aggs i c.agg_at.result ∙ c.loop-i.invariant.size;
       told = take_more_set aggs i c.agg_at.result inside

@@ -1,6 +1,5 @@
-use Rattle.std.proofs.Common.{◌≡◌, ◌<◌, List, [], ◌∷◌, ◌++◌, length, map, take, slice_index_or, rules, sym, ◌∙◌, ap, arith, append-nil}
-use Rattle.std.proofs.lemmas.List.{take_all, take_more, take_more_set, length-set, map-append}
-use Rattle.ob_base.specs.Schemas.{Columns}
+use Rattle.std.proofs.Common.{◌≡◌, ◌<◌, List, [], ◌∷◌, ◌++◌, length, map, take, slice_index_or, sym, ◌∙◌, ap, arith, append-nil}
+use Rattle.std.proofs.lemmas.List.{get_or_default, take_all, take_more, take_more_set, length-set, map-append}
 use Rattle.ob_row.specs.declared.aggregate.Item.{Item}
 use Rattle.ob_sql.specs.declared.stmt.Listed.TheVariants.{CountAll}
 use Rattle.ob_mean.specs.Step.{item_of}
@@ -14,8 +13,9 @@ loop-i-preserved c =
     let columns = c.args.columns.now in
     let listed = slice_index_or items i CountAll in
     let inside : i < length parts = omega (arith, c.loop-i.invariant.size, c.requires.few) in
-    let found : c.item_of.result ≡ item_of (columns ++ []) listed = search rules in
-    let new : c.item_of.result ≡ item_of columns listed = found ∙ ap (λ (cs : Columns). item_of cs listed) (append-nil columns) in
+    let below : i < length items = omega arith in
+    let same = c.index-items-i.is ∙ get_or_default items i c.index-items-i.result CountAll below in
+    let new : c.item_of.result ≡ item_of columns listed = c.item_of.ensures ∙ (λ j. item_of (append-nil columns j) (same j)) in
     record {
       size = length-set parts i c.item_of.result ∙ c.loop-i.invariant.size;
       told = take_more_set parts i c.item_of.result inside
