@@ -1,5 +1,5 @@
 -- A SELECT of totals, after its pass.
-use Rattle.std.proofs.Common.{◌≡◌, ◌⊎◌, inl, inr, ◌-◌, ℕ, Bool, true, false, if◌then◌else◌, List, [], ◌∷◌, ◌++◌, length, filter, Option, Some, None, Result, Ok, Err, refl, sym, ◌∙◌, ap, subst, arith, append-nil}
+use Rattle.std.proofs.Common.{◌≡◌, ◌⊎◌, inl, inr, ◌-◌, ◌+◌, ◌*◌, ◌≤◌, ℕ, Bool, true, false, if◌then◌else◌, List, [], ◌∷◌, ◌++◌, length, filter, Option, Some, None, Result, Ok, Err, refl, sym, ◌∙◌, ap, subst, arith, append-nil}
 use Rattle.std.specs.Prelude.{IfOk, OnErr, IfErr}
 use Rattle.std.specs.Option.{option_map, option_map_or, option_or}
 use Rattle.ob_base.specs.declared.config.Public.{Public}
@@ -13,9 +13,11 @@ use Rattle.ob_base.specs.declared.seen.Seen.{Seen}
 use Rattle.ob_base.specs.declared.seen.End.TheVariants.{Whole, Cut}
 use Rattle.ob_base.specs.Events.{Event}
 use Rattle.ob_base.specs.Limits.{buffered}
+use Rattle.ob_base.specs.Numbers.{blocks_for}
 use Rattle.ob_base.specs.Schemas.{Columns}
 use Rattle.ob_base.specs.Stored.{Stored, headings, headings_of, stored_at}
 use Rattle.ob_room.specs.RoomState.{RoomState}
+use Rattle.ob_row.specs.Condition.{Condition}
 use Rattle.ob_row.specs.Rows.{Row}
 use Rattle.ob_row.specs.Slots.{Slots, rows}
 use Rattle.ob_row.specs.Truth.{is_true}
@@ -27,6 +29,7 @@ use Rattle.ob_vault.specs.Tied.{IsUnfit}
 use Rattle.ob_vault.specs.Calls.{Lasts, none}
 use Rattle.ob_vault.specs.Places.{at}
 use Rattle.ob_vault.specs.declared.vault.Vault.{Vault}
+use Rattle.ob_vault.proofs.WordLemmas.{went_rests}
 use Rattle.ob_flat.specs.declared.fault.OpErr.{OpErr}
 use Rattle.ob_flat.specs.declared.fault.OpErr.TheVariants as OpErrs
 use Rattle.ob_flat.specs.declared.flat.Flat.{Flat}
@@ -58,15 +61,16 @@ use Rattle.ob_exec.specs.Running.{Ran, Emits, SinkCause, answer_of, is_stop, ref
 use Rattle.ob_exec.specs.Selecting.{UsesRoom}
 use Rattle.ob_exec.specs.Serving.{Serves, Answered, Stopped, Means}
 use Rattle.ob_exec.specs.Telling.{AreHeld, Represents, ReadsTrue, ReadsTrueUntil, Told, SeenCut, Partly, IsNotTampered, answer_labels, is_refused, outcome_of}
-use Rattle.ob_exec.specs.Totalling.{IsTotalled, Totals, labels_at, answer_of as answer_at}
+use Rattle.ob_exec.specs.Totalling.{IsTotalled, MayTotal, Totals, TotalsFit, labels_at, answer_of as answer_at}
 use Rattle.ob_exec.proofs.FoundLemmas.{heading_found}
 use Rattle.ob_exec.proofs.HeldLemmas.{Beside, held_at}
 use Rattle.ob_exec.proofs.LawfulLemmas.{lawful_now}
 use Rattle.ob_exec.proofs.ReadLemmas.{calm_none, cut_after, held_read, read_cut, read_done, reads, reads_is, went_all}
+use Rattle.ob_exec.proofs.ReadyLemmas.{found_flat, found_size}
 use Rattle.ob_exec.proofs.RunLemmas.{IsAnswered, engine_after, ran_no_room}
 use Rattle.ob_exec.proofs.SealLemmas.{keeps_pass, keeps_rests}
 use Rattle.ob_exec.proofs.ToldLemmas.{cut_seen, early_held, refused_none, started_seen, told_whole}
-use Rattle.ob_exec.proofs.TotalsLemmas.{partly_none}
+use Rattle.ob_exec.proofs.TotalsLemmas.{partly_none, totals_fit}
 
 -- ---- what it means
 -- nothing beside the refusal of too many groups
@@ -183,6 +187,29 @@ module _ {R E : Type 0} (state : R → RevState) (grew cut : E → E → List Ev
   settled_at : (tables : Tables) → settle old.public (length s.asked) tables stmt ≡ tables
   settled_at tables = followed_same (refusal old.public (length s.asked) tables stmt) tables
 
+  -- what its pass asks, once the store has room
+  pub may_total : (flat : Flat) (condition : Condition) → flat ≡ flat_of table → condition ≡ where_at q.cond flat.schema → 1 * blocks_for old.public.pack flat.capacity + 2 ≤ s1.spare
+      → MayTotal flat condition q old.room was
+  may_total flat condition flat_is meant spare =
+      let least = agrees.settings.pack_least in
+      let most = agrees.settings.most in
+      let pack = agrees.room.pack in
+      let rows_are = agrees.room.rows in
+      let blocks_are : blocks_for old.room.pack flat.capacity ≡ blocks_for old.public.pack flat.capacity = ap (λ (n : ℕ). blocks_for n flat.capacity) pack in
+      let columns_are : columns_at q.table (headings_of old.public.tables) ≡ flat.schema =
+      ap (λ (o : Option Heading). option_map_or (λ (h : Heading). h.schema) o []) (heading_found q.table old.public.tables i table agrees.tables.names here.get here.named)
+      ∙ sym (ap (λ (f : Flat). f.schema) flat_is) in
+      record {
+        some = omega (arith, least, pack);
+        few = omega (arith, most, rows_are);
+        idle = agrees.room.idle;
+        spare = record { ready = (went_rests _ s s1 rests none agrees.ready).lasts.ready; spare = omega (arith, spare, blocks_are) };
+        written = found_flat state old s s1 i table agrees rests here.get flat flat_is;
+        size = found_size state old s s1 i table agrees rests here.get flat flat_is;
+        meant = meant;
+        items = subst (λ (columns : Columns). TotalsFit columns q) columns_are (totals_fit (is_late (length s.asked)) old.public.pack old.public.buffer (headings_of old.public.tables) q allowed);
+      }
+
   -- no memory before the first access
   pub serves_none : (out : E)
       → Serves state grew cut faults stmt (Err Stops.NoMemory) old s (engine_after old old.vault old.room old.public.tables (Cut 0) true) s1 out out
@@ -221,6 +248,7 @@ module _ {R E : Type 0} (state : R → RevState) (grew cut : E → E → List Ev
     -- it went to its end
     pub serves_done : (outcome : Outcome) → old.ended ≡ false → Totals grew cut faults places old.room.pack (flat_of table) q (Ok outcome) was now out_old out_new
         → Serves state grew cut faults stmt (Ok outcome) old s (engine_after old v room old.public.tables Whole old.ended) t out_old out_new
+    unfolding beside ended_with
     serves_done outcome lives totals =
         let new = engine_after old v room old.public.tables Whole old.ended in
         let whole = is_answered outcome totals.whole in
@@ -236,7 +264,7 @@ module _ {R E : Type 0} (state : R → RevState) (grew cut : E → E → List Ev
           seals = keeps_pass state old s s1 rests agrees new t now refl (λ good accepts. totals.seals.seals good);
           answered = record {
             events = given.events;
-            grew = given.leads out_old [] (starts out_old);
+            took = given.leads out_old [] (starts out_old);
             emits = subst (λ (l : List (List ℕ)). Emits l outcome given.events) (sym labels_are) given.emits;
             told = λ tables reads.
                 told_whole outcome _ _ whole
@@ -282,7 +310,7 @@ module _ {R E : Type 0} (state : R → RevState) (grew cut : E → E → List Ev
           seals = keeps_pass state old s s1 rests agrees new t now refl (λ good accepts. totals.seals.seals good);
           answered = if_failed _ e (λ is. record {
             events = [];
-            grew = subst (λ (o : E). grew out_old o []) (sym (totals.failed (ap Err is))) (starts out_old);
+            took = subst (λ (o : E). grew out_old o []) (sym (totals.failed (ap Err is))) (starts out_old);
             emits = tt;
             told = λ tables reads. unfinished_none _ _;
           });

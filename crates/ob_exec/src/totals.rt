@@ -7,7 +7,6 @@ ghost use Rattle.ob_exec.specs.Serving.{Serves};
 
 use crate::engine::Engine;
 use crate::outcome::Outcome;
-use crate::tables::{find_table, flat_at};
 use crate::totalling::answer_totals;
 use ob_base::{Emit, Stop};
 use ob_flat::OpErr;
@@ -31,16 +30,12 @@ impl<R: Revisions> Engine<R> {
         ensures serves { Serves R.state E.grew E.cut E.faults (TotalsStmt select.now) result
             self.old (S.state store.old) self.new (S.state store.new) out.old out.new }
     {
-        let Some(i) = find_table(self.public.tables.as_slice(), &select.table) else {
-            unreachable!()
-        };
-        let flat = flat_at(self.public.tables.as_slice(), i);
+        let (_, flat) = self.table_at(&select.table);
         let Ok(pred) = where_at(self.alloc, &select.cond, flat.schema.as_slice(), &[]) else {
             return self.cut(0, OpErr::NoMemory);
         };
         let before = store.count();
-        let blocks = flat.capacity.div_ceil(u32::from(self.public.pack));
-        if store.room(u64::from(blocks)).is_err() {
+        if self.make_room(store, &flat, 1).is_err() {
             return self.cut(0, OpErr::NoMemory);
         }
         match answer_totals(store, &mut self.vault, &mut self.room, &flat, &pred, select, out) {
