@@ -1,13 +1,16 @@
 -- CREATE TABLE, after its pass.
 use Rattle.std.proofs.lemmas.List.{length-map}
+use Rattle.std.proofs.lemmas.List.Elements.{All-map}
 use Rattle.std.proofs.Common.{◌≡◌, ◌-◌, ◌*◌, ℕ, zero, suc, false, List, [], ◌∷◌, ◌++◌, length, Some, Ok, Err, Result, OnOk, refl, sym, ◌∙◌, ap, subst, arith}
+use Rattle.std.specs.List.{All}
 use Rattle.std.specs.Result.{is_err}
-use Rattle.std.specs.Prelude.{◌<◌, ◌≤◌, max, Option, None, MatchOption, map, bytes_eq}
+use Rattle.std.specs.Prelude.{◌<◌, ◌≤◌, max, Bool, IsTrue, Option, None, MatchOption, map, bytes_eq}
 use Rattle.std.proofs.lemmas.Slice.Eq.{bytes_eq-Decides}
 use Rattle.std.proofs.lemmas.Bool.{cases_eq}
 use Rattle.ob_base.specs.declared.access.Access.{Access}
 use Rattle.ob_base.specs.declared.config.Public.{Public}
 use Rattle.ob_base.specs.declared.refusal.Refusal.{Refusal}
+use Rattle.ob_base.specs.declared.refusal.Stop.{Stop}
 use Rattle.ob_base.specs.declared.schema.Column.{Column}
 use Rattle.ob_base.specs.declared.schema.Table.{Table}
 use Rattle.ob_base.specs.declared.seen.End.{End}
@@ -31,28 +34,34 @@ use Rattle.ob_script.specs.Parts.{create_part}
 use Rattle.ob_script.specs.Script.{whole_script}
 use Rattle.ob_flat.specs.declared.fault.OpErr.{OpErr}
 use Rattle.ob_flat.specs.Flats.{IsFlat, IsSized, Represents as FlatRepresents}
-use Rattle.ob_flat.specs.Passes.{PassCut}
-use Rattle.ob_flat.proofs.Runs.{pass_after}
+use Rattle.ob_flat.specs.declared.flat.Flat.{Flat}
+use Rattle.ob_flat.specs.Creates.{Creates, table_of}
+use Rattle.ob_flat.specs.Words.{SealsTable}
+use Rattle.ob_vault.specs.declared.region.Order.TheVariants.{Round}
 use Rattle.ob_row.specs.Slots.{empty_slots}
 use Rattle.ob_sql.specs.declared.stmt.Stmt.TheVariants.{Create as CreateStmt}
 use Rattle.ob_base.specs.Stored.{headings_of}
-use Rattle.ob_mean.specs.Step.{accepted_answer, answered, followed}
-use Rattle.ob_mean.specs.Settle.{settled}
-use Rattle.ob_mean.specs.Verdict.{Tables, seen, database, is_late, refusal, ended as seen_to}
+use Rattle.ob_mean.specs.Step.{accepted_answer, answered as answered_by, followed}
+use Rattle.ob_mean.specs.Settle.{settle, settled}
+use Rattle.ob_mean.specs.Verdict.{Tables, database, is_late, refusal, ended as seen_to}
 use Rattle.ob_mean.proofs.EarlyLemmas.{allowed, within, neither, IsWithin}
-use Rattle.ob_mean.proofs.VerdictLemmas.{refused_late, seen_late}
+use Rattle.ob_mean.proofs.VerdictLemmas.{refused_late}
 use Rattle.ob_exec.specs.declared.engine.Engine.{Engine}
+use Rattle.ob_exec.specs.declared.outcome.Outcome.{Outcome}
 use Rattle.ob_exec.specs.declared.outcome.Outcome.TheVariants.{Created}
 use Rattle.ob_exec.specs.Schemas.{IsStored}
 use Rattle.ob_exec.specs.Engines.{IsAt, IsTable}
 use Rattle.ob_exec.specs.Agreeing.{Agrees, world_of}
-use Rattle.ob_exec.specs.Running.{Ran, answer_of, is_stop, refusal_now}
-use Rattle.ob_exec.specs.Telling.{AreHeld, Represents, Told, outcome_of}
-use Rattle.ob_exec.proofs.TableLemmas.{tables_added, tables_kept, region_below}
+use Rattle.ob_exec.specs.Running.{answer_of, is_stop, refusal_now}
+use Rattle.ob_exec.specs.Serving.{ServesSilently}
+use Rattle.ob_exec.specs.Telling.{AreHeld, Represents, outcome_of}
+use Rattle.ob_exec.proofs.TableLemmas.{tables_added, region_below}
 use Rattle.ob_exec.proofs.HeldLemmas.{held_kept, held_added}
-use Rattle.ob_exec.proofs.ToldLemmas.{early_held, told_cut, IsFault}
+use Rattle.ob_exec.proofs.SealLemmas.{keeps_pass}
+use Rattle.ob_exec.proofs.SilentLemmas.{cut_off, finished, serves_as}
+use Rattle.ob_exec.proofs.ToldLemmas.{early_held, fault_made, silent_fault}
 use Rattle.ob_vault.proofs.WordLemmas.{went_rests}
-use Rattle.ob_exec.proofs.RunLemmas.{early_few, engine_after, ran_done, ran_cut}
+use Rattle.ob_exec.proofs.RunLemmas.{IsAnswered, early_few, engine_after, ran_done}
 
 -- what holds at an `Ok`, where there is no `Err`
 pub at_ok : {T E : Type 0} (r : Result T E) (P : Type 0) → is_err r ≡ false → OnOk r P → P
@@ -64,6 +73,9 @@ named_alike : (table : List ℕ) (columns : List NewColumn) → map (λ (c : Col
 named_alike table [] = refl
 named_alike table (c ∷ cs) = ap (λ (names : List (List ℕ)). c.name ∷ names) (named_alike table cs)
 
+names_table : (table : List ℕ) (columns : List NewColumn) → All (λ (c : Column). c.table ≡ table) (columns_of table columns)
+names_table table columns = All-map (λ (c : Column). c.table ≡ table) (new_column table) columns (λ k d less. refl)
+
 no_table : (name : List ℕ) (ts : List Table) (i : ℕ) (t : Table) → has_table name (headings_of ts) ≡ false → IsAt name i t ts → ⊥
 no_table name [] zero t none is = absurd (cc is.get)
 no_table name [] (suc i) t none is = absurd (cc is.get)
@@ -74,7 +86,7 @@ no_table name (x ∷ xs) zero t none is =
 no_table name (x ∷ xs) (suc i) t none is = no_table name xs i t (neither (bytes_eq x.heading.name name) _ none).1 (record { get = is.get; named = is.named })
 
 module _ (p : Public) (m : ℕ) (table : List ℕ) (columns : List NewColumn) (capacity : ℕ) (now : refusal_now p m (CreateStmt table columns capacity) ≡ None) where
-  pub new_stored : IsStored (columns_of table columns) capacity
+  pub new_stored : IsStored (record { name = table; schema = columns_of table columns; capacity = capacity })
   new_stored =
       let free = allowed (is_late m) p.pack p.buffer (headings_of p.tables) (CreateStmt table columns capacity) now in
       let size = within (headings_of p.tables) table columns capacity free.limits in
@@ -86,6 +98,7 @@ module _ (p : Public) (m : ℕ) (table : List ℕ) (columns : List NewColumn) (c
         least = size.least;
         most = size.most;
         names = ap (has_repeats bytes_eq) (named_alike table columns) ∙ (neither (has_table table (headings_of p.tables)) _ free.names).1;
+        table = names_table table columns;
       }
 
   pub new_name : (i : ℕ) (t : Table) → IsAt table i t p.tables → ⊥
@@ -115,85 +128,88 @@ module _ (p : Public) (m : ℕ) (table : List ℕ) (columns : List NewColumn) (c
       let wider = idle.wide in
       subst (λ (cs : Columns). IsIdle (width cs) room) (sym is) (record { free = idle.free; shelf = idle.shelf; enough = idle.enough; wide = omega (arith, wide, wider) })
 
-  pub new_seen : (tables : Tables) (w : World) → AreHeld p.pack p.tables tables w → seen p m tables (CreateStmt table columns capacity) ≡ seen_to Whole
-  new_seen tables w held = seen_late p m tables (CreateStmt table columns capacity) (early_held p m (CreateStmt table columns capacity) tables w None held now)
-
 module _ {R : Type 0} (state : R → RevState) (old : Engine R) (s s1 : StoreState) (v : Vault R) (room : RoomState) (t : StoreState)
     (table : List ℕ) (columns : List NewColumn) (schema : Columns) (capacity : ℕ)
-    (agrees : Agrees state old s) (rests : Rests s s1) (room_is : room ≡ record old.room { high = max old.room.high old.room.pack }) (schema_is : schema ≡ columns_of table columns) where
-  abbrev pub part : List Access
+    (agrees : Agrees state old s) (rests : Rests s s1) (room_is : room ≡ record old.room { high = max old.room.high old.room.pack }) (schema_is : schema ≡ columns_of table columns)
+    (now : refusal_now old.public (length s.asked) (CreateStmt table columns capacity) ≡ None) where
+  abbrev before : World
+  before = at state old.vault s1
+
+  abbrev done : World
+  done = at state v t
+
+  abbrev part : List Access
   part = create_part old.vault.next (blocks_for old.room.pack capacity) (old.room.pack * width schema)
 
   script_is : (end : End) → whole_script old.public (Create table columns capacity) (seen_to end) ≡ part
   script_is end = λ i. create_part (agrees.next i) (blocks_for (sym agrees.room.pack i) capacity) (sym agrees.room.pack i * width (sym schema_is i))
 
-  abbrev pub new_table : Table
+  abbrev new_table : Table
   new_table = record { heading = record { name = table; schema = schema; capacity = capacity }; region = old.public.next_region }
 
-  pub created : Went part (one old.vault.next) (at state old.vault s1) (at state v t) → old.ended ≡ false → IsStored schema capacity
-      → IsFlat old.room.pack (record { schema = schema; capacity = capacity; region = old.vault.next }) (at state v t)
-      → ((i : ℕ) (u : Table) → IsAt table i u old.public.tables → ⊥)
-      → Ran state (Create table columns capacity) (Ok Created) old s (engine_after old v room (old.public.tables ++ new_table ∷ []) Whole old.ended) t
-  created went lives stored flat unnamed =
-      let all = went_join (one old.vault.next) _ _ _ [] part (went_rests _ s s1 rests (one old.vault.next) agrees.ready) went in
-      let is_table : IsTable old.public.pack new_table (at state v t) = record {
-        stored = stored;
-        flat = subst (λ (g : ℕ). IsFlat old.public.pack (record { schema = schema; capacity = capacity; region = g }) (at state v t)) (sym agrees.next)
-            (subst (λ (k : ℕ). IsFlat k (record { schema = schema; capacity = capacity; region = old.vault.next }) (at state v t)) agrees.room.pack flat);
-      } in
-      ran_done state (Create table columns capacity) old s v room t agrees room_is (one old.vault.next)
-      (old.public.tables ++ new_table ∷ []) part Created lives tt all (script_is Whole)
-      (ap (λ (c : Columns). old.public.tables ++ record { heading = record { name = table; schema = c; capacity = capacity }; region = old.public.next_region } ∷ []) schema_is)
-      (tables_added old.public.pack old.vault.next old.public.tables new_table _ _ all.lasts agrees.ready refl agrees.tables agrees.next is_table
-      (λ i u is same. unnamed i u (record { get = is; named = same })) (λ q. cases_eq q old.vault.next))
+  stored : IsStored new_table.heading
+  stored =
+      subst (λ (cs : Columns). IsStored (record { name = table; schema = cs; capacity = capacity })) (sym schema_is)
+      (new_stored old.public (length s.asked) table columns capacity now)
 
-  told_rests : (tables : Tables) → Represents state old s tables → refusal_now old.public (length s.asked) (CreateStmt table columns capacity) ≡ None → refusal old.public (length s.asked) tables (CreateStmt table columns capacity) ≡ None
-  told_rests tables held now =
+  abbrev fresh : Flat
+  fresh = table_of schema capacity old.vault.next
+
+  no_refusal : (tables : Tables) → Represents state old s tables → refusal old.public (length s.asked) tables (CreateStmt table columns capacity) ≡ None
+  no_refusal tables held =
       refused_late old.public (length s.asked) tables (CreateStmt table columns capacity) (early_held old.public (length s.asked) (CreateStmt table columns capacity) tables (world_of state old s) None held.held now)
 
-  pub told_created : (tables : Tables) → Represents state old s tables → refusal_now old.public (length s.asked) (CreateStmt table columns capacity) ≡ None
-      → Went part (one old.vault.next) (at state old.vault s1) (at state v t)
-      → FlatRepresents old.room.pack (record { schema = schema; capacity = capacity; region = old.vault.next }) (empty_slots capacity) (at state v t)
-      → Told state (CreateStmt table columns capacity) (length s.asked) tables (Ok Created) old (engine_after old v room (old.public.tables ++ new_table ∷ []) Whole old.ended) t
-  told_created tables held now went is =
+  made : Went part (one old.vault.next) before done → IsFlat old.room.pack fresh done → (IsTrue s.tells → FlatRepresents old.room.pack fresh (empty_slots capacity) done)
+      → SealsTable old.room.pack schema old.vault.next before done → old.ended ≡ false
+      → ServesSilently state (CreateStmt table columns capacity) (Ok Created) old s (engine_after old v room (old.public.tables ++ new_table ∷ []) Whole old.ended) t
+  made went flat told seals lives =
+      let stmt = CreateStmt table columns capacity in
       let all = went_join (one old.vault.next) _ _ _ [] part (went_rests _ s s1 rests (one old.vault.next) agrees.ready) went in
-      let none = told_rests tables held now in
-      let early = early_held old.public (length s.asked) (CreateStmt table columns capacity) tables (world_of state old s) None held.held now in
-      let flat = subst (λ (g : ℕ). FlatRepresents old.public.pack (record { schema = schema; capacity = capacity; region = g }) (empty_slots capacity) (at state v t)) (sym agrees.next)
-      (subst (λ (k : ℕ). FlatRepresents k (record { schema = schema; capacity = capacity; region = old.vault.next }) (empty_slots capacity) (at state v t)) agrees.room.pack is) in
+      let is_table : IsTable old.public.pack new_table done = record {
+        stored = stored;
+        flat = subst (λ (g : ℕ). IsFlat old.public.pack (table_of schema capacity g) done) (sym agrees.next) (subst (λ (k : ℕ). IsFlat k fresh done) agrees.room.pack flat);
+      } in
+      let answered : IsAnswered Created = record { whole = λ n. refl; own = refl } in
+      let unnamed = new_name old.public (length s.asked) table columns capacity now in
+      let ran = ran_done state (Create table columns capacity) old s v room t agrees room_is (one old.vault.next)
+      (old.public.tables ++ new_table ∷ []) part Created lives answered all (script_is Whole)
+      (ap (λ (c : Columns). old.public.tables ++ record { heading = record { name = table; schema = c; capacity = capacity }; region = old.public.next_region } ∷ []) schema_is)
+      (tables_added old.public.pack old.vault.next old.public.tables new_table _ _ all.lasts agrees.ready refl agrees.tables agrees.next is_table
+      (λ i u is same. unnamed i u (record { get = is; named = same })) (λ q. cases_eq q old.vault.next)) in
+      finished state stmt old s agrees now (λ tables. refl) v room t (old.public.tables ++ new_table ∷ []) Created answered refl ran
+      (keeps_pass state old s s1 rests agrees (engine_after old v room (old.public.tables ++ new_table ∷ []) Whole old.ended) t done refl (λ good accepts. seals.seals good (accepts _ _)))
+      (λ tables reads.
+      let none = no_refusal tables reads.held in
+      let slots = subst (λ (g : ℕ). FlatRepresents old.public.pack (table_of schema capacity g) (empty_slots capacity) done) (sym agrees.next)
+      (subst (λ (k : ℕ). FlatRepresents k fresh (empty_slots capacity) done) agrees.room.pack (told reads.tells)) in
       let kept = held_kept (one old.vault.next) old.public.pack old.public.tables tables _ _ all.lasts
-      (λ i u here same. let less = region_below old.public.pack i old.public.tables u _ agrees.ready agrees.tables here in omega (arith, less, same)) held.held in
-      let added = held_added old.public.pack old.public.tables tables new_table (empty_slots capacity) (at state v t) kept flat in
-      let settles : followed (refusal old.public (length s.asked) tables (CreateStmt table columns capacity)) (settled tables (CreateStmt table columns capacity)) tables
-      ≡ tables ++ record { heading = new_table.heading; held = empty_slots capacity } ∷ [] =
-      ap (λ (o : Option Refusal). followed o (settled tables (CreateStmt table columns capacity)) tables) none
-      ∙ (λ i. tables ++ record { heading = record { name = table; schema = sym schema_is i; capacity = capacity }; held = empty_slots capacity } ∷ []) in
-      record {
-        answer = sym (ap (λ (o : Option Refusal). outcome_of (CreateStmt table columns capacity) (answered o (accepted_answer (database tables) (CreateStmt table columns capacity)))) none);
-        seen = sym (seen_late old.public (length s.asked) tables (CreateStmt table columns capacity) early);
-        held = record { held = subst (λ (ts : Tables). AreHeld old.public.pack (old.public.tables ++ new_table ∷ []) ts (at state v t)) (sym settles) added };
-      }
+      (λ i u here same. let less = region_below old.public.pack i old.public.tables u _ agrees.ready agrees.tables here in omega (arith, less, same)) reads.held.held in
+      let added = held_added old.public.pack old.public.tables tables new_table (empty_slots capacity) done kept slots in
+      let settles : settle old.public (length s.asked) tables stmt ≡ tables ++ record { heading = new_table.heading; held = empty_slots capacity } ∷ [] =
+      ap (λ (o : Option Refusal). followed o (settled tables stmt) tables) none
+      ∙ (λ i. tables ++ record { heading = record { name = table; schema = sym schema_is i; capacity = capacity }; held = empty_slots capacity } ∷ []) in (
+        sym (ap (λ (o : Option Refusal). outcome_of stmt (answered_by o (accepted_answer (database tables) stmt))) none),
+        subst (λ (ts : Tables). AreHeld old.public.pack (old.public.tables ++ new_table ∷ []) ts done) (sym settles) added,
+      ))
 
-  pub told_not_created : (tables : Tables) → Represents state old s tables → refusal_now old.public (length s.asked) (CreateStmt table columns capacity) ≡ None
-      → (e : OpErr) (n : ℕ) → IsFault e → PassCut e part (one old.vault.next) (at state old.vault s1) (at state v t) → n ≡ length t.asked - length s.asked
-      → Told state (CreateStmt table columns capacity) (length s.asked) tables (answer_of e) old (engine_after old v room old.public.tables (Cut n) (is_stop (answer_of e))) t
-  told_not_created tables held now e n fault cut count =
-      let all = pass_after (one old.vault.next) _ _ _ e [] part (went_rests _ s s1 rests (one old.vault.next) agrees.ready) cut in
-      let early = early_held old.public (length s.asked) (CreateStmt table columns capacity) tables (world_of state old s) None held.held now in
-      told_cut state old (length s.asked) v room t (CreateStmt table columns capacity) tables e n fault count
-      (seen_late old.public (length s.asked) tables (CreateStmt table columns capacity) early)
-      (held_kept (one old.vault.next) old.public.pack old.public.tables tables _ _ all.lasts
-      (λ i u here same. let less = region_below old.public.pack i old.public.tables u _ agrees.ready agrees.tables here in omega (arith, less, same)) held.held)
+  -- the table was made
+  pub created : (flat : Flat) (new : Engine R) (result : Result Outcome Stop) → Creates Round old.room.pack fresh (Ok flat) before done → old.ended ≡ false
+      → result ≡ Ok Created → new ≡ engine_after old v room (old.public.tables ++ new_table ∷ []) Whole old.ended → ServesSilently state (CreateStmt table columns capacity) result old s new t
+  created flat new result creates lives answered is =
+      serves_as state (CreateStmt table columns capacity) old s t _ _ _ _ answered is
+      (made creates.ran.ok (subst (λ (f : Flat). IsFlat old.room.pack f done) creates.makes.value creates.makes.flat)
+      (λ tells. subst (λ (f : Flat). FlatRepresents old.room.pack f (empty_slots capacity) done) creates.makes.value (creates.told (subst (λ (b : Bool). IsTrue b) (sym rests.tells) tells)))
+      creates.makes.seals lives)
 
-  pub not_created : (e : OpErr) (n : ℕ) → PassCut e part (one old.vault.next) (at state old.vault s1) (at state v t) → n ≡ length t.asked - length s.asked
-      → ((state v.revs).live old.vault.next ≡ None)
-      → Ran state (Create table columns capacity) (answer_of e) old s (engine_after old v room old.public.tables (Cut n) (is_stop (answer_of e))) t
-  not_created e n cut count gone =
-      let all = pass_after (one old.vault.next) _ _ _ e [] part (went_rests _ s s1 rests (one old.vault.next) agrees.ready) cut in
-      ran_cut state (Create table columns capacity) old s v room t agrees room_is (one old.vault.next) n part e all (script_is (Cut n)) count
-      (tables_kept (one old.vault.next) old.public.pack old.public.tables _ _ all.lasts
-      (λ i u is here. let less = region_below old.public.pack i old.public.tables u _ agrees.ready agrees.tables is in omega (arith, less, here))
-      (λ q shape live here. absurd (cc (live, gone, here))) agrees.tables)
+  -- it was not
+  pub not_created : (e : OpErr) (n : ℕ) (new : Engine R) (result : Result Outcome Stop) → Creates Round old.room.pack fresh (Err e) before done
+      → n ≡ length t.asked - length s.asked → result ≡ answer_of e → new ≡ engine_after old v room old.public.tables (Cut n) (is_stop (answer_of e))
+      → ServesSilently state (CreateStmt table columns capacity) result old s new t
+  not_created e n new result creates count answered is =
+      serves_as state (CreateStmt table columns capacity) old s t _ _ _ _ answered is
+      (cut_off state (CreateStmt table columns capacity) old s agrees now (λ tables. refl) s1 v room t rests room_is part _ _ _ n e script_is refl creates.ran.err count creates.makes.gone
+      (λ is. creates.memory.began (ap (λ (z : OpErr). Err z) is)) (silent_fault e creates.never) (λ tables reads. fault_made e creates.never)
+      (λ good accepts. creates.makes.seals.seals good (accepts _ _)))
 
 snoc_front : {A : Type 0} (xs ys : List A) (x y : A) → xs ++ x ∷ [] ≡ ys ++ y ∷ [] → xs ≡ ys
 snoc_front [] [] x y e = refl

@@ -20,7 +20,7 @@ heading_found name ts i t names at is =
     ap (heading_at name) (sym (region_headings ts)) ∙ heading-stored name (stored_regions ts) ∙ ap (option_map (λ (u : Stored ℕ). u.heading)) (stored_found name ts i t names at is)
 
 -- no table has the name
-absent : (name : List ℕ) (ts : List Table) → ((i : ℕ) (t : Table) → IsAt name i t ts → ⊥) → has_table name (headings_of ts) ≡ false
+pub absent : (name : List ℕ) (ts : List Table) → ((i : ℕ) (t : Table) → IsAt name i t ts → ⊥) → has_table name (headings_of ts) ≡ false
 absent name [] none = refl
 absent name (t ∷ ts) none = head (bytes_eq t.heading.name name) refl (absent name ts (λ i u is. none (suc i) u (record { get = is.get; named = is.named })))
   where
@@ -29,5 +29,6 @@ absent name (t ∷ ts) none = head (bytes_eq t.heading.name name) refl (absent n
     head false is rest = ap (λ (b : Bool). b || has_table name (headings_of ts)) is ∙ rest
 
 -- a statement that is not refused early names a table that is there
-pub is_there : (name : List ℕ) (ts : List Table) → (not (has_table name (headings_of ts)) || false) ≡ false → ((i : ℕ) (t : Table) → IsAt name i t ts → ⊥) → ⊥
-is_there name ts there none = let off = absent name ts none in absurd (cc (there, off))
+pub is_there : (there : Bool) → (not there || false) ≡ false → there ≡ true
+is_there true is = refl
+is_there false is = absurd (cc is)

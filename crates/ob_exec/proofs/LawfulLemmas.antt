@@ -20,43 +20,29 @@ use Rattle.ob_mean.specs.Lawful.{Lawful, is_counted, EndsUncounted, CutUpTo}
 use Rattle.ob_mean.specs.Verdict.{ended}
 use Rattle.ob_exec.specs.declared.outcome.Outcome.{Outcome}
 use Rattle.ob_exec.specs.declared.outcome.Outcome.TheVariants.{Created, Inserted, Changed, Deleted, Dropped, Rows, Refused}
-use Rattle.ob_exec.specs.Running.{EndsBy, IsDone, RefusedEarly, refused_end, refusal_now}
-use Rattle.ob_exec.specs.Refusals.{by_fault}
-use Rattle.ob_base.specs.Refusals.{is_store_fault}
-use Rattle.ob_exec.specs.Serving.{IsServed}
-
--- no SELECT of rows is served
-served_uncounted : (stmt : Stmt) → IsServed stmt → is_counted stmt ≡ false
-served_uncounted (Create table columns capacity) served = refl
-served_uncounted (Insert table columns values) served = refl
-served_uncounted (Update table sets cond) served = refl
-served_uncounted (Delete table cond) served = refl
-served_uncounted (DropTable table) served = refl
-served_uncounted (RowsStmt s) served = absurd served
-served_uncounted (TotalsStmt s) served = refl
+use Rattle.ob_exec.specs.Running.{RefusedEarly, outcome_end, result_end, refusal_now}
+use Rattle.ob_exec.specs.Refusals.{refused_end}
 
 -- ---- how it ends
-done_cut : (k : ℕ) → IsDone (Cut k) → ⊥
-done_cut k (inl is) = cc is
-done_cut k (inr is) = cc is
+refused_cut : (r : Refusal) (k n : ℕ) → Cut k ≡ refused_end r n → k ≡ n
+refused_cut StoreFault k n is = cc is
+refused_cut (Syntax at) k n is = absurd (cc is)
+refused_cut NoTable k n is = absurd (cc is)
+refused_cut NameTaken k n is = absurd (cc is)
+refused_cut NoColumn k n is = absurd (cc is)
+refused_cut WrongType k n is = absurd (cc is)
+refused_cut ValueRange k n is = absurd (cc is)
+refused_cut Limit k n is = absurd (cc is)
+refused_cut KeyRule k n is = absurd (cc is)
+refused_cut JoinKey k n is = absurd (cc is)
+refused_cut Duplicate k n is = absurd (cc is)
+refused_cut Full k n is = absurd (cc is)
+refused_cut TooManyGroups k n is = absurd (cc is)
+refused_cut NotConsecutive k n is = absurd (cc is)
+refused_cut (Overflow i) k n is = absurd (cc is)
 
-done_after : IsDone AfterCount → ⊥
-done_after (inl is) = cc is
-done_after (inr is) = cc is
-
-refused_cut : (r : Refusal) (k n : ℕ) → refused_end r (Cut k) n → k ≡ n
-refused_cut r k n is = go (is_store_fault r) is where
-  go : (failed : Bool) → by_fault failed (Cut k ≡ Cut n) (IsDone (Cut k)) → k ≡ n
-  go true is = cc is
-  go false is = absurd (done_cut k is)
-
-refused_after : (r : Refusal) (n : ℕ) → refused_end r AfterCount n → ⊥
-refused_after r n is = go (is_store_fault r) is where
-  go : (failed : Bool) → by_fault failed (AfterCount ≡ Cut n) (IsDone AfterCount) → ⊥
-  go true is = cc is
-  go false is = done_after is
-
-ends_cut : (result : Result Outcome Stop) (k n : ℕ) → EndsBy result (Cut k) n → k ≡ n
+-- it is cut off after the accesses that it asked
+ends_cut : (result : Result Outcome Stop) (k n : ℕ) → Cut k ≡ result_end result n → k ≡ n
 ends_cut (Ok (Refused r)) k n is = refused_cut r k n is
 ends_cut (Ok Created) k n is = absurd (cc is)
 ends_cut (Ok Inserted) k n is = absurd (cc is)
@@ -66,22 +52,12 @@ ends_cut (Ok Dropped) k n is = absurd (cc is)
 ends_cut (Ok (Rows m)) k n is = absurd (cc is)
 ends_cut (Err stop) k n is = cc is
 
-ends_after : (result : Result Outcome Stop) (n : ℕ) → EndsBy result AfterCount n → ⊥
-ends_after (Ok (Refused r)) n is = refused_after r n is
-ends_after (Ok Created) n is = cc is
-ends_after (Ok Inserted) n is = cc is
-ends_after (Ok (Changed m)) n is = cc is
-ends_after (Ok (Deleted m)) n is = cc is
-ends_after (Ok Dropped) n is = cc is
-ends_after (Ok (Rows m)) n is = cc is
-ends_after (Err stop) n is = cc is
-
 -- no more is asked than the whole script
 take_short : (n : ℕ) (xs : List Access) → length (take n xs) ≤ length xs
 take_short n xs = let is = length-take n xs in omega (arith, is)
 
 within : (p : Public) (sk : Skeleton) (result : Result Outcome Stop) (end : End) (before after : List Access) → after ≡ before ++ script p sk (ended end)
-    → EndsBy result end (length after - length before) → CutUpTo (length (whole_script p sk (ended end))) end
+    → end ≡ result_end result (length after - length before) → CutUpTo (length (whole_script p sk (ended end))) end
 within p sk result Static before after asked ends = tt
 within p sk result Whole before after asked ends = tt
 within p sk result AfterCount before after asked ends = tt
@@ -104,20 +80,28 @@ held_nothing stmt Whole uncounted after = uncounted
 held_nothing stmt AfterCount uncounted after = after refl
 held_nothing stmt (Cut n) uncounted after = tt
 
-plain : (p : Public) (m : ℕ) (stmt : Stmt) (result : Result Outcome Stop) (end : End) (before after : List Access) → is_counted stmt ≡ false
-    → RefusedEarly (refusal_now p m stmt) result (ended end) → after ≡ before ++ script p (skeleton stmt) (ended end) → EndsBy result end (length after - length before)
+plain : (p : Public) (m : ℕ) (stmt : Stmt) (result : Result Outcome Stop) (end : End) (before after : List Access) → is_counted stmt ≡ false → (end ≡ AfterCount → ⊥)
+    → RefusedEarly (refusal_now p m stmt) result (ended end) → after ≡ before ++ script p (skeleton stmt) (ended end) → end ≡ result_end result (length after - length before)
     → Lawful p m stmt (ended end)
-plain p m stmt result end before after uncounted early asked ends = record {
+plain p m stmt result end before after uncounted whole early asked ends = record {
   static = static_as (refusal_now p m stmt) result (ended end) early;
-  holds = held_nothing stmt end uncounted (λ is. ends_after result (length after - length before) (subst (λ (e : End). EndsBy result e (length after - length before)) is ends));
+  holds = held_nothing stmt end uncounted whole;
   cut = within p (skeleton stmt) result end before after asked ends;
 }
 
 -- what is seen of a statement of which nothing is counted
-pub lawful_now : (p : Public) (m : ℕ) (stmt : Stmt) (result : Result Outcome Stop) (now : Seen) (before after : List Access) → IsServed stmt → now ≡ ended now.end
-    → RefusedEarly (refusal_now p m stmt) result now → after ≡ before ++ script p (skeleton stmt) now → EndsBy result now.end (length after - length before)
-    → Lawful p m stmt now
-lawful_now p m stmt result now before after served is early asked ends =
+pub lawful_now : (p : Public) (m : ℕ) (stmt : Stmt) (result : Result Outcome Stop) (now : Seen) (before after : List Access) → is_counted stmt ≡ false → now ≡ ended now.end
+    → (now.end ≡ AfterCount → ⊥) → RefusedEarly (refusal_now p m stmt) result now → after ≡ before ++ script p (skeleton stmt) now
+    → now.end ≡ result_end result (length after - length before) → Lawful p m stmt now
+lawful_now p m stmt result now before after uncounted is whole early asked ends =
     subst (λ (x : Seen). Lawful p m stmt x) (sym is)
-    (plain p m stmt result now.end before after (served_uncounted stmt served) (subst (λ (x : Seen). RefusedEarly (refusal_now p m stmt) result x) is early)
+    (plain p m stmt result now.end before after uncounted whole (subst (λ (x : Seen). RefusedEarly (refusal_now p m stmt) result x) is early)
     (asked ∙ ap (λ (x : Seen). before ++ script p (skeleton stmt) x) is) ends)
+
+-- nor before any access
+pub lawful_refused : (p : Public) (m : ℕ) (stmt : Stmt) (r : Refusal) → refusal_now p m stmt ≡ Some r → Lawful p m stmt (ended Static)
+lawful_refused p m stmt r now = record {
+  static = (λ is. subst (λ (o : Option Refusal). IsSome o) (sym now) refl, λ some. refl);
+  holds = tt;
+  cut = tt;
+}

@@ -1,5 +1,5 @@
 -- A statement that reads a table and changes none.
-use Rattle.std.proofs.Common.{◌≡◌, ◌≤◌, ◌+◌, ◌-◌, ℕ, true, false, Bool, List, [], ◌∷◌, ◌++◌, length, take, Some, None, Option, Ok, Err, Result, refl, sym, ◌∙◌, ap, subst, arith, append-nil}
+use Rattle.std.proofs.Common.{◌≡◌, ◌≤◌, ◌+◌, ◌-◌, ℕ, true, false, Bool, List, [], ◌∷◌, ◌++◌, length, take, Some, None, Option, Ok, Err, Result, refl, sym, ◌∙◌, ap, subst, arith, append-nil, slice_get}
 use Rattle.std.specs.Option.{option_map_or}
 use Rattle.ob_base.specs.declared.access.Access.{Access}
 use Rattle.ob_base.specs.declared.schema.Table.{Table}
@@ -27,20 +27,22 @@ use Rattle.ob_vault.proofs.Runs.{went_join}
 use Rattle.ob_vault.proofs.WordLemmas.{went_rests}
 use Rattle.ob_flat.specs.declared.fault.OpErr.{OpErr}
 use Rattle.ob_flat.specs.declared.fault.OpErr.TheVariants as OpErrs
+use Rattle.ob_flat.specs.declared.flat.Flat.{Flat}
+use Rattle.ob_flat.specs.Flats.{IsFlat, IsSized}
 use Rattle.ob_flat.specs.Passes.{PassCut, PassCause}
 use Rattle.ob_flat.proofs.Runs.{pass_after}
 use Rattle.ob_mean.specs.Verdict.{Tables, ended as seen_to}
 use Rattle.ob_exec.specs.declared.engine.Engine.{Engine}
 use Rattle.ob_exec.specs.declared.outcome.Outcome.{Outcome}
 use Rattle.ob_exec.specs.Agreeing.{Agrees, world_of}
-use Rattle.ob_exec.specs.Engines.{IsAt, IsFree, AreTables}
+use Rattle.ob_exec.specs.Engines.{IsAt, IsFree, AreTables, flat_of}
 use Rattle.ob_exec.specs.Opening.{Opens}
 use Rattle.ob_exec.specs.Running.{answer_of, is_stop, result_end, RunCause, GoesOn, Continues, Ran}
 use Rattle.ob_exec.specs.Selecting.{UsesRoom}
 use Rattle.ob_exec.specs.Telling.{AreHeld}
 use Rattle.ob_exec.proofs.HeldLemmas.{held_kept}
 use Rattle.ob_exec.proofs.RunLemmas.{IsAnswered, engine_after, free_after, next_after, of_other}
-use Rattle.ob_exec.proofs.TableLemmas.{tables_kept, stored_found}
+use Rattle.ob_exec.proofs.TableLemmas.{flat_kept, tables_kept, stored_found}
 
 -- ---- no changed block was read
 -- where none that fits was, and none that doesn't
@@ -59,6 +61,23 @@ calm_none some a b lasts calm unfit = go a.store.lie refl
     go None is = is
     go (Some lie) is =
         absurd (unfit.unfit lie (lasts.later.lie lie is) (subst (λ k. Fits k b.vault.start lie) (sym lasts.keys) (subst (λ x. Fits a.vault.keys x lie) (sym lasts.start) (calm.calm lie is))))
+
+-- ---- its table, once the store has room
+module _ {R : Type 0} (state : R → RevState) (old : Engine R) (s s1 : StoreState) (i : ℕ) (table : Table) (agrees : Agrees state old s) (rests : Rests s s1)
+    (get : slice_get old.public.tables i ≡ Some table) (flat : Flat) (flat_is : flat ≡ flat_of table) where
+  pub read_flat : IsFlat old.room.pack flat (at state old.vault s1)
+  read_flat =
+      subst (λ (f : Flat). IsFlat old.room.pack f (at state old.vault s1)) (sym flat_is)
+      (flat_kept none old.room.pack (flat_of table) (world_of state old s) _ (went_rests _ s s1 rests none agrees.ready).lasts (λ off. off)
+      (subst (λ (k : ℕ). IsFlat k (flat_of table) (world_of state old s)) (sym agrees.room.pack) (agrees.tables.each i table get).flat))
+
+  pub read_size : IsSized flat.schema flat.capacity
+  read_size =
+      let stored = (agrees.tables.each i table get).stored in
+      let few = stored.few in
+      let most = stored.most in
+      subst (λ (f : Flat). IsSized f.schema f.capacity) (sym flat_is)
+      (record { some = stored.some; few = omega (arith, few); wide = stored.wide; least = stored.least; most = omega (arith, most) })
 
 -- ---- what it did
 module _ {R : Type 0} (state : R → RevState) (old : Engine R) (s s1 : StoreState) (v : Vault R) (room : RoomState) (t : StoreState)

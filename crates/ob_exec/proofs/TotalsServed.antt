@@ -65,8 +65,7 @@ use Rattle.ob_exec.specs.Totalling.{IsTotalled, MayTotal, Totals, TotalsFit, lab
 use Rattle.ob_exec.proofs.FoundLemmas.{heading_found}
 use Rattle.ob_exec.proofs.HeldLemmas.{Beside, held_at}
 use Rattle.ob_exec.proofs.LawfulLemmas.{lawful_now}
-use Rattle.ob_exec.proofs.ReadLemmas.{calm_none, cut_after, held_read, read_cut, read_done, reads, reads_is, went_all}
-use Rattle.ob_exec.proofs.ReadyLemmas.{found_flat, found_size}
+use Rattle.ob_exec.proofs.ReadLemmas.{calm_none, cut_after, held_read, read_cut, read_done, read_flat, read_size, reads, reads_is, went_all}
 use Rattle.ob_exec.proofs.RunLemmas.{IsAnswered, engine_after, ran_no_room}
 use Rattle.ob_exec.proofs.SealLemmas.{keeps_pass, keeps_rests}
 use Rattle.ob_exec.proofs.ToldLemmas.{cut_seen, early_held, refused_none, started_seen, told_whole}
@@ -204,8 +203,8 @@ module _ {R E : Type 0} (state : R → RevState) (grew cut : E → E → List Ev
         few = omega (arith, most, rows_are);
         idle = agrees.room.idle;
         spare = record { ready = (went_rests _ s s1 rests none agrees.ready).lasts.ready; spare = omega (arith, spare, blocks_are) };
-        written = found_flat state old s s1 i table agrees rests here.get flat flat_is;
-        size = found_size state old s s1 i table agrees rests here.get flat flat_is;
+        written = read_flat state old s s1 i table agrees rests here.get flat flat_is;
+        size = read_size state old s s1 i table agrees rests here.get flat flat_is;
         meant = meant;
         items = subst (λ (columns : Columns). TotalsFit columns q) columns_are (totals_fit (is_late (length s.asked)) old.public.pack old.public.buffer (headings_of old.public.tables) q allowed);
       }

@@ -52,3 +52,9 @@ pub record AreTables (tables : List Table) (pack : ℕ) (w : World) : Type 0 whe
 pub record IsAt (name : List ℕ) (i : ℕ) (t : Table) (tables : List Table) : Type 0 where
   pub get : slice_get tables i ≡ Some t
   pub named : t.heading.name ≡ name
+
+-- the place of a table by its name, and the table as the passes see it
+pub record IsFound (name : List ℕ) (i : ℕ) (flat : Flat) (tables : List Table) : Type 0 where
+  pub table : Table
+  pub here : IsAt name i table tables
+  pub is : flat ≡ flat_of table

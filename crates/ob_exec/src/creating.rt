@@ -1,12 +1,9 @@
 //! CREATE TABLE.
-ghost use Rattle.std.specs.Prelude.{◌≡◌, List, IsTrue, None, false, length};
-ghost use Rattle.ob_base.specs.declared.seen.End.TheVariants.{Static};
+ghost use Rattle.std.specs.Prelude.{◌≡◌, None, false, length};
 ghost use Rattle.ob_sql.specs.declared.stmt.Stmt.TheVariants.{Create};
-ghost use Rattle.ob_sql.specs.Skeleton.{skeleton};
-ghost use Rattle.ob_mean.specs.Verdict.{Tables, ended as seen_to};
-ghost use Rattle.ob_exec.specs.Agreeing.{Agrees, has_ended, public_of, seen_of};
-ghost use Rattle.ob_exec.specs.Running.{Ran, IsSilent, refusal_now};
-ghost use Rattle.ob_exec.specs.Telling.{KeepsSealed, Represents, Told};
+ghost use Rattle.ob_exec.specs.Agreeing.{Agrees, has_ended, public_of};
+ghost use Rattle.ob_exec.specs.Running.{refusal_now};
+ghost use Rattle.ob_exec.specs.Serving.{ServesSilently};
 
 use crate::engine::Engine;
 use crate::outcome::Outcome;
@@ -41,14 +38,10 @@ impl<R: Revisions> Engine<R> {
     ) -> Result<Outcome, Stop>
         requires agrees { Agrees R.state self.old (S.state store.old) }
         requires lives { has_ended self.old ≡ false }
-        requires allowed { refusal_now (public_of self.old) (length (S.state store.old).asked) (Create table.now columns.now capacity) ≡ None }
-        ensures ran { Ran R.state (skeleton (Create table.now columns.now capacity)) result self.old (S.state store.old) self.new (S.state store.new) }
-        ensures seals { KeepsSealed R.state self.old (S.state store.old) self.new (S.state store.new) }
-        ensures plain { seen_of self.new ≡ seen_to (seen_of self.new).end }
-        ensures started { (seen_of self.new).end ≡ Static → ⊥ }
-        ensures silent { IsSilent result }
-        ensures told { IsTrue (S.state store.old).tells → (tables : Tables) → Represents R.state self.old (S.state store.old) tables → (S.state store.new).lie ≡ None
-            → Told R.state (Create table.now columns.now capacity) (length (S.state store.old).asked) tables result self.old self.new (S.state store.new) }
+        requires allowed { refusal_now (public_of self.old) (length (S.state store.old).asked)
+            (Create table.now columns.now capacity) ≡ None }
+        ensures serves { ServesSilently R.state (Create table.now columns.now capacity) result
+            self.old (S.state store.old) self.new (S.state store.new) }
     {
         let before = store.count();
         let schema = new_schema(table, columns);

@@ -113,7 +113,20 @@ impl<R: Revisions> Engine<R> {
         Outcome::Refused(refusal)
     }
 
-    // A statement that went to its end.
+    // A statement that went to its end, of which this was seen.
+    pub(crate) fn finish_seen(&mut self, seen: Seen, outcome: Outcome) -> Outcome
+        ensures answer { result ≡ outcome }
+        ensures seen { self.new ≡ record self.old {
+          seen = seen;
+          public = record self.old.public { next_region = self.old.vault.next };
+        } }
+    {
+        self.seen = seen;
+        self.public.next_region = self.vault.next_region();
+        outcome
+    }
+
+    // A statement without a count that went to its end.
     pub(crate) fn finish(&mut self, outcome: Outcome) -> Outcome
         ensures answer { result ≡ outcome }
         ensures seen { self.new ≡ record self.old {
@@ -121,21 +134,27 @@ impl<R: Revisions> Engine<R> {
           public = record self.old.public { next_region = self.old.vault.next };
         } }
     {
-        self.seen = seen_to_end(End::Whole);
-        self.public.next_region = self.vault.next_region();
-        outcome
+        self.finish_seen(seen_to_end(End::Whole), outcome)
     }
 
-    // A statement that a pass gave up after so many accesses.
-    pub(crate) fn cut(&mut self, accesses: u64, error: OpErr) -> Result<Outcome, Stop>
+    // A statement that a pass gave up after so many accesses, of which this was seen until then.
+    pub(crate) fn cut_seen(
+        &mut self,
+        seen: Seen,
+        accesses: u64,
+        error: OpErr,
+    ) -> Result<Outcome, Stop>
         ensures answer { result ≡ answer_of error }
         ensures seen { self.new ≡ record self.old {
-          seen = seen_to (Cut accesses);
+          seen = record seen { end = Cut accesses };
           public = record self.old.public { next_region = self.old.vault.next };
           ended = is_stop (answer_of error);
         } }
     {
-        self.seen = seen_to_end(End::Cut(accesses));
+        self.seen = Seen {
+            end: End::Cut(accesses),
+            ..seen
+        };
         self.public.next_region = self.vault.next_region();
         let answer = match error {
             OpErr::Failed => Ok(Outcome::Refused(Refusal::StoreFault)),
@@ -145,5 +164,17 @@ impl<R: Revisions> Engine<R> {
         };
         self.ended = answer.is_err();
         answer
+    }
+
+    // A statement of which nothing was counted, that a pass gave up after so many accesses.
+    pub(crate) fn cut(&mut self, accesses: u64, error: OpErr) -> Result<Outcome, Stop>
+        ensures answer { result ≡ answer_of error }
+        ensures seen { self.new ≡ record self.old {
+          seen = seen_to (Cut accesses);
+          public = record self.old.public { next_region = self.old.vault.next };
+          ended = is_stop (answer_of error);
+        } }
+    {
+        self.cut_seen(seen_to_end(End::Whole), accesses, error)
     }
 }

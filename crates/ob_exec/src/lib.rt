@@ -2,6 +2,8 @@
 #![tactic(auto)]
 
 mod creating;
+mod deleting;
+mod dropping;
 mod engine;
 mod inserting;
 mod outcome;
@@ -11,6 +13,7 @@ mod selecting;
 mod tables;
 mod totalling;
 mod totals;
+mod updating;
 
 pub use engine::Engine;
 pub use outcome::Outcome;

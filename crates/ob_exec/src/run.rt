@@ -1,14 +1,7 @@
 //! A statement, by its kind.
-ghost use Rattle.std.specs.Prelude.{◌≡◌, ◌⊎◌, List, IsTrue, None, false, length, IfOk, OnErr};
-ghost use Rattle.ob_base.specs.Events.{Event};
-ghost use Rattle.ob_sql.specs.Skeleton.{skeleton};
-ghost use Rattle.ob_mean.specs.Lawful.{Lawful};
-ghost use Rattle.ob_mean.specs.Verdict.{Tables};
-ghost use Rattle.ob_vault.specs.Tied.{Calm, IsUnfit};
-ghost use Rattle.ob_exec.specs.Agreeing.{Agrees, has_ended, public_of, seen_of, world_of};
-ghost use Rattle.ob_exec.specs.Running.{Ran, RefusedEarly, Emits, SinkCause, refusal_now};
-ghost use Rattle.ob_exec.specs.Serving.{IsServed};
-ghost use Rattle.ob_exec.specs.Telling.{KeepsSealed, Represents, Told, Emitted};
+ghost use Rattle.std.specs.Prelude.{◌≡◌, false};
+ghost use Rattle.ob_exec.specs.Agreeing.{Agrees, has_ended};
+ghost use Rattle.ob_exec.specs.Serving.{Serves};
 
 use crate::engine::{Engine, LATE};
 use crate::outcome::Outcome;
@@ -36,21 +29,8 @@ impl<R: Revisions> Engine<R> {
     ) -> Result<Outcome, Stop>
         requires agrees { Agrees R.state self.old (S.state store.old) }
         requires lives { has_ended self.old ≡ false }
-        requires served { IsServed stmt.now }
-        ensures ran { Ran R.state (skeleton stmt.now) result self.old (S.state store.old) self.new (S.state store.new) }
-        ensures seals { KeepsSealed R.state self.old (S.state store.old) self.new (S.state store.new) }
-        ensures early { RefusedEarly (refusal_now (public_of self.old) (length (S.state store.old).asked) stmt.now) result (seen_of self.new) }
-        ensures lawful { Lawful (public_of self.old) (length (S.state store.old).asked) stmt.now (seen_of self.new) }
-        ensures emits { IfOk result (λ outcome. (events : List Event) × E.grew out.old out.new events × Emits outcome events
-            × (IsTrue (S.state store.old).tells → (tables : Tables) → Represents R.state self.old (S.state store.old) tables → (S.state store.new).lie ≡ None
-            → Emitted stmt.now (public_of self.old) (length (S.state store.old).asked) tables result events)) }
-        ensures stopped { OnErr result ((events : List Event) × (E.grew out.old out.new events ⊎ E.cut out.old out.new events)
-            × (IsTrue (S.state store.old).tells → (tables : Tables) → Represents R.state self.old (S.state store.old) tables
-            → Calm (world_of R.state self.old (S.state store.old)) → IsUnfit (world_of R.state self.new (S.state store.new))
-            → Emitted stmt.now (public_of self.old) (length (S.state store.old).asked) tables result events)) }
-        ensures sink { SinkCause result (E.faults out.old) (E.faults out.new) }
-        ensures told { IsTrue (S.state store.old).tells → (tables : Tables) → Represents R.state self.old (S.state store.old) tables → (S.state store.new).lie ≡ None
-            → Told R.state stmt.now (length (S.state store.old).asked) tables result self.old self.new (S.state store.new) }
+        ensures serves { Serves R.state E.grew E.cut E.faults stmt.now result
+            self.old (S.state store.old) self.new (S.state store.new) out.old out.new }
     {
         if let Some(refusal) = early_refusal(store.count() >= LATE, &self.public, stmt) {
             return Ok(self.refuse(refusal));
@@ -66,9 +46,11 @@ impl<R: Revisions> Engine<R> {
                 columns,
                 values,
             } => self.insert(store, table, columns, values.as_slice()),
+            Stmt::Update { table, sets, cond } => self.update(store, table, sets.as_slice(), cond),
+            Stmt::Delete { table, cond } => self.delete(store, table, cond),
+            Stmt::Drop { table } => self.drop_table(store, table),
+            Stmt::SelectRows(select) => self.select_rows(store, select, out),
             Stmt::SelectTotals(select) => self.select_totals(store, select, out),
-            Stmt::Update { .. } | Stmt::Delete { .. } | Stmt::Drop { .. } | Stmt::SelectRows(_) =>
-                unreachable!(),
         }
     }
 }

@@ -1,10 +1,19 @@
 //! Tables by their names.
-ghost use Rattle.std.specs.Prelude.{◌≡◌, ◌<◌, ℕ, List, length, Some, slice_get, slice_set, IfSome, IfNone};
+ghost use Rattle.std.specs.Prelude.{◌≡◌, ◌<◌, ◌≤◌, ◌+◌, ◌*◌, ℕ, true, List, length, Some, slice_get, slice_set, IfSome, IfNone, OnOk};
+ghost use Rattle.std.specs.List.{remove};
 ghost use Rattle.ob_base.specs.declared.schema.Table.{Table as TableOf};
-ghost use Rattle.ob_exec.specs.Engines.{IsAt};
+ghost use Rattle.ob_base.specs.Numbers.{blocks_for};
+ghost use Rattle.ob_base.specs.Stored.{has_table, headings_of};
+ghost use Rattle.ob_store.specs.Calls.{Rests};
+ghost use Rattle.ob_exec.specs.Agreeing.{public_of};
+ghost use Rattle.ob_exec.specs.Engines.{IsAt, IsFound};
 
-use ob_base::{Items, Name, Table};
+use crate::engine::Engine;
+use ob_base::{Items, Name, NoMemory, Table};
 use ob_flat::Flat;
+use ob_store::BlockStore;
+use ob_vault::Revisions;
+use std::mem;
 
 /// The place of the table of this name, if there is one.
 pub(crate) fn find_table(tables: &[Table], name: &Name) -> Option<usize>
@@ -32,12 +41,56 @@ pub(crate) fn flat_at(tables: &[Table], i: usize) -> Flat
     }
 }
 
-/// The tables, the one at a place in another region.
-pub(crate) fn with_region(tables: Items<Table>, i: usize, region: u64) -> Items<Table>
-    requires { i < length tables }
-    ensures { (t : TableOf) → slice_get tables i ≡ Some t → result ≡ slice_set tables i (record t { region = region }) }
-{
-    let mut tables = tables.into_vec();
-    tables[i].region = region;
-    Items::from_vec(tables)
+impl<R: Revisions> Engine<R> {
+    /// The place of the table of this name, which there is, and the table as the passes take it.
+    pub(crate) fn table_at(&self, name: &Name) -> (usize, Flat)
+        requires { has_table name.now (headings_of (public_of self.now).tables) ≡ true }
+        ensures { IsFound name.now result.0 result.1 (public_of self.now).tables }
+    {
+        let tables = self.public.tables.as_slice();
+        let Some(i) = find_table(tables, name) else {
+            unreachable!()
+        };
+        (i, flat_at(tables, i))
+    }
+
+    /// Has the store keep room for so many accesses of each block of a table, and two more.
+    pub(crate) fn make_room<S: BlockStore>(
+        &self,
+        store: &mut S,
+        flat: &Flat,
+        turns: u64,
+    ) -> Result<(), NoMemory>
+        requires pack { 1 ≤ (public_of self.now).pack }
+        requires turns { turns ≤ 3 }
+        ensures rests { Rests (S.state store.old) (S.state store.new) }
+        ensures spare { OnOk result (turns
+            * blocks_for (public_of self.now).pack flat.now.capacity + 2 ≤ (S.state store.new).spare) }
+    {
+        let blocks = flat.capacity.div_ceil(u32::from(self.public.pack));
+        store.room(turns * u64::from(blocks) + 2)
+    }
+
+    /// The table at a place now lies in another region.
+    pub(crate) fn move_table(&mut self, i: usize, region: u64)
+        requires { i < length self.old.public.tables }
+        ensures { (t : TableOf) → slice_get self.old.public.tables i ≡ Some t
+            → self.new ≡ record self.old { public = record self.old.public {
+              tables = slice_set self.old.public.tables i (record t { region = region }) } } }
+    {
+        let mut tables = mem::replace(&mut self.public.tables, Items::new(self.alloc)).into_vec();
+        tables[i].region = region;
+        self.public.tables = Items::from_vec(tables);
+    }
+
+    /// The table at a place is taken out.
+    pub(crate) fn remove_table(&mut self, i: usize)
+        requires { i < length self.old.public.tables }
+        ensures { self.new ≡ record self.old { public = record self.old.public {
+          tables = remove self.old.public.tables i } } }
+    {
+        let mut tables = mem::replace(&mut self.public.tables, Items::new(self.alloc)).into_vec();
+        let _ = tables.remove(i);
+        self.public.tables = Items::from_vec(tables);
+    }
 }

@@ -7,6 +7,14 @@ pub returns-clause-agrees : goal.returns-clause-agrees
 returns-clause-agrees g c = λ s none. record {
   ready = c.new-2.ensures.ready s none;
   next = sym c.new-2.ensures.first;
+  settings = record {
+    blocks = c.requires.blocks;
+    most = c.requires.most;
+    depth_least = c.requires.depth_least;
+    depth_most = c.requires.depth_most;
+    pack_least = c.requires.pack_least;
+    pack_most = c.requires.pack_most;
+  };
   room = record {
     idle = record {
       free = grind (arith, common_steps, c.in_ok-room.ensures);
@@ -16,8 +24,6 @@ returns-clause-agrees g c = λ s none. record {
     };
     rows = grind (arith, common_steps, c.in_ok-room.ensures);
     pack = grind (arith, common_steps, c.in_ok-room.ensures);
-    some = c.requires.pack_least;
-    few = c.requires.pack_most;
   };
   tables = no_tables _ _ _ c.new-3.ensures c.new-2.ensures.empty;
 }

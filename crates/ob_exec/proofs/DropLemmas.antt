@@ -1,0 +1,228 @@
+-- DROP TABLE.
+use Rattle.std.proofs.Common.{◌≡◌, ◌⊎◌, inl, inr, ◌<◌, ℕ, zero, suc, Bool, true, false, if◌then◌else◌, List, [], ◌∷◌, ◌++◌, length, Some, None, Option, Ok, Result, refl, sym, ◌∙◌, ap, subst, arith, slice_get}
+use Rattle.std.specs.Prelude.{bytes_eq, filter, not}
+use Rattle.std.specs.List.{remove}
+use Rattle.std.specs.Option.{option_map_or}
+use Rattle.std.proofs.lemmas.Bool.{cases_eq}
+use Rattle.std.proofs.lemmas.Slice.Eq.{bytes_eq-Decides}
+use Rattle.ob_base.specs.declared.access.Access.{Access}
+use Rattle.ob_base.specs.declared.refusal.Refusal.{Refusal}
+use Rattle.ob_base.specs.declared.refusal.Stop.{Stop}
+use Rattle.ob_base.specs.declared.schema.Heading.{Heading}
+use Rattle.ob_base.specs.declared.schema.Table.{Table}
+use Rattle.ob_base.specs.declared.seen.End.{End}
+use Rattle.ob_base.specs.declared.seen.End.TheVariants.{Whole}
+use Rattle.ob_base.specs.declared.skeleton.Skeleton.TheVariants.{Drop as DropSkeleton}
+use Rattle.ob_base.specs.Accesses.{discard_at}
+use Rattle.ob_base.specs.Stored.{Stored, dropped_at}
+use Rattle.ob_store.specs.State.{StoreState}
+use Rattle.ob_store.specs.Calls.{Rests}
+use Rattle.ob_vault.specs.State.{RevState, World}
+use Rattle.ob_vault.specs.declared.region.Region.{Region}
+use Rattle.ob_vault.specs.declared.vault.Vault.{Vault}
+use Rattle.ob_vault.specs.Places.{at}
+use Rattle.ob_vault.specs.Tied.{Lives}
+use Rattle.ob_vault.specs.Calls.{Lasts, Went, one}
+use Rattle.ob_vault.proofs.Runs.{went_join}
+use Rattle.ob_vault.proofs.WordLemmas.{went_rests}
+use Rattle.ob_flat.specs.declared.fault.OpErr.{OpErr}
+use Rattle.ob_flat.specs.declared.flat.Flat.{Flat}
+use Rattle.ob_flat.specs.Discards.{Discards}
+use Rattle.ob_flat.proofs.Tables.{represents_lasts}
+use Rattle.ob_script.specs.Script.{whole_script}
+use Rattle.ob_sql.specs.declared.stmt.Stmt.TheVariants.{Drop as DropTable}
+use Rattle.ob_mean.specs.Settle.{settle, settled}
+use Rattle.ob_mean.specs.Step.{accepted_answer, answered as answered_by, followed}
+use Rattle.ob_mean.specs.Verdict.{Tables, database, refusal, ended as seen_to}
+use Rattle.ob_mean.proofs.VerdictLemmas.{refused_late}
+use Rattle.ob_exec.specs.declared.engine.Engine.{Engine}
+use Rattle.ob_exec.specs.declared.outcome.Outcome.{Outcome}
+use Rattle.ob_exec.specs.declared.outcome.Outcome.TheVariants.{Dropped}
+use Rattle.ob_exec.specs.Engines.{AreTables, IsAt, IsTable, flat_of}
+use Rattle.ob_exec.specs.Opening.{Opens}
+use Rattle.ob_exec.specs.Agreeing.{Agrees, world_of}
+use Rattle.ob_exec.specs.Running.{refusal_now}
+use Rattle.ob_exec.specs.Serving.{ServesSilently}
+use Rattle.ob_exec.specs.Telling.{AreHeld, outcome_of}
+use Rattle.ob_exec.proofs.HeldLemmas.{held_kept}
+use Rattle.ob_exec.proofs.RunLemmas.{IsAnswered, engine_after, ran_whole}
+use Rattle.ob_exec.proofs.SealLemmas.{keeps_pass}
+use Rattle.ob_exec.proofs.SilentLemmas.{finished, serves_as}
+use Rattle.ob_exec.proofs.TableLemmas.{AreNamed, named, stored_found, table_kept}
+use Rattle.ob_exec.proofs.ToldLemmas.{early_held}
+
+-- ---- a list without the element at a place
+-- where an element of it stood: before that place, or behind it
+record Origin {A : Type 0} (xs : List A) (i j : ℕ) (y : A) : Type 0 where
+  from : ℕ
+  get : slice_get xs from ≡ Some y
+  place : ((from ≡ j) × (from < i)) ⊎ ((from ≡ suc j) × (i < from))
+
+origin : {A : Type 0} (xs : List A) (i j : ℕ) (y : A) → slice_get (remove xs i) j ≡ Some y → Origin xs i j y
+origin [] zero zero y is = absurd (cc is)
+origin [] zero (suc j) y is = absurd (cc is)
+origin [] (suc i) zero y is = absurd (cc is)
+origin [] (suc i) (suc j) y is = absurd (cc is)
+origin (x ∷ xs) zero j y is = record { from = suc j; get = is; place = inr (refl, omega (arith)) }
+origin (x ∷ xs) (suc i) zero y is = record { from = zero; get = is; place = inl (refl, omega (arith)) }
+origin (x ∷ xs) (suc i) (suc j) y is =
+    let rest = origin xs i j y is in
+    record {
+      from = suc rest.from;
+      get = rest.get;
+      place = elim rest.place [ inl low ↦ inl (ap suc low.0, omega (arith, low.1)) | inr high ↦ inr (ap suc high.0, omega (arith, high.1)) ];
+    }
+
+origin_off : {A : Type 0} (xs : List A) (i j : ℕ) (y : A) → (a : Origin xs i j y) → a.from ≡ i → ⊥
+origin_off xs i j y a same = elim a.place [ inl low ↦ omega (arith, low.1, same) | inr high ↦ omega (arith, high.1, same) ]
+
+same_origin : {A : Type 0} (xs : List A) (i j k : ℕ) (y z : A) → (a : Origin xs i j y) (b : Origin xs i k z) → a.from ≡ b.from → j ≡ k
+same_origin xs i j k y z a b same =
+    elim a.place [
+      | inl low ↦ elim b.place [ inl low' ↦ omega (arith, low.0, low'.0, same) | inr high ↦ omega (arith, low.1, high.1, same) ]
+      | inr high ↦ elim b.place [ inl low ↦ omega (arith, low.1, high.1, same) | inr high' ↦ omega (arith, high.0, high'.0, same) ]
+    ]
+
+-- an element that stood elsewhere is left
+left_at : {A : Type 0} (xs : List A) (i k : ℕ) (y : A) → slice_get xs k ≡ Some y → (k ≡ i → ⊥) → (j : ℕ) × (slice_get (remove xs i) j ≡ Some y)
+left_at [] i zero y is off = absurd (cc is)
+left_at [] i (suc k) y is off = absurd (cc is)
+left_at (x ∷ xs) zero zero y is off = absurd (off refl)
+left_at (x ∷ xs) zero (suc k) y is off = (k, is)
+left_at (x ∷ xs) (suc i) zero y is off = (zero, is)
+left_at (x ∷ xs) (suc i) (suc k) y is off =
+    let rest = left_at xs i k y is (λ same. off (ap suc same)) in (suc rest.0, rest.1)
+
+-- ---- the tables without the one of a name
+no_others : (name : List ℕ) (ts : List Table) → ((j : ℕ) (u : Table) → slice_get ts j ≡ Some u → u.heading.name ≡ name → ⊥) → filter (λ (t : Table). not (bytes_eq t.heading.name name)) ts ≡ ts
+no_others name [] off = refl
+no_others name (x ∷ xs) off = head (no_others name xs (λ j u js same. off (suc j) u js same)) (bytes_eq x.heading.name name) refl
+  where
+    head : filter (λ (t : Table). not (bytes_eq t.heading.name name)) xs ≡ xs → (b : Bool) → bytes_eq x.heading.name name ≡ b
+        → filter (λ (t : Table). not (bytes_eq t.heading.name name)) (x ∷ xs) ≡ x ∷ xs
+    head rest true is = absurd (off 0 x refl (named x.heading.name name is))
+    head rest false is =
+        ap (λ (b : Bool). if not b then x ∷ filter (λ (t : Table). not (bytes_eq t.heading.name name)) xs else filter (λ (t : Table). not (bytes_eq t.heading.name name)) xs) is
+        ∙ ap (λ (ys : List Table). x ∷ ys) rest
+
+removed_is : (name : List ℕ) (ts : List Table) (i : ℕ) (t : Table) → AreNamed ts → slice_get ts i ≡ Some t → t.heading.name ≡ name
+    → remove ts i ≡ filter (λ (t : Table). not (bytes_eq t.heading.name name)) ts
+removed_is name [] zero t names at is = absurd (cc at)
+removed_is name [] (suc i) t names at is = absurd (cc at)
+removed_is name (x ∷ xs) zero t names at is =
+    let same : x ≡ t = cc at in
+    let of_name : x.heading.name ≡ name = ap (λ (u : Table). u.heading.name) same ∙ is in
+    let hit = (bytes_eq-Decides x.heading.name name).1 of_name in
+    sym (no_others name xs (λ j u js of_other. omega (arith, names 0 (suc j) x u refl js (of_name ∙ sym of_other))))
+    ∙ ap (λ (b : Bool). if not b then x ∷ filter (λ (t : Table). not (bytes_eq t.heading.name name)) xs else filter (λ (t : Table). not (bytes_eq t.heading.name name)) xs) (sym hit)
+removed_is name (x ∷ xs) (suc i) t names at is =
+    head (removed_is name xs i t (λ j k u v js ks same. omega (arith, names (suc j) (suc k) u v js ks same)) at is) (bytes_eq x.heading.name name) refl
+  where
+    head : remove xs i ≡ filter (λ (t : Table). not (bytes_eq t.heading.name name)) xs → (b : Bool) → bytes_eq x.heading.name name ≡ b
+        → x ∷ remove xs i ≡ filter (λ (t : Table). not (bytes_eq t.heading.name name)) (x ∷ xs)
+    head rest true hit = absurd (omega (arith, names 0 (suc i) x t refl at (named x.heading.name name hit ∙ sym is)))
+    head rest false miss =
+        ap (λ (ys : List Table). x ∷ ys) rest
+        ∙ ap (λ (b : Bool). if not b then x ∷ filter (λ (t : Table). not (bytes_eq t.heading.name name)) xs else filter (λ (t : Table). not (bytes_eq t.heading.name name)) xs) (sym miss)
+
+module _ (pack r : ℕ) (ts : List Table) (t : Table) (i : ℕ) (old new : World) (lasts : Lasts (one r) old new) (tables : AreTables ts pack old)
+    (at_i : slice_get ts i ≡ Some t) (region_is : t.region ≡ r) (gone : (shape : Region) → new.vault.revs.live r ≡ Some shape → ⊥) where
+  elsewhere : (k : ℕ) (u : Table) → slice_get ts k ≡ Some u → (k ≡ i → ⊥) → one r u.region → ⊥
+  elsewhere k u is off same = off (tables.apart k i u t is at_i (same ∙ sym region_is))
+
+  removed_each : (j : ℕ) (u : Table) → slice_get (remove ts i) j ≡ Some u → IsTable pack u new
+  removed_each j u is =
+      let o = origin ts i j u is in
+      table_kept (one r) pack u old new lasts (elsewhere o.from u o.get (origin_off ts i j u o)) (tables.each o.from u o.get)
+
+  removed_apart : (j k : ℕ) (u v : Table) → slice_get (remove ts i) j ≡ Some u → slice_get (remove ts i) k ≡ Some v → u.region ≡ v.region → j ≡ k
+  removed_apart j k u v js ks same =
+      let a = origin ts i j u js in
+      let b = origin ts i k v ks in
+      same_origin ts i j k u v a b (tables.apart a.from b.from u v a.get b.get same)
+
+  removed_names : (j k : ℕ) (u v : Table) → slice_get (remove ts i) j ≡ Some u → slice_get (remove ts i) k ≡ Some v → u.heading.name ≡ v.heading.name → j ≡ k
+  removed_names j k u v js ks same =
+      let a = origin ts i j u js in
+      let b = origin ts i k v ks in
+      same_origin ts i j k u v a b (tables.names a.from b.from u v a.get b.get same)
+
+  removed_only : (q : ℕ) (shape : Region) → new.vault.revs.live q ≡ Some shape → (q ≡ r) ⊎ (q ≡ r → ⊥) → (j : ℕ) × (u : Table) × (slice_get (remove ts i) j ≡ Some u) × (u.region ≡ q)
+  removed_only q shape live (inl here) = absurd (gone shape (ap new.vault.revs.live (sym here) ∙ live))
+  removed_only q shape live (inr off) =
+      let found = tables.only q shape (sym (lasts.apart.live q off) ∙ live) in
+      let left = left_at ts i found.0 found.1 found.2 (λ same. let one_table : found.1 ≡ t = cc (found.2, at_i, same) in off (sym found.3 ∙ ap (λ (x : Table). x.region) one_table ∙ region_is)) in
+      (left.0, found.1, left.1, found.3)
+
+  tables_removed : AreTables (remove ts i) pack new
+  tables_removed = record { each = removed_each; apart = removed_apart; names = removed_names; only = λ q shape live. removed_only q shape live (cases_eq q r) }
+
+-- the tables in place beside them
+held_removed : (pack r : ℕ) (name : List ℕ) (ts : List Table) (tables : Tables) (i : ℕ) (t : Table) (old new : World) → AreNamed ts → AreHeld pack ts tables old → Lasts (one r) old new
+    → ((j : ℕ) (u : Table) → slice_get ts j ≡ Some u → (j ≡ i → ⊥) → one r u.region → ⊥) → slice_get ts i ≡ Some t → t.heading.name ≡ name
+    → AreHeld pack (remove ts i) (dropped_at name tables) new
+held_removed pack r name [] [] zero t old new names held lasts apart at is = absurd (cc at)
+held_removed pack r name [] [] (suc i) t old new names held lasts apart at is = absurd (cc at)
+held_removed pack r name [] (x ∷ xs) i t old new names held lasts apart at is = absurd held
+held_removed pack r name (u ∷ ts) [] i t old new names held lasts apart at is = absurd held
+held_removed pack r name (u ∷ ts) (x ∷ xs) zero t old new names held lasts apart at is =
+    let same : u ≡ t = cc at in
+    let of_name : x.heading.name ≡ name = ap (λ (h : Heading). h.name) held.0 ∙ ap (λ (v : Table). v.heading.name) same ∙ is in
+    let hit = (bytes_eq-Decides x.heading.name name).1 of_name in
+    subst (λ (b : Bool). AreHeld pack ts (if b then xs else x ∷ dropped_at name xs) new) (sym hit)
+    (held_kept (one r) pack ts xs old new lasts (λ j v js hits. apart (suc j) v js (λ off. omega (arith, off)) hits) held.2)
+held_removed pack r name (u ∷ ts) (x ∷ xs) (suc i) t old new names held lasts apart at is =
+    head (bytes_eq x.heading.name name) refl
+    (held_removed pack r name ts xs i t old new (λ j k v z js ks same. omega (arith, names (suc j) (suc k) v z js ks same)) held.2 lasts
+    (λ j v js off. apart (suc j) v js (λ same. off (omega (arith, same)))) at is)
+  where
+    head : (b : Bool) → bytes_eq x.heading.name name ≡ b → AreHeld pack (remove ts i) (dropped_at name xs) new → AreHeld pack (u ∷ remove ts i) (dropped_at name (x ∷ xs)) new
+    head true hit rest = absurd (omega (arith, names 0 (suc i) u t refl at (ap (λ (h : Heading). h.name) (sym held.0) ∙ named x.heading.name name hit ∙ sym is)))
+    head false miss rest =
+        subst (λ (b : Bool). AreHeld pack (u ∷ remove ts i) (if b then xs else x ∷ dropped_at name xs) new) (sym miss)
+        (held.0, represents_lasts pack (flat_of u) (one r) old new lasts (apart 0 u refl (λ off. omega (arith, off))) x.held held.1, rest)
+
+-- its region is live
+pub lives_found : {R : Type 0} (state : R → RevState) (old : Engine R) (s s1 : StoreState) (i : ℕ) (table : Table) (flat : Flat) → Agrees state old s → slice_get old.public.tables i ≡ Some table
+    → flat ≡ flat_of table → (shape : Region) × Lives flat.region shape (at state old.vault s1)
+lives_found state old s s1 i table flat agrees get is =
+    let lives = (agrees.tables.each i table get).flat.made.lives.live in (_, record { live = ap (λ (f : Flat). (state old.vault.revs).live f.region) is ∙ lives })
+
+-- nothing was opened
+opens_discard : (r high : ℕ) → Opens (discard_at r) high high
+opens_discard r high = record { kept = omega (arith); some = λ none. absurd (cc none) }
+
+module _ {R : Type 0} (state : R → RevState) (old : Engine R) (s s1 : StoreState) (v : Vault R) (t : StoreState) (name : List ℕ) (i : ℕ) (table : Table)
+    (agrees : Agrees state old s) (rests : Rests s s1) (here : IsAt name i table old.public.tables) (now : refusal_now old.public (length s.asked) (DropTable name) ≡ None) where
+  script_is : (end : End) → whole_script old.public (DropSkeleton name) (seen_to end) ≡ discard_at table.region
+  script_is end =
+      ap (λ (o : Option (Stored ℕ)). option_map_or (λ (u : Stored ℕ). discard_at u.held) o [])
+      (stored_found name old.public.tables i table agrees.tables.names here.get here.named)
+
+  -- the table was dropped, whatever the store answered
+  pub dropped : (region : ℕ) (answer : Result Unit OpErr) (new : Engine R) (result : Result Outcome Stop) → region ≡ table.region
+      → Discards region answer (at state old.vault s1) (at state v t) → old.ended ≡ false → result ≡ Ok Dropped
+      → new ≡ engine_after old v old.room (remove old.public.tables i) Whole old.ended → ServesSilently state (DropTable name) result old s new t
+  dropped region answer new result region_is discards lives answered is =
+      let stmt = DropTable name in
+      let r = table.region in
+      let went = subst (λ (q : ℕ). Went (discard_at q) (one q) (at state old.vault s1) (at state v t)) region_is discards.went in
+      let gone : (state v.revs).live r ≡ None = ap (state v.revs).live (sym region_is) ∙ discards.gone in
+      let all = went_join (one r) _ _ _ [] (discard_at r) (went_rests _ s s1 rests (one r) agrees.ready) went in
+      let apart : (j : ℕ) (u : Table) → slice_get old.public.tables j ≡ Some u → (j ≡ i → ⊥) → one r u.region → ⊥ = λ j u js off same. off (agrees.tables.apart j i u table js here.get same) in
+      let removed = removed_is name old.public.tables i table agrees.tables.names here.get here.named in
+      let is_answered : IsAnswered Dropped = record { whole = λ n. refl; own = refl } in
+      let ran = ran_whole state (DropSkeleton name) old s v old.room t agrees agrees.room (one r) (remove old.public.tables i) (discard_at r) Dropped lives is_answered (opens_discard r old.room.high) all
+      (script_is Whole) removed
+      (tables_removed old.public.pack r old.public.tables table i _ _ all.lasts agrees.tables here.get refl (λ shape live. absurd (cc (live, gone)))) in
+      serves_as state stmt old s t _ _ _ _ answered is
+      (finished state stmt old s agrees now (λ tables. refl) v old.room t (remove old.public.tables i) Dropped is_answered refl ran
+      (keeps_pass state old s s1 rests agrees (engine_after old v old.room (remove old.public.tables i) Whole old.ended) t (at state v t) refl (λ good accepts. discards.seals.seals good))
+      (λ tables reads.
+      let early = early_held old.public (length s.asked) stmt tables (world_of state old s) None reads.held.held now in
+      let none : refusal old.public (length s.asked) tables stmt ≡ None = refused_late old.public (length s.asked) tables stmt early in
+      let settles : settle old.public (length s.asked) tables stmt ≡ dropped_at name tables = ap (λ (o : Option Refusal). followed o (settled tables stmt) tables) none in (
+        sym (ap (λ (o : Option Refusal). outcome_of stmt (answered_by o (accepted_answer (database tables) stmt))) none),
+        subst (λ (ts : Tables). AreHeld old.public.pack (remove old.public.tables i) ts (at state v t)) (sym settles)
+            (held_removed old.public.pack r name old.public.tables tables i table _ _ agrees.tables.names reads.held.held all.lasts apart here.get here.named),
+      )))

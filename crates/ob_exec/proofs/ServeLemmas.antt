@@ -1,0 +1,166 @@
+-- A statement, from what its kind says of it.
+use Rattle.std.proofs.Common.{◌≡◌, inl, ℕ, Bool, true, false, List, [], ◌∷◌, ◌++◌, length, Option, Some, None, Result, Ok, Err, refl, sym, ◌∙◌, ap, subst, append-nil}
+use Rattle.std.specs.Prelude.{IfOk, OnErr}
+use Rattle.ob_base.specs.declared.refusal.Refusal.{Refusal}
+use Rattle.ob_base.specs.declared.refusal.Stop.{Stop}
+use Rattle.ob_base.specs.declared.refusal.Stop.TheVariants as Stops
+use Rattle.ob_base.specs.declared.seen.End.TheVariants.{Static}
+use Rattle.ob_base.specs.Events.{Event}
+use Rattle.ob_base.specs.Refusals.{is_store_fault}
+use Rattle.ob_store.specs.State.{StoreState}
+use Rattle.ob_vault.specs.State.{RevState}
+use Rattle.ob_sql.specs.declared.stmt.Stmt.{Stmt}
+use Rattle.ob_sql.specs.Skeleton.{skeleton}
+use Rattle.ob_mean.specs.declared.answer.Answer.{Answer}
+use Rattle.ob_mean.specs.declared.answer.Answer.TheVariants as A
+use Rattle.ob_mean.specs.Lawful.{is_counted}
+use Rattle.ob_mean.specs.Prints.{Prints, Unfinished}
+use Rattle.ob_mean.specs.Settle.{settled}
+use Rattle.ob_mean.specs.Step.{accepted_answer, answered, followed}
+use Rattle.ob_mean.specs.Verdict.{Tables, database, refusal, verdict, ended as seen_to}
+use Rattle.ob_mean.proofs.VerdictLemmas.{refused_early, seen_early}
+use Rattle.ob_verdict.specs.Laws.{AreInPlace}
+use Rattle.ob_exec.specs.declared.engine.Engine.{Engine}
+use Rattle.ob_exec.specs.declared.outcome.Outcome.{Outcome}
+use Rattle.ob_exec.specs.declared.outcome.Outcome.TheVariants.{Created, Inserted, Changed, Deleted, Dropped, Rows, Refused}
+use Rattle.ob_exec.specs.Agreeing.{Agrees, world_of}
+use Rattle.ob_exec.specs.Refusals.{by_fault}
+use Rattle.ob_exec.specs.Running.{Emits, IsSilent, RefusedEarly, SinkCause, is_fault, refusal_now}
+use Rattle.ob_exec.specs.Serving.{Serves, ServesSilently}
+use Rattle.ob_exec.specs.Telling.{AreHeld, Represents, answer_labels, outcome_of}
+use Rattle.ob_exec.proofs.LawfulLemmas.{lawful_now, lawful_refused}
+use Rattle.ob_exec.proofs.RunLemmas.{of_other, ran_refused}
+use Rattle.ob_exec.proofs.SealLemmas.{keeps_none}
+use Rattle.ob_exec.proofs.ToldLemmas.{early_held, early_is, refused_none}
+
+-- the same, of an equal answer and an equal engine
+pub serves_same : {R E : Type 0} (state : R → RevState) (grew cut : E → E → List Event → Type 0) (faults : E → ℕ) (stmt : Stmt) (old : Engine R) (s t : StoreState) (out_old out_new : E)
+    (r q : Result Outcome Stop) (new same : Engine R) → r ≡ q → new ≡ same → Serves state grew cut faults stmt q old s same t out_old out_new → Serves state grew cut faults stmt r old s new t out_old out_new
+serves_same {R} {E} state grew cut faults stmt old s t out_old out_new r q new same answer is serves =
+    subst (λ (e : Engine R). Serves state grew cut faults stmt r old s e t out_old out_new) (sym is)
+    (subst (λ (a : Result Outcome Stop). Serves state grew cut faults stmt a old s same t out_old out_new) (sym answer) serves)
+
+-- ---- nothing is emitted
+-- an answer that is no rows
+abbrev IsBare : Answer → Type 0
+IsBare A.Done = Unit {0}
+IsBare (A.Changed n) = Unit {0}
+IsBare (A.Rows rows) = ⊥
+IsBare (A.Refused r) = Unit {0}
+
+bare_prints : (labels : List (List ℕ)) (a : Answer) → IsBare a → Prints labels a []
+bare_prints labels A.Done bare = refl
+bare_prints labels (A.Changed n) bare = refl
+bare_prints labels (A.Rows rows) bare = absurd bare
+bare_prints labels (A.Refused r) bare = refl
+
+bare_unfinished : (labels : List (List ℕ)) (a : Answer) → IsBare a → Unfinished labels a []
+bare_unfinished labels A.Done bare = refl
+bare_unfinished labels (A.Changed n) bare = refl
+bare_unfinished labels (A.Rows rows) bare = absurd bare
+bare_unfinished labels (A.Refused r) bare = refl
+
+-- what is no rows of an accepted statement is none of a refused one
+bare_answered : (r : Option Refusal) (a : Answer) → IsBare a → IsBare (answered r a)
+bare_answered None a bare = bare
+bare_answered (Some r) a bare = tt
+
+either : (failed : Bool) (cut whole : Type 0) → cut → whole → by_fault failed cut whole
+either true cut whole off is = off
+either false cut whole off is = is
+
+-- so is what an answer emits that is no rows, whatever its labels are
+silent_emits : (labels : List (List ℕ)) (outcome : Outcome) → Emits [] outcome [] → Emits labels outcome []
+silent_emits labels (Refused r) silent = silent
+silent_emits labels Created silent = silent
+silent_emits labels Inserted silent = silent
+silent_emits labels (Changed n) silent = silent
+silent_emits labels (Deleted n) silent = silent
+silent_emits labels Dropped silent = silent
+silent_emits labels (Rows k) silent = absurd (cc silent.is)
+
+-- an emitter did not fail where nothing was emitted
+silent_sink : (r : Result Outcome Stop) (n : ℕ) → IsSilent r → SinkCause r n n
+silent_sink (Ok outcome) n silent = refl
+silent_sink (Err Stops.SinkFault) n silent = absurd silent
+silent_sink (Err (Stops.Tampered region place)) n silent = refl
+silent_sink (Err Stops.NoMemory) n silent = refl
+silent_sink (Err Stops.SourceFault) n silent = absurd silent
+silent_sink (Err Stops.InputLimit) n silent = absurd silent
+
+silent_answered : {P : Outcome → Type 0} (r : Result Outcome Stop) → IsSilent r → ((o : Outcome) → Emits [] o [] → P o) → IfOk r P
+silent_answered (Ok o) silent h = h o silent
+silent_answered (Err e) silent h = tt
+
+silent_stopped : {P : Type 0} (r : Result Outcome Stop) → P → OnErr r P
+silent_stopped (Ok x) h = tt
+silent_stopped (Err e) h = h
+
+module _ {R E : Type 0} (state : R → RevState) (grew cut : E → E → List Event → Type 0) (faults : E → ℕ) (stmt : Stmt) (old : Engine R) (s : StoreState) (out : E) (starts : grew out out []) where
+  -- a statement that emits nothing and of which nothing is counted
+  pub serves_silently : (result : Result Outcome Stop) (new : Engine R) (t : StoreState) → refusal_now old.public (length s.asked) stmt ≡ None → is_counted stmt ≡ false
+      → ((tables : Tables) → IsBare (accepted_answer (database tables) stmt)) → ServesSilently state stmt result old s new t
+      → Serves state grew cut faults stmt result old s new t out out
+  serves_silently result new t now uncounted bare serves =
+      let early = refused_none (refusal_now old.public (length s.asked) stmt) result new.seen now serves.started in
+      let no_rows : (tables : Tables) → IsBare (verdict old.public (length s.asked) tables stmt) = λ tables. bare_answered (refusal old.public (length s.asked) tables stmt) _ (bare tables) in
+      let labels = answer_labels stmt old.public in
+      record {
+        ran = serves.ran;
+        early = early;
+        lawful = lawful_now old.public (length s.asked) stmt result new.seen s.asked t.asked uncounted serves.plain serves.uncounted early serves.ran.asked serves.ran.ends;
+        memory = serves.memory;
+        seals = serves.seals;
+        answered = silent_answered result serves.silent (λ outcome silent. record {
+          events = [];
+          took = starts;
+          emits = silent_emits labels outcome silent;
+          told = λ tables reads. either (is_fault outcome) _ _ (bare_unfinished labels _ (no_rows tables)) (bare_prints labels _ (no_rows tables));
+        });
+        stopped = silent_stopped result (record {
+          events = [];
+          ends = inl starts;
+          told = λ tables reads. record { whole = []; prints = bare_prints labels _ (no_rows tables); begun = ([], refl) };
+        });
+        sink = silent_sink result (faults out) serves.silent;
+        means = serves.means;
+      }
+
+  -- a refusal before any access
+  pub serves_refused : (agrees : Agrees state old s) → old.ended ≡ false → (r : Refusal) → refusal_now old.public (length s.asked) stmt ≡ Some r
+      → Serves state grew cut faults stmt (Ok (Refused r)) old s (record old { seen = seen_to Static }) s out out
+  serves_refused agrees lives r now =
+      let new = record old { seen = seen_to Static } in
+      let is_early = early_is old.public (length s.asked) stmt r now in
+      let labels = answer_labels stmt old.public in
+      let refused : (tables : Tables) → Represents state old s tables → refusal old.public (length s.asked) tables stmt ≡ Some r = λ tables held.
+      refused_early old.public (length s.asked) tables stmt r (early_held old.public (length s.asked) stmt tables (world_of state old s) (Some r) held.held now) in
+      let verdict_is : (tables : Tables) → Represents state old s tables → verdict old.public (length s.asked) tables stmt ≡ A.Refused r = λ tables held.
+      ap (λ (o : Option Refusal). answered o (accepted_answer (database tables) stmt)) (refused tables held) in
+      record {
+        ran = ran_refused state (skeleton stmt) old s agrees lives r is_early;
+        early = subst (λ (o : Option Refusal). RefusedEarly o (Ok (Refused r)) (seen_to Static)) (sym now) (refl, refl);
+        lawful = lawful_refused old.public (length s.asked) stmt r now;
+        memory = λ is. absurd (cc is);
+        seals = keeps_none state old s new refl;
+        answered = record {
+          events = [];
+          took = starts;
+          emits = of_other _ _ (is_store_fault r) is_early.own refl;
+          told = λ tables reads. of_other _ _ (is_store_fault r) is_early.own (subst (λ (a : Answer). Prints labels a []) (sym (verdict_is tables reads.held)) refl);
+        };
+        stopped = tt;
+        sink = refl;
+        means = record {
+          told = λ tables reads. of_other _ _ (is_store_fault r) is_early.own (record {
+            answer = sym (ap (outcome_of stmt) (verdict_is tables reads.held));
+            seen = sym (seen_early old.public (length s.asked) tables stmt r (early_held old.public (length s.asked) stmt tables (world_of state old s) (Some r) reads.held.held now));
+            held = record {
+              held = subst (λ (ts : Tables). AreHeld old.public.pack old.public.tables ts (world_of state old s)) (sym (ap (λ (o : Option Refusal). followed o (settled tables stmt) tables) (refused tables reads.held))) reads.held.held;
+              in_place = subst (λ (ts : Tables). AreInPlace ts) (sym (ap (λ (o : Option Refusal). followed o (settled tables stmt) tables) (refused tables reads.held))) reads.held.in_place;
+            };
+          });
+          honest = λ tables reads. tt;
+          held = λ tables reads. tt;
+        };
+      }

@@ -1,0 +1,179 @@
+-- A statement that emits nothing and of which nothing is counted, by how it ended.
+use Rattle.std.proofs.Common.{◌≡◌, inl, inr, ◌-◌, max, ℕ, Bool, true, false, List, [], ◌∷◌, ◌++◌, length, Ok, Err, Result, None, refl, sym, ◌∙◌, ap, subst, arith, append-nil, append_assoc}
+use Rattle.std.specs.Prelude.{IsTrue, Some, slice_get}
+use Rattle.ob_base.specs.declared.access.Access.{Access}
+use Rattle.ob_base.specs.declared.refusal.Stop.{Stop}
+use Rattle.ob_base.specs.declared.refusal.Stop.TheVariants as Stops
+use Rattle.ob_base.specs.declared.schema.Table.{Table}
+use Rattle.ob_base.specs.declared.seen.End.{End}
+use Rattle.ob_base.specs.declared.seen.End.TheVariants.{Whole, Cut}
+use Rattle.ob_base.specs.Accesses.{make_at}
+use Rattle.ob_base.specs.Schemas.{Columns}
+use Rattle.ob_room.specs.RoomState.{RoomState}
+use Rattle.ob_store.specs.State.{StoreState}
+use Rattle.ob_store.specs.Calls.{Rests}
+use Rattle.ob_store.specs.Runs.{Began}
+use Rattle.ob_vault.specs.State.{RevState, World}
+use Rattle.ob_vault.specs.declared.region.Region.{Region}
+use Rattle.ob_vault.specs.declared.vault.Vault.{Vault}
+use Rattle.ob_vault.specs.Places.{at}
+use Rattle.ob_vault.specs.Calls.{Seals, one}
+use Rattle.ob_vault.proofs.WordLemmas.{went_rests}
+use Rattle.ob_flat.specs.declared.fault.OpErr.{OpErr}
+use Rattle.ob_flat.specs.declared.fault.OpErr.TheVariants as OpErrs
+use Rattle.ob_flat.specs.Flats.{Accepts}
+use Rattle.ob_flat.specs.Passes.{PassCut}
+use Rattle.ob_flat.proofs.Runs.{pass_after}
+use Rattle.ob_script.specs.Script.{whole_script}
+use Rattle.ob_sql.specs.declared.stmt.Stmt.{Stmt}
+use Rattle.ob_sql.specs.Skeleton.{skeleton}
+use Rattle.ob_mean.specs.Settle.{settle}
+use Rattle.ob_mean.specs.Verdict.{Tables, verdict, seen, seen_started, ended as seen_to}
+use Rattle.ob_verdict.proofs.InPlaceProof.{keeps_in_place}
+use Rattle.ob_exec.specs.declared.engine.Engine.{Engine}
+use Rattle.ob_exec.specs.declared.outcome.Outcome.{Outcome}
+use Rattle.ob_exec.specs.Agreeing.{Agrees, world_of}
+use Rattle.ob_exec.specs.Memory.{AtMake, is_make}
+use Rattle.ob_exec.specs.Running.{Ran, Emits, IsSilent, answer_of, is_stop, refusal_now}
+use Rattle.ob_exec.specs.Serving.{Means, ServesSilently}
+use Rattle.ob_exec.specs.Telling.{AreHeld, KeepsSealed, ReadsTrue, outcome_of}
+use Rattle.ob_exec.proofs.HeldLemmas.{held_kept}
+use Rattle.ob_exec.proofs.RunLemmas.{IsAnswered, engine_after, ran_cut, ran_no_room}
+use Rattle.ob_exec.proofs.SealLemmas.{keeps_pass, keeps_rests}
+use Rattle.ob_exec.proofs.TableLemmas.{region_below, tables_kept}
+use Rattle.ob_exec.proofs.ToldLemmas.{IsFault, cut_seen, started_seen, told_whole}
+
+-- the same, of an equal answer and an equal engine
+pub serves_as : {R : Type 0} (state : R → RevState) (stmt : Stmt) (old : Engine R) (s t : StoreState) (r q : Result Outcome Stop) (new same : Engine R)
+    → r ≡ q → new ≡ same → ServesSilently state stmt q old s same t → ServesSilently state stmt r old s new t
+serves_as {R} state stmt old s t r q new same answer is serves =
+    subst (λ (e : Engine R). ServesSilently state stmt r old s e t) (sym is)
+    (subst (λ (a : Result Outcome Stop). ServesSilently state stmt a old s same t) (sym answer) serves)
+
+-- ---- where want of memory comes
+is_no_memory : (e : OpErr) → answer_of e ≡ Err Stops.NoMemory → e ≡ OpErrs.NoMemory
+is_no_memory OpErrs.Failed is = absurd (cc is)
+is_no_memory (OpErrs.Tampered q x) is = absurd (cc is)
+is_no_memory OpErrs.Sink is = absurd (cc is)
+is_no_memory OpErrs.NoMemory is = refl
+
+-- a first part of a make alone
+at_make : (made : Access) (done rest more : List Access) → IsTrue (is_make made) → done ++ rest ≡ made ∷ [] → AtMake done (rest ++ more)
+at_make made [] rest more make is = inl refl
+at_make made (d ∷ []) rest more make is = let same : d ≡ made = cc is in inr (inl (subst (λ (a : Access). IsTrue (is_make a)) (sym same) make))
+at_make made (d ∷ e ∷ done) rest more make is = let none : e ∷ (done ++ rest) ≡ [] = cc is in absurd (cc none)
+
+module _ {R : Type 0} (state : R → RevState) (stmt : Stmt) (old : Engine R) (s : StoreState) (agrees : Agrees state old s)
+    (now : refusal_now old.public (length s.asked) stmt ≡ None) (whole : (tables : Tables) → seen_started old.public tables stmt ≡ seen_to Whole) where
+  seen_whole : (tables : Tables) (w : World) → AreHeld old.public.pack old.public.tables tables w → seen old.public (length s.asked) tables stmt ≡ seen_to Whole
+  seen_whole tables w held = started_seen old.public (length s.asked) stmt now tables w held ∙ whole tables
+
+  -- nothing was asked, for want of memory
+  pub unasked : (s1 : StoreState) (ts : List Table) → Rests s s1 → ServesSilently state stmt (Err Stops.NoMemory) old s (engine_after old old.vault old.room ts (Cut 0) true) s1
+  unasked s1 ts rests =
+      let same : length s1.asked ≡ length s.asked = ap length rests.asked in
+      record {
+        ran = ran_no_room state (skeleton stmt) old s s1 ts agrees rests;
+        started = λ is. absurd (cc is);
+        uncounted = λ is. absurd (cc is);
+        plain = refl;
+        silent = tt;
+        memory = λ is. record {
+          done = [];
+          rest = whole_script old.public (skeleton stmt) (seen_to (Cut 0));
+          split = refl;
+          asked = rests.asked ∙ sym (append-nil s.asked);
+          place = inl (inl refl);
+        };
+        seals = keeps_rests state old s s1 rests (engine_after old old.vault old.room ts (Cut 0) true) refl;
+        means = record {
+          told = λ tables reads. tt;
+          honest = λ tables reads. refl;
+          held = λ tables reads. cut_seen false old.public (skeleton stmt) 0 _ _ (seen_whole tables _ reads.held.held) (omega (arith, same));
+        };
+      }
+
+  -- all of it was asked
+  pub finished : (v : Vault R) (room : RoomState) (t : StoreState) (ts : List Table) (outcome : Outcome) → IsAnswered outcome → Emits [] outcome []
+      → Ran state (skeleton stmt) (Ok outcome) old s (engine_after old v room ts Whole old.ended) t
+      → KeepsSealed state old s (engine_after old v room ts Whole old.ended) t
+      → ((tables : Tables) → ReadsTrue state old s t tables
+      → (outcome ≡ outcome_of stmt (verdict old.public (length s.asked) tables stmt)) × AreHeld old.public.pack ts (settle old.public (length s.asked) tables stmt) (at state v t))
+      → ServesSilently state stmt (Ok outcome) old s (engine_after old v room ts Whole old.ended) t
+  finished v room t ts outcome answered silent ran seals meant = record {
+    ran = ran;
+    started = λ is. absurd (cc is);
+    uncounted = λ is. absurd (cc is);
+    plain = refl;
+    silent = silent;
+    memory = λ is. absurd (cc is);
+    seals = seals;
+    means = record {
+      told = λ tables reads. told_whole outcome _ _ answered (record {
+        answer = (meant tables reads).0;
+        seen = sym (seen_whole tables _ reads.held.held);
+        held = record { held = (meant tables reads).1; in_place = keeps_in_place old.public (length s.asked) tables stmt reads.held.in_place };
+      });
+      honest = λ tables reads. tt;
+      held = λ tables reads. tt;
+    };
+  }
+
+  module _ (s1 : StoreState) (v : Vault R) (room : RoomState) (t : StoreState) (rests : Rests s s1) (room_is : room ≡ record old.room { high = max old.room.high old.room.pack }) where
+    means_cut : (e : OpErr) (n : ℕ) → n ≡ length t.asked - length s.asked → ((tables : Tables) → ReadsTrue state old s t tables → IsFault e)
+        → ((tables : Tables) → AreHeld old.public.pack old.public.tables tables (world_of state old s) → AreHeld old.public.pack old.public.tables tables (at state v t))
+        → Means state stmt (answer_of e) old s (engine_after old v room old.public.tables (Cut n) (is_stop (answer_of e))) t
+    means_cut OpErrs.Failed n count fault kept = record {
+      told = λ tables reads. record {
+        seen = cut_seen true old.public (skeleton stmt) n _ _ (seen_whole tables _ reads.held.held) count;
+        held = record { held = kept tables reads.held.held; in_place = reads.held.in_place };
+      };
+      honest = λ tables reads. tt;
+      held = λ tables reads. tt;
+    }
+    means_cut (OpErrs.Tampered q x) n count fault kept = record {
+      told = λ tables reads. tt;
+      honest = λ tables reads. absurd (fault tables reads);
+      held = λ tables reads. cut_seen true old.public (skeleton stmt) n _ _ (seen_whole tables _ reads.held.held) count;
+    }
+    means_cut OpErrs.Sink n count fault kept = record {
+      told = λ tables reads. tt;
+      honest = λ tables reads. refl;
+      held = λ tables reads. cut_seen false old.public (skeleton stmt) n _ _ (seen_whole tables _ reads.held.held) count;
+    }
+    means_cut OpErrs.NoMemory n count fault kept = record {
+      told = λ tables reads. tt;
+      honest = λ tables reads. refl;
+      held = λ tables reads. cut_seen false old.public (skeleton stmt) n _ _ (seen_whole tables _ reads.held.held) count;
+    }
+
+    -- a pass that makes a region first gave up
+    pub cut_off : (x more : List Access) (blocks size n : ℕ) (e : OpErr) → ((end : End) → whole_script old.public (skeleton stmt) (seen_to end) ≡ x)
+        → x ≡ make_at old.vault.next blocks size ++ more → PassCut e x (one old.vault.next) (at state old.vault s1) (at state v t) → n ≡ length t.asked - length s.asked
+        → ((state v.revs).live old.vault.next ≡ None) → (e ≡ OpErrs.NoMemory → Began (make_at old.vault.next blocks size) s1 t) → IsSilent (answer_of e)
+        → ((tables : Tables) → ReadsTrue state old s t tables → IsFault e)
+        → ((good : ℕ → List ℕ → Bool) → ((columns : Columns) (region : ℕ) → Accepts good old.room.pack columns region) → Seals good (at state old.vault s1) (at state v t))
+        → ServesSilently state stmt (answer_of e) old s (engine_after old v room old.public.tables (Cut n) (is_stop (answer_of e))) t
+    cut_off x more blocks size n e script_is parts cut count gone memory silent fault seals =
+        let all = pass_after (one old.vault.next) _ _ _ e [] x (went_rests _ s s1 rests (one old.vault.next) agrees.ready) cut in
+        let apart : (i : ℕ) (u : Table) → slice_get old.public.tables i ≡ Some u → one old.vault.next u.region → ⊥ =
+        λ i u is here. let less = region_below old.public.pack i old.public.tables u _ agrees.ready agrees.tables is in omega (arith, less, here) in
+        record {
+          ran = ran_cut state (skeleton stmt) old s v room t agrees room_is (one old.vault.next) n x e all (script_is (Cut n)) count
+              (tables_kept (one old.vault.next) old.public.pack old.public.tables _ _ all.lasts apart (λ q shape live here. absurd (cc (live, gone, here))) agrees.tables);
+          started = λ is. absurd (cc is);
+          uncounted = λ is. absurd (cc is);
+          plain = refl;
+          silent = silent;
+          memory = λ is.
+              let began = memory (is_no_memory e is) in
+              record {
+                done = began.done;
+                rest = began.rest ++ more;
+                split = sym (append_assoc began.done began.rest more) ∙ ap (λ (y : List Access). y ++ more) began.split ∙ sym parts ∙ sym (script_is (Cut n));
+                asked = began.asked ∙ ap (λ (y : List Access). y ++ began.done) rests.asked;
+                place = inl (at_make _ began.done began.rest more refl began.split);
+              };
+          seals = keeps_pass state old s s1 rests agrees (engine_after old v room old.public.tables (Cut n) (is_stop (answer_of e))) t (at state v t) refl seals;
+          means = means_cut e n count fault (λ tables held. held_kept (one old.vault.next) old.public.pack old.public.tables tables _ _ all.lasts apart held);
+        }

@@ -1,0 +1,48 @@
+//! DELETE.
+ghost use Rattle.std.specs.Prelude.{◌≡◌, None, false, length};
+ghost use Rattle.ob_sql.specs.declared.stmt.Stmt.TheVariants.{Delete};
+ghost use Rattle.ob_exec.specs.Agreeing.{Agrees, has_ended, public_of};
+ghost use Rattle.ob_exec.specs.Running.{refusal_now};
+ghost use Rattle.ob_exec.specs.Serving.{ServesSilently};
+
+use crate::engine::Engine;
+use crate::outcome::Outcome;
+use ob_base::{Name, Stop};
+use ob_flat::OpErr;
+use ob_mean::where_at;
+use ob_sql::Cond;
+use ob_store::BlockStore;
+use ob_vault::Revisions;
+
+impl<R: Revisions> Engine<R> {
+    // The rows that make a condition true leave their table.
+    pub(crate) fn delete<S: BlockStore>(
+        &mut self,
+        store: &mut S,
+        table: &Name,
+        cond: &Option<Cond>,
+    ) -> Result<Outcome, Stop>
+        requires agrees { Agrees R.state self.old (S.state store.old) }
+        requires lives { has_ended self.old ≡ false }
+        requires allowed { refusal_now (public_of self.old) (length (S.state store.old).asked)
+            (Delete table.now cond.now) ≡ None }
+        ensures serves { ServesSilently R.state (Delete table.now cond.now) result
+            self.old (S.state store.old) self.new (S.state store.new) }
+    {
+        let (i, mut flat) = self.table_at(table);
+        let Ok(pred) = where_at(self.alloc, cond, flat.schema.as_slice(), &[]) else {
+            return self.cut(0, OpErr::NoMemory);
+        };
+        let before = store.count();
+        if self.make_room(store, &flat, 2).is_err() {
+            return self.cut(0, OpErr::NoMemory);
+        }
+        match ob_mutate::delete(store, &mut self.vault, &mut self.room, &mut flat, &pred) {
+            Ok(deleted) => {
+                self.move_table(i, flat.region);
+                Ok(self.finish(Outcome::Deleted(deleted)))
+            }
+            Err(error) => self.cut(store.count() - before, error),
+        }
+    }
+}

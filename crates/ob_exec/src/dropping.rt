@@ -1,0 +1,38 @@
+//! DROP TABLE.
+ghost use Rattle.std.specs.Prelude.{◌≡◌, None, false, length};
+ghost use Rattle.ob_sql.specs.declared.stmt.Stmt.TheVariants.{Drop as DropTable};
+ghost use Rattle.ob_exec.specs.Agreeing.{Agrees, has_ended, public_of};
+ghost use Rattle.ob_exec.specs.Running.{refusal_now};
+ghost use Rattle.ob_exec.specs.Serving.{ServesSilently};
+
+use crate::engine::Engine;
+use crate::outcome::Outcome;
+use ob_base::{Name, Stop};
+use ob_flat::OpErr;
+use ob_store::BlockStore;
+use ob_vault::Revisions;
+
+impl<R: Revisions> Engine<R> {
+    // A table leaves the catalogue, and its region is discarded, whatever the store answers to that.
+    pub(crate) fn drop_table<S: BlockStore>(
+        &mut self,
+        store: &mut S,
+        table: &Name,
+    ) -> Result<Outcome, Stop>
+        requires agrees { Agrees R.state self.old (S.state store.old) }
+        requires lives { has_ended self.old ≡ false }
+        requires allowed { refusal_now (public_of self.old) (length (S.state store.old).asked)
+            (DropTable table.now) ≡ None }
+        ensures serves { ServesSilently R.state (DropTable table.now) result
+            self.old (S.state store.old) self.new (S.state store.new) }
+    {
+        let (i, flat) = self.table_at(table);
+        if store.room(1).is_err() {
+            return self.cut(0, OpErr::NoMemory);
+        }
+        // A store that fails here has counted it.
+        let _ = ob_flat::discard(store, &mut self.vault, flat);
+        self.remove_table(i);
+        Ok(self.finish(Outcome::Dropped))
+    }
+}
