@@ -44,16 +44,7 @@ use Rattle.ob_exec.proofs.HeldLemmas.{held_kept}
 use Rattle.ob_exec.proofs.RunLemmas.{IsAnswered, engine_after, free_after, next_after, of_other}
 use Rattle.ob_exec.proofs.TableLemmas.{flat_kept, tables_kept, stored_found}
 
--- ---- no changed block was read
--- where none that fits was, and none that doesn't
-pub unfit_none : (w : World) → Calm w → IsUnfit w → w.store.lie ≡ None
-unfit_none w calm unfit = go w.store.lie refl
-  where
-    go : (o : Option Lie) → w.store.lie ≡ o → w.store.lie ≡ None
-    go None is = is
-    go (Some lie) is = absurd (unfit.unfit lie is (calm.calm lie is))
-
--- nor before
+-- no changed block was read, where none that fits was, and none that doesn't was later
 pub calm_none : (some : ℕ → Type 0) (a b : World) → Lasts some a b → Calm a → IsUnfit b → a.store.lie ≡ None
 calm_none some a b lasts calm unfit = go a.store.lie refl
   where
