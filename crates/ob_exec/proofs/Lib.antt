@@ -11,5 +11,9 @@ pub mod InsertLemmas
 pub mod ChangeLemmas
 pub mod DropLemmas
 pub mod LawfulLemmas
+pub mod TotalsLemmas
+pub mod ReadLemmas
+pub mod TotalsServed
+pub mod TotallingLemmas
 pub mod ServeLemmas
 pub mod EmitLemmas

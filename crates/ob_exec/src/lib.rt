@@ -11,6 +11,7 @@ mod rows;
 mod run;
 mod selecting;
 mod tables;
+mod totalling;
 mod totals;
 mod updating;
 

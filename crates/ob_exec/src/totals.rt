@@ -7,7 +7,10 @@ ghost use Rattle.ob_exec.specs.Serving.{Serves};
 
 use crate::engine::Engine;
 use crate::outcome::Outcome;
+use crate::totalling::answer_totals;
 use ob_base::{Emit, Stop};
+use ob_flat::OpErr;
+use ob_mean::where_at;
 use ob_sql::SelectTotals;
 use ob_store::BlockStore;
 use ob_vault::Revisions;
@@ -27,6 +30,17 @@ impl<R: Revisions> Engine<R> {
         ensures serves { Serves R.state E.grew E.cut E.faults (TotalsStmt select.now) result
             self.old (S.state store.old) self.new (S.state store.new) out.old out.new }
     {
-        unreachable!()
+        let (_, flat) = self.table_at(&select.table);
+        let Ok(pred) = where_at(self.alloc, &select.cond, flat.schema.as_slice(), &[]) else {
+            return self.cut(0, OpErr::NoMemory);
+        };
+        let before = store.count();
+        if self.make_room(store, &flat, 1).is_err() {
+            return self.cut(0, OpErr::NoMemory);
+        }
+        match answer_totals(store, &mut self.vault, &mut self.room, &flat, &pred, select, out) {
+            Ok(outcome) => Ok(self.finish(outcome)),
+            Err(error) => self.cut(store.count() - before, error),
+        }
     }
 }

@@ -1,0 +1,343 @@
+-- A SELECT of totals, after its pass.
+use Rattle.std.proofs.Common.{◌≡◌, ◌⊎◌, inl, inr, ◌-◌, ◌+◌, ◌*◌, ◌≤◌, ℕ, Bool, true, false, if◌then◌else◌, List, [], ◌∷◌, ◌++◌, length, filter, Option, Some, None, Result, Ok, Err, refl, sym, ◌∙◌, ap, subst, arith, append-nil}
+use Rattle.std.specs.Prelude.{IfOk, OnErr, IfErr}
+use Rattle.std.specs.Option.{option_map, option_map_or, option_or}
+use Rattle.ob_base.specs.declared.config.Public.{Public}
+use Rattle.ob_base.specs.declared.refusal.Refusal.{Refusal}
+use Rattle.ob_base.specs.declared.refusal.Refusal.TheVariants.{TooManyGroups, StoreFault}
+use Rattle.ob_base.specs.declared.refusal.Stop.{Stop}
+use Rattle.ob_base.specs.declared.refusal.Stop.TheVariants as Stops
+use Rattle.ob_base.specs.declared.schema.Heading.{Heading}
+use Rattle.ob_base.specs.declared.schema.Table.{Table}
+use Rattle.ob_base.specs.declared.seen.Seen.{Seen}
+use Rattle.ob_base.specs.declared.seen.End.TheVariants.{Whole, Cut}
+use Rattle.ob_base.specs.Events.{Event}
+use Rattle.ob_base.specs.Limits.{buffered}
+use Rattle.ob_base.specs.Numbers.{blocks_for}
+use Rattle.ob_base.specs.Schemas.{Columns}
+use Rattle.ob_base.specs.Stored.{Stored, headings, headings_of, stored_at}
+use Rattle.ob_room.specs.RoomState.{RoomState}
+use Rattle.ob_row.specs.Condition.{Condition}
+use Rattle.ob_row.specs.Rows.{Row}
+use Rattle.ob_row.specs.Slots.{Slots, rows}
+use Rattle.ob_row.specs.Truth.{is_true}
+use Rattle.ob_row.proofs.BagLemmas.{Same-refl}
+use Rattle.ob_store.specs.State.{StoreState}
+use Rattle.ob_store.specs.Calls.{Rests}
+use Rattle.ob_vault.specs.State.{RevState, World}
+use Rattle.ob_vault.specs.Tied.{IsUnfit}
+use Rattle.ob_vault.specs.Calls.{Lasts, none}
+use Rattle.ob_vault.specs.Places.{at}
+use Rattle.ob_vault.specs.declared.vault.Vault.{Vault}
+use Rattle.ob_vault.proofs.WordLemmas.{went_rests}
+use Rattle.ob_flat.specs.declared.fault.OpErr.{OpErr}
+use Rattle.ob_flat.specs.declared.fault.OpErr.TheVariants as OpErrs
+use Rattle.ob_flat.specs.declared.flat.Flat.{Flat}
+use Rattle.ob_flat.specs.Emission.{SlotsToEnd, SlotsToHalt}
+use Rattle.ob_flat.specs.Flats.{Represents as FlatRepresents}
+use Rattle.ob_flat.specs.Passes.{SinkCause as PassSink}
+use Rattle.ob_flat.proofs.Resting.{represents_rests}
+use Rattle.ob_sql.specs.declared.stmt.SelectTotals.{SelectTotals}
+use Rattle.ob_sql.specs.declared.stmt.Stmt.{Stmt}
+use Rattle.ob_sql.specs.declared.stmt.Stmt.TheVariants.{SelectTotals as TotalsStmt}
+use Rattle.ob_sql.specs.Skeleton.{skeleton, named_by}
+use Rattle.std.specs.List.{flat_map}
+use Rattle.ob_mean.specs.declared.answer.Answer.{Answer}
+use Rattle.ob_mean.specs.declared.answer.Answer.TheVariants as A
+use Rattle.ob_mean.specs.Names.{columns_at, where_at}
+use Rattle.ob_mean.specs.Prints.{Prints, Unfinished}
+use Rattle.ob_mean.specs.Refusals.{early_refusal}
+use Rattle.ob_mean.specs.Settle.{settle}
+use Rattle.ob_mean.specs.Step.{accepted_answer, answered, followed, overgroups, rows_at, totals_answer}
+use Rattle.ob_mean.specs.Verdict.{Tables, database, is_late, refusal, verdict, seen, ended as seen_to}
+use Rattle.ob_mean.proofs.VerdictLemmas.{heading-stored, headings-database, stored-database, refused_late}
+use Rattle.ob_exec.specs.declared.engine.Engine.{Engine}
+use Rattle.ob_exec.specs.declared.outcome.Outcome.{Outcome}
+use Rattle.ob_exec.specs.declared.outcome.Outcome.TheVariants.{Rows, Refused}
+use Rattle.ob_exec.specs.Agreeing.{Agrees, world_of}
+use Rattle.ob_exec.specs.Engines.{IsAt, flat_of}
+use Rattle.ob_exec.specs.Memory.{LacksMemory}
+use Rattle.ob_exec.specs.Running.{Ran, Emits, SinkCause, answer_of, is_stop, refusal_now}
+use Rattle.ob_exec.specs.Selecting.{UsesRoom}
+use Rattle.ob_exec.specs.Serving.{Serves, Answered, Stopped, Means}
+use Rattle.ob_exec.specs.Telling.{AreHeld, Represents, ReadsTrue, ReadsTrueUntil, Told, SeenCut, Partly, IsNotTampered, answer_labels, is_refused, outcome_of}
+use Rattle.ob_exec.specs.Totalling.{IsTotalled, MayTotal, Totals, TotalsFit, labels_at, answer_of as answer_at}
+use Rattle.ob_exec.proofs.FoundLemmas.{heading_found}
+use Rattle.ob_exec.proofs.HeldLemmas.{Beside, held_at}
+use Rattle.ob_exec.proofs.LawfulLemmas.{lawful_now}
+use Rattle.ob_exec.proofs.ReadLemmas.{calm_none, cut_after, held_read, read_cut, read_done, read_flat, read_size, reads, reads_is, went_all}
+use Rattle.ob_exec.proofs.RunLemmas.{IsAnswered, engine_after, ran_no_room}
+use Rattle.ob_exec.proofs.SealLemmas.{keeps_pass, keeps_rests}
+use Rattle.ob_exec.proofs.ToldLemmas.{cut_seen, early_held, refused_none, started_seen, told_whole}
+use Rattle.ob_exec.proofs.TotalsLemmas.{partly_none, totals_fit}
+
+-- ---- what it means
+-- nothing beside the refusal of too many groups
+either_none : (b : Bool) (answer : Answer) → answered (option_or (if b then Some TooManyGroups else None) None) answer ≡ answered (if b then Some TooManyGroups else None) answer
+either_none true answer = refl
+either_none false answer = refl
+
+verdict_is : (p : Public) (m : ℕ) (tables : Tables) (s : SelectTotals) (x : Stored Slots) → early_refusal (is_late m) p.pack p.buffer (headings tables) (TotalsStmt s) ≡ None
+    → stored_at s.table tables ≡ Some x → verdict p m tables (TotalsStmt s) ≡ answer_at (buffered p.pack p.buffer) x.heading.schema s x.held
+verdict_is p m tables s x early found =
+    let places = buffered p.pack p.buffer in
+    let columns_is : columns_at s.table (headings (database tables)) ≡ x.heading.schema =
+    ap (columns_at s.table) (headings-database tables)
+    ∙ ap (λ (o : Option Heading). option_map_or (λ (h : Heading). h.schema) o []) (heading-stored s.table tables ∙ ap (option_map (λ (u : Stored Slots). u.heading)) found) in
+    let rows_is : rows_at s.table (database tables) ≡ rows x.held =
+    ap (λ (o : Option (Stored (List Row))). option_map_or (λ (u : Stored (List Row)). u.held) o [])
+    (stored-database s.table tables ∙ ap (option_map (λ (u : Stored Slots). record { heading = u.heading; held = rows u.held })) found) in
+    ap (λ (o : Option Refusal). answered o (accepted_answer (database tables) (TotalsStmt s))) (refused_late p m tables (TotalsStmt s) early)
+    ∙ (λ i.
+    let chosen = filter (is_true (where_at s.cond (columns_is i))) (rows_is i) in
+    answered (option_or (if overgroups places s.group (columns_is i) chosen then Some TooManyGroups else None) None) (A.Rows (totals_answer s (columns_is i) chosen)))
+    ∙ either_none (overgroups places s.group x.heading.schema (filter (is_true (where_at s.cond x.heading.schema)) (rows x.held))) _
+
+followed_same : (o : Option Refusal) (tables : Tables) → followed o tables tables ≡ tables
+followed_same None tables = refl
+followed_same (Some r) tables = refl
+
+is_answered : (outcome : Outcome) → IsTotalled outcome → IsAnswered outcome
+is_answered outcome (inl (k, is)) = subst (λ (o : Outcome). IsAnswered o) (sym is) (record { whole = λ n. refl; own = refl })
+is_answered outcome (inr is) = subst (λ (o : Outcome). IsAnswered o) (sym is) (record { whole = λ n. refl; own = refl })
+
+-- ---- how an error of its pass is answered
+made_none : (e : OpErr) → answer_of e ≡ Err Stops.NoMemory → e ≡ OpErrs.NoMemory
+made_none OpErrs.Failed is = absurd (cc is)
+made_none (OpErrs.Tampered q x) is = absurd (cc is)
+made_none OpErrs.Sink is = absurd (cc is)
+made_none OpErrs.NoMemory is = refl
+
+if_failed : (P : Outcome → Type 0) (e : OpErr) → (e ≡ OpErrs.Failed → P (Refused StoreFault)) → IfOk (answer_of e) P
+if_failed P OpErrs.Failed h = h refl
+if_failed P (OpErrs.Tampered q x) h = tt
+if_failed P OpErrs.Sink h = tt
+if_failed P OpErrs.NoMemory h = tt
+
+on_stop : (P : Type 0) (e : OpErr) → P → OnErr (answer_of e) P
+on_stop P OpErrs.Failed h = tt
+on_stop P (OpErrs.Tampered q x) h = h
+on_stop P OpErrs.Sink h = h
+on_stop P OpErrs.NoMemory h = h
+
+if_stop : (P : Stop → Type 0) (e : OpErr) → ((stop : Stop) → P stop) → IfErr (answer_of e) P
+if_stop P OpErrs.Failed h = tt
+if_stop P (OpErrs.Tampered q x) h = h (Stops.Tampered q x)
+if_stop P OpErrs.Sink h = h Stops.SinkFault
+if_stop P OpErrs.NoMemory h = h Stops.NoMemory
+
+sink_of : (e : OpErr) (a b : ℕ) → PassSink {T = Outcome} (Err e) a b → SinkCause (answer_of e) a b
+sink_of OpErrs.Failed a b is = is
+sink_of (OpErrs.Tampered q x) a b is = is
+sink_of OpErrs.Sink a b is = is
+sink_of OpErrs.NoMemory a b is = is
+
+not_tampered : (e : OpErr) → (e ≡ OpErrs.Failed) ⊎ (e ≡ OpErrs.Sink) ⊎ (e ≡ OpErrs.NoMemory) → IfErr (answer_of e) IsNotTampered
+not_tampered e (inl is) = subst (λ (x : OpErr). IfErr (answer_of x) IsNotTampered) (sym is) tt
+not_tampered e (inr (inl is)) = subst (λ (x : OpErr). IfErr (answer_of x) IsNotTampered) (sym is) refl
+not_tampered e (inr (inr is)) = subst (λ (x : OpErr). IfErr (answer_of x) IsNotTampered) (sym is) refl
+
+-- nothing was emitted where the store failed
+unfinished_none : (labels : List (List ℕ)) (answer : Answer) → Unfinished labels answer []
+unfinished_none labels A.Done = refl
+unfinished_none labels (A.Changed n) = refl
+unfinished_none labels (A.Rows rows) = record { printed = rows; same = Same-refl rows; begun = (_, refl) }
+unfinished_none labels (A.Refused r) = refl
+
+-- ---- all of it
+module _ {R E : Type 0} (state : R → RevState) (grew cut : E → E → List Event → Type 0) (faults : E → ℕ) (starts : (a : E) → grew a a [])
+    (old : Engine R) (s s1 : StoreState) (q : SelectTotals) (i : ℕ) (table : Table)
+    (agrees : Agrees state old s) (rests : Rests s s1) (here : IsAt q.table i table old.public.tables)
+    (allowed : refusal_now old.public (length s.asked) (TotalsStmt q) ≡ None) where
+  abbrev stmt : Stmt
+  stmt = TotalsStmt q
+
+  abbrev places : ℕ
+  places = buffered old.room.pack old.room.rows
+
+  abbrev cs : Columns
+  cs = table.heading.schema
+
+  abbrev was : World
+  was = at state old.vault s1
+
+  labels_are : answer_labels stmt old.public ≡ labels_at cs q
+  labels_are =
+      ap (λ (c : Columns). labels_at c q)
+      (ap (λ (o : Option Heading). option_map_or (λ (h : Heading). h.schema) o []) (heading_found q.table old.public.tables i table agrees.tables.names here.get here.named))
+
+  beside : (tables : Tables) → Represents state old s tables → Beside old.public.pack q.table table tables (world_of state old s)
+  beside tables held = held_at old.public.pack q.table old.public.tables tables i table (world_of state old s) agrees.tables.names held.held here.get here.named
+
+  before : (tables : Tables) (held : Represents state old s tables) → FlatRepresents old.room.pack (flat_of table) (beside tables held).table.held was
+  before tables held =
+      represents_rests _ s s1 rests old.room.pack (flat_of table) (beside tables held).table.held
+      (subst (λ (n : ℕ). FlatRepresents n (flat_of table) (beside tables held).table.held (world_of state old s)) (sym agrees.room.pack) (beside tables held).represents)
+
+  verdict_at : (tables : Tables) (held : Represents state old s tables) → verdict old.public (length s.asked) tables stmt ≡ answer_at places cs q (beside tables held).table.held
+  verdict_at tables held =
+      let x = beside tables held in
+      verdict_is old.public (length s.asked) tables q x.table (early_held old.public (length s.asked) stmt tables (world_of state old s) None held.held allowed) x.found
+      ∙ (λ j. answer_at (buffered (sym agrees.room.pack j) (sym agrees.room.rows j)) (x.heading j).schema q x.table.held)
+
+  seen_whole : (tables : Tables) → Represents state old s tables → seen old.public (length s.asked) tables stmt ≡ seen_to Whole
+  seen_whole tables held = started_seen old.public (length s.asked) stmt allowed tables (world_of state old s) held.held
+
+  settled_at : (tables : Tables) → settle old.public (length s.asked) tables stmt ≡ tables
+  settled_at tables = followed_same (refusal old.public (length s.asked) tables stmt) tables
+
+  -- what its pass asks, once the store has room
+  pub may_total : (flat : Flat) (condition : Condition) → flat ≡ flat_of table → condition ≡ where_at q.cond flat.schema → 1 * blocks_for old.public.pack flat.capacity + 2 ≤ s1.spare
+      → MayTotal flat condition q old.room was
+  may_total flat condition flat_is meant spare =
+      let least = agrees.settings.pack_least in
+      let most = agrees.settings.most in
+      let pack = agrees.room.pack in
+      let rows_are = agrees.room.rows in
+      let blocks_are : blocks_for old.room.pack flat.capacity ≡ blocks_for old.public.pack flat.capacity = ap (λ (n : ℕ). blocks_for n flat.capacity) pack in
+      let columns_are : columns_at q.table (headings_of old.public.tables) ≡ flat.schema =
+      ap (λ (o : Option Heading). option_map_or (λ (h : Heading). h.schema) o []) (heading_found q.table old.public.tables i table agrees.tables.names here.get here.named)
+      ∙ sym (ap (λ (f : Flat). f.schema) flat_is) in
+      record {
+        some = omega (arith, least, pack);
+        few = omega (arith, most, rows_are);
+        idle = agrees.room.idle;
+        spare = record { ready = (went_rests _ s s1 rests none agrees.ready).lasts.ready; spare = omega (arith, spare, blocks_are) };
+        written = read_flat state old s s1 i table agrees rests here.get flat flat_is;
+        size = read_size state old s s1 i table agrees rests here.get flat flat_is;
+        meant = meant;
+        items = subst (λ (columns : Columns). TotalsFit columns q) columns_are (totals_fit (is_late (length s.asked)) old.public.pack old.public.buffer (headings_of old.public.tables) q allowed);
+      }
+
+  -- no memory before the first access
+  pub serves_none : (out : E)
+      → Serves state grew cut faults stmt (Err Stops.NoMemory) old s (engine_after old old.vault old.room old.public.tables (Cut 0) true) s1 out out
+  serves_none out =
+      let new = engine_after old old.vault old.room old.public.tables (Cut 0) true in
+      let same : length s1.asked ≡ length s.asked = ap length rests.asked in
+      let ran = ran_no_room state (skeleton stmt) old s s1 old.public.tables agrees rests in
+      let early = refused_none (refusal_now old.public (length s.asked) stmt) (Err Stops.NoMemory) new.seen allowed (λ is. absurd (cc is)) in
+      record {
+        ran = ran;
+        early = early;
+        lawful = lawful_now old.public (length s.asked) stmt (Err Stops.NoMemory) new.seen s.asked s1.asked refl refl (λ is. absurd (cc is)) early ran.asked ran.ends;
+        memory = λ is. record { done = []; rest = _; split = refl; asked = rests.asked ∙ sym (append-nil s.asked); place = inl (inl refl) };
+        seals = keeps_rests state old s s1 rests new refl;
+        answered = tt;
+        stopped = record { events = []; ends = inl (starts out); told = λ tables reads. partly_none _ _ };
+        sink = refl;
+        means = record {
+          told = λ tables reads. tt;
+          honest = λ tables reads. refl;
+          held = λ tables reads. cut_seen false old.public (skeleton stmt) 0 _ _ (seen_whole tables reads.held) (omega (arith, same));
+        };
+      }
+
+  module _ (v : Vault R) (room : RoomState) (t : StoreState) (uses : UsesRoom old.room room) (out_old out_new : E) where
+    abbrev now : World
+    now = at state v t
+
+    -- its slots, and all that was read is as it was written
+    ended_with : (tables : Tables) (held : Represents state old s tables) → t.lie ≡ None → SlotsToEnd old.room.pack (flat_of table) was now
+    ended_with tables held nolie = record { slots = (beside tables held).table.held; is = before tables held; nolie = nolie }
+
+    still_held : (tables : Tables) → Represents state old s tables → Lasts none (world_of state old s) now → AreHeld old.public.pack old.public.tables tables now
+    still_held tables held lasts = held_read state old s s1 v room t q.table (flat_map named_by q.items) q.group i table agrees rests uses here tables held.held lasts
+
+    -- it went to its end
+    pub serves_done : (outcome : Outcome) → old.ended ≡ false → Totals grew cut faults places old.room.pack (flat_of table) q (Ok outcome) was now out_old out_new
+        → Serves state grew cut faults stmt (Ok outcome) old s (engine_after old v room old.public.tables Whole old.ended) t out_old out_new
+    unfolding beside ended_with
+    serves_done outcome lives totals =
+        let new = engine_after old v room old.public.tables Whole old.ended in
+        let whole = is_answered outcome totals.whole in
+        let went = went_all state old s s1 v room t q.table (flat_map named_by q.items) q.group i table agrees rests uses here totals.ran.ok in
+        let ran = read_done state old s s1 v room t q.table (flat_map named_by q.items) q.group i table agrees rests uses here outcome whole totals.ran.ok lives in
+        let early = refused_none (refusal_now old.public (length s.asked) stmt) (Ok outcome) new.seen allowed (λ is. absurd (cc is)) in
+        let given = totals.emitted in
+        record {
+          ran = ran;
+          early = early;
+          lawful = lawful_now old.public (length s.asked) stmt (Ok outcome) new.seen s.asked t.asked refl refl (λ is. absurd (cc is)) early ran.asked ran.ends;
+          memory = λ is. absurd (cc is);
+          seals = keeps_pass state old s s1 rests agrees new t now refl (λ good accepts. totals.seals.seals good);
+          answered = record {
+            events = given.events;
+            took = given.leads out_old [] (starts out_old);
+            emits = subst (λ (l : List (List ℕ)). Emits l outcome given.events) (sym labels_are) given.emits;
+            told = λ tables reads.
+                told_whole outcome _ _ whole
+                (subst (λ (l : List (List ℕ)). Prints l (verdict old.public (length s.asked) tables stmt) given.events) (sym labels_are)
+                (subst (λ (a : Answer). Prints (labels_at cs q) a given.events) (sym (verdict_at tables reads.held)) (given.told (ended_with tables reads.held reads.nolie))));
+          };
+          stopped = tt;
+          sink = totals.sink;
+          means = record {
+            told = λ tables reads.
+                told_whole outcome _ _ whole (record {
+                  answer = totals.told (ended_with tables reads.held reads.nolie) ∙ ap (outcome_of stmt) (sym (verdict_at tables reads.held));
+                  seen = sym (seen_whole tables reads.held);
+                  held = subst (λ (ts : Tables). Represents state new t ts) (sym (settled_at tables)) (record { held = still_held tables reads.held went.lasts; in_place = reads.held.in_place });
+                });
+            honest = λ tables reads. tt;
+            held = λ tables reads. tt;
+          };
+        }
+
+    -- its pass gave up
+    pub serves_cut : (e : OpErr) (n : ℕ) → n ≡ length t.asked - length s.asked → Totals grew cut faults places old.room.pack (flat_of table) q (Err e) was now out_old out_new
+        → Serves state grew cut faults stmt (answer_of e) old s (engine_after old v room old.public.tables (Cut n) (is_stop (answer_of e))) t out_old out_new
+    serves_cut e n count totals =
+        let new = engine_after old v room old.public.tables (Cut n) (is_stop (answer_of e)) in
+        let all = cut_after state old s s1 v room t q.table (flat_map named_by q.items) q.group i table agrees rests uses here e totals.ran.err in
+        let ran = read_cut state old s s1 v room t q.table (flat_map named_by q.items) q.group i table agrees rests uses here e n totals.ran.err count in
+        let early = refused_none (refusal_now old.public (length s.asked) stmt) (answer_of e) new.seen allowed (λ is. absurd (cc is)) in
+        let given = totals.halted in
+        record {
+          ran = ran;
+          early = early;
+          lawful = lawful_now old.public (length s.asked) stmt (answer_of e) new.seen s.asked t.asked refl refl (λ is. absurd (cc is)) early ran.asked ran.ends;
+          memory = λ is.
+              let went = went_all state old s s1 v room t q.table (flat_map named_by q.items) q.group i table agrees rests uses here (totals.after (ap Err (made_none e is))) in
+              record {
+                done = reads state old s s1 v room t q.table (flat_map named_by q.items) q.group i table agrees rests uses here;
+                rest = [];
+                split = append-nil _ ∙ sym (reads_is state old s s1 v room t q.table (flat_map named_by q.items) q.group i table agrees rests uses here (Cut n));
+                asked = went.did.asked;
+                place = inr refl;
+              };
+          seals = keeps_pass state old s s1 rests agrees new t now refl (λ good accepts. totals.seals.seals good);
+          answered = if_failed _ e (λ is. record {
+            events = [];
+            took = subst (λ (o : E). grew out_old o []) (sym (totals.failed (ap Err is))) (starts out_old);
+            emits = tt;
+            told = λ tables reads. unfinished_none _ _;
+          });
+          stopped = on_stop _ e (record {
+            events = given.events;
+            ends = elim given.ends [ inl h ↦ inl (h out_old [] (starts out_old)) | inr h ↦ inr (h out_old [] (starts out_old)) ];
+            told = λ tables reads.
+                let x = beside tables reads.held in
+                let held = before tables reads.held in
+                let none_before : s1.lie ≡ None = rests.lie ∙ calm_none none (world_of state old s) now all.lasts reads.calm reads.unfit in
+                subst (λ (l : List (List ℕ)). Partly l (verdict old.public (length s.asked) tables stmt) given.events) (sym labels_are)
+                (subst (λ (a : Answer). Partly (labels_at cs q) a given.events) (sym (verdict_at tables reads.held))
+                (given.told (record { slots = x.table.held; is = held; nolie = none_before; unfit = reads.unfit })));
+          });
+          sink = sink_of e (faults out_old) (faults out_new) totals.sink;
+          means = record {
+            told = λ tables reads. if_failed _ e (λ is. record {
+              seen = cut_seen true old.public (skeleton stmt) n _ _ (seen_whole tables reads.held) count;
+              held = record { held = still_held tables reads.held all.lasts; in_place = reads.held.in_place };
+            });
+            honest = λ tables reads. not_tampered e (totals.told (ended_with tables reads.held reads.nolie));
+            held = λ tables reads. if_stop _ e (λ stop. cut_seen (is_refused stop) old.public (skeleton stmt) n _ _ (seen_whole tables reads.held) count);
+          };
+        }
+
+-- the same, of an equal answer and an equal engine
+pub serves_as : {R E : Type 0} (state : R → RevState) (grew cut : E → E → List Event → Type 0) (faults : E → ℕ) (stmt : Stmt) (old : Engine R) (s t : StoreState) (out_old out_new : E)
+    (r q : Result Outcome Stop) (new same : Engine R) → r ≡ q → new ≡ same → Serves state grew cut faults stmt q old s same t out_old out_new → Serves state grew cut faults stmt r old s new t out_old out_new
+serves_as {R} state grew cut faults stmt old s t out_old out_new r q new same answer is served =
+    subst (λ (e : Engine R). Serves state grew cut faults stmt r old s e t out_old out_new) (sym is)
+    (subst (λ (a : Result Outcome Stop). Serves state grew cut faults stmt a old s same t out_old out_new) (sym answer) served)

@@ -1,0 +1,195 @@
+//! The answer to a SELECT of totals, by one pass over its table.
+ghost use Rattle.std.specs.Prelude.{◌≡◌, ◌≤◌, ◌<◌, [], ◌∷◌, map, take, length, Some, None};
+ghost use Rattle.ob_base.specs.Events.{Head, Row, Close};
+ghost use Rattle.ob_base.specs.Limits.{buffered};
+ghost use Rattle.ob_vault.specs.Places.{at};
+ghost use Rattle.ob_group.specs.Labels.{agg_label};
+ghost use Rattle.ob_mean.specs.Step.{item_of};
+ghost use Rattle.ob_exec.specs.Selecting.{UsesRoom};
+ghost use Rattle.ob_exec.specs.Totalling.{agg_at, error_of, Gives, MayTotal, Totals};
+
+use crate::outcome::Outcome;
+use ob_base::{Column, ColumnName, Emit, EmitErr, Label, Refusal, Schema, Shown};
+use ob_flat::{Flat, OpErr};
+use ob_group::{Grouped, agg_label, aggregate, group};
+use ob_mean::{agg_of, item_of, place_of};
+use ob_room::Room;
+use ob_row::{Agg, Item, Pred};
+use ob_sql::{Listed, SelectTotals};
+use ob_store::BlockStore;
+use ob_vault::{Revisions, Vault};
+use std::array;
+
+// ---- what is totalled
+
+// The aggregate of an item; beside other aggregates alone no plain column stands.
+fn agg_at(item: &Listed, columns: &[Column]) -> Agg
+    requires { length columns.now ≤ 32 }
+    ensures { result ≡ agg_at columns.now item.now }
+{
+    match agg_of(item, columns, &[]) {
+        Some(agg) => agg,
+        None => Agg::CountAll,
+    }
+}
+
+// Those of the items, in the first places of an array that holds those of any answer.
+fn aggs_at(items: &[Listed], columns: &[Column]) -> [Agg; 32]
+    requires few { length items.now ≤ 32 }
+    requires columns { length columns.now ≤ 32 }
+    ensures size { length result ≡ 32 }
+    ensures value { take (length items.now) result ≡ map (agg_at columns.now) items.now }
+{
+    let mut aggs = [Agg::CountAll; 32];
+    for i in 0..items.len() {
+        aggs[i] = agg_at(&items[i], columns);
+    }
+    aggs
+}
+
+// The items of a group's row, likewise.
+fn items_at(items: &[Listed], columns: &[Column]) -> [Item; 32]
+    requires few { length items.now ≤ 32 }
+    requires columns { length columns.now ≤ 32 }
+    ensures size { length result ≡ 32 }
+    ensures value { take (length items.now) result ≡ map (item_of columns.now) items.now }
+{
+    let mut parts = [Item::Key; 32];
+    for i in 0..items.len() {
+        parts[i] = item_of(&items[i], columns, &[]);
+    }
+    parts
+}
+
+// ---- what is emitted
+
+// The labels of aggregates, likewise.
+fn labels_of(schema: &Schema, aggs: &[Agg]) -> [Label; 32]
+    requires few { length aggs.now ≤ 32 }
+    ensures size { length result ≡ 32 }
+    ensures value { take (length aggs.now) result ≡ map (agg_label schema.now) aggs.now }
+{
+    let mut labels: [Label; 32] = array::from_fn(|_| Label::from_bytes(b""));
+    for i in 0..aggs.len() {
+        labels[i] = agg_label(schema, &aggs[i]);
+    }
+    labels
+}
+
+// An answer of one row: its header, the row, and its number.
+fn emit_row<E: Emit>(out: &mut E, labels: &[Label], cells: &[Shown]) -> Result<(), EmitErr>
+    ensures { Gives E.grew E.cut E.faults (Head labels.now ∷ Row cells.now ∷ Close 1 ∷ []) result
+        out.old out.new }
+{
+    match out.head(labels) {
+        Ok(()) => match out.row(cells) {
+            Ok(()) => out.close(1),
+            Err(error) => Err(error),
+        },
+        Err(error) => Err(error),
+    }
+}
+
+// The error of a pass that an emitter's makes.
+fn error_of(error: EmitErr) -> OpErr
+    ensures { result ≡ error_of error }
+{
+    match error {
+        EmitErr::Failed => OpErr::Sink,
+        EmitErr::NoMemory => OpErr::NoMemory,
+    }
+}
+
+// ---- the passes
+
+// Aggregates of all selected rows: an answer of one row.
+fn answer_aggregates<S: BlockStore, R: Revisions, E: Emit>(
+    store: &mut S,
+    vault: &mut Vault<R>,
+    room: &mut Room,
+    flat: &Flat,
+    pred: &Pred,
+    select: &SelectTotals,
+    out: &mut E,
+) -> Result<Outcome, OpErr>
+    requires may { MayTotal flat.now pred.now select.now room.old
+        (at R.state vault.old (S.state store.old)) }
+    requires ungrouped { select.now.group ≡ None }
+    ensures room { UsesRoom room.old room.new }
+    ensures totals { Totals E.grew E.cut E.faults (buffered room.old.pack room.old.rows)
+        room.old.pack flat.now select.now result (at R.state vault.old (S.state store.old))
+        (at R.state vault.new (S.state store.new)) out.old out.new }
+{
+    let items = select.items.as_slice();
+    let all = aggs_at(items, flat.schema.as_slice());
+    let aggs = &all[..items.len()];
+    match aggregate(store, vault, room, flat, pred, aggs) {
+        Ok(cells) => {
+            let labels = labels_of(&flat.schema, aggs);
+            match emit_row(out, &labels[..aggs.len()], cells.as_slice()) {
+                Ok(()) => Ok(Outcome::Rows(1)),
+                Err(error) => Err(error_of(error)),
+            }
+        }
+        Err(error) => Err(error),
+    }
+}
+
+// A row for each group of them.
+fn answer_groups<S: BlockStore, R: Revisions, E: Emit>(
+    store: &mut S,
+    vault: &mut Vault<R>,
+    room: &mut Room,
+    flat: &Flat,
+    pred: &Pred,
+    select: &SelectTotals,
+    key: &ColumnName,
+    out: &mut E,
+) -> Result<Outcome, OpErr>
+    requires may { MayTotal flat.now pred.now select.now room.old
+        (at R.state vault.old (S.state store.old)) }
+    requires grouped { select.now.group ≡ Some key.now }
+    ensures room { UsesRoom room.old room.new }
+    ensures totals { Totals E.grew E.cut E.faults (buffered room.old.pack room.old.rows)
+        room.old.pack flat.now select.now result (at R.state vault.old (S.state store.old))
+        (at R.state vault.new (S.state store.new)) out.old out.new }
+{
+    let listed = select.items.as_slice();
+    let columns = flat.schema.as_slice();
+    let items = items_at(listed, columns);
+    let place = place_of(key, columns, &[]) as u8;
+    match group(store, vault, room, flat, pred, place, &items[..listed.len()], out) {
+        Ok(Grouped::Groups(n)) => match out.close(n) {
+            Ok(()) => Ok(Outcome::Rows(n)),
+            Err(error) => Err(error_of(error)),
+        },
+        Ok(Grouped::TooMany) => Ok(Outcome::Refused(Refusal::TooManyGroups)),
+        Err(error) => Err(error),
+    }
+}
+
+/// Totals the rows of a table that make the condition true: reads each block once, in order, and then
+/// emits the answer, of one row, or with GROUP BY of a row for each group. Where there are more groups
+/// than may be kept it is refused, and nothing is emitted. Nothing is emitted either where the store failed.
+/// It takes no memory itself.
+pub(crate) fn answer_totals<S: BlockStore, R: Revisions, E: Emit>(
+    store: &mut S,
+    vault: &mut Vault<R>,
+    room: &mut Room,
+    flat: &Flat,
+    pred: &Pred,
+    select: &SelectTotals,
+    out: &mut E,
+) -> Result<Outcome, OpErr>
+    requires may { MayTotal flat.now pred.now select.now room.old
+        (at R.state vault.old (S.state store.old)) }
+    ensures room { UsesRoom room.old room.new }
+    ensures totals { Totals E.grew E.cut E.faults (buffered room.old.pack room.old.rows)
+        room.old.pack flat.now select.now result (at R.state vault.old (S.state store.old))
+        (at R.state vault.new (S.state store.new)) out.old out.new }
+{
+    match &select.group {
+        None => answer_aggregates(store, vault, room, flat, pred, select, out),
+        Some(key) => answer_groups(store, vault, room, flat, pred, select, key, out),
+    }
+}
