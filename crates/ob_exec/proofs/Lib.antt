@@ -8,3 +8,9 @@ pub mod FoundLemmas
 pub mod EmitLemmas
 pub mod SealLemmas
 pub mod LawfulLemmas
+pub mod ResultParts
+pub mod ResultReads
+pub mod ResultHoles
+pub mod ResultMade
+pub mod ResultRows
+pub mod ResultSteps
