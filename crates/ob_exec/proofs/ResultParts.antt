@@ -22,8 +22,9 @@ use Rattle.ob_base.specs.declared.config.Public.{Public}
 use Rattle.std.proofs.Math.Nat.{le-div_iff_mul-le}
 use Rattle.ob_exec.specs.Engines.{AreSettings}
 use Rattle.ob_exec.specs.Memory.{is_reading, starts_with_make}
-use Rattle.ob_exec.specs.Selecting.{region_of}
-use Rattle.ob_exec.specs.Results.{Planned, slots_for, fresh_flat, make_part, whole_part}
+use Rattle.ob_base.specs.Schemas.{width}
+use Rattle.ob_exec.specs.Selecting.{Selection, region_of}
+use Rattle.ob_exec.specs.Results.{Planned, planned, slots_for, fresh_flat, make_part, whole_part}
 
 -- at least one block may be buffered
 pub buffered_some : (p : Public) → AreSettings p → 1 ≤ buffered_blocks p.pack p.buffer
@@ -85,3 +86,37 @@ all-emission g n = all-join (count_part g n) (Discard g ∷ []) (all-reads g n) 
 pub rest-reading : (g n : ℕ) (done rest : List Access) → done ++ rest ≡ emission_part g n → IsTrue (list_all is_reading rest)
 rest-reading g n done rest split =
     all-rest done rest (subst (λ (l : List Access). IsTrue (list_all is_reading l)) (sym split) (all-emission g n))
+
+-- ---- how many they are
+module _ (r : Planned) (plan : Plan) (g : ℕ) where
+  both-plan : length (plan_part r.selection.public plan r.k g (extent_of (region_of r.selection)) ++ emission_part g (result_blocks r.selection.public plan r.k (extent_of (region_of r.selection))))
+      ≡ length (plan_part r.selection.public plan r.k g (extent_of (region_of r.selection))) + (result_blocks r.selection.public plan r.k (extent_of (region_of r.selection)) + 1)
+  both-plan = length-append (plan_part r.selection.public plan r.k g (extent_of (region_of r.selection))) (emission_part g (result_blocks r.selection.public plan r.k (extent_of (region_of r.selection))))
+      ∙ ap (λ (n : ℕ). length (plan_part r.selection.public plan r.k g (extent_of (region_of r.selection))) + n) (length-emission_part g (result_blocks r.selection.public plan r.k (extent_of (region_of r.selection))))
+
+module _ (q : Selection) (k g : ℕ) (settings : AreSettings q.public) where
+  abbrev pub source : ℕ
+  source = blocks_for q.public.pack q.flat.capacity
+
+  abbrev pub results : ℕ
+  results = blocks_for q.public.pack k
+
+  pub length_small : length (whole_part (planned q Small k) g) ≡ (div_ceil results (buffered_blocks q.public.pack q.public.buffer) * source + 2 * results) + 2
+  length_small = omega (arith, both-plan (planned q Small k) Small g, length-small_part q.flat.region g source results (buffered_blocks q.public.pack q.public.buffer) (q.public.pack * width q.flat.schema) (buffered_some q.public settings))
+
+  pub length_large : length (whole_part (planned q Large k) g) ≡ 5 * source + 2
+  length_large = omega (arith, both-plan (planned q Large k) Large g, length-large_part q.flat.region g source (q.public.pack * width q.flat.schema))
+
+  pub length_cont : length (whole_part (planned q Continuous k) g) ≡ ((source + 2 * q.flat.capacity) + 2 * results) + 2
+  length_cont = omega (arith, both-plan (planned q Continuous k) Continuous g, length-continuous_part q.flat.region g q.public.pack q.flat.capacity k (q.public.pack * width q.flat.schema) settings.pack_least)
+
+  pub length_hash : length (whole_part (planned q Hash k) g) ≡ ((source + 4 * q.public.depth * q.flat.capacity) + 2 * (k * q.public.depth)) + 2
+  length_hash = omega (arith, both-plan (planned q Hash k) Hash g, length-hash_part q.flat.region g q.public.pack q.flat.capacity k q.public.depth (q.public.pack * width q.flat.schema) settings.pack_least)
+
+-- a Small result of few rows takes few accesses
+pub few_small : (passes source results n k : ℕ) → passes ≤ results → source ≤ n → results ≤ k → n ≤ 16777216 → k ≤ 16777216 → (passes * source + 2 * results) + 2 ≤ 576460752303423488
+few_small passes source results n k p s r m l =
+    let a : passes ≤ 16777216 = omega (arith, p, r, l) in
+    let b : source ≤ 16777216 = omega (arith, s, m) in
+    let all : passes * source ≤ 16777216 * 16777216 = mul-le-mul a b in
+    omega (arith, all, r, l)

@@ -98,7 +98,7 @@ module _ {E : Type 0} (grew cut : E → E → List Event → Type 0) (faults : E
   emits_err e went same gone seals emits =
       let back : SlotsToHalt pack fresh a c → SlotsToHalt pack fresh a b = λ s. record { slots = s.slots; is = s.is; nolie = s.nolie; unfit = unfit_before went.lasts same s.unfit } in
       record {
-        ran = cut_off {T = ℕ} pack fresh a b c went same gone seals e emits.ran;
+        ran = cut_off pack fresh a b c went same gone seals e emits.ran;
         gone = gone;
         seals = sealed_after emits.ran.err.lasts emits.seals seals;
         emitted = tt;

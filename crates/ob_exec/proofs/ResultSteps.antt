@@ -1,15 +1,22 @@
 -- The steps of one result join.
-use Rattle.std.proofs.Common.{◌≡◌, ◌⊎◌, inl, inr, ◌≤◌, ◌<◌, ◌+◌, ◌-◌, ℕ, Bool, true, false, IsTrue, List, [], ◌∷◌, ◌++◌, Option, None, Some, Result, Ok, Err, length, refl, sym, ◌∙◌, ap, subst, arith, append_assoc, length-append, append-nil}
-use Rattle.std.specs.Prelude.{IsSome, IfErr, IfOk, OnErr, map}
+use Rattle.std.proofs.Common.{◌≡◌, ◌⊎◌, inl, inr, ◌≤◌, ◌<◌, ◌+◌, ◌-◌, ◌*◌, zero, suc, mul-le-mul, ℕ, Bool, true, false, IsTrue, List, [], ◌∷◌, ◌++◌, Option, None, Some, Result, Ok, Err, length, refl, sym, ◌∙◌, ap, subst, arith, append_assoc, length-append, append-nil}
+use Rattle.ob_base.specs.declared.config.Plan.{Plan}
+use Rattle.std.proofs.Math.Nat.{zero-mul}
+use Rattle.std.specs.Result.{is_err}
+use Rattle.ob_hash.proofs.Sizes.{blocks_whole}
+use Rattle.ob_flat.proofs.Tables.{fits_sized, blocks_hold}
+use Rattle.ob_exec.specs.Engines.{AreSettings}
+use Rattle.std.specs.Prelude.{IsSome, OnOk, IfErr, IfOk, OnErr, map}
 use Rattle.std.specs.Option.{option_map}
 use Rattle.std.specs.List.{list_all}
 use Rattle.std.proofs.lemmas.List.{length-map}
 use Rattle.ob_base.specs.declared.access.Access.{Access}
-use Rattle.ob_base.specs.declared.config.Plan.TheVariants.{Hash}
+use Rattle.ob_base.specs.declared.config.Plan.TheVariants.{Small, Large, Continuous, Hash}
 use Rattle.ob_base.specs.declared.refusal.Refusal.TheVariants.{Overflow as OverflowAt}
 use Rattle.ob_base.specs.declared.shown.Shown.{Shown}
 use Rattle.ob_base.specs.Events.{Event, IsEmitted, IsHalted, row_events}
 use Rattle.ob_base.proofs.EventLemmas.{halted_none}
+use Rattle.ob_row.specs.Rows.{Row}
 use Rattle.ob_row.specs.Slots.{Slots, rows}
 use Rattle.ob_row.specs.Totals.{printed}
 use Rattle.ob_script.specs.Parts.{count_part, emission_part}
@@ -29,9 +36,9 @@ use Rattle.ob_flat.specs.declared.fault.OpErr.{OpErr}
 use Rattle.ob_flat.specs.declared.fault.OpErr.TheVariants.{Failed, Tampered, Sink, NoMemory}
 use Rattle.ob_flat.specs.declared.flat.Flat.{Flat}
 use Rattle.ob_flat.specs.Emission.{SlotsToEnd, SlotsToHalt}
-use Rattle.ob_flat.specs.Flats.{Represents}
+use Rattle.ob_flat.specs.Flats.{IsSized, FitsRegion, Represents}
 use Rattle.ob_flat.specs.Passes.{PassCut, SinkCause}
-use Rattle.ob_flat.specs.Words.{Ran, SealsTable, blocks_of}
+use Rattle.ob_flat.specs.Words.{HasSpare, Ran, SealsTable, blocks_of}
 use Rattle.ob_flat.proofs.Resting.{represents_rests}
 use Rattle.ob_flat.proofs.Sinks.{none_before}
 use Rattle.ob_flat.proofs.WordLemmas.{ran_more, ran_after, ran_lasts}
@@ -43,10 +50,19 @@ use Rattle.ob_exec.specs.declared.selecting.Selected.{Selected}
 use Rattle.ob_exec.specs.declared.selecting.Selected.TheVariants.{Rows, Refused}
 use Rattle.ob_exec.specs.Memory.{is_reading, starts_with_make, ends_with_make}
 use Rattle.ob_exec.specs.Selecting.{SealsRows, is_of_access, emitted_unless, selected_as}
-use Rattle.ob_exec.specs.Results.{Planned, PlannedToEnd, PlannedToHalt, LacksMemoryOf, MakesResult, EmitsResult, WalksResult, SelectsBy, EmitsHeld, fresh_flat, make_part, whole_part, left_out, held_slots, held_shown, held_events, held_answer, head_of}
+use Rattle.ob_exec.specs.Results.{Planned, PlannedToEnd, PlannedToHalt, LacksMemoryOf, MakesResult, EmitsResult, WalksResult, SelectsBy, EmitsHeld, slots_for, fresh_flat, make_part, whole_part, left_out, held_slots, held_shown, held_events, held_answer, head_of}
 use Rattle.ob_exec.proofs.ResultParts.{whole_is, starts-make, starts-more, rest-reading, all-join, all-emission}
 use Rattle.ob_exec.proofs.ResultReads.{emitted_from, halted_from}
 use Rattle.ob_exec.proofs.ResultRows.{held_count}
+
+many_shown : (cols : List ℕ) (is : List Row) → length (map (printed cols) is) ≡ length is
+many_shown cols [] = refl
+many_shown cols (x ∷ is) = ap suc (many_shown cols is)
+
+-- slots are in a block
+first_block : (n blocks pack : ℕ) → 1 ≤ n → n ≤ blocks * pack → 1 ≤ blocks
+first_block n zero pack some fits = absurd (let none : zero * pack ≡ 0 = zero-mul pack in omega (arith, some, fits, none))
+first_block n (suc blocks) pack some fits = omega arith
 
 -- no region of the next number is there
 pub none_next : (w : World) → Ready w → w.vault.revs.live w.vault.next ≡ None
@@ -56,17 +72,17 @@ none_next w ready = go (w.vault.revs.live w.vault.next) refl
     go None is = is
     go (Some shape) is = absurd (omega (arith, ready.below w.vault.next shape is))
 
-pub sink_as : {A B : Type 0} (e : OpErr) (old new : ℕ) → SinkCause {T = A} (Err e) old new → SinkCause {T = B} (Err e) old new
-sink_as Failed old new is = is
-sink_as (Tampered q x) old new is = is
-sink_as Sink old new is = is
-sink_as NoMemory old new is = is
+pub sink_as : (A B : Type 0) (e : OpErr) (old new : ℕ) → SinkCause {T = A} (Err e) old new → SinkCause {T = B} (Err e) old new
+sink_as A B Failed old new is = is
+sink_as A B (Tampered q x) old new is = is
+sink_as A B Sink old new is = is
+sink_as A B NoMemory old new is = is
 
-pub sink_none : {A : Type 0} (e : OpErr) (n : ℕ) → (e ≡ Sink → ⊥) → SinkCause {T = A} (Err e) n n
-sink_none Failed n off = refl
-sink_none (Tampered q x) n off = refl
-sink_none Sink n off = absurd (off refl)
-sink_none NoMemory n off = refl
+pub sink_none : (A : Type 0) (e : OpErr) (n : ℕ) → (e ≡ Sink → ⊥) → SinkCause {T = A} (Err e) n n
+sink_none A Failed n off = refl
+sink_none A (Tampered q x) n off = refl
+sink_none A Sink n off = absurd (off refl)
+sink_none A NoMemory n off = refl
 
 -- the length of a list that begins with a make
 some-first : (xs : List Access) → IsTrue (starts_with_make xs) → 1 ≤ length xs
@@ -162,16 +178,16 @@ module _ {E : Type 0} (grew cut : E → E → List Event → Type 0) (faults : E
         }
 
     -- room was made before
+    abbrev end_rests : (new : World) → PlannedToEnd r (record { vault = v; store = s }) new → PlannedToEnd r (record { vault = v; store = t }) new
+    end_rests new p = record { honest = record { tells = subst (λ (b : Bool). IsTrue b) (sym rests.tells) p.honest.tells; nolie = p.honest.nolie }; slots = p.slots; is = represents_rests v s t rests _ _ _ p.is; suits = p.suits }
+
+    abbrev halt_rests : (new : World) → PlannedToHalt r (record { vault = v; store = s }) new → PlannedToHalt r (record { vault = v; store = t }) new
+    halt_rests new p = record { tells = subst (λ (b : Bool). IsTrue b) (sym rests.tells) p.tells; slots = p.slots; is = represents_rests v s t rests _ _ _ p.is; suits = p.suits; nolie = rests.lie ∙ p.nolie; unfit = p.unfit }
+
     rests_held : (answer : Selected) (new : World) (out_old out_new : E)
         → EmitsHeld grew r answer (record { vault = v; store = t }) new out_old out_new → EmitsHeld grew r answer (record { vault = v; store = s }) new out_old out_new
     rests_held (Rows n) new out_old out_new is = emitted_from (end_rests new) (λ p. refl) is
     rests_held (Refused why) new out_old out_new is = is
-
-    end_rests : (new : World) → PlannedToEnd r (record { vault = v; store = s }) new → PlannedToEnd r (record { vault = v; store = t }) new
-    end_rests new p = record { honest = record { tells = subst (λ (b : Bool). IsTrue b) (sym rests.tells) p.honest.tells; nolie = p.honest.nolie }; slots = p.slots; is = represents_rests v s t rests _ _ _ p.is; suits = p.suits }
-
-    halt_rests : (new : World) → PlannedToHalt r (record { vault = v; store = s }) new → PlannedToHalt r (record { vault = v; store = t }) new
-    halt_rests new p = record { tells = subst (λ (b : Bool). IsTrue b) (sym rests.tells) p.tells; slots = p.slots; is = represents_rests v s t rests _ _ _ p.is; suits = p.suits; nolie = rests.lie ∙ p.nolie; unfit = p.unfit }
 
     pub by_rests : (result : Result Selected OpErr) (new : World) (out_old out_new : E) → Ready (record { vault = v; store = s })
         → SelectsBy grew cut faults r result (record { vault = v; store = t }) new out_old out_new → SelectsBy grew cut faults r result (record { vault = v; store = s }) new out_old out_new
@@ -223,7 +239,7 @@ module _ {E : Type 0} (grew cut : E → E → List Event → Type 0) (faults : E
       emitted = tt;
       halted = halted_none grew cut _ out;
       failed = λ none. halted_none grew grew _ out;
-      sink = sink_none e _ (λ sink. is.never (ap Err sink));
+      sink = sink_none Selected e _ (λ sink. is.never (ap Err sink));
       told = λ s. elim (is.told s) [ inl f ↦ inl f | inr n ↦ inr (inr n) ];
       before = λ s left. let few = began-few (make_part r g) old mid is.ran.err.began in done_few e _ _ (omega (arith, few.0, whole-length r g some, least));
     }
@@ -232,10 +248,10 @@ module _ {E : Type 0} (grew cut : E → E → List Event → Type 0) (faults : E
       joined : {T : Type 0} (result : Result T OpErr) → Ran script (one g) result mid new → Ran (whole_part r g) (one g) result old new
       joined result ran = subst (λ (x : List Access). Ran x (one g) result old new) (whole_is r g some) (ran_after result (make_part r g) script made.ran.ok ran)
 
-      end_mid : {T : Type 0} (result : Result T OpErr) → Ran script (one g) result mid new → PlannedToEnd r old new → PlannedToEnd r old mid
+      abbrev end_mid : {T : Type 0} (result : Result T OpErr) → Ran script (one g) result mid new → PlannedToEnd r old new → PlannedToEnd r old mid
       end_mid result ran s = record { honest = honest_before (ran_lasts result ran) s.honest; slots = s.slots; is = s.is; suits = s.suits }
 
-      halt_mid : {T : Type 0} (result : Result T OpErr) → Ran script (one g) result mid new → PlannedToHalt r old new → PlannedToEnd r old mid
+      abbrev halt_mid : {T : Type 0} (result : Result T OpErr) → Ran script (one g) result mid new → PlannedToHalt r old new → PlannedToEnd r old mid
       halt_mid result ran s = record {
         honest = record { tells = s.tells; nolie = none_before (one g) (one g) (make_part r g) old mid new made.ran.ok (ran_lasts result ran) s.nolie s.unfit };
         slots = s.slots;
@@ -277,8 +293,9 @@ module _ {E : Type 0} (grew cut : E → E → List Event → Type 0) (faults : E
               told = λ s.
                   let t = end_mid (Ok n) is.ran s in
                   let none = is_done t in
-                  let many : n ≡ r.k = is.emitted.count ∙ ap length (is.emitted.told (back s)) ∙ length-map _ (rows (held_slots r s.slots)) ∙ held_count r s.slots s.suits k_some none in
-                  ap Rows many ∙ ap (λ (o : Option ℕ). selected_as (option_map OverflowAt o) r.k) none;
+                  let shown : length is.emitted.rows ≡ length (held_shown r s.slots) = ap (λ (l : List (List Shown)). length l) (is.emitted.told (back s)) in
+                  let many : n ≡ r.k = omega (arith, is.emitted.count, shown, many_shown r.selection.cols (rows (held_slots r s.slots)), held_count r s.slots s.suits k_some none) in
+                  ap (λ (m : ℕ). Rows m) many ∙ ap (λ (o : Option ℕ). selected_as (option_map OverflowAt o) r.k) none;
               before = λ s left. tt;
             }
 
@@ -306,7 +323,7 @@ module _ {E : Type 0} (grew cut : E → E → List Event → Type 0) (faults : E
               emitted = tt;
               halted = halted_from back (λ s. same_events (halt_mid {T = ℕ} (Err e) is.ran s)) is.halted;
               failed = λ none. halted_from back (λ s. same_events (halt_mid {T = ℕ} (Err e) is.ran s)) (is.failed (ap Err (err_is none)));
-              sink = sink_as e _ _ is.sink;
+              sink = sink_as ℕ Selected e _ _ is.sink;
               told = λ s. let t = end_mid {T = ℕ} (Err e) is.ran s in is.told (held_slots r s.slots) (held t) s.honest.nolie;
               before = λ s left. absurd (left_none _ (is_done (halt_mid {T = ℕ} (Err e) is.ran s)) left);
             }
@@ -347,7 +364,7 @@ module _ {E : Type 0} (grew cut : E → E → List Event → Type 0) (faults : E
               emitted = tt;
               halted = halted_none grew cut _ out;
               failed = λ none. halted_none grew grew _ out;
-              sink = sink_none e _ is.never.0;
+              sink = sink_none Selected e _ is.never.0;
               told = λ s. let t = end_mid {T = T} (Err e) is.ran s in inl (is.told (held_slots r s.slots) (made.told t).1 s.honest.nolie);
               before = λ s left.
                   let few = began-few (count_part g (blocks_of pack fresh)) mid new is.cut in
@@ -355,3 +372,52 @@ module _ {E : Type 0} (grew cut : E → E → List Event → Type 0) (faults : E
                   let more = grown {T = T} e is.ran in
                   done_access e _ _ is.never (omega (arith, few.0, few.1, long, length-count_part g (blocks_of pack fresh), whole-length r g some)) (omega (arith, more));
             }
+
+-- the same of an equal pack and an equal region
+pub emits_at : {E : Type 0} (grew cut : E → E → List Event → Type 0) (faults : E → ℕ) (p q : ℕ) (f h : Flat) (cols : List ℕ) (result : Result ℕ OpErr) (old new : World) (out_old out_new : E)
+    → p ≡ q → f ≡ h → EmitsResult grew cut faults p f cols result old new out_old out_new → EmitsResult grew cut faults q h cols result old new out_old out_new
+emits_at grew cut faults p q f h cols result old new out_old out_new pack same is =
+    subst (λ (x : Flat). EmitsResult grew cut faults q x cols result old new out_old out_new) same (subst (λ (n : ℕ). EmitsResult grew cut faults n f cols result old new out_old out_new) pack is)
+
+pub walks_at : {T : Type 0} (p q : ℕ) (f h : Flat) (result : Result T OpErr) (old new : World) → p ≡ q → f ≡ h → WalksResult p f result old new → WalksResult q h result old new
+walks_at p q f h result old new pack same is = subst (λ (x : Flat). WalksResult q x result old new) same (subst (λ (n : ℕ). WalksResult n f result old new) pack is)
+
+-- what is left to read a result back
+pub spare_made : (r : Planned) (old mid : World) (n : ℕ) → 1 ≤ r.selection.public.pack → n + length (whole_part r old.vault.next) ≤ old.store.spare → Went (make_part r old.vault.next) (one old.vault.next) old mid
+    → HasSpare (blocks_of r.selection.public.pack (fresh_flat r old.vault.next) + 1) mid
+spare_made r old mid n some spare went = record { ready = went.lasts.ready; spare = omega (arith, spare, went.spare, whole-length r old.vault.next some) }
+
+pub spare_at : (p q : ℕ) (f h : Flat) (w : World) → p ≡ q → f ≡ h → HasSpare (blocks_of q h + 1) w → HasSpare (blocks_of p f + 1) w
+spare_at p q f h w pack same is = subst (λ (x : Flat). HasSpare (blocks_of p x + 1) w) (sym same) (subst (λ (n : ℕ). HasSpare (blocks_of n h + 1) w) (sym pack) is)
+
+-- the sizes of a result
+fits-plan : (r : Planned) (plan : Plan) → AreSettings r.selection.public → IsSized r.selection.flat.schema r.selection.flat.capacity → 1 ≤ r.k → r.k ≤ r.selection.flat.capacity
+    → FitsRegion r.selection.public.pack r.selection.flat.schema (slots_for r plan)
+fits-plan r Small settings size some most =
+    fits_sized _ _ _ settings.pack_least (record { some = size.some; few = size.few; wide = size.wide; least = some; most = omega (arith, most, size.most) })
+fits-plan r Large settings size some most = fits_sized _ _ _ settings.pack_least size
+fits-plan r Continuous settings size some most =
+    fits_sized _ _ _ settings.pack_least (record { some = size.some; few = size.few; wide = size.wide; least = some; most = omega (arith, most, size.most) })
+fits-plan r Hash settings size some most =
+    let blocks = blocks_whole r.selection.public.pack (r.k * r.selection.public.depth) settings.pack_least in
+    let k_few : r.k ≤ 16777216 = omega (arith, most, size.most) in
+    let few : r.k * r.selection.public.depth ≤ 16777216 * 8 = mul-le-mul k_few settings.depth_most in
+    let least : 1 * 1 ≤ r.k * r.selection.public.depth = mul-le-mul some settings.depth_least in
+    let one_least : 1 ≤ r.k * r.selection.public.depth = omega (arith, least) in
+    let all : 1 * 1 ≤ (r.k * r.selection.public.depth) * r.selection.public.pack = mul-le-mul one_least settings.pack_least in
+    record { some = size.some; few = size.few; wide = size.wide; least = omega (arith, all); blocks = omega (arith, blocks, few) }
+
+pub fits_fresh : (r : Planned) (g : ℕ) → AreSettings r.selection.public → IsSized r.selection.flat.schema r.selection.flat.capacity → 1 ≤ r.k → r.k ≤ r.selection.flat.capacity
+    → FitsRegion r.selection.public.pack (fresh_flat r g).schema (fresh_flat r g).capacity
+fits_fresh r g settings size some most = fits-plan r r.plan settings size some most
+
+pub fits_at : (p q : ℕ) (f h : Flat) → p ≡ q → f ≡ h → FitsRegion q h.schema h.capacity → FitsRegion p f.schema f.capacity
+fits_at p q f h pack same is = subst (λ (x : Flat). FitsRegion p x.schema x.capacity) (sym same) (subst (λ (n : ℕ). FitsRegion n h.schema h.capacity) (sym pack) is)
+
+pub blocks_some : (r : Planned) (g : ℕ) → FitsRegion r.selection.public.pack (fresh_flat r g).schema (fresh_flat r g).capacity → 1 ≤ r.selection.public.pack → 1 ≤ blocks_of r.selection.public.pack (fresh_flat r g)
+blocks_some r g fits some = let hold = blocks_hold r.selection.public.pack (fresh_flat r g).capacity some in first_block _ _ _ fits.least hold
+
+-- room was made
+pub room_made : {T F P : Type 0} (x : Result T F) → is_err x ≡ false → OnOk x P → P
+room_made (Ok v) ok h = h
+room_made (Err e) ok h = absurd (cc ok)

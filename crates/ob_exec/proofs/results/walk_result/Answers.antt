@@ -3,7 +3,7 @@ use Rattle.ob_exec.proofs.ResultReads.{walks_ok, walks_err, spare_left}
 use Rattle.ob_exec.proofs.results.walk_result.Goals as goal
 
 pub discard-requires-clause-spare : goal.discard-requires-clause-spare
-discard-requires-clause-spare g c = spare_left _ _ _ _ c.requires.spare c.in-Ok.ensures.walks.ran.ok
+discard-requires-clause-spare g c = spare_left c.args.room.now.pack c.args.fresh _ _ c.requires.spare c.in-Ok.ensures.walks.ran.ok
 
 pub returns-in-Ok-clause-walks : goal.returns-in-Ok-clause-walks
 returns-in-Ok-clause-walks g c =
