@@ -17,3 +17,9 @@ pub mod TotalsServed
 pub mod TotallingLemmas
 pub mod ServeLemmas
 pub mod EmitLemmas
+pub mod ResultParts
+pub mod ResultReads
+pub mod ResultHoles
+pub mod ResultMade
+pub mod ResultRows
+pub mod ResultSteps

@@ -8,4 +8,5 @@ pub mod Memory
 pub mod Telling
 pub mod Selecting
 pub mod Totalling
+pub mod Results
 pub mod Serving

@@ -7,6 +7,7 @@ mod dropping;
 mod engine;
 mod inserting;
 mod outcome;
+mod results;
 mod rows;
 mod run;
 mod selecting;

@@ -5,7 +5,9 @@ ghost use Rattle.ob_vault.specs.Places.{at};
 ghost use Rattle.ob_mean.specs.Verdict.{ended as seen_to};
 ghost use Rattle.ob_exec.specs.Selecting.{MaySelect, SelectsFrom, UsesRoom, selection_of};
 
-use ob_base::{Emit, Public, Refusal, Seen};
+use crate::results::select_by;
+use ob_base::{Emit, EmitErr, End, Plan, Public, Refusal, Seen};
+use ob_emit::emit_head;
 use ob_flat::{Flat, OpErr};
 use ob_room::Room;
 use ob_row::Pred;
@@ -14,6 +16,7 @@ use ob_vault::{Revisions, Vault};
 
 /// What is selected from a region: the rows that make a condition true, and of these the cells of the
 /// columns at these places. So many accesses will follow, for which the store is to keep room.
+#[derive(Drop)]
 pub(crate) struct Query<'a> {
     pub(crate) flat: &'a Flat,
     pub(crate) pred: &'a Pred,
@@ -26,6 +29,15 @@ pub(crate) struct Query<'a> {
 pub(crate) enum Selected {
     Rows(u32),
     Refused(Refusal),
+}
+
+// Emits the header alone.
+fn emit_none<E: Emit>(query: &Query<'_>, out: &mut E) -> Result<Selected, OpErr> {
+    match emit_head(&query.flat.schema, query.cols, out) {
+        Ok(()) => Ok(Selected::Rows(0)),
+        Err(EmitErr::Failed) => Err(OpErr::Sink),
+        Err(EmitErr::NoMemory) => Err(OpErr::NoMemory),
+    }
 }
 
 /// Selects from a region: its rows are counted, then put into a fresh region by the plan for so many, and
@@ -49,5 +61,22 @@ pub(crate) fn select_from<S: BlockStore, R: Revisions, E: Emit>(
         (at R.state vault.old (S.state store.old)) (at R.state vault.new (S.state store.new))
         out.old out.new }
 {
-    unreachable!()
+    let counted = ob_flat::count(store, vault, room, query.flat, query.pred)?;
+    seen.k = Some(u64::from(counted.k));
+    if counted.k == 0 {
+        return emit_none(query, out);
+    }
+    let plan = ob_plan::plan(query.flat.capacity, counted.k, counted.consecutive, public);
+    if plan == Plan::Continuous && !counted.consecutive {
+        seen.end = End::AfterCount;
+        return Ok(Selected::Refused(Refusal::NotConsecutive));
+    }
+    seen.plan = Some(plan);
+    match select_by(store, vault, room, public, query, counted.k, plan, out)? {
+        Selected::Refused(_) if public.plan.is_none() => {
+            seen.then = Some(Plan::Small);
+            select_by(store, vault, room, public, query, counted.k, Plan::Small, out)
+        }
+        answer => Ok(answer),
+    }
 }

@@ -1,0 +1,176 @@
+-- A result by each of the plans.
+use Rattle.std.proofs.Common.{◌≡◌, ◌⊎◌, inl, inr, ◌≤◌, ◌<◌, ◌*◌, ◌+◌, ℕ, Bool, IsTrue, List, [], ◌∷◌, ◌++◌, Option, None, Some, Result, Ok, Err, max, length, refl, sym, ◌∙◌, ap, subst, arith}
+use Rattle.ob_base.specs.declared.access.Access.{Access}
+use Rattle.ob_base.specs.declared.config.Plan.TheVariants.{Small, Large, Continuous, Hash}
+use Rattle.ob_base.specs.Accesses.{make_at}
+use Rattle.ob_base.specs.Limits.{buffered_blocks}
+use Rattle.ob_base.specs.Numbers.{blocks_for}
+use Rattle.ob_base.specs.Schemas.{width}
+use Rattle.ob_room.specs.RoomState.{RoomState}
+use Rattle.ob_row.specs.Slots.{Slots}
+use Rattle.ob_row.specs.Truth.{is_true}
+use Rattle.ob_store.specs.Runs.{Began}
+use Rattle.ob_vault.specs.State.{World}
+use Rattle.ob_vault.specs.Calls.{Went, one}
+use Rattle.ob_vault.specs.Words.{IsHonest}
+use Rattle.ob_flat.specs.declared.fault.OpErr.{OpErr}
+use Rattle.ob_flat.specs.declared.fault.OpErr.TheVariants.{Failed, Tampered, Sink, NoMemory}
+use Rattle.ob_flat.specs.declared.flat.Flat.{Flat}
+use Rattle.ob_flat.specs.Flats.{IsWritten, IsFlat, Represents}
+use Rattle.ob_flat.specs.Passes.{PassCut}
+use Rattle.ob_flat.specs.Words.{SealsTable}
+use Rattle.ob_flat.proofs.Tables.{written_flat}
+use Rattle.ob_small.specs.Selection as S
+use Rattle.ob_large.specs.Selecting as L
+use Rattle.ob_cont.specs.Selecting as C
+use Rattle.ob_hash.specs.Selecting as H
+use Rattle.ob_hash.specs.Hashing.{layout_at}
+use Rattle.ob_hash.specs.Answers.{flat_of, overflow_of}
+use Rattle.ob_hash.specs.declared.selecting.Placed.{Placed}
+use Rattle.ob_hash.specs.declared.selecting.Placed.TheVariants.{Done, Overflow}
+use Rattle.ob_hash.proofs.Sizes.{blocks_whole}
+use Rattle.ob_exec.specs.Engines.{IsFree}
+use Rattle.ob_exec.specs.Memory.{is_make}
+use Rattle.ob_exec.specs.Selecting.{Selection}
+use Rattle.ob_exec.specs.Results.{Planned, planned, fresh_flat, make_part, left_out, held_slots, PlannedToEnd, LacksMemoryOf, MakesResult, placed_as, KeepsRoom}
+use Rattle.ob_exec.proofs.ResultHoles.{asked_some}
+use Rattle.ob_exec.proofs.ResultParts.{buffered_some}
+use Rattle.ob_exec.specs.Engines.{AreSettings}
+use Rattle.ob_hash.specs.Hashing as HL
+use Rattle.ob_script.proofs.Numbers.{length-small_part, length-large_part, length-continuous_part, length-hash_part}
+use Rattle.ob_flat.specs.Words.{blocks_of}
+
+-- more rows may have been open
+pub room_kept : (old new : RoomState) (high : ℕ) → new ≡ record old { high = high } → old.high ≤ high → KeepsRoom old new
+room_kept old new high is most = subst (λ (r : RoomState). KeepsRoom old r) (sym is) (record { same = refl; kept = most })
+
+pub room_same : (old : RoomState) → KeepsRoom old old
+room_same old = record { same = refl; kept = omega arith }
+
+pub room_then : (a b c : RoomState) → KeepsRoom a b → KeepsRoom b c → KeepsRoom a c
+room_then a b c first second = record { same = second.same ∙ ap (λ (r : RoomState). record r { high = c.high }) first.same; kept = omega (arith, first.kept, second.kept) }
+
+-- want of memory at a make, or before
+lacks_from : (m : Access) (more done rest : List Access) (old new : World) → IsTrue (is_make m) → done ++ rest ≡ m ∷ [] → new.store.asked ≡ old.store.asked ++ done → LacksMemoryOf (m ∷ more) old new
+lacks_from m more [] rest old new make split asked = record { done = []; rest = m ∷ more; split = refl; asked = asked; place = inr (inl make) }
+lacks_from m more (x ∷ []) rest old new make split asked =
+    let same : x ≡ m = cc in
+    record { done = x ∷ []; rest = more; split = ap (λ (y : Access). y ∷ more) same; asked = asked; place = inl (subst (λ (y : Access). IsTrue (is_make y)) (sym same) make) }
+lacks_from m more (x ∷ y ∷ done) rest old new make split asked = absurd (cc split)
+
+lacks_make : (m : Access) (more : List Access) (old new : World) → IsTrue (is_make m) → Began (m ∷ []) old.store new.store → LacksMemoryOf (m ∷ more) old new
+lacks_make m more old new make began = lacks_from m more began.done began.rest old new make began.split began.asked
+
+module _ (r : Planned) (old new : World) where
+  made_done : (fresh : Flat) → Went (make_part r old.vault.next) (one old.vault.next) old new → fresh ≡ fresh_flat r old.vault.next
+      → IsWritten r.selection.public.pack fresh new → SealsTable r.selection.public.pack r.selection.flat.schema old.vault.next old new
+      → ((s : PlannedToEnd r old new) → (None ≡ left_out r s.slots) × Represents r.selection.public.pack fresh (held_slots r s.slots) new)
+      → MakesResult r (Ok (Done fresh)) old new
+  made_done fresh went value written seals told = record {
+    ran = record { ok = went; err = tt };
+    some = tt;
+    never = λ is. cc;
+    memory = λ is. absurd (cc is);
+    value = value;
+    left = λ some. absurd (cc some);
+    written = subst (λ (f : Flat). IsWritten r.selection.public.pack f new) value written;
+    gone = tt;
+    seals = seals;
+    told = λ s. let is = told s in (is.0, subst (λ (f : Flat). Represents r.selection.public.pack f (held_slots r s.slots) new) value is.1);
+  }
+
+  made_err : (e : OpErr) → PassCut e (make_part r old.vault.next) (one old.vault.next) old new → (e ≡ Sink → ⊥) → (e ≡ NoMemory → LacksMemoryOf (make_part r old.vault.next) old new)
+      → new.vault.revs.live old.vault.next ≡ None → SealsTable r.selection.public.pack r.selection.flat.schema old.vault.next old new
+      → ((s : PlannedToEnd r old new) → (e ≡ Failed) ⊎ (e ≡ NoMemory))
+      → MakesResult r (Err e) old new
+  made_err e cut never memory gone seals told = record {
+    ran = record { ok = tt; err = cut };
+    some = asked_some e _ _ old new cut;
+    never = λ is. never (cc is);
+    memory = λ is. memory (cc is);
+    value = tt;
+    left = tt;
+    written = tt;
+    gone = gone;
+    seals = seals;
+    told = told;
+  }
+
+module _ (q : Selection) (k : ℕ) (room : RoomState) (free : IsFree q.public room) (old new : World) where
+  small_of : (result : Result Flat OpErr) → S.Selects (S.select_of q.public.pack (buffered_blocks q.public.pack q.public.buffer) q.flat q.condition k) result old new
+      → MakesResult (planned q Small k) (placed_as result) old new
+  small_of (Ok fresh) is = made_done (planned q Small k) old new fresh is.ran.ok is.makes.value (written_flat _ _ _ is.makes.flat) is.makes.seals
+      (λ s. (refl, is.exact s.honest s.slots s.suits.count s.is))
+  small_of (Err e) is = made_err (planned q Small k) old new e is.ran.err
+      (λ sink. elim is.never [ inl f ↦ cc (f, sink) | inr more ↦ elim more [ inl n ↦ cc (n, sink) | inr t ↦ cc (t.is, sink) ] ])
+      (λ none. lacks_make _ _ old new refl (is.memory.began (ap Err none)))
+      is.makes.gone is.makes.seals (λ s. is.told s.honest s.slots s.is)
+
+  pub made_small : (result : Result Flat OpErr) → S.Selects (S.select_in room q.flat q.condition k) result old new → MakesResult (planned q Small k) (placed_as result) old new
+  made_small result is =
+      small_of result (subst (λ (n : ℕ). S.Selects (S.select_of q.public.pack (buffered_blocks q.public.pack n) q.flat q.condition k) result old new) free.rows
+      (subst (λ (p : ℕ). S.Selects (S.select_of p (buffered_blocks p room.rows) q.flat q.condition k) result old new) free.pack is))
+
+  large_of : (result : Result Flat OpErr) → L.Selects q.public.pack q.flat (is_true q.condition) result old new → MakesResult (planned q Large k) (placed_as result) old new
+  large_of (Ok fresh) is = made_done (planned q Large k) old new fresh is.ran.ok is.makes.value (written_flat _ _ _ is.makes.flat) is.makes.seals
+      (λ s. (refl, is.told s.honest s.slots s.is))
+  large_of (Err e) is = made_err (planned q Large k) old new e is.ran.err
+      (λ sink. elim is.never [ inl f ↦ cc (f, sink) | inr more ↦ elim more [ inl n ↦ cc (n, sink) | inr t ↦ elim t [ inl t ↦ cc (t.is, sink) | inr t ↦ cc (t.is, sink) ] ] ])
+      (λ none. lacks_make _ _ old new refl (is.memory.began (ap Err none)))
+      is.makes.gone is.makes.seals (λ s. is.told s.honest s.slots s.is)
+
+  pub made_large : (result : Result Flat OpErr) → L.Selects room.pack q.flat (is_true q.condition) result old new → MakesResult (planned q Large k) (placed_as result) old new
+  made_large result is = large_of result (subst (λ (p : ℕ). L.Selects p q.flat (is_true q.condition) result old new) free.pack is)
+
+  cont_of : (result : Result Flat OpErr) → C.Selects q.public.pack q.flat (is_true q.condition) k result old new → MakesResult (planned q Continuous k) (placed_as result) old new
+  cont_of (Ok fresh) is = made_done (planned q Continuous k) old new fresh is.ran.ok is.value is.written is.seals
+      (λ s. (refl, is.exact s.honest s.slots s.suits.count (s.suits.consecutive refl) s.is))
+  cont_of (Err e) is = made_err (planned q Continuous k) old new e is.ran.err
+      (λ sink. elim is.never [ inl f ↦ cc (f, sink) | inr more ↦ elim more [ inl n ↦ cc (n, sink) | inr t ↦ elim t [ inl t ↦ cc (t.is, sink) | inr t ↦ cc (t.is, sink) ] ] ])
+      (λ none. lacks_make _ _ old new refl (is.memory.began (ap Err none)))
+      is.gone is.seals (λ s. is.told s.honest s.slots s.is)
+
+  pub made_cont : (result : Result Flat OpErr) → C.Selects room.pack q.flat (is_true q.condition) k result old new → MakesResult (planned q Continuous k) (placed_as result) old new
+  made_cont result is = cont_of result (subst (λ (p : ℕ). C.Selects p q.flat (is_true q.condition) k result old new) free.pack is)
+
+  module _ (some : 1 ≤ q.public.pack) where
+    hash_began : Began (make_at old.vault.next (blocks_for q.public.pack ((k * q.public.depth) * q.public.pack)) (q.public.pack * width q.flat.schema)) old.store new.store
+        → LacksMemoryOf (make_part (planned q Hash k) old.vault.next) old new
+    hash_began began = lacks_make _ _ old new refl (subst (λ (n : ℕ). Began (make_at old.vault.next n (q.public.pack * width q.flat.schema)) old.store new.store) (blocks_whole q.public.pack (k * q.public.depth) some) began)
+
+    hash_of : (result : Result Placed OpErr) → H.Selects (layout_at q.public.pack q.flat k q.public.depth old.vault.next) q.flat (is_true q.condition) result old new → MakesResult (planned q Hash k) result old new
+    hash_of (Ok placed) is = record {
+      ran = record { ok = is.ran.ok; err = tt };
+      some = tt;
+      never = λ is. cc;
+      memory = λ is. absurd (cc is);
+      value = is.makes.value;
+      left = λ some. refl;
+      written = subst (λ (f : Flat). IsWritten q.public.pack f new) is.makes.value (written_flat _ _ _ is.makes.flat);
+      gone = tt;
+      seals = is.makes.seals;
+      told = λ s. let told = is.told s.honest s.slots s.is in (told.0, subst (λ (f : Flat). Represents q.public.pack f (held_slots (planned q Hash k) s.slots) new) is.makes.value told.1);
+    }
+    hash_of (Err e) is = made_err (planned q Hash k) old new e is.ran.err
+        (λ sink. elim is.never [ inl f ↦ cc (f, sink) | inr more ↦ elim more [ inl n ↦ cc (n, sink) | inr t ↦ elim t [ inl t ↦ cc (t.is, sink) | inr t ↦ cc (t.is, sink) ] ] ])
+        (λ none. hash_began (is.memory.began (ap Err none)))
+        is.makes.gone is.makes.seals (λ s. is.told s.honest s.slots s.is)
+
+    pub made_hash : (result : Result Placed OpErr) → H.Selects (layout_at room.pack q.flat k q.public.depth old.vault.next) q.flat (is_true q.condition) result old new → MakesResult (planned q Hash k) result old new
+    made_hash result is = hash_of result (subst (λ (p : ℕ). H.Selects (layout_at p q.flat k q.public.depth old.vault.next) q.flat (is_true q.condition) result old new) free.pack is)
+
+-- the accesses that each operator asks for
+module _ (q : Selection) (k g : ℕ) (room : RoomState) (free : IsFree q.public room) (settings : AreSettings q.public) (n : ℕ) where
+  pub starts_small : length (make_part (planned q Small k) g) ≤ n → 1 + S.fill_length (S.select_in room q.flat q.condition k) ≤ n
+  starts_small enough =
+      let s = S.select_of q.public.pack (buffered_blocks q.public.pack q.public.buffer) q.flat q.condition k in
+      rw (free.pack, free.rows) (omega (arith, enough, length-small_part q.flat.region g (S.blocks s) (S.results s) s.buffered (q.public.pack * width q.flat.schema) (buffered_some q.public settings)))
+
+  pub starts_large : length (make_part (planned q Large k) g) ≤ n → 1 + 4 * blocks_of room.pack q.flat ≤ n
+  starts_large enough = rw free.pack (omega (arith, enough, length-large_part q.flat.region g (blocks_of q.public.pack q.flat) (q.public.pack * width q.flat.schema)))
+
+  pub starts_cont : length (make_part (planned q Continuous k) g) ≤ n → C.select_length room.pack q.flat k ≤ n
+  starts_cont enough = rw free.pack (omega (arith, enough, length-continuous_part q.flat.region g q.public.pack q.flat.capacity k (q.public.pack * width q.flat.schema) settings.pack_least))
+
+  pub starts_hash : length (make_part (planned q Hash k) g) ≤ n → HL.select_length (layout_at room.pack q.flat k q.public.depth g) q.flat ≤ n
+  starts_hash enough = rw free.pack (omega (arith, enough, length-hash_part q.flat.region g q.public.pack q.flat.capacity k q.public.depth (q.public.pack * width q.flat.schema) settings.pack_least))

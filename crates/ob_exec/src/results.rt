@@ -1,0 +1,183 @@
+//! The result of a selection by one plan: made, read back and discarded.
+ghost use Rattle.std.specs.Prelude.{◌≡◌, ◌≤◌, ◌+◌, ◌^◌, ℕ, length};
+ghost use Rattle.ob_base.specs.Schemas.{width};
+ghost use Rattle.ob_blocks.specs.Idle.{IsIdle};
+ghost use Rattle.ob_vault.specs.Places.{at};
+ghost use Rattle.ob_flat.specs.Flats.{IsSized, IsWritten, FitsRegion};
+ghost use Rattle.ob_flat.specs.Words.{HasSpare, blocks_of};
+ghost use Rattle.ob_emit.specs.Emitting.{AreColumns};
+ghost use Rattle.ob_exec.specs.Engines.{AreSettings};
+ghost use Rattle.ob_exec.specs.Selecting.{selection_of};
+ghost use Rattle.ob_exec.specs.Results.{IsPlanned, KeepsRoom, MakesResult, EmitsResult, WalksResult, SelectsBy, make_part, placed_as, whole_part, planned};
+
+use ob_base::{Emit, Plan, Public, Refusal};
+use ob_emit::{emit_all, walk};
+use ob_flat::{Flat, OpErr, discard};
+use ob_hash::Placed;
+use ob_room::Room;
+use ob_store::BlockStore;
+use ob_vault::{Revisions, Vault};
+
+use crate::selecting::{Query, Selected};
+
+// How many accesses a result of `k` rows takes, until it has been discarded.
+fn result_length(public: &Public, query: &Query<'_>, k: u32, plan: Plan) -> u64
+    requires settings { AreSettings public.now }
+    requires size { IsSized query.now.flat.now.schema query.now.flat.now.capacity }
+    requires most { k ≤ query.now.flat.now.capacity }
+    ensures few { result ≤ 576460752303423488 }
+    ensures length { (g : ℕ) →
+        length (whole_part (planned (selection_of public.now query.now) plan k) g) ≡ result }
+{
+    let flat = query.flat;
+    let pack = u64::from(public.pack);
+    let depth = u64::from(public.depth);
+    let n = u64::from(flat.capacity);
+    let k = u64::from(k);
+    let blocks = n.div_ceil(pack);
+    let results = k.div_ceil(pack);
+    match plan {
+        Plan::Small => {
+            let buffered = (u64::from(public.buffer) - 2 * pack) / pack;
+            results.div_ceil(buffered) * blocks + 2 * results + 2
+        }
+        Plan::Large => 5 * blocks + 2,
+        Plan::Continuous => blocks + 2 * n + 2 * results + 2,
+        Plan::Hash => blocks + 4 * depth * n + 2 * k * depth + 2,
+    }
+}
+
+// A result that has each row.
+fn placed(made: Result<Flat, OpErr>) -> Result<Placed, OpErr>
+    ensures { result ≡ placed_as made }
+{
+    match made {
+        Ok(fresh) => Ok(Placed::Done(fresh)),
+        Err(error) => Err(error),
+    }
+}
+
+// Selects by a plan into a fresh region.
+fn make_result<S: BlockStore, R: Revisions>(
+    store: &mut S,
+    vault: &mut Vault<R>,
+    room: &mut Room,
+    public: &Public,
+    query: &Query<'_>,
+    k: u32,
+    plan: Plan,
+) -> Result<Placed, OpErr>
+    requires may { IsPlanned (planned (selection_of public.now query.now) plan k) room.old
+        (at R.state vault.old (S.state store.old)) }
+    requires spare { length (make_part (planned (selection_of public.now query.now) plan k)
+        vault.old.next) ≤ (S.state store.old).spare }
+    ensures room { KeepsRoom room.old room.new }
+    ensures makes { MakesResult (planned (selection_of public.now query.now) plan k) result
+        (at R.state vault.old (S.state store.old)) (at R.state vault.new (S.state store.new)) }
+{
+    let flat = query.flat;
+    let pred = query.pred;
+    match plan {
+        Plan::Small => placed(ob_small::select(store, vault, room, flat, pred, k)),
+        Plan::Large => placed(ob_large::select(store, vault, room, flat, pred, k)),
+        Plan::Continuous => placed(ob_cont::select(store, vault, room, flat, pred, k)),
+        Plan::Hash => ob_hash::select(store, vault, room, flat, pred, k, public.depth),
+    }
+}
+
+// Emits a result, and discards it.
+fn emit_result<S: BlockStore, R: Revisions, E: Emit>(
+    store: &mut S,
+    vault: &mut Vault<R>,
+    room: &mut Room,
+    fresh: Flat,
+    cols: &[u8],
+    out: &mut E,
+) -> Result<u32, OpErr>
+    requires spare { HasSpare (blocks_of room.old.pack fresh + 1)
+        (at R.state vault.old (S.state store.old)) }
+    requires written { IsWritten room.old.pack fresh (at R.state vault.old (S.state store.old)) }
+    requires size { FitsRegion room.old.pack fresh.schema fresh.capacity }
+    requires room { IsIdle (width fresh.schema) room.old }
+    requires columns { AreColumns fresh.schema cols.now }
+    ensures room { KeepsRoom room.old room.new }
+    ensures emits { EmitsResult E.grew E.cut E.faults room.old.pack fresh cols.now result
+        (at R.state vault.old (S.state store.old)) (at R.state vault.new (S.state store.new))
+        out.old out.new }
+{
+    match emit_all(store, vault, room, &fresh, cols, out) {
+        Ok(n) => {
+            let _ = discard(store, vault, fresh);
+            Ok(n as u32)
+        }
+        Err(error) => {
+            vault.forget(fresh.region);
+            Err(error)
+        }
+    }
+}
+
+// Reads a result back, emits nothing of it, and discards it.
+fn walk_result<S: BlockStore, R: Revisions>(
+    store: &mut S,
+    vault: &mut Vault<R>,
+    room: &mut Room,
+    fresh: Flat,
+) -> Result<(), OpErr>
+    requires spare { HasSpare (blocks_of room.old.pack fresh + 1)
+        (at R.state vault.old (S.state store.old)) }
+    requires written { IsWritten room.old.pack fresh (at R.state vault.old (S.state store.old)) }
+    requires size { FitsRegion room.old.pack fresh.schema fresh.capacity }
+    requires room { IsIdle (width fresh.schema) room.old }
+    ensures room { KeepsRoom room.old room.new }
+    ensures walks { WalksResult room.old.pack fresh result
+        (at R.state vault.old (S.state store.old)) (at R.state vault.new (S.state store.new)) }
+{
+    match walk(store, vault, room, &fresh) {
+        Ok(()) => {
+            let _ = discard(store, vault, fresh);
+            Ok(())
+        }
+        Err(error) => {
+            vault.forget(fresh.region);
+            Err(error)
+        }
+    }
+}
+
+// Makes a result, and emits and discards it; where it left a row out it is not emitted, but read all the
+// same.
+pub(crate) fn select_by<S: BlockStore, R: Revisions, E: Emit>(
+    store: &mut S,
+    vault: &mut Vault<R>,
+    room: &mut Room,
+    public: &Public,
+    query: &Query<'_>,
+    k: u32,
+    plan: Plan,
+    out: &mut E,
+) -> Result<Selected, OpErr>
+    requires may { IsPlanned (planned (selection_of public.now query.now) plan k) room.old
+        (at R.state vault.old (S.state store.old)) }
+    requires ending { query.now.ending ≤ 1 }
+    ensures room { KeepsRoom room.old room.new }
+    ensures selects { SelectsBy E.grew E.cut E.faults
+        (planned (selection_of public.now query.now) plan k) result
+        (at R.state vault.old (S.state store.old)) (at R.state vault.new (S.state store.new))
+        out.old out.new }
+{
+    let accesses = result_length(public, query, k, plan) + query.ending;
+    if store.room(accesses).is_err() {
+        return Err(OpErr::NoMemory);
+    }
+    match make_result(store, vault, room, public, query, k, plan)? {
+        Placed::Done(fresh) => {
+            let n = emit_result(store, vault, room, fresh, query.cols, out)?;
+            Ok(Selected::Rows(n))
+        }
+        Placed::Overflow(fresh, i) => {
+            walk_result(store, vault, room, fresh)?;
+            Ok(Selected::Refused(Refusal::Overflow(i)))
+        }
+    }
+}
