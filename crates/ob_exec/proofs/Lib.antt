@@ -8,3 +8,6 @@ pub mod FoundLemmas
 pub mod EmitLemmas
 pub mod SealLemmas
 pub mod LawfulLemmas
+pub mod PlaceLemmas
+pub mod RowsLawful
+pub mod RowsRun

@@ -36,12 +36,12 @@ use Rattle.ob_exec.specs.declared.engine.Engine.{Engine}
 use Rattle.ob_exec.specs.declared.outcome.Outcome.{Outcome}
 use Rattle.ob_exec.specs.declared.outcome.Outcome.TheVariants.{Created, Inserted, Changed, Deleted, Dropped, Rows, Refused}
 use Rattle.ob_exec.specs.Engines.{IsFree, AreTables}
-use Rattle.ob_exec.specs.Refusals.{IsEarly, by_fault}
+use Rattle.ob_exec.specs.Refusals.{IsNoFault, by_fault, refused_end}
 use Rattle.ob_base.specs.Counts.{Rises}
 use Rattle.ob_base.specs.Refusals.{is_store_fault}
 use Rattle.ob_exec.specs.Agreeing.{Agrees, world_of}
 use Rattle.ob_exec.specs.Opening.{Opens}
-use Rattle.ob_exec.specs.Running.{answer_of, is_stop, IsDone, refused_end, refused_cause, EndsBy, RunCause, GoesOn, Continues, Ran}
+use Rattle.ob_exec.specs.Running.{answer_of, is_fault, is_stop, outcome_end, result_end, RunCause, GoesOn, Continues, Ran}
 
 abbrev pub world : VaultState → StoreState → World
 world v s = record { vault = v; store = s }
@@ -57,16 +57,15 @@ makes_none : makes [] ≡ 0
 unfolding makes
 makes_none = refl
 
--- a refusal before any access is none by the store
+-- of what holds by whether the store failed, where it didn't
 pub of_other : (cut whole : Type 0) (failed : Bool) → failed ≡ false → whole → by_fault failed cut whole
 of_other cut whole true e h = absurd (cc e)
 of_other cut whole false e h = h
 
-pub early_end : (r : Refusal) (end : End) (n : ℕ) → IsEarly r → IsDone end → refused_end r end n
-early_end r end n early done = of_other (end ≡ Cut n) (IsDone end) (is_store_fault r) early done
-
-pub early_cause : (r : Refusal) (a b : World) → IsEarly r → b.store.faults ≡ a.store.faults → (Calm a → Calm b) → refused_cause r a b
-early_cause r a b early faults calm = of_other (Rises a.store.faults b.store.faults × (Calm a → Calm b)) ((b.store.faults ≡ a.store.faults) × (Calm a → Calm b)) (is_store_fault r) early (faults, calm)
+-- a refusal before any access is none by the store
+pub record IsEarly (r : Refusal) : Type 0 where
+  pub static : (n : ℕ) → refused_end r n ≡ Static
+  pub own : IsNoFault r
 
 -- the room after a pass
 pub free_after : (public : Public) (old new : RoomState) (high : ℕ) → IsFree public old → new ≡ record old { high = high } → IsFree public new
@@ -74,8 +73,6 @@ free_after public old new high free is = subst (λ (r : RoomState). IsFree publi
   idle = record { free = free.idle.free; shelf = free.idle.shelf; enough = free.idle.enough; wide = free.idle.wide };
   rows = free.rows;
   pack = free.pack;
-  some = free.some;
-  few = free.few;
 })
 
 -- nothing was asked
@@ -92,12 +89,12 @@ module _ {R : Type 0} (state : R → RevState) (skeleton : Skeleton) (old : Engi
     asked = sym (append-nil s.asked);
     later = later_refl s;
     keys = refl;
-    ends = early_end r _ _ early (inl refl);
-    cause = early_cause r _ _ early refl (λ calm. calm);
+    ends = sym (early.static _);
+    cause = (of_other _ _ (is_store_fault r) early.own refl, λ calm. calm);
     room = agrees.room;
     opened = opens_none old.room.high;
     goes_on = record {
-      agrees = record { ready = agrees.ready; next = agrees.next; room = agrees.room; tables = agrees.tables };
+      agrees = record { ready = agrees.ready; next = agrees.next; settings = agrees.settings; room = agrees.room; tables = agrees.tables };
       public = let same : old.public.next_region ≡ old.public.next_region + makes [] = omega (arith, makes_none) in λ i. record old.public { next_region = same i };
       lives = lives;
     };
@@ -110,32 +107,9 @@ module _ {R : Type 0} (state : R → RevState) (skeleton : Skeleton) (old : Engi
       (subst (λ (o : Outcome). Ran state skeleton (Ok o) old s (record old { seen = seen_to Static }) s) (sym answer) (refused_now r early))
 
 -- an answer after all accesses
-abbrev pub IsAnswered : Outcome → Type 0
-IsAnswered (Refused r) = IsEarly r
-IsAnswered Created = Unit {0}
-IsAnswered Inserted = Unit {0}
-IsAnswered (Changed k) = Unit {0}
-IsAnswered (Deleted k) = Unit {0}
-IsAnswered Dropped = Unit {0}
-IsAnswered (Rows k) = Unit {0}
-
-answered_end : (outcome : Outcome) (n : ℕ) → IsAnswered outcome → EndsBy (Ok outcome) Whole n
-answered_end (Refused r) n is = early_end r Whole n is (inr refl)
-answered_end Created n is = refl
-answered_end Inserted n is = refl
-answered_end (Changed k) n is = refl
-answered_end (Deleted k) n is = refl
-answered_end Dropped n is = refl
-answered_end (Rows k) n is = refl
-
-answered_cause : (outcome : Outcome) (a b : World) → IsAnswered outcome → b.store.faults ≡ a.store.faults → (Calm a → Calm b) → RunCause (Ok outcome) a b
-answered_cause (Refused r) a b is faults calm = early_cause r a b is faults calm
-answered_cause Created a b is faults calm = (faults, calm)
-answered_cause Inserted a b is faults calm = (faults, calm)
-answered_cause (Changed k) a b is faults calm = (faults, calm)
-answered_cause (Deleted k) a b is faults calm = (faults, calm)
-answered_cause Dropped a b is faults calm = (faults, calm)
-answered_cause (Rows k) a b is faults calm = (faults, calm)
+pub record IsAnswered (outcome : Outcome) : Type 0 where
+  pub whole : (n : ℕ) → outcome_end outcome n ≡ Whole
+  pub own : is_fault outcome ≡ false
 
 -- an engine after a statement: its vault, its room and its tables may be others
 abbrev pub engine_after : {R : Type 0} → Engine R → Vault R → RoomState → List Table → End → Bool → Engine R
@@ -148,46 +122,65 @@ engine_after old v room tables end ended = record old {
 }
 
 module _ {R : Type 0} (state : R → RevState) (skeleton : Skeleton) (old : Engine R) (s : StoreState) (v : Vault R) (room : RoomState) (t : StoreState)
-    (agrees : Agrees state old s) (room_is : room ≡ record old.room { high = max old.room.high old.room.pack }) where
-  abbrev pub now : World
-  now = at state v t
-
-  free : IsFree old.public room
-  free = free_after old.public old.room room _ agrees.room room_is
-
-  opened : (part : List Access) → Opens part old.room.high room.high
-  opened part = subst (λ (r : RoomState). Opens part old.room.high r.high) (sym room_is)
-      (opens_some part old.room.high old.room.pack (let some = agrees.room.some in let same = agrees.room.pack in omega (arith, some, same)))
-
-  went_on : (tables : List Table) (end : End) (x : List Access) (ended : Bool) → ended ≡ false → Ready now → t.asked ≡ s.asked ++ x
-      → script old.public skeleton (seen_to end) ≡ x → tables ≡ tables_then old.public skeleton end → AreTables tables old.public.pack now
+    (agrees : Agrees state old s) (free : IsFree old.public room) where
+  went_on : (tables : List Table) (end : End) (x : List Access) (ended : Bool) → ended ≡ false → Ready (at state v t) → t.asked ≡ s.asked ++ x
+      → script old.public skeleton (seen_to end) ≡ x → tables ≡ tables_then old.public skeleton end → AreTables tables old.public.pack (at state v t)
       → GoesOn state skeleton old (engine_after old v room tables end ended) t
   went_on tables end x ended lives ready asked is same are =
-      let number = next_after (world_of state old s) now x agrees.ready ready refl asked in
+      let number = next_after (world_of state old s) (at state v t) x agrees.ready ready refl asked in
       let region : v.next ≡ old.public.next_region + makes (script old.public skeleton (seen_to end)) =
       number ∙ ap (λ (n : ℕ). n + makes x) (sym agrees.next) ∙ ap (λ (y : List Access). old.public.next_region + makes y) (sym is) in
       record {
-        agrees = record { ready = ready; next = refl; room = record { idle = free.idle; rows = free.rows; pack = free.pack; some = free.some; few = free.few }; tables = are };
+        agrees = record {
+          ready = ready;
+          next = refl;
+          settings = record {
+            blocks = agrees.settings.blocks;
+            most = agrees.settings.most;
+            depth_least = agrees.settings.depth_least;
+            depth_most = agrees.settings.depth_most;
+            pack_least = agrees.settings.pack_least;
+            pack_most = agrees.settings.pack_most;
+          };
+          room = record { idle = free.idle; rows = free.rows; pack = free.pack };
+          tables = are;
+        };
         public = λ i. record old.public { tables = same i; next_region = region i };
         lives = lives;
       }
 
   -- all of it was asked
-  pub ran_done : (some : ℕ → Type 0) (tables : List Table) (x : List Access) (outcome : Outcome) → old.ended ≡ false → IsAnswered outcome → Went x some (world_of state old s) now
-      → whole_script old.public skeleton (seen_to Whole) ≡ x → tables ≡ tables_after old.public skeleton → AreTables tables old.public.pack now
-      → Ran state skeleton (Ok outcome) old s (engine_after old v room tables Whole old.ended) t
-  ran_done some tables x outcome lives answered went is same are = record {
+  pub ran_whole : (some : ℕ → Type 0) (tables : List Table) (x : List Access) (outcome : Outcome) → old.ended ≡ false → IsAnswered outcome → Opens x old.room.high room.high
+      → Went x some (world_of state old s) (at state v t) → whole_script old.public skeleton (seen_to Whole) ≡ x → tables ≡ tables_after old.public skeleton
+      → AreTables tables old.public.pack (at state v t) → Ran state skeleton (Ok outcome) old s (engine_after old v room tables Whole old.ended) t
+  ran_whole some tables x outcome lives answered opens went is same are = record {
     asked = went.did.asked ∙ ap (λ (y : List Access). s.asked ++ y) (sym is);
     later = went.lasts.later;
     keys = went.lasts.keys;
-    ends = answered_end outcome _ answered;
-    cause = answered_cause outcome _ _ answered went.did.faults went.calm;
+    ends = sym (answered.whole _);
+    cause = (of_other _ _ (is_fault outcome) answered.own went.did.faults, went.calm);
     room = free;
-    opened = opened _;
+    opened = subst (λ (y : List Access). Opens y old.room.high room.high) (sym is) opens;
     goes_on = went_on tables Whole x old.ended lives went.lasts.ready went.did.asked is same are;
   }
 
-  cut_ends : (e : OpErr) (n : ℕ) → EndsBy (answer_of e) (Cut n) n
+module _ {R : Type 0} (state : R → RevState) (skeleton : Skeleton) (old : Engine R) (s : StoreState) (v : Vault R) (room : RoomState) (t : StoreState)
+    (agrees : Agrees state old s) (room_is : room ≡ record old.room { high = max old.room.high old.room.pack }) where
+  free : IsFree old.public room
+  free = free_after old.public old.room room _ agrees.room room_is
+
+  opened : (part : List Access) → Opens part old.room.high room.high
+  opened part = subst (λ (r : RoomState). Opens part old.room.high r.high) (sym room_is)
+      (opens_some part old.room.high old.room.pack (let some = agrees.settings.pack_least in let same = agrees.room.pack in omega (arith, some, same)))
+
+  -- all of a pass over the room was asked
+  pub ran_done : (some : ℕ → Type 0) (tables : List Table) (x : List Access) (outcome : Outcome) → old.ended ≡ false → IsAnswered outcome → Went x some (world_of state old s) (at state v t)
+      → whole_script old.public skeleton (seen_to Whole) ≡ x → tables ≡ tables_after old.public skeleton → AreTables tables old.public.pack (at state v t)
+      → Ran state skeleton (Ok outcome) old s (engine_after old v room tables Whole old.ended) t
+  ran_done some tables x outcome lives answered went is same are =
+      ran_whole state skeleton old s v room t agrees free some tables x outcome lives answered (opened x) went is same are
+
+  cut_ends : (e : OpErr) (n : ℕ) → Cut n ≡ result_end (answer_of e) n
   cut_ends OpErrs.Failed n = refl
   cut_ends (OpErrs.Tampered q x) n = refl
   cut_ends OpErrs.Sink n = refl
@@ -207,8 +200,8 @@ module _ {R : Type 0} (state : R → RevState) (skeleton : Skeleton) (old : Engi
   cut_on OpErrs.NoMemory n on = refl
 
   -- a pass gave up
-  pub ran_cut : (some : ℕ → Type 0) (n : ℕ) (x : List Access) (e : OpErr) → PassCut e x some (world_of state old s) now
-      → whole_script old.public skeleton (seen_to (Cut n)) ≡ x → n ≡ length t.asked - length s.asked → AreTables old.public.tables old.public.pack now
+  pub ran_cut : (some : ℕ → Type 0) (n : ℕ) (x : List Access) (e : OpErr) → PassCut e x some (world_of state old s) (at state v t)
+      → whole_script old.public skeleton (seen_to (Cut n)) ≡ x → n ≡ length t.asked - length s.asked → AreTables old.public.tables old.public.pack (at state v t)
       → Ran state skeleton (answer_of e) old s (engine_after old v room old.public.tables (Cut n) (is_stop (answer_of e))) t
   ran_cut some n x e cut is count are =
       let first : t.asked ≡ s.asked ++ take n x = began_take x _ _ cut.began ∙ ap (λ (k : ℕ). s.asked ++ take k x) (sym count) in
@@ -216,11 +209,11 @@ module _ {R : Type 0} (state : R → RevState) (skeleton : Skeleton) (old : Engi
         asked = first ∙ ap (λ (y : List Access). s.asked ++ take n y) (sym is);
         later = cut.lasts.later;
         keys = cut.lasts.keys;
-        ends = subst (λ (k : ℕ). EndsBy (answer_of e) (Cut n) k) count (cut_ends e n);
+        ends = cut_ends e n ∙ ap (result_end (answer_of e)) count;
         cause = cut_cause e _ _ cut.cause;
         room = free;
         opened = opened _;
-        goes_on = cut_on e n (went_on old.public.tables (Cut n) (take n x) false refl cut.lasts.ready first (ap (take n) is) refl are);
+        goes_on = cut_on e n (went_on state skeleton old s v room t agrees free old.public.tables (Cut n) (take n x) false refl cut.lasts.ready first (ap (take n) is) refl are);
       }
 
 -- the same, of an equal answer and an equal engine

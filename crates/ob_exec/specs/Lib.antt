@@ -7,4 +7,5 @@ pub mod Running
 pub mod Memory
 pub mod Telling
 pub mod Selecting
+pub mod Sources
 pub mod Serving

@@ -1,5 +1,5 @@
 -- Where want of memory may stop a statement.
-use Rattle.std.specs.Prelude.{◌≡◌, ◌⊎◌, ⊥, ℕ, Bool, true, false, List, [], ◌∷◌, ◌++◌, IsTrue, IsSome}
+use Rattle.std.specs.Prelude.{◌≡◌, ◌⊎◌, ℕ, Bool, true, false, List, [], ◌∷◌, ◌++◌, IsTrue, IsSome}
 use Rattle.std.specs.List.{list_all}
 use Rattle.ob_base.specs.declared.access.Access.{Access}
 use Rattle.ob_base.specs.declared.access.Access.TheVariants.{Make, Read, Write, Discard}

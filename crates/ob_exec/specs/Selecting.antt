@@ -1,5 +1,5 @@
 -- A SELECT of rows from one region, a table's or a joined one: its count, its plans, and the rows that are emitted.
-use Rattle.std.specs.Prelude.{◌≡◌, ◌⊎◌, ◌<◌, ◌≤◌, ◌+◌, ◌-◌, ◌^◌, ⊤, ⊥, ℕ, Bool, List, [], ◌∷◌, ◌++◌, map, length, IsTrue, IsSome, None, Some, Option, Result, Ok, Err, OnOk, OnErr, IfOk, IfErr, MatchResult, nat_le}
+use Rattle.std.specs.Prelude.{◌≡◌, ◌⊎◌, ◌<◌, ◌≤◌, ◌+◌, ◌-◌, ◌^◌, ⊤, ℕ, Bool, true, false, List, [], ◌∷◌, ◌++◌, map, length, IsTrue, IsSome, None, Some, Option, Result, Ok, Err, OnOk, OnErr, IfOk, IfErr, MatchResult, nat_le}
 use Rattle.ob_base.specs.declared.access.Access.{Access}
 use Rattle.ob_base.specs.declared.config.Plan.{Plan}
 use Rattle.ob_base.specs.declared.config.Plan.TheVariants.{Small, Continuous, Hash}
@@ -12,15 +12,14 @@ use Rattle.ob_base.specs.declared.shown.Shown.{Shown}
 use Rattle.ob_base.specs.Events.{Event, IsEmitted, IsHalted, row_events}
 use Rattle.ob_base.specs.Limits.{buffered}
 use Rattle.ob_base.specs.Plans.{choose}
-use Rattle.ob_base.specs.Schemas.{width}
+use Rattle.ob_base.specs.Stored.{Stored}
 use Rattle.ob_room.specs.RoomState.{RoomState}
 use Rattle.ob_row.specs.Condition.{Condition}
 use Rattle.ob_row.specs.Results.{result_slots}
-use Rattle.ob_row.specs.Rows.{printed}
+use Rattle.ob_row.specs.Totals.{printed}
 use Rattle.ob_row.specs.Slots.{Slots, rows, selected}
 use Rattle.ob_row.specs.Truth.{is_true}
-use Rattle.ob_script.specs.declared.extent.Extent.{Extent}
-use Rattle.ob_script.specs.Script.{blocks_of, select_part}
+use Rattle.ob_script.specs.Script.{blocks_of, extent_of, select_part}
 use Rattle.ob_vault.specs.State.{World}
 use Rattle.ob_vault.specs.Tied.{Ready, IsUnfit}
 use Rattle.ob_vault.specs.Calls.{Seals}
@@ -61,20 +60,24 @@ selection_of public query = record {
   ending = query.ending;
 }
 
--- its region, and the places of the selected slots
-abbrev pub extent : Selection → Extent
-extent q = record { region = q.flat.region; slots = q.flat.capacity; width = width q.flat.schema }
+-- its region as a table's, whatever its name
+abbrev pub region_of : Selection → Stored ℕ
+region_of q = record {
+  heading = record { name = []; schema = q.flat.schema; capacity = q.flat.capacity };
+  held = q.flat.region;
+}
 
+-- the places of the selected slots
 abbrev pub places : Selection → Slots → List ℕ
 places q slots = selected (is_true q.condition) slots
 
 -- what is asked, by what is seen, where g is the next region
 abbrev pub selection_script : Selection → Seen → (g : ℕ) → List Access
-selection_script q seen g = select_part q.public seen g (extent q) []
+selection_script q seen g = select_part q.public seen g (extent_of (region_of q)) []
 
 -- the accesses until the rows are counted, and until the first plan's result has been read back
 abbrev pub counted_after : Selection → ℕ
-counted_after q = blocks_of q.public (extent q)
+counted_after q = blocks_of q.public (extent_of (region_of q))
 
 abbrev pub walked_after : Selection → Seen → ℕ
 walked_after q seen = length (selection_script q (record seen { then = None }) 0) - 1
@@ -145,11 +148,12 @@ MayHold q (Some k) (Some plan) None = (k ≤ q.flat.capacity) × IsPlanOf q k pl
 MayHold q (Some k) (Some Hash) (Some Small) = (k ≤ q.flat.capacity) × IsPlanOf q k Hash × (q.public.plan ≡ None)
 MayHold q _ _ _ = ⊥
 
--- so many rows were emitted, and none where there is no plan
-pub record EndsCounted (k : ℕ) (seen : Seen) : Type 0 where
-  pub count : seen.k ≡ Some k
+-- it came to its end, and without a plan where none was counted
+pub record EndsCounted (seen : Seen) : Type 0 where
+  pub counted : ℕ
+  pub count : seen.k ≡ Some counted
   pub end : seen.end ≡ Whole
-  pub none : seen.plan ≡ None → k ≡ 0
+  pub none : seen.plan ≡ None → counted ≡ 0
 
 -- a forced Continuous refused more rows than none, after the count
 pub record EndsUnplanned (q : Selection) (seen : Seen) : Type 0 where
@@ -168,7 +172,7 @@ pub record EndsOverflowed (q : Selection) (seen : Seen) : Type 0 where
   pub end : seen.end ≡ Whole
 
 abbrev pub EndsAs : Selection → Selected → Seen → Type 0
-EndsAs q (Rows k) seen = EndsCounted k seen
+EndsAs q (Rows k) seen = EndsCounted seen
 EndsAs q (Refused NotConsecutive) seen = EndsUnplanned q seen
 EndsAs q (Refused (Overflow i)) seen = EndsOverflowed q seen
 EndsAs q (Refused _) seen = ⊥
@@ -188,9 +192,10 @@ pub record HoldsSeen (q : Selection) (slots : Slots) (failed : Bool) (n : ℕ) (
 -- ---- what a selection asks
 pub record MaySelect (q : Selection) (room : RoomState) (w : World) : Type 0 where
   pub settings : AreSettings q.public
-  pub room : IsFree q.public room
+  pub free : IsFree q.public room
   pub ready : Ready w
   pub spare : counted_after q + q.ending ≤ w.store.spare
+  pub short : q.ending ≤ 1
   pub few : length w.store.asked < 2 ^ 63 + 2 ^ 58
   pub flat : IsFlat q.public.pack q.flat w
   pub size : IsSized q.flat.schema q.flat.capacity

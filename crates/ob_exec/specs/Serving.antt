@@ -1,8 +1,8 @@
 -- What a call of the engine does.
-use Rattle.std.specs.Prelude.{◌≡◌, ◌⊎◌, ⊥, ℕ, List, Result, Ok, Err, IfOk, OnErr, IfErr, length}
+use Rattle.std.specs.Prelude.{◌≡◌, ◌⊎◌, ℕ, List, Result, Ok, Err, IfOk, OnErr, IfErr, length}
 use Rattle.ob_base.specs.declared.refusal.Stop.{Stop}
 use Rattle.ob_base.specs.declared.refusal.Stop.TheVariants.{NoMemory}
-use Rattle.ob_base.specs.declared.seen.End.TheVariants.{Static}
+use Rattle.ob_base.specs.declared.seen.End.TheVariants.{Static, AfterCount}
 use Rattle.ob_base.specs.Events.{Event}
 use Rattle.ob_store.specs.State.{StoreState}
 use Rattle.ob_vault.specs.State.{RevState}
@@ -20,7 +20,7 @@ use Rattle.ob_exec.specs.Telling.{KeepsSealed, ReadsTrue, ReadsTrueUntil, SeenCu
 pub record Answered {R E : Type 0} (state : R → RevState) (grew : E → E → List Event → Type 0)
     (stmt : Stmt) (outcome : Outcome) (old : Engine R) (s t : StoreState) (out_old out_new : E) : Type 0 where
   pub events : List Event
-  pub grew : grew out_old out_new events
+  pub took : grew out_old out_new events
   pub emits : Emits (answer_labels stmt old.public) outcome events
   pub told : (tables : Tables) → ReadsTrue state old s t tables
       → Emitted stmt old.public (length s.asked) tables outcome events
@@ -70,6 +70,7 @@ pub record ServesSilently {R : Type 0} (state : R → RevState) (stmt : Stmt) (r
     (old : Engine R) (s : StoreState) (new : Engine R) (t : StoreState) : Type 0 where
   pub ran : Ran state (skeleton stmt) result old s new t
   pub started : new.seen.end ≡ Static → ⊥
+  pub uncounted : new.seen.end ≡ AfterCount → ⊥
   pub plain : new.seen ≡ seen_to new.seen.end
   pub silent : IsSilent result
   pub memory : result ≡ Err NoMemory → LacksMemory old.public stmt new.seen s t

@@ -1,5 +1,5 @@
 -- What the tables of an engine hold, and what a statement means for them.
-use Rattle.std.specs.Prelude.{Bool, true, false, ◌≡◌, ◌-◌, ⊤, ⊥, ℕ, List, [], ◌∷◌, length, IsTrue, None}
+use Rattle.std.specs.Prelude.{Bool, true, false, ◌≡◌, ◌-◌, ⊤, ℕ, List, [], ◌∷◌, length, IsTrue, None}
 use Rattle.ob_base.specs.declared.config.Public.{Public}
 use Rattle.ob_exec.specs.Refusals.{by_fault}
 use Rattle.ob_base.specs.declared.refusal.Stop.{Stop}

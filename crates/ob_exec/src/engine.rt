@@ -34,7 +34,7 @@ pub struct Engine<R: Revisions> {
 }
 
 // What is seen of a statement without a count.
-fn seen_to_end(end: End) -> Seen
+pub(crate) fn seen_to_end(end: End) -> Seen
     ensures { result ≡ seen_to end }
 {
     Seen {
@@ -126,6 +126,19 @@ impl<R: Revisions> Engine<R> {
         outcome
     }
 
+    // A statement that went to its end, or behind its count, and of which this was seen.
+    pub(crate) fn finish_seen(&mut self, seen: Seen, outcome: Outcome) -> Outcome
+        ensures answer { result ≡ outcome }
+        ensures seen { self.new ≡ record self.old {
+          seen = seen;
+          public = record self.old.public { next_region = self.old.vault.next };
+        } }
+    {
+        self.seen = seen;
+        self.public.next_region = self.vault.next_region();
+        outcome
+    }
+
     // A statement that a pass gave up after so many accesses.
     pub(crate) fn cut(&mut self, accesses: u64, error: OpErr) -> Result<Outcome, Stop>
         ensures answer { result ≡ answer_of error }
@@ -135,7 +148,29 @@ impl<R: Revisions> Engine<R> {
           ended = is_stop (answer_of error);
         } }
     {
-        self.seen = seen_to_end(End::Cut(accesses));
+        self.cut_seen(seen_to_end(End::Whole), accesses, error)
+    }
+
+    // The same of one of which this was seen by then.
+    pub(crate) fn cut_seen(
+        &mut self,
+        seen: Seen,
+        accesses: u64,
+        error: OpErr,
+    ) -> Result<Outcome, Stop>
+        ensures answer { result ≡ answer_of error }
+        ensures seen { self.new ≡ record self.old {
+          seen = record seen { end = Cut accesses };
+          public = record self.old.public { next_region = self.old.vault.next };
+          ended = is_stop (answer_of error);
+        } }
+    {
+        self.seen = Seen {
+            k: seen.k,
+            plan: seen.plan,
+            then: seen.then,
+            end: End::Cut(accesses),
+        };
         self.public.next_region = self.vault.next_region();
         let answer = match error {
             OpErr::Failed => Ok(Outcome::Refused(Refusal::StoreFault)),

@@ -5,6 +5,7 @@ mod creating;
 mod engine;
 mod inserting;
 mod outcome;
+mod places;
 mod rows;
 mod run;
 mod selecting;

@@ -14,6 +14,7 @@ use ob_vault::{Revisions, Vault};
 
 /// What is selected from a region: the rows that make a condition true, and of these the cells of the
 /// columns at these places. So many accesses will follow, for which the store is to keep room.
+#[derive(Drop)]
 pub(crate) struct Query<'a> {
     pub(crate) flat: &'a Flat,
     pub(crate) pred: &'a Pred,

@@ -1,0 +1,1 @@
+use Rattle.ob_exec.proofs.RowsRun.{rows_cut}
