@@ -11,3 +11,9 @@ pub mod LawfulLemmas
 pub mod PlaceLemmas
 pub mod RowsLawful
 pub mod RowsRun
+pub mod RowsMeaning
+pub mod RowsStops
+pub mod RowsEnds
+pub mod RowsReach
+pub mod RowsSource
+pub mod RowsFound

@@ -70,7 +70,7 @@ held_none true o is = is
 held_none false o is = refl
 
 -- nothing but the end is seen of a statement without a count that was cut off
-cut_seen : (failed : Bool) (p : Public) (s : Skeleton) (n k : ℕ) (now : Seen) → now ≡ seen_to Whole → n ≡ k → seen_to (Cut n) ≡ cut_at failed k p s now
+pub cut_seen : (failed : Bool) (p : Public) (s : Skeleton) (n k : ℕ) (now : Seen) → now ≡ seen_to Whole → n ≡ k → seen_to (Cut n) ≡ cut_at failed k p s now
 cut_seen failed p s n k now whole same =
     (λ i. record {
       k = sym (held_none (nat_le (count_end p s) (done_of failed k)) (seen_to (Cut k)).k refl) i;
@@ -105,7 +105,7 @@ fault_made e (inr is) = subst (λ (x : OpErr). IsFault x) (sym is) tt
 
 -- a fault of the store, or want of memory, emits nothing
 pub silent_fault : (e : OpErr) → (e ≡ OpErrs.Failed) ⊎ (e ≡ OpErrs.NoMemory) → IsSilent (answer_of e)
-silent_fault e (inl is) = subst (λ (x : OpErr). IsSilent (answer_of x)) (sym is) refl
+silent_fault e (inl is) = subst (λ (x : OpErr). IsSilent (answer_of x)) (sym is) tt
 silent_fault e (inr is) = subst (λ (x : OpErr). IsSilent (answer_of x)) (sym is) tt
 
 -- nor does any error of an INSERT's pass

@@ -1,5 +1,5 @@
 -- A SELECT of rows from its source, a table or a join, until the number of its rows is emitted.
-use Rattle.std.specs.Prelude.{◌≡◌, ◌⊎◌, ◌≤◌, ◌-◌, ℕ, List, [], ◌∷◌, ◌++◌, length, Bool, IsTrue, IsSome, None, Result, IfOk, IfErr, nat_le}
+use Rattle.std.specs.Prelude.{◌≡◌, ◌⊎◌, ◌≤◌, ◌<◌, ◌-◌, ◌^◌, ⊤, ℕ, List, [], ◌∷◌, ◌++◌, length, Bool, IsTrue, IsSome, None, Result, IfOk, IfErr, nat_le}
 use Rattle.std.specs.List.{list_all}
 use Rattle.ob_base.specs.declared.access.Access.{Access}
 use Rattle.ob_base.specs.declared.config.Public.{Public}
@@ -170,6 +170,11 @@ pub record UsesRoomFor (old_room new_room : RoomState) (old new : World) : Type 
 abbrev pub closing : Selected → List Event
 closing (Rows k) = Close k ∷ []
 closing (Refused r) = []
+
+-- it is a number of 32 bits
+abbrev pub IsFew : Selected → Type 0
+IsFew (Rows k) = k < 2 ^ 32
+IsFew (Refused r) = ⊤
 
 abbrev pub selected_outcome : Selected → Outcome
 selected_outcome (Rows k) = RowsOut k

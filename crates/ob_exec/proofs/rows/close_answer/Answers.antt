@@ -1,1 +1,0 @@
-use Rattle.ob_exec.proofs.RowsRun.{rows_cut}
