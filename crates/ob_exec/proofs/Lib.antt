@@ -23,3 +23,12 @@ pub mod ResultHoles
 pub mod ResultMade
 pub mod ResultRows
 pub mod ResultSteps
+pub mod PlaceLemmas
+pub mod RowsLawful
+pub mod RowsRun
+pub mod RowsMeaning
+pub mod RowsStops
+pub mod RowsEnds
+pub mod RowsReach
+pub mod RowsSource
+pub mod RowsFound

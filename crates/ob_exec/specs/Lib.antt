@@ -9,4 +9,5 @@ pub mod Telling
 pub mod Selecting
 pub mod Totalling
 pub mod Results
+pub mod Sources
 pub mod Serving

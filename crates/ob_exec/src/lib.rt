@@ -8,6 +8,7 @@ mod engine;
 mod inserting;
 mod outcome;
 mod results;
+mod places;
 mod rows;
 mod run;
 mod selecting;

@@ -1,18 +1,137 @@
 //! SELECT of rows, of a table or of a join.
-ghost use Rattle.std.specs.Prelude.{◌≡◌, None, false, length};
+ghost use Rattle.std.specs.Prelude.{◌≡◌, ◌⊎◌, None, false, length, OnOk, OnErr, IfErr};
+ghost use Rattle.ob_base.specs.declared.seen.End.TheVariants.{Whole};
+ghost use Rattle.ob_base.specs.declared.skeleton.Source.TheVariants.{Table as OneTable};
+ghost use Rattle.ob_base.specs.Events.{Leads};
+ghost use Rattle.ob_flat.specs.declared.fault.OpErr.TheVariants.{Sink, NoMemory};
+ghost use Rattle.ob_flat.specs.Passes.{SinkCause};
 ghost use Rattle.ob_sql.specs.declared.stmt.Stmt.TheVariants.{SelectRows as RowsStmt};
-ghost use Rattle.ob_exec.specs.Agreeing.{Agrees, has_ended, public_of};
+ghost use Rattle.ob_mean.specs.Verdict.{ended as seen_to};
+ghost use Rattle.ob_exec.specs.Agreeing.{Agrees, has_ended, public_of, world_of};
 ghost use Rattle.ob_exec.specs.Running.{refusal_now};
 ghost use Rattle.ob_exec.specs.Serving.{Serves};
+ghost use Rattle.ob_exec.specs.Sources.{SelectsRows, UsesRoomFor, IsFew, closing, selected_outcome};
 
-use crate::engine::Engine;
+use crate::engine::{Engine, seen_to_end};
 use crate::outcome::Outcome;
-use ob_base::{Emit, Stop};
+use crate::places::printed_places;
+use crate::selecting::{Query, Selected, select_from};
+use crate::tables::{find_table, flat_at};
+use ob_base::{Emit, EmitErr, End, Name, Seen, Source, Stop};
+use ob_flat::OpErr;
+use ob_mean::where_at;
 use ob_sql::SelectRows;
 use ob_store::BlockStore;
 use ob_vault::Revisions;
 
+// The number of the rows ends an answer; a refusal has none.
+fn close_answer<E: Emit>(out: &mut E, selected: Selected) -> Result<(), OpErr>
+    ensures ok { OnOk result (Leads E.grew E.grew out.old out.new (closing selected)) }
+    ensures err { OnErr result (Leads E.grew E.cut out.old out.new (closing selected)) }
+    ensures sink { SinkCause result (E.faults out.old) (E.faults out.new) }
+    ensures never { IfErr result (λ e. (e ≡ Sink) ⊎ (e ≡ NoMemory)) }
+    ensures few { IsFew selected }
+{
+    match selected {
+        Selected::Rows(k) => match out.close(u64::from(k)) {
+            Ok(()) => Ok(()),
+            Err(EmitErr::Failed) => Err(OpErr::Sink),
+            Err(EmitErr::NoMemory) => Err(OpErr::NoMemory),
+        },
+        Selected::Refused(_) => Ok(()),
+    }
+}
+
+fn outcome_of(selected: Selected) -> Outcome
+    ensures { result ≡ selected_outcome selected }
+{
+    match selected {
+        Selected::Rows(k) => Outcome::Rows(u64::from(k)),
+        Selected::Refused(refusal) => Outcome::Refused(refusal),
+    }
+}
+
 impl<R: Revisions> Engine<R> {
+    // The rows of a table.
+    fn select_table<S: BlockStore, E: Emit>(
+        &mut self,
+        store: &mut S,
+        select: &SelectRows,
+        table: &Name,
+        seen: &mut Seen,
+        out: &mut E,
+    ) -> Result<Selected, OpErr>
+        requires agrees { Agrees R.state self.old (S.state store.old) }
+        requires allowed { refusal_now (public_of self.old) (length (S.state store.old).asked)
+            (RowsStmt select.now) ≡ None }
+        requires source { select.now.source ≡ OneTable table.now }
+        requires fresh { seen.old ≡ seen_to Whole }
+        ensures frame { self.new
+            ≡ record self.old { vault = self.new.vault; room = self.new.room } }
+        ensures room { UsesRoomFor self.old.room self.new.room
+            (world_of R.state self.old (S.state store.old))
+            (world_of R.state self.new (S.state store.new)) }
+        ensures selects { SelectsRows E.grew E.cut E.faults (public_of self.old) select.now
+            result seen.new (world_of R.state self.old (S.state store.old))
+            (world_of R.state self.new (S.state store.new)) out.old out.new }
+    {
+        let Some(i) = find_table(self.public.tables.as_slice(), table) else {
+            unreachable!()
+        };
+        let flat = flat_at(self.public.tables.as_slice(), i);
+        let columns = flat.schema.as_slice();
+        let Ok(pred) = where_at(self.alloc, &select.cond, columns, &[]) else {
+            return Err(OpErr::NoMemory);
+        };
+        let cols = printed_places(select, columns, &[]);
+        let blocks = flat.capacity.div_ceil(u32::from(self.public.pack));
+        if store.room(u64::from(blocks)).is_err() {
+            return Err(OpErr::NoMemory);
+        }
+        let query = Query {
+            flat: &flat,
+            pred: &pred,
+            cols: cols.as_slice(),
+            ending: 0,
+        };
+        select_from(
+            store,
+            &mut self.vault,
+            &mut self.room,
+            &self.public,
+            &query,
+            seen,
+            out,
+        )
+    }
+
+    // The rows of a source.
+    fn select_source<S: BlockStore, E: Emit>(
+        &mut self,
+        store: &mut S,
+        select: &SelectRows,
+        seen: &mut Seen,
+        out: &mut E,
+    ) -> Result<Selected, OpErr>
+        requires agrees { Agrees R.state self.old (S.state store.old) }
+        requires allowed { refusal_now (public_of self.old) (length (S.state store.old).asked)
+            (RowsStmt select.now) ≡ None }
+        requires fresh { seen.old ≡ seen_to Whole }
+        ensures frame { self.new
+            ≡ record self.old { vault = self.new.vault; room = self.new.room } }
+        ensures room { UsesRoomFor self.old.room self.new.room
+            (world_of R.state self.old (S.state store.old))
+            (world_of R.state self.new (S.state store.new)) }
+        ensures selects { SelectsRows E.grew E.cut E.faults (public_of self.old) select.now
+            result seen.new (world_of R.state self.old (S.state store.old))
+            (world_of R.state self.new (S.state store.new)) out.old out.new }
+    {
+        match &select.source {
+            Source::Table(table) => self.select_table(store, select, table, seen, out),
+            Source::Join { .. } => unreachable!(),
+        }
+    }
+
     // The rows of a table, or of a join.
     pub(crate) fn select_rows<S: BlockStore, E: Emit>(
         &mut self,
@@ -27,6 +146,14 @@ impl<R: Revisions> Engine<R> {
         ensures serves { Serves R.state E.grew E.cut E.faults (RowsStmt select.now) result
             self.old (S.state store.old) self.new (S.state store.new) out.old out.new }
     {
-        unreachable!()
+        let before = store.count();
+        let mut seen = seen_to_end(End::Whole);
+        match self.select_source(store, select, &mut seen, out) {
+            Ok(selected) => match close_answer(out, selected) {
+                Ok(()) => Ok(self.finish_seen(seen, outcome_of(selected))),
+                Err(error) => self.cut_seen(seen, store.count() - before, error),
+            },
+            Err(error) => self.cut_seen(seen, store.count() - before, error),
+        }
     }
 }

@@ -53,11 +53,11 @@ pub(crate) fn select_from<S: BlockStore, R: Revisions, E: Emit>(
     seen: &mut Seen,
     out: &mut E,
 ) -> Result<Selected, OpErr>
-    requires may { MaySelect (selection_of public.now query) room.old
+    requires may { MaySelect (selection_of public.now query.now) room.old
         (at R.state vault.old (S.state store.old)) }
     requires fresh { seen.old ≡ seen_to Whole }
     ensures room { UsesRoom room.old room.new }
-    ensures selects { SelectsFrom E.grew E.cut E.faults (selection_of public.now query) result seen.new
+    ensures selects { SelectsFrom E.grew E.cut E.faults (selection_of public.now query.now) result seen.new
         (at R.state vault.old (S.state store.old)) (at R.state vault.new (S.state store.new))
         out.old out.new }
 {

@@ -1,0 +1,165 @@
+-- A SELECT of rows that came to its end, or was refused for its rows.
+use Rattle.std.proofs.Common.{◌≡◌, ◌≤◌, ◌+◌, ℕ, Bool, true, false, List, [], ◌∷◌, ◌++◌, map, length, Option, Some, None, Ok, Err, Result, refl, sym, ◌∙◌, ap, subst, arith, append_assoc}
+use Rattle.std.specs.Prelude.{IsTrue}
+use Rattle.std.specs.List.{list_all}
+use Rattle.std.proofs.lemmas.List.{length-map}
+use Rattle.ob_base.specs.declared.refusal.Refusal.{Refusal}
+use Rattle.ob_base.specs.declared.refusal.Stop.{Stop}
+use Rattle.ob_sql.specs.declared.stmt.Stmt.{Stmt}
+use Rattle.ob_base.specs.declared.shown.Shown.{Shown}
+use Rattle.ob_base.specs.declared.seen.Seen.{Seen}
+use Rattle.ob_base.specs.Events.{Event, Head, Row, Close, Leads, row_events}
+use Rattle.ob_base.specs.Refusals.{is_store_fault}
+use Rattle.ob_room.specs.RoomState.{RoomState}
+use Rattle.ob_store.specs.State.{StoreState}
+use Rattle.ob_vault.specs.State.{RevState, World}
+use Rattle.ob_vault.specs.Calls.{Lasts}
+use Rattle.ob_vault.specs.declared.vault.Vault.{Vault}
+use Rattle.ob_vault.specs.Places.{at}
+use Rattle.ob_emit.specs.Emitting.{header, labels_of}
+use Rattle.ob_sql.specs.declared.stmt.SelectRows.{SelectRows}
+use Rattle.ob_sql.specs.declared.stmt.Stmt.TheVariants.{SelectRows as RowsStmt}
+use Rattle.ob_mean.specs.Prints.{Prints}
+use Rattle.ob_mean.specs.Verdict.{Tables, rows_refusal, verdict}
+use Rattle.ob_exec.specs.declared.engine.Engine.{Engine}
+use Rattle.ob_exec.specs.declared.outcome.Outcome.{Outcome}
+use Rattle.ob_exec.specs.declared.selecting.Selected.{Selected}
+use Rattle.ob_exec.specs.declared.selecting.Selected.TheVariants.{Rows, Refused}
+use Rattle.ob_exec.specs.Agreeing.{Agrees, world_of}
+use Rattle.ob_exec.specs.Refusals.{by_fault}
+use Rattle.ob_exec.specs.Running.{Emits, is_fault, is_row, refusal_now}
+use Rattle.ob_exec.specs.Selecting.{answer_events, answer_of, emitted_unless, from, places, selected_as, shown_rows}
+use Rattle.ob_exec.specs.Serving.{Answered, Serves}
+use Rattle.ob_exec.specs.Sources.{EmitsRows, EndsRows, IsFew, SourceToEnd, UsesRoomFor, closing, selected_outcome, selection, slots_of}
+use Rattle.ob_exec.specs.Telling.{Emitted, Meant, ReadsTrue, Represents, Told, answer_labels}
+use Rattle.ob_exec.proofs.RowsLawful.{ended_late, ended_well, lawful_ended}
+use Rattle.ob_exec.proofs.RowsMeaning.{rows_outcome, rows_prints, rows_seen, rows_settle}
+use Rattle.ob_exec.proofs.RowsRun.{rows_after, rows_ran}
+use Rattle.ob_exec.proofs.RowsStops.{IsSource, early, early_none, headed, rows_of, still_held, to_end}
+use Rattle.ob_exec.proofs.RunLemmas.{of_other}
+
+are_rows : (shown : List (List Shown)) → IsTrue (list_all is_row (row_events shown))
+are_rows [] = refl
+are_rows (x ∷ xs) = are_rows xs
+
+either_way : (failed : Bool) → by_fault failed (Unit {0}) (◌≡◌ {A = List Event} [] [])
+either_way true = tt
+either_way false = refl
+
+as_rows : (r : Option Refusal) (n k : ℕ) → Rows k ≡ selected_as r n → r ≡ None
+as_rows None n k is = refl
+as_rows (Some r) n k is = absurd (cc is)
+
+as_refused : (r : Option Refusal) (n : ℕ) (q : Refusal) → Refused q ≡ selected_as r n → r ≡ Some q
+as_refused None n q is = absurd (cc is)
+as_refused (Some r) n q is = let same : r ≡ q = sym (cc is) in ap (λ (x : Refusal). Some x) same
+
+module _ {R : Type 0} (state : R → RevState) (old : Engine R) (s : StoreState) (v : Vault R) (room : RoomState) (t : StoreState) (select : SelectRows)
+    (agrees : Agrees state old s) (free : refusal_now old.public (length s.asked) (RowsStmt select) ≡ None) (source : IsSource old.public select)
+    {E : Type 0} (grew : E → E → List Event → Type 0) (starts : (x : E) → grew x x []) (now : Seen) (out_old out_mid out_new : E) where
+  abbrev before : World
+  before = world_of state old s
+
+  abbrev after : World
+  after = at state v t
+
+  abbrev EndsWith : Selected → Type 0
+  EndsWith answer = EndsRows grew old.public select answer now before after out_old out_mid
+
+  -- all events are those of the meaning
+  prints_as : (answer : Selected) (is : EndsWith answer) (tables : Tables) (reads : ReadsTrue state old s t tables) (events : List Event)
+      → events ≡ answer_events (selection old.public select) (slots_of old.public select tables) ++ closing (answer_of (selection old.public select) (slots_of old.public select tables))
+      → Emitted (RowsStmt select) old.public (length s.asked) tables (selected_outcome answer) events
+  prints_as answer is tables reads events same =
+      of_other _ _ (is_fault (selected_outcome answer)) (ended_well (selection old.public select) answer now is.ended)
+      (subst (λ (all : List Event). Prints (answer_labels (RowsStmt select) old.public) (verdict old.public (length s.asked) tables (RowsStmt select)) all) (sym same)
+      (rows_prints old.public (length s.asked) select tables
+      (headed state old s v room t select agrees free source is.ran.lasts tables reads.held) reads.held.in_place
+      (early state old s v room t select agrees free source is.ran.lasts tables reads.held)
+      agrees.settings.pack_least agrees.settings.blocks source.labelled
+      (rows_of state old s v room t select agrees free source is.ran.lasts tables reads.held)))
+
+  answered_rows : (k : ℕ) → EndsWith (Rows k) → IsFew (Rows k) → Leads grew grew out_mid out_new (closing (Rows k))
+      → Answered state grew (RowsStmt select) (selected_outcome (Rows k)) old s t out_old out_new
+  answered_rows k is few closes =
+      let shown = is.emitted.rows in
+      let head = header (selection old.public select).flat.schema (selection old.public select).cols in
+      let events = (head ++ row_events shown) ++ Close k ∷ [] in
+      record {
+        events = events;
+        took = closes out_old (head ++ row_events shown) (is.emitted.leads out_old [] (starts out_old));
+        emits = record {
+          rows = row_events shown;
+          are_rows = are_rows shown;
+          count = length-map shown Row ∙ (let count = is.emitted.count in omega (arith, count));
+          few = few;
+          is = λ i. Head (source.labelled i) ∷ (row_events shown ++ Close k ∷ []);
+        };
+        told = λ tables reads.
+            let true_end = to_end state old s v room t select agrees free source is.ran.lasts tables reads in
+            let told = is.told true_end in
+            let none = as_rows (rows_refusal old.public (places (selection old.public select) (slots_of old.public select tables))) _ k told.0 in
+            let rows_are : shown ≡ shown_rows (selection old.public select) (slots_of old.public select tables) = is.emitted.told true_end in
+            prints_as (Rows k) is tables reads events
+            (λ i. emitted_unless (sym none i) (head ++ row_events (rows_are i)) ++ closing (told.0 i));
+      }
+
+  answered_refused : (r : Refusal) → EndsWith (Refused r) → Leads grew grew out_mid out_new []
+      → Answered state grew (RowsStmt select) (selected_outcome (Refused r)) old s t out_old out_new
+  answered_refused r is closes = record {
+    events = [];
+    took = closes out_old [] (subst (λ (e : E). grew out_old e []) (sym is.emitted) (starts out_old));
+    emits = either_way (is_store_fault r);
+    told = λ tables reads.
+        let told = is.told (to_end state old s v room t select agrees free source is.ran.lasts tables reads) in
+        let refused = as_refused (rows_refusal old.public (places (selection old.public select) (slots_of old.public select tables))) _ r told.0 in
+        let head = header (selection old.public select).flat.schema (selection old.public select).cols in
+        prints_as (Refused r) is tables reads []
+        (λ i. emitted_unless (sym refused i) (head ++ row_events (shown_rows (selection old.public select) (slots_of old.public select tables))) ++ closing (told.0 i));
+  }
+
+  answered_by : (answer : Selected) → EndsWith answer → IsFew answer → Leads grew grew out_mid out_new (closing answer)
+      → Answered state grew (RowsStmt select) (selected_outcome answer) old s t out_old out_new
+  answered_by (Rows k) is few closes = answered_rows k is few closes
+  answered_by (Refused r) is few closes = answered_refused r is closes
+
+  told_by : (answer : Selected) → EndsWith answer → (tables : Tables) → ReadsTrue state old s t tables
+      → Told state (RowsStmt select) (length s.asked) tables (selected_outcome answer) old (rows_after old v room now old.ended) t
+  told_by answer is tables reads =
+      let stands = reads.held in
+      let told = is.told (to_end state old s v room t select agrees free source is.ran.lasts tables reads) in
+      let headed_is = headed state old s v room t select agrees free source is.ran.lasts tables stands in
+      let early_is = early state old s v room t select agrees free source is.ran.lasts tables stands in
+      let rows_are = rows_of state old s v room t select agrees free source is.ran.lasts tables stands in
+      of_other _ _ (is_fault (selected_outcome answer)) (ended_well (selection old.public select) answer now is.ended) (record {
+        answer = ap selected_outcome told.0
+            ∙ rows_outcome old.public (length s.asked) select tables headed_is stands.in_place early_is agrees.settings.pack_least agrees.settings.blocks source.labelled rows_are;
+        seen = told.1
+            ∙ sym (rows_seen old.public (length s.asked) select tables headed_is stands.in_place early_is agrees.settings.pack_least agrees.settings.blocks source.labelled rows_are);
+        held = subst (λ (ts : Tables). Represents state (rows_after old v room now old.ended) t ts)
+            (sym (rows_settle old.public (length s.asked) select tables headed_is stands.in_place early_is agrees.settings.pack_least agrees.settings.blocks source.labelled rows_are))
+            (still_held state old s v room t select agrees free source is.ran.lasts now old.ended tables stands);
+      })
+
+  -- it is what a SELECT does
+  pub serves_ended : (cut : E → E → List Event → Type 0) (faults : E → ℕ) (answer : Selected) → old.ended ≡ false → UsesRoomFor old.room room before after → EndsWith answer → IsFew answer
+      → Leads grew grew out_mid out_new (closing answer) → faults out_new ≡ faults out_old
+      → Serves state grew cut faults (RowsStmt select) (Ok (selected_outcome answer)) old s (rows_after old v room now old.ended) t out_old out_new
+  serves_ended cut faults answer lives used is few closes sink = record {
+    ran = rows_ran state old s v room t select agrees used answer now lives is;
+    early = early_none old.public (length s.asked) select (Ok (selected_outcome answer)) now free (ended_late (selection old.public select) answer now is.ended);
+    lawful = lawful_ended old.public select (length s.asked) free answer now is.holds is.ended;
+    memory = λ wanted. absurd (cc wanted);
+    seals = is.seals;
+    answered = answered_by answer is few closes;
+    stopped = tt;
+    sink = sink;
+    means = record { told = told_by answer is; honest = λ tables reads. tt; held = λ tables reads. tt };
+  }
+
+-- the same, of an equal answer and an equal engine
+pub serves_as : {R E : Type 0} (state : R → RevState) (grew cut : E → E → List Event → Type 0) (faults : E → ℕ) (stmt : Stmt) (old : Engine R) (s t : StoreState) (out_old out_new : E)
+    (r q : Result Outcome Stop) (new same : Engine R) → r ≡ q → new ≡ same → Serves state grew cut faults stmt q old s same t out_old out_new → Serves state grew cut faults stmt r old s new t out_old out_new
+serves_as {R} state grew cut faults stmt old s t out_old out_new r q new same answer is serves =
+    subst (λ (e : Engine R). Serves state grew cut faults stmt r old s e t out_old out_new) (sym is)
+    (subst (λ (a : Result Outcome Stop). Serves state grew cut faults stmt a old s same t out_old out_new) (sym answer) serves)

@@ -1,0 +1,46 @@
+-- What is known of the source of a SELECT of rows, where it is not refused before any access.
+use Rattle.std.proofs.Common.{◌≡◌, ℕ, List, length, None, refl, subst}
+use Rattle.std.specs.Prelude.{slice_get}
+use Rattle.ob_base.specs.declared.config.Public.{Public}
+use Rattle.ob_base.specs.declared.skeleton.Source.{Source}
+use Rattle.ob_base.specs.declared.skeleton.Source.TheVariants.{Table as OneTable, Join}
+use Rattle.ob_base.specs.Stored.{headings, headings_of}
+use Rattle.ob_emit.specs.Emitting.{is_joined}
+use Rattle.ob_row.specs.Bags.{Same}
+use Rattle.ob_row.specs.Slots.{rows}
+use Rattle.ob_store.specs.State.{StoreState}
+use Rattle.ob_vault.specs.State.{RevState}
+use Rattle.ob_mean.specs.Names.{source_columns}
+use Rattle.ob_mean.specs.Prints.{is_join}
+use Rattle.ob_mean.specs.Refusals.{joins_itself, joins_off_key_at}
+use Rattle.ob_mean.specs.Step.{source_rows}
+use Rattle.ob_mean.specs.Verdict.{Tables, database, is_late, source_slots}
+use Rattle.ob_mean.proofs.EarlyLemmas.{Allowed, allowed}
+use Rattle.ob_sql.specs.declared.stmt.SelectRows.{SelectRows}
+use Rattle.ob_sql.specs.declared.stmt.Stmt.TheVariants.{SelectRows as RowsStmt}
+use Rattle.ob_verdict.specs.Laws.{AreInPlace}
+use Rattle.ob_exec.specs.declared.engine.Engine.{Engine}
+use Rattle.ob_exec.specs.Agreeing.{Agrees}
+use Rattle.ob_exec.specs.Running.{refusal_now}
+use Rattle.ob_exec.proofs.RowsSource.{AreStored, labels_are, table_same, table_unjoined}
+use Rattle.ob_exec.proofs.RowsStops.{IsSource}
+
+module _ {R : Type 0} (state : R → RevState) (old : Engine R) (s : StoreState) (select : SelectRows) (agrees : Agrees state old s)
+    (free : refusal_now old.public (length s.asked) (RowsStmt select) ≡ None) where
+  stored : AreStored old.public.tables
+  stored i t at = (agrees.tables.each i t at).stored
+
+  unjoined : (source : Source) → select.source ≡ source → is_joined (source_columns source (headings_of old.public.tables)) ≡ is_join source
+  unjoined (OneTable name) is = table_unjoined name old.public.tables stored
+  unjoined (Join a b on equals) is = ?
+
+  same : (source : Source) → select.source ≡ source → (tables : Tables) → AreInPlace tables → headings tables ≡ headings_of old.public.tables
+      → Same (source_rows source (database tables)) (rows (source_slots old.public source tables))
+  same (OneTable name) is tables in_place headed = table_same name tables
+  same (Join a b on equals) is tables in_place headed = ?
+
+  pub source_is : IsSource old.public select
+  source_is = record {
+    labelled = labels_are select (headings_of old.public.tables) (unjoined select.source refl);
+    rows_are = λ tables in_place headed. same select.source refl tables in_place headed;
+  }

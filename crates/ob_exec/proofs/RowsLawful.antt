@@ -1,0 +1,166 @@
+-- What is seen of a SELECT of rows is lawful, whatever the store does.
+use Rattle.std.proofs.Common.{◌≡◌, ◌≤◌, ℕ, false, List, length, Option, Some, None, refl, sym, ◌∙◌, ap, subst, arith}
+use Rattle.std.specs.Prelude.{IsSome}
+use Rattle.ob_base.specs.declared.config.Plan.{Plan}
+use Rattle.ob_base.specs.declared.config.Plan.TheVariants.{Small, Large, Continuous, Hash}
+use Rattle.ob_base.specs.declared.config.Public.{Public}
+use Rattle.ob_base.specs.declared.refusal.Refusal.{Refusal}
+use Rattle.ob_base.specs.declared.refusal.Refusal.TheVariants.{Syntax, NoTable, NameTaken, NoColumn, WrongType, ValueRange, Limit, KeyRule, JoinKey, Duplicate, Full, TooManyGroups, NotConsecutive, Overflow, StoreFault}
+use Rattle.ob_base.specs.declared.access.Access.{Access}
+use Rattle.ob_base.specs.declared.seen.Seen.{Seen}
+use Rattle.ob_base.specs.declared.seen.End.{End}
+use Rattle.ob_base.specs.declared.seen.End.TheVariants.{Static, Whole, AfterCount, Cut}
+use Rattle.ob_script.specs.Script.{until_end}
+use Rattle.ob_sql.specs.declared.stmt.SelectRows.{SelectRows}
+use Rattle.ob_sql.specs.declared.stmt.Stmt.TheVariants.{SelectRows as RowsStmt}
+use Rattle.ob_mean.specs.Lawful.{Lawful, Holds, IsCount, IsPlan, EndsUnplanned as Unplanned, EndsFrom, CutUpTo}
+use Rattle.ob_mean.specs.Replay.{count_end, walk_end}
+use Rattle.ob_exec.specs.declared.outcome.Outcome.{Outcome}
+use Rattle.ob_exec.specs.declared.selecting.Selected.{Selected}
+use Rattle.ob_exec.specs.declared.selecting.Selected.TheVariants.{Rows, Refused}
+use Rattle.ob_exec.specs.Running.{refusal_now, is_fault, outcome_end}
+use Rattle.ob_exec.specs.Selecting.{Selection, MayHold, EndsAs, EndsCounted, EndsUnplanned, EndsOverflowed}
+use Rattle.ob_exec.specs.Sources.{selection, rows_skeleton, rows_script, ReachesRows, selected_outcome}
+
+-- ---- how it ends
+pub ended_end : (q : Selection) (answer : Selected) (seen : Seen) (n : ℕ) → EndsAs q answer seen → seen.end ≡ outcome_end (selected_outcome answer) n
+ended_end q (Rows k) seen n is = is.end
+ended_end q (Refused NotConsecutive) seen n is = is.end
+ended_end q (Refused (Overflow i)) seen n is = is.end
+ended_end q (Refused r) seen n is = absurd is
+
+pub ended_whole : (q : Selection) (answer : Selected) (seen : Seen) (all : List Access) → EndsAs q answer seen → until_end seen.end all ≡ all
+ended_whole q (Rows k) seen all is = ap (λ (e : End). until_end e all) is.end
+ended_whole q (Refused NotConsecutive) seen all is = ap (λ (e : End). until_end e all) is.end
+ended_whole q (Refused (Overflow i)) seen all is = ap (λ (e : End). until_end e all) is.end
+ended_whole q (Refused r) seen all is = absurd is
+
+pub ended_well : (q : Selection) (answer : Selected) (seen : Seen) → EndsAs q answer seen → is_fault (selected_outcome answer) ≡ false
+ended_well q (Rows k) seen is = refl
+ended_well q (Refused NotConsecutive) seen is = refl
+ended_well q (Refused (Overflow i)) seen is = refl
+ended_well q (Refused r) seen is = absurd is
+
+whole_static : (e : End) → e ≡ Whole → e ≡ Static → ⊥
+whole_static e is other = cc
+
+after_static : (e : End) → e ≡ AfterCount → e ≡ Static → ⊥
+after_static e is other = cc
+
+pub ended_late : (q : Selection) (answer : Selected) (seen : Seen) → EndsAs q answer seen → seen.end ≡ Static → ⊥
+ended_late q (Rows k) seen is static = whole_static seen.end is.end static
+ended_late q (Refused NotConsecutive) seen is static = after_static seen.end is.end static
+ended_late q (Refused (Overflow i)) seen is static = whole_static seen.end is.end static
+ended_late q (Refused r) seen is static = absurd is
+
+pub ended_uncut : (q : Selection) (answer : Selected) (seen : Seen) (m : ℕ) → EndsAs q answer seen → CutUpTo m seen.end
+ended_uncut q (Rows k) seen m is = subst (λ (e : End). CutUpTo m e) (sym is.end) tt
+ended_uncut q (Refused NotConsecutive) seen m is = subst (λ (e : End). CutUpTo m e) (sym is.end) tt
+ended_uncut q (Refused (Overflow i)) seen m is = subst (λ (e : End). CutUpTo m e) (sym is.end) tt
+ended_uncut q (Refused r) seen m is = absurd is
+
+-- ---- what is held together
+abbrev pub seen_as : Option ℕ → (plan second : Option Plan) → End → Seen
+seen_as k plan second end = record { k = k; plan = plan; then = second; end = end }
+
+uncounted : (q : Selection) (answer : Selected) (end : End) → EndsAs q answer (seen_as None None None end) → ⊥
+uncounted q (Rows k) end is = let none : None ≡ Some is.counted = is.count in cc
+uncounted q (Refused NotConsecutive) end is = let none : None ≡ Some is.k = is.count in cc
+uncounted q (Refused (Overflow i)) end is = let none : None ≡ Some Hash = is.plan in cc
+uncounted q (Refused r) end is = is
+
+planned : (q : Selection) (answer : Selected) (k : ℕ) (plan : Plan) (second : Option Plan) (end : End) → EndsAs q answer (seen_as (Some k) (Some plan) second end) → end ≡ Whole
+planned q (Rows n) k plan second end is = is.end
+planned q (Refused NotConsecutive) k plan second end is = let none : Some plan ≡ None = is.plan in absurd (cc)
+planned q (Refused (Overflow i)) k plan second end is = is.end
+planned q (Refused r) k plan second end is = absurd is
+
+unplanned : (q : Selection) (answer : Selected) (k m : ℕ) (end : End) → EndsAs q answer (seen_as (Some k) None None end) → Unplanned q.public k m end
+unplanned q (Rows n) k m end is =
+    let same : Some k ≡ Some is.counted = is.count in
+    let zero_is : k ≡ 0 = omega (arith, unwrapped k is.counted same, is.none refl) in
+    subst (λ (e : End). Unplanned q.public k m e) (sym is.end) zero_is
+  where
+    unwrapped : (a b : ℕ) → Some a ≡ Some b → a ≡ b
+    unwrapped a b same = cc
+unplanned q (Refused NotConsecutive) k m end is =
+    let same : Some k ≡ Some is.k = is.count in
+    let some : 1 ≤ k = omega (arith, is.some, unwrapped k is.k same) in
+    subst (λ (e : End). Unplanned q.public k m e) (sym is.end) (some, is.forced)
+  where
+    unwrapped : (a b : ℕ) → Some a ≡ Some b → a ≡ b
+    unwrapped a b same = cc
+unplanned q (Refused (Overflow i)) k m end is = let none : None ≡ Some Hash = is.plan in absurd (cc)
+unplanned q (Refused r) k m end is = absurd is
+
+from_whole : (m : ℕ) (end : End) → end ≡ Whole → EndsFrom m end
+from_whole m end is = subst (λ (e : End). EndsFrom m e) (sym is) tt
+
+module _ (p : Public) (select : SelectRows) where
+  abbrev Holding : Option ℕ → (plan second : Option Plan) → End → Type 0
+  Holding k plan second end = Holds p (RowsStmt select) (seen_as k plan second end) k plan second
+
+  -- of one that came to its end, or was refused for its rows
+  holds_ended : (answer : Selected) (k : Option ℕ) (plan second : Option Plan) (end : End) → MayHold (selection p select) k plan second
+      → EndsAs (selection p select) answer (seen_as k plan second end) → Holding k plan second end
+  holds_ended answer None None None end may is = absurd (uncounted (selection p select) answer end is)
+  holds_ended answer None None (Some second) end may is = absurd may
+  holds_ended answer None (Some plan) second end may is = absurd may
+  holds_ended answer (Some k) None None end may is = (record { counted = refl; most = may.0 }, unplanned (selection p select) answer k _ end is)
+  holds_ended answer (Some k) None (Some second) end may is = absurd may
+  holds_ended answer (Some k) (Some plan) None end may is = (
+    record { counted = refl; most = may.0 },
+    record { some = may.1.some; chosen = (may.1.consecutive, may.1.chosen) },
+    from_whole _ end (planned (selection p select) answer k plan None end is),
+  )
+  holds_ended answer (Some k) (Some Hash) (Some Small) end may is = (
+    record { counted = refl; most = may.0 },
+    record { some = may.1.some; chosen = (may.1.consecutive, may.1.chosen) },
+    from_whole _ end (planned (selection p select) answer k Hash (Some Small) end is),
+    may.2,
+  )
+  holds_ended answer (Some k) (Some plan) (Some second) end may is = absurd may
+
+  -- of one that was cut off after n accesses
+  holds_cut : (k : Option ℕ) (plan second : Option Plan) (end : End) (n : ℕ) → MayHold (selection p select) k plan second
+      → ReachesRows p select (seen_as k plan second end) n → Holding k plan second (Cut n)
+  holds_cut None None None end n may reached = tt
+  holds_cut None None (Some second) end n may reached = absurd may
+  holds_cut None (Some plan) second end n may reached = absurd may
+  holds_cut (Some k) None None end n may reached = (record { counted = refl; most = may.0 }, (reached.count refl, may.1))
+  holds_cut (Some k) None (Some second) end n may reached = absurd may
+  holds_cut (Some k) (Some plan) None end n may reached = (
+    record { counted = refl; most = may.0 },
+    record { some = may.1.some; chosen = (may.1.consecutive, may.1.chosen) },
+    reached.count refl,
+  )
+  holds_cut (Some k) (Some Hash) (Some Small) end n may reached = (
+    record { counted = refl; most = may.0 },
+    record { some = may.1.some; chosen = (may.1.consecutive, may.1.chosen) },
+    reached.walk refl,
+    may.2,
+  )
+  holds_cut (Some k) (Some plan) (Some second) end n may reached = absurd may
+
+  module _ (m : ℕ) (now : refusal_now p m (RowsStmt select) ≡ None) where
+    none_early : IsSome (refusal_now p m (RowsStmt select)) → ⊥
+    none_early some = let is = subst (λ (o : Option Refusal). IsSome o) now some in cc is
+
+    pub lawful_ended : (answer : Selected) (seen : Seen) → MayHold (selection p select) seen.k seen.plan seen.then
+        → EndsAs (selection p select) answer seen → Lawful p m (RowsStmt select) seen
+    lawful_ended answer seen may is = record {
+      static = (λ static. absurd (ended_late (selection p select) answer seen is static), λ some. absurd (none_early some));
+      holds = holds_ended answer seen.k seen.plan seen.then seen.end may is;
+      cut = ended_uncut (selection p select) answer seen _ is;
+    }
+
+    cut_static : (n : ℕ) → Cut n ≡ Static → ⊥
+    cut_static n is = cc
+
+    pub lawful_cut : (seen : Seen) (n : ℕ) → MayHold (selection p select) seen.k seen.plan seen.then → ReachesRows p select seen n
+        → n ≤ length (rows_script p select seen) → Lawful p m (RowsStmt select) (record seen { end = Cut n })
+    lawful_cut seen n may reached most = record {
+      static = (λ static. absurd (cut_static n static), λ some. absurd (none_early some));
+      holds = holds_cut seen.k seen.plan seen.then seen.end n may reached;
+      cut = most;
+    }

@@ -1,0 +1,263 @@
+-- A SELECT of rows whose rows were emitted, and that was stopped at their number.
+use Rattle.std.proofs.Common.{◌≡◌, ◌⊎◌, inl, inr, ◌≤◌, ◌+◌, ◌-◌, ℕ, Bool, true, false, cond, List, [], ◌∷◌, ◌++◌, length, Option, Some, None, Ok, Err, Result, refl, sym, ◌∙◌, ap, subst, arith, length-append, append-nil, append_assoc}
+use Rattle.std.specs.Prelude.{IsSome, nat_le}
+use Rattle.std.specs.Option.{option_map_or}
+use Rattle.std.proofs.lemmas.Bool.Decides.{nat_tests}
+use Rattle.ob_base.specs.declared.access.Access.{Access}
+use Rattle.ob_base.specs.declared.config.Plan.{Plan}
+use Rattle.ob_base.specs.declared.config.Public.{Public}
+use Rattle.ob_base.specs.declared.refusal.Refusal.{Refusal}
+use Rattle.ob_base.specs.declared.refusal.Refusal.TheVariants.{Syntax, NoTable, NameTaken, NoColumn, WrongType, ValueRange, Limit, KeyRule, JoinKey, Duplicate, Full, TooManyGroups, NotConsecutive, Overflow, StoreFault}
+use Rattle.ob_base.specs.declared.seen.Seen.{Seen}
+use Rattle.ob_base.specs.declared.seen.End.{End}
+use Rattle.ob_base.specs.declared.seen.End.TheVariants.{Whole}
+use Rattle.ob_base.specs.declared.skeleton.Source.{Source}
+use Rattle.ob_base.specs.declared.skeleton.Source.TheVariants.{Table as OneTable, Join}
+use Rattle.ob_base.specs.Accesses.{discard_at}
+use Rattle.ob_base.specs.Events.{Event, Leads, row_events}
+use Rattle.ob_base.specs.Joins.{joined_slots}
+use Rattle.ob_base.specs.Limits.{buffered_blocks}
+use Rattle.ob_base.specs.Stored.{Stored, stored_at, stored_regions}
+use Rattle.ob_script.specs.Parts.{count_part, join_part}
+use Rattle.ob_script.specs.Script.{after_count, blocks_of, extent_of, join_script, joined_extent, result_part, rows_width, select_part, table_script, with_table}
+use Rattle.ob_store.specs.State.{Lie}
+use Rattle.ob_vault.specs.State.{World}
+use Rattle.ob_vault.specs.Tied.{Calm, IsUnfit}
+use Rattle.ob_flat.specs.declared.fault.OpErr.{OpErr}
+use Rattle.ob_flat.specs.declared.fault.OpErr.TheVariants as OpErrs
+use Rattle.ob_flat.specs.Passes.{PassCause, PassCut}
+use Rattle.ob_emit.specs.Emitting.{header}
+use Rattle.ob_sql.specs.declared.stmt.SelectRows.{SelectRows}
+use Rattle.ob_mean.specs.Replay.{count_end, held_if, walk_end}
+use Rattle.ob_mean.specs.Verdict.{ended as seen_to}
+use Rattle.ob_exec.specs.declared.selecting.Selected.{Selected}
+use Rattle.ob_exec.specs.declared.selecting.Selected.TheVariants.{Rows, Refused}
+use Rattle.ob_exec.specs.Selecting.{EndsAs, MayHold, Selection, answer_events, answer_of, emitted_unless, from, is_of_access, seen_of, selected_as, shown_rows}
+use Rattle.ob_exec.specs.Sources.{EndsRows, HoldsRows, ReachesRows, SourceToEnd, SourceToHalt, closing, rows_script, rows_skeleton, selection, slots_of}
+use Rattle.ob_exec.proofs.RowsLawful.{seen_as}
+use Rattle.ob_exec.proofs.RowsStops.{StopsRows}
+
+-- ---- no more than is asked
+module _ (p : Public) (g : ℕ) (t : Stored ℕ) (pre ending : List Access) where
+  abbrev part : Seen → List Access
+  part now = pre ++ select_part p now g (extent_of t) ending
+
+  abbrev count : List Access
+  count = count_part t.held (blocks_of p (extent_of t))
+
+  part_length : (now : Seen) → length (part now) ≡ length pre + (length count + length (after_count p now now.k g (extent_of t) ending))
+  part_length now =
+      length-append pre (select_part p now g (extent_of t) ending)
+      ∙ ap (λ (n : ℕ). length pre + n) (length-append count (after_count p now now.k g (extent_of t) ending))
+
+  pub count_short : (now : Seen) → length (part (seen_to Whole)) ≤ length (part now)
+  count_short now = let a = part_length (seen_to Whole) in let b = part_length now in omega (arith, a, b)
+
+  pub walk_short : (k : Option ℕ) (plan second : Option Plan) (end : End) → length (part (seen_as k plan None end)) ≤ length (part (seen_as k plan second end))
+  walk_short None plan second end = omega arith
+  walk_short (Some k) plan second end =
+      let a = part_length (seen_as (Some k) plan None end) in
+      let b = part_length (seen_as (Some k) plan second end) in
+      let first = result_part p plan k g (extent_of t) in
+      let next = result_part p second k (g + 1) (extent_of t) in
+      let c = length-append first ending in
+      let d = length-append first (next ++ ending) in
+      let e = length-append next ending in
+      omega (arith, a, b, c, d, e)
+
+-- the joined region as a table's, whatever its name
+abbrev pub joined_stored : Public → (left right : Stored ℕ) → Stored ℕ
+joined_stored p left right = record {
+  heading = record {
+    name = [];
+    schema = left.heading.schema ++ right.heading.schema;
+    capacity = joined_slots p.pack p.buffer left.heading.capacity right.heading.capacity;
+  };
+  held = p.next_region;
+}
+
+abbrev pub joined_part : Public → (left right : Stored ℕ) → List Access
+joined_part p left right =
+    join_part left.held right.held p.next_region (blocks_of p (extent_of left)) (blocks_of p (extent_of right)) (buffered_blocks p.pack p.buffer)
+    (rows_width p (joined_extent p left.heading right.heading))
+
+module _ (p : Public) (now : Seen) where
+  table_count : (o : Option (Stored ℕ)) → length (option_map_or (table_script p (seen_to Whole)) o []) ≤ length (option_map_or (table_script p now) o [])
+  table_count None = omega arith
+  table_count (Some t) = count_short p p.next_region t [] [] now
+
+  join_count : (o q : Option (Stored ℕ)) → length (option_map_or (λ left. option_map_or (λ right. join_script p (seen_to Whole) left right) q []) o [])
+      ≤ length (option_map_or (λ left. option_map_or (λ right. join_script p now left right) q []) o [])
+  join_count None q = omega arith
+  join_count (Some left) None = omega arith
+  join_count (Some left) (Some right) =
+      count_short p (p.next_region + 1) (joined_stored p left right) (joined_part p left right) (discard_at p.next_region) now
+
+module _ (p : Public) (k : Option ℕ) (plan second : Option Plan) (end : End) where
+  table_walk : (o : Option (Stored ℕ)) → length (option_map_or (table_script p (seen_as k plan None end)) o []) ≤ length (option_map_or (table_script p (seen_as k plan second end)) o [])
+  table_walk None = omega arith
+  table_walk (Some t) = walk_short p p.next_region t [] [] k plan second end
+
+  join_walk : (o q : Option (Stored ℕ)) → length (option_map_or (λ left. option_map_or (λ right. join_script p (seen_as k plan None end) left right) q []) o [])
+      ≤ length (option_map_or (λ left. option_map_or (λ right. join_script p (seen_as k plan second end) left right) q []) o [])
+  join_walk None q = omega arith
+  join_walk (Some left) None = omega arith
+  join_walk (Some left) (Some right) =
+      walk_short p (p.next_region + 1) (joined_stored p left right) (joined_part p left right) (discard_at p.next_region) k plan second end
+
+counts_within : (p : Public) (select : SelectRows) (now : Seen) → count_end p (rows_skeleton select) ≤ length (rows_script p select now)
+counts_within p select now = go select.source
+  where
+    go : (source : Source) → count_end p (Rattle.ob_base.specs.declared.skeleton.Skeleton.TheVariants.Rows source select.list)
+        ≤ length (Rattle.ob_script.specs.Script.whole_script p (Rattle.ob_base.specs.declared.skeleton.Skeleton.TheVariants.Rows source select.list) now)
+    go (OneTable name) = table_count p now (stored_at name (stored_regions p.tables))
+    go (Join a b on equals) = join_count p now (stored_at a (stored_regions p.tables)) (stored_at b (stored_regions p.tables))
+
+less_than : (n m k : ℕ) → n ≤ m → n - k ≤ m
+less_than n m k is = omega arith
+
+walks_within : (p : Public) (select : SelectRows) (now : Seen) → walk_end p (rows_skeleton select) now ≤ length (rows_script p select now)
+walks_within p select now = go select.source
+  where
+    go : (source : Source) → walk_end p (Rattle.ob_base.specs.declared.skeleton.Skeleton.TheVariants.Rows source select.list) now
+        ≤ length (Rattle.ob_script.specs.Script.whole_script p (Rattle.ob_base.specs.declared.skeleton.Skeleton.TheVariants.Rows source select.list) now)
+    go (OneTable name) = less_than _ _ _ (table_walk p now.k now.plan now.then now.end (stored_at name (stored_regions p.tables)))
+    go (Join a b on equals) = less_than _ _ _ (join_walk p now.k now.plan now.then now.end (stored_at a (stored_regions p.tables)) (stored_at b (stored_regions p.tables)))
+
+-- ---- what is held of it
+held_all : {A : Type 0} (o : Option A) (m n : ℕ) → m ≤ n → o ≡ held_if (nat_le m n) o
+held_all o m n within = sym (ap (λ (b : Bool). held_if b o) reached)
+  where
+    reached : nat_le m n ≡ true
+    reached = grind (arith, nat_tests)
+
+counted_some : (q : Selection) (answer : Selected) (k : Option ℕ) (plan second : Option Plan) (end : End) → MayHold q k plan second → EndsAs q answer (seen_as k plan second end) → IsSome k
+counted_some q answer (Some k) plan second end may is = refl
+counted_some q answer None (Some plan) second end may is = absurd may
+counted_some q answer None None (Some second) end may is = absurd may
+counted_some q (Rows n) None None None end may is = let none : None ≡ Some is.counted = is.count in absurd (cc)
+counted_some q (Refused NotConsecutive) None None None end may is = let none : None ≡ Some is.k = is.count in absurd (cc)
+counted_some q (Refused (Overflow i)) None None None end may is = let none : None ≡ Some Rattle.ob_base.specs.declared.config.Plan.TheVariants.Hash = is.plan in absurd (cc)
+counted_some q (Refused r) None None None end may is = absurd is
+
+lie_unfit : (w : World) → Calm w → IsUnfit w → w.store.lie ≡ None
+lie_unfit w calm unfit = go w.store.lie refl
+  where
+    go : (o : Option Lie) → w.store.lie ≡ o → w.store.lie ≡ None
+    go None is = is
+    go (Some lie) is = absurd (unfit.unfit lie is (calm.calm lie is))
+
+closing_cause : (e : OpErr) (a b : World) → (e ≡ OpErrs.Sink) ⊎ (e ≡ OpErrs.NoMemory) → b.store.faults ≡ a.store.faults → (Calm a → Calm b) → PassCause e a b
+closing_cause e a b never faults calm = elim never [
+  | inl is ↦ subst (λ (x : OpErr). PassCause x a b) (sym is) (faults, calm)
+  | inr is ↦ subst (λ (x : OpErr). PassCause x a b) (sym is) (faults, calm)
+]
+
+not_failed : {P : Type 0} (e : OpErr) → (e ≡ OpErrs.Sink) ⊎ (e ≡ OpErrs.NoMemory) → e ≡ OpErrs.Failed → P
+not_failed e never failed = elim never [ inl is ↦ absurd (cc (is, failed)) | inr is ↦ absurd (cc (is, failed)) ]
+
+no_access : (e : OpErr) → (e ≡ OpErrs.Sink) ⊎ (e ≡ OpErrs.NoMemory) → is_of_access e ≡ false
+no_access e never = elim never [ inl is ↦ ap is_of_access is | inr is ↦ ap is_of_access is ]
+
+rows_none : (r : Option Refusal) (n k : ℕ) → Rows k ≡ selected_as r n → r ≡ None
+rows_none None n k is = refl
+rows_none (Some r) n k is = absurd (cc is)
+
+refused_some : (r : Option Refusal) (n : ℕ) (q : Refusal) → Refused q ≡ selected_as r n → r ≡ Some q
+refused_some None n q is = absurd (cc is)
+refused_some (Some r) n q is = let same : r ≡ q = sym (cc is) in ap (λ (x : Refusal). Some x) same
+
+module _ {E : Type 0} (grew cut : E → E → List Event → Type 0) (p : Public) (select : SelectRows) (now : Seen) (old new : World) (out_old out_mid out_new : E) where
+  -- the events until the end of the answer
+  abbrev Ends : Selected → Type 0
+  Ends answer = EndsRows grew p select answer now old new out_old out_mid
+
+  abbrev All : SourceToHalt p old new → List Event
+  All s = answer_events (selection p select) (slots_of p select s.tables) ++ closing (answer_of (selection p select) (slots_of p select s.tables))
+
+  at_end : (answer : Selected) → Ends answer → SourceToHalt p old new → SourceToEnd p old new
+  at_end answer is s = record {
+    tells = s.tells;
+    tables = s.tables;
+    held = s.held;
+    in_place = s.in_place;
+    nolie = lie_unfit new (is.ran.calm (record { calm = λ lie told. absurd (cc (told, s.nolie)) })) s.unfit;
+  }
+
+  closing_events : (answer : Selected) → Ends answer → Leads grew cut out_mid out_new (closing answer) → Rattle.ob_base.specs.Events.IsHalted grew cut All out_old out_new
+  unfolding at_end
+  closing_events (Rows k) is closes =
+      let head = header (selection p select).flat.schema (selection p select).cols in
+      record {
+        events = (head ++ row_events is.emitted.rows) ++ closing (Rows k);
+        ends = inr (λ e events took. subst (λ (all : List Event). cut e out_new all) (append_assoc events (head ++ row_events is.emitted.rows) (closing (Rows k)))
+            (closes e (events ++ (head ++ row_events is.emitted.rows)) (is.emitted.leads e events took)));
+        told = λ (s : SourceToHalt p old new).
+            let told = is.told (at_end (Rows k) is s) in
+            let none = rows_none (Rattle.ob_mean.specs.Verdict.rows_refusal p (Rattle.ob_exec.specs.Selecting.places (selection p select) (slots_of p select s.tables))) _ k told.0 in
+            let rows_are : is.emitted.rows ≡ shown_rows (selection p select) (slots_of p select s.tables) = is.emitted.told (at_end (Rows k) is s) in (
+              [],
+              append-nil ((head ++ row_events is.emitted.rows) ++ closing (Rows k))
+                  ∙ (λ i. emitted_unless (sym none i) (head ++ row_events (rows_are i)) ++ closing (told.0 i)),
+            );
+      }
+  closing_events (Refused r) is closes =
+      let head = header (selection p select).flat.schema (selection p select).cols in
+      record {
+        events = [];
+        ends = inr (subst (λ (e : E). Leads grew cut e out_new []) is.emitted closes);
+        told = λ (s : SourceToHalt p old new).
+            let told = is.told (at_end (Refused r) is s) in
+            let refused = refused_some (Rattle.ob_mean.specs.Verdict.rows_refusal p (Rattle.ob_exec.specs.Selecting.places (selection p select) (slots_of p select s.tables))) _ r told.0 in (
+              [],
+              (λ i. emitted_unless (sym refused i) (head ++ row_events (shown_rows (selection p select) (slots_of p select s.tables))) ++ closing (told.0 i)),
+            );
+      }
+
+  holds_all : (answer : Selected) (is : Ends answer) (s : SourceToHalt p old new) → HoldsRows p select (slots_of p select s.tables) false (length new.store.asked - length old.store.asked) now
+  unfolding at_end
+  holds_all answer is s =
+      let told = is.told (at_end answer is s) in
+      let n = length new.store.asked - length old.store.asked in
+      let asked = ap length is.ran.did.asked in
+      let sum = length-append old.store.asked (rows_script p select now) in
+      let counts = counts_within p select now in
+      let walks = walks_within p select now in
+      record {
+        k = held_all now.k (count_end p (rows_skeleton select)) n (omega (arith, asked, sum, counts)) ∙ ap (λ (x : Seen). held_if (nat_le (count_end p (rows_skeleton select)) n) x.k) told.1;
+        plan = held_all now.plan (count_end p (rows_skeleton select)) n (omega (arith, asked, sum, counts)) ∙ ap (λ (x : Seen). held_if (nat_le (count_end p (rows_skeleton select)) n) x.plan) told.1;
+        second = held_all now.then (walk_end p (rows_skeleton select) now) n (omega (arith, asked, sum, walks))
+            ∙ ap (λ (x : Seen). held_if (nat_le (walk_end p (rows_skeleton select) x) n) x.then) told.1;
+      }
+
+  -- it was stopped at the number of its rows
+  pub stops_closing : (answer : Selected) (e : OpErr) → (e ≡ OpErrs.Sink) ⊎ (e ≡ OpErrs.NoMemory) → Ends answer → Leads grew cut out_mid out_new (closing answer)
+      → StopsRows grew cut p select e now old new out_old out_new
+  stops_closing answer e never is closes =
+      let all = rows_script p select now in
+      let asked = ap length is.ran.did.asked in
+      let sum = length-append old.store.asked all in
+      let counts = counts_within p select now in
+      let walks = walks_within p select now in
+      record {
+        ran = record {
+          lasts = is.ran.lasts;
+          began = record { done = all; rest = []; split = append-nil all; asked = is.ran.did.asked };
+          cause = closing_cause e old new never is.ran.did.faults is.ran.calm;
+        };
+        leaves = is.leaves;
+        seals = is.seals;
+        holds = is.holds;
+        reached = record { count = λ some. omega (arith, asked, sum, counts); walk = λ some. omega (arith, asked, sum, walks) };
+        memory = λ wanted. record {
+          done = all;
+          rest = [];
+          split = append-nil all;
+          asked = is.ran.did.asked;
+          place = inr (counted_some (selection p select) answer now.k now.plan now.then now.end is.holds is.ended, refl);
+        };
+        halted = closing_events answer is closes;
+        failed = λ failed. not_failed e never failed;
+        honest = λ s. inr never;
+        held = λ s. subst (λ (b : Bool). HoldsRows p select (slots_of p select s.tables) b (length new.store.asked - length old.store.asked) now) (sym (no_access e never)) (holds_all answer is s);
+      }

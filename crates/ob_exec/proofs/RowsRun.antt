@@ -1,0 +1,158 @@
+-- What a SELECT of rows leaves, whatever the store does.
+use Rattle.std.proofs.Common.{◌≡◌, inl, inr, ◌≤◌, ◌<◌, ◌+◌, ◌-◌, ℕ, Bool, true, false, List, [], ◌∷◌, ◌++◌, length, take, Ok, Err, Result, refl, sym, ◌∙◌, ap, subst, arith, length-append}
+use Rattle.std.specs.Prelude.{IsTrue}
+use Rattle.std.specs.List.{list_any}
+use Rattle.ob_base.specs.declared.access.Access.{Access}
+use Rattle.ob_base.specs.declared.config.Public.{Public}
+use Rattle.ob_base.specs.declared.refusal.Stop.TheVariants as Stops
+use Rattle.ob_base.specs.declared.schema.Table.{Table}
+use Rattle.ob_base.specs.declared.seen.Seen.{Seen}
+use Rattle.ob_base.specs.declared.seen.End.{End}
+use Rattle.ob_base.specs.declared.seen.End.TheVariants.{Static, Whole, AfterCount, Cut}
+use Rattle.ob_base.specs.declared.refusal.Stop.{Stop}
+use Rattle.ob_base.specs.Accesses.{makes}
+use Rattle.ob_base.specs.Events.{Event}
+use Rattle.ob_room.specs.RoomState.{RoomState}
+use Rattle.ob_store.specs.State.{StoreState}
+use Rattle.ob_store.proofs.Steps.{began_take}
+use Rattle.ob_script.specs.Script.{script, until_end}
+use Rattle.ob_script.specs.Trace.{tables_then}
+use Rattle.ob_vault.specs.State.{RevState, World}
+use Rattle.ob_vault.specs.Tied.{Ready}
+use Rattle.ob_vault.specs.Calls.{Lasts}
+use Rattle.ob_vault.specs.declared.vault.Vault.{Vault}
+use Rattle.ob_vault.specs.declared.region.Region.{Region}
+use Rattle.ob_vault.specs.Places.{at}
+use Rattle.ob_flat.specs.declared.fault.OpErr.{OpErr}
+use Rattle.ob_flat.specs.declared.fault.OpErr.TheVariants as OpErrs
+use Rattle.ob_flat.specs.Passes.{PassCut, PassCause}
+use Rattle.ob_sql.specs.declared.stmt.SelectRows.{SelectRows}
+use Rattle.ob_exec.specs.declared.engine.Engine.{Engine}
+use Rattle.ob_exec.specs.declared.outcome.Outcome.{Outcome}
+use Rattle.ob_exec.specs.declared.selecting.Selected.{Selected}
+use Rattle.ob_exec.specs.Agreeing.{Agrees, world_of}
+use Rattle.ob_exec.specs.Engines.{IsFree, AreTables}
+use Rattle.ob_exec.specs.Opening.{Opens, is_of_rows}
+use Rattle.ob_exec.specs.Running.{Ran, RunCause, GoesOn, Continues, answer_of, is_fault, is_stop, outcome_end, result_end}
+use Rattle.ob_exec.specs.Selecting.{from}
+use Rattle.ob_exec.specs.Sources.{EndsRows, LeavesNone, UsesRoomFor, rows_script, rows_skeleton, selected_outcome, selection}
+use Rattle.ob_exec.proofs.RunLemmas.{free_after, next_after, of_other}
+use Rattle.ob_exec.proofs.RowsLawful.{ended_end, ended_whole, ended_well}
+use Rattle.ob_exec.proofs.TableLemmas.{tables_kept, region_below}
+
+-- an engine after a SELECT
+abbrev pub rows_after : {R : Type 0} → Engine R → Vault R → RoomState → Seen → Bool → Engine R
+rows_after old v room seen ended = record old {
+  vault = v;
+  room = room;
+  public = record old.public { next_region = v.next };
+  seen = seen;
+  ended = ended;
+}
+
+same_tables : (p : Public) (select : SelectRows) (end : End) → p.tables ≡ tables_then p (rows_skeleton select) end
+same_tables p select Static = refl
+same_tables p select Whole = refl
+same_tables p select AfterCount = refl
+same_tables p select (Cut n) = refl
+
+cut_ends : (e : OpErr) (n : ℕ) → Cut n ≡ result_end (answer_of e) n
+cut_ends OpErrs.Failed n = refl
+cut_ends (OpErrs.Tampered q x) n = refl
+cut_ends OpErrs.Sink n = refl
+cut_ends OpErrs.NoMemory n = refl
+
+cut_cause : (e : OpErr) (a b : World) → PassCause e a b → RunCause (answer_of e) a b
+cut_cause OpErrs.Failed a b cause = cause
+cut_cause (OpErrs.Tampered q x) a b cause = cause
+cut_cause OpErrs.Sink a b cause = cause
+cut_cause OpErrs.NoMemory a b cause = cause
+
+module _ {R : Type 0} (state : R → RevState) (old : Engine R) (s : StoreState) (v : Vault R) (room : RoomState) (t : StoreState) (select : SelectRows)
+    (agrees : Agrees state old s) (used : UsesRoomFor old.room room (world_of state old s) (at state v t)) where
+  -- the tables stay where they are
+  pub rows_tables : Lasts (from old.vault.next) (world_of state old s) (at state v t) → LeavesNone (world_of state old s) (at state v t) → AreTables old.public.tables old.public.pack (at state v t)
+  rows_tables lasts leaves =
+      tables_kept (from old.vault.next) old.public.pack old.public.tables _ _ lasts
+      (λ i u here above. let below = region_below old.public.pack i old.public.tables u _ agrees.ready agrees.tables here in omega (arith, below, above))
+      (λ q shape live above. let none = leaves.gone q above in cc (live, none)) agrees.tables
+
+  rows_free : IsFree old.public room
+  rows_free = free_after old.public old.room room room.high agrees.room used.same
+
+  opens_by : (part : List Access) → t.asked ≡ s.asked ++ part → Opens part old.room.high room.high
+  opens_by [] asked = record { kept = used.kept; some = λ any. absurd (cc any) }
+  opens_by (x ∷ xs) asked = record {
+    kept = used.kept;
+    some = λ any. used.some (λ same. let l = ap length same in let m = ap length asked in let n = length-append s.asked (x ∷ xs) in omega (arith, l, m, n));
+  }
+
+  rows_on : (seen : Seen) (x : List Access) (ended : Bool) → ended ≡ false → Ready (at state v t) → t.asked ≡ s.asked ++ x
+      → script old.public (rows_skeleton select) seen ≡ x → AreTables old.public.tables old.public.pack (at state v t)
+      → GoesOn state (rows_skeleton select) old (rows_after old v room seen ended) t
+  rows_on seen x ended lives ready asked is are =
+      let number = next_after (world_of state old s) (at state v t) x agrees.ready ready refl asked in
+      let region : v.next ≡ old.public.next_region + makes (script old.public (rows_skeleton select) seen) =
+      number ∙ ap (λ (n : ℕ). n + makes x) (sym agrees.next) ∙ ap (λ (y : List Access). old.public.next_region + makes y) (sym is) in
+      record {
+        agrees = record {
+          ready = ready;
+          next = refl;
+          settings = record {
+            blocks = agrees.settings.blocks;
+            most = agrees.settings.most;
+            depth_least = agrees.settings.depth_least;
+            depth_most = agrees.settings.depth_most;
+            pack_least = agrees.settings.pack_least;
+            pack_most = agrees.settings.pack_most;
+          };
+          room = record { idle = rows_free.idle; rows = rows_free.rows; pack = rows_free.pack };
+          tables = are;
+        };
+        public = λ i. record old.public { tables = same_tables old.public select seen.end i; next_region = region i };
+        lives = lives;
+      }
+
+  -- all of it was asked
+  pub rows_ran : {E : Type 0} {grew : E → E → List Event → Type 0} {out_old out_new : E} (answer : Selected) (seen : Seen) → old.ended ≡ false
+      → EndsRows grew old.public select answer seen (world_of state old s) (at state v t) out_old out_new
+      → Ran state (rows_skeleton select) (Ok (selected_outcome answer)) old s (rows_after old v room seen old.ended) t
+  rows_ran answer seen lives is =
+      let all = rows_script old.public select seen in
+      let whole : script old.public (rows_skeleton select) seen ≡ all = ended_whole (selection old.public select) answer seen all is.ended in
+      record {
+        asked = is.ran.did.asked ∙ ap (λ (y : List Access). s.asked ++ y) (sym whole);
+        later = is.ran.lasts.later;
+        keys = is.ran.lasts.keys;
+        ends = ended_end (selection old.public select) answer seen _ is.ended;
+        cause = (of_other _ _ (is_fault (selected_outcome answer)) (ended_well (selection old.public select) answer seen is.ended) is.ran.did.faults, is.ran.calm);
+        room = rows_free;
+        opened = subst (λ (y : List Access). Opens y old.room.high room.high) (sym whole) (opens_by all is.ran.did.asked);
+        goes_on = rows_on seen all old.ended lives is.ran.lasts.ready is.ran.did.asked whole (rows_tables is.ran.lasts is.leaves);
+      }
+
+  cut_on : (e : OpErr) (seen : Seen) → GoesOn state (rows_skeleton select) old (rows_after old v room seen false) t
+      → Continues state (rows_skeleton select) (answer_of e) old (rows_after old v room seen (is_stop (answer_of e))) t
+  cut_on OpErrs.Failed seen on = on
+  cut_on (OpErrs.Tampered q x) seen on = refl
+  cut_on OpErrs.Sink seen on = refl
+  cut_on OpErrs.NoMemory seen on = refl
+
+  -- it was cut off
+  pub rows_cut : (e : OpErr) (seen : Seen) (n : ℕ) → n ≡ length t.asked - length s.asked
+      → PassCut e (rows_script old.public select seen) (from old.vault.next) (world_of state old s) (at state v t) → LeavesNone (world_of state old s) (at state v t)
+      → Ran state (rows_skeleton select) (answer_of e) old s (rows_after old v room (record seen { end = Cut n }) (is_stop (answer_of e))) t
+  rows_cut e seen n count cut leaves =
+      let all = rows_script old.public select seen in
+      let first : t.asked ≡ s.asked ++ take n all = began_take all _ _ cut.began ∙ ap (λ (k : ℕ). s.asked ++ take k all) (sym count) in
+      record {
+        asked = first;
+        later = cut.lasts.later;
+        keys = cut.lasts.keys;
+        ends = cut_ends e n ∙ ap (result_end (answer_of e)) count;
+        cause = cut_cause e _ _ cut.cause;
+        room = rows_free;
+        opened = opens_by (take n all) first;
+        goes_on = cut_on e (record seen { end = Cut n })
+            (rows_on (record seen { end = Cut n }) (take n all) false refl cut.lasts.ready first refl (rows_tables cut.lasts leaves));
+      }

@@ -1,0 +1,277 @@
+-- A SELECT of rows that was stopped, or that the store cut off.
+use Rattle.std.proofs.Common.{◌≡◌, ◌⊎◌, inl, inr, ◌≤◌, ◌-◌, ℕ, Bool, true, false, List, [], ◌∷◌, ◌++◌, length, Option, Some, None, Ok, Err, Result, refl, sym, ◌∙◌, ap, subst, arith, length-append, append_assoc}
+use Rattle.std.specs.Prelude.{IfOk, OnErr, IfErr, nat_le}
+use Rattle.ob_base.specs.declared.config.Public.{Public}
+use Rattle.ob_base.specs.declared.refusal.Stop.{Stop}
+use Rattle.ob_base.specs.declared.refusal.Stop.TheVariants as Stops
+use Rattle.ob_base.specs.declared.seen.Seen.{Seen}
+use Rattle.ob_base.specs.declared.seen.End.TheVariants.{Static, Cut}
+use Rattle.ob_base.specs.Events.{Event, IsHalted, Leads}
+use Rattle.ob_base.specs.Stored.{headings, headings_of}
+use Rattle.ob_room.specs.RoomState.{RoomState}
+use Rattle.ob_row.specs.Bags.{Same}
+use Rattle.ob_row.specs.Slots.{rows}
+use Rattle.ob_seal.specs.KeySet.{KeySet}
+use Rattle.ob_store.specs.State.{StoreState, Lie}
+use Rattle.ob_store.proofs.Steps.{none_before}
+use Rattle.ob_vault.specs.State.{RevState, World, Start}
+use Rattle.ob_vault.specs.Tied.{Calm, IsUnfit, Fits}
+use Rattle.ob_vault.specs.Calls.{Lasts}
+use Rattle.ob_vault.specs.declared.vault.Vault.{Vault}
+use Rattle.ob_vault.specs.Places.{at}
+use Rattle.ob_flat.specs.declared.fault.OpErr.{OpErr}
+use Rattle.ob_flat.specs.declared.fault.OpErr.TheVariants as OpErrs
+use Rattle.ob_flat.specs.Passes.{PassCut, SinkCause as PassSink}
+use Rattle.ob_emit.specs.Emitting.{labels_of}
+use Rattle.ob_sql.specs.declared.stmt.SelectRows.{SelectRows}
+use Rattle.ob_sql.specs.declared.stmt.Stmt.TheVariants.{SelectRows as RowsStmt}
+use Rattle.ob_mean.specs.Refusals.{early_refusal}
+use Rattle.ob_mean.specs.Replay.{cut_at}
+use Rattle.ob_mean.specs.Step.{source_rows}
+use Rattle.ob_mean.specs.Verdict.{Tables, database, is_late, seen}
+use Rattle.ob_verdict.specs.Laws.{AreInPlace}
+use Rattle.ob_exec.specs.declared.engine.Engine.{Engine}
+use Rattle.ob_exec.specs.declared.outcome.Outcome.{Outcome}
+use Rattle.ob_exec.specs.declared.selecting.Selected.{Selected}
+use Rattle.ob_exec.specs.Agreeing.{Agrees, world_of}
+use Rattle.ob_exec.specs.Memory.{LacksMemory}
+use Rattle.ob_exec.specs.Running.{RefusedEarly, SinkCause, answer_of, is_stop, refusal_now}
+use Rattle.ob_exec.specs.Selecting.{MayHold, SealsRows, answer_events, answer_of as selected_of, from, is_of_access}
+use Rattle.ob_exec.specs.Serving.{Answered, Means, Serves, Stopped}
+use Rattle.ob_exec.specs.Sources.{HaltsRows, HoldsRows, LacksRowMemory, LeavesNone, ReachesRows, SourceToEnd, SourceToHalt, UsesRoomFor, closing, rows_script, rows_skeleton, selection, slots_of}
+use Rattle.ob_exec.specs.Telling.{AreHeld, Emitted, IsNotTampered, Kept, Partly, ReadsTrue, ReadsTrueUntil, Represents, SeenCut, Told, answer_labels, is_refused}
+use Rattle.ob_exec.proofs.HeldLemmas.{held_headings, held_kept}
+use Rattle.ob_exec.proofs.RowsLawful.{lawful_cut}
+use Rattle.ob_exec.proofs.RowsMeaning.{rows_partly, rows_seen, rows_unfinished}
+use Rattle.ob_exec.proofs.RowsRun.{rows_after, rows_cut}
+use Rattle.ob_exec.proofs.TableLemmas.{region_below}
+use Rattle.ob_exec.proofs.ToldLemmas.{early_held}
+
+-- no changed block was read before, where one that fits none was read first
+pub lie_none : (some : ℕ → Type 0) (a b : World) → Lasts some a b → Calm a → IsUnfit b → a.store.lie ≡ None
+lie_none some a b lasts calm unfit = go a.store.lie refl
+  where
+    go : (o : Option Lie) → a.store.lie ≡ o → a.store.lie ≡ None
+    go None is = is
+    go (Some lie) is =
+        let fits = subst (λ (keys : KeySet). Fits keys a.vault.start lie) (sym lasts.keys) (calm.calm lie is) in
+        absurd (unfit.unfit lie (lasts.later.lie lie is) (subst (λ (start : Start). Fits b.vault.keys start lie) (sym lasts.start) fits))
+
+pub unfit_none : (w : World) → w.store.lie ≡ None → IsUnfit w
+unfit_none w none = record { unfit = λ lie is. absurd (cc (is, none)) }
+
+-- what is known of the source of a SELECT of rows
+pub record IsSource (p : Public) (select : SelectRows) : Type 0 where
+  pub labelled : labels_of (selection p select).flat.schema (selection p select).cols ≡ answer_labels (RowsStmt select) p
+  pub rows_are : (tables : Tables) → AreInPlace tables → headings tables ≡ headings_of p.tables → Same (source_rows select.source (database tables)) (rows (slots_of p select tables))
+
+-- what was emitted of it is a first part of all events of its answer
+pub record StopsRows {E : Type 0} (grew cut : E → E → List Event → Type 0) (p : Public) (select : SelectRows) (error : OpErr) (now : Seen) (old new : World) (out_old out_new : E) : Type 0 where
+  pub ran : PassCut error (rows_script p select now) (from old.vault.next) old new
+  pub leaves : LeavesNone old new
+  pub seals : SealsRows p.pack old new
+  pub holds : MayHold (selection p select) now.k now.plan now.then
+  pub reached : ReachesRows p select now (length new.store.asked - length old.store.asked)
+  pub memory : error ≡ OpErrs.NoMemory → LacksRowMemory p select now old new
+  pub halted : IsHalted grew cut
+      (λ (s : SourceToHalt p old new). answer_events (selection p select) (slots_of p select s.tables) ++ closing (selected_of (selection p select) (slots_of p select s.tables))) out_old out_new
+  pub failed : error ≡ OpErrs.Failed → IsHalted grew grew (λ (s : SourceToHalt p old new). answer_events (selection p select) (slots_of p select s.tables)) out_old out_new
+  pub honest : SourceToEnd p old new → (error ≡ OpErrs.Failed) ⊎ (error ≡ OpErrs.Sink) ⊎ (error ≡ OpErrs.NoMemory)
+  pub held : (s : SourceToHalt p old new) → HoldsRows p select (slots_of p select s.tables) (is_of_access error) (length new.store.asked - length old.store.asked) now
+
+pub stops_halted : {E : Type 0} {grew cut : E → E → List Event → Type 0} {p : Public} {select : SelectRows} {error : OpErr} {now : Seen} {old new : World} {out_old out_new : E}
+    → HaltsRows grew cut p select error now old new out_old out_new → StopsRows grew cut p select error now old new out_old out_new
+stops_halted {p = p} {select = select} {old = old} {new = new} is = record {
+  ran = is.ran;
+  leaves = is.leaves;
+  seals = is.seals;
+  holds = is.holds;
+  reached = is.reached;
+  memory = is.memory;
+  halted = record {
+    events = is.halted.events;
+    ends = is.halted.ends;
+    told = λ (s : SourceToHalt p old new).
+        let rest = is.halted.told s in
+        let more = closing (selected_of (selection p select) (slots_of p select s.tables)) in
+        (rest.0 ++ more, sym (append_assoc is.halted.events rest.0 more) ∙ ap (λ (events : List Event). events ++ more) rest.1);
+  };
+  failed = is.failed;
+  honest = is.honest;
+  held = is.held;
+}
+
+pub early_none : (p : Public) (m : ℕ) (select : SelectRows) (result : Result Outcome Stop) (now : Seen) → refusal_now p m (RowsStmt select) ≡ None → (now.end ≡ Static → ⊥)
+    → RefusedEarly (refusal_now p m (RowsStmt select)) result now
+early_none p m select result now none started = subst (λ o. RefusedEarly o result now) (sym none) started
+
+only_memory : (e : OpErr) → answer_of e ≡ Err Stops.NoMemory → e ≡ OpErrs.NoMemory
+only_memory OpErrs.Failed is = absurd (cc is)
+only_memory (OpErrs.Tampered q x) is = absurd (cc is)
+only_memory OpErrs.Sink is = absurd (cc is)
+only_memory OpErrs.NoMemory is = refl
+
+sink_of : (e : OpErr) (a b : ℕ) → PassSink {T = Selected} (Err e) a b → SinkCause (answer_of e) a b
+sink_of OpErrs.Failed a b cause = cause
+sink_of (OpErrs.Tampered q x) a b cause = cause
+sink_of OpErrs.Sink a b cause = cause
+sink_of OpErrs.NoMemory a b cause = cause
+
+-- an emitter that took nothing before
+took : {E : Type 0} (grew : E → E → List Event → Type 0) (a b : E) (events : List Event) → ((x : E) → grew x x []) → Leads grew grew a b events ⊎ Leads grew grew a b events → grew a b events
+took grew a b events starts ends = elim ends [ inl leads ↦ leads a [] (starts a) | inr leads ↦ leads a [] (starts a) ]
+
+ended_by : {E : Type 0} (grew cut : E → E → List Event → Type 0) (a b : E) (events : List Event) → ((x : E) → grew x x []) → Leads grew grew a b events ⊎ Leads grew cut a b events
+    → grew a b events ⊎ cut a b events
+ended_by grew cut a b events starts ends = elim ends [ inl leads ↦ inl (leads a [] (starts a)) | inr leads ↦ inr (leads a [] (starts a)) ]
+
+module _ {R : Type 0} (state : R → RevState) (old : Engine R) (s : StoreState) (v : Vault R) (room : RoomState) (t : StoreState) (select : SelectRows)
+    (agrees : Agrees state old s) (free : refusal_now old.public (length s.asked) (RowsStmt select) ≡ None) (source : IsSource old.public select)
+    (lasts : Lasts (from old.vault.next) (world_of state old s) (at state v t)) where
+  abbrev pub before : World
+  before = world_of state old s
+
+  abbrev pub after : World
+  after = at state v t
+
+  -- what is known of the tables
+  abbrev pub to_end : (tables : Tables) → ReadsTrue state old s t tables → SourceToEnd old.public before after
+  to_end tables reads = record { tells = reads.tells; tables = tables; held = reads.held.held; in_place = reads.held.in_place; nolie = reads.nolie }
+
+  abbrev pub to_halt : (tables : Tables) → ReadsTrue state old s t tables → SourceToHalt old.public before after
+  to_halt tables reads = record {
+    tells = reads.tells;
+    tables = tables;
+    held = reads.held.held;
+    in_place = reads.held.in_place;
+    nolie = none_before _ _ lasts.later reads.nolie;
+    unfit = unfit_none after reads.nolie;
+  }
+
+  abbrev pub until : (now : Seen) (ended : Bool) (tables : Tables) → ReadsTrueUntil state old s (rows_after old v room now ended) t tables → SourceToHalt old.public before after
+  until now ended tables reads = record {
+    tells = reads.tells;
+    tables = tables;
+    held = reads.held.held;
+    in_place = reads.held.in_place;
+    nolie = lie_none (from old.vault.next) before after lasts reads.calm reads.unfit;
+    unfit = reads.unfit;
+  }
+
+  pub still_held : (now : Seen) (ended : Bool) (tables : Tables) → Represents state old s tables → Represents state (rows_after old v room now ended) t tables
+  still_held now ended tables is = record {
+    held = held_kept (from old.vault.next) old.public.pack old.public.tables tables before after lasts
+        (λ i u here above. let below = region_below old.public.pack i old.public.tables u before agrees.ready agrees.tables here in omega (arith, below, above)) is.held;
+    in_place = is.in_place;
+  }
+
+  module _ (tables : Tables) (stands : Represents state old s tables) where
+    pub headed : headings tables ≡ headings_of old.public.tables
+    headed = held_headings old.public.pack old.public.tables tables before stands.held
+
+    pub early : early_refusal (is_late (length s.asked)) old.public.pack old.public.buffer (headings tables) (RowsStmt select) ≡ None
+    early = early_held old.public (length s.asked) (RowsStmt select) tables before None stands.held free
+
+    pub rows_of : Same (source_rows select.source (database tables)) (rows (slots_of old.public select tables))
+    rows_of = source.rows_are tables stands.in_place headed
+
+    seen_cut : (failed : Bool) (now : Seen) (n : ℕ) → n ≡ length t.asked - length s.asked
+        → HoldsRows old.public select (slots_of old.public select tables) failed (length t.asked - length s.asked) now
+        → record now { end = Cut n } ≡ cut_at failed (length t.asked - length s.asked) old.public (rows_skeleton select) (seen old.public (length s.asked) tables (RowsStmt select))
+    seen_cut failed now n count holds =
+        (λ i. record { k = holds.k i; plan = holds.plan i; then = holds.second i; end = Cut (count i) })
+        ∙ ap (cut_at failed (length t.asked - length s.asked) old.public (rows_skeleton select))
+        (sym (rows_seen old.public (length s.asked) select tables headed stands.in_place early agrees.settings.pack_least agrees.settings.blocks source.labelled rows_of))
+
+  module _ {E : Type 0} (grew cut : E → E → List Event → Type 0) (faults : E → ℕ) (starts : (x : E) → grew x x []) (now : Seen) (n : ℕ) (out_old out_new : E)
+      (count : n ≡ length t.asked - length s.asked) where
+    abbrev stopped_engine : OpErr → Engine R
+    stopped_engine e = rows_after old v room (record now { end = Cut n }) (is_stop (answer_of e))
+
+    stop_told : (e : OpErr) → StopsRows grew cut old.public select e now before after out_old out_new → (tables : Tables) → ReadsTrue state old s t tables
+        → IfOk (answer_of e) (λ outcome. Told state (RowsStmt select) (length s.asked) tables outcome old (stopped_engine e) t)
+    stop_told OpErrs.Failed is tables reads = record {
+      seen = seen_cut tables reads.held true now n count (is.held (to_halt tables reads));
+      held = still_held (record now { end = Cut n }) false tables reads.held;
+    }
+    stop_told (OpErrs.Tampered q x) is tables reads = tt
+    stop_told OpErrs.Sink is tables reads = tt
+    stop_told OpErrs.NoMemory is tables reads = tt
+
+    stop_honest : (e : OpErr) → StopsRows grew cut old.public select e now before after out_old out_new → (tables : Tables) → ReadsTrue state old s t tables → IfErr (answer_of e) IsNotTampered
+    stop_honest OpErrs.Failed is tables reads = tt
+    stop_honest (OpErrs.Tampered q x) is tables reads = elim (is.honest (to_end tables reads)) [
+      | inl failed ↦ absurd (cc failed)
+      | inr other ↦ elim other [ inl sink ↦ absurd (cc sink) | inr memory ↦ absurd (cc memory) ]
+    ]
+    stop_honest OpErrs.Sink is tables reads = refl
+    stop_honest OpErrs.NoMemory is tables reads = refl
+
+    stop_held : (e : OpErr) → StopsRows grew cut old.public select e now before after out_old out_new → (tables : Tables) → ReadsTrueUntil state old s (stopped_engine e) t tables
+        → IfErr (answer_of e) (λ stop. SeenCut (is_refused stop) (RowsStmt select) (length s.asked) tables old (stopped_engine e) t)
+    stop_held OpErrs.Failed is tables reads = tt
+    stop_held (OpErrs.Tampered q x) is tables reads = seen_cut tables reads.held true now n count (is.held (until (record now { end = Cut n }) true tables reads))
+    stop_held OpErrs.Sink is tables reads = seen_cut tables reads.held false now n count (is.held (until (record now { end = Cut n }) true tables reads))
+    stop_held OpErrs.NoMemory is tables reads = seen_cut tables reads.held false now n count (is.held (until (record now { end = Cut n }) true tables reads))
+
+    stop_answered : (e : OpErr) → StopsRows grew cut old.public select e now before after out_old out_new
+        → IfOk (answer_of e) (λ outcome. Answered state grew (RowsStmt select) outcome old s t out_old out_new)
+    stop_answered OpErrs.Failed is =
+        let halted = is.failed refl in
+        record {
+          events = halted.events;
+          took = took grew out_old out_new halted.events starts halted.ends;
+          emits = tt;
+          told = λ tables reads.
+              let rest = halted.told (to_halt tables reads) in
+              rows_unfinished old.public (length s.asked) select tables (headed tables reads.held) reads.held.in_place (early tables reads.held)
+              agrees.settings.pack_least agrees.settings.blocks source.labelled (rows_of tables reads.held) halted.events rest.0 rest.1;
+        }
+    stop_answered (OpErrs.Tampered q x) is = tt
+    stop_answered OpErrs.Sink is = tt
+    stop_answered OpErrs.NoMemory is = tt
+
+    stop_partly : (e : OpErr) → StopsRows grew cut old.public select e now before after out_old out_new → Stopped state grew cut (RowsStmt select) old s (stopped_engine e) t out_old out_new
+    stop_partly e is = record {
+      events = is.halted.events;
+      ends = ended_by grew cut out_old out_new is.halted.events starts is.halted.ends;
+      told = λ tables reads.
+          rows_partly old.public (length s.asked) select tables (headed tables reads.held) reads.held.in_place (early tables reads.held)
+          agrees.settings.pack_least agrees.settings.blocks source.labelled (rows_of tables reads.held) is.halted.events (is.halted.told (until (record now { end = Cut n }) (is_stop (answer_of e)) tables reads));
+    }
+
+    stop_stopped : (e : OpErr) → StopsRows grew cut old.public select e now before after out_old out_new
+        → OnErr (answer_of e) (Stopped state grew cut (RowsStmt select) old s (stopped_engine e) t out_old out_new)
+    stop_stopped OpErrs.Failed is = tt
+    stop_stopped (OpErrs.Tampered q x) is = stop_partly (OpErrs.Tampered q x) is
+    stop_stopped OpErrs.Sink is = stop_partly OpErrs.Sink is
+    stop_stopped OpErrs.NoMemory is = stop_partly OpErrs.NoMemory is
+
+    few : (e : OpErr) → PassCut e (rows_script old.public select now) (from old.vault.next) before after → n ≤ length (rows_script old.public select now)
+    few e cut =
+        let asked = ap length cut.began.asked in
+        let split = ap length cut.began.split in
+        let sum = length-append s.asked cut.began.done in
+        let parts = length-append cut.began.done cut.began.rest in
+        omega (arith, asked, split, sum, parts, count)
+
+    cut_static : Cut n ≡ Static → ⊥
+    cut_static is = cc
+
+    -- it is what a SELECT does that was cut off
+    pub serves_stopped : (e : OpErr) → UsesRoomFor old.room room before after → StopsRows grew cut old.public select e now before after out_old out_new
+        → PassSink {T = Selected} (Err e) (faults out_old) (faults out_new)
+        → Serves state grew cut faults (RowsStmt select) (answer_of e) old s (stopped_engine e) t out_old out_new
+    serves_stopped e used is sink = record {
+      ran = rows_cut state old s v room t select agrees used e now n count is.ran is.leaves;
+      early = early_none old.public (length s.asked) select (answer_of e) (record now { end = Cut n }) free cut_static;
+      lawful = lawful_cut old.public select (length s.asked) free now n is.holds (subst (λ (k : ℕ). ReachesRows old.public select now k) (sym count) is.reached) (few e is.ran);
+      memory = λ wanted.
+          let lacks = is.memory (only_memory e wanted) in
+          record { done = lacks.done; rest = lacks.rest; split = lacks.split; asked = lacks.asked; place = lacks.place };
+      seals = is.seals;
+      answered = stop_answered e is;
+      stopped = stop_stopped e is;
+      sink = sink_of e _ _ sink;
+      means = record { told = stop_told e is; honest = stop_honest e is; held = stop_held e is };
+    }
