@@ -17,6 +17,10 @@ pub record Faults : Type 0 where
   pub out : ℕ
   pub trace : ℕ
 
+-- these counts
+abbrev pub faults_of : (source out trace : ℕ) → Faults
+faults_of source out trace = record { source = source; out = out; trace = trace }
+
 -- the stop, whether or not its line may still be written
 abbrev pub stop_of : {T : Type 0} → Result T Halted → Result T Stop
 stop_of (Ok x) = Ok x
