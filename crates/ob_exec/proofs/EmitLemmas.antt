@@ -98,7 +98,11 @@ module _ (name : List ℕ) (p : Public) (m : ℕ) (tables : Tables) (k : ℕ) (i
   unfinished : Unfinished (labels_of (count_of name) (headings_of p.tables)) (verdict p m tables (count_of name)) []
   unfinished =
       subst (λ (a : Answer). Unfinished count_labels a []) (sym is)
-      (record { printed = []; within = ((Int (pos k) ∷ []) ∷ [], Same-refl ((Int (pos k) ∷ []) ∷ [])); begun = (Head count_labels ∷ [], refl) })
+      (record {
+        printed = (Int (pos k) ∷ []) ∷ [];
+        same = Same-refl ((Int (pos k) ∷ []) ∷ []);
+        begun = (Head count_labels ∷ Row (Int (pos k) ∷ []) ∷ [], refl);
+      })
 
   -- all of it
   pub count_emitted : Emitted (count_of name) p m tables (Ok (Rows 1)) (count_events k)
