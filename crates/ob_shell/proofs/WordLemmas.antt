@@ -1,11 +1,20 @@
 -- What a command makes of the words.
-use Rattle.std.proofs.Common.{sym, ap, true, ◌≡◌, ◌∙◌, List, [], Some, None}
-use Rattle.clap.specs.Words.{App, Text, HasMatchesOf, fault_of, first_of, first_value, is_simple, is_simple_and_free, matches_of, found_of}
+use Rattle.std.proofs.Common.{sym, ap, true, false, ◌≡◌, ◌∙◌, List, [], None, Ok, Err, Result}
+use Rattle.std.specs.Prelude.{IfOk}
+use Rattle.clap.specs.Words.{AddsArg, App, Text, HasMatchesOf, app_of, rule_of, with_rule, fault_of, first_of, first_value, is_simple, is_simple_and_free, matches_of, found_of}
+use Rattle.clap.specs.declared.builder.arg.Arg.{Arg}
+use Rattle.clap.specs.declared.builder.command.Command.{Command}
 use Rattle.clap.specs.declared.parser.matches.ArgMatches.{ArgMatches}
 use Rattle.clap.proofs.WalkLemmas.{first_value-rows}
 use Rattle.ob_base.specs.declared.config.Config.{Config}
 use Rattle.ob_shell.specs.Settings.{IsTaken, MeddleParses, ParsesAs, settings_by, settings_of}
 use Rattle.ob_shell.specs.Usage.{Parses, changes_of, meddle_usage, value_of}
+
+-- what a command is to which its last word was added
+pub adds_last : {E : Type 0} (r : Result Command E) (c : Command) (a : Arg) (whole : App) → a.global ≡ false
+    → with_rule (app_of c) (rule_of a) ≡ whole → IfOk r (λ d. AddsArg c a d) → IfOk r (λ d. app_of d ≡ whole)
+adds_last (Ok d) c a whole local is adds = adds.shape local ∙ is
+adds_last (Err e) c a whole local is adds = tt
 
 pub value_from : (a b : App) (m : ArgMatches) (words : List Text) (id : Text) → a ≡ b → is_simple b ≡ true → HasMatchesOf a words m
     → first_value (found_of m) id ≡ value_of b words id
