@@ -1,11 +1,12 @@
 -- The settings of a run that the words of its command line spell.
-use Rattle.std.specs.Prelude.{ℕ, ◌≡◌, ◌+◌, ◌*◌, nat_le, List, Option, Some, None, codes, bytes_eq, if◌then◌else◌}
+use Rattle.std.specs.Prelude.{ℕ, ◌≡◌, ◌≤◌, ◌+◌, ◌*◌, nat_le, List, Option, Some, None, codes, bytes_eq, if◌then◌else◌}
 use Rattle.clap.specs.Words.{App, Text}
 use Rattle.ob_base.specs.Publics.{first_public}
 use Rattle.ob_base.specs.declared.config.Config.{Config}
 use Rattle.ob_base.specs.declared.config.Plan.{Plan}
 use Rattle.ob_base.specs.declared.config.Plan.TheVariants.{Small, Large, Continuous, Hash}
 use Rattle.ob_base.specs.declared.config.Public.{Public}
+use Rattle.ob_exec.specs.Engines.{IsConfig}
 use Rattle.ob_meddle.specs.Changes.{number}
 use Rattle.ob_meddle.specs.declared.meddle.Meddle.{Meddle}
 use Rattle.ob_shell.specs.Usage.{Parses, changes_of, meddle_usage, value_of}
@@ -83,6 +84,11 @@ pub record ParsesChanges (words : List Text) (config : Config) (list : List Medd
 
 abbrev pub MeddleParses : List Text → Type 0
 MeddleParses words = (config : Config) × (list : List Meddle) × ParsesChanges words config list
+
+-- settings within their limits
+pub record AreWithin (config : Config) : Type 0 where
+  pub engine : IsConfig config
+  pub input : 1024 ≤ config.max_input
 
 -- ---- what settings set
 

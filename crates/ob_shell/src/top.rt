@@ -1,9 +1,8 @@
 //! The top calls.
 ghost use Rattle.std.specs.Prelude.{◌≡◌, ◌≢◌, ◌≤◌, ℕ, List, [], map, Ok, Err, Some, true, false, ⊤};
 ghost use Rattle.std.specs.Prelude.{MatchOption, string_bytes};
-ghost use Rattle.ob_exec.specs.Engines.{IsConfig};
 ghost use Rattle.ob_shell.specs.Usage.{usage, is_traced};
-ghost use Rattle.ob_shell.specs.Settings.{IsTaken, settings_of};
+ghost use Rattle.ob_shell.specs.Settings.{AreWithin, IsTaken, settings_of};
 ghost use Rattle.ob_shell.specs.Closed.{Unwritten, LineWritten, refused_by};
 ghost use Rattle.ob_shell.specs.Meddling.{Unserved, Meddled};
 ghost use Rattle.ob_shell.specs.KeyLine.{secret_of};
@@ -124,7 +123,7 @@ fn serve_with<I: Source, O: Sink, T: Sink, S: BlockStore>(
     trace: &mut T,
     store: &mut S,
 ) -> (Result<bool, Halted>, u64)
-    requires config { IsConfig words.config }
+    requires within { AreWithin words.config }
     requires taken { feed.old.taken ≤ feed.old.limit }
     requires fresh { (S.state store.old).asked ≡ [] }
     ensures ran { RanAfter ⟦<BaseRevs as Revisions>⟧.state (Some words.config) (Some key.now)
@@ -161,7 +160,7 @@ fn run<I: Source, O: Sink, T: Sink, S: BlockStore>(
     trace: &mut T,
     store: &mut S,
 ) -> Ended
-    requires config { IsConfig words.config }
+    requires within { AreWithin words.config }
     requires fresh { (S.state store.old).asked ≡ [] }
     ensures shown { Shown ⟦<BaseRevs as Revisions>⟧.state (Some words.config)
         (I.left input.old) (I.left input.new) (O.written out.old) (O.written out.new)
@@ -231,7 +230,7 @@ fn serve_over<I: Source, O: Sink, T: Sink, S: BlockStore>(
     trace: &mut T,
     store: &mut S,
 ) -> Report
-    requires config { IsConfig words.config }
+    requires within { AreWithin words.config }
     requires fresh { (S.state store.old).asked ≡ [] }
     ensures reported { Reported ⟦<BaseRevs as Revisions>⟧.state ⊤ (Some words.config)
         (I.left input.old) (I.left input.new) (O.written out.old) (O.written out.new)

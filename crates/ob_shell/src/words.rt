@@ -3,9 +3,8 @@ ghost use Rattle.std.specs.Prelude.{◌≡◌, ◌≢◌, ◌≤◌, List, [], m
 ghost use Rattle.std.specs.Prelude.{option_map, string_bytes, false};
 ghost use Rattle.clap.specs.Words.{app_of, first_value, found_of, kind_of, rule_of};
 ghost use Rattle.clap.specs.declared.error.kind.ErrorKind.TheVariants.{OutOfMemory};
-ghost use Rattle.ob_exec.specs.Engines.{IsConfig};
 ghost use Rattle.ob_meddle.specs.Changes.{number_from, number};
-ghost use Rattle.ob_shell.specs.Settings.{number_in, plan_in, settings_by};
+ghost use Rattle.ob_shell.specs.Settings.{AreWithin, number_in, plan_in, settings_by};
 ghost use Rattle.ob_shell.specs.Settings.{ParsesAs, IsTaken, ParsesChanges, MeddleParses};
 ghost use Rattle.ob_shell.specs.Usage.{common, usage, meddle_usage, flag, valued, is_set, is_traced, changes_in};
 
@@ -175,7 +174,7 @@ fn plan_in(value: Option<&str>) -> Option<Option<Plan>>
 // The settings that the values spell.
 fn settings(matches: &ArgMatches) -> Option<Config>
     ensures settings { result ≡ settings_by (first_value (found_of matches.now)) }
-    ensures within { IfSome result IsConfig }
+    ensures within { IfSome result AreWithin }
 {
     let buffer = number_in(4, 65_536, 64, matches.get_str("buffer"))?;
     let depth = number_in(1, 8, 5, matches.get_str("depth"))?;
@@ -209,7 +208,7 @@ pub fn read_words(alloc: Global, words: &[String]) -> Result<Words, WordsErr>
     ensures ok { IfOk result (λ w. ParsesAs usage (map string_bytes words.now) w.config) }
     ensures usage { result ≡ Err WordsErr.Usage → ¬ IsTaken usage (map string_bytes words.now) }
     ensures trace { IfOk result (λ w. w.trace ≡ is_traced usage (map string_bytes words.now)) }
-    ensures within { IfOk result (λ w. IsConfig w.config) }
+    ensures within { IfOk result (λ w. AreWithin w.config) }
 {
     let Ok(command) = command(alloc) else {
         return Err(WordsErr::NoMemory);
@@ -234,7 +233,7 @@ pub fn read_meddle_words(alloc: Global, words: &[String]) -> Result<MeddleWords,
     ensures usage { result ≡ Err WordsErr.Usage → ¬ MeddleParses (map string_bytes words.now) }
     ensures trace { IfOk result (λ w.
         w.common.trace ≡ is_traced meddle_usage (map string_bytes words.now)) }
-    ensures within { IfOk result (λ w. IsConfig w.common.config) }
+    ensures within { IfOk result (λ w. AreWithin w.common.config) }
 {
     let Ok(command) = meddle_command(alloc) else {
         return Err(WordsErr::NoMemory);
