@@ -1,6 +1,7 @@
 -- An input that keeps to the limits is served to its end.
 use Rattle.std.proofs.Common.{◌≡◌, ℕ, ◌≤◌, Bool, true, false, List, [], ◌++◌, length, Option, Some, None, Ok, Err, refl, ap, ◌∙◌, subst, inl, inr, arith, append-nil, length-append}
 use Rattle.std.specs.Io.KnownBytes.{Appends, Consumes}
+use Rattle.std.proofs.KnownBytes.{Appends-nil}
 use Rattle.ob_base.specs.Counts.{Rises}
 use Rattle.ob_base.specs.declared.config.Config.{Config}
 use Rattle.ob_base.specs.declared.refusal.Stop.TheVariants.{Tampered, SourceFault, SinkFault, NoMemory, InputLimit}
@@ -97,7 +98,7 @@ reported_line ending old mid new line status takes shown cause is_line cut rose 
       takes = takes;
       shown =
           rw (← is_line)
-          (shown_line shown
+          (shown_line cut.grown shown cut.appends
           (line_grew _ _ (λ e. line_rose ending old mid new cause (rose e) later trace) ending old mid
           (λ r. rose_with old mid new r later trace)
           cause shown.grew is_line cut all));
@@ -117,7 +118,7 @@ reported_quiet ending old new status takes shown cause rose =
       ending = ending;
       status = status;
       takes = takes;
-      shown = shown_line shown (quiet_line _ _ shown.grew rose);
+      shown = shown_line [] shown (Appends-nil _) (quiet_line _ _ shown.grew rose);
       cause = causes;
       completes = λ t input e k a b. completes old new input shown takes causes t e k a b;
     }

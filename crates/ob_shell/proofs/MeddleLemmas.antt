@@ -16,7 +16,9 @@ use Rattle.ob_grammar.proofs.Forms.{Whatever}
 use Rattle.ob_grammar.proofs.Placed.{one_value}
 use Rattle.ob_mean.specs.Replay.{Session, first_session}
 use Rattle.ob_meddle.specs.Due.{is_fail, failed_among, has_acted, are_later, disturbance_of, disturbances}
+use Rattle.ob_meddle.specs.Fresh.{fresh_live, honest_start}
 use Rattle.ob_meddle.specs.Shows.{list_of, state_of}
+use Rattle.ob_store.specs.Logs.{asked_of}
 use Rattle.ob_meddle.specs.declared.store.MeddledStore.{MeddledStore}
 use Rattle.ob_meddle.proofs.ShowLemmas.{shows, list_same}
 use Rattle.ob_meddle.proofs.DueLemmas.{all_later}
@@ -39,6 +41,7 @@ use Rattle.ob_shell.specs.declared.top.Ending.{Ending}
 use Rattle.ob_shell.specs.declared.top.Ending.TheVariants.{Usage, BadKey, Ran}
 use Rattle.ob_shell.specs.declared.top.Report.{Report}
 use Rattle.ob_shell.proofs.CloseLemmas.{reported_taken}
+use Rattle.ob_shell.proofs.WholeLemmas.{fresh_is}
 use Rattle.ob_shell.proofs.DisturbLemmas.{IsOne, before_less, session_within}
 use Rattle.ob_store.specs.Calls.{IsBefore, IsQuiet, IsSteady}
 use Rattle.ob_store.specs.Runs.{Later}
@@ -82,9 +85,6 @@ failures_none : failures [] ≡ 0
 unfolding failures
 failures_none = refl
 
-some_same : {c d : Config} → Some c ≡ Some d → c ≡ d
-some_same is = cc is
-
 -- a count that stands at 0 did not rise
 none_rose : (n faults : ℕ) → RisesBy n faults 0 → n ≡ 0
 none_rose n faults rose = omega (arith, rose)
@@ -127,8 +127,7 @@ module _ {R : Type 0} {state : R → RevState} {Takes : Type 0} {settings : Opti
   all_within config set n none tells steady all before = elim r.shown.carried [
     | inl idle ↦ omega (arith, ap (λ (s : StoreState). length s.asked) idle.store, ap (λ (l : List Access). length l) none)
     | inr some ↦
-        let same : some.config ≡ config = some_same (sym some.set ∙ set) in
-        let fresh : public_of some.first ≡ public_by config = some.fresh ∙ ap public_by same in
+        let fresh : public_of some.first ≡ public_by config = fresh_is state set some in
         let here : first_session (public_by config) ≡ session_of (machine_of some.first s0) [] =
         λ i. record { public = sym fresh i; tables = []; asked = length (sym none i) } in
         ending_within state (machine_of some.first s0) some.middle (machine_of some.last s1) r.shown.served r.shown.more r.shown.answers r.shown.part r.ending n some.steps some.rest tells steady
@@ -173,6 +172,8 @@ meddled {state = state} {words = words} {l0 = l0} {l1 = l1} {w0 = w0} {w1 = w1} 
       words_are = subst (λ (l : List Meddle). ParsesChanges words config l) kept parses;
       start = s0;
       fresh = none;
+      no_lie = honest_start m0.caught (asked_of m0.log) m0.early none;
+      empty = λ q. fresh_live (asked_of m0.log) m0.regions m0.fresh none q;
       tells = refl;
       changes = changes;
       steady = steady;

@@ -23,7 +23,7 @@ use Rattle.ob_shell.specs.Feeding.{Fetch, Fed}
 use Rattle.ob_shell.specs.KeyLine.{has_lf, first_line, after_line, secret_of, KeyRead}
 use Rattle.ob_shell.specs.Replayed.{PartMeant, Replayed}
 use Rattle.ob_shell.specs.Steps.{Machine, Answer, Step, Steps, IsUntampered, IsSinkFault, machine_of, printed}
-use Rattle.ob_shell.specs.Running.{Faults, SessionRan, LastPart, EndsBy, SinkFailed, SinksRose}
+use Rattle.ob_shell.specs.Running.{Faults, SessionRan, LastPart, EndsBy, SinkFailed, SinksRose, Took}
 use Rattle.ob_shell.specs.Endings.{last_line, SinkStopped}
 use Rattle.ob_shell.specs.Settings.{limit_of, public_by}
 use Rattle.ob_shell.specs.Top.{HasSecret, EndsUntampered, RanSays, EndingSays, EndingWords, Carried, Shown, RanAfter, EndingCause, EndingFlag, StatusCause}
@@ -42,6 +42,7 @@ use Rattle.ob_shell.proofs.CalmLemmas.{step_calm, steps_calm, last_met, first_ca
 use Rattle.ob_shell.proofs.LastingLemmas.{HasSizes, steps_sizes, last_rows, steps_sealed, last_sealed, steps_tell, none_sealed, first_sizes}
 use Rattle.ob_shell.proofs.LieLemmas.{last_deceived, last_keys, steps_keep}
 use Rattle.ob_shell.proofs.ReplayLemmas.{no_lie, step_goes, replayed}
+use Rattle.ob_shell.proofs.RunLemmas.{took_more, took_of, took_whole}
 use Rattle.ob_shell.proofs.StepLemmas.{printed-nil, any_refused-nil}
 use Rattle.ob_shell.proofs.KeyLemmas.{after_line-none}
 
@@ -78,6 +79,12 @@ unstarted : {R : Type 0} {state : R → RevState} (settings : Option Config) (se
     → Carried state settings secret s s 0 [] more [] [] ending
 unstarted settings secret s more ending untampered = inl (record { store = refl; closed = refl; unserved = refl; unanswered = refl; none = refl; untampered = untampered })
 
+took_none : (w : Option (List ℕ)) → Took w w (printed [])
+took_none w = took_whole (rw printed-nil (Appends-nil w))
+
+took_nothing : (w : Option (List ℕ)) → Took w w (printed [] ++ [])
+took_nothing w = took_whole (rw printed-nil (Appends-nil w))
+
 no_bytes : (w : Option (List ℕ)) → Cut w w ⊥ ((printed [] ++ []) ++ [])
 no_bytes w = rw printed-nil (Cut-whole w w ⊥ [] (Appends-nil w))
 
@@ -109,6 +116,8 @@ module _ {R : Type 0} (state : R → RevState) (settings : Option Config) (f0 f1
         part = [];
         carried = unstarted settings _ s [] _ tt;
         grew = no_bytes w;
+        whole = took_none w;
+        through = λ not. took_nothing w;
         flag = tt;
         says = record { line = inr (ends.0, ends.1); cut = refl; all = record { no_more = refl; no_part = refl }; short = rw after nothing_over };
       }
@@ -131,6 +140,8 @@ module _ {R : Type 0} (state : R → RevState) (settings : Option Config) (f0 f1
         part = [];
         carried = unstarted settings _ s _ _ tt;
         grew = no_bytes w;
+        whole = took_none w;
+        through = λ not. took_nothing w;
         flag = tt;
         says = ends;
       }
@@ -153,6 +164,8 @@ module _ {R : Type 0} (state : R → RevState) (settings : Option Config) (f0 f1
         part = [];
         carried = unstarted settings _ s [] _ tt;
         grew = no_bytes w;
+        whole = took_none w;
+        through = λ not. took_nothing w;
         flag = sym any_refused-nil;
         says = record {
           secret = rw ends.0;
@@ -182,6 +195,7 @@ ran_nothing settings secret f l w s = record {
   part = [];
   carried = unstarted settings secret s _ _ tt;
   cut = rw printed-nil (Cut-whole w w ⊥ [] (Appends-nil w));
+  whole = took_none w;
   flag = tt;
   ends = tt;
 }
@@ -300,6 +314,7 @@ ran_after {state = state} {s0 = s0} {s1 = s1} config key first last high result 
     rows_used = subst (λ (n : ℕ). IsUsed s1.asked n) (sym e) (session_opens state (machine_of first s0) ran.middle (machine_of last s1) ran.served ran.more ran.answers ran.part result none ran.steps ran.last);
   });
   cut = ran.cut;
+  whole = ran.whole;
   flag = ran.flag;
   ends = ran.ends;
 }
@@ -358,6 +373,8 @@ shown_ran settings {f1 = f1} {f2 = f2} {l2 = l2} {w0 = w0} {w2 = w2} {s0 = s0} {
       part = ran.part;
       carried = rw line ran.carried;
       grew = subst (λ (l : List ℕ). Cut w0 w2 (SinkFailed result) l) (sym (append-nil (printed ran.answers ++ ran.part))) ran.cut;
+      whole = ran.whole;
+      through = λ not. took_of ran.cut not;
       flag = ran.flag;
       says =
           says_of result f2 (limit_of settings) _ ran.ended ran.more ran.part secret count limit
@@ -382,6 +399,8 @@ shown_unread settings l w s ending untampered flag says = record {
   part = [];
   carried = unstarted settings _ s _ _ untampered;
   grew = no_bytes w;
+  whole = took_none w;
+  through = λ not. took_nothing w;
   flag = flag;
   says = says;
 }
@@ -474,9 +493,9 @@ quiet_line {w0 = w0} {w1 = w1} {F = F} bytes line c g =
     Cut-more line (Cut-fault g (subst (λ (l : List ℕ). Cut w0 w1 F l) (append-nil bytes) c)) g
 
 pub shown_line : {R : Type 0} {state : R → RevState} {settings : Option Config} {l0 l1 w0 w1 w2 : Option (List ℕ)} {s0 s1 : StoreState} {high : ℕ} {ending : Ending} {line line' : List ℕ} {F H : Type 0}
-    → (shown : Shown state settings l0 l1 w0 w1 s0 s1 high ending line F) → Cut w0 w2 H ((printed shown.answers ++ shown.part) ++ line')
+    (more : List ℕ) → (shown : Shown state settings l0 l1 w0 w1 s0 s1 high ending line F) → Appends w1 w2 more → Cut w0 w2 H ((printed shown.answers ++ shown.part) ++ line')
     → Shown state settings l0 l1 w0 w2 s0 s1 high ending line' H
-shown_line shown cut = record {
+shown_line more shown after cut = record {
   taken = shown.taken;
   given = shown.given;
   within = shown.within;
@@ -489,6 +508,8 @@ shown_line shown cut = record {
   part = shown.part;
   carried = shown.carried;
   grew = cut;
+  whole = took_more more shown.whole after;
+  through = λ not. took_more more (shown.through not) after;
   flag = shown.flag;
   says = shown.says;
 }

@@ -18,3 +18,4 @@ pub mod Pieces
 pub mod Closed
 pub mod Meddling
 pub mod Disturbed
+pub mod Whole

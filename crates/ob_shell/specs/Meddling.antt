@@ -51,6 +51,8 @@ pub record Meddled {R : Type 0} (state : R → RevState) (words : List Text)
   pub words_are : ParsesChanges words config (list_of store)
   pub start : StoreState
   pub fresh : start.asked ≡ []
+  pub no_lie : start.lie ≡ None
+  pub empty : (region : ℕ) → start.live region ≡ None
   pub tells : start.tells ≡ true
   pub changes : start.disturbed ≡ disturbances (list_of store)
   pub steady : IsSteady start

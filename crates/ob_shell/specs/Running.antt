@@ -87,7 +87,13 @@ abbrev pub FlagIs : List Answer → Result Bool Stop → Type 0
 FlagIs answers (Ok refused) = refused ≡ any_refused answers
 FlagIs answers (Err stop) = Unit {0}
 
--- what a session did
+-- a sink took all of these bytes, and maybe more after them
+pub record Took (written0 written1 : Option (List ℕ)) (bytes : List ℕ) : Type 0 where
+  pub after : List ℕ
+  pub appends : Appends written0 written1 (bytes ++ after)
+
+-- what a session did: the sink took the answers of all texts that were served, and of the last part all or, where it
+-- failed, a first part
 pub record SessionRan {R : Type 0} (state : R → RevState) (feed0 feed1 : Fetch) (left0 left1 written0 written1 : Option (List ℕ))
     (m0 m2 : Machine R) (result : Result Bool Stop) : Type 0 where
   pub piece : List ℕ
@@ -105,5 +111,6 @@ pub record SessionRan {R : Type 0} (state : R → RevState) (feed0 feed1 : Fetch
   pub part : List ℕ
   pub last : LastPart state middle m2 more part result
   pub cut : Cut written0 written1 (SinkFailed result) (printed answers ++ part)
+  pub whole : Took written0 written1 (printed answers)
   pub flag : FlagIs answers result
   pub ends : EndsBy feed1 ended (feed0.unread ++ piece) more part result

@@ -24,8 +24,8 @@ use Rattle.ob_shell.specs.Feeding.{Fetch}
 use Rattle.ob_shell.specs.Replayed.{PartMeant, Replayed}
 use Rattle.ob_shell.specs.KeyLine.{line_max, has_lf, first_line, after_line, secret_of, LineTaken}
 use Rattle.ob_shell.specs.Steps.{Machine, machine_of, Answer, Steps, IsUndone, IsUntampered, printed}
-use Rattle.ob_shell.specs.Running.{Faults, SinksRose, NoneRose, LastPart, FlagIs, EndsBy, SinkFailed, StopCause}
-use Rattle.ob_shell.specs.Endings.{status_of, last_line}
+use Rattle.ob_shell.specs.Running.{Faults, SinksRose, NoneRose, LastPart, FlagIs, EndsBy, SinkFailed, StopCause, Took}
+use Rattle.ob_shell.specs.Endings.{SinkStopped, status_of, last_line}
 use Rattle.ob_shell.specs.Settings.{limit_of, public_by}
 use Rattle.ob_shell.specs.declared.top.Ending.{Ending}
 use Rattle.ob_shell.specs.declared.top.Ending.TheVariants.{Usage, BadKey, Ran}
@@ -135,6 +135,7 @@ pub record RanAfter {R : Type 0} (state : R → RevState) (settings : Option Con
   pub part : List ℕ
   pub carried : Carried state settings secret store0 store1 high served more answers part (Ran result)
   pub cut : Cut written0 written1 (SinkFailed result) (printed answers ++ part)
+  pub whole : Took written0 written1 (printed answers)
   pub flag : FlagIs answers result
   pub ends : EndsBy feed1 ended (feed0.unread ++ piece) more part result
 
@@ -238,6 +239,10 @@ pub record Shown {R : Type 0} (state : R → RevState) (settings : Option Config
   pub carried : Carried state settings (secret_of (first_line taken)) store0 store1 high served more
       answers part ending
   pub grew : Cut written0 written1 Fault ((printed answers ++ part) ++ line)
+  -- a sink's fault ends the run: all answers were taken whole, and so was what was printed of the one that was begun,
+  -- unless the run ended there
+  pub whole : Took written0 written1 (printed answers)
+  pub through : ¬ SinkStopped ending → Took written0 written1 (printed answers ++ part)
   pub flag : EndingFlag ending answers
   pub says : EndingSays ending (limit_of settings) taken left1 ended more part
 
