@@ -6,8 +6,7 @@ use Rattle.clap.specs.declared.builder.arg.Arg.{Arg}
 use Rattle.clap.specs.declared.builder.command.Command.{Command}
 use Rattle.clap.specs.declared.parser.matches.ArgMatches.{ArgMatches}
 use Rattle.clap.proofs.WalkLemmas.{first_value-rows}
-use Rattle.ob_base.specs.declared.config.Config.{Config}
-use Rattle.ob_shell.specs.Settings.{IsTaken, MeddleParses, ParsesAs, settings_by, settings_of}
+use Rattle.ob_shell.specs.Settings.{IsTaken, MeddleParses, settings_by, settings_of}
 use Rattle.ob_shell.specs.Usage.{Parses, changes_of, meddle_usage, value_of}
 
 -- what a command is to which its last word was added

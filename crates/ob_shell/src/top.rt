@@ -145,7 +145,16 @@ fn serve_with<I: Source, O: Sink, T: Sink, S: BlockStore>(
             (Err(Halted { stop, quiet: false }), 0)
         }
         Ok(mut engine) => {
-            let ran = serve(alloc, words.trace, feed, input, &mut engine, store, out, trace);
+            let ran = serve(
+                alloc,
+                words.trace,
+                feed,
+                input,
+                &mut engine,
+                store,
+                out,
+                trace,
+            );
             (ran, engine.high())
         }
     }

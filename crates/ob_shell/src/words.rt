@@ -43,9 +43,7 @@ fn flag(alloc: Global, name: &str) -> Arg<'_>
     ensures rule { rule_of result ≡ flag name.now }
     ensures local { result.global ≡ false }
 {
-    Arg::new(alloc, name)
-        .long(name)
-        .action(ArgAction::SetTrue)
+    Arg::new(alloc, name).long(name).action(ArgAction::SetTrue)
 }
 
 // A word `--NAME VALUE`.
@@ -53,9 +51,7 @@ fn valued(alloc: Global, name: &str) -> Arg<'_>
     ensures rule { rule_of result ≡ valued name.now }
     ensures local { result.global ≡ false }
 {
-    Arg::new(alloc, name)
-        .long(name)
-        .action(ArgAction::Set)
+    Arg::new(alloc, name).long(name).action(ArgAction::Set)
 }
 
 // A command of this name, with the words of every program.
