@@ -25,7 +25,8 @@ use Rattle.ob_store.specs.State.{StoreState}
 use Rattle.ob_vault.specs.State.{RevState}
 
 -- the words were not read: those that the program doesn't take, or memory was wanting. Nothing was read or served.
-pub record Unserved (words : List Text) (left0 left1 written0 written1 traced0 traced1 : Option (List ℕ))
+pub record Unserved (words : List Text)
+    (left0 left1 written0 written1 traced0 traced1 : Option (List ℕ))
     (old new : Faults) (report : Report) : Type 0 where
   pub error : WordsErr
   pub usage : error ≡ Words.Usage → ¬ MeddleParses words
@@ -38,7 +39,8 @@ pub record Unserved (words : List Text) (left0 left1 written0 written1 traced0 t
   pub trace : new.trace ≡ old.trace
 
 -- nothing was disturbed
-pub record Undisturbed (answers : List Answer) (start end : StoreState) (report : Report) : Type 0 where
+pub record Undisturbed (answers : List Answer) (start end : StoreState)
+    (report : Report) : Type 0 where
   pub honest : IsHonest start end
   pub untampered : report.status ≢ 4
   pub unfailed : failures answers ≡ 0
@@ -63,7 +65,8 @@ pub record Meddled {R : Type 0} (state : R → RevState) (words : List Text)
   pub shows : Shows (list_of store) (state_of store)
   -- where all changes come after as many accesses as the texts ask in all
   pub undisturbed : (n : ℕ)
-      → AskedInAll (first_session (public_by config)) (reported.shown.served ++ reported.shown.more) n
+      → AskedInAll (first_session (public_by config))
+      (reported.shown.served ++ reported.shown.more) n
       → are_later (list_of store) n ≡ true
       → Undisturbed reported.shown.answers start (state_of store) report
   -- where accesses fail and no block is changed
@@ -72,4 +75,5 @@ pub record Meddled {R : Type 0} (state : R → RevState) (words : List Text)
   -- at most as many answers are that the store failed as accesses failed, and a block was changed where one ends the run
   pub failed : RisesBy (failures reported.shown.answers) 0
       (failed_among (list_of store) (length (state_of store).asked))
-  pub tampered : report.status ≡ 4 → has_acted (list_of store) (length (state_of store).asked) ≡ true
+  pub tampered : report.status ≡ 4
+      → has_acted (list_of store) (length (state_of store).asked) ≡ true

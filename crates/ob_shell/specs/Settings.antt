@@ -47,11 +47,18 @@ input_limit = 65536
 abbrev pub fitted : (buffer depth : ℕ) → Option Plan → (pack : ℕ) → Option Config
 fitted buffer depth plan pack =
     if nat_le (3 * pack + 1) buffer
-    then Some (record { buffer = buffer; depth = depth; pack = pack; plan = plan; max_input = input_limit })
+    then Some (record {
+      buffer = buffer;
+      depth = depth;
+      pack = pack;
+      plan = plan;
+      max_input = input_limit;
+    })
     else None
 
 -- settings of which each value has its form and its range
-abbrev pub joined : (buffer depth : Option ℕ) → Option (Option Plan) → (pack : Option ℕ) → Option Config
+abbrev pub joined : (buffer depth : Option ℕ) → Option (Option Plan) → (pack : Option ℕ)
+    → Option Config
 joined None depth plan pack = None
 joined (Some buffer) None plan pack = None
 joined (Some buffer) (Some depth) None pack = None

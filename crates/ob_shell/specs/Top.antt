@@ -32,7 +32,8 @@ use Rattle.ob_shell.specs.declared.top.Ending.TheVariants.{Usage, BadKey, Ran}
 use Rattle.ob_shell.specs.declared.top.Report.{Report}
 
 -- what the last part did, by the ending
-abbrev pub EndingPart : {R : Type 0} → (R → RevState) → Machine R → Machine R → List (List ℕ) → List ℕ → Ending → Type 0
+abbrev pub EndingPart : {R : Type 0} → (R → RevState) → Machine R → Machine R → List (List ℕ)
+    → List ℕ → Ending → Type 0
 EndingPart state m1 m2 more part Usage = IsUndone m1 m2 part
 EndingPart state m1 m2 more part BadKey = IsUndone m1 m2 part
 EndingPart state m1 m2 more part (Ran ran) = LastPart state m1 m2 more part ran
@@ -55,7 +56,8 @@ pub record IsUndeceived (keys : KeySet) (store0 store1 : StoreState) : Type 0 wh
   pub unfit : (lie : Lie) → store1.lie ≡ Some lie → ¬ Fits keys from_nothing lie
 
 -- no engine was started
-pub record Unstarted (store0 store1 : StoreState) (high : ℕ) (served : List (List ℕ)) (answers : List Answer) (part : List ℕ) (ending : Ending) : Type 0 where
+pub record Unstarted (store0 store1 : StoreState) (high : ℕ) (served : List (List ℕ))
+    (answers : List Answer) (part : List ℕ) (ending : Ending) : Type 0 where
   pub store : store1 ≡ store0
   pub closed : high ≡ 0
   pub unserved : served ≡ []
@@ -120,7 +122,8 @@ Carried state settings secret store0 store1 high served more answers part ending
 
 -- what was done with these settings after the first line, which was this secret
 pub record RanAfter {R : Type 0} (state : R → RevState) (settings : Option Config)
-    (secret : Option (List ℕ)) (feed0 feed1 : Fetch) (left0 left1 written0 written1 : Option (List ℕ))
+    (secret : Option (List ℕ)) (feed0 feed1 : Fetch)
+    (left0 left1 written0 written1 : Option (List ℕ))
     (store0 store1 : StoreState) (high : ℕ) (result : Result Bool Stop) : Type 0 where
   pub piece : List ℕ
   pub consumed : Consumes left0 left1 piece
@@ -133,7 +136,8 @@ pub record RanAfter {R : Type 0} (state : R → RevState) (settings : Option Con
   pub texts : texts_in ended (feed0.unread ++ piece) ≡ served ++ more
   pub answers : List Answer
   pub part : List ℕ
-  pub carried : Carried state settings secret store0 store1 high served more answers part (Ran result)
+  pub carried : Carried state settings secret store0 store1 high served more answers part
+      (Ran result)
   pub cut : Cut written0 written1 (SinkFailed result) (printed answers ++ part)
   pub whole : Took written0 written1 (printed answers)
   pub flag : FlagIs answers result
@@ -149,7 +153,8 @@ pub record AllServed (more : List (List ℕ)) (part : List ℕ) : Type 0 where
   pub no_part : part ≡ []
 
 -- the input was read to its end, within its limits, and all of it was served
-pub record ReadWhole (max : ℕ) (taken : List ℕ) (ended : Bool) (more : List (List ℕ)) (part : List ℕ) : Type 0 where
+pub record ReadWhole (max : ℕ) (taken : List ℕ) (ended : Bool) (more : List (List ℕ))
+    (part : List ℕ) : Type 0 where
   pub secret : HasSecret taken
   pub whole : ended ≡ true
   pub all : AllServed more part
@@ -157,21 +162,24 @@ pub record ReadWhole (max : ℕ) (taken : List ℕ) (ended : Bool) (more : List 
   pub within : length taken < max
 
 -- the source failed after these bytes, and all of them was served
-pub record ReadUntilFault (taken : List ℕ) (ended : Bool) (more : List (List ℕ)) (part : List ℕ) : Type 0 where
+pub record ReadUntilFault (taken : List ℕ) (ended : Bool) (more : List (List ℕ))
+    (part : List ℕ) : Type 0 where
   pub line : HasSecret taken ⊎ ((has_lf taken ≡ false) × (length taken < line_max))
   pub cut : ended ≡ false
   pub all : AllServed more part
   pub short : is_over (rest_of [] (after_line taken)) ≡ false
 
 -- a text, or the whole input, has come to its limit, and all that was taken was served
-pub record ReadToLimit (max : ℕ) (taken : List ℕ) (ended : Bool) (more : List (List ℕ)) (part : List ℕ) : Type 0 where
+pub record ReadToLimit (max : ℕ) (taken : List ℕ) (ended : Bool) (more : List (List ℕ))
+    (part : List ℕ) : Type 0 where
   pub secret : HasSecret taken
   pub cut : ended ≡ false
   pub all : AllServed more part
   pub limit : (is_over (rest_of [] (after_line taken)) ≡ true) ⊎ (length taken ≡ max)
 
 -- what the answer of a session says of the bytes taken
-abbrev pub RanSays : Result Bool Stop → (max : ℕ) (taken : List ℕ) (ended : Bool) (more : List (List ℕ)) (part : List ℕ) → Type 0
+abbrev pub RanSays : Result Bool Stop → (max : ℕ) (taken : List ℕ) (ended : Bool)
+    (more : List (List ℕ)) (part : List ℕ) → Type 0
 RanSays (Ok refused) max taken ended more part = ReadWhole max taken ended more part
 RanSays (Err (Tampered region place)) max taken ended more part = HasSecret taken
 RanSays (Err SourceFault) max taken ended more part = ReadUntilFault taken ended more part
@@ -180,9 +188,11 @@ RanSays (Err NoMemory) max taken ended more part = Unit {0}
 RanSays (Err InputLimit) max taken ended more part = ReadToLimit max taken ended more part
 
 -- what each ending says of the bytes taken, where the words were taken
-abbrev pub EndingSays : Ending → (max : ℕ) (taken : List ℕ) (left1 : Option (List ℕ)) (ended : Bool) (more : List (List ℕ)) (part : List ℕ) → Type 0
+abbrev pub EndingSays : Ending → (max : ℕ) (taken : List ℕ) (left1 : Option (List ℕ)) (ended : Bool)
+    (more : List (List ℕ)) (part : List ℕ) → Type 0
 EndingSays Usage max taken left1 ended more part = taken ≡ []
-EndingSays BadKey max taken left1 ended more part = (secret_of (first_line taken) ≡ None) × LineTaken taken left1
+EndingSays BadKey max taken left1 ended more part = (secret_of (first_line taken) ≡ None)
+    × LineTaken taken left1
 EndingSays (Ran ran) max taken left1 ended more part = RanSays ran max taken ended more part
 
 -- the words are none that the program takes exactly where it says so, if memory suffices
@@ -273,6 +283,7 @@ pub record Reported {R : Type 0} (state : R → RevState) (Takes : Type 0) (sett
   pub shown : Shown state settings left0 left1 written0 written1 store0 store1 report.high ending
       (last_line ending) (SinksRose old new)
   pub cause : StatusCause ending old new
-  pub completes : Takes → (input : List ℕ) → left0 ≡ Some input → KeepsLimits (limit_of settings) input
+  pub completes : Takes → (input : List ℕ) → left0 ≡ Some input
+      → KeepsLimits (limit_of settings) input
       → ¬ Rises old.source new.source → ¬ SinksRose old new
       → IsCompleted (IsHonest store0 store1) ending

@@ -22,7 +22,8 @@ nameless a = record a { top = record a.top { no_binary_name = true } }
 abbrev pub common : Text → App
 common name =
     with_rule (with_rule (with_rule (with_rule (with_rule (new_app name)
-    (flag (codes "trace"))) (valued (codes "buffer"))) (valued (codes "depth"))) (valued (codes "plan")))
+    (flag (codes "trace"))) (valued (codes "buffer"))) (valued (codes "depth")))
+    (valued (codes "plan")))
     (valued (codes "pack"))
 
 -- of a program over a store that it is given

@@ -127,14 +127,16 @@ fn serve_with<I: Source, O: Sink, T: Sink, S: BlockStore>(
     requires taken { feed.old.taken ≤ feed.old.limit }
     requires fresh { (S.state store.old).asked ≡ [] }
     ensures ran { RanAfter ⟦<BaseRevs as Revisions>⟧.state (Some words.config) (Some key.now)
-        feed.old feed.new (I.left input.old) (I.left input.new) (O.written out.old) (O.written out.new)
+        feed.old feed.new
+        (I.left input.old) (I.left input.new) (O.written out.old) (O.written out.new)
         (S.state store.old) (S.state store.new) result.1 (stop_of result.0) }
     ensures within { feed.new.taken ≤ feed.new.limit }
     ensures traced { Traced words.trace (S.state store.old).asked (S.state store.new).asked
         (T.written trace.old) (T.written trace.new) (IsQuiet result.0) }
     ensures cause { StopCause
         (faults_of (I.faults input.old) (O.faults out.old) (T.faults trace.old))
-        (faults_of (I.faults input.new) (O.faults out.new) (T.faults trace.new)) (stop_of result.0) }
+        (faults_of (I.faults input.new) (O.faults out.new) (T.faults trace.new))
+        (stop_of result.0) }
     ensures quiet { IsQuiet result.0 → SinksRose
         (faults_of (I.faults input.old) (O.faults out.old) (T.faults trace.old))
         (faults_of (I.faults input.new) (O.faults out.new) (T.faults trace.new)) }
@@ -267,7 +269,8 @@ pub fn shell_top<I: Source, O: Sink, T: Sink, S: BlockStore>(
 ) -> Report
     requires { (S.state store.old).asked ≡ [] }
     ensures reported { Reported ⟦<BaseRevs as Revisions>⟧.state
-        (IsTaken usage (map string_bytes words.now)) (settings_of usage (map string_bytes words.now))
+        (IsTaken usage (map string_bytes words.now))
+        (settings_of usage (map string_bytes words.now))
         (I.left input.old) (I.left input.new) (O.written out.old) (O.written out.new)
         (S.state store.old) (S.state store.new)
         (faults_of (I.faults input.old) (O.faults out.old) (T.faults trace.old))
