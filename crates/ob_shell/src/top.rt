@@ -3,7 +3,7 @@ ghost use Rattle.std.specs.Prelude.{◌≡◌, ◌≢◌, ◌≤◌, ℕ, List, 
 ghost use Rattle.std.specs.Prelude.{MatchOption, string_bytes};
 ghost use Rattle.ob_shell.specs.Usage.{usage, is_traced};
 ghost use Rattle.ob_shell.specs.Settings.{AreWithin, IsTaken, settings_of};
-ghost use Rattle.ob_shell.specs.Closed.{Unwritten, LineWritten, refused_by};
+ghost use Rattle.ob_shell.specs.Closed.{LineWritten, Untouched, Unwritten, refused_by};
 ghost use Rattle.ob_shell.specs.Meddling.{Unserved, Meddled};
 ghost use Rattle.ob_shell.specs.KeyLine.{secret_of};
 ghost use Rattle.ob_shell.specs.Running.{faults_of, SinksRose, IsQuiet, stop_of, StopCause};
@@ -275,6 +275,8 @@ pub fn shell_top<I: Source, O: Sink, T: Sink, S: BlockStore>(
         (S.state store.old) (S.state store.new)
         (faults_of (I.faults input.old) (O.faults out.old) (T.faults trace.old))
         (faults_of (I.faults input.new) (O.faults out.new) (T.faults trace.new)) result }
+    ensures refused { ¬ IsTaken usage (map string_bytes words.now) → Untouched
+        (I.left input.old) (I.left input.new) (S.state store.old) (S.state store.new) }
     ensures traced { Traced (is_traced usage (map string_bytes words.now))
         (S.state store.old).asked (S.state store.new).asked
         (T.written trace.old) (T.written trace.new) (SinksRose
