@@ -1,7 +1,9 @@
 -- An input that keeps to the limits is served to its end.
 use Rattle.std.proofs.Common.{◌≡◌, ℕ, ◌≤◌, Bool, true, false, List, [], ◌++◌, length, Option, Some, None, Ok, Err, refl, ap, ◌∙◌, subst, inl, inr, arith, append-nil, length-append}
 use Rattle.std.specs.Io.KnownBytes.{Appends, Consumes}
+use Rattle.std.proofs.KnownBytes.{Appends-nil}
 use Rattle.ob_base.specs.Counts.{Rises}
+use Rattle.ob_base.specs.declared.config.Config.{Config}
 use Rattle.ob_base.specs.declared.refusal.Stop.TheVariants.{Tampered, SourceFault, SinkFault, NoMemory, InputLimit}
 use Rattle.ob_vault.specs.State.{RevState}
 use Rattle.ob_print.specs.Cuts.{Cut}
@@ -9,6 +11,7 @@ use Rattle.ob_store.specs.State.{StoreState}
 use Rattle.ob_shell.specs.Texts.{is_over, rest_of}
 use Rattle.ob_shell.specs.KeyLine.{line_max, has_lf, first_line, after_line, secret_of, LineTaken}
 use Rattle.ob_shell.specs.Running.{Faults, SinksRose}
+use Rattle.ob_shell.specs.Settings.{limit_of}
 use Rattle.ob_shell.specs.Endings.{status_of, last_line, SinkStopped}
 use Rattle.ob_shell.specs.Top.{HasSecret, EndsUntampered, IsHonest, EndingSays, EndingWords, EndingCause, Shown, StatusCause, KeepsLimits, IsCompleted, Reported}
 use Rattle.ob_shell.specs.declared.top.Report.{Report}
@@ -67,26 +70,26 @@ limits_kept (Ran (Err InputLimit)) max taken rest ended more part t words k says
       | inr full ↦ let few = k.short in absurd (omega (arith, few, full, length-append taken rest))
     ]
 
-pub completes : {R : Type 0} {state : R → RevState} {max : ℕ} {l0 l1 w0 w1 : Option (List ℕ)} {s0 s1 : StoreState} {high : ℕ} {ending : Ending} {line : List ℕ} {F Takes : Type 0} (old new : Faults) (input : List ℕ)
-    → Shown state max l0 l1 w0 w1 s0 s1 high ending line F → EndingWords ending Takes → StatusCause ending old new
-    → Takes → l0 ≡ Some input → KeepsLimits max input → ¬ Rises old.source new.source → ¬ SinksRose old new → IsCompleted (IsHonest s0 s1) ending
-completes {max = max} {l1 = l1} {s0 = s0} {s1 = s1} {ending = ending} old new input shown words cause t e k a c =
+pub completes : {R : Type 0} {state : R → RevState} {settings : Option Config} {l0 l1 w0 w1 : Option (List ℕ)} {s0 s1 : StoreState} {high : ℕ} {ending : Ending} {line : List ℕ} {F Takes : Type 0} (old new : Faults) (input : List ℕ)
+    → Shown state settings l0 l1 w0 w1 s0 s1 high ending line F → EndingWords ending Takes → StatusCause ending old new
+    → Takes → l0 ≡ Some input → KeepsLimits (limit_of settings) input → ¬ Rises old.source new.source → ¬ SinksRose old new → IsCompleted (IsHonest s0 s1) ending
+completes {settings = settings} {l1 = l1} {s0 = s0} {s1 = s1} {ending = ending} old new input shown words cause t e k a c =
     go l1 shown.says (subst (λ (l : Option (List ℕ)). Consumes l l1 shown.taken) e shown.given)
   where
-    go : (l : Option (List ℕ)) → EndingSays ending max shown.taken l shown.ended shown.more shown.part → Consumes (Some input) l shown.taken → IsCompleted (IsHonest s0 s1) ending
+    go : (l : Option (List ℕ)) → EndingSays ending (limit_of settings) shown.taken l shown.ended shown.more shown.part → Consumes (Some input) l shown.taken → IsCompleted (IsHonest s0 s1) ending
     go None says given = absurd given
     go (Some rest) says given =
-        limits_kept ending max shown.taken rest shown.ended shown.more shown.part t words (subst (KeepsLimits max) given k) says old new cause a c
+        limits_kept ending (limit_of settings) shown.taken rest shown.ended shown.more shown.part t words (subst (KeepsLimits (limit_of settings)) given k) says old new cause a c
         (λ honest. elim shown.carried [ inl none ↦ none.untampered | inr some ↦ some.untampered honest ])
 
 -- the last line was written, or cut by a sink's fault
-pub reported_line : {R : Type 0} {state : R → RevState} {Takes : Type 0} {max : ℕ} {report : Report} (ending : Ending) (old mid new : Faults)
+pub reported_line : {R : Type 0} {state : R → RevState} {Takes : Type 0} {settings : Option Config} {report : Report} (ending : Ending) (old mid new : Faults)
     {l0 l1 w0 w1 w2 : Option (List ℕ)} {s0 s1 : StoreState} {E : Type 0} (line : List ℕ)
     → report.status ≡ status_of ending → EndingWords ending Takes
-    → Shown state max l0 l1 w0 w1 s0 s1 report.high ending [] (SinkStopped ending) → EndingCause ending old mid
+    → Shown state settings l0 l1 w0 w1 s0 s1 report.high ending [] (SinkStopped ending) → EndingCause ending old mid
     → line ≡ last_line ending → Cut w1 w2 E line → (E → Rises mid.out new.out) → (line ≡ [] → Appends w1 w2 line) → (line ≡ [] → new.out ≡ mid.out)
     → mid.out ≤ new.out → new.trace ≡ mid.trace → new.source ≡ mid.source
-    → Reported state Takes max l0 l1 w0 w2 s0 s1 old new report
+    → Reported state Takes settings l0 l1 w0 w2 s0 s1 old new report
 reported_line ending old mid new line status takes shown cause is_line cut rose all none later trace source =
     let causes : StatusCause ending old new = status_cause ending old mid new cause later trace source (λ e. none (is_line ∙ e)) in
     record {
@@ -95,7 +98,7 @@ reported_line ending old mid new line status takes shown cause is_line cut rose 
       takes = takes;
       shown =
           rw (← is_line)
-          (shown_line shown
+          (shown_line cut.grown shown cut.appends
           (line_grew _ _ (λ e. line_rose ending old mid new cause (rose e) later trace) ending old mid
           (λ r. rose_with old mid new r later trace)
           cause shown.grew is_line cut all));
@@ -104,18 +107,18 @@ reported_line ending old mid new line status takes shown cause is_line cut rose 
     }
 
 -- no line may be written any more
-pub reported_quiet : {R : Type 0} {state : R → RevState} {Takes : Type 0} {max : ℕ} {report : Report} (ending : Ending) (old new : Faults)
+pub reported_quiet : {R : Type 0} {state : R → RevState} {Takes : Type 0} {settings : Option Config} {report : Report} (ending : Ending) (old new : Faults)
     {l0 l1 w0 w1 : Option (List ℕ)} {s0 s1 : StoreState}
     → report.status ≡ status_of ending → EndingWords ending Takes
-    → Shown state max l0 l1 w0 w1 s0 s1 report.high ending [] (SinkStopped ending) → EndingCause ending old new → SinksRose old new
-    → Reported state Takes max l0 l1 w0 w1 s0 s1 old new report
+    → Shown state settings l0 l1 w0 w1 s0 s1 report.high ending [] (SinkStopped ending) → EndingCause ending old new → SinksRose old new
+    → Reported state Takes settings l0 l1 w0 w1 s0 s1 old new report
 reported_quiet ending old new status takes shown cause rose =
     let causes : StatusCause ending old new = status_cause ending old new new cause (omega arith) refl refl (λ e. refl) in
     record {
       ending = ending;
       status = status;
       takes = takes;
-      shown = shown_line shown (quiet_line _ _ shown.grew rose);
+      shown = shown_line [] shown (Appends-nil _) (quiet_line _ _ shown.grew rose);
       cause = causes;
       completes = λ t input e k a b. completes old new input shown takes causes t e k a b;
     }

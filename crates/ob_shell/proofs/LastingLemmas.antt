@@ -1,28 +1,29 @@
 -- What lasts while texts are served: the pack, the rows that may be open, and that no block lies in clear.
 use Rattle.std.proofs.Common.{◌≡◌, ℕ, Bool, IsTrue, List, [], ◌∷◌, None, Ok, Err, Result, inl, inr, sym, ◌∙◌, ap, subst}
+use Rattle.ob_base.specs.declared.config.Config.{Config}
 use Rattle.ob_base.specs.declared.config.Public.{Public}
 use Rattle.ob_base.specs.declared.refusal.Stop.{Stop}
 use Rattle.ob_exec.specs.Agreeing.{public_of, rows_of, world_of}
 use Rattle.ob_exec.specs.Telling.{AcceptsRows}
 use Rattle.ob_exec.specs.declared.engine.Engine.{Engine}
-use Rattle.ob_base.specs.Publics.{first_public}
 use Rattle.ob_store.specs.State.{StoreState}
 use Rattle.ob_shell.specs.Running.{LastPart}
+use Rattle.ob_shell.specs.Settings.{public_by}
 use Rattle.ob_shell.specs.Steps.{Machine, Answer, Step, Steps}
 use Rattle.ob_vault.specs.State.{RevState}
 use Rattle.ob_vault.specs.Tied.{AllSealed}
 use Rattle.ob_shell.proofs.ReplayLemmas.{step_goes}
 
--- one row in a block, and 64 rows that may be open
-pub record HasSizes {R : Type 0} (m : Machine R) : Type 0 where
-  pub pack : (public_of m.engine).pack ≡ 1
-  pub buffer : (public_of m.engine).buffer ≡ 64
-  pub rows : rows_of m.engine ≡ 64
+-- the rows of a block, and those that may be open, are as these settings say
+pub record HasSizes {R : Type 0} (config : Config) (m : Machine R) : Type 0 where
+  pub pack : (public_of m.engine).pack ≡ config.pack
+  pub buffer : (public_of m.engine).buffer ≡ config.buffer
+  pub rows : rows_of m.engine ≡ config.buffer
 
-module _ {R : Type 0} (state : R → RevState) where
-  step_sizes : (m0 m1 : Machine R) (text : List ℕ) (answer : Answer) → Step state m0 m1 text answer → HasSizes m0 → HasSizes m1
+module _ {R : Type 0} (state : R → RevState) (config : Config) where
+  step_sizes : (m0 m1 : Machine R) (text : List ℕ) (answer : Answer) → Step state m0 m1 text answer → HasSizes config m0 → HasSizes config m1
   step_sizes m0 m1 text answer step sizes = elim step.done [
-    | inl bad ↦ subst (λ (m : Machine R). HasSizes m) (sym bad.same) sizes
+    | inl bad ↦ subst (λ (m : Machine R). HasSizes config m) (sym bad.same) sizes
     | inr did ↦ record {
       pack = ap (λ (p : Public). p.pack) did.ran.goes_on.public ∙ sizes.pack;
       buffer = ap (λ (p : Public). p.buffer) did.ran.goes_on.public ∙ sizes.buffer;
@@ -30,12 +31,12 @@ module _ {R : Type 0} (state : R → RevState) where
     }
   ]
 
-  pub steps_sizes : (m0 m2 : Machine R) (texts : List (List ℕ)) (answers : List Answer) → Steps state m0 m2 texts answers → HasSizes m0 → HasSizes m2
+  pub steps_sizes : (m0 m2 : Machine R) (texts : List (List ℕ)) (answers : List Answer) → Steps state m0 m2 texts answers → HasSizes config m0 → HasSizes config m2
   unfolding Steps
-  steps_sizes m0 m2 [] answers steps sizes = subst (λ (m : Machine R). HasSizes m) (sym steps.0) sizes
+  steps_sizes m0 m2 [] answers steps sizes = subst (λ (m : Machine R). HasSizes config m) (sym steps.0) sizes
   steps_sizes m0 m2 (text ∷ texts) answers steps sizes = steps_sizes steps.0 m2 texts steps.2 steps.5 (step_sizes m0 steps.0 text steps.1 steps.4 sizes)
 
-  pub last_rows : (m1 m2 : Machine R) (more : List (List ℕ)) (part : List ℕ) (result : Result Bool Stop) → LastPart state m1 m2 more part result → HasSizes m1 → rows_of m2.engine ≡ 64
+  pub last_rows : (m1 m2 : Machine R) (more : List (List ℕ)) (part : List ℕ) (result : Result Bool Stop) → LastPart state m1 m2 more part result → HasSizes config m1 → rows_of m2.engine ≡ config.buffer
   last_rows m1 m2 more part (Ok flag) rests sizes = ap (λ (m : Machine R). rows_of m.engine) rests.machine ∙ sizes.rows
   last_rows m1 m2 [] part (Err stop) rests sizes = ap (λ (m : Machine R). rows_of m.engine) rests.rests.machine ∙ sizes.rows
   last_rows m1 m2 (text ∷ more) part (Err stop) (inl rests) sizes = ap (λ (m : Machine R). rows_of m.engine) rests.rests.machine ∙ sizes.rows
@@ -43,20 +44,20 @@ module _ {R : Type 0} (state : R → RevState) where
   last_rows m1 m2 (text ∷ more) part (Err stop) (inr (inr done)) sizes = (step_sizes m1 m2 text done.answer done.step sizes).rows
 
   -- ---- blocks
-  module _ (good : ℕ → List ℕ → Bool) (accepts : AcceptsRows good 1) where
+  module _ (good : ℕ → List ℕ → Bool) (accepts : AcceptsRows good config.pack) where
     abbrev IsSealed : Machine R → Type 0
     IsSealed m = AllSealed good (world_of state m.engine m.store)
 
-    accepts_at : (m : Machine R) → HasSizes m → AcceptsRows good (public_of m.engine).pack
+    accepts_at : (m : Machine R) → HasSizes config m → AcceptsRows good (public_of m.engine).pack
     accepts_at m sizes = subst (λ (k : ℕ). AcceptsRows good k) (sym sizes.pack) accepts
 
-    step_sealed : (m0 m1 : Machine R) (text : List ℕ) (answer : Answer) → Step state m0 m1 text answer → HasSizes m0 → IsTrue m0.store.tells → IsSealed m0 → IsSealed m1
+    step_sealed : (m0 m1 : Machine R) (text : List ℕ) (answer : Answer) → Step state m0 m1 text answer → HasSizes config m0 → IsTrue m0.store.tells → IsSealed m0 → IsSealed m1
     step_sealed m0 m1 text answer step sizes tells all = elim step.done [
       | inl bad ↦ subst (λ (m : Machine R). IsSealed m) (sym bad.same) all
       | inr did ↦ (did.sealed good (accepts_at m0 sizes)).seals tells all
     ]
 
-    pub steps_sealed : (m0 m2 : Machine R) (texts : List (List ℕ)) (answers : List Answer) → Steps state m0 m2 texts answers → HasSizes m0 → IsTrue m0.store.tells → IsSealed m0 → IsSealed m2
+    pub steps_sealed : (m0 m2 : Machine R) (texts : List (List ℕ)) (answers : List Answer) → Steps state m0 m2 texts answers → HasSizes config m0 → IsTrue m0.store.tells → IsSealed m0 → IsSealed m2
     unfolding Steps
     steps_sealed m0 m2 [] answers steps sizes tells all = subst (λ (m : Machine R). IsSealed m) (sym steps.0) all
     steps_sealed m0 m2 (text ∷ texts) answers steps sizes tells all =
@@ -64,13 +65,14 @@ module _ {R : Type 0} (state : R → RevState) where
         steps_sealed m1 m2 texts steps.2 steps.5 (step_sizes m0 m1 text steps.1 steps.4 sizes)
         (subst (λ (b : Bool). IsTrue b) (sym (step_goes state m0 m1 text steps.1 steps.4.done).tells) tells) (step_sealed m0 m1 text steps.1 steps.4 sizes tells all)
 
-    pub last_sealed : (m1 m2 : Machine R) (more : List (List ℕ)) (part : List ℕ) (result : Result Bool Stop) → LastPart state m1 m2 more part result → HasSizes m1 → IsTrue m1.store.tells → IsSealed m1 → IsSealed m2
+    pub last_sealed : (m1 m2 : Machine R) (more : List (List ℕ)) (part : List ℕ) (result : Result Bool Stop) → LastPart state m1 m2 more part result → HasSizes config m1 → IsTrue m1.store.tells → IsSealed m1 → IsSealed m2
     last_sealed m1 m2 more part (Ok flag) rests sizes tells all = subst (λ (m : Machine R). IsSealed m) (sym rests.machine) all
     last_sealed m1 m2 [] part (Err stop) rests sizes tells all = subst (λ (m : Machine R). IsSealed m) (sym rests.rests.machine) all
     last_sealed m1 m2 (text ∷ more) part (Err stop) (inl rests) sizes tells all = subst (λ (m : Machine R). IsSealed m) (sym rests.rests.machine) all
     last_sealed m1 m2 (text ∷ more) part (Err stop) (inr (inl cut)) sizes tells all = (cut.sealed good (accepts_at m1 sizes)).seals tells all
     last_sealed m1 m2 (text ∷ more) part (Err stop) (inr (inr done)) sizes tells all = step_sealed m1 m2 text done.answer done.step sizes tells all
 
+module _ {R : Type 0} (state : R → RevState) where
   pub steps_tell : (m0 m2 : Machine R) (texts : List (List ℕ)) (answers : List Answer) → Steps state m0 m2 texts answers → IsTrue m0.store.tells → IsTrue m2.store.tells
   unfolding Steps
   steps_tell m0 m2 [] answers steps tells = subst (λ (m : Machine R). IsTrue m.store.tells) (sym steps.0) tells
@@ -82,5 +84,6 @@ pub none_sealed : {R : Type 0} (state : R → RevState) (good : ℕ → List ℕ
 none_sealed state good e s none = record { all = λ q x block live last. absurd (live (none q)) }
 
 -- an engine that was just started
-pub first_sizes : {R : Type 0} (m : Machine R) → public_of m.engine ≡ first_public 64 5 1 None → rows_of m.engine ≡ 64 → HasSizes m
-first_sizes m fresh rows = record { pack = ap (λ (p : Public). p.pack) fresh; buffer = ap (λ (p : Public). p.buffer) fresh; rows = rows }
+pub first_sizes : {R : Type 0} (config : Config) (m : Machine R) → public_of m.engine ≡ public_by config
+    → rows_of m.engine ≡ config.buffer → HasSizes config m
+first_sizes config m fresh rows = record { pack = ap (λ (p : Public). p.pack) fresh; buffer = ap (λ (p : Public). p.buffer) fresh; rows = rows }

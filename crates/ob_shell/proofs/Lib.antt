@@ -21,3 +21,5 @@ pub mod FirstPartLemmas
 pub mod LaterLemmas
 pub mod DisturbLemmas
 pub mod MeddleLemmas
+pub mod WholeLemmas
+pub mod RerunLemmas

@@ -1,9 +1,10 @@
 -- What the changes of a store do to a run.
-use Rattle.std.proofs.Common.{◌≡◌, ◌≢◌, ◌≤◌, ◌++◌, ℕ, Bool, true, false, not, IsTrue, List, [], ◌∷◌, length, Option, None, Ok, Err, inl, inr, refl, sym, ◌∙◌, ap, subst, arith}
+use Rattle.std.proofs.Common.{◌≡◌, ◌≢◌, ◌≤◌, ◌++◌, ℕ, Bool, true, false, not, IsTrue, List, [], ◌∷◌, length, Option, Some, Ok, Err, inl, inr, refl, sym, ◌∙◌, ap, subst, arith}
 use Rattle.std.specs.List.{list_all}
 use Rattle.std.specs.Prelude.{nat_lt, ⊤}
 use Rattle.std.proofs.lemmas.List.Folds.{list_all-map}
 use Rattle.ob_base.specs.declared.access.Access.{Access}
+use Rattle.ob_base.specs.declared.config.Config.{Config}
 use Rattle.ob_base.specs.declared.config.Public.{Public}
 use Rattle.ob_base.specs.declared.schema.Table.{Table}
 use Rattle.ob_base.specs.declared.refusal.Stop.TheVariants.{Tampered, SourceFault, SinkFault, NoMemory, InputLimit}
@@ -13,10 +14,11 @@ use Rattle.ob_exec.specs.Telling.{AreHeld, Represents}
 use Rattle.ob_exec.specs.declared.engine.Engine.{Engine}
 use Rattle.ob_grammar.proofs.Forms.{Whatever}
 use Rattle.ob_grammar.proofs.Placed.{one_value}
-use Rattle.ob_base.specs.Publics.{first_public}
 use Rattle.ob_mean.specs.Replay.{Session, first_session}
 use Rattle.ob_meddle.specs.Due.{is_fail, failed_among, has_acted, are_later, disturbance_of, disturbances}
+use Rattle.ob_meddle.specs.Fresh.{fresh_live, honest_start}
 use Rattle.ob_meddle.specs.Shows.{list_of, state_of}
+use Rattle.ob_store.specs.Logs.{asked_of}
 use Rattle.ob_meddle.specs.declared.store.MeddledStore.{MeddledStore}
 use Rattle.ob_meddle.proofs.ShowLemmas.{shows, list_same}
 use Rattle.ob_meddle.proofs.DueLemmas.{all_later}
@@ -33,11 +35,13 @@ use Rattle.ob_shell.specs.Replayed.{session_of}
 use Rattle.ob_shell.specs.Steps.{Machine, machine_of, Answer, Steps}
 use Rattle.ob_shell.specs.Top.{EndsUntampered, EndingPart, IsHonest, Reported}
 use Rattle.ob_shell.specs.Tracing.{Traced}
-use Rattle.ob_shell.specs.Usage.{MeddleParses, ParsesChanges, is_traced, meddle_usage}
+use Rattle.ob_shell.specs.Settings.{MeddleParses, ParsesChanges, public_by, settings_of}
+use Rattle.ob_shell.specs.Usage.{is_traced, meddle_usage}
 use Rattle.ob_shell.specs.declared.top.Ending.{Ending}
 use Rattle.ob_shell.specs.declared.top.Ending.TheVariants.{Usage, BadKey, Ran}
 use Rattle.ob_shell.specs.declared.top.Report.{Report}
 use Rattle.ob_shell.proofs.CloseLemmas.{reported_taken}
+use Rattle.ob_shell.proofs.WholeLemmas.{fresh_is}
 use Rattle.ob_shell.proofs.DisturbLemmas.{IsOne, before_less, session_within}
 use Rattle.ob_store.specs.Calls.{IsBefore, IsQuiet, IsSteady}
 use Rattle.ob_store.specs.Runs.{Later}
@@ -101,8 +105,8 @@ ending_within state m0 m1 m2 texts more answers part BadKey n steps rests tells 
 ending_within state m0 m1 m2 texts more answers part (Ran result) n steps last tells steady held all before =
     session_within unique state texts more m0 m1 m2 [] answers part result n steps last tells steady held all before
 
-module _ {R : Type 0} {state : R → RevState} {Takes : Type 0} {max : ℕ} {l0 l1 w0 w1 : Option (List ℕ)} {s0 s1 : StoreState} {old new : Faults} {report : Report}
-    (r : Reported state Takes max l0 l1 w0 w1 s0 s1 old new report) where
+module _ {R : Type 0} {state : R → RevState} {Takes : Type 0} {settings : Option Config} {l0 l1 w0 w1 : Option (List ℕ)} {s0 s1 : StoreState} {old new : Faults} {report : Report}
+    (r : Reported state Takes settings l0 l1 w0 w1 s0 s1 old new report) where
   pub reported_later : Later s0 s1
   reported_later = elim r.shown.carried [ inl none ↦ subst (λ (s : StoreState). Later s0 s) (sym none.store) (later_refl s0) | inr some ↦ some.later ]
 
@@ -117,13 +121,17 @@ module _ {R : Type 0} {state : R → RevState} {Takes : Type 0} {max : ℕ} {l0 
   ]
 
   -- where all changes come later than what the texts ask in all
-  pub all_within : (n : ℕ) → s0.asked ≡ [] → IsTrue s0.tells → IsSteady s0 → AskedInAll (first_session (first_public 64 5 1 None)) (r.shown.served ++ r.shown.more) n → IsBefore s0.disturbed n → length s1.asked ≤ n
-  all_within n none tells steady all before = elim r.shown.carried [
+  pub all_within : (config : Config) → settings ≡ Some config → (n : ℕ) → s0.asked ≡ [] → IsTrue s0.tells → IsSteady s0
+      → AskedInAll (first_session (public_by config)) (r.shown.served ++ r.shown.more) n → IsBefore s0.disturbed n
+      → length s1.asked ≤ n
+  all_within config set n none tells steady all before = elim r.shown.carried [
     | inl idle ↦ omega (arith, ap (λ (s : StoreState). length s.asked) idle.store, ap (λ (l : List Access). length l) none)
     | inr some ↦
-        let here : first_session (first_public 64 5 1 None) ≡ session_of (machine_of some.first s0) [] = λ i. record { public = sym some.fresh i; tables = []; asked = length (sym none i) } in
+        let fresh : public_of some.first ≡ public_by config = fresh_is state set some in
+        let here : first_session (public_by config) ≡ session_of (machine_of some.first s0) [] =
+        λ i. record { public = sym fresh i; tables = []; asked = length (sym none i) } in
         ending_within state (machine_of some.first s0) some.middle (machine_of some.last s1) r.shown.served r.shown.more r.shown.answers r.shown.part r.ending n some.steps some.rest tells steady
-        (nothing_held state some.first s0 (first_public 64 5 1 None) some.fresh refl)
+        (nothing_held state some.first s0 (public_by config) fresh refl)
         (subst (λ (s : Session). AskedInAll s (r.shown.served ++ r.shown.more) n) here all) before
   ]
 
@@ -141,15 +149,16 @@ failed_none : (list : List Meddle) → failed_among list 0 ≡ 0
 unfolding failed_among
 failed_none list = refl
 
-pub meddled : {R : Type 0} {state : R → RevState} {words : List Text} {max : ℕ} {l0 l1 w0 w1 t0 t1 : Option (List ℕ)} {old new : Faults} {report : Report}
-    (m0 m1 : MeddledStore) (list : List Meddle) → ParsesChanges words list → list_of m0 ≡ list → (state_of m0).asked ≡ []
-    → Reported state ⊤ max l0 l1 w0 w1 (state_of m0) (state_of m1) old new report
+pub meddled : {R : Type 0} {state : R → RevState} {words : List Text} {l0 l1 w0 w1 t0 t1 : Option (List ℕ)} {old new : Faults} {report : Report}
+    (m0 m1 : MeddledStore) (config : Config) (list : List Meddle) → ParsesChanges words config list → list_of m0 ≡ list → (state_of m0).asked ≡ []
+    → Reported state ⊤ (Some config) l0 l1 w0 w1 (state_of m0) (state_of m1) old new report
     → Traced (is_traced meddle_usage words) (state_of m0).asked (state_of m1).asked t0 t1 (SinksRose old new)
-    → Meddled state words max l0 l1 w0 w1 t0 t1 old new m1 report
-meddled {state = state} {words = words} {max = max} {l0 = l0} {l1 = l1} {w0 = w0} {w1 = w1} {old = old} {new = new} {report = report} m0 m1 list parses same none served traced =
+    → Meddled state words l0 l1 w0 w1 t0 t1 old new m1 report
+meddled {state = state} {words = words} {l0 = l0} {l1 = l1} {w0 = w0} {w1 = w1} {old = old} {new = new} {report = report} m0 m1 config list parses same none served traced =
     let s0 = state_of m0 in
     let s1 = state_of m1 in
-    let r : Reported state (MeddleParses words) max l0 l1 w0 w1 s0 s1 old new report = reported_taken (list, parses) served in
+    let r : Reported state (MeddleParses words) (settings_of meddle_usage words) l0 l1 w0 w1 s0 s1 old new report =
+    reported_taken (config, list, parses) parses.settings.settings served in
     let later = reported_later r in
     let here = list_of m1 in
     let there = shows m1 in
@@ -159,9 +168,12 @@ meddled {state = state} {words = words} {max = max} {l0 = l0} {l1 = l1} {w0 = w0
     let counted = (shows m0).counted ∙ ap (λ (l : List Access). failed_among (list_of m0) (length l)) none ∙ failed_none (list_of m0) in
     let faults : s0.faults ≡ 0 = omega (arith, counted) in
     record {
-      words_are = subst (λ (l : List Meddle). ParsesChanges words l) kept parses;
+      config = config;
+      words_are = subst (λ (l : List Meddle). ParsesChanges words config l) kept parses;
       start = s0;
       fresh = none;
+      no_lie = honest_start m0.caught (asked_of m0.log) m0.early none;
+      empty = λ q. fresh_live (asked_of m0.log) m0.regions m0.fresh none q;
       tells = refl;
       changes = changes;
       steady = steady;
@@ -170,7 +182,7 @@ meddled {state = state} {words = words} {max = max} {l0 = l0} {l1 = l1} {w0 = w0
       shows = there;
       undisturbed = λ n all after.
           let before : IsBefore s0.disturbed n = subst (λ (o : Option (List Disturbance)). IsBefore o n) (sym changes) (before_of here n after) in
-          let within = all_within r n none refl steady all before in
+          let within = all_within r config parses.settings.settings n none refl steady all before in
           let before_there : IsBefore s1.disturbed (length s1.asked) = subst (λ (o : Option (List Disturbance)). IsBefore o (length s1.asked)) (sym later.disturbed) (before_less s0.disturbed (length s1.asked) n within before) in
           undisturbed r refl (later.steady steady before_there);
       unchanged = λ all.

@@ -1,7 +1,7 @@
 -- What a session has done, byte by byte, and how it ends.
 use Rattle.std.proofs.Common.{◌≡◌, ℕ, ◌<◌, ◌||◌, Bool, true, false, List, [], ◌∷◌, ◌++◌, length, Option, Ok, Err, Result, refl, sym, ap, ◌∙◌, subst, inl, inr, arith, append_assoc, append-nil}
 use Rattle.std.specs.Prelude.{IfOk, IfErr, OnOk, OnErr}
-use Rattle.std.specs.Io.KnownBytes.{IsAtEnd}
+use Rattle.std.specs.Io.KnownBytes.{Appends, IsAtEnd}
 use Rattle.std.proofs.KnownBytes.{Appends-nil, Appends-trans}
 use Rattle.ob_base.specs.declared.access.Access.{Access}
 use Rattle.ob_base.specs.declared.refusal.Stop.{Stop}
@@ -12,7 +12,7 @@ use Rattle.ob_print.proofs.CutLemmas.{Cut-after, Cut-whole}
 use Rattle.ob_shell.specs.Texts.{text_max, is_over, rest_after, texts_at, texts_of, tail_text}
 use Rattle.ob_shell.specs.Feeding.{Fetch, Fed}
 use Rattle.ob_shell.specs.Steps.{Machine, AnswersAll, StopsIn, IsSinkFault, printed, any_refused, IsUntampered}
-use Rattle.ob_shell.specs.Running.{SoFar, SessionRan, EndsBy, stop_of, IsQuiet}
+use Rattle.ob_shell.specs.Running.{SoFar, SessionRan, EndsBy, Took, stop_of, IsQuiet}
 use Rattle.ob_shell.specs.Tracing.{TracedAll, Traced}
 use Rattle.ob_shell.specs.declared.session.Halted.{Halted}
 use Rattle.ob_shell.proofs.FeedLemmas.{Fed-none, Fed-then}
@@ -20,6 +20,29 @@ use Rattle.ob_shell.proofs.TextLemmas.{rest_of-append, texts_of-append, rest_of-
 use Rattle.ob_shell.proofs.StepLemmas.{Steps-none, Steps-append, printed-append, printed-nil, any_refused-append, any_refused-nil, PartlyAt-none, PartlyAt-more}
 use Rattle.ob_shell.proofs.TraceLemmas.{traced_then, traced_cut, traced_whole}
 
+-- ---- what a sink took
+pub took_whole : {w0 w1 : Option (List ℕ)} {bytes : List ℕ} → Appends w0 w1 bytes → Took w0 w1 bytes
+took_whole {w0 = w0} {w1 = w1} {bytes = bytes} a =
+    record { after = []; appends = subst (λ (l : List ℕ). Appends w0 w1 l) (sym (append-nil bytes)) a }
+
+took_then : {w0 w2 : Option (List ℕ)} {bytes : List ℕ} (w1 : Option (List ℕ)) (more : List ℕ) → Appends w0 w1 bytes
+    → Appends w1 w2 more → Took w0 w2 bytes
+took_then w1 more a b = record { after = more; appends = Appends-trans _ _ _ _ _ a b }
+
+pub took_more : {w0 w1 w2 : Option (List ℕ)} {bytes : List ℕ} (more : List ℕ) → Took w0 w1 bytes → Appends w1 w2 more
+    → Took w0 w2 bytes
+took_more {w0 = w0} {w2 = w2} {bytes = bytes} more t b = record {
+  after = t.after ++ more;
+  appends = subst (λ (l : List ℕ). Appends w0 w2 l) (append_assoc bytes t.after more) (Appends-trans _ _ _ _ _ t.appends b);
+}
+
+pub took_of : {w0 w1 : Option (List ℕ)} {F : Type 0} {bytes : List ℕ} → Cut w0 w1 F bytes → ¬ F → Took w0 w1 bytes
+took_of {w0 = w0} {w1 = w1} c not = elim c.all [
+  | inl e ↦ took_whole (subst (λ (l : List ℕ). Appends w0 w1 l) e c.appends)
+  | inr f ↦ absurd (not f)
+]
+
+-- ---- the session
 pub so_far_start : {R : Type 0} {state : R → RevState} (f : Fetch) (l w : Option (List ℕ)) (p : List ℕ) (m : Machine R) → p ≡ [] → SoFar state f f l l w w p false m m
 so_far_start {state = state} f l w p m e = record {
   passed = [];
@@ -91,6 +114,7 @@ ran_halt {state = state} {f0 = f0} {f2 = f2} {w0 = w0} {w2 = w2} {m1 = m1} stop 
   part = [];
   last = PartlyAt-none state m1 [] stop fine;
   cut = subst (λ (l : List ℕ). Cut w0 w2 (IsSinkFault stop) l) (sym (append-nil (printed so.answers))) (Cut-whole w0 w2 (IsSinkFault stop) (printed so.answers) so.appends);
+  whole = took_whole so.appends;
   flag = tt;
   ends = subst (λ (l : List ℕ). EndsBy f2 false l [] [] (Err stop)) (sym so.fed.joined) ends;
 }
@@ -109,7 +133,7 @@ pub ran_stop : {R : Type 0} {state : R → RevState} {f0 f1 f2 : Fetch} {l0 l1 l
     → StopsIn state w1 w2 (texts_at p b) stop m1 m2
     → (stop ≡ SourceFault → ⊥) → (stop ≡ InputLimit → ⊥)
     → SessionRan state f0 f2 l0 l2 w0 w2 m0 m2 (Err stop)
-ran_stop {f0 = f0} {f2 = f2} {p = p} {b = b} {m1 = m1} stop so fed st no_fault no_limit =
+ran_stop {f0 = f0} {f2 = f2} {w1 = w1} {p = p} {b = b} {m1 = m1} stop so fed st no_fault no_limit =
     let all = Fed-then so.fed fed in
     record {
       piece = all.piece;
@@ -131,6 +155,7 @@ ran_stop {f0 = f0} {f2 = f2} {p = p} {b = b} {m1 = m1} stop so fed st no_fault n
       part = st.bytes;
       last = PartlyAt-more _ _ _ _ _ _ _ st.partly;
       cut = Cut-after _ so.appends st.cut;
+      whole = took_then w1 st.cut.grown so.appends st.cut.appends;
       flag = tt;
       ends = other_stop f2 false _ _ _ stop no_fault no_limit;
     }
@@ -160,6 +185,7 @@ ran_done {state = state} {f0 = f0} {f2 = f2} {w0 = w0} {w2 = w2} {p = p} {m0 = m
       cut =
           subst (λ (l : List ℕ). Cut w0 w2 ⊥ l) (sym (append-nil (printed (so.answers ++ now.answers))))
           (Cut-whole w0 w2 ⊥ _ (rw printed-append (Appends-trans _ _ _ _ _ so.appends now.appends)));
+      whole = took_whole (rw printed-append (Appends-trans _ _ _ _ _ so.appends now.appends));
       flag = now.flag ∙ ap (λ (x : Bool). x || any_refused now.answers) so.flag ∙ sym (any_refused-append so.answers now.answers);
       ends = (refl, refl, refl, rw (bytes, ← so.pending_is) (below_is_not_over p short), below);
     }
@@ -170,7 +196,7 @@ pub ran_cut : {R : Type 0} {state : R → RevState} {f0 f2 : Fetch} {l0 l2 w0 w1
     → StopsIn state w1 w2 (tail_text p) stop m1 m2
     → (stop ≡ SourceFault → ⊥) → (stop ≡ InputLimit → ⊥)
     → SessionRan state f0 f2 l0 l2 w0 w2 m0 m2 (Err stop)
-ran_cut {f0 = f0} {f2 = f2} {p = p} {m1 = m1} stop so none at_end st no_fault no_limit =
+ran_cut {f0 = f0} {f2 = f2} {w1 = w1} {p = p} {m1 = m1} stop so none at_end st no_fault no_limit =
     let bytes : f0.unread ++ so.fed.piece ≡ so.passed = so.fed.joined ∙ rw none (append-nil so.passed) in
     record {
       piece = so.fed.piece;
@@ -188,6 +214,7 @@ ran_cut {f0 = f0} {f2 = f2} {p = p} {m1 = m1} stop so none at_end st no_fault no
       part = st.bytes;
       last = st.partly;
       cut = Cut-after _ so.appends st.cut;
+      whole = took_then w1 st.cut.grown so.appends st.cut.appends;
       flag = tt;
       ends = other_stop f2 true _ _ _ stop no_fault no_limit;
     }

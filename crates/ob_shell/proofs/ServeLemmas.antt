@@ -1,13 +1,12 @@
 -- What the engine was given and what it left.
-use Rattle.std.proofs.Common.{◌≡◌, ℕ, ◌⊎◌, List, [], ◌∷◌, length, Option, None, Result, Ok, Err, IsTrue, refl, sym, inl, inr, arith, append-nil}
+use Rattle.std.proofs.Common.{◌≡◌, ℕ, ◌⊎◌, List, [], ◌∷◌, length, Option, None, Result, Ok, Err, IsTrue, refl, sym, inl, inr, append-nil}
 use Rattle.std.specs.Prelude.{IfOk, IfErr, OnErr}
 use Rattle.std.proofs.KnownBytes.{Appends-nil}
 use Rattle.ob_base.specs.Events.{Event}
 use Rattle.ob_base.specs.declared.refusal.Stop.{Stop}
-use Rattle.ob_base.specs.declared.refusal.Stop.TheVariants.{Tampered, SourceFault, SinkFault, NoMemory, InputLimit}
 use Rattle.ob_base.specs.declared.refusal.Refusal.TheVariants.{Syntax}
 use Rattle.ob_exec.specs.Agreeing.{public_of, seen_of, world_of}
-use Rattle.ob_exec.specs.Running.{Ran, RefusedEarly, RunCause, SinkCause, Emits, refusal_now}
+use Rattle.ob_exec.specs.Running.{Ran, RefusedEarly, Emits, refusal_now}
 use Rattle.ob_exec.specs.Telling.{KeepsSealed, Represents, Told, Emitted}
 use Rattle.ob_exec.specs.declared.outcome.Outcome.{Outcome}
 use Rattle.ob_exec.specs.declared.outcome.Outcome.TheVariants.{Refused}
@@ -16,10 +15,9 @@ use Rattle.ob_mean.specs.Verdict.{Tables}
 use Rattle.ob_print.specs.Rows.{Printed, PrintedCut, events_text}
 use Rattle.ob_print.proofs.CutLemmas.{Cut-whole}
 use Rattle.ob_shell.specs.Steps.{Machine, Spells, HasBody, StopsIn}
-use Rattle.ob_shell.specs.Running.{StopCause}
 use Rattle.ob_sql.specs.Skeleton.{skeleton}
 use Rattle.ob_sql.specs.declared.stmt.Stmt.{Stmt}
-use Rattle.ob_vault.specs.State.{RevState, World}
+use Rattle.ob_vault.specs.State.{RevState}
 use Rattle.ob_vault.specs.Tied.{Calm, IsUnfit}
 
 -- what is emitted at a stop, unless a changed block was read that fits

@@ -1,15 +1,15 @@
 -- The whole run, from its first line and its session.
 use Rattle.std.proofs.Common.{◌≡◌, ◌≢◌, ℕ, ◌≤◌, ◌==◌, Bool, true, false, List, [], ◌∷◌, ◌++◌, length, Option, Some, None, IsTrue, Ok, Err, Result, refl, sym, ap, ◌∙◌, subst, inl, inr, arith, append-nil, length-append}
-use Rattle.std.specs.Prelude.{IsErr, IsOk, OnOk, OnErr}
+use Rattle.std.specs.Prelude.{IsOk, OnOk}
 use Rattle.std.specs.Io.KnownBytes.{Appends}
 use Rattle.std.proofs.KnownBytes.{Appends-nil, Appends-trans, Consumes-trans, Consumes-nil}
 use Rattle.ob_base.specs.Counts.{Rises}
 use Rattle.ob_base.specs.declared.refusal.Stop.{Stop}
 use Rattle.ob_base.specs.declared.refusal.Stop.TheVariants.{Tampered, SourceFault, SinkFault, NoMemory, InputLimit}
+use Rattle.ob_base.specs.declared.config.Config.{Config}
 use Rattle.ob_base.specs.declared.config.Public.{Public}
 use Rattle.ob_exec.specs.Agreeing.{public_of, high_of, rows_of, world_of}
 use Rattle.ob_exec.specs.Telling.{AreHeld, Represents, told_stop}
-use Rattle.ob_base.specs.Publics.{first_public}
 use Rattle.ob_mean.specs.Verdict.{Tables}
 use Rattle.ob_exec.specs.declared.engine.Engine.{Engine}
 use Rattle.ob_vault.specs.State.{RevState}
@@ -23,8 +23,9 @@ use Rattle.ob_shell.specs.Feeding.{Fetch, Fed}
 use Rattle.ob_shell.specs.KeyLine.{has_lf, first_line, after_line, secret_of, KeyRead}
 use Rattle.ob_shell.specs.Replayed.{PartMeant, Replayed}
 use Rattle.ob_shell.specs.Steps.{Machine, Answer, Step, Steps, IsUntampered, IsSinkFault, machine_of, printed}
-use Rattle.ob_shell.specs.Running.{Faults, SessionRan, LastPart, EndsBy, SinkFailed, SinksRose}
+use Rattle.ob_shell.specs.Running.{Faults, SessionRan, LastPart, EndsBy, SinkFailed, SinksRose, Took}
 use Rattle.ob_shell.specs.Endings.{last_line, SinkStopped}
+use Rattle.ob_shell.specs.Settings.{limit_of, public_by}
 use Rattle.ob_shell.specs.Top.{HasSecret, EndsUntampered, RanSays, EndingSays, EndingWords, Carried, Shown, RanAfter, EndingCause, EndingFlag, StatusCause}
 use Rattle.ob_shell.specs.declared.feed.Halt.{Halt}
 use Rattle.ob_shell.specs.declared.key.FirstLine.TheVariants.{Secret, Last, Bad}
@@ -41,6 +42,7 @@ use Rattle.ob_shell.proofs.CalmLemmas.{step_calm, steps_calm, last_met, first_ca
 use Rattle.ob_shell.proofs.LastingLemmas.{HasSizes, steps_sizes, last_rows, steps_sealed, last_sealed, steps_tell, none_sealed, first_sizes}
 use Rattle.ob_shell.proofs.LieLemmas.{last_deceived, last_keys, steps_keep}
 use Rattle.ob_shell.proofs.ReplayLemmas.{no_lie, step_goes, replayed}
+use Rattle.ob_shell.proofs.RunLemmas.{took_more, took_of, took_whole}
 use Rattle.ob_shell.proofs.StepLemmas.{printed-nil, any_refused-nil}
 use Rattle.ob_shell.proofs.KeyLemmas.{after_line-none}
 
@@ -73,9 +75,15 @@ after_line-more (x ∷ xs) ys h = after_line-step x xs ys (x == 10) refl h (afte
 nothing_over : is_over (rest_of [] []) ≡ false
 nothing_over = rw rest_of-nil
 
-unstarted : {R : Type 0} {state : R → RevState} (secret : Option (List ℕ)) (s : StoreState) (more : List (List ℕ)) (ending : Ending) → EndsUntampered ending
-    → Carried state secret s s 0 [] more [] [] ending
-unstarted secret s more ending untampered = inl (record { store = refl; closed = refl; unserved = refl; unanswered = refl; none = refl; untampered = untampered })
+unstarted : {R : Type 0} {state : R → RevState} (settings : Option Config) (secret : Option (List ℕ)) (s : StoreState) (more : List (List ℕ)) (ending : Ending) → EndsUntampered ending
+    → Carried state settings secret s s 0 [] more [] [] ending
+unstarted settings secret s more ending untampered = inl (record { store = refl; closed = refl; unserved = refl; unanswered = refl; none = refl; untampered = untampered })
+
+took_none : (w : Option (List ℕ)) → Took w w (printed [])
+took_none w = took_whole (rw printed-nil (Appends-nil w))
+
+took_nothing : (w : Option (List ℕ)) → Took w w (printed [] ++ [])
+took_nothing w = took_whole (rw printed-nil (Appends-nil w))
 
 no_bytes : (w : Option (List ℕ)) → Cut w w ⊥ ((printed [] ++ []) ++ [])
 no_bytes w = rw printed-nil (Cut-whole w w ⊥ [] (Appends-nil w))
@@ -84,12 +92,13 @@ no_bytes w = rw printed-nil (Cut-whole w w ⊥ [] (Appends-nil w))
 piece_is : {f0 f1 : Fetch} {l0 l1 : Option (List ℕ)} {xs : List ℕ} (fed : Fed f0 f1 l0 l1 xs) → f0.unread ≡ [] → fed.piece ≡ xs ++ f1.unread
 piece_is {f1 = f1} {xs = xs} fed none = subst (λ (u : List ℕ). u ++ fed.piece ≡ xs ++ f1.unread) none fed.joined
 
-module _ {R : Type 0} (state : R → RevState) (max : ℕ) (f0 f1 : Fetch) (none : f0.unread ≡ []) (start : f0.taken ≡ 0) (top : f0.limit ≡ max) (below : f1.taken ≤ f1.limit) where
-  piece_within : {l0 l1 : Option (List ℕ)} {xs : List ℕ} (fed : Fed f0 f1 l0 l1 xs) → length fed.piece ≤ max
+module _ {R : Type 0} (state : R → RevState) (settings : Option Config) (f0 f1 : Fetch) (none : f0.unread ≡ [])
+    (start : f0.taken ≡ 0) (top : f0.limit ≡ limit_of settings) (below : f1.taken ≤ f1.limit) where
+  piece_within : {l0 l1 : Option (List ℕ)} {xs : List ℕ} (fed : Fed f0 f1 l0 l1 xs) → length fed.piece ≤ limit_of settings
   piece_within fed = omega (arith, fed.taken, fed.limit)
 
   pub shown_source_fault : {l0 l1 : Option (List ℕ)} (w : Option (List ℕ)) (s : StoreState)
-      → KeyRead f0 f1 l0 l1 (Err Halt.SourceFault) → Shown state max l0 l1 w w s s 0 (RanEnding (Err SourceFault)) [] ⊥
+      → KeyRead f0 f1 l0 l1 (Err Halt.SourceFault) → Shown state settings l0 l1 w w s s 0 (RanEnding (Err SourceFault)) [] ⊥
   shown_source_fault w s read =
       let e = piece_is read.fed none in
       let ends = rw (← e) at read.ends in
@@ -105,14 +114,16 @@ module _ {R : Type 0} (state : R → RevState) (max : ℕ) (f0 f1 : Fetch) (none
         texts = rw after (texts_of-nil []);
         answers = [];
         part = [];
-        carried = unstarted _ s [] _ tt;
+        carried = unstarted settings _ s [] _ tt;
         grew = no_bytes w;
+        whole = took_none w;
+        through = λ not. took_nothing w;
         flag = tt;
         says = record { line = inr (ends.0, ends.1); cut = refl; all = record { no_more = refl; no_part = refl }; short = rw after nothing_over };
       }
 
   pub shown_bad_key : {l0 l1 : Option (List ℕ)} (w : Option (List ℕ)) (s : StoreState)
-      → KeyRead f0 f1 l0 l1 (Ok Bad) → Shown state max l0 l1 w w s s 0 BadKey [] ⊥
+      → KeyRead f0 f1 l0 l1 (Ok Bad) → Shown state settings l0 l1 w w s s 0 BadKey [] ⊥
   shown_bad_key w s read =
       let e = piece_is read.fed none in
       let ends = rw (← e) at read.ends in
@@ -127,14 +138,16 @@ module _ {R : Type 0} (state : R → RevState) (max : ℕ) (f0 f1 : Fetch) (none
         texts = refl;
         answers = [];
         part = [];
-        carried = unstarted _ s _ _ tt;
+        carried = unstarted settings _ s _ _ tt;
         grew = no_bytes w;
+        whole = took_none w;
+        through = λ not. took_nothing w;
         flag = tt;
         says = ends;
       }
 
   pub shown_last : {l0 l1 : Option (List ℕ)} (key : List ℕ) (w : Option (List ℕ)) (s : StoreState)
-      → KeyRead f0 f1 l0 l1 (Ok (Last key)) → Shown state max l0 l1 w w s s 0 (RanEnding (Ok false)) [] ⊥
+      → KeyRead f0 f1 l0 l1 (Ok (Last key)) → Shown state settings l0 l1 w w s s 0 (RanEnding (Ok false)) [] ⊥
   shown_last key w s read =
       let e = piece_is read.fed none in
       let ends = rw (← e) at read.ends in
@@ -149,8 +162,10 @@ module _ {R : Type 0} (state : R → RevState) (max : ℕ) (f0 f1 : Fetch) (none
         texts = rw (ends.1, texts_of-nil, rest_of-nil);
         answers = [];
         part = [];
-        carried = unstarted _ s [] _ tt;
+        carried = unstarted settings _ s [] _ tt;
         grew = no_bytes w;
+        whole = took_none w;
+        through = λ not. took_nothing w;
         flag = sym any_refused-nil;
         says = record {
           secret = rw ends.0;
@@ -164,8 +179,9 @@ module _ {R : Type 0} (state : R → RevState) (max : ℕ) (f0 f1 : Fetch) (none
 -- ---- the session after the first line
 
 -- memory was wanting for the engine
-pub ran_nothing : {R : Type 0} {state : R → RevState} (secret : Option (List ℕ)) (f : Fetch) (l w : Option (List ℕ)) (s : StoreState) → RanAfter state secret f f l l w w s s 0 (Err NoMemory)
-ran_nothing secret f l w s = record {
+pub ran_nothing : {R : Type 0} {state : R → RevState} (settings : Option Config) (secret : Option (List ℕ)) (f : Fetch)
+    (l w : Option (List ℕ)) (s : StoreState) → RanAfter state settings secret f f l l w w s s 0 (Err NoMemory)
+ran_nothing settings secret f l w s = record {
   piece = [];
   consumed = Consumes-nil l;
   taken = omega arith;
@@ -177,17 +193,18 @@ ran_nothing secret f l w s = record {
   texts = refl;
   answers = [];
   part = [];
-  carried = unstarted secret s _ _ tt;
+  carried = unstarted settings secret s _ _ tt;
   cut = rw printed-nil (Cut-whole w w ⊥ [] (Appends-nil w));
+  whole = took_none w;
   flag = tt;
   ends = tt;
 }
 
 -- from no tables
-meant_from : {R : Type 0} (state : R → RevState) (first : Engine R) (s0 : StoreState) (middle : Machine R) (served : List (List ℕ)) (answers : List Answer)
-    → public_of first ≡ first_public 64 5 1 None → Steps state (machine_of first s0) middle served answers → IsTrue s0.tells → middle.store.lie ≡ None
+meant_from : {R : Type 0} (state : R → RevState) (config : Config) (first : Engine R) (s0 : StoreState) (middle : Machine R) (served : List (List ℕ)) (answers : List Answer)
+    → public_of first ≡ public_by config → Steps state (machine_of first s0) middle served answers → IsTrue s0.tells → middle.store.lie ≡ None
     → Replayed state (machine_of first s0) middle [] served answers
-meant_from state first s0 middle served answers fresh steps tells honest =
+meant_from state config first s0 middle served answers fresh steps tells honest =
     replayed state served (machine_of first s0) middle [] answers steps tells honest
     (record { held = subst (λ (p : Public). AreHeld p.pack p.tables [] (world_of state first s0)) (sym fresh) tt })
 
@@ -240,14 +257,14 @@ last_meant state m1 m2 (text ∷ more) part (Err stop) (inr (inr done)) tells ca
     let honest = unfit_none (world_of state m2.engine m2.store) (step_calm state m1 m2 text done.answer done.step calm) unfit in
     inr (inr (record { answer = done.answer; replayed = replayed state (text ∷ []) m1 m2 tables (done.answer ∷ []) (one_step state m1 m2 text done.answer done.step) tells honest held; whole = done.whole }))
 
-middle_sizes : {R : Type 0} (state : R → RevState) (first : Engine R) (s0 : StoreState) (middle : Machine R) (served : List (List ℕ)) (answers : List Answer)
-    → public_of first ≡ first_public 64 5 1 None → rows_of first ≡ 64 → Steps state (machine_of first s0) middle served answers → HasSizes middle
-middle_sizes state first s0 middle served answers fresh rows steps = steps_sizes state (machine_of first s0) middle served answers steps (first_sizes (machine_of first s0) fresh rows)
+middle_sizes : {R : Type 0} (state : R → RevState) (config : Config) (first : Engine R) (s0 : StoreState) (middle : Machine R) (served : List (List ℕ)) (answers : List Answer)
+    → public_of first ≡ public_by config → rows_of first ≡ config.buffer → Steps state (machine_of first s0) middle served answers → HasSizes config middle
+middle_sizes state config first s0 middle served answers fresh rows steps = steps_sizes state config (machine_of first s0) middle served answers steps (first_sizes config (machine_of first s0) fresh rows)
 
-pub ran_after : {R : Type 0} {state : R → RevState} {f0 f1 : Fetch} {l0 l1 w0 w1 : Option (List ℕ)} {s0 s1 : StoreState} (key : List ℕ) (first last : Engine R) (high : ℕ) (result : Result Bool Stop)
-    → public_of first ≡ first_public 64 5 1 None → first.vault.keys ≡ keys_of key → rows_of first ≡ 64 → s0.asked ≡ [] → ((q : ℕ) → s0.live q ≡ None) → s0.lie ≡ None → high ≤ rows_of last → SessionRan state f0 f1 l0 l1 w0 w1 (machine_of first s0) (machine_of last s1) result → high ≡ high_of last
-    → RanAfter state (Some key) f0 f1 l0 l1 w0 w1 s0 s1 high result
-ran_after {state = state} {s0 = s0} {s1 = s1} key first last high result fresh keyed rows none empty sound most ran e = record {
+pub ran_after : {R : Type 0} {state : R → RevState} {f0 f1 : Fetch} {l0 l1 w0 w1 : Option (List ℕ)} {s0 s1 : StoreState} (config : Config) (key : List ℕ) (first last : Engine R) (high : ℕ) (result : Result Bool Stop)
+    → public_of first ≡ public_by config → first.vault.keys ≡ keys_of key → rows_of first ≡ config.buffer → s0.asked ≡ [] → ((q : ℕ) → s0.live q ≡ None) → s0.lie ≡ None → high ≤ rows_of last → SessionRan state f0 f1 l0 l1 w0 w1 (machine_of first s0) (machine_of last s1) result → high ≡ high_of last
+    → RanAfter state (Some config) (Some key) f0 f1 l0 l1 w0 w1 s0 s1 high result
+ran_after {state = state} {s0 = s0} {s1 = s1} config key first last high result fresh keyed rows none empty sound most ran e = record {
   piece = ran.piece;
   consumed = ran.consumed;
   taken = ran.taken;
@@ -260,6 +277,8 @@ ran_after {state = state} {s0 = s0} {s1 = s1} key first last high result fresh k
   answers = ran.answers;
   part = ran.part;
   carried = inr (record {
+    config = config;
+    set = refl;
     key = key;
     keyed = refl;
     first = first;
@@ -272,29 +291,30 @@ ran_after {state = state} {s0 = s0} {s1 = s1} key first last high result fresh k
     rest = ran.last;
     later = later_trans _ _ _ (steps_later state (machine_of first s0) ran.middle ran.served ran.answers ran.steps) (last_later state ran.middle (machine_of last s1) ran.more ran.part result ran.last);
     same_keys = last_keys state ran.middle (machine_of last s1) ran.more ran.part result ran.last ∙ steps_keep state (machine_of first s0) ran.middle ran.served ran.answers ran.steps;
-    meant = λ undeceived. meant_from state first s0 ran.middle ran.served ran.answers fresh ran.steps undeceived.tells
+    meant = λ undeceived. meant_from state config first s0 ran.middle ran.served ran.answers fresh ran.steps undeceived.tells
         (last_deceived state ran.middle (machine_of last s1) ran.more ran.part result ran.last
         (steps_calm state (machine_of first s0) ran.middle ran.served ran.answers ran.steps (first_calm state first s0 sound)) undeceived.unfit);
     part_meant = λ undeceived.
         let calm = steps_calm state (machine_of first s0) ran.middle ran.served ran.answers ran.steps (first_calm state first s0 sound) in
-        let before = meant_from state first s0 ran.middle ran.served ran.answers fresh ran.steps undeceived.tells
+        let before = meant_from state config first s0 ran.middle ran.served ran.answers fresh ran.steps undeceived.tells
         (last_deceived state ran.middle (machine_of last s1) ran.more ran.part result ran.last calm undeceived.unfit) in
         last_meant state ran.middle (machine_of last s1) ran.more ran.part result ran.last
         (steps_tell state (machine_of first s0) ran.middle ran.served ran.answers ran.steps undeceived.tells) calm (record { unfit = undeceived.unfit }) before.left before.held;
-    sealed = λ tells good accepts. last_sealed state good accepts ran.middle (machine_of last s1) ran.more ran.part result ran.last (middle_sizes state first s0 ran.middle ran.served ran.answers fresh rows ran.steps)
+    sealed = λ tells good accepts. last_sealed state config good accepts ran.middle (machine_of last s1) ran.more ran.part result ran.last (middle_sizes state config first s0 ran.middle ran.served ran.answers fresh rows ran.steps)
         (steps_tell state (machine_of first s0) ran.middle ran.served ran.answers ran.steps tells)
-        (steps_sealed state good accepts (machine_of first s0) ran.middle ran.served ran.answers ran.steps (first_sizes (machine_of first s0) fresh rows) tells (none_sealed state good first s0 empty));
+        (steps_sealed state config good accepts (machine_of first s0) ran.middle ran.served ran.answers ran.steps (first_sizes config (machine_of first s0) fresh rows) tells (none_sealed state good first s0 empty));
     untampered = λ honest. last_untampered state ran.middle (machine_of last s1) ran.more ran.part result ran.last
         (steps_tell state (machine_of first s0) ran.middle ran.served ran.answers ran.steps honest.tells) honest.no_lie (machine_of first s0) ran.served ran.answers
-        (meant_from state first s0 ran.middle ran.served ran.answers fresh ran.steps honest.tells (last_honest state ran.middle (machine_of last s1) ran.more ran.part result ran.last honest.no_lie));
+        (meant_from state config first s0 ran.middle ran.served ran.answers fresh ran.steps honest.tells (last_honest state ran.middle (machine_of last s1) ran.more ran.part result ran.last honest.no_lie));
     changed = last_met state ran.middle (machine_of last s1) ran.more ran.part result ran.last
         (steps_calm state (machine_of first s0) ran.middle ran.served ran.answers ran.steps (first_calm state first s0 sound));
     failed = session_fails state (machine_of first s0) ran.middle (machine_of last s1) ran.served ran.more ran.answers ran.part result ran.steps ran.last;
     rows_open = e;
-    rows_few = subst (λ (n : ℕ). high ≤ n) (last_rows state ran.middle (machine_of last s1) ran.more ran.part result ran.last (middle_sizes state first s0 ran.middle ran.served ran.answers fresh rows ran.steps)) most;
+    rows_few = subst (λ (n : ℕ). high ≤ n) (last_rows state config ran.middle (machine_of last s1) ran.more ran.part result ran.last (middle_sizes state config first s0 ran.middle ran.served ran.answers fresh rows ran.steps)) most;
     rows_used = subst (λ (n : ℕ). IsUsed s1.asked n) (sym e) (session_opens state (machine_of first s0) ran.middle (machine_of last s1) ran.served ran.more ran.answers ran.part result none ran.steps ran.last);
   });
   cut = ran.cut;
+  whole = ran.whole;
   flag = ran.flag;
   ends = ran.ends;
 }
@@ -325,11 +345,11 @@ says_of (Err InputLimit) f max taken ended more part h n top e = record {
   limit = elim e.3 [ inl over ↦ inl over | inr full ↦ inr (n ∙ full ∙ top) ];
 }
 
-pub shown_ran : {R : Type 0} {state : R → RevState} (max : ℕ) {f0 f1 f2 : Fetch} {l0 l1 l2 w0 w2 : Option (List ℕ)} {s0 s2 : StoreState} {high : ℕ} (key : List ℕ) (result : Result Bool Stop)
-    → f0.unread ≡ [] → f0.taken ≡ 0 → f0.limit ≡ max → f2.taken ≤ f2.limit
-    → KeyRead f0 f1 l0 l1 (Ok (Secret key)) → RanAfter state (Some key) f1 f2 l1 l2 w0 w2 s0 s2 high result
-    → Shown state max l0 l2 w0 w2 s0 s2 high (RanEnding result) [] (SinkFailed result)
-shown_ran max {f1 = f1} {f2 = f2} {l2 = l2} {w0 = w0} {w2 = w2} {s0 = s0} {s2 = s2} {high = high} key result none start top below read ran =
+pub shown_ran : {R : Type 0} {state : R → RevState} (settings : Option Config) {f0 f1 f2 : Fetch} {l0 l1 l2 w0 w2 : Option (List ℕ)} {s0 s2 : StoreState} {high : ℕ} (key : List ℕ) (result : Result Bool Stop)
+    → f0.unread ≡ [] → f0.taken ≡ 0 → f0.limit ≡ limit_of settings → f2.taken ≤ f2.limit
+    → KeyRead f0 f1 l0 l1 (Ok (Secret key)) → RanAfter state settings (Some key) f1 f2 l1 l2 w0 w2 s0 s2 high result
+    → Shown state settings l0 l2 w0 w2 s0 s2 high (RanEnding result) [] (SinkFailed result)
+shown_ran settings {f1 = f1} {f2 = f2} {l2 = l2} {w0 = w0} {w2 = w2} {s0 = s0} {s2 = s2} {high = high} key result none start top below read ran =
     let e = piece_is read.fed none in
     let ends = rw (← e) at read.ends in
     let after : after_line (read.fed.piece ++ ran.piece) ≡ f1.unread ++ ran.piece =
@@ -339,7 +359,7 @@ shown_ran max {f1 = f1} {f2 = f2} {l2 = l2} {w0 = w0} {w2 = w2} {s0 = s0} {s2 = 
     let secret : HasSecret (read.fed.piece ++ ran.piece) = rw line in
     let count : length (read.fed.piece ++ ran.piece) ≡ f2.taken =
     omega (arith, length-append read.fed.piece ran.piece, read.fed.taken, ran.taken) in
-    let limit : f2.limit ≡ max = ran.limit ∙ read.fed.limit ∙ top in
+    let limit : f2.limit ≡ limit_of settings = ran.limit ∙ read.fed.limit ∙ top in
     record {
       taken = read.fed.piece ++ ran.piece;
       given = Consumes-trans _ _ _ _ _ read.fed.consumed ran.consumed;
@@ -353,18 +373,20 @@ shown_ran max {f1 = f1} {f2 = f2} {l2 = l2} {w0 = w0} {w2 = w2} {s0 = s0} {s2 = 
       part = ran.part;
       carried = rw line ran.carried;
       grew = subst (λ (l : List ℕ). Cut w0 w2 (SinkFailed result) l) (sym (append-nil (printed ran.answers ++ ran.part))) ran.cut;
+      whole = ran.whole;
+      through = λ not. took_of ran.cut not;
       flag = ran.flag;
       says =
-          says_of result f2 max _ ran.ended ran.more ran.part secret count limit
+          says_of result f2 (limit_of settings) _ ran.ended ran.more ran.part secret count limit
           (subst (λ (l : List ℕ). EndsBy f2 ran.ended l ran.more ran.part result) (sym after) ran.ends);
     }
 
 -- ---- before the input is read
 
 -- nothing was read
-pub shown_unread : {R : Type 0} {state : R → RevState} (max : ℕ) (l w : Option (List ℕ)) (s : StoreState) (ending : Ending) → EndsUntampered ending → EndingFlag ending []
-    → EndingSays ending max [] l false (texts_of [] (after_line [])) [] → Shown state max l l w w s s 0 ending [] ⊥
-shown_unread max l w s ending untampered flag says = record {
+pub shown_unread : {R : Type 0} {state : R → RevState} (settings : Option Config) (l w : Option (List ℕ)) (s : StoreState) (ending : Ending) → EndsUntampered ending → EndingFlag ending []
+    → EndingSays ending (limit_of settings) [] l false (texts_of [] (after_line [])) [] → Shown state settings l l w w s s 0 ending [] ⊥
+shown_unread settings l w s ending untampered flag says = record {
   taken = [];
   given = Consumes-nil l;
   within = omega arith;
@@ -375,8 +397,10 @@ shown_unread max l w s ending untampered flag says = record {
   texts = refl;
   answers = [];
   part = [];
-  carried = unstarted _ s _ _ untampered;
+  carried = unstarted settings _ s _ _ untampered;
   grew = no_bytes w;
+  whole = took_none w;
+  through = λ not. took_nothing w;
   flag = flag;
   says = says;
 }
@@ -468,10 +492,10 @@ pub quiet_line : {w0 w1 : Option (List ℕ)} {F G : Type 0} (bytes line : List �
 quiet_line {w0 = w0} {w1 = w1} {F = F} bytes line c g =
     Cut-more line (Cut-fault g (subst (λ (l : List ℕ). Cut w0 w1 F l) (append-nil bytes) c)) g
 
-pub shown_line : {R : Type 0} {state : R → RevState} {max : ℕ} {l0 l1 w0 w1 w2 : Option (List ℕ)} {s0 s1 : StoreState} {high : ℕ} {ending : Ending} {line line' : List ℕ} {F H : Type 0}
-    → (shown : Shown state max l0 l1 w0 w1 s0 s1 high ending line F) → Cut w0 w2 H ((printed shown.answers ++ shown.part) ++ line')
-    → Shown state max l0 l1 w0 w2 s0 s1 high ending line' H
-shown_line shown cut = record {
+pub shown_line : {R : Type 0} {state : R → RevState} {settings : Option Config} {l0 l1 w0 w1 w2 : Option (List ℕ)} {s0 s1 : StoreState} {high : ℕ} {ending : Ending} {line line' : List ℕ} {F H : Type 0}
+    (more : List ℕ) → (shown : Shown state settings l0 l1 w0 w1 s0 s1 high ending line F) → Appends w1 w2 more → Cut w0 w2 H ((printed shown.answers ++ shown.part) ++ line')
+    → Shown state settings l0 l1 w0 w2 s0 s1 high ending line' H
+shown_line more shown after cut = record {
   taken = shown.taken;
   given = shown.given;
   within = shown.within;
@@ -484,6 +508,8 @@ shown_line shown cut = record {
   part = shown.part;
   carried = shown.carried;
   grew = cut;
+  whole = took_more more shown.whole after;
+  through = λ not. took_more more (shown.through not) after;
   flag = shown.flag;
   says = shown.says;
 }

@@ -3,6 +3,7 @@ use Rattle.std.specs.Prelude.{ℕ, ◌≡◌, ◌≤◌, List, [], Option}
 use Rattle.ob_base.specs.Counts.{Rises}
 use Rattle.ob_base.specs.declared.refusal.Stop.TheVariants.{NoMemory}
 use Rattle.ob_print.specs.Cuts.{Cut}
+use Rattle.ob_store.specs.State.{StoreState}
 use Rattle.ob_shell.specs.declared.top.Ending.{Ending}
 use Rattle.ob_shell.specs.declared.top.Ending.TheVariants.{Usage, Ran}
 use Rattle.ob_shell.specs.declared.words.WordsErr.{WordsErr}
@@ -19,6 +20,11 @@ pub record LineWritten (line : List ℕ) (written0 written1 : Option (List ℕ))
   pub cut : Cut written0 written1 (Rises faults0 faults1) line
   pub later : faults0 ≤ faults1
   pub empty : line ≡ [] → faults1 ≡ faults0
+
+-- nothing was read, and nothing asked of the store
+pub record Untouched (left0 left1 : Option (List ℕ)) (store0 store1 : StoreState) : Type 0 where
+  pub unread : left1 ≡ left0
+  pub unasked : store1 ≡ store0
 
 -- how a run ends whose words were not read
 abbrev pub refused_by : WordsErr → Ending

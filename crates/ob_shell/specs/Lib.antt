@@ -9,6 +9,7 @@ pub mod Texts
 pub mod Top
 pub mod Tracing
 pub mod Usage
+pub mod Settings
 pub mod IsPending
 pub mod Replayed
 pub mod Asking
@@ -17,3 +18,4 @@ pub mod Pieces
 pub mod Closed
 pub mod Meddling
 pub mod Disturbed
+pub mod Whole

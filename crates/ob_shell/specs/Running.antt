@@ -17,6 +17,10 @@ pub record Faults : Type 0 where
   pub out : ℕ
   pub trace : ℕ
 
+-- these counts
+abbrev pub faults_of : (source out trace : ℕ) → Faults
+faults_of source out trace = record { source = source; out = out; trace = trace }
+
 -- the stop, whether or not its line may still be written
 abbrev pub stop_of : {T : Type 0} → Result T Halted → Result T Stop
 stop_of (Ok x) = Ok x
@@ -44,14 +48,18 @@ pub record NoneRose (old new : Faults) : Type 0 where
 -- when each stop comes: only where that count rose; the trace's may have risen after it
 abbrev pub StopCause : {T : Type 0} (old new : Faults) → Result T Stop → Type 0
 StopCause old new (Ok x) = NoneRose old new
-StopCause old new (Err (Tampered region place)) = (new.source ≡ old.source) × (new.out ≡ old.out) × (old.trace ≤ new.trace)
+StopCause old new (Err (Tampered region place)) = (new.source ≡ old.source) × (new.out ≡ old.out)
+    × (old.trace ≤ new.trace)
 StopCause old new (Err SinkFault) = (new.source ≡ old.source) × SinksRose old new
-StopCause old new (Err NoMemory) = (new.source ≡ old.source) × (new.out ≡ old.out) × (old.trace ≤ new.trace)
-StopCause old new (Err SourceFault) = Rises old.source new.source × (new.out ≡ old.out) × (new.trace ≡ old.trace)
+StopCause old new (Err NoMemory) = (new.source ≡ old.source) × (new.out ≡ old.out)
+    × (old.trace ≤ new.trace)
+StopCause old new (Err SourceFault) = Rises old.source new.source × (new.out ≡ old.out)
+    × (new.trace ≡ old.trace)
 StopCause old new (Err InputLimit) = NoneRose old new
 
 -- what was done while no stop came
-pub record SoFar {R : Type 0} (state : R → RevState) (feed0 feed1 : Fetch) (left0 left1 written0 written1 : Option (List ℕ)) (pending : List ℕ) (refused : Bool)
+pub record SoFar {R : Type 0} (state : R → RevState) (feed0 feed1 : Fetch)
+    (left0 left1 written0 written1 : Option (List ℕ)) (pending : List ℕ) (refused : Bool)
     (m0 m1 : Machine R) : Type 0 where
   pub passed : List ℕ
   pub answers : List Answer
@@ -62,19 +70,23 @@ pub record SoFar {R : Type 0} (state : R → RevState) (feed0 feed1 : Fetch) (le
   pub flag : refused ≡ any_refused answers
 
 -- by how the session ended: how far the texts were served, and where the limits stood
-abbrev pub EndsBy : (feed1 : Fetch) (ended : Bool) (bytes : List ℕ) (more : List (List ℕ)) (part : List ℕ) → Result Bool Stop → Type 0
+abbrev pub EndsBy : (feed1 : Fetch) (ended : Bool) (bytes : List ℕ) (more : List (List ℕ))
+    (part : List ℕ) → Result Bool Stop → Type 0
 EndsBy feed1 ended bytes more part (Ok refused) =
-    (ended ≡ true) × (more ≡ []) × (part ≡ []) × (is_over (rest_of [] bytes) ≡ false) × (feed1.taken < feed1.limit)
+    (ended ≡ true) × (more ≡ []) × (part ≡ []) × (is_over (rest_of [] bytes) ≡ false)
+    × (feed1.taken < feed1.limit)
 EndsBy feed1 ended bytes more part (Err SourceFault) =
     (ended ≡ false) × (more ≡ []) × (part ≡ []) × (is_over (rest_of [] bytes) ≡ false)
 EndsBy feed1 ended bytes more part (Err InputLimit) =
-    (ended ≡ false) × (more ≡ []) × (part ≡ []) × ((is_over (rest_of [] bytes) ≡ true) ⊎ (feed1.taken ≡ feed1.limit))
+    (ended ≡ false) × (more ≡ []) × (part ≡ [])
+    × ((is_over (rest_of [] bytes) ≡ true) ⊎ (feed1.taken ≡ feed1.limit))
 EndsBy feed1 ended bytes more part (Err (Tampered region place)) = Unit {0}
 EndsBy feed1 ended bytes more part (Err SinkFault) = Unit {0}
 EndsBy feed1 ended bytes more part (Err NoMemory) = Unit {0}
 
 -- what was done after the last text that was served whole
-abbrev pub LastPart : {R : Type 0} → (R → RevState) → Machine R → Machine R → List (List ℕ) → List ℕ → Result Bool Stop → Type 0
+abbrev pub LastPart : {R : Type 0} → (R → RevState) → Machine R → Machine R → List (List ℕ) → List ℕ
+    → Result Bool Stop → Type 0
 LastPart state m1 m2 more part (Ok refused) = IsUndone m1 m2 part
 LastPart state m1 m2 more part (Err stop) = PartlyAt state m1 m2 more stop part
 
@@ -83,8 +95,15 @@ abbrev pub FlagIs : List Answer → Result Bool Stop → Type 0
 FlagIs answers (Ok refused) = refused ≡ any_refused answers
 FlagIs answers (Err stop) = Unit {0}
 
--- what a session did
-pub record SessionRan {R : Type 0} (state : R → RevState) (feed0 feed1 : Fetch) (left0 left1 written0 written1 : Option (List ℕ))
+-- a sink took all of these bytes, and maybe more after them
+pub record Took (written0 written1 : Option (List ℕ)) (bytes : List ℕ) : Type 0 where
+  pub after : List ℕ
+  pub appends : Appends written0 written1 (bytes ++ after)
+
+-- what a session did: the sink took the answers of all texts that were served, and of the last part all or, where it
+-- failed, a first part
+pub record SessionRan {R : Type 0} (state : R → RevState) (feed0 feed1 : Fetch)
+    (left0 left1 written0 written1 : Option (List ℕ))
     (m0 m2 : Machine R) (result : Result Bool Stop) : Type 0 where
   pub piece : List ℕ
   pub consumed : Consumes left0 left1 piece
@@ -101,5 +120,6 @@ pub record SessionRan {R : Type 0} (state : R → RevState) (feed0 feed1 : Fetch
   pub part : List ℕ
   pub last : LastPart state middle m2 more part result
   pub cut : Cut written0 written1 (SinkFailed result) (printed answers ++ part)
+  pub whole : Took written0 written1 (printed answers)
   pub flag : FlagIs answers result
   pub ends : EndsBy feed1 ended (feed0.unread ++ piece) more part result

@@ -3,13 +3,13 @@ use Rattle.std.specs.Prelude.{ℕ, ◌≡◌, ◌+◌, ◌<◌, ◌≤◌, ◌�
 use Rattle.std.specs.List.{list_any}
 use Rattle.std.specs.Io.KnownBytes.{Consumes, IsAtEnd}
 use Rattle.ob_base.specs.Counts.{Rises}
+use Rattle.ob_base.specs.declared.config.Config.{Config}
 use Rattle.ob_base.specs.declared.refusal.Stop.{Stop}
 use Rattle.ob_base.specs.declared.refusal.Stop.TheVariants.{Tampered, SourceFault, SinkFault, NoMemory, InputLimit}
 use Rattle.ob_exec.specs.Agreeing.{public_of, high_of, world_of}
 use Rattle.ob_exec.specs.declared.engine.Engine.{Engine}
 use Rattle.ob_exec.specs.Opening.{is_of_rows}
 use Rattle.ob_exec.specs.Telling.{AcceptsRows}
-use Rattle.ob_base.specs.Publics.{first_public}
 use Rattle.ob_print.specs.Cuts.{Cut}
 use Rattle.ob_seal.specs.KeySet.{KeySet}
 use Rattle.ob_seal.specs.Sealed.{keys_of}
@@ -24,14 +24,16 @@ use Rattle.ob_shell.specs.Feeding.{Fetch}
 use Rattle.ob_shell.specs.Replayed.{PartMeant, Replayed}
 use Rattle.ob_shell.specs.KeyLine.{line_max, has_lf, first_line, after_line, secret_of, LineTaken}
 use Rattle.ob_shell.specs.Steps.{Machine, machine_of, Answer, Steps, IsUndone, IsUntampered, printed}
-use Rattle.ob_shell.specs.Running.{Faults, SinksRose, NoneRose, LastPart, FlagIs, EndsBy, SinkFailed, StopCause}
-use Rattle.ob_shell.specs.Endings.{status_of, last_line}
+use Rattle.ob_shell.specs.Running.{Faults, SinksRose, NoneRose, LastPart, FlagIs, EndsBy, SinkFailed, StopCause, Took}
+use Rattle.ob_shell.specs.Endings.{SinkStopped, status_of, last_line}
+use Rattle.ob_shell.specs.Settings.{limit_of, public_by}
 use Rattle.ob_shell.specs.declared.top.Ending.{Ending}
 use Rattle.ob_shell.specs.declared.top.Ending.TheVariants.{Usage, BadKey, Ran}
 use Rattle.ob_shell.specs.declared.top.Report.{Report}
 
 -- what the last part did, by the ending
-abbrev pub EndingPart : {R : Type 0} → (R → RevState) → Machine R → Machine R → List (List ℕ) → List ℕ → Ending → Type 0
+abbrev pub EndingPart : {R : Type 0} → (R → RevState) → Machine R → Machine R → List (List ℕ)
+    → List ℕ → Ending → Type 0
 EndingPart state m1 m2 more part Usage = IsUndone m1 m2 part
 EndingPart state m1 m2 more part BadKey = IsUndone m1 m2 part
 EndingPart state m1 m2 more part (Ran ran) = LastPart state m1 m2 more part ran
@@ -54,7 +56,8 @@ pub record IsUndeceived (keys : KeySet) (store0 store1 : StoreState) : Type 0 wh
   pub unfit : (lie : Lie) → store1.lie ≡ Some lie → ¬ Fits keys from_nothing lie
 
 -- no engine was started
-pub record Unstarted (store0 store1 : StoreState) (high : ℕ) (served : List (List ℕ)) (answers : List Answer) (part : List ℕ) (ending : Ending) : Type 0 where
+pub record Unstarted (store0 store1 : StoreState) (high : ℕ) (served : List (List ℕ))
+    (answers : List Answer) (part : List ℕ) (ending : Ending) : Type 0 where
   pub store : store1 ≡ store0
   pub closed : high ≡ 0
   pub unserved : served ≡ []
@@ -73,17 +76,21 @@ MeetsChange (Ran (Err SinkFault)) w = Calm w
 MeetsChange (Ran (Err NoMemory)) w = Calm w
 MeetsChange (Ran (Err InputLimit)) w = Calm w
 
--- an engine was started with this secret, without tables, and served these texts. Whatever the store answers, their accesses
--- are the trace of the statements that they spell and of what is seen of each, which is lawful. Where the store tells what it holds,
--- their answers and accesses are those of the meaning, from no tables, unless a changed block was read whose tag fits. Where it
--- tells, each block of a live region is sealed, of one row or dummy, under the position of a write to its place, after a stop too.
--- At most 64 rows were open at once, and at least one where a block was read or written.
-pub record Started {R : Type 0} (state : R → RevState) (secret : Option (List ℕ)) (store0 store1 : StoreState) (high : ℕ) (served more : List (List ℕ)) (answers : List Answer)
-    (part : List ℕ) (ending : Ending) : Type 0 where
+-- an engine was started with these settings and this secret, without tables, and served these texts. Whatever the
+-- store answers, their accesses are the trace of the statements that they spell and of what is seen of each, which is
+-- lawful. Where the store tells what it holds, their answers and accesses are those of the meaning, from no tables,
+-- unless a changed block was read whose tag fits. Where it tells, each block of a live region is sealed, of as many
+-- rows as the settings say or dummies, under the position of a write to its place, after a stop too. At most as many
+-- rows were open at once as the settings say, and at least one where a block was read or written.
+pub record Started {R : Type 0} (state : R → RevState) (settings : Option Config)
+    (secret : Option (List ℕ)) (store0 store1 : StoreState) (high : ℕ) (served more : List (List ℕ))
+    (answers : List Answer) (part : List ℕ) (ending : Ending) : Type 0 where
+  pub config : Config
+  pub set : settings ≡ Some config
   pub key : List ℕ
   pub keyed : secret ≡ Some key
   pub first : Engine R
-  pub fresh : public_of first ≡ first_public 64 5 1 None
+  pub fresh : public_of first ≡ public_by config
   pub sealed_with : first.vault.keys ≡ keys_of key
   pub middle : Machine R
   pub last : Engine R
@@ -92,24 +99,31 @@ pub record Started {R : Type 0} (state : R → RevState) (secret : Option (List 
   pub rest : EndingPart state middle (machine_of last store1) more part ending
   pub later : Later store0 store1
   pub same_keys : last.vault.keys ≡ first.vault.keys
-  pub meant : IsUndeceived last.vault.keys store0 store1 → Replayed state (machine_of first store0) middle [] served answers
-  pub part_meant : (undeceived : IsUndeceived last.vault.keys store0 store1) → PartMeant state middle (machine_of last store1) (meant undeceived).left more part
-  pub sealed : IsTrue store0.tells → (good : ℕ → List ℕ → Bool) → AcceptsRows good 1 → AllSealed good (world_of state last store1)
+  pub meant : IsUndeceived last.vault.keys store0 store1
+      → Replayed state (machine_of first store0) middle [] served answers
+  pub part_meant : (undeceived : IsUndeceived last.vault.keys store0 store1)
+      → PartMeant state middle (machine_of last store1) (meant undeceived).left more part
+  pub sealed : IsTrue store0.tells → (good : ℕ → List ℕ → Bool) → AcceptsRows good config.pack
+      → AllSealed good (world_of state last store1)
   pub untampered : IsHonest store0 store1 → EndsUntampered ending
   pub changed : MeetsChange ending (world_of state last store1)
   pub failed : RisesBy (failures answers) store0.faults store1.faults
   pub rows_open : high ≡ high_of last
-  pub rows_few : high ≤ 64
+  pub rows_few : high ≤ config.buffer
   pub rows_used : IsTrue (list_any is_of_rows store1.asked) → 1 ≤ high
 
 -- what the texts did to an engine and the store
-abbrev pub Carried : {R : Type 0} (state : R → RevState) (secret : Option (List ℕ)) (store0 store1 : StoreState) (high : ℕ) (served more : List (List ℕ)) (answers : List Answer)
-    (part : List ℕ) → Ending → Type 0
-Carried state secret store0 store1 high served more answers part ending =
-    Unstarted store0 store1 high served answers part ending ⊎ Started state secret store0 store1 high served more answers part ending
+abbrev pub Carried : {R : Type 0} (state : R → RevState) (settings : Option Config)
+    (secret : Option (List ℕ)) (store0 store1 : StoreState) (high : ℕ) (served more : List (List ℕ))
+    (answers : List Answer) (part : List ℕ) → Ending → Type 0
+Carried state settings secret store0 store1 high served more answers part ending =
+    Unstarted store0 store1 high served answers part ending
+    ⊎ Started state settings secret store0 store1 high served more answers part ending
 
--- what was done after the first line, which was this secret
-pub record RanAfter {R : Type 0} (state : R → RevState) (secret : Option (List ℕ)) (feed0 feed1 : Fetch) (left0 left1 written0 written1 : Option (List ℕ))
+-- what was done with these settings after the first line, which was this secret
+pub record RanAfter {R : Type 0} (state : R → RevState) (settings : Option Config)
+    (secret : Option (List ℕ)) (feed0 feed1 : Fetch)
+    (left0 left1 written0 written1 : Option (List ℕ))
     (store0 store1 : StoreState) (high : ℕ) (result : Result Bool Stop) : Type 0 where
   pub piece : List ℕ
   pub consumed : Consumes left0 left1 piece
@@ -122,8 +136,10 @@ pub record RanAfter {R : Type 0} (state : R → RevState) (secret : Option (List
   pub texts : texts_in ended (feed0.unread ++ piece) ≡ served ++ more
   pub answers : List Answer
   pub part : List ℕ
-  pub carried : Carried state secret store0 store1 high served more answers part (Ran result)
+  pub carried : Carried state settings secret store0 store1 high served more answers part
+      (Ran result)
   pub cut : Cut written0 written1 (SinkFailed result) (printed answers ++ part)
+  pub whole : Took written0 written1 (printed answers)
   pub flag : FlagIs answers result
   pub ends : EndsBy feed1 ended (feed0.unread ++ piece) more part result
 
@@ -137,7 +153,8 @@ pub record AllServed (more : List (List ℕ)) (part : List ℕ) : Type 0 where
   pub no_part : part ≡ []
 
 -- the input was read to its end, within its limits, and all of it was served
-pub record ReadWhole (max : ℕ) (taken : List ℕ) (ended : Bool) (more : List (List ℕ)) (part : List ℕ) : Type 0 where
+pub record ReadWhole (max : ℕ) (taken : List ℕ) (ended : Bool) (more : List (List ℕ))
+    (part : List ℕ) : Type 0 where
   pub secret : HasSecret taken
   pub whole : ended ≡ true
   pub all : AllServed more part
@@ -145,21 +162,24 @@ pub record ReadWhole (max : ℕ) (taken : List ℕ) (ended : Bool) (more : List 
   pub within : length taken < max
 
 -- the source failed after these bytes, and all of them was served
-pub record ReadUntilFault (taken : List ℕ) (ended : Bool) (more : List (List ℕ)) (part : List ℕ) : Type 0 where
+pub record ReadUntilFault (taken : List ℕ) (ended : Bool) (more : List (List ℕ))
+    (part : List ℕ) : Type 0 where
   pub line : HasSecret taken ⊎ ((has_lf taken ≡ false) × (length taken < line_max))
   pub cut : ended ≡ false
   pub all : AllServed more part
   pub short : is_over (rest_of [] (after_line taken)) ≡ false
 
 -- a text, or the whole input, has come to its limit, and all that was taken was served
-pub record ReadToLimit (max : ℕ) (taken : List ℕ) (ended : Bool) (more : List (List ℕ)) (part : List ℕ) : Type 0 where
+pub record ReadToLimit (max : ℕ) (taken : List ℕ) (ended : Bool) (more : List (List ℕ))
+    (part : List ℕ) : Type 0 where
   pub secret : HasSecret taken
   pub cut : ended ≡ false
   pub all : AllServed more part
   pub limit : (is_over (rest_of [] (after_line taken)) ≡ true) ⊎ (length taken ≡ max)
 
 -- what the answer of a session says of the bytes taken
-abbrev pub RanSays : Result Bool Stop → (max : ℕ) (taken : List ℕ) (ended : Bool) (more : List (List ℕ)) (part : List ℕ) → Type 0
+abbrev pub RanSays : Result Bool Stop → (max : ℕ) (taken : List ℕ) (ended : Bool)
+    (more : List (List ℕ)) (part : List ℕ) → Type 0
 RanSays (Ok refused) max taken ended more part = ReadWhole max taken ended more part
 RanSays (Err (Tampered region place)) max taken ended more part = HasSecret taken
 RanSays (Err SourceFault) max taken ended more part = ReadUntilFault taken ended more part
@@ -168,9 +188,11 @@ RanSays (Err NoMemory) max taken ended more part = Unit {0}
 RanSays (Err InputLimit) max taken ended more part = ReadToLimit max taken ended more part
 
 -- what each ending says of the bytes taken, where the words were taken
-abbrev pub EndingSays : Ending → (max : ℕ) (taken : List ℕ) (left1 : Option (List ℕ)) (ended : Bool) (more : List (List ℕ)) (part : List ℕ) → Type 0
+abbrev pub EndingSays : Ending → (max : ℕ) (taken : List ℕ) (left1 : Option (List ℕ)) (ended : Bool)
+    (more : List (List ℕ)) (part : List ℕ) → Type 0
 EndingSays Usage max taken left1 ended more part = taken ≡ []
-EndingSays BadKey max taken left1 ended more part = (secret_of (first_line taken) ≡ None) × LineTaken taken left1
+EndingSays BadKey max taken left1 ended more part = (secret_of (first_line taken) ≡ None)
+    × LineTaken taken left1
 EndingSays (Ran ran) max taken left1 ended more part = RanSays ran max taken ended more part
 
 -- the words are none that the program takes exactly where it says so, if memory suffices
@@ -211,11 +233,12 @@ StatusCause (Ran (Err NoMemory)) old new = new.source ≡ old.source
 StatusCause (Ran (Err InputLimit)) old new = new.source ≡ old.source
 
 -- what was taken, what of it was served, and what the sink took of the answers and the last line
-pub record Shown {R : Type 0} (state : R → RevState) (max : ℕ) (left0 left1 written0 written1 : Option (List ℕ)) (store0 store1 : StoreState) (high : ℕ)
+pub record Shown {R : Type 0} (state : R → RevState) (settings : Option Config)
+    (left0 left1 written0 written1 : Option (List ℕ)) (store0 store1 : StoreState) (high : ℕ)
     (ending : Ending) (line : List ℕ) (Fault : Type 0) : Type 0 where
   pub taken : List ℕ
   pub given : Consumes left0 left1 taken
-  pub within : length taken ≤ max
+  pub within : length taken ≤ limit_of settings
   pub ended : Bool
   pub at_end : ended ≡ true → IsAtEnd left1
   pub served : List (List ℕ)
@@ -223,10 +246,15 @@ pub record Shown {R : Type 0} (state : R → RevState) (max : ℕ) (left0 left1 
   pub texts : texts_in ended (after_line taken) ≡ served ++ more
   pub answers : List Answer
   pub part : List ℕ
-  pub carried : Carried state (secret_of (first_line taken)) store0 store1 high served more answers part ending
+  pub carried : Carried state settings (secret_of (first_line taken)) store0 store1 high served more
+      answers part ending
   pub grew : Cut written0 written1 Fault ((printed answers ++ part) ++ line)
+  -- a sink's fault ends the run: all answers were taken whole, and so was what was printed of the one that was begun,
+  -- unless the run ended there
+  pub whole : Took written0 written1 (printed answers)
+  pub through : ¬ SinkStopped ending → Took written0 written1 (printed answers ++ part)
   pub flag : EndingFlag ending answers
-  pub says : EndingSays ending max taken left1 ended more part
+  pub says : EndingSays ending (limit_of settings) taken left1 ended more part
 
 -- an input that keeps to the limits: its first line is a secret, and neither it nor a text of it is too long
 pub record KeepsLimits (max : ℕ) (input : List ℕ) : Type 0 where
@@ -245,13 +273,17 @@ IsCompleted honest (Ran (Err SinkFault)) = ⊥
 IsCompleted honest (Ran (Err NoMemory)) = Unit {0}
 IsCompleted honest (Ran (Err InputLimit)) = ⊥
 
--- the whole run, of words that the program takes or doesn't
-pub record Reported {R : Type 0} (state : R → RevState) (Takes : Type 0) (max : ℕ) (left0 left1 written0 written1 : Option (List ℕ)) (store0 store1 : StoreState)
+-- the whole run, of words that the program takes, with the settings that they spell, or doesn't
+pub record Reported {R : Type 0} (state : R → RevState) (Takes : Type 0) (settings : Option Config)
+    (left0 left1 written0 written1 : Option (List ℕ)) (store0 store1 : StoreState)
     (old new : Faults) (report : Report) : Type 0 where
   pub ending : Ending
   pub status : report.status ≡ status_of ending
   pub takes : EndingWords ending Takes
-  pub shown : Shown state max left0 left1 written0 written1 store0 store1 report.high ending (last_line ending) (SinksRose old new)
+  pub shown : Shown state settings left0 left1 written0 written1 store0 store1 report.high ending
+      (last_line ending) (SinksRose old new)
   pub cause : StatusCause ending old new
-  pub completes : Takes → (input : List ℕ) → left0 ≡ Some input → KeepsLimits max input
-      → ¬ Rises old.source new.source → ¬ SinksRose old new → IsCompleted (IsHonest store0 store1) ending
+  pub completes : Takes → (input : List ℕ) → left0 ≡ Some input
+      → KeepsLimits (limit_of settings) input
+      → ¬ Rises old.source new.source → ¬ SinksRose old new
+      → IsCompleted (IsHonest store0 store1) ending

@@ -1,5 +1,9 @@
 //! What follows of texts that were served one after the other.
-ghost use Rattle.std.specs.Prelude.{◌≡◌, ◌≤◌, ◌++◌, List, [], ℕ, Bool, IsTrue, None, Result, false, length};
+ghost use Rattle.std.specs.Prelude.{◌≡◌, ◌≤◌, ◌++◌, List, [], ℕ, Bool, IsTrue, Option, Some, None, Result};
+ghost use Rattle.std.specs.Prelude.{false, length};
+ghost use Rattle.ob_base.specs.declared.access.Access.{Access};
+ghost use Rattle.ob_base.specs.declared.config.Config.{Config};
+ghost use Rattle.ob_base.specs.declared.config.Public.{Public};
 ghost use Rattle.ob_base.specs.declared.refusal.Stop.{Stop};
 ghost use Rattle.ob_exec.specs.Agreeing.{public_of, seen_of};
 ghost use Rattle.ob_exec.specs.Running.{RefusedEarly, refusal_now};
@@ -10,6 +14,12 @@ ghost use Rattle.ob_mean.specs.Verdict.{Tables, seen};
 ghost use Rattle.ob_script.specs.Script.{script};
 ghost use Rattle.ob_sql.specs.Skeleton.{skeleton};
 ghost use Rattle.ob_sql.specs.declared.stmt.Stmt.{Stmt};
+ghost use Rattle.ob_shell.specs.Endings.{status_of};
+ghost use Rattle.ob_shell.specs.Settings.{public_by};
+ghost use Rattle.ob_shell.specs.Top.{Carried};
+ghost use Rattle.ob_shell.specs.Whole.{AsksUncut, AsksWhole, ShowAlike};
+ghost use Rattle.ob_shell.specs.declared.top.Ending.{Ending};
+ghost use Rattle.ob_store.specs.State.{StoreState};
 ghost use Rattle.ob_shell.specs.Disturbed.{AskedInAll, Begins};
 ghost use Rattle.ob_shell.specs.Failures.{failures};
 ghost use Rattle.ob_shell.specs.Pieces.{BeginsWith};
@@ -64,4 +74,33 @@ pub fn undisturbed_sessions_stay_so<R: Revisions>()
 /// and the others are those of the bytes behind it.
 pub fn texts_are_pieces()
     ensures { (bytes : List ℕ) → is_over (rest_of [] bytes) ≡ false → BeginsWith bytes (texts_of [] bytes) (rest_of [] bytes) (cut bytes) }
+{}
+
+/// The accesses of a run are the trace of one list: of the statements that its texts spell, in order, and of one that
+/// was stopped, with what is seen of each, which is lawful.
+pub fn a_run_asks_a_trace<R: Revisions>()
+    ensures { (config : Config) (secret : Option (List ℕ)) (store0 store1 : StoreState) (high : ℕ)
+        (served more : List (List ℕ)) (answers : List Answer) (part : List ℕ) (ending : Ending)
+        → store0.asked ≡ []
+        → Carried R.state (Some config) secret store0 store1 high served more answers part ending
+        → AsksWhole (public_by config) store1.asked served }
+{}
+
+/// Of a run that came to its end, and of which no text was answered that the store failed, they are those of the
+/// statements alone, none of which is cut off.
+pub fn a_whole_run_is_uncut<R: Revisions>()
+    ensures { (config : Config) (secret : Option (List ℕ)) (store0 store1 : StoreState) (high : ℕ)
+        (served more : List (List ℕ)) (answers : List Answer) (part : List ℕ) (ending : Ending)
+        → store0.asked ≡ []
+        → Carried R.state (Some config) secret store0 store1 high served more answers part ending
+        → status_of ending ≤ 1 → failures answers ≡ 0
+        → AsksUncut (public_by config) store1.asked served }
+{}
+
+/// Two such runs ask the same, over any stores, where their statements have the same skeletons, the same ones are
+/// refused before any access, and the same is seen of each SELECT of rows.
+pub fn reruns_ask_the_same()
+    ensures { (p : Public) (accesses accesses_too : List Access) (texts texts_too : List (List ℕ))
+        (a : AsksUncut p accesses texts) (b : AsksUncut p accesses_too texts_too)
+        → ShowAlike p 0 a.stmts a.seen b.stmts b.seen → accesses ≡ accesses_too }
 {}

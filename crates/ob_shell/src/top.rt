@@ -1,10 +1,12 @@
 //! The top calls.
-ghost use Rattle.std.specs.Prelude.{◌≡◌, ◌≢◌, ◌≤◌, ℕ, List, [], map, Ok, Err, Some, true, false, ⊤, MatchOption, string_bytes};
-ghost use Rattle.ob_shell.specs.Usage.{usage, Parses, is_traced};
-ghost use Rattle.ob_shell.specs.Closed.{Unwritten, LineWritten, refused_by};
+ghost use Rattle.std.specs.Prelude.{◌≡◌, ◌≢◌, ◌≤◌, ℕ, List, [], map, Ok, Err, Some, true, false, ⊤};
+ghost use Rattle.std.specs.Prelude.{MatchOption, string_bytes};
+ghost use Rattle.ob_shell.specs.Usage.{usage, is_traced};
+ghost use Rattle.ob_shell.specs.Settings.{AreWithin, IsTaken, settings_of};
+ghost use Rattle.ob_shell.specs.Closed.{LineWritten, Untouched, Unwritten, refused_by};
 ghost use Rattle.ob_shell.specs.Meddling.{Unserved, Meddled};
 ghost use Rattle.ob_shell.specs.KeyLine.{secret_of};
-ghost use Rattle.ob_shell.specs.Running.{Faults, SinksRose, IsQuiet, stop_of, StopCause};
+ghost use Rattle.ob_shell.specs.Running.{faults_of, SinksRose, IsQuiet, stop_of, StopCause};
 ghost use Rattle.ob_shell.specs.Tracing.{Traced};
 ghost use Rattle.ob_shell.specs.Endings;
 ghost use Rattle.ob_shell.specs.Endings.{SinkStopped};
@@ -13,8 +15,8 @@ ghost use Rattle.ob_shell.specs.Top.{Shown, RanAfter, EndingCause, Reported};
 use crate::feed::{Feed, Halt};
 use crate::key::{FirstLine, read_key};
 use crate::session::{Halted, serve};
-use crate::words::{WordsErr, read_meddle_words, read_words};
-use ob_base::{Config, Stop};
+use crate::words::{Words, WordsErr, read_meddle_words, read_words};
+use ob_base::Stop;
 use ob_exec::Engine;
 use ob_io::{Sink, Source};
 use ob_meddle::MeddledStore;
@@ -23,18 +25,6 @@ use ob_seal::Keys;
 use ob_store::BlockStore;
 use ob_vault::{BaseRevs, Revisions};
 use std::alloc::Global;
-
-/// The bytes of the input that are read, at most.
-const MAX_INPUT: u64 = 65_536;
-
-/// The settings of every run.
-const CONFIG: Config = Config {
-    buffer: 64,
-    depth: 5,
-    pack: 1,
-    plan: None,
-    max_input: MAX_INPUT,
-};
 
 /// How a run ended.
 #[derive(Clone, Copy, Debug, PartialEq, Eq)]
@@ -125,7 +115,7 @@ fn ended_with(ran: Result<bool, Halted>, high: u64) -> Ended
 // Starts an engine with this secret, and serves what follows the first line. Tells of the rows open, too.
 fn serve_with<I: Source, O: Sink, T: Sink, S: BlockStore>(
     alloc: Global,
-    tracing: bool,
+    words: Words,
     key: &[u8; 32],
     feed: &mut Feed,
     input: &mut I,
@@ -133,26 +123,40 @@ fn serve_with<I: Source, O: Sink, T: Sink, S: BlockStore>(
     trace: &mut T,
     store: &mut S,
 ) -> (Result<bool, Halted>, u64)
+    requires within { AreWithin words.config }
     requires taken { feed.old.taken ≤ feed.old.limit }
     requires fresh { (S.state store.old).asked ≡ [] }
-    ensures ran { RanAfter ⟦<BaseRevs as Revisions>⟧.state (Some key.now) feed.old feed.new (I.left input.old) (I.left input.new) (O.written out.old) (O.written out.new)
+    ensures ran { RanAfter ⟦<BaseRevs as Revisions>⟧.state (Some words.config) (Some key.now)
+        feed.old feed.new
+        (I.left input.old) (I.left input.new) (O.written out.old) (O.written out.new)
         (S.state store.old) (S.state store.new) result.1 (stop_of result.0) }
     ensures within { feed.new.taken ≤ feed.new.limit }
-    ensures traced { Traced tracing (S.state store.old).asked (S.state store.new).asked (T.written trace.old) (T.written trace.new) (IsQuiet result.0) }
+    ensures traced { Traced words.trace (S.state store.old).asked (S.state store.new).asked
+        (T.written trace.old) (T.written trace.new) (IsQuiet result.0) }
     ensures cause { StopCause
-        record { source = I.faults input.old; out = O.faults out.old; trace = T.faults trace.old }
-        record { source = I.faults input.new; out = O.faults out.new; trace = T.faults trace.new } (stop_of result.0) }
+        (faults_of (I.faults input.old) (O.faults out.old) (T.faults trace.old))
+        (faults_of (I.faults input.new) (O.faults out.new) (T.faults trace.new))
+        (stop_of result.0) }
     ensures quiet { IsQuiet result.0 → SinksRose
-        record { source = I.faults input.old; out = O.faults out.old; trace = T.faults trace.old }
-        record { source = I.faults input.new; out = O.faults out.new; trace = T.faults trace.new } }
+        (faults_of (I.faults input.old) (O.faults out.old) (T.faults trace.old))
+        (faults_of (I.faults input.new) (O.faults out.new) (T.faults trace.new)) }
 {
-    match Engine::<BaseRevs>::start(alloc, CONFIG, Keys::derive(key)) {
+    match Engine::<BaseRevs>::start(alloc, words.config, Keys::derive(key)) {
         Err(_) => {
             let stop = Stop::NoMemory;
             (Err(Halted { stop, quiet: false }), 0)
         }
         Ok(mut engine) => {
-            let ran = serve(alloc, tracing, feed, input, &mut engine, store, out, trace);
+            let ran = serve(
+                alloc,
+                words.trace,
+                feed,
+                input,
+                &mut engine,
+                store,
+                out,
+                trace,
+            );
             (ran, engine.high())
         }
     }
@@ -161,32 +165,36 @@ fn serve_with<I: Source, O: Sink, T: Sink, S: BlockStore>(
 // Reads the first line and serves the texts: all but the last line.
 fn run<I: Source, O: Sink, T: Sink, S: BlockStore>(
     alloc: Global,
-    tracing: bool,
+    words: Words,
     input: &mut I,
     out: &mut O,
     trace: &mut T,
     store: &mut S,
 ) -> Ended
-    requires { (S.state store.old).asked ≡ [] }
-    ensures shown { Shown ⟦<BaseRevs as Revisions>⟧.state 65536 (I.left input.old) (I.left input.new) (O.written out.old) (O.written out.new)
-        (S.state store.old) (S.state store.new) result.high result.ending [] (SinkStopped result.ending) }
+    requires within { AreWithin words.config }
+    requires fresh { (S.state store.old).asked ≡ [] }
+    ensures shown { Shown ⟦<BaseRevs as Revisions>⟧.state (Some words.config)
+        (I.left input.old) (I.left input.new) (O.written out.old) (O.written out.new)
+        (S.state store.old) (S.state store.new)
+        result.high result.ending [] (SinkStopped result.ending) }
     ensures words { result.ending ≢ Ending.Usage }
-    ensures traced { Traced tracing (S.state store.old).asked (S.state store.new).asked (T.written trace.old) (T.written trace.new) (result.quiet ≡ true) }
+    ensures traced { Traced words.trace (S.state store.old).asked (S.state store.new).asked
+        (T.written trace.old) (T.written trace.new) (result.quiet ≡ true) }
     ensures cause { EndingCause result.ending
-        record { source = I.faults input.old; out = O.faults out.old; trace = T.faults trace.old }
-        record { source = I.faults input.new; out = O.faults out.new; trace = T.faults trace.new } }
+        (faults_of (I.faults input.old) (O.faults out.old) (T.faults trace.old))
+        (faults_of (I.faults input.new) (O.faults out.new) (T.faults trace.new)) }
     ensures quiet { result.quiet ≡ true → SinksRose
-        record { source = I.faults input.old; out = O.faults out.old; trace = T.faults trace.old }
-        record { source = I.faults input.new; out = O.faults out.new; trace = T.faults trace.new } }
+        (faults_of (I.faults input.old) (O.faults out.old) (T.faults trace.old))
+        (faults_of (I.faults input.new) (O.faults out.new) (T.faults trace.new)) }
 {
-    let mut feed = Feed::new(MAX_INPUT);
+    let mut feed = Feed::new(words.config.max_input);
     match read_key(&mut feed, input) {
         Err(Halt::SourceFault) => ended_at(Ending::Ran(Err(Stop::SourceFault))),
         Err(Halt::InputLimit) => ended_at(Ending::Ran(Err(Stop::InputLimit))),
         Ok(FirstLine::Bad) => ended_at(Ending::BadKey),
         Ok(FirstLine::Last(_)) => ended_at(Ending::Ran(Ok(false))),
         Ok(FirstLine::Secret(key)) => {
-            let (ran, high) = serve_with(alloc, tracing, &key, &mut feed, input, out, trace, store);
+            let (ran, high) = serve_with(alloc, words, &key, &mut feed, input, out, trace, store);
             ended_with(ran, high)
         }
     }
@@ -196,8 +204,10 @@ fn run<I: Source, O: Sink, T: Sink, S: BlockStore>(
 fn close<O: Sink>(ended: Ended, out: &mut O) -> Report
     ensures status { result.status ≡ Endings.status_of ended.ending }
     ensures high { result.high ≡ ended.high }
-    ensures quiet { ended.quiet ≡ true → Unwritten (O.written out.old) (O.written out.new) (O.faults out.old) (O.faults out.new) }
-    ensures line { ended.quiet ≡ false → LineWritten (Endings.last_line ended.ending) (O.written out.old) (O.written out.new) (O.faults out.old) (O.faults out.new) }
+    ensures quiet { ended.quiet ≡ true →
+        Unwritten (O.written out.old) (O.written out.new) (O.faults out.old) (O.faults out.new) }
+    ensures line { ended.quiet ≡ false → LineWritten (Endings.last_line ended.ending)
+        (O.written out.old) (O.written out.new) (O.faults out.old) (O.faults out.new) }
 {
     if !ended.quiet {
         let _ = write_all(out, last_line(ended.ending).as_bytes());
@@ -212,7 +222,8 @@ fn close<O: Sink>(ended: Ended, out: &mut O) -> Report
 fn refuse_words<O: Sink>(error: WordsErr, out: &mut O) -> Report
     ensures status { result.status ≡ Endings.status_of (refused_by error) }
     ensures high { result.high ≡ 0 }
-    ensures line { LineWritten (Endings.last_line (refused_by error)) (O.written out.old) (O.written out.new) (O.faults out.old) (O.faults out.new) }
+    ensures line { LineWritten (Endings.last_line (refused_by error))
+        (O.written out.old) (O.written out.new) (O.faults out.old) (O.faults out.new) }
 {
     let ending = match error {
         WordsErr::Usage => Ending::Usage,
@@ -224,28 +235,30 @@ fn refuse_words<O: Sink>(error: WordsErr, out: &mut O) -> Report
 // Serves the input of words that were taken, and writes the last line.
 fn serve_over<I: Source, O: Sink, T: Sink, S: BlockStore>(
     alloc: Global,
-    tracing: bool,
+    words: Words,
     input: &mut I,
     out: &mut O,
     trace: &mut T,
     store: &mut S,
 ) -> Report
-    requires { (S.state store.old).asked ≡ [] }
-    ensures reported { Reported ⟦<BaseRevs as Revisions>⟧.state ⊤ 65536 (I.left input.old) (I.left input.new) (O.written out.old) (O.written out.new)
+    requires within { AreWithin words.config }
+    requires fresh { (S.state store.old).asked ≡ [] }
+    ensures reported { Reported ⟦<BaseRevs as Revisions>⟧.state ⊤ (Some words.config)
+        (I.left input.old) (I.left input.new) (O.written out.old) (O.written out.new)
         (S.state store.old) (S.state store.new)
-        record { source = I.faults input.old; out = O.faults out.old; trace = T.faults trace.old }
-        record { source = I.faults input.new; out = O.faults out.new; trace = T.faults trace.new } result }
-    ensures traced { Traced tracing (S.state store.old).asked (S.state store.new).asked
+        (faults_of (I.faults input.old) (O.faults out.old) (T.faults trace.old))
+        (faults_of (I.faults input.new) (O.faults out.new) (T.faults trace.new)) result }
+    ensures traced { Traced words.trace (S.state store.old).asked (S.state store.new).asked
         (T.written trace.old) (T.written trace.new) (SinksRose
-        record { source = I.faults input.old; out = O.faults out.old; trace = T.faults trace.old }
-        record { source = I.faults input.new; out = O.faults out.new; trace = T.faults trace.new }) }
+        (faults_of (I.faults input.old) (O.faults out.old) (T.faults trace.old))
+        (faults_of (I.faults input.new) (O.faults out.new) (T.faults trace.new))) }
 {
-    let ended = run(alloc, tracing, input, out, trace, store);
+    let ended = run(alloc, words, input, out, trace, store);
     close(ended, out)
 }
 
-/// Serves the input over a store of which nothing was asked, and writes the answers and the last line; with
-/// `--trace` each access is traced. `words` leave out the program's name.
+/// Serves the input over a store of which nothing was asked, and writes the answers and the last line, as the words set
+/// it; with `--trace` each access is traced. `words` leave out the program's name.
 pub fn shell_top<I: Source, O: Sink, T: Sink, S: BlockStore>(
     alloc: Global,
     words: &[String],
@@ -255,18 +268,24 @@ pub fn shell_top<I: Source, O: Sink, T: Sink, S: BlockStore>(
     store: &mut S,
 ) -> Report
     requires { (S.state store.old).asked ≡ [] }
-    ensures reported { Reported ⟦<BaseRevs as Revisions>⟧.state (Parses usage (map string_bytes words.now)) 65536 (I.left input.old) (I.left input.new) (O.written out.old) (O.written out.new)
+    ensures reported { Reported ⟦<BaseRevs as Revisions>⟧.state
+        (IsTaken usage (map string_bytes words.now))
+        (settings_of usage (map string_bytes words.now))
+        (I.left input.old) (I.left input.new) (O.written out.old) (O.written out.new)
         (S.state store.old) (S.state store.new)
-        record { source = I.faults input.old; out = O.faults out.old; trace = T.faults trace.old }
-        record { source = I.faults input.new; out = O.faults out.new; trace = T.faults trace.new } result }
-    ensures traced { Traced (is_traced usage (map string_bytes words.now)) (S.state store.old).asked (S.state store.new).asked
+        (faults_of (I.faults input.old) (O.faults out.old) (T.faults trace.old))
+        (faults_of (I.faults input.new) (O.faults out.new) (T.faults trace.new)) result }
+    ensures refused { ¬ IsTaken usage (map string_bytes words.now) → Untouched
+        (I.left input.old) (I.left input.new) (S.state store.old) (S.state store.new) }
+    ensures traced { Traced (is_traced usage (map string_bytes words.now))
+        (S.state store.old).asked (S.state store.new).asked
         (T.written trace.old) (T.written trace.new) (SinksRose
-        record { source = I.faults input.old; out = O.faults out.old; trace = T.faults trace.old }
-        record { source = I.faults input.new; out = O.faults out.new; trace = T.faults trace.new }) }
+        (faults_of (I.faults input.old) (O.faults out.old) (T.faults trace.old))
+        (faults_of (I.faults input.new) (O.faults out.new) (T.faults trace.new))) }
 {
     match read_words(alloc, words) {
         Err(error) => refuse_words(error, out),
-        Ok(words) => serve_over(alloc, words.trace, input, out, trace, store),
+        Ok(words) => serve_over(alloc, words, input, out, trace, store),
     }
 }
 
@@ -282,18 +301,19 @@ pub fn meddle_top<I: Source, O: Sink, T: Sink>(
     ensures { MatchOption result.1
         (Unserved (map string_bytes words.now) (I.left input.old) (I.left input.new)
         (O.written out.old) (O.written out.new) (T.written trace.old) (T.written trace.new)
-        record { source = I.faults input.old; out = O.faults out.old; trace = T.faults trace.old }
-        record { source = I.faults input.new; out = O.faults out.new; trace = T.faults trace.new } result.0)
-        (λ store. Meddled ⟦<BaseRevs as Revisions>⟧.state (map string_bytes words.now) 65536 (I.left input.old) (I.left input.new)
+        (faults_of (I.faults input.old) (O.faults out.old) (T.faults trace.old))
+        (faults_of (I.faults input.new) (O.faults out.new) (T.faults trace.new)) result.0)
+        (λ store. Meddled ⟦<BaseRevs as Revisions>⟧.state (map string_bytes words.now)
+        (I.left input.old) (I.left input.new)
         (O.written out.old) (O.written out.new) (T.written trace.old) (T.written trace.new)
-        record { source = I.faults input.old; out = O.faults out.old; trace = T.faults trace.old }
-        record { source = I.faults input.new; out = O.faults out.new; trace = T.faults trace.new } store result.0) }
+        (faults_of (I.faults input.old) (O.faults out.old) (T.faults trace.old))
+        (faults_of (I.faults input.new) (O.faults out.new) (T.faults trace.new)) store result.0) }
 {
     match read_meddle_words(alloc, words) {
         Err(error) => (refuse_words(error, out), None),
         Ok(words) => {
             let mut store = MeddledStore::new(alloc, words.changes);
-            let report = serve_over(alloc, words.trace, input, out, trace, &mut store);
+            let report = serve_over(alloc, words.common, input, out, trace, &mut store);
             (report, Some(store))
         }
     }

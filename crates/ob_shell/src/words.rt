@@ -1,13 +1,21 @@
 //! The words of the command line.
-ghost use Rattle.std.specs.Prelude.{◌≡◌, ◌≢◌, List, [], map, codes, Some, None, Err, IfOk, OnOk, option_map, string_bytes};
-ghost use Rattle.clap.specs.Words.{app_of, kind_of, new_app, with_rule};
+ghost use Rattle.std.specs.Prelude.{◌≡◌, ◌≢◌, ◌≤◌, List, [], map, codes, Some, None, Err, IfOk, IfSome};
+ghost use Rattle.std.specs.Prelude.{option_map, string_bytes, false};
+ghost use Rattle.clap.specs.Words.{app_of, first_value, found_of, kind_of, rule_of};
 ghost use Rattle.clap.specs.declared.error.kind.ErrorKind.TheVariants.{OutOfMemory};
-ghost use Rattle.ob_shell.specs.Usage.{usage, meddle_usage, trace_rule, Parses, ParsesChanges, MeddleParses, is_set, is_traced, changes_in};
+ghost use Rattle.ob_meddle.specs.Changes.{number_from, number};
+ghost use Rattle.ob_shell.specs.Settings.{AreWithin, number_in, plan_in, settings_by};
+ghost use Rattle.ob_shell.specs.Settings.{ParsesAs, IsTaken, ParsesChanges, MeddleParses};
+ghost use Rattle.ob_shell.specs.Usage.{common, usage, meddle_usage, flag, valued, is_set, is_traced, changes_in};
 
 use clap::error::ErrorKind;
-use clap::{Arg, ArgAction, Command, Error};
+use clap::{Arg, ArgAction, ArgMatches, Command, Error};
+use ob_base::{Config, Plan};
 use ob_meddle::{ChangesErr, Meddle, parse_changes};
 use std::alloc::{AllocError, Global};
+
+/// The bytes of the input that are read, at most.
+const INPUT_LIMIT: u64 = 65_536;
 
 /// Why the words were not read.
 #[derive(Clone, Copy, Debug, PartialEq, Eq)]
@@ -16,43 +24,59 @@ pub enum WordsErr {
     NoMemory,
 }
 
-/// What the words say: whether the accesses are traced.
+/// What the words say: whether the accesses are traced, and the settings of the run.
 #[derive(Clone, Copy, Debug, PartialEq, Eq)]
 pub struct Words {
     pub trace: bool,
+    pub config: Config,
 }
 
 /// The same, and which changes others make in the store.
 #[derive(Drop)]
 pub struct MeddleWords {
-    pub trace: bool,
+    pub common: Words,
     pub changes: Vec<Meddle>,
 }
 
-// A command of this name, with the flag `--trace`.
-fn traced<'a>(alloc: Global, name: &'a str) -> Result<Command<'a>, AllocError>
-    ensures { IfOk result (λ c. app_of c ≡ with_rule (new_app name.now) trace_rule) }
+// A flag `--NAME`.
+fn flag(alloc: Global, name: &str) -> Arg<'_>
+    ensures rule { rule_of result ≡ flag name.now }
+    ensures local { result.global ≡ false }
 {
-    let trace = Arg::new(alloc, "trace")
-        .long("trace")
-        .action(ArgAction::SetTrue);
-    Command::new(alloc, name).arg(trace)
+    Arg::new(alloc, name).long(name).action(ArgAction::SetTrue)
+}
+
+// A word `--NAME VALUE`.
+fn valued(alloc: Global, name: &str) -> Arg<'_>
+    ensures rule { rule_of result ≡ valued name.now }
+    ensures local { result.global ≡ false }
+{
+    Arg::new(alloc, name).long(name).action(ArgAction::Set)
+}
+
+// A command of this name, with the words of every program.
+fn common<'a>(alloc: Global, name: &'a str) -> Result<Command<'a>, AllocError>
+    ensures { IfOk result (λ c. app_of c ≡ common name.now) }
+{
+    Command::new(alloc, name)
+        .arg(flag(alloc, "trace"))?
+        .arg(valued(alloc, "buffer"))?
+        .arg(valued(alloc, "depth"))?
+        .arg(valued(alloc, "plan"))?
+        .arg(valued(alloc, "pack"))
 }
 
 fn command<'a>(alloc: Global) -> Result<Command<'a>, AllocError>
     ensures { IfOk result (λ c. app_of c ≡ usage) }
 {
-    let command = traced(alloc, "oblidb")?;
+    let command = common(alloc, "oblidb")?;
     Ok(command.no_binary_name(true))
 }
 
 fn meddle_command<'a>(alloc: Global) -> Result<Command<'a>, AllocError>
     ensures { IfOk result (λ c. app_of c ≡ meddle_usage) }
 {
-    let meddle = Arg::new(alloc, "meddle")
-        .long("meddle")
-        .action(ArgAction::Set);
-    let command = traced(alloc, "oblitrace")?.arg(meddle)?;
+    let command = common(alloc, "oblitrace")?.arg(valued(alloc, "meddle"))?;
     Ok(command.no_binary_name(true))
 }
 
@@ -67,8 +91,10 @@ fn is_set(value: Option<&str>) -> bool
 
 // The changes that the value of `--meddle` spells.
 fn changes_in(alloc: Global, value: Option<&str>) -> Result<Vec<Meddle>, WordsErr>
-    ensures ok { IfOk result (λ list. changes_in (option_map (λ t. t.now) value.entry) ≡ Some list.items) }
-    ensures usage { result ≡ Err WordsErr.Usage → changes_in (option_map (λ t. t.now) value.entry) ≡ None }
+    ensures ok { IfOk result (λ list.
+        changes_in (option_map (λ t. t.now) value.entry) ≡ Some list.items) }
+    ensures usage { result ≡ Err WordsErr.Usage →
+        changes_in (option_map (λ t. t.now) value.entry) ≡ None }
 {
     match value {
         None => Ok(Vec::new(alloc)),
@@ -78,6 +104,88 @@ fn changes_in(alloc: Global, value: Option<&str>) -> Result<Vec<Meddle>, WordsEr
             Err(ChangesErr::NoMemory) => Err(WordsErr::NoMemory),
         },
     }
+}
+
+// The number that more digits after `n` make, if it is at most `most`.
+fn number_from(most: u32, n: u32, digits: &[u8]) -> Option<u32>
+    requires { n ≤ most }
+    ensures value { result ≡ number_from most n digits.now }
+    ensures within { IfSome result (λ m. m ≤ most) }
+{
+    match digits.split_first() {
+        None => Some(n),
+        Some((digit, digits)) => {
+            if !digit.is_ascii_digit() {
+                return None;
+            }
+            let digit = u32::from(*digit - b'0');
+            if n > most / 10 || digit > most - 10 * n {
+                return None;
+            }
+            number_from(most, 10 * n + digit, digits)
+        }
+    }
+}
+
+// A number in decimal without leading zeros, if it is at most `most`.
+fn number(most: u32, digits: &[u8]) -> Option<u32>
+    ensures value { result ≡ number most digits.now }
+    ensures within { IfSome result (λ m. m ≤ most) }
+{
+    if digits.is_empty() || (digits.len() > 1 && digits[0] == b'0') {
+        return None;
+    }
+    number_from(most, 0, digits)
+}
+
+// The number of a word, from `least` to `most`; `default` where the word isn't given.
+fn number_in(least: u32, most: u32, default: u32, value: Option<&str>) -> Option<u32>
+    requires { (least ≤ default) × (default ≤ most) }
+    ensures value { result ≡ number_in least most default (option_map (λ t. t.now) value.entry) }
+    ensures within { IfSome result (λ n. (least ≤ n) × (n ≤ most)) }
+{
+    match value {
+        None => Some(default),
+        Some(text) => match number(most, text.as_bytes()) {
+            Some(n) if least <= n => Some(n),
+            _ => None,
+        },
+    }
+}
+
+// The plan that is forced, if one is; none at all where the name is no plan's.
+fn plan_in(value: Option<&str>) -> Option<Option<Plan>>
+    ensures { result ≡ plan_in (option_map (λ t. t.now) value.entry) }
+{
+    match value {
+        None | Some("auto") => Some(None),
+        Some("small") => Some(Some(Plan::Small)),
+        Some("large") => Some(Some(Plan::Large)),
+        Some("continuous") => Some(Some(Plan::Continuous)),
+        Some("hash") => Some(Some(Plan::Hash)),
+        Some(_) => None,
+    }
+}
+
+// The settings that the values spell.
+fn settings(matches: &ArgMatches) -> Option<Config>
+    ensures settings { result ≡ settings_by (first_value (found_of matches.now)) }
+    ensures within { IfSome result AreWithin }
+{
+    let buffer = number_in(4, 65_536, 64, matches.get_str("buffer"))?;
+    let depth = number_in(1, 8, 5, matches.get_str("depth"))?;
+    let plan = plan_in(matches.get_str("plan"))?;
+    let pack = number_in(1, 16, 1, matches.get_str("pack"))?;
+    if buffer < 3 * pack + 1 {
+        return None;
+    }
+    Some(Config {
+        buffer,
+        depth: depth as u8,
+        pack: pack as u8,
+        plan,
+        max_input: INPUT_LIMIT,
+    })
 }
 
 // Why a command didn't take the words.
@@ -93,38 +201,54 @@ fn words_err(error: &Error) -> WordsErr
 
 /// Reads the words of a program over a store that it is given, the program's name left out.
 pub fn read_words(alloc: Global, words: &[String]) -> Result<Words, WordsErr>
-    ensures parses { OnOk result (Parses usage (map string_bytes words.now)) }
-    ensures usage { result ≡ Err WordsErr.Usage → ¬ Parses usage (map string_bytes words.now) }
+    ensures ok { IfOk result (λ w. ParsesAs usage (map string_bytes words.now) w.config) }
+    ensures usage { result ≡ Err WordsErr.Usage → ¬ IsTaken usage (map string_bytes words.now) }
     ensures trace { IfOk result (λ w. w.trace ≡ is_traced usage (map string_bytes words.now)) }
+    ensures within { IfOk result (λ w. AreWithin w.config) }
 {
     let Ok(command) = command(alloc) else {
         return Err(WordsErr::NoMemory);
     };
-    match command.try_get_matches_from(words) {
-        Ok(matches) => Ok(Words {
+    let matches = match command.try_get_matches_from(words) {
+        Ok(matches) => matches,
+        Err(error) => return Err(words_err(&error)),
+    };
+    match settings(&matches) {
+        Some(config) => Ok(Words {
             trace: is_set(matches.get_str("trace")),
+            config,
         }),
-        Err(error) => Err(words_err(&error)),
+        None => Err(WordsErr::Usage),
     }
 }
 
 /// Reads the words of a program over a store that others change, the program's name left out.
 pub fn read_meddle_words(alloc: Global, words: &[String]) -> Result<MeddleWords, WordsErr>
-    ensures parses { IfOk result (λ w. ParsesChanges (map string_bytes words.now) w.changes.items) }
+    ensures ok { IfOk result (λ w.
+        ParsesChanges (map string_bytes words.now) w.common.config w.changes.items) }
     ensures usage { result ≡ Err WordsErr.Usage → ¬ MeddleParses (map string_bytes words.now) }
-    ensures trace { IfOk result (λ w. w.trace ≡ is_traced meddle_usage (map string_bytes words.now)) }
+    ensures trace { IfOk result (λ w.
+        w.common.trace ≡ is_traced meddle_usage (map string_bytes words.now)) }
+    ensures within { IfOk result (λ w. AreWithin w.common.config) }
 {
     let Ok(command) = meddle_command(alloc) else {
         return Err(WordsErr::NoMemory);
     };
-    match command.try_get_matches_from(words) {
-        Ok(matches) => match changes_in(alloc, matches.get_str("meddle")) {
-            Ok(changes) => Ok(MeddleWords {
+    let matches = match command.try_get_matches_from(words) {
+        Ok(matches) => matches,
+        Err(error) => return Err(words_err(&error)),
+    };
+    let Some(config) = settings(&matches) else {
+        return Err(WordsErr::Usage);
+    };
+    match changes_in(alloc, matches.get_str("meddle")) {
+        Ok(changes) => Ok(MeddleWords {
+            common: Words {
                 trace: is_set(matches.get_str("trace")),
-                changes,
-            }),
-            Err(error) => Err(error),
-        },
-        Err(error) => Err(words_err(&error)),
+                config,
+            },
+            changes,
+        }),
+        Err(error) => Err(error),
     }
 }

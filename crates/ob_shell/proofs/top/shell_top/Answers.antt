@@ -12,4 +12,10 @@ pub returns-in-Err-clause-traced : goal.returns-in-Err-clause-traced
 returns-in-Err-clause-traced g c = traced_whole _ (traced_none _ _ _)
 
 pub returns-in-Ok-clause-reported : goal.returns-in-Ok-clause-reported
-returns-in-Ok-clause-reported g c = reported_taken c.in-Ok.ensures.parses c.serve_over.ensures.reported
+returns-in-Ok-clause-reported g c = reported_taken (c.in-Ok.words.config, c.in-Ok.ensures.ok) c.in-Ok.ensures.ok.settings c.serve_over.ensures.reported
+
+pub returns-in-Err-clause-refused : goal.returns-in-Err-clause-refused
+returns-in-Err-clause-refused g c not = record { unread = refl; unasked = refl }
+
+pub returns-in-Ok-clause-refused : goal.returns-in-Ok-clause-refused
+returns-in-Ok-clause-refused g c not = absurd (not (c.in-Ok.words.config, c.in-Ok.ensures.ok))

@@ -1,0 +1,21 @@
+use Rattle.std.proofs.Common.{ap₂, codes, ◌≡◌, ◌∙◌}
+use Rattle.clap.specs.Words.{App, app_of, new_app, with_rule}
+use Rattle.ob_shell.specs.Usage.{flag, valued}
+use Rattle.ob_shell.proofs.WordLemmas.{adds_last}
+use Rattle.ob_shell.proofs.words.common.Goals as goal
+
+pub returns : goal.returns
+returns c =
+    let one : App = with_rule (new_app c.args.name.now) (flag (codes "trace")) in
+    let two : App = with_rule one (valued (codes "buffer")) in
+    let three : App = with_rule two (valued (codes "depth")) in
+    let four : App = with_rule three (valued (codes "plan")) in
+    let first : app_of c.in_ok-arg.field-0 ≡ one =
+    c.in_ok-arg.ensures.shape c.flag.ensures.local ∙ ap₂ with_rule c.new.ensures.app c.flag.ensures.rule in
+    let second : app_of c.in_ok-arg-2.field-0 ≡ two =
+    c.in_ok-arg-2.ensures.shape c.valued.ensures.local ∙ ap₂ with_rule first c.valued.ensures.rule in
+    let third : app_of c.in_ok-arg-3.field-0 ≡ three =
+    c.in_ok-arg-3.ensures.shape c.valued-2.ensures.local ∙ ap₂ with_rule second c.valued-2.ensures.rule in
+    let fourth : app_of c.in_ok-arg-4.field-0 ≡ four =
+    c.in_ok-arg-4.ensures.shape c.valued-3.ensures.local ∙ ap₂ with_rule third c.valued-3.ensures.rule in
+    adds_last c.arg-5.result _ _ _ c.valued-4.ensures.local (ap₂ with_rule fourth c.valued-4.ensures.rule) c.arg-5.ensures

@@ -1,0 +1,109 @@
+-- The settings of a run that the words of its command line spell.
+use Rattle.std.specs.Prelude.{ℕ, ◌≡◌, ◌≤◌, ◌+◌, ◌*◌, nat_le, List, Option, Some, None, codes, bytes_eq, if◌then◌else◌}
+use Rattle.clap.specs.Words.{App, Text}
+use Rattle.ob_base.specs.Publics.{first_public}
+use Rattle.ob_base.specs.declared.config.Config.{Config}
+use Rattle.ob_base.specs.declared.config.Plan.{Plan}
+use Rattle.ob_base.specs.declared.config.Plan.TheVariants.{Small, Large, Continuous, Hash}
+use Rattle.ob_base.specs.declared.config.Public.{Public}
+use Rattle.ob_exec.specs.Engines.{IsConfig}
+use Rattle.ob_meddle.specs.Changes.{number}
+use Rattle.ob_meddle.specs.declared.meddle.Meddle.{Meddle}
+use Rattle.ob_shell.specs.Usage.{Parses, changes_of, meddle_usage, value_of}
+
+-- ---- values
+
+-- a number, where there is one and it is no less
+abbrev pub at_least : ℕ → Option ℕ → Option ℕ
+at_least least None = None
+at_least least (Some n) = if nat_le least n then Some n else None
+
+-- a number within these bounds, in decimal, without a sign and without leading zeros; the last where none is given
+abbrev pub number_in : (least most default : ℕ) → Option Text → Option ℕ
+number_in least most default None = Some default
+number_in least most default (Some text) = at_least least (number most text)
+
+-- the plan that a name forces; `auto` forces none
+abbrev pub plan_named : Text → Option (Option Plan)
+plan_named name =
+    if bytes_eq name (codes "auto") then Some None
+    else (if bytes_eq name (codes "small") then Some (Some Small)
+    else (if bytes_eq name (codes "large") then Some (Some Large)
+    else (if bytes_eq name (codes "continuous") then Some (Some Continuous)
+    else (if bytes_eq name (codes "hash") then Some (Some Hash) else None))))
+
+-- none is forced where none is named
+abbrev pub plan_in : Option Text → Option (Option Plan)
+plan_in None = Some None
+plan_in (Some name) = plan_named name
+
+-- ---- settings
+
+-- the input has fewer bytes
+abbrev pub input_limit : ℕ
+input_limit = 65536
+
+-- settings whose buffer holds three blocks and one row
+abbrev pub fitted : (buffer depth : ℕ) → Option Plan → (pack : ℕ) → Option Config
+fitted buffer depth plan pack =
+    if nat_le (3 * pack + 1) buffer
+    then Some (record {
+      buffer = buffer;
+      depth = depth;
+      pack = pack;
+      plan = plan;
+      max_input = input_limit;
+    })
+    else None
+
+-- settings of which each value has its form and its range
+abbrev pub joined : (buffer depth : Option ℕ) → Option (Option Plan) → (pack : Option ℕ)
+    → Option Config
+joined None depth plan pack = None
+joined (Some buffer) None plan pack = None
+joined (Some buffer) (Some depth) None pack = None
+joined (Some buffer) (Some depth) (Some plan) None = None
+joined (Some buffer) (Some depth) (Some plan) (Some pack) = fitted buffer depth plan pack
+
+-- the settings that these values spell, each under its name
+abbrev pub settings_by : (Text → Option Text) → Option Config
+settings_by value =
+    joined (number_in 4 65536 64 (value (codes "buffer"))) (number_in 1 8 5 (value (codes "depth")))
+    (plan_in (value (codes "plan"))) (number_in 1 16 1 (value (codes "pack")))
+
+-- the settings that the words spell, none where a value has not its form or not its range
+abbrev pub settings_of : App → List Text → Option Config
+settings_of app words = settings_by (value_of app words)
+
+-- the command takes these words, and they spell these settings
+pub record ParsesAs (app : App) (words : List Text) (config : Config) : Type 0 where
+  pub parses : Parses app words
+  pub settings : settings_of app words ≡ Some config
+
+-- the words are those of a program
+abbrev pub IsTaken : App → List Text → Type 0
+IsTaken app words = (config : Config) × ParsesAs app words config
+
+-- the same of a program over a store that others change, where they also spell these changes
+pub record ParsesChanges (words : List Text) (config : Config) (list : List Meddle) : Type 0 where
+  pub settings : ParsesAs meddle_usage words config
+  pub changes : changes_of words ≡ Some list
+
+abbrev pub MeddleParses : List Text → Type 0
+MeddleParses words = (config : Config) × (list : List Meddle) × ParsesChanges words config list
+
+-- settings within their limits
+pub record AreWithin (config : Config) : Type 0 where
+  pub engine : IsConfig config
+  pub input : 1024 ≤ config.max_input
+
+-- ---- what settings set
+
+-- what is public before the first statement
+abbrev pub public_by : Config → Public
+public_by config = first_public config.buffer config.depth config.pack config.plan
+
+-- as many bytes of the input are read, at most: none without settings
+abbrev pub limit_of : Option Config → ℕ
+limit_of None = 0
+limit_of (Some config) = config.max_input
