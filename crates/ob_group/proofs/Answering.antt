@@ -115,10 +115,10 @@ not_sink either other = elim either [
 
 -- all was asked and the groups kept, and then the emitter gave up
 module _ {E : Type 0} {grew cut : E → E → List Event → Type 0} {faults : E → ℕ} {places pack : ℕ} {flat : Flat} {p : Row → Bool} {key : ℕ} {items : List Item} {groups : List (List ℕ)} {n : ℕ} {old new : World} {a b : E} where
-  pub gave_up : (e : OpErr) → (e ≡ Sink) ⊎ (e ≡ NoMemory) → key < length flat.schema → Gathers pack flat p key items groups (Ok n) old new
+  pub gave_up : (e : OpErr) → (e ≡ Sink) ⊎ (e ≡ NoMemory) → n ≤ length groups → length groups ≡ places → key < length flat.schema → Gathers pack flat p key items groups (Ok n) old new
       → IsHalted grew cut (λ (s : HasGroups (kind_at flat.schema key) (length items) n groups). header flat.schema key items ++ row_events (groups_shown items s.groups)) a b
       → SinkCause {T = Grouped} (Err e) (faults a) (faults b) → GroupsRows grew cut faults places pack flat p key items (Err e) old new a b
-  gave_up e either below all halted cause =
+  gave_up e either most count below all halted cause =
       let went = all.ran.ok in
       record {
         ran = record { ok = tt; err = read_all either went };
@@ -142,5 +142,10 @@ module _ {E : Type 0} {grew cut : E → E → List Event → Type 0} {faults : E
           | inr memory ↦ elim other [ inl failed ↦ absurd (cc (failed, memory)) | inr there ↦ absurd (cc (there.2, memory)) ]
         ];
         after = λ is. went;
+        few = λ is slots rep nolie.
+            let held = all.held in
+            let size = held.are.all most in
+            let number = seen_number p key items flat.schema _ slots held.seen below rep.fits (held.told slots rep nolie) in
+            omega (arith, size, number, most, count);
         told = λ slots is nolie. inr either;
       }

@@ -162,6 +162,9 @@ pub record GroupsRows {E : Type 0} (grew cut : E → E → List Event → Type 0
       → out_new ≡ out_old)
   pub after : IfErr result (λ e. (e ≡ Sink) ⊎ (e ≡ NoMemory)
       → Went (count_part flat.region (blocks_of pack flat)) none old new)
+  pub few : IfErr result (λ e. (e ≡ Sink) ⊎ (e ≡ NoMemory)
+      → (slots : Slots) → Represents pack flat slots old → new.store.lie ≡ None
+      → length (group_heads key (filter p (rows_in slots))) ≤ places)
   pub told : (slots : Slots) → Represents pack flat slots old → new.store.lie ≡ None
       → MatchResult result
       (λ answer. answer ≡ answer_of places (length (group_heads key (filter p (rows_in slots)))))

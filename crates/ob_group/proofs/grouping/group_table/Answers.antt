@@ -36,6 +36,7 @@ returns-then-n-groups-clause-answers g c =
       cause = refl;
       before = tt;
       after = tt;
+      few = tt;
       told = λ slots is nolie.
           let number = seen_number (is_true c.args.pred.now) c.args.key c.args.items.now flat.schema _ slots held.seen c.requires.items.key is.fits (held.told slots is nolie) in
           too_many (length c.args.groups.now) _ (omega (arith, many, number, c.group_blocks.ensures.groups.count));
@@ -76,6 +77,7 @@ returns-in-Ok-emit_answer-clause-answers g c =
       cause = answer.cause;
       before = tt;
       after = tt;
+      few = tt;
       told = λ slots is nolie.
           let number = seen_number p key items flat.schema _ slots held.seen c.requires.items.key is.fits (held.told slots is nolie) in
           so_many (length c.args.groups.now) c.in-Ok.n _ (sym size ∙ number) (omega (arith, size, number, c.group_blocks.ensures.groups.count));
@@ -90,7 +92,7 @@ returns-in-Err-Failed-clause-groups g c = c.group_blocks.ensures.groups
 pub returns-in-Err-Failed-clause-answers : goal.returns-in-Err-Failed-clause-answers
 returns-in-Err-Failed-clause-answers g c =
     let answer = c.in-Err-Failed.ensures in
-    gave_up _ (inl refl) c.requires.items.key c.in-Ok.ensures.gathers answer.halted (rw c.in-Err-Failed.field-0-is at answer.cause)
+    gave_up _ (inl refl) (omega arith) c.group_blocks.ensures.groups.count c.requires.items.key c.in-Ok.ensures.gathers answer.halted (rw c.in-Err-Failed.field-0-is at answer.cause)
 
 pub returns-in-Err-NoMemory-clause-rows : goal.returns-in-Err-NoMemory-clause-rows
 returns-in-Err-NoMemory-clause-rows g c = c.group_blocks.ensures.rows
@@ -101,7 +103,7 @@ returns-in-Err-NoMemory-clause-groups g c = c.group_blocks.ensures.groups
 pub returns-in-Err-NoMemory-clause-answers : goal.returns-in-Err-NoMemory-clause-answers
 returns-in-Err-NoMemory-clause-answers g c =
     let answer = c.in-Err-NoMemory.ensures in
-    gave_up _ (inr refl) c.requires.items.key c.in-Ok.ensures.gathers answer.halted (rw c.in-Err-NoMemory.field-0-is at answer.cause)
+    gave_up _ (inr refl) (omega arith) c.group_blocks.ensures.groups.count c.requires.items.key c.in-Ok.ensures.gathers answer.halted (rw c.in-Err-NoMemory.field-0-is at answer.cause)
 
 pub returns-in-Err-clause-rows : goal.returns-in-Err-clause-rows
 returns-in-Err-clause-rows g c = c.group_blocks.ensures.rows
@@ -123,5 +125,6 @@ returns-in-Err-clause-answers g c =
       cause = unasked Grouped _ _ all.never;
       before = λ is. refl;
       after = λ either. not_sink all.never either;
+      few = λ either. not_sink all.never either;
       told = λ slots is nolie. inl (all.told slots is nolie);
     }
