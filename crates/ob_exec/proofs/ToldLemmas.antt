@@ -128,9 +128,19 @@ plain_early : (r : Refusal) → ((n : ℕ) → refused_end r n ≡ Static) → i
 plain_early r static own = record { static = static; own = own }
 
 pub early_is : (p : Public) (m : ℕ) (stmt : Stmt) (r : Refusal) → refusal_now p m stmt ≡ Some r → IsEarly r
-early_is p m stmt r is = holding_early (early_conditions (is_late m) p.pack p.buffer (headings_of p.tables) stmt) r
-    (plain_early NoTable (λ n. refl) refl, (plain_early NameTaken (λ n. refl) refl, (plain_early NoColumn (λ n. refl) refl, (plain_early WrongType (λ n. refl) refl,
-    (plain_early ValueRange (λ n. refl) refl, (plain_early Limit (λ n. refl) refl, (plain_early KeyRule (λ n. refl) refl, (plain_early JoinKey (λ n. refl) refl, tt)))))))) is
+early_is p m stmt r is = holding_early (early_conditions (is_late m) p.pack p.buffer (headings_of p.tables) stmt) r (
+  plain_early NoTable (λ n. refl) refl,
+  (
+    plain_early NameTaken (λ n. refl) refl,
+    (
+      plain_early NoColumn (λ n. refl) refl,
+      (
+        plain_early WrongType (λ n. refl) refl,
+        (plain_early ValueRange (λ n. refl) refl, (plain_early Limit (λ n. refl) refl, (plain_early KeyRule (λ n. refl) refl, (plain_early JoinKey (λ n. refl) refl, tt)))),
+      ),
+    ),
+  ),
+) is
 
 pub refused_none : (o : Option Refusal) (result : Result Outcome Stop) (now : Seen) → o ≡ None → (now.end ≡ Static → ⊥) → RefusedEarly o result now
 refused_none None result now is started = started
@@ -143,4 +153,3 @@ refused_some o r result now is answer seen = subst (λ (x : Option Refusal). Ref
 -- a refusal that was found is that of the statement
 pub now_is : (p : Public) (m n : ℕ) (stmt : Stmt) (o q : Option Refusal) → n ≡ m → o ≡ refusal_now p n stmt → o ≡ q → refusal_now p m stmt ≡ q
 now_is p m n stmt o q count found is = (λ i. refusal_now p (sym count i) stmt) ∙ sym found ∙ is
-

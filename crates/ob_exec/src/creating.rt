@@ -15,7 +15,10 @@ use ob_vault::Revisions;
 
 // A new table as the engine keeps it.
 fn new_table(name: &Name, schema: &Schema, capacity: u32, region: u64) -> Table
-    ensures { result ≡ record { heading = record { name = name.now; schema = schema.now; capacity = capacity }; region = region } }
+    ensures { result ≡ record {
+      heading = record { name = name.now; schema = schema.now; capacity = capacity };
+      region = region;
+    } }
 {
     Table {
         heading: Heading {

@@ -13,7 +13,7 @@ use ob_store::BlockStore;
 use ob_vault::Revisions;
 
 impl<R: Revisions> Engine<R> {
-    // A table leaves the catalogue, and its region is discarded, whatever the store answers to that.
+    // A table leaves the catalogue, and its region is discarded, whatever the store answers.
     pub(crate) fn drop_table<S: BlockStore>(
         &mut self,
         store: &mut S,

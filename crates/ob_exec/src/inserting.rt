@@ -49,18 +49,20 @@ impl<R: Revisions> Engine<R> {
         if self.make_room(store, &flat, 3).is_err() {
             return self.cut(0, OpErr::NoMemory);
         }
-        match ob_mutate::insert(
+        let result = ob_mutate::insert(
             store,
             &mut self.vault,
             &mut self.room,
             &mut flat,
             cells.as_slice(),
-        ) {
+        );
+        let accesses = store.count() - before;
+        match result {
             Ok(inserted) => {
                 self.move_table(i, flat.region);
                 Ok(self.finish(outcome_of(inserted)))
             }
-            Err(error) => self.cut(store.count() - before, error),
+            Err(error) => self.cut(accesses, error),
         }
     }
 }

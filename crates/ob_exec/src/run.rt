@@ -12,15 +12,23 @@ use ob_store::BlockStore;
 use ob_vault::Revisions;
 
 impl<R: Revisions> Engine<R> {
-    /// Carries out a statement: CREATE TABLE, INSERT, or SELECT COUNT(*) of a whole table.
+    /// Carries out a statement of the language, and gives the rows of its answer to the emitter: a
+    /// header, each row, and their number. Any other answer emits nothing.
     ///
-    /// It is refused before any access exactly where its meaning says so. Else its accesses are exactly
-    /// those that follow from what was public before, the statement's skeleton and what is seen of it,
-    /// whatever the store answers. Where the store tells what it holds, and gave what was written: the
-    /// answer, what is seen and the tables afterwards are those of the statement over the tables before;
-    /// where the store failed, the tables are those before. What was emitted at a stop is a first part of its answer, also
-    /// where it was stopped by a block that was changed. Whatever it answers, no block comes to lie in clear. An answer of
-    /// rows is emitted whole: its header, its rows and their number.
+    /// The answer is that of the statement over the tables before, if the store gave each block as it
+    /// was written last. `Refused` says why it was not carried out, and changes no table: for what it
+    /// says, for what the tables hold, or because the store failed at some access, by `StoreFault`.
+    /// Where it is refused for what it says, nothing was asked of the store.
+    ///
+    /// `Tampered` names a block that is not what was written there last, or that no table's rows make;
+    /// `SinkFault` says that the emitter failed; and `NoMemory` comes before the first access, where a
+    /// region is made, or where rows are emitted, so that it tells nothing of rows. What was emitted
+    /// until then is a first part of the answer. After each of the three the session has ended: the
+    /// engine takes no statement any more. After an answer it takes the next one.
+    ///
+    /// Whatever the store does, its accesses are exactly those that follow from what was public before,
+    /// the statement without its literals and conditions, and what is seen of it; and no row comes to
+    /// lie there in clear.
     pub fn run<S: BlockStore, E: Emit>(
         &mut self,
         store: &mut S,

@@ -6,7 +6,7 @@ ghost use Rattle.ob_base.specs.Numbers.{blocks_for};
 ghost use Rattle.ob_base.specs.Stored.{has_table, headings_of};
 ghost use Rattle.ob_store.specs.Calls.{Rests};
 ghost use Rattle.ob_exec.specs.Agreeing.{public_of};
-ghost use Rattle.ob_exec.specs.Engines.{IsAt, IsFound};
+ghost use Rattle.ob_exec.specs.Engines.{IsAt, IsFound, flat_of};
 
 use crate::engine::Engine;
 use ob_base::{Items, Name, NoMemory, Table};
@@ -31,7 +31,7 @@ pub(crate) fn find_table(tables: &[Table], name: &Name) -> Option<usize>
 /// The table at a place, as the passes take it.
 pub(crate) fn flat_at(tables: &[Table], i: usize) -> Flat
     requires { i < length tables.now }
-    ensures { (t : TableOf) → slice_get tables.now i ≡ Some t → result ≡ record { schema = t.heading.schema; capacity = t.heading.capacity; region = t.region } }
+    ensures { (t : TableOf) → slice_get tables.now i ≡ Some t → result ≡ flat_of t }
 {
     let table = &tables[i];
     Flat {
@@ -64,8 +64,9 @@ impl<R: Revisions> Engine<R> {
         requires pack { 1 ≤ (public_of self.now).pack }
         requires turns { turns ≤ 3 }
         ensures rests { Rests (S.state store.old) (S.state store.new) }
-        ensures spare { OnOk result (turns
-            * blocks_for (public_of self.now).pack flat.now.capacity + 2 ≤ (S.state store.new).spare) }
+        ensures spare { OnOk result
+            (turns * blocks_for (public_of self.now).pack flat.now.capacity + 2
+            ≤ (S.state store.new).spare) }
     {
         let blocks = flat.capacity.div_ceil(u32::from(self.public.pack));
         store.room(turns * u64::from(blocks) + 2)
@@ -75,8 +76,11 @@ impl<R: Revisions> Engine<R> {
     pub(crate) fn move_table(&mut self, i: usize, region: u64)
         requires { i < length self.old.public.tables }
         ensures { (t : TableOf) → slice_get self.old.public.tables i ≡ Some t
-            → self.new ≡ record self.old { public = record self.old.public {
-              tables = slice_set self.old.public.tables i (record t { region = region }) } } }
+            → self.new ≡ record self.old {
+              public = record self.old.public {
+                tables = slice_set self.old.public.tables i (record t { region = region });
+              };
+            } }
     {
         let mut tables = mem::replace(&mut self.public.tables, Items::new(self.alloc)).into_vec();
         tables[i].region = region;
@@ -86,8 +90,11 @@ impl<R: Revisions> Engine<R> {
     /// The table at a place is taken out.
     pub(crate) fn remove_table(&mut self, i: usize)
         requires { i < length self.old.public.tables }
-        ensures { self.new ≡ record self.old { public = record self.old.public {
-          tables = remove self.old.public.tables i } } }
+        ensures { self.new ≡ record self.old {
+          public = record self.old.public {
+            tables = remove self.old.public.tables i;
+          };
+        } }
     {
         let mut tables = mem::replace(&mut self.public.tables, Items::new(self.alloc)).into_vec();
         let _ = tables.remove(i);

@@ -23,8 +23,8 @@ use Rattle.ob_exec.proofs.MutateLemmas.{mutated, unmutated}
 use Rattle.ob_exec.proofs.SilentLemmas.{serves_as, unasked}
 use Rattle.ob_exec.proofs.engine.Engine.insert.Goals as goal
 
-pub insert-requires-clause-cells : goal.insert-requires-clause-cells
-insert-requires-clause-cells g c =
+pub insert-result-requires-clause-cells : goal.insert-result-requires-clause-cells
+insert-result-requires-clause-cells g c =
     let old = c.args.self.now in
     let found = c.table_at-i.ensures in
     let table = found.table in
@@ -48,8 +48,8 @@ returns-then-is_err g c = record {
       (g.S.BlockStore.state c.make_room.new.store) c.args.self.now.public.tables c.make_room.ensures.rests);
 }
 
-pub returns-in-Ok-insert : goal.returns-in-Ok-insert
-returns-in-Ok-insert g c =
+pub returns-in-Ok-result : goal.returns-in-Ok-result
+returns-in-Ok-result g c =
     let old = c.args.self.now in
     let s = g.S.BlockStore.state c.args.store.now in
     let found = c.table_at-i.ensures in
@@ -63,9 +63,9 @@ returns-in-Ok-insert g c =
     record {
       serves =
           mutated g.R.Revisions.state (Insert c.args.table.now c.args.columns.now c.args.values.now) c.args.table.now insert_part inserted_as (insert_answer flat.schema row)
-          (λ slots. slots_after (insert_answer flat.schema row slots) row slots) old s (g.S.BlockStore.state c.make_room.new.store) c.insert.new.vault c.insert.new.room (g.S.BlockStore.state c.insert.new.store)
-          c.table_at-i.result.0 table flat c.insert.new.flat c.requires.agrees c.make_room.ensures.rests c.insert.ensures.room found.here found.is c.requires.allowed alters
-          c.in-Ok-insert.inserted c.finish.new.self _ c.in-Ok-insert.ensures.inserts c.requires.lives (ap (λ (o : Outcome). Ok o) (c.finish.ensures.answer ∙ c.outcome_of.ensures))
+          (λ slots. slots_after (insert_answer flat.schema row slots) row slots) old s (g.S.BlockStore.state c.make_room.new.store) c.insert-result.new.vault c.insert-result.new.room (g.S.BlockStore.state c.insert-result.new.store)
+          c.table_at-i.result.0 table flat c.insert-result.new.flat c.requires.agrees c.make_room.ensures.rests c.insert-result.ensures.room found.here found.is c.requires.allowed alters
+          c.in-Ok-result.inserted c.finish.new.self _ c.in-Ok-result.ensures.inserts c.requires.lives (ap (λ (o : Outcome). Ok o) (c.finish.ensures.answer ∙ c.outcome_of.ensures))
           (c.finish.ensures.seen
           ∙ ap (λ (e : Engine g.row.R.Denot). record e { seen = seen_to Whole; public = record e.public { next_region = e.vault.next } }) (c.move_table.ensures table found.here.get));
     }
@@ -85,7 +85,7 @@ returns g c =
     record {
       serves =
           unmutated g.R.Revisions.state (Insert c.args.table.now c.args.columns.now c.args.values.now) c.args.table.now insert_part inserted_as (insert_answer flat.schema row)
-          (λ slots. slots_after (insert_answer flat.schema row slots) row slots) old s (g.S.BlockStore.state c.make_room.new.store) c.insert.new.vault c.insert.new.room (g.S.BlockStore.state c.insert.new.store)
-          c.table_at-i.result.0 table flat c.insert.new.flat c.requires.agrees c.make_room.ensures.rests c.insert.ensures.room found.here found.is c.requires.allowed alters
+          (λ slots. slots_after (insert_answer flat.schema row slots) row slots) old s (g.S.BlockStore.state c.make_room.new.store) c.insert-result.new.vault c.insert-result.new.room (g.S.BlockStore.state c.insert-result.new.store)
+          c.table_at-i.result.0 table flat c.insert-result.new.flat c.requires.agrees c.make_room.ensures.rests c.insert-result.ensures.room found.here found.is c.requires.allowed alters
           c.in-Err.error (c.count.result - c.count-before.result) c.cut-in-Err.new.self _ c.in-Err.ensures.inserts (λ i. c.count.ensures i - c.count-before.ensures i) c.cut-in-Err.ensures.answer c.cut-in-Err.ensures.seen;
     }
