@@ -1,13 +1,12 @@
 -- A SELECT of totals of one table, by its slots: its answer, and what is emitted.
-use Rattle.std.specs.Prelude.{◌≡◌, ◌⊎◌, ◌≤◌, ◌<◌, ℕ, Bool, false, List, []}
+use Rattle.std.specs.Prelude.{◌≡◌, ◌⊎◌, ◌≤◌, ◌<◌, ℕ, false, List}
 use Rattle.std.specs.Prelude.{map, filter, filter_map, unwrap_or, length, Option, Some, None, if◌then◌else◌}
-use Rattle.std.specs.Prelude.{IfSome, Result, Err, OnOk, OnErr, IfOk, IfErr, MatchResult}
+use Rattle.std.specs.Prelude.{IfSome, Result, Err, OnOk, OnErr, IfOk, MatchResult}
 use Rattle.ob_base.specs.declared.emit.EmitErr.{EmitErr}
 use Rattle.ob_base.specs.declared.emit.EmitErr.TheVariants as EmitErrs
 use Rattle.ob_base.specs.declared.refusal.Refusal.{Refusal}
 use Rattle.ob_base.specs.declared.refusal.Refusal.TheVariants.{TooManyGroups}
 use Rattle.ob_base.specs.Events.{Event, EmitCause, Leads}
-use Rattle.ob_base.specs.Limits.{buffered}
 use Rattle.ob_base.specs.Schemas.{Columns}
 use Rattle.ob_room.specs.RoomState.{RoomState}
 use Rattle.ob_blocks.specs.Idle.{IsIdle}
@@ -41,7 +40,6 @@ use Rattle.ob_mean.specs.Step.{agg_of, answered, overgroups, totals_answer}
 use Rattle.ob_exec.specs.declared.outcome.Outcome.{Outcome}
 use Rattle.ob_exec.specs.declared.outcome.Outcome.TheVariants as Outcomes
 use Rattle.ob_exec.specs.Running.{Emits}
-use Rattle.ob_exec.specs.Selecting.{UsesRoom}
 use Rattle.ob_exec.specs.Telling.{Partly, outcome_of}
 
 -- the aggregate of an item; where it is a plain column, the rows are counted

@@ -1,4 +1,4 @@
-use Rattle.std.proofs.Common.{◌≡◌, ◌≤◌, ◌<◌, ◌++◌, ℕ, List, [], length, map, take, Err, sym, ◌∙◌, ap, subst, arith, append-nil}
+use Rattle.std.proofs.Common.{length, map, take, Err, sym, ◌∙◌, ap, subst, append-nil}
 use Rattle.ob_base.specs.Limits.{buffered}
 use Rattle.ob_vault.specs.Places.{at}
 use Rattle.ob_flat.specs.declared.fault.OpErr.{OpErr}
