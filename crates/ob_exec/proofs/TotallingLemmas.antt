@@ -1,5 +1,5 @@
 -- What a pass found of a table's totals, and what was emitted of it.
-use Rattle.std.proofs.Common.{◌≡◌, ◌⊎◌, inl, inr, ◌≤◌, ◌<◌, ℕ, Bool, true, false, if◌then◌else◌, List, [], ◌∷◌, ◌++◌, length, map, filter, Option, Some, None, Result, Ok, Err, refl, sym, ◌∙◌, ap, subst, arith, append_assoc, append-nil}
+use Rattle.std.proofs.Common.{◌≡◌, ◌⊎◌, inl, inr, ◌≤◌, ◌<◌, ℕ, Bool, false, if◌then◌else◌, List, [], ◌∷◌, ◌++◌, length, map, filter, Option, Some, None, Result, Ok, Err, refl, sym, ◌∙◌, ap, subst, arith, append-nil}
 use Rattle.std.specs.Prelude.{IfSome, filter_map, not, nat_lt}
 use Rattle.std.specs.List.{list_any, flat_map}
 use Rattle.std.proofs.lemmas.Bool.Decides.{nat_tests}
@@ -22,15 +22,15 @@ use Rattle.ob_row.specs.Totals.{totals, grouped, group_heads}
 use Rattle.ob_row.specs.Truth.{is_true}
 use Rattle.ob_script.specs.Parts.{count_part}
 use Rattle.ob_vault.specs.State.{World}
-use Rattle.ob_vault.specs.Tied.{Calm, IsUnfit}
+use Rattle.ob_vault.specs.Tied.{IsUnfit}
 use Rattle.ob_vault.specs.Calls.{Went, none}
 use Rattle.ob_flat.specs.declared.fault.OpErr.{OpErr}
 use Rattle.ob_flat.specs.declared.fault.OpErr.TheVariants.{Failed, Tampered, Sink, NoMemory}
 use Rattle.ob_flat.specs.declared.flat.Flat.{Flat}
-use Rattle.ob_flat.specs.Emission.{SlotsToEnd, SlotsToHalt}
+use Rattle.ob_flat.specs.Emission.{SlotsToEnd}
 use Rattle.ob_flat.specs.Flats.{Represents}
 use Rattle.ob_flat.specs.Passes.{PassCut, SinkCause}
-use Rattle.ob_flat.specs.Words.{TamperedIn, blocks_of}
+use Rattle.ob_flat.specs.Words.{blocks_of}
 use Rattle.ob_group.specs.declared.grouping.Grouped.{Grouped}
 use Rattle.ob_group.specs.declared.grouping.Grouped.TheVariants.{Groups, TooMany}
 use Rattle.ob_group.specs.Labels as G
@@ -38,7 +38,6 @@ use Rattle.ob_group.specs.Passes.{AreAggs, AreItems, Aggregates, GroupsRows}
 use Rattle.ob_group.specs.Running.{AreWithin}
 use Rattle.ob_group.specs.Grouping.{aggs_of}
 use Rattle.ob_sql.specs.declared.stmt.SelectTotals.{SelectTotals}
-use Rattle.ob_sql.specs.declared.stmt.Stmt.TheVariants.{SelectTotals as TotalsStmt}
 use Rattle.ob_mean.specs.declared.answer.Answer.{Answer}
 use Rattle.ob_mean.specs.declared.answer.Answer.TheVariants as A
 use Rattle.ob_mean.specs.Kinds.{plain_columns}

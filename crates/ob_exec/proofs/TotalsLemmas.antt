@@ -1,21 +1,17 @@
 -- A SELECT of totals: what its pass did is what it means.
-use Rattle.std.proofs.Common.{◌≡◌, inl, inr, ◌≤◌, max, ℕ, Bool, true, false, if◌then◌else◌, List, [], ◌∷◌, ◌++◌, length, map, Option, Some, None, Result, Ok, Err, refl, sym, ◌∙◌, ap, subst, arith, append_assoc}
-use Rattle.std.specs.Prelude.{OnOk, OnErr, filter_map, not, ◌==◌, ◌||◌, nat_lt}
+use Rattle.std.proofs.Common.{◌≡◌, ◌≤◌, ℕ, Bool, true, false, if◌then◌else◌, List, [], ◌∷◌, ◌++◌, length, map, Option, Some, None, Result, Ok, Err, refl, sym, ◌∙◌, ap, subst, arith, append_assoc}
+use Rattle.std.specs.Prelude.{OnOk, OnErr, filter_map, not, ◌==◌, nat_lt}
 use Rattle.std.specs.List.{All, list_all, list_any, flat_map}
 use Rattle.std.proofs.lemmas.Bool.Decides.{nat_tests}
 use Rattle.std.proofs.lemmas.List.{append-nil, length-map}
 use Rattle.std.proofs.lemmas.List.Elements.{All-head, All-tail}
-use Rattle.ob_base.specs.declared.config.Public.{Public}
-use Rattle.ob_base.specs.declared.refusal.Refusal.{Refusal}
 use Rattle.ob_base.specs.declared.refusal.Refusal.TheVariants.{TooManyGroups}
 use Rattle.ob_base.specs.declared.schema.Heading.{Heading}
 use Rattle.ob_base.specs.declared.shown.Shown.{Shown}
 use Rattle.ob_base.specs.declared.skeleton.ColumnName.{ColumnName}
 use Rattle.ob_base.specs.declared.emit.EmitErr.{EmitErr}
 use Rattle.ob_base.specs.Events.{Event, EmitCause, Head, Row as RowEvent, Close, row_events, Leads}
-use Rattle.ob_base.specs.Labels.{call_label}
 use Rattle.ob_base.specs.Schemas.{Columns}
-use Rattle.ob_room.specs.RoomState.{RoomState}
 use Rattle.ob_row.specs.declared.aggregate.Agg.{Agg}
 use Rattle.ob_row.specs.declared.aggregate.Agg.TheVariants as Aggs
 use Rattle.ob_row.specs.Slots.{Slots}
@@ -34,17 +30,16 @@ use Rattle.ob_mean.specs.declared.answer.Answer.{Answer}
 use Rattle.ob_mean.specs.declared.answer.Answer.TheVariants as A
 use Rattle.ob_mean.specs.Kinds.{plain_columns}
 use Rattle.ob_mean.specs.Names.{place_of}
-use Rattle.ob_mean.specs.Prints.{Prints, Begun, item_label, label_at}
+use Rattle.ob_mean.specs.Prints.{Prints, Begun, item_label}
 use Rattle.ob_mean.specs.Refusals.{is_group}
 use Rattle.ob_mean.specs.Step.{agg_of, item_of, answered, overgroups, total_rows, totals_columns}
 use Rattle.ob_mean.proofs.EarlyLemmas.{allowed, neither}
-use Rattle.ob_mean.specs.Refusals.{lack_columns, scope_of, named_columns, compared, select_lacks_column, early_refusal}
+use Rattle.ob_mean.specs.Refusals.{early_refusal}
 use Rattle.ob_verdict.specs.Accepted.{IsPlace, agg_places}
 use Rattle.ob_verdict.proofs.AcceptedProof.{totals_places_fit}
 use Rattle.ob_exec.specs.declared.outcome.Outcome.{Outcome}
 use Rattle.ob_exec.specs.declared.outcome.Outcome.TheVariants.{Rows, Refused}
-use Rattle.ob_exec.specs.Running.{IsAnswer, Emits, is_row}
-use Rattle.ob_exec.specs.Selecting.{UsesRoom}
+use Rattle.ob_exec.specs.Running.{IsAnswer, is_row}
 use Rattle.ob_exec.specs.Telling.{Partly, outcome_of}
 use Rattle.ob_exec.specs.Totalling.{Gives, TotalsFit, agg_at, answer_of, totalled}
 
@@ -132,9 +127,6 @@ module _ (places : ℕ) (cs : Columns) (s : SelectTotals) (slots : Slots) where
   answer_grouped key some =
       ap (λ (g : Option ColumnName). answered (if overgroups places g cs (totalled cs s slots) then Some TooManyGroups else None) (A.Rows (total_rows g cs s.items (totalled cs s slots)))) some
 
-  pub group_count : (key : ColumnName) → length (group_rows key) ≡ heads key
-  group_count key = length-map (group_heads (place_of key cs) (totalled cs s slots)) _
-
 abbrev pub outcome_as : Grouped → Outcome
 outcome_as (Groups n) = Rows n
 outcome_as TooMany = Refused TooManyGroups
@@ -220,9 +212,3 @@ is_answer labels rows k count few = record {
   few = omega (arith, few);
   is = ap (λ (n : ℕ). Head labels ∷ (row_events rows ++ Close n ∷ [])) (sym count);
 }
-
--- ---- the room
-pub uses_room : (old new : RoomState) (n : ℕ) → 1 ≤ n → new ≡ record old { high = max old.high n } → UsesRoom old new
-uses_room old new n some is =
-    let high = ap (λ (r : RoomState). r.high) is in
-    record { same = is ∙ ap (λ (h : ℕ). record old { high = h }) (sym high); kept = omega (arith, high); some = omega (arith, high, some) }

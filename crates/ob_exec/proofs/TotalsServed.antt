@@ -1,5 +1,5 @@
 -- A SELECT of totals, after its pass.
-use Rattle.std.proofs.Common.{◌≡◌, ◌⊎◌, inl, inr, ◌-◌, ◌+◌, ◌*◌, ◌≤◌, ℕ, Bool, true, false, if◌then◌else◌, List, [], ◌∷◌, ◌++◌, length, filter, Option, Some, None, Result, Ok, Err, refl, sym, ◌∙◌, ap, subst, arith, append-nil}
+use Rattle.std.proofs.Common.{◌≡◌, ◌⊎◌, inl, inr, ◌-◌, ◌+◌, ◌*◌, ◌≤◌, ℕ, Bool, true, false, if◌then◌else◌, List, [], length, filter, Option, Some, None, Result, Ok, Err, refl, sym, ◌∙◌, ap, subst, arith, append-nil}
 use Rattle.std.specs.Prelude.{IfOk, OnErr, IfErr}
 use Rattle.std.specs.Option.{option_map, option_map_or, option_or}
 use Rattle.ob_base.specs.declared.config.Public.{Public}
@@ -9,7 +9,6 @@ use Rattle.ob_base.specs.declared.refusal.Stop.{Stop}
 use Rattle.ob_base.specs.declared.refusal.Stop.TheVariants as Stops
 use Rattle.ob_base.specs.declared.schema.Heading.{Heading}
 use Rattle.ob_base.specs.declared.schema.Table.{Table}
-use Rattle.ob_base.specs.declared.seen.Seen.{Seen}
 use Rattle.ob_base.specs.declared.seen.End.TheVariants.{Whole, Cut}
 use Rattle.ob_base.specs.Events.{Event}
 use Rattle.ob_base.specs.Limits.{buffered}
@@ -25,7 +24,6 @@ use Rattle.ob_row.proofs.BagLemmas.{Same-refl}
 use Rattle.ob_store.specs.State.{StoreState}
 use Rattle.ob_store.specs.Calls.{Rests}
 use Rattle.ob_vault.specs.State.{RevState, World}
-use Rattle.ob_vault.specs.Tied.{IsUnfit}
 use Rattle.ob_vault.specs.Calls.{Lasts, none}
 use Rattle.ob_vault.specs.Places.{at}
 use Rattle.ob_vault.specs.declared.vault.Vault.{Vault}
@@ -33,7 +31,7 @@ use Rattle.ob_vault.proofs.WordLemmas.{went_rests}
 use Rattle.ob_flat.specs.declared.fault.OpErr.{OpErr}
 use Rattle.ob_flat.specs.declared.fault.OpErr.TheVariants as OpErrs
 use Rattle.ob_flat.specs.declared.flat.Flat.{Flat}
-use Rattle.ob_flat.specs.Emission.{SlotsToEnd, SlotsToHalt}
+use Rattle.ob_flat.specs.Emission.{SlotsToEnd}
 use Rattle.ob_flat.specs.Flats.{Represents as FlatRepresents}
 use Rattle.ob_flat.specs.Passes.{SinkCause as PassSink}
 use Rattle.ob_flat.proofs.Resting.{represents_rests}
@@ -53,14 +51,13 @@ use Rattle.ob_mean.specs.Verdict.{Tables, database, is_late, refusal, verdict, s
 use Rattle.ob_mean.proofs.VerdictLemmas.{heading-stored, headings-database, stored-database, refused_late}
 use Rattle.ob_exec.specs.declared.engine.Engine.{Engine}
 use Rattle.ob_exec.specs.declared.outcome.Outcome.{Outcome}
-use Rattle.ob_exec.specs.declared.outcome.Outcome.TheVariants.{Rows, Refused}
+use Rattle.ob_exec.specs.declared.outcome.Outcome.TheVariants.{Refused}
 use Rattle.ob_exec.specs.Agreeing.{Agrees, world_of}
 use Rattle.ob_exec.specs.Engines.{IsAt, flat_of}
-use Rattle.ob_exec.specs.Memory.{LacksMemory}
-use Rattle.ob_exec.specs.Running.{Ran, Emits, SinkCause, answer_of, is_stop, refusal_now}
+use Rattle.ob_exec.specs.Running.{Emits, SinkCause, answer_of, is_stop, refusal_now}
 use Rattle.ob_exec.specs.Selecting.{UsesRoom}
-use Rattle.ob_exec.specs.Serving.{Serves, Answered, Stopped, Means}
-use Rattle.ob_exec.specs.Telling.{AreHeld, Represents, ReadsTrue, ReadsTrueUntil, Told, SeenCut, Partly, IsNotTampered, answer_labels, is_refused, outcome_of}
+use Rattle.ob_exec.specs.Serving.{Serves}
+use Rattle.ob_exec.specs.Telling.{AreHeld, Represents, Partly, IsNotTampered, answer_labels, is_refused, outcome_of}
 use Rattle.ob_exec.specs.Totalling.{IsTotalled, MayTotal, Totals, TotalsFit, labels_at, answer_of as answer_at}
 use Rattle.ob_exec.proofs.FoundLemmas.{heading_found}
 use Rattle.ob_exec.proofs.HeldLemmas.{Beside, held_at}

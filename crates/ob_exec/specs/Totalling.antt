@@ -1,13 +1,12 @@
 -- A SELECT of totals of one table, by its slots: its answer, and what is emitted.
-use Rattle.std.specs.Prelude.{◌≡◌, ◌⊎◌, ◌≤◌, ◌<◌, ℕ, Bool, false, List, []}
+use Rattle.std.specs.Prelude.{◌≡◌, ◌⊎◌, ◌≤◌, ◌<◌, ℕ, false, List}
 use Rattle.std.specs.Prelude.{map, filter, filter_map, unwrap_or, length, Option, Some, None, if◌then◌else◌}
-use Rattle.std.specs.Prelude.{IfSome, Result, Err, OnOk, OnErr, IfOk, IfErr, MatchResult}
+use Rattle.std.specs.Prelude.{IfSome, Result, Err, OnOk, OnErr, IfOk, MatchResult}
 use Rattle.ob_base.specs.declared.emit.EmitErr.{EmitErr}
 use Rattle.ob_base.specs.declared.emit.EmitErr.TheVariants as EmitErrs
 use Rattle.ob_base.specs.declared.refusal.Refusal.{Refusal}
 use Rattle.ob_base.specs.declared.refusal.Refusal.TheVariants.{TooManyGroups}
 use Rattle.ob_base.specs.Events.{Event, EmitCause, Leads}
-use Rattle.ob_base.specs.Limits.{buffered}
 use Rattle.ob_base.specs.Schemas.{Columns}
 use Rattle.ob_room.specs.RoomState.{RoomState}
 use Rattle.ob_blocks.specs.Idle.{IsIdle}
@@ -41,7 +40,6 @@ use Rattle.ob_mean.specs.Step.{agg_of, answered, overgroups, totals_answer}
 use Rattle.ob_exec.specs.declared.outcome.Outcome.{Outcome}
 use Rattle.ob_exec.specs.declared.outcome.Outcome.TheVariants as Outcomes
 use Rattle.ob_exec.specs.Running.{Emits}
-use Rattle.ob_exec.specs.Selecting.{UsesRoom}
 use Rattle.ob_exec.specs.Telling.{Partly, outcome_of}
 
 -- the aggregate of an item; where it is a plain column, the rows are counted
@@ -70,7 +68,8 @@ outcome_at s answer = outcome_of (TotalsStmt s) answer
 
 -- how it is answered: by so many rows, or that there are too many groups
 abbrev pub IsTotalled : Outcome → Type 0
-IsTotalled outcome = ((k : ℕ) × (outcome ≡ Outcomes.Rows k)) ⊎ (outcome ≡ Outcomes.Refused TooManyGroups)
+IsTotalled outcome =
+    ((k : ℕ) × (outcome ≡ Outcomes.Rows k)) ⊎ (outcome ≡ Outcomes.Refused TooManyGroups)
 
 -- the error of a pass that an emitter's makes
 abbrev pub error_of : EmitErr → OpErr
@@ -78,7 +77,7 @@ error_of EmitErrs.Failed = Sink
 error_of EmitErrs.NoMemory = NoMemory
 
 -- ---- what is asked
--- a select's items and key among the columns of its table, none of them a column that stands for no group
+-- a select's items and key are among the columns of its table, and each plain column is the group's own
 pub record TotalsFit (cs : Columns) (s : SelectTotals) : Type 0 where
   pub few : length s.items ≤ 32
   pub within : AreWithin (length cs) (filter_map (agg_of cs) s.items)
@@ -102,12 +101,14 @@ pub record MayTotal (flat : Flat) (condition : Condition) (s : SelectTotals)
 pub record Gives {E T : Type 0} (grew cut : E → E → List Event → Type 0) (faults : E → ℕ)
     (events : List Event) (result : Result T EmitErr) (out_old out_new : E) : Type 0 where
   pub ok : OnOk result (Leads grew grew out_old out_new events)
-  pub err : OnErr result ((part : List Event) × Leads grew cut out_old out_new part × Begun part events)
+  pub err : OnErr result
+      ((part : List Event) × Leads grew cut out_old out_new part × Begun part events)
   pub cause : EmitCause result (faults out_old) (faults out_new)
 
 -- an answer was emitted, that of the slots
-pub record EmitsTotals {E : Type 0} (grew : E → E → List Event → Type 0) (places pack : ℕ) (flat : Flat)
-    (s : SelectTotals) (outcome : Outcome) (old new : World) (out_old out_new : E) : Type 0 where
+pub record EmitsTotals {E : Type 0} (grew : E → E → List Event → Type 0)
+    (places pack : ℕ) (flat : Flat) (s : SelectTotals) (outcome : Outcome)
+    (old new : World) (out_old out_new : E) : Type 0 where
   pub events : List Event
   pub leads : Leads grew grew out_old out_new events
   pub emits : Emits (labels_at flat.schema s) outcome events
@@ -115,14 +116,16 @@ pub record EmitsTotals {E : Type 0} (grew : E → E → List Event → Type 0) (
       → Prints (labels_at flat.schema s) (answer_of places flat.schema s q.slots) events
 
 -- a first part of it was
-pub record HaltsTotals {E : Type 0} (grew cut : E → E → List Event → Type 0) (places pack : ℕ) (flat : Flat)
-    (s : SelectTotals) (old new : World) (out_old out_new : E) : Type 0 where
+pub record HaltsTotals {E : Type 0} (grew cut : E → E → List Event → Type 0)
+    (places pack : ℕ) (flat : Flat) (s : SelectTotals)
+    (old new : World) (out_old out_new : E) : Type 0 where
   pub events : List Event
   pub ends : Leads grew grew out_old out_new events ⊎ Leads grew cut out_old out_new events
   pub told : (q : SlotsToHalt pack flat old new)
       → Partly (labels_at flat.schema s) (answer_of places flat.schema s q.slots) events
 
--- each block was read once, in order, and then the totals of the selected rows emitted, or those of each group of them
+-- each block was read once, in order, and then the totals of the selected rows were emitted, or those of
+-- each group of them; none where the store failed
 pub record Totals {E : Type 0} (grew cut : E → E → List Event → Type 0) (faults : E → ℕ)
     (places pack : ℕ) (flat : Flat) (s : SelectTotals)
     (result : Result Outcome OpErr) (old new : World) (out_old out_new : E) : Type 0 where
@@ -133,7 +136,8 @@ pub record Totals {E : Type 0} (grew cut : E → E → List Event → Type 0) (f
       EmitsTotals grew places pack flat s outcome old new out_old out_new)
   pub halted : OnErr result (HaltsTotals grew cut places pack flat s old new out_old out_new)
   pub failed : result ≡ Err Failed → out_new ≡ out_old
-  pub after : result ≡ Err NoMemory → Went (count_part flat.region (blocks_of pack flat)) none old new
+  pub after : result ≡ Err NoMemory
+      → Went (count_part flat.region (blocks_of pack flat)) none old new
   pub sink : SinkCause result (faults out_old) (faults out_new)
   pub told : (q : SlotsToEnd pack flat old new) → MatchResult result
       (λ outcome. outcome ≡ outcome_at s (answer_of places flat.schema s q.slots))

@@ -1,5 +1,5 @@
 //! The answer to a SELECT of totals, by one pass over its table.
-ghost use Rattle.std.specs.Prelude.{◌≡◌, ◌≤◌, ◌<◌, [], ◌∷◌, map, take, length, Some, None};
+ghost use Rattle.std.specs.Prelude.{◌≡◌, ◌≤◌, [], ◌∷◌, map, take, length, Some, None};
 ghost use Rattle.ob_base.specs.Events.{Head, Row, Close};
 ghost use Rattle.ob_base.specs.Limits.{buffered};
 ghost use Rattle.ob_vault.specs.Places.{at};
@@ -158,7 +158,16 @@ fn answer_groups<S: BlockStore, R: Revisions, E: Emit>(
     let columns = flat.schema.as_slice();
     let items = items_at(listed, columns);
     let place = place_of(key, columns, &[]) as u8;
-    match group(store, vault, room, flat, pred, place, &items[..listed.len()], out) {
+    match group(
+        store,
+        vault,
+        room,
+        flat,
+        pred,
+        place,
+        &items[..listed.len()],
+        out,
+    ) {
         Ok(Grouped::Groups(n)) => match out.close(n) {
             Ok(()) => Ok(Outcome::Rows(n)),
             Err(error) => Err(error_of(error)),
@@ -170,8 +179,8 @@ fn answer_groups<S: BlockStore, R: Revisions, E: Emit>(
 
 /// Totals the rows of a table that make the condition true: reads each block once, in order, and then
 /// emits the answer, of one row, or with GROUP BY of a row for each group. Where there are more groups
-/// than may be kept it is refused, and nothing is emitted. Nothing is emitted either where the store failed.
-/// It takes no memory itself.
+/// than may be kept it is refused, and nothing is emitted. Nothing is emitted either where the store
+/// failed. It takes no memory itself.
 pub(crate) fn answer_totals<S: BlockStore, R: Revisions, E: Emit>(
     store: &mut S,
     vault: &mut Vault<R>,

@@ -38,7 +38,15 @@ impl<R: Revisions> Engine<R> {
         if self.make_room(store, &flat, 1).is_err() {
             return self.cut(0, OpErr::NoMemory);
         }
-        match answer_totals(store, &mut self.vault, &mut self.room, &flat, &pred, select, out) {
+        match answer_totals(
+            store,
+            &mut self.vault,
+            &mut self.room,
+            &flat,
+            &pred,
+            select,
+            out,
+        ) {
             Ok(outcome) => Ok(self.finish(outcome)),
             Err(error) => self.cut(store.count() - before, error),
         }

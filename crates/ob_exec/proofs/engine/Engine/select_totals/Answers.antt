@@ -1,19 +1,13 @@
-use Rattle.std.proofs.Common.{◌≡◌, ◌≤◌, ◌*◌, ◌+◌, ◌-◌, ℕ, length, Ok, Err, refl, sym, ◌∙◌, ap, subst, arith, append-nil}
+use Rattle.std.proofs.Common.{◌≡◌, ◌-◌, length, Ok, Err, sym, ◌∙◌, ap, subst, append-nil}
 use Rattle.ob_base.specs.Limits.{buffered}
-use Rattle.ob_base.specs.Numbers.{blocks_for}
-use Rattle.ob_base.specs.Schemas.{Columns}
 use Rattle.ob_base.specs.Stored.{has_table, headings_of}
-use Rattle.ob_vault.specs.Calls.{none}
 use Rattle.ob_vault.specs.Places.{at}
-use Rattle.ob_vault.proofs.WordLemmas.{went_rests}
 use Rattle.ob_flat.specs.declared.flat.Flat.{Flat}
 use Rattle.ob_sql.specs.declared.stmt.Stmt.TheVariants.{SelectTotals as TotalsStmt}
 use Rattle.ob_mean.specs.Names.{where_at}
 use Rattle.ob_mean.specs.Verdict.{is_late}
 use Rattle.ob_mean.proofs.EarlyLemmas.{allowed}
-use Rattle.ob_exec.specs.declared.engine.Engine.{Engine}
 use Rattle.ob_exec.specs.declared.outcome.Outcome.{Outcome}
-use Rattle.ob_exec.specs.Agreeing.{world_of}
 use Rattle.ob_exec.specs.Totalling.{Totals}
 use Rattle.ob_exec.proofs.FoundLemmas.{is_there}
 use Rattle.ob_exec.proofs.CreateLemmas.{at_ok}
