@@ -14,3 +14,7 @@ pub mod ResultHoles
 pub mod ResultMade
 pub mod ResultRows
 pub mod ResultSteps
+pub mod SelectRuns
+pub mod SelectMeans
+pub mod SelectTold
+pub mod SelectEnds

@@ -8,7 +8,7 @@ use Rattle.ob_base.specs.declared.config.Plan.TheVariants.{Small, Large, Continu
 use Rattle.ob_base.specs.declared.refusal.Refusal.{Refusal}
 use Rattle.ob_base.specs.declared.refusal.Refusal.TheVariants.{Overflow}
 use Rattle.ob_base.specs.declared.shown.Shown.{Shown}
-use Rattle.ob_base.specs.Events.{Event, IsEmitted, IsHalted, row_events}
+use Rattle.ob_base.specs.Events.{Event, Leads, IsEmitted, IsHalted, row_events}
 use Rattle.ob_room.specs.RoomState.{RoomState}
 use Rattle.ob_row.specs.Results.{result_slots, unplaced}
 use Rattle.ob_row.specs.Totals.{printed}
@@ -225,3 +225,10 @@ pub record SelectsBy {E : Type 0} (grew cut : E → E → List Event → Type 0)
   -- where a row is left out, it was not read back whole
   pub before : (s : PlannedToHalt r old new) → IsSome (left_out r s.slots) → IfErr result (λ e.
       done_of (is_of_access e) (length new.store.asked - length old.store.asked) + 1 < length (whole_part r old.vault.next))
+
+-- a header was emitted alone
+pub record EmitsHead {E : Type 0} (grew cut : E → E → List Event → Type 0) (faults : E → ℕ)
+    (head : List Event) (result : Result Selected OpErr) (out_old out_new : E) : Type 0 where
+  pub ok : IfOk result (λ answer. (answer ≡ Rows 0) × Leads grew grew out_old out_new head)
+  pub err : IfErr result (λ e. ((e ≡ Sink) ⊎ (e ≡ NoMemory)) × Leads grew cut out_old out_new head)
+  pub sink : SinkCause result (faults out_old) (faults out_new)

@@ -3,6 +3,8 @@ ghost use Rattle.std.specs.Prelude.{◌≡◌};
 ghost use Rattle.ob_base.specs.declared.seen.End.TheVariants.{Whole};
 ghost use Rattle.ob_vault.specs.Places.{at};
 ghost use Rattle.ob_mean.specs.Verdict.{ended as seen_to};
+ghost use Rattle.ob_emit.specs.Emitting.{AreColumns, header};
+ghost use Rattle.ob_exec.specs.Results.{EmitsHead};
 ghost use Rattle.ob_exec.specs.Selecting.{MaySelect, SelectsFrom, UsesRoom, selection_of};
 
 use crate::results::select_by;
@@ -32,7 +34,11 @@ pub(crate) enum Selected {
 }
 
 // Emits the header alone.
-fn emit_none<E: Emit>(query: &Query<'_>, out: &mut E) -> Result<Selected, OpErr> {
+fn emit_none<E: Emit>(query: &Query<'_>, out: &mut E) -> Result<Selected, OpErr>
+    requires { AreColumns query.now.flat.now.schema query.now.cols.now }
+    ensures { EmitsHead E.grew E.cut E.faults (header query.now.flat.now.schema query.now.cols.now)
+        result out.old out.new }
+{
     match emit_head(&query.flat.schema, query.cols, out) {
         Ok(()) => Ok(Selected::Rows(0)),
         Err(EmitErr::Failed) => Err(OpErr::Sink),
@@ -53,11 +59,12 @@ pub(crate) fn select_from<S: BlockStore, R: Revisions, E: Emit>(
     seen: &mut Seen,
     out: &mut E,
 ) -> Result<Selected, OpErr>
-    requires may { MaySelect (selection_of public.now query) room.old
+    requires may { MaySelect (selection_of public.now query.now) room.old
         (at R.state vault.old (S.state store.old)) }
     requires fresh { seen.old ≡ seen_to Whole }
     ensures room { UsesRoom room.old room.new }
-    ensures selects { SelectsFrom E.grew E.cut E.faults (selection_of public.now query) result seen.new
+    ensures selects { SelectsFrom E.grew E.cut E.faults
+        (selection_of public.now query.now) result seen.new
         (at R.state vault.old (S.state store.old)) (at R.state vault.new (S.state store.new))
         out.old out.new }
 {
@@ -73,10 +80,14 @@ pub(crate) fn select_from<S: BlockStore, R: Revisions, E: Emit>(
     }
     seen.plan = Some(plan);
     match select_by(store, vault, room, public, query, counted.k, plan, out)? {
-        Selected::Refused(_) if public.plan.is_none() => {
+        Selected::Rows(n) => Ok(Selected::Rows(n)),
+        Selected::Refused(refusal) => {
+            if public.plan.is_some() {
+                return Ok(Selected::Refused(refusal));
+            }
             seen.then = Some(Plan::Small);
-            select_by(store, vault, room, public, query, counted.k, Plan::Small, out)
+            let plan = Plan::Small;
+            select_by(store, vault, room, public, query, counted.k, plan, out)
         }
-        answer => Ok(answer),
     }
 }
