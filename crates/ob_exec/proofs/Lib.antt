@@ -17,4 +17,6 @@ pub mod ResultSteps
 pub mod SelectRuns
 pub mod SelectMeans
 pub mod SelectTold
+pub mod SelectFirst
+pub mod SelectHeld
 pub mod SelectEnds

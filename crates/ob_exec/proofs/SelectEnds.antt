@@ -8,7 +8,7 @@ use Rattle.ob_base.specs.declared.refusal.Refusal.{Refusal}
 use Rattle.ob_base.specs.declared.refusal.Refusal.TheVariants as Refusals
 use Rattle.ob_base.specs.declared.seen.Seen.{Seen}
 use Rattle.ob_base.specs.declared.seen.End.TheVariants.{Whole, AfterCount}
-use Rattle.ob_base.specs.Events.{Event, Leads, IsEmitted, IsHalted}
+use Rattle.ob_base.specs.Events.{Event, Leads, IsEmitted, IsHalted, row_events}
 use Rattle.ob_base.specs.Limits.{buffered}
 use Rattle.ob_base.specs.Plans.{choose}
 use Rattle.ob_base.proofs.EventLemmas.{halted_none, emitted_head}
@@ -19,7 +19,7 @@ use Rattle.ob_vault.specs.State.{World}
 use Rattle.ob_vault.specs.Tied.{Ready}
 use Rattle.ob_vault.specs.Calls.{Went, none, one}
 use Rattle.ob_exec.specs.Engines.{AreSettings}
-use Rattle.ob_vault.proofs.Runs.{went_length, went_wider, seals_join}
+use Rattle.ob_vault.proofs.Runs.{went_length, went_wider, went_none, seals_join}
 use Rattle.ob_flat.specs.declared.counting.Counted.{Counted}
 use Rattle.ob_flat.specs.declared.fault.OpErr.{OpErr}
 use Rattle.ob_flat.specs.declared.fault.OpErr.TheVariants.{Failed, Tampered, Sink, NoMemory}
@@ -30,14 +30,26 @@ use Rattle.ob_flat.proofs.Runs.{pass_more, pass_wider}
 use Rattle.ob_flat.proofs.Tables.{blocks_hold}
 use Rattle.ob_flat.proofs.WordLemmas.{ran_lasts}
 use Rattle.ob_emit.specs.Emitting.{header}
-use Rattle.ob_mean.specs.Verdict.{counted, ended as seen_to}
+use Rattle.ob_mean.specs.Verdict.{counted, plan_for, ended as seen_to}
 use Rattle.ob_exec.specs.declared.selecting.Selected.{Selected}
 use Rattle.ob_exec.specs.declared.selecting.Selected.TheVariants.{Rows, Refused}
-use Rattle.ob_exec.specs.Selecting.{Selection, MaySelect, SelectsFrom, IsPlanOf, LacksMemoryIn, EndsAs, EndsCounted, counted_after, walked_after, from}
+use Rattle.ob_exec.specs.Selecting.{Selection, MaySelect, SelectsFrom, SelectsToEnd, SelectsToHalt, EmitsSelected, is_of_access, places, selected_as, shown_rows, result_of, seen_of, answer_of, answer_events, emitted_unless, IsPlanOf, LacksMemoryIn, EndsAs, EndsCounted, counted_after, walked_after, from}
 use Rattle.ob_exec.specs.Results.{planned, whole_part, SelectsBy, EmitsHead, MayAnswer, head_of}
 use Rattle.ob_exec.proofs.ResultParts.{length_hash}
 use Rattle.ob_exec.proofs.ResultSteps.{err_is, sink_none, first_block, on_err_map, if_ok_map, began-few}
-use Rattle.ob_exec.proofs.SelectTold.{end_back}
+use Rattle.ob_exec.proofs.SelectTold.{end_back, counted_is}
+use Rattle.ob_exec.proofs.SelectFirst.{IsFinal, first_emitted, first_told, first_halted, first_failed, first_held}
+use Rattle.ob_exec.proofs.SelectHeld.{uncounted_held, counted_held, walking_held, walked_held, walked_hash, done_behind, done_within}
+use Rattle.ob_exec.proofs.SelectMeans.{seen_none, refusal_none, shown_none, seen_apart, refuses_apart}
+use Rattle.ob_exec.proofs.ResultReads.{emitted_from, halted_from}
+use Rattle.ob_store.proofs.Steps as Stores
+use Rattle.ob_flat.proofs.Sinks.{none_before}
+use Rattle.ob_mean.specs.Verdict.{seen_rows}
+use Rattle.ob_flat.specs.Flats.{Represents}
+use Rattle.ob_row.specs.Slots.{Slots}
+use Rattle.std.specs.Prelude.{map}
+use Rattle.ob_row.specs.Slots.{rows, is_consecutive}
+use Rattle.ob_row.specs.Totals.{printed}
 use Rattle.ob_exec.proofs.SelectRuns.{counts_of, none_above, none_still, none_again, none_from, ran_counted, ran_first, ran_second, next_counted, next_made, place_in, not_empty}
 
 -- a selection counts at least one block
@@ -46,15 +58,8 @@ count_some q room w may =
     let pack = may.settings.pack_least in
     first_block q.flat.capacity (counted_after q) q.public.pack may.size.least (blocks_hold q.public.pack q.flat.capacity pack)
 
--- what may be answered at last where a plan was taken first
-abbrev pub IsFinal : Selection → Selected → Type 0
-IsFinal q (Rows n) = Unit {0}
-IsFinal q (Refused why) = IsSome q.public.plan
-
--- the accesses until a Hash's result was read back
-walked_is : (q : Selection) (k : ℕ) → AreSettings q.public → walked_after q (counted k (Some Hash) (Some Small) Whole) + 1 ≡ counted_after q + length (whole_part (planned q Hash k) 0)
-walked_is q k settings =
-    omega (arith, length-append (counts_of q) (whole_part (planned q Hash k) 0 ++ []), length-count_part q.flat.region (counted_after q), length-append (whole_part (planned q Hash k) 0) [], length_hash q k 0 settings)
+pub counts_at : (q : Selection) (pack : ℕ) (result : Result Counted OpErr) (old mid : World) → pack ≡ q.public.pack → CountsRows pack q.flat (is_true q.condition) result old mid → CountsRows q.public.pack q.flat (is_true q.condition) result old mid
+counts_at q pack result old mid same is = subst (λ (p : ℕ). CountsRows p q.flat (is_true q.condition) result old mid) same is
 
 on_err_of : {T F P : Type 0} (x : Result T F) → P → OnErr x P
 on_err_of (Ok v) h = tt
@@ -85,9 +90,12 @@ module _ {E : Type 0} (grew cut : E → E → List Event → Type 0) (faults : E
     failed = λ none. halted_none grew grew _ out;
     sink = sink_none Selected e _ (λ sink. elim is.never [ inl f ↦ cc (f, sink) | inr t ↦ cc (t.is, sink) ]);
     told = λ s. inl (is.told s.slots s.is s.nolie);
-    held = λ s. ?;
+    held = λ s. uncounted_held q s.slots e (length mid.store.asked - length old.store.asked) may.settings of_access (omega (arith, (began-few (counts_of q) old mid is.ran.err.began).0, length-count_part q.flat.region (counted_after q))) (count_some q room old may);
   }
     where
+      of_access : is_of_access e ≡ true
+      of_access = elim is.never [ inl f ↦ ap is_of_access f | inr t ↦ ap is_of_access t.is ]
+
       never : e ≡ NoMemory → ⊥
       never none = elim is.never [ inl f ↦ cc (f, none) | inr t ↦ cc (t.is, none) ]
 
@@ -114,6 +122,24 @@ module _ {E : Type 0} (grew cut : E → E → List Event → Type 0) (faults : E
     gone_alone : (x : ℕ) → old.vault.next ≤ x → mid.vault.revs.live x ≡ None
     gone_alone = none_still old.vault.next old mid count.lasts (none_above old may.ready)
 
+    halt_nolie : SelectsToHalt q old mid → mid.store.lie ≡ None
+    halt_nolie s = none_before none none (counts_of q) old mid mid count (went_none none mid count.lasts.ready).lasts s.nolie s.unfit
+
+    no_places : (slots : Slots) → Represents q.public.pack q.flat slots old → mid.store.lie ≡ None → k ≡ 0 → length (places q slots) ≡ 0
+    no_places slots held nolie empty = sym (counted_is q k c Small old mid is slots held nolie).0 ∙ empty
+
+    none_shown : (slots : Slots) → length (places q slots) ≡ 0 → [] ≡ shown_rows q slots
+    none_shown slots empty = sym (shown_none (places q slots) (map (printed q.cols) (rows (result_of q slots))) empty)
+
+    none_events : (slots : Slots) → length (places q slots) ≡ 0 → head_of q ++ [] ≡ answer_events q slots
+    none_events slots empty = λ i. emitted_unless (sym (refusal_none q.public (places q slots) empty) i) (head_of q ++ row_events (none_shown slots empty i))
+
+    none_seen : (slots : Slots) → length (places q slots) ≡ 0 → k ≡ 0 → counted k None None Whole ≡ seen_of q slots
+    none_seen slots empty zeros = ap (λ (n : ℕ). counted n None None Whole) zeros ∙ sym (seen_none q.public (length slots) (places q slots) empty)
+
+    none_answer : (slots : Slots) → length (places q slots) ≡ 0 → Rows 0 ≡ answer_of q slots
+    none_answer slots empty = sym (λ i. selected_as (refusal_none q.public (places q slots) empty i) (empty i))
+
     -- no row was counted
     pub end_none : (result : Result Selected OpErr) (out_old out_new : E) → k ≡ 0 → EmitsHead grew cut faults (head_of q) result out_old out_new
         → SelectsFrom grew cut faults q result (counted k None None Whole) old mid out_old out_new
@@ -126,11 +152,12 @@ module _ {E : Type 0} (grew cut : E → E → List Event → Type 0) (faults : E
       ended = subst (λ (a : Selected). EndsAs q a (counted k None None Whole)) (sym head.ok.0) (record { counted = k; count = refl; end = refl; none = λ same. empty });
       reached = tt;
       memory = λ none. absurd (cc none);
-      emitted = ?;
+      emitted = subst (λ (a : Selected). EmitsSelected grew q a old mid out_old out_new) (sym head.ok.0)
+          (emitted_from {S = SelectsToEnd q old mid} (λ s. s) (λ s. none_shown s.slots (no_places s.slots s.is s.nolie empty)) (emitted_head grew (head_of q) out_old out_new head.ok.1));
       halted = tt;
       failed = λ none. absurd (cc none);
       sink = head.sink;
-      told = λ s. ?;
+      told = λ s. let none = no_places s.slots s.is s.nolie empty in (head.ok.0 ∙ none_answer s.slots none, none_seen s.slots none empty);
       held = λ s. tt;
     }
     end_none (Err e) out_old out_new empty head = record {
@@ -150,11 +177,12 @@ module _ {E : Type 0} (grew cut : E → E → List Event → Type 0) (faults : E
         place = inr (refl, refl);
       };
       emitted = tt;
-      halted = ?;
+      halted = record { events = head_of q; ends = inr head.err.1; told = λ s. ([], none_events s.slots (no_places s.slots s.is (halt_nolie s) empty)) };
       failed = λ none. absurd (elim head.err.0 [ inl s ↦ cc (s, err_is none) | inr m ↦ cc (m, err_is none) ]);
       sink = head.sink;
       told = λ s. elim head.err.0 [ inl s ↦ inr (inl s) | inr m ↦ inr (inr m) ];
-      held = λ s. ?;
+      held = λ s. counted_held q s.slots k None (is_of_access e) (length mid.store.asked - length old.store.asked) (sym (none_seen s.slots (no_places s.slots s.is (halt_nolie s) empty) empty))
+          (done_behind e _ (counted_after q) (omega (arith, long)) (λ access. absurd (elim head.err.0 [ inl sink ↦ cc (sym access ∙ ap is_of_access sink) | inr none ↦ cc (sym access ∙ ap is_of_access none) ])));
     }
 
     -- Continuous was forced, and refused
@@ -172,11 +200,19 @@ module _ {E : Type 0} (grew cut : E → E → List Event → Type 0) (faults : E
       halted = tt;
       failed = λ none. absurd (cc none);
       sink = refl;
-      told = λ s. ?;
+      told = λ s.
+          let are = counted_is q k c Continuous old mid is s.slots s.is s.nolie in
+          let some : 1 ≤ length (places q s.slots) = omega (arith, least, are.0) in
+          let off = sym are.1 ∙ apart in
+          let so : Continuous ≡ plan_for q.public (length s.slots) (places q s.slots) = sym (ap (λ (o : Option Plan). choose o (buffered q.public.pack q.public.buffer) (length s.slots) (length (places q s.slots)) (is_consecutive (places q s.slots))) forced) in
+          (
+            sym (ap (λ (o : Option Refusal). selected_as o (length (places q s.slots))) (refuses_apart q.public (places q s.slots) (length s.slots) Continuous some so forced off)),
+            ap (λ (n : ℕ). counted n None None AfterCount) are.0 ∙ sym (seen_apart q.public (places q s.slots) (length s.slots) Continuous some so refl off)
+          );
       held = λ s. tt;
     }
 
-    module _ (plan : Plan) (least : 1 ≤ k) (chosen : plan ≡ choose q.public.plan (buffered q.public.pack q.public.buffer) q.flat.capacity k c) where
+    module _ (plan : Plan) (side : plan ≡ Continuous → IsTrue c) (least : 1 ≤ k) (chosen : plan ≡ choose q.public.plan (buffered q.public.pack q.public.buffer) q.flat.capacity k c) where
       first_ended : (result : Result Selected OpErr) → IfOk result (IsFinal q) → IfOk result (MayAnswer plan) → IfOk result (λ a. EndsAs q a (counted k (Some plan) None Whole))
       first_ended (Ok (Rows n)) final answers = record { counted = k; count = refl; end = refl; none = λ none. absurd (cc none) }
       first_ended (Ok (Refused (Refusals.Overflow i))) final answers =
@@ -209,12 +245,12 @@ module _ {E : Type 0} (grew cut : E → E → List Event → Type 0) (faults : E
                   some = not_empty (counts_of q ++ m.done) (omega (arith, count_some q room old may, length-count_part q.flat.region (counted_after q), length-append (counts_of q) m.done));
                   place = place_in _ (counts_of q) m.done m.rest refl m.place;
                 };
-            emitted = ?;
-            halted = ?;
-            failed = λ none. ?;
+            emitted = first_emitted q k c plan old mid is side least chosen grew cut faults new out_old out_new result by;
+            halted = first_halted q k c plan old mid is side least chosen grew cut faults new out_old out_new result by;
+            failed = λ none. first_failed q k c plan old mid is side least chosen grew cut faults new out_old out_new result none by;
             sink = by.sink;
-            told = λ s. ?;
-            held = λ s. ?;
+            told = first_told q k c plan old mid is side least chosen grew cut faults new out_old out_new result final by;
+            held = λ s. first_held q k c plan old mid is side least chosen grew cut faults new out_old out_new may.settings long (count_some q room old may) result by s;
           }
 
     -- Small took the place of a Hash that left a row out
@@ -246,7 +282,7 @@ module _ {E : Type 0} (grew cut : E → E → List Event → Type 0) (faults : E
             ended = second_ended result by.may;
             reached = on_err_of result (record {
               count = λ some. omega (arith, long, more, ran_long result by.ran);
-              walk = λ some. omega (arith, long, more, ran_long result by.ran, walked_is q k may.settings, length_hash q k mid.vault.next may.settings, length_hash q k 0 may.settings);
+              walk = λ some. omega (arith, long, more, ran_long result by.ran, walked_hash q k may.settings, length_hash q k mid.vault.next may.settings, length_hash q k 0 may.settings);
             });
             memory = λ none.
                 let m = by.memory none in

@@ -4,13 +4,14 @@ ghost use Rattle.ob_base.specs.declared.seen.End.TheVariants.{Whole};
 ghost use Rattle.ob_vault.specs.Places.{at};
 ghost use Rattle.ob_mean.specs.Verdict.{ended as seen_to};
 ghost use Rattle.ob_emit.specs.Emitting.{AreColumns, header};
-ghost use Rattle.ob_exec.specs.Results.{EmitsHead};
+ghost use Rattle.ob_exec.specs.Engines.{AreSettings};
+ghost use Rattle.ob_exec.specs.Results.{ChoosesPlan, EmitsHead};
 ghost use Rattle.ob_exec.specs.Selecting.{MaySelect, SelectsFrom, UsesRoom, selection_of};
 
 use crate::results::select_by;
 use ob_base::{Emit, EmitErr, End, Plan, Public, Refusal, Seen};
 use ob_emit::emit_head;
-use ob_flat::{Flat, OpErr};
+use ob_flat::{Counted, Flat, OpErr};
 use ob_room::Room;
 use ob_row::Pred;
 use ob_store::BlockStore;
@@ -46,6 +47,24 @@ fn emit_none<E: Emit>(query: &Query<'_>, out: &mut E) -> Result<Selected, OpErr>
     }
 }
 
+// The plan for so many of `n` rows; none where Continuous is forced, and they don't stand side by side.
+fn plan_of(n: u32, counted: Counted, public: &Public) -> Option<Plan>
+    requires { AreSettings public.now }
+    ensures { ChoosesPlan public.now n counted.k counted.consecutive result }
+{
+    let plan = ob_plan::plan(n, counted.k, counted.consecutive, public);
+    match plan {
+        Plan::Continuous => {
+            if counted.consecutive {
+                Some(plan)
+            } else {
+                None
+            }
+        }
+        Plan::Small | Plan::Large | Plan::Hash => Some(plan),
+    }
+}
+
 /// Selects from a region: its rows are counted, then put into a fresh region by the plan for so many, and
 /// the result is emitted and discarded. Where a Hash that wasn't forced left a row out, its result is
 /// walked and discarded, and Small takes its place. `seen` has afterwards what is known by what was asked,
@@ -73,11 +92,10 @@ pub(crate) fn select_from<S: BlockStore, R: Revisions, E: Emit>(
     if counted.k == 0 {
         return emit_none(query, out);
     }
-    let plan = ob_plan::plan(query.flat.capacity, counted.k, counted.consecutive, public);
-    if plan == Plan::Continuous && !counted.consecutive {
+    let Some(plan) = plan_of(query.flat.capacity, counted, public) else {
         seen.end = End::AfterCount;
         return Ok(Selected::Refused(Refusal::NotConsecutive));
-    }
+    };
     seen.plan = Some(plan);
     match select_by(store, vault, room, public, query, counted.k, plan, out)? {
         Selected::Rows(n) => Ok(Selected::Rows(n)),
