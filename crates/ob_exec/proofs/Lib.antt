@@ -32,3 +32,9 @@ pub mod RowsEnds
 pub mod RowsReach
 pub mod RowsSource
 pub mod RowsFound
+pub mod SelectRuns
+pub mod SelectMeans
+pub mod SelectTold
+pub mod SelectFirst
+pub mod SelectHeld
+pub mod SelectEnds

@@ -44,7 +44,7 @@ module _ (n : ℕ) (p : Row → Bool) (slots : Slots) where
   by_plan Continuous k is some side room = length-bag _ _ (rows-continuous_slots k p slots some (omega (arith, is)) (is_so _ (side refl))) ∙ sym (length-chosen p 0 slots) ∙ sym is
   by_plan Hash k is some side room = length-bag _ _ (rows-hash_slots k n p slots some (room refl)) ∙ sym (length-chosen p 0 slots) ∙ sym is
 
-left_hash : (r : Planned) (slots : Slots) (plan : Plan) → None ≡ left_by r plan slots → plan ≡ Hash → unplaced r.k (bucket_size r.selection.public) (places r.selection slots) ≡ None
+pub left_hash : (r : Planned) (slots : Slots) (plan : Plan) → None ≡ left_by r plan slots → plan ≡ Hash → unplaced r.k (bucket_size r.selection.public) (places r.selection slots) ≡ None
 left_hash r slots Hash none is = sym none
 left_hash r slots Small none is = absurd (cc is)
 left_hash r slots Large none is = absurd (cc is)

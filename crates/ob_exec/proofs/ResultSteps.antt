@@ -60,7 +60,7 @@ many_shown cols [] = refl
 many_shown cols (x ∷ is) = ap suc (many_shown cols is)
 
 -- slots are in a block
-first_block : (n blocks pack : ℕ) → 1 ≤ n → n ≤ blocks * pack → 1 ≤ blocks
+pub first_block : (n blocks pack : ℕ) → 1 ≤ n → n ≤ blocks * pack → 1 ≤ blocks
 first_block n zero pack some fits = absurd (let none : zero * pack ≡ 0 = zero-mul pack in omega (arith, some, fits, none))
 first_block n (suc blocks) pack some fits = omega arith
 
@@ -99,7 +99,7 @@ whole-length r g some =
     ap length (sym (whole_is r g some)) ∙ length-append (make_part r g) (emission_part g n) ∙ ap (λ (k : ℕ). length (make_part r g) + k) (length-emission_part g n)
 
 -- how many accesses a first part has
-began-few : (x : List Access) (a b : World) → Began x a.store b.store → (length b.store.asked - length a.store.asked ≤ length x) × (length a.store.asked ≤ length b.store.asked)
+pub began-few : (x : List Access) (a b : World) → Began x a.store b.store → (length b.store.asked - length a.store.asked ≤ length x) × (length a.store.asked ≤ length b.store.asked)
 began-few x a b began =
     let e = ap length began.asked in
     let f = length-append a.store.asked began.done in
@@ -107,15 +107,15 @@ began-few x a b began =
     let t = length-append began.done began.rest in
     (omega (arith, e, f, s, t), omega (arith, e, f))
 
-if_err_map : {T F : Type 0} {P Q : F → Type 0} (x : Result T F) → ((e : F) → P e → Q e) → IfErr x P → IfErr x Q
+pub if_err_map : {T F : Type 0} {P Q : F → Type 0} (x : Result T F) → ((e : F) → P e → Q e) → IfErr x P → IfErr x Q
 if_err_map (Ok v) f h = tt
 if_err_map (Err e) f h = f e h
 
-if_ok_map : {T F : Type 0} {P Q : T → Type 0} (x : Result T F) → ((v : T) → P v → Q v) → IfOk x P → IfOk x Q
+pub if_ok_map : {T F : Type 0} {P Q : T → Type 0} (x : Result T F) → ((v : T) → P v → Q v) → IfOk x P → IfOk x Q
 if_ok_map (Ok v) f h = f v h
 if_ok_map (Err e) f h = tt
 
-on_err_map : {T F P Q : Type 0} (x : Result T F) → (P → Q) → OnErr x P → OnErr x Q
+pub on_err_map : {T F P Q : Type 0} (x : Result T F) → (P → Q) → OnErr x P → OnErr x Q
 on_err_map (Ok v) f h = tt
 on_err_map (Err e) f h = f h
 

@@ -1,5 +1,5 @@
 -- The result of a selection by one plan: what is asked to make it, to read it back and to discard it, and what it holds.
-use Rattle.std.specs.Prelude.{◌≡◌, ◌≢◌, ◌⊎◌, ◌<◌, ◌≤◌, ◌+◌, ◌-◌, ◌*◌, ◌^◌, ℕ, Bool, List, [], ◌∷◌, ◌++◌, map, length, IsTrue, IsSome, Option, None, Some, Result, Ok, Err, OnOk, OnErr, IfOk, IfErr, MatchResult}
+use Rattle.std.specs.Prelude.{◌≡◌, ◌≢◌, ◌⊎◌, ◌<◌, ◌≤◌, ◌+◌, ◌-◌, ◌*◌, ◌^◌, ℕ, Bool, List, [], ◌∷◌, ◌++◌, map, length, IsTrue, false, IsSome, IfSome, Option, None, Some, Result, Ok, Err, OnOk, OnErr, IfOk, IfErr, MatchResult}
 use Rattle.std.specs.Option.{option_map}
 use Rattle.std.specs.List.{list_all}
 use Rattle.ob_base.specs.declared.access.Access.{Access}
@@ -8,7 +8,10 @@ use Rattle.ob_base.specs.declared.config.Plan.TheVariants.{Small, Large, Continu
 use Rattle.ob_base.specs.declared.refusal.Refusal.{Refusal}
 use Rattle.ob_base.specs.declared.refusal.Refusal.TheVariants.{Overflow}
 use Rattle.ob_base.specs.declared.shown.Shown.{Shown}
-use Rattle.ob_base.specs.Events.{Event, IsEmitted, IsHalted, row_events}
+use Rattle.ob_base.specs.Events.{Event, Leads, IsEmitted, IsHalted, row_events}
+use Rattle.ob_base.specs.declared.config.Public.{Public}
+use Rattle.ob_base.specs.Limits.{buffered}
+use Rattle.ob_base.specs.Plans.{choose}
 use Rattle.ob_room.specs.RoomState.{RoomState}
 use Rattle.ob_row.specs.Results.{result_slots, unplaced}
 use Rattle.ob_row.specs.Totals.{printed}
@@ -225,3 +228,16 @@ pub record SelectsBy {E : Type 0} (grew cut : E → E → List Event → Type 0)
   -- where a row is left out, it was not read back whole
   pub before : (s : PlannedToHalt r old new) → IsSome (left_out r s.slots) → IfErr result (λ e.
       done_of (is_of_access e) (length new.store.asked - length old.store.asked) + 1 < length (whole_part r old.vault.next))
+
+-- a header was emitted alone
+pub record EmitsHead {E : Type 0} (grew cut : E → E → List Event → Type 0) (faults : E → ℕ)
+    (head : List Event) (result : Result Selected OpErr) (out_old out_new : E) : Type 0 where
+  pub ok : IfOk result (λ answer. (answer ≡ Rows 0) × Leads grew grew out_old out_new head)
+  pub err : IfErr result (λ e. ((e ≡ Sink) ⊎ (e ≡ NoMemory)) × Leads grew cut out_old out_new head)
+  pub sink : SinkCause result (faults out_old) (faults out_new)
+
+-- the plan for k of n rows was chosen, or there is none: a forced Continuous where they don't stand side by side
+pub record ChoosesPlan (public : Public) (n k : ℕ) (consecutive : Bool) (result : Option Plan) : Type 0 where
+  pub some : IfSome result (λ plan. (plan ≡ choose public.plan (buffered public.pack public.buffer) n k consecutive)
+      × (plan ≡ Continuous → IsTrue consecutive))
+  pub none : result ≡ None → (public.plan ≡ Some Continuous) × (consecutive ≡ false)

@@ -3,12 +3,15 @@ ghost use Rattle.std.specs.Prelude.{◌≡◌};
 ghost use Rattle.ob_base.specs.declared.seen.End.TheVariants.{Whole};
 ghost use Rattle.ob_vault.specs.Places.{at};
 ghost use Rattle.ob_mean.specs.Verdict.{ended as seen_to};
+ghost use Rattle.ob_emit.specs.Emitting.{AreColumns, header};
+ghost use Rattle.ob_exec.specs.Engines.{AreSettings};
+ghost use Rattle.ob_exec.specs.Results.{ChoosesPlan, EmitsHead};
 ghost use Rattle.ob_exec.specs.Selecting.{MaySelect, SelectsFrom, UsesRoom, selection_of};
 
 use crate::results::select_by;
 use ob_base::{Emit, EmitErr, End, Plan, Public, Refusal, Seen};
 use ob_emit::emit_head;
-use ob_flat::{Flat, OpErr};
+use ob_flat::{Counted, Flat, OpErr};
 use ob_room::Room;
 use ob_row::Pred;
 use ob_store::BlockStore;
@@ -32,11 +35,33 @@ pub(crate) enum Selected {
 }
 
 // Emits the header alone.
-fn emit_none<E: Emit>(query: &Query<'_>, out: &mut E) -> Result<Selected, OpErr> {
+fn emit_none<E: Emit>(query: &Query<'_>, out: &mut E) -> Result<Selected, OpErr>
+    requires { AreColumns query.now.flat.now.schema query.now.cols.now }
+    ensures { EmitsHead E.grew E.cut E.faults (header query.now.flat.now.schema query.now.cols.now)
+        result out.old out.new }
+{
     match emit_head(&query.flat.schema, query.cols, out) {
         Ok(()) => Ok(Selected::Rows(0)),
         Err(EmitErr::Failed) => Err(OpErr::Sink),
         Err(EmitErr::NoMemory) => Err(OpErr::NoMemory),
+    }
+}
+
+// The plan for so many of `n` rows; none where Continuous is forced, and they don't stand side by side.
+fn plan_of(n: u32, counted: Counted, public: &Public) -> Option<Plan>
+    requires { AreSettings public.now }
+    ensures { ChoosesPlan public.now n counted.k counted.consecutive result }
+{
+    let plan = ob_plan::plan(n, counted.k, counted.consecutive, public);
+    match plan {
+        Plan::Continuous => {
+            if counted.consecutive {
+                Some(plan)
+            } else {
+                None
+            }
+        }
+        Plan::Small | Plan::Large | Plan::Hash => Some(plan),
     }
 }
 
@@ -57,7 +82,8 @@ pub(crate) fn select_from<S: BlockStore, R: Revisions, E: Emit>(
         (at R.state vault.old (S.state store.old)) }
     requires fresh { seen.old ≡ seen_to Whole }
     ensures room { UsesRoom room.old room.new }
-    ensures selects { SelectsFrom E.grew E.cut E.faults (selection_of public.now query.now) result seen.new
+    ensures selects { SelectsFrom E.grew E.cut E.faults
+        (selection_of public.now query.now) result seen.new
         (at R.state vault.old (S.state store.old)) (at R.state vault.new (S.state store.new))
         out.old out.new }
 {
@@ -66,17 +92,20 @@ pub(crate) fn select_from<S: BlockStore, R: Revisions, E: Emit>(
     if counted.k == 0 {
         return emit_none(query, out);
     }
-    let plan = ob_plan::plan(query.flat.capacity, counted.k, counted.consecutive, public);
-    if plan == Plan::Continuous && !counted.consecutive {
+    let Some(plan) = plan_of(query.flat.capacity, counted, public) else {
         seen.end = End::AfterCount;
         return Ok(Selected::Refused(Refusal::NotConsecutive));
-    }
+    };
     seen.plan = Some(plan);
     match select_by(store, vault, room, public, query, counted.k, plan, out)? {
-        Selected::Refused(_) if public.plan.is_none() => {
+        Selected::Rows(n) => Ok(Selected::Rows(n)),
+        Selected::Refused(refusal) => {
+            if public.plan.is_some() {
+                return Ok(Selected::Refused(refusal));
+            }
             seen.then = Some(Plan::Small);
-            select_by(store, vault, room, public, query, counted.k, Plan::Small, out)
+            let plan = Plan::Small;
+            select_by(store, vault, room, public, query, counted.k, plan, out)
         }
-        answer => Ok(answer),
     }
 }

@@ -1,0 +1,304 @@
+-- How a selection ends.
+use Rattle.std.proofs.Common.{◌≡◌, ◌⊎◌, inl, inr, ◌≤◌, ◌<◌, ◌+◌, ◌-◌, ℕ, suc, zero, Bool, true, false, IsTrue, List, [], ◌∷◌, ◌++◌, Option, None, Some, Result, Ok, Err, length, refl, sym, ◌∙◌, ap, subst, arith, append_assoc, length-append, append-nil}
+use Rattle.std.specs.Prelude.{IsSome, IfErr, IfOk, OnErr, OnOk, MatchResult}
+use Rattle.ob_base.specs.declared.access.Access.{Access}
+use Rattle.ob_base.specs.declared.config.Plan.{Plan}
+use Rattle.ob_base.specs.declared.config.Plan.TheVariants.{Small, Large, Continuous, Hash}
+use Rattle.ob_base.specs.declared.refusal.Refusal.{Refusal}
+use Rattle.ob_base.specs.declared.refusal.Refusal.TheVariants as Refusals
+use Rattle.ob_base.specs.declared.seen.Seen.{Seen}
+use Rattle.ob_base.specs.declared.seen.End.TheVariants.{Whole, AfterCount}
+use Rattle.ob_base.specs.Events.{Event, Leads, IsEmitted, IsHalted, row_events}
+use Rattle.ob_base.specs.Limits.{buffered}
+use Rattle.ob_base.specs.Plans.{choose}
+use Rattle.ob_base.proofs.EventLemmas.{halted_none, emitted_head}
+use Rattle.ob_room.specs.RoomState.{RoomState}
+use Rattle.ob_row.specs.Truth.{is_true}
+use Rattle.ob_script.proofs.Lengths.{length-count_part}
+use Rattle.ob_vault.specs.State.{World}
+use Rattle.ob_vault.specs.Tied.{Ready}
+use Rattle.ob_vault.specs.Calls.{Went, none, one}
+use Rattle.ob_exec.specs.Engines.{AreSettings}
+use Rattle.ob_vault.proofs.Runs.{went_length, went_wider, went_none, seals_join}
+use Rattle.ob_flat.specs.declared.counting.Counted.{Counted}
+use Rattle.ob_flat.specs.declared.fault.OpErr.{OpErr}
+use Rattle.ob_flat.specs.declared.fault.OpErr.TheVariants.{Failed, Tampered, Sink, NoMemory}
+use Rattle.ob_flat.specs.Counted.{CountsRows}
+use Rattle.ob_flat.specs.Passes.{PassCut, PassCause}
+use Rattle.ob_flat.specs.Words.{Ran, blocks_of}
+use Rattle.ob_flat.proofs.Runs.{pass_more, pass_wider}
+use Rattle.ob_flat.proofs.Tables.{blocks_hold}
+use Rattle.ob_flat.proofs.WordLemmas.{ran_lasts}
+use Rattle.ob_emit.specs.Emitting.{header}
+use Rattle.ob_mean.specs.Verdict.{counted, plan_for, ended as seen_to}
+use Rattle.ob_exec.specs.declared.selecting.Selected.{Selected}
+use Rattle.ob_exec.specs.declared.selecting.Selected.TheVariants.{Rows, Refused}
+use Rattle.ob_exec.specs.Selecting.{Selection, MaySelect, SelectsFrom, SelectsToEnd, SelectsToHalt, EmitsSelected, is_of_access, places, selected_as, shown_rows, result_of, seen_of, answer_of, answer_events, emitted_unless, IsPlanOf, LacksMemoryIn, EndsAs, EndsCounted, counted_after, walked_after, from}
+use Rattle.ob_exec.specs.Results.{planned, whole_part, SelectsBy, EmitsHead, MayAnswer, head_of}
+use Rattle.ob_exec.proofs.ResultParts.{length_hash}
+use Rattle.ob_exec.proofs.ResultSteps.{err_is, sink_none, first_block, on_err_map, if_ok_map, began-few}
+use Rattle.ob_exec.proofs.SelectTold.{end_back, counted_is}
+use Rattle.ob_exec.proofs.SelectFirst.{IsFinal, first_emitted, first_told, first_halted, first_failed, first_held}
+use Rattle.ob_exec.proofs.SelectHeld.{uncounted_held, counted_held, walking_held, walked_held, walked_hash, done_behind, done_within}
+use Rattle.ob_exec.proofs.SelectMeans.{seen_none, refusal_none, shown_none, seen_apart, refuses_apart}
+use Rattle.ob_exec.proofs.ResultReads.{emitted_from, halted_from}
+use Rattle.ob_store.proofs.Steps as Stores
+use Rattle.ob_flat.proofs.Sinks.{none_before}
+use Rattle.ob_mean.specs.Verdict.{seen_rows}
+use Rattle.ob_flat.specs.Flats.{Represents}
+use Rattle.ob_row.specs.Slots.{Slots}
+use Rattle.std.specs.Prelude.{map}
+use Rattle.ob_row.specs.Slots.{rows, is_consecutive}
+use Rattle.ob_row.specs.Totals.{printed}
+use Rattle.ob_exec.proofs.SelectRuns.{counts_of, none_above, none_still, none_again, none_from, ran_counted, ran_first, ran_second, next_counted, next_made, place_in, not_empty}
+
+-- a selection counts at least one block
+pub count_some : (q : Selection) (room : RoomState) (w : World) → MaySelect q room w → 1 ≤ counted_after q
+count_some q room w may =
+    let pack = may.settings.pack_least in
+    first_block q.flat.capacity (counted_after q) q.public.pack may.size.least (blocks_hold q.public.pack q.flat.capacity pack)
+
+pub counts_at : (q : Selection) (pack : ℕ) (result : Result Counted OpErr) (old mid : World) → pack ≡ q.public.pack → CountsRows pack q.flat (is_true q.condition) result old mid → CountsRows q.public.pack q.flat (is_true q.condition) result old mid
+counts_at q pack result old mid same is = subst (λ (p : ℕ). CountsRows p q.flat (is_true q.condition) result old mid) same is
+
+on_err_of : {T F P : Type 0} (x : Result T F) → P → OnErr x P
+on_err_of (Ok v) h = tt
+on_err_of (Err e) h = h
+
+ran_long : {T : Type 0} {some : ℕ → Type 0} {x : List Access} {a b : World} (result : Result T OpErr) → Ran x some result a b → length a.store.asked ≤ length b.store.asked
+ran_long {T} {some} {x} {a} {b} (Ok v) ran = omega (arith, went_length some x a b ran.ok)
+ran_long {T} {some} {x} {a} {b} (Err e) ran = (began-few x a b ran.err.began).1
+
+forced_is : (q : Selection) (k : ℕ) (plan : Plan) (c : Bool) (forced : Option Plan) → plan ≡ choose forced (buffered q.public.pack q.public.buffer) q.flat.capacity k c → IsSome forced → forced ≡ Some plan
+forced_is q k plan c None chosen some = absurd (cc some)
+forced_is q k plan c (Some p) chosen some = ap Some (sym chosen)
+
+module _ {E : Type 0} (grew cut : E → E → List Event → Type 0) (faults : E → ℕ) (q : Selection) (room : RoomState) (old mid : World) (may : MaySelect q room old) where
+  -- the count failed
+  pub end_uncounted : (e : OpErr) (out : E) → CountsRows q.public.pack q.flat (is_true q.condition) (Err e) old mid → SelectsFrom grew cut faults q (Err e) (seen_to Whole) old mid out out
+  end_uncounted e out is = record {
+    ran = record { ok = tt; err = pass_more (from old.vault.next) old mid e (counts_of q) [] (pass_wider none old mid (from old.vault.next) (none_from old.vault.next) e (counts_of q) is.ran.err) };
+    gone = none_still old.vault.next old mid is.ran.err.lasts (none_above old may.ready);
+    spare = tt;
+    seals = λ good fine. is.seals.seals good;
+    holds = tt;
+    ended = tt;
+    reached = record { count = λ some. absurd (cc some); walk = λ some. absurd (cc some) };
+    memory = λ none. absurd (never (err_is none));
+    emitted = tt;
+    halted = halted_none grew cut _ out;
+    failed = λ none. halted_none grew grew _ out;
+    sink = sink_none Selected e _ (λ sink. elim is.never [ inl f ↦ cc (f, sink) | inr t ↦ cc (t.is, sink) ]);
+    told = λ s. inl (is.told s.slots s.is s.nolie);
+    held = λ s. uncounted_held q s.slots e (length mid.store.asked - length old.store.asked) may.settings of_access (omega (arith, (began-few (counts_of q) old mid is.ran.err.began).0, length-count_part q.flat.region (counted_after q))) (count_some q room old may);
+  }
+    where
+      of_access : is_of_access e ≡ true
+      of_access = elim is.never [ inl f ↦ ap is_of_access f | inr t ↦ ap is_of_access t.is ]
+
+      never : e ≡ NoMemory → ⊥
+      never none = elim is.never [ inl f ↦ cc (f, none) | inr t ↦ cc (t.is, none) ]
+
+  module _ (k : ℕ) (c : Bool) (is : CountsRows q.public.pack q.flat (is_true q.condition) (Ok (record { k = k; consecutive = c })) old mid) where
+    count : Went (counts_of q) none old mid
+    count = is.ran.ok
+
+    long : length mid.store.asked ≡ length old.store.asked + counted_after q
+    long = omega (arith, went_length none (counts_of q) old mid count, length-count_part q.flat.region (counted_after q))
+
+    -- nothing was asked behind the count
+    ran_alone : (result : Result Selected OpErr) → IfErr result (λ e. (e ≡ Sink) ⊎ (e ≡ NoMemory)) → Ran (counts_of q ++ []) (from old.vault.next) result old mid
+    ran_alone (Ok answer) never = record { ok = subst (λ (x : List Access). Went x (from old.vault.next) old mid) (sym (append-nil (counts_of q))) (went_wider none old mid (from old.vault.next) (none_from old.vault.next) (counts_of q) count); err = tt }
+    ran_alone (Err e) never =
+        let went = went_wider none old mid (from old.vault.next) (none_from old.vault.next) (counts_of q) count in
+        record { ok = tt; err = record { lasts = went.lasts; began = record { done = counts_of q; rest = []; split = refl; asked = went.did.asked }; cause = cause e never } }
+      where
+        cause : (e : OpErr) → (e ≡ Sink) ⊎ (e ≡ NoMemory) → PassCause e old mid
+        cause Sink never = (count.did.faults, count.calm)
+        cause NoMemory never = (count.did.faults, count.calm)
+        cause Failed never = absurd (elim never [ inl e ↦ cc e | inr e ↦ cc e ])
+        cause (Tampered r x) never = absurd (elim never [ inl e ↦ cc e | inr e ↦ cc e ])
+
+    gone_alone : (x : ℕ) → old.vault.next ≤ x → mid.vault.revs.live x ≡ None
+    gone_alone = none_still old.vault.next old mid count.lasts (none_above old may.ready)
+
+    halt_nolie : SelectsToHalt q old mid → mid.store.lie ≡ None
+    halt_nolie s = none_before none none (counts_of q) old mid mid count (went_none none mid count.lasts.ready).lasts s.nolie s.unfit
+
+    no_places : (slots : Slots) → Represents q.public.pack q.flat slots old → mid.store.lie ≡ None → k ≡ 0 → length (places q slots) ≡ 0
+    no_places slots held nolie empty = sym (counted_is q k c Small old mid is slots held nolie).0 ∙ empty
+
+    none_shown : (slots : Slots) → length (places q slots) ≡ 0 → [] ≡ shown_rows q slots
+    none_shown slots empty = sym (shown_none (places q slots) (map (printed q.cols) (rows (result_of q slots))) empty)
+
+    none_events : (slots : Slots) → length (places q slots) ≡ 0 → head_of q ++ [] ≡ answer_events q slots
+    none_events slots empty = λ i. emitted_unless (sym (refusal_none q.public (places q slots) empty) i) (head_of q ++ row_events (none_shown slots empty i))
+
+    none_seen : (slots : Slots) → length (places q slots) ≡ 0 → k ≡ 0 → counted k None None Whole ≡ seen_of q slots
+    none_seen slots empty zeros = ap (λ (n : ℕ). counted n None None Whole) zeros ∙ sym (seen_none q.public (length slots) (places q slots) empty)
+
+    none_answer : (slots : Slots) → length (places q slots) ≡ 0 → Rows 0 ≡ answer_of q slots
+    none_answer slots empty = sym (λ i. selected_as (refusal_none q.public (places q slots) empty i) (empty i))
+
+    -- no row was counted
+    pub end_none : (result : Result Selected OpErr) (out_old out_new : E) → k ≡ 0 → EmitsHead grew cut faults (head_of q) result out_old out_new
+        → SelectsFrom grew cut faults q result (counted k None None Whole) old mid out_old out_new
+    end_none (Ok answer) out_old out_new empty head = record {
+      ran = ran_alone (Ok answer) tt;
+      gone = gone_alone;
+      spare = omega (arith, may.spare, count.spare, length-count_part q.flat.region (counted_after q));
+      seals = λ good fine. is.seals.seals good;
+      holds = (is.most, inl empty);
+      ended = subst (λ (a : Selected). EndsAs q a (counted k None None Whole)) (sym head.ok.0) (record { counted = k; count = refl; end = refl; none = λ same. empty });
+      reached = tt;
+      memory = λ none. absurd (cc none);
+      emitted = subst (λ (a : Selected). EmitsSelected grew q a old mid out_old out_new) (sym head.ok.0)
+          (emitted_from {S = SelectsToEnd q old mid} (λ s. s) (λ s. none_shown s.slots (no_places s.slots s.is s.nolie empty)) (emitted_head grew (head_of q) out_old out_new head.ok.1));
+      halted = tt;
+      failed = λ none. absurd (cc none);
+      sink = head.sink;
+      told = λ s. let none = no_places s.slots s.is s.nolie empty in (head.ok.0 ∙ none_answer s.slots none, none_seen s.slots none empty);
+      held = λ s. tt;
+    }
+    end_none (Err e) out_old out_new empty head = record {
+      ran = ran_alone (Err e) head.err.0;
+      gone = gone_alone;
+      spare = tt;
+      seals = λ good fine. is.seals.seals good;
+      holds = (is.most, inl empty);
+      ended = tt;
+      reached = record { count = λ some. omega (arith, long); walk = λ some. absurd (cc some) };
+      memory = λ none. record {
+        done = counts_of q;
+        rest = [];
+        split = refl;
+        asked = count.did.asked;
+        some = not_empty (counts_of q) (omega (arith, count_some q room old may, length-count_part q.flat.region (counted_after q)));
+        place = inr (refl, refl);
+      };
+      emitted = tt;
+      halted = record { events = head_of q; ends = inr head.err.1; told = λ s. ([], none_events s.slots (no_places s.slots s.is (halt_nolie s) empty)) };
+      failed = λ none. absurd (elim head.err.0 [ inl s ↦ cc (s, err_is none) | inr m ↦ cc (m, err_is none) ]);
+      sink = head.sink;
+      told = λ s. elim head.err.0 [ inl s ↦ inr (inl s) | inr m ↦ inr (inr m) ];
+      held = λ s. counted_held q s.slots k None (is_of_access e) (length mid.store.asked - length old.store.asked) (sym (none_seen s.slots (no_places s.slots s.is (halt_nolie s) empty) empty))
+          (done_behind e _ (counted_after q) (omega (arith, long)) (λ access. absurd (elim head.err.0 [ inl sink ↦ cc (sym access ∙ ap is_of_access sink) | inr none ↦ cc (sym access ∙ ap is_of_access none) ])));
+    }
+
+    -- Continuous was forced, and refused
+    pub end_refused : (out : E) → 1 ≤ k → q.public.plan ≡ Some Continuous → c ≡ false → SelectsFrom grew cut faults q (Ok (Refused Refusals.NotConsecutive)) (counted k None None AfterCount) old mid out out
+    end_refused out least forced apart = record {
+      ran = ran_alone (Ok (Refused Refusals.NotConsecutive)) tt;
+      gone = gone_alone;
+      spare = omega (arith, may.spare, count.spare, length-count_part q.flat.region (counted_after q));
+      seals = λ good fine. is.seals.seals good;
+      holds = (is.most, inr forced);
+      ended = record { k = k; some = least; count = refl; forced = forced; plan = refl; end = refl };
+      reached = tt;
+      memory = λ none. absurd (cc none);
+      emitted = refl;
+      halted = tt;
+      failed = λ none. absurd (cc none);
+      sink = refl;
+      told = λ s.
+          let are = counted_is q k c Continuous old mid is s.slots s.is s.nolie in
+          let some : 1 ≤ length (places q s.slots) = omega (arith, least, are.0) in
+          let off = sym are.1 ∙ apart in
+          let so : Continuous ≡ plan_for q.public (length s.slots) (places q s.slots) = sym (ap (λ (o : Option Plan). choose o (buffered q.public.pack q.public.buffer) (length s.slots) (length (places q s.slots)) (is_consecutive (places q s.slots))) forced) in
+          (
+            sym (ap (λ (o : Option Refusal). selected_as o (length (places q s.slots))) (refuses_apart q.public (places q s.slots) (length s.slots) Continuous some so forced off)),
+            ap (λ (n : ℕ). counted n None None AfterCount) are.0 ∙ sym (seen_apart q.public (places q s.slots) (length s.slots) Continuous some so refl off)
+          );
+      held = λ s. tt;
+    }
+
+    module _ (plan : Plan) (side : plan ≡ Continuous → IsTrue c) (least : 1 ≤ k) (chosen : plan ≡ choose q.public.plan (buffered q.public.pack q.public.buffer) q.flat.capacity k c) where
+      first_ended : (result : Result Selected OpErr) → IfOk result (IsFinal q) → IfOk result (MayAnswer plan) → IfOk result (λ a. EndsAs q a (counted k (Some plan) None Whole))
+      first_ended (Ok (Rows n)) final answers = record { counted = k; count = refl; end = refl; none = λ none. absurd (cc none) }
+      first_ended (Ok (Refused (Refusals.Overflow i))) final answers =
+          record { forced = forced_is q k plan c q.public.plan chosen final ∙ ap Some answers; plan = ap Some answers; second = refl; end = refl }
+      first_ended (Err e) final answers = tt
+      first_ended (Ok (Refused _)) final answers = absurd answers
+
+      -- the first plan's result came to an end
+      pub end_first : (result : Result Selected OpErr) (new : World) (out_old out_new : E) → IfOk result (IsFinal q) → SelectsBy grew cut faults (planned q plan k) result mid new out_old out_new
+          → SelectsFrom grew cut faults q result (counted k (Some plan) None Whole) old new out_old out_new
+      end_first result new out_old out_new final by =
+          let lasts = ran_lasts result by.ran in
+          let same = next_counted q old mid may.ready count in
+          let ran = ran_first q old mid may.ready count result (planned q plan k) new by.ran in
+          record {
+            ran = ran;
+            gone = none_again old.vault.next mid.vault.next mid new lasts by.gone gone_alone;
+            spare = by.spare;
+            seals = λ good fine. seals_join good old mid new count.lasts.later (is.seals.seals good) (by.seals good fine);
+            holds = (is.most, record { some = least; consecutive = c; chosen = chosen });
+            ended = first_ended result final by.may;
+            reached = on_err_of result (record { count = λ some. omega (arith, long, ran_long result by.ran); walk = λ some. absurd (cc some) });
+            memory = λ none.
+                let m = by.memory none in
+                record {
+                  done = counts_of q ++ m.done;
+                  rest = m.rest;
+                  split = append_assoc (counts_of q) m.done m.rest ∙ ap (λ (x : List Access). counts_of q ++ x) (m.split ∙ ap (λ (n : ℕ). whole_part (planned q plan k) n) same ∙ sym (append-nil (whole_part (planned q plan k) old.vault.next)));
+                  asked = m.asked ∙ ap (λ (x : List Access). x ++ m.done) count.did.asked ∙ append_assoc old.store.asked (counts_of q) m.done;
+                  some = not_empty (counts_of q ++ m.done) (omega (arith, count_some q room old may, length-count_part q.flat.region (counted_after q), length-append (counts_of q) m.done));
+                  place = place_in _ (counts_of q) m.done m.rest refl m.place;
+                };
+            emitted = first_emitted q k c plan old mid is side least chosen grew cut faults new out_old out_new result by;
+            halted = first_halted q k c plan old mid is side least chosen grew cut faults new out_old out_new result by;
+            failed = λ none. first_failed q k c plan old mid is side least chosen grew cut faults new out_old out_new result none by;
+            sink = by.sink;
+            told = first_told q k c plan old mid is side least chosen grew cut faults new out_old out_new result final by;
+            held = λ s. first_held q k c plan old mid is side least chosen grew cut faults new out_old out_new may.settings long (count_some q room old may) result by s;
+          }
+
+    -- Small took the place of a Hash that left a row out
+    module _ (least : 1 ≤ k) (free : q.public.plan ≡ None) (chosen : Hash ≡ choose q.public.plan (buffered q.public.pack q.public.buffer) q.flat.capacity k c) (i : ℕ) (late : World) (out : E)
+        (first : SelectsBy grew cut faults (planned q Hash k) (Ok (Refused (Refusals.Overflow i))) mid late out out) where
+      second_ended : (result : Result Selected OpErr) → IfOk result (MayAnswer Small) → IfOk result (λ a. EndsAs q a (counted k (Some Hash) (Some Small) Whole))
+      second_ended (Ok (Rows n)) answers = record { counted = k; count = refl; end = refl; none = λ none. absurd (cc none) }
+      second_ended (Ok (Refused (Refusals.Overflow i))) answers = absurd (cc answers)
+      second_ended (Ok (Refused _)) answers = absurd answers
+      second_ended (Err e) answers = tt
+
+      pub end_second : (result : Result Selected OpErr) (new : World) (out_new : E) → SelectsBy grew cut faults (planned q Small k) result late new out out_new
+          → SelectsFrom grew cut faults q result (counted k (Some Hash) (Some Small) Whole) old new out out_new
+      end_second result new out_new by =
+          let lasts = ran_lasts result by.ran in
+          let same = next_counted q old mid may.ready count in
+          let next = next_made (planned q Hash k) mid late count.lasts.ready first.ran.ok in
+          let after : late.vault.next ≡ old.vault.next + 1 = omega (arith, same, next) in
+          let done = counts_of q ++ whole_part (planned q Hash k) old.vault.next in
+          let asked : late.store.asked ≡ old.store.asked ++ done
+              = first.ran.ok.did.asked ∙ ap (λ (n : ℕ). mid.store.asked ++ whole_part (planned q Hash k) n) same ∙ ap (λ (x : List Access). x ++ whole_part (planned q Hash k) old.vault.next) count.did.asked ∙ append_assoc old.store.asked (counts_of q) (whole_part (planned q Hash k) old.vault.next) in
+          let more = went_length (one mid.vault.next) (whole_part (planned q Hash k) mid.vault.next) mid late first.ran.ok in
+          record {
+            ran = ran_second q old mid may.ready count result (planned q Hash k) (planned q Small k) late new first.ran.ok by.ran;
+            gone = none_again old.vault.next late.vault.next late new lasts by.gone (none_again old.vault.next mid.vault.next mid late first.ran.ok.lasts first.gone gone_alone);
+            spare = by.spare;
+            seals = λ good fine. seals_join good old mid new count.lasts.later (is.seals.seals good) (seals_join good mid late new first.ran.ok.lasts.later (first.seals good fine) (by.seals good fine));
+            holds = (is.most, record { some = least; consecutive = c; chosen = chosen }, free);
+            ended = second_ended result by.may;
+            reached = on_err_of result (record {
+              count = λ some. omega (arith, long, more, ran_long result by.ran);
+              walk = λ some. omega (arith, long, more, ran_long result by.ran, walked_hash q k may.settings, length_hash q k mid.vault.next may.settings, length_hash q k 0 may.settings);
+            });
+            memory = λ none.
+                let m = by.memory none in
+                record {
+                  done = done ++ m.done;
+                  rest = m.rest;
+                  split = append_assoc done m.done m.rest ∙ ap (λ (x : List Access). done ++ x) (m.split ∙ ap (λ (n : ℕ). whole_part (planned q Small k) n) after ∙ sym (append-nil (whole_part (planned q Small k) (old.vault.next + 1))))
+                      ∙ append_assoc (counts_of q) (whole_part (planned q Hash k) old.vault.next) (whole_part (planned q Small k) (old.vault.next + 1) ++ []);
+                  asked = m.asked ∙ ap (λ (x : List Access). x ++ m.done) asked ∙ append_assoc old.store.asked done m.done;
+                  some = not_empty (done ++ m.done) (omega (arith, count_some q room old may, length-count_part q.flat.region (counted_after q), length-append done m.done, length-append (counts_of q) (whole_part (planned q Hash k) old.vault.next)));
+                  place = place_in _ done m.done m.rest refl m.place;
+                };
+            emitted = ?;
+            halted = ?;
+            failed = λ none. ?;
+            sink = by.sink;
+            told = λ s. ?;
+            held = λ s. ?;
+          }
