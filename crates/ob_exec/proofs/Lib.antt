@@ -17,3 +17,7 @@ pub mod RowsEnds
 pub mod RowsReach
 pub mod RowsSource
 pub mod RowsFound
+pub mod RowsLength
+pub mod RowsNothing
+pub mod RowsTable
+pub mod RowsStated
