@@ -1,6 +1,8 @@
 -- A SELECT of the rows of a table.
-use Rattle.std.proofs.Common.{◌≡◌, ◌⊎◌, inl, inr, ◌≤◌, ◌+◌, ◌-◌, ◌*◌, ℕ, Bool, List, [], ◌∷◌, ◌++◌, length, Option, Some, None, Ok, Err, Result, refl, sym, ◌∙◌, ap, subst, arith, append-nil}
-use Rattle.std.specs.Prelude.{IsTrue, nat_le, slice_get}
+use Rattle.std.proofs.Common.{◌≡◌, ◌⊎◌, inl, inr, ◌≤◌, ◌<◌, ◌+◌, ◌-◌, ◌*◌, ℕ, zero, suc, Bool, true, false, List, [], ◌∷◌, ◌++◌, map, length, length-append, Option, Some, None, Ok, Err, Result, refl, sym, ◌∙◌, ap, subst, arith, append-nil}
+use Rattle.std.specs.Prelude.{IsTrue, nat_le, slice_get, unwrap_or}
+use Rattle.std.proofs.lemmas.Bool.Decides.{nat_tests}
+use Rattle.std.proofs.lemmas.List.{length-map}
 use Rattle.std.specs.Int.{div_ceil}
 use Rattle.std.specs.Option.{option_map_or}
 use Rattle.ob_base.specs.declared.access.Access.{Access}
@@ -16,6 +18,8 @@ use Rattle.ob_base.specs.declared.skeleton.Skeleton.TheVariants.{Rows as RowsSke
 use Rattle.ob_base.specs.declared.skeleton.Source.{Source}
 use Rattle.ob_base.specs.declared.skeleton.Source.TheVariants.{Table as OneTable}
 use Rattle.ob_base.specs.Events.{Event, IsEmitted, IsHalted}
+use Rattle.ob_base.specs.declared.skeleton.ColumnName.{ColumnName}
+use Rattle.ob_base.specs.Lists.{places_of, tabulate}
 use Rattle.ob_base.specs.Limits.{buffered_blocks}
 use Rattle.ob_base.specs.Schemas.{Columns}
 use Rattle.ob_base.specs.Stored.{Stored, headings_of, heading_at, stored_at, stored_regions}
@@ -32,33 +36,47 @@ use Rattle.ob_vault.specs.Calls.{Seals, Went}
 use Rattle.ob_vault.specs.declared.vault.Vault.{Vault}
 use Rattle.ob_vault.specs.Places.{at}
 use Rattle.ob_vault.proofs.Runs.{seals_join, went_join}
-use Rattle.ob_vault.proofs.WordLemmas.{seals_rests, went_rests}
+use Rattle.ob_vault.proofs.WordLemmas.{ready_rests, seals_rests, went_rests}
 use Rattle.ob_flat.specs.declared.fault.OpErr.{OpErr}
 use Rattle.ob_flat.specs.declared.fault.OpErr.TheVariants as OpErrs
 use Rattle.ob_flat.specs.declared.flat.Flat.{Flat}
-use Rattle.ob_flat.specs.Flats.{Represents}
+use Rattle.ob_flat.specs.Flats.{IsFlat, IsSized, Represents}
+use Rattle.ob_emit.specs.Emitting.{AreColumns}
 use Rattle.ob_flat.specs.Passes.{PassCut}
 use Rattle.ob_flat.proofs.Resting.{represents_rests}
 use Rattle.ob_flat.proofs.Runs.{pass_after}
 use Rattle.ob_mean.specs.Lawful.{capacity_at, counted_slots}
-use Rattle.ob_mean.specs.Names.{source_columns}
+use Rattle.ob_mean.specs.Names.{place_of, source_columns, where_at}
+use Rattle.ob_mean.specs.Refusals.{listed}
+use Rattle.ob_mean.proofs.EarlyLemmas.{allowed}
+use Rattle.ob_verdict.proofs.AcceptedProof.{places_fit}
 use Rattle.ob_mean.specs.Replay.{count_end, done_of, ending_len, held_if, walk_end}
-use Rattle.ob_mean.specs.Step.{select_columns}
-use Rattle.ob_mean.specs.Verdict.{Tables, source_slots, ended as seen_to}
+use Rattle.ob_mean.specs.Step.{printed_places, select_columns}
+use Rattle.ob_mean.specs.Verdict.{Tables, is_late, source_slots, ended as seen_to}
 use Rattle.ob_sql.specs.declared.stmt.SelectRows.{SelectRows}
+use Rattle.ob_sql.specs.declared.stmt.Stmt.TheVariants.{SelectRows as RowsStmt}
+use Rattle.ob_exec.specs.Running.{refusal_now}
+use Rattle.ob_exec.proofs.PlaceLemmas.{all_places}
 use Rattle.ob_exec.specs.declared.engine.Engine.{Engine}
 use Rattle.ob_exec.specs.declared.selecting.Selected.{Selected}
 use Rattle.ob_exec.specs.declared.selecting.Selected.TheVariants.{Rows, Refused}
 use Rattle.ob_exec.specs.Agreeing.{Agrees, world_of}
 use Rattle.ob_exec.specs.Engines.{flat_of}
-use Rattle.ob_exec.specs.Selecting.{HoldsSeen, Selection, SelectsFrom, SelectsToEnd, SelectsToHalt, EmitsSelected, answer_events, counted_after, from, is_of_access, region_of, seen_of, selection_script, walked_after}
+use Rattle.ob_exec.specs.Selecting.{HoldsSeen, MaySelect, Selection, SelectsFrom, SelectsToEnd, SelectsToHalt, EmitsSelected, answer_events, counted_after, from, is_of_access, region_of, seen_of, selection_script, walked_after}
 use Rattle.ob_exec.specs.Sources.{EmitsRows, EndsRows, HaltsRows, HoldsRows, SelectsRows, SourceToEnd, SourceToHalt, rows_script, rows_skeleton, selection, slots_of, stated}
 use Rattle.ob_exec.specs.Telling.{AreHeld}
 use Rattle.ob_exec.proofs.FoundLemmas.{heading_found}
 use Rattle.ob_exec.proofs.HeldLemmas.{held_at}
 use Rattle.ob_exec.proofs.RowsLength.{select_length}
 use Rattle.ob_exec.proofs.RowsStated.{ends_stated, may_stated}
-use Rattle.ob_exec.proofs.TableLemmas.{stored_found}
+use Rattle.ob_exec.proofs.TableLemmas.{flat_kept, region_below, stored_found}
+
+not_late : (m : ℕ) → is_late m ≡ false → m < 9223372036854775808
+not_late m early = grind (arith, nat_tests)
+
+tabulate_length : (n : ℕ) → length (tabulate n (λ i. i)) ≡ n
+tabulate_length zero = refl
+tabulate_length (suc n) = let more = length-append (tabulate n (λ i. i)) (n ∷ []) in let same = tabulate_length n in omega (arith, more, same)
 
 -- ---- of one source for another
 pub emitted_from : {E A B : Type 0} {grew : E → E → List Event → Type 0} {head : List Event} {from to : ℕ} {a b : E} (sa : A → List (List Shown)) (sb : B → List (List Shown)) (f : B → A) → ((x : B) → sa (f x) ≡ sb x)
@@ -221,3 +239,65 @@ module _ {R : Type 0} (state : R → RevState) (old : Engine R) (s s1 : StoreSta
           → SelectsRows grew cut faults old.public select result now before after out_old out_new
       table_selects (Ok answer) is = record { ended = table_ends answer is; halted = tt; sink = is.sink }
       table_selects (Err e) is = record { ended = tt; halted = table_halts e is; sink = is.sink }
+
+  -- ---- what a selection of the table asks
+  pub table_query : (flat : Flat) (condition : Condition) (cols : List ℕ) (columns : Columns) → flat ≡ flat_of t → columns ≡ flat.schema → condition ≡ where_at select.cond (columns ++ [])
+      → cols ≡ printed_places select (columns ++ []) → ◌≡◌ {A = Selection} (record { public = old.public; flat = flat; condition = condition; cols = cols; ending = 0 }) q
+  table_query flat condition cols columns flat_is columns_are condition_is cols_are =
+      let schema = ap (λ (f : Flat). f.schema) flat_is ∙ schema_is in
+      let all = append-nil columns ∙ columns_are ∙ schema in
+      stated_is old.public select flat condition cols 0 schema (ap (λ (f : Flat). f.capacity) flat_is ∙ capacity_is)
+      (condition_is ∙ ap (where_at select.cond) all) (cols_are ∙ ap (printed_places select) all)
+      ∙ ap (λ (f : Flat). stated old.public select f.region 0) flat_is
+
+  module _ (free : refusal_now old.public (length s.asked) (RowsStmt select) ≡ None) where
+    pub few_listed : length (listed select) ≤ 32
+    few_listed = (places_fit (is_late (length s.asked)) old.public.pack old.public.buffer (headings_of old.public.tables) select free).few
+
+    listed_few : (list : Option (List ColumnName)) (cs : Columns) → length (unwrap_or list []) ≤ 32 → length cs ≤ 32 → length (option_map_or (map (λ c. place_of c cs)) list (places_of (λ _. true) cs)) ≤ 32
+    listed_few None cs few wide = let same = ap length (all_places cs) in let long = tabulate_length (length cs) in omega (arith, same, long, wide)
+    listed_few (Some names) cs few wide = let same = length-map names (λ (c : ColumnName). place_of c cs) in omega (arith, same, few)
+
+    table_columns : AreColumns q.flat.schema q.cols
+    table_columns =
+        let stored = (agrees.tables.each i t get).stored in
+        let few = stored.few in
+        let wide : length (selection old.public select).flat.schema ≤ 32 = subst (λ (cs : Columns). length cs ≤ 32) schema_is (omega (arith, few)) in
+        record {
+          few = listed_few select.list q.flat.schema few_listed wide;
+          within = (places_fit (is_late (length s.asked)) old.public.pack old.public.buffer (headings_of old.public.tables) select free).printed;
+        }
+
+    table_size : IsSized q.flat.schema q.flat.capacity
+    table_size =
+        let stored = (agrees.tables.each i t get).stored in
+        let few = stored.few in
+        let most = stored.most in
+        subst (λ (cs : Columns). IsSized cs q.flat.capacity) schema_is
+        (subst (λ (n : ℕ). IsSized t.heading.schema n) capacity_is
+        (record { some = stored.some; few = omega (arith, few); wide = stored.wide; least = stored.least; most = omega (arith, most) }))
+
+    early_asked : length s.asked < 9223372036854775808
+    early_asked = not_late (length s.asked) (allowed (is_late (length s.asked)) old.public.pack old.public.buffer (headings_of old.public.tables) (RowsStmt select) free).early
+
+    pub table_may : (rests : Rests s s1) (blocks : ℕ) → blocks ≡ div_ceil t.heading.capacity old.public.pack → blocks ≤ s1.spare → MaySelect q old.room (at state old.vault s1)
+    table_may rests blocks blocks_are spare =
+        let same = ap length rests.asked in
+        let below = early_asked in
+        let enough : div_ceil (selection old.public select).flat.capacity old.public.pack ≤ s1.spare =
+        subst (λ (n : ℕ). div_ceil n old.public.pack ≤ s1.spare) capacity_is (omega (arith, blocks_are, spare)) in
+        let flat_is : flat_of t ≡ q.flat = λ j. record { schema = schema_is j; capacity = capacity_is j; region = t.region } in
+        record {
+          settings = agrees.settings;
+          free = agrees.room;
+          ready = ready_rests _ s s1 rests agrees.ready;
+          spare = omega (arith, enough);
+          short = omega arith;
+          few = omega (arith, same, below);
+          flat = subst (λ (f : Flat). IsFlat old.public.pack f (at state old.vault s1)) flat_is
+              (flat_kept (from old.vault.next) old.public.pack (flat_of t) (world_of state old s) (at state old.vault s1) (went_rests _ s s1 rests (from old.vault.next) agrees.ready).lasts
+              (λ above. let below = region_below old.public.pack i old.public.tables t _ agrees.ready agrees.tables get in omega (arith, below, above))
+              (agrees.tables.each i t get).flat);
+          size = table_size;
+          columns = table_columns;
+        }
