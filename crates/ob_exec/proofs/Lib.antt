@@ -38,3 +38,7 @@ pub mod SelectTold
 pub mod SelectFirst
 pub mod SelectHeld
 pub mod SelectEnds
+pub mod RowsLength
+pub mod RowsNothing
+pub mod RowsTable
+pub mod RowsStated

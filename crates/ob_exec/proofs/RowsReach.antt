@@ -39,13 +39,13 @@ use Rattle.ob_exec.proofs.RowsStops.{StopsRows}
 
 -- ---- no more than is asked
 module _ (p : Public) (g : ℕ) (t : Stored ℕ) (pre ending : List Access) where
-  abbrev part : Seen → List Access
+  abbrev pub part : Seen → List Access
   part now = pre ++ select_part p now g (extent_of t) ending
 
-  abbrev count : List Access
+  abbrev pub count : List Access
   count = count_part t.held (blocks_of p (extent_of t))
 
-  part_length : (now : Seen) → length (part now) ≡ length pre + (length count + length (after_count p now now.k g (extent_of t) ending))
+  pub part_length : (now : Seen) → length (part now) ≡ length pre + (length count + length (after_count p now now.k g (extent_of t) ending))
   part_length now =
       length-append pre (select_part p now g (extent_of t) ending)
       ∙ ap (λ (n : ℕ). length pre + n) (length-append count (after_count p now now.k g (extent_of t) ending))

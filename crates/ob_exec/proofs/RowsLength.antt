@@ -1,0 +1,112 @@
+-- How much is asked of a SELECT of rows doesn't hang on the numbers of its regions.
+use Rattle.std.proofs.Common.{◌≡◌, ◌≤◌, ◌<◌, ◌+◌, ◌-◌, ◌*◌, ℕ, suc, Bool, false, true, List, [], ◌∷◌, ◌++◌, length, Option, Some, None, if◌then◌else◌, refl, sym, ◌∙◌, ap, subst, arith, length-append}
+use Rattle.std.specs.Prelude.{nat_le}
+use Rattle.std.proofs.lemmas.Bool.Decides.{nat_tests}
+use Rattle.ob_base.specs.declared.access.Access.{Access}
+use Rattle.ob_base.specs.declared.config.Plan.{Plan}
+use Rattle.ob_base.specs.declared.config.Plan.TheVariants.{Small, Large, Continuous, Hash}
+use Rattle.ob_base.specs.declared.config.Public.{Public}
+use Rattle.ob_base.specs.declared.seen.Seen.{Seen}
+use Rattle.ob_base.specs.declared.seen.End.{End}
+use Rattle.ob_base.specs.declared.seen.End.TheVariants.{Whole, AfterCount}
+use Rattle.ob_base.specs.Lists.{each}
+use Rattle.ob_base.specs.Stored.{Stored}
+use Rattle.ob_row.specs.Slots.{is_consecutive}
+use Rattle.ob_base.specs.Accesses.{discard_at}
+use Rattle.ob_base.specs.Limits.{buffered_blocks}
+use Rattle.ob_base.specs.Numbers.{blocks_for}
+use Rattle.ob_script.specs.Parts.{continuous_block, continuous_part, copy_part, count_part, create_part, emission_part, hash_block, hash_part, large_part}
+use Rattle.ob_script.specs.Script.{after_count, blocks_of, extent_of, plan_part, result_blocks, result_part, rows_width, select_part}
+use Rattle.ob_script.proofs.Lengths.{length-buckets, length-copy_part, length-count_part, length-passes, length-turns, length-writes}
+use Rattle.ob_mean.specs.Replay.{held_if}
+use Rattle.ob_mean.specs.Verdict.{fallback, first_unplaced, plan_for, seen_rows, seen_with}
+use Rattle.ob_exec.proofs.RowsLawful.{seen_as}
+
+both_length : (a b c d : List Access) → length a ≡ length b → length c ≡ length d → length (a ++ c) ≡ length (b ++ d)
+both_length a b c d first second = length-append a c ∙ (λ i. first i + second i) ∙ sym (length-append b d)
+
+large_length : (t g blocks width : ℕ) → length (large_part t g blocks width) ≡ suc (blocks * 2 + blocks * 2)
+large_length t g blocks width =
+    ap suc (length-append (copy_part t g blocks) (copy_part g g blocks) ∙ (λ i. length-copy_part t g blocks i + length-copy_part g g blocks i))
+
+continuous_length : (t g h pack n k width : ℕ) → 0 < pack → length (continuous_part t g pack n k width) ≡ length (continuous_part t h pack n k width)
+continuous_length t g h pack n k width some =
+    both_length (create_part g (blocks_for pack k) width) (create_part h (blocks_for pack k) width) (each (blocks_for pack n) (continuous_block t g pack n k)) (each (blocks_for pack n) (continuous_block t h pack n k))
+    (ap suc (length-writes g (blocks_for pack k) ∙ sym (length-writes h (blocks_for pack k))))
+    (length-turns t g pack n k some ∙ sym (length-turns t h pack n k some))
+
+hash_length : (t g h pack n k depth width : ℕ) → 0 < pack → length (hash_part t g pack n k depth width) ≡ length (hash_part t h pack n k depth width)
+hash_length t g h pack n k depth width some =
+    both_length (create_part g (k * depth) width) (create_part h (k * depth) width) (each (blocks_for pack n) (hash_block t g pack n k depth)) (each (blocks_for pack n) (hash_block t h pack n k depth))
+    (ap suc (length-writes g (k * depth) ∙ sym (length-writes h (k * depth))))
+    (length-buckets t g pack n k depth some ∙ sym (length-buckets t h pack n k depth some))
+
+emission_length : (g h blocks : ℕ) → length (emission_part g blocks) ≡ length (emission_part h blocks)
+emission_length g h blocks =
+    both_length (count_part g blocks) (count_part h blocks) (discard_at g) (discard_at h) (length-count_part g blocks ∙ sym (length-count_part h blocks)) refl
+
+module _ (p : Public) (some : 0 < p.pack) (enough : 0 < buffered_blocks p.pack p.buffer) where
+  plan_length : (plan : Plan) (k g h : ℕ) (t : Stored ℕ) → length (plan_part p plan k g (extent_of t)) ≡ length (plan_part p plan k h (extent_of t))
+  plan_length Small k g h t =
+      ap suc (length-passes t.held g (blocks_of p (extent_of t)) (blocks_for p.pack k) (buffered_blocks p.pack p.buffer) enough
+      ∙ sym (length-passes t.held h (blocks_of p (extent_of t)) (blocks_for p.pack k) (buffered_blocks p.pack p.buffer) enough))
+  plan_length Large k g h t =
+      large_length t.held g (blocks_of p (extent_of t)) (rows_width p (extent_of t)) ∙ sym (large_length t.held h (blocks_of p (extent_of t)) (rows_width p (extent_of t)))
+  plan_length Continuous k g h t = continuous_length t.held g h p.pack t.heading.capacity k (rows_width p (extent_of t)) some
+  plan_length Hash k g h t = hash_length t.held g h p.pack t.heading.capacity k p.depth (rows_width p (extent_of t)) some
+
+  result_length : (plan : Option Plan) (k g h : ℕ) (t : Stored ℕ) → length (result_part p plan k g (extent_of t)) ≡ length (result_part p plan k h (extent_of t))
+  result_length None k g h t = refl
+  result_length (Some plan) k g h t =
+      both_length (plan_part p plan k g (extent_of t)) (plan_part p plan k h (extent_of t))
+      (emission_part g (result_blocks p plan k (extent_of t))) (emission_part h (result_blocks p plan k (extent_of t)))
+      (plan_length plan k g h t) (emission_length g h (result_blocks p plan k (extent_of t)))
+
+  after_length : (now : Seen) (k : Option ℕ) (g h : ℕ) (t : Stored ℕ) (ending : List Access)
+      → length (after_count p now k g (extent_of t) ending) ≡ length (after_count p now k h (extent_of t) ending)
+  after_length now None g h t ending = refl
+  after_length now (Some k) g h t ending =
+      both_length (result_part p now.plan k g (extent_of t)) (result_part p now.plan k h (extent_of t))
+      (result_part p now.then k (g + 1) (extent_of t) ++ ending) (result_part p now.then k (h + 1) (extent_of t) ++ ending)
+      (result_length now.plan k g h t)
+      (both_length (result_part p now.then k (g + 1) (extent_of t)) (result_part p now.then k (h + 1) (extent_of t)) ending ending (result_length now.then k (g + 1) (h + 1) t) refl)
+
+  pub select_length : (now : Seen) (g h : ℕ) (t : Stored ℕ) (ending : List Access)
+      → length (select_part p now g (extent_of t) ending) ≡ length (select_part p now h (extent_of t) ending)
+  select_length now g h t ending =
+      both_length (count_part t.held (blocks_of p (extent_of t))) (count_part t.held (blocks_of p (extent_of t)))
+      (after_count p now now.k g (extent_of t) ending) (after_count p now now.k h (extent_of t) ending) refl (after_length now now.k g h t ending)
+
+-- ---- a second plan comes behind a first
+pub data Seconded (now : Seen) : Type 0 where
+  none : (is : now.then ≡ None) → Seconded now
+  some : (k : ℕ) (plan second : Plan) (end : End) (is : now ≡ seen_as (Some k) (Some plan) (Some second) end) → Seconded now
+
+hash_seconded : (k : ℕ) (second : Option Plan) → Seconded (seen_as (Some k) (Some Hash) second Whole)
+hash_seconded k None = none refl
+hash_seconded k (Some second) = some k Hash second Whole refl
+
+by_turn : (b : Bool) (k : ℕ) → Seconded (if b then seen_as (Some k) (Some Continuous) None Whole else seen_as (Some k) None None AfterCount)
+by_turn true k = none refl
+by_turn false k = none refl
+
+with_seconded : (p : Public) (plan : Plan) (places : List ℕ) → Seconded (seen_with p plan places)
+with_seconded p Small places = none refl
+with_seconded p Large places = none refl
+with_seconded p Continuous places = by_turn (is_consecutive places) (length places)
+with_seconded p Hash places = hash_seconded (length places) (fallback p.plan (first_unplaced p places))
+
+pub rows_seconded : (p : Public) (n : ℕ) (places : List ℕ) → Seconded (seen_rows p n places)
+rows_seconded p n [] = none refl
+rows_seconded p n (i ∷ is) = with_seconded p (plan_for p n (i ∷ is)) (i ∷ is)
+
+-- ---- nothing is held before
+pub held_none : {A : Type 0} (o : Option A) (m n : ℕ) → n < m → None ≡ held_if (nat_le m n) o
+held_none {A} o m n less = sym (ap (λ (b : Bool). held_if b o) off)
+  where
+    off : nat_le m n ≡ false
+    off = grind (arith, nat_tests)
+
+pub held_empty : {A : Type 0} (b : Bool) (o : Option A) → o ≡ None → None ≡ held_if b o
+held_empty true o is = sym is
+held_empty false o is = refl

@@ -1,0 +1,124 @@
+-- A SELECT of rows of which nothing was counted yet.
+use Rattle.std.proofs.Common.{◌≡◌, ◌⊎◌, inl, inr, ◌≤◌, ◌<◌, ◌+◌, ◌-◌, ℕ, Bool, false, List, [], ◌∷◌, ◌++◌, length, Option, Some, None, refl, sym, ◌∙◌, ap, subst, arith, length-append, append-nil}
+use Rattle.std.specs.Prelude.{IsSome, nat_le}
+use Rattle.std.specs.Option.{option_map_or}
+use Rattle.ob_base.specs.declared.access.Access.{Access}
+use Rattle.ob_base.specs.declared.config.Plan.{Plan}
+use Rattle.ob_base.specs.declared.config.Public.{Public}
+use Rattle.ob_base.specs.declared.seen.Seen.{Seen}
+use Rattle.ob_base.specs.declared.seen.End.{End}
+use Rattle.ob_base.specs.declared.seen.End.TheVariants.{Whole}
+use Rattle.ob_base.specs.declared.skeleton.Skeleton.TheVariants.{Rows as RowsSkeleton}
+use Rattle.ob_base.specs.declared.skeleton.Source.{Source}
+use Rattle.ob_base.specs.declared.skeleton.Source.TheVariants.{Table as OneTable, Join}
+use Rattle.ob_base.specs.Accesses.{discard_at}
+use Rattle.ob_base.specs.Events.{Event}
+use Rattle.ob_base.specs.Stored.{Stored, stored_at, stored_regions}
+use Rattle.ob_row.specs.Slots.{Slots}
+use Rattle.ob_script.specs.Parts.{count_part, emission_part}
+use Rattle.ob_script.specs.Script.{extent_of, join_script, plan_part, result_blocks, table_script}
+use Rattle.ob_store.specs.State.{StoreState}
+use Rattle.ob_store.specs.Calls.{Rests}
+use Rattle.ob_store.proofs.Steps.{later_rests}
+use Rattle.ob_vault.specs.State.{VaultState, World}
+use Rattle.ob_vault.specs.Tied.{Ready}
+use Rattle.ob_vault.specs.declared.region.Region.{Region}
+use Rattle.ob_vault.proofs.WordLemmas.{seals_rests, went_rests}
+use Rattle.ob_flat.specs.declared.fault.OpErr.TheVariants as OpErrs
+use Rattle.ob_sql.specs.declared.stmt.SelectRows.{SelectRows}
+use Rattle.ob_mean.specs.Replay.{count_end, done_of, held_if, walk_end}
+use Rattle.ob_mean.specs.Verdict.{ended as seen_to}
+use Rattle.ob_exec.specs.Selecting.{from, places, seen_of}
+use Rattle.ob_exec.specs.Sources.{HaltsRows, HoldsRows, LeavesNone, SourceToHalt, rows_script, rows_skeleton, selection, slots_of}
+use Rattle.ob_exec.proofs.RowsLawful.{seen_as}
+use Rattle.ob_exec.proofs.RowsLength.{Seconded, held_empty, held_none, none, rows_seconded, some}
+use Rattle.ob_exec.proofs.RowsReach.{joined_part, joined_stored, part, part_length}
+use Rattle.ob_exec.proofs.RunLemmas.{world}
+
+-- ---- the first result is read back behind the count
+module _ (p : Public) (k : ℕ) (plan : Plan) (second : Option Plan) (end : End) where
+  part_late : (g : ℕ) (t : Stored ℕ) (pre ending : List Access)
+      → length (part p g t pre ending (seen_to Whole)) ≤ length (part p g t pre ending (seen_as (Some k) (Some plan) None end)) - (length ending + 1)
+  part_late g t pre ending =
+      let a = part_length p g t pre ending (seen_to Whole) in
+      let b = part_length p g t pre ending (seen_as (Some k) (Some plan) None end) in
+      let made = plan_part p plan k g (extent_of t) in
+      let back = count_part g (result_blocks p plan k (extent_of t)) in
+      let c = length-append (made ++ (back ++ discard_at g)) ending in
+      let d = length-append made (back ++ discard_at g) in
+      let e = length-append back (discard_at g) in
+      omega (arith, a, b, c, d, e)
+
+  table_late : (o : Option (Stored ℕ)) → length (option_map_or (table_script p (seen_to Whole)) o []) ≤ length (option_map_or (table_script p (seen_as (Some k) (Some plan) None end)) o []) - 1
+  table_late None = omega arith
+  table_late (Some t) = part_late p.next_region t [] []
+
+  join_late : (o q : Option (Stored ℕ)) → length (option_map_or (λ left. option_map_or (λ right. join_script p (seen_to Whole) left right) q []) o [])
+      ≤ length (option_map_or (λ left. option_map_or (λ right. join_script p (seen_as (Some k) (Some plan) None end) left right) q []) o []) - 2
+  join_late None q = omega arith
+  join_late (Some left) None = omega arith
+  join_late (Some left) (Some right) = part_late (p.next_region + 1) (joined_stored p left right) (joined_part p left right) (discard_at p.next_region)
+
+  walk_late : (select : SelectRows) → count_end p (rows_skeleton select) ≤ walk_end p (rows_skeleton select) (seen_as (Some k) (Some plan) second end)
+  walk_late select = go select.source
+    where
+      go : (source : Source) → count_end p (RowsSkeleton source select.list) ≤ walk_end p (RowsSkeleton source select.list) (seen_as (Some k) (Some plan) second end)
+      go (OneTable name) = table_late (stored_at name (stored_regions p.tables))
+      go (Join a b on equals) = join_late (stored_at a (stored_regions p.tables)) (stored_at b (stored_regions p.tables))
+
+-- what is held before the count has ended
+module _ (p : Public) (select : SelectRows) (slots : Slots) (failed : Bool) (n : ℕ) (now : Seen) (fresh : now ≡ seen_to Whole)
+    (less : done_of failed n < count_end p (rows_skeleton select)) where
+  second_nothing : Seconded (seen_of (selection p select) slots)
+      → None ≡ held_if (nat_le (walk_end p (rows_skeleton select) (seen_of (selection p select) slots)) (done_of failed n)) (seen_of (selection p select) slots).then
+  second_nothing (none is) = held_empty (nat_le (walk_end p (rows_skeleton select) (seen_of (selection p select) slots)) (done_of failed n)) _ is
+  second_nothing (some k plan second end is) =
+      let late = walk_late p k plan (Some second) end select in
+      let same = ap (walk_end p (rows_skeleton select)) is in
+      held_none _ (walk_end p (rows_skeleton select) (seen_of (selection p select) slots)) (done_of failed n) (omega (arith, late, same, less))
+
+  pub holds_nothing : HoldsRows p select slots failed n now
+  holds_nothing = record {
+    k = ap (λ (x : Seen). x.k) fresh ∙ held_none _ (count_end p (rows_skeleton select)) (done_of failed n) less;
+    plan = ap (λ (x : Seen). x.plan) fresh ∙ held_none _ (count_end p (rows_skeleton select)) (done_of failed n) less;
+    second = ap (λ (x : Seen). x.then) fresh ∙ second_nothing (rows_seconded p (length slots) (places (selection p select) slots));
+  }
+
+-- no region from the next one on is live
+pub leaves_ready : (v : VaultState) (s t : StoreState) → Ready (world v s) → LeavesNone (world v s) (world v t)
+leaves_ready v s t ready = record { gone = λ r above. go r above (v.revs.live r) refl }
+  where
+    go : (r : ℕ) → v.next ≤ r → (o : Option Region) → v.revs.live r ≡ o → v.revs.live r ≡ None
+    go r above None is = is
+    go r above (Some shape) is = let below = ready.below r shape is in absurd (omega (arith, below, above))
+
+-- memory was wanted before the first access
+module _ {E : Type 0} (grew cut : E → E → List Event → Type 0) (p : Public) (select : SelectRows) (now : Seen) (v : VaultState) (s t : StoreState) (out : E)
+    (ready : Ready (world v s)) (rests : Rests s t) (fresh : now ≡ seen_to Whole) (counts : 1 ≤ count_end p (rows_skeleton select)) where
+  pub halts_first : HaltsRows grew cut p select OpErrs.NoMemory now (world v s) (world v t) out out
+  halts_first =
+      let went = went_rests v s t rests (from v.next) ready in
+      let same = ap length rests.asked in
+      record {
+        ran = record {
+          lasts = went.lasts;
+          began = record { done = []; rest = rows_script p select now; split = refl; asked = went.did.asked };
+          cause = (went.did.faults, went.calm);
+        };
+        leaves = leaves_ready v s t ready;
+        seals = λ good accepts. seals_rests v s t rests good;
+        holds = subst (λ (x : Seen). Rattle.ob_exec.specs.Selecting.MayHold (selection p select) x.k x.plan x.then) (sym fresh) tt;
+        reached = record {
+          count = λ some. let is = subst (λ (x : Seen). IsSome x.k) fresh some in absurd (cc is);
+          walk = λ some. let is = subst (λ (x : Seen). IsSome x.then) fresh some in absurd (cc is);
+        };
+        memory = λ wanted. record { done = []; rest = rows_script p select now; split = refl; asked = went.did.asked; place = inl (inl refl) };
+        halted = record {
+          events = [];
+          ends = inl (λ e events took. subst (λ (all : List Event). grew e out all) (sym (append-nil events)) took);
+          told = λ (x : SourceToHalt p (world v s) (world v t)). (_, refl);
+        };
+        failed = λ is. absurd (cc is);
+        honest = λ x. inr (inr refl);
+        held = λ x. holds_nothing p select (slots_of p select x.tables) false (length t.asked - length s.asked) now fresh (omega (arith, same, counts));
+      }

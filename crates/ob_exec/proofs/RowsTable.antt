@@ -1,0 +1,303 @@
+-- A SELECT of the rows of a table.
+use Rattle.std.proofs.Common.{◌≡◌, ◌⊎◌, inl, inr, ◌≤◌, ◌<◌, ◌+◌, ◌-◌, ◌*◌, ℕ, zero, suc, Bool, true, false, List, [], ◌∷◌, ◌++◌, map, length, length-append, Option, Some, None, Ok, Err, Result, refl, sym, ◌∙◌, ap, subst, arith, append-nil}
+use Rattle.std.specs.Prelude.{IsTrue, nat_le, slice_get, unwrap_or}
+use Rattle.std.proofs.lemmas.Bool.Decides.{nat_tests}
+use Rattle.std.proofs.lemmas.List.{length-map}
+use Rattle.std.specs.Int.{div_ceil}
+use Rattle.std.specs.Option.{option_map_or}
+use Rattle.ob_base.specs.declared.access.Access.{Access}
+use Rattle.ob_base.specs.declared.config.Public.{Public}
+use Rattle.ob_base.specs.declared.refusal.Refusal.{Refusal}
+use Rattle.ob_base.specs.declared.schema.Column.{Column}
+use Rattle.ob_base.specs.declared.schema.Heading.{Heading}
+use Rattle.ob_base.specs.declared.schema.Table.{Table}
+use Rattle.ob_base.specs.declared.seen.Seen.{Seen}
+use Rattle.ob_base.specs.declared.seen.End.TheVariants.{Whole}
+use Rattle.ob_base.specs.declared.shown.Shown.{Shown}
+use Rattle.ob_base.specs.declared.skeleton.Skeleton.TheVariants.{Rows as RowsSkeleton}
+use Rattle.ob_base.specs.declared.skeleton.Source.{Source}
+use Rattle.ob_base.specs.declared.skeleton.Source.TheVariants.{Table as OneTable}
+use Rattle.ob_base.specs.Events.{Event, IsEmitted, IsHalted}
+use Rattle.ob_base.specs.declared.skeleton.ColumnName.{ColumnName}
+use Rattle.ob_base.specs.Lists.{places_of, tabulate}
+use Rattle.ob_base.specs.Limits.{buffered_blocks}
+use Rattle.ob_base.specs.Schemas.{Columns}
+use Rattle.ob_base.specs.Stored.{Stored, headings_of, heading_at, stored_at, stored_regions}
+use Rattle.ob_row.specs.Condition.{Condition}
+use Rattle.ob_row.specs.Slots.{Slots}
+use Rattle.ob_script.specs.Parts.{count_part}
+use Rattle.ob_script.specs.Script.{blocks_of, extent_of, select_part, source_script, table_script}
+use Rattle.ob_script.proofs.Lengths.{length-count_part}
+use Rattle.ob_store.specs.State.{StoreState}
+use Rattle.ob_store.specs.Calls.{Rests}
+use Rattle.ob_store.proofs.Steps.{later_rests}
+use Rattle.ob_vault.specs.State.{RevState, World}
+use Rattle.ob_vault.specs.Calls.{Seals, Went}
+use Rattle.ob_vault.specs.declared.vault.Vault.{Vault}
+use Rattle.ob_vault.specs.Places.{at}
+use Rattle.ob_vault.proofs.Runs.{seals_join, went_join}
+use Rattle.ob_vault.proofs.WordLemmas.{ready_rests, seals_rests, went_rests}
+use Rattle.ob_flat.specs.declared.fault.OpErr.{OpErr}
+use Rattle.ob_flat.specs.declared.fault.OpErr.TheVariants as OpErrs
+use Rattle.ob_flat.specs.declared.flat.Flat.{Flat}
+use Rattle.ob_flat.specs.Flats.{IsFlat, IsSized, Represents}
+use Rattle.ob_emit.specs.Emitting.{AreColumns}
+use Rattle.ob_flat.specs.Passes.{PassCut}
+use Rattle.ob_flat.proofs.Resting.{represents_rests}
+use Rattle.ob_flat.proofs.Runs.{pass_after}
+use Rattle.ob_mean.specs.Lawful.{capacity_at, counted_slots}
+use Rattle.ob_mean.specs.Names.{place_of, source_columns, where_at}
+use Rattle.ob_mean.specs.Refusals.{listed}
+use Rattle.ob_mean.proofs.EarlyLemmas.{allowed}
+use Rattle.ob_verdict.proofs.AcceptedProof.{places_fit}
+use Rattle.ob_mean.specs.Replay.{count_end, done_of, ending_len, held_if, walk_end}
+use Rattle.ob_mean.specs.Step.{printed_places, select_columns}
+use Rattle.ob_mean.specs.Verdict.{Tables, is_late, source_slots, ended as seen_to}
+use Rattle.ob_sql.specs.declared.stmt.SelectRows.{SelectRows}
+use Rattle.ob_sql.specs.declared.stmt.Stmt.TheVariants.{SelectRows as RowsStmt}
+use Rattle.ob_exec.specs.Running.{refusal_now}
+use Rattle.ob_exec.proofs.PlaceLemmas.{all_places}
+use Rattle.ob_exec.specs.declared.engine.Engine.{Engine}
+use Rattle.ob_exec.specs.declared.selecting.Selected.{Selected}
+use Rattle.ob_exec.specs.declared.selecting.Selected.TheVariants.{Rows, Refused}
+use Rattle.ob_exec.specs.Agreeing.{Agrees, world_of}
+use Rattle.ob_exec.specs.Engines.{flat_of}
+use Rattle.ob_exec.specs.Selecting.{HoldsSeen, MaySelect, Selection, SelectsFrom, SelectsToEnd, SelectsToHalt, EmitsSelected, answer_events, counted_after, from, is_of_access, region_of, seen_of, selection_script, walked_after}
+use Rattle.ob_exec.specs.Sources.{EmitsRows, EndsRows, HaltsRows, HoldsRows, SelectsRows, SourceToEnd, SourceToHalt, rows_script, rows_skeleton, selection, slots_of, stated}
+use Rattle.ob_exec.specs.Telling.{AreHeld}
+use Rattle.ob_exec.proofs.FoundLemmas.{heading_found}
+use Rattle.ob_exec.proofs.HeldLemmas.{held_at}
+use Rattle.ob_exec.proofs.RowsLength.{select_length}
+use Rattle.ob_exec.proofs.RowsStated.{ends_stated, may_stated}
+use Rattle.ob_exec.proofs.TableLemmas.{flat_kept, region_below, stored_found}
+
+not_late : (m : ℕ) → is_late m ≡ false → m < 9223372036854775808
+not_late m early = grind (arith, nat_tests)
+
+tabulate_length : (n : ℕ) → length (tabulate n (λ i. i)) ≡ n
+tabulate_length zero = refl
+tabulate_length (suc n) = let more = length-append (tabulate n (λ i. i)) (n ∷ []) in let same = tabulate_length n in omega (arith, more, same)
+
+-- ---- of one source for another
+pub emitted_from : {E A B : Type 0} {grew : E → E → List Event → Type 0} {head : List Event} {from to : ℕ} {a b : E} (sa : A → List (List Shown)) (sb : B → List (List Shown)) (f : B → A) → ((x : B) → sa (f x) ≡ sb x)
+    → IsEmitted grew head sa from to a b → IsEmitted grew head sb from to a b
+emitted_from sa sb f same is = record { rows = is.rows; count = is.count; leads = is.leads; told = λ x. is.told (f x) ∙ same x }
+
+pub halted_from : {E A B : Type 0} {grew cut : E → E → List Event → Type 0} {a b : E} (sa : A → List Event) (sb : B → List Event) (f : B → A) → ((x : B) → sa (f x) ≡ sb x)
+    → IsHalted grew cut sa a b → IsHalted grew cut sb a b
+halted_from sa sb f same is = record { events = is.events; ends = is.ends; told = λ x. ((is.told (f x)).0, (is.told (f x)).1 ∙ same x) }
+
+pub stated_is : (p : Public) (select : SelectRows) (flat : Flat) (condition : Condition) (cols : List ℕ) (ending : ℕ) → flat.schema ≡ (selection p select).flat.schema → flat.capacity ≡ (selection p select).flat.capacity
+    → condition ≡ (selection p select).condition → cols ≡ (selection p select).cols
+    → ◌≡◌ {A = Selection} (record { public = p; flat = flat; condition = condition; cols = cols; ending = ending }) (stated p select flat.region ending)
+stated_is p select flat condition cols ending schema capacity condition_is cols_is = λ i. record {
+  public = p;
+  flat = record { schema = schema i; capacity = capacity i; region = flat.region };
+  condition = condition_is i;
+  cols = cols_is i;
+  ending = ending;
+}
+
+an_error : {x y : OpErr} → x ≡ y → ◌≡◌ {A = Result Selected OpErr} (Err x) (Err y)
+an_error is = λ i. Err (is i)
+
+some_of : (n q : ℕ) → 1 ≤ q → 1 ≤ n → 1 ≤ div_ceil n q
+some_of n q some least = grind arith
+
+some_buffered : (pack rows : ℕ) → 1 ≤ pack → 3 * pack + 1 ≤ rows → 1 ≤ buffered_blocks pack rows
+some_buffered pack rows some enough = grind arith
+
+module _ {R : Type 0} (state : R → RevState) (old : Engine R) (s s1 : StoreState) (i : ℕ) (t : Table) (name : List ℕ) (select : SelectRows)
+    (agrees : Agrees state old s) (get : slice_get old.public.tables i ≡ Some t) (named : t.heading.name ≡ name) (of_table : select.source ≡ OneTable name) where
+  found : heading_at name (headings_of old.public.tables) ≡ Some t.heading
+  found = heading_found name old.public.tables i t agrees.tables.names get named
+
+  pub schema_is : t.heading.schema ≡ (selection old.public select).flat.schema
+  schema_is =
+      sym (ap (λ (source : Source). source_columns source (headings_of old.public.tables)) of_table ∙ ap (λ (o : Option Heading). option_map_or (λ (h : Heading). h.schema) o []) found)
+
+  pub capacity_is : t.heading.capacity ≡ (selection old.public select).flat.capacity
+  capacity_is = sym (ap (counted_slots old.public) of_table ∙ ap (λ (o : Option Heading). option_map_or (λ (h : Heading). h.capacity) o 0) found)
+
+  abbrev pub q : Selection
+  q = stated old.public select t.region 0
+
+  -- what is asked is what the statement asks
+  script_is : (now : Seen) → selection_script q now old.vault.next ≡ rows_script old.public select now
+  script_is now =
+      (λ j. select_part old.public now (sym agrees.next j) (extent_of (record { heading = record { name = []; schema = sym schema_is j; capacity = sym capacity_is j }; held = t.region })) [])
+      ∙ sym (ap (λ (o : Option (Stored ℕ)). option_map_or (table_script old.public now) o []) (stored_found name old.public.tables i t agrees.tables.names get named))
+      ∙ sym (ap (source_script old.public now) of_table)
+
+  count_is : count_end old.public (rows_skeleton select) ≡ counted_after q
+  count_is =
+      ap length (sym (script_is (seen_to Whole))) ∙ ap length (append-nil (count_part t.region (blocks_of old.public (extent_of (region_of q)))))
+      ∙ length-count_part t.region (blocks_of old.public (extent_of (region_of q)))
+
+  no_ending : ending_len (rows_skeleton select) ≡ 0
+  no_ending = ap (λ (source : Source). ending_len (RowsSkeleton source select.list)) of_table
+
+  walk_is : (now : Seen) → walk_end old.public (rows_skeleton select) now ≡ walked_after q now
+  walk_is now =
+      let some = agrees.settings.pack_least in
+      let enough = some_buffered old.public.pack old.public.buffer agrees.settings.pack_least agrees.settings.blocks in
+      let long = ap length (sym (script_is (record now { then = None }))) ∙ select_length old.public some enough (record now { then = None }) old.vault.next 0 (region_of q) [] in
+      let none = no_ending in
+      omega (arith, long, none)
+
+  pub counts_some : 1 ≤ count_end old.public (rows_skeleton select)
+  counts_some =
+      let least = (agrees.tables.each i t get).stored.least in
+      let blocks : 1 ≤ div_ceil (selection old.public select).flat.capacity old.public.pack =
+      subst (λ (n : ℕ). 1 ≤ div_ceil n old.public.pack) capacity_is (some_of t.heading.capacity old.public.pack agrees.settings.pack_least least) in
+      subst (λ (n : ℕ). 1 ≤ n) (sym count_is) blocks
+
+  module _ (v : Vault R) (u : StoreState) (rests : Rests s s1) where
+    abbrev before : World
+    before = world_of state old s
+
+    abbrev ready : World
+    ready = at state old.vault s1
+
+    abbrev after : World
+    after = at state v u
+
+    holds_slots : (tables : Tables) → AreHeld old.public.pack old.public.tables tables before → Represents old.public.pack q.flat (slots_of old.public select tables) ready
+    holds_slots tables held =
+        let beside = held_at old.public.pack name old.public.tables tables i t before agrees.tables.names held get named in
+        let slots_is : beside.table.held ≡ slots_of old.public select tables =
+        sym (ap (λ (source : Source). source_slots old.public source tables) of_table ∙ ap (λ (o : Option (Stored Slots)). option_map_or (λ (x : Stored Slots). x.held) o []) beside.found) in
+        let flat_is : flat_of t ≡ q.flat = λ j. record { schema = schema_is j; capacity = capacity_is j; region = t.region } in
+        subst (λ (slots : Slots). Represents old.public.pack q.flat slots ready) slots_is
+        (subst (λ (flat : Flat). Represents old.public.pack flat beside.table.held ready) flat_is
+        (represents_rests _ s s1 rests old.public.pack (flat_of t) beside.table.held beside.represents))
+
+    abbrev to_end : SourceToEnd old.public before after → SelectsToEnd q ready after
+    to_end x = record { tells = subst (λ (b : Bool). IsTrue b) (sym rests.tells) x.tells; slots = slots_of old.public select x.tables; is = holds_slots x.tables x.held; nolie = x.nolie }
+
+    abbrev to_halt : SourceToHalt old.public before after → SelectsToHalt q ready after
+    to_halt x = record {
+      tells = subst (λ (b : Bool). IsTrue b) (sym rests.tells) x.tells;
+      slots = slots_of old.public select x.tables;
+      is = holds_slots x.tables x.held;
+      nolie = rests.lie ∙ x.nolie;
+      unfit = x.unfit;
+    }
+
+    seals_both : (good : ℕ → List ℕ → Bool) → Seals good ready after → Seals good before after
+    seals_both good seals = seals_join good before ready after (later_rests s s1 rests) (seals_rests _ s s1 rests good) seals
+
+    length_is : length u.asked - length s1.asked ≡ length u.asked - length s.asked
+    length_is = λ j. length u.asked - length (rests.asked j)
+
+    module _ {E : Type 0} (grew cut : E → E → List Event → Type 0) (faults : E → ℕ) (now : Seen) (out_old out_new : E) where
+      table_emits : (answer : Selected) → EmitsSelected grew q answer ready after out_old out_new → EmitsRows grew old.public select answer before after out_old out_new
+      table_emits (Rows k) is = emitted_from _ _ to_end (λ x. refl) is
+      table_emits (Refused r) is = is
+
+      table_ends : (answer : Selected) → SelectsFrom grew cut faults q (Ok answer) now ready after out_old out_new → EndsRows grew old.public select answer now before after out_old out_new
+      table_ends answer is = record {
+        ran = subst (λ (x : List Access). Went x (from old.vault.next) before after) (script_is now)
+            (went_join (from old.vault.next) before ready after [] (selection_script q now old.vault.next) (went_rests _ s s1 rests (from old.vault.next) agrees.ready) is.ran.ok);
+        leaves = record { gone = is.gone };
+        seals = λ good accepts. seals_both good (is.seals good accepts);
+        holds = may_stated old.public select t.region 0 now.k now.plan now.then is.holds;
+        ended = ends_stated old.public select t.region 0 answer now is.ended;
+        emitted = table_emits answer is.emitted;
+        told = λ x. is.told (to_end x);
+      }
+
+      table_holds : (failed : Bool) (slots : Slots) → HoldsSeen q slots failed (length u.asked - length s1.asked) now → HoldsRows old.public select slots failed (length u.asked - length s.asked) now
+      table_holds failed slots is = record {
+        k = is.k ∙ (λ j. held_if (nat_le (sym count_is j) (done_of failed (length_is j))) (seen_of q slots).k);
+        plan = is.plan ∙ (λ j. held_if (nat_le (sym count_is j) (done_of failed (length_is j))) (seen_of q slots).plan);
+        second = is.second ∙ (λ j. held_if (nat_le (sym (walk_is (seen_of q slots)) j) (done_of failed (length_is j))) (seen_of q slots).then);
+      }
+
+      table_halts : (e : OpErr) → SelectsFrom grew cut faults q (Err e) now ready after out_old out_new → HaltsRows grew cut old.public select e now before after out_old out_new
+      table_halts e is = record {
+        ran = subst (λ (x : List Access). PassCut e x (from old.vault.next) before after) (script_is now)
+            (pass_after (from old.vault.next) before ready after e [] (selection_script q now old.vault.next) (went_rests _ s s1 rests (from old.vault.next) agrees.ready) is.ran.err);
+        leaves = record { gone = is.gone };
+        seals = λ good accepts. seals_both good (is.seals good accepts);
+        holds = may_stated old.public select t.region 0 now.k now.plan now.then is.holds;
+        reached = record {
+          count = λ some. let within = is.reached.count some in let same = count_is in let long = length_is in omega (arith, within, same, long);
+          walk = λ some. let within = is.reached.walk some in let same = walk_is now in let long = length_is in omega (arith, within, same, long);
+        };
+        memory = λ wanted.
+            let lacks = is.memory (an_error wanted) in
+            record { done = lacks.done; rest = lacks.rest; split = lacks.split ∙ script_is now; asked = lacks.asked ∙ ap (λ (x : List Access). x ++ lacks.done) rests.asked; place = lacks.place };
+        halted = halted_from _ _ to_halt (λ x. refl) is.halted;
+        failed = λ wanted. halted_from _ _ to_halt (λ x. refl) (is.failed (an_error wanted));
+        honest = λ x. is.told (to_end x);
+        held = λ x. table_holds (is_of_access e) (slots_of old.public select x.tables) (is.held (to_halt x));
+      }
+
+      -- it is a SELECT of the rows of a source
+      pub table_selects : (result : Result Selected OpErr) → SelectsFrom grew cut faults q result now ready after out_old out_new
+          → SelectsRows grew cut faults old.public select result now before after out_old out_new
+      table_selects (Ok answer) is = record { ended = table_ends answer is; halted = tt; sink = is.sink }
+      table_selects (Err e) is = record { ended = tt; halted = table_halts e is; sink = is.sink }
+
+  -- ---- what a selection of the table asks
+  pub table_query : (flat : Flat) (condition : Condition) (cols : List ℕ) (columns : Columns) → flat ≡ flat_of t → columns ≡ flat.schema → condition ≡ where_at select.cond (columns ++ [])
+      → cols ≡ printed_places select (columns ++ []) → ◌≡◌ {A = Selection} (record { public = old.public; flat = flat; condition = condition; cols = cols; ending = 0 }) q
+  table_query flat condition cols columns flat_is columns_are condition_is cols_are =
+      let schema = ap (λ (f : Flat). f.schema) flat_is ∙ schema_is in
+      let all = append-nil columns ∙ columns_are ∙ schema in
+      stated_is old.public select flat condition cols 0 schema (ap (λ (f : Flat). f.capacity) flat_is ∙ capacity_is)
+      (condition_is ∙ ap (where_at select.cond) all) (cols_are ∙ ap (printed_places select) all)
+      ∙ ap (λ (f : Flat). stated old.public select f.region 0) flat_is
+
+  module _ (free : refusal_now old.public (length s.asked) (RowsStmt select) ≡ None) where
+    pub few_listed : length (listed select) ≤ 32
+    few_listed = (places_fit (is_late (length s.asked)) old.public.pack old.public.buffer (headings_of old.public.tables) select free).few
+
+    listed_few : (list : Option (List ColumnName)) (cs : Columns) → length (unwrap_or list []) ≤ 32 → length cs ≤ 32 → length (option_map_or (map (λ c. place_of c cs)) list (places_of (λ _. true) cs)) ≤ 32
+    listed_few None cs few wide = let same = ap length (all_places cs) in let long = tabulate_length (length cs) in omega (arith, same, long, wide)
+    listed_few (Some names) cs few wide = let same = length-map names (λ (c : ColumnName). place_of c cs) in omega (arith, same, few)
+
+    table_columns : AreColumns q.flat.schema q.cols
+    table_columns =
+        let stored = (agrees.tables.each i t get).stored in
+        let few = stored.few in
+        let wide : length (selection old.public select).flat.schema ≤ 32 = subst (λ (cs : Columns). length cs ≤ 32) schema_is (omega (arith, few)) in
+        record {
+          few = listed_few select.list q.flat.schema few_listed wide;
+          within = (places_fit (is_late (length s.asked)) old.public.pack old.public.buffer (headings_of old.public.tables) select free).printed;
+        }
+
+    table_size : IsSized q.flat.schema q.flat.capacity
+    table_size =
+        let stored = (agrees.tables.each i t get).stored in
+        let few = stored.few in
+        let most = stored.most in
+        subst (λ (cs : Columns). IsSized cs q.flat.capacity) schema_is
+        (subst (λ (n : ℕ). IsSized t.heading.schema n) capacity_is
+        (record { some = stored.some; few = omega (arith, few); wide = stored.wide; least = stored.least; most = omega (arith, most) }))
+
+    early_asked : length s.asked < 9223372036854775808
+    early_asked = not_late (length s.asked) (allowed (is_late (length s.asked)) old.public.pack old.public.buffer (headings_of old.public.tables) (RowsStmt select) free).early
+
+    pub table_may : (rests : Rests s s1) (blocks : ℕ) → blocks ≡ div_ceil t.heading.capacity old.public.pack → blocks ≤ s1.spare → MaySelect q old.room (at state old.vault s1)
+    table_may rests blocks blocks_are spare =
+        let same = ap length rests.asked in
+        let below = early_asked in
+        let enough : div_ceil (selection old.public select).flat.capacity old.public.pack ≤ s1.spare =
+        subst (λ (n : ℕ). div_ceil n old.public.pack ≤ s1.spare) capacity_is (omega (arith, blocks_are, spare)) in
+        let flat_is : flat_of t ≡ q.flat = λ j. record { schema = schema_is j; capacity = capacity_is j; region = t.region } in
+        record {
+          settings = agrees.settings;
+          free = agrees.room;
+          ready = ready_rests _ s s1 rests agrees.ready;
+          spare = omega (arith, enough);
+          short = omega arith;
+          few = omega (arith, same, below);
+          flat = subst (λ (f : Flat). IsFlat old.public.pack f (at state old.vault s1)) flat_is
+              (flat_kept (from old.vault.next) old.public.pack (flat_of t) (world_of state old s) (at state old.vault s1) (went_rests _ s s1 rests (from old.vault.next) agrees.ready).lasts
+              (λ above. let below = region_below old.public.pack i old.public.tables t _ agrees.ready agrees.tables get in omega (arith, below, above))
+              (agrees.tables.each i t get).flat);
+          size = table_size;
+          columns = table_columns;
+        }
