@@ -1,4 +1,4 @@
-use Rattle.std.proofs.Common.{rules, ◌≡◌, ◌≢◌, ◌<◌, ℕ, length, slice_index, inl, inr, arith, ap, sym, ◌∙◌}
+use Rattle.std.proofs.Common.{rules, ◌≡◌, ◌≢◌, ◌<◌, length, slice_index, inl, inr, arith}
 use Rattle.ob_shell.proofs.NumberLemmas.{number_ok, number_none}
 use Rattle.ob_shell.proofs.words.number.Goals as goal
 
