@@ -23,3 +23,5 @@ pub mod DisturbLemmas
 pub mod MeddleLemmas
 pub mod WholeLemmas
 pub mod RerunLemmas
+mod Spelt
+mod NumberLemmas

@@ -3,8 +3,8 @@ ghost use Rattle.std.specs.Prelude.{◌≡◌, ◌≢◌, ◌≤◌, List, [], m
 ghost use Rattle.std.specs.Prelude.{option_map, string_bytes, false};
 ghost use Rattle.clap.specs.Words.{app_of, first_value, found_of, kind_of, rule_of};
 ghost use Rattle.clap.specs.declared.error.kind.ErrorKind.TheVariants.{OutOfMemory};
-ghost use Rattle.ob_meddle.specs.Changes.{number_from, number};
-ghost use Rattle.ob_shell.specs.Settings.{AreWithin, number_in, plan_in, settings_by};
+ghost use Rattle.ob_meddle.specs.Changes.{number};
+ghost use Rattle.ob_shell.specs.Settings.{AreWithin, at_least, number_in, plan_in, settings_by};
 ghost use Rattle.ob_shell.specs.Settings.{ParsesAs, IsTaken, ParsesChanges, MeddleParses};
 ghost use Rattle.ob_shell.specs.Usage.{common, usage, meddle_usage, flag, valued, is_set, is_traced, changes_in};
 
@@ -106,36 +106,19 @@ fn changes_in(alloc: Global, value: Option<&str>) -> Result<Vec<Meddle>, WordsEr
     }
 }
 
-// The number that more digits after `n` make, if it is at most `most`.
-fn number_from(most: u32, n: u32, digits: &[u8]) -> Option<u32>
-    requires { n ≤ most }
-    ensures value { result ≡ number_from most n digits.now }
-    ensures within { IfSome result (λ m. m ≤ most) }
+// A number from `least` to `most`, in decimal, without a sign and without leading zeros.
+fn number(least: u32, most: u32, text: &str) -> Option<u32>
+    ensures value { result ≡ at_least least (number most text.now) }
+    ensures within { IfSome result (λ n. (least ≤ n) × (n ≤ most)) }
 {
-    match digits.split_first() {
-        None => Some(n),
-        Some((digit, digits)) => {
-            if !digit.is_ascii_digit() {
-                return None;
-            }
-            let digit = u32::from(*digit - b'0');
-            if n > most / 10 || digit > most - 10 * n {
-                return None;
-            }
-            number_from(most, 10 * n + digit, digits)
-        }
-    }
-}
-
-// A number in decimal without leading zeros, if it is at most `most`.
-fn number(most: u32, digits: &[u8]) -> Option<u32>
-    ensures value { result ≡ number most digits.now }
-    ensures within { IfSome result (λ m. m ≤ most) }
-{
-    if digits.is_empty() || (digits.len() > 1 && digits[0] == b'0') {
+    let bytes = text.as_bytes();
+    if bytes.is_empty() || bytes[0] == b'+' || (bytes.len() > 1 && bytes[0] == b'0') {
         return None;
     }
-    number_from(most, 0, digits)
+    match text.parse::<u32>() {
+        Ok(n) if least <= n && n <= most => Some(n),
+        _ => None,
+    }
 }
 
 // The number of a word, from `least` to `most`; `default` where the word isn't given.
@@ -146,10 +129,7 @@ fn number_in(least: u32, most: u32, default: u32, value: Option<&str>) -> Option
 {
     match value {
         None => Some(default),
-        Some(text) => match number(most, text.as_bytes()) {
-            Some(n) if least <= n => Some(n),
-            _ => None,
-        },
+        Some(text) => number(least, most, text),
     }
 }
 

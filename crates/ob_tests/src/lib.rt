@@ -13,3 +13,5 @@ mod printing;
 mod session;
 #[cfg(test)]
 mod streams;
+#[cfg(test)]
+mod words;

@@ -1,0 +1,93 @@
+-- Words of the command lines, and the settings that they spell, computed.
+use Rattle.std.proofs.Common.{◌≡◌, [], ◌∷◌, refl}
+use Rattle.std.specs.Prelude.{Some, None, codes}
+use Rattle.clap.specs.Words.{fault_of}
+use Rattle.clap.specs.declared.error.kind.ErrorKind.TheVariants as kind
+use Rattle.clap.proofs.OnLiterals.{clap_on_literals}
+use Rattle.ob_base.specs.declared.config.Plan.TheVariants.{Hash}
+use Rattle.ob_shell.specs.Settings.{fitted, number_in, plan_in, settings_of}
+use Rattle.ob_shell.specs.Usage.{Parses, meddle_usage, usage}
+
+-- ---- one value
+the_least : number_in 4 65536 64 (Some (codes "4")) ≡ Some 4
+the_least = refl
+
+the_greatest : number_in 4 65536 64 (Some (codes "65536")) ≡ Some 65536
+the_greatest = refl
+
+not_given : number_in 4 65536 64 None ≡ Some 64
+not_given = refl
+
+too_small : number_in 4 65536 64 (Some (codes "3")) ≡ None
+too_small = refl
+
+too_great : number_in 4 65536 64 (Some (codes "65537")) ≡ None
+too_great = refl
+
+no_zeros_before : number_in 4 65536 64 (Some (codes "04")) ≡ None
+no_zeros_before = refl
+
+no_sign : number_in 4 65536 64 (Some (codes "+64")) ≡ None
+no_sign = refl
+
+no_digits : number_in 4 65536 64 (Some []) ≡ None
+no_digits = refl
+
+hash : plan_in (Some (codes "hash")) ≡ Some (Some Hash)
+hash = refl
+
+auto : plan_in (Some (codes "auto")) ≡ Some None
+auto = refl
+
+no_plan : plan_in (Some (codes "fast")) ≡ None
+no_plan = refl
+
+-- ---- three blocks and one row
+room_enough : fitted 49 5 None 16 ≡ Some (record { buffer = 49; depth = 5; pack = 16; plan = None; max_input = 65536 })
+room_enough = refl
+
+too_little : fitted 48 5 None 16 ≡ None
+too_little = refl
+
+-- ---- whole command lines
+no_words : settings_of usage [] ≡ Some (record { buffer = 64; depth = 5; pack = 1; plan = None; max_input = 65536 })
+unfolding clap_on_literals
+no_words = refl
+
+no_words_parse : Parses usage []
+unfolding clap_on_literals
+no_words_parse = refl
+
+two_words : settings_of usage (codes "--pack" ∷ codes "2" ∷ codes "--plan=hash" ∷ [])
+    ≡ Some (record { buffer = 64; depth = 5; pack = 2; plan = Some Hash; max_input = 65536 })
+unfolding clap_on_literals
+two_words = refl
+
+they_parse : Parses usage (codes "--pack" ∷ codes "2" ∷ codes "--plan=hash" ∷ [])
+unfolding clap_on_literals
+they_parse = refl
+
+pack_is_too_great : settings_of usage (codes "--pack" ∷ codes "22" ∷ []) ≡ None
+unfolding clap_on_literals
+pack_is_too_great = refl
+
+-- ---- what the command doesn't take
+help : fault_of usage (codes "--help" ∷ []) ≡ kind.DisplayHelp ∷ []
+unfolding clap_on_literals
+help = refl
+
+unknown : fault_of usage (codes "--meddle" ∷ codes "9:fail" ∷ []) ≡ kind.UnknownArgument ∷ []
+unfolding clap_on_literals
+unknown = refl
+
+known : Parses meddle_usage (codes "--meddle" ∷ codes "9:fail" ∷ [])
+unfolding clap_on_literals
+known = refl
+
+twice : fault_of usage (codes "--depth" ∷ codes "5" ∷ codes "--depth" ∷ codes "5" ∷ []) ≡ kind.ArgumentConflict ∷ []
+unfolding clap_on_literals
+twice = refl
+
+no_value : fault_of usage (codes "--buffer" ∷ []) ≡ kind.InvalidValue ∷ []
+unfolding clap_on_literals
+no_value = refl
