@@ -37,7 +37,7 @@ use Rattle.ob_flat.specs.declared.fault.OpErr.TheVariants.{Failed, Tampered, Sin
 use Rattle.ob_flat.specs.declared.flat.Flat.{Flat}
 use Rattle.ob_flat.specs.Emission.{SlotsToEnd, SlotsToHalt}
 use Rattle.ob_flat.specs.Flats.{IsSized, FitsRegion, Represents}
-use Rattle.ob_flat.specs.Passes.{PassCut, SinkCause}
+use Rattle.ob_flat.specs.Passes.{PassCut, SinkCause, is_of_access}
 use Rattle.ob_flat.specs.Words.{HasSpare, Ran, SealsTable, blocks_of}
 use Rattle.ob_flat.proofs.Resting.{represents_rests}
 use Rattle.ob_flat.proofs.Sinks.{none_before}
@@ -49,7 +49,7 @@ use Rattle.ob_mean.specs.Replay.{done_of}
 use Rattle.ob_exec.specs.declared.selecting.Selected.{Selected}
 use Rattle.ob_exec.specs.declared.selecting.Selected.TheVariants.{Rows, Refused}
 use Rattle.ob_exec.specs.Memory.{is_reading, starts_with_make, ends_with_make}
-use Rattle.ob_exec.specs.Selecting.{SealsRows, is_of_access, emitted_unless, selected_as}
+use Rattle.ob_exec.specs.Selecting.{SealsRows, emitted_unless, selected_as}
 use Rattle.ob_exec.specs.Results.{Planned, PlannedToEnd, PlannedToHalt, LacksMemoryOf, MakesResult, EmitsResult, WalksResult, SelectsBy, EmitsHeld, slots_for, fresh_flat, make_part, whole_part, left_out, held_slots, held_shown, held_events, held_answer, head_of}
 use Rattle.ob_exec.proofs.ResultParts.{whole_is, starts-make, starts-more, rest-reading, all-join, all-emission}
 use Rattle.ob_exec.proofs.ResultReads.{emitted_from, halted_from}
@@ -161,7 +161,7 @@ module _ {E : Type 0} (grew cut : E → E → List Event → Type 0) (faults : E
         record {
           ran = record {
             ok = tt;
-            err = record { lasts = went.lasts; began = record { done = []; rest = whole_part r v.next; split = refl; asked = went.did.asked }; cause = (rests.faults, went.calm) };
+            err = record { lasts = went.lasts; began = record { done = []; rest = whole_part r v.next; split = refl; asked = went.did.asked }; asks = λ is. absurd (cc is); cause = (rests.faults, went.calm) };
           };
           some = λ access. absurd (cc access);
           gone = none_next (record { vault = v; store = s }) ready;

@@ -103,6 +103,7 @@ module _ {E : Type 0} (grew cut : E → E → List Event → Type 0) (p : Public
         ran = record {
           lasts = went.lasts;
           began = record { done = []; rest = rows_script p select now; split = refl; asked = went.did.asked };
+          asks = λ is. absurd (cc is);
           cause = (went.did.faults, went.calm);
         };
         leaves = leaves_ready v s t ready;

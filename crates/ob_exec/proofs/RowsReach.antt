@@ -25,14 +25,14 @@ use Rattle.ob_vault.specs.State.{World}
 use Rattle.ob_vault.specs.Tied.{Calm, IsUnfit}
 use Rattle.ob_flat.specs.declared.fault.OpErr.{OpErr}
 use Rattle.ob_flat.specs.declared.fault.OpErr.TheVariants as OpErrs
-use Rattle.ob_flat.specs.Passes.{PassCause, PassCut}
+use Rattle.ob_flat.specs.Passes.{PassCause, PassCut, is_of_access}
 use Rattle.ob_emit.specs.Emitting.{header}
 use Rattle.ob_sql.specs.declared.stmt.SelectRows.{SelectRows}
 use Rattle.ob_mean.specs.Replay.{count_end, held_if, walk_end}
 use Rattle.ob_mean.specs.Verdict.{ended as seen_to}
 use Rattle.ob_exec.specs.declared.selecting.Selected.{Selected}
 use Rattle.ob_exec.specs.declared.selecting.Selected.TheVariants.{Rows, Refused}
-use Rattle.ob_exec.specs.Selecting.{EndsAs, MayHold, Selection, answer_events, answer_of, emitted_unless, from, is_of_access, seen_of, selected_as, shown_rows}
+use Rattle.ob_exec.specs.Selecting.{EndsAs, MayHold, Selection, answer_events, answer_of, emitted_unless, from, seen_of, selected_as, shown_rows}
 use Rattle.ob_exec.specs.Sources.{EndsRows, HoldsRows, ReachesRows, SourceToEnd, SourceToHalt, closing, rows_script, rows_skeleton, selection, slots_of}
 use Rattle.ob_exec.proofs.RowsLawful.{seen_as}
 use Rattle.ob_exec.proofs.RowsStops.{StopsRows}
@@ -243,6 +243,7 @@ module _ {E : Type 0} (grew cut : E → E → List Event → Type 0) (p : Public
         ran = record {
           lasts = is.ran.lasts;
           began = record { done = all; rest = []; split = append-nil all; asked = is.ran.did.asked };
+          asks = λ is. absurd (cc (elim never [ inl sink ↦ ap is_of_access sink | inr memory ↦ ap is_of_access memory ], is));
           cause = closing_cause e old new never is.ran.did.faults is.ran.calm;
         };
         leaves = is.leaves;

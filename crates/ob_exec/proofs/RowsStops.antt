@@ -21,7 +21,7 @@ use Rattle.ob_vault.specs.declared.vault.Vault.{Vault}
 use Rattle.ob_vault.specs.Places.{at}
 use Rattle.ob_flat.specs.declared.fault.OpErr.{OpErr}
 use Rattle.ob_flat.specs.declared.fault.OpErr.TheVariants as OpErrs
-use Rattle.ob_flat.specs.Passes.{PassCut, SinkCause as PassSink}
+use Rattle.ob_flat.specs.Passes.{PassCut, SinkCause as PassSink, is_of_access}
 use Rattle.ob_emit.specs.Emitting.{labels_of}
 use Rattle.ob_sql.specs.declared.stmt.SelectRows.{SelectRows}
 use Rattle.ob_sql.specs.declared.stmt.Stmt.TheVariants.{SelectRows as RowsStmt}
@@ -36,7 +36,7 @@ use Rattle.ob_exec.specs.declared.selecting.Selected.{Selected}
 use Rattle.ob_exec.specs.Agreeing.{Agrees, world_of}
 use Rattle.ob_exec.specs.Memory.{LacksMemory}
 use Rattle.ob_exec.specs.Running.{RefusedEarly, SinkCause, answer_of, is_stop, refusal_now}
-use Rattle.ob_exec.specs.Selecting.{MayHold, SealsRows, answer_events, answer_of as selected_of, from, is_of_access}
+use Rattle.ob_exec.specs.Selecting.{MayHold, SealsRows, answer_events, answer_of as selected_of, from}
 use Rattle.ob_exec.specs.Serving.{Answered, Means, Serves, Stopped}
 use Rattle.ob_exec.specs.Sources.{HaltsRows, HoldsRows, LacksRowMemory, LeavesNone, ReachesRows, SourceToEnd, SourceToHalt, UsesRoomFor, closing, rows_script, rows_skeleton, selection, slots_of}
 use Rattle.ob_exec.specs.Telling.{AreHeld, Emitted, IsNotTampered, Kept, Partly, ReadsTrue, ReadsTrueUntil, Represents, SeenCut, Told, answer_labels, is_refused}

@@ -20,9 +20,10 @@ use Rattle.ob_flat.specs.declared.fault.OpErr.TheVariants.{Failed, Tampered, Sin
 use Rattle.ob_flat.specs.Counted.{CountsRows}
 use Rattle.ob_flat.proofs.WordLemmas.{ran_lasts}
 use Rattle.ob_mean.specs.Verdict.{counted, bucket_size, fallback, first_unplaced}
+use Rattle.ob_flat.specs.Passes.{is_of_access}
 use Rattle.ob_exec.specs.declared.selecting.Selected.{Selected}
 use Rattle.ob_exec.specs.declared.selecting.Selected.TheVariants.{Rows, Refused}
-use Rattle.ob_exec.specs.Selecting.{Selection, HoldsSeen, is_of_access, counted_after, SelectsToEnd, SelectsToHalt, EmitsSelected, places, selected_as, emitted_unless, answer_of, answer_events, seen_of}
+use Rattle.ob_exec.specs.Selecting.{Selection, HoldsSeen, counted_after, SelectsToEnd, SelectsToHalt, EmitsSelected, places, selected_as, emitted_unless, answer_of, answer_events, seen_of}
 use Rattle.ob_exec.specs.Results.{Planned, planned, PlannedToEnd, PlannedToHalt, SelectsBy, left_out, whole_part, left_by, held_shown, held_events, head_of}
 use Rattle.ob_exec.proofs.ResultReads.{emitted_from}
 use Rattle.ob_exec.specs.Engines.{AreSettings}

@@ -13,8 +13,9 @@ use Rattle.ob_flat.specs.declared.fault.OpErr.{OpErr}
 use Rattle.ob_flat.specs.declared.fault.OpErr.TheVariants.{Failed, Tampered, Sink, NoMemory}
 use Rattle.ob_mean.specs.Verdict.{counted, ended as seen_to, seen_rows, seen_with, plan_for, fallback}
 use Rattle.ob_mean.specs.Replay.{done_of, held_if}
+use Rattle.ob_flat.specs.Passes.{is_of_access}
 use Rattle.ob_exec.specs.Engines.{AreSettings}
-use Rattle.ob_exec.specs.Selecting.{Selection, HoldsSeen, is_of_access, counted_after, walked_after, seen_of, places}
+use Rattle.ob_exec.specs.Selecting.{Selection, HoldsSeen, counted_after, walked_after, seen_of, places}
 use Rattle.ob_exec.specs.Results.{planned, whole_part}
 use Rattle.ob_exec.proofs.ResultParts.{length_hash}
 use Rattle.ob_exec.proofs.SelectRuns.{counts_of}

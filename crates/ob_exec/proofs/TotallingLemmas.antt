@@ -54,8 +54,8 @@ use Rattle.ob_exec.proofs.TotalsLemmas.{all_events, answer_grouped, answer_plain
 -- ---- the emitter's failures
 -- after all was asked
 cut_whole : (e : EmitErr) (x : List Access) (a b : World) → Went x none a b → PassCut (error_of e) x none a b
-cut_whole EmitErrs.Failed x a b went = record { lasts = went.lasts; began = record { done = x; rest = []; split = append-nil x; asked = went.did.asked }; cause = (went.did.faults, went.calm) }
-cut_whole EmitErrs.NoMemory x a b went = record { lasts = went.lasts; began = record { done = x; rest = []; split = append-nil x; asked = went.did.asked }; cause = (went.did.faults, went.calm) }
+cut_whole EmitErrs.Failed x a b went = record { lasts = went.lasts; began = record { done = x; rest = []; split = append-nil x; asked = went.did.asked }; asks = λ is. absurd (cc is); cause = (went.did.faults, went.calm) }
+cut_whole EmitErrs.NoMemory x a b went = record { lasts = went.lasts; began = record { done = x; rest = []; split = append-nil x; asked = went.did.asked }; asks = λ is. absurd (cc is); cause = (went.did.faults, went.calm) }
 
 is_sink : (e : EmitErr) (a b : ℕ) → EmitCause {T = Unit {0}} (Err e) a b → SinkCause {T = Outcome} (Err (error_of e)) a b
 is_sink EmitErrs.Failed a b is = is

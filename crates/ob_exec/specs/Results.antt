@@ -28,7 +28,7 @@ use Rattle.ob_flat.specs.declared.fault.OpErr.{OpErr}
 use Rattle.ob_flat.specs.declared.fault.OpErr.TheVariants.{Failed, Tampered, Sink, NoMemory}
 use Rattle.ob_flat.specs.declared.flat.Flat.{Flat}
 use Rattle.ob_flat.specs.Flats.{IsSized, IsFlat, IsWritten, FitsRegion, Represents}
-use Rattle.ob_flat.specs.Passes.{SinkCause}
+use Rattle.ob_flat.specs.Passes.{SinkCause, is_of_access}
 use Rattle.ob_flat.specs.Words.{Ran, SealsTable, blocks_of}
 use Rattle.ob_flat.specs.Emission.{SlotsToEnd, SlotsToHalt}
 use Rattle.ob_emit.specs.Emitting.{AreColumns, header, table_shown}
@@ -41,7 +41,7 @@ use Rattle.ob_exec.specs.declared.selecting.Selected.{Selected}
 use Rattle.ob_exec.specs.declared.selecting.Selected.TheVariants.{Rows, Refused}
 use Rattle.ob_exec.specs.Engines.{AreSettings, IsFree}
 use Rattle.ob_exec.specs.Memory.{is_reading, starts_with_make, ends_with_make}
-use Rattle.ob_exec.specs.Selecting.{Selection, SealsRows, is_of_access, region_of, places, from, selected_as, emitted_unless}
+use Rattle.ob_exec.specs.Selecting.{Selection, SealsRows, region_of, places, from, selected_as, emitted_unless}
 
 -- a selection, a plan for it, and the number of rows that is planned for
 pub record Planned : Type 0 where

@@ -28,7 +28,7 @@ use Rattle.ob_flat.specs.declared.fault.OpErr.{OpErr}
 use Rattle.ob_flat.specs.declared.fault.OpErr.TheVariants.{Failed, Tampered, Sink, NoMemory}
 use Rattle.ob_flat.specs.declared.flat.Flat.{Flat}
 use Rattle.ob_flat.specs.Flats.{IsSized, IsFlat, Represents}
-use Rattle.ob_flat.specs.Passes.{SinkCause}
+use Rattle.ob_flat.specs.Passes.{SinkCause, is_of_access}
 use Rattle.ob_flat.specs.Words.{Ran}
 use Rattle.ob_emit.specs.Emitting.{AreColumns, header}
 use Rattle.ob_mean.specs.Replay.{done_of, held_if}
@@ -202,13 +202,6 @@ pub record MaySelect (q : Selection) (room : RoomState) (w : World) : Type 0 whe
   pub columns : AreColumns q.flat.schema q.cols
 
 -- ---- what it does
--- the error of an access, which was not carried out
-abbrev pub is_of_access : OpErr → Bool
-is_of_access Failed = true
-is_of_access (Tampered region place) = true
-is_of_access Sink = false
-is_of_access NoMemory = false
-
 -- regions from this number on
 abbrev pub from : ℕ → ℕ → Type 0
 from g region = g ≤ region

@@ -15,7 +15,7 @@ use Rattle.ob_vault.specs.Tied.{IsUnfit}
 use Rattle.ob_vault.specs.Calls.{Went}
 use Rattle.ob_flat.specs.declared.fault.OpErr.{OpErr}
 use Rattle.ob_flat.specs.declared.fault.OpErr.TheVariants.{Failed, Sink, NoMemory}
-use Rattle.ob_flat.specs.Passes.{PassCut, SinkCause}
+use Rattle.ob_flat.specs.Passes.{PassCut, SinkCause, is_of_access}
 use Rattle.ob_emit.specs.Emitting.{header}
 use Rattle.ob_sql.specs.declared.stmt.SelectRows.{SelectRows}
 use Rattle.ob_sql.specs.declared.stmt.Stmt.TheVariants.{SelectRows as RowsStmt}
@@ -30,7 +30,7 @@ use Rattle.ob_exec.specs.declared.selecting.Selected.TheVariants.{Rows, Refused}
 use Rattle.ob_exec.specs.declared.outcome.Outcome.{Outcome}
 use Rattle.ob_exec.specs.declared.outcome.Outcome.TheVariants.{Rows as RowsOut, Refused as RefusedOut}
 use Rattle.ob_exec.specs.Memory.{AtMake, is_reading}
-use Rattle.ob_exec.specs.Selecting.{Selection, SealsRows, MayHold, EndsAs, from, is_of_access, shown_rows, answer_of, answer_events, seen_of}
+use Rattle.ob_exec.specs.Selecting.{Selection, SealsRows, MayHold, EndsAs, from, shown_rows, answer_of, answer_events, seen_of}
 use Rattle.ob_exec.specs.Telling.{AreHeld}
 
 -- what is selected, as if the source were one region

@@ -34,7 +34,7 @@ pub struct Engine<R: Revisions> {
 }
 
 // What is seen of a statement without a count.
-fn seen_to_end(end: End) -> Seen
+pub(crate) fn seen_to_end(end: End) -> Seen
     ensures { result ≡ seen_to end }
 {
     Seen {

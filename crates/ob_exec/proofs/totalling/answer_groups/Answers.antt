@@ -75,4 +75,4 @@ returns-in-Err-clause-totals g c =
     let place_is = c.place_of-place.ensures.value ∙ ap (place_of c.args.key.now) (append-nil c.as_slice-columns.result.now ∙ c.as_slice-columns.ensures.value) in
     totals_gave_up emit.grew emit.cut emit.faults (buffered room.pack room.rows) room.pack c.args.flat.now c.args.select.now c.args.pred.now was now may.items may.meant
     c.args.key.now items c.place_of-place.result c.requires.grouped items_are place_is
-    c.in-Err.error c.args.out.now c.group.new.out c.in-Err.ensures.answers ?
+    c.in-Err.error c.args.out.now c.group.new.out c.in-Err.ensures.answers c.in-Err.ensures.answers.few
