@@ -243,7 +243,7 @@ module _ {E : Type 0} (grew cut : E → E → List Event → Type 0) (p : Public
         ran = record {
           lasts = is.ran.lasts;
           began = record { done = all; rest = []; split = append-nil all; asked = is.ran.did.asked };
-          asks = λ is. absurd (cc (elim never [ inl sink ↦ ap is_of_access sink | inr memory ↦ ap is_of_access memory ], is));
+          asks = λ is. let none : is_of_access e ≡ false = elim never [ inl sink ↦ ap is_of_access sink | inr memory ↦ ap is_of_access memory ] in absurd (cc (none, is));
           cause = closing_cause e old new never is.ran.did.faults is.ran.calm;
         };
         leaves = is.leaves;

@@ -114,7 +114,7 @@ module _ {E : Type 0} (grew cut : E → E → List Event → Type 0) (faults : E
         record { ok = tt; err = record { lasts = went.lasts; began = record { done = counts_of q; rest = []; split = refl; asked = went.did.asked }; asks = asks e never; cause = cause e never } }
       where
         asks : (e : OpErr) → (e ≡ Sink) ⊎ (e ≡ NoMemory) → IsTrue (is_of_access e) → length old.store.asked < length mid.store.asked
-        asks e never is = absurd (cc (elim never [ inl sink ↦ ap is_of_access sink | inr memory ↦ ap is_of_access memory ], is))
+        asks e never is = let none : is_of_access e ≡ false = elim never [ inl sink ↦ ap is_of_access sink | inr memory ↦ ap is_of_access memory ] in absurd (cc (none, is))
 
         cause : (e : OpErr) → (e ≡ Sink) ⊎ (e ≡ NoMemory) → PassCause e old mid
         cause Sink never = (count.did.faults, count.calm)
