@@ -1,10 +1,12 @@
 -- What is known of the source of a SELECT of rows, where it is not refused before any access.
-use Rattle.std.proofs.Common.{◌≡◌, ℕ, List, length, None, refl, subst}
-use Rattle.std.specs.Prelude.{slice_get}
+use Rattle.std.proofs.Common.{◌≡◌, ℕ, false, List, length, None, refl, sym, ◌∙◌, ap, subst}
+use Rattle.std.specs.Prelude.{not, slice_get}
+use Rattle.std.specs.List.{list_any}
+use Rattle.ob_base.specs.declared.schema.Heading.{Heading}
 use Rattle.ob_base.specs.declared.config.Public.{Public}
 use Rattle.ob_base.specs.declared.skeleton.Source.{Source}
 use Rattle.ob_base.specs.declared.skeleton.Source.TheVariants.{Table as OneTable, Join}
-use Rattle.ob_base.specs.Stored.{headings, headings_of}
+use Rattle.ob_base.specs.Stored.{has_table, headings, headings_of}
 use Rattle.ob_emit.specs.Emitting.{is_joined}
 use Rattle.ob_row.specs.Bags.{Same}
 use Rattle.ob_row.specs.Slots.{rows}
@@ -12,7 +14,7 @@ use Rattle.ob_store.specs.State.{StoreState}
 use Rattle.ob_vault.specs.State.{RevState}
 use Rattle.ob_mean.specs.Names.{source_columns}
 use Rattle.ob_mean.specs.Prints.{is_join}
-use Rattle.ob_mean.specs.Refusals.{joins_itself, joins_off_key_at}
+use Rattle.ob_mean.specs.Refusals.{joins_itself, joins_off_key_at, source_tables}
 use Rattle.ob_mean.specs.Step.{source_rows}
 use Rattle.ob_mean.specs.Verdict.{Tables, database, is_late, source_slots}
 use Rattle.ob_mean.proofs.EarlyLemmas.{Allowed, allowed}
@@ -22,7 +24,8 @@ use Rattle.ob_verdict.specs.Laws.{AreInPlace}
 use Rattle.ob_exec.specs.declared.engine.Engine.{Engine}
 use Rattle.ob_exec.specs.Agreeing.{Agrees}
 use Rattle.ob_exec.specs.Running.{refusal_now}
-use Rattle.ob_exec.proofs.RowsSource.{AreStored, labels_are, table_same, table_unjoined}
+use Rattle.ob_exec.proofs.RowsSource.{AreStored, join_joined, join_same, labels_are, table_same, table_unjoined}
+use Rattle.ob_exec.proofs.RowsTable.{some_buffered}
 use Rattle.ob_exec.proofs.RowsStops.{IsSource}
 
 module _ {R : Type 0} (state : R → RevState) (old : Engine R) (s : StoreState) (select : SelectRows) (agrees : Agrees state old s)
@@ -30,14 +33,23 @@ module _ {R : Type 0} (state : R → RevState) (old : Engine R) (s : StoreState)
   stored : AreStored old.public.tables
   stored i t at = (agrees.tables.each i t at).stored
 
+  fits : Allowed (is_late (length s.asked)) old.public.pack old.public.buffer (headings_of old.public.tables) (RowsStmt select)
+  fits = allowed (is_late (length s.asked)) old.public.pack old.public.buffer (headings_of old.public.tables) (RowsStmt select) free
+
   unjoined : (source : Source) → select.source ≡ source → is_joined (source_columns source (headings_of old.public.tables)) ≡ is_join source
   unjoined (OneTable name) is = table_unjoined name old.public.tables stored
-  unjoined (Join a b on equals) is = ?
+  unjoined (Join a b on equals) is =
+      join_joined a b on equals old.public.tables stored
+      (sym (ap (λ (source : Source). list_any (λ name. not (has_table name (headings_of old.public.tables))) (source_tables source)) is) ∙ fits.tables)
+      (sym (ap joins_itself is) ∙ fits.names)
 
   same : (source : Source) → select.source ≡ source → (tables : Tables) → AreInPlace tables → headings tables ≡ headings_of old.public.tables
       → Same (source_rows source (database tables)) (rows (source_slots old.public source tables))
   same (OneTable name) is tables in_place headed = table_same name tables
-  same (Join a b on equals) is tables in_place headed = ?
+  same (Join a b on equals) is tables in_place headed =
+      join_same old.public a b on equals tables agrees.settings.pack_least (some_buffered old.public.pack old.public.buffer agrees.settings.pack_least agrees.settings.blocks) in_place
+      (subst (λ (hs : List Heading). joins_off_key_at hs (Join a b on equals) ≡ false) (sym headed)
+      (sym (ap (joins_off_key_at (headings_of old.public.tables)) is) ∙ fits.joins))
 
   pub source_is : IsSource old.public select
   source_is = record {

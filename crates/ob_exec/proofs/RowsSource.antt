@@ -15,16 +15,23 @@ use Rattle.ob_base.specs.declared.skeleton.Source.TheVariants.{Table as OneTable
 use Rattle.ob_base.specs.Labels.{column_label}
 use Rattle.ob_base.specs.Lists.{places_from, places_of}
 use Rattle.ob_base.specs.Schemas.{Columns}
-use Rattle.ob_base.specs.Stored.{Stored, headings, headings_of, heading_at, stored_at}
+use Rattle.ob_base.specs.Limits.{buffered_blocks}
+use Rattle.ob_base.specs.Schemas.{key_place}
+use Rattle.ob_base.specs.Stored.{Stored, has_table, headings, headings_of, heading_at, stored_at}
 use Rattle.ob_row.specs.Bags.{Same}
-use Rattle.ob_row.specs.Rows.{Row}
+use Rattle.ob_row.specs.Rows.{AreDistinct, Row, keys_repeat, pairs}
 use Rattle.ob_row.specs.Slots.{Slots, rows}
 use Rattle.ob_row.proofs.BagLemmas.{Same-refl}
 use Rattle.ob_emit.specs.Emitting.{is_joined, label_at, labels_of}
 use Rattle.ob_mean.specs.Names.{columns_at, place_of, source_columns}
 use Rattle.ob_mean.specs.Prints.{is_join, rows_labels, label_at as named_label}
-use Rattle.ob_mean.specs.Step.{printed_places, rows_at}
-use Rattle.ob_mean.specs.Verdict.{Tables, database, slots_at}
+use Rattle.ob_mean.specs.Refusals.{joins_itself, joins_off_key_at, source_tables}
+use Rattle.ob_mean.specs.Step.{join_places, printed_places, rows_at, source_rows}
+use Rattle.ob_mean.proofs.CondLemmas.{any_append}
+use Rattle.ob_mean.proofs.VerdictLemmas.{headings-database}
+use Rattle.ob_verdict.specs.Laws.{AreInPlace}
+use Rattle.ob_verdict.proofs.JoinLemmas.{rows-joined}
+use Rattle.ob_mean.specs.Verdict.{Tables, database, slots_at, source_slots}
 use Rattle.ob_sql.specs.declared.stmt.SelectRows.{SelectRows}
 use Rattle.ob_exec.specs.Schemas.{IsStored}
 
@@ -102,3 +109,74 @@ table_rows name (t ∷ ts) =
 
 pub table_same : (name : List ℕ) (ts : Tables) → Same (rows_at name (database ts)) (rows (slots_at name ts))
 table_same name ts = subst (λ (w : List Row). Same (rows_at name (database ts)) w) (table_rows name ts) (Same-refl _)
+
+-- ---- a join's columns are of two tables
+some_columns : (name : List ℕ) (ts : List Table) → AreStored ts → has_table name (headings_of ts) ≡ true → 1 ≤ length (columns_at name (headings_of ts))
+some_columns name [] stored there = absurd (cc there)
+some_columns name (t ∷ ts) stored there = by_name (bytes_eq t.heading.name name) there (λ later. some_columns name ts (λ i u at. stored (suc i) u at) later)
+  where
+    by_name : (b : Bool) → (b || has_table name (headings_of ts)) ≡ true → (has_table name (headings_of ts) ≡ true → 1 ≤ length (columns_at name (headings_of ts)))
+        → 1 ≤ length (option_map_or (λ (h : Heading). h.schema) (cond b (Some t.heading) (heading_at name (headings_of ts))) [])
+    by_name true there later = (stored 0 t refl).some
+    by_name false there later = later there
+
+apart : (a b : List ℕ) → bytes_eq a b ≡ false → not (bytes_eq b a) ≡ true
+apart a b off = by_test (bytes_eq b a) refl
+  where
+    by_test : (c : Bool) → bytes_eq b a ≡ c → not c ≡ true
+    by_test true is = let same = (bytes_eq-Decides b a).0 is in let hit = (bytes_eq-Decides a b).1 (sym same) in absurd (cc (hit, off))
+    by_test false is = refl
+
+or_true : (b c : Bool) → c ≡ true → (b || c) ≡ true
+or_true true c is = refl
+or_true false c is = is
+
+any_other : (a b : List ℕ) (cs : Columns) → Of b cs → 1 ≤ length cs → bytes_eq a b ≡ false → list_any (λ (d : Column). not (bytes_eq d.table a)) cs ≡ true
+any_other a b [] named some off = absurd (omega (arith, some))
+any_other a b (c ∷ cs) named some off =
+    ap (λ (own : List ℕ). not (bytes_eq own a) || list_any (λ (d : Column). not (bytes_eq d.table a)) cs) (first_of_them b c cs named)
+    ∙ ap (λ (x : Bool). x || list_any (λ (d : Column). not (bytes_eq d.table a)) cs) (apart a b off)
+
+two_joined : (a b : List ℕ) (left right : Columns) → Of a left → Of b right → 1 ≤ length left → 1 ≤ length right → bytes_eq a b ≡ false → is_joined (left ++ right) ≡ true
+two_joined a b [] right of_a of_b some others off = absurd (omega (arith, some))
+two_joined a b (c ∷ cs) right of_a of_b some others off =
+    ap (λ (own : List ℕ). list_any (λ (d : Column). not (bytes_eq d.table own)) (cs ++ right)) (first_of_them a c cs of_a)
+    ∙ any_append (λ (d : Column). not (bytes_eq d.table a)) cs right
+    ∙ or_true _ _ (any_other a b right of_b others off)
+
+there_are : (a b : Bool) → (not a || (not b || false)) ≡ false → (a ≡ true) × (b ≡ true)
+there_are true true is = (refl, refl)
+there_are true false is = absurd (cc is)
+there_are false b is = absurd (cc is)
+
+pub join_joined : (a b : List ℕ) (on equals : ColumnName) (ts : List Table) → AreStored ts → list_any (λ name. not (has_table name (headings_of ts))) (source_tables (Join a b on equals)) ≡ false
+    → joins_itself (Join a b on equals) ≡ false → is_joined (source_columns (Join a b on equals) (headings_of ts)) ≡ is_join (Join a b on equals)
+join_joined a b on equals ts stored there off =
+    let both = there_are (has_table a (headings_of ts)) (has_table b (headings_of ts)) there in
+    two_joined a b (columns_at a (headings_of ts)) (columns_at b (headings_of ts)) (named_at a ts stored) (named_at b ts stored)
+    (some_columns a ts stored both.0) (some_columns b ts stored both.1) off
+
+-- ---- and its rows the pairs
+keys_distinct : (name : List ℕ) (ts : Tables) → AreInPlace ts → keys_repeat (key_place (columns_at name (headings ts))) (rows (slots_at name ts)) ≡ false
+keys_distinct name [] in_place = refl
+keys_distinct name (t ∷ ts) in_place =
+    elim (bytes_eq t.heading.name name) as (λ b. keys_repeat (key_place (option_map_or (λ (g : Heading). g.schema) (cond b (Some t.heading) (heading_at name (headings ts))) [])) (rows (option_map_or (λ (x : Stored Slots). x.held) (cond b (Some t) (stored_at name ts)) [])) ≡ false)
+    [ true ↦ in_place.0.keys | false ↦ keys_distinct name ts in_place.1 ]
+
+key_is : (o : Option ℕ) (i : ℕ) → option_map_or (λ j. i == j) o false ≡ true → o ≡ Some i
+key_is None i is = absurd (cc is)
+key_is (Some j) i is = ap (λ (k : ℕ). Some k) (sym ((Decides-eqb i j).0 is))
+
+not_false : (b : Bool) → not b ≡ false → b ≡ true
+not_false true is = refl
+not_false false is = absurd (cc is)
+
+pub join_same : (p : Public) (a b : List ℕ) (on equals : ColumnName) (ts : Tables) → 1 ≤ p.pack → 1 ≤ buffered_blocks p.pack p.buffer → AreInPlace ts
+    → joins_off_key_at (headings ts) (Join a b on equals) ≡ false → Same (source_rows (Join a b on equals) (database ts)) (rows (source_slots p (Join a b on equals) ts))
+join_same p a b on equals ts some enough in_place on_key =
+    let places = join_places (Join a b on equals) (headings ts) in
+    let key = key_is (key_place (columns_at a (headings ts))) places.0 (not_false _ on_key) in
+    let distinct : AreDistinct places.0 (rows (slots_at a ts)) = subst (λ (o : Option ℕ). keys_repeat o (rows (slots_at a ts)) ≡ false) key (keys_distinct a ts in_place) in
+    subst (λ (w : List Row). Same w (rows (source_slots p (Join a b on equals) ts)))
+    (λ t. pairs (join_places (Join a b on equals) (sym (headings-database ts) t)).0 (join_places (Join a b on equals) (sym (headings-database ts) t)).1 (sym (table_rows a ts) t) (sym (table_rows b ts) t))
+    (rows-joined places.0 places.1 p.pack p.buffer (slots_at a ts) (slots_at b ts) distinct some enough)

@@ -104,7 +104,7 @@ an_error is = λ i. Err (is i)
 some_of : (n q : ℕ) → 1 ≤ q → 1 ≤ n → 1 ≤ div_ceil n q
 some_of n q some least = grind arith
 
-some_buffered : (pack rows : ℕ) → 1 ≤ pack → 3 * pack + 1 ≤ rows → 1 ≤ buffered_blocks pack rows
+pub some_buffered : (pack rows : ℕ) → 1 ≤ pack → 3 * pack + 1 ≤ rows → 1 ≤ buffered_blocks pack rows
 some_buffered pack rows some enough = grind arith
 
 module _ {R : Type 0} (state : R → RevState) (old : Engine R) (s s1 : StoreState) (i : ℕ) (t : Table) (name : List ℕ) (select : SelectRows)

@@ -1,11 +1,14 @@
 //! SELECT of rows, of a table or of a join.
-ghost use Rattle.std.specs.Prelude.{◌≡◌, ◌⊎◌, None, false, length, OnOk, OnErr, IfErr};
+ghost use Rattle.std.specs.Prelude.{◌≡◌, ◌≤◌, ◌⊎◌, ◌+◌, ◌*◌, None, true, false, length, OnOk, OnErr, IfErr};
 ghost use Rattle.ob_base.specs.declared.seen.End.TheVariants.{Whole};
 ghost use Rattle.ob_base.specs.declared.skeleton.Source.TheVariants.{Table as OneTable};
 ghost use Rattle.ob_base.specs.Events.{Leads};
+ghost use Rattle.ob_base.specs.Joins.{joined_blocks};
+ghost use Rattle.ob_base.specs.Numbers.{blocks_for};
 ghost use Rattle.ob_flat.specs.declared.fault.OpErr.TheVariants.{Sink, NoMemory};
 ghost use Rattle.ob_flat.specs.Passes.{SinkCause};
 ghost use Rattle.ob_sql.specs.declared.stmt.Stmt.TheVariants.{SelectRows as RowsStmt};
+ghost use Rattle.ob_mean.specs.Prints.{is_join};
 ghost use Rattle.ob_mean.specs.Verdict.{ended as seen_to};
 ghost use Rattle.ob_exec.specs.Agreeing.{Agrees, has_ended, public_of, world_of};
 ghost use Rattle.ob_exec.specs.Running.{refusal_now};
@@ -17,9 +20,9 @@ use crate::outcome::Outcome;
 use crate::places::printed_places;
 use crate::selecting::{Query, Selected, select_from};
 use crate::tables::{find_table, flat_at};
-use ob_base::{Emit, EmitErr, End, Name, Seen, Source, Stop};
-use ob_flat::OpErr;
-use ob_mean::where_at;
+use ob_base::{Emit, EmitErr, End, Name, Public, Seen, Source, Stop};
+use ob_flat::{Flat, OpErr};
+use ob_mean::{left_place, right_place, where_at};
 use ob_sql::SelectRows;
 use ob_store::BlockStore;
 use ob_vault::Revisions;
@@ -49,6 +52,24 @@ fn outcome_of(selected: Selected) -> Outcome
         Selected::Rows(k) => Outcome::Rows(u64::from(k)),
         Selected::Refused(refusal) => Outcome::Refused(refusal),
     }
+}
+
+// How many accesses there are of a join, of the count of its rows, and of the discard of its region.
+fn join_accesses(public: &Public, left: &Flat, right: &Flat) -> u64
+    requires pack { (1 ≤ public.now.pack) × (public.now.pack ≤ 16) }
+    requires buffer { 3 * public.now.pack + 1 ≤ public.now.buffer }
+    requires left { left.now.capacity ≤ 1048576 }
+    requires right { right.now.capacity ≤ 1048576 }
+    ensures { result ≡ blocks_for public.now.pack left.now.capacity
+        + 3 * joined_blocks public.now.pack public.now.buffer left.now.capacity right.now.capacity
+        + 2 }
+{
+    let pack = u32::from(public.pack);
+    let buffered = (public.buffer - 2 * pack) / pack;
+    let lefts = left.capacity.div_ceil(pack);
+    let rights = right.capacity.div_ceil(pack);
+    let blocks = u64::from(lefts.div_ceil(buffered)) * u64::from(rights);
+    u64::from(lefts) + 3 * blocks + 2
 }
 
 impl<R: Revisions> Engine<R> {
@@ -105,6 +126,93 @@ impl<R: Revisions> Engine<R> {
         )
     }
 
+    // The rows of a join: they are put into a fresh region, which is discarded at the end.
+    fn select_join<S: BlockStore, E: Emit>(
+        &mut self,
+        store: &mut S,
+        select: &SelectRows,
+        seen: &mut Seen,
+        out: &mut E,
+    ) -> Result<Selected, OpErr>
+        requires agrees { Agrees R.state self.old (S.state store.old) }
+        requires allowed { refusal_now (public_of self.old) (length (S.state store.old).asked)
+            (RowsStmt select.now) ≡ None }
+        requires joins { is_join select.now.source ≡ true }
+        requires fresh { seen.old ≡ seen_to Whole }
+        ensures frame { self.new
+            ≡ record self.old { vault = self.new.vault; room = self.new.room } }
+        ensures room { UsesRoomFor self.old.room self.new.room
+            (world_of R.state self.old (S.state store.old))
+            (world_of R.state self.new (S.state store.new)) }
+        ensures selects { SelectsRows E.grew E.cut E.faults (public_of self.old) select.now
+            result seen.new (world_of R.state self.old (S.state store.old))
+            (world_of R.state self.new (S.state store.new)) out.old out.new }
+    {
+        let Source::Join {
+            left,
+            right,
+            on,
+            equals,
+        } = &select.source
+        else {
+            unreachable!()
+        };
+        let Some(i) = find_table(self.public.tables.as_slice(), left) else {
+            unreachable!()
+        };
+        let Some(j) = find_table(self.public.tables.as_slice(), right) else {
+            unreachable!()
+        };
+        let left = flat_at(self.public.tables.as_slice(), i);
+        let right = flat_at(self.public.tables.as_slice(), j);
+        let (columns, others) = (left.schema.as_slice(), right.schema.as_slice());
+        let Ok(pred) = where_at(self.alloc, &select.cond, columns, others) else {
+            return Err(OpErr::NoMemory);
+        };
+        let cols = printed_places(select, columns, others);
+        let lcol = left_place(on, equals, columns, others) as u8;
+        let rcol = right_place(on, equals, columns, others) as u8;
+        if store.room(join_accesses(&self.public, &left, &right)).is_err() {
+            return Err(OpErr::NoMemory);
+        }
+        let joined = match ob_join::join(
+            store,
+            &mut self.vault,
+            &mut self.room,
+            &left,
+            &right,
+            lcol,
+            rcol,
+        ) {
+            Ok(joined) => joined,
+            Err(error) => return Err(error),
+        };
+        let query = Query {
+            flat: &joined,
+            pred: &pred,
+            cols: cols.as_slice(),
+            ending: 1,
+        };
+        match select_from(
+            store,
+            &mut self.vault,
+            &mut self.room,
+            &self.public,
+            &query,
+            seen,
+            out,
+        ) {
+            Ok(selected) => {
+                let _ = ob_flat::discard(store, &mut self.vault, joined);
+                Ok(selected)
+            }
+            Err(error) => {
+                self.vault.forget(joined.region);
+                Err(error)
+            }
+        }
+    }
+
     // The rows of a source.
     fn select_source<S: BlockStore, E: Emit>(
         &mut self,
@@ -128,7 +236,7 @@ impl<R: Revisions> Engine<R> {
     {
         match &select.source {
             Source::Table(table) => self.select_table(store, select, table, seen, out),
-            Source::Join { .. } => unreachable!(),
+            Source::Join { .. } => self.select_join(store, select, seen, out),
         }
     }
 
