@@ -19,4 +19,5 @@ pub mod SelectMeans
 pub mod SelectTold
 pub mod SelectFirst
 pub mod SelectHeld
+pub mod SelectSecond
 pub mod SelectEnds

@@ -43,6 +43,7 @@ use Rattle.ob_exec.specs.Results.{IsPlanned, planned, whole_part, SelectsBy, Emi
 use Rattle.ob_exec.proofs.ResultParts.{length_hash}
 use Rattle.ob_exec.proofs.ResultSteps.{err_is, sink_none, first_block, on_err_map, if_ok_map, began-few}
 use Rattle.ob_exec.proofs.SelectTold.{end_back, counted_is}
+use Rattle.ob_exec.proofs.SelectSecond.{second_emitted, second_halted, second_failed, second_told, second_held}
 use Rattle.ob_exec.proofs.SelectFirst.{IsFinal, first_emitted, first_told, first_halted, first_failed, first_held}
 use Rattle.ob_exec.proofs.SelectHeld.{uncounted_held, counted_held, walking_held, walked_held, walked_hash, done_behind, done_within}
 use Rattle.ob_exec.proofs.SelectMeans.{seen_none, refusal_none, shown_none, seen_apart, refuses_apart}
@@ -300,12 +301,12 @@ module _ {E : Type 0} (grew cut : E → E → List Event → Type 0) (faults : E
                   some = not_empty (done ++ m.done) (omega (arith, count_some q room old may, length-count_part q.flat.region (counted_after q), length-append done m.done, length-append (counts_of q) (whole_part (planned q Hash k) old.vault.next)));
                   place = place_in _ done m.done m.rest refl m.place;
                 };
-            emitted = ?;
-            halted = ?;
-            failed = λ none. ?;
+            emitted = second_emitted q k c old mid may.ready is least free chosen grew cut faults i late new out out_new first result by;
+            halted = second_halted q k c old mid may.ready is least free chosen grew cut faults i late new out out_new first result by;
+            failed = λ none. second_failed q k c old mid may.ready is least free chosen grew cut faults i late new out out_new first result none by;
             sink = by.sink;
-            told = λ s. ?;
-            held = λ s. ?;
+            told = second_told q k c old mid may.ready is least free chosen grew cut faults i late new out out_new first result by;
+            held = second_held q k c old mid may.ready is least free chosen grew cut faults i late new out out_new first may.settings long result by;
           }
 
       pub end_second_at : (result : Result Selected OpErr) (new : World) (out_mid out_new : E) → out_mid ≡ out → SelectsBy grew cut faults (planned q Small k) result late new out_mid out_new
