@@ -37,6 +37,7 @@ pub mod SelectMeans
 pub mod SelectTold
 pub mod SelectFirst
 pub mod SelectHeld
+pub mod SelectSecond
 pub mod SelectEnds
 pub mod RowsLength
 pub mod RowsNothing

@@ -1,5 +1,5 @@
 -- How a selection ends.
-use Rattle.std.proofs.Common.{◌≡◌, ◌⊎◌, inl, inr, ◌≤◌, ◌<◌, ◌+◌, ◌-◌, ℕ, suc, zero, Bool, true, false, IsTrue, List, [], ◌∷◌, ◌++◌, Option, None, Some, Result, Ok, Err, length, refl, sym, ◌∙◌, ap, subst, arith, append_assoc, length-append, append-nil}
+use Rattle.std.proofs.Common.{◌≡◌, ◌⊎◌, inl, inr, ◌≤◌, ◌<◌, ◌+◌, ◌-◌, ◌*◌, mul-le-mul, ℕ, suc, zero, Bool, true, false, IsTrue, List, [], ◌∷◌, ◌++◌, Option, None, Some, Result, Ok, Err, length, refl, sym, ◌∙◌, ap, subst, arith, append_assoc, length-append, append-nil}
 use Rattle.std.specs.Prelude.{IsSome, IfErr, IfOk, OnErr, OnOk, MatchResult}
 use Rattle.ob_base.specs.declared.access.Access.{Access}
 use Rattle.ob_base.specs.declared.config.Plan.{Plan}
@@ -24,7 +24,7 @@ use Rattle.ob_flat.specs.declared.counting.Counted.{Counted}
 use Rattle.ob_flat.specs.declared.fault.OpErr.{OpErr}
 use Rattle.ob_flat.specs.declared.fault.OpErr.TheVariants.{Failed, Tampered, Sink, NoMemory}
 use Rattle.ob_flat.specs.Counted.{CountsRows}
-use Rattle.ob_flat.specs.Passes.{PassCut, PassCause, is_of_access}
+use Rattle.ob_flat.specs.Passes.{PassCut, PassCause}
 use Rattle.ob_flat.specs.Words.{Ran, blocks_of}
 use Rattle.ob_flat.proofs.Runs.{pass_more, pass_wider}
 use Rattle.ob_flat.proofs.Tables.{blocks_hold}
@@ -33,11 +33,17 @@ use Rattle.ob_emit.specs.Emitting.{header}
 use Rattle.ob_mean.specs.Verdict.{counted, plan_for, ended as seen_to}
 use Rattle.ob_exec.specs.declared.selecting.Selected.{Selected}
 use Rattle.ob_exec.specs.declared.selecting.Selected.TheVariants.{Rows, Refused}
-use Rattle.ob_exec.specs.Selecting.{Selection, MaySelect, SelectsFrom, SelectsToEnd, SelectsToHalt, EmitsSelected, places, selected_as, shown_rows, result_of, seen_of, answer_of, answer_events, emitted_unless, IsPlanOf, LacksMemoryIn, EndsAs, EndsCounted, counted_after, walked_after, from}
-use Rattle.ob_exec.specs.Results.{planned, whole_part, SelectsBy, EmitsHead, MayAnswer, head_of}
+use Rattle.ob_exec.specs.Selecting.{Selection, MaySelect, SelectsFrom, SelectsToEnd, SelectsToHalt, EmitsSelected, is_of_access, places, selected_as, shown_rows, result_of, seen_of, answer_of, answer_events, emitted_unless, IsPlanOf, LacksMemoryIn, EndsAs, EndsCounted, counted_after, walked_after, from}
+use Rattle.std.specs.Prelude.{is_some}
+use Rattle.ob_base.specs.declared.config.Public.{Public}
+use Rattle.ob_vault.proofs.Runs.{lives_apart}
+use Rattle.ob_flat.proofs.Tables.{blocks_few, flat_lasts}
+use Rattle.ob_exec.specs.Engines.{IsFree}
+use Rattle.ob_exec.specs.Results.{IsPlanned, planned, whole_part, SelectsBy, EmitsHead, MayAnswer, head_of}
 use Rattle.ob_exec.proofs.ResultParts.{length_hash}
 use Rattle.ob_exec.proofs.ResultSteps.{err_is, sink_none, first_block, on_err_map, if_ok_map, began-few}
 use Rattle.ob_exec.proofs.SelectTold.{end_back, counted_is}
+use Rattle.ob_exec.proofs.SelectSecond.{second_emitted, second_halted, second_failed, second_told, second_held}
 use Rattle.ob_exec.proofs.SelectFirst.{IsFinal, first_emitted, first_told, first_halted, first_failed, first_held}
 use Rattle.ob_exec.proofs.SelectHeld.{uncounted_held, counted_held, walking_held, walked_held, walked_hash, done_behind, done_within}
 use Rattle.ob_exec.proofs.SelectMeans.{seen_none, refusal_none, shown_none, seen_apart, refuses_apart}
@@ -111,11 +117,8 @@ module _ {E : Type 0} (grew cut : E → E → List Event → Type 0) (faults : E
     ran_alone (Ok answer) never = record { ok = subst (λ (x : List Access). Went x (from old.vault.next) old mid) (sym (append-nil (counts_of q))) (went_wider none old mid (from old.vault.next) (none_from old.vault.next) (counts_of q) count); err = tt }
     ran_alone (Err e) never =
         let went = went_wider none old mid (from old.vault.next) (none_from old.vault.next) (counts_of q) count in
-        record { ok = tt; err = record { lasts = went.lasts; began = record { done = counts_of q; rest = []; split = refl; asked = went.did.asked }; asks = asks e never; cause = cause e never } }
+        record { ok = tt; err = record { lasts = went.lasts; began = record { done = counts_of q; rest = []; split = refl; asked = went.did.asked }; cause = cause e never } }
       where
-        asks : (e : OpErr) → (e ≡ Sink) ⊎ (e ≡ NoMemory) → IsTrue (is_of_access e) → length old.store.asked < length mid.store.asked
-        asks e never is = let none : is_of_access e ≡ false = elim never [ inl sink ↦ ap is_of_access sink | inr memory ↦ ap is_of_access memory ] in absurd (cc (none, is))
-
         cause : (e : OpErr) → (e ≡ Sink) ⊎ (e ≡ NoMemory) → PassCause e old mid
         cause Sink never = (count.did.faults, count.calm)
         cause NoMemory never = (count.did.faults, count.calm)
@@ -265,7 +268,7 @@ module _ {E : Type 0} (grew cut : E → E → List Event → Type 0) (faults : E
       second_ended (Ok (Refused _)) answers = absurd answers
       second_ended (Err e) answers = tt
 
-      pub end_second : (result : Result Selected OpErr) (new : World) (out_new : E) → SelectsBy grew cut faults (planned q Small k) result late new out out_new
+      end_second : (result : Result Selected OpErr) (new : World) (out_new : E) → SelectsBy grew cut faults (planned q Small k) result late new out out_new
           → SelectsFrom grew cut faults q result (counted k (Some Hash) (Some Small) Whole) old new out out_new
       end_second result new out_new by =
           let lasts = ran_lasts result by.ran in
@@ -298,10 +301,82 @@ module _ {E : Type 0} (grew cut : E → E → List Event → Type 0) (faults : E
                   some = not_empty (done ++ m.done) (omega (arith, count_some q room old may, length-count_part q.flat.region (counted_after q), length-append done m.done, length-append (counts_of q) (whole_part (planned q Hash k) old.vault.next)));
                   place = place_in _ done m.done m.rest refl m.place;
                 };
-            emitted = ?;
-            halted = ?;
-            failed = λ none. ?;
+            emitted = second_emitted q k c old mid may.ready is least free chosen grew cut faults i late new out out_new first result by;
+            halted = second_halted q k c old mid may.ready is least free chosen grew cut faults i late new out out_new first result by;
+            failed = λ none. second_failed q k c old mid may.ready is least free chosen grew cut faults i late new out out_new first result none by;
             sink = by.sink;
-            told = λ s. ?;
-            held = λ s. ?;
+            told = second_told q k c old mid may.ready is least free chosen grew cut faults i late new out out_new first result by;
+            held = second_held q k c old mid may.ready is least free chosen grew cut faults i late new out out_new first may.settings long result by;
           }
+
+      pub end_second_at : (result : Result Selected OpErr) (new : World) (out_mid out_new : E) → out_mid ≡ out → SelectsBy grew cut faults (planned q Small k) result late new out_mid out_new
+          → SelectsFrom grew cut faults q result (counted k (Some Hash) (Some Small) Whole) old new out out_new
+      end_second_at result new out_mid out_new same by = end_second result new out_new (subst (λ (o : E). SelectsBy grew cut faults (planned q Small k) result late new o out_new) same by)
+
+-- ---- what the plans ask
+pub free_same : (p : Public) (old new : RoomState) (high : ℕ) → IsFree p old → new ≡ record old { high = high } → IsFree p new
+free_same p old new high free is = subst (λ (r : RoomState). IsFree p r) (sym is) (record {
+  idle = record { free = free.idle.free; shelf = free.idle.shelf; enough = free.idle.enough; wide = free.idle.wide };
+  rows = free.rows;
+  pack = free.pack;
+})
+
+pub some_of : (k : ℕ) → (k ≡ 0 → ⊥) → 1 ≤ k
+some_of zero off = absurd (off refl)
+some_of (suc k) off = omega arith
+
+pub none_of : {A : Type 0} (o : Option A) → is_some o ≡ false → o ≡ None
+none_of None is = refl
+none_of (Some x) is = absurd (cc is)
+
+hashed_by : (plan : Plan) (why : Refusal) → MayAnswer plan (Refused why) → (i : ℕ) × (why ≡ Refusals.Overflow i) × (plan ≡ Hash)
+hashed_by plan (Refusals.Overflow i) is = (i, refl, is)
+hashed_by plan _ is = absurd is
+
+pub hashed_first : {E : Type 0} (grew cut : E → E → List Event → Type 0) (faults : E → ℕ) (q : Selection) (plan : Plan) (k : ℕ) (why : Refusal) (mid late : World) (out_old out_new : E)
+    → SelectsBy grew cut faults (planned q plan k) (Ok (Refused why)) mid late out_old out_new
+    → (i : ℕ) × (plan ≡ Hash) × (out_new ≡ out_old) × SelectsBy grew cut faults (planned q Hash k) (Ok (Refused (Refusals.Overflow i))) mid late out_old out_old
+hashed_first grew cut faults q plan k why mid late out_old out_new is =
+    let h = hashed_by plan why is.may in
+    let same : out_new ≡ out_old = is.emitted in
+    (h.0, h.2, same, subst (λ out. SelectsBy grew cut faults (planned q Hash k) (Ok (Refused (Refusals.Overflow h.0))) mid late out_old out) same
+    (subst (λ (p : Plan). SelectsBy grew cut faults (planned q p k) (Ok (Refused (Refusals.Overflow h.0))) mid late out_old out_new) h.2
+    (subst (λ (w : Refusal). SelectsBy grew cut faults (planned q plan k) (Ok (Refused w)) mid late out_old out_new) h.1 is)))
+
+module _ (q : Selection) (room : RoomState) (old mid : World) (may : MaySelect q room old) (k : ℕ) (c : Bool) (is : CountsRows q.public.pack q.flat (is_true q.condition) (Ok (record { k = k; consecutive = c })) old mid)
+    (least : 1 ≤ k) (fresh : RoomState) (free : IsFree q.public fresh) where
+  counted_few : length mid.store.asked ≤ length old.store.asked + 16777216
+  counted_few = omega (arith, went_length none (counts_of q) old mid is.ran.ok, length-count_part q.flat.region (counted_after q), blocks_few q.public.pack q.flat.capacity may.settings.pack_least, may.size.most)
+
+  pub planned_first : (plan : Plan) → IsPlanned (planned q plan k) fresh mid
+  planned_first plan = record {
+    settings = may.settings;
+    free = free;
+    ready = is.ran.ok.lasts.ready;
+    few = omega (arith, may.few, counted_few);
+    flat = is.source;
+    size = may.size;
+    columns = may.columns;
+    some = least;
+    most = is.most;
+  }
+
+  pub planned_second : (late : World) → Went (whole_part (planned q Hash k) mid.vault.next) (one mid.vault.next) mid late → IsPlanned (planned q Small k) fresh late
+  planned_second late went =
+      let off = lives_apart _ _ _ is.ran.ok.lasts.ready is.source.made.lives in
+      let k_few : k ≤ 16777216 = omega (arith, is.most, may.size.most) in
+      let deep : k * q.public.depth ≤ 16777216 * 8 = mul-le-mul k_few may.settings.depth_most in
+      let four : 4 * q.public.depth ≤ 4 * 8 = let d = may.settings.depth_most in omega (arith, d) in
+      let all : 4 * q.public.depth * q.flat.capacity ≤ 4 * 8 * 16777216 = mul-le-mul four may.size.most in
+      let blocks = blocks_few q.public.pack q.flat.capacity may.settings.pack_least in
+      record {
+        settings = may.settings;
+        free = free;
+        ready = went.lasts.ready;
+        few = omega (arith, may.few, counted_few, went_length (one mid.vault.next) _ mid late went, length_hash q k mid.vault.next may.settings, deep, all, blocks, may.size.most);
+        flat = flat_lasts q.public.pack q.flat (one mid.vault.next) mid late went.lasts off is.source;
+        size = may.size;
+        columns = may.columns;
+        some = least;
+        most = is.most;
+      }
