@@ -24,7 +24,7 @@ use Rattle.ob_flat.specs.declared.counting.Counted.{Counted}
 use Rattle.ob_flat.specs.declared.fault.OpErr.{OpErr}
 use Rattle.ob_flat.specs.declared.fault.OpErr.TheVariants.{Failed, Tampered, Sink, NoMemory}
 use Rattle.ob_flat.specs.Counted.{CountsRows}
-use Rattle.ob_flat.specs.Passes.{PassCut, PassCause}
+use Rattle.ob_flat.specs.Passes.{PassCut, PassCause, is_of_access}
 use Rattle.ob_flat.specs.Words.{Ran, blocks_of}
 use Rattle.ob_flat.proofs.Runs.{pass_more, pass_wider}
 use Rattle.ob_flat.proofs.Tables.{blocks_hold}
@@ -33,7 +33,7 @@ use Rattle.ob_emit.specs.Emitting.{header}
 use Rattle.ob_mean.specs.Verdict.{counted, plan_for, ended as seen_to}
 use Rattle.ob_exec.specs.declared.selecting.Selected.{Selected}
 use Rattle.ob_exec.specs.declared.selecting.Selected.TheVariants.{Rows, Refused}
-use Rattle.ob_exec.specs.Selecting.{Selection, MaySelect, SelectsFrom, SelectsToEnd, SelectsToHalt, EmitsSelected, is_of_access, places, selected_as, shown_rows, result_of, seen_of, answer_of, answer_events, emitted_unless, IsPlanOf, LacksMemoryIn, EndsAs, EndsCounted, counted_after, walked_after, from}
+use Rattle.ob_exec.specs.Selecting.{Selection, MaySelect, SelectsFrom, SelectsToEnd, SelectsToHalt, EmitsSelected, places, selected_as, shown_rows, result_of, seen_of, answer_of, answer_events, emitted_unless, IsPlanOf, LacksMemoryIn, EndsAs, EndsCounted, counted_after, walked_after, from}
 use Rattle.std.specs.Prelude.{is_some}
 use Rattle.ob_base.specs.declared.config.Public.{Public}
 use Rattle.ob_vault.proofs.Runs.{lives_apart}
@@ -117,8 +117,11 @@ module _ {E : Type 0} (grew cut : E → E → List Event → Type 0) (faults : E
     ran_alone (Ok answer) never = record { ok = subst (λ (x : List Access). Went x (from old.vault.next) old mid) (sym (append-nil (counts_of q))) (went_wider none old mid (from old.vault.next) (none_from old.vault.next) (counts_of q) count); err = tt }
     ran_alone (Err e) never =
         let went = went_wider none old mid (from old.vault.next) (none_from old.vault.next) (counts_of q) count in
-        record { ok = tt; err = record { lasts = went.lasts; began = record { done = counts_of q; rest = []; split = refl; asked = went.did.asked }; cause = cause e never } }
+        record { ok = tt; err = record { lasts = went.lasts; began = record { done = counts_of q; rest = []; split = refl; asked = went.did.asked }; asks = asks e never; cause = cause e never } }
       where
+        asks : (e : OpErr) → (e ≡ Sink) ⊎ (e ≡ NoMemory) → IsTrue (is_of_access e) → length old.store.asked < length mid.store.asked
+        asks e never is = let none : is_of_access e ≡ false = elim never [ inl sink ↦ ap is_of_access sink | inr memory ↦ ap is_of_access memory ] in absurd (cc (none, is))
+
         cause : (e : OpErr) → (e ≡ Sink) ⊎ (e ≡ NoMemory) → PassCause e old mid
         cause Sink never = (count.did.faults, count.calm)
         cause NoMemory never = (count.did.faults, count.calm)

@@ -25,10 +25,11 @@ use Rattle.ob_flat.specs.Flats.{Represents}
 use Rattle.ob_flat.proofs.Sinks.{none_before}
 use Rattle.ob_flat.proofs.Tables.{represents_lasts}
 use Rattle.ob_mean.specs.Verdict.{counted, bucket_size, first_unplaced, plan_for, rows_refusal}
+use Rattle.ob_flat.specs.Passes.{is_of_access}
 use Rattle.ob_exec.specs.Engines.{AreSettings}
 use Rattle.ob_exec.specs.declared.selecting.Selected.{Selected}
 use Rattle.ob_exec.specs.declared.selecting.Selected.TheVariants.{Rows, Refused}
-use Rattle.ob_exec.specs.Selecting.{Selection, HoldsSeen, SelectsToEnd, SelectsToHalt, EmitsSelected, is_of_access, counted_after, from, places, selected_as, emitted_unless, result_of, shown_rows, answer_of, answer_events, seen_of}
+use Rattle.ob_exec.specs.Selecting.{Selection, HoldsSeen, SelectsToEnd, SelectsToHalt, EmitsSelected, counted_after, from, places, selected_as, emitted_unless, result_of, shown_rows, answer_of, answer_events, seen_of}
 use Rattle.ob_exec.specs.Results.{planned, PlannedToEnd, PlannedToHalt, SelectsBy, Suits, whole_part, held_slots, held_shown, held_events, held_answer, head_of}
 use Rattle.ob_exec.proofs.ResultParts.{length_hash}
 use Rattle.ob_exec.proofs.ResultReads.{emitted_from, halted_from}

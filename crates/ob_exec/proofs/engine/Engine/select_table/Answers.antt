@@ -16,7 +16,7 @@ use Rattle.ob_vault.specs.Places.{at}
 use Rattle.ob_exec.specs.Agreeing.{world_of}
 use Rattle.ob_exec.specs.Engines.{IsAt, flat_of}
 use Rattle.ob_exec.specs.Selecting.{MaySelect, Selection, SelectsFrom}
-use Rattle.ob_exec.proofs.FoundLemmas.{is_there}
+use Rattle.ob_exec.proofs.FoundLemmas.{is_there, absent}
 use Rattle.ob_exec.proofs.RowsNothing.{halts_first}
 use Rattle.ob_exec.proofs.RowsTable.{counts_some, q, table_may, table_query, table_selects}
 use Rattle.ob_exec.proofs.RunLemmas.{rests_refl}
@@ -32,9 +32,11 @@ unreachable-requires g c =
     let old = c.args.self.now in
     let hs = headings_of old.public.tables in
     let free = allowed (is_late (length (g.S.BlockStore.state c.args.store.now).asked)) old.public.pack old.public.buffer hs (RowsStmt c.args.select.now) c.requires.allowed in
-    is_there c.args.table.now old.public.tables
-    (sym (ap (λ (source : Source). list_any (λ (name : List ℕ). not (has_table name hs)) (source_tables source)) c.requires.source) ∙ free.tables)
-    (λ i t is. c.in_default.ensures.none i t (subst (λ (ts : List Table). IsAt c.args.table.now i t ts) (sym c.as_slice.ensures) is))
+    let there = is_there (has_table c.args.table.now hs)
+        (sym (ap (λ (source : Source). list_any (λ (name : List ℕ). not (has_table name hs)) (source_tables source)) c.requires.source) ∙ free.tables) in
+    let none = absent c.args.table.now old.public.tables
+        (λ i t is. c.in_default.ensures.none i t (subst (λ (ts : List Table). IsAt c.args.table.now i t ts) (sym c.as_slice.ensures) is)) in
+    absurd (cc (there, none))
 
 pub flat_at-flat-requires : goal.flat_at-flat-requires
 flat_at-flat-requires g c =
