@@ -32,23 +32,13 @@ use Rattle.ob_hash.proofs.Sizes.{blocks_whole}
 use Rattle.ob_exec.specs.Engines.{IsFree}
 use Rattle.ob_exec.specs.Memory.{is_make}
 use Rattle.ob_exec.specs.Selecting.{Selection}
-use Rattle.ob_exec.specs.Results.{Planned, planned, fresh_flat, make_part, left_out, held_slots, PlannedToEnd, LacksMemoryOf, MakesResult, placed_as, KeepsRoom}
+use Rattle.ob_exec.specs.Results.{Planned, planned, fresh_flat, make_part, left_out, held_slots, PlannedToEnd, LacksMemoryOf, MakesResult, placed_as}
 use Rattle.ob_exec.proofs.ResultHoles.{asked_some}
 use Rattle.ob_exec.proofs.ResultParts.{buffered_some}
 use Rattle.ob_exec.specs.Engines.{AreSettings}
 use Rattle.ob_hash.specs.Hashing as HL
 use Rattle.ob_script.proofs.Numbers.{length-small_part, length-large_part, length-continuous_part, length-hash_part}
 use Rattle.ob_flat.specs.Words.{blocks_of}
-
--- more rows may have been open
-pub room_kept : (old new : RoomState) (high : ℕ) → new ≡ record old { high = high } → old.high ≤ high → KeepsRoom old new
-room_kept old new high is most = subst (λ (r : RoomState). KeepsRoom old r) (sym is) (record { same = refl; kept = most })
-
-pub room_same : (old : RoomState) → KeepsRoom old old
-room_same old = record { same = refl; kept = omega arith }
-
-pub room_then : (a b c : RoomState) → KeepsRoom a b → KeepsRoom b c → KeepsRoom a c
-room_then a b c first second = record { same = second.same ∙ ap (λ (r : RoomState). record r { high = c.high }) first.same; kept = omega (arith, first.kept, second.kept) }
 
 -- want of memory at a make, or before
 lacks_from : (m : Access) (more done rest : List Access) (old new : World) → IsTrue (is_make m) → done ++ rest ≡ m ∷ [] → new.store.asked ≡ old.store.asked ++ done → LacksMemoryOf (m ∷ more) old new

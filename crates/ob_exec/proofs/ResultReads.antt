@@ -69,7 +69,7 @@ module _ (pack : ℕ) (fresh : Flat) (a b c : World) where
       cut = subst (λ (s : StoreState). Began (count_part fresh.region (blocks_of pack fresh)) a.store s) (sym same) walks.ran.err.began;
       never = (
         λ sink. elim walks.never [ inl is ↦ cc (is, sink) | inr is ↦ cc (is.is, sink) ],
-        λ memory. elim walks.never [ inl is ↦ cc (is, memory) | inr is ↦ cc (is.is, memory) ]
+        λ memory. elim walks.never [ inl is ↦ cc (is, memory) | inr is ↦ cc (is.is, memory) ],
       );
       gone = gone;
       seals = sealed_after walks.ran.err.lasts walks.seals seals;

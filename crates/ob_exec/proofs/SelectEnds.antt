@@ -213,10 +213,9 @@ module _ {E : Type 0} (grew cut : E → E → List Event → Type 0) (faults : E
           let are = counted_is q k c Continuous old mid is s.slots s.is s.nolie in
           let some : 1 ≤ length (places q s.slots) = omega (arith, least, are.0) in
           let off = sym are.1 ∙ apart in
-          let so : Continuous ≡ plan_for q.public (length s.slots) (places q s.slots) = sym (ap (λ (o : Option Plan). choose o (buffered q.public.pack q.public.buffer) (length s.slots) (length (places q s.slots)) (is_consecutive (places q s.slots))) forced) in
-          (
+          let so : Continuous ≡ plan_for q.public (length s.slots) (places q s.slots) = sym (ap (λ (o : Option Plan). choose o (buffered q.public.pack q.public.buffer) (length s.slots) (length (places q s.slots)) (is_consecutive (places q s.slots))) forced) in (
             sym (ap (λ (o : Option Refusal). selected_as o (length (places q s.slots))) (refuses_apart q.public (places q s.slots) (length s.slots) Continuous some so forced off)),
-            ap (λ (n : ℕ). counted n None None AfterCount) are.0 ∙ sym (seen_apart q.public (places q s.slots) (length s.slots) Continuous some so refl off)
+            ap (λ (n : ℕ). counted n None None AfterCount) are.0 ∙ sym (seen_apart q.public (places q s.slots) (length s.slots) Continuous some so refl off),
           );
       held = λ s. tt;
     }
@@ -280,7 +279,7 @@ module _ {E : Type 0} (grew cut : E → E → List Event → Type 0) (faults : E
           let after : late.vault.next ≡ old.vault.next + 1 = omega (arith, same, next) in
           let done = counts_of q ++ whole_part (planned q Hash k) old.vault.next in
           let asked : late.store.asked ≡ old.store.asked ++ done
-              = first.ran.ok.did.asked ∙ ap (λ (n : ℕ). mid.store.asked ++ whole_part (planned q Hash k) n) same ∙ ap (λ (x : List Access). x ++ whole_part (planned q Hash k) old.vault.next) count.did.asked ∙ append_assoc old.store.asked (counts_of q) (whole_part (planned q Hash k) old.vault.next) in
+          = first.ran.ok.did.asked ∙ ap (λ (n : ℕ). mid.store.asked ++ whole_part (planned q Hash k) n) same ∙ ap (λ (x : List Access). x ++ whole_part (planned q Hash k) old.vault.next) count.did.asked ∙ append_assoc old.store.asked (counts_of q) (whole_part (planned q Hash k) old.vault.next) in
           let more = went_length (one mid.vault.next) (whole_part (planned q Hash k) mid.vault.next) mid late first.ran.ok in
           record {
             ran = ran_second q old mid may.ready count result (planned q Hash k) (planned q Small k) late new first.ran.ok by.ran;
@@ -341,10 +340,14 @@ pub hashed_first : {E : Type 0} (grew cut : E → E → List Event → Type 0) (
     → (i : ℕ) × (plan ≡ Hash) × (out_new ≡ out_old) × SelectsBy grew cut faults (planned q Hash k) (Ok (Refused (Refusals.Overflow i))) mid late out_old out_old
 hashed_first grew cut faults q plan k why mid late out_old out_new is =
     let h = hashed_by plan why is.may in
-    let same : out_new ≡ out_old = is.emitted in
-    (h.0, h.2, same, subst (λ out. SelectsBy grew cut faults (planned q Hash k) (Ok (Refused (Refusals.Overflow h.0))) mid late out_old out) same
-    (subst (λ (p : Plan). SelectsBy grew cut faults (planned q p k) (Ok (Refused (Refusals.Overflow h.0))) mid late out_old out_new) h.2
-    (subst (λ (w : Refusal). SelectsBy grew cut faults (planned q plan k) (Ok (Refused w)) mid late out_old out_new) h.1 is)))
+    let same : out_new ≡ out_old = is.emitted in (
+      h.0,
+      h.2,
+      same,
+      subst (λ out. SelectsBy grew cut faults (planned q Hash k) (Ok (Refused (Refusals.Overflow h.0))) mid late out_old out) same
+          (subst (λ (p : Plan). SelectsBy grew cut faults (planned q p k) (Ok (Refused (Refusals.Overflow h.0))) mid late out_old out_new) h.2
+          (subst (λ (w : Refusal). SelectsBy grew cut faults (planned q plan k) (Ok (Refused w)) mid late out_old out_new) h.1 is)),
+    )
 
 module _ (q : Selection) (room : RoomState) (old mid : World) (may : MaySelect q room old) (k : ℕ) (c : Bool) (is : CountsRows q.public.pack q.flat (is_true q.condition) (Ok (record { k = k; consecutive = c })) old mid)
     (least : 1 ≤ k) (fresh : RoomState) (free : IsFree q.public fresh) where

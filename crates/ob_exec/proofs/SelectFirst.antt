@@ -96,7 +96,7 @@ module _ (q : Selection) (k : ℕ) (c : Bool) (plan : Plan) (old mid : World) (i
             inr (
               hashed,
               ap Rattle.std.specs.Prelude.is_some left,
-              seen_second q.public (places q mid_slots) (length mid_slots) plan some planned_so i hashed is_it (placed_so i left) ∙ ap (λ (n : ℕ). counted n (Some Hash) (Some Small) Whole) (sym suits.count)
+              seen_second q.public (places q mid_slots) (length mid_slots) plan some planned_so i hashed is_it (placed_so i left) ∙ ap (λ (n : ℕ). counted n (Some Hash) (Some Small) Whole) (sym suits.count),
             )
 
   module _ {E : Type 0} (grew cut : E → E → List Event → Type 0) (faults : E → ℕ) (new : World) (out_old out_new : E) where
@@ -116,19 +116,17 @@ module _ (q : Selection) (k : ℕ) (c : Bool) (plan : Plan) (old mid : World) (i
         let back = end_back q k c plan old mid is side mid.vault.next new by.ran.ok.lasts in
         let nolie = Rattle.ob_store.proofs.Steps.none_before mid.store new.store by.ran.ok.lasts.later s.nolie in
         let same = (counted_is q k c plan old mid is s.slots s.is nolie).1 in
-        let left = rows_left _ n k (by.told (back s)) in
-        (
+        let left = rows_left _ n k (by.told (back s)) in (
           by.told (back s) ∙ answer_last q k c plan old mid is side s.slots s.is.size (back s).suits same least chosen left,
-          seen_last q k c plan old mid is side s.slots s.is.size (back s).suits same least chosen left
+          seen_last q k c plan old mid is side s.slots s.is.size (back s).suits same least chosen left,
         )
     first_told (Ok (Refused why)) last by s =
         let back = end_back q k c plan old mid is side mid.vault.next new by.ran.ok.lasts in
         let nolie = Rattle.ob_store.proofs.Steps.none_before mid.store new.store by.ran.ok.lasts.later s.nolie in
         let same = (counted_is q k c plan old mid is s.slots s.is nolie).1 in
-        let left = refused_left _ why k (by.told (back s)) in
-        (
+        let left = refused_left _ why k (by.told (back s)) in (
           by.told (back s) ∙ ap (λ (o : Option ℕ). selected_as (option_map Overflow o) k) left.1 ∙ forced_answer s.slots s.is.size (back s).suits same left.0 left.1 last,
-          forced_seen s.slots s.is.size (back s).suits same last
+          forced_seen s.slots s.is.size (back s).suits same last,
         )
     first_told (Err e) last by s = by.told (end_back q k c plan old mid is side mid.vault.next new by.ran.err.lasts s)
 
@@ -169,7 +167,7 @@ module _ (q : Selection) (k : ℕ) (c : Bool) (plan : Plan) (old mid : World) (i
           | inr both ↦
               let within = done_within e (counted_after q) (length new.store.asked - length mid.store.asked) n (length (whole_part (planned q plan k) mid.vault.next)) (omega (arith, long, more)) counts (by.before (back s) both.1) in
               let size : length (whole_part (planned q plan k) mid.vault.next) ≡ length (whole_part (planned q Hash k) 0)
-                  = ap (λ (x : Plan). length (whole_part (planned q x k) mid.vault.next)) both.0 ∙ length_hash q k mid.vault.next settings ∙ sym (length_hash q k 0 settings) in
+              = ap (λ (x : Plan). length (whole_part (planned q x k) mid.vault.next)) both.0 ∙ length_hash q k mid.vault.next settings ∙ sym (length_hash q k 0 settings) in
               subst (λ (x : Plan). HoldsSeen q s.slots (is_of_access e) n (counted k (Some x) None Whole)) (sym both.0)
               (walking_held q s.slots k (is_of_access e) n both.2 enough (omega (arith, within, size, walked_hash q k settings)))
         ]

@@ -89,7 +89,6 @@ abbrev pub counts_of : Selection → List Access
 counts_of q = count_part q.flat.region (blocks_of q.public.pack q.flat)
 
 module _ (q : Selection) (old mid : World) (ready : Ready old) (count : Went (count_part q.flat.region (blocks_of q.public.pack q.flat)) none old mid) where
-
   -- behind the count
   pub ran_counted : {T : Type 0} (result : Result T OpErr) (x : List Access) (new : World) → Ran x (from old.vault.next) result mid new → Ran (counts_of q ++ x) (from old.vault.next) result old new
   ran_counted result x new ran = ran_after result (counts_of q) x (went_wider none old mid (from old.vault.next) (none_from old.vault.next) (counts_of q) count) ran
@@ -110,11 +109,11 @@ module _ (q : Selection) (old mid : World) (ready : Ready old) (count : Went (co
       let next = next_made r mid late count.lasts.ready went in
       let after : late.vault.next ≡ old.vault.next + 1 = omega (arith, same, next) in
       let first : Went (whole_part r old.vault.next) (from old.vault.next) mid late
-          = subst (λ (n : ℕ). Went (whole_part r n) (from old.vault.next) mid late) same
-          (went_wider (one mid.vault.next) mid late (from old.vault.next) (λ x. one_from old.vault.next mid.vault.next x (omega (arith, same))) (whole_part r mid.vault.next) went) in
+      = subst (λ (n : ℕ). Went (whole_part r n) (from old.vault.next) mid late) same
+      (went_wider (one mid.vault.next) mid late (from old.vault.next) (λ x. one_from old.vault.next mid.vault.next x (omega (arith, same))) (whole_part r mid.vault.next) went) in
       let second : Ran (whole_part p (old.vault.next + 1)) (from old.vault.next) result late new
-          = subst (λ (n : ℕ). Ran (whole_part p n) (from old.vault.next) result late new) after
-          (ran_wider (from old.vault.next) (λ x. one_from old.vault.next late.vault.next x (omega (arith, after))) result (whole_part p late.vault.next) late new ran) in
+      = subst (λ (n : ℕ). Ran (whole_part p n) (from old.vault.next) result late new) after
+      (ran_wider (from old.vault.next) (λ x. one_from old.vault.next late.vault.next x (omega (arith, after))) result (whole_part p late.vault.next) late new ran) in
       ran_counted result (whole_part r old.vault.next ++ (whole_part p (old.vault.next + 1) ++ [])) new
       (ran_after result (whole_part r old.vault.next) (whole_part p (old.vault.next + 1) ++ []) first
       (subst (λ (x : List Access). Ran x (from old.vault.next) result late new) (sym (append-nil (whole_part p (old.vault.next + 1)))) second))

@@ -110,8 +110,8 @@ module _ (q : Selection) (k : ℕ) (c : Bool) (old mid : World) (ready : Ready o
       halt_late s =
           let next = next_counted q old mid ready is.ran.ok in
           let all = went_join (from old.vault.next) old mid late (counts_of q) (whole_part (planned q Hash k) mid.vault.next)
-              (went_wider none old mid (from old.vault.next) (none_from old.vault.next) (counts_of q) is.ran.ok)
-              (went_wider (one mid.vault.next) mid late (from old.vault.next) (λ x. one_from old.vault.next mid.vault.next x (omega (arith, next))) (whole_part (planned q Hash k) mid.vault.next) whole) in
+          (went_wider none old mid (from old.vault.next) (none_from old.vault.next) (counts_of q) is.ran.ok)
+          (went_wider (one mid.vault.next) mid late (from old.vault.next) (λ x. one_from old.vault.next mid.vault.next x (omega (arith, next))) (whole_part (planned q Hash k) mid.vault.next) whole) in
           none_before (from old.vault.next) (one late.vault.next) _ old late new all lasts s.nolie s.unfit
 
       abbrev pub end_small : (s : SelectsToEnd q old new) → PlannedToEnd (planned q Small k) late new

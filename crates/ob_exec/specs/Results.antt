@@ -140,7 +140,8 @@ pub record LacksMemoryOf (script : List Access) (old new : World) : Type 0 where
   pub rest : List Access
   pub split : done ++ rest ≡ script
   pub asked : new.store.asked ≡ old.store.asked ++ done
-  pub place : IsTrue (ends_with_make done) ⊎ IsTrue (starts_with_make rest) ⊎ IsTrue (list_all is_reading rest)
+  pub place : IsTrue (ends_with_make done) ⊎ IsTrue (starts_with_make rest)
+      ⊎ IsTrue (list_all is_reading rest)
 
 -- a result that has each row
 abbrev pub placed_as : Result Flat OpErr → Result Placed OpErr
@@ -150,7 +151,8 @@ placed_as (Err e) = Err e
 -- a result was made in the next region, or that is gone
 pub record MakesResult (r : Planned) (result : Result Placed OpErr) (old new : World) : Type 0 where
   pub ran : Ran (make_part r old.vault.next) (one old.vault.next) result old new
-  pub some : IfErr result (λ e. IsTrue (is_of_access e) → length old.store.asked < length new.store.asked)
+  pub some : IfErr result (λ e. IsTrue (is_of_access e)
+      → length old.store.asked < length new.store.asked)
   pub never : result ≡ Err Sink → ⊥
   pub memory : result ≡ Err NoMemory → LacksMemoryOf (make_part r old.vault.next) old new
   pub value : IfOk result (λ placed. flat_of placed ≡ fresh_flat r old.vault.next)
@@ -167,16 +169,19 @@ pub record MakesResult (r : Planned) (result : Result Placed OpErr) (old new : W
 pub record EmitsResult {E : Type 0} (grew cut : E → E → List Event → Type 0) (faults : E → ℕ)
     (pack : ℕ) (fresh : Flat) (cols : List ℕ) (result : Result ℕ OpErr) (old new : World)
     (out_old out_new : E) : Type 0 where
-  pub ran : Ran (emission_part fresh.region (blocks_of pack fresh)) (one fresh.region) result old new
+  pub ran : Ran (emission_part fresh.region (blocks_of pack fresh)) (one fresh.region)
+      result old new
   pub gone : new.vault.revs.live fresh.region ≡ None
   pub seals : SealsAll old new
   pub emitted : IfOk result (λ n. IsEmitted grew (header fresh.schema cols)
       (λ (s : SlotsToEnd pack fresh old new). table_shown cols s.slots) 0 n out_old out_new)
   pub halted : OnErr result (IsHalted grew cut
-      (λ (s : SlotsToHalt pack fresh old new). header fresh.schema cols ++ row_events (table_shown cols s.slots))
+      (λ (s : SlotsToHalt pack fresh old new).
+      header fresh.schema cols ++ row_events (table_shown cols s.slots))
       out_old out_new)
   pub failed : result ≡ Err Failed → IsHalted grew grew
-      (λ (s : SlotsToHalt pack fresh old new). header fresh.schema cols ++ row_events (table_shown cols s.slots))
+      (λ (s : SlotsToHalt pack fresh old new).
+      header fresh.schema cols ++ row_events (table_shown cols s.slots))
       out_old out_new
   pub sink : SinkCause result (faults out_old) (faults out_new)
   pub told : (slots : Slots) → Represents pack fresh slots old → new.store.lie ≡ None
@@ -185,8 +190,10 @@ pub record EmitsResult {E : Type 0} (grew cut : E → E → List Event → Type 
 -- the same, and nothing was emitted
 pub record WalksResult {T : Type 0} (pack : ℕ) (fresh : Flat) (result : Result T OpErr)
     (old new : World) : Type 0 where
-  pub ran : Ran (emission_part fresh.region (blocks_of pack fresh)) (one fresh.region) result old new
-  pub cut : OnErr result (Began (count_part fresh.region (blocks_of pack fresh)) old.store new.store)
+  pub ran : Ran (emission_part fresh.region (blocks_of pack fresh)) (one fresh.region)
+      result old new
+  pub cut : OnErr result
+      (Began (count_part fresh.region (blocks_of pack fresh)) old.store new.store)
   pub never : IfErr result (λ e. (e ≡ Sink → ⊥) × (e ≡ NoMemory → ⊥))
   pub gone : new.vault.revs.live fresh.region ≡ None
   pub seals : SealsAll old new
@@ -208,9 +215,11 @@ MayAnswer plan (Refused _) = ⊥
 -- a result was made, read back and discarded, and emitted if it left no row out; no region is left but those
 -- that there were
 pub record SelectsBy {E : Type 0} (grew cut : E → E → List Event → Type 0) (faults : E → ℕ)
-    (r : Planned) (result : Result Selected OpErr) (old new : World) (out_old out_new : E) : Type 0 where
+    (r : Planned) (result : Result Selected OpErr) (old new : World)
+    (out_old out_new : E) : Type 0 where
   pub ran : Ran (whole_part r old.vault.next) (one old.vault.next) result old new
-  pub some : IfErr result (λ e. IsTrue (is_of_access e) → length old.store.asked < length new.store.asked)
+  pub some : IfErr result (λ e. IsTrue (is_of_access e)
+      → length old.store.asked < length new.store.asked)
   pub gone : new.vault.revs.live old.vault.next ≡ None
   pub spare : OnOk result (r.selection.ending ≤ new.store.spare)
   pub seals : SealsRows r.selection.public.pack old new
@@ -227,7 +236,8 @@ pub record SelectsBy {E : Type 0} (grew cut : E → E → List Event → Type 0)
       (λ e. (e ≡ Failed) ⊎ (e ≡ Sink) ⊎ (e ≡ NoMemory))
   -- where a row is left out, it was not read back whole
   pub before : (s : PlannedToHalt r old new) → IsSome (left_out r s.slots) → IfErr result (λ e.
-      done_of (is_of_access e) (length new.store.asked - length old.store.asked) + 1 < length (whole_part r old.vault.next))
+      done_of (is_of_access e) (length new.store.asked - length old.store.asked) + 1
+      < length (whole_part r old.vault.next))
 
 -- a header was emitted alone
 pub record EmitsHead {E : Type 0} (grew cut : E → E → List Event → Type 0) (faults : E → ℕ)
@@ -237,7 +247,9 @@ pub record EmitsHead {E : Type 0} (grew cut : E → E → List Event → Type 0)
   pub sink : SinkCause result (faults out_old) (faults out_new)
 
 -- the plan for k of n rows was chosen, or there is none: a forced Continuous where they don't stand side by side
-pub record ChoosesPlan (public : Public) (n k : ℕ) (consecutive : Bool) (result : Option Plan) : Type 0 where
-  pub some : IfSome result (λ plan. (plan ≡ choose public.plan (buffered public.pack public.buffer) n k consecutive)
+pub record ChoosesPlan (public : Public) (n k : ℕ) (consecutive : Bool)
+    (result : Option Plan) : Type 0 where
+  pub some : IfSome result (λ plan.
+      (plan ≡ choose public.plan (buffered public.pack public.buffer) n k consecutive)
       × (plan ≡ Continuous → IsTrue consecutive))
   pub none : result ≡ None → (public.plan ≡ Some Continuous) × (consecutive ≡ false)

@@ -10,6 +10,7 @@ ghost use Rattle.ob_exec.specs.Engines.{AreSettings};
 ghost use Rattle.ob_exec.specs.Selecting.{selection_of};
 ghost use Rattle.ob_exec.specs.Results.{IsPlanned, KeepsRoom, MakesResult, EmitsResult, WalksResult, SelectsBy, make_part, placed_as, whole_part, planned};
 
+use crate::selecting::{Query, Selected};
 use ob_base::{Emit, Plan, Public, Refusal};
 use ob_emit::{emit_all, walk};
 use ob_flat::{Flat, OpErr, discard};
@@ -17,8 +18,6 @@ use ob_hash::Placed;
 use ob_room::Room;
 use ob_store::BlockStore;
 use ob_vault::{Revisions, Vault};
-
-use crate::selecting::{Query, Selected};
 
 // How many accesses a result of `k` rows takes, until it has been discarded.
 fn result_length(public: &Public, query: &Query<'_>, k: u32, plan: Plan) -> u64

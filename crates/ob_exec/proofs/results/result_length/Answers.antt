@@ -1,4 +1,4 @@
-use Rattle.std.proofs.Common.{refl, sym, ap, subst, arith, ◌∙◌, ◌*◌, ◌+◌}
+use Rattle.std.proofs.Common.{arith, ◌∙◌}
 use Rattle.ob_flat.proofs.Tables.{blocks_few}
 use Rattle.ob_exec.specs.Selecting.{selection_of}
 use Rattle.ob_exec.proofs.ResultParts.{length_small, length_large, length_cont, length_hash, few_small, buffered_some}

@@ -129,4 +129,3 @@ returns-in_ok-walk_result-in-Overflow-clause-selects g c =
     let enough = room_made c.room.result (sym c.is_err.ensures.value ∙ c.if-is_err.false) c.room.ensures.spare in
     by_rests g.E.Emit.grew g.E.Emit.cut g.E.Emit.faults r v _ _ c.room.ensures.rests _ _ _ _ may.ready
     (by_walk_ok g.E.Emit.grew g.E.Emit.cut g.E.Emit.faults r _ _ may.settings.pack_least _ _ made _ _ _ (made.left refl) (λ s. (made.told s).0) (omega (arith, long, enough)) (walks_at _ _ _ (fresh_flat r v.next) _ _ _ pack made.value c.in_ok-walk_result-in-Overflow.ensures.walks))
-
