@@ -21,3 +21,4 @@ pub mod RowsLength
 pub mod RowsNothing
 pub mod RowsTable
 pub mod RowsStated
+pub mod RowsBehind

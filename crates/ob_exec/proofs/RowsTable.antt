@@ -98,7 +98,7 @@ stated_is p select flat condition cols ending schema capacity condition_is cols_
   ending = ending;
 }
 
-an_error : {x y : OpErr} → x ≡ y → ◌≡◌ {A = Result Selected OpErr} (Err x) (Err y)
+pub an_error : {x y : OpErr} → x ≡ y → ◌≡◌ {A = Result Selected OpErr} (Err x) (Err y)
 an_error is = λ i. Err (is i)
 
 some_of : (n q : ℕ) → 1 ≤ q → 1 ≤ n → 1 ≤ div_ceil n q
