@@ -22,3 +22,4 @@ pub mod RowsNothing
 pub mod RowsTable
 pub mod RowsStated
 pub mod RowsBehind
+pub mod RowsJoin

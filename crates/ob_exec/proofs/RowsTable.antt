@@ -101,7 +101,7 @@ stated_is p select flat condition cols ending schema capacity condition_is cols_
 pub an_error : {x y : OpErr} → x ≡ y → ◌≡◌ {A = Result Selected OpErr} (Err x) (Err y)
 an_error is = λ i. Err (is i)
 
-some_of : (n q : ℕ) → 1 ≤ q → 1 ≤ n → 1 ≤ div_ceil n q
+pub some_of : (n q : ℕ) → 1 ≤ q → 1 ≤ n → 1 ≤ div_ceil n q
 some_of n q some least = grind arith
 
 pub some_buffered : (pack rows : ℕ) → 1 ≤ pack → 3 * pack + 1 ≤ rows → 1 ≤ buffered_blocks pack rows
