@@ -23,3 +23,4 @@ pub mod RowsTable
 pub mod RowsStated
 pub mod RowsBehind
 pub mod RowsJoin
+pub mod RowsPairs

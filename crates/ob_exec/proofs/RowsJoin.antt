@@ -29,7 +29,15 @@ use Rattle.ob_mean.specs.Lawful.{capacity_at, counted_slots}
 use Rattle.ob_mean.specs.Names.{columns_at, source_columns}
 use Rattle.ob_mean.specs.Replay.{count_end, ending_len, walk_end}
 use Rattle.ob_mean.specs.Verdict.{ended as seen_to}
+use Rattle.ob_mean.specs.Refusals.{early_refusal}
+use Rattle.ob_mean.specs.Verdict.{is_late}
+use Rattle.ob_blocks.specs.Idle.{IsIdle}
+use Rattle.ob_flat.specs.declared.flat.Flat.{Flat}
+use Rattle.ob_verdict.specs.Accepted.{JoinFits}
+use Rattle.ob_verdict.proofs.AcceptedProof.{joins_fit}
+use Rattle.ob_exec.specs.Running.{refusal_now}
 use Rattle.ob_sql.specs.declared.stmt.SelectRows.{SelectRows}
+use Rattle.ob_sql.specs.declared.stmt.Stmt.TheVariants.{SelectRows as RowsStmt}
 use Rattle.ob_exec.specs.declared.engine.Engine.{Engine}
 use Rattle.ob_exec.specs.Agreeing.{Agrees}
 use Rattle.ob_exec.specs.Engines.{flat_of}
@@ -135,3 +143,20 @@ module _ {R : Type 0} (state : R → RevState) (old : Engine R) (s : StoreState)
       let count = counted_long in
       let least = join_least in
       omega (arith, all, last, ends, same, parts, count, least)
+
+  pub join_some : 1 ≤ count_end old.public (rows_skeleton select)
+  join_some = let is = join_count 0 0 in let least = join_least in omega (arith, is, least)
+
+  module _ (free : refusal_now old.public (length s.asked) (RowsStmt select) ≡ None) where
+    pub join_fits : JoinFits old.public.pack old.public.buffer t.heading u.heading on equals
+    join_fits =
+        joins_fit (is_late (length s.asked)) old.public.pack old.public.buffer (headings_of old.public.tables) select.list a b on equals select.cond t.heading u.heading found_a found_b
+        (subst (λ (source : Source). early_refusal (is_late (length s.asked)) old.public.pack old.public.buffer (headings_of old.public.tables) (RowsStmt (record { list = select.list; source = source; cond = select.cond })) ≡ None) of_join free)
+
+    pub join_idle : (left right : Flat) → left ≡ flat_of t → right ≡ flat_of u → IsIdle (width (left.schema ++ right.schema)) old.room
+    join_idle left right left_is right_is =
+        let idle = agrees.room.idle in
+        let wide = join_fits.wide in
+        let wider = idle.wide in
+        subst (λ (cs : Columns). IsIdle (width cs) old.room) (λ k. (sym left_is k).schema ++ (sym right_is k).schema)
+        (record { free = idle.free; shelf = idle.shelf; enough = idle.enough; wide = omega (arith, wide, wider) })
