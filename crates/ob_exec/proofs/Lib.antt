@@ -24,3 +24,4 @@ pub mod RowsStated
 pub mod RowsBehind
 pub mod RowsJoin
 pub mod RowsPairs
+pub mod RowsRoom

@@ -1,5 +1,5 @@
 -- What a SELECT of the rows of a join asks.
-use Rattle.std.proofs.Common.{◌≡◌, ◌≤◌, ◌+◌, ◌-◌, ◌*◌, ℕ, List, [], ◌∷◌, ◌++◌, length, Option, Some, None, refl, sym, ◌∙◌, ap, subst, arith, length-append, append-nil, append_assoc}
+use Rattle.std.proofs.Common.{◌≡◌, ◌≤◌, ◌<◌, ◌+◌, ◌-◌, ◌*◌, ℕ, List, [], ◌∷◌, ◌++◌, length, Option, Some, None, refl, sym, ◌∙◌, ap, subst, arith, length-append, append-nil, append_assoc}
 use Rattle.std.specs.Prelude.{IsSome, slice_get}
 use Rattle.std.specs.Int.{div_ceil}
 use Rattle.std.specs.Option.{option_map_or}
@@ -24,12 +24,16 @@ use Rattle.ob_script.specs.Script.{after_count, blocks_of, extent_of, join_scrip
 use Rattle.ob_script.proofs.Lengths.{length-count_part}
 use Rattle.ob_store.specs.State.{StoreState}
 use Rattle.ob_vault.specs.State.{RevState}
-use Rattle.ob_join.specs.Join.{join_in, join_script as pass_script}
+use Rattle.ob_join.specs.Join.{MayJoin, join_in, join_script as pass_script}
 use Rattle.ob_mean.specs.Lawful.{capacity_at, counted_slots}
 use Rattle.ob_mean.specs.Names.{columns_at, source_columns}
 use Rattle.ob_mean.specs.Replay.{count_end, ending_len, walk_end}
 use Rattle.ob_mean.specs.Verdict.{ended as seen_to}
-use Rattle.ob_mean.specs.Refusals.{early_refusal}
+use Rattle.ob_mean.specs.Refusals.{early_refusal, left_place, right_place}
+use Rattle.ob_store.specs.Calls.{Rests}
+use Rattle.ob_vault.specs.Places.{at}
+use Rattle.ob_vault.proofs.WordLemmas.{went_rests}
+use Rattle.ob_flat.specs.Flats.{IsFlat, IsSized}
 use Rattle.ob_mean.specs.Verdict.{is_late}
 use Rattle.ob_blocks.specs.Idle.{IsIdle}
 use Rattle.ob_flat.specs.declared.flat.Flat.{Flat}
@@ -39,15 +43,15 @@ use Rattle.ob_exec.specs.Running.{refusal_now}
 use Rattle.ob_sql.specs.declared.stmt.SelectRows.{SelectRows}
 use Rattle.ob_sql.specs.declared.stmt.Stmt.TheVariants.{SelectRows as RowsStmt}
 use Rattle.ob_exec.specs.declared.engine.Engine.{Engine}
-use Rattle.ob_exec.specs.Agreeing.{Agrees}
+use Rattle.ob_exec.specs.Agreeing.{Agrees, world_of}
 use Rattle.ob_exec.specs.Engines.{flat_of}
-use Rattle.ob_exec.specs.Selecting.{Selection, counted_after, region_of, selection_script, walked_after}
+use Rattle.ob_exec.specs.Selecting.{Selection, counted_after, from, region_of, selection_script, walked_after}
 use Rattle.ob_exec.specs.Sources.{rows_script, rows_skeleton, selection, stated}
 use Rattle.ob_exec.proofs.FoundLemmas.{heading_found}
 use Rattle.ob_exec.proofs.RowsBehind.{ending_for}
 use Rattle.ob_exec.proofs.RowsLength.{select_length}
 use Rattle.ob_exec.proofs.RowsTable.{some_buffered, some_of}
-use Rattle.ob_exec.proofs.TableLemmas.{stored_found}
+use Rattle.ob_exec.proofs.TableLemmas.{flat_kept, region_below, stored_found}
 
 -- what follows a selection stands behind it
 behind_parts : (count first next ending : List Access) → count ++ (first ++ (next ++ ending)) ≡ (count ++ (first ++ (next ++ []))) ++ ending
@@ -160,3 +164,46 @@ module _ {R : Type 0} (state : R → RevState) (old : Engine R) (s : StoreState)
         let wider = idle.wide in
         subst (λ (cs : Columns). IsIdle (width cs) old.room) (λ k. (sym left_is k).schema ++ (sym right_is k).schema)
         (record { free = idle.free; shelf = idle.shelf; enough = idle.enough; wide = omega (arith, wide, wider) })
+
+    table_sized : (k : ℕ) (x : Table) → slice_get old.public.tables k ≡ Some x → IsSized x.heading.schema x.heading.capacity
+    table_sized k x get =
+        let stored = (agrees.tables.each k x get).stored in
+        let few = stored.few in
+        let most = stored.most in
+        record { some = stored.some; few = omega (arith, few); wide = stored.wide; least = stored.least; most = omega (arith, most) }
+
+    kept_flat : (s1 : StoreState) → Rests s s1 → (k : ℕ) (x : Table) → slice_get old.public.tables k ≡ Some x → IsFlat old.room.pack (flat_of x) (at state old.vault s1)
+    kept_flat s1 rests k x get =
+        subst (λ (n : ℕ). IsFlat n (flat_of x) (at state old.vault s1)) (sym agrees.room.pack)
+        (flat_kept (from old.vault.next) old.public.pack (flat_of x) (world_of state old s) (at state old.vault s1) (went_rests _ s s1 rests (from old.vault.next) agrees.ready).lasts
+        (λ above. let below = region_below old.public.pack k old.public.tables x _ agrees.ready agrees.tables get in omega (arith, below, above)) (agrees.tables.each k x get).flat)
+
+    joined_sized : IsSized (t.heading.schema ++ u.heading.schema) (joined_slots old.room.pack old.room.rows t.heading.capacity u.heading.capacity)
+    joined_sized =
+        let first = (agrees.tables.each i t get_a).stored.some in
+        let one = (agrees.tables.each i t get_a).stored.few in
+        let two = (agrees.tables.each j u get_b).stored.few in
+        let both = length-append t.heading.schema u.heading.schema in
+        let some = agrees.settings.pack_least in
+        let enough = some_buffered old.public.pack old.public.buffer agrees.settings.pack_least agrees.settings.blocks in
+        let lefts = some_of t.heading.capacity old.public.pack some (agrees.tables.each i t get_a).stored.least in
+        let rights = some_of u.heading.capacity old.public.pack some (agrees.tables.each j u get_b).stored.least in
+        let chunks = some_of (div_ceil t.heading.capacity old.public.pack) (buffered_blocks old.public.pack old.public.buffer) enough lefts in
+        subst (λ (n : ℕ). IsSized (t.heading.schema ++ u.heading.schema) n) (λ k. joined_slots (sym agrees.room.pack k) (sym agrees.room.rows k) t.heading.capacity u.heading.capacity)
+        (record { some = omega (arith, first, both); few = omega (arith, one, two, both); wide = join_fits.wide; least = least_times _ _ _ chunks rights some; most = join_fits.slots })
+
+    pub join_may : (s1 : StoreState) (left right : Flat) (lcol rcol : ℕ) → Rests s s1 → left ≡ flat_of t → right ≡ flat_of u
+        → lcol ≡ left_place (length t.heading.schema) (t.heading.schema ++ u.heading.schema) on equals → rcol ≡ right_place (length t.heading.schema) (t.heading.schema ++ u.heading.schema) on equals
+        → MayJoin (join_in old.room left lcol right rcol) (at state old.vault s1)
+    join_may s1 left right lcol rcol rests left_is right_is lcol_is rcol_is =
+        subst (λ (x : Flat). MayJoin (join_in old.room x lcol right rcol) (at state old.vault s1)) (sym left_is)
+        (subst (λ (y : Flat). MayJoin (join_in old.room (flat_of t) lcol y rcol) (at state old.vault s1)) (sym right_is)
+        (record {
+          left = kept_flat s1 rests i t get_a;
+          right = kept_flat s1 rests j u get_b;
+          left_size = table_sized i t get_a;
+          right_size = table_sized j u get_b;
+          sized = joined_sized;
+          lcol = subst (λ (n : ℕ). n < length t.heading.schema) (sym lcol_is) join_fits.left_column;
+          rcol = subst (λ (n : ℕ). n < length u.heading.schema) (sym rcol_is) join_fits.right_column;
+        }))

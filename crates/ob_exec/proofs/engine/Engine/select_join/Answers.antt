@@ -1,4 +1,4 @@
-use Rattle.std.proofs.Common.{◌≡◌, ℕ, Bool, false, List, length, refl, sym, ◌∙◌, ap, subst, arith}
+use Rattle.std.proofs.Common.{◌≡◌, ◌++◌, ℕ, Bool, false, List, length, refl, sym, ◌∙◌, ap, subst, arith}
 use Rattle.std.specs.Prelude.{◌||◌, not, slice_get}
 use Rattle.std.specs.List.{list_any}
 use Rattle.std.proofs.lemmas.Option.{slice_get_within}
@@ -6,14 +6,16 @@ use Rattle.ob_base.specs.declared.schema.Table.{Table}
 use Rattle.ob_base.specs.declared.skeleton.Source.{Source}
 use Rattle.ob_base.specs.Stored.{has_table, headings_of}
 use Rattle.ob_sql.specs.declared.stmt.Stmt.TheVariants.{SelectRows as RowsStmt}
-use Rattle.ob_mean.specs.Refusals.{source_tables}
+use Rattle.ob_mean.specs.Refusals.{left_place, right_place, source_tables}
+use Rattle.ob_flat.specs.declared.flat.Flat.{Flat}
 use Rattle.ob_mean.specs.Verdict.{is_late}
 use Rattle.ob_mean.proofs.EarlyLemmas.{allowed}
 use Rattle.ob_exec.specs.Agreeing.{world_of}
 use Rattle.ob_exec.specs.Engines.{IsAt}
 use Rattle.ob_exec.proofs.FoundLemmas.{is_there}
-use Rattle.ob_exec.proofs.RowsJoin.{join_idle, join_some}
+use Rattle.ob_exec.proofs.RowsJoin.{join_idle, join_may, join_some}
 use Rattle.ob_exec.proofs.RowsNothing.{halts_first}
+use Rattle.ob_exec.proofs.RowsRoom.{lives_after, room_twice}
 use Rattle.ob_exec.proofs.RowsSource.{there_are}
 use Rattle.ob_exec.proofs.RunLemmas.{rests_refl}
 use Rattle.ob_exec.proofs.engine.Engine.select_join.Goals as goal
@@ -86,7 +88,22 @@ pub join-requires-clause-starts : goal.join-requires-clause-starts
 join-requires-clause-starts g c = ?
 
 pub join-requires-clause-tables : goal.join-requires-clause-tables
-join-requires-clause-tables g c = ?
+join-requires-clause-tables g c =
+    let old = c.args.self.now in
+    let state = g.R.Revisions.state in
+    let s = g.S.BlockStore.state c.args.store.now in
+    let one = c.in-Some.ensures.found in
+    let two = c.in-Some-find_table.ensures.found in
+    let left = subst (λ (ts : List Table). IsAt c.in-Join.left c.in-Some.i one.0 ts) c.as_slice.ensures one.1 in
+    let right = subst (λ (ts : List Table). IsAt c.in-Join.right c.in-Some-find_table.j two.0 ts) c.as_slice-2.ensures two.1 in
+    let left_is = c.flat_at-left.ensures one.0 (ap (λ (ts : List Table). slice_get ts c.in-Some.i) c.as_slice-3.ensures ∙ left.get) in
+    let right_is = c.flat_at-right.ensures two.0 (ap (λ (ts : List Table). slice_get ts c.in-Some-find_table.j) c.as_slice-4.ensures ∙ right.get) in
+    let columns = c.as_slice-columns.ensures.value ∙ ap (λ (f : Flat). f.schema) left_is in
+    let others = c.as_slice-others.ensures.value ∙ ap (λ (f : Flat). f.schema) right_is in
+    join_may state old s c.in-Some.i c.in-Some-find_table.j one.0 two.0 c.in-Join.left c.in-Join.right c.in-Join.on c.in-Join.equals c.args.select.now c.requires.agrees left.get right.get left.named right.named c.in-Join.is c.requires.allowed (g.S.BlockStore.state c.room.new.self) c.flat_at-left.result c.flat_at-right.result
+    c.left_place-lcol.result c.right_place-rcol.result c.room.ensures.rests left_is right_is
+    (c.left_place-lcol.ensures.value ∙ (λ k. left_place (length (columns k)) (columns k ++ others k) c.in-Join.on c.in-Join.equals))
+    (c.right_place-rcol.ensures.value ∙ (λ k. right_place (length (columns k)) (columns k ++ others k) c.in-Join.on c.in-Join.equals))
 
 pub join-requires-clause-room : goal.join-requires-clause-room
 join-requires-clause-room g c =
@@ -108,16 +125,18 @@ pub select_from-requires-clause-may : goal.select_from-requires-clause-may
 select_from-requires-clause-may g c = ?
 
 pub discard-requires-clause-lives : goal.discard-requires-clause-lives
-discard-requires-clause-lives g c = ?
+discard-requires-clause-lives g c =
+    let joins = c.in-Ok-join.ensures.joins in
+    lives_after _ _ _ c.in-Ok-join.joined _ joins.makes.value joins.ran.ok.lasts.ready c.in-Ok-select_from.ensures.selects.ran.ok.lasts joins.makes.lives
 
 pub returns-in-Ok-select_from-clause-room : goal.returns-in-Ok-select_from-clause-room
-returns-in-Ok-select_from-clause-room g c = ?
+returns-in-Ok-select_from-clause-room g c = room_twice c.args.self.now.room c.join.new.room c.select_from.new.room _ _ _ c.join.ensures.room c.select_from.ensures.room
 
 pub returns-in-Ok-select_from-clause-selects : goal.returns-in-Ok-select_from-clause-selects
 returns-in-Ok-select_from-clause-selects g c = ?
 
 pub returns-clause-room : goal.returns-clause-room
-returns-clause-room g c = ?
+returns-clause-room g c = room_twice c.args.self.now.room c.join.new.room c.select_from.new.room _ _ _ c.join.ensures.room c.select_from.ensures.room
 
 pub returns-clause-selects : goal.returns-clause-selects
 returns-clause-selects g c = ?
