@@ -14,7 +14,7 @@ use Rattle.ob_base.specs.declared.skeleton.Skeleton.TheVariants.{Rows as RowsSke
 use Rattle.ob_base.specs.declared.skeleton.Source.{Source}
 use Rattle.ob_base.specs.declared.skeleton.Source.TheVariants.{Join}
 use Rattle.ob_base.specs.Accesses.{discard_at}
-use Rattle.ob_base.specs.Joins.{joined_slots}
+use Rattle.ob_base.specs.Joins.{joined_blocks, joined_slots}
 use Rattle.ob_base.specs.Limits.{buffered_blocks}
 use Rattle.ob_base.specs.Numbers.{blocks_for}
 use Rattle.ob_base.specs.Schemas.{Columns, width}
@@ -24,7 +24,7 @@ use Rattle.ob_script.specs.Script.{after_count, blocks_of, extent_of, join_scrip
 use Rattle.ob_script.proofs.Lengths.{length-count_part}
 use Rattle.ob_store.specs.State.{StoreState}
 use Rattle.ob_vault.specs.State.{RevState}
-use Rattle.ob_join.specs.Join.{MayJoin, join_in, join_script as pass_script}
+use Rattle.ob_join.specs.Join.{MayJoin, fill_length, join_in, join_script as pass_script}
 use Rattle.ob_mean.specs.Lawful.{capacity_at, counted_slots}
 use Rattle.ob_mean.specs.Names.{columns_at, source_columns}
 use Rattle.ob_mean.specs.Replay.{count_end, ending_len, walk_end}
@@ -32,7 +32,9 @@ use Rattle.ob_mean.specs.Verdict.{ended as seen_to}
 use Rattle.ob_mean.specs.Refusals.{early_refusal, left_place, right_place}
 use Rattle.ob_store.specs.Calls.{Rests}
 use Rattle.ob_vault.specs.Places.{at}
-use Rattle.ob_vault.proofs.WordLemmas.{went_rests}
+use Rattle.ob_vault.proofs.WordLemmas.{ready_rests, went_rests}
+use Rattle.ob_vault.specs.Words.{MayStart}
+use Rattle.ob_mean.proofs.EarlyLemmas.{allowed}
 use Rattle.ob_flat.specs.Flats.{IsFlat, IsSized}
 use Rattle.ob_mean.specs.Verdict.{is_late}
 use Rattle.ob_blocks.specs.Idle.{IsIdle}
@@ -50,7 +52,7 @@ use Rattle.ob_exec.specs.Sources.{rows_script, rows_skeleton, selection, stated}
 use Rattle.ob_exec.proofs.FoundLemmas.{heading_found}
 use Rattle.ob_exec.proofs.RowsBehind.{ending_for}
 use Rattle.ob_exec.proofs.RowsLength.{select_length}
-use Rattle.ob_exec.proofs.RowsTable.{some_buffered, some_of}
+use Rattle.ob_exec.proofs.RowsTable.{not_late, some_buffered, some_of}
 use Rattle.ob_exec.proofs.TableLemmas.{flat_kept, region_below, stored_found}
 
 -- what follows a selection stands behind it
@@ -65,6 +67,9 @@ select_split p now g t ending = by_count now.k
         ≡ (count_part t.held (blocks_of p (extent_of t)) ++ after_count p now k g (extent_of t) []) ++ ending_for k ending
     by_count None = sym (append-nil (count_part t.held (blocks_of p (extent_of t)) ++ []))
     by_count (Some k) = behind_parts (count_part t.held (blocks_of p (extent_of t))) (result_part p now.plan k g (extent_of t)) (result_part p now.then k (g + 1) (extent_of t)) ending
+
+enough_left : (lefts pairs n spare : ℕ) → n ≡ lefts + 3 * pairs + 2 → n ≤ spare → 1 + (lefts + 2 * pairs) ≤ spare
+enough_left lefts pairs n spare is within = omega arith
 
 least_times : (a b c : ℕ) → 1 ≤ a → 1 ≤ b → 1 ≤ c → 1 ≤ a * b * c
 least_times a b c first second third = grind arith
@@ -207,3 +212,19 @@ module _ {R : Type 0} (state : R → RevState) (old : Engine R) (s : StoreState)
           lcol = subst (λ (n : ℕ). n < length t.heading.schema) (sym lcol_is) join_fits.left_column;
           rcol = subst (λ (n : ℕ). n < length u.heading.schema) (sym rcol_is) join_fits.right_column;
         }))
+
+    pub join_starts : (s1 : StoreState) (left right : Flat) (lcol rcol n : ℕ) → Rests s s1
+        → n ≡ blocks_for old.public.pack left.capacity + 3 * joined_blocks old.public.pack old.public.buffer left.capacity right.capacity + 2 → n ≤ s1.spare
+        → MayStart (1 + fill_length (join_in old.room left lcol right rcol)) (at state old.vault s1)
+    join_starts s1 left right lcol rcol n rests is spare =
+        let same = ap length rests.asked in
+        let early = not_late (length s.asked) (allowed (is_late (length s.asked)) old.public.pack old.public.buffer (headings_of old.public.tables) (RowsStmt select) free).early in
+        let lefts : blocks_for old.room.pack left.capacity ≡ blocks_for old.public.pack left.capacity = ap (λ (k : ℕ). blocks_for k left.capacity) agrees.room.pack in
+        let pairs : joined_blocks old.room.pack old.room.rows left.capacity right.capacity ≡ joined_blocks old.public.pack old.public.buffer left.capacity right.capacity =
+        λ k. joined_blocks (agrees.room.pack k) (agrees.room.rows k) left.capacity right.capacity in
+        record {
+          ready = ready_rests _ s s1 rests agrees.ready;
+          spare = enough_left (blocks_for old.room.pack left.capacity) (joined_blocks old.room.pack old.room.rows left.capacity right.capacity) n s1.spare
+              (is ∙ (λ k. sym lefts k + 3 * sym pairs k + 2)) spare;
+          few = omega (arith, same, early);
+        }

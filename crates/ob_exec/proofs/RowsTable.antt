@@ -71,7 +71,7 @@ use Rattle.ob_exec.proofs.RowsLength.{select_length}
 use Rattle.ob_exec.proofs.RowsStated.{ends_stated, may_stated}
 use Rattle.ob_exec.proofs.TableLemmas.{flat_kept, region_below, stored_found}
 
-not_late : (m : ℕ) → is_late m ≡ false → m < 9223372036854775808
+pub not_late : (m : ℕ) → is_late m ≡ false → m < 9223372036854775808
 not_late m early = grind (arith, nat_tests)
 
 tabulate_length : (n : ℕ) → length (tabulate n (λ i. i)) ≡ n

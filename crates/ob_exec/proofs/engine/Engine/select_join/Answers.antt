@@ -1,5 +1,6 @@
-use Rattle.std.proofs.Common.{◌≡◌, ◌++◌, ℕ, Bool, false, List, length, refl, sym, ◌∙◌, ap, subst, arith}
-use Rattle.std.specs.Prelude.{◌||◌, not, slice_get}
+use Rattle.std.proofs.Common.{◌≡◌, ◌++◌, ℕ, Bool, false, List, length, Ok, Err, Result, refl, sym, ◌∙◌, ap, subst, arith}
+use Rattle.std.specs.Prelude.{OnOk, ◌||◌, not, slice_get}
+use Rattle.std.specs.Result.{is_err}
 use Rattle.std.specs.List.{list_any}
 use Rattle.std.proofs.lemmas.Option.{slice_get_within}
 use Rattle.ob_base.specs.declared.schema.Table.{Table}
@@ -13,12 +14,17 @@ use Rattle.ob_mean.proofs.EarlyLemmas.{allowed}
 use Rattle.ob_exec.specs.Agreeing.{world_of}
 use Rattle.ob_exec.specs.Engines.{IsAt}
 use Rattle.ob_exec.proofs.FoundLemmas.{is_there}
-use Rattle.ob_exec.proofs.RowsJoin.{join_idle, join_may, join_some}
+use Rattle.ob_exec.proofs.RowsJoin.{join_idle, join_may, join_some, join_starts}
 use Rattle.ob_exec.proofs.RowsNothing.{halts_first}
 use Rattle.ob_exec.proofs.RowsRoom.{lives_after, room_twice}
 use Rattle.ob_exec.proofs.RowsSource.{there_are}
 use Rattle.ob_exec.proofs.RunLemmas.{rests_refl}
 use Rattle.ob_exec.proofs.engine.Engine.select_join.Goals as goal
+
+-- what holds at an `Ok`, where there is no `Err`
+at_ok : {T E : Type 0} (r : Result T E) (P : Type 0) → is_err r ≡ false → OnOk r P → P
+at_ok (Ok x) P ok h = h
+at_ok (Err e) P ok h = absurd (cc ok)
 
 pub unreachable-requires-in_default-find_table : goal.unreachable-requires-in_default-find_table
 unreachable-requires-in_default-find_table g c =
@@ -85,7 +91,19 @@ returns-then-is_err-clause-selects g c =
     }
 
 pub join-requires-clause-starts : goal.join-requires-clause-starts
-join-requires-clause-starts g c = ?
+join-requires-clause-starts g c =
+    let old = c.args.self.now in
+    let state = g.R.Revisions.state in
+    let s = g.S.BlockStore.state c.args.store.now in
+    let one = c.in-Some.ensures.found in
+    let two = c.in-Some-find_table.ensures.found in
+    let left = subst (λ (ts : List Table). IsAt c.in-Join.left c.in-Some.i one.0 ts) c.as_slice.ensures one.1 in
+    let right = subst (λ (ts : List Table). IsAt c.in-Join.right c.in-Some-find_table.j two.0 ts) c.as_slice-2.ensures two.1 in
+    let left_is = c.flat_at-left.ensures one.0 (ap (λ (ts : List Table). slice_get ts c.in-Some.i) c.as_slice-3.ensures ∙ left.get) in
+    let right_is = c.flat_at-right.ensures two.0 (ap (λ (ts : List Table). slice_get ts c.in-Some-find_table.j) c.as_slice-4.ensures ∙ right.get) in
+    let spare = at_ok c.room.result _ (sym c.is_err.ensures.value ∙ c.if-is_err.false) c.room.ensures.spare in
+    join_starts state old s c.in-Some.i c.in-Some-find_table.j one.0 two.0 c.in-Join.left c.in-Join.right c.in-Join.on c.in-Join.equals c.args.select.now c.requires.agrees left.get right.get left.named right.named c.in-Join.is c.requires.allowed (g.S.BlockStore.state c.room.new.self) c.flat_at-left.result c.flat_at-right.result
+    c.left_place-lcol.result c.right_place-rcol.result c.join_accesses.result c.room.ensures.rests c.join_accesses.ensures spare
 
 pub join-requires-clause-tables : goal.join-requires-clause-tables
 join-requires-clause-tables g c =
