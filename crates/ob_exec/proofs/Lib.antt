@@ -43,3 +43,7 @@ pub mod RowsLength
 pub mod RowsNothing
 pub mod RowsTable
 pub mod RowsStated
+pub mod RowsBehind
+pub mod RowsJoin
+pub mod RowsPairs
+pub mod RowsRoom

@@ -79,25 +79,25 @@ module _ (p : Public) (some : 0 < p.pack) (enough : 0 < buffered_blocks p.pack p
 
 -- ---- a second plan comes behind a first
 pub data Seconded (now : Seen) : Type 0 where
-  none : (is : now.then ≡ None) → Seconded now
-  some : (k : ℕ) (plan second : Plan) (end : End) (is : now ≡ seen_as (Some k) (Some plan) (Some second) end) → Seconded now
+  alone : (is : now.then ≡ None) → Seconded now
+  followed : (k : ℕ) (plan second : Plan) (end : End) (is : now ≡ seen_as (Some k) (Some plan) (Some second) end) → Seconded now
 
 hash_seconded : (k : ℕ) (second : Option Plan) → Seconded (seen_as (Some k) (Some Hash) second Whole)
-hash_seconded k None = none refl
-hash_seconded k (Some second) = some k Hash second Whole refl
+hash_seconded k None = alone refl
+hash_seconded k (Some second) = followed k Hash second Whole refl
 
 by_turn : (b : Bool) (k : ℕ) → Seconded (if b then seen_as (Some k) (Some Continuous) None Whole else seen_as (Some k) None None AfterCount)
-by_turn true k = none refl
-by_turn false k = none refl
+by_turn true k = alone refl
+by_turn false k = alone refl
 
 with_seconded : (p : Public) (plan : Plan) (places : List ℕ) → Seconded (seen_with p plan places)
-with_seconded p Small places = none refl
-with_seconded p Large places = none refl
+with_seconded p Small places = alone refl
+with_seconded p Large places = alone refl
 with_seconded p Continuous places = by_turn (is_consecutive places) (length places)
 with_seconded p Hash places = hash_seconded (length places) (fallback p.plan (first_unplaced p places))
 
 pub rows_seconded : (p : Public) (n : ℕ) (places : List ℕ) → Seconded (seen_rows p n places)
-rows_seconded p n [] = none refl
+rows_seconded p n [] = alone refl
 rows_seconded p n (i ∷ is) = with_seconded p (plan_for p n (i ∷ is)) (i ∷ is)
 
 -- ---- nothing is held before

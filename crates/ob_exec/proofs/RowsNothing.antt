@@ -31,13 +31,13 @@ use Rattle.ob_mean.specs.Verdict.{ended as seen_to}
 use Rattle.ob_exec.specs.Selecting.{from, places, seen_of}
 use Rattle.ob_exec.specs.Sources.{HaltsRows, HoldsRows, LeavesNone, SourceToHalt, rows_script, rows_skeleton, selection, slots_of}
 use Rattle.ob_exec.proofs.RowsLawful.{seen_as}
-use Rattle.ob_exec.proofs.RowsLength.{Seconded, held_empty, held_none, none, rows_seconded, some}
+use Rattle.ob_exec.proofs.RowsLength.{Seconded, alone, followed, held_empty, held_none, rows_seconded}
 use Rattle.ob_exec.proofs.RowsReach.{joined_part, joined_stored, part, part_length}
 use Rattle.ob_exec.proofs.RunLemmas.{world}
 
 -- ---- the first result is read back behind the count
 module _ (p : Public) (k : ℕ) (plan : Plan) (second : Option Plan) (end : End) where
-  part_late : (g : ℕ) (t : Stored ℕ) (pre ending : List Access)
+  pub part_late : (g : ℕ) (t : Stored ℕ) (pre ending : List Access)
       → length (part p g t pre ending (seen_to Whole)) ≤ length (part p g t pre ending (seen_as (Some k) (Some plan) None end)) - (length ending + 1)
   part_late g t pre ending =
       let a = part_length p g t pre ending (seen_to Whole) in
@@ -71,8 +71,8 @@ module _ (p : Public) (select : SelectRows) (slots : Slots) (failed : Bool) (n :
     (less : done_of failed n < count_end p (rows_skeleton select)) where
   second_nothing : Seconded (seen_of (selection p select) slots)
       → None ≡ held_if (nat_le (walk_end p (rows_skeleton select) (seen_of (selection p select) slots)) (done_of failed n)) (seen_of (selection p select) slots).then
-  second_nothing (none is) = held_empty (nat_le (walk_end p (rows_skeleton select) (seen_of (selection p select) slots)) (done_of failed n)) _ is
-  second_nothing (some k plan second end is) =
+  second_nothing (alone is) = held_empty (nat_le (walk_end p (rows_skeleton select) (seen_of (selection p select) slots)) (done_of failed n)) _ is
+  second_nothing (followed k plan second end is) =
       let late = walk_late p k plan (Some second) end select in
       let same = ap (walk_end p (rows_skeleton select)) is in
       held_none _ (walk_end p (rows_skeleton select) (seen_of (selection p select) slots)) (done_of failed n) (omega (arith, late, same, less))

@@ -131,7 +131,7 @@ held_all o m n within = sym (ap (λ (b : Bool). held_if b o) reached)
     reached : nat_le m n ≡ true
     reached = grind (arith, nat_tests)
 
-counted_some : (q : Selection) (answer : Selected) (k : Option ℕ) (plan second : Option Plan) (end : End) → MayHold q k plan second → EndsAs q answer (seen_as k plan second end) → IsSome k
+pub counted_some : (q : Selection) (answer : Selected) (k : Option ℕ) (plan second : Option Plan) (end : End) → MayHold q k plan second → EndsAs q answer (seen_as k plan second end) → IsSome k
 counted_some q answer (Some k) plan second end may is = refl
 counted_some q answer None (Some plan) second end may is = absurd may
 counted_some q answer None None (Some second) end may is = absurd may

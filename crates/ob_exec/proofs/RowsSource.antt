@@ -144,7 +144,7 @@ two_joined a b (c ∷ cs) right of_a of_b some others off =
     ∙ any_append (λ (d : Column). not (bytes_eq d.table a)) cs right
     ∙ or_true _ _ (any_other a b right of_b others off)
 
-there_are : (a b : Bool) → (not a || (not b || false)) ≡ false → (a ≡ true) × (b ≡ true)
+pub there_are : (a b : Bool) → (not a || (not b || false)) ≡ false → (a ≡ true) × (b ≡ true)
 there_are true true is = (refl, refl)
 there_are true false is = absurd (cc is)
 there_are false b is = absurd (cc is)

@@ -71,7 +71,7 @@ use Rattle.ob_exec.proofs.RowsLength.{select_length}
 use Rattle.ob_exec.proofs.RowsStated.{ends_stated, may_stated}
 use Rattle.ob_exec.proofs.TableLemmas.{flat_kept, region_below, stored_found}
 
-not_late : (m : ℕ) → is_late m ≡ false → m < 9223372036854775808
+pub not_late : (m : ℕ) → is_late m ≡ false → m < 9223372036854775808
 not_late m early = grind (arith, nat_tests)
 
 tabulate_length : (n : ℕ) → length (tabulate n (λ i. i)) ≡ n
@@ -98,10 +98,10 @@ stated_is p select flat condition cols ending schema capacity condition_is cols_
   ending = ending;
 }
 
-an_error : {x y : OpErr} → x ≡ y → ◌≡◌ {A = Result Selected OpErr} (Err x) (Err y)
+pub an_error : {x y : OpErr} → x ≡ y → ◌≡◌ {A = Result Selected OpErr} (Err x) (Err y)
 an_error is = λ i. Err (is i)
 
-some_of : (n q : ℕ) → 1 ≤ q → 1 ≤ n → 1 ≤ div_ceil n q
+pub some_of : (n q : ℕ) → 1 ≤ q → 1 ≤ n → 1 ≤ div_ceil n q
 some_of n q some least = grind arith
 
 pub some_buffered : (pack rows : ℕ) → 1 ≤ pack → 3 * pack + 1 ≤ rows → 1 ≤ buffered_blocks pack rows

@@ -1,0 +1,80 @@
+-- A SELECT of a join that its pairing stopped.
+use Rattle.std.proofs.Common.{◌≡◌, ◌⊎◌, inl, inr, ◌≤◌, ◌<◌, ◌+◌, ◌-◌, ℕ, Bool, true, false, List, [], ◌∷◌, ◌++◌, length, Option, Some, None, Ok, Err, Result, refl, sym, ◌∙◌, ap, subst, arith, length-append, append-nil, append_assoc}
+use Rattle.std.specs.Prelude.{IsSome, IsTrue}
+use Rattle.std.proofs.lemmas.Bool.{cases_eq}
+use Rattle.ob_base.specs.declared.access.Access.{Access}
+use Rattle.ob_base.specs.declared.access.Access.TheVariants.{Make}
+use Rattle.ob_base.specs.declared.config.Public.{Public}
+use Rattle.ob_base.specs.declared.seen.Seen.{Seen}
+use Rattle.ob_base.specs.declared.seen.End.TheVariants.{Whole}
+use Rattle.ob_base.specs.Events.{Event, Leads}
+use Rattle.ob_store.specs.Runs.{Began}
+use Rattle.ob_vault.specs.State.{World}
+use Rattle.ob_vault.specs.Calls.{one}
+use Rattle.ob_flat.specs.declared.fault.OpErr.{OpErr}
+use Rattle.ob_flat.specs.declared.fault.OpErr.TheVariants as OpErrs
+use Rattle.ob_flat.specs.Passes.{PassCut}
+use Rattle.ob_flat.proofs.Runs.{pass_more}
+use Rattle.ob_mean.specs.Replay.{count_end, done_of}
+use Rattle.ob_mean.specs.Verdict.{ended as seen_to}
+use Rattle.ob_sql.specs.declared.stmt.SelectRows.{SelectRows}
+use Rattle.ob_exec.specs.Memory.{AtMake, is_make}
+use Rattle.ob_exec.specs.Selecting.{MayHold, SealsRows, from, is_of_access}
+use Rattle.ob_exec.specs.Sources.{HaltsRows, LeavesNone, SourceToEnd, SourceToHalt, rows_script, rows_skeleton, selection, slots_of}
+use Rattle.ob_exec.proofs.RowsNothing.{holds_nothing}
+
+done_within : (failed : Bool) (n : ℕ) → done_of failed n ≤ n
+done_within true n = omega arith
+done_within false n = omega arith
+
+-- within one make
+at_make : (done rest more : List Access) (make : Access) → is_make make ≡ true → done ++ rest ≡ make ∷ [] → AtMake done more
+at_make [] rest more make made is = inl refl
+at_make (x ∷ []) rest more make made is = let same : x ≡ make = cc is in inr (inl (ap is_make same ∙ made))
+at_make (x ∷ y ∷ done) rest more make made is = absurd (cc is)
+
+module _ {E : Type 0} (grew cut : E → E → List Event → Type 0) (p : Public) (select : SelectRows) (now : Seen) (a b : World) (out : E) (x more : List Access) (make : Access) (fill : List Access) (e : OpErr)
+    (script_is : rows_script p select now ≡ x ++ more) (makes : x ≡ (make ∷ []) ++ fill) (is_one : is_make make ≡ true) (halts : PassCut e x (from a.vault.next) a b) (leaves : LeavesNone a b) (seals : SealsRows p.pack a b)
+    (fresh : now ≡ seen_to Whole) (counts : length x < count_end p (rows_skeleton select)) (memory : e ≡ OpErrs.NoMemory → Began (make ∷ []) a.store b.store)
+    (honest : SourceToEnd p a b → (e ≡ OpErrs.Failed) ⊎ (e ≡ OpErrs.NoMemory)) where
+  still : Leads grew grew out out []
+  still first events took = subst (λ (all : List Event). grew first out all) (sym (append-nil events)) took
+
+  short : length b.store.asked - length a.store.asked ≤ length x
+  short =
+      let asked = ap length halts.began.asked in
+      let sum = length-append a.store.asked halts.began.done in
+      let split = ap length halts.began.split in
+      let parts = length-append halts.began.done halts.began.rest in
+      omega (arith, asked, sum, split, parts)
+
+  -- nothing was counted or emitted by then
+  pub pairs_halt : HaltsRows grew cut p select e now a b out out
+  pairs_halt = record {
+    ran = subst (λ (all : List Access). PassCut e all (from a.vault.next) a b) (sym script_is) (pass_more (from a.vault.next) a b e x more halts);
+    leaves = leaves;
+    seals = seals;
+    holds = subst (λ (y : Seen). MayHold (selection p select) y.k y.plan y.then) (sym fresh) tt;
+    reached = record {
+      count = λ some. let is = subst (λ (y : Seen). IsSome y.k) fresh some in absurd (cc is);
+      walk = λ some. let is = subst (λ (y : Seen). IsSome y.then) fresh some in absurd (cc is);
+    };
+    memory = λ wanted.
+        let began = memory wanted in
+        record {
+          done = began.done;
+          rest = began.rest ++ (fill ++ more);
+          split = sym (append_assoc began.done began.rest (fill ++ more)) ∙ ap (λ (y : List Access). y ++ (fill ++ more)) began.split
+              ∙ sym (append_assoc (make ∷ []) fill more) ∙ ap (λ (y : List Access). y ++ more) (sym makes) ∙ sym script_is;
+          asked = began.asked;
+          place = inl (at_make began.done began.rest (began.rest ++ (fill ++ more)) make is_one began.split);
+        };
+    halted = record { events = []; ends = inl still; told = λ (y : SourceToHalt p a b). (_, refl) };
+    failed = λ failed. record { events = []; ends = inl still; told = λ (y : SourceToHalt p a b). (_, refl) };
+    honest = λ y. elim (honest y) [ inl failed ↦ inl failed | inr wanted ↦ inr (inr wanted) ];
+    held = λ y.
+        let n = length b.store.asked - length a.store.asked in
+        let within = done_within (is_of_access e) n in
+        let few = short in
+        holds_nothing p select (slots_of p select y.tables) (is_of_access e) n now fresh (omega (arith, within, few, counts));
+  }

@@ -1,0 +1,160 @@
+use Rattle.std.proofs.Common.{◌≡◌, ◌++◌, ℕ, Bool, false, List, length, Ok, Err, Result, refl, sym, ◌∙◌, ap, subst, arith}
+use Rattle.std.specs.Prelude.{OnOk, ◌||◌, not, slice_get}
+use Rattle.std.specs.Result.{is_err}
+use Rattle.std.specs.List.{list_any}
+use Rattle.std.proofs.lemmas.Option.{slice_get_within}
+use Rattle.ob_base.specs.declared.schema.Table.{Table}
+use Rattle.ob_base.specs.declared.skeleton.Source.{Source}
+use Rattle.ob_base.specs.Stored.{has_table, headings_of}
+use Rattle.ob_sql.specs.declared.stmt.Stmt.TheVariants.{SelectRows as RowsStmt}
+use Rattle.ob_mean.specs.Refusals.{left_place, right_place, source_tables}
+use Rattle.ob_flat.specs.declared.flat.Flat.{Flat}
+use Rattle.ob_mean.specs.Verdict.{is_late}
+use Rattle.ob_mean.proofs.EarlyLemmas.{allowed}
+use Rattle.ob_exec.specs.Agreeing.{world_of}
+use Rattle.ob_exec.specs.Engines.{IsAt}
+use Rattle.ob_exec.proofs.FoundLemmas.{is_there}
+use Rattle.ob_exec.proofs.RowsJoin.{join_idle, join_may, join_some, join_starts}
+use Rattle.ob_exec.proofs.RowsNothing.{halts_first}
+use Rattle.ob_exec.proofs.RowsRoom.{lives_after, room_twice}
+use Rattle.ob_exec.proofs.RowsSource.{there_are}
+use Rattle.ob_exec.proofs.RunLemmas.{rests_refl}
+use Rattle.ob_exec.proofs.engine.Engine.select_join.Goals as goal
+
+-- what holds at an `Ok`, where there is no `Err`
+at_ok : {T E : Type 0} (r : Result T E) (P : Type 0) → is_err r ≡ false → OnOk r P → P
+at_ok (Ok x) P ok h = h
+at_ok (Err e) P ok h = absurd (cc ok)
+
+pub unreachable-requires-in_default-find_table : goal.unreachable-requires-in_default-find_table
+unreachable-requires-in_default-find_table g c =
+    let old = c.args.self.now in
+    let hs = headings_of old.public.tables in
+    let free = allowed (is_late (length (g.S.BlockStore.state c.args.store.now).asked)) old.public.pack old.public.buffer hs (RowsStmt c.args.select.now) c.requires.allowed in
+    let both = there_are (has_table c.in-Join.left hs) (has_table c.in-Join.right hs)
+    (sym (ap (λ (source : Source). list_any (λ (name : List ℕ). not (has_table name hs)) (source_tables source)) c.in-Join.is) ∙ free.tables) in
+    is_there c.in-Join.left old.public.tables (ap (λ (x : Bool). not x || false) both.0)
+    (λ i t is. c.in_default-find_table.ensures.none i t (subst (λ (ts : List Table). IsAt c.in-Join.left i t ts) (sym c.as_slice.ensures) is))
+
+pub unreachable-requires-in_default-find_table-2 : goal.unreachable-requires-in_default-find_table-2
+unreachable-requires-in_default-find_table-2 g c =
+    let old = c.args.self.now in
+    let hs = headings_of old.public.tables in
+    let free = allowed (is_late (length (g.S.BlockStore.state c.args.store.now).asked)) old.public.pack old.public.buffer hs (RowsStmt c.args.select.now) c.requires.allowed in
+    let both = there_are (has_table c.in-Join.left hs) (has_table c.in-Join.right hs)
+    (sym (ap (λ (source : Source). list_any (λ (name : List ℕ). not (has_table name hs)) (source_tables source)) c.in-Join.is) ∙ free.tables) in
+    is_there c.in-Join.right old.public.tables (ap (λ (x : Bool). not x || false) both.1)
+    (λ i t is. c.in_default-find_table-2.ensures.none i t (subst (λ (ts : List Table). IsAt c.in-Join.right i t ts) (sym c.as_slice-2.ensures) is))
+
+pub flat_at-left-requires : goal.flat_at-left-requires
+flat_at-left-requires g c =
+    let found = c.in-Some.ensures.found in
+    let within = slice_get_within c.as_slice.result.now c.in-Some.i found.0 found.1.get in
+    omega (arith, within, ap length c.as_slice.ensures, ap length c.as_slice-3.ensures)
+
+pub flat_at-right-requires : goal.flat_at-right-requires
+flat_at-right-requires g c =
+    let found = c.in-Some-find_table.ensures.found in
+    let within = slice_get_within c.as_slice-2.result.now c.in-Some-find_table.j found.0 found.1.get in
+    omega (arith, within, ap length c.as_slice-2.ensures, ap length c.as_slice-4.ensures)
+
+pub returns-in_default-where_at-clause-selects : goal.returns-in_default-where_at-clause-selects
+returns-in_default-where_at-clause-selects g c =
+    let old = c.args.self.now in
+    let state = g.R.Revisions.state in
+    let s = g.S.BlockStore.state c.args.store.now in
+    let one = c.in-Some.ensures.found in
+    let two = c.in-Some-find_table.ensures.found in
+    let left = subst (λ (ts : List Table). IsAt c.in-Join.left c.in-Some.i one.0 ts) c.as_slice.ensures one.1 in
+    let right = subst (λ (ts : List Table). IsAt c.in-Join.right c.in-Some-find_table.j two.0 ts) c.as_slice-2.ensures two.1 in
+    record {
+      ended = tt;
+      halted = halts_first g.E.Emit.grew g.E.Emit.cut old.public c.args.select.now c.args.seen.now (world_of state old s).vault s s c.args.out.now c.requires.agrees.ready (rests_refl s) c.requires.fresh
+          (join_some state old s c.in-Some.i c.in-Some-find_table.j one.0 two.0 c.in-Join.left c.in-Join.right c.in-Join.on c.in-Join.equals c.args.select.now c.requires.agrees left.get right.get left.named right.named c.in-Join.is);
+      sink = refl;
+    }
+
+pub returns-then-is_err-clause-selects : goal.returns-then-is_err-clause-selects
+returns-then-is_err-clause-selects g c =
+    let old = c.args.self.now in
+    let state = g.R.Revisions.state in
+    let s = g.S.BlockStore.state c.args.store.now in
+    let one = c.in-Some.ensures.found in
+    let two = c.in-Some-find_table.ensures.found in
+    let left = subst (λ (ts : List Table). IsAt c.in-Join.left c.in-Some.i one.0 ts) c.as_slice.ensures one.1 in
+    let right = subst (λ (ts : List Table). IsAt c.in-Join.right c.in-Some-find_table.j two.0 ts) c.as_slice-2.ensures two.1 in
+    record {
+      ended = tt;
+      halted = halts_first g.E.Emit.grew g.E.Emit.cut old.public c.args.select.now c.args.seen.now (world_of state old s).vault s (g.S.BlockStore.state c.room.new.self) c.args.out.now c.requires.agrees.ready c.room.ensures.rests c.requires.fresh
+          (join_some state old s c.in-Some.i c.in-Some-find_table.j one.0 two.0 c.in-Join.left c.in-Join.right c.in-Join.on c.in-Join.equals c.args.select.now c.requires.agrees left.get right.get left.named right.named c.in-Join.is);
+      sink = refl;
+    }
+
+pub join-requires-clause-starts : goal.join-requires-clause-starts
+join-requires-clause-starts g c =
+    let old = c.args.self.now in
+    let state = g.R.Revisions.state in
+    let s = g.S.BlockStore.state c.args.store.now in
+    let one = c.in-Some.ensures.found in
+    let two = c.in-Some-find_table.ensures.found in
+    let left = subst (λ (ts : List Table). IsAt c.in-Join.left c.in-Some.i one.0 ts) c.as_slice.ensures one.1 in
+    let right = subst (λ (ts : List Table). IsAt c.in-Join.right c.in-Some-find_table.j two.0 ts) c.as_slice-2.ensures two.1 in
+    let left_is = c.flat_at-left.ensures one.0 (ap (λ (ts : List Table). slice_get ts c.in-Some.i) c.as_slice-3.ensures ∙ left.get) in
+    let right_is = c.flat_at-right.ensures two.0 (ap (λ (ts : List Table). slice_get ts c.in-Some-find_table.j) c.as_slice-4.ensures ∙ right.get) in
+    let spare = at_ok c.room.result _ (sym c.is_err.ensures.value ∙ c.if-is_err.false) c.room.ensures.spare in
+    join_starts state old s c.in-Some.i c.in-Some-find_table.j one.0 two.0 c.in-Join.left c.in-Join.right c.in-Join.on c.in-Join.equals c.args.select.now c.requires.agrees left.get right.get left.named right.named c.in-Join.is c.requires.allowed (g.S.BlockStore.state c.room.new.self) c.flat_at-left.result c.flat_at-right.result
+    c.left_place-lcol.result c.right_place-rcol.result c.join_accesses.result c.room.ensures.rests c.join_accesses.ensures spare
+
+pub join-requires-clause-tables : goal.join-requires-clause-tables
+join-requires-clause-tables g c =
+    let old = c.args.self.now in
+    let state = g.R.Revisions.state in
+    let s = g.S.BlockStore.state c.args.store.now in
+    let one = c.in-Some.ensures.found in
+    let two = c.in-Some-find_table.ensures.found in
+    let left = subst (λ (ts : List Table). IsAt c.in-Join.left c.in-Some.i one.0 ts) c.as_slice.ensures one.1 in
+    let right = subst (λ (ts : List Table). IsAt c.in-Join.right c.in-Some-find_table.j two.0 ts) c.as_slice-2.ensures two.1 in
+    let left_is = c.flat_at-left.ensures one.0 (ap (λ (ts : List Table). slice_get ts c.in-Some.i) c.as_slice-3.ensures ∙ left.get) in
+    let right_is = c.flat_at-right.ensures two.0 (ap (λ (ts : List Table). slice_get ts c.in-Some-find_table.j) c.as_slice-4.ensures ∙ right.get) in
+    let columns = c.as_slice-columns.ensures.value ∙ ap (λ (f : Flat). f.schema) left_is in
+    let others = c.as_slice-others.ensures.value ∙ ap (λ (f : Flat). f.schema) right_is in
+    join_may state old s c.in-Some.i c.in-Some-find_table.j one.0 two.0 c.in-Join.left c.in-Join.right c.in-Join.on c.in-Join.equals c.args.select.now c.requires.agrees left.get right.get left.named right.named c.in-Join.is c.requires.allowed (g.S.BlockStore.state c.room.new.self) c.flat_at-left.result c.flat_at-right.result
+    c.left_place-lcol.result c.right_place-rcol.result c.room.ensures.rests left_is right_is
+    (c.left_place-lcol.ensures.value ∙ (λ k. left_place (length (columns k)) (columns k ++ others k) c.in-Join.on c.in-Join.equals))
+    (c.right_place-rcol.ensures.value ∙ (λ k. right_place (length (columns k)) (columns k ++ others k) c.in-Join.on c.in-Join.equals))
+
+pub join-requires-clause-room : goal.join-requires-clause-room
+join-requires-clause-room g c =
+    let old = c.args.self.now in
+    let state = g.R.Revisions.state in
+    let s = g.S.BlockStore.state c.args.store.now in
+    let one = c.in-Some.ensures.found in
+    let two = c.in-Some-find_table.ensures.found in
+    let left = subst (λ (ts : List Table). IsAt c.in-Join.left c.in-Some.i one.0 ts) c.as_slice.ensures one.1 in
+    let right = subst (λ (ts : List Table). IsAt c.in-Join.right c.in-Some-find_table.j two.0 ts) c.as_slice-2.ensures two.1 in
+    let left_is = c.flat_at-left.ensures one.0 (ap (λ (ts : List Table). slice_get ts c.in-Some.i) c.as_slice-3.ensures ∙ left.get) in
+    let right_is = c.flat_at-right.ensures two.0 (ap (λ (ts : List Table). slice_get ts c.in-Some-find_table.j) c.as_slice-4.ensures ∙ right.get) in
+    join_idle state old s c.in-Some.i c.in-Some-find_table.j one.0 two.0 c.in-Join.left c.in-Join.right c.in-Join.on c.in-Join.equals c.args.select.now c.requires.agrees left.get right.get left.named right.named c.in-Join.is c.requires.allowed c.flat_at-left.result c.flat_at-right.result left_is right_is
+
+pub returns-in-Err-clause-selects : goal.returns-in-Err-clause-selects
+returns-in-Err-clause-selects g c = ?
+
+pub select_from-requires-clause-may : goal.select_from-requires-clause-may
+select_from-requires-clause-may g c = ?
+
+pub discard-requires-clause-lives : goal.discard-requires-clause-lives
+discard-requires-clause-lives g c =
+    let joins = c.in-Ok-join.ensures.joins in
+    lives_after _ _ _ c.in-Ok-join.joined _ joins.makes.value joins.ran.ok.lasts.ready c.in-Ok-select_from.ensures.selects.ran.ok.lasts joins.makes.lives
+
+pub returns-in-Ok-select_from-clause-room : goal.returns-in-Ok-select_from-clause-room
+returns-in-Ok-select_from-clause-room g c = room_twice c.args.self.now.room c.join.new.room c.select_from.new.room _ _ _ c.join.ensures.room c.select_from.ensures.room
+
+pub returns-in-Ok-select_from-clause-selects : goal.returns-in-Ok-select_from-clause-selects
+returns-in-Ok-select_from-clause-selects g c = ?
+
+pub returns-clause-room : goal.returns-clause-room
+returns-clause-room g c = room_twice c.args.self.now.room c.join.new.room c.select_from.new.room _ _ _ c.join.ensures.room c.select_from.ensures.room
+
+pub returns-clause-selects : goal.returns-clause-selects
+returns-clause-selects g c = ?
