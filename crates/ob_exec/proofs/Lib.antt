@@ -19,7 +19,6 @@ pub mod ServeLemmas
 pub mod EmitLemmas
 pub mod ResultParts
 pub mod ResultReads
-pub mod ResultHoles
 pub mod ResultMade
 pub mod ResultRows
 pub mod ResultSteps

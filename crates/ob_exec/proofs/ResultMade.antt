@@ -33,7 +33,6 @@ use Rattle.ob_exec.specs.Engines.{IsFree}
 use Rattle.ob_exec.specs.Memory.{is_make}
 use Rattle.ob_exec.specs.Selecting.{Selection}
 use Rattle.ob_exec.specs.Results.{Planned, planned, fresh_flat, make_part, left_out, held_slots, PlannedToEnd, LacksMemoryOf, MakesResult, placed_as}
-use Rattle.ob_exec.proofs.ResultHoles.{asked_some}
 use Rattle.ob_exec.proofs.ResultParts.{buffered_some}
 use Rattle.ob_exec.specs.Engines.{AreSettings}
 use Rattle.ob_hash.specs.Hashing as HL
@@ -75,7 +74,7 @@ module _ (r : Planned) (old new : World) where
       → MakesResult r (Err e) old new
   made_err e cut never memory gone seals told = record {
     ran = record { ok = tt; err = cut };
-    some = asked_some e _ _ old new cut;
+    some = cut.asks;
     never = λ is. never (cc is);
     memory = λ is. memory (cc is);
     value = tt;
