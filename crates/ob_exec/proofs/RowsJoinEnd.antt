@@ -1,5 +1,5 @@
 -- A SELECT of the rows of a join, once the joined region is gone.
-use Rattle.std.proofs.Common.{◌≡◌, ◌≤◌, ◌+◌, ◌*◌, ℕ, Bool, List, [], ◌∷◌, ◌++◌, length, Option, Some, None, Ok, Err, Result, refl, sym, ◌∙◌, ap, subst, arith}
+use Rattle.std.proofs.Common.{◌≡◌, ◌+◌, ◌*◌, ℕ, Bool, List, [], ◌++◌, length, Option, Some, None, Ok, Err, Result, refl, sym, ◌∙◌, ap, subst, arith}
 use Rattle.std.specs.Prelude.{IsTrue, slice_get}
 use Rattle.std.specs.Option.{option_map_or}
 use Rattle.ob_base.specs.declared.access.Access.{Access}
@@ -9,13 +9,12 @@ use Rattle.ob_base.specs.declared.seen.Seen.{Seen}
 use Rattle.ob_base.specs.declared.skeleton.ColumnName.{ColumnName}
 use Rattle.ob_base.specs.declared.skeleton.Source.{Source}
 use Rattle.ob_base.specs.declared.skeleton.Source.TheVariants.{Join}
-use Rattle.ob_base.specs.Accesses.{makes}
 use Rattle.ob_base.specs.Events.{Event}
 use Rattle.ob_base.specs.Joins.{joined_slots}
 use Rattle.ob_base.specs.Limits.{buffered_blocks}
 use Rattle.ob_base.specs.Numbers.{blocks_for}
 use Rattle.ob_base.specs.Schemas.{Columns, width}
-use Rattle.ob_base.specs.Stored.{Stored, headings, headings_of, heading_at}
+use Rattle.ob_base.specs.Stored.{Stored, headings, heading_at, stored_at}
 use Rattle.ob_script.proofs.Makes.{makes-join_part}
 use Rattle.ob_row.specs.Condition.{Condition}
 use Rattle.ob_row.specs.Results.{joined}
@@ -24,8 +23,9 @@ use Rattle.ob_store.specs.State.{StoreState}
 use Rattle.ob_store.specs.Calls.{Rests}
 use Rattle.ob_store.proofs.Steps.{later_rests}
 use Rattle.ob_vault.specs.State.{RevState, World}
-use Rattle.ob_vault.specs.Calls.{Seals, Went, one}
+use Rattle.ob_vault.specs.Calls.{Went, one}
 use Rattle.ob_vault.specs.VaultCalls.{Forgets}
+use Rattle.ob_vault.specs.declared.vault.Vault.{Vault}
 use Rattle.ob_vault.specs.Places.{at}
 use Rattle.ob_vault.proofs.Runs.{seals_join, went_join, went_wider}
 use Rattle.ob_vault.proofs.WordLemmas.{seals_rests, went_rests}
@@ -53,7 +53,6 @@ use Rattle.ob_exec.proofs.RowsBehind.{behind_ends, behind_halts}
 use Rattle.ob_exec.proofs.RowsJoin.{both_schemas, both_slots, join_asks, join_count, join_least, join_walk}
 use Rattle.ob_exec.proofs.RowsTable.{stated_is}
 use Rattle.ob_exec.proofs.RunLemmas.{next_after}
-use Rattle.ob_vault.specs.declared.vault.Vault.{Vault}
 
 module _ {R : Type 0} (state : R → RevState) (old : Engine R) (s : StoreState) (i j : ℕ) (t u : Table) (a b : List ℕ) (on equals : ColumnName) (select : SelectRows)
     (agrees : Agrees state old s) (get_a : slice_get old.public.tables i ≡ Some t) (get_b : slice_get old.public.tables j ≡ Some u) (named_a : t.heading.name ≡ a) (named_b : u.heading.name ≡ b)
@@ -67,7 +66,7 @@ module _ {R : Type 0} (state : R → RevState) (old : Engine R) (s : StoreState)
   abbrev ready : World
   ready = at state old.vault s1
 
-  abbrev pub after : World
+  abbrev after : World
   after = at state v s2
 
   abbrev g : ℕ
@@ -104,7 +103,7 @@ module _ {R : Type 0} (state : R → RevState) (old : Engine R) (s : StoreState)
 
   -- ---- its slots
   source_is : (tables : Tables) → AreHeld old.public.pack old.public.tables tables before → (x y : Slots)
-      → option_map_or (λ (z : Stored Slots). z.held) (Rattle.ob_base.specs.Stored.stored_at a tables) [] ≡ x → option_map_or (λ (z : Stored Slots). z.held) (Rattle.ob_base.specs.Stored.stored_at b tables) [] ≡ y
+      → option_map_or (λ (z : Stored Slots). z.held) (stored_at a tables) [] ≡ x → option_map_or (λ (z : Stored Slots). z.held) (stored_at b tables) [] ≡ y
       → joined lcol rcol old.room.pack old.room.rows x y ≡ slots_of old.public select tables
   source_is tables held x y left_held right_held =
       let same = held_headings old.public.pack old.public.tables tables before held in
