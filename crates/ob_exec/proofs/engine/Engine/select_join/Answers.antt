@@ -11,10 +11,13 @@ use Rattle.ob_mean.specs.Refusals.{left_place, right_place, source_tables}
 use Rattle.ob_flat.specs.declared.flat.Flat.{Flat}
 use Rattle.ob_mean.specs.Verdict.{is_late}
 use Rattle.ob_mean.proofs.EarlyLemmas.{allowed}
+use Rattle.ob_vault.specs.Places.{at}
 use Rattle.ob_exec.specs.Agreeing.{world_of}
 use Rattle.ob_exec.specs.Engines.{IsAt}
+use Rattle.ob_exec.specs.Selecting.{Selection, SelectsFrom}
 use Rattle.ob_exec.proofs.FoundLemmas.{is_there}
 use Rattle.ob_exec.proofs.RowsJoin.{join_idle, join_may, join_some, join_starts}
+use Rattle.ob_exec.proofs.RowsJoinEnd.{join_ends, join_halts, join_query}
 use Rattle.ob_exec.proofs.RowsNothing.{halts_first}
 use Rattle.ob_exec.proofs.RowsRoom.{lives_after, room_twice}
 use Rattle.ob_exec.proofs.RowsSource.{there_are}
@@ -151,10 +154,74 @@ pub returns-in-Ok-select_from-clause-room : goal.returns-in-Ok-select_from-claus
 returns-in-Ok-select_from-clause-room g c = room_twice c.args.self.now.room c.join.new.room c.select_from.new.room _ _ _ c.join.ensures.room c.select_from.ensures.room
 
 pub returns-in-Ok-select_from-clause-selects : goal.returns-in-Ok-select_from-clause-selects
-returns-in-Ok-select_from-clause-selects g c = ?
+returns-in-Ok-select_from-clause-selects g c =
+    let old = c.args.self.now in
+    let state = g.R.Revisions.state in
+    let s = g.S.BlockStore.state c.args.store.now in
+    let s1 = g.S.BlockStore.state c.room.new.self in
+    let s2 = g.S.BlockStore.state c.join.new.store in
+    let v = c.join.new.vault in
+    let mid = at state v s2 in
+    let end = at state c.select_from.new.vault (g.S.BlockStore.state c.select_from.new.store) in
+    let now = c.select_from.new.seen in
+    let one = c.in-Some.ensures.found in
+    let two = c.in-Some-find_table.ensures.found in
+    let left = subst (λ (ts : List Table). IsAt c.in-Join.left c.in-Some.i one.0 ts) c.as_slice.ensures one.1 in
+    let right = subst (λ (ts : List Table). IsAt c.in-Join.right c.in-Some-find_table.j two.0 ts) c.as_slice-2.ensures two.1 in
+    let left_is = c.flat_at-left.ensures one.0 (ap (λ (ts : List Table). slice_get ts c.in-Some.i) c.as_slice-3.ensures ∙ left.get) in
+    let right_is = c.flat_at-right.ensures two.0 (ap (λ (ts : List Table). slice_get ts c.in-Some-find_table.j) c.as_slice-4.ensures ∙ right.get) in
+    let columns = c.as_slice-columns.ensures.value ∙ ap (λ (f : Flat). f.schema) left_is in
+    let others = c.as_slice-others.ensures.value ∙ ap (λ (f : Flat). f.schema) right_is in
+    let lcol_is = c.left_place-lcol.ensures.value ∙ (λ k. left_place (length (columns k)) (columns k ++ others k) c.in-Join.on c.in-Join.equals) in
+    let rcol_is = c.right_place-rcol.ensures.value ∙ (λ k. right_place (length (columns k)) (columns k ++ others k) c.in-Join.on c.in-Join.equals) in
+    let is = join_query state old s c.in-Some.i c.in-Some-find_table.j one.0 two.0 c.in-Join.left c.in-Join.right c.in-Join.on c.in-Join.equals c.args.select.now c.requires.agrees left.get right.get left.named right.named c.in-Join.is
+    c.flat_at-left.result c.flat_at-right.result left_is right_is c.left_place-lcol.result c.right_place-rcol.result lcol_is rcol_is s1 s2 c.room.ensures.rests v c.in-Ok-join.joined c.in-Ok-join.ensures.joins c.in-Ok-join.ensures.told
+    c.in-Ok.pred c.as_slice-5.result.now c.as_slice-columns.result.now c.as_slice-others.result.now c.as_slice-columns.ensures.value c.as_slice-others.ensures.value c.in-Ok.ensures
+    (c.as_slice-5.ensures.value ∙ c.printed_places-cols.ensures) in
+    let selects = subst (λ (x : Selection). SelectsFrom g.E.Emit.grew g.E.Emit.cut g.E.Emit.faults x (Ok c.in-Ok-select_from.selected) now mid end c.args.out.now c.select_from.new.out) is c.in-Ok-select_from.ensures.selects in
+    let last = at state c.discard.new.vault (g.S.BlockStore.state c.discard.new.store) in
+    record {
+      ended = join_ends state old s c.in-Some.i c.in-Some-find_table.j one.0 two.0 c.in-Join.left c.in-Join.right c.in-Join.on c.in-Join.equals c.args.select.now c.requires.agrees left.get right.get left.named right.named c.in-Join.is
+    c.flat_at-left.result c.flat_at-right.result left_is right_is c.left_place-lcol.result c.right_place-rcol.result lcol_is rcol_is s1 s2 c.room.ensures.rests v c.in-Ok-join.joined c.in-Ok-join.ensures.joins c.in-Ok-join.ensures.told
+          g.E.Emit.grew g.E.Emit.cut g.E.Emit.faults now c.args.out.now c.select_from.new.out end last c.in-Ok-select_from.selected c.discard.result selects c.discard.ensures.discards;
+      halted = tt;
+      sink = selects.sink;
+    }
 
 pub returns-clause-room : goal.returns-clause-room
 returns-clause-room g c = room_twice c.args.self.now.room c.join.new.room c.select_from.new.room _ _ _ c.join.ensures.room c.select_from.ensures.room
 
 pub returns-clause-selects : goal.returns-clause-selects
-returns-clause-selects g c = ?
+returns-clause-selects g c =
+    let old = c.args.self.now in
+    let state = g.R.Revisions.state in
+    let s = g.S.BlockStore.state c.args.store.now in
+    let s1 = g.S.BlockStore.state c.room.new.self in
+    let s2 = g.S.BlockStore.state c.join.new.store in
+    let v = c.join.new.vault in
+    let mid = at state v s2 in
+    let end = at state c.select_from.new.vault (g.S.BlockStore.state c.select_from.new.store) in
+    let now = c.select_from.new.seen in
+    let one = c.in-Some.ensures.found in
+    let two = c.in-Some-find_table.ensures.found in
+    let left = subst (λ (ts : List Table). IsAt c.in-Join.left c.in-Some.i one.0 ts) c.as_slice.ensures one.1 in
+    let right = subst (λ (ts : List Table). IsAt c.in-Join.right c.in-Some-find_table.j two.0 ts) c.as_slice-2.ensures two.1 in
+    let left_is = c.flat_at-left.ensures one.0 (ap (λ (ts : List Table). slice_get ts c.in-Some.i) c.as_slice-3.ensures ∙ left.get) in
+    let right_is = c.flat_at-right.ensures two.0 (ap (λ (ts : List Table). slice_get ts c.in-Some-find_table.j) c.as_slice-4.ensures ∙ right.get) in
+    let columns = c.as_slice-columns.ensures.value ∙ ap (λ (f : Flat). f.schema) left_is in
+    let others = c.as_slice-others.ensures.value ∙ ap (λ (f : Flat). f.schema) right_is in
+    let lcol_is = c.left_place-lcol.ensures.value ∙ (λ k. left_place (length (columns k)) (columns k ++ others k) c.in-Join.on c.in-Join.equals) in
+    let rcol_is = c.right_place-rcol.ensures.value ∙ (λ k. right_place (length (columns k)) (columns k ++ others k) c.in-Join.on c.in-Join.equals) in
+    let is = join_query state old s c.in-Some.i c.in-Some-find_table.j one.0 two.0 c.in-Join.left c.in-Join.right c.in-Join.on c.in-Join.equals c.args.select.now c.requires.agrees left.get right.get left.named right.named c.in-Join.is
+    c.flat_at-left.result c.flat_at-right.result left_is right_is c.left_place-lcol.result c.right_place-rcol.result lcol_is rcol_is s1 s2 c.room.ensures.rests v c.in-Ok-join.joined c.in-Ok-join.ensures.joins c.in-Ok-join.ensures.told
+    c.in-Ok.pred c.as_slice-5.result.now c.as_slice-columns.result.now c.as_slice-others.result.now c.as_slice-columns.ensures.value c.as_slice-others.ensures.value c.in-Ok.ensures
+    (c.as_slice-5.ensures.value ∙ c.printed_places-cols.ensures) in
+    let selects = subst (λ (x : Selection). SelectsFrom g.E.Emit.grew g.E.Emit.cut g.E.Emit.faults x (Err c.in-Err-select_from.error) now mid end c.args.out.now c.select_from.new.out) is c.in-Err-select_from.ensures.selects in
+    let last = at state c.forget.new.self (g.S.BlockStore.state c.select_from.new.store) in
+    record {
+      ended = tt;
+      halted = join_halts state old s c.in-Some.i c.in-Some-find_table.j one.0 two.0 c.in-Join.left c.in-Join.right c.in-Join.on c.in-Join.equals c.args.select.now c.requires.agrees left.get right.get left.named right.named c.in-Join.is
+    c.flat_at-left.result c.flat_at-right.result left_is right_is c.left_place-lcol.result c.right_place-rcol.result lcol_is rcol_is s1 s2 c.room.ensures.rests v c.in-Ok-join.joined c.in-Ok-join.ensures.joins c.in-Ok-join.ensures.told
+          g.E.Emit.grew g.E.Emit.cut g.E.Emit.faults now c.args.out.now c.select_from.new.out end last c.in-Err-select_from.error selects (c.forget.ensures.forgets (g.S.BlockStore.state c.select_from.new.store)) refl;
+      sink = selects.sink;
+    }
