@@ -23,19 +23,19 @@ module _ {R : Type 0} (state : R → RevState) (m0 m1 m2 : Machine R) (text : Li
       let p = public_of m0.engine in
       let sk = skeleton did.stmt in
       let here = seen_of m1.engine in
-      let public_is : public_of m1.engine ≡ next p sk here = did.ran.goes_on.public in
-      let asked_is : length m1.store.asked ≡ length m0.store.asked + length (script p sk here) = ap length did.ran.asked ∙ length-append m0.store.asked (script p sk here) in
+      let public_is : public_of m1.engine ≡ next p sk here = did.does.ran.goes_on.public in
+      let asked_is : length m1.store.asked ≡ length m0.store.asked + length (script p sk here) = ap length did.does.ran.asked ∙ length-append m0.store.asked (script p sk here) in
       record {
         stmts = did.stmt ∷ rest.stmts;
         spelt = inr (did.stmt, rest.stmts, refl, did.spells, rest.spelt);
         seen = record { skeleton = sk; seen = here } ∷ rest.seen;
         lawful = (
           refl,
-          did.lawful,
+          did.does.lawful,
           subst (λ (q : Public). AreLawful q (length m0.store.asked + length (script p sk here)) rest.stmts rest.seen) public_is
               (subst (λ (n : ℕ). AreLawful (public_of m1.engine) n rest.stmts rest.seen) asked_is rest.lawful),
         );
-        asked = rest.asked ∙ (λ i. did.ran.asked i ++ trace (public_is i) rest.seen) ∙ append_assoc m0.store.asked (script p sk here) _;
+        asked = rest.asked ∙ (λ i. did.does.ran.asked i ++ trace (public_is i) rest.seen) ∙ append_assoc m0.store.asked (script p sk here) _;
       }
 
   asks_more : Step state m0 m1 text one → Asks m1 m2 texts → Asks m0 m2 (text ∷ texts)

@@ -1,16 +1,10 @@
 -- The first changed block that is read ends the run, or its tag fits.
-use Rattle.std.proofs.Common.{◌≡◌, ℕ, Bool, true, false, List, [], ◌∷◌, None, Ok, Err, Result, inl, inr, sym, subst}
-use Rattle.ob_base.specs.declared.refusal.Refusal.{Refusal}
-use Rattle.ob_base.specs.Counts.{Rises}
-use Rattle.ob_base.specs.Refusals.{is_store_fault}
-use Rattle.ob_exec.specs.Refusals.{by_fault}
+use Rattle.std.proofs.Common.{◌≡◌, ℕ, Bool, List, [], ◌∷◌, None, Ok, Err, Result, inl, inr, sym, subst}
 use Rattle.ob_base.specs.declared.refusal.Stop.{Stop}
 use Rattle.ob_base.specs.declared.refusal.Stop.TheVariants.{Tampered, SourceFault, SinkFault, NoMemory, InputLimit}
 use Rattle.ob_exec.specs.Agreeing.{world_of}
-use Rattle.ob_exec.specs.Running.{RunCause, refused_cause}
+use Rattle.ob_exec.specs.Running.{RunCause}
 use Rattle.ob_exec.specs.declared.engine.Engine.{Engine}
-use Rattle.ob_exec.specs.declared.outcome.Outcome.{Outcome}
-use Rattle.ob_exec.specs.declared.outcome.Outcome.TheVariants.{Created, Inserted, Changed, Deleted, Dropped, Rows, Refused}
 use Rattle.ob_shell.specs.Running.{LastPart}
 use Rattle.ob_shell.specs.Steps.{Machine, Answer, Step, Steps}
 use Rattle.ob_shell.specs.Top.{MeetsChange}
@@ -18,21 +12,6 @@ use Rattle.ob_shell.specs.declared.top.Ending.TheVariants.{Ran as RanEnding}
 use Rattle.ob_store.specs.State.{StoreState}
 use Rattle.ob_vault.specs.State.{RevState, World}
 use Rattle.ob_vault.specs.Tied.{Calm}
-
-refused_calm : (r : Refusal) (a b : World) → refused_cause r a b → Calm a → Calm b
-refused_calm r a b cause = go (is_store_fault r) cause where
-  go : (failed : Bool) → by_fault failed (Rises a.store.faults b.store.faults × (Calm a → Calm b)) ((b.store.faults ≡ a.store.faults) × (Calm a → Calm b)) → Calm a → Calm b
-  go true cause = cause.1
-  go false cause = cause.1
-
-outcome_calm : (o : Outcome) (a b : World) → RunCause (Ok o) a b → Calm a → Calm b
-outcome_calm (Refused r) a b cause = refused_calm r a b cause
-outcome_calm Created a b cause = cause.1
-outcome_calm Inserted a b cause = cause.1
-outcome_calm (Changed n) a b cause = cause.1
-outcome_calm (Deleted n) a b cause = cause.1
-outcome_calm Dropped a b cause = cause.1
-outcome_calm (Rows k) a b cause = cause.1
 
 -- after a stop
 met : (stop : Stop) (w : World) → Calm w → MeetsChange (RanEnding (Err stop)) w
@@ -56,7 +35,7 @@ module _ {R : Type 0} (state : R → RevState) where
   pub step_calm : (m0 m1 : Machine R) (text : List ℕ) (answer : Answer) → Step state m0 m1 text answer → IsCalm m0 → IsCalm m1
   step_calm m0 m1 text answer step calm = elim step.done [
     | inl bad ↦ subst (λ (m : Machine R). IsCalm m) (sym bad.same) calm
-    | inr did ↦ outcome_calm answer.outcome _ _ did.ran.cause calm
+    | inr did ↦ did.does.ran.cause.1 calm
   ]
 
   pub steps_calm : (m0 m2 : Machine R) (texts : List (List ℕ)) (answers : List Answer) → Steps state m0 m2 texts answers → IsCalm m0 → IsCalm m2
@@ -69,7 +48,7 @@ module _ {R : Type 0} (state : R → RevState) where
   last_met m1 m2 more part (Ok flag) rests calm = subst (λ (m : Machine R). IsCalm m) (sym rests.machine) calm
   last_met m1 m2 [] part (Err stop) rests calm = met stop _ (subst (λ (m : Machine R). IsCalm m) (sym rests.rests.machine) calm)
   last_met m1 m2 (text ∷ more) part (Err stop) (inl rests) calm = met stop _ (subst (λ (m : Machine R). IsCalm m) (sym rests.rests.machine) calm)
-  last_met m1 m2 (text ∷ more) part (Err stop) (inr (inl cut)) calm = stop_met stop _ _ cut.ran.cause calm
+  last_met m1 m2 (text ∷ more) part (Err stop) (inr (inl cut)) calm = stop_met stop _ _ cut.does.ran.cause calm
   last_met m1 m2 (text ∷ more) part (Err stop) (inr (inr done)) calm = met stop _ (step_calm m1 m2 text done.answer done.step calm)
 
 -- no block was read yet

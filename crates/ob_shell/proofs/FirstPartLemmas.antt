@@ -1,71 +1,151 @@
--- What a statement asks of any store is a first part of what its meaning asks.
-use Rattle.std.proofs.Common.{◌≡◌, ◌≤◌, ℕ, List, [], length, drop, Option, Some, None, Result, refl, sym, ap, subst, arith, append-nil}
+-- What a statement asks is a first part of what its meaning asks.
+use Rattle.std.proofs.Common.{◌≡◌, ◌≤◌, ◌-◌, ℕ, Bool, true, false, cond, List, [], ◌∷◌, length, drop, Option, Some, None, Ok, Err, Result, refl, sym, ◌∙◌, ap, subst, arith, append-nil}
 use Rattle.std.proofs.lemmas.List.{length-append, take-append-drop}
 use Rattle.ob_base.specs.declared.access.Access.{Access}
+use Rattle.ob_base.specs.declared.config.Plan.{Plan}
+use Rattle.ob_base.specs.declared.config.Plan.TheVariants.{Small, Large, Continuous, Hash}
 use Rattle.ob_base.specs.declared.config.Public.{Public}
 use Rattle.ob_base.specs.declared.refusal.Refusal.{Refusal}
 use Rattle.ob_base.specs.declared.refusal.Stop.{Stop}
+use Rattle.ob_base.specs.declared.schema.Heading.{Heading}
 use Rattle.ob_base.specs.declared.seen.End.{End}
 use Rattle.ob_base.specs.declared.seen.End.TheVariants.{Static, Whole, AfterCount, Cut}
 use Rattle.ob_base.specs.declared.seen.Seen.{Seen}
-use Rattle.ob_exec.specs.Running.{RefusedEarly, refusal_now}
-use Rattle.ob_exec.specs.Serving.{IsServed, IsCount, count_of}
-use Rattle.ob_exec.specs.Telling.{AreHeld}
+use Rattle.ob_base.specs.Stored.{headings}
+use Rattle.ob_exec.specs.Agreeing.{public_of, seen_of, world_of}
+use Rattle.ob_exec.specs.Running.{RefusedEarly, is_fault, refusal_now}
+use Rattle.ob_exec.specs.Telling.{AreHeld, ReadsTrueUntil, Told, is_refused}
 use Rattle.ob_exec.specs.declared.outcome.Outcome.{Outcome}
-use Rattle.ob_exec.proofs.ToldLemmas.{early_held}
-use Rattle.ob_mean.specs.Verdict.{Tables, seen, ended}
+use Rattle.ob_exec.proofs.EmitLemmas.{unfit_none}
+use Rattle.ob_exec.proofs.HeldLemmas.{held_headings}
+use Rattle.ob_mean.specs.Lawful.{is_counted}
+use Rattle.ob_mean.specs.Refusals.{early_refusal}
+use Rattle.ob_mean.specs.Replay.{cut_at}
+use Rattle.ob_mean.specs.Verdict.{Tables, counted, ended, is_late, seen, seen_rows, seen_started, seen_with}
 use Rattle.ob_mean.proofs.VerdictLemmas.{seen_late}
 use Rattle.ob_script.specs.Script.{script, until_end, whole_script}
 use Rattle.ob_shell.specs.Disturbed.{Begins}
+use Rattle.ob_shell.specs.Steps.{Machine, Does}
+use Rattle.ob_shell.proofs.CutLemmas.{cut_begins}
+use Rattle.ob_shell.proofs.ReplayLemmas.{cut_early}
 use Rattle.ob_sql.specs.Skeleton.{skeleton}
-use Rattle.ob_sql.specs.declared.stmt.SelectTotals.{SelectTotals}
 use Rattle.ob_sql.specs.declared.stmt.Stmt.{Stmt}
 use Rattle.ob_sql.specs.declared.stmt.Stmt.TheVariants.{Create, Insert, Update, Delete, Drop as DropTable, SelectRows as RowsStmt, SelectTotals as TotalsStmt}
-use Rattle.ob_vault.specs.State.{World}
+use Rattle.ob_vault.specs.State.{RevState, World}
 
 pub begins_length : (part whole : List Access) → Begins part whole → length part ≤ length whole
 begins_length part whole b = omega (arith, ap length b.joined, length-append part b.rest)
 
+begins_all : (all : List Access) → Begins all all
+begins_all all = record { rest = []; joined = sym (append-nil all) }
+
 first_of_whole : (end : End) (all : List Access) → Begins (until_end end all) all
 first_of_whole Static all = record { rest = all; joined = refl }
-first_of_whole Whole all = record { rest = []; joined = sym (append-nil all) }
-first_of_whole AfterCount all = record { rest = []; joined = sym (append-nil all) }
+first_of_whole Whole all = begins_all all
+first_of_whole AfterCount all = begins_all all
 first_of_whole (Cut n) all = record { rest = drop n all; joined = sym (take-append-drop n all) }
 
--- a SELECT that is served is a count
-count_stmt : (q : SelectTotals) → IsCount q → TotalsStmt q ≡ count_of q.table
-count_stmt q count = λ i. TotalsStmt (record { items = count.items i; table = q.table; cond = count.everything i; group = count.ungrouped i })
-
+-- ---- a statement that is no SELECT of rows, over any store
 module _ (p : Public) (m : ℕ) (tables : Tables) (w : World) (held : AreHeld p.pack p.tables tables w) where
   -- all accesses are the same, whatever is seen, and the meaning's go to their end
-  whole_of : (stmt : Stmt) (here : Seen) → seen p m tables stmt ≡ ended Whole → whole_script p (skeleton stmt) here ≡ whole_script p (skeleton stmt) (ended Whole)
-      → Begins (script p (skeleton stmt) here) (script p (skeleton stmt) (seen p m tables stmt))
-  whole_of stmt here meant same =
+  whole_of : (stmt : Stmt) (here : Seen) → seen_started p tables stmt ≡ ended Whole → whole_script p (skeleton stmt) here ≡ whole_script p (skeleton stmt) (ended Whole)
+      → refusal_now p m stmt ≡ None → Begins (script p (skeleton stmt) here) (script p (skeleton stmt) (seen p m tables stmt))
+  whole_of stmt here kind same now =
+      let early = ap (λ (hs : List Heading). early_refusal (is_late m) p.pack p.buffer hs stmt) (held_headings p.pack p.tables tables w held) ∙ now in
+      let meant : seen p m tables stmt ≡ ended Whole = seen_late p m tables stmt early ∙ kind in
       subst (λ (x : Seen). Begins (script p (skeleton stmt) here) (script p (skeleton stmt) x)) (sym meant)
       (subst (λ (all : List Access). Begins (until_end here.end all) (whole_script p (skeleton stmt) (ended Whole))) (sym same) (first_of_whole here.end _))
 
-  served_late : (stmt : Stmt) (here : Seen) → IsServed stmt → refusal_now p m stmt ≡ None → Begins (script p (skeleton stmt) here) (script p (skeleton stmt) (seen p m tables stmt))
-  served_late (Create table columns capacity) here served now =
-      whole_of (Create table columns capacity) here (seen_late p m tables (Create table columns capacity) (early_held p m (Create table columns capacity) tables w None held now)) refl
-  served_late (Insert table columns values) here served now =
-      whole_of (Insert table columns values) here (seen_late p m tables (Insert table columns values) (early_held p m (Insert table columns values) tables w None held now)) refl
-  served_late (Update table sets cond) here served now = absurd served
-  served_late (Delete table cond) here served now = absurd served
-  served_late (DropTable table) here served now = absurd served
-  served_late (RowsStmt q) here served now = absurd served
-  served_late (TotalsStmt q) here served now =
-      let count = count_stmt q served in
-      let now_there : refusal_now p m (count_of q.table) ≡ None = subst (λ (stmt : Stmt). refusal_now p m stmt ≡ None) count now in
-      subst (λ (stmt : Stmt). Begins (script p (skeleton stmt) here) (script p (skeleton stmt) (seen p m tables stmt))) (sym count)
-      (whole_of (count_of q.table) here (seen_late p m tables (count_of q.table) (early_held p m (count_of q.table) tables w None held now_there)) refl)
+  begins_late : (stmt : Stmt) (here : Seen) → is_counted stmt ≡ false → refusal_now p m stmt ≡ None → Begins (script p (skeleton stmt) here) (script p (skeleton stmt) (seen p m tables stmt))
+  begins_late (Create table columns capacity) here kind now = whole_of (Create table columns capacity) here refl refl now
+  begins_late (Insert table columns values) here kind now = whole_of (Insert table columns values) here refl refl now
+  begins_late (Update table sets cond) here kind now = whole_of (Update table sets cond) here refl refl now
+  begins_late (Delete table cond) here kind now = whole_of (Delete table cond) here refl refl now
+  begins_late (DropTable table) here kind now = whole_of (DropTable table) here refl refl now
+  begins_late (TotalsStmt q) here kind now = whole_of (TotalsStmt q) here refl refl now
+  begins_late (RowsStmt q) here kind now = absurd (cc kind)
 
-  served_by : (o : Option Refusal) (stmt : Stmt) (result : Result Outcome Stop) (here : Seen) → IsServed stmt → refusal_now p m stmt ≡ o → RefusedEarly o result here
+  begins_by : (o : Option Refusal) (stmt : Stmt) (result : Result Outcome Stop) (here : Seen) → is_counted stmt ≡ false → refusal_now p m stmt ≡ o → RefusedEarly o result here
       → Begins (script p (skeleton stmt) here) (script p (skeleton stmt) (seen p m tables stmt))
-  served_by (Some r) stmt result here served now early =
+  begins_by (Some r) stmt result here kind now early =
       subst (λ (x : Seen). Begins (script p (skeleton stmt) x) (script p (skeleton stmt) (seen p m tables stmt))) (sym early.1)
       (record { rest = script p (skeleton stmt) (seen p m tables stmt); joined = refl })
-  served_by None stmt result here served now early = served_late stmt here served now
+  begins_by None stmt result here kind now early = begins_late stmt here kind now
 
-  pub begins_meant : (stmt : Stmt) (result : Result Outcome Stop) (here : Seen) → IsServed stmt → RefusedEarly (refusal_now p m stmt) result here
+  pub begins_meant : (stmt : Stmt) (result : Result Outcome Stop) (here : Seen) → is_counted stmt ≡ false → RefusedEarly (refusal_now p m stmt) result here
       → Begins (script p (skeleton stmt) here) (script p (skeleton stmt) (seen p m tables stmt))
-  begins_meant stmt result here served early = served_by (refusal_now p m stmt) stmt result here served refl early
+  begins_meant stmt result here kind early = begins_by (refusal_now p m stmt) stmt result here kind refl early
+
+-- ---- any statement, while what is read was written there
+-- the meaning of a statement that isn't refused early asks all of it
+abbrev IsToEnd : End → Type 0
+IsToEnd Static = ⊥
+IsToEnd Whole = Unit {0}
+IsToEnd AfterCount = Unit {0}
+IsToEnd (Cut n) = ⊥
+
+with_ends : (p : Public) (plan : Plan) (places : List ℕ) → IsToEnd (seen_with p plan places).end
+with_ends p Small places = tt
+with_ends p Large places = tt
+with_ends p Hash places = tt
+with_ends p Continuous places = go _ where
+  go : (b : Bool) → IsToEnd (cond b (counted (length places) (Some Continuous) None Whole) (counted (length places) None None AfterCount)).end
+  go true = tt
+  go false = tt
+
+rows_end : (p : Public) (n : ℕ) (places : List ℕ) → IsToEnd (seen_rows p n places).end
+rows_end p n [] = tt
+rows_end p n (i ∷ is) = with_ends p _ (i ∷ is)
+
+started_ends : (p : Public) (tables : Tables) (stmt : Stmt) → IsToEnd (seen_started p tables stmt).end
+started_ends p tables (Create table columns capacity) = tt
+started_ends p tables (Insert table columns values) = tt
+started_ends p tables (Update table sets cond) = tt
+started_ends p tables (Delete table cond) = tt
+started_ends p tables (DropTable table) = tt
+started_ends p tables (TotalsStmt q) = tt
+started_ends p tables (RowsStmt q) = rows_end p _ _
+
+to_end : (end : End) (all : List Access) → IsToEnd end → until_end end all ≡ all
+to_end Static all ends = absurd ends
+to_end Whole all ends = refl
+to_end AfterCount all ends = refl
+to_end (Cut n) all ends = absurd ends
+
+-- what was asked of a statement that was cut off after n accesses is a first part of what its meaning asks
+pub begins_cut : (p : Public) (m : ℕ) (tables : Tables) (stmt : Stmt) (failed : Bool) (n : ℕ) → early_refusal (is_late m) p.pack p.buffer (headings tables) stmt ≡ None
+    → Begins (script p (skeleton stmt) (cut_at failed n p (skeleton stmt) (seen p m tables stmt))) (script p (skeleton stmt) (seen p m tables stmt))
+begins_cut p m tables stmt failed n early =
+    let sk = skeleton stmt in
+    let meant = seen p m tables stmt in
+    let ends : IsToEnd meant.end = subst (λ (x : Seen). IsToEnd x.end) (sym (seen_late p m tables stmt early)) (started_ends p tables stmt) in
+    subst (λ (all : List Access). Begins (script p sk (cut_at failed n p sk meant)) all) (sym (to_end meant.end (whole_script p sk meant) ends)) (cut_begins failed n p sk meant)
+
+module _ {R : Type 0} (state : R → RevState) (m0 m1 : Machine R) (tables : Tables) (stmt : Stmt) where
+  abbrev meant : Seen
+  meant = seen (public_of m0.engine) (length m0.store.asked) tables stmt
+
+  abbrev IsFirstPart : Type 0
+  IsFirstPart = Begins (script (public_of m0.engine) (skeleton stmt) (seen_of m1.engine)) (script (public_of m0.engine) (skeleton stmt) meant)
+
+  as_meant : seen_of m1.engine ≡ meant → IsFirstPart
+  as_meant is = subst (λ (x : Seen). Begins (script (public_of m0.engine) (skeleton stmt) x) (script (public_of m0.engine) (skeleton stmt) meant)) (sym is) (begins_all _)
+
+  module _ (result : Result Outcome Stop) (does : Does state m0 m1 stmt result) (reads : ReadsTrueUntil state m0.engine m0.store m1.engine m1.store tables) where
+    as_cut : (failed : Bool) (n : ℕ) → seen_of m1.engine ≡ cut_at failed n (public_of m0.engine) (skeleton stmt) meant → IsFirstPart
+    as_cut failed n is =
+        let p = public_of m0.engine in
+        let sk = skeleton stmt in
+        subst (λ (x : Seen). Begins (script p sk x) (script p sk meant)) (sym is)
+        (begins_cut p (length m0.store.asked) tables stmt failed n (cut_early state m0 m1 tables stmt result does failed n is reads.held))
+
+  as_told : (failed : Bool) (outcome : Outcome) → Does state m0 m1 stmt (Ok outcome) → ReadsTrueUntil state m0.engine m0.store m1.engine m1.store tables → is_fault outcome ≡ failed
+      → Told state stmt (length m0.store.asked) tables outcome m0.engine m1.engine m1.store → IsFirstPart
+  as_told true outcome does reads e told = as_cut (Ok outcome) does reads true _ (rw e at told).seen
+  as_told false outcome does reads e told = as_meant (rw e at told).seen
+
+  pub begins_truly : (result : Result Outcome Stop) → Does state m0 m1 stmt result → ReadsTrueUntil state m0.engine m0.store m1.engine m1.store tables → IsFirstPart
+  begins_truly (Ok outcome) does reads =
+      let none = unfit_none (world_of state m1.engine m1.store) (does.ran.cause.1 reads.calm) reads.unfit in
+      as_told (is_fault outcome) outcome does reads refl (does.means.told tables (record { tells = reads.tells; held = reads.held; nolie = none }))
+  begins_truly (Err stop) does reads = as_cut (Err stop) does reads (is_refused stop) _ (does.means.held tables reads)

@@ -25,9 +25,9 @@ module _ {R : Type 0} (state : R → RevState) (config : Config) where
   step_sizes m0 m1 text answer step sizes = elim step.done [
     | inl bad ↦ subst (λ (m : Machine R). HasSizes config m) (sym bad.same) sizes
     | inr did ↦ record {
-      pack = ap (λ (p : Public). p.pack) did.ran.goes_on.public ∙ sizes.pack;
-      buffer = ap (λ (p : Public). p.buffer) did.ran.goes_on.public ∙ sizes.buffer;
-      rows = did.ran.room.rows ∙ sizes.buffer;
+      pack = ap (λ (p : Public). p.pack) did.does.ran.goes_on.public ∙ sizes.pack;
+      buffer = ap (λ (p : Public). p.buffer) did.does.ran.goes_on.public ∙ sizes.buffer;
+      rows = did.does.ran.room.rows ∙ sizes.buffer;
     }
   ]
 
@@ -40,7 +40,7 @@ module _ {R : Type 0} (state : R → RevState) (config : Config) where
   last_rows m1 m2 more part (Ok flag) rests sizes = ap (λ (m : Machine R). rows_of m.engine) rests.machine ∙ sizes.rows
   last_rows m1 m2 [] part (Err stop) rests sizes = ap (λ (m : Machine R). rows_of m.engine) rests.rests.machine ∙ sizes.rows
   last_rows m1 m2 (text ∷ more) part (Err stop) (inl rests) sizes = ap (λ (m : Machine R). rows_of m.engine) rests.rests.machine ∙ sizes.rows
-  last_rows m1 m2 (text ∷ more) part (Err stop) (inr (inl cut)) sizes = cut.ran.room.rows ∙ sizes.buffer
+  last_rows m1 m2 (text ∷ more) part (Err stop) (inr (inl cut)) sizes = cut.does.ran.room.rows ∙ sizes.buffer
   last_rows m1 m2 (text ∷ more) part (Err stop) (inr (inr done)) sizes = (step_sizes m1 m2 text done.answer done.step sizes).rows
 
   -- ---- blocks
@@ -54,7 +54,7 @@ module _ {R : Type 0} (state : R → RevState) (config : Config) where
     step_sealed : (m0 m1 : Machine R) (text : List ℕ) (answer : Answer) → Step state m0 m1 text answer → HasSizes config m0 → IsTrue m0.store.tells → IsSealed m0 → IsSealed m1
     step_sealed m0 m1 text answer step sizes tells all = elim step.done [
       | inl bad ↦ subst (λ (m : Machine R). IsSealed m) (sym bad.same) all
-      | inr did ↦ (did.sealed good (accepts_at m0 sizes)).seals tells all
+      | inr did ↦ (did.does.seals good (accepts_at m0 sizes)).seals tells all
     ]
 
     pub steps_sealed : (m0 m2 : Machine R) (texts : List (List ℕ)) (answers : List Answer) → Steps state m0 m2 texts answers → HasSizes config m0 → IsTrue m0.store.tells → IsSealed m0 → IsSealed m2
@@ -69,7 +69,7 @@ module _ {R : Type 0} (state : R → RevState) (config : Config) where
     last_sealed m1 m2 more part (Ok flag) rests sizes tells all = subst (λ (m : Machine R). IsSealed m) (sym rests.machine) all
     last_sealed m1 m2 [] part (Err stop) rests sizes tells all = subst (λ (m : Machine R). IsSealed m) (sym rests.rests.machine) all
     last_sealed m1 m2 (text ∷ more) part (Err stop) (inl rests) sizes tells all = subst (λ (m : Machine R). IsSealed m) (sym rests.rests.machine) all
-    last_sealed m1 m2 (text ∷ more) part (Err stop) (inr (inl cut)) sizes tells all = (cut.sealed good (accepts_at m1 sizes)).seals tells all
+    last_sealed m1 m2 (text ∷ more) part (Err stop) (inr (inl cut)) sizes tells all = (cut.does.seals good (accepts_at m1 sizes)).seals tells all
     last_sealed m1 m2 (text ∷ more) part (Err stop) (inr (inr done)) sizes tells all = step_sealed m1 m2 text done.answer done.step sizes tells all
 
 module _ {R : Type 0} (state : R → RevState) where

@@ -12,7 +12,7 @@ module _ {R : Type 0} (state : R → RevState) where
   same m0 m1 is = subst (λ (m : Machine R). Later m0.store m.store) (sym is) (later_refl m0.store)
 
   pub step_later : (m0 m1 : Machine R) (text : List ℕ) (answer : Answer) → Step state m0 m1 text answer → Later m0.store m1.store
-  step_later m0 m1 text answer step = elim step.done [ inl bad ↦ same m0 m1 bad.same | inr did ↦ did.ran.later ]
+  step_later m0 m1 text answer step = elim step.done [ inl bad ↦ same m0 m1 bad.same | inr did ↦ did.does.ran.later ]
 
   pub steps_later : (m0 m2 : Machine R) (texts : List (List ℕ)) (answers : List Answer) → Steps state m0 m2 texts answers → Later m0.store m2.store
   unfolding Steps
@@ -24,5 +24,5 @@ module _ {R : Type 0} (state : R → RevState) where
   last_later m1 m2 more part (Ok flag) rests = same m1 m2 rests.machine
   last_later m1 m2 [] part (Err stop) rests = same m1 m2 rests.rests.machine
   last_later m1 m2 (text ∷ more) part (Err stop) (inl rests) = same m1 m2 rests.rests.machine
-  last_later m1 m2 (text ∷ more) part (Err stop) (inr (inl cut)) = cut.ran.later
+  last_later m1 m2 (text ∷ more) part (Err stop) (inr (inl cut)) = cut.does.ran.later
   last_later m1 m2 (text ∷ more) part (Err stop) (inr (inr done)) = step_later m1 m2 text done.answer done.step

@@ -23,5 +23,6 @@ pub mod DisturbLemmas
 pub mod MeddleLemmas
 pub mod WholeLemmas
 pub mod RerunLemmas
+pub mod CutLemmas
 mod Spelt
 mod NumberLemmas

@@ -21,7 +21,7 @@ module _ {R : Type 0} (state : R → RevState) where
   step_keeps : (m0 m1 : Machine R) (text : List ℕ) (answer : Answer) → Step state m0 m1 text answer → Keeps m0 m1
   step_keeps m0 m1 text answer step = elim step.done [
     | inl bad ↦ keeps_same m0 m1 bad.same
-    | inr did ↦ record { keys = did.ran.keys; lie = did.ran.later.lie }
+    | inr did ↦ record { keys = did.does.ran.keys; lie = did.does.ran.later.lie }
   ]
 
   pub steps_keep : (m0 m2 : Machine R) (texts : List (List ℕ)) (answers : List Answer) → Steps state m0 m2 texts answers → m2.engine.vault.keys ≡ m0.engine.vault.keys
@@ -33,7 +33,7 @@ module _ {R : Type 0} (state : R → RevState) where
   last_keeps m1 m2 more part (Ok flag) rests = keeps_same m1 m2 rests.machine
   last_keeps m1 m2 [] part (Err stop) rests = keeps_same m1 m2 rests.rests.machine
   last_keeps m1 m2 (text ∷ more) part (Err stop) (inl rests) = keeps_same m1 m2 rests.rests.machine
-  last_keeps m1 m2 (text ∷ more) part (Err stop) (inr (inl cut)) = record { keys = cut.ran.keys; lie = cut.ran.later.lie }
+  last_keeps m1 m2 (text ∷ more) part (Err stop) (inr (inl cut)) = record { keys = cut.does.ran.keys; lie = cut.does.ran.later.lie }
   last_keeps m1 m2 (text ∷ more) part (Err stop) (inr (inr done)) = step_keeps m1 m2 text done.answer done.step
 
   pub last_keys : (m1 m2 : Machine R) (more : List (List ℕ)) (part : List ℕ) (result : Result Bool Stop) → LastPart state m1 m2 more part result → m2.engine.vault.keys ≡ m1.engine.vault.keys

@@ -1,5 +1,5 @@
 -- What the changes of a store do to a run.
-use Rattle.std.proofs.Common.{◌≡◌, ◌≢◌, ◌≤◌, ◌++◌, ℕ, Bool, true, false, not, IsTrue, List, [], ◌∷◌, length, Option, Some, Ok, Err, inl, inr, refl, sym, ◌∙◌, ap, subst, arith}
+use Rattle.std.proofs.Common.{◌≡◌, ◌≢◌, ◌≤◌, ◌++◌, ℕ, Bool, true, false, not, IsTrue, List, [], ◌∷◌, length, Option, None, Some, Ok, Err, ◌⊎◌, inl, inr, refl, sym, ◌∙◌, ap, subst, arith}
 use Rattle.std.specs.List.{list_all}
 use Rattle.std.specs.Prelude.{nat_lt, ⊤}
 use Rattle.std.proofs.lemmas.List.Folds.{list_all-map}
@@ -26,7 +26,7 @@ use Rattle.ob_meddle.specs.declared.meddle.Meddle.{Meddle}
 use Rattle.ob_parse.proofs.GoodStatements.{any_end, good_statement}
 use Rattle.ob_parse.specs.StatementReading.{statement}
 use Rattle.ob_parse.specs.Statements.{Statement}
-use Rattle.ob_shell.specs.Disturbed.{AskedInAll}
+use Rattle.ob_shell.specs.Disturbed.{AskedInAll, SelectsWithin}
 use Rattle.ob_shell.specs.Endings.{status_of}
 use Rattle.ob_shell.specs.Failures.{failures, RisesBy}
 use Rattle.ob_shell.specs.Running.{Faults, SinksRose}
@@ -92,18 +92,18 @@ none_rose n faults rose = omega (arith, rose)
 -- no table is held where none is public
 nothing_held : {R : Type 0} (state : R → RevState) (first : Engine R) (s : StoreState) (p : Public) → public_of first ≡ p → p.tables ≡ [] → Represents state first s []
 nothing_held state first s p is none =
-    record { held = subst (λ (q : Public). AreHeld q.pack q.tables [] (world_of state first s)) (sym is) (subst (λ (ts : List Table). AreHeld p.pack ts [] (world_of state first s)) (sym none) tt) }
+    record { held = subst (λ (q : Public). AreHeld q.pack q.tables [] (world_of state first s)) (sym is) (subst (λ (ts : List Table). AreHeld p.pack ts [] (world_of state first s)) (sym none) tt); in_place = tt }
 
 -- what was done after the last text that was served, whatever the ending
 ending_within : {R : Type 0} (state : R → RevState) (m0 m1 m2 : Machine R) (texts more : List (List ℕ)) (answers : List Answer) (part : List ℕ) (ending : Ending) (n : ℕ)
     → Steps state m0 m1 texts answers → EndingPart state m1 m2 more part ending → IsTrue m0.store.tells → IsSteady m0.store → Represents state m0.engine m0.store []
-    → AskedInAll (session_of m0 []) (texts ++ more) n → IsBefore m0.store.disturbed n → length m2.store.asked ≤ n
-ending_within state m0 m1 m2 texts more answers part Usage n steps rests tells steady held all before =
-    session_within unique state texts more m0 m1 m2 [] answers part (Ok false) n steps rests tells steady held all before
-ending_within state m0 m1 m2 texts more answers part BadKey n steps rests tells steady held all before =
-    session_within unique state texts more m0 m1 m2 [] answers part (Ok false) n steps rests tells steady held all before
-ending_within state m0 m1 m2 texts more answers part (Ran result) n steps last tells steady held all before =
-    session_within unique state texts more m0 m1 m2 [] answers part result n steps last tells steady held all before
+    → AskedInAll (session_of m0 []) (texts ++ more) n → (m2.store.lie ≡ None) ⊎ SelectsWithin (session_of m0 []) (texts ++ more) n → IsBefore m0.store.disturbed n → length m2.store.asked ≤ n
+ending_within state m0 m1 m2 texts more answers part Usage n steps rests tells steady held all safe before =
+    session_within unique state texts more m0 m1 m2 [] answers part (Ok false) n steps rests tells steady held all safe before
+ending_within state m0 m1 m2 texts more answers part BadKey n steps rests tells steady held all safe before =
+    session_within unique state texts more m0 m1 m2 [] answers part (Ok false) n steps rests tells steady held all safe before
+ending_within state m0 m1 m2 texts more answers part (Ran result) n steps last tells steady held all safe before =
+    session_within unique state texts more m0 m1 m2 [] answers part result n steps last tells steady held all safe before
 
 module _ {R : Type 0} {state : R → RevState} {Takes : Type 0} {settings : Option Config} {l0 l1 w0 w1 : Option (List ℕ)} {s0 s1 : StoreState} {old new : Faults} {report : Report}
     (r : Reported state Takes settings l0 l1 w0 w1 s0 s1 old new report) where
@@ -122,9 +122,10 @@ module _ {R : Type 0} {state : R → RevState} {Takes : Type 0} {settings : Opti
 
   -- where all changes come later than what the texts ask in all
   pub all_within : (config : Config) → settings ≡ Some config → (n : ℕ) → s0.asked ≡ [] → IsTrue s0.tells → IsSteady s0
-      → AskedInAll (first_session (public_by config)) (r.shown.served ++ r.shown.more) n → IsBefore s0.disturbed n
+      → AskedInAll (first_session (public_by config)) (r.shown.served ++ r.shown.more) n
+      → (IsHonest s0 s1 ⊎ SelectsWithin (first_session (public_by config)) (r.shown.served ++ r.shown.more) n) → IsBefore s0.disturbed n
       → length s1.asked ≤ n
-  all_within config set n none tells steady all before = elim r.shown.carried [
+  all_within config set n none tells steady all safe before = elim r.shown.carried [
     | inl idle ↦ omega (arith, ap (λ (s : StoreState). length s.asked) idle.store, ap (λ (l : List Access). length l) none)
     | inr some ↦
         let fresh : public_of some.first ≡ public_by config = fresh_is state set some in
@@ -132,7 +133,11 @@ module _ {R : Type 0} {state : R → RevState} {Takes : Type 0} {settings : Opti
         λ i. record { public = sym fresh i; tables = []; asked = length (sym none i) } in
         ending_within state (machine_of some.first s0) some.middle (machine_of some.last s1) r.shown.served r.shown.more r.shown.answers r.shown.part r.ending n some.steps some.rest tells steady
         (nothing_held state some.first s0 (public_by config) fresh refl)
-        (subst (λ (s : Session). AskedInAll s (r.shown.served ++ r.shown.more) n) here all) before
+        (subst (λ (s : Session). AskedInAll s (r.shown.served ++ r.shown.more) n) here all)
+        (elim safe [
+          | inl honest ↦ inl honest.no_lie
+          | inr within ↦ inr (subst (λ (s : Session). SelectsWithin s (r.shown.served ++ r.shown.more) n) here within)
+        ]) before
   ]
 
   pub undisturbed : IsTrue s0.tells → IsQuiet s1 → Undisturbed r.shown.answers s0 s1 report
@@ -180,9 +185,9 @@ meddled {state = state} {words = words} {l0 = l0} {l1 = l1} {w0 = w0} {w1 = w1} 
       reported = r;
       traced = traced;
       shows = there;
-      undisturbed = λ n all after.
+      undisturbed = λ n all safe after.
           let before : IsBefore s0.disturbed n = subst (λ (o : Option (List Disturbance)). IsBefore o n) (sym changes) (before_of here n after) in
-          let within = all_within r config parses.settings.settings n none refl steady all before in
+          let within = all_within r config parses.settings.settings n none refl steady all safe before in
           let before_there : IsBefore s1.disturbed (length s1.asked) = subst (λ (o : Option (List Disturbance)). IsBefore o (length s1.asked)) (sym later.disturbed) (before_less s0.disturbed (length s1.asked) n within before) in
           undisturbed r refl (later.steady steady before_there);
       unchanged = λ all.

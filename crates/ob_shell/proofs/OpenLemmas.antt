@@ -32,7 +32,7 @@ module _ {R : Type 0} (state : R → RevState) where
   step_opens : (m0 m1 : Machine R) (text : List ℕ) (answer : Answer) → Step state m0 m1 text answer → Used m0 → Used m1
   step_opens m0 m1 text answer step used = elim step.done [
     | inl bad ↦ same m0 m1 bad.same used
-    | inr did ↦ after _ _ _ _ _ did.ran.asked did.ran.opened used
+    | inr did ↦ after _ _ _ _ _ did.does.ran.asked did.does.ran.opened used
   ]
 
   steps_open : (m0 m2 : Machine R) (texts : List (List ℕ)) (answers : List Answer) → Steps state m0 m2 texts answers → Used m0 → Used m2
@@ -44,7 +44,7 @@ module _ {R : Type 0} (state : R → RevState) where
   last_opens m1 m2 more part (Ok flag) rests used = same m1 m2 rests.machine used
   last_opens m1 m2 [] part (Err stop) rests used = same m1 m2 rests.rests.machine used
   last_opens m1 m2 (text ∷ more) part (Err stop) (inl rests) used = same m1 m2 rests.rests.machine used
-  last_opens m1 m2 (text ∷ more) part (Err stop) (inr (inl cut)) used = after _ _ _ _ _ cut.ran.asked cut.ran.opened used
+  last_opens m1 m2 (text ∷ more) part (Err stop) (inr (inl cut)) used = after _ _ _ _ _ cut.does.ran.asked cut.does.ran.opened used
   last_opens m1 m2 (text ∷ more) part (Err stop) (inr (inr done)) used = step_opens m1 m2 text done.answer done.step used
 
   -- of the texts that were served, and what was done after them

@@ -16,7 +16,8 @@ use Rattle.ob_base.specs.declared.seen.Seen.{Seen}
 use Rattle.ob_base.specs.declared.skeleton.Skeleton.{Skeleton}
 use Rattle.ob_base.specs.declared.skeleton.Skeleton.TheVariants as K
 use Rattle.ob_exec.specs.Agreeing.{public_of, seen_of}
-use Rattle.ob_exec.specs.Running.{EndsBy, IsDone, refused_end, refusal_now}
+use Rattle.ob_exec.specs.Running.{outcome_end, refusal_now}
+use Rattle.ob_exec.specs.Refusals.{refused_end}
 use Rattle.ob_exec.specs.declared.outcome.Outcome.{Outcome}
 use Rattle.ob_exec.specs.declared.outcome.Outcome.TheVariants.{Created, Inserted, Changed, Deleted, Dropped, Rows, Refused}
 use Rattle.ob_mean.specs.Lawful.{EndsUncounted, Holds, Lawful, is_counted}
@@ -39,38 +40,31 @@ use Rattle.ob_vault.specs.State.{RevState}
 use Rattle.ob_shell.proofs.WholeLemmas.{fresh_is}
 
 -- ---- a statement is cut off only where it is answered that the store failed
-uncut_end : (e end : End) → end ≡ e → (IsCut e → ⊥) → IsCut end → ⊥
-uncut_end e end is not cut = not (subst (λ (x : End). IsCut x) is cut)
+uncut_refused : (r : Refusal) (n : ℕ) → refusal_failures r ≡ 0 → IsCut (refused_end r n) → ⊥
+uncut_refused (Syntax at) n none cut = cut
+uncut_refused NoTable n none cut = cut
+uncut_refused NameTaken n none cut = cut
+uncut_refused NoColumn n none cut = cut
+uncut_refused WrongType n none cut = cut
+uncut_refused ValueRange n none cut = cut
+uncut_refused Limit n none cut = cut
+uncut_refused KeyRule n none cut = cut
+uncut_refused JoinKey n none cut = cut
+uncut_refused Duplicate n none cut = cut
+uncut_refused Full n none cut = cut
+uncut_refused TooManyGroups n none cut = cut
+uncut_refused NotConsecutive n none cut = cut
+uncut_refused (Overflow i) n none cut = cut
+uncut_refused StoreFault n none cut = absurd (omega (arith, none))
 
-uncut_done : (end : End) → IsDone end → IsCut end → ⊥
-uncut_done end (inl is) = uncut_end Static end is (λ no. no)
-uncut_done end (inr is) = uncut_end Whole end is (λ no. no)
-
-uncut_refused : (r : Refusal) (end : End) (n : ℕ) → refused_end r end n → refusal_failures r ≡ 0 → IsCut end → ⊥
-uncut_refused (Syntax at) end n ends none = uncut_done end ends
-uncut_refused NoTable end n ends none = uncut_done end ends
-uncut_refused NameTaken end n ends none = uncut_done end ends
-uncut_refused NoColumn end n ends none = uncut_done end ends
-uncut_refused WrongType end n ends none = uncut_done end ends
-uncut_refused ValueRange end n ends none = uncut_done end ends
-uncut_refused Limit end n ends none = uncut_done end ends
-uncut_refused KeyRule end n ends none = uncut_done end ends
-uncut_refused JoinKey end n ends none = uncut_done end ends
-uncut_refused Duplicate end n ends none = uncut_done end ends
-uncut_refused Full end n ends none = uncut_done end ends
-uncut_refused TooManyGroups end n ends none = uncut_done end ends
-uncut_refused NotConsecutive end n ends none = uncut_done end ends
-uncut_refused (Overflow i) end n ends none = uncut_done end ends
-uncut_refused StoreFault end n ends none = absurd (omega (arith, none))
-
-uncut_by : (o : Outcome) (end : End) (n : ℕ) → EndsBy (Ok o) end n → outcome_failures o ≡ 0 → IsCut end → ⊥
-uncut_by Created end n ends none = uncut_end Whole end ends (λ no. no)
-uncut_by Inserted end n ends none = uncut_end Whole end ends (λ no. no)
-uncut_by (Changed k) end n ends none = uncut_end Whole end ends (λ no. no)
-uncut_by (Deleted k) end n ends none = uncut_end Whole end ends (λ no. no)
-uncut_by Dropped end n ends none = uncut_end Whole end ends (λ no. no)
-uncut_by (Rows k) end n ends none = uncut_end Whole end ends (λ no. no)
-uncut_by (Refused r) end n ends none = uncut_refused r end n ends none
+uncut_by : (o : Outcome) (n : ℕ) → outcome_failures o ≡ 0 → IsCut (outcome_end o n) → ⊥
+uncut_by Created n none cut = cut
+uncut_by Inserted n none cut = cut
+uncut_by (Changed k) n none cut = cut
+uncut_by (Deleted k) n none cut = cut
+uncut_by Dropped n none cut = cut
+uncut_by (Rows k) n none cut = cut
+uncut_by (Refused r) n none cut = uncut_refused r n none cut
 
 -- ---- all statements
 module _ {R : Type 0} (state : R → RevState) where
@@ -103,21 +97,21 @@ module _ {R : Type 0} (state : R → RevState) where
       let p = public_of m0.engine in
       let sk = skeleton did.stmt in
       let here = seen_of m1.engine in
-      let public_is : public_of m1.engine ≡ next p sk here = did.ran.goes_on.public in
+      let public_is : public_of m1.engine ≡ next p sk here = did.does.ran.goes_on.public in
       let asked_is : length m1.store.asked ≡ length m0.store.asked + length (script p sk here) =
-      ap length did.ran.asked ∙ length-append m0.store.asked (script p sk here) in
+      ap length did.does.ran.asked ∙ length-append m0.store.asked (script p sk here) in
       record {
         stmts = did.stmt ∷ rest.stmts;
         spelt = inr (did.stmt, rest.stmts, refl, did.spells, rest.spelt);
         seen = record { skeleton = sk; seen = here } ∷ rest.seen;
         uncut = (
           refl,
-          did.lawful,
-          uncut_by one.outcome here.end _ did.ran.ends none,
+          did.does.lawful,
+          λ cut. uncut_by one.outcome _ none (subst (λ (e : End). IsCut e) did.does.ran.ends cut),
           subst (λ (q : Public). AreUncut q (length m0.store.asked + length (script p sk here)) rest.stmts rest.seen) public_is
               (subst (λ (n : ℕ). AreUncut (public_of m1.engine) n rest.stmts rest.seen) asked_is rest.uncut),
         );
-        asked = rest.asked ∙ (λ i. did.ran.asked i ++ trace (public_is i) rest.seen) ∙ append_assoc m0.store.asked (script p sk here) _;
+        asked = rest.asked ∙ (λ i. did.does.ran.asked i ++ trace (public_is i) rest.seen) ∙ append_assoc m0.store.asked (script p sk here) _;
       }
 
   plain : (texts : List (List ℕ)) (m0 m2 : Machine R) (answers : List Answer) → Steps state m0 m2 texts answers → failures answers ≡ 0 → Plain m0 m2 texts
@@ -265,6 +259,7 @@ same_seen p m (a ∷ ps) (x ∷ xs) (b ∷ qs) (y ∷ ys) lawful lawful_too alik
     λ i. one i ∷ rest i
 
 pub same_asked : (p : Public) (accesses accesses_too : List Access) (texts texts_too : List (List ℕ)) (a : AsksUncut p accesses texts) (b : AsksUncut p accesses_too texts_too)
-    → ShowAlike p 0 a.stmts a.seen b.stmts b.seen → accesses ≡ accesses_too
+    → ShowAlike p 0 a.stmts a.seen b.stmts b.seen → (a.seen ≡ b.seen) × (accesses ≡ accesses_too)
 same_asked p accesses accesses_too texts texts_too a b alike =
-    a.asked ∙ ap (λ (xs : List Entry). trace p xs) (same_seen p 0 a.stmts a.seen b.stmts b.seen a.uncut b.uncut alike) ∙ sym b.asked
+    let seen = same_seen p 0 a.stmts a.seen b.stmts b.seen a.uncut b.uncut alike in
+    (seen, a.asked ∙ ap (λ (xs : List Entry). trace p xs) seen ∙ sym b.asked)

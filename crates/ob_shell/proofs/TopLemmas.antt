@@ -1,5 +1,5 @@
 -- The whole run, from its first line and its session.
-use Rattle.std.proofs.Common.{◌≡◌, ◌≢◌, ℕ, ◌≤◌, ◌==◌, Bool, true, false, List, [], ◌∷◌, ◌++◌, length, Option, Some, None, IsTrue, Ok, Err, Result, refl, sym, ap, ◌∙◌, subst, inl, inr, arith, append-nil, length-append}
+use Rattle.std.proofs.Common.{◌≡◌, ◌≢◌, ℕ, ◌-◌, ◌≤◌, ◌==◌, Bool, true, false, List, [], ◌∷◌, ◌++◌, length, Option, Some, None, IsTrue, Ok, Err, Result, refl, sym, ap, ◌∙◌, subst, inl, inr, arith, append-nil, length-append}
 use Rattle.std.specs.Prelude.{IsOk, OnOk}
 use Rattle.std.specs.Io.KnownBytes.{Appends}
 use Rattle.std.proofs.KnownBytes.{Appends-nil, Appends-trans, Consumes-trans, Consumes-nil}
@@ -9,22 +9,25 @@ use Rattle.ob_base.specs.declared.refusal.Stop.TheVariants.{Tampered, SourceFaul
 use Rattle.ob_base.specs.declared.config.Config.{Config}
 use Rattle.ob_base.specs.declared.config.Public.{Public}
 use Rattle.ob_exec.specs.Agreeing.{public_of, high_of, rows_of, world_of}
-use Rattle.ob_exec.specs.Telling.{AreHeld, Represents, told_stop}
+use Rattle.ob_exec.specs.Telling.{AreHeld, IsNotTampered, ReadsTrueUntil, Represents, is_refused}
 use Rattle.ob_mean.specs.Verdict.{Tables}
 use Rattle.ob_exec.specs.declared.engine.Engine.{Engine}
 use Rattle.ob_vault.specs.State.{RevState}
 use Rattle.ob_vault.specs.Tied.{Calm, IsUnfit}
 use Rattle.ob_print.specs.Cuts.{Cut}
 use Rattle.ob_print.proofs.CutLemmas.{Cut-whole, Cut-after, Cut-fault, Cut-more}
+use Rattle.ob_base.specs.declared.seen.Seen.{Seen}
+use Rattle.ob_script.specs.Script.{script}
 use Rattle.ob_seal.specs.Sealed.{keys_of}
+use Rattle.ob_sql.specs.Skeleton.{skeleton}
 use Rattle.ob_store.specs.State.{StoreState}
 use Rattle.ob_shell.specs.Texts.{is_over, rest_of, texts_of, texts_in}
 use Rattle.ob_shell.specs.Feeding.{Fetch, Fed}
 use Rattle.ob_shell.specs.KeyLine.{has_lf, first_line, after_line, secret_of, KeyRead}
-use Rattle.ob_shell.specs.Replayed.{PartMeant, Replayed}
-use Rattle.ob_shell.specs.Steps.{Machine, Answer, Step, Steps, IsUntampered, IsSinkFault, machine_of, printed}
+use Rattle.ob_shell.specs.Replayed.{NothingMore, PartMeant, Replayed, StoppedIn, session_of}
+use Rattle.ob_shell.specs.Steps.{Machine, Answer, CutStep, Step, Steps, IsUndone, IsUntampered, IsSinkFault, machine_of, printed}
 use Rattle.ob_shell.specs.Running.{Faults, SessionRan, LastPart, EndsBy, SinkFailed, SinksRose, Took}
-use Rattle.ob_shell.specs.Endings.{last_line, SinkStopped}
+use Rattle.ob_shell.specs.Endings.{is_tampered, last_line, SinkStopped}
 use Rattle.ob_shell.specs.Settings.{limit_of, public_by}
 use Rattle.ob_shell.specs.Top.{HasSecret, EndsUntampered, RanSays, EndingSays, EndingWords, Carried, Shown, RanAfter, EndingCause, EndingFlag, StatusCause}
 use Rattle.ob_shell.specs.declared.feed.Halt.{Halt}
@@ -41,7 +44,7 @@ use Rattle.ob_exec.proofs.EmitLemmas.{unfit_none}
 use Rattle.ob_shell.proofs.CalmLemmas.{step_calm, steps_calm, last_met, first_calm}
 use Rattle.ob_shell.proofs.LastingLemmas.{HasSizes, steps_sizes, last_rows, steps_sealed, last_sealed, steps_tell, none_sealed, first_sizes}
 use Rattle.ob_shell.proofs.LieLemmas.{last_deceived, last_keys, steps_keep}
-use Rattle.ob_shell.proofs.ReplayLemmas.{no_lie, step_goes, replayed}
+use Rattle.ob_shell.proofs.ReplayLemmas.{cut_early, cut_within, no_lie, step_goes, replayed}
 use Rattle.ob_shell.proofs.RunLemmas.{took_more, took_of, took_whole}
 use Rattle.ob_shell.proofs.StepLemmas.{printed-nil, any_refused-nil}
 use Rattle.ob_shell.proofs.KeyLemmas.{after_line-none}
@@ -206,7 +209,7 @@ meant_from : {R : Type 0} (state : R → RevState) (config : Config) (first : En
     → Replayed state (machine_of first s0) middle [] served answers
 meant_from state config first s0 middle served answers fresh steps tells honest =
     replayed state served (machine_of first s0) middle [] answers steps tells honest
-    (record { held = subst (λ (p : Public). AreHeld p.pack p.tables [] (world_of state first s0)) (sym fresh) tt })
+    (record { held = subst (λ (p : Public). AreHeld p.pack p.tables [] (world_of state first s0)) (sym fresh) tt; in_place = tt })
 
 -- no lie was told before the last part
 last_honest : {R : Type 0} (state : R → RevState) (m1 m2 : Machine R) (more : List (List ℕ)) (part : List ℕ) (result : Result Bool Stop) → LastPart state m1 m2 more part result
@@ -214,15 +217,15 @@ last_honest : {R : Type 0} (state : R → RevState) (m1 m2 : Machine R) (more : 
 last_honest {R} state m1 m2 more part (Ok flag) rests none = ap (λ (m : Machine R). m.store.lie) (sym rests.machine) ∙ none
 last_honest {R} state m1 m2 [] part (Err stop) rests none = ap (λ (m : Machine R). m.store.lie) (sym rests.rests.machine) ∙ none
 last_honest {R} state m1 m2 (text ∷ more) part (Err stop) (inl rests) none = ap (λ (m : Machine R). m.store.lie) (sym rests.rests.machine) ∙ none
-last_honest state m1 m2 (text ∷ more) part (Err stop) (inr (inl cut)) none = no_lie m1.store.lie m1.store m2.store refl cut.ran.later none
+last_honest state m1 m2 (text ∷ more) part (Err stop) (inr (inl cut)) none = no_lie m1.store.lie m1.store m2.store refl cut.does.ran.later none
 last_honest state m1 m2 (text ∷ more) part (Err stop) (inr (inr done)) none = (step_goes state m1 m2 text done.answer done.step.done).lie none
 
-stop_told : (Cut : Type 0) (stop : Stop) → told_stop stop Cut → IsUntampered stop
-stop_told Cut (Tampered region place) told = told
-stop_told Cut SourceFault told = tt
-stop_told Cut SinkFault told = tt
-stop_told Cut NoMemory told = tt
-stop_told Cut InputLimit told = tt
+stop_untampered : (stop : Stop) → IsNotTampered stop → IsUntampered stop
+stop_untampered (Tampered region place) not = absurd (cc not)
+stop_untampered SourceFault not = tt
+stop_untampered SinkFault not = tt
+stop_untampered NoMemory not = tt
+stop_untampered InputLimit not = tt
 
 sink_untampered : (stop : Stop) → IsSinkFault stop → IsUntampered stop
 sink_untampered (Tampered region place) fault = fault
@@ -237,22 +240,46 @@ last_untampered : {R : Type 0} (state : R → RevState) (m1 m2 : Machine R) (mor
 last_untampered state m1 m2 more part (Ok flag) last tells honest m0 served answers meant = tt
 last_untampered state m1 m2 [] part (Err stop) idle tells honest m0 served answers meant = idle.untampered
 last_untampered state m1 m2 (text ∷ more) part (Err stop) (inl idle) tells honest m0 served answers meant = idle.untampered
-last_untampered state m1 m2 (text ∷ more) part (Err stop) (inr (inl cut)) tells honest m0 served answers meant = stop_told _ stop (cut.meant.told tells meant.left meant.held honest)
+last_untampered state m1 m2 (text ∷ more) part (Err stop) (inr (inl cut)) tells honest m0 served answers meant = stop_untampered stop (cut.does.means.honest meant.left (record { tells = tells; held = meant.held; nolie = honest }))
 last_untampered state m1 m2 (text ∷ more) part (Err stop) (inr (inr done)) tells honest m0 served answers meant = sink_untampered stop done.fault
 
 one_step : {R : Type 0} (state : R → RevState) (m0 m1 : Machine R) (text : List ℕ) (answer : Answer) → Step state m0 m1 text answer → Steps state m0 m1 (text ∷ []) (answer ∷ [])
 unfolding Steps
 one_step state m0 m1 text answer step = (m1, answer, [], refl, step, (refl, refl))
 
+nothing_more : {R : Type 0} (m1 m2 : Machine R) (part : List ℕ) → IsUndone m1 m2 part → NothingMore m1 m2 part
+nothing_more {R} m1 m2 part rests = record { asked = ap (λ (m : Machine R). m.store.asked) rests.machine; printed = rests.none }
+
+stopped_in : {R : Type 0} (state : R → RevState) (m1 m2 : Machine R) (tables : Tables) (text : List ℕ) (stop : Stop) (part : List ℕ) → CutStep state m1 m2 text stop part
+    → ReadsTrueUntil state m1.engine m1.store m2.engine m2.store tables → StoppedIn m1 m2 (session_of m1 tables) text (is_refused stop) part
+stopped_in state m1 m2 tables text stop part cut reads =
+    let n = length m2.store.asked - length m1.store.asked in
+    let seen_is = cut.does.means.held tables reads in
+    record {
+      stmt = cut.stmt;
+      spells = cut.spells;
+      n = n;
+      stops = record {
+        started = cut_early state m1 m2 tables cut.stmt (Err stop) cut.does (is_refused stop) n seen_is reads.held;
+        within = cut_within state m1 m2 tables cut.stmt (Err stop) cut.does (is_refused stop) n seen_is;
+        seen = seen_is;
+        asked = cut.does.ran.asked ∙ ap (λ (x : Seen). m1.store.asked ++ script (public_of m1.engine) (skeleton cut.stmt) x) seen_is;
+      };
+      events = cut.events;
+      begun = cut.emitted tables reads;
+      printed = cut.printed;
+    }
+
 -- unless a changed block was read that fits, what was printed last belongs to an answer that is meant
 last_meant : {R : Type 0} (state : R → RevState) (m1 m2 : Machine R) (more : List (List ℕ)) (part : List ℕ) (result : Result Bool Stop) → LastPart state m1 m2 more part result
-    → IsTrue m1.store.tells → Calm (world_of state m1.engine m1.store) → IsUnfit (world_of state m2.engine m2.store) → (tables : Tables) → Represents state m1.engine m1.store tables → PartMeant state m1 m2 tables more part
-last_meant state m1 m2 [] part (Ok flag) rests tells calm unfit tables held = rests.none
-last_meant state m1 m2 (text ∷ more) part (Ok flag) rests tells calm unfit tables held = inl rests.none
-last_meant state m1 m2 [] part (Err stop) idle tells calm unfit tables held = idle.rests.none
-last_meant state m1 m2 (text ∷ more) part (Err stop) (inl idle) tells calm unfit tables held = inl idle.rests.none
+    → IsTrue m1.store.tells → Calm (world_of state m1.engine m1.store) → IsUnfit (world_of state m2.engine m2.store) → (tables : Tables) → Represents state m1.engine m1.store tables
+    → PartMeant state m1 m2 tables (is_tampered (RanEnding result)) more part
+last_meant state m1 m2 [] part (Ok flag) rests tells calm unfit tables held = nothing_more m1 m2 part rests
+last_meant state m1 m2 (text ∷ more) part (Ok flag) rests tells calm unfit tables held = inl (nothing_more m1 m2 part rests)
+last_meant state m1 m2 [] part (Err stop) idle tells calm unfit tables held = nothing_more m1 m2 part idle.rests
+last_meant state m1 m2 (text ∷ more) part (Err stop) (inl idle) tells calm unfit tables held = inl (nothing_more m1 m2 part idle.rests)
 last_meant state m1 m2 (text ∷ more) part (Err stop) (inr (inl cut)) tells calm unfit tables held =
-    inr (inl (record { stmt = cut.stmt; spells = cut.spells; events = cut.events; begun = cut.meant.emitted tells tables held calm unfit; printed = cut.printed }))
+    inr (inl (stopped_in state m1 m2 tables text stop part cut (record { tells = tells; held = held; calm = calm; unfit = unfit })))
 last_meant state m1 m2 (text ∷ more) part (Err stop) (inr (inr done)) tells calm unfit tables held =
     let honest = unfit_none (world_of state m2.engine m2.store) (step_calm state m1 m2 text done.answer done.step calm) unfit in
     inr (inr (record { answer = done.answer; replayed = replayed state (text ∷ []) m1 m2 tables (done.answer ∷ []) (one_step state m1 m2 text done.answer done.step) tells honest held; whole = done.whole }))

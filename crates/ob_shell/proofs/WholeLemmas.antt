@@ -57,8 +57,8 @@ module _ {R : Type 0} (state : R → RevState) where
         few = omega arith;
         spelt = refl;
         seen = record { skeleton = sk; seen = here } ∷ [];
-        lawful = (refl, cut.lawful, tt);
-        asked = cut.ran.asked ∙ ap (λ xs. m0.store.asked ++ xs) (sym (append-nil (script (public_of m0.engine) sk here)));
+        lawful = (refl, cut.does.lawful, tt);
+        asked = cut.does.ran.asked ∙ ap (λ xs. m0.store.asked ++ xs) (sym (append-nil (script (public_of m0.engine) sk here)));
       }
 
   goes_step : (m0 m2 : Machine R) (text : List ℕ) (answer : Answer) → Step state m0 m2 text answer → Goes m0 m2 []
@@ -73,8 +73,8 @@ module _ {R : Type 0} (state : R → RevState) where
           few = omega arith;
           spelt = refl;
           seen = record { skeleton = sk; seen = here } ∷ [];
-          lawful = (refl, did.lawful, tt);
-          asked = did.ran.asked ∙ ap (λ xs. m0.store.asked ++ xs) (sym (append-nil (script (public_of m0.engine) sk here)));
+          lawful = (refl, did.does.lawful, tt);
+          asked = did.does.ran.asked ∙ ap (λ xs. m0.store.asked ++ xs) (sym (append-nil (script (public_of m0.engine) sk here)));
         }
   ]
 
@@ -110,9 +110,9 @@ module _ {R : Type 0} (state : R → RevState) where
       let p = public_of m0.engine in
       let sk = skeleton did.stmt in
       let here = seen_of m1.engine in
-      let public_is : public_of m1.engine ≡ next p sk here = did.ran.goes_on.public in
+      let public_is : public_of m1.engine ≡ next p sk here = did.does.ran.goes_on.public in
       let asked_is : length m1.store.asked ≡ length m0.store.asked + length (script p sk here) =
-      ap length did.ran.asked ∙ length-append m0.store.asked (script p sk here) in
+      ap length did.does.ran.asked ∙ length-append m0.store.asked (script p sk here) in
       record {
         stmts = did.stmt ∷ rest.stmts;
         last = rest.last;
@@ -121,11 +121,11 @@ module _ {R : Type 0} (state : R → RevState) where
         seen = record { skeleton = sk; seen = here } ∷ rest.seen;
         lawful = (
           refl,
-          did.lawful,
+          did.does.lawful,
           subst (λ (q : Public). AreLawful q (length m0.store.asked + length (script p sk here)) (rest.stmts ++ rest.last) rest.seen) public_is
               (subst (λ (n : ℕ). AreLawful (public_of m1.engine) n (rest.stmts ++ rest.last) rest.seen) asked_is rest.lawful),
         );
-        asked = rest.asked ∙ (λ i. did.ran.asked i ++ trace (public_is i) rest.seen) ∙ append_assoc m0.store.asked (script p sk here) _;
+        asked = rest.asked ∙ (λ i. did.does.ran.asked i ++ trace (public_is i) rest.seen) ∙ append_assoc m0.store.asked (script p sk here) _;
       }
 
   goes_more : (m0 m1 m2 : Machine R) (text : List ℕ) (texts : List (List ℕ)) (one : Answer) → Step state m0 m1 text one → Goes m1 m2 texts → Goes m0 m2 (text ∷ texts)

@@ -13,7 +13,9 @@ use Rattle.ob_sql.specs.declared.stmt.Stmt.{Stmt}
 unfoldable pub SpellAll : List (List ℕ) → List Stmt → Type 0
 SpellAll [] stmts = stmts ≡ []
 SpellAll (text ∷ texts) stmts =
-    ((at : ℕ) × Spells text (Err at) × SpellAll texts stmts) ⊎ ((stmt : Stmt) × (more : List Stmt) × (stmts ≡ stmt ∷ more) × Spells text (Ok stmt) × SpellAll texts more)
+    ((at : ℕ) × Spells text (Err at) × SpellAll texts stmts)
+    ⊎ ((stmt : Stmt) × (more : List Stmt) × (stmts ≡ stmt ∷ more) × Spells text (Ok stmt)
+    × SpellAll texts more)
 
 -- of each statement its skeleton, and what is seen of it, which is lawful by what is public before it
 unfoldable pub AreLawful : Public → ℕ → List Stmt → List Served → Type 0
@@ -21,7 +23,8 @@ AreLawful p m [] [] = ⊤
 AreLawful p m [] (x ∷ xs) = ⊥
 AreLawful p m (stmt ∷ stmts) [] = ⊥
 AreLawful p m (stmt ∷ stmts) (x ∷ xs) =
-    (x.skeleton ≡ skeleton stmt) × Lawful p m stmt x.seen × AreLawful (next p x.skeleton x.seen) (m + length (script p x.skeleton x.seen)) stmts xs
+    (x.skeleton ≡ skeleton stmt) × Lawful p m stmt x.seen
+    × AreLawful (next p x.skeleton x.seen) (m + length (script p x.skeleton x.seen)) stmts xs
 
 -- the accesses of these texts are the trace of their statements and of what is seen of each
 pub record Asks {R : Type 0} (m0 m1 : Machine R) (texts : List (List ℕ)) : Type 0 where

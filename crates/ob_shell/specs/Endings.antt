@@ -2,6 +2,7 @@
 use Rattle.std.specs.Prelude.{ℕ, Bool, true, false, List, [], codes, Result, Ok, Err}
 use Rattle.ob_base.specs.declared.refusal.Stop.{Stop}
 use Rattle.ob_base.specs.declared.refusal.Stop.TheVariants.{Tampered, SourceFault, SinkFault, NoMemory, InputLimit}
+use Rattle.ob_exec.specs.Telling.{is_refused}
 use Rattle.ob_print.specs.Lines.{stop_line}
 use Rattle.ob_shell.specs.Running.{SinkFailed}
 use Rattle.ob_shell.specs.declared.top.Ending.{Ending}
@@ -29,6 +30,13 @@ abbrev pub last_line : Ending → List ℕ
 last_line Usage = codes "! usage\n"
 last_line BadKey = codes "! key\n"
 last_line (Ran ran) = ran_line ran
+
+-- it stopped as tampered
+abbrev pub is_tampered : Ending → Bool
+is_tampered Usage = false
+is_tampered BadKey = false
+is_tampered (Ran (Ok refused)) = false
+is_tampered (Ran (Err stop)) = is_refused stop
 
 -- it stopped at a sink's fault
 abbrev pub SinkStopped : Ending → Type 0

@@ -1,5 +1,5 @@
 -- What a run over a store that others change promises, by its words.
-use Rattle.std.specs.Prelude.{ℕ, ◌≡◌, ◌≢◌, ◌++◌, true, List, [], Option, None, length, IsTrue}
+use Rattle.std.specs.Prelude.{ℕ, ◌≡◌, ◌≢◌, ◌⊎◌, ◌++◌, true, List, [], Option, None, length, IsTrue}
 use Rattle.std.specs.List.{list_all}
 use Rattle.clap.specs.Words.{Text}
 use Rattle.ob_base.specs.declared.config.Config.{Config}
@@ -9,7 +9,7 @@ use Rattle.ob_meddle.specs.Shows.{list_of, state_of, Shows}
 use Rattle.ob_meddle.specs.declared.store.MeddledStore.{MeddledStore}
 use Rattle.ob_shell.specs.Closed.{LineWritten, refused_by}
 use Rattle.ob_shell.specs.Endings.{last_line, status_of}
-use Rattle.ob_shell.specs.Disturbed.{AskedInAll}
+use Rattle.ob_shell.specs.Disturbed.{AskedInAll, SelectsWithin}
 use Rattle.ob_shell.specs.Failures.{failures, RisesBy}
 use Rattle.ob_shell.specs.Running.{Faults, SinksRose}
 use Rattle.ob_shell.specs.Steps.{Answer}
@@ -63,10 +63,14 @@ pub record Meddled {R : Type 0} (state : R → RevState) (words : List Text)
   pub traced : Traced (is_traced meddle_usage words) start.asked (state_of store).asked
       traced0 traced1 (SinksRose old new)
   pub shows : Shows (list_of store) (state_of store)
-  -- where all changes come after as many accesses as the texts ask in all
+  -- where all changes come after as many accesses as the texts ask in all, and no block is changed that is read, or
+  -- they come after those of each SELECT of rows whatever is seen of it
   pub undisturbed : (n : ℕ)
       → AskedInAll (first_session (public_by config))
       (reported.shown.served ++ reported.shown.more) n
+      → (IsHonest start (state_of store)
+      ⊎ SelectsWithin (first_session (public_by config))
+      (reported.shown.served ++ reported.shown.more) n)
       → are_later (list_of store) n ≡ true
       → Undisturbed reported.shown.answers start (state_of store) report
   -- where accesses fail and no block is changed

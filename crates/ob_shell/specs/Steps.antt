@@ -1,16 +1,17 @@
 -- What texts do to an engine and its store, one after the other, and what is printed of them.
-use Rattle.std.specs.Prelude.{ℕ, ◌≡◌, ◌||◌, ◌⊎◌, Bool, false, List, [], ◌∷◌, ◌++◌, length, IsTrue, Option, None, Result, Ok, Err}
+use Rattle.std.specs.Prelude.{ℕ, ◌≡◌, ◌||◌, ◌⊎◌, Bool, false, List, [], ◌∷◌, ◌++◌, length, Option, Result, Ok, Err}
 use Rattle.std.specs.Io.KnownBytes.{Appends}
 use Rattle.ob_base.specs.Events.{Event}
 use Rattle.ob_base.specs.declared.refusal.Refusal.TheVariants.{Syntax}
 use Rattle.ob_base.specs.declared.refusal.Stop.{Stop}
 use Rattle.ob_base.specs.declared.refusal.Stop.TheVariants.{Tampered, SourceFault, SinkFault, NoMemory, InputLimit}
-use Rattle.ob_exec.specs.Agreeing.{Agrees, has_ended, public_of, seen_of, world_of}
+use Rattle.ob_exec.specs.Agreeing.{Agrees, has_ended, public_of, seen_of}
+use Rattle.ob_exec.specs.Memory.{LacksMemory}
 use Rattle.ob_exec.specs.Running.{Ran, RefusedEarly, Emits, refusal_now}
-use Rattle.ob_exec.specs.Serving.{IsServed}
-use Rattle.ob_exec.specs.Telling.{KeepsSealed, Represents, Told, Emitted}
+use Rattle.ob_exec.specs.Serving.{Means}
+use Rattle.ob_exec.specs.Telling.{KeepsSealed, ReadsTrue, ReadsTrueUntil, Emitted, Partly, answer_labels}
 use Rattle.ob_mean.specs.Lawful.{Lawful}
-use Rattle.ob_mean.specs.Verdict.{Tables}
+use Rattle.ob_mean.specs.Verdict.{Tables, verdict}
 use Rattle.ob_parse.specs.Refusal.{RefusedAt}
 use Rattle.ob_parse.specs.Statements.{Statement}
 use Rattle.ob_token.specs.Tokens.{tokens_of}
@@ -24,7 +25,6 @@ use Rattle.ob_sql.specs.Skeleton.{skeleton}
 use Rattle.ob_sql.specs.declared.stmt.Stmt.{Stmt}
 use Rattle.ob_store.specs.State.{StoreState}
 use Rattle.ob_vault.specs.State.{RevState}
-use Rattle.ob_vault.specs.Tied.{Calm, IsUnfit}
 
 -- an engine and what its store has come to
 pub record Machine (R : Type 0) : Type 0 where
@@ -44,76 +44,83 @@ pub record Answer : Type 0 where
   pub outcome : Outcome
   pub bytes : List ℕ
 
--- what a text spells: a statement that is served, or the place where it is refused. A statement that is not served
--- yet is refused at its first byte.
+-- what a text spells: a statement, or the place where it is refused
 abbrev pub Spells : List ℕ → Result Stmt ℕ → Type 0
-Spells text (Ok stmt) = Statement text stmt (tokens_of text) × IsServed stmt
-Spells text (Err at) = RefusedAt text (tokens_of text) at ⊎ ((stmt : Stmt) × Statement text stmt (tokens_of text) × (IsServed stmt → ⊥) × (at ≡ 0))
+Spells text (Ok stmt) = Statement text stmt (tokens_of text)
+Spells text (Err at) = RefusedAt text (tokens_of text) at
 
 -- the text is no statement: nothing was asked
-pub record Misspelt {R : Type 0} (m0 m1 : Machine R) (text : List ℕ) (answer : Answer) : Type 0 where
+pub record Misspelt {R : Type 0} (m0 m1 : Machine R) (text : List ℕ)
+    (answer : Answer) : Type 0 where
   pub same : m1 ≡ m0
   pub at : ℕ
   pub spells : Spells text (Err at)
   pub refused : answer.outcome ≡ Refused (Syntax at)
   pub line : answer.bytes ≡ closing_line answer.outcome
 
--- where the store tells what it holds, and gave what was written: the statement did what it means for any tables that
--- the engine and the store held before
-pub record DidAsMeant {R : Type 0} (state : R → RevState) (m0 m1 : Machine R) (stmt : Stmt) (outcome : Outcome) (events : List Event) : Type 0 where
-  pub told : IsTrue m0.store.tells → (tables : Tables) → Represents state m0.engine m0.store tables → m1.store.lie ≡ None
-      → Told state stmt (length m0.store.asked) tables (Ok outcome) m0.engine m1.engine m1.store
-  pub emitted : IsTrue m0.store.tells → (tables : Tables) → Represents state m0.engine m0.store tables → m1.store.lie ≡ None
-      → Emitted stmt (public_of m0.engine) (length m0.store.asked) tables (Ok outcome) events
+-- how many accesses were asked of a machine's store
+abbrev pub asked_of : {R : Type 0} → Machine R → ℕ
+asked_of m = length m.store.asked
 
--- the same of one that was stopped: also where a changed block stopped it, what was emitted is a first part of its answer
-pub record StoppedAsMeant {R : Type 0} (state : R → RevState) (m0 m1 : Machine R) (stmt : Stmt) (stop : Stop) (events : List Event) : Type 0 where
-  pub told : IsTrue m0.store.tells → (tables : Tables) → Represents state m0.engine m0.store tables → m1.store.lie ≡ None
-      → Told state stmt (length m0.store.asked) tables (Err stop) m0.engine m1.engine m1.store
-  pub emitted : IsTrue m0.store.tells → (tables : Tables) → Represents state m0.engine m0.store tables
-      → Calm (world_of state m0.engine m0.store) → IsUnfit (world_of state m1.engine m1.store)
-      → Emitted stmt (public_of m0.engine) (length m0.store.asked) tables (Err stop) events
+-- the engine carried out a statement, whatever it answered
+pub record Does {R : Type 0} (state : R → RevState) (m0 m1 : Machine R) (stmt : Stmt)
+    (result : Result Outcome Stop) : Type 0 where
+  pub ran : Ran state (skeleton stmt) result m0.engine m0.store m1.engine m1.store
+  pub early : RefusedEarly (refusal_now (public_of m0.engine) (asked_of m0) stmt) result
+      (seen_of m1.engine)
+  pub lawful : Lawful (public_of m0.engine) (asked_of m0) stmt (seen_of m1.engine)
+  -- want of memory shows how far it got, and nothing of rows
+  pub memory : result ≡ Err NoMemory
+      → LacksMemory (public_of m0.engine) stmt (seen_of m1.engine) m0.store m1.store
+  pub seals : KeepsSealed state m0.engine m0.store m1.engine m1.store
+  pub means : Means state stmt result m0.engine m0.store m1.engine m1.store
 
--- the engine ran a statement, and its header and rows were printed before the closing line
-pub record Served {R : Type 0} (state : R → RevState) (m0 m1 : Machine R) (text : List ℕ) (answer : Answer) : Type 0 where
+-- the engine answered a statement, and its header and rows were printed before the closing line
+pub record Served {R : Type 0} (state : R → RevState) (m0 m1 : Machine R) (text : List ℕ)
+    (answer : Answer) : Type 0 where
   pub stmt : Stmt
   pub spells : Spells text (Ok stmt)
-  pub ran : Ran state (skeleton stmt) (Ok answer.outcome) m0.engine m0.store m1.engine m1.store
-  pub early : RefusedEarly (refusal_now (public_of m0.engine) (length m0.store.asked) stmt) (Ok answer.outcome) (seen_of m1.engine)
+  pub does : Does state m0 m1 stmt (Ok answer.outcome)
   pub events : List Event
-  pub emitted : Emits answer.outcome events
-  pub meant : DidAsMeant state m0 m1 stmt answer.outcome events
-  pub sealed : KeepsSealed state m0.engine m0.store m1.engine m1.store
-  pub lawful : Lawful (public_of m0.engine) (length m0.store.asked) stmt (seen_of m1.engine)
+  pub emits : Emits (answer_labels stmt (public_of m0.engine)) answer.outcome events
+  pub emitted : (tables : Tables) → ReadsTrue state m0.engine m0.store m1.store tables
+      → Emitted stmt (public_of m0.engine) (asked_of m0) tables answer.outcome events
   pub printed : answer.bytes ≡ events_text events ++ closing_line answer.outcome
 
 -- from the first machine to the second this text was answered
-pub record Step {R : Type 0} (state : R → RevState) (m0 m1 : Machine R) (text : List ℕ) (answer : Answer) : Type 0 where
+pub record Step {R : Type 0} (state : R → RevState) (m0 m1 : Machine R) (text : List ℕ)
+    (answer : Answer) : Type 0 where
   pub done : Misspelt m0 m1 text answer ⊎ Served state m0 m1 text answer
 
 -- from the first machine to the second this text was answered so, and all but the closing line was written
-pub record HasBody {R : Type 0} (state : R → RevState) (written0 written1 : Option (List ℕ)) (text : List ℕ) (outcome : Outcome) (m0 m1 : Machine R) : Type 0 where
+pub record HasBody {R : Type 0} (state : R → RevState) (written0 written1 : Option (List ℕ))
+    (text : List ℕ) (outcome : Outcome) (m0 m1 : Machine R) : Type 0 where
   pub body : List ℕ
   pub appends : Appends written0 written1 body
-  pub step : Step state m0 m1 text (record { outcome = outcome; bytes = body ++ closing_line outcome })
+  pub step : Step state m0 m1 text
+      (record { outcome = outcome; bytes = body ++ closing_line outcome })
 
--- the engine was stopped in the statement of this text, and a first part of its header and rows was printed
-pub record CutStep {R : Type 0} (state : R → RevState) (m0 m1 : Machine R) (text : List ℕ) (stop : Stop) (bytes : List ℕ) : Type 0 where
+-- the engine was stopped in the statement of this text, and a first part of its header and rows was printed, also where
+-- a changed block stopped it
+pub record CutStep {R : Type 0} (state : R → RevState) (m0 m1 : Machine R) (text : List ℕ)
+    (stop : Stop) (bytes : List ℕ) : Type 0 where
   pub stmt : Stmt
   pub spells : Spells text (Ok stmt)
-  pub ran : Ran state (skeleton stmt) (Err stop) m0.engine m0.store m1.engine m1.store
-  pub early : RefusedEarly (refusal_now (public_of m0.engine) (length m0.store.asked) stmt) (Err stop) (seen_of m1.engine)
+  pub does : Does state m0 m1 stmt (Err stop)
   pub events : List Event
+  pub emitted : (tables : Tables)
+      → ReadsTrueUntil state m0.engine m0.store m1.engine m1.store tables
+      → Partly (answer_labels stmt (public_of m0.engine))
+      (verdict (public_of m0.engine) (asked_of m0) tables stmt) events
   pub printed : IsCutOf bytes (events_text events)
-  pub meant : StoppedAsMeant state m0 m1 stmt stop events
-  pub sealed : KeepsSealed state m0.engine m0.store m1.engine m1.store
-  pub lawful : Lawful (public_of m0.engine) (length m0.store.asked) stmt (seen_of m1.engine)
 
 -- these texts were answered, in order
-unfoldable pub Steps : {R : Type 0} → (R → RevState) → Machine R → Machine R → List (List ℕ) → List Answer → Type 0
+unfoldable pub Steps : {R : Type 0} → (R → RevState) → Machine R → Machine R → List (List ℕ)
+    → List Answer → Type 0
 Steps state m0 m2 [] answers = (m2 ≡ m0) × (answers ≡ [])
 Steps {R = R} state m0 m2 (text ∷ texts) answers =
-    (m1 : Machine R) × (one : Answer) × (more : List Answer) × (answers ≡ one ∷ more) × Step state m0 m1 text one × Steps state m1 m2 texts more
+    (m1 : Machine R) × (one : Answer) × (more : List Answer) × (answers ≡ one ∷ more)
+    × Step state m0 m1 text one × Steps state m1 m2 texts more
 
 unfoldable pub printed : List Answer → List ℕ
 printed [] = []
@@ -137,7 +144,8 @@ pub record IsUndone {R : Type 0} (m0 m1 : Machine R) (bytes : List ℕ) : Type 0
   pub none : bytes ≡ []
 
 -- it was answered, and a sink failed within its last line or after it
-pub record Finished {R : Type 0} (state : R → RevState) (m0 m1 : Machine R) (text : List ℕ) (stop : Stop) (bytes : List ℕ) : Type 0 where
+pub record Finished {R : Type 0} (state : R → RevState) (m0 m1 : Machine R) (text : List ℕ)
+    (stop : Stop) (bytes : List ℕ) : Type 0 where
   pub answer : Answer
   pub step : Step state m0 m1 text answer
   pub whole : bytes ≡ answer.bytes
@@ -157,22 +165,24 @@ pub record Idle {R : Type 0} (m0 m1 : Machine R) (stop : Stop) (bytes : List ℕ
   pub untampered : IsUntampered stop
 
 -- what a stop left of the first of these texts
-abbrev pub PartlyAt : {R : Type 0} → (R → RevState) → Machine R → Machine R → List (List ℕ) → Stop → List ℕ → Type 0
+abbrev pub PartlyAt : {R : Type 0} → (R → RevState) → Machine R → Machine R → List (List ℕ) → Stop
+    → List ℕ → Type 0
 PartlyAt state m0 m1 [] stop bytes = Idle m0 m1 stop bytes
 PartlyAt state m0 m1 (text ∷ texts) stop bytes =
-    Idle m0 m1 stop bytes ⊎ (CutStep state m0 m1 text stop bytes ⊎ Finished state m0 m1 text stop bytes)
+    Idle m0 m1 stop bytes ⊎ (CutStep state m0 m1 text stop bytes
+    ⊎ Finished state m0 m1 text stop bytes)
 
 -- a sink took the answers of these texts, of which the flag tells whether one was a refusal, now or before
-pub record AnswersAll {R : Type 0} (state : R → RevState) (written0 written1 : Option (List ℕ)) (texts : List (List ℕ)) (refused0 refused1 : Bool)
-    (m0 m1 : Machine R) : Type 0 where
+pub record AnswersAll {R : Type 0} (state : R → RevState) (written0 written1 : Option (List ℕ))
+    (texts : List (List ℕ)) (refused0 refused1 : Bool) (m0 m1 : Machine R) : Type 0 where
   pub answers : List Answer
   pub steps : Steps state m0 m1 texts answers
   pub appends : Appends written0 written1 (printed answers)
   pub flag : refused1 ≡ (refused0 || any_refused answers)
 
 -- a stop came within the first of these texts, or before it
-pub record StopsIn {R : Type 0} (state : R → RevState) (written0 written1 : Option (List ℕ)) (texts : List (List ℕ)) (stop : Stop)
-    (m0 m1 : Machine R) : Type 0 where
+pub record StopsIn {R : Type 0} (state : R → RevState) (written0 written1 : Option (List ℕ))
+    (texts : List (List ℕ)) (stop : Stop) (m0 m1 : Machine R) : Type 0 where
   pub bytes : List ℕ
   pub partly : PartlyAt state m0 m1 texts stop bytes
   pub cut : Cut written0 written1 (IsSinkFault stop) bytes

@@ -25,7 +25,7 @@ use Rattle.ob_shell.specs.Replayed.{PartMeant, Replayed}
 use Rattle.ob_shell.specs.KeyLine.{line_max, has_lf, first_line, after_line, secret_of, LineTaken}
 use Rattle.ob_shell.specs.Steps.{Machine, machine_of, Answer, Steps, IsUndone, IsUntampered, printed}
 use Rattle.ob_shell.specs.Running.{Faults, SinksRose, NoneRose, LastPart, FlagIs, EndsBy, SinkFailed, StopCause, Took}
-use Rattle.ob_shell.specs.Endings.{SinkStopped, status_of, last_line}
+use Rattle.ob_shell.specs.Endings.{SinkStopped, is_tampered, status_of, last_line}
 use Rattle.ob_shell.specs.Settings.{limit_of, public_by}
 use Rattle.ob_shell.specs.declared.top.Ending.{Ending}
 use Rattle.ob_shell.specs.declared.top.Ending.TheVariants.{Usage, BadKey, Ran}
@@ -79,7 +79,7 @@ MeetsChange (Ran (Err InputLimit)) w = Calm w
 -- an engine was started with these settings and this secret, without tables, and served these texts. Whatever the
 -- store answers, their accesses are the trace of the statements that they spell and of what is seen of each, which is
 -- lawful. Where the store tells what it holds, their answers and accesses are those of the meaning, from no tables,
--- unless a changed block was read whose tag fits. Where it tells, each block of a live region is sealed, of as many
+-- unless a changed block was read whose tag fits; so are those of a statement that was stopped, until then. Where it tells, each block of a live region is sealed, of as many
 -- rows as the settings say or dummies, under the position of a write to its place, after a stop too. At most as many
 -- rows were open at once as the settings say, and at least one where a block was read or written.
 pub record Started {R : Type 0} (state : R → RevState) (settings : Option Config)
@@ -102,7 +102,8 @@ pub record Started {R : Type 0} (state : R → RevState) (settings : Option Conf
   pub meant : IsUndeceived last.vault.keys store0 store1
       → Replayed state (machine_of first store0) middle [] served answers
   pub part_meant : (undeceived : IsUndeceived last.vault.keys store0 store1)
-      → PartMeant state middle (machine_of last store1) (meant undeceived).left more part
+      → PartMeant state middle (machine_of last store1) (meant undeceived).left
+      (is_tampered ending) more part
   pub sealed : IsTrue store0.tells → (good : ℕ → List ℕ → Bool) → AcceptsRows good config.pack
       → AllSealed good (world_of state last store1)
   pub untampered : IsHonest store0 store1 → EndsUntampered ending

@@ -3,7 +3,7 @@ ghost use Rattle.std.specs.Prelude.{◌≡◌, ◌<◌, ◌≤◌, ◌++◌, ℕ
 ghost use Rattle.ob_base.specs.declared.access.Access.{Access};
 ghost use Rattle.ob_shell.specs.Texts.{text_max, is_over, rest_after, texts_at, tail_text};
 ghost use Rattle.ob_shell.specs.Steps.{machine_of, Spells, IsReady, HasBody, AnswersAll, StopsIn};
-ghost use Rattle.ob_shell.specs.Running.{StopCause, SessionRan, SinkFailed, SinksRose, IsQuiet, stop_of};
+ghost use Rattle.ob_shell.specs.Running.{StopCause, SessionRan, faults_of, SinkFailed, SinksRose, IsQuiet, stop_of};
 ghost use Rattle.ob_shell.specs.Tracing.{TracedAll, Traced};
 ghost use Rattle.ob_shell.specs.Closing;
 
@@ -11,7 +11,7 @@ use crate::feed::{Feed, Halt};
 use crate::pending::{Grown, Pending, PushStop};
 use crate::trace::trace_from;
 use ob_base::{Failed, Refusal, Stop};
-use ob_exec::{Engine, Outcome, is_served};
+use ob_exec::{Engine, Outcome};
 use ob_io::{Sink, Source};
 use ob_parse::{ParseErr, parse};
 use ob_print::{Line, Printer, refusal_line, write_all};
@@ -76,13 +76,16 @@ fn run_stmt<R: Revisions, S: BlockStore, K: Sink>(
     requires ready { IsReady R.state (machine_of engine.old (S.state store.old)) }
     ensures same_sink { printer.new.out.ghost_name ≡ printer.old.out.ghost_name }
     ensures ready { OnOk result (IsReady R.state (machine_of engine.new (S.state store.new))) }
-    ensures answered { IfOk result (λ outcome. HasBody R.state (K.written printer.old.out.now) (K.written printer.new.out.now) text.now outcome
+    ensures answered { IfOk result (λ outcome. HasBody R.state (K.written printer.old.out.now)
+        (K.written printer.new.out.now) text.now outcome
         (machine_of engine.old (S.state store.old)) (machine_of engine.new (S.state store.new))) }
-    ensures stopped { IfErr result (λ stop. StopsIn R.state (K.written printer.old.out.now) (K.written printer.new.out.now) (text.now ∷ []) stop
+    ensures stopped { IfErr result (λ stop. StopsIn R.state (K.written printer.old.out.now)
+        (K.written printer.new.out.now) (text.now ∷ []) stop
         (machine_of engine.old (S.state store.old)) (machine_of engine.new (S.state store.new))) }
-    ensures asked { (seen : List Access) × ((S.state store.new).asked ≡ (S.state store.old).asked ++ seen) }
-    ensures cause { StopCause record { source = 0; out = K.faults printer.old.out.now; trace = 0 }
-        record { source = 0; out = K.faults printer.new.out.now; trace = 0 } result }
+    ensures asked { (seen : List Access) × ((S.state store.new).asked
+        ≡ (S.state store.old).asked ++ seen) }
+    ensures cause { StopCause (faults_of 0 (K.faults printer.old.out.now) 0)
+        (faults_of 0 (K.faults printer.new.out.now) 0) result }
     ensures limit { result ≡ Err Stop.InputLimit → ⊥ }
     ensures source { result ≡ Err Stop.SourceFault → ⊥ }
 {
@@ -100,12 +103,16 @@ fn run_text<R: Revisions, S: BlockStore, K: Sink>(
     requires short { length text.now ≤ text_max }
     requires ready { IsReady R.state (machine_of engine.old (S.state store.old)) }
     ensures ready { OnOk result (IsReady R.state (machine_of engine.new (S.state store.new))) }
-    ensures answered { IfOk result (λ outcome. HasBody R.state (K.written out.old) (K.written out.new) text.now outcome
+    ensures answered { IfOk result (λ outcome. HasBody R.state (K.written out.old)
+        (K.written out.new) text.now outcome
         (machine_of engine.old (S.state store.old)) (machine_of engine.new (S.state store.new))) }
-    ensures stopped { IfErr result (λ stop. StopsIn R.state (K.written out.old) (K.written out.new) (text.now ∷ []) stop
+    ensures stopped { IfErr result (λ stop. StopsIn R.state (K.written out.old) (K.written out.new)
+        (text.now ∷ []) stop
         (machine_of engine.old (S.state store.old)) (machine_of engine.new (S.state store.new))) }
-    ensures asked { (seen : List Access) × ((S.state store.new).asked ≡ (S.state store.old).asked ++ seen) }
-    ensures cause { StopCause record { source = 0; out = K.faults out.old; trace = 0 } record { source = 0; out = K.faults out.new; trace = 0 } result }
+    ensures asked { (seen : List Access) × ((S.state store.new).asked
+        ≡ (S.state store.old).asked ++ seen) }
+    ensures cause { StopCause (faults_of 0 (K.faults out.old) 0) (faults_of 0 (K.faults out.new) 0)
+        result }
     ensures limit { result ≡ Err Stop.InputLimit → ⊥ }
     ensures source { result ≡ Err Stop.SourceFault → ⊥ }
 {
@@ -116,9 +123,6 @@ fn run_text<R: Revisions, S: BlockStore, K: Sink>(
             ParseErr::NoMemory => return Err(Stop::NoMemory),
         },
     };
-    if !is_served(&stmt) {
-        return Ok(Outcome::Refused(Refusal::Syntax(0)));
-    }
     let mut printer = Printer { out, alloc };
     run_stmt(engine, store, text, &stmt, &mut printer)
 }
@@ -135,12 +139,16 @@ fn answer<R: Revisions, S: BlockStore, K: Sink>(
     requires short { length text.now ≤ text_max }
     requires ready { IsReady R.state (machine_of engine.old (S.state store.old)) }
     ensures ready { OnOk result (IsReady R.state (machine_of engine.new (S.state store.new))) }
-    ensures answered { IfOk result (λ flag. AnswersAll R.state (K.written out.old) (K.written out.new) (text.now ∷ []) refused flag
+    ensures answered { IfOk result (λ flag. AnswersAll R.state (K.written out.old)
+        (K.written out.new) (text.now ∷ []) refused flag
         (machine_of engine.old (S.state store.old)) (machine_of engine.new (S.state store.new))) }
-    ensures stopped { IfErr result (λ stop. StopsIn R.state (K.written out.old) (K.written out.new) (text.now ∷ []) stop
+    ensures stopped { IfErr result (λ stop. StopsIn R.state (K.written out.old) (K.written out.new)
+        (text.now ∷ []) stop
         (machine_of engine.old (S.state store.old)) (machine_of engine.new (S.state store.new))) }
-    ensures asked { (seen : List Access) × ((S.state store.new).asked ≡ (S.state store.old).asked ++ seen) }
-    ensures cause { StopCause record { source = 0; out = K.faults out.old; trace = 0 } record { source = 0; out = K.faults out.new; trace = 0 } result }
+    ensures asked { (seen : List Access) × ((S.state store.new).asked
+        ≡ (S.state store.old).asked ++ seen) }
+    ensures cause { StopCause (faults_of 0 (K.faults out.old) 0) (faults_of 0 (K.faults out.new) 0)
+        result }
     ensures limit { result ≡ Err Stop.InputLimit → ⊥ }
     ensures source { result ≡ Err Stop.SourceFault → ⊥ }
 {
@@ -167,16 +175,20 @@ fn answer_traced<R: Revisions, S: BlockStore, K: Sink, T: Sink>(
     requires short { length text.now ≤ text_max }
     requires ready { IsReady R.state (machine_of engine.old (S.state store.old)) }
     ensures ready { OnOk result (IsReady R.state (machine_of engine.new (S.state store.new))) }
-    ensures answered { IfOk result (λ flag. AnswersAll R.state (K.written out.old) (K.written out.new) (text.now ∷ []) refused flag
+    ensures answered { IfOk result (λ flag. AnswersAll R.state (K.written out.old)
+        (K.written out.new) (text.now ∷ []) refused flag
         (machine_of engine.old (S.state store.old)) (machine_of engine.new (S.state store.new))) }
-    ensures stopped { IfErr result (λ halted. StopsIn R.state (K.written out.old) (K.written out.new) (text.now ∷ []) halted.stop
+    ensures stopped { IfErr result (λ halted. StopsIn R.state (K.written out.old)
+        (K.written out.new) (text.now ∷ []) halted.stop
         (machine_of engine.old (S.state store.old)) (machine_of engine.new (S.state store.new))) }
-    ensures traced { OnOk result (TracedAll tracing (S.state store.old).asked (S.state store.new).asked (T.written trace.old) (T.written trace.new)) }
-    ensures traced_stop { OnErr result (Traced tracing (S.state store.old).asked (S.state store.new).asked (T.written trace.old) (T.written trace.new) (IsQuiet result)) }
-    ensures cause { StopCause record { source = 0; out = K.faults out.old; trace = T.faults trace.old }
-        record { source = 0; out = K.faults out.new; trace = T.faults trace.new } (stop_of result) }
-    ensures quiet { IsQuiet result → SinksRose record { source = 0; out = K.faults out.old; trace = T.faults trace.old }
-        record { source = 0; out = K.faults out.new; trace = T.faults trace.new } }
+    ensures traced { OnOk result (TracedAll tracing (S.state store.old).asked
+        (S.state store.new).asked (T.written trace.old) (T.written trace.new)) }
+    ensures traced_stop { OnErr result (Traced tracing (S.state store.old).asked
+        (S.state store.new).asked (T.written trace.old) (T.written trace.new) (IsQuiet result)) }
+    ensures cause { StopCause (faults_of 0 (K.faults out.old) (T.faults trace.old))
+        (faults_of 0 (K.faults out.new) (T.faults trace.new)) (stop_of result) }
+    ensures quiet { IsQuiet result → SinksRose (faults_of 0 (K.faults out.old) (T.faults trace.old))
+        (faults_of 0 (K.faults out.new) (T.faults trace.new)) }
     ensures limit { stop_of result ≡ Err Stop.InputLimit → ⊥ }
     ensures source { stop_of result ≡ Err Stop.SourceFault → ⊥ }
 {
@@ -214,20 +226,26 @@ fn turn<R: Revisions, S: BlockStore, K: Sink, T: Sink>(
     requires short { length session.old.pending < text_max }
     requires ready { IsReady R.state (machine_of engine.old (S.state store.old)) }
     ensures ready { OnOk result (IsReady R.state (machine_of engine.new (S.state store.new))) }
-    ensures pending { OnOk result ((session.new.pending ≡ rest_after session.old.pending b) × (length session.new.pending < text_max)) }
-    ensures answered { OnOk result (AnswersAll R.state (K.written out.old) (K.written out.new) (texts_at session.old.pending b)
-        session.old.refused session.new.refused (machine_of engine.old (S.state store.old)) (machine_of engine.new (S.state store.new))) }
-    ensures stopped { IfErr result (λ halted. StopsIn R.state (K.written out.old) (K.written out.new) (texts_at session.old.pending b) halted.stop
+    ensures pending { OnOk result ((session.new.pending ≡ rest_after session.old.pending b)
+        × (length session.new.pending < text_max)) }
+    ensures answered { OnOk result (AnswersAll R.state (K.written out.old) (K.written out.new)
+        (texts_at session.old.pending b) session.old.refused session.new.refused
         (machine_of engine.old (S.state store.old)) (machine_of engine.new (S.state store.new))) }
-    ensures traced { OnOk result (TracedAll tracing (S.state store.old).asked (S.state store.new).asked (T.written trace.old) (T.written trace.new)) }
-    ensures traced_stop { OnErr result (Traced tracing (S.state store.old).asked (S.state store.new).asked (T.written trace.old) (T.written trace.new) (IsQuiet result)) }
-    ensures cause { StopCause record { source = 0; out = K.faults out.old; trace = T.faults trace.old }
-        record { source = 0; out = K.faults out.new; trace = T.faults trace.new } (stop_of result) }
-    ensures quiet { IsQuiet result → SinksRose record { source = 0; out = K.faults out.old; trace = T.faults trace.old }
-        record { source = 0; out = K.faults out.new; trace = T.faults trace.new } }
+    ensures stopped { IfErr result (λ halted. StopsIn R.state (K.written out.old)
+        (K.written out.new) (texts_at session.old.pending b) halted.stop
+        (machine_of engine.old (S.state store.old)) (machine_of engine.new (S.state store.new))) }
+    ensures traced { OnOk result (TracedAll tracing (S.state store.old).asked
+        (S.state store.new).asked (T.written trace.old) (T.written trace.new)) }
+    ensures traced_stop { OnErr result (Traced tracing (S.state store.old).asked
+        (S.state store.new).asked (T.written trace.old) (T.written trace.new) (IsQuiet result)) }
+    ensures cause { StopCause (faults_of 0 (K.faults out.old) (T.faults trace.old))
+        (faults_of 0 (K.faults out.new) (T.faults trace.new)) (stop_of result) }
+    ensures quiet { IsQuiet result → SinksRose (faults_of 0 (K.faults out.old) (T.faults trace.old))
+        (faults_of 0 (K.faults out.new) (T.faults trace.new)) }
     ensures limit { stop_of result ≡ Err Stop.InputLimit →
         (texts_at session.old.pending b ≡ []) × (is_over (rest_after session.old.pending b) ≡ true)
-        × AnswersAll R.state (K.written out.old) (K.written out.new) [] session.old.refused session.old.refused
+        × AnswersAll R.state (K.written out.old) (K.written out.new) []
+        session.old.refused session.old.refused
         (machine_of engine.old (S.state store.old)) (machine_of engine.new (S.state store.new)) }
     ensures source { stop_of result ≡ Err Stop.SourceFault → ⊥ }
 {
@@ -275,16 +293,20 @@ fn finish<R: Revisions, S: BlockStore, K: Sink, T: Sink>(
 ) -> Result<bool, Halted>
     requires short { length session.now.pending ≤ text_max }
     requires ready { IsReady R.state (machine_of engine.old (S.state store.old)) }
-    ensures answered { IfOk result (λ flag. AnswersAll R.state (K.written out.old) (K.written out.new) (tail_text session.now.pending)
-        session.now.refused flag (machine_of engine.old (S.state store.old)) (machine_of engine.new (S.state store.new))) }
-    ensures stopped { IfErr result (λ halted. StopsIn R.state (K.written out.old) (K.written out.new) (tail_text session.now.pending) halted.stop
+    ensures answered { IfOk result (λ flag. AnswersAll R.state (K.written out.old)
+        (K.written out.new) (tail_text session.now.pending) session.now.refused flag
         (machine_of engine.old (S.state store.old)) (machine_of engine.new (S.state store.new))) }
-    ensures traced { OnOk result (TracedAll tracing (S.state store.old).asked (S.state store.new).asked (T.written trace.old) (T.written trace.new)) }
-    ensures traced_stop { OnErr result (Traced tracing (S.state store.old).asked (S.state store.new).asked (T.written trace.old) (T.written trace.new) (IsQuiet result)) }
-    ensures cause { StopCause record { source = 0; out = K.faults out.old; trace = T.faults trace.old }
-        record { source = 0; out = K.faults out.new; trace = T.faults trace.new } (stop_of result) }
-    ensures quiet { IsQuiet result → SinksRose record { source = 0; out = K.faults out.old; trace = T.faults trace.old }
-        record { source = 0; out = K.faults out.new; trace = T.faults trace.new } }
+    ensures stopped { IfErr result (λ halted. StopsIn R.state (K.written out.old)
+        (K.written out.new) (tail_text session.now.pending) halted.stop
+        (machine_of engine.old (S.state store.old)) (machine_of engine.new (S.state store.new))) }
+    ensures traced { OnOk result (TracedAll tracing (S.state store.old).asked
+        (S.state store.new).asked (T.written trace.old) (T.written trace.new)) }
+    ensures traced_stop { OnErr result (Traced tracing (S.state store.old).asked
+        (S.state store.new).asked (T.written trace.old) (T.written trace.new) (IsQuiet result)) }
+    ensures cause { StopCause (faults_of 0 (K.faults out.old) (T.faults trace.old))
+        (faults_of 0 (K.faults out.new) (T.faults trace.new)) (stop_of result) }
+    ensures quiet { IsQuiet result → SinksRose (faults_of 0 (K.faults out.old) (T.faults trace.old))
+        (faults_of 0 (K.faults out.new) (T.faults trace.new)) }
     ensures limit { stop_of result ≡ Err Stop.InputLimit → ⊥ }
     ensures source { stop_of result ≡ Err Stop.SourceFault → ⊥ }
 {
@@ -315,16 +337,19 @@ pub fn serve<I: Source, R: Revisions, S: BlockStore, K: Sink, T: Sink>(
     trace: &mut T,
 ) -> Result<bool, Halted>
     requires { IsReady R.state (machine_of engine.old (S.state store.old)) }
-    ensures ran { SessionRan R.state feed.old feed.new (I.left input.old) (I.left input.new) (K.written out.old) (K.written out.new)
-        (machine_of engine.old (S.state store.old)) (machine_of engine.new (S.state store.new)) (stop_of result) }
+    ensures ran { SessionRan R.state feed.old feed.new (I.left input.old) (I.left input.new)
+        (K.written out.old) (K.written out.new)
+        (machine_of engine.old (S.state store.old)) (machine_of engine.new (S.state store.new))
+        (stop_of result) }
     ensures within { feed.new.taken ≤ feed.new.limit }
-    ensures traced { Traced tracing (S.state store.old).asked (S.state store.new).asked (T.written trace.old) (T.written trace.new) (IsQuiet result) }
+    ensures traced { Traced tracing (S.state store.old).asked (S.state store.new).asked
+        (T.written trace.old) (T.written trace.new) (IsQuiet result) }
     ensures cause { StopCause
-        record { source = I.faults input.old; out = K.faults out.old; trace = T.faults trace.old }
-        record { source = I.faults input.new; out = K.faults out.new; trace = T.faults trace.new } (stop_of result) }
+        (faults_of (I.faults input.old) (K.faults out.old) (T.faults trace.old))
+        (faults_of (I.faults input.new) (K.faults out.new) (T.faults trace.new)) (stop_of result) }
     ensures quiet { IsQuiet result → SinksRose
-        record { source = I.faults input.old; out = K.faults out.old; trace = T.faults trace.old }
-        record { source = I.faults input.new; out = K.faults out.new; trace = T.faults trace.new } }
+        (faults_of (I.faults input.old) (K.faults out.old) (T.faults trace.old))
+        (faults_of (I.faults input.new) (K.faults out.new) (T.faults trace.new)) }
 {
     let mut session = Session {
         pending: Pending::new(alloc),

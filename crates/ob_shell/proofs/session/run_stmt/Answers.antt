@@ -3,10 +3,8 @@ use Rattle.ob_shell.proofs.session.run_stmt.Goals as goal
 
 pub returns-clause-answered : goal.returns-clause-answered
 returns-clause-answered g c =
-    answered_in _ _ _ _ _ _ c.args.text.now c.args.stmt.now c.run.result
-    (record { spells = c.requires.spells; ran = c.run.ensures.ran; early = c.run.ensures.early; told = c.run.ensures.told; sealed = c.run.ensures.seals; lawful = c.run.ensures.lawful }) c.run.ensures.emits
+    answered_in _ _ _ _ _ _ _ _ c.args.stmt.now _ _ c.args.text.now c.requires.spells (λ events took. took.0) (λ events cut. cut.0) c.run.result c.run.ensures.serves
 
 pub returns-clause-stopped : goal.returns-clause-stopped
 returns-clause-stopped g c =
-    stopped_in _ _ _ _ _ _ c.args.text.now c.args.stmt.now c.run.result
-    (record { spells = c.requires.spells; ran = c.run.ensures.ran; early = c.run.ensures.early; told = c.run.ensures.told; sealed = c.run.ensures.seals; lawful = c.run.ensures.lawful }) c.run.ensures.stopped
+    stopped_in _ _ _ _ _ _ _ _ c.args.stmt.now _ _ c.args.text.now c.requires.spells (λ events took. took.0) (λ events cut. cut.0) c.run.result c.run.ensures.serves
