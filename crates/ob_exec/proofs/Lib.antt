@@ -46,3 +46,4 @@ pub mod RowsBehind
 pub mod RowsJoin
 pub mod RowsPairs
 pub mod RowsRoom
+pub mod RowsJoinStart

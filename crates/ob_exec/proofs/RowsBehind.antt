@@ -29,7 +29,7 @@ use Rattle.ob_flat.specs.declared.fault.OpErr.{OpErr}
 use Rattle.ob_flat.specs.declared.fault.OpErr.TheVariants as OpErrs
 use Rattle.ob_flat.specs.Discards.{Discards}
 use Rattle.ob_flat.specs.Flats.{Represents}
-use Rattle.ob_flat.specs.Passes.{PassCut}
+use Rattle.ob_flat.specs.Passes.{PassCut, is_of_access}
 use Rattle.ob_flat.proofs.Runs.{pass_after, pass_more, pass_then, pass_wider}
 use Rattle.ob_mean.specs.Replay.{count_end, done_of, held_if, walk_end}
 use Rattle.ob_mean.specs.Verdict.{Tables}
@@ -37,7 +37,7 @@ use Rattle.ob_sql.specs.declared.stmt.SelectRows.{SelectRows}
 use Rattle.ob_exec.specs.declared.selecting.Selected.{Selected}
 use Rattle.ob_exec.specs.declared.selecting.Selected.TheVariants.{Rows, Refused}
 use Rattle.ob_exec.specs.Memory.{AtMake, ends_with_make, is_reading, starts_with_make}
-use Rattle.ob_exec.specs.Selecting.{EmitsSelected, HoldsSeen, MayHold, SealsRows, Selection, SelectsFrom, SelectsToEnd, SelectsToHalt, counted_after, from, is_of_access, places, region_of, seen_of, selection_script, walked_after}
+use Rattle.ob_exec.specs.Selecting.{EmitsSelected, HoldsSeen, MayHold, SealsRows, Selection, SelectsFrom, SelectsToEnd, SelectsToHalt, counted_after, from, places, region_of, seen_of, selection_script, walked_after}
 use Rattle.ob_exec.specs.Sources.{EmitsRows, EndsRows, HaltsRows, HoldsRows, LacksRowMemory, LeavesNone, SourceToEnd, SourceToHalt, rows_script, rows_skeleton, selection, slots_of, stated}
 use Rattle.ob_exec.specs.Telling.{AreHeld}
 use Rattle.ob_exec.proofs.RowsLength.{Seconded, alone, followed, held_empty, rows_seconded}
