@@ -47,3 +47,4 @@ pub mod RowsJoin
 pub mod RowsPairs
 pub mod RowsRoom
 pub mod RowsJoinEnd
+pub mod RowsJoinStart

@@ -41,7 +41,7 @@ use Rattle.ob_exec.specs.Running.{answer_of, is_stop, result_end, RunCause, Goes
 use Rattle.ob_exec.specs.Selecting.{UsesRoom}
 use Rattle.ob_exec.specs.Telling.{AreHeld}
 use Rattle.ob_exec.proofs.HeldLemmas.{held_kept}
-use Rattle.ob_exec.proofs.RunLemmas.{IsAnswered, engine_after, free_after, next_after, of_other}
+use Rattle.ob_exec.proofs.RunLemmas.{asks_cut, asks_none, IsAnswered, engine_after, free_after, next_after, of_other}
 use Rattle.ob_exec.proofs.TableLemmas.{flat_kept, tables_kept, stored_found}
 
 -- no changed block was read, where none that fits was, and none that doesn't was later
@@ -133,6 +133,7 @@ module _ {R : Type 0} (state : R → RevState) (old : Engine R) (s s1 : StoreSta
         later = all.lasts.later;
         keys = all.lasts.keys;
         ends = sym (answered.whole _);
+        asks = asks_none outcome _ answered.own;
         cause = (of_other _ _ _ answered.own all.did.faults, all.calm);
         room = free;
         opened = opened _;
@@ -172,6 +173,7 @@ module _ {R : Type 0} (state : R → RevState) (old : Engine R) (s s1 : StoreSta
         later = all.lasts.later;
         keys = all.lasts.keys;
         ends = cut_ends e n ∙ ap (result_end (answer_of e)) count;
+        asks = asks_cut e s t all.asks;
         cause = cut_cause e _ _ all.cause;
         room = free;
         opened = opened _;

@@ -13,13 +13,13 @@ use Rattle.ob_vault.specs.State.{World}
 use Rattle.ob_vault.specs.Calls.{one}
 use Rattle.ob_flat.specs.declared.fault.OpErr.{OpErr}
 use Rattle.ob_flat.specs.declared.fault.OpErr.TheVariants as OpErrs
-use Rattle.ob_flat.specs.Passes.{PassCut}
+use Rattle.ob_flat.specs.Passes.{PassCut, is_of_access}
 use Rattle.ob_flat.proofs.Runs.{pass_more}
 use Rattle.ob_mean.specs.Replay.{count_end, done_of}
 use Rattle.ob_mean.specs.Verdict.{ended as seen_to}
 use Rattle.ob_sql.specs.declared.stmt.SelectRows.{SelectRows}
 use Rattle.ob_exec.specs.Memory.{AtMake, is_make}
-use Rattle.ob_exec.specs.Selecting.{MayHold, SealsRows, from, is_of_access}
+use Rattle.ob_exec.specs.Selecting.{MayHold, SealsRows, from}
 use Rattle.ob_exec.specs.Sources.{HaltsRows, LeavesNone, SourceToEnd, SourceToHalt, rows_script, rows_skeleton, selection, slots_of}
 use Rattle.ob_exec.proofs.RowsNothing.{holds_nothing}
 

@@ -36,7 +36,7 @@ use Rattle.ob_exec.specs.Opening.{Opens, is_of_rows}
 use Rattle.ob_exec.specs.Running.{Ran, RunCause, GoesOn, Continues, answer_of, is_fault, is_stop, outcome_end, result_end}
 use Rattle.ob_exec.specs.Selecting.{from}
 use Rattle.ob_exec.specs.Sources.{EndsRows, LeavesNone, UsesRoomFor, rows_script, rows_skeleton, selected_outcome, selection}
-use Rattle.ob_exec.proofs.RunLemmas.{free_after, next_after, of_other}
+use Rattle.ob_exec.proofs.RunLemmas.{asks_cut, asks_none, free_after, next_after, of_other}
 use Rattle.ob_exec.proofs.RowsLawful.{ended_end, ended_whole, ended_well}
 use Rattle.ob_exec.proofs.TableLemmas.{tables_kept, region_below}
 
@@ -125,6 +125,7 @@ module _ {R : Type 0} (state : R → RevState) (old : Engine R) (s : StoreState)
         later = is.ran.lasts.later;
         keys = is.ran.lasts.keys;
         ends = ended_end (selection old.public select) answer seen _ is.ended;
+        asks = asks_none (selected_outcome answer) _ (ended_well (selection old.public select) answer seen is.ended);
         cause = (of_other _ _ (is_fault (selected_outcome answer)) (ended_well (selection old.public select) answer seen is.ended) is.ran.did.faults, is.ran.calm);
         room = rows_free;
         opened = subst (λ (y : List Access). Opens y old.room.high room.high) (sym whole) (opens_by all is.ran.did.asked);
@@ -150,6 +151,7 @@ module _ {R : Type 0} (state : R → RevState) (old : Engine R) (s : StoreState)
         later = cut.lasts.later;
         keys = cut.lasts.keys;
         ends = cut_ends e n ∙ ap (result_end (answer_of e)) count;
+        asks = asks_cut e s t cut.asks;
         cause = cut_cause e _ _ cut.cause;
         room = rows_free;
         opened = opens_by (take n all) first;

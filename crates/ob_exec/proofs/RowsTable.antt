@@ -78,6 +78,10 @@ tabulate_length : (n : ℕ) → length (tabulate n (λ i. i)) ≡ n
 tabulate_length zero = refl
 tabulate_length (suc n) = let more = length-append (tabulate n (λ i. i)) (n ∷ []) in let same = tabulate_length n in omega (arith, more, same)
 
+pub listed_few : (list : Option (List ColumnName)) (cs : Columns) → length (unwrap_or list []) ≤ 32 → length cs ≤ 32 → length (option_map_or (map (λ c. place_of c cs)) list (places_of (λ _. true) cs)) ≤ 32
+listed_few None cs few wide = let same = ap length (all_places cs) in let long = tabulate_length (length cs) in omega (arith, same, long, wide)
+listed_few (Some names) cs few wide = let same = length-map names (λ (c : ColumnName). place_of c cs) in omega (arith, same, few)
+
 -- ---- of one source for another
 pub emitted_from : {E A B : Type 0} {grew : E → E → List Event → Type 0} {head : List Event} {from to : ℕ} {a b : E} (sa : A → List (List Shown)) (sb : B → List (List Shown)) (f : B → A) → ((x : B) → sa (f x) ≡ sb x)
     → IsEmitted grew head sa from to a b → IsEmitted grew head sb from to a b
@@ -253,10 +257,6 @@ module _ {R : Type 0} (state : R → RevState) (old : Engine R) (s s1 : StoreSta
   module _ (free : refusal_now old.public (length s.asked) (RowsStmt select) ≡ None) where
     pub few_listed : length (listed select) ≤ 32
     few_listed = (places_fit (is_late (length s.asked)) old.public.pack old.public.buffer (headings_of old.public.tables) select free).few
-
-    listed_few : (list : Option (List ColumnName)) (cs : Columns) → length (unwrap_or list []) ≤ 32 → length cs ≤ 32 → length (option_map_or (map (λ c. place_of c cs)) list (places_of (λ _. true) cs)) ≤ 32
-    listed_few None cs few wide = let same = ap length (all_places cs) in let long = tabulate_length (length cs) in omega (arith, same, long, wide)
-    listed_few (Some names) cs few wide = let same = length-map names (λ (c : ColumnName). place_of c cs) in omega (arith, same, few)
 
     table_columns : AreColumns q.flat.schema q.cols
     table_columns =

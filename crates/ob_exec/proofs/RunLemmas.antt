@@ -1,5 +1,5 @@
 -- How a statement of an engine ends.
-use Rattle.std.proofs.Common.{◌≡◌, inl, inr, ◌≤◌, ◌+◌, ◌-◌, max, ℕ, Bool, true, false, List, [], ◌++◌, length, take, Ok, Err, Result, refl, sym, ◌∙◌, ap, subst, arith, append-nil}
+use Rattle.std.proofs.Common.{IsTrue, ◌≡◌, inl, inr, ◌≤◌, ◌+◌, ◌-◌, max, ℕ, Bool, true, false, List, [], ◌++◌, length, take, Ok, Err, Result, refl, sym, ◌∙◌, ap, subst, arith, append-nil}
 use Rattle.ob_base.specs.declared.access.Access.{Access}
 use Rattle.ob_base.specs.declared.config.Public.{Public}
 use Rattle.ob_base.specs.declared.refusal.Refusal.{Refusal}
@@ -21,7 +21,7 @@ use Rattle.ob_vault.specs.Calls.{Went}
 use Rattle.ob_vault.proofs.Runs.{shapes_none}
 use Rattle.ob_flat.specs.declared.fault.OpErr.{OpErr}
 use Rattle.ob_flat.specs.declared.fault.OpErr.TheVariants as OpErrs
-use Rattle.ob_flat.specs.Passes.{PassCut, PassCause}
+use Rattle.ob_flat.specs.Passes.{PassCut, PassCause, is_of_access}
 use Rattle.ob_script.specs.Script.{script, whole_script}
 use Rattle.std.specs.Prelude.{◌<◌}
 use Rattle.std.proofs.lemmas.Bool.Decides.{nat_tests}
@@ -41,7 +41,7 @@ use Rattle.ob_base.specs.Counts.{Rises}
 use Rattle.ob_base.specs.Refusals.{is_store_fault}
 use Rattle.ob_exec.specs.Agreeing.{Agrees, world_of}
 use Rattle.ob_exec.specs.Opening.{Opens}
-use Rattle.ob_exec.specs.Running.{answer_of, is_fault, is_stop, outcome_end, result_end, RunCause, GoesOn, Continues, Ran}
+use Rattle.ob_exec.specs.Running.{answer_of, is_fault, is_stop, outcome_end, result_end, RunCause, GoesOn, Continues, Ran, IsFaulted}
 
 abbrev pub world : VaultState → StoreState → World
 world v s = record { vault = v; store = s }
@@ -83,6 +83,17 @@ opens_none high = record { kept = omega (arith); some = λ none. absurd (cc none
 pub opens_some : (part : List Access) (old pack : ℕ) → 1 ≤ pack → Opens part old (max old pack)
 opens_some part old pack some = record { kept = omega (arith); some = λ any. omega (arith, some) }
 
+-- an answer that is none by the store
+pub asks_none : (outcome : Outcome) (P : Type 0) → is_fault outcome ≡ false → IsFaulted (Ok outcome) → P
+asks_none outcome P well faulted = absurd (cc (well, faulted))
+
+-- an access that failed was asked
+pub asks_cut : (e : OpErr) (s t : StoreState) → (IsTrue (is_of_access e) → length s.asked < length t.asked) → IsFaulted (answer_of e) → length s.asked < length t.asked
+asks_cut OpErrs.Failed s t asks faulted = asks refl
+asks_cut (OpErrs.Tampered q x) s t asks faulted = absurd faulted
+asks_cut OpErrs.Sink s t asks faulted = absurd faulted
+asks_cut OpErrs.NoMemory s t asks faulted = absurd faulted
+
 module _ {R : Type 0} (state : R → RevState) (skeleton : Skeleton) (old : Engine R) (s : StoreState) (agrees : Agrees state old s) (lives : old.ended ≡ false) where
   -- a refusal before any access
   pub ran_refused : (r : Refusal) → IsEarly r → Ran state skeleton (Ok (Refused r)) old s (record old { seen = seen_to Static }) s
@@ -91,6 +102,7 @@ module _ {R : Type 0} (state : R → RevState) (skeleton : Skeleton) (old : Engi
     later = later_refl s;
     keys = refl;
     ends = sym (early.static _);
+    asks = asks_none (Refused r) _ early.own;
     cause = (of_other _ _ (is_store_fault r) early.own refl, λ calm. calm);
     room = agrees.room;
     opened = opens_none old.room.high;
@@ -153,6 +165,7 @@ module _ {R : Type 0} (state : R → RevState) (skeleton : Skeleton) (old : Engi
     later = went.lasts.later;
     keys = went.lasts.keys;
     ends = sym (answered.whole _);
+    asks = asks_none outcome _ answered.own;
     cause = (of_other _ _ (is_fault outcome) answered.own went.did.faults, went.calm);
     room = free;
     opened = subst (λ (y : List Access). Opens y old.room.high room.high) (sym is) opens;
@@ -205,6 +218,7 @@ module _ {R : Type 0} (state : R → RevState) (skeleton : Skeleton) (old : Engi
         later = cut.lasts.later;
         keys = cut.lasts.keys;
         ends = cut_ends e n ∙ ap (result_end (answer_of e)) count;
+        asks = asks_cut e s t cut.asks;
         cause = cut_cause e _ _ cut.cause;
         room = free;
         opened = opened _;
@@ -241,6 +255,7 @@ ran_no_room state skeleton old s t tables agrees rests =
       later = later_rests s t rests;
       keys = refl;
       ends = ap (λ (n : ℕ). Cut n) none;
+      asks = λ faulted. absurd faulted;
       cause = (rests.faults, λ calm. record { calm = λ lie is. calm.calm lie (sym rests.lie ∙ is) });
       room = agrees.room;
       opened = opens_none old.room.high;

@@ -87,6 +87,11 @@ RunCause (Err NoMemory) old new = (new.store.faults ≡ old.store.faults) × (Ca
 RunCause (Err SourceFault) old new = ⊥
 RunCause (Err InputLimit) old new = ⊥
 
+-- the answer is that the store failed
+abbrev pub IsFaulted : Result Outcome Stop → Type 0
+IsFaulted (Ok outcome) = IsTrue (is_fault outcome)
+IsFaulted (Err stop) = ⊥
+
 -- what lasts where the session goes on: the engine and the store belong together, and what is public is
 -- what follows from the statement and what was seen of it
 pub record GoesOn {R : Type 0} (state : R → RevState) (skeleton : Skeleton) (old new : Engine R) (t : StoreState) : Type 0 where
@@ -106,6 +111,7 @@ pub record Ran {R : Type 0} (state : R → RevState) (skeleton : Skeleton) (resu
   pub later : Later s t
   pub keys : new.vault.keys ≡ old.vault.keys
   pub ends : new.seen.end ≡ result_end result (length t.asked - length s.asked)
+  pub asks : IsFaulted result → length s.asked < length t.asked
   pub cause : RunCause result (world_of state old s) (world_of state new t)
   pub room : IsFree old.public new.room
   pub opened : Opens (script old.public skeleton new.seen) old.room.high new.room.high

@@ -1,22 +1,28 @@
-use Rattle.std.proofs.Common.{◌≡◌, ◌++◌, ℕ, Bool, false, List, length, Ok, Err, Result, refl, sym, ◌∙◌, ap, subst, arith}
-use Rattle.std.specs.Prelude.{OnOk, ◌||◌, not, slice_get}
+use Rattle.std.proofs.Common.{◌≡◌, ◌++◌, ◌+◌, ◌*◌, ℕ, Bool, false, List, length, Ok, Err, Result, refl, sym, ◌∙◌, ap, subst, arith}
+use Rattle.std.specs.Prelude.{OnOk, not, slice_get}
 use Rattle.std.specs.Result.{is_err}
 use Rattle.std.specs.List.{list_any}
 use Rattle.std.proofs.lemmas.Option.{slice_get_within}
 use Rattle.ob_base.specs.declared.schema.Table.{Table}
 use Rattle.ob_base.specs.declared.skeleton.Source.{Source}
+use Rattle.ob_base.specs.Joins.{joined_blocks}
+use Rattle.ob_base.specs.Numbers.{blocks_for}
 use Rattle.ob_base.specs.Stored.{has_table, headings_of}
+use Rattle.ob_row.specs.Results.{joined}
+use Rattle.ob_vault.specs.Places.{at}
 use Rattle.ob_sql.specs.declared.stmt.Stmt.TheVariants.{SelectRows as RowsStmt}
 use Rattle.ob_mean.specs.Refusals.{left_place, right_place, source_tables}
 use Rattle.ob_flat.specs.declared.flat.Flat.{Flat}
+use Rattle.ob_join.specs.Join.{Joins, TellsSlots, join_in}
 use Rattle.ob_mean.specs.Verdict.{is_late}
 use Rattle.ob_mean.proofs.EarlyLemmas.{allowed}
 use Rattle.ob_vault.specs.Places.{at}
 use Rattle.ob_exec.specs.Agreeing.{world_of}
-use Rattle.ob_exec.specs.Engines.{IsAt}
-use Rattle.ob_exec.specs.Selecting.{Selection, SelectsFrom}
-use Rattle.ob_exec.proofs.FoundLemmas.{is_there}
+use Rattle.ob_exec.specs.Engines.{IsAt, flat_of}
+use Rattle.ob_exec.specs.Selecting.{MaySelect, Selection, SelectsFrom}
+use Rattle.ob_exec.proofs.FoundLemmas.{absent}
 use Rattle.ob_exec.proofs.RowsJoin.{join_idle, join_may, join_some, join_starts}
+use Rattle.ob_exec.proofs.RowsJoinStart.{join_stops, start_query, join_selects}
 use Rattle.ob_exec.proofs.RowsJoinEnd.{join_ends, join_halts, join_query}
 use Rattle.ob_exec.proofs.RowsNothing.{halts_first}
 use Rattle.ob_exec.proofs.RowsRoom.{lives_after, room_twice}
@@ -36,8 +42,8 @@ unreachable-requires-in_default-find_table g c =
     let free = allowed (is_late (length (g.S.BlockStore.state c.args.store.now).asked)) old.public.pack old.public.buffer hs (RowsStmt c.args.select.now) c.requires.allowed in
     let both = there_are (has_table c.in-Join.left hs) (has_table c.in-Join.right hs)
     (sym (ap (λ (source : Source). list_any (λ (name : List ℕ). not (has_table name hs)) (source_tables source)) c.in-Join.is) ∙ free.tables) in
-    is_there c.in-Join.left old.public.tables (ap (λ (x : Bool). not x || false) both.0)
-    (λ i t is. c.in_default-find_table.ensures.none i t (subst (λ (ts : List Table). IsAt c.in-Join.left i t ts) (sym c.as_slice.ensures) is))
+    let none = absent c.in-Join.left old.public.tables (λ i t is. c.in_default-find_table.ensures.none i t (subst (λ (ts : List Table). IsAt c.in-Join.left i t ts) (sym c.as_slice.ensures) is)) in
+    absurd (cc (both.0, none))
 
 pub unreachable-requires-in_default-find_table-2 : goal.unreachable-requires-in_default-find_table-2
 unreachable-requires-in_default-find_table-2 g c =
@@ -46,8 +52,8 @@ unreachable-requires-in_default-find_table-2 g c =
     let free = allowed (is_late (length (g.S.BlockStore.state c.args.store.now).asked)) old.public.pack old.public.buffer hs (RowsStmt c.args.select.now) c.requires.allowed in
     let both = there_are (has_table c.in-Join.left hs) (has_table c.in-Join.right hs)
     (sym (ap (λ (source : Source). list_any (λ (name : List ℕ). not (has_table name hs)) (source_tables source)) c.in-Join.is) ∙ free.tables) in
-    is_there c.in-Join.right old.public.tables (ap (λ (x : Bool). not x || false) both.1)
-    (λ i t is. c.in_default-find_table-2.ensures.none i t (subst (λ (ts : List Table). IsAt c.in-Join.right i t ts) (sym c.as_slice-2.ensures) is))
+    let none = absent c.in-Join.right old.public.tables (λ i t is. c.in_default-find_table-2.ensures.none i t (subst (λ (ts : List Table). IsAt c.in-Join.right i t ts) (sym c.as_slice-2.ensures) is)) in
+    absurd (cc (both.1, none))
 
 pub flat_at-left-requires : goal.flat_at-left-requires
 flat_at-left-requires g c =
@@ -140,10 +146,58 @@ join-requires-clause-room g c =
     join_idle state old s c.in-Some.i c.in-Some-find_table.j one.0 two.0 c.in-Join.left c.in-Join.right c.in-Join.on c.in-Join.equals c.args.select.now c.requires.agrees left.get right.get left.named right.named c.in-Join.is c.requires.allowed c.flat_at-left.result c.flat_at-right.result left_is right_is
 
 pub returns-in-Err-clause-selects : goal.returns-in-Err-clause-selects
-returns-in-Err-clause-selects g c = ?
+returns-in-Err-clause-selects g c =
+    let old = c.args.self.now in
+    let state = g.R.Revisions.state in
+    let s = g.S.BlockStore.state c.args.store.now in
+    let s1 = g.S.BlockStore.state c.room.new.self in
+    let s2 = g.S.BlockStore.state c.join.new.store in
+    let one = c.in-Some.ensures.found in
+    let two = c.in-Some-find_table.ensures.found in
+    let left = subst (λ (ts : List Table). IsAt c.in-Join.left c.in-Some.i one.0 ts) c.as_slice.ensures one.1 in
+    let right = subst (λ (ts : List Table). IsAt c.in-Join.right c.in-Some-find_table.j two.0 ts) c.as_slice-2.ensures two.1 in
+    let left_is = c.flat_at-left.ensures one.0 (ap (λ (ts : List Table). slice_get ts c.in-Some.i) c.as_slice-3.ensures ∙ left.get) in
+    let right_is = c.flat_at-right.ensures two.0 (ap (λ (ts : List Table). slice_get ts c.in-Some-find_table.j) c.as_slice-4.ensures ∙ right.get) in
+    let lcol = c.left_place-lcol.result in
+    let rcol = c.right_place-rcol.result in
+    let joins = subst (λ (f : Flat). Joins (join_in old.room f lcol (flat_of two.0) rcol) (Err c.in-Err.error) (at state old.vault s1) (at state c.join.new.vault s2)) left_is
+    (subst (λ (f : Flat). Joins (join_in old.room c.flat_at-left.result lcol f rcol) (Err c.in-Err.error) (at state old.vault s1) (at state c.join.new.vault s2)) right_is c.in-Err.ensures.joins) in
+    let made = joined lcol rcol old.room.pack old.room.rows in
+    let tells = subst (λ (f : Flat). TellsSlots (join_in old.room f lcol (flat_of two.0) rcol) made (Err c.in-Err.error) (at state old.vault s1) (at state c.join.new.vault s2)) left_is
+    (subst (λ (f : Flat). TellsSlots (join_in old.room c.flat_at-left.result lcol f rcol) made (Err c.in-Err.error) (at state old.vault s1) (at state c.join.new.vault s2)) right_is c.in-Err.ensures.told) in
+    join_stops state old s s1 c.in-Some.i c.in-Some-find_table.j one.0 two.0 c.in-Join.left c.in-Join.right c.in-Join.on c.in-Join.equals c.args.select.now c.requires.agrees left.get right.get left.named right.named c.in-Join.is c.requires.allowed c.room.ensures.rests
+    lcol rcol c.join.new.vault s2
+    c.in-Err.error joins made tells g.E.Emit.grew g.E.Emit.cut g.E.Emit.faults c.args.seen.now c.args.out.now c.requires.fresh
 
 pub select_from-requires-clause-may : goal.select_from-requires-clause-may
-select_from-requires-clause-may g c = ?
+select_from-requires-clause-may g c =
+    let old = c.args.self.now in
+    let state = g.R.Revisions.state in
+    let s = g.S.BlockStore.state c.args.store.now in
+    let s1 = g.S.BlockStore.state c.room.new.self in
+    let s2 = g.S.BlockStore.state c.join.new.store in
+    let one = c.in-Some.ensures.found in
+    let two = c.in-Some-find_table.ensures.found in
+    let left = subst (λ (ts : List Table). IsAt c.in-Join.left c.in-Some.i one.0 ts) c.as_slice.ensures one.1 in
+    let right = subst (λ (ts : List Table). IsAt c.in-Join.right c.in-Some-find_table.j two.0 ts) c.as_slice-2.ensures two.1 in
+    let left_is = c.flat_at-left.ensures one.0 (ap (λ (ts : List Table). slice_get ts c.in-Some.i) c.as_slice-3.ensures ∙ left.get) in
+    let right_is = c.flat_at-right.ensures two.0 (ap (λ (ts : List Table). slice_get ts c.in-Some-find_table.j) c.as_slice-4.ensures ∙ right.get) in
+    let lcol = c.left_place-lcol.result in
+    let rcol = c.right_place-rcol.result in
+    let joins = subst (λ (f : Flat). Joins (join_in old.room f lcol (flat_of two.0) rcol) (Ok c.in-Ok-join.joined) (at state old.vault s1) (at state c.join.new.vault s2)) left_is
+    (subst (λ (f : Flat). Joins (join_in old.room c.flat_at-left.result lcol f rcol) (Ok c.in-Ok-join.joined) (at state old.vault s1) (at state c.join.new.vault s2)) right_is c.in-Ok-join.ensures.joins) in
+    let spare = at_ok c.room.result _ (sym c.is_err.ensures.value ∙ c.if-is_err.false) c.room.ensures.spare in
+    let columns = c.as_slice-columns.ensures.value ∙ ap (λ (f : Flat). f.schema) left_is in
+    let others = c.as_slice-others.ensures.value ∙ ap (λ (f : Flat). f.schema) right_is in
+    let is = start_query state old s s1 c.in-Some.i c.in-Some-find_table.j one.0 two.0 c.in-Join.left c.in-Join.right c.in-Join.on c.in-Join.equals c.args.select.now c.requires.agrees left.get right.get left.named right.named c.in-Join.is c.requires.allowed c.room.ensures.rests
+    lcol rcol c.join.new.vault s2
+    c.in-Ok-join.joined c.in-Ok.pred c.as_slice-5.result.now c.as_slice-columns.result.now c.as_slice-others.result.now joins.makes.value columns others c.in-Ok.ensures
+    (c.as_slice-5.ensures.value ∙ c.printed_places-cols.ensures) in
+    let may = join_selects state old s s1 c.in-Some.i c.in-Some-find_table.j one.0 two.0 c.in-Join.left c.in-Join.right c.in-Join.on c.in-Join.equals c.args.select.now c.requires.agrees left.get right.get left.named right.named c.in-Join.is c.requires.allowed c.room.ensures.rests
+    lcol rcol c.join.new.vault s2
+    c.join.new.room _ c.in-Ok-join.joined c.join_accesses.result c.join.ensures.room joins
+    (c.join_accesses.ensures ∙ (λ k. blocks_for old.public.pack (left_is k).capacity + 3 * joined_blocks old.public.pack old.public.buffer (left_is k).capacity (right_is k).capacity + 2)) spare in
+    subst (λ (x : Selection). MaySelect x c.join.new.room (at state c.join.new.vault s2)) (sym is) may
 
 pub discard-requires-clause-lives : goal.discard-requires-clause-lives
 discard-requires-clause-lives g c =
