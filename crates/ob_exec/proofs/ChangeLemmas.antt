@@ -1,5 +1,5 @@
 -- What UPDATE and DELETE make of a table.
-use Rattle.std.proofs.Common.{◌≡◌, ℕ, suc, List, [], ◌∷◌, ◌++◌, length, map, Some, None, Option, refl, sym, ◌∙◌, ap, subst, arith}
+use Rattle.std.proofs.Common.{◌≡◌, ℕ, suc, List, [], ◌∷◌, ◌++◌, map, Some, None, Option, refl, sym, ◌∙◌, ap, subst, arith}
 use Rattle.std.specs.List.{All}
 use Rattle.std.specs.Prelude.{count_by}
 use Rattle.std.specs.Option.{option_map, option_map_or}
@@ -16,21 +16,18 @@ use Rattle.ob_row.specs.Rows.{Row}
 use Rattle.ob_row.specs.Slots.{Slots, rows, emptied}
 use Rattle.ob_row.specs.Truth.{is_true, updated}
 use Rattle.ob_sql.specs.declared.stmt.Set.{Set}
-use Rattle.ob_sql.specs.declared.stmt.Stmt.{Stmt}
 use Rattle.ob_sql.specs.declared.stmt.Stmt.TheVariants.{Update, Delete}
 use Rattle.ob_sql.specs.Search.{Search}
 use Rattle.ob_mean.specs.Names.{columns_at, literal_cell, place_of, unqualified, where_at}
 use Rattle.ob_mutate.specs.Changing.{FitsSets}
 use Rattle.ob_verdict.specs.Accepted.{SetFits}
 use Rattle.ob_verdict.proofs.AcceptedProof.{sets_fit}
-use Rattle.ob_mean.specs.Refusals.{early_refusal}
 use Rattle.ob_mean.specs.Step.{accepted_answer, answered, followed, rows_at, set_cells}
 use Rattle.ob_mean.specs.Settle.{settled}
 use Rattle.ob_mean.proofs.VerdictLemmas.{headings-database, heading-stored, stored-database, refused_late}
 use Rattle.ob_mean.specs.Verdict.{Tables, database, is_late, refusal}
-use Rattle.ob_exec.specs.declared.outcome.Outcome.{Outcome}
 use Rattle.ob_exec.specs.declared.outcome.Outcome.TheVariants.{Changed, Deleted}
-use Rattle.ob_exec.specs.Running.{Emits, refusal_now}
+use Rattle.ob_exec.specs.Running.{refusal_now}
 use Rattle.ob_exec.specs.Schemas.{IsSet}
 use Rattle.ob_exec.specs.Telling.{outcome_of}
 use Rattle.ob_exec.proofs.MutateLemmas.{Alters}

@@ -1,5 +1,5 @@
 -- The rows that are selected, and reads of blocks that were changed.
-use Rattle.std.proofs.Common.{◌≡◌, ℕ, suc, List, [], ◌∷◌, length, Option, Some, None, refl, ap}
+use Rattle.std.proofs.Common.{◌≡◌, ℕ, suc, [], ◌∷◌, length, Option, Some, None, refl, ap}
 use Rattle.ob_base.specs.Lists.{places_from}
 use Rattle.ob_row.specs.Condition.{All}
 use Rattle.ob_row.specs.Slots.{Slots, rows, is_selected, selected}

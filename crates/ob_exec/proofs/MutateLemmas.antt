@@ -1,5 +1,5 @@
 -- INSERT, UPDATE and DELETE: a table's slots change, and it lies in a fresh region.
-use Rattle.std.proofs.Common.{◌≡◌, inl, inr, ◌-◌, ◌*◌, max, ℕ, Bool, true, false, if◌then◌else◌, cond, List, [], ◌∷◌, ◌++◌, length, Some, None, Option, Ok, Err, Result, refl, sym, ◌∙◌, ap, subst, arith, slice_get, slice_set}
+use Rattle.std.proofs.Common.{◌≡◌, inl, inr, ◌-◌, ◌*◌, max, ℕ, Bool, false, List, [], ◌++◌, length, Some, None, Option, Ok, Err, Result, refl, sym, ◌∙◌, ap, subst, arith, slice_get, slice_set}
 use Rattle.std.specs.Option.{option_map_or}
 use Rattle.std.specs.Prelude.{IsTrue}
 use Rattle.std.proofs.lemmas.Bool.{cases_eq}
@@ -12,15 +12,15 @@ use Rattle.ob_base.specs.declared.seen.End.{End}
 use Rattle.ob_base.specs.declared.seen.End.TheVariants.{Whole, Cut}
 use Rattle.ob_base.specs.Accesses.{make_at}
 use Rattle.ob_base.specs.Numbers.{blocks_for}
-use Rattle.ob_base.specs.Schemas.{Columns, width}
-use Rattle.ob_base.specs.Stored.{Stored, headings, stored_at, changed_at, stored_regions}
+use Rattle.ob_base.specs.Schemas.{width}
+use Rattle.ob_base.specs.Stored.{Stored, headings, stored_at, changed_at}
 use Rattle.ob_room.specs.RoomState.{RoomState}
 use Rattle.ob_store.specs.State.{StoreState}
 use Rattle.ob_store.specs.Calls.{Rests}
 use Rattle.ob_vault.specs.State.{RevState, World}
 use Rattle.ob_vault.specs.declared.vault.Vault.{Vault}
 use Rattle.ob_vault.specs.Places.{at}
-use Rattle.ob_vault.specs.Calls.{Went, one, two}
+use Rattle.ob_vault.specs.Calls.{two}
 use Rattle.ob_vault.specs.Words.{IsHonest}
 use Rattle.ob_vault.proofs.Runs.{went_join}
 use Rattle.ob_vault.proofs.WordLemmas.{went_rests}
@@ -41,7 +41,7 @@ use Rattle.ob_exec.specs.declared.engine.Engine.{Engine}
 use Rattle.ob_exec.specs.declared.outcome.Outcome.{Outcome}
 use Rattle.ob_exec.specs.Engines.{IsAt, IsTable, AreTables, flat_of}
 use Rattle.ob_exec.specs.Agreeing.{Agrees, world_of}
-use Rattle.ob_exec.specs.Running.{Ran, Emits, answer_of, is_stop, refusal_now}
+use Rattle.ob_exec.specs.Running.{Emits, answer_of, is_stop, refusal_now}
 use Rattle.ob_exec.specs.Serving.{ServesSilently}
 use Rattle.ob_exec.specs.Telling.{AreHeld, ReadsTrue, Represents, outcome_of}
 use Rattle.ob_exec.proofs.HeldLemmas.{Beside, held_at, held_moved}
@@ -49,7 +49,7 @@ use Rattle.ob_exec.proofs.RunLemmas.{IsAnswered, engine_after, ran_done}
 use Rattle.ob_exec.proofs.SealLemmas.{keeps_pass}
 use Rattle.ob_exec.proofs.SilentLemmas.{cut_off, finished, serves_as}
 use Rattle.ob_exec.proofs.TableLemmas.{region_below, set_moved, stored_found, tables_moved}
-use Rattle.ob_exec.proofs.ToldLemmas.{IsFault, early_held, fault_made, silent_pass}
+use Rattle.ob_exec.proofs.ToldLemmas.{early_held, fault_made, silent_pass}
 
 -- what a statement makes of the slots of the table of a name
 pub record MeansFor {T : Type 0} (p : Public) (m : ℕ) (stmt : Stmt) (name : List ℕ) (outcome : T → Outcome) (answer : Slots → T) (after : Slots → Slots) (tables : Tables) (slots : Slots) : Type 0 where

@@ -1,5 +1,5 @@
 -- A result by each of the plans.
-use Rattle.std.proofs.Common.{◌≡◌, ◌⊎◌, inl, inr, ◌≤◌, ◌<◌, ◌*◌, ◌+◌, ℕ, Bool, IsTrue, List, [], ◌∷◌, ◌++◌, Option, None, Some, Result, Ok, Err, max, length, refl, sym, ◌∙◌, ap, subst, arith}
+use Rattle.std.proofs.Common.{◌≡◌, ◌⊎◌, inl, inr, ◌≤◌, ◌*◌, ◌+◌, ℕ, IsTrue, List, [], ◌∷◌, ◌++◌, None, Result, Ok, Err, length, refl, sym, ap, subst, arith}
 use Rattle.ob_base.specs.declared.access.Access.{Access}
 use Rattle.ob_base.specs.declared.config.Plan.TheVariants.{Small, Large, Continuous, Hash}
 use Rattle.ob_base.specs.Accesses.{make_at}
@@ -7,16 +7,14 @@ use Rattle.ob_base.specs.Limits.{buffered_blocks}
 use Rattle.ob_base.specs.Numbers.{blocks_for}
 use Rattle.ob_base.specs.Schemas.{width}
 use Rattle.ob_room.specs.RoomState.{RoomState}
-use Rattle.ob_row.specs.Slots.{Slots}
 use Rattle.ob_row.specs.Truth.{is_true}
 use Rattle.ob_store.specs.Runs.{Began}
 use Rattle.ob_vault.specs.State.{World}
 use Rattle.ob_vault.specs.Calls.{Went, one}
-use Rattle.ob_vault.specs.Words.{IsHonest}
 use Rattle.ob_flat.specs.declared.fault.OpErr.{OpErr}
-use Rattle.ob_flat.specs.declared.fault.OpErr.TheVariants.{Failed, Tampered, Sink, NoMemory}
+use Rattle.ob_flat.specs.declared.fault.OpErr.TheVariants.{Failed, Sink, NoMemory}
 use Rattle.ob_flat.specs.declared.flat.Flat.{Flat}
-use Rattle.ob_flat.specs.Flats.{IsWritten, IsFlat, Represents}
+use Rattle.ob_flat.specs.Flats.{IsWritten, Represents}
 use Rattle.ob_flat.specs.Passes.{PassCut}
 use Rattle.ob_flat.specs.Words.{SealsTable}
 use Rattle.ob_flat.proofs.Tables.{written_flat}
@@ -25,9 +23,8 @@ use Rattle.ob_large.specs.Selecting as L
 use Rattle.ob_cont.specs.Selecting as C
 use Rattle.ob_hash.specs.Selecting as H
 use Rattle.ob_hash.specs.Hashing.{layout_at}
-use Rattle.ob_hash.specs.Answers.{flat_of, overflow_of}
 use Rattle.ob_hash.specs.declared.selecting.Placed.{Placed}
-use Rattle.ob_hash.specs.declared.selecting.Placed.TheVariants.{Done, Overflow}
+use Rattle.ob_hash.specs.declared.selecting.Placed.TheVariants.{Done}
 use Rattle.ob_hash.proofs.Sizes.{blocks_whole}
 use Rattle.ob_exec.specs.Engines.{IsFree}
 use Rattle.ob_exec.specs.Memory.{is_make}

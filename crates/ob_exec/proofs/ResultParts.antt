@@ -1,21 +1,18 @@
 -- The accesses of a result: their number, and where want of memory may come among them.
-use Rattle.std.proofs.Common.{◌≡◌, ◌⊎◌, inl, inr, ◌≤◌, ◌<◌, ◌+◌, ◌*◌, ◌-◌, ◌^◌, ℕ, suc, zero, Bool, true, false, IsTrue, List, [], ◌∷◌, ◌++◌, length, refl, sym, ◌∙◌, ap, subst, arith, append_assoc, length-append, mul-le-mul}
+use Rattle.std.proofs.Common.{◌≡◌, ◌≤◌, ◌+◌, ◌*◌, ◌-◌, ℕ, suc, zero, IsTrue, List, [], ◌∷◌, ◌++◌, length, refl, sym, ◌∙◌, ap, subst, arith, length-append, mul-le-mul}
 use Rattle.std.specs.Int.{div_ceil}
 use Rattle.std.specs.List.{list_all}
 use Rattle.ob_base.specs.declared.access.Access.{Access}
 use Rattle.ob_base.specs.declared.access.Access.TheVariants.{Make, Read, Write, Discard}
 use Rattle.ob_base.specs.declared.config.Plan.{Plan}
 use Rattle.ob_base.specs.declared.config.Plan.TheVariants.{Small, Large, Continuous, Hash}
-use Rattle.ob_base.specs.Accesses.{read_at, makes}
+use Rattle.ob_base.specs.Accesses.{read_at}
 use Rattle.ob_base.specs.Lists.{each}
 use Rattle.ob_base.specs.Limits.{buffered_blocks}
 use Rattle.ob_base.specs.Numbers.{blocks_for}
 use Rattle.ob_script.specs.Script.{extent_of, plan_part, result_blocks}
 use Rattle.ob_script.specs.Parts.{count_part, emission_part}
-use Rattle.ob_script.proofs.Lengths.{length-count_part}
 use Rattle.ob_script.proofs.Numbers.{length-small_part, length-large_part, length-continuous_part, length-hash_part, length-emission_part}
-use Rattle.ob_script.proofs.Makes.{makes-small_part, makes-large_part, makes-continuous_part, makes-hash_part, makes-emission_part}
-use Rattle.ob_base.proofs.AccessLemmas.{makes-append}
 use Rattle.ob_hash.proofs.Sizes.{blocks_whole}
 use Rattle.ob_flat.specs.Words.{blocks_of}
 use Rattle.ob_base.specs.declared.config.Public.{Public}

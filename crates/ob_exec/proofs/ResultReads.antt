@@ -1,6 +1,5 @@
 -- A result that was read back, and discarded or forgotten.
-use Rattle.std.proofs.Common.{◌≡◌, ◌⊎◌, inl, inr, ◌+◌, arith, ℕ, Bool, List, [], ◌++◌, None, Some, Result, Ok, Err, refl, sym, ◌∙◌, ap, subst}
-use Rattle.ob_base.specs.declared.access.Access.{Access}
+use Rattle.std.proofs.Common.{◌≡◌, inl, inr, ◌+◌, arith, ℕ, Bool, List, [], ◌++◌, None, Result, Ok, Err, refl, sym, ◌∙◌, ap, subst}
 use Rattle.ob_base.specs.Accesses.{discard_at}
 use Rattle.ob_base.specs.declared.shown.Shown.{Shown}
 use Rattle.ob_base.specs.Events.{Event, IsEmitted, IsHalted}
@@ -13,7 +12,6 @@ use Rattle.ob_vault.specs.Tied.{Fits, IsUnfit}
 use Rattle.ob_vault.specs.Calls.{Went, Lasts, Seals, none, one}
 use Rattle.ob_vault.proofs.Runs.{went_join, went_wider, none_went}
 use Rattle.ob_flat.specs.declared.fault.OpErr.{OpErr}
-use Rattle.ob_flat.specs.declared.fault.OpErr.TheVariants.{Failed, Tampered, Sink, NoMemory}
 use Rattle.ob_flat.specs.declared.flat.Flat.{Flat}
 use Rattle.ob_flat.specs.Discards.{Discards}
 use Rattle.ob_flat.specs.Emission.{SlotsToEnd, SlotsToHalt}

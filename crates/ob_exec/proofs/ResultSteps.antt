@@ -1,5 +1,5 @@
 -- The steps of one result join.
-use Rattle.std.proofs.Common.{◌≡◌, ◌⊎◌, inl, inr, ◌≤◌, ◌<◌, ◌+◌, ◌-◌, ◌*◌, zero, suc, mul-le-mul, ℕ, Bool, true, false, IsTrue, List, [], ◌∷◌, ◌++◌, Option, None, Some, Result, Ok, Err, length, refl, sym, ◌∙◌, ap, subst, arith, append_assoc, length-append, append-nil}
+use Rattle.std.proofs.Common.{◌≡◌, ◌⊎◌, inl, inr, ◌≤◌, ◌<◌, ◌+◌, ◌-◌, ◌*◌, zero, suc, mul-le-mul, ℕ, Bool, false, IsTrue, List, [], ◌∷◌, ◌++◌, Option, None, Some, Result, Ok, Err, length, refl, sym, ◌∙◌, ap, subst, arith, append_assoc, length-append}
 use Rattle.ob_base.specs.declared.config.Plan.{Plan}
 use Rattle.std.proofs.Math.Nat.{zero-mul}
 use Rattle.std.specs.Result.{is_err}
@@ -9,15 +9,14 @@ use Rattle.ob_exec.specs.Engines.{AreSettings}
 use Rattle.std.specs.Prelude.{IsSome, OnOk, IfErr, IfOk, OnErr, map}
 use Rattle.std.specs.Option.{option_map}
 use Rattle.std.specs.List.{list_all}
-use Rattle.std.proofs.lemmas.List.{length-map}
 use Rattle.ob_base.specs.declared.access.Access.{Access}
 use Rattle.ob_base.specs.declared.config.Plan.TheVariants.{Small, Large, Continuous, Hash}
 use Rattle.ob_base.specs.declared.refusal.Refusal.TheVariants.{Overflow as OverflowAt}
 use Rattle.ob_base.specs.declared.shown.Shown.{Shown}
-use Rattle.ob_base.specs.Events.{Event, IsEmitted, IsHalted, row_events}
+use Rattle.ob_base.specs.Events.{Event, row_events}
 use Rattle.ob_base.proofs.EventLemmas.{halted_none}
 use Rattle.ob_row.specs.Rows.{Row}
-use Rattle.ob_row.specs.Slots.{Slots, rows}
+use Rattle.ob_row.specs.Slots.{rows}
 use Rattle.ob_row.specs.Totals.{printed}
 use Rattle.ob_script.specs.Parts.{count_part, emission_part}
 use Rattle.ob_script.proofs.Lengths.{length-count_part}
@@ -26,10 +25,9 @@ use Rattle.ob_store.specs.State.{StoreState}
 use Rattle.ob_store.specs.Calls.{Rests}
 use Rattle.ob_store.specs.Runs.{Began}
 use Rattle.ob_vault.specs.State.{VaultState, World}
-use Rattle.ob_vault.specs.Tied.{Ready, IsUnfit}
+use Rattle.ob_vault.specs.Tied.{Ready}
 use Rattle.ob_vault.specs.declared.region.Region.{Region}
 use Rattle.ob_vault.specs.Calls.{Went, Lasts, Seals, one}
-use Rattle.ob_vault.specs.Words.{IsHonest}
 use Rattle.ob_vault.proofs.Runs.{went_length, seals_join}
 use Rattle.ob_vault.proofs.WordLemmas.{went_rests, seals_rests, honest_before}
 use Rattle.ob_flat.specs.declared.fault.OpErr.{OpErr}
@@ -37,20 +35,18 @@ use Rattle.ob_flat.specs.declared.fault.OpErr.TheVariants.{Failed, Tampered, Sin
 use Rattle.ob_flat.specs.declared.flat.Flat.{Flat}
 use Rattle.ob_flat.specs.Emission.{SlotsToEnd, SlotsToHalt}
 use Rattle.ob_flat.specs.Flats.{IsSized, FitsRegion, Represents}
-use Rattle.ob_flat.specs.Passes.{PassCut, SinkCause, is_of_access}
+use Rattle.ob_flat.specs.Passes.{SinkCause, is_of_access}
 use Rattle.ob_flat.specs.Words.{HasSpare, Ran, SealsTable, blocks_of}
 use Rattle.ob_flat.proofs.Resting.{represents_rests}
 use Rattle.ob_flat.proofs.Sinks.{none_before}
 use Rattle.ob_flat.proofs.WordLemmas.{ran_more, ran_after, ran_lasts}
-use Rattle.ob_emit.specs.Emitting.{table_shown}
 use Rattle.ob_hash.specs.declared.selecting.Placed.{Placed}
-use Rattle.ob_hash.specs.declared.selecting.Placed.TheVariants.{Done, Overflow}
 use Rattle.ob_mean.specs.Replay.{done_of}
 use Rattle.ob_exec.specs.declared.selecting.Selected.{Selected}
 use Rattle.ob_exec.specs.declared.selecting.Selected.TheVariants.{Rows, Refused}
 use Rattle.ob_exec.specs.Memory.{is_reading, starts_with_make, ends_with_make}
 use Rattle.ob_exec.specs.Selecting.{SealsRows, emitted_unless, selected_as}
-use Rattle.ob_exec.specs.Results.{Planned, PlannedToEnd, PlannedToHalt, LacksMemoryOf, MakesResult, EmitsResult, WalksResult, SelectsBy, EmitsHeld, slots_for, fresh_flat, make_part, whole_part, left_out, held_slots, held_shown, held_events, held_answer, head_of}
+use Rattle.ob_exec.specs.Results.{Planned, PlannedToEnd, PlannedToHalt, MakesResult, EmitsResult, WalksResult, SelectsBy, EmitsHeld, slots_for, fresh_flat, make_part, whole_part, left_out, held_slots, held_shown, held_events, head_of}
 use Rattle.ob_exec.proofs.ResultParts.{whole_is, starts-make, starts-more, rest-reading, all-join, all-emission}
 use Rattle.ob_exec.proofs.ResultReads.{emitted_from, halted_from}
 use Rattle.ob_exec.proofs.ResultRows.{held_count}

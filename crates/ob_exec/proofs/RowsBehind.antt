@@ -1,12 +1,11 @@
 -- A SELECT of the rows of a fresh region, which other accesses made and one more discards.
-use Rattle.std.proofs.Common.{◌≡◌, ◌⊎◌, inl, inr, ◌≤◌, ◌<◌, ◌+◌, ◌-◌, ℕ, Bool, true, false, List, [], ◌∷◌, ◌++◌, length, Option, Some, None, Ok, Err, Result, refl, sym, ◌∙◌, ap, subst, arith, length-append, append-nil, append_assoc}
+use Rattle.std.proofs.Common.{◌≡◌, ◌⊎◌, inl, inr, ◌≤◌, ◌+◌, ◌-◌, ℕ, Bool, true, false, List, [], ◌∷◌, ◌++◌, length, Option, Some, None, Ok, Err, Result, refl, sym, ◌∙◌, ap, subst, arith, length-append, append-nil, append_assoc}
 use Rattle.std.specs.Prelude.{IsSome, IsTrue, nat_le}
 use Rattle.std.specs.List.{list_all}
 use Rattle.std.proofs.lemmas.Bool.{cases_eq}
 use Rattle.std.proofs.lemmas.Bool.Decides.{nat_tests}
 use Rattle.ob_base.specs.declared.access.Access.{Access}
 use Rattle.ob_base.specs.declared.config.Plan.{Plan}
-use Rattle.ob_base.specs.declared.config.Plan.TheVariants.{Small, Large, Continuous, Hash}
 use Rattle.ob_base.specs.declared.config.Public.{Public}
 use Rattle.ob_base.specs.declared.seen.Seen.{Seen}
 use Rattle.ob_base.specs.Accesses.{discard_at}
@@ -38,7 +37,7 @@ use Rattle.ob_exec.specs.declared.selecting.Selected.{Selected}
 use Rattle.ob_exec.specs.declared.selecting.Selected.TheVariants.{Rows, Refused}
 use Rattle.ob_exec.specs.Memory.{AtMake, ends_with_make, is_reading, starts_with_make}
 use Rattle.ob_exec.specs.Selecting.{EmitsSelected, HoldsSeen, MayHold, SealsRows, Selection, SelectsFrom, SelectsToEnd, SelectsToHalt, counted_after, from, places, region_of, seen_of, selection_script, walked_after}
-use Rattle.ob_exec.specs.Sources.{EmitsRows, EndsRows, HaltsRows, HoldsRows, LacksRowMemory, LeavesNone, SourceToEnd, SourceToHalt, rows_script, rows_skeleton, selection, slots_of, stated}
+use Rattle.ob_exec.specs.Sources.{EmitsRows, EndsRows, HaltsRows, HoldsRows, LacksRowMemory, LeavesNone, SourceToEnd, SourceToHalt, rows_script, rows_skeleton, slots_of, stated}
 use Rattle.ob_exec.specs.Telling.{AreHeld}
 use Rattle.ob_exec.proofs.RowsLength.{Seconded, alone, followed, held_empty, rows_seconded}
 use Rattle.ob_exec.proofs.RowsReach.{counted_some}
@@ -155,6 +154,7 @@ module _ (p : Public) (select : SelectRows) (g : ℕ) (x : List Access) (a b : W
       is = slots_are y.tables y.held y.tells (none_before b.store c.store is.ran.err.lasts.later (ap (λ (t : StoreState). t.lie) (sym same) ∙ y.nolie));
       nolie = ap (λ (t : StoreState). t.lie) (sym same) ∙ y.nolie;
     }
+
     abbrev to_halt : SourceToHalt p a d → SelectsToHalt q b c
     to_halt y =
         let unfit = unfit_before (one g) c d forgot.lasts same y.unfit in

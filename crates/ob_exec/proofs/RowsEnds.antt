@@ -1,5 +1,5 @@
 -- A SELECT of rows that came to its end, or was refused for its rows.
-use Rattle.std.proofs.Common.{◌≡◌, ◌≤◌, ◌+◌, ℕ, Bool, true, false, List, [], ◌∷◌, ◌++◌, map, length, Option, Some, None, Ok, Err, Result, refl, sym, ◌∙◌, ap, subst, arith, append_assoc}
+use Rattle.std.proofs.Common.{◌≡◌, ℕ, Bool, true, false, List, [], ◌∷◌, ◌++◌, length, Option, Some, None, Ok, Result, refl, sym, ◌∙◌, ap, subst, arith}
 use Rattle.std.specs.Prelude.{IsTrue}
 use Rattle.std.specs.List.{list_all}
 use Rattle.std.proofs.lemmas.List.{length-map}
@@ -13,10 +13,9 @@ use Rattle.ob_base.specs.Refusals.{is_store_fault}
 use Rattle.ob_room.specs.RoomState.{RoomState}
 use Rattle.ob_store.specs.State.{StoreState}
 use Rattle.ob_vault.specs.State.{RevState, World}
-use Rattle.ob_vault.specs.Calls.{Lasts}
 use Rattle.ob_vault.specs.declared.vault.Vault.{Vault}
 use Rattle.ob_vault.specs.Places.{at}
-use Rattle.ob_emit.specs.Emitting.{header, labels_of}
+use Rattle.ob_emit.specs.Emitting.{header}
 use Rattle.ob_sql.specs.declared.stmt.SelectRows.{SelectRows}
 use Rattle.ob_sql.specs.declared.stmt.Stmt.TheVariants.{SelectRows as RowsStmt}
 use Rattle.ob_mean.specs.Prints.{Prints}
@@ -27,11 +26,11 @@ use Rattle.ob_exec.specs.declared.selecting.Selected.{Selected}
 use Rattle.ob_exec.specs.declared.selecting.Selected.TheVariants.{Rows, Refused}
 use Rattle.ob_exec.specs.Agreeing.{Agrees, world_of}
 use Rattle.ob_exec.specs.Refusals.{by_fault}
-use Rattle.ob_exec.specs.Running.{Emits, is_fault, is_row, refusal_now}
-use Rattle.ob_exec.specs.Selecting.{answer_events, answer_of, emitted_unless, from, places, selected_as, shown_rows}
+use Rattle.ob_exec.specs.Running.{is_fault, is_row, refusal_now}
+use Rattle.ob_exec.specs.Selecting.{answer_events, answer_of, emitted_unless, places, selected_as, shown_rows}
 use Rattle.ob_exec.specs.Serving.{Answered, Serves}
-use Rattle.ob_exec.specs.Sources.{EmitsRows, EndsRows, IsFew, SourceToEnd, UsesRoomFor, closing, selected_outcome, selection, slots_of}
-use Rattle.ob_exec.specs.Telling.{Emitted, Meant, ReadsTrue, Represents, Told, answer_labels}
+use Rattle.ob_exec.specs.Sources.{EndsRows, IsFew, UsesRoomFor, closing, selected_outcome, selection, slots_of}
+use Rattle.ob_exec.specs.Telling.{Emitted, ReadsTrue, Represents, Told, answer_labels}
 use Rattle.ob_exec.proofs.RowsLawful.{ended_late, ended_well, lawful_ended}
 use Rattle.ob_exec.proofs.RowsMeaning.{rows_outcome, rows_prints, rows_seen, rows_settle}
 use Rattle.ob_exec.proofs.RowsRun.{rows_after, rows_ran}

@@ -1,9 +1,8 @@
 -- What is known of the source of a SELECT of rows, where it is not refused before any access.
-use Rattle.std.proofs.Common.{◌≡◌, ℕ, false, List, length, None, refl, sym, ◌∙◌, ap, subst}
-use Rattle.std.specs.Prelude.{not, slice_get}
+use Rattle.std.proofs.Common.{◌≡◌, false, List, length, None, refl, sym, ◌∙◌, ap, subst}
+use Rattle.std.specs.Prelude.{not}
 use Rattle.std.specs.List.{list_any}
 use Rattle.ob_base.specs.declared.schema.Heading.{Heading}
-use Rattle.ob_base.specs.declared.config.Public.{Public}
 use Rattle.ob_base.specs.declared.skeleton.Source.{Source}
 use Rattle.ob_base.specs.declared.skeleton.Source.TheVariants.{Table as OneTable, Join}
 use Rattle.ob_base.specs.Stored.{has_table, headings, headings_of}

@@ -1,5 +1,5 @@
 -- What a SELECT of the rows of a join asks.
-use Rattle.std.proofs.Common.{◌≡◌, ◌≤◌, ◌<◌, ◌+◌, ◌-◌, ◌*◌, ℕ, List, [], ◌∷◌, ◌++◌, length, Option, Some, None, refl, sym, ◌∙◌, ap, subst, arith, length-append, append-nil, append_assoc}
+use Rattle.std.proofs.Common.{◌≡◌, ◌≤◌, ◌<◌, ◌+◌, ◌*◌, ℕ, List, [], ◌++◌, length, Option, Some, None, refl, sym, ◌∙◌, ap, subst, arith, length-append, append-nil, append_assoc}
 use Rattle.std.specs.Prelude.{IsSome, slice_get}
 use Rattle.std.specs.Int.{div_ceil}
 use Rattle.std.specs.Option.{option_map_or}
@@ -18,15 +18,15 @@ use Rattle.ob_base.specs.Joins.{joined_blocks, joined_slots}
 use Rattle.ob_base.specs.Limits.{buffered_blocks}
 use Rattle.ob_base.specs.Numbers.{blocks_for}
 use Rattle.ob_base.specs.Schemas.{Columns, width}
-use Rattle.ob_base.specs.Stored.{Stored, headings_of, heading_at, stored_at, stored_regions}
+use Rattle.ob_base.specs.Stored.{Stored, headings_of, heading_at}
 use Rattle.ob_script.specs.Parts.{count_part, join_part}
 use Rattle.ob_script.specs.Script.{after_count, blocks_of, extent_of, join_script, result_part, select_part, source_script}
 use Rattle.ob_script.proofs.Lengths.{length-count_part}
 use Rattle.ob_store.specs.State.{StoreState}
 use Rattle.ob_vault.specs.State.{RevState}
 use Rattle.ob_join.specs.Join.{MayJoin, fill_length, join_in, join_script as pass_script}
-use Rattle.ob_mean.specs.Lawful.{capacity_at, counted_slots}
-use Rattle.ob_mean.specs.Names.{columns_at, source_columns}
+use Rattle.ob_mean.specs.Lawful.{counted_slots}
+use Rattle.ob_mean.specs.Names.{source_columns}
 use Rattle.ob_mean.specs.Replay.{count_end, ending_len, walk_end}
 use Rattle.ob_mean.specs.Verdict.{ended as seen_to}
 use Rattle.ob_mean.specs.Refusals.{early_refusal, left_place, right_place}
@@ -104,10 +104,10 @@ module _ {R : Type 0} (state : R → RevState) (old : Engine R) (s : StoreState)
   join_asks lcol rcol now =
       ap (source_script old.public now) of_join
       ∙ (λ k. option_map_or (λ (left : Stored ℕ). option_map_or (λ (right : Stored ℕ). join_script old.public now left right) (stored_found b old.public.tables j u agrees.tables.names get_b named_b k) [])
-          (stored_found a old.public.tables i t agrees.tables.names get_a named_a k) [])
+      (stored_found a old.public.tables i t agrees.tables.names get_a named_a k) [])
       ∙ (λ k. join_part t.region u.region (agrees.next k) (blocks_for (sym agrees.room.pack k) t.heading.capacity) (blocks_for (sym agrees.room.pack k) u.heading.capacity)
-          (buffered_blocks (sym agrees.room.pack k) (sym agrees.room.rows k)) (sym agrees.room.pack k * width (t.heading.schema ++ u.heading.schema))
-          ++ select_part old.public now (agrees.next k + 1) (extent_of (record { heading = record { name = []; schema = both_schemas k; capacity = both_slots k }; held = agrees.next k })) (discard_at (agrees.next k)))
+      (buffered_blocks (sym agrees.room.pack k) (sym agrees.room.rows k)) (sym agrees.room.pack k * width (t.heading.schema ++ u.heading.schema))
+      ++ select_part old.public now (agrees.next k + 1) (extent_of (record { heading = record { name = []; schema = both_schemas k; capacity = both_slots k }; held = agrees.next k })) (discard_at (agrees.next k)))
       ∙ ap (λ (x : List Access). joins lcol rcol ++ x) (select_split old.public now (old.vault.next + 1) (region_of q) (discard_at old.vault.next))
 
   long : (lcol rcol : ℕ) (now : Seen) → length (rows_script old.public select now)

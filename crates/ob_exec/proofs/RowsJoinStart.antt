@@ -1,5 +1,5 @@
 -- A SELECT of the rows of a join, until the region of its rows is made.
-use Rattle.std.proofs.Common.{◌≡◌, ◌⊎◌, inl, inr, ◌≤◌, ◌+◌, ◌-◌, ◌*◌, ℕ, Bool, List, [], ◌∷◌, ◌++◌, length, Ok, Err, Some, None, refl, sym, ◌∙◌, ap, subst, arith, length-append}
+use Rattle.std.proofs.Common.{◌≡◌, ◌⊎◌, inl, inr, ◌≤◌, ◌+◌, ◌*◌, ℕ, Bool, List, [], ◌∷◌, ◌++◌, length, Ok, Err, Some, None, refl, sym, ◌∙◌, ap, subst, arith, length-append}
 use Rattle.std.specs.Prelude.{IsTrue, slice_get}
 use Rattle.std.specs.Int.{div_ceil}
 use Rattle.std.proofs.lemmas.Bool.{cases_eq}
@@ -59,7 +59,7 @@ use Rattle.ob_exec.specs.Agreeing.{Agrees, world_of}
 use Rattle.ob_exec.specs.Engines.{flat_of}
 use Rattle.ob_exec.specs.Running.{refusal_now}
 use Rattle.ob_exec.specs.Selecting.{MaySelect, SealsRows, Selection, counted_after, from, selection_script}
-use Rattle.ob_exec.specs.Sources.{LeavesNone, SelectsRows, SourceToEnd, selection, stated}
+use Rattle.ob_exec.specs.Sources.{LeavesNone, SelectsRows, SourceToEnd, stated}
 use Rattle.ob_exec.proofs.HeldLemmas.{held_at}
 use Rattle.ob_exec.proofs.RowsBehind.{ending_for}
 use Rattle.ob_exec.proofs.RowsJoin.{both_schemas, both_slots, join_asks, join_count, join_fits, join_least, join_may}

@@ -1,11 +1,11 @@
 -- What is seen of a SELECT of rows is lawful, whatever the store does.
-use Rattle.std.proofs.Common.{◌≡◌, ◌≤◌, ℕ, false, List, length, Option, Some, None, refl, sym, ◌∙◌, ap, subst, arith}
+use Rattle.std.proofs.Common.{◌≡◌, ◌≤◌, ℕ, false, List, length, Option, Some, None, refl, sym, ap, subst, arith}
 use Rattle.std.specs.Prelude.{IsSome}
 use Rattle.ob_base.specs.declared.config.Plan.{Plan}
-use Rattle.ob_base.specs.declared.config.Plan.TheVariants.{Small, Large, Continuous, Hash}
+use Rattle.ob_base.specs.declared.config.Plan.TheVariants.{Small, Hash}
 use Rattle.ob_base.specs.declared.config.Public.{Public}
 use Rattle.ob_base.specs.declared.refusal.Refusal.{Refusal}
-use Rattle.ob_base.specs.declared.refusal.Refusal.TheVariants.{Syntax, NoTable, NameTaken, NoColumn, WrongType, ValueRange, Limit, KeyRule, JoinKey, Duplicate, Full, TooManyGroups, NotConsecutive, Overflow, StoreFault}
+use Rattle.ob_base.specs.declared.refusal.Refusal.TheVariants.{NotConsecutive, Overflow}
 use Rattle.ob_base.specs.declared.access.Access.{Access}
 use Rattle.ob_base.specs.declared.seen.Seen.{Seen}
 use Rattle.ob_base.specs.declared.seen.End.{End}
@@ -13,14 +13,12 @@ use Rattle.ob_base.specs.declared.seen.End.TheVariants.{Static, Whole, AfterCoun
 use Rattle.ob_script.specs.Script.{until_end}
 use Rattle.ob_sql.specs.declared.stmt.SelectRows.{SelectRows}
 use Rattle.ob_sql.specs.declared.stmt.Stmt.TheVariants.{SelectRows as RowsStmt}
-use Rattle.ob_mean.specs.Lawful.{Lawful, Holds, IsCount, IsPlan, EndsUnplanned as Unplanned, EndsFrom, CutUpTo}
-use Rattle.ob_mean.specs.Replay.{count_end, walk_end}
-use Rattle.ob_exec.specs.declared.outcome.Outcome.{Outcome}
+use Rattle.ob_mean.specs.Lawful.{Lawful, Holds, EndsUnplanned as Unplanned, EndsFrom, CutUpTo}
 use Rattle.ob_exec.specs.declared.selecting.Selected.{Selected}
 use Rattle.ob_exec.specs.declared.selecting.Selected.TheVariants.{Rows, Refused}
 use Rattle.ob_exec.specs.Running.{refusal_now, is_fault, outcome_end}
-use Rattle.ob_exec.specs.Selecting.{Selection, MayHold, EndsAs, EndsCounted, EndsUnplanned, EndsOverflowed}
-use Rattle.ob_exec.specs.Sources.{selection, rows_skeleton, rows_script, ReachesRows, selected_outcome}
+use Rattle.ob_exec.specs.Selecting.{Selection, MayHold, EndsAs}
+use Rattle.ob_exec.specs.Sources.{selection, rows_script, ReachesRows, selected_outcome}
 
 -- ---- how it ends
 pub ended_end : (q : Selection) (answer : Selected) (seen : Seen) (n : ℕ) → EndsAs q answer seen → seen.end ≡ outcome_end (selected_outcome answer) n

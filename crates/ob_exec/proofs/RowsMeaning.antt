@@ -1,5 +1,5 @@
 -- What a SELECT of rows means for the slots of its source.
-use Rattle.std.proofs.Common.{◌≡◌, ◌≤◌, ◌<◌, ◌+◌, ◌*◌, ℕ, zero, suc, Bool, true, false, cond, List, [], ◌∷◌, ◌++◌, map, length, Option, Some, None, refl, sym, ◌∙◌, ap, subst, arith, append_assoc}
+use Rattle.std.proofs.Common.{◌≡◌, ◌≤◌, ◌+◌, ◌*◌, ℕ, suc, Bool, true, false, cond, List, [], ◌∷◌, ◌++◌, map, length, Option, Some, None, refl, sym, ◌∙◌, ap, subst, arith}
 use Rattle.std.specs.Prelude.{filter}
 use Rattle.std.proofs.lemmas.List.{length-map}
 use Rattle.ob_base.specs.declared.config.Public.{Public}
@@ -30,10 +30,8 @@ use Rattle.ob_mean.specs.Verdict.{Tables, database, is_late, refusal, verdict, s
 use Rattle.ob_mean.proofs.VerdictLemmas.{headings-database, refused_late, seen_late}
 use Rattle.ob_verdict.specs.Laws.{AreInPlace, last_plan, printed_rows}
 use Rattle.ob_verdict.proofs.AnswerProof.{prints_answer}
-use Rattle.ob_exec.specs.declared.outcome.Outcome.{Outcome}
-use Rattle.ob_exec.specs.declared.outcome.Outcome.TheVariants.{Rows as RowsOut, Refused as RefusedOut}
-use Rattle.ob_exec.specs.declared.selecting.Selected.{Selected}
-use Rattle.ob_exec.specs.declared.selecting.Selected.TheVariants.{Rows, Refused}
+use Rattle.ob_exec.specs.declared.outcome.Outcome.TheVariants.{Rows as RowsOut}
+use Rattle.ob_exec.specs.declared.selecting.Selected.TheVariants.{Rows}
 use Rattle.ob_exec.specs.Selecting.{Selection, places, answer_of, answer_events, emitted_unless, result_of, seen_of, selected_as, shown_rows, shown_where}
 use Rattle.ob_exec.specs.Sources.{closing, selected_outcome, selection, slots_of}
 use Rattle.ob_exec.specs.Telling.{Partly, answer_labels, outcome_of}

@@ -1,5 +1,5 @@
 -- A SELECT of rows of which nothing was counted yet.
-use Rattle.std.proofs.Common.{◌≡◌, ◌⊎◌, inl, inr, ◌≤◌, ◌<◌, ◌+◌, ◌-◌, ℕ, Bool, false, List, [], ◌∷◌, ◌++◌, length, Option, Some, None, refl, sym, ◌∙◌, ap, subst, arith, length-append, append-nil}
+use Rattle.std.proofs.Common.{◌≡◌, inl, inr, ◌≤◌, ◌<◌, ◌+◌, ◌-◌, ℕ, Bool, false, List, [], ◌++◌, length, Option, Some, None, refl, sym, ◌∙◌, ap, subst, arith, length-append, append-nil}
 use Rattle.std.specs.Prelude.{IsSome, nat_le}
 use Rattle.std.specs.Option.{option_map_or}
 use Rattle.ob_base.specs.declared.access.Access.{Access}
@@ -15,12 +15,11 @@ use Rattle.ob_base.specs.Accesses.{discard_at}
 use Rattle.ob_base.specs.Events.{Event}
 use Rattle.ob_base.specs.Stored.{Stored, stored_at, stored_regions}
 use Rattle.ob_row.specs.Slots.{Slots}
-use Rattle.ob_script.specs.Parts.{count_part, emission_part}
+use Rattle.ob_script.specs.Parts.{count_part}
 use Rattle.ob_script.specs.Script.{extent_of, join_script, plan_part, result_blocks, table_script}
 use Rattle.ob_store.specs.State.{StoreState}
 use Rattle.ob_store.specs.Calls.{Rests}
-use Rattle.ob_store.proofs.Steps.{later_rests}
-use Rattle.ob_vault.specs.State.{VaultState, World}
+use Rattle.ob_vault.specs.State.{VaultState}
 use Rattle.ob_vault.specs.Tied.{Ready}
 use Rattle.ob_vault.specs.declared.region.Region.{Region}
 use Rattle.ob_vault.proofs.WordLemmas.{seals_rests, went_rests}

@@ -1,5 +1,5 @@
 -- The room and the region of a join, over the selection of its rows.
-use Rattle.std.proofs.Common.{◌≡◌, ◌≤◌, max, ℕ, sym, ◌∙◌, ap, subst, arith}
+use Rattle.std.proofs.Common.{◌≡◌, max, ℕ, sym, ◌∙◌, ap, subst, arith}
 use Rattle.ob_room.specs.RoomState.{RoomState}
 use Rattle.ob_vault.specs.State.{World}
 use Rattle.ob_vault.specs.Tied.{Lives, Ready}

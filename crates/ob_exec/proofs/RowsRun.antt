@@ -1,39 +1,32 @@
 -- What a SELECT of rows leaves, whatever the store does.
-use Rattle.std.proofs.Common.{◌≡◌, inl, inr, ◌≤◌, ◌<◌, ◌+◌, ◌-◌, ℕ, Bool, true, false, List, [], ◌∷◌, ◌++◌, length, take, Ok, Err, Result, refl, sym, ◌∙◌, ap, subst, arith, length-append}
-use Rattle.std.specs.Prelude.{IsTrue}
-use Rattle.std.specs.List.{list_any}
+use Rattle.std.proofs.Common.{◌≡◌, ◌+◌, ◌-◌, ℕ, Bool, false, List, [], ◌∷◌, ◌++◌, length, take, Ok, refl, sym, ◌∙◌, ap, subst, arith, length-append}
 use Rattle.ob_base.specs.declared.access.Access.{Access}
 use Rattle.ob_base.specs.declared.config.Public.{Public}
-use Rattle.ob_base.specs.declared.refusal.Stop.TheVariants as Stops
-use Rattle.ob_base.specs.declared.schema.Table.{Table}
 use Rattle.ob_base.specs.declared.seen.Seen.{Seen}
 use Rattle.ob_base.specs.declared.seen.End.{End}
 use Rattle.ob_base.specs.declared.seen.End.TheVariants.{Static, Whole, AfterCount, Cut}
-use Rattle.ob_base.specs.declared.refusal.Stop.{Stop}
 use Rattle.ob_base.specs.Accesses.{makes}
 use Rattle.ob_base.specs.Events.{Event}
 use Rattle.ob_room.specs.RoomState.{RoomState}
 use Rattle.ob_store.specs.State.{StoreState}
 use Rattle.ob_store.proofs.Steps.{began_take}
-use Rattle.ob_script.specs.Script.{script, until_end}
+use Rattle.ob_script.specs.Script.{script}
 use Rattle.ob_script.specs.Trace.{tables_then}
 use Rattle.ob_vault.specs.State.{RevState, World}
 use Rattle.ob_vault.specs.Tied.{Ready}
 use Rattle.ob_vault.specs.Calls.{Lasts}
 use Rattle.ob_vault.specs.declared.vault.Vault.{Vault}
-use Rattle.ob_vault.specs.declared.region.Region.{Region}
 use Rattle.ob_vault.specs.Places.{at}
 use Rattle.ob_flat.specs.declared.fault.OpErr.{OpErr}
 use Rattle.ob_flat.specs.declared.fault.OpErr.TheVariants as OpErrs
 use Rattle.ob_flat.specs.Passes.{PassCut, PassCause}
 use Rattle.ob_sql.specs.declared.stmt.SelectRows.{SelectRows}
 use Rattle.ob_exec.specs.declared.engine.Engine.{Engine}
-use Rattle.ob_exec.specs.declared.outcome.Outcome.{Outcome}
 use Rattle.ob_exec.specs.declared.selecting.Selected.{Selected}
 use Rattle.ob_exec.specs.Agreeing.{Agrees, world_of}
 use Rattle.ob_exec.specs.Engines.{IsFree, AreTables}
-use Rattle.ob_exec.specs.Opening.{Opens, is_of_rows}
-use Rattle.ob_exec.specs.Running.{Ran, RunCause, GoesOn, Continues, answer_of, is_fault, is_stop, outcome_end, result_end}
+use Rattle.ob_exec.specs.Opening.{Opens}
+use Rattle.ob_exec.specs.Running.{Ran, RunCause, GoesOn, Continues, answer_of, is_fault, is_stop, result_end}
 use Rattle.ob_exec.specs.Selecting.{from}
 use Rattle.ob_exec.specs.Sources.{EndsRows, LeavesNone, UsesRoomFor, rows_script, rows_skeleton, selected_outcome, selection}
 use Rattle.ob_exec.proofs.RunLemmas.{asks_cut, asks_none, free_after, next_after, of_other}

@@ -1,9 +1,9 @@
 -- What is held, and how it ends, doesn't hang on where the rows lie.
-use Rattle.std.proofs.Common.{◌≡◌, ℕ, List, Option, Some, None}
+use Rattle.std.proofs.Common.{ℕ, Option, Some, None}
 use Rattle.ob_base.specs.declared.config.Plan.{Plan}
-use Rattle.ob_base.specs.declared.config.Plan.TheVariants.{Small, Large, Continuous, Hash}
+use Rattle.ob_base.specs.declared.config.Plan.TheVariants.{Small, Hash}
 use Rattle.ob_base.specs.declared.config.Public.{Public}
-use Rattle.ob_base.specs.declared.refusal.Refusal.TheVariants.{Syntax, NoTable, NameTaken, NoColumn, WrongType, ValueRange, Limit, KeyRule, JoinKey, Duplicate, Full, TooManyGroups, NotConsecutive, Overflow, StoreFault}
+use Rattle.ob_base.specs.declared.refusal.Refusal.TheVariants.{NotConsecutive, Overflow}
 use Rattle.ob_base.specs.declared.seen.Seen.{Seen}
 use Rattle.ob_sql.specs.declared.stmt.SelectRows.{SelectRows}
 use Rattle.ob_exec.specs.declared.selecting.Selected.{Selected}

@@ -1,13 +1,11 @@
 -- Blocks stay sealed while a statement runs.
-use Rattle.std.proofs.Common.{◌≡◌, ℕ, Bool, List, Some, sym, ◌∙◌, subst}
-use Rattle.ob_base.specs.declared.access.Access.{Access}
-use Rattle.ob_base.specs.Accesses.{nth_write}
+use Rattle.std.proofs.Common.{◌≡◌, ℕ, Bool, List, sym, subst}
 use Rattle.ob_base.specs.Schemas.{Columns}
 use Rattle.ob_store.specs.Calls.{Rests}
 use Rattle.ob_store.specs.State.{StoreState}
 use Rattle.ob_store.proofs.Steps.{later_rests}
 use Rattle.ob_vault.specs.Calls.{Seals}
-use Rattle.ob_vault.specs.State.{RevState, VaultState, World}
+use Rattle.ob_vault.specs.State.{RevState, World}
 use Rattle.ob_vault.proofs.Runs.{seals_join}
 use Rattle.ob_vault.proofs.WordLemmas.{seals_rests}
 use Rattle.ob_flat.specs.Flats.{Accepts}

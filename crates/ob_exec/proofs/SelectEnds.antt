@@ -1,14 +1,13 @@
 -- How a selection ends.
-use Rattle.std.proofs.Common.{◌≡◌, ◌⊎◌, inl, inr, ◌≤◌, ◌<◌, ◌+◌, ◌-◌, ◌*◌, mul-le-mul, ℕ, suc, zero, Bool, true, false, IsTrue, List, [], ◌∷◌, ◌++◌, Option, None, Some, Result, Ok, Err, length, refl, sym, ◌∙◌, ap, subst, arith, append_assoc, length-append, append-nil}
-use Rattle.std.specs.Prelude.{IsSome, IfErr, IfOk, OnErr, OnOk, MatchResult}
+use Rattle.std.proofs.Common.{◌≡◌, ◌⊎◌, inl, inr, ◌≤◌, ◌<◌, ◌+◌, ◌-◌, ◌*◌, mul-le-mul, ℕ, suc, zero, Bool, true, false, IsTrue, List, [], ◌++◌, Option, None, Some, Result, Ok, Err, length, refl, sym, ◌∙◌, ap, subst, arith, append_assoc, length-append, append-nil}
+use Rattle.std.specs.Prelude.{IsSome, IfErr, IfOk, OnErr}
 use Rattle.ob_base.specs.declared.access.Access.{Access}
 use Rattle.ob_base.specs.declared.config.Plan.{Plan}
-use Rattle.ob_base.specs.declared.config.Plan.TheVariants.{Small, Large, Continuous, Hash}
+use Rattle.ob_base.specs.declared.config.Plan.TheVariants.{Small, Continuous, Hash}
 use Rattle.ob_base.specs.declared.refusal.Refusal.{Refusal}
 use Rattle.ob_base.specs.declared.refusal.Refusal.TheVariants as Refusals
-use Rattle.ob_base.specs.declared.seen.Seen.{Seen}
 use Rattle.ob_base.specs.declared.seen.End.TheVariants.{Whole, AfterCount}
-use Rattle.ob_base.specs.Events.{Event, Leads, IsEmitted, IsHalted, row_events}
+use Rattle.ob_base.specs.Events.{Event, row_events}
 use Rattle.ob_base.specs.Limits.{buffered}
 use Rattle.ob_base.specs.Plans.{choose}
 use Rattle.ob_base.proofs.EventLemmas.{halted_none, emitted_head}
@@ -16,24 +15,21 @@ use Rattle.ob_room.specs.RoomState.{RoomState}
 use Rattle.ob_row.specs.Truth.{is_true}
 use Rattle.ob_script.proofs.Lengths.{length-count_part}
 use Rattle.ob_vault.specs.State.{World}
-use Rattle.ob_vault.specs.Tied.{Ready}
 use Rattle.ob_vault.specs.Calls.{Went, none, one}
-use Rattle.ob_exec.specs.Engines.{AreSettings}
 use Rattle.ob_vault.proofs.Runs.{went_length, went_wider, went_none, seals_join}
 use Rattle.ob_flat.specs.declared.counting.Counted.{Counted}
 use Rattle.ob_flat.specs.declared.fault.OpErr.{OpErr}
 use Rattle.ob_flat.specs.declared.fault.OpErr.TheVariants.{Failed, Tampered, Sink, NoMemory}
 use Rattle.ob_flat.specs.Counted.{CountsRows}
-use Rattle.ob_flat.specs.Passes.{PassCut, PassCause, is_of_access}
-use Rattle.ob_flat.specs.Words.{Ran, blocks_of}
+use Rattle.ob_flat.specs.Passes.{PassCause, is_of_access}
+use Rattle.ob_flat.specs.Words.{Ran}
 use Rattle.ob_flat.proofs.Runs.{pass_more, pass_wider}
 use Rattle.ob_flat.proofs.Tables.{blocks_hold}
 use Rattle.ob_flat.proofs.WordLemmas.{ran_lasts}
-use Rattle.ob_emit.specs.Emitting.{header}
 use Rattle.ob_mean.specs.Verdict.{counted, plan_for, ended as seen_to}
 use Rattle.ob_exec.specs.declared.selecting.Selected.{Selected}
 use Rattle.ob_exec.specs.declared.selecting.Selected.TheVariants.{Rows, Refused}
-use Rattle.ob_exec.specs.Selecting.{Selection, MaySelect, SelectsFrom, SelectsToEnd, SelectsToHalt, EmitsSelected, places, selected_as, shown_rows, result_of, seen_of, answer_of, answer_events, emitted_unless, IsPlanOf, LacksMemoryIn, EndsAs, EndsCounted, counted_after, walked_after, from}
+use Rattle.ob_exec.specs.Selecting.{Selection, MaySelect, SelectsFrom, SelectsToEnd, SelectsToHalt, EmitsSelected, places, selected_as, shown_rows, result_of, seen_of, answer_of, answer_events, emitted_unless, EndsAs, counted_after, from}
 use Rattle.std.specs.Prelude.{is_some}
 use Rattle.ob_base.specs.declared.config.Public.{Public}
 use Rattle.ob_vault.proofs.Runs.{lives_apart}
@@ -41,22 +37,20 @@ use Rattle.ob_flat.proofs.Tables.{blocks_few, flat_lasts}
 use Rattle.ob_exec.specs.Engines.{IsFree}
 use Rattle.ob_exec.specs.Results.{IsPlanned, planned, whole_part, SelectsBy, EmitsHead, MayAnswer, head_of}
 use Rattle.ob_exec.proofs.ResultParts.{length_hash}
-use Rattle.ob_exec.proofs.ResultSteps.{err_is, sink_none, first_block, on_err_map, if_ok_map, began-few}
-use Rattle.ob_exec.proofs.SelectTold.{end_back, counted_is}
+use Rattle.ob_exec.proofs.ResultSteps.{err_is, sink_none, first_block, began-few}
+use Rattle.ob_exec.proofs.SelectTold.{counted_is}
 use Rattle.ob_exec.proofs.SelectSecond.{second_emitted, second_halted, second_failed, second_told, second_held}
 use Rattle.ob_exec.proofs.SelectFirst.{IsFinal, first_emitted, first_told, first_halted, first_failed, first_held}
-use Rattle.ob_exec.proofs.SelectHeld.{uncounted_held, counted_held, walking_held, walked_held, walked_hash, done_behind, done_within}
+use Rattle.ob_exec.proofs.SelectHeld.{uncounted_held, counted_held, walked_hash, done_behind}
 use Rattle.ob_exec.proofs.SelectMeans.{seen_none, refusal_none, shown_none, seen_apart, refuses_apart}
-use Rattle.ob_exec.proofs.ResultReads.{emitted_from, halted_from}
-use Rattle.ob_store.proofs.Steps as Stores
+use Rattle.ob_exec.proofs.ResultReads.{emitted_from}
 use Rattle.ob_flat.proofs.Sinks.{none_before}
-use Rattle.ob_mean.specs.Verdict.{seen_rows}
 use Rattle.ob_flat.specs.Flats.{Represents}
 use Rattle.ob_row.specs.Slots.{Slots}
 use Rattle.std.specs.Prelude.{map}
 use Rattle.ob_row.specs.Slots.{rows, is_consecutive}
 use Rattle.ob_row.specs.Totals.{printed}
-use Rattle.ob_exec.proofs.SelectRuns.{counts_of, none_above, none_still, none_again, none_from, ran_counted, ran_first, ran_second, next_counted, next_made, place_in, not_empty}
+use Rattle.ob_exec.proofs.SelectRuns.{counts_of, none_above, none_still, none_again, none_from, ran_first, ran_second, next_counted, next_made, place_in, not_empty}
 
 -- a selection counts at least one block
 pub count_some : (q : Selection) (room : RoomState) (w : World) → MaySelect q room w → 1 ≤ counted_after q

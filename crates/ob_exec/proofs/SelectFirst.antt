@@ -1,12 +1,11 @@
 -- What is told of a selection that its first plan ended.
-use Rattle.std.proofs.Common.{◌≡◌, ◌⊎◌, inl, inr, ◌≤◌, ◌<◌, ◌+◌, ◌-◌, ℕ, Bool, true, false, IsTrue, List, [], ◌∷◌, ◌++◌, Option, None, Some, Result, Ok, Err, length, refl, sym, ◌∙◌, ap, subst, arith}
+use Rattle.std.proofs.Common.{◌≡◌, ◌⊎◌, inl, inr, ◌≤◌, ◌+◌, ◌-◌, ℕ, Bool, IsTrue, List, [], ◌++◌, Option, None, Some, Result, Ok, Err, length, refl, sym, ◌∙◌, ap, subst, arith}
 use Rattle.std.specs.Prelude.{IsSome, IfErr, IfOk, OnErr, OnOk, MatchResult}
 use Rattle.std.specs.Option.{option_map}
 use Rattle.ob_base.specs.declared.config.Plan.{Plan}
 use Rattle.ob_base.specs.declared.config.Plan.TheVariants.{Small, Large, Continuous, Hash}
 use Rattle.ob_base.specs.declared.refusal.Refusal.{Refusal}
 use Rattle.ob_base.specs.declared.refusal.Refusal.TheVariants.{Overflow}
-use Rattle.ob_base.specs.declared.seen.Seen.{Seen}
 use Rattle.ob_base.specs.declared.seen.End.TheVariants.{Whole}
 use Rattle.ob_base.specs.Events.{Event, IsHalted, row_events}
 use Rattle.ob_base.specs.Limits.{buffered}
@@ -14,11 +13,9 @@ use Rattle.ob_base.specs.Plans.{choose}
 use Rattle.ob_row.specs.Slots.{Slots, is_consecutive}
 use Rattle.ob_row.specs.Truth.{is_true}
 use Rattle.ob_vault.specs.State.{World}
-use Rattle.ob_vault.specs.Calls.{Lasts, one}
 use Rattle.ob_flat.specs.declared.fault.OpErr.{OpErr}
-use Rattle.ob_flat.specs.declared.fault.OpErr.TheVariants.{Failed, Tampered, Sink, NoMemory}
+use Rattle.ob_flat.specs.declared.fault.OpErr.TheVariants.{Failed, Sink, NoMemory}
 use Rattle.ob_flat.specs.Counted.{CountsRows}
-use Rattle.ob_flat.proofs.WordLemmas.{ran_lasts}
 use Rattle.ob_mean.specs.Verdict.{counted, bucket_size, fallback, first_unplaced}
 use Rattle.ob_flat.specs.Passes.{is_of_access}
 use Rattle.ob_exec.specs.declared.selecting.Selected.{Selected}

@@ -1,6 +1,6 @@
 -- What is held of a selection that was cut off.
-use Rattle.std.proofs.Common.{◌≡◌, ◌⊎◌, inl, inr, ◌≤◌, ◌<◌, ◌+◌, ◌-◌, ℕ, suc, Bool, true, false, IsTrue, List, [], ◌∷◌, ◌++◌, Option, None, Some, length, refl, sym, ◌∙◌, ap, subst, arith, length-append}
-use Rattle.std.specs.Prelude.{IsSome, nat_le, if◌then◌else◌}
+use Rattle.std.proofs.Common.{◌≡◌, ◌⊎◌, inl, inr, ◌≤◌, ◌<◌, ◌+◌, ℕ, Bool, true, false, IsTrue, List, [], ◌∷◌, ◌++◌, Option, None, Some, length, refl, sym, ap, subst, arith, length-append}
+use Rattle.std.specs.Prelude.{nat_le, if◌then◌else◌}
 use Rattle.std.proofs.lemmas.Bool.Decides.{nat_tests}
 use Rattle.ob_base.specs.declared.config.Plan.{Plan}
 use Rattle.ob_base.specs.declared.config.Plan.TheVariants.{Small, Large, Continuous, Hash}
@@ -11,7 +11,7 @@ use Rattle.ob_row.specs.Slots.{Slots, is_consecutive}
 use Rattle.ob_script.proofs.Lengths.{length-count_part}
 use Rattle.ob_flat.specs.declared.fault.OpErr.{OpErr}
 use Rattle.ob_flat.specs.declared.fault.OpErr.TheVariants.{Failed, Tampered, Sink, NoMemory}
-use Rattle.ob_mean.specs.Verdict.{counted, ended as seen_to, seen_rows, seen_with, plan_for, fallback}
+use Rattle.ob_mean.specs.Verdict.{counted, ended as seen_to, seen_rows, seen_with, plan_for}
 use Rattle.ob_mean.specs.Replay.{done_of, held_if}
 use Rattle.ob_flat.specs.Passes.{is_of_access}
 use Rattle.ob_exec.specs.Engines.{AreSettings}

@@ -1,19 +1,17 @@
 -- What a selection means, by what was counted, planned and left out.
-use Rattle.std.proofs.Common.{◌≡◌, ◌⊎◌, inl, inr, ◌≤◌, ◌<◌, ◌+◌, ◌-◌, ℕ, suc, zero, Bool, true, false, IsTrue, List, [], ◌∷◌, ◌++◌, Option, None, Some, length, refl, sym, ◌∙◌, ap, subst, arith}
+use Rattle.std.proofs.Common.{◌≡◌, ◌≤◌, ℕ, Bool, true, false, IsTrue, List, [], ◌∷◌, Option, None, Some, length, refl, sym, ◌∙◌, ap, arith}
 use Rattle.std.specs.Prelude.{IsSome, if◌then◌else◌}
 use Rattle.std.specs.Option.{option_map}
 use Rattle.ob_base.specs.declared.config.Plan.{Plan}
 use Rattle.ob_base.specs.declared.config.Plan.TheVariants.{Small, Large, Continuous, Hash}
 use Rattle.ob_base.specs.declared.config.Public.{Public}
-use Rattle.ob_base.specs.declared.refusal.Refusal.{Refusal}
 use Rattle.ob_base.specs.declared.refusal.Refusal.TheVariants.{NotConsecutive, Overflow}
-use Rattle.ob_base.specs.declared.seen.Seen.{Seen}
 use Rattle.ob_base.specs.declared.seen.End.TheVariants.{Whole, AfterCount}
 use Rattle.ob_base.specs.declared.shown.Shown.{Shown}
 use Rattle.ob_base.specs.Limits.{buffered}
 use Rattle.ob_base.specs.Plans.{choose}
-use Rattle.ob_row.specs.Slots.{Slots, is_consecutive}
-use Rattle.ob_mean.specs.Verdict.{counted, bucket_size, first_unplaced, fallback, forced_refusal, rows_refusal, seen_rows, seen_with, plan_for}
+use Rattle.ob_row.specs.Slots.{is_consecutive}
+use Rattle.ob_mean.specs.Verdict.{counted, first_unplaced, fallback, forced_refusal, rows_refusal, seen_rows, seen_with, plan_for}
 use Rattle.ob_verdict.specs.Laws.{last_plan}
 use Rattle.ob_exec.specs.Selecting.{shown_where}
 

@@ -1,6 +1,5 @@
 -- The runs of a selection join, whatever the store answers.
-use Rattle.std.proofs.Common.{◌≡◌, ◌⊎◌, inl, inr, ◌≤◌, ◌<◌, ◌+◌, ◌-◌, ◌*◌, ℕ, suc, zero, Bool, true, false, IsTrue, List, [], ◌∷◌, ◌++◌, Option, None, Some, Result, Ok, Err, length, refl, sym, ◌∙◌, ap, subst, arith, append_assoc, length-append, append-nil}
-use Rattle.std.specs.Prelude.{IsSome, IfErr, IfOk, OnErr, OnOk}
+use Rattle.std.proofs.Common.{◌≡◌, ◌⊎◌, inl, inr, ◌≤◌, ◌+◌, ◌*◌, ℕ, IsTrue, List, [], ◌∷◌, ◌++◌, Option, None, Some, Result, Ok, Err, length, refl, sym, ◌∙◌, ap, subst, arith, append-nil}
 use Rattle.std.specs.List.{list_all}
 use Rattle.std.proofs.lemmas.Bool.{cases_eq}
 use Rattle.ob_base.specs.declared.access.Access.{Access}
@@ -13,22 +12,19 @@ use Rattle.ob_base.specs.Schemas.{width}
 use Rattle.ob_base.proofs.AccessLemmas.{makes-append}
 use Rattle.ob_script.specs.Parts.{count_part, emission_part}
 use Rattle.ob_script.specs.Script.{extent_of, plan_part, result_blocks}
-use Rattle.ob_script.proofs.Lengths.{length-count_part}
 use Rattle.ob_script.proofs.Makes.{makes-count_part, makes-small_part, makes-large_part, makes-continuous_part, makes-hash_part, makes-emission_part}
 use Rattle.ob_vault.specs.State.{Start, World}
 use Rattle.ob_vault.specs.Tied.{Ready}
 use Rattle.ob_vault.specs.declared.region.Region.{Region}
 use Rattle.ob_vault.specs.Calls.{Went, Lasts, none, one}
-use Rattle.ob_vault.proofs.Runs.{went_wider, went_length}
+use Rattle.ob_vault.proofs.Runs.{went_wider}
 use Rattle.ob_flat.specs.declared.fault.OpErr.{OpErr}
-use Rattle.ob_flat.specs.declared.fault.OpErr.TheVariants.{Failed, Tampered, Sink, NoMemory}
 use Rattle.ob_flat.specs.Words.{Ran, blocks_of}
 use Rattle.ob_flat.proofs.Runs.{pass_wider}
-use Rattle.ob_flat.proofs.WordLemmas.{ran_after, ran_lasts}
-use Rattle.ob_flat.proofs.Tables.{blocks_hold}
+use Rattle.ob_flat.proofs.WordLemmas.{ran_after}
 use Rattle.ob_exec.specs.Memory.{AtMake, is_reading, starts_with_make, ends_with_make}
 use Rattle.ob_exec.specs.Selecting.{Selection, region_of, from}
-use Rattle.ob_exec.specs.Results.{Planned, planned, whole_part}
+use Rattle.ob_exec.specs.Results.{Planned, whole_part}
 
 -- ---- regions
 pub ran_wider : {T : Type 0} {some : ℕ → Type 0} (more : ℕ → Type 0) → ((x : ℕ) → some x → more x) → (r : Result T OpErr) (x : List Access) (a b : World) → Ran x some r a b → Ran x more r a b

@@ -1,9 +1,7 @@
 -- What is told of a selection where Small took the place of a Hash.
-use Rattle.std.proofs.Common.{◌≡◌, ◌⊎◌, inl, inr, ◌≤◌, ◌<◌, ◌+◌, ◌-◌, ℕ, Bool, true, false, IsTrue, List, [], ◌∷◌, ◌++◌, Option, None, Some, Result, Ok, Err, length, refl, sym, ◌∙◌, ap, subst, arith}
-use Rattle.std.specs.Prelude.{IsSome, IfErr, IfOk, OnErr, OnOk, MatchResult, map}
-use Rattle.ob_base.specs.declared.config.Plan.{Plan}
-use Rattle.ob_base.specs.declared.config.Plan.TheVariants.{Small, Large, Continuous, Hash}
-use Rattle.ob_base.specs.declared.refusal.Refusal.{Refusal}
+use Rattle.std.proofs.Common.{◌≡◌, ◌⊎◌, ◌≤◌, ◌+◌, ◌-◌, ℕ, Bool, IsTrue, List, ◌++◌, None, Some, Result, Ok, Err, length, refl, sym, ◌∙◌, ap, arith}
+use Rattle.std.specs.Prelude.{IfErr, IfOk, OnErr, MatchResult, map}
+use Rattle.ob_base.specs.declared.config.Plan.TheVariants.{Small, Hash}
 use Rattle.ob_base.specs.declared.refusal.Refusal.TheVariants.{Overflow}
 use Rattle.ob_base.specs.declared.seen.End.TheVariants.{Whole}
 use Rattle.ob_base.specs.Events.{Event, IsHalted, row_events}
@@ -19,7 +17,7 @@ use Rattle.ob_vault.specs.Tied.{Ready}
 use Rattle.ob_vault.specs.Calls.{Went, Lasts, none, one}
 use Rattle.ob_vault.proofs.Runs.{went_join, went_wider, went_length, tells_went, lives_apart}
 use Rattle.ob_flat.specs.declared.fault.OpErr.{OpErr}
-use Rattle.ob_flat.specs.declared.fault.OpErr.TheVariants.{Failed, Tampered, Sink, NoMemory}
+use Rattle.ob_flat.specs.declared.fault.OpErr.TheVariants.{Failed, Sink, NoMemory}
 use Rattle.ob_flat.specs.Counted.{CountsRows}
 use Rattle.ob_flat.specs.Flats.{Represents}
 use Rattle.ob_flat.proofs.Sinks.{none_before}
@@ -30,7 +28,7 @@ use Rattle.ob_exec.specs.Engines.{AreSettings}
 use Rattle.ob_exec.specs.declared.selecting.Selected.{Selected}
 use Rattle.ob_exec.specs.declared.selecting.Selected.TheVariants.{Rows, Refused}
 use Rattle.ob_exec.specs.Selecting.{Selection, HoldsSeen, SelectsToEnd, SelectsToHalt, EmitsSelected, counted_after, from, places, selected_as, emitted_unless, result_of, shown_rows, answer_of, answer_events, seen_of}
-use Rattle.ob_exec.specs.Results.{planned, PlannedToEnd, PlannedToHalt, SelectsBy, Suits, whole_part, held_slots, held_shown, held_events, held_answer, head_of}
+use Rattle.ob_exec.specs.Results.{planned, PlannedToEnd, PlannedToHalt, SelectsBy, Suits, whole_part, held_shown, held_events, held_answer, head_of}
 use Rattle.ob_exec.proofs.ResultParts.{length_hash}
 use Rattle.ob_exec.proofs.ResultReads.{emitted_from, halted_from}
 use Rattle.ob_exec.proofs.ResultSteps.{began-few}

@@ -1,13 +1,11 @@
 -- What is told of a selection, by what is told of its steps.
-use Rattle.std.proofs.Common.{◌≡◌, ◌⊎◌, inl, inr, ◌≤◌, ◌<◌, ◌+◌, ◌-◌, ℕ, suc, Bool, true, false, IsTrue, List, [], ◌∷◌, ◌++◌, Option, None, Some, Result, Ok, Err, length, refl, sym, ◌∙◌, ap, subst, arith}
-use Rattle.std.specs.Prelude.{IsSome, map, nat_le, if◌then◌else◌}
+use Rattle.std.proofs.Common.{◌≡◌, ◌⊎◌, inl, inr, ◌≤◌, ℕ, Bool, IsTrue, List, [], ◌∷◌, ◌++◌, Option, None, Some, Ok, length, refl, sym, ◌∙◌, ap, subst, arith}
+use Rattle.std.specs.Prelude.{map}
 use Rattle.std.specs.Option.{option_map}
-use Rattle.std.proofs.lemmas.Bool.Decides.{nat_tests}
 use Rattle.ob_base.specs.declared.config.Plan.{Plan}
-use Rattle.ob_base.specs.declared.config.Plan.TheVariants.{Small, Large, Continuous, Hash}
+use Rattle.ob_base.specs.declared.config.Plan.TheVariants.{Continuous, Hash}
 use Rattle.ob_base.specs.declared.refusal.Refusal.{Refusal}
 use Rattle.ob_base.specs.declared.refusal.Refusal.TheVariants.{Overflow}
-use Rattle.ob_base.specs.declared.shown.Shown.{Shown}
 use Rattle.ob_base.specs.Events.{Event, IsHalted, row_events}
 use Rattle.ob_base.specs.Limits.{buffered}
 use Rattle.ob_base.specs.Plans.{choose}
@@ -17,23 +15,20 @@ use Rattle.ob_row.specs.Totals.{printed}
 use Rattle.ob_row.specs.Truth.{is_true}
 use Rattle.ob_store.proofs.Steps as Stores
 use Rattle.ob_vault.specs.State.{World}
-use Rattle.ob_vault.specs.Calls.{Went, Lasts, none, one}
+use Rattle.ob_vault.specs.Calls.{Lasts, none, one}
 use Rattle.ob_vault.proofs.Runs.{tells_went}
 use Rattle.ob_flat.specs.declared.counting.Counted.{Counted}
-use Rattle.ob_flat.specs.declared.fault.OpErr.{OpErr}
-use Rattle.ob_flat.specs.Counted.{CountsRows, count_of}
+use Rattle.ob_flat.specs.Counted.{CountsRows}
 use Rattle.ob_flat.specs.Flats.{Represents}
-use Rattle.ob_flat.specs.Words.{blocks_of}
 use Rattle.ob_flat.proofs.Sinks.{none_before}
 use Rattle.ob_flat.proofs.Tables.{represents_lasts}
 use Rattle.ob_mean.specs.Verdict.{counted, bucket_size, fallback, first_unplaced, plan_for}
-use Rattle.ob_exec.specs.declared.selecting.Selected.{Selected}
 use Rattle.ob_exec.specs.declared.selecting.Selected.TheVariants.{Rows, Refused}
 use Rattle.ob_exec.specs.Selecting.{Selection, SelectsToEnd, SelectsToHalt, places, selected_as, emitted_unless, result_of, shown_rows, answer_of, answer_events, seen_of}
-use Rattle.ob_exec.specs.Results.{Planned, planned, PlannedToEnd, PlannedToHalt, Suits, left_out, left_by, held_slots, held_shown, held_events, held_answer, head_of}
+use Rattle.ob_exec.specs.Results.{Planned, planned, PlannedToEnd, PlannedToHalt, Suits, left_out, held_slots, held_shown, held_events, held_answer, head_of}
 use Rattle.ob_exec.proofs.ResultRows.{left_hash}
 use Rattle.ob_exec.proofs.SelectRuns.{counts_of}
-use Rattle.ob_exec.proofs.SelectMeans.{Lasts as IsLast, seen_is_first, last_is_first, refuses_none, refuses_forced, shown_some}
+use Rattle.ob_exec.proofs.SelectMeans.{Lasts as IsLast, seen_is_first, last_is_first, refuses_none, shown_some}
 
 fallback_none : (o : Option Plan) → fallback o None ≡ None
 fallback_none None = refl

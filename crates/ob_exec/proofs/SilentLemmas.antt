@@ -14,7 +14,6 @@ use Rattle.ob_store.specs.State.{StoreState}
 use Rattle.ob_store.specs.Calls.{Rests}
 use Rattle.ob_store.specs.Runs.{Began}
 use Rattle.ob_vault.specs.State.{RevState, World}
-use Rattle.ob_vault.specs.declared.region.Region.{Region}
 use Rattle.ob_vault.specs.declared.vault.Vault.{Vault}
 use Rattle.ob_vault.specs.Places.{at}
 use Rattle.ob_vault.specs.Calls.{Seals, one}

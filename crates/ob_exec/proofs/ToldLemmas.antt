@@ -1,51 +1,37 @@
 -- What a statement did is what it means.
-use Rattle.std.proofs.Common.{◌≡◌, ◌⊎◌, inl, inr, ◌-◌, ℕ, arith, Result, Bool, true, false, List, length, Option, Some, None, Ok, Err, [], refl, sym, ◌∙◌, ap, subst}
-use Rattle.std.specs.Prelude.{◌<◌, nat_le, IfOk, OnErr, ⊤, ◌∷◌}
+use Rattle.std.proofs.Common.{◌≡◌, ◌⊎◌, inl, inr, ℕ, Result, Bool, true, false, List, Option, Some, None, Ok, [], refl, sym, ◌∙◌, ap, subst}
+use Rattle.std.specs.Prelude.{◌<◌, nat_le, ⊤, ◌∷◌}
 use Rattle.ob_base.specs.declared.config.Public.{Public}
 use Rattle.ob_base.specs.declared.refusal.Refusal.{Refusal}
-use Rattle.ob_base.specs.declared.refusal.Refusal.TheVariants.{Syntax, NoTable, NameTaken, NoColumn, WrongType, ValueRange, Limit, KeyRule, JoinKey, Duplicate, Full, TooManyGroups, NotConsecutive, Overflow, StoreFault}
+use Rattle.ob_base.specs.declared.refusal.Refusal.TheVariants.{NoTable, NameTaken, NoColumn, WrongType, ValueRange, Limit, KeyRule, JoinKey}
 use Rattle.ob_base.specs.declared.refusal.Stop.{Stop}
-use Rattle.ob_base.specs.declared.refusal.Stop.TheVariants as Stops
 use Rattle.ob_base.specs.declared.schema.Heading.{Heading}
-use Rattle.ob_base.specs.declared.schema.Table.{Table}
 use Rattle.ob_base.specs.declared.seen.Seen.{Seen}
 use Rattle.ob_base.specs.declared.seen.End.{End}
 use Rattle.ob_base.specs.declared.seen.End.TheVariants.{Static, Whole, Cut}
 use Rattle.ob_base.specs.declared.skeleton.Skeleton.{Skeleton}
 use Rattle.ob_base.specs.Stored.{headings}
-use Rattle.ob_room.specs.RoomState.{RoomState}
-use Rattle.ob_store.specs.State.{StoreState}
-use Rattle.ob_store.specs.Calls.{Rests}
-use Rattle.ob_vault.specs.State.{RevState, World}
-use Rattle.ob_vault.specs.declared.vault.Vault.{Vault}
-use Rattle.ob_vault.specs.Places.{at}
+use Rattle.ob_vault.specs.State.{World}
 use Rattle.ob_flat.specs.declared.fault.OpErr.{OpErr}
 use Rattle.ob_flat.specs.declared.fault.OpErr.TheVariants as OpErrs
 use Rattle.ob_sql.specs.declared.stmt.Stmt.{Stmt}
-use Rattle.ob_sql.specs.Skeleton.{skeleton}
-use Rattle.ob_mean.specs.declared.answer.Answer.{Answer}
-use Rattle.ob_mean.specs.declared.answer.Answer.TheVariants as A
 use Rattle.ob_base.specs.Stored.{headings_of}
-use Rattle.ob_mean.specs.Prints.{Prints, labels_of}
 use Rattle.ob_mean.specs.Refusals.{first_holding, early_conditions, early_refusal}
-use Rattle.ob_mean.specs.Settle.{settled}
-use Rattle.ob_mean.specs.Step.{accepted_answer, answered, followed}
-use Rattle.ob_mean.proofs.VerdictLemmas.{refused_early, seen_early, seen_late}
+use Rattle.ob_mean.specs.Step.{answered}
+use Rattle.ob_mean.proofs.VerdictLemmas.{seen_late}
 use Rattle.ob_mean.proofs.EarlyLemmas.{allowed}
 use Rattle.ob_mean.specs.Replay.{held_if, done_of, cut_at, count_end, walk_end}
-use Rattle.ob_mean.specs.Verdict.{Tables, database, is_late, refusal, verdict, seen, seen_started, ended as seen_to}
+use Rattle.ob_mean.specs.Verdict.{Tables, is_late, seen, seen_started, ended as seen_to}
 use Rattle.ob_flat.specs.declared.flat.Flat.{Flat}
 use Rattle.ob_flat.specs.Words.{TamperedIn}
-use Rattle.ob_exec.specs.declared.engine.Engine.{Engine}
 use Rattle.ob_exec.specs.declared.outcome.Outcome.{Outcome}
-use Rattle.ob_exec.specs.declared.outcome.Outcome.TheVariants.{Created, Inserted, Changed, Deleted, Dropped, Rows, Refused}
-use Rattle.ob_exec.specs.Agreeing.{world_of}
+use Rattle.ob_exec.specs.declared.outcome.Outcome.TheVariants.{Refused}
 use Rattle.ob_exec.specs.Refusals.{by_fault, refused_end}
 use Rattle.ob_base.specs.Refusals.{is_store_fault}
-use Rattle.ob_exec.specs.Running.{answer_of, is_fault, is_stop, refusal_now, RefusedEarly, Emits, IsSilent, SinkCause}
-use Rattle.ob_exec.specs.Telling.{AreHeld, Represents, ReadsTrue, ReadsTrueUntil, Told, SeenCut, Emitted, IsNotTampered, is_refused, outcome_of}
+use Rattle.ob_exec.specs.Running.{answer_of, is_fault, refusal_now, RefusedEarly, IsSilent}
+use Rattle.ob_exec.specs.Telling.{AreHeld}
 use Rattle.ob_exec.proofs.HeldLemmas.{held_headings}
-use Rattle.ob_exec.proofs.RunLemmas.{of_other, IsAnswered, IsEarly, early_few, engine_after}
+use Rattle.ob_exec.proofs.RunLemmas.{of_other, IsAnswered, IsEarly, early_few}
 
 -- the refusal by what is public is that by the tables in place
 pub early_held : (p : Public) (m : ℕ) (stmt : Stmt) (tables : Tables) (w : World) (o : Option Refusal) → AreHeld p.pack p.tables tables w → refusal_now p m stmt ≡ o

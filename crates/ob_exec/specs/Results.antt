@@ -1,11 +1,10 @@
 -- The result of a selection by one plan: what is asked to make it, to read it back and to discard it, and what it holds.
-use Rattle.std.specs.Prelude.{◌≡◌, ◌≢◌, ◌⊎◌, ◌<◌, ◌≤◌, ◌+◌, ◌-◌, ◌*◌, ◌^◌, ℕ, Bool, List, [], ◌∷◌, ◌++◌, map, length, IsTrue, false, IsSome, IfSome, Option, None, Some, Result, Ok, Err, OnOk, OnErr, IfOk, IfErr, MatchResult}
+use Rattle.std.specs.Prelude.{◌≡◌, ◌⊎◌, ◌<◌, ◌≤◌, ◌+◌, ◌-◌, ◌*◌, ◌^◌, ℕ, Bool, List, ◌++◌, map, length, IsTrue, false, IsSome, IfSome, Option, None, Some, Result, Ok, Err, OnOk, OnErr, IfOk, IfErr, MatchResult}
 use Rattle.std.specs.Option.{option_map}
 use Rattle.std.specs.List.{list_all}
 use Rattle.ob_base.specs.declared.access.Access.{Access}
 use Rattle.ob_base.specs.declared.config.Plan.{Plan}
 use Rattle.ob_base.specs.declared.config.Plan.TheVariants.{Small, Large, Continuous, Hash}
-use Rattle.ob_base.specs.declared.refusal.Refusal.{Refusal}
 use Rattle.ob_base.specs.declared.refusal.Refusal.TheVariants.{Overflow}
 use Rattle.ob_base.specs.declared.shown.Shown.{Shown}
 use Rattle.ob_base.specs.Events.{Event, Leads, IsEmitted, IsHalted, row_events}
@@ -17,7 +16,7 @@ use Rattle.ob_row.specs.Results.{result_slots, unplaced}
 use Rattle.ob_row.specs.Totals.{printed}
 use Rattle.ob_row.specs.Slots.{Slots, rows, is_consecutive}
 use Rattle.ob_row.specs.Truth.{is_true}
-use Rattle.ob_script.specs.Script.{extent_of, plan_part, result_part, result_blocks}
+use Rattle.ob_script.specs.Script.{extent_of, plan_part, result_part}
 use Rattle.ob_script.specs.Parts.{count_part, emission_part}
 use Rattle.ob_store.specs.Runs.{Began}
 use Rattle.ob_vault.specs.State.{World}
@@ -25,9 +24,9 @@ use Rattle.ob_vault.specs.Tied.{Ready, IsUnfit}
 use Rattle.ob_vault.specs.Calls.{one}
 use Rattle.ob_vault.specs.Words.{IsHonest, SealsAll}
 use Rattle.ob_flat.specs.declared.fault.OpErr.{OpErr}
-use Rattle.ob_flat.specs.declared.fault.OpErr.TheVariants.{Failed, Tampered, Sink, NoMemory}
+use Rattle.ob_flat.specs.declared.fault.OpErr.TheVariants.{Failed, Sink, NoMemory}
 use Rattle.ob_flat.specs.declared.flat.Flat.{Flat}
-use Rattle.ob_flat.specs.Flats.{IsSized, IsFlat, IsWritten, FitsRegion, Represents}
+use Rattle.ob_flat.specs.Flats.{IsSized, IsFlat, IsWritten, Represents}
 use Rattle.ob_flat.specs.Passes.{SinkCause, is_of_access}
 use Rattle.ob_flat.specs.Words.{Ran, SealsTable, blocks_of}
 use Rattle.ob_flat.specs.Emission.{SlotsToEnd, SlotsToHalt}
@@ -41,7 +40,7 @@ use Rattle.ob_exec.specs.declared.selecting.Selected.{Selected}
 use Rattle.ob_exec.specs.declared.selecting.Selected.TheVariants.{Rows, Refused}
 use Rattle.ob_exec.specs.Engines.{AreSettings, IsFree}
 use Rattle.ob_exec.specs.Memory.{is_reading, starts_with_make, ends_with_make}
-use Rattle.ob_exec.specs.Selecting.{Selection, SealsRows, region_of, places, from, selected_as, emitted_unless}
+use Rattle.ob_exec.specs.Selecting.{Selection, SealsRows, region_of, places, selected_as, emitted_unless}
 
 -- a selection, a plan for it, and the number of rows that is planned for
 pub record Planned : Type 0 where

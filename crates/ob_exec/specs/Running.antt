@@ -29,7 +29,7 @@ use Rattle.ob_mutate.specs.declared.inserting.Inserted.{Inserted as InsertedAs}
 use Rattle.ob_mutate.specs.declared.inserting.Inserted.TheVariants.{Done, Duplicate, Full}
 use Rattle.ob_exec.specs.declared.engine.Engine.{Engine}
 use Rattle.ob_exec.specs.declared.outcome.Outcome.{Outcome}
-use Rattle.ob_exec.specs.declared.outcome.Outcome.TheVariants.{Created, Inserted, Changed, Deleted, Dropped, Rows, Refused}
+use Rattle.ob_exec.specs.declared.outcome.Outcome.TheVariants.{Inserted, Rows, Refused}
 use Rattle.ob_exec.specs.Agreeing.{Agrees, world_of}
 use Rattle.ob_exec.specs.Engines.{IsFree}
 use Rattle.ob_exec.specs.Opening.{Opens}

@@ -1,5 +1,5 @@
 -- A SELECT of rows from one region, a table's or a joined one: its count, its plans, and the rows that are emitted.
-use Rattle.std.specs.Prelude.{◌≡◌, ◌⊎◌, ◌<◌, ◌≤◌, ◌+◌, ◌-◌, ◌^◌, ⊤, ℕ, Bool, true, false, List, [], ◌∷◌, ◌++◌, map, length, IsTrue, IsSome, None, Some, Option, Result, Ok, Err, OnOk, OnErr, IfOk, IfErr, MatchResult, nat_le}
+use Rattle.std.specs.Prelude.{◌≡◌, ◌⊎◌, ◌<◌, ◌≤◌, ◌+◌, ◌-◌, ◌^◌, ⊤, ℕ, Bool, List, [], ◌∷◌, ◌++◌, map, length, IsTrue, IsSome, None, Some, Option, Result, Err, OnOk, OnErr, IfOk, IfErr, MatchResult, nat_le}
 use Rattle.ob_base.specs.declared.access.Access.{Access}
 use Rattle.ob_base.specs.declared.config.Plan.{Plan}
 use Rattle.ob_base.specs.declared.config.Plan.TheVariants.{Small, Continuous, Hash}
@@ -23,9 +23,8 @@ use Rattle.ob_script.specs.Script.{blocks_of, extent_of, select_part}
 use Rattle.ob_vault.specs.State.{World}
 use Rattle.ob_vault.specs.Tied.{Ready, IsUnfit}
 use Rattle.ob_vault.specs.Calls.{Seals}
-use Rattle.ob_vault.specs.Words.{IsHonest}
 use Rattle.ob_flat.specs.declared.fault.OpErr.{OpErr}
-use Rattle.ob_flat.specs.declared.fault.OpErr.TheVariants.{Failed, Tampered, Sink, NoMemory}
+use Rattle.ob_flat.specs.declared.fault.OpErr.TheVariants.{Failed, Sink, NoMemory}
 use Rattle.ob_flat.specs.declared.flat.Flat.{Flat}
 use Rattle.ob_flat.specs.Flats.{IsSized, IsFlat, Represents}
 use Rattle.ob_flat.specs.Passes.{SinkCause, is_of_access}

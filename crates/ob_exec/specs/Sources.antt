@@ -23,7 +23,7 @@ use Rattle.ob_sql.specs.Skeleton.{skeleton}
 use Rattle.ob_mean.specs.Lawful.{counted_slots}
 use Rattle.ob_mean.specs.Replay.{count_end, walk_end, done_of, held_if}
 use Rattle.ob_mean.specs.Step.{printed_places, select_columns, select_condition}
-use Rattle.ob_mean.specs.Verdict.{Tables, source_slots, seen_rows}
+use Rattle.ob_mean.specs.Verdict.{Tables, source_slots}
 use Rattle.ob_verdict.specs.Laws.{AreInPlace}
 use Rattle.ob_exec.specs.declared.selecting.Selected.{Selected}
 use Rattle.ob_exec.specs.declared.selecting.Selected.TheVariants.{Rows, Refused}

@@ -172,7 +172,10 @@ impl<R: Revisions> Engine<R> {
         let cols = printed_places(select, columns, others);
         let lcol = left_place(on, equals, columns, others) as u8;
         let rcol = right_place(on, equals, columns, others) as u8;
-        if store.room(join_accesses(&self.public, &left, &right)).is_err() {
+        if store
+            .room(join_accesses(&self.public, &left, &right))
+            .is_err()
+        {
             return Err(OpErr::NoMemory);
         }
         let joined = match ob_join::join(

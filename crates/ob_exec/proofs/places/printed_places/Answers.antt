@@ -1,4 +1,4 @@
-use Rattle.std.proofs.Common.{◌≡◌, ◌++◌, ℕ, true, List, map, length-append, sym, ◌∙◌, ap}
+use Rattle.std.proofs.Common.{◌++◌, ℕ, true, List, map, length-append, sym, ◌∙◌, ap}
 use Rattle.std.specs.Prelude.{Option}
 use Rattle.std.specs.Option.{option_map_or}
 use Rattle.ob_base.specs.declared.skeleton.ColumnName.{ColumnName}

@@ -1,11 +1,4 @@
-use Rattle.std.proofs.Common.{◌≡◌, refl, sym, ap, subst, arith}
-use Rattle.std.specs.Prelude.{Result}
-use Rattle.ob_vault.specs.Places.{at}
-use Rattle.ob_flat.specs.declared.fault.OpErr.{OpErr}
-use Rattle.ob_hash.specs.declared.selecting.Placed.{Placed}
-use Rattle.ob_base.specs.declared.config.Plan.TheVariants.{Small, Large, Continuous, Hash}
 use Rattle.ob_exec.specs.Selecting.{selection_of}
-use Rattle.ob_exec.specs.Results.{MakesResult, planned}
 use Rattle.ob_exec.proofs.ResultMade.{made_small, made_large, made_cont, made_hash, starts_small, starts_large, starts_cont, starts_hash}
 use Rattle.ob_exec.proofs.results.make_result.Goals as goal
 

@@ -1,9 +1,8 @@
-use Rattle.std.proofs.Common.{◌≡◌, refl, sym, ◌∙◌, ap, subst, arith, length}
+use Rattle.std.proofs.Common.{◌≡◌, refl, sym, ◌∙◌, ap, arith, length}
 use Rattle.std.proofs.lemmas.Result.{err_from_is_err_and}
 use Rattle.ob_vault.specs.Places.{at}
 use Rattle.ob_vault.proofs.WordLemmas.{ready_rests}
 use Rattle.ob_flat.proofs.Resting.{flat_rests}
-use Rattle.ob_hash.specs.declared.selecting.Placed.TheVariants.{Done, Overflow}
 use Rattle.ob_room.specs.RoomState.{RoomState}
 use Rattle.ob_exec.specs.Selecting.{selection_of}
 use Rattle.ob_exec.specs.Results.{planned, fresh_flat}

@@ -1,4 +1,4 @@
-use Rattle.std.proofs.Common.{◌≡◌, ◌≤◌, ◌+◌, ℕ, arith, refl, List, [], ◌∷◌, ◌++◌, Ok, ◌-◌, sym, ◌∙◌, subst, ap, length}
+use Rattle.std.proofs.Common.{◌≤◌, ◌+◌, ℕ, arith, refl, List, [], ◌∷◌, ◌++◌, Ok, ◌-◌, sym, ◌∙◌, subst, ap, length}
 use Rattle.ob_base.specs.declared.schema.Table.{Table}
 use Rattle.ob_base.specs.declared.seen.End.TheVariants.{Whole, Cut}
 use Rattle.ob_base.specs.Numbers.{blocks_for}

@@ -1,11 +1,10 @@
-use Rattle.std.proofs.Common.{◌≡◌, ◌-◌, ◌++◌, List, [], Ok, refl, sym, ◌∙◌, ap, append-nil, length, map}
+use Rattle.std.proofs.Common.{◌≡◌, ◌-◌, Ok, refl, ◌∙◌, ap, append-nil, length, map}
 use Rattle.std.specs.Prelude.{count_by}
 use Rattle.std.proofs.lemmas.Option.{slice_get_within}
 use Rattle.ob_base.specs.declared.seen.End.TheVariants.{Whole}
-use Rattle.ob_base.specs.Schemas.{Columns}
 use Rattle.ob_script.specs.Parts.{rewrite_part}
 use Rattle.ob_flat.specs.declared.flat.Flat.{Flat}
-use Rattle.ob_row.specs.Slots.{Slots, rows, emptied}
+use Rattle.ob_row.specs.Slots.{rows, emptied}
 use Rattle.ob_row.specs.Truth.{is_true}
 use Rattle.ob_sql.specs.declared.stmt.Stmt.TheVariants.{Delete}
 use Rattle.ob_mean.specs.Names.{where_at}

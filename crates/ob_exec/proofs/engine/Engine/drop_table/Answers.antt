@@ -1,4 +1,4 @@
-use Rattle.std.proofs.Common.{refl, sym, ◌∙◌, ap, Ok}
+use Rattle.std.proofs.Common.{refl, ◌∙◌, ap, Ok}
 use Rattle.std.proofs.lemmas.Option.{slice_get_within}
 use Rattle.ob_base.specs.declared.seen.End.TheVariants.{Whole}
 use Rattle.ob_flat.specs.declared.flat.Flat.{Flat}

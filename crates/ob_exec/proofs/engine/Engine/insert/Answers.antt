@@ -1,9 +1,9 @@
-use Rattle.std.proofs.Common.{◌≡◌, ◌-◌, List, Ok, refl, sym, ◌∙◌, subst, ap, arith, length}
+use Rattle.std.proofs.Common.{◌≡◌, ◌-◌, Ok, refl, sym, ◌∙◌, subst, ap, length}
 use Rattle.std.specs.Prelude.{All}
 use Rattle.std.proofs.lemmas.Option.{slice_get_within}
 use Rattle.ob_base.specs.declared.seen.End.TheVariants.{Whole}
 use Rattle.ob_base.specs.Schemas.{Columns}
-use Rattle.ob_base.specs.Stored.{has_table, headings_of}
+use Rattle.ob_base.specs.Stored.{headings_of}
 use Rattle.ob_script.specs.Parts.{insert_part}
 use Rattle.ob_flat.specs.declared.flat.Flat.{Flat}
 use Rattle.ob_row.specs.Rows.{Row}
@@ -11,13 +11,12 @@ use Rattle.ob_row.specs.Spelling.{Fits, IsCell}
 use Rattle.ob_mutate.specs.Inserting.{insert_answer, slots_after}
 use Rattle.ob_sql.specs.declared.stmt.Stmt.TheVariants.{Insert}
 use Rattle.ob_mean.specs.Step.{new_row}
-use Rattle.ob_mean.specs.Verdict.{is_late, ended as seen_to}
-use Rattle.ob_mean.proofs.EarlyLemmas.{allowed}
+use Rattle.ob_mean.specs.Verdict.{ended as seen_to}
 use Rattle.ob_mean.proofs.InsertLemmas.{insert_fits}
 use Rattle.ob_exec.specs.declared.engine.Engine.{Engine}
 use Rattle.ob_exec.specs.declared.outcome.Outcome.{Outcome}
 use Rattle.ob_exec.specs.Running.{inserted_as}
-use Rattle.ob_exec.proofs.FoundLemmas.{heading_found, is_there}
+use Rattle.ob_exec.proofs.FoundLemmas.{heading_found}
 use Rattle.ob_exec.proofs.InsertLemmas.{insert_alters}
 use Rattle.ob_exec.proofs.MutateLemmas.{mutated, unmutated}
 use Rattle.ob_exec.proofs.SilentLemmas.{serves_as, unasked}

@@ -1,12 +1,10 @@
-use Rattle.std.proofs.Common.{◌≡◌, List, Ok, refl, sym, ◌∙◌, ap, subst, length}
-use Rattle.std.specs.Prelude.{None}
+use Rattle.std.proofs.Common.{List, Ok, refl, sym, ◌∙◌, ap, subst, length}
 use Rattle.ob_base.specs.declared.skeleton.NewColumn.{NewColumn}
 use Rattle.ob_sql.specs.declared.stmt.Literal.{Literal}
 use Rattle.ob_sql.specs.declared.stmt.Set.{Set}
 use Rattle.ob_sql.specs.declared.stmt.Stmt.{Stmt}
 use Rattle.ob_sql.specs.declared.stmt.Stmt.TheVariants.{Create, Insert, Update, Delete, Drop as DropTable}
 use Rattle.ob_exec.specs.declared.outcome.Outcome.{Outcome}
-use Rattle.ob_exec.specs.Running.{refusal_now}
 use Rattle.ob_exec.specs.Serving.{Serves}
 use Rattle.ob_exec.proofs.ServeLemmas.{served_as, serves_refused, serves_same}
 use Rattle.ob_exec.proofs.ToldLemmas.{now_is}

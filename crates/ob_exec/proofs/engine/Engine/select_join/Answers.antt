@@ -1,4 +1,4 @@
-use Rattle.std.proofs.Common.{◌≡◌, ◌++◌, ◌+◌, ◌*◌, ℕ, Bool, false, List, length, Ok, Err, Result, refl, sym, ◌∙◌, ap, subst, arith}
+use Rattle.std.proofs.Common.{◌≡◌, ◌++◌, ◌+◌, ◌*◌, ℕ, false, List, length, Ok, Err, Result, refl, sym, ◌∙◌, ap, subst, arith}
 use Rattle.std.specs.Prelude.{OnOk, not, slice_get}
 use Rattle.std.specs.Result.{is_err}
 use Rattle.std.specs.List.{list_any}
@@ -236,7 +236,7 @@ returns-in-Ok-select_from-clause-selects g c =
     let last = at state c.discard.new.vault (g.S.BlockStore.state c.discard.new.store) in
     record {
       ended = join_ends state old s c.in-Some.i c.in-Some-find_table.j one.0 two.0 c.in-Join.left c.in-Join.right c.in-Join.on c.in-Join.equals c.args.select.now c.requires.agrees left.get right.get left.named right.named c.in-Join.is
-    c.flat_at-left.result c.flat_at-right.result left_is right_is c.left_place-lcol.result c.right_place-rcol.result lcol_is rcol_is s1 s2 c.room.ensures.rests v c.in-Ok-join.joined c.in-Ok-join.ensures.joins c.in-Ok-join.ensures.told
+          c.flat_at-left.result c.flat_at-right.result left_is right_is c.left_place-lcol.result c.right_place-rcol.result lcol_is rcol_is s1 s2 c.room.ensures.rests v c.in-Ok-join.joined c.in-Ok-join.ensures.joins c.in-Ok-join.ensures.told
           g.E.Emit.grew g.E.Emit.cut g.E.Emit.faults now c.args.out.now c.select_from.new.out end last c.in-Ok-select_from.selected c.discard.result selects c.discard.ensures.discards;
       halted = tt;
       sink = selects.sink;
@@ -275,7 +275,7 @@ returns-clause-selects g c =
     record {
       ended = tt;
       halted = join_halts state old s c.in-Some.i c.in-Some-find_table.j one.0 two.0 c.in-Join.left c.in-Join.right c.in-Join.on c.in-Join.equals c.args.select.now c.requires.agrees left.get right.get left.named right.named c.in-Join.is
-    c.flat_at-left.result c.flat_at-right.result left_is right_is c.left_place-lcol.result c.right_place-rcol.result lcol_is rcol_is s1 s2 c.room.ensures.rests v c.in-Ok-join.joined c.in-Ok-join.ensures.joins c.in-Ok-join.ensures.told
+          c.flat_at-left.result c.flat_at-right.result left_is right_is c.left_place-lcol.result c.right_place-rcol.result lcol_is rcol_is s1 s2 c.room.ensures.rests v c.in-Ok-join.joined c.in-Ok-join.ensures.joins c.in-Ok-join.ensures.told
           g.E.Emit.grew g.E.Emit.cut g.E.Emit.faults now c.args.out.now c.select_from.new.out end last c.in-Err-select_from.error selects (c.forget.ensures.forgets (g.S.BlockStore.state c.select_from.new.store)) refl;
       sink = selects.sink;
     }

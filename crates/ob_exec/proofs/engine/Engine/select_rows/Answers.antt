@@ -1,7 +1,5 @@
-use Rattle.std.proofs.Common.{◌≡◌, ◌-◌, ℕ, length, Ok, Err, Result, refl, sym, ◌∙◌, ap, subst}
-use Rattle.ob_base.specs.declared.seen.Seen.{Seen}
+use Rattle.std.proofs.Common.{◌≡◌, ◌-◌, ℕ, length, Ok, Err, ◌∙◌, ap, subst}
 use Rattle.ob_base.specs.declared.seen.End.TheVariants.{Cut}
-use Rattle.ob_flat.specs.declared.fault.OpErr.{OpErr}
 use Rattle.ob_flat.specs.Passes.{SinkCause as PassSink}
 use Rattle.ob_sql.specs.declared.stmt.Stmt.TheVariants.{SelectRows as RowsStmt}
 use Rattle.ob_exec.specs.declared.engine.Engine.{Engine}

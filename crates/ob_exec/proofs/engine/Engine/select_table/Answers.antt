@@ -1,4 +1,4 @@
-use Rattle.std.proofs.Common.{◌≡◌, ◌≤◌, ℕ, Bool, false, List, length, Ok, Err, Result, refl, sym, ◌∙◌, ap, subst, arith}
+use Rattle.std.proofs.Common.{◌≡◌, ℕ, false, List, length, Ok, Err, Result, refl, sym, ◌∙◌, ap, subst, arith}
 use Rattle.std.specs.Prelude.{OnOk, not, slice_get}
 use Rattle.std.specs.Int.{div_ceil}
 use Rattle.std.specs.List.{list_any}
@@ -7,18 +7,17 @@ use Rattle.std.proofs.lemmas.Option.{slice_get_within}
 use Rattle.ob_base.specs.declared.schema.Table.{Table}
 use Rattle.ob_base.specs.declared.skeleton.Source.{Source}
 use Rattle.ob_base.specs.Stored.{has_table, headings_of}
-use Rattle.ob_flat.specs.declared.flat.Flat.{Flat}
 use Rattle.ob_sql.specs.declared.stmt.Stmt.TheVariants.{SelectRows as RowsStmt}
 use Rattle.ob_mean.specs.Refusals.{source_tables}
 use Rattle.ob_mean.specs.Verdict.{is_late}
 use Rattle.ob_mean.proofs.EarlyLemmas.{allowed}
 use Rattle.ob_vault.specs.Places.{at}
 use Rattle.ob_exec.specs.Agreeing.{world_of}
-use Rattle.ob_exec.specs.Engines.{IsAt, flat_of}
+use Rattle.ob_exec.specs.Engines.{IsAt}
 use Rattle.ob_exec.specs.Selecting.{MaySelect, Selection, SelectsFrom}
 use Rattle.ob_exec.proofs.FoundLemmas.{is_there, absent}
 use Rattle.ob_exec.proofs.RowsNothing.{halts_first}
-use Rattle.ob_exec.proofs.RowsTable.{counts_some, q, table_may, table_query, table_selects}
+use Rattle.ob_exec.proofs.RowsTable.{counts_some, table_may, table_query, table_selects}
 use Rattle.ob_exec.proofs.RunLemmas.{rests_refl}
 use Rattle.ob_exec.proofs.engine.Engine.select_table.Goals as goal
 
@@ -33,9 +32,9 @@ unreachable-requires g c =
     let hs = headings_of old.public.tables in
     let free = allowed (is_late (length (g.S.BlockStore.state c.args.store.now).asked)) old.public.pack old.public.buffer hs (RowsStmt c.args.select.now) c.requires.allowed in
     let there = is_there (has_table c.args.table.now hs)
-        (sym (ap (λ (source : Source). list_any (λ (name : List ℕ). not (has_table name hs)) (source_tables source)) c.requires.source) ∙ free.tables) in
+    (sym (ap (λ (source : Source). list_any (λ (name : List ℕ). not (has_table name hs)) (source_tables source)) c.requires.source) ∙ free.tables) in
     let none = absent c.args.table.now old.public.tables
-        (λ i t is. c.in_default.ensures.none i t (subst (λ (ts : List Table). IsAt c.args.table.now i t ts) (sym c.as_slice.ensures) is)) in
+    (λ i t is. c.in_default.ensures.none i t (subst (λ (ts : List Table). IsAt c.args.table.now i t ts) (sym c.as_slice.ensures) is)) in
     absurd (cc (there, none))
 
 pub flat_at-flat-requires : goal.flat_at-flat-requires

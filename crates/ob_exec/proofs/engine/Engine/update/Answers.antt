@@ -1,14 +1,13 @@
-use Rattle.std.proofs.Common.{◌≡◌, ◌-◌, ◌++◌, ℕ, List, [], Ok, refl, sym, ◌∙◌, subst, ap, append-nil, length, map}
+use Rattle.std.proofs.Common.{◌≡◌, ◌-◌, ℕ, List, Ok, refl, sym, ◌∙◌, subst, ap, append-nil, length, map}
 use Rattle.std.specs.Option.{option_map}
 use Rattle.std.specs.List.{All}
 use Rattle.std.specs.Prelude.{count_by}
 use Rattle.std.proofs.lemmas.Option.{slice_get_within}
 use Rattle.ob_base.specs.declared.seen.End.TheVariants.{Whole}
-use Rattle.ob_base.specs.Schemas.{Columns}
 use Rattle.ob_script.specs.Parts.{rewrite_part}
 use Rattle.ob_flat.specs.declared.flat.Flat.{Flat}
 use Rattle.ob_row.specs.declared.cell.Cell.{Cell}
-use Rattle.ob_row.specs.Slots.{Slots, rows}
+use Rattle.ob_row.specs.Slots.{rows}
 use Rattle.ob_row.specs.Truth.{is_true, updated}
 use Rattle.ob_sql.specs.declared.stmt.Stmt.TheVariants.{Update}
 use Rattle.ob_mean.specs.Names.{where_at}
