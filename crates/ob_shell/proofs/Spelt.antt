@@ -43,14 +43,14 @@ no_plan : plan_in (Some (codes "fast")) ≡ None
 no_plan = refl
 
 -- ---- three blocks and one row
-room_enough : fitted 49 5 None 16 ≡ Some (record { buffer = 49; depth = 5; pack = 16; plan = None; max_input = 65536 })
+room_enough : fitted 49 5 None 16 ≡ Some (record { buffer = 49; depth = 5; pack = 16; plan = None; max_input = 1073741824 })
 room_enough = refl
 
 too_little : fitted 48 5 None 16 ≡ None
 too_little = refl
 
 -- ---- whole command lines
-no_words : settings_of usage [] ≡ Some (record { buffer = 64; depth = 5; pack = 1; plan = None; max_input = 65536 })
+no_words : settings_of usage [] ≡ Some (record { buffer = 64; depth = 5; pack = 1; plan = None; max_input = 1073741824 })
 unfolding clap_on_literals
 no_words = refl
 
@@ -59,7 +59,7 @@ unfolding clap_on_literals
 no_words_parse = refl
 
 two_words : settings_of usage (codes "--pack" ∷ codes "2" ∷ codes "--plan=hash" ∷ [])
-    ≡ Some (record { buffer = 64; depth = 5; pack = 2; plan = Some Hash; max_input = 65536 })
+    ≡ Some (record { buffer = 64; depth = 5; pack = 2; plan = Some Hash; max_input = 1073741824 })
 unfolding clap_on_literals
 two_words = refl
 

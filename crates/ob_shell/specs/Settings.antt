@@ -41,7 +41,7 @@ plan_in (Some name) = plan_named name
 
 -- the input has fewer bytes
 abbrev pub input_limit : ℕ
-input_limit = 65536
+input_limit = 1073741824
 
 -- settings whose buffer holds three blocks and one row
 abbrev pub fitted : (buffer depth : ℕ) → Option Plan → (pack : ℕ) → Option Config

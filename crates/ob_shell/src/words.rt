@@ -15,7 +15,7 @@ use ob_meddle::{ChangesErr, Meddle, parse_changes};
 use std::alloc::{AllocError, Global};
 
 /// The bytes of the input that are read, at most.
-const INPUT_LIMIT: u64 = 65_536;
+const INPUT_LIMIT: u64 = 1_073_741_824;
 
 /// Why the words were not read.
 #[derive(Clone, Copy, Debug, PartialEq, Eq)]
