@@ -6,6 +6,7 @@ use Rattle.ob_base.specs.declared.seen.End.TheVariants.{Static, AfterCount}
 use Rattle.ob_base.specs.Events.{Event}
 use Rattle.ob_store.specs.State.{Lie, StoreState}
 use Rattle.ob_vault.specs.State.{RevState}
+use Rattle.ob_vault.specs.Tied.{ReadsIn}
 use Rattle.ob_sql.specs.declared.stmt.Stmt.{Stmt}
 use Rattle.ob_sql.specs.Skeleton.{skeleton}
 use Rattle.ob_mean.specs.Lawful.{Lawful}
@@ -14,7 +15,7 @@ use Rattle.ob_exec.specs.declared.engine.Engine.{Engine}
 use Rattle.ob_exec.specs.declared.outcome.Outcome.{Outcome}
 use Rattle.ob_exec.specs.Running.{Ran, RefusedEarly, Emits, SinkCause, IsSilent, refusal_now}
 use Rattle.ob_exec.specs.Memory.{HasHalted, LacksMemory}
-use Rattle.ob_exec.specs.Telling.{KeepsSealed, ReadsTrue, ReadsTrueUntil, ReadsIn, SeenCut, Told, is_refused, IsNotTampered, Partly, Emitted, answer_labels, meant_script}
+use Rattle.ob_exec.specs.Telling.{KeepsSealed, ReadsTrue, ReadsTrueUntil, SeenCut, Told, is_refused, IsNotTampered, Partly, Emitted, answer_labels, meant_script}
 
 -- what an answer emitted
 pub record Answered {R E : Type 0} (state : R → RevState) (grew : E → E → List Event → Type 0)

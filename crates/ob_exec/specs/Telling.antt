@@ -1,7 +1,6 @@
 -- What the tables of an engine hold, and what a statement means for them.
-use Rattle.std.specs.Prelude.{Bool, true, false, ◌≡◌, ◌-◌, ⊤, ℕ, List, [], ◌∷◌, ◌++◌, length, IsTrue, None}
+use Rattle.std.specs.Prelude.{Bool, true, false, ◌≡◌, ◌-◌, ⊤, ℕ, List, [], ◌∷◌, length, IsTrue, None}
 use Rattle.ob_base.specs.declared.access.Access.{Access}
-use Rattle.ob_base.specs.declared.access.Access.TheVariants.{Read}
 use Rattle.ob_base.specs.declared.config.Public.{Public}
 use Rattle.ob_exec.specs.Refusals.{by_fault}
 use Rattle.ob_base.specs.declared.refusal.Stop.{Stop}
@@ -9,7 +8,7 @@ use Rattle.ob_base.specs.declared.refusal.Stop.TheVariants.{Tampered}
 use Rattle.ob_base.specs.declared.schema.Table.{Table}
 use Rattle.ob_base.specs.Events.{Event}
 use Rattle.ob_base.specs.Schemas.{Columns}
-use Rattle.ob_store.specs.State.{Lie, StoreState}
+use Rattle.ob_store.specs.State.{StoreState}
 use Rattle.ob_script.specs.Script.{script}
 use Rattle.ob_vault.specs.State.{RevState, World}
 use Rattle.ob_vault.specs.Tied.{Calm, IsUnfit}
@@ -63,11 +62,6 @@ pub record ReadsTrueUntil {R : Type 0} (state : R → RevState) (old : Engine R)
 -- those of a statement by its meaning, of which m were asked before
 abbrev pub meant_script : Public → (m : ℕ) → Tables → Stmt → List Access
 meant_script p m tables stmt = script p (skeleton stmt) (seen p m tables stmt)
-
--- the read of a lie is one of these
-pub record ReadsIn (lie : Lie) (all : List Access) : Type 0 where
-  pub rest : List Access
-  pub is : lie.before ++ Read lie.region lie.place ∷ rest ≡ all
 
 -- ---- the answer
 -- the outcome of a statement's answer
