@@ -149,6 +149,10 @@ calm_lasts some old new more lasts asked same calm = record {
   within = λ lie is. reads_on lie old.store.asked more new.store.asked asked (calm.within lie (sym same ∙ is));
 }
 
+-- before the first lie
+pub calm_none : (w : World) → w.store.lie ≡ None → Calm w
+calm_none w none = record { calm = λ lie told. absurd (cc (told, none)); within = λ lie told. absurd (cc (told, none)) }
+
 -- no call
 pub lasts_none : (some : ℕ → Type 0) (w : World) → Ready w → Lasts some w w
 lasts_none some w ready = record {
