@@ -126,7 +126,7 @@ place_in P xs done rest known place = elim place [
   | inl ends ↦ inl (inr (inl (ends-more xs done ends)))
   | inr other ↦ elim other [
     | inl starts ↦ inl (inr (inr starts))
-    | inr all ↦ inr (known, all)
+    | inr all ↦ inr (known, all.0, all.1)
   ]
 ]
 

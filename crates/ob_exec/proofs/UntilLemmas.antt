@@ -91,13 +91,13 @@ module _ {E : Type 0} (grew cut : E → E → List Event → Type 0) (head : Lis
 
   -- behind it there is more of the answer
   pub until_more : {S : Type 0} (e : OpErr) (all last : S → List Event) (a b : E) → EmitsUntil grew cut e head all a b → EmitsUntil grew cut e head (λ s. all s ++ last s) a b
-  until_more e all last a b is = go e is
+  until_more {S} e all last a b is = go e is
     where
-      longer : {events : List Event} → ((s : _) → (rest : List Event) × (events ++ rest ≡ all s)) → (s : _) → (rest : List Event) × (events ++ rest ≡ all s ++ last s)
-      longer {events} told s = let rest = told s in (rest.0 ++ last s, sym (append_assoc events rest.0 (last s)) ∙ ap (λ (l : List Event). l ++ last s) rest.1)
+      longer : (events : List Event) → ((s : S) → (rest : List Event) × (events ++ rest ≡ all s)) → (s : S) → (rest : List Event) × (events ++ rest ≡ all s ++ last s)
+      longer events told s = let rest = told s in (rest.0 ++ last s, sym (append_assoc events rest.0 (last s)) ∙ ap (λ (l : List Event). l ++ last s) rest.1)
 
       go : (e : OpErr) → EmitsUntil grew cut e head all a b → EmitsUntil grew cut e head (λ s. all s ++ last s) a b
-      go Failed is = record { rows = is.rows; events = is.events; is = is.is; leads = is.leads; told = longer is.told }
-      go (Tampered q x) is = record { rows = is.rows; events = is.events; is = is.is; leads = is.leads; told = longer is.told }
-      go Sink is = record { events = is.events; ends = is.ends; told = longer is.told }
-      go NoMemory is = record { events = is.events; ends = is.ends; told = longer is.told }
+      go Failed is = record { rows = is.rows; events = is.events; is = is.is; leads = is.leads; told = longer is.events is.told }
+      go (Tampered q x) is = record { rows = is.rows; events = is.events; is = is.is; leads = is.leads; told = longer is.events is.told }
+      go Sink is = record { events = is.events; ends = is.ends; told = longer is.events is.told }
+      go NoMemory is = record { events = is.events; ends = is.ends; told = longer is.events is.told }
