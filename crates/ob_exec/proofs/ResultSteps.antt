@@ -6,7 +6,7 @@ use Rattle.std.specs.Result.{is_err}
 use Rattle.ob_hash.proofs.Sizes.{blocks_whole}
 use Rattle.ob_flat.proofs.Tables.{fits_sized, blocks_hold}
 use Rattle.ob_exec.specs.Engines.{AreSettings}
-use Rattle.std.specs.Prelude.{IsSome, OnOk, IfErr, IfOk, OnErr, map}
+use Rattle.std.specs.Prelude.{IsSome, OnOk, IfErr, IfOk, map}
 use Rattle.std.specs.Option.{option_map}
 use Rattle.std.specs.List.{list_all}
 use Rattle.ob_base.specs.declared.access.Access.{Access}
@@ -46,7 +46,7 @@ use Rattle.ob_exec.specs.declared.selecting.Selected.TheVariants.{Rows, Refused}
 use Rattle.ob_exec.specs.Memory.{is_reading, starts_with_make, ends_with_make}
 use Rattle.ob_exec.specs.Selecting.{SealsRows, emitted_unless, selected_as}
 use Rattle.ob_exec.specs.Results.{Planned, PlannedToEnd, PlannedToHalt, MakesResult, EmitsResult, WalksResult, SelectsBy, EmitsHeld, slots_for, fresh_flat, make_part, whole_part, left_out, held_slots, held_shown, held_events, head_of}
-use Rattle.ob_exec.proofs.ResultParts.{whole_is, starts-make, starts-more, rest-reading, all-join, all-emission}
+use Rattle.ob_exec.proofs.ResultParts.{whole_is, starts-make, starts-more, rest-reading}
 use Rattle.ob_exec.proofs.ResultReads.{emitted_from}
 use Rattle.ob_exec.proofs.UntilLemmas.{until_none, until_from, until_ends, ends_halted}
 use Rattle.ob_emit.specs.Emitting.{table_shown}

@@ -23,7 +23,7 @@ use Rattle.ob_script.proofs.Lengths.{length-count_part}
 use Rattle.ob_exec.proofs.RowsLawful.{seen_as}
 use Rattle.ob_exec.proofs.RowsNothing.{part_late}
 use Rattle.ob_vault.specs.State.{Start, World}
-use Rattle.ob_vault.specs.Tied.{Calm, Fits, IsUnfit, ReadsIn}
+use Rattle.ob_vault.specs.Tied.{Fits, IsUnfit, ReadsIn}
 use Rattle.ob_vault.proofs.WorldSteps.{calm_none, reads_on}
 use Rattle.ob_vault.specs.Calls.{Lasts, Seals, Went, one}
 use Rattle.ob_vault.proofs.Runs.{seals_join, went_join, went_wider}

@@ -1,6 +1,6 @@
 -- What is told of a selection where Small took the place of a Hash.
-use Rattle.std.proofs.Common.{◌≡◌, ◌⊎◌, inl, inr, ◌≤◌, ◌+◌, ◌-◌, ℕ, Bool, IsTrue, List, [], ◌++◌, append_assoc, None, Some, Result, Ok, Err, length, refl, sym, ◌∙◌, ap, subst, arith}
-use Rattle.std.specs.Prelude.{IfErr, IfOk, OnErr, MatchResult, map}
+use Rattle.std.proofs.Common.{◌≡◌, ◌⊎◌, inl, ◌≤◌, ◌+◌, ◌-◌, ℕ, Bool, IsTrue, List, [], ◌++◌, append_assoc, None, Some, Result, Ok, Err, length, refl, sym, ◌∙◌, ap, subst, arith}
+use Rattle.std.specs.Prelude.{IfErr, IfOk, MatchResult, map}
 use Rattle.ob_base.specs.declared.config.Plan.TheVariants.{Small, Hash}
 use Rattle.ob_base.specs.declared.refusal.Refusal.TheVariants.{Overflow}
 use Rattle.ob_base.specs.declared.access.Access.{Access}

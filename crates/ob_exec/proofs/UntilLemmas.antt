@@ -7,7 +7,7 @@ use Rattle.ob_base.specs.Events.{Event, row_events, Leads, IsBegun, IsHalted}
 use Rattle.ob_flat.specs.declared.fault.OpErr.{OpErr}
 use Rattle.ob_flat.specs.declared.fault.OpErr.TheVariants.{Failed, Tampered, Sink, NoMemory}
 use Rattle.ob_emit.specs.Emitting.{EndsAs}
-use Rattle.ob_exec.specs.Halting.{MayEnd, TakesPart, EmitsUntil}
+use Rattle.ob_exec.specs.Halting.{TakesPart, EmitsUntil}
 use Rattle.ob_exec.specs.Memory.{HasHalted}
 use Rattle.ob_exec.specs.Running.{is_row}
 
