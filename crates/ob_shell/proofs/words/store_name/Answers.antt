@@ -31,12 +31,15 @@ returns-in-Some-get_str-clause-unnamed c unnamed =
     let value : Some c.in-Some-get_str.name.now ≡ store_of words =
     ap (option_map (λ t. t.now)) (sym c.in-Some-get_str.is) ∙ c.get_str.ensures
     ∙ value_from (app_of c.in-Ok.command) usage made.matches words (codes "store") c.in-Ok.ensures refl made.ensures.matches in
-    let taken : IsTaken usage words = (c.in-Some.field-0, record {
-      parses = parses_from (app_of c.in-Ok.command) usage words c.in-Ok.ensures refl made.ensures.kinds;
-      settings =
-          sym (settings_from (app_of c.in-Ok.command) usage made.matches words c.in-Ok.ensures refl made.ensures.matches)
-          ∙ sym c.settings.ensures.settings ∙ c.in-Some.is;
-    }) in
+    let taken : IsTaken usage words = (
+      c.in-Some.field-0,
+      record {
+        parses = parses_from (app_of c.in-Ok.command) usage words c.in-Ok.ensures refl made.ensures.kinds;
+        settings =
+            sym (settings_from (app_of c.in-Ok.command) usage made.matches words c.in-Ok.ensures refl made.ensures.matches)
+            ∙ sym c.settings.ensures.settings ∙ c.in-Some.is;
+      },
+    ) in
     absurd (cc (value, unnamed taken))
 
 pub returns-clause-named : goal.returns-clause-named
