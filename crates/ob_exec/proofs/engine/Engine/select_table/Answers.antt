@@ -34,8 +34,8 @@ table_at-flat-requires g c =
     is_there (has_table c.args.table.now hs)
     (sym (ap (λ (source : Source). list_any (λ (name : List ℕ). not (has_table name hs)) (source_tables source)) c.requires.source) ∙ free.tables)
 
-pub returns-in_default-where_at-clause-selects : goal.returns-in_default-where_at-clause-selects
-returns-in_default-where_at-clause-selects g c =
+pub returns-in_default-clause-selects : goal.returns-in_default-clause-selects
+returns-in_default-clause-selects g c =
     let old = c.args.self.now in
     let state = g.R.Revisions.state in
     let s = g.S.BlockStore.state c.args.store.now in
