@@ -41,7 +41,7 @@ use Rattle.ob_exec.specs.Running.{answer_of, is_stop, result_end, RunCause, Goes
 use Rattle.ob_exec.specs.Selecting.{UsesRoom}
 use Rattle.ob_exec.specs.Telling.{AreHeld}
 use Rattle.ob_exec.proofs.HeldLemmas.{held_kept}
-use Rattle.ob_exec.proofs.RunLemmas.{asks_cut, asks_none, IsAnswered, engine_after, free_after, next_after, of_other}
+use Rattle.ob_exec.proofs.RunLemmas.{IsAnswered, engine_after, free_after, ran_stopped, ran_whole}
 use Rattle.ob_exec.proofs.TableLemmas.{flat_kept, tables_kept, stored_found}
 
 -- no changed block was read, where none that fits was, and none that doesn't was later
@@ -101,25 +101,6 @@ module _ {R : Type 0} (state : R → RevState) (old : Engine R) (s s1 : StoreSta
   opened : (part : List Access) → Opens part old.room.high room.high
   opened part = record { kept = uses.kept; some = λ any. uses.some }
 
-  went_on : (end : End) (x : List Access) (ended : Bool) → ended ≡ false → Ready now → t.asked ≡ s.asked ++ x → script old.public select (seen_to end) ≡ x → old.public.tables ≡ tables_then old.public select end
-      → AreTables old.public.tables old.public.pack now → GoesOn state select old (engine_after old v room old.public.tables end ended) t
-  went_on end x ended lives ready asked is same are =
-      let number = next_after (world_of state old s) now x agrees.ready ready refl asked in
-      let region : v.next ≡ old.public.next_region + makes (script old.public select (seen_to end)) =
-      number ∙ ap (λ (n : ℕ). n + makes x) (sym agrees.next) ∙ ap (λ (y : List Access). old.public.next_region + makes y) (sym is) in
-      let kept = agrees.settings in
-      record {
-        agrees = record {
-          ready = ready;
-          next = refl;
-          settings = record { blocks = kept.blocks; most = kept.most; depth_least = kept.depth_least; depth_most = kept.depth_most; pack_least = kept.pack_least; pack_most = kept.pack_most };
-          room = record { idle = free.idle; rows = free.rows; pack = free.pack };
-          tables = are;
-        };
-        public = λ j. record old.public { tables = same j; next_region = region j };
-        lives = lives;
-      }
-
   -- all of it was asked
   pub went_all : Went reads none (at state old.vault s1) now → Went reads none (world_of state old s) now
   went_all went = went_join none _ _ _ [] reads (went_rests _ s s1 rests none agrees.ready) went
@@ -128,36 +109,7 @@ module _ {R : Type 0} (state : R → RevState) (old : Engine R) (s s1 : StoreSta
       → Ran state select (Ok outcome) old s (engine_after old v room old.public.tables Whole old.ended) t
   read_done outcome answered went lives =
       let all = went_all went in
-      record {
-        asked = all.did.asked ∙ ap (λ (y : List Access). s.asked ++ y) (sym (reads_is Whole));
-        later = all.lasts.later;
-        keys = all.lasts.keys;
-        ends = sym (answered.whole _);
-        asks = asks_none outcome _ answered.own;
-        cause = (of_other _ _ _ answered.own all.did.faults, all.calm);
-        room = free;
-        opened = opened _;
-        goes_on = went_on Whole reads old.ended lives all.lasts.ready all.did.asked (reads_is Whole) refl (tables_read all.lasts);
-      }
-
-  cut_ends : (e : OpErr) (n : ℕ) → Cut n ≡ result_end (answer_of e) n
-  cut_ends OpErrs.Failed n = refl
-  cut_ends (OpErrs.Tampered q x) n = refl
-  cut_ends OpErrs.Sink n = refl
-  cut_ends OpErrs.NoMemory n = refl
-
-  cut_cause : (e : OpErr) (a b : World) → PassCause e a b → RunCause (answer_of e) a b
-  cut_cause OpErrs.Failed a b cause = cause
-  cut_cause (OpErrs.Tampered q x) a b cause = cause
-  cut_cause OpErrs.Sink a b cause = cause
-  cut_cause OpErrs.NoMemory a b cause = cause
-
-  cut_on : (e : OpErr) (n : ℕ) → GoesOn state select old (engine_after old v room old.public.tables (Cut n) false) t
-      → Continues state select (answer_of e) old (engine_after old v room old.public.tables (Cut n) (is_stop (answer_of e))) t
-  cut_on OpErrs.Failed n on = on
-  cut_on (OpErrs.Tampered q x) n on = refl
-  cut_on OpErrs.Sink n on = refl
-  cut_on OpErrs.NoMemory n on = refl
+      ran_whole state select old s v room t agrees free none old.public.tables reads outcome lives answered (opened reads) all (reads_is Whole) refl (tables_read all.lasts)
 
   -- the pass gave up
   pub cut_after : (e : OpErr) → PassCut e reads none (at state old.vault s1) now → PassCut e reads none (world_of state old s) now
@@ -167,15 +119,4 @@ module _ {R : Type 0} (state : R → RevState) (old : Engine R) (s s1 : StoreSta
       → Ran state select (answer_of e) old s (engine_after old v room old.public.tables (Cut n) (is_stop (answer_of e))) t
   read_cut e n cut count =
       let all = cut_after e cut in
-      let first : t.asked ≡ s.asked ++ take n reads = began_take reads _ _ all.began ∙ ap (λ (k : ℕ). s.asked ++ take k reads) (sym count) in
-      record {
-        asked = first ∙ ap (λ (y : List Access). s.asked ++ take n y) (sym (reads_is (Cut n)));
-        later = all.lasts.later;
-        keys = all.lasts.keys;
-        ends = cut_ends e n ∙ ap (result_end (answer_of e)) count;
-        asks = asks_cut e s t all.asks;
-        cause = cut_cause e _ _ all.cause;
-        room = free;
-        opened = opened _;
-        goes_on = cut_on e n (went_on (Cut n) (take n reads) false refl all.lasts.ready first (ap (take n) (reads_is (Cut n))) refl (tables_read all.lasts));
-      }
+      ran_stopped state select old s v room t agrees free none n reads e (opened _) all (reads_is (Cut n)) count (tables_read all.lasts)

@@ -169,22 +169,6 @@ module _ {R : Type 0} (state : R → RevState) (skeleton : Skeleton) (old : Engi
     goes_on = went_on tables Whole x old.ended lives went.lasts.ready went.did.asked is same are;
   }
 
-module _ {R : Type 0} (state : R → RevState) (skeleton : Skeleton) (old : Engine R) (s : StoreState) (v : Vault R) (room : RoomState) (t : StoreState)
-    (agrees : Agrees state old s) (room_is : room ≡ record old.room { high = max old.room.high old.room.pack }) where
-  free : IsFree old.public room
-  free = free_after old.public old.room room _ agrees.room room_is
-
-  opened : (part : List Access) → Opens part old.room.high room.high
-  opened part = subst (λ (r : RoomState). Opens part old.room.high r.high) (sym room_is)
-      (opens_some part old.room.high old.room.pack (let some = agrees.settings.pack_least in let same = agrees.room.pack in omega (arith, some, same)))
-
-  -- all of a pass over the room was asked
-  pub ran_done : (some : ℕ → Type 0) (tables : List Table) (x : List Access) (outcome : Outcome) → old.ended ≡ false → IsAnswered outcome → Went x some (world_of state old s) (at state v t)
-      → whole_script old.public skeleton (seen_to Whole) ≡ x → tables ≡ tables_after old.public skeleton → AreTables tables old.public.pack (at state v t)
-      → Ran state skeleton (Ok outcome) old s (engine_after old v room tables Whole old.ended) t
-  ran_done some tables x outcome lives answered went is same are =
-      ran_whole state skeleton old s v room t agrees free some tables x outcome lives answered (opened x) went is same are
-
   cut_ends : (e : OpErr) (n : ℕ) → Cut n ≡ result_end (answer_of e) n
   cut_ends OpErrs.Failed n = refl
   cut_ends (OpErrs.Tampered q x) n = refl
@@ -205,10 +189,10 @@ module _ {R : Type 0} (state : R → RevState) (skeleton : Skeleton) (old : Engi
   cut_on OpErrs.NoMemory n on = refl
 
   -- a pass gave up
-  pub ran_cut : (some : ℕ → Type 0) (n : ℕ) (x : List Access) (e : OpErr) → PassCut e x some (world_of state old s) (at state v t)
+  pub ran_stopped : (some : ℕ → Type 0) (n : ℕ) (x : List Access) (e : OpErr) → Opens (script old.public skeleton (seen_to (Cut n))) old.room.high room.high → PassCut e x some (world_of state old s) (at state v t)
       → whole_script old.public skeleton (seen_to (Cut n)) ≡ x → n ≡ length t.asked - length s.asked → AreTables old.public.tables old.public.pack (at state v t)
       → Ran state skeleton (answer_of e) old s (engine_after old v room old.public.tables (Cut n) (is_stop (answer_of e))) t
-  ran_cut some n x e cut is count are =
+  ran_stopped some n x e opens cut is count are =
       let first : t.asked ≡ s.asked ++ take n x = began_take x _ _ cut.began ∙ ap (λ (k : ℕ). s.asked ++ take k x) (sym count) in
       record {
         asked = first ∙ ap (λ (y : List Access). s.asked ++ take n y) (sym is);
@@ -218,9 +202,31 @@ module _ {R : Type 0} (state : R → RevState) (skeleton : Skeleton) (old : Engi
         asks = asks_cut e s t cut.asks;
         cause = cut_cause e _ _ cut.cause;
         room = free;
-        opened = opened _;
-        goes_on = cut_on e n (went_on state skeleton old s v room t agrees free old.public.tables (Cut n) (take n x) false refl cut.lasts.ready first (ap (take n) is) refl are);
+        opened = opens;
+        goes_on = cut_on e n (went_on old.public.tables (Cut n) (take n x) false refl cut.lasts.ready first (ap (take n) is) refl are);
       }
+
+module _ {R : Type 0} (state : R → RevState) (skeleton : Skeleton) (old : Engine R) (s : StoreState) (v : Vault R) (room : RoomState) (t : StoreState)
+    (agrees : Agrees state old s) (room_is : room ≡ record old.room { high = max old.room.high old.room.pack }) where
+  free : IsFree old.public room
+  free = free_after old.public old.room room _ agrees.room room_is
+
+  opened : (part : List Access) → Opens part old.room.high room.high
+  opened part = subst (λ (r : RoomState). Opens part old.room.high r.high) (sym room_is)
+      (opens_some part old.room.high old.room.pack (let some = agrees.settings.pack_least in let same = agrees.room.pack in omega (arith, some, same)))
+
+  -- all of a pass over the room was asked
+  pub ran_done : (some : ℕ → Type 0) (tables : List Table) (x : List Access) (outcome : Outcome) → old.ended ≡ false → IsAnswered outcome → Went x some (world_of state old s) (at state v t)
+      → whole_script old.public skeleton (seen_to Whole) ≡ x → tables ≡ tables_after old.public skeleton → AreTables tables old.public.pack (at state v t)
+      → Ran state skeleton (Ok outcome) old s (engine_after old v room tables Whole old.ended) t
+  ran_done some tables x outcome lives answered went is same are =
+      ran_whole state skeleton old s v room t agrees free some tables x outcome lives answered (opened x) went is same are
+
+  -- a pass over the room gave up
+  pub ran_cut : (some : ℕ → Type 0) (n : ℕ) (x : List Access) (e : OpErr) → PassCut e x some (world_of state old s) (at state v t)
+      → whole_script old.public skeleton (seen_to (Cut n)) ≡ x → n ≡ length t.asked - length s.asked → AreTables old.public.tables old.public.pack (at state v t)
+      → Ran state skeleton (answer_of e) old s (engine_after old v room old.public.tables (Cut n) (is_stop (answer_of e))) t
+  ran_cut some n x e cut is count are = ran_stopped state skeleton old s v room t agrees free some n x e (opened _) cut is count are
 
 -- the same, of an equal answer and an equal engine
 pub ran_as : {R : Type 0} (state : R → RevState) (skeleton : Skeleton) (old : Engine R) (s : StoreState) (t : StoreState) (r q : Result Outcome Stop) (new same : Engine R)

@@ -19,7 +19,6 @@ use crate::engine::{Engine, seen_to_end};
 use crate::outcome::Outcome;
 use crate::places::printed_places;
 use crate::selecting::{Query, Selected, select_from};
-use crate::tables::{find_table, flat_at};
 use ob_base::{Emit, EmitErr, End, Name, Public, Seen, Source, Stop};
 use ob_flat::{Flat, OpErr};
 use ob_mean::{left_place, right_place, where_at};
@@ -96,10 +95,7 @@ impl<R: Revisions> Engine<R> {
             result seen.new (world_of R.state self.old (S.state store.old))
             (world_of R.state self.new (S.state store.new)) out.old out.new }
     {
-        let Some(i) = find_table(self.public.tables.as_slice(), table) else {
-            unreachable!()
-        };
-        let flat = flat_at(self.public.tables.as_slice(), i);
+        let (_, flat) = self.table_at(table);
         let columns = flat.schema.as_slice();
         let Ok(pred) = where_at(self.alloc, &select.cond, columns, &[]) else {
             return Err(OpErr::NoMemory);
@@ -157,14 +153,8 @@ impl<R: Revisions> Engine<R> {
         else {
             unreachable!()
         };
-        let Some(i) = find_table(self.public.tables.as_slice(), left) else {
-            unreachable!()
-        };
-        let Some(j) = find_table(self.public.tables.as_slice(), right) else {
-            unreachable!()
-        };
-        let left = flat_at(self.public.tables.as_slice(), i);
-        let right = flat_at(self.public.tables.as_slice(), j);
+        let (_, left) = self.table_at(left);
+        let (_, right) = self.table_at(right);
         let (columns, others) = (left.schema.as_slice(), right.schema.as_slice());
         let Ok(pred) = where_at(self.alloc, &select.cond, columns, others) else {
             return Err(OpErr::NoMemory);

@@ -13,7 +13,8 @@ use ob_vault::Revisions;
 
 impl<R: Revisions> Engine<R> {
     /// Carries out a statement of the language, and gives the rows of its answer to the emitter: a
-    /// header, each row, and their number. Any other answer emits nothing.
+    /// header, each row, and their number. Any other answer emits nothing, but that a SELECT of rows may
+    /// have emitted its header and some rows when the store failed.
     ///
     /// The answer is that of the statement over the tables before, if the store gave each block as it
     /// was written last. `Refused` says why it was not carried out, and changes no table: for what it
@@ -22,9 +23,9 @@ impl<R: Revisions> Engine<R> {
     ///
     /// `Tampered` names a block that is not what was written there last, or that no table's rows make;
     /// `SinkFault` says that the emitter failed; and `NoMemory` comes before the first access, where a
-    /// region is made, or where rows are emitted, so that it tells nothing of rows. What was emitted
-    /// until then is a first part of the answer. After each of the three the session has ended: the
-    /// engine takes no statement any more. After an answer it takes the next one.
+    /// region is made, or from the emitter while rows are emitted, so that it tells nothing of rows. What
+    /// was emitted until then is a first part of the answer. After each of the three the session has
+    /// ended: the engine takes no statement any more. After an answer it takes the next one.
     ///
     /// Whatever the store does, its accesses are exactly those that follow from what was public before,
     /// the statement without its literals and conditions, and what is seen of it; and no row comes to

@@ -35,51 +35,33 @@ at_ok : {T E : Type 0} (r : Result T E) (P : Type 0) → is_err r ≡ false → 
 at_ok (Ok x) P ok h = h
 at_ok (Err e) P ok h = absurd (cc ok)
 
-pub unreachable-requires-in_default-find_table : goal.unreachable-requires-in_default-find_table
-unreachable-requires-in_default-find_table g c =
-    let old = c.args.self.now in
-    let hs = headings_of old.public.tables in
-    let free = allowed (is_late (length (g.S.BlockStore.state c.args.store.now).asked)) old.public.pack old.public.buffer hs (RowsStmt c.args.select.now) c.requires.allowed in
-    let both = there_are (has_table c.in-Join.left hs) (has_table c.in-Join.right hs)
-    (sym (ap (λ (source : Source). list_any (λ (name : List ℕ). not (has_table name hs)) (source_tables source)) c.in-Join.is) ∙ free.tables) in
-    let none = absent c.in-Join.left old.public.tables (λ i t is. c.in_default-find_table.ensures.none i t (subst (λ (ts : List Table). IsAt c.in-Join.left i t ts) (sym c.as_slice.ensures) is)) in
-    absurd (cc (both.0, none))
+pub table_at-left-requires : goal.table_at-left-requires
+table_at-left-requires g c =
+    let hs = headings_of c.args.self.now.public.tables in
+    let free = allowed (is_late (length (g.S.BlockStore.state c.args.store.now).asked)) c.args.self.now.public.pack c.args.self.now.public.buffer hs (RowsStmt c.args.select.now) c.requires.allowed in
+    (there_are (has_table c.in-Join.left hs) (has_table c.in-Join.right hs)
+    (sym (ap (λ (source : Source). list_any (λ (name : List ℕ). not (has_table name hs)) (source_tables source)) c.in-Join.is) ∙ free.tables)).0
 
-pub unreachable-requires-in_default-find_table-2 : goal.unreachable-requires-in_default-find_table-2
-unreachable-requires-in_default-find_table-2 g c =
-    let old = c.args.self.now in
-    let hs = headings_of old.public.tables in
-    let free = allowed (is_late (length (g.S.BlockStore.state c.args.store.now).asked)) old.public.pack old.public.buffer hs (RowsStmt c.args.select.now) c.requires.allowed in
-    let both = there_are (has_table c.in-Join.left hs) (has_table c.in-Join.right hs)
-    (sym (ap (λ (source : Source). list_any (λ (name : List ℕ). not (has_table name hs)) (source_tables source)) c.in-Join.is) ∙ free.tables) in
-    let none = absent c.in-Join.right old.public.tables (λ i t is. c.in_default-find_table-2.ensures.none i t (subst (λ (ts : List Table). IsAt c.in-Join.right i t ts) (sym c.as_slice-2.ensures) is)) in
-    absurd (cc (both.1, none))
-
-pub flat_at-left-requires : goal.flat_at-left-requires
-flat_at-left-requires g c =
-    let found = c.in-Some.ensures.found in
-    let within = slice_get_within c.as_slice.result.now c.in-Some.i found.0 found.1.get in
-    omega (arith, within, ap length c.as_slice.ensures, ap length c.as_slice-3.ensures)
-
-pub flat_at-right-requires : goal.flat_at-right-requires
-flat_at-right-requires g c =
-    let found = c.in-Some-find_table.ensures.found in
-    let within = slice_get_within c.as_slice-2.result.now c.in-Some-find_table.j found.0 found.1.get in
-    omega (arith, within, ap length c.as_slice-2.ensures, ap length c.as_slice-4.ensures)
+pub table_at-right-requires : goal.table_at-right-requires
+table_at-right-requires g c =
+    let hs = headings_of c.args.self.now.public.tables in
+    let free = allowed (is_late (length (g.S.BlockStore.state c.args.store.now).asked)) c.args.self.now.public.pack c.args.self.now.public.buffer hs (RowsStmt c.args.select.now) c.requires.allowed in
+    (there_are (has_table c.in-Join.left hs) (has_table c.in-Join.right hs)
+    (sym (ap (λ (source : Source). list_any (λ (name : List ℕ). not (has_table name hs)) (source_tables source)) c.in-Join.is) ∙ free.tables)).1
 
 pub returns-in_default-where_at-clause-selects : goal.returns-in_default-where_at-clause-selects
 returns-in_default-where_at-clause-selects g c =
     let old = c.args.self.now in
     let state = g.R.Revisions.state in
     let s = g.S.BlockStore.state c.args.store.now in
-    let one = c.in-Some.ensures.found in
-    let two = c.in-Some-find_table.ensures.found in
-    let left = subst (λ (ts : List Table). IsAt c.in-Join.left c.in-Some.i one.0 ts) c.as_slice.ensures one.1 in
-    let right = subst (λ (ts : List Table). IsAt c.in-Join.right c.in-Some-find_table.j two.0 ts) c.as_slice-2.ensures two.1 in
+    let one = c.table_at-left.ensures in
+    let two = c.table_at-right.ensures in
+    let left = one.here in
+    let right = two.here in
     record {
       ended = tt;
       halted = halts_first g.E.Emit.grew g.E.Emit.cut old.public c.args.select.now c.args.seen.now (world_of state old s).vault s s c.args.out.now c.requires.agrees.ready (rests_refl s) c.requires.fresh
-          (join_some state old s c.in-Some.i c.in-Some-find_table.j one.0 two.0 c.in-Join.left c.in-Join.right c.in-Join.on c.in-Join.equals c.args.select.now c.requires.agrees left.get right.get left.named right.named c.in-Join.is);
+          (join_some state old s c.table_at-left.result.0 c.table_at-right.result.0 one.table two.table c.in-Join.left c.in-Join.right c.in-Join.on c.in-Join.equals c.args.select.now c.requires.agrees left.get right.get left.named right.named c.in-Join.is);
       sink = refl;
     }
 
@@ -88,14 +70,14 @@ returns-then-is_err-clause-selects g c =
     let old = c.args.self.now in
     let state = g.R.Revisions.state in
     let s = g.S.BlockStore.state c.args.store.now in
-    let one = c.in-Some.ensures.found in
-    let two = c.in-Some-find_table.ensures.found in
-    let left = subst (λ (ts : List Table). IsAt c.in-Join.left c.in-Some.i one.0 ts) c.as_slice.ensures one.1 in
-    let right = subst (λ (ts : List Table). IsAt c.in-Join.right c.in-Some-find_table.j two.0 ts) c.as_slice-2.ensures two.1 in
+    let one = c.table_at-left.ensures in
+    let two = c.table_at-right.ensures in
+    let left = one.here in
+    let right = two.here in
     record {
       ended = tt;
       halted = halts_first g.E.Emit.grew g.E.Emit.cut old.public c.args.select.now c.args.seen.now (world_of state old s).vault s (g.S.BlockStore.state c.room.new.self) c.args.out.now c.requires.agrees.ready c.room.ensures.rests c.requires.fresh
-          (join_some state old s c.in-Some.i c.in-Some-find_table.j one.0 two.0 c.in-Join.left c.in-Join.right c.in-Join.on c.in-Join.equals c.args.select.now c.requires.agrees left.get right.get left.named right.named c.in-Join.is);
+          (join_some state old s c.table_at-left.result.0 c.table_at-right.result.0 one.table two.table c.in-Join.left c.in-Join.right c.in-Join.on c.in-Join.equals c.args.select.now c.requires.agrees left.get right.get left.named right.named c.in-Join.is);
       sink = refl;
     }
 
@@ -104,14 +86,14 @@ join-requires-clause-starts g c =
     let old = c.args.self.now in
     let state = g.R.Revisions.state in
     let s = g.S.BlockStore.state c.args.store.now in
-    let one = c.in-Some.ensures.found in
-    let two = c.in-Some-find_table.ensures.found in
-    let left = subst (λ (ts : List Table). IsAt c.in-Join.left c.in-Some.i one.0 ts) c.as_slice.ensures one.1 in
-    let right = subst (λ (ts : List Table). IsAt c.in-Join.right c.in-Some-find_table.j two.0 ts) c.as_slice-2.ensures two.1 in
-    let left_is = c.flat_at-left.ensures one.0 (ap (λ (ts : List Table). slice_get ts c.in-Some.i) c.as_slice-3.ensures ∙ left.get) in
-    let right_is = c.flat_at-right.ensures two.0 (ap (λ (ts : List Table). slice_get ts c.in-Some-find_table.j) c.as_slice-4.ensures ∙ right.get) in
+    let one = c.table_at-left.ensures in
+    let two = c.table_at-right.ensures in
+    let left = one.here in
+    let right = two.here in
+    let left_is = one.is in
+    let right_is = two.is in
     let spare = at_ok c.room.result _ (sym c.is_err.ensures.value ∙ c.if-is_err.false) c.room.ensures.spare in
-    join_starts state old s c.in-Some.i c.in-Some-find_table.j one.0 two.0 c.in-Join.left c.in-Join.right c.in-Join.on c.in-Join.equals c.args.select.now c.requires.agrees left.get right.get left.named right.named c.in-Join.is c.requires.allowed (g.S.BlockStore.state c.room.new.self) c.flat_at-left.result c.flat_at-right.result
+    join_starts state old s c.table_at-left.result.0 c.table_at-right.result.0 one.table two.table c.in-Join.left c.in-Join.right c.in-Join.on c.in-Join.equals c.args.select.now c.requires.agrees left.get right.get left.named right.named c.in-Join.is c.requires.allowed (g.S.BlockStore.state c.room.new.self) c.table_at-left.result.1 c.table_at-right.result.1
     c.left_place-lcol.result c.right_place-rcol.result c.join_accesses.result c.room.ensures.rests c.join_accesses.ensures spare
 
 pub join-requires-clause-tables : goal.join-requires-clause-tables
@@ -119,15 +101,15 @@ join-requires-clause-tables g c =
     let old = c.args.self.now in
     let state = g.R.Revisions.state in
     let s = g.S.BlockStore.state c.args.store.now in
-    let one = c.in-Some.ensures.found in
-    let two = c.in-Some-find_table.ensures.found in
-    let left = subst (λ (ts : List Table). IsAt c.in-Join.left c.in-Some.i one.0 ts) c.as_slice.ensures one.1 in
-    let right = subst (λ (ts : List Table). IsAt c.in-Join.right c.in-Some-find_table.j two.0 ts) c.as_slice-2.ensures two.1 in
-    let left_is = c.flat_at-left.ensures one.0 (ap (λ (ts : List Table). slice_get ts c.in-Some.i) c.as_slice-3.ensures ∙ left.get) in
-    let right_is = c.flat_at-right.ensures two.0 (ap (λ (ts : List Table). slice_get ts c.in-Some-find_table.j) c.as_slice-4.ensures ∙ right.get) in
+    let one = c.table_at-left.ensures in
+    let two = c.table_at-right.ensures in
+    let left = one.here in
+    let right = two.here in
+    let left_is = one.is in
+    let right_is = two.is in
     let columns = c.as_slice-columns.ensures.value ∙ ap (λ (f : Flat). f.schema) left_is in
     let others = c.as_slice-others.ensures.value ∙ ap (λ (f : Flat). f.schema) right_is in
-    join_may state old s c.in-Some.i c.in-Some-find_table.j one.0 two.0 c.in-Join.left c.in-Join.right c.in-Join.on c.in-Join.equals c.args.select.now c.requires.agrees left.get right.get left.named right.named c.in-Join.is c.requires.allowed (g.S.BlockStore.state c.room.new.self) c.flat_at-left.result c.flat_at-right.result
+    join_may state old s c.table_at-left.result.0 c.table_at-right.result.0 one.table two.table c.in-Join.left c.in-Join.right c.in-Join.on c.in-Join.equals c.args.select.now c.requires.agrees left.get right.get left.named right.named c.in-Join.is c.requires.allowed (g.S.BlockStore.state c.room.new.self) c.table_at-left.result.1 c.table_at-right.result.1
     c.left_place-lcol.result c.right_place-rcol.result c.room.ensures.rests left_is right_is
     (c.left_place-lcol.ensures.value ∙ (λ k. left_place (length (columns k)) (columns k ++ others k) c.in-Join.on c.in-Join.equals))
     (c.right_place-rcol.ensures.value ∙ (λ k. right_place (length (columns k)) (columns k ++ others k) c.in-Join.on c.in-Join.equals))
@@ -137,13 +119,13 @@ join-requires-clause-room g c =
     let old = c.args.self.now in
     let state = g.R.Revisions.state in
     let s = g.S.BlockStore.state c.args.store.now in
-    let one = c.in-Some.ensures.found in
-    let two = c.in-Some-find_table.ensures.found in
-    let left = subst (λ (ts : List Table). IsAt c.in-Join.left c.in-Some.i one.0 ts) c.as_slice.ensures one.1 in
-    let right = subst (λ (ts : List Table). IsAt c.in-Join.right c.in-Some-find_table.j two.0 ts) c.as_slice-2.ensures two.1 in
-    let left_is = c.flat_at-left.ensures one.0 (ap (λ (ts : List Table). slice_get ts c.in-Some.i) c.as_slice-3.ensures ∙ left.get) in
-    let right_is = c.flat_at-right.ensures two.0 (ap (λ (ts : List Table). slice_get ts c.in-Some-find_table.j) c.as_slice-4.ensures ∙ right.get) in
-    join_idle state old s c.in-Some.i c.in-Some-find_table.j one.0 two.0 c.in-Join.left c.in-Join.right c.in-Join.on c.in-Join.equals c.args.select.now c.requires.agrees left.get right.get left.named right.named c.in-Join.is c.requires.allowed c.flat_at-left.result c.flat_at-right.result left_is right_is
+    let one = c.table_at-left.ensures in
+    let two = c.table_at-right.ensures in
+    let left = one.here in
+    let right = two.here in
+    let left_is = one.is in
+    let right_is = two.is in
+    join_idle state old s c.table_at-left.result.0 c.table_at-right.result.0 one.table two.table c.in-Join.left c.in-Join.right c.in-Join.on c.in-Join.equals c.args.select.now c.requires.agrees left.get right.get left.named right.named c.in-Join.is c.requires.allowed c.table_at-left.result.1 c.table_at-right.result.1 left_is right_is
 
 pub returns-in-Err-clause-selects : goal.returns-in-Err-clause-selects
 returns-in-Err-clause-selects g c =
@@ -152,20 +134,20 @@ returns-in-Err-clause-selects g c =
     let s = g.S.BlockStore.state c.args.store.now in
     let s1 = g.S.BlockStore.state c.room.new.self in
     let s2 = g.S.BlockStore.state c.join.new.store in
-    let one = c.in-Some.ensures.found in
-    let two = c.in-Some-find_table.ensures.found in
-    let left = subst (λ (ts : List Table). IsAt c.in-Join.left c.in-Some.i one.0 ts) c.as_slice.ensures one.1 in
-    let right = subst (λ (ts : List Table). IsAt c.in-Join.right c.in-Some-find_table.j two.0 ts) c.as_slice-2.ensures two.1 in
-    let left_is = c.flat_at-left.ensures one.0 (ap (λ (ts : List Table). slice_get ts c.in-Some.i) c.as_slice-3.ensures ∙ left.get) in
-    let right_is = c.flat_at-right.ensures two.0 (ap (λ (ts : List Table). slice_get ts c.in-Some-find_table.j) c.as_slice-4.ensures ∙ right.get) in
+    let one = c.table_at-left.ensures in
+    let two = c.table_at-right.ensures in
+    let left = one.here in
+    let right = two.here in
+    let left_is = one.is in
+    let right_is = two.is in
     let lcol = c.left_place-lcol.result in
     let rcol = c.right_place-rcol.result in
-    let joins = subst (λ (f : Flat). Joins (join_in old.room f lcol (flat_of two.0) rcol) (Err c.in-Err.error) (at state old.vault s1) (at state c.join.new.vault s2)) left_is
-    (subst (λ (f : Flat). Joins (join_in old.room c.flat_at-left.result lcol f rcol) (Err c.in-Err.error) (at state old.vault s1) (at state c.join.new.vault s2)) right_is c.in-Err.ensures.joins) in
+    let joins = subst (λ (f : Flat). Joins (join_in old.room f lcol (flat_of two.table) rcol) (Err c.in-Err.error) (at state old.vault s1) (at state c.join.new.vault s2)) left_is
+    (subst (λ (f : Flat). Joins (join_in old.room c.table_at-left.result.1 lcol f rcol) (Err c.in-Err.error) (at state old.vault s1) (at state c.join.new.vault s2)) right_is c.in-Err.ensures.joins) in
     let made = joined lcol rcol old.room.pack old.room.rows in
-    let tells = subst (λ (f : Flat). TellsSlots (join_in old.room f lcol (flat_of two.0) rcol) made (Err c.in-Err.error) (at state old.vault s1) (at state c.join.new.vault s2)) left_is
-    (subst (λ (f : Flat). TellsSlots (join_in old.room c.flat_at-left.result lcol f rcol) made (Err c.in-Err.error) (at state old.vault s1) (at state c.join.new.vault s2)) right_is c.in-Err.ensures.told) in
-    join_stops state old s s1 c.in-Some.i c.in-Some-find_table.j one.0 two.0 c.in-Join.left c.in-Join.right c.in-Join.on c.in-Join.equals c.args.select.now c.requires.agrees left.get right.get left.named right.named c.in-Join.is c.requires.allowed c.room.ensures.rests
+    let tells = subst (λ (f : Flat). TellsSlots (join_in old.room f lcol (flat_of two.table) rcol) made (Err c.in-Err.error) (at state old.vault s1) (at state c.join.new.vault s2)) left_is
+    (subst (λ (f : Flat). TellsSlots (join_in old.room c.table_at-left.result.1 lcol f rcol) made (Err c.in-Err.error) (at state old.vault s1) (at state c.join.new.vault s2)) right_is c.in-Err.ensures.told) in
+    join_stops state old s s1 c.table_at-left.result.0 c.table_at-right.result.0 one.table two.table c.in-Join.left c.in-Join.right c.in-Join.on c.in-Join.equals c.args.select.now c.requires.agrees left.get right.get left.named right.named c.in-Join.is c.requires.allowed c.room.ensures.rests
     lcol rcol c.join.new.vault s2
     c.in-Err.error joins made tells g.E.Emit.grew g.E.Emit.cut g.E.Emit.faults c.args.seen.now c.args.out.now c.requires.fresh
 
@@ -176,24 +158,24 @@ select_from-requires-clause-may g c =
     let s = g.S.BlockStore.state c.args.store.now in
     let s1 = g.S.BlockStore.state c.room.new.self in
     let s2 = g.S.BlockStore.state c.join.new.store in
-    let one = c.in-Some.ensures.found in
-    let two = c.in-Some-find_table.ensures.found in
-    let left = subst (λ (ts : List Table). IsAt c.in-Join.left c.in-Some.i one.0 ts) c.as_slice.ensures one.1 in
-    let right = subst (λ (ts : List Table). IsAt c.in-Join.right c.in-Some-find_table.j two.0 ts) c.as_slice-2.ensures two.1 in
-    let left_is = c.flat_at-left.ensures one.0 (ap (λ (ts : List Table). slice_get ts c.in-Some.i) c.as_slice-3.ensures ∙ left.get) in
-    let right_is = c.flat_at-right.ensures two.0 (ap (λ (ts : List Table). slice_get ts c.in-Some-find_table.j) c.as_slice-4.ensures ∙ right.get) in
+    let one = c.table_at-left.ensures in
+    let two = c.table_at-right.ensures in
+    let left = one.here in
+    let right = two.here in
+    let left_is = one.is in
+    let right_is = two.is in
     let lcol = c.left_place-lcol.result in
     let rcol = c.right_place-rcol.result in
-    let joins = subst (λ (f : Flat). Joins (join_in old.room f lcol (flat_of two.0) rcol) (Ok c.in-Ok-join.joined) (at state old.vault s1) (at state c.join.new.vault s2)) left_is
-    (subst (λ (f : Flat). Joins (join_in old.room c.flat_at-left.result lcol f rcol) (Ok c.in-Ok-join.joined) (at state old.vault s1) (at state c.join.new.vault s2)) right_is c.in-Ok-join.ensures.joins) in
+    let joins = subst (λ (f : Flat). Joins (join_in old.room f lcol (flat_of two.table) rcol) (Ok c.in-Ok-join.joined) (at state old.vault s1) (at state c.join.new.vault s2)) left_is
+    (subst (λ (f : Flat). Joins (join_in old.room c.table_at-left.result.1 lcol f rcol) (Ok c.in-Ok-join.joined) (at state old.vault s1) (at state c.join.new.vault s2)) right_is c.in-Ok-join.ensures.joins) in
     let spare = at_ok c.room.result _ (sym c.is_err.ensures.value ∙ c.if-is_err.false) c.room.ensures.spare in
     let columns = c.as_slice-columns.ensures.value ∙ ap (λ (f : Flat). f.schema) left_is in
     let others = c.as_slice-others.ensures.value ∙ ap (λ (f : Flat). f.schema) right_is in
-    let is = start_query state old s s1 c.in-Some.i c.in-Some-find_table.j one.0 two.0 c.in-Join.left c.in-Join.right c.in-Join.on c.in-Join.equals c.args.select.now c.requires.agrees left.get right.get left.named right.named c.in-Join.is c.requires.allowed c.room.ensures.rests
+    let is = start_query state old s s1 c.table_at-left.result.0 c.table_at-right.result.0 one.table two.table c.in-Join.left c.in-Join.right c.in-Join.on c.in-Join.equals c.args.select.now c.requires.agrees left.get right.get left.named right.named c.in-Join.is c.requires.allowed c.room.ensures.rests
     lcol rcol c.join.new.vault s2
-    c.in-Ok-join.joined c.in-Ok.pred c.as_slice-5.result.now c.as_slice-columns.result.now c.as_slice-others.result.now joins.makes.value columns others c.in-Ok.ensures
-    (c.as_slice-5.ensures.value ∙ c.printed_places-cols.ensures) in
-    let may = join_selects state old s s1 c.in-Some.i c.in-Some-find_table.j one.0 two.0 c.in-Join.left c.in-Join.right c.in-Join.on c.in-Join.equals c.args.select.now c.requires.agrees left.get right.get left.named right.named c.in-Join.is c.requires.allowed c.room.ensures.rests
+    c.in-Ok-join.joined c.in-Ok.pred c.as_slice.result.now c.as_slice-columns.result.now c.as_slice-others.result.now joins.makes.value columns others c.in-Ok.ensures
+    (c.as_slice.ensures.value ∙ c.printed_places-cols.ensures) in
+    let may = join_selects state old s s1 c.table_at-left.result.0 c.table_at-right.result.0 one.table two.table c.in-Join.left c.in-Join.right c.in-Join.on c.in-Join.equals c.args.select.now c.requires.agrees left.get right.get left.named right.named c.in-Join.is c.requires.allowed c.room.ensures.rests
     lcol rcol c.join.new.vault s2
     c.join.new.room _ c.in-Ok-join.joined c.join_accesses.result c.join.ensures.room joins
     (c.join_accesses.ensures ∙ (λ k. blocks_for old.public.pack (left_is k).capacity + 3 * joined_blocks old.public.pack old.public.buffer (left_is k).capacity (right_is k).capacity + 2)) spare in
@@ -218,25 +200,25 @@ returns-in-Ok-select_from-clause-selects g c =
     let mid = at state v s2 in
     let end = at state c.select_from.new.vault (g.S.BlockStore.state c.select_from.new.store) in
     let now = c.select_from.new.seen in
-    let one = c.in-Some.ensures.found in
-    let two = c.in-Some-find_table.ensures.found in
-    let left = subst (λ (ts : List Table). IsAt c.in-Join.left c.in-Some.i one.0 ts) c.as_slice.ensures one.1 in
-    let right = subst (λ (ts : List Table). IsAt c.in-Join.right c.in-Some-find_table.j two.0 ts) c.as_slice-2.ensures two.1 in
-    let left_is = c.flat_at-left.ensures one.0 (ap (λ (ts : List Table). slice_get ts c.in-Some.i) c.as_slice-3.ensures ∙ left.get) in
-    let right_is = c.flat_at-right.ensures two.0 (ap (λ (ts : List Table). slice_get ts c.in-Some-find_table.j) c.as_slice-4.ensures ∙ right.get) in
+    let one = c.table_at-left.ensures in
+    let two = c.table_at-right.ensures in
+    let left = one.here in
+    let right = two.here in
+    let left_is = one.is in
+    let right_is = two.is in
     let columns = c.as_slice-columns.ensures.value ∙ ap (λ (f : Flat). f.schema) left_is in
     let others = c.as_slice-others.ensures.value ∙ ap (λ (f : Flat). f.schema) right_is in
     let lcol_is = c.left_place-lcol.ensures.value ∙ (λ k. left_place (length (columns k)) (columns k ++ others k) c.in-Join.on c.in-Join.equals) in
     let rcol_is = c.right_place-rcol.ensures.value ∙ (λ k. right_place (length (columns k)) (columns k ++ others k) c.in-Join.on c.in-Join.equals) in
-    let is = join_query state old s c.in-Some.i c.in-Some-find_table.j one.0 two.0 c.in-Join.left c.in-Join.right c.in-Join.on c.in-Join.equals c.args.select.now c.requires.agrees left.get right.get left.named right.named c.in-Join.is
-    c.flat_at-left.result c.flat_at-right.result left_is right_is c.left_place-lcol.result c.right_place-rcol.result lcol_is rcol_is s1 s2 c.room.ensures.rests v c.in-Ok-join.joined c.in-Ok-join.ensures.joins c.in-Ok-join.ensures.told
-    c.in-Ok.pred c.as_slice-5.result.now c.as_slice-columns.result.now c.as_slice-others.result.now c.as_slice-columns.ensures.value c.as_slice-others.ensures.value c.in-Ok.ensures
-    (c.as_slice-5.ensures.value ∙ c.printed_places-cols.ensures) in
+    let is = join_query state old s c.table_at-left.result.0 c.table_at-right.result.0 one.table two.table c.in-Join.left c.in-Join.right c.in-Join.on c.in-Join.equals c.args.select.now c.requires.agrees left.get right.get left.named right.named c.in-Join.is
+    c.table_at-left.result.1 c.table_at-right.result.1 left_is right_is c.left_place-lcol.result c.right_place-rcol.result lcol_is rcol_is s1 s2 c.room.ensures.rests v c.in-Ok-join.joined c.in-Ok-join.ensures.joins c.in-Ok-join.ensures.told
+    c.in-Ok.pred c.as_slice.result.now c.as_slice-columns.result.now c.as_slice-others.result.now c.as_slice-columns.ensures.value c.as_slice-others.ensures.value c.in-Ok.ensures
+    (c.as_slice.ensures.value ∙ c.printed_places-cols.ensures) in
     let selects = subst (λ (x : Selection). SelectsFrom g.E.Emit.grew g.E.Emit.cut g.E.Emit.faults x (Ok c.in-Ok-select_from.selected) now mid end c.args.out.now c.select_from.new.out) is c.in-Ok-select_from.ensures.selects in
     let last = at state c.discard.new.vault (g.S.BlockStore.state c.discard.new.store) in
     record {
-      ended = join_ends state old s c.in-Some.i c.in-Some-find_table.j one.0 two.0 c.in-Join.left c.in-Join.right c.in-Join.on c.in-Join.equals c.args.select.now c.requires.agrees left.get right.get left.named right.named c.in-Join.is
-          c.flat_at-left.result c.flat_at-right.result left_is right_is c.left_place-lcol.result c.right_place-rcol.result lcol_is rcol_is s1 s2 c.room.ensures.rests v c.in-Ok-join.joined c.in-Ok-join.ensures.joins c.in-Ok-join.ensures.told
+      ended = join_ends state old s c.table_at-left.result.0 c.table_at-right.result.0 one.table two.table c.in-Join.left c.in-Join.right c.in-Join.on c.in-Join.equals c.args.select.now c.requires.agrees left.get right.get left.named right.named c.in-Join.is
+          c.table_at-left.result.1 c.table_at-right.result.1 left_is right_is c.left_place-lcol.result c.right_place-rcol.result lcol_is rcol_is s1 s2 c.room.ensures.rests v c.in-Ok-join.joined c.in-Ok-join.ensures.joins c.in-Ok-join.ensures.told
           g.E.Emit.grew g.E.Emit.cut g.E.Emit.faults now c.args.out.now c.select_from.new.out end last c.in-Ok-select_from.selected c.discard.result selects c.discard.ensures.discards;
       halted = tt;
       sink = selects.sink;
@@ -256,26 +238,26 @@ returns-clause-selects g c =
     let mid = at state v s2 in
     let end = at state c.select_from.new.vault (g.S.BlockStore.state c.select_from.new.store) in
     let now = c.select_from.new.seen in
-    let one = c.in-Some.ensures.found in
-    let two = c.in-Some-find_table.ensures.found in
-    let left = subst (λ (ts : List Table). IsAt c.in-Join.left c.in-Some.i one.0 ts) c.as_slice.ensures one.1 in
-    let right = subst (λ (ts : List Table). IsAt c.in-Join.right c.in-Some-find_table.j two.0 ts) c.as_slice-2.ensures two.1 in
-    let left_is = c.flat_at-left.ensures one.0 (ap (λ (ts : List Table). slice_get ts c.in-Some.i) c.as_slice-3.ensures ∙ left.get) in
-    let right_is = c.flat_at-right.ensures two.0 (ap (λ (ts : List Table). slice_get ts c.in-Some-find_table.j) c.as_slice-4.ensures ∙ right.get) in
+    let one = c.table_at-left.ensures in
+    let two = c.table_at-right.ensures in
+    let left = one.here in
+    let right = two.here in
+    let left_is = one.is in
+    let right_is = two.is in
     let columns = c.as_slice-columns.ensures.value ∙ ap (λ (f : Flat). f.schema) left_is in
     let others = c.as_slice-others.ensures.value ∙ ap (λ (f : Flat). f.schema) right_is in
     let lcol_is = c.left_place-lcol.ensures.value ∙ (λ k. left_place (length (columns k)) (columns k ++ others k) c.in-Join.on c.in-Join.equals) in
     let rcol_is = c.right_place-rcol.ensures.value ∙ (λ k. right_place (length (columns k)) (columns k ++ others k) c.in-Join.on c.in-Join.equals) in
-    let is = join_query state old s c.in-Some.i c.in-Some-find_table.j one.0 two.0 c.in-Join.left c.in-Join.right c.in-Join.on c.in-Join.equals c.args.select.now c.requires.agrees left.get right.get left.named right.named c.in-Join.is
-    c.flat_at-left.result c.flat_at-right.result left_is right_is c.left_place-lcol.result c.right_place-rcol.result lcol_is rcol_is s1 s2 c.room.ensures.rests v c.in-Ok-join.joined c.in-Ok-join.ensures.joins c.in-Ok-join.ensures.told
-    c.in-Ok.pred c.as_slice-5.result.now c.as_slice-columns.result.now c.as_slice-others.result.now c.as_slice-columns.ensures.value c.as_slice-others.ensures.value c.in-Ok.ensures
-    (c.as_slice-5.ensures.value ∙ c.printed_places-cols.ensures) in
+    let is = join_query state old s c.table_at-left.result.0 c.table_at-right.result.0 one.table two.table c.in-Join.left c.in-Join.right c.in-Join.on c.in-Join.equals c.args.select.now c.requires.agrees left.get right.get left.named right.named c.in-Join.is
+    c.table_at-left.result.1 c.table_at-right.result.1 left_is right_is c.left_place-lcol.result c.right_place-rcol.result lcol_is rcol_is s1 s2 c.room.ensures.rests v c.in-Ok-join.joined c.in-Ok-join.ensures.joins c.in-Ok-join.ensures.told
+    c.in-Ok.pred c.as_slice.result.now c.as_slice-columns.result.now c.as_slice-others.result.now c.as_slice-columns.ensures.value c.as_slice-others.ensures.value c.in-Ok.ensures
+    (c.as_slice.ensures.value ∙ c.printed_places-cols.ensures) in
     let selects = subst (λ (x : Selection). SelectsFrom g.E.Emit.grew g.E.Emit.cut g.E.Emit.faults x (Err c.in-Err-select_from.error) now mid end c.args.out.now c.select_from.new.out) is c.in-Err-select_from.ensures.selects in
     let last = at state c.forget.new.self (g.S.BlockStore.state c.select_from.new.store) in
     record {
       ended = tt;
-      halted = join_halts state old s c.in-Some.i c.in-Some-find_table.j one.0 two.0 c.in-Join.left c.in-Join.right c.in-Join.on c.in-Join.equals c.args.select.now c.requires.agrees left.get right.get left.named right.named c.in-Join.is
-          c.flat_at-left.result c.flat_at-right.result left_is right_is c.left_place-lcol.result c.right_place-rcol.result lcol_is rcol_is s1 s2 c.room.ensures.rests v c.in-Ok-join.joined c.in-Ok-join.ensures.joins c.in-Ok-join.ensures.told
+      halted = join_halts state old s c.table_at-left.result.0 c.table_at-right.result.0 one.table two.table c.in-Join.left c.in-Join.right c.in-Join.on c.in-Join.equals c.args.select.now c.requires.agrees left.get right.get left.named right.named c.in-Join.is
+          c.table_at-left.result.1 c.table_at-right.result.1 left_is right_is c.left_place-lcol.result c.right_place-rcol.result lcol_is rcol_is s1 s2 c.room.ensures.rests v c.in-Ok-join.joined c.in-Ok-join.ensures.joins c.in-Ok-join.ensures.told
           g.E.Emit.grew g.E.Emit.cut g.E.Emit.faults now c.args.out.now c.select_from.new.out end last c.in-Err-select_from.error selects (c.forget.ensures.forgets (g.S.BlockStore.state c.select_from.new.store)) refl;
       sink = selects.sink;
     }

@@ -26,34 +26,25 @@ at_ok : {T E : Type 0} (r : Result T E) (P : Type 0) → is_err r ≡ false → 
 at_ok (Ok x) P ok h = h
 at_ok (Err e) P ok h = absurd (cc ok)
 
-pub unreachable-requires : goal.unreachable-requires
-unreachable-requires g c =
+pub table_at-flat-requires : goal.table_at-flat-requires
+table_at-flat-requires g c =
     let old = c.args.self.now in
     let hs = headings_of old.public.tables in
     let free = allowed (is_late (length (g.S.BlockStore.state c.args.store.now).asked)) old.public.pack old.public.buffer hs (RowsStmt c.args.select.now) c.requires.allowed in
-    let there = is_there (has_table c.args.table.now hs)
-    (sym (ap (λ (source : Source). list_any (λ (name : List ℕ). not (has_table name hs)) (source_tables source)) c.requires.source) ∙ free.tables) in
-    let none = absent c.args.table.now old.public.tables
-    (λ i t is. c.in_default.ensures.none i t (subst (λ (ts : List Table). IsAt c.args.table.now i t ts) (sym c.as_slice.ensures) is)) in
-    absurd (cc (there, none))
+    is_there (has_table c.args.table.now hs)
+    (sym (ap (λ (source : Source). list_any (λ (name : List ℕ). not (has_table name hs)) (source_tables source)) c.requires.source) ∙ free.tables)
 
-pub flat_at-flat-requires : goal.flat_at-flat-requires
-flat_at-flat-requires g c =
-    let found = c.in-Some.ensures.found in
-    let within = slice_get_within c.as_slice.result.now c.in-Some.i found.0 found.1.get in
-    omega (arith, within, ap length c.as_slice.ensures, ap length c.as_slice-2.ensures)
-
-pub returns-in_default-where_at-clause-selects : goal.returns-in_default-where_at-clause-selects
-returns-in_default-where_at-clause-selects g c =
+pub returns-in_default-clause-selects : goal.returns-in_default-clause-selects
+returns-in_default-clause-selects g c =
     let old = c.args.self.now in
     let state = g.R.Revisions.state in
     let s = g.S.BlockStore.state c.args.store.now in
-    let found = c.in-Some.ensures.found in
-    let here = subst (λ (ts : List Table). IsAt c.args.table.now c.in-Some.i found.0 ts) c.as_slice.ensures found.1 in
+    let found = c.table_at-flat.ensures in
+    let here = found.here in
     record {
       ended = tt;
       halted = halts_first g.E.Emit.grew g.E.Emit.cut old.public c.args.select.now c.args.seen.now (world_of state old s).vault s s c.args.out.now c.requires.agrees.ready (rests_refl s) c.requires.fresh
-          (counts_some state old s s c.in-Some.i found.0 c.args.table.now c.args.select.now c.requires.agrees here.get here.named c.requires.source);
+          (counts_some state old s s c.table_at-flat.result.0 found.table c.args.table.now c.args.select.now c.requires.agrees here.get here.named c.requires.source);
       sink = refl;
     }
 
@@ -63,12 +54,12 @@ returns-then-is_err-clause-selects g c =
     let state = g.R.Revisions.state in
     let s = g.S.BlockStore.state c.args.store.now in
     let s1 = g.S.BlockStore.state c.room.new.self in
-    let found = c.in-Some.ensures.found in
-    let here = subst (λ (ts : List Table). IsAt c.args.table.now c.in-Some.i found.0 ts) c.as_slice.ensures found.1 in
+    let found = c.table_at-flat.ensures in
+    let here = found.here in
     record {
       ended = tt;
       halted = halts_first g.E.Emit.grew g.E.Emit.cut old.public c.args.select.now c.args.seen.now (world_of state old s).vault s s1 c.args.out.now c.requires.agrees.ready c.room.ensures.rests c.requires.fresh
-          (counts_some state old s s1 c.in-Some.i found.0 c.args.table.now c.args.select.now c.requires.agrees here.get here.named c.requires.source);
+          (counts_some state old s s1 c.table_at-flat.result.0 found.table c.args.table.now c.args.select.now c.requires.agrees here.get here.named c.requires.source);
       sink = refl;
     }
 
@@ -78,14 +69,14 @@ select_from-requires-clause-may g c =
     let state = g.R.Revisions.state in
     let s = g.S.BlockStore.state c.args.store.now in
     let s1 = g.S.BlockStore.state c.room.new.self in
-    let found = c.in-Some.ensures.found in
-    let here = subst (λ (ts : List Table). IsAt c.args.table.now c.in-Some.i found.0 ts) c.as_slice.ensures found.1 in
-    let flat_is = c.flat_at-flat.ensures found.0 (ap (λ (ts : List Table). slice_get ts c.in-Some.i) c.as_slice-2.ensures ∙ here.get) in
-    let is = table_query state old s s1 c.in-Some.i found.0 c.args.table.now c.args.select.now c.requires.agrees here.get here.named c.requires.source
-    c.flat_at-flat.result c.in-Ok.pred c.as_slice-3.result.now c.as_slice-columns.result.now flat_is c.as_slice-columns.ensures.value c.in-Ok.ensures
-    (c.as_slice-3.ensures.value ∙ c.printed_places-cols.ensures) in
+    let found = c.table_at-flat.ensures in
+    let here = found.here in
+    let flat_is = found.is in
+    let is = table_query state old s s1 c.table_at-flat.result.0 found.table c.args.table.now c.args.select.now c.requires.agrees here.get here.named c.requires.source
+    c.table_at-flat.result.1 c.in-Ok.pred c.as_slice.result.now c.as_slice-columns.result.now flat_is c.as_slice-columns.ensures.value c.in-Ok.ensures
+    (c.as_slice.ensures.value ∙ c.printed_places-cols.ensures) in
     let spare = at_ok c.room.result _ (sym c.is_err.ensures.value ∙ c.if-is_err.false) c.room.ensures.spare in
-    let may = table_may state old s s1 c.in-Some.i found.0 c.args.table.now c.args.select.now c.requires.agrees here.get here.named c.requires.source c.requires.allowed c.room.ensures.rests
+    let may = table_may state old s s1 c.table_at-flat.result.0 found.table c.args.table.now c.args.select.now c.requires.agrees here.get here.named c.requires.source c.requires.allowed c.room.ensures.rests
     c.from-2.result (c.from-2.ensures ∙ c.div_ceil-blocks.ensures ∙ (λ j. div_ceil (flat_is j).capacity (c.from.ensures j))) spare in
     subst (λ (x : Selection). MaySelect x old.room (at state old.vault s1)) (sym is) may
 
@@ -98,13 +89,13 @@ returns-clause-selects g c =
     let v = c.select_from.new.vault in
     let u = g.S.BlockStore.state c.select_from.new.store in
     let now = c.select_from.new.seen in
-    let found = c.in-Some.ensures.found in
-    let here = subst (λ (ts : List Table). IsAt c.args.table.now c.in-Some.i found.0 ts) c.as_slice.ensures found.1 in
-    let flat_is = c.flat_at-flat.ensures found.0 (ap (λ (ts : List Table). slice_get ts c.in-Some.i) c.as_slice-2.ensures ∙ here.get) in
-    let is = table_query state old s s1 c.in-Some.i found.0 c.args.table.now c.args.select.now c.requires.agrees here.get here.named c.requires.source
-    c.flat_at-flat.result c.in-Ok.pred c.as_slice-3.result.now c.as_slice-columns.result.now flat_is c.as_slice-columns.ensures.value c.in-Ok.ensures
-    (c.as_slice-3.ensures.value ∙ c.printed_places-cols.ensures) in
+    let found = c.table_at-flat.ensures in
+    let here = found.here in
+    let flat_is = found.is in
+    let is = table_query state old s s1 c.table_at-flat.result.0 found.table c.args.table.now c.args.select.now c.requires.agrees here.get here.named c.requires.source
+    c.table_at-flat.result.1 c.in-Ok.pred c.as_slice.result.now c.as_slice-columns.result.now flat_is c.as_slice-columns.ensures.value c.in-Ok.ensures
+    (c.as_slice.ensures.value ∙ c.printed_places-cols.ensures) in
     let selects = subst (λ (x : Selection). SelectsFrom g.E.Emit.grew g.E.Emit.cut g.E.Emit.faults x c.select_from.result now (at state old.vault s1) (at state v u) c.args.out.now c.select_from.new.out)
     is c.select_from.ensures.selects in
-    table_selects state old s s1 c.in-Some.i found.0 c.args.table.now c.args.select.now c.requires.agrees here.get here.named c.requires.source v u c.room.ensures.rests
+    table_selects state old s s1 c.table_at-flat.result.0 found.table c.args.table.now c.args.select.now c.requires.agrees here.get here.named c.requires.source v u c.room.ensures.rests
     g.E.Emit.grew g.E.Emit.cut g.E.Emit.faults now c.args.out.now c.select_from.new.out c.select_from.result selects
