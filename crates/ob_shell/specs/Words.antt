@@ -322,6 +322,11 @@ pub record ReadToLimit (max : ℕ) (taken : List ℕ) (ended : Bool) (more : Lis
   pub all : AllServed more part
   pub limit : (is_over (pending_of [] (after_line taken)) ≡ true) ⊎ (length taken ≡ max)
 
+-- the last access was a read of this place
+pub record EndsAtRead (region place : ℕ) (asked : List Access) : Type 0 where
+  pub before : List Access
+  pub is : asked ≡ before ++ Read region place ∷ []
+
 -- of the words, the bytes taken, what was served, the store and the counts of faults
 abbrev pub Because : Ending → (Takes : Type 0) (max : ℕ) (taken : List ℕ) (ended : Bool)
     (more : List (List ℕ)) (answers : List Answer) (part : List ℕ) (old new : Outside) → Type 0
@@ -335,7 +340,7 @@ Because (Ran (Ok refused)) Takes max taken ended more answers part old new =
     × NoneRose old.faults new.faults
 Because (Ran (Err (Tampered region place))) Takes max taken ended more answers part old new =
     Takes × HasSecret taken × (¬ IsHonest old.store new.store)
-    × (new.faults.source ≡ old.faults.source)
+    × EndsAtRead region place new.store.asked × (new.faults.source ≡ old.faults.source)
 Because (Ran (Err SourceFault)) Takes max taken ended more answers part old new =
     Takes × ReadUntilFault taken ended more part × Rises old.faults.source new.faults.source
 Because (Ran (Err SinkFault)) Takes max taken ended more answers part old new =
