@@ -17,7 +17,6 @@ use Rattle.ob_shell.specs.declared.words.WordsErr.TheVariants as Words
 use Rattle.ob_shell.proofs.CompleteLemmas.{reported_line, reported_quiet}
 use Rattle.ob_shell.proofs.TopLemmas.{shown_unread}
 use Rattle.ob_store.specs.State.{StoreState}
-use Rattle.ob_vault.specs.State.{RevState}
 use Rattle.ob_shell.specs.Words.{Faults, SinksRose}
 
 -- of an empty line all was written

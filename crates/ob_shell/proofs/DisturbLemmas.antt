@@ -18,7 +18,6 @@ use Rattle.ob_shell.specs.Disturbed.{Begins}
 use Rattle.ob_shell.specs.Steps.{Does, Machine}
 use Rattle.ob_shell.proofs.CalmLemmas.{first_calm}
 use Rattle.ob_shell.proofs.FirstPartLemmas.{begins_length, begins_truly}
-use Rattle.ob_shell.proofs.ReplayLemmas.{no_lie}
 use Rattle.ob_sql.specs.Skeleton.{skeleton}
 use Rattle.ob_sql.specs.declared.stmt.Stmt.{Stmt}
 use Rattle.ob_store.specs.Calls.{IsBefore, IsSteady}

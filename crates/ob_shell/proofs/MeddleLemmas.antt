@@ -1,5 +1,5 @@
 -- What the changes of a store do to a run.
-use Rattle.std.proofs.Common.{◌≡◌, ◌≢◌, ◌≤◌, ◌<◌, ◌+◌, ◌++◌, ℕ, Bool, true, false, not, IsTrue, List, [], ◌∷◌, length, Option, None, Some, Ok, Err, refl, sym, ◌∙◌, ap, subst, arith}
+use Rattle.std.proofs.Common.{◌≡◌, ◌≢◌, ◌+◌, ℕ, Bool, true, false, not, IsTrue, List, [], ◌∷◌, length, Option, None, Some, Ok, Err, refl, sym, ◌∙◌, ap, subst, arith}
 use Rattle.std.specs.List.{list_all}
 use Rattle.std.specs.Prelude.{nat_lt, ⊤}
 use Rattle.std.proofs.lemmas.List.Folds.{list_all-map}
@@ -22,7 +22,7 @@ use Rattle.ob_shell.specs.Settings.{MeddleParses, ParsesChanges, settings_of}
 use Rattle.ob_shell.specs.Top.{EndsUntampered, Reported, TraceSink, sink_of}
 use Rattle.ob_shell.specs.Tracing.{Traced}
 use Rattle.ob_shell.specs.Usage.{is_traced, meddle_usage}
-use Rattle.ob_shell.specs.Words.{Answer, Faults, IsHonest, Outside, SinksRose, outside_of}
+use Rattle.ob_shell.specs.Words.{Answer, Faults, IsHonest, SinksRose, outside_of}
 use Rattle.ob_shell.specs.declared.top.Ending.{Ending}
 use Rattle.ob_shell.specs.declared.top.Ending.TheVariants.{Usage, BadKey, Ran}
 use Rattle.ob_shell.specs.declared.top.Report.{Report}

@@ -2,7 +2,6 @@
 use Rattle.std.proofs.Common.{◌≡◌, ◌+◌, ◌≤◌, ◌++◌, ℕ, Bool, true, false, IsTrue, Ok, Err, List, [], ◌∷◌, length, Option, Some, None, refl, sym, ◌∙◌, ap, subst, append-nil, arith}
 use Rattle.std.specs.Prelude.{is_some}
 use Rattle.clap.specs.Words.{Text}
-use Rattle.ob_base.specs.declared.access.Access.{Access}
 use Rattle.ob_base.specs.declared.config.Config.{Config}
 use Rattle.ob_base.specs.declared.config.Plan.{Plan}
 use Rattle.ob_base.specs.declared.config.Plan.TheVariants.{Small, Large, Continuous, Hash}
@@ -23,7 +22,6 @@ use Rattle.ob_script.specs.Script.{script}
 use Rattle.ob_script.specs.Trace.{Served as Entry, next, trace}
 use Rattle.ob_shell.specs.Endings.{status_of}
 use Rattle.ob_shell.specs.Failures.{failures, outcome_failures}
-use Rattle.ob_shell.specs.Headline.{Headline}
 use Rattle.ob_shell.specs.Reruns.{Alike, EndsWell, ShellRun, ShowAlike, plainly, seen_plainly, statements}
 use Rattle.ob_shell.specs.Settings.{settings_of}
 use Rattle.ob_shell.specs.Usage.{usage}
@@ -204,8 +202,7 @@ shows p m (a ∷ ps) (x ∷ xs) (b ∷ qs) (y ∷ ys) one two alike =
     let asked : m + length (script p (skeleton a) (plainly p m a)) ≡ m + length (script p x.skeleton x.seen) = λ i. m + length (script p (sym one.0 i) (sym here i)) in
     let sk : y.skeleton ≡ x.skeleton = two.0 ∙ sym alike.0 ∙ sym one.0 in
     let rest : AreUncut (next p x.skeleton x.seen) (m + length (script p x.skeleton x.seen)) qs ys =
-    subst (λ (e : Entry). AreUncut (next p e.skeleton e.seen) (m + length (script p e.skeleton e.seen)) qs ys) (λ i. record { skeleton = sk i; seen = same i }) two.3 in
-    (
+    subst (λ (e : Entry). AreUncut (next p e.skeleton e.seen) (m + length (script p e.skeleton e.seen)) qs ys) (λ i. record { skeleton = sk i; seen = same i }) two.3 in (
       alike.0,
       alike.2,
       (λ counted. sym same),

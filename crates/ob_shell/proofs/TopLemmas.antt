@@ -1,5 +1,5 @@
 -- The whole run, from its first line and its session.
-use Rattle.std.proofs.Common.{◌≡◌, ◌≢◌, ℕ, ◌-◌, ◌≤◌, ◌==◌, Bool, true, false, List, [], ◌∷◌, ◌++◌, length, take, Option, Some, None, IsTrue, Ok, Err, Result, refl, sym, ap, ◌∙◌, subst, inl, inr, arith, append-nil, length-append}
+use Rattle.std.proofs.Common.{◌≡◌, ◌≢◌, ℕ, ◌-◌, ◌≤◌, ◌==◌, Bool, true, false, List, [], ◌∷◌, ◌++◌, length, take, Option, Some, IsTrue, Ok, Err, Result, refl, sym, ap, ◌∙◌, subst, inl, inr, arith, append-nil, length-append}
 use Rattle.std.specs.List.{list_any}
 use Rattle.std.specs.Prelude.{IsOk, OnOk}
 use Rattle.std.specs.Io.KnownBytes.{Appends}
@@ -33,12 +33,12 @@ use Rattle.ob_shell.specs.Texts.{is_over, rest_of, texts_of, texts_in}
 use Rattle.ob_shell.specs.Feeding.{Fetch, Fed}
 use Rattle.ob_shell.specs.KeyLine.{has_lf, first_line, after_line, secret_of, KeyRead}
 use Rattle.ob_shell.specs.Steps.{Machine, machine_of, session_of}
-use Rattle.ob_shell.specs.Running.{SessionRan, EndsBy}
+use Rattle.ob_shell.specs.Running.{SessionRan, EndsBy, LastPart}
 use Rattle.ob_shell.specs.Endings.{last_line, SinkFailed, SinkStopped}
 use Rattle.ob_shell.specs.Settings.{limit_of, public_by}
 use Rattle.ob_shell.specs.Top.{EndsUntampered, IsFresh, TraceSink, RanSays, EndingSays, EndingWords, Carried, Shown, RanAfter, EndingCause, EndingFlag, StatusCause}
 use Rattle.ob_shell.specs.Tracing.{traced}
-use Rattle.ob_shell.specs.Words.{Answers, AreSeen, Faults, HasSecret, IsSealed, IsSealedAt, PassesRows, SinksRose, SpellFirst, Took, any_cut, printed, start}
+use Rattle.ob_shell.specs.Words.{Answers, AreSeen, EndsAtRead, Faults, HasSecret, IsSealed, IsSealedAt, SinksRose, SpellFirst, Took, any_cut, printed, start}
 use Rattle.ob_shell.specs.declared.feed.Halt.{Halt}
 use Rattle.ob_shell.specs.declared.key.FirstLine.TheVariants.{Secret, Last, Bad}
 use Rattle.ob_shell.specs.declared.top.Ending.{Ending}
@@ -93,6 +93,7 @@ unstarted tr settings secret s more ending fresh untraced untampered = record {
   spells = tt;
   reached = omega arith;
   begun = omega arith;
+  keyed = inr refl;
   each = refl;
   seen = [];
   last = [];
@@ -106,6 +107,7 @@ unstarted tr settings secret s more ending fresh untraced untampered = record {
   tampered = λ lie is unfit. absurd (cc (fresh.honest, is));
   sealed = λ tells. record { each = λ region place block lives last good passes. absurd (lives (fresh.empty region)) };
   untampered = λ honest. untampered;
+  at_read = λ region place is. absurd (subst (λ (e : Ending). EndsUntampered e) is untampered);
   most_open = omega arith;
   some_open = λ some. let none : IsTrue (list_any is_of_rows []) = subst (λ (xs : List Access). IsTrue (list_any is_of_rows xs)) fresh.unasked some in absurd (cc none);
   later = later_refl s;
@@ -279,6 +281,14 @@ meets (Err SinkFault) w lie calm is unfit = absurd (unfit (calm.calm lie is))
 meets (Err NoMemory) w lie calm is unfit = absurd (unfit (calm.calm lie is))
 meets (Err InputLimit) w lie calm is unfit = absurd (unfit (calm.calm lie is))
 
+-- a session that ends as tampered ends with the read of that place
+last_read : {R : Type 0} (state : R → RevState) (m1 m2 : Machine R) (more : List (List ℕ)) (part : List ℕ) (region place : ℕ) → LastPart state m1 m2 more part (Err (Tampered region place))
+    → EndsAtRead region place m2.store.asked
+last_read state m1 m2 [] part region place idle = absurd idle.untampered
+last_read state m1 m2 (text ∷ more) part region place (inl idle) = absurd idle.untampered
+last_read state m1 m2 (text ∷ more) part region place (inr (inl cut)) = record { before = cut.does.ran.cause.1.before; is = cut.does.ran.cause.1.asked }
+last_read state m1 m2 (text ∷ more) part region place (inr (inr done)) = absurd done.fault
+
 -- a session over an engine that was just started
 module _ {R : Type 0} {state : R → RevState} (config : Config) (key : List ℕ) (first last : Engine R) (high : ℕ) (result : Result Bool Stop) (s0 s1 : StoreState)
     (fresh : public_of first ≡ public_by config) (keyed : first.vault.keys ≡ keys_of key) (rows : rows_of first ≡ config.buffer) (blank : IsFresh s0) (steady : IsSteady s0)
@@ -335,6 +345,7 @@ module _ {R : Type 0} {state : R → RevState} (config : Config) (key : List ℕ
     spells = walk.spells;
     reached = walk.reached;
     begun = walk.begun;
+    keyed = inl refl;
     each = walk.each;
     seen = walk.seen;
     last = walk.last;
@@ -350,6 +361,8 @@ module _ {R : Type 0} {state : R → RevState} (config : Config) (key : List ℕ
     tampered = λ lie is unfit. meets result (world_of state last s1) lie met is (λ fits. unfit (subst (λ (k : KeySet). Fits k from_nothing lie) keys_are fits));
     sealed = all_sealed;
     untampered = λ honest. walk.untampered honest.tells [] nothing honest.no_lie;
+    at_read = λ region place is. let stopped : result ≡ Err (Tampered region place) = cc is in
+        last_read state ran.middle m2 ran.more ran.part region place (subst (λ (x : Result Bool Stop). LastPart state ran.middle m2 ran.more ran.part x) stopped ran.last);
     most_open = subst (λ (n : ℕ). high ≤ n) (last_rows state config ran.middle m2 ran.more ran.part result ran.last middle_sizes) most;
     some_open = subst (λ (n : ℕ). IsUsed s1.asked n) (sym opened) (session_opens state m0 ran.middle m2 ran.served ran.more ran.answers ran.part result blank.unasked ran.steps ran.last);
     later = later_trans _ _ _ (steps_later state m0 ran.middle ran.served ran.answers ran.steps) (last_later state ran.middle m2 ran.more ran.part result ran.last);

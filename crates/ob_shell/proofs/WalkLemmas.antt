@@ -1,5 +1,5 @@
 -- A walk over the texts that were answered, and the one begun.
-use Rattle.std.proofs.Common.{suc, ◌≡◌, ◌⊎◌, inl, inr, ◌+◌, ◌-◌, ◌≤◌, ◌<◌, ℕ, IsTrue, Bool, Ok, Err, Result, List, [], ◌∷◌, ◌++◌, length, take, Option, Some, None, refl, sym, ◌∙◌, ap, subst, append-nil, append_assoc, arith, ◌||◌, true, false, length-append}
+use Rattle.std.proofs.Common.{suc, ◌≡◌, inl, inr, ◌+◌, ◌-◌, ◌≤◌, ◌<◌, ℕ, IsTrue, Bool, Ok, Err, Result, List, [], ◌∷◌, ◌++◌, length, take, Option, Some, None, refl, sym, ◌∙◌, ap, subst, append-nil, append_assoc, arith, ◌||◌, true, false, length-append}
 use Rattle.std.specs.Prelude.{◌↔◌}
 use Rattle.std.proofs.lemmas.List.{append_cancel_left, take-append-le}
 use Rattle.ob_base.specs.Events.{Event}
@@ -21,7 +21,6 @@ use Rattle.ob_exec.specs.declared.outcome.Outcome.{Outcome}
 use Rattle.ob_exec.specs.declared.outcome.Outcome.TheVariants.{Created, Inserted, Changed, Deleted, Dropped, Rows, Refused}
 use Rattle.ob_exec.proofs.EmitLemmas.{unfit_none}
 use Rattle.ob_mean.specs.Replay.{Broken, IsCutOff, Session, Spelt, after, all_served, seen_now, seen_or_cut}
-use Rattle.ob_mean.specs.Settle.{settle}
 use Rattle.ob_mean.specs.Verdict.{Tables}
 use Rattle.ob_print.specs.Rows.{events_text}
 use Rattle.ob_script.specs.Script.{script, whole_script}
@@ -30,13 +29,13 @@ use Rattle.ob_shell.specs.Disturbed.{Begins, MeantUntil}
 use Rattle.ob_shell.specs.Endings.{IsSinkFault}
 use Rattle.ob_shell.specs.Closing.{closing_line}
 use Rattle.ob_shell.specs.Running.{LastPart}
-use Rattle.ob_shell.specs.Steps.{CutStep, Does, Finished, IsUndone, IsUntampered, Machine, Misspelt, Served, Step, Steps, session_of}
+use Rattle.ob_shell.specs.Steps.{CutStep, Does, IsUntampered, Machine, Misspelt, Served, Steps, session_of}
 use Rattle.ob_shell.specs.Top.{EndsUntampered}
 use Rattle.ob_shell.specs.Words.{Answer, Answers, AnswersIn, AreSeen, BeginsAnswer, Says, SpellFirst, WantsMemory, any_cut, is_cut, refused_at}
 use Rattle.ob_shell.specs.declared.top.Ending.{Ending}
 use Rattle.ob_shell.specs.declared.top.Ending.TheVariants.{Ran}
 use Rattle.ob_shell.proofs.DisturbLemmas.{before_less, begins_more, crosses, few_or_more, take_begins}
-use Rattle.ob_shell.proofs.ReplayLemmas.{fault_is, cut_early, cut_within, no_lie, outcome_cases, stands_after}
+use Rattle.ob_shell.proofs.ReplayLemmas.{fault_is, cut_early, cut_within, outcome_cases, stands_after}
 use Rattle.ob_sql.specs.Skeleton.{skeleton}
 use Rattle.ob_sql.specs.declared.stmt.Stmt.{Stmt}
 use Rattle.ob_store.specs.Calls.{IsBefore, IsSteady}
@@ -433,9 +432,9 @@ module _ {R : Type 0} (state : R → RevState) where
               begins = subst (λ (l : List Access). Begins l (m0.store.asked ++ (part ++ tail))) (sym first)
                   (subst (λ (l : List Access). Begins (take n m1.store.asked) l) (sym split) (begins_more (take n m1.store.asked) (m0.store.asked ++ part) tail cross.begins));
               quiet = λ le. absurd (
-                let most = ap length split in
-                let long = length-append (m0.store.asked ++ part) tail in
-                let within = cross.within (omega (arith, le, most, long)) in omega (arith, within, more));
+                  let most = ap length split in
+                  let long = length-append (m0.store.asked ++ part) tail in
+                  let within = cross.within (omega (arith, le, most, long)) in omega (arith, within, more));
             }
       ]
 

@@ -1,5 +1,5 @@
 -- The headline: one whole run, by what lies outside of it before and after.
-use Rattle.std.specs.Prelude.{ℕ, ◌≡◌, ◌+◌, ◌≤◌, ⊤, Bool, true, false, List, [], ◌∷◌, ◌++◌, length, IsTrue, Option, Some, Err}
+use Rattle.std.specs.Prelude.{ℕ, ◌≡◌, ◌+◌, ◌≤◌, ◌⊎◌, Bool, true, false, List, [], ◌∷◌, ◌++◌, length, IsTrue, Option, Some, Err}
 use Rattle.std.specs.List.{list_any}
 use Rattle.std.specs.Io.KnownBytes.{Consumes, IsAtEnd}
 use Rattle.ob_base.specs.Counts.{Rises}
@@ -17,11 +17,12 @@ use Rattle.ob_shell.specs.KeyLine.{after_line}
 use Rattle.ob_shell.specs.Settings.{limit_of}
 use Rattle.ob_shell.specs.Texts.{texts_in}
 use Rattle.ob_shell.specs.Tracing.{traced}
-use Rattle.ob_shell.specs.Words.{Answer, Answers, AreSeen, Because, IsCompleted, IsHonest, IsSealed, IsUndeceived, KeepsLimits, Outside, SinksRose, SpellFirst, Took, any_cut, keys_in, printed, public_with, rows_in, start}
+use Rattle.ob_shell.specs.Words.{Answer, Answers, AreSeen, Because, HasSecret, IsCompleted, IsHonest, IsSealed, IsUndeceived, KeepsLimits, Outside, SinksRose, SpellFirst, Took, any_cut, keys_in, printed, public_with, rows_in, start}
 use Rattle.ob_shell.specs.declared.top.Ending.{Ending}
 use Rattle.ob_shell.specs.declared.top.Ending.TheVariants.{Ran}
 use Rattle.ob_shell.specs.declared.top.Report.{Report}
 use Rattle.ob_store.specs.Calls.{IsBefore}
+use Rattle.ob_store.specs.Runs.{Later}
 use Rattle.ob_store.specs.State.{Lie}
 use Rattle.ob_vault.specs.State.{from_nothing}
 use Rattle.ob_vault.specs.Tied.{Fits}
@@ -43,8 +44,8 @@ pub record Headline (Takes : Type 0) (settings : Option Config) (tracing : Bool)
   pub spells : SpellFirst (served ++ more) spelt
   pub reached : length served ≤ length spelt
   pub begun : length spelt ≤ length served + 1
-  -- THE OUTPUT. So each was answered, so much was printed of the one begun, and then the last line. A sink took all of it,
-  -- or failed; all answers it took whole, and what was printed of the one begun, too, unless the run ended there.
+  pub keyed : HasSecret taken ⊎ (spelt ≡ [])
+  -- THE OUTPUT: the answers, what was printed of the one begun, and the last line. A sink's fault ends the run.
   pub answers : List Answer
   pub each : length answers ≡ length served
   pub part : List ℕ
@@ -72,7 +73,8 @@ pub record Headline (Takes : Type 0) (settings : Option Config) (tracing : Bool)
   pub tampered : (lie : Lie) → new.store.lie ≡ Some lie → ¬ Fits (keys_in taken) from_nothing lie
       → (ending ≡ Ran (Err (Tampered lie.region lie.place)))
       × (new.store.asked ≡ lie.before ++ Read lie.region lie.place ∷ [])
-  -- BEFORE OTHERS CHANGE THE STORE, where it says behind how many accesses they do, all is as it is meant.
+  -- BEFORE OTHERS CHANGE THE STORE, where it says behind how many accesses they do, all is as it is meant; and that stays.
+  pub later : Later old.store new.store
   pub always : IsTrue old.store.tells → (n : ℕ) → IsBefore old.store.disturbed n
       → Until settings n spelt answers (seen ++ last) new.store.asked
   -- SEALING. Of a store that tells what it holds no block of a live region lies in clear.

@@ -1,5 +1,5 @@
 -- What a whole run promises, by its words and the bytes that its source gave.
-use Rattle.std.specs.Prelude.{ℕ, ◌≡◌, ◌+◌, ◌<◌, ◌≤◌, ◌⊎◌, Bool, true, false, List, [], ◌∷◌, ◌++◌, length, IsTrue, Option, Some, None, Result, Ok, Err}
+use Rattle.std.specs.Prelude.{ℕ, ◌≡◌, ◌+◌, ◌≤◌, ◌⊎◌, Bool, true, false, List, [], ◌∷◌, ◌++◌, length, IsTrue, Option, Some, None, IsSome, Result, Ok, Err}
 use Rattle.std.specs.List.{list_any}
 use Rattle.std.specs.Option.{option_map_or}
 use Rattle.std.specs.Io.KnownBytes.{Consumes, IsAtEnd}
@@ -29,7 +29,7 @@ use Rattle.ob_shell.specs.Settings.{limit_of}
 use Rattle.ob_shell.specs.Steps.{IsUntampered}
 use Rattle.ob_shell.specs.Texts.{texts_in}
 use Rattle.ob_shell.specs.Tracing.{traced}
-use Rattle.ob_shell.specs.Words.{Answer, Answers, AreSeen, Faults, HasSecret, IsCompleted, IsHonest, IsSealed, IsUndeceived, KeepsLimits, NoneRose, ReadToLimit, ReadUntilFault, ReadWhole, SinksRose, SpellFirst, Took, any_cut, printed, public_with, rows_in, start}
+use Rattle.ob_shell.specs.Words.{Answer, Answers, AreSeen, EndsAtRead, Faults, HasSecret, IsCompleted, IsHonest, IsSealed, IsUndeceived, KeepsLimits, NoneRose, ReadToLimit, ReadUntilFault, ReadWhole, SinksRose, SpellFirst, Took, any_cut, printed, public_with, rows_in, start}
 use Rattle.ob_shell.specs.declared.top.Ending.{Ending}
 use Rattle.ob_shell.specs.declared.top.Ending.TheVariants.{Usage, BadKey, Ran}
 use Rattle.ob_shell.specs.declared.top.Report.{Report}
@@ -67,6 +67,7 @@ pub record Carried (tr : TraceSink) (settings : Option Config) (secret : Option 
   pub spells : SpellFirst (served ++ more) spelt
   pub reached : length served ≤ length spelt
   pub begun : length spelt ≤ length served + 1
+  pub keyed : IsSome secret ⊎ (spelt ≡ [])
   pub each : length answers ≡ length served
   pub seen : List Served
   pub last : List Served
@@ -84,6 +85,8 @@ pub record Carried (tr : TraceSink) (settings : Option Config) (secret : Option 
   pub sealed : IsTrue store0.tells
       → IsSealed (keys_with secret) (public_with settings).pack store1
   pub untampered : IsHonest store0 store1 → EndsUntampered ending
+  pub at_read : (region place : ℕ) → ending ≡ Ran (Err (Tampered region place))
+      → EndsAtRead region place store1.asked
   pub most_open : high ≤ rows_in settings
   pub some_open : IsTrue (list_any is_of_rows store1.asked) → 1 ≤ high
   pub later : Later store0 store1

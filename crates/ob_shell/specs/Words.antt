@@ -1,8 +1,7 @@
 -- The words of the headline: the world outside a run, texts and statements, what is seen of each, what the model answers,
 -- and why a run ends.
-use Rattle.std.specs.Prelude.{ℕ, ◌≡◌, ◌≢◌, ◌≤◌, ◌<◌, ◌+◌, ◌⊎◌, ◌↔◌, ◌||◌, ⊤, Bool, true, false, List, [], ◌∷◌, ◌++◌, length, take, IsTrue, IsSome, Option, Some, None, Result, Ok, Err}
+use Rattle.std.specs.Prelude.{ℕ, ◌≡◌, ◌≢◌, ◌≤◌, ◌<◌, ◌+◌, ◌⊎◌, ◌↔◌, ◌||◌, ⊤, Bool, true, false, List, [], ◌∷◌, ◌++◌, length, IsTrue, IsSome, Option, Some, None, Result, Ok, Err}
 use Rattle.std.specs.Option.{option_map_or}
-use Rattle.std.specs.List.{All}
 use Rattle.std.specs.Io.KnownBytes.{Appends}
 use Rattle.ob_base.specs.Accesses.{nth_write}
 use Rattle.ob_base.specs.Counts.{Rises}
@@ -15,10 +14,9 @@ use Rattle.ob_base.specs.declared.config.Config.{Config}
 use Rattle.ob_base.specs.declared.config.Public.{Public}
 use Rattle.ob_base.specs.declared.refusal.Refusal.{Refusal}
 use Rattle.ob_base.specs.declared.refusal.Refusal.TheVariants.{Syntax, StoreFault}
-use Rattle.ob_base.specs.declared.refusal.Stop.{Stop}
 use Rattle.ob_base.specs.declared.refusal.Stop.TheVariants.{Tampered, SourceFault, SinkFault, NoMemory, InputLimit}
 use Rattle.ob_base.specs.declared.seen.End.{End}
-use Rattle.ob_base.specs.declared.seen.End.TheVariants.{Static, Whole, AfterCount, Cut}
+use Rattle.ob_base.specs.declared.seen.End.TheVariants.{Cut}
 use Rattle.ob_base.specs.declared.seen.Seen.{Seen}
 use Rattle.ob_exec.specs.Memory.{AtMake, AtEmission}
 use Rattle.ob_exec.specs.Running.{Emits, refusal_now}
@@ -28,7 +26,7 @@ use Rattle.ob_exec.specs.declared.outcome.Outcome.TheVariants.{Refused}
 use Rattle.ob_mean.specs.Lawful.{Lawful}
 use Rattle.ob_mean.specs.Prints.{Prints, Unfinished, labels_of}
 use Rattle.ob_mean.specs.Refusals.{early_refusal}
-use Rattle.ob_mean.specs.Replay.{Session, Spelt, Broken, IsCutOff, after, all_served, cut_at, first_session, head_of, rest_of, seen_now, seen_or_cut}
+use Rattle.ob_mean.specs.Replay.{Session, Spelt, Broken, IsCutOff, after, cut_at, first_session, head_of, rest_of, seen_now, seen_or_cut}
 use Rattle.ob_mean.specs.Verdict.{is_late, verdict}
 use Rattle.ob_mean.specs.declared.answer.Answer.{Answer as Meaning}
 use Rattle.ob_parse.specs.Refusal.{RefusedAt}
@@ -43,7 +41,7 @@ use Rattle.ob_shell.specs.Closing.{closing_line, is_refused}
 use Rattle.ob_shell.specs.Endings.{is_tampered}
 use Rattle.ob_shell.specs.KeyLine.{LineTaken, after_line, first_line, has_lf, line_max, secret_of}
 use Rattle.ob_shell.specs.Settings.{public_by}
-use Rattle.ob_shell.specs.Texts.{is_over, rest_of as pending_of, texts_in}
+use Rattle.ob_shell.specs.Texts.{is_over, rest_of as pending_of}
 use Rattle.ob_shell.specs.declared.top.Ending.{Ending}
 use Rattle.ob_shell.specs.declared.top.Ending.TheVariants.{Usage, BadKey, Ran}
 use Rattle.ob_sql.specs.Skeleton.{skeleton}
@@ -322,6 +320,11 @@ pub record ReadToLimit (max : ℕ) (taken : List ℕ) (ended : Bool) (more : Lis
   pub all : AllServed more part
   pub limit : (is_over (pending_of [] (after_line taken)) ≡ true) ⊎ (length taken ≡ max)
 
+-- the last access was a read of this place
+pub record EndsAtRead (region place : ℕ) (asked : List Access) : Type 0 where
+  pub before : List Access
+  pub is : asked ≡ before ++ Read region place ∷ []
+
 -- of the words, the bytes taken, what was served, the store and the counts of faults
 abbrev pub Because : Ending → (Takes : Type 0) (max : ℕ) (taken : List ℕ) (ended : Bool)
     (more : List (List ℕ)) (answers : List Answer) (part : List ℕ) (old new : Outside) → Type 0
@@ -335,7 +338,7 @@ Because (Ran (Ok refused)) Takes max taken ended more answers part old new =
     × NoneRose old.faults new.faults
 Because (Ran (Err (Tampered region place))) Takes max taken ended more answers part old new =
     Takes × HasSecret taken × (¬ IsHonest old.store new.store)
-    × (new.faults.source ≡ old.faults.source)
+    × EndsAtRead region place new.store.asked × (new.faults.source ≡ old.faults.source)
 Because (Ran (Err SourceFault)) Takes max taken ended more answers part old new =
     Takes × ReadUntilFault taken ended more part × Rises old.faults.source new.faults.source
 Because (Ran (Err SinkFault)) Takes max taken ended more answers part old new =

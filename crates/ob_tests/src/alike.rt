@@ -49,8 +49,6 @@ pub fn sessions_ask_the_same<I: Source, O: Sink, T: Sink, S: BlockStore>(
 {
     reruns_ask_the_same();
     let first = shell_top(alloc, words, input, out, trace, store);
-    let second = shell_top(
-        alloc, words, input_too, out_too, trace_too, store_too,
-    );
+    let second = shell_top(alloc, words, input_too, out_too, trace_too, store_too);
     (first, second)
 }

@@ -19,7 +19,7 @@ returns-in-Err-clause-headline g c =
 
 pub returns-in-Ok-clause-headline : goal.returns-in-Ok-clause-headline
 returns-in-Ok-clause-headline g c =
-    headlined _ _ _ _ _ _ c.requires.fresh 
+    headlined _ _ _ _ _ _ c.requires.fresh
     (reported_taken (c.in-Ok.words.config, c.in-Ok.ensures.ok) c.in-Ok.ensures.ok.settings (rw c.in-Ok.ensures.trace at c.serve_over.ensures.reported))
     (rw c.in-Ok.ensures.trace at c.serve_over.ensures.traced)
 
