@@ -1,0 +1,7 @@
+pub mod Paths
+pub mod Rows
+pub mod States
+pub mod Access
+pub mod Scripts
+pub mod Runs
+pub mod Slotwise
