@@ -1,5 +1,5 @@
 -- What an emitter takes.
-use Rattle.std.specs.Prelude.{◌≡◌, ◌⊎◌, ℕ, ◌+◌, List, ◌++◌, map, length, Result, Ok, Err}
+use Rattle.std.specs.Prelude.{◌≡◌, ℕ, ◌+◌, List, ◌++◌, map, length, Result, Ok, Err}
 use Rattle.ob_base.specs.declared.emit.EmitErr.{EmitErr}
 use Rattle.ob_base.specs.declared.emit.EmitErr.TheVariants.{Failed, NoMemory}
 use Rattle.ob_base.specs.declared.shown.Shown.{Shown}
@@ -31,8 +31,14 @@ pub record IsEmitted {E Source : Type 0} (grew : E → E → List Event → Type
   pub leads : Leads grew grew old new (head ++ row_events rows)
   pub told : (source : Source) → rows ≡ shown source
 
--- the output ends within these events, or is all of them, which are the first of those of each source
-pub record IsHalted {E Source : Type 0} (grew cut : E → E → List Event → Type 0) (all : Source → List Event) (old new : E) : Type 0 where
+-- some rows were emitted behind these events, and they are the first of those of each source
+pub record IsBegun {E Source : Type 0} (grew : E → E → List Event → Type 0) (head : List Event) (shown : Source → List (List Shown)) (old new : E) : Type 0 where
+  pub rows : List (List Shown)
+  pub leads : Leads grew grew old new (head ++ row_events rows)
+  pub told : (source : Source) → (rest : List (List Shown)) × (rows ++ rest ≡ shown source)
+
+-- the output ends within these events, or with them, as `to` says, and they are the first of those of each source
+pub record IsHalted {E Source : Type 0} (grew to : E → E → List Event → Type 0) (all : Source → List Event) (old new : E) : Type 0 where
   pub events : List Event
-  pub ends : Leads grew grew old new events ⊎ Leads grew cut old new events
+  pub ends : Leads grew to old new events
   pub told : (source : Source) → (rest : List Event) × (events ++ rest ≡ all source)

@@ -1,9 +1,6 @@
 -- A table's rows behind its header.
 use Rattle.std.proofs.Common.{◌≡◌, ◌⊎◌, inl, inr, ℕ, List, [], ◌++◌, Result, Ok, Err, refl, ◌∙◌, ap, subst}
-use Rattle.std.proofs.lemmas.List.{append-nil}
-use Rattle.ob_base.specs.declared.shown.Shown.{Shown}
-use Rattle.ob_base.specs.Events.{Event, row_events, Leads, IsHalted}
-use Rattle.ob_base.proofs.EventLemmas.{emitted_head, halted_join}
+use Rattle.ob_base.specs.Events.{Event, row_events, Leads}
 use Rattle.ob_script.specs.Parts.{count_part}
 use Rattle.ob_vault.specs.State.{World}
 use Rattle.ob_vault.specs.Tied.{Ready}
@@ -16,24 +13,7 @@ use Rattle.ob_flat.specs.Flats.{IsWritten}
 use Rattle.ob_flat.specs.Passes.{PassCause, SinkCause, is_of_access}
 use Rattle.ob_flat.specs.Words.{blocks_of}
 use Rattle.ob_emit.specs.Emitting.{Emits, table_shown}
-use Rattle.ob_emit.proofs.Halting.{cut_none, emitted_under}
-
--- the output of rows that were emitted in full may also have been cut
-pub halted_whole : {E A : Type 0} {grew cut : E → E → List Event → Type 0} {all : A → List Event} {a b : E} → IsHalted grew grew all a b → IsHalted grew cut all a b
-halted_whole {E} {A} {grew} {cut} {all} {a} {b} is = record { events = is.events; ends = inl (whole is.ends); told = is.told }
-  where
-    whole : {P : Type 0} → P ⊎ P → P
-    whole (inl x) = x
-    whole (inr x) = x
-
-joined : {E A : Type 0} {grew to : E → E → List Event → Type 0} {a b c : E} (head : List Event) (shown : A → List (List Shown)) → Leads grew grew a b head
-    → IsHalted grew to (λ s. row_events (shown s)) b c → IsHalted grew to (λ s. head ++ row_events (shown s)) a c
-joined {E} {A} {grew} {to} head shown leads rest =
-    halted_join grew to head (λ (s : ℕ). []) (λ s. row_events (shown s)) (λ s. head ++ row_events (shown s)) 0 0 _ _ _
-    (emitted_head grew head _ _ leads) rest
-    (λ s.
-    let events = row_events (shown s) in
-    (0, s, [], ap (λ (l : List Event). l ++ (events ++ [])) (append-nil head) ∙ ap (λ (l : List Event). head ++ l) (append-nil events)))
+use Rattle.ob_emit.proofs.Halting.{cut_none, emitted_under, ends_given, ends_under}
 
 module _ {E : Type 0} {grew cut : E → E → List Event → Type 0} {faults : E → ℕ} {pack : ℕ} {flat : Flat} {cols : List ℕ} (head : List Event) {a b : E} where
   module _ {old new : World} {c : E} (leads : Leads grew grew a b head) (same : faults b ≡ faults a) where
@@ -47,7 +27,6 @@ module _ {E : Type 0} {grew cut : E → E → List Event → Type 0} {faults : E
       most = is.most;
       emitted = emitted_under grew head (λ s. table_shown cols s.slots) _ _ _ _ _ leads is.emitted refl;
       halted = tt;
-      failed = λ wrong. absurd (cc wrong);
       cause = is.cause ∙ same;
       told = λ slots is nolie. tt;
     }
@@ -58,8 +37,7 @@ module _ {E : Type 0} {grew cut : E → E → List Event → Type 0} {faults : E
       source = is.source;
       most = tt;
       emitted = tt;
-      halted = joined head (λ s. table_shown cols s.slots) leads is.halted;
-      failed = λ failed. joined head (λ s. table_shown cols s.slots) leads (is.failed (cc failed));
+      halted = ends_under grew cut e head (λ s. table_shown cols s.slots) a b c leads is.halted;
       cause = subst (λ (n : ℕ). SinkCause {T = ℕ} (Err e) n (faults c)) same is.cause;
       told = is.told;
     }
@@ -74,8 +52,7 @@ module _ {E : Type 0} {grew cut : E → E → List Event → Type 0} {faults : E
     source = written;
     most = tt;
     emitted = tt;
-    halted = record { events = head; ends = inr leads; told = λ s. (row_events (table_shown cols s.slots), refl) };
-    failed = λ failed. elim either [ inl sink ↦ absurd (cc (failed, sink)) | inr memory ↦ absurd (cc (failed, memory)) ];
+    halted = ends_given e either (record { events = head; ends = leads; told = λ s. (row_events (table_shown cols s.slots), refl) });
     cause = cause;
     told = λ slots is nolie. inr either;
   }

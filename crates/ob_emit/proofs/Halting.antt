@@ -6,7 +6,8 @@ use Rattle.ob_base.specs.Accesses.{read_at}
 use Rattle.ob_base.specs.declared.emit.EmitErr.TheVariants as EmitErrs
 use Rattle.ob_base.specs.declared.shown.Shown.{Shown}
 use Rattle.ob_base.specs.Counts.{Rises}
-use Rattle.ob_base.specs.Events.{Event, row_events, Leads, IsEmitted}
+use Rattle.ob_base.specs.Events.{Event, row_events, Leads, IsEmitted, IsBegun, IsHalted}
+use Rattle.ob_base.proofs.EventLemmas.{begun_join, begun_under, halted_join, halted_under, events_more}
 use Rattle.ob_vault.specs.State.{World}
 use Rattle.ob_vault.specs.Tied.{Ready}
 use Rattle.ob_vault.specs.Calls.{Went}
@@ -20,7 +21,7 @@ use Rattle.ob_flat.proofs.WordLemmas.{tampered_in}
 use Rattle.ob_flat.proofs.Runs.{pass_malformed}
 use Rattle.ob_emit.specs.declared.slots.Halt.{Halt}
 use Rattle.ob_emit.specs.declared.slots.Halt.TheVariants as Halts
-use Rattle.ob_emit.specs.Emitting.{HaltCause, halt_error}
+use Rattle.ob_emit.specs.Emitting.{HaltsAs, EndsAs, HaltCause, halt_error}
 
 -- a block was read, and then it halted
 pub pass_halted : (some : ℕ → Type 0) (a b : World) (q p : ℕ) (halt : Halt) → Went (read_at q p) some a b → PassCut (halt_error halt q p) (read_at q p) some a b
@@ -68,8 +69,45 @@ emitted_under grew head shown k n a b c first second same = record {
   told = second.told;
 }
 
--- the store did not fail
-pub halt_not_failed : (halt : Halt) (q p : ℕ) → halt_error halt q p ≡ Failed → ⊥
-halt_not_failed Halts.Malformed q p is = absurd (cc is)
-halt_not_failed (Halts.Emit EmitErrs.Failed) q p is = absurd (cc is)
-halt_not_failed (Halts.Emit EmitErrs.NoMemory) q p is = absurd (cc is)
+module _ {E : Type 0} (grew cut : E → E → List Event → Type 0) where
+  -- rows were emitted, and then those behind them halted
+  pub halts_join : {A B C : Type 0} (halt : Halt) (sa : A → List (List Shown)) (sb : B → List (List Shown)) (all : C → List (List Shown)) (from mid : ℕ) (a b c : E)
+      → IsEmitted grew [] sa from mid a b → HaltsAs grew cut halt sb b c
+      → ((x : C) → (y : A) × (z : B) × (behind : List (List Shown)) × ((sa y ++ sb z) ++ behind ≡ all x)) → HaltsAs grew cut halt all a c
+  halts_join Halts.Malformed sa sb all from mid a b c first second parts = begun_join grew [] sa sb all from mid a b c first second parts
+  halts_join (Halts.Emit e) sa sb all from mid a b c first second parts =
+      halted_join grew cut [] sa (λ s. row_events (sb s)) (λ s. row_events (all s)) from mid a b c first second
+      (λ x. let t = parts x in (t.0, t.1, row_events t.2, events_more (sa t.0) (sb t.1) t.2 (all x) t.3))
+
+  pub ends_as : {A : Type 0} (halt : Halt) (q p : ℕ) (shown : A → List (List Shown)) (a b : E) → HaltsAs grew cut halt shown a b → EndsAs grew cut (halt_error halt q p) [] shown a b
+  ends_as Halts.Malformed q p shown a b is = is
+  ends_as (Halts.Emit EmitErrs.Failed) q p shown a b is = is
+  ends_as (Halts.Emit EmitErrs.NoMemory) q p shown a b is = is
+
+  pub ends_join : {A B C : Type 0} (halt : Halt) (q p : ℕ) (sa : A → List (List Shown)) (sb : B → List (List Shown)) (all : C → List (List Shown)) (from mid : ℕ) (a b c : E)
+      → IsEmitted grew [] sa from mid a b → HaltsAs grew cut halt sb b c
+      → ((x : C) → (y : A) × (z : B) × (behind : List (List Shown)) × ((sa y ++ sb z) ++ behind ≡ all x)) → EndsAs grew cut (halt_error halt q p) [] all a c
+  ends_join halt q p sa sb all from mid a b c first second parts = ends_as halt q p all a c (halts_join halt sa sb all from mid a b c first second parts)
+
+  -- behind its header
+  pub ends_under : {A : Type 0} (e : OpErr) (head : List Event) (shown : A → List (List Shown)) (a b c : E) → Leads grew grew a b head → EndsAs grew cut e [] shown b c → EndsAs grew cut e head shown a c
+  ends_under Failed head shown a b c leads is = begun_under grew head shown a b c leads is
+  ends_under (Tampered q p) head shown a b c leads is = begun_under grew head shown a b c leads is
+  ends_under Sink head shown a b c leads is = halted_under grew cut head (λ s. row_events (shown s)) a b c leads is
+  ends_under NoMemory head shown a b c leads is = halted_under grew cut head (λ s. row_events (shown s)) a b c leads is
+
+-- a block was not read
+pub ends_read : {E A : Type 0} {grew cut : E → E → List Event → Type 0} {pack : ℕ} {flat : Flat} {w : World} {head : List Event} {shown : A → List (List Shown)} {a b : E} (e : OpErr)
+    → (e ≡ Failed) ⊎ TamperedIn pack flat e w → IsBegun grew head shown a b → EndsAs grew cut e head shown a b
+ends_read Failed either begun = begun
+ends_read (Tampered q p) either begun = begun
+ends_read Sink either begun = elim either [ inl failed ↦ absurd (cc failed) | inr there ↦ absurd (cc there.is) ]
+ends_read NoMemory either begun = elim either [ inl failed ↦ absurd (cc failed) | inr there ↦ absurd (cc there.is) ]
+
+-- the emitter gave up
+pub ends_given : {E A : Type 0} {grew cut : E → E → List Event → Type 0} {head : List Event} {shown : A → List (List Shown)} {a b : E} (e : OpErr)
+    → (e ≡ Sink) ⊎ (e ≡ NoMemory) → IsHalted grew cut (λ s. head ++ row_events (shown s)) a b → EndsAs grew cut e head shown a b
+ends_given Failed either halted = elim either [ inl sink ↦ absurd (cc sink) | inr memory ↦ absurd (cc memory) ]
+ends_given (Tampered q p) either halted = elim either [ inl sink ↦ absurd (cc sink) | inr memory ↦ absurd (cc memory) ]
+ends_given Sink either halted = halted
+ends_given NoMemory either halted = halted

@@ -6,7 +6,7 @@ use Rattle.ob_base.specs.declared.schema.Column.{Column}
 use Rattle.ob_base.specs.declared.shown.Shown.{Shown}
 use Rattle.ob_base.specs.declared.emit.EmitErr.TheVariants as EmitErrs
 use Rattle.ob_base.specs.Counts.{Rises}
-use Rattle.ob_base.specs.Events.{Event, Head, row_events, IsEmitted, IsHalted}
+use Rattle.ob_base.specs.Events.{Event, Head, row_events, IsEmitted, IsBegun, IsHalted}
 use Rattle.ob_base.specs.Labels.{column_label}
 use Rattle.ob_base.specs.Schemas.{Columns}
 use Rattle.ob_row.specs.Rows.{Row}
@@ -65,6 +65,25 @@ HaltCause (Err Halts.Malformed) old new = new ≡ old
 HaltCause (Err (Halts.Emit EmitErrs.Failed)) old new = Rises old new
 HaltCause (Err (Halts.Emit EmitErrs.NoMemory)) old new = new ≡ old
 
+-- what was emitted until a block's rows halted: some of the rows, or where the emitter gave up its output ends within
+-- what it took last
+abbrev pub HaltsAs : {E Source : Type 0} → (grew cut : E → E → List Event → Type 0) → Halt
+    → (Source → List (List Shown)) → (out_old out_new : E) → Type 0
+HaltsAs grew cut Halts.Malformed shown out_old out_new = IsBegun grew [] shown out_old out_new
+HaltsAs grew cut (Halts.Emit e) shown out_old out_new =
+    IsHalted grew cut (λ s. row_events (shown s)) out_old out_new
+
+-- the same of a pass, behind its header
+abbrev pub EndsAs : {E Source : Type 0} → (grew cut : E → E → List Event → Type 0) → OpErr
+    → (head : List Event) → (Source → List (List Shown)) → (out_old out_new : E) → Type 0
+EndsAs grew cut Failed head shown out_old out_new = IsBegun grew head shown out_old out_new
+EndsAs grew cut (Tampered region place) head shown out_old out_new =
+    IsBegun grew head shown out_old out_new
+EndsAs grew cut Sink head shown out_old out_new =
+    IsHalted grew cut (λ s. head ++ row_events (shown s)) out_old out_new
+EndsAs grew cut NoMemory head shown out_old out_new =
+    IsHalted grew cut (λ s. head ++ row_events (shown s)) out_old out_new
+
 -- the error of a pass that halted at this block
 abbrev pub halt_error : Halt → ℕ → ℕ → OpErr
 halt_error Halts.Malformed region place = Tampered region place
@@ -89,9 +108,8 @@ pub record EmitsSlot {E : Type 0} (grew cut : E → E → List Event → Type 0)
   pub emitted : IfOk result (λ some. IsEmitted grew []
       (λ (s : IsSlot flat.schema row). slot_shown flat.capacity cols i s.slot)
       0 (if some then 1 else 0) out_old out_new)
-  pub halted : OnErr result (IsHalted grew cut
-      (λ (s : IsSlot flat.schema row). row_events (slot_shown flat.capacity cols i s.slot))
-      out_old out_new)
+  pub halted : IfErr result (λ halt. HaltsAs grew cut halt
+      (λ (s : IsSlot flat.schema row). slot_shown flat.capacity cols i s.slot) out_old out_new)
   pub read : OnOk result (IsSlot flat.schema row)
   pub malformed : IfErr result (λ halt. halt ≡ Halts.Malformed → IsSlot flat.schema row → ⊥)
   pub cause : HaltCause result (faults out_old) (faults out_new)
@@ -104,8 +122,8 @@ pub record EmitsRows {E : Type 0} (grew cut : E → E → List Event → Type 0)
   pub emitted : IfOk result (λ k. IsEmitted grew []
       (λ (s : AreSlots flat.schema rows). slots_shown flat.capacity cols first s.slots)
       seen k out_old out_new)
-  pub halted : OnErr result (IsHalted grew cut
-      (λ (s : AreSlots flat.schema rows). row_events (slots_shown flat.capacity cols first s.slots))
+  pub halted : IfErr result (λ halt. HaltsAs grew cut halt
+      (λ (s : AreSlots flat.schema rows). slots_shown flat.capacity cols first s.slots)
       out_old out_new)
   pub read : OnOk result (AreSlots flat.schema rows)
   pub malformed : IfErr result (λ halt. halt ≡ Halts.Malformed → AreSlots flat.schema rows → ⊥)
@@ -123,12 +141,8 @@ pub record Emits {E : Type 0} (grew cut : E → E → List Event → Type 0) (fa
   pub most : IfOk result (λ k. k ≤ flat.capacity)
   pub emitted : IfOk result (λ k. IsEmitted grew head
       (λ (s : SlotsToEnd pack flat old new). table_shown cols s.slots) 0 k out_old out_new)
-  pub halted : OnErr result (IsHalted grew cut
-      (λ (s : SlotsToHalt pack flat old new). head ++ row_events (table_shown cols s.slots))
-      out_old out_new)
-  pub failed : result ≡ Err Failed → IsHalted grew grew
-      (λ (s : SlotsToHalt pack flat old new). head ++ row_events (table_shown cols s.slots))
-      out_old out_new
+  pub halted : IfErr result (λ e. EndsAs grew cut e head
+      (λ (s : SlotsToHalt pack flat old new). table_shown cols s.slots) out_old out_new)
   pub cause : SinkCause result (faults out_old) (faults out_new)
   pub told : (slots : Slots) → Represents pack flat slots old → new.store.lie ≡ None
       → IfErr result (λ e. (e ≡ Failed) ⊎ (e ≡ Sink) ⊎ (e ≡ NoMemory))

@@ -22,6 +22,7 @@ use Rattle.ob_exec.proofs.RowsLawful.{seen_as}
 use Rattle.ob_exec.proofs.RowsNothing.{part_late}
 use Rattle.ob_vault.specs.State.{Start, World}
 use Rattle.ob_vault.specs.Tied.{Calm, Fits, IsUnfit}
+use Rattle.ob_vault.proofs.WorldSteps.{calm_none}
 use Rattle.ob_vault.specs.Calls.{Lasts, Seals, Went, one}
 use Rattle.ob_vault.proofs.Runs.{seals_join, went_join, went_wider}
 use Rattle.ob_flat.specs.declared.fault.OpErr.{OpErr}
@@ -99,9 +100,6 @@ ending_for (Some k) ending = ending
 reading_for : (k : Option ℕ) (g : ℕ) → IsTrue (list_all is_reading (ending_for k (discard_at g)))
 reading_for None g = refl
 reading_for (Some k) g = refl
-
-calm_none : (w : World) → w.store.lie ≡ None → Calm w
-calm_none w none = record { calm = λ lie told. absurd (cc (told, none)) }
 
 -- the first result is read back behind the count
 walks_late : (p : Public) (select : SelectRows) (g k : ℕ) (plan second : Plan) (end : End) (now : Seen) → now ≡ seen_as (Some k) (Some plan) (Some second) end

@@ -23,6 +23,7 @@ use Rattle.ob_script.specs.Script.{after_count, blocks_of, extent_of, join_scrip
 use Rattle.ob_store.specs.State.{Lie}
 use Rattle.ob_vault.specs.State.{World}
 use Rattle.ob_vault.specs.Tied.{Calm, IsUnfit}
+use Rattle.ob_vault.proofs.WorldSteps.{calm_none}
 use Rattle.ob_flat.specs.declared.fault.OpErr.{OpErr}
 use Rattle.ob_flat.specs.declared.fault.OpErr.TheVariants as OpErrs
 use Rattle.ob_flat.specs.Passes.{PassCause, is_of_access}
@@ -181,7 +182,7 @@ module _ {E : Type 0} (grew cut : E → E → List Event → Type 0) (p : Public
     tables = s.tables;
     held = s.held;
     in_place = s.in_place;
-    nolie = lie_unfit new (is.ran.calm (record { calm = λ lie told. absurd (cc (told, s.nolie)) })) s.unfit;
+    nolie = lie_unfit new (is.ran.calm (calm_none _ s.nolie)) s.unfit;
   }
 
   closing_events : (answer : Selected) → Ends answer → Leads grew cut out_mid out_new (closing answer) → Rattle.ob_base.specs.Events.IsHalted grew cut All out_old out_new

@@ -253,7 +253,7 @@ ran_no_room state skeleton old s t tables agrees rests =
       keys = refl;
       ends = ap (λ (n : ℕ). Cut n) none;
       asks = λ faulted. absurd faulted;
-      cause = (rests.faults, λ calm. record { calm = λ lie is. calm.calm lie (sym rests.lie ∙ is) });
+      cause = (rests.faults, λ calm. record { calm = λ lie is. calm.calm lie (sym rests.lie ∙ is); within = λ lie is. subst (ReadsIn lie) (sym rests.asked) (calm.within lie (sym rests.lie ∙ is)) });
       room = agrees.room;
       opened = opens_none old.room.high;
       goes_on = refl;

@@ -81,7 +81,7 @@ sink_any T U NoMemory a b is = is
 
 -- no changed block was read in a whole run, where none was before and none that doesn't fit
 halt_none : (x : List Access) (a b : World) → Went x none a b → a.store.lie ≡ None → IsUnfit b → b.store.lie ≡ None
-halt_none x a b went none_is unfit = unfit_none b (went.calm (record { calm = λ lie told. absurd (cc (sym none_is ∙ told)) })) unfit
+halt_none x a b went none_is unfit = unfit_none b (went.calm (calm_none a none_is)) unfit
 
 -- the groups that are kept fit the room
 pub buffered_few : (pack rows : ℕ) → 1 ≤ pack → rows ≤ 65536 → buffered pack rows ≤ 65536

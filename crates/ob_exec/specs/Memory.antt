@@ -5,6 +5,7 @@ use Rattle.ob_base.specs.declared.access.Access.{Access}
 use Rattle.ob_base.specs.declared.access.Access.TheVariants.{Make, Read, Discard}
 use Rattle.ob_base.specs.declared.config.Public.{Public}
 use Rattle.ob_base.specs.declared.seen.Seen.{Seen}
+use Rattle.ob_base.specs.Events.{Event}
 use Rattle.ob_sql.specs.declared.stmt.Stmt.{Stmt}
 use Rattle.ob_sql.specs.declared.stmt.Stmt.TheVariants.{SelectRows as RowsStmt, SelectTotals as TotalsStmt}
 use Rattle.ob_sql.specs.Skeleton.{skeleton}
@@ -41,10 +42,16 @@ AtEmission (RowsStmt s) seen rest = IsSome seen.k × IsTrue (list_all is_reading
 AtEmission (TotalsStmt s) seen rest = rest ≡ []
 AtEmission _ seen rest = ⊥
 
--- what was asked of a statement that is stopped so, and what would have followed
-pub record LacksMemory (p : Public) (stmt : Stmt) (seen : Seen) (s t : StoreState) : Type 0 where
+-- the emitter's output ends within some events, as it does only where the emitter gave up
+pub record HasHalted {E : Type 0} (cut : E → E → List Event → Type 0) (out_old out_new : E) : Type 0 where
+  pub events : List Event
+  pub ends : cut out_old out_new events
+
+-- what was asked of a statement that is stopped so, and what would have followed; while rows are emitted it is the
+-- emitter that wants memory, which is this
+pub record LacksMemory (p : Public) (stmt : Stmt) (seen : Seen) (s t : StoreState) (Halts : Type 0) : Type 0 where
   pub done : List Access
   pub rest : List Access
   pub split : done ++ rest ≡ whole_script p (skeleton stmt) seen
   pub asked : t.asked ≡ s.asked ++ done
-  pub place : AtMake done rest ⊎ AtEmission stmt seen rest
+  pub place : AtMake done rest ⊎ (AtEmission stmt seen rest × Halts)

@@ -21,6 +21,7 @@ use Rattle.ob_mean.specs.Refusals.{early_refusal}
 use Rattle.ob_mean.specs.Verdict.{is_late, ended as seen_to}
 use Rattle.ob_base.specs.Stored.{headings_of}
 use Rattle.ob_sql.specs.declared.stmt.Stmt.{Stmt}
+use Rattle.ob_sql.specs.declared.stmt.Stmt.TheVariants.{SelectRows as RowsStmt}
 use Rattle.ob_base.specs.declared.config.Public.{Public}
 use Rattle.ob_script.specs.Trace.{next}
 use Rattle.ob_flat.specs.declared.fault.OpErr.{OpErr}
@@ -130,11 +131,22 @@ pub record IsAnswer (labels : List (List ℕ)) (k : ℕ) (events : List Event) :
   pub few : k < 2 ^ 32
   pub is : events ≡ Head labels ∷ (rows ++ Close k ∷ [])
 
--- any other emits nothing, but for what was emitted until the store failed
-abbrev pub Emits : (labels : List (List ℕ)) → Outcome → List Event → Type 0
-Emits labels (Rows k) events = IsAnswer labels k events
-Emits labels (Refused r) events = by_fault (is_store_fault r) ⊤ (events ≡ [])
-Emits labels _ events = events ≡ []
+-- one that was cut off is nothing, or its header and some rows
+pub record IsBegunAnswer (labels : List (List ℕ)) (events : List Event) : Type 0 where
+  pub rows : List Event
+  pub are_rows : IsTrue (list_all is_row rows)
+  pub is : (events ≡ []) ⊎ (events ≡ Head labels ∷ rows)
+
+-- where the store fails, a SELECT of rows has begun its answer at most, and any other statement emitted nothing
+abbrev pub EmitsUntilFault : Stmt → (labels : List (List ℕ)) → List Event → Type 0
+EmitsUntilFault (RowsStmt s) labels events = IsBegunAnswer labels events
+EmitsUntilFault _ labels events = events ≡ []
+
+-- what is emitted of an answer to a statement: nothing but of rows, and of rows that the store cut off
+abbrev pub Emits : (stmt : Stmt) (labels : List (List ℕ)) → Outcome → List Event → Type 0
+Emits stmt labels (Rows k) events = IsAnswer labels k events
+Emits stmt labels (Refused r) events = by_fault (is_store_fault r) (EmitsUntilFault stmt labels events) (events ≡ [])
+Emits stmt labels _ events = events ≡ []
 
 -- a stop by the sink comes only where a call of the emitter failed, and always where one did
 abbrev pub SinkCause : Result Outcome Stop → ℕ → ℕ → Type 0
@@ -145,9 +157,14 @@ SinkCause (Err NoMemory) old new = new ≡ old
 SinkCause (Err SourceFault) old new = ⊥
 SinkCause (Err InputLimit) old new = ⊥
 
+-- an answer that is no rows
+abbrev pub HasNoRows : Outcome → Type 0
+HasNoRows (Rows k) = ⊥
+HasNoRows _ = Unit {0}
+
 -- what a statement may answer that emits nothing, and meets no emitter
 abbrev pub IsSilent : Result Outcome Stop → Type 0
-IsSilent (Ok outcome) = Emits [] outcome []
+IsSilent (Ok outcome) = HasNoRows outcome
 IsSilent (Err SinkFault) = ⊥
 IsSilent (Err (Tampered region place)) = Unit {0}
 IsSilent (Err NoMemory) = Unit {0}

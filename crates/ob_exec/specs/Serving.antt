@@ -1,11 +1,12 @@
 -- What a call of the engine does.
-use Rattle.std.specs.Prelude.{◌≡◌, ◌⊎◌, ℕ, List, Result, Err, IfOk, OnErr, IfErr, length}
+use Rattle.std.specs.Prelude.{◌≡◌, ◌⊎◌, ⊥, ℕ, List, ◌++◌, Some, Result, Err, IfOk, IfErr, length}
 use Rattle.ob_base.specs.declared.refusal.Stop.{Stop}
-use Rattle.ob_base.specs.declared.refusal.Stop.TheVariants.{NoMemory}
+use Rattle.ob_base.specs.declared.refusal.Stop.TheVariants.{NoMemory, SinkFault, Tampered}
 use Rattle.ob_base.specs.declared.seen.End.TheVariants.{Static, AfterCount}
 use Rattle.ob_base.specs.Events.{Event}
-use Rattle.ob_store.specs.State.{StoreState}
+use Rattle.ob_store.specs.State.{Lie, StoreState}
 use Rattle.ob_vault.specs.State.{RevState}
+use Rattle.ob_vault.specs.Tied.{ReadsIn}
 use Rattle.ob_sql.specs.declared.stmt.Stmt.{Stmt}
 use Rattle.ob_sql.specs.Skeleton.{skeleton}
 use Rattle.ob_mean.specs.Lawful.{Lawful}
@@ -13,24 +14,30 @@ use Rattle.ob_mean.specs.Verdict.{Tables, verdict, ended as seen_to}
 use Rattle.ob_exec.specs.declared.engine.Engine.{Engine}
 use Rattle.ob_exec.specs.declared.outcome.Outcome.{Outcome}
 use Rattle.ob_exec.specs.Running.{Ran, RefusedEarly, Emits, SinkCause, IsSilent, refusal_now}
-use Rattle.ob_exec.specs.Memory.{LacksMemory}
-use Rattle.ob_exec.specs.Telling.{KeepsSealed, ReadsTrue, ReadsTrueUntil, SeenCut, Told, is_refused, IsNotTampered, Partly, Emitted, answer_labels}
+use Rattle.ob_exec.specs.Memory.{HasHalted, LacksMemory}
+use Rattle.ob_exec.specs.Telling.{KeepsSealed, ReadsTrue, ReadsTrueUntil, SeenCut, Told, is_refused, IsNotTampered, Partly, Emitted, answer_labels, meant_script}
 
 -- what an answer emitted
 pub record Answered {R E : Type 0} (state : R → RevState) (grew : E → E → List Event → Type 0)
     (stmt : Stmt) (outcome : Outcome) (old : Engine R) (s t : StoreState) (out_old out_new : E) : Type 0 where
   pub events : List Event
   pub took : grew out_old out_new events
-  pub emits : Emits (answer_labels stmt old.public) outcome events
+  pub emits : Emits stmt (answer_labels stmt old.public) outcome events
   pub told : (tables : Tables) → ReadsTrue state old s t tables
       → Emitted stmt old.public (length s.asked) tables outcome events
 
+-- until a stop the emitter took these events, and its output ends within them where it failed
+abbrev pub EndsWithin : {E : Type 0} → (grew cut : E → E → List Event → Type 0) → Stop → (out_old out_new : E) → List Event → Type 0
+EndsWithin grew cut SinkFault out_old out_new events = cut out_old out_new events
+EndsWithin grew cut (Tampered region place) out_old out_new events = grew out_old out_new events
+EndsWithin grew cut _ out_old out_new events = grew out_old out_new events ⊎ cut out_old out_new events
+
 -- what was emitted until a stop
 pub record Stopped {R E : Type 0} (state : R → RevState) (grew cut : E → E → List Event → Type 0)
-    (stmt : Stmt) (old : Engine R) (s : StoreState) (new : Engine R) (t : StoreState)
+    (stmt : Stmt) (stop : Stop) (old : Engine R) (s : StoreState) (new : Engine R) (t : StoreState)
     (out_old out_new : E) : Type 0 where
   pub events : List Event
-  pub ends : grew out_old out_new events ⊎ cut out_old out_new events
+  pub ends : EndsWithin grew cut stop out_old out_new events
   pub told : (tables : Tables) → ReadsTrueUntil state old s new t tables
       → Partly (answer_labels stmt old.public) (verdict old.public (length s.asked) tables stmt) events
 
@@ -44,6 +51,9 @@ pub record Means {R : Type 0} (state : R → RevState) (stmt : Stmt) (result : R
   -- so is what is seen until a stop
   pub held : (tables : Tables) → ReadsTrueUntil state old s new t tables
       → IfErr result (λ stop. SeenCut (is_refused stop) stmt (length s.asked) tables old new t)
+  -- the first changed block that is read is one that the statement over the tables before reads too
+  pub begun : (tables : Tables) → ReadsTrue state old s s tables → (lie : Lie) → t.lie ≡ Some lie
+      → ReadsIn lie (s.asked ++ meant_script old.public (length s.asked) tables stmt)
 
 -- a statement was carried out
 pub record Serves {R E : Type 0} (state : R → RevState) (grew cut : E → E → List Event → Type 0)
@@ -57,11 +67,11 @@ pub record Serves {R E : Type 0} (state : R → RevState) (grew cut : E → E �
   -- what is seen may be seen
   pub lawful : Lawful old.public (length s.asked) stmt new.seen
   -- want of memory tells nothing of rows
-  pub memory : result ≡ Err NoMemory → LacksMemory old.public stmt new.seen s t
+  pub memory : result ≡ Err NoMemory → LacksMemory old.public stmt new.seen s t (HasHalted cut out_old out_new)
   -- nothing comes to lie in clear
   pub seals : KeepsSealed state old s new t
   pub answered : IfOk result (λ outcome. Answered state grew stmt outcome old s t out_old out_new)
-  pub stopped : OnErr result (Stopped state grew cut stmt old s new t out_old out_new)
+  pub stopped : IfErr result (λ stop. Stopped state grew cut stmt stop old s new t out_old out_new)
   pub sink : SinkCause result (faults out_old) (faults out_new)
   pub means : Means state stmt result old s new t
 
@@ -73,6 +83,6 @@ pub record ServesSilently {R : Type 0} (state : R → RevState) (stmt : Stmt) (r
   pub uncounted : new.seen.end ≡ AfterCount → ⊥
   pub plain : new.seen ≡ seen_to new.seen.end
   pub silent : IsSilent result
-  pub memory : result ≡ Err NoMemory → LacksMemory old.public stmt new.seen s t
+  pub memory : result ≡ Err NoMemory → LacksMemory old.public stmt new.seen s t ⊥
   pub seals : KeepsSealed state old s new t
   pub means : Means state stmt result old s new t

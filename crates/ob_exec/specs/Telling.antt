@@ -1,5 +1,6 @@
 -- What the tables of an engine hold, and what a statement means for them.
 use Rattle.std.specs.Prelude.{Bool, true, false, ◌≡◌, ◌-◌, ⊤, ℕ, List, [], ◌∷◌, length, IsTrue, None}
+use Rattle.ob_base.specs.declared.access.Access.{Access}
 use Rattle.ob_base.specs.declared.config.Public.{Public}
 use Rattle.ob_exec.specs.Refusals.{by_fault}
 use Rattle.ob_base.specs.declared.refusal.Stop.{Stop}
@@ -8,6 +9,7 @@ use Rattle.ob_base.specs.declared.schema.Table.{Table}
 use Rattle.ob_base.specs.Events.{Event}
 use Rattle.ob_base.specs.Schemas.{Columns}
 use Rattle.ob_store.specs.State.{StoreState}
+use Rattle.ob_script.specs.Script.{script}
 use Rattle.ob_vault.specs.State.{RevState, World}
 use Rattle.ob_vault.specs.Tied.{Calm, IsUnfit}
 use Rattle.ob_vault.specs.Calls.{Seals}
@@ -55,6 +57,11 @@ pub record ReadsTrueUntil {R : Type 0} (state : R → RevState) (old : Engine R)
   pub held : Represents state old s tables
   pub calm : Calm (world_of state old s)
   pub unfit : IsUnfit (world_of state new t)
+
+-- ---- the accesses
+-- those of a statement by its meaning, of which m were asked before
+abbrev pub meant_script : Public → (m : ℕ) → Tables → Stmt → List Access
+meant_script p m tables stmt = script p (skeleton stmt) (seen p m tables stmt)
 
 -- ---- the answer
 -- the outcome of a statement's answer

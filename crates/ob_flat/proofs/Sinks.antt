@@ -4,6 +4,7 @@ use Rattle.ob_base.specs.declared.access.Access.{Access}
 use Rattle.ob_store.specs.State.{Lie}
 use Rattle.ob_vault.specs.State.{World}
 use Rattle.ob_vault.specs.Tied.{Calm, Fits, IsUnfit}
+use Rattle.ob_vault.proofs.WorldSteps.{calm_none}
 use Rattle.ob_vault.specs.Calls.{Went, Lasts}
 use Rattle.ob_vault.specs.declared.fault.VaultErr.{VaultErr}
 use Rattle.ob_vault.specs.declared.fault.VaultErr.TheVariants as VaultErrs
@@ -14,7 +15,7 @@ pub none_before : (some : ℕ → Type 0) (more : ℕ → Type 0) (x : List Acce
 none_before some more x a b c went lasts none unfit = go b.store.lie refl
   where
     calm : Calm a
-    calm = record { calm = λ lie told. absurd (cc (sym none ∙ told)) }
+    calm = calm_none a none
 
     go : (o : Option Lie) → b.store.lie ≡ o → b.store.lie ≡ None
     go None is = is

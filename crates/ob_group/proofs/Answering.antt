@@ -127,7 +127,7 @@ module _ {E : Type 0} {grew cut : E → E → List Event → Type 0} {faults : E
         source = all.source;
         most = tt;
         emitted = tt;
-        halted = record {
+        halted = λ is. record {
           events = halted.events;
           ends = halted.ends;
           told = λ s.

@@ -1,5 +1,5 @@
 -- The rows of groups that were emitted.
-use Rattle.std.proofs.Common.{◌≡◌, ◌<◌, ◌+◌, inr, ℕ, List, [], ◌∷◌, ◌++◌, length, take, drop, slice_index_or, Result, Ok, Err, OnOk, OnErr, refl, sym, ◌∙◌, ap, subst, arith}
+use Rattle.std.proofs.Common.{◌≡◌, ◌<◌, ◌+◌, ℕ, List, [], ◌∷◌, ◌++◌, length, take, drop, slice_index_or, Result, Ok, Err, OnOk, OnErr, refl, sym, ◌∙◌, ap, subst, arith}
 use Rattle.std.proofs.lemmas.List.{append-nil, map-append, take_more, take-append-drop}
 use Rattle.ob_base.specs.declared.shown.Shown.{Shown}
 use Rattle.ob_base.specs.declared.emit.EmitErr.{EmitErr}
@@ -26,7 +26,7 @@ module _ {E A T R : Type 0} (grew cut : E → E → List Event → Type 0) (show
 
   pub one_halted : (r : Result T R) → OnErr r (Leads grew cut old new (Row cells ∷ [])) → OnErr r (IsHalted grew cut (λ s. row_events (shown s ∷ [])) old new)
   one_halted (Ok x) leads = tt
-  one_halted (Err e) leads = record { events = Row cells ∷ []; ends = inr leads; told = λ s. ([], ap (λ (l : List Shown). Row l ∷ []) (told s)) }
+  one_halted (Err e) leads = record { events = Row cells ∷ []; ends = leads; told = λ s. ([], ap (λ (l : List Shown). Row l ∷ []) (told s)) }
 
 -- rows behind their header
 pub headed : {E T : Type 0} {grew cut : E → E → List Event → Type 0} {faults : E → ℕ} {kind : Kind} {items : List Item} {n : ℕ} {rows : List (List ℕ)} {a b c : E} (head : List Event)

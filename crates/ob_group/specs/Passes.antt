@@ -152,7 +152,7 @@ pub record GroupsRows {E : Type 0} (grew cut : E → E → List Event → Type 0
       (λ (s : SlotsToEnd pack flat old new). grouped key items (filter p (rows_in s.slots)))
       0 n out_old out_new)
       (out_new ≡ out_old))
-  pub halted : OnErr result (IsHalted grew cut
+  pub halted : IfErr result (λ e. (e ≡ Sink) ⊎ (e ≡ NoMemory) → IsHalted grew cut
       (λ (s : SlotsToHalt pack flat old new). header flat.schema key items
       ++ row_events (grouped key items (filter p (rows_in s.slots))))
       out_old out_new)

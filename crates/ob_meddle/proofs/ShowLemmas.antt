@@ -1,6 +1,6 @@
 -- Nothing shows before the first change.
-use Rattle.std.proofs.Common.{subst, ◌≡◌, ◌∙◌, ◌+◌, ◌≤◌, ℕ, true, false, refl, ap, List, [], ◌∷◌, ◌++◌, map, Option, Some, None, length, take, arith}
-use Rattle.std.proofs.lemmas.List.{take-append-le}
+use Rattle.std.proofs.Common.{subst, sym, ◌≡◌, ◌∙◌, ◌+◌, ◌<◌, ◌≤◌, ℕ, true, false, refl, ap, List, [], ◌∷◌, ◌++◌, map, Option, Some, None, length, take, arith}
+use Rattle.std.proofs.lemmas.List.{length-take-le, take-append-le}
 use Rattle.std.specs.Option.{ForSome}
 use Rattle.ob_base.specs.declared.access.Access.{Access}
 use Rattle.ob_store.specs.State.{Disturbance, Lie, Shape, StoreState}
@@ -15,34 +15,59 @@ use Rattle.ob_meddle.specs.Caught.{lie_of}
 use Rattle.ob_meddle.specs.Due.{failed_among, has_acted, are_later, spelt_act, disturbance_of, disturbances}
 use Rattle.ob_meddle.specs.Fresh.{IsEarly}
 use Rattle.ob_meddle.specs.Shows.{list_of, state_of, Shows}
-use Rattle.ob_meddle.proofs.DueLemmas.{none_acted, none_failed, all_later}
+use Rattle.ob_meddle.proofs.DueLemmas.{acted_later, none_acted, none_failed, all_later}
 
-no_lie : (list : List Meddle) (asked : List Access) (caught : Option Caught) → ForSome caught (λ c. has_acted list (length asked) ≡ true) → has_acted list (length asked) ≡ false → lie_of caught asked ≡ None
-no_lie list asked None caused none = refl
-no_lie list asked (Some c) caused none = absurd (cc (caused c refl, none))
+-- a read was caught behind an act
+abbrev pub IsCaused : List Meddle → Option Caught → Type 0
+IsCaused list caught = ForSome caught (λ c. has_acted list (c.count + 1) ≡ true)
+
+-- as many accesses came before it as were counted
+count_of : (list : List Meddle) (asked : List Access) (caught : Option Caught) → IsEarly caught asked → IsCaused list caught
+    → (lie : Lie) → lie_of caught asked ≡ Some lie → (length lie.before < length asked) × (has_acted list (length lie.before + 1) ≡ true)
+count_of list asked None early caused lie is = absurd (cc is)
+count_of list asked (Some c) early caused lie is =
+    let less : c.count < length asked = early c refl in
+    let before : take c.count asked ≡ lie.before = cc is in
+    let count : length lie.before ≡ c.count = ap length (sym before) ∙ length-take-le c.count asked (omega (arith, less)) in
+    (omega (arith, less, count), ap (λ (n : ℕ). has_acted list (n + 1)) count ∙ caused c refl)
+
+-- none was where no act came
+no_lie : (list : List Meddle) (asked : List Access) (caught : Option Caught) → IsEarly caught asked → IsCaused list caught → has_acted list (length asked) ≡ false → lie_of caught asked ≡ None
+no_lie list asked None early caused none = refl
+no_lie list asked (Some c) early caused none =
+    let less : c.count < length asked = early c refl in
+    absurd (cc (caused c refl, acted_later list (c.count + 1) (length asked) (omega (arith, less)) none))
 
 -- where every change is still to come
 quiet_as : (s : StoreState) (list : List Meddle) (caught : Option Caught) → s.faults + s.slips ≡ failed_among list (length s.asked) → s.lie ≡ lie_of caught s.asked
-    → ForSome caught (λ c. has_acted list (length s.asked) ≡ true) → are_later list (length s.asked) ≡ true → IsQuiet s
-quiet_as s list caught counted lie caused later =
+    → IsEarly caught s.asked → IsCaused list caught → are_later list (length s.asked) ≡ true → IsQuiet s
+quiet_as s list caught counted lie early caused later =
     let none = none_failed list (length s.asked) later in
     record {
       faults = omega (arith, none, counted);
       slips = omega (arith, none, counted);
-      lie = lie ∙ no_lie list s.asked caught caused (none_acted list (length s.asked) later);
+      lie = lie ∙ no_lie list s.asked caught early caused (none_acted list (length s.asked) later);
     }
 
 pub steady_as : (s : StoreState) (list : List Meddle) (caught : Option Caught) → s.disturbed ≡ disturbances list → s.faults + s.slips ≡ failed_among list (length s.asked) → s.lie ≡ lie_of caught s.asked
-    → ForSome caught (λ c. has_acted list (length s.asked) ≡ true) → IsSteady s
-steady_as s list caught names counted lie caused before =
-    quiet_as s list caught counted lie caused (all_later list (length s.asked) (subst (λ (o : Option (List Disturbance)). IsBefore o (length s.asked)) names before))
+    → IsEarly caught s.asked → IsCaused list caught → IsSteady s
+steady_as s list caught names counted lie early caused =
+    let later : (n : ℕ) → IsBefore s.disturbed n → are_later list n ≡ true = λ n before. all_later list n (subst (λ (o : Option (List Disturbance)). IsBefore o n) names before) in
+    record {
+      quiet = λ before. quiet_as s list caught counted lie early caused (later (length s.asked) before);
+      lied = λ one is before. absurd (cc (
+        (count_of list s.asked caught early caused one (sym lie ∙ is)).1,
+        none_acted list (length one.before + 1) (later (length one.before + 1) before),
+      ));
+    }
 
 -- when the changes of a store show
 pub shows : (m : MeddledStore) → Shows (list_of m) (state_of m)
 shows m = record {
   counted = m.counted;
-  caused = no_lie m.list (asked_of m.log) m.caught m.caused;
-  quiet = quiet_as (state_of m) m.list m.caught m.counted refl m.caused;
+  asked = λ lie is. (count_of m.list (asked_of m.log) m.caught m.early m.caused lie is).0;
+  caused = λ lie is. (count_of m.list (asked_of m.log) m.caught m.early m.caused lie is).1;
+  quiet = quiet_as (state_of m) m.list m.caught m.counted refl m.early m.caused;
   disturbed = refl;
 }
 
@@ -98,14 +123,11 @@ lie_stays (Some c) old more a e early =
 abbrev shown : MeddledStore → Option Caught → (ℕ → Option Shape) → (ℕ → ℕ → Option (List ℕ)) → List ℕ → StoreState
 shown m caught live last gave = record (state_of m) { live = live; last = last; lie = lie_of caught (asked_of m.log); gave = gave }
 
-abbrev Caused : MeddledStore → Option Caught → Type 0
-Caused m caught = ForSome caught (λ c. has_acted m.list (length (asked_of m.log)) ≡ true)
-
 -- one access more was asked, and perhaps it failed
 module _ (a : Access) (old new : MeddledStore) (faults slips : ℕ) (live : ℕ → Option Shape) (last : ℕ → ℕ → Option (List ℕ)) (gave : List ℕ) (asked : asked_of new.log ≡ asked_of old.log ++ a ∷ []) (spare : old.log.spare ≤ new.log.spare + 1)
     (list : new.list ≡ old.list) (failed : new.faults ≡ old.faults + faults) (slipped : new.slips ≡ old.slips + slips) where
-  asks_of : (caught : Option Caught) → ((lie : Lie) → (state_of old).lie ≡ Some lie → lie_of caught (asked_of new.log) ≡ Some lie) → Caused new caught → Asks a (state_of old) (shown new caught live last gave)
-  asks_of caught stays caused = record {
+  asks_of : (caught : Option Caught) → ((lie : Lie) → (state_of old).lie ≡ Some lie → lie_of caught (asked_of new.log) ≡ Some lie) → IsEarly caught (asked_of new.log) → IsCaused new.list caught → Asks a (state_of old) (shown new caught live last gave)
+  asks_of caught stays early caused = record {
     asked = asked;
     spare = spare;
     faults = omega (arith, failed);
@@ -113,13 +135,13 @@ module _ (a : Access) (old new : MeddledStore) (faults slips : ℕ) (live : ℕ 
     tells = refl;
     lie = stays;
     disturbed = ap disturbances list;
-    steady = steady_as (shown new caught live last gave) new.list caught refl new.counted refl caused;
+    steady = steady_as (shown new caught live last gave) new.list caught refl new.counted refl early caused;
   }
 
   -- no read was caught
   pub asks_same : new.caught ≡ old.caught → Asks a (state_of old) (shown new new.caught live last gave)
-  asks_same same = asks_of new.caught (λ lie is. ap (λ (c : Option Caught). lie_of c (asked_of new.log)) same ∙ lie_stays old.caught (asked_of old.log) (asked_of new.log) a asked old.early ∙ is) new.caused
+  asks_same same = asks_of new.caught (λ lie is. ap (λ (c : Option Caught). lie_of c (asked_of new.log)) same ∙ lie_stays old.caught (asked_of old.log) (asked_of new.log) a asked old.early ∙ is) new.early new.caused
 
   -- it is the first that was caught
-  pub asks_caught : (caught : Option Caught) → old.caught ≡ None → Caused new caught → Asks a (state_of old) (shown new caught live last gave)
-  asks_caught caught none caused = asks_of caught (λ lie is. absurd (cc (is, ap (λ (c : Option Caught). lie_of c (asked_of old.log)) none))) caused
+  pub asks_caught : (caught : Option Caught) → old.caught ≡ None → IsEarly caught (asked_of new.log) → IsCaused new.list caught → Asks a (state_of old) (shown new caught live last gave)
+  asks_caught caught none early caused = asks_of caught (λ lie is. absurd (cc (is, ap (λ (c : Option Caught). lie_of c (asked_of old.log)) none))) early caused

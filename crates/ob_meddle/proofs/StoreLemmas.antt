@@ -42,12 +42,6 @@ module _ (list : List Meddle) (old more : List Access) (a : Access) (e : more �
   pub early_more : (caught : Option Caught) → IsEarly caught old → IsEarly caught more
   early_more caught early = λ c is. let before = early c is in omega (arith, one_more)
 
-  pub caused_more : (caught : Option Caught) → ForSome caught (λ c. has_acted list (length old) ≡ true) → ForSome caught (λ c. has_acted list (length more) ≡ true)
-  caused_more caught caused = λ c is. go (has_acted list (length more)) refl (caused c is) where
-    go : (b : Bool) → has_acted list (length more) ≡ b → has_acted list (length old) ≡ true → has_acted list (length more) ≡ true
-    go true now before = now
-    go false now before = absurd (cc (before, acted_later list (length old) (length more) (omega (arith, one_more)) now))
-
 -- ---- before the first access
 pub fresh_none : (asked : List Access) (regions : BTreeMap ℕ Region) → asked ≡ [] → regions.entries ≡ [] → IsFresh asked regions
 fresh_none asked regions none empty = rw none (rw empty (search rules))

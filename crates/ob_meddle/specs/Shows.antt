@@ -1,6 +1,6 @@
 -- When the changes of a store show.
-use Rattle.std.specs.Prelude.{◌≡◌, ◌+◌, Bool, true, false, List, None, length}
-use Rattle.ob_store.specs.State.{StoreState}
+use Rattle.std.specs.Prelude.{◌≡◌, ◌<◌, ◌+◌, Bool, true, false, List, Some, None, length}
+use Rattle.ob_store.specs.State.{Lie, StoreState}
 use Rattle.ob_store.specs.Calls.{IsQuiet}
 use Rattle.ob_meddle.specs.declared.meddle.Meddle.{Meddle}
 use Rattle.ob_meddle.specs.declared.store.MeddledStore.{MeddledStore}
@@ -49,8 +49,9 @@ fails_next m = fails_at m.list (length (asked_of m.log) + 1)
 pub record Shows (list : List Meddle) (s : StoreState) : Type 0 where
   -- as many calls failed as there are accesses so far that were to fail
   pub counted : s.faults + s.slips ≡ failed_among list (length s.asked)
-  -- a lie comes only once an act other than Fail came
-  pub caused : has_acted list (length s.asked) ≡ false → s.lie ≡ None
+  -- a read that was asked lies only where an act other than Fail came before it
+  pub asked : (lie : Lie) → s.lie ≡ Some lie → length lie.before < length s.asked
+  pub caused : (lie : Lie) → s.lie ≡ Some lie → has_acted list (length lie.before + 1) ≡ true
   -- nothing shows before the first change
   pub quiet : are_later list (length s.asked) ≡ true → IsQuiet s
   -- it says before which accesses they come, and which of them fail

@@ -35,7 +35,7 @@ pub struct MeddledStore {
     ghost counted: { faults + slips ≡ failed_among list (length (asked_of log)) },
     ghost honest: { IsHonest list (length (asked_of log)) regions },
     ghost early: { IsEarly caught (asked_of log) },
-    ghost caused: { ForSome caught (λ c. has_acted list (length (asked_of log)) ≡ true) },
+    ghost caused: { ForSome caught (λ c. has_acted list (c.count + 1) ≡ true) },
 }
 
 impl MeddledStore {
@@ -106,10 +106,13 @@ impl BlockStore for MeddledStore {
 
     ghost starts_honest = { λ m none. honest_start m.caught (asked_of m.log) m.early none };
 
-    ghost starts_steady = { λ m none before. record {
-      faults = (none_failed_yet m.list (asked_of m.log) m.faults m.slips m.counted none).0;
-      slips = (none_failed_yet m.list (asked_of m.log) m.faults m.slips m.counted none).1;
-      lie = honest_start m.caught (asked_of m.log) m.early none;
+    ghost starts_steady = { λ m none. record {
+      quiet = λ before. record {
+        faults = (none_failed_yet m.list (asked_of m.log) m.faults m.slips m.counted none).0;
+        slips = (none_failed_yet m.list (asked_of m.log) m.faults m.slips m.counted none).1;
+        lie = honest_start m.caught (asked_of m.log) m.early none;
+      };
+      lied = λ lie is. absurd (cc (is, honest_start m.caught (asked_of m.log) m.early none));
     } };
 
     fn room(&mut self, n: u64) -> Result<(), NoMemory>

@@ -1,5 +1,5 @@
 -- How a run goes on by a call, and how runs are joined.
-use Rattle.std.proofs.Common.{◌≡◌, ◌≢◌, ◌⊎◌, inl, inr, ℕ, zero, suc, ◌*◌, ◌<◌, ◌≤◌, List, [], ◌∷◌, ◌++◌, ◌-◌, take, length, Option, Some, None, refl, sym, ◌∙◌, ap, subst, arith, append_assoc, length-append}
+use Rattle.std.proofs.Common.{◌≡◌, ◌≢◌, ◌⊎◌, inl, inr, ℕ, zero, suc, ◌+◌, ◌*◌, ◌<◌, ◌≤◌, List, [], ◌∷◌, ◌++◌, ◌-◌, take, length, Option, Some, None, refl, sym, ◌∙◌, ap, subst, arith, append_assoc, length-append}
 use Rattle.std.proofs.lemmas.List.{append-nil, take_at}
 use Rattle.std.proofs.lemmas.Bool.{cases_eq}
 use Rattle.ob_base.specs.declared.access.Access.{Access}
@@ -37,12 +37,17 @@ later_rests old new rests = record {
   tells = rests.tells;
   lie = λ lie is. rests.lie ∙ is;
   disturbed = rests.disturbed;
-  steady = λ steady before. let quiet = steady (subst (λ (o : Option (List Disturbance)). IsBefore o (length old.asked)) rests.disturbed (subst (λ (l : List Access). IsBefore new.disturbed (length l)) rests.asked before)) in record {
-    faults = rests.faults ∙ quiet.faults;
-    slips = rests.slips ∙ quiet.slips;
-    lie = rests.lie ∙ quiet.lie;
+  steady = λ steady. record {
+    quiet = λ before. let quiet = steady.quiet (before_old (length old.asked) (subst (λ (l : List Access). IsBefore new.disturbed (length l)) rests.asked before)) in record {
+      faults = rests.faults ∙ quiet.faults;
+      slips = rests.slips ∙ quiet.slips;
+      lie = rests.lie ∙ quiet.lie;
+    };
+    lied = λ lie is before. steady.lied lie (sym rests.lie ∙ is) (before_old (length lie.before + 1) before);
   };
-}
+} where
+  before_old : (n : ℕ) → IsBefore new.disturbed n → IsBefore old.disturbed n
+  before_old n before = subst (λ (o : Option (List Disturbance)). IsBefore o n) rests.disturbed before
 
 -- no lie afterwards is none throughout
 pub none_before : (old new : StoreState) → Later old new → new.lie ≡ None → old.lie ≡ None

@@ -37,9 +37,10 @@ pub record IsQuiet (s : StoreState) : Type 0 where
   pub slips : s.slips ≡ 0
   pub lie : s.lie ≡ None
 
--- nothing shows before the first access that others disturb
-abbrev pub IsSteady : StoreState → Type 0
-IsSteady s = IsBefore s.disturbed (length s.asked) → IsQuiet s
+-- nothing shows before the first access that others disturb, and a read that lied came behind it
+pub record IsSteady (s : StoreState) : Type 0 where
+  pub quiet : IsBefore s.disturbed (length s.asked) → IsQuiet s
+  pub lied : (lie : Lie) → s.lie ≡ Some lie → IsBefore s.disturbed (length lie.before + 1) → ⊥
 
 -- one access was asked, whatever was answered; a lie stays
 pub record Asks (access : Access) (old new : StoreState) : Type 0 where

@@ -52,7 +52,10 @@ impl BlockStore for ForgingStore {
 
     ghost starts_honest = { λ s none. refl };
 
-    ghost starts_steady = { λ s none before. record { faults = refl; slips = refl; lie = refl } };
+    ghost starts_steady = { λ s none. record {
+      quiet = λ before. record { faults = refl; slips = refl; lie = refl };
+      lied = λ lie is. absurd (cc is);
+    } };
 
     fn room(&mut self, n: u64) -> Result<(), NoMemory> {
         self.inner.room(n)

@@ -11,7 +11,7 @@ use Rattle.ob_vault.specs.declared.fault.VaultErr.TheVariants as VaultErrs
 use Rattle.ob_vault.specs.State.{VaultState}
 use Rattle.ob_vault.specs.Numbers.{number_after}
 use Rattle.ob_base.proofs.AccessLemmas.{number_read}
-use Rattle.ob_vault.specs.Tied.{Fits, at_of}
+use Rattle.ob_vault.specs.Tied.{Fits, ReadsIn, at_of}
 use Rattle.ob_vault.proofs.WorldSteps.{world, calm_lasts, asked_call}
 use Rattle.ob_vault.specs.Calls.{Lasts, Went, Cut, Unfit, Opened, none}
 
@@ -58,11 +58,14 @@ module _ (v : VaultState) (q x : ℕ) (old new : StoreState) (asks : Asks (Read 
       did = did_call _ _ _ asks faults;
       spare = asks.spare;
       calm = λ calm. elim (lie_after q x bytes old new asks gives) [
-        | inl same ↦ calm_lasts none (world v old) (world v new) lasts same calm
+        | inl same ↦ calm_lasts none (world v old) (world v new) (Read q x ∷ []) lasts asks.asked same calm
         | inr is ↦
             let here : Lie = record { region = q; place = x; bytes = bytes; before = old.asked } in
             let fits : Fits v.keys v.start here = record { tag = tag } in
-            record { calm = λ lie now. let at : here ≡ lie = cc (is, now) in subst (λ (l : Lie). Fits v.keys v.start l) at fits }
+            record {
+              calm = λ lie now. let at : here ≡ lie = cc (is, now) in subst (λ (l : Lie). Fits v.keys v.start l) at fits;
+              within = λ lie now. let at : here ≡ lie = cc (is, now) in subst (λ (l : Lie). ReadsIn l new.asked) at (record { rest = []; is = sym asks.asked });
+            }
       ];
     }
 
@@ -77,7 +80,7 @@ module _ (v : VaultState) (q x : ℕ) (old new : StoreState) (asks : Asks (Read 
         record { before = old.asked; asked = asks.asked },
         unfit,
         λ calm. elim (lie_after q x bytes old new asks gives) [
-          | inl same ↦ inl (calm_lasts none (world v old) (world v new) lasts same calm)
+          | inl same ↦ inl (calm_lasts none (world v old) (world v new) (Read q x ∷ []) lasts asks.asked same calm)
           | inr is ↦ inr (record {
             lie = record { region = q; place = x; bytes = bytes; before = old.asked };
             told = is;

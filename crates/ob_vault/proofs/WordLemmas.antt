@@ -92,7 +92,7 @@ module _ (v : VaultState) (s t : StoreState) (rests : Rests s t) where
         lasts = lasts;
         did = record { asked = rests.asked ∙ sym (append-nil s.asked); faults = rests.faults };
         spare = omega (arith, rests.spare);
-        calm = calm_lasts some (world v s) (world v t) lasts rests.lie;
+        calm = calm_lasts some (world v s) (world v t) [] lasts (rests.asked ∙ sym (append-nil s.asked)) rests.lie;
       }
 
   pub seals_rests : (good : ℕ → List ℕ → Bool) → Seals good (world v s) (world v t)

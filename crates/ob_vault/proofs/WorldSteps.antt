@@ -1,5 +1,5 @@
 -- What each call of a vault does to it and its store.
-use Rattle.std.proofs.Common.{◌≡◌, ◌≢◌, ◌==◌, if◌then◌else◌, true, false, Err, Option, ◌⊎◌, inl, inr, ℕ, ◌+◌, ◌-◌, ◌<◌, ◌≤◌, List, [], ◌∷◌, ◌++◌, Some, None, Bool, IsTrue, refl, sym, ◌∙◌, ap, subst, arith, length, length-append}
+use Rattle.std.proofs.Common.{◌≡◌, ◌≢◌, ◌==◌, if◌then◌else◌, true, false, Err, Option, ◌⊎◌, inl, inr, ℕ, ◌+◌, ◌-◌, ◌<◌, ◌≤◌, List, [], ◌∷◌, ◌++◌, Some, None, Bool, IsTrue, refl, sym, ◌∙◌, ap, subst, arith, append_assoc, length, length-append}
 use Rattle.std.proofs.lemmas.Bool.{cases_eq}
 use Rattle.std.proofs.lemmas.List.{append-nil}
 use Rattle.ob_base.specs.declared.access.Access.{Access}
@@ -20,7 +20,7 @@ use Rattle.ob_vault.specs.State.{Start, RevState, VaultState, World, from_nothin
 use Rattle.ob_base.specs.Accesses.{writes, makes, nth_write, make_at}
 use Rattle.ob_base.specs.Accesses.{AllBelow}
 use Rattle.ob_vault.specs.Numbers.{number_after, last_number, IsNumber, IsStart}
-use Rattle.ob_vault.specs.Tied.{Ready, SealedAt, AllSealed, Fits, Calm, OnTurn, Holds, at_of}
+use Rattle.ob_vault.specs.Tied.{Ready, SealedAt, AllSealed, Fits, ReadsIn, Calm, OnTurn, Holds, at_of}
 use Rattle.ob_vault.specs.Calls.{Apart, Only, Lasts, Seals, Went, Cut, none, one}
 use Rattle.ob_vault.specs.VaultCalls.{MakesRegion, Forgets}
 use Rattle.ob_base.proofs.AccessLemmas.{number_read, number_make, number_discard, number_write_here, number_write_other, writes_read, writes_write, writes_make, writes_discard, makes_more, below_more, below_up, number_fresh, went_on, went_last}
@@ -137,8 +137,21 @@ world v s = record { vault = v; store = s }
 pub fits_lasts : (some : ℕ → Type 0) (old new : World) (lie : Lie) → Lasts some old new → Fits old.vault.keys old.vault.start lie → Fits new.vault.keys new.vault.start lie
 fits_lasts some old new lie lasts fits = subst (λ (k : KeySet). Fits k new.vault.start lie) (sym lasts.keys) (subst (λ (s : Start). Fits old.vault.keys s lie) (sym lasts.start) fits)
 
-pub calm_lasts : (some : ℕ → Type 0) (old new : World) → Lasts some old new → new.store.lie ≡ old.store.lie → Calm old → Calm new
-calm_lasts some old new lasts same calm = record { calm = λ lie is. fits_lasts some old new lie lasts (calm.calm lie (sym same ∙ is)) }
+pub reads_on : (lie : Lie) (asked more all : List Access) → all ≡ asked ++ more → ReadsIn lie asked → ReadsIn lie all
+reads_on lie asked more all is reads = record {
+  rest = reads.rest ++ more;
+  is = sym (append_assoc lie.before (Read lie.region lie.place ∷ reads.rest) more) ∙ ap (λ (l : List Access). l ++ more) reads.is ∙ sym is;
+}
+
+pub calm_lasts : (some : ℕ → Type 0) (old new : World) (more : List Access) → Lasts some old new → new.store.asked ≡ old.store.asked ++ more → new.store.lie ≡ old.store.lie → Calm old → Calm new
+calm_lasts some old new more lasts asked same calm = record {
+  calm = λ lie is. fits_lasts some old new lie lasts (calm.calm lie (sym same ∙ is));
+  within = λ lie is. reads_on lie old.store.asked more new.store.asked asked (calm.within lie (sym same ∙ is));
+}
+
+-- before the first lie
+pub calm_none : (w : World) → w.store.lie ≡ None → Calm w
+calm_none w none = record { calm = λ lie told. absurd (cc (told, none)); within = λ lie told. absurd (cc (told, none)) }
 
 -- no call
 pub lasts_none : (some : ℕ → Type 0) (w : World) → Ready w → Lasts some w w
@@ -234,7 +247,7 @@ forgets_region v revs s g others gone = record {
     lasts = lasts;
     did = did_none s;
     spare = omega arith;
-    calm = calm_lasts _ _ _ lasts refl;
+    calm = calm_lasts _ _ _ [] lasts (sym (append-nil s.asked)) refl;
   };
   seals = λ good. record {
     seals = λ tells all. record {
@@ -275,7 +288,7 @@ went_call a some old new lasts asks faults lie = record {
   lasts = lasts;
   did = did_call a old.store new.store asks faults;
   spare = asks.spare;
-  calm = calm_lasts some old new lasts lie;
+  calm = calm_lasts some old new (a ∷ []) lasts asks.asked lie;
 }
 
 module _ (v : VaultState) (revs : RevState) (old new : StoreState) (q x : ℕ) (shape : Region) (ready : Ready (world v old)) (lives : v.revs.live q ≡ Some shape)
@@ -402,7 +415,7 @@ cut_call a some old new lasts asks rises lie = record {
   lasts = lasts;
   began = began_call a old.store new.store asks;
   asks = λ some. asked_call a old.store new.store asks;
-  cause = (rises, calm_lasts some old new lasts lie);
+  cause = (rises, calm_lasts some old new (a ∷ []) lasts asks.asked lie);
 }
 
 -- a region that was made
@@ -495,7 +508,7 @@ cut_call_none a some old new lasts asks faults lie = record {
   lasts = lasts;
   began = began_call a old.store new.store asks;
   asks = λ some. absurd (some refl);
-  cause = (faults, calm_lasts some old new lasts lie);
+  cause = (faults, calm_lasts some old new (a ∷ []) lasts asks.asked lie);
 }
 
 -- no earlier run has left a number

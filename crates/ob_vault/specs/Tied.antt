@@ -1,6 +1,7 @@
 -- How a vault and its store belong together.
 use Rattle.std.specs.Prelude.{◌≡◌, ◌≢◌, ◌<◌, ◌≤◌, ◌+◌, ◌-◌, ℕ, Bool, IsTrue, List, [], ◌∷◌, ◌++◌, length, take, drop, Some, None}
 use Rattle.ob_base.specs.Accesses.{AllBelow}
+use Rattle.ob_base.specs.declared.access.Access.{Access}
 use Rattle.ob_base.specs.declared.access.Access.TheVariants.{Read}
 use Rattle.ob_store.specs.State.{Lie}
 use Rattle.ob_store.specs.Calls.{IsRegion}
@@ -75,9 +76,15 @@ pub record Fits (keys : KeySet) (start : Start) (lie : Lie) : Type 0 where
   pub tag : drop (length lie.bytes - 32) lie.bytes
       ≡ tag_of keys (at_lie start lie) (take (length lie.bytes - 32) lie.bytes)
 
--- no lie is told, or one that fits
+-- the read of a lie is one of these accesses
+pub record ReadsIn (lie : Lie) (accesses : List Access) : Type 0 where
+  pub rest : List Access
+  pub is : lie.before ++ Read lie.region lie.place ∷ rest ≡ accesses
+
+-- no lie is told, or one that was read and fits
 pub record Calm (w : World) : Type 0 where
   pub calm : (lie : Lie) → w.store.lie ≡ Some lie → Fits w.vault.keys w.vault.start lie
+  pub within : (lie : Lie) → w.store.lie ≡ Some lie → ReadsIn lie w.store.asked
 
 -- of the first changed block that was read, if there is one, the tag doesn't fit
 pub record IsUnfit (w : World) : Type 0 where

@@ -1,4 +1,4 @@
-use Rattle.std.proofs.Common.{refl, ◌≡◌, ◌+◌, ◌*◌, ◌<◌, ◌≤◌, ℕ, inl, inr, [], ◌++◌, List, length, take, rules, ◌∙◌, ap, subst, arith}
+use Rattle.std.proofs.Common.{refl, ◌≡◌, ◌+◌, ◌*◌, ◌<◌, ◌≤◌, ◌⊎◌, ℕ, inl, inr, ◌++◌, List, length, take, rules, ◌∙◌, ap, subst, arith}
 use borrow.Author.Count.{falls}
 use Rattle.std.proofs.lemmas.List.{take_all}
 use Rattle.std.proofs.lemmas.Result.{err_from_is_err_and}
@@ -10,7 +10,8 @@ use Rattle.ob_vault.proofs.Runs.{went_each, went_none, lives_went, written_went,
 use Rattle.ob_blocks.specs.Blocks.{block_at}
 use Rattle.ob_blocks.proofs.Blocks.{length-before}
 use Rattle.ob_flat.specs.Flats.{table_region, whole_blocks}
-use Rattle.ob_flat.specs.Words.{blocks_of}
+use Rattle.ob_flat.specs.declared.fault.OpErr.TheVariants.{Failed}
+use Rattle.ob_flat.specs.Words.{TamperedIn, blocks_of}
 use Rattle.ob_flat.specs.Passes.{pass_error}
 use Rattle.ob_flat.specs.Emission.{SlotsToHalt}
 use Rattle.ob_flat.proofs.Rooms.{same_rows}
@@ -20,10 +21,8 @@ use Rattle.ob_flat.proofs.Runs.{pass_of, pass_each}
 use Rattle.ob_flat.proofs.Tables.{written_lasts, reads, represents_lasts, block_long, got, whole_size, index_in}
 use Rattle.ob_emit.specs.Emitting.{slots_shown, table_shown}
 use Rattle.ob_emit.proofs.Events.{shown-block, shown-rest, shown-table}
-use Rattle.ob_emit.proofs.Emitted.{halted_whole}
-use Rattle.ob_emit.proofs.Halting.{pass_halted, sink_halted, halt_never, halt_told, halt_not_failed}
-use Rattle.ob_base.specs.Events.{row_events}
-use Rattle.ob_base.proofs.EventLemmas.{emitted_none, emitted_join, halted_join, halted_after, events_more}
+use Rattle.ob_emit.proofs.Halting.{pass_halted, sink_halted, halt_never, halt_told, ends_read, ends_join}
+use Rattle.ob_base.proofs.EventLemmas.{emitted_none, emitted_join, begun_after}
 use Rattle.ob_flat.proofs.Sinks.{sink_vault, none_before}
 use Rattle.ob_emit.proofs.emitting.emit_blocks.Goals as goal
 
@@ -76,23 +75,23 @@ returns-in_err-get-clause-emits g c =
     let before = c.loop-u.invariant in
     let cut = c.in_err-get.ensures.gets.err in
     let ended = pass_each none (read_at flat.region) _ _ _ _ (blocks_of pack flat) u below before.went (pass_of _ _ _ _ _ cut) in
-    let grown = halted_after g.E.Emit.grew g.E.Emit.grew [] (λ s. slots_shown flat.capacity cols 0 (take (u * pack) (whole_blocks pack flat.capacity s.slots))) (λ (s : SlotsToHalt pack flat _ _). row_events (table_shown cols s.slots)) 0 c.loop-u.k _ _ before.emitted
+    let refused : (pass_error _ ≡ Failed) ⊎ TamperedIn pack flat (pass_error _) _ = elim (get_refused pack flat u _ cut c.in_err-get.ensures.gets.never) [ inl failed ↦ inl failed | inr there ↦ inr (tampered_in below there) ] in
+    let grown = begun_after g.E.Emit.grew [] (λ s. slots_shown flat.capacity cols 0 (take (u * pack) (whole_blocks pack flat.capacity s.slots))) (λ (s : SlotsToHalt pack flat _ _). table_shown cols s.slots) 0 c.loop-u.k _ _ before.emitted
     (λ s.
     let whole = whole_blocks pack flat.capacity s.slots in
     let rest = shown-rest flat.capacity cols 0 (u * pack) whole in (
       record { slots = s.slots; is = s.is; nolie = none_before _ _ _ _ _ _ before.went cut.lasts s.nolie s.unfit },
-      row_events rest.0,
-      events_more [] (slots_shown flat.capacity cols 0 (take (u * pack) whole)) rest.0 (table_shown cols s.slots) (rest.1 ∙ shown-table flat.capacity cols (blocks_of pack flat * pack) s.slots s.is.size),
+      rest.0,
+      rest.1 ∙ shown-table flat.capacity cols (blocks_of pack flat * pack) s.slots s.is.size,
     )) in
     rw (p.1, p.2) (record {
       ran = record { ok = tt; err = ended };
-      never = elim (get_refused pack flat u _ cut c.in_err-get.ensures.gets.never) [ inl failed ↦ inl failed | inr there ↦ inr (inr (inr (tampered_in below there))) ];
+      never = elim refused [ inl failed ↦ inl failed | inr there ↦ inr (inr (inr there)) ];
       seals = record { seals = λ good. seals_join good _ _ _ before.went.lasts.later (before.seals good) (c.get.ensures.gets.seals good) };
       source = written_lasts pack flat none _ _ ended.lasts (λ s. s) c.requires.table.written;
       most = tt;
       emitted = tt;
-      halted = halted_whole grown;
-      failed = λ failed. grown;
+      halted = ends_read _ refused grown;
       cause = sink_vault ℕ _ _ _ before.faults;
       told = λ slots is nolie.
           let now = represents_lasts pack flat none _ _ before.went.lasts (λ x. x) slots is in
@@ -149,7 +148,7 @@ returns-in-Err-clause-emits g c =
       source = written_lasts pack flat none _ _ ended.lasts (λ s. s) c.requires.table.written;
       most = tt;
       emitted = tt;
-      halted = halted_join g.E.Emit.grew g.E.Emit.cut [] (λ s. slots_shown flat.capacity cols 0 (take (u * pack) (whole_blocks pack flat.capacity s.slots))) (λ s. row_events (slots_shown flat.capacity cols (u * pack) s.slots)) (λ s. row_events (table_shown cols s.slots)) 0 c.loop-u.k _ _ _ before.emitted block_of.halted
+      halted = ends_join g.E.Emit.grew g.E.Emit.cut halt flat.region u (λ s. slots_shown flat.capacity cols 0 (take (u * pack) (whole_blocks pack flat.capacity s.slots))) (λ s. slots_shown flat.capacity cols (u * pack) s.slots) (λ s. table_shown cols s.slots) 0 c.loop-u.k _ _ _ before.emitted block_of.halted
           (λ s.
           let slots = s.slots in
           let is = s.is in
@@ -164,11 +163,9 @@ returns-in-Err-clause-emits g c =
           let rest = shown-rest flat.capacity cols 0 ((u + 1) * pack) whole in (
             record { slots = slots; is = is; nolie = gone },
             record { slots = block; spelt = spelt },
-            row_events rest.0,
-            events_more (slots_shown flat.capacity cols 0 (take (u * pack) whole)) (slots_shown flat.capacity cols (u * pack) block) rest.0 (table_shown cols slots)
-                (ap (λ (l : List (List Shown)). l ++ rest.0) (shown-block flat.capacity cols pack u whole first) ∙ rest.1 ∙ shown-table flat.capacity cols (blocks_of pack flat * pack) slots is.size),
+            rest.0,
+            ap (λ (l : List (List Shown)). l ++ rest.0) (shown-block flat.capacity cols pack u whole first) ∙ rest.1 ∙ shown-table flat.capacity cols (blocks_of pack flat * pack) slots is.size,
           ));
-      failed = λ failed. absurd (halt_not_failed halt flat.region u (cc failed));
       cause = sink_halted ℕ ℕ flat.region u halt _ _ _ before.faults block_of.cause;
       told = λ slots is nolie.
           let now = represents_lasts pack flat none _ _ went.lasts (λ x. x) slots is in
@@ -247,7 +244,6 @@ returns-clause-emits g c =
             ∙ shown-table flat.capacity cols (blocks * pack) s.slots s.is.size;
       };
       halted = tt;
-      failed = λ is. absurd (cc is);
       cause = all.faults;
       told = λ slots is nolie. tt;
     }

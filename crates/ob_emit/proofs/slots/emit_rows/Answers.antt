@@ -6,8 +6,8 @@ use Rattle.ob_row.specs.Spelling.{Begins}
 use Rattle.ob_vault.proofs.RowsLemmas.{same_at}
 use Rattle.ob_emit.specs.Emitting.{slot_shown, slots_shown}
 use Rattle.ob_emit.proofs.Events.{shown-more, shown-rest, byte, within}
-use Rattle.ob_base.specs.Events.{row_events}
-use Rattle.ob_base.proofs.EventLemmas.{emitted_join, halted_join, events_more}
+use Rattle.ob_base.proofs.EventLemmas.{emitted_join}
+use Rattle.ob_emit.proofs.Halting.{halts_join}
 use Rattle.ob_emit.proofs.slots.emit_rows.Goals as goal
 
 pub returns-in-Err-clause-emits : goal.returns-in-Err-clause-emits
@@ -22,7 +22,7 @@ returns-in-Err-clause-emits g c =
     record {
       most = tt;
       emitted = tt;
-      halted = halted_join g.E.Emit.grew g.E.Emit.cut [] (λ s. slots_shown n cols first (take z s.slots)) (λ s. row_events (slot_shown n cols (first + z) s.slot)) (λ s. row_events (slots_shown n cols first s.slots)) c.args.seen c.loop-z.n _ _ _
+      halted = halts_join g.E.Emit.grew g.E.Emit.cut _ (λ s. slots_shown n cols first (take z s.slots)) (λ s. slot_shown n cols (first + z) s.slot) (λ s. slots_shown n cols first s.slots) c.args.seen c.loop-z.n _ _ _
           c.loop-z.invariant.emitted slot.halted
           (λ s.
           let slots = s.slots in
@@ -31,9 +31,8 @@ returns-in-Err-clause-emits g c =
           let rest = shown-rest n cols first (z + 1) slots in (
             s,
             record { slot = own; is = subst (Begins columns own) row (s.spelt.each z c.loop-z-test.true) },
-            row_events rest.0,
-            events_more (slots_shown n cols first (take z slots)) (slot_shown n cols (first + z) own) rest.0 (slots_shown n cols first slots)
-                (ap (λ (l : List (List Shown)). l ++ rest.0) (shown-more n cols first z slots inside) ∙ rest.1),
+            rest.0,
+            ap (λ (l : List (List Shown)). l ++ rest.0) (shown-more n cols first z slots inside) ∙ rest.1,
           ));
       read = tt;
       malformed = λ is s. slot.malformed is (record { slot = slice_index_or s.slots z None; is = subst (Begins columns (slice_index_or s.slots z None)) row (s.spelt.each z c.loop-z-test.true) });

@@ -1,4 +1,4 @@
-use Rattle.std.proofs.Common.{◌≡◌, ◌<◌, inr, [], ◌∷◌, Option, is_some, length, take, sym, ◌∙◌, ap, subst, arith}
+use Rattle.std.proofs.Common.{◌≡◌, ◌<◌, [], ◌∷◌, Option, is_some, length, take, sym, ◌∙◌, ap, subst, arith}
 use Rattle.ob_base.specs.Events.{Row as RowEvent, row_events}
 use Rattle.ob_row.specs.Rows.{Row}
 use Rattle.ob_row.specs.Spelling.{Begins}
@@ -36,7 +36,7 @@ returns-in-Err-row-clause-emits g c =
       emitted = tt;
       halted = record {
         events = RowEvent cells ∷ [];
-        ends = inr c.in-Err-row.ensures.err;
+        ends = c.in-Err-row.ensures.err;
         told = λ s.
             let is = c.in-Ok.ensures.spelled s.slot s.is in
             let some : c.in-Ok.real ≡ is_some s.slot = cc is in (

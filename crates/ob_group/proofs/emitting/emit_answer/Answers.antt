@@ -1,4 +1,4 @@
-use Rattle.std.proofs.Common.{inr, refl}
+use Rattle.std.proofs.Common.{refl}
 use Rattle.ob_base.specs.Events.{row_events}
 use Rattle.ob_group.specs.Grouping.{groups_shown}
 use Rattle.ob_group.specs.Labels.{header}
@@ -17,6 +17,6 @@ returns-in-Err g c =
     let head = header c.args.schema.now c.args.key c.args.items.now in
     record {
       emitted = tt;
-      halted = record { events = head; ends = inr c.in-Err.ensures.err; told = λ s. (row_events (groups_shown c.args.items.now s.groups), refl) };
+      halted = record { events = head; ends = c.in-Err.ensures.err; told = λ s. (row_events (groups_shown c.args.items.now s.groups), refl) };
       cause = c.in-Err.ensures.cause;
     }

@@ -1,12 +1,7 @@
-use Rattle.std.proofs.Common.{◌++◌, inl, inr, filter, length, refl, sym, ◌∙◌, arith}
-use Rattle.ob_base.specs.Events.{row_events}
-use Rattle.ob_base.proofs.EventLemmas.{halted_none}
-use Rattle.ob_row.specs.Slots.{rows}
+use Rattle.std.proofs.Common.{inl, inr, length, refl, sym, ◌∙◌, arith}
 use Rattle.ob_row.specs.Truth.{is_true}
-use Rattle.ob_row.specs.Totals.{grouped}
 use Rattle.ob_group.specs.declared.grouping.Grouped.{Grouped}
 use Rattle.ob_group.specs.Grouping.{groups_of}
-use Rattle.ob_group.specs.Labels.{header}
 use Rattle.ob_group.proofs.Answering.{seen_shown, seen_number, too_many, so_many, gave_up, unasked, not_sink}
 use Rattle.ob_group.proofs.grouping.group_table.Goals as goal
 
@@ -121,7 +116,7 @@ returns-in-Err-clause-answers g c =
       source = all.source;
       most = tt;
       emitted = tt;
-      halted = halted_none g.E.Emit.grew g.E.Emit.cut (λ s. header c.args.flat.now.schema c.args.key c.args.items.now ++ row_events (grouped c.args.key c.args.items.now (filter (is_true c.args.pred.now) (rows s.slots)))) c.args.out.now;
+      halted = λ either. not_sink all.never either;
       cause = unasked Grouped _ _ all.never;
       before = λ is. refl;
       after = λ either. not_sink all.never either;

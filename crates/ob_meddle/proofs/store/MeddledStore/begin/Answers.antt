@@ -3,7 +3,7 @@ use Rattle.ob_store.specs.Logs.{asked_of}
 use Rattle.ob_meddle.specs.Acts.{Rests, rests_of, stands_of, after_acts}
 use Rattle.ob_meddle.specs.Due.{fails_at}
 use Rattle.ob_meddle.proofs.DueLemmas.{more_asked, failed_few}
-use Rattle.ob_meddle.proofs.StoreLemmas.{fresh_more, counted_more, honest_more, early_more, caused_more}
+use Rattle.ob_meddle.proofs.StoreLemmas.{fresh_more, counted_more, honest_more, early_more}
 use Rattle.ob_meddle.proofs.ShowLemmas.{steady_as}
 use Rattle.ob_meddle.proofs.store.MeddledStore.begin.Goals as goal
 
@@ -41,7 +41,7 @@ invariant_of-self c =
       counted = omega (arith, counted_more old.list before more c.args.access e (old.faults + old.slips) false old.counted fails);
       honest = honest_more old.list before more c.args.access e old.regions c.do_acts.new.regions old.honest c.do_acts.ensures.rests stands;
       early = early_more old.list before more c.args.access e old.caught old.early;
-      caused = caused_more old.list before more c.args.access e old.caught old.caused;
+      caused = old.caused;
     }
 
 pub invariant_of-self-then-matches : goal.invariant_of-self-then-matches
@@ -59,7 +59,7 @@ invariant_of-self-then-matches c =
       counted = omega (arith, counted_more old.list before more c.args.access e (old.faults + old.slips) true old.counted fails);
       honest = honest_more old.list before more c.args.access e old.regions c.do_acts.new.regions old.honest c.do_acts.ensures.rests stands;
       early = early_more old.list before more c.args.access e old.caught old.early;
-      caused = caused_more old.list before more c.args.access e old.caught old.caused;
+      caused = old.caused;
     }
 
 pub invariant_of-self-else-matches : goal.invariant_of-self-else-matches
@@ -77,14 +77,14 @@ invariant_of-self-else-matches c =
       counted = omega (arith, counted_more old.list before more c.args.access e (old.faults + old.slips) true old.counted fails);
       honest = honest_more old.list before more c.args.access e old.regions c.do_acts.new.regions old.honest c.do_acts.ensures.rests stands;
       early = early_more old.list before more c.args.access e old.caught old.early;
-      caused = caused_more old.list before more c.args.access e old.caught old.caused;
+      caused = old.caused;
     }
 
 pub returns-then-not-fails_at-clause-steady : goal.returns-then-not-fails_at-clause-steady
-returns-then-not-fails_at-clause-steady c = let old = c.args.self.now in steady_as _ old.list old.caught refl (search rules) refl (search rules)
+returns-then-not-fails_at-clause-steady c = let old = c.args.self.now in steady_as _ old.list old.caught refl (search rules) refl (search rules) (search rules)
 
 pub returns-then-matches-clause-steady : goal.returns-then-matches-clause-steady
-returns-then-matches-clause-steady c = let old = c.args.self.now in steady_as _ old.list old.caught refl (search rules) refl (search rules)
+returns-then-matches-clause-steady c = let old = c.args.self.now in steady_as _ old.list old.caught refl (search rules) refl (search rules) (search rules)
 
 pub returns-else-matches-clause-steady : goal.returns-else-matches-clause-steady
-returns-else-matches-clause-steady c = let old = c.args.self.now in steady_as _ old.list old.caught refl (search rules) refl (search rules)
+returns-else-matches-clause-steady c = let old = c.args.self.now in steady_as _ old.list old.caught refl (search rules) refl (search rules) (search rules)

@@ -9,5 +9,5 @@ invariant_of-self c =
       counted = rw same old.counted;
       honest = rw same old.honest;
       early = rw same old.early;
-      caused = rw same old.caused;
+      caused = old.caused;
     }
