@@ -10,3 +10,6 @@ pub mod MeetLemmas
 pub mod OrderLemmas
 pub mod PlaceLemmas
 pub mod SlotwiseLemmas
+pub mod StepLemmas
+pub mod GoingLemmas
+pub mod HeightLemmas

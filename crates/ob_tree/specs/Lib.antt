@@ -5,3 +5,4 @@ pub mod Access
 pub mod Scripts
 pub mod Runs
 pub mod Slotwise
+pub mod Places

@@ -7,9 +7,10 @@ ghost use Rattle.ob_row.specs.Bags.{Same};
 ghost use Rattle.ob_tree.specs.Paths.{above, path, path_up, is_on_path};
 ghost use Rattle.ob_tree.specs.Rows.{firsts, but_firsts, by_key, rows, slots_of, Single};
 ghost use Rattle.ob_tree.specs.States.{State, Represents, Stands, map_of, held, leaf_of, bucket};
-ghost use Rattle.ob_tree.specs.Access.{Op, Done, Found, Duplicate, OutOfRange, Went, Evicted, key_of, applied, access, evict, evicted, leaf_read, take_path};
+ghost use Rattle.ob_tree.specs.Access.{Op, Done, Found, Duplicate, OutOfRange, Went, Evicted, key_of, applied, access, evict, evicted, leaf_read, take_path, fits_by};
 ghost use Rattle.ob_tree.specs.Runs.{run, created, map_after, map_answer, KeepsKey, AllKeep, RunsAsMap, ReadsDraws, leaf_at, draws_read, last_given, insert_from, small_ops};
 ghost use Rattle.ob_tree.specs.Slotwise.{laid, slot_tests, laid_slots, left_behind};
+ghost use Rattle.ob_tree.specs.Places.{tests, InPlace};
 ghost use Rattle.ob_tree.specs.Scripts.{numbers, path_places, read_script, access_script};
 
 /// A row and its key.
@@ -136,4 +137,13 @@ pub fn small_session()
     ensures first { slice_index_or (run (λ (k : ℕ). k) 2 (created 2 2 (0 ∷ 1 ∷ 2 ∷ 3 ∷ [])) (take 1 small_ops)).state.tree 8 None ≡ Some 3 }
     ensures then { slice_index_or (run (λ (k : ℕ). k) 2 (created 2 2 (0 ∷ 1 ∷ 2 ∷ 3 ∷ [])) (take 2 small_ops)).state.tree 0 None ≡ Some 3 }
     ensures script { length (access_script 2 2 0) ≡ 28 }
+{}
+
+/// A loop over the slots of a buffer by heights above the leaf leaves what an eviction over the buckets of the path does.
+pub fn heights_are_paths<R: Keyed>()
+    ensures laid { (h leaf t : ℕ) (lf : R → ℕ) (leaves : List ℕ) (e : Evicted R) → leaf < 2 ^ h → All (InPlace R.key lf h leaves) e.left
+        → length (evict (fits_by R.key h leaves) (path_up h leaf) e).left ≤ t
+        → laid_slots (tests lf leaf h 0 (4 * (h + 1) + t)) e.left ≡ laid (fits_by R.key h leaves) (path_up h leaf) t e.left }
+    ensures full { (h leaf t : ℕ) (lf : R → ℕ) (leaves : List ℕ) (e : Evicted R) → leaf < 2 ^ h → All (InPlace R.key lf h leaves) e.left
+        → length (left_behind (tests lf leaf h 0 (4 * (h + 1) + t)) e.left) ≡ length (evict (fits_by R.key h leaves) (path_up h leaf) e).left - t }
 {}
