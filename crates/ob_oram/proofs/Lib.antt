@@ -1,2 +1,4 @@
 pub mod Keys
+pub mod Heights
 pub mod Creates
+pub mod Seeing

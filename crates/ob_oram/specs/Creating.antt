@@ -69,12 +69,6 @@ pub record MadeRegions (tree stash : Flat) (made : ℕ × ℕ) (old new : World)
   pub told : IsTrue old.store.tells → Represents 1 tree (empty_slots tree.capacity) new
       × Represents 1 stash (empty_slots stash.capacity) new
 
--- a row was open at most, and all are free again
-pub record OneOpened (old new : RoomState) : Type 0 where
-  pub same : new ≡ record old { high = new.high }
-  pub least : old.high ≤ new.high
-  pub most : new.high ≤ max old.high 1
-
 -- an index with no row was made, or its regions are gone
 pub record CreatesIndex (columns : Columns) (capacity slots : ℕ) (draws : List ℕ)
     (result : Result Index OpErr) (old new : World) : Type 0 where

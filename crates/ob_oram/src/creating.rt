@@ -14,7 +14,7 @@ ghost use Rattle.ob_flat.specs.Words.{FitBlock};
 ghost use Rattle.ob_flat.specs.Creates.{CreatesRegion, table_of};
 ghost use Rattle.ob_oram.specs.Heights.{IsHeight, leaf_of_draw, rows_open, tree_blocks};
 ghost use Rattle.ob_oram.specs.Keys.{IsIntKey};
-ghost use Rattle.ob_oram.specs.Creating.{CreatesIndex, CreatesRegions, MadeRegions, OneOpened, new_tree, new_stash};
+ghost use Rattle.ob_oram.specs.Creating.{CreatesIndex, CreatesRegions, MadeRegions, new_tree, new_stash};
 
 use crate::index::Index;
 use crate::held::Held;
@@ -88,6 +88,17 @@ fn key_index(columns: &[Column]) -> Option<usize>
     columns.iter().position(|column| column.key)
 }
 
+// The region of so many slots, one in each block.
+fn region_of_slots(schema: &Schema, slots: u32, order: Order) -> Region
+    ensures { result ≡ table_region order 1 schema.now slots }
+{
+    Region {
+        blocks: slots,
+        width: width(schema),
+        order,
+    }
+}
+
 // Makes a region of one slot a block and writes this row, which is a dummy, to each of its places.
 fn create_region<S: BlockStore, R: Revisions>(
     store: &mut S,
@@ -106,18 +117,21 @@ fn create_region<S: BlockStore, R: Revisions>(
         (at R.state vault.old (S.state store.old)) (at R.state vault.new (S.state store.new)) }
 {
     let region = make_table(store, vault, schema, slots, 1, order)?;
-    let shape = Region {
-        blocks: slots,
-        width: width(schema),
-        order,
-    };
-    match fill_blocks(store, vault, rows, region, shape) {
+    match fill_blocks(store, vault, rows, region, region_of_slots(schema, slots, order)) {
         Ok(()) => Ok(region),
         Err(e) => {
             vault.forget(region);
             Err(OpErr::from(e))
         }
     }
+}
+
+// The blocks of a tree.
+fn tree_size(height: u32) -> u32
+    requires { height ≤ 24 }
+    ensures { result ≡ tree_blocks height }
+{
+    4 * ((2 << height) - 1)
 }
 
 // Makes the regions of a tree and of a stash, and fills them with dummies.
@@ -142,16 +156,72 @@ fn create_regions<S: BlockStore, R: Revisions>(
         (at R.state vault.old (S.state store.old)) (at R.state vault.new (S.state store.new)) }
     ensures made { IfOk result (λ made. MadeRegions (new_tree schema.now height vault.old.next)
         (new_stash schema.now slots vault.old.next) made
-        (at R.state vault.old (S.state store.old)) (at R.state vault.new (S.state store.new))) }
+        (at R.state vault.old (S.state store.old))
+        (at R.state vault.new (S.state store.new))) }
 {
-    let blocks = 4 * ((2 << height) - 1);
-    let tree = create_region(store, vault, rows, schema, blocks, Order::Any)?;
-    match create_region(store, vault, rows, schema, slots, Order::Round) {
-        Ok(stash) => Ok((tree, stash)),
-        Err(e) => {
-            vault.forget(tree);
-            Err(e)
+    let blocks = tree_size(height);
+    let first = create_region(store, vault, rows, schema, blocks, Order::Any);
+    match first {
+        Ok(tree) => {
+            let second = create_region(store, vault, rows, schema, slots, Order::Round);
+            match second {
+                Ok(stash) => Ok((tree, stash)),
+                Err(e) => {
+                    vault.forget(tree);
+                    Err(e)
+                }
+            }
         }
+        Err(e) => Err(e),
+    }
+}
+
+// The same index, by way of this row, which is a dummy.
+fn create_index<S: BlockStore, R: Revisions>(
+    alloc: Global,
+    store: &mut S,
+    vault: &mut Vault<R>,
+    rows: &[ClearRow],
+    schema: &Schema,
+    capacity: u32,
+    stash: u32,
+    draws: &[u64],
+) -> Result<Index, OpErr>
+    requires starts { (height : ℕ) → IsHeight capacity height
+        → MayStart (2 + tree_blocks height + stash) (at R.state vault.old (S.state store.old)) }
+    requires size { IsSized schema.now capacity }
+    requires key { (place : ℕ) × IsIntKey schema.now place }
+    requires stash { (1 ≤ stash) × (stash ≤ 1024) }
+    requires draws { length draws.now ≡ capacity }
+    requires one { length rows.now ≡ 1 }
+    requires fit { FitBlock schema.now rows.now }
+    requires dummies { Spelt schema.now (none_of 1) rows.now }
+    ensures creates { CreatesIndex schema.now capacity stash draws.now result
+        (at R.state vault.old (S.state store.old)) (at R.state vault.new (S.state store.new)) }
+{
+    let height = height_for(capacity);
+    let leaves = match leaves_for(alloc, draws, height) {
+        Ok(leaves) => leaves,
+        Err(e) => return Err(e),
+    };
+    let buffer = match empty_buffer(alloc, height, stash) {
+        Ok(buffer) => buffer,
+        Err(e) => return Err(e),
+    };
+    let made = create_regions(store, vault, rows, schema, height, stash);
+    match made {
+        Ok(regions) => Ok(Index {
+            schema: schema.copied(),
+            capacity,
+            key: key_place(schema),
+            slots: stash,
+            height,
+            tree: regions.0,
+            stash: regions.1,
+            leaves,
+            buffer,
+        }),
+        Err(e) => Err(e),
     }
 }
 
@@ -176,28 +246,13 @@ pub fn create<S: BlockStore, R: Revisions>(
     requires stash { (1 ≤ stash) × (stash ≤ 1024) }
     requires draws { length draws.now ≡ capacity }
     requires room { IsIdle (width schema.now) room.old }
-    ensures room { OneOpened room.old room.new }
+    ensures room { room.new ≡ record room.old { high = max room.old.high 1 } }
     ensures creates { CreatesIndex schema.now capacity stash draws.now result
         (at R.state vault.old (S.state store.old)) (at R.state vault.new (S.state store.new)) }
 {
-    let height = height_for(capacity);
-    let leaves = leaves_for(alloc, draws, height)?;
-    let buffer = empty_buffer(alloc, height, stash)?;
+    let _ = room.rows();
     let rows = room.open(1);
-    let result = create_regions(store, vault, rows, schema, height, stash);
+    let result = create_index(alloc, store, vault, rows, schema, capacity, stash, draws);
     room.clear_shelf();
-    match result {
-        Ok((tree, stash_region)) => Ok(Index {
-            schema: schema.copied(),
-            capacity,
-            key: key_place(schema),
-            slots: stash,
-            height,
-            tree,
-            stash: stash_region,
-            leaves,
-            buffer,
-        }),
-        Err(e) => Err(e),
-    }
+    result
 }

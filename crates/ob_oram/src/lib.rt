@@ -8,6 +8,7 @@ mod fault;
 mod held;
 mod index;
 mod op;
+mod placing;
 mod walk;
 
 pub use accessing::access;

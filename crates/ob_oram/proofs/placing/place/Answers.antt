@@ -1,0 +1,29 @@
+use Rattle.std.proofs.Common.{◌≡◌, ◌∙◌, arith}
+use Rattle.std.proofs.lemmas.Bool.{false≢true}
+use Rattle.ob_tree.proofs.GoingLemmas.{going_more, going_stuck}
+use Rattle.ob_oram.proofs.placing.place.Goals as goal
+
+pub returns-then-not-step-clause-sees : goal.returns-then-not-step-clause-sees
+returns-then-not-step-clause-sees c = λ columns key lf slots sees.
+    let was = c.loop-i.invariant.sees columns key lf slots sees in
+    let now = c.if-not-step.ensures.sees columns key lf was.0 was.1 in
+    (now.0, now.1, record {
+      placed = λ single never. absurd (false≢true never);
+      full = λ single.
+          let go = was.2 single in
+          let some = going_stuck key lf c.args.leaf c.args.height c.args.n c.loop-i.i c.height_of-above.result slots was.0 c.loop-i-test.true c.height_of-above.ensures.is go (now.2.step go.single) in
+          ((λ never. absurd (false≢true never)), (λ none. absurd (omega (arith, some, none))));
+    })
+
+pub loop-i-preserved : goal.loop-i-preserved
+loop-i-preserved c = record {
+  count = c.step.ensures.count.0 ∙ c.loop-i.invariant.count;
+  count_rows = c.step.ensures.count.1 ∙ c.loop-i.invariant.count_rows;
+  wide = λ w is. c.step.ensures.wide w (c.loop-i.invariant.wide w is);
+  sees = λ columns key lf slots sees.
+      let was = c.loop-i.invariant.sees columns key lf slots sees in
+      let now = c.if-not-step.ensures.sees columns key lf was.0 was.1 in
+      (now.0, now.1, λ single.
+          let go = was.2 single in
+          going_more key lf c.args.leaf c.args.height c.args.n c.loop-i.i c.height_of-above.result slots was.0 now.0 c.loop-i-test.true c.height_of-above.ensures.is go (now.2.step go.single));
+}
