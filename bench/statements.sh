@@ -8,7 +8,7 @@ work=$(mktemp -d)
 trap 'rm -rf "$work"' EXIT
 
 for name in oblitrace ob_pass_bench; do
-    (cd "$top/crates/$name" && rt run >"$work/$name.log" 2>&1 </dev/null) || {
+    (cd "$top/crates/$name" && rt run >"$work/$name.log" 2>&1 <stdin) || {
         tail -5 "$work/$name.log"
         exit 1
     }

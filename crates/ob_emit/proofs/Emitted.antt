@@ -52,7 +52,7 @@ module _ {E : Type 0} {grew cut : E → E → List Event → Type 0} {faults : E
     source = written;
     most = tt;
     emitted = tt;
-    halted = ends_given e either (record { events = head; ends = leads; told = λ s. (row_events (table_shown cols s.slots), refl) });
+    halted = ends_given grew cut head (λ s. table_shown cols s.slots) e either (record { events = head; ends = leads; told = λ s. (row_events (table_shown cols s.slots), refl) });
     cause = cause;
     told = λ slots is nolie. inr either;
   }

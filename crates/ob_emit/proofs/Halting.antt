@@ -97,17 +97,17 @@ module _ {E : Type 0} (grew cut : E → E → List Event → Type 0) where
   ends_under NoMemory head shown a b c leads is = halted_under grew cut head (λ s. row_events (shown s)) a b c leads is
 
 -- a block was not read
-pub ends_read : {E A : Type 0} {grew cut : E → E → List Event → Type 0} {pack : ℕ} {flat : Flat} {w : World} {head : List Event} {shown : A → List (List Shown)} {a b : E} (e : OpErr)
+pub ends_read : {E A : Type 0} {pack : ℕ} {flat : Flat} {w : World} {a b : E} (grew cut : E → E → List Event → Type 0) (head : List Event) (shown : A → List (List Shown)) (e : OpErr)
     → (e ≡ Failed) ⊎ TamperedIn pack flat e w → IsBegun grew head shown a b → EndsAs grew cut e head shown a b
-ends_read Failed either begun = begun
-ends_read (Tampered q p) either begun = begun
-ends_read Sink either begun = elim either [ inl failed ↦ absurd (cc failed) | inr there ↦ absurd (cc there.is) ]
-ends_read NoMemory either begun = elim either [ inl failed ↦ absurd (cc failed) | inr there ↦ absurd (cc there.is) ]
+ends_read grew cut head shown Failed either begun = begun
+ends_read grew cut head shown (Tampered q p) either begun = begun
+ends_read grew cut head shown Sink either begun = elim either [ inl failed ↦ absurd (cc failed) | inr there ↦ absurd (cc there.is) ]
+ends_read grew cut head shown NoMemory either begun = elim either [ inl failed ↦ absurd (cc failed) | inr there ↦ absurd (cc there.is) ]
 
 -- the emitter gave up
-pub ends_given : {E A : Type 0} {grew cut : E → E → List Event → Type 0} {head : List Event} {shown : A → List (List Shown)} {a b : E} (e : OpErr)
+pub ends_given : {E A : Type 0} {a b : E} (grew cut : E → E → List Event → Type 0) (head : List Event) (shown : A → List (List Shown)) (e : OpErr)
     → (e ≡ Sink) ⊎ (e ≡ NoMemory) → IsHalted grew cut (λ s. head ++ row_events (shown s)) a b → EndsAs grew cut e head shown a b
-ends_given Failed either halted = elim either [ inl sink ↦ absurd (cc sink) | inr memory ↦ absurd (cc memory) ]
-ends_given (Tampered q p) either halted = elim either [ inl sink ↦ absurd (cc sink) | inr memory ↦ absurd (cc memory) ]
-ends_given Sink either halted = halted
-ends_given NoMemory either halted = halted
+ends_given grew cut head shown Failed either halted = elim either [ inl sink ↦ absurd (cc sink) | inr memory ↦ absurd (cc memory) ]
+ends_given grew cut head shown (Tampered q p) either halted = elim either [ inl sink ↦ absurd (cc sink) | inr memory ↦ absurd (cc memory) ]
+ends_given grew cut head shown Sink either halted = halted
+ends_given grew cut head shown NoMemory either halted = halted

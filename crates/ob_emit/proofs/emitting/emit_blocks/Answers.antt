@@ -1,4 +1,4 @@
-use Rattle.std.proofs.Common.{refl, ◌≡◌, ◌+◌, ◌*◌, ◌<◌, ◌≤◌, ◌⊎◌, ℕ, inl, inr, ◌++◌, List, length, take, rules, ◌∙◌, ap, subst, arith}
+use Rattle.std.proofs.Common.{refl, ◌≡◌, ◌+◌, ◌*◌, ◌<◌, ◌≤◌, ◌⊎◌, ℕ, inl, inr, [], ◌++◌, List, length, take, rules, ◌∙◌, ap, subst, arith}
 use borrow.Author.Count.{falls}
 use Rattle.std.proofs.lemmas.List.{take_all}
 use Rattle.std.proofs.lemmas.Result.{err_from_is_err_and}
@@ -91,7 +91,7 @@ returns-in_err-get-clause-emits g c =
       source = written_lasts pack flat none _ _ ended.lasts (λ s. s) c.requires.table.written;
       most = tt;
       emitted = tt;
-      halted = ends_read _ refused grown;
+      halted = ends_read g.E.Emit.grew g.E.Emit.cut [] (λ s. table_shown cols s.slots) _ refused grown;
       cause = sink_vault ℕ _ _ _ before.faults;
       told = λ slots is nolie.
           let now = represents_lasts pack flat none _ _ before.went.lasts (λ x. x) slots is in
