@@ -2,3 +2,5 @@ pub mod Keys
 pub mod Heights
 pub mod Creates
 pub mod Seeing
+pub mod Regions
+pub mod Made

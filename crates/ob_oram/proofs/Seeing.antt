@@ -1,6 +1,6 @@
 -- What the buffer knows of the open rows, while they are put in their places.
 use Rattle.std.proofs.Common.{◌≡◌, ◌≢◌, ◌<◌, ◌≤◌, ℕ, Bool, true, false, List, Option, Some, None, length, take, drop, get_or, set, inl, inr, refl, sym, ◌∙◌, ap, subst, arith}
-use Rattle.std.proofs.Common.{[], get_or-set_same, get_or-set_other}
+use Rattle.std.proofs.Common.{[], ◌∷◌, get_or-set_same, get_or-set_other}
 use Rattle.std.proofs.lemmas.Bool.{cases_eq}
 use Rattle.std.proofs.lemmas.List.{length-set}
 use Rattle.std.specs.Option.{option_map}
@@ -14,7 +14,9 @@ use Rattle.ob_tree.specs.Places.{lies_at, IsLeast, NoneLies, StepDone, StepFull}
 use Rattle.ob_tree.specs.Rows.{rows, Single}
 use Rattle.ob_tree.proofs.StepLemmas.{exchanged, picked, emptied, stuck}
 use Rattle.ob_oram.specs.declared.held.Held.{Held}
-use Rattle.ob_oram.specs.Buffers.{held_key, held_leaf, held_of, Sees, Steps}
+use Rattle.ob_oram.specs.Buffers.{held_key, held_leaf, held_of, Sees, Steps, Places}
+use Rattle.ob_tree.proofs.GoingLemmas.{Going, going_end}
+use Rattle.std.proofs.lemmas.Bool.{false≢true}
 
 -- what a held row stands for
 record IsHeldBy (key lf : Row → ℕ) (held : Held) (slot : Option Row) : Type 0 where
@@ -78,6 +80,9 @@ module _ (columns : Columns) (key lf : Row → ℕ) (slots : Slots) (buffer : Li
   pub empty_seen : (k : ℕ) → get_or buffer k None ≡ None → get_or slots k None ≡ None
   empty_seen k is = none_held key lf (get_or slots k None) (sym (sees.held k) ∙ is)
 
+  pub row_seen : (k : ℕ) (held : Held) → get_or buffer k None ≡ Some held → (row : Row) × (get_or slots k None ≡ Some row)
+  row_seen k held is = let here = held_by key lf held (get_or slots k None) (sym (sees.held k) ∙ is) in (here.row, here.is)
+
   some_slot : (slot : Option Row) → IsSome (option_map (held_of key lf) slot) → IsSome slot
   some_slot None is = is
   some_slot (Some row) is = is
@@ -125,3 +130,22 @@ module _ (columns : Columns) (key lf : Row → ℕ) (slots : Slots) (buffer : Li
   step_full leaf height i none each =
       let whole = subst (λ (n : ℕ). NoneLies lf leaf height slots i n) (sym sees.count) (none_seen leaf height i (length buffer) none) in
       record { step = λ single. stuck key lf leaf height i slots whole (λ k low high. some_seen k (each k low (omega (arith, high, sees.count)))) }
+
+-- behind the last slot
+module _ (key lf : Row → ℕ) (leaf height n i : ℕ) (slots now : Slots) (most : i ≤ n) (least : n ≤ i) (go : Single key (rows slots) → Going key lf leaf height n i slots now) where
+  whole : Single key (rows slots) → Going key lf leaf height n n slots now
+  whole single = let last : i ≡ n = omega (arith, most, least) in subst (λ (k : ℕ). Going key lf leaf height n k slots now) last (go single)
+
+  pub placed_all : get_or now n None ≡ None → Places key lf leaf height n slots now true
+  placed_all is = record {
+    placed = λ single _. (going_end key lf leaf height n slots now (whole single)).0;
+    full = λ single. ((λ _. (going_end key lf leaf height n slots now (whole single)).1 ∙ ap (λ (s : Option Row). length (rows (s ∷ []))) is), (λ _. refl));
+  }
+
+  pub placed_not : (row : Row) → get_or now n None ≡ Some row → Places key lf leaf height n slots now false
+  placed_not row is = record {
+    placed = λ single never. absurd (false≢true never);
+    full = λ single.
+        let one = (going_end key lf leaf height n slots now (whole single)).1 ∙ ap (λ (s : Option Row). length (rows (s ∷ []))) is in
+        ((λ never. absurd (false≢true never)), (λ none. absurd (cc (none, one))));
+  }

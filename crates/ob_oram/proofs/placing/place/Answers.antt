@@ -1,6 +1,7 @@
-use Rattle.std.proofs.Common.{◌≡◌, ◌∙◌, arith}
+use Rattle.std.proofs.Common.{◌≡◌, ◌∙◌, Some, None, get_or, arith}
 use Rattle.std.proofs.lemmas.Bool.{false≢true}
 use Rattle.ob_tree.proofs.GoingLemmas.{going_more, going_stuck}
+use Rattle.ob_oram.proofs.Seeing.{empty_seen, row_seen, placed_all, placed_not}
 use Rattle.ob_oram.proofs.placing.place.Goals as goal
 
 pub returns-then-not-step-clause-sees : goal.returns-then-not-step-clause-sees
@@ -27,3 +28,17 @@ loop-i-preserved c = record {
           let go = was.2 single in
           going_more key lf c.args.leaf c.args.height c.args.n c.loop-i.i c.height_of-above.result slots was.0 now.0 c.loop-i-test.true c.height_of-above.ensures.is go (now.2.step go.single));
 }
+
+pub returns-in-None-clause-sees : goal.returns-in-None-clause-sees
+returns-in-None-clause-sees c = λ columns key lf slots sees.
+    let was = c.loop-i.invariant.sees columns key lf slots sees in
+    let is : get_or c.loop-i.buffer c.args.n None ≡ None = c.in-None.is in
+    (was.0, was.1, placed_all key lf c.args.leaf c.args.height c.args.n c.loop-i.i slots was.0 c.loop-i.auto.i-end c.loop-i-test.false was.2
+    (empty_seen columns key lf was.0 c.loop-i.buffer c.loop-i.rows was.1 c.args.n is))
+
+pub returns-in-Some-clause-sees : goal.returns-in-Some-clause-sees
+returns-in-Some-clause-sees c = λ columns key lf slots sees.
+    let was = c.loop-i.invariant.sees columns key lf slots sees in
+    let is : get_or c.loop-i.buffer c.args.n None ≡ Some c.in-Some.field-0 = c.in-Some.is in
+    let here = row_seen columns key lf was.0 c.loop-i.buffer c.loop-i.rows was.1 c.args.n c.in-Some.field-0 is in
+    (was.0, was.1, placed_not key lf c.args.leaf c.args.height c.args.n c.loop-i.i slots was.0 c.loop-i.auto.i-end c.loop-i-test.false was.2 here.0 here.1)
