@@ -22,7 +22,7 @@ use Rattle.ob_tree.proofs.PlaceLemmas.{stands_too}
 use Rattle.ob_oram.specs.declared.index.Index.{Index}
 use Rattle.ob_oram.specs.Keys.{IsIntKey}
 use Rattle.ob_oram.specs.Heights.{IsHeight, AreLeaves, leaf_of_draw, rows_open, tree_blocks}
-use Rattle.ob_oram.specs.Indexes.{IsIndex, Lies, leaves_of, key_of, tree_of, stash_of}
+use Rattle.ob_oram.specs.Indexes.{IsIndex, IsMap, Lies, leaves_of, key_of, tree_of, stash_of}
 use Rattle.ob_oram.specs.Creating.{IsFresh, MadeRegions, CreatesRegions, new_tree, new_stash}
 use Rattle.ob_oram.proofs.Heights.{blocks_few, blocks_some}
 use Rattle.ob_oram.proofs.Creates.{one_each}
@@ -108,6 +108,13 @@ module _ (index : Index) (columns : Columns) (capacity slots next : ℕ) (draws 
     };
     stands = stands_too (key_of index) index.height (created index.height slots (leaves_of index)) (λ k. None)
         (created_represents (key_of index) index.height slots (leaves_of index) (λ k less. below k));
+  }
+
+  pub made_map : IsTrue old.store.tells → IsMap index (λ k. None) new
+  made_map tells = record {
+    state = created index.height slots (leaves_of index);
+    lies = (made_lies tells).lies;
+    represents = created_represents (key_of index) index.height slots (leaves_of index) (λ k less. below k);
   }
 
 -- the same, beside another value

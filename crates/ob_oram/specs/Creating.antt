@@ -17,7 +17,7 @@ use Rattle.ob_flat.specs.Creates.{table_of, make_script, create_script}
 use Rattle.ob_tree.specs.Runs.{created}
 use Rattle.ob_oram.specs.declared.index.Index.{Index}
 use Rattle.ob_oram.specs.Heights.{IsHeight, tree_blocks, leaf_of_draw}
-use Rattle.ob_oram.specs.Indexes.{IsIndex, Lies, leaves_of}
+use Rattle.ob_oram.specs.Indexes.{IsIndex, IsMap, Lies, leaves_of}
 
 -- the tables that an index has when it is made in a vault whose next region has this number
 abbrev pub new_tree : (columns : Columns) (height region : ℕ) → Flat
@@ -79,3 +79,5 @@ pub record CreatesIndex (columns : Columns) (capacity slots : ℕ) (draws : List
   pub index : IfOk result (λ index. IsIndex index new)
   pub told : IfOk result (λ index. IsTrue old.store.tells
       → Lies index (created index.height slots (leaves_of index)) new)
+  -- which stands for the map that has no row
+  pub empty : IfOk result (λ index. IsTrue old.store.tells → IsMap index (λ k. None) new)

@@ -1,5 +1,5 @@
 -- The keys of rows: the numbers from 0 to n - 1.
-use Rattle.std.specs.Prelude.{◌≡◌, ◌<◌, ℕ, ℤ, pos, negsuc, nat_lt, List, Option, Some, None, length, if◌then◌else◌}
+use Rattle.std.specs.Prelude.{◌≡◌, ◌<◌, ℕ, ℤ, pos, negsuc, nat_lt, Option, Some, None, length, if◌then◌else◌}
 use Rattle.ob_base.specs.Schemas.{Columns, key_place}
 use Rattle.ob_base.specs.declared.schema.Kind.TheVariants.{Int as IntKind}
 use Rattle.ob_row.specs.declared.cell.Cell.{Cell}
@@ -26,8 +26,3 @@ pub record IsIntKey (columns : Columns) (place : ℕ) : Type 0 where
   pub primary : key_place columns ≡ Some place
   pub within : place < length columns
   pub int : kind_at columns place ≡ IntKind
-
--- a row whose key is none of these is taken as a dummy
-abbrev pub keyed : (n place : ℕ) → Option Row → Option Row
-keyed n place None = None
-keyed n place (Some row) = if nat_lt (row_key n place row) n then Some row else None

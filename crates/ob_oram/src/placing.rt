@@ -96,7 +96,7 @@ fn step(
 
 // Puts the rows of a buffer into the slots of a leaf's path, from the leaf up, and then into those of the stash, in
 // place. The last slot is for the row that an insert adds. False where a row is left for which there is no slot.
-pub(crate) fn place(
+pub fn place(
     buffer: &mut [Option<Held>],
     rows: &mut [ClearRow],
     n: usize,

@@ -6,7 +6,7 @@ use Rattle.ob_oram.specs.declared.index.Index.{Index}
 use Rattle.ob_oram.specs.Heights.{rows_open}
 use Rattle.ob_oram.specs.Creating.{CreatesRegions, IsFresh, new_tree, new_stash}
 use Rattle.ob_oram.proofs.Regions.{regions_never}
-use Rattle.ob_oram.proofs.Made.{one_height, tree_fits, made_index, made_lies, regions_ok, regions_err}
+use Rattle.ob_oram.proofs.Made.{one_height, tree_fits, made_index, made_lies, made_map, regions_ok, regions_err}
 use Rattle.ob_oram.proofs.creating.create_index.Goals as goal
 
 pub returns-in-Err : goal.returns-in-Err
@@ -19,6 +19,7 @@ returns-in-Err g c =
         fresh = tt;
         index = tt;
         told = tt;
+        empty = tt;
       };
     })
 
@@ -32,6 +33,7 @@ returns-in-Err-empty_buffer g c =
         fresh = tt;
         index = tt;
         told = tt;
+        empty = tt;
       };
     })
 
@@ -77,6 +79,7 @@ returns-in-Ok-made g c =
         fresh = fresh;
         index = made_index index columns c.args.capacity c.args.stash next c.args.draws.now fresh c.requires.size c.key_place.ensures is c.requires.draws c.requires.stash.0 c.requires.stash.1 size _ old new made;
         told = made_lies index columns c.args.capacity c.args.stash next c.args.draws.now fresh c.requires.size c.key_place.ensures is c.requires.draws c.requires.stash.0 c.requires.stash.1 size _ old new made;
+        empty = made_map index columns c.args.capacity c.args.stash next c.args.draws.now fresh c.requires.size c.key_place.ensures is c.requires.draws c.requires.stash.0 c.requires.stash.1 size _ old new made;
       };
     }
 
@@ -94,5 +97,6 @@ returns-in-Err-made g c =
         fresh = tt;
         index = tt;
         told = tt;
+        empty = tt;
       };
     }

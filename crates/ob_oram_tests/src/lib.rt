@@ -1,0 +1,4 @@
+//! Tests of indexes.
+#![tactic(auto)]
+
+mod creates;
