@@ -61,7 +61,8 @@ fn leaves_for(alloc: Global, draws: &[u64], height: u32) -> Result<Vec<u32>, OpE
 fn empty_buffer(alloc: Global, height: u32, slots: u32) -> Result<Vec<Option<Held>>, OpErr>
     requires { (height ≤ 24) × (slots ≤ 1024) }
     ensures never { IfErr result (λ e. e ≡ NoMemory) }
-    ensures buffer { IfOk result (λ buffer. buffer.items ≡ replicate (rows_open height slots) None) }
+    ensures buffer { IfOk result
+        (λ buffer. buffer.items ≡ replicate (rows_open height slots) None) }
 {
     match Vec::from_elem(alloc, None, (slots + 4 * (height + 1) + 1) as usize) {
         Ok(buffer) => Ok(buffer),

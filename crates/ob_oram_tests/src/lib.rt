@@ -1,4 +1,5 @@
 //! Tests of indexes.
 #![tactic(auto)]
 
+#[cfg(test)]
 mod creates;
