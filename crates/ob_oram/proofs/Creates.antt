@@ -1,10 +1,9 @@
 -- The regions of an index, as they are made.
-use Rattle.std.proofs.Common.{◌≡◌, ◌≤◌, ◌<◌, ◌+◌, ◌*◌, ℕ, List, length, subst, refl, sym, ◌∙◌, ap, arith}
+use Rattle.std.proofs.Common.{◌≡◌, ◌*◌, ℕ, sym, arith}
 use Rattle.ob_base.specs.Numbers.{blocks_for}
 use Rattle.ob_base.specs.Schemas.{Columns, width}
 use Rattle.ob_vault.specs.declared.region.Region.{Region}
 use Rattle.ob_vault.specs.declared.region.Order.{Order}
-use Rattle.ob_vault.specs.Places.{RowsFit}
 use Rattle.ob_flat.specs.Flats.{table_region}
 
 -- as many blocks as slots

@@ -1,8 +1,7 @@
 -- The place of the primary key.
-use Rattle.std.proofs.Common.{◌≡◌, ◌<◌, ◌+◌, ℕ, suc, Bool, true, false, List, [], ◌∷◌, Option, Some, None, IfSome, length, cond, if◌then◌else◌, refl, sym, ◌∙◌, ap, arith}
+use Rattle.std.proofs.Common.{◌≡◌, ◌+◌, ℕ, suc, Bool, true, false, List, [], ◌∷◌, Some, length, cond, if◌then◌else◌, refl, sym, ◌∙◌, ap, arith}
 use Rattle.std.specs.List.{position, position_from}
 use Rattle.std.proofs.lemmas.Iterator.Adapters.{position_from-zero}
-use Rattle.std.proofs.lemmas.List.Quantifiers.{position-Some}
 use Rattle.ob_base.specs.declared.schema.Column.{Column}
 use Rattle.ob_base.specs.Lists.{places_from, first}
 use Rattle.ob_base.specs.Schemas.{Columns, key_place}
@@ -29,4 +28,3 @@ fits_length [] [] fits = refl
 fits_length [] (x ∷ row) fits = absurd fits
 fits_length (c ∷ columns) [] fits = absurd fits
 fits_length (c ∷ columns) (x ∷ row) fits = ap suc (fits_length columns row fits.1)
-

@@ -1,5 +1,5 @@
 -- The regions of an index, where both were made, or one of them wasn't.
-use Rattle.std.proofs.Common.{◌≡◌, ◌≤◌, ◌<◌, ◌+◌, ◌*◌, ◌++◌, inl, inr, ℕ, Bool, IsTrue, List, [], Option, Some, None, Result, Ok, Err, length, length-append, append_assoc, refl, sym, ◌∙◌, ap, subst, arith}
+use Rattle.std.proofs.Common.{◌≡◌, ◌≤◌, ◌+◌, ◌*◌, ◌++◌, inl, inr, ℕ, List, [], Option, Some, None, Ok, Err, length, append_assoc, refl, sym, ◌∙◌, ap, subst, arith}
 use Rattle.ob_base.specs.declared.access.Access.{Access}
 use Rattle.ob_base.specs.Accesses.{makes, write_at}
 use Rattle.ob_base.proofs.AccessLemmas.{makes-append}
@@ -11,7 +11,7 @@ use Rattle.ob_vault.specs.declared.region.Region.{Region}
 use Rattle.ob_vault.specs.declared.region.Order.TheVariants.{Round, Any}
 use Rattle.ob_vault.specs.State.{Start, World}
 use Rattle.ob_vault.specs.Tied.{Ready, OnTurn}
-use Rattle.ob_vault.specs.Calls.{Went, Lasts, Seals, one, two}
+use Rattle.ob_vault.specs.Calls.{Went, one, two}
 use Rattle.ob_vault.specs.VaultCalls.{Forgets}
 use Rattle.ob_vault.proofs.Runs.{went_join, went_wider, lives_went, written_went, turn_any, tells_went, seals_join, seals_none}
 use Rattle.ob_vault.proofs.WorldSteps.{lasts_none}
@@ -20,8 +20,7 @@ use Rattle.ob_row.specs.Slots.{empty_slots}
 use Rattle.ob_flat.specs.declared.flat.Flat.{Flat}
 use Rattle.ob_flat.specs.declared.fault.OpErr.{OpErr}
 use Rattle.ob_flat.specs.declared.fault.OpErr.TheVariants.{NoMemory}
-use Rattle.ob_flat.specs.Flats.{IsInTurn, table_region}
-use Rattle.ob_flat.specs.Passes.{PassCut}
+use Rattle.ob_flat.specs.Flats.{table_region}
 use Rattle.ob_flat.specs.Creates.{CreatesRegion, make_script, create_script}
 use Rattle.ob_flat.proofs.Runs.{pass_more, pass_after, pass_wider, pass_then}
 use Rattle.ob_flat.proofs.Tables.{represents_lasts}
@@ -36,8 +35,15 @@ length-create flat =
 
 pub next_after : {some : ℕ → Type 0} (flat : Flat) (a b : World) → Ready a → Went (create_script 1 flat) some a b → b.vault.next ≡ a.vault.next + 1
 next_after flat a b ready went =
-    omega (arith, ready.tied.next, went.lasts.ready.tied.next, ap (λ (s : Start). s.region) went.lasts.start, makes-append a.store.asked (create_script 1 flat), ap makes went.did.asked,
-      makes-create_part flat.region (blocks_for 1 flat.capacity) (1 * width flat.schema))
+    omega (
+      arith,
+      ready.tied.next,
+      went.lasts.ready.tied.next,
+      ap (λ (s : Start). s.region) went.lasts.start,
+      makes-append a.store.asked (create_script 1 flat),
+      ap makes went.did.asked,
+      makes-create_part flat.region (blocks_for 1 flat.capacity) (1 * width flat.schema),
+    )
 
 module _ (tree stash : Flat) (old : World) (ready : Ready old) (here : tree.region ≡ old.vault.next) (behind : stash.region ≡ old.vault.next + 1) where
   apart : stash.region ≡ tree.region → ⊥

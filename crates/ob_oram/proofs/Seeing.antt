@@ -1,5 +1,5 @@
 -- What the buffer knows of the open rows, while they are put in their places.
-use Rattle.std.proofs.Common.{◌≡◌, ◌≢◌, ◌<◌, ◌≤◌, ℕ, Bool, true, false, List, Option, Some, None, length, take, drop, get_or, set, inl, inr, refl, sym, ◌∙◌, ap, subst, arith}
+use Rattle.std.proofs.Common.{◌≡◌, ◌≢◌, ◌<◌, ◌≤◌, ℕ, true, false, List, Option, Some, None, length, get_or, set, inl, inr, refl, sym, ◌∙◌, ap, subst, arith}
 use Rattle.std.proofs.Common.{[], ◌∷◌, get_or-set_same, get_or-set_other}
 use Rattle.std.proofs.lemmas.Bool.{cases_eq}
 use Rattle.std.proofs.lemmas.List.{length-set}
@@ -10,9 +10,9 @@ use Rattle.ob_vault.specs.Rows.{row_at}
 use Rattle.ob_row.specs.Rows.{Row}
 use Rattle.ob_row.specs.Slots.{Slots}
 use Rattle.ob_row.specs.Spelling.{Begins}
-use Rattle.ob_tree.specs.Places.{lies_at, IsLeast, NoneLies, StepDone, StepFull}
+use Rattle.ob_tree.specs.Places.{lies_at, IsLeast, NoneLies}
 use Rattle.ob_tree.specs.Rows.{rows, Single}
-use Rattle.ob_tree.proofs.StepLemmas.{exchanged, picked, emptied, stuck}
+use Rattle.ob_tree.proofs.StepLemmas.{picked, emptied, stuck}
 use Rattle.ob_oram.specs.declared.held.Held.{Held}
 use Rattle.ob_oram.specs.Buffers.{held_key, held_leaf, held_of, Sees, Steps, Places}
 use Rattle.ob_tree.proofs.GoingLemmas.{Going, going_end}

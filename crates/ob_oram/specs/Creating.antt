@@ -1,5 +1,5 @@
 -- What making an index does.
-use Rattle.std.specs.Prelude.{◌≡◌, ◌⊎◌, ◌≤◌, ◌<◌, ◌+◌, ◌++◌, ◌*◌, ℕ, Bool, IsTrue, List, [], None, Result, Err, OnOk, OnErr, IfOk, IfErr, length, map, max}
+use Rattle.std.specs.Prelude.{◌≡◌, ◌⊎◌, ◌+◌, ◌++◌, ℕ, Bool, IsTrue, List, [], None, Result, Err, OnErr, IfOk, IfErr, map}
 use Rattle.ob_base.specs.declared.access.Access.{Access}
 use Rattle.ob_base.specs.Schemas.{Columns}
 use Rattle.ob_store.specs.State.{StoreState}
@@ -10,7 +10,6 @@ use Rattle.ob_flat.specs.declared.fault.OpErr.{OpErr}
 use Rattle.ob_flat.specs.declared.fault.OpErr.TheVariants.{Failed, NoMemory}
 use Rattle.ob_flat.specs.Flats.{Accepts, IsInTurn, Represents}
 use Rattle.ob_row.specs.Slots.{empty_slots}
-use Rattle.ob_room.specs.RoomState.{RoomState}
 use Rattle.ob_vault.specs.declared.region.Order.TheVariants.{Round, Any}
 use Rattle.ob_flat.specs.Words.{Ran}
 use Rattle.ob_flat.specs.Creates.{table_of, make_script, create_script}

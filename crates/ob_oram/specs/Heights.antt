@@ -1,5 +1,5 @@
 -- The height of a tree, and the leaves of draws.
-use Rattle.std.specs.Prelude.{◌≡◌, ◌<◌, ◌≤◌, ◌+◌, ◌-◌, ◌*◌, ◌%◌, ◌^◌, ℕ, List, length, map, slice_index_or}
+use Rattle.std.specs.Prelude.{◌≡◌, ◌<◌, ◌≤◌, ◌+◌, ◌-◌, ◌*◌, ◌%◌, ◌^◌, ℕ, List, length, slice_index_or}
 
 -- the least of a tree that has a leaf for each of n keys
 pub record IsHeight (n height : ℕ) : Type 0 where

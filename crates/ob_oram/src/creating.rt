@@ -16,8 +16,8 @@ ghost use Rattle.ob_oram.specs.Heights.{IsHeight, leaf_of_draw, rows_open, tree_
 ghost use Rattle.ob_oram.specs.Keys.{IsIntKey};
 ghost use Rattle.ob_oram.specs.Creating.{CreatesIndex, CreatesRegions, MadeRegions, new_tree, new_stash};
 
-use crate::index::Index;
 use crate::held::Held;
+use crate::index::Index;
 use ob_base::{Column, Schema};
 use ob_flat::{OpErr, fill_blocks, make_table};
 use ob_room::{ClearRow, Room};
@@ -118,7 +118,13 @@ fn create_region<S: BlockStore, R: Revisions>(
         (at R.state vault.old (S.state store.old)) (at R.state vault.new (S.state store.new)) }
 {
     let region = make_table(store, vault, schema, slots, 1, order)?;
-    match fill_blocks(store, vault, rows, region, region_of_slots(schema, slots, order)) {
+    match fill_blocks(
+        store,
+        vault,
+        rows,
+        region,
+        region_of_slots(schema, slots, order),
+    ) {
         Ok(()) => Ok(region),
         Err(e) => {
             vault.forget(region);

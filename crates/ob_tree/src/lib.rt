@@ -40,11 +40,11 @@ pub fn answers_as_map<R: Keyed>()
     ensures represents { (h draw : ℕ) (s : State R) (m : ℕ → Option R) (op : Op R) (w : Went R)
         → Represents R.key h s m → KeepsKey R.key op
         → access R.key h s op draw ≡ Some w
-            → Represents R.key h w.state (map_after R.key (length s.leaves) op m) }
+        → Represents R.key h w.state (map_after R.key (length s.leaves) op m) }
     ensures bag { (h draw : ℕ) (s : State R) (m : ℕ → Option R) (op : Op R) (w : Went R)
         → Represents R.key h s m
         → access R.key h s op draw ≡ Some w
-            → Same (held w.state) (applied R.key (length s.leaves) op (held s)) }
+        → Same (held w.state) (applied R.key (length s.leaves) op (held s)) }
     ensures run { (h : ℕ) (s : State R) (m : ℕ → Option R) (ops : List (Op R × ℕ))
         → Represents R.key h s m → AllKeep R.key ops
         → RunsAsMap R.key h (length s.leaves) m ops (run R.key h s ops) }
@@ -57,7 +57,7 @@ pub fn leaves_stay<R: Keyed>()
     ensures after { (h draw : ℕ) (s : State R) (op : Op R) (w : Went R) → ((j : ℕ)
         → j < length s.leaves → leaf_of s j < 2 ^ h)
         → access R.key h s op draw ≡ Some w → (j : ℕ) → j < length w.state.leaves
-            → leaf_of w.state j < 2 ^ h }
+        → leaf_of w.state j < 2 ^ h }
     ensures count { (h draw : ℕ) (s : State R) (op : Op R) (w : Went R) → access R.key h s op draw
         ≡ Some w → length w.state.leaves ≡ length s.leaves }
 {}
@@ -81,8 +81,8 @@ pub fn reads_draws<R: Keyed>()
     ensures last { (next i : ℕ) (given ks : List ℕ) → i < length ks
         → slice_index_or ks i 0 < length given
         → slice_index_or (draws_read next given ks) i 0
-            ≡ last_given next (slice_index_or ks i 0) (slice_index_or given (slice_index_or ks i 0)
-            0) (take i ks) }
+        ≡ last_given next (slice_index_or ks i 0) (slice_index_or given (slice_index_or ks i 0)
+        0) (take i ks) }
     ensures own { (next i : ℕ) (given ks : List ℕ) → i < length ks
         → length given ≤ slice_index_or ks i 0
         → slice_index_or (draws_read next given ks) i 0 ≡ next + i }
@@ -114,10 +114,10 @@ pub fn picks_one_by_one<R: Keyed>()
         → Same all (row ∷ rest) → p row ≡ true
         → All (λ (other : R). p other ≡ true → R.key row ≤ R.key other) rest
         → (firsts 1 p (by_key R.key all) ≡ row ∷ []) × (but_firsts 1 p (by_key R.key all)
-            ≡ by_key R.key rest) }
+        ≡ by_key R.key rest) }
     ensures none { (n : ℕ) (p : R → Bool) (all : List R) → All (λ (row : R). p row ≡ false) all
         → (firsts n p (by_key R.key all) ≡ []) × (but_firsts n p (by_key R.key all)
-            ≡ by_key R.key all) }
+        ≡ by_key R.key all) }
     ensures more { (n : ℕ) (p : R → Bool) (all : List R) → (firsts (suc n) p all ≡ firsts 1 p all
         ++ firsts n p (but_firsts 1 p all))
         × (but_firsts (suc n) p all ≡ but_firsts n p (but_firsts 1 p all)) }
@@ -128,13 +128,13 @@ pub fn slots_behind<R>()
     ensures untouched { (h leaf p : ℕ) (fits : ℕ → R → Bool) (e : Evicted R) → leaf < 2 ^ h
         → length e.tree ≡ 4 * (2 ^ (h + 1) - 1)
         → is_on_path h leaf (p / 4) ≡ false
-            → slice_index_or (evict fits (path_up h leaf) e).tree p None
-            ≡ slice_index_or e.tree p None }
+        → slice_index_or (evict fits (path_up h leaf) e).tree p None
+        ≡ slice_index_or e.tree p None }
     ensures filled { (h leaf j : ℕ) (fits : ℕ → R → Bool) (e : Evicted R) → leaf < 2 ^ h
         → length e.tree ≡ 4 * (2 ^ (h + 1) - 1) → j ≤ h
         → bucket (evict fits (path_up h leaf) e).tree (slice_index_or (path_up h leaf) j 0)
-            ≡ slots_of 4 (firsts 4 (fits (slice_index_or (path_up h leaf) j 0)) (evict fits (take j
-            (path_up h leaf)) e).left) }
+        ≡ slots_of 4 (firsts 4 (fits (slice_index_or (path_up h leaf) j 0)) (evict fits (take j
+        (path_up h leaf)) e).left) }
 {}
 
 /// What goes to buckets and stash may be chosen slot by slot; the stash is full exactly where a row is left behind.
@@ -147,7 +147,7 @@ pub fn laid_slot_by_slot<R>()
     ensures tree { (h leaf t j : ℕ) (fits : ℕ → R → Bool) (e : Evicted R) → leaf < 2 ^ h
         → length e.tree ≡ 4 * (2 ^ (h + 1) - 1) → j ≤ h
         → bucket (laid fits (path_up h leaf) t e.left) j
-            ≡ bucket (evict fits (path_up h leaf) e).tree (slice_index_or (path_up h leaf) j 0) }
+        ≡ bucket (evict fits (path_up h leaf) e).tree (slice_index_or (path_up h leaf) j 0) }
     ensures stash { (fits : ℕ → R → Bool) (bs : List ℕ) (t : ℕ) (e : Evicted R)
         → drop (4 * length bs) (laid fits bs t e.left) ≡ slots_of t (evict fits bs e).left }
 {}
@@ -159,8 +159,8 @@ pub fn one_map_one_bag<R: Keyed>()
     ensures map { (h : ℕ) (s : State R) → Stands R.key h s → Represents R.key h s (map_of R.key s) }
     ensures taken { (h draw : ℕ) (s : State R) (m : ℕ → Option R) (op : Op R)
         → Represents R.key h s m → KeepsKey R.key op
-            → Single R.key (applied R.key (length s.leaves) op (take_path h s (leaf_read h s (key_of
-            R.key op) draw))) }
+        → Single R.key (applied R.key (length s.leaves) op (take_path h s (leaf_read h s (key_of
+        R.key op) draw))) }
     ensures stands { (h : ℕ) (s : State R) (m : ℕ → Option R) → Represents R.key h s m
         → Stands R.key h s }
 {}
@@ -178,9 +178,9 @@ pub fn stash_fills()
 pub fn small_session()
     ensures gots { (run (λ (k : ℕ). k) 2 (created 2 2 (0 ∷ 1 ∷ 2 ∷ 3 ∷ [])) small_ops).gots
         ≡ Done ∷ Found 3 ∷ OutOfRange ∷ Duplicate ∷ OutOfRange ∷ [] }
-        ensures first { slice_index_or (run (λ (k : ℕ). k) 2 (created 2 2 (0 ∷ 1 ∷ 2 ∷ 3 ∷ []))
+    ensures first { slice_index_or (run (λ (k : ℕ). k) 2 (created 2 2 (0 ∷ 1 ∷ 2 ∷ 3 ∷ []))
         (take 1 small_ops)).state.tree 8 None ≡ Some 3 }
-        ensures then { slice_index_or (run (λ (k : ℕ). k) 2 (created 2 2 (0 ∷ 1 ∷ 2 ∷ 3 ∷ []))
+    ensures then { slice_index_or (run (λ (k : ℕ). k) 2 (created 2 2 (0 ∷ 1 ∷ 2 ∷ 3 ∷ []))
         (take 2 small_ops)).state.tree 0 None ≡ Some 3 }
     ensures script { length (access_script 2 2 0) ≡ 28 }
 {}
@@ -191,9 +191,9 @@ pub fn heights_are_paths<R: Keyed>()
         → All (InPlace R.key lf h leaves) e.left
         → length (evict (fits_by R.key h leaves) (path_up h leaf) e).left ≤ t
         → laid_slots (tests lf leaf h 0 (4 * (h + 1) + t)) e.left
-            ≡ laid (fits_by R.key h leaves) (path_up h leaf) t e.left }
+        ≡ laid (fits_by R.key h leaves) (path_up h leaf) t e.left }
     ensures full { (h leaf t : ℕ) (lf : R → ℕ) (leaves : List ℕ) (e : Evicted R) → leaf < 2 ^ h
         → All (InPlace R.key lf h leaves) e.left
         → length (left_behind (tests lf leaf h 0 (4 * (h + 1) + t)) e.left)
-            ≡ length (evict (fits_by R.key h leaves) (path_up h leaf) e).left - t }
+        ≡ length (evict (fits_by R.key h leaves) (path_up h leaf) e).left - t }
 {}

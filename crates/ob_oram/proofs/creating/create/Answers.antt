@@ -1,4 +1,4 @@
-use Rattle.std.proofs.Common.{◌≡◌, ◌≤◌, ◌∙◌, length, arith}
+use Rattle.std.proofs.Common.{◌∙◌, arith}
 use Rattle.ob_base.specs.Schemas.{width}
 use Rattle.ob_blocks.proofs.Rooms.{open_held}
 use Rattle.ob_flat.proofs.Rooms.{opened_wide, opened_closed, same_rows}

@@ -1,7 +1,6 @@
-use Rattle.std.proofs.Common.{◌≡◌, ◌∙◌, None, ℕ, Ok, Err, refl, sym, ap, subst, length}
+use Rattle.std.proofs.Common.{◌≡◌, ◌∙◌, ℕ, Ok, Err, refl, ap, subst, length}
 use Rattle.std.proofs.lemmas.List.{length-replicate}
 use Rattle.ob_vault.specs.Places.{at}
-use Rattle.ob_flat.specs.declared.fault.OpErr.TheVariants.{NoMemory}
 use Rattle.ob_oram.specs.declared.index.Index.{Index}
 use Rattle.ob_oram.specs.Heights.{rows_open}
 use Rattle.ob_oram.specs.Creating.{CreatesRegions, IsFresh, new_tree, new_stash}

@@ -1,16 +1,15 @@
-use Rattle.std.proofs.Common.{[], ◌≡◌, inl, ℕ, None, length, refl, ◌∙◌, ap, subst, arith}
+use Rattle.std.proofs.Common.{[], ◌≡◌, inl, ℕ, None, refl, ◌∙◌, ap, subst, arith}
 use Rattle.std.proofs.lemmas.Result.{err_from_is_err_and}
 use Rattle.ob_base.specs.Accesses.{write_at}
 use Rattle.ob_base.specs.Lists.{each}
 use Rattle.ob_vault.specs.Calls.{Went, one}
 use Rattle.ob_vault.specs.Places.{at}
 use Rattle.ob_vault.proofs.Runs.{tells_went, holds_rows, went_join}
-use Rattle.ob_vault.proofs.WordLemmas.{asks_start, asks_after}
+use Rattle.ob_vault.proofs.WordLemmas.{asks_after}
 use Rattle.ob_blocks.specs.Blocks.{none_of}
 use Rattle.ob_flat.specs.Passes.{pass_error}
 use Rattle.ob_flat.specs.Words.{SealsTable, blocks_of}
 use Rattle.ob_flat.specs.Creates.{table_of, make_script}
-use Rattle.ob_oram.proofs.Creates.{one_each}
 use Rattle.ob_flat.proofs.Runs.{pass_of, pass_after, pass_then, not_memory}
 use Rattle.ob_flat.proofs.Tables.{accepted, joined_block, represents_none, flat_filled}
 use Rattle.ob_flat.proofs.WordLemmas.{ran_more, seals_any, seals_after}

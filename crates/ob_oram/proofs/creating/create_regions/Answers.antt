@@ -1,4 +1,4 @@
-use Rattle.std.proofs.Common.{◌≡◌, ◌≤◌, ◌+◌, ◌^◌, ℕ, Ok, Err, refl, sym, ap, subst, arith}
+use Rattle.std.proofs.Common.{◌≡◌, ◌≤◌, ◌+◌, ◌^◌, ℕ, Ok, Err, refl, sym, subst, arith}
 use Rattle.ob_vault.specs.Places.{at}
 use Rattle.ob_vault.proofs.WordLemmas.{asks_start, asks_after, asks_fewer}
 use Rattle.ob_vault.specs.VaultCalls.{Forgets}

@@ -1,4 +1,4 @@
-use Rattle.std.proofs.Common.{◌≡◌, ◌≤◌, ◌<◌, ◌+◌, ◌^◌, ℕ, arith, sym}
+use Rattle.std.proofs.Common.{arith}
 use Rattle.ob_oram.proofs.Heights.{not_lower, shifted}
 use Rattle.ob_oram.proofs.creating.height_for.Goals as goal
 

@@ -1,4 +1,4 @@
-use Rattle.std.proofs.Common.{◌≡◌, ◌≤◌, ◌<◌, ◌^◌, ℕ}
+use Rattle.std.proofs.Common.{◌≤◌, ◌^◌, ℕ}
 use Rattle.ob_oram.proofs.creating.height_for.Given as goal
 
 abbrev pub invariant-loop-height : goal.invariant-loop-height

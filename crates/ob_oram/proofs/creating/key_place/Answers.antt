@@ -1,4 +1,4 @@
-use Rattle.std.proofs.Common.{◌≡◌, ◌∙◌, sym, ap, subst, ℕ, Option, Some}
+use Rattle.std.proofs.Common.{◌≡◌, ◌∙◌, ap, subst}
 use Rattle.ob_oram.proofs.Keys.{key_position}
 use Rattle.ob_oram.specs.Keys.{IsIntKey}
 use Rattle.ob_oram.proofs.creating.key_place.Goals as goal

@@ -1,4 +1,3 @@
-use Rattle.std.proofs.Common.{◌≡◌, ◌∙◌}
 use Rattle.ob_oram.proofs.Creates.{shape_is}
 use Rattle.ob_oram.proofs.creating.region_of_slots.Goals as goal
 

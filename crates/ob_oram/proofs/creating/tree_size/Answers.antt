@@ -1,4 +1,4 @@
-use Rattle.std.proofs.Common.{◌≡◌, ◌-◌, ◌*◌, ◌+◌, ℕ, ap, arith}
+use Rattle.std.proofs.Common.{◌-◌, ◌*◌, ◌+◌, ℕ, ap, arith}
 use Rattle.ob_tree.proofs.PathLemmas.{power_some}
 use Rattle.ob_oram.proofs.Heights.{shifted_two, blocks_few}
 use Rattle.ob_oram.proofs.creating.tree_size.Goals as goal
