@@ -1,5 +1,5 @@
-//! An index of rows by their keys, after Path ORAM (Stefanov and others, CCS 2013): which blocks an access reads and
-//! writes follows from a leaf alone that was drawn at random when the key was last accessed.
+//! An index of rows by their keys, after Path ORAM (Stefanov and others, CCS 2013): what it is in a store, how one
+//! with no row is made, and how the rows of a path and of the stash are put in their places.
 #![tactic(auto)]
 
 mod creating;
