@@ -3,3 +3,5 @@
 
 #[cfg(test)]
 mod creates;
+#[cfg(test)]
+mod places;
