@@ -1,0 +1,6 @@
+pub mod Keys
+pub mod Heights
+pub mod Creates
+pub mod Seeing
+pub mod Regions
+pub mod Made

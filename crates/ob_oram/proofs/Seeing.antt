@@ -1,0 +1,151 @@
+-- What the buffer knows of the open rows, while they are put in their places.
+use Rattle.std.proofs.Common.{◌≡◌, ◌≢◌, ◌<◌, ◌≤◌, ℕ, true, false, List, Option, Some, None, length, get_or, set, inl, inr, refl, sym, ◌∙◌, ap, subst, arith}
+use Rattle.std.proofs.Common.{[], ◌∷◌, get_or-set_same, get_or-set_other}
+use Rattle.std.proofs.lemmas.Bool.{cases_eq}
+use Rattle.std.proofs.lemmas.List.{length-set}
+use Rattle.std.specs.Option.{option_map}
+use Rattle.std.specs.Prelude.{IsSome}
+use Rattle.ob_base.specs.Schemas.{Columns}
+use Rattle.ob_vault.specs.Rows.{row_at}
+use Rattle.ob_row.specs.Rows.{Row}
+use Rattle.ob_row.specs.Slots.{Slots}
+use Rattle.ob_row.specs.Spelling.{Begins}
+use Rattle.ob_tree.specs.Places.{lies_at, IsLeast, NoneLies}
+use Rattle.ob_tree.specs.Rows.{rows, Single}
+use Rattle.ob_tree.proofs.StepLemmas.{picked, emptied, stuck}
+use Rattle.ob_oram.specs.declared.held.Held.{Held}
+use Rattle.ob_oram.specs.Buffers.{held_key, held_leaf, held_of, Sees, Steps, Places}
+use Rattle.ob_tree.proofs.GoingLemmas.{Going, going_end}
+use Rattle.std.proofs.lemmas.Bool.{false≢true}
+
+-- what a held row stands for
+record IsHeldBy (key lf : Row → ℕ) (held : Held) (slot : Option Row) : Type 0 where
+  row : Row
+  is : slot ≡ Some row
+  same : held_of key lf row ≡ held
+
+held_by : (key lf : Row → ℕ) (held : Held) (slot : Option Row) → option_map (held_of key lf) slot ≡ Some held → IsHeldBy key lf held slot
+held_by key lf held None is = absurd (cc is)
+held_by key lf held (Some row) is = record { row = row; is = refl; same = cc is }
+
+none_held : (key lf : Row → ℕ) (slot : Option Row) → option_map (held_of key lf) slot ≡ None → slot ≡ None
+none_held key lf None is = refl
+none_held key lf (Some row) is = absurd (cc is)
+
+-- two entries of a list exchanged
+abbrev pub turned : {A : Type 0} → A → List A → ℕ → ℕ → List A
+turned d list i q = set (set list i (get_or list q d)) q (get_or list i d)
+
+turned_get : {A : Type 0} (d : A) (list : List A) (i q j : ℕ) → i < length list → q < length list → (P : A → Type 0)
+    → (j ≡ q → P (get_or list i d)) → (j ≢ q → j ≡ i → P (get_or list q d)) → (j ≢ q → j ≢ i → P (get_or list j d)) → P (get_or (turned d list i q) j d)
+turned_get d list i q j hi hq P at_q at_i off = elim (cases_eq j q) [
+  | inl same ↦
+      let inside : q < length (set list i (get_or list q d)) = omega (arith, hq, length-set list i (get_or list q d)) in
+      subst P (sym (ap (λ (k : ℕ). get_or (turned d list i q) k d) same ∙ get_or-set_same (set list i (get_or list q d)) q (get_or list i d) d inside)) (at_q same)
+  | inr other ↦ elim (cases_eq j i) [
+    | inl same ↦ subst P (sym (get_or-set_other (set list i (get_or list q d)) q j (get_or list i d) d other ∙ ap (λ (k : ℕ). get_or (set list i (get_or list q d)) k d) same ∙ get_or-set_same list i (get_or list q d) d hi)) (at_i other same)
+    | inr third ↦ subst P (sym (get_or-set_other (set list i (get_or list q d)) q j (get_or list i d) d other ∙ get_or-set_other list i j (get_or list q d) d third)) (off other third)
+  ]
+]
+
+length-turned : {A : Type 0} (d : A) (list : List A) (i q : ℕ) → length (turned d list i q) ≡ length list
+length-turned d list i q = length-set (set list i (get_or list q d)) q (get_or list i d) ∙ length-set list i (get_or list q d)
+
+module _ (columns : Columns) (key lf : Row → ℕ) (slots : Slots) (buffer : List (Option Held)) (list : List (List ℕ)) (sees : Sees columns key lf slots buffer list) where
+  -- what may lie where
+  lies_seen : (leaf height : ℕ) (row : Row) (held : Held) → held_of key lf row ≡ held → lies_at lf leaf height row ≡ lies_at held_leaf leaf height held
+  lies_seen leaf height row held same = ap (λ (h : Held). lies_at held_leaf leaf height h) same
+
+  pub none_seen : (leaf height from to : ℕ) → NoneLies held_leaf leaf height buffer from to → NoneLies lf leaf height slots from to
+  none_seen leaf height from to none = record {
+    none = λ k row low high is.
+        none.none k (held_of key lf row) low high (sees.held k ∙ ap (option_map (held_of key lf)) is);
+  }
+
+  pub least_seen : (leaf height from to place least : ℕ) → IsLeast held_key held_leaf leaf height buffer from to place least → IsLeast key lf leaf height slots from to place least
+  least_seen leaf height from to place least is =
+      let here = held_by key lf is.row (get_or slots place None) (sym (sees.held place) ∙ is.here) in
+      record {
+        low = is.low;
+        high = is.high;
+        row = here.row;
+        here = here.is;
+        same_key = ap held_key here.same ∙ is.same_key;
+        lies = lies_seen leaf height here.row is.row here.same ∙ is.lies;
+        least = λ k other low high at lies.
+            let less = is.least k (held_of key lf other) low high (sees.held k ∙ ap (option_map (held_of key lf)) at) lies in
+            subst (λ (n : ℕ). n ≤ key other) (sym (ap held_key here.same)) less;
+      }
+
+  pub empty_seen : (k : ℕ) → get_or buffer k None ≡ None → get_or slots k None ≡ None
+  empty_seen k is = none_held key lf (get_or slots k None) (sym (sees.held k) ∙ is)
+
+  pub row_seen : (k : ℕ) (held : Held) → get_or buffer k None ≡ Some held → (row : Row) × (get_or slots k None ≡ Some row)
+  row_seen k held is = let here = held_by key lf held (get_or slots k None) (sym (sees.held k) ∙ is) in (here.row, here.is)
+
+  some_slot : (slot : Option Row) → IsSome (option_map (held_of key lf) slot) → IsSome slot
+  some_slot None is = is
+  some_slot (Some row) is = is
+
+  pub some_seen : (k : ℕ) → IsSome (get_or buffer k None) → IsSome (get_or slots k None)
+  some_seen k is = some_slot (get_or slots k None) (subst IsSome (sees.held k) is)
+
+  -- two rows exchanged
+  pub turned_sees : (i q : ℕ) → i < length buffer → q < length buffer → Sees columns key lf (turned None slots i q) (turned None buffer i q) (turned [] list i q)
+  turned_sees i q hi hq =
+      let si : i < length slots = omega (arith, hi, sees.count) in
+      let sq : q < length slots = omega (arith, hq, sees.count) in
+      let li : i < length list = omega (arith, hi, sees.same) in
+      let lq : q < length list = omega (arith, hq, sees.same) in
+      record {
+        count = length-turned None slots i q ∙ sees.count ∙ sym (length-turned None buffer i q);
+        same = length-turned [] list i q ∙ sees.same ∙ sym (length-turned None buffer i q);
+        begins = λ j below.
+            let inside : j < length buffer = omega (arith, below, length-turned None buffer i q) in
+            turned_get None slots i q j si sq (λ (s : Option Row). Begins columns s (row_at (turned [] list i q) j))
+            (λ same. turned_get [] list i q j li lq (λ (r : List ℕ). Begins columns (get_or slots i None) r) (λ _. sees.begins i hi) (λ off _. absurd (off same)) (λ off _. absurd (off same)))
+            (λ off same. turned_get [] list i q j li lq (λ (r : List ℕ). Begins columns (get_or slots q None) r) (λ at. absurd (off at)) (λ _ _. sees.begins q hq) (λ _ other. absurd (other same)))
+            (λ off other. turned_get [] list i q j li lq (λ (r : List ℕ). Begins columns (get_or slots j None) r) (λ at. absurd (off at)) (λ _ at. absurd (other at)) (λ _ _. sees.begins j inside));
+        held = λ j.
+            turned_get None slots i q j si sq (λ (s : Option Row). get_or (turned None buffer i q) j None ≡ option_map (held_of key lf) s)
+            (λ same. turned_get None buffer i q j hi hq (λ (h : Option Held). h ≡ option_map (held_of key lf) (get_or slots i None)) (λ _. sees.held i) (λ off _. absurd (off same)) (λ off _. absurd (off same)))
+            (λ off same. turned_get None buffer i q j hi hq (λ (h : Option Held). h ≡ option_map (held_of key lf) (get_or slots q None)) (λ at. absurd (off at)) (λ _ _. sees.held q) (λ _ other. absurd (other same)))
+            (λ off other. turned_get None buffer i q j hi hq (λ (h : Option Held). h ≡ option_map (held_of key lf) (get_or slots j None)) (λ at. absurd (off at)) (λ _ at. absurd (other at)) (λ _ _. sees.held j));
+      }
+
+  -- the least row, or an empty slot, goes to slot i
+  pub step_least : (leaf height i q least : ℕ) → IsLeast held_key held_leaf leaf height buffer i (length buffer) q least → Steps key lf leaf height i slots (turned None slots i q) true
+  step_least leaf height i q least is =
+      let seen = least_seen leaf height i (length buffer) q least is in
+      let high : q < length slots = omega (arith, is.high, sees.count) in
+      let whole = subst (λ (n : ℕ). IsLeast key lf leaf height slots i n q least) (sym sees.count) seen in
+      record { step = λ single. picked key lf leaf height i q slots is.low high single least whole }
+
+  pub step_empty : (leaf height i q : ℕ) → i ≤ q → q < length buffer → NoneLies held_leaf leaf height buffer i (length buffer) → get_or buffer q None ≡ None → Steps key lf leaf height i slots (turned None slots i q) true
+  step_empty leaf height i q low high none empty =
+      let whole = subst (λ (n : ℕ). NoneLies lf leaf height slots i n) (sym sees.count) (none_seen leaf height i (length buffer) none) in
+      record { step = λ single. emptied key lf leaf height i q slots low (omega (arith, high, sees.count)) single whole (empty_seen q empty) }
+
+  pub step_full : (leaf height i : ℕ) → NoneLies held_leaf leaf height buffer i (length buffer) → ((k : ℕ) → i ≤ k → k < length buffer → IsSome (get_or buffer k None)) → Steps key lf leaf height i slots slots false
+  step_full leaf height i none each =
+      let whole = subst (λ (n : ℕ). NoneLies lf leaf height slots i n) (sym sees.count) (none_seen leaf height i (length buffer) none) in
+      record { step = λ single. stuck key lf leaf height i slots whole (λ k low high. some_seen k (each k low (omega (arith, high, sees.count)))) }
+
+-- behind the last slot
+module _ (key lf : Row → ℕ) (leaf height n i : ℕ) (slots now : Slots) (most : i ≤ n) (least : n ≤ i) (go : Single key (rows slots) → Going key lf leaf height n i slots now) where
+  whole : Single key (rows slots) → Going key lf leaf height n n slots now
+  whole single = let last : i ≡ n = omega (arith, most, least) in subst (λ (k : ℕ). Going key lf leaf height n k slots now) last (go single)
+
+  pub placed_all : get_or now n None ≡ None → Places key lf leaf height n slots now true
+  placed_all is = record {
+    placed = λ single _. (going_end key lf leaf height n slots now (whole single)).0;
+    full = λ single. ((λ _. (going_end key lf leaf height n slots now (whole single)).1 ∙ ap (λ (s : Option Row). length (rows (s ∷ []))) is), (λ _. refl));
+  }
+
+  pub placed_not : (row : Row) → get_or now n None ≡ Some row → Places key lf leaf height n slots now false
+  placed_not row is = record {
+    placed = λ single never. absurd (false≢true never);
+    full = λ single.
+        let one = (going_end key lf leaf height n slots now (whole single)).1 ∙ ap (λ (s : Option Row). length (rows (s ∷ []))) is in
+        ((λ never. absurd (false≢true never)), (λ none. absurd (cc (none, one))));
+  }

@@ -1,0 +1,5 @@
+pub mod Keys
+pub mod Heights
+pub mod Indexes
+pub mod Buffers
+pub mod Creating

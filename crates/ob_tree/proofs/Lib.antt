@@ -1,0 +1,15 @@
+pub mod Moves
+pub mod RowLemmas
+pub mod PathLemmas
+pub mod TreeLemmas
+pub mod EvictLemmas
+pub mod KeyLemmas
+pub mod AccessLemmas
+pub mod RunLemmas
+pub mod MeetLemmas
+pub mod OrderLemmas
+pub mod PlaceLemmas
+pub mod SlotwiseLemmas
+pub mod StepLemmas
+pub mod GoingLemmas
+pub mod HeightLemmas
