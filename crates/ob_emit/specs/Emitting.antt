@@ -1,5 +1,5 @@
 -- What is emitted of a table, and how.
-use Rattle.std.specs.Prelude.{◌≡◌, ◌⊎◌, ◌<◌, ◌≤◌, ℕ, ◌+◌, Bool, IsTrue, false, not, List, [], ◌∷◌, ◌++◌, map, nat_lt, bytes_eq, Option, Some, None, slice_get, if◌then◌else◌, Result, Ok, Err, OnOk, OnErr, IfOk, IfErr, length}
+use Rattle.std.specs.Prelude.{◌≡◌, ◌⊎◌, ◌<◌, ◌≤◌, ℕ, ◌+◌, Bool, IsTrue, false, not, List, [], ◌∷◌, ◌++◌, map, nat_lt, bytes_eq, Option, Some, None, slice_get, if◌then◌else◌, Result, Ok, Err, OnOk, IfOk, IfErr, length}
 use Rattle.std.specs.List.{All, list_any}
 use Rattle.std.specs.Option.{option_map_or}
 use Rattle.ob_base.specs.declared.schema.Column.{Column}

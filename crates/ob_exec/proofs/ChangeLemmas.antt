@@ -58,7 +58,7 @@ update_alters p m name sets cond heading pred cells pred_is cells_is = record {
   makes = λ t g blocks size. refl;
   tables = refl;
   answers = λ n. record { whole = λ k. refl; own = refl };
-  silent = λ n. refl;
+  silent = λ n. tt;
   whole = λ tables. refl;
   meant = λ tables x early found size is.
       let stmt = Update name sets cond in
@@ -84,7 +84,7 @@ delete_alters p m name cond heading pred pred_is = record {
   makes = λ t g blocks size. refl;
   tables = refl;
   answers = λ n. record { whole = λ k. refl; own = refl };
-  silent = λ n. refl;
+  silent = λ n. tt;
   whole = λ tables. refl;
   meant = λ tables x early found size is.
       let stmt = Delete name cond in

@@ -176,7 +176,7 @@ module _ {R : Type 0} (state : R → RevState) (old : Engine R) (s s1 : StoreSta
       (ap (λ (c : Columns). old.public.tables ++ record { heading = record { name = table; schema = c; capacity = capacity }; region = old.public.next_region } ∷ []) schema_is)
       (tables_added old.public.pack old.vault.next old.public.tables new_table _ _ all.lasts agrees.ready refl agrees.tables agrees.next is_table
       (λ i u is same. unnamed i u (record { get = is; named = same })) (λ q. cases_eq q old.vault.next)) in
-      finished state stmt old s agrees now (λ tables. refl) v room t (old.public.tables ++ new_table ∷ []) Created answered refl ran
+      finished state stmt old s agrees now (λ tables. refl) v room t (old.public.tables ++ new_table ∷ []) Created answered tt ran
       (keeps_pass state old s s1 rests agrees (engine_after old v room (old.public.tables ++ new_table ∷ []) Whole old.ended) t done refl (λ good accepts. seals.seals good (accepts _ _)))
       (λ tables reads.
       let none = no_refusal tables reads.held in

@@ -25,7 +25,7 @@ use Rattle.ob_mean.specs.Settle.{settle, settled}
 use Rattle.ob_mean.proofs.VerdictLemmas.{heading-stored, stored-database, refused_late}
 use Rattle.ob_mean.specs.Verdict.{Tables, is_late, refusal, verdict}
 use Rattle.ob_exec.specs.declared.outcome.Outcome.TheVariants.{Inserted}
-use Rattle.ob_exec.specs.Running.{Emits, inserted_as}
+use Rattle.ob_exec.specs.Running.{HasNoRows, inserted_as}
 use Rattle.ob_exec.specs.Telling.{done_of, outcome_of}
 use Rattle.ob_exec.proofs.HeldLemmas.{changed_same}
 use Rattle.ob_exec.proofs.MutateLemmas.{Alters}
@@ -79,10 +79,10 @@ is_answered Duplicate = record { whole = λ n. refl; own = refl }
 is_answered Full = record { whole = λ n. refl; own = refl }
 
 -- it emits nothing
-silent_inserted : (answer : InsertedAs) → Emits [] (inserted_as answer) []
-silent_inserted Done = refl
-silent_inserted Duplicate = refl
-silent_inserted Full = refl
+silent_inserted : (answer : InsertedAs) → HasNoRows (inserted_as answer)
+silent_inserted Done = tt
+silent_inserted Duplicate = tt
+silent_inserted Full = tt
 
 pub insert_alters : (p : Public) (m : ℕ) (name : List ℕ) (columns : Option (List (List ℕ))) (values : List Literal) (heading : Heading) (cs : Columns) (row : Row)
     → cs ≡ heading.schema → row ≡ new_row heading.schema columns values

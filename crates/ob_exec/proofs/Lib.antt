@@ -17,6 +17,9 @@ pub mod TotalsServed
 pub mod TotallingLemmas
 pub mod ServeLemmas
 pub mod EmitLemmas
+pub mod UntilLemmas
+pub mod MemoryLemmas
+pub mod BegunLemmas
 pub mod ResultParts
 pub mod ResultReads
 pub mod ResultMade

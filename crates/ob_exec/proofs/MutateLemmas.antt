@@ -41,7 +41,7 @@ use Rattle.ob_exec.specs.declared.engine.Engine.{Engine}
 use Rattle.ob_exec.specs.declared.outcome.Outcome.{Outcome}
 use Rattle.ob_exec.specs.Engines.{IsAt, IsTable, AreTables, flat_of}
 use Rattle.ob_exec.specs.Agreeing.{Agrees, world_of}
-use Rattle.ob_exec.specs.Running.{Emits, answer_of, is_stop, refusal_now}
+use Rattle.ob_exec.specs.Running.{HasNoRows, answer_of, is_stop, refusal_now}
 use Rattle.ob_exec.specs.Serving.{ServesSilently}
 use Rattle.ob_exec.specs.Telling.{AreHeld, ReadsTrue, Represents, outcome_of}
 use Rattle.ob_exec.proofs.HeldLemmas.{Beside, held_at, held_moved}
@@ -66,7 +66,7 @@ pub record Alters {T : Type 0} (p : Public) (m : ℕ) (stmt : Stmt) (name : List
   pub makes : (t g blocks size : ℕ) → part t g blocks size ≡ make_at g blocks size ++ more t g blocks size
   pub tables : tables_after p (skeleton stmt) ≡ moved name p.next_region p.tables
   pub answers : (x : T) → IsAnswered (outcome x)
-  pub silent : (x : T) → Emits [] (outcome x) []
+  pub silent : (x : T) → HasNoRows (outcome x)
   pub whole : (tables : Tables) → seen_started p tables stmt ≡ seen_to Whole
   pub meant : (tables : Tables) (x : Stored Slots) → early_refusal (is_late m) p.pack p.buffer (headings tables) stmt ≡ None → stored_at name tables ≡ Some x
       → length x.held ≡ x.heading.capacity → x.heading ≡ heading → MeansFor p m stmt name outcome answer after tables x.held

@@ -37,14 +37,14 @@ use Rattle.ob_script.proofs.Numbers.{length-small_part, length-large_part, lengt
 use Rattle.ob_flat.specs.Words.{blocks_of}
 
 -- want of memory at a make, or before
-lacks_from : (m : Access) (more done rest : List Access) (old new : World) → IsTrue (is_make m) → done ++ rest ≡ m ∷ [] → new.store.asked ≡ old.store.asked ++ done → LacksMemoryOf (m ∷ more) old new
+lacks_from : (m : Access) (more done rest : List Access) (old new : World) → IsTrue (is_make m) → done ++ rest ≡ m ∷ [] → new.store.asked ≡ old.store.asked ++ done → LacksMemoryOf (m ∷ more) old new ⊥
 lacks_from m more [] rest old new make split asked = record { done = []; rest = m ∷ more; split = refl; asked = asked; place = inr (inl make) }
 lacks_from m more (x ∷ []) rest old new make split asked =
     let same : x ≡ m = cc in
     record { done = x ∷ []; rest = more; split = ap (λ (y : Access). y ∷ more) same; asked = asked; place = inl (subst (λ (y : Access). IsTrue (is_make y)) (sym same) make) }
 lacks_from m more (x ∷ y ∷ done) rest old new make split asked = absurd (cc split)
 
-lacks_make : (m : Access) (more : List Access) (old new : World) → IsTrue (is_make m) → Began (m ∷ []) old.store new.store → LacksMemoryOf (m ∷ more) old new
+lacks_make : (m : Access) (more : List Access) (old new : World) → IsTrue (is_make m) → Began (m ∷ []) old.store new.store → LacksMemoryOf (m ∷ more) old new ⊥
 lacks_make m more old new make began = lacks_from m more began.done began.rest old new make began.split began.asked
 
 module _ (r : Planned) (old new : World) where
@@ -65,7 +65,7 @@ module _ (r : Planned) (old new : World) where
     told = λ s. let is = told s in (is.0, subst (λ (f : Flat). Represents r.selection.public.pack f (held_slots r s.slots) new) value is.1);
   }
 
-  made_err : (e : OpErr) → PassCut e (make_part r old.vault.next) (one old.vault.next) old new → (e ≡ Sink → ⊥) → (e ≡ NoMemory → LacksMemoryOf (make_part r old.vault.next) old new)
+  made_err : (e : OpErr) → PassCut e (make_part r old.vault.next) (one old.vault.next) old new → (e ≡ Sink → ⊥) → (e ≡ NoMemory → LacksMemoryOf (make_part r old.vault.next) old new ⊥)
       → new.vault.revs.live old.vault.next ≡ None → SealsTable r.selection.public.pack r.selection.flat.schema old.vault.next old new
       → ((s : PlannedToEnd r old new) → (e ≡ Failed) ⊎ (e ≡ NoMemory))
       → MakesResult r (Err e) old new
@@ -121,7 +121,7 @@ module _ (q : Selection) (k : ℕ) (room : RoomState) (free : IsFree q.public ro
 
   module _ (some : 1 ≤ q.public.pack) where
     hash_began : Began (make_at old.vault.next (blocks_for q.public.pack ((k * q.public.depth) * q.public.pack)) (q.public.pack * width q.flat.schema)) old.store new.store
-        → LacksMemoryOf (make_part (planned q Hash k) old.vault.next) old new
+        → LacksMemoryOf (make_part (planned q Hash k) old.vault.next) old new ⊥
     hash_began began = lacks_make _ _ old new refl (subst (λ (n : ℕ). Began (make_at old.vault.next n (q.public.pack * width q.flat.schema)) old.store new.store) (blocks_whole q.public.pack (k * q.public.depth) some) began)
 
     hash_of : (result : Result Placed OpErr) → H.Selects (layout_at q.public.pack q.flat k q.public.depth old.vault.next) q.flat (is_true q.condition) result old new → MakesResult (planned q Hash k) result old new

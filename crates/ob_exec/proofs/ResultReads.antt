@@ -2,7 +2,7 @@
 use Rattle.std.proofs.Common.{◌≡◌, inl, inr, ◌+◌, arith, ℕ, Bool, List, [], ◌++◌, None, Result, Ok, Err, refl, sym, ◌∙◌, ap, subst}
 use Rattle.ob_base.specs.Accesses.{discard_at}
 use Rattle.ob_base.specs.declared.shown.Shown.{Shown}
-use Rattle.ob_base.specs.Events.{Event, IsEmitted, IsHalted}
+use Rattle.ob_base.specs.Events.{Event, IsEmitted, row_events}
 use Rattle.ob_script.specs.Parts.{count_part}
 use Rattle.ob_seal.specs.KeySet.{KeySet}
 use Rattle.ob_store.specs.State.{StoreState}
@@ -12,6 +12,7 @@ use Rattle.ob_vault.specs.Tied.{Fits, IsUnfit}
 use Rattle.ob_vault.specs.Calls.{Went, Lasts, Seals, none, one}
 use Rattle.ob_vault.proofs.Runs.{went_join, went_wider, none_went}
 use Rattle.ob_flat.specs.declared.fault.OpErr.{OpErr}
+use Rattle.ob_flat.specs.declared.fault.OpErr.TheVariants.{Failed, Tampered, Sink, NoMemory}
 use Rattle.ob_flat.specs.declared.flat.Flat.{Flat}
 use Rattle.ob_flat.specs.Discards.{Discards}
 use Rattle.ob_flat.specs.Emission.{SlotsToEnd, SlotsToHalt}
@@ -19,7 +20,7 @@ use Rattle.ob_flat.specs.Words.{HasSpare, Ran, blocks_of}
 use Rattle.ob_script.proofs.Lengths.{length-count_part}
 use Rattle.ob_flat.proofs.Runs.{pass_more, pass_wider, pass_then}
 use Rattle.ob_flat.proofs.WordLemmas.{sealed_after}
-use Rattle.ob_emit.specs.Emitting.{Emits, Walks, header}
+use Rattle.ob_emit.specs.Emitting.{Emits, EndsAs, Walks, header, table_shown}
 use Rattle.ob_exec.specs.Results.{EmitsResult, WalksResult}
 
 -- what is told of one source is told of another that follows from it
@@ -27,9 +28,14 @@ pub emitted_from : {E S T : Type 0} {grew : E → E → List Event → Type 0} {
     → (back : T → S) → ((t : T) → shown (back t) ≡ more t) → IsEmitted grew head shown from to old new → IsEmitted grew head more from to old new
 emitted_from back same is = record { rows = is.rows; count = is.count; leads = is.leads; told = λ t. is.told (back t) ∙ same t }
 
-pub halted_from : {E S T : Type 0} {grew cut : E → E → List Event → Type 0} {all : S → List Event} {more : T → List Event} {old new : E}
-    → (back : T → S) → ((t : T) → all (back t) ≡ more t) → IsHalted grew cut all old new → IsHalted grew cut more old new
-halted_from back same is = record { events = is.events; ends = is.ends; told = λ t. let rest = is.told (back t) in (rest.0, rest.1 ∙ same t) }
+pub ends_from : {E S T : Type 0} (grew cut : E → E → List Event → Type 0) (e : OpErr) (head : List Event) (shown : S → List (List Shown)) (more : T → List (List Shown)) (old new : E)
+    → (back : T → S) → ((t : T) → shown (back t) ≡ more t) → EndsAs grew cut e head shown old new → EndsAs grew cut e head more old new
+ends_from grew cut Failed head shown more old new back same is = record { rows = is.rows; leads = is.leads; told = λ t. let rest = is.told (back t) in (rest.0, rest.1 ∙ same t) }
+ends_from grew cut (Tampered q x) head shown more old new back same is = record { rows = is.rows; leads = is.leads; told = λ t. let rest = is.told (back t) in (rest.0, rest.1 ∙ same t) }
+ends_from grew cut Sink head shown more old new back same is =
+    record { events = is.events; ends = is.ends; told = λ t. let rest = is.told (back t) in (rest.0, rest.1 ∙ ap (λ (l : List (List Shown)). head ++ row_events l) (same t)) }
+ends_from grew cut NoMemory head shown more old new back same is =
+    record { events = is.events; ends = is.ends; told = λ t. let rest = is.told (back t) in (rest.0, rest.1 ∙ ap (λ (l : List (List Shown)). head ++ row_events l) (same t)) }
 
 -- a changed block that doesn't fit doesn't where nothing but regions has changed
 pub unfit_before : {some : ℕ → Type 0} {b c : World} → Lasts some b c → c.store ≡ b.store → IsUnfit c → IsUnfit b
@@ -85,7 +91,6 @@ module _ {E : Type 0} (grew cut : E → E → List Event → Type 0) (faults : E
         seals = sealed_after emits.ran.ok.lasts emits.seals gone.seals.seals;
         emitted = emitted_from back (λ s. refl) emits.emitted;
         halted = tt;
-        failed = λ is. absurd (cc is);
         sink = emits.cause;
         told = λ slots is none. tt;
       }
@@ -100,8 +105,7 @@ module _ {E : Type 0} (grew cut : E → E → List Event → Type 0) (faults : E
         gone = gone;
         seals = sealed_after emits.ran.err.lasts emits.seals seals;
         emitted = tt;
-        halted = halted_from back (λ s. refl) emits.halted;
-        failed = λ is. halted_from back (λ s. refl) (emits.failed is);
+        halted = ends_from grew cut e (header fresh.schema cols) (λ s. table_shown cols s.slots) (λ s. table_shown cols s.slots) out_old out_new back (λ s. refl) emits.halted;
         sink = emits.cause;
         told = λ slots is none. emits.told slots is (sym (ap (λ (s : StoreState). s.lie) same) ∙ none);
       }

@@ -6,7 +6,7 @@ use Rattle.std.specs.Result.{is_err}
 use Rattle.ob_hash.proofs.Sizes.{blocks_whole}
 use Rattle.ob_flat.proofs.Tables.{fits_sized, blocks_hold}
 use Rattle.ob_exec.specs.Engines.{AreSettings}
-use Rattle.std.specs.Prelude.{IsSome, OnOk, IfErr, IfOk, OnErr, map}
+use Rattle.std.specs.Prelude.{IsSome, OnOk, IfErr, IfOk, map}
 use Rattle.std.specs.Option.{option_map}
 use Rattle.std.specs.List.{list_all}
 use Rattle.ob_base.specs.declared.access.Access.{Access}
@@ -14,7 +14,6 @@ use Rattle.ob_base.specs.declared.config.Plan.TheVariants.{Small, Large, Continu
 use Rattle.ob_base.specs.declared.refusal.Refusal.TheVariants.{Overflow as OverflowAt}
 use Rattle.ob_base.specs.declared.shown.Shown.{Shown}
 use Rattle.ob_base.specs.Events.{Event, row_events}
-use Rattle.ob_base.proofs.EventLemmas.{halted_none}
 use Rattle.ob_row.specs.Rows.{Row}
 use Rattle.ob_row.specs.Slots.{rows}
 use Rattle.ob_row.specs.Totals.{printed}
@@ -47,8 +46,10 @@ use Rattle.ob_exec.specs.declared.selecting.Selected.TheVariants.{Rows, Refused}
 use Rattle.ob_exec.specs.Memory.{is_reading, starts_with_make, ends_with_make}
 use Rattle.ob_exec.specs.Selecting.{SealsRows, emitted_unless, selected_as}
 use Rattle.ob_exec.specs.Results.{Planned, PlannedToEnd, PlannedToHalt, MakesResult, EmitsResult, WalksResult, SelectsBy, EmitsHeld, slots_for, fresh_flat, make_part, whole_part, left_out, held_slots, held_shown, held_events, head_of}
-use Rattle.ob_exec.proofs.ResultParts.{whole_is, starts-make, starts-more, rest-reading, all-join, all-emission}
-use Rattle.ob_exec.proofs.ResultReads.{emitted_from, halted_from}
+use Rattle.ob_exec.proofs.ResultParts.{whole_is, starts-make, starts-more, rest-reading}
+use Rattle.ob_exec.proofs.ResultReads.{emitted_from}
+use Rattle.ob_exec.proofs.UntilLemmas.{until_none, until_from, until_ends, ends_halted}
+use Rattle.ob_emit.specs.Emitting.{table_shown}
 use Rattle.ob_exec.proofs.ResultRows.{held_count}
 
 many_shown : (cols : List ℕ) (is : List Row) → length (map (printed cols) is) ≡ length is
@@ -111,20 +112,16 @@ pub if_ok_map : {T F : Type 0} {P Q : T → Type 0} (x : Result T F) → ((v : T
 if_ok_map (Ok v) f h = f v h
 if_ok_map (Err e) f h = tt
 
-pub on_err_map : {T F P Q : Type 0} (x : Result T F) → (P → Q) → OnErr x P → OnErr x Q
-on_err_map (Ok v) f h = tt
-on_err_map (Err e) f h = f h
-
 pub err_is : {A : Type 0} {e f : OpErr} → ◌≡◌ {A = Result A OpErr} (Err e) (Err f) → e ≡ f
 err_is same = cc
 
-place_more : (done rest more : List Access) → IsTrue (list_all is_reading more) → IsTrue (ends_with_make done) ⊎ IsTrue (starts_with_make rest) ⊎ IsTrue (list_all is_reading rest)
-    → IsTrue (ends_with_make done) ⊎ IsTrue (starts_with_make (rest ++ more)) ⊎ IsTrue (list_all is_reading (rest ++ more))
-place_more done rest more reads place = elim place [
+place_more : {Halts : Type 0} (done rest more : List Access) → IsTrue (ends_with_make done) ⊎ IsTrue (starts_with_make rest) ⊎ (IsTrue (list_all is_reading rest) × ⊥)
+    → IsTrue (ends_with_make done) ⊎ IsTrue (starts_with_make (rest ++ more)) ⊎ (IsTrue (list_all is_reading (rest ++ more)) × Halts)
+place_more done rest more place = elim place [
   | inl ends ↦ inl ends
   | inr other ↦ elim other [
     | inl starts ↦ inr (inl (starts-more rest more starts))
-    | inr all ↦ inr (inr (all-join rest more all reads))
+    | inr all ↦ absurd all.1
   ]
 ]
 
@@ -166,8 +163,7 @@ module _ {E : Type 0} (grew cut : E → E → List Event → Type 0) (faults : E
           may = tt;
           memory = λ is. record { done = []; rest = whole_part r v.next; split = refl; asked = went.did.asked; place = inr (inl (starts-more (make_part r v.next) _ (starts-make r v.next))) };
           emitted = tt;
-          halted = halted_none grew cut _ out;
-          failed = λ is. absurd (cc is);
+          halted = until_none grew cut (head_of r.selection) NoMemory _ out (λ is. cc is);
           sink = refl;
           told = λ s. inr (inr refl);
           before = λ s left. let e = ap length rests.asked in omega (arith, e, whole-length r v.next some, make-some r v.next);
@@ -199,8 +195,7 @@ module _ {E : Type 0} (grew cut : E → E → List Event → Type 0) (faults : E
           may = is.may;
           memory = λ e. let m = is.memory e in record { done = m.done; rest = m.rest; split = m.split; asked = m.asked ∙ ap (λ (l : List Access). l ++ m.done) rests.asked; place = m.place };
           emitted = if_ok_map result (λ answer h. rests_held answer new out_old out_new h) is.emitted;
-          halted = on_err_map result (λ h. halted_from (halt_rests new) (λ p. refl) h) is.halted;
-          failed = λ e. halted_from (halt_rests new) (λ p. refl) (is.failed e);
+          halted = if_err_map result (λ e h. until_from grew cut (head_of r.selection) e (λ p. held_events r p.slots) (λ p. held_events r p.slots) out_old out_new (halt_rests new) (λ p. inl refl) h) is.halted;
           sink = is.sink;
           told = λ p. is.told (end_rests new p);
           before = λ p left. if_err_map result (λ e h. subst (λ (n : ℕ). done_of (is_of_access e) (length new.store.asked - n) + 1 < length (whole_part r v.next)) same h) (is.before (halt_rests new p) left);
@@ -231,10 +226,9 @@ module _ {E : Type 0} (grew cut : E → E → List Event → Type 0) (faults : E
       may = tt;
       memory = λ none.
           let m = is.memory (ap Err (err_is none)) in
-          record { done = m.done; rest = m.rest ++ script; split = sym (append_assoc m.done m.rest script) ∙ ap (λ (x : List Access). x ++ script) m.split ∙ whole_is r g some; asked = m.asked; place = place_more m.done m.rest script (all-emission g (blocks_of pack fresh)) m.place };
+          record { done = m.done; rest = m.rest ++ script; split = sym (append_assoc m.done m.rest script) ∙ ap (λ (x : List Access). x ++ script) m.split ∙ whole_is r g some; asked = m.asked; place = place_more m.done m.rest script m.place };
       emitted = tt;
-      halted = halted_none grew cut _ out;
-      failed = λ none. halted_none grew grew _ out;
+      halted = until_none grew cut (head_of r.selection) e _ out (λ sink. is.never (ap Err sink));
       sink = sink_none Selected e _ (λ sink. is.never (ap Err sink));
       told = λ s. elim (is.told s) [ inl f ↦ inl f | inr n ↦ inr (inr n) ];
       before = λ s left. let few = began-few (make_part r g) old mid is.ran.err.began in done_few e _ _ (omega (arith, few.0, whole-length r g some, least));
@@ -284,7 +278,6 @@ module _ {E : Type 0} (grew cut : E → E → List Event → Type 0) (faults : E
               memory = λ none. absurd (cc none);
               emitted = emitted_from back (λ s. refl) is.emitted;
               halted = tt;
-              failed = λ none. absurd (cc none);
               sink = is.sink;
               told = λ s.
                   let t = end_mid (Ok n) is.ran s in
@@ -314,11 +307,11 @@ module _ {E : Type 0} (grew cut : E → E → List Event → Type 0) (faults : E
                     rest = b.rest;
                     split = append_assoc (make_part r g) b.done b.rest ∙ ap (λ (x : List Access). make_part r g ++ x) b.split ∙ whole_is r g some;
                     asked = b.asked ∙ ap (λ (x : List Access). x ++ b.done) made.ran.ok.did.asked ∙ append_assoc old.store.asked (make_part r g) b.done;
-                    place = inr (inr (rest-reading g (blocks_of pack fresh) b.done b.rest b.split));
+                    place = inr (inr (rest-reading g (blocks_of pack fresh) b.done b.rest b.split, ends_halted grew cut (head_of r.selection) e (λ s. table_shown r.selection.cols s.slots) out_old out_new (err_is none) is.halted));
                   };
               emitted = tt;
-              halted = halted_from back (λ s. same_events (halt_mid {T = ℕ} (Err e) is.ran s)) is.halted;
-              failed = λ none. halted_from back (λ s. same_events (halt_mid {T = ℕ} (Err e) is.ran s)) (is.failed (ap Err (err_is none)));
+              halted = until_from grew cut (head_of r.selection) e (λ s. head_of r.selection ++ row_events (table_shown r.selection.cols s.slots)) (λ s. held_events r s.slots) out_old out_new back
+                  (λ s. inl (same_events (halt_mid {T = ℕ} (Err e) is.ran s))) (until_ends grew cut (head_of r.selection) e (λ s. table_shown r.selection.cols s.slots) out_old out_new is.halted);
               sink = sink_as ℕ Selected e _ _ is.sink;
               told = λ s. let t = end_mid {T = ℕ} (Err e) is.ran s in is.told (held_slots r s.slots) (held t) s.honest.nolie;
               before = λ s left. absurd (left_none _ (is_done (halt_mid {T = ℕ} (Err e) is.ran s)) left);
@@ -340,7 +333,6 @@ module _ {E : Type 0} (grew cut : E → E → List Event → Type 0) (faults : E
               memory = λ none. absurd (cc none);
               emitted = refl;
               halted = tt;
-              failed = λ none. absurd (cc none);
               sink = refl;
               told = λ s. ap (λ (o : Option ℕ). selected_as (option_map OverflowAt o) r.k) (left (end_mid (Ok v) is.ran s));
               before = λ s some. tt;
@@ -358,8 +350,7 @@ module _ {E : Type 0} (grew cut : E → E → List Event → Type 0) (faults : E
               may = tt;
               memory = λ none. absurd (is.never.1 (err_is none));
               emitted = tt;
-              halted = halted_none grew cut _ out;
-              failed = λ none. halted_none grew grew _ out;
+              halted = until_none grew cut (head_of r.selection) e _ out is.never.0;
               sink = sink_none Selected e _ is.never.0;
               told = λ s. let t = end_mid {T = T} (Err e) is.ran s in inl (is.told (held_slots r s.slots) (made.told t).1 s.honest.nolie);
               before = λ s left.

@@ -9,9 +9,11 @@ use Rattle.ob_base.specs.declared.config.Plan.{Plan}
 use Rattle.ob_base.specs.declared.config.Public.{Public}
 use Rattle.ob_base.specs.declared.seen.Seen.{Seen}
 use Rattle.ob_base.specs.Accesses.{discard_at}
-use Rattle.ob_base.specs.Events.{Event}
+use Rattle.ob_base.specs.Events.{Event, Leads}
+use Rattle.ob_emit.specs.Emitting.{header}
 use Rattle.ob_seal.specs.KeySet.{KeySet}
-use Rattle.ob_store.specs.State.{StoreState}
+use Rattle.ob_store.specs.State.{Lie, StoreState}
+use Rattle.ob_store.specs.Runs.{Later}
 use Rattle.ob_store.proofs.Steps.{none_before}
 use Rattle.ob_base.specs.declared.seen.End.{End}
 use Rattle.ob_row.specs.Slots.{Slots}
@@ -21,8 +23,8 @@ use Rattle.ob_script.proofs.Lengths.{length-count_part}
 use Rattle.ob_exec.proofs.RowsLawful.{seen_as}
 use Rattle.ob_exec.proofs.RowsNothing.{part_late}
 use Rattle.ob_vault.specs.State.{Start, World}
-use Rattle.ob_vault.specs.Tied.{Calm, Fits, IsUnfit}
-use Rattle.ob_vault.proofs.WorldSteps.{calm_none}
+use Rattle.ob_vault.specs.Tied.{Fits, IsUnfit, ReadsIn}
+use Rattle.ob_vault.proofs.WorldSteps.{calm_none, reads_on}
 use Rattle.ob_vault.specs.Calls.{Lasts, Seals, Went, one}
 use Rattle.ob_vault.proofs.Runs.{seals_join, went_join, went_wider}
 use Rattle.ob_flat.specs.declared.fault.OpErr.{OpErr}
@@ -36,15 +38,17 @@ use Rattle.ob_mean.specs.Verdict.{Tables}
 use Rattle.ob_sql.specs.declared.stmt.SelectRows.{SelectRows}
 use Rattle.ob_exec.specs.declared.selecting.Selected.{Selected}
 use Rattle.ob_exec.specs.declared.selecting.Selected.TheVariants.{Rows, Refused}
-use Rattle.ob_exec.specs.Memory.{AtMake, ends_with_make, is_reading, starts_with_make}
-use Rattle.ob_exec.specs.Selecting.{EmitsSelected, HoldsSeen, MayHold, SealsRows, Selection, SelectsFrom, SelectsToEnd, SelectsToHalt, counted_after, from, places, region_of, seen_of, selection_script, walked_after}
+use Rattle.ob_exec.specs.Memory.{AtMake, HasHalted, ends_with_make, is_reading, starts_with_make}
+use Rattle.ob_exec.specs.Selecting.{EmitsSelected, HoldsSeen, MayHold, SealsRows, Selection, SelectsFrom, SelectsToEnd, SelectsToHalt, answer_events, counted_after, from, places, region_of, seen_of, selection_script, walked_after}
 use Rattle.ob_exec.specs.Sources.{EmitsRows, EndsRows, HaltsRows, HoldsRows, LacksRowMemory, LeavesNone, SourceToEnd, SourceToHalt, rows_script, rows_skeleton, slots_of, stated}
 use Rattle.ob_exec.specs.Telling.{AreHeld}
 use Rattle.ob_exec.proofs.RowsLength.{Seconded, alone, followed, held_empty, rows_seconded}
 use Rattle.ob_exec.proofs.RowsReach.{counted_some}
 use Rattle.ob_exec.proofs.RowsStated.{ends_stated, may_stated}
 use Rattle.ob_exec.proofs.RowsStops.{lie_none}
-use Rattle.ob_exec.proofs.RowsTable.{an_error, emitted_from, halted_from}
+use Rattle.ob_exec.proofs.RowsTable.{an_error, emitted_from}
+use Rattle.ob_exec.proofs.UntilLemmas.{until_from}
+use Rattle.ob_exec.proofs.BegunLemmas.{lie_before, went_in}
 
 -- ---- where want of memory comes
 ends_behind : (x done : List Access) → IsTrue (ends_with_make done) → IsTrue (ends_with_make (x ++ done))
@@ -120,6 +124,24 @@ module _ (p : Public) (select : SelectRows) (g : ℕ) (x : List Access) (a b : W
   abbrev q : Selection
   q = stated p select g 1
 
+  -- a changed block that was read by the end of the selection
+  reads_by : (c : World) → Later b.store c.store → ((y : SelectsToEnd q b b) (lie : Lie) → c.store.lie ≡ Some lie → ReadsIn lie (b.store.asked ++ selection_script q (seen_of q y.slots) b.vault.next))
+      → (y : SourceToEnd p a a) (lie : Lie) → c.store.lie ≡ Some lie → ReadsIn lie (a.store.asked ++ rows_script p select (seen_of q (slots_of p select y.tables)))
+  reads_by c later begun y lie told =
+      let slots = slots_of p select y.tables in
+      let meant = seen_of q slots in
+      let part = selection_script q meant (g + 1) in
+      let last = ending_for meant.k (discard_at g) in
+      let all = ap (λ (l : List Access). a.store.asked ++ l) (sym (script_is meant)) in
+      elim (lie_before b.store c.store lie later told) [
+        | inl nolie ↦
+            reads_on lie (b.store.asked ++ part) last _
+            (sym all ∙ sym (append_assoc a.store.asked x (part ++ last)) ∙ ap (λ (l : List Access). l ++ (part ++ last)) (sym made.did.asked) ∙ sym (append_assoc b.store.asked part last))
+            (subst (λ (n : ℕ). ReadsIn lie (b.store.asked ++ selection_script q meant n)) after
+            (begun (record { tells = subst (λ (t : Bool). IsTrue t) (sym made.lasts.later.tells) y.tells; slots = slots; is = slots_are y.tables y.held y.tells nolie; nolie = nolie }) lie told))
+        | inr early ↦ subst (ReadsIn lie) all (went_in x (part ++ last) a b lie made y.nolie early)
+      ]
+
   -- its region was forgotten after an error
   module _ {E : Type 0} (grew cut : E → E → List Event → Type 0) (faults : E → ℕ) (now : Seen) (out_old out_new : E) (c d : World) (e : OpErr)
       (is : SelectsFrom grew cut faults q (Err e) now b c out_old out_new) (forgot : Went [] (one g) c d) (same : d.store ≡ c.store) (gone : d.vault.revs.live g ≡ None)
@@ -191,7 +213,7 @@ module _ (p : Public) (select : SelectRows) (g : ℕ) (x : List Access) (a b : W
         }
 
     -- want of memory behind the accesses that made it
-    lacks_all : e ≡ OpErrs.NoMemory → LacksRowMemory p select now a d
+    lacks_all : e ≡ OpErrs.NoMemory → LacksRowMemory p select now a d (HasHalted (Leads grew cut) out_old out_new)
     lacks_all wanted =
         let lacks = is.memory (an_error wanted) in
         let last = ending_for now.k (discard_at g) in
@@ -205,7 +227,7 @@ module _ (p : Public) (select : SelectRows) (g : ℕ) (x : List Access) (a b : W
           asked = ap (λ (t : StoreState). t.asked) same ∙ lacks.asked ∙ ap (λ (y : List Access). y ++ lacks.done) made.did.asked ∙ append_assoc a.store.asked x lacks.done;
           place = elim lacks.place [
             | inl make ↦ inl (place_behind x lacks.done lacks.rest last lacks.some make)
-            | inr emits ↦ inr (emits.0, reads_too lacks.rest last (reading_for now.k g) emits.1)
+            | inr emits ↦ inr (emits.0, reads_too lacks.rest last (reading_for now.k g) emits.1, emits.2)
           ];
         }
 
@@ -224,9 +246,9 @@ module _ (p : Public) (select : SelectRows) (g : ℕ) (x : List Access) (a b : W
             omega (arith, within, long, walks);
       };
       memory = lacks_all;
-      halted = halted_from _ _ to_halt (λ y. refl) is.halted;
-      failed = λ wanted. halted_from _ _ to_halt (λ y. refl) (is.failed (an_error wanted));
+      halted = until_from grew cut (header q.flat.schema q.cols) e (λ y. answer_events q y.slots) (λ y. answer_events q (slots_of p select y.tables)) out_old out_new to_halt (λ y. inl refl) is.halted;
       honest = λ y. is.told (to_end y);
+      begun = λ y lie told. reads_by c is.ran.err.lasts.later is.begun y lie (sym (ap (λ (t : StoreState). t.lie) same) ∙ told);
       held = λ y. subst (λ (n : ℕ). HoldsRows p select (slots_of p select y.tables) (is_of_access e) n now) (sym length_is) (all_holds (is_of_access e) (slots_of p select y.tables) (is.held (to_halt y)));
     }
 
@@ -275,4 +297,15 @@ module _ (p : Public) (select : SelectRows) (g : ℕ) (x : List Access) (a b : W
           ended = ends_stated p select g 1 answer now is.ended;
           emitted = behind_emits answer is.emitted;
           told = λ y. is.told (at_end y);
+          begun = λ y lie told. elim (lie_before c.store d.store lie discards.went.lasts.later told) [
+            | inl nolie ↦
+                let before = none_before b.store c.store is.ran.ok.lasts.later nolie in
+                let slots = slots_of p select y.tables in
+                let ends : SelectsToEnd q b c
+                = record { tells = subst (λ (t : Bool). IsTrue t) (sym made.lasts.later.tells) y.tells; slots = slots; is = slots_are y.tables y.held y.tells before; nolie = nolie } in
+                let meant = (is.told ends).1 in
+                subst (λ (x : Seen). ReadsIn lie (a.store.asked ++ rows_script p select x)) meant
+                (subst (λ (l : List Access). ReadsIn lie (a.store.asked ++ l)) (append-nil (rows_script p select now)) (went_in (rows_script p select now) [] a d lie (went_all counted.0 counted.1) y.nolie told))
+            | inr early ↦ reads_by c is.ran.ok.lasts.later is.begun y lie early
+          ];
         }

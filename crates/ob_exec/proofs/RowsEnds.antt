@@ -1,12 +1,7 @@
 -- A SELECT of rows that came to its end, or was refused for its rows.
-use Rattle.std.proofs.Common.{◌≡◌, ℕ, Bool, true, false, List, [], ◌∷◌, ◌++◌, length, Option, Some, None, Ok, Result, refl, sym, ◌∙◌, ap, subst, arith}
-use Rattle.std.specs.Prelude.{IsTrue}
-use Rattle.std.specs.List.{list_all}
+use Rattle.std.proofs.Common.{◌≡◌, inl, ℕ, Bool, true, false, List, [], ◌∷◌, ◌++◌, length, Option, Some, None, Ok, refl, sym, ◌∙◌, ap, subst, arith}
 use Rattle.std.proofs.lemmas.List.{length-map}
 use Rattle.ob_base.specs.declared.refusal.Refusal.{Refusal}
-use Rattle.ob_base.specs.declared.refusal.Stop.{Stop}
-use Rattle.ob_sql.specs.declared.stmt.Stmt.{Stmt}
-use Rattle.ob_base.specs.declared.shown.Shown.{Shown}
 use Rattle.ob_base.specs.declared.seen.Seen.{Seen}
 use Rattle.ob_base.specs.Events.{Event, Head, Row, Close, Leads, row_events}
 use Rattle.ob_base.specs.Refusals.{is_store_fault}
@@ -21,12 +16,12 @@ use Rattle.ob_sql.specs.declared.stmt.Stmt.TheVariants.{SelectRows as RowsStmt}
 use Rattle.ob_mean.specs.Prints.{Prints}
 use Rattle.ob_mean.specs.Verdict.{Tables, rows_refusal, verdict}
 use Rattle.ob_exec.specs.declared.engine.Engine.{Engine}
-use Rattle.ob_exec.specs.declared.outcome.Outcome.{Outcome}
 use Rattle.ob_exec.specs.declared.selecting.Selected.{Selected}
 use Rattle.ob_exec.specs.declared.selecting.Selected.TheVariants.{Rows, Refused}
 use Rattle.ob_exec.specs.Agreeing.{Agrees, world_of}
 use Rattle.ob_exec.specs.Refusals.{by_fault}
-use Rattle.ob_exec.specs.Running.{is_fault, is_row, refusal_now}
+use Rattle.ob_exec.specs.Running.{IsBegunAnswer, is_fault, refusal_now}
+use Rattle.ob_exec.proofs.UntilLemmas.{are_rows}
 use Rattle.ob_exec.specs.Selecting.{answer_events, answer_of, emitted_unless, places, selected_as, shown_rows}
 use Rattle.ob_exec.specs.Serving.{Answered, Serves}
 use Rattle.ob_exec.specs.Sources.{EndsRows, IsFew, UsesRoomFor, closing, selected_outcome, selection, slots_of}
@@ -34,16 +29,12 @@ use Rattle.ob_exec.specs.Telling.{Emitted, ReadsTrue, Represents, Told, answer_l
 use Rattle.ob_exec.proofs.RowsLawful.{ended_late, ended_well, lawful_ended}
 use Rattle.ob_exec.proofs.RowsMeaning.{rows_outcome, rows_prints, rows_seen, rows_settle}
 use Rattle.ob_exec.proofs.RowsRun.{rows_after, rows_ran}
-use Rattle.ob_exec.proofs.RowsStops.{IsSource, early, early_none, headed, rows_of, still_held, to_end}
+use Rattle.ob_exec.proofs.RowsStops.{IsSource, early, early_none, headed, rows_begun, rows_of, still_held, to_end}
 use Rattle.ob_exec.proofs.RunLemmas.{of_other}
 
-are_rows : (shown : List (List Shown)) → IsTrue (list_all is_row (row_events shown))
-are_rows [] = refl
-are_rows (x ∷ xs) = are_rows xs
-
-either_way : (failed : Bool) → by_fault failed (Unit {0}) (◌≡◌ {A = List Event} [] [])
-either_way true = tt
-either_way false = refl
+either_way : (labels : List (List ℕ)) (failed : Bool) → by_fault failed (IsBegunAnswer labels []) (◌≡◌ {A = List Event} [] [])
+either_way labels true = record { rows = []; are_rows = refl; is = inl refl }
+either_way labels false = refl
 
 as_rows : (r : Option Refusal) (n k : ℕ) → Rows k ≡ selected_as r n → r ≡ None
 as_rows None n k is = refl
@@ -108,7 +99,7 @@ module _ {R : Type 0} (state : R → RevState) (old : Engine R) (s : StoreState)
   answered_refused r is closes = record {
     events = [];
     took = closes out_old [] (subst (λ (e : E). grew out_old e []) (sym is.emitted) (starts out_old));
-    emits = either_way (is_store_fault r);
+    emits = either_way (answer_labels (RowsStmt select) old.public) (is_store_fault r);
     told = λ tables reads.
         let told = is.told (to_end state old s v room t select agrees free source is.ran.lasts tables reads) in
         let refused = as_refused (rows_refusal old.public (places (selection old.public select) (slots_of old.public select tables))) _ r told.0 in
@@ -153,12 +144,10 @@ module _ {R : Type 0} (state : R → RevState) (old : Engine R) (s : StoreState)
     answered = answered_by answer is few closes;
     stopped = tt;
     sink = sink;
-    means = record { told = told_by answer is; honest = λ tables reads. tt; held = λ tables reads. tt };
+    means = record {
+      told = told_by answer is;
+      honest = λ tables reads. tt;
+      held = λ tables reads. tt;
+      begun = rows_begun state old s v room t select agrees free source is.ran.lasts is.begun;
+    };
   }
-
--- the same, of an equal answer and an equal engine
-pub serves_as : {R E : Type 0} (state : R → RevState) (grew cut : E → E → List Event → Type 0) (faults : E → ℕ) (stmt : Stmt) (old : Engine R) (s t : StoreState) (out_old out_new : E)
-    (r q : Result Outcome Stop) (new same : Engine R) → r ≡ q → new ≡ same → Serves state grew cut faults stmt q old s same t out_old out_new → Serves state grew cut faults stmt r old s new t out_old out_new
-serves_as {R} state grew cut faults stmt old s t out_old out_new r q new same answer is serves =
-    subst (λ (e : Engine R). Serves state grew cut faults stmt r old s e t out_old out_new) (sym is)
-    (subst (λ (a : Result Outcome Stop). Serves state grew cut faults stmt a old s same t out_old out_new) (sym answer) serves)

@@ -243,6 +243,7 @@ module _ {R : Type 0} (state : R → RevState) (old : Engine R) (s s1 : StoreSta
             halted = pairs_halt grew cut old.public select now before after out script (selection_script q now (old.vault.next + 1) ++ ending_for now.k (discard_at old.vault.next))
                 (Make old.vault.next (Rattle.ob_join.specs.Join.blocks pass) (old.room.pack * width (columns pass) + 32)) (fill_script pass old.vault.next) e
                 (join_asks state old s i j t u a b on equals select agrees get_a get_b named_a named_b of_join lcol rcol now)
-                refl refl cut_all none_left sealed_rows fresh (omega (arith, counts, least)) lacked told_honest;
+                (λ y. (_, join_asks state old s i j t u a b on equals select agrees get_a get_b named_a named_b of_join lcol rcol y))
+                refl refl cut_all none_left sealed_rows fresh (omega (arith, counts, least)) lacked no_emitter told_honest;
             sink = no_sink e (faults out) no_emitter;
           }

@@ -1,5 +1,5 @@
 -- A SELECT of rows of which nothing was counted yet.
-use Rattle.std.proofs.Common.{◌≡◌, inl, inr, ◌≤◌, ◌<◌, ◌+◌, ◌-◌, ℕ, Bool, false, List, [], ◌++◌, length, Option, Some, None, refl, sym, ◌∙◌, ap, subst, arith, length-append, append-nil}
+use Rattle.std.proofs.Common.{◌≡◌, inl, inr, ◌≤◌, ◌<◌, ◌+◌, ◌-◌, ℕ, Bool, false, List, [], ◌++◌, length, Option, Some, None, refl, sym, ◌∙◌, ap, subst, arith, length-append}
 use Rattle.std.specs.Prelude.{IsSome, nat_le}
 use Rattle.std.specs.Option.{option_map_or}
 use Rattle.ob_base.specs.declared.access.Access.{Access}
@@ -13,6 +13,8 @@ use Rattle.ob_base.specs.declared.skeleton.Source.{Source}
 use Rattle.ob_base.specs.declared.skeleton.Source.TheVariants.{Table as OneTable, Join}
 use Rattle.ob_base.specs.Accesses.{discard_at}
 use Rattle.ob_base.specs.Events.{Event}
+use Rattle.ob_emit.specs.Emitting.{header}
+use Rattle.ob_exec.proofs.UntilLemmas.{until_none}
 use Rattle.ob_base.specs.Stored.{Stored, stored_at, stored_regions}
 use Rattle.ob_row.specs.Slots.{Slots}
 use Rattle.ob_script.specs.Parts.{count_part}
@@ -27,7 +29,7 @@ use Rattle.ob_flat.specs.declared.fault.OpErr.TheVariants as OpErrs
 use Rattle.ob_sql.specs.declared.stmt.SelectRows.{SelectRows}
 use Rattle.ob_mean.specs.Replay.{count_end, done_of, held_if, walk_end}
 use Rattle.ob_mean.specs.Verdict.{ended as seen_to}
-use Rattle.ob_exec.specs.Selecting.{from, places, seen_of}
+use Rattle.ob_exec.specs.Selecting.{answer_events, from, places, seen_of}
 use Rattle.ob_exec.specs.Sources.{HaltsRows, HoldsRows, LeavesNone, SourceToHalt, rows_script, rows_skeleton, selection, slots_of}
 use Rattle.ob_exec.proofs.RowsLawful.{seen_as}
 use Rattle.ob_exec.proofs.RowsLength.{Seconded, alone, followed, held_empty, held_none, rows_seconded}
@@ -113,12 +115,9 @@ module _ {E : Type 0} (grew cut : E → E → List Event → Type 0) (p : Public
           walk = λ some. let is = subst (λ (x : Seen). IsSome x.then) fresh some in absurd (cc is);
         };
         memory = λ wanted. record { done = []; rest = rows_script p select now; split = refl; asked = went.did.asked; place = inl (inl refl) };
-        halted = record {
-          events = [];
-          ends = inl (λ e events took. subst (λ (all : List Event). grew e out all) (sym (append-nil events)) took);
-          told = λ (x : SourceToHalt p (world v s) (world v t)). (_, refl);
-        };
-        failed = λ is. absurd (cc is);
+        halted = until_none grew cut (header (selection p select).flat.schema (selection p select).cols) OpErrs.NoMemory
+            (λ (x : SourceToHalt p (world v s) (world v t)). answer_events (selection p select) (slots_of p select x.tables)) out (λ is. cc is);
         honest = λ x. inr (inr refl);
+        begun = λ x lie told. absurd (cc (x.nolie, rests.lie, told));
         held = λ x. holds_nothing p select (slots_of p select x.tables) false (length t.asked - length s.asked) now fresh (omega (arith, same, counts));
       }

@@ -1,11 +1,13 @@
 -- A SELECT of a join that its pairing stopped.
-use Rattle.std.proofs.Common.{◌≡◌, ◌⊎◌, inl, inr, ◌≤◌, ◌<◌, ◌-◌, ℕ, Bool, true, false, List, [], ◌∷◌, ◌++◌, length, refl, sym, ◌∙◌, ap, subst, arith, length-append, append-nil, append_assoc}
+use Rattle.std.proofs.Common.{◌≡◌, ◌⊎◌, inl, inr, ◌≤◌, ◌<◌, ◌-◌, ℕ, Bool, true, false, List, [], ◌∷◌, ◌++◌, length, refl, sym, ◌∙◌, ap, subst, arith, length-append, append_assoc}
 use Rattle.std.specs.Prelude.{IsSome}
 use Rattle.ob_base.specs.declared.access.Access.{Access}
 use Rattle.ob_base.specs.declared.config.Public.{Public}
 use Rattle.ob_base.specs.declared.seen.Seen.{Seen}
 use Rattle.ob_base.specs.declared.seen.End.TheVariants.{Whole}
-use Rattle.ob_base.specs.Events.{Event, Leads}
+use Rattle.ob_base.specs.Events.{Event}
+use Rattle.ob_emit.specs.Emitting.{header}
+use Rattle.ob_exec.proofs.UntilLemmas.{until_none}
 use Rattle.ob_store.specs.Runs.{Began}
 use Rattle.ob_vault.specs.State.{World}
 use Rattle.ob_flat.specs.declared.fault.OpErr.{OpErr}
@@ -16,7 +18,9 @@ use Rattle.ob_mean.specs.Replay.{count_end, done_of}
 use Rattle.ob_mean.specs.Verdict.{ended as seen_to}
 use Rattle.ob_sql.specs.declared.stmt.SelectRows.{SelectRows}
 use Rattle.ob_exec.specs.Memory.{AtMake, is_make}
-use Rattle.ob_exec.specs.Selecting.{MayHold, SealsRows, from}
+use Rattle.ob_exec.specs.Selecting.{MayHold, SealsRows, answer_events, from, seen_of}
+use Rattle.ob_exec.proofs.BegunLemmas.{cut_in}
+use Rattle.ob_vault.specs.Tied.{ReadsIn}
 use Rattle.ob_exec.specs.Sources.{HaltsRows, LeavesNone, SourceToEnd, SourceToHalt, rows_script, rows_skeleton, selection, slots_of}
 use Rattle.ob_exec.proofs.RowsNothing.{holds_nothing}
 
@@ -31,12 +35,9 @@ at_make (x ∷ []) rest more make made is = let same : x ≡ make = cc is in inr
 at_make (x ∷ y ∷ done) rest more make made is = absurd (cc is)
 
 module _ {E : Type 0} (grew cut : E → E → List Event → Type 0) (p : Public) (select : SelectRows) (now : Seen) (a b : World) (out : E) (x more : List Access) (make : Access) (fill : List Access) (e : OpErr)
-    (script_is : rows_script p select now ≡ x ++ more) (makes : x ≡ (make ∷ []) ++ fill) (is_one : is_make make ≡ true) (halts : PassCut e x (from a.vault.next) a b) (leaves : LeavesNone a b) (seals : SealsRows p.pack a b)
+    (script_is : rows_script p select now ≡ x ++ more) (begins : (y : Seen) → (behind : List Access) × (rows_script p select y ≡ x ++ behind)) (makes : x ≡ (make ∷ []) ++ fill) (is_one : is_make make ≡ true) (halts : PassCut e x (from a.vault.next) a b) (leaves : LeavesNone a b) (seals : SealsRows p.pack a b)
     (fresh : now ≡ seen_to Whole) (counts : length x < count_end p (rows_skeleton select)) (memory : e ≡ OpErrs.NoMemory → Began (make ∷ []) a.store b.store)
-    (honest : SourceToEnd p a b → (e ≡ OpErrs.Failed) ⊎ (e ≡ OpErrs.NoMemory)) where
-  still : Leads grew grew out out []
-  still first events took = subst (λ (all : List Event). grew first out all) (sym (append-nil events)) took
-
+    (no_sink : e ≡ OpErrs.Sink → ⊥) (honest : SourceToEnd p a b → (e ≡ OpErrs.Failed) ⊎ (e ≡ OpErrs.NoMemory)) where
   short : length b.store.asked - length a.store.asked ≤ length x
   short =
       let asked = ap length halts.began.asked in
@@ -66,8 +67,10 @@ module _ {E : Type 0} (grew cut : E → E → List Event → Type 0) (p : Public
           asked = began.asked;
           place = inl (at_make began.done began.rest (began.rest ++ (fill ++ more)) make is_one began.split);
         };
-    halted = record { events = []; ends = inl still; told = λ (y : SourceToHalt p a b). (_, refl) };
-    failed = λ failed. record { events = []; ends = inl still; told = λ (y : SourceToHalt p a b). (_, refl) };
+    halted = until_none grew cut (header (selection p select).flat.schema (selection p select).cols) e (λ (y : SourceToHalt p a b). answer_events (selection p select) (slots_of p select y.tables)) out no_sink;
+    begun = λ y lie told.
+        let meant = begins (seen_of (selection p select) (slots_of p select y.tables)) in
+        subst (ReadsIn lie) (ap (λ (l : List Access). a.store.asked ++ l) (sym meant.1)) (cut_in e x meant.0 a b lie halts y.nolie told);
     honest = λ y. elim (honest y) [ inl failed ↦ inl failed | inr wanted ↦ inr (inr wanted) ];
     held = λ y.
         let n = length b.store.asked - length a.store.asked in

@@ -28,6 +28,7 @@ use Rattle.ob_flat.specs.declared.fault.OpErr.{OpErr}
 use Rattle.ob_flat.specs.declared.fault.OpErr.TheVariants as OpErrs
 use Rattle.ob_flat.specs.Passes.{PassCause, is_of_access}
 use Rattle.ob_emit.specs.Emitting.{header}
+use Rattle.ob_exec.proofs.UntilLemmas.{until_given}
 use Rattle.ob_sql.specs.declared.stmt.SelectRows.{SelectRows}
 use Rattle.ob_mean.specs.Replay.{count_end, held_if, walk_end}
 use Rattle.ob_mean.specs.Verdict.{ended as seen_to}
@@ -154,9 +155,6 @@ closing_cause e a b never faults calm = elim never [
   | inr is ↦ subst (λ (x : OpErr). PassCause x a b) (sym is) (faults, calm)
 ]
 
-not_failed : {P : Type 0} (e : OpErr) → (e ≡ OpErrs.Sink) ⊎ (e ≡ OpErrs.NoMemory) → e ≡ OpErrs.Failed → P
-not_failed e never failed = elim never [ inl is ↦ absurd (cc (is, failed)) | inr is ↦ absurd (cc (is, failed)) ]
-
 no_access : (e : OpErr) → (e ≡ OpErrs.Sink) ⊎ (e ≡ OpErrs.NoMemory) → is_of_access e ≡ false
 no_access e never = elim never [ inl is ↦ ap is_of_access is | inr is ↦ ap is_of_access is ]
 
@@ -191,8 +189,8 @@ module _ {E : Type 0} (grew cut : E → E → List Event → Type 0) (p : Public
       let head = header (selection p select).flat.schema (selection p select).cols in
       record {
         events = (head ++ row_events is.emitted.rows) ++ closing (Rows k);
-        ends = inr (λ e events took. subst (λ (all : List Event). cut e out_new all) (append_assoc events (head ++ row_events is.emitted.rows) (closing (Rows k)))
-            (closes e (events ++ (head ++ row_events is.emitted.rows)) (is.emitted.leads e events took)));
+        ends = λ e events took. subst (λ (all : List Event). cut e out_new all) (append_assoc events (head ++ row_events is.emitted.rows) (closing (Rows k)))
+            (closes e (events ++ (head ++ row_events is.emitted.rows)) (is.emitted.leads e events took));
         told = λ (s : SourceToHalt p old new).
             let told = is.told (at_end (Rows k) is s) in
             let none = rows_none (Rattle.ob_mean.specs.Verdict.rows_refusal p (Rattle.ob_exec.specs.Selecting.places (selection p select) (slots_of p select s.tables))) _ k told.0 in
@@ -206,7 +204,7 @@ module _ {E : Type 0} (grew cut : E → E → List Event → Type 0) (p : Public
       let head = header (selection p select).flat.schema (selection p select).cols in
       record {
         events = [];
-        ends = inr (subst (λ (e : E). Leads grew cut e out_new []) is.emitted closes);
+        ends = subst (λ (e : E). Leads grew cut e out_new []) is.emitted closes;
         told = λ (s : SourceToHalt p old new).
             let told = is.told (at_end (Refused r) is s) in
             let refused = refused_some (Rattle.ob_mean.specs.Verdict.rows_refusal p (Rattle.ob_exec.specs.Selecting.places (selection p select) (slots_of p select s.tables))) _ r told.0 in (
@@ -240,6 +238,7 @@ module _ {E : Type 0} (grew cut : E → E → List Event → Type 0) (p : Public
       let sum = length-append old.store.asked all in
       let counts = counts_within p select now in
       let walks = walks_within p select now in
+      let ends = closing_events answer is closes in
       record {
         ran = record {
           lasts = is.ran.lasts;
@@ -256,10 +255,11 @@ module _ {E : Type 0} (grew cut : E → E → List Event → Type 0) (p : Public
           rest = [];
           split = append-nil all;
           asked = is.ran.did.asked;
-          place = inr (counted_some (selection p select) answer now.k now.plan now.then now.end is.holds is.ended, refl);
+          place = inr (counted_some (selection p select) answer now.k now.plan now.then now.end is.holds is.ended, refl, record { events = ends.events; ends = ends.ends });
         };
-        halted = closing_events answer is closes;
-        failed = λ failed. not_failed e never failed;
+        halted = until_given grew cut (header (selection p select).flat.schema (selection p select).cols) e All out_old out_new never ends;
+        failed = λ failed. absurd (elim never [ inl is ↦ cc (is, failed) | inr is ↦ cc (is, failed) ]);
         honest = λ s. inr never;
+        begun = is.begun;
         held = λ s. subst (λ (b : Bool). HoldsRows p select (slots_of p select s.tables) b (length new.store.asked - length old.store.asked) now) (sym (no_access e never)) (holds_all answer is s);
       }

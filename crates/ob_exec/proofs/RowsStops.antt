@@ -1,44 +1,51 @@
 -- A SELECT of rows that was stopped, or that the store cut off.
-use Rattle.std.proofs.Common.{◌≡◌, ◌⊎◌, inl, inr, ◌≤◌, ◌-◌, ℕ, Bool, true, false, List, [], ◌++◌, length, Option, Some, None, Err, Result, refl, sym, ◌∙◌, ap, subst, arith, length-append, append_assoc}
-use Rattle.std.specs.Prelude.{IfOk, OnErr, IfErr}
+use Rattle.std.proofs.Common.{◌≡◌, ◌⊎◌, inl, inr, ◌≤◌, ◌-◌, if◌then◌else◌, ℕ, Bool, true, false, List, [], ◌∷◌, ◌++◌, length, Option, Some, None, Err, Result, refl, sym, ◌∙◌, ap, subst, arith, length-append}
+use Rattle.std.specs.Prelude.{IfOk, IfErr}
 use Rattle.ob_base.specs.declared.config.Public.{Public}
 use Rattle.ob_base.specs.declared.refusal.Stop.{Stop}
 use Rattle.ob_base.specs.declared.refusal.Stop.TheVariants as Stops
 use Rattle.ob_base.specs.declared.seen.Seen.{Seen}
 use Rattle.ob_base.specs.declared.seen.End.TheVariants.{Static, Cut}
-use Rattle.ob_base.specs.Events.{Event, IsHalted, Leads}
+use Rattle.ob_base.specs.Events.{Event, Head, Leads, row_events}
 use Rattle.ob_base.specs.Stored.{headings, headings_of}
 use Rattle.ob_room.specs.RoomState.{RoomState}
 use Rattle.ob_row.specs.Bags.{Same}
-use Rattle.ob_row.specs.Slots.{rows}
+use Rattle.ob_row.specs.Slots.{rows, is_consecutive}
+use Rattle.ob_base.specs.declared.access.Access.{Access}
+use Rattle.ob_base.specs.declared.config.Plan.{Plan}
+use Rattle.ob_base.specs.declared.config.Plan.TheVariants.{Small, Large, Continuous, Hash}
+use Rattle.ob_script.specs.Script.{script, until_end}
 use Rattle.ob_seal.specs.KeySet.{KeySet}
 use Rattle.ob_store.specs.State.{StoreState, Lie}
 use Rattle.ob_store.proofs.Steps.{none_before}
 use Rattle.ob_vault.specs.State.{RevState, World, Start}
-use Rattle.ob_vault.specs.Tied.{Calm, IsUnfit, Fits}
+use Rattle.ob_vault.specs.Tied.{Calm, IsUnfit, Fits, ReadsIn}
 use Rattle.ob_vault.specs.Calls.{Lasts}
 use Rattle.ob_vault.specs.declared.vault.Vault.{Vault}
 use Rattle.ob_vault.specs.Places.{at}
 use Rattle.ob_flat.specs.declared.fault.OpErr.{OpErr}
 use Rattle.ob_flat.specs.declared.fault.OpErr.TheVariants as OpErrs
 use Rattle.ob_flat.specs.Passes.{PassCut, SinkCause as PassSink, is_of_access}
-use Rattle.ob_emit.specs.Emitting.{labels_of}
+use Rattle.ob_emit.specs.Emitting.{header, labels_of}
 use Rattle.ob_sql.specs.declared.stmt.SelectRows.{SelectRows}
 use Rattle.ob_sql.specs.declared.stmt.Stmt.TheVariants.{SelectRows as RowsStmt}
 use Rattle.ob_mean.specs.Refusals.{early_refusal}
 use Rattle.ob_mean.specs.Replay.{cut_at}
 use Rattle.ob_mean.specs.Step.{source_rows}
-use Rattle.ob_mean.specs.Verdict.{Tables, database, is_late, seen}
+use Rattle.ob_mean.specs.Verdict.{Tables, database, is_late, plan_for, seen, seen_rows, seen_with}
 use Rattle.ob_verdict.specs.Laws.{AreInPlace}
 use Rattle.ob_exec.specs.declared.engine.Engine.{Engine}
 use Rattle.ob_exec.specs.declared.outcome.Outcome.{Outcome}
 use Rattle.ob_exec.specs.declared.selecting.Selected.{Selected}
 use Rattle.ob_exec.specs.Agreeing.{Agrees, world_of}
 use Rattle.ob_exec.specs.Running.{RefusedEarly, SinkCause, answer_of, is_stop, refusal_now}
-use Rattle.ob_exec.specs.Selecting.{MayHold, SealsRows, answer_events, answer_of as selected_of, from}
-use Rattle.ob_exec.specs.Serving.{Answered, Serves, Stopped}
-use Rattle.ob_exec.specs.Sources.{HaltsRows, HoldsRows, LacksRowMemory, LeavesNone, ReachesRows, SourceToEnd, SourceToHalt, UsesRoomFor, closing, rows_script, rows_skeleton, selection, slots_of}
-use Rattle.ob_exec.specs.Telling.{IsNotTampered, ReadsTrue, ReadsTrueUntil, Represents, SeenCut, Told, answer_labels, is_refused}
+use Rattle.ob_exec.specs.Selecting.{MayHold, SealsRows, answer_events, answer_of as selected_of, from, places, seen_of}
+use Rattle.ob_exec.specs.Serving.{Answered, EndsWithin, Serves, Stopped}
+use Rattle.ob_exec.specs.Halting.{EmitsUntil, TakesPart}
+use Rattle.ob_exec.specs.Memory.{HasHalted}
+use Rattle.ob_exec.proofs.UntilLemmas.{are_rows, until_failed, until_more}
+use Rattle.ob_exec.specs.Sources.{HaltsRows, HoldsRows, LacksRowMemory, LeavesNone, ReachesRows, ReadsMeant, SourceToEnd, SourceToHalt, UsesRoomFor, closing, rows_script, rows_skeleton, selection, slots_of}
+use Rattle.ob_exec.specs.Telling.{IsNotTampered, ReadsTrue, ReadsTrueUntil, Represents, SeenCut, Told, answer_labels, is_refused, meant_script}
 use Rattle.ob_exec.proofs.HeldLemmas.{held_headings, held_kept}
 use Rattle.ob_exec.proofs.RowsLawful.{lawful_cut}
 use Rattle.ob_exec.proofs.RowsMeaning.{rows_partly, rows_seen, rows_unfinished}
@@ -71,33 +78,45 @@ pub record StopsRows {E : Type 0} (grew cut : E → E → List Event → Type 0)
   pub seals : SealsRows p.pack old new
   pub holds : MayHold (selection p select) now.k now.plan now.then
   pub reached : ReachesRows p select now (length new.store.asked - length old.store.asked)
-  pub memory : error ≡ OpErrs.NoMemory → LacksRowMemory p select now old new
-  pub halted : IsHalted grew cut
+  pub memory : error ≡ OpErrs.NoMemory → LacksRowMemory p select now old new (HasHalted (Leads grew cut) out_old out_new)
+  pub halted : EmitsUntil grew cut error (header (selection p select).flat.schema (selection p select).cols)
       (λ (s : SourceToHalt p old new). answer_events (selection p select) (slots_of p select s.tables) ++ closing (selected_of (selection p select) (slots_of p select s.tables))) out_old out_new
-  pub failed : error ≡ OpErrs.Failed → IsHalted grew grew (λ (s : SourceToHalt p old new). answer_events (selection p select) (slots_of p select s.tables)) out_old out_new
+  pub failed : error ≡ OpErrs.Failed → TakesPart grew (header (selection p select).flat.schema (selection p select).cols)
+      (λ (s : SourceToHalt p old new). answer_events (selection p select) (slots_of p select s.tables)) out_old out_new
   pub honest : SourceToEnd p old new → (error ≡ OpErrs.Failed) ⊎ (error ≡ OpErrs.Sink) ⊎ (error ≡ OpErrs.NoMemory)
   pub held : (s : SourceToHalt p old new) → HoldsRows p select (slots_of p select s.tables) (is_of_access error) (length new.store.asked - length old.store.asked) now
+  pub begun : ReadsMeant p select old new
+
+-- a SELECT of rows comes to its end, or is refused behind its count
+until_rows : (p : Public) (n : ℕ) (places : List ℕ) (all : List Access) → until_end (seen_rows p n places).end all ≡ all
+until_rows p n [] all = refl
+until_rows p n (i ∷ is) all = by (plan_for p n (i ∷ is))
+  where
+    side : (b : Bool) (x y : Seen) → until_end x.end all ≡ all → until_end y.end all ≡ all → until_end (if b then x else y).end all ≡ all
+    side true x y one two = one
+    side false x y one two = two
+
+    by : (plan : Plan) → until_end (seen_with p plan (i ∷ is)).end all ≡ all
+    by Small = refl
+    by Large = refl
+    by Continuous = side (is_consecutive (i ∷ is)) _ _ refl refl
+    by Hash = refl
 
 pub stops_halted : {E : Type 0} {grew cut : E → E → List Event → Type 0} {p : Public} {select : SelectRows} {error : OpErr} {now : Seen} {old new : World} {out_old out_new : E}
     → HaltsRows grew cut p select error now old new out_old out_new → StopsRows grew cut p select error now old new out_old out_new
-stops_halted {p = p} {select = select} {old = old} {new = new} is = record {
+stops_halted {grew = grew} {cut = cut} {p = p} {select = select} {error = error} {old = old} {new = new} {out_old = out_old} {out_new = out_new} is = record {
   ran = is.ran;
   leaves = is.leaves;
   seals = is.seals;
   holds = is.holds;
   reached = is.reached;
   memory = is.memory;
-  halted = record {
-    events = is.halted.events;
-    ends = is.halted.ends;
-    told = λ (s : SourceToHalt p old new).
-        let rest = is.halted.told s in
-        let more = closing (selected_of (selection p select) (slots_of p select s.tables)) in
-        (rest.0 ++ more, sym (append_assoc is.halted.events rest.0 more) ∙ ap (λ (events : List Event). events ++ more) rest.1);
-  };
-  failed = is.failed;
+  halted = until_more grew cut (header (selection p select).flat.schema (selection p select).cols) error (λ (s : SourceToHalt p old new). answer_events (selection p select) (slots_of p select s.tables))
+      (λ s. closing (selected_of (selection p select) (slots_of p select s.tables))) out_old out_new is.halted;
+  failed = λ failed. until_failed grew cut (header (selection p select).flat.schema (selection p select).cols) error (λ (s : SourceToHalt p old new). answer_events (selection p select) (slots_of p select s.tables)) out_old out_new failed is.halted;
   honest = is.honest;
   held = is.held;
+  begun = is.begun;
 }
 
 pub early_none : (p : Public) (m : ℕ) (select : SelectRows) (result : Result Outcome Stop) (now : Seen) → refusal_now p m (RowsStmt select) ≡ None → (now.end ≡ Static → ⊥)
@@ -115,14 +134,6 @@ sink_of OpErrs.Failed a b cause = cause
 sink_of (OpErrs.Tampered q x) a b cause = cause
 sink_of OpErrs.Sink a b cause = cause
 sink_of OpErrs.NoMemory a b cause = cause
-
--- an emitter that took nothing before
-took : {E : Type 0} (grew : E → E → List Event → Type 0) (a b : E) (events : List Event) → ((x : E) → grew x x []) → Leads grew grew a b events ⊎ Leads grew grew a b events → grew a b events
-took grew a b events starts ends = elim ends [ inl leads ↦ leads a [] (starts a) | inr leads ↦ leads a [] (starts a) ]
-
-ended_by : {E : Type 0} (grew cut : E → E → List Event → Type 0) (a b : E) (events : List Event) → ((x : E) → grew x x []) → Leads grew grew a b events ⊎ Leads grew cut a b events
-    → grew a b events ⊎ cut a b events
-ended_by grew cut a b events starts ends = elim ends [ inl leads ↦ inl (leads a [] (starts a)) | inr leads ↦ inr (leads a [] (starts a)) ]
 
 module _ {R : Type 0} (state : R → RevState) (old : Engine R) (s : StoreState) (v : Vault R) (room : RoomState) (t : StoreState) (select : SelectRows)
     (agrees : Agrees state old s) (free : refusal_now old.public (length s.asked) (RowsStmt select) ≡ None) (source : IsSource old.public select)
@@ -182,6 +193,16 @@ module _ {R : Type 0} (state : R → RevState) (old : Engine R) (s : StoreState)
         ∙ ap (cut_at failed (length t.asked - length s.asked) old.public (rows_skeleton select))
         (sym (rows_seen old.public (length s.asked) select tables headed stands.in_place early agrees.settings.pack_least agrees.settings.blocks source.labelled rows_of))
 
+  pub rows_begun : ReadsMeant old.public select before after → (tables : Tables) → ReadsTrue state old s s tables → (lie : Lie) → t.lie ≡ Some lie
+      → ReadsIn lie (s.asked ++ meant_script old.public (length s.asked) tables (RowsStmt select))
+  rows_begun begun tables reads lie told =
+      let q = selection old.public select in
+      let slots = slots_of old.public select tables in
+      let meant = rows_seen old.public (length s.asked) select tables (headed tables reads.held) reads.held.in_place (early tables reads.held) agrees.settings.pack_least agrees.settings.blocks source.labelled (rows_of tables reads.held) in
+      subst (λ (l : List Access). ReadsIn lie (s.asked ++ l))
+      (sym (ap (script old.public (rows_skeleton select)) meant ∙ until_rows old.public (length slots) (places q slots) (rows_script old.public select (seen_of q slots))))
+      (begun (record { tells = reads.tells; tables = tables; held = reads.held.held; in_place = reads.held.in_place; nolie = reads.nolie }) lie told)
+
   module _ {E : Type 0} (grew cut : E → E → List Event → Type 0) (faults : E → ℕ) (starts : (x : E) → grew x x []) (now : Seen) (n : ℕ) (out_old out_new : E)
       (count : n ≡ length t.asked - length s.asked) where
     abbrev stopped_engine : OpErr → Engine R
@@ -216,35 +237,43 @@ module _ {R : Type 0} (state : R → RevState) (old : Engine R) (s : StoreState)
     stop_answered : (e : OpErr) → StopsRows grew cut old.public select e now before after out_old out_new
         → IfOk (answer_of e) (λ outcome. Answered state grew (RowsStmt select) outcome old s t out_old out_new)
     stop_answered OpErrs.Failed is =
-        let halted = is.failed refl in
+        let part = is.failed refl in
         record {
-          events = halted.events;
-          took = took grew out_old out_new halted.events starts halted.ends;
-          emits = tt;
+          events = part.events;
+          took = part.leads out_old [] (starts out_old);
+          emits = record {
+            rows = row_events part.rows;
+            are_rows = are_rows part.rows;
+            is = elim part.is [ inl none ↦ inl none | inr begun ↦ inr (begun ∙ ap (λ (labels : List (List ℕ)). Head labels ∷ row_events part.rows) source.labelled) ];
+          };
           told = λ tables reads.
-              let rest = halted.told (to_halt tables reads) in
+              let rest = part.told (to_halt tables reads) in
               rows_unfinished old.public (length s.asked) select tables (headed tables reads.held) reads.held.in_place (early tables reads.held)
-              agrees.settings.pack_least agrees.settings.blocks source.labelled (rows_of tables reads.held) halted.events rest.0 rest.1;
+              agrees.settings.pack_least agrees.settings.blocks source.labelled (rows_of tables reads.held) part.events rest.0 rest.1;
         }
     stop_answered (OpErrs.Tampered q x) is = tt
     stop_answered OpErrs.Sink is = tt
     stop_answered OpErrs.NoMemory is = tt
 
-    stop_partly : (e : OpErr) → StopsRows grew cut old.public select e now before after out_old out_new → Stopped state grew cut (RowsStmt select) old s (stopped_engine e) t out_old out_new
-    stop_partly e is = record {
-      events = is.halted.events;
-      ends = ended_by grew cut out_old out_new is.halted.events starts is.halted.ends;
+    abbrev All : SourceToHalt old.public before after → List Event
+    All x = answer_events (selection old.public select) (slots_of old.public select x.tables) ++ closing (selected_of (selection old.public select) (slots_of old.public select x.tables))
+
+    stop_partly : (e : OpErr) (stop : Stop) (events : List Event) → EndsWithin grew cut stop out_old out_new events → ((x : SourceToHalt old.public before after) → (rest : List Event) × (events ++ rest ≡ All x))
+        → Stopped state grew cut (RowsStmt select) stop old s (stopped_engine e) t out_old out_new
+    stop_partly e stop events ends told = record {
+      events = events;
+      ends = ends;
       told = λ tables reads.
           rows_partly old.public (length s.asked) select tables (headed tables reads.held) reads.held.in_place (early tables reads.held)
-          agrees.settings.pack_least agrees.settings.blocks source.labelled (rows_of tables reads.held) is.halted.events (is.halted.told (until (record now { end = Cut n }) (is_stop (answer_of e)) tables reads));
+          agrees.settings.pack_least agrees.settings.blocks source.labelled (rows_of tables reads.held) events (told (until (record now { end = Cut n }) (is_stop (answer_of e)) tables reads));
     }
 
     stop_stopped : (e : OpErr) → StopsRows grew cut old.public select e now before after out_old out_new
-        → OnErr (answer_of e) (Stopped state grew cut (RowsStmt select) old s (stopped_engine e) t out_old out_new)
+        → IfErr (answer_of e) (λ stop. Stopped state grew cut (RowsStmt select) stop old s (stopped_engine e) t out_old out_new)
     stop_stopped OpErrs.Failed is = tt
-    stop_stopped (OpErrs.Tampered q x) is = stop_partly (OpErrs.Tampered q x) is
-    stop_stopped OpErrs.Sink is = stop_partly OpErrs.Sink is
-    stop_stopped OpErrs.NoMemory is = stop_partly OpErrs.NoMemory is
+    stop_stopped (OpErrs.Tampered q x) is = let part = is.halted in stop_partly (OpErrs.Tampered q x) (Stops.Tampered q x) part.events (part.leads out_old [] (starts out_old)) part.told
+    stop_stopped OpErrs.Sink is = let part = is.halted in stop_partly OpErrs.Sink Stops.SinkFault part.events (part.ends out_old [] (starts out_old)) part.told
+    stop_stopped OpErrs.NoMemory is = let part = is.halted in stop_partly OpErrs.NoMemory Stops.NoMemory part.events (part.ends out_old [] (starts out_old)) part.told
 
     few : (e : OpErr) → PassCut e (rows_script old.public select now) (from old.vault.next) before after → n ≤ length (rows_script old.public select now)
     few e cut =
@@ -267,10 +296,19 @@ module _ {R : Type 0} (state : R → RevState) (old : Engine R) (s : StoreState)
       lawful = lawful_cut old.public select (length s.asked) free now n is.holds (subst (λ (k : ℕ). ReachesRows old.public select now k) (sym count) is.reached) (few e is.ran);
       memory = λ wanted.
           let lacks = is.memory (only_memory e wanted) in
-          record { done = lacks.done; rest = lacks.rest; split = lacks.split; asked = lacks.asked; place = lacks.place };
+          record {
+            done = lacks.done;
+            rest = lacks.rest;
+            split = lacks.split;
+            asked = lacks.asked;
+            place = elim lacks.place [
+              | inl make ↦ inl make
+              | inr emits ↦ inr ((emits.0, emits.1), record { events = emits.2.events; ends = emits.2.ends out_old [] (starts out_old) })
+            ];
+          };
       seals = is.seals;
       answered = stop_answered e is;
       stopped = stop_stopped e is;
       sink = sink_of e _ _ sink;
-      means = record { told = stop_told e is; honest = stop_honest e is; held = stop_held e is };
+      means = record { told = stop_told e is; honest = stop_honest e is; held = stop_held e is; begun = rows_begun is.begun };
     }

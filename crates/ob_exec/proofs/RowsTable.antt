@@ -1,5 +1,5 @@
 -- A SELECT of the rows of a table.
-use Rattle.std.proofs.Common.{◌≡◌, ◌≤◌, ◌<◌, ◌+◌, ◌-◌, ◌*◌, ℕ, zero, suc, Bool, true, false, List, [], ◌∷◌, ◌++◌, map, length, length-append, Option, Some, None, Ok, Err, Result, refl, sym, ◌∙◌, ap, subst, arith, append-nil}
+use Rattle.std.proofs.Common.{◌≡◌, inl, ◌≤◌, ◌<◌, ◌+◌, ◌-◌, ◌*◌, ℕ, zero, suc, Bool, true, false, List, [], ◌∷◌, ◌++◌, map, length, length-append, Option, Some, None, Ok, Err, Result, refl, sym, ◌∙◌, ap, subst, arith, append-nil}
 use Rattle.std.specs.Prelude.{IsTrue, nat_le, slice_get, unwrap_or}
 use Rattle.std.proofs.lemmas.Bool.Decides.{nat_tests}
 use Rattle.std.proofs.lemmas.List.{length-map}
@@ -15,7 +15,7 @@ use Rattle.ob_base.specs.declared.shown.Shown.{Shown}
 use Rattle.ob_base.specs.declared.skeleton.Skeleton.TheVariants.{Rows as RowsSkeleton}
 use Rattle.ob_base.specs.declared.skeleton.Source.{Source}
 use Rattle.ob_base.specs.declared.skeleton.Source.TheVariants.{Table as OneTable}
-use Rattle.ob_base.specs.Events.{Event, IsEmitted, IsHalted}
+use Rattle.ob_base.specs.Events.{Event, IsEmitted}
 use Rattle.ob_base.specs.declared.skeleton.ColumnName.{ColumnName}
 use Rattle.ob_base.specs.Lists.{places_of, tabulate}
 use Rattle.ob_base.specs.Limits.{buffered_blocks}
@@ -27,6 +27,7 @@ use Rattle.ob_script.specs.Parts.{count_part}
 use Rattle.ob_script.specs.Script.{blocks_of, extent_of, select_part, source_script, table_script}
 use Rattle.ob_script.proofs.Lengths.{length-count_part}
 use Rattle.ob_store.specs.State.{StoreState}
+use Rattle.ob_vault.specs.Tied.{ReadsIn}
 use Rattle.ob_store.specs.Calls.{Rests}
 use Rattle.ob_store.proofs.Steps.{later_rests}
 use Rattle.ob_vault.specs.State.{RevState, World}
@@ -38,7 +39,8 @@ use Rattle.ob_vault.proofs.WordLemmas.{ready_rests, seals_rests, went_rests}
 use Rattle.ob_flat.specs.declared.fault.OpErr.{OpErr}
 use Rattle.ob_flat.specs.declared.flat.Flat.{Flat}
 use Rattle.ob_flat.specs.Flats.{IsFlat, IsSized, Represents}
-use Rattle.ob_emit.specs.Emitting.{AreColumns}
+use Rattle.ob_emit.specs.Emitting.{AreColumns, header}
+use Rattle.ob_exec.proofs.UntilLemmas.{until_from}
 use Rattle.ob_flat.specs.Passes.{PassCut, is_of_access}
 use Rattle.ob_flat.proofs.Resting.{represents_rests}
 use Rattle.ob_flat.proofs.Runs.{pass_after}
@@ -59,8 +61,8 @@ use Rattle.ob_exec.specs.declared.selecting.Selected.{Selected}
 use Rattle.ob_exec.specs.declared.selecting.Selected.TheVariants.{Rows, Refused}
 use Rattle.ob_exec.specs.Agreeing.{Agrees, world_of}
 use Rattle.ob_exec.specs.Engines.{flat_of}
-use Rattle.ob_exec.specs.Selecting.{HoldsSeen, MaySelect, Selection, SelectsFrom, SelectsToEnd, SelectsToHalt, EmitsSelected, counted_after, from, region_of, seen_of, selection_script, walked_after}
-use Rattle.ob_exec.specs.Sources.{EmitsRows, EndsRows, HaltsRows, HoldsRows, SelectsRows, SourceToEnd, SourceToHalt, rows_script, rows_skeleton, selection, slots_of, stated}
+use Rattle.ob_exec.specs.Selecting.{HoldsSeen, MaySelect, Selection, SelectsFrom, SelectsToEnd, SelectsToHalt, EmitsSelected, answer_events, counted_after, from, region_of, seen_of, selection_script, walked_after}
+use Rattle.ob_exec.specs.Sources.{EmitsRows, EndsRows, HaltsRows, HoldsRows, ReadsMeant, SelectsRows, SourceToEnd, SourceToHalt, rows_script, rows_skeleton, selection, slots_of, stated}
 use Rattle.ob_exec.specs.Telling.{AreHeld}
 use Rattle.ob_exec.proofs.FoundLemmas.{heading_found}
 use Rattle.ob_exec.proofs.HeldLemmas.{held_at}
@@ -83,10 +85,6 @@ listed_few (Some names) cs few wide = let same = length-map names (λ (c : Colum
 pub emitted_from : {E A B : Type 0} {grew : E → E → List Event → Type 0} {head : List Event} {from to : ℕ} {a b : E} (sa : A → List (List Shown)) (sb : B → List (List Shown)) (f : B → A) → ((x : B) → sa (f x) ≡ sb x)
     → IsEmitted grew head sa from to a b → IsEmitted grew head sb from to a b
 emitted_from sa sb f same is = record { rows = is.rows; count = is.count; leads = is.leads; told = λ x. is.told (f x) ∙ same x }
-
-pub halted_from : {E A B : Type 0} {grew cut : E → E → List Event → Type 0} {a b : E} (sa : A → List Event) (sb : B → List Event) (f : B → A) → ((x : B) → sa (f x) ≡ sb x)
-    → IsHalted grew cut sa a b → IsHalted grew cut sb a b
-halted_from sa sb f same is = record { events = is.events; ends = is.ends; told = λ x. ((is.told (f x)).0, (is.told (f x)).1 ∙ same x) }
 
 pub stated_is : (p : Public) (select : SelectRows) (flat : Flat) (condition : Condition) (cols : List ℕ) (ending : ℕ) → flat.schema ≡ (selection p select).flat.schema → flat.capacity ≡ (selection p select).flat.capacity
     → condition ≡ (selection p select).condition → cols ≡ (selection p select).cols
@@ -196,6 +194,12 @@ module _ {R : Type 0} (state : R → RevState) (old : Engine R) (s s1 : StoreSta
       table_emits (Rows k) is = emitted_from _ _ to_end (λ x. refl) is
       table_emits (Refused r) is = is
 
+      table_begun : {result : Result Selected OpErr} → SelectsFrom grew cut faults q result now ready after out_old out_new → ReadsMeant old.public select before after
+      table_begun is x lie told =
+          let slots = slots_of old.public select x.tables in
+          subst (ReadsIn lie) (λ j. rests.asked j ++ script_is (seen_of q slots) j)
+          (is.begun (record { tells = subst (λ (b : Bool). IsTrue b) (sym rests.tells) x.tells; slots = slots; is = holds_slots x.tables x.held; nolie = rests.lie ∙ x.nolie }) lie told)
+
       table_ends : (answer : Selected) → SelectsFrom grew cut faults q (Ok answer) now ready after out_old out_new → EndsRows grew old.public select answer now before after out_old out_new
       table_ends answer is = record {
         ran = subst (λ (x : List Access). Went x (from old.vault.next) before after) (script_is now)
@@ -206,6 +210,7 @@ module _ {R : Type 0} (state : R → RevState) (old : Engine R) (s s1 : StoreSta
         ended = ends_stated old.public select t.region 0 answer now is.ended;
         emitted = table_emits answer is.emitted;
         told = λ x. is.told (to_end x);
+        begun = table_begun is;
       }
 
       table_holds : (failed : Bool) (slots : Slots) → HoldsSeen q slots failed (length u.asked - length s1.asked) now → HoldsRows old.public select slots failed (length u.asked - length s.asked) now
@@ -229,10 +234,10 @@ module _ {R : Type 0} (state : R → RevState) (old : Engine R) (s s1 : StoreSta
         memory = λ wanted.
             let lacks = is.memory (an_error wanted) in
             record { done = lacks.done; rest = lacks.rest; split = lacks.split ∙ script_is now; asked = lacks.asked ∙ ap (λ (x : List Access). x ++ lacks.done) rests.asked; place = lacks.place };
-        halted = halted_from _ _ to_halt (λ x. refl) is.halted;
-        failed = λ wanted. halted_from _ _ to_halt (λ x. refl) (is.failed (an_error wanted));
+        halted = until_from grew cut (header q.flat.schema q.cols) e (λ x. answer_events q x.slots) (λ x. answer_events q (slots_of old.public select x.tables)) out_old out_new to_halt (λ x. inl refl) is.halted;
         honest = λ x. is.told (to_end x);
         held = λ x. table_holds (is_of_access e) (slots_of old.public select x.tables) (is.held (to_halt x));
+        begun = table_begun is;
       }
 
       -- it is a SELECT of the rows of a source

@@ -10,7 +10,7 @@ use Rattle.ob_base.specs.declared.seen.End.TheVariants.{Whole, AfterCount}
 use Rattle.ob_base.specs.Events.{Event, row_events}
 use Rattle.ob_base.specs.Limits.{buffered}
 use Rattle.ob_base.specs.Plans.{choose}
-use Rattle.ob_base.proofs.EventLemmas.{halted_none, emitted_head}
+use Rattle.ob_base.proofs.EventLemmas.{emitted_head}
 use Rattle.ob_room.specs.RoomState.{RoomState}
 use Rattle.ob_row.specs.Truth.{is_true}
 use Rattle.ob_script.proofs.Lengths.{length-count_part}
@@ -39,8 +39,10 @@ use Rattle.ob_exec.specs.Results.{IsPlanned, planned, whole_part, SelectsBy, Emi
 use Rattle.ob_exec.proofs.ResultParts.{length_hash}
 use Rattle.ob_exec.proofs.ResultSteps.{err_is, sink_none, first_block, began-few}
 use Rattle.ob_exec.proofs.SelectTold.{counted_is}
-use Rattle.ob_exec.proofs.SelectSecond.{second_emitted, second_halted, second_failed, second_told, second_held}
-use Rattle.ob_exec.proofs.SelectFirst.{IsFinal, first_emitted, first_told, first_halted, first_failed, first_held}
+use Rattle.ob_exec.proofs.UntilLemmas.{until_none, until_given}
+use Rattle.ob_exec.proofs.BegunLemmas.{cut_in, lie_before, went_in}
+use Rattle.ob_exec.proofs.SelectSecond.{second_begun, second_emitted, second_halted, second_told, second_held}
+use Rattle.ob_exec.proofs.SelectFirst.{IsFinal, first_begun, first_emitted, first_told, first_halted, first_held}
 use Rattle.ob_exec.proofs.SelectHeld.{uncounted_held, counted_held, walked_hash, done_behind}
 use Rattle.ob_exec.proofs.SelectMeans.{seen_none, refusal_none, shown_none, seen_apart, refuses_apart}
 use Rattle.ob_exec.proofs.ResultReads.{emitted_from}
@@ -86,15 +88,18 @@ module _ {E : Type 0} (grew cut : E → E → List Event → Type 0) (faults : E
     reached = record { count = λ some. absurd (cc some); walk = λ some. absurd (cc some) };
     memory = λ none. absurd (never (err_is none));
     emitted = tt;
-    halted = halted_none grew cut _ out;
-    failed = λ none. halted_none grew grew _ out;
-    sink = sink_none Selected e _ (λ sink. elim is.never [ inl f ↦ cc (f, sink) | inr t ↦ cc (t.is, sink) ]);
+    halted = until_none grew cut (head_of q) e _ out no_sink;
+    sink = sink_none Selected e _ no_sink;
     told = λ s. inl (is.told s.slots s.is s.nolie);
+    begun = λ s lie told. cut_in e (counts_of q) _ old mid lie is.ran.err s.nolie told;
     held = λ s. uncounted_held q s.slots e (length mid.store.asked - length old.store.asked) may.settings of_access (omega (arith, (began-few (counts_of q) old mid is.ran.err.began).0, length-count_part q.flat.region (counted_after q))) (count_some q room old may);
   }
     where
       of_access : is_of_access e ≡ true
       of_access = elim is.never [ inl f ↦ ap is_of_access f | inr t ↦ ap is_of_access t.is ]
+
+      no_sink : e ≡ Sink → ⊥
+      no_sink sink = elim is.never [ inl f ↦ cc (f, sink) | inr t ↦ cc (t.is, sink) ]
 
       never : e ≡ NoMemory → ⊥
       never none = elim is.never [ inl f ↦ cc (f, none) | inr t ↦ cc (t.is, none) ]
@@ -158,10 +163,10 @@ module _ {E : Type 0} (grew cut : E → E → List Event → Type 0) (faults : E
       emitted = subst (λ (a : Selected). EmitsSelected grew q a old mid out_old out_new) (sym head.ok.0)
           (emitted_from {S = SelectsToEnd q old mid} (λ s. s) (λ s. none_shown s.slots (no_places s.slots s.is s.nolie empty)) (emitted_head grew (head_of q) out_old out_new head.ok.1));
       halted = tt;
-      failed = λ none. absurd (cc none);
       sink = head.sink;
       told = λ s. let none = no_places s.slots s.is s.nolie empty in (head.ok.0 ∙ none_answer s.slots none, none_seen s.slots none empty);
       held = λ s. tt;
+      begun = λ s lie told. went_in (counts_of q) _ old mid lie count s.nolie told;
     }
     end_none (Err e) out_old out_new empty head = record {
       ran = ran_alone (Err e) head.err.0;
@@ -177,13 +182,13 @@ module _ {E : Type 0} (grew cut : E → E → List Event → Type 0) (faults : E
         split = refl;
         asked = count.did.asked;
         some = not_empty (counts_of q) (omega (arith, count_some q room old may, length-count_part q.flat.region (counted_after q)));
-        place = inr (refl, refl);
+        place = inr (refl, refl, record { events = head_of q; ends = head.err.1 });
       };
       emitted = tt;
-      halted = record { events = head_of q; ends = inr head.err.1; told = λ s. ([], none_events s.slots (no_places s.slots s.is (halt_nolie s) empty)) };
-      failed = λ none. absurd (elim head.err.0 [ inl s ↦ cc (s, err_is none) | inr m ↦ cc (m, err_is none) ]);
+      halted = until_given grew cut (head_of q) e _ out_old out_new head.err.0 (record { events = head_of q; ends = head.err.1; told = λ s. ([], none_events s.slots (no_places s.slots s.is (halt_nolie s) empty)) });
       sink = head.sink;
       told = λ s. elim head.err.0 [ inl s ↦ inr (inl s) | inr m ↦ inr (inr m) ];
+      begun = λ s lie told. went_in (counts_of q) _ old mid lie count s.nolie told;
       held = λ s. counted_held q s.slots k None (is_of_access e) (length mid.store.asked - length old.store.asked) (sym (none_seen s.slots (no_places s.slots s.is (halt_nolie s) empty) empty))
           (done_behind e _ (counted_after q) (omega (arith, long)) (λ access. absurd (elim head.err.0 [ inl sink ↦ cc (sym access ∙ ap is_of_access sink) | inr none ↦ cc (sym access ∙ ap is_of_access none) ])));
     }
@@ -201,7 +206,6 @@ module _ {E : Type 0} (grew cut : E → E → List Event → Type 0) (faults : E
       memory = λ none. absurd (cc none);
       emitted = refl;
       halted = tt;
-      failed = λ none. absurd (cc none);
       sink = refl;
       told = λ s.
           let are = counted_is q k c Continuous old mid is s.slots s.is s.nolie in
@@ -212,6 +216,7 @@ module _ {E : Type 0} (grew cut : E → E → List Event → Type 0) (faults : E
             ap (λ (n : ℕ). counted n None None AfterCount) are.0 ∙ sym (seen_apart q.public (places q s.slots) (length s.slots) Continuous some so refl off),
           );
       held = λ s. tt;
+      begun = λ s lie told. went_in (counts_of q) _ old mid lie count s.nolie told;
     }
 
     module _ (plan : Plan) (side : plan ≡ Continuous → IsTrue c) (least : 1 ≤ k) (chosen : plan ≡ choose q.public.plan (buffered q.public.pack q.public.buffer) q.flat.capacity k c) where
@@ -249,9 +254,12 @@ module _ {E : Type 0} (grew cut : E → E → List Event → Type 0) (faults : E
                 };
             emitted = first_emitted q k c plan old mid is side least chosen grew cut faults new out_old out_new result by;
             halted = first_halted q k c plan old mid is side least chosen grew cut faults new out_old out_new result by;
-            failed = λ none. first_failed q k c plan old mid is side least chosen grew cut faults new out_old out_new result none by;
             sink = by.sink;
             told = first_told q k c plan old mid is side least chosen grew cut faults new out_old out_new result final by;
+            begun = λ s lie told. elim (lie_before mid.store new.store lie lasts.later told) [
+              | inl nolie ↦ first_begun q k c plan old mid is side least chosen may.ready new result by.ran s nolie lie told
+              | inr early ↦ went_in (counts_of q) _ old mid lie count s.nolie early
+            ];
             held = λ s. first_held q k c plan old mid is side least chosen grew cut faults new out_old out_new may.settings long (count_some q room old may) result by s;
           }
 
@@ -299,9 +307,15 @@ module _ {E : Type 0} (grew cut : E → E → List Event → Type 0) (faults : E
                 };
             emitted = second_emitted q k c old mid may.ready is least free chosen grew cut faults i late new out out_new first result by;
             halted = second_halted q k c old mid may.ready is least free chosen grew cut faults i late new out out_new first result by;
-            failed = λ none. second_failed q k c old mid may.ready is least free chosen grew cut faults i late new out out_new first result none by;
             sink = by.sink;
             told = second_told q k c old mid may.ready is least free chosen grew cut faults i late new out out_new first result by;
+            begun = λ s lie told. elim (lie_before late.store new.store lie lasts.later told) [
+              | inl nolie ↦ second_begun q k c old mid may.ready is least free chosen grew cut faults i late new out out_new first result by s nolie lie told
+              | inr before ↦ elim (lie_before mid.store late.store lie first.ran.ok.lasts.later before) [
+                | inl nolie ↦ first_begun q k c Hash old mid is (λ hashed. absurd (cc hashed)) least chosen may.ready late (Ok (Refused (Refusals.Overflow i))) first.ran s nolie lie before
+                | inr early ↦ went_in (counts_of q) _ old mid lie count s.nolie early
+              ]
+            ];
             held = second_held q k c old mid may.ready is least free chosen grew cut faults i late new out out_new first may.settings long result by;
           }
 

@@ -1,18 +1,24 @@
 -- What is told of a selection that its first plan ended.
-use Rattle.std.proofs.Common.{◌≡◌, ◌⊎◌, inl, inr, ◌≤◌, ◌+◌, ◌-◌, ℕ, Bool, IsTrue, List, [], ◌++◌, Option, None, Some, Result, Ok, Err, length, refl, sym, ◌∙◌, ap, subst, arith}
+use Rattle.std.proofs.Common.{◌≡◌, ◌⊎◌, inl, inr, ◌≤◌, ◌+◌, ◌-◌, ℕ, Bool, IsTrue, List, [], ◌++◌, append_assoc, Option, None, Some, Result, Ok, Err, length, refl, sym, ◌∙◌, ap, subst, arith}
 use Rattle.std.specs.Prelude.{IsSome, IfErr, IfOk, OnErr, OnOk, MatchResult}
 use Rattle.std.specs.Option.{option_map}
 use Rattle.ob_base.specs.declared.config.Plan.{Plan}
 use Rattle.ob_base.specs.declared.config.Plan.TheVariants.{Small, Large, Continuous, Hash}
 use Rattle.ob_base.specs.declared.refusal.Refusal.{Refusal}
 use Rattle.ob_base.specs.declared.refusal.Refusal.TheVariants.{Overflow}
+use Rattle.ob_base.specs.declared.access.Access.{Access}
+use Rattle.ob_base.specs.declared.seen.Seen.{Seen}
 use Rattle.ob_base.specs.declared.seen.End.TheVariants.{Whole}
-use Rattle.ob_base.specs.Events.{Event, IsHalted, row_events}
+use Rattle.ob_base.specs.Events.{Event, row_events}
 use Rattle.ob_base.specs.Limits.{buffered}
 use Rattle.ob_base.specs.Plans.{choose}
 use Rattle.ob_row.specs.Slots.{Slots, is_consecutive}
 use Rattle.ob_row.specs.Truth.{is_true}
+use Rattle.ob_store.specs.State.{Lie}
 use Rattle.ob_vault.specs.State.{World}
+use Rattle.ob_vault.specs.Tied.{ReadsIn, Ready}
+use Rattle.ob_vault.specs.Calls.{one}
+use Rattle.ob_flat.specs.Words.{Ran}
 use Rattle.ob_flat.specs.declared.fault.OpErr.{OpErr}
 use Rattle.ob_flat.specs.declared.fault.OpErr.TheVariants.{Failed, Sink, NoMemory}
 use Rattle.ob_flat.specs.Counted.{CountsRows}
@@ -20,7 +26,7 @@ use Rattle.ob_mean.specs.Verdict.{counted, bucket_size, fallback, first_unplaced
 use Rattle.ob_flat.specs.Passes.{is_of_access}
 use Rattle.ob_exec.specs.declared.selecting.Selected.{Selected}
 use Rattle.ob_exec.specs.declared.selecting.Selected.TheVariants.{Rows, Refused}
-use Rattle.ob_exec.specs.Selecting.{Selection, HoldsSeen, counted_after, SelectsToEnd, SelectsToHalt, EmitsSelected, places, selected_as, emitted_unless, answer_of, answer_events, seen_of}
+use Rattle.ob_exec.specs.Selecting.{Selection, HoldsSeen, counted_after, SelectsToEnd, SelectsToHalt, EmitsSelected, places, selected_as, emitted_unless, answer_of, answer_events, seen_of, selection_script}
 use Rattle.ob_exec.specs.Results.{Planned, planned, PlannedToEnd, PlannedToHalt, SelectsBy, left_out, whole_part, left_by, held_shown, held_events, head_of}
 use Rattle.ob_exec.proofs.ResultReads.{emitted_from}
 use Rattle.ob_exec.specs.Engines.{AreSettings}
@@ -28,7 +34,11 @@ use Rattle.ob_exec.proofs.ResultParts.{length_hash}
 use Rattle.ob_exec.proofs.ResultSteps.{began-few}
 use Rattle.ob_exec.proofs.SelectHeld.{counted_held, walking_held, walked_hash, done_behind, done_within}
 use Rattle.ob_exec.proofs.SelectMeans.{seen_is_first, seen_second, refuses_forced}
-use Rattle.ob_exec.proofs.SelectTold.{rows_left, refused_left, none_or_some, halted_maybe, counted_is, end_back, halt_back, is_plan, shown_is, seen_last, answer_last, events_last}
+use Rattle.ob_exec.proofs.UntilLemmas.{until_from}
+use Rattle.ob_exec.specs.Halting.{EmitsUntil}
+use Rattle.ob_exec.proofs.BegunLemmas.{ran_in}
+use Rattle.ob_exec.proofs.SelectRuns.{counts_of, next_counted}
+use Rattle.ob_exec.proofs.SelectTold.{suits_mid, rows_left, refused_left, none_or_some, counted_is, end_back, halt_back, is_plan, shown_is, seen_last, answer_last, events_last}
 
 -- what may be answered at last where a plan was taken first
 abbrev pub IsFinal : Selection → Selected → Type 0
@@ -96,6 +106,29 @@ module _ (q : Selection) (k : ℕ) (c : Bool) (plan : Plan) (old mid : World) (i
               seen_second q.public (places q mid_slots) (length mid_slots) plan some planned_so i hashed is_it (placed_so i left) ∙ ap (λ (n : ℕ). counted n (Some Hash) (Some Small) Whole) (sym suits.count),
             )
 
+  -- the accesses of these slots begin with those of the count and of the first plan
+  first_script : (slots : Slots) → length slots ≡ q.flat.capacity → Rattle.ob_exec.specs.Results.Suits (planned q plan k) slots → c ≡ is_consecutive (places q slots)
+      → (more : List Access) × (selection_script q (seen_of q slots) old.vault.next ≡ counts_of q ++ (whole_part (planned q plan k) old.vault.next ++ more))
+  first_script slots size suits same = elim (seen_cases slots size suits same) [
+    | inl seen ↦ ([], ap (λ (x : Seen). selection_script q x old.vault.next) seen)
+    | inr both ↦ (
+      whole_part (planned q Small k) (old.vault.next + 1) ++ [],
+      ap (λ (x : Seen). selection_script q x old.vault.next) both.2
+          ∙ ap (λ (p : Plan). counts_of q ++ (whole_part (planned q p k) old.vault.next ++ (whole_part (planned q Small k) (old.vault.next + 1) ++ []))) (sym both.0),
+    )
+  ]
+
+  pub first_begun : {T : Type 0} (ready : Ready old) (new : World) (result : Result T OpErr) → Ran (whole_part (planned q plan k) mid.vault.next) (one mid.vault.next) result mid new → (s : SelectsToEnd q old old)
+      → mid.store.lie ≡ None → (lie : Lie) → new.store.lie ≡ Some lie → ReadsIn lie (old.store.asked ++ selection_script q (seen_of q s.slots) old.vault.next)
+  first_begun ready new result ran s nolie lie told =
+      let are = counted_is q k c plan old mid is s.slots s.is nolie in
+      let script = first_script s.slots s.is.size (suits_mid q k c plan old mid is side s.slots s.is nolie) are.1 in
+      let part = whole_part (planned q plan k) old.vault.next ++ script.0 in
+      subst (ReadsIn lie)
+      (ap (λ (n : ℕ). mid.store.asked ++ (whole_part (planned q plan k) n ++ script.0)) (next_counted q old mid ready is.ran.ok)
+      ∙ ap (λ (l : List Access). l ++ part) is.ran.ok.did.asked ∙ append_assoc old.store.asked (counts_of q) part ∙ ap (λ (l : List Access). old.store.asked ++ l) (sym script.1))
+      (ran_in result (whole_part (planned q plan k) mid.vault.next) script.0 mid new lie ran nolie told)
+
   module _ {E : Type 0} (grew cut : E → E → List Event → Type 0) (faults : E → ℕ) (new : World) (out_old out_new : E) where
     pub first_emitted : (result : Result Selected OpErr) → SelectsBy grew cut faults (planned q plan k) result mid new out_old out_new → IfOk result (λ a. EmitsSelected grew q a old new out_old out_new)
     first_emitted (Ok (Rows n)) by =
@@ -141,14 +174,10 @@ module _ (q : Selection) (k : ℕ) (c : Bool) (plan : Plan) (old mid : World) (i
         ]
 
     pub first_halted : (result : Result Selected OpErr) → SelectsBy grew cut faults (planned q plan k) result mid new out_old out_new
-        → OnErr result (IsHalted grew cut (λ (s : SelectsToHalt q old new). answer_events q s.slots) out_old out_new)
+        → IfErr result (λ e. EmitsUntil grew cut e (head_of q) (λ (s : SelectsToHalt q old new). answer_events q s.slots) out_old out_new)
     first_halted (Ok answer) by = tt
-    first_halted (Err e) by = halted_maybe (halt_back q k c plan old mid is side mid.vault.next new by.ran.err.lasts) (part e by) by.halted
-
-    pub first_failed : (result : Result Selected OpErr) → result ≡ Err Failed → SelectsBy grew cut faults (planned q plan k) result mid new out_old out_new
-        → IsHalted grew grew (λ (s : SelectsToHalt q old new). answer_events q s.slots) out_old out_new
-    first_failed (Ok answer) none by = absurd (cc none)
-    first_failed (Err e) none by = halted_maybe (halt_back q k c plan old mid is side mid.vault.next new by.ran.err.lasts) (part e by) (by.failed none)
+    first_halted (Err e) by =
+        until_from grew cut (head_of q) e (λ s. held_events (planned q plan k) s.slots) (λ s. answer_events q s.slots) out_old out_new (halt_back q k c plan old mid is side mid.vault.next new by.ran.err.lasts) (part e by) by.halted
 
     pub first_held : AreSettings q.public → length mid.store.asked ≡ length old.store.asked + counted_after q → 1 ≤ counted_after q → (result : Result Selected OpErr)
         → SelectsBy grew cut faults (planned q plan k) result mid new out_old out_new → (s : SelectsToHalt q old new)

@@ -121,12 +121,12 @@ ends-more (x ∷ []) [] is = absurd (cc is)
 ends-more (x ∷ []) (d ∷ done) is = is
 ends-more (x ∷ y ∷ xs) done is = ends-more (y ∷ xs) done is
 
-pub place_in : (P : Type 0) (xs done rest : List Access) → P → IsTrue (ends_with_make done) ⊎ IsTrue (starts_with_make rest) ⊎ IsTrue (list_all is_reading rest) → AtMake (xs ++ done) rest ⊎ (P × IsTrue (list_all is_reading rest))
+pub place_in : {Halts : Type 0} (P : Type 0) (xs done rest : List Access) → P → IsTrue (ends_with_make done) ⊎ IsTrue (starts_with_make rest) ⊎ (IsTrue (list_all is_reading rest) × Halts) → AtMake (xs ++ done) rest ⊎ (P × IsTrue (list_all is_reading rest) × Halts)
 place_in P xs done rest known place = elim place [
   | inl ends ↦ inl (inr (inl (ends-more xs done ends)))
   | inr other ↦ elim other [
     | inl starts ↦ inl (inr (inr starts))
-    | inr all ↦ inr (known, all)
+    | inr all ↦ inr (known, all.0, all.1)
   ]
 ]
 

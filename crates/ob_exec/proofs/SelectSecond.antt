@@ -1,10 +1,12 @@
 -- What is told of a selection where Small took the place of a Hash.
-use Rattle.std.proofs.Common.{◌≡◌, ◌⊎◌, ◌≤◌, ◌+◌, ◌-◌, ℕ, Bool, IsTrue, List, ◌++◌, None, Some, Result, Ok, Err, length, refl, sym, ◌∙◌, ap, arith}
-use Rattle.std.specs.Prelude.{IfErr, IfOk, OnErr, MatchResult, map}
+use Rattle.std.proofs.Common.{◌≡◌, ◌⊎◌, inl, ◌≤◌, ◌+◌, ◌-◌, ℕ, Bool, IsTrue, List, [], ◌++◌, append_assoc, None, Some, Result, Ok, Err, length, refl, sym, ◌∙◌, ap, subst, arith}
+use Rattle.std.specs.Prelude.{IfErr, IfOk, MatchResult, map}
 use Rattle.ob_base.specs.declared.config.Plan.TheVariants.{Small, Hash}
 use Rattle.ob_base.specs.declared.refusal.Refusal.TheVariants.{Overflow}
+use Rattle.ob_base.specs.declared.access.Access.{Access}
+use Rattle.ob_base.specs.declared.seen.Seen.{Seen}
 use Rattle.ob_base.specs.declared.seen.End.TheVariants.{Whole}
-use Rattle.ob_base.specs.Events.{Event, IsHalted, row_events}
+use Rattle.ob_base.specs.Events.{Event, row_events}
 use Rattle.ob_base.specs.Limits.{buffered}
 use Rattle.ob_base.specs.Plans.{choose}
 use Rattle.ob_row.specs.Slots.{Slots, rows, is_consecutive}
@@ -13,7 +15,8 @@ use Rattle.ob_row.specs.Totals.{printed}
 use Rattle.ob_row.specs.Truth.{is_true}
 use Rattle.ob_store.proofs.Steps as Stores
 use Rattle.ob_vault.specs.State.{World}
-use Rattle.ob_vault.specs.Tied.{Ready}
+use Rattle.ob_store.specs.State.{Lie}
+use Rattle.ob_vault.specs.Tied.{ReadsIn, Ready}
 use Rattle.ob_vault.specs.Calls.{Went, Lasts, none, one}
 use Rattle.ob_vault.proofs.Runs.{went_join, went_wider, went_length, tells_went, lives_apart}
 use Rattle.ob_flat.specs.declared.fault.OpErr.{OpErr}
@@ -27,12 +30,15 @@ use Rattle.ob_flat.specs.Passes.{is_of_access}
 use Rattle.ob_exec.specs.Engines.{AreSettings}
 use Rattle.ob_exec.specs.declared.selecting.Selected.{Selected}
 use Rattle.ob_exec.specs.declared.selecting.Selected.TheVariants.{Rows, Refused}
-use Rattle.ob_exec.specs.Selecting.{Selection, HoldsSeen, SelectsToEnd, SelectsToHalt, EmitsSelected, counted_after, from, places, selected_as, emitted_unless, result_of, shown_rows, answer_of, answer_events, seen_of}
+use Rattle.ob_exec.specs.Selecting.{Selection, HoldsSeen, SelectsToEnd, SelectsToHalt, EmitsSelected, counted_after, from, places, selected_as, emitted_unless, result_of, shown_rows, answer_of, answer_events, seen_of, selection_script}
 use Rattle.ob_exec.specs.Results.{planned, PlannedToEnd, PlannedToHalt, SelectsBy, Suits, whole_part, held_shown, held_events, held_answer, head_of}
 use Rattle.ob_exec.proofs.ResultParts.{length_hash}
-use Rattle.ob_exec.proofs.ResultReads.{emitted_from, halted_from}
+use Rattle.ob_exec.proofs.ResultReads.{emitted_from}
+use Rattle.ob_exec.proofs.UntilLemmas.{until_from}
+use Rattle.ob_exec.specs.Halting.{EmitsUntil}
 use Rattle.ob_exec.proofs.ResultSteps.{began-few}
-use Rattle.ob_exec.proofs.SelectRuns.{counts_of, none_from, one_from, next_counted}
+use Rattle.ob_exec.proofs.SelectRuns.{counts_of, none_from, one_from, next_counted, next_made}
+use Rattle.ob_exec.proofs.BegunLemmas.{ran_in}
 use Rattle.ob_exec.proofs.SelectMeans.{seen_second, last_second, refuses_free, shown_some}
 use Rattle.ob_exec.proofs.SelectTold.{refused_left, counted_is, held_mid}
 use Rattle.ob_exec.proofs.SelectHeld.{walked_held, walked_hash, done_behind}
@@ -144,14 +150,27 @@ module _ (q : Selection) (k : ℕ) (c : Bool) (old mid : World) (ready : Ready o
     second_told (Err e) by s = by.told (end_small by.ran.err.lasts s)
 
     pub second_halted : (result : Result Selected OpErr) → SelectsBy grew cut faults (planned q Small k) result late new out out_new
-        → OnErr result (IsHalted grew cut (λ (s : SelectsToHalt q old new). answer_events q s.slots) out out_new)
+        → IfErr result (λ e. EmitsUntil grew cut e (head_of q) (λ (s : SelectsToHalt q old new). answer_events q s.slots) out out_new)
     second_halted (Ok answer) by = tt
-    second_halted (Err e) by = halted_from (halt_small by.ran.err.lasts) (halt_events by.ran.err.lasts) by.halted
+    second_halted (Err e) by =
+        until_from grew cut (head_of q) e (λ s. held_events (planned q Small k) s.slots) (λ s. answer_events q s.slots) out out_new (halt_small by.ran.err.lasts) (λ s. inl (halt_events by.ran.err.lasts s)) by.halted
 
-    pub second_failed : (result : Result Selected OpErr) → result ≡ Err Failed → SelectsBy grew cut faults (planned q Small k) result late new out out_new
-        → IsHalted grew grew (λ (s : SelectsToHalt q old new). answer_events q s.slots) out out_new
-    second_failed (Ok answer) none by = absurd (cc none)
-    second_failed (Err e) none by = halted_from (halt_small by.ran.err.lasts) (halt_events by.ran.err.lasts) (by.failed none)
+    pub second_begun : (result : Result Selected OpErr) → SelectsBy grew cut faults (planned q Small k) result late new out out_new → (s : SelectsToEnd q old old) → late.store.lie ≡ None
+        → (lie : Lie) → new.store.lie ≡ Some lie → ReadsIn lie (old.store.asked ++ selection_script q (seen_of q s.slots) old.vault.next)
+    second_begun result by s nolie lie told =
+        let a = are s.slots s.is nolie in
+        let l = left_of s.tells s.slots s.is nolie in
+        let same = next_counted q old mid ready is.ran.ok in
+        let next = next_made (planned q Hash k) mid late is.ran.ok.lasts.ready whole in
+        let after : late.vault.next ≡ old.vault.next + 1 = omega (arith, same, next) in
+        let hash = whole_part (planned q Hash k) old.vault.next in
+        let small = whole_part (planned q Small k) (old.vault.next + 1) ++ [] in
+        subst (ReadsIn lie)
+        (ap (λ (n : ℕ). late.store.asked ++ (whole_part (planned q Small k) n ++ [])) after
+        ∙ ap (λ (x : List Access). x ++ small) (whole.did.asked ∙ ap (λ (n : ℕ). mid.store.asked ++ whole_part (planned q Hash k) n) same) ∙ append_assoc mid.store.asked hash small
+        ∙ ap (λ (x : List Access). x ++ (hash ++ small)) is.ran.ok.did.asked ∙ append_assoc old.store.asked (counts_of q) (hash ++ small)
+        ∙ ap (λ (x : Seen). old.store.asked ++ selection_script q x old.vault.next) (seen_so s.slots s.is.size a.0 a.1 l.0 l.1))
+        (ran_in result (whole_part (planned q Small k) late.vault.next) [] late new lie by.ran nolie told)
 
     pub second_held : AreSettings q.public → length mid.store.asked ≡ length old.store.asked + counted_after q → (result : Result Selected OpErr)
         → SelectsBy grew cut faults (planned q Small k) result late new out out_new → (s : SelectsToHalt q old new)

@@ -1,12 +1,12 @@
 -- What is told of a selection, by what is told of its steps.
-use Rattle.std.proofs.Common.{◌≡◌, ◌⊎◌, inl, inr, ◌≤◌, ℕ, Bool, IsTrue, List, [], ◌∷◌, ◌++◌, Option, None, Some, Ok, length, refl, sym, ◌∙◌, ap, subst, arith}
+use Rattle.std.proofs.Common.{◌≡◌, ◌⊎◌, inl, inr, ◌≤◌, ℕ, Bool, IsTrue, ◌++◌, Option, None, Some, Ok, length, refl, sym, ◌∙◌, ap, subst, arith}
 use Rattle.std.specs.Prelude.{map}
 use Rattle.std.specs.Option.{option_map}
 use Rattle.ob_base.specs.declared.config.Plan.{Plan}
 use Rattle.ob_base.specs.declared.config.Plan.TheVariants.{Continuous, Hash}
 use Rattle.ob_base.specs.declared.refusal.Refusal.{Refusal}
 use Rattle.ob_base.specs.declared.refusal.Refusal.TheVariants.{Overflow}
-use Rattle.ob_base.specs.Events.{Event, IsHalted, row_events}
+use Rattle.ob_base.specs.Events.{row_events}
 use Rattle.ob_base.specs.Limits.{buffered}
 use Rattle.ob_base.specs.Plans.{choose}
 use Rattle.ob_row.specs.Slots.{Slots, rows, is_consecutive}
@@ -46,22 +46,6 @@ refused_left (Some i) why k is = (i, refl)
 pub none_or_some : (o : Option ℕ) → (None ≡ o) ⊎ ((i : ℕ) × (o ≡ Some i))
 none_or_some None = inl refl
 none_or_some (Some i) = inr (i, refl)
-
--- a part of nothing is nothing
-pub halted_maybe : {E S T : Type 0} {grew cut : E → E → List Event → Type 0} {all : S → List Event} {more : T → List Event} {old new : E}
-    → (back : T → S) → ((t : T) → (all (back t) ≡ more t) ⊎ (all (back t) ≡ [])) → IsHalted grew cut all old new → IsHalted grew cut more old new
-halted_maybe {more = more} back same is = record {
-  events = is.events;
-  ends = is.ends;
-  told = λ t. let rest = is.told (back t) in elim (same t) [
-    | inl e ↦ (rest.0, rest.1 ∙ e)
-    | inr e ↦ (more t, ap (λ (l : List Event). l ++ more t) (nothing is.events rest.0 (rest.1 ∙ e)))
-  ];
-}
-  where
-    nothing : (xs ys : List Event) → xs ++ ys ≡ [] → xs ≡ []
-    nothing [] ys none = refl
-    nothing (x ∷ xs) ys none = absurd (cc none)
 
 module _ (q : Selection) (k : ℕ) (c : Bool) (plan : Plan) (old mid : World) (is : CountsRows q.public.pack q.flat (is_true q.condition) (Ok (record { k = k; consecutive = c })) old mid) where
   abbrev pub r : Planned

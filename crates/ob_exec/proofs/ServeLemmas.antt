@@ -1,6 +1,6 @@
 -- A statement, from what its kind says of it.
 use Rattle.std.proofs.Common.{◌≡◌, inl, ℕ, Bool, true, false, List, [], length, Option, Some, None, Result, Ok, Err, refl, sym, ◌∙◌, ap, subst}
-use Rattle.std.specs.Prelude.{IfOk, OnErr}
+use Rattle.std.specs.Prelude.{IfOk, IfErr}
 use Rattle.ob_base.specs.declared.refusal.Refusal.{Refusal}
 use Rattle.ob_base.specs.declared.refusal.Stop.{Stop}
 use Rattle.ob_base.specs.declared.refusal.Stop.TheVariants as Stops
@@ -14,6 +14,7 @@ use Rattle.ob_sql.specs.Skeleton.{skeleton}
 use Rattle.ob_mean.specs.declared.answer.Answer.{Answer}
 use Rattle.ob_mean.specs.declared.answer.Answer.TheVariants as A
 use Rattle.ob_mean.specs.Lawful.{is_counted}
+use Rattle.ob_sql.specs.declared.stmt.Stmt.TheVariants.{Create, Insert, Update, Delete, Drop as DropTable, SelectRows as RowsStmt, SelectTotals as TotalsStmt}
 use Rattle.ob_mean.specs.Prints.{Prints, Unfinished}
 use Rattle.ob_mean.specs.Settle.{settled}
 use Rattle.ob_mean.specs.Step.{accepted_answer, answered, followed}
@@ -25,8 +26,9 @@ use Rattle.ob_exec.specs.declared.outcome.Outcome.{Outcome}
 use Rattle.ob_exec.specs.declared.outcome.Outcome.TheVariants.{Created, Inserted, Changed, Deleted, Dropped, Rows, Refused}
 use Rattle.ob_exec.specs.Agreeing.{Agrees, world_of}
 use Rattle.ob_exec.specs.Refusals.{by_fault}
-use Rattle.ob_exec.specs.Running.{Emits, IsSilent, RefusedEarly, SinkCause, is_fault, refusal_now}
-use Rattle.ob_exec.specs.Serving.{Serves, ServesSilently}
+use Rattle.ob_exec.specs.Running.{Emits, EmitsUntilFault, HasNoRows, IsSilent, RefusedEarly, SinkCause, is_fault, refusal_now}
+use Rattle.ob_exec.specs.Serving.{EndsWithin, Serves, ServesSilently, Stopped}
+use Rattle.ob_exec.proofs.MemoryLemmas.{lacks_less}
 use Rattle.ob_exec.specs.Telling.{AreHeld, Represents, answer_labels, outcome_of}
 use Rattle.ob_exec.proofs.LawfulLemmas.{lawful_now, lawful_refused}
 use Rattle.ob_exec.proofs.RunLemmas.{of_other, ran_refused}
@@ -70,14 +72,23 @@ either true cut whole off is = off
 either false cut whole off is = is
 
 -- so is what an answer emits that is no rows, whatever its labels are
-silent_emits : (labels : List (List ℕ)) (outcome : Outcome) → Emits [] outcome [] → Emits labels outcome []
-silent_emits labels (Refused r) silent = silent
-silent_emits labels Created silent = silent
-silent_emits labels Inserted silent = silent
-silent_emits labels (Changed n) silent = silent
-silent_emits labels (Deleted n) silent = silent
-silent_emits labels Dropped silent = silent
-silent_emits labels (Rows k) silent = absurd (cc silent.is)
+none_until : (stmt : Stmt) (labels : List (List ℕ)) → EmitsUntilFault stmt labels []
+none_until (Create table columns capacity) labels = refl
+none_until (Insert table columns values) labels = refl
+none_until (Update table sets cond) labels = refl
+none_until (Delete table cond) labels = refl
+none_until (DropTable table) labels = refl
+none_until (RowsStmt select) labels = record { rows = []; are_rows = refl; is = inl refl }
+none_until (TotalsStmt select) labels = refl
+
+silent_emits : (stmt : Stmt) (labels : List (List ℕ)) (outcome : Outcome) → HasNoRows outcome → Emits stmt labels outcome []
+silent_emits stmt labels (Refused r) silent = either (is_store_fault r) _ _ (none_until stmt labels) refl
+silent_emits stmt labels Created silent = refl
+silent_emits stmt labels Inserted silent = refl
+silent_emits stmt labels (Changed n) silent = refl
+silent_emits stmt labels (Deleted n) silent = refl
+silent_emits stmt labels Dropped silent = refl
+silent_emits stmt labels (Rows k) silent = absurd silent
 
 -- an emitter did not fail where nothing was emitted
 silent_sink : (r : Result Outcome Stop) (n : ℕ) → IsSilent r → SinkCause r n n
@@ -88,13 +99,18 @@ silent_sink (Err Stops.NoMemory) n silent = refl
 silent_sink (Err Stops.SourceFault) n silent = absurd silent
 silent_sink (Err Stops.InputLimit) n silent = absurd silent
 
-silent_answered : {P : Outcome → Type 0} (r : Result Outcome Stop) → IsSilent r → ((o : Outcome) → Emits [] o [] → P o) → IfOk r P
+silent_answered : {P : Outcome → Type 0} (r : Result Outcome Stop) → IsSilent r → ((o : Outcome) → HasNoRows o → P o) → IfOk r P
 silent_answered (Ok o) silent h = h o silent
 silent_answered (Err e) silent h = tt
 
-silent_stopped : {P : Type 0} (r : Result Outcome Stop) → P → OnErr r P
-silent_stopped (Ok x) h = tt
-silent_stopped (Err e) h = h
+silent_stopped : {E : Type 0} (grew cut : E → E → List Event → Type 0) (P : Stop → Type 0) (out : E) → grew out out [] → (r : Result Outcome Stop) → IsSilent r
+    → ((stop : Stop) → EndsWithin grew cut stop out out [] → P stop) → IfErr r P
+silent_stopped grew cut P out starts (Ok x) silent h = tt
+silent_stopped grew cut P out starts (Err Stops.SinkFault) silent h = absurd silent
+silent_stopped grew cut P out starts (Err (Stops.Tampered region place)) silent h = h (Stops.Tampered region place) starts
+silent_stopped grew cut P out starts (Err Stops.NoMemory) silent h = h Stops.NoMemory (inl starts)
+silent_stopped grew cut P out starts (Err Stops.SourceFault) silent h = absurd silent
+silent_stopped grew cut P out starts (Err Stops.InputLimit) silent h = absurd silent
 
 module _ {R E : Type 0} (state : R → RevState) (grew cut : E → E → List Event → Type 0) (faults : E → ℕ) (stmt : Stmt) (old : Engine R) (s : StoreState) (out : E) (starts : grew out out []) where
   -- a statement that emits nothing and of which nothing is counted
@@ -109,17 +125,17 @@ module _ {R E : Type 0} (state : R → RevState) (grew cut : E → E → List Ev
         ran = serves.ran;
         early = early;
         lawful = lawful_now old.public (length s.asked) stmt result new.seen s.asked t.asked uncounted serves.plain serves.uncounted early serves.ran.asked serves.ran.ends;
-        memory = serves.memory;
+        memory = λ is. lacks_less (λ none. absurd none) (serves.memory is);
         seals = serves.seals;
         answered = silent_answered result serves.silent (λ outcome silent. record {
           events = [];
           took = starts;
-          emits = silent_emits labels outcome silent;
+          emits = silent_emits stmt labels outcome silent;
           told = λ tables reads. either (is_fault outcome) _ _ (bare_unfinished labels _ (no_rows tables)) (bare_prints labels _ (no_rows tables));
         });
-        stopped = silent_stopped result (record {
+        stopped = silent_stopped grew cut (λ stop. Stopped state grew cut stmt stop old s new t out out) out starts result serves.silent (λ stop ends. record {
           events = [];
-          ends = inl starts;
+          ends = ends;
           told = λ tables reads. record { whole = []; prints = bare_prints labels _ (no_rows tables); begun = ([], refl) };
         });
         sink = silent_sink result (faults out) serves.silent;
@@ -162,6 +178,7 @@ module _ {R E : Type 0} (state : R → RevState) (grew cut : E → E → List Ev
           });
           honest = λ tables reads. tt;
           held = λ tables reads. tt;
+          begun = λ tables reads lie told. absurd (cc (reads.nolie, told));
         };
       }
 

@@ -1,10 +1,14 @@
 -- A statement that emits nothing and of which nothing is counted, by how it ended.
-use Rattle.std.proofs.Common.{◌≡◌, inl, inr, ◌-◌, max, ℕ, Bool, true, false, List, [], ◌∷◌, ◌++◌, length, Ok, Err, Result, None, refl, sym, ◌∙◌, ap, subst, arith, append-nil, append_assoc}
-use Rattle.std.specs.Prelude.{IsTrue, Some, slice_get}
+use Rattle.std.proofs.Common.{◌≡◌, inl, inr, ◌-◌, max, if◌then◌else◌, ℕ, Bool, true, false, List, [], ◌∷◌, ◌++◌, length, Ok, Err, Result, Option, None, refl, sym, ◌∙◌, ap, subst, arith, append-nil, append_assoc}
+use Rattle.std.specs.Prelude.{IsSome, IsTrue, Some, slice_get}
 use Rattle.ob_base.specs.declared.access.Access.{Access}
 use Rattle.ob_base.specs.declared.refusal.Stop.{Stop}
 use Rattle.ob_base.specs.declared.refusal.Stop.TheVariants as Stops
+use Rattle.ob_base.specs.declared.config.Plan.{Plan}
+use Rattle.ob_base.specs.declared.config.Plan.TheVariants.{Small, Large, Continuous, Hash}
+use Rattle.ob_base.specs.declared.config.Public.{Public}
 use Rattle.ob_base.specs.declared.schema.Table.{Table}
+use Rattle.ob_base.specs.declared.seen.Seen.{Seen}
 use Rattle.ob_base.specs.declared.seen.End.{End}
 use Rattle.ob_base.specs.declared.seen.End.TheVariants.{Whole, Cut}
 use Rattle.ob_base.specs.Accesses.{make_at}
@@ -25,17 +29,21 @@ use Rattle.ob_flat.specs.Passes.{PassCut}
 use Rattle.ob_flat.proofs.Runs.{pass_after}
 use Rattle.ob_script.specs.Script.{whole_script}
 use Rattle.ob_sql.specs.declared.stmt.Stmt.{Stmt}
+use Rattle.ob_sql.specs.declared.stmt.Stmt.TheVariants.{Create, Insert, Update, Delete, Drop as DropTable, SelectRows as RowsStmt, SelectTotals as TotalsStmt}
 use Rattle.ob_sql.specs.Skeleton.{skeleton}
+use Rattle.ob_row.specs.Slots.{is_consecutive}
+use Rattle.ob_mean.specs.Lawful.{is_counted}
 use Rattle.ob_mean.specs.Settle.{settle}
-use Rattle.ob_mean.specs.Verdict.{Tables, verdict, seen, seen_started, ended as seen_to}
+use Rattle.ob_mean.specs.Verdict.{Tables, verdict, plan_for, seen, seen_rows, seen_started, seen_with, selected_places, source_slots, ended as seen_to}
 use Rattle.ob_verdict.proofs.InPlaceProof.{keeps_in_place}
 use Rattle.ob_exec.specs.declared.engine.Engine.{Engine}
 use Rattle.ob_exec.specs.declared.outcome.Outcome.{Outcome}
 use Rattle.ob_exec.specs.Agreeing.{Agrees, world_of}
 use Rattle.ob_exec.specs.Memory.{AtMake, is_make}
-use Rattle.ob_exec.specs.Running.{Ran, Emits, IsSilent, answer_of, is_stop, refusal_now}
+use Rattle.ob_exec.specs.Running.{Ran, HasNoRows, IsSilent, answer_of, is_stop, refusal_now}
 use Rattle.ob_exec.specs.Serving.{Means, ServesSilently}
 use Rattle.ob_exec.specs.Telling.{AreHeld, KeepsSealed, ReadsTrue, outcome_of}
+use Rattle.ob_exec.proofs.BegunLemmas.{begun_plain}
 use Rattle.ob_exec.proofs.HeldLemmas.{held_kept}
 use Rattle.ob_exec.proofs.RunLemmas.{IsAnswered, engine_after, ran_cut, ran_no_room}
 use Rattle.ob_exec.proofs.SealLemmas.{keeps_pass, keeps_rests}
@@ -62,10 +70,40 @@ at_make made [] rest more make is = inl refl
 at_make made (d ∷ []) rest more make is = let same : d ≡ made = cc is in inr (inl (subst (λ (a : Access). IsTrue (is_make a)) (sym same) make))
 at_make made (d ∷ e ∷ done) rest more make is = let none : e ∷ (done ++ rest) ≡ [] = cc is in absurd (cc none)
 
+-- of rows k is always seen
+rows_counted : (p : Public) (n : ℕ) (places : List ℕ) → IsSome (seen_rows p n places).k
+rows_counted p n [] = refl
+rows_counted p n (i ∷ is) = by (plan_for p n (i ∷ is))
+  where
+    side : (b : Bool) (x y : Seen) → IsSome x.k → IsSome y.k → IsSome (if b then x else y).k
+    side true x y one two = one
+    side false x y one two = two
+
+    by : (plan : Plan) → IsSome (seen_with p plan (i ∷ is)).k
+    by Small = refl
+    by Large = refl
+    by Continuous = side (is_consecutive (i ∷ is)) _ _ refl refl
+    by Hash = refl
+
 module _ {R : Type 0} (state : R → RevState) (stmt : Stmt) (old : Engine R) (s : StoreState) (agrees : Agrees state old s)
     (now : refusal_now old.public (length s.asked) stmt ≡ None) (whole : (tables : Tables) → seen_started old.public tables stmt ≡ seen_to Whole) where
   seen_whole : (tables : Tables) (w : World) → AreHeld old.public.pack old.public.tables tables w → seen old.public (length s.asked) tables stmt ≡ seen_to Whole
   seen_whole tables w held = started_seen old.public (length s.asked) stmt now tables w held ∙ whole tables
+
+  plain : is_counted stmt ≡ false
+  plain = uncounted stmt whole
+    where
+      none : (o : Option ℕ) → IsSome o → o ≡ None → ⊥
+      none o some is = cc (subst (λ (x : Option ℕ). IsSome x) is some)
+
+      uncounted : (x : Stmt) → ((tables : Tables) → seen_started old.public tables x ≡ seen_to Whole) → is_counted x ≡ false
+      uncounted (RowsStmt q) whole = absurd (none _ (rows_counted old.public (length (source_slots old.public q.source [])) (selected_places old.public q [])) (ap (λ (x : Seen). x.k) (whole [])))
+      uncounted (Create table columns capacity) whole = refl
+      uncounted (Insert table columns values) whole = refl
+      uncounted (Update table sets cond) whole = refl
+      uncounted (Delete table cond) whole = refl
+      uncounted (DropTable table) whole = refl
+      uncounted (TotalsStmt q) whole = refl
 
   -- nothing was asked, for want of memory
   pub unasked : (s1 : StoreState) (ts : List Table) → Rests s s1 → ServesSilently state stmt (Err Stops.NoMemory) old s (engine_after old old.vault old.room ts (Cut 0) true) s1
@@ -89,11 +127,12 @@ module _ {R : Type 0} (state : R → RevState) (stmt : Stmt) (old : Engine R) (s
           told = λ tables reads. tt;
           honest = λ tables reads. refl;
           held = λ tables reads. cut_seen false old.public (skeleton stmt) 0 _ _ (seen_whole tables _ reads.held.held) (omega (arith, same));
+          begun = λ tables reads lie told. absurd (cc (reads.nolie, rests.lie, told));
         };
       }
 
   -- all of it was asked
-  pub finished : (v : Vault R) (room : RoomState) (t : StoreState) (ts : List Table) (outcome : Outcome) → IsAnswered outcome → Emits [] outcome []
+  pub finished : (v : Vault R) (room : RoomState) (t : StoreState) (ts : List Table) (outcome : Outcome) → IsAnswered outcome → HasNoRows outcome
       → Ran state (skeleton stmt) (Ok outcome) old s (engine_after old v room ts Whole old.ended) t
       → KeepsSealed state old s (engine_after old v room ts Whole old.ended) t
       → ((tables : Tables) → ReadsTrue state old s t tables
@@ -115,35 +154,41 @@ module _ {R : Type 0} (state : R → RevState) (stmt : Stmt) (old : Engine R) (s
       });
       honest = λ tables reads. tt;
       held = λ tables reads. tt;
+      begun = λ tables reads. begun_plain state stmt (Ok outcome) old s (engine_after old v room ts Whole old.ended) t tables plain ran (seen_whole tables _ reads.held.held) reads.nolie;
     };
   }
 
   module _ (s1 : StoreState) (v : Vault R) (room : RoomState) (t : StoreState) (rests : Rests s s1) (room_is : room ≡ record old.room { high = max old.room.high old.room.pack }) where
     means_cut : (e : OpErr) (n : ℕ) → n ≡ length t.asked - length s.asked → ((tables : Tables) → ReadsTrue state old s t tables → IsFault e)
         → ((tables : Tables) → AreHeld old.public.pack old.public.tables tables (world_of state old s) → AreHeld old.public.pack old.public.tables tables (at state v t))
+        → Ran state (skeleton stmt) (answer_of e) old s (engine_after old v room old.public.tables (Cut n) (is_stop (answer_of e))) t
         → Means state stmt (answer_of e) old s (engine_after old v room old.public.tables (Cut n) (is_stop (answer_of e))) t
-    means_cut OpErrs.Failed n count fault kept = record {
+    means_cut OpErrs.Failed n count fault kept ran = record {
       told = λ tables reads. record {
         seen = cut_seen true old.public (skeleton stmt) n _ _ (seen_whole tables _ reads.held.held) count;
         held = record { held = kept tables reads.held.held; in_place = reads.held.in_place };
       };
       honest = λ tables reads. tt;
       held = λ tables reads. tt;
+      begun = λ tables reads. begun_plain state stmt (answer_of OpErrs.Failed) old s _ t tables plain ran (seen_whole tables _ reads.held.held) reads.nolie;
     }
-    means_cut (OpErrs.Tampered q x) n count fault kept = record {
+    means_cut (OpErrs.Tampered q x) n count fault kept ran = record {
       told = λ tables reads. tt;
       honest = λ tables reads. absurd (fault tables reads);
       held = λ tables reads. cut_seen true old.public (skeleton stmt) n _ _ (seen_whole tables _ reads.held.held) count;
+      begun = λ tables reads. begun_plain state stmt (answer_of (OpErrs.Tampered q x)) old s _ t tables plain ran (seen_whole tables _ reads.held.held) reads.nolie;
     }
-    means_cut OpErrs.Sink n count fault kept = record {
+    means_cut OpErrs.Sink n count fault kept ran = record {
       told = λ tables reads. tt;
       honest = λ tables reads. refl;
       held = λ tables reads. cut_seen false old.public (skeleton stmt) n _ _ (seen_whole tables _ reads.held.held) count;
+      begun = λ tables reads. begun_plain state stmt (answer_of OpErrs.Sink) old s _ t tables plain ran (seen_whole tables _ reads.held.held) reads.nolie;
     }
-    means_cut OpErrs.NoMemory n count fault kept = record {
+    means_cut OpErrs.NoMemory n count fault kept ran = record {
       told = λ tables reads. tt;
       honest = λ tables reads. refl;
       held = λ tables reads. cut_seen false old.public (skeleton stmt) n _ _ (seen_whole tables _ reads.held.held) count;
+      begun = λ tables reads. begun_plain state stmt (answer_of OpErrs.NoMemory) old s _ t tables plain ran (seen_whole tables _ reads.held.held) reads.nolie;
     }
 
     -- a pass that makes a region first gave up
@@ -157,9 +202,10 @@ module _ {R : Type 0} (state : R → RevState) (stmt : Stmt) (old : Engine R) (s
         let all = pass_after (one old.vault.next) _ _ _ e [] x (went_rests _ s s1 rests (one old.vault.next) agrees.ready) cut in
         let apart : (i : ℕ) (u : Table) → slice_get old.public.tables i ≡ Some u → one old.vault.next u.region → ⊥ =
         λ i u is here. let less = region_below old.public.pack i old.public.tables u _ agrees.ready agrees.tables is in omega (arith, less, here) in
+        let ran = ran_cut state (skeleton stmt) old s v room t agrees room_is (one old.vault.next) n x e all (script_is (Cut n)) count
+        (tables_kept (one old.vault.next) old.public.pack old.public.tables _ _ all.lasts apart (λ q shape live here. absurd (cc (live, gone, here))) agrees.tables) in
         record {
-          ran = ran_cut state (skeleton stmt) old s v room t agrees room_is (one old.vault.next) n x e all (script_is (Cut n)) count
-              (tables_kept (one old.vault.next) old.public.pack old.public.tables _ _ all.lasts apart (λ q shape live here. absurd (cc (live, gone, here))) agrees.tables);
+          ran = ran;
           started = λ is. absurd (cc is);
           uncounted = λ is. absurd (cc is);
           plain = refl;
@@ -174,5 +220,5 @@ module _ {R : Type 0} (state : R → RevState) (stmt : Stmt) (old : Engine R) (s
                 place = inl (at_make _ began.done began.rest more refl began.split);
               };
           seals = keeps_pass state old s s1 rests agrees (engine_after old v room old.public.tables (Cut n) (is_stop (answer_of e))) t (at state v t) refl seals;
-          means = means_cut e n count fault (λ tables held. held_kept (one old.vault.next) old.public.pack old.public.tables tables _ _ all.lasts apart held);
+          means = means_cut e n count fault (λ tables held. held_kept (one old.vault.next) old.public.pack old.public.tables tables _ _ all.lasts apart held) ran;
         }

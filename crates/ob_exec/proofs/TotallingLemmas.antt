@@ -24,13 +24,14 @@ use Rattle.ob_script.specs.Parts.{count_part}
 use Rattle.ob_vault.specs.State.{World}
 use Rattle.ob_vault.specs.Tied.{IsUnfit}
 use Rattle.ob_vault.specs.Calls.{Went, none}
+use Rattle.ob_vault.proofs.WorldSteps.{calm_none}
 use Rattle.ob_flat.specs.declared.fault.OpErr.{OpErr}
 use Rattle.ob_flat.specs.declared.fault.OpErr.TheVariants.{Failed, Tampered, Sink, NoMemory}
 use Rattle.ob_flat.specs.declared.flat.Flat.{Flat}
 use Rattle.ob_flat.specs.Emission.{SlotsToEnd}
 use Rattle.ob_flat.specs.Flats.{Represents}
 use Rattle.ob_flat.specs.Passes.{PassCut, SinkCause}
-use Rattle.ob_flat.specs.Words.{blocks_of}
+use Rattle.ob_flat.specs.Words.{TamperedIn, blocks_of}
 use Rattle.ob_group.specs.declared.grouping.Grouped.{Grouped}
 use Rattle.ob_group.specs.declared.grouping.Grouped.TheVariants.{Groups, TooMany}
 use Rattle.ob_group.specs.Labels as G
@@ -47,7 +48,7 @@ use Rattle.ob_mean.specs.Refusals.{is_group}
 use Rattle.ob_mean.specs.Step.{agg_of, answered, item_of}
 use Rattle.ob_exec.specs.declared.outcome.Outcome.{Outcome}
 use Rattle.ob_exec.specs.declared.outcome.Outcome.TheVariants.{Rows, Refused}
-use Rattle.ob_exec.specs.Totalling.{Gives, HaltsTotals, Totals, TotalsFit, agg_at, answer_of, error_of, labels_at, outcome_at}
+use Rattle.ob_exec.specs.Totalling.{Gives, HaltsTotals, Totals, TotalsFit, agg_at, answer_of, ends_by, error_of, labels_at, outcome_at}
 use Rattle.ob_exec.proofs.EmitLemmas.{unfit_none}
 use Rattle.ob_exec.proofs.TotalsLemmas.{all_events, answer_grouped, answer_plain, are_many, begun_rows, group_labels, grouped_as, is_answer, items_within, leads_join, leads_none, not_many, partly_none, partly_rows, plain_aggs, plain_labels, prints_rows}
 
@@ -99,13 +100,34 @@ module _ {E : Type 0} (grew cut : E → E → List Event → Type 0) (faults : E
   abbrev chosen : Slots → List Row
   chosen slots = filter (is_true condition) (rows slots)
 
+  abbrev HaltsIn : (E → E → List Event → Type 0) → E → E → Type 0
+  HaltsIn to a b = HaltsTotals grew to places pack flat q old new a b
+
   -- nothing was emitted
-  halts_none : (a b : E) → b ≡ a → HaltsTotals grew cut places pack flat q old new a b
+  halts_none : (a b : E) → b ≡ a → HaltsTotals grew grew places pack flat q old new a b
   halts_none a b same = record {
     events = [];
-    ends = inl (subst (λ (x : E). Leads grew grew a x []) (sym same) (leads_none grew a));
+    ends = subst (λ (x : E). Leads grew grew a x []) (sym same) (leads_none grew a);
     told = λ s. partly_none (labels_at cs q) (answer_of places cs q s.slots);
   }
+
+  -- by the error
+  halts_given : {a b : E} (e : EmitErr) → HaltsTotals grew cut places pack flat q old new a b → HaltsTotals grew (ends_by grew cut (error_of e)) places pack flat q old new a b
+  halts_given EmitErrs.Failed is = is
+  halts_given EmitErrs.NoMemory is = is
+
+  halts_by : {a b : E} (e : OpErr) → (e ≡ Sink) ⊎ (e ≡ NoMemory) → HaltsTotals grew cut places pack flat q old new a b → HaltsTotals grew (ends_by grew cut e) places pack flat q old new a b
+  halts_by Failed either is = elim either [ inl sink ↦ absurd (cc sink) | inr memory ↦ absurd (cc memory) ]
+  halts_by (Tampered r x) either is = elim either [ inl sink ↦ absurd (cc sink) | inr memory ↦ absurd (cc memory) ]
+  halts_by Sink either is = is
+  halts_by NoMemory either is = is
+
+  halts_read : {a b : E} (e : OpErr) → (e ≡ Failed) ⊎ TamperedIn pack flat e new
+      → HaltsIn grew a b → HaltsIn (ends_by grew cut e) a b
+  halts_read Failed either is = is
+  halts_read (Tampered r x) either is = is
+  halts_read Sink either is = elim either [ inl failed ↦ absurd (cc failed) | inr there ↦ absurd (cc there.is) ]
+  halts_read NoMemory either is = elim either [ inl failed ↦ absurd (cc failed) | inr there ↦ absurd (cc there.is) ]
 
   -- ---- an answer of one row
   module _ (aggs : List Agg) (ungrouped : q.group ≡ None) (aggs_are : aggs ≡ map (agg_at cs) q.items) where
@@ -161,14 +183,14 @@ module _ {E : Type 0} (grew cut : E → E → List Event → Type 0) (faults : E
           seals = all.seals;
           whole = tt;
           emitted = tt;
-          halted = record {
+          halted = halts_given e (record {
             events = part.0;
-            ends = inr part.1;
+            ends = part.1;
             told = λ s.
                 partly_rows (labels_at cs q) (answer_of places cs q s.slots) (accs ∷ []) part.0
                 (row_is s.slots accs (all.told s.slots s.is (halt_none reads old new all.ran.ok s.nolie s.unfit)))
                 (subst (λ (l : List (List ℕ)). Begun part.0 (Head l ∷ RowEvent accs ∷ Close 1 ∷ [])) labels_are part.2);
-          };
+          });
           failed = no_fault _ e;
           after = λ is. all.ran.ok;
           sink = is_sink e (faults a) (faults b) given.cause;
@@ -182,7 +204,7 @@ module _ {E : Type 0} (grew cut : E → E → List Event → Type 0) (faults : E
       seals = all.seals;
       whole = tt;
       emitted = tt;
-      halted = halts_none a a refl;
+      halted = halts_read e all.never (halts_none a a refl);
       failed = λ is. refl;
       after = λ is. elim all.never [ inl failed ↦ absurd (cc (is, failed)) | inr there ↦ absurd (cc (is, there.is)) ];
       sink = elim all.never [
@@ -297,14 +319,14 @@ module _ {E : Type 0} (grew cut : E → E → List Event → Type 0) (faults : E
         seals = all.seals;
         whole = tt;
         emitted = tt;
-        halted = record {
+        halted = halts_given e (record {
           events = all_events (labels_at cs q) given;
-          ends = inr (subst (Leads grew cut a c) (λ i. Head (items_labels i) ∷ (row_events given ++ Close (n_is i) ∷ []))
-              (leads_join grew cut a b c (Head (map (G.item_label cs place) items) ∷ row_events given) (Close n ∷ []) all.emitted.leads last));
+          ends = subst (Leads grew cut a c) (λ i. Head (items_labels i) ∷ (row_events given ++ Close (n_is i) ∷ []))
+              (leads_join grew cut a b c (Head (map (G.item_label cs place) items) ∷ row_events given) (Close n ∷ []) all.emitted.leads last);
           told = λ s.
               partly_rows (labels_at cs q) (answer_of places cs q s.slots) given _
               (rows_are (record { slots = s.slots; is = s.is; nolie = halt_none reads old new all.ran.ok s.nolie s.unfit })) ([], append-nil _);
-        };
+        });
         failed = no_fault _ e;
         after = λ is. all.ran.ok;
         sink = subst (λ (k : ℕ). SinkCause {T = Outcome} (Err (error_of e)) k (faults c)) all.cause (is_sink e (faults b) (faults c) cause);
@@ -317,9 +339,9 @@ module _ {E : Type 0} (grew cut : E → E → List Event → Type 0) (faults : E
 
     module _ (e : OpErr) (a b : E) (all : Grouping (Err e) a b)
         (few : (e ≡ Sink) ⊎ (e ≡ NoMemory) → (slots : Slots) → Represents pack flat slots old → new.store.lie ≡ None → count slots ≤ places) where
-      halts_midst : (e ≡ Sink) ⊎ (e ≡ NoMemory) → HaltsTotals grew cut places pack flat q old new a b
+      halts_midst : (is : (e ≡ Sink) ⊎ (e ≡ NoMemory)) → HaltsTotals grew cut places pack flat q old new a b
       halts_midst is =
-          let given = all.halted in
+          let given = all.halted is in
           record {
             events = given.events;
             ends = given.ends;
@@ -339,12 +361,12 @@ module _ {E : Type 0} (grew cut : E → E → List Event → Type 0) (faults : E
         whole = tt;
         emitted = tt;
         halted = elim all.never [
-          | inl failed ↦ halts_none a b (all.before (inl failed))
+          | inl failed ↦ halts_read e (inl failed) (halts_none a b (all.before (inl failed)))
           | inr others ↦ elim others [
-            | inl sink ↦ halts_midst (inl sink)
+            | inl sink ↦ halts_by e (inl sink) (halts_midst (inl sink))
             | inr others ↦ elim others [
-              | inl memory ↦ halts_midst (inr memory)
-              | inr there ↦ halts_none a b (all.before (inr (flat.region, there.place, there.is)))
+              | inl memory ↦ halts_by e (inr memory) (halts_midst (inr memory))
+              | inr there ↦ halts_read e (inr there) (halts_none a b (all.before (inr (flat.region, there.place, there.is))))
             ]
           ]
         ];

@@ -1,6 +1,6 @@
 -- A SELECT of totals, after its pass.
-use Rattle.std.proofs.Common.{◌≡◌, ◌⊎◌, inl, inr, ◌-◌, ◌+◌, ◌*◌, ◌≤◌, ℕ, Bool, true, false, if◌then◌else◌, List, [], length, filter, Option, Some, None, Result, Ok, Err, refl, sym, ◌∙◌, ap, subst, arith, append-nil}
-use Rattle.std.specs.Prelude.{IfOk, OnErr, IfErr}
+use Rattle.std.proofs.Common.{◌≡◌, ◌⊎◌, inl, inr, ◌-◌, ◌≤◌, ℕ, Bool, true, false, if◌then◌else◌, List, [], length, filter, Option, Some, None, Ok, Err, refl, sym, ◌∙◌, ap, subst, arith, append-nil}
+use Rattle.std.specs.Prelude.{IfOk, IfErr}
 use Rattle.std.specs.Option.{option_map, option_map_or, option_or}
 use Rattle.ob_base.specs.declared.config.Public.{Public}
 use Rattle.ob_base.specs.declared.refusal.Refusal.{Refusal}
@@ -10,7 +10,7 @@ use Rattle.ob_base.specs.declared.refusal.Stop.TheVariants as Stops
 use Rattle.ob_base.specs.declared.schema.Heading.{Heading}
 use Rattle.ob_base.specs.declared.schema.Table.{Table}
 use Rattle.ob_base.specs.declared.seen.End.TheVariants.{Whole, Cut}
-use Rattle.ob_base.specs.Events.{Event}
+use Rattle.ob_base.specs.Events.{Event, Leads}
 use Rattle.ob_base.specs.Limits.{buffered}
 use Rattle.ob_base.specs.Numbers.{blocks_for}
 use Rattle.ob_base.specs.Schemas.{Columns}
@@ -56,9 +56,11 @@ use Rattle.ob_exec.specs.Agreeing.{Agrees, world_of}
 use Rattle.ob_exec.specs.Engines.{IsAt, flat_of}
 use Rattle.ob_exec.specs.Running.{Emits, SinkCause, answer_of, is_stop, refusal_now}
 use Rattle.ob_exec.specs.Selecting.{UsesRoom}
-use Rattle.ob_exec.specs.Serving.{Serves}
+use Rattle.ob_exec.specs.Serving.{EndsWithin, Serves, Stopped}
+use Rattle.ob_exec.specs.Memory.{HasHalted}
+use Rattle.ob_exec.proofs.BegunLemmas.{begun_plain}
 use Rattle.ob_exec.specs.Telling.{AreHeld, Represents, Partly, IsNotTampered, answer_labels, is_refused, outcome_of}
-use Rattle.ob_exec.specs.Totalling.{IsTotalled, MayTotal, Totals, TotalsFit, labels_at, answer_of as answer_at}
+use Rattle.ob_exec.specs.Totalling.{IsTotalled, MayTotal, Totals, TotalsFit, ends_by, labels_at, answer_of as answer_at}
 use Rattle.ob_exec.proofs.FoundLemmas.{heading_found}
 use Rattle.ob_exec.proofs.HeldLemmas.{Beside, held_at}
 use Rattle.ob_exec.proofs.LawfulLemmas.{lawful_now}
@@ -111,11 +113,19 @@ if_failed P (OpErrs.Tampered q x) h = tt
 if_failed P OpErrs.Sink h = tt
 if_failed P OpErrs.NoMemory h = tt
 
-on_stop : (P : Type 0) (e : OpErr) → P → OnErr (answer_of e) P
-on_stop P OpErrs.Failed h = tt
-on_stop P (OpErrs.Tampered q x) h = h
-on_stop P OpErrs.Sink h = h
-on_stop P OpErrs.NoMemory h = h
+on_stop : {E : Type 0} (grew cut : E → E → List Event → Type 0) (P : Stop → Type 0) (events : List Event) (a b : E) → grew a a [] → (e : OpErr) → Leads grew (ends_by grew cut e) a b events
+    → ((stop : Stop) → EndsWithin grew cut stop a b events → P stop) → IfErr (answer_of e) P
+on_stop grew cut P events a b starts OpErrs.Failed leads h = tt
+on_stop grew cut P events a b starts (OpErrs.Tampered q x) leads h = h (Stops.Tampered q x) (leads a [] starts)
+on_stop grew cut P events a b starts OpErrs.Sink leads h = h Stops.SinkFault (leads a [] starts)
+on_stop grew cut P events a b starts OpErrs.NoMemory leads h = h Stops.NoMemory (inr (leads a [] starts))
+
+-- want of memory behind all accesses was the emitter's
+given_up : {E : Type 0} (grew cut : E → E → List Event → Type 0) (events : List Event) (a b : E) → grew a a [] → (e : OpErr) → e ≡ OpErrs.NoMemory → Leads grew (ends_by grew cut e) a b events → HasHalted cut a b
+given_up grew cut events a b starts OpErrs.Failed is leads = absurd (cc is)
+given_up grew cut events a b starts (OpErrs.Tampered q x) is leads = absurd (cc is)
+given_up grew cut events a b starts OpErrs.Sink is leads = absurd (cc is)
+given_up grew cut events a b starts OpErrs.NoMemory is leads = record { events = events; ends = leads a [] starts }
 
 if_stop : (P : Stop → Type 0) (e : OpErr) → ((stop : Stop) → P stop) → IfErr (answer_of e) P
 if_stop P OpErrs.Failed h = tt
@@ -184,9 +194,9 @@ module _ {R E : Type 0} (state : R → RevState) (grew cut : E → E → List Ev
   settled_at tables = followed_same (refusal old.public (length s.asked) tables stmt) tables
 
   -- what its pass asks, once the store has room
-  pub may_total : (flat : Flat) (condition : Condition) → flat ≡ flat_of table → condition ≡ where_at q.cond flat.schema → 1 * blocks_for old.public.pack flat.capacity + 2 ≤ s1.spare
+  pub may_total : (flat : Flat) (condition : Condition) → flat ≡ flat_of table → condition ≡ where_at q.cond flat.schema → (n : ℕ) → n ≡ blocks_for old.public.pack flat.capacity → n ≤ s1.spare
       → MayTotal flat condition q old.room was
-  may_total flat condition flat_is meant spare =
+  may_total flat condition flat_is meant n blocks spare =
       let least = agrees.settings.pack_least in
       let most = agrees.settings.most in
       let pack = agrees.room.pack in
@@ -199,7 +209,7 @@ module _ {R E : Type 0} (state : R → RevState) (grew cut : E → E → List Ev
         some = omega (arith, least, pack);
         few = omega (arith, most, rows_are);
         idle = agrees.room.idle;
-        spare = record { ready = (went_rests _ s s1 rests none agrees.ready).lasts.ready; spare = omega (arith, spare, blocks_are) };
+        spare = record { ready = (went_rests _ s s1 rests none agrees.ready).lasts.ready; spare = omega (arith, spare, blocks, blocks_are) };
         written = read_flat state old s s1 i table agrees rests here.get flat flat_is;
         size = read_size state old s s1 i table agrees rests here.get flat flat_is;
         meant = meant;
@@ -227,6 +237,7 @@ module _ {R E : Type 0} (state : R → RevState) (grew cut : E → E → List Ev
           told = λ tables reads. tt;
           honest = λ tables reads. refl;
           held = λ tables reads. cut_seen false old.public (skeleton stmt) 0 _ _ (seen_whole tables reads.held) (omega (arith, same));
+          begun = λ tables reads. begun_plain state stmt (Err Stops.NoMemory) old s new s1 tables refl ran (seen_whole tables reads.held) reads.nolie;
         };
       }
 
@@ -261,7 +272,7 @@ module _ {R E : Type 0} (state : R → RevState) (grew cut : E → E → List Ev
           answered = record {
             events = given.events;
             took = given.leads out_old [] (starts out_old);
-            emits = subst (λ (l : List (List ℕ)). Emits l outcome given.events) (sym labels_are) given.emits;
+            emits = subst (λ (l : List (List ℕ)). Emits stmt l outcome given.events) (sym labels_are) given.emits;
             told = λ tables reads.
                 told_whole outcome _ _ whole
                 (subst (λ (l : List (List ℕ)). Prints l (verdict old.public (length s.asked) tables stmt) given.events) (sym labels_are)
@@ -278,6 +289,7 @@ module _ {R E : Type 0} (state : R → RevState) (grew cut : E → E → List Ev
                 });
             honest = λ tables reads. tt;
             held = λ tables reads. tt;
+            begun = λ tables reads. begun_plain state stmt (Ok outcome) old s new t tables refl ran (seen_whole tables reads.held) reads.nolie;
           };
         }
 
@@ -301,18 +313,18 @@ module _ {R E : Type 0} (state : R → RevState) (grew cut : E → E → List Ev
                 rest = [];
                 split = append-nil _ ∙ sym (reads_is state old s s1 v room t q.table (flat_map named_by q.items) q.group i table agrees rests uses here (Cut n));
                 asked = went.did.asked;
-                place = inr refl;
+                place = inr (refl, given_up grew cut given.events out_old out_new (starts out_old) e (made_none e is) given.ends);
               };
           seals = keeps_pass state old s s1 rests agrees new t now refl (λ good accepts. totals.seals.seals good);
           answered = if_failed _ e (λ is. record {
             events = [];
             took = subst (λ (o : E). grew out_old o []) (sym (totals.failed (ap Err is))) (starts out_old);
-            emits = tt;
+            emits = refl;
             told = λ tables reads. unfinished_none _ _;
           });
-          stopped = on_stop _ e (record {
+          stopped = on_stop grew cut (λ stop. Stopped state grew cut stmt stop old s new t out_old out_new) given.events out_old out_new (starts out_old) e given.ends (λ stop ends. record {
             events = given.events;
-            ends = elim given.ends [ inl h ↦ inl (h out_old [] (starts out_old)) | inr h ↦ inr (h out_old [] (starts out_old)) ];
+            ends = ends;
             told = λ tables reads.
                 let x = beside tables reads.held in
                 let held = before tables reads.held in
@@ -329,12 +341,6 @@ module _ {R E : Type 0} (state : R → RevState) (grew cut : E → E → List Ev
             });
             honest = λ tables reads. not_tampered e (totals.told (ended_with tables reads.held reads.nolie));
             held = λ tables reads. if_stop _ e (λ stop. cut_seen (is_refused stop) old.public (skeleton stmt) n _ _ (seen_whole tables reads.held) count);
+            begun = λ tables reads. begun_plain state stmt (answer_of e) old s new t tables refl ran (seen_whole tables reads.held) reads.nolie;
           };
         }
-
--- the same, of an equal answer and an equal engine
-pub serves_as : {R E : Type 0} (state : R → RevState) (grew cut : E → E → List Event → Type 0) (faults : E → ℕ) (stmt : Stmt) (old : Engine R) (s t : StoreState) (out_old out_new : E)
-    (r q : Result Outcome Stop) (new same : Engine R) → r ≡ q → new ≡ same → Serves state grew cut faults stmt q old s same t out_old out_new → Serves state grew cut faults stmt r old s new t out_old out_new
-serves_as {R} state grew cut faults stmt old s t out_old out_new r q new same answer is served =
-    subst (λ (e : Engine R). Serves state grew cut faults stmt r old s e t out_old out_new) (sym is)
-    (subst (λ (a : Result Outcome Stop). Serves state grew cut faults stmt a old s same t out_old out_new) (sym answer) served)

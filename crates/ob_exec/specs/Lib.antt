@@ -5,6 +5,7 @@ pub mod Agreeing
 pub mod Opening
 pub mod Running
 pub mod Memory
+pub mod Halting
 pub mod Telling
 pub mod Selecting
 pub mod Totalling

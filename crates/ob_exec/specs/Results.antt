@@ -7,7 +7,7 @@ use Rattle.ob_base.specs.declared.config.Plan.{Plan}
 use Rattle.ob_base.specs.declared.config.Plan.TheVariants.{Small, Large, Continuous, Hash}
 use Rattle.ob_base.specs.declared.refusal.Refusal.TheVariants.{Overflow}
 use Rattle.ob_base.specs.declared.shown.Shown.{Shown}
-use Rattle.ob_base.specs.Events.{Event, Leads, IsEmitted, IsHalted, row_events}
+use Rattle.ob_base.specs.Events.{Event, Leads, IsEmitted, row_events}
 use Rattle.ob_base.specs.declared.config.Public.{Public}
 use Rattle.ob_base.specs.Limits.{buffered}
 use Rattle.ob_base.specs.Plans.{choose}
@@ -30,7 +30,7 @@ use Rattle.ob_flat.specs.Flats.{IsSized, IsFlat, IsWritten, Represents}
 use Rattle.ob_flat.specs.Passes.{SinkCause, is_of_access}
 use Rattle.ob_flat.specs.Words.{Ran, SealsTable, blocks_of}
 use Rattle.ob_flat.specs.Emission.{SlotsToEnd, SlotsToHalt}
-use Rattle.ob_emit.specs.Emitting.{AreColumns, header, table_shown}
+use Rattle.ob_emit.specs.Emitting.{AreColumns, EndsAs, header, table_shown}
 use Rattle.ob_hash.specs.declared.selecting.Placed.{Placed}
 use Rattle.ob_hash.specs.declared.selecting.Placed.TheVariants.{Done}
 use Rattle.ob_hash.specs.Answers.{flat_of, overflow_of}
@@ -39,7 +39,8 @@ use Rattle.ob_mean.specs.Replay.{done_of}
 use Rattle.ob_exec.specs.declared.selecting.Selected.{Selected}
 use Rattle.ob_exec.specs.declared.selecting.Selected.TheVariants.{Rows, Refused}
 use Rattle.ob_exec.specs.Engines.{AreSettings, IsFree}
-use Rattle.ob_exec.specs.Memory.{is_reading, starts_with_make, ends_with_make}
+use Rattle.ob_exec.specs.Halting.{EmitsUntil}
+use Rattle.ob_exec.specs.Memory.{HasHalted, is_reading, starts_with_make, ends_with_make}
 use Rattle.ob_exec.specs.Selecting.{Selection, SealsRows, region_of, places, selected_as, emitted_unless}
 
 -- a selection, a plan for it, and the number of rows that is planned for
@@ -133,14 +134,15 @@ pub record KeepsRoom (old new : RoomState) : Type 0 where
   pub same : new ≡ record old { high = new.high }
   pub kept : old.high ≤ new.high
 
--- want of memory came just before a make or at it, or where nothing was left but to read
-pub record LacksMemoryOf (script : List Access) (old new : World) : Type 0 where
+-- want of memory came just before a make or at it, or where nothing was left but to read and the emitter gave up, which
+-- is this
+pub record LacksMemoryOf (script : List Access) (old new : World) (Halts : Type 0) : Type 0 where
   pub done : List Access
   pub rest : List Access
   pub split : done ++ rest ≡ script
   pub asked : new.store.asked ≡ old.store.asked ++ done
   pub place : IsTrue (ends_with_make done) ⊎ IsTrue (starts_with_make rest)
-      ⊎ IsTrue (list_all is_reading rest)
+      ⊎ (IsTrue (list_all is_reading rest) × Halts)
 
 -- a result that has each row
 abbrev pub placed_as : Result Flat OpErr → Result Placed OpErr
@@ -153,7 +155,7 @@ pub record MakesResult (r : Planned) (result : Result Placed OpErr) (old new : W
   pub some : IfErr result (λ e. IsTrue (is_of_access e)
       → length old.store.asked < length new.store.asked)
   pub never : result ≡ Err Sink → ⊥
-  pub memory : result ≡ Err NoMemory → LacksMemoryOf (make_part r old.vault.next) old new
+  pub memory : result ≡ Err NoMemory → LacksMemoryOf (make_part r old.vault.next) old new ⊥
   pub value : IfOk result (λ placed. flat_of placed ≡ fresh_flat r old.vault.next)
   pub left : IfOk result (λ placed. IsSome (overflow_of placed) → r.plan ≡ Hash)
   pub written : OnOk result (IsWritten r.selection.public.pack (fresh_flat r old.vault.next) new)
@@ -174,14 +176,8 @@ pub record EmitsResult {E : Type 0} (grew cut : E → E → List Event → Type 
   pub seals : SealsAll old new
   pub emitted : IfOk result (λ n. IsEmitted grew (header fresh.schema cols)
       (λ (s : SlotsToEnd pack fresh old new). table_shown cols s.slots) 0 n out_old out_new)
-  pub halted : OnErr result (IsHalted grew cut
-      (λ (s : SlotsToHalt pack fresh old new).
-      header fresh.schema cols ++ row_events (table_shown cols s.slots))
-      out_old out_new)
-  pub failed : result ≡ Err Failed → IsHalted grew grew
-      (λ (s : SlotsToHalt pack fresh old new).
-      header fresh.schema cols ++ row_events (table_shown cols s.slots))
-      out_old out_new
+  pub halted : IfErr result (λ e. EndsAs grew cut e (header fresh.schema cols)
+      (λ (s : SlotsToHalt pack fresh old new). table_shown cols s.slots) out_old out_new)
   pub sink : SinkCause result (faults out_old) (faults out_new)
   pub told : (slots : Slots) → Represents pack fresh slots old → new.store.lie ≡ None
       → IfErr result (λ e. (e ≡ Failed) ⊎ (e ≡ Sink) ⊎ (e ≡ NoMemory))
@@ -223,12 +219,11 @@ pub record SelectsBy {E : Type 0} (grew cut : E → E → List Event → Type 0)
   pub spare : OnOk result (r.selection.ending ≤ new.store.spare)
   pub seals : SealsRows r.selection.public.pack old new
   pub may : IfOk result (MayAnswer r.plan)
-  pub memory : result ≡ Err NoMemory → LacksMemoryOf (whole_part r old.vault.next) old new
+  pub memory : result ≡ Err NoMemory
+      → LacksMemoryOf (whole_part r old.vault.next) old new (HasHalted (Leads grew cut) out_old out_new)
   pub emitted : IfOk result (λ answer. EmitsHeld grew r answer old new out_old out_new)
-  pub halted : OnErr result (IsHalted grew cut
+  pub halted : IfErr result (λ e. EmitsUntil grew cut e (head_of r.selection)
       (λ (s : PlannedToHalt r old new). held_events r s.slots) out_old out_new)
-  pub failed : result ≡ Err Failed → IsHalted grew grew
-      (λ (s : PlannedToHalt r old new). held_events r s.slots) out_old out_new
   pub sink : SinkCause result (faults out_old) (faults out_new)
   pub told : (s : PlannedToEnd r old new) → MatchResult result
       (λ answer. answer ≡ held_answer r s.slots)

@@ -9,7 +9,7 @@ use Rattle.ob_base.specs.declared.refusal.Refusal.TheVariants.{NotConsecutive, O
 use Rattle.ob_base.specs.declared.seen.Seen.{Seen}
 use Rattle.ob_base.specs.declared.seen.End.TheVariants.{Whole, AfterCount}
 use Rattle.ob_base.specs.declared.shown.Shown.{Shown}
-use Rattle.ob_base.specs.Events.{Event, IsEmitted, IsHalted, row_events}
+use Rattle.ob_base.specs.Events.{Event, Leads, IsEmitted, row_events}
 use Rattle.ob_base.specs.Limits.{buffered}
 use Rattle.ob_base.specs.Plans.{choose}
 use Rattle.ob_base.specs.Stored.{Stored}
@@ -21,7 +21,8 @@ use Rattle.ob_row.specs.Slots.{Slots, rows, selected}
 use Rattle.ob_row.specs.Truth.{is_true}
 use Rattle.ob_script.specs.Script.{blocks_of, extent_of, select_part}
 use Rattle.ob_vault.specs.State.{World}
-use Rattle.ob_vault.specs.Tied.{Ready, IsUnfit}
+use Rattle.ob_store.specs.State.{Lie}
+use Rattle.ob_vault.specs.Tied.{Ready, ReadsIn, IsUnfit}
 use Rattle.ob_vault.specs.Calls.{Seals}
 use Rattle.ob_flat.specs.declared.fault.OpErr.{OpErr}
 use Rattle.ob_flat.specs.declared.fault.OpErr.TheVariants.{Failed, Sink, NoMemory}
@@ -37,7 +38,8 @@ use Rattle.ob_exec.specs.declared.selecting.Query.{Query}
 use Rattle.ob_exec.specs.declared.selecting.Selected.{Selected}
 use Rattle.ob_exec.specs.declared.selecting.Selected.TheVariants.{Rows, Refused}
 use Rattle.ob_exec.specs.Engines.{AreSettings, IsFree}
-use Rattle.ob_exec.specs.Memory.{AtMake, is_reading}
+use Rattle.ob_exec.specs.Halting.{EmitsUntil}
+use Rattle.ob_exec.specs.Memory.{AtMake, HasHalted, is_reading}
 use Rattle.ob_exec.specs.Telling.{AcceptsRows}
 use Rattle.std.specs.List.{list_all}
 
@@ -205,14 +207,15 @@ pub record MaySelect (q : Selection) (room : RoomState) (w : World) : Type 0 whe
 abbrev pub from : ℕ → ℕ → Type 0
 from g region = g ≤ region
 
--- want of memory comes before or at a make, or once it has counted and nothing is left to be written
-pub record LacksMemoryIn (q : Selection) (seen : Seen) (old new : World) : Type 0 where
+-- want of memory comes before or at a make, or once it has counted, nothing is left to be written, and the emitter gave
+-- up, which is this
+pub record LacksMemoryIn (q : Selection) (seen : Seen) (old new : World) (Halts : Type 0) : Type 0 where
   pub done : List Access
   pub rest : List Access
   pub split : done ++ rest ≡ selection_script q seen old.vault.next
   pub asked : new.store.asked ≡ old.store.asked ++ done
   pub some : done ≡ [] → ⊥
-  pub place : AtMake done rest ⊎ (IsSome seen.k × IsTrue (list_all is_reading rest))
+  pub place : AtMake done rest ⊎ (IsSome seen.k × IsTrue (list_all is_reading rest) × Halts)
 
 -- rows were emitted, or nothing of what was refused
 abbrev pub EmitsSelected : {E : Type 0} → (grew : E → E → List Event → Type 0) → Selection → Selected → (old new : World) → (out_old out_new : E) → Type 0
@@ -241,15 +244,16 @@ pub record SelectsFrom {E : Type 0} (grew cut : E → E → List Event → Type 
   pub holds : MayHold q seen.k seen.plan seen.then
   pub ended : IfOk result (λ answer. EndsAs q answer seen)
   pub reached : OnErr result (Reaches q seen (length new.store.asked - length old.store.asked))
-  pub memory : result ≡ Err NoMemory → LacksMemoryIn q seen old new
+  pub memory : result ≡ Err NoMemory → LacksMemoryIn q seen old new (HasHalted (Leads grew cut) out_old out_new)
   pub emitted : IfOk result (λ answer. EmitsSelected grew q answer old new out_old out_new)
-  pub halted : OnErr result (IsHalted grew cut
+  pub halted : IfErr result (λ e. EmitsUntil grew cut e (header q.flat.schema q.cols)
       (λ (s : SelectsToHalt q old new). answer_events q s.slots) out_old out_new)
-  pub failed : result ≡ Err Failed → IsHalted grew grew
-      (λ (s : SelectsToHalt q old new). answer_events q s.slots) out_old out_new
   pub sink : SinkCause result (faults out_old) (faults out_new)
   pub told : (s : SelectsToEnd q old new) → MatchResult result
       (λ answer. (answer ≡ answer_of q s.slots) × (seen ≡ seen_of q s.slots))
       (λ e. (e ≡ Failed) ⊎ (e ≡ Sink) ⊎ (e ≡ NoMemory))
   pub held : (s : SelectsToHalt q old new) → IfErr result (λ e.
       HoldsSeen q s.slots (is_of_access e) (length new.store.asked - length old.store.asked) seen)
+  -- the first changed block that is read is one that is read of these slots
+  pub begun : (s : SelectsToEnd q old old) (lie : Lie) → new.store.lie ≡ Some lie
+      → ReadsIn lie (old.store.asked ++ selection_script q (seen_of q s.slots) old.vault.next)

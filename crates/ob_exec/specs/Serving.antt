@@ -1,5 +1,5 @@
 -- What a call of the engine does.
-use Rattle.std.specs.Prelude.{◌≡◌, ◌⊎◌, ⊥, ℕ, List, ◌++◌, Some, Result, Err, IfOk, IfErr, length}
+use Rattle.std.specs.Prelude.{◌≡◌, ◌⊎◌, ℕ, List, ◌++◌, Some, Result, Err, IfOk, IfErr, length}
 use Rattle.ob_base.specs.declared.refusal.Stop.{Stop}
 use Rattle.ob_base.specs.declared.refusal.Stop.TheVariants.{NoMemory, SinkFault, Tampered}
 use Rattle.ob_base.specs.declared.seen.End.TheVariants.{Static, AfterCount}

@@ -1,17 +1,18 @@
 -- A SELECT of rows from its source, a table or a join, until the number of its rows is emitted.
-use Rattle.std.specs.Prelude.{◌≡◌, ◌⊎◌, ◌≤◌, ◌<◌, ◌-◌, ◌^◌, ⊤, ℕ, List, [], ◌∷◌, ◌++◌, length, Bool, IsTrue, IsSome, None, Result, IfOk, IfErr, nat_le}
+use Rattle.std.specs.Prelude.{◌≡◌, ◌⊎◌, ◌≤◌, ◌<◌, ◌-◌, ◌^◌, ⊤, ℕ, List, [], ◌∷◌, ◌++◌, length, Bool, IsTrue, IsSome, None, Some, Result, IfOk, IfErr, nat_le}
 use Rattle.std.specs.List.{list_all}
 use Rattle.ob_base.specs.declared.access.Access.{Access}
 use Rattle.ob_base.specs.declared.config.Public.{Public}
 use Rattle.ob_base.specs.declared.seen.Seen.{Seen}
 use Rattle.ob_base.specs.declared.skeleton.Skeleton.{Skeleton}
-use Rattle.ob_base.specs.Events.{Event, Close, IsEmitted, IsHalted}
+use Rattle.ob_base.specs.Events.{Event, Close, Leads, IsEmitted}
 use Rattle.ob_base.specs.Stored.{headings_of}
 use Rattle.ob_room.specs.RoomState.{RoomState}
 use Rattle.ob_row.specs.Slots.{Slots}
 use Rattle.ob_script.specs.Script.{whole_script}
 use Rattle.ob_vault.specs.State.{World}
-use Rattle.ob_vault.specs.Tied.{IsUnfit}
+use Rattle.ob_store.specs.State.{Lie}
+use Rattle.ob_vault.specs.Tied.{ReadsIn, IsUnfit}
 use Rattle.ob_vault.specs.Calls.{Went}
 use Rattle.ob_flat.specs.declared.fault.OpErr.{OpErr}
 use Rattle.ob_flat.specs.declared.fault.OpErr.TheVariants.{Failed, Sink, NoMemory}
@@ -29,7 +30,8 @@ use Rattle.ob_exec.specs.declared.selecting.Selected.{Selected}
 use Rattle.ob_exec.specs.declared.selecting.Selected.TheVariants.{Rows, Refused}
 use Rattle.ob_exec.specs.declared.outcome.Outcome.{Outcome}
 use Rattle.ob_exec.specs.declared.outcome.Outcome.TheVariants.{Rows as RowsOut, Refused as RefusedOut}
-use Rattle.ob_exec.specs.Memory.{AtMake, is_reading}
+use Rattle.ob_exec.specs.Halting.{EmitsUntil}
+use Rattle.ob_exec.specs.Memory.{AtMake, HasHalted, is_reading}
 use Rattle.ob_exec.specs.Selecting.{Selection, SealsRows, MayHold, EndsAs, from, shown_rows, answer_of, answer_events, seen_of}
 use Rattle.ob_exec.specs.Telling.{AreHeld}
 
@@ -97,14 +99,21 @@ pub record HoldsRows (p : Public) (select : SelectRows) (slots : Slots) (failed 
       (done_of failed n)) (seen_of (selection p select) slots).then
 
 -- ---- what it does
--- want of memory comes before the first access, before or at a make, or once it has counted and nothing is left
--- to be written
-pub record LacksRowMemory (p : Public) (select : SelectRows) (seen : Seen) (old new : World) : Type 0 where
+-- want of memory comes before the first access, before or at a make, or once it has counted, nothing is left to be
+-- written, and the emitter gave up, which is this
+pub record LacksRowMemory (p : Public) (select : SelectRows) (seen : Seen) (old new : World)
+    (Halts : Type 0) : Type 0 where
   pub done : List Access
   pub rest : List Access
   pub split : done ++ rest ≡ rows_script p select seen
   pub asked : new.store.asked ≡ old.store.asked ++ done
-  pub place : AtMake done rest ⊎ (IsSome seen.k × IsTrue (list_all is_reading rest))
+  pub place : AtMake done rest ⊎ (IsSome seen.k × IsTrue (list_all is_reading rest) × Halts)
+
+-- the first changed block that is read is one that the statement reads over the tables before
+abbrev pub ReadsMeant : Public → SelectRows → (old new : World) → Type 0
+ReadsMeant p select old new =
+    (s : SourceToEnd p old old) (lie : Lie) → new.store.lie ≡ Some lie
+    → ReadsIn lie (old.store.asked ++ rows_script p select (seen_of (selection p select) (slots_of p select s.tables)))
 
 -- no region is left but those that there were
 pub record LeavesNone (old new : World) : Type 0 where
@@ -130,6 +139,7 @@ pub record EndsRows {E : Type 0} (grew : E → E → List Event → Type 0) (p :
   pub told : (s : SourceToEnd p old new)
       → (answer ≡ answer_of (selection p select) (slots_of p select s.tables))
       × (seen ≡ seen_of (selection p select) (slots_of p select s.tables))
+  pub begun : ReadsMeant p select old new
 
 -- an access failed, or gave a changed block, or the emitter failed, or memory was wanted
 pub record HaltsRows {E : Type 0} (grew cut : E → E → List Event → Type 0) (p : Public)
@@ -140,16 +150,15 @@ pub record HaltsRows {E : Type 0} (grew cut : E → E → List Event → Type 0)
   pub seals : SealsRows p.pack old new
   pub holds : MayHold (selection p select) seen.k seen.plan seen.then
   pub reached : ReachesRows p select seen (length new.store.asked - length old.store.asked)
-  pub memory : error ≡ NoMemory → LacksRowMemory p select seen old new
-  pub halted : IsHalted grew cut
-      (λ (s : SourceToHalt p old new). answer_events (selection p select) (slots_of p select s.tables))
-      out_old out_new
-  pub failed : error ≡ Failed → IsHalted grew grew
+  pub memory : error ≡ NoMemory
+      → LacksRowMemory p select seen old new (HasHalted (Leads grew cut) out_old out_new)
+  pub halted : EmitsUntil grew cut error (header (selection p select).flat.schema (selection p select).cols)
       (λ (s : SourceToHalt p old new). answer_events (selection p select) (slots_of p select s.tables))
       out_old out_new
   pub honest : SourceToEnd p old new → (error ≡ Failed) ⊎ (error ≡ Sink) ⊎ (error ≡ NoMemory)
   pub held : (s : SourceToHalt p old new) → HoldsRows p select (slots_of p select s.tables)
       (is_of_access error) (length new.store.asked - length old.store.asked) seen
+  pub begun : ReadsMeant p select old new
 
 -- the rows of a source were selected and emitted, all but the number of them
 pub record SelectsRows {E : Type 0} (grew cut : E → E → List Event → Type 0) (faults : E → ℕ)

@@ -1,7 +1,7 @@
 -- A SELECT of totals of one table, by its slots: its answer, and what is emitted.
 use Rattle.std.specs.Prelude.{◌≡◌, ◌⊎◌, ◌≤◌, ◌<◌, ℕ, false, List}
 use Rattle.std.specs.Prelude.{map, filter, filter_map, unwrap_or, length, Option, Some, None, if◌then◌else◌}
-use Rattle.std.specs.Prelude.{IfSome, Result, Err, OnOk, OnErr, IfOk, MatchResult}
+use Rattle.std.specs.Prelude.{IfSome, Result, Err, OnOk, OnErr, IfOk, IfErr, MatchResult}
 use Rattle.ob_base.specs.declared.emit.EmitErr.{EmitErr}
 use Rattle.ob_base.specs.declared.emit.EmitErr.TheVariants as EmitErrs
 use Rattle.ob_base.specs.declared.refusal.Refusal.{Refusal}
@@ -21,7 +21,7 @@ use Rattle.ob_vault.specs.State.{World}
 use Rattle.ob_vault.specs.Calls.{Went, none}
 use Rattle.ob_vault.specs.Words.{SealsAll}
 use Rattle.ob_flat.specs.declared.fault.OpErr.{OpErr}
-use Rattle.ob_flat.specs.declared.fault.OpErr.TheVariants.{Failed, Sink, NoMemory}
+use Rattle.ob_flat.specs.declared.fault.OpErr.TheVariants.{Failed, Tampered, Sink, NoMemory}
 use Rattle.ob_flat.specs.declared.flat.Flat.{Flat}
 use Rattle.ob_flat.specs.Emission.{SlotsToEnd, SlotsToHalt}
 use Rattle.ob_flat.specs.Flats.{IsSized, IsFlat}
@@ -111,16 +111,23 @@ pub record EmitsTotals {E : Type 0} (grew : E → E → List Event → Type 0)
     (old new : World) (out_old out_new : E) : Type 0 where
   pub events : List Event
   pub leads : Leads grew grew out_old out_new events
-  pub emits : Emits (labels_at flat.schema s) outcome events
+  pub emits : Emits (TotalsStmt s) (labels_at flat.schema s) outcome events
   pub told : (q : SlotsToEnd pack flat old new)
       → Prints (labels_at flat.schema s) (answer_of places flat.schema s q.slots) events
 
+-- an emitter that gave up ends within what it took last
+abbrev pub ends_by : {E : Type 0} → (grew cut : E → E → List Event → Type 0) → OpErr → E → E → List Event → Type 0
+ends_by grew cut Failed = grew
+ends_by grew cut (Tampered region place) = grew
+ends_by grew cut Sink = cut
+ends_by grew cut NoMemory = cut
+
 -- a first part of it was
-pub record HaltsTotals {E : Type 0} (grew cut : E → E → List Event → Type 0)
+pub record HaltsTotals {E : Type 0} (grew to : E → E → List Event → Type 0)
     (places pack : ℕ) (flat : Flat) (s : SelectTotals)
     (old new : World) (out_old out_new : E) : Type 0 where
   pub events : List Event
-  pub ends : Leads grew grew out_old out_new events ⊎ Leads grew cut out_old out_new events
+  pub ends : Leads grew to out_old out_new events
   pub told : (q : SlotsToHalt pack flat old new)
       → Partly (labels_at flat.schema s) (answer_of places flat.schema s q.slots) events
 
@@ -134,7 +141,8 @@ pub record Totals {E : Type 0} (grew cut : E → E → List Event → Type 0) (f
   pub whole : IfOk result IsTotalled
   pub emitted : IfOk result (λ outcome.
       EmitsTotals grew places pack flat s outcome old new out_old out_new)
-  pub halted : OnErr result (HaltsTotals grew cut places pack flat s old new out_old out_new)
+  pub halted : IfErr result (λ e.
+      HaltsTotals grew (ends_by grew cut e) places pack flat s old new out_old out_new)
   pub failed : result ≡ Err Failed → out_new ≡ out_old
   pub after : result ≡ Err NoMemory
       → Went (count_part flat.region (blocks_of pack flat)) none old new

@@ -35,7 +35,8 @@ impl<R: Revisions> Engine<R> {
             return self.cut(0, OpErr::NoMemory);
         };
         let before = store.count();
-        if self.make_room(store, &flat, 1).is_err() {
+        let blocks = flat.capacity.div_ceil(u32::from(self.public.pack));
+        if store.room(u64::from(blocks)).is_err() {
             return self.cut(0, OpErr::NoMemory);
         }
         match answer_totals(

@@ -1,11 +1,8 @@
 -- What stands while a store makes room for more accesses.
-use Rattle.std.proofs.Common.{◌+◌, ℕ, List, sym, ◌∙◌, ap, subst}
-use Rattle.ob_base.specs.declared.access.Access.{Access}
-use Rattle.ob_base.specs.Accesses.{AllBelow, writes, makes, number_of}
+use Rattle.std.proofs.Common.{ℕ, ◌∙◌}
 use Rattle.ob_store.specs.State.{StoreState}
 use Rattle.ob_store.specs.Calls.{Rests}
 use Rattle.ob_vault.specs.State.{VaultState}
-use Rattle.ob_vault.specs.Tied.{Ready}
 use Rattle.ob_flat.specs.declared.flat.Flat.{Flat}
 use Rattle.ob_row.specs.Slots.{Slots}
 use Rattle.ob_flat.specs.Flats.{IsFlat, Represents}

@@ -1,5 +1,5 @@
 -- Passes that ask an emitter, too.
-use Rattle.std.proofs.Common.{◌≡◌, Option, Some, None, ℕ, List, Err, refl, sym, ◌∙◌, subst}
+use Rattle.std.proofs.Common.{◌≡◌, Option, Some, None, ℕ, List, Err, refl, sym, subst}
 use Rattle.ob_base.specs.declared.access.Access.{Access}
 use Rattle.ob_store.specs.State.{Lie}
 use Rattle.ob_vault.specs.State.{World}

@@ -1,27 +1,31 @@
 -- The first changed block that is read ends the run, or its tag fits.
-use Rattle.std.proofs.Common.{◌≡◌, ℕ, Bool, List, [], ◌∷◌, None, Ok, Err, Result, inl, inr, sym, subst}
+use Rattle.std.proofs.Common.{◌≡◌, ℕ, Bool, List, [], ◌∷◌, None, Ok, Err, Result, ◌⊎◌, inl, inr, sym, subst}
 use Rattle.ob_base.specs.declared.refusal.Stop.{Stop}
 use Rattle.ob_base.specs.declared.refusal.Stop.TheVariants.{Tampered, SourceFault, SinkFault, NoMemory, InputLimit}
 use Rattle.ob_exec.specs.Agreeing.{world_of}
 use Rattle.ob_exec.specs.Running.{RunCause}
 use Rattle.ob_exec.specs.declared.engine.Engine.{Engine}
 use Rattle.ob_shell.specs.Running.{LastPart}
-use Rattle.ob_shell.specs.Steps.{Machine, Answer, Step, Steps}
-use Rattle.ob_shell.specs.Top.{MeetsChange}
-use Rattle.ob_shell.specs.declared.top.Ending.TheVariants.{Ran as RanEnding}
+use Rattle.ob_shell.specs.Steps.{Machine, Step, Steps}
 use Rattle.ob_store.specs.State.{StoreState}
 use Rattle.ob_vault.specs.State.{RevState, World}
-use Rattle.ob_vault.specs.Tied.{Calm}
+use Rattle.ob_vault.specs.Tied.{Calm, EndsAt}
+use Rattle.ob_shell.specs.Words.{Answer}
+
+-- no changed block was read, or the first that was fits; or the session ended as tampered where it was read
+abbrev pub MeetsChange : Result Bool Stop → World → Type 0
+MeetsChange (Err (Tampered region place)) w = Calm w ⊎ EndsAt region place w
+MeetsChange _ w = Calm w
 
 -- after a stop
-met : (stop : Stop) (w : World) → Calm w → MeetsChange (RanEnding (Err stop)) w
+met : (stop : Stop) (w : World) → Calm w → MeetsChange (Err stop) w
 met (Tampered region place) w calm = inl calm
 met SourceFault w calm = calm
 met SinkFault w calm = calm
 met NoMemory w calm = calm
 met InputLimit w calm = calm
 
-stop_met : (stop : Stop) (a b : World) → RunCause (Err stop) a b → Calm a → MeetsChange (RanEnding (Err stop)) b
+stop_met : (stop : Stop) (a b : World) → RunCause (Err stop) a b → Calm a → MeetsChange (Err stop) b
 stop_met (Tampered region place) a b cause calm = cause.2 calm
 stop_met SinkFault a b cause calm = cause.1 calm
 stop_met NoMemory a b cause calm = cause.1 calm
@@ -44,7 +48,7 @@ module _ {R : Type 0} (state : R → RevState) where
   steps_calm m0 m2 (text ∷ texts) answers steps calm = steps_calm steps.0 m2 texts steps.2 steps.5 (step_calm m0 steps.0 text steps.1 steps.4 calm)
 
   pub last_met : (m1 m2 : Machine R) (more : List (List ℕ)) (part : List ℕ) (result : Result Bool Stop) → LastPart state m1 m2 more part result → IsCalm m1
-      → MeetsChange (RanEnding result) (world_of state m2.engine m2.store)
+      → MeetsChange result (world_of state m2.engine m2.store)
   last_met m1 m2 more part (Ok flag) rests calm = subst (λ (m : Machine R). IsCalm m) (sym rests.machine) calm
   last_met m1 m2 [] part (Err stop) rests calm = met stop _ (subst (λ (m : Machine R). IsCalm m) (sym rests.rests.machine) calm)
   last_met m1 m2 (text ∷ more) part (Err stop) (inl rests) calm = met stop _ (subst (λ (m : Machine R). IsCalm m) (sym rests.rests.machine) calm)
@@ -53,4 +57,4 @@ module _ {R : Type 0} (state : R → RevState) where
 
 -- no block was read yet
 pub first_calm : {R : Type 0} (state : R → RevState) (e : Engine R) (s : StoreState) → s.lie ≡ None → Calm (world_of state e s)
-first_calm state e s none = record { calm = λ lie is. absurd (cc (none, is)) }
+first_calm state e s none = record { calm = λ lie is. absurd (cc (none, is)); within = λ lie is. absurd (cc (none, is)) }

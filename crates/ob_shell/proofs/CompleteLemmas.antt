@@ -10,16 +10,16 @@ use Rattle.ob_print.specs.Cuts.{Cut}
 use Rattle.ob_store.specs.State.{StoreState}
 use Rattle.ob_shell.specs.Texts.{is_over, rest_of}
 use Rattle.ob_shell.specs.KeyLine.{line_max, has_lf, first_line, after_line, secret_of, LineTaken}
-use Rattle.ob_shell.specs.Running.{Faults, SinksRose}
 use Rattle.ob_shell.specs.Settings.{limit_of}
 use Rattle.ob_shell.specs.Endings.{status_of, last_line, SinkStopped}
-use Rattle.ob_shell.specs.Top.{HasSecret, EndsUntampered, IsHonest, EndingSays, EndingWords, EndingCause, Shown, StatusCause, KeepsLimits, IsCompleted, Reported}
+use Rattle.ob_shell.specs.Top.{TraceSink, EndsUntampered, EndingSays, EndingWords, EndingCause, Shown, StatusCause, Reported}
 use Rattle.ob_shell.specs.declared.top.Report.{Report}
 use Rattle.ob_shell.specs.declared.top.Ending.{Ending}
 use Rattle.ob_shell.specs.declared.top.Ending.TheVariants.{Usage, BadKey, Ran}
 use Rattle.ob_shell.proofs.TextLemmas.{rest_of-append, rest_of-over, rest_of-nil}
 use Rattle.ob_shell.proofs.KeyLemmas.{after_line-none, first_line-long, secret_of-long}
 use Rattle.ob_shell.proofs.TopLemmas.{first_line-more, after_line-more, shown_line, line_grew, quiet_line, line_rose, rose_with, status_cause}
+use Rattle.ob_shell.specs.Words.{Faults, SinksRose, HasSecret, IsHonest, KeepsLimits, IsCompleted}
 
 no_secret : (xs : List ℕ) → HasSecret xs → secret_of (first_line xs) ≡ None → ⊥
 no_secret xs h e = let k = rw e at h in cc
@@ -70,8 +70,8 @@ limits_kept (Ran (Err InputLimit)) max taken rest ended more part t words k says
       | inr full ↦ let few = k.short in absurd (omega (arith, few, full, length-append taken rest))
     ]
 
-pub completes : {R : Type 0} {state : R → RevState} {settings : Option Config} {l0 l1 w0 w1 : Option (List ℕ)} {s0 s1 : StoreState} {high : ℕ} {ending : Ending} {line : List ℕ} {F Takes : Type 0} (old new : Faults) (input : List ℕ)
-    → Shown state settings l0 l1 w0 w1 s0 s1 high ending line F → EndingWords ending Takes → StatusCause ending old new
+pub completes : {tr : TraceSink} {settings : Option Config} {l0 l1 w0 w1 : Option (List ℕ)} {s0 s1 : StoreState} {high : ℕ} {ending : Ending} {line : List ℕ} {F Takes : Type 0} (old new : Faults) (input : List ℕ)
+    → Shown tr settings l0 l1 w0 w1 s0 s1 high ending line F → EndingWords ending Takes → StatusCause ending old new
     → Takes → l0 ≡ Some input → KeepsLimits (limit_of settings) input → ¬ Rises old.source new.source → ¬ SinksRose old new → IsCompleted (IsHonest s0 s1) ending
 completes {settings = settings} {l1 = l1} {s0 = s0} {s1 = s1} {ending = ending} old new input shown words cause t e k a c =
     go l1 shown.says (subst (λ (l : Option (List ℕ)). Consumes l l1 shown.taken) e shown.given)
@@ -80,16 +80,16 @@ completes {settings = settings} {l1 = l1} {s0 = s0} {s1 = s1} {ending = ending} 
     go None says given = absurd given
     go (Some rest) says given =
         limits_kept ending (limit_of settings) shown.taken rest shown.ended shown.more shown.part t words (subst (KeepsLimits (limit_of settings)) given k) says old new cause a c
-        (λ honest. elim shown.carried [ inl none ↦ none.untampered | inr some ↦ some.untampered honest ])
+        (λ honest. shown.carried.untampered honest)
 
 -- the last line was written, or cut by a sink's fault
-pub reported_line : {R : Type 0} {state : R → RevState} {Takes : Type 0} {settings : Option Config} {report : Report} (ending : Ending) (old mid new : Faults)
+pub reported_line : {tr : TraceSink} {Takes : Type 0} {settings : Option Config} {report : Report} (ending : Ending) (old mid new : Faults)
     {l0 l1 w0 w1 w2 : Option (List ℕ)} {s0 s1 : StoreState} {E : Type 0} (line : List ℕ)
     → report.status ≡ status_of ending → EndingWords ending Takes
-    → Shown state settings l0 l1 w0 w1 s0 s1 report.high ending [] (SinkStopped ending) → EndingCause ending old mid
+    → Shown tr settings l0 l1 w0 w1 s0 s1 report.high ending [] (SinkStopped ending) → EndingCause ending old mid
     → line ≡ last_line ending → Cut w1 w2 E line → (E → Rises mid.out new.out) → (line ≡ [] → Appends w1 w2 line) → (line ≡ [] → new.out ≡ mid.out)
     → mid.out ≤ new.out → new.trace ≡ mid.trace → new.source ≡ mid.source
-    → Reported state Takes settings l0 l1 w0 w2 s0 s1 old new report
+    → Reported tr Takes settings l0 l1 w0 w2 s0 s1 old new report
 reported_line ending old mid new line status takes shown cause is_line cut rose all none later trace source =
     let causes : StatusCause ending old new = status_cause ending old mid new cause later trace source (λ e. none (is_line ∙ e)) in
     record {
@@ -107,11 +107,11 @@ reported_line ending old mid new line status takes shown cause is_line cut rose 
     }
 
 -- no line may be written any more
-pub reported_quiet : {R : Type 0} {state : R → RevState} {Takes : Type 0} {settings : Option Config} {report : Report} (ending : Ending) (old new : Faults)
+pub reported_quiet : {tr : TraceSink} {Takes : Type 0} {settings : Option Config} {report : Report} (ending : Ending) (old new : Faults)
     {l0 l1 w0 w1 : Option (List ℕ)} {s0 s1 : StoreState}
     → report.status ≡ status_of ending → EndingWords ending Takes
-    → Shown state settings l0 l1 w0 w1 s0 s1 report.high ending [] (SinkStopped ending) → EndingCause ending old new → SinksRose old new
-    → Reported state Takes settings l0 l1 w0 w1 s0 s1 old new report
+    → Shown tr settings l0 l1 w0 w1 s0 s1 report.high ending [] (SinkStopped ending) → EndingCause ending old new → SinksRose old new
+    → Reported tr Takes settings l0 l1 w0 w1 s0 s1 old new report
 reported_quiet ending old new status takes shown cause rose =
     let causes : StatusCause ending old new = status_cause ending old new new cause (omega arith) refl refl (λ e. refl) in
     record {

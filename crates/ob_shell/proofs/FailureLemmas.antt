@@ -11,8 +11,9 @@ use Rattle.ob_exec.specs.declared.outcome.Outcome.TheVariants.{Created, Inserted
 use Rattle.ob_shell.proofs.LaterLemmas.{last_later}
 use Rattle.ob_shell.specs.Failures.{outcome_failures, failures, RisesBy}
 use Rattle.ob_shell.specs.Running.{LastPart}
-use Rattle.ob_shell.specs.Steps.{Machine, Answer, Step, Steps}
+use Rattle.ob_shell.specs.Steps.{Machine, Step, Steps}
 use Rattle.ob_vault.specs.State.{RevState}
+use Rattle.ob_shell.specs.Words.{Answer}
 
 stays : (a b : ℕ) → b ≡ a → RisesBy 0 a b
 stays a b same = omega (arith, same)

@@ -39,43 +39,6 @@ begins_length part whole b = omega (arith, ap length b.joined, length-append par
 begins_all : (all : List Access) → Begins all all
 begins_all all = record { rest = []; joined = sym (append-nil all) }
 
-first_of_whole : (end : End) (all : List Access) → Begins (until_end end all) all
-first_of_whole Static all = record { rest = all; joined = refl }
-first_of_whole Whole all = begins_all all
-first_of_whole AfterCount all = begins_all all
-first_of_whole (Cut n) all = record { rest = drop n all; joined = sym (take-append-drop n all) }
-
--- ---- a statement that is no SELECT of rows, over any store
-module _ (p : Public) (m : ℕ) (tables : Tables) (w : World) (held : AreHeld p.pack p.tables tables w) where
-  -- all accesses are the same, whatever is seen, and the meaning's go to their end
-  whole_of : (stmt : Stmt) (here : Seen) → seen_started p tables stmt ≡ ended Whole → whole_script p (skeleton stmt) here ≡ whole_script p (skeleton stmt) (ended Whole)
-      → refusal_now p m stmt ≡ None → Begins (script p (skeleton stmt) here) (script p (skeleton stmt) (seen p m tables stmt))
-  whole_of stmt here kind same now =
-      let early = ap (λ (hs : List Heading). early_refusal (is_late m) p.pack p.buffer hs stmt) (held_headings p.pack p.tables tables w held) ∙ now in
-      let meant : seen p m tables stmt ≡ ended Whole = seen_late p m tables stmt early ∙ kind in
-      subst (λ (x : Seen). Begins (script p (skeleton stmt) here) (script p (skeleton stmt) x)) (sym meant)
-      (subst (λ (all : List Access). Begins (until_end here.end all) (whole_script p (skeleton stmt) (ended Whole))) (sym same) (first_of_whole here.end _))
-
-  begins_late : (stmt : Stmt) (here : Seen) → is_counted stmt ≡ false → refusal_now p m stmt ≡ None → Begins (script p (skeleton stmt) here) (script p (skeleton stmt) (seen p m tables stmt))
-  begins_late (Create table columns capacity) here kind now = whole_of (Create table columns capacity) here refl refl now
-  begins_late (Insert table columns values) here kind now = whole_of (Insert table columns values) here refl refl now
-  begins_late (Update table sets cond) here kind now = whole_of (Update table sets cond) here refl refl now
-  begins_late (Delete table cond) here kind now = whole_of (Delete table cond) here refl refl now
-  begins_late (DropTable table) here kind now = whole_of (DropTable table) here refl refl now
-  begins_late (TotalsStmt q) here kind now = whole_of (TotalsStmt q) here refl refl now
-  begins_late (RowsStmt q) here kind now = absurd (cc kind)
-
-  begins_by : (o : Option Refusal) (stmt : Stmt) (result : Result Outcome Stop) (here : Seen) → is_counted stmt ≡ false → refusal_now p m stmt ≡ o → RefusedEarly o result here
-      → Begins (script p (skeleton stmt) here) (script p (skeleton stmt) (seen p m tables stmt))
-  begins_by (Some r) stmt result here kind now early =
-      subst (λ (x : Seen). Begins (script p (skeleton stmt) x) (script p (skeleton stmt) (seen p m tables stmt))) (sym early.1)
-      (record { rest = script p (skeleton stmt) (seen p m tables stmt); joined = refl })
-  begins_by None stmt result here kind now early = begins_late stmt here kind now
-
-  pub begins_meant : (stmt : Stmt) (result : Result Outcome Stop) (here : Seen) → is_counted stmt ≡ false → RefusedEarly (refusal_now p m stmt) result here
-      → Begins (script p (skeleton stmt) here) (script p (skeleton stmt) (seen p m tables stmt))
-  begins_meant stmt result here kind early = begins_by (refusal_now p m stmt) stmt result here kind refl early
-
 -- ---- any statement, while what is read was written there
 -- the meaning of a statement that isn't refused early asks all of it
 abbrev IsToEnd : End → Type 0

@@ -9,10 +9,11 @@ use Rattle.ob_exec.specs.declared.engine.Engine.{Engine}
 use Rattle.ob_store.specs.State.{StoreState}
 use Rattle.ob_shell.specs.Running.{LastPart}
 use Rattle.ob_shell.specs.Settings.{public_by}
-use Rattle.ob_shell.specs.Steps.{Machine, Answer, Step, Steps}
+use Rattle.ob_shell.specs.Steps.{Machine, Step, Steps}
 use Rattle.ob_vault.specs.State.{RevState}
 use Rattle.ob_vault.specs.Tied.{AllSealed}
 use Rattle.ob_shell.proofs.ReplayLemmas.{step_goes}
+use Rattle.ob_shell.specs.Words.{Answer}
 
 -- the rows of a block, and those that may be open, are as these settings say
 pub record HasSizes {R : Type 0} (config : Config) (m : Machine R) : Type 0 where

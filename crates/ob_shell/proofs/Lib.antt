@@ -10,10 +10,10 @@ pub mod TraceLemmas
 pub mod ReplayLemmas
 pub mod LastingLemmas
 pub mod CalmLemmas
-pub mod AskLemmas
 pub mod FailureLemmas
 pub mod PieceLemmas
-pub mod LieLemmas
+pub mod WalkLemmas
+pub mod HeadLemmas
 pub mod OpenLemmas
 pub mod CloseLemmas
 pub mod WordLemmas
@@ -21,7 +21,6 @@ pub mod FirstPartLemmas
 pub mod LaterLemmas
 pub mod DisturbLemmas
 pub mod MeddleLemmas
-pub mod WholeLemmas
 pub mod RerunLemmas
 pub mod CutLemmas
 mod Spelt

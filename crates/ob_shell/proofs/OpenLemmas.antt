@@ -6,8 +6,9 @@ use Rattle.ob_base.specs.declared.access.Access.{Access}
 use Rattle.ob_base.specs.declared.refusal.Stop.{Stop}
 use Rattle.ob_exec.specs.Opening.{is_of_rows, Opens}
 use Rattle.ob_shell.specs.Running.{LastPart}
-use Rattle.ob_shell.specs.Steps.{Machine, Answer, Step, Steps}
+use Rattle.ob_shell.specs.Steps.{Machine, Step, Steps}
 use Rattle.ob_vault.specs.State.{RevState}
+use Rattle.ob_shell.specs.Words.{Answer}
 
 -- where a block was read or written, at least one row was open
 abbrev pub IsUsed : List Access → ℕ → Type 0

@@ -1,175 +1,49 @@
--- What a run asks that came to its end, and of which no text was answered that the store failed.
-use Rattle.std.proofs.Common.{◌≡◌, inl, inr, ◌+◌, ◌≤◌, ℕ, Bool, true, false, IsTrue, Ok, Err, List, [], ◌∷◌, ◌++◌, length, Option, Some, None, refl, sym, ◌∙◌, ap, subst, append-nil, append_assoc, arith}
+-- Two runs that came to their end, and of which no text was answered that the store failed.
+use Rattle.std.proofs.Common.{◌≡◌, ◌+◌, ◌≤◌, ◌++◌, ℕ, Bool, true, false, IsTrue, Ok, Err, List, [], ◌∷◌, length, Option, Some, None, refl, sym, ◌∙◌, ap, subst, append-nil, arith}
 use Rattle.std.specs.Prelude.{is_some}
-use Rattle.std.proofs.lemmas.List.{length-append}
+use Rattle.clap.specs.Words.{Text}
 use Rattle.ob_base.specs.declared.access.Access.{Access}
 use Rattle.ob_base.specs.declared.config.Config.{Config}
 use Rattle.ob_base.specs.declared.config.Plan.{Plan}
 use Rattle.ob_base.specs.declared.config.Plan.TheVariants.{Small, Large, Continuous, Hash}
 use Rattle.ob_base.specs.declared.config.Public.{Public}
-use Rattle.ob_base.specs.declared.refusal.Refusal.{Refusal}
-use Rattle.ob_base.specs.declared.refusal.Refusal.TheVariants.{Syntax, NoTable, NameTaken, NoColumn, WrongType, ValueRange, Limit, KeyRule, JoinKey, Duplicate, Full, TooManyGroups, NotConsecutive, Overflow, StoreFault}
+use Rattle.ob_base.specs.declared.refusal.Refusal.TheVariants.{StoreFault}
 use Rattle.ob_base.specs.declared.refusal.Stop.TheVariants as Stops
 use Rattle.ob_base.specs.declared.seen.End.{End}
 use Rattle.ob_base.specs.declared.seen.End.TheVariants.{Static, Whole, AfterCount, Cut}
 use Rattle.ob_base.specs.declared.seen.Seen.{Seen}
 use Rattle.ob_base.specs.declared.skeleton.Skeleton.{Skeleton}
 use Rattle.ob_base.specs.declared.skeleton.Skeleton.TheVariants as K
-use Rattle.ob_exec.specs.Agreeing.{public_of, seen_of}
-use Rattle.ob_exec.specs.Running.{outcome_end, refusal_now}
-use Rattle.ob_exec.specs.Refusals.{refused_end}
+use Rattle.ob_exec.specs.Running.{refusal_now}
 use Rattle.ob_exec.specs.declared.outcome.Outcome.{Outcome}
-use Rattle.ob_exec.specs.declared.outcome.Outcome.TheVariants.{Created, Inserted, Changed, Deleted, Dropped, Rows, Refused}
+use Rattle.ob_exec.specs.declared.outcome.Outcome.TheVariants.{Refused}
 use Rattle.ob_mean.specs.Lawful.{EndsUncounted, Holds, Lawful, is_counted}
+use Rattle.ob_mean.specs.Replay.{Spelt}
 use Rattle.ob_script.specs.Script.{script}
 use Rattle.ob_script.specs.Trace.{Served as Entry, next, trace}
-use Rattle.ob_shell.specs.Asking.{SpellAll}
 use Rattle.ob_shell.specs.Endings.{status_of}
-use Rattle.ob_shell.specs.Failures.{failures, outcome_failures, refusal_failures}
-use Rattle.ob_shell.specs.Settings.{public_by}
-use Rattle.ob_shell.specs.Steps.{Machine, machine_of, Answer, Misspelt, Served, Steps}
-use Rattle.ob_shell.specs.Top.{EndingPart, Carried}
-use Rattle.ob_shell.specs.Whole.{AreUncut, AsksUncut, IsCut, ShowAlike}
+use Rattle.ob_shell.specs.Failures.{failures, outcome_failures}
+use Rattle.ob_shell.specs.Headline.{Headline}
+use Rattle.ob_shell.specs.Reruns.{Alike, EndsWell, ShellRun, ShowAlike, plainly, seen_plainly, statements}
+use Rattle.ob_shell.specs.Settings.{settings_of}
+use Rattle.ob_shell.specs.Usage.{usage}
+use Rattle.ob_shell.specs.Words.{Answer, AreSeen, Because, Outside, SpellFirst, is_cut, public_with}
 use Rattle.ob_shell.specs.declared.top.Ending.{Ending}
 use Rattle.ob_shell.specs.declared.top.Ending.TheVariants.{Usage, BadKey, Ran}
+use Rattle.ob_shell.specs.declared.top.Report.{Report}
 use Rattle.ob_sql.specs.Skeleton.{skeleton}
 use Rattle.ob_sql.specs.declared.stmt.Stmt.{Stmt}
 use Rattle.ob_sql.specs.declared.stmt.Stmt.TheVariants.{Create, Insert, Update, Delete, Drop as DropTable, SelectRows, SelectTotals}
-use Rattle.ob_store.specs.State.{StoreState}
-use Rattle.ob_vault.specs.State.{RevState}
-use Rattle.ob_shell.proofs.WholeLemmas.{fresh_is}
 
--- ---- a statement is cut off only where it is answered that the store failed
-uncut_refused : (r : Refusal) (n : ℕ) → refusal_failures r ≡ 0 → IsCut (refused_end r n) → ⊥
-uncut_refused (Syntax at) n none cut = cut
-uncut_refused NoTable n none cut = cut
-uncut_refused NameTaken n none cut = cut
-uncut_refused NoColumn n none cut = cut
-uncut_refused WrongType n none cut = cut
-uncut_refused ValueRange n none cut = cut
-uncut_refused Limit n none cut = cut
-uncut_refused KeyRule n none cut = cut
-uncut_refused JoinKey n none cut = cut
-uncut_refused Duplicate n none cut = cut
-uncut_refused Full n none cut = cut
-uncut_refused TooManyGroups n none cut = cut
-uncut_refused NotConsecutive n none cut = cut
-uncut_refused (Overflow i) n none cut = cut
-uncut_refused StoreFault n none cut = absurd (omega (arith, none))
-
-uncut_by : (o : Outcome) (n : ℕ) → outcome_failures o ≡ 0 → IsCut (outcome_end o n) → ⊥
-uncut_by Created n none cut = cut
-uncut_by Inserted n none cut = cut
-uncut_by (Changed k) n none cut = cut
-uncut_by (Deleted k) n none cut = cut
-uncut_by Dropped n none cut = cut
-uncut_by (Rows k) n none cut = cut
-uncut_by (Refused r) n none cut = uncut_refused r n none cut
-
--- ---- all statements
-module _ {R : Type 0} (state : R → RevState) where
-  record Plain (m0 m2 : Machine R) (texts : List (List ℕ)) : Type 0 where
-    stmts : List Stmt
-    spelt : SpellAll texts stmts
-    seen : List Entry
-    uncut : AreUncut (public_of m0.engine) (length m0.store.asked) stmts seen
-    asked : m2.store.asked ≡ m0.store.asked ++ trace (public_of m0.engine) seen
-
-  plain_none : (m0 m2 : Machine R) → m2 ≡ m0 → Plain m0 m2 []
-  unfolding SpellAll AreUncut
-  plain_none m0 m2 same = record {
-    stmts = [];
-    spelt = refl;
-    seen = [];
-    uncut = refl;
-    asked = ap (λ (m : Machine R). m.store.asked) same ∙ sym (append-nil m0.store.asked);
-  }
-
-  plain_misspelt : (m0 m1 m2 : Machine R) (text : List ℕ) (texts : List (List ℕ)) (one : Answer) → Misspelt m0 m1 text one → Plain m1 m2 texts → Plain m0 m2 (text ∷ texts)
-  unfolding SpellAll
-  plain_misspelt m0 m1 m2 text texts one bad rest =
-      let from : Plain m0 m2 texts = subst (λ (m : Machine R). Plain m m2 texts) bad.same rest in
-      record { stmts = from.stmts; spelt = inl (bad.at, bad.spells, from.spelt); seen = from.seen; uncut = from.uncut; asked = from.asked }
-
-  plain_served : (m0 m1 m2 : Machine R) (text : List ℕ) (texts : List (List ℕ)) (one : Answer) → outcome_failures one.outcome ≡ 0 → Served state m0 m1 text one → Plain m1 m2 texts → Plain m0 m2 (text ∷ texts)
-  unfolding SpellAll AreUncut
-  plain_served m0 m1 m2 text texts one none did rest =
-      let p = public_of m0.engine in
-      let sk = skeleton did.stmt in
-      let here = seen_of m1.engine in
-      let public_is : public_of m1.engine ≡ next p sk here = did.does.ran.goes_on.public in
-      let asked_is : length m1.store.asked ≡ length m0.store.asked + length (script p sk here) =
-      ap length did.does.ran.asked ∙ length-append m0.store.asked (script p sk here) in
-      record {
-        stmts = did.stmt ∷ rest.stmts;
-        spelt = inr (did.stmt, rest.stmts, refl, did.spells, rest.spelt);
-        seen = record { skeleton = sk; seen = here } ∷ rest.seen;
-        uncut = (
-          refl,
-          did.does.lawful,
-          λ cut. uncut_by one.outcome _ none (subst (λ (e : End). IsCut e) did.does.ran.ends cut),
-          subst (λ (q : Public). AreUncut q (length m0.store.asked + length (script p sk here)) rest.stmts rest.seen) public_is
-              (subst (λ (n : ℕ). AreUncut (public_of m1.engine) n rest.stmts rest.seen) asked_is rest.uncut),
-        );
-        asked = rest.asked ∙ (λ i. did.does.ran.asked i ++ trace (public_is i) rest.seen) ∙ append_assoc m0.store.asked (script p sk here) _;
-      }
-
-  plain : (texts : List (List ℕ)) (m0 m2 : Machine R) (answers : List Answer) → Steps state m0 m2 texts answers → failures answers ≡ 0 → Plain m0 m2 texts
-  unfolding Steps failures
-  plain [] m0 m2 answers steps none = plain_none m0 m2 steps.0
-  plain (text ∷ texts) m0 m2 answers steps none =
-      let split : outcome_failures steps.1.outcome + failures steps.2 ≡ 0 = sym (ap failures steps.3) ∙ none in
-      let rest = plain texts steps.0 m2 steps.2 steps.5 (omega (arith, split)) in
-      elim steps.4.done [
-        | inl bad ↦ plain_misspelt m0 steps.0 m2 text texts steps.1 bad rest
-        | inr did ↦ plain_served m0 steps.0 m2 text texts steps.1 (omega (arith, split)) did rest
-      ]
-
-  came_to_end : (m1 m2 : Machine R) (more : List (List ℕ)) (part : List ℕ) (ending : Ending) → status_of ending ≤ 1
-      → EndingPart state m1 m2 more part ending → m2 ≡ m1
-  came_to_end m1 m2 more part Usage few last = absurd (omega (arith, few))
-  came_to_end m1 m2 more part BadKey few last = absurd (omega (arith, few))
-  came_to_end m1 m2 more part (Ran (Ok flag)) few last = last.machine
-  came_to_end m1 m2 more part (Ran (Err (Stops.Tampered q x))) few last = absurd (omega (arith, few))
-  came_to_end m1 m2 more part (Ran (Err Stops.SourceFault)) few last = absurd (omega (arith, few))
-  came_to_end m1 m2 more part (Ran (Err Stops.SinkFault)) few last = absurd (omega (arith, few))
-  came_to_end m1 m2 more part (Ran (Err Stops.NoMemory)) few last = absurd (omega (arith, few))
-  came_to_end m1 m2 more part (Ran (Err Stops.InputLimit)) few last = absurd (omega (arith, few))
-
-  from_start : (p : Public) (m0 m2 : Machine R) (texts : List (List ℕ)) → public_of m0.engine ≡ p → m0.store.asked ≡ [] → Plain m0 m2 texts → AsksUncut p m2.store.asked texts
-  from_start p m0 m2 texts fresh none plain = record {
-    stmts = plain.stmts;
-    spelt = plain.spelt;
-    seen = plain.seen;
-    uncut = subst (λ (q : Public). AreUncut q 0 plain.stmts plain.seen) fresh
-        (subst (λ (n : ℕ). AreUncut (public_of m0.engine) n plain.stmts plain.seen) (ap length none) plain.uncut);
-    asked = plain.asked ∙ (λ i. none i ++ trace (fresh i) plain.seen);
-  }
-
-  unstarted : (p : Public) (store0 store1 : StoreState) (texts : List (List ℕ)) → store0.asked ≡ [] → store1 ≡ store0 → texts ≡ [] → AsksUncut p store1.asked texts
-  unfolding SpellAll AreUncut
-  unstarted p store0 store1 texts none same empty = record {
-    stmts = [];
-    spelt = subst (λ (ts : List (List ℕ)). SpellAll ts []) (sym empty) refl;
-    seen = [];
-    uncut = refl;
-    asked = ap (λ (s : StoreState). s.asked) same ∙ none;
-  }
-
-  pub asks_uncut : (config : Config) (secret : Option (List ℕ)) (store0 store1 : StoreState) (high : ℕ) (served more : List (List ℕ)) (answers : List Answer) (part : List ℕ) (ending : Ending)
-      → store0.asked ≡ [] → Carried state (Some config) secret store0 store1 high served more answers part ending → status_of ending ≤ 1 → failures answers ≡ 0
-      → AsksUncut (public_by config) store1.asked served
-  asks_uncut config secret store0 store1 high served more answers part ending none carried few well = elim carried [
-    | inl un ↦ unstarted (public_by config) store0 store1 served none un.store un.unserved
-    | inr did ↦ let end = came_to_end did.middle (machine_of did.last store1) more part ending few did.rest in
-        from_start (public_by config) (machine_of did.first store0) (machine_of did.last store1) served (fresh_is state refl did) none
-        (subst (λ (m : Machine R). Plain (machine_of did.first store0) m served) (sym end) (plain served _ did.middle answers did.steps well))
-  ]
+-- of each statement its skeleton, and what is seen of it, which is lawful; none is cut off
+unfoldable AreUncut : Public → ℕ → List Stmt → List Entry → Type 0
+AreUncut p m [] seen = seen ≡ []
+AreUncut p m (stmt ∷ stmts) [] = ⊥
+AreUncut p m (stmt ∷ stmts) (x ∷ seen) =
+    (x.skeleton ≡ skeleton stmt) × Lawful p m stmt x.seen × (is_cut x.seen.end ≡ false)
+    × AreUncut (next p x.skeleton x.seen) (m + length (script p x.skeleton x.seen)) stmts seen
 
 -- ---- what is seen of a statement that is no SELECT of rows, and was not cut off, follows from its early refusal
-abbrev seen_to : End → Seen
-seen_to end = record { k = None; plan = None; then = None; end = end }
-
 -- it holds neither a k nor a plan
 record HoldsNone (stmt : Stmt) (here : Seen) (k : Option ℕ) (plan second : Option Plan) : Type 0 where
   no_k : k ≡ None
@@ -203,20 +77,23 @@ end_by true = Static
 end_by false = Whole
 
 end_is : (p : Public) (m : ℕ) (stmt : Stmt) (here : Seen) (end : End) (early : Bool) → here.end ≡ end → is_some (refusal_now p m stmt) ≡ early
-    → Lawful p m stmt here → (IsCut here.end → ⊥) → EndsUncounted stmt end → here.end ≡ end_by early
+    → Lawful p m stmt here → is_cut here.end ≡ false → EndsUncounted stmt end → here.end ≡ end_by early
 end_is p m stmt here Static true is now lawful uncut ends = is
 end_is p m stmt here Static false is now lawful uncut ends = let early = lawful.static.0 is in absurd (cc (early, now))
 end_is p m stmt here Whole true is now lawful uncut ends = let static = lawful.static.1 now in absurd (cc (static, is))
 end_is p m stmt here Whole false is now lawful uncut ends = is
 end_is p m stmt here AfterCount early is now lawful uncut ends = absurd ends
-end_is p m stmt here (Cut n) early is now lawful uncut ends = absurd (uncut (subst (λ (e : End). IsCut e) (sym is) tt))
+end_is p m stmt here (Cut n) early is now lawful uncut ends = absurd (cc (uncut, ap is_cut is))
 
-seen_plainly : (p : Public) (m : ℕ) (stmt : Stmt) (here : Seen) → is_counted stmt ≡ false → Lawful p m stmt here → (IsCut here.end → ⊥)
-    → here ≡ seen_to (end_by (is_some (refusal_now p m stmt)))
-seen_plainly p m stmt here uncounted lawful uncut =
+plain_of : (refused : Bool) (here : Seen) → here.k ≡ None → here.plan ≡ None → here.then ≡ None → here.end ≡ end_by refused → here ≡ seen_plainly refused
+plain_of true here k plan second end = λ i. record { k = k i; plan = plan i; then = second i; end = end i }
+plain_of false here k plan second end = λ i. record { k = k i; plan = plan i; then = second i; end = end i }
+
+pub shows_plainly : (p : Public) (m : ℕ) (stmt : Stmt) (here : Seen) → Lawful p m stmt here → is_counted stmt ≡ false → is_cut here.end ≡ false → here ≡ plainly p m stmt
+shows_plainly p m stmt here lawful uncounted uncut =
     let held = holds_none p stmt here uncounted here.k here.plan here.then lawful.holds in
-    let end = end_is p m stmt here here.end (is_some (refusal_now p m stmt)) refl refl lawful uncut held.ends in
-    λ i. record { k = held.no_k i; plan = held.no_plan i; then = held.no_second i; end = end i }
+    plain_of (is_some (refusal_now p m stmt)) here held.no_k held.no_plan held.no_second
+    (end_is p m stmt here here.end (is_some (refusal_now p m stmt)) refl refl lawful uncut held.ends)
 
 -- a SELECT of rows is one by its skeleton
 abbrev is_rows : Skeleton → Bool
@@ -235,13 +112,13 @@ counted_rows (SelectTotals s) = refl
 same_counted : (a b : Stmt) → skeleton a ≡ skeleton b → is_counted a ≡ is_counted b
 same_counted a b is = counted_rows a ∙ ap is_rows is ∙ sym (counted_rows b)
 
-one_alike : (p : Public) (m : ℕ) (a b : Stmt) (x y : Seen) (counted : Bool) → is_counted a ≡ counted → Lawful p m a x → Lawful p m b y → (IsCut x.end → ⊥) → (IsCut y.end → ⊥)
+one_alike : (p : Public) (m : ℕ) (a b : Stmt) (x y : Seen) (counted : Bool) → is_counted a ≡ counted → Lawful p m a x → Lawful p m b y → is_cut x.end ≡ false → is_cut y.end ≡ false
     → skeleton a ≡ skeleton b → is_some (refusal_now p m a) ≡ is_some (refusal_now p m b) → (IsTrue (is_counted a) → x ≡ y) → x ≡ y
 one_alike p m a b x y true is lawful lawful_too uncut uncut_too sk early shows = shows is
 one_alike p m a b x y false is lawful lawful_too uncut uncut_too sk early shows =
-    seen_plainly p m a x is lawful uncut
-    ∙ ap (λ (e : Bool). seen_to (end_by e)) early
-    ∙ sym (seen_plainly p m b y (sym (same_counted a b sk) ∙ is) lawful_too uncut_too)
+    shows_plainly p m a x lawful is uncut
+    ∙ ap seen_plainly early
+    ∙ sym (shows_plainly p m b y lawful_too (sym (same_counted a b sk) ∙ is) uncut_too)
 
 same_seen : (p : Public) (m : ℕ) (ps : List Stmt) (xs : List Entry) (qs : List Stmt) (ys : List Entry) → AreUncut p m ps xs → AreUncut p m qs ys → ShowAlike p m ps xs qs ys → xs ≡ ys
 unfolding AreUncut ShowAlike
@@ -258,8 +135,98 @@ same_seen p m (a ∷ ps) (x ∷ xs) (b ∷ qs) (y ∷ ys) lawful lawful_too alik
     (subst (λ (z : Entry). AreUncut (next p z.skeleton z.seen) (m + length (script p z.skeleton z.seen)) qs ys) (sym one) lawful_too.3) alike.3 in
     λ i. one i ∷ rest i
 
-pub same_asked : (p : Public) (accesses accesses_too : List Access) (texts texts_too : List (List ℕ)) (a : AsksUncut p accesses texts) (b : AsksUncut p accesses_too texts_too)
-    → ShowAlike p 0 a.stmts a.seen b.stmts b.seen → (a.seen ≡ b.seen) × (accesses ≡ accesses_too)
-same_asked p accesses accesses_too texts texts_too a b alike =
-    let seen = same_seen p 0 a.stmts a.seen b.stmts b.seen a.uncut b.uncut alike in
-    (seen, a.asked ∙ ap (λ (xs : List Entry). trace p xs) seen ∙ sym b.asked)
+-- ---- of a run by its headline
+-- none was cut off where no text was answered that the store failed
+failure_is : (o : Outcome) → o ≡ Refused StoreFault → outcome_failures o ≡ 1
+failure_is o is = ap outcome_failures is
+
+not_cut : (b : Bool) (o : Outcome) → (IsTrue b → o ≡ Refused StoreFault) → outcome_failures o ≡ 0 → b ≡ false
+not_cut true o cut none = let one = failure_is o (cut refl) in absurd (omega (arith, one, none))
+not_cut false o cut none = refl
+
+all_uncut : (ending : Ending) (spelt : List Spelt) (answers : List Answer) (p : Public) (m : ℕ) (seen : List Entry) → AreSeen ending p m spelt answers seen → length answers ≡ length spelt → failures answers ≡ 0
+    → AreUncut p m (statements spelt) seen
+unfolding AreSeen failures statements AreUncut
+all_uncut ending [] answers p m seen lawful each none = lawful
+all_uncut ending (x ∷ spelt) [] p m seen lawful each none = absurd (omega (arith, each))
+all_uncut ending (Err at ∷ spelt) (one ∷ answers) p m seen lawful each none = all_uncut ending spelt answers p m seen lawful.1 (omega (arith, each)) (omega (arith, none))
+all_uncut ending (Ok stmt ∷ spelt) (one ∷ answers) p m [] lawful each none = absurd lawful
+all_uncut ending (Ok stmt ∷ spelt) (one ∷ answers) p m (x ∷ seen) lawful each none = (
+  lawful.0,
+  lawful.1,
+  not_cut (is_cut x.seen.end) one.outcome lawful.2.1.0 (omega (arith, none)),
+  all_uncut ending spelt answers (next p x.skeleton x.seen) (m + length (script p x.skeleton x.seen)) seen lawful.3 (omega (arith, each)) (omega (arith, none)),
+)
+
+-- a run that came to its end answered all that it reached
+spell_few : (texts : List (List ℕ)) (spelt : List Spelt) → SpellFirst texts spelt → length spelt ≤ length texts
+unfolding SpellFirst
+spell_few [] [] spells = omega arith
+spell_few (text ∷ texts) [] spells = omega arith
+spell_few [] (x ∷ spelt) spells = absurd spells
+spell_few (text ∷ texts) (x ∷ spelt) spells = let few = spell_few texts spelt spells.1 in omega (arith, few)
+
+no_more : (status : ℕ) (ending : Ending) (Takes : Type 0) (max : ℕ) (taken : List ℕ) (at_end : Bool) (more : List (List ℕ)) (answers : List Answer) (part : List ℕ) (old new : Outside)
+    → status ≡ status_of ending → status ≤ 1 → Because ending Takes max taken at_end more answers part old new → more ≡ []
+no_more status Usage Takes max taken at_end more answers part old new is few why = absurd (omega (arith, is, few))
+no_more status BadKey Takes max taken at_end more answers part old new is few why = absurd (omega (arith, is, few))
+no_more status (Ran (Ok flag)) Takes max taken at_end more answers part old new is few why = why.2.all.no_more
+no_more status (Ran (Err (Stops.Tampered q x))) Takes max taken at_end more answers part old new is few why = absurd (omega (arith, is, few))
+no_more status (Ran (Err Stops.SourceFault)) Takes max taken at_end more answers part old new is few why = absurd (omega (arith, is, few))
+no_more status (Ran (Err Stops.SinkFault)) Takes max taken at_end more answers part old new is few why = absurd (omega (arith, is, few))
+no_more status (Ran (Err Stops.NoMemory)) Takes max taken at_end more answers part old new is few why = absurd (omega (arith, is, few))
+no_more status (Ran (Err Stops.InputLimit)) Takes max taken at_end more answers part old new is few why = absurd (omega (arith, is, few))
+
+module _ (words : List Text) (old new : Outside) (report : Report) (a : ShellRun words old new report) (well : EndsWell report.status (failures a.answers)) where
+  answered_all : length a.answers ≡ length a.spelt
+  answered_all =
+      let none : a.more ≡ [] = no_more report.status a.ending _ _ a.taken a.ended a.more a.answers a.part old new a.status well.ended a.because in
+      let few : length a.spelt ≤ length a.served =
+      subst (λ (ts : List (List ℕ)). length a.spelt ≤ length ts) (ap (λ (ts : List (List ℕ)). a.served ++ ts) none ∙ append-nil a.served) (spell_few (a.served ++ a.more) a.spelt a.spells) in
+      omega (arith, few, a.reached, a.each)
+
+  run_uncut : AreUncut (public_with (settings_of usage words)) 0 (statements a.spelt) (a.seen ++ a.last)
+  run_uncut = all_uncut a.ending a.spelt a.answers (public_with (settings_of usage words)) 0 (a.seen ++ a.last) a.lawful answered_all well.none
+
+-- lists of statements that are alike show alike
+shows : (p : Public) (m : ℕ) (ps : List Stmt) (xs : List Entry) (qs : List Stmt) (ys : List Entry) → AreUncut p m ps xs → AreUncut p m qs ys → Alike p m ps qs → ShowAlike p m ps xs qs ys
+unfolding AreUncut Alike ShowAlike
+shows p m [] xs [] ys a b alike = tt
+shows p m [] xs (b ∷ qs) ys one two alike = absurd alike
+shows p m (a ∷ ps) xs [] ys one two alike = absurd alike
+shows p m (a ∷ ps) [] (b ∷ qs) ys one two alike = absurd one
+shows p m (a ∷ ps) (x ∷ xs) (b ∷ qs) [] one two alike = absurd two
+shows p m (a ∷ ps) (x ∷ xs) (b ∷ qs) (y ∷ ys) one two alike =
+    let here : x.seen ≡ plainly p m a = shows_plainly p m a x.seen one.1 alike.1 one.2 in
+    let there : y.seen ≡ plainly p m b = shows_plainly p m b y.seen two.1 (sym (same_counted a b alike.0) ∙ alike.1) two.2 in
+    let same : y.seen ≡ x.seen = there ∙ ap seen_plainly (sym alike.2) ∙ sym here in
+    let first : next p (skeleton a) (plainly p m a) ≡ next p x.skeleton x.seen = λ i. next p (sym one.0 i) (sym here i) in
+    let asked : m + length (script p (skeleton a) (plainly p m a)) ≡ m + length (script p x.skeleton x.seen) = λ i. m + length (script p (sym one.0 i) (sym here i)) in
+    let sk : y.skeleton ≡ x.skeleton = two.0 ∙ sym alike.0 ∙ sym one.0 in
+    let rest : AreUncut (next p x.skeleton x.seen) (m + length (script p x.skeleton x.seen)) qs ys =
+    subst (λ (e : Entry). AreUncut (next p e.skeleton e.seen) (m + length (script p e.skeleton e.seen)) qs ys) (λ i. record { skeleton = sk i; seen = same i }) two.3 in
+    (
+      alike.0,
+      alike.2,
+      (λ counted. sym same),
+      shows (next p x.skeleton x.seen) (m + length (script p x.skeleton x.seen)) ps xs qs ys one.3 rest
+          (subst (λ (n : ℕ). Alike (next p x.skeleton x.seen) n ps qs) asked (subst (λ (r : Public). Alike r (m + length (script p (skeleton a) (plainly p m a))) ps qs) first alike.3)),
+    )
+
+module _ (words words_too : List Text) (old new old_too new_too : Outside) (report report_too : Report) (a : ShellRun words old new report) (b : ShellRun words_too old_too new_too report_too)
+    (set : settings_of usage words ≡ settings_of usage words_too) (well : EndsWell report.status (failures a.answers)) (well_too : EndsWell report_too.status (failures b.answers)) where
+  abbrev p : Public
+  p = public_with (settings_of usage words)
+
+  there : AreUncut p 0 (statements b.spelt) (b.seen ++ b.last)
+  there = subst (λ (o : Option Config). AreUncut (public_with o) 0 (statements b.spelt) (b.seen ++ b.last)) (sym set) (run_uncut words_too old_too new_too report_too b well_too)
+
+  pub show_the_same : ShowAlike p 0 (statements a.spelt) (a.seen ++ a.last) (statements b.spelt) (b.seen ++ b.last)
+      → (a.seen ++ a.last ≡ b.seen ++ b.last) × (new.store.asked ≡ new_too.store.asked)
+  show_the_same alike =
+      let same = same_seen p 0 (statements a.spelt) (a.seen ++ a.last) (statements b.spelt) (b.seen ++ b.last) (run_uncut words old new report a well) there alike in
+      (same, a.asked ∙ (λ i. trace (public_with (set i)) (same i)) ∙ sym b.asked)
+
+  pub ask_the_same : Alike p 0 (statements a.spelt) (statements b.spelt) → new.store.asked ≡ new_too.store.asked
+  ask_the_same alike =
+      (show_the_same (shows p 0 (statements a.spelt) (a.seen ++ a.last) (statements b.spelt) (b.seen ++ b.last) (run_uncut words old new report a well) there alike)).1

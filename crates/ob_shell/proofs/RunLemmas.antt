@@ -11,14 +11,17 @@ use Rattle.ob_print.specs.Cuts.{Cut}
 use Rattle.ob_print.proofs.CutLemmas.{Cut-after, Cut-whole}
 use Rattle.ob_shell.specs.Texts.{text_max, is_over, rest_after, texts_at, texts_of, tail_text}
 use Rattle.ob_shell.specs.Feeding.{Fetch, Fed}
-use Rattle.ob_shell.specs.Steps.{Machine, AnswersAll, StopsIn, IsSinkFault, printed, any_refused, IsUntampered}
-use Rattle.ob_shell.specs.Running.{SoFar, SessionRan, EndsBy, Took, stop_of, IsQuiet}
-use Rattle.ob_shell.specs.Tracing.{TracedAll, Traced}
+use Rattle.ob_shell.specs.Steps.{Machine, Steps, AnswersAll, StopsIn, IsUntampered}
+use Rattle.ob_shell.specs.Running.{SoFar, SessionRan, EndsBy, stop_of, IsQuiet}
+use Rattle.ob_shell.specs.Tracing.{TracedAll, Traced, Traces, traced}
 use Rattle.ob_shell.specs.declared.session.Halted.{Halted}
 use Rattle.ob_shell.proofs.FeedLemmas.{Fed-none, Fed-then}
 use Rattle.ob_shell.proofs.TextLemmas.{rest_of-append, texts_of-append, rest_of-cons, texts_of-cons, rest_of-nil, texts_of-nil, rest_of-over, texts_of-over}
 use Rattle.ob_shell.proofs.StepLemmas.{Steps-none, Steps-append, printed-append, printed-nil, any_refused-append, any_refused-nil, PartlyAt-none, PartlyAt-more}
 use Rattle.ob_shell.proofs.TraceLemmas.{traced_then, traced_cut, traced_whole}
+use Rattle.std.proofs.lemmas.List.{append_cancel_left}
+use Rattle.ob_shell.specs.Endings.{IsSinkFault}
+use Rattle.ob_shell.specs.Words.{printed, any_refused, Took}
 
 -- ---- what a sink took
 pub took_whole : {w0 w1 : Option (List ℕ)} {bytes : List ℕ} → Appends w0 w1 bytes → Took w0 w1 bytes
@@ -41,6 +44,22 @@ took_of {w0 = w0} {w1 = w1} c not = elim c.all [
   | inl e ↦ took_whole (subst (λ (l : List ℕ). Appends w0 w1 l) e c.appends)
   | inr f ↦ absurd (not f)
 ]
+
+-- ---- what the trace took
+traces_all : {on : Bool} {t0 t1 : Option (List ℕ)} {a0 a1 : List Access} → TracedAll on a0 a1 t0 t1 → Traces on t0 t1 a0 a1
+traces_all {on = on} {t0 = t0} {t1 = t1} {a0 = a0} all = record {
+  whole = λ asked is. took_whole (subst (λ (l : List Access). Appends t0 t1 (traced on l)) (append_cancel_left a0 all.seen asked (sym all.grew ∙ is)) all.appends);
+}
+
+traces_more : {on : Bool} {t0 t1 t2 : Option (List ℕ)} {a0 a1 a2 : List Access} {F : Type 0} → TracedAll on a0 a1 t0 t1 → Traced on a1 a2 t1 t2 F → Traces on t0 t2 a0 a1
+traces_more all cut = record { whole = λ asked is. took_more cut.cut.grown ((traces_all all).whole asked is) cut.cut.appends }
+
+traces_same : {on : Bool} {t0 t1 : Option (List ℕ)} {a0 a1 a2 : List Access} → a2 ≡ a1 → Traces on t0 t1 a0 a1 → Traces on t0 t1 a0 a2
+traces_same same traces = record { whole = λ asked is. traces.whole asked (sym same ∙ is) }
+
+no_steps : {R : Type 0} {state : R → RevState} {w1 w2 : Option (List ℕ)} {r s : Bool} {m1 m2 : Machine R} → AnswersAll state w1 w2 [] r s m1 m2 → m2 ≡ m1
+unfolding Steps
+no_steps all = all.steps.0
 
 -- ---- the session
 pub so_far_start : {R : Type 0} {state : R → RevState} (f : Fetch) (l w : Option (List ℕ)) (p : List ℕ) (m : Machine R) → p ≡ [] → SoFar state f f l l w w p false m m
@@ -92,12 +111,13 @@ pub at_limit_is_over : (new rest : List ℕ) → new ≡ rest → length new ≡
 at_limit_is_over new rest e h = rw (← e) (grind arith)
 
 -- it stopped at the source's fault or at a limit, with every text served that had come whole
-pub ran_halt : {R : Type 0} {state : R → RevState} {f0 f2 : Fetch} {l0 l2 w0 w2 : Option (List ℕ)} {p : List ℕ} {r : Bool} {m0 m1 : Machine R} (stop : Stop) → IsUntampered stop
+pub ran_halt : {R : Type 0} {state : R → RevState} {on : Bool} {t0 t2 : Option (List ℕ)} {f0 f2 : Fetch} {l0 l2 w0 w2 : Option (List ℕ)} {p : List ℕ} {r : Bool} {m0 m1 : Machine R} (stop : Stop) → IsUntampered stop
     → (so : SoFar state f0 f2 l0 l2 w0 w2 p r m0 m1)
     → texts_of p f2.unread ≡ []
     → EndsBy f2 false (so.passed ++ f2.unread) [] [] (Err stop)
-    → SessionRan state f0 f2 l0 l2 w0 w2 m0 m1 (Err stop)
-ran_halt {state = state} {f0 = f0} {f2 = f2} {w0 = w0} {w2 = w2} {m1 = m1} stop fine so none ends = record {
+    → Traces on t0 t2 m0.store.asked m1.store.asked
+    → SessionRan state on f0 f2 l0 l2 w0 w2 t0 t2 m0 m1 (Err stop)
+ran_halt {state = state} {f0 = f0} {f2 = f2} {w0 = w0} {w2 = w2} {m1 = m1} stop fine so none ends traces = record {
   piece = so.fed.piece;
   consumed = so.fed.consumed;
   taken = so.fed.taken;
@@ -115,6 +135,7 @@ ran_halt {state = state} {f0 = f0} {f2 = f2} {w0 = w0} {w2 = w2} {m1 = m1} stop 
   last = PartlyAt-none state m1 [] stop fine;
   cut = subst (λ (l : List ℕ). Cut w0 w2 (IsSinkFault stop) l) (sym (append-nil (printed so.answers))) (Cut-whole w0 w2 (IsSinkFault stop) (printed so.answers) so.appends);
   whole = took_whole so.appends;
+  traced = traces;
   flag = tt;
   ends = subst (λ (l : List ℕ). EndsBy f2 false l [] [] (Err stop)) (sym so.fed.joined) ends;
 }
@@ -128,12 +149,12 @@ other_stop f ended bytes more part SourceFault x y = absurd (x refl)
 other_stop f ended bytes more part InputLimit x y = absurd (y refl)
 
 -- it stopped while it served the text that a byte had ended
-pub ran_stop : {R : Type 0} {state : R → RevState} {f0 f1 f2 : Fetch} {l0 l1 l2 w0 w1 w2 : Option (List ℕ)} {p : List ℕ} {r : Bool} {b : ℕ} {m0 m1 m2 : Machine R} (stop : Stop)
+pub ran_stop : {R : Type 0} {state : R → RevState} {on : Bool} {t0 t2 : Option (List ℕ)} {f0 f1 f2 : Fetch} {l0 l1 l2 w0 w1 w2 : Option (List ℕ)} {p : List ℕ} {r : Bool} {b : ℕ} {m0 m1 m2 : Machine R} (stop : Stop)
     → SoFar state f0 f1 l0 l1 w0 w1 p r m0 m1 → Fed f1 f2 l1 l2 (b ∷ [])
     → StopsIn state w1 w2 (texts_at p b) stop m1 m2
-    → (stop ≡ SourceFault → ⊥) → (stop ≡ InputLimit → ⊥)
-    → SessionRan state f0 f2 l0 l2 w0 w2 m0 m2 (Err stop)
-ran_stop {f0 = f0} {f2 = f2} {w1 = w1} {p = p} {b = b} {m1 = m1} stop so fed st no_fault no_limit =
+    → (stop ≡ SourceFault → ⊥) → (stop ≡ InputLimit → ⊥) → Traces on t0 t2 m0.store.asked m1.store.asked
+    → SessionRan state on f0 f2 l0 l2 w0 w2 t0 t2 m0 m2 (Err stop)
+ran_stop {f0 = f0} {f2 = f2} {w1 = w1} {p = p} {b = b} {m1 = m1} stop so fed st no_fault no_limit traces =
     let all = Fed-then so.fed fed in
     record {
       piece = all.piece;
@@ -156,16 +177,17 @@ ran_stop {f0 = f0} {f2 = f2} {w1 = w1} {p = p} {b = b} {m1 = m1} stop so fed st 
       last = PartlyAt-more _ _ _ _ _ _ _ st.partly;
       cut = Cut-after _ so.appends st.cut;
       whole = took_then w1 st.cut.grown so.appends st.cut.appends;
+      traced = traces;
       flag = tt;
       ends = other_stop f2 false _ _ _ stop no_fault no_limit;
     }
 
 -- the input ended, and the rest was served, too
-pub ran_done : {R : Type 0} {state : R → RevState} {f0 f2 : Fetch} {l0 l2 w0 w1 w2 : Option (List ℕ)} {p : List ℕ} {r : Bool} {m0 m1 m2 : Machine R} (flag : Bool)
+pub ran_done : {R : Type 0} {state : R → RevState} {on : Bool} {t0 t2 : Option (List ℕ)} {f0 f2 : Fetch} {l0 l2 w0 w1 w2 : Option (List ℕ)} {p : List ℕ} {r : Bool} {m0 m1 m2 : Machine R} (flag : Bool)
     → SoFar state f0 f2 l0 l2 w0 w1 p r m0 m1 → f2.unread ≡ [] → IsAtEnd l2 → f2.taken < f2.limit → length p < text_max
-    → AnswersAll state w1 w2 (tail_text p) r flag m1 m2
-    → SessionRan state f0 f2 l0 l2 w0 w2 m0 m2 (Ok flag)
-ran_done {state = state} {f0 = f0} {f2 = f2} {w0 = w0} {w2 = w2} {p = p} {m0 = m0} {m2 = m2} flag so none at_end below short now =
+    → AnswersAll state w1 w2 (tail_text p) r flag m1 m2 → Traces on t0 t2 m0.store.asked m2.store.asked
+    → SessionRan state on f0 f2 l0 l2 w0 w2 t0 t2 m0 m2 (Ok flag)
+ran_done {state = state} {f0 = f0} {f2 = f2} {w0 = w0} {w2 = w2} {p = p} {m0 = m0} {m2 = m2} flag so none at_end below short now traces =
     let bytes : f0.unread ++ so.fed.piece ≡ so.passed = so.fed.joined ∙ rw none (append-nil so.passed) in
     record {
       piece = so.fed.piece;
@@ -186,17 +208,18 @@ ran_done {state = state} {f0 = f0} {f2 = f2} {w0 = w0} {w2 = w2} {p = p} {m0 = m
           subst (λ (l : List ℕ). Cut w0 w2 ⊥ l) (sym (append-nil (printed (so.answers ++ now.answers))))
           (Cut-whole w0 w2 ⊥ _ (rw printed-append (Appends-trans _ _ _ _ _ so.appends now.appends)));
       whole = took_whole (rw printed-append (Appends-trans _ _ _ _ _ so.appends now.appends));
+      traced = traces;
       flag = now.flag ∙ ap (λ (x : Bool). x || any_refused now.answers) so.flag ∙ sym (any_refused-append so.answers now.answers);
       ends = (refl, refl, refl, rw (bytes, ← so.pending_is) (below_is_not_over p short), below);
     }
 
 -- the input ended, and it stopped while it served the rest
-pub ran_cut : {R : Type 0} {state : R → RevState} {f0 f2 : Fetch} {l0 l2 w0 w1 w2 : Option (List ℕ)} {p : List ℕ} {r : Bool} {m0 m1 m2 : Machine R} (stop : Stop)
+pub ran_cut : {R : Type 0} {state : R → RevState} {on : Bool} {t0 t2 : Option (List ℕ)} {f0 f2 : Fetch} {l0 l2 w0 w1 w2 : Option (List ℕ)} {p : List ℕ} {r : Bool} {m0 m1 m2 : Machine R} (stop : Stop)
     → SoFar state f0 f2 l0 l2 w0 w1 p r m0 m1 → f2.unread ≡ [] → IsAtEnd l2
     → StopsIn state w1 w2 (tail_text p) stop m1 m2
-    → (stop ≡ SourceFault → ⊥) → (stop ≡ InputLimit → ⊥)
-    → SessionRan state f0 f2 l0 l2 w0 w2 m0 m2 (Err stop)
-ran_cut {f0 = f0} {f2 = f2} {w1 = w1} {p = p} {m1 = m1} stop so none at_end st no_fault no_limit =
+    → (stop ≡ SourceFault → ⊥) → (stop ≡ InputLimit → ⊥) → Traces on t0 t2 m0.store.asked m1.store.asked
+    → SessionRan state on f0 f2 l0 l2 w0 w2 t0 t2 m0 m2 (Err stop)
+ran_cut {f0 = f0} {f2 = f2} {w1 = w1} {p = p} {m1 = m1} stop so none at_end st no_fault no_limit traces =
     let bytes : f0.unread ++ so.fed.piece ≡ so.passed = so.fed.joined ∙ rw none (append-nil so.passed) in
     record {
       piece = so.fed.piece;
@@ -215,49 +238,54 @@ ran_cut {f0 = f0} {f2 = f2} {w1 = w1} {p = p} {m1 = m1} stop so none at_end st n
       last = st.partly;
       cut = Cut-after _ so.appends st.cut;
       whole = took_then w1 st.cut.grown so.appends st.cut.appends;
+      traced = traces;
       flag = tt;
       ends = other_stop f2 true _ _ _ stop no_fault no_limit;
     }
 
-pub ran_finish : {R : Type 0} {state : R → RevState} {f0 f2 : Fetch} {l0 l2 w0 w1 w2 : Option (List ℕ)} {p : List ℕ} {r : Bool} {m0 m1 m2 : Machine R} (result : Result Bool Halted)
+pub ran_finish : {R : Type 0} {state : R → RevState} {on : Bool} {t0 t2 : Option (List ℕ)} {f0 f2 : Fetch} {l0 l2 w0 w1 w2 : Option (List ℕ)} {p : List ℕ} {r : Bool} {m0 m1 m2 : Machine R} (result : Result Bool Halted)
     → SoFar state f0 f2 l0 l2 w0 w1 p r m0 m1 → f2.unread ≡ [] → IsAtEnd l2 → f2.taken < f2.limit → length p < text_max
     → IfOk result (λ flag. AnswersAll state w1 w2 (tail_text p) r flag m1 m2)
     → IfErr result (λ halted. StopsIn state w1 w2 (tail_text p) halted.stop m1 m2)
     → (stop_of result ≡ Err SourceFault → ⊥) → (stop_of result ≡ Err InputLimit → ⊥)
-    → SessionRan state f0 f2 l0 l2 w0 w2 m0 m2 (stop_of result)
-ran_finish (Ok flag) so none at_end below short answered stopped no_fault no_limit =
-    ran_done flag so none at_end below short answered
-ran_finish (Err halted) so none at_end below short answered stopped no_fault no_limit =
+    → (t1 : Option (List ℕ)) → TracedAll on m0.store.asked m1.store.asked t0 t1 → OnOk result (TracedAll on m1.store.asked m2.store.asked t1 t2)
+    → OnErr result (Traced on m1.store.asked m2.store.asked t1 t2 (IsQuiet result))
+    → SessionRan state on f0 f2 l0 l2 w0 w2 t0 t2 m0 m2 (stop_of result)
+ran_finish (Ok flag) so none at_end below short answered stopped no_fault no_limit t1 before all cut =
+    ran_done flag so none at_end below short answered (traces_all (traced_then before all))
+ran_finish (Err halted) so none at_end below short answered stopped no_fault no_limit t1 before all cut =
     ran_cut halted.stop so none at_end stopped
-    (λ h. no_fault (rw h)) (λ h. no_limit (rw h))
+    (λ h. no_fault (rw h)) (λ h. no_limit (rw h)) (traces_more before cut)
 
 -- a byte brought a stop
-pub ran_turn : {R : Type 0} {state : R → RevState} {f0 f1 f2 : Fetch} {l0 l1 l2 w0 w1 w2 : Option (List ℕ)} {p : List ℕ} {r : Bool} {b : ℕ} {m0 m1 m2 : Machine R} (stop : Stop)
+pub ran_turn : {R : Type 0} {state : R → RevState} {on : Bool} {t0 t2 : Option (List ℕ)} {f0 f1 f2 : Fetch} {l0 l1 l2 w0 w1 w2 : Option (List ℕ)} {p : List ℕ} {r : Bool} {b : ℕ} {m0 m1 m2 : Machine R} (stop : Stop)
     → SoFar state f0 f1 l0 l1 w0 w1 p r m0 m1 → Fed f1 f2 l1 l2 (b ∷ [])
     → StopsIn state w1 w2 (texts_at p b) stop m1 m2
     → (◌≡◌ {A = Result (Unit {0}) Stop} (Err stop) (Err SourceFault) → ⊥)
     → (◌≡◌ {A = Result (Unit {0}) Stop} (Err stop) (Err InputLimit) → (texts_at p b ≡ []) × (is_over (rest_after p b) ≡ true) × AnswersAll state w1 w2 [] r r m1 m2)
-    → SessionRan state f0 f2 l0 l2 w0 w2 m0 m2 (Err stop)
-ran_turn (Tampered region place) so fed st no_fault limit = ran_stop (Tampered region place) so fed st (λ h. cc) (λ h. cc)
-ran_turn SinkFault so fed st no_fault limit = ran_stop SinkFault so fed st (λ h. cc) (λ h. cc)
-ran_turn NoMemory so fed st no_fault limit = ran_stop NoMemory so fed st (λ h. cc) (λ h. cc)
-ran_turn SourceFault so fed st no_fault limit = absurd (no_fault refl)
-ran_turn {f2 = f2} {p = p} {b = b} InputLimit so fed st no_fault limit =
+    → (t1 : Option (List ℕ)) {F : Type 0} → TracedAll on m0.store.asked m1.store.asked t0 t1 → Traced on m1.store.asked m2.store.asked t1 t2 F
+    → SessionRan state on f0 f2 l0 l2 w0 w2 t0 t2 m0 m2 (Err stop)
+ran_turn (Tampered region place) so fed st no_fault limit t1 before cut = ran_stop (Tampered region place) so fed st (λ h. cc) (λ h. cc) (traces_more before cut)
+ran_turn SinkFault so fed st no_fault limit t1 before cut = ran_stop SinkFault so fed st (λ h. cc) (λ h. cc) (traces_more before cut)
+ran_turn NoMemory so fed st no_fault limit t1 before cut = ran_stop NoMemory so fed st (λ h. cc) (λ h. cc) (traces_more before cut)
+ran_turn SourceFault so fed st no_fault limit t1 before cut = absurd (no_fault refl)
+ran_turn {f2 = f2} {p = p} {b = b} {m1 = m1} {m2 = m2} InputLimit so fed st no_fault limit t1 before cut =
     let h = limit refl in
     let now = so_far_turn so fed refl (sym h.0) h.2 in
     ran_halt InputLimit tt now (texts_of-over _ _ h.1)
     (refl, refl, refl, inl (rw (rest_of-append, ← now.pending_is, rest_of-over (rest_after p b) f2.unread h.1) h.1))
+    (traces_same (ap (λ (m : Machine _). m.store.asked) (no_steps h.2)) (traces_more before cut))
 
-pub ran_source_fault : {R : Type 0} {state : R → RevState} {f0 f2 : Fetch} {l0 l2 w0 w2 : Option (List ℕ)} {p : List ℕ} {r : Bool} {m0 m1 : Machine R}
-    → SoFar state f0 f2 l0 l2 w0 w2 p r m0 m1 → f2.unread ≡ [] → length p < text_max
-    → SessionRan state f0 f2 l0 l2 w0 w2 m0 m1 (Err SourceFault)
-ran_source_fault {p = p} so none short =
-    ran_halt SourceFault tt so (rw none (texts_of-nil p)) (refl, refl, refl, rw (none, append-nil, ← so.pending_is) (below_is_not_over p short))
+pub ran_source_fault : {R : Type 0} {state : R → RevState} {on : Bool} {t0 t2 : Option (List ℕ)} {f0 f2 : Fetch} {l0 l2 w0 w2 : Option (List ℕ)} {p : List ℕ} {r : Bool} {m0 m1 : Machine R}
+    → SoFar state f0 f2 l0 l2 w0 w2 p r m0 m1 → f2.unread ≡ [] → length p < text_max → TracedAll on m0.store.asked m1.store.asked t0 t2
+    → SessionRan state on f0 f2 l0 l2 w0 w2 t0 t2 m0 m1 (Err SourceFault)
+ran_source_fault {p = p} so none short traced =
+    ran_halt SourceFault tt so (rw none (texts_of-nil p)) (refl, refl, refl, rw (none, append-nil, ← so.pending_is) (below_is_not_over p short)) (traces_all traced)
 
-pub ran_input_limit : {R : Type 0} {state : R → RevState} {f0 f2 : Fetch} {l0 l2 w0 w2 : Option (List ℕ)} {p : List ℕ} {r : Bool} {m0 m1 : Machine R}
-    → SoFar state f0 f2 l0 l2 w0 w2 p r m0 m1 → f2.unread ≡ [] → f2.taken ≡ f2.limit
-    → SessionRan state f0 f2 l0 l2 w0 w2 m0 m1 (Err InputLimit)
-ran_input_limit {p = p} so none full = ran_halt InputLimit tt so (rw none (texts_of-nil p)) (refl, refl, refl, inr full)
+pub ran_input_limit : {R : Type 0} {state : R → RevState} {on : Bool} {t0 t2 : Option (List ℕ)} {f0 f2 : Fetch} {l0 l2 w0 w2 : Option (List ℕ)} {p : List ℕ} {r : Bool} {m0 m1 : Machine R}
+    → SoFar state f0 f2 l0 l2 w0 w2 p r m0 m1 → f2.unread ≡ [] → f2.taken ≡ f2.limit → TracedAll on m0.store.asked m1.store.asked t0 t2
+    → SessionRan state on f0 f2 l0 l2 w0 w2 t0 t2 m0 m1 (Err InputLimit)
+ran_input_limit {p = p} so none full traced = ran_halt InputLimit tt so (rw none (texts_of-nil p)) (refl, refl, refl, inr full) (traces_all traced)
 
 -- the trace of all that was asked, and then of what was asked until the end
 pub traced_by : {tracing : Bool} {a0 a1 a2 : List Access} {w0 w1 w2 : Option (List ℕ)} (result : Result Bool Halted) → TracedAll tracing a0 a1 w0 w1

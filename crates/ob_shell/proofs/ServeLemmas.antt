@@ -1,23 +1,33 @@
 -- What the engine was given and what it left.
-use Rattle.std.proofs.Common.{ℕ, List, [], ◌∷◌, Option, Result, Ok, Err, refl, sym, inl, inr, append-nil}
+use Rattle.std.proofs.Common.{ℕ, List, [], ◌∷◌, Option, Result, Ok, Err, refl, sym, ◌⊎◌, inl, inr, append-nil}
 use Rattle.std.specs.Prelude.{IfOk, IfErr}
 use Rattle.std.proofs.KnownBytes.{Appends-nil}
 use Rattle.ob_base.specs.Events.{Event}
 use Rattle.ob_base.specs.declared.refusal.Stop.{Stop}
 use Rattle.ob_base.specs.declared.refusal.Refusal.TheVariants.{Syntax}
-use Rattle.ob_exec.specs.Serving.{Serves}
+use Rattle.ob_base.specs.declared.refusal.Stop.TheVariants.{InputLimit, NoMemory, SinkFault, SourceFault, Tampered}
+use Rattle.ob_exec.specs.Serving.{EndsWithin, Serves}
 use Rattle.ob_exec.specs.declared.outcome.Outcome.{Outcome}
 use Rattle.ob_exec.specs.declared.outcome.Outcome.TheVariants.{Refused}
 use Rattle.ob_print.specs.Rows.{Printed, PrintedCut, events_text}
 use Rattle.ob_print.proofs.CutLemmas.{Cut-whole}
-use Rattle.ob_shell.specs.Steps.{Machine, Does, Spells, HasBody, StopsIn}
+use Rattle.ob_shell.specs.Steps.{Machine, Does, HasBody, StopsIn}
 use Rattle.ob_sql.specs.declared.stmt.Stmt.{Stmt}
 use Rattle.ob_vault.specs.State.{RevState}
+use Rattle.ob_shell.specs.Words.{Spells}
 
 module _ {R E : Type 0} (state : R → RevState) (grew cut : E → E → List Event → Type 0) (faults : E → ℕ)
     (m0 m1 : Machine R) (out_old out_new : E) (stmt : Stmt) where
   abbrev pub Called : Result Outcome Stop → Type 0
   Called result = Serves state grew cut faults stmt result m0.engine m0.store m1.engine m1.store out_old out_new
+
+  -- it took all of them, or its output ends within them
+  ends_either : (stop : Stop) (a b : E) (events : List Event) → EndsWithin grew cut stop a b events → grew a b events ⊎ cut a b events
+  ends_either SinkFault a b events ends = inr ends
+  ends_either (Tampered region place) a b events ends = inl ends
+  ends_either SourceFault a b events ends = ends
+  ends_either NoMemory a b events ends = ends
+  ends_either InputLimit a b events ends = ends
 
   -- what a call of the engine did
   done : (result : Result Outcome Stop) → Called result → Does state m0 m1 stmt result
@@ -25,7 +35,13 @@ module _ {R E : Type 0} (state : R → RevState) (grew cut : E → E → List Ev
     ran = serves.ran;
     early = serves.early;
     lawful = serves.lawful;
-    memory = serves.memory;
+    memory = λ is. let lacks = serves.memory is in record {
+      done = lacks.done;
+      rest = lacks.rest;
+      split = lacks.split;
+      asked = lacks.asked;
+      place = elim lacks.place [ inl make ↦ inl make | inr emits ↦ inr (emits.0, tt) ];
+    };
     seals = serves.seals;
     means = serves.means;
   }
@@ -59,7 +75,7 @@ module _ {R E : Type 0} (state : R → RevState) (grew cut : E → E → List Ev
     stopped_in (Ok outcome) serves = tt
     stopped_in (Err stop) serves =
         let stopped = serves.stopped in
-        elim stopped.ends [
+        elim (ends_either stop out_old out_new stopped.events stopped.ends) [
           | inl whole ↦ record {
             bytes = events_text stopped.events;
             partly = inr (inl (record {

@@ -6,7 +6,7 @@ use Rattle.clap.specs.declared.error.kind.ErrorKind.TheVariants as kind
 use Rattle.clap.proofs.OnLiterals.{clap_on_literals}
 use Rattle.ob_base.specs.declared.config.Plan.TheVariants.{Hash}
 use Rattle.ob_shell.specs.Settings.{fitted, number_in, plan_in, settings_of}
-use Rattle.ob_shell.specs.Usage.{Parses, meddle_usage, usage}
+use Rattle.ob_shell.specs.Usage.{Parses, meddle_usage, store_of, usage}
 
 -- ---- one value
 the_least : number_in 4 65536 64 (Some (codes "4")) ≡ Some 4
@@ -43,10 +43,10 @@ no_plan : plan_in (Some (codes "fast")) ≡ None
 no_plan = refl
 
 -- ---- three blocks and one row
-room_enough : fitted 49 5 None 16 ≡ Some (record { buffer = 49; depth = 5; pack = 16; plan = None; max_input = 1073741824 })
+room_enough : fitted 49 5 None 16 4096 ≡ Some (record { buffer = 49; depth = 5; pack = 16; plan = None; max_input = 4096 })
 room_enough = refl
 
-too_little : fitted 48 5 None 16 ≡ None
+too_little : fitted 48 5 None 16 4096 ≡ None
 too_little = refl
 
 -- ---- whole command lines
@@ -91,3 +91,23 @@ twice = refl
 no_value : fault_of usage (codes "--buffer" ∷ []) ≡ kind.InvalidValue ∷ []
 unfolding clap_on_literals
 no_value = refl
+
+input_bounded : settings_of usage (codes "--max-input" ∷ codes "1024" ∷ []) ≡ Some (record { buffer = 64; depth = 5; pack = 1; plan = None; max_input = 1024 })
+unfolding clap_on_literals
+input_bounded = refl
+
+input_too_short : settings_of usage (codes "--max-input" ∷ codes "1023" ∷ []) ≡ None
+unfolding clap_on_literals
+input_too_short = refl
+
+store_named : store_of (codes "--store" ∷ codes "safe" ∷ []) ≡ Some (codes "safe")
+unfolding clap_on_literals
+store_named = refl
+
+store_unnamed : store_of [] ≡ None
+unfolding clap_on_literals
+store_unnamed = refl
+
+no_store_of_others : fault_of meddle_usage (codes "--store" ∷ codes "safe" ∷ []) ≡ kind.UnknownArgument ∷ []
+unfolding clap_on_literals
+no_store_of_others = refl

@@ -6,7 +6,9 @@ use Rattle.ob_base.specs.declared.refusal.Stop.{Stop}
 use Rattle.ob_vault.specs.State.{RevState}
 use Rattle.ob_print.proofs.CutLemmas.{Cut-whole}
 use Rattle.ob_shell.specs.Closing.{is_refused}
-use Rattle.ob_shell.specs.Steps.{Machine, Answer, Step, Steps, printed, any_refused, Idle, IsUntampered, PartlyAt, AnswersAll, StopsIn, IsSinkFault}
+use Rattle.ob_shell.specs.Steps.{Machine, Step, Steps, Idle, IsUntampered, PartlyAt, AnswersAll, StopsIn}
+use Rattle.ob_shell.specs.Words.{Answer, printed, any_refused}
+use Rattle.ob_shell.specs.Endings.{IsSinkFault}
 
 pub or_false : (a : Bool) → (a || false) ≡ a
 or_false true = refl

@@ -1,52 +1,59 @@
 -- The whole run, from its first line and its session.
-use Rattle.std.proofs.Common.{◌≡◌, ◌≢◌, ℕ, ◌-◌, ◌≤◌, ◌==◌, Bool, true, false, List, [], ◌∷◌, ◌++◌, length, Option, Some, None, IsTrue, Ok, Err, Result, refl, sym, ap, ◌∙◌, subst, inl, inr, arith, append-nil, length-append}
+use Rattle.std.proofs.Common.{◌≡◌, ◌≢◌, ℕ, ◌-◌, ◌≤◌, ◌==◌, Bool, true, false, List, [], ◌∷◌, ◌++◌, length, take, Option, Some, None, IsTrue, Ok, Err, Result, refl, sym, ap, ◌∙◌, subst, inl, inr, arith, append-nil, length-append}
+use Rattle.std.specs.List.{list_any}
 use Rattle.std.specs.Prelude.{IsOk, OnOk}
 use Rattle.std.specs.Io.KnownBytes.{Appends}
 use Rattle.std.proofs.KnownBytes.{Appends-nil, Appends-trans, Consumes-trans, Consumes-nil}
+use Rattle.ob_base.specs.Accesses.{nth_write}
 use Rattle.ob_base.specs.Counts.{Rises}
+use Rattle.ob_base.specs.declared.access.Access.{Access}
+use Rattle.ob_base.specs.declared.access.Access.TheVariants.{Read}
 use Rattle.ob_base.specs.declared.refusal.Stop.{Stop}
 use Rattle.ob_base.specs.declared.refusal.Stop.TheVariants.{Tampered, SourceFault, SinkFault, NoMemory, InputLimit}
 use Rattle.ob_base.specs.declared.config.Config.{Config}
 use Rattle.ob_base.specs.declared.config.Public.{Public}
 use Rattle.ob_exec.specs.Agreeing.{public_of, high_of, rows_of, world_of}
-use Rattle.ob_exec.specs.Telling.{AreHeld, IsNotTampered, ReadsTrueUntil, Represents, is_refused}
-use Rattle.ob_mean.specs.Verdict.{Tables}
+use Rattle.ob_exec.specs.Opening.{is_of_rows}
+use Rattle.ob_exec.specs.Telling.{AreHeld, Represents}
 use Rattle.ob_exec.specs.declared.engine.Engine.{Engine}
-use Rattle.ob_vault.specs.State.{RevState}
-use Rattle.ob_vault.specs.Tied.{Calm, IsUnfit}
+use Rattle.ob_mean.specs.Replay.{Session, all_served}
+use Rattle.ob_vault.specs.State.{RevState, Start, VaultState, World, from_nothing}
+use Rattle.ob_vault.specs.Tied.{Calm, EndsAt, Fits, SealedAt, at_of}
 use Rattle.ob_print.specs.Cuts.{Cut}
 use Rattle.ob_print.proofs.CutLemmas.{Cut-whole, Cut-after, Cut-fault, Cut-more}
-use Rattle.ob_base.specs.declared.seen.Seen.{Seen}
-use Rattle.ob_script.specs.Script.{script}
-use Rattle.ob_seal.specs.Sealed.{keys_of}
-use Rattle.ob_sql.specs.Skeleton.{skeleton}
-use Rattle.ob_store.specs.State.{StoreState}
+use Rattle.ob_script.specs.Trace.{Served, trace}
+use Rattle.ob_seal.specs.KeySet.{KeySet}
+use Rattle.ob_seal.specs.Sealed.{keys_of, sealed}
+use Rattle.ob_store.specs.Calls.{IsSteady}
+use Rattle.ob_store.specs.State.{Lie, StoreState}
+use Rattle.ob_store.proofs.Steps.{later_refl, later_trans}
+use Rattle.ob_shell.specs.Disturbed.{Begins, MeantUntil, meant_trace}
+use Rattle.ob_shell.specs.Failures.{failures}
 use Rattle.ob_shell.specs.Texts.{is_over, rest_of, texts_of, texts_in}
 use Rattle.ob_shell.specs.Feeding.{Fetch, Fed}
 use Rattle.ob_shell.specs.KeyLine.{has_lf, first_line, after_line, secret_of, KeyRead}
-use Rattle.ob_shell.specs.Replayed.{NothingMore, PartMeant, Replayed, StoppedIn, session_of}
-use Rattle.ob_shell.specs.Steps.{Machine, Answer, CutStep, Step, Steps, IsUndone, IsUntampered, IsSinkFault, machine_of, printed}
-use Rattle.ob_shell.specs.Running.{Faults, SessionRan, LastPart, EndsBy, SinkFailed, SinksRose, Took}
-use Rattle.ob_shell.specs.Endings.{is_tampered, last_line, SinkStopped}
+use Rattle.ob_shell.specs.Steps.{Machine, machine_of, session_of}
+use Rattle.ob_shell.specs.Running.{SessionRan, EndsBy}
+use Rattle.ob_shell.specs.Endings.{last_line, SinkFailed, SinkStopped}
 use Rattle.ob_shell.specs.Settings.{limit_of, public_by}
-use Rattle.ob_shell.specs.Top.{HasSecret, EndsUntampered, RanSays, EndingSays, EndingWords, Carried, Shown, RanAfter, EndingCause, EndingFlag, StatusCause}
+use Rattle.ob_shell.specs.Top.{EndsUntampered, IsFresh, TraceSink, RanSays, EndingSays, EndingWords, Carried, Shown, RanAfter, EndingCause, EndingFlag, StatusCause}
+use Rattle.ob_shell.specs.Tracing.{traced}
+use Rattle.ob_shell.specs.Words.{Answers, AreSeen, Faults, HasSecret, IsSealed, IsSealedAt, PassesRows, SinksRose, SpellFirst, Took, any_cut, printed, start}
 use Rattle.ob_shell.specs.declared.feed.Halt.{Halt}
 use Rattle.ob_shell.specs.declared.key.FirstLine.TheVariants.{Secret, Last, Bad}
 use Rattle.ob_shell.specs.declared.top.Ending.{Ending}
 use Rattle.ob_shell.specs.declared.top.Ending.TheVariants.{Usage, BadKey, Ran as RanEnding}
 use Rattle.ob_shell.proofs.TextLemmas.{rest_of-nil, texts_of-nil}
-use Rattle.ob_shell.proofs.AskLemmas.{asks}
+use Rattle.ob_shell.proofs.CalmLemmas.{MeetsChange, first_calm, last_met, steps_calm}
 use Rattle.ob_shell.proofs.FailureLemmas.{session_fails}
 use Rattle.ob_shell.proofs.LaterLemmas.{steps_later, last_later}
-use Rattle.ob_store.proofs.Steps.{later_trans}
 use Rattle.ob_shell.proofs.OpenLemmas.{IsUsed, session_opens}
-use Rattle.ob_exec.proofs.EmitLemmas.{unfit_none}
-use Rattle.ob_shell.proofs.CalmLemmas.{step_calm, steps_calm, last_met, first_calm}
 use Rattle.ob_shell.proofs.LastingLemmas.{HasSizes, steps_sizes, last_rows, steps_sealed, last_sealed, steps_tell, none_sealed, first_sizes}
-use Rattle.ob_shell.proofs.LieLemmas.{last_deceived, last_keys, steps_keep}
-use Rattle.ob_shell.proofs.ReplayLemmas.{cut_early, cut_within, no_lie, step_goes, replayed}
+use Rattle.ob_shell.proofs.DisturbLemmas.{take_begins}
 use Rattle.ob_shell.proofs.RunLemmas.{took_more, took_of, took_whole}
 use Rattle.ob_shell.proofs.StepLemmas.{printed-nil, any_refused-nil}
+use Rattle.ob_shell.proofs.TraceLemmas.{traced-nil}
+use Rattle.ob_shell.proofs.WalkLemmas.{Walked, walked, walked_last}
 use Rattle.ob_shell.proofs.KeyLemmas.{after_line-none}
 
 -- ---- more bytes after the first line
@@ -78,9 +85,36 @@ after_line-more (x ∷ xs) ys h = after_line-step x xs ys (x == 10) refl h (afte
 nothing_over : is_over (rest_of [] []) ≡ false
 nothing_over = rw rest_of-nil
 
-unstarted : {R : Type 0} {state : R → RevState} (settings : Option Config) (secret : Option (List ℕ)) (s : StoreState) (more : List (List ℕ)) (ending : Ending) → EndsUntampered ending
-    → Carried state settings secret s s 0 [] more [] [] ending
-unstarted settings secret s more ending untampered = inl (record { store = refl; closed = refl; unserved = refl; unanswered = refl; none = refl; untampered = untampered })
+unstarted : (tr : TraceSink) (settings : Option Config) (secret : Option (List ℕ)) (s : StoreState) (more : List (List ℕ)) (ending : Ending) → IsFresh s → tr.new ≡ tr.old → EndsUntampered ending
+    → Carried tr settings secret s s 0 [] more [] [] ending
+unfolding SpellFirst AreSeen Answers MeantUntil failures any_cut
+unstarted tr settings secret s more ending fresh untraced untampered = record {
+  spelt = [];
+  spells = tt;
+  reached = omega arith;
+  begun = omega arith;
+  each = refl;
+  seen = [];
+  last = [];
+  one_last = omega arith;
+  lawful = refl;
+  asked = fresh.unasked;
+  traced_whole = took_whole (subst (λ (w : Option (List ℕ)). Appends tr.old w (traced tr.on [])) (sym untraced) (rw (traced-nil) (Appends-nil tr.old)));
+  failed = omega arith;
+  unfailed = λ not. refl;
+  meant = λ undeceived. ([], (refl, refl));
+  tampered = λ lie is unfit. absurd (cc (fresh.honest, is));
+  sealed = λ tells. record { each = λ region place block lives last good passes. absurd (lives (fresh.empty region)) };
+  untampered = λ honest. untampered;
+  most_open = omega arith;
+  some_open = λ some. let none : IsTrue (list_any is_of_rows []) = subst (λ (xs : List Access). IsTrue (list_any is_of_rows xs)) fresh.unasked some in absurd (cc none);
+  later = later_refl s;
+  early = λ tells n before. record {
+    meant = tt;
+    begins = subst (λ (xs : List Access). Begins (take n xs) []) (sym fresh.unasked) (take_begins n []);
+    quiet = λ within. let none = ap length fresh.unasked in omega (arith, none);
+  };
+}
 
 took_none : (w : Option (List ℕ)) → Took w w (printed [])
 took_none w = took_whole (rw printed-nil (Appends-nil w))
@@ -95,14 +129,14 @@ no_bytes w = rw printed-nil (Cut-whole w w ⊥ [] (Appends-nil w))
 piece_is : {f0 f1 : Fetch} {l0 l1 : Option (List ℕ)} {xs : List ℕ} (fed : Fed f0 f1 l0 l1 xs) → f0.unread ≡ [] → fed.piece ≡ xs ++ f1.unread
 piece_is {f1 = f1} {xs = xs} fed none = subst (λ (u : List ℕ). u ++ fed.piece ≡ xs ++ f1.unread) none fed.joined
 
-module _ {R : Type 0} (state : R → RevState) (settings : Option Config) (f0 f1 : Fetch) (none : f0.unread ≡ [])
+module _ (tr : TraceSink) (untraced : tr.new ≡ tr.old) (settings : Option Config) (f0 f1 : Fetch) (none : f0.unread ≡ [])
     (start : f0.taken ≡ 0) (top : f0.limit ≡ limit_of settings) (below : f1.taken ≤ f1.limit) where
   piece_within : {l0 l1 : Option (List ℕ)} {xs : List ℕ} (fed : Fed f0 f1 l0 l1 xs) → length fed.piece ≤ limit_of settings
   piece_within fed = omega (arith, fed.taken, fed.limit)
 
-  pub shown_source_fault : {l0 l1 : Option (List ℕ)} (w : Option (List ℕ)) (s : StoreState)
-      → KeyRead f0 f1 l0 l1 (Err Halt.SourceFault) → Shown state settings l0 l1 w w s s 0 (RanEnding (Err SourceFault)) [] ⊥
-  shown_source_fault w s read =
+  pub shown_source_fault : {l0 l1 : Option (List ℕ)} (w : Option (List ℕ)) (s : StoreState) → IsFresh s
+      → KeyRead f0 f1 l0 l1 (Err Halt.SourceFault) → Shown tr settings l0 l1 w w s s 0 (RanEnding (Err SourceFault)) [] ⊥
+  shown_source_fault w s fresh read =
       let e = piece_is read.fed none in
       let ends = rw (← e) at read.ends in
       let after = after_line-none read.fed.piece ends.0 in
@@ -117,7 +151,7 @@ module _ {R : Type 0} (state : R → RevState) (settings : Option Config) (f0 f1
         texts = rw after (texts_of-nil []);
         answers = [];
         part = [];
-        carried = unstarted settings _ s [] _ tt;
+        carried = unstarted tr settings _ s [] _ fresh untraced tt;
         grew = no_bytes w;
         whole = took_none w;
         through = λ not. took_nothing w;
@@ -125,9 +159,9 @@ module _ {R : Type 0} (state : R → RevState) (settings : Option Config) (f0 f1
         says = record { line = inr (ends.0, ends.1); cut = refl; all = record { no_more = refl; no_part = refl }; short = rw after nothing_over };
       }
 
-  pub shown_bad_key : {l0 l1 : Option (List ℕ)} (w : Option (List ℕ)) (s : StoreState)
-      → KeyRead f0 f1 l0 l1 (Ok Bad) → Shown state settings l0 l1 w w s s 0 BadKey [] ⊥
-  shown_bad_key w s read =
+  pub shown_bad_key : {l0 l1 : Option (List ℕ)} (w : Option (List ℕ)) (s : StoreState) → IsFresh s
+      → KeyRead f0 f1 l0 l1 (Ok Bad) → Shown tr settings l0 l1 w w s s 0 BadKey [] ⊥
+  shown_bad_key w s fresh read =
       let e = piece_is read.fed none in
       let ends = rw (← e) at read.ends in
       record {
@@ -141,7 +175,7 @@ module _ {R : Type 0} (state : R → RevState) (settings : Option Config) (f0 f1
         texts = refl;
         answers = [];
         part = [];
-        carried = unstarted settings _ s _ _ tt;
+        carried = unstarted tr settings _ s _ _ fresh untraced tt;
         grew = no_bytes w;
         whole = took_none w;
         through = λ not. took_nothing w;
@@ -149,9 +183,9 @@ module _ {R : Type 0} (state : R → RevState) (settings : Option Config) (f0 f1
         says = ends;
       }
 
-  pub shown_last : {l0 l1 : Option (List ℕ)} (key : List ℕ) (w : Option (List ℕ)) (s : StoreState)
-      → KeyRead f0 f1 l0 l1 (Ok (Last key)) → Shown state settings l0 l1 w w s s 0 (RanEnding (Ok false)) [] ⊥
-  shown_last key w s read =
+  pub shown_last : {l0 l1 : Option (List ℕ)} (key : List ℕ) (w : Option (List ℕ)) (s : StoreState) → IsFresh s
+      → KeyRead f0 f1 l0 l1 (Ok (Last key)) → Shown tr settings l0 l1 w w s s 0 (RanEnding (Ok false)) [] ⊥
+  shown_last key w s fresh read =
       let e = piece_is read.fed none in
       let ends = rw (← e) at read.ends in
       record {
@@ -165,7 +199,7 @@ module _ {R : Type 0} (state : R → RevState) (settings : Option Config) (f0 f1
         texts = rw (ends.1, texts_of-nil, rest_of-nil);
         answers = [];
         part = [];
-        carried = unstarted settings _ s [] _ tt;
+        carried = unstarted tr settings _ s [] _ fresh untraced tt;
         grew = no_bytes w;
         whole = took_none w;
         through = λ not. took_nothing w;
@@ -182,9 +216,9 @@ module _ {R : Type 0} (state : R → RevState) (settings : Option Config) (f0 f1
 -- ---- the session after the first line
 
 -- memory was wanting for the engine
-pub ran_nothing : {R : Type 0} {state : R → RevState} (settings : Option Config) (secret : Option (List ℕ)) (f : Fetch)
-    (l w : Option (List ℕ)) (s : StoreState) → RanAfter state settings secret f f l l w w s s 0 (Err NoMemory)
-ran_nothing settings secret f l w s = record {
+pub ran_nothing : (tr : TraceSink) (settings : Option Config) (secret : Option (List ℕ)) (f : Fetch)
+    (l w : Option (List ℕ)) (s : StoreState) → IsFresh s → tr.new ≡ tr.old → RanAfter tr settings secret f f l l w w s s 0 (Err NoMemory)
+ran_nothing tr settings secret f l w s fresh untraced = record {
   piece = [];
   consumed = Consumes-nil l;
   taken = omega arith;
@@ -196,7 +230,7 @@ ran_nothing settings secret f l w s = record {
   texts = refl;
   answers = [];
   part = [];
-  carried = unstarted settings secret s _ _ tt;
+  carried = unstarted tr settings secret s _ _ fresh untraced tt;
   cut = rw printed-nil (Cut-whole w w ⊥ [] (Appends-nil w));
   whole = took_none w;
   flag = tt;
@@ -204,147 +238,151 @@ ran_nothing settings secret f l w s = record {
 }
 
 -- from no tables
-meant_from : {R : Type 0} (state : R → RevState) (config : Config) (first : Engine R) (s0 : StoreState) (middle : Machine R) (served : List (List ℕ)) (answers : List Answer)
-    → public_of first ≡ public_by config → Steps state (machine_of first s0) middle served answers → IsTrue s0.tells → middle.store.lie ≡ None
-    → Replayed state (machine_of first s0) middle [] served answers
-meant_from state config first s0 middle served answers fresh steps tells honest =
-    replayed state served (machine_of first s0) middle [] answers steps tells honest
-    (record { held = subst (λ (p : Public). AreHeld p.pack p.tables [] (world_of state first s0)) (sym fresh) tt; in_place = tt })
+nothing_held : {R : Type 0} (state : R → RevState) (first : Engine R) (s : StoreState) (config : Config) → public_of first ≡ public_by config → Represents state first s []
+nothing_held state first s config fresh =
+    record { held = subst (λ (p : Public). AreHeld p.pack p.tables [] (world_of state first s)) (sym fresh) tt; in_place = tt }
 
--- no lie was told before the last part
-last_honest : {R : Type 0} (state : R → RevState) (m1 m2 : Machine R) (more : List (List ℕ)) (part : List ℕ) (result : Result Bool Stop) → LastPart state m1 m2 more part result
-    → m2.store.lie ≡ None → m1.store.lie ≡ None
-last_honest {R} state m1 m2 more part (Ok flag) rests none = ap (λ (m : Machine R). m.store.lie) (sym rests.machine) ∙ none
-last_honest {R} state m1 m2 [] part (Err stop) rests none = ap (λ (m : Machine R). m.store.lie) (sym rests.rests.machine) ∙ none
-last_honest {R} state m1 m2 (text ∷ more) part (Err stop) (inl rests) none = ap (λ (m : Machine R). m.store.lie) (sym rests.rests.machine) ∙ none
-last_honest state m1 m2 (text ∷ more) part (Err stop) (inr (inl cut)) none = no_lie m1.store.lie m1.store m2.store refl cut.does.ran.later none
-last_honest state m1 m2 (text ∷ more) part (Err stop) (inr (inr done)) none = (step_goes state m1 m2 text done.answer done.step.done).lie none
+session_is : {R : Type 0} (config : Config) (first : Engine R) (s : StoreState) → public_of first ≡ public_by config → s.asked ≡ [] → session_of (machine_of first s) [] ≡ start (Some config)
+session_is config first s fresh none = λ i. record { public = fresh i; tables = []; asked = length (none i) }
 
-stop_untampered : (stop : Stop) → IsNotTampered stop → IsUntampered stop
-stop_untampered (Tampered region place) not = absurd (cc not)
-stop_untampered SourceFault not = tt
-stop_untampered SinkFault not = tt
-stop_untampered NoMemory not = tt
-stop_untampered InputLimit not = tt
-
-sink_untampered : (stop : Stop) → IsSinkFault stop → IsUntampered stop
-sink_untampered (Tampered region place) fault = fault
-sink_untampered SourceFault fault = tt
-sink_untampered SinkFault fault = tt
-sink_untampered NoMemory fault = tt
-sink_untampered InputLimit fault = tt
-
--- where no changed block was read, the run ends by none
-last_untampered : {R : Type 0} (state : R → RevState) (m1 m2 : Machine R) (more : List (List ℕ)) (part : List ℕ) (result : Result Bool Stop) → LastPart state m1 m2 more part result
-    → IsTrue m1.store.tells → m2.store.lie ≡ None → (m0 : Machine R) (served : List (List ℕ)) (answers : List Answer) → Replayed state m0 m1 [] served answers → EndsUntampered (RanEnding result)
-last_untampered state m1 m2 more part (Ok flag) last tells honest m0 served answers meant = tt
-last_untampered state m1 m2 [] part (Err stop) idle tells honest m0 served answers meant = idle.untampered
-last_untampered state m1 m2 (text ∷ more) part (Err stop) (inl idle) tells honest m0 served answers meant = idle.untampered
-last_untampered state m1 m2 (text ∷ more) part (Err stop) (inr (inl cut)) tells honest m0 served answers meant = stop_untampered stop (cut.does.means.honest meant.left (record { tells = tells; held = meant.held; nolie = honest }))
-last_untampered state m1 m2 (text ∷ more) part (Err stop) (inr (inr done)) tells honest m0 served answers meant = sink_untampered stop done.fault
-
-one_step : {R : Type 0} (state : R → RevState) (m0 m1 : Machine R) (text : List ℕ) (answer : Answer) → Step state m0 m1 text answer → Steps state m0 m1 (text ∷ []) (answer ∷ [])
-unfolding Steps
-one_step state m0 m1 text answer step = (m1, answer, [], refl, step, (refl, refl))
-
-nothing_more : {R : Type 0} (m1 m2 : Machine R) (part : List ℕ) → IsUndone m1 m2 part → NothingMore m1 m2 part
-nothing_more {R} m1 m2 part rests = record { asked = ap (λ (m : Machine R). m.store.asked) rests.machine; printed = rests.none }
-
-stopped_in : {R : Type 0} (state : R → RevState) (m1 m2 : Machine R) (tables : Tables) (text : List ℕ) (stop : Stop) (part : List ℕ) → CutStep state m1 m2 text stop part
-    → ReadsTrueUntil state m1.engine m1.store m2.engine m2.store tables → StoppedIn m1 m2 (session_of m1 tables) text (is_refused stop) part
-stopped_in state m1 m2 tables text stop part cut reads =
-    let n = length m2.store.asked - length m1.store.asked in
-    let seen_is = cut.does.means.held tables reads in
-    record {
-      stmt = cut.stmt;
-      spells = cut.spells;
-      n = n;
-      stops = record {
-        started = cut_early state m1 m2 tables cut.stmt (Err stop) cut.does (is_refused stop) n seen_is reads.held;
-        within = cut_within state m1 m2 tables cut.stmt (Err stop) cut.does (is_refused stop) n seen_is;
-        seen = seen_is;
-        asked = cut.does.ran.asked ∙ ap (λ (x : Seen). m1.store.asked ++ script (public_of m1.engine) (skeleton cut.stmt) x) seen_is;
-      };
-      events = cut.events;
-      begun = cut.emitted tables reads;
-      printed = cut.printed;
-    }
-
--- unless a changed block was read that fits, what was printed last belongs to an answer that is meant
-last_meant : {R : Type 0} (state : R → RevState) (m1 m2 : Machine R) (more : List (List ℕ)) (part : List ℕ) (result : Result Bool Stop) → LastPart state m1 m2 more part result
-    → IsTrue m1.store.tells → Calm (world_of state m1.engine m1.store) → IsUnfit (world_of state m2.engine m2.store) → (tables : Tables) → Represents state m1.engine m1.store tables
-    → PartMeant state m1 m2 tables (is_tampered (RanEnding result)) more part
-last_meant state m1 m2 [] part (Ok flag) rests tells calm unfit tables held = nothing_more m1 m2 part rests
-last_meant state m1 m2 (text ∷ more) part (Ok flag) rests tells calm unfit tables held = inl (nothing_more m1 m2 part rests)
-last_meant state m1 m2 [] part (Err stop) idle tells calm unfit tables held = nothing_more m1 m2 part idle.rests
-last_meant state m1 m2 (text ∷ more) part (Err stop) (inl idle) tells calm unfit tables held = inl (nothing_more m1 m2 part idle.rests)
-last_meant state m1 m2 (text ∷ more) part (Err stop) (inr (inl cut)) tells calm unfit tables held =
-    inr (inl (stopped_in state m1 m2 tables text stop part cut (record { tells = tells; held = held; calm = calm; unfit = unfit })))
-last_meant state m1 m2 (text ∷ more) part (Err stop) (inr (inr done)) tells calm unfit tables held =
-    let honest = unfit_none (world_of state m2.engine m2.store) (step_calm state m1 m2 text done.answer done.step calm) unfit in
-    inr (inr (record { answer = done.answer; replayed = replayed state (text ∷ []) m1 m2 tables (done.answer ∷ []) (one_step state m1 m2 text done.answer done.step) tells honest held; whole = done.whole }))
-
-middle_sizes : {R : Type 0} (state : R → RevState) (config : Config) (first : Engine R) (s0 : StoreState) (middle : Machine R) (served : List (List ℕ)) (answers : List Answer)
-    → public_of first ≡ public_by config → rows_of first ≡ config.buffer → Steps state (machine_of first s0) middle served answers → HasSizes config middle
-middle_sizes state config first s0 middle served answers fresh rows steps = steps_sizes state config (machine_of first s0) middle served answers steps (first_sizes config (machine_of first s0) fresh rows)
-
-pub ran_after : {R : Type 0} {state : R → RevState} {f0 f1 : Fetch} {l0 l1 w0 w1 : Option (List ℕ)} {s0 s1 : StoreState} (config : Config) (key : List ℕ) (first last : Engine R) (high : ℕ) (result : Result Bool Stop)
-    → public_of first ≡ public_by config → first.vault.keys ≡ keys_of key → rows_of first ≡ config.buffer → s0.asked ≡ [] → ((q : ℕ) → s0.live q ≡ None) → s0.lie ≡ None → high ≤ rows_of last → SessionRan state f0 f1 l0 l1 w0 w1 (machine_of first s0) (machine_of last s1) result → high ≡ high_of last
-    → RanAfter state (Some config) (Some key) f0 f1 l0 l1 w0 w1 s0 s1 high result
-ran_after {state = state} {s0 = s0} {s1 = s1} config key first last high result fresh keyed rows none empty sound most ran e = record {
-  piece = ran.piece;
-  consumed = ran.consumed;
-  taken = ran.taken;
-  limit = ran.limit;
-  ended = ran.ended;
-  at_end = ran.at_end;
-  served = ran.served;
-  more = ran.more;
-  texts = ran.texts;
-  answers = ran.answers;
-  part = ran.part;
-  carried = inr (record {
-    config = config;
-    set = refl;
-    key = key;
-    keyed = refl;
-    first = first;
-    fresh = fresh;
-    sealed_with = keyed;
-    middle = ran.middle;
-    last = last;
-    steps = ran.steps;
-    asks = asks state ran.served (machine_of first s0) ran.middle ran.answers ran.steps;
-    rest = ran.last;
-    later = later_trans _ _ _ (steps_later state (machine_of first s0) ran.middle ran.served ran.answers ran.steps) (last_later state ran.middle (machine_of last s1) ran.more ran.part result ran.last);
-    same_keys = last_keys state ran.middle (machine_of last s1) ran.more ran.part result ran.last ∙ steps_keep state (machine_of first s0) ran.middle ran.served ran.answers ran.steps;
-    meant = λ undeceived. meant_from state config first s0 ran.middle ran.served ran.answers fresh ran.steps undeceived.tells
-        (last_deceived state ran.middle (machine_of last s1) ran.more ran.part result ran.last
-        (steps_calm state (machine_of first s0) ran.middle ran.served ran.answers ran.steps (first_calm state first s0 sound)) undeceived.unfit);
-    part_meant = λ undeceived.
-        let calm = steps_calm state (machine_of first s0) ran.middle ran.served ran.answers ran.steps (first_calm state first s0 sound) in
-        let before = meant_from state config first s0 ran.middle ran.served ran.answers fresh ran.steps undeceived.tells
-        (last_deceived state ran.middle (machine_of last s1) ran.more ran.part result ran.last calm undeceived.unfit) in
-        last_meant state ran.middle (machine_of last s1) ran.more ran.part result ran.last
-        (steps_tell state (machine_of first s0) ran.middle ran.served ran.answers ran.steps undeceived.tells) calm (record { unfit = undeceived.unfit }) before.left before.held;
-    sealed = λ tells good accepts. last_sealed state config good accepts ran.middle (machine_of last s1) ran.more ran.part result ran.last (middle_sizes state config first s0 ran.middle ran.served ran.answers fresh rows ran.steps)
-        (steps_tell state (machine_of first s0) ran.middle ran.served ran.answers ran.steps tells)
-        (steps_sealed state config good accepts (machine_of first s0) ran.middle ran.served ran.answers ran.steps (first_sizes config (machine_of first s0) fresh rows) tells (none_sealed state good first s0 empty));
-    untampered = λ honest. last_untampered state ran.middle (machine_of last s1) ran.more ran.part result ran.last
-        (steps_tell state (machine_of first s0) ran.middle ran.served ran.answers ran.steps honest.tells) honest.no_lie (machine_of first s0) ran.served ran.answers
-        (meant_from state config first s0 ran.middle ran.served ran.answers fresh ran.steps honest.tells (last_honest state ran.middle (machine_of last s1) ran.more ran.part result ran.last honest.no_lie));
-    changed = last_met state ran.middle (machine_of last s1) ran.more ran.part result ran.last
-        (steps_calm state (machine_of first s0) ran.middle ran.served ran.answers ran.steps (first_calm state first s0 sound));
-    failed = session_fails state (machine_of first s0) ran.middle (machine_of last s1) ran.served ran.more ran.answers ran.part result ran.steps ran.last;
-    rows_open = e;
-    rows_few = subst (λ (n : ℕ). high ≤ n) (last_rows state config ran.middle (machine_of last s1) ran.more ran.part result ran.last (middle_sizes state config first s0 ran.middle ran.served ran.answers fresh rows ran.steps)) most;
-    rows_used = subst (λ (n : ℕ). IsUsed s1.asked n) (sym e) (session_opens state (machine_of first s0) ran.middle (machine_of last s1) ran.served ran.more ran.answers ran.part result none ran.steps ran.last);
-  });
-  cut = ran.cut;
-  whole = ran.whole;
-  flag = ran.flag;
-  ends = ran.ends;
+-- each block of a live region is sealed
+sealed_at : (good : List ℕ → Bool) (v : VaultState) (s : StoreState) (region place : ℕ) (block : List ℕ) (keys : KeySet) → v.start ≡ from_nothing → v.keys ≡ keys
+    → SealedAt (λ r. good) (record { vault = v; store = s }) region place block → IsSealedAt good keys s.asked region place block
+sealed_at good v s region place block keys from same at = record {
+  number = at.number;
+  written = elim at.went [
+    | inl own ↦ let none : at.number - from_nothing.writes ≡ at.number = omega arith in
+        subst (λ (n : ℕ). nth_write n s.asked ≡ Some (region, place)) (ap (λ (x : Start). at.number - x.writes) from ∙ none) own
+    | inr given ↦ absurd (given.1 (given.0 ∙ ap (λ (x : Start). x.given region place) from))
+  ];
+  clear = at.rows;
+  sealed = at.is ∙ ap (λ (k : KeySet). sealed k (at_of region place at.number) at.rows) same;
+  passes = at.fine;
 }
+
+-- a changed block that doesn't fit ends the run at its read
+ends_there : (region place : ℕ) (w : World) (lie : Lie) → w.store.lie ≡ Some lie → EndsAt region place w
+    → (RanEnding (Err (Tampered region place)) ≡ RanEnding (Err (Tampered lie.region lie.place))) × (w.store.asked ≡ lie.before ++ Read lie.region lie.place ∷ [])
+ends_there region place w lie is ends =
+    let same : ends.lie ≡ lie = cc (sym ends.told ∙ is) in (
+      (λ i. RanEnding (Err (Tampered ((sym ends.at_region ∙ ap (λ (l : Lie). l.region) same) i) ((sym ends.at_place ∙ ap (λ (l : Lie). l.place) same) i)))),
+      ends.asked ∙ ap (λ (l : Lie). l.before ++ Read l.region l.place ∷ []) same,
+    )
+
+meets : (result : Result Bool Stop) (w : World) (lie : Lie) → MeetsChange result w → w.store.lie ≡ Some lie → ¬ Fits w.vault.keys w.vault.start lie
+    → (RanEnding result ≡ RanEnding (Err (Tampered lie.region lie.place))) × (w.store.asked ≡ lie.before ++ Read lie.region lie.place ∷ [])
+meets (Ok refused) w lie calm is unfit = absurd (unfit (calm.calm lie is))
+meets (Err (Tampered region place)) w lie (inl calm) is unfit = absurd (unfit (calm.calm lie is))
+meets (Err (Tampered region place)) w lie (inr ends) is unfit = ends_there region place w lie is ends
+meets (Err SourceFault) w lie calm is unfit = absurd (unfit (calm.calm lie is))
+meets (Err SinkFault) w lie calm is unfit = absurd (unfit (calm.calm lie is))
+meets (Err NoMemory) w lie calm is unfit = absurd (unfit (calm.calm lie is))
+meets (Err InputLimit) w lie calm is unfit = absurd (unfit (calm.calm lie is))
+
+-- a session over an engine that was just started
+module _ {R : Type 0} {state : R → RevState} (config : Config) (key : List ℕ) (first last : Engine R) (high : ℕ) (result : Result Bool Stop) (s0 s1 : StoreState)
+    (fresh : public_of first ≡ public_by config) (keyed : first.vault.keys ≡ keys_of key) (rows : rows_of first ≡ config.buffer) (blank : IsFresh s0) (steady : IsSteady s0)
+    (most : high ≤ rows_of last) (opened : high ≡ high_of last)
+    (tr : TraceSink) (f0 f1 : Fetch) (l0 l1 w0 w1 : Option (List ℕ)) (ran : SessionRan state tr.on f0 f1 l0 l1 w0 w1 tr.old tr.new (machine_of first s0) (machine_of last s1) result) where
+  abbrev m0 : Machine R
+  m0 = machine_of first s0
+
+  abbrev m2 : Machine R
+  m2 = machine_of last s1
+
+  walk : Walked state (RanEnding result) m0 ran.middle m2 ran.served ran.more ran.answers ran.part
+  walk = walked state (RanEnding result) ran.served m0 ran.middle m2 ran.more ran.answers ran.part ran.steps (walked_last state ran.middle m2 ran.more ran.part result ran.last)
+
+  abbrev all : List Served
+  all = walk.seen ++ walk.last
+
+  keys_are : last.vault.keys ≡ keys_of key
+  keys_are = walk.keys ∙ keyed
+
+  calm : Calm (world_of state first s0)
+  calm = first_calm state first s0 blank.honest
+
+  met : MeetsChange result (world_of state last s1)
+  met = last_met state ran.middle m2 ran.more ran.part result ran.last (steps_calm state m0 ran.middle ran.served ran.answers ran.steps calm)
+
+  sizes : HasSizes config m0
+  sizes = first_sizes config m0 fresh rows
+
+  middle_sizes : HasSizes config ran.middle
+  middle_sizes = steps_sizes state config m0 ran.middle ran.served ran.answers ran.steps sizes
+
+  tells_on : IsTrue s0.tells → IsTrue ran.middle.store.tells
+  tells_on tells = steps_tell state m0 ran.middle ran.served ran.answers ran.steps tells
+
+  all_sealed : IsTrue s0.tells → IsSealed (keys_of key) config.pack s1
+  all_sealed tells = record {
+    each = λ region place block lives held good passes.
+        sealed_at good (world_of state last s1).vault s1 region place block (keys_of key) refl keys_are
+        ((last_sealed state config (λ r. good) passes ran.middle m2 ran.more ran.part result ran.last middle_sizes (tells_on tells)
+        (steps_sealed state config (λ r. good) passes m0 ran.middle ran.served ran.answers ran.steps sizes tells
+        (none_sealed state (λ r. good) first s0 blank.empty))).all region place block lives held);
+  }
+
+  nothing : Represents state first s0 []
+  nothing = nothing_held state first s0 config fresh
+
+  here : session_of m0 [] ≡ start (Some config)
+  here = session_is config first s0 fresh blank.unasked
+
+  pub carried_by : Carried tr (Some config) (Some key) s0 s1 high ran.served ran.more ran.answers ran.part (RanEnding result)
+  carried_by = record {
+    spelt = walk.spelt;
+    spells = walk.spells;
+    reached = walk.reached;
+    begun = walk.begun;
+    each = walk.each;
+    seen = walk.seen;
+    last = walk.last;
+    one_last = walk.one_last;
+    lawful = subst (λ (s : Session). AreSeen (RanEnding result) s.public s.asked walk.spelt ran.answers all) here walk.lawful;
+    asked = walk.asked ∙ (λ i. blank.unasked i ++ trace (fresh i) all);
+    traced_whole = ran.traced.whole (trace (public_by config) walk.seen) (walk.passed ∙ ap (λ (p : Public). s0.asked ++ trace p walk.seen) fresh);
+    failed = session_fails state m0 ran.middle m2 ran.served ran.more ran.answers ran.part result ran.steps ran.last;
+    unfailed = walk.unfailed;
+    meant = λ undeceived.
+        let from = walk.meant undeceived.tells calm (record { unfit = λ lie is fits. undeceived.unfit lie is (subst (λ (k : KeySet). Fits k from_nothing lie) keys_are fits) }) [] nothing in
+        (from.0, subst (λ (s : Session). Answers (RanEnding result) s walk.spelt from.0 ran.answers all ran.part) here from.1);
+    tampered = λ lie is unfit. meets result (world_of state last s1) lie met is (λ fits. unfit (subst (λ (k : KeySet). Fits k from_nothing lie) keys_are fits));
+    sealed = all_sealed;
+    untampered = λ honest. walk.untampered honest.tells [] nothing honest.no_lie;
+    most_open = subst (λ (n : ℕ). high ≤ n) (last_rows state config ran.middle m2 ran.more ran.part result ran.last middle_sizes) most;
+    some_open = subst (λ (n : ℕ). IsUsed s1.asked n) (sym opened) (session_opens state m0 ran.middle m2 ran.served ran.more ran.answers ran.part result blank.unasked ran.steps ran.last);
+    later = later_trans _ _ _ (steps_later state m0 ran.middle ran.served ran.answers ran.steps) (last_later state ran.middle m2 ran.more ran.part result ran.last);
+    early = λ tells n before.
+        let from = walk.early tells steady [] nothing n before (omega (arith, ap length blank.unasked)) in
+        let joined : s0.asked ++ trace (session_of m0 []).public (all_served (session_of m0 []) walk.spelt []) ≡ meant_trace (Some config) walk.spelt =
+        λ i. blank.unasked i ++ trace (here i).public (all_served (here i) walk.spelt []) in
+        record {
+          meant = subst (λ (s : Session). MeantUntil n s walk.spelt ran.answers all) here from.meant;
+          begins = subst (λ (l : List Access). Begins (take n s1.asked) l) joined from.begins;
+          quiet = λ le. from.quiet (subst (λ (l : List Access). length l ≤ n) (sym joined) le);
+        };
+  }
+
+  pub ran_after : RanAfter tr (Some config) (Some key) f0 f1 l0 l1 w0 w1 s0 s1 high result
+  ran_after = record {
+    piece = ran.piece;
+    consumed = ran.consumed;
+    taken = ran.taken;
+    limit = ran.limit;
+    ended = ran.ended;
+    at_end = ran.at_end;
+    served = ran.served;
+    more = ran.more;
+    texts = ran.texts;
+    answers = ran.answers;
+    part = ran.part;
+    carried = carried_by;
+    cut = ran.cut;
+    whole = ran.whole;
+    flag = ran.flag;
+    ends = ran.ends;
+  }
 
 says_of : (result : Result Bool Stop) (f : Fetch) (max : ℕ) (taken : List ℕ) (ended : Bool) (more : List (List ℕ)) (part : List ℕ)
     → HasSecret taken → length taken ≡ f.taken → f.limit ≡ max
@@ -372,10 +410,10 @@ says_of (Err InputLimit) f max taken ended more part h n top e = record {
   limit = elim e.3 [ inl over ↦ inl over | inr full ↦ inr (n ∙ full ∙ top) ];
 }
 
-pub shown_ran : {R : Type 0} {state : R → RevState} (settings : Option Config) {f0 f1 f2 : Fetch} {l0 l1 l2 w0 w2 : Option (List ℕ)} {s0 s2 : StoreState} {high : ℕ} (key : List ℕ) (result : Result Bool Stop)
+pub shown_ran : {tr : TraceSink} (settings : Option Config) {f0 f1 f2 : Fetch} {l0 l1 l2 w0 w2 : Option (List ℕ)} {s0 s2 : StoreState} {high : ℕ} (key : List ℕ) (result : Result Bool Stop)
     → f0.unread ≡ [] → f0.taken ≡ 0 → f0.limit ≡ limit_of settings → f2.taken ≤ f2.limit
-    → KeyRead f0 f1 l0 l1 (Ok (Secret key)) → RanAfter state settings (Some key) f1 f2 l1 l2 w0 w2 s0 s2 high result
-    → Shown state settings l0 l2 w0 w2 s0 s2 high (RanEnding result) [] (SinkFailed result)
+    → KeyRead f0 f1 l0 l1 (Ok (Secret key)) → RanAfter tr settings (Some key) f1 f2 l1 l2 w0 w2 s0 s2 high result
+    → Shown tr settings l0 l2 w0 w2 s0 s2 high (RanEnding result) [] (SinkFailed result)
 shown_ran settings {f1 = f1} {f2 = f2} {l2 = l2} {w0 = w0} {w2 = w2} {s0 = s0} {s2 = s2} {high = high} key result none start top below read ran =
     let e = piece_is read.fed none in
     let ends = rw (← e) at read.ends in
@@ -411,9 +449,9 @@ shown_ran settings {f1 = f1} {f2 = f2} {l2 = l2} {w0 = w0} {w2 = w2} {s0 = s0} {
 -- ---- before the input is read
 
 -- nothing was read
-pub shown_unread : {R : Type 0} {state : R → RevState} (settings : Option Config) (l w : Option (List ℕ)) (s : StoreState) (ending : Ending) → EndsUntampered ending → EndingFlag ending []
-    → EndingSays ending (limit_of settings) [] l false (texts_of [] (after_line [])) [] → Shown state settings l l w w s s 0 ending [] ⊥
-shown_unread settings l w s ending untampered flag says = record {
+pub shown_unread : (tr : TraceSink) (settings : Option Config) (l w : Option (List ℕ)) (s : StoreState) (ending : Ending) → IsFresh s → tr.new ≡ tr.old → EndsUntampered ending → EndingFlag ending []
+    → EndingSays ending (limit_of settings) [] l false (texts_of [] (after_line [])) [] → Shown tr settings l l w w s s 0 ending [] ⊥
+shown_unread tr settings l w s ending fresh untraced untampered flag says = record {
   taken = [];
   given = Consumes-nil l;
   within = omega arith;
@@ -424,7 +462,7 @@ shown_unread settings l w s ending untampered flag says = record {
   texts = refl;
   answers = [];
   part = [];
-  carried = unstarted settings _ s _ _ untampered;
+  carried = unstarted tr settings _ s _ _ fresh untraced untampered;
   grew = no_bytes w;
   whole = took_none w;
   through = λ not. took_nothing w;
@@ -519,9 +557,9 @@ pub quiet_line : {w0 w1 : Option (List ℕ)} {F G : Type 0} (bytes line : List �
 quiet_line {w0 = w0} {w1 = w1} {F = F} bytes line c g =
     Cut-more line (Cut-fault g (subst (λ (l : List ℕ). Cut w0 w1 F l) (append-nil bytes) c)) g
 
-pub shown_line : {R : Type 0} {state : R → RevState} {settings : Option Config} {l0 l1 w0 w1 w2 : Option (List ℕ)} {s0 s1 : StoreState} {high : ℕ} {ending : Ending} {line line' : List ℕ} {F H : Type 0}
-    (more : List ℕ) → (shown : Shown state settings l0 l1 w0 w1 s0 s1 high ending line F) → Appends w1 w2 more → Cut w0 w2 H ((printed shown.answers ++ shown.part) ++ line')
-    → Shown state settings l0 l1 w0 w2 s0 s1 high ending line' H
+pub shown_line : {tr : TraceSink} {settings : Option Config} {l0 l1 w0 w1 w2 : Option (List ℕ)} {s0 s1 : StoreState} {high : ℕ} {ending : Ending} {line line' : List ℕ} {F H : Type 0}
+    (more : List ℕ) → (shown : Shown tr settings l0 l1 w0 w1 s0 s1 high ending line F) → Appends w1 w2 more → Cut w0 w2 H ((printed shown.answers ++ shown.part) ++ line')
+    → Shown tr settings l0 l1 w0 w2 s0 s1 high ending line' H
 shown_line more shown after cut = record {
   taken = shown.taken;
   given = shown.given;

@@ -42,6 +42,10 @@ pub traced_none : (tracing : Bool) (asked : List Access) (w : Option (List ℕ))
 traced_none true asked w = record { seen = []; grew = sym (append-nil asked); appends = rw trace_text-nil (Appends-nil w) }
 traced_none false asked w = record { seen = []; grew = sym (append-nil asked); appends = Appends-nil w }
 
+pub traced-nil : (tracing : Bool) → traced tracing [] ≡ []
+traced-nil true = trace_text-nil
+traced-nil false = refl
+
 pub traced-append : (tracing : Bool) (xs ys : List Access) → traced tracing (xs ++ ys) ≡ traced tracing xs ++ traced tracing ys
 traced-append true xs ys = trace_text-append xs ys
 traced-append false xs ys = refl

@@ -4,7 +4,6 @@ use Rattle.ob_base.specs.declared.refusal.Stop.{Stop}
 use Rattle.ob_base.specs.declared.refusal.Stop.TheVariants.{Tampered, SourceFault, SinkFault, NoMemory, InputLimit}
 use Rattle.ob_exec.specs.Telling.{is_refused}
 use Rattle.ob_print.specs.Lines.{stop_line}
-use Rattle.ob_shell.specs.Running.{SinkFailed}
 use Rattle.ob_shell.specs.declared.top.Ending.{Ending}
 use Rattle.ob_shell.specs.declared.top.Ending.TheVariants.{Usage, BadKey, Ran}
 
@@ -37,6 +36,18 @@ is_tampered Usage = false
 is_tampered BadKey = false
 is_tampered (Ran (Ok refused)) = false
 is_tampered (Ran (Err stop)) = is_refused stop
+
+-- it is a sink's fault
+abbrev pub IsSinkFault : Stop → Type 0
+IsSinkFault (Tampered region place) = ⊥
+IsSinkFault SourceFault = ⊥
+IsSinkFault SinkFault = Unit {0}
+IsSinkFault NoMemory = ⊥
+IsSinkFault InputLimit = ⊥
+
+abbrev pub SinkFailed : {T : Type 0} → Result T Stop → Type 0
+SinkFailed (Ok x) = ⊥
+SinkFailed (Err stop) = IsSinkFault stop
 
 -- it stopped at a sink's fault
 abbrev pub SinkStopped : Ending → Type 0

@@ -4,7 +4,7 @@ use Rattle.ob_base.specs.declared.refusal.Refusal.{Refusal}
 use Rattle.ob_base.specs.Refusals.{is_store_fault}
 use Rattle.ob_exec.specs.declared.outcome.Outcome.{Outcome}
 use Rattle.ob_exec.specs.declared.outcome.Outcome.TheVariants.{Created, Inserted, Changed, Deleted, Dropped, Rows, Refused}
-use Rattle.ob_shell.specs.Steps.{Answer}
+use Rattle.ob_shell.specs.Words.{Answer}
 
 abbrev pub refusal_failures : Refusal → ℕ
 refusal_failures r = if is_store_fault r then 1 else 0

@@ -3,6 +3,8 @@ pub mod Endings
 pub mod Feeding
 pub mod KeyLine
 pub mod Pushed
+pub mod Words
+pub mod Headline
 pub mod Running
 pub mod Steps
 pub mod Texts
@@ -11,11 +13,9 @@ pub mod Tracing
 pub mod Usage
 pub mod Settings
 pub mod IsPending
-pub mod Replayed
-pub mod Asking
 pub mod Failures
 pub mod Pieces
 pub mod Closed
 pub mod Meddling
 pub mod Disturbed
-pub mod Whole
+pub mod Reruns

@@ -7,19 +7,12 @@ use Rattle.ob_base.specs.declared.refusal.Stop.TheVariants.{Tampered, SourceFaul
 use Rattle.ob_print.specs.Cuts.{Cut}
 use Rattle.ob_shell.specs.Texts.{is_over, rest_of, texts_of, texts_in}
 use Rattle.ob_shell.specs.Feeding.{Fetch, Fed}
-use Rattle.ob_shell.specs.Steps.{Machine, Answer, Steps, PartlyAt, IsUndone, IsSinkFault, printed, any_refused}
+use Rattle.ob_shell.specs.Steps.{Machine, Steps, PartlyAt, IsUndone}
 use Rattle.ob_vault.specs.State.{RevState}
 use Rattle.ob_shell.specs.declared.session.Halted.{Halted}
-
--- the counts of the faults of the source and of both sinks
-pub record Faults : Type 0 where
-  pub source : ℕ
-  pub out : ℕ
-  pub trace : ℕ
-
--- these counts
-abbrev pub faults_of : (source out trace : ℕ) → Faults
-faults_of source out trace = record { source = source; out = out; trace = trace }
+use Rattle.ob_shell.specs.Endings.{SinkFailed}
+use Rattle.ob_shell.specs.Tracing.{Traces}
+use Rattle.ob_shell.specs.Words.{Answer, Faults, NoneRose, SinksRose, Took, any_refused, printed}
 
 -- the stop, whether or not its line may still be written
 abbrev pub stop_of : {T : Type 0} → Result T Halted → Result T Stop
@@ -30,20 +23,6 @@ stop_of (Err halted) = Err halted.stop
 abbrev pub IsQuiet : {T : Type 0} → Result T Halted → Type 0
 IsQuiet (Ok x) = ⊥
 IsQuiet (Err halted) = halted.quiet ≡ true
-
--- the count of one of the two sinks rose
-abbrev pub SinksRose : (old new : Faults) → Type 0
-SinksRose old new = Rises old.out new.out ⊎ Rises old.trace new.trace
-
-abbrev pub SinkFailed : {T : Type 0} → Result T Stop → Type 0
-SinkFailed (Ok x) = ⊥
-SinkFailed (Err stop) = IsSinkFault stop
-
--- no count rose
-pub record NoneRose (old new : Faults) : Type 0 where
-  pub source : new.source ≡ old.source
-  pub out : new.out ≡ old.out
-  pub trace : new.trace ≡ old.trace
 
 -- when each stop comes: only where that count rose; the trace's may have risen after it
 abbrev pub StopCause : {T : Type 0} (old new : Faults) → Result T Stop → Type 0
@@ -95,15 +74,10 @@ abbrev pub FlagIs : List Answer → Result Bool Stop → Type 0
 FlagIs answers (Ok refused) = refused ≡ any_refused answers
 FlagIs answers (Err stop) = Unit {0}
 
--- a sink took all of these bytes, and maybe more after them
-pub record Took (written0 written1 : Option (List ℕ)) (bytes : List ℕ) : Type 0 where
-  pub after : List ℕ
-  pub appends : Appends written0 written1 (bytes ++ after)
-
 -- what a session did: the sink took the answers of all texts that were served, and of the last part all or, where it
 -- failed, a first part
-pub record SessionRan {R : Type 0} (state : R → RevState) (feed0 feed1 : Fetch)
-    (left0 left1 written0 written1 : Option (List ℕ))
+pub record SessionRan {R : Type 0} (state : R → RevState) (tracing : Bool) (feed0 feed1 : Fetch)
+    (left0 left1 written0 written1 traced0 traced1 : Option (List ℕ))
     (m0 m2 : Machine R) (result : Result Bool Stop) : Type 0 where
   pub piece : List ℕ
   pub consumed : Consumes left0 left1 piece
@@ -121,5 +95,6 @@ pub record SessionRan {R : Type 0} (state : R → RevState) (feed0 feed1 : Fetch
   pub last : LastPart state middle m2 more part result
   pub cut : Cut written0 written1 (SinkFailed result) (printed answers ++ part)
   pub whole : Took written0 written1 (printed answers)
+  pub traced : Traces tracing traced0 traced1 m0.store.asked middle.store.asked
   pub flag : FlagIs answers result
   pub ends : EndsBy feed1 ended (feed0.unread ++ piece) more part result

@@ -39,37 +39,36 @@ plan_in (Some name) = plan_named name
 
 -- ---- settings
 
--- the input has fewer bytes
-abbrev pub input_limit : ℕ
-input_limit = 1073741824
-
 -- settings whose buffer holds three blocks and one row
-abbrev pub fitted : (buffer depth : ℕ) → Option Plan → (pack : ℕ) → Option Config
-fitted buffer depth plan pack =
+abbrev pub fitted : (buffer depth : ℕ) → Option Plan → (pack max_input : ℕ) → Option Config
+fitted buffer depth plan pack max_input =
     if nat_le (3 * pack + 1) buffer
     then Some (record {
       buffer = buffer;
       depth = depth;
       pack = pack;
       plan = plan;
-      max_input = input_limit;
+      max_input = max_input;
     })
     else None
 
 -- settings of which each value has its form and its range
-abbrev pub joined : (buffer depth : Option ℕ) → Option (Option Plan) → (pack : Option ℕ)
+abbrev pub joined : (buffer depth : Option ℕ) → Option (Option Plan) → (pack max_input : Option ℕ)
     → Option Config
-joined None depth plan pack = None
-joined (Some buffer) None plan pack = None
-joined (Some buffer) (Some depth) None pack = None
-joined (Some buffer) (Some depth) (Some plan) None = None
-joined (Some buffer) (Some depth) (Some plan) (Some pack) = fitted buffer depth plan pack
+joined None depth plan pack max_input = None
+joined (Some buffer) None plan pack max_input = None
+joined (Some buffer) (Some depth) None pack max_input = None
+joined (Some buffer) (Some depth) (Some plan) None max_input = None
+joined (Some buffer) (Some depth) (Some plan) (Some pack) None = None
+joined (Some buffer) (Some depth) (Some plan) (Some pack) (Some max_input) =
+    fitted buffer depth plan pack max_input
 
 -- the settings that these values spell, each under its name
 abbrev pub settings_by : (Text → Option Text) → Option Config
 settings_by value =
     joined (number_in 4 65536 64 (value (codes "buffer"))) (number_in 1 8 5 (value (codes "depth")))
     (plan_in (value (codes "plan"))) (number_in 1 16 1 (value (codes "pack")))
+    (number_in 1024 1073741824 1073741824 (value (codes "max-input")))
 
 -- the settings that the words spell, none where a value has not its form or not its range
 abbrev pub settings_of : App → List Text → Option Config

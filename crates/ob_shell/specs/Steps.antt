@@ -1,5 +1,5 @@
 -- What texts do to an engine and its store, one after the other, and what is printed of them.
-use Rattle.std.specs.Prelude.{ℕ, ◌≡◌, ◌||◌, ◌⊎◌, Bool, false, List, [], ◌∷◌, ◌++◌, length, Option, Result, Ok, Err}
+use Rattle.std.specs.Prelude.{ℕ, ◌≡◌, ◌||◌, ◌⊎◌, ⊤, Bool, false, List, [], ◌∷◌, ◌++◌, length, Option, Result, Ok, Err}
 use Rattle.std.specs.Io.KnownBytes.{Appends}
 use Rattle.ob_base.specs.Events.{Event}
 use Rattle.ob_base.specs.declared.refusal.Refusal.TheVariants.{Syntax}
@@ -11,16 +11,16 @@ use Rattle.ob_exec.specs.Running.{Ran, RefusedEarly, Emits, refusal_now}
 use Rattle.ob_exec.specs.Serving.{Means}
 use Rattle.ob_exec.specs.Telling.{KeepsSealed, ReadsTrue, ReadsTrueUntil, Emitted, Partly, answer_labels}
 use Rattle.ob_mean.specs.Lawful.{Lawful}
+use Rattle.ob_mean.specs.Replay.{Session}
 use Rattle.ob_mean.specs.Verdict.{Tables, verdict}
-use Rattle.ob_parse.specs.Refusal.{RefusedAt}
-use Rattle.ob_parse.specs.Statements.{Statement}
-use Rattle.ob_token.specs.Tokens.{tokens_of}
 use Rattle.ob_exec.specs.declared.engine.Engine.{Engine}
+use Rattle.ob_shell.specs.Endings.{IsSinkFault}
+use Rattle.ob_shell.specs.Words.{Answer, Spells, any_refused, printed}
 use Rattle.ob_exec.specs.declared.outcome.Outcome.{Outcome}
 use Rattle.ob_exec.specs.declared.outcome.Outcome.TheVariants.{Refused}
 use Rattle.ob_print.specs.Cuts.{Cut, IsCutOf}
 use Rattle.ob_print.specs.Rows.{events_text}
-use Rattle.ob_shell.specs.Closing.{closing_line, is_refused}
+use Rattle.ob_shell.specs.Closing.{closing_line}
 use Rattle.ob_sql.specs.Skeleton.{skeleton}
 use Rattle.ob_sql.specs.declared.stmt.Stmt.{Stmt}
 use Rattle.ob_store.specs.State.{StoreState}
@@ -39,16 +39,6 @@ pub record IsReady {R : Type 0} (state : R → RevState) (m : Machine R) : Type 
   pub agrees : Agrees state m.engine m.store
   pub lives : has_ended m.engine ≡ false
 
--- how a text was answered, and what was printed of it
-pub record Answer : Type 0 where
-  pub outcome : Outcome
-  pub bytes : List ℕ
-
--- what a text spells: a statement, or the place where it is refused
-abbrev pub Spells : List ℕ → Result Stmt ℕ → Type 0
-Spells text (Ok stmt) = Statement text stmt (tokens_of text)
-Spells text (Err at) = RefusedAt text (tokens_of text) at
-
 -- the text is no statement: nothing was asked
 pub record Misspelt {R : Type 0} (m0 m1 : Machine R) (text : List ℕ)
     (answer : Answer) : Type 0 where
@@ -57,6 +47,10 @@ pub record Misspelt {R : Type 0} (m0 m1 : Machine R) (text : List ℕ)
   pub spells : Spells text (Err at)
   pub refused : answer.outcome ≡ Refused (Syntax at)
   pub line : answer.bytes ≡ closing_line answer.outcome
+
+-- the session of the model at which a machine stands that holds these tables
+abbrev pub session_of : {R : Type 0} → Machine R → Tables → Session
+session_of m tables = record { public = public_of m.engine; tables = tables; asked = length m.store.asked }
 
 -- how many accesses were asked of a machine's store
 abbrev pub asked_of : {R : Type 0} → Machine R → ℕ
@@ -71,7 +65,7 @@ pub record Does {R : Type 0} (state : R → RevState) (m0 m1 : Machine R) (stmt 
   pub lawful : Lawful (public_of m0.engine) (asked_of m0) stmt (seen_of m1.engine)
   -- want of memory shows how far it got, and nothing of rows
   pub memory : result ≡ Err NoMemory
-      → LacksMemory (public_of m0.engine) stmt (seen_of m1.engine) m0.store m1.store
+      → LacksMemory (public_of m0.engine) stmt (seen_of m1.engine) m0.store m1.store ⊤
   pub seals : KeepsSealed state m0.engine m0.store m1.engine m1.store
   pub means : Means state stmt result m0.engine m0.store m1.engine m1.store
 
@@ -82,7 +76,7 @@ pub record Served {R : Type 0} (state : R → RevState) (m0 m1 : Machine R) (tex
   pub spells : Spells text (Ok stmt)
   pub does : Does state m0 m1 stmt (Ok answer.outcome)
   pub events : List Event
-  pub emits : Emits (answer_labels stmt (public_of m0.engine)) answer.outcome events
+  pub emits : Emits stmt (answer_labels stmt (public_of m0.engine)) answer.outcome events
   pub emitted : (tables : Tables) → ReadsTrue state m0.engine m0.store m1.store tables
       → Emitted stmt (public_of m0.engine) (asked_of m0) tables answer.outcome events
   pub printed : answer.bytes ≡ events_text events ++ closing_line answer.outcome
@@ -121,22 +115,6 @@ Steps state m0 m2 [] answers = (m2 ≡ m0) × (answers ≡ [])
 Steps {R = R} state m0 m2 (text ∷ texts) answers =
     (m1 : Machine R) × (one : Answer) × (more : List Answer) × (answers ≡ one ∷ more)
     × Step state m0 m1 text one × Steps state m1 m2 texts more
-
-unfoldable pub printed : List Answer → List ℕ
-printed [] = []
-printed (answer ∷ answers) = answer.bytes ++ printed answers
-
-unfoldable pub any_refused : List Answer → Bool
-any_refused [] = false
-any_refused (answer ∷ answers) = is_refused answer.outcome || any_refused answers
-
--- it stopped at a sink's fault
-abbrev pub IsSinkFault : Stop → Type 0
-IsSinkFault (Tampered region place) = ⊥
-IsSinkFault SourceFault = ⊥
-IsSinkFault SinkFault = Unit {0}
-IsSinkFault NoMemory = ⊥
-IsSinkFault InputLimit = ⊥
 
 -- nothing was done
 pub record IsUndone {R : Type 0} (m0 m1 : Machine R) (bytes : List ℕ) : Type 0 where

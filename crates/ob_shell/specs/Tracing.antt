@@ -4,6 +4,7 @@ use Rattle.std.specs.Io.KnownBytes.{Appends}
 use Rattle.ob_base.specs.declared.access.Access.{Access}
 use Rattle.ob_print.specs.Cuts.{Cut}
 use Rattle.ob_print.specs.Lines.{trace_text}
+use Rattle.ob_shell.specs.Words.{Took}
 
 -- what is written of accesses with and without the flag
 abbrev pub traced : Bool → List Access → List ℕ
@@ -21,3 +22,7 @@ pub record Traced (tracing : Bool) (asked0 asked1 : List Access) (written0 writt
   pub seen : List Access
   pub grew : asked1 ≡ asked0 ++ seen
   pub cut : Cut written0 written1 Fault (traced tracing seen)
+
+-- the trace took each access that was asked, and maybe more after them
+pub record Traces (tracing : Bool) (written0 written1 : Option (List ℕ)) (asked0 asked1 : List Access) : Type 0 where
+  pub whole : (seen : List Access) → asked1 ≡ asked0 ++ seen → Took written0 written1 (traced tracing seen)

@@ -21,14 +21,15 @@ nameless a = record a { top = record a.top { no_binary_name = true } }
 -- the words of every program: whether the accesses are traced, and the settings
 abbrev pub common : Text → App
 common name =
-    with_rule (with_rule (with_rule (with_rule (with_rule (new_app name)
+    with_rule (with_rule (with_rule (with_rule (with_rule (with_rule (new_app name)
     (flag (codes "trace"))) (valued (codes "buffer"))) (valued (codes "depth")))
     (valued (codes "plan")))
-    (valued (codes "pack"))
+    (valued (codes "pack")))
+    (valued (codes "max-input"))
 
--- of a program over a store that it is given
+-- of a program over a store that it is given, which the words may name
 abbrev pub usage : App
-usage = nameless (common (codes "oblidb"))
+usage = nameless (with_rule (common (codes "oblidb")) (valued (codes "store")))
 
 -- of a program over a store that others change
 abbrev pub meddle_usage : App
@@ -45,6 +46,14 @@ value_of app words name = first_of name (matches_of app words)
 abbrev pub is_set : Option Text → Bool
 is_set None = false
 is_set (Some text) = bytes_eq text (codes "true")
+
+-- the name of the store, where the words give one
+abbrev pub store_of : List Text → Option Text
+store_of words = value_of usage words (codes "store")
+
+-- the name where they give none
+abbrev pub default_store : Text
+default_store = codes "oblidb-store"
 
 -- whether the accesses are to be traced
 abbrev pub is_traced : App → List Text → Bool

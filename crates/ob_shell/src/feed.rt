@@ -53,9 +53,11 @@ impl Feed {
     /// The next byte, or `None` at the end. More is read only once all that was read was handed on.
     pub fn next<S: Source>(&mut self, source: &mut S) -> Result<Option<u8>, Halt>
         ensures lazy { 0 < length self.old.unread → source.new ≡ source.old }
-        ensures fed { Fed self.old self.new (S.left source.old) (S.left source.new) (bytes_of result) }
+        ensures fed { Fed self.old self.new (S.left source.old) (S.left source.new)
+            (bytes_of result) }
         ensures within { self.new.taken ≤ self.new.limit }
-        ensures cause { FetchCause self.new (S.left source.new) (S.faults source.old) (S.faults source.new) result }
+        ensures cause { FetchCause self.new (S.left source.new)
+            (S.faults source.old) (S.faults source.new) result }
     {
         if self.from == self.to {
             let room = self.limit - self.taken;

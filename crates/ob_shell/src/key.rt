@@ -60,7 +60,8 @@ pub fn read_key<S: Source>(feed: &mut Feed, source: &mut S) -> Result<FirstLine,
     requires { feed.old.taken ≤ feed.old.limit }
     ensures read { KeyRead feed.old feed.new (S.left source.old) (S.left source.new) result }
     ensures within { feed.new.taken ≤ feed.new.limit }
-    ensures cause { HaltCause (S.faults source.old) (S.faults source.new) (feed.new.taken) (feed.new.limit) result }
+    ensures cause { HaltCause (S.faults source.old) (S.faults source.new)
+        (feed.new.taken) (feed.new.limit) result }
 {
     let mut line = [0; 66];
     let mut n = 0;

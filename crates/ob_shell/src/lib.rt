@@ -13,12 +13,10 @@ mod words;
 pub use feed::{Feed, Halt};
 pub use key::{FirstLine, read_key};
 pub use laws::{
-    a_first_part_is_asked, a_first_part_is_asked_by_true_reads, a_run_asks_a_trace,
-    a_stop_asks_a_first_part, a_whole_run_is_uncut, answers_are_meant, reruns_ask_the_same,
-    texts_are_pieces, undisturbed_answers_are_meant, undisturbed_sessions_stay_so,
+    reruns_ask_the_same, reruns_show_the_same, shows_its_refusal_alone, texts_are_pieces,
 };
 pub use pending::{Grown, Pending, PushStop};
 pub use session::{Halted, serve};
 pub use top::{Ended, Ending, Report, meddle_top, shell_top};
 pub use trace::trace_from;
-pub use words::{MeddleWords, Words, WordsErr, read_meddle_words, read_words};
+pub use words::{MeddleWords, Words, WordsErr, read_meddle_words, read_words, store_name};

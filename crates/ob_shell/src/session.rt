@@ -2,10 +2,12 @@
 ghost use Rattle.std.specs.Prelude.{◌≡◌, ◌<◌, ◌≤◌, ◌++◌, ℕ, List, [], ◌∷◌, Bool, true, false, Ok, Err, length, OnOk, OnErr, IfOk, IfErr, codes, decimal};
 ghost use Rattle.ob_base.specs.declared.access.Access.{Access};
 ghost use Rattle.ob_shell.specs.Texts.{text_max, is_over, rest_after, texts_at, tail_text};
-ghost use Rattle.ob_shell.specs.Steps.{machine_of, Spells, IsReady, HasBody, AnswersAll, StopsIn};
-ghost use Rattle.ob_shell.specs.Running.{StopCause, SessionRan, faults_of, SinkFailed, SinksRose, IsQuiet, stop_of};
+ghost use Rattle.ob_shell.specs.Steps.{machine_of, IsReady, HasBody, AnswersAll, StopsIn};
+ghost use Rattle.ob_shell.specs.Running.{StopCause, SessionRan, IsQuiet, stop_of};
 ghost use Rattle.ob_shell.specs.Tracing.{TracedAll, Traced};
 ghost use Rattle.ob_shell.specs.Closing;
+ghost use Rattle.ob_shell.specs.Words.{Spells, faults_of, SinksRose};
+ghost use Rattle.ob_shell.specs.Endings.{SinkFailed};
 
 use crate::feed::{Feed, Halt};
 use crate::pending::{Grown, Pending, PushStop};
@@ -337,8 +339,9 @@ pub fn serve<I: Source, R: Revisions, S: BlockStore, K: Sink, T: Sink>(
     trace: &mut T,
 ) -> Result<bool, Halted>
     requires { IsReady R.state (machine_of engine.old (S.state store.old)) }
-    ensures ran { SessionRan R.state feed.old feed.new (I.left input.old) (I.left input.new)
-        (K.written out.old) (K.written out.new)
+    ensures ran { SessionRan R.state tracing feed.old feed.new
+        (I.left input.old) (I.left input.new) (K.written out.old) (K.written out.new)
+        (T.written trace.old) (T.written trace.new)
         (machine_of engine.old (S.state store.old)) (machine_of engine.new (S.state store.new))
         (stop_of result) }
     ensures within { feed.new.taken ≤ feed.new.limit }

@@ -6,11 +6,14 @@ ghost use Rattle.ob_shell.specs.Settings.{AreWithin, IsTaken, settings_of};
 ghost use Rattle.ob_shell.specs.Closed.{LineWritten, Untouched, Unwritten, refused_by};
 ghost use Rattle.ob_shell.specs.Meddling.{Unserved, Meddled};
 ghost use Rattle.ob_shell.specs.KeyLine.{secret_of};
-ghost use Rattle.ob_shell.specs.Running.{faults_of, SinksRose, IsQuiet, stop_of, StopCause};
+ghost use Rattle.ob_shell.specs.Running.{IsQuiet, stop_of, StopCause};
+ghost use Rattle.ob_meddle.specs.Shows.{state_of};
+ghost use Rattle.ob_shell.specs.Headline.{Headline};
 ghost use Rattle.ob_shell.specs.Tracing.{Traced};
 ghost use Rattle.ob_shell.specs.Endings;
 ghost use Rattle.ob_shell.specs.Endings.{SinkStopped};
-ghost use Rattle.ob_shell.specs.Top.{Shown, RanAfter, EndingCause, Reported};
+ghost use Rattle.ob_shell.specs.Top.{EndingCause, RanAfter, Reported, Shown, sink_of};
+ghost use Rattle.ob_shell.specs.Words.{SinksRose, faults_of, outside_of};
 
 use crate::feed::{Feed, Halt};
 use crate::key::{FirstLine, read_key};
@@ -23,7 +26,7 @@ use ob_meddle::MeddledStore;
 use ob_print::{Line, stop_line, write_all};
 use ob_seal::Keys;
 use ob_store::BlockStore;
-use ob_vault::{BaseRevs, Revisions};
+use ob_vault::BaseRevs;
 use std::alloc::Global;
 
 /// How a run ended.
@@ -126,7 +129,8 @@ fn serve_with<I: Source, O: Sink, T: Sink, S: BlockStore>(
     requires within { AreWithin words.config }
     requires taken { feed.old.taken ≤ feed.old.limit }
     requires fresh { (S.state store.old).asked ≡ [] }
-    ensures ran { RanAfter ⟦<BaseRevs as Revisions>⟧.state (Some words.config) (Some key.now)
+    ensures ran { RanAfter (sink_of words.trace (T.written trace.old) (T.written trace.new))
+        (Some words.config) (Some key.now)
         feed.old feed.new
         (I.left input.old) (I.left input.new) (O.written out.old) (O.written out.new)
         (S.state store.old) (S.state store.new) result.1 (stop_of result.0) }
@@ -173,7 +177,8 @@ fn run<I: Source, O: Sink, T: Sink, S: BlockStore>(
 ) -> Ended
     requires within { AreWithin words.config }
     requires fresh { (S.state store.old).asked ≡ [] }
-    ensures shown { Shown ⟦<BaseRevs as Revisions>⟧.state (Some words.config)
+    ensures shown { Shown (sink_of words.trace (T.written trace.old) (T.written trace.new))
+        (Some words.config)
         (I.left input.old) (I.left input.new) (O.written out.old) (O.written out.new)
         (S.state store.old) (S.state store.new)
         result.high result.ending [] (SinkStopped result.ending) }
@@ -243,7 +248,8 @@ fn serve_over<I: Source, O: Sink, T: Sink, S: BlockStore>(
 ) -> Report
     requires within { AreWithin words.config }
     requires fresh { (S.state store.old).asked ≡ [] }
-    ensures reported { Reported ⟦<BaseRevs as Revisions>⟧.state ⊤ (Some words.config)
+    ensures reported { Reported (sink_of words.trace (T.written trace.old) (T.written trace.new))
+        ⊤ (Some words.config)
         (I.left input.old) (I.left input.new) (O.written out.old) (O.written out.new)
         (S.state store.old) (S.state store.new)
         (faults_of (I.faults input.old) (O.faults out.old) (T.faults trace.old))
@@ -267,21 +273,16 @@ pub fn shell_top<I: Source, O: Sink, T: Sink, S: BlockStore>(
     trace: &mut T,
     store: &mut S,
 ) -> Report
-    requires { (S.state store.old).asked ≡ [] }
-    ensures reported { Reported ⟦<BaseRevs as Revisions>⟧.state
-        (IsTaken usage (map string_bytes words.now))
+    requires fresh { (S.state store.old).asked ≡ [] }
+    ensures headline { Headline (IsTaken usage (map string_bytes words.now))
         (settings_of usage (map string_bytes words.now))
-        (I.left input.old) (I.left input.new) (O.written out.old) (O.written out.new)
-        (S.state store.old) (S.state store.new)
-        (faults_of (I.faults input.old) (O.faults out.old) (T.faults trace.old))
-        (faults_of (I.faults input.new) (O.faults out.new) (T.faults trace.new)) result }
+        (is_traced usage (map string_bytes words.now))
+        (outside_of (I.left input.old) (O.written out.old) (T.written trace.old) (S.state store.old)
+        (faults_of (I.faults input.old) (O.faults out.old) (T.faults trace.old)))
+        (outside_of (I.left input.new) (O.written out.new) (T.written trace.new) (S.state store.new)
+        (faults_of (I.faults input.new) (O.faults out.new) (T.faults trace.new))) result }
     ensures refused { ¬ IsTaken usage (map string_bytes words.now) → Untouched
         (I.left input.old) (I.left input.new) (S.state store.old) (S.state store.new) }
-    ensures traced { Traced (is_traced usage (map string_bytes words.now))
-        (S.state store.old).asked (S.state store.new).asked
-        (T.written trace.old) (T.written trace.new) (SinksRose
-        (faults_of (I.faults input.old) (O.faults out.old) (T.faults trace.old))
-        (faults_of (I.faults input.new) (O.faults out.new) (T.faults trace.new))) }
 {
     match read_words(alloc, words) {
         Err(error) => refuse_words(error, out),
@@ -303,11 +304,11 @@ pub fn meddle_top<I: Source, O: Sink, T: Sink>(
         (O.written out.old) (O.written out.new) (T.written trace.old) (T.written trace.new)
         (faults_of (I.faults input.old) (O.faults out.old) (T.faults trace.old))
         (faults_of (I.faults input.new) (O.faults out.new) (T.faults trace.new)) result.0)
-        (λ store. Meddled ⟦<BaseRevs as Revisions>⟧.state (map string_bytes words.now)
-        (I.left input.old) (I.left input.new)
-        (O.written out.old) (O.written out.new) (T.written trace.old) (T.written trace.new)
-        (faults_of (I.faults input.old) (O.faults out.old) (T.faults trace.old))
-        (faults_of (I.faults input.new) (O.faults out.new) (T.faults trace.new)) store result.0) }
+        (λ store. Meddled (map string_bytes words.now)
+        (λ start. (outside_of (I.left input.old) (O.written out.old) (T.written trace.old) start
+        (faults_of (I.faults input.old) (O.faults out.old) (T.faults trace.old))))
+        (outside_of (I.left input.new) (O.written out.new) (T.written trace.new) (state_of store)
+        (faults_of (I.faults input.new) (O.faults out.new) (T.faults trace.new))) store result.0) }
 {
     match read_meddle_words(alloc, words) {
         Err(error) => (refuse_words(error, out), None),

@@ -14,8 +14,10 @@ use ob_store::BlockStore;
 /// Writes the accesses from a place on.
 fn write_trace<S: BlockStore, T: Sink>(store: &S, from: u64, trace: &mut T) -> Result<(), Failed>
     requires { from ≤ length (S.state store.now).asked }
-    ensures ok { OnOk result (Appends (T.written trace.old) (T.written trace.new) (trace_text (drop from (S.state store.now).asked))) }
-    ensures cut { Cut (T.written trace.old) (T.written trace.new) (IsErr result) (trace_text (drop from (S.state store.now).asked)) }
+    ensures ok { OnOk result (Appends (T.written trace.old) (T.written trace.new)
+        (trace_text (drop from (S.state store.now).asked))) }
+    ensures cut { Cut (T.written trace.old) (T.written trace.new) (IsErr result)
+        (trace_text (drop from (S.state store.now).asked)) }
     ensures cause { HasCause (T.faults trace.old) (T.faults trace.new) result }
 {
     let end = store.count();
@@ -36,8 +38,10 @@ pub fn trace_from<S: BlockStore, T: Sink>(
     trace: &mut T,
 ) -> Result<(), Failed>
     requires { from ≤ length (S.state store.now).asked }
-    ensures ok { OnOk result (Appends (T.written trace.old) (T.written trace.new) (traced tracing (drop from (S.state store.now).asked))) }
-    ensures cut { Cut (T.written trace.old) (T.written trace.new) (IsErr result) (traced tracing (drop from (S.state store.now).asked)) }
+    ensures ok { OnOk result (Appends (T.written trace.old) (T.written trace.new)
+        (traced tracing (drop from (S.state store.now).asked))) }
+    ensures cut { Cut (T.written trace.old) (T.written trace.new) (IsErr result)
+        (traced tracing (drop from (S.state store.now).asked)) }
     ensures cause { HasCause (T.faults trace.old) (T.faults trace.new) result }
 {
     if tracing {

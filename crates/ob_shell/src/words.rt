@@ -6,16 +6,21 @@ ghost use Rattle.clap.specs.declared.error.kind.ErrorKind.TheVariants.{OutOfMemo
 ghost use Rattle.ob_meddle.specs.Changes.{number};
 ghost use Rattle.ob_shell.specs.Settings.{AreWithin, at_least, number_in, plan_in, settings_by};
 ghost use Rattle.ob_shell.specs.Settings.{ParsesAs, IsTaken, ParsesChanges, MeddleParses};
+ghost use Rattle.clap.specs.Words.{Text};
 ghost use Rattle.ob_shell.specs.Usage.{common, usage, meddle_usage, flag, valued, is_set, is_traced, changes_in};
+ghost use Rattle.ob_shell.specs.Usage.{default_store, store_of};
 
 use clap::error::ErrorKind;
 use clap::{Arg, ArgAction, ArgMatches, Command, Error};
-use ob_base::{Config, Plan};
+use ob_base::{Config, NoMemory, Plan};
 use ob_meddle::{ChangesErr, Meddle, parse_changes};
 use std::alloc::{AllocError, Global};
 
-/// The bytes of the input that are read, at most.
-const INPUT_LIMIT: u64 = 1_073_741_824;
+/// The bytes of the input that are read, at most, where the words don't say.
+const INPUT_LIMIT: u32 = 1_073_741_824;
+
+/// The name of the store, where the words give none.
+const STORE: &str = "oblidb-store";
 
 /// Why the words were not read.
 #[derive(Clone, Copy, Debug, PartialEq, Eq)]
@@ -63,13 +68,14 @@ fn common<'a>(alloc: Global, name: &'a str) -> Result<Command<'a>, AllocError>
         .arg(valued(alloc, "buffer"))?
         .arg(valued(alloc, "depth"))?
         .arg(valued(alloc, "plan"))?
-        .arg(valued(alloc, "pack"))
+        .arg(valued(alloc, "pack"))?
+        .arg(valued(alloc, "max-input"))
 }
 
 fn command<'a>(alloc: Global) -> Result<Command<'a>, AllocError>
     ensures { IfOk result (λ c. app_of c ≡ usage) }
 {
-    let command = common(alloc, "oblidb")?;
+    let command = common(alloc, "oblidb")?.arg(valued(alloc, "store"))?;
     Ok(command.no_binary_name(true))
 }
 
@@ -147,6 +153,16 @@ fn plan_in(value: Option<&str>) -> Option<Option<Plan>>
     }
 }
 
+// A text of its own.
+fn copied(alloc: Global, text: &str) -> Result<String, NoMemory>
+    ensures { IfOk result (λ s. string_bytes s ≡ text.now) }
+{
+    match String::from_str(alloc, text) {
+        Ok(copy) => Ok(copy),
+        Err(_) => Err(NoMemory),
+    }
+}
+
 // The settings that the values spell.
 fn settings(matches: &ArgMatches) -> Option<Config>
     ensures settings { result ≡ settings_by (first_value (found_of matches.now)) }
@@ -156,6 +172,7 @@ fn settings(matches: &ArgMatches) -> Option<Config>
     let depth = number_in(1, 8, 5, matches.get_str("depth"))?;
     let plan = plan_in(matches.get_str("plan"))?;
     let pack = number_in(1, 16, 1, matches.get_str("pack"))?;
+    let max_input = number_in(1024, INPUT_LIMIT, INPUT_LIMIT, matches.get_str("max-input"))?;
     if buffer < 3 * pack + 1 {
         return None;
     }
@@ -164,7 +181,7 @@ fn settings(matches: &ArgMatches) -> Option<Config>
         depth: depth as u8,
         pack: pack as u8,
         plan,
-        max_input: INPUT_LIMIT,
+        max_input: max_input as u64,
     })
 }
 
@@ -230,5 +247,34 @@ pub fn read_meddle_words(alloc: Global, words: &[String]) -> Result<MeddleWords,
             changes,
         }),
         Err(error) => Err(error),
+    }
+}
+
+/// The name of the store that the words of a program over a store give, the program's name left out; `oblidb-store`
+/// where they give none, and where they are none that the program takes.
+pub fn store_name(alloc: Global, words: &[String]) -> Result<String, NoMemory>
+    ensures named { (name : Text) → IsTaken usage (map string_bytes words.now)
+        → store_of (map string_bytes words.now) ≡ Some name
+        → IfOk result (λ s. string_bytes s ≡ name) }
+    ensures unnamed { (IsTaken usage (map string_bytes words.now)
+        → store_of (map string_bytes words.now) ≡ None)
+        → IfOk result (λ s. string_bytes s ≡ default_store) }
+{
+    let Ok(command) = command(alloc) else {
+        return Err(NoMemory);
+    };
+    let matches = match command.try_get_matches_from(words) {
+        Ok(matches) => matches,
+        Err(error) => match words_err(&error) {
+            WordsErr::NoMemory => return Err(NoMemory),
+            WordsErr::Usage => return copied(alloc, STORE),
+        },
+    };
+    let Some(_) = settings(&matches) else {
+        return copied(alloc, STORE);
+    };
+    match matches.get_str("store") {
+        Some(name) => copied(alloc, name),
+        None => copied(alloc, STORE),
     }
 }

@@ -1,6 +1,7 @@
 //! Whole sessions over stores in memory, against worked answers and accesses.
 #![tactic(auto)]
 
+mod alike;
 #[cfg(test)]
 mod blocks;
 #[cfg(test)]
@@ -15,3 +16,5 @@ mod session;
 mod streams;
 #[cfg(test)]
 mod words;
+
+pub use alike::sessions_ask_the_same;

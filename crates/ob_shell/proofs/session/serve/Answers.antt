@@ -18,25 +18,25 @@ bytes-init g c = record {
 pub returns-in-Err-SourceFault-clause-ran : goal.returns-in-Err-SourceFault-clause-ran
 returns-in-Err-SourceFault-clause-ran g c =
     let fetch = rw c.in-Err-SourceFault.field-0-is at c.in-Err-SourceFault.ensures in
-    ran_source_fault (so_far_end c.bytes.invariant.so_far fetch.fed) fetch.cause.1 c.bytes.invariant.short
+    ran_source_fault (so_far_end c.bytes.invariant.so_far fetch.fed) fetch.cause.1 c.bytes.invariant.short c.bytes.invariant.traced
 
 pub returns-in-Err-InputLimit-clause-ran : goal.returns-in-Err-InputLimit-clause-ran
 returns-in-Err-InputLimit-clause-ran g c =
     let fetch = rw c.in-Err-InputLimit.field-0-is at c.in-Err-InputLimit.ensures in
-    ran_input_limit (so_far_end c.bytes.invariant.so_far fetch.fed) fetch.cause.1 fetch.cause.2
+    ran_input_limit (so_far_end c.bytes.invariant.so_far fetch.fed) fetch.cause.1 fetch.cause.2 c.bytes.invariant.traced
 
 pub returns-in-Ok-None-clause-ran : goal.returns-in-Ok-None-clause-ran
 returns-in-Ok-None-clause-ran g c =
     let fetch = rw c.in-Ok-None.field-0-is at c.in-Ok-None.ensures in
     let done = c.finish.ensures in
     ran_finish c.finish.result (so_far_end c.bytes.invariant.so_far fetch.fed) fetch.cause.1 fetch.cause.2 fetch.cause.3
-    c.bytes.invariant.short done.answered done.stopped done.source done.limit
+    c.bytes.invariant.short done.answered done.stopped done.source done.limit _ c.bytes.invariant.traced done.traced done.traced_stop
 
 pub returns-in-Err-clause-ran : goal.returns-in-Err-clause-ran
 returns-in-Err-clause-ran g c =
     let fetch = rw c.in-Ok-Some.field-0-is at c.in-Ok-Some.ensures in
     let turn = c.in-Err.ensures in
-    ran_turn c.in-Err.halted.stop c.bytes.invariant.so_far fetch.fed turn.stopped turn.source turn.limit
+    ran_turn c.in-Err.halted.stop c.bytes.invariant.so_far fetch.fed turn.stopped turn.source turn.limit _ c.bytes.invariant.traced turn.traced_stop
 
 pub bytes-smaller : goal.bytes-smaller
 bytes-smaller g c =

@@ -1,3 +1,4 @@
+use Rattle.std.proofs.Common.{refl}
 use Rattle.ob_shell.specs.Running.{stop_of}
 use Rattle.ob_shell.proofs.TopLemmas.{shown_source_fault, shown_bad_key, shown_last, shown_ran}
 use Rattle.ob_shell.proofs.TraceLemmas.{traced_none, traced_whole}
@@ -7,13 +8,23 @@ pub returns-in-Err-SourceFault-clause-shown : goal.returns-in-Err-SourceFault-cl
 returns-in-Err-SourceFault-clause-shown g c =
     let new = c.new-feed.ensures in
     let read = rw c.in-Err-SourceFault.field-0-is at c.in-Err-SourceFault.ensures in
-    rw c.ended_at.ensures (shown_source_fault _ _ _ _ new.unread new.taken new.limit read.within _ _ read.read)
+    rw c.ended_at.ensures (shown_source_fault _ refl _ _ _ new.unread new.taken new.limit read.within _ _
+    (record {
+      unasked = c.requires.fresh;
+      honest = g.met.S.BlockStore.starts_honest c.args.store.now c.requires.fresh;
+      empty = λ q. g.met.S.BlockStore.starts_empty c.args.store.now q c.requires.fresh;
+    }) read.read)
 
 pub returns-in-Ok-Bad-clause-shown : goal.returns-in-Ok-Bad-clause-shown
 returns-in-Ok-Bad-clause-shown g c =
     let new = c.new-feed.ensures in
     let read = rw c.in-Ok-Bad.field-0-is at c.in-Ok-Bad.ensures in
-    rw c.ended_at-in-Ok-Bad.ensures (shown_bad_key _ _ _ _ new.unread new.taken new.limit read.within _ _ read.read)
+    rw c.ended_at-in-Ok-Bad.ensures (shown_bad_key _ refl _ _ _ new.unread new.taken new.limit read.within _ _
+    (record {
+      unasked = c.requires.fresh;
+      honest = g.met.S.BlockStore.starts_honest c.args.store.now c.requires.fresh;
+      empty = λ q. g.met.S.BlockStore.starts_empty c.args.store.now q c.requires.fresh;
+    }) read.read)
 
 pub returns-in-Err-SourceFault-clause-traced : goal.returns-in-Err-SourceFault-clause-traced
 returns-in-Err-SourceFault-clause-traced g c = traced_whole _ (traced_none _ _ _)
@@ -25,7 +36,12 @@ pub returns-in-Ok-Last-clause-shown : goal.returns-in-Ok-Last-clause-shown
 returns-in-Ok-Last-clause-shown g c =
     let new = c.new-feed.ensures in
     let read = rw c.in-Ok-Last.field-0-is at c.in-Ok-Last.ensures in
-    rw c.ended_at-in-Ok-Last.ensures (shown_last _ _ _ _ new.unread new.taken new.limit read.within _ _ _ read.read)
+    rw c.ended_at-in-Ok-Last.ensures (shown_last _ refl _ _ _ new.unread new.taken new.limit read.within _ _ _
+    (record {
+      unasked = c.requires.fresh;
+      honest = g.met.S.BlockStore.starts_honest c.args.store.now c.requires.fresh;
+      empty = λ q. g.met.S.BlockStore.starts_empty c.args.store.now q c.requires.fresh;
+    }) read.read)
 
 pub returns-in-Ok-Last-clause-traced : goal.returns-in-Ok-Last-clause-traced
 returns-in-Ok-Last-clause-traced g c = traced_whole _ (traced_none _ _ _)

@@ -18,4 +18,7 @@ returns c =
     c.in_ok-arg-3.ensures.shape c.valued-2.ensures.local ∙ ap₂ with_rule second c.valued-2.ensures.rule in
     let fourth : app_of c.in_ok-arg-4.field-0 ≡ four =
     c.in_ok-arg-4.ensures.shape c.valued-3.ensures.local ∙ ap₂ with_rule third c.valued-3.ensures.rule in
-    adds_last c.arg-5.result _ _ _ c.valued-4.ensures.local (ap₂ with_rule fourth c.valued-4.ensures.rule) c.arg-5.ensures
+    let five : App = with_rule four (valued (codes "pack")) in
+    let fifth : app_of c.in_ok-arg-5.field-0 ≡ five =
+    c.in_ok-arg-5.ensures.shape c.valued-4.ensures.local ∙ ap₂ with_rule fourth c.valued-4.ensures.rule in
+    adds_last c.arg-6.result _ _ _ c.valued-5.ensures.local (ap₂ with_rule fifth c.valued-5.ensures.rule) c.arg-6.ensures

@@ -6,7 +6,8 @@ use Rattle.ob_exec.specs.declared.engine.Engine.{Engine}
 use Rattle.ob_exec.specs.declared.outcome.Outcome.{Outcome}
 use Rattle.ob_exec.specs.declared.selecting.Selected.{Selected}
 use Rattle.ob_exec.specs.Running.{answer_of, is_stop}
-use Rattle.ob_exec.proofs.RowsEnds.{serves_as, serves_ended}
+use Rattle.ob_exec.proofs.RowsEnds.{serves_ended}
+use Rattle.ob_exec.proofs.ServeLemmas.{serves_same}
 use Rattle.ob_exec.proofs.RowsFound.{source_is}
 use Rattle.ob_exec.proofs.RowsReach.{stops_closing}
 use Rattle.ob_exec.proofs.RowsRun.{rows_after}
@@ -31,7 +32,7 @@ returns-in-Ok-close_answer g c =
     let engine : c.finish_seen.new.self ≡ rows_after old v room now old.ended =
     c.finish_seen.ensures.seen ∙ ap (λ (e : Engine g.row.R.Denot). record e { seen = now; public = record e.public { next_region = e.vault.next } }) c.in-Ok.ensures.frame in
     record {
-      serves = serves_as state g.E.Emit.grew g.E.Emit.cut g.E.Emit.faults (RowsStmt select) old s t c.args.out.now c.close_answer.new.out _ _ _ _
+      serves = serves_same state g.E.Emit.grew g.E.Emit.cut g.E.Emit.faults (RowsStmt select) old s t c.args.out.now c.close_answer.new.out _ _ _ _
           (ap (λ (o : Outcome). Ok o) (c.finish_seen.ensures.answer ∙ c.outcome_of.ensures)) engine serves;
     }
 
@@ -59,7 +60,7 @@ returns-in-Err-close_answer g c =
     c.cut_seen.ensures.seen
     ∙ ap (λ (x : Engine g.row.R.Denot). record x { seen = record now { end = Cut n }; public = record x.public { next_region = x.vault.next }; ended = is_stop (answer_of e) }) c.in-Ok.ensures.frame in
     record {
-      serves = serves_as state g.E.Emit.grew g.E.Emit.cut g.E.Emit.faults (RowsStmt select) old s t c.args.out.now c.close_answer.new.out _ _ _ _ c.cut_seen.ensures.answer engine serves;
+      serves = serves_same state g.E.Emit.grew g.E.Emit.cut g.E.Emit.faults (RowsStmt select) old s t c.args.out.now c.close_answer.new.out _ _ _ _ c.cut_seen.ensures.answer engine serves;
     }
 
 pub returns-in-Err : goal.returns-in-Err
@@ -83,5 +84,5 @@ returns-in-Err g c =
     c.cut_seen-in-Err.ensures.seen
     ∙ ap (λ (x : Engine g.row.R.Denot). record x { seen = record now { end = Cut n }; public = record x.public { next_region = x.vault.next }; ended = is_stop (answer_of e) }) c.in-Err.ensures.frame in
     record {
-      serves = serves_as state g.E.Emit.grew g.E.Emit.cut g.E.Emit.faults (RowsStmt select) old s t c.args.out.now c.select_source.new.out _ _ _ _ c.cut_seen-in-Err.ensures.answer engine serves;
+      serves = serves_same state g.E.Emit.grew g.E.Emit.cut g.E.Emit.faults (RowsStmt select) old s t c.args.out.now c.select_source.new.out _ _ _ _ c.cut_seen-in-Err.ensures.answer engine serves;
     }

@@ -1,3 +1,4 @@
+use Rattle.std.specs.Int.{div_ceil}
 use Rattle.std.proofs.Common.{◌≡◌, ◌-◌, length, Ok, Err, sym, ◌∙◌, ap, subst, append-nil}
 use Rattle.ob_base.specs.Limits.{buffered}
 use Rattle.ob_base.specs.Stored.{has_table, headings_of}
@@ -12,7 +13,8 @@ use Rattle.ob_exec.specs.Totalling.{Totals}
 use Rattle.ob_exec.proofs.FoundLemmas.{is_there}
 use Rattle.ob_exec.proofs.CreateLemmas.{at_ok}
 use Rattle.ob_exec.proofs.RunLemmas.{rests_refl}
-use Rattle.ob_exec.proofs.TotalsServed.{may_total, serves_as, serves_cut, serves_done, serves_none}
+use Rattle.ob_exec.proofs.ServeLemmas.{serves_same}
+use Rattle.ob_exec.proofs.TotalsServed.{may_total, serves_cut, serves_done, serves_none}
 use Rattle.ob_exec.proofs.engine.Engine.select_totals.Goals as goal
 
 pub table_at-flat-requires : goal.table_at-flat-requires
@@ -29,7 +31,7 @@ returns-in_default g c =
     let found = c.table_at-flat.ensures in
     record {
       serves =
-          serves_as g.R.Revisions.state emit.grew emit.cut emit.faults (TotalsStmt c.args.select.now) c.args.self.now s s c.args.out.now c.args.out.now _ _ _ _ c.cut.ensures.answer c.cut.ensures.seen
+          serves_same g.R.Revisions.state emit.grew emit.cut emit.faults (TotalsStmt c.args.select.now) c.args.self.now s s c.args.out.now c.args.out.now _ _ _ _ c.cut.ensures.answer c.cut.ensures.seen
           (serves_none g.R.Revisions.state emit.grew emit.cut emit.faults g.met.E.Emit.starts c.args.self.now s s c.args.select.now c.table_at-flat.result.0 found.table c.requires.agrees (rests_refl s) found.here
           c.requires.allowed c.args.out.now);
     }
@@ -38,13 +40,13 @@ pub returns-then-is_err : goal.returns-then-is_err
 returns-then-is_err g c =
     let emit = g.E.Emit in
     let s = g.S.BlockStore.state c.args.store.now in
-    let s1 = g.S.BlockStore.state c.make_room.new.store in
+    let s1 = g.S.BlockStore.state c.room.new.self in
     let found = c.table_at-flat.ensures in
     record {
       serves =
-          serves_as g.R.Revisions.state emit.grew emit.cut emit.faults (TotalsStmt c.args.select.now) c.args.self.now s s1 c.args.out.now c.args.out.now _ _ _ _
+          serves_same g.R.Revisions.state emit.grew emit.cut emit.faults (TotalsStmt c.args.select.now) c.args.self.now s s1 c.args.out.now c.args.out.now _ _ _ _
           c.cut-then-is_err.ensures.answer c.cut-then-is_err.ensures.seen
-          (serves_none g.R.Revisions.state emit.grew emit.cut emit.faults g.met.E.Emit.starts c.args.self.now s s1 c.args.select.now c.table_at-flat.result.0 found.table c.requires.agrees c.make_room.ensures.rests found.here
+          (serves_none g.R.Revisions.state emit.grew emit.cut emit.faults g.met.E.Emit.starts c.args.self.now s s1 c.args.select.now c.table_at-flat.result.0 found.table c.requires.agrees c.room.ensures.rests found.here
           c.requires.allowed c.args.out.now);
     }
 
@@ -53,10 +55,11 @@ answer_totals-requires g c =
     let found = c.table_at-flat.ensures in
     record {
       may =
-          may_total g.R.Revisions.state g.E.Emit.grew g.E.Emit.cut g.E.Emit.faults g.met.E.Emit.starts c.args.self.now (g.S.BlockStore.state c.args.store.now) (g.S.BlockStore.state c.make_room.new.store)
-          c.args.select.now c.table_at-flat.result.0 found.table c.requires.agrees c.make_room.ensures.rests found.here c.requires.allowed c.table_at-flat.result.1 c.in-Ok.pred found.is
+          may_total g.R.Revisions.state g.E.Emit.grew g.E.Emit.cut g.E.Emit.faults g.met.E.Emit.starts c.args.self.now (g.S.BlockStore.state c.args.store.now) (g.S.BlockStore.state c.room.new.self)
+          c.args.select.now c.table_at-flat.result.0 found.table c.requires.agrees c.room.ensures.rests found.here c.requires.allowed c.table_at-flat.result.1 c.in-Ok.pred found.is
           (c.in-Ok.ensures ∙ ap (where_at c.args.select.now.cond) (append-nil c.as_slice.result.now ∙ c.as_slice.ensures.value))
-          (at_ok c.make_room.result _ (sym c.is_err.ensures.value ∙ c.if-is_err.false) c.make_room.ensures.spare);
+          c.from-2.result (c.from-2.ensures ∙ c.div_ceil-blocks.ensures ∙ (λ j. div_ceil c.table_at-flat.result.1.capacity (c.from.ensures j)))
+          (at_ok c.room.result _ (sym c.is_err.ensures.value ∙ c.if-is_err.false) c.room.ensures.spare);
     }
 
 pub returns-in-Ok-answer_totals : goal.returns-in-Ok-answer_totals
@@ -65,7 +68,7 @@ returns-in-Ok-answer_totals g c =
     let old = c.args.self.now in
     let state = g.R.Revisions.state in
     let s = g.S.BlockStore.state c.args.store.now in
-    let s1 = g.S.BlockStore.state c.make_room.new.store in
+    let s1 = g.S.BlockStore.state c.room.new.self in
     let t = g.S.BlockStore.state c.answer_totals.new.store in
     let found = c.table_at-flat.ensures in
     let q = c.args.select.now in
@@ -74,8 +77,8 @@ returns-in-Ok-answer_totals g c =
     c.args.out.now c.answer_totals.new.out) found.is c.in-Ok-answer_totals.ensures.totals in
     record {
       serves =
-          serves_as state emit.grew emit.cut emit.faults (TotalsStmt q) old s t c.args.out.now c.answer_totals.new.out _ _ _ _ (ap (λ (o : Outcome). Ok o) c.finish.ensures.answer) c.finish.ensures.seen
-          (serves_done state emit.grew emit.cut emit.faults g.met.E.Emit.starts old s s1 q c.table_at-flat.result.0 found.table c.requires.agrees c.make_room.ensures.rests found.here c.requires.allowed
+          serves_same state emit.grew emit.cut emit.faults (TotalsStmt q) old s t c.args.out.now c.answer_totals.new.out _ _ _ _ (ap (λ (o : Outcome). Ok o) c.finish.ensures.answer) c.finish.ensures.seen
+          (serves_done state emit.grew emit.cut emit.faults g.met.E.Emit.starts old s s1 q c.table_at-flat.result.0 found.table c.requires.agrees c.room.ensures.rests found.here c.requires.allowed
           c.answer_totals.new.vault c.answer_totals.new.room t c.answer_totals.ensures.room c.args.out.now c.answer_totals.new.out c.in-Ok-answer_totals.outcome c.requires.lives totals);
     }
 
@@ -85,7 +88,7 @@ returns g c =
     let old = c.args.self.now in
     let state = g.R.Revisions.state in
     let s = g.S.BlockStore.state c.args.store.now in
-    let s1 = g.S.BlockStore.state c.make_room.new.store in
+    let s1 = g.S.BlockStore.state c.room.new.self in
     let t = g.S.BlockStore.state c.answer_totals.new.store in
     let found = c.table_at-flat.ensures in
     let q = c.args.select.now in
@@ -96,7 +99,7 @@ returns g c =
     c.args.out.now c.answer_totals.new.out) found.is c.in-Err.ensures.totals in
     record {
       serves =
-          serves_as state emit.grew emit.cut emit.faults (TotalsStmt q) old s t c.args.out.now c.answer_totals.new.out _ _ _ _ c.cut-in-Err.ensures.answer c.cut-in-Err.ensures.seen
-          (serves_cut state emit.grew emit.cut emit.faults g.met.E.Emit.starts old s s1 q c.table_at-flat.result.0 found.table c.requires.agrees c.make_room.ensures.rests found.here c.requires.allowed
+          serves_same state emit.grew emit.cut emit.faults (TotalsStmt q) old s t c.args.out.now c.answer_totals.new.out _ _ _ _ c.cut-in-Err.ensures.answer c.cut-in-Err.ensures.seen
+          (serves_cut state emit.grew emit.cut emit.faults g.met.E.Emit.starts old s s1 q c.table_at-flat.result.0 found.table c.requires.agrees c.room.ensures.rests found.here c.requires.allowed
           c.answer_totals.new.vault c.answer_totals.new.room t c.answer_totals.ensures.room c.args.out.now c.answer_totals.new.out c.in-Err.error n count totals);
     }

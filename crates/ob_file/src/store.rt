@@ -1,0 +1,190 @@
+//! The store.
+ghost use Rattle.std.specs.Prelude.{◌≡◌, ◌≤◌, ℕ, [], None, refl, false, length, take};
+ghost use Rattle.std.specs.Ordering.{nat_cmp};
+ghost use Rattle.std.specs.BTreeMap.{get};
+ghost use Rattle.ob_store.specs.Logs.{asked_of};
+ghost use Rattle.ob_file.specs.Regions.{IsFresh, fresh_live, shape_of};
+
+use crate::region::{Region, create, read, write};
+use ob_base::{Access, Failed, NoMemory, StoreErr};
+use ob_store::{BlockStore, Log};
+use std::alloc::Global;
+use std::collections::BTreeMap;
+use std::fs;
+use std::os::unix::fs::FileExt;
+use std::rt::Files;
+
+/// The most bytes that a block has.
+const LONGEST: usize = 16416;
+
+/// A store that keeps each region in a file of its own, `NAME.REGION`, block by block from the first byte on. A file
+/// is open for as long as its region lives. What the files hold is not told: others may change them at any time.
+///
+/// Each error of a file, and a file that is too short, is `Failed`.
+#[derive(Drop)]
+pub struct FileStore<'a, R: Files> {
+    alloc: Global,
+    files: &'a R,
+    name: String,
+    log: Log,
+    regions: BTreeMap<u64, Region<R::File>>,
+    faults: u64,
+    slips: u64,
+    given: [u8; 16416],
+    given_len: usize,
+    ghost fresh: { IsFresh (asked_of log) regions },
+    ghost short: { given_len ≤ 16416 },
+}
+
+// Copies a block to the beginning of a buffer.
+fn keep(buffer: &mut [u8], block: &[u8])
+    requires { length block.now ≤ length buffer.old }
+    ensures kept { take (length block.now) buffer.new ≡ block.now }
+    ensures size { length buffer.new ≡ length buffer.old }
+{
+    buffer[..block.len()].copy_from_slice(block);
+}
+
+impl<'a, R: Files> FileStore<'a, R> {
+    /// A store of which nothing was asked, whose files have names that begin with this one and a dot. It takes its
+    /// memory of `alloc`.
+    #[tactic(auto, unfolding(ob_store::specs::Logs::spelt))]
+    pub fn new(alloc: Global, files: &'a R, name: String) -> FileStore<'a, R>
+    where
+        R::File: FileExt,
+        ensures { (⟦<FileStore<'a, R> as BlockStore>⟧.state result).asked ≡ [] }
+    {
+        FileStore {
+            alloc,
+            files,
+            name,
+            log: Log::new(alloc),
+            regions: BTreeMap::new(alloc),
+            faults: 0,
+            slips: 0,
+            given: [0; 16416],
+            given_len: 0,
+        }
+    }
+
+    // The path of a region's file.
+    fn path_of(&self, region: u64) -> Result<String, NoMemory> {
+        match format!(in self.alloc; "{}.{}", self.name, region) {
+            Ok(path) => Ok(path),
+            Err(_) => Err(NoMemory),
+        }
+    }
+}
+
+impl<'a, R: Files> BlockStore for FileStore<'a, R>
+where
+    R::File: FileExt,
+{
+    ghost state = { λ m. record {
+      asked = asked_of m.log;
+      spare = m.log.spare;
+      faults = m.faults;
+      slips = m.slips;
+      live = λ r. shape_of (get nat_cmp m.regions r);
+      tells = false;
+      last = λ r p. None;
+      lie = None;
+      gave = take m.given_len m.given;
+      disturbed = None;
+    } };
+
+    ghost starts_empty = { λ m r none. fresh_live (asked_of m.log) m.regions m.fresh none r };
+
+    ghost starts_honest = { λ m none. refl };
+
+    ghost starts_steady = { λ m none. record {
+      quiet = λ before. absurd before;
+      lied = λ lie is. absurd (cc is);
+    } };
+
+    fn room(&mut self, n: u64) -> Result<(), NoMemory> {
+        self.log.room(n)
+    }
+
+    fn make(&mut self, region: u64, blocks: u32, len: u32) -> Result<(), StoreErr> {
+        self.log.push(Access::Make {
+            region,
+            blocks,
+            len,
+        });
+        let Ok(path) = self.path_of(region) else {
+            return Err(StoreErr::NoMemory);
+        };
+        let Ok(file) = create(self.files, path.as_str()) else {
+            self.faults = self.faults.saturating_add(1);
+            return Err(StoreErr::Failed);
+        };
+        let made = Region {
+            path,
+            file,
+            blocks,
+            len,
+        };
+        match self.regions.insert(region, made) {
+            Ok(_) => Ok(()),
+            Err(unmade) => {
+                let (_, left) = unmade.value;
+                let _ = fs::remove_file(self.files, left.path.as_str());
+                Err(StoreErr::NoMemory)
+            }
+        }
+    }
+
+    fn read(&mut self, region: u64, place: u32, buf: &mut [u8]) -> Result<(), Failed> {
+        self.log.push(Access::Read { region, place });
+        let done = match self.regions.get(&region) {
+            Some(found) => read(&found.file, place, buf),
+            None => unreachable!(),
+        };
+        match done {
+            Ok(()) => {
+                keep(&mut self.given, buf);
+                self.given_len = buf.len();
+                Ok(())
+            }
+            Err(Failed) => {
+                self.faults = self.faults.saturating_add(1);
+                Err(Failed)
+            }
+        }
+    }
+
+    fn write(&mut self, region: u64, place: u32, block: &[u8]) -> Result<(), Failed> {
+        self.log.push(Access::Write { region, place });
+        let done = match self.regions.get(&region) {
+            Some(found) => write(&found.file, place, block),
+            None => unreachable!(),
+        };
+        if done.is_err() {
+            self.faults = self.faults.saturating_add(1);
+        }
+        done
+    }
+
+    fn discard(&mut self, region: u64) -> Result<(), Failed> {
+        self.log.push(Access::Discard { region });
+        let Some(gone) = self.regions.remove(&region) else {
+            unreachable!();
+        };
+        match fs::remove_file(self.files, gone.path.as_str()) {
+            Ok(()) => Ok(()),
+            Err(_) => {
+                self.slips = self.slips.saturating_add(1);
+                Err(Failed)
+            }
+        }
+    }
+
+    fn count(&self) -> u64 {
+        self.log.count()
+    }
+
+    fn nth(&self, i: u64) -> Access {
+        self.log.nth(i)
+    }
+}

@@ -1,0 +1,74 @@
+-- The headline, by what the run was reported to have done.
+use Rattle.std.proofs.Common.{◌≡◌, ℕ, Bool, List, [], ◌++◌, Option, Ok, Err, sym, ◌∙◌, ap, subst}
+use Rattle.ob_base.specs.declared.access.Access.{Access}
+use Rattle.ob_base.specs.declared.config.Config.{Config}
+use Rattle.ob_base.specs.declared.refusal.Stop.TheVariants.{Tampered, SourceFault, SinkFault, NoMemory, InputLimit}
+use Rattle.ob_print.specs.Cuts.{Cut}
+use Rattle.ob_shell.specs.Headline.{Headline}
+use Rattle.ob_shell.specs.Top.{EndingFlag, EndingSays, EndingWords, EndsUntampered, Reported, StatusCause, sink_of}
+use Rattle.ob_shell.specs.Tracing.{Traced, traced}
+use Rattle.ob_shell.specs.Words.{Answer, Because, IsHonest, Outside, SinksRose}
+use Rattle.ob_shell.specs.declared.top.Ending.{Ending}
+use Rattle.ob_shell.specs.declared.top.Ending.TheVariants.{Usage, BadKey, Ran}
+use Rattle.ob_shell.specs.declared.top.Report.{Report}
+
+-- why it ends so
+because : (ending : Ending) (Takes : Type 0) (max : ℕ) (taken : List ℕ) (ended : Bool) (more : List (List ℕ)) (answers : List Answer) (part : List ℕ) (old new : Outside)
+    → EndingWords ending Takes → EndingFlag ending answers → EndingSays ending max taken new.left ended more part → StatusCause ending old.faults new.faults
+    → (IsHonest old.store new.store → EndsUntampered ending) → Because ending Takes max taken ended more answers part old new
+because Usage Takes max taken ended more answers part old new takes flag says cause honest = (takes, says, cause)
+because BadKey Takes max taken ended more answers part old new takes flag says cause honest = (takes, says.0, says.1, cause)
+because (Ran (Ok refused)) Takes max taken ended more answers part old new takes flag says cause honest = (takes, flag, says, cause)
+because (Ran (Err (Tampered region place))) Takes max taken ended more answers part old new takes flag says cause honest = (takes, says, honest, cause)
+because (Ran (Err SourceFault)) Takes max taken ended more answers part old new takes flag says cause honest = (takes, says, cause)
+because (Ran (Err SinkFault)) Takes max taken ended more answers part old new takes flag says cause honest = (takes, says, cause.1, cause.0)
+because (Ran (Err NoMemory)) Takes max taken ended more answers part old new takes flag says cause honest = cause
+because (Ran (Err InputLimit)) Takes max taken ended more answers part old new takes flag says cause honest = (takes, says, cause)
+
+pub headlined : (Takes : Type 0) (settings : Option Config) (tracing : Bool) (old new : Outside) (report : Report) → old.store.asked ≡ []
+    → Reported (sink_of tracing old.traced new.traced) Takes settings old.left new.left old.written new.written old.store new.store old.faults new.faults report
+    → Traced tracing old.store.asked new.store.asked old.traced new.traced (SinksRose old.faults new.faults)
+    → Headline Takes settings tracing old new report
+headlined Takes settings tracing old new report fresh r traces =
+    let shown = r.shown in
+    let run = shown.carried in
+    record {
+      taken = shown.taken;
+      given = shown.given;
+      within = shown.within;
+      ended = shown.ended;
+      at_end = shown.at_end;
+      served = shown.served;
+      more = shown.more;
+      texts = shown.texts;
+      spelt = run.spelt;
+      spells = run.spells;
+      reached = run.reached;
+      begun = run.begun;
+      answers = shown.answers;
+      each = run.each;
+      part = shown.part;
+      ending = r.ending;
+      grew = shown.grew;
+      whole = shown.whole;
+      through = shown.through;
+      seen = run.seen;
+      last = run.last;
+      one_last = run.one_last;
+      lawful = run.lawful;
+      asked = run.asked;
+      traced_all = subst (λ (xs : List Access). Cut old.traced new.traced (SinksRose old.faults new.faults) (traced tracing xs))
+          (sym (traces.grew ∙ ap (λ (xs : List Access). xs ++ traces.seen) fresh)) traces.cut;
+      traced_whole = run.traced_whole;
+      failed = run.failed;
+      unfailed = run.unfailed;
+      meant = run.meant;
+      tampered = run.tampered;
+      always = run.early;
+      sealed = run.sealed;
+      most_open = run.most_open;
+      some_open = run.some_open;
+      status = r.status;
+      because = because r.ending Takes _ shown.taken shown.ended shown.more shown.answers shown.part old new r.takes shown.flag shown.says r.cause run.untampered;
+      completes = r.completes;
+    }

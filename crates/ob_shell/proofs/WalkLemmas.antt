@@ -1,0 +1,519 @@
+-- A walk over the texts that were answered, and the one begun.
+use Rattle.std.proofs.Common.{suc, ◌≡◌, ◌⊎◌, inl, inr, ◌+◌, ◌-◌, ◌≤◌, ◌<◌, ℕ, IsTrue, Bool, Ok, Err, Result, List, [], ◌∷◌, ◌++◌, length, take, Option, Some, None, refl, sym, ◌∙◌, ap, subst, append-nil, append_assoc, arith, ◌||◌, true, false, length-append}
+use Rattle.std.specs.Prelude.{◌↔◌}
+use Rattle.std.proofs.lemmas.List.{append_cancel_left, take-append-le}
+use Rattle.ob_base.specs.Events.{Event}
+use Rattle.ob_base.specs.Refusals.{is_store_fault}
+use Rattle.ob_base.specs.declared.access.Access.{Access}
+use Rattle.ob_base.specs.declared.config.Public.{Public}
+use Rattle.ob_base.specs.declared.refusal.Refusal.{Refusal}
+use Rattle.ob_base.specs.declared.refusal.Refusal.TheVariants.{StoreFault}
+use Rattle.ob_base.specs.declared.refusal.Stop.{Stop}
+use Rattle.ob_base.specs.declared.refusal.Stop.TheVariants.{InputLimit, NoMemory, SinkFault, SourceFault, Tampered}
+use Rattle.ob_base.specs.declared.seen.End.{End}
+use Rattle.ob_base.specs.declared.seen.Seen.{Seen}
+use Rattle.ob_exec.specs.Agreeing.{public_of, seen_of, world_of}
+use Rattle.ob_exec.specs.Memory.{AtMake}
+use Rattle.ob_exec.specs.Refusals.{by_fault, refused_end}
+use Rattle.ob_exec.specs.Running.{Emits, RefusedEarly, RunCause, is_fault, outcome_end, refusal_now}
+use Rattle.ob_exec.specs.Telling.{IsNotTampered, meant_script, ReadsTrue, ReadsTrueUntil, Represents, answer_labels, is_refused}
+use Rattle.ob_exec.specs.declared.outcome.Outcome.{Outcome}
+use Rattle.ob_exec.specs.declared.outcome.Outcome.TheVariants.{Created, Inserted, Changed, Deleted, Dropped, Rows, Refused}
+use Rattle.ob_exec.proofs.EmitLemmas.{unfit_none}
+use Rattle.ob_mean.specs.Replay.{Broken, IsCutOff, Session, Spelt, after, all_served, seen_now, seen_or_cut}
+use Rattle.ob_mean.specs.Settle.{settle}
+use Rattle.ob_mean.specs.Verdict.{Tables}
+use Rattle.ob_print.specs.Rows.{events_text}
+use Rattle.ob_script.specs.Script.{script, whole_script}
+use Rattle.ob_script.specs.Trace.{Served as Entry, next, trace}
+use Rattle.ob_shell.specs.Disturbed.{Begins, MeantUntil}
+use Rattle.ob_shell.specs.Endings.{IsSinkFault}
+use Rattle.ob_shell.specs.Closing.{closing_line}
+use Rattle.ob_shell.specs.Running.{LastPart}
+use Rattle.ob_shell.specs.Steps.{CutStep, Does, Finished, IsUndone, IsUntampered, Machine, Misspelt, Served, Step, Steps, session_of}
+use Rattle.ob_shell.specs.Top.{EndsUntampered}
+use Rattle.ob_shell.specs.Words.{Answer, Answers, AnswersIn, AreSeen, BeginsAnswer, Says, SpellFirst, WantsMemory, any_cut, is_cut, refused_at}
+use Rattle.ob_shell.specs.declared.top.Ending.{Ending}
+use Rattle.ob_shell.specs.declared.top.Ending.TheVariants.{Ran}
+use Rattle.ob_shell.proofs.DisturbLemmas.{before_less, begins_more, crosses, few_or_more, take_begins}
+use Rattle.ob_shell.proofs.ReplayLemmas.{fault_is, cut_early, cut_within, no_lie, outcome_cases, stands_after}
+use Rattle.ob_sql.specs.Skeleton.{skeleton}
+use Rattle.ob_sql.specs.declared.stmt.Stmt.{Stmt}
+use Rattle.ob_store.specs.Calls.{IsBefore, IsSteady}
+use Rattle.ob_store.specs.State.{Disturbance, Lie}
+use Rattle.ob_vault.specs.State.{RevState, World}
+use Rattle.ob_vault.specs.Tied.{Calm, IsUnfit}
+
+-- ---- a statement is cut off exactly where the store failed it
+refused_cut : (r : Refusal) (n : ℕ) → is_cut (refused_end r n) ≡ is_store_fault r
+refused_cut StoreFault n = refl
+refused_cut r n = refl
+
+end_cut : (o : Outcome) (n : ℕ) → is_cut (outcome_end o n) ≡ is_fault o
+end_cut (Refused r) n = refused_cut r n
+end_cut Created n = refl
+end_cut Inserted n = refl
+end_cut (Changed k) n = refl
+end_cut (Deleted k) n = refl
+end_cut Dropped n = refl
+end_cut (Rows k) n = refl
+
+cut_by : (o : Outcome) (end : End) (n : ℕ) → end ≡ outcome_end o n → IsTrue (is_cut end) ↔ (o ≡ Refused StoreFault)
+cut_by o end n ends =
+    let same : is_cut end ≡ is_fault o = ap is_cut ends ∙ end_cut o n in
+    (λ cut. fault_is o (sym same ∙ cut), λ is. same ∙ ap is_fault is)
+
+-- where it was not cut off, no call failed
+same_by : (o : Outcome) (old new : World) (end : End) (n : ℕ) → RunCause (Ok o) old new → end ≡ outcome_end o n → is_cut end ≡ false → new.store.faults ≡ old.store.faults
+same_by o old new end n cause ends not =
+    let none : is_fault o ≡ false = sym (ap is_cut ends ∙ end_cut o n) ∙ not in rw none at cause.0
+
+-- ---- what an answer says of its statement
+says : (early : Option Refusal) (p : Public) (stmt : Stmt) (answer : Answer) (here : Seen) (events : List Event) → RefusedEarly early (Ok answer.outcome) here
+    → Emits stmt (answer_labels stmt p) answer.outcome events → answer.bytes ≡ events_text events ++ closing_line answer.outcome → is_cut here.end ≡ is_fault answer.outcome
+    → Says early p stmt answer
+unfolding events_text
+says None p stmt answer here events refused emits bytes same = record { events = events; emits = emits; bytes = bytes }
+says (Some r) p stmt answer here events refused emits bytes same =
+    let is : answer.outcome ≡ Refused r = cc refused.0 in
+    let sound : is_store_fault r ≡ false = ap is_fault (sym is) ∙ sym same ∙ ap (λ (x : Seen). is_cut x.end) refused.1 in
+    let at : by_fault (is_store_fault r) _ (events ≡ []) = subst (λ (o : Outcome). Emits stmt (answer_labels stmt p) o events) is emits in
+    let none : events ≡ [] = rw sound at at in
+    let line : answer.bytes ≡ closing_line (Refused r) = bytes ∙ (λ i. events_text (none i) ++ closing_line (is i)) in
+    λ i. record { outcome = is i; bytes = line i }
+
+-- ---- a stop that is none by a block
+stop_untampered : (stop : Stop) → IsNotTampered stop → IsUntampered stop
+stop_untampered (Tampered region place) not = absurd (cc not)
+stop_untampered SourceFault not = tt
+stop_untampered SinkFault not = tt
+stop_untampered NoMemory not = tt
+stop_untampered InputLimit not = tt
+
+sink_untampered : (stop : Stop) → IsSinkFault stop → IsUntampered stop
+sink_untampered (Tampered region place) fault = fault
+sink_untampered SourceFault fault = tt
+sink_untampered SinkFault fault = tt
+sink_untampered NoMemory fault = tt
+sink_untampered InputLimit fault = tt
+
+or_first : (a b : Bool) → (a || b) ≡ false → a ≡ false
+or_first true b is = is
+or_first false b is = refl
+
+or_rest : (a b : Bool) → (a || b) ≡ false → b ≡ false
+or_rest true b is = absurd (cc is)
+or_rest false b is = is
+
+-- ---- the walk
+module _ {R : Type 0} (state : R → RevState) where
+  abbrev pub world : Machine R → World
+  world m = world_of state m.engine m.store
+
+  -- what holds before the first disturbance, which comes behind n accesses
+  pub record EarlyFrom (n : ℕ) (s : Session) (asked0 asked2 : List Access) (spelt : List Spelt) (answers : List Answer) (seen : List Entry) : Type 0 where
+    pub meant : MeantUntil n s spelt answers seen
+    pub begins : Begins (take n asked2) (asked0 ++ trace s.public (all_served s spelt []))
+    pub quiet : length (asked0 ++ trace s.public (all_served s spelt [])) ≤ n → length asked2 ≤ n
+
+  early_none : (n : ℕ) (s : Session) (asked0 asked2 : List Access) (seen : List Entry) → asked2 ≡ asked0 → length asked0 ≤ n → EarlyFrom n s asked0 asked2 [] [] seen
+  unfolding MeantUntil
+  early_none n s asked0 asked2 seen same few = record {
+    meant = tt;
+    begins = subst (λ (l : List Access). Begins (take n l) (asked0 ++ [])) (sym same) (begins_more (take n asked0) asked0 [] (take_begins n asked0));
+    quiet = λ le. omega (arith, few, ap length same);
+  }
+
+  -- a text that is no statement
+  early_refused : (n : ℕ) (s : Session) (asked0 asked2 : List Access) (at : ℕ) (spelt : List Spelt) (seen : List Entry) → spelt ≡ [] → EarlyFrom n s asked0 asked2 spelt [] seen
+      → EarlyFrom n s asked0 asked2 (Err at ∷ spelt) [] seen
+  unfolding MeantUntil
+  early_refused n s asked0 asked2 at spelt seen none rest = record { meant = tt; begins = rest.begins; quiet = rest.quiet }
+
+  early_answered : (n : ℕ) (s : Session) (asked0 asked2 : List Access) (at : ℕ) (spelt : List Spelt) (one : Answer) (answers : List Answer) (seen : List Entry) → one ≡ refused_at at
+      → EarlyFrom n s asked0 asked2 spelt answers seen → EarlyFrom n s asked0 asked2 (Err at ∷ spelt) (one ∷ answers) seen
+  unfolding MeantUntil
+  early_answered n s asked0 asked2 at spelt one answers seen is rest = record { meant = (is, rest.meant); begins = rest.begins; quiet = rest.quiet }
+
+  -- a statement was begun
+  early_one : (m0 m2 : Machine R) (tables : Tables) (stmt : Stmt) (result : Result Outcome Stop) (n : ℕ) (seen : List Entry) → Does state m0 m2 stmt result → IsTrue m0.store.tells → IsSteady m0.store
+      → Represents state m0.engine m0.store tables → IsBefore m0.store.disturbed n → length m0.store.asked ≤ n
+      → EarlyFrom n (session_of m0 tables) m0.store.asked m2.store.asked (Ok stmt ∷ []) [] seen
+  unfolding MeantUntil
+  early_one m0 m2 tables stmt result n seen does tells steady held before few =
+      let cross = crosses state m0 m2 tables stmt result does tells steady held n before few in
+      let all = meant_script (public_of m0.engine) (length m0.store.asked) tables stmt in
+      let same : all ++ [] ≡ all = append-nil all in
+      record {
+        meant = tt;
+        begins = subst (λ (l : List Access). Begins (take n m2.store.asked) (m0.store.asked ++ l)) (sym same) cross.begins;
+        quiet = λ le. cross.within (subst (λ (l : List Access). length (m0.store.asked ++ l) ≤ n) same le);
+      }
+
+  -- from the first machine to the second these texts were answered so, and to the third one more was begun
+  pub record Walked (ending : Ending) (m0 m1 m2 : Machine R) (texts more : List (List ℕ)) (answers : List Answer) (part : List ℕ) : Type 0 where
+    pub spelt : List Spelt
+    pub spells : SpellFirst (texts ++ more) spelt
+    pub reached : length texts ≤ length spelt
+    pub begun : length spelt ≤ length texts + 1
+    pub each : length answers ≡ length texts
+    pub seen : List Entry
+    pub last : List Entry
+    pub one_last : length last ≤ 1
+    pub lawful : AreSeen ending (public_of m0.engine) (length m0.store.asked) spelt answers (seen ++ last)
+    pub passed : m1.store.asked ≡ m0.store.asked ++ trace (public_of m0.engine) seen
+    pub asked : m2.store.asked ≡ m0.store.asked ++ trace (public_of m0.engine) (seen ++ last)
+    pub keys : m2.engine.vault.keys ≡ m0.engine.vault.keys
+    pub unfailed : any_cut (seen ++ last) ≡ false → m2.store.faults ≡ m0.store.faults
+    pub lie : (lie : Lie) → m0.store.lie ≡ Some lie → m2.store.lie ≡ Some lie
+    pub meant : IsTrue m0.store.tells → Calm (world m0) → IsUnfit (world m2) → (tables : Tables) → Represents state m0.engine m0.store tables
+        → (broken : Broken) × Answers ending (session_of m0 tables) spelt broken answers (seen ++ last) part
+    pub untampered : IsTrue m0.store.tells → (tables : Tables) → Represents state m0.engine m0.store tables → m2.store.lie ≡ None → EndsUntampered ending
+    pub early : IsTrue m0.store.tells → IsSteady m0.store → (tables : Tables) → Represents state m0.engine m0.store tables → (n : ℕ) → IsBefore m0.store.disturbed n → length m0.store.asked ≤ n
+        → EarlyFrom n (session_of m0 tables) m0.store.asked m2.store.asked spelt answers (seen ++ last)
+
+  -- nothing was done
+  walked_none : (ending : Ending) (m0 m2 : Machine R) (more : List (List ℕ)) (part : List ℕ) → m2 ≡ m0 → part ≡ [] → EndsUntampered ending → Walked ending m0 m0 m2 [] more [] part
+  unfolding SpellFirst AreSeen Answers any_cut
+  walked_none ending m0 m2 more part same none fine = record {
+    spelt = [];
+    spells = tt;
+    reached = omega arith;
+    begun = omega arith;
+    each = refl;
+    seen = [];
+    last = [];
+    one_last = omega arith;
+    lawful = refl;
+    passed = sym (append-nil m0.store.asked);
+    asked = ap (λ (m : Machine R). m.store.asked) same ∙ sym (append-nil m0.store.asked);
+    keys = ap (λ (m : Machine R). m.engine.vault.keys) same;
+    unfailed = λ not. ap (λ (m : Machine R). m.store.faults) same;
+    lie = λ lie is. ap (λ (m : Machine R). m.store.lie) same ∙ is;
+    meant = λ tells calm unfit tables held. ([], (refl, none));
+    untampered = λ tells tables held honest. fine;
+    early = λ tells steady tables held n before few. early_none n (session_of m0 tables) m0.store.asked m2.store.asked [] (ap (λ (m : Machine R). m.store.asked) same) few;
+  }
+
+  -- a statement was stopped
+  wants : (m0 m2 : Machine R) (stmt : Stmt) (stop : Stop) → Does state m0 m2 stmt (Err stop) → Ran (Err stop) ≡ Ran (Err NoMemory)
+      → WantsMemory (public_of m0.engine) stmt (seen_of m2.engine)
+  wants m0 m2 stmt stop does is =
+      let lacks = does.memory (cc is) in
+      let p = public_of m0.engine in
+      let done : lacks.done ≡ script p (skeleton stmt) (seen_of m2.engine) = append_cancel_left m0.store.asked _ _ (sym lacks.asked ∙ does.ran.asked) in
+      record {
+        rest = lacks.rest;
+        split = subst (λ (l : List Access). l ++ lacks.rest ≡ whole_script p (skeleton stmt) (seen_of m2.engine)) done lacks.split;
+        place = elim lacks.place [
+          | inl make ↦ inl (subst (λ (l : List Access). AtMake l lacks.rest) done make)
+          | inr emits ↦ inr emits.0
+        ];
+      }
+
+  stopped_part : (m0 m2 : Machine R) (tables : Tables) (text : List ℕ) (stop : Stop) (part : List ℕ) → (cut : CutStep state m0 m2 text stop part)
+      → ReadsTrueUntil state m0.engine m0.store m2.engine m2.store tables
+      → BeginsAnswer (Ran (Err stop)) (session_of m0 tables) (Ok cut.stmt) (record { skeleton = skeleton cut.stmt; seen = seen_of m2.engine } ∷ []) part
+  stopped_part m0 m2 tables text stop part cut reads =
+      let n = length m2.store.asked - length m0.store.asked in
+      let seen_is = cut.does.means.held tables reads in
+      inl (record {
+        started = cut_early state m0 m2 tables cut.stmt (Err stop) cut.does (is_refused stop) n seen_is reads.held;
+        n = n;
+        within = cut_within state m0 m2 tables cut.stmt (Err stop) cut.does (is_refused stop) n seen_is;
+        seen = seen_is;
+        events = cut.events;
+        begun = cut.emitted tables reads;
+        printed = cut.printed;
+      })
+
+  walked_cut : (m0 m2 : Machine R) (text : List ℕ) (more : List (List ℕ)) (stop : Stop) (part : List ℕ) → CutStep state m0 m2 text stop part
+      → Walked (Ran (Err stop)) m0 m0 m2 [] (text ∷ more) [] part
+  unfolding SpellFirst AreSeen Answers any_cut
+  walked_cut m0 m2 text more stop part cut =
+      let sk = skeleton cut.stmt in
+      let here = seen_of m2.engine in
+      record {
+        spelt = Ok cut.stmt ∷ [];
+        spells = (cut.spells, tt);
+        reached = omega arith;
+        begun = omega arith;
+        each = refl;
+        seen = [];
+        last = record { skeleton = sk; seen = here } ∷ [];
+        one_last = omega arith;
+        lawful = (refl, cut.does.lawful, (λ is. wants m0 m2 cut.stmt stop cut.does is), refl);
+        passed = sym (append-nil m0.store.asked);
+        asked = cut.does.ran.asked ∙ ap (λ xs. m0.store.asked ++ xs) (sym (append-nil (script (public_of m0.engine) sk here)));
+        keys = cut.does.ran.keys;
+        unfailed = λ not. absurd (cc (ap is_cut cut.does.ran.ends, or_first (is_cut here.end) false not));
+        lie = cut.does.ran.later.lie;
+        meant = λ tells calm unfit tables held. ([], stopped_part m0 m2 tables text stop part cut (record { tells = tells; held = held; calm = calm; unfit = unfit }));
+        untampered = λ tells tables held honest. stop_untampered stop (cut.does.means.honest tables (record { tells = tells; held = held; nolie = honest }));
+        early = λ tells steady tables held n before few. early_one m0 m2 tables cut.stmt (Err stop) n _ cut.does tells steady held before few;
+      }
+
+  -- how the model answers a statement that was answered
+  pub record AnsweredBy (m0 m1 : Machine R) (tables : Tables) (stmt : Stmt) (one : Answer) : Type 0 where
+    pub how : Option ℕ
+    pub cuts : IsCutOff how (session_of m0 tables) stmt
+    pub answer : AnswersIn how (session_of m0 tables) stmt one
+    pub seen : seen_of m1.engine ≡ seen_or_cut how (session_of m0 tables) stmt
+    pub held : Represents state m1.engine m1.store (after how (session_of m0 tables) stmt).tables
+    pub whole : m1.store.faults ≡ 0 → how ≡ None
+
+  pub answered_by : (m0 m1 : Machine R) (tables : Tables) (text : List ℕ) (one : Answer) (did : Served state m0 m1 text one) → ReadsTrue state m0.engine m0.store m1.store tables
+      → AnsweredBy m0 m1 tables did.stmt one
+  answered_by m0 m1 tables text one did reads =
+      let n = length m1.store.asked - length m0.store.asked in
+      elim (outcome_cases one.outcome _ _ _ _ (did.does.means.told tables reads) (did.emitted tables reads)) [
+        | inl both ↦ record {
+          how = None;
+          cuts = tt;
+          answer = record { outcome = both.0.answer; events = did.events; prints = both.1; bytes = did.printed };
+          seen = both.0.seen;
+          held = both.0.held;
+          whole = λ none. refl;
+        }
+        | inr by ↦ let some : length m0.store.asked < length m1.store.asked = did.does.ran.asks (ap is_fault by.is) in
+            record {
+              how = Some n;
+              cuts = (cut_early state m0 m1 tables did.stmt _ did.does true n by.told.seen reads.held, omega (arith, some), cut_within state m0 m1 tables did.stmt _ did.does true n by.told.seen);
+              answer = record { outcome = by.is; events = did.events; unfinished = by.too; bytes = did.printed };
+              seen = by.told.seen;
+              held = by.told.held;
+              whole = λ none. let rose = (subst (λ (o : Outcome). RunCause (Ok o) (world m0) (world m1)) by.is did.does.ran.cause).0 in absurd (omega (arith, rose, none));
+            }
+      ]
+
+  reads_true : (m0 m1 : Machine R) (tables : Tables) (text : List ℕ) (one : Answer) (did : Served state m0 m1 text one) → IsTrue m0.store.tells → Represents state m0.engine m0.store tables
+      → Calm (world m0) → IsUnfit (world m1) → ReadsTrue state m0.engine m0.store m1.store tables
+  reads_true m0 m1 tables text one did tells held calm unfit = record { tells = tells; held = held; nolie = unfit_none (world m1) (did.does.ran.cause.1 calm) unfit }
+
+  -- a text was answered, and a sink failed
+  not_memory : (stop : Stop) → IsSinkFault stop → Ran (Err stop) ≡ Ran (Err NoMemory) → ⊥
+  not_memory stop fault is = let same : stop ≡ NoMemory = cc is in subst (λ (s : Stop). IsSinkFault s) same fault
+
+  walked_done : (m0 m2 : Machine R) (text : List ℕ) (more : List (List ℕ)) (stop : Stop) (one : Answer) (part : List ℕ) → part ≡ one.bytes → IsSinkFault stop → Served state m0 m2 text one
+      → Walked (Ran (Err stop)) m0 m0 m2 [] (text ∷ more) [] part
+  unfolding SpellFirst AreSeen Answers any_cut
+  walked_done m0 m2 text more stop one part is fault did =
+      let sk = skeleton did.stmt in
+      let here = seen_of m2.engine in
+      record {
+        spelt = Ok did.stmt ∷ [];
+        spells = (did.spells, tt);
+        reached = omega arith;
+        begun = omega arith;
+        each = refl;
+        seen = [];
+        last = record { skeleton = sk; seen = here } ∷ [];
+        one_last = omega arith;
+        lawful = (refl, did.does.lawful, (λ is. absurd (not_memory stop fault is)), refl);
+        passed = sym (append-nil m0.store.asked);
+        asked = did.does.ran.asked ∙ ap (λ xs. m0.store.asked ++ xs) (sym (append-nil (script (public_of m0.engine) sk here)));
+        keys = did.does.ran.keys;
+        unfailed = λ not. same_by one.outcome (world m0) (world m2) here.end _ did.does.ran.cause did.does.ran.ends (or_first (is_cut here.end) false not);
+        lie = did.does.ran.later.lie;
+        meant = λ tells calm unfit tables held.
+            let by = answered_by m0 m2 tables text one did (reads_true m0 m2 tables text one did tells held calm unfit) in
+            ([], inr (record { broken = by.how; cuts = by.cuts; seen = by.seen; answer = one; answers = by.answer; whole = is }));
+        untampered = λ tells tables held honest. sink_untampered stop fault;
+        early = λ tells steady tables held n before few. early_one m0 m2 tables did.stmt (Ok one.outcome) n _ did.does tells steady held before few;
+      }
+
+  refused_is : (m0 m1 : Machine R) (text : List ℕ) (one : Answer) → (bad : Misspelt m0 m1 text one) → one ≡ refused_at bad.at
+  refused_is m0 m1 text one bad = λ i. record { outcome = bad.refused i; bytes = (bad.line ∙ ap closing_line bad.refused) i }
+
+  walked_refused : (ending : Ending) (m0 m2 : Machine R) (text : List ℕ) (more : List (List ℕ)) (one : Answer) (part : List ℕ) → part ≡ one.bytes → Misspelt m0 m2 text one → EndsUntampered ending
+      → Walked ending m0 m0 m2 [] (text ∷ more) [] part
+  unfolding SpellFirst AreSeen Answers any_cut
+  walked_refused ending m0 m2 text more one part is bad fine = record {
+    spelt = Err bad.at ∷ [];
+    spells = (bad.spells, tt);
+    reached = omega arith;
+    begun = omega arith;
+    each = refl;
+    seen = [];
+    last = [];
+    one_last = omega arith;
+    lawful = refl;
+    passed = sym (append-nil m0.store.asked);
+    asked = ap (λ (m : Machine R). m.store.asked) bad.same ∙ sym (append-nil m0.store.asked);
+    keys = ap (λ (m : Machine R). m.engine.vault.keys) bad.same;
+    unfailed = λ not. ap (λ (m : Machine R). m.store.faults) bad.same;
+    lie = λ lie it. ap (λ (m : Machine R). m.store.lie) bad.same ∙ it;
+    meant = λ tells calm unfit tables held. ([], is ∙ ap (λ (a : Answer). a.bytes) (refused_is m0 m2 text one bad));
+    untampered = λ tells tables held honest. fine;
+    early = λ tells steady tables held n before few. early_refused n (session_of m0 tables) m0.store.asked m2.store.asked bad.at [] [] refl (early_none n (session_of m0 tables) m0.store.asked m2.store.asked [] (ap (λ (m : Machine R). m.store.asked) bad.same) few);
+  }
+
+  pub walked_last : (m1 m2 : Machine R) (more : List (List ℕ)) (part : List ℕ) (result : Result Bool Stop) → LastPart state m1 m2 more part result → Walked (Ran result) m1 m1 m2 [] more [] part
+  walked_last m1 m2 more part (Ok flag) rests = walked_none (Ran (Ok flag)) m1 m2 more part rests.machine rests.none tt
+  walked_last m1 m2 [] part (Err stop) idle = walked_none (Ran (Err stop)) m1 m2 [] part idle.rests.machine idle.rests.none idle.untampered
+  walked_last m1 m2 (text ∷ more) part (Err stop) (inl idle) = walked_none (Ran (Err stop)) m1 m2 (text ∷ more) part idle.rests.machine idle.rests.none idle.untampered
+  walked_last m1 m2 (text ∷ more) part (Err stop) (inr (inl cut)) = walked_cut m1 m2 text more stop part cut
+  walked_last m1 m2 (text ∷ more) part (Err stop) (inr (inr done)) = elim done.step.done [
+    | inl bad ↦ walked_refused (Ran (Err stop)) m1 m2 text more done.answer part done.whole bad (sink_untampered stop done.fault)
+    | inr did ↦ walked_done m1 m2 text more stop done.answer part done.whole done.fault did
+  ]
+
+  -- one text more
+  more_refused : (ending : Ending) (m0 m1 m m2 : Machine R) (text : List ℕ) (texts more : List (List ℕ)) (one : Answer) (answers : List Answer) (part : List ℕ) → Misspelt m0 m1 text one
+      → Walked ending m1 m m2 texts more answers part → Walked ending m0 m m2 (text ∷ texts) more (one ∷ answers) part
+  unfolding SpellFirst AreSeen Answers any_cut
+  more_refused ending m0 m1 m m2 text texts more one answers part bad there =
+      let rest : Walked ending m0 m m2 texts more answers part = subst (λ (x : Machine R). Walked ending x m m2 texts more answers part) bad.same there in
+      record {
+        spelt = Err bad.at ∷ rest.spelt;
+        spells = (bad.spells, rest.spells);
+        reached = omega (arith, rest.reached);
+        begun = omega (arith, rest.begun);
+        each = ap (λ (n : ℕ). suc n) rest.each;
+        seen = rest.seen;
+        last = rest.last;
+        one_last = rest.one_last;
+        lawful = (refused_is m0 m1 text one bad, rest.lawful);
+        passed = rest.passed;
+        asked = rest.asked;
+        keys = rest.keys;
+        unfailed = rest.unfailed;
+        lie = rest.lie;
+        meant = λ tells calm unfit tables held. let from = rest.meant tells calm unfit tables held in (None ∷ from.0, (refused_is m0 m1 text one bad, from.1));
+        untampered = rest.untampered;
+        early = λ tells steady tables held n before few.
+            early_answered n (session_of m0 tables) m0.store.asked m2.store.asked bad.at rest.spelt one answers (rest.seen ++ rest.last) (refused_is m0 m1 text one bad)
+            (rest.early tells steady tables held n before few);
+      }
+
+  -- no lie was told before
+  none_before : (o : Option Lie) (m1 m2 : Machine R) → m1.store.lie ≡ o → ((lie : Lie) → m1.store.lie ≡ Some lie → m2.store.lie ≡ Some lie) → m2.store.lie ≡ None → m1.store.lie ≡ None
+  none_before None m1 m2 is stays none = is
+  none_before (Some lie) m1 m2 is stays none = absurd (cc (stays lie is, none))
+
+  -- one statement more, and then those of which the rest tells
+  early_served : (m0 m1 m2 : Machine R) (tables : Tables) (text : List ℕ) (one : Answer) (did : Served state m0 m1 text one) (n : ℕ) (spelt : List Spelt) (answers : List Answer) (seen : List Entry)
+      → IsTrue m0.store.tells → IsSteady m0.store → Represents state m0.engine m0.store tables → IsBefore m0.store.disturbed n → length m0.store.asked ≤ n
+      → (asked : List Access) → m2.store.asked ≡ m1.store.asked ++ asked
+      → ((after_it : Tables) → Represents state m1.engine m1.store after_it → length m1.store.asked ≤ n → EarlyFrom n (session_of m1 after_it) m1.store.asked m2.store.asked spelt answers seen)
+      → EarlyFrom n (session_of m0 tables) m0.store.asked m2.store.asked (Ok did.stmt ∷ spelt) (one ∷ answers) (record { skeleton = skeleton did.stmt; seen = seen_of m1.engine } ∷ seen)
+  unfolding MeantUntil
+  early_served m0 m1 m2 tables text one did n spelt answers seen tells steady held before few asked grew rest =
+      let s = session_of m0 tables in
+      let p = public_of m0.engine in
+      let sk = skeleton did.stmt in
+      let part = meant_script p (length m0.store.asked) tables did.stmt in
+      let tail = trace (after None s did.stmt).public (all_served (after None s did.stmt) spelt []) in
+      let later = did.does.ran.later in
+      let asked_is : length m1.store.asked ≡ length m0.store.asked + length (script p sk (seen_of m1.engine)) = ap length did.does.ran.asked ∙ length-append m0.store.asked (script p sk (seen_of m1.engine)) in
+      let cross = crosses state m0 m1 tables did.stmt (Ok one.outcome) did.does tells steady held n before few in
+      let split : m0.store.asked ++ (part ++ tail) ≡ (m0.store.asked ++ part) ++ tail = sym (append_assoc m0.store.asked part tail) in
+      elim (few_or_more (length m1.store.asked) n) [
+        | inl within ↦
+            let quiet = (later.steady steady).quiet (before_less m1.store.disturbed (length m1.store.asked) n within (subst (λ (o : Option (List Disturbance)). IsBefore o n) (sym later.disturbed) before)) in
+            let by = answered_by m0 m1 tables text one did (record { tells = tells; held = held; nolie = quiet.lie }) in
+            let whole : by.how ≡ None = by.whole quiet.faults in
+            let seen_is : seen_of m1.engine ≡ seen_now s did.stmt = by.seen ∙ ap (λ (o : Option ℕ). seen_or_cut o s did.stmt) whole in
+            let answer : AnswersIn None s did.stmt one = subst (λ (o : Option ℕ). AnswersIn o s did.stmt one) whole by.answer in
+            let after_it = (after None s did.stmt).tables in
+            let held_there : Represents state m1.engine m1.store after_it = subst (λ (o : Option ℕ). Represents state m1.engine m1.store (after o s did.stmt).tables) whole by.held in
+            let stands : after None s did.stmt ≡ session_of m1 after_it = stands_after state m0 m1 tables text one did None after_it seen_is refl in
+            let there = rest after_it held_there within in
+            let joined : m1.store.asked ++ trace (public_of m1.engine) (all_served (session_of m1 after_it) spelt []) ≡ m0.store.asked ++ (part ++ tail) =
+            (λ i. (did.does.ran.asked ∙ ap (λ (x : Seen). m0.store.asked ++ script p sk x) seen_is) i ++ trace (sym stands i).public (all_served (sym stands i) spelt [])) ∙ append_assoc m0.store.asked part tail in
+            record {
+              meant = λ few_here. (answer, seen_is, subst (λ (x : Session). MeantUntil n x spelt answers seen) (sym stands) there.meant);
+              begins = subst (λ (l : List Access). Begins (take n m2.store.asked) l) joined there.begins;
+              quiet = λ le. there.quiet (subst (λ (l : List Access). length l ≤ n) (sym joined) le);
+            }
+        | inr more ↦
+            let first : take n m2.store.asked ≡ take n m1.store.asked = ap (take n) grew ∙ take-append-le n m1.store.asked asked (omega (arith, more)) in
+            record {
+              meant = λ few_here. absurd (omega (arith, few_here, asked_is, more));
+              begins = subst (λ (l : List Access). Begins l (m0.store.asked ++ (part ++ tail))) (sym first)
+                  (subst (λ (l : List Access). Begins (take n m1.store.asked) l) (sym split) (begins_more (take n m1.store.asked) (m0.store.asked ++ part) tail cross.begins));
+              quiet = λ le. absurd (
+                let most = ap length split in
+                let long = length-append (m0.store.asked ++ part) tail in
+                let within = cross.within (omega (arith, le, most, long)) in omega (arith, within, more));
+            }
+      ]
+
+  -- what was asked of a statement and then of the texts after it
+  asked_more : (m0 m1 m : Machine R) (text : List ℕ) (one : Answer) (did : Served state m0 m1 text one) (seen : List Entry) → m.store.asked ≡ m1.store.asked ++ trace (public_of m1.engine) seen
+      → m.store.asked ≡ m0.store.asked ++ trace (public_of m0.engine) (record { skeleton = skeleton did.stmt; seen = seen_of m1.engine } ∷ seen)
+  asked_more m0 m1 m text one did seen is =
+      is ∙ (λ i. did.does.ran.asked i ++ trace (did.does.ran.goes_on.public i) seen) ∙ append_assoc m0.store.asked (script (public_of m0.engine) (skeleton did.stmt) (seen_of m1.engine)) _
+
+  unfit_before : (m1 m2 : Machine R) → m2.engine.vault.keys ≡ m1.engine.vault.keys → ((lie : Lie) → m1.store.lie ≡ Some lie → m2.store.lie ≡ Some lie) → IsUnfit (world m2) → IsUnfit (world m1)
+  unfit_before m1 m2 keys stays unfit = record { unfit = λ lie is fits. unfit.unfit lie (stays lie is) (rw keys fits) }
+
+  more_served : (ending : Ending) (m0 m1 m m2 : Machine R) (text : List ℕ) (texts more : List (List ℕ)) (one : Answer) (answers : List Answer) (part : List ℕ) → Served state m0 m1 text one
+      → Walked ending m1 m m2 texts more answers part → Walked ending m0 m m2 (text ∷ texts) more (one ∷ answers) part
+  unfolding SpellFirst AreSeen Answers any_cut
+  more_served ending m0 m1 m m2 text texts more one answers part did rest =
+      let p = public_of m0.engine in
+      let sk = skeleton did.stmt in
+      let here = seen_of m1.engine in
+      let all = rest.seen ++ rest.last in
+      let public_is : public_of m1.engine ≡ next p sk here = did.does.ran.goes_on.public in
+      let asked_is : length m1.store.asked ≡ length m0.store.asked + length (script p sk here) = ap length did.does.ran.asked ∙ length-append m0.store.asked (script p sk here) in
+      record {
+        spelt = Ok did.stmt ∷ rest.spelt;
+        spells = (did.spells, rest.spells);
+        reached = omega (arith, rest.reached);
+        begun = omega (arith, rest.begun);
+        each = ap (λ (n : ℕ). suc n) rest.each;
+        seen = record { skeleton = sk; seen = here } ∷ rest.seen;
+        last = rest.last;
+        one_last = rest.one_last;
+        lawful = (
+          refl,
+          did.does.lawful,
+          (
+            says (refusal_now p (length m0.store.asked) did.stmt) p did.stmt one here did.events did.does.early did.emits did.printed (ap is_cut did.does.ran.ends ∙ end_cut one.outcome _),
+            cut_by one.outcome here.end _ did.does.ran.ends,
+          ),
+          subst (λ (q : Public). AreSeen ending q (length m0.store.asked + length (script p sk here)) rest.spelt answers all) public_is
+              (subst (λ (n : ℕ). AreSeen ending (public_of m1.engine) n rest.spelt answers all) asked_is rest.lawful),
+        );
+        passed = asked_more m0 m1 m text one did rest.seen rest.passed;
+        asked = asked_more m0 m1 m2 text one did all rest.asked;
+        keys = rest.keys ∙ did.does.ran.keys;
+        unfailed = λ not.
+            rest.unfailed (or_rest (is_cut here.end) (any_cut all) not)
+            ∙ same_by one.outcome (world m0) (world m1) here.end _ did.does.ran.cause did.does.ran.ends (or_first (is_cut here.end) (any_cut all) not);
+        lie = λ lie it. rest.lie lie (did.does.ran.later.lie lie it);
+        meant = λ tells calm unfit tables held.
+            let by = answered_by m0 m1 tables text one did (reads_true m0 m1 tables text one did tells held calm (unfit_before m1 m2 rest.keys rest.lie unfit)) in
+            let after_it = (after by.how (session_of m0 tables) did.stmt).tables in
+            let from = rest.meant (subst (λ (b : Bool). IsTrue b) (sym did.does.ran.later.tells) tells) (did.does.ran.cause.1 calm) unfit after_it by.held in (
+              by.how ∷ from.0,
+              (
+                by.cuts,
+                by.answer,
+                by.seen,
+                subst (λ (s : Session). Answers ending s rest.spelt from.0 answers all part) (sym (stands_after state m0 m1 tables text one did by.how after_it by.seen refl)) from.1,
+              ),
+            );
+        untampered = λ tells tables held honest.
+            let none : m1.store.lie ≡ None = none_before m1.store.lie m1 m2 refl rest.lie honest in
+            let by = answered_by m0 m1 tables text one did (record { tells = tells; held = held; nolie = none }) in
+            rest.untampered (subst (λ (b : Bool). IsTrue b) (sym did.does.ran.later.tells) tells) (after by.how (session_of m0 tables) did.stmt).tables by.held honest;
+        early = λ tells steady tables held n before few.
+            early_served m0 m1 m2 tables text one did n rest.spelt answers all tells steady held before few (trace (public_of m1.engine) all) rest.asked
+            (λ after_it held_after few_there. rest.early (subst (λ (b : Bool). IsTrue b) (sym did.does.ran.later.tells) tells) (did.does.ran.later.steady steady) after_it held_after n
+            (subst (λ (o : Option (List Disturbance)). IsBefore o n) (sym did.does.ran.later.disturbed) before) few_there);
+      }
+
+  pub walked : (ending : Ending) (texts : List (List ℕ)) (m0 m1 m2 : Machine R) (more : List (List ℕ)) (answers : List Answer) (part : List ℕ) → Steps state m0 m1 texts answers
+      → Walked ending m1 m1 m2 [] more [] part → Walked ending m0 m1 m2 texts more answers part
+  unfolding Steps
+  walked ending [] m0 m1 m2 more answers part steps rest =
+      subst (λ (xs : List Answer). Walked ending m0 m1 m2 [] more xs part) (sym steps.1) (subst (λ (m : Machine R). Walked ending m m1 m2 [] more [] part) steps.0 rest)
+  walked ending (text ∷ texts) m0 m1 m2 more answers part steps rest =
+      let from = walked ending texts steps.0 m1 m2 more steps.2 part steps.5 rest in
+      subst (λ (xs : List Answer). Walked ending m0 m1 m2 (text ∷ texts) more xs part) (sym steps.3) (elim steps.4.done [
+        | inl bad ↦ more_refused ending m0 steps.0 m1 m2 text texts more steps.1 steps.2 part bad from
+        | inr did ↦ more_served ending m0 steps.0 m1 m2 text texts more steps.1 steps.2 part did from
+      ])

@@ -1,0 +1,52 @@
+use Rattle.std.proofs.Common.{ap, refl, codes, sym, subst, ◌≡◌, ◌∙◌, map, Some, None, option_map}
+use Rattle.std.specs.Prelude.{string_bytes, IfOk}
+use Rattle.clap.specs.Words.{Text, app_of}
+use Rattle.ob_shell.specs.Settings.{IsTaken}
+use Rattle.ob_shell.specs.Usage.{store_of, usage}
+use Rattle.ob_shell.proofs.WordLemmas.{no_settings, parses_from, settings_from, value_from}
+use Rattle.ob_shell.proofs.words.store_name.Goals as goal
+
+pub returns-in_default-settings-clause-named : goal.returns-in_default-settings-clause-named
+returns-in_default-settings-clause-named c name taken given =
+    let words = map string_bytes c.args.words.now in
+    let made = c.in-Ok-try_get_matches_from in
+    absurd (no_settings usage words
+    (sym (settings_from (app_of c.in-Ok.command) usage made.matches words c.in-Ok.ensures refl made.ensures.matches)
+    ∙ sym c.settings.ensures.settings ∙ c.in_default-settings.is) taken)
+
+pub returns-in-Some-get_str-clause-named : goal.returns-in-Some-get_str-clause-named
+returns-in-Some-get_str-clause-named c name taken given =
+    let words = map string_bytes c.args.words.now in
+    let made = c.in-Ok-try_get_matches_from in
+    let value : Some c.in-Some-get_str.name.now ≡ store_of words =
+    ap (option_map (λ t. t.now)) (sym c.in-Some-get_str.is) ∙ c.get_str.ensures
+    ∙ value_from (app_of c.in-Ok.command) usage made.matches words (codes "store") c.in-Ok.ensures refl made.ensures.matches in
+    let same : c.in-Some-get_str.name.now ≡ name = cc (value ∙ given) in
+    subst (λ (t : Text). IfOk c.copied-in-Some-get_str.result (λ s. string_bytes s ≡ t)) same c.copied-in-Some-get_str.ensures
+
+pub returns-in-Some-get_str-clause-unnamed : goal.returns-in-Some-get_str-clause-unnamed
+returns-in-Some-get_str-clause-unnamed c unnamed =
+    let words = map string_bytes c.args.words.now in
+    let made = c.in-Ok-try_get_matches_from in
+    let value : Some c.in-Some-get_str.name.now ≡ store_of words =
+    ap (option_map (λ t. t.now)) (sym c.in-Some-get_str.is) ∙ c.get_str.ensures
+    ∙ value_from (app_of c.in-Ok.command) usage made.matches words (codes "store") c.in-Ok.ensures refl made.ensures.matches in
+    let taken : IsTaken usage words = (
+      c.in-Some.field-0,
+      record {
+        parses = parses_from (app_of c.in-Ok.command) usage words c.in-Ok.ensures refl made.ensures.kinds;
+        settings =
+            sym (settings_from (app_of c.in-Ok.command) usage made.matches words c.in-Ok.ensures refl made.ensures.matches)
+            ∙ sym c.settings.ensures.settings ∙ c.in-Some.is;
+      },
+    ) in
+    absurd (cc (value, unnamed taken))
+
+pub returns-clause-named : goal.returns-clause-named
+returns-clause-named c name taken given =
+    let words = map string_bytes c.args.words.now in
+    let made = c.in-Ok-try_get_matches_from in
+    let value : None ≡ store_of words =
+    ap (option_map (λ t. t.now)) (sym c.in-None.is) ∙ c.get_str.ensures
+    ∙ value_from (app_of c.in-Ok.command) usage made.matches words (codes "store") c.in-Ok.ensures refl made.ensures.matches in
+    absurd (cc (value, given))

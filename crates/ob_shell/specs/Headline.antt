@@ -1,0 +1,90 @@
+-- The headline: one whole run, by what lies outside of it before and after.
+use Rattle.std.specs.Prelude.{ℕ, ◌≡◌, ◌+◌, ◌≤◌, ⊤, Bool, true, false, List, [], ◌∷◌, ◌++◌, length, IsTrue, Option, Some, Err}
+use Rattle.std.specs.List.{list_any}
+use Rattle.std.specs.Io.KnownBytes.{Consumes, IsAtEnd}
+use Rattle.ob_base.specs.Counts.{Rises}
+use Rattle.ob_base.specs.declared.access.Access.TheVariants.{Read}
+use Rattle.ob_base.specs.declared.config.Config.{Config}
+use Rattle.ob_base.specs.declared.refusal.Stop.TheVariants.{Tampered}
+use Rattle.ob_exec.specs.Opening.{is_of_rows}
+use Rattle.ob_mean.specs.Replay.{Broken, Spelt}
+use Rattle.ob_print.specs.Cuts.{Cut}
+use Rattle.ob_script.specs.Trace.{Served, trace}
+use Rattle.ob_shell.specs.Disturbed.{Until}
+use Rattle.ob_shell.specs.Endings.{SinkStopped, last_line, status_of}
+use Rattle.ob_shell.specs.Failures.{RisesBy, failures}
+use Rattle.ob_shell.specs.KeyLine.{after_line}
+use Rattle.ob_shell.specs.Settings.{limit_of}
+use Rattle.ob_shell.specs.Texts.{texts_in}
+use Rattle.ob_shell.specs.Tracing.{traced}
+use Rattle.ob_shell.specs.Words.{Answer, Answers, AreSeen, Because, IsCompleted, IsHonest, IsSealed, IsUndeceived, KeepsLimits, Outside, SinksRose, SpellFirst, Took, any_cut, keys_in, printed, public_with, rows_in, start}
+use Rattle.ob_shell.specs.declared.top.Ending.{Ending}
+use Rattle.ob_shell.specs.declared.top.Ending.TheVariants.{Ran}
+use Rattle.ob_shell.specs.declared.top.Report.{Report}
+use Rattle.ob_store.specs.Calls.{IsBefore}
+use Rattle.ob_store.specs.State.{Lie}
+use Rattle.ob_vault.specs.State.{from_nothing}
+use Rattle.ob_vault.specs.Tied.{Fits}
+
+-- of words that the program takes, or doesn't, and of the settings that they spell
+pub record Headline (Takes : Type 0) (settings : Option Config) (tracing : Bool)
+    (old new : Outside) (report : Report) : Type 0 where
+  -- THE BYTES. These were taken: a first line, then texts. Some texts were answered, and more were not.
+  pub taken : List ℕ
+  pub given : Consumes old.left new.left taken
+  pub within : length taken ≤ limit_of settings
+  pub ended : Bool
+  pub at_end : ended ≡ true → IsAtEnd new.left
+  pub served : List (List ℕ)
+  pub more : List (List ℕ)
+  pub texts : texts_in ended (after_line taken) ≡ served ++ more
+  -- THE STATEMENTS. The texts that were answered, and at most one that was begun, spell these.
+  pub spelt : List Spelt
+  pub spells : SpellFirst (served ++ more) spelt
+  pub reached : length served ≤ length spelt
+  pub begun : length spelt ≤ length served + 1
+  -- THE OUTPUT. So each was answered, so much was printed of the one begun, and then the last line. A sink took all of it,
+  -- or failed; all answers it took whole, and what was printed of the one begun, too, unless the run ended there.
+  pub answers : List Answer
+  pub each : length answers ≡ length served
+  pub part : List ℕ
+  pub ending : Ending
+  pub grew : Cut old.written new.written (SinksRose old.faults new.faults)
+      ((printed answers ++ part) ++ last_line ending)
+  pub whole : Took old.written new.written (printed answers)
+  pub through : ¬ SinkStopped ending → Took old.written new.written (printed answers ++ part)
+  -- THE ACCESSES, over every store, are the trace of the statements' skeletons and of what is seen of each, of which the
+  -- last belongs to the one begun. They are traced, those before it whole, where tracing is asked for.
+  pub seen : List Served
+  pub last : List Served
+  pub one_last : length last ≤ 1
+  pub lawful : AreSeen ending (public_with settings) 0 spelt answers (seen ++ last)
+  pub asked : new.store.asked ≡ trace (public_with settings) (seen ++ last)
+  pub traced_all : Cut old.traced new.traced (SinksRose old.faults new.faults)
+      (traced tracing new.store.asked)
+  pub traced_whole : Took old.traced new.traced (traced tracing (trace (public_with settings) seen))
+  pub failed : RisesBy (failures answers) old.store.faults new.store.faults
+  pub unfailed : any_cut (seen ++ last) ≡ false → new.store.faults ≡ old.store.faults
+  -- THE ANSWERS. Unless a changed block's tag fits, they and what is seen are those of SQL over plain tables, from no tables.
+  pub meant : IsUndeceived (keys_in taken) old.store new.store
+      → (broken : Broken) × Answers ending (start settings) spelt broken answers (seen ++ last) part
+  -- TAMPERING. A changed block whose tag doesn't fit ends the run at its read, and the last line names it.
+  pub tampered : (lie : Lie) → new.store.lie ≡ Some lie → ¬ Fits (keys_in taken) from_nothing lie
+      → (ending ≡ Ran (Err (Tampered lie.region lie.place)))
+      × (new.store.asked ≡ lie.before ++ Read lie.region lie.place ∷ [])
+  -- BEFORE OTHERS CHANGE THE STORE, where it says behind how many accesses they do, all is as it is meant.
+  pub always : IsTrue old.store.tells → (n : ℕ) → IsBefore old.store.disturbed n
+      → Until settings n spelt answers (seen ++ last) new.store.asked
+  -- SEALING. Of a store that tells what it holds no block of a live region lies in clear.
+  pub sealed : IsTrue old.store.tells
+      → IsSealed (keys_in taken) (public_with settings).pack new.store
+  -- OPEN ROWS. Never more than the settings say, and at least one where a block was read or written.
+  pub most_open : report.high ≤ rows_in settings
+  pub some_open : IsTrue (list_any is_of_rows new.store.asked) → 1 ≤ report.high
+  -- THE STATUS says how the run ended, for its cause; and one that nothing hinders comes to the end of its input.
+  pub status : report.status ≡ status_of ending
+  pub because : Because ending Takes (limit_of settings) taken ended more answers part old new
+  pub completes : Takes → (input : List ℕ) → old.left ≡ Some input
+      → KeepsLimits (limit_of settings) input
+      → ¬ Rises old.faults.source new.faults.source → ¬ SinksRose old.faults new.faults
+      → IsCompleted (IsHonest old.store new.store) ending

@@ -1,0 +1,67 @@
+-- When two runs ask the same.
+use Rattle.std.specs.Prelude.{ℕ, ◌≡◌, ◌≤◌, ◌+◌, ⊤, Bool, true, false, List, [], ◌∷◌, length, IsTrue, None, Ok, Err, is_some}
+use Rattle.clap.specs.Words.{Text}
+use Rattle.ob_base.specs.declared.config.Public.{Public}
+use Rattle.ob_base.specs.declared.seen.End.TheVariants.{Static, Whole}
+use Rattle.ob_base.specs.declared.seen.Seen.{Seen}
+use Rattle.ob_exec.specs.Running.{refusal_now}
+use Rattle.ob_mean.specs.Lawful.{is_counted}
+use Rattle.ob_mean.specs.Replay.{Spelt}
+use Rattle.ob_script.specs.Script.{script}
+use Rattle.ob_script.specs.Trace.{Served, next}
+use Rattle.ob_shell.specs.Headline.{Headline}
+use Rattle.ob_shell.specs.Settings.{IsTaken, settings_of}
+use Rattle.ob_shell.specs.Usage.{is_traced, usage}
+use Rattle.ob_shell.specs.Words.{Outside}
+use Rattle.ob_shell.specs.declared.top.Report.{Report}
+use Rattle.ob_sql.specs.Skeleton.{skeleton}
+use Rattle.ob_sql.specs.declared.stmt.Stmt.{Stmt}
+
+-- what `shell_top` promises of a run
+abbrev pub ShellRun : List Text → (old new : Outside) → Report → Type 0
+ShellRun words old new report =
+    Headline (IsTaken usage words) (settings_of usage words) (is_traced usage words) old new report
+
+-- a run that came to its end, and of which no text was answered that the store failed
+pub record EndsWell (status : ℕ) (failures : ℕ) : Type 0 where
+  pub ended : status ≤ 1
+  pub none : failures ≡ 0
+
+-- the statements among what texts spell
+unfoldable pub statements : List Spelt → List Stmt
+statements [] = []
+statements (Ok stmt ∷ spelt) = stmt ∷ statements spelt
+statements (Err at ∷ spelt) = statements spelt
+
+-- what is seen of a statement that is no SELECT of rows and was not cut off: whether it was refused before any access
+abbrev pub seen_plainly : (refused : Bool) → Seen
+seen_plainly true = record { k = None; plan = None; then = None; end = Static }
+seen_plainly false = record { k = None; plan = None; then = None; end = Whole }
+
+abbrev pub plainly : Public → ℕ → Stmt → Seen
+plainly p m stmt = seen_plainly (is_some (refusal_now p m stmt))
+
+-- two lists of statements, none a SELECT of rows: their skeletons are the same, and the same ones are refused before any
+-- access
+unfoldable pub Alike : Public → ℕ → List Stmt → List Stmt → Type 0
+Alike p m [] [] = ⊤
+Alike p m [] (b ∷ qs) = ⊥
+Alike p m (a ∷ ps) [] = ⊥
+Alike p m (a ∷ ps) (b ∷ qs) =
+    (skeleton a ≡ skeleton b) × (is_counted a ≡ false)
+    × (is_some (refusal_now p m a) ≡ is_some (refusal_now p m b))
+    × Alike (next p (skeleton a) (plainly p m a))
+    (m + length (script p (skeleton a) (plainly p m a))) ps qs
+
+-- any two lists of statements, and what was seen of each: their skeletons are the same, the same ones are refused before
+-- any access, and of each SELECT of rows the same is seen
+unfoldable pub ShowAlike : Public → ℕ → List Stmt → List Served → List Stmt → List Served → Type 0
+ShowAlike p m [] xs [] ys = ⊤
+ShowAlike p m [] xs (b ∷ qs) ys = ⊥
+ShowAlike p m (a ∷ ps) xs [] ys = ⊥
+ShowAlike p m (a ∷ ps) [] (b ∷ qs) ys = ⊥
+ShowAlike p m (a ∷ ps) (x ∷ xs) (b ∷ qs) [] = ⊥
+ShowAlike p m (a ∷ ps) (x ∷ xs) (b ∷ qs) (y ∷ ys) =
+    (skeleton a ≡ skeleton b) × (is_some (refusal_now p m a) ≡ is_some (refusal_now p m b))
+    × (IsTrue (is_counted a) → x.seen ≡ y.seen)
+    × ShowAlike (next p x.skeleton x.seen) (m + length (script p x.skeleton x.seen)) ps xs qs ys

@@ -1,0 +1,56 @@
+//! A caller outside: what follows for two sessions from what is promised of each.
+ghost use Rattle.std.specs.Prelude.{◌≡◌, [], map, string_bytes};
+ghost use Rattle.ob_shell.specs.Failures.{failures};
+ghost use Rattle.ob_shell.specs.Reruns.{Alike, EndsWell, ShellRun, statements};
+ghost use Rattle.ob_shell.specs.Settings.{settings_of};
+ghost use Rattle.ob_shell.specs.Usage.{usage};
+ghost use Rattle.ob_shell.specs.Words.{faults_of, outside_of, public_with};
+
+use ob_io::{Sink, Source};
+use ob_shell::{Report, reruns_ask_the_same, shell_top};
+use ob_store::BlockStore;
+use std::alloc::Global;
+
+/// Serves two inputs with the same words, each over a store of its own. Where both came to their end and no text was
+/// answered that a store failed, and the statements that they spell differ in their literals alone and have the same
+/// early refusals, none of them a SELECT of rows, both sessions asked the same of their stores.
+pub fn sessions_ask_the_same<I: Source, O: Sink, T: Sink, S: BlockStore>(
+    alloc: Global,
+    words: &[String],
+    input: &mut I,
+    out: &mut O,
+    trace: &mut T,
+    store: &mut S,
+    input_too: &mut I,
+    out_too: &mut O,
+    trace_too: &mut T,
+    store_too: &mut S,
+) -> (Report, Report)
+    requires fresh { (S.state store.old).asked ≡ [] }
+    requires fresh_too { (S.state store_too.old).asked ≡ [] }
+    ensures { (a : ShellRun (map string_bytes words.now)
+        (outside_of (I.left input.old) (O.written out.old) (T.written trace.old) (S.state store.old)
+        (faults_of (I.faults input.old) (O.faults out.old) (T.faults trace.old)))
+        (outside_of (I.left input.new) (O.written out.new) (T.written trace.new) (S.state store.new)
+        (faults_of (I.faults input.new) (O.faults out.new) (T.faults trace.new))) result.0)
+        × (b : ShellRun (map string_bytes words.now)
+        (outside_of (I.left input_too.old) (O.written out_too.old) (T.written trace_too.old)
+        (S.state store_too.old)
+        (faults_of (I.faults input_too.old) (O.faults out_too.old) (T.faults trace_too.old)))
+        (outside_of (I.left input_too.new) (O.written out_too.new) (T.written trace_too.new)
+        (S.state store_too.new)
+        (faults_of (I.faults input_too.new) (O.faults out_too.new) (T.faults trace_too.new)))
+        result.1)
+        × (EndsWell result.0.status (failures a.answers)
+        → EndsWell result.1.status (failures b.answers)
+        → Alike (public_with (settings_of usage (map string_bytes words.now))) 0
+        (statements a.spelt) (statements b.spelt)
+        → (S.state store.new).asked ≡ (S.state store_too.new).asked) }
+{
+    reruns_ask_the_same();
+    let first = shell_top(alloc, words, input, out, trace, store);
+    let second = shell_top(
+        alloc, words, input_too, out_too, trace_too, store_too,
+    );
+    (first, second)
+}
