@@ -14,9 +14,6 @@ use Rattle.ob_row.specs.Slots.{Slots, slot_at, is_selected, selected, is_consecu
 use Rattle.ob_blocks.specs.Blocks.{none_of, scanned}
 use Rattle.ob_cont.specs.Putting.{put_if, put_at, put_slots}
 
-abbrev at : Slots → ℕ → Option Row
-at slots x = slice_index_or slots x None
-
 -- the rows of these places, one after the other
 abbrev put_places : ℕ → Slots → Slots → List ℕ → Slots
 put_places k slots made [] = made
@@ -65,20 +62,20 @@ pub other_test : (a b : ℕ) → a ≢ b → (a == b) ≡ false
 other_test a b other = grind (arith, nat_tests)
 
 -- then each place has what was put there
-put_places_at : (k : ℕ) (slots made : Slots) (is : List ℕ) (x : ℕ) → x < length made → AreApart k is → at (put_places k slots made is) x ≡ found_or slots (at made x) (find (λ i. i % k == x) is)
+put_places_at : (k : ℕ) (slots made : Slots) (is : List ℕ) (x : ℕ) → x < length made → AreApart k is → slice_index_or (put_places k slots made is) x None ≡ found_or slots (slice_index_or made x None) (find (λ i. i % k == x) is)
 put_places_at k slots made [] x below apart = refl
 put_places_at k slots made (i ∷ is) x below apart =
     let set = slice_set made (i % k) (slot_at slots i) in
     let rest = put_places_at k slots set is x (omega (arith, below, length-set made (i % k) (slot_at slots i))) apart.1 in
     elim (cases_eq (i % k) x) [
       | inl same ↦
-          let there : at set x ≡ slot_at slots i = ap (λ (n : ℕ). at (slice_set made n (slot_at slots i)) x) same ∙ get_or-set_same made x (slot_at slots i) None below in
+          let there : slice_index_or set x None ≡ slot_at slots i = ap (λ (n : ℕ). slice_index_or (slice_set made n (slot_at slots i)) x None) same ∙ get_or-set_same made x (slot_at slots i) None below in
           let none : find (λ j. j % k == x) is ≡ None = ap (λ (n : ℕ). find (λ j. j % k == n) is) (sym same) ∙ apart.0 in
-          rest ∙ ap (found_or slots (at set x)) none ∙ there ∙ sym (ap (λ (b : Bool). found_or slots (at made x) (cond b (Some i) (find (λ j. j % k == x) is))) (same_test (i % k) x same))
+          rest ∙ ap (found_or slots (slice_index_or set x None)) none ∙ there ∙ sym (ap (λ (b : Bool). found_or slots (slice_index_or made x None) (cond b (Some i) (find (λ j. j % k == x) is))) (same_test (i % k) x same))
       | inr other ↦
-          let there : at set x ≡ at made x = get_or-set_other made (i % k) x (slot_at slots i) None (λ e. other (sym e)) in
+          let there : slice_index_or set x None ≡ slice_index_or made x None = get_or-set_other made (i % k) x (slot_at slots i) None (λ e. other (sym e)) in
           rest ∙ ap (λ (o : Option Row). found_or slots o (find (λ j. j % k == x) is)) there
-          ∙ sym (ap (λ (b : Bool). found_or slots (at made x) (cond b (Some i) (find (λ j. j % k == x) is))) (other_test (i % k) x other))
+          ∙ sym (ap (λ (b : Bool). found_or slots (slice_index_or made x None) (cond b (Some i) (find (λ j. j % k == x) is))) (other_test (i % k) x other))
     ]
 
 pub within : (a b k : ℕ) → a ≤ b → a * k ≤ b * k
@@ -129,14 +126,14 @@ length-tabulate : {A : Type 0} (n : ℕ) (f : ℕ → A) → length (tabulate n 
 length-tabulate zero f = refl
 length-tabulate (suc n) f = omega (arith, length-append (tabulate n f) (f n ∷ []), length-tabulate n f)
 
-get-tabulate : (n : ℕ) (f : ℕ → Option Row) (x : ℕ) → x < n → at (tabulate n f) x ≡ f x
+get-tabulate : (n : ℕ) (f : ℕ → Option Row) (x : ℕ) → x < n → slice_index_or (tabulate n f) x None ≡ f x
 get-tabulate zero f x below = absurd (omega arith)
 get-tabulate (suc n) f x below = elim (cases_lt x n) [
   | inl less ↦ get_or_append_left (tabulate n f) (f n ∷ []) None x (omega (arith, less, length-tabulate n f)) ∙ get-tabulate n f x less
   | inr past ↦
       let last : x ≡ n = omega arith in
       let first : x - length (tabulate n f) ≡ 0 = omega (arith, last, length-tabulate n f) in
-      get_or-append_right (tabulate n f) (f n ∷ []) x None (omega (arith, last, length-tabulate n f)) ∙ ap (λ (m : ℕ). at (f n ∷ []) m) first ∙ ap f (sym last)
+      get_or-append_right (tabulate n f) (f n ∷ []) x None (omega (arith, last, length-tabulate n f)) ∙ ap (λ (m : ℕ). slice_index_or (f n ∷ []) m None) first ∙ ap f (sym last)
 ]
 
 found_none : (slots : Slots) (o : Option ℕ) → found_or slots None o ≡ option_and_then (slot_at slots) o
@@ -159,8 +156,8 @@ pub put_consecutive : (k : ℕ) (p : RowTest) (slots : Slots) → IsTrue (is_con
 put_consecutive k p slots consecutive few =
     ext_get_or None (put_slots k p slots) (continuous_slots k p slots) (length-put_slots k p slots ∙ sym (length-tabulate k _)) (λ x below.
     let inside : x < k = omega (arith, below, length-put_slots k p slots) in
-    let none : at (none_of k) x ≡ None = get_or-replicate k x None None inside in
-    ap (λ (l : Slots). at l x) (behind k p [] (none_of k) slots)
+    let none : slice_index_or (none_of k) x None ≡ None = get_or-replicate k x None None inside in
+    ap (λ (l : Slots). slice_index_or l x None) (behind k p [] (none_of k) slots)
     ∙ put_places_at k slots (none_of k) (selected p slots) x (omega (arith, inside, length-replicate {A = Option Row} k None)) (consecutive_apart k (selected p slots) consecutive few)
     ∙ ap (λ (o : Option Row). found_or slots o (find (λ i. i % k == x) (selected p slots))) none
     ∙ found_none slots (find (λ i. i % k == x) (selected p slots))

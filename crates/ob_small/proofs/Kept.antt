@@ -12,30 +12,27 @@ use Rattle.ob_flat.specs.Slots.{AreSlots}
 use Rattle.ob_flat.proofs.Rows.{slots_of, row_same, row_other}
 use Rattle.ob_small.specs.Keeping.{AreKept}
 
-abbrev at : Slots → ℕ → Option Row
-at slots i = slice_index_or slots i None
-
 -- what stands behind them is empty
-pub at_taken : (k i : ℕ) (slots : Slots) → k ≤ i → at (take k slots) i ≡ None
+pub at_taken : (k i : ℕ) (slots : Slots) → k ≤ i → slice_index_or (take k slots) i None ≡ None
 at_taken k i slots past = get_or_past (take k slots) i None (omega (arith, length-take k slots))
 
 -- one slot more, at another place and at its own
-at_push : (k i : ℕ) (slots : Slots) (slot : Option Row) → i ≢ length slots → at (take k (slots ++ slot ∷ [])) i ≡ at (take k slots) i
+at_push : (k i : ℕ) (slots : Slots) (slot : Option Row) → i ≢ length slots → slice_index_or (take k (slots ++ slot ∷ [])) i None ≡ slice_index_or (take k slots) i None
 at_push k i slots slot off = elim (cases_lt i k) [
   | inl inside ↦ get_or-take k (slots ++ slot ∷ []) i None inside ∙ pushed ∙ sym (get_or-take k slots i None inside)
   | inr past ↦ at_taken k i (slots ++ slot ∷ []) past ∙ sym (at_taken k i slots past)
 ]
   where
-    pushed : at (slots ++ slot ∷ []) i ≡ at slots i
+    pushed : slice_index_or (slots ++ slot ∷ []) i None ≡ slice_index_or slots i None
     pushed = elim (cases_lt i (length slots)) [
       | inl less ↦ get_or_append_left slots (slot ∷ []) None i less
       | inr more ↦ get_or_past (slots ++ slot ∷ []) i None (omega (arith, length-append slots (slot ∷ []))) ∙ sym (get_or_past slots i None more)
     ]
 
-at_pushed : (k : ℕ) (slots : Slots) (slot : Option Row) (i : ℕ) → i ≡ length slots → i < k → at (take k (slots ++ slot ∷ [])) i ≡ slot
+at_pushed : (k : ℕ) (slots : Slots) (slot : Option Row) (i : ℕ) → i ≡ length slots → i < k → slice_index_or (take k (slots ++ slot ∷ [])) i None ≡ slot
 at_pushed k slots slot i same inside =
     let first : i - length slots ≡ 0 = omega arith in
-    get_or-take k (slots ++ slot ∷ []) i None inside ∙ get_or-append_right slots (slot ∷ []) i None (omega arith) ∙ ap (λ (n : ℕ). at (slot ∷ []) n) first
+    get_or-take k (slots ++ slot ∷ []) i None inside ∙ get_or-append_right slots (slot ∷ []) i None (omega arith) ∙ ap (λ (n : ℕ). slice_index_or (slot ∷ []) n None) first
 
 module _ (columns : Columns) (slots : Slots) (slot : Option Row) (from k : ℕ) (rows : List (List ℕ)) (keeps : AreKept columns slots from k rows) where
   -- a row that isn't kept
@@ -52,13 +49,13 @@ module _ (columns : Columns) (slots : Slots) (slot : Option Row) (from k : ℕ) 
   keeps_on i row inside here below begins = record {
     each = λ j within. elim (cases_eq j i) [
       | inl same ↦
-          let is : at (take k (slots ++ slot ∷ [])) (from + j) ≡ slot = at_pushed k slots slot (from + j) (omega arith) (omega arith) in
+          let is : slice_index_or (take k (slots ++ slot ∷ [])) (from + j) None ≡ slot = at_pushed k slots slot (from + j) (omega arith) (omega arith) in
           let put : row_at (slice_set rows i row) j ≡ row = ap (row_at (slice_set rows i row)) same ∙ row_same columns rows i row inside in
           subst (λ (s : Option Row). Begins columns s (row_at (slice_set rows i row) j)) (sym is) (subst (Begins columns slot) (sym put) begins)
       | inr other ↦
           let is = at_push k (from + j) slots slot (λ e. other (omega (arith, e))) in
           let put = row_other columns rows i row inside j other in
-          subst (λ (s : Option Row). Begins columns s (row_at (slice_set rows i row) j)) (sym is) (subst (Begins columns (at (take k slots) (from + j))) (sym put) (keeps.each j (omega (arith, within, length-set rows i row))))
+          subst (λ (s : Option Row). Begins columns s (row_at (slice_set rows i row) j)) (sym is) (subst (Begins columns (slice_index_or (take k slots) (from + j) None)) (sym put) (keeps.each j (omega (arith, within, length-set rows i row))))
     ];
   }
 
@@ -66,7 +63,7 @@ module _ (columns : Columns) (slots : Slots) (slot : Option Row) (from k : ℕ) 
 pub slots_put : (columns : Columns) (rows : List (List ℕ)) (i : ℕ) (row : List ℕ) → i < length rows → AreSlots columns rows → ((slot : Option Row) × Begins columns slot row) → AreSlots columns (slice_set rows i row)
 slots_put columns rows i row inside are begins = slots_of columns (slice_set rows i row) (λ j within. elim (cases_eq j i) [
   | inl same ↦ (begins.0, subst (Begins columns begins.0) (sym (ap (row_at (slice_set rows i row)) same ∙ row_same columns rows i row inside)) begins.1)
-  | inr other ↦ (at are.slots j, subst (Begins columns (at are.slots j)) (sym (row_other columns rows i row inside j other)) (are.spelt.each j (omega (arith, within, length-set rows i row))))
+  | inr other ↦ (slice_index_or are.slots j None, subst (Begins columns (slice_index_or are.slots j None)) (sym (row_other columns rows i row inside j other)) (are.spelt.each j (omega (arith, within, length-set rows i row))))
 ])
 
 -- nothing is kept of no slots

@@ -22,17 +22,14 @@ use Rattle.ob_flat.specs.Flats.{Represents, whole_blocks}
 use Rattle.ob_flat.proofs.Rows.{slots_of}
 use Rattle.ob_small.specs.Keeping.{chosen, fitted, AreKept}
 
-abbrev at : Slots → ℕ → Option Row
-at slots i = slice_index_or slots i None
-
-none_at : (n i : ℕ) → at (none_of n) i ≡ None
+none_at : (n i : ℕ) → ◌≡◌ {A = Option Row} (slice_index_or (none_of n) i None) None
 none_at n i = elim (cases_lt i n) [
   | inl less ↦ get_or-replicate n i None None less
   | inr more ↦ get_or_past (none_of n) i None (omega (arith, length-replicate {A = Option Row} n None))
 ]
 
 -- a slot past the end is empty
-at-up_to : (n i : ℕ) (slots : Slots) → at (up_to n slots) i ≡ at slots i
+at-up_to : (n i : ℕ) (slots : Slots) → slice_index_or (up_to n slots) i None ≡ slice_index_or slots i None
 at-up_to n i slots = elim (cases_lt i (length slots)) [
   | inl less ↦ get_or_append_left slots (none_of (n - length slots)) None i less
   | inr more ↦ get_or-append_right slots (none_of (n - length slots)) i None more ∙ none_at (n - length slots) (i - length slots) ∙ sym (get_or_past slots i None more)
@@ -74,18 +71,18 @@ kept_block columns r k results first x slots rows fits inside within keeps =
       count = length-block r all (first + x) results within size ∙ sym long;
       each = λ z below.
           let less : z < r = omega (arith, below, long) in
-          let is : at (block_at r all (first + x)) z ≡ at (take k slots) (first * r + (x * r + z)) =
+          let is : slice_index_or (block_at r all (first + x)) z None ≡ slice_index_or (take k slots) (first * r + (x * r + z)) None =
           block-element r (first + x) z all None less ∙ at-up_to (results * r) ((first + x) * r + z) (fitted k slots) ∙ at-up_to k ((first + x) * r + z) (take k slots)
-          ∙ ap (at (take k slots)) (sym (index first x r z)) in
+          ∙ ap (λ (j : ℕ). slice_index_or (take k slots) j None) (sym (index first x r z)) in
           subst (λ (s : Option Row). Begins columns s (row_at (take r (drop (x * r) rows)) z)) (sym is)
-          (subst (Begins columns (at (take k slots) (first * r + (x * r + z)))) (sym (block-element r x z rows [] less)) (keeps.each (x * r + z) (omega (arith, less, inside))));
+          (subst (Begins columns (slice_index_or (take k slots) (first * r + (x * r + z)) None)) (sym (block-element r x z rows [] less)) (keeps.each (x * r + z) (omega (arith, less, inside))));
     }
 
 -- and some slots where these aren't told
 pub part_slots : (columns : Columns) (r x : ℕ) (rows : List (List ℕ)) → x * r + r ≤ length rows → AreSlots columns rows → AreSlots columns (take r (drop (x * r) rows))
 part_slots columns r x rows inside are = slots_of columns (take r (drop (x * r) rows)) (λ z below.
     let less : z < r = omega (arith, below, part_long r x rows inside) in
-    (at are.slots (x * r + z), subst (Begins columns (at are.slots (x * r + z))) (sym (block-element r x z rows [] less)) (are.spelt.each (x * r + z) (omega (arith, less, inside)))))
+    (slice_index_or are.slots (x * r + z) None, subst (Begins columns (slice_index_or are.slots (x * r + z) None)) (sym (block-element r x z rows [] less)) (are.spelt.each (x * r + z) (omega (arith, less, inside)))))
 
 -- the result has these slots
 pub represents_fitted : (pack : ℕ) (flat : Flat) (p : Row → Bool) (slots : Slots) (w : World) → All (FitsSlot flat.schema) slots
