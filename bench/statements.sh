@@ -57,7 +57,7 @@ STATEMENTS = [
     ("SELECT, Small", "SELECT * FROM t WHERE id < 9;", [("c", 4), ("S", 4)]),
 ]
 SETUP = ["CREATE TABLE t (id INT PRIMARY KEY, v INT) CAPACITY 65536;", *[f"INSERT INTO t VALUES ({n}, {n});" for n in range(4)]]
-TIMES = 3
+TIMES = 12
 
 print("| Statement | rows of a block | ms | its passes, ms | ratio | limit | |")
 print("|---|---:|---:|---:|---:|---:|---|")
