@@ -1,10 +1,11 @@
 -- What an index is in a vault and its store.
-use Rattle.std.specs.Prelude.{◌≡◌, ◌≢◌, ◌≤◌, ℕ, List, Option, length}
+use Rattle.std.specs.Prelude.{◌≡◌, ◌≢◌, ◌≤◌, ℕ, Bool, List, Option, length}
 use Rattle.ob_vault.specs.declared.region.Order.TheVariants.{Round, Any}
 use Rattle.ob_vault.specs.State.{World}
+use Rattle.ob_vault.specs.Calls.{Seals}
 use Rattle.ob_row.specs.Rows.{Row}
 use Rattle.ob_flat.specs.declared.flat.Flat.{Flat}
-use Rattle.ob_flat.specs.Flats.{IsSized, IsInTurn, Represents as HoldsSlots}
+use Rattle.ob_flat.specs.Flats.{IsSized, IsInTurn, Accepts, Represents as HoldsSlots}
 use Rattle.ob_tree.specs.States.{State, Represents, Stands}
 use Rattle.ob_oram.specs.declared.index.Index.{Index}
 use Rattle.ob_oram.specs.Keys.{IsIntKey, row_key}
@@ -65,3 +66,8 @@ pub record IsMap (index : Index) (m : ℕ → Option Row) (w : World) : Type 0 w
   pub state : State Row
   pub lies : LiesAs index state w
   pub represents : Represents (key_of index) index.height state m
+
+-- where all was sealed and good, it is, if blocks of a row or a dummy are good for both regions
+pub record SealsIndex (index : Index) (old new : World) : Type 0 where
+  pub seals : (good : ℕ → List ℕ → Bool) → Accepts good 1 index.schema index.tree
+      → Accepts good 1 index.schema index.stash → Seals good old new

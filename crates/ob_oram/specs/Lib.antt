@@ -3,3 +3,7 @@ pub mod Heights
 pub mod Indexes
 pub mod Buffers
 pub mod Creating
+pub mod Walks
+pub mod Walking
+pub mod Ops
+pub mod Accessing
