@@ -16,8 +16,8 @@ use Rattle.ob_group.specs.Grouping.{Group, put_row, put_slot, groups_with}
 use Rattle.ob_group.specs.Held.{AreGroups, no_group}
 use Rattle.ob_group.proofs.GroupBytes.{holds_more}
 
-abbrev at : Slots → ℕ → Option Row
-at slots i = slice_index_or slots i None
+abbrev slot_at : Slots → ℕ → Option Row
+slot_at slots i = slice_index_or slots i None
 
 module _ (p : Row → Bool) (key : ℕ) (aggs : List Agg) where
   pub with_more : (gs : List Group) (slots : Slots) (slot : Option Row) → groups_with p key aggs gs (slots ++ slot ∷ []) ≡ put_slot p key aggs (groups_with p key aggs gs slots) slot
@@ -33,10 +33,10 @@ module _ (p : Row → Bool) (key : ℕ) (aggs : List Agg) where
 
 -- one row more was read
 pub read_more : (columns : Columns) (rows : List (List ℕ)) (z : ℕ) (slots : Slots) (slot : Option Row) → length slots ≡ z
-    → ((j : ℕ) → j < z → Begins columns (at slots j) (row_at rows j)) → Begins columns slot (row_at rows z) → (j : ℕ) → j < z + 1 → Begins columns (at (slots ++ slot ∷ []) j) (row_at rows j)
+    → ((j : ℕ) → j < z → Begins columns (slot_at slots j) (row_at rows j)) → Begins columns slot (row_at rows z) → (j : ℕ) → j < z + 1 → Begins columns (slot_at (slots ++ slot ∷ []) j) (row_at rows j)
 read_more columns rows z slots slot size before here =
     let first : z - length slots ≡ 0 = omega (arith, size) in
-    let last : at (slots ++ slot ∷ []) z ≡ slot = get_or-append_right slots (slot ∷ []) z None (omega (arith, size)) ∙ ap (at (slot ∷ [])) first in
+    let last : slot_at (slots ++ slot ∷ []) z ≡ slot = get_or-append_right slots (slot ∷ []) z None (omega (arith, size)) ∙ ap (slot_at (slot ∷ [])) first in
     below_more _ _ (λ j h. subst (λ (s : Option Row). Begins columns s (row_at rows j)) (sym (get_or_append_left slots (slot ∷ []) None j (omega (arith, h, size)))) (before j h))
     (subst (λ (s : Option Row). Begins columns s (row_at rows z)) (sym last) here)
 

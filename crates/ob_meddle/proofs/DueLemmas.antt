@@ -7,7 +7,7 @@ use Rattle.ob_base.specs.declared.access.Access.{Access}
 use Rattle.ob_meddle.specs.declared.meddle.Act.{Act}
 use Rattle.ob_meddle.specs.declared.meddle.Act.TheVariants.{Fail, Flip, Copy, Older}
 use Rattle.ob_meddle.specs.declared.meddle.Meddle.{Meddle}
-use Rattle.ob_meddle.specs.Acts.{Rests, Stands, after_act, after_acts}
+use Rattle.ob_meddle.specs.Acts.{RegionRests, Stands, after_act, after_acts}
 use Rattle.ob_meddle.specs.Due.{is_fail, fails_at, failed_among, has_acted, are_later, disturbance_of, disturbances}
 
 pub more_asked : (asked : List Access) (a : Access) → length (asked ++ a ∷ []) ≡ suc (length asked)
@@ -32,14 +32,14 @@ pub acted_later : (list : List Meddle) (m n : ℕ) → m ≤ n → has_acted lis
 acted_later [] m n le none = refl
 acted_later (x ∷ list) m n le none = grind (arith, acted_later list m n le)
 
-act_of_fail : (rests : Rests) (a : Act) (s : Stands) → is_fail a ≡ true → after_act rests a s ≡ s
+act_of_fail : (rests : RegionRests) (a : Act) (s : Stands) → is_fail a ≡ true → after_act rests a s ≡ s
 act_of_fail rests Fail s is = refl
 act_of_fail rests (Flip region place byte) s is = absurd (cc is)
 act_of_fail rests (Copy from to) s is = absurd (cc is)
 act_of_fail rests (Older region place) s is = absurd (cc is)
 
 -- where no act came, none comes now
-pub none_due : (rests : Rests) (list : List Meddle) (number : ℕ) (s : Stands) → 1 ≤ number → has_acted list number ≡ false → after_acts rests list number s ≡ s
+pub none_due : (rests : RegionRests) (list : List Meddle) (number : ℕ) (s : Stands) → 1 ≤ number → has_acted list number ≡ false → after_acts rests list number s ≡ s
 none_due rests [] number s some none = refl
 none_due rests (x ∷ list) number s some none =
     ap (after_acts rests list number) (step (x.before == number) refl) ∙ none_due rests list number s some (grind arith) where

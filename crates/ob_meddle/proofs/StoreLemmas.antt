@@ -11,7 +11,7 @@ use Rattle.ob_meddle.specs.declared.meddle.Meddle.{Meddle}
 use Rattle.ob_meddle.specs.declared.region.Region.{Region}
 use Rattle.ob_meddle.specs.declared.caught.Caught.{Caught}
 use Rattle.ob_meddle.specs.Held.{Rest}
-use Rattle.ob_meddle.specs.Acts.{Rests, Stands, rest_at, rests_of, stands_of, after_acts}
+use Rattle.ob_meddle.specs.Acts.{RegionRests, Stands, rest_at, rests_of, stands_of, after_acts}
 use Rattle.ob_meddle.specs.Regions.{last_at}
 use Rattle.ob_meddle.specs.Due.{fails_at, failed_among, has_acted}
 use Rattle.ob_meddle.specs.Fresh.{IsFresh, IsHonest, IsEarly}
@@ -37,7 +37,7 @@ module _ (list : List Meddle) (old more : List Access) (a : Access) (e : more �
   honest_more before after honest rests stands = λ none q x block is.
       let still = acted_later list (length old) (length more) (omega (arith, one_more)) none in
       ap (λ (s : Stands). s q x) (stands ∙ none_due (rests_of before) list (length more) (stands_of before) (omega (arith, one_more)) none)
-      ∙ honest still q x block (ap (λ (r : Rests). last_at (r q) x) (sym rests) ∙ is)
+      ∙ honest still q x block (ap (λ (r : RegionRests). last_at (r q) x) (sym rests) ∙ is)
 
   pub early_more : (caught : Option Caught) → IsEarly caught old → IsEarly caught more
   early_more caught early = λ c is. let before = early c is in omega (arith, one_more)

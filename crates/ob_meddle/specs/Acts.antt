@@ -13,8 +13,8 @@ use Rattle.ob_meddle.specs.Held.{Rest, rest_of, stand_of, can_flip, has_older, c
 abbrev pub Stands : Type 0
 Stands = ℕ → ℕ → List ℕ
 
-abbrev pub Rests : Type 0
-Rests = ℕ → Option Rest
+abbrev pub RegionRests : Type 0
+RegionRests = ℕ → Option Rest
 
 -- nothing stands otherwise but at this place
 abbrev pub OnlyStand : (region place : ℕ) → (old new : Stands) → Type 0
@@ -25,7 +25,7 @@ abbrev pub OtherStands : (region : ℕ) → (old new : Stands) → Type 0
 OtherStands region old new = (q x : ℕ) → q ≢ region → new q x ≡ old q x
 
 -- nor is the rest of another
-abbrev pub OtherRests : (region : ℕ) → (old new : Rests) → Type 0
+abbrev pub OtherRests : (region : ℕ) → (old new : RegionRests) → Type 0
 OtherRests region old new = (q : ℕ) → q ≢ region → new q ≡ old q
 
 abbrev pub rest_at : Option Region → Option Rest
@@ -36,7 +36,7 @@ abbrev pub stand_at : Option Region → ℕ → List ℕ
 stand_at None place = []
 stand_at (Some r) place = stand_of r place
 
-abbrev pub rests_of : BTreeMap ℕ Region → Rests
+abbrev pub rests_of : BTreeMap ℕ Region → RegionRests
 rests_of regions q = rest_at (get nat_cmp regions q)
 
 abbrev pub stands_of : BTreeMap ℕ Region → Stands
@@ -66,7 +66,7 @@ can_copy from place to x = has_place place from && allows (can_hold x (len_at fr
 abbrev pub put_at : ℕ → ℕ → List ℕ → Stands → Stands
 put_at region place block s q x = if (q == region) && (x == place) then block else s q x
 
-abbrev pub after_act : Rests → Act → Stands → Stands
+abbrev pub after_act : RegionRests → Act → Stands → Stands
 after_act rests Fail s = s
 after_act rests (Flip region place byte) s =
     put_at region place (if allows (can_flip place byte) (rests region) then flipped byte (s region place) else s region place) s
@@ -76,6 +76,6 @@ after_act rests (Older region place) s =
     put_at region place (if allows (has_older place) (rests region) then before_at (rests region) place else s region place) s
 
 -- the acts before this access, in order
-abbrev pub after_acts : Rests → List Meddle → ℕ → Stands → Stands
+abbrev pub after_acts : RegionRests → List Meddle → ℕ → Stands → Stands
 after_acts rests [] number s = s
 after_acts rests (meddle ∷ list) number s = after_acts rests list number (if meddle.before == number then after_act rests meddle.act s else s)

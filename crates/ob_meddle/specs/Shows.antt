@@ -6,7 +6,7 @@ use Rattle.ob_meddle.specs.declared.meddle.Meddle.{Meddle}
 use Rattle.ob_meddle.specs.declared.store.MeddledStore.{MeddledStore}
 use Rattle.ob_store.specs.Logs.{asked_of}
 use Rattle.ob_store.specs.Gave.{gave_of}
-use Rattle.ob_meddle.specs.Acts.{Rests, Stands, rests_of, stands_of, after_acts}
+use Rattle.ob_meddle.specs.Acts.{RegionRests, Stands, rests_of, stands_of, after_acts}
 use Rattle.ob_meddle.specs.Regions.{shape_at, last_at}
 use Rattle.ob_meddle.specs.Caught.{lie_of}
 use Rattle.ob_meddle.specs.Due.{fails_at, failed_among, has_acted, are_later, disturbances}
@@ -39,7 +39,7 @@ standing_next m = after_acts (rests_of m.regions) m.list (length (asked_of m.log
 
 -- what a region has beside that: its shape, what was written last, and what stood before; of a discarded
 -- one too, as long as it may be copied from
-abbrev pub held : MeddledStore → Rests
+abbrev pub held : MeddledStore → RegionRests
 held m = rests_of m.regions
 
 -- whether the next access is to fail

@@ -75,7 +75,7 @@ fn text_of(n: u8) -> Text
 }
 
 // What stands in a column of the row of this index.
-fn cell_of(column: &Column, i: u32) -> Cell
+fn sample_cell(column: &Column, i: u32) -> Cell
     ensures { FitsKind column.now.kind result }
 {
     match column.kind {
@@ -92,7 +92,7 @@ fn push_cells(columns: &[Column], i: u32, cells: &mut Vec<Cell>) -> Result<(), N
 {
     match columns.split_first() {
         None => Ok(()),
-        Some((column, columns)) => match cells.push(cell_of(column, i)) {
+        Some((column, columns)) => match cells.push(sample_cell(column, i)) {
             Ok(()) => push_cells(columns, i, cells),
             Err(_) => Err(NoMemory),
         },

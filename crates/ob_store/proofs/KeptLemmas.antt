@@ -8,7 +8,7 @@ use Rattle.ob_base.specs.Lists.{tabulate}
 use Rattle.ob_base.specs.declared.access.Access.{Access}
 use Rattle.ob_base.specs.declared.access.Access.TheVariants.{Make}
 use Rattle.ob_store.specs.declared.log.Start.{Start}
-use Rattle.ob_store.specs.Logs.{Run, at, entry, spelt, whole, is_next, is_turn, goes_on, comes_round, joins, lengthened, added}
+use Rattle.ob_store.specs.Logs.{Run, access_at, entry, spelt, whole, is_next, is_turn, goes_on, comes_round, joins, lengthened, added}
 use Rattle.ob_store.specs.Kept.{start_of, runs_of, place_of, Sound, IsLog}
 use Rattle.ob_store.proofs.RunLemmas.{Full, spelt_added}
 
@@ -123,7 +123,7 @@ same_sound (suc k) to end starts others same sound =
 -- the run in which an access lies
 pub record Found (cycles : List Access) (starts : List Start) (k to end j i until : ℕ) : Type 0 where
   pub below : i < end
-  pub is : at (spelt (runs_of cycles starts k to end)) i ≡ entry (slice_range cycles (start_of starts j).cycle until) (i - (start_of starts j).access)
+  pub is : access_at (spelt (runs_of cycles starts k to end)) i ≡ entry (slice_range cycles (start_of starts j).cycle until) (i - (start_of starts j).access)
   pub some : (start_of starts j).cycle < until
   pub inside : until ≤ to
 
@@ -142,8 +142,8 @@ found cycles starts (suc k) to end j i until sound within from last next to_last
           let below = last (omega arith) in
           let at_k : start_of starts j ≡ s = ap (start_of starts) is in
           let from_k : s.access ≤ i = subst (λ (o : Start). o.access ≤ i) at_k from in
-          let value : at (spelt before ++ tabulate (end - s.access) f) i ≡ f (i - s.access) =
-          get_or-append_right (spelt before) (tabulate (end - s.access) f) i (Make 0 0 0) (omega (arith, long)) ∙ ap (λ (n : ℕ). at (tabulate (end - s.access) f) (i - n)) long
+          let value : access_at (spelt before ++ tabulate (end - s.access) f) i ≡ f (i - s.access) =
+          get_or-append_right (spelt before) (tabulate (end - s.access) f) i (Make 0 0 0) (omega (arith, long)) ∙ ap (λ (n : ℕ). access_at (tabulate (end - s.access) f) (i - n)) long
           ∙ get_or-tabulate f (end - s.access) (i - s.access) (Make 0 0 0) (omega arith) in
           record {
             below = below;
@@ -298,12 +298,12 @@ old_range l x a b inside = elim (cases_le a (length l)) [
 
 -- a log's accesses after one more
 pub places_more : (a : Access) (runs : List Run) (count : ℕ) → Full runs → length (spelt runs) ≡ count → place_of a < 2 ^ 32
-    → ((i : ℕ) → i < count → place_of (at (spelt runs) i) < 2 ^ 32) → (i : ℕ) → i < count + 1 → place_of (at (spelt (added a runs)) i) < 2 ^ 32
+    → ((i : ℕ) → i < count → place_of (access_at (spelt runs) i) < 2 ^ 32) → (i : ℕ) → i < count + 1 → place_of (access_at (spelt (added a runs)) i) < 2 ^ 32
 places_more a runs count full long place old i below = elim (cases_eq i count) [
-  | inl is ↦ subst (λ (x : Access). place_of x < 2 ^ 32) (sym (ap (λ (l : List Access). at l i) (spelt_added a runs full) ∙ get_or_push (spelt runs) a (Make 0 0 0) i (long ∙ sym is))) place
+  | inl is ↦ subst (λ (x : Access). place_of x < 2 ^ 32) (sym (ap (λ (l : List Access). access_at l i) (spelt_added a runs full) ∙ get_or_push (spelt runs) a (Make 0 0 0) i (long ∙ sym is))) place
   | inr off ↦
       let less : i < count = omega arith in
-      subst (λ (x : Access). place_of x < 2 ^ 32) (sym (ap (λ (l : List Access). at l i) (spelt_added a runs full) ∙ get_or_append_left (spelt runs) (a ∷ []) (Make 0 0 0) i (omega (arith, long)))) (old i less)
+      subst (λ (x : Access). place_of x < 2 ^ 32) (sym (ap (λ (l : List Access). access_at l i) (spelt_added a runs full) ∙ get_or_append_left (spelt runs) (a ∷ []) (Make 0 0 0) i (omega (arith, long)))) (old i less)
 ]
 
 abbrev pub runs_in : List Access → List Start → ℕ → List Run
@@ -313,7 +313,7 @@ pub log_by : (a : Access) (cycles more : List Access) (starts others : List Star
     → Sound others (length others) (length more) (count + 1) → runs_in more others (count + 1) ≡ added a (runs_in cycles starts count) → IsLog more others (count + 1)
 log_by a cycles more starts others count log place sound runs = record {
   sound = sound;
-  places = λ i below. subst (λ (l : List Run). place_of (at (spelt l) i) < 2 ^ 32) (sym runs)
+  places = λ i below. subst (λ (l : List Run). place_of (access_at (spelt l) i) < 2 ^ 32) (sym runs)
       (places_more a (runs_in cycles starts count) count (full_of cycles starts _ _ _ (omega arith) log.sound) (length-spelt cycles starts _ _ _ log.sound) place log.places i below);
 }
 

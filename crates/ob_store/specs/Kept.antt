@@ -2,7 +2,7 @@
 use Rattle.std.specs.Prelude.{◌≡◌, ◌<◌, ◌≤◌, ◌-◌, ◌^◌, ℕ, zero, suc, List, [], ◌∷◌, length, slice_index_or, slice_range}
 use Rattle.ob_base.specs.declared.access.Access.{Access}
 use Rattle.ob_base.specs.declared.access.Access.TheVariants.{Make, Read, Write, Discard}
-use Rattle.ob_store.specs.Logs.{Run, at, spelt}
+use Rattle.ob_store.specs.Logs.{Run, access_at, spelt}
 use Rattle.ob_store.specs.declared.log.Start.{Start}
 
 abbrev pub start_of : List Start → ℕ → Start
@@ -29,5 +29,5 @@ Sound starts (suc k) to end =
 pub record IsLog (cycles : List Access) (starts : List Start) (count : ℕ) : Type 0 where
   pub sound : Sound starts (length starts) (length cycles) count
   pub places : (i : ℕ) → i < count
-      → place_of (at (spelt (runs_of cycles starts (length starts) (length cycles) count)) i)
+      → place_of (access_at (spelt (runs_of cycles starts (length starts) (length cycles) count)) i)
       < 2 ^ 32

@@ -22,12 +22,12 @@ raised n (Write region place) = Write region (place + n)
 raised n (Make region blocks len) = Make region blocks len
 raised n (Discard region) = Discard region
 
-abbrev pub at : List Access → ℕ → Access
-at cycle i = slice_index_or cycle i (Make 0 0 0)
+abbrev pub access_at : List Access → ℕ → Access
+access_at cycle i = slice_index_or cycle i (Make 0 0 0)
 
 -- entry t of a run with a cycle of c accesses: entry t mod c of the cycle, its place raised by t div c
 abbrev pub entry : List Access → ℕ → Access
-entry cycle t = raised (t / length cycle) (at cycle (t % length cycle))
+entry cycle t = raised (t / length cycle) (access_at cycle (t % length cycle))
 
 abbrev pub spelt_run : Run → List Access
 spelt_run run = tabulate run.count (entry run.cycle)
@@ -54,11 +54,11 @@ is_raised n _ _ = false
 
 -- whether an access is the next entry of a run
 abbrev pub is_next : List Access → ℕ → Access → Bool
-is_next cycle count access = is_raised (count / length cycle) (at cycle (count % length cycle)) access
+is_next cycle count access = is_raised (count / length cycle) (access_at cycle (count % length cycle)) access
 
 -- whether Reads and Writes and an access are a cycle and the first entry of its next turn
 abbrev pub is_turn : List Access → Access → Bool
-is_turn cycle access = list_all is_block cycle && is_raised 1 (at cycle 0) access
+is_turn cycle access = list_all is_block cycle && is_raised 1 (access_at cycle 0) access
 
 -- whether an access is the next entry of the last run
 abbrev pub goes_on : Access → List Run → Bool

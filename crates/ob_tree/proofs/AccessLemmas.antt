@@ -7,7 +7,7 @@ use Rattle.std.proofs.lemmas.List.{append-nil, length-set, get_or_past, get_or_d
 use Rattle.std.proofs.lemmas.List.Elements.{filter-append}
 use Rattle.ob_row.specs.Bags.{Same}
 use Rattle.ob_tree.specs.Paths.{path_up, is_on_path}
-use Rattle.ob_tree.specs.Rows.{rows, slots_of, at, but_firsts, by_key, list_of, first, Single}
+use Rattle.ob_tree.specs.Rows.{rows, slots_of, with_key, but_firsts, by_key, list_of, first, Single}
 use Rattle.ob_tree.specs.States.{State, Represents, held, leaf_of, bucket}
 use Rattle.ob_tree.specs.Access.{Op, key_of, applied, answer, take_path, Evicted, fill, evict, leaf_read, leaves_after, fits_by, evicted, Went, access}
 use Rattle.ob_tree.specs.Runs.{KeepsKey, map_after, map_answer}
@@ -27,7 +27,7 @@ none_left fits (b ∷ bs) e none = none_left fits bs (fill fits b e) (ap (but_fi
 -- the index behind an access that goes on
 abbrev pub went : {R : Type 0} → (R → ℕ) → ℕ → State R → Op R → ℕ → Went R
 went key h s op draw = let k = key_of key op in record {
-  got = answer (length s.leaves) k op (first (at key k (take_path h s (leaf_read h s k draw))));
+  got = answer (length s.leaves) k op (first (with_key key k (take_path h s (leaf_read h s k draw))));
   state = record { tree = (evicted key h s op draw).tree; stash = slots_of (length s.stash) (evicted key h s op draw).left; leaves = leaves_after h s k draw };
 }
 
@@ -103,7 +103,7 @@ module _ {R : Type 0} (key : R → ℕ) (h : ℕ) (s : State R) (m : ℕ → Opt
       let leaf : leaf_of s (key row) ≡ leaf_read h s (key_of key op) draw = ap (λ i. get_or s.leaves i 0) same ∙ get_or_default s.leaves (key_of key op) 0 (draw % 2 ^ h) in_range in
       both_ways (is_on_path h (leaf_read h s (key_of key op) draw) (p / 4)) off (subst (λ l. is_on_path h l (p / 4) ≡ true) leaf here)
 
-  aside_none : nat_lt (key_of key op) (length s.leaves) ≡ true → at key (key_of key op) aside ≡ []
+  aside_none : nat_lt (key_of key op) (length s.leaves) ≡ true → with_key key (key_of key op) aside ≡ []
   aside_none in_range = none_at key (key_of key op) (evict (λ b r. false) (path_up h (leaf_read h s (key_of key op) draw)) (record { tree = s.tree; left = [] })).tree (λ p row is. by_slot p row (evicted_slot (λ b r. false) (path_up h (leaf_read h s (key_of key op) draw)) (record { tree = s.tree; left = [] }) path_apart p row is))
     where
       by_slot : (p : ℕ) (row : R) → ((false ≡ true) ⊎ ((get_or s.tree p None ≡ Some row) × (list_any (λ c. c == p / 4) (path_up h (leaf_read h s (key_of key op) draw)) ≡ false))) → (key row == key_of key op) ≡ false
@@ -138,9 +138,9 @@ module _ {R : Type 0} (key : R → ℕ) (h : ℕ) (s : State R) (m : ℕ → Opt
       by_range (inl in_range) =
           let k = key_of key op in
           let taken = take_path h s (leaf_read h s k draw) in
-          let all : at key k (aside ++ taken) ≡ list_of (m k) =
-          Same-one (at key k (aside ++ taken)) (m k) (subst (λ w. Same (at key k (aside ++ taken)) w) (rep.rows k) (Same-filter (λ r. key r == k) (aside ++ taken) (held s) (Same-sym (held s) (aside ++ taken) split_held))) in
-          let mine : at key k taken ≡ list_of (m k) = ap (λ w. w ++ at key k taken) (sym (aside_none in_range)) ∙ sym (filter-append (λ r. key r == k) aside taken) ∙ all in
+          let all : with_key key k (aside ++ taken) ≡ list_of (m k) =
+          Same-one (with_key key k (aside ++ taken)) (m k) (subst (λ w. Same (with_key key k (aside ++ taken)) w) (rep.rows k) (Same-filter (λ r. key r == k) (aside ++ taken) (held s) (Same-sym (held s) (aside ++ taken) split_held))) in
+          let mine : with_key key k taken ≡ list_of (m k) = ap (λ w. w ++ with_key key k taken) (sym (aside_none in_range)) ∙ sym (filter-append (λ r. key r == k) aside taken) ∙ all in
           ap (λ w. answer (length s.leaves) k op (first w)) mine ∙ ap (answer (length s.leaves) k op) (first-list_of (m k))
 
   row_placed : (p : ℕ) (row : R) → get_or (evicted key h s op draw).tree p None ≡ Some row → is_on_path h (get_or (leaves_after h s (key_of key op) draw) (key row) 0) (p / 4) ≡ true
@@ -162,8 +162,8 @@ module _ {R : Type 0} (key : R → ℕ) (h : ℕ) (s : State R) (m : ℕ → Opt
     size = length-evict (fits_by key h (leaves_after h s (key_of key op) draw)) (path_up h (leaf_read h s (key_of key op) draw)) (record { tree = s.tree; left = by_key key (applied key (length s.leaves) op (take_path h s (leaf_read h s (key_of key op) draw))) }) path_apart ∙ rep.size;
     leaves = leaves_below key h s draw (key_of key op) rep.leaves;
     range = λ j past. still_none j (subst (λ n. n ≤ j) (length-set s.leaves (key_of key op) (draw % 2 ^ h)) past) (cases_eq j (key_of key op));
-    rows = λ j. Same-one (at key j (held (went key h s op draw).state)) (map_after key (length s.leaves) op m j)
-        (subst (λ w. Same (at key j (held (went key h s op draw).state)) w) (at_applied key (length s.leaves) op keeps m (held s) rep.rows j)
+    rows = λ j. Same-one (with_key key j (held (went key h s op draw).state)) (map_after key (length s.leaves) op m j)
+        (subst (λ w. Same (with_key key j (held (went key h s op draw).state)) w) (at_applied key (length s.leaves) op keeps m (held s) rep.rows j)
         (Same-filter (λ r. key r == j) (held (went key h s op draw).state) (applied key (length s.leaves) op (held s)) held_after));
     placed = row_placed;
   }
@@ -204,11 +204,11 @@ put_in_single {R} key h s m op draw rep keeps k =
     let whole : Same (others ++ put_in) (applied key n op (held s)) =
     Same-trans (others ++ put_in) (applied key n op (others ++ taken)) (applied key n op (held s)) (applied_apart key n op others taken (aside_none key h s m op draw rep))
     (Same-sym (applied key n op (held s)) (applied key n op (others ++ taken)) (applied_same key n op (held s) (others ++ taken) (m (key_of key op)) (rep.rows (key_of key op)) (split_held key h s m op draw rep))) in
-    let count : length (at key k (others ++ put_in)) ≡ length (list_of (map_after key n op m k)) =
-    length-Same (at key k (others ++ put_in)) (at key k (applied key n op (held s))) (Same-filter (λ r. key r == k) (others ++ put_in) (applied key n op (held s)) whole)
+    let count : length (with_key key k (others ++ put_in)) ≡ length (list_of (map_after key n op m k)) =
+    length-Same (with_key key k (others ++ put_in)) (with_key key k (applied key n op (held s))) (Same-filter (λ r. key r == k) (others ++ put_in) (applied key n op (held s)) whole)
     ∙ ap length (at_applied key n op keeps m (held s) rep.rows k) in
-    let parts : length (at key k (others ++ put_in)) ≡ length (at key k others) + length (at key k put_in) =
-    ap length (filter-append (λ r. key r == k) others put_in) ∙ length-append (at key k others) (at key k put_in) in
+    let parts : length (with_key key k (others ++ put_in)) ≡ length (with_key key k others) + length (with_key key k put_in) =
+    ap length (filter-append (λ r. key r == k) others put_in) ∙ length-append (with_key key k others) (with_key key k put_in) in
     omega (arith, count, parts, at_most (map_after key n op m k))
   where
     at_most : (o : Option R) → length (list_of o) ≤ 1

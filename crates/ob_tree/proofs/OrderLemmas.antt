@@ -5,7 +5,7 @@ use Rattle.std.specs.List.{All}
 use Rattle.std.proofs.lemmas.Bool.{eq-eqb, cases_Bool, leb-true, leb-false}
 use Rattle.std.proofs.lemmas.List.Elements.{All-head, All-tail, All-cons, All-nil}
 use Rattle.ob_row.specs.Bags.{Inserts, here, further, Same}
-use Rattle.ob_tree.specs.Rows.{at, put, by_key, firsts, but_firsts, Single}
+use Rattle.ob_tree.specs.Rows.{with_key, put, by_key, firsts, but_firsts, Single}
 use Rattle.ob_row.proofs.BagLemmas.{Same-refl, Same-filter, Same-put_in}
 use Rattle.ob_tree.proofs.RowLemmas.{Same-by_key}
 
@@ -28,17 +28,17 @@ All-Same P (x ∷ xs) ys s each = let both = All-inserted P ys s.1 each in All-c
 
 module _ {R : Type 0} (key : R → ℕ) where
   pub Single-Same : (xs ys : List R) → Same xs ys → Single key xs → Single key ys
-  Single-Same xs ys s single k = omega (arith, single k, length-Same (at key k xs) (at key k ys) (Same-filter (λ r. key r == k) xs ys s))
+  Single-Same xs ys s single k = omega (arith, single k, length-Same (with_key key k xs) (with_key key k ys) (Same-filter (λ r. key r == k) xs ys s))
 
   -- one row less, and its key is none of the others'
   pub Single-tail : (r : R) (all : List R) → Single key (r ∷ all) → Single key all
   Single-tail r all single k = by_test (cases_Bool (key r == k))
     where
-      by_test : ((key r == k) ≡ true) ⊎ ((key r == k) ≡ false) → length (at key k all) ≤ 1
+      by_test : ((key r == k) ≡ true) ⊎ ((key r == k) ≡ false) → length (with_key key k all) ≤ 1
       by_test (inl is) =
-          let both : suc (length (at key k all)) ≤ 1 = subst (λ b. length (cond b (r ∷ at key k all) (at key k all)) ≤ 1) is (single k) in
+          let both : suc (length (with_key key k all)) ≤ 1 = subst (λ b. length (cond b (r ∷ with_key key k all) (with_key key k all)) ≤ 1) is (single k) in
           omega (arith, both)
-      by_test (inr off) = subst (λ b. length (cond b (r ∷ at key k all) (at key k all)) ≤ 1) off (single k)
+      by_test (inr off) = subst (λ b. length (cond b (r ∷ with_key key k all) (with_key key k all)) ≤ 1) off (single k)
 
   -- two rows of different keys are put in either way round
   put_both : (a b : R) (all : List R) → (key a ≡ key b → ⊥) → put key a (put key b all) ≡ put key b (put key a all)
@@ -70,10 +70,10 @@ module _ {R : Type 0} (key : R → ℕ) where
       let s : Same all (x ∷ rest) = Same-put_in rest i (Same-refl rest) in
       let here' : (key y == key x) ≡ true = eq-eqb (key y) (key x) same in
       let itself : (key x == key x) ≡ true = eq-eqb (key x) (key x) refl in
-      let e : length (at key (key x) all) ≡ suc (length (at key (key x) rest)) =
-      length-Same (at key (key x) all) (at key (key x) (x ∷ rest)) (Same-filter (λ r. key r == key x) all (x ∷ rest) s)
-      ∙ ap (λ b. length (cond b (x ∷ at key (key x) rest) (at key (key x) rest))) itself in
-      let two : suc (length (at key (key x) all)) ≤ 1 = subst (λ b. length (cond b (y ∷ at key (key x) all) (at key (key x) all)) ≤ 1) here' (single (key x)) in
+      let e : length (with_key key (key x) all) ≡ suc (length (with_key key (key x) rest)) =
+      length-Same (with_key key (key x) all) (with_key key (key x) (x ∷ rest)) (Same-filter (λ r. key r == key x) all (x ∷ rest) s)
+      ∙ ap (λ b. length (cond b (x ∷ with_key key (key x) rest) (with_key key (key x) rest))) itself in
+      let two : suc (length (with_key key (key x) all)) ≤ 1 = subst (λ b. length (cond b (y ∷ with_key key (key x) all) (with_key key (key x) all)) ≤ 1) here' (single (key x)) in
       omega (arith, two, e)
 
   by_key-Inserts : (x : R) {rest : List R} (all : List R) → Inserts x rest all → Single key all → by_key key all ≡ put key x (by_key key rest)

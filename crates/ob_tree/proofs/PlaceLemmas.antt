@@ -6,7 +6,7 @@ use Rattle.std.proofs.lemmas.Bool.{eqb-true, eqb-false, ne_eqb, eq-eqb, or_parts
 use Rattle.std.proofs.lemmas.List.{length-take-le, drop-drop, drop_at, take_at}
 use Rattle.ob_row.specs.Bags.{Inserts, here, further, Same}
 use Rattle.ob_tree.specs.Paths.{path_up}
-use Rattle.ob_tree.specs.Rows.{at, list_of, first, slots_of, firsts, but_firsts, Single}
+use Rattle.ob_tree.specs.Rows.{with_key, list_of, first, slots_of, firsts, but_firsts, Single}
 use Rattle.ob_tree.specs.States.{State, Represents, Stands, map_of, held, bucket, with_bucket}
 use Rattle.ob_tree.specs.Access.{Evicted, fill, evict}
 use Rattle.ob_tree.specs.Slotwise.{laid}
@@ -49,16 +49,16 @@ module _ {R : Type 0} (key : R → ℕ) where
   record TakenFirst (k : ℕ) (r : R) (t ys : List R) : Type 0 where
     rest : List R
     inserts : Inserts r rest ys
-    mine : at key k rest ≡ t
-    others : (j : ℕ) → (j ≡ k → ⊥) → at key j rest ≡ at key j ys
+    mine : with_key key k rest ≡ t
+    others : (j : ℕ) → (j ≡ k → ⊥) → with_key key j rest ≡ with_key key j ys
 
-  take_first : (k : ℕ) (r : R) (t ys : List R) → at key k ys ≡ r ∷ t → TakenFirst k r t ys
+  take_first : (k : ℕ) (r : R) (t ys : List R) → with_key key k ys ≡ r ∷ t → TakenFirst k r t ys
   take_first k r t [] e = absurd (cc)
   take_first k r t (y ∷ ys) e = by_test (take_first k r t ys) (cases_Bool (key y == k))
     where
-      by_test : (at key k ys ≡ r ∷ t → TakenFirst k r t ys) → ((key y == k) ≡ true) ⊎ ((key y == k) ≡ false) → TakenFirst k r t (y ∷ ys)
+      by_test : (with_key key k ys ≡ r ∷ t → TakenFirst k r t ys) → ((key y == k) ≡ true) ⊎ ((key y == k) ≡ false) → TakenFirst k r t (y ∷ ys)
       by_test go (inl is) =
-          let f : y ∷ at key k ys ≡ r ∷ t = subst (λ b. cond b (y ∷ at key k ys) (at key k ys) ≡ r ∷ t) is e in
+          let f : y ∷ with_key key k ys ≡ r ∷ t = subst (λ b. cond b (y ∷ with_key key k ys) (with_key key k ys) ≡ r ∷ t) is e in
           let same : y ≡ r = cc in
           record {
             rest = ys;
@@ -67,38 +67,38 @@ module _ {R : Type 0} (key : R → ℕ) where
             others = λ j off. let no_such : (key y == j) ≡ false = ne_eqb (key y) j (λ eq. off (sym eq ∙ eqb-true (key y) k is)) in rw no_such refl;
           }
       by_test go (inr off) =
-          let f : at key k ys ≡ r ∷ t = subst (λ b. cond b (y ∷ at key k ys) (at key k ys) ≡ r ∷ t) off e in
+          let f : with_key key k ys ≡ r ∷ t = subst (λ b. cond b (y ∷ with_key key k ys) (with_key key k ys) ≡ r ∷ t) off e in
           let there = go f in
           record {
             rest = y ∷ there.rest;
             inserts = further there.inserts;
-            mine = cond-false (key y == k) (y ∷ at key k there.rest) (at key k there.rest) off ∙ there.mine;
+            mine = cond-false (key y == k) (y ∷ with_key key k there.rest) (with_key key k there.rest) off ∙ there.mine;
             others = λ j apart. ap (λ w. cond (key y == j) (y ∷ w) w) (there.others j apart);
           }
 
   -- lists with the same rows at each key are one bag
-  pub Same-by_keys : (xs ys : List R) → ((j : ℕ) → at key j xs ≡ at key j ys) → Same xs ys
+  pub Same-by_keys : (xs ys : List R) → ((j : ℕ) → with_key key j xs ≡ with_key key j ys) → Same xs ys
   Same-by_keys [] [] is = refl
   Same-by_keys [] (y ∷ ys) is =
       let itself : (key y == key y) ≡ true = eq-eqb (key y) (key y) refl in
-      let e : [] ≡ y ∷ at key (key y) ys = subst (λ b. [] ≡ cond b (y ∷ at key (key y) ys) (at key (key y) ys)) itself (is (key y)) in
+      let e : [] ≡ y ∷ with_key key (key y) ys = subst (λ b. [] ≡ cond b (y ∷ with_key key (key y) ys) (with_key key (key y) ys)) itself (is (key y)) in
       absurd (cc)
   Same-by_keys (x ∷ xs) ys is =
       let itself : (key x == key x) ≡ true = eq-eqb (key x) (key x) refl in
-      let e : x ∷ at key (key x) xs ≡ at key (key x) ys = subst (λ b. cond b (x ∷ at key (key x) xs) (at key (key x) xs) ≡ at key (key x) ys) itself (is (key x)) in
-      let taken = take_first (key x) x (at key (key x) xs) ys (sym e) in
+      let e : x ∷ with_key key (key x) xs ≡ with_key key (key x) ys = subst (λ b. cond b (x ∷ with_key key (key x) xs) (with_key key (key x) xs) ≡ with_key key (key x) ys) itself (is (key x)) in
+      let taken = take_first (key x) x (with_key key (key x) xs) ys (sym e) in
       (taken.rest, taken.inserts, Same-by_keys xs taken.rest (λ j. by_key' taken.rest j taken.mine taken.others (cases_eq j (key x))))
     where
-      by_key' : (rest : List R) (j : ℕ) → at key (key x) rest ≡ at key (key x) xs → ((i : ℕ) → (i ≡ key x → ⊥) → at key i rest ≡ at key i ys) → (j ≡ key x) ⊎ (j ≡ key x → ⊥) → at key j xs ≡ at key j rest
-      by_key' rest j mine others (inl same) = subst (λ i. at key i xs ≡ at key i rest) (sym same) (sym mine)
+      by_key' : (rest : List R) (j : ℕ) → with_key key (key x) rest ≡ with_key key (key x) xs → ((i : ℕ) → (i ≡ key x → ⊥) → with_key key i rest ≡ with_key key i ys) → (j ≡ key x) ⊎ (j ≡ key x → ⊥) → with_key key j xs ≡ with_key key j rest
+      by_key' rest j mine others (inl same) = subst (λ i. with_key key i xs ≡ with_key key i rest) (sym same) (sym mine)
       by_key' rest j mine others (inr off) =
           let not_so : (key x == j) ≡ false = ne_eqb (key x) j (λ eq. off (sym eq)) in
-          subst (λ b. cond b (x ∷ at key j xs) (at key j xs) ≡ at key j ys) not_so (is j) ∙ sym (others j off)
+          subst (λ b. cond b (x ∷ with_key key j xs) (with_key key j xs) ≡ with_key key j ys) not_so (is j) ∙ sym (others j off)
 
   pub one_bag : (h g : ℕ) (s t : State R) (m : ℕ → Option R) → Represents key h s m → Represents key g t m → Same (held s) (held t)
   one_bag h g s t m a b = Same-by_keys (held s) (held t) (λ j. a.rows j ∙ sym (b.rows j))
 
-  pub Single-list_of : (all : List R) (m : ℕ → Option R) → ((k : ℕ) → at key k all ≡ list_of (m k)) → Single key all
+  pub Single-list_of : (all : List R) (m : ℕ → Option R) → ((k : ℕ) → with_key key k all ≡ list_of (m k)) → Single key all
   Single-list_of all m is k = omega (arith, ap length (is k), at_most (m k))
     where
       at_most : (o : Option R) → length (list_of o) ≤ 1
@@ -113,7 +113,7 @@ list_of-first [] h = refl
 list_of-first (r ∷ []) h = refl
 list_of-first (r ∷ x ∷ all) h = absurd (omega (arith, h))
 
-no_one : {R : Type 0} (key : R → ℕ) (n k : ℕ) (all : List R) → n ≤ k → All (λ (r : R). key r < n) all → at key k all ≡ []
+no_one : {R : Type 0} (key : R → ℕ) (n k : ℕ) (all : List R) → n ≤ k → All (λ (r : R). key r < n) all → with_key key k all ≡ []
 no_one key n k [] past each = refl
 no_one {R} key n k (r ∷ all) past each =
     let not_so : (key r == k) ≡ false = ne_eqb (key r) k (λ same. absurd (omega (arith, same, past, All-head (λ (x : R). key x < n) r all each))) in
@@ -124,11 +124,11 @@ stands_for key h s st = record {
   size = st.size;
   leaves = st.leaves;
   range = λ k past. ap first (no_one key (length s.leaves) k (held s) past st.range);
-  rows = λ k. list_of-first (at key k (held s)) (st.single k);
+  rows = λ k. list_of-first (with_key key k (held s)) (st.single k);
   placed = st.placed;
 }
 
-in_range : {R : Type 0} (key : R → ℕ) (n : ℕ) (all : List R) → ((k : ℕ) → n ≤ k → at key k all ≡ []) → All (λ (r : R). key r < n) all
+in_range : {R : Type 0} (key : R → ℕ) (n : ℕ) (all : List R) → ((k : ℕ) → n ≤ k → with_key key k all ≡ []) → All (λ (r : R). key r < n) all
 in_range {R} key n [] none = All-nil (λ (r : R). key r < n)
 in_range {R} key n (r ∷ all) none = All-cons (λ (x : R). key x < n) r all (below (cases_lt (key r) n)) (in_range key n all (λ k past. rest k past (cases_Bool (key r == k))))
   where
@@ -136,12 +136,12 @@ in_range {R} key n (r ∷ all) none = All-cons (λ (x : R). key x < n) r all (be
     below (inl less) = less
     below (inr past) =
         let itself : (key r == key r) ≡ true = eq-eqb (key r) (key r) refl in
-        let e : r ∷ at key (key r) all ≡ [] = subst (λ b. cond b (r ∷ at key (key r) all) (at key (key r) all) ≡ []) itself (none (key r) past) in
+        let e : r ∷ with_key key (key r) all ≡ [] = subst (λ b. cond b (r ∷ with_key key (key r) all) (with_key key (key r) all) ≡ []) itself (none (key r) past) in
         absurd (cc)
 
-    rest : (k : ℕ) → n ≤ k → ((key r == k) ≡ true) ⊎ ((key r == k) ≡ false) → at key k all ≡ []
-    rest k past (inl is) = let e : r ∷ at key k all ≡ [] = subst (λ b. cond b (r ∷ at key k all) (at key k all) ≡ []) is (none k past) in absurd (cc)
-    rest k past (inr off) = subst (λ b. cond b (r ∷ at key k all) (at key k all) ≡ []) off (none k past)
+    rest : (k : ℕ) → n ≤ k → ((key r == k) ≡ true) ⊎ ((key r == k) ≡ false) → with_key key k all ≡ []
+    rest k past (inl is) = let e : r ∷ with_key key k all ≡ [] = subst (λ b. cond b (r ∷ with_key key k all) (with_key key k all) ≡ []) is (none k past) in absurd (cc)
+    rest k past (inr off) = subst (λ b. cond b (r ∷ with_key key k all) (with_key key k all) ≡ []) off (none k past)
 
 pub stands_too : {R : Type 0} (key : R → ℕ) (h : ℕ) (s : State R) (m : ℕ → Option R) → Represents key h s m → Stands key h s
 stands_too key h s m rep = record {

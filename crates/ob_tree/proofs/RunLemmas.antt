@@ -5,7 +5,7 @@ use Rattle.std.proofs.lemmas.Bool.{cases_eq, cases_lt, false≢true, eq-eqb, ne_
 use Rattle.std.proofs.lemmas.List.{length-set, length-replicate, length-map, length-reverse, get_or_past, get_or_default, get_or-set_same, get_or-set_other, map-set, get_or-map}
 use Rattle.std.proofs.lemmas.List.Elements.{All-cons, All-nil}
 use Rattle.ob_tree.specs.Paths.{path, path_up}
-use Rattle.ob_tree.specs.Rows.{rows, at}
+use Rattle.ob_tree.specs.Rows.{rows, with_key}
 use Rattle.ob_tree.specs.States.{State, Represents}
 use Rattle.ob_tree.specs.Access.{Op, key_of, leaf_read, Went, access}
 use Rattle.ob_tree.specs.Scripts.{numbers, path_places, read_script, access_script, ReadStash, ReadTree, WriteTree, WriteStash}
@@ -20,7 +20,7 @@ created_represents {R} key h t leaves below = record {
   size = length-replicate (4 * (2 ^ (h + 1) - 1)) None;
   leaves = below;
   range = λ k past. refl;
-  rows = λ k. ap (at key k) (ap (λ w. w ++ rows (replicate t None)) (rows-none (4 * (2 ^ (h + 1) - 1))) ∙ rows-none t);
+  rows = λ k. ap (with_key key k) (ap (λ w. w ++ rows (replicate t None)) (rows-none (4 * (2 ^ (h + 1) - 1))) ∙ rows-none t);
   placed = λ p row is. absurd (no_row (4 * (2 ^ (h + 1) - 1)) p row is);
 }
 

@@ -3,7 +3,7 @@ use Rattle.std.specs.Prelude.{ℕ, ◌%◌, ◌^◌, Bool, nat_le, List, [], ◌
 use Rattle.std.specs.List.{flat_map}
 use Rattle.std.specs.Prelude.{nat_lt}
 use Rattle.ob_tree.specs.Paths.{path_up, is_on_path}
-use Rattle.ob_tree.specs.Rows.{rows, slots_of, list_of, first, at, but, by_key, firsts, but_firsts}
+use Rattle.ob_tree.specs.Rows.{rows, slots_of, list_of, first, with_key, but, by_key, firsts, but_firsts}
 use Rattle.ob_tree.specs.States.{State, bucket, with_bucket}
 
 pub data Op (R : Type 0) : Type 0 where
@@ -47,7 +47,7 @@ got (Remove k) (Some was) = Done
 
 -- rows with the operation applied at its key, among n keys
 abbrev pub applied : {R : Type 0} → (R → ℕ) → ℕ → Op R → List R → List R
-applied key n op all = let k = key_of key op in if nat_lt k n then list_of (after op (first (at key k all))) ++ but key k all else all
+applied key n op all = let k = key_of key op in if nat_lt k n then list_of (after op (first (with_key key k all))) ++ but key k all else all
 
 abbrev pub answer : {R : Type 0} → ℕ → ℕ → Op R → Option R → Got R
 answer n k op was = if nat_lt k n then got op was else OutOfRange
@@ -95,7 +95,7 @@ abbrev pub access : {R : Type 0} → (R → ℕ) → ℕ → State R → Op R �
 access key h s op draw = let k = key_of key op in let e = evicted key h s op draw in
     if nat_le (length e.left) (length s.stash)
     then Some (record {
-      got = answer (length s.leaves) k op (first (at key k (take_path h s (leaf_read h s k draw))));
+      got = answer (length s.leaves) k op (first (with_key key k (take_path h s (leaf_read h s k draw))));
       state = record { tree = e.tree; stash = slots_of (length s.stash) e.left; leaves = leaves_after h s k draw };
     })
     else None

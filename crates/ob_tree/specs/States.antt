@@ -1,7 +1,7 @@
 -- An index as it lies, and the map that it stands for.
 use Rattle.std.specs.Prelude.{◌≡◌, ◌<◌, ◌≤◌, ℕ, ◌+◌, ◌-◌, ◌*◌, ◌/◌, ◌^◌, true, List, ◌++◌, length, take, drop, Option, Some, None, slice_index_or}
 use Rattle.ob_tree.specs.Paths.{is_on_path}
-use Rattle.ob_tree.specs.Rows.{rows, at, list_of, first, Single}
+use Rattle.ob_tree.specs.Rows.{rows, with_key, list_of, first, Single}
 use Rattle.std.specs.List.{All}
 
 pub record State (R : Type 0) : Type 0 where
@@ -28,7 +28,7 @@ pub record Represents {R : Type 0} (key : R → ℕ) (h : ℕ) (s : State R) (m 
   pub size : length s.tree ≡ 4 * (2 ^ (h + 1) - 1)
   pub leaves : (k : ℕ) → k < length s.leaves → leaf_of s k < 2 ^ h
   pub range : (k : ℕ) → length s.leaves ≤ k → m k ≡ None
-  pub rows : (k : ℕ) → at key k (held s) ≡ list_of (m k)
+  pub rows : (k : ℕ) → with_key key k (held s) ≡ list_of (m k)
   pub placed : (p : ℕ) (row : R) → slice_index_or s.tree p None ≡ Some row → is_on_path h (leaf_of s (key row)) (p / 4) ≡ true
 
 -- the same with no map named: as it lies in storage
@@ -41,4 +41,4 @@ pub record Stands {R : Type 0} (key : R → ℕ) (h : ℕ) (s : State R) : Type 
 
 -- the map of its rows
 abbrev pub map_of : {R : Type 0} → (R → ℕ) → State R → ℕ → Option R
-map_of key s k = first (at key k (held s))
+map_of key s k = first (with_key key k (held s))

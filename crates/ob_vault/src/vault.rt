@@ -21,7 +21,7 @@ pub struct Vault<R> {
 impl<R: Revisions> Vault<R> {
     ghost use Rattle.std.specs.Prelude.{◌≡◌, ◌<◌, ◌≤◌, ◌+◌, ◌^◌, [], ℕ, Some, None, length};
     ghost use Rattle.ob_store.specs.State.{StoreState};
-    ghost use Rattle.ob_vault.specs.declared.region.Region.{Region as Shape};
+    ghost use Rattle.ob_vault.specs.declared.region.Region.{Region as Layout};
     ghost use Rattle.ob_vault.specs.Tied.{Ready, Lives};
     ghost use Rattle.ob_vault.specs.Rows.{SameSizes};
     ghost use Rattle.ob_vault.specs.Places.{at, MayGet, MayPut};
@@ -154,7 +154,7 @@ impl<R: Revisions> Vault<R> {
     pub fn drop_region<S: BlockStore>(&mut self, store: &mut S, region: u64) -> Result<(), VaultErr>
         requires ready { Ready (at R.state self.old (S.state store.old)) }
         requires spare { 1 ≤ (S.state store.old).spare }
-        requires lives { (shape : Shape)
+        requires lives { (shape : Layout)
             × Lives region shape (at R.state self.old (S.state store.old)) }
         ensures drops { DropsRegion region result
             (at R.state self.old (S.state store.old)) (at R.state self.new (S.state store.new)) }
@@ -183,7 +183,7 @@ impl<R: Revisions> Vault<R> {
 
     /// The next place of a round region.
     pub fn turn(&self, region: u64) -> u32
-        requires { (shape : Shape) × ((R.state self.now.revs).live region ≡ Some shape) }
+        requires { (shape : Layout) × ((R.state self.now.revs).live region ≡ Some shape) }
         ensures { result ≡ (R.state self.now.revs).turn region }
     {
         self.revs.turn(region)

@@ -1,6 +1,6 @@
 use Rattle.std.proofs.Common.{rules, refl, ◌≡◌, ◌+◌, ◌∙◌, sym, ap, length, true, false, arith}
 use Rattle.ob_store.specs.Logs.{asked_of}
-use Rattle.ob_meddle.specs.Acts.{Rests, rests_of, stands_of, after_acts}
+use Rattle.ob_meddle.specs.Acts.{RegionRests, rests_of, stands_of, after_acts}
 use Rattle.ob_meddle.specs.Due.{fails_at}
 use Rattle.ob_meddle.proofs.DueLemmas.{more_asked, failed_few}
 use Rattle.ob_meddle.proofs.StoreLemmas.{fresh_more, counted_more, honest_more, early_more}
@@ -8,13 +8,13 @@ use Rattle.ob_meddle.proofs.ShowLemmas.{steady_as}
 use Rattle.ob_meddle.proofs.store.MeddledStore.begin.Goals as goal
 
 pub returns-then-not-fails_at-clause-rests : goal.returns-then-not-fails_at-clause-rests
-returns-then-not-fails_at-clause-rests c = λ q. ap (λ (r : Rests). r q) c.do_acts.ensures.rests
+returns-then-not-fails_at-clause-rests c = λ q. ap (λ (r : RegionRests). r q) c.do_acts.ensures.rests
 
 pub returns-then-matches-clause-rests : goal.returns-then-matches-clause-rests
-returns-then-matches-clause-rests c = λ q. ap (λ (r : Rests). r q) c.do_acts.ensures.rests
+returns-then-matches-clause-rests c = λ q. ap (λ (r : RegionRests). r q) c.do_acts.ensures.rests
 
 pub returns-else-matches-clause-rests : goal.returns-else-matches-clause-rests
-returns-else-matches-clause-rests c = λ q. ap (λ (r : Rests). r q) c.do_acts.ensures.rests
+returns-else-matches-clause-rests c = λ q. ap (λ (r : RegionRests). r q) c.do_acts.ensures.rests
 
 pub overflow_add-self : goal.overflow_add-self
 overflow_add-self c =

@@ -4,7 +4,7 @@ use Rattle.ob_base.specs.declared.access.Access.{Access}
 use Rattle.ob_base.specs.declared.access.Access.TheVariants.{Make}
 use Rattle.ob_store.specs.declared.log.Start.{Start}
 use Rattle.ob_store.specs.Kept.{start_of, place_of, Sound}
-use Rattle.ob_store.specs.Logs.{LogState, at, entry, spelt, asked_of}
+use Rattle.ob_store.specs.Logs.{LogState, access_at, entry, spelt, asked_of}
 use Rattle.ob_store.proofs.KeptLemmas.{Found, found, runs_in, length-spelt, length-range, some_run, starts_at_none}
 use Rattle.ob_store.proofs.log.Log.nth.Goals as goal
 use Rattle.ob_store.proofs.log.Log.nth.Goals.{After-as_slice-cycles, After-cycle_end-to, After-part-cycle}
@@ -36,10 +36,10 @@ entry_of-requires-clause-some c =
 
 -- the access that is found is entry of its run
 entry_is : (c : After-part-cycle) → Found c.self.inside.cycles.items c.as_slice-starts.result.now (length c.as_slice-starts.result.now) (length c.self.inside.cycles.items) c.self.inside.count c.run_at-run.result c.args.i c.cycle_end-to.result
-    → at (spelt (runs_in c.self.inside.cycles.items c.self.inside.starts.items c.self.inside.count)) c.args.i ≡ entry c.part-cycle.result.now (c.args.i - (start_of c.as_slice-starts.result.now c.run_at-run.result).access)
+    → access_at (spelt (runs_in c.self.inside.cycles.items c.self.inside.starts.items c.self.inside.count)) c.args.i ≡ entry c.part-cycle.result.now (c.args.i - (start_of c.as_slice-starts.result.now c.run_at-run.result).access)
 entry_is c f =
     let s = start_of c.as_slice-starts.result.now c.run_at-run.result in
-    ap (λ (l : List Start). at (spelt (runs_in c.self.inside.cycles.items l c.self.inside.count)) c.args.i) (sym c.as_slice-starts.ensures.value)
+    ap (λ (l : List Start). access_at (spelt (runs_in c.self.inside.cycles.items l c.self.inside.count)) c.args.i) (sym c.as_slice-starts.ensures.value)
     ∙ f.is
     ∙ sym (ap (λ (l : List Access). entry l (c.args.i - s.access)) (c.part-cycle.ensures ∙ ap (λ (l : List Access). slice_range l s.cycle c.cycle_end-to.result) c.as_slice-cycles.ensures.value))
 
