@@ -1,12 +1,14 @@
 #!/usr/bin/env python3
-"""Writes the cases of crates/ob_cases/data/ that are made by a rule from one worked session: each access of it fails in
-turn, each block that is read is changed in turn, and the input ends after each byte. Nothing that the program answers
-goes into them.
+"""Writes the cases of crates/ob_cases/data/ that are made by a rule from a worked session: each access of it fails in
+turn, each block that is read is changed in turn, and the input ends after each byte; and those of the sessions of
+examples/, with what stands beside them. Nothing that the program answers goes into them. It needs python3 alone, and
+takes a second.
 """
 import pathlib
 import re
 
-data = pathlib.Path(__file__).resolve().parent.parent / "crates/ob_cases/data"
+TOP = pathlib.Path(__file__).resolve().parent.parent
+data = TOP / "crates/ob_cases/data"
 COUNT = ['"COUNT(*)"', '"%d"', "= 1 rows"]
 INSERT = "M {g} 4 49, R {t} 0, R {t} 1, R {t} 2, R {t} 3, R {t} 0, W {g} 0, R {t} 1, W {g} 1, R {t} 2, W {g} 2, R {t} 3, W {g} 3, D {t}"
 
@@ -47,9 +49,9 @@ def accesses(text):
     return text.split(", ")
 
 
-def case(name, change, said, asked, status):
-    lines = [f"case {name}", f"words --meddle {change}", *[f"> {text}" for text in TEXTS]]
-    lines += [f"< {line}" for line in said]
+# The lines of a case.
+def written(name, words, typed, said, asked, status):
+    lines = [f"case {name}", f"words {' '.join(words.split())}", *[f"> {text}" for text in typed], *[f"< {line}" for line in said]]
     line = ""
     for access in asked:
         if len(line) + len(access) > 96:
@@ -57,6 +59,10 @@ def case(name, change, said, asked, status):
             line = ""
         line += (", " if line else "") + access
     return "\n".join([*lines, f"@ {line}", f"status {status}"]) + "\n"
+
+
+def case(name, change, said, asked, status):
+    return written(name, f"--meddle {change}", TEXTS, said, asked, status)
 
 
 def flat(lists):
@@ -84,17 +90,6 @@ for number, access in enumerate(trace, 1):
         changed.append(case(f"the block of access {number} is changed", change, said, trace[:number], 4))
 (data / "faults.case").write_text("\n".join(faults))
 (data / "changed.case").write_text("\n".join(changed))
-
-# The input of one session, cut after each byte: below a whole secret that is status 2; from there on 1 where a text has
-# begun and not ended, and else 0.
-typed = ["CREATE TABLE t (id INT PRIMARY KEY, v INT) CAPACITY 4;", "INSERT INTO t VALUES (1, 10); -- one", "SELECT COUNT(*) FROM t; -- two"]
-whole = "0" * 64 + "\n" + "\n".join(typed) + "\n"
-cuts = ["# An input that ends after each of its bytes.\n"]
-for size in range(len(whole) + 1):
-    begun = re.sub(r"--[^\n]*", "", whole[65:size]).rpartition(";")[2].strip()
-    said = ["< ! key", "status 2"] if size < 64 else [f"status {1 if begun else 0}"]
-    cuts.append("\n".join([f"case {size} bytes", *[f"> {line}" for line in typed], f"cut {size}", *said]) + "\n")
-(data / "cuts.case").write_text("\n".join(cuts))
 
 # ---- each statement, of which each access fails in turn, and each block that is read is changed in turn
 ROW = 49
@@ -171,15 +166,9 @@ def counted(table, rows):
 
 
 def statement_case(name, words, change, typed, said, before, asked, status):
-    lines = [f"case {name}", f"words --buffer 4 {words} --meddle {change}".replace("  ", " "), *[f"> {text}" for text in typed], *[f"< {line}" for line in said]]
-    line = ""
-    lines += [f"@ {before}"] if before else []
-    for access in asked:
-        if len(line) + len(access) > 96:
-            lines.append(f"@ {line}")
-            line = ""
-        line += (", " if line else "") + access
-    return "\n".join([*lines, f"@ {line}", f"status {status}"]) + "\n"
+    lines = written(name, f"--buffer 4 {words} --meddle {change}", typed, said, asked, status)
+    # (the accesses before the statement stand in a line of their own)
+    return lines.replace("\n@ ", f"\n@ {before}\n@ ", 1) if before else lines
 
 
 statements = ["# Each statement, of which each access fails in turn: it ends there, and the next one answers as if it had not been asked.\n# Then each block that it reads was changed just before: the run ends there, as tampered.\n"]
@@ -209,3 +198,208 @@ for name, words, typed, before, text, asked, head, rows, last, table, carried, k
             said = [*setup_answers(typed), *printed, f"! tampered {region} {place}"]
             statements.append(statement_case(f"{name}: the block of access {number + 1} is changed", words, f"{at}:flip:{region}.{place}.0", whole, said, before, asked[: number + 1], 4))
 (data / "statements.case").write_text("\n".join(statements))
+
+# ---- whole sessions over plain tables, of which each access fails in turn, or each block that is read is changed in turn
+OPEN = 2
+
+
+class Table:
+    """A table's columns, the place of its key, the region where it lies, and its slots, each a row or None."""
+
+    def __init__(self, columns, key, region, slots):
+        self.columns, self.key, self.region, self.slots = columns, key, region, slots
+
+
+class Stopped(Exception):
+    """A changed block was read."""
+
+
+class Session:
+    """What a session with one row in a block, and four that may be open, is answered and asks, by its rules. An access may
+    fail, or the block that it reads may be changed. A statement yields its accesses, and the lines that it prints among them;
+    it changes the tables behind its last access."""
+
+    def __init__(self, fails=None, changed=None):
+        self.fails, self.changed = fails, changed
+        self.tables, self.regions = {}, 0
+        self.said, self.asked = [], []
+
+    def serve(self, steps):
+        """Goes through a statement; it ends where an access fails that isn't a discard."""
+        for access, line in steps:
+            if line is not None:
+                self.said.append(line)
+                continue
+            self.asked.append(access)
+            if len(self.asked) == self.changed:
+                self.said.append(f"! tampered {access[2:]}")
+                raise Stopped
+            if len(self.asked) == self.fails and access[0] != "D":
+                self.said.append("E15 store fault")
+                return
+
+    def region(self):
+        """The number of a fresh region: each make uses one up, one that fails, too."""
+        self.regions += 1
+        return self.regions
+
+    def create(self, name, columns, slots, key=None):
+        g = self.region()
+        yield from ((it, None) for it in made(g, slots, width(len(columns))))
+        self.tables[name] = Table(columns, key, g, [None] * slots)
+        yield None, "= created"
+
+    def insert(self, name, row):
+        table = self.tables.get(name)
+        if table is None:
+            yield None, "E02 no table"
+            return
+        g, t, slots = self.region(), table.region, len(table.slots)
+        yield from ((it, None) for it in [f"M {g} {slots} {width(len(row))}", *reads(t, slots), *copies(t, g, slots), f"D {t}"])
+        table.region = g
+        if table.key is not None and any(it and it[table.key] == row[table.key] for it in table.slots):
+            yield None, "E10 duplicate"
+        elif None not in table.slots:
+            yield None, "E11 full"
+        else:
+            table.slots[table.slots.index(None)] = row
+            yield None, "= inserted"
+
+    def select(self, table, holds):
+        """The rows of a table or of a join that make a condition true, by Small."""
+        t, slots = table.region, len(table.slots)
+        yield from ((it, None) for it in reads(t, slots))
+        rows = [it for it in table.slots if it and holds(it)]
+        if rows:
+            g = self.region()
+            yield from ((it, None) for it in small(t, slots, g, len(rows), width(len(table.columns)), OPEN))
+        yield None, ",".join(f'"{it}"' for it in table.columns)
+        for place, row in enumerate(rows):
+            yield f"R {g} {place}", None
+            yield None, ",".join(f'"{it}"' for it in row)
+        if rows:
+            yield f"D {g}", None
+
+    def rows(self, name, holds):
+        table = self.tables.get(name)
+        if table is None:
+            yield None, "E02 no table"
+            return
+        yield from self.select(table, holds)
+        yield None, f"= {sum(1 for it in table.slots if it and holds(it))} rows"
+
+    def join(self, left, right, column, holds):
+        """The pairs of a left row and a right one whose column has its key, chunk by chunk of left slots."""
+        if left not in self.tables or right not in self.tables:
+            yield None, "E02 no table"
+            return
+        a, b, g = self.tables[left], self.tables[right], self.region()
+        chunks = [range(n, min(n + OPEN, len(a.slots))) for n in range(0, len(a.slots), OPEN)]
+        columns = [f"{name}.{it}" for name, table in ((left, a), (right, b)) for it in table.columns]
+        joined = Table(columns, None, g, [])
+        yield f"M {g} {len(chunks) * len(b.slots)} {width(len(columns))}", None
+        for chunk in chunks:
+            yield from ((f"R {a.region} {i}", None) for i in chunk)
+            for j, row in enumerate(b.slots):
+                yield f"R {b.region} {j}", None
+                yield f"W {g} {len(joined.slots)}", None
+                lefts = [a.slots[i] for i in chunk if row and a.slots[i] and a.slots[i][a.key] == row[column]]
+                joined.slots.append(lefts[0] + row if lefts else None)
+        yield from self.select(joined, holds)
+        yield f"D {g}", None
+        yield None, f"= {sum(1 for it in joined.slots if it and holds(it))} rows"
+
+
+def width(columns):
+    """The bytes of a block with one row of so many INT columns."""
+    return 1 + 8 * columns + 32
+
+
+def served(texts, **changes):
+    """A session of these texts: what it is answered and asks, and its status."""
+    session = Session(**changes)
+    try:
+        for _, statement in texts:
+            session.serve(statement(session))
+    except Stopped:
+        return session, 4
+    return session, int(any(line.startswith("E") for line in session.said))
+
+
+TAKEN = [
+    (FILLED[0], lambda session: session.create("t", ["id", "v"], 4, 0)),
+    *[(f"INSERT INTO t VALUES ({n}, {v});", lambda session, row=(n, v): session.insert("t", row)) for n, v in ((1, 10), (2, 20), (3, 10), (4, 20))],
+]
+SELECTED = [*TAKEN, ("SELECT * FROM t WHERE v = 10;", lambda session: session.rows("t", lambda row: row[1] == 10))]
+JOINED = [
+    *TAKEN,
+    ("CREATE TABLE u (k INT, w INT) CAPACITY 3;", lambda session: session.create("u", ["k", "w"], 3)),
+    *[(f"INSERT INTO u VALUES ({k}, {w});", lambda session, row=(k, w): session.insert("u", row)) for k, w in ((1, 7), (1, 8))],
+    ("SELECT * FROM t JOIN u ON u.k = t.id WHERE w = 8;", lambda session: session.join("t", "u", 0, lambda row: row[3] == 8)),
+]
+
+taken = ["# A session with a SELECT by Small, of which each block that is read was changed just before.\n"]
+whole, _ = served(SELECTED)
+for number, access in enumerate(whole.asked, 1):
+    if access[0] == "R":
+        _, region, place = access.split()
+        session, status = served(SELECTED, changed=number)
+        change = f"--buffer 4 --meddle {number}:flip:{region}.{place}.48"
+        taken.append(written(f"the block of access {number} is changed, of a session with a SELECT", change, [text for text, _ in SELECTED], session.said, session.asked, status))
+(data / "select.case").write_text("\n".join(taken))
+
+failing = ["# A session with a join, of which each access fails in turn: its statement ends there, and the session goes on over the\n# tables as they were. A discard that fails changes nothing.\n"]
+whole, _ = served(JOINED)
+for number, access in enumerate(whole.asked, 1):
+    session, status = served(JOINED, fails=number)
+    name = f"access {number} fails, of a session with a join" + (", a discard" if access[0] == "D" else "")
+    failing.append(written(name, f"--buffer 4 --meddle {number}:fail", [text for text, _ in JOINED], session.said, session.asked, status))
+(data / "join.case").write_text("\n".join(failing))
+
+# The input of that session, with two comments, cut after each byte: below a whole secret that is status 2; from there on 1
+# where a text has begun and not ended, and else 0, with the answers of the texts that are whole.
+typed = [text for text, _ in JOINED]
+typed[1] += " -- one"
+typed[-1] += " -- two"
+whole = "0" * 64 + "\n" + "\n".join(typed) + "\n"
+cuts = ["# An input that ends after each of its bytes.\n"]
+for size in range(len(whole) + 1):
+    *texts, begun = re.sub(r"--[^\n]*", "", whole[65:size]).split(";")
+    said = ["< ! key", "status 2"] if size < 64 else ["status 1"]
+    if size >= 64 and not begun.strip():
+        answers = served(JOINED[: len(texts)])[0].said
+        said = [*([f"< {line}" for line in answers] or ["<"]), "status 0"]
+    cuts.append("\n".join([f"case {size} bytes", *[f"> {line}" for line in typed], f"cut {size}", *said]) + "\n")
+(data / "cuts.case").write_text("\n".join(cuts))
+
+
+# ---- the sessions of examples/, and what becomes of the first where others are at work, as the guide tells it
+def example(name, words="", said=None, total=None):
+    typed = (TOP / f"examples/{name}.sql").read_text().splitlines()
+    said = said or (TOP / f"examples/{name}.out").read_text().splitlines()
+    ends = {"!": 4, "E": 1}
+    status = max(ends.get(line[0], 0) for line in said)
+    lines = [f"case examples/{name}.sql{' ' if words else ''}{words}", *([f"words {words}"] if words else []), f"key {typed[0]}"]
+    lines += [f"> {text}".rstrip() for text in typed[1:]] + [f"< {line}" for line in said]
+    return "\n".join([*lines, *([f"total {total}"] if total else []), f"status {status}"]) + "\n"
+
+
+first = (TOP / "examples/first.out").read_text().splitlines()
+grouped = first.index('"patient","COUNT(*)","SUM(cost)"')
+failed = [*first[:6], "E15 store fault", *first[7:grouped], first[grouped], '"1","2","180"', "= 1 rows"]
+examples = [
+    "# The sessions of examples/, and the first one where a block is put back before its last statement, and where an access\n# of an INSERT fails.\n",
+    example("first", total=186),
+    example("first", "--meddle 179:old:8.0", [*first[:grouped], "! tampered 8 0"], 179),
+    example("first", "--meddle 100:fail", failed),
+    *(example(name) for name in ("clinic", "payroll", "orders")),
+]
+(data / "examples.case").write_text("\n".join(examples))
+
+# Documents show the first session as it is, and the program says how many cases pass.
+for document in ("README.md", "docs/GUIDE.md"):
+    if "\n".join(first) not in (TOP / document).read_text():
+        raise SystemExit(f"{document} doesn't show examples/first.out")
+served_files = (TOP / "crates/ob_cases/args").read_text().split()
+count = sum(len(re.findall(r"^case ", (data / name).read_text(), re.M)) for name in served_files)
+(TOP / "crates/ob_cases/stdout").write_text(f"{count} cases passed, 0 differ\n")

@@ -3,6 +3,9 @@
 # copy of its crate, and the prover has to refuse it at a clause or a goal. Prints a line for each, and ends with 1 where
 # one is proved, can't be applied, or is refused only because a proof file names what it took away. Work that checks
 # have kept in out/ is used.
+#
+# usage: bench/edits.sh [NAME..]
+# Needs `rt` and python3. Takes some minutes for a crate, and hours for all.
 set -eu
 top=$(cd "$(dirname "$0")/.." && pwd)
 work=$(mktemp -d)

@@ -1,17 +1,15 @@
 #!/bin/sh
 # Runs the program over files with others at work: a folder that isn't there, a file that another program changes or cuts
 # short while the session runs, and a disk that is full (a limit on the size of files). Prints a line for each, and ends
-# with 1 where an answer, a status or the files that stay behind are not as they should be. Builds the program first,
-# which proves it.
+# with 1 where an answer, a status or the files that stay behind are not as they should be.
+#
+# Needs `rt` (bench/build.sh) and python3, on a system whose limit on the size of files binds (Linux). Takes a second
+# once the program is built.
 set -eu
 top=$(cd "$(dirname "$0")/.." && pwd)
 work=$(mktemp -d)
 trap 'rm -rf "$work"; rm -f "$top"/crates/oblidb/oblidb-store.*' EXIT
-
-(cd "$top/crates/oblidb" && rt run >"$work/log" 2>&1 <stdin) || {
-    tail -5 "$work/log"
-    exit 1
-}
+"$top/bench/build.sh" oblidb
 
 python3 - "$top/crates/oblidb/out/oblidb" "$work" <<'PY'
 import os, resource, signal, subprocess, sys

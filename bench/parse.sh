@@ -1,15 +1,11 @@
 #!/bin/sh
 # Times the parsing of three texts of 65,536 bytes, and of shorter ones of their kinds, which shows whether the
-# time grows with the length. Builds the program first, which proves it.
+# time grows with the length.
+#
+# Needs `rt` (bench/build.sh) and python3. Takes half a minute once the program is built.
 set -eu
 top=$(cd "$(dirname "$0")/.." && pwd)
-work=$(mktemp -d)
-trap 'rm -rf "$work"' EXIT
-
-(cd "$top/crates/ob_parse_bench" && rt run >"$work/log" 2>&1 </dev/null) || {
-    tail -5 "$work/log"
-    exit 1
-}
+"$top/bench/build.sh" ob_parse_bench
 
 python3 - "$top/crates/ob_parse_bench/out/ob_parse_bench" <<'PY'
 import os, subprocess, sys, tempfile

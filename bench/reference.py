@@ -2,7 +2,9 @@
 """Writes crates/ob_cases/data/reference.case: sessions made from the grammar at random (always the same ones), with the
 answers of the plain evaluator, which the program of crates/ob_answers prints. No answer of the engine goes into them.
 
-usage: bench/reference.py PATH-OF-ob_answers      (cd crates/ob_answers && rt run < stdin builds it: out/ob_answers)
+usage: bench/reference.py [PATH-OF-ob_answers]
+
+Needs that program (bench/build.sh ob_answers builds it: crates/ob_answers/out/ob_answers), and takes a minute.
 """
 import pathlib
 import random
@@ -10,7 +12,8 @@ import subprocess
 import sys
 
 SESSIONS = 240
-DATA = pathlib.Path(__file__).resolve().parent.parent / "crates/ob_cases/data"
+TOP = pathlib.Path(__file__).resolve().parent.parent
+DATA = TOP / "crates/ob_cases/data"
 
 # The rows that may be open, those of a block, and the plan: each session has one of these.
 SETTINGS = [(64, 1, ""), (4, 1, ""), (7, 2, ""), (16, 4, ""), (10, 3, ""), (64, 16, ""), (8, 1, "small"), (8, 2, "large"), (5, 1, "")]
@@ -214,7 +217,7 @@ class Maker:
 
 
 def main():
-    program = sys.argv[1]
+    program = sys.argv[1] if len(sys.argv) > 1 else TOP / "crates/ob_answers/out/ob_answers"
     out = ["# Sessions made from the grammar, with the answers of the plain evaluator (bench/reference.py).", ""]
     for seed in range(SESSIONS):
         buffer, pack, plan = SETTINGS[seed % len(SETTINGS)]

@@ -1,75 +1,190 @@
 #!/bin/sh
-# Times statements of the program over a table of 65,536 slots, beside the passes that they are made of, and a session of
-# 20,000 statements over a table of 16 slots, beside the bare seals and unseals of its blocks. Builds both programs first,
-# which proves them.
+# Measures each kind of statement over a table of 65,536 slots in memory beside the passes that it is made of, for 1, 8
+# and 16 rows in a block, and a session of 20,000 statements over a table of 16 slots beside the bare seals and unseals
+# of its blocks. Prints a table with OK or OVER in each line, and ends with 1 where one is OVER.
+#
+# Both sides are measured in two ways. The processor's time (bench/driven.py): in each round a statement and its passes
+# run one behind the other, so that what slows the machine down slows both; the ratio is that of the least of all rounds,
+# and behind it stand the quartiles of the rounds' ratios. And the processor's instructions, where `valgrind` is there:
+# they are the same in each run.
+#
+# Both tables hold the same few rows: how many rows a table has changes no access, and a row that is there takes no less
+# than an empty slot. Hash has buckets of one block (--depth 1), so that a measure takes seconds and not minutes.
+#
+# usage: bench/statements.sh [ROUNDS]     (of the time: 15 without it; 0 leaves the time out)
+# Needs `rt` (bench/build.sh), python3 and 200 MB; `valgrind` for the second measure. Takes ten minutes once the programs
+# are built, and twenty with valgrind.
 set -eu
 top=$(cd "$(dirname "$0")/.." && pwd)
-work=$(mktemp -d)
-trap 'rm -rf "$work"' EXIT
+"$top/bench/build.sh" oblitrace ob_pass_bench
 
-for name in oblitrace ob_pass_bench; do
-    (cd "$top/crates/$name" && rt run >"$work/$name.log" 2>&1 <stdin) || {
-        tail -5 "$work/$name.log"
-        exit 1
-    }
-done
+PYTHONPATH="$top/bench" python3 - "$top" "${1:-15}" <<'PY'
+import concurrent.futures, os, re, shutil, statistics, subprocess, sys, tempfile
+from driven import Passes, Session, quartiles
 
-python3 - "$top/crates/oblitrace/out/oblitrace" "$top/crates/ob_pass_bench/out/ob_pass_bench" <<'PY'
-import os, subprocess, sys, tempfile
+top, rounds = sys.argv[1], int(sys.argv[2])
+PROGRAM, PASSES = (f"{top}/crates/{name}/out/{name}" for name in ("oblitrace", "ob_pass_bench"))
+SLOTS, WIDTH, JOINED, ROWS, FULL, K, LEFT = 65536, 17, 33, 64, 4, 2, 32
+LIMIT = 1.3
 
-program, passes = sys.argv[1:3]
-SLOTS, WIDTH, ROWS = 65536, 17, 64
+def made(rows):
+    return [f"CREATE TABLE t (id INT PRIMARY KEY, v INT) CAPACITY {SLOTS};", *[f"INSERT INTO t VALUES ({n}, {n % 16});" for n in range(rows)]]
 
-# The milliseconds of user and system time that a program takes on this input, the least of three.
-def least(command, typed, wanted=(0,)):
-    times = []
-    for _ in range(3):
-        with tempfile.TemporaryFile() as stdin:
-            stdin.write(typed.encode())
-            stdin.seek(0)
-            child = subprocess.Popen(command, stdin=stdin, stdout=subprocess.DEVNULL, stderr=subprocess.DEVNULL)
-            _, status, used = os.wait4(child.pid, 0)
-            child.returncode = os.waitstatus_to_exitcode(status)
-        if child.returncode not in wanted:
-            sys.exit(f"{command}: status {child.returncode}")
-        times.append(1000 * (used.ru_utime + used.ru_stime))
-    return min(times)
+SETUP = [*made(FULL), f"CREATE TABLE l (id INT PRIMARY KEY, v INT) CAPACITY {LEFT};", *[f"INSERT INTO l VALUES ({n}, {n});" for n in range(FULL)]]
 
-def one_pass(*line):
-    return least([passes], " ".join(map(str, line)) + "\n")
+# Passes over the table, over the joined one, and over a result of so many slots.
+def over(*letters, k=K, rows=ROWS, full=FULL):
+    return [(letter, WIDTH, SLOTS, rows, k, full) for letter in letters]
 
-# What a pass takes alone, without what it takes to fill its table.
-def alone(letter, pack, k):
-    setup = "s" if letter != "j" else "t"
-    return one_pass(letter, WIDTH, pack, SLOTS, ROWS, k) - one_pass(setup, WIDTH, pack, SLOTS, ROWS, k)
+def over_joined(*letters):
+    return [(letter, JOINED, SLOTS, ROWS, K, FULL) for letter in letters]
 
-def session(pack, texts, wanted=(0, 1)):
-    typed = "0" * 64 + "\n" + "\n".join(texts) + "\n"
-    return least([program, "--pack", str(pack)], typed, wanted)
+def emitted(slots, width=WIDTH, full=K):
+    return [("e", width, slots, ROWS, 1, full)]
 
-# A statement, and the passes that it is made of: each pass's letter and how many rows it selects.
+class Statement:
+    """A statement, the passes that it is made of, the words of its session, what is typed before it and behind it, outside
+    of the measure, and the packs that it is measured with."""
+
+    def __init__(self, name, text, passes, words="", before=(), behind=(), setup=SETUP, packs=(1, 8, 16)):
+        self.name, self.text, self.passes, self.words = name, text, passes, words.split()
+        self.before, self.behind, self.setup, self.packs = before, behind, setup, packs
+
+    # a text that isn't typed twice has a number in it
+    def typed(self, n):
+        return self.text.replace("{n}", str(1000 + n))
+
+    def lines(self, pack):
+        return [(letter, width, pack, slots, rows, k, full) for letter, width, slots, rows, k, full in self.passes]
+
+OTHER = f"CREATE TABLE n (id INT PRIMARY KEY, v INT) CAPACITY {SLOTS};"
 STATEMENTS = [
-    ("INSERT", "INSERT INTO t VALUES (9, 9);", [("i", 1)]),
-    ("UPDATE", "UPDATE t SET v = 1 WHERE id < 3;", [("u", 2)]),
-    ("DELETE", "DELETE FROM t WHERE id > 99;", [("d", 0)]),
-    ("COUNT(*)", "SELECT COUNT(*) FROM t WHERE v = 1;", [("a", 4)]),
-    ("GROUP BY", "SELECT v, COUNT(*) FROM t GROUP BY v;", [("g", 4)]),
-    ("SELECT, Small", "SELECT * FROM t WHERE id < 9;", [("c", 4), ("S", 4)]),
+    Statement("CREATE TABLE", OTHER, over("n"), behind=["DROP TABLE n;"]),
+    Statement("DROP TABLE", "DROP TABLE n;", over("x", full=0), before=[OTHER]),
+    Statement("INSERT", "INSERT INTO t VALUES ({n}, 9);", over("i")),
+    Statement("UPDATE", "UPDATE t SET v = 7 WHERE v < 8;", over("u")),
+    Statement("DELETE", "DELETE FROM t WHERE v > 99;", over("d")),
+    Statement("COUNT with a condition", "SELECT COUNT(*) FROM t WHERE v < 8;", over("o")),
+    Statement("aggregates", "SELECT COUNT(*), SUM(id) FROM t;", over("a")),
+    Statement("GROUP BY", "SELECT v, COUNT(*), SUM(id) FROM t GROUP BY v;", over("g")),
+    Statement("SELECT, Small", f"SELECT * FROM t WHERE id < {K};", over("c", "S") + emitted(K), "--plan small"),
+    Statement("SELECT, Large", f"SELECT * FROM t WHERE id < {K};", over("c", "L", "x") + emitted(SLOTS), "--plan large"),
+    Statement("SELECT, Continuous", f"SELECT * FROM t WHERE id < {K};", over("c", "C") + emitted(K), "--plan continuous"),
+    Statement("SELECT, Hash", f"SELECT * FROM t WHERE id < {K};", over("c", "h") + emitted(K), "--plan hash --depth 1"),
+    Statement(
+        "a join",
+        f"SELECT * FROM l JOIN t ON l.id = t.id WHERE t.id < {K};",
+        [("j", WIDTH, SLOTS, ROWS, LEFT, FULL), *over_joined("c", "S", "x"), *emitted(K, JOINED)],
+    ),
+    # The ninth of these finds both its buckets full, and Small follows. With more rows in a block that takes thousands of
+    # rows, which would have to be inserted.
+    Statement(
+        "SELECT, Hash, then Small",
+        "SELECT * FROM t WHERE id <= 7 OR id = 9;",
+        over("c", "h", "S", k=9, rows=4, full=10) + emitted(9, full=0) + emitted(9, full=9),
+        "--buffer 4 --depth 1",
+        setup=made(10),
+        packs=(1,),
+    ),
 ]
-SETUP = ["CREATE TABLE t (id INT PRIMARY KEY, v INT) CAPACITY 65536;", *[f"INSERT INTO t VALUES ({n}, {n});" for n in range(4)]]
-TIMES = 12
 
-print("| Statement | rows of a block | ms | its passes, ms | ratio | limit | |")
-print("|---|---:|---:|---:|---:|---:|---|")
-for pack in (1, 8, 16):
-    before = session(pack, SETUP)
-    for name, text, parts in STATEMENTS:
-        spent = (session(pack, [*SETUP, *[text] * TIMES]) - before) / TIMES
-        bare = sum(alone(letter, pack, max(k, 1)) for letter, k in parts)
-        ratio = spent / bare
-        print(f"| {name} | {pack} | {spent:.0f} | {bare:.0f} | {ratio:.2f} | 1.3 | {'' if ratio <= 1.3 else 'over'} |", flush=True)
+# ---- the processor's time
+def timed(statement, pack, session, passes, n):
+    for text in statement.before:
+        session.serve(text)
+    spent = session.serve(statement.typed(n))[1]
+    for text in statement.behind:
+        session.serve(text)
+    return spent, sum(passes.run(*line)[0] for line in statement.lines(pack))
 
-# A session of short statements: of each, how many blocks it seals and opens, one row in each of 16.
+# The statements of a pack, each of its rounds: the milliseconds of the statement and of its passes.
+def all_timed(pack):
+    passes, sessions, found = Passes(PASSES), {}, {}
+    chosen = [it for it in STATEMENTS if pack in it.packs]
+    for it in chosen:
+        key = (*it.words, len(it.setup))
+        if key not in sessions:
+            sessions[key] = Session(PROGRAM, "--pack", str(pack), *it.words)
+            for text in it.setup:
+                sessions[key].serve(text)
+    # (the first round warms up)
+    for n in range(rounds + 1):
+        for it in chosen:
+            found.setdefault(it.name, []).append(timed(it, pack, sessions[(*it.words, len(it.setup))], passes, n))
+    for driven in (passes, *sessions.values()):
+        driven.end()
+    return {name: pairs[1:] for name, pairs in found.items()}
+
+# ---- the processor's instructions
+def instructions(command, typed):
+    with tempfile.TemporaryFile() as stdin:
+        stdin.write(typed.encode())
+        stdin.seek(0)
+        ran = subprocess.run(
+            ["valgrind", "--tool=cachegrind", "--cache-sim=no", "--cachegrind-out-file=/dev/null", *command],
+            stdin=stdin, stdout=subprocess.DEVNULL, stderr=subprocess.PIPE, text=True,
+        )
+    return int(re.search(r"I\s+refs:\s+([\d,]+)", ran.stderr).group(1).replace(",", ""))
+
+# What a pass takes beside one that fills the same table and does nothing.
+def of_pass(count, line):
+    letter, *rest = line
+    idle = "t" if letter == "j" else "s"
+    fills = ("b", 0, 0, WIDTH) if letter == "n" else (idle, *rest)
+    first, second = (count(PASSES, (), " ".join(map(str, it)) + "\n\n") for it in (line, fills))
+    return lambda: first() - second()
+
+def of_statement(count, statement, pack):
+    words = ("--pack", str(pack), *statement.words)
+    before = "\n".join(["0" * 64, *statement.setup, *statement.before]) + "\n"
+    with_it, without = count(PROGRAM, words, before + statement.typed(0) + "\n"), count(PROGRAM, words, before)
+    return lambda: with_it() - without()
+
+# Both sides of each line; each different run is made once, some at a time.
+def all_counted(lines):
+    known = {}
+    with concurrent.futures.ThreadPoolExecutor(len(os.sched_getaffinity(0))) as pool:
+        def count(program, words, typed):
+            key = (program, words, typed)
+            if key not in known:
+                known[key] = pool.submit(instructions, [program, *words], typed)
+            return known[key].result
+        asked = {
+            (it.name, pack): (of_statement(count, it, pack), [of_pass(count, line) for line in it.lines(pack)])
+            for it, pack in lines
+        }
+        return {key: (statement(), sum(it() for it in passes)) for key, (statement, passes) in asked.items()}
+
+# ---- both, as a table
+lines = [(it, pack) for pack in (1, 8, 16) for it in STATEMENTS if pack in it.packs]
+counted = all_counted(lines) if shutil.which("valgrind") else {}
+times = {pack: all_timed(pack) for pack in (1, 8, 16)} if rounds else {}
+over_limit = 0
+
+print(f"Statements beside their passes, limit {LIMIT}:\n")
+print("| Statement | rows of a block | ms | its passes, ms | ratio | quartiles | instructions, millions | of its passes | ratio | |")
+print("|---|---:|---:|---:|---:|---|---:|---:|---:|---|")
+for it, pack in lines:
+    cells, ratios = [it.name, pack], []
+    if rounds:
+        pairs = times[pack][it.name]
+        spent, alone = (min(side) for side in zip(*pairs))
+        low, high = quartiles([a / b for a, b in pairs]) if rounds > 1 else (spent / alone, spent / alone)
+        ratios.append(spent / alone)
+        cells += [f"{spent:.2f}", f"{alone:.2f}", f"{ratios[-1]:.2f}", f"{low:.2f} to {high:.2f}"]
+    else:
+        cells += ["", "", "", ""]
+    if counted:
+        spent, alone = counted[it.name, pack]
+        ratios.append(spent / alone)
+        cells += [f"{spent / 1e6:.2f}", f"{alone / 1e6:.2f}", f"{ratios[-1]:.2f}"]
+    else:
+        cells += ["", "", ""]
+    is_over = any(ratio > LIMIT for ratio in ratios)
+    over_limit += is_over
+    print(f"| {' | '.join(map(str, cells))} | {'OVER' if is_over else 'OK'} |", flush=True)
+
+# ---- a session of short statements: of each, how many blocks it seals and opens, one row in each of 16
 U = 16
 ROUND = [
     ("INSERT INTO t VALUES (3, 4);", U, 2 * U),
@@ -78,17 +193,48 @@ ROUND = [
     ("SELECT COUNT(*), SUM(v) FROM t WHERE v > 3;", 0, U),
     ("DELETE FROM t WHERE id = 99;", U, U),
 ]
-ROUNDS = 4000
+REPEATS = 4000
 small = ["CREATE TABLE t (id INT PRIMARY KEY, v INT) CAPACITY 16;", *[f"INSERT INTO t VALUES ({n}, {n});" for n in range(8)]]
 texts = [text for text, _, _ in ROUND]
-spent = session(1, [*small, *texts * ROUNDS]) - session(1, small)
-sealed = ROUNDS * sum(n for _, n, _ in ROUND)
-opened = ROUNDS * sum(n for _, _, n in ROUND)
-bare = one_pass("b", sealed, opened, WIDTH) - one_pass("b", 0, 0, WIDTH)
-print()
-print("| Session of 20,000 statements over 16 slots | ms |")
-print("|---|---:|")
-print(f"| the program | {spent:.0f} |")
-print(f"| its {sealed:,} seals and {opened:,} unseals alone | {bare:.0f} |")
-print(f"| outside sealing | {100 * (spent - bare) / spent:.0f} % |")
+sealed, opened = (REPEATS * sum(it[n] for it in ROUND) for n in (1, 2))
+
+def whole(texts):
+    return "\n".join(["0" * 64, *texts]) + "\n"
+
+# The milliseconds of a session that is typed at once.
+def session_time(texts):
+    with tempfile.TemporaryFile() as stdin:
+        stdin.write(whole(texts).encode())
+        stdin.seek(0)
+        child = subprocess.Popen([PROGRAM], stdin=stdin, stdout=subprocess.DEVNULL)
+        _, status, used = os.wait4(child.pid, 0)
+        child.returncode = os.waitstatus_to_exitcode(status)
+    if child.returncode not in (0, 1):
+        sys.exit(f"the session ended with status {child.returncode}")
+    return 1000 * (used.ru_utime + used.ru_stime)
+
+print("\nA session of 20,000 statements over 16 slots, limit a third:\n")
+print(f"| Measure | the session | its {sealed:,} seals and {opened:,} unseals | outside sealing | quartiles | |")
+print("|---|---:|---:|---:|---|---|")
+
+def print_share(measure, spent, alone, low, high):
+    global over_limit
+    share = 1 - alone / spent
+    over_limit += share > 1 / 3
+    print(f"| {measure} | {spent:.0f} | {alone:.0f} | {100 * share:.0f} % | {100 * low:.0f} to {100 * high:.0f} % | {'OK' if share <= 1 / 3 else 'OVER'} |")
+
+if rounds:
+    passes, pairs = Passes(PASSES), []
+    for _ in range(rounds):
+        spent = session_time([*small, *texts * REPEATS]) - session_time(small)
+        pairs.append((spent, passes.run("b", sealed, opened, WIDTH)[0]))
+    spent, alone = (min(side) for side in zip(*pairs))
+    shares = [1 - b / a for a, b in pairs]
+    print_share("ms", spent, alone, *(quartiles(shares) if rounds > 1 else (shares[0], shares[0])))
+if counted:
+    # (a tenth of it, whose statements are the same)
+    spent = 10 * (instructions([PROGRAM], whole([*small, *texts * (REPEATS // 10)])) - instructions([PROGRAM], whole(small)))
+    alone = 10 * (instructions([PASSES], f"b {sealed // 10} {opened // 10} {WIDTH}\n") - instructions([PASSES], f"b 0 0 {WIDTH}\n"))
+    print_share("millions of instructions", spent / 1e6, alone / 1e6, 1 - alone / spent, 1 - alone / spent)
+sys.exit(over_limit > 0)
 PY

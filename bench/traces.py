@@ -1,7 +1,7 @@
 #!/usr/bin/env python3
 """Draws docs/traces.svg: which blocks two sessions ask for, over time, and which pages SQLite asks for in the same two.
 The sessions have the same statements and other keys and values. Needs strace, and the program of crates/oblitrace
-(cd crates/oblitrace && rt run < stdin builds it).
+(bench/build.sh oblitrace builds it). Takes ten seconds.
 
 usage: bench/traces.py [PATH-OF-oblitrace]
 """

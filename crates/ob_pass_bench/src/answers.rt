@@ -3,6 +3,7 @@ ghost use Rattle.ob_vault.specs.Places.{at};
 ghost use Rattle.ob_pass_bench.specs.Tables.{MayRun};
 
 use crate::filling::make_room;
+use crate::mutations::half;
 use ob_base::{Emit, EmitErr, Label, Shown};
 use ob_emit::emit_all;
 use ob_flat::{Flat, OpErr};
@@ -55,6 +56,20 @@ pub(crate) fn total<S: BlockStore, R: Revisions>(
     make_room(store, u64::from(flat.capacity))?;
     let aggs = [Agg::CountAll, Agg::Sum(0)];
     let _totals = aggregate(store, vault, room, flat, &Pred::all(), &aggs)?;
+    Ok(1)
+}
+
+/// Counts half of the rows, as an aggregate.
+pub(crate) fn count_aggregate<S: BlockStore, R: Revisions>(
+    store: &mut S,
+    vault: &mut Vault<R>,
+    room: &mut Room,
+    flat: &Flat,
+) -> Result<u64, OpErr>
+    requires { MayRun room.old flat.now (at R.state vault.old (S.state store.old)) }
+{
+    make_room(store, u64::from(flat.capacity))?;
+    let _total = aggregate(store, vault, room, flat, &half(), &[Agg::CountAll])?;
     Ok(1)
 }
 

@@ -23,6 +23,7 @@ use ob_row::encode;
 use ob_store::BlockStore;
 use ob_vault::{Order, Revisions, Vault};
 use std::alloc::Global;
+use std::io::{self, Input, Print};
 
 /// Makes room in the store's list for so many accesses.
 pub(crate) fn make_room<S: BlockStore>(store: &mut S, n: u64) -> Result<(), OpErr>
@@ -34,6 +35,22 @@ pub(crate) fn make_room<S: BlockStore>(store: &mut S, n: u64) -> Result<(), OpEr
         return Err(OpErr::NoMemory);
     }
     Ok(())
+}
+
+// Tells that all is filled, and waits for a line.
+fn tell_ready<H: Input + Print + AllocGlobal>(host: &H) -> io::Result<()> {
+    println!(host; "ready")?;
+    let mut line = String::new(host.alloc());
+    host.read_line(&mut line)?;
+    Ok(())
+}
+
+/// Tells whoever measures that all is filled, and waits until that is heard.
+pub(crate) fn wait<H: Input + Print + AllocGlobal>(host: &H) -> Result<(), OpErr> {
+    match tell_ready(host) {
+        Ok(()) => Ok(()),
+        Err(_) => Err(OpErr::Sink),
+    }
 }
 
 // Spells the row of this index, or a dummy where the table has no such row.

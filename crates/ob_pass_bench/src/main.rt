@@ -1,9 +1,11 @@
 //! Fills a table of real rows in a store in memory, and runs one pass over it: what `bench/passes.sh` times.
 //!
-//! It reads a line: a letter for the pass, the bytes of a row, the rows of a block, the slots of the table,
-//! the rows that may be open, and how many rows are selected, or how many slots the left table of a join has.
-//! `s` is the table alone, and `t` both tables of a join. Or the line is `b`, how many blocks are sealed,
-//! how many are opened, and how many bytes their rows have.
+//! It reads lines. A line has a letter for the pass, the bytes of a row, the rows of a block, the slots of the table,
+//! the rows that may be open, how many rows are selected, or how many slots the left table of a join has, and, where
+//! the table isn't to be full, how many of its first slots have rows. The table is filled, `ready` is printed, and the
+//! next line is waited for, whatever it says: then the pass runs, and what it gave is printed, so that whoever reads
+//! that can tell what the pass alone took. `s` and `t` fill the table, or both tables of a join, and run no pass. Or
+//! the line is `b`, how many blocks are sealed, how many are opened, and how many bytes their rows have.
 #![tactic(auto)]
 
 mod answers;
@@ -17,7 +19,6 @@ mod selects;
 
 use crate::bare::seal_open;
 use crate::runs::{Case, run};
-use std::alloc::Global;
 use std::io;
 use std::str::SplitAsciiWhitespace;
 
@@ -28,18 +29,24 @@ fn number(words: &mut SplitAsciiWhitespace<'_>) -> Option<u32> {
 
 // The case that a line gives behind the letter of its pass.
 fn case_of(pass: u8, words: &mut SplitAsciiWhitespace<'_>) -> Option<Case> {
+    let width = number(words)?;
+    let pack = number(words)?;
+    let slots = number(words)?;
+    let rows = number(words)?;
+    let k = number(words)?;
     Some(Case {
         pass,
-        width: number(words)?,
-        pack: number(words)?,
-        slots: number(words)?,
-        rows: number(words)?,
-        k: number(words)?,
+        width,
+        pack,
+        slots,
+        rows,
+        k,
+        full: number(words).unwrap_or(slots),
     })
 }
 
 // What a line asks for.
-fn answer(alloc: Global, line: &str) -> Option<u64> {
+fn answer<H: Input + Print + AllocGlobal>(host: &H, line: &str) -> Option<u64> {
     let mut words = line.split_ascii_whitespace();
     let pass = words.next()?.as_bytes().first()?;
     if *pass == b'b' {
@@ -49,14 +56,21 @@ fn answer(alloc: Global, line: &str) -> Option<u64> {
             number(&mut words)?,
         );
     }
-    run(alloc, &case_of(*pass, &mut words)?)
+    run(host, &case_of(*pass, &mut words)?)
 }
 
 fn main(rt: HostRuntime) -> io::Result<()> {
-    let alloc = rt.alloc();
-    let line = io::read_to_string(alloc, rt.stdin())?;
-    match answer(alloc, line.as_str()) {
-        Some(n) => println!(rt; "{n}"),
-        None => println!(rt; "usage: PASS WIDTH PACK SLOTS ROWS K, or b SEALS UNSEALS LEN"),
+    for _ in 0..u64::MAX {
+        let mut line = String::new(rt.alloc());
+        if rt.read_line(&mut line)? == 0 {
+            break;
+        }
+        match answer(&rt, line.as_str()) {
+            Some(n) => println!(rt; "{n}")?,
+            None => {
+                println!(rt; "usage: PASS WIDTH PACK SLOTS ROWS K [FULL], or b SEALS UNSEALS LEN")?
+            }
+        }
     }
+    Ok(())
 }

@@ -13,8 +13,8 @@ use ob_store::BlockStore;
 use ob_vault::{Revisions, Vault};
 use std::alloc::Global;
 
-// True of every second row.
-fn half() -> Pred {
+/// True of every second row.
+pub(crate) fn half() -> Pred {
     Pred::compare(1, ComparisonOperator::Less, Operand::Cell(Cell::Int(8)))
 }
 

@@ -2,24 +2,26 @@
 ghost use Rattle.std.specs.Prelude.{◌≤◌};
 ghost use Rattle.ob_vault.specs.Places.{at};
 ghost use Rattle.ob_vault.specs.Tied.{Ready};
+ghost use Rattle.ob_flat.specs.Flats.{IsSized};
 ghost use Rattle.ob_pass_bench.specs.Tables.{AreColumns, IsOpen, MayRun};
 
-use crate::answers::{emission, groups, total};
-use crate::filling::filled;
+use crate::answers::{count_aggregate, emission, groups, total};
+use crate::filling::{filled, make_room, wait};
 use crate::joining::join_keys;
 use crate::mutations::{count_half, delete_half, insert_one, update_half};
 use crate::schemas::schema_of;
 use crate::selects::{continuous, hash, large, small};
 use ob_base::Schema;
-use ob_flat::{Flat, OpErr};
+use ob_flat::{Flat, OpErr, create, discard};
 use ob_room::Room;
 use ob_seal::Keys;
 use ob_store::{BlockStore, MemStore};
 use ob_vault::{BaseRevs, Revisions, Vault};
 use std::alloc::Global;
+use std::io::{Input, Print};
 
 /// A pass by its letter, the bytes of a row, the rows of a block, the slots of the table, the rows that may
-/// be open, and how many are selected.
+/// be open, how many are selected, and how many slots have rows, from the first on.
 #[derive(Clone, Copy, Debug, PartialEq, Eq)]
 pub(crate) struct Case {
     pub(crate) pass: u8,
@@ -28,11 +30,12 @@ pub(crate) struct Case {
     pub(crate) slots: u32,
     pub(crate) rows: u32,
     pub(crate) k: u32,
+    pub(crate) full: u32,
 }
 
 // Joins a table of numbers with another, or only fills them.
-fn run_join<S: BlockStore, R: Revisions>(
-    alloc: Global,
+fn run_join<H: Input + Print + AllocGlobal, S: BlockStore, R: Revisions>(
+    host: &H,
     store: &mut S,
     vault: &mut Vault<R>,
     room: &mut Room,
@@ -47,15 +50,50 @@ fn run_join<S: BlockStore, R: Revisions>(
     requires slots { case.now.slots ≤ 65536 }
     requires number { (1 ≤ case.now.k) × (case.now.k ≤ case.now.slots) }
 {
-    let left = filled(alloc, store, vault, room, schemas.0, case.k, case.k)?;
-    let right = filled(alloc, store, vault, room, schemas.1, case.slots, case.slots)?;
+    let alloc = host.alloc();
+    let left = filled(alloc, store, vault, room, schemas.0, case.k, case.full)?;
+    let right = filled(alloc, store, vault, room, schemas.1, case.slots, case.full)?;
     if case.pass == b't' {
         return Ok(0);
     }
+    wait(host)?;
     join_keys(store, vault, room, &left, &right)
 }
 
-// Runs the pass over a full table, or one that has a slot for the row that is inserted.
+// Makes a table whose slots are empty.
+fn run_create<H: Input + Print + AllocGlobal, S: BlockStore, R: Revisions>(
+    host: &H,
+    store: &mut S,
+    vault: &mut Vault<R>,
+    room: &mut Room,
+    schema: &Schema,
+    slots: u32,
+) -> Result<u64, OpErr>
+    requires ready { Ready (at R.state vault.old (S.state store.old)) }
+    requires size { IsSized schema.now slots }
+    requires place { IsOpen schema.now room.old }
+{
+    wait(host)?;
+    make_room(store, 1 + u64::from(slots))?;
+    let flat = create(store, vault, room, schema, slots)?;
+    Ok(u64::from(flat.capacity))
+}
+
+// Gives a table up.
+fn run_discard<S: BlockStore, R: Revisions>(
+    store: &mut S,
+    vault: &mut Vault<R>,
+    room: &mut Room,
+    flat: Flat,
+) -> Result<u64, OpErr>
+    requires runs { MayRun room.old flat (at R.state vault.old (S.state store.old)) }
+{
+    make_room(store, 1)?;
+    discard(store, vault, flat)?;
+    Ok(u64::from(room.pack()))
+}
+
+// Runs the pass over a filled table.
 fn run_pass<S: BlockStore, R: Revisions>(
     alloc: Global,
     store: &mut S,
@@ -69,13 +107,15 @@ fn run_pass<S: BlockStore, R: Revisions>(
 {
     match case.pass {
         b'c' => count_half(store, vault, room, flat),
+        b'o' => count_aggregate(store, vault, room, flat),
         b'i' => insert_one(alloc, store, vault, room, flat),
         b'u' => update_half(store, vault, room, flat),
         b'd' => delete_half(store, vault, room, flat),
         b'S' => small(store, vault, room, flat, case.k),
         b'L' => large(store, vault, room, flat, case.k),
         b'C' => continuous(store, vault, room, flat, case.k),
-        b'H' => hash(store, vault, room, flat, case.k),
+        b'H' => hash(store, vault, room, flat, case.k, false),
+        b'h' => hash(store, vault, room, flat, case.k, true),
         b'a' => total(store, vault, room, flat),
         b'g' => groups(store, vault, room, flat),
         b'e' => emission(store, vault, room, flat),
@@ -84,8 +124,8 @@ fn run_pass<S: BlockStore, R: Revisions>(
 }
 
 // Fills what the case asks for, and runs its pass.
-fn run_case<S: BlockStore, R: Revisions>(
-    alloc: Global,
+fn run_case<H: Input + Print + AllocGlobal, S: BlockStore, R: Revisions>(
+    host: &H,
     store: &mut S,
     vault: &mut Vault<R>,
     room: &mut Room,
@@ -100,17 +140,35 @@ fn run_case<S: BlockStore, R: Revisions>(
     requires slots { case.now.slots ≤ 65536 }
     requires number { (1 ≤ case.now.k) × (case.now.k ≤ case.now.slots) }
 {
-    if case.pass == b'j' || case.pass == b't' {
-        return run_join(alloc, store, vault, room, schemas, case);
+    match case.pass {
+        b'j' | b't' => return run_join(host, store, vault, room, schemas, case),
+        b'n' => return run_create(host, store, vault, room, schemas.1, case.slots),
+        _ => {}
     }
-    let full = case.slots - u32::from(case.pass == b'i');
-    let mut flat = filled(alloc, store, vault, room, schemas.1, case.slots, full)?;
-    run_pass(alloc, store, vault, room, &mut flat, case)
+    // (an INSERT finds an empty slot)
+    let full = case.full.min(case.slots - u32::from(case.pass == b'i'));
+    let mut flat = filled(
+        host.alloc(),
+        store,
+        vault,
+        room,
+        schemas.1,
+        case.slots,
+        full,
+    )?;
+    if case.pass != b's' {
+        wait(host)?;
+    }
+    if case.pass == b'x' {
+        return run_discard(store, vault, room, flat);
+    }
+    run_pass(host.alloc(), store, vault, room, &mut flat, case)
 }
 
 /// Runs a case over a store in memory, and answers what it gave; or none where there is no such case, or
 /// memory ran out.
-pub(crate) fn run(alloc: Global, case: &Case) -> Option<u64> {
+pub(crate) fn run<H: Input + Print + AllocGlobal>(host: &H, case: &Case) -> Option<u64> {
+    let alloc = host.alloc();
     let numbers = schema_of(17)?;
     let schema = schema_of(case.width)?;
     if case.pack < 1 || case.pack > 16 || case.rows < 3 * case.pack + 1 || case.rows > 65_536 {
@@ -123,5 +181,5 @@ pub(crate) fn run(alloc: Global, case: &Case) -> Option<u64> {
     let mut vault: Vault<BaseRevs> = Vault::new(alloc, Keys::derive(&[5; 32]));
     let mut room = Room::new(alloc, case.rows, 1024, case.pack).ok()?;
     let schemas = (&numbers, &schema);
-    run_case(alloc, &mut store, &mut vault, &mut room, schemas, case).ok()
+    run_case(host, &mut store, &mut vault, &mut room, schemas, case).ok()
 }

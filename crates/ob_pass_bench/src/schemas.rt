@@ -32,6 +32,24 @@ fn two_numbers() -> Schema
     schema
 }
 
+// The columns of two tables of two numbers that are joined.
+fn four_numbers() -> Schema
+    ensures { HasColumns 4 33 result }
+{
+    with_number(with_number(two_numbers(), b"k"), b"w")
+}
+
+// The same columns, and one of numbers.
+fn with_number(mut schema: Schema, name: &[u8]) -> Schema
+    requires few { length schema ≤ 5 }
+    requires name { length name.now ≤ 32 }
+    ensures { (count width : ℕ) → HasColumns count width schema
+        → HasColumns (count + 1) (width + 8) result }
+{
+    schema.push(column(name, Kind::Int, false));
+    schema
+}
+
 // The same columns, and one of texts of at most so many bytes.
 fn with_text(mut schema: Schema, n: u8) -> Schema
     requires few { length schema ≤ 5 }
@@ -59,6 +77,7 @@ pub(crate) fn schema_of(bytes: u32) -> Option<Schema>
 {
     match bytes {
         17 => Some(two_numbers()),
+        33 => Some(four_numbers()),
         128 => Some(with_text(two_numbers(), 110)),
         1008 => Some(with_texts(222)),
         1024 => Some(with_texts(238)),

@@ -12,7 +12,7 @@ use ob_row::{Cell, Operand, Pred};
 use ob_store::BlockStore;
 use ob_vault::{Revisions, Vault};
 
-/// The blocks of a bucket, as many as the program has.
+/// The blocks of a bucket, as many as the program has where nothing else is said.
 const DEPTH: u8 = 5;
 
 // True of the rows whose key is below a number.
@@ -76,19 +76,25 @@ pub(crate) fn continuous<S: BlockStore, R: Revisions>(
     Ok(u64::from(result.capacity))
 }
 
-/// Puts `k` rows into as many buckets, by Hash.
+/// Puts `k` rows into as many buckets, of one block or of as many as the program has, by Hash.
 pub(crate) fn hash<S: BlockStore, R: Revisions>(
     store: &mut S,
     vault: &mut Vault<R>,
     room: &mut Room,
     flat: &Flat,
     k: u32,
+    is_shallow: bool,
 ) -> Result<u64, OpErr>
     requires runs { MayRun room.old flat.now (at R.state vault.old (S.state store.old)) }
     requires number { (1 ≤ k) × (k ≤ flat.now.capacity) }
 {
     make_room(store, 1 + 26 * u64::from(flat.capacity))?;
-    match ob_hash::select(store, vault, room, flat, &below(k), k, DEPTH)? {
+    let placed = if is_shallow {
+        ob_hash::select(store, vault, room, flat, &below(k), k, 1)?
+    } else {
+        ob_hash::select(store, vault, room, flat, &below(k), k, DEPTH)?
+    };
+    match placed {
         Placed::Done(result) | Placed::Overflow(result, _) => Ok(u64::from(result.capacity)),
     }
 }

@@ -1,0 +1,178 @@
+#!/bin/sh
+# Measures whole sessions of the program over a table of 65,536 slots: in memory (oblitrace) and in files (oblidb), for 1,
+# 8 and 16 rows in a block, beside the bare seals and unseals of their blocks, and beside SQLCipher with a table of 65,536
+# rows, where `sqlcipher` is there (Debian has it as a package). Prints a table of the processor's time (bench/driven.py,
+# the median of some rounds) and of the peak of memory, with OK or OVER where there is a goal: over files within 2 times
+# of over memory; with 16 rows in a block an UPDATE of every row no slower than SQLCipher's, and a COUNT with a condition
+# within 3 times. Ends with 1 where one is OVER.
+#
+# A table of 65,536 rows can't be had cheaply: each INSERT is a pass, so that so many take hours. But a table that was
+# created has all of its slots, and each pass over it asks the same whatever they hold. Here 100 rows are inserted, which
+# SELECT and the join need; what a pass over a table that is full takes beside one over a table of 100 rows is measured of
+# the passes alone (ob_pass_bench), and stands in the table.
+#
+# SQLCipher has the table with the same columns, a raw key, and neither journal nor syncs, as our files have none. It
+# finds rows by their key, so INSERT, SELECT of 100 rows and the join take no pass there. Each statement comes in a
+# connection of its own, so that it reads the file and not its cache.
+#
+# usage: bench/sessions.sh [ROUNDS]     (11 without it)
+# Needs `rt` (bench/build.sh), python3, 300 MB, and 60 MB in the folder for temporary files (TMPDIR), where the files lie.
+# Takes ten minutes once the programs are built.
+set -eu
+top=$(cd "$(dirname "$0")/.." && pwd)
+work=$(mktemp -d)
+trap 'rm -rf "$work"' EXIT
+"$top/bench/build.sh" oblitrace oblidb ob_pass_bench
+
+PYTHONPATH="$top/bench" python3 - "$top" "$work" "${1:-11}" <<'PY'
+import shutil, subprocess, sys
+from statistics import median
+from driven import Driven, Passes, Session, quartiles
+from shapes import blocks, count, insert, join, rewrite, small
+
+top, work, rounds = sys.argv[1], sys.argv[2], int(sys.argv[3])
+MEMORY, FILES, PASSES = (f"{top}/crates/{name}/out/{name}" for name in ("oblitrace", "oblidb", "ob_pass_bench"))
+SLOTS, WIDTH, JOINED, OPEN, SELECTED, LEFT, LEFTS = 65536, 17, 33, 64, 100, 32, 4
+PACKS = (1, 8, 16)
+
+# The seals and unseals of a statement, and the bytes of the rows that are sealed.
+def plain(shape):
+    return lambda pack: [(*shape(SLOTS, pack, OPEN, SELECTED), WIDTH)]
+
+def selected(pack):
+    results = blocks(pack, SELECTED)
+    return [(*count(SLOTS, pack, OPEN, 0), WIDTH), (*small(SLOTS, pack, OPEN, SELECTED), WIDTH), (0, results, WIDTH)]
+
+def joined(pack):
+    sealed, opened = join(SLOTS, pack, OPEN, LEFT)
+    slots = sealed * pack
+    return [(0, opened, WIDTH), (sealed, 0, JOINED), (*count(slots, pack, OPEN, 0), JOINED), (*small(slots, pack, OPEN, LEFTS), JOINED), (0, blocks(pack, LEFTS), JOINED)]
+
+class Statement:
+    """A statement, SQLCipher's, its bare seals and unseals by the pack, its passes over the table, and its goal beside
+    SQLCipher."""
+
+    def __init__(self, name, text, theirs, bare, letters, goal=None):
+        self.name, self.text, self.theirs, self.bare, self.letters, self.goal = name, text, theirs, bare, letters, goal
+
+STATEMENTS = [
+    Statement("INSERT", "INSERT INTO t VALUES ({n}, 3);", "INSERT INTO t VALUES ({n}, 3);", plain(insert), "i"),
+    Statement("UPDATE of every row", "UPDATE t SET v = 7;", "UPDATE t SET v = 7;", plain(rewrite), "u", 1),
+    Statement("COUNT with a condition", "SELECT COUNT(*) FROM t WHERE v < 8;", "SELECT COUNT(*) FROM t WHERE v < 8;", plain(count), "o", 3),
+    Statement("SELECT of 100 rows", "SELECT * FROM t WHERE id < 100;", "SELECT * FROM t WHERE id < 100;", selected, "cS"),
+    Statement("GROUP BY", "SELECT v, COUNT(*), SUM(id) FROM t GROUP BY v;", "SELECT v, COUNT(*), SUM(id) FROM t GROUP BY v;", plain(count), "g"),
+    Statement("a join with 32 slots", "SELECT * FROM l JOIN t ON l.id = t.id;", "SELECT * FROM l JOIN t ON l.id = t.id;", joined, "j"),
+]
+SETUP = [
+    f"CREATE TABLE t (id INT PRIMARY KEY, v INT) CAPACITY {SLOTS};",
+    f"CREATE TABLE l (id INT PRIMARY KEY, v INT) CAPACITY {LEFT};",
+    *[f"INSERT INTO l VALUES ({n}, {n});" for n in range(LEFTS)],
+    *[f"INSERT INTO t VALUES ({n}, {n % 16});" for n in range(SELECTED)],
+]
+
+# ---- SQLCipher
+class Cipher(Driven):
+    """A run of `sqlcipher` over a file, with each statement in a connection of its own."""
+
+    def __init__(self):
+        super().__init__("sqlcipher", "-batch")
+        self.open()
+        self.ask(f"""
+            CREATE TABLE t (id INTEGER PRIMARY KEY, v INT);
+            WITH RECURSIVE n(x) AS (SELECT 0 UNION ALL SELECT x + 1 FROM n WHERE x < {SLOTS - 1}) INSERT INTO t SELECT x, x % 16 FROM n;
+            CREATE TABLE l (id INTEGER PRIMARY KEY, v INT);
+            WITH RECURSIVE n(x) AS (SELECT 0 UNION ALL SELECT x + 1 FROM n WHERE x < {LEFTS - 1}) INSERT INTO l SELECT x, x FROM n;
+        """)
+
+    def ask(self, text):
+        return self.timed(text + "\n.print done\n", lambda line: line == "done")
+
+    def open(self):
+        self.ask(f".open {work}/cipher.db\nPRAGMA key = \"x'{'17' * 32}'\";\nPRAGMA journal_mode = OFF;\nPRAGMA synchronous = OFF;\nSELECT COUNT(*) FROM sqlite_master;")
+
+    def serve(self, text):
+        self.open()
+        return self.ask(text)[1]
+
+# ---- a round: each statement in each of its forms, one behind the other
+def of_passes(passes, it, pack, full):
+    slots = {"i": SLOTS - 1}
+    lines = [(letter, WIDTH, pack, SLOTS, OPEN, LEFT if letter == "j" else SELECTED, min(full, slots.get(letter, SLOTS))) for letter in it.letters]
+    return sum(passes.run(*line)[0] for line in lines)
+
+found, peaks = {}, {}
+def keep(key, spent):
+    found.setdefault(key, []).append(spent)
+
+passes = Passes(PASSES)
+cipher = Cipher() if shutil.which("sqlcipher") else None
+for pack in PACKS:
+    sessions = {
+        "memory": Session(MEMORY, "--pack", str(pack)),
+        "files": Session(FILES, "--pack", str(pack), "--store", f"{work}/s{pack}"),
+    }
+    for session in sessions.values():
+        for text in SETUP:
+            session.serve(text)
+    # (the first round warms up)
+    for n in range(rounds + 1):
+        for it in STATEMENTS:
+            for name, session in sessions.items():
+                session.forget_peak()
+                spent = session.serve(it.text.format(n=1000 + n))[1]
+                peaks[it.name, pack, name] = max(session.peak(), peaks.get((it.name, pack, name), 0))
+                if n:
+                    keep((it.name, pack, name), spent)
+            bare = sum(passes.run("b", sealed, opened, pack * width)[0] for sealed, opened, width in it.bare(pack))
+            part, full = of_passes(passes, it, pack, SELECTED), of_passes(passes, it, pack, SLOTS)
+            if n:
+                keep((it.name, pack, "bare"), bare)
+                keep((it.name, pack, "full"), full / part)
+            if cipher and pack == PACKS[-1]:
+                spent = cipher.serve(it.theirs.format(n=SLOTS + 1000 + n))
+                if n:
+                    keep((it.name, "theirs"), spent)
+    for session in sessions.values():
+        session.end()
+their_peak = cipher.peak() if cipher else None
+
+# ---- the tables
+over_goal = 0
+def verdict(ratio, goal):
+    global over_goal
+    over_goal += ratio > goal
+    return "OK" if ratio <= goal else "OVER"
+
+print(f"A table of {SLOTS:,} slots, {OPEN} rows open: milliseconds of the processor, the median of {rounds} rounds.\n")
+print("| Statement | rows of a block | memory | bare blocks | ratio | files | of memory's | quartiles | goal: 2 | memory, MB | files, MB | a full table |")
+print("|---|---:|---:|---:|---:|---:|---:|---|---|---:|---:|---:|")
+for pack in PACKS:
+    for it in STATEMENTS:
+        times = {name: found[it.name, pack, name] for name in ("memory", "bare", "files")}
+        memory, bare, files = (median(it) for it in times.values())
+        low, high = quartiles([a / b for a, b in zip(times["files"], times["memory"])])
+        print(
+            f"| {it.name} | {pack} | {memory:.2f} | {bare:.2f} | {memory / bare:.2f} | {files:.2f} | {files / memory:.2f} "
+            f"| {low:.2f} to {high:.2f} | {verdict(files / memory, 2)} | {peaks[it.name, pack, 'memory']:.0f} "
+            f"| {peaks[it.name, pack, 'files']:.0f} | x {median(found[it.name, pack, 'full']):.2f} |",
+            flush=True,
+        )
+print("\n(a full table: how many times as long its passes take over a table of which each slot has a row)")
+
+if cipher:
+    version = subprocess.run(["sqlcipher", ":memory:", "PRAGMA cipher_version;"], stdout=subprocess.PIPE, text=True).stdout.split()[0]
+    print(f"\nBeside SQLCipher {version}, with {PACKS[-1]} rows in a block; its peak of memory is {their_peak:.0f} MB.\n")
+    print("| Statement | SQLCipher | memory | ratio | were the table full | files | ratio | were the table full | goal | |")
+    print("|---|---:|---:|---:|---:|---:|---:|---:|---:|---|")
+    for it in STATEMENTS:
+        theirs, more = median(found[it.name, "theirs"]), median(found[it.name, PACKS[-1], "full"])
+        cells = []
+        for name in ("memory", "files"):
+            ours = median(found[it.name, PACKS[-1], name])
+            cells.append(f"{ours:.2f} | {ours / theirs:.2f} | {more * ours / theirs:.2f}")
+        goal = f"{it.goal} | {verdict(more * ours / theirs, it.goal)}" if it.goal else " | "
+        print(f"| {it.name} | {theirs:.2f} | {' | '.join(cells)} | {goal} |", flush=True)
+else:
+    print("\nNot beside SQLCipher: there is no `sqlcipher` here.")
+sys.exit(over_goal > 0)
+PY
