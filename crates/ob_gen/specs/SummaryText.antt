@@ -1,0 +1,29 @@
+-- The text of a summary.
+use Rattle.std.specs.Prelude.{ℕ, List, [], ◌∷◌, ◌++◌, codes, decimal}
+use Rattle.std.specs.List.{concat}
+use Rattle.hex.specs.Hex.{encode_lower}
+use Rattle.ob_gen.specs.declared.summary.Summary.{Summary}
+
+-- a name and a count
+abbrev pub count_line : List ℕ → ℕ → List ℕ
+count_line name n = name ++ (decimal n ++ codes "\n")
+
+-- a digest in hexadecimal digits
+abbrev pub trace_line : List ℕ → List ℕ
+trace_line digest = codes "trace " ++ (encode_lower digest ++ codes "\n")
+
+abbrev pub summary_lines : Summary → List (List ℕ)
+summary_lines s =
+    count_line (codes "statements ") s.tally.statements
+    ∷ count_line (codes "refused ") s.tally.refused
+    ∷ count_line (codes "rows ") s.tally.rows
+    ∷ count_line (codes "accesses ") s.accesses
+    ∷ count_line (codes "small ") s.tally.small
+    ∷ count_line (codes "large ") s.tally.large
+    ∷ count_line (codes "continuous ") s.tally.continuous
+    ∷ count_line (codes "hash ") s.tally.hash
+    ∷ trace_line s.trace
+    ∷ []
+
+unfoldable pub summary_text : Summary → List ℕ
+summary_text s = concat (summary_lines s)
