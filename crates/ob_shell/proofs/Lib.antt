@@ -24,4 +24,3 @@ pub mod MeddleLemmas
 pub mod RerunLemmas
 pub mod CutLemmas
 mod Spelt
-mod NumberLemmas
