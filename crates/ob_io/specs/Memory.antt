@@ -4,6 +4,8 @@ use Rattle.std.specs.Prelude.{ℕ, List}
 pub record SourceState : Type 0 where
   -- the bytes still to come
   pub left : List ℕ
+  -- how many its last call gave
+  pub gave : ℕ
   -- the numbers of the calls that fail
   pub fail : List ℕ
   -- how often it was called

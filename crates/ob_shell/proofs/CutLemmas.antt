@@ -19,7 +19,7 @@ use Rattle.ob_base.specs.Stored.{Stored, stored_at, stored_regions}
 use Rattle.ob_mean.specs.Replay.{cut_at, count_end, done_of, ending_len, held_if, walk_end}
 use Rattle.ob_script.specs.Parts.{count_part, join_part}
 use Rattle.ob_script.specs.Script.{blocks_of, extent_of, join_script, joined_extent, result_part, rows_width, table_script, whole_script}
-use Rattle.ob_shell.specs.Disturbed.{Begins}
+use Rattle.ob_shell.specs.Words.{Begins}
 
 take_begins : (n : ℕ) (part rest : List Access) → Begins (take n part) (part ++ rest)
 take_begins n part rest = record {

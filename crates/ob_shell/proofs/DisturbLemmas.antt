@@ -14,7 +14,7 @@ use Rattle.ob_exec.specs.Telling.{Represents, meant_script}
 use Rattle.ob_exec.specs.declared.outcome.Outcome.{Outcome}
 use Rattle.ob_mean.specs.Verdict.{Tables}
 use Rattle.ob_script.specs.Script.{script}
-use Rattle.ob_shell.specs.Disturbed.{Begins}
+use Rattle.ob_shell.specs.Words.{Begins}
 use Rattle.ob_shell.specs.Steps.{Does, Machine}
 use Rattle.ob_shell.proofs.CalmLemmas.{first_calm}
 use Rattle.ob_shell.proofs.FirstPartLemmas.{begins_length, begins_truly}

@@ -20,7 +20,7 @@ use Rattle.ob_mean.specs.Replay.{cut_at}
 use Rattle.ob_mean.specs.Verdict.{Tables, counted, is_late, seen, seen_rows, seen_started, seen_with}
 use Rattle.ob_mean.proofs.VerdictLemmas.{seen_late}
 use Rattle.ob_script.specs.Script.{script, until_end, whole_script}
-use Rattle.ob_shell.specs.Disturbed.{Begins}
+use Rattle.ob_shell.specs.Words.{Begins}
 use Rattle.ob_shell.specs.Steps.{Machine, Does}
 use Rattle.ob_shell.proofs.CutLemmas.{cut_begins}
 use Rattle.ob_shell.proofs.ReplayLemmas.{cut_early}

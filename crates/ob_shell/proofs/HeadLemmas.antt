@@ -26,7 +26,7 @@ because (Ran (Err NoMemory)) Takes max taken ended more answers part old new tak
 because (Ran (Err InputLimit)) Takes max taken ended more answers part old new takes flag says cause honest read = (takes, says, cause)
 
 pub headlined : (Takes : Type 0) (settings : Option Config) (tracing : Bool) (old new : Outside) (report : Report) → old.store.asked ≡ []
-    → Reported (sink_of tracing old.traced new.traced) Takes settings old.left new.left old.written new.written old.store new.store old.faults new.faults report
+    → Reported (sink_of tracing old.traced new.traced) Takes settings old.left new.left new.gave old.written new.written old.store new.store old.faults new.faults report
     → Traced tracing old.store.asked new.store.asked old.traced new.traced (SinksRose old.faults new.faults)
     → Headline Takes settings tracing old new report
 headlined Takes settings tracing old new report fresh r traces =
@@ -36,11 +36,13 @@ headlined Takes settings tracing old new report fresh r traces =
       taken = shown.taken;
       given = shown.given;
       within = shown.within;
+      few = shown.few;
       ended = shown.ended;
       at_end = shown.at_end;
       served = shown.served;
       more = shown.more;
       texts = shown.texts;
+      prompt = shown.prompt;
       spelt = run.spelt;
       spells = run.spells;
       reached = run.reached;

@@ -1,14 +1,17 @@
 -- The first line among the bytes that were taken.
-use Rattle.std.proofs.Common.{◌≡◌, ℕ, ◌+◌, ◌<◌, ◌≤◌, ◌||◌, ◌==◌, Bool, true, false, List, [], ◌∷◌, ◌++◌, length, take, set, Option, Some, None, Ok, refl, sym, ap, ◌∙◌, subst, inl, inr, arith, append_assoc, append-nil, length-append, add-one}
+use Rattle.std.proofs.Common.{◌≡◌, ℕ, ◌+◌, ◌<◌, ◌≤◌, ◌||◌, ◌==◌, Bool, true, false, List, [], ◌∷◌, ◌++◌, length, take, set, Option, Some, None, Ok, Err, refl, sym, ap, ◌∙◌, subst, inl, inr, arith, append_assoc, append-nil, length-append, add-one}
 use Rattle.std.specs.Io.KnownBytes.{IsAtEnd}
 use Rattle.std.specs.Result.{result_ok}
 use Rattle.std.proofs.lemmas.Grind.{common_steps}
 use Rattle.std.proofs.Math.Seq.{take-suc-set}
 use Rattle.hex.specs.Hex.{decode_sized}
-use Rattle.ob_shell.specs.Feeding.{Fetch, Fed}
+use Rattle.ob_shell.specs.Feeding.{Fetch, FetchCause, Fed}
 use Rattle.ob_shell.specs.KeyLine.{line_max, has_lf, first_line, after_line, without_cr, secret_of, KeyEnds, KeyRead, line_before_more, line_at_end}
+use Rattle.ob_shell.specs.declared.feed.Halt.{Halt}
+use Rattle.ob_shell.specs.declared.feed.Halt.TheVariants.{SourceFault, InputLimit}
 use Rattle.ob_shell.specs.declared.key.FirstLine.TheVariants.{Bad}
 use Rattle.ob_shell.proofs.FeedLemmas.{Fed-then}
+use Rattle.ob_shell.proofs.PromptLemmas.{length-after_line}
 
 or_parts : (a b : Bool) → (a || b) ≡ false → (a ≡ false) × (b ≡ false)
 or_parts true b h = (h, absurd (cc))
@@ -34,6 +37,11 @@ pub after_line-none : (line : List ℕ) → has_lf line ≡ false → after_line
 unfolding has_lf after_line
 after_line-none [] h = refl
 after_line-none (b ∷ bs) h = let p = or_parts (b == 10) (has_lf bs) h in rw p.0 (after_line-none bs p.1)
+
+pub after_line-skip : (line u : List ℕ) → has_lf line ≡ false → after_line (line ++ u) ≡ after_line u
+unfolding has_lf after_line
+after_line-skip [] u h = refl
+after_line-skip (b ∷ bs) u h = let p = or_parts (b == 10) (has_lf bs) h in rw p.0 (after_line-skip bs u p.1)
 
 pub first_line-long : (line u : List ℕ) → has_lf line ≡ false → length line ≤ length (first_line (line ++ u))
 unfolding has_lf first_line
@@ -92,6 +100,7 @@ key_at_end {a = a} {c = c} {l0 = l0} {l2 = l2} {line = line} r p q no_lf none at
       ends =
           subst (λ (t : List ℕ). KeyEnds t c l2 (Ok (line_at_end r))) (sym all)
           (key_ends_last line c l2 r (e ∙ ap secret_of (sym (first_line-none line no_lf))) (after_line-none line no_lf) at_end below);
+      ahead = rw (all, after_line-none line no_lf) (omega arith);
     }
 
 -- the line feed came
@@ -106,6 +115,23 @@ key_at_lf {b = b} {c = c} {l1 = l1} {l2 = l2} {line = line} r x p q is no_lf e =
           subst (λ (t : List ℕ). KeyEnds t c l2 (Ok (line_before_more r))) (sym all)
           (key_ends _ c l2 r (e ∙ ap secret_of (sym (first_line-lf line c.unread no_lf))) (after_line-lf line c.unread no_lf)
           (has_lf-lf line c.unread no_lf));
+      ahead = rw (all, after_line-lf line c.unread no_lf) (omega arith);
+    }
+
+-- the source failed within the line, or the input's limit came
+pub none_unread : (f : Fetch) (l : Option (List ℕ)) (gave faults0 faults1 : ℕ) (halt : Halt) → FetchCause f l gave faults0 faults1 (Err halt) → f.unread ≡ []
+none_unread f l gave faults0 faults1 SourceFault cause = cause.1
+none_unread f l gave faults0 faults1 InputLimit cause = cause.1
+
+pub key_halted : {a b c : Fetch} {l0 l1 l2 : Option (List ℕ)} {line : List ℕ} (halt : Halt)
+    → Fed a b l0 l1 line → Fed b c l1 l2 [] → has_lf line ≡ false → length line < line_max → c.unread ≡ [] → KeyRead a c l0 l2 (Err halt)
+key_halted {a = a} {c = c} {l0 = l0} {l2 = l2} {line = line} halt p q no_lf short none =
+    let all : line ++ c.unread ≡ line = rw none (append-nil line) in
+    record {
+      passed = line;
+      fed = subst (λ (xs : List ℕ). Fed a c l0 l2 xs) (append-nil line) (Fed-then p q);
+      ends = (rw all no_lf, rw all short, none);
+      ahead = rw (all, after_line-none line no_lf) (omega arith);
     }
 
 -- the line grew past its limit
@@ -117,4 +143,5 @@ key_too_long {b = b} {line = line} p no_lf long =
       passed = line;
       fed = p;
       ends = (secret_of-long _ (omega (arith, far)), inr (inl (omega (arith, length-append line b.unread))));
+      ahead = rw (after_line-skip line b.unread no_lf) (length-after_line b.unread);
     }

@@ -5,6 +5,7 @@ pub mod RunLemmas
 pub mod ServeLemmas
 pub mod StepLemmas
 pub mod TextLemmas
+pub mod PromptLemmas
 pub mod TopLemmas
 pub mod TraceLemmas
 pub mod ReplayLemmas

@@ -1,5 +1,5 @@
 -- What a session has done, byte by byte, and how it ends.
-use Rattle.std.proofs.Common.{◌≡◌, ℕ, ◌<◌, ◌||◌, Bool, true, false, List, [], ◌∷◌, ◌++◌, length, Option, Ok, Err, Result, refl, sym, ap, ◌∙◌, subst, inl, inr, arith, append_assoc, append-nil}
+use Rattle.std.proofs.Common.{◌≡◌, ℕ, ◌<◌, ◌≤◌, ◌||◌, Bool, true, false, List, [], ◌∷◌, ◌++◌, length, Option, Ok, Err, Result, refl, sym, ap, ◌∙◌, subst, inl, inr, arith, append_assoc, append-nil}
 use Rattle.std.specs.Prelude.{IfOk, IfErr, OnOk, OnErr}
 use Rattle.std.specs.Io.KnownBytes.{Appends, IsAtEnd}
 use Rattle.std.proofs.KnownBytes.{Appends-nil, Appends-trans}
@@ -17,6 +17,7 @@ use Rattle.ob_shell.specs.Tracing.{TracedAll, Traced, Traces, traced}
 use Rattle.ob_shell.specs.declared.session.Halted.{Halted}
 use Rattle.ob_shell.proofs.FeedLemmas.{Fed-none, Fed-then}
 use Rattle.ob_shell.proofs.TextLemmas.{rest_of-append, texts_of-append, rest_of-cons, texts_of-cons, rest_of-nil, texts_of-nil, rest_of-over, texts_of-over}
+use Rattle.ob_shell.proofs.PromptLemmas.{prompt_all, prompt_by}
 use Rattle.ob_shell.proofs.StepLemmas.{Steps-none, Steps-append, printed-append, printed-nil, any_refused-append, any_refused-nil, PartlyAt-none, PartlyAt-more}
 use Rattle.ob_shell.proofs.TraceLemmas.{traced_then, traced_cut, traced_whole}
 use Rattle.std.proofs.lemmas.List.{append_cancel_left}
@@ -111,13 +112,14 @@ pub at_limit_is_over : (new rest : List ℕ) → new ≡ rest → length new ≡
 at_limit_is_over new rest e h = rw (← e) (grind arith)
 
 -- it stopped at the source's fault or at a limit, with every text served that had come whole
-pub ran_halt : {R : Type 0} {state : R → RevState} {on : Bool} {t0 t2 : Option (List ℕ)} {f0 f2 : Fetch} {l0 l2 w0 w2 : Option (List ℕ)} {p : List ℕ} {r : Bool} {m0 m1 : Machine R} (stop : Stop) → IsUntampered stop
+pub ran_halt : {R : Type 0} {state : R → RevState} {on : Bool} {t0 t2 : Option (List ℕ)} {f0 f2 : Fetch} {gave : ℕ} {l0 l2 w0 w2 : Option (List ℕ)} {p : List ℕ} {r : Bool} {m0 m1 : Machine R} (stop : Stop) → IsUntampered stop
     → (so : SoFar state f0 f2 l0 l2 w0 w2 p r m0 m1)
     → texts_of p f2.unread ≡ []
+    → length f2.unread ≤ gave
     → EndsBy f2 false (so.passed ++ f2.unread) [] [] (Err stop)
     → Traces on t0 t2 m0.store.asked m1.store.asked
-    → SessionRan state on f0 f2 l0 l2 w0 w2 t0 t2 m0 m1 (Err stop)
-ran_halt {state = state} {f0 = f0} {f2 = f2} {w0 = w0} {w2 = w2} {m1 = m1} stop fine so none ends traces = record {
+    → SessionRan state on f0 f2 l0 l2 gave w0 w2 t0 t2 m0 m1 (Err stop)
+ran_halt {state = state} {f0 = f0} {f2 = f2} {gave = gave} {w0 = w0} {w2 = w2} {m1 = m1} stop fine so none late ends traces = record {
   piece = so.fed.piece;
   consumed = so.fed.consumed;
   taken = so.fed.taken;
@@ -128,6 +130,7 @@ ran_halt {state = state} {f0 = f0} {f2 = f2} {w0 = w0} {w2 = w2} {m1 = m1} stop 
   more = [];
   texts =
       rw so.fed.joined (texts_of-append [] so.passed f2.unread ∙ ap (λ (l : List (List ℕ)). texts_of [] so.passed ++ l) (rw (← so.pending_is) none));
+  prompt = prompt_all _ so.passed f2.unread gave so.fed.joined late;
   middle = m1;
   answers = so.answers;
   steps = so.steps;
@@ -149,12 +152,12 @@ other_stop f ended bytes more part SourceFault x y = absurd (x refl)
 other_stop f ended bytes more part InputLimit x y = absurd (y refl)
 
 -- it stopped while it served the text that a byte had ended
-pub ran_stop : {R : Type 0} {state : R → RevState} {on : Bool} {t0 t2 : Option (List ℕ)} {f0 f1 f2 : Fetch} {l0 l1 l2 w0 w1 w2 : Option (List ℕ)} {p : List ℕ} {r : Bool} {b : ℕ} {m0 m1 m2 : Machine R} (stop : Stop)
-    → SoFar state f0 f1 l0 l1 w0 w1 p r m0 m1 → Fed f1 f2 l1 l2 (b ∷ [])
+pub ran_stop : {R : Type 0} {state : R → RevState} {on : Bool} {t0 t2 : Option (List ℕ)} {f0 f1 f2 : Fetch} {gave : ℕ} {l0 l1 l2 w0 w1 w2 : Option (List ℕ)} {p : List ℕ} {r : Bool} {b : ℕ} {m0 m1 m2 : Machine R} (stop : Stop)
+    → SoFar state f0 f1 l0 l1 w0 w1 p r m0 m1 → Fed f1 f2 l1 l2 (b ∷ []) → length f2.unread < gave
     → StopsIn state w1 w2 (texts_at p b) stop m1 m2
     → (stop ≡ SourceFault → ⊥) → (stop ≡ InputLimit → ⊥) → Traces on t0 t2 m0.store.asked m1.store.asked
-    → SessionRan state on f0 f2 l0 l2 w0 w2 t0 t2 m0 m2 (Err stop)
-ran_stop {f0 = f0} {f2 = f2} {w1 = w1} {p = p} {b = b} {m1 = m1} stop so fed st no_fault no_limit traces =
+    → SessionRan state on f0 f2 l0 l2 gave w0 w2 t0 t2 m0 m2 (Err stop)
+ran_stop {f0 = f0} {f2 = f2} {gave = gave} {w1 = w1} {p = p} {b = b} {m1 = m1} stop so fed late st no_fault no_limit traces =
     let all = Fed-then so.fed fed in
     record {
       piece = all.piece;
@@ -170,6 +173,7 @@ ran_stop {f0 = f0} {f2 = f2} {w1 = w1} {p = p} {b = b} {m1 = m1} stop so fed st 
           (rw append_assoc
           (texts_of-append [] so.passed ((b ∷ []) ++ f2.unread)
           ∙ ap (λ (l : List (List ℕ)). texts_of [] so.passed ++ l) (rw (← so.pending_is) (texts_of-cons p b f2.unread))));
+      prompt = prompt_all _ so.passed (b ∷ f2.unread) gave (all.joined ∙ append_assoc so.passed (b ∷ []) f2.unread) (omega (arith, late));
       middle = m1;
       answers = so.answers;
       steps = so.steps;
@@ -183,11 +187,11 @@ ran_stop {f0 = f0} {f2 = f2} {w1 = w1} {p = p} {b = b} {m1 = m1} stop so fed st 
     }
 
 -- the input ended, and the rest was served, too
-pub ran_done : {R : Type 0} {state : R → RevState} {on : Bool} {t0 t2 : Option (List ℕ)} {f0 f2 : Fetch} {l0 l2 w0 w1 w2 : Option (List ℕ)} {p : List ℕ} {r : Bool} {m0 m1 m2 : Machine R} (flag : Bool)
+pub ran_done : {R : Type 0} {state : R → RevState} {on : Bool} {t0 t2 : Option (List ℕ)} {f0 f2 : Fetch} {gave : ℕ} {l0 l2 w0 w1 w2 : Option (List ℕ)} {p : List ℕ} {r : Bool} {m0 m1 m2 : Machine R} (flag : Bool)
     → SoFar state f0 f2 l0 l2 w0 w1 p r m0 m1 → f2.unread ≡ [] → IsAtEnd l2 → f2.taken < f2.limit → length p < text_max
     → AnswersAll state w1 w2 (tail_text p) r flag m1 m2 → Traces on t0 t2 m0.store.asked m2.store.asked
-    → SessionRan state on f0 f2 l0 l2 w0 w2 t0 t2 m0 m2 (Ok flag)
-ran_done {state = state} {f0 = f0} {f2 = f2} {w0 = w0} {w2 = w2} {p = p} {m0 = m0} {m2 = m2} flag so none at_end below short now traces =
+    → SessionRan state on f0 f2 l0 l2 gave w0 w2 t0 t2 m0 m2 (Ok flag)
+ran_done {state = state} {f0 = f0} {f2 = f2} {gave = gave} {w0 = w0} {w2 = w2} {p = p} {m0 = m0} {m2 = m2} flag so none at_end below short now traces =
     let bytes : f0.unread ++ so.fed.piece ≡ so.passed = so.fed.joined ∙ rw none (append-nil so.passed) in
     record {
       piece = so.fed.piece;
@@ -199,6 +203,7 @@ ran_done {state = state} {f0 = f0} {f2 = f2} {w0 = w0} {w2 = w2} {p = p} {m0 = m
       served = texts_of [] so.passed ++ tail_text p;
       more = [];
       texts = rw (bytes, append-nil, so.pending_is);
+      prompt = prompt_by _ so.passed f2.unread gave (tail_text p) so.fed.joined (rw none (omega arith));
       middle = m2;
       answers = so.answers ++ now.answers;
       steps = Steps-append state m0 _ m2 _ _ _ _ so.steps now.steps;
@@ -214,12 +219,12 @@ ran_done {state = state} {f0 = f0} {f2 = f2} {w0 = w0} {w2 = w2} {p = p} {m0 = m
     }
 
 -- the input ended, and it stopped while it served the rest
-pub ran_cut : {R : Type 0} {state : R → RevState} {on : Bool} {t0 t2 : Option (List ℕ)} {f0 f2 : Fetch} {l0 l2 w0 w1 w2 : Option (List ℕ)} {p : List ℕ} {r : Bool} {m0 m1 m2 : Machine R} (stop : Stop)
+pub ran_cut : {R : Type 0} {state : R → RevState} {on : Bool} {t0 t2 : Option (List ℕ)} {f0 f2 : Fetch} {gave : ℕ} {l0 l2 w0 w1 w2 : Option (List ℕ)} {p : List ℕ} {r : Bool} {m0 m1 m2 : Machine R} (stop : Stop)
     → SoFar state f0 f2 l0 l2 w0 w1 p r m0 m1 → f2.unread ≡ [] → IsAtEnd l2
     → StopsIn state w1 w2 (tail_text p) stop m1 m2
     → (stop ≡ SourceFault → ⊥) → (stop ≡ InputLimit → ⊥) → Traces on t0 t2 m0.store.asked m1.store.asked
-    → SessionRan state on f0 f2 l0 l2 w0 w2 t0 t2 m0 m2 (Err stop)
-ran_cut {f0 = f0} {f2 = f2} {w1 = w1} {p = p} {m1 = m1} stop so none at_end st no_fault no_limit traces =
+    → SessionRan state on f0 f2 l0 l2 gave w0 w2 t0 t2 m0 m2 (Err stop)
+ran_cut {f0 = f0} {f2 = f2} {gave = gave} {w1 = w1} {p = p} {m1 = m1} stop so none at_end st no_fault no_limit traces =
     let bytes : f0.unread ++ so.fed.piece ≡ so.passed = so.fed.joined ∙ rw none (append-nil so.passed) in
     record {
       piece = so.fed.piece;
@@ -231,6 +236,7 @@ ran_cut {f0 = f0} {f2 = f2} {w1 = w1} {p = p} {m1 = m1} stop so none at_end st n
       served = texts_of [] so.passed;
       more = tail_text p;
       texts = rw (bytes, so.pending_is);
+      prompt = prompt_all _ so.passed f2.unread gave so.fed.joined (rw none (omega arith));
       middle = m1;
       answers = so.answers;
       steps = so.steps;
@@ -243,14 +249,14 @@ ran_cut {f0 = f0} {f2 = f2} {w1 = w1} {p = p} {m1 = m1} stop so none at_end st n
       ends = other_stop f2 true _ _ _ stop no_fault no_limit;
     }
 
-pub ran_finish : {R : Type 0} {state : R → RevState} {on : Bool} {t0 t2 : Option (List ℕ)} {f0 f2 : Fetch} {l0 l2 w0 w1 w2 : Option (List ℕ)} {p : List ℕ} {r : Bool} {m0 m1 m2 : Machine R} (result : Result Bool Halted)
+pub ran_finish : {R : Type 0} {state : R → RevState} {on : Bool} {t0 t2 : Option (List ℕ)} {f0 f2 : Fetch} {gave : ℕ} {l0 l2 w0 w1 w2 : Option (List ℕ)} {p : List ℕ} {r : Bool} {m0 m1 m2 : Machine R} (result : Result Bool Halted)
     → SoFar state f0 f2 l0 l2 w0 w1 p r m0 m1 → f2.unread ≡ [] → IsAtEnd l2 → f2.taken < f2.limit → length p < text_max
     → IfOk result (λ flag. AnswersAll state w1 w2 (tail_text p) r flag m1 m2)
     → IfErr result (λ halted. StopsIn state w1 w2 (tail_text p) halted.stop m1 m2)
     → (stop_of result ≡ Err SourceFault → ⊥) → (stop_of result ≡ Err InputLimit → ⊥)
     → (t1 : Option (List ℕ)) → TracedAll on m0.store.asked m1.store.asked t0 t1 → OnOk result (TracedAll on m1.store.asked m2.store.asked t1 t2)
     → OnErr result (Traced on m1.store.asked m2.store.asked t1 t2 (IsQuiet result))
-    → SessionRan state on f0 f2 l0 l2 w0 w2 t0 t2 m0 m2 (stop_of result)
+    → SessionRan state on f0 f2 l0 l2 gave w0 w2 t0 t2 m0 m2 (stop_of result)
 ran_finish (Ok flag) so none at_end below short answered stopped no_fault no_limit t1 before all cut =
     ran_done flag so none at_end below short answered (traces_all (traced_then before all))
 ran_finish (Err halted) so none at_end below short answered stopped no_fault no_limit t1 before all cut =
@@ -258,34 +264,34 @@ ran_finish (Err halted) so none at_end below short answered stopped no_fault no_
     (λ h. no_fault (rw h)) (λ h. no_limit (rw h)) (traces_more before cut)
 
 -- a byte brought a stop
-pub ran_turn : {R : Type 0} {state : R → RevState} {on : Bool} {t0 t2 : Option (List ℕ)} {f0 f1 f2 : Fetch} {l0 l1 l2 w0 w1 w2 : Option (List ℕ)} {p : List ℕ} {r : Bool} {b : ℕ} {m0 m1 m2 : Machine R} (stop : Stop)
-    → SoFar state f0 f1 l0 l1 w0 w1 p r m0 m1 → Fed f1 f2 l1 l2 (b ∷ [])
+pub ran_turn : {R : Type 0} {state : R → RevState} {on : Bool} {t0 t2 : Option (List ℕ)} {f0 f1 f2 : Fetch} {gave : ℕ} {l0 l1 l2 w0 w1 w2 : Option (List ℕ)} {p : List ℕ} {r : Bool} {b : ℕ} {m0 m1 m2 : Machine R} (stop : Stop)
+    → SoFar state f0 f1 l0 l1 w0 w1 p r m0 m1 → Fed f1 f2 l1 l2 (b ∷ []) → length f2.unread < gave
     → StopsIn state w1 w2 (texts_at p b) stop m1 m2
     → (◌≡◌ {A = Result (Unit {0}) Stop} (Err stop) (Err SourceFault) → ⊥)
     → (◌≡◌ {A = Result (Unit {0}) Stop} (Err stop) (Err InputLimit) → (texts_at p b ≡ []) × (is_over (rest_after p b) ≡ true) × AnswersAll state w1 w2 [] r r m1 m2)
     → (t1 : Option (List ℕ)) {F : Type 0} → TracedAll on m0.store.asked m1.store.asked t0 t1 → Traced on m1.store.asked m2.store.asked t1 t2 F
-    → SessionRan state on f0 f2 l0 l2 w0 w2 t0 t2 m0 m2 (Err stop)
-ran_turn (Tampered region place) so fed st no_fault limit t1 before cut = ran_stop (Tampered region place) so fed st (λ h. cc) (λ h. cc) (traces_more before cut)
-ran_turn SinkFault so fed st no_fault limit t1 before cut = ran_stop SinkFault so fed st (λ h. cc) (λ h. cc) (traces_more before cut)
-ran_turn NoMemory so fed st no_fault limit t1 before cut = ran_stop NoMemory so fed st (λ h. cc) (λ h. cc) (traces_more before cut)
-ran_turn SourceFault so fed st no_fault limit t1 before cut = absurd (no_fault refl)
-ran_turn {f2 = f2} {p = p} {b = b} {m1 = m1} {m2 = m2} InputLimit so fed st no_fault limit t1 before cut =
+    → SessionRan state on f0 f2 l0 l2 gave w0 w2 t0 t2 m0 m2 (Err stop)
+ran_turn (Tampered region place) so fed late st no_fault limit t1 before cut = ran_stop (Tampered region place) so fed late st (λ h. cc) (λ h. cc) (traces_more before cut)
+ran_turn SinkFault so fed late st no_fault limit t1 before cut = ran_stop SinkFault so fed late st (λ h. cc) (λ h. cc) (traces_more before cut)
+ran_turn NoMemory so fed late st no_fault limit t1 before cut = ran_stop NoMemory so fed late st (λ h. cc) (λ h. cc) (traces_more before cut)
+ran_turn SourceFault so fed late st no_fault limit t1 before cut = absurd (no_fault refl)
+ran_turn {f2 = f2} {p = p} {b = b} {m1 = m1} {m2 = m2} InputLimit so fed late st no_fault limit t1 before cut =
     let h = limit refl in
     let now = so_far_turn so fed refl (sym h.0) h.2 in
-    ran_halt InputLimit tt now (texts_of-over _ _ h.1)
+    ran_halt InputLimit tt now (texts_of-over _ _ h.1) (omega (arith, late))
     (refl, refl, refl, inl (rw (rest_of-append, ← now.pending_is, rest_of-over (rest_after p b) f2.unread h.1) h.1))
     (traces_same (ap (λ (m : Machine _). m.store.asked) (no_steps h.2)) (traces_more before cut))
 
-pub ran_source_fault : {R : Type 0} {state : R → RevState} {on : Bool} {t0 t2 : Option (List ℕ)} {f0 f2 : Fetch} {l0 l2 w0 w2 : Option (List ℕ)} {p : List ℕ} {r : Bool} {m0 m1 : Machine R}
+pub ran_source_fault : {R : Type 0} {state : R → RevState} {on : Bool} {t0 t2 : Option (List ℕ)} {f0 f2 : Fetch} {gave : ℕ} {l0 l2 w0 w2 : Option (List ℕ)} {p : List ℕ} {r : Bool} {m0 m1 : Machine R}
     → SoFar state f0 f2 l0 l2 w0 w2 p r m0 m1 → f2.unread ≡ [] → length p < text_max → TracedAll on m0.store.asked m1.store.asked t0 t2
-    → SessionRan state on f0 f2 l0 l2 w0 w2 t0 t2 m0 m1 (Err SourceFault)
+    → SessionRan state on f0 f2 l0 l2 gave w0 w2 t0 t2 m0 m1 (Err SourceFault)
 ran_source_fault {p = p} so none short traced =
-    ran_halt SourceFault tt so (rw none (texts_of-nil p)) (refl, refl, refl, rw (none, append-nil, ← so.pending_is) (below_is_not_over p short)) (traces_all traced)
+    ran_halt SourceFault tt so (rw none (texts_of-nil p)) (rw none (omega arith)) (refl, refl, refl, rw (none, append-nil, ← so.pending_is) (below_is_not_over p short)) (traces_all traced)
 
-pub ran_input_limit : {R : Type 0} {state : R → RevState} {on : Bool} {t0 t2 : Option (List ℕ)} {f0 f2 : Fetch} {l0 l2 w0 w2 : Option (List ℕ)} {p : List ℕ} {r : Bool} {m0 m1 : Machine R}
+pub ran_input_limit : {R : Type 0} {state : R → RevState} {on : Bool} {t0 t2 : Option (List ℕ)} {f0 f2 : Fetch} {gave : ℕ} {l0 l2 w0 w2 : Option (List ℕ)} {p : List ℕ} {r : Bool} {m0 m1 : Machine R}
     → SoFar state f0 f2 l0 l2 w0 w2 p r m0 m1 → f2.unread ≡ [] → f2.taken ≡ f2.limit → TracedAll on m0.store.asked m1.store.asked t0 t2
-    → SessionRan state on f0 f2 l0 l2 w0 w2 t0 t2 m0 m1 (Err InputLimit)
-ran_input_limit {p = p} so none full traced = ran_halt InputLimit tt so (rw none (texts_of-nil p)) (refl, refl, refl, inr full) (traces_all traced)
+    → SessionRan state on f0 f2 l0 l2 gave w0 w2 t0 t2 m0 m1 (Err InputLimit)
+ran_input_limit {p = p} so none full traced = ran_halt InputLimit tt so (rw none (texts_of-nil p)) (rw none (omega arith)) (refl, refl, refl, inr full) (traces_all traced)
 
 -- the trace of all that was asked, and then of what was asked until the end
 pub traced_by : {tracing : Bool} {a0 a1 a2 : List Access} {w0 w1 w2 : Option (List ℕ)} (result : Result Bool Halted) → TracedAll tracing a0 a1 w0 w1

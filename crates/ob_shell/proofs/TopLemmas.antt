@@ -1,7 +1,6 @@
 -- The whole run, from its first line and its session.
-use Rattle.std.proofs.Common.{◌≡◌, ◌≢◌, ℕ, ◌-◌, ◌≤◌, ◌==◌, Bool, true, false, List, [], ◌∷◌, ◌++◌, length, take, Option, Some, IsTrue, Ok, Err, Result, refl, sym, ap, ◌∙◌, subst, inl, inr, arith, append-nil, length-append}
+use Rattle.std.proofs.Common.{◌≡◌, ◌≢◌, ℕ, ◌-◌, ◌≤◌, ◌==◌, min, Bool, true, false, List, [], ◌∷◌, ◌++◌, length, take, Option, Some, IsTrue, Ok, Err, Result, refl, sym, ap, ◌∙◌, subst, inl, inr, arith, append-nil, length-append}
 use Rattle.std.specs.List.{list_any}
-use Rattle.std.specs.Prelude.{IsOk, OnOk}
 use Rattle.std.specs.Io.KnownBytes.{Appends}
 use Rattle.std.proofs.KnownBytes.{Appends-nil, Appends-trans, Consumes-trans, Consumes-nil}
 use Rattle.ob_base.specs.Accesses.{nth_write}
@@ -27,10 +26,10 @@ use Rattle.ob_seal.specs.Sealed.{keys_of, sealed}
 use Rattle.ob_store.specs.Calls.{IsSteady}
 use Rattle.ob_store.specs.State.{Lie, StoreState}
 use Rattle.ob_store.proofs.Steps.{later_refl, later_trans}
-use Rattle.ob_shell.specs.Disturbed.{Begins, MeantUntil, meant_trace}
+use Rattle.ob_shell.specs.Disturbed.{MeantUntil, meant_trace}
 use Rattle.ob_shell.specs.Failures.{failures}
 use Rattle.ob_shell.specs.Texts.{is_over, rest_of, texts_of, texts_in}
-use Rattle.ob_shell.specs.Feeding.{Fetch, Fed}
+use Rattle.ob_shell.specs.Feeding.{Fetch, Fed, IsFedBy}
 use Rattle.ob_shell.specs.KeyLine.{has_lf, first_line, after_line, secret_of, KeyRead}
 use Rattle.ob_shell.specs.Steps.{Machine, machine_of, session_of}
 use Rattle.ob_shell.specs.Running.{SessionRan, EndsBy, LastPart}
@@ -38,7 +37,7 @@ use Rattle.ob_shell.specs.Endings.{last_line, SinkFailed, SinkStopped}
 use Rattle.ob_shell.specs.Settings.{limit_of, public_by}
 use Rattle.ob_shell.specs.Top.{EndsUntampered, IsFresh, TraceSink, RanSays, EndingSays, EndingWords, Carried, Shown, RanAfter, EndingCause, EndingFlag, StatusCause}
 use Rattle.ob_shell.specs.Tracing.{traced}
-use Rattle.ob_shell.specs.Words.{Answers, AreSeen, EndsAtRead, Faults, HasSecret, IsSealed, IsSealedAt, SinksRose, SpellFirst, Took, any_cut, printed, start}
+use Rattle.ob_shell.specs.Words.{Answers, AreSeen, Begins, EndsAtRead, Faults, HasSecret, IsSealed, IsSealedAt, SinksRose, SpellFirst, Took, any_cut, before_read, printed, start}
 use Rattle.ob_shell.specs.declared.feed.Halt.{Halt}
 use Rattle.ob_shell.specs.declared.key.FirstLine.TheVariants.{Secret, Last, Bad}
 use Rattle.ob_shell.specs.declared.top.Ending.{Ending}
@@ -50,11 +49,12 @@ use Rattle.ob_shell.proofs.LaterLemmas.{steps_later, last_later}
 use Rattle.ob_shell.proofs.OpenLemmas.{IsUsed, session_opens}
 use Rattle.ob_shell.proofs.LastingLemmas.{HasSizes, steps_sizes, last_rows, steps_sealed, last_sealed, steps_tell, none_sealed, first_sizes}
 use Rattle.ob_shell.proofs.DisturbLemmas.{take_begins}
+use Rattle.ob_shell.proofs.PromptLemmas.{prompt_all, prompt_behind, prompt_line}
 use Rattle.ob_shell.proofs.RunLemmas.{took_more, took_of, took_whole}
 use Rattle.ob_shell.proofs.StepLemmas.{printed-nil, any_refused-nil}
 use Rattle.ob_shell.proofs.TraceLemmas.{traced-nil}
 use Rattle.ob_shell.proofs.WalkLemmas.{Walked, walked, walked_last}
-use Rattle.ob_shell.proofs.KeyLemmas.{after_line-none}
+use Rattle.ob_shell.proofs.KeyLemmas.{after_line-none, has_lf-nil}
 
 -- ---- more bytes after the first line
 
@@ -132,12 +132,23 @@ piece_is : {f0 f1 : Fetch} {l0 l1 : Option (List ℕ)} {xs : List ℕ} (fed : Fe
 piece_is {f1 = f1} {xs = xs} fed none = subst (λ (u : List ℕ). u ++ fed.piece ≡ xs ++ f1.unread) none fed.joined
 
 module _ (tr : TraceSink) (untraced : tr.new ≡ tr.old) (settings : Option Config) (f0 f1 : Fetch) (none : f0.unread ≡ [])
-    (start : f0.taken ≡ 0) (top : f0.limit ≡ limit_of settings) (below : f1.taken ≤ f1.limit) where
+    (start : f0.taken ≡ 0) (top : f0.limit ≡ limit_of settings) (below : f1.taken ≤ f1.limit) {gave : ℕ} (by : IsFedBy f1 gave) where
   piece_within : {l0 l1 : Option (List ℕ)} {xs : List ℕ} (fed : Fed f0 f1 l0 l1 xs) → length fed.piece ≤ limit_of settings
   piece_within fed = omega (arith, fed.taken, fed.limit)
 
+  piece_few : {l0 l1 : Option (List ℕ)} {xs : List ℕ} (fed : Fed f0 f1 l0 l1 xs) → min gave (length fed.piece) ≤ 4096
+  piece_few fed = let few = by.few in omega (arith, few, fed.taken)
+
+  -- no text was whole before the last read
+  piece_prompt : {l0 l1 : Option (List ℕ)} {xs : List ℕ} (fed : Fed f0 f1 l0 l1 xs) → length (after_line (xs ++ f1.unread)) ≤ length f1.unread
+      → Begins (texts_in false (after_line (before_read gave fed.piece))) []
+  piece_prompt {xs = xs} fed ahead =
+      let late = by.late in
+      let same = ap (λ (l : List ℕ). length (after_line l)) (piece_is fed none) in
+      prompt_line gave fed.piece [] (omega (arith, late, same, ahead))
+
   pub shown_source_fault : {l0 l1 : Option (List ℕ)} (w : Option (List ℕ)) (s : StoreState) → IsFresh s
-      → KeyRead f0 f1 l0 l1 (Err Halt.SourceFault) → Shown tr settings l0 l1 w w s s 0 (RanEnding (Err SourceFault)) [] ⊥
+      → KeyRead f0 f1 l0 l1 (Err Halt.SourceFault) → Shown tr settings l0 l1 gave w w s s 0 (RanEnding (Err SourceFault)) [] ⊥
   shown_source_fault w s fresh read =
       let e = piece_is read.fed none in
       let ends = rw (← e) at read.ends in
@@ -146,6 +157,8 @@ module _ (tr : TraceSink) (untraced : tr.new ≡ tr.old) (settings : Option Conf
         taken = read.fed.piece;
         given = read.fed.consumed;
         within = piece_within read.fed;
+        few = piece_few read.fed;
+        prompt = piece_prompt read.fed read.ahead;
         ended = false;
         at_end = λ (h : false ≡ true). absurd (cc);
         served = [];
@@ -162,7 +175,7 @@ module _ (tr : TraceSink) (untraced : tr.new ≡ tr.old) (settings : Option Conf
       }
 
   pub shown_bad_key : {l0 l1 : Option (List ℕ)} (w : Option (List ℕ)) (s : StoreState) → IsFresh s
-      → KeyRead f0 f1 l0 l1 (Ok Bad) → Shown tr settings l0 l1 w w s s 0 BadKey [] ⊥
+      → KeyRead f0 f1 l0 l1 (Ok Bad) → Shown tr settings l0 l1 gave w w s s 0 BadKey [] ⊥
   shown_bad_key w s fresh read =
       let e = piece_is read.fed none in
       let ends = rw (← e) at read.ends in
@@ -170,6 +183,8 @@ module _ (tr : TraceSink) (untraced : tr.new ≡ tr.old) (settings : Option Conf
         taken = read.fed.piece;
         given = read.fed.consumed;
         within = piece_within read.fed;
+        few = piece_few read.fed;
+        prompt = piece_prompt read.fed read.ahead;
         ended = false;
         at_end = λ (h : false ≡ true). absurd (cc);
         served = [];
@@ -186,7 +201,7 @@ module _ (tr : TraceSink) (untraced : tr.new ≡ tr.old) (settings : Option Conf
       }
 
   pub shown_last : {l0 l1 : Option (List ℕ)} (key : List ℕ) (w : Option (List ℕ)) (s : StoreState) → IsFresh s
-      → KeyRead f0 f1 l0 l1 (Ok (Last key)) → Shown tr settings l0 l1 w w s s 0 (RanEnding (Ok false)) [] ⊥
+      → KeyRead f0 f1 l0 l1 (Ok (Last key)) → Shown tr settings l0 l1 gave w w s s 0 (RanEnding (Ok false)) [] ⊥
   shown_last key w s fresh read =
       let e = piece_is read.fed none in
       let ends = rw (← e) at read.ends in
@@ -194,6 +209,8 @@ module _ (tr : TraceSink) (untraced : tr.new ≡ tr.old) (settings : Option Conf
         taken = read.fed.piece;
         given = read.fed.consumed;
         within = piece_within read.fed;
+        few = piece_few read.fed;
+        prompt = piece_prompt read.fed read.ahead;
         ended = true;
         at_end = λ _. ends.2;
         served = [];
@@ -219,8 +236,9 @@ module _ (tr : TraceSink) (untraced : tr.new ≡ tr.old) (settings : Option Conf
 
 -- memory was wanting for the engine
 pub ran_nothing : (tr : TraceSink) (settings : Option Config) (secret : Option (List ℕ)) (f : Fetch)
-    (l w : Option (List ℕ)) (s : StoreState) → IsFresh s → tr.new ≡ tr.old → RanAfter tr settings secret f f l l w w s s 0 (Err NoMemory)
-ran_nothing tr settings secret f l w s fresh untraced = record {
+    (l : Option (List ℕ)) (gave : ℕ) (w : Option (List ℕ)) (s : StoreState) → IsFresh s → tr.new ≡ tr.old → length f.unread ≤ gave
+    → RanAfter tr settings secret f f l l gave w w s s 0 (Err NoMemory)
+ran_nothing tr settings secret f l gave w s fresh untraced late = record {
   piece = [];
   consumed = Consumes-nil l;
   taken = omega arith;
@@ -230,6 +248,8 @@ ran_nothing tr settings secret f l w s fresh untraced = record {
   served = [];
   more = texts_in false (f.unread ++ []);
   texts = refl;
+  prompt = subst (λ (xs : List (List ℕ)). Begins (texts_in false (before_read gave (f.unread ++ []))) xs) (texts_of-nil [])
+      (prompt_all (f.unread ++ []) [] f.unread gave (append-nil f.unread) late);
   answers = [];
   part = [];
   carried = unstarted tr settings secret s _ _ fresh untraced tt;
@@ -293,7 +313,7 @@ last_read state m1 m2 (text ∷ more) part region place (inr (inr done)) = absur
 module _ {R : Type 0} {state : R → RevState} (config : Config) (key : List ℕ) (first last : Engine R) (high : ℕ) (result : Result Bool Stop) (s0 s1 : StoreState)
     (fresh : public_of first ≡ public_by config) (keyed : first.vault.keys ≡ keys_of key) (rows : rows_of first ≡ config.buffer) (blank : IsFresh s0) (steady : IsSteady s0)
     (most : high ≤ rows_of last) (opened : high ≡ high_of last)
-    (tr : TraceSink) (f0 f1 : Fetch) (l0 l1 w0 w1 : Option (List ℕ)) (ran : SessionRan state tr.on f0 f1 l0 l1 w0 w1 tr.old tr.new (machine_of first s0) (machine_of last s1) result) where
+    (tr : TraceSink) (f0 f1 : Fetch) (l0 l1 : Option (List ℕ)) (gave : ℕ) (w0 w1 : Option (List ℕ)) (ran : SessionRan state tr.on f0 f1 l0 l1 gave w0 w1 tr.old tr.new (machine_of first s0) (machine_of last s1) result) where
   abbrev m0 : Machine R
   m0 = machine_of first s0
 
@@ -377,7 +397,7 @@ module _ {R : Type 0} {state : R → RevState} (config : Config) (key : List ℕ
         };
   }
 
-  pub ran_after : RanAfter tr (Some config) (Some key) f0 f1 l0 l1 w0 w1 s0 s1 high result
+  pub ran_after : RanAfter tr (Some config) (Some key) f0 f1 l0 l1 gave w0 w1 s0 s1 high result
   ran_after = record {
     piece = ran.piece;
     consumed = ran.consumed;
@@ -388,6 +408,7 @@ module _ {R : Type 0} {state : R → RevState} (config : Config) (key : List ℕ
     served = ran.served;
     more = ran.more;
     texts = ran.texts;
+    prompt = ran.prompt;
     answers = ran.answers;
     part = ran.part;
     carried = carried_by;
@@ -423,11 +444,11 @@ says_of (Err InputLimit) f max taken ended more part h n top e = record {
   limit = elim e.3 [ inl over ↦ inl over | inr full ↦ inr (n ∙ full ∙ top) ];
 }
 
-pub shown_ran : {tr : TraceSink} (settings : Option Config) {f0 f1 f2 : Fetch} {l0 l1 l2 w0 w2 : Option (List ℕ)} {s0 s2 : StoreState} {high : ℕ} (key : List ℕ) (result : Result Bool Stop)
-    → f0.unread ≡ [] → f0.taken ≡ 0 → f0.limit ≡ limit_of settings → f2.taken ≤ f2.limit
-    → KeyRead f0 f1 l0 l1 (Ok (Secret key)) → RanAfter tr settings (Some key) f1 f2 l1 l2 w0 w2 s0 s2 high result
-    → Shown tr settings l0 l2 w0 w2 s0 s2 high (RanEnding result) [] (SinkFailed result)
-shown_ran settings {f1 = f1} {f2 = f2} {l2 = l2} {w0 = w0} {w2 = w2} {s0 = s0} {s2 = s2} {high = high} key result none start top below read ran =
+pub shown_ran : {tr : TraceSink} (settings : Option Config) {f0 f1 f2 : Fetch} {gave : ℕ} {l0 l1 l2 w0 w2 : Option (List ℕ)} {s0 s2 : StoreState} {high : ℕ} (key : List ℕ) (result : Result Bool Stop)
+    → f0.unread ≡ [] → f0.taken ≡ 0 → f0.limit ≡ limit_of settings → f2.taken ≤ f2.limit → IsFedBy f2 gave
+    → KeyRead f0 f1 l0 l1 (Ok (Secret key)) → RanAfter tr settings (Some key) f1 f2 l1 l2 gave w0 w2 s0 s2 high result
+    → Shown tr settings l0 l2 gave w0 w2 s0 s2 high (RanEnding result) [] (SinkFailed result)
+shown_ran settings {f1 = f1} {f2 = f2} {gave = gave} {l2 = l2} {w0 = w0} {w2 = w2} {s0 = s0} {s2 = s2} {high = high} key result none start top below by read ran =
     let e = piece_is read.fed none in
     let ends = rw (← e) at read.ends in
     let after : after_line (read.fed.piece ++ ran.piece) ≡ f1.unread ++ ran.piece =
@@ -442,11 +463,13 @@ shown_ran settings {f1 = f1} {f2 = f2} {l2 = l2} {w0 = w0} {w2 = w2} {s0 = s0} {
       taken = read.fed.piece ++ ran.piece;
       given = Consumes-trans _ _ _ _ _ read.fed.consumed ran.consumed;
       within = omega (arith, count, limit);
+      few = let few = by.few in omega (arith, few, count);
       ended = ran.ended;
       at_end = ran.at_end;
       served = ran.served;
       more = ran.more;
       texts = ap (texts_in ran.ended) after ∙ ran.texts;
+      prompt = prompt_behind gave _ _ ran.served after ran.prompt;
       answers = ran.answers;
       part = ran.part;
       carried = rw line ran.carried;
@@ -462,17 +485,19 @@ shown_ran settings {f1 = f1} {f2 = f2} {l2 = l2} {w0 = w0} {w2 = w2} {s0 = s0} {
 -- ---- before the input is read
 
 -- nothing was read
-pub shown_unread : (tr : TraceSink) (settings : Option Config) (l w : Option (List ℕ)) (s : StoreState) (ending : Ending) → IsFresh s → tr.new ≡ tr.old → EndsUntampered ending → EndingFlag ending []
-    → EndingSays ending (limit_of settings) [] l false (texts_of [] (after_line [])) [] → Shown tr settings l l w w s s 0 ending [] ⊥
-shown_unread tr settings l w s ending fresh untraced untampered flag says = record {
+pub shown_unread : (tr : TraceSink) (settings : Option Config) (l : Option (List ℕ)) (gave : ℕ) (w : Option (List ℕ)) (s : StoreState) (ending : Ending) → IsFresh s → tr.new ≡ tr.old → EndsUntampered ending → EndingFlag ending []
+    → EndingSays ending (limit_of settings) [] l false (texts_of [] (after_line [])) [] → Shown tr settings l l gave w w s s 0 ending [] ⊥
+shown_unread tr settings l gave w s ending fresh untraced untampered flag says = record {
   taken = [];
   given = Consumes-nil l;
   within = omega arith;
+  few = omega arith;
   ended = false;
   at_end = λ (h : false ≡ true). absurd (cc);
   served = [];
   more = texts_of [] (after_line []);
   texts = refl;
+  prompt = prompt_line gave [] [] (rw (after_line-none [] has_lf-nil) (omega arith));
   answers = [];
   part = [];
   carried = unstarted tr settings _ s _ _ fresh untraced untampered;
@@ -500,10 +525,6 @@ whole_of {w0 = w0} {w1 = w1} c = elim c.all [ inl e ↦ subst (λ (l : List ℕ)
 
 pub rises_later : (a b c : ℕ) → Rises a b → b ≤ c → Rises a c
 rises_later a b c h l = omega arith
-
-pub at_ok : {T E : Type 0} (r : Result T E) (P : Type 0) → OnOk r P → IsOk r → P
-at_ok (Ok x) P p h = p
-at_ok (Err x) P p h = absurd (cc)
 
 -- after the sink's fault nothing more was written
 cut_stays : {w0 w1 w2 : Option (List ℕ)} {F G : Type 0} {bytes : List ℕ} → Cut w0 w1 F bytes → Appends w1 w2 [] → G → Cut w0 w2 G bytes
@@ -570,18 +591,20 @@ pub quiet_line : {w0 w1 : Option (List ℕ)} {F G : Type 0} (bytes line : List �
 quiet_line {w0 = w0} {w1 = w1} {F = F} bytes line c g =
     Cut-more line (Cut-fault g (subst (λ (l : List ℕ). Cut w0 w1 F l) (append-nil bytes) c)) g
 
-pub shown_line : {tr : TraceSink} {settings : Option Config} {l0 l1 w0 w1 w2 : Option (List ℕ)} {s0 s1 : StoreState} {high : ℕ} {ending : Ending} {line line' : List ℕ} {F H : Type 0}
-    (more : List ℕ) → (shown : Shown tr settings l0 l1 w0 w1 s0 s1 high ending line F) → Appends w1 w2 more → Cut w0 w2 H ((printed shown.answers ++ shown.part) ++ line')
-    → Shown tr settings l0 l1 w0 w2 s0 s1 high ending line' H
+pub shown_line : {tr : TraceSink} {settings : Option Config} {gave : ℕ} {l0 l1 w0 w1 w2 : Option (List ℕ)} {s0 s1 : StoreState} {high : ℕ} {ending : Ending} {line line' : List ℕ} {F H : Type 0}
+    (more : List ℕ) → (shown : Shown tr settings l0 l1 gave w0 w1 s0 s1 high ending line F) → Appends w1 w2 more → Cut w0 w2 H ((printed shown.answers ++ shown.part) ++ line')
+    → Shown tr settings l0 l1 gave w0 w2 s0 s1 high ending line' H
 shown_line more shown after cut = record {
   taken = shown.taken;
   given = shown.given;
   within = shown.within;
+  few = shown.few;
   ended = shown.ended;
   at_end = shown.at_end;
   served = shown.served;
   more = shown.more;
   texts = shown.texts;
+  prompt = shown.prompt;
   answers = shown.answers;
   part = shown.part;
   carried = shown.carried;

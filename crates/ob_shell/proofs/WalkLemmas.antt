@@ -25,13 +25,13 @@ use Rattle.ob_mean.specs.Verdict.{Tables}
 use Rattle.ob_print.specs.Rows.{events_text}
 use Rattle.ob_script.specs.Script.{script, whole_script}
 use Rattle.ob_script.specs.Trace.{Served as Entry, next, trace}
-use Rattle.ob_shell.specs.Disturbed.{Begins, MeantUntil}
+use Rattle.ob_shell.specs.Disturbed.{MeantUntil}
 use Rattle.ob_shell.specs.Endings.{IsSinkFault}
 use Rattle.ob_shell.specs.Closing.{closing_line}
 use Rattle.ob_shell.specs.Running.{LastPart}
 use Rattle.ob_shell.specs.Steps.{CutStep, Does, IsUntampered, Machine, Misspelt, Served, Steps, session_of}
 use Rattle.ob_shell.specs.Top.{EndsUntampered}
-use Rattle.ob_shell.specs.Words.{Answer, Answers, AnswersIn, AreSeen, BeginsAnswer, Says, SpellFirst, WantsMemory, any_cut, is_cut, refused_at}
+use Rattle.ob_shell.specs.Words.{Answer, Answers, AnswersIn, AreSeen, Begins, BeginsAnswer, Says, SpellFirst, WantsMemory, any_cut, is_cut, refused_at}
 use Rattle.ob_shell.specs.declared.top.Ending.{Ending}
 use Rattle.ob_shell.specs.declared.top.Ending.TheVariants.{Ran}
 use Rattle.ob_shell.proofs.DisturbLemmas.{before_less, begins_more, crosses, few_or_more, take_begins}

@@ -1,17 +1,12 @@
 -- What holds of a run before others disturb its store.
-use Rattle.std.specs.Prelude.{⊤, ◌≡◌, ◌≤◌, ◌+◌, ℕ, List, [], ◌∷◌, ◌++◌, length, take, Option, None, Ok, Err}
+use Rattle.std.specs.Prelude.{⊤, ◌≡◌, ◌≤◌, ◌+◌, ℕ, List, [], ◌∷◌, length, take, Option, None, Ok, Err}
 use Rattle.ob_base.specs.declared.access.Access.{Access}
 use Rattle.ob_base.specs.declared.config.Config.{Config}
 use Rattle.ob_mean.specs.Replay.{Session, Spelt, after, all_served, seen_now}
 use Rattle.ob_script.specs.Script.{script}
 use Rattle.ob_script.specs.Trace.{Served, trace}
-use Rattle.ob_shell.specs.Words.{Answer, AnswersIn, public_with, refused_at, start}
+use Rattle.ob_shell.specs.Words.{Answer, AnswersIn, Begins, public_with, refused_at, start}
 use Rattle.ob_sql.specs.Skeleton.{skeleton}
-
--- the second list begins with the first
-pub record Begins (part whole : List Access) : Type 0 where
-  pub rest : List Access
-  pub joined : whole ≡ part ++ rest
 
 -- the accesses of these statements by their meaning, from no tables, where no call fails
 abbrev pub meant_trace : Option Config → List Spelt → List Access

@@ -1,5 +1,5 @@
 -- The headline: one whole run, by what lies outside of it before and after.
-use Rattle.std.specs.Prelude.{ℕ, ◌≡◌, ◌+◌, ◌≤◌, ◌⊎◌, Bool, true, false, List, [], ◌∷◌, ◌++◌, length, IsTrue, Option, Some, Err}
+use Rattle.std.specs.Prelude.{ℕ, ◌≡◌, ◌+◌, ◌≤◌, ◌⊎◌, min, Bool, true, false, List, [], ◌∷◌, ◌++◌, length, IsTrue, Option, Some, Err}
 use Rattle.std.specs.List.{list_any}
 use Rattle.std.specs.Io.KnownBytes.{Consumes, IsAtEnd}
 use Rattle.ob_base.specs.Counts.{Rises}
@@ -17,7 +17,7 @@ use Rattle.ob_shell.specs.KeyLine.{after_line}
 use Rattle.ob_shell.specs.Settings.{limit_of}
 use Rattle.ob_shell.specs.Texts.{texts_in}
 use Rattle.ob_shell.specs.Tracing.{traced}
-use Rattle.ob_shell.specs.Words.{Answer, Answers, AreSeen, Because, HasSecret, IsCompleted, IsHonest, IsSealed, IsUndeceived, KeepsLimits, Outside, SinksRose, SpellFirst, Took, any_cut, keys_in, printed, public_with, rows_in, start}
+use Rattle.ob_shell.specs.Words.{Answer, Answers, AreSeen, Because, Begins, HasSecret, IsCompleted, IsHonest, IsSealed, IsUndeceived, KeepsLimits, Outside, SinksRose, SpellFirst, Took, any_cut, before_read, keys_in, printed, public_with, rows_in, start}
 use Rattle.ob_shell.specs.declared.top.Ending.{Ending}
 use Rattle.ob_shell.specs.declared.top.Ending.TheVariants.{Ran}
 use Rattle.ob_shell.specs.declared.top.Report.{Report}
@@ -39,6 +39,10 @@ pub record Headline (Takes : Type 0) (settings : Option Config) (tracing : Bool)
   pub served : List (List ℕ)
   pub more : List (List ℕ)
   pub texts : texts_in ended (after_line taken) ≡ served ++ more
+  -- BEFORE MORE IS READ each text is answered. The last read gave at most 4,096 bytes, and each text that was whole before
+  -- it was answered, even where the run stopped within a text; who had left one for later could have been stopped there.
+  pub few : min new.gave (length taken) ≤ 4096
+  pub prompt : Begins (texts_in false (after_line (before_read new.gave taken))) served
   -- THE STATEMENTS. The texts that were answered, and at most one that was begun, spell these.
   pub spelt : List Spelt
   pub spells : SpellFirst (served ++ more) spelt

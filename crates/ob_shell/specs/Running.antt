@@ -12,7 +12,7 @@ use Rattle.ob_vault.specs.State.{RevState}
 use Rattle.ob_shell.specs.declared.session.Halted.{Halted}
 use Rattle.ob_shell.specs.Endings.{SinkFailed}
 use Rattle.ob_shell.specs.Tracing.{Traces}
-use Rattle.ob_shell.specs.Words.{Answer, Faults, NoneRose, SinksRose, Took, any_refused, printed}
+use Rattle.ob_shell.specs.Words.{Answer, Begins, Faults, NoneRose, SinksRose, Took, any_refused, before_read, printed}
 
 -- the stop, whether or not its line may still be written
 abbrev pub stop_of : {T : Type 0} → Result T Halted → Result T Stop
@@ -75,9 +75,10 @@ FlagIs answers (Ok refused) = refused ≡ any_refused answers
 FlagIs answers (Err stop) = Unit {0}
 
 -- what a session did: the sink took the answers of all texts that were served, and of the last part all or, where it
--- failed, a first part
+-- failed, a first part; and the texts that were whole before the source's last read, which gave so many, were served
 pub record SessionRan {R : Type 0} (state : R → RevState) (tracing : Bool) (feed0 feed1 : Fetch)
-    (left0 left1 written0 written1 traced0 traced1 : Option (List ℕ))
+    (left0 left1 : Option (List ℕ)) (gave : ℕ)
+    (written0 written1 traced0 traced1 : Option (List ℕ))
     (m0 m2 : Machine R) (result : Result Bool Stop) : Type 0 where
   pub piece : List ℕ
   pub consumed : Consumes left0 left1 piece
@@ -88,6 +89,7 @@ pub record SessionRan {R : Type 0} (state : R → RevState) (tracing : Bool) (fe
   pub served : List (List ℕ)
   pub more : List (List ℕ)
   pub texts : texts_in ended (feed0.unread ++ piece) ≡ served ++ more
+  pub prompt : Begins (texts_in false (before_read gave (feed0.unread ++ piece))) served
   pub middle : Machine R
   pub answers : List Answer
   pub steps : Steps state m0 middle served answers

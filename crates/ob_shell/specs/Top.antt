@@ -1,5 +1,5 @@
 -- What a whole run promises, by its words and the bytes that its source gave.
-use Rattle.std.specs.Prelude.{ℕ, ◌≡◌, ◌+◌, ◌≤◌, ◌⊎◌, Bool, true, false, List, [], ◌∷◌, ◌++◌, length, IsTrue, Option, Some, None, IsSome, Result, Ok, Err}
+use Rattle.std.specs.Prelude.{ℕ, ◌≡◌, ◌+◌, ◌≤◌, ◌⊎◌, min, Bool, true, false, List, [], ◌∷◌, ◌++◌, length, IsTrue, Option, Some, None, IsSome, Result, Ok, Err}
 use Rattle.std.specs.List.{list_any}
 use Rattle.std.specs.Option.{option_map_or}
 use Rattle.std.specs.Io.KnownBytes.{Consumes, IsAtEnd}
@@ -29,7 +29,7 @@ use Rattle.ob_shell.specs.Settings.{limit_of}
 use Rattle.ob_shell.specs.Steps.{IsUntampered}
 use Rattle.ob_shell.specs.Texts.{texts_in}
 use Rattle.ob_shell.specs.Tracing.{traced}
-use Rattle.ob_shell.specs.Words.{Answer, Answers, AreSeen, EndsAtRead, Faults, HasSecret, IsCompleted, IsHonest, IsSealed, IsUndeceived, KeepsLimits, NoneRose, ReadToLimit, ReadUntilFault, ReadWhole, SinksRose, SpellFirst, Took, any_cut, printed, public_with, rows_in, start}
+use Rattle.ob_shell.specs.Words.{Answer, Answers, AreSeen, Begins, EndsAtRead, Faults, HasSecret, IsCompleted, IsHonest, IsSealed, IsUndeceived, KeepsLimits, NoneRose, ReadToLimit, ReadUntilFault, ReadWhole, SinksRose, SpellFirst, Took, any_cut, before_read, printed, public_with, rows_in, start}
 use Rattle.ob_shell.specs.declared.top.Ending.{Ending}
 use Rattle.ob_shell.specs.declared.top.Ending.TheVariants.{Usage, BadKey, Ran}
 use Rattle.ob_shell.specs.declared.top.Report.{Report}
@@ -96,7 +96,7 @@ pub record Carried (tr : TraceSink) (settings : Option Config) (secret : Option 
 -- what was done with these settings after the first line, which was this secret
 pub record RanAfter (tr : TraceSink) (settings : Option Config)
     (secret : Option (List ℕ)) (feed0 feed1 : Fetch)
-    (left0 left1 written0 written1 : Option (List ℕ))
+    (left0 left1 : Option (List ℕ)) (gave : ℕ) (written0 written1 : Option (List ℕ))
     (store0 store1 : StoreState) (high : ℕ) (result : Result Bool Stop) : Type 0 where
   pub piece : List ℕ
   pub consumed : Consumes left0 left1 piece
@@ -107,6 +107,7 @@ pub record RanAfter (tr : TraceSink) (settings : Option Config)
   pub served : List (List ℕ)
   pub more : List (List ℕ)
   pub texts : texts_in ended (feed0.unread ++ piece) ≡ served ++ more
+  pub prompt : Begins (texts_in false (before_read gave (feed0.unread ++ piece))) served
   pub answers : List Answer
   pub part : List ℕ
   pub carried : Carried tr settings secret store0 store1 high served more answers part
@@ -173,16 +174,19 @@ StatusCause (Ran (Err InputLimit)) old new = new.source ≡ old.source
 
 -- what was taken, what of it was served, and what the sink took of the answers and the last line
 pub record Shown (tr : TraceSink) (settings : Option Config)
-    (left0 left1 written0 written1 : Option (List ℕ)) (store0 store1 : StoreState) (high : ℕ)
+    (left0 left1 : Option (List ℕ)) (gave : ℕ) (written0 written1 : Option (List ℕ))
+    (store0 store1 : StoreState) (high : ℕ)
     (ending : Ending) (line : List ℕ) (Fault : Type 0) : Type 0 where
   pub taken : List ℕ
   pub given : Consumes left0 left1 taken
   pub within : length taken ≤ limit_of settings
+  pub few : min gave (length taken) ≤ 4096
   pub ended : Bool
   pub at_end : ended ≡ true → IsAtEnd left1
   pub served : List (List ℕ)
   pub more : List (List ℕ)
   pub texts : texts_in ended (after_line taken) ≡ served ++ more
+  pub prompt : Begins (texts_in false (after_line (before_read gave taken))) served
   pub answers : List Answer
   pub part : List ℕ
   pub carried : Carried tr settings (secret_of (first_line taken)) store0 store1 high served more
@@ -197,12 +201,13 @@ pub record Shown (tr : TraceSink) (settings : Option Config)
 
 -- the whole run, of words that the program takes, with the settings that they spell, or doesn't
 pub record Reported (tr : TraceSink) (Takes : Type 0) (settings : Option Config)
-    (left0 left1 written0 written1 : Option (List ℕ)) (store0 store1 : StoreState)
+    (left0 left1 : Option (List ℕ)) (gave : ℕ) (written0 written1 : Option (List ℕ))
+    (store0 store1 : StoreState)
     (old new : Faults) (report : Report) : Type 0 where
   pub ending : Ending
   pub status : report.status ≡ status_of ending
   pub takes : EndingWords ending Takes
-  pub shown : Shown tr settings left0 left1 written0 written1 store0 store1 report.high ending
+  pub shown : Shown tr settings left0 left1 gave written0 written1 store0 store1 report.high ending
       (last_line ending) (SinksRose old new)
   pub cause : StatusCause ending old new
   pub completes : Takes → (input : List ℕ) → left0 ≡ Some input

@@ -1,6 +1,6 @@
 -- The words of the headline: the world outside a run, texts and statements, what is seen of each, what the model answers,
 -- and why a run ends.
-use Rattle.std.specs.Prelude.{ℕ, ◌≡◌, ◌≢◌, ◌≤◌, ◌<◌, ◌+◌, ◌⊎◌, ◌↔◌, ◌||◌, ⊤, Bool, true, false, List, [], ◌∷◌, ◌++◌, length, IsTrue, IsSome, Option, Some, None, Result, Ok, Err}
+use Rattle.std.specs.Prelude.{ℕ, ◌≡◌, ◌≢◌, ◌≤◌, ◌<◌, ◌+◌, ◌-◌, ◌⊎◌, ◌↔◌, ◌||◌, ⊤, Bool, true, false, List, [], ◌∷◌, ◌++◌, length, take, IsTrue, IsSome, Option, Some, None, Result, Ok, Err}
 use Rattle.std.specs.Option.{option_map_or}
 use Rattle.std.specs.Io.KnownBytes.{Appends}
 use Rattle.ob_base.specs.Accesses.{nth_write}
@@ -61,18 +61,26 @@ pub record Faults : Type 0 where
 abbrev pub faults_of : (source out trace : ℕ) → Faults
 faults_of source out trace = record { source = source; out = out; trace = trace }
 
--- the bytes that the source has left, those that the sinks of the answers and of the trace hold, the store, and the
--- counts of faults
+-- the bytes that the source has left, and how many its last read gave; the bytes that the sinks of the answers and of the
+-- trace hold; the store; and the counts of faults
 pub record Outside : Type 0 where
   pub left : Option (List ℕ)
+  pub gave : ℕ
   pub written : Option (List ℕ)
   pub traced : Option (List ℕ)
   pub store : StoreState
   pub faults : Faults
 
-abbrev pub outside_of : (left written traced : Option (List ℕ)) → StoreState → Faults → Outside
-outside_of left written traced store faults =
-    record { left = left; written = written; traced = traced; store = store; faults = faults }
+abbrev pub outside_of : (left : Option (List ℕ)) (gave : ℕ) (written traced : Option (List ℕ))
+    → StoreState → Faults → Outside
+outside_of left gave written traced store faults = record {
+  left = left;
+  gave = gave;
+  written = written;
+  traced = traced;
+  store = store;
+  faults = faults;
+}
 
 -- the count of one of the two sinks rose
 abbrev pub SinksRose : (old new : Faults) → Type 0
@@ -88,6 +96,15 @@ pub record NoneRose (old new : Faults) : Type 0 where
 pub record Took (written0 written1 : Option (List ℕ)) (bytes : List ℕ) : Type 0 where
   pub after : List ℕ
   pub appends : Appends written0 written1 (bytes ++ after)
+
+-- of the bytes that were taken from a source those that came before its last read, which gave so many
+abbrev pub before_read : (gave : ℕ) → (taken : List ℕ) → List ℕ
+before_read gave taken = take (length taken - gave) taken
+
+-- the second list begins with the first
+pub record Begins {A : Type 0} (part whole : List A) : Type 0 where
+  pub rest : List A
+  pub joined : whole ≡ part ++ rest
 
 -- the store tells what it holds, and gave what was written
 pub record IsHonest (store0 store1 : StoreState) : Type 0 where

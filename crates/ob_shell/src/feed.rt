@@ -1,6 +1,6 @@
 //! Single bytes from a source, of which no more than a limit are taken.
 ghost use Rattle.std.specs.Prelude.{◌≡◌, ◌<◌, ◌≤◌, ℕ, List, [], length};
-ghost use Rattle.ob_shell.specs.Feeding.{Fed, FetchCause, bytes_of};
+ghost use Rattle.ob_shell.specs.Feeding.{Fed, FetchCause, IsFedBy, bytes_of};
 
 use ob_base::Failed;
 use ob_io::Source;
@@ -52,11 +52,13 @@ impl Feed {
 
     /// The next byte, or `None` at the end. More is read only once all that was read was handed on.
     pub fn next<S: Source>(&mut self, source: &mut S) -> Result<Option<u8>, Halt>
+        requires { IsFedBy self.old (S.gave source.old) }
         ensures lazy { 0 < length self.old.unread → source.new ≡ source.old }
+        ensures fed_by { IsFedBy self.new (S.gave source.new) }
         ensures fed { Fed self.old self.new (S.left source.old) (S.left source.new)
             (bytes_of result) }
         ensures within { self.new.taken ≤ self.new.limit }
-        ensures cause { FetchCause self.new (S.left source.new)
+        ensures cause { FetchCause self.new (S.left source.new) (S.gave source.new)
             (S.faults source.old) (S.faults source.new) result }
     {
         if self.from == self.to {

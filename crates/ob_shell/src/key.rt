@@ -1,6 +1,6 @@
 //! The first line, which is the secret.
 ghost use Rattle.std.specs.Prelude.{◌≡◌, ◌<◌, ◌≤◌, ℕ, List, [], ◌++◌, Option, Some, None, Ok, Err, length};
-ghost use Rattle.ob_shell.specs.Feeding.{FetchCause, HaltCause};
+ghost use Rattle.ob_shell.specs.Feeding.{FetchCause, HaltCause, IsFedBy};
 ghost use Rattle.ob_shell.specs.KeyLine;
 ghost use Rattle.ob_shell.specs.KeyLine.{line_max, without_cr, secret_of, KeyRead};
 
@@ -57,9 +57,11 @@ fn decode(line: &[u8]) -> Option<[u8; 32]>
 
 /// Reads the first line.
 pub fn read_key<S: Source>(feed: &mut Feed, source: &mut S) -> Result<FirstLine, Halt>
-    requires { feed.old.taken ≤ feed.old.limit }
+    requires taken { feed.old.taken ≤ feed.old.limit }
+    requires fed_by { IsFedBy feed.old (S.gave source.old) }
     ensures read { KeyRead feed.old feed.new (S.left source.old) (S.left source.new) result }
     ensures within { feed.new.taken ≤ feed.new.limit }
+    ensures fed_by { IsFedBy feed.new (S.gave source.new) }
     ensures cause { HaltCause (S.faults source.old) (S.faults source.new)
         (feed.new.taken) (feed.new.limit) result }
 {

@@ -3,6 +3,7 @@ ghost use Rattle.std.specs.Prelude.{◌≡◌, ◌<◌, ◌≤◌, ◌++◌, ℕ
 ghost use Rattle.ob_base.specs.declared.access.Access.{Access};
 ghost use Rattle.ob_shell.specs.Texts.{text_max, is_over, rest_after, texts_at, tail_text};
 ghost use Rattle.ob_shell.specs.Steps.{machine_of, IsReady, HasBody, AnswersAll, StopsIn};
+ghost use Rattle.ob_shell.specs.Feeding.{IsFedBy};
 ghost use Rattle.ob_shell.specs.Running.{StopCause, SessionRan, IsQuiet, stop_of};
 ghost use Rattle.ob_shell.specs.Tracing.{TracedAll, Traced};
 ghost use Rattle.ob_shell.specs.Closing;
@@ -338,13 +339,15 @@ pub fn serve<I: Source, R: Revisions, S: BlockStore, K: Sink, T: Sink>(
     out: &mut K,
     trace: &mut T,
 ) -> Result<bool, Halted>
-    requires { IsReady R.state (machine_of engine.old (S.state store.old)) }
+    requires ready { IsReady R.state (machine_of engine.old (S.state store.old)) }
+    requires fed_by { IsFedBy feed.old (I.gave input.old) }
     ensures ran { SessionRan R.state tracing feed.old feed.new
-        (I.left input.old) (I.left input.new) (K.written out.old) (K.written out.new)
-        (T.written trace.old) (T.written trace.new)
+        (I.left input.old) (I.left input.new) (I.gave input.new)
+        (K.written out.old) (K.written out.new) (T.written trace.old) (T.written trace.new)
         (machine_of engine.old (S.state store.old)) (machine_of engine.new (S.state store.new))
         (stop_of result) }
     ensures within { feed.new.taken ≤ feed.new.limit }
+    ensures fed_by { IsFedBy feed.new (I.gave input.new) }
     ensures traced { Traced tracing (S.state store.old).asked (S.state store.new).asked
         (T.written trace.old) (T.written trace.new) (IsQuiet result) }
     ensures cause { StopCause

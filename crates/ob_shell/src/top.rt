@@ -5,6 +5,7 @@ ghost use Rattle.ob_shell.specs.Usage.{usage, is_traced};
 ghost use Rattle.ob_shell.specs.Settings.{AreWithin, IsTaken, settings_of};
 ghost use Rattle.ob_shell.specs.Closed.{LineWritten, Untouched, Unwritten, refused_by};
 ghost use Rattle.ob_shell.specs.Meddling.{Unserved, Meddled};
+ghost use Rattle.ob_shell.specs.Feeding.{IsFedBy};
 ghost use Rattle.ob_shell.specs.KeyLine.{secret_of};
 ghost use Rattle.ob_shell.specs.Running.{IsQuiet, stop_of, StopCause};
 ghost use Rattle.ob_meddle.specs.Shows.{state_of};
@@ -128,13 +129,16 @@ fn serve_with<I: Source, O: Sink, T: Sink, S: BlockStore>(
 ) -> (Result<bool, Halted>, u64)
     requires within { AreWithin words.config }
     requires taken { feed.old.taken ≤ feed.old.limit }
+    requires fed_by { IsFedBy feed.old (I.gave input.old) }
     requires fresh { (S.state store.old).asked ≡ [] }
     ensures ran { RanAfter (sink_of words.trace (T.written trace.old) (T.written trace.new))
         (Some words.config) (Some key.now)
         feed.old feed.new
-        (I.left input.old) (I.left input.new) (O.written out.old) (O.written out.new)
+        (I.left input.old) (I.left input.new) (I.gave input.new)
+        (O.written out.old) (O.written out.new)
         (S.state store.old) (S.state store.new) result.1 (stop_of result.0) }
     ensures within { feed.new.taken ≤ feed.new.limit }
+    ensures fed_by { IsFedBy feed.new (I.gave input.new) }
     ensures traced { Traced words.trace (S.state store.old).asked (S.state store.new).asked
         (T.written trace.old) (T.written trace.new) (IsQuiet result.0) }
     ensures cause { StopCause
@@ -179,7 +183,8 @@ fn run<I: Source, O: Sink, T: Sink, S: BlockStore>(
     requires fresh { (S.state store.old).asked ≡ [] }
     ensures shown { Shown (sink_of words.trace (T.written trace.old) (T.written trace.new))
         (Some words.config)
-        (I.left input.old) (I.left input.new) (O.written out.old) (O.written out.new)
+        (I.left input.old) (I.left input.new) (I.gave input.new)
+        (O.written out.old) (O.written out.new)
         (S.state store.old) (S.state store.new)
         result.high result.ending [] (SinkStopped result.ending) }
     ensures words { result.ending ≢ Ending.Usage }
@@ -250,7 +255,8 @@ fn serve_over<I: Source, O: Sink, T: Sink, S: BlockStore>(
     requires fresh { (S.state store.old).asked ≡ [] }
     ensures reported { Reported (sink_of words.trace (T.written trace.old) (T.written trace.new))
         ⊤ (Some words.config)
-        (I.left input.old) (I.left input.new) (O.written out.old) (O.written out.new)
+        (I.left input.old) (I.left input.new) (I.gave input.new)
+        (O.written out.old) (O.written out.new)
         (S.state store.old) (S.state store.new)
         (faults_of (I.faults input.old) (O.faults out.old) (T.faults trace.old))
         (faults_of (I.faults input.new) (O.faults out.new) (T.faults trace.new)) result }
@@ -277,9 +283,11 @@ pub fn shell_top<I: Source, O: Sink, T: Sink, S: BlockStore>(
     ensures headline { Headline (IsTaken usage (map string_bytes words.now))
         (settings_of usage (map string_bytes words.now))
         (is_traced usage (map string_bytes words.now))
-        (outside_of (I.left input.old) (O.written out.old) (T.written trace.old) (S.state store.old)
+        (outside_of (I.left input.old) (I.gave input.old) (O.written out.old) (T.written trace.old)
+        (S.state store.old)
         (faults_of (I.faults input.old) (O.faults out.old) (T.faults trace.old)))
-        (outside_of (I.left input.new) (O.written out.new) (T.written trace.new) (S.state store.new)
+        (outside_of (I.left input.new) (I.gave input.new) (O.written out.new) (T.written trace.new)
+        (S.state store.new)
         (faults_of (I.faults input.new) (O.faults out.new) (T.faults trace.new))) result }
     ensures refused { ¬ IsTaken usage (map string_bytes words.now) → Untouched
         (I.left input.old) (I.left input.new) (S.state store.old) (S.state store.new) }
@@ -305,9 +313,11 @@ pub fn meddle_top<I: Source, O: Sink, T: Sink>(
         (faults_of (I.faults input.old) (O.faults out.old) (T.faults trace.old))
         (faults_of (I.faults input.new) (O.faults out.new) (T.faults trace.new)) result.0)
         (λ store. Meddled (map string_bytes words.now)
-        (λ start. (outside_of (I.left input.old) (O.written out.old) (T.written trace.old) start
+        (λ start. (outside_of (I.left input.old) (I.gave input.old) (O.written out.old)
+        (T.written trace.old) start
         (faults_of (I.faults input.old) (O.faults out.old) (T.faults trace.old))))
-        (outside_of (I.left input.new) (O.written out.new) (T.written trace.new) (state_of store)
+        (outside_of (I.left input.new) (I.gave input.new) (O.written out.new) (T.written trace.new)
+        (state_of store)
         (faults_of (I.faults input.new) (O.faults out.new) (T.faults trace.new))) store result.0) }
 {
     match read_meddle_words(alloc, words) {

@@ -1,10 +1,17 @@
 use Rattle.std.proofs.Common.{refl, ◌∙◌, arith, length-take, length-set}
 use Rattle.ob_shell.proofs.FeedLemmas.{Fed-none, Fed-then}
-use Rattle.ob_shell.proofs.KeyLemmas.{key_at_end, key_at_lf, key_too_long, line_grows, has_lf-nil, has_lf-push}
+use Rattle.ob_shell.proofs.KeyLemmas.{key_halted, key_at_end, key_at_lf, key_too_long, line_grows, has_lf-nil, has_lf-push, none_unread}
 use Rattle.ob_shell.proofs.key.read_key.Goals as goal
 
 pub line-init : goal.line-init
-line-init g c = record { fed = Fed-none _ _; no_lf = has_lf-nil; short = omega arith; sized = refl; within = c.requires; source = refl }
+line-init g c = record { fed = Fed-none _ _; no_lf = has_lf-nil; short = omega arith; sized = refl; within = c.requires.taken; fed_by = c.requires.fed_by; source = refl }
+
+pub returns-in-Err-clause-read : goal.returns-in-Err-clause-read
+returns-in-Err-clause-read g c =
+    let fetch = rw c.in-Err.halt-is at c.in-Err.ensures in
+    let before = c.line.invariant in
+    key_halted c.in-Err.halt before.fed fetch.fed before.no_lf (omega (arith, length-take c.line.n c.line.line, before.sized, c.line-test.true))
+    (none_unread c.next.new.self (g.S.Source.left c.next.new.source) (g.S.Source.gave c.next.new.source) (g.S.Source.faults c.line.source) (g.S.Source.faults c.next.new.source) c.in-Err.halt fetch.cause)
 
 pub returns-in-Ok-None-clause-read : goal.returns-in-Ok-None-clause-read
 returns-in-Ok-None-clause-read g c =
@@ -31,6 +38,7 @@ line-preserved g c =
       short = omega arith;
       sized = length-set _ _ _ ∙ before.sized;
       within = fetch.within;
+      fed_by = fetch.fed_by;
       source = fetch.cause.0 ∙ before.source;
     }
 

@@ -8,7 +8,8 @@ pub bytes-init : goal.bytes-init
 bytes-init g c = record {
   so_far = so_far_start _ _ _ _ _ c.new.ensures;
   short = rw c.new.ensures (omega arith);
-  ready = c.requires;
+  ready = c.requires.ready;
+  fed_by = c.requires.fed_by;
   source = refl;
   sink = refl;
   trace = refl;
@@ -36,7 +37,7 @@ pub returns-in-Err-clause-ran : goal.returns-in-Err-clause-ran
 returns-in-Err-clause-ran g c =
     let fetch = rw c.in-Ok-Some.field-0-is at c.in-Ok-Some.ensures in
     let turn = c.in-Err.ensures in
-    ran_turn c.in-Err.halted.stop c.bytes.invariant.so_far fetch.fed turn.stopped turn.source turn.limit _ c.bytes.invariant.traced turn.traced_stop
+    ran_turn c.in-Err.halted.stop c.bytes.invariant.so_far fetch.fed fetch.cause.2 turn.stopped turn.source turn.limit _ c.bytes.invariant.traced turn.traced_stop
 
 pub bytes-smaller : goal.bytes-smaller
 bytes-smaller g c =
@@ -51,6 +52,7 @@ bytes-preserved g c =
       so_far = so_far_turn before.so_far fetch.fed turn.pending.0 refl turn.answered;
       short = turn.pending.1;
       ready = turn.ready;
+      fed_by = fetch.fed_by;
       source = fetch.cause.0 ∙ before.source;
       sink = turn.cause.out ∙ before.sink;
       trace = turn.cause.trace ∙ before.trace;

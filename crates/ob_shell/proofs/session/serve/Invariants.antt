@@ -1,4 +1,5 @@
 use Rattle.std.proofs.Common.{◌≡◌, ◌<◌, ◌+◌, ◌-◌, length}
+use Rattle.ob_shell.specs.Feeding.{IsFedBy}
 use Rattle.ob_shell.specs.Texts.{text_max}
 use Rattle.ob_shell.specs.Steps.{machine_of, IsReady}
 use Rattle.ob_shell.specs.Running.{SoFar}
@@ -14,6 +15,7 @@ invariant-bytes g l =
           (machine_of l.initial.engine (g.S.BlockStore.state l.initial.store)) (machine_of l.engine (g.S.BlockStore.state l.store));
       short : length l.session.pending < text_max;
       ready : IsReady g.R.Revisions.state (machine_of l.engine (g.S.BlockStore.state l.store));
+      fed_by : IsFedBy l.feed (g.I.Source.gave l.input);
       source : g.I.Source.faults l.input ≡ g.I.Source.faults l.initial.input;
       sink : g.K.Sink.faults l.out ≡ g.K.Sink.faults l.initial.out;
       trace : g.T.Sink.faults l.trace ≡ g.T.Sink.faults l.initial.trace;

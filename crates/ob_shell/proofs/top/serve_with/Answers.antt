@@ -4,12 +4,12 @@ use Rattle.ob_shell.proofs.TraceLemmas.{traced_none, traced_whole}
 use Rattle.ob_shell.proofs.top.serve_with.Goals as goal
 
 pub returns-in-Err-clause-ran : goal.returns-in-Err-clause-ran
-returns-in-Err-clause-ran g c = ran_nothing _ _ _ _ _ _ _
+returns-in-Err-clause-ran g c = ran_nothing _ _ _ _ _ _ _ _
     (record {
       unasked = c.requires.fresh;
       honest = g.met.S.BlockStore.starts_honest c.args.store.now c.requires.fresh;
       empty = λ q. g.met.S.BlockStore.starts_empty c.args.store.now q c.requires.fresh;
-    }) refl
+    }) refl c.requires.fed_by.late
 
 pub returns-in-Err-clause-traced : goal.returns-in-Err-clause-traced
 returns-in-Err-clause-traced g c = traced_whole _ (traced_none _ _ _)
@@ -22,7 +22,7 @@ returns-in-Ok-clause-ran g c =
       honest = g.met.S.BlockStore.starts_honest c.args.store.now c.requires.fresh;
       empty = λ q. g.met.S.BlockStore.starts_empty c.args.store.now q c.requires.fresh;
     })
-    (g.met.S.BlockStore.starts_steady c.args.store.now c.requires.fresh) c.high.ensures.most c.high.ensures.value _ _ _ _ _ _ _ c.serve-ran.ensures.ran
+    (g.met.S.BlockStore.starts_steady c.args.store.now c.requires.fresh) c.high.ensures.most c.high.ensures.value _ _ _ _ _ _ _ _ c.serve-ran.ensures.ran
 
-pub serve-ran-requires : goal.serve-ran-requires
-serve-ran-requires g c = record { agrees = c.in-Ok.ensures.agrees (g.S.BlockStore.state c.args.store.now) c.requires.fresh; lives = c.in-Ok.ensures.alive }
+pub serve-ran-requires-clause-ready : goal.serve-ran-requires-clause-ready
+serve-ran-requires-clause-ready g c = record { agrees = c.in-Ok.ensures.agrees (g.S.BlockStore.state c.args.store.now) c.requires.fresh; lives = c.in-Ok.ensures.alive }
