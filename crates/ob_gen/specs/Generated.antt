@@ -61,3 +61,10 @@ abbrev pub lines_left : (x n passed : ℕ) → List (List ℕ)
 lines_left x n zero = lines x n
 lines_left x n (suc zero) = table_line n ∷ (row_lines x 1 n ++ statement_lines n)
 lines_left x n (suc (suc k)) = row_lines x (k + 1) (n - k) ++ drop (k - n) (statement_lines n)
+
+-- what contracts see of the source of the text
+pub record GeneratedState : Type 0 where
+  -- the bytes still to come
+  pub left : List ℕ
+  -- how many its last call gave
+  pub gave : ℕ

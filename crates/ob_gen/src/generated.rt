@@ -1,4 +1,5 @@
 ghost use Rattle.std.specs.Prelude.{◌≡◌, Some};
+ghost use Rattle.std.specs.Result.{result_unwrap_or};
 ghost use Rattle.std.specs.Io.{ReadsAtMost};
 ghost use Rattle.std.specs.Io.KnownBytes.{ReadConsumes};
 ghost use Rattle.ob_gen.specs.Generated.{generated};
@@ -17,16 +18,17 @@ pub struct Generated {
     lines: Lines,
     line: Line,
     at: usize,
+    gave: usize,
 }
 
 impl Model for Generated {
-    ghost use Rattle.std.specs.Prelude.{ℕ, ◌≤◌, ◌++◌, List, drop, length};
+    ghost use Rattle.std.specs.Prelude.{◌≤◌, ◌++◌, drop, length};
     ghost use Rattle.std.specs.List.{concat};
-    ghost use Rattle.ob_gen.specs.Generated.{lines_left};
+    ghost use Rattle.ob_gen.specs.Generated.{GeneratedState, lines_left};
 
-    ghost Value = { List ℕ };
+    ghost Value = { GeneratedState };
 
-    ghost view = { λ g. drop g.at g.line ++ concat (lines_left g.lines.number g.lines.rows g.lines.passed) };
+    ghost view = { λ g. record { left = drop g.at g.line ++ concat (lines_left g.lines.number g.lines.rows g.lines.passed); gave = g.gave } };
 
     ghost invariant = { λ g. g.at ≤ length g.line };
 }
@@ -34,28 +36,33 @@ impl Model for Generated {
 impl Generated {
     /// The text whose sequence begins behind `x`, and whose table has `n` rows.
     pub fn new(x: u64, n: u32) -> Generated
-        ensures { result ≡ generated x n }
+        ensures { result ≡ record { left = generated x n; gave = 0 } }
     {
         Generated {
             lines: Lines::new(x, n),
             line: Line::new(b""),
             at: 0,
+            gave: 0,
         }
     }
 }
 
 impl Source for Generated {
-    ghost left = { λ g. Some g };
+    ghost left = { λ g. Some g.left };
+
+    ghost gave = { λ g. g.gave };
 
     ghost faults = { λ _. 0 };
 
     fn read(&mut self, buf: &mut [u8]) -> Result<usize, Failed>
         ensures bound { ReadsAtMost result buf.new }
-        ensures bytes { ReadConsumes (Some self.old) (Some self.new) result buf.new }
+        ensures bytes { ReadConsumes (Some self.old.left) (Some self.new.left) result buf.new }
+        ensures gave { self.new.gave ≡ result_unwrap_or result 0 }
         ensures cause { HasCause 0 0 result }
     {
         if self.at == self.line.as_bytes().len() {
             let Some(line) = self.lines.next_line() else {
+                self.gave = 0;
                 return Ok(0);
             };
             self.line = line;
@@ -65,6 +72,7 @@ impl Source for Generated {
         let n = buf.len().min(left.len());
         buf[..n].copy_from_slice(&left[..n]);
         self.at += n;
+        self.gave = n;
         Ok(n)
     }
 }

@@ -1,5 +1,5 @@
 use Rattle.std.proofs.Common.{◌∙◌, ◌≡◌, sym, ap, subst, arith, length, List, ℕ}
-use Rattle.ob_gen.specs.Generated.{lines_left}
+use Rattle.ob_gen.specs.Generated.{GeneratedState, lines_left}
 use Rattle.ob_gen.specs.declared.generated.Generated.TheInside.{Inside}
 use Rattle.ob_gen.proofs.Reading.{IsAtHand, line_goes_on, line_taken, read_gives}
 use Rattle.ob_gen.proofs.generated.GeneratedSource.read.Goals as goal
@@ -11,10 +11,10 @@ Holds all g = IsAtHand all g.line g.at (lines_left g.lines.number g.lines.rows g
 
 pub returns-clause-bytes : goal.returns-clause-bytes
 returns-clause-bytes c =
-    let all = c.args.self.now in
+    let all = c.args.self.now.left in
     let line = c.self.inside.line in
     let at = c.self.inside.at in
-    let before = sym c.self.view_is in
+    let before = sym (ap (λ (s : GeneratedState). s.left) c.self.view_is) in
     let length_is : length c.as_bytes.result.now ≡ length line = ap length c.as_bytes.ensures in
     let hand : Holds all c.if-self-as_bytes.self-inside = elim c.if-self-as_bytes.branch [
       | then-self-as_bytes+in-Some w ↦ subst (Holds all) (sym w.self-inside-is)
