@@ -1,5 +1,5 @@
 ghost use Rattle.std.specs.Prelude.{◌≡◌};
-ghost use Rattle.ob_gen.specs.Tally.{with_answer, with_plan};
+ghost use Rattle.ob_gen.specs.Tally.{empty_tally, with_answer, with_plan};
 
 use ob_base::Plan;
 
@@ -19,6 +19,13 @@ pub struct Tally {
 }
 
 impl Tally {
+    /// Of no statement.
+    pub fn new() -> Tally
+        ensures { result ≡ empty_tally }
+    {
+        Tally::default()
+    }
+
     /// Counts one more statement, which was refused or not, with the rows of its answer, and the plan that was seen.
     pub fn add(&mut self, refused: bool, rows: u64, plan: Option<Plan>)
         ensures { self.new ≡ with_plan (with_answer self.old refused rows) plan }

@@ -4,6 +4,7 @@ pub mod KeyLemmas
 pub mod RunLemmas
 pub mod ServeLemmas
 pub mod StepLemmas
+pub mod TallyLemmas
 pub mod TextLemmas
 pub mod PromptLemmas
 pub mod TopLemmas

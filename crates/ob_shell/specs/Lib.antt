@@ -7,6 +7,7 @@ pub mod Words
 pub mod Headline
 pub mod Running
 pub mod Steps
+pub mod Tallies
 pub mod Texts
 pub mod Top
 pub mod Tracing

@@ -1,6 +1,6 @@
 //! The top calls.
 ghost use Rattle.std.specs.Prelude.{◌≡◌, ◌≢◌, ◌≤◌, ℕ, List, [], map, Ok, Err, Some, true, false, ⊤};
-ghost use Rattle.std.specs.Prelude.{MatchOption, string_bytes};
+ghost use Rattle.std.specs.Prelude.{IfOk, MatchOption, string_bytes};
 ghost use Rattle.ob_shell.specs.Usage.{usage, is_traced};
 ghost use Rattle.ob_shell.specs.Settings.{AreWithin, IsTaken, settings_of};
 ghost use Rattle.ob_shell.specs.Closed.{LineWritten, Untouched, Unwritten, refused_by};
@@ -9,7 +9,10 @@ ghost use Rattle.ob_shell.specs.Feeding.{IsFedBy};
 ghost use Rattle.ob_shell.specs.KeyLine.{secret_of};
 ghost use Rattle.ob_shell.specs.Running.{IsQuiet, stop_of, StopCause};
 ghost use Rattle.ob_meddle.specs.Shows.{state_of};
+ghost use Rattle.ob_gen.specs.Tally.{empty_tally};
+ghost use Rattle.ob_gen.specs.declared.tally.Tally.{Tally};
 ghost use Rattle.ob_shell.specs.Headline.{Headline};
+ghost use Rattle.ob_shell.specs.Tallies.{flagged};
 ghost use Rattle.ob_shell.specs.Tracing.{Traced};
 ghost use Rattle.ob_shell.specs.Endings;
 ghost use Rattle.ob_shell.specs.Endings.{SinkStopped};
@@ -22,6 +25,7 @@ use crate::session::{Halted, serve};
 use crate::words::{Words, WordsErr, read_meddle_words, read_words};
 use ob_base::Stop;
 use ob_exec::Engine;
+use ob_gen::Tally;
 use ob_io::{Sink, Source};
 use ob_meddle::MeddledStore;
 use ob_print::{Line, stop_line, write_all};
@@ -48,12 +52,14 @@ pub struct Report {
     pub high: u64,
 }
 
-/// How a run ended, whether its last line may not be written any more, and how many rows were open.
+/// How a run ended, whether its last line may not be written any more, how many rows were open, and what was counted of
+/// the answers, where the input was read to its end.
 #[derive(Clone, Copy, Debug, PartialEq, Eq)]
 pub struct Ended {
     pub ending: Ending,
     pub quiet: bool,
     pub high: u64,
+    pub tally: Tally,
 }
 
 fn status_of(ending: Ending) -> u8
@@ -86,32 +92,36 @@ fn last_line(ending: Ending) -> Line
 
 // An end before any engine was started.
 fn ended_at(ending: Ending) -> Ended
-    ensures { result ≡ record { ending = ending; quiet = false; high = 0 } }
+    ensures { result ≡ record { ending = ending; quiet = false; high = 0; tally = empty_tally } }
 {
     Ended {
         ending,
         quiet: false,
         high: 0,
+        tally: Tally::new(),
     }
 }
 
 // The end of a session.
-fn ended_with(ran: Result<bool, Halted>, high: u64) -> Ended
-    ensures ending { result.ending ≡ Ending.Ran (stop_of ran) }
+fn ended_with(ran: Result<Tally, Halted>, high: u64) -> Ended
+    ensures ending { result.ending ≡ Ending.Ran (flagged (stop_of ran)) }
+    ensures tally { IfOk (stop_of ran) (λ tally. result.tally ≡ tally) }
     ensures quiet { result.quiet ≡ true → IsQuiet ran }
     ensures loud { IsQuiet ran → result.quiet ≡ true }
     ensures high { result.high ≡ high }
 {
     match ran {
-        Ok(refused) => Ended {
-            ending: Ending::Ran(Ok(refused)),
+        Ok(tally) => Ended {
+            ending: Ending::Ran(Ok(tally.refused > 0)),
             quiet: false,
             high,
+            tally,
         },
         Err(halted) => Ended {
             ending: Ending::Ran(Err(halted.stop)),
             quiet: halted.quiet,
             high,
+            tally: Tally::new(),
         },
     }
 }
@@ -126,7 +136,7 @@ fn serve_with<I: Source, O: Sink, T: Sink, S: BlockStore>(
     out: &mut O,
     trace: &mut T,
     store: &mut S,
-) -> (Result<bool, Halted>, u64)
+) -> (Result<Tally, Halted>, u64)
     requires within { AreWithin words.config }
     requires taken { feed.old.taken ≤ feed.old.limit }
     requires fed_by { IsFedBy feed.old (I.gave input.old) }
@@ -181,7 +191,7 @@ fn run<I: Source, O: Sink, T: Sink, S: BlockStore>(
 ) -> Ended
     requires within { AreWithin words.config }
     requires fresh { (S.state store.old).asked ≡ [] }
-    ensures shown { Shown (sink_of words.trace (T.written trace.old) (T.written trace.new))
+    ensures shown { Shown result.tally (sink_of words.trace (T.written trace.old) (T.written trace.new))
         (Some words.config)
         (I.left input.old) (I.left input.new) (I.gave input.new)
         (O.written out.old) (O.written out.new)
@@ -253,8 +263,8 @@ fn serve_over<I: Source, O: Sink, T: Sink, S: BlockStore>(
 ) -> Report
     requires within { AreWithin words.config }
     requires fresh { (S.state store.old).asked ≡ [] }
-    ensures reported { Reported (sink_of words.trace (T.written trace.old) (T.written trace.new))
-        ⊤ (Some words.config)
+    ensures reported { (tally : Tally) × Reported tally
+        (sink_of words.trace (T.written trace.old) (T.written trace.new)) ⊤ (Some words.config)
         (I.left input.old) (I.left input.new) (I.gave input.new)
         (O.written out.old) (O.written out.new)
         (S.state store.old) (S.state store.new)
