@@ -1,6 +1,5 @@
 ghost use Rattle.std.specs.Prelude.{◌≡◌};
-ghost use Rattle.ob_print.specs.Lines.{trace_text};
-ghost use Rattle.sha2.specs.Sha256.{sha256};
+ghost use Rattle.ob_gen.specs.SummaryText.{digest_of};
 
 use ob_print::access_line;
 use ob_store::BlockStore;
@@ -8,7 +7,7 @@ use sha2::{Digest, Sha256};
 
 /// The SHA-256 (FIPS 180-4) of the text of all accesses that were asked of a store, whether or not they were traced.
 pub fn trace_digest<S: BlockStore>(store: &S) -> [u8; 32]
-    ensures { result ≡ sha256 (trace_text (S.state store.now).asked) }
+    ensures { result ≡ digest_of (S.state store.now).asked }
 {
     let mut hasher = Sha256::new();
     let end = store.count();

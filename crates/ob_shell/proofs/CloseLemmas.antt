@@ -18,7 +18,8 @@ use Rattle.ob_shell.specs.declared.words.WordsErr.TheVariants as Words
 use Rattle.ob_shell.proofs.CompleteLemmas.{reported_line, reported_quiet}
 use Rattle.ob_shell.proofs.TopLemmas.{shown_unread}
 use Rattle.ob_store.specs.State.{StoreState}
-use Rattle.ob_shell.specs.Words.{Faults, SinksRose}
+use Rattle.ob_shell.specs.Settings.{limit_of}
+use Rattle.ob_shell.specs.Words.{Faults, KeepsLimits, SinksRose}
 
 -- of an empty line all was written
 nothing_cut : (grown lost : List ℕ) → [] ≡ grown ++ lost → grown ≡ []
@@ -53,15 +54,15 @@ module _ {tally : Tally} {tr : TraceSink} {Takes : Type 0} {settings : Option Co
           reported_line ended.ending old mid new (last_line ended.ending) status takes shown_high cause refl l.cut (λ rises. rises) (none_of_it l.cut) l.empty l.later trace source
 
 -- the words were not read
-words_end : (error : WordsErr) {Takes : Type 0} → (error ≡ Words.Usage → ¬ Takes) → EndingWords (refused_by error) Takes
+pub words_end : (error : WordsErr) {Takes : Type 0} → (error ≡ Words.Usage → ¬ Takes) → EndingWords (refused_by error) Takes
 words_end Words.Usage not = not refl
 words_end Words.NoMemory not = tt
 
-words_cause : (error : WordsErr) (faults : Faults) → EndingCause (refused_by error) faults faults
+pub words_cause : (error : WordsErr) (faults : Faults) → EndingCause (refused_by error) faults faults
 words_cause Words.Usage faults = record { source = refl; out = refl; trace = refl }
 words_cause Words.NoMemory faults = (refl, refl, omega (arith))
 
-words_shown : (tally : Tally) (tr : TraceSink) (settings : Option Config) (error : WordsErr) (l : Option (List ℕ)) (gave : ℕ) (w : Option (List ℕ)) (s : StoreState) → IsFresh s → tr.new ≡ tr.old
+pub words_shown : (tally : Tally) (tr : TraceSink) (settings : Option Config) (error : WordsErr) (l : Option (List ℕ)) (gave : ℕ) (w : Option (List ℕ)) (s : StoreState) → IsFresh s → tr.new ≡ tr.old
     → Shown tally tr settings l l gave w w s s 0 (refused_by error) [] (SinkStopped (refused_by error))
 words_shown tally tr settings Words.Usage l gave w s fresh untraced = shown_unread tally tr settings l gave w s _ fresh untraced tt tt tt refl
 words_shown tally tr settings Words.NoMemory l gave w s fresh untraced = shown_unread tally tr settings l gave w s _ fresh untraced tt tt tt tt
@@ -75,7 +76,7 @@ reported_words tally tr {settings = settings} {gave = gave} {l = l} {w0 = w0} {s
     (words_shown tally tr settings error l gave w0 s fresh untraced) (words_cause error old) (λ loud. absurd (cc loud)) (λ loud. line) (λ loud. absurd (cc loud)) trace source
 
 -- the words were taken
-words_taken : (ending : Ending) {Takes : Type 0} → EndingWords ending ⊤ → Takes → EndingWords ending Takes
+pub words_taken : (ending : Ending) {Takes : Type 0} → EndingWords ending ⊤ → Takes → EndingWords ending Takes
 words_taken Usage not t = absurd (not tt)
 words_taken BadKey taken t = t
 words_taken (Ran (Ok refused)) taken t = t
@@ -85,16 +86,16 @@ words_taken (Ran (Err SinkFault)) taken t = t
 words_taken (Ran (Err NoMemory)) taken t = tt
 words_taken (Ran (Err InputLimit)) taken t = t
 
-pub reported_taken : {tally : Tally} {tr : TraceSink} {Takes : Type 0} {settings asked : Option Config} {gave : ℕ}
+unfoldable pub reported_taken : {tally : Tally} {tr : TraceSink} {Takes : Type 0} {settings asked : Option Config} {gave : ℕ}
     {l0 l1 w0 w1 : Option (List ℕ)} {s0 s1 : StoreState} {old new : Faults} {report : Report}
     → Takes → settings ≡ asked → Reported tally tr ⊤ asked l0 l1 gave w0 w1 s0 s1 old new report
     → Reported tally tr Takes settings l0 l1 gave w0 w1 s0 s1 old new report
 reported_taken {tally = tally} {tr = tr} {Takes = Takes} {gave = gave} {l0 = l0} {l1 = l1} {w0 = w0} {w1 = w1} {s0 = s0} {s1 = s1} {old = old} {new = new} {report = report} t is r =
-    subst (λ (o : Option Config). Reported tally tr Takes o l0 l1 gave w0 w1 s0 s1 old new report) (sym is) (record {
+    record {
       ending = r.ending;
       status = r.status;
       takes = words_taken r.ending r.takes t;
-      shown = r.shown;
+      shown = subst (λ (o : Option Config). Shown tally tr o l0 l1 gave w0 w1 s0 s1 report.high r.ending (last_line r.ending) (SinksRose old new)) (sym is) r.shown;
       cause = r.cause;
-      completes = λ taken. r.completes tt;
-    })
+      completes = λ taken input e keeps. r.completes tt input e (subst (λ (o : Option Config). KeepsLimits (limit_of o) input) is keeps);
+    }

@@ -14,7 +14,7 @@ use Rattle.ob_shell.specs.declared.top.Ending.TheVariants.{Usage, BadKey, Ran}
 use Rattle.ob_shell.specs.declared.top.Report.{Report}
 
 -- why it ends so
-because : (ending : Ending) (Takes : Type 0) (max : ℕ) (taken : List ℕ) (ended : Bool) (more : List (List ℕ)) (answers : List Answer) (part : List ℕ) (old new : Outside)
+pub because : (ending : Ending) (Takes : Type 0) (max : ℕ) (taken : List ℕ) (ended : Bool) (more : List (List ℕ)) (answers : List Answer) (part : List ℕ) (old new : Outside)
     → EndingWords ending Takes → EndingFlag ending answers → EndingSays ending max taken new.left ended more part → StatusCause ending old.faults new.faults
     → (IsHonest old.store new.store → EndsUntampered ending) → ((region place : ℕ) → ending ≡ Ran (Err (Tampered region place)) → EndsAtRead region place new.store.asked) → Because ending Takes max taken ended more answers part old new
 because Usage Takes max taken ended more answers part old new takes flag says cause honest read = (takes, says, cause)
@@ -26,7 +26,7 @@ because (Ran (Err SinkFault)) Takes max taken ended more answers part old new ta
 because (Ran (Err NoMemory)) Takes max taken ended more answers part old new takes flag says cause honest read = cause
 because (Ran (Err InputLimit)) Takes max taken ended more answers part old new takes flag says cause honest read = (takes, says, cause)
 
-pub headlined : {tally : Tally} (Takes : Type 0) (settings : Option Config) (tracing : Bool) (old new : Outside) (report : Report) → old.store.asked ≡ []
+unfoldable pub headlined : {tally : Tally} (Takes : Type 0) (settings : Option Config) (tracing : Bool) (old new : Outside) (report : Report) → old.store.asked ≡ []
     → Reported tally (sink_of tracing old.traced new.traced) Takes settings old.left new.left new.gave old.written new.written old.store new.store old.faults new.faults report
     → Traced tracing old.store.asked new.store.asked old.traced new.traced (SinksRose old.faults new.faults)
     → Headline Takes settings tracing old new report

@@ -1,3 +1,4 @@
+pub mod AsideLemmas
 pub mod CompleteLemmas
 pub mod FeedLemmas
 pub mod KeyLemmas

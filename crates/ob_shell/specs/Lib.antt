@@ -5,6 +5,7 @@ pub mod KeyLine
 pub mod Pushed
 pub mod Words
 pub mod Headline
+pub mod Generating
 pub mod Running
 pub mod Steps
 pub mod Tallies

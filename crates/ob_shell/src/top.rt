@@ -1,10 +1,12 @@
 //! The top calls.
-ghost use Rattle.std.specs.Prelude.{◌≡◌, ◌≢◌, ◌≤◌, ℕ, List, [], map, Ok, Err, Some, true, false, ⊤};
+ghost use Rattle.std.specs.Prelude.{◌≡◌, ◌≢◌, ◌≤◌, ℕ, List, [], map, Ok, Err, Some, None, true, false, ⊤};
 ghost use Rattle.std.specs.Prelude.{IfOk, MatchOption, string_bytes};
-ghost use Rattle.ob_shell.specs.Usage.{usage, is_traced};
+ghost use Rattle.ob_shell.specs.Usage.{usage, meddle_usage, is_traced};
 ghost use Rattle.ob_shell.specs.Settings.{AreWithin, IsTaken, settings_of};
 ghost use Rattle.ob_shell.specs.Closed.{LineWritten, Untouched, Unwritten, refused_by};
-ghost use Rattle.ob_shell.specs.Meddling.{Unserved, Meddled};
+ghost use Rattle.ob_shell.specs.Meddling.{Unserved};
+ghost use Rattle.ob_shell.specs.Generating.{MeddleRan, Summarized, asked_for};
+ghost use Rattle.ob_shell.specs.declared.words.Seed.{Seed};
 ghost use Rattle.ob_shell.specs.Feeding.{IsFedBy};
 ghost use Rattle.ob_shell.specs.KeyLine.{secret_of};
 ghost use Rattle.ob_shell.specs.Running.{IsQuiet, stop_of, StopCause};
@@ -20,6 +22,7 @@ ghost use Rattle.ob_shell.specs.Top.{EndingCause, RanAfter, Reported, Shown, sin
 ghost use Rattle.ob_shell.specs.Words.{SinksRose, faults_of, outside_of};
 
 use crate::feed::{Feed, Halt};
+use crate::generating::serve_generated;
 use crate::key::{FirstLine, read_key};
 use crate::session::{Halted, serve};
 use crate::words::{Words, WordsErr, read_meddle_words, read_words};
@@ -62,7 +65,7 @@ pub struct Ended {
     pub tally: Tally,
 }
 
-fn status_of(ending: Ending) -> u8
+pub(crate) fn status_of(ending: Ending) -> u8
     ensures { result ≡ Endings.status_of ending }
 {
     match ending {
@@ -181,7 +184,7 @@ fn serve_with<I: Source, O: Sink, T: Sink, S: BlockStore>(
 }
 
 // Reads the first line and serves the texts: all but the last line.
-fn run<I: Source, O: Sink, T: Sink, S: BlockStore>(
+pub(crate) fn run<I: Source, O: Sink, T: Sink, S: BlockStore>(
     alloc: Global,
     words: Words,
     input: &mut I,
@@ -221,7 +224,7 @@ fn run<I: Source, O: Sink, T: Sink, S: BlockStore>(
 }
 
 // Writes the last line, where it may be written, and reports.
-fn close<O: Sink>(ended: Ended, out: &mut O) -> Report
+pub(crate) fn close<O: Sink>(ended: Ended, out: &mut O) -> Report
     ensures status { result.status ≡ Endings.status_of ended.ending }
     ensures high { result.high ≡ ended.high }
     ensures quiet { ended.quiet ≡ true →
@@ -280,7 +283,8 @@ fn serve_over<I: Source, O: Sink, T: Sink, S: BlockStore>(
 }
 
 /// Serves the input over a store of which nothing was asked, and writes the answers and the last line, as the words set
-/// it; with `--trace` each access is traced. `words` leave out the program's name.
+/// it; with `--trace` each access is traced. With `--gen` the input isn't read, a generated text is served in its place,
+/// and its summary is written instead of the answers. `words` leave out the program's name.
 pub fn shell_top<I: Source, O: Sink, T: Sink, S: BlockStore>(
     alloc: Global,
     words: &[String],
@@ -290,9 +294,20 @@ pub fn shell_top<I: Source, O: Sink, T: Sink, S: BlockStore>(
     store: &mut S,
 ) -> Report
     requires fresh { (S.state store.old).asked ≡ [] }
-    ensures headline { Headline (IsTaken usage (map string_bytes words.now))
+    ensures headline { asked_for usage (map string_bytes words.now) ≡ None
+        → Headline (IsTaken usage (map string_bytes words.now))
         (settings_of usage (map string_bytes words.now))
         (is_traced usage (map string_bytes words.now))
+        (outside_of (I.left input.old) (I.gave input.old) (O.written out.old) (T.written trace.old)
+        (S.state store.old)
+        (faults_of (I.faults input.old) (O.faults out.old) (T.faults trace.old)))
+        (outside_of (I.left input.new) (I.gave input.new) (O.written out.new) (T.written trace.new)
+        (S.state store.new)
+        (faults_of (I.faults input.new) (O.faults out.new) (T.faults trace.new))) result }
+    ensures summary { (seed : Seed) → asked_for usage (map string_bytes words.now) ≡ Some seed
+        → Summarized (IsTaken usage (map string_bytes words.now))
+        (settings_of usage (map string_bytes words.now))
+        (is_traced usage (map string_bytes words.now)) seed
         (outside_of (I.left input.old) (I.gave input.old) (O.written out.old) (T.written trace.old)
         (S.state store.old)
         (faults_of (I.faults input.old) (O.faults out.old) (T.faults trace.old)))
@@ -304,7 +319,10 @@ pub fn shell_top<I: Source, O: Sink, T: Sink, S: BlockStore>(
 {
     match read_words(alloc, words) {
         Err(error) => refuse_words(error, out),
-        Ok(words) => serve_over(alloc, words, input, out, trace, store),
+        Ok(words) => match words.generated {
+            None => serve_over(alloc, words, input, out, trace, store),
+            Some(seed) => serve_generated(alloc, words, seed, out, trace, store),
+        },
     }
 }
 
@@ -322,7 +340,8 @@ pub fn meddle_top<I: Source, O: Sink, T: Sink>(
         (O.written out.old) (O.written out.new) (T.written trace.old) (T.written trace.new)
         (faults_of (I.faults input.old) (O.faults out.old) (T.faults trace.old))
         (faults_of (I.faults input.new) (O.faults out.new) (T.faults trace.new)) result.0)
-        (λ store. Meddled (map string_bytes words.now)
+        (λ store. MeddleRan (asked_for meddle_usage (map string_bytes words.now))
+        (map string_bytes words.now)
         (λ start. (outside_of (I.left input.old) (I.gave input.old) (O.written out.old)
         (T.written trace.old) start
         (faults_of (I.faults input.old) (O.faults out.old) (T.faults trace.old))))
@@ -334,8 +353,17 @@ pub fn meddle_top<I: Source, O: Sink, T: Sink>(
         Err(error) => (refuse_words(error, out), None),
         Ok(words) => {
             let mut store = MeddledStore::new(alloc, words.changes);
-            let report = serve_over(alloc, words.common, input, out, trace, &mut store);
-            (report, Some(store))
+            let words = words.common;
+            match words.generated {
+                None => {
+                    let report = serve_over(alloc, words, input, out, trace, &mut store);
+                    (report, Some(store))
+                }
+                Some(seed) => {
+                    let report = serve_generated(alloc, words, seed, out, trace, &mut store);
+                    (report, Some(store))
+                }
+            }
         }
     }
 }
