@@ -21,8 +21,8 @@ fn find(text: &[u8], mark: u8) -> Option<usize>
     text.iter().position(|b| *b == mark)
 }
 
-// A text before its first such mark, and after it, if it has one.
-fn parted(text: &[u8], mark: u8) -> (&[u8], Option<&[u8]>)
+/// A text before its first such mark, and after it, if it has one.
+pub fn parted(text: &[u8], mark: u8) -> (&[u8], Option<&[u8]>)
     ensures front { result.0.now ≡ front mark text.now }
     ensures none { IfNone result.1 (rest mark text.now ≡ None) }
     ensures some { IfSome result.1 (λ r. rest mark text.now ≡ Some r.now) }
@@ -54,8 +54,8 @@ fn number_from(most: u64, n: u64, digits: &[u8]) -> Option<u64>
     }
 }
 
-// A number in decimal without leading zeros, if it is at most `most`.
-fn number(most: u64, digits: &[u8]) -> Option<u64>
+/// A number in decimal, without a sign and without leading zeros, if it is at most `most`.
+pub fn number(most: u64, digits: &[u8]) -> Option<u64>
     ensures value { result ≡ number most digits.now }
     ensures within { IfSome result (λ m. m ≤ most) }
 {

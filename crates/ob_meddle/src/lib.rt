@@ -12,7 +12,7 @@ mod region;
 mod regions;
 mod store;
 
-pub use changes::{ChangesErr, parse_changes};
+pub use changes::{ChangesErr, number, parse_changes, parted};
 pub use laws::{changes_show, meddled_tells};
 pub use meddle::{Act, Meddle, Spot};
 pub use store::MeddledStore;

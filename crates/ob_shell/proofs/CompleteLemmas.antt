@@ -11,6 +11,7 @@ use Rattle.ob_shell.specs.Texts.{is_over, rest_of}
 use Rattle.ob_shell.specs.KeyLine.{line_max, has_lf, first_line, after_line, secret_of, LineTaken}
 use Rattle.ob_shell.specs.Settings.{limit_of}
 use Rattle.ob_shell.specs.Endings.{status_of, last_line, SinkStopped}
+use Rattle.ob_gen.specs.declared.tally.Tally.{Tally}
 use Rattle.ob_shell.specs.Top.{TraceSink, EndsUntampered, EndingSays, EndingWords, EndingCause, Shown, StatusCause, Reported}
 use Rattle.ob_shell.specs.declared.top.Report.{Report}
 use Rattle.ob_shell.specs.declared.top.Ending.{Ending}
@@ -69,8 +70,8 @@ limits_kept (Ran (Err InputLimit)) max taken rest ended more part t words k says
       | inr full ↦ let few = k.short in absurd (omega (arith, few, full, length-append taken rest))
     ]
 
-pub completes : {tr : TraceSink} {settings : Option Config} {gave : ℕ} {l0 l1 w0 w1 : Option (List ℕ)} {s0 s1 : StoreState} {high : ℕ} {ending : Ending} {line : List ℕ} {F Takes : Type 0} (old new : Faults) (input : List ℕ)
-    → Shown tr settings l0 l1 gave w0 w1 s0 s1 high ending line F → EndingWords ending Takes → StatusCause ending old new
+pub completes : {tally : Tally} {tr : TraceSink} {settings : Option Config} {gave : ℕ} {l0 l1 w0 w1 : Option (List ℕ)} {s0 s1 : StoreState} {high : ℕ} {ending : Ending} {line : List ℕ} {F Takes : Type 0} (old new : Faults) (input : List ℕ)
+    → Shown tally tr settings l0 l1 gave w0 w1 s0 s1 high ending line F → EndingWords ending Takes → StatusCause ending old new
     → Takes → l0 ≡ Some input → KeepsLimits (limit_of settings) input → ¬ Rises old.source new.source → ¬ SinksRose old new → IsCompleted (IsHonest s0 s1) ending
 completes {settings = settings} {l1 = l1} {s0 = s0} {s1 = s1} {ending = ending} old new input shown words cause t e k a c =
     go l1 shown.says (subst (λ (l : Option (List ℕ)). Consumes l l1 shown.taken) e shown.given)
@@ -82,13 +83,13 @@ completes {settings = settings} {l1 = l1} {s0 = s0} {s1 = s1} {ending = ending} 
         (λ honest. shown.carried.untampered honest)
 
 -- the last line was written, or cut by a sink's fault
-pub reported_line : {tr : TraceSink} {Takes : Type 0} {settings : Option Config} {report : Report} (ending : Ending) (old mid new : Faults)
+pub reported_line : {tally : Tally} {tr : TraceSink} {Takes : Type 0} {settings : Option Config} {report : Report} (ending : Ending) (old mid new : Faults)
     {gave : ℕ} {l0 l1 w0 w1 w2 : Option (List ℕ)} {s0 s1 : StoreState} {E : Type 0} (line : List ℕ)
     → report.status ≡ status_of ending → EndingWords ending Takes
-    → Shown tr settings l0 l1 gave w0 w1 s0 s1 report.high ending [] (SinkStopped ending) → EndingCause ending old mid
+    → Shown tally tr settings l0 l1 gave w0 w1 s0 s1 report.high ending [] (SinkStopped ending) → EndingCause ending old mid
     → line ≡ last_line ending → Cut w1 w2 E line → (E → Rises mid.out new.out) → (line ≡ [] → Appends w1 w2 line) → (line ≡ [] → new.out ≡ mid.out)
     → mid.out ≤ new.out → new.trace ≡ mid.trace → new.source ≡ mid.source
-    → Reported tr Takes settings l0 l1 gave w0 w2 s0 s1 old new report
+    → Reported tally tr Takes settings l0 l1 gave w0 w2 s0 s1 old new report
 reported_line ending old mid new line status takes shown cause is_line cut rose all none later trace source =
     let causes : StatusCause ending old new = status_cause ending old mid new cause later trace source (λ e. none (is_line ∙ e)) in
     record {
@@ -106,11 +107,11 @@ reported_line ending old mid new line status takes shown cause is_line cut rose 
     }
 
 -- no line may be written any more
-pub reported_quiet : {tr : TraceSink} {Takes : Type 0} {settings : Option Config} {report : Report} (ending : Ending) (old new : Faults)
+pub reported_quiet : {tally : Tally} {tr : TraceSink} {Takes : Type 0} {settings : Option Config} {report : Report} (ending : Ending) (old new : Faults)
     {gave : ℕ} {l0 l1 w0 w1 : Option (List ℕ)} {s0 s1 : StoreState}
     → report.status ≡ status_of ending → EndingWords ending Takes
-    → Shown tr settings l0 l1 gave w0 w1 s0 s1 report.high ending [] (SinkStopped ending) → EndingCause ending old new → SinksRose old new
-    → Reported tr Takes settings l0 l1 gave w0 w1 s0 s1 old new report
+    → Shown tally tr settings l0 l1 gave w0 w1 s0 s1 report.high ending [] (SinkStopped ending) → EndingCause ending old new → SinksRose old new
+    → Reported tally tr Takes settings l0 l1 gave w0 w1 s0 s1 old new report
 reported_quiet ending old new status takes shown cause rose =
     let causes : StatusCause ending old new = status_cause ending old new new cause (omega arith) refl refl (λ e. refl) in
     record {

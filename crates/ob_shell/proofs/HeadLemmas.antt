@@ -5,6 +5,7 @@ use Rattle.ob_base.specs.declared.config.Config.{Config}
 use Rattle.ob_base.specs.declared.refusal.Stop.TheVariants.{Tampered, SourceFault, SinkFault, NoMemory, InputLimit}
 use Rattle.ob_print.specs.Cuts.{Cut}
 use Rattle.ob_shell.specs.Headline.{Headline}
+use Rattle.ob_gen.specs.declared.tally.Tally.{Tally}
 use Rattle.ob_shell.specs.Top.{EndingFlag, EndingSays, EndingWords, EndsUntampered, Reported, StatusCause, sink_of}
 use Rattle.ob_shell.specs.Tracing.{Traced, traced}
 use Rattle.ob_shell.specs.Words.{Answer, Because, EndsAtRead, IsHonest, Outside, SinksRose}
@@ -13,7 +14,7 @@ use Rattle.ob_shell.specs.declared.top.Ending.TheVariants.{Usage, BadKey, Ran}
 use Rattle.ob_shell.specs.declared.top.Report.{Report}
 
 -- why it ends so
-because : (ending : Ending) (Takes : Type 0) (max : ℕ) (taken : List ℕ) (ended : Bool) (more : List (List ℕ)) (answers : List Answer) (part : List ℕ) (old new : Outside)
+pub because : (ending : Ending) (Takes : Type 0) (max : ℕ) (taken : List ℕ) (ended : Bool) (more : List (List ℕ)) (answers : List Answer) (part : List ℕ) (old new : Outside)
     → EndingWords ending Takes → EndingFlag ending answers → EndingSays ending max taken new.left ended more part → StatusCause ending old.faults new.faults
     → (IsHonest old.store new.store → EndsUntampered ending) → ((region place : ℕ) → ending ≡ Ran (Err (Tampered region place)) → EndsAtRead region place new.store.asked) → Because ending Takes max taken ended more answers part old new
 because Usage Takes max taken ended more answers part old new takes flag says cause honest read = (takes, says, cause)
@@ -25,8 +26,8 @@ because (Ran (Err SinkFault)) Takes max taken ended more answers part old new ta
 because (Ran (Err NoMemory)) Takes max taken ended more answers part old new takes flag says cause honest read = cause
 because (Ran (Err InputLimit)) Takes max taken ended more answers part old new takes flag says cause honest read = (takes, says, cause)
 
-pub headlined : (Takes : Type 0) (settings : Option Config) (tracing : Bool) (old new : Outside) (report : Report) → old.store.asked ≡ []
-    → Reported (sink_of tracing old.traced new.traced) Takes settings old.left new.left new.gave old.written new.written old.store new.store old.faults new.faults report
+unfoldable pub headlined : {tally : Tally} (Takes : Type 0) (settings : Option Config) (tracing : Bool) (old new : Outside) (report : Report) → old.store.asked ≡ []
+    → Reported tally (sink_of tracing old.traced new.traced) Takes settings old.left new.left new.gave old.written new.written old.store new.store old.faults new.faults report
     → Traced tracing old.store.asked new.store.asked old.traced new.traced (SinksRose old.faults new.faults)
     → Headline Takes settings tracing old new report
 headlined Takes settings tracing old new report fresh r traces =

@@ -1,9 +1,11 @@
+pub mod AsideLemmas
 pub mod CompleteLemmas
 pub mod FeedLemmas
 pub mod KeyLemmas
 pub mod RunLemmas
 pub mod ServeLemmas
 pub mod StepLemmas
+pub mod TallyLemmas
 pub mod TextLemmas
 pub mod PromptLemmas
 pub mod TopLemmas
@@ -25,4 +27,3 @@ pub mod MeddleLemmas
 pub mod RerunLemmas
 pub mod CutLemmas
 mod Spelt
-mod NumberLemmas

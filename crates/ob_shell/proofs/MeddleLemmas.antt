@@ -16,16 +16,20 @@ use Rattle.ob_meddle.proofs.ShowLemmas.{list_same, shows}
 use Rattle.ob_meddle.proofs.DueLemmas.{acted_later, all_later}
 use Rattle.ob_shell.specs.Endings.{status_of}
 use Rattle.ob_shell.specs.Failures.{RisesBy, failures}
+use Rattle.ob_shell.specs.Generating.{Aside, MeddleRan, MeddleSummarized}
 use Rattle.ob_shell.specs.Headline.{Headline}
 use Rattle.ob_shell.specs.Meddling.{Meddled, Undisturbed}
 use Rattle.ob_shell.specs.Settings.{MeddleParses, ParsesChanges, settings_of}
+use Rattle.ob_gen.specs.declared.tally.Tally.{Tally}
 use Rattle.ob_shell.specs.Top.{EndsUntampered, Reported, TraceSink, sink_of}
 use Rattle.ob_shell.specs.Tracing.{Traced}
 use Rattle.ob_shell.specs.Usage.{is_traced, meddle_usage}
-use Rattle.ob_shell.specs.Words.{Answer, Faults, IsHonest, SinksRose, outside_of}
+use Rattle.ob_shell.specs.Words.{Answer, Faults, IsHonest, Outside, SinksRose, faults_of, outside_of}
 use Rattle.ob_shell.specs.declared.top.Ending.{Ending}
 use Rattle.ob_shell.specs.declared.top.Ending.TheVariants.{Usage, BadKey, Ran}
 use Rattle.ob_shell.specs.declared.top.Report.{Report}
+use Rattle.ob_shell.specs.declared.words.Seed.{Seed}
+use Rattle.ob_shell.proofs.AsideLemmas.{with_source}
 use Rattle.ob_shell.proofs.CloseLemmas.{reported_taken}
 use Rattle.ob_shell.proofs.DisturbLemmas.{before_less}
 use Rattle.ob_shell.proofs.HeadLemmas.{headlined}
@@ -77,8 +81,8 @@ no_lie_by list s show none = go s.lie refl where
   go None is = is
   go (Some lie) is = absurd (cc (show.caused lie is, acted_later list (length lie.before + 1) (length s.asked) (omega (arith, show.asked lie is)) none))
 
-module _ {tr : TraceSink} {Takes : Type 0} {settings : Option Config} {gave : ℕ} {l0 l1 w0 w1 : Option (List ℕ)} {s0 s1 : StoreState} {old new : Faults} {report : Report}
-    (r : Reported tr Takes settings l0 l1 gave w0 w1 s0 s1 old new report) where
+module _ {tally : Tally} {tr : TraceSink} {Takes : Type 0} {settings : Option Config} {gave : ℕ} {l0 l1 w0 w1 : Option (List ℕ)} {s0 s1 : StoreState} {old new : Faults} {report : Report}
+    (r : Reported tally tr Takes settings l0 l1 gave w0 w1 s0 s1 old new report) where
   pub honest_status : IsHonest s0 s1 → report.status ≢ 4
   honest_status honest is = status_not r.ending (r.shown.carried.untampered honest) (sym r.status ∙ is)
 
@@ -91,16 +95,16 @@ module _ {tr : TraceSink} {Takes : Type 0} {settings : Option Config} {gave : �
         unfailed = none_rose _ s0.faults (subst (λ (n : ℕ). RisesBy (failures answers) s0.faults n) quiet.faults failed);
       }
 
-pub meddled : {words : List Text} {gave0 gave : ℕ} {l0 l1 w0 w1 t0 t1 : Option (List ℕ)} {old new : Faults} {report : Report}
+pub meddled : {tally : Tally} {words : List Text} {gave0 gave : ℕ} {l0 l1 w0 w1 t0 t1 : Option (List ℕ)} {old new : Faults} {report : Report}
     (m0 m1 : MeddledStore) (config : Config) (list : List Meddle) → ParsesChanges words config list → list_of m0 ≡ list → (state_of m0).asked ≡ []
-    → Reported (sink_of (is_traced meddle_usage words) t0 t1) ⊤ (Some config) l0 l1 gave w0 w1 (state_of m0) (state_of m1) old new report
+    → Reported tally (sink_of (is_traced meddle_usage words) t0 t1) ⊤ (Some config) l0 l1 gave w0 w1 (state_of m0) (state_of m1) old new report
     → Traced (is_traced meddle_usage words) (state_of m0).asked (state_of m1).asked t0 t1 (SinksRose old new)
     → Meddled words (λ start. outside_of l0 gave0 w0 t0 start old) (outside_of l1 gave w1 t1 (state_of m1) new) m1 report
-meddled {words = words} {gave0 = gave0} {gave = gave} {l0 = l0} {l1 = l1} {w0 = w0} {w1 = w1} {t0 = t0} {t1 = t1} {old = old} {new = new} {report = report} m0 m1 config list parses same none served traced =
+meddled {tally = tally} {words = words} {gave0 = gave0} {gave = gave} {l0 = l0} {l1 = l1} {w0 = w0} {w1 = w1} {t0 = t0} {t1 = t1} {old = old} {new = new} {report = report} m0 m1 config list parses same none served traced =
     let s0 = state_of m0 in
     let s1 = state_of m1 in
     let settings = settings_of meddle_usage words in
-    let r : Reported (sink_of (is_traced meddle_usage words) t0 t1) (MeddleParses words) settings l0 l1 gave w0 w1 s0 s1 old new report =
+    let r : Reported tally (sink_of (is_traced meddle_usage words) t0 t1) (MeddleParses words) settings l0 l1 gave w0 w1 s0 s1 old new report =
     reported_taken (config, list, parses) parses.settings.settings served in
     let later = r.shown.carried.later in
     let here = list_of m1 in
@@ -147,3 +151,27 @@ meddled {words = words} {gave0 = gave0} {gave = gave} {l0 = l0} {l1 = l1} {w0 = 
           omega (arith, rose, most, faults);
       tampered = λ is. acted_or_not (has_acted here (length s1.asked)) (λ no. honest_status r (record { tells = refl; no_lie = no_lie_by here s1 there no }) is);
     }
+
+-- the same over the generated text
+pub meddle_summarized : {words : List Text} {seed : Seed} {t0 t1 w0 w1 l : Option (List ℕ)} {gave trace0 trace1 out0 out1 : ℕ} {report : Report} (source : ℕ) (m0 m1 : MeddledStore) (config : Config) (list : List Meddle)
+    → ParsesChanges words config list → list_of m0 ≡ list → (state_of m0).asked ≡ []
+    → Aside seed (is_traced meddle_usage words) (Some config) t0 t1 (state_of m0) (state_of m1) trace0 trace1 w0 w1 out0 out1 report
+    → MeddleSummarized words seed (λ start. outside_of l gave w0 t0 start (faults_of source out0 trace0)) (outside_of l gave w1 t1 (state_of m1) (faults_of source out1 trace1)) m1 report
+unfolding meddled headlined reported_taken
+meddle_summarized {words = words} source m0 m1 config list parses same none a =
+    let takes : MeddleParses words = (config, list, parses) in
+    record {
+      run = a.run;
+      left = a.left;
+      gave = a.gave;
+      meddled = meddled m0 m1 config list parses same none a.reported a.traces;
+      unread = record { left = refl; gave = refl; source = refl };
+      tally = a.tally;
+      counted = (reported_taken takes parses.settings.settings a.reported).shown.counted;
+      concludes = with_source source a.concludes;
+    }
+
+-- by what the words ask for
+pub meddle_ran : (words : List Text) (asked wanted : Option Seed) (old : StoreState → Outside) (new : Outside) (store : MeddledStore) (report : Report) → asked ≡ wanted
+    → MeddleRan wanted words old new store report → MeddleRan asked words old new store report
+meddle_ran words asked wanted old new store report is ran = subst (λ (o : Option Seed). MeddleRan o words old new store report) (sym is) ran

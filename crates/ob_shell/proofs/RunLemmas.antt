@@ -18,11 +18,14 @@ use Rattle.ob_shell.specs.declared.session.Halted.{Halted}
 use Rattle.ob_shell.proofs.FeedLemmas.{Fed-none, Fed-then}
 use Rattle.ob_shell.proofs.TextLemmas.{rest_of-append, texts_of-append, rest_of-cons, texts_of-cons, rest_of-nil, texts_of-nil, rest_of-over, texts_of-over}
 use Rattle.ob_shell.proofs.PromptLemmas.{prompt_all, prompt_by}
-use Rattle.ob_shell.proofs.StepLemmas.{Steps-none, Steps-append, printed-append, printed-nil, any_refused-append, any_refused-nil, PartlyAt-none, PartlyAt-more}
+use Rattle.ob_shell.proofs.StepLemmas.{Steps-none, Steps-append, printed-append, printed-nil, PartlyAt-none, PartlyAt-more}
 use Rattle.ob_shell.proofs.TraceLemmas.{traced_then, traced_cut, traced_whole}
 use Rattle.std.proofs.lemmas.List.{append_cancel_left}
+use Rattle.ob_gen.specs.Tally.{empty_tally}
+use Rattle.ob_gen.specs.declared.tally.Tally.{Tally}
+use Rattle.ob_shell.proofs.TallyLemmas.{tally_after-nil, tally_more}
 use Rattle.ob_shell.specs.Endings.{IsSinkFault}
-use Rattle.ob_shell.specs.Words.{printed, any_refused, Took}
+use Rattle.ob_shell.specs.Words.{printed, Took}
 
 -- ---- what a sink took
 pub took_whole : {w0 w1 : Option (List ℕ)} {bytes : List ℕ} → Appends w0 w1 bytes → Took w0 w1 bytes
@@ -58,12 +61,12 @@ traces_more all cut = record { whole = λ asked is. took_more cut.cut.grown ((tr
 traces_same : {on : Bool} {t0 t1 : Option (List ℕ)} {a0 a1 a2 : List Access} → a2 ≡ a1 → Traces on t0 t1 a0 a1 → Traces on t0 t1 a0 a2
 traces_same same traces = record { whole = λ asked is. traces.whole asked (sym same ∙ is) }
 
-no_steps : {R : Type 0} {state : R → RevState} {w1 w2 : Option (List ℕ)} {r s : Bool} {m1 m2 : Machine R} → AnswersAll state w1 w2 [] r s m1 m2 → m2 ≡ m1
+no_steps : {R : Type 0} {state : R → RevState} {w1 w2 : Option (List ℕ)} {r s : Tally} {m1 m2 : Machine R} → AnswersAll state w1 w2 [] r s m1 m2 → m2 ≡ m1
 unfolding Steps
 no_steps all = all.steps.0
 
 -- ---- the session
-pub so_far_start : {R : Type 0} {state : R → RevState} (f : Fetch) (l w : Option (List ℕ)) (p : List ℕ) (m : Machine R) → p ≡ [] → SoFar state f f l l w w p false m m
+pub so_far_start : {R : Type 0} {state : R → RevState} (f : Fetch) (l w : Option (List ℕ)) (p : List ℕ) (m : Machine R) → p ≡ [] → SoFar state f f l l w w p empty_tally m m
 so_far_start {state = state} f l w p m e = record {
   passed = [];
   answers = [];
@@ -71,11 +74,11 @@ so_far_start {state = state} f l w p m e = record {
   pending_is = e ∙ sym (rest_of-nil []);
   steps = rw texts_of-nil (Steps-none state m);
   appends = rw printed-nil (Appends-nil w);
-  flag = sym any_refused-nil;
+  counted = sym (tally_after-nil empty_tally);
 }
 
 -- the source ended, or failed, with no further byte
-pub so_far_end : {R : Type 0} {state : R → RevState} {f0 f1 f2 : Fetch} {l0 l1 l2 w0 w1 : Option (List ℕ)} {pending : List ℕ} {r : Bool} {m0 m1 : Machine R}
+pub so_far_end : {R : Type 0} {state : R → RevState} {f0 f1 f2 : Fetch} {l0 l1 l2 w0 w1 : Option (List ℕ)} {pending : List ℕ} {r : Tally} {m0 m1 : Machine R}
     → SoFar state f0 f1 l0 l1 w0 w1 pending r m0 m1 → Fed f1 f2 l1 l2 [] → SoFar state f0 f2 l0 l2 w0 w1 pending r m0 m1
 so_far_end {f0 = f0} {f2 = f2} {l0 = l0} {l2 = l2} so fed = record {
   passed = so.passed;
@@ -84,11 +87,11 @@ so_far_end {f0 = f0} {f2 = f2} {l0 = l0} {l2 = l2} so fed = record {
   pending_is = so.pending_is;
   steps = so.steps;
   appends = so.appends;
-  flag = so.flag;
+  counted = so.counted;
 }
 
 -- one more byte, and the text that it ended
-pub so_far_turn : {R : Type 0} {state : R → RevState} {f0 f1 f2 : Fetch} {l0 l1 l2 w0 w1 w2 : Option (List ℕ)} {p p' : List ℕ} {r r' : Bool} {b : ℕ} {texts : List (List ℕ)} {m0 m1 m2 : Machine R}
+pub so_far_turn : {R : Type 0} {state : R → RevState} {f0 f1 f2 : Fetch} {l0 l1 l2 w0 w1 w2 : Option (List ℕ)} {p p' : List ℕ} {r r' : Tally} {b : ℕ} {texts : List (List ℕ)} {m0 m1 m2 : Machine R}
     → SoFar state f0 f1 l0 l1 w0 w1 p r m0 m1 → Fed f1 f2 l1 l2 (b ∷ []) → p' ≡ rest_after p b → texts ≡ texts_at p b
     → AnswersAll state w1 w2 texts r r' m1 m2 → SoFar state f0 f2 l0 l2 w0 w2 p' r' m0 m2
 so_far_turn {state = state} {w0 = w0} {w2 = w2} {p = p} {b = b} {texts = texts} {m0 = m0} {m2 = m2} so fed rest these now =
@@ -102,7 +105,7 @@ so_far_turn {state = state} {w0 = w0} {w2 = w2} {p = p} {b = b} {texts = texts} 
       pending_is = rest ∙ rw (rest_of-append, ← so.pending_is, rest_of-cons, rest_of-nil);
       steps = rw all (Steps-append state m0 _ m2 _ _ _ _ so.steps now.steps);
       appends = rw printed-append (Appends-trans _ _ _ _ _ so.appends now.appends);
-      flag = now.flag ∙ ap (λ (x : Bool). x || any_refused now.answers) so.flag ∙ sym (any_refused-append so.answers now.answers);
+      counted = tally_more empty_tally _ _ so.answers now.answers so.counted now.counted;
     }
 
 below_is_not_over : (p : List ℕ) → length p < text_max → is_over p ≡ false
@@ -112,7 +115,7 @@ pub at_limit_is_over : (new rest : List ℕ) → new ≡ rest → length new ≡
 at_limit_is_over new rest e h = rw (← e) (grind arith)
 
 -- it stopped at the source's fault or at a limit, with every text served that had come whole
-pub ran_halt : {R : Type 0} {state : R → RevState} {on : Bool} {t0 t2 : Option (List ℕ)} {f0 f2 : Fetch} {gave : ℕ} {l0 l2 w0 w2 : Option (List ℕ)} {p : List ℕ} {r : Bool} {m0 m1 : Machine R} (stop : Stop) → IsUntampered stop
+pub ran_halt : {R : Type 0} {state : R → RevState} {on : Bool} {t0 t2 : Option (List ℕ)} {f0 f2 : Fetch} {gave : ℕ} {l0 l2 w0 w2 : Option (List ℕ)} {p : List ℕ} {r : Tally} {m0 m1 : Machine R} (stop : Stop) → IsUntampered stop
     → (so : SoFar state f0 f2 l0 l2 w0 w2 p r m0 m1)
     → texts_of p f2.unread ≡ []
     → length f2.unread ≤ gave
@@ -139,7 +142,7 @@ ran_halt {state = state} {f0 = f0} {f2 = f2} {gave = gave} {w0 = w0} {w2 = w2} {
   cut = subst (λ (l : List ℕ). Cut w0 w2 (IsSinkFault stop) l) (sym (append-nil (printed so.answers))) (Cut-whole w0 w2 (IsSinkFault stop) (printed so.answers) so.appends);
   whole = took_whole so.appends;
   traced = traces;
-  flag = tt;
+  counted = tt;
   ends = subst (λ (l : List ℕ). EndsBy f2 false l [] [] (Err stop)) (sym so.fed.joined) ends;
 }
 
@@ -152,7 +155,7 @@ other_stop f ended bytes more part SourceFault x y = absurd (x refl)
 other_stop f ended bytes more part InputLimit x y = absurd (y refl)
 
 -- it stopped while it served the text that a byte had ended
-pub ran_stop : {R : Type 0} {state : R → RevState} {on : Bool} {t0 t2 : Option (List ℕ)} {f0 f1 f2 : Fetch} {gave : ℕ} {l0 l1 l2 w0 w1 w2 : Option (List ℕ)} {p : List ℕ} {r : Bool} {b : ℕ} {m0 m1 m2 : Machine R} (stop : Stop)
+pub ran_stop : {R : Type 0} {state : R → RevState} {on : Bool} {t0 t2 : Option (List ℕ)} {f0 f1 f2 : Fetch} {gave : ℕ} {l0 l1 l2 w0 w1 w2 : Option (List ℕ)} {p : List ℕ} {r : Tally} {b : ℕ} {m0 m1 m2 : Machine R} (stop : Stop)
     → SoFar state f0 f1 l0 l1 w0 w1 p r m0 m1 → Fed f1 f2 l1 l2 (b ∷ []) → length f2.unread < gave
     → StopsIn state w1 w2 (texts_at p b) stop m1 m2
     → (stop ≡ SourceFault → ⊥) → (stop ≡ InputLimit → ⊥) → Traces on t0 t2 m0.store.asked m1.store.asked
@@ -182,16 +185,16 @@ ran_stop {f0 = f0} {f2 = f2} {gave = gave} {w1 = w1} {p = p} {b = b} {m1 = m1} s
       cut = Cut-after _ so.appends st.cut;
       whole = took_then w1 st.cut.grown so.appends st.cut.appends;
       traced = traces;
-      flag = tt;
+      counted = tt;
       ends = other_stop f2 false _ _ _ stop no_fault no_limit;
     }
 
 -- the input ended, and the rest was served, too
-pub ran_done : {R : Type 0} {state : R → RevState} {on : Bool} {t0 t2 : Option (List ℕ)} {f0 f2 : Fetch} {gave : ℕ} {l0 l2 w0 w1 w2 : Option (List ℕ)} {p : List ℕ} {r : Bool} {m0 m1 m2 : Machine R} (flag : Bool)
+pub ran_done : {R : Type 0} {state : R → RevState} {on : Bool} {t0 t2 : Option (List ℕ)} {f0 f2 : Fetch} {gave : ℕ} {l0 l2 w0 w1 w2 : Option (List ℕ)} {p : List ℕ} {r : Tally} {m0 m1 m2 : Machine R} (tally : Tally)
     → SoFar state f0 f2 l0 l2 w0 w1 p r m0 m1 → f2.unread ≡ [] → IsAtEnd l2 → f2.taken < f2.limit → length p < text_max
-    → AnswersAll state w1 w2 (tail_text p) r flag m1 m2 → Traces on t0 t2 m0.store.asked m2.store.asked
-    → SessionRan state on f0 f2 l0 l2 gave w0 w2 t0 t2 m0 m2 (Ok flag)
-ran_done {state = state} {f0 = f0} {f2 = f2} {gave = gave} {w0 = w0} {w2 = w2} {p = p} {m0 = m0} {m2 = m2} flag so none at_end below short now traces =
+    → AnswersAll state w1 w2 (tail_text p) r tally m1 m2 → Traces on t0 t2 m0.store.asked m2.store.asked
+    → SessionRan state on f0 f2 l0 l2 gave w0 w2 t0 t2 m0 m2 (Ok tally)
+ran_done {state = state} {f0 = f0} {f2 = f2} {gave = gave} {w0 = w0} {w2 = w2} {p = p} {m0 = m0} {m2 = m2} tally so none at_end below short now traces =
     let bytes : f0.unread ++ so.fed.piece ≡ so.passed = so.fed.joined ∙ rw none (append-nil so.passed) in
     record {
       piece = so.fed.piece;
@@ -214,12 +217,12 @@ ran_done {state = state} {f0 = f0} {f2 = f2} {gave = gave} {w0 = w0} {w2 = w2} {
           (Cut-whole w0 w2 ⊥ _ (rw printed-append (Appends-trans _ _ _ _ _ so.appends now.appends)));
       whole = took_whole (rw printed-append (Appends-trans _ _ _ _ _ so.appends now.appends));
       traced = traces;
-      flag = now.flag ∙ ap (λ (x : Bool). x || any_refused now.answers) so.flag ∙ sym (any_refused-append so.answers now.answers);
+      counted = tally_more empty_tally _ _ so.answers now.answers so.counted now.counted;
       ends = (refl, refl, refl, rw (bytes, ← so.pending_is) (below_is_not_over p short), below);
     }
 
 -- the input ended, and it stopped while it served the rest
-pub ran_cut : {R : Type 0} {state : R → RevState} {on : Bool} {t0 t2 : Option (List ℕ)} {f0 f2 : Fetch} {gave : ℕ} {l0 l2 w0 w1 w2 : Option (List ℕ)} {p : List ℕ} {r : Bool} {m0 m1 m2 : Machine R} (stop : Stop)
+pub ran_cut : {R : Type 0} {state : R → RevState} {on : Bool} {t0 t2 : Option (List ℕ)} {f0 f2 : Fetch} {gave : ℕ} {l0 l2 w0 w1 w2 : Option (List ℕ)} {p : List ℕ} {r : Tally} {m0 m1 m2 : Machine R} (stop : Stop)
     → SoFar state f0 f2 l0 l2 w0 w1 p r m0 m1 → f2.unread ≡ [] → IsAtEnd l2
     → StopsIn state w1 w2 (tail_text p) stop m1 m2
     → (stop ≡ SourceFault → ⊥) → (stop ≡ InputLimit → ⊥) → Traces on t0 t2 m0.store.asked m1.store.asked
@@ -245,26 +248,26 @@ ran_cut {f0 = f0} {f2 = f2} {gave = gave} {w1 = w1} {p = p} {m1 = m1} stop so no
       cut = Cut-after _ so.appends st.cut;
       whole = took_then w1 st.cut.grown so.appends st.cut.appends;
       traced = traces;
-      flag = tt;
+      counted = tt;
       ends = other_stop f2 true _ _ _ stop no_fault no_limit;
     }
 
-pub ran_finish : {R : Type 0} {state : R → RevState} {on : Bool} {t0 t2 : Option (List ℕ)} {f0 f2 : Fetch} {gave : ℕ} {l0 l2 w0 w1 w2 : Option (List ℕ)} {p : List ℕ} {r : Bool} {m0 m1 m2 : Machine R} (result : Result Bool Halted)
+pub ran_finish : {R : Type 0} {state : R → RevState} {on : Bool} {t0 t2 : Option (List ℕ)} {f0 f2 : Fetch} {gave : ℕ} {l0 l2 w0 w1 w2 : Option (List ℕ)} {p : List ℕ} {r : Tally} {m0 m1 m2 : Machine R} (result : Result Tally Halted)
     → SoFar state f0 f2 l0 l2 w0 w1 p r m0 m1 → f2.unread ≡ [] → IsAtEnd l2 → f2.taken < f2.limit → length p < text_max
-    → IfOk result (λ flag. AnswersAll state w1 w2 (tail_text p) r flag m1 m2)
+    → IfOk result (λ tally. AnswersAll state w1 w2 (tail_text p) r tally m1 m2)
     → IfErr result (λ halted. StopsIn state w1 w2 (tail_text p) halted.stop m1 m2)
     → (stop_of result ≡ Err SourceFault → ⊥) → (stop_of result ≡ Err InputLimit → ⊥)
     → (t1 : Option (List ℕ)) → TracedAll on m0.store.asked m1.store.asked t0 t1 → OnOk result (TracedAll on m1.store.asked m2.store.asked t1 t2)
     → OnErr result (Traced on m1.store.asked m2.store.asked t1 t2 (IsQuiet result))
     → SessionRan state on f0 f2 l0 l2 gave w0 w2 t0 t2 m0 m2 (stop_of result)
-ran_finish (Ok flag) so none at_end below short answered stopped no_fault no_limit t1 before all cut =
-    ran_done flag so none at_end below short answered (traces_all (traced_then before all))
+ran_finish (Ok tally) so none at_end below short answered stopped no_fault no_limit t1 before all cut =
+    ran_done tally so none at_end below short answered (traces_all (traced_then before all))
 ran_finish (Err halted) so none at_end below short answered stopped no_fault no_limit t1 before all cut =
     ran_cut halted.stop so none at_end stopped
     (λ h. no_fault (rw h)) (λ h. no_limit (rw h)) (traces_more before cut)
 
 -- a byte brought a stop
-pub ran_turn : {R : Type 0} {state : R → RevState} {on : Bool} {t0 t2 : Option (List ℕ)} {f0 f1 f2 : Fetch} {gave : ℕ} {l0 l1 l2 w0 w1 w2 : Option (List ℕ)} {p : List ℕ} {r : Bool} {b : ℕ} {m0 m1 m2 : Machine R} (stop : Stop)
+pub ran_turn : {R : Type 0} {state : R → RevState} {on : Bool} {t0 t2 : Option (List ℕ)} {f0 f1 f2 : Fetch} {gave : ℕ} {l0 l1 l2 w0 w1 w2 : Option (List ℕ)} {p : List ℕ} {r : Tally} {b : ℕ} {m0 m1 m2 : Machine R} (stop : Stop)
     → SoFar state f0 f1 l0 l1 w0 w1 p r m0 m1 → Fed f1 f2 l1 l2 (b ∷ []) → length f2.unread < gave
     → StopsIn state w1 w2 (texts_at p b) stop m1 m2
     → (◌≡◌ {A = Result (Unit {0}) Stop} (Err stop) (Err SourceFault) → ⊥)
@@ -282,19 +285,19 @@ ran_turn {f2 = f2} {p = p} {b = b} {m1 = m1} {m2 = m2} InputLimit so fed late st
     (refl, refl, refl, inl (rw (rest_of-append, ← now.pending_is, rest_of-over (rest_after p b) f2.unread h.1) h.1))
     (traces_same (ap (λ (m : Machine _). m.store.asked) (no_steps h.2)) (traces_more before cut))
 
-pub ran_source_fault : {R : Type 0} {state : R → RevState} {on : Bool} {t0 t2 : Option (List ℕ)} {f0 f2 : Fetch} {gave : ℕ} {l0 l2 w0 w2 : Option (List ℕ)} {p : List ℕ} {r : Bool} {m0 m1 : Machine R}
+pub ran_source_fault : {R : Type 0} {state : R → RevState} {on : Bool} {t0 t2 : Option (List ℕ)} {f0 f2 : Fetch} {gave : ℕ} {l0 l2 w0 w2 : Option (List ℕ)} {p : List ℕ} {r : Tally} {m0 m1 : Machine R}
     → SoFar state f0 f2 l0 l2 w0 w2 p r m0 m1 → f2.unread ≡ [] → length p < text_max → TracedAll on m0.store.asked m1.store.asked t0 t2
     → SessionRan state on f0 f2 l0 l2 gave w0 w2 t0 t2 m0 m1 (Err SourceFault)
 ran_source_fault {p = p} so none short traced =
     ran_halt SourceFault tt so (rw none (texts_of-nil p)) (rw none (omega arith)) (refl, refl, refl, rw (none, append-nil, ← so.pending_is) (below_is_not_over p short)) (traces_all traced)
 
-pub ran_input_limit : {R : Type 0} {state : R → RevState} {on : Bool} {t0 t2 : Option (List ℕ)} {f0 f2 : Fetch} {gave : ℕ} {l0 l2 w0 w2 : Option (List ℕ)} {p : List ℕ} {r : Bool} {m0 m1 : Machine R}
+pub ran_input_limit : {R : Type 0} {state : R → RevState} {on : Bool} {t0 t2 : Option (List ℕ)} {f0 f2 : Fetch} {gave : ℕ} {l0 l2 w0 w2 : Option (List ℕ)} {p : List ℕ} {r : Tally} {m0 m1 : Machine R}
     → SoFar state f0 f2 l0 l2 w0 w2 p r m0 m1 → f2.unread ≡ [] → f2.taken ≡ f2.limit → TracedAll on m0.store.asked m1.store.asked t0 t2
     → SessionRan state on f0 f2 l0 l2 gave w0 w2 t0 t2 m0 m1 (Err InputLimit)
 ran_input_limit {p = p} so none full traced = ran_halt InputLimit tt so (rw none (texts_of-nil p)) (rw none (omega arith)) (refl, refl, refl, inr full) (traces_all traced)
 
 -- the trace of all that was asked, and then of what was asked until the end
-pub traced_by : {tracing : Bool} {a0 a1 a2 : List Access} {w0 w1 w2 : Option (List ℕ)} (result : Result Bool Halted) → TracedAll tracing a0 a1 w0 w1
+pub traced_by : {tracing : Bool} {a0 a1 a2 : List Access} {w0 w1 w2 : Option (List ℕ)} (result : Result Tally Halted) → TracedAll tracing a0 a1 w0 w1
     → OnOk result (TracedAll tracing a1 a2 w1 w2) → OnErr result (Traced tracing a1 a2 w1 w2 (IsQuiet result)) → Traced tracing a0 a2 w0 w2 (IsQuiet result)
 traced_by (Ok flag) p all stop = traced_whole ⊥ (traced_then p all)
 traced_by (Err halted) p all stop = traced_cut p stop

@@ -1,11 +1,12 @@
 -- What the engine was given and what it left.
-use Rattle.std.proofs.Common.{ℕ, List, [], ◌∷◌, Option, Result, Ok, Err, refl, sym, ◌⊎◌, inl, inr, append-nil}
+use Rattle.std.proofs.Common.{ℕ, List, [], ◌∷◌, Option, None, Result, Ok, Err, refl, sym, ◌⊎◌, inl, inr, append-nil}
 use Rattle.std.specs.Prelude.{IfOk, IfErr}
 use Rattle.std.proofs.KnownBytes.{Appends-nil}
 use Rattle.ob_base.specs.Events.{Event}
 use Rattle.ob_base.specs.declared.refusal.Stop.{Stop}
 use Rattle.ob_base.specs.declared.refusal.Refusal.TheVariants.{Syntax}
 use Rattle.ob_base.specs.declared.refusal.Stop.TheVariants.{InputLimit, NoMemory, SinkFault, SourceFault, Tampered}
+use Rattle.ob_exec.specs.Agreeing.{seen_of}
 use Rattle.ob_exec.specs.Serving.{EndsWithin, Serves}
 use Rattle.ob_exec.specs.declared.outcome.Outcome.{Outcome}
 use Rattle.ob_exec.specs.declared.outcome.Outcome.TheVariants.{Refused}
@@ -50,7 +51,7 @@ module _ {R E : Type 0} (state : R → RevState) (grew cut : E → E → List Ev
       (took : (events : List Event) → grew out_old out_new events → Printed w0 w1 events)
       (began : (events : List Event) → cut out_old out_new events → PrintedCut w0 w1 events) where
     -- the engine answered, and the sink took these events
-    pub answered_in : (result : Result Outcome Stop) → Called result → IfOk result (λ outcome. HasBody state w0 w1 text outcome m0 m1)
+    pub answered_in : (result : Result Outcome Stop) → Called result → IfOk result (λ outcome. HasBody state w0 w1 text outcome (seen_of m1.engine).plan m0 m1)
     answered_in (Err stop) serves = tt
     answered_in (Ok outcome) serves =
         let answer = serves.answered in
@@ -66,6 +67,7 @@ module _ {R E : Type 0} (state : R → RevState) (grew cut : E → E → List Ev
               emits = answer.emits;
               emitted = answer.told;
               printed = refl;
+              planned = refl;
             });
           };
         }
@@ -105,9 +107,9 @@ module _ {R E : Type 0} (state : R → RevState) (grew cut : E → E → List Ev
 
 -- a text that is no statement is answered by its line alone
 pub misspelt : {R : Type 0} (state : R → RevState) (w : Option (List ℕ)) (m : Machine R) (text : List ℕ) (at : ℕ) → Spells text (Err at)
-    → HasBody state w w text (Refused (Syntax at)) m m
+    → HasBody state w w text (Refused (Syntax at)) None m m
 misspelt state w m text at spells = record {
   body = [];
   appends = Appends-nil w;
-  step = record { done = inl (record { same = refl; at = at; spells = spells; refused = refl; line = refl }) };
+  step = record { done = inl (record { same = refl; at = at; spells = spells; refused = refl; line = refl; unplanned = refl }) };
 }

@@ -5,7 +5,7 @@ use Rattle.clap.specs.Words.{fault_of}
 use Rattle.clap.specs.declared.error.kind.ErrorKind.TheVariants as kind
 use Rattle.clap.proofs.OnLiterals.{clap_on_literals}
 use Rattle.ob_base.specs.declared.config.Plan.TheVariants.{Hash}
-use Rattle.ob_shell.specs.Settings.{fitted, number_in, plan_in, settings_of}
+use Rattle.ob_shell.specs.Settings.{fitted, generated_by, number_in, plan_in, seed_in, settings_of}
 use Rattle.ob_shell.specs.Usage.{Parses, meddle_usage, store_of, usage}
 
 -- ---- one value
@@ -49,6 +49,40 @@ room_enough = refl
 too_little : fitted 48 5 None 16 4096 ≡ None
 too_little = refl
 
+-- ---- what is generated
+least_seed : seed_in (Some (codes "0,1")) ≡ Some (Some (record { start = 0; rows = 1 }))
+least_seed = refl
+
+greatest_seed : seed_in (Some (codes "18446744073709551615,4096")) ≡ Some (Some (record { start = 18446744073709551615; rows = 4096 }))
+greatest_seed = refl
+
+none_generated : seed_in None ≡ Some None
+none_generated = refl
+
+no_rows : seed_in (Some (codes "0,0")) ≡ None
+no_rows = refl
+
+too_many_rows : seed_in (Some (codes "0,4097")) ≡ None
+too_many_rows = refl
+
+start_too_great : seed_in (Some (codes "18446744073709551616,1")) ≡ None
+start_too_great = refl
+
+start_alone : seed_in (Some (codes "0")) ≡ None
+start_alone = refl
+
+zero_before_start : seed_in (Some (codes "01,1")) ≡ None
+zero_before_start = refl
+
+sign_before_start : seed_in (Some (codes "-1,1")) ≡ None
+sign_before_start = refl
+
+zero_before_rows : seed_in (Some (codes "0,01")) ≡ None
+zero_before_rows = refl
+
+three_numbers : seed_in (Some (codes "0,1,2")) ≡ None
+three_numbers = refl
+
 -- ---- whole command lines
 no_words : settings_of usage [] ≡ Some (record { buffer = 64; depth = 5; pack = 1; plan = None; max_input = 1073741824 })
 unfolding clap_on_literals
@@ -70,6 +104,14 @@ they_parse = refl
 pack_is_too_great : settings_of usage (codes "--pack" ∷ codes "22" ∷ []) ≡ None
 unfolding clap_on_literals
 pack_is_too_great = refl
+
+generated : generated_by usage (codes "--gen" ∷ codes "0,1" ∷ []) ≡ Some (Some (record { start = 0; rows = 1 }))
+unfolding clap_on_literals
+generated = refl
+
+not_generated : generated_by meddle_usage [] ≡ Some None
+unfolding clap_on_literals
+not_generated = refl
 
 -- ---- what the command doesn't take
 help : fault_of usage (codes "--help" ∷ []) ≡ kind.DisplayHelp ∷ []

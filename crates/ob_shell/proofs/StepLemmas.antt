@@ -5,38 +5,21 @@ use Rattle.std.proofs.KnownBytes.{Appends-nil}
 use Rattle.ob_base.specs.declared.refusal.Stop.{Stop}
 use Rattle.ob_vault.specs.State.{RevState}
 use Rattle.ob_print.proofs.CutLemmas.{Cut-whole}
-use Rattle.ob_shell.specs.Closing.{is_refused}
+use Rattle.ob_gen.specs.declared.tally.Tally.{Tally}
+use Rattle.ob_shell.specs.Tallies.{tally_with}
+use Rattle.ob_shell.proofs.TallyLemmas.{tally_after-nil, tally_after-one}
 use Rattle.ob_shell.specs.Steps.{Machine, Step, Steps, Idle, IsUntampered, PartlyAt, AnswersAll, StopsIn}
-use Rattle.ob_shell.specs.Words.{Answer, printed, any_refused}
+use Rattle.ob_shell.specs.Words.{Answer, printed}
 use Rattle.ob_shell.specs.Endings.{IsSinkFault}
-
-pub or_false : (a : Bool) → (a || false) ≡ a
-or_false true = refl
-or_false false = refl
-
-pub or_assoc : (a b c : Bool) → ((a || b) || c) ≡ (a || (b || c))
-or_assoc true b c = refl
-or_assoc false b c = refl
 
 pub printed-append : (xs ys : List Answer) → printed (xs ++ ys) ≡ printed xs ++ printed ys
 unfolding printed
 printed-append [] ys = refl
 printed-append (x ∷ xs) ys = ap (λ (l : List ℕ). x.bytes ++ l) (printed-append xs ys) ∙ sym (append_assoc x.bytes (printed xs) (printed ys))
 
-pub any_refused-append : (xs ys : List Answer) → any_refused (xs ++ ys) ≡ (any_refused xs || any_refused ys)
-unfolding any_refused
-any_refused-append [] ys = refl
-any_refused-append (x ∷ xs) ys =
-    ap (λ (b : Bool). is_refused x.outcome || b) (any_refused-append xs ys)
-    ∙ sym (or_assoc (is_refused x.outcome) (any_refused xs) (any_refused ys))
-
 pub printed-nil : printed [] ≡ []
 unfolding printed
 printed-nil = refl
-
-pub any_refused-nil : any_refused [] ≡ false
-unfolding any_refused
-any_refused-nil = refl
 
 pub Steps-none : {R : Type 0} (state : R → RevState) (m : Machine R) → Steps state m m [] []
 unfolding Steps
@@ -56,12 +39,12 @@ Steps-append state m0 m1 m2 (t ∷ ts) us xs ys p q = (
   Steps-append state p.0 m1 m2 ts us p.2 ys p.5 q,
 )
 
-pub answers_none : {R : Type 0} {state : R → RevState} (w : Option (List ℕ)) (r : Bool) (m : Machine R) → AnswersAll state w w [] r r m m
-answers_none {state = state} w r m = record {
+pub answers_none : {R : Type 0} {state : R → RevState} (w : Option (List ℕ)) (t : Tally) (m : Machine R) → AnswersAll state w w [] t t m m
+answers_none {state = state} w t m = record {
   answers = [];
   steps = Steps-none state m;
   appends = rw printed-nil (Appends-nil w);
-  flag = rw any_refused-nil (sym (or_false r));
+  counted = sym (tally_after-nil t);
 }
 
 one_step : {R : Type 0} {state : R → RevState} (m0 m1 : Machine R) (text : List ℕ) (answer : Answer) → Step state m0 m1 text answer → Steps state m0 m1 (text ∷ []) (answer ∷ [])
@@ -72,18 +55,14 @@ printed_one : (answer : Answer) → printed (answer ∷ []) ≡ answer.bytes
 unfolding printed
 printed_one answer = append-nil answer.bytes
 
-refused_one : (answer : Answer) → any_refused (answer ∷ []) ≡ is_refused answer.outcome
-unfolding any_refused
-refused_one answer = or_false (is_refused answer.outcome)
-
-pub answers_one : {R : Type 0} {state : R → RevState} {w0 w1 : Option (List ℕ)} {m0 m1 : Machine R} (text : List ℕ) (r : Bool) (answer : Answer)
+pub answers_one : {R : Type 0} {state : R → RevState} {w0 w1 : Option (List ℕ)} {m0 m1 : Machine R} (text : List ℕ) (t : Tally) (answer : Answer)
     → Step state m0 m1 text answer → Appends w0 w1 answer.bytes
-    → AnswersAll state w0 w1 (text ∷ []) r (r || is_refused answer.outcome) m0 m1
-answers_one text r answer step bytes = record {
+    → AnswersAll state w0 w1 (text ∷ []) t (tally_with t answer.outcome answer.plan) m0 m1
+answers_one text t answer step bytes = record {
   answers = answer ∷ [];
   steps = one_step _ _ text answer step;
   appends = rw (printed_one answer) bytes;
-  flag = ap (λ (b : Bool). r || b) (sym (refused_one answer));
+  counted = sym (tally_after-one t answer);
 }
 
 pub PartlyAt-none : {R : Type 0} (state : R → RevState) (m : Machine R) (texts : List (List ℕ)) (stop : Stop) → IsUntampered stop → PartlyAt state m m texts stop []
@@ -118,7 +97,7 @@ only_answer {R = R} state m0 m1 text answers p = record {
 }
 
 -- the whole answer was taken, and the stop came after it
-pub stops_after : {R : Type 0} {state : R → RevState} {w0 w1 : Option (List ℕ)} {text : List ℕ} {r0 r1 : Bool} {m0 m1 : Machine R} (stop : Stop) → IsSinkFault stop
+pub stops_after : {R : Type 0} {state : R → RevState} {w0 w1 : Option (List ℕ)} {text : List ℕ} {r0 r1 : Tally} {m0 m1 : Machine R} (stop : Stop) → IsSinkFault stop
     → AnswersAll state w0 w1 (text ∷ []) r0 r1 m0 m1 → StopsIn state w0 w1 (text ∷ []) stop m0 m1
 stops_after {state = state} {text = text} {m0 = m0} {m1 = m1} stop fault all =
     let one = only_answer state m0 m1 text all.answers all.steps in

@@ -1,6 +1,7 @@
 -- The whole run, from its first line and its session.
 use Rattle.std.proofs.Common.{◌≡◌, ◌≢◌, ℕ, ◌-◌, ◌≤◌, ◌==◌, min, Bool, true, false, List, [], ◌∷◌, ◌++◌, length, take, Option, Some, IsTrue, Ok, Err, Result, refl, sym, ap, ◌∙◌, subst, inl, inr, arith, append-nil, length-append}
 use Rattle.std.specs.List.{list_any}
+use Rattle.std.specs.Prelude.{IfOk}
 use Rattle.std.specs.Io.KnownBytes.{Appends}
 use Rattle.std.proofs.KnownBytes.{Appends-nil, Appends-trans, Consumes-trans, Consumes-nil}
 use Rattle.ob_base.specs.Accesses.{nth_write}
@@ -35,7 +36,9 @@ use Rattle.ob_shell.specs.Steps.{Machine, machine_of, session_of}
 use Rattle.ob_shell.specs.Running.{SessionRan, EndsBy, LastPart}
 use Rattle.ob_shell.specs.Endings.{last_line, SinkFailed, SinkStopped}
 use Rattle.ob_shell.specs.Settings.{limit_of, public_by}
-use Rattle.ob_shell.specs.Top.{EndsUntampered, IsFresh, TraceSink, RanSays, EndingSays, EndingWords, Carried, Shown, RanAfter, EndingCause, EndingFlag, StatusCause}
+use Rattle.ob_gen.specs.declared.tally.Tally.{Tally}
+use Rattle.ob_shell.specs.Tallies.{flagged, tally_of}
+use Rattle.ob_shell.specs.Top.{EndingTally, EndsUntampered, IsFresh, TraceSink, RanSays, EndingSays, EndingWords, Carried, Shown, RanAfter, EndingCause, EndingFlag, StatusCause}
 use Rattle.ob_shell.specs.Tracing.{traced}
 use Rattle.ob_shell.specs.Words.{Answers, AreSeen, Begins, EndsAtRead, Faults, HasSecret, IsSealed, IsSealedAt, SinksRose, SpellFirst, Took, any_cut, before_read, printed, start}
 use Rattle.ob_shell.specs.declared.feed.Halt.{Halt}
@@ -51,7 +54,8 @@ use Rattle.ob_shell.proofs.LastingLemmas.{HasSizes, steps_sizes, last_rows, step
 use Rattle.ob_shell.proofs.DisturbLemmas.{take_begins}
 use Rattle.ob_shell.proofs.PromptLemmas.{prompt_all, prompt_behind, prompt_line}
 use Rattle.ob_shell.proofs.RunLemmas.{took_more, took_of, took_whole}
-use Rattle.ob_shell.proofs.StepLemmas.{printed-nil, any_refused-nil}
+use Rattle.ob_shell.proofs.StepLemmas.{printed-nil}
+use Rattle.ob_shell.proofs.TallyLemmas.{any_refused-nil, flag_by, tally_by}
 use Rattle.ob_shell.proofs.TraceLemmas.{traced-nil}
 use Rattle.ob_shell.proofs.WalkLemmas.{Walked, walked, walked_last}
 use Rattle.ob_shell.proofs.KeyLemmas.{after_line-none, has_lf-nil}
@@ -131,7 +135,7 @@ no_bytes w = rw printed-nil (Cut-whole w w ⊥ [] (Appends-nil w))
 piece_is : {f0 f1 : Fetch} {l0 l1 : Option (List ℕ)} {xs : List ℕ} (fed : Fed f0 f1 l0 l1 xs) → f0.unread ≡ [] → fed.piece ≡ xs ++ f1.unread
 piece_is {f1 = f1} {xs = xs} fed none = subst (λ (u : List ℕ). u ++ fed.piece ≡ xs ++ f1.unread) none fed.joined
 
-module _ (tr : TraceSink) (untraced : tr.new ≡ tr.old) (settings : Option Config) (f0 f1 : Fetch) (none : f0.unread ≡ [])
+module _ (tally : Tally) (tr : TraceSink) (untraced : tr.new ≡ tr.old) (settings : Option Config) (f0 f1 : Fetch) (none : f0.unread ≡ [])
     (start : f0.taken ≡ 0) (top : f0.limit ≡ limit_of settings) (below : f1.taken ≤ f1.limit) {gave : ℕ} (by : IsFedBy f1 gave) where
   piece_within : {l0 l1 : Option (List ℕ)} {xs : List ℕ} (fed : Fed f0 f1 l0 l1 xs) → length fed.piece ≤ limit_of settings
   piece_within fed = omega (arith, fed.taken, fed.limit)
@@ -148,7 +152,7 @@ module _ (tr : TraceSink) (untraced : tr.new ≡ tr.old) (settings : Option Conf
       prompt_line gave fed.piece [] (omega (arith, late, same, ahead))
 
   pub shown_source_fault : {l0 l1 : Option (List ℕ)} (w : Option (List ℕ)) (s : StoreState) → IsFresh s
-      → KeyRead f0 f1 l0 l1 (Err Halt.SourceFault) → Shown tr settings l0 l1 gave w w s s 0 (RanEnding (Err SourceFault)) [] ⊥
+      → KeyRead f0 f1 l0 l1 (Err Halt.SourceFault) → Shown tally tr settings l0 l1 gave w w s s 0 (RanEnding (Err SourceFault)) [] ⊥
   shown_source_fault w s fresh read =
       let e = piece_is read.fed none in
       let ends = rw (← e) at read.ends in
@@ -171,11 +175,12 @@ module _ (tr : TraceSink) (untraced : tr.new ≡ tr.old) (settings : Option Conf
         whole = took_none w;
         through = λ not. took_nothing w;
         flag = tt;
+        counted = tt;
         says = record { line = inr (ends.0, ends.1); cut = refl; all = record { no_more = refl; no_part = refl }; short = rw after nothing_over };
       }
 
   pub shown_bad_key : {l0 l1 : Option (List ℕ)} (w : Option (List ℕ)) (s : StoreState) → IsFresh s
-      → KeyRead f0 f1 l0 l1 (Ok Bad) → Shown tr settings l0 l1 gave w w s s 0 BadKey [] ⊥
+      → KeyRead f0 f1 l0 l1 (Ok Bad) → Shown tally tr settings l0 l1 gave w w s s 0 BadKey [] ⊥
   shown_bad_key w s fresh read =
       let e = piece_is read.fed none in
       let ends = rw (← e) at read.ends in
@@ -197,12 +202,13 @@ module _ (tr : TraceSink) (untraced : tr.new ≡ tr.old) (settings : Option Conf
         whole = took_none w;
         through = λ not. took_nothing w;
         flag = tt;
+        counted = tt;
         says = ends;
       }
 
-  pub shown_last : {l0 l1 : Option (List ℕ)} (key : List ℕ) (w : Option (List ℕ)) (s : StoreState) → IsFresh s
-      → KeyRead f0 f1 l0 l1 (Ok (Last key)) → Shown tr settings l0 l1 gave w w s s 0 (RanEnding (Ok false)) [] ⊥
-  shown_last key w s fresh read =
+  pub shown_last : tally ≡ tally_of [] → {l0 l1 : Option (List ℕ)} (key : List ℕ) (w : Option (List ℕ)) (s : StoreState) → IsFresh s
+      → KeyRead f0 f1 l0 l1 (Ok (Last key)) → Shown tally tr settings l0 l1 gave w w s s 0 (RanEnding (Ok false)) [] ⊥
+  shown_last blank key w s fresh read =
       let e = piece_is read.fed none in
       let ends = rw (← e) at read.ends in
       record {
@@ -223,6 +229,7 @@ module _ (tr : TraceSink) (untraced : tr.new ≡ tr.old) (settings : Option Conf
         whole = took_none w;
         through = λ not. took_nothing w;
         flag = sym any_refused-nil;
+        counted = blank;
         says = record {
           secret = rw ends.0;
           whole = refl;
@@ -255,7 +262,7 @@ ran_nothing tr settings secret f l gave w s fresh untraced late = record {
   carried = unstarted tr settings secret s _ _ fresh untraced tt;
   cut = rw printed-nil (Cut-whole w w ⊥ [] (Appends-nil w));
   whole = took_none w;
-  flag = tt;
+  counted = tt;
   ends = tt;
 }
 
@@ -310,10 +317,13 @@ last_read state m1 m2 (text ∷ more) part region place (inr (inl cut)) = record
 last_read state m1 m2 (text ∷ more) part region place (inr (inr done)) = absurd done.fault
 
 -- a session over an engine that was just started
-module _ {R : Type 0} {state : R → RevState} (config : Config) (key : List ℕ) (first last : Engine R) (high : ℕ) (result : Result Bool Stop) (s0 s1 : StoreState)
+module _ {R : Type 0} {state : R → RevState} (config : Config) (key : List ℕ) (first last : Engine R) (high : ℕ) (told : Result Tally Stop) (s0 s1 : StoreState)
     (fresh : public_of first ≡ public_by config) (keyed : first.vault.keys ≡ keys_of key) (rows : rows_of first ≡ config.buffer) (blank : IsFresh s0) (steady : IsSteady s0)
     (most : high ≤ rows_of last) (opened : high ≡ high_of last)
-    (tr : TraceSink) (f0 f1 : Fetch) (l0 l1 : Option (List ℕ)) (gave : ℕ) (w0 w1 : Option (List ℕ)) (ran : SessionRan state tr.on f0 f1 l0 l1 gave w0 w1 tr.old tr.new (machine_of first s0) (machine_of last s1) result) where
+    (tr : TraceSink) (f0 f1 : Fetch) (l0 l1 : Option (List ℕ)) (gave : ℕ) (w0 w1 : Option (List ℕ)) (ran : SessionRan state tr.on f0 f1 l0 l1 gave w0 w1 tr.old tr.new (machine_of first s0) (machine_of last s1) told) where
+  abbrev result : Result Bool Stop
+  result = flagged told
+
   abbrev m0 : Machine R
   m0 = machine_of first s0
 
@@ -397,7 +407,7 @@ module _ {R : Type 0} {state : R → RevState} (config : Config) (key : List ℕ
         };
   }
 
-  pub ran_after : RanAfter tr (Some config) (Some key) f0 f1 l0 l1 gave w0 w1 s0 s1 high result
+  pub ran_after : RanAfter tr (Some config) (Some key) f0 f1 l0 l1 gave w0 w1 s0 s1 high told
   ran_after = record {
     piece = ran.piece;
     consumed = ran.consumed;
@@ -414,7 +424,7 @@ module _ {R : Type 0} {state : R → RevState} (config : Config) (key : List ℕ
     carried = carried_by;
     cut = ran.cut;
     whole = ran.whole;
-    flag = ran.flag;
+    counted = ran.counted;
     ends = ran.ends;
   }
 
@@ -444,11 +454,12 @@ says_of (Err InputLimit) f max taken ended more part h n top e = record {
   limit = elim e.3 [ inl over ↦ inl over | inr full ↦ inr (n ∙ full ∙ top) ];
 }
 
-pub shown_ran : {tr : TraceSink} (settings : Option Config) {f0 f1 f2 : Fetch} {gave : ℕ} {l0 l1 l2 w0 w2 : Option (List ℕ)} {s0 s2 : StoreState} {high : ℕ} (key : List ℕ) (result : Result Bool Stop)
+pub shown_ran : {tally : Tally} {tr : TraceSink} (settings : Option Config) {f0 f1 f2 : Fetch} {gave : ℕ} {l0 l1 l2 w0 w2 : Option (List ℕ)} {s0 s2 : StoreState} {high : ℕ} (key : List ℕ) (result : Result Tally Stop)
     → f0.unread ≡ [] → f0.taken ≡ 0 → f0.limit ≡ limit_of settings → f2.taken ≤ f2.limit → IsFedBy f2 gave
     → KeyRead f0 f1 l0 l1 (Ok (Secret key)) → RanAfter tr settings (Some key) f1 f2 l1 l2 gave w0 w2 s0 s2 high result
-    → Shown tr settings l0 l2 gave w0 w2 s0 s2 high (RanEnding result) [] (SinkFailed result)
-shown_ran settings {f1 = f1} {f2 = f2} {gave = gave} {l2 = l2} {w0 = w0} {w2 = w2} {s0 = s0} {s2 = s2} {high = high} key result none start top below by read ran =
+    → IfOk result (λ t. tally ≡ t)
+    → Shown tally tr settings l0 l2 gave w0 w2 s0 s2 high (RanEnding (flagged result)) [] (SinkFailed (flagged result))
+shown_ran {tally = tally} settings {f1 = f1} {f2 = f2} {gave = gave} {l2 = l2} {w0 = w0} {w2 = w2} {s0 = s0} {s2 = s2} {high = high} key result none start top below by read ran told =
     let e = piece_is read.fed none in
     let ends = rw (← e) at read.ends in
     let after : after_line (read.fed.piece ++ ran.piece) ≡ f1.unread ++ ran.piece =
@@ -473,21 +484,22 @@ shown_ran settings {f1 = f1} {f2 = f2} {gave = gave} {l2 = l2} {w0 = w0} {w2 = w
       answers = ran.answers;
       part = ran.part;
       carried = rw line ran.carried;
-      grew = subst (λ (l : List ℕ). Cut w0 w2 (SinkFailed result) l) (sym (append-nil (printed ran.answers ++ ran.part))) ran.cut;
+      grew = subst (λ (l : List ℕ). Cut w0 w2 (SinkFailed (flagged result)) l) (sym (append-nil (printed ran.answers ++ ran.part))) ran.cut;
       whole = ran.whole;
       through = λ not. took_of ran.cut not;
-      flag = ran.flag;
+      flag = flag_by result ran.answers ran.counted;
+      counted = tally_by result ran.answers tally ran.counted told;
       says =
-          says_of result f2 (limit_of settings) _ ran.ended ran.more ran.part secret count limit
-          (subst (λ (l : List ℕ). EndsBy f2 ran.ended l ran.more ran.part result) (sym after) ran.ends);
+          says_of (flagged result) f2 (limit_of settings) _ ran.ended ran.more ran.part secret count limit
+          (subst (λ (l : List ℕ). EndsBy f2 ran.ended l ran.more ran.part (flagged result)) (sym after) ran.ends);
     }
 
 -- ---- before the input is read
 
 -- nothing was read
-pub shown_unread : (tr : TraceSink) (settings : Option Config) (l : Option (List ℕ)) (gave : ℕ) (w : Option (List ℕ)) (s : StoreState) (ending : Ending) → IsFresh s → tr.new ≡ tr.old → EndsUntampered ending → EndingFlag ending []
-    → EndingSays ending (limit_of settings) [] l false (texts_of [] (after_line [])) [] → Shown tr settings l l gave w w s s 0 ending [] ⊥
-shown_unread tr settings l gave w s ending fresh untraced untampered flag says = record {
+pub shown_unread : (tally : Tally) (tr : TraceSink) (settings : Option Config) (l : Option (List ℕ)) (gave : ℕ) (w : Option (List ℕ)) (s : StoreState) (ending : Ending) → IsFresh s → tr.new ≡ tr.old → EndsUntampered ending → EndingFlag ending [] → EndingTally ending [] tally
+    → EndingSays ending (limit_of settings) [] l false (texts_of [] (after_line [])) [] → Shown tally tr settings l l gave w w s s 0 ending [] ⊥
+shown_unread tally tr settings l gave w s ending fresh untraced untampered flag counted says = record {
   taken = [];
   given = Consumes-nil l;
   within = omega arith;
@@ -505,6 +517,7 @@ shown_unread tr settings l gave w s ending fresh untraced untampered flag says =
   whole = took_none w;
   through = λ not. took_nothing w;
   flag = flag;
+  counted = counted;
   says = says;
 }
 
@@ -591,9 +604,9 @@ pub quiet_line : {w0 w1 : Option (List ℕ)} {F G : Type 0} (bytes line : List �
 quiet_line {w0 = w0} {w1 = w1} {F = F} bytes line c g =
     Cut-more line (Cut-fault g (subst (λ (l : List ℕ). Cut w0 w1 F l) (append-nil bytes) c)) g
 
-pub shown_line : {tr : TraceSink} {settings : Option Config} {gave : ℕ} {l0 l1 w0 w1 w2 : Option (List ℕ)} {s0 s1 : StoreState} {high : ℕ} {ending : Ending} {line line' : List ℕ} {F H : Type 0}
-    (more : List ℕ) → (shown : Shown tr settings l0 l1 gave w0 w1 s0 s1 high ending line F) → Appends w1 w2 more → Cut w0 w2 H ((printed shown.answers ++ shown.part) ++ line')
-    → Shown tr settings l0 l1 gave w0 w2 s0 s1 high ending line' H
+pub shown_line : {tally : Tally} {tr : TraceSink} {settings : Option Config} {gave : ℕ} {l0 l1 w0 w1 w2 : Option (List ℕ)} {s0 s1 : StoreState} {high : ℕ} {ending : Ending} {line line' : List ℕ} {F H : Type 0}
+    (more : List ℕ) → (shown : Shown tally tr settings l0 l1 gave w0 w1 s0 s1 high ending line F) → Appends w1 w2 more → Cut w0 w2 H ((printed shown.answers ++ shown.part) ++ line')
+    → Shown tally tr settings l0 l1 gave w0 w2 s0 s1 high ending line' H
 shown_line more shown after cut = record {
   taken = shown.taken;
   given = shown.given;
@@ -612,5 +625,6 @@ shown_line more shown after cut = record {
   whole = took_more more shown.whole after;
   through = λ not. took_more more (shown.through not) after;
   flag = shown.flag;
+  counted = shown.counted;
   says = shown.says;
 }

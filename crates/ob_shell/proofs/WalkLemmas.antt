@@ -70,16 +70,17 @@ same_by o old new end n cause ends not =
 -- ---- what an answer says of its statement
 says : (early : Option Refusal) (p : Public) (stmt : Stmt) (answer : Answer) (here : Seen) (events : List Event) → RefusedEarly early (Ok answer.outcome) here
     → Emits stmt (answer_labels stmt p) answer.outcome events → answer.bytes ≡ events_text events ++ closing_line answer.outcome → is_cut here.end ≡ is_fault answer.outcome
-    → Says early p stmt answer
+    → answer.plan ≡ here.plan → Says early p stmt answer
 unfolding events_text
-says None p stmt answer here events refused emits bytes same = record { events = events; emits = emits; bytes = bytes }
-says (Some r) p stmt answer here events refused emits bytes same =
+says None p stmt answer here events refused emits bytes same planned = record { events = events; emits = emits; bytes = bytes }
+says (Some r) p stmt answer here events refused emits bytes same planned =
     let is : answer.outcome ≡ Refused r = cc refused.0 in
     let sound : is_store_fault r ≡ false = ap is_fault (sym is) ∙ sym same ∙ ap (λ (x : Seen). is_cut x.end) refused.1 in
     let at : by_fault (is_store_fault r) _ (events ≡ []) = subst (λ (o : Outcome). Emits stmt (answer_labels stmt p) o events) is emits in
     let none : events ≡ [] = rw sound at at in
     let line : answer.bytes ≡ closing_line (Refused r) = bytes ∙ (λ i. events_text (none i) ++ closing_line (is i)) in
-    λ i. record { outcome = is i; bytes = line i }
+    let unplanned : answer.plan ≡ None = planned ∙ ap (λ (x : Seen). x.plan) refused.1 in
+    λ i. record { outcome = is i; bytes = line i; plan = unplanned i }
 
 -- ---- a stop that is none by a block
 stop_untampered : (stop : Stop) → IsNotTampered stop → IsUntampered stop
@@ -322,7 +323,7 @@ module _ {R : Type 0} (state : R → RevState) where
       }
 
   refused_is : (m0 m1 : Machine R) (text : List ℕ) (one : Answer) → (bad : Misspelt m0 m1 text one) → one ≡ refused_at bad.at
-  refused_is m0 m1 text one bad = λ i. record { outcome = bad.refused i; bytes = (bad.line ∙ ap closing_line bad.refused) i }
+  refused_is m0 m1 text one bad = λ i. record { outcome = bad.refused i; bytes = (bad.line ∙ ap closing_line bad.refused) i; plan = bad.unplanned i }
 
   walked_refused : (ending : Ending) (m0 m2 : Machine R) (text : List ℕ) (more : List (List ℕ)) (one : Answer) (part : List ℕ) → part ≡ one.bytes → Misspelt m0 m2 text one → EndsUntampered ending
       → Walked ending m0 m0 m2 [] (text ∷ more) [] part
@@ -470,8 +471,10 @@ module _ {R : Type 0} (state : R → RevState) where
           refl,
           did.does.lawful,
           (
-            says (refusal_now p (length m0.store.asked) did.stmt) p did.stmt one here did.events did.does.early did.emits did.printed (ap is_cut did.does.ran.ends ∙ end_cut one.outcome _),
+            says (refusal_now p (length m0.store.asked) did.stmt) p did.stmt one here did.events did.does.early did.emits did.printed (ap is_cut did.does.ran.ends ∙ end_cut one.outcome _)
+                did.planned,
             cut_by one.outcome here.end _ did.does.ran.ends,
+            did.planned,
           ),
           subst (λ (q : Public). AreSeen ending q (length m0.store.asked + length (script p sk here)) rest.spelt answers all) public_is
               (subst (λ (n : ℕ). AreSeen ending (public_of m1.engine) n rest.spelt answers all) asked_is rest.lawful),

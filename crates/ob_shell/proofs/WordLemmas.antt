@@ -1,13 +1,16 @@
 -- What a command makes of the words.
-use Rattle.std.proofs.Common.{sym, ap, true, false, ◌≡◌, ◌∙◌, List, [], None, Ok, Err, Result}
-use Rattle.std.specs.Prelude.{IfOk}
+use Rattle.std.proofs.Common.{sym, ap, subst, refl, Bool, true, false, ◌≡◌, ◌∙◌, List, [], Option, Some, None, Ok, Err, Result}
+use Rattle.std.specs.Prelude.{IfOk, IsSome}
 use Rattle.clap.specs.Words.{AddsArg, App, Text, HasMatchesOf, app_of, rule_of, with_rule, fault_of, first_of, first_value, is_simple, is_simple_and_free, matches_of, found_of}
 use Rattle.clap.specs.declared.builder.arg.Arg.{Arg}
 use Rattle.clap.specs.declared.builder.command.Command.{Command}
 use Rattle.clap.specs.declared.parser.matches.ArgMatches.{ArgMatches}
 use Rattle.clap.proofs.WalkLemmas.{first_value-rows}
-use Rattle.ob_shell.specs.Settings.{IsTaken, MeddleParses, settings_by, settings_of}
-use Rattle.ob_shell.specs.Usage.{Parses, changes_of, meddle_usage, value_of}
+use Rattle.ob_base.specs.declared.config.Config.{Config}
+use Rattle.ob_shell.specs.Settings.{IsTaken, MeddleParses, ParsesAs, generated_by, settings_of, words_by, words_with}
+use Rattle.ob_shell.specs.Usage.{Parses, changes_of, is_traced, meddle_usage, value_of}
+use Rattle.ob_shell.specs.declared.words.Seed.{Seed}
+use Rattle.ob_shell.specs.declared.words.Words.{Words}
 
 -- what a command is to which its last word was added
 pub adds_last : {E : Type 0} (r : Result Command E) (c : Command) (a : Arg) (whole : App) → a.global ≡ false
@@ -23,17 +26,60 @@ value_from a b m words id e simple h =
 pub parses_from : (a b : App) (words : List Text) → a ≡ b → is_simple_and_free b ≡ true → (is_simple_and_free a ≡ true → fault_of a words ≡ []) → Parses b words
 parses_from a b words e simple h = ap (λ (c : App). fault_of c words) (sym e) ∙ h (ap is_simple_and_free e ∙ simple)
 
--- the settings that the values of a command spell are those of the words
-pub settings_from : (a b : App) (m : ArgMatches) (words : List Text) → a ≡ b → is_simple b ≡ true → HasMatchesOf a words m
-    → settings_by (first_value (found_of m)) ≡ settings_of b words
-settings_from a b m words e simple h = λ i. settings_by (λ name. value_from a b m words name e simple h i)
+-- what the values of a command spell is what the words spell
+pub words_from : (a b : App) (m : ArgMatches) (words : List Text) → a ≡ b → is_simple b ≡ true → HasMatchesOf a words m
+    → words_by (first_value (found_of m)) ≡ words_by (value_of b words)
+words_from a b m words e simple h = λ i. words_by (λ name. value_from a b m words name e simple h i)
 
--- the words of no settings are none of the program
-pub no_settings : (app : App) (words : List Text) → settings_of app words ≡ None → ¬ IsTaken app words
-no_settings app words none taken = let some = taken.1.settings in absurd (cc (none, some))
+-- the parts of what values spell
+record Parts (trace : Bool) (settings : Option Config) (generated : Option (Option Seed)) (w : Words) : Type 0 where
+  trace_is : w.trace ≡ trace
+  settings_are : settings ≡ Some w.config
+  generated_is : generated ≡ Some w.generated
 
-pub no_meddling : (words : List Text) → settings_of meddle_usage words ≡ None → ¬ MeddleParses words
-no_meddling words none taken = no_settings meddle_usage words none (taken.0, taken.2.settings)
+parts : (trace : Bool) (settings : Option Config) (generated : Option (Option Seed)) (w : Words) → words_with trace settings generated ≡ Some w
+    → Parts trace settings generated w
+parts trace None generated w is = absurd (cc is)
+parts trace (Some config) None w is = absurd (cc is)
+parts trace (Some config) (Some generated) w is =
+    let same : ◌≡◌ {A = Words} (record { trace = trace; config = config; generated = generated }) w = cc is in
+    record {
+      trace_is = sym (ap (λ (x : Words). x.trace) same);
+      settings_are = ap (λ (x : Words). Some x.config) same;
+      generated_is = ap (λ (x : Words). Some x.generated) same;
+    }
+
+-- what the words of a command spell, of which its values spell this
+pub record Spells (app : App) (words : List Text) (w : Words) : Type 0 where
+  pub parses : ParsesAs app words w.config
+  pub trace : w.trace ≡ is_traced app words
+  pub generated : generated_by app words ≡ Some w.generated
+
+is_some : {T : Type 0} (o : Option T) (x : T) → o ≡ Some x → IsSome o
+is_some o x e = subst (λ (p : Option _). IsSome p) (sym e) refl
+
+pub spells_words : (a b : App) (m : ArgMatches) (words : List Text) (w : Words) → a ≡ b → is_simple b ≡ true → is_simple_and_free b ≡ true → HasMatchesOf a words m
+    → (is_simple_and_free a ≡ true → fault_of a words ≡ []) → words_by (first_value (found_of m)) ≡ Some w → Spells b words w
+spells_words a b m words w e simple free h kinds is =
+    let p = parts _ (settings_of b words) (generated_by b words) w (sym (words_from a b m words e simple h) ∙ is) in
+    record {
+      parses = record { parses = parses_from a b words e free kinds; settings = p.settings_are; generated = is_some _ _ p.generated_is };
+      trace = p.trace_is;
+      generated = p.generated_is;
+    }
+
+-- of words that spell nothing
+none_with : (trace : Bool) (settings : Option Config) (generated : Option (Option Seed)) (config : Config) → words_with trace settings generated ≡ None
+    → settings ≡ Some config → IsSome generated → ⊥
+none_with trace None generated config none is some = absurd (cc is)
+none_with trace (Some c) None config none is some = absurd (cc some)
+none_with trace (Some c) (Some g) config none is some = absurd (cc none)
+
+pub no_words : (app : App) (words : List Text) → words_by (value_of app words) ≡ None → ¬ IsTaken app words
+no_words app words none taken = none_with _ (settings_of app words) (generated_by app words) taken.0 none taken.1.settings taken.1.generated
+
+pub no_meddling : (words : List Text) → words_by (value_of meddle_usage words) ≡ None → ¬ MeddleParses words
+no_meddling words none taken = no_words meddle_usage words none (taken.0, taken.2.settings)
 
 -- what has no form of changes is none that the words name
 pub no_changes : (words : List Text) → changes_of words ≡ None → ¬ MeddleParses words

@@ -5,8 +5,10 @@ pub mod KeyLine
 pub mod Pushed
 pub mod Words
 pub mod Headline
+pub mod Generating
 pub mod Running
 pub mod Steps
+pub mod Tallies
 pub mod Texts
 pub mod Top
 pub mod Tracing

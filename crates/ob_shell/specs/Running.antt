@@ -10,7 +10,9 @@ use Rattle.ob_shell.specs.Feeding.{Fetch, Fed}
 use Rattle.ob_shell.specs.Steps.{Machine, Steps, PartlyAt, IsUndone}
 use Rattle.ob_vault.specs.State.{RevState}
 use Rattle.ob_shell.specs.declared.session.Halted.{Halted}
+use Rattle.ob_gen.specs.declared.tally.Tally.{Tally}
 use Rattle.ob_shell.specs.Endings.{SinkFailed}
+use Rattle.ob_shell.specs.Tallies.{TallyIs, flagged, tally_of}
 use Rattle.ob_shell.specs.Tracing.{Traces}
 use Rattle.ob_shell.specs.Words.{Answer, Begins, Faults, NoneRose, SinksRose, Took, any_refused, before_read, printed}
 
@@ -38,7 +40,7 @@ StopCause old new (Err InputLimit) = NoneRose old new
 
 -- what was done while no stop came
 pub record SoFar {R : Type 0} (state : R → RevState) (feed0 feed1 : Fetch)
-    (left0 left1 written0 written1 : Option (List ℕ)) (pending : List ℕ) (refused : Bool)
+    (left0 left1 written0 written1 : Option (List ℕ)) (pending : List ℕ) (tally : Tally)
     (m0 m1 : Machine R) : Type 0 where
   pub passed : List ℕ
   pub answers : List Answer
@@ -46,7 +48,7 @@ pub record SoFar {R : Type 0} (state : R → RevState) (feed0 feed1 : Fetch)
   pub pending_is : pending ≡ rest_of [] passed
   pub steps : Steps state m0 m1 (texts_of [] passed) answers
   pub appends : Appends written0 written1 (printed answers)
-  pub flag : refused ≡ any_refused answers
+  pub counted : tally ≡ tally_of answers
 
 -- by how the session ended: how far the texts were served, and where the limits stood
 abbrev pub EndsBy : (feed1 : Fetch) (ended : Bool) (bytes : List ℕ) (more : List (List ℕ))
@@ -79,7 +81,7 @@ FlagIs answers (Err stop) = Unit {0}
 pub record SessionRan {R : Type 0} (state : R → RevState) (tracing : Bool) (feed0 feed1 : Fetch)
     (left0 left1 : Option (List ℕ)) (gave : ℕ)
     (written0 written1 traced0 traced1 : Option (List ℕ))
-    (m0 m2 : Machine R) (result : Result Bool Stop) : Type 0 where
+    (m0 m2 : Machine R) (result : Result Tally Stop) : Type 0 where
   pub piece : List ℕ
   pub consumed : Consumes left0 left1 piece
   pub taken : feed1.taken ≡ feed0.taken + length piece
@@ -94,9 +96,9 @@ pub record SessionRan {R : Type 0} (state : R → RevState) (tracing : Bool) (fe
   pub answers : List Answer
   pub steps : Steps state m0 middle served answers
   pub part : List ℕ
-  pub last : LastPart state middle m2 more part result
-  pub cut : Cut written0 written1 (SinkFailed result) (printed answers ++ part)
+  pub last : LastPart state middle m2 more part (flagged result)
+  pub cut : Cut written0 written1 (SinkFailed (flagged result)) (printed answers ++ part)
   pub whole : Took written0 written1 (printed answers)
   pub traced : Traces tracing traced0 traced1 m0.store.asked middle.store.asked
-  pub flag : FlagIs answers result
-  pub ends : EndsBy feed1 ended (feed0.unread ++ piece) more part result
+  pub counted : TallyIs answers result
+  pub ends : EndsBy feed1 ended (feed0.unread ++ piece) more part (flagged result)

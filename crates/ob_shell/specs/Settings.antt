@@ -1,5 +1,5 @@
 -- The settings of a run that the words of its command line spell.
-use Rattle.std.specs.Prelude.{ℕ, ◌≡◌, ◌≤◌, ◌+◌, ◌*◌, nat_le, List, Option, Some, None, codes, bytes_eq, if◌then◌else◌}
+use Rattle.std.specs.Prelude.{ℕ, ◌≡◌, ◌≤◌, ◌+◌, ◌*◌, nat_le, Bool, List, Option, Some, None, IsSome, option_map, codes, bytes_eq, if◌then◌else◌}
 use Rattle.clap.specs.Words.{App, Text}
 use Rattle.ob_base.specs.Publics.{first_public}
 use Rattle.ob_base.specs.declared.config.Config.{Config}
@@ -7,9 +7,11 @@ use Rattle.ob_base.specs.declared.config.Plan.{Plan}
 use Rattle.ob_base.specs.declared.config.Plan.TheVariants.{Small, Large, Continuous, Hash}
 use Rattle.ob_base.specs.declared.config.Public.{Public}
 use Rattle.ob_exec.specs.Engines.{IsConfig}
-use Rattle.ob_meddle.specs.Changes.{number}
+use Rattle.ob_meddle.specs.Changes.{comma, front, number, rest, wide}
 use Rattle.ob_meddle.specs.declared.meddle.Meddle.{Meddle}
-use Rattle.ob_shell.specs.Usage.{Parses, changes_of, meddle_usage, value_of}
+use Rattle.ob_shell.specs.declared.words.Seed.{Seed}
+use Rattle.ob_shell.specs.declared.words.Words.{Words}
+use Rattle.ob_shell.specs.Usage.{Parses, changes_of, is_set, meddle_usage, value_of}
 
 -- ---- values
 
@@ -74,10 +76,49 @@ settings_by value =
 abbrev pub settings_of : App → List Text → Option Config
 settings_of app words = settings_by (value_of app words)
 
--- the command takes these words, and they spell these settings
+-- ---- what is generated in place of the input
+
+-- from a start and a number of rows
+abbrev pub seed_by : (start rows : Option ℕ) → Option Seed
+seed_by None rows = None
+seed_by (Some start) None = None
+seed_by (Some start) (Some rows) = Some (record { start = start; rows = rows })
+
+-- from 1 to 4,096
+abbrev pub rows_of : Option Text → Option ℕ
+rows_of None = None
+rows_of (Some text) = at_least 1 (number 4096 text)
+
+-- `X,N`: a start below 2^64, and a number of rows, both in decimal, without a sign and without leading zeros
+abbrev pub seed_of : Text → Option Seed
+seed_of text = seed_by (wide (front comma text)) (rows_of (rest comma text))
+
+-- none is asked for where no value is given; none at all where it has another form
+abbrev pub seed_in : Option Text → Option (Option Seed)
+seed_in None = Some None
+seed_in (Some text) = option_map Some (seed_of text)
+
+abbrev pub generated_by : App → List Text → Option (Option Seed)
+generated_by app words = seed_in (value_of app words (codes "gen"))
+
+-- ---- words
+
+-- what these values spell, each under its name
+abbrev pub words_with : (trace : Bool) → Option Config → Option (Option Seed) → Option Words
+words_with trace None generated = None
+words_with trace (Some config) None = None
+words_with trace (Some config) (Some generated) =
+    Some (record { trace = trace; config = config; generated = generated })
+
+abbrev pub words_by : (Text → Option Text) → Option Words
+words_by value = words_with (is_set (value (codes "trace"))) (settings_by value)
+    (seed_in (value (codes "gen")))
+
+-- the command takes these words, and they spell these settings, and what is generated, if something is
 pub record ParsesAs (app : App) (words : List Text) (config : Config) : Type 0 where
   pub parses : Parses app words
   pub settings : settings_of app words ≡ Some config
+  pub generated : IsSome (generated_by app words)
 
 -- the words are those of a program
 abbrev pub IsTaken : App → List Text → Type 0

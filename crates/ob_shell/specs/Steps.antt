@@ -1,7 +1,8 @@
 -- What texts do to an engine and its store, one after the other, and what is printed of them.
-use Rattle.std.specs.Prelude.{ℕ, ◌≡◌, ◌||◌, ◌⊎◌, ⊤, Bool, false, List, [], ◌∷◌, ◌++◌, length, Option, Result, Ok, Err}
+use Rattle.std.specs.Prelude.{ℕ, ◌≡◌, ◌⊎◌, ⊤, false, List, [], ◌∷◌, ◌++◌, length, Option, None, Result, Ok, Err}
 use Rattle.std.specs.Io.KnownBytes.{Appends}
 use Rattle.ob_base.specs.Events.{Event}
+use Rattle.ob_base.specs.declared.config.Plan.{Plan}
 use Rattle.ob_base.specs.declared.refusal.Refusal.TheVariants.{Syntax}
 use Rattle.ob_base.specs.declared.refusal.Stop.{Stop}
 use Rattle.ob_base.specs.declared.refusal.Stop.TheVariants.{Tampered, SourceFault, SinkFault, NoMemory, InputLimit}
@@ -15,7 +16,9 @@ use Rattle.ob_mean.specs.Replay.{Session}
 use Rattle.ob_mean.specs.Verdict.{Tables, verdict}
 use Rattle.ob_exec.specs.declared.engine.Engine.{Engine}
 use Rattle.ob_shell.specs.Endings.{IsSinkFault}
-use Rattle.ob_shell.specs.Words.{Answer, Spells, any_refused, printed}
+use Rattle.ob_gen.specs.declared.tally.Tally.{Tally}
+use Rattle.ob_shell.specs.Tallies.{tally_after}
+use Rattle.ob_shell.specs.Words.{Answer, Spells, printed}
 use Rattle.ob_exec.specs.declared.outcome.Outcome.{Outcome}
 use Rattle.ob_exec.specs.declared.outcome.Outcome.TheVariants.{Refused}
 use Rattle.ob_print.specs.Cuts.{Cut, IsCutOf}
@@ -47,6 +50,7 @@ pub record Misspelt {R : Type 0} (m0 m1 : Machine R) (text : List ℕ)
   pub spells : Spells text (Err at)
   pub refused : answer.outcome ≡ Refused (Syntax at)
   pub line : answer.bytes ≡ closing_line answer.outcome
+  pub unplanned : answer.plan ≡ None
 
 -- the session of the model at which a machine stands that holds these tables
 abbrev pub session_of : {R : Type 0} → Machine R → Tables → Session
@@ -80,19 +84,21 @@ pub record Served {R : Type 0} (state : R → RevState) (m0 m1 : Machine R) (tex
   pub emitted : (tables : Tables) → ReadsTrue state m0.engine m0.store m1.store tables
       → Emitted stmt (public_of m0.engine) (asked_of m0) tables answer.outcome events
   pub printed : answer.bytes ≡ events_text events ++ closing_line answer.outcome
+  pub planned : answer.plan ≡ (seen_of m1.engine).plan
 
 -- from the first machine to the second this text was answered
 pub record Step {R : Type 0} (state : R → RevState) (m0 m1 : Machine R) (text : List ℕ)
     (answer : Answer) : Type 0 where
   pub done : Misspelt m0 m1 text answer ⊎ Served state m0 m1 text answer
 
--- from the first machine to the second this text was answered so, and all but the closing line was written
+-- from the first machine to the second this text was answered so, of which this plan was seen, and all but the closing
+-- line was written
 pub record HasBody {R : Type 0} (state : R → RevState) (written0 written1 : Option (List ℕ))
-    (text : List ℕ) (outcome : Outcome) (m0 m1 : Machine R) : Type 0 where
+    (text : List ℕ) (outcome : Outcome) (plan : Option Plan) (m0 m1 : Machine R) : Type 0 where
   pub body : List ℕ
   pub appends : Appends written0 written1 body
   pub step : Step state m0 m1 text
-      (record { outcome = outcome; bytes = body ++ closing_line outcome })
+      (record { outcome = outcome; bytes = body ++ closing_line outcome; plan = plan })
 
 -- the engine was stopped in the statement of this text, and a first part of its header and rows was printed, also where
 -- a changed block stopped it
@@ -150,13 +156,13 @@ PartlyAt state m0 m1 (text ∷ texts) stop bytes =
     Idle m0 m1 stop bytes ⊎ (CutStep state m0 m1 text stop bytes
     ⊎ Finished state m0 m1 text stop bytes)
 
--- a sink took the answers of these texts, of which the flag tells whether one was a refusal, now or before
+-- a sink took the answers of these texts, which were counted
 pub record AnswersAll {R : Type 0} (state : R → RevState) (written0 written1 : Option (List ℕ))
-    (texts : List (List ℕ)) (refused0 refused1 : Bool) (m0 m1 : Machine R) : Type 0 where
+    (texts : List (List ℕ)) (tally0 tally1 : Tally) (m0 m1 : Machine R) : Type 0 where
   pub answers : List Answer
   pub steps : Steps state m0 m1 texts answers
   pub appends : Appends written0 written1 (printed answers)
-  pub flag : refused1 ≡ (refused0 || any_refused answers)
+  pub counted : tally1 ≡ tally_after tally0 answers
 
 -- a stop came within the first of these texts, or before it
 pub record StopsIn {R : Type 0} (state : R → RevState) (written0 written1 : Option (List ℕ))

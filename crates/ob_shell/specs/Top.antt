@@ -27,6 +27,8 @@ use Rattle.ob_shell.specs.KeyLine.{LineTaken, after_line, first_line, secret_of}
 use Rattle.ob_shell.specs.Running.{EndsBy, FlagIs, StopCause}
 use Rattle.ob_shell.specs.Settings.{limit_of}
 use Rattle.ob_shell.specs.Steps.{IsUntampered}
+use Rattle.ob_gen.specs.declared.tally.Tally.{Tally}
+use Rattle.ob_shell.specs.Tallies.{TallyIs, flagged, tally_of}
 use Rattle.ob_shell.specs.Texts.{texts_in}
 use Rattle.ob_shell.specs.Tracing.{traced}
 use Rattle.ob_shell.specs.Words.{Answer, Answers, AreSeen, Begins, EndsAtRead, Faults, HasSecret, IsCompleted, IsHonest, IsSealed, IsUndeceived, KeepsLimits, NoneRose, ReadToLimit, ReadUntilFault, ReadWhole, SinksRose, SpellFirst, Took, any_cut, before_read, printed, public_with, rows_in, start}
@@ -97,7 +99,7 @@ pub record Carried (tr : TraceSink) (settings : Option Config) (secret : Option 
 pub record RanAfter (tr : TraceSink) (settings : Option Config)
     (secret : Option (List ℕ)) (feed0 feed1 : Fetch)
     (left0 left1 : Option (List ℕ)) (gave : ℕ) (written0 written1 : Option (List ℕ))
-    (store0 store1 : StoreState) (high : ℕ) (result : Result Bool Stop) : Type 0 where
+    (store0 store1 : StoreState) (high : ℕ) (result : Result Tally Stop) : Type 0 where
   pub piece : List ℕ
   pub consumed : Consumes left0 left1 piece
   pub taken : feed1.taken ≡ feed0.taken + length piece
@@ -111,11 +113,11 @@ pub record RanAfter (tr : TraceSink) (settings : Option Config)
   pub answers : List Answer
   pub part : List ℕ
   pub carried : Carried tr settings secret store0 store1 high served more answers part
-      (Ran result)
-  pub cut : Cut written0 written1 (SinkFailed result) (printed answers ++ part)
+      (Ran (flagged result))
+  pub cut : Cut written0 written1 (SinkFailed (flagged result)) (printed answers ++ part)
   pub whole : Took written0 written1 (printed answers)
-  pub flag : FlagIs answers result
-  pub ends : EndsBy feed1 ended (feed0.unread ++ piece) more part result
+  pub counted : TallyIs answers result
+  pub ends : EndsBy feed1 ended (feed0.unread ++ piece) more part (flagged result)
 
 -- what the answer of a session says of the bytes taken
 abbrev pub RanSays : Result Bool Stop → (max : ℕ) (taken : List ℕ) (ended : Bool)
@@ -155,6 +157,13 @@ EndingFlag Usage answers = Unit {0}
 EndingFlag BadKey answers = Unit {0}
 EndingFlag (Ran ran) answers = FlagIs answers ran
 
+-- and how they were counted, where the run came to the end of its input
+abbrev pub EndingTally : Ending → List Answer → Tally → Type 0
+EndingTally Usage answers tally = Unit {0}
+EndingTally BadKey answers tally = Unit {0}
+EndingTally (Ran (Ok refused)) answers tally = tally ≡ tally_of answers
+EndingTally (Ran (Err stop)) answers tally = Unit {0}
+
 -- which counts rose, before the last line
 abbrev pub EndingCause : Ending → (old new : Faults) → Type 0
 EndingCause Usage old new = NoneRose old new
@@ -173,7 +182,7 @@ StatusCause (Ran (Err NoMemory)) old new = new.source ≡ old.source
 StatusCause (Ran (Err InputLimit)) old new = new.source ≡ old.source
 
 -- what was taken, what of it was served, and what the sink took of the answers and the last line
-pub record Shown (tr : TraceSink) (settings : Option Config)
+pub record Shown (tally : Tally) (tr : TraceSink) (settings : Option Config)
     (left0 left1 : Option (List ℕ)) (gave : ℕ) (written0 written1 : Option (List ℕ))
     (store0 store1 : StoreState) (high : ℕ)
     (ending : Ending) (line : List ℕ) (Fault : Type 0) : Type 0 where
@@ -197,17 +206,18 @@ pub record Shown (tr : TraceSink) (settings : Option Config)
   pub whole : Took written0 written1 (printed answers)
   pub through : ¬ SinkStopped ending → Took written0 written1 (printed answers ++ part)
   pub flag : EndingFlag ending answers
+  pub counted : EndingTally ending answers tally
   pub says : EndingSays ending (limit_of settings) taken left1 ended more part
 
 -- the whole run, of words that the program takes, with the settings that they spell, or doesn't
-pub record Reported (tr : TraceSink) (Takes : Type 0) (settings : Option Config)
+pub record Reported (tally : Tally) (tr : TraceSink) (Takes : Type 0) (settings : Option Config)
     (left0 left1 : Option (List ℕ)) (gave : ℕ) (written0 written1 : Option (List ℕ))
     (store0 store1 : StoreState)
     (old new : Faults) (report : Report) : Type 0 where
   pub ending : Ending
   pub status : report.status ≡ status_of ending
   pub takes : EndingWords ending Takes
-  pub shown : Shown tr settings left0 left1 gave written0 written1 store0 store1 report.high ending
+  pub shown : Shown tally tr settings left0 left1 gave written0 written1 store0 store1 report.high ending
       (last_line ending) (SinksRose old new)
   pub cause : StatusCause ending old new
   pub completes : Takes → (input : List ℕ) → left0 ≡ Some input

@@ -1,4 +1,4 @@
--- The words of the command lines: the flag `--trace` and the settings of a run, and of the program whose store others
+-- The words of the command lines: the flag `--trace`, the settings of a run, `--gen`, and of the program whose store others
 -- change also `--meddle`.
 use Rattle.std.specs.Prelude.{◌≡◌, Bool, true, false, List, [], Option, Some, None, codes, bytes_eq}
 use Rattle.clap.specs.Words.{App, Rule, Text, fault_of, first_of, matches_of, new_app, new_rule, with_rule}
@@ -18,14 +18,15 @@ valued name = record (new_rule name) { long = Some name; action = Some Set }
 abbrev pub nameless : App → App
 nameless a = record a { top = record a.top { no_binary_name = true } }
 
--- the words of every program: whether the accesses are traced, and the settings
+-- the words of every program: whether the accesses are traced, the settings, and what is generated in place of the input
 abbrev pub common : Text → App
 common name =
-    with_rule (with_rule (with_rule (with_rule (with_rule (with_rule (new_app name)
+    with_rule (with_rule (with_rule (with_rule (with_rule (with_rule (with_rule (new_app name)
     (flag (codes "trace"))) (valued (codes "buffer"))) (valued (codes "depth")))
     (valued (codes "plan")))
     (valued (codes "pack")))
-    (valued (codes "max-input"))
+    (valued (codes "max-input")))
+    (valued (codes "gen"))
 
 -- of a program over a store that it is given, which the words may name
 abbrev pub usage : App

@@ -11,6 +11,7 @@ use Rattle.ob_base.specs.Stored.{headings, headings_of}
 use Rattle.ob_base.specs.declared.access.Access.{Access}
 use Rattle.ob_base.specs.declared.access.Access.TheVariants.{Read}
 use Rattle.ob_base.specs.declared.config.Config.{Config}
+use Rattle.ob_base.specs.declared.config.Plan.{Plan}
 use Rattle.ob_base.specs.declared.config.Public.{Public}
 use Rattle.ob_base.specs.declared.refusal.Refusal.{Refusal}
 use Rattle.ob_base.specs.declared.refusal.Refusal.TheVariants.{Syntax, StoreFault}
@@ -146,10 +147,11 @@ SpellFirst [] (x ∷ xs) = ⊥
 SpellFirst (text ∷ texts) (x ∷ xs) = Spells text x × SpellFirst texts xs
 
 -- ---- answers
--- how a text was answered, and what was printed of it
+-- how a text was answered, what was printed of it, and the plan that was seen of it, if one was
 pub record Answer : Type 0 where
   pub outcome : Outcome
   pub bytes : List ℕ
+  pub plan : Option Plan
 
 unfoldable pub printed : List Answer → List ℕ
 printed [] = []
@@ -161,7 +163,7 @@ any_refused (answer ∷ answers) = is_refused answer.outcome || any_refused answ
 
 -- the answer of a refusal is its line
 abbrev pub refused_as : Refusal → Answer
-refused_as r = record { outcome = Refused r; bytes = closing_line (Refused r) }
+refused_as r = record { outcome = Refused r; bytes = closing_line (Refused r); plan = None }
 
 abbrev pub refused_at : ℕ → Answer
 refused_at at = refused_as (Syntax at)
@@ -194,8 +196,8 @@ pub record WantsMemory (p : Public) (stmt : Stmt) (seen : Seen) : Type 0 where
   pub place : AtMake (script p (skeleton stmt) seen) rest ⊎ AtEmission stmt seen rest
 
 -- of each statement its skeleton and what is seen of it, which is lawful by what is public before it and m accesses;
--- its answer is its early refusal, if there is one, and says that the store failed exactly where it was cut off. The
--- one that was begun has no answer.
+-- its answer is its early refusal, if there is one, says that the store failed exactly where it was cut off, and has the
+-- plan that is seen. The one that was begun has no answer.
 unfoldable pub AreSeen : Ending → Public → (m : ℕ) → List Spelt → List Answer → List Served
     → Type 0
 AreSeen ending p m [] answers seen = seen ≡ []
@@ -211,7 +213,8 @@ AreSeen ending p m (Ok stmt ∷ spelt) [] (x ∷ seen) =
 AreSeen ending p m (Ok stmt ∷ spelt) (one ∷ answers) (x ∷ seen) =
     (x.skeleton ≡ skeleton stmt) × Lawful p m stmt x.seen
     × (Says (refusal_now p m stmt) p stmt one
-    × (IsTrue (is_cut x.seen.end) ↔ (one.outcome ≡ Refused StoreFault)))
+    × (IsTrue (is_cut x.seen.end) ↔ (one.outcome ≡ Refused StoreFault))
+    × (one.plan ≡ x.seen.plan))
     × AreSeen ending (next p x.skeleton x.seen) (m + length (script p x.skeleton x.seen)) spelt
     answers seen
 

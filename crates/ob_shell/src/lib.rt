@@ -2,6 +2,7 @@
 #![tactic(auto)]
 
 mod feed;
+mod generating;
 mod key;
 mod laws;
 mod pending;
@@ -19,4 +20,4 @@ pub use pending::{Grown, Pending, PushStop};
 pub use session::{Halted, serve};
 pub use top::{Ended, Ending, Report, meddle_top, shell_top};
 pub use trace::trace_from;
-pub use words::{MeddleWords, Words, WordsErr, read_meddle_words, read_words, store_name};
+pub use words::{MeddleWords, Seed, Words, WordsErr, read_meddle_words, read_words, store_name};

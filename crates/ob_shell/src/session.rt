@@ -7,14 +7,16 @@ ghost use Rattle.ob_shell.specs.Feeding.{IsFedBy};
 ghost use Rattle.ob_shell.specs.Running.{StopCause, SessionRan, IsQuiet, stop_of};
 ghost use Rattle.ob_shell.specs.Tracing.{TracedAll, Traced};
 ghost use Rattle.ob_shell.specs.Closing;
+ghost use Rattle.ob_shell.specs.Tallies;
 ghost use Rattle.ob_shell.specs.Words.{Spells, faults_of, SinksRose};
 ghost use Rattle.ob_shell.specs.Endings.{SinkFailed};
 
 use crate::feed::{Feed, Halt};
 use crate::pending::{Grown, Pending, PushStop};
 use crate::trace::trace_from;
-use ob_base::{Failed, Refusal, Stop};
+use ob_base::{Failed, Plan, Refusal, Stop};
 use ob_exec::{Engine, Outcome};
+use ob_gen::Tally;
 use ob_io::{Sink, Source};
 use ob_parse::{ParseErr, parse};
 use ob_print::{Line, Printer, refusal_line, write_all};
@@ -34,13 +36,28 @@ pub struct Halted {
 #[derive(Drop)]
 pub struct Session {
     pub pending: Pending,
-    pub refused: bool,
+    pub tally: Tally,
 }
 
-fn is_refused(outcome: Outcome) -> bool
-    ensures { result ≡ Closing.is_refused outcome }
+/// How a text was answered, and the plan that was seen of it.
+#[derive(Clone, Copy, Debug, PartialEq, Eq)]
+pub struct Answered {
+    pub outcome: Outcome,
+    pub plan: Option<Plan>,
+}
+
+// With one more answer.
+fn tally_with(tally: Tally, answered: Answered) -> Tally
+    ensures { result ≡ Tallies.tally_with tally answered.outcome answered.plan }
 {
-    matches!(outcome, Outcome::Refused(_))
+    let (refused, rows) = match answered.outcome {
+        Outcome::Refused(_) => (true, 0),
+        Outcome::Rows(k) => (false, k),
+        _ => (false, 0),
+    };
+    let mut tally = tally;
+    tally.add(refused, rows, answered.plan);
+    tally
 }
 
 fn closing_line(outcome: Outcome) -> Line
@@ -74,13 +91,13 @@ fn run_stmt<R: Revisions, S: BlockStore, K: Sink>(
     text: &[u8],
     stmt: &Stmt,
     printer: &mut Printer<'_, K>,
-) -> Result<Outcome, Stop>
+) -> Result<Answered, Stop>
     requires spells { Spells text.now (Ok stmt.now) }
     requires ready { IsReady R.state (machine_of engine.old (S.state store.old)) }
     ensures same_sink { printer.new.out.ghost_name ≡ printer.old.out.ghost_name }
     ensures ready { OnOk result (IsReady R.state (machine_of engine.new (S.state store.new))) }
-    ensures answered { IfOk result (λ outcome. HasBody R.state (K.written printer.old.out.now)
-        (K.written printer.new.out.now) text.now outcome
+    ensures answered { IfOk result (λ a. HasBody R.state (K.written printer.old.out.now)
+        (K.written printer.new.out.now) text.now a.outcome a.plan
         (machine_of engine.old (S.state store.old)) (machine_of engine.new (S.state store.new))) }
     ensures stopped { IfErr result (λ stop. StopsIn R.state (K.written printer.old.out.now)
         (K.written printer.new.out.now) (text.now ∷ []) stop
@@ -92,7 +109,13 @@ fn run_stmt<R: Revisions, S: BlockStore, K: Sink>(
     ensures limit { result ≡ Err Stop.InputLimit → ⊥ }
     ensures source { result ≡ Err Stop.SourceFault → ⊥ }
 {
-    engine.run(store, stmt, printer)
+    match engine.run(store, stmt, printer) {
+        Ok(outcome) => Ok(Answered {
+            outcome,
+            plan: engine.seen().plan,
+        }),
+        Err(stop) => Err(stop),
+    }
 }
 
 // Answers one text but for its closing line.
@@ -102,12 +125,12 @@ fn run_text<R: Revisions, S: BlockStore, K: Sink>(
     store: &mut S,
     text: &[u8],
     out: &mut K,
-) -> Result<Outcome, Stop>
+) -> Result<Answered, Stop>
     requires short { length text.now ≤ text_max }
     requires ready { IsReady R.state (machine_of engine.old (S.state store.old)) }
     ensures ready { OnOk result (IsReady R.state (machine_of engine.new (S.state store.new))) }
-    ensures answered { IfOk result (λ outcome. HasBody R.state (K.written out.old)
-        (K.written out.new) text.now outcome
+    ensures answered { IfOk result (λ a. HasBody R.state (K.written out.old)
+        (K.written out.new) text.now a.outcome a.plan
         (machine_of engine.old (S.state store.old)) (machine_of engine.new (S.state store.new))) }
     ensures stopped { IfErr result (λ stop. StopsIn R.state (K.written out.old) (K.written out.new)
         (text.now ∷ []) stop
@@ -122,7 +145,12 @@ fn run_text<R: Revisions, S: BlockStore, K: Sink>(
     let stmt = match parse(alloc, text) {
         Ok(stmt) => stmt,
         Err(error) => match error {
-            ParseErr::Syntax(at) => return Ok(Outcome::Refused(Refusal::Syntax(at))),
+            ParseErr::Syntax(at) => {
+                return Ok(Answered {
+                    outcome: Outcome::Refused(Refusal::Syntax(at)),
+                    plan: None,
+                });
+            }
             ParseErr::NoMemory => return Err(Stop::NoMemory),
         },
     };
@@ -130,20 +158,20 @@ fn run_text<R: Revisions, S: BlockStore, K: Sink>(
     run_stmt(engine, store, text, &stmt, &mut printer)
 }
 
-// Answers one text whole, with its closing line. The flag tells whether a text was refused so far.
+// Answers one text whole, with its closing line, and counts it.
 fn answer<R: Revisions, S: BlockStore, K: Sink>(
     alloc: Global,
-    refused: bool,
+    tally: Tally,
     engine: &mut Engine<R>,
     store: &mut S,
     text: &[u8],
     out: &mut K,
-) -> Result<bool, Stop>
+) -> Result<Tally, Stop>
     requires short { length text.now ≤ text_max }
     requires ready { IsReady R.state (machine_of engine.old (S.state store.old)) }
     ensures ready { OnOk result (IsReady R.state (machine_of engine.new (S.state store.new))) }
-    ensures answered { IfOk result (λ flag. AnswersAll R.state (K.written out.old)
-        (K.written out.new) (text.now ∷ []) refused flag
+    ensures answered { IfOk result (λ counted. AnswersAll R.state (K.written out.old)
+        (K.written out.new) (text.now ∷ []) tally counted
         (machine_of engine.old (S.state store.old)) (machine_of engine.new (S.state store.new))) }
     ensures stopped { IfErr result (λ stop. StopsIn R.state (K.written out.old) (K.written out.new)
         (text.now ∷ []) stop
@@ -157,8 +185,8 @@ fn answer<R: Revisions, S: BlockStore, K: Sink>(
 {
     match run_text(alloc, engine, store, text, out) {
         Err(stop) => Err(stop),
-        Ok(outcome) => match write_all(out, closing_line(outcome).as_bytes()) {
-            Ok(()) => Ok(refused | is_refused(outcome)),
+        Ok(answered) => match write_all(out, closing_line(answered.outcome).as_bytes()) {
+            Ok(()) => Ok(tally_with(tally, answered)),
             Err(Failed) => Err(Stop::SinkFault),
         },
     }
@@ -168,18 +196,18 @@ fn answer<R: Revisions, S: BlockStore, K: Sink>(
 fn answer_traced<R: Revisions, S: BlockStore, K: Sink, T: Sink>(
     alloc: Global,
     tracing: bool,
-    refused: bool,
+    tally: Tally,
     engine: &mut Engine<R>,
     store: &mut S,
     text: &[u8],
     out: &mut K,
     trace: &mut T,
-) -> Result<bool, Halted>
+) -> Result<Tally, Halted>
     requires short { length text.now ≤ text_max }
     requires ready { IsReady R.state (machine_of engine.old (S.state store.old)) }
     ensures ready { OnOk result (IsReady R.state (machine_of engine.new (S.state store.new))) }
-    ensures answered { IfOk result (λ flag. AnswersAll R.state (K.written out.old)
-        (K.written out.new) (text.now ∷ []) refused flag
+    ensures answered { IfOk result (λ counted. AnswersAll R.state (K.written out.old)
+        (K.written out.new) (text.now ∷ []) tally counted
         (machine_of engine.old (S.state store.old)) (machine_of engine.new (S.state store.new))) }
     ensures stopped { IfErr result (λ halted. StopsIn R.state (K.written out.old)
         (K.written out.new) (text.now ∷ []) halted.stop
@@ -196,9 +224,9 @@ fn answer_traced<R: Revisions, S: BlockStore, K: Sink, T: Sink>(
     ensures source { stop_of result ≡ Err Stop.SourceFault → ⊥ }
 {
     let mark = store.count();
-    match answer(alloc, refused, engine, store, text, out) {
-        Ok(flag) => match trace_from(tracing, store, mark, trace) {
-            Ok(()) => Ok(flag),
+    match answer(alloc, tally, engine, store, text, out) {
+        Ok(counted) => match trace_from(tracing, store, mark, trace) {
+            Ok(()) => Ok(counted),
             Err(Failed) => Err(Halted {
                 stop: Stop::SinkFault,
                 quiet: true,
@@ -232,7 +260,7 @@ fn turn<R: Revisions, S: BlockStore, K: Sink, T: Sink>(
     ensures pending { OnOk result ((session.new.pending ≡ rest_after session.old.pending b)
         × (length session.new.pending < text_max)) }
     ensures answered { OnOk result (AnswersAll R.state (K.written out.old) (K.written out.new)
-        (texts_at session.old.pending b) session.old.refused session.new.refused
+        (texts_at session.old.pending b) session.old.tally session.new.tally
         (machine_of engine.old (S.state store.old)) (machine_of engine.new (S.state store.new))) }
     ensures stopped { IfErr result (λ halted. StopsIn R.state (K.written out.old)
         (K.written out.new) (texts_at session.old.pending b) halted.stop
@@ -248,7 +276,7 @@ fn turn<R: Revisions, S: BlockStore, K: Sink, T: Sink>(
     ensures limit { stop_of result ≡ Err Stop.InputLimit →
         (texts_at session.old.pending b ≡ []) × (is_over (rest_after session.old.pending b) ≡ true)
         × AnswersAll R.state (K.written out.old) (K.written out.new) []
-        session.old.refused session.old.refused
+        session.old.tally session.old.tally
         (machine_of engine.old (S.state store.old)) (machine_of engine.new (S.state store.new)) }
     ensures source { stop_of result ≡ Err Stop.SourceFault → ⊥ }
 {
@@ -258,7 +286,7 @@ fn turn<R: Revisions, S: BlockStore, K: Sink, T: Sink>(
             match answer_traced(
                 alloc,
                 tracing,
-                session.refused,
+                session.tally,
                 engine,
                 store,
                 session.pending.text(),
@@ -266,8 +294,8 @@ fn turn<R: Revisions, S: BlockStore, K: Sink, T: Sink>(
                 trace,
             ) {
                 Err(halted) => Err(halted),
-                Ok(refused) => {
-                    session.refused = refused;
+                Ok(tally) => {
+                    session.tally = tally;
                     session.pending.clear();
                     Ok(())
                 }
@@ -293,11 +321,11 @@ fn finish<R: Revisions, S: BlockStore, K: Sink, T: Sink>(
     store: &mut S,
     out: &mut K,
     trace: &mut T,
-) -> Result<bool, Halted>
+) -> Result<Tally, Halted>
     requires short { length session.now.pending ≤ text_max }
     requires ready { IsReady R.state (machine_of engine.old (S.state store.old)) }
-    ensures answered { IfOk result (λ flag. AnswersAll R.state (K.written out.old)
-        (K.written out.new) (tail_text session.now.pending) session.now.refused flag
+    ensures answered { IfOk result (λ counted. AnswersAll R.state (K.written out.old)
+        (K.written out.new) (tail_text session.now.pending) session.now.tally counted
         (machine_of engine.old (S.state store.old)) (machine_of engine.new (S.state store.new))) }
     ensures stopped { IfErr result (λ halted. StopsIn R.state (K.written out.old)
         (K.written out.new) (tail_text session.now.pending) halted.stop
@@ -314,12 +342,12 @@ fn finish<R: Revisions, S: BlockStore, K: Sink, T: Sink>(
     ensures source { stop_of result ≡ Err Stop.SourceFault → ⊥ }
 {
     if !session.pending.has_words() {
-        return Ok(session.refused);
+        return Ok(session.tally);
     }
     answer_traced(
         alloc,
         tracing,
-        session.refused,
+        session.tally,
         engine,
         store,
         session.pending.text(),
@@ -328,7 +356,7 @@ fn finish<R: Revisions, S: BlockStore, K: Sink, T: Sink>(
     )
 }
 
-/// Serves the texts that a feed brings, to its end or a stop. Tells whether one was refused.
+/// Serves the texts that a feed brings, to its end or a stop. Tells what was counted of them.
 pub fn serve<I: Source, R: Revisions, S: BlockStore, K: Sink, T: Sink>(
     alloc: Global,
     tracing: bool,
@@ -338,7 +366,7 @@ pub fn serve<I: Source, R: Revisions, S: BlockStore, K: Sink, T: Sink>(
     store: &mut S,
     out: &mut K,
     trace: &mut T,
-) -> Result<bool, Halted>
+) -> Result<Tally, Halted>
     requires ready { IsReady R.state (machine_of engine.old (S.state store.old)) }
     requires fed_by { IsFedBy feed.old (I.gave input.old) }
     ensures ran { SessionRan R.state tracing feed.old feed.new
@@ -359,7 +387,7 @@ pub fn serve<I: Source, R: Revisions, S: BlockStore, K: Sink, T: Sink>(
 {
     let mut session = Session {
         pending: Pending::new(alloc),
-        refused: false,
+        tally: Tally::new(),
     };
     'bytes: loop {
         match feed.next(input) {

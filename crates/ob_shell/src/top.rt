@@ -1,15 +1,20 @@
 //! The top calls.
-ghost use Rattle.std.specs.Prelude.{◌≡◌, ◌≢◌, ◌≤◌, ℕ, List, [], map, Ok, Err, Some, true, false, ⊤};
-ghost use Rattle.std.specs.Prelude.{MatchOption, string_bytes};
-ghost use Rattle.ob_shell.specs.Usage.{usage, is_traced};
+ghost use Rattle.std.specs.Prelude.{◌≡◌, ◌≢◌, ◌≤◌, ℕ, List, [], map, Ok, Err, Some, None, true, false, ⊤};
+ghost use Rattle.std.specs.Prelude.{IfOk, MatchOption, string_bytes};
+ghost use Rattle.ob_shell.specs.Usage.{usage, meddle_usage, is_traced};
 ghost use Rattle.ob_shell.specs.Settings.{AreWithin, IsTaken, settings_of};
 ghost use Rattle.ob_shell.specs.Closed.{LineWritten, Untouched, Unwritten, refused_by};
-ghost use Rattle.ob_shell.specs.Meddling.{Unserved, Meddled};
+ghost use Rattle.ob_shell.specs.Meddling.{Unserved};
+ghost use Rattle.ob_shell.specs.Generating.{MeddleRan, Summarized, asked_for};
+ghost use Rattle.ob_shell.specs.declared.words.Seed.{Seed};
 ghost use Rattle.ob_shell.specs.Feeding.{IsFedBy};
 ghost use Rattle.ob_shell.specs.KeyLine.{secret_of};
 ghost use Rattle.ob_shell.specs.Running.{IsQuiet, stop_of, StopCause};
 ghost use Rattle.ob_meddle.specs.Shows.{state_of};
+ghost use Rattle.ob_gen.specs.Tally.{empty_tally};
+ghost use Rattle.ob_gen.specs.declared.tally.Tally.{Tally};
 ghost use Rattle.ob_shell.specs.Headline.{Headline};
+ghost use Rattle.ob_shell.specs.Tallies.{flagged};
 ghost use Rattle.ob_shell.specs.Tracing.{Traced};
 ghost use Rattle.ob_shell.specs.Endings;
 ghost use Rattle.ob_shell.specs.Endings.{SinkStopped};
@@ -17,11 +22,13 @@ ghost use Rattle.ob_shell.specs.Top.{EndingCause, RanAfter, Reported, Shown, sin
 ghost use Rattle.ob_shell.specs.Words.{SinksRose, faults_of, outside_of};
 
 use crate::feed::{Feed, Halt};
+use crate::generating::serve_generated;
 use crate::key::{FirstLine, read_key};
 use crate::session::{Halted, serve};
 use crate::words::{Words, WordsErr, read_meddle_words, read_words};
 use ob_base::Stop;
 use ob_exec::Engine;
+use ob_gen::Tally;
 use ob_io::{Sink, Source};
 use ob_meddle::MeddledStore;
 use ob_print::{Line, stop_line, write_all};
@@ -48,15 +55,17 @@ pub struct Report {
     pub high: u64,
 }
 
-/// How a run ended, whether its last line may not be written any more, and how many rows were open.
+/// How a run ended, whether its last line may not be written any more, how many rows were open, and what was counted of
+/// the answers, where the input was read to its end.
 #[derive(Clone, Copy, Debug, PartialEq, Eq)]
 pub struct Ended {
     pub ending: Ending,
     pub quiet: bool,
     pub high: u64,
+    pub tally: Tally,
 }
 
-fn status_of(ending: Ending) -> u8
+pub(crate) fn status_of(ending: Ending) -> u8
     ensures { result ≡ Endings.status_of ending }
 {
     match ending {
@@ -86,32 +95,36 @@ fn last_line(ending: Ending) -> Line
 
 // An end before any engine was started.
 fn ended_at(ending: Ending) -> Ended
-    ensures { result ≡ record { ending = ending; quiet = false; high = 0 } }
+    ensures { result ≡ record { ending = ending; quiet = false; high = 0; tally = empty_tally } }
 {
     Ended {
         ending,
         quiet: false,
         high: 0,
+        tally: Tally::new(),
     }
 }
 
 // The end of a session.
-fn ended_with(ran: Result<bool, Halted>, high: u64) -> Ended
-    ensures ending { result.ending ≡ Ending.Ran (stop_of ran) }
+fn ended_with(ran: Result<Tally, Halted>, high: u64) -> Ended
+    ensures ending { result.ending ≡ Ending.Ran (flagged (stop_of ran)) }
+    ensures tally { IfOk (stop_of ran) (λ tally. result.tally ≡ tally) }
     ensures quiet { result.quiet ≡ true → IsQuiet ran }
     ensures loud { IsQuiet ran → result.quiet ≡ true }
     ensures high { result.high ≡ high }
 {
     match ran {
-        Ok(refused) => Ended {
-            ending: Ending::Ran(Ok(refused)),
+        Ok(tally) => Ended {
+            ending: Ending::Ran(Ok(tally.refused > 0)),
             quiet: false,
             high,
+            tally,
         },
         Err(halted) => Ended {
             ending: Ending::Ran(Err(halted.stop)),
             quiet: halted.quiet,
             high,
+            tally: Tally::new(),
         },
     }
 }
@@ -126,7 +139,7 @@ fn serve_with<I: Source, O: Sink, T: Sink, S: BlockStore>(
     out: &mut O,
     trace: &mut T,
     store: &mut S,
-) -> (Result<bool, Halted>, u64)
+) -> (Result<Tally, Halted>, u64)
     requires within { AreWithin words.config }
     requires taken { feed.old.taken ≤ feed.old.limit }
     requires fed_by { IsFedBy feed.old (I.gave input.old) }
@@ -171,7 +184,7 @@ fn serve_with<I: Source, O: Sink, T: Sink, S: BlockStore>(
 }
 
 // Reads the first line and serves the texts: all but the last line.
-fn run<I: Source, O: Sink, T: Sink, S: BlockStore>(
+pub(crate) fn run<I: Source, O: Sink, T: Sink, S: BlockStore>(
     alloc: Global,
     words: Words,
     input: &mut I,
@@ -181,7 +194,7 @@ fn run<I: Source, O: Sink, T: Sink, S: BlockStore>(
 ) -> Ended
     requires within { AreWithin words.config }
     requires fresh { (S.state store.old).asked ≡ [] }
-    ensures shown { Shown (sink_of words.trace (T.written trace.old) (T.written trace.new))
+    ensures shown { Shown result.tally (sink_of words.trace (T.written trace.old) (T.written trace.new))
         (Some words.config)
         (I.left input.old) (I.left input.new) (I.gave input.new)
         (O.written out.old) (O.written out.new)
@@ -211,7 +224,7 @@ fn run<I: Source, O: Sink, T: Sink, S: BlockStore>(
 }
 
 // Writes the last line, where it may be written, and reports.
-fn close<O: Sink>(ended: Ended, out: &mut O) -> Report
+pub(crate) fn close<O: Sink>(ended: Ended, out: &mut O) -> Report
     ensures status { result.status ≡ Endings.status_of ended.ending }
     ensures high { result.high ≡ ended.high }
     ensures quiet { ended.quiet ≡ true →
@@ -253,8 +266,8 @@ fn serve_over<I: Source, O: Sink, T: Sink, S: BlockStore>(
 ) -> Report
     requires within { AreWithin words.config }
     requires fresh { (S.state store.old).asked ≡ [] }
-    ensures reported { Reported (sink_of words.trace (T.written trace.old) (T.written trace.new))
-        ⊤ (Some words.config)
+    ensures reported { (tally : Tally) × Reported tally
+        (sink_of words.trace (T.written trace.old) (T.written trace.new)) ⊤ (Some words.config)
         (I.left input.old) (I.left input.new) (I.gave input.new)
         (O.written out.old) (O.written out.new)
         (S.state store.old) (S.state store.new)
@@ -270,7 +283,8 @@ fn serve_over<I: Source, O: Sink, T: Sink, S: BlockStore>(
 }
 
 /// Serves the input over a store of which nothing was asked, and writes the answers and the last line, as the words set
-/// it; with `--trace` each access is traced. `words` leave out the program's name.
+/// it; with `--trace` each access is traced. With `--gen` the input isn't read, a generated text is served in its place,
+/// and its summary is written instead of the answers. `words` leave out the program's name.
 pub fn shell_top<I: Source, O: Sink, T: Sink, S: BlockStore>(
     alloc: Global,
     words: &[String],
@@ -280,9 +294,20 @@ pub fn shell_top<I: Source, O: Sink, T: Sink, S: BlockStore>(
     store: &mut S,
 ) -> Report
     requires fresh { (S.state store.old).asked ≡ [] }
-    ensures headline { Headline (IsTaken usage (map string_bytes words.now))
+    ensures headline { asked_for usage (map string_bytes words.now) ≡ None
+        → Headline (IsTaken usage (map string_bytes words.now))
         (settings_of usage (map string_bytes words.now))
         (is_traced usage (map string_bytes words.now))
+        (outside_of (I.left input.old) (I.gave input.old) (O.written out.old) (T.written trace.old)
+        (S.state store.old)
+        (faults_of (I.faults input.old) (O.faults out.old) (T.faults trace.old)))
+        (outside_of (I.left input.new) (I.gave input.new) (O.written out.new) (T.written trace.new)
+        (S.state store.new)
+        (faults_of (I.faults input.new) (O.faults out.new) (T.faults trace.new))) result }
+    ensures summary { (seed : Seed) → asked_for usage (map string_bytes words.now) ≡ Some seed
+        → Summarized (IsTaken usage (map string_bytes words.now))
+        (settings_of usage (map string_bytes words.now))
+        (is_traced usage (map string_bytes words.now)) seed
         (outside_of (I.left input.old) (I.gave input.old) (O.written out.old) (T.written trace.old)
         (S.state store.old)
         (faults_of (I.faults input.old) (O.faults out.old) (T.faults trace.old)))
@@ -294,7 +319,10 @@ pub fn shell_top<I: Source, O: Sink, T: Sink, S: BlockStore>(
 {
     match read_words(alloc, words) {
         Err(error) => refuse_words(error, out),
-        Ok(words) => serve_over(alloc, words, input, out, trace, store),
+        Ok(words) => match words.generated {
+            None => serve_over(alloc, words, input, out, trace, store),
+            Some(seed) => serve_generated(alloc, words, seed, out, trace, store),
+        },
     }
 }
 
@@ -312,7 +340,8 @@ pub fn meddle_top<I: Source, O: Sink, T: Sink>(
         (O.written out.old) (O.written out.new) (T.written trace.old) (T.written trace.new)
         (faults_of (I.faults input.old) (O.faults out.old) (T.faults trace.old))
         (faults_of (I.faults input.new) (O.faults out.new) (T.faults trace.new)) result.0)
-        (λ store. Meddled (map string_bytes words.now)
+        (λ store. MeddleRan (asked_for meddle_usage (map string_bytes words.now))
+        (map string_bytes words.now)
         (λ start. (outside_of (I.left input.old) (I.gave input.old) (O.written out.old)
         (T.written trace.old) start
         (faults_of (I.faults input.old) (O.faults out.old) (T.faults trace.old))))
@@ -324,8 +353,17 @@ pub fn meddle_top<I: Source, O: Sink, T: Sink>(
         Err(error) => (refuse_words(error, out), None),
         Ok(words) => {
             let mut store = MeddledStore::new(alloc, words.changes);
-            let report = serve_over(alloc, words.common, input, out, trace, &mut store);
-            (report, Some(store))
+            let words = words.common;
+            match words.generated {
+                None => {
+                    let report = serve_over(alloc, words, input, out, trace, &mut store);
+                    (report, Some(store))
+                }
+                Some(seed) => {
+                    let report = serve_generated(alloc, words, seed, out, trace, &mut store);
+                    (report, Some(store))
+                }
+            }
         }
     }
 }

@@ -9,6 +9,8 @@ mod faults;
 #[cfg(test)]
 mod forging;
 #[cfg(test)]
+mod generated;
+#[cfg(test)]
 mod printing;
 #[cfg(test)]
 mod session;

@@ -9,8 +9,8 @@ pub returns-in-Ok-write_all-clause-answered : goal.returns-in-Ok-write_all-claus
 returns-in-Ok-write_all-clause-answered g c =
     let body = c.in-Ok.ensures.answered in
     let line = c.as_bytes.ensures ∙ c.closing_line.ensures in
-    rw c.is_refused.ensures
-    (answers_one c.args.text.now c.args.refused _ body.step
+    rw c.tally_with.ensures
+    (answers_one c.args.text.now c.args.tally _ body.step
     (Appends-trans _ _ _ _ _ body.appends (rw line at c.in-Ok-write_all.ensures.ok)))
 
 pub returns-in-Err-write_all-clause-stopped : goal.returns-in-Err-write_all-clause-stopped
@@ -18,7 +18,7 @@ returns-in-Err-write_all-clause-stopped g c =
     let body = c.in-Ok.ensures.answered in
     let line = c.as_bytes.ensures ∙ c.closing_line.ensures in
     record {
-      bytes = body.body ++ closing_line c.in-Ok.outcome;
-      partly = inr (inr (record { answer = record { outcome = c.in-Ok.outcome; bytes = body.body ++ closing_line c.in-Ok.outcome }; step = body.step; whole = refl; fault = tt }));
+      bytes = body.body ++ closing_line c.in-Ok.answered.outcome;
+      partly = inr (inr (record { answer = record { outcome = c.in-Ok.answered.outcome; bytes = body.body ++ closing_line c.in-Ok.answered.outcome; plan = c.in-Ok.answered.plan }; step = body.step; whole = refl; fault = tt }));
       cut = Cut-after _ body.appends (Cut-fault tt (rw line at c.in-Err-write_all.ensures.cut));
     }

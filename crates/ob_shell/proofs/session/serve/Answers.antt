@@ -6,7 +6,7 @@ use Rattle.ob_shell.proofs.session.serve.Goals as goal
 
 pub bytes-init : goal.bytes-init
 bytes-init g c = record {
-  so_far = so_far_start _ _ _ _ _ c.new.ensures;
+  so_far = rw c.new-2.ensures (so_far_start _ _ _ _ _ c.new.ensures);
   short = rw c.new.ensures (omega arith);
   ready = c.requires.ready;
   fed_by = c.requires.fed_by;

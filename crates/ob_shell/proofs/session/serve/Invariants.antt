@@ -11,7 +11,7 @@ invariant-bytes g l =
     record {
       so_far :
           SoFar g.R.Revisions.state l.initial.feed l.feed (g.I.Source.left l.initial.input) (g.I.Source.left l.input)
-          (g.K.Sink.written l.initial.out) (g.K.Sink.written l.out) l.session.pending l.session.refused
+          (g.K.Sink.written l.initial.out) (g.K.Sink.written l.out) l.session.pending l.session.tally
           (machine_of l.initial.engine (g.S.BlockStore.state l.initial.store)) (machine_of l.engine (g.S.BlockStore.state l.store));
       short : length l.session.pending < text_max;
       ready : IsReady g.R.Revisions.state (machine_of l.engine (g.S.BlockStore.state l.store));

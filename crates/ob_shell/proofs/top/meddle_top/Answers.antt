@@ -1,7 +1,20 @@
-use Rattle.ob_shell.proofs.MeddleLemmas.{meddled}
+use Rattle.std.proofs.Common.{Some, None, map}
+use Rattle.std.specs.Prelude.{string_bytes}
+use Rattle.ob_shell.specs.Usage.{meddle_usage}
+use Rattle.ob_shell.proofs.AsideLemmas.{asked_is}
+use Rattle.ob_shell.proofs.MeddleLemmas.{meddle_ran, meddle_summarized, meddled}
 use Rattle.ob_shell.proofs.top.meddle_top.Goals as goal
 
-pub returns-in-Ok : goal.returns-in-Ok
-returns-in-Ok g c =
-    meddled c.new-store.result c.serve_over-report.new.store c.in-Ok.words.common.config c.in-Ok.words.changes.items c.in-Ok.ensures.ok c.new-store.ensures.list c.new-store.ensures.asked
-    (rw c.in-Ok.ensures.trace at c.serve_over-report.ensures.reported) (rw c.in-Ok.ensures.trace at c.serve_over-report.ensures.traced)
+pub returns-in-None : goal.returns-in-None
+returns-in-None g c =
+    let words = map string_bytes c.args.words.now in
+    meddle_ran words _ None _ _ c.serve_over-report.new.store _ (asked_is meddle_usage words c.in-Ok.ensures.generated c.in-None.is)
+    (meddled c.new-store.result c.serve_over-report.new.store c.in-Ok.words.common.config c.in-Ok.words.changes.items c.in-Ok.ensures.ok c.new-store.ensures.list c.new-store.ensures.asked
+    (rw c.in-Ok.ensures.trace at c.serve_over-report.ensures.reported.1) (rw c.in-Ok.ensures.trace at c.serve_over-report.ensures.traced))
+
+pub returns-in-Some : goal.returns-in-Some
+returns-in-Some g c =
+    let words = map string_bytes c.args.words.now in
+    meddle_ran words _ (Some c.in-Some.seed) _ _ c.serve_generated-report.new.store _ (asked_is meddle_usage words c.in-Ok.ensures.generated c.in-Some.is)
+    (meddle_summarized _ c.new-store.result c.serve_generated-report.new.store c.in-Ok.words.common.config c.in-Ok.words.changes.items c.in-Ok.ensures.ok c.new-store.ensures.list c.new-store.ensures.asked
+    (rw c.in-Ok.ensures.trace at c.serve_generated-report.ensures))

@@ -1,4 +1,6 @@
-use Rattle.std.proofs.Common.{refl}
+use Rattle.std.proofs.Common.{refl, sym}
+use Rattle.ob_gen.specs.Tally.{empty_tally}
+use Rattle.ob_shell.proofs.TallyLemmas.{tally_after-nil}
 use Rattle.ob_shell.specs.Running.{stop_of}
 use Rattle.ob_shell.proofs.TopLemmas.{shown_source_fault, shown_bad_key, shown_last, shown_ran}
 use Rattle.ob_shell.proofs.TraceLemmas.{traced_none, traced_whole}
@@ -8,7 +10,7 @@ pub returns-in-Err-SourceFault-clause-shown : goal.returns-in-Err-SourceFault-cl
 returns-in-Err-SourceFault-clause-shown g c =
     let new = c.new-feed.ensures in
     let read = rw c.in-Err-SourceFault.field-0-is at c.in-Err-SourceFault.ensures in
-    rw c.ended_at.ensures (shown_source_fault _ refl _ _ _ new.unread new.taken new.limit read.within read.fed_by _ _
+    rw c.ended_at.ensures (shown_source_fault _ _ refl _ _ _ new.unread new.taken new.limit read.within read.fed_by _ _
     (record {
       unasked = c.requires.fresh;
       honest = g.met.S.BlockStore.starts_honest c.args.store.now c.requires.fresh;
@@ -19,7 +21,7 @@ pub returns-in-Ok-Bad-clause-shown : goal.returns-in-Ok-Bad-clause-shown
 returns-in-Ok-Bad-clause-shown g c =
     let new = c.new-feed.ensures in
     let read = rw c.in-Ok-Bad.field-0-is at c.in-Ok-Bad.ensures in
-    rw c.ended_at-in-Ok-Bad.ensures (shown_bad_key _ refl _ _ _ new.unread new.taken new.limit read.within read.fed_by _ _
+    rw c.ended_at-in-Ok-Bad.ensures (shown_bad_key _ _ refl _ _ _ new.unread new.taken new.limit read.within read.fed_by _ _
     (record {
       unasked = c.requires.fresh;
       honest = g.met.S.BlockStore.starts_honest c.args.store.now c.requires.fresh;
@@ -36,7 +38,7 @@ pub returns-in-Ok-Last-clause-shown : goal.returns-in-Ok-Last-clause-shown
 returns-in-Ok-Last-clause-shown g c =
     let new = c.new-feed.ensures in
     let read = rw c.in-Ok-Last.field-0-is at c.in-Ok-Last.ensures in
-    rw c.ended_at-in-Ok-Last.ensures (shown_last _ refl _ _ _ new.unread new.taken new.limit read.within read.fed_by _ _ _
+    rw c.ended_at-in-Ok-Last.ensures (shown_last _ _ refl _ _ _ new.unread new.taken new.limit read.within read.fed_by (sym (tally_after-nil empty_tally)) _ _ _
     (record {
       unasked = c.requires.fresh;
       honest = g.met.S.BlockStore.starts_honest c.args.store.now c.requires.fresh;
@@ -52,4 +54,5 @@ returns-in-Ok-Secret-clause-shown g c =
     let read = rw c.in-Ok-Secret.field-0-is at c.in-Ok-Secret.ensures in
     let ended = c.ended_with.ensures in
     rw (ended.ending, ended.high)
-    (shown_ran _ c.in-Ok-Secret.key (stop_of c.serve_with-ran.result.0) new.unread new.taken new.limit c.serve_with-ran.ensures.within c.serve_with-ran.ensures.fed_by read.read c.serve_with-ran.ensures.ran)
+    (shown_ran _ c.in-Ok-Secret.key (stop_of c.serve_with-ran.result.0) new.unread new.taken new.limit c.serve_with-ran.ensures.within c.serve_with-ran.ensures.fed_by read.read c.serve_with-ran.ensures.ran
+    ended.tally)

@@ -7,4 +7,4 @@ pub returns-clause-reported : goal.returns-clause-reported
 returns-clause-reported g c =
     let run = c.run-ended.ensures in
     let closed = c.close.ensures in
-    reported_closed c.run-ended.result _ _ _ _ closed.status closed.high (takes_of _ run.words tt) run.shown run.cause closed.quiet closed.line run.quiet refl refl
+    (c.run-ended.result.tally, reported_closed c.run-ended.result _ _ _ _ closed.status closed.high (takes_of _ run.words tt) run.shown run.cause closed.quiet closed.line run.quiet refl refl)

@@ -21,4 +21,7 @@ returns c =
     let five : App = with_rule four (valued (codes "pack")) in
     let fifth : app_of c.in_ok-arg-5.field-0 ≡ five =
     c.in_ok-arg-5.ensures.shape c.valued-4.ensures.local ∙ ap₂ with_rule fourth c.valued-4.ensures.rule in
-    adds_last c.arg-6.result _ _ _ c.valued-5.ensures.local (ap₂ with_rule fifth c.valued-5.ensures.rule) c.arg-6.ensures
+    let six : App = with_rule five (valued (codes "max-input")) in
+    let sixth : app_of c.in_ok-arg-6.field-0 ≡ six =
+    c.in_ok-arg-6.ensures.shape c.valued-5.ensures.local ∙ ap₂ with_rule fifth c.valued-5.ensures.rule in
+    adds_last c.arg-7.result _ _ _ c.valued-6.ensures.local (ap₂ with_rule sixth c.valued-6.ensures.rule) c.arg-7.ensures

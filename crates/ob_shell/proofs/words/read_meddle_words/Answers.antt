@@ -1,8 +1,8 @@
 use Rattle.std.proofs.Common.{ap, refl, codes, sym, ◌∙◌, map, Err}
 use Rattle.std.specs.Prelude.{string_bytes}
 use Rattle.clap.specs.Words.{app_of}
-use Rattle.ob_shell.specs.Usage.{meddle_usage, is_set, changes_in}
-use Rattle.ob_shell.proofs.WordLemmas.{no_changes, no_meddling, parses_from, settings_from, value_from}
+use Rattle.ob_shell.specs.Usage.{meddle_usage, changes_in}
+use Rattle.ob_shell.proofs.WordLemmas.{no_changes, no_meddling, spells_words, value_from, words_from}
 use Rattle.ob_shell.proofs.words.read_meddle_words.Goals as goal
 
 pub returns-in-Ok-changes_in-clause-ok : goal.returns-in-Ok-changes_in-clause-ok
@@ -11,31 +11,29 @@ returns-in-Ok-changes_in-clause-ok c =
     let made = c.in-Ok-try_get_matches_from in
     let value = c.get_str.ensures ∙ value_from (app_of c.in-Ok.command) meddle_usage made.matches words (codes "meddle") c.in-Ok.ensures refl made.ensures.matches in
     record {
-      settings = record {
-        parses = parses_from (app_of c.in-Ok.command) meddle_usage words c.in-Ok.ensures refl made.ensures.kinds;
-        settings =
-            sym (settings_from (app_of c.in-Ok.command) meddle_usage made.matches words c.in-Ok.ensures refl made.ensures.matches)
-            ∙ sym c.settings.ensures.settings ∙ c.in-Some.is;
-      };
+      settings = (spells_words (app_of c.in-Ok.command) meddle_usage made.matches words c.in-Some.common c.in-Ok.ensures refl refl made.ensures.matches made.ensures.kinds
+          (sym c.common_words.ensures.words ∙ c.in-Some.is)).parses;
       changes = ap changes_in (sym value) ∙ c.in-Ok-changes_in.ensures.ok;
     }
 
 pub returns-in-Ok-changes_in-clause-trace : goal.returns-in-Ok-changes_in-clause-trace
 returns-in-Ok-changes_in-clause-trace c =
-    let words = map string_bytes c.args.words.now in
     let made = c.in-Ok-try_get_matches_from in
-    c.is_set.ensures
-    ∙ ap is_set
-    (c.get_str-in-Ok-changes_in.ensures
-    ∙ value_from (app_of c.in-Ok.command) meddle_usage made.matches words (codes "trace") c.in-Ok.ensures refl made.ensures.matches)
+    (spells_words (app_of c.in-Ok.command) meddle_usage made.matches (map string_bytes c.args.words.now) c.in-Some.common c.in-Ok.ensures refl refl made.ensures.matches made.ensures.kinds
+    (sym c.common_words.ensures.words ∙ c.in-Some.is)).trace
 
-pub returns-in_default-settings-clause-usage : goal.returns-in_default-settings-clause-usage
-returns-in_default-settings-clause-usage c is =
-    let words = map string_bytes c.args.words.now in
+pub returns-in-Ok-changes_in-clause-generated : goal.returns-in-Ok-changes_in-clause-generated
+returns-in-Ok-changes_in-clause-generated c =
     let made = c.in-Ok-try_get_matches_from in
+    (spells_words (app_of c.in-Ok.command) meddle_usage made.matches (map string_bytes c.args.words.now) c.in-Some.common c.in-Ok.ensures refl refl made.ensures.matches made.ensures.kinds
+    (sym c.common_words.ensures.words ∙ c.in-Some.is)).generated
+
+pub returns-in_default-common_words-clause-usage : goal.returns-in_default-common_words-clause-usage
+returns-in_default-common_words-clause-usage c is =
+    let words = map string_bytes c.args.words.now in
     no_meddling words
-    (sym (settings_from (app_of c.in-Ok.command) meddle_usage made.matches words c.in-Ok.ensures refl made.ensures.matches)
-    ∙ sym c.settings.ensures.settings ∙ c.in_default-settings.is)
+    (sym (words_from (app_of c.in-Ok.command) meddle_usage c.in-Ok-try_get_matches_from.matches words c.in-Ok.ensures refl c.in-Ok-try_get_matches_from.ensures.matches)
+    ∙ sym c.common_words.ensures.words ∙ c.in_default-common_words.is)
 
 pub returns-clause-usage : goal.returns-clause-usage
 returns-clause-usage c is =

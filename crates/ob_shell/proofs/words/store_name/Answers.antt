@@ -3,16 +3,16 @@ use Rattle.std.specs.Prelude.{string_bytes, IfOk}
 use Rattle.clap.specs.Words.{Text, app_of}
 use Rattle.ob_shell.specs.Settings.{IsTaken}
 use Rattle.ob_shell.specs.Usage.{store_of, usage}
-use Rattle.ob_shell.proofs.WordLemmas.{no_settings, parses_from, settings_from, value_from}
+use Rattle.ob_shell.proofs.WordLemmas.{no_words, spells_words, value_from, words_from}
 use Rattle.ob_shell.proofs.words.store_name.Goals as goal
 
-pub returns-in_default-settings-clause-named : goal.returns-in_default-settings-clause-named
-returns-in_default-settings-clause-named c name taken given =
+pub returns-in_default-common_words-clause-named : goal.returns-in_default-common_words-clause-named
+returns-in_default-common_words-clause-named c name taken given =
     let words = map string_bytes c.args.words.now in
     let made = c.in-Ok-try_get_matches_from in
-    absurd (no_settings usage words
-    (sym (settings_from (app_of c.in-Ok.command) usage made.matches words c.in-Ok.ensures refl made.ensures.matches)
-    ∙ sym c.settings.ensures.settings ∙ c.in_default-settings.is) taken)
+    absurd (no_words usage words
+    (sym (words_from (app_of c.in-Ok.command) usage made.matches words c.in-Ok.ensures refl made.ensures.matches)
+    ∙ sym c.common_words.ensures.words ∙ c.in_default-common_words.is) taken)
 
 pub returns-in-Some-get_str-clause-named : goal.returns-in-Some-get_str-clause-named
 returns-in-Some-get_str-clause-named c name taken given =
@@ -32,13 +32,9 @@ returns-in-Some-get_str-clause-unnamed c unnamed =
     ap (option_map (λ t. t.now)) (sym c.in-Some-get_str.is) ∙ c.get_str.ensures
     ∙ value_from (app_of c.in-Ok.command) usage made.matches words (codes "store") c.in-Ok.ensures refl made.ensures.matches in
     let taken : IsTaken usage words = (
-      c.in-Some.field-0,
-      record {
-        parses = parses_from (app_of c.in-Ok.command) usage words c.in-Ok.ensures refl made.ensures.kinds;
-        settings =
-            sym (settings_from (app_of c.in-Ok.command) usage made.matches words c.in-Ok.ensures refl made.ensures.matches)
-            ∙ sym c.settings.ensures.settings ∙ c.in-Some.is;
-      },
+      c.in-Some.field-0.config,
+      (spells_words (app_of c.in-Ok.command) usage made.matches words c.in-Some.field-0 c.in-Ok.ensures refl refl made.ensures.matches made.ensures.kinds
+          (sym c.common_words.ensures.words ∙ c.in-Some.is)).parses,
     ) in
     absurd (cc (value, unnamed taken))
 

@@ -1,0 +1,72 @@
+//! Runs over the text that is generated in place of the input.
+ghost use Rattle.std.specs.Prelude.{◌≡◌, [], Some};
+ghost use Rattle.ob_shell.specs.Endings;
+ghost use Rattle.ob_shell.specs.Generating.{Aside, ConcludedBy, SummedUp};
+ghost use Rattle.ob_gen.specs.SummaryText.{summary_of, summary_text};
+ghost use Rattle.ob_shell.specs.Settings.{AreWithin};
+
+use crate::top::{Ended, Ending, Report, close, run, status_of};
+use crate::words::{Seed, Words};
+use ob_base::{Failed, Stop};
+use ob_gen::{Discard, Generated, Summary, trace_digest};
+use ob_io::Sink;
+use ob_store::BlockStore;
+use std::alloc::Global;
+
+// Writes the summary of a run that came to the end of the text, in which a text was refused or none was.
+fn sum_up<O: Sink, S: BlockStore>(ended: Ended, refused: bool, store: &S, out: &mut O) -> Report
+    ensures high { result.high ≡ ended.high }
+    ensures summed { SummedUp refused
+        (summary_text (summary_of ended.tally (S.state store.now).asked))
+        (O.written out.old) (O.written out.new) (O.faults out.old) (O.faults out.new)
+        result.status }
+{
+    let summary = Summary {
+        tally: ended.tally,
+        accesses: store.count(),
+        trace: trace_digest(store),
+    };
+    let ending = match summary.write(out) {
+        Ok(()) => Ending::Ran(Ok(refused)),
+        Err(Failed) => Ending::Ran(Err(Stop::SinkFault)),
+    };
+    Report {
+        status: status_of(ending),
+        high: ended.high,
+    }
+}
+
+// Writes what is written of a run: its summary, or its last line.
+fn conclude<O: Sink, S: BlockStore>(ended: Ended, store: &S, out: &mut O) -> Report
+    ensures high { result.high ≡ ended.high }
+    ensures concluded { ConcludedBy ended.ending ended.quiet ended.tally (S.state store.now).asked
+        (O.written out.old) (O.written out.new) (O.faults out.old) (O.faults out.new)
+        result.status }
+{
+    match ended.ending {
+        Ending::Ran(Ok(refused)) => sum_up(ended, refused, store, out),
+        Ending::Usage | Ending::BadKey | Ending::Ran(Err(_)) => close(ended, out),
+    }
+}
+
+/// Serves the text that is generated from this seed, keeps none of its answers, and writes the summary, or the last line
+/// of a run that didn't come to its end.
+pub(crate) fn serve_generated<O: Sink, T: Sink, S: BlockStore>(
+    alloc: Global,
+    words: Words,
+    seed: Seed,
+    out: &mut O,
+    trace: &mut T,
+    store: &mut S,
+) -> Report
+    requires within { AreWithin words.config }
+    requires fresh { (S.state store.old).asked ≡ [] }
+    ensures { Aside seed words.trace (Some words.config)
+        (T.written trace.old) (T.written trace.new) (S.state store.old) (S.state store.new)
+        (T.faults trace.old) (T.faults trace.new)
+        (O.written out.old) (O.written out.new) (O.faults out.old) (O.faults out.new) result }
+{
+    let mut input = Generated::new(seed.start, seed.rows);
+    let ended = run(alloc, words, &mut input, &mut Discard, trace, store);
+    conclude(ended, store, out)
+}
