@@ -1,5 +1,6 @@
 pub mod AsideLemmas
 pub mod CompleteLemmas
+pub mod CountLemmas
 pub mod FeedLemmas
 pub mod KeyLemmas
 pub mod RunLemmas

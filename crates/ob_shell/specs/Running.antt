@@ -26,13 +26,14 @@ abbrev pub IsQuiet : {T : Type 0} → Result T Halted → Type 0
 IsQuiet (Ok x) = ⊥
 IsQuiet (Err halted) = halted.quiet ≡ true
 
--- when each stop comes: only where that count rose; the trace's may have risen after it
+-- when each stop comes: only where that count rose; those of the sinks may have risen behind a stop by a block or for want
+-- of memory
 abbrev pub StopCause : {T : Type 0} (old new : Faults) → Result T Stop → Type 0
 StopCause old new (Ok x) = NoneRose old new
-StopCause old new (Err (Tampered region place)) = (new.source ≡ old.source) × (new.out ≡ old.out)
-    × (old.trace ≤ new.trace)
+StopCause old new (Err (Tampered region place)) = (new.source ≡ old.source)
+    × (old.out ≤ new.out) × (old.trace ≤ new.trace)
 StopCause old new (Err SinkFault) = (new.source ≡ old.source) × SinksRose old new
-StopCause old new (Err NoMemory) = (new.source ≡ old.source) × (new.out ≡ old.out)
+StopCause old new (Err NoMemory) = (new.source ≡ old.source) × (old.out ≤ new.out)
     × (old.trace ≤ new.trace)
 StopCause old new (Err SourceFault) = Rises old.source new.source × (new.out ≡ old.out)
     × (new.trace ≡ old.trace)

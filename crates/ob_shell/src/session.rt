@@ -19,18 +19,24 @@ use ob_exec::{Engine, Outcome};
 use ob_gen::Tally;
 use ob_io::{Sink, Source};
 use ob_parse::{ParseErr, parse};
-use ob_print::{Line, Printer, refusal_line, write_all};
+use ob_print::{Line, Pieces, Printer, refusal_line, write_all};
 use ob_sql::Stmt;
 use ob_store::BlockStore;
 use ob_vault::Revisions;
 use std::alloc::Global;
 
-/// A stop, and whether its line may not be written any more.
+/// A stop, and whether nothing more may be written, its line neither, since a sink failed.
 #[derive(Clone, Copy, Debug, PartialEq, Eq)]
 pub struct Halted {
     pub stop: Stop,
     pub quiet: bool,
 }
+
+// The stop by a sink's fault.
+const SINK_FAILED: Halted = Halted {
+    stop: Stop::SinkFault,
+    quiet: true,
+};
 
 /// What a session knows beside the state of its engine.
 #[derive(Drop)]
@@ -84,37 +90,48 @@ fn counted_line(n: u64, what: &[u8]) -> Line
     line
 }
 
-// Runs one statement, whose text this is, and prints its header and rows.
+// Runs one statement, whose text this is, and prints its header and rows, of which none waits afterwards. Where the sink
+// fails behind a stop, the stop remains.
 fn run_stmt<R: Revisions, S: BlockStore, K: Sink>(
     engine: &mut Engine<R>,
     store: &mut S,
     text: &[u8],
     stmt: &Stmt,
     printer: &mut Printer<'_, K>,
-) -> Result<Answered, Stop>
+) -> Result<Answered, Halted>
     requires spells { Spells text.now (Ok stmt.now) }
     requires ready { IsReady R.state (machine_of engine.old (S.state store.old)) }
-    ensures same_sink { printer.new.out.ghost_name ≡ printer.old.out.ghost_name }
+    requires none { printer.old.out.waiting.items ≡ [] }
+    ensures same_sink { printer.new.out.out.ghost_name ≡ printer.old.out.out.ghost_name }
     ensures ready { OnOk result (IsReady R.state (machine_of engine.new (S.state store.new))) }
-    ensures answered { IfOk result (λ a. HasBody R.state (K.written printer.old.out.now)
-        (K.written printer.new.out.now) text.now a.outcome a.plan
+    ensures answered { IfOk result (λ a. HasBody R.state (K.written printer.old.out.out.now)
+        (K.written printer.new.out.out.now) text.now a.outcome a.plan
         (machine_of engine.old (S.state store.old)) (machine_of engine.new (S.state store.new))) }
-    ensures stopped { IfErr result (λ stop. StopsIn R.state (K.written printer.old.out.now)
-        (K.written printer.new.out.now) (text.now ∷ []) stop
+    ensures stopped { IfErr result (λ halted. StopsIn R.state (K.written printer.old.out.out.now)
+        (K.written printer.new.out.out.now) (text.now ∷ []) halted.stop
         (machine_of engine.old (S.state store.old)) (machine_of engine.new (S.state store.new))) }
     ensures asked { (seen : List Access) × ((S.state store.new).asked
         ≡ (S.state store.old).asked ++ seen) }
-    ensures cause { StopCause (faults_of 0 (K.faults printer.old.out.now) 0)
-        (faults_of 0 (K.faults printer.new.out.now) 0) result }
-    ensures limit { result ≡ Err Stop.InputLimit → ⊥ }
-    ensures source { result ≡ Err Stop.SourceFault → ⊥ }
+    ensures cause { StopCause (faults_of 0 (K.faults printer.old.out.out.now) 0)
+        (faults_of 0 (K.faults printer.new.out.out.now) 0) (stop_of result) }
+    ensures quiet { IsQuiet result → SinksRose (faults_of 0 (K.faults printer.old.out.out.now) 0)
+        (faults_of 0 (K.faults printer.new.out.out.now) 0) }
+    ensures limit { stop_of result ≡ Err Stop.InputLimit → ⊥ }
+    ensures source { stop_of result ≡ Err Stop.SourceFault → ⊥ }
 {
     match engine.run(store, stmt, printer) {
-        Ok(outcome) => Ok(Answered {
-            outcome,
-            plan: engine.seen().plan,
-        }),
-        Err(stop) => Err(stop),
+        Ok(outcome) => match printer.out.flush() {
+            Ok(()) => Ok(Answered {
+                outcome,
+                plan: engine.seen().plan,
+            }),
+            Err(Failed) => Err(SINK_FAILED),
+        },
+        Err(Stop::SinkFault) => Err(SINK_FAILED),
+        Err(stop) => {
+            let quiet = printer.out.flush().is_err();
+            Err(Halted { stop, quiet })
+        }
     }
 }
 
@@ -125,22 +142,24 @@ fn run_text<R: Revisions, S: BlockStore, K: Sink>(
     store: &mut S,
     text: &[u8],
     out: &mut K,
-) -> Result<Answered, Stop>
+) -> Result<Answered, Halted>
     requires short { length text.now ≤ text_max }
     requires ready { IsReady R.state (machine_of engine.old (S.state store.old)) }
     ensures ready { OnOk result (IsReady R.state (machine_of engine.new (S.state store.new))) }
     ensures answered { IfOk result (λ a. HasBody R.state (K.written out.old)
         (K.written out.new) text.now a.outcome a.plan
         (machine_of engine.old (S.state store.old)) (machine_of engine.new (S.state store.new))) }
-    ensures stopped { IfErr result (λ stop. StopsIn R.state (K.written out.old) (K.written out.new)
-        (text.now ∷ []) stop
+    ensures stopped { IfErr result (λ halted. StopsIn R.state (K.written out.old)
+        (K.written out.new) (text.now ∷ []) halted.stop
         (machine_of engine.old (S.state store.old)) (machine_of engine.new (S.state store.new))) }
     ensures asked { (seen : List Access) × ((S.state store.new).asked
         ≡ (S.state store.old).asked ++ seen) }
     ensures cause { StopCause (faults_of 0 (K.faults out.old) 0) (faults_of 0 (K.faults out.new) 0)
-        result }
-    ensures limit { result ≡ Err Stop.InputLimit → ⊥ }
-    ensures source { result ≡ Err Stop.SourceFault → ⊥ }
+        (stop_of result) }
+    ensures quiet { IsQuiet result → SinksRose (faults_of 0 (K.faults out.old) 0)
+        (faults_of 0 (K.faults out.new) 0) }
+    ensures limit { stop_of result ≡ Err Stop.InputLimit → ⊥ }
+    ensures source { stop_of result ≡ Err Stop.SourceFault → ⊥ }
 {
     let stmt = match parse(alloc, text) {
         Ok(stmt) => stmt,
@@ -151,10 +170,18 @@ fn run_text<R: Revisions, S: BlockStore, K: Sink>(
                     plan: None,
                 });
             }
-            ParseErr::NoMemory => return Err(Stop::NoMemory),
+            ParseErr::NoMemory => {
+                return Err(Halted {
+                    stop: Stop::NoMemory,
+                    quiet: false,
+                });
+            }
         },
     };
-    let mut printer = Printer { out, alloc };
+    let mut printer = Printer {
+        out: Pieces::new(out),
+        alloc,
+    };
     run_stmt(engine, store, text, &stmt, &mut printer)
 }
 
@@ -166,28 +193,30 @@ fn answer<R: Revisions, S: BlockStore, K: Sink>(
     store: &mut S,
     text: &[u8],
     out: &mut K,
-) -> Result<Tally, Stop>
+) -> Result<Tally, Halted>
     requires short { length text.now ≤ text_max }
     requires ready { IsReady R.state (machine_of engine.old (S.state store.old)) }
     ensures ready { OnOk result (IsReady R.state (machine_of engine.new (S.state store.new))) }
     ensures answered { IfOk result (λ counted. AnswersAll R.state (K.written out.old)
         (K.written out.new) (text.now ∷ []) tally counted
         (machine_of engine.old (S.state store.old)) (machine_of engine.new (S.state store.new))) }
-    ensures stopped { IfErr result (λ stop. StopsIn R.state (K.written out.old) (K.written out.new)
-        (text.now ∷ []) stop
+    ensures stopped { IfErr result (λ halted. StopsIn R.state (K.written out.old)
+        (K.written out.new) (text.now ∷ []) halted.stop
         (machine_of engine.old (S.state store.old)) (machine_of engine.new (S.state store.new))) }
     ensures asked { (seen : List Access) × ((S.state store.new).asked
         ≡ (S.state store.old).asked ++ seen) }
     ensures cause { StopCause (faults_of 0 (K.faults out.old) 0) (faults_of 0 (K.faults out.new) 0)
-        result }
-    ensures limit { result ≡ Err Stop.InputLimit → ⊥ }
-    ensures source { result ≡ Err Stop.SourceFault → ⊥ }
+        (stop_of result) }
+    ensures quiet { IsQuiet result → SinksRose (faults_of 0 (K.faults out.old) 0)
+        (faults_of 0 (K.faults out.new) 0) }
+    ensures limit { stop_of result ≡ Err Stop.InputLimit → ⊥ }
+    ensures source { stop_of result ≡ Err Stop.SourceFault → ⊥ }
 {
     match run_text(alloc, engine, store, text, out) {
-        Err(stop) => Err(stop),
+        Err(halted) => Err(halted),
         Ok(answered) => match write_all(out, closing_line(answered.outcome).as_bytes()) {
             Ok(()) => Ok(tally_with(tally, answered)),
-            Err(Failed) => Err(Stop::SinkFault),
+            Err(Failed) => Err(SINK_FAILED),
         },
     }
 }
@@ -227,19 +256,13 @@ fn answer_traced<R: Revisions, S: BlockStore, K: Sink, T: Sink>(
     match answer(alloc, tally, engine, store, text, out) {
         Ok(counted) => match trace_from(tracing, store, mark, trace) {
             Ok(()) => Ok(counted),
-            Err(Failed) => Err(Halted {
-                stop: Stop::SinkFault,
-                quiet: true,
-            }),
+            Err(Failed) => Err(SINK_FAILED),
         },
-        Err(Stop::SinkFault) => Err(Halted {
-            stop: Stop::SinkFault,
-            quiet: true,
-        }),
-        Err(stop) => match trace_from(tracing, store, mark, trace) {
-            Ok(()) => Err(Halted { stop, quiet: false }),
-            Err(Failed) => Err(Halted { stop, quiet: true }),
-        },
+        Err(Halted { stop, quiet: true }) => Err(Halted { stop, quiet: true }),
+        Err(Halted { stop, quiet: false }) => {
+            let quiet = trace_from(tracing, store, mark, trace).is_err();
+            Err(Halted { stop, quiet })
+        }
     }
 }
 
