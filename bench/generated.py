@@ -1,0 +1,335 @@
+#!/usr/bin/env python3
+"""Writes crates/ob_cases/data/generated.case: runs over generated text. What is wanted of them is counted here, from the
+rows that the statements leave and from the lists of their accesses in docs/SPECIFICATION.md; nothing that the program
+answers goes into it.
+"""
+import hashlib
+import pathlib
+
+DATA = pathlib.Path(__file__).resolve().parent.parent / "crates/ob_cases/data"
+PLANS = ["small", "large", "continuous", "hash"]
+
+
+def up(a, b):
+    """a / b, rounded up."""
+    return -(-a // b)
+
+
+def digits(start, rows):
+    """The values of the rows, by the sequence behind this number."""
+    x = start
+    for _ in range(rows):
+        x = (x * 6364136223846793005 + 1442695040888963407) % 2**64
+        yield x // 2**33 % 10
+
+
+def text(start, rows):
+    """The generated text, line by line."""
+    inserts = [f"INSERT INTO g VALUES ({i + 1}, {v});" for i, v in enumerate(digits(start, rows))]
+    return [
+        "0" * 64,
+        f"CREATE TABLE g (id INT PRIMARY KEY, v INT) CAPACITY {rows};",
+        *inserts,
+        "SELECT * FROM g WHERE v = 3;",
+        f"SELECT id FROM g WHERE id > {rows // 4};",
+        "SELECT v FROM g WHERE v <> 9;",
+        "SELECT v, COUNT(*) FROM g GROUP BY v;",
+        "UPDATE g SET v = 10 WHERE v = 1;",
+        "DELETE FROM g WHERE v = 2;",
+        "CREATE TABLE h (k INT) CAPACITY 4;",
+        "INSERT INTO h VALUES (1);",
+        "SELECT * FROM g JOIN h ON g.id = h.k;",
+        "SELECT COUNT(*), SUM(v) FROM g;",
+        "DROP TABLE g;",
+        "DROP TABLE h;",
+    ]
+
+
+class Run:
+    """What is asked and counted of one run."""
+
+    def __init__(self, buffer=64, depth=5, pack=1, plan="auto"):
+        self.pack, self.depth, self.plan = pack, depth, plan
+        self.chunk = (buffer - 2 * pack) // pack * pack
+        self.asked, self.next = [], 1
+        self.statements = self.refused = self.rows = 0
+        self.plans = dict.fromkeys(PLANS, 0)
+
+    def blocks(self, slots):
+        return up(slots, self.pack)
+
+    def make(self, blocks, width):
+        region, self.next = self.next, self.next + 1
+        self.asked.append(f"M {region} {blocks} {self.pack * width + 32}")
+        return region
+
+    def read(self, region, place):
+        self.asked.append(f"R {region} {place}")
+
+    def write(self, region, place):
+        self.asked.append(f"W {region} {place}")
+
+    def discard(self, region):
+        self.asked.append(f"D {region}")
+
+    def scan(self, region, slots):
+        for u in range(self.blocks(slots)):
+            self.read(region, u)
+
+    def create(self, slots, width):
+        region = self.make(self.blocks(slots), width)
+        for u in range(self.blocks(slots)):
+            self.write(region, u)
+        return region
+
+    def move(self, region, slots, width):
+        """Each block to a new region."""
+        there = self.make(self.blocks(slots), width)
+        for u in range(self.blocks(slots)):
+            self.read(region, u)
+            self.write(there, u)
+        self.discard(region)
+        return there
+
+    def insert(self, region, slots, width):
+        there = self.make(self.blocks(slots), width)
+        self.scan(region, slots)
+        for u in range(self.blocks(slots)):
+            self.read(region, u)
+            self.write(there, u)
+        self.discard(region)
+        return there
+
+    def emit(self, region, blocks):
+        for x in range(blocks):
+            self.read(region, x)
+        self.discard(region)
+
+    def small(self, region, slots, width, k):
+        out = self.make(self.blocks(k), width)
+        for j in range(up(k, self.chunk)):
+            self.scan(region, slots)
+            for x in range(j * self.chunk // self.pack, self.blocks(min(k, (j + 1) * self.chunk))):
+                self.write(out, x)
+        self.emit(out, self.blocks(k))
+
+    def large(self, region, slots, width):
+        out = self.make(self.blocks(slots), width)
+        for u in range(self.blocks(slots)):
+            self.read(region, u)
+            self.write(out, u)
+        for u in range(self.blocks(slots)):
+            self.read(out, u)
+            self.write(out, u)
+        self.emit(out, self.blocks(slots))
+
+    def slots_of(self, u, slots):
+        return range(u * self.pack, min(slots, (u + 1) * self.pack))
+
+    def continuous(self, region, slots, width, k):
+        out = self.make(self.blocks(k), width)
+        for x in range(self.blocks(k)):
+            self.write(out, x)
+        for u in range(self.blocks(slots)):
+            self.read(region, u)
+            for i in self.slots_of(u, slots):
+                self.read(out, i % k // self.pack)
+                self.write(out, i % k // self.pack)
+        self.emit(out, self.blocks(k))
+
+    def hash(self, region, slots, width, selected):
+        """Whether each selected slot found a place."""
+        k, d = len(selected), self.depth
+        out = self.make(k * d, width)
+        for x in range(k * d):
+            self.write(out, x)
+        held = [0] * k
+        fits = True
+        for u in range(self.blocks(slots)):
+            self.read(region, u)
+            for i in self.slots_of(u, slots):
+                first = i * 2654435761 % 2**32 * k // 2**32
+                second = (i * 2246822519 + 374761393) % 2**32 * k // 2**32
+                for bucket in (first, second):
+                    for y in range(d):
+                        self.read(out, bucket * d + y)
+                        self.write(out, bucket * d + y)
+                if i in selected:
+                    bucket = next((b for b in (first, second) if held[b] < d * self.pack), None)
+                    if bucket is None:
+                        fits = False
+                    else:
+                        held[bucket] += 1
+        self.emit(out, k * d)
+        return fits
+
+    def select(self, region, slots, width, selected):
+        """A SELECT of rows, behind a join too: whether it was answered."""
+        self.scan(region, slots)
+        k = len(selected)
+        if k == 0:
+            return True
+        together = selected == list(range(selected[0], selected[0] + k))
+        plan = self.plan
+        if plan == "auto":
+            plan = (
+                "small" if k <= 4 * self.chunk
+                else "continuous" if together
+                else "large" if 3 * slots <= 4 * k
+                else "hash"
+            )
+        if plan == "continuous" and not together:
+            return False
+        self.plans[plan] += 1
+        if plan == "small":
+            self.small(region, slots, width, k)
+        elif plan == "large":
+            self.large(region, slots, width)
+        elif plan == "continuous":
+            self.continuous(region, slots, width, k)
+        elif not self.hash(region, slots, width, selected):
+            if self.plan == "hash":
+                return False
+            self.small(region, slots, width, k)
+        return True
+
+    def count(self, answered, rows=0):
+        self.statements += 1
+        if answered:
+            self.rows += rows
+        else:
+            self.refused += 1
+
+    def serve(self, start, n):
+        """The statements of the generated text."""
+        g = self.create(n, 17)
+        self.count(True)
+        held = []
+        for i, v in enumerate(digits(start, n)):
+            g = self.insert(g, n, 17)
+            held.append([i + 1, v])
+            self.count(True)
+        for test in (lambda row: row[1] == 3, lambda row: row[0] > n // 4, lambda row: row[1] != 9):
+            selected = [i for i, row in enumerate(held) if test(row)]
+            self.count(self.select(g, n, 17, selected), len(selected))
+        self.scan(g, n)
+        groups = len({v for _, v in held})
+        self.count(groups <= self.chunk, groups)
+        g = self.move(g, n, 17)
+        self.count(True)
+        held = [[i, 10 if v == 1 else v] for i, v in held]
+        g = self.move(g, n, 17)
+        self.count(True)
+        held = [None if v == 2 else [i, v] for i, v in held]
+        h = self.create(4, 9)
+        self.count(True)
+        h = self.insert(h, 4, 9)
+        self.count(True)
+        chunks, rights = up(n, self.chunk), self.blocks(4)
+        joined = self.make(chunks * rights, 25)
+        for q in range(chunks):
+            for x in range(q * self.chunk // self.pack, min(self.blocks(n), (q + 1) * self.chunk // self.pack)):
+                self.read(g, x)
+            for v in range(rights):
+                self.read(h, v)
+                self.write(joined, q * rights + v)
+        selected = [0] if held[0] is not None else []
+        answered = self.select(joined, chunks * rights * self.pack, 25, selected)
+        self.discard(joined)
+        self.count(answered, len(selected))
+        self.scan(g, n)
+        self.count(True, 1)
+        self.discard(g)
+        self.count(True)
+        self.discard(h)
+        self.count(True)
+
+    def trace(self):
+        return hashlib.sha256("".join(line + "\n" for line in self.asked).encode()).hexdigest()
+
+    def summary(self):
+        return [
+            f"statements {self.statements}",
+            f"refused {self.refused}",
+            f"rows {self.rows}",
+            f"accesses {len(self.asked)}",
+            *[f"{plan} {self.plans[plan]}" for plan in PLANS],
+            f"trace {self.trace()}",
+        ]
+
+
+def case(name, words, answers, status, *more):
+    """A case whose input is none that the program takes, so that it shows where it is read."""
+    lines = [f"case {name}", f"words {words}", "key no secret", *[f"< {line}" for line in answers], *more]
+    return "\n".join([*lines, f"status {status}", ""])
+
+
+def counted(name, start, rows, words="", traced=False, **settings):
+    run = Run(**settings)
+    run.serve(start, rows)
+    more = [f"total {len(run.asked)}"] if traced else []
+    words = f"--gen {start},{rows}{words}"
+    return case(name, words, run.summary(), 1 if run.refused else 0, *more)
+
+
+def failed():
+    """The first INSERT fails at its first access, and what follows finds an empty table."""
+    run = Run()
+    g = run.create(1, 17)
+    run.make(1, 17)
+    for _ in range(4):
+        run.scan(g, 1)
+    g = run.move(run.move(g, 1, 17), 1, 17)
+    h = run.insert(run.create(4, 9), 4, 9)
+    joined = run.make(4, 25)
+    run.read(g, 0)
+    for v in range(4):
+        run.read(h, v)
+        run.write(joined, v)
+    run.scan(joined, 4)
+    run.discard(joined)
+    run.scan(g, 1)
+    run.discard(g)
+    run.discard(h)
+    run.statements, run.refused, run.rows = 14, 1, 1
+    return case("an access fails", "--gen 0,1 --meddle 3:fail", run.summary(), 1)
+
+
+def at_limit(start, rows):
+    """The limit of the input counts the generated text."""
+    size = sum(len(line) + 1 for line in text(start, rows))
+    run = Run()
+    run.serve(start, rows)
+    return [
+        case(f"{size} bytes are at their limit", f"--gen {start},{rows} --max-input {size}", ["! input limit"], 8),
+        case(f"{size} bytes are within their limit", f"--gen {start},{rows} --max-input {size + 1}", run.summary(), 0),
+    ]
+
+
+cases = [
+    counted("the least table", 0, 1),
+    counted("the same, traced", 0, 1, traced=True),
+    counted("with a small buffer", 0, 1, " --buffer 4", traced=True, buffer=4),
+    counted("by Large", 0, 1, " --plan large", traced=True, plan="large"),
+    counted("by Hash", 0, 1, " --plan hash", traced=True, plan="hash"),
+    counted("with two rows in a block", 0, 1, " --pack 2", traced=True, pack=2),
+    counted("the greatest start", 2**64 - 1, 3),
+    counted("twelve rows, more groups than may be kept", 0, 12, " --buffer 4", buffer=4),
+    counted("twelve rows by Continuous, not side by side", 0, 12, " --plan continuous", plan="continuous"),
+    counted("twelve rows by Hash", 7, 12, " --plan hash --depth 1", plan="hash", depth=1),
+    counted("forty rows, as many as two of Large", 5, 40, " --buffer 4", buffer=4),
+    counted("forty rows, three in a block", 5, 40, " --buffer 10 --pack 3", buffer=10, pack=3),
+    failed(),
+    case("a block is changed: the last line alone", "--gen 0,1 --meddle 8:flip:2.0.0", ["! tampered 2 0"], 4, "total 8"),
+    case("a text longer than its limit", "--gen 0,4096 --max-input 1024", ["! input limit"], 8),
+    *at_limit(3, 20),
+]
+for value in ["0", "0,", ",1", "0,0", "0,4097", "01,1", "0,01", "-1,1", "+1,1", "0,1,2", "0,1;", "18446744073709551616,1", "x,1"]:
+    cases.append(case(f"{value} is generated by nothing", f"--gen={value}", ["! usage"], 2))
+cases.append(case("a sign in a word of its own", "--gen -1,1", ["! usage"], 2))
+cases.append(case("no value", "--gen", ["! usage"], 2))
+cases.append(case("twice", "--gen 0,1 --gen 0,1", ["! usage"], 2))
+
+HEAD = "# Generated text is served in place of the input, which is read by none of these. Written by bench/generated.py.\n"
+(DATA / "generated.case").write_text(HEAD + "\n" + "\n".join(cases))
+print(f"{len(cases)} cases")
