@@ -11,18 +11,19 @@
 # Both tables hold the same few rows: how many rows a table has changes no access, and a row that is there takes no less
 # than an empty slot. Hash has buckets of one block (--depth 1), so that a measure takes seconds and not minutes.
 #
-# usage: bench/statements.sh [ROUNDS]     (of the time: 15 without it; 0 leaves the time out)
+# usage: bench/statements.sh [both|time|count] [ROUNDS]     (without them: both, in 15 rounds)
 # Needs `rt` (bench/build.sh), python3 and 200 MB; `valgrind` for the second measure. Takes ten minutes once the programs
 # are built, and twenty with valgrind.
 set -eu
 top=$(cd "$(dirname "$0")/.." && pwd)
 "$top/bench/build.sh" oblitrace ob_pass_bench
 
-PYTHONPATH="$top/bench" python3 - "$top" "${1:-15}" <<'PY'
+PYTHONPATH="$top/bench" python3 - "$top" "${1:-both}" "${2:-15}" <<'PY'
 import concurrent.futures, os, re, shutil, statistics, subprocess, sys, tempfile
 from driven import Passes, Session, quartiles
 
-top, rounds = sys.argv[1], int(sys.argv[2])
+top, measures = sys.argv[1:3]
+rounds = 0 if measures == "count" else int(sys.argv[3])
 PROGRAM, PASSES = (f"{top}/crates/{name}/out/{name}" for name in ("oblitrace", "ob_pass_bench"))
 SLOTS, WIDTH, JOINED, ROWS, FULL, K, LEFT = 65536, 17, 33, 64, 4, 2, 32
 LIMIT = 1.3
@@ -157,7 +158,7 @@ def all_counted(lines):
 
 # ---- both, as a table
 lines = [(it, pack) for pack in (1, 8, 16) for it in STATEMENTS if pack in it.packs]
-counted = all_counted(lines) if shutil.which("valgrind") else {}
+counted = all_counted(lines) if measures != "time" and shutil.which("valgrind") else {}
 times = {pack: all_timed(pack) for pack in (1, 8, 16)} if rounds else {}
 over_limit = 0
 
