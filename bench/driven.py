@@ -98,7 +98,7 @@ class Passes(Driven):
                 sys.exit(f"{typed.strip()}: {said[0]}")
             typed = "\n"
         said, spent = self.timed(typed, lambda _: True)
-        if not said[0].isdigit():
+        if not said[0].isdigit() or line[0] == "b" and int(said[0]) != line[2]:
             sys.exit(f"{line}: {said[0]}")
         return spent, int(said[0])
 
