@@ -107,3 +107,10 @@ def quartiles(numbers):
     """The first and the third."""
     cut = statistics.quantiles(numbers, n=4)
     return cut[0], cut[2]
+
+
+def machine():
+    """What this is measured on."""
+    with open("/proc/cpuinfo") as file:
+        models = [line.partition(":")[2].strip() for line in file if line.startswith("model name")]
+    return f"{len(models)} processors ({models[0]})" if models else "this machine"

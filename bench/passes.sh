@@ -9,7 +9,7 @@ top=$(cd "$(dirname "$0")/.." && pwd)
 
 PYTHONPATH="$top/bench" python3 - "$top/crates/ob_pass_bench/out/ob_pass_bench" <<'PY'
 import sys
-from driven import Passes
+from driven import Passes, machine
 from shapes import blocks, continuous, count, hashed, insert, join, large, rewrite, small
 
 slots = 65536
@@ -56,6 +56,7 @@ passes = [
     ("join", "j", join, 1.7, slots // 16, most_open, slots // 16),
 ]
 
+print(f"Passes beside their bare blocks, on {machine()}:\n")
 print("| Pass | bytes of a row | rows of a block | slots | open rows | k | pass, ms | bare, ms | ratio | limit | |")
 print("|---|---:|---:|---:|---:|---:|---:|---:|---:|---:|---|")
 for name, letter, shape, limit, n, rows, k in passes:

@@ -17,7 +17,7 @@
 #
 # usage: bench/sessions.sh [ROUNDS]     (11 without it)
 # Needs `rt` (bench/build.sh), python3, 300 MB, and 60 MB in the folder for temporary files (TMPDIR), where the files lie.
-# Takes ten minutes once the programs are built.
+# Takes five minutes once the programs are built.
 set -eu
 top=$(cd "$(dirname "$0")/.." && pwd)
 work=$(mktemp -d)
@@ -27,7 +27,7 @@ trap 'rm -rf "$work"' EXIT
 PYTHONPATH="$top/bench" python3 - "$top" "$work" "${1:-11}" <<'PY'
 import shutil, subprocess, sys
 from statistics import median
-from driven import Driven, Passes, Session, quartiles
+from driven import Driven, Passes, Session, machine, quartiles
 from shapes import blocks, count, insert, join, rewrite, small
 
 top, work, rounds = sys.argv[1], sys.argv[2], int(sys.argv[3])
@@ -143,7 +143,7 @@ def verdict(ratio, goal):
     over_goal += ratio > goal
     return "OK" if ratio <= goal else "OVER"
 
-print(f"A table of {SLOTS:,} slots, {OPEN} rows open: milliseconds of the processor, the median of {rounds} rounds.\n")
+print(f"A table of {SLOTS:,} slots, {OPEN} rows open, on {machine()}: milliseconds of the processor, the median of {rounds} rounds.\n")
 print("| Statement | rows of a block | memory | bare blocks | ratio | files | of memory's | quartiles | goal: 2 | memory, MB | files, MB | a full table |")
 print("|---|---:|---:|---:|---:|---:|---:|---|---|---:|---:|---:|")
 for pack in PACKS:
