@@ -104,9 +104,9 @@ class Passes(Driven):
 
 
 def quartiles(numbers):
-    """The first and the third."""
-    cut = statistics.quantiles(numbers, n=4)
-    return cut[0], cut[2]
+    """The first and the third; of one number, that."""
+    first, _, third = statistics.quantiles(numbers, n=4) if len(numbers) > 1 else numbers * 3
+    return first, third
 
 
 def machine():

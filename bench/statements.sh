@@ -163,9 +163,6 @@ counted = all_counted(lines) if measures != "time" and shutil.which("valgrind") 
 times = {pack: all_timed(pack) for pack in (1, 8, 16)} if rounds else {}
 over_limit = 0
 
-def spread(ratios):
-    return quartiles(ratios) if len(ratios) > 1 else (ratios[0], ratios[0])
-
 print(f"Statements beside their passes, limit {LIMIT}, on {machine()}:\n")
 print("| Statement | rows of a block | ms | its passes, ms | ratio | quartiles | instructions, millions | of its passes | ratio | |")
 print("|---|---:|---:|---:|---:|---|---:|---:|---:|---|")
@@ -175,7 +172,7 @@ for it, pack in lines:
     if rounds:
         pairs = times[pack][it.name]
         spent, alone = (min(side) for side in zip(*pairs))
-        low, high = spread([a / b for a, b in pairs])
+        low, high = quartiles([a / b for a, b in pairs])
         ratios.append(spent / alone)
         cells += [f"{spent:.2f}", f"{alone:.2f}", *([f"{spent / alone:.2f}", f"{low:.2f} to {high:.2f}"] if has_pass else ["", ""])]
     else:
@@ -236,7 +233,7 @@ if rounds:
         spent = session_time([*small, *texts * REPEATS]) - session_time(small)
         pairs.append((spent, passes.run("b", sealed, opened, WIDTH)[0]))
     spent, alone = (min(side) for side in zip(*pairs))
-    print_share("ms", spent, alone, *spread([1 - b / a for a, b in pairs]))
+    print_share("ms", spent, alone, *quartiles([1 - b / a for a, b in pairs]))
 if counted:
     # (a tenth of it, whose statements are the same)
     spent = 10 * (instructions([PROGRAM], whole([*small, *texts * (REPEATS // 10)])) - instructions([PROGRAM], whole(small)))
