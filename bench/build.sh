@@ -7,7 +7,7 @@
 set -eu
 top=$(cd "$(dirname "$0")/.." && pwd)
 log=$(mktemp)
-trap 'rm -f "$log"' EXIT
+trap 'rm -f "$log" "$top"/crates/oblidb/oblidb-store.*' EXIT
 
 for name in "$@"; do
     (cd "$top/crates/$name" && rt run <stdin >"$log" 2>&1) || {

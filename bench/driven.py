@@ -98,12 +98,19 @@ class Passes(Driven):
                 sys.exit(f"{typed.strip()}: {said[0]}")
             typed = "\n"
         said, spent = self.timed(typed, lambda _: True)
-        if not said[0].isdigit():
+        if not said[0].isdigit() or line[0] == "b" and int(said[0]) != line[2]:
             sys.exit(f"{line}: {said[0]}")
         return spent, int(said[0])
 
 
 def quartiles(numbers):
-    """The first and the third."""
-    cut = statistics.quantiles(numbers, n=4)
-    return cut[0], cut[2]
+    """The first and the third; of one number, that."""
+    first, _, third = statistics.quantiles(numbers, n=4) if len(numbers) > 1 else numbers * 3
+    return first, third
+
+
+def machine():
+    """What this is measured on."""
+    with open("/proc/cpuinfo") as file:
+        models = [line.partition(":")[2].strip() for line in file if line.startswith("model name")]
+    return f"{len(models)} processors ({models[0]})" if models else "this machine"

@@ -8,7 +8,7 @@
 set -eu
 top=$(cd "$(dirname "$0")/.." && pwd)
 work=$(mktemp -d)
-trap 'rm -rf "$work"; rm -f "$top"/crates/oblidb/oblidb-store.*' EXIT
+trap 'rm -rf "$work"' EXIT
 "$top/bench/build.sh" oblidb
 
 python3 - "$top/crates/oblidb/out/oblidb" "$work" <<'PY'

@@ -1,34 +1,26 @@
 #!/bin/sh
 # Times an INSERT into a table of 65,536 slots, beside the bare seals and unseals of its blocks, and prints beside them
 # what OpenSSL's HMAC-SHA-256 and ChaCha20 do, where `openssl` is there: the processor's time (bench/driven.py), the
-# least of seven.
+# least of nine.
 #
-# Needs `rt` (bench/build.sh) and python3. Takes half a minute once the programs are built.
+# Needs `rt` (bench/build.sh) and python3. Takes ten seconds once the programs are built.
 set -eu
 top=$(cd "$(dirname "$0")/.." && pwd)
-"$top/bench/build.sh" oblitrace ob_bench
+"$top/bench/build.sh" oblitrace ob_pass_bench
 
 PYTHONPATH="$top/bench" python3 - "$top" <<'PY'
-import os, subprocess, sys
-from driven import Session
+import sys
+from driven import Passes, Session
+from shapes import insert
 
-top = sys.argv[1]
-program = Session(f"{top}/crates/oblitrace/out/oblitrace")
-program.serve("CREATE TABLE t (id INT PRIMARY KEY, v INT) CAPACITY 65536;")
-one = min(program.serve(f"INSERT INTO t VALUES ({n}, {n});")[1] for n in range(7))
-
-# the milliseconds of the bare blocks of five INSERTs
-def bare():
-    child = subprocess.Popen([f"{top}/crates/ob_bench/out/ob_bench"], stdout=subprocess.DEVNULL, stdin=subprocess.DEVNULL)
-    _, status, used = os.wait4(child.pid, 0)
-    child.returncode = os.waitstatus_to_exitcode(status)
-    if child.returncode:
-        sys.exit(f"ob_bench ended with status {child.returncode}")
-    return 1000 * (used.ru_utime + used.ru_stime)
-
-alone = min(bare() for _ in range(7)) / 5
-print(f"INSERT, 65,536 slots, 196,610 accesses: {one:.0f} ms")
-print(f"its 65,536 seals and 131,072 unseals alone: {alone:.0f} ms")
+program, passes = (f"{sys.argv[1]}/crates/{name}/out/{name}" for name in ("oblitrace", "ob_pass_bench"))
+session, bare = Session(program), Passes(passes)
+session.serve("CREATE TABLE t (id INT PRIMARY KEY, v INT) CAPACITY 65536;")
+sealed, opened = insert(65536, 1, 64, 1)
+pairs = [(session.serve(f"INSERT INTO t VALUES ({n}, {n});")[1], bare.run("b", sealed, opened, 17)[0]) for n in range(9)]
+one, alone = map(min, zip(*pairs))
+print(f"INSERT, 65,536 slots, {2 + sealed + opened:,} accesses: {one:.0f} ms")
+print(f"its {sealed:,} seals and {opened:,} unseals alone: {alone:.0f} ms")
 print(f"ratio: {one / alone:.2f}")
 PY
 if command -v openssl >/dev/null; then

@@ -2,7 +2,7 @@
 # Measures whole sessions of the program over a table of 65,536 slots: in memory (oblitrace) and in files (oblidb), for 1,
 # 8 and 16 rows in a block, beside the bare seals and unseals of their blocks, and beside SQLCipher with a table of 65,536
 # rows, where `sqlcipher` is there (Debian has it as a package). Prints a table of the processor's time (bench/driven.py,
-# the median of some rounds) and of the peak of memory, with OK or OVER where there is a goal: over files within 2 times
+# the least of some rounds) and of the peak of memory, with OK or OVER where there is a goal: over files within 2 times
 # of over memory; with 16 rows in a block an UPDATE of every row no slower than SQLCipher's, and a COUNT with a condition
 # within 3 times. Ends with 1 where one is OVER.
 #
@@ -17,7 +17,7 @@
 #
 # usage: bench/sessions.sh [ROUNDS]     (11 without it)
 # Needs `rt` (bench/build.sh), python3, 300 MB, and 60 MB in the folder for temporary files (TMPDIR), where the files lie.
-# Takes ten minutes once the programs are built.
+# Takes five minutes once the programs are built.
 set -eu
 top=$(cd "$(dirname "$0")/.." && pwd)
 work=$(mktemp -d)
@@ -26,8 +26,7 @@ trap 'rm -rf "$work"' EXIT
 
 PYTHONPATH="$top/bench" python3 - "$top" "$work" "${1:-11}" <<'PY'
 import shutil, subprocess, sys
-from statistics import median
-from driven import Driven, Passes, Session, quartiles
+from driven import Driven, Passes, Session, machine, quartiles
 from shapes import blocks, count, insert, join, rewrite, small
 
 top, work, rounds = sys.argv[1], sys.argv[2], int(sys.argv[3])
@@ -127,7 +126,8 @@ for pack in PACKS:
             part, full = of_passes(passes, it, pack, SELECTED), of_passes(passes, it, pack, SLOTS)
             if n:
                 keep((it.name, pack, "bare"), bare)
-                keep((it.name, pack, "full"), full / part)
+                keep((it.name, pack, "part"), part)
+                keep((it.name, pack, "full"), full)
             if cipher and pack == PACKS[-1]:
                 spent = cipher.serve(it.theirs.format(n=SLOTS + 1000 + n))
                 if n:
@@ -136,6 +136,13 @@ for pack in PACKS:
         session.end()
 their_peak = cipher.peak() if cipher else None
 
+def least(*key):
+    return min(found[key])
+
+# How many times as long the passes of a statement take over a table that is full.
+def when_full(it, pack):
+    return least(it.name, pack, "full") / least(it.name, pack, "part")
+
 # ---- the tables
 over_goal = 0
 def verdict(ratio, goal):
@@ -143,18 +150,17 @@ def verdict(ratio, goal):
     over_goal += ratio > goal
     return "OK" if ratio <= goal else "OVER"
 
-print(f"A table of {SLOTS:,} slots, {OPEN} rows open: milliseconds of the processor, the median of {rounds} rounds.\n")
+print(f"A table of {SLOTS:,} slots, {OPEN} rows open, on {machine()}: milliseconds of the processor, the least of {rounds} rounds.\n")
 print("| Statement | rows of a block | memory | bare blocks | ratio | files | of memory's | quartiles | goal: 2 | memory, MB | files, MB | a full table |")
 print("|---|---:|---:|---:|---:|---:|---:|---|---|---:|---:|---:|")
 for pack in PACKS:
     for it in STATEMENTS:
-        times = {name: found[it.name, pack, name] for name in ("memory", "bare", "files")}
-        memory, bare, files = (median(it) for it in times.values())
-        low, high = quartiles([a / b for a, b in zip(times["files"], times["memory"])])
+        memory, bare, files = (least(it.name, pack, name) for name in ("memory", "bare", "files"))
+        low, high = quartiles([a / b for a, b in zip(found[it.name, pack, "files"], found[it.name, pack, "memory"])])
         print(
             f"| {it.name} | {pack} | {memory:.2f} | {bare:.2f} | {memory / bare:.2f} | {files:.2f} | {files / memory:.2f} "
             f"| {low:.2f} to {high:.2f} | {verdict(files / memory, 2)} | {peaks[it.name, pack, 'memory']:.0f} "
-            f"| {peaks[it.name, pack, 'files']:.0f} | x {median(found[it.name, pack, 'full']):.2f} |",
+            f"| {peaks[it.name, pack, 'files']:.0f} | x {when_full(it, pack):.2f} |",
             flush=True,
         )
 print("\n(a full table: how many times as long its passes take over a table of which each slot has a row)")
@@ -165,10 +171,10 @@ if cipher:
     print("| Statement | SQLCipher | memory | ratio | were the table full | files | ratio | were the table full | goal | |")
     print("|---|---:|---:|---:|---:|---:|---:|---:|---:|---|")
     for it in STATEMENTS:
-        theirs, more = median(found[it.name, "theirs"]), median(found[it.name, PACKS[-1], "full"])
+        theirs, more = least(it.name, "theirs"), when_full(it, PACKS[-1])
         cells = []
         for name in ("memory", "files"):
-            ours = median(found[it.name, PACKS[-1], name])
+            ours = least(it.name, PACKS[-1], name)
             cells.append(f"{ours:.2f} | {ours / theirs:.2f} | {more * ours / theirs:.2f}")
         goal = f"{it.goal} | {verdict(more * ours / theirs, it.goal)}" if it.goal else " | "
         print(f"| {it.name} | {theirs:.2f} | {' | '.join(cells)} | {goal} |", flush=True)

@@ -1,7 +1,8 @@
 #!/bin/sh
 # Measures each kind of statement over a table of 65,536 slots in memory beside the passes that it is made of, for 1, 8
 # and 16 rows in a block, and a session of 20,000 statements over a table of 16 slots beside the bare seals and unseals
-# of its blocks. Prints a table with OK or OVER in each line, and ends with 1 where one is OVER.
+# of its blocks. Prints a table with OK or OVER in each line, and ends with 1 where one is OVER. DROP TABLE has no pass, so
+# that there is nothing to measure it by: what stands there is what any statement takes beside its passes.
 #
 # Both sides are measured in two ways. The processor's time (bench/driven.py): in each round a statement and its passes
 # run one behind the other, so that what slows the machine down slows both; the ratio is that of the least of all rounds,
@@ -11,18 +12,19 @@
 # Both tables hold the same few rows: how many rows a table has changes no access, and a row that is there takes no less
 # than an empty slot. Hash has buckets of one block (--depth 1), so that a measure takes seconds and not minutes.
 #
-# usage: bench/statements.sh [ROUNDS]     (of the time: 15 without it; 0 leaves the time out)
-# Needs `rt` (bench/build.sh), python3 and 200 MB; `valgrind` for the second measure. Takes ten minutes once the programs
-# are built, and twenty with valgrind.
+# usage: bench/statements.sh [both|time|count] [ROUNDS]     (without them: both, in 15 rounds)
+# Needs `rt` (bench/build.sh), python3 and 200 MB; `valgrind` for the second measure. Takes five minutes once the programs
+# are built, and twenty processor minutes more with valgrind.
 set -eu
 top=$(cd "$(dirname "$0")/.." && pwd)
 "$top/bench/build.sh" oblitrace ob_pass_bench
 
-PYTHONPATH="$top/bench" python3 - "$top" "${1:-15}" <<'PY'
-import concurrent.futures, os, re, shutil, statistics, subprocess, sys, tempfile
-from driven import Passes, Session, quartiles
+PYTHONPATH="$top/bench" python3 - "$top" "${1:-both}" "${2:-15}" <<'PY'
+import concurrent.futures, os, re, shutil, subprocess, sys, tempfile
+from driven import Passes, Session, machine, quartiles
 
-top, rounds = sys.argv[1], int(sys.argv[2])
+top, measures = sys.argv[1:3]
+rounds = 0 if measures == "count" else int(sys.argv[3])
 PROGRAM, PASSES = (f"{top}/crates/{name}/out/{name}" for name in ("oblitrace", "ob_pass_bench"))
 SLOTS, WIDTH, JOINED, ROWS, FULL, K, LEFT = 65536, 17, 33, 64, 4, 2, 32
 LIMIT = 1.3
@@ -43,8 +45,8 @@ def emitted(slots, width=WIDTH, full=K):
     return [("e", width, slots, ROWS, 1, full)]
 
 class Statement:
-    """A statement, the passes that it is made of, the words of its session, what is typed before it and behind it, outside
-    of the measure, and the packs that it is measured with."""
+    """A statement, the passes that it is made of (DROP TABLE: the discard alone), the words of its session, what is typed
+    before it and behind it, outside of the measure, and the packs that it is measured with."""
 
     def __init__(self, name, text, passes, words="", before=(), behind=(), setup=SETUP, packs=(1, 8, 16)):
         self.name, self.text, self.passes, self.words = name, text, passes, words.split()
@@ -157,32 +159,34 @@ def all_counted(lines):
 
 # ---- both, as a table
 lines = [(it, pack) for pack in (1, 8, 16) for it in STATEMENTS if pack in it.packs]
-counted = all_counted(lines) if shutil.which("valgrind") else {}
+counted = all_counted(lines) if measures != "time" and shutil.which("valgrind") else {}
 times = {pack: all_timed(pack) for pack in (1, 8, 16)} if rounds else {}
 over_limit = 0
 
-print(f"Statements beside their passes, limit {LIMIT}:\n")
+print(f"Statements beside their passes, limit {LIMIT}, on {machine()}:\n")
 print("| Statement | rows of a block | ms | its passes, ms | ratio | quartiles | instructions, millions | of its passes | ratio | |")
 print("|---|---:|---:|---:|---:|---|---:|---:|---:|---|")
 for it, pack in lines:
+    has_pass = it.name != "DROP TABLE"
     cells, ratios = [it.name, pack], []
     if rounds:
         pairs = times[pack][it.name]
         spent, alone = (min(side) for side in zip(*pairs))
-        low, high = quartiles([a / b for a, b in pairs]) if rounds > 1 else (spent / alone, spent / alone)
+        low, high = quartiles([a / b for a, b in pairs])
         ratios.append(spent / alone)
-        cells += [f"{spent:.2f}", f"{alone:.2f}", f"{ratios[-1]:.2f}", f"{low:.2f} to {high:.2f}"]
+        cells += [f"{spent:.2f}", f"{alone:.2f}", *([f"{spent / alone:.2f}", f"{low:.2f} to {high:.2f}"] if has_pass else ["", ""])]
     else:
-        cells += ["", "", "", ""]
+        cells += [""] * 4
     if counted:
         spent, alone = counted[it.name, pack]
         ratios.append(spent / alone)
-        cells += [f"{spent / 1e6:.2f}", f"{alone / 1e6:.2f}", f"{ratios[-1]:.2f}"]
+        cells += [f"{spent / 1e6:.2f}", f"{alone / 1e6:.2f}", f"{spent / alone:.2f}" if has_pass else ""]
     else:
-        cells += ["", "", ""]
-    is_over = any(ratio > LIMIT for ratio in ratios)
+        cells += [""] * 3
+    is_over = has_pass and any(ratio > LIMIT for ratio in ratios)
     over_limit += is_over
-    print(f"| {' | '.join(map(str, cells))} | {'OVER' if is_over else 'OK'} |", flush=True)
+    verdict = "OVER" if is_over else "OK" if has_pass else "no pass"
+    print(f"| {' | '.join(map(str, cells))} | {verdict} |", flush=True)
 
 # ---- a session of short statements: of each, how many blocks it seals and opens, one row in each of 16
 U = 16
@@ -229,8 +233,7 @@ if rounds:
         spent = session_time([*small, *texts * REPEATS]) - session_time(small)
         pairs.append((spent, passes.run("b", sealed, opened, WIDTH)[0]))
     spent, alone = (min(side) for side in zip(*pairs))
-    shares = [1 - b / a for a, b in pairs]
-    print_share("ms", spent, alone, *(quartiles(shares) if rounds > 1 else (shares[0], shares[0])))
+    print_share("ms", spent, alone, *quartiles([1 - b / a for a, b in pairs]))
 if counted:
     # (a tenth of it, whose statements are the same)
     spent = 10 * (instructions([PROGRAM], whole([*small, *texts * (REPEATS // 10)])) - instructions([PROGRAM], whole(small)))
