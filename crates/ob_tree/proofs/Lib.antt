@@ -15,3 +15,4 @@ pub mod GoingLemmas
 pub mod HeightLemmas
 pub mod WalkLemmas
 pub mod LayLemmas
+pub mod ServeLemmas
