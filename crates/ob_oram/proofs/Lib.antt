@@ -3,6 +3,9 @@ pub mod Heights
 pub mod Creates
 pub mod KeyedRows
 pub mod WalkRows
+pub mod SlotBlocks
+pub mod WalkScripts
+pub mod WalkReads
 pub mod Seeing
 pub mod Regions
 pub mod Made

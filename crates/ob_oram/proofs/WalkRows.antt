@@ -1,7 +1,8 @@
 -- The blocks of a walk, and what reading and writing one of them does.
-use Rattle.std.proofs.Common.{◌≡◌, ◌≢◌, ◌⊎◌, ◌≤◌, ◌<◌, ◌+◌, ◌-◌, ◌*◌, ◌/◌, ◌%◌, ◌^◌, inl, inr, ℕ, zero, suc, Bool, IsTrue, List, [], ◌∷◌, ◌++◌, Option, None, Result, Ok, Err, length, get_or, refl, sym, ◌∙◌, ap, subst, arith}
+use Rattle.std.proofs.Common.{◌≡◌, ◌≢◌, ◌⊎◌, ◌≤◌, ◌<◌, ◌+◌, ◌-◌, ◌*◌, ◌/◌, ◌%◌, ◌^◌, inl, inr, ℕ, zero, suc, Bool, IsTrue, List, [], ◌∷◌, ◌++◌, Option, None, Result, Ok, Err, length, get_or, set, get_or-set_same, get_or-set_other, refl, sym, ◌∙◌, ap, subst, arith}
 use Rattle.std.specs.Prelude.{MatchResult, IfOk}
-use Rattle.std.proofs.lemmas.List.{append-nil, get_or_default}
+use Rattle.std.proofs.lemmas.Bool.{cases_eq}
+use Rattle.std.proofs.lemmas.List.{append-nil, get_or_default, length-set}
 use Rattle.std.proofs.Math.Nat.{pow-le-pow_right}
 use Rattle.ob_base.specs.Numbers.{blocks_for}
 use Rattle.ob_base.specs.Schemas.{width}
@@ -89,6 +90,16 @@ one_list (row ∷ other ∷ rows) d count = absurd (omega (arith, count))
 pub one_size : {rows after : List (List ℕ)} (row : List ℕ) → rows ≡ row ∷ [] → SameSizes rows after → length (get_or after 0 row) ≡ length row
 one_size {rows} {after} row is same =
     ap length (get_or_default after 0 row [] (omega (arith, same.count, ap length is))) ∙ same.sizes 0 ∙ ap (λ (l : List (List ℕ)). length (row_at l 0)) is
+
+-- a list in which one row was written
+pub sizes_set : (rows list : List (List ℕ)) (i : ℕ) (d bytes : List ℕ) → SameSizes rows list → i < length list → length bytes ≡ length (get_or list i d) → SameSizes rows (set list i bytes)
+sizes_set rows list i d bytes same inside size = record { count = length-set list i bytes ∙ same.count; sizes = λ j. at j (cases_eq j i) }
+  where
+    at : (j : ℕ) → (j ≡ i) ⊎ (j ≢ i) → length (row_at (set list i bytes) j) ≡ length (row_at rows j)
+    at j (inl here) =
+        ap (λ k. length (row_at (set list i bytes) k)) here ∙ ap length (get_or-set_same list i bytes [] inside) ∙ size
+        ∙ ap length (get_or_default list i d [] inside) ∙ same.sizes i ∙ ap (λ k. length (row_at rows k)) (sym here)
+    at j (inr other) = ap length (get_or-set_other list i j bytes [] other) ∙ same.sizes j
 
 -- a call of the vault by other names
 pub gets_as : {T : Type 0} {p q x y : ℕ} {a b c d : List (List ℕ)} (r : Result T VaultErr) (old new : World) → p ≡ q → x ≡ y → a ≡ b → c ≡ d → Gets p x a c r old new → Gets q y b d r old new

@@ -100,13 +100,13 @@ pub record ReadsWalk {T : Type 0} (index : Index) (walk : Walk) (result : Result
   pub told : (table : Slots) → Represents 1 (table_in index walk) table old
       → new.store.lie ≡ None → IfErr result (λ e. e ≡ Failed)
 
--- into its slot of the buffer, where rows that have no key of the index are left out
-pub record OpensWalk (index : Index) (walk : Walk) (slots after : Slots)
+-- the first n into their slots of the buffer, where rows that have no key of the index are left out
+pub record OpensWalk (index : Index) (walk : Walk) (n : ℕ) (slots after : Slots)
     (old new : World) : Type 0 where
-  pub others : (j : ℕ) → ((c : ℕ) → c < blocks_in walk → slot_in walk c ≢ j)
+  pub others : (j : ℕ) → ((c : ℕ) → c < n → slot_in walk c ≢ j)
       → slice_index_or after j None ≡ slice_index_or slots j None
   pub told : (table : Slots) → Represents 1 (table_in index walk) table old
-      → new.store.lie ≡ None → (c : ℕ) → c < blocks_in walk
+      → new.store.lie ≡ None → (c : ℕ) → c < n
       → slice_index_or after (slot_in walk c) None
       ≡ keyed_slot index (slice_index_or table (place_in walk c) None)
 

@@ -92,7 +92,7 @@ pub(crate) fn read_walk<S: BlockStore, R: Revisions>(
         (at R.state vault.old (S.state store.old)) (at R.state vault.new (S.state store.new)) }
     ensures opens { OnOk result ((slots : Slots) → IsOpen index.now remap slots buffer.old rows.old
         → (after : Slots) × IsOpen index.now remap after buffer.new rows.new
-        × OpensWalk index.now walk slots after
+        × OpensWalk index.now walk (blocks_in walk) slots after
         (at R.state vault.old (S.state store.old)) (at R.state vault.new (S.state store.new))) }
 {
     for c in 0..walk.blocks() {
