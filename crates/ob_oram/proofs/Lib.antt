@@ -6,6 +6,7 @@ pub mod WalkRows
 pub mod SlotBlocks
 pub mod WalkScripts
 pub mod WalkReads
+pub mod WalkWrites
 pub mod Seeing
 pub mod Regions
 pub mod Made
