@@ -7,6 +7,7 @@ pub mod SlotBlocks
 pub mod WalkScripts
 pub mod WalkReads
 pub mod WalkWrites
+pub mod OpRows
 pub mod Seeing
 pub mod Regions
 pub mod Made

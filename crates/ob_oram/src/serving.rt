@@ -1,11 +1,12 @@
 //! An operation on the rows that lie open.
-ghost use Rattle.std.specs.Prelude.{◌≡◌, ◌↔◌, ◌+◌, ◌<◌, ◌≤◌, ℕ, Option, Some, None, MatchOption, length, slice_index_or};
+ghost use Rattle.std.specs.Prelude.{◌≡◌, ◌≢◌, ◌↔◌, ◌+◌, ◌<◌, ◌≤◌, ℕ, Option, Some, None, MatchOption, length, slice_index_or};
 ghost use Rattle.std.specs.List.{All};
 ghost use Rattle.ob_base.specs.Schemas.{width};
 ghost use Rattle.ob_vault.specs.Rows.{SameSizes, Wide};
 ghost use Rattle.ob_row.specs.Rows.{Row, with_cells};
 ghost use Rattle.ob_row.specs.Slots.{Slots};
 ghost use Rattle.ob_row.specs.Spelling.{Begins};
+ghost use Rattle.ob_oram.specs.declared.held.Remap.{Remap as Remapped};
 ghost use Rattle.ob_oram.specs.declared.op.Got.TheVariants as Gots;
 ghost use Rattle.ob_oram.specs.Buffers.{HasAt, NoneHas};
 ghost use Rattle.ob_oram.specs.Heights.{rows_open};
@@ -69,7 +70,22 @@ fn serve_row(
     i: usize,
     buffer: &mut [Option<Held>],
     rows: &mut [ClearRow],
-) -> Got {
+) -> Got
+    requires shaped { IsShaped index.now }
+    requires op { FitsOp index.now.schema index.now.key op.now }
+    requires key { key_number index.now.capacity (key_of_op op.now) < index.now.capacity }
+    requires here { HasAt (key_number index.now.capacity (key_of_op op.now)) buffer.old i }
+    requires wide { Wide (width index.now.schema) rows.old }
+    requires open { (remap : Remapped) × (slots : Slots)
+        × IsOpen index.now remap slots buffer.old rows.old }
+    ensures rows { SameSizes rows.old rows.new }
+    ensures buffer { length buffer.new ≡ length buffer.old }
+    ensures range { result ≢ Gots.OutOfRange }
+    ensures serves { (remap : Remapped) (slots : Slots)
+        → IsOpen index.now remap slots buffer.old rows.old
+        → (after : Slots) × IsOpen index.now remap after buffer.new rows.new
+        × ServesRows index.now op.now slots after result }
+{
     match op {
         Op::Get(_) => Got::Row(cells_of(&index.schema, &rows[i])),
         Op::Insert(_, _) => Got::Duplicate,
@@ -92,7 +108,23 @@ fn serve_none(
     remap: Remap,
     buffer: &mut [Option<Held>],
     rows: &mut [ClearRow],
-) -> Got {
+) -> Got
+    requires shaped { IsShaped index.now }
+    requires op { FitsOp index.now.schema index.now.key op.now }
+    requires remap { remap.key ≡ key_number index.now.capacity (key_of_op op.now) }
+    requires key { remap.key < index.now.capacity }
+    requires none { NoneHas remap.key buffer.old }
+    requires buffer { length buffer.old ≡ rows_open index.now.height index.now.slots }
+    requires count { length rows.old ≡ rows_open index.now.height index.now.slots }
+    requires wide { Wide (width index.now.schema) rows.old }
+    ensures rows { SameSizes rows.old rows.new }
+    ensures buffer { length buffer.new ≡ length buffer.old }
+    ensures range { result ≢ Gots.OutOfRange }
+    ensures serves { (slots : Slots) → IsOpen index.now remap slots buffer.old rows.old
+        → slice_index_or slots (last_slot index.now) None ≡ None
+        → (after : Slots) × IsOpen index.now remap after buffer.new rows.new
+        × ServesRows index.now op.now slots after result }
+{
     match op {
         Op::Insert(_, cells) => {
             let last = rows.len() - 1;
