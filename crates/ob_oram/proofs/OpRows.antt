@@ -179,3 +179,10 @@ module _ (index : Index) (slots : Slots) (i : ℕ) (row : Row) (is : get_or slot
         open_set index remap slots buffer list opened i None None bytes inside
         (record { begins = subst (Begins index.schema None) (sym zeros) (zeros-begin index.schema (length old) wide); held_is = refl })
         (λ r at. absurd (cc at))
+
+-- there is no such key
+pub serves_past : (index : Index) (slots : Slots) (op : Op) → index.capacity ≤ tree_key index op → ServesRows index op slots slots Gots.OutOfRange
+serves_past index slots op past = record {
+  bag = λ single. applied_past (key_of index) index.capacity (op_in index.capacity op) slots past;
+  answer = λ single. sym (answer_past (key_of index) index.capacity (op_in index.capacity op) slots past);
+}
