@@ -8,6 +8,7 @@ pub mod WalkScripts
 pub mod WalkReads
 pub mod WalkWrites
 pub mod OpRows
+pub mod IndexReads
 pub mod Seeing
 pub mod Regions
 pub mod Made

@@ -1,15 +1,15 @@
 -- What lies in the tree and in the stash behind an access, where the slots of a buffer were written to them.
-use Rattle.std.proofs.Common.{◌≡◌, ◌≤◌, ◌<◌, ℕ, zero, suc, ◌-◌, ◌+◌, ◌*◌, ◌/◌, ◌%◌, ◌^◌, Bool, true, false, IsTrue, ◌⊎◌, ◌==◌, inl, inr, List, [], ◌∷◌, Option, Some, None, length, take, drop, get_or, refl, sym, ap, ◌∙◌, subst, arith}
+use Rattle.std.proofs.Common.{◌≡◌, ◌≤◌, ◌<◌, ℕ, zero, suc, ◌-◌, ◌+◌, ◌*◌, ◌/◌, ◌%◌, ◌^◌, Bool, true, false, IsTrue, ◌⊎◌, ◌==◌, inl, inr, List, [], ◌∷◌, Option, Some, None, length, take, drop, get_or, refl, sym, ap, ◌∙◌, subst, arith, length-append}
 use Rattle.std.specs.Prelude.{◌↔◌, nat_lt}
 use Rattle.std.specs.List.{list_any, All}
 use Rattle.std.proofs.lemmas.Bool.{eqb-true, eq-eqb, ne_eqb, cases_eq, cases_lt, cases_Bool, le-leb, false≢true, both_ways}
-use Rattle.std.proofs.lemmas.List.{length-set, get_or-take, get_or-drop}
-use Rattle.std.proofs.lemmas.List.Elements.{All-nil, All-cons}
+use Rattle.std.proofs.lemmas.List.{length-set, get_or-take, get_or-drop, get_or_append_left, get_or-append_right}
+use Rattle.std.proofs.lemmas.List.Elements.{All-nil, All-cons, All-head, All-tail}
 use Rattle.std.proofs.lemmas.List.Folds.{list_any_at}
 use Rattle.ob_row.specs.Bags.{Same}
 use Rattle.ob_tree.specs.Paths.{path_up, is_on_path, bucket_at, path_place, path_slot}
 use Rattle.ob_tree.specs.Rows.{rows, slots_of, by_key, Single}
-use Rattle.ob_tree.specs.States.{State, Represents, bucket}
+use Rattle.ob_tree.specs.States.{State, Represents, held, bucket}
 use Rattle.ob_tree.specs.Access.{Op, Evicted, evict, evicted, fits_by, leaf_read, leaves_after, take_path, applied, key_of, access}
 use Rattle.ob_tree.specs.Runs.{KeepsKey}
 use Rattle.ob_tree.specs.Places.{tests, InPlace}
@@ -171,3 +171,21 @@ module _ {R : Type 0} (key : R → ℕ) (h : ℕ) (s : State R) (m : ℕ → Opt
       let put : take (4 * (h + 1) + length s.stash) after ≡ laid (fits_by key h leaves) (path_up h leaf) (length s.stash) (by_key key put_in) =
       is ∙ ap (laid_slots (tests lf leaf h 0 (4 * (h + 1) + length s.stash))) ordered ∙ agree.0 ∙ laid_by_slots (fits_by key h leaves) (path_up h leaf) (length s.stash) start_of fit in
       ((rw test refl), lays_out h leaf below_leaf (fits_by key h leaves) s (by_key key put_in) leaves after rep.size fit put)
+
+pub rows-All : {R : Type 0} (P : R → Type 0) (slots : List (Option R)) → All P (rows slots) → (j : ℕ) (row : R) → get_or slots j None ≡ Some row → P row
+rows-All P [] each j row is = absurd (cc)
+rows-All P (None ∷ slots) each zero row is = absurd (cc)
+rows-All P (None ∷ slots) each (suc j) row is = rows-All P slots each j row is
+rows-All P (Some r ∷ slots) each zero row is = let same : r ≡ row = cc in subst P same (All-head P r (rows slots) each)
+rows-All P (Some r ∷ slots) each (suc j) row is = rows-All P slots (All-tail P r (rows slots) each) j row is
+
+-- each row of an index has a property
+module _ {R : Type 0} (P : R → Type 0) (s : State R) (each : All P (held s)) where
+  pub tree_rows : (j : ℕ) (row : R) → get_or s.tree j None ≡ Some row → P row
+  tree_rows = rows-All P s.tree (λ j d inside. subst P (get_or_append_left (rows s.tree) (rows s.stash) d j inside) (each j d (omega (arith, inside, length-append (rows s.tree) (rows s.stash)))))
+
+  pub stash_rows : (j : ℕ) (row : R) → get_or s.stash j None ≡ Some row → P row
+  stash_rows = rows-All P s.stash (λ j d inside.
+      let here : length (rows s.tree) + j - length (rows s.tree) ≡ j = omega arith in
+      subst P (get_or-append_right (rows s.tree) (rows s.stash) (length (rows s.tree)) (length (rows s.tree) + j) d refl (omega arith) ∙ ap (λ k. get_or (rows s.stash) k d) here)
+      (each (length (rows s.tree) + j) d (omega (arith, inside, length-append (rows s.tree) (rows s.stash)))))
