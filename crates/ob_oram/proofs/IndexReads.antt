@@ -147,7 +147,7 @@ pub opens_both : (index : Index) (remap : Remap) (leaf : ℕ) (below : leaf < 2 
     → OnOk r ((from : Slots) → IsOpen index remap from buffer list → (after : Slots) × IsOpen index remap after late wide × OpensWalk index (leaf_blocks index leaf) (path_blocks index.height) from after mid new)
     → IsOpen index remap slots buffer list
     → OnOk r ((after : Slots) × IsOpen index remap after late wide × OpensIndex index leaf after old new)
-opens_both index remap leaf below shaped old mid new slots buffer late list wide (Ok v) stash first walk count opens opened =
+opens_both index remap leaf below shaped old mid new slots buffer late list wide (Ok v) stash went walk count opens opened =
     let here = opens slots opened in
-    (here.0, here.1, opens_index index remap leaf below shaped old mid new slots here.0 stash here.2 (here.1.sees.count ∙ count) first walk.ok)
-opens_both index remap leaf below shaped old mid new slots buffer late list wide (Err e) stash first walk count opens opened = tt
+    (here.0, here.1, opens_index index remap leaf below shaped old mid new slots here.0 stash here.2 (here.1.sees.count ∙ count) went walk.ok)
+opens_both index remap leaf below shaped old mid new slots buffer late list wide (Err e) stash went walk count opens opened = tt

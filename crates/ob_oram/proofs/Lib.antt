@@ -9,6 +9,7 @@ pub mod WalkReads
 pub mod WalkWrites
 pub mod OpRows
 pub mod IndexReads
+pub mod IndexWrites
 pub mod Seeing
 pub mod Regions
 pub mod Made
