@@ -8,22 +8,25 @@ use Rattle.std.proofs.lemmas.List.Elements.{All-nil, All-cons, All-head, All-tai
 use Rattle.std.proofs.lemmas.List.Folds.{list_any_at}
 use Rattle.ob_row.specs.Bags.{Same}
 use Rattle.ob_tree.specs.Paths.{path_up, is_on_path, bucket_at, path_place, path_slot}
-use Rattle.ob_tree.specs.Rows.{rows, slots_of, by_key, Single}
+use Rattle.ob_tree.specs.Rows.{rows, slots_of, by_key, with_key, list_of, first, Single}
 use Rattle.ob_tree.specs.States.{State, Represents, held, bucket}
 use Rattle.ob_tree.specs.Access.{Op, Evicted, evict, evicted, fits_by, leaf_read, leaves_after, take_path, applied, key_of, access}
 use Rattle.ob_tree.specs.Runs.{KeepsKey}
 use Rattle.ob_tree.specs.Places.{tests, InPlace}
-use Rattle.ob_tree.specs.Slotwise.{laid, laid_slots, left_behind, slot_tests, LaysOut}
-use Rattle.ob_row.proofs.BagLemmas.{Same-sym}
+use Rattle.ob_tree.specs.Slotwise.{laid, laid_slots, left_behind, slot_tests, open_slots, LaysOut}
+use Rattle.ob_row.proofs.BagLemmas.{Same-sym, Same-trans, Same-filter}
+use Rattle.ob_tree.proofs.Moves.{Same-one}
+use Rattle.ob_tree.proofs.KeyLemmas.{applied_same, first-list_of}
 use Rattle.ob_tree.proofs.PathLemmas.{Apart, apart_path, length-upward}
 use Rattle.ob_tree.proofs.EvictLemmas.{length-evict}
 use Rattle.ob_tree.proofs.RowLemmas.{length-slots_of, Same-by_key}
 use Rattle.ob_tree.proofs.MeetLemmas.{path_at}
 use Rattle.ob_tree.proofs.OrderLemmas.{All-Same, by_key-Same, Single-Same}
-use Rattle.ob_tree.proofs.PlaceLemmas.{path_inside, untouched_slot, laid_in_tree, laid_in_stash}
+use Rattle.ob_tree.proofs.PlaceLemmas.{list_of-first, path_inside, untouched_slot, laid_in_tree, laid_in_stash}
+use Rattle.ob_tree.proofs.WalkLemmas.{rows-open_slots}
 use Rattle.ob_tree.proofs.HeightLemmas.{laid_agree, path_agrees}
 use Rattle.ob_tree.proofs.SlotwiseLemmas.{laid_by_slots, behind_by_slots}
-use Rattle.ob_tree.proofs.AccessLemmas.{went, full_from, put_in_single, leaf_below, leaves_below}
+use Rattle.ob_tree.proofs.AccessLemmas.{went, full_from, put_in_single, taken_single, leaf_below, leaves_below}
 
 -- a slot of a bucket
 slot_in : {R : Type 0} (tree : List (Option R)) (b z : ℕ) → z < 4 → get_or (bucket tree b) z None ≡ get_or tree (4 * b + z) None
@@ -189,3 +192,29 @@ module _ {R : Type 0} (P : R → Type 0) (s : State R) (each : All P (held s)) w
       let here : length (rows s.tree) + j - length (rows s.tree) ≡ j = omega arith in
       subst P (get_or-append_right (rows s.tree) (rows s.stash) (length (rows s.tree)) (length (rows s.tree) + j) d refl (omega arith) ∙ ap (λ k. get_or (rows s.stash) k d) here)
       (each (length (rows s.tree) + j) d (omega (arith, inside, length-append (rows s.tree) (rows s.stash)))))
+
+-- the same, where the rows were served among the slots of a path and of the stash
+module _ {R : Type 0} (key : R → ℕ) (h : ℕ) (s : State R) (m : ℕ → Option R) (op : Op R) (draw : ℕ) (rep : Represents key h s m) (slots : List (Option R)) (opened : slots ≡ open_slots h (leaf_read h s (key_of key op) draw) s) where
+  abbrev taken : List R
+  taken = take_path h s (leaf_read h s (key_of key op) draw)
+
+  same_taken : Same (rows slots) taken
+  same_taken = subst (λ l. Same (rows l) taken) (sym opened) (rows-open_slots h (leaf_read h s (key_of key op) draw) s)
+
+  pub single_open : Single key (rows slots)
+  single_open = Single-Same key taken (rows slots) (Same-sym (rows slots) taken same_taken) (taken_single key h s m op draw rep)
+
+  with_key_one : with_key key (key_of key op) (rows slots) ≡ list_of (first (with_key key (key_of key op) (rows slots)))
+  with_key_one = list_of-first (with_key key (key_of key op) (rows slots)) (single_open (key_of key op))
+
+  pub applied_open : (n : ℕ) (served : List R) → Same served (applied key n op (rows slots)) → Same served (applied key n op taken)
+  applied_open n served bag =
+      Same-trans served (applied key n op (rows slots)) (applied key n op taken) bag
+      (applied_same key n op (rows slots) taken (first (with_key key (key_of key op) (rows slots))) with_key_one same_taken)
+
+  pub first_open : first (with_key key (key_of key op) (rows slots)) ≡ first (with_key key (key_of key op) taken)
+  first_open =
+      let back : Same (with_key key (key_of key op) taken) (with_key key (key_of key op) (rows slots)) = Same-filter (λ r. key r == key_of key op) taken (rows slots) (Same-sym (rows slots) taken same_taken) in
+      let one : with_key key (key_of key op) taken ≡ list_of (first (with_key key (key_of key op) (rows slots))) =
+      Same-one (with_key key (key_of key op) taken) (first (with_key key (key_of key op) (rows slots))) (subst (λ l. Same (with_key key (key_of key op) taken) l) with_key_one back) in
+      sym (ap first one ∙ first-list_of (first (with_key key (key_of key op) (rows slots))))
