@@ -10,6 +10,8 @@ pub mod WalkWrites
 pub mod OpRows
 pub mod IndexReads
 pub mod IndexWrites
+pub mod AccessRuns
+pub mod AccessTold
 pub mod Seeing
 pub mod Regions
 pub mod Made

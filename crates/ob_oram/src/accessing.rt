@@ -7,6 +7,7 @@ ghost use Rattle.ob_blocks.specs.Idle.{IsIdle};
 ghost use Rattle.ob_row.specs.Slots.{Slots, empty_slots};
 ghost use Rattle.ob_flat.specs.Slots.{AreSlots};
 ghost use Rattle.ob_flat.specs.Words.{HasSpare};
+ghost use Rattle.ob_oram.specs.Buffers.{IsBuffer};
 ghost use Rattle.ob_oram.specs.Heights.{path_blocks, rows_open};
 ghost use Rattle.ob_oram.specs.declared.index.Index.{Index as AnIndex};
 ghost use Rattle.ob_oram.specs.Indexes.{IsIndex, IsShaped, IsStored, leaves_of};
@@ -166,6 +167,7 @@ fn access_open<S: BlockStore, R: Revisions>(
     requires stored { IsStored index.now (at R.state vault.old (S.state store.old)) }
     requires op { FitsOp index.now.schema index.now.key op.now }
     requires wide { Wide (width index.now.schema) rows.old }
+    requires even { (each : ℕ) × IsBuffer each rows.old }
     requires open { IsOpen index.now (remap_of index.now op.now draw)
         (empty_slots (rows_open index.now.height index.now.slots)) buffer.old rows.old }
     ensures rows { SameSizes rows.old rows.new }
