@@ -128,13 +128,13 @@ module _ (index : Index) (remap : Remap) (leaf : ℕ) (below : leaf < 2 ^ index.
         let tree = represents_lasts 1 (tree_of index) none old mid first.lasts (λ q. q) s.tree lies.lies.tree in
         open_slots_are index.height leaf below s lies.stands.size after (omega (arith, count, size))
         (λ c within.
-            path.told s.tree tree honest.nolie c within
-            ∙ keyed_same index (get_or s.tree (path_place index.height leaf c) None) (λ row is. omega (arith, keys, tree_rows (λ (r : Row). key_of index r < length s.leaves) s lies.stands.range (path_place index.height leaf c) row is)))
+        path.told s.tree tree honest.nolie c within
+        ∙ keyed_same index (get_or s.tree (path_place index.height leaf c) None) (λ row is. omega (arith, keys, tree_rows (λ (r : Row). key_of index r < length s.leaves) s lies.stands.range (path_place index.height leaf c) row is)))
         (λ i within.
-            let inside : i < index.slots = omega (arith, within, size) in
-            path.others (path_blocks index.height + i) (no_slot (path_blocks index.height + i) (omega arith))
-            ∙ stash.told s.stash lies.lies.stash honest_mid i inside
-            ∙ keyed_same index (get_or s.stash i None) (λ row is. omega (arith, keys, stash_rows (λ (r : Row). key_of index r < length s.leaves) s lies.stands.range i row is)))
+        let inside : i < index.slots = omega (arith, within, size) in
+        path.others (path_blocks index.height + i) (no_slot (path_blocks index.height + i) (omega arith))
+        ∙ stash.told s.stash lies.lies.stash honest_mid i inside
+        ∙ keyed_same index (get_or s.stash i None) (λ row is. omega (arith, keys, stash_rows (λ (r : Row). key_of index r < length s.leaves) s lies.stands.range i row is)))
         (ap (λ k. get_or after (path_blocks index.height + k) None) size ∙ last_empty)
 
     pub opens_index : OpensIndex index leaf after old new

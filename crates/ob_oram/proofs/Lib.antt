@@ -12,6 +12,7 @@ pub mod IndexReads
 pub mod IndexWrites
 pub mod AccessRuns
 pub mod AccessTold
+pub mod AccessIndex
 pub mod Seeing
 pub mod Regions
 pub mod Made

@@ -34,10 +34,10 @@ each_place : (f : ℕ → Access) (n : ℕ) (places : List ℕ) (place : ℕ →
 each_place f n places place size is =
     ext_get_or (f 0) (tabulate n (λ c. f (place c))) (map f places) (length-tabulate (λ c. f (place c)) n ∙ sym size ∙ sym (length-map places f))
     (λ i inside.
-        let below : i < n = omega (arith, inside, length-tabulate (λ c. f (place c)) n) in
-        get_or-tabulate (λ c. f (place c)) n i (f 0) below
-        ∙ ap f (sym (is i below))
-        ∙ sym (get_or-map f places i 0 (f 0) (omega (arith, below, size))))
+    let below : i < n = omega (arith, inside, length-tabulate (λ c. f (place c)) n) in
+    get_or-tabulate (λ c. f (place c)) n i (f 0) below
+    ∙ ap f (sym (is i below))
+    ∙ sym (get_or-map f places i 0 (f 0) (omega (arith, below, size))))
 
 pub length-places_in : (walk : Walk) → length (places_in walk) ≡ blocks_in walk
 length-places_in (Stash slots height) = length-numbers 0 slots

@@ -1,4 +1,4 @@
-ghost use Rattle.std.specs.Prelude.{◌≡◌, ◌≤◌, ◌<◌, ◌+◌, ◌^◌, ℕ, OnOk, max, length, slice_index_or};
+ghost use Rattle.std.specs.Prelude.{◌≡◌, ◌≤◌, ◌<◌, ◌+◌, ◌^◌, ℕ, None, OnOk, max, length, slice_index_or};
 ghost use Rattle.ob_base.specs.Schemas.{width};
 ghost use Rattle.ob_vault.specs.Places.{at};
 ghost use Rattle.ob_vault.specs.Rows.{SameSizes, Wide};
@@ -84,6 +84,16 @@ fn set_leaf(index: &mut Index, remap: Remap)
 {
     if remap.key < index.capacity {
         index.leaves[remap.key as usize] = remap.leaf;
+    }
+}
+
+// Takes all rows out of a buffer.
+fn empty(buffer: &mut [Option<Held>])
+    ensures count { length buffer.new ≡ length buffer.old }
+    ensures none { (j : ℕ) → slice_index_or buffer.new j None ≡ None }
+{
+    for slot in buffer.iter_mut() {
+        *slot = None;
     }
 }
 
@@ -224,10 +234,11 @@ pub fn access<S: BlockStore, R: Revisions>(
     let remap = remap_for(index, op, draw);
     let alloc = *index.buffer.allocator();
     let mut buffer = mem::replace(&mut index.buffer, Vec::new(alloc));
-    buffer.fill(None);
+    let slots = buffer.as_mut_slice();
+    empty(slots);
     let _ = room.rows();
-    let rows = room.open(buffer.len() as u32);
-    let result = access_open(store, vault, index, op, draw, buffer.as_mut_slice(), rows);
+    let rows = room.open(slots.len() as u32);
+    let result = access_open(store, vault, index, op, draw, slots, rows);
     room.clear_shelf();
     index.buffer = buffer;
     if result.is_ok() {

@@ -24,8 +24,7 @@ returns-in-Get-clause-serves c = λ remap slots opened.
     let key = tree_key_is index op c.requires.op in
     let within : tree_key index op < index.capacity = omega (arith, key, c.requires.key) in
     let inside : c.args.i < length slots = omega (arith, c.requires.here.within, opened.sees.count) in
-    let cells = c.cells_of.ensures here.row (begins_row index slots c.args.i here.row here.is remap c.args.buffer.now c.args.rows.now opened c.requires.here.within c.index-rows-i.result) in
-    (
+    let cells = c.cells_of.ensures here.row (begins_row index slots c.args.i here.row here.is remap c.args.buffer.now c.args.rows.now opened c.requires.here.within c.index-rows-i.result) in (
       slots,
       opened,
       serves_kept index slots c.args.i here.row here.is op (Gots.Row c.cells_of.result) inside (here.same ∙ sym key) within
@@ -40,8 +39,7 @@ returns-in-Insert-clause-serves c = λ remap slots opened.
     let here = row_here index remap slots c.args.buffer.now c.args.rows.now opened _ c.args.i c.requires.here in
     let key = tree_key_is index op c.requires.op in
     let within : tree_key index op < index.capacity = omega (arith, key, c.requires.key) in
-    let inside : c.args.i < length slots = omega (arith, c.requires.here.within, opened.sees.count) in
-    (
+    let inside : c.args.i < length slots = omega (arith, c.requires.here.within, opened.sees.count) in (
       slots,
       opened,
       serves_kept index slots c.args.i here.row here.is op Gots.Duplicate inside (here.same ∙ sym key) within
@@ -63,8 +61,7 @@ returns-in-Change-clause-serves c = λ remap slots opened.
     let new = with_cells c.in-Change.sets.now here.row in
     let begins = c.set_cells.ensures.told here.row (begins_row index slots i here.row here.is remap buffer rows opened c.requires.here.within c.index-rows-i-in-Change.result) in
     let keeps = rw c.in-Change.is at (keeps_key index op c.requires.op) in
-    let after : Tree.after (op_in index.capacity op) (Some here.row) ≡ Some new = ap (λ (o : Op). Tree.after (op_in index.capacity o) (Some here.row)) c.in-Change.is in
-    (
+    let after : Tree.after (op_in index.capacity op) (Some here.row) ≡ Some new = ap (λ (o : Op). Tree.after (op_in index.capacity o) (Some here.row)) c.in-Change.is in (
       set slots i (Some new),
       opens_changed index slots i here.row here.is remap buffer rows opened c.requires.here.within new c.set_cells.new.row (keeps here.row) begins,
       subst (λ s. ServesRows index op slots (set slots i s) Gots.Done) after
@@ -83,8 +80,7 @@ returns-in-Remove-clause-serves c = λ remap slots opened.
     let within : tree_key index op < index.capacity = omega (arith, key, c.requires.key) in
     let inside : i < length slots = omega (arith, c.requires.here.within, opened.sees.count) in
     let after : Tree.after (op_in index.capacity op) (Some here.row) ≡ None = ap (λ (o : Op). Tree.after (op_in index.capacity o) (Some here.row)) c.in-Remove.is in
-    let wide : width index.schema ≤ length (get_or rows i c.index-rows-i-in-Remove.result) = subst (λ l. width index.schema ≤ length l) (sym (row_is rows i c.index-rows-i-in-Remove.result (omega (arith, c.requires.here.within, opened.sees.same)))) (c.requires.wide.wide i (omega (arith, c.requires.here.within, opened.sees.same))) in
-    (
+    let wide : width index.schema ≤ length (get_or rows i c.index-rows-i-in-Remove.result) = subst (λ l. width index.schema ≤ length l) (sym (row_is rows i c.index-rows-i-in-Remove.result (omega (arith, c.requires.here.within, opened.sees.same)))) (c.requires.wide.wide i (omega (arith, c.requires.here.within, opened.sees.same))) in (
       set slots i None,
       opens_removed index slots i here.row here.is remap buffer rows opened c.requires.here.within c.clear.new.row (get_or rows i c.index-rows-i-in-Remove.result) c.clear.ensures wide,
       subst (λ s. ServesRows index op slots (set slots i s) Gots.Done) after
