@@ -1,5 +1,5 @@
 -- What an access says of an index whose buffer was taken out meanwhile.
-use Rattle.std.proofs.Common.{◌≡◌, ◌⊎◌, ◌≤◌, ◌<◌, ◌+◌, inl, inr, ℕ, true, false, List, [], Option, Some, None, Result, Ok, Err, Global, length, replicate, get_or, set, refl, sym, ◌∙◌, ap, subst, arith}
+use Rattle.std.proofs.Common.{◌≡◌, ◌⊎◌, ◌≤◌, ◌<◌, inl, inr, ℕ, true, false, List, [], Option, None, Result, Ok, Err, Global, length, replicate, get_or, set, refl, sym, ◌∙◌, ap, subst, arith}
 use Rattle.std.specs.Prelude.{is_ok}
 use Rattle.std.specs.declared.vec.Vec.{Vec}
 use Rattle.std.specs.Vec.{with_items}
@@ -24,9 +24,9 @@ use Rattle.ob_oram.specs.declared.op.Op.{Op}
 use Rattle.ob_oram.specs.declared.op.Got.{Got}
 use Rattle.ob_oram.specs.Buffers.{IsBuffer, held_of}
 use Rattle.ob_oram.specs.Heights.{rows_open}
-use Rattle.ob_oram.specs.Indexes.{IsMap, Lies, LiesAs, IsStored, IsShaped, leaves_of, key_of}
+use Rattle.ob_oram.specs.Indexes.{LiesAs, IsStored, IsShaped, leaves_of, key_of}
 use Rattle.ob_oram.specs.Opens.{IsOpen, leaf_with, leaves_with}
-use Rattle.ob_oram.specs.Accessing.{Accesses, Answers, AnswersMap, HasLeaves, LeftBy, Stays, Stops, StopsReading, StopsWriting, leaf_read, leaves_after, remap_of}
+use Rattle.ob_oram.specs.Accessing.{Accesses, Answers, HasLeaves, LeftBy, Stays, Stops, leaf_read, leaves_after, remap_of}
 
 module _ (index : Index) (buffer : Vec (Option Held) Global) where
   abbrev other : Index

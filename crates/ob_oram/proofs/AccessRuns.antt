@@ -1,16 +1,13 @@
 -- How an access ends, over any store.
-use Rattle.std.proofs.Common.{◌≡◌, ◌⊎◌, ◌≤◌, ◌<◌, ◌+◌, ◌*◌, ◌%◌, ◌^◌, inl, inr, ℕ, IsTrue, List, [], ◌++◌, Option, Some, None, Result, Ok, Err, length, map, get_or, set, refl, sym, ◌∙◌, ap, subst, arith}
-use Rattle.std.proofs.lemmas.Bool.{cases_lt}
+use Rattle.std.proofs.Common.{◌≡◌, ◌<◌, ◌+◌, ◌^◌, inl, inr, ℕ, List, [], ◌++◌, None, Result, Ok, Err, length, get_or, refl, sym, ◌∙◌, subst, arith}
 use Rattle.std.proofs.lemmas.List.{map-append, length-map, length-set}
-use Rattle.ob_base.specs.declared.access.Access.{Access}
 use Rattle.ob_vault.specs.declared.region.Order.TheVariants.{Round, Any}
 use Rattle.ob_vault.specs.State.{World}
 use Rattle.ob_vault.specs.Calls.{Went, Lasts, none, two}
 use Rattle.ob_vault.specs.Words.{MayAsk, MayStart, SealsAll, IsHonest}
-use Rattle.ob_vault.proofs.Runs.{went_join, went_wider, went_length, lasts_wider, seals_join}
+use Rattle.ob_vault.proofs.Runs.{went_join, went_wider, went_length, seals_join}
 use Rattle.ob_vault.proofs.WordLemmas.{asks_after, asks_start}
 use Rattle.ob_row.specs.Rows.{Row}
-use Rattle.ob_flat.specs.declared.flat.Flat.{Flat}
 use Rattle.ob_flat.specs.declared.fault.OpErr.TheVariants as OpErrs
 use Rattle.ob_flat.specs.Flats.{IsInTurn, IsWritten, Represents}
 use Rattle.ob_flat.specs.Passes.{PassCut}
@@ -28,11 +25,11 @@ use Rattle.ob_oram.specs.declared.index.Index.{Index}
 use Rattle.ob_oram.specs.declared.op.Op.{Op}
 use Rattle.ob_oram.specs.declared.op.Got.{Got}
 use Rattle.ob_oram.specs.Heights.{AreLeaves, path_blocks, rows_open}
-use Rattle.ob_oram.specs.Indexes.{IsShaped, IsStored, IsIndex, Lies, LiesAs, SealsIndex, leaves_of, key_of, tree_of, stash_of}
+use Rattle.ob_oram.specs.Indexes.{IsShaped, IsStored, IsIndex, Lies, SealsIndex, leaves_of, key_of, tree_of, stash_of}
 use Rattle.ob_oram.specs.Ops.{op_in}
 use Rattle.ob_oram.specs.Scripts.{access_in, read_script, write_script, access_script, script_length}
 use Rattle.ob_oram.specs.Halves.{ReadsIndex, RefusesIndex, WritesIndex}
-use Rattle.ob_oram.specs.Accessing.{Accesses, HasLeaves, LeftBy, Stays, Stops, StopsReading, StopsWriting, leaf_read, leaves_after, remap_of}
+use Rattle.ob_oram.specs.Accessing.{Accesses, HasLeaves, LeftBy, Stays, Stops, leaf_read, leaves_after, remap_of}
 use Rattle.ob_oram.proofs.IndexWrites.{in_turn_lasts}
 use Rattle.ob_oram.proofs.WalkRows.{height_few}
 

@@ -1,5 +1,5 @@
 -- What an access does to an index as it lies, where the store tells.
-use Rattle.std.proofs.Common.{◌≡◌, ◌⊎◌, ◌≤◌, ◌<◌, ◌+◌, ◌-◌, ◌*◌, ◌%◌, ◌^◌, ℕ, Bool, true, false, IsTrue, List, Option, Some, None, Ok, length, take, get_or, set, refl, sym, ◌∙◌, ap, subst, arith}
+use Rattle.std.proofs.Common.{◌≡◌, ◌<◌, ◌+◌, ◌-◌, ◌*◌, ℕ, Bool, true, false, List, Option, Some, None, Ok, length, get_or, set, refl, sym, ◌∙◌, ap, subst, arith}
 use Rattle.std.specs.Prelude.{◌↔◌}
 use Rattle.std.proofs.lemmas.List.{length-replicate}
 use Rattle.std.specs.List.{All}
@@ -17,16 +17,14 @@ use Rattle.ob_flat.specs.Flats.{Represents as HoldsSlots}
 use Rattle.ob_flat.specs.Slots.{Spelt}
 use Rattle.ob_flat.proofs.Tables.{represents_lasts}
 use Rattle.ob_tree.specs.Access as Tree
-use Rattle.ob_tree.specs.Rows.{rows, by_key, with_key, first, Single}
+use Rattle.ob_tree.specs.Rows.{rows, with_key, first, Single}
 use Rattle.ob_tree.specs.Runs.{map_after, map_answer, KeepsKey}
-use Rattle.ob_tree.specs.Slotwise.{left_behind, open_slots, LaysOut}
-use Rattle.ob_tree.specs.Places.{tests}
+use Rattle.ob_tree.specs.Slotwise.{open_slots, LaysOut}
 use Rattle.ob_tree.specs.States.{State, Represents, Stands, map_of}
 use Rattle.ob_tree.proofs.AccessLemmas.{went}
 use Rattle.ob_tree.proofs.LayLemmas.{All-rows, goes_on, stops_full, single_rows, single_open, applied_open, first_open}
 use Rattle.ob_tree.proofs.PlaceLemmas.{stands_for, stands_too}
 use Rattle.ob_tree.proofs.RunLemmas.{access_answers}
-use Rattle.ob_oram.specs.declared.fault.OramErr.{OramErr}
 use Rattle.ob_oram.specs.declared.index.Index.{Index}
 use Rattle.ob_oram.specs.declared.held.Held.{Held}
 use Rattle.ob_oram.specs.declared.held.Remap.{Remap}
@@ -37,11 +35,11 @@ use Rattle.ob_oram.specs.Buffers.{IsBuffer, Places}
 use Rattle.ob_oram.specs.Heights.{path_blocks, leaf_of_draw, rows_open}
 use Rattle.ob_oram.specs.Indexes.{IsShaped, IsMap, Lies, LiesAs, leaves_of, key_of, tree_of, stash_of}
 use Rattle.ob_oram.specs.Keys.{key_number}
-use Rattle.ob_oram.specs.Opens.{AreKeyed, OpensIndex, ServesRows, leaf_with, leaves_with, tree_key}
+use Rattle.ob_oram.specs.Opens.{AreKeyed, OpensIndex, ServesRows, leaf_with, tree_key}
 use Rattle.ob_oram.specs.Ops.{FitsOp, key_of_op, op_in, got_in}
 use Rattle.ob_oram.specs.Scripts.{read_script}
 use Rattle.ob_oram.specs.Halves.{WritesIndex}
-use Rattle.ob_oram.specs.Accessing.{Accesses, Answers, AnswersMap, HasLeaves, LeftBy, leaf_read, leaves_after, remap_of}
+use Rattle.ob_oram.specs.Accessing.{Answers, AnswersMap, HasLeaves, leaf_read, leaves_after, remap_of}
 use Rattle.ob_oram.proofs.OpRows.{keeps_key, tree_key_is}
 use Rattle.ob_oram.proofs.Seeing.{same_buffer, buffer_same}
 use Rattle.ob_oram.proofs.AccessRuns.{as_left}

@@ -1,7 +1,6 @@
 -- The stash and a path that are read one behind the other.
-use Rattle.std.proofs.Common.{◌≡◌, ◌≢◌, ◌⊎◌, ◌≤◌, ◌<◌, ◌+◌, ◌*◌, ◌/◌, ◌%◌, ◌^◌, inl, inr, ℕ, true, false, IsTrue, List, [], ◌∷◌, ◌++◌, Option, Some, None, Result, Ok, Err, cond, length, map, get_or, replicate, refl, sym, ◌∙◌, ap, subst, arith}
-use Rattle.std.specs.Prelude.{OnOk, nat_lt}
-use Rattle.std.specs.List.{All}
+use Rattle.std.proofs.Common.{◌≡◌, ◌≢◌, ◌≤◌, ◌<◌, ◌+◌, ◌^◌, inl, inr, ℕ, List, ◌++◌, Option, Some, None, Result, Ok, Err, length, map, get_or, refl, sym, ◌∙◌, ap, subst, arith}
+use Rattle.std.specs.Prelude.{OnOk}
 use Rattle.std.proofs.lemmas.Bool.{lt-ltb}
 use Rattle.std.proofs.lemmas.List.{map-append, length-map, get_or-replicate}
 use Rattle.std.proofs.lemmas.Simd.{map-map}
@@ -10,23 +9,19 @@ use Rattle.ob_base.specs.declared.access.Access.TheVariants.{Read}
 use Rattle.ob_vault.specs.State.{World}
 use Rattle.ob_vault.specs.Calls.{Went, none}
 use Rattle.ob_vault.specs.Words.{SealsAll, IsHonest}
-use Rattle.ob_vault.proofs.Runs.{went_join, none_went, went_length}
+use Rattle.ob_vault.proofs.Runs.{went_join, none_went}
 use Rattle.ob_row.specs.Rows.{Row}
 use Rattle.ob_row.specs.Slots.{Slots, empty_slots}
-use Rattle.ob_flat.specs.declared.fault.OpErr.{OpErr}
 use Rattle.ob_flat.specs.declared.fault.OpErr.TheVariants as OpErrs
-use Rattle.ob_flat.specs.Flats.{Represents}
 use Rattle.ob_flat.specs.Passes.{PassCut}
 use Rattle.ob_flat.specs.Words.{HasSpare}
 use Rattle.ob_flat.proofs.Runs.{pass_more, pass_after}
 use Rattle.ob_flat.proofs.Tables.{represents_lasts}
 use Rattle.ob_flat.proofs.WordLemmas.{sealed_after}
 use Rattle.ob_tree.specs.Paths.{path_place, path_slot}
-use Rattle.ob_tree.specs.Scripts as Tree
 use Rattle.ob_tree.specs.Scripts.{numbers, path_places, ReadStash, ReadTree}
 use Rattle.ob_tree.specs.Slotwise.{open_slots}
-use Rattle.ob_tree.specs.States.{State, Stands, held}
-use Rattle.ob_tree.proofs.RunLemmas.{length-read_script}
+use Rattle.ob_tree.specs.States.{State}
 use Rattle.ob_tree.proofs.LayLemmas.{tree_rows, stash_rows}
 use Rattle.ob_tree.proofs.WalkLemmas.{open_slots_are}
 use Rattle.ob_oram.specs.declared.fault.OramErr.{OramErr}
@@ -35,12 +30,11 @@ use Rattle.ob_oram.specs.declared.held.Held.{Held}
 use Rattle.ob_oram.specs.declared.held.Remap.{Remap}
 use Rattle.ob_oram.specs.declared.index.Index.{Index}
 use Rattle.ob_oram.specs.declared.walk.Walk.{Walk}
-use Rattle.ob_oram.specs.declared.walk.Walk.TheVariants.{Stash, Path}
 use Rattle.ob_oram.specs.Heights.{path_blocks, rows_open}
-use Rattle.ob_oram.specs.Indexes.{IsShaped, Lies, LiesAs, key_of, tree_of}
+use Rattle.ob_oram.specs.Indexes.{IsShaped, Lies, key_of, tree_of}
 use Rattle.ob_oram.specs.Opens.{IsOpen, OpensIndex, keyed_slot, last_slot}
 use Rattle.ob_oram.specs.Scripts.{access_in, read_script}
-use Rattle.ob_oram.specs.Walks.{blocks_in, slot_in}
+use Rattle.ob_oram.specs.Walks.{blocks_in}
 use Rattle.ob_oram.specs.Walking.{OpensWalk, ReadsWalk, RefusesWalk, places_in, region_in, walk_reads}
 use Rattle.ob_oram.specs.Halves.{ReadsIndex, RefusesIndex, leaf_blocks, stash_blocks}
 use Rattle.ob_oram.proofs.WalkScripts.{length-places_in}

@@ -1,5 +1,5 @@
 -- A path and the stash that are written one behind the other.
-use Rattle.std.proofs.Common.{◌≡◌, ◌≢◌, ◌⊎◌, ◌≤◌, ◌<◌, ◌+◌, ◌*◌, ◌/◌, ◌^◌, inl, inr, ℕ, Bool, true, false, IsTrue, List, [], ◌++◌, Option, None, Result, Ok, Err, length, map, get_or, refl, sym, ◌∙◌, ap, subst, arith}
+use Rattle.std.proofs.Common.{◌≡◌, ◌⊎◌, ◌≤◌, ◌<◌, ◌+◌, ◌/◌, ◌^◌, inl, inr, ℕ, true, false, IsTrue, List, ◌++◌, None, Result, Ok, Err, length, map, get_or, sym, ◌∙◌, ap, subst, arith}
 use Rattle.std.specs.List.{All}
 use Rattle.std.proofs.lemmas.Bool.{cases_Bool, cases_lt}
 use Rattle.std.proofs.lemmas.List.{map-append, length-map, get_or_default, get_or_past}
@@ -22,17 +22,15 @@ use Rattle.ob_flat.specs.declared.fault.OpErr.TheVariants as OpErrs
 use Rattle.ob_flat.specs.Flats.{IsInTurn, IsWritten, Represents}
 use Rattle.ob_flat.specs.Passes.{PassCut}
 use Rattle.ob_flat.specs.Slots.{FitsSlot, Spelt}
-use Rattle.ob_flat.specs.Words.{SealsTable}
 use Rattle.ob_flat.proofs.Rows.{spelt_fits}
 use Rattle.ob_flat.proofs.Runs.{pass_more, pass_after, pass_wider}
 use Rattle.ob_flat.proofs.Tables.{represents_lasts, written_lasts}
-use Rattle.ob_tree.specs.Paths.{is_on_path, path_place, path_slot}
+use Rattle.ob_tree.specs.Paths.{is_on_path, path_slot}
 use Rattle.ob_tree.specs.Scripts.{numbers, path_places, WriteTree, WriteStash}
 use Rattle.ob_tree.specs.Slotwise.{LaysOut}
 use Rattle.ob_tree.specs.States.{State}
 use Rattle.ob_tree.proofs.LayLemmas.{path_place_of, off_path}
 use Rattle.ob_oram.specs.declared.fault.OramErr.{OramErr}
-use Rattle.ob_oram.specs.declared.fault.OramErr.TheVariants.{Failed}
 use Rattle.ob_oram.specs.declared.index.Index.{Index}
 use Rattle.ob_oram.specs.declared.walk.Walk.{Walk}
 use Rattle.ob_oram.specs.Heights.{path_blocks}

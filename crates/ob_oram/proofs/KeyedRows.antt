@@ -1,6 +1,5 @@
 -- Rows as the buffer has them.
-use Rattle.std.proofs.Common.{◌≡◌, ◌≤◌, ◌<◌, ℕ, true, List, Option, Some, None, cond, length, replicate, refl, sym, ◌∙◌, ap, subst}
-use Rattle.std.specs.Prelude.{nat_lt}
+use Rattle.std.proofs.Common.{◌≡◌, ◌≤◌, ℕ, List, Option, Some, None, cond, length, replicate, refl, sym, ◌∙◌, ap, subst}
 use Rattle.std.proofs.lemmas.Bool.{le-ltb}
 use Rattle.ob_base.specs.Schemas.{width}
 use Rattle.ob_row.specs.Rows.{Row}

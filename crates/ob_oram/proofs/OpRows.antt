@@ -1,6 +1,6 @@
 -- An operation on the rows that lie open.
-use Rattle.std.proofs.Common.{◌≡◌, ◌≢◌, ◌⊎◌, ◌≤◌, ◌<◌, ◌+◌, inl, inr, ℕ, ℤ, Bor, List, [], ◌∷◌, ◌++◌, Option, Some, None, length, get_or, set, replicate, refl, sym, ◌∙◌, ap, subst, arith, get_or-set_same, get_or-set_other}
-use Rattle.std.specs.List.{All, slice_get}
+use Rattle.std.proofs.Common.{◌≡◌, ◌≢◌, ◌≤◌, ◌<◌, inl, inr, ℕ, ℤ, Bor, List, [], ◌∷◌, ◌++◌, Option, Some, None, length, get_or, set, replicate, refl, sym, ◌∙◌, ap, subst, arith, get_or-set_same, get_or-set_other}
+use Rattle.std.specs.List.{All}
 use Rattle.std.specs.Option.{option_map}
 use Rattle.std.proofs.lemmas.Bool.{cases_lt}
 use Rattle.std.proofs.lemmas.List.{set-get_or, length-set}
@@ -9,7 +9,6 @@ use Rattle.std.proofs.lemmas.Option.{slice_get-get_or, slice_get_past}
 use Rattle.ob_base.specs.Schemas.{Columns, width}
 use Rattle.ob_vault.specs.Rows.{row_at}
 use Rattle.ob_row.specs.declared.cell.Cell.{Cell}
-use Rattle.ob_row.specs.declared.cell.Cell.TheVariants.{Int}
 use Rattle.ob_row.specs.Bags.{Same}
 use Rattle.ob_row.specs.Rows.{Row, cell_at, with_cells}
 use Rattle.ob_row.specs.Slots.{Slots}
@@ -18,9 +17,9 @@ use Rattle.ob_row.proofs.SpellingLemmas.{row_bytes-begin, zeros-begin}
 use Rattle.ob_row.proofs.BagLemmas.{Same-refl, Same-trans}
 use Rattle.ob_flat.proofs.Rows.{row_is}
 use Rattle.ob_tree.specs.Access as Tree
-use Rattle.ob_tree.specs.Rows.{rows, list_of, Single}
+use Rattle.ob_tree.specs.Rows.{rows, list_of}
 use Rattle.ob_tree.specs.Runs.{KeepsKey}
-use Rattle.ob_tree.proofs.ServeLemmas.{rows-set_none, rows-set_some, set_none-empty, applied_found, answer_found, applied_absent, answer_absent, applied_past, answer_past}
+use Rattle.ob_tree.proofs.ServeLemmas.{rows-set_some, set_none-empty, applied_found, answer_found, applied_absent, answer_absent, applied_past, answer_past}
 use Rattle.ob_oram.specs.declared.held.Held.{Held}
 use Rattle.ob_oram.specs.declared.held.Remap.{Remap}
 use Rattle.ob_oram.specs.declared.index.Index.{Index}
@@ -28,7 +27,7 @@ use Rattle.ob_oram.specs.declared.op.Op.{Op}
 use Rattle.ob_oram.specs.declared.op.Op.TheVariants.{Get, Insert, Change, Remove}
 use Rattle.ob_oram.specs.declared.op.Got.{Got}
 use Rattle.ob_oram.specs.declared.op.Got.TheVariants as Gots
-use Rattle.ob_oram.specs.Buffers.{HasAt, NoneHas, Sees, held_of}
+use Rattle.ob_oram.specs.Buffers.{HasAt, NoneHas, held_of}
 use Rattle.ob_oram.specs.Indexes.{IsShaped, key_of, leaves_of}
 use Rattle.ob_oram.specs.Keys.{key_number, cell_number}
 use Rattle.ob_oram.specs.Opens.{IsOpen, OpensRow, ServesRows, leaf_with, leaves_with, tree_key}

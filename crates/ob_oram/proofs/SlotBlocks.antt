@@ -1,15 +1,13 @@
 -- A table of one slot a block, slot by slot.
-use Rattle.std.proofs.Common.{◌≡◌, ◌<◌, ◌≤◌, ◌+◌, ◌-◌, ◌*◌, ℕ, List, [], ◌∷◌, Option, None, length, get_or, refl, sym, ◌∙◌, ap, subst, arith}
+use Rattle.std.proofs.Common.{◌≡◌, ◌<◌, ◌+◌, ◌-◌, ◌*◌, ℕ, List, [], ◌∷◌, None, length, get_or, sym, ◌∙◌, ap, arith}
 use Rattle.std.specs.List.{All}
 use Rattle.std.proofs.lemmas.List.{append-nil, get_or_append_left}
 use Rattle.ob_base.specs.Numbers.{blocks_for}
-use Rattle.ob_base.specs.Schemas.{Columns}
 use Rattle.ob_vault.specs.State.{World}
 use Rattle.ob_vault.specs.Tied.{Holds}
 use Rattle.ob_vault.proofs.Runs.{holds_rows}
-use Rattle.ob_blocks.specs.Blocks.{none_of, up_to, block_at}
+use Rattle.ob_blocks.specs.Blocks.{none_of, block_at}
 use Rattle.ob_blocks.proofs.Blocks.{length-block, length-up_to, block-element}
-use Rattle.ob_row.specs.Rows.{Row}
 use Rattle.ob_row.specs.Slots.{Slots}
 use Rattle.ob_row.specs.Spelling.{slot_bytes}
 use Rattle.ob_flat.specs.declared.flat.Flat.{Flat}

@@ -1,5 +1,5 @@
 -- A walk that is read block by block into a buffer.
-use Rattle.std.proofs.Common.{◌≡◌, ◌≢◌, ◌⊎◌, ◌≤◌, ◌<◌, ◌+◌, ◌-◌, ◌*◌, ◌/◌, ◌%◌, ◌^◌, inl, inr, ℕ, true, false, List, [], ◌∷◌, Option, Some, None, Result, Ok, Err, cond, length, take, get_or, set, refl, sym, ◌∙◌, ap, subst, arith, get_or-set_same, get_or-set_other}
+use Rattle.std.proofs.Common.{◌≡◌, ◌≢◌, ◌⊎◌, ◌≤◌, ◌<◌, ◌+◌, ◌*◌, inl, inr, ℕ, true, false, List, [], Option, Some, None, Ok, Err, cond, length, take, get_or, set, refl, sym, ◌∙◌, ap, subst, arith, get_or-set_same, get_or-set_other}
 use Rattle.std.specs.Prelude.{nat_lt}
 use Rattle.std.specs.Option.{option_map}
 use Rattle.std.proofs.lemmas.Bool.{cases_eq, cases_lt, cases_Bool, ltb-true}
@@ -33,11 +33,11 @@ use Rattle.ob_oram.specs.declared.held.Remap.{Remap}
 use Rattle.ob_oram.specs.declared.index.Index.{Index}
 use Rattle.ob_oram.specs.declared.walk.Walk.{Walk}
 use Rattle.ob_oram.specs.declared.walk.Walk.TheVariants.{Stash, Path}
-use Rattle.ob_oram.specs.Buffers.{Sees, held_of}
-use Rattle.ob_oram.specs.Indexes.{IsShaped, key_of}
-use Rattle.ob_oram.specs.Opens.{AreKeyed, IsOpen, OpensRow, keyed_slot, leaf_with}
+use Rattle.ob_oram.specs.Buffers.{held_of}
+use Rattle.ob_oram.specs.Indexes.{key_of}
+use Rattle.ob_oram.specs.Opens.{IsOpen, OpensRow, keyed_slot, leaf_with}
 use Rattle.ob_oram.specs.Walks.{blocks_in, place_in, slot_in}
-use Rattle.ob_oram.specs.Walking.{IsWalkOf, OpensWalk, ReadsRow, ReadsWalk, RefusesRow, RefusesWalk, region_in, table_in, walk_reads}
+use Rattle.ob_oram.specs.Walking.{IsWalkOf, OpensWalk, ReadsRow, ReadsWalk, RefusesRow, RefusesWalk, region_in, table_in}
 use Rattle.ob_oram.proofs.Creates.{one_each}
 use Rattle.ob_oram.proofs.WalkRows.{place_below}
 use Rattle.ob_oram.proofs.WalkScripts.{reads_each}

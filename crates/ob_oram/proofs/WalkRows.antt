@@ -1,38 +1,33 @@
 -- The blocks of a walk, and what reading and writing one of them does.
-use Rattle.std.proofs.Common.{◌≡◌, ◌≢◌, ◌⊎◌, ◌≤◌, ◌<◌, ◌+◌, ◌-◌, ◌*◌, ◌/◌, ◌%◌, ◌^◌, inl, inr, ℕ, zero, suc, Bool, IsTrue, List, [], ◌∷◌, ◌++◌, Option, None, Result, Ok, Err, length, get_or, set, get_or-set_same, get_or-set_other, refl, sym, ◌∙◌, ap, subst, arith}
-use Rattle.std.specs.Prelude.{MatchResult, IfOk}
+use Rattle.std.proofs.Common.{◌≡◌, ◌≢◌, ◌⊎◌, ◌≤◌, ◌<◌, ◌+◌, ◌-◌, ◌*◌, ◌/◌, ◌^◌, inl, inr, ℕ, zero, suc, List, [], ◌∷◌, Option, None, Result, Ok, Err, length, get_or, set, get_or-set_same, get_or-set_other, refl, sym, ◌∙◌, ap, subst, arith}
+use Rattle.std.specs.Prelude.{MatchResult}
 use Rattle.std.proofs.lemmas.Bool.{cases_eq}
 use Rattle.std.proofs.lemmas.List.{append-nil, get_or_default, length-set}
-use Rattle.std.proofs.Math.Nat.{pow-le-pow_right}
 use Rattle.ob_base.specs.Numbers.{blocks_for}
 use Rattle.ob_base.specs.Schemas.{width}
-use Rattle.ob_base.specs.Accesses.{read_at, write_at}
+use Rattle.ob_base.specs.Accesses.{read_at}
 use Rattle.ob_vault.specs.declared.region.Region.{Region}
 use Rattle.ob_vault.specs.declared.region.Order.{Order}
-use Rattle.ob_vault.specs.declared.region.Order.TheVariants.{Any}
 use Rattle.ob_vault.specs.declared.fault.VaultErr.{VaultErr}
 use Rattle.ob_vault.specs.declared.fault.VaultErr.TheVariants as VaultErrs
 use Rattle.ob_vault.specs.State.{World}
-use Rattle.ob_vault.specs.Tied.{Lives, OnTurn, Holds}
+use Rattle.ob_vault.specs.Tied.{Lives, Holds}
 use Rattle.ob_vault.specs.Rows.{SameSizes, joined, row_at, Wide}
-use Rattle.ob_vault.specs.Places.{RowsFit, MayGet, MayPut}
-use Rattle.ob_vault.specs.Calls.{Went, Seals, none, one}
-use Rattle.ob_vault.specs.VaultCalls.{Gets, Puts}
-use Rattle.ob_vault.proofs.Runs.{may_get, may_put, holds_rows}
+use Rattle.ob_vault.specs.Places.{RowsFit, MayGet}
+use Rattle.ob_vault.specs.Calls.{none}
+use Rattle.ob_vault.specs.VaultCalls.{Gets}
+use Rattle.ob_vault.proofs.Runs.{may_get}
 use Rattle.ob_row.specs.Rows.{Row}
-use Rattle.ob_row.specs.Slots.{Slots}
 use Rattle.ob_row.specs.Spelling.{Begins, slot_bytes}
 use Rattle.ob_flat.specs.declared.flat.Flat.{Flat}
-use Rattle.ob_flat.specs.declared.fault.OpErr.TheVariants as OpErrs
-use Rattle.ob_flat.specs.Flats.{IsWritten, IsInTurn, Accepts, table_region}
+use Rattle.ob_flat.specs.Flats.{IsWritten, table_region}
 use Rattle.ob_flat.specs.Passes.{PassCut, pass_error}
-use Rattle.ob_flat.specs.Slots.{FitsSlot, Spelt}
+use Rattle.ob_flat.specs.Slots.{FitsSlot}
 use Rattle.ob_flat.specs.Words.{TamperedAt}
 use Rattle.ob_flat.proofs.Rows.{slot_size}
 use Rattle.ob_flat.proofs.Runs.{pass_of, pass_malformed}
 use Rattle.ob_flat.proofs.WordLemmas.{get_refused, rows_malformed}
 use Rattle.ob_tree.proofs.WalkLemmas.{path_place_below}
-use Rattle.ob_oram.specs.declared.fault.OramErr.{OramErr}
 use Rattle.ob_oram.specs.declared.fault.OramErr.TheVariants.{Failed, Tampered}
 use Rattle.ob_oram.specs.declared.held.Held.{Held}
 use Rattle.ob_oram.specs.declared.held.Remap.{Remap}

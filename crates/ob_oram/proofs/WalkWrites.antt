@@ -1,5 +1,5 @@
 -- A walk that is written block by block from a buffer.
-use Rattle.std.proofs.Common.{◌≡◌, ◌≢◌, ◌⊎◌, ◌≤◌, ◌<◌, ◌+◌, ◌-◌, ◌*◌, ◌/◌, ◌^◌, ◌==◌, if◌then◌else◌, inl, inr, ℕ, zero, suc, Bool, IsTrue, List, [], ◌∷◌, Option, None, Result, Ok, Err, length, take, get_or, below_more, refl, sym, ◌∙◌, ap, subst, arith}
+use Rattle.std.proofs.Common.{◌≡◌, ◌≢◌, ◌⊎◌, ◌≤◌, ◌<◌, ◌+◌, ◌*◌, ◌/◌, ◌==◌, if◌then◌else◌, inl, inr, ℕ, zero, suc, IsTrue, List, [], ◌∷◌, Option, None, Result, Ok, Err, length, get_or, below_more, refl, sym, ◌∙◌, ap, subst, arith}
 use Rattle.std.proofs.lemmas.Bool.{cases_eq}
 use Rattle.std.proofs.lemmas.List.{length-take}
 use Rattle.ob_base.specs.Numbers.{blocks_for}
@@ -9,13 +9,11 @@ use Rattle.ob_base.specs.Accesses.{write_at}
 use Rattle.ob_base.specs.Lists.{each}
 use Rattle.ob_store.proofs.Steps.{length-each}
 use Rattle.ob_vault.specs.declared.region.Region.{Region}
-use Rattle.ob_vault.specs.declared.region.Order.{Order}
-use Rattle.ob_vault.specs.declared.region.Order.TheVariants.{Round, Any}
+use Rattle.ob_vault.specs.declared.region.Order.TheVariants.{Round}
 use Rattle.ob_vault.specs.declared.fault.VaultErr.{VaultErr}
-use Rattle.ob_vault.specs.declared.fault.VaultErr.TheVariants as VaultErrs
 use Rattle.ob_vault.specs.Revs.{turn_after}
 use Rattle.ob_vault.specs.State.{World}
-use Rattle.ob_vault.specs.Tied.{Lives, OnTurn, Holds, Written}
+use Rattle.ob_vault.specs.Tied.{OnTurn, Holds, Written}
 use Rattle.ob_vault.specs.Rows.{joined, row_at}
 use Rattle.ob_vault.specs.Places.{MayPut, RowsFit}
 use Rattle.ob_vault.specs.Calls.{Went, one}
@@ -28,7 +26,7 @@ use Rattle.ob_row.specs.Slots.{Slots}
 use Rattle.ob_row.specs.Spelling.{Begins, slot_bytes}
 use Rattle.ob_flat.specs.declared.flat.Flat.{Flat}
 use Rattle.ob_flat.specs.declared.fault.OpErr.TheVariants as OpErrs
-use Rattle.ob_flat.specs.Flats.{IsInTurn, IsWritten, Accepts, table_region}
+use Rattle.ob_flat.specs.Flats.{IsInTurn, table_region}
 use Rattle.ob_flat.specs.Passes.{PassCut, pass_error}
 use Rattle.ob_flat.specs.Slots.{Spelt, AreSlots}
 use Rattle.ob_flat.specs.Words.{SealsTable}
@@ -45,7 +43,7 @@ use Rattle.ob_oram.specs.declared.walk.Walk.{Walk}
 use Rattle.ob_oram.specs.declared.walk.Walk.TheVariants.{Stash, Path}
 use Rattle.ob_oram.specs.Indexes.{IsShaped}
 use Rattle.ob_oram.specs.Walks.{blocks_in, place_in, slot_in}
-use Rattle.ob_oram.specs.Walking.{IsWalkOf, WritesRow, WritesWalk, order_in, region_in, table_in, walk_writes}
+use Rattle.ob_oram.specs.Walking.{IsWalkOf, WritesRow, WritesWalk, order_in, region_in, table_in}
 use Rattle.ob_oram.proofs.Creates.{one_each}
 use Rattle.ob_oram.proofs.WalkRows.{place_below, one_row_fits, one_joined}
 use Rattle.ob_oram.proofs.WalkScripts.{writes_each}

@@ -1,5 +1,5 @@
 -- The rows of an index that lie open in an access.
-use Rattle.std.specs.Prelude.{◌≡◌, ◌<◌, ◌+◌, ℕ, Bool, List, Option, Some, None, slice_index_or, slice_set, nat_lt, if◌then◌else◌}
+use Rattle.std.specs.Prelude.{◌≡◌, ◌<◌, ◌+◌, ℕ, List, Option, Some, None, slice_index_or, slice_set, nat_lt, if◌then◌else◌}
 use Rattle.std.specs.Option.{option_map}
 use Rattle.ob_vault.specs.State.{World}
 use Rattle.ob_row.specs.Rows.{Row}

@@ -1,12 +1,6 @@
-use Rattle.std.proofs.Common.{◌≡◌, ◌+◌, ◌-◌, ◌≤◌, ◌∙◌, ◌<◌, ◌^◌, ℕ, true, false, length, sym, subst, arith}
-use Rattle.std.proofs.lemmas.List.{length-replicate}
-use Rattle.ob_vault.specs.Rows.{SameSizes}
-use Rattle.ob_flat.specs.Slots.{AreSlots}
-use Rattle.ob_oram.specs.Buffers.{IsBuffer}
-use Rattle.ob_oram.specs.Heights.{path_blocks, rows_open}
-use Rattle.ob_oram.specs.Accessing.{leaf_read, remap_of}
-use Rattle.ob_oram.proofs.Seeing.{same_buffer, buffer_same, sees_spelt}
-use Rattle.ob_oram.proofs.AccessRuns.{asks_writes, ends_full, ends_reading, ends_writing, leaf_read_below, spare_reads, stored_lasts, went_all, all_sealed, stands_all}
+use Rattle.std.proofs.Common.{true, false, arith}
+use Rattle.ob_oram.proofs.Seeing.{sees_spelt}
+use Rattle.ob_oram.proofs.AccessRuns.{asks_writes, ends_full, ends_reading, ends_writing, leaf_read_below, stored_lasts, went_all, all_sealed, stands_all}
 use Rattle.ob_oram.proofs.AccessTold.{all_slots, arranged_by, leaf_read_is, range_is, still_even, told_answers, told_full, told_map}
 use Rattle.ob_oram.proofs.WalkRows.{height_few}
 use Rattle.ob_oram.proofs.accessing.access_open.Goals as goal

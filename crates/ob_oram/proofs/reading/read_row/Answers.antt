@@ -1,6 +1,5 @@
-use Rattle.std.proofs.Common.{◌≡◌, ◌∙◌, ◌≤◌, ℕ, List, [], ◌∷◌, sym, subst, length, get_or, arith}
+use Rattle.std.proofs.Common.{◌∙◌, ◌≤◌, length, get_or, arith}
 use Rattle.ob_base.specs.Schemas.{width}
-use Rattle.ob_vault.specs.Places.{at}
 use Rattle.ob_oram.proofs.WalkRows.{walk_is, gets_as, one_list, one_size, reads_row, reads_tampered, reads_malformed}
 use Rattle.ob_oram.proofs.reading.read_row.Goals as goal
 

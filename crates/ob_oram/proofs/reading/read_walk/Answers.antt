@@ -1,9 +1,6 @@
 use Rattle.std.proofs.Common.{◌≡◌, ◌∙◌, ◌<◌, length, get_or, ap, arith}
 use Rattle.std.proofs.lemmas.List.{length-set}
-use Rattle.ob_vault.specs.Places.{at}
-use Rattle.ob_vault.specs.Rows.{SameSizes}
 use Rattle.ob_oram.specs.Walks.{blocks_in, slot_in}
-use Rattle.ob_oram.specs.Opens.{IsOpen}
 use Rattle.ob_oram.proofs.WalkRows.{walk_is, sizes_set}
 use Rattle.ob_oram.proofs.WalkReads.{spare_left, reads_more, reads_ended, reads_all, opens_slot, opens_more, slot_below}
 use Rattle.ob_oram.proofs.reading.read_walk.Goals as goal

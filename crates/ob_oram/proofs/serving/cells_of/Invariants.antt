@@ -1,4 +1,4 @@
-use Rattle.std.proofs.Common.{◌≡◌, ◌≤◌, Some, take, length}
+use Rattle.std.proofs.Common.{◌≡◌, Some, take, length}
 use Rattle.ob_row.specs.Rows.{Row}
 use Rattle.ob_row.specs.Spelling.{Begins}
 use Rattle.ob_oram.proofs.serving.cells_of.Given as goal

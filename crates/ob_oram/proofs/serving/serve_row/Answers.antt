@@ -1,13 +1,10 @@
-use Rattle.std.proofs.Common.{◌≡◌, ◌<◌, ◌≤◌, ◌∙◌, None, Some, length, get_or, set, refl, sym, ap, subst, arith}
+use Rattle.std.proofs.Common.{◌≡◌, ◌<◌, ◌≤◌, ◌∙◌, None, Some, length, get_or, set, sym, ap, subst, arith}
 use Rattle.ob_base.specs.Schemas.{width}
 use Rattle.ob_flat.proofs.Rows.{row_is}
-use Rattle.ob_vault.specs.Rows.{row_at}
 use Rattle.ob_row.specs.Rows.{with_cells}
-use Rattle.ob_row.specs.Slots.{Slots}
 use Rattle.ob_tree.specs.Access as Tree
 use Rattle.ob_oram.specs.declared.op.Op.{Op}
 use Rattle.ob_oram.specs.declared.op.Got.TheVariants as Gots
-use Rattle.ob_oram.specs.Indexes.{key_of}
 use Rattle.ob_oram.specs.Opens.{ServesRows, tree_key}
 use Rattle.ob_oram.specs.Ops.{op_in}
 use Rattle.ob_oram.proofs.OpRows.{tree_key_is, keeps_key, row_here, begins_row, serves_found, serves_kept, opens_changed, opens_removed}
