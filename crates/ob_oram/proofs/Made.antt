@@ -82,21 +82,23 @@ module _ (index : Index) (columns : Columns) (capacity slots next : ℕ) (draws 
 
   pub made_index : IsIndex index new
   made_index = record {
-    shaped = record {
-      size = subst (λ (c : Columns). IsSized c index.capacity) (sym fresh.has_schema) (subst (IsSized columns) (sym fresh.has_capacity) size);
-      key = subst (λ (c : Columns). IsIntKey c index.key) (sym fresh.has_schema) key;
-      height = subst (λ (n : ℕ). IsHeight n index.height) (sym fresh.has_capacity) height;
-      some = omega (arith, some, fresh.has_slots);
-      few = omega (arith, few, fresh.has_slots);
-      leaves = record {
-        count = ap length fresh.has_leaves ∙ length-map draws (leaf_of_draw index.height) ∙ count ∙ sym fresh.has_capacity;
-        below = λ k less. below k;
+    stored = record {
+      shaped = record {
+        size = subst (λ (c : Columns). IsSized c index.capacity) (sym fresh.has_schema) (subst (IsSized columns) (sym fresh.has_capacity) size);
+        key = subst (λ (c : Columns). IsIntKey c index.key) (sym fresh.has_schema) key;
+        height = subst (λ (n : ℕ). IsHeight n index.height) (sym fresh.has_capacity) height;
+        some = omega (arith, some, fresh.has_slots);
+        few = omega (arith, few, fresh.has_slots);
+        leaves = record {
+          count = ap length fresh.has_leaves ∙ length-map draws (leaf_of_draw index.height) ∙ count ∙ sym fresh.has_capacity;
+          below = λ k less. below k;
+        };
       };
-      buffer = buffer ∙ ap (rows_open index.height) (sym fresh.has_slots);
+      tree = subst (λ (f : Flat). IsInTurn Any 1 f 0 new) tree_is regions.tree_written;
+      stash = subst (λ (f : Flat). IsInTurn Round 1 f 0 new) stash_is regions.stash_written;
+      apart = λ same. absurd (omega (arith, same, fresh.has_tree, fresh.has_stash));
     };
-    tree = subst (λ (f : Flat). IsInTurn Any 1 f 0 new) tree_is regions.tree_written;
-    stash = subst (λ (f : Flat). IsInTurn Round 1 f 0 new) stash_is regions.stash_written;
-    apart = λ same. absurd (omega (arith, same, fresh.has_tree, fresh.has_stash));
+    buffer = buffer ∙ ap (rows_open index.height) (sym fresh.has_slots);
   }
 
   pub made_lies : IsTrue old.store.tells → Lies index (created index.height slots (leaves_of index)) new

@@ -1,12 +1,13 @@
 -- What the buffer knows of the open rows, while they are put in their places.
-use Rattle.std.proofs.Common.{◌≡◌, ◌≢◌, ◌<◌, ◌≤◌, ℕ, true, false, List, Option, Some, None, length, get_or, set, inl, inr, refl, sym, ◌∙◌, ap, subst, arith}
+use Rattle.std.proofs.Common.{◌≡◌, ◌≢◌, ◌⊎◌, ◌<◌, ◌≤◌, ℕ, true, false, List, Option, Some, None, length, get_or, set, inl, inr, refl, sym, ◌∙◌, ap, subst, arith}
 use Rattle.std.proofs.Common.{[], ◌∷◌, get_or-set_same, get_or-set_other}
-use Rattle.std.proofs.lemmas.Bool.{cases_eq}
-use Rattle.std.proofs.lemmas.List.{length-set}
+use Rattle.std.proofs.lemmas.Bool.{cases_eq, cases_lt}
+use Rattle.std.proofs.lemmas.List.{length-set, get_or_past}
 use Rattle.std.specs.Option.{option_map}
 use Rattle.std.specs.Prelude.{IsSome}
 use Rattle.ob_base.specs.Schemas.{Columns}
-use Rattle.ob_vault.specs.Rows.{row_at}
+use Rattle.ob_vault.specs.Rows.{SameSizes, row_at}
+use Rattle.ob_flat.specs.Slots.{Spelt}
 use Rattle.ob_row.specs.Rows.{Row}
 use Rattle.ob_row.specs.Slots.{Slots}
 use Rattle.ob_row.specs.Spelling.{Begins}
@@ -14,7 +15,7 @@ use Rattle.ob_tree.specs.Places.{lies_at, IsLeast, NoneLies}
 use Rattle.ob_tree.specs.Rows.{rows, Single}
 use Rattle.ob_tree.proofs.StepLemmas.{picked, emptied, stuck}
 use Rattle.ob_oram.specs.declared.held.Held.{Held}
-use Rattle.ob_oram.specs.Buffers.{held_key, held_leaf, held_of, Sees, Steps, Places}
+use Rattle.ob_oram.specs.Buffers.{held_key, held_leaf, held_of, IsBuffer, Sees, Steps, Places}
 use Rattle.ob_tree.proofs.GoingLemmas.{Going, going_end}
 use Rattle.std.proofs.lemmas.Bool.{false≢true}
 
@@ -149,3 +150,18 @@ module _ (key lf : Row → ℕ) (leaf height n i : ℕ) (slots now : Slots) (mos
         let one = (going_end key lf leaf height n slots now (whole single)).1 ∙ ap (λ (s : Option Row). length (rows (s ∷ []))) is in
         ((λ never. absurd (false≢true never)), (λ none. absurd (cc (none, one))));
   }
+
+-- rows of one width, and others of the same sizes
+pub same_buffer : (w : ℕ) (a b : List (List ℕ)) → SameSizes a b → IsBuffer w a → IsBuffer w b
+same_buffer w a b same is = record { wide = λ j below. same.sizes j ∙ is.wide j (omega (arith, below, same.count)) }
+
+pub buffer_same : (w : ℕ) (a b : List (List ℕ)) → length b ≡ length a → IsBuffer w a → IsBuffer w b → SameSizes a b
+buffer_same w a b count first second = record { count = count; sizes = λ j. at j (cases_lt j (length a)) }
+  where
+    at : (j : ℕ) → (j < length a) ⊎ (length a ≤ j) → length (row_at b j) ≡ length (row_at a j)
+    at j (inl inside) = second.wide j (omega (arith, inside, count)) ∙ sym (first.wide j inside)
+    at j (inr past) = ap length (get_or_past b j [] (omega (arith, past, count)) ∙ sym (get_or_past a j [] past))
+
+-- the rows of a buffer spell its slots
+pub sees_spelt : (columns : Columns) (key lf : Row → ℕ) (slots : Slots) (buffer : List (Option Held)) (list : List (List ℕ)) → Sees columns key lf slots buffer list → Spelt columns slots list
+sees_spelt columns key lf slots buffer list sees = record { count = sees.count ∙ sym sees.same; each = λ j below. sees.begins j (omega (arith, below, sees.same)) }

@@ -1,5 +1,5 @@
 -- The rows that lie open in an access, and what the buffer knows of them.
-use Rattle.std.specs.Prelude.{◌≡◌, ◌<◌, ◌↔◌, ℕ, Bool, IsTrue, List, Option, None, length, take, drop, slice_index_or}
+use Rattle.std.specs.Prelude.{◌≡◌, ◌≢◌, ◌<◌, ◌↔◌, ℕ, Bool, IsTrue, List, Option, Some, None, length, take, drop, slice_index_or}
 use Rattle.std.specs.Bool.{MatchBool}
 use Rattle.std.specs.Option.{option_map}
 use Rattle.ob_base.specs.Schemas.{Columns}
@@ -49,3 +49,14 @@ pub record Places (key lf : Row → ℕ) (leaf height n : ℕ) (slots after : Sl
       → take n after ≡ laid_slots (tests lf leaf height 0 n) (by_key key (rows slots))
   pub full : Single key (rows slots) → IsTrue done
       ↔ (length (left_behind (tests lf leaf height 0 n) (by_key key (rows slots))) ≡ 0)
+
+-- no row of the buffer has this key
+pub record NoneHas (key : ℕ) (buffer : List (Option Held)) : Type 0 where
+  pub none : (j : ℕ) (held : Held) → slice_index_or buffer j None ≡ Some held → held.key ≢ key
+
+-- the row at this place has it
+pub record HasAt (key : ℕ) (buffer : List (Option Held)) (place : ℕ) : Type 0 where
+  pub within : place < length buffer
+  pub held : Held
+  pub is : slice_index_or buffer place None ≡ Some held
+  pub same : held.key ≡ key

@@ -1,10 +1,11 @@
 -- What an index is in a vault and its store.
-use Rattle.std.specs.Prelude.{◌≡◌, ◌≢◌, ◌≤◌, ℕ, List, Option, length}
+use Rattle.std.specs.Prelude.{◌≡◌, ◌≢◌, ◌≤◌, ℕ, Bool, List, Option, length}
 use Rattle.ob_vault.specs.declared.region.Order.TheVariants.{Round, Any}
 use Rattle.ob_vault.specs.State.{World}
+use Rattle.ob_vault.specs.Calls.{Seals}
 use Rattle.ob_row.specs.Rows.{Row}
 use Rattle.ob_flat.specs.declared.flat.Flat.{Flat}
-use Rattle.ob_flat.specs.Flats.{IsSized, IsInTurn, Represents as HoldsSlots}
+use Rattle.ob_flat.specs.Flats.{IsSized, IsInTurn, Accepts, Represents as HoldsSlots}
 use Rattle.ob_tree.specs.States.{State, Represents, Stands}
 use Rattle.ob_oram.specs.declared.index.Index.{Index}
 use Rattle.ob_oram.specs.Keys.{IsIntKey, row_key}
@@ -40,14 +41,18 @@ pub record IsShaped (index : Index) : Type 0 where
   pub some : 1 ≤ index.slots
   pub few : index.slots ≤ 1024
   pub leaves : AreLeaves index.height index.capacity (leaves_of index)
-  pub buffer : length index.buffer.items ≡ rows_open index.height index.slots
 
 -- each block of its two regions was written, and the stash is written next from its first one
-pub record IsIndex (index : Index) (w : World) : Type 0 where
+pub record IsStored (index : Index) (w : World) : Type 0 where
   pub shaped : IsShaped index
   pub tree : IsInTurn Any 1 (tree_of index) 0 w
   pub stash : IsInTurn Round 1 (stash_of index) 0 w
   pub apart : index.tree ≢ index.stash
+
+-- and its buffer has a slot for each row that an access opens
+pub record IsIndex (index : Index) (w : World) : Type 0 where
+  pub stored : IsStored index w
+  pub buffer : length index.buffer.items ≡ rows_open index.height index.slots
 
 -- an index as it lies in the store
 pub record LiesAs (index : Index) (s : State Row) (w : World) : Type 0 where
@@ -65,3 +70,8 @@ pub record IsMap (index : Index) (m : ℕ → Option Row) (w : World) : Type 0 w
   pub state : State Row
   pub lies : LiesAs index state w
   pub represents : Represents (key_of index) index.height state m
+
+-- where all was sealed and good, it is, if blocks of a row or a dummy are good for both regions
+pub record SealsIndex (index : Index) (old new : World) : Type 0 where
+  pub seals : (good : ℕ → List ℕ → Bool) → Accepts good 1 index.schema index.tree
+      → Accepts good 1 index.schema index.stash → Seals good old new

@@ -3,3 +3,10 @@ pub mod Heights
 pub mod Indexes
 pub mod Buffers
 pub mod Creating
+pub mod Walks
+pub mod Ops
+pub mod Opens
+pub mod Walking
+pub mod Scripts
+pub mod Halves
+pub mod Accessing

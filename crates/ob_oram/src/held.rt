@@ -4,3 +4,10 @@ pub struct Held {
     pub key: u32,
     pub leaf: u32,
 }
+
+// The key of an access, or how many keys there are where it is none of them, and the leaf that it gets.
+#[derive(Clone, Copy)]
+pub(crate) struct Remap {
+    pub(crate) key: u32,
+    pub(crate) leaf: u32,
+}

@@ -193,6 +193,22 @@ pub leaves_below_after : {R : Type 0} (key : R → ℕ) (h : ℕ) (s : State R) 
 leaves_below_after {R} key h s op draw w below e =
     subst (λ (v : Went R). (j : ℕ) → j < length v.state.leaves → leaf_of v.state j < 2 ^ h) (went_is key h s op draw w e) (leaves_below key h s draw (key_of key op) below)
 
+-- the rows of a path and of the stash have distinct keys
+pub taken_single : {R : Type 0} (key : R → ℕ) (h : ℕ) (s : State R) (m : ℕ → Option R) (op : Op R) (draw : ℕ) → Represents key h s m → Single key (take_path h s (leaf_read h s (key_of key op) draw))
+taken_single {R} key h s m op draw rep k =
+    let taken = take_path h s (leaf_read h s (key_of key op) draw) in
+    let others = aside key h s m op draw rep in
+    let count : length (with_key key k (others ++ taken)) ≡ length (list_of (m k)) =
+    length-Same (with_key key k (others ++ taken)) (with_key key k (held s)) (Same-filter (λ r. key r == k) (others ++ taken) (held s) (Same-sym (held s) (others ++ taken) (split_held key h s m op draw rep)))
+    ∙ ap length (rep.rows k) in
+    let parts : length (with_key key k (others ++ taken)) ≡ length (with_key key k others) + length (with_key key k taken) =
+    ap length (filter-append (λ r. key r == k) others taken) ∙ length-append (with_key key k others) (with_key key k taken) in
+    omega (arith, count, parts, at_most (m k))
+  where
+    at_most : (o : Option R) → length (list_of o) ≤ 1
+    at_most None = omega arith
+    at_most (Some r) = omega arith
+
 -- the rows that are to be put in again have distinct keys
 pub put_in_single : {R : Type 0} (key : R → ℕ) (h : ℕ) (s : State R) (m : ℕ → Option R) (op : Op R) (draw : ℕ) → Represents key h s m → KeepsKey key op
     → Single key (applied key (length s.leaves) op (take_path h s (leaf_read h s (key_of key op) draw)))

@@ -13,3 +13,6 @@ pub mod SlotwiseLemmas
 pub mod StepLemmas
 pub mod GoingLemmas
 pub mod HeightLemmas
+pub mod WalkLemmas
+pub mod LayLemmas
+pub mod ServeLemmas

@@ -108,7 +108,7 @@ module _ {R : Type 0} (key : R → ℕ) where
 pub path_inside : (h leaf j : ℕ) → j ≤ h → j < length (path_up h leaf)
 path_inside h leaf j within = omega (arith, within, length-upward (suc h) (2 ^ h - 1 + leaf))
 
-list_of-first : {R : Type 0} (all : List R) → length all ≤ 1 → all ≡ list_of (first all)
+pub list_of-first : {R : Type 0} (all : List R) → length all ≤ 1 → all ≡ list_of (first all)
 list_of-first [] h = refl
 list_of-first (r ∷ []) h = refl
 list_of-first (r ∷ x ∷ all) h = absurd (omega (arith, h))

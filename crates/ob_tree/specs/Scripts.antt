@@ -21,5 +21,8 @@ path_places h leaf = flat_map (λ b. numbers (4 * b) 4) (path h leaf)
 abbrev pub read_script : ℕ → ℕ → ℕ → List Touch
 read_script t h leaf = map (λ i. ReadStash i) (numbers 0 t) ++ map (λ i. ReadTree i) (path_places h leaf)
 
+abbrev pub write_script : ℕ → ℕ → ℕ → List Touch
+write_script t h leaf = map (λ i. WriteTree i) (path_places h leaf) ++ map (λ i. WriteStash i) (numbers 0 t)
+
 abbrev pub access_script : ℕ → ℕ → ℕ → List Touch
-access_script t h leaf = read_script t h leaf ++ (map (λ i. WriteTree i) (path_places h leaf) ++ map (λ i. WriteStash i) (numbers 0 t))
+access_script t h leaf = read_script t h leaf ++ write_script t h leaf

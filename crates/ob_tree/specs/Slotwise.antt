@@ -1,6 +1,9 @@
 -- The same slots one by one, as a loop over a buffer of rows leaves them.
-use Rattle.std.specs.Prelude.{ℕ, Bool, true, List, [], ◌∷◌, ◌++◌, Option, replicate}
+use Rattle.std.specs.Prelude.{◌≡◌, ◌<◌, ◌+◌, ◌*◌, ◌/◌, ℕ, Bool, true, false, List, [], ◌∷◌, ◌++◌, Option, None, length, replicate, slice_index_or}
+use Rattle.std.specs.List.{flat_map}
+use Rattle.ob_tree.specs.Paths.{path_up, is_on_path, path_place, path_slot}
 use Rattle.ob_tree.specs.Rows.{slots_of, firsts, but_firsts, first}
+use Rattle.ob_tree.specs.States.{State, bucket}
 
 -- the slots of a path's buckets from the leaf up, and then t of the stash
 abbrev pub laid : {R : Type 0} → (ℕ → R → Bool) → List ℕ → ℕ → List R → List (Option R)
@@ -20,3 +23,15 @@ laid_slots (p ∷ ps) left = first (firsts 1 p left) ∷ laid_slots ps (but_firs
 abbrev pub left_behind : {R : Type 0} → List (R → Bool) → List R → List R
 left_behind [] left = left
 left_behind (p ∷ ps) left = left_behind ps (but_firsts 1 p left)
+
+-- the slots that an access opens: those of a path from the leaf up, those of the stash, and an empty one
+abbrev pub open_slots : {R : Type 0} → ℕ → ℕ → State R → List (Option R)
+open_slots h leaf s = (flat_map (bucket s.tree) (path_up h leaf) ++ s.stash) ++ None ∷ []
+
+-- the slots of a buffer lie in the path and in the stash, and off the path lies what lay there
+pub record LaysOut {R : Type 0} (h leaf : ℕ) (slots : List (Option R)) (old new : State R) : Type 0 where
+  pub size : length new.tree ≡ length old.tree
+  pub stash_size : length new.stash ≡ length old.stash
+  pub path : (c : ℕ) → c < 4 * (h + 1) → slice_index_or new.tree (path_place h leaf c) None ≡ slice_index_or slots (path_slot h c) None
+  pub off : (p : ℕ) → is_on_path h leaf (p / 4) ≡ false → slice_index_or new.tree p None ≡ slice_index_or old.tree p None
+  pub stash : (i : ℕ) → i < length old.stash → slice_index_or new.stash i None ≡ slice_index_or slots (4 * (h + 1) + i) None

@@ -1,0 +1,142 @@
+-- What an access says of an index whose buffer was taken out meanwhile.
+use Rattle.std.proofs.Common.{◌≡◌, ◌⊎◌, ◌≤◌, ◌<◌, inl, inr, ℕ, true, false, List, [], Option, None, Result, Ok, Err, Global, length, replicate, get_or, set, refl, sym, ◌∙◌, ap, subst, arith}
+use Rattle.std.specs.Prelude.{is_ok}
+use Rattle.std.specs.declared.vec.Vec.{Vec}
+use Rattle.std.specs.Vec.{with_items}
+use Rattle.std.proofs.lemmas.Bool.{cases_lt, false≢true}
+use Rattle.std.proofs.lemmas.List.{length-replicate, get_or-replicate, get_or_past}
+use Rattle.std.specs.Option.{option_map}
+use Rattle.ob_base.specs.Schemas.{width}
+use Rattle.ob_room.specs.RoomState.{clear}
+use Rattle.ob_vault.specs.State.{World}
+use Rattle.ob_vault.specs.Rows.{row_at}
+use Rattle.ob_row.specs.Rows.{Row}
+use Rattle.ob_row.specs.Slots.{empty_slots}
+use Rattle.ob_row.specs.Spelling.{Begins}
+use Rattle.ob_row.proofs.SpellingLemmas.{zeros-begin}
+use Rattle.ob_tree.specs.States.{State}
+use Rattle.ob_oram.specs.declared.fault.OramErr.{OramErr}
+use Rattle.ob_oram.specs.declared.fault.OramErr.TheVariants.{Failed, Tampered, StashFull}
+use Rattle.ob_oram.specs.declared.held.Held.{Held}
+use Rattle.ob_oram.specs.declared.held.Remap.{Remap}
+use Rattle.ob_oram.specs.declared.index.Index.{Index}
+use Rattle.ob_oram.specs.declared.op.Op.{Op}
+use Rattle.ob_oram.specs.declared.op.Got.{Got}
+use Rattle.ob_oram.specs.Buffers.{IsBuffer, held_of}
+use Rattle.ob_oram.specs.Heights.{rows_open}
+use Rattle.ob_oram.specs.Indexes.{LiesAs, IsStored, IsShaped, leaves_of, key_of}
+use Rattle.ob_oram.specs.Opens.{IsOpen, leaf_with, leaves_with}
+use Rattle.ob_oram.specs.Accessing.{Accesses, Answers, HasLeaves, LeftBy, Stays, Stops, leaf_read, leaves_after, remap_of}
+
+module _ (index : Index) (buffer : Vec (Option Held) Global) where
+  abbrev other : Index
+  other = record index { buffer = buffer }
+
+  pub shaped_other : IsShaped index → IsShaped other
+  shaped_other is = record { size = is.size; key = is.key; height = is.height; some = is.some; few = is.few; leaves = is.leaves }
+
+  pub stored_other : (w : World) → IsStored index w → IsStored other w
+  stored_other w is = record { shaped = shaped_other is.shaped; tree = is.tree; stash = is.stash; apart = is.apart }
+
+  lies_other : (s : State Row) (w : World) → LiesAs index s w → LiesAs other s w
+  lies_other s w is = record { tree = is.tree; stash = is.stash; leaves = is.leaves }
+
+  has_other : (list : List ℕ) (left : Index) → HasLeaves list other left → HasLeaves list index left
+  has_other list left has = record { same = has.same; leaves = has.leaves }
+
+  stays_other : (left : Index) (old new : World) → Stays other left old new → Stays index left old new
+  stays_other left old new is = record { same = has_other (leaves_of index) left is.same; stands = is.stands; lies = λ s lies. is.lies s (lies_other s old lies) }
+
+  stops_other : (e : OramErr) (left : Index) (leaf : ℕ) (old new : World) → Stops e other left leaf old new → Stops e index left leaf old new
+  stops_other Failed left leaf old new is = elim is [
+    | inl reading ↦ inl (record { cut = reading.cut; stays = stays_other left old new reading.stays })
+    | inr writing ↦ inr (record { cut = writing.cut; past = writing.past; same = has_other (leaves_of index) left writing.same; tree = writing.tree; stash = writing.stash })
+  ]
+  stops_other (Tampered q x) left leaf old new is = (record { cut = is.0.cut; stays = stays_other left old new is.0.stays }, is.1)
+  stops_other StashFull left leaf old new is = (is.0, stays_other left old new is.1)
+
+  answers_other : (left : Index) (op : Op) (draw : ℕ) (s : State Row) (got : Got) (new : World) → Answers other left op draw s got new → Answers index left op draw s got new
+  answers_other left op draw s got new is = record { went = is.went; is = is.is; answer = is.answer; lies = is.lies }
+
+  pub left_other : (left : Index) (op : Op) (draw : ℕ) (r : Result Got OramErr) → LeftBy r index op draw left → LeftBy r other op draw left
+  left_other left op draw (Ok got) by = record { ok = record { same = by.ok.same; leaves = by.ok.leaves }; err = tt; buffer = by.buffer }
+  left_other left op draw (Err e) by = record { ok = tt; err = record { same = by.err.same; leaves = by.err.leaves }; buffer = by.buffer }
+
+  pub accesses_other : (left : Index) (op : Op) (draw : ℕ) (r : Result Got OramErr) (old new : World) → Accesses other left op draw r old new → Accesses index left op draw r old new
+  accesses_other left op draw (Ok got) old new is = record {
+    ok = is.ok;
+    err = tt;
+    seals = record { seals = is.seals.seals };
+    leaves = has_other (leaves_after index op draw) left is.leaves;
+    stands = is.stands;
+    range = is.range;
+    maps = λ honest m map.
+        let answers = is.maps honest m (record { state = map.state; lies = lies_other map.state old map.lies; represents = map.represents }) in
+        record { answer = answers.answer; map = answers.map };
+    told = λ honest s lies. answers_other left op draw s got new (is.told honest s (record { lies = lies_other s old lies.lies; stands = lies.stands }));
+  }
+  accesses_other left op draw (Err e) old new is = record {
+    ok = tt;
+    err = stops_other e left (leaf_read index op draw) old new is.err;
+    seals = record { seals = is.seals.seals };
+    leaves = tt;
+    stands = tt;
+    range = tt;
+    maps = λ honest m map. tt;
+    told = λ honest s lies. is.told honest s (record { lies = lies_other s old lies.lies; stands = lies.stands });
+  }
+
+-- what is left by an access that went whole, and by one that stopped
+pub left_ok : (index left : Index) (op : Op) (draw : ℕ) (r : Result Got OramErr) → is_ok r ≡ true → HasLeaves (leaves_after index op draw) index left → length left.buffer.items ≡ rows_open index.height index.slots → LeftBy r index op draw left
+left_ok index left op draw (Ok got) is has buffer = record { ok = has; err = tt; buffer = buffer }
+left_ok index left op draw (Err e) is has buffer = absurd (false≢true is)
+
+pub left_err : (index left : Index) (op : Op) (draw : ℕ) (r : Result Got OramErr) → is_ok r ≡ false → HasLeaves (leaves_of index) index left → length left.buffer.items ≡ rows_open index.height index.slots → LeftBy r index op draw left
+left_err index left op draw (Ok got) is has buffer = absurd (false≢true (sym is))
+left_err index left op draw (Err e) is has buffer = record { ok = tt; err = has; buffer = buffer }
+
+-- zero rows are a buffer without a row
+module _ {rows : List (List ℕ)} (n wide : ℕ) (value : rows ≡ replicate n (clear wide)) where
+  zero_row : (j : ℕ) → j < n → row_at rows j ≡ clear wide
+  zero_row j below = ap (λ (l : List (List ℕ)). row_at l j) value ∙ get_or-replicate n j (clear wide) [] below
+
+  count : length rows ≡ n
+  count = ap length value ∙ length-replicate n (clear wide)
+
+  pub zero_buffer : IsBuffer wide rows
+  zero_buffer = record { wide = λ j below. ap length (zero_row j (omega (arith, below, count))) ∙ length-replicate {A = ℕ} wide 0 }
+
+  none_at : (m j : ℕ) → get_or (empty_slots m) j None ≡ None
+  none_at m j = by_place (cases_lt j m)
+    where
+      by_place : (j < m) ⊎ (m ≤ j) → get_or (empty_slots m) j None ≡ None
+      by_place (inl inside) = get_or-replicate m j None None inside
+      by_place (inr past) = get_or_past (empty_slots m) j None (omega (arith, past, length-replicate {A = Option Row} m None))
+
+  pub zero_open : (index : Index) (remap : Remap) (buffer : List (Option Held)) (m : ℕ) → m ≡ n → length buffer ≡ m → ((j : ℕ) → get_or buffer j None ≡ None) → width index.schema ≤ wide → IsOpen index remap (empty_slots m) buffer rows
+  zero_open index remap buffer m same long none enough = record {
+    sees = record {
+      count = length-replicate m None ∙ sym long;
+      same = count ∙ sym same ∙ sym long;
+      begins = λ j below.
+          subst (λ s. Begins index.schema s (row_at rows j)) (sym (none_at m j))
+          (subst (Begins index.schema None) (sym (zero_row j (omega (arith, below, long, same)))) (zeros-begin index.schema wide enough));
+      held = λ j. none j ∙ ap (option_map (held_of (key_of index) (leaf_with index remap))) (sym (none_at m j));
+    };
+    keyed = record { within = λ j row is. absurd (cc (none_at m j, is)) };
+  }
+
+-- an index that was left with another buffer, and maybe other leaves
+pub has_buffer : (index : Index) (buffer : Vec (Option Held) Global) → HasLeaves (leaves_of index) index (record index { buffer = buffer })
+has_buffer index buffer = record { same = refl; leaves = refl }
+
+pub has_remap : (index left : Index) (buffer : Vec (Option Held) Global) (remap : Remap) (op : Op) (draw : ℕ) → remap ≡ remap_of index op draw → left ≡ record (record index { buffer = buffer }) { leaves = left.leaves } → leaves_of left ≡ leaves_with (record index { buffer = buffer }) remap
+    → HasLeaves (leaves_after index op draw) index left
+has_remap index left buffer remap op draw is same leaves = record {
+  same = same ∙ (λ i. record index { leaves = left.leaves; buffer = sym (ap (λ (x : Index). x.buffer) same) i });
+  leaves = leaves ∙ ap (λ (r : Remap). set (leaves_of index) r.key r.leaf) is;
+}
+
+-- a buffer that is put back is as long as it was
+pub buffer_size : (v : Vec (Option Held) Global) (list : List (Option Held)) → length (with_items v list).items ≡ length v.items
+buffer_size v list = sym (with_items v list).ok.0 ∙ v.ok.0
