@@ -319,6 +319,8 @@ cases = [
     counted("twelve rows by Hash", 7, 12, " --plan hash --depth 1", plan="hash", depth=1),
     counted("forty rows, as many as two of Large", 5, 40, " --buffer 4", buffer=4),
     counted("forty rows, three in a block", 5, 40, " --buffer 10 --pack 3", buffer=10, pack=3),
+    counted("a hundred rows by each plan, and by Small behind Hash", 2, 100, " --buffer 4 --depth 1", buffer=4, depth=1),
+    counted("the same with deeper buckets", 2, 100, " --buffer 4", buffer=4),
     failed(),
     case("a block is changed: the last line alone", "--gen 0,1 --meddle 8:flip:2.0.0", ["! tampered 2 0"], 4, "total 8"),
     case("a text longer than its limit", "--gen 0,4096 --max-input 1024", ["! input limit"], 8),
