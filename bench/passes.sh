@@ -2,7 +2,7 @@
 # Times each pass over tables of real rows, beside the bare seals and unseals of the same blocks, and prints their ratio
 # beside the limit that it has: the processor's time (bench/driven.py).
 #
-# Needs `rt` (bench/build.sh), python3 and 1 GB. Takes half an hour once the program is built.
+# Needs `rt` (bench/build.sh), python3 and 1 GB. Takes a quarter of an hour once the program is built.
 set -eu
 top=$(cd "$(dirname "$0")/.." && pwd)
 "$top/bench/build.sh" ob_pass_bench
