@@ -4,7 +4,7 @@ answers of the plain evaluator, which the program of crates/ob_answers prints. N
 
 usage: bench/reference.py [PATH-OF-ob_answers]
 
-Needs that program (bench/build.sh ob_answers builds it: crates/ob_answers/out/ob_answers), and takes a minute.
+Needs that program (bench/build.sh ob_answers builds it: crates/ob_answers/out/ob_answers), and takes ten seconds.
 """
 import pathlib
 import random

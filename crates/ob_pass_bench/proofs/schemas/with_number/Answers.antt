@@ -1,4 +1,4 @@
-use Rattle.std.proofs.Common.{◌+◌, ap}
+use Rattle.std.proofs.Common.{ap}
 use Rattle.ob_base.specs.Schemas.{kind_width}
 use Rattle.ob_pass_bench.proofs.Columns.{has_more}
 use Rattle.ob_pass_bench.proofs.schemas.with_number.Goals as goal
