@@ -1,3 +1,4 @@
 pub mod CutLemmas
 pub mod EventLemmas
 pub mod Printing
+pub mod TraceText
