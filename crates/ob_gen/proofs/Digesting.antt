@@ -5,11 +5,7 @@ use Rattle.std.proofs.lemmas.Option.{slice_get_within, get_or_from_slice_get}
 use Rattle.std.proofs.Math.Seq.{take-suc, take_all}
 use Rattle.ob_base.specs.declared.access.Access.{Access}
 use Rattle.ob_print.specs.Lines.{access_line, trace_text}
-
-text-append : (xs ys : List Access) → trace_text (xs ++ ys) ≡ trace_text xs ++ trace_text ys
-unfolding trace_text
-text-append [] ys = refl
-text-append (x ∷ xs) ys = ap (λ (l : List ℕ). access_line x ++ l) (text-append xs ys) ∙ sym (append_assoc (access_line x) _ _)
+use Rattle.ob_print.proofs.TraceText.{trace_text-append}
 
 -- one access more
 pub text_more : (xs : List Access) (i : ℕ) (a : Access) → slice_get xs i ≡ Some a
@@ -19,7 +15,7 @@ text_more xs i a at =
     let within = slice_get_within xs i a at in
     let taken : take (i + 1) xs ≡ take i xs ++ (a ∷ []) =
     rw add-one (subst (λ (x : Access). take (suc i) xs ≡ take i xs ++ (x ∷ [])) (get_or_from_slice_get xs i a a at) (take-suc xs i a within)) in
-    ap trace_text taken ∙ text-append (take i xs) (a ∷ []) ∙ ap (λ (t : List ℕ). trace_text (take i xs) ++ t) (append-nil (access_line a))
+    ap trace_text taken ∙ trace_text-append (take i xs) (a ∷ []) ∙ ap (λ (t : List ℕ). trace_text (take i xs) ++ t) (append-nil (access_line a))
 
 -- before the first
 pub text_none : (xs : List Access) → trace_text (take 0 xs) ≡ []

@@ -2,3 +2,4 @@ pub mod CutLemmas
 pub mod SentLemmas
 pub mod EventLemmas
 pub mod Printing
+pub mod TraceText

@@ -1,22 +1,20 @@
 -- What a run over the generated text promises.
-use Rattle.std.proofs.Common.{◌≡◌, ℕ, ◌≤◌, Bool, true, false, List, [], ◌++◌, Option, Some, None, Ok, Err, refl, sym, ◌∙◌, ap, subst, inl, inr, arith}
+use Rattle.std.proofs.Common.{◌≡◌, ℕ, ◌≤◌, Bool, true, false, List, [], Option, Some, None, Ok, Err, refl, sym, ◌∙◌, ap, subst, inl, inr, arith}
 use Rattle.std.specs.Prelude.{⊤, option_and_then}
 use Rattle.clap.specs.Words.{App, Text}
-use Rattle.std.specs.Io.KnownBytes.{Appends}
 use Rattle.std.proofs.KnownBytes.{Appends-nil}
 use Rattle.ob_base.specs.Counts.{Rises}
 use Rattle.ob_base.specs.declared.access.Access.{Access}
 use Rattle.ob_base.specs.declared.config.Config.{Config}
-use Rattle.ob_base.specs.declared.refusal.Stop.{Stop}
 use Rattle.ob_gen.specs.Generated.{generated}
 use Rattle.ob_gen.specs.Tally.{empty_tally}
 use Rattle.ob_gen.specs.declared.tally.Tally.{Tally}
 use Rattle.ob_print.specs.Cuts.{Cut}
 use Rattle.ob_print.proofs.CutLemmas.{Cut-whole}
 use Rattle.ob_store.specs.State.{StoreState}
-use Rattle.ob_shell.specs.Closed.{LineWritten, Unwritten, refused_by}
+use Rattle.ob_shell.specs.Closed.{LineWritten, refused_by}
 use Rattle.ob_shell.specs.Endings.{SinkStopped, last_line, status_of}
-use Rattle.ob_shell.specs.Generating.{Aside, ClosedBy, ConcludedBy, Concludes, Summarized, SummedUp, asked_for, conclusion}
+use Rattle.ob_shell.specs.Generating.{Aside, ClosedBy, ConcludedBy, Concludes, Summarized, asked_for}
 use Rattle.ob_shell.specs.Settings.{generated_by}
 use Rattle.ob_shell.specs.Top.{EndingCause, EndingWords, IsFresh, Reported, Shown, StatusCause, TraceSink, sink_of}
 use Rattle.ob_shell.specs.Tracing.{Traced}

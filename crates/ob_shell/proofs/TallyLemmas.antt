@@ -6,12 +6,11 @@ use Rattle.ob_base.specs.declared.config.Plan.{Plan}
 use Rattle.ob_base.specs.declared.config.Plan.TheVariants.{Small, Large, Continuous, Hash}
 use Rattle.ob_base.specs.declared.refusal.Stop.{Stop}
 use Rattle.ob_base.specs.declared.refusal.Stop.TheVariants.{Tampered, SourceFault, SinkFault, NoMemory, InputLimit}
-use Rattle.ob_exec.specs.declared.outcome.Outcome.{Outcome}
 use Rattle.ob_gen.specs.Tally.{empty_tally, one_if, raised, with_plan}
 use Rattle.ob_gen.specs.declared.tally.Tally.{Tally}
 use Rattle.ob_shell.specs.Closing.{is_refused}
 use Rattle.ob_shell.specs.Running.{FlagIs, StopCause}
-use Rattle.ob_shell.specs.Tallies.{TallyIs, flagged, has_refused, tally_after, tally_of, tally_with}
+use Rattle.ob_shell.specs.Tallies.{TallyIs, flagged, has_refused, tally_after, tally_with}
 use Rattle.ob_shell.specs.Top.{EndingTally}
 use Rattle.ob_shell.specs.declared.top.Ending.TheVariants.{Ran}
 use Rattle.ob_shell.specs.Words.{Answer, Faults, any_refused}

@@ -8,12 +8,8 @@ use Rattle.std.proofs.Math.Seq.{drop-append_seam}
 use Rattle.ob_base.specs.declared.access.Access.{Access}
 use Rattle.ob_print.specs.Lines.{access_line, trace_text}
 use Rattle.ob_print.proofs.CutLemmas.{Cut-after, Cut-whole}
+use Rattle.ob_print.proofs.TraceText.{trace_text-append}
 use Rattle.ob_shell.specs.Tracing.{traced, Traced, TracedAll}
-
-pub trace_text-append : (xs ys : List Access) → trace_text (xs ++ ys) ≡ trace_text xs ++ trace_text ys
-unfolding trace_text
-trace_text-append [] ys = refl
-trace_text-append (x ∷ xs) ys = ap (λ (l : List ℕ). access_line x ++ l) (trace_text-append xs ys) ∙ sym (append_assoc (access_line x) _ _)
 
 pub trace_text-nil : trace_text [] ≡ []
 unfolding trace_text

@@ -194,8 +194,8 @@ pub(crate) fn run<I: Source, O: Sink, T: Sink, S: BlockStore>(
 ) -> Ended
     requires within { AreWithin words.config }
     requires fresh { (S.state store.old).asked ≡ [] }
-    ensures shown { Shown result.tally (sink_of words.trace (T.written trace.old) (T.written trace.new))
-        (Some words.config)
+    ensures shown { Shown result.tally
+        (sink_of words.trace (T.written trace.old) (T.written trace.new)) (Some words.config)
         (I.left input.old) (I.left input.new) (I.gave input.new)
         (O.written out.old) (O.written out.new)
         (S.state store.old) (S.state store.new)

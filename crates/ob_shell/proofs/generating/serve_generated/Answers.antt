@@ -1,9 +1,5 @@
-use Rattle.std.proofs.Common.{ℕ, List, Option, Some, None, ap, subst}
+use Rattle.std.proofs.Common.{ap}
 use Rattle.ob_gen.specs.Generated.{GeneratedState}
-use Rattle.ob_shell.specs.Endings.{SinkStopped}
-use Rattle.ob_shell.specs.Generating.{Concludes}
-use Rattle.ob_shell.specs.Top.{Shown, sink_of}
-use Rattle.ob_shell.specs.Words.{faults_of}
 use Rattle.ob_shell.proofs.AsideLemmas.{aside, concludes_at, concludes_by, trace_rose, traced_by_fault}
 use Rattle.ob_shell.proofs.TopLemmas.{takes_of}
 use Rattle.ob_shell.proofs.generating.serve_generated.Goals as goal
