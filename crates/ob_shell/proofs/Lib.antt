@@ -1,4 +1,4 @@
-pub mod AsideLemmas
+pub mod GeneratingLemmas
 pub mod CompleteLemmas
 pub mod FeedLemmas
 pub mod KeyLemmas
