@@ -1,4 +1,4 @@
-pub mod AsideLemmas
+pub mod GeneratingLemmas
 pub mod CompleteLemmas
 pub mod CountLemmas
 pub mod FeedLemmas

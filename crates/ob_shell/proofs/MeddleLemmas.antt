@@ -16,7 +16,7 @@ use Rattle.ob_meddle.proofs.ShowLemmas.{list_same, shows}
 use Rattle.ob_meddle.proofs.DueLemmas.{acted_later, all_later}
 use Rattle.ob_shell.specs.Endings.{status_of}
 use Rattle.ob_shell.specs.Failures.{RisesBy, failures}
-use Rattle.ob_shell.specs.Generating.{Aside, MeddleRan, MeddleSummarized}
+use Rattle.ob_shell.specs.Generating.{RanGenerated, MeddleRan, MeddleSummarized}
 use Rattle.ob_shell.specs.Headline.{Headline}
 use Rattle.ob_shell.specs.Meddling.{Meddled, Undisturbed}
 use Rattle.ob_shell.specs.Settings.{MeddleParses, ParsesChanges, settings_of}
@@ -29,7 +29,7 @@ use Rattle.ob_shell.specs.declared.top.Ending.{Ending}
 use Rattle.ob_shell.specs.declared.top.Ending.TheVariants.{Usage, BadKey, Ran}
 use Rattle.ob_shell.specs.declared.top.Report.{Report}
 use Rattle.ob_shell.specs.declared.words.Seed.{Seed}
-use Rattle.ob_shell.proofs.AsideLemmas.{with_source}
+use Rattle.ob_shell.proofs.GeneratingLemmas.{with_source}
 use Rattle.ob_shell.proofs.CloseLemmas.{reported_taken}
 use Rattle.ob_shell.proofs.DisturbLemmas.{before_less}
 use Rattle.ob_shell.proofs.HeadLemmas.{headlined}
@@ -155,7 +155,7 @@ meddled {tally = tally} {words = words} {gave0 = gave0} {gave = gave} {l0 = l0} 
 -- the same over the generated text
 pub meddle_summarized : {words : List Text} {seed : Seed} {t0 t1 w0 w1 l : Option (List ℕ)} {gave trace0 trace1 out0 out1 : ℕ} {report : Report} (source : ℕ) (m0 m1 : MeddledStore) (config : Config) (list : List Meddle)
     → ParsesChanges words config list → list_of m0 ≡ list → (state_of m0).asked ≡ []
-    → Aside seed (is_traced meddle_usage words) (Some config) t0 t1 (state_of m0) (state_of m1) trace0 trace1 w0 w1 out0 out1 report
+    → RanGenerated seed (is_traced meddle_usage words) (Some config) t0 t1 (state_of m0) (state_of m1) trace0 trace1 w0 w1 out0 out1 report
     → MeddleSummarized words seed (λ start. outside_of l gave w0 t0 start (faults_of source out0 trace0)) (outside_of l gave w1 t1 (state_of m1) (faults_of source out1 trace1)) m1 report
 unfolding meddled headlined reported_taken
 meddle_summarized {words = words} source m0 m1 config list parses same none a =

@@ -5,6 +5,7 @@ use Rattle.clap.specs.Words.{App, Text}
 use Rattle.ob_base.specs.Counts.{Rises}
 use Rattle.ob_base.specs.declared.access.Access.{Access}
 use Rattle.ob_base.specs.declared.config.Config.{Config}
+use Rattle.ob_base.specs.declared.refusal.Stop.TheVariants.{SinkFault}
 use Rattle.ob_gen.specs.Generated.{generated}
 use Rattle.ob_gen.specs.SummaryText.{summary_of, summary_text}
 use Rattle.ob_gen.specs.declared.tally.Tally.{Tally}
@@ -42,7 +43,8 @@ pub record SummedUp (refused : Bool) (text : List ℕ) (written0 written1 : Opti
   pub cut : Cut written0 written1 (Rises faults0 faults1) text
   pub later : faults0 ≤ faults1
   pub told : ((status ≡ status_of (Ran (Ok refused))) × Appends written0 written1 text
-      × (faults1 ≡ faults0)) ⊎ ((status ≡ 6) × Rises faults0 faults1)
+      × (faults1 ≡ faults0))
+      ⊎ ((status ≡ status_of (Ran (Err SinkFault))) × Rises faults0 faults1)
 
 -- the last line was written where it might be
 pub record ClosedBy (ending : Ending) (quiet : Bool) (written0 written1 : Option (List ℕ))
@@ -66,18 +68,19 @@ abbrev pub StatusIs : Ending → (status : ℕ) (Whole Rose : Type 0) → Type 0
 StatusIs Usage status Whole Rose = status ≡ status_of Usage
 StatusIs BadKey status Whole Rose = status ≡ status_of BadKey
 StatusIs (Ran (Ok refused)) status Whole Rose =
-    ((status ≡ status_of (Ran (Ok refused))) × Whole) ⊎ ((status ≡ 6) × Rose)
+    ((status ≡ status_of (Ran (Ok refused))) × Whole)
+    ⊎ ((status ≡ status_of (Ran (Err SinkFault))) × Rose)
 StatusIs (Ran (Err stop)) status Whole Rose = status ≡ status_of (Ran (Err stop))
 
 -- what was written of a run that ended so, and with which status
-pub record Concludes (ending : Ending) (tally : Tally) (asked : List Access) (rows : ℕ)
+pub record Concludes (ending : Ending) (tally : Tally) (asked : List Access) (opened : ℕ)
     (written0 written1 : Option (List ℕ)) (old new : Faults) (report : Report) : Type 0 where
   pub grew : Cut written0 written1 (SinksRose old new) (conclusion ending tally asked)
   pub status : StatusIs ending report.status
       (Appends written0 written1 (conclusion ending tally asked) × (new.out ≡ old.out))
       (Rises old.out new.out)
   pub later : old.out ≤ new.out
-  pub high : report.high ≡ rows
+  pub high : report.high ≡ opened
 
 -- ---- the run
 -- what lies outside of it before and after: the generated text, and a sink that keeps no answer
@@ -132,8 +135,9 @@ MeddleRan None words old new store report = Meddled words old new store report
 MeddleRan (Some seed) words old new store report =
     MeddleSummarized words seed old new store report
 
--- what such a run did, by the words that were taken
-pub record Aside (seed : Seed) (tracing : Bool) (settings : Option Config)
+-- ---- by the words that were taken
+-- what was done with the text of this seed
+pub record RanGenerated (seed : Seed) (tracing : Bool) (settings : Option Config)
     (traced0 traced1 : Option (List ℕ)) (store0 store1 : StoreState) (trace0 trace1 : ℕ)
     (written0 written1 : Option (List ℕ)) (out0 out1 : ℕ) (report : Report) : Type 0 where
   pub run : Report

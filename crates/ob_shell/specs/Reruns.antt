@@ -17,7 +17,7 @@ use Rattle.ob_shell.specs.declared.top.Report.{Report}
 use Rattle.ob_sql.specs.Skeleton.{skeleton}
 use Rattle.ob_sql.specs.declared.stmt.Stmt.{Stmt}
 
--- what `shell_top` promises of a run
+-- what `shell_top` promises of a run that reads its input
 abbrev pub ShellRun : List Text → (old new : Outside) → Report → Type 0
 ShellRun words old new report =
     Headline (IsTaken usage words) (settings_of usage words) (is_traced usage words) old new report

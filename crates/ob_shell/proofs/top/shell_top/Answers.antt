@@ -2,7 +2,7 @@ use Rattle.std.proofs.Common.{map, refl, Err, ap}
 use Rattle.std.specs.Prelude.{string_bytes}
 use Rattle.ob_gen.specs.Tally.{empty_tally}
 use Rattle.ob_shell.specs.Usage.{usage}
-use Rattle.ob_shell.proofs.AsideLemmas.{seed_is, summarized, unread_summarized}
+use Rattle.ob_shell.proofs.GeneratingLemmas.{seed_is, summarized, unread_summarized}
 use Rattle.ob_shell.proofs.CloseLemmas.{reported_words, reported_taken}
 use Rattle.ob_shell.proofs.HeadLemmas.{headlined}
 use Rattle.ob_shell.proofs.TraceLemmas.{traced_none, traced_whole}

@@ -14,7 +14,7 @@ use Rattle.ob_print.proofs.CutLemmas.{Cut-whole}
 use Rattle.ob_store.specs.State.{StoreState}
 use Rattle.ob_shell.specs.Closed.{LineWritten, refused_by}
 use Rattle.ob_shell.specs.Endings.{SinkStopped, last_line, status_of}
-use Rattle.ob_shell.specs.Generating.{Aside, ClosedBy, ConcludedBy, Concludes, Summarized, asked_for}
+use Rattle.ob_shell.specs.Generating.{RanGenerated, ClosedBy, ConcludedBy, Concludes, Summarized, asked_for}
 use Rattle.ob_shell.specs.Settings.{generated_by}
 use Rattle.ob_shell.specs.Top.{EndingCause, EndingWords, IsFresh, Reported, Shown, StatusCause, TraceSink, sink_of}
 use Rattle.ob_shell.specs.Tracing.{Traced}
@@ -93,16 +93,16 @@ unkept ending high old new takes shown cause =
       completes = λ t input e k a b. completes old new input shown takes causes t e k a b;
     }
 
-pub aside : {tally : Tally} {tracing : Bool} {settings : Option Config} {t0 t1 : Option (List ℕ)} {s0 s1 : StoreState} {gave : ℕ} {w0 w1 : Option (List ℕ)}
+pub ran_generated : {tally : Tally} {tracing : Bool} {settings : Option Config} {t0 t1 : Option (List ℕ)} {s0 s1 : StoreState} {gave : ℕ} {w0 w1 : Option (List ℕ)}
     (seed : Seed) (left : List ℕ) (ending : Ending) (high trace0 trace1 out0 out1 : ℕ) (report : Report)
     → EndingWords ending ⊤
     → Shown tally (sink_of tracing t0 t1) settings (Some (generated seed.start seed.rows)) (Some left) gave None None s0 s1 high ending [] (SinkStopped ending)
     → EndingCause ending (faults_of 0 0 trace0) (faults_of 0 0 trace1)
     → Traced tracing s0.asked s1.asked t0 t1 (SinksRose (faults_of 0 0 trace0) (faults_of 0 0 trace1))
     → Concludes ending tally s1.asked high w0 w1 (faults_of 0 out0 trace0) (faults_of 0 out1 trace1) report
-    → Aside seed tracing settings t0 t1 s0 s1 trace0 trace1 w0 w1 out0 out1 report
+    → RanGenerated seed tracing settings t0 t1 s0 s1 trace0 trace1 w0 w1 out0 out1 report
 unfolding unkept
-aside {tally = tally} {gave = gave} seed left ending high trace0 trace1 out0 out1 report takes shown cause traces concludes = record {
+ran_generated {tally = tally} {gave = gave} seed left ending high trace0 trace1 out0 out1 report takes shown cause traces concludes = record {
   run = record { status = status_of ending; high = high };
   left = left;
   gave = gave;
@@ -114,7 +114,7 @@ aside {tally = tally} {gave = gave} seed left ending high trace0 trace1 out0 out
 
 -- ---- by the words
 pub summarized : {Takes : Type 0} {settings asked : Option Config} {tracing : Bool} {seed : Seed} {s0 s1 : StoreState} {t0 t1 w0 w1 l : Option (List ℕ)} {gave trace0 trace1 out0 out1 : ℕ} {report : Report} (source : ℕ)
-    → Takes → settings ≡ asked → s0.asked ≡ [] → Aside seed tracing asked t0 t1 s0 s1 trace0 trace1 w0 w1 out0 out1 report
+    → Takes → settings ≡ asked → s0.asked ≡ [] → RanGenerated seed tracing asked t0 t1 s0 s1 trace0 trace1 w0 w1 out0 out1 report
     → Summarized Takes settings tracing seed (outside_of l gave w0 t0 s0 (faults_of source out0 trace0)) (outside_of l gave w1 t1 s1 (faults_of source out1 trace1)) report
 unfolding headlined reported_taken
 summarized {Takes = Takes} {settings = settings} {tracing = tracing} source takes is fresh a =
