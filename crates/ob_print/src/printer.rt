@@ -4,8 +4,8 @@ ghost use Rattle.ob_print.specs.Rows.{Printed, PrintedCut};
 ghost use Rattle.ob_print.specs.Sent.{Sends};
 
 use crate::line::rows_line;
-use crate::row::{head_line, row_line};
 use crate::pieces::Pieces;
+use crate::row::{head_line, row_line};
 use ob_base::{Emit, EmitErr, Failed, Label, Shown};
 use ob_io::Sink;
 use std::alloc::Global;

@@ -105,8 +105,7 @@ fn every_failed_write_ends_the_run(rt: HostRuntime) -> Result<(), Fail> {
 fn a_long_answer_is_cut_between_its_pieces(rt: HostRuntime) -> Result<(), Fail> {
     let a = rt.alloc();
     // rows of 207 bytes, printed, of which 64 are more than a piece of 8,192
-    let text =
-        "abcdefghijklmnopqrstuvwxyzabcdefghijklmnopqrstuvwxyzabcdefghijklmnopqrstuvwxyzabcdefghijklmnopqrstuvwxyzabcdefghijklmnopqrstuvwxyzabcdefghijklmnopqrstuvwxyzabcdefghijklmnopqrstuvwxyzabcdefghijklmnopqr";
+    let text = format!(in a; "{:x<200}", "")?;
     let mut typed = format!(in a;
         "CREATE TABLE t (id INT PRIMARY KEY, s VARCHAR(200)) CAPACITY 64;"
     )?;
