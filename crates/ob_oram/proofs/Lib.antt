@@ -16,3 +16,4 @@ pub mod AccessIndex
 pub mod Seeing
 pub mod Regions
 pub mod Made
+pub mod Resting

@@ -60,7 +60,7 @@ walk_reads index walk = map (λ place. Read (region_in index walk) place) (place
 abbrev pub walk_writes : Index → Walk → List Access
 walk_writes index walk = map (λ place. Write (region_in index walk) place) (places_in walk)
 
--- the same of one block
+-- the store failed, or the block is not what was written there last, or malformed
 abbrev pub RefusesRow : OramErr → Index → Walk → ℕ → World → World → Type 0
 RefusesRow Failed index walk c old new =
     PassCut OpErrs.Failed (read_at (region_in index walk) (place_in walk c)) none old new
@@ -83,7 +83,7 @@ pub record ReadsRow (index : Index) (remap : Remap) (walk : Walk) (c : ℕ)
       (λ held. OpensRow index remap (keyed_slot index slot) held bytes)
       (λ e. e ≡ Failed)
 
--- the store failed, or the block that was read last is not what was written there last, or malformed
+-- the same of the block that was read last
 abbrev pub RefusesWalk : OramErr → Index → Walk → World → World → Type 0
 RefusesWalk Failed index walk old new = PassCut OpErrs.Failed (walk_reads index walk) none old new
 RefusesWalk (Tampered q x) index walk old new =

@@ -1,11 +1,7 @@
 //! What is asked of a store where an index is made.
 
-ghost use Rattle.std.specs.Prelude.{◌≡◌};
-ghost use Rattle.ob_base.specs.Schemas.{width};
-ghost use Rattle.ob_flat.specs.Flats.{IsSized};
-ghost use Rattle.ob_oram.specs.Keys.{IsIntKey};
-
-use ob_base::{Access, Column, Kind, Name, Schema};
+use crate::sessions::key_and_number;
+use ob_base::Access;
 use ob_oram::create;
 use ob_room::Room;
 use ob_seal::Keys;
@@ -13,32 +9,10 @@ use ob_store::{BlockStore, MemStore};
 use ob_vault::{BaseRevs, Vault};
 use std::test::Fail;
 
-// A key and a number.
-fn two_ints() -> Schema
-    ensures size { IsSized result 4 }
-    ensures width { width result ≡ 17 }
-    ensures key { IsIntKey result 0 }
-{
-    let mut schema = Schema::new();
-    schema.push(Column {
-        table: Name::from_bytes(b"t"),
-        name: Name::from_bytes(b"id"),
-        kind: Kind::Int,
-        key: true,
-    });
-    schema.push(Column {
-        table: Name::from_bytes(b"t"),
-        name: Name::from_bytes(b"v"),
-        kind: Kind::Int,
-        key: false,
-    });
-    schema
-}
-
 // The tree of four keys has 28 blocks, and a stash of two has two.
 #[test]
 fn makes_both_regions(rt: HostRuntime) -> Result<(), Fail> {
-    let schema = two_ints();
+    let schema = key_and_number();
     let mut store = MemStore::new(rt.alloc());
     let mut vault: Vault<BaseRevs> = Vault::new(rt.alloc(), Keys::derive(&[0; 32]));
     let mut room = Room::new(rt.alloc(), 4, 17, 1)?;

@@ -2,6 +2,14 @@
 #![tactic(auto)]
 
 #[cfg(test)]
+mod accesses;
+#[cfg(test)]
+mod asks;
+#[cfg(test)]
 mod creates;
 #[cfg(test)]
 mod places;
+#[cfg(test)]
+mod sessions;
+#[cfg(test)]
+mod stops;
