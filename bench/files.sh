@@ -1,7 +1,8 @@
 #!/bin/sh
-# Runs the program over files with others at work: a folder that isn't there, a file that another program changes or cuts
-# short while the session runs, and a disk that is full (a limit on the size of files). Prints a line for each, and ends
-# with 1 where an answer, a status or the files that stay behind are not as they should be.
+# Runs the program over files: the sessions of examples/, with 1, 2 and 16 rows in a block, whose answers stand beside them;
+# and with others at work: a folder that isn't there, a file that another program changes or cuts short while the session
+# runs, and a disk that is full (a limit on the size of files). Prints a line for each, and ends with 1 where an answer, a
+# status or the files that stay behind are not as they should be.
 #
 # Needs `rt` (bench/build.sh) and python3, on a system whose limit on the size of files binds (Linux). Takes a second
 # once the program is built.
@@ -11,10 +12,10 @@ work=$(mktemp -d)
 trap 'rm -rf "$work"' EXIT
 "$top/bench/build.sh" oblidb
 
-python3 - "$top/crates/oblidb/out/oblidb" "$work" <<'PY'
-import os, resource, signal, subprocess, sys
+python3 - "$top/crates/oblidb/out/oblidb" "$work" "$top/examples" <<'PY'
+import os, pathlib, resource, signal, subprocess, sys
 
-program, work = sys.argv[1:3]
+program, work, examples = sys.argv[1], sys.argv[2], pathlib.Path(sys.argv[3])
 KEY = "0" * 64 + "\n"
 MADE = "CREATE TABLE t (id INT PRIMARY KEY, v INT) CAPACITY 4;\nINSERT INTO t VALUES (1, 10);\n"
 COUNT = "SELECT COUNT(*) FROM t;\n"
@@ -65,5 +66,14 @@ session("a block that another program changed", "s", MADE, COUNT + COUNT, change
 session("a file that was cut short", "s", MADE, COUNT + COUNT, cut, MADE_LINES + ["E15 store fault"] * 2, 1, ["s.2"])
 session("a full disk", "s", MADE, "CREATE TABLE big (id INT) CAPACITY 4096;\n" + COUNT, nothing, MADE_LINES + ["E15 store fault"] + ONE, 1, ["s.2", "s.3"], 65536)
 session("a table that is given up", "s", MADE, "DROP TABLE t;\n", nothing, MADE_LINES + ["= dropped"], 0, [])
+
+# The sessions of examples/. With more rows in a block the same rows are printed, in the same order.
+for session_text in sorted(examples.glob("*.sql")):
+    wanted = session_text.with_suffix(".out").read_text()
+    for pack in (1, 2, 16):
+        ran = subprocess.run([program, "--store", os.path.join(work, "e"), "--pack", str(pack)], input=session_text.read_text(), capture_output=True, text=True)
+        well = (ran.stdout, ran.returncode) == (wanted, int("\nE" in wanted))
+        failed += not well
+        print(f"examples/{session_text.name}, {pack} rows in a block: {'as it should be' if well else f'{ran.stdout}, status {ran.returncode}'}")
 sys.exit(failed > 0)
 PY
