@@ -1,6 +1,7 @@
 //! A caller outside: what follows for two sessions from what is promised of each.
-ghost use Rattle.std.specs.Prelude.{◌≡◌, [], map, string_bytes};
+ghost use Rattle.std.specs.Prelude.{◌≡◌, [], None, map, string_bytes};
 ghost use Rattle.ob_shell.specs.Failures.{failures};
+ghost use Rattle.ob_shell.specs.Generating.{asked_for};
 ghost use Rattle.ob_shell.specs.Reruns.{Alike, EndsWell, ShellRun, statements};
 ghost use Rattle.ob_shell.specs.Settings.{settings_of};
 ghost use Rattle.ob_shell.specs.Usage.{usage};
@@ -11,9 +12,9 @@ use ob_shell::{Report, reruns_ask_the_same, shell_top};
 use ob_store::BlockStore;
 use std::alloc::Global;
 
-/// Serves two inputs with the same words, each over a store of its own. Where both came to their end and no text was
-/// answered that a store failed, and the statements that they spell differ in their literals alone and have the same
-/// early refusals, none of them a SELECT of rows, both sessions asked the same of their stores.
+/// Serves two inputs with the same words, each over a store of its own. Where the words have the input read, both came to
+/// their end and no text was answered that a store failed, and the statements that they spell differ in their literals
+/// alone and have the same early refusals, none of them a SELECT of rows, both sessions asked the same of their stores.
 pub fn sessions_ask_the_same<I: Source, O: Sink, T: Sink, S: BlockStore>(
     alloc: Global,
     words: &[String],
@@ -28,7 +29,8 @@ pub fn sessions_ask_the_same<I: Source, O: Sink, T: Sink, S: BlockStore>(
 ) -> (Report, Report)
     requires fresh { (S.state store.old).asked ≡ [] }
     requires fresh_too { (S.state store_too.old).asked ≡ [] }
-    ensures { (a : ShellRun (map string_bytes words.now)
+    ensures { asked_for usage (map string_bytes words.now) ≡ None
+        → (a : ShellRun (map string_bytes words.now)
         (outside_of (I.left input.old) (I.gave input.old) (O.written out.old) (T.written trace.old)
         (S.state store.old)
         (faults_of (I.faults input.old) (O.faults out.old) (T.faults trace.old)))
