@@ -12,10 +12,9 @@ use ob_shell::{Report, reruns_ask_the_same, shell_top};
 use ob_store::BlockStore;
 use std::alloc::Global;
 
-/// Serves two inputs with the same words, each over a store of its own. Where the words ask for no generated text, both
-/// came to their end and no text was answered that a store failed, and the statements that they spell differ in their
-/// literals alone and have the same early refusals, none of them a SELECT of rows, both sessions asked the same of their
-/// stores.
+/// Serves two inputs with the same words, each over a store of its own. Where the words have the input read, both came to
+/// their end and no text was answered that a store failed, and the statements that they spell differ in their literals
+/// alone and have the same early refusals, none of them a SELECT of rows, both sessions asked the same of their stores.
 pub fn sessions_ask_the_same<I: Source, O: Sink, T: Sink, S: BlockStore>(
     alloc: Global,
     words: &[String],

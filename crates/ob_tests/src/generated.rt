@@ -192,7 +192,7 @@ fn reads_no_input(rt: HostRuntime) -> Result<(), Fail> {
 #[test]
 fn summary_is_cut(rt: HostRuntime) -> Result<(), Fail> {
     let a = rt.alloc();
-    for room in [0, 20, 150] {
+    for room in [0, 20, 149] {
         let mut input = MemSource::new(Vec::new(a), Vec::new(a));
         let mut out = MemSink::new(a, room, Vec::new(a))?;
         let mut trace = MemSink::new(a, 1024, Vec::new(a))?;
