@@ -9,7 +9,7 @@ use ob_base::{Config, Emit, EmitErr, Items, NoMemory, Refusal, Shown};
 use ob_io::{Sink, StdSink};
 use ob_mean::Answer;
 use ob_parse::{ParseErr, parse};
-use ob_print::{Line, Printer, refusal_line, write_all};
+use ob_print::{Line, Pieces, Printer, refusal_line, write_all};
 use ob_reference::Database;
 use ob_token::{Piece, split};
 use std::alloc::Global;
@@ -83,7 +83,10 @@ fn print_rows<K: Sink>(printer: &mut Printer<'_, K>, rows: &[Items<Shown>]) -> R
         printer.row(row.as_slice())?;
     }
     printer.close(rows.len() as u64)?;
-    Ok(())
+    match printer.out.flush() {
+        Ok(()) => Ok(()),
+        Err(_) => Err(Fault::Output),
+    }
 }
 
 fn print_line<K: Sink>(out: &mut K, line: &Line) -> Result<(), Fault> {
@@ -102,7 +105,10 @@ fn print_answer<K: Sink>(alloc: Global, out: &mut K, answer: &Answer) -> Result<
             line.push(b"changed\n");
             print_line(out, &line)
         }
-        Answer::Rows(rows) => print_rows(&mut Printer { out, alloc }, rows.as_slice()),
+        Answer::Rows(rows) => {
+            let out = Pieces::new(out);
+            print_rows(&mut Printer { out, alloc }, rows.as_slice())
+        }
         Answer::Refused(refusal) => print_line(out, &refusal_line(*refusal)),
     }
 }

@@ -21,6 +21,10 @@ Cut-whole w0 w1 F a p = record { grown = a; appends = p; prefix = record { lost 
 pub Cut-fault : {w0 w1 : Option (List ℕ)} {F G : Type 0} {a : List ℕ} → G → Cut w0 w1 F a → Cut w0 w1 G a
 Cut-fault g q = record { grown = q.grown; appends = q.appends; prefix = q.prefix; all = inr g }
 
+-- the fault has a cause of its own
+pub Cut-by : {w0 w1 : Option (List ℕ)} {F G : Type 0} {a : List ℕ} → (F → G) → Cut w0 w1 F a → Cut w0 w1 G a
+Cut-by by q = record { grown = q.grown; appends = q.appends; prefix = q.prefix; all = elim q.all [ inl h ↦ inl h | inr f ↦ inr (by f) ] }
+
 -- what comes after a fault is lost
 pub Cut-more : {w0 w1 : Option (List ℕ)} {F : Type 0} {a : List ℕ} (b : List ℕ) → Cut w0 w1 F a → F → Cut w0 w1 F (a ++ b)
 Cut-more {a = a} b q f = record {

@@ -1,3 +1,4 @@
 pub mod CutLemmas
+pub mod SentLemmas
 pub mod EventLemmas
 pub mod Printing

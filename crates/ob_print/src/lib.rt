@@ -2,10 +2,12 @@
 #![tactic(auto)]
 
 mod line;
+mod pieces;
 mod printer;
 mod row;
 mod write;
 
 pub use line::{Line, access_line, refusal_line, stop_line};
+pub use pieces::Pieces;
 pub use printer::Printer;
 pub use write::write_all;

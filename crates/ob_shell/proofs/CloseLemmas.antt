@@ -58,7 +58,7 @@ words_end Words.NoMemory not = tt
 
 words_cause : (error : WordsErr) (faults : Faults) → EndingCause (refused_by error) faults faults
 words_cause Words.Usage faults = record { source = refl; out = refl; trace = refl }
-words_cause Words.NoMemory faults = (refl, refl, omega (arith))
+words_cause Words.NoMemory faults = (refl, omega arith, omega arith)
 
 words_shown : (tr : TraceSink) (settings : Option Config) (error : WordsErr) (l : Option (List ℕ)) (gave : ℕ) (w : Option (List ℕ)) (s : StoreState) → IsFresh s → tr.new ≡ tr.old
     → Shown tr settings l l gave w w s s 0 (refused_by error) [] (SinkStopped (refused_by error))

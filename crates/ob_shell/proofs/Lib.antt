@@ -1,4 +1,5 @@
 pub mod CompleteLemmas
+pub mod CountLemmas
 pub mod FeedLemmas
 pub mod KeyLemmas
 pub mod RunLemmas

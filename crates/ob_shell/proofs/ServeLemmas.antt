@@ -1,20 +1,27 @@
 -- What the engine was given and what it left.
-use Rattle.std.proofs.Common.{ℕ, List, [], ◌∷◌, Option, Result, Ok, Err, refl, sym, ◌⊎◌, inl, inr, append-nil}
-use Rattle.std.specs.Prelude.{IfOk, IfErr}
+use Rattle.std.proofs.Common.{ℕ, List, [], ◌∷◌, ◌++◌, ◌≡◌, ◌≤◌, Bool, Option, Result, Ok, Err, refl, ◌∙◌, ◌⊎◌, inl, inr, arith}
+use Rattle.std.specs.Io.KnownBytes.{Appends}
 use Rattle.std.proofs.KnownBytes.{Appends-nil}
+use Rattle.std.specs.Result.{is_err}
 use Rattle.ob_base.specs.Events.{Event}
 use Rattle.ob_base.specs.declared.refusal.Stop.{Stop}
 use Rattle.ob_base.specs.declared.refusal.Refusal.TheVariants.{Syntax}
 use Rattle.ob_base.specs.declared.refusal.Stop.TheVariants.{InputLimit, NoMemory, SinkFault, SourceFault, Tampered}
+use Rattle.ob_exec.specs.Running.{SinkCause}
 use Rattle.ob_exec.specs.Serving.{EndsWithin, Serves}
 use Rattle.ob_exec.specs.declared.outcome.Outcome.{Outcome}
 use Rattle.ob_exec.specs.declared.outcome.Outcome.TheVariants.{Refused}
-use Rattle.ob_print.specs.Rows.{Printed, PrintedCut, events_text}
-use Rattle.ob_print.proofs.CutLemmas.{Cut-whole}
-use Rattle.ob_shell.specs.Steps.{Machine, Does, HasBody, StopsIn}
+use Rattle.ob_io.specs.Causes.{HasCause}
+use Rattle.ob_print.specs.Cuts.{Cut}
+use Rattle.ob_print.specs.Rows.{events_text}
+use Rattle.ob_print.proofs.CutLemmas.{Cut-more, Cut-whole}
+use Rattle.ob_shell.specs.Closing.{closing_line}
+use Rattle.ob_shell.specs.Steps.{Machine, Does, HasBody, Served, StopsIn}
 use Rattle.ob_sql.specs.declared.stmt.Stmt.{Stmt}
 use Rattle.ob_vault.specs.State.{RevState}
-use Rattle.ob_shell.specs.Words.{Spells}
+use Rattle.ob_shell.specs.Running.{Silenced, StopCause}
+use Rattle.ob_shell.specs.Words.{Spells, faults_of}
+use Rattle.ob_shell.proofs.CountLemmas.{rises_earlier, rises_later}
 
 module _ {R E : Type 0} (state : R → RevState) (grew cut : E → E → List Event → Type 0) (faults : E → ℕ)
     (m0 m1 : Machine R) (out_old out_new : E) (stmt : Stmt) where
@@ -46,62 +53,67 @@ module _ {R E : Type 0} (state : R → RevState) (grew cut : E → E → List Ev
     means = serves.means;
   }
 
-  module _ (w0 w1 : Option (List ℕ)) (text : List ℕ) (spells : Spells text (Ok stmt))
-      (took : (events : List Event) → grew out_old out_new events → Printed w0 w1 events)
-      (began : (events : List Event) → cut out_old out_new events → PrintedCut w0 w1 events) where
-    -- the engine answered, and the sink took these events
-    pub answered_in : (result : Result Outcome Stop) → Called result → IfOk result (λ outcome. HasBody state w0 w1 text outcome m0 m1)
-    answered_in (Err stop) serves = tt
-    answered_in (Ok outcome) serves =
+  module _ (text : List ℕ) (spells : Spells text (Ok stmt)) where
+    served_by : (outcome : Outcome) → (serves : Called (Ok outcome)) → Served state m0 m1 text (record { outcome = outcome; bytes = events_text serves.answered.events ++ closing_line outcome })
+    served_by outcome serves =
+        let answer = serves.answered in
+        record {
+          stmt = stmt;
+          spells = spells;
+          does = done (Ok outcome) serves;
+          events = answer.events;
+          emits = answer.emits;
+          emitted = answer.told;
+          printed = refl;
+        }
+
+  module _ (w0 w1 : Option (List ℕ)) (text : List ℕ) (spells : Spells text (Ok stmt)) where
+    -- the engine answered, and the sink took all of these events
+    pub answered_by : (outcome : Outcome) → Called (Ok outcome) → ((events : List Event) → grew out_old out_new events → Appends w0 w1 (events_text events))
+        → HasBody state w0 w1 text outcome m0 m1
+    answered_by outcome serves took =
         let answer = serves.answered in
         record {
           body = events_text answer.events;
           appends = took answer.events answer.took;
-          step = record {
-            done = inr (record {
-              stmt = stmt;
-              spells = spells;
-              does = done (Ok outcome) serves;
-              events = answer.events;
-              emits = answer.emits;
-              emitted = answer.told;
-              printed = refl;
-            });
-          };
+          step = record { done = inr (served_by text spells outcome serves) };
+        }
+
+    -- the engine answered, and a sink failed within these events
+    pub finished_by : (outcome : Outcome) → Called (Ok outcome) → ((events : List Event) → grew out_old out_new events → Cut w0 w1 (Unit {0}) (events_text events))
+        → StopsIn state w0 w1 (text ∷ []) SinkFault m0 m1
+    finished_by outcome serves began =
+        let answer = serves.answered in
+        let text_of = events_text answer.events in
+        record {
+          bytes = text_of ++ closing_line outcome;
+          partly = inr (inr (record {
+            answer = record { outcome = outcome; bytes = text_of ++ closing_line outcome };
+            step = record { done = inr (served_by text spells outcome serves) };
+            whole = refl;
+            fault = tt;
+          }));
+          cut = Cut-more (closing_line outcome) (began answer.events answer.took) tt;
         }
 
     -- the engine was stopped, and the sink took these events, or a first part of them
-    pub stopped_in : (result : Result Outcome Stop) → Called result → IfErr result (λ stop. StopsIn state w0 w1 (text ∷ []) stop m0 m1)
-    stopped_in (Ok outcome) serves = tt
-    stopped_in (Err stop) serves =
+    pub stopped_by : (stop : Stop) → Called (Err stop) → ((events : List Event) → grew out_old out_new events ⊎ cut out_old out_new events → Cut w0 w1 (Unit {0}) (events_text events))
+        → StopsIn state w0 w1 (text ∷ []) stop m0 m1
+    stopped_by stop serves began =
         let stopped = serves.stopped in
-        elim (ends_either stop out_old out_new stopped.events stopped.ends) [
-          | inl whole ↦ record {
-            bytes = events_text stopped.events;
-            partly = inr (inl (record {
-              stmt = stmt;
-              spells = spells;
-              does = done (Err stop) serves;
-              events = stopped.events;
-              emitted = stopped.told;
-              printed = record { lost = []; whole = sym (append-nil _) };
-            }));
-            cut = Cut-whole _ _ _ _ (took stopped.events whole);
-          }
-          | inr part ↦ let printed = began stopped.events part in
-              record {
-                bytes = printed.grown;
-                partly = inr (inl (record {
-                  stmt = stmt;
-                  spells = spells;
-                  does = done (Err stop) serves;
-                  events = stopped.events;
-                  emitted = stopped.told;
-                  printed = printed.prefix;
-                }));
-                cut = Cut-whole _ _ _ _ printed.appends;
-              }
-        ]
+        let printed = began stopped.events (ends_either stop out_old out_new stopped.events stopped.ends) in
+        record {
+          bytes = printed.grown;
+          partly = inr (inl (record {
+            stmt = stmt;
+            spells = spells;
+            does = done (Err stop) serves;
+            events = stopped.events;
+            emitted = stopped.told;
+            printed = printed.prefix;
+          }));
+          cut = Cut-whole _ _ _ _ printed.appends;
+        }
 
 -- a text that is no statement is answered by its line alone
 pub misspelt : {R : Type 0} (state : R → RevState) (w : Option (List ℕ)) (m : Machine R) (text : List ℕ) (at : ℕ) → Spells text (Err at)
@@ -111,3 +123,27 @@ misspelt state w m text at spells = record {
   appends = Appends-nil w;
   step = record { done = inl (record { same = refl; at = at; spells = spells; refused = refl; line = refl }) };
 }
+
+-- of the emitter's stop alone the count rises
+stop_keeps : (stop : Stop) (out0 out1 : ℕ) → (stop ≡ SinkFault → ⊥) → SinkCause (Err stop) out0 out1 → out1 ≡ out0
+stop_keeps (Tampered region place) out0 out1 not cause = cause
+stop_keeps NoMemory out0 out1 not cause = cause
+stop_keeps SinkFault out0 out1 not cause = absurd (not refl)
+stop_keeps SourceFault out0 out1 not cause = absurd cause
+stop_keeps InputLimit out0 out1 not cause = absurd cause
+
+-- a stop of the engine, and what waited was flushed after it
+pub stop_cause : (T : Type 0) (stop : Stop) (out0 out1 out2 : ℕ) → SinkCause (Err stop) out0 out1 → out1 ≤ out2 → StopCause {T = T} (faults_of 0 out0 0) (faults_of 0 out2 0) (Err stop)
+stop_cause T (Tampered region place) out0 out1 out2 cause later = (refl, omega arith, omega arith)
+stop_cause T NoMemory out0 out1 out2 cause later = (refl, omega arith, omega arith)
+stop_cause T SinkFault out0 out1 out2 cause later = (refl, inl (rises_later out0 out1 out2 cause later))
+stop_cause T SourceFault out0 out1 out2 cause later = absurd cause
+stop_cause T InputLimit out0 out1 out2 cause later = absurd cause
+
+-- whether what waited could be flushed after it
+pub flush_silences : {T E : Type 0} (stop : Stop) (r : Result T E) (quiet : Bool) (out0 out1 out2 : ℕ) → (stop ≡ SinkFault → ⊥) → SinkCause (Err stop) out0 out1 → quiet ≡ is_err r → HasCause out1 out2 r
+    → Silenced quiet (faults_of 0 out0 0) (faults_of 0 out2 0)
+flush_silences stop (Ok x) quiet out0 out1 out2 not cause is flushed = rw is (flushed.kept ∙ stop_keeps stop out0 out1 not cause, refl)
+flush_silences stop (Err e) quiet out0 out1 out2 not cause is flushed =
+    let same = stop_keeps stop out0 out1 not cause in
+    rw is (inl (rises_earlier out0 out1 out2 (omega (arith, same)) flushed.failed))

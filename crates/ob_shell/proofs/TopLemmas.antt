@@ -43,6 +43,7 @@ use Rattle.ob_shell.specs.declared.key.FirstLine.TheVariants.{Secret, Last, Bad}
 use Rattle.ob_shell.specs.declared.top.Ending.{Ending}
 use Rattle.ob_shell.specs.declared.top.Ending.TheVariants.{Usage, BadKey, Ran as RanEnding}
 use Rattle.ob_shell.proofs.TextLemmas.{rest_of-nil, texts_of-nil}
+use Rattle.ob_shell.proofs.CountLemmas.{rises_earlier, rises_later}
 use Rattle.ob_shell.proofs.CalmLemmas.{MeetsChange, first_calm, last_met, steps_calm}
 use Rattle.ob_shell.proofs.FailureLemmas.{session_fails}
 use Rattle.ob_shell.proofs.LaterLemmas.{steps_later, last_later}
@@ -523,9 +524,6 @@ takes_of (RanEnding (Err InputLimit)) not_usage t = t
 whole_of : {w0 w1 : Option (List ℕ)} {bytes : List ℕ} → Cut w0 w1 ⊥ bytes → Appends w0 w1 bytes
 whole_of {w0 = w0} {w1 = w1} c = elim c.all [ inl e ↦ subst (λ (l : List ℕ). Appends w0 w1 l) e c.appends | inr never ↦ absurd never ]
 
-pub rises_later : (a b c : ℕ) → Rises a b → b ≤ c → Rises a c
-rises_later a b c h l = omega arith
-
 -- after the sink's fault nothing more was written
 cut_stays : {w0 w1 w2 : Option (List ℕ)} {F G : Type 0} {bytes : List ℕ} → Cut w0 w1 F bytes → Appends w1 w2 [] → G → Cut w0 w2 G bytes
 cut_stays {w0 = w0} {w2 = w2} c same g = record {
@@ -564,10 +562,10 @@ pub line_rose : (ending : Ending) (old mid new : Faults) → EndingCause ending 
 line_rose Usage old mid new cause rose later trace = inl (subst (λ (n : ℕ). Rises n new.out) cause.out rose)
 line_rose BadKey old mid new cause rose later trace = inl (subst (λ (n : ℕ). Rises n new.out) cause.out rose)
 line_rose (RanEnding (Ok refused)) old mid new cause rose later trace = inl (subst (λ (n : ℕ). Rises n new.out) cause.out rose)
-line_rose (RanEnding (Err (Tampered region place))) old mid new cause rose later trace = inl (subst (λ (n : ℕ). Rises n new.out) cause.1 rose)
+line_rose (RanEnding (Err (Tampered region place))) old mid new cause rose later trace = inl (rises_earlier _ _ _ cause.1 rose)
 line_rose (RanEnding (Err SourceFault)) old mid new cause rose later trace = inl (subst (λ (n : ℕ). Rises n new.out) cause.1 rose)
 line_rose (RanEnding (Err SinkFault)) old mid new cause rose later trace = rose_with old mid new cause.1 later trace
-line_rose (RanEnding (Err NoMemory)) old mid new cause rose later trace = inl (subst (λ (n : ℕ). Rises n new.out) cause.1 rose)
+line_rose (RanEnding (Err NoMemory)) old mid new cause rose later trace = inl (rises_earlier _ _ _ cause.1 rose)
 line_rose (RanEnding (Err InputLimit)) old mid new cause rose later trace = inl (subst (λ (n : ℕ). Rises n new.out) cause.out rose)
 
 -- the counts after the last line

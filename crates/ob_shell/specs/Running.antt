@@ -20,17 +20,26 @@ stop_of (Ok x) = Ok x
 stop_of (Err halted) = Err halted.stop
 
 -- no further line may be written
-abbrev pub IsQuiet : {T : Type 0} → Result T Halted → Type 0
-IsQuiet (Ok x) = ⊥
-IsQuiet (Err halted) = halted.quiet ≡ true
+abbrev pub is_quiet : {T : Type 0} → Result T Halted → Bool
+is_quiet (Ok x) = false
+is_quiet (Err halted) = halted.quiet
 
--- when each stop comes: only where that count rose; the trace's may have risen after it
+abbrev pub IsQuiet : {T : Type 0} → Result T Halted → Type 0
+IsQuiet result = is_quiet result ≡ true
+
+-- it may not where a sink failed, and only there
+abbrev pub Silenced : (quiet : Bool) → (old new : Faults) → Type 0
+Silenced true old new = SinksRose old new
+Silenced false old new = (new.out ≡ old.out) × (new.trace ≡ old.trace)
+
+-- when each stop comes: only where that count rose; those of the sinks may have risen behind a stop by a block or for want
+-- of memory
 abbrev pub StopCause : {T : Type 0} (old new : Faults) → Result T Stop → Type 0
 StopCause old new (Ok x) = NoneRose old new
-StopCause old new (Err (Tampered region place)) = (new.source ≡ old.source) × (new.out ≡ old.out)
-    × (old.trace ≤ new.trace)
+StopCause old new (Err (Tampered region place)) = (new.source ≡ old.source)
+    × (old.out ≤ new.out) × (old.trace ≤ new.trace)
 StopCause old new (Err SinkFault) = (new.source ≡ old.source) × SinksRose old new
-StopCause old new (Err NoMemory) = (new.source ≡ old.source) × (new.out ≡ old.out)
+StopCause old new (Err NoMemory) = (new.source ≡ old.source) × (old.out ≤ new.out)
     × (old.trace ≤ new.trace)
 StopCause old new (Err SourceFault) = Rises old.source new.source × (new.out ≡ old.out)
     × (new.trace ≡ old.trace)

@@ -4,10 +4,10 @@ ghost use Rattle.ob_base.specs.declared.access.Access.{Access};
 ghost use Rattle.ob_shell.specs.Texts.{text_max, is_over, rest_after, texts_at, tail_text};
 ghost use Rattle.ob_shell.specs.Steps.{machine_of, IsReady, HasBody, AnswersAll, StopsIn};
 ghost use Rattle.ob_shell.specs.Feeding.{IsFedBy};
-ghost use Rattle.ob_shell.specs.Running.{StopCause, SessionRan, IsQuiet, stop_of};
+ghost use Rattle.ob_shell.specs.Running.{StopCause, SessionRan, IsQuiet, Silenced, is_quiet, stop_of};
 ghost use Rattle.ob_shell.specs.Tracing.{TracedAll, Traced};
 ghost use Rattle.ob_shell.specs.Closing;
-ghost use Rattle.ob_shell.specs.Words.{Spells, faults_of, SinksRose};
+ghost use Rattle.ob_shell.specs.Words.{Spells, faults_of};
 ghost use Rattle.ob_shell.specs.Endings.{SinkFailed};
 
 use crate::feed::{Feed, Halt};
@@ -17,18 +17,24 @@ use ob_base::{Failed, Refusal, Stop};
 use ob_exec::{Engine, Outcome};
 use ob_io::{Sink, Source};
 use ob_parse::{ParseErr, parse};
-use ob_print::{Line, Printer, refusal_line, write_all};
+use ob_print::{Line, Pieces, Printer, refusal_line, write_all};
 use ob_sql::Stmt;
 use ob_store::BlockStore;
 use ob_vault::Revisions;
 use std::alloc::Global;
 
-/// A stop, and whether its line may not be written any more.
+/// A stop, and whether nothing more may be written, its line neither, since a sink failed.
 #[derive(Clone, Copy, Debug, PartialEq, Eq)]
 pub struct Halted {
     pub stop: Stop,
     pub quiet: bool,
 }
+
+// The stop by a sink's fault.
+const SINK_FAILED: Halted = Halted {
+    stop: Stop::SinkFault,
+    quiet: true,
+};
 
 /// What a session knows beside the state of its engine.
 #[derive(Drop)]
@@ -67,32 +73,48 @@ fn counted_line(n: u64, what: &[u8]) -> Line
     line
 }
 
-// Runs one statement, whose text this is, and prints its header and rows.
+// Runs one statement, whose text this is, and prints its header and rows, of which none waits afterwards. Where the sink
+// fails behind a stop, the stop remains.
 fn run_stmt<R: Revisions, S: BlockStore, K: Sink>(
     engine: &mut Engine<R>,
     store: &mut S,
     text: &[u8],
     stmt: &Stmt,
     printer: &mut Printer<'_, K>,
-) -> Result<Outcome, Stop>
+) -> Result<Outcome, Halted>
     requires spells { Spells text.now (Ok stmt.now) }
     requires ready { IsReady R.state (machine_of engine.old (S.state store.old)) }
-    ensures same_sink { printer.new.out.ghost_name ≡ printer.old.out.ghost_name }
+    requires none { printer.old.out.waiting.items ≡ [] }
+    ensures same_sink { printer.new.out.out.ghost_name ≡ printer.old.out.out.ghost_name }
     ensures ready { OnOk result (IsReady R.state (machine_of engine.new (S.state store.new))) }
-    ensures answered { IfOk result (λ outcome. HasBody R.state (K.written printer.old.out.now)
-        (K.written printer.new.out.now) text.now outcome
+    ensures answered { IfOk result (λ outcome. HasBody R.state (K.written printer.old.out.out.now)
+        (K.written printer.new.out.out.now) text.now outcome
         (machine_of engine.old (S.state store.old)) (machine_of engine.new (S.state store.new))) }
-    ensures stopped { IfErr result (λ stop. StopsIn R.state (K.written printer.old.out.now)
-        (K.written printer.new.out.now) (text.now ∷ []) stop
+    ensures stopped { IfErr result (λ halted. StopsIn R.state (K.written printer.old.out.out.now)
+        (K.written printer.new.out.out.now) (text.now ∷ []) halted.stop
         (machine_of engine.old (S.state store.old)) (machine_of engine.new (S.state store.new))) }
     ensures asked { (seen : List Access) × ((S.state store.new).asked
         ≡ (S.state store.old).asked ++ seen) }
-    ensures cause { StopCause (faults_of 0 (K.faults printer.old.out.now) 0)
-        (faults_of 0 (K.faults printer.new.out.now) 0) result }
-    ensures limit { result ≡ Err Stop.InputLimit → ⊥ }
-    ensures source { result ≡ Err Stop.SourceFault → ⊥ }
+    ensures cause { StopCause (faults_of 0 (K.faults printer.old.out.out.now) 0)
+        (faults_of 0 (K.faults printer.new.out.out.now) 0) (stop_of result) }
+    ensures quiet { Silenced (is_quiet result) (faults_of 0 (K.faults printer.old.out.out.now) 0)
+        (faults_of 0 (K.faults printer.new.out.out.now) 0) }
+    ensures limit { stop_of result ≡ Err Stop.InputLimit → ⊥ }
+    ensures source { stop_of result ≡ Err Stop.SourceFault → ⊥ }
 {
-    engine.run(store, stmt, printer)
+    match engine.run(store, stmt, printer) {
+        Ok(outcome) => match printer.out.flush() {
+            Ok(()) => Ok(outcome),
+            Err(Failed) => Err(SINK_FAILED),
+        },
+        Err(stop) => match stop {
+            Stop::SinkFault => Err(SINK_FAILED),
+            _ => {
+                let quiet = printer.out.flush().is_err();
+                Err(Halted { stop, quiet })
+            }
+        },
+    }
 }
 
 // Answers one text but for its closing line.
@@ -102,31 +124,41 @@ fn run_text<R: Revisions, S: BlockStore, K: Sink>(
     store: &mut S,
     text: &[u8],
     out: &mut K,
-) -> Result<Outcome, Stop>
+) -> Result<Outcome, Halted>
     requires short { length text.now ≤ text_max }
     requires ready { IsReady R.state (machine_of engine.old (S.state store.old)) }
     ensures ready { OnOk result (IsReady R.state (machine_of engine.new (S.state store.new))) }
     ensures answered { IfOk result (λ outcome. HasBody R.state (K.written out.old)
         (K.written out.new) text.now outcome
         (machine_of engine.old (S.state store.old)) (machine_of engine.new (S.state store.new))) }
-    ensures stopped { IfErr result (λ stop. StopsIn R.state (K.written out.old) (K.written out.new)
-        (text.now ∷ []) stop
+    ensures stopped { IfErr result (λ halted. StopsIn R.state (K.written out.old)
+        (K.written out.new) (text.now ∷ []) halted.stop
         (machine_of engine.old (S.state store.old)) (machine_of engine.new (S.state store.new))) }
     ensures asked { (seen : List Access) × ((S.state store.new).asked
         ≡ (S.state store.old).asked ++ seen) }
     ensures cause { StopCause (faults_of 0 (K.faults out.old) 0) (faults_of 0 (K.faults out.new) 0)
-        result }
-    ensures limit { result ≡ Err Stop.InputLimit → ⊥ }
-    ensures source { result ≡ Err Stop.SourceFault → ⊥ }
+        (stop_of result) }
+    ensures quiet { Silenced (is_quiet result) (faults_of 0 (K.faults out.old) 0)
+        (faults_of 0 (K.faults out.new) 0) }
+    ensures limit { stop_of result ≡ Err Stop.InputLimit → ⊥ }
+    ensures source { stop_of result ≡ Err Stop.SourceFault → ⊥ }
 {
     let stmt = match parse(alloc, text) {
         Ok(stmt) => stmt,
         Err(error) => match error {
             ParseErr::Syntax(at) => return Ok(Outcome::Refused(Refusal::Syntax(at))),
-            ParseErr::NoMemory => return Err(Stop::NoMemory),
+            ParseErr::NoMemory => {
+                return Err(Halted {
+                    stop: Stop::NoMemory,
+                    quiet: false,
+                });
+            }
         },
     };
-    let mut printer = Printer { out, alloc };
+    let mut printer = Printer {
+        out: Pieces::new(out),
+        alloc,
+    };
     run_stmt(engine, store, text, &stmt, &mut printer)
 }
 
@@ -138,28 +170,30 @@ fn answer<R: Revisions, S: BlockStore, K: Sink>(
     store: &mut S,
     text: &[u8],
     out: &mut K,
-) -> Result<bool, Stop>
+) -> Result<bool, Halted>
     requires short { length text.now ≤ text_max }
     requires ready { IsReady R.state (machine_of engine.old (S.state store.old)) }
     ensures ready { OnOk result (IsReady R.state (machine_of engine.new (S.state store.new))) }
     ensures answered { IfOk result (λ flag. AnswersAll R.state (K.written out.old)
         (K.written out.new) (text.now ∷ []) refused flag
         (machine_of engine.old (S.state store.old)) (machine_of engine.new (S.state store.new))) }
-    ensures stopped { IfErr result (λ stop. StopsIn R.state (K.written out.old) (K.written out.new)
-        (text.now ∷ []) stop
+    ensures stopped { IfErr result (λ halted. StopsIn R.state (K.written out.old)
+        (K.written out.new) (text.now ∷ []) halted.stop
         (machine_of engine.old (S.state store.old)) (machine_of engine.new (S.state store.new))) }
     ensures asked { (seen : List Access) × ((S.state store.new).asked
         ≡ (S.state store.old).asked ++ seen) }
     ensures cause { StopCause (faults_of 0 (K.faults out.old) 0) (faults_of 0 (K.faults out.new) 0)
-        result }
-    ensures limit { result ≡ Err Stop.InputLimit → ⊥ }
-    ensures source { result ≡ Err Stop.SourceFault → ⊥ }
+        (stop_of result) }
+    ensures quiet { Silenced (is_quiet result) (faults_of 0 (K.faults out.old) 0)
+        (faults_of 0 (K.faults out.new) 0) }
+    ensures limit { stop_of result ≡ Err Stop.InputLimit → ⊥ }
+    ensures source { stop_of result ≡ Err Stop.SourceFault → ⊥ }
 {
     match run_text(alloc, engine, store, text, out) {
-        Err(stop) => Err(stop),
+        Err(halted) => Err(halted),
         Ok(outcome) => match write_all(out, closing_line(outcome).as_bytes()) {
             Ok(()) => Ok(refused | is_refused(outcome)),
-            Err(Failed) => Err(Stop::SinkFault),
+            Err(Failed) => Err(SINK_FAILED),
         },
     }
 }
@@ -190,7 +224,8 @@ fn answer_traced<R: Revisions, S: BlockStore, K: Sink, T: Sink>(
         (S.state store.new).asked (T.written trace.old) (T.written trace.new) (IsQuiet result)) }
     ensures cause { StopCause (faults_of 0 (K.faults out.old) (T.faults trace.old))
         (faults_of 0 (K.faults out.new) (T.faults trace.new)) (stop_of result) }
-    ensures quiet { IsQuiet result → SinksRose (faults_of 0 (K.faults out.old) (T.faults trace.old))
+    ensures quiet { Silenced (is_quiet result)
+        (faults_of 0 (K.faults out.old) (T.faults trace.old))
         (faults_of 0 (K.faults out.new) (T.faults trace.new)) }
     ensures limit { stop_of result ≡ Err Stop.InputLimit → ⊥ }
     ensures source { stop_of result ≡ Err Stop.SourceFault → ⊥ }
@@ -199,19 +234,13 @@ fn answer_traced<R: Revisions, S: BlockStore, K: Sink, T: Sink>(
     match answer(alloc, refused, engine, store, text, out) {
         Ok(flag) => match trace_from(tracing, store, mark, trace) {
             Ok(()) => Ok(flag),
-            Err(Failed) => Err(Halted {
-                stop: Stop::SinkFault,
-                quiet: true,
-            }),
+            Err(Failed) => Err(SINK_FAILED),
         },
-        Err(Stop::SinkFault) => Err(Halted {
-            stop: Stop::SinkFault,
-            quiet: true,
-        }),
-        Err(stop) => match trace_from(tracing, store, mark, trace) {
-            Ok(()) => Err(Halted { stop, quiet: false }),
-            Err(Failed) => Err(Halted { stop, quiet: true }),
-        },
+        Err(Halted { stop, quiet: true }) => Err(Halted { stop, quiet: true }),
+        Err(Halted { stop, quiet: false }) => {
+            let quiet = trace_from(tracing, store, mark, trace).is_err();
+            Err(Halted { stop, quiet })
+        }
     }
 }
 
@@ -243,7 +272,8 @@ fn turn<R: Revisions, S: BlockStore, K: Sink, T: Sink>(
         (S.state store.new).asked (T.written trace.old) (T.written trace.new) (IsQuiet result)) }
     ensures cause { StopCause (faults_of 0 (K.faults out.old) (T.faults trace.old))
         (faults_of 0 (K.faults out.new) (T.faults trace.new)) (stop_of result) }
-    ensures quiet { IsQuiet result → SinksRose (faults_of 0 (K.faults out.old) (T.faults trace.old))
+    ensures quiet { Silenced (is_quiet result)
+        (faults_of 0 (K.faults out.old) (T.faults trace.old))
         (faults_of 0 (K.faults out.new) (T.faults trace.new)) }
     ensures limit { stop_of result ≡ Err Stop.InputLimit →
         (texts_at session.old.pending b ≡ []) × (is_over (rest_after session.old.pending b) ≡ true)
@@ -308,7 +338,8 @@ fn finish<R: Revisions, S: BlockStore, K: Sink, T: Sink>(
         (S.state store.new).asked (T.written trace.old) (T.written trace.new) (IsQuiet result)) }
     ensures cause { StopCause (faults_of 0 (K.faults out.old) (T.faults trace.old))
         (faults_of 0 (K.faults out.new) (T.faults trace.new)) (stop_of result) }
-    ensures quiet { IsQuiet result → SinksRose (faults_of 0 (K.faults out.old) (T.faults trace.old))
+    ensures quiet { Silenced (is_quiet result)
+        (faults_of 0 (K.faults out.old) (T.faults trace.old))
         (faults_of 0 (K.faults out.new) (T.faults trace.new)) }
     ensures limit { stop_of result ≡ Err Stop.InputLimit → ⊥ }
     ensures source { stop_of result ≡ Err Stop.SourceFault → ⊥ }
@@ -353,7 +384,7 @@ pub fn serve<I: Source, R: Revisions, S: BlockStore, K: Sink, T: Sink>(
     ensures cause { StopCause
         (faults_of (I.faults input.old) (K.faults out.old) (T.faults trace.old))
         (faults_of (I.faults input.new) (K.faults out.new) (T.faults trace.new)) (stop_of result) }
-    ensures quiet { IsQuiet result → SinksRose
+    ensures quiet { Silenced (is_quiet result)
         (faults_of (I.faults input.old) (K.faults out.old) (T.faults trace.old))
         (faults_of (I.faults input.new) (K.faults out.new) (T.faults trace.new)) }
 {

@@ -7,7 +7,7 @@ ghost use Rattle.ob_shell.specs.Closed.{LineWritten, Untouched, Unwritten, refus
 ghost use Rattle.ob_shell.specs.Meddling.{Unserved, Meddled};
 ghost use Rattle.ob_shell.specs.Feeding.{IsFedBy};
 ghost use Rattle.ob_shell.specs.KeyLine.{secret_of};
-ghost use Rattle.ob_shell.specs.Running.{IsQuiet, stop_of, StopCause};
+ghost use Rattle.ob_shell.specs.Running.{IsQuiet, Silenced, StopCause, is_quiet, stop_of};
 ghost use Rattle.ob_meddle.specs.Shows.{state_of};
 ghost use Rattle.ob_shell.specs.Headline.{Headline};
 ghost use Rattle.ob_shell.specs.Tracing.{Traced};
@@ -98,8 +98,7 @@ fn ended_at(ending: Ending) -> Ended
 // The end of a session.
 fn ended_with(ran: Result<bool, Halted>, high: u64) -> Ended
     ensures ending { result.ending ≡ Ending.Ran (stop_of ran) }
-    ensures quiet { result.quiet ≡ true → IsQuiet ran }
-    ensures loud { IsQuiet ran → result.quiet ≡ true }
+    ensures quiet { result.quiet ≡ is_quiet ran }
     ensures high { result.high ≡ high }
 {
     match ran {
@@ -145,7 +144,7 @@ fn serve_with<I: Source, O: Sink, T: Sink, S: BlockStore>(
         (faults_of (I.faults input.old) (O.faults out.old) (T.faults trace.old))
         (faults_of (I.faults input.new) (O.faults out.new) (T.faults trace.new))
         (stop_of result.0) }
-    ensures quiet { IsQuiet result.0 → SinksRose
+    ensures quiet { Silenced (is_quiet result.0)
         (faults_of (I.faults input.old) (O.faults out.old) (T.faults trace.old))
         (faults_of (I.faults input.new) (O.faults out.new) (T.faults trace.new)) }
 {
@@ -193,7 +192,7 @@ fn run<I: Source, O: Sink, T: Sink, S: BlockStore>(
     ensures cause { EndingCause result.ending
         (faults_of (I.faults input.old) (O.faults out.old) (T.faults trace.old))
         (faults_of (I.faults input.new) (O.faults out.new) (T.faults trace.new)) }
-    ensures quiet { result.quiet ≡ true → SinksRose
+    ensures quiet { Silenced result.quiet
         (faults_of (I.faults input.old) (O.faults out.old) (T.faults trace.old))
         (faults_of (I.faults input.new) (O.faults out.new) (T.faults trace.new)) }
 {

@@ -8,10 +8,35 @@ ghost use Rattle.ob_shell.specs.Tracing.{traced};
 
 use ob_base::Failed;
 use ob_io::Sink;
-use ob_print::{access_line, write_all};
+use ob_print::{Pieces, access_line};
 use ob_store::BlockStore;
 
-/// Writes the accesses from a place on.
+// Writes the accesses from a place on, of which none waits afterwards.
+fn write_accesses<S: BlockStore, T: Sink>(
+    store: &S,
+    from: u64,
+    trace: &mut Pieces<'_, T>,
+) -> Result<(), Failed>
+    requires within { from ≤ length (S.state store.now).asked }
+    requires none { trace.old.waiting.items ≡ [] }
+    ensures same_sink { trace.new.out.ghost_name ≡ trace.old.out.ghost_name }
+    ensures ok { OnOk result (Appends (T.written trace.old.out.now) (T.written trace.new.out.now)
+        (trace_text (drop from (S.state store.now).asked))) }
+    ensures cut { Cut (T.written trace.old.out.now) (T.written trace.new.out.now) (IsErr result)
+        (trace_text (drop from (S.state store.now).asked)) }
+    ensures cause { HasCause (T.faults trace.old.out.now) (T.faults trace.new.out.now) result }
+{
+    let end = store.count();
+    for i in from..end {
+        let line = access_line(store.nth(i));
+        if let Err(failed) = trace.write_all(line.as_bytes()) {
+            return Err(failed);
+        }
+    }
+    trace.flush()
+}
+
+// The same to a sink that takes them in pieces.
 fn write_trace<S: BlockStore, T: Sink>(store: &S, from: u64, trace: &mut T) -> Result<(), Failed>
     requires { from ≤ length (S.state store.now).asked }
     ensures ok { OnOk result (Appends (T.written trace.old) (T.written trace.new)
@@ -20,14 +45,8 @@ fn write_trace<S: BlockStore, T: Sink>(store: &S, from: u64, trace: &mut T) -> R
         (trace_text (drop from (S.state store.now).asked)) }
     ensures cause { HasCause (T.faults trace.old) (T.faults trace.new) result }
 {
-    let end = store.count();
-    for i in from..end {
-        let line = access_line(store.nth(i));
-        if let Err(failed) = write_all(trace, line.as_bytes()) {
-            return Err(failed);
-        }
-    }
-    Ok(())
+    let mut pieces = Pieces::new(trace);
+    write_accesses(store, from, &mut pieces)
 }
 
 /// Writes the accesses from a place on, where they are traced at all.

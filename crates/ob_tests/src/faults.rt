@@ -93,12 +93,48 @@ fn writes_so(
 #[test]
 fn every_failed_write_ends_the_run(rt: HostRuntime) -> Result<(), Fail> {
     let a = rt.alloc();
-    // the session writes its answers in 11 pieces, and a line of the trace for each access
-    for fail in 1..=11 {
+    // each of the seven statements is answered in one piece, and its accesses are traced in one
+    for fail in 1..=7 {
         writes_so(&rt, a, vec![in a; fail]?, Vec::new(a), 6)?;
-    }
-    for fail in 1..=69 {
         writes_so(&rt, a, Vec::new(a), vec![in a; fail]?, 6)?;
     }
-    writes_so(&rt, a, vec![in a; 12]?, vec![in a; 70]?, 1)
+    writes_so(&rt, a, vec![in a; 8]?, vec![in a; 8]?, 1)
+}
+
+#[test]
+fn a_long_answer_is_cut_between_its_pieces(rt: HostRuntime) -> Result<(), Fail> {
+    let a = rt.alloc();
+    // rows of 207 bytes, printed, of which 64 are more than a piece of 8,192
+    let text = format!(in a; "{:x<200}", "")?;
+    let mut typed = format!(in a;
+        "CREATE TABLE t (id INT PRIMARY KEY, s VARCHAR(200)) CAPACITY 64;"
+    )?;
+    let mut rows = format!(in a; "\"id\",\"s\"\n")?;
+    let mut answers = format!(in a; "= created\n")?;
+    for id in 10..74 {
+        typed.push_str(format!(in a; "INSERT INTO t VALUES ({id}, '{text}');")?.as_str())?;
+        rows.push_str(format!(in a; "\"{id}\",\"{text}\"\n")?.as_str())?;
+        answers.push_str("= inserted\n")?;
+    }
+    typed.push_str("SELECT * FROM t;")?;
+    for (fail, printed) in [(66, 0), (67, 8192)] {
+        let mut input = MemSource::new(keyed(a, typed.as_str())?, Vec::new(a));
+        let mut out = MemSink::new(a, 20_000, vec![in a; fail]?)?;
+        let mut trace = MemSink::new(a, 64, Vec::new(a))?;
+        let mut store = MemStore::new(a);
+        let report = shell_top(
+            a,
+            &Vec::new(a),
+            &mut input,
+            &mut out,
+            &mut trace,
+            &mut store,
+        );
+        assert_eq!(rt; report.status, 6);
+        assert!(rt; out.bytes().starts_with(answers.as_bytes()));
+        let part = out.bytes().get(answers.len()..).unwrap_or(&[]);
+        assert_eq!(rt; part.len(), printed);
+        assert!(rt; rows.as_bytes().starts_with(part));
+    }
+    Ok(())
 }
