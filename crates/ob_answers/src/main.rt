@@ -57,6 +57,7 @@ fn settings(buffer: u32, pack: u8) -> Option<Config>
         depth: 5,
         pack,
         plan: None,
+        pad: None,
         max_input: 1_073_741_824,
     })
 }

@@ -4,5 +4,6 @@ use Rattle.ob_base.specs.declared.config.Plan.{Plan}
 use Rattle.ob_base.specs.declared.config.Public.{Public}
 
 -- no tables, and nothing asked
-abbrev pub first_public : (buffer depth pack : ℕ) → Option Plan → Public
-first_public buffer depth pack plan = record { tables = []; next_region = 1; buffer = buffer; depth = depth; pack = pack; plan = plan }
+abbrev pub first_public : (buffer depth pack : ℕ) → Option Plan → (pad : Option ℕ) → Public
+first_public buffer depth pack plan pad =
+    record { tables = []; next_region = 1; buffer = buffer; depth = depth; pack = pack; plan = plan; pad = pad }

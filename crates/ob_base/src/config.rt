@@ -21,6 +21,9 @@ pub struct Config {
     pub pack: u8,
     /// The plan of every SELECT of rows, where one is forced.
     pub plan: Option<Plan>,
+    /// The rows to which the result of a SELECT of rows is padded, where it is: 1 to 1,048,576, and then
+    /// neither Continuous nor Hash is forced.
+    pub pad: Option<u32>,
     /// The input has fewer bytes: 1,024 to 1,073,741,824.
     pub max_input: u64,
 }
@@ -34,4 +37,5 @@ pub struct Public {
     pub depth: u8,
     pub pack: u8,
     pub plan: Option<Plan>,
+    pub pad: Option<u32>,
 }

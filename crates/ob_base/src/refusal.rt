@@ -31,6 +31,8 @@ pub enum Refusal {
     Overflow(u32),
     /// E15: the store failed.
     StoreFault,
+    /// E16: more rows are selected than the result is padded to.
+    PadPassed,
 }
 
 /// What ends a session.

@@ -5,7 +5,7 @@ use Rattle.std.proofs.lemmas.List.{length-append, length-take}
 use Rattle.ob_base.specs.declared.access.Access.{Access}
 use Rattle.ob_base.specs.declared.config.Public.{Public}
 use Rattle.ob_base.specs.declared.refusal.Refusal.{Refusal}
-use Rattle.ob_base.specs.declared.refusal.Refusal.TheVariants.{Syntax, NoTable, NameTaken, NoColumn, WrongType, ValueRange, Limit, KeyRule, JoinKey, Duplicate, Full, TooManyGroups, NotConsecutive, Overflow, StoreFault}
+use Rattle.ob_base.specs.declared.refusal.Refusal.TheVariants.{Syntax, NoTable, NameTaken, NoColumn, WrongType, ValueRange, Limit, KeyRule, JoinKey, Duplicate, Full, TooManyGroups, NotConsecutive, Overflow, StoreFault, PadPassed}
 use Rattle.ob_base.specs.declared.refusal.Stop.{Stop}
 use Rattle.ob_base.specs.declared.seen.End.{End}
 use Rattle.ob_base.specs.declared.seen.End.TheVariants.{Static, Whole, AfterCount, Cut}
@@ -38,6 +38,7 @@ refused_cut Full k n is = absurd (cc is)
 refused_cut TooManyGroups k n is = absurd (cc is)
 refused_cut NotConsecutive k n is = absurd (cc is)
 refused_cut (Overflow i) k n is = absurd (cc is)
+refused_cut PadPassed k n is = absurd (cc is)
 
 -- it is cut off after the accesses that it asked
 ends_cut : (result : Result Outcome Stop) (k n : ℕ) → Cut k ≡ result_end result n → k ≡ n

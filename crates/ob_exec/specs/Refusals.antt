@@ -1,7 +1,7 @@
 -- Refusals, and when they come.
 use Rattle.std.specs.Prelude.{◌≡◌, ℕ, Bool, true, false}
 use Rattle.ob_base.specs.declared.refusal.Refusal.{Refusal}
-use Rattle.ob_base.specs.declared.refusal.Refusal.TheVariants.{Duplicate, Full, TooManyGroups, NotConsecutive, Overflow, StoreFault}
+use Rattle.ob_base.specs.declared.refusal.Refusal.TheVariants.{Duplicate, Full, TooManyGroups, NotConsecutive, Overflow, StoreFault, PadPassed}
 use Rattle.ob_base.specs.declared.seen.End.{End}
 use Rattle.ob_base.specs.declared.seen.End.TheVariants.{Static, Whole, AfterCount, Cut}
 use Rattle.ob_base.specs.Refusals.{is_store_fault}
@@ -19,6 +19,7 @@ refused_end Duplicate n = Whole
 refused_end Full n = Whole
 refused_end TooManyGroups n = Whole
 refused_end (Overflow i) n = Whole
+refused_end PadPassed n = Whole
 refused_end _ n = Static
 
 -- the first where the store failed, else the second

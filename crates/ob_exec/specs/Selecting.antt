@@ -5,7 +5,7 @@ use Rattle.ob_base.specs.declared.config.Plan.{Plan}
 use Rattle.ob_base.specs.declared.config.Plan.TheVariants.{Small, Continuous, Hash}
 use Rattle.ob_base.specs.declared.config.Public.{Public}
 use Rattle.ob_base.specs.declared.refusal.Refusal.{Refusal}
-use Rattle.ob_base.specs.declared.refusal.Refusal.TheVariants.{NotConsecutive, Overflow}
+use Rattle.ob_base.specs.declared.refusal.Refusal.TheVariants.{NotConsecutive, Overflow, PadPassed}
 use Rattle.ob_base.specs.declared.seen.Seen.{Seen}
 use Rattle.ob_base.specs.declared.seen.End.TheVariants.{Whole, AfterCount}
 use Rattle.ob_base.specs.declared.shown.Shown.{Shown}
@@ -15,7 +15,6 @@ use Rattle.ob_base.specs.Plans.{choose}
 use Rattle.ob_base.specs.Stored.{Stored}
 use Rattle.ob_room.specs.RoomState.{RoomState}
 use Rattle.ob_row.specs.Condition.{Condition}
-use Rattle.ob_row.specs.Results.{result_slots}
 use Rattle.ob_row.specs.Totals.{printed}
 use Rattle.ob_row.specs.Slots.{Slots, rows, selected}
 use Rattle.ob_row.specs.Truth.{is_true}
@@ -32,8 +31,8 @@ use Rattle.ob_flat.specs.Passes.{SinkCause, is_of_access}
 use Rattle.ob_flat.specs.Words.{Ran}
 use Rattle.ob_emit.specs.Emitting.{AreColumns, header}
 use Rattle.ob_mean.specs.Replay.{done_of, held_if}
-use Rattle.ob_mean.specs.Verdict.{bucket_size, rows_refusal, seen_rows, plan_for}
-use Rattle.ob_verdict.specs.Laws.{last_plan}
+use Rattle.ob_mean.specs.Verdict.{ended as seen_to, rows_refusal, seen_rows}
+use Rattle.ob_verdict.specs.Laws.{selected_result}
 use Rattle.ob_exec.specs.declared.selecting.Query.{Query}
 use Rattle.ob_exec.specs.declared.selecting.Selected.{Selected}
 use Rattle.ob_exec.specs.declared.selecting.Selected.TheVariants.{Rows, Refused}
@@ -95,12 +94,9 @@ answer_of q slots = selected_as (rows_refusal q.public (places q slots)) (length
 abbrev pub seen_of : Selection → Slots → Seen
 seen_of q slots = seen_rows q.public (length slots) (places q slots)
 
--- the slots of its last result
+-- the slots of its last result, but for those to which it is padded
 abbrev pub result_of : Selection → Slots → Slots
-result_of q slots =
-    let chosen = places q slots in
-    result_slots (last_plan q.public (plan_for q.public (length slots) chosen) chosen)
-    (length chosen) (bucket_size q.public) (is_true q.condition) slots
+result_of q slots = selected_result q.public (is_true q.condition) slots
 
 -- its rows as they are printed, in order of their slots; none where none is selected
 abbrev pub shown_where : (places : List ℕ) → List (List Shown) → List (List Shown)
@@ -142,11 +138,16 @@ pub record IsPlanOf (q : Selection) (k : ℕ) (plan : Plan) : Type 0 where
   pub consecutive : Bool
   pub chosen : plan ≡ choose q.public.plan (buffered q.public.pack q.public.buffer) q.flat.capacity k consecutive
 
+-- k is a count of its slots, where results aren't padded
+pub record IsCountOf (q : Selection) (k : ℕ) : Type 0 where
+  pub unpadded : q.public.pad ≡ None
+  pub most : k ≤ q.flat.capacity
+
 abbrev pub MayHold : Selection → (k : Option ℕ) → (plan second : Option Plan) → Type 0
 MayHold q None None None = ⊤
-MayHold q (Some k) None None = (k ≤ q.flat.capacity) × ((k ≡ 0) ⊎ (q.public.plan ≡ Some Continuous))
-MayHold q (Some k) (Some plan) None = (k ≤ q.flat.capacity) × IsPlanOf q k plan
-MayHold q (Some k) (Some Hash) (Some Small) = (k ≤ q.flat.capacity) × IsPlanOf q k Hash × (q.public.plan ≡ None)
+MayHold q (Some k) None None = IsCountOf q k × ((k ≡ 0) ⊎ (q.public.plan ≡ Some Continuous))
+MayHold q (Some k) (Some plan) None = IsCountOf q k × IsPlanOf q k plan
+MayHold q (Some k) (Some Hash) (Some Small) = IsCountOf q k × IsPlanOf q k Hash × (q.public.plan ≡ None)
 MayHold q _ _ _ = ⊥
 
 -- it came to its end, and without a plan where none was counted
@@ -172,8 +173,14 @@ pub record EndsOverflowed (q : Selection) (seen : Seen) : Type 0 where
   pub second : seen.then ≡ None
   pub end : seen.end ≡ Whole
 
+-- nothing is seen but that it came to its end, where results are padded
+pub record EndsPadded (q : Selection) (seen : Seen) : Type 0 where
+  pub padded : IsSome q.public.pad
+  pub nothing : seen ≡ seen_to Whole
+
 abbrev pub EndsAs : Selection → Selected → Seen → Type 0
-EndsAs q (Rows k) seen = EndsCounted seen
+EndsAs q (Rows k) seen = EndsCounted seen ⊎ EndsPadded q seen
+EndsAs q (Refused PadPassed) seen = EndsPadded q seen
 EndsAs q (Refused NotConsecutive) seen = EndsUnplanned q seen
 EndsAs q (Refused (Overflow i)) seen = EndsOverflowed q seen
 EndsAs q (Refused _) seen = ⊥
@@ -207,6 +214,10 @@ pub record MaySelect (q : Selection) (room : RoomState) (w : World) : Type 0 whe
 abbrev pub from : ℕ → ℕ → Type 0
 from g region = g ≤ region
 
+-- it has counted, as k tells, or what its script tells where results are padded
+abbrev pub HasCounted : Selection → Seen → Type 0
+HasCounted q seen = IsSome seen.k ⊎ IsSome q.public.pad
+
 -- want of memory comes before or at a make, or once it has counted, nothing is left to be written, and the emitter gave
 -- up, which is this
 pub record LacksMemoryIn (q : Selection) (seen : Seen) (old new : World) (Halts : Type 0) : Type 0 where
@@ -215,7 +226,7 @@ pub record LacksMemoryIn (q : Selection) (seen : Seen) (old new : World) (Halts 
   pub split : done ++ rest ≡ selection_script q seen old.vault.next
   pub asked : new.store.asked ≡ old.store.asked ++ done
   pub some : done ≡ [] → ⊥
-  pub place : AtMake done rest ⊎ (IsSome seen.k × IsTrue (list_all is_reading rest) × Halts)
+  pub place : AtMake done rest ⊎ (HasCounted q seen × IsTrue (list_all is_reading rest) × Halts)
 
 -- rows were emitted, or nothing of what was refused
 abbrev pub EmitsSelected : {E : Type 0} → (grew : E → E → List Event → Type 0) → Selection → Selected → (old new : World) → (out_old out_new : E) → Type 0

@@ -40,6 +40,7 @@ pub(crate) fn seen_to_end(end: End) -> Seen
     Seen {
         k: None,
         plan: None,
+        pad: None,
         then: None,
         end,
     }
@@ -51,7 +52,7 @@ impl<R: Revisions> Engine<R> {
         requires { IsConfig config }
         ensures agrees { IfOk result (λ e. (s : StoreState) → s.asked ≡ [] → Agrees R.state e s) }
         ensures public { IfOk result (λ e.
-            public_of e ≡ first_public config.buffer config.depth config.pack config.plan) }
+            public_of e ≡ first_public config.buffer config.depth config.pack config.plan config.pad) }
         ensures keyed { IfOk result (λ e. engine_keys e ≡ keys) }
         ensures alive { IfOk result (λ e. has_ended e ≡ false) }
         ensures none_open { IfOk result (λ e. high_of e ≡ 0) }
@@ -69,6 +70,7 @@ impl<R: Revisions> Engine<R> {
                 depth: config.depth,
                 pack: config.pack,
                 plan: config.plan,
+                pad: config.pad,
             },
             seen: seen_to_end(End::Whole),
             ended: false,

@@ -91,6 +91,7 @@ fn keeps_equal_rows(rt: HostRuntime) -> Result<(), Fail> {
         depth: 5,
         pack: 1,
         plan: None,
+        pad: None,
         max_input: 1_024,
     };
     let stmts = given(rt.alloc())?;

@@ -57,6 +57,7 @@ fn refuses_early(rt: HostRuntime) -> Result<(), Fail> {
         depth: 5,
         pack: 1,
         plan: None,
+        pad: None,
     };
     let dropped = Stmt::Drop {
         table: Name::from_bytes(b"u"),

@@ -39,9 +39,10 @@ abbrev pub statement_slots : Public → Stmt → ℕ
 statement_slots p (RowsStmt s) = counted_slots p s.source
 statement_slots p _ = 0
 
--- k is the count of a SELECT of rows, and at most the number of slots
+-- k is the count of a SELECT of rows whose result isn't padded, and at most the number of slots
 pub record IsCount (p : Public) (stmt : Stmt) (k : ℕ) : Type 0 where
   pub counted : IsTrue (is_counted stmt)
+  pub unpadded : p.pad ≡ None
   pub most : k ≤ statement_slots p stmt
 
 -- the planner's choice for at least one row
@@ -56,12 +57,12 @@ EndsFrom m Whole = ⊤
 EndsFrom m AfterCount = ⊥
 EndsFrom m (Cut n) = m ≤ n
 
--- without k: it was refused before any access, is no SELECT of rows, or was cut off
-abbrev pub EndsUncounted : Stmt → End → Type 0
-EndsUncounted stmt Static = ⊤
-EndsUncounted stmt Whole = is_counted stmt ≡ false
-EndsUncounted stmt AfterCount = ⊥
-EndsUncounted stmt (Cut n) = ⊤
+-- without k: it was refused before any access, is no SELECT of rows or one whose result is padded, or was cut off
+abbrev pub EndsUncounted : Public → Stmt → End → Type 0
+EndsUncounted p stmt Static = ⊤
+EndsUncounted p stmt Whole = (is_counted stmt ≡ false) ⊎ IsSome p.pad
+EndsUncounted p stmt AfterCount = ⊥
+EndsUncounted p stmt (Cut n) = ⊤
 
 -- with k and without a plan, behind a count of m accesses: none is selected, or Continuous is forced and refused
 abbrev pub EndsUnplanned : Public → (k m : ℕ) → End → Type 0
@@ -73,7 +74,7 @@ EndsUnplanned p k m (Cut n) = (m ≤ n) × ((k ≡ 0) ⊎ (p.plan ≡ Some Conti
 -- what may be held together of k, the plan and the one after it: nothing, k alone, also where it is refused for it,
 -- k and a plan once the count has ended, or behind a Hash that isn't forced, once it has ended, Small
 abbrev pub Holds : Public → Stmt → Seen → (k : Option ℕ) → (plan second : Option Plan) → Type 0
-Holds p stmt seen None None None = EndsUncounted stmt seen.end
+Holds p stmt seen None None None = EndsUncounted p stmt seen.end
 Holds p stmt seen (Some k) None None = IsCount p stmt k × EndsUnplanned p k (count_end p (skeleton stmt)) seen.end
 Holds p stmt seen (Some k) (Some plan) None = IsCount p stmt k × IsPlan p stmt k plan × EndsFrom (count_end p (skeleton stmt)) seen.end
 Holds p stmt seen (Some k) (Some Hash) (Some Small) =

@@ -34,7 +34,7 @@ seen_now s stmt = seen s.public s.asked s.tables stmt
 -- ---- a statement that was cut off
 -- the accesses until the rows are counted
 abbrev pub count_end : Public → Skeleton → ℕ
-count_end p s = length (whole_script p s (ended Whole))
+count_end p s = length (whole_script (record p { pad = None }) s (ended Whole))
 
 -- a SELECT over a join ends with an access of its own
 abbrev pub ending_len : Skeleton → ℕ

@@ -1,5 +1,5 @@
 -- What the engine answers, and what a watcher sees of it.
-use Rattle.std.specs.Prelude.{ℕ, ◌*◌, ◌^◌, nat_le, Bool, List, [], ◌∷◌, map, length, Option, Some, None, is_some, if◌then◌else◌}
+use Rattle.std.specs.Prelude.{ℕ, ◌*◌, ◌^◌, nat_le, nat_lt, Bool, List, [], ◌∷◌, map, length, Option, Some, None, is_some, if◌then◌else◌}
 use Rattle.std.specs.Option.{option_map_or, option_map, option_or}
 use Rattle.ob_base.specs.declared.config.Public.{Public}
 use Rattle.ob_base.specs.declared.config.Plan.{Plan}
@@ -8,7 +8,7 @@ use Rattle.ob_base.specs.declared.seen.Seen.{Seen}
 use Rattle.ob_base.specs.declared.seen.End.{End}
 use Rattle.ob_base.specs.declared.seen.End.TheVariants.{Static, Whole, AfterCount}
 use Rattle.ob_base.specs.declared.refusal.Refusal.{Refusal}
-use Rattle.ob_base.specs.declared.refusal.Refusal.TheVariants.{NotConsecutive, Overflow}
+use Rattle.ob_base.specs.declared.refusal.Refusal.TheVariants.{NotConsecutive, Overflow, PadPassed}
 use Rattle.ob_base.specs.declared.skeleton.Source.{Source}
 use Rattle.ob_base.specs.declared.skeleton.Source.TheVariants.{Table as OneTable, Join}
 use Rattle.ob_base.specs.Limits.{buffered}
@@ -64,9 +64,20 @@ forced_refusal p (Some Continuous) places = if is_consecutive places then None e
 forced_refusal p (Some Hash) places = option_map Overflow (first_unplaced p places)
 
 -- none for no rows
+abbrev pub unpadded_refusal : Public → List ℕ → Option Refusal
+unpadded_refusal p [] = None
+unpadded_refusal p (i ∷ is) = forced_refusal p p.plan (i ∷ is)
+
+-- where results are padded, more places than that are refused
+abbrev pub padded_refusal : (pad : ℕ) → List ℕ → Option Refusal
+padded_refusal pad places = if nat_lt pad (length places) then Some PadPassed else None
+
+abbrev pub refusal_by : (pad : Option ℕ) → Public → List ℕ → Option Refusal
+refusal_by None p places = unpadded_refusal p places
+refusal_by (Some pad) p places = padded_refusal pad places
+
 abbrev pub rows_refusal : Public → List ℕ → Option Refusal
-rows_refusal p [] = None
-rows_refusal p (i ∷ is) = forced_refusal p p.plan (i ∷ is)
+rows_refusal p places = refusal_by p.pad p places
 
 abbrev pub last_refusal : Public → Tables → Stmt → Option Refusal
 last_refusal p ts (RowsStmt q) = rows_refusal p (selected_places p q ts)
@@ -104,9 +115,17 @@ seen_with p Continuous places =
     if is_consecutive places then counted (length places) (Some Continuous) None Whole else counted (length places) None None AfterCount
 seen_with p Hash places = counted (length places) (Some Hash) (fallback p.plan (first_unplaced p places)) Whole
 
+abbrev pub seen_unpadded : Public → (n : ℕ) → List ℕ → Seen
+seen_unpadded p n [] = counted 0 None None Whole
+seen_unpadded p n (i ∷ is) = seen_with p (plan_for p n (i ∷ is)) (i ∷ is)
+
+-- where results are padded, neither how many are selected nor a plan
+abbrev pub seen_by : (pad : Option ℕ) → Public → (n : ℕ) → List ℕ → Seen
+seen_by None p n places = seen_unpadded p n places
+seen_by (Some pad) p n places = ended Whole
+
 abbrev pub seen_rows : Public → (n : ℕ) → List ℕ → Seen
-seen_rows p n [] = counted 0 None None Whole
-seen_rows p n (i ∷ is) = seen_with p (plan_for p n (i ∷ is)) (i ∷ is)
+seen_rows p n places = seen_by p.pad p n places
 
 abbrev pub seen_started : Public → Tables → Stmt → Seen
 seen_started p ts (RowsStmt q) = seen_rows p (length (source_slots p q.source ts)) (selected_places p q ts)

@@ -3,7 +3,7 @@
 
 ghost use Rattle.std.specs.Prelude.{◌≡◌, ◌*◌, ◌≤◌};
 ghost use Rattle.ob_base.specs.Limits.{buffered};
-ghost use Rattle.ob_base.specs.Plans.{choose};
+ghost use Rattle.ob_base.specs.Plans.{choose, choose_padded};
 
 use ob_base::{Plan, Public};
 
@@ -26,9 +26,7 @@ fn by_sizes(n: u32, k: u32, consecutive: bool, public: &Public) -> Plan
     requires buffer { 2 * public.now.pack ≤ public.now.buffer }
     ensures { result ≡ choose None (buffered public.now.pack public.now.buffer) n k consecutive }
 {
-    let pack = u32::from(public.pack);
-    let buffered = u64::from((public.buffer - 2 * pack) / pack) * u64::from(pack);
-    if u64::from(k) <= 4 * buffered {
+    if u64::from(k) <= 4 * buffered_rows(public) {
         Plan::Small
     } else if consecutive {
         Plan::Continuous
@@ -39,9 +37,35 @@ fn by_sizes(n: u32, k: u32, consecutive: bool, public: &Public) -> Plan
     }
 }
 
+/// The plan for the `q` rows of a padded result: the one that is forced, or else by the rows that may be
+/// buffered.
+pub fn padded_plan(q: u32, public: &Public) -> Plan
+    requires pack { 1 ≤ public.now.pack }
+    requires buffer { 2 * public.now.pack ≤ public.now.buffer }
+    ensures { result
+        ≡ choose_padded public.now.plan (buffered public.now.pack public.now.buffer) q }
+{
+    match public.plan {
+        Some(forced) => forced,
+        None if u64::from(q) <= 4 * buffered_rows(public) => Plan::Small,
+        None => Plan::Large,
+    }
+}
+
+// The rows that may be buffered.
+fn buffered_rows(public: &Public) -> u64
+    requires pack { 1 ≤ public.now.pack }
+    requires buffer { 2 * public.now.pack ≤ public.now.buffer }
+    ensures value { result ≡ buffered public.now.pack public.now.buffer }
+    ensures few { result ≤ 1099511627776 }
+{
+    let pack = u32::from(public.pack);
+    u64::from((public.buffer - 2 * pack) / pack) * u64::from(pack)
+}
+
 #[cfg(test)]
 mod tests {
-    use super::plan;
+    use super::{padded_plan, plan};
     use ob_base::{Items, Plan, Public};
 
     #[test]
@@ -53,6 +77,7 @@ mod tests {
             depth: 5,
             pack: 1,
             plan: None,
+            pad: None,
         };
         assert_eq!(rt; plan(10, 8, false, &public), Plan::Small);
         assert_eq!(rt; plan(10, 9, true, &public), Plan::Continuous);
@@ -60,5 +85,9 @@ mod tests {
         assert_eq!(rt; plan(100, 9, false, &public), Plan::Hash);
         public.plan = Some(Plan::Large);
         assert_eq!(rt; plan(10, 8, false, &public), Plan::Large);
+        assert_eq!(rt; padded_plan(8, &public), Plan::Large);
+        public.plan = None;
+        assert_eq!(rt; padded_plan(8, &public), Plan::Small);
+        assert_eq!(rt; padded_plan(9, &public), Plan::Large);
     }
 }

@@ -143,6 +143,7 @@ pub fn refusal_line(refusal: Refusal) -> Line
         Refusal::NotConsecutive => Line::new(b"E13 not consecutive\n"),
         Refusal::Overflow(slot) => numbered(b"E14 overflow ", slot),
         Refusal::StoreFault => Line::new(b"E15 store fault\n"),
+        Refusal::PadPassed => Line::new(b"E16 pad passed\n"),
     }
 }
 

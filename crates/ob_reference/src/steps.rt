@@ -60,6 +60,7 @@ fn public_of(alloc: Global, config: &Config, tables: &[Held]) -> Result<Public, 
             depth: config.depth,
             pack: config.pack,
             plan: config.plan,
+            pad: config.pad,
         }),
     }
 }

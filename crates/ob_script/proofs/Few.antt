@@ -23,11 +23,12 @@ use Rattle.std.proofs.Math.Nat.{mul-le-mul, mul-le-mul_right, mul-le-mul_left, l
 use Rattle.ob_base.specs.declared.config.Public.{Public}
 use Rattle.ob_base.specs.declared.config.Plan.{Plan}
 use Rattle.ob_base.specs.declared.config.Plan.TheVariants.{Small, Large, Continuous, Hash}
-use Rattle.ob_base.specs.Limits.{buffered_blocks}
+use Rattle.ob_base.specs.Limits.{buffered, buffered_blocks}
+use Rattle.ob_base.specs.Plans.{choose_padded, padded_rows}
 use Rattle.ob_base.specs.Numbers.{blocks_for}
 use Rattle.ob_script.specs.declared.extent.Extent.{Extent}
 use Rattle.ob_script.specs.Parts.{count_part, insert_part, rewrite_part, emission_part, join_part}
-use Rattle.ob_script.specs.Script.{extent_of, with_table, mutation_script, joined_extent, table_script, join_script, source_script, whole_script, until_end, script, select_part, after_count, plan_part, result_part, result_blocks, blocks_of, rows_width}
+use Rattle.ob_script.specs.Script.{extent_of, with_table, mutation_script, joined_extent, table_script, join_script, source_script, whole_script, until_end, script, select_part, after_count, behind_count, padded_part, plan_part, result_part, result_blocks, blocks_of, rows_width}
 use Rattle.ob_script.specs.Sizes.{IsPublic, IsCounted, IsTable, IfTable, IsSourceCounted, IsWithin}
 use Rattle.ob_script.proofs.Lengths.{length-count_part}
 use Rattle.ob_script.proofs.Numbers.{ceil-ceil, length-create_part, length-insert_part, length-rewrite_part, length-join_part, length-small_part, length-large_part, length-continuous_part, length-hash_part, length-emission_part}
@@ -98,7 +99,7 @@ result_few p (Some plan) k g t h few slots = go plan where
 -- the count, both results, and what ends the statement
 select_few : (p : Public) (seen : Seen) (g : ℕ) (t : Extent) (ending : List Access) → IsPublic p → IsCounted seen t → length ending ≤ 1 →
     length (select_part p seen g t ending) ≤ 2 ^ 48 + 2 ^ 33
-select_few p seen g t ending h c one = go seen.k c.count where
+select_few p seen g t ending h c one = either p.pad where
   blocks : blocks_of p t ≤ 2 ^ 24
   blocks = blocks_few p.pack t.slots h.pack_some c.slots
 
@@ -116,6 +117,19 @@ select_few p seen g t ending h c one = go seen.k c.count where
       let d = length-append (result_part p seen.plan k g t) (result_part p seen.then k (g + 1) t ++ ending) in
       let e = length-append (result_part p seen.then k (g + 1) t) ending in
       omega (arith, a, d, e)
+
+  either : (pad : Option ℕ) → length (count_part t.region (blocks_of p t) ++ behind_count pad p seen g t ending) ≤ 2 ^ 48 + 2 ^ 33
+  either None = go seen.k c.count
+  either (Some pad) =
+      let m = blocks in
+      let q = padded_rows pad t.slots in
+      let least : q ≤ t.slots = omega arith in
+      let few : q ≤ 2 ^ 24 = let slots = c.slots in omega arith in
+      let x = result_few p (Some (choose_padded p.plan (buffered p.pack p.buffer) q)) q g t h few c.slots in
+      let a = length-append (count_part t.region (blocks_of p t)) (padded_part p pad g t ++ ending) in
+      let b = length-count_part t.region (blocks_of p t) in
+      let d = length-append (padded_part p pad g t) ending in
+      omega (arith, a, b, d, x)
 
 -- a table that there is is within its limits
 record IsStored (t : Stored ℕ) : Type 0 where

@@ -15,8 +15,9 @@ use Rattle.ob_base.specs.declared.skeleton.Skeleton.{Skeleton}
 use Rattle.ob_base.specs.declared.skeleton.Skeleton.TheVariants.{Create, Insert, Update, Delete, Drop as DropTable, Rows, Groups}
 use Rattle.ob_base.specs.Accesses.{discard_at}
 use Rattle.ob_base.specs.Joins.{joined_slots}
-use Rattle.ob_base.specs.Limits.{buffered_blocks}
+use Rattle.ob_base.specs.Limits.{buffered, buffered_blocks}
 use Rattle.ob_base.specs.Numbers.{blocks_for}
+use Rattle.ob_base.specs.Plans.{choose_padded, padded_rows}
 use Rattle.ob_base.specs.Schemas.{width, columns_of}
 use Rattle.ob_base.specs.Stored.{Stored, stored_at, stored_regions}
 use Rattle.ob_script.specs.declared.extent.Extent.{Extent}
@@ -61,9 +62,19 @@ abbrev pub after_count : Public → Seen → Option ℕ → (g : ℕ) → Extent
 after_count p seen None g t ending = []
 after_count p seen (Some k) g t ending = result_part p seen.plan k g t ++ (result_part p seen.then k (g + 1) t ++ ending)
 
+-- a padded result, whatever is selected
+abbrev pub padded_part : Public → (pad g : ℕ) → Extent → List Access
+padded_part p pad g t =
+    let q = padded_rows pad t.slots in result_part p (Some (choose_padded p.plan (buffered p.pack p.buffer) q)) q g t
+
+-- what follows the count: where results are padded, one that is and what ends the statement
+abbrev pub behind_count : Option ℕ → Public → Seen → (g : ℕ) → Extent → (ending : List Access) → List Access
+behind_count None p seen g t ending = after_count p seen seen.k g t ending
+behind_count (Some pad) p seen g t ending = padded_part p pad g t ++ ending
+
 -- the count and what follows it
 abbrev pub select_part : Public → Seen → (g : ℕ) → Extent → (ending : List Access) → List Access
-select_part p seen g t ending = count_part t.region (blocks_of p t) ++ after_count p seen seen.k g t ending
+select_part p seen g t ending = count_part t.region (blocks_of p t) ++ behind_count p.pad p seen g t ending
 
 -- a SELECT of a table's rows
 abbrev pub table_script : Public → Seen → Stored ℕ → List Access

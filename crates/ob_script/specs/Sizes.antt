@@ -1,6 +1,8 @@
 -- The limits within which a script is counted out.
 use Rattle.std.specs.Prelude.{◌≤◌, ◌^◌, ℕ, ◌+◌, ◌*◌, List, ⊤, IfSome}
 use Rattle.std.specs.List.{All}
+use Rattle.ob_base.specs.declared.config.Plan.{Plan}
+use Rattle.ob_base.specs.declared.config.Plan.TheVariants.{Small, Large, Continuous, Hash}
 use Rattle.ob_base.specs.declared.config.Public.{Public}
 use Rattle.ob_base.specs.declared.schema.Table.{Table}
 use Rattle.ob_base.specs.declared.seen.Seen.{Seen}
@@ -8,6 +10,7 @@ use Rattle.ob_base.specs.declared.skeleton.Source.{Source}
 use Rattle.ob_base.specs.declared.skeleton.Source.TheVariants.{Table as OneTable, Join}
 use Rattle.ob_base.specs.declared.skeleton.Skeleton.{Skeleton}
 use Rattle.ob_base.specs.declared.skeleton.Skeleton.TheVariants.{Create, Insert, Update, Delete, Drop as DropTable, Rows, Groups}
+use Rattle.ob_base.specs.Plans.{IsPadded}
 use Rattle.ob_base.specs.Schemas.{width, columns_of}
 use Rattle.ob_base.specs.Stored.{Stored, stored_at, stored_regions}
 use Rattle.ob_script.specs.declared.extent.Extent.{Extent}
@@ -26,6 +29,7 @@ pub record IsPublic (p : Public) : Type 0 where
   pub depth_some : 1 ≤ p.depth
   pub depth_few : p.depth ≤ 8
   pub next : p.next_region ≤ 2 ^ 63 + 2 ^ 60
+  pub padded : IsPadded p.pad p.plan
   pub tables : All IsTable p.tables
 
 -- no more rows are selected than there are slots, and at least one where a plan is taken
@@ -43,6 +47,13 @@ IfTable name p P = IfSome (stored_at name (stored_regions p.tables)) P
 abbrev pub IsSourceCounted : Public → Seen → Source → Type 0
 IsSourceCounted p seen (OneTable name) = IfTable name p (λ t. IsCounted seen (extent_of t))
 IsSourceCounted p seen (Join a b on equals) = IfTable a p (λ left. IfTable b p (λ right. IsCounted seen (joined_extent p left.heading right.heading)))
+
+-- where a plan goes row by row, there is one at least
+abbrev pub HasRows : Plan → ℕ → Type 0
+HasRows Small k = ⊤
+HasRows Large k = ⊤
+HasRows Continuous k = 1 ≤ k
+HasRows Hash k = 1 ≤ k
 
 abbrev pub IsWithin : Public → Skeleton → Seen → Type 0
 IsWithin p (Create table cs n) seen = (n ≤ 2 ^ 20) × (width (columns_of table cs) ≤ 1024)

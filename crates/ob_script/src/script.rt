@@ -3,18 +3,20 @@ ghost use Rattle.std.specs.Prelude.{◌≡◌, ◌≢◌, ◌≤◌, ◌<◌, �
 ghost use Rattle.std.specs.Option.{option_map_or};
 ghost use Rattle.ob_base.specs.Accesses.{discard_at};
 ghost use Rattle.ob_base.specs.Numbers.{blocks_for};
+ghost use Rattle.ob_base.specs.Plans.{MayPad};
 ghost use Rattle.ob_base.specs.Joins.{chunks, joined_blocks, joined_slots};
 ghost use Rattle.ob_base.specs.Limits.{buffered_blocks};
 ghost use Rattle.ob_base.specs.Stored.{stored_region};
 ghost use Rattle.ob_script.specs.Parts.{count_part, create_part, insert_part, rewrite_part, small_part, large_part, emission_part, join_part};
 ghost use Rattle.ob_script.specs.Sections.{all_accesses, Adds, IsFew};
-ghost use Rattle.ob_script.specs.Script.{script, whole_script, with_table, mutation_script, blocks_of, extent_of, source_script, join_script, joined_extent, select_part, after_count, result_part, plan_part, result_blocks, rows_width};
-ghost use Rattle.ob_script.specs.Sizes.{IsPublic, IsCounted, IsWithin, IsSourceCounted, IsTable};
+ghost use Rattle.ob_script.specs.Script.{script, whole_script, with_table, mutation_script, blocks_of, extent_of, source_script, join_script, joined_extent, select_part, behind_count, padded_part, result_part, plan_part, result_blocks, rows_width};
+ghost use Rattle.ob_script.specs.Sizes.{HasRows, IsPublic, IsCounted, IsWithin, IsSourceCounted, IsTable};
 
 use crate::extent::{Extent, extent_of, new_width, table_at};
 use crate::section::Section;
 use crate::sections::Sections;
 use ob_base::{Access, End, Name, Plan, Public, Seen, Skeleton, Source, Table};
+use ob_plan::padded_plan;
 
 // A new region that is filled in order.
 #[tactic(auto, using(crate::proofs::Joined::all_more))]
@@ -159,7 +161,7 @@ fn push_large(sections: &mut Sections, from: u64, to: u64, blocks: u32, width: u
 fn push_plan(sections: &mut Sections, public: &Public, plan: Plan, k: u32, to: u64, from: Extent)
     requires room { length sections.old ≤ 13 }
     requires public { IsPublic public.now }
-    requires some { 1 ≤ k }
+    requires some { HasRows plan k }
     requires rows { IsFew k }
     requires slots { IsFew from.slots }
     requires width { from.width ≤ 1024 }
@@ -232,7 +234,7 @@ fn push_result(
 )
     requires room { length sections.old ≤ 11 }
     requires public { IsPublic public.now }
-    requires some { OnSome plan (1 ≤ k) }
+    requires some { IfSome plan (λ taken. HasRows taken k) }
     requires rows { IsFew k }
     requires slots { IsFew from.slots }
     requires width { from.width ≤ 1024 }
@@ -245,6 +247,38 @@ fn push_result(
             push_plan(sections, public, plan, k, to, from);
             push_emission(sections, to, result_blocks(public, plan, k, from));
         }
+    }
+}
+
+// A padded result of `from`.
+fn push_padded(sections: &mut Sections, public: &Public, pad: u32, to: u64, from: Extent)
+    requires room { length sections.old ≤ 11 }
+    requires public { IsPublic public.now }
+    requires plan { MayPad public.now.plan }
+    requires slots { IsFew from.slots }
+    requires width { from.width ≤ 1024 }
+    ensures adds { Adds sections.old sections.new (padded_part public.now pad to from) }
+    ensures few { length sections.new ≤ length sections.old + 5 }
+{
+    let rows = pad.min(from.slots);
+    push_result(
+        sections,
+        public,
+        Some(padded_plan(rows, public)),
+        rows,
+        to,
+        from,
+    );
+}
+
+// The discarding of a region, where there is one.
+#[tactic(auto, using(crate::proofs::Joined::all_more))]
+fn push_ending(sections: &mut Sections, ending: Option<u64>)
+    requires room { length sections.old ≤ 15 }
+    ensures adds { Adds sections.old sections.new (option_map_or discard_at ending []) }
+{
+    if let Some(region) = ending {
+        sections.push(Section::Discard { region });
     }
 }
 
@@ -269,12 +303,13 @@ fn push_select(
         region: from.region,
         blocks: blocks_of(public, from.slots),
     });
-    if let Some(k) = seen.k {
+    if let Some(pad) = public.pad {
+        push_padded(sections, public, pad, to, from);
+        push_ending(sections, ending);
+    } else if let Some(k) = seen.k {
         push_result(sections, public, seen.plan, k as u32, to, from);
         push_result(sections, public, seen.then, k as u32, to + 1, from);
-        if let Some(region) = ending {
-            sections.push(Section::Discard { region });
-        }
+        push_ending(sections, ending);
     }
 }
 

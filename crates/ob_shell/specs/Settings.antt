@@ -141,7 +141,7 @@ pub record AreWithin (config : Config) : Type 0 where
 
 -- what is public before the first statement
 abbrev pub public_by : Config → Public
-public_by config = first_public config.buffer config.depth config.pack config.plan
+public_by config = first_public config.buffer config.depth config.pack config.plan config.pad
 
 -- as many bytes of the input are read, at most: none without settings
 abbrev pub limit_of : Option Config → ℕ

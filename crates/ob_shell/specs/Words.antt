@@ -120,7 +120,7 @@ pub record IsUndeceived (keys : KeySet) (store0 store1 : StoreState) : Type 0 wh
 -- ---- the settings and the secret
 -- what is public before the first statement, and how many rows may be open; without settings none is served
 abbrev pub public_with : Option Config → Public
-public_with None = first_public 0 0 0 None
+public_with None = first_public 0 0 0 None None
 public_with (Some config) = public_by config
 
 abbrev pub rows_in : Option Config → ℕ

@@ -215,6 +215,7 @@ fn settings(matches: &ArgMatches) -> Option<Config>
         depth: depth as u8,
         pack: pack as u8,
         plan,
+        pad: None,
         max_input: max_input as u64,
     })
 }

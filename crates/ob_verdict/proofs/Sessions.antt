@@ -83,14 +83,14 @@ abbrev pub update_v : ℕ → Option Search → Spelt
 update_v x c = Ok (Update t (record { column = v; value = int x } ∷ []) c)
 
 abbrev pub by_four : Public
-by_four = first_public 4 5 1 None
+by_four = first_public 4 5 1 None None
 
 abbrev pub forced : Plan → (depth : ℕ) → Public
-forced plan depth = first_public 4 depth 1 (Some plan)
+forced plan depth = first_public 4 depth 1 (Some plan) None
 
 -- two rows in each block
 abbrev pub in_pairs : Option Plan → (depth : ℕ) → Public
-in_pairs plan depth = first_public 7 depth 2 plan
+in_pairs plan depth = first_public 7 depth 2 plan None
 
 abbrev pub trace_of : Public → List Spelt → Broken → List Access
 trace_of p texts broken = trace p (all_served (first_session p) texts broken)

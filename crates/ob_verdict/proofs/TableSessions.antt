@@ -223,11 +223,11 @@ too_many_groups_total : asked_by by_four (four_rows ++ (update_v 30 (Some (compa
 unfolding makes
 too_many_groups_total = refl
 
-groups_in_larger_buffer : last_answers (first_public 5 5 1 None) four_rows (update_v 30 (Some (compare id Equal 4)) ∷ by_v ∷ []) ≡ Changed 1 ∷ Rows (ints (10 ∷ 2 ∷ 4 ∷ []) ∷ ints (20 ∷ 1 ∷ 2 ∷ []) ∷ ints (30 ∷ 1 ∷ 4 ∷ []) ∷ []) ∷ []
+groups_in_larger_buffer : last_answers (first_public 5 5 1 None None) four_rows (update_v 30 (Some (compare id Equal 4)) ∷ by_v ∷ []) ≡ Changed 1 ∷ Rows (ints (10 ∷ 2 ∷ 4 ∷ []) ∷ ints (20 ∷ 1 ∷ 2 ∷ []) ∷ ints (30 ∷ 1 ∷ 4 ∷ []) ∷ []) ∷ []
 unfolding makes
 groups_in_larger_buffer = refl
 
-groups_in_larger_buffer_total : asked_by (first_public 5 5 1 None) (four_rows ++ (update_v 30 (Some (compare id Equal 4)) ∷ by_v ∷ [])) ≡ 75
+groups_in_larger_buffer_total : asked_by (first_public 5 5 1 None None) (four_rows ++ (update_v 30 (Some (compare id Equal 4)) ∷ by_v ∷ [])) ≡ 75
 unfolding makes
 groups_in_larger_buffer_total = refl
 

@@ -1,17 +1,18 @@
 -- What is proved of these definitions.
-use Rattle.std.specs.Prelude.{◌≡◌, ◌↔◌, ℕ, ◌<◌, ◌≤◌, ◌^◌, Bool, false, List, [], ◌∷◌, map, length, Some, None, is_some, ⊤, if◌then◌else◌}
+use Rattle.std.specs.Prelude.{◌≡◌, ◌↔◌, ℕ, ◌<◌, ◌≤◌, ◌^◌, Bool, false, List, [], ◌∷◌, map, length, Option, Some, None, IsSome, is_some, ⊤, if◌then◌else◌}
 use Rattle.ob_base.specs.declared.config.Public.{Public}
 use Rattle.ob_base.specs.declared.config.Plan.{Plan}
 use Rattle.ob_base.specs.declared.config.Plan.TheVariants.{Small, Hash}
 use Rattle.ob_base.specs.declared.seen.End.TheVariants.{Whole, AfterCount}
 use Rattle.ob_base.specs.declared.refusal.Refusal.TheVariants.{NotConsecutive}
 use Rattle.ob_base.specs.declared.shown.Shown.{Shown}
-use Rattle.ob_base.specs.Limits.{buffered_blocks}
+use Rattle.ob_base.specs.Limits.{buffered, buffered_blocks}
+use Rattle.ob_base.specs.Plans.{choose_padded, padded_rows}
 use Rattle.ob_base.specs.Schemas.{key_place}
 use Rattle.ob_base.specs.Stored.{Stored, NamesTable, headings, headings_of}
 use Rattle.ob_row.specs.Bags.{Same}
 use Rattle.ob_row.specs.Rows.{keys_repeat}
-use Rattle.ob_row.specs.Slots.{Slots, rows}
+use Rattle.ob_row.specs.Slots.{Slots, rows, selected}
 use Rattle.ob_row.specs.Totals.{printed}
 use Rattle.ob_row.specs.Truth.{is_true}
 use Rattle.ob_sql.specs.declared.stmt.SelectRows.{SelectRows}
@@ -20,7 +21,7 @@ use Rattle.ob_sql.specs.declared.stmt.Stmt.TheVariants.{SelectRows as RowsStmt}
 use Rattle.ob_sql.specs.Skeleton.{skeleton}
 use Rattle.ob_mean.specs.Refusals.{early_refusal}
 use Rattle.ob_mean.specs.Step.{Database, step_next, select_columns, select_condition, rows_answer, selected_rows, printed_places}
-use Rattle.ob_row.specs.Results.{result_slots}
+use Rattle.ob_row.specs.Results.{RowTest, result_slots}
 use Rattle.ob_mean.specs.Verdict.{Tables, database, source_slots, selected_places, plan_for, bucket_size, first_unplaced, fallback, refusal, seen, ended, is_late}
 use Rattle.ob_mean.specs.Settle.{settle}
 use Rattle.ob_mean.specs.Lawful.{Lawful, is_counted}
@@ -69,6 +70,10 @@ abbrev pub ForcedShowsAlike : Type 0
 ForcedShowsAlike = (p : Public) (m : ℕ) (ts us : Tables) (a b : Stmt) (forced plan : Plan) → p.plan ≡ Some forced →
     (seen p m ts a).plan ≡ Some plan → (seen p m us b).plan ≡ Some plan → (seen p m ts a).k ≡ (seen p m us b).k → seen p m ts a ≡ seen p m us b
 
+-- where results are padded, a SELECT of rows shows its kind alone, whatever rows there are and however many are selected
+abbrev pub PaddedShowsKind : Type 0
+PaddedShowsKind = (p : Public) (m : ℕ) (ts : Tables) (stmt : Stmt) → IsStarted p m ts stmt → IsSome p.pad → seen p m ts stmt ≡ ended Whole
+
 -- of the refusals by rows, one alone shows
 abbrev pub ShowsNotConsecutive : Type 0
 ShowsNotConsecutive = (p : Public) (m : ℕ) (ts : Tables) (stmt : Stmt) → IsStarted p m ts stmt → ((seen p m ts stmt).end ≡ AfterCount) ↔ (refusal p m ts stmt ≡ Some NotConsecutive)
@@ -87,12 +92,18 @@ abbrev pub last_plan : Public → Plan → List ℕ → Plan
 last_plan p Hash places = if is_some (fallback p.plan (first_unplaced p places)) then Small else Hash
 last_plan p plan places = plan
 
--- the result of a SELECT of rows of which at least one is selected
+-- the plan by which the rows of n slots are printed, at least one of which is selected, or the result is padded
+abbrev pub result_plan : Option ℕ → Public → (n : ℕ) → List ℕ → Plan
+result_plan None p n places = last_plan p (plan_for p n places) places
+result_plan (Some pad) p n places = choose_padded p.plan (buffered p.pack p.buffer) (padded_rows pad n)
+
+-- the result of selecting from these slots, but for the empty slots to which it is padded
+abbrev pub selected_result : Public → RowTest → Slots → Slots
+selected_result p test slots =
+    let places = selected test slots in result_slots (result_plan p.pad p (length slots) places) (length places) (bucket_size p) test slots
+
 abbrev pub result_of : Public → Tables → SelectRows → Slots
-result_of p ts q =
-    let places = selected_places p q ts in
-    let slots = source_slots p q.source ts in
-    result_slots (last_plan p (plan_for p (length slots) places) places) (length places) (bucket_size p) (is_true (select_condition q (headings ts))) slots
+result_of p ts q = selected_result p (is_true (select_condition q (headings ts))) (source_slots p q.source ts)
 
 -- its rows as they are printed, in order of their places
 abbrev pub printed_rows : Public → Tables → SelectRows → List (List Shown)

@@ -11,7 +11,7 @@ ghost use Rattle.ob_mean.specs.Verdict.{Tables};
 ghost use Rattle.ob_base.specs.declared.schema.Table.{Table};
 ghost use Rattle.ob_verdict.specs.Accepted.{PlacesFit, TotalsPlacesFit, JoinsFit, SetsFit, ConditionsFit, BucketsFit};
 ghost use Rattle.ob_verdict.specs.Moving.{Moves, CreatesNew, DropsOne};
-ghost use Rattle.ob_verdict.specs.Laws.{SettlesAsStep, KeepsInPlace, ShowsKindAlone, PlanIsWhole, ForcedShowsAlike, ShowsNotConsecutive, SeenIsLawful, CutIsLawful, PrintsAnswer};
+ghost use Rattle.ob_verdict.specs.Laws.{SettlesAsStep, KeepsInPlace, ShowsKindAlone, PaddedShowsKind, PlanIsWhole, ForcedShowsAlike, ShowsNotConsecutive, SeenIsLawful, CutIsLawful, PrintsAnswer};
 
 /// Being the same bag is an equivalence, and is kept where lists are joined, mapped and filtered.
 pub fn bags_are_kept<A, B>()
@@ -38,6 +38,7 @@ pub fn keeps_in_place()
 /// What is seen of a statement tells no more than its kind, the number of its rows and its plan.
 pub fn seen_laws()
     ensures kind_alone { ShowsKindAlone }
+    ensures padded { PaddedShowsKind }
     ensures plan_is_whole { PlanIsWhole }
     ensures forced_alike { ForcedShowsAlike }
     ensures one_refusal_shows { ShowsNotConsecutive }
