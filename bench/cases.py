@@ -154,6 +154,10 @@ STATEMENTS = [
     ("Hash", "--plan hash --depth 1", FILLED, 61, "SELECT * FROM t WHERE id = 2 OR id = 3;", [*reads(5, 4), *hashed(5, 4, 6, 2), *emitted(6, 2)], ['"id","v"'], ['"3","10"', '"2","20"'], "= 2 rows", "t", 4, 4),
     ("Hash and Small", "--depth 1", LINED, 547, "SELECT * FROM c WHERE id <= 8 OR id = 10;", [*reads(14, 13), *hashed(14, 13, 15, 9, 41), *emitted(15, 9), *small(14, 13, 16, 9, 41), *emitted(16, 9)], ['"id"'], ids, "= 9 rows", "c", 13, 13),
     ("a join", "", PAIRED, 87, "SELECT * FROM t JOIN u ON t.id = u.k;", [*joined, *reads(9, 6), *small(9, 6, 10, 2, 65), *emitted(10, 2), "D 9"], ['"t.id","t.v","u.k","u.w"'], ['"1","10","1","7"', '"1","10","1","8"'], "= 2 rows", "t", 4, 4),
+    ("Small, padded", "--pad 3", FILLED, 61, "SELECT * FROM t WHERE v = 10;", [*reads(5, 4), *small(5, 4, 6, 3), *emitted(6, 3)], ['"id","v"'], ['"1","10"', '"3","10"', ""], "= 2 rows", "t", 4, 4),
+    ("Large, padded", "--pad 3 --plan large", FILLED, 61, "SELECT * FROM t WHERE v = 99;", [*reads(5, 4), "M 6 4 49", *copies(5, 6, 4), *copies(6, 6, 4), *emitted(6, 4)], ['"id","v"'], [""] * 4, "= 0 rows", "t", 4, 4),
+    ("more rows than a padded result has", "--pad 3", FILLED, 61, "SELECT * FROM t;", [*reads(5, 4), *small(5, 4, 6, 3), *emitted(6, 3)], [], [], "E16 pad passed", "t", 4, 4),
+    ("a join, padded", "--pad 3", PAIRED, 87, "SELECT * FROM t JOIN u ON t.id = u.k;", [*joined, *reads(9, 6), *small(9, 6, 10, 3, 65), *emitted(10, 3), "D 9"], ['"t.id","t.v","u.k","u.w"'], ['"1","10","1","7"', '"1","10","1","8"', ""], "= 2 rows", "t", 4, 4),
 ]
 
 
@@ -176,7 +180,7 @@ for name, words, typed, before, text, asked, head, rows, last, table, carried, k
     whole, count = [*typed, text, f"SELECT COUNT(*) FROM {table};"], f"SELECT COUNT(*) FROM {table};"
     shown = [row for row in rows if row]
     # the reads of the result, behind which nothing but a discard follows
-    ending = 1 if name == "a join" else 0
+    ending = 1 if name.startswith("a join") else 0
     result = len(asked) - ending - 1 - len(rows)
     slots = 13 if table == "c" else 4
     for number, access in enumerate(asked):
@@ -184,7 +188,7 @@ for name, words, typed, before, text, asked, head, rows, last, table, carried, k
         if access.startswith("D"):
             said = [*setup_answers(typed), *head, *shown, last, *counted(table, carried)]
             rest = [] if carried is None else [str(slots)]
-            status = int(carried is None)
+            status = int(carried is None or last.startswith("E"))
             statements.append(statement_case(f"{name}: access {number + 1} fails, a discard", words, f"{at}:fail", whole, said, before, [*asked, *rest], status))
             continue
         printed = []
