@@ -9,7 +9,8 @@
 # A table of 65,536 rows can't be had cheaply: each INSERT is a pass, so that so many take hours. But a table that was
 # created has all of its slots, and each pass over it asks the same whatever they hold. Here 100 rows are inserted, which
 # SELECT and the join need; what a pass over a table that is full takes beside one over a table of 100 rows is measured of
-# the passes alone (ob_pass_bench), and stands in the table.
+# the passes alone (ob_pass_bench), and stands in the table. A padded SELECT asks the same whatever is selected, so it runs in
+# sessions of its own (`--pad 128`), over a table without a row.
 #
 # SQLCipher has the table with the same columns, a raw key, and neither journal nor syncs, as our files have none. It
 # finds rows by their key, so INSERT, SELECT of 100 rows and the join take no pass there. Each statement comes in a
@@ -31,16 +32,15 @@ from shapes import blocks, count, insert, join, rewrite, small
 
 top, work, rounds = sys.argv[1], sys.argv[2], int(sys.argv[3])
 MEMORY, FILES, PASSES = (f"{top}/crates/{name}/out/{name}" for name in ("oblitrace", "oblidb", "ob_pass_bench"))
-SLOTS, WIDTH, JOINED, OPEN, SELECTED, LEFT, LEFTS = 65536, 17, 33, 64, 100, 32, 4
+SLOTS, WIDTH, JOINED, OPEN, SELECTED, PAD, LEFT, LEFTS = 65536, 17, 33, 64, 100, 128, 32, 4
 PACKS = (1, 8, 16)
 
 # The seals and unseals of a statement, and the bytes of the rows that are sealed.
 def plain(shape):
     return lambda pack: [(*shape(SLOTS, pack, OPEN, SELECTED), WIDTH)]
 
-def selected(pack):
-    results = blocks(pack, SELECTED)
-    return [(*count(SLOTS, pack, OPEN, 0), WIDTH), (*small(SLOTS, pack, OPEN, SELECTED), WIDTH), (0, results, WIDTH)]
+def selected(rows):
+    return lambda pack: [(*count(SLOTS, pack, OPEN, 0), WIDTH), (*small(SLOTS, pack, OPEN, rows), WIDTH), (0, blocks(pack, rows), WIDTH)]
 
 def joined(pack):
     sealed, opened = join(SLOTS, pack, OPEN, LEFT)
@@ -48,17 +48,18 @@ def joined(pack):
     return [(0, opened, WIDTH), (sealed, 0, JOINED), (*count(slots, pack, OPEN, 0), JOINED), (*small(slots, pack, OPEN, LEFTS), JOINED), (0, blocks(pack, LEFTS), JOINED)]
 
 class Statement:
-    """A statement, SQLCipher's, its bare seals and unseals by the pack, its passes over the table, and its goal beside
-    SQLCipher."""
+    """A statement, SQLCipher's, its bare seals and unseals by the pack, its passes over the table, its goal beside
+    SQLCipher, and how many rows its result is padded to, if it is."""
 
-    def __init__(self, name, text, theirs, bare, letters, goal=None):
-        self.name, self.text, self.theirs, self.bare, self.letters, self.goal = name, text, theirs, bare, letters, goal
+    def __init__(self, name, text, theirs, bare, letters, goal=None, pad=None):
+        self.name, self.text, self.theirs, self.bare, self.letters, self.goal, self.pad = name, text, theirs, bare, letters, goal, pad
 
 STATEMENTS = [
     Statement("INSERT", "INSERT INTO t VALUES ({n}, 3);", "INSERT INTO t VALUES ({n}, 3);", plain(insert), "i"),
     Statement("UPDATE of every row", "UPDATE t SET v = 7;", "UPDATE t SET v = 7;", plain(rewrite), "u", 1),
     Statement("COUNT with a condition", "SELECT COUNT(*) FROM t WHERE v < 8;", "SELECT COUNT(*) FROM t WHERE v < 8;", plain(count), "o", 3),
-    Statement("SELECT of 100 rows", "SELECT * FROM t WHERE id < 100;", "SELECT * FROM t WHERE id < 100;", selected, "cS"),
+    Statement("SELECT of 100 rows", "SELECT * FROM t WHERE id < 100;", "SELECT * FROM t WHERE id < 100;", selected(SELECTED), "cS"),
+    Statement("SELECT padded to 128 rows", "SELECT * FROM t WHERE id < 100;", "SELECT * FROM t WHERE id < 100;", selected(PAD), "cS", pad=PAD),
     Statement("GROUP BY", "SELECT v, COUNT(*), SUM(id) FROM t GROUP BY v;", "SELECT v, COUNT(*), SUM(id) FROM t GROUP BY v;", plain(count), "g"),
     Statement("a join with 32 slots", "SELECT * FROM l JOIN t ON l.id = t.id;", "SELECT * FROM l JOIN t ON l.id = t.id;", joined, "j"),
 ]
@@ -96,7 +97,8 @@ class Cipher(Driven):
 # ---- a round: each statement in each of its forms, one behind the other
 def of_passes(passes, it, pack, full):
     slots = {"i": SLOTS - 1}
-    lines = [(letter, WIDTH, pack, SLOTS, OPEN, LEFT if letter == "j" else SELECTED, min(full, slots.get(letter, SLOTS))) for letter in it.letters]
+    rows = LEFT if "j" in it.letters else it.pad or SELECTED
+    lines = [(letter, WIDTH, pack, SLOTS, OPEN, rows, min(full, slots.get(letter, SLOTS))) for letter in it.letters]
     return sum(passes.run(*line)[0] for line in lines)
 
 found, peaks = {}, {}
@@ -106,17 +108,19 @@ def keep(key, spent):
 passes = Passes(PASSES)
 cipher = Cipher() if shutil.which("sqlcipher") else None
 for pack in PACKS:
-    sessions = {
-        "memory": Session(MEMORY, "--pack", str(pack)),
-        "files": Session(FILES, "--pack", str(pack), "--store", f"{work}/s{pack}"),
-    }
-    for session in sessions.values():
-        for text in SETUP:
+    sessions = {}
+    for pad in (None, PAD):
+        words = ["--pack", str(pack), *(["--pad", str(pad)] if pad else [])]
+        sessions["memory", pad] = Session(MEMORY, *words)
+        sessions["files", pad] = Session(FILES, *words, "--store", f"{work}/s{pack}-{pad}")
+    for (_, pad), session in sessions.items():
+        for text in SETUP[:1] if pad else SETUP:
             session.serve(text)
     # (the first round warms up)
     for n in range(rounds + 1):
         for it in STATEMENTS:
-            for name, session in sessions.items():
+            for name in ("memory", "files"):
+                session = sessions[name, it.pad]
                 session.forget_peak()
                 spent = session.serve(it.text.format(n=1000 + n))[1]
                 peaks[it.name, pack, name] = max(session.peak(), peaks.get((it.name, pack, name), 0))

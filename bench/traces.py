@@ -1,7 +1,8 @@
 #!/usr/bin/env python3
 """Draws docs/traces.svg: which blocks two sessions ask for, over time, and which pages SQLite asks for in the same two.
-The sessions have the same statements and other keys and values. Needs strace, and the program of crates/oblitrace
-(bench/build.sh oblitrace builds it). Takes ten seconds.
+The sessions have the same statements and other keys and values. Then the same of two that look for rows by their values and
+find other numbers of them, with results that are padded (`--pad`). Needs strace, and the program of crates/oblitrace
+(bench/build.sh oblitrace builds it). Takes twenty seconds.
 
 usage: bench/traces.py [PATH-OF-oblitrace]
 """
@@ -14,24 +15,37 @@ import tempfile
 
 TOP = pathlib.Path(__file__).resolve().parent.parent
 PROGRAM = sys.argv[1] if len(sys.argv) > 1 else TOP / "crates/oblitrace/out/oblitrace"
-SLOTS, ROWS, LOOKS = 48, 40, 16
+SLOTS, ROWS, LOOKS, PAD = 48, 40, 16, 12
 WIDTH, HEIGHT, GAP, TITLE = 430, 150, 40, 26
+
+
+def filled(chance):
+    """The table, its rows, their keys and their costs."""
+    keys, costs = chance.sample(range(1, 100000), ROWS), chance.sample(range(1000), ROWS)
+    texts = ["CREATE TABLE visits (id INT PRIMARY KEY, cost INT, note VARCHAR(80)) CAPACITY %d;" % SLOTS]
+    texts += ["INSERT INTO visits VALUES (%d, %d, '%s');" % (key, cost, "x" * chance.randrange(20, 80)) for key, cost in zip(keys, costs)]
+    return texts, keys, sorted(costs)
+
+
+def found(seed):
+    """A session: rows go in, and the dearest ones are looked for, none of them up to as many as results are padded to."""
+    chance = random.Random(seed)
+    texts, _, costs = filled(chance)
+    return texts + ["SELECT * FROM visits WHERE cost > %d;" % costs[-1 - chance.randrange(PAD + 1)] for _ in range(LOOKS)]
 
 
 def statements(seed):
     """A session: rows go in, some are changed, and others are looked for, each by its key."""
     chance = random.Random(seed)
-    keys = chance.sample(range(1, 100000), ROWS)
-    texts = ["CREATE TABLE visits (id INT PRIMARY KEY, cost INT, note VARCHAR(80)) CAPACITY %d;" % SLOTS]
-    texts += ["INSERT INTO visits VALUES (%d, %d, '%s');" % (key, chance.randrange(1000), "x" * chance.randrange(20, 80)) for key in keys]
+    texts, keys, _ = filled(chance)
     texts += ["UPDATE visits SET cost = %d WHERE id = %d;" % (chance.randrange(1000), chance.choice(keys)) for _ in range(LOOKS)]
     texts += ["SELECT COUNT(*), SUM(cost) FROM visits WHERE id = %d;" % chance.choice(keys) for _ in range(LOOKS)]
     return texts
 
 
-def ours(texts):
+def ours(texts, *words):
     """The reads and writes of our program: the kind and the place of each."""
-    ran = subprocess.run([PROGRAM, "--trace"], input="0" * 64 + "\n" + "\n".join(texts), capture_output=True, text=True, check=True)
+    ran = subprocess.run([PROGRAM, "--trace", *words], input="0" * 64 + "\n" + "\n".join(texts), capture_output=True, text=True, check=True)
     asked = [line.split() for line in ran.stderr.splitlines()]
     return [(kind, int(rest[1])) for kind, *rest in asked if kind in "RW"]
 
@@ -64,21 +78,24 @@ def picture(asked, left, top, title):
 
 
 def main():
-    sessions = [statements(1), statements(2)]
-    mine, other = [ours(texts) for texts in sessions], [theirs(texts) for texts in sessions]
-    if mine[0] != mine[1]:
-        sys.exit("the two sessions asked for other blocks")
+    sessions = [statements(1), statements(2), found(3), found(4)]
+    words = [(), (), ("--pad", str(PAD)), ("--pad", str(PAD))]
+    mine, other = [ours(texts, *more) for texts, more in zip(sessions, words)], [theirs(texts) for texts in sessions]
+    if mine[0] != mine[1] or mine[2] != mine[3]:
+        sys.exit("two sessions asked for other blocks")
     drawn = []
-    for i, name in enumerate(("one session", "another, with other keys and values")):
+    names = ("one session", "another, with other keys and values", "padded", "padded, with other rows and numbers of them")
+    for i, name in enumerate(names):
         top = TITLE + i * (HEIGHT + GAP)
         drawn += picture(mine[i], 10, top, "Ribquince, %s: %d blocks read and written" % (name, len(mine[i])))
         drawn += picture(other[i], 30 + WIDTH, top, "SQLite, %s: %d pages" % (name, len(other[i])))
     style = ".t{font:12px sans-serif}.f{fill:none;stroke:#999}.r{stroke:#1f77b4;stroke-width:2}.w{stroke:#d62728;stroke-width:2}"
-    size = (40 + 2 * WIDTH, TITLE + 2 * HEIGHT + GAP + 12)
+    size = (40 + 2 * WIDTH, TITLE + len(sessions) * (HEIGHT + GAP) - GAP + 12)
     with open(TOP / "docs/traces.svg", "w") as file:
         file.write('<svg xmlns="http://www.w3.org/2000/svg" width="%d" height="%d" viewBox="0 0 %d %d">\n<style>%s</style>\n<rect width="100%%" height="100%%" fill="#fff"/>\n' % (*size, *size, style))
         file.write("\n".join(drawn) + "\n</svg>\n")
-    print("docs/traces.svg: ours are one picture, and SQLite's are %s" % ("one, too" if other[0] == other[1] else "two"))
+    alike = [other[n] == other[n + 1] for n in (0, 2)]
+    print("docs/traces.svg: of both pairs ours are one picture, and SQLite's are two" + ("" if not any(alike) else ", but not of each"))
 
 
 main()
