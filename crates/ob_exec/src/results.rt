@@ -225,6 +225,7 @@ pub(crate) fn select_padded<S: BlockStore, R: Revisions, E: Emit>(
     requires may { IsPlanned (padded_to (selection_of public.now query.now) pad k) room.old
         (at R.state vault.old (S.state store.old)) }
     requires plan { MayPad public.now.plan }
+    requires count { k ≤ query.now.flat.now.capacity }
     requires ending { query.now.ending ≤ 1 }
     ensures room { KeepsRoom room.old room.new }
     ensures selects { SelectsBy E.grew E.cut E.faults
