@@ -25,6 +25,7 @@ pub mod ResultReads
 pub mod ResultMade
 pub mod ResultRows
 pub mod ResultSteps
+pub mod ResultPadded
 pub mod PlaceLemmas
 pub mod RowsLawful
 pub mod RowsRun

@@ -61,18 +61,18 @@ pub next_after : {some : ℕ → Type 0} (a b : World) (x : List Access) → Rea
 next_after a b x ready went =
     omega (arith, ready.tied.next, went.lasts.ready.tied.next, ap (λ (s : Start). s.region) went.lasts.start, makes-append a.store.asked x, ap makes went.did.asked)
 
-makes-plan : (r : Planned) (g : ℕ) (plan : Plan) → makes (plan_part r.selection.public plan r.k g (extent_of (region_of r.selection))) ≡ 1
+makes-plan : (r : Planned) (g : ℕ) (plan : Plan) → makes (plan_part r.selection.public plan r.taken g (extent_of (region_of r.selection))) ≡ 1
 makes-plan r g Small =
     let q = r.selection in
-    makes-small_part q.flat.region g (blocks_of q.public.pack q.flat) (blocks_for q.public.pack r.k) (buffered_blocks q.public.pack q.public.buffer) (q.public.pack * width q.flat.schema)
+    makes-small_part q.flat.region g (blocks_of q.public.pack q.flat) (blocks_for q.public.pack r.taken) (buffered_blocks q.public.pack q.public.buffer) (q.public.pack * width q.flat.schema)
 makes-plan r g Large = let q = r.selection in makes-large_part q.flat.region g (blocks_of q.public.pack q.flat) (q.public.pack * width q.flat.schema)
-makes-plan r g Continuous = let q = r.selection in makes-continuous_part q.flat.region g q.public.pack q.flat.capacity r.k (q.public.pack * width q.flat.schema)
-makes-plan r g Hash = let q = r.selection in makes-hash_part q.flat.region g q.public.pack q.flat.capacity r.k q.public.depth (q.public.pack * width q.flat.schema)
+makes-plan r g Continuous = let q = r.selection in makes-continuous_part q.flat.region g q.public.pack q.flat.capacity r.taken (q.public.pack * width q.flat.schema)
+makes-plan r g Hash = let q = r.selection in makes-hash_part q.flat.region g q.public.pack q.flat.capacity r.taken q.public.depth (q.public.pack * width q.flat.schema)
 
 pub makes-whole : (r : Planned) (g : ℕ) → makes (whole_part r g) ≡ 1
 makes-whole r g =
-    let n = result_blocks r.selection.public r.plan r.k (extent_of (region_of r.selection)) in
-    omega (arith, makes-append (plan_part r.selection.public r.plan r.k g (extent_of (region_of r.selection))) (emission_part g n), makes-plan r g r.plan, makes-emission_part g n)
+    let n = result_blocks r.selection.public r.plan r.taken (extent_of (region_of r.selection)) in
+    omega (arith, makes-append (plan_part r.selection.public r.plan r.taken g (extent_of (region_of r.selection))) (emission_part g n), makes-plan r g r.plan, makes-emission_part g n)
 
 pub next_counted : (q : Selection) (a b : World) → Ready a → Went (count_part q.flat.region (blocks_of q.public.pack q.flat)) none a b → b.vault.next ≡ a.vault.next
 next_counted q a b ready went = omega (arith, next_after a b _ ready went, makes-count_part q.flat.region (blocks_of q.public.pack q.flat))
