@@ -86,10 +86,10 @@ class Session(Driven):
 
 
 class Passes(Driven):
-    """A run of `ob_pass_bench`."""
+    """A run of `ob_pass_bench` or of `ob_oram_bench`."""
 
     def run(self, *line):
-        """The milliseconds of one pass alone, or of bare seals and unseals, and what the program says of it."""
+        """The milliseconds of one pass alone, of accesses of an index, or of bare seals and unseals, and what the program says of it."""
         typed = " ".join(map(str, line)) + "\n"
         if line[0] != "b":
             self.type(typed)
