@@ -65,7 +65,7 @@ count_some q room w may =
 pub counts_at : (q : Selection) (pack : ℕ) (result : Result Counted OpErr) (old mid : World) → pack ≡ q.public.pack → CountsRows pack q.flat (is_true q.condition) result old mid → CountsRows q.public.pack q.flat (is_true q.condition) result old mid
 counts_at q pack result old mid same is = subst (λ (p : ℕ). CountsRows p q.flat (is_true q.condition) result old mid) same is
 
-on_err_of : {T F P : Type 0} (x : Result T F) → P → OnErr x P
+pub on_err_of : {T F P : Type 0} (x : Result T F) → P → OnErr x P
 on_err_of (Ok v) h = tt
 on_err_of (Err e) h = h
 

@@ -1,5 +1,5 @@
 -- What is held of a selection that was cut off.
-use Rattle.std.proofs.Common.{◌≡◌, ◌⊎◌, inl, inr, ◌≤◌, ◌<◌, ◌+◌, ℕ, Bool, true, false, IsTrue, List, [], ◌∷◌, ◌++◌, Option, None, Some, length, refl, sym, ap, subst, arith, length-append}
+use Rattle.std.proofs.Common.{◌≡◌, ◌⊎◌, inl, inr, ◌≤◌, ◌<◌, ◌+◌, ◌-◌, ℕ, Bool, true, false, IsTrue, List, [], ◌∷◌, ◌++◌, Option, None, Some, length, refl, sym, ◌∙◌, ap, subst, arith, length-append}
 use Rattle.std.specs.Prelude.{nat_le, if◌then◌else◌}
 use Rattle.std.proofs.lemmas.Bool.Decides.{nat_tests}
 use Rattle.ob_base.specs.declared.config.Plan.{Plan}
@@ -8,6 +8,7 @@ use Rattle.ob_base.specs.declared.config.Public.{Public}
 use Rattle.ob_base.specs.declared.seen.Seen.{Seen}
 use Rattle.ob_base.specs.declared.seen.End.TheVariants.{Whole, AfterCount}
 use Rattle.ob_row.specs.Slots.{Slots, is_consecutive}
+use Rattle.ob_script.specs.Script.{after_count, extent_of}
 use Rattle.ob_script.proofs.Lengths.{length-count_part}
 use Rattle.ob_flat.specs.declared.fault.OpErr.{OpErr}
 use Rattle.ob_flat.specs.declared.fault.OpErr.TheVariants.{Failed, Tampered, Sink, NoMemory}
@@ -15,7 +16,7 @@ use Rattle.ob_mean.specs.Verdict.{counted, ended as seen_to, seen_by, seen_rows,
 use Rattle.ob_mean.specs.Replay.{done_of, held_if}
 use Rattle.ob_flat.specs.Passes.{is_of_access}
 use Rattle.ob_exec.specs.Engines.{AreSettings}
-use Rattle.ob_exec.specs.Selecting.{Selection, HoldsSeen, counted_after, walked_after, seen_of, places}
+use Rattle.ob_exec.specs.Selecting.{Selection, HoldsSeen, region_of, counted_after, walked_after, seen_of, places}
 use Rattle.ob_exec.specs.Results.{planned, whole_part}
 use Rattle.ob_exec.proofs.ResultParts.{length_hash}
 use Rattle.ob_base.specs.declared.access.Access.{Access}
@@ -70,7 +71,10 @@ walked_hash q k settings unpadded =
     omega (arith, ap (λ (xs : List Access). length xs) (script_is q (counted k (Some Hash) None Whole) 0 unpadded), length-append (counts_of q) (whole_part (planned q Hash k) 0 ++ []), length-count_part q.flat.region (counted_after q), length-append (whole_part (planned q Hash k) 0) [], length_hash q k 0 settings)
 
 walked_same : (q : Selection) (seen : Seen) (n : ℕ) → IsHashed q.public.pad seen n → walked_after q seen ≡ walked_after q (counted n (Some Hash) (Some Small) Whole)
-walked_same q seen n is = λ i. walked_after q (record { k = is.k i; plan = is.plan i; then = None; end = seen.end })
+walked_same q seen n is =
+    ap (λ (xs : List Access). length xs - 1) (script_is q (record seen { then = None }) 0 is.unpadded)
+    ∙ (λ i. length (counts_of q ++ after_count q.public (record { k = is.k i; plan = is.plan i; then = None; end = seen.end }) (is.k i) 0 (extent_of (region_of q)) []) - 1)
+    ∙ sym (ap (λ (xs : List Access). length xs - 1) (script_is q (counted n (Some Hash) None Whole) 0 is.unpadded))
 
 walked_long : (q : Selection) (seen : Seen) (n : ℕ) → AreSettings q.public → IsHashed q.public.pad seen n → counted_after q + 1 ≤ walked_after q seen
 walked_long q seen n settings is = omega (arith, walked_same q seen n is, walked_hash q n settings is.unpadded, length_hash q n 0 settings)

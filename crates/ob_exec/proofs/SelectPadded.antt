@@ -133,7 +133,7 @@ module _ (q : Selection) (pad : ℕ) (is_pad : q.public.pad ≡ Some pad) where
       end_count : (s : SelectsToEnd q old new) → k ≡ length (places q s.slots)
       end_count s = (counted_is q k c Small old mid is s.slots s.is (Stores.none_before mid.store new.store lasts.later s.nolie)).0
 
-      end_back : SelectsToEnd q old new → PlannedToEnd r mid new
+      abbrev end_back : SelectsToEnd q old new → PlannedToEnd r mid new
       end_back s = record {
         honest = record { tells = tells_went none (counts_of q) old mid count s.tells; nolie = s.nolie };
         slots = s.slots;
@@ -147,7 +147,7 @@ module _ (q : Selection) (pad : ℕ) (is_pad : q.public.pad ≡ Some pad) where
       halt_count : (s : SelectsToHalt q old new) → k ≡ length (places q s.slots)
       halt_count s = (counted_is q k c Small old mid is s.slots s.is (halt_nolie s)).0
 
-      halt_back : SelectsToHalt q old new → PlannedToHalt r mid new
+      abbrev halt_back : SelectsToHalt q old new → PlannedToHalt r mid new
       halt_back s = record {
         tells = tells_went none (counts_of q) old mid count s.tells;
         slots = s.slots;
