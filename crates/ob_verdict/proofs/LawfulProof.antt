@@ -204,29 +204,28 @@ abbrev seen_of : Option ℕ → (plan second : Option Plan) → End → Seen
 seen_of k plan second end = record { k = k; plan = plan; then = second; end = end }
 
 -- a script is the same however it ended
-same_behind : (pad : Option ℕ) (p : Public) (k : Option ℕ) (plan second : Option Plan) (a b : End) (g : ℕ) (t : _) (ending : List Access)
-    → behind_count pad p (seen_of k plan second a) g t ending ≡ behind_count pad p (seen_of k plan second b) g t ending
-same_behind None p k plan second a b g t ending = refl
-same_behind (Some pad) p k plan second a b g t ending = refl
+same_behind : (pad : Option ℕ) (p : Public) (now : Seen) (end : End) (g : ℕ) (t : _) (ending : List Access)
+    → behind_count pad p now g t ending ≡ behind_count pad p (record now { end = end }) g t ending
+same_behind None p now end g t ending = refl
+same_behind (Some pad) p now end g t ending = refl
 
-same_select : (p : Public) (k : Option ℕ) (plan second : Option Plan) (a b : End) (g : ℕ) (t : _) (ending : List Access)
-    → select_part p (seen_of k plan second a) g t ending ≡ select_part p (seen_of k plan second b) g t ending
-same_select p k plan second a b g t ending = ap (λ (x : List Access). count_part t.region (blocks_of p t) ++ x) (same_behind p.pad p k plan second a b g t ending)
+same_select : (p : Public) (now : Seen) (end : End) (g : ℕ) (t : _) (ending : List Access) → select_part p now g t ending ≡ select_part p (record now { end = end }) g t ending
+same_select p now end g t ending = ap (λ (x : List Access). count_part t.region (blocks_of p t) ++ x) (same_behind p.pad p now end g t ending)
 
-same_script : (p : Public) (s : Skeleton) (k : Option ℕ) (plan second : Option Plan) (a b : End) → whole_script p s (seen_of k plan second a) ≡ whole_script p s (seen_of k plan second b)
-same_script p (CreateSkeleton table cs n) k plan second a b = refl
-same_script p (InsertSkeleton table cs) k plan second a b = refl
-same_script p (UpdateSkeleton table cs) k plan second a b = refl
-same_script p (DeleteSkeleton table) k plan second a b = refl
-same_script p (DropSkeleton table) k plan second a b = refl
-same_script p (Rows (OneTable name) cs) k plan second a b =
-    λ i. with_table name p (λ t. same_select p k plan second a b p.next_region (extent_of t) [] i)
-same_script p (Rows (Join left right on equals) cs) k plan second a b =
+pub same_script : (p : Public) (s : Skeleton) (now : Seen) (end : End) → whole_script p s now ≡ whole_script p s (record now { end = end })
+same_script p (CreateSkeleton table cs n) now end = refl
+same_script p (InsertSkeleton table cs) now end = refl
+same_script p (UpdateSkeleton table cs) now end = refl
+same_script p (DeleteSkeleton table) now end = refl
+same_script p (DropSkeleton table) now end = refl
+same_script p (Rows (OneTable name) cs) now end =
+    λ i. with_table name p (λ t. same_select p now end p.next_region (extent_of t) [] i)
+same_script p (Rows (Join left right on equals) cs) now end =
     λ i. with_table left p (λ l. with_table right p (λ r.
     let t = joined_extent p l.heading r.heading in
     join_part l.held r.held p.next_region (blocks_of p (extent_of l)) (blocks_of p (extent_of r)) (buffered_blocks p.pack p.buffer) (rows_width p t)
-    ++ same_select p k plan second a b (p.next_region + 1) t (discard_at p.next_region) i))
-same_script p (Groups table cs key) k plan second a b = refl
+    ++ same_select p now end (p.next_region + 1) t (discard_at p.next_region) i))
+same_script p (Groups table cs key) now end = refl
 
 -- the result of a plan is read back behind the count, and a block at least is left to discard
 behind : (counted plan back ending : List Access) (last : Access) → length (counted ++ []) + (length ending + 1) ≤ length (counted ++ ((plan ++ (back ++ last ∷ [])) ++ ([] ++ ending)))
@@ -345,7 +344,7 @@ module _ (p : Public) (stmt : Stmt) (n done : ℕ) (within : done ≤ n) (last :
   IsLong k plan second end = n ≤ length (whole_script p (skeleton stmt) (seen_of k plan second end))
 
   long : (k : Option ℕ) (plan second : Option Plan) (end : End) → IsLong k plan second end → IsLong k plan second (Cut n)
-  long k plan second end h = subst (λ (x : List Access). n ≤ length x) (same_script p (skeleton stmt) k plan second end (Cut n)) h
+  long k plan second end h = subst (λ (x : List Access). n ≤ length x) (same_script p (skeleton stmt) (seen_of k plan second end) (Cut n)) h
 
   unplanned : (k m : ℕ) (end : End) → m ≤ n → EndsUnplanned p k m end → EndsUnplanned p k m (Cut n)
   unplanned k m Static le h = absurd h
@@ -366,7 +365,7 @@ module _ (p : Public) (stmt : Stmt) (n done : ℕ) (within : done ≤ n) (last :
       → walk_end p (skeleton stmt) (seen_of k plan (Some second) end) ≤ done → Cutting k plan (Some second)
   kept_two (Some k) (Some Hash) Small end h l le =
       let walk : walk_end p (skeleton stmt) (seen_of (Some k) (Some Hash) (Some Small) (Cut n)) ≤ n =
-      subst (λ (x : List Access). length x - (ending_len (skeleton stmt) + 1) ≤ n) (same_script p (skeleton stmt) (Some k) (Some Hash) None end (Cut n)) (omega arith) in
+      subst (λ (x : List Access). length x - (ending_len (skeleton stmt) + 1) ≤ n) (same_script p (skeleton stmt) (seen_of (Some k) (Some Hash) None end) (Cut n)) (omega arith) in
       ((h.0, h.1, walk, h.3), long (Some k) (Some Hash) (Some Small) end l)
   kept_two (Some k) (Some plan) second end h l le = absurd h
   kept_two (Some k) None second end h l le = absurd h
