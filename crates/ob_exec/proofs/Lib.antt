@@ -42,6 +42,7 @@ pub mod SelectFirst
 pub mod SelectHeld
 pub mod SelectSecond
 pub mod SelectEnds
+pub mod SelectPadded
 pub mod RowsLength
 pub mod RowsNothing
 pub mod RowsTable
