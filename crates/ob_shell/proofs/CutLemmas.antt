@@ -19,7 +19,6 @@ use Rattle.ob_base.specs.Stored.{Stored, stored_at, stored_regions}
 use Rattle.ob_mean.specs.Replay.{cut_at, count_end, done_of, ending_len, held_if, walk_end}
 use Rattle.ob_script.specs.Parts.{count_part, join_part}
 use Rattle.ob_script.specs.Script.{behind_count, blocks_of, extent_of, join_script, joined_extent, padded_part, result_part, rows_width, table_script, whole_script}
-use Rattle.ob_script.specs.declared.extent.Extent.{Extent}
 use Rattle.ob_shell.specs.Words.{Begins}
 
 take_begins : (n : ℕ) (part rest : List Access) → Begins (take n part) (part ++ rest)
@@ -56,7 +55,7 @@ HasParts p sk =
     ⊎ ByCount (λ k plan then end. whole_script p sk (holding k plan then end)) (ending_len sk)
 
 -- a SELECT of rows behind these accesses; where results are padded, it is the same whatever is held
-select_parts : (pad : Option ℕ) (p : Public) (before : List Access) (g : ℕ) (t : Extent) (ending : List Access)
+select_parts : (pad : Option ℕ) (p : Public) (before : List Access) (g : ℕ) (t : _) (ending : List Access)
     → Fixed (λ k plan then end. before ++ (count_part t.region (blocks_of p t) ++ behind_count pad p (holding k plan then end) g t ending))
     ⊎ ByCount (λ k plan then end. before ++ (count_part t.region (blocks_of p t) ++ behind_count pad p (holding k plan then end) g t ending)) (length ending)
 select_parts (Some pad) p before g t ending = inl (record { all = before ++ (count_part t.region (blocks_of p t) ++ (padded_part p pad g t ++ ending)); is = λ k plan then end. refl })

@@ -1,7 +1,6 @@
 -- The settings of a run that the words of its command line spell.
 use Rattle.std.specs.Prelude.{ℕ, ◌≡◌, ◌≤◌, ◌+◌, ◌*◌, ◌&&◌, nat_le, Bool, true, false, List, Option, Some, None, IsSome, option_map, codes, bytes_eq, if◌then◌else◌}
 use Rattle.clap.specs.Words.{App, Text}
-use Rattle.ob_base.specs.Plans.{IsPadded}
 use Rattle.ob_base.specs.Publics.{first_public}
 use Rattle.ob_base.specs.declared.config.Config.{Config}
 use Rattle.ob_base.specs.declared.config.Plan.{Plan}
@@ -154,7 +153,6 @@ MeddleParses words = (config : Config) × (list : List Meddle) × ParsesChanges 
 -- settings within their limits
 pub record AreWithin (config : Config) : Type 0 where
   pub engine : IsConfig config
-  pub padded : IsPadded config.pad config.plan
   pub input : 1024 ≤ config.max_input
 
 -- ---- what settings set
