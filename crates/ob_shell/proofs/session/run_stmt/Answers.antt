@@ -1,7 +1,5 @@
-use Rattle.std.proofs.Common.{◌≡◌, List, false, true, inl, inr, ap}
-use Rattle.ob_base.specs.Events.{Event}
+use Rattle.std.proofs.Common.{◌≡◌, false, true, inl, inr, ap}
 use Rattle.ob_base.specs.declared.seen.Seen.{Seen}
-use Rattle.ob_exec.specs.declared.outcome.Outcome.{Outcome}
 use Rattle.ob_print.proofs.SentLemmas.{Sends-cut, flushed_cut, flushed_whole}
 use Rattle.ob_shell.proofs.ServeLemmas.{answered_by, finished_by, flush_silences, stop_cause, stopped_by}
 use Rattle.ob_print.specs.Rows.{events_text}
