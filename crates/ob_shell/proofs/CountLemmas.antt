@@ -13,3 +13,7 @@ rises_earlier a b c l h = omega arith
 pub silenced_rose : (quiet : Bool) (old new : Faults) → Silenced quiet old new → quiet ≡ true → SinksRose old new
 silenced_rose true old new silenced is = silenced
 silenced_rose false old new silenced is = absurd (cc is)
+
+pub silenced_kept : (quiet : Bool) (old new : Faults) → Silenced quiet old new → quiet ≡ false → new.trace ≡ old.trace
+silenced_kept true old new silenced is = absurd (cc is)
+silenced_kept false old new silenced is = silenced.1

@@ -89,6 +89,7 @@ unkept ending high old new takes shown cause =
       status = refl;
       takes = takes;
       shown = shown_line [] shown tt (Cut-whole None None (SinksRose old new) _ tt);
+      silent = λ rose. Cut-whole None None (Unit {0}) _ tt;
       cause = causes;
       completes = λ t input e k a b. completes old new input shown takes causes t e k a b;
     }
