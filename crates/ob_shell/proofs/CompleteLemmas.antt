@@ -114,6 +114,7 @@ pub reported_quiet : {tally : Tally} {tr : TraceSink} {Takes : Type 0} {settings
     → report.status ≡ status_of ending → EndingWords ending Takes
     → Shown tally tr settings l0 l1 gave w0 w1 s0 s1 report.high ending [] (SinkStopped ending) → EndingCause ending old new → SinksRose old new
     → Reported tally tr Takes settings l0 l1 gave w0 w1 s0 s1 old new report
+unfolding shown_line
 reported_quiet ending old new {w0 = w0} {w1 = w1} status takes shown cause rose =
     let causes : StatusCause ending old new = status_cause ending old new new cause (omega arith) refl refl (λ e. refl) in
     record {
