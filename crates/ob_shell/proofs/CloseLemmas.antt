@@ -1,6 +1,6 @@
 -- What a run promises once its last line was written.
 use Rattle.std.proofs.Common.{◌≡◌, ℕ, Bool, true, false, List, [], ◌∷◌, ◌++◌, Option, Ok, Err, refl, sym, ◌∙◌, subst, arith}
-use Rattle.std.specs.Prelude.{⊤}
+use Rattle.std.specs.Prelude.{⊤, ◌≢◌}
 use Rattle.std.specs.Io.KnownBytes.{Appends}
 use Rattle.ob_print.specs.Cuts.{Cut}
 use Rattle.ob_shell.specs.Closed.{Unwritten, LineWritten, refused_by}
@@ -19,7 +19,7 @@ use Rattle.ob_shell.proofs.CompleteLemmas.{reported_line, reported_quiet}
 use Rattle.ob_shell.proofs.TopLemmas.{shown_unread}
 use Rattle.ob_store.specs.State.{StoreState}
 use Rattle.ob_shell.specs.Settings.{limit_of}
-use Rattle.ob_shell.specs.Words.{Faults, KeepsLimits, SinksRose}
+use Rattle.ob_shell.specs.Words.{Faults, KeepsLimits, SinksRose, printed}
 
 -- of an empty line all was written
 nothing_cut : (grown lost : List ℕ) → [] ≡ grown ++ lost → grown ≡ []
@@ -36,9 +36,9 @@ module _ {tally : Tally} {tr : TraceSink} {Takes : Type 0} {settings : Option Co
       → report.status ≡ status_of ended.ending → report.high ≡ ended.high → EndingWords ended.ending Takes
       → Shown tally tr settings l0 l1 gave w0 w1 s0 s1 ended.high ended.ending [] (SinkStopped ended.ending) → EndingCause ended.ending old mid
       → (ended.quiet ≡ true → Unwritten w1 w2 mid.out new.out) → (ended.quiet ≡ false → LineWritten (last_line ended.ending) w1 w2 mid.out new.out)
-      → (ended.quiet ≡ true → SinksRose old mid) → new.trace ≡ mid.trace → new.source ≡ mid.source
+      → (ended.quiet ≡ true → SinksRose old mid) → (ended.quiet ≡ false → mid.trace ≡ old.trace) → new.trace ≡ mid.trace → new.source ≡ mid.source
       → Reported tally tr Takes settings l0 l1 gave w0 w2 s0 s1 old new report
-  reported_closed ended report old mid new status high takes shown cause quiet line rose trace source = go ended.quiet refl
+  reported_closed ended report old mid new status high takes shown cause quiet line rose loud trace source = go ended.quiet refl
     where
       shown_high : Shown tally tr settings l0 l1 gave w0 w1 s0 s1 report.high ended.ending [] (SinkStopped ended.ending)
       shown_high = subst (λ (n : ℕ). Shown tally tr settings l0 l1 gave w0 w1 s0 s1 n ended.ending [] (SinkStopped ended.ending)) (sym high) shown
@@ -51,7 +51,7 @@ module _ {tally : Tally} {tr : TraceSink} {Takes : Type 0} {settings : Option Co
           (reported_quiet ended.ending old mid status takes shown_high cause (rose is)))
       go false is =
           let l = line is in
-          reported_line ended.ending old mid new (last_line ended.ending) status takes shown_high cause refl l.cut (λ rises. rises) (none_of_it l.cut) l.empty l.later trace source
+          reported_line ended.ending old mid new (last_line ended.ending) status takes shown_high cause refl l.cut (λ rises. rises) (none_of_it l.cut) l.empty l.later trace source (loud is)
 
 -- the words were not read
 pub words_end : (error : WordsErr) {Takes : Type 0} → (error ≡ Words.Usage → ¬ Takes) → EndingWords (refused_by error) Takes
@@ -73,7 +73,7 @@ pub reported_words : (tally : Tally) (tr : TraceSink) {Takes : Type 0} {settings
     → Reported tally tr Takes settings l l gave w0 w1 s s old new report
 reported_words tally tr {settings = settings} {gave = gave} {l = l} {w0 = w0} {s = s} error report old new fresh untraced not status high line trace source =
     reported_closed (record { ending = refused_by error; quiet = false; high = 0; tally = tally }) report old old new status high (words_end error not)
-    (words_shown tally tr settings error l gave w0 s fresh untraced) (words_cause error old) (λ loud. absurd (cc loud)) (λ loud. line) (λ loud. absurd (cc loud)) trace source
+    (words_shown tally tr settings error l gave w0 s fresh untraced) (words_cause error old) (λ loud. absurd (cc loud)) (λ loud. line) (λ loud. absurd (cc loud)) (λ loud. refl) trace source
 
 -- the words were taken
 pub words_taken : (ending : Ending) {Takes : Type 0} → EndingWords ending ⊤ → Takes → EndingWords ending Takes
@@ -91,11 +91,15 @@ unfoldable pub reported_taken : {tally : Tally} {tr : TraceSink} {Takes : Type 0
     → Takes → settings ≡ asked → Reported tally tr ⊤ asked l0 l1 gave w0 w1 s0 s1 old new report
     → Reported tally tr Takes settings l0 l1 gave w0 w1 s0 s1 old new report
 reported_taken {tally = tally} {tr = tr} {Takes = Takes} {gave = gave} {l0 = l0} {l1 = l1} {w0 = w0} {w1 = w1} {s0 = s0} {s1 = s1} {old = old} {new = new} {report = report} t is r =
+    let both = subst
+    (λ (o : Option Config). (x : Shown tally tr o l0 l1 gave w0 w1 s0 s1 report.high r.ending (last_line r.ending) (SinksRose old new)) × (new.trace ≢ old.trace → Cut w0 w1 (Unit {0}) (printed x.answers ++ x.part)))
+    (sym is) (r.shown, r.silent) in
     record {
       ending = r.ending;
       status = r.status;
       takes = words_taken r.ending r.takes t;
-      shown = subst (λ (o : Option Config). Shown tally tr o l0 l1 gave w0 w1 s0 s1 report.high r.ending (last_line r.ending) (SinksRose old new)) (sym is) r.shown;
+      shown = both.0;
+      silent = both.1;
       cause = r.cause;
       completes = λ taken input e keeps. r.completes tt input e (subst (λ (o : Option Config). KeepsLimits (limit_of o) input) is keeps);
     }

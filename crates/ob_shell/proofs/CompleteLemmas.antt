@@ -6,6 +6,7 @@ use Rattle.ob_base.specs.Counts.{Rises}
 use Rattle.ob_base.specs.declared.config.Config.{Config}
 use Rattle.ob_base.specs.declared.refusal.Stop.TheVariants.{Tampered, SourceFault, SinkFault, NoMemory, InputLimit}
 use Rattle.ob_print.specs.Cuts.{Cut}
+use Rattle.ob_print.proofs.CutLemmas.{Cut-fault}
 use Rattle.ob_store.specs.State.{StoreState}
 use Rattle.ob_shell.specs.Texts.{is_over, rest_of}
 use Rattle.ob_shell.specs.KeyLine.{line_max, has_lf, first_line, after_line, secret_of, LineTaken}
@@ -19,7 +20,7 @@ use Rattle.ob_shell.specs.declared.top.Ending.TheVariants.{Usage, BadKey, Ran}
 use Rattle.ob_shell.proofs.TextLemmas.{rest_of-append, rest_of-over, rest_of-nil}
 use Rattle.ob_shell.proofs.KeyLemmas.{after_line-none, first_line-long, secret_of-long}
 use Rattle.ob_shell.proofs.TopLemmas.{first_line-more, after_line-more, shown_line, line_grew, quiet_line, line_rose, rose_with, status_cause}
-use Rattle.ob_shell.specs.Words.{Faults, SinksRose, HasSecret, IsHonest, KeepsLimits, IsCompleted}
+use Rattle.ob_shell.specs.Words.{Faults, SinksRose, HasSecret, IsHonest, KeepsLimits, IsCompleted, printed}
 
 no_secret : (xs : List ℕ) → HasSecret xs → secret_of (first_line xs) ≡ None → ⊥
 no_secret xs h e = let k = rw e at h in cc
@@ -88,9 +89,9 @@ pub reported_line : {tally : Tally} {tr : TraceSink} {Takes : Type 0} {settings 
     → report.status ≡ status_of ending → EndingWords ending Takes
     → Shown tally tr settings l0 l1 gave w0 w1 s0 s1 report.high ending [] (SinkStopped ending) → EndingCause ending old mid
     → line ≡ last_line ending → Cut w1 w2 E line → (E → Rises mid.out new.out) → (line ≡ [] → Appends w1 w2 line) → (line ≡ [] → new.out ≡ mid.out)
-    → mid.out ≤ new.out → new.trace ≡ mid.trace → new.source ≡ mid.source
+    → mid.out ≤ new.out → new.trace ≡ mid.trace → new.source ≡ mid.source → mid.trace ≡ old.trace
     → Reported tally tr Takes settings l0 l1 gave w0 w2 s0 s1 old new report
-reported_line ending old mid new line status takes shown cause is_line cut rose all none later trace source =
+reported_line ending old mid new line status takes shown cause is_line cut rose all none later trace source kept =
     let causes : StatusCause ending old new = status_cause ending old mid new cause later trace source (λ e. none (is_line ∙ e)) in
     record {
       ending = ending;
@@ -102,6 +103,7 @@ reported_line ending old mid new line status takes shown cause is_line cut rose 
           (line_grew _ _ (λ e. line_rose ending old mid new cause (rose e) later trace) ending old mid
           (λ r. rose_with old mid new r later trace)
           cause shown.grew is_line cut all));
+      silent = λ other. absurd (other (trace ∙ kept));
       cause = causes;
       completes = λ t input e k a b. completes old new input shown takes causes t e k a b;
     }
@@ -112,13 +114,15 @@ pub reported_quiet : {tally : Tally} {tr : TraceSink} {Takes : Type 0} {settings
     → report.status ≡ status_of ending → EndingWords ending Takes
     → Shown tally tr settings l0 l1 gave w0 w1 s0 s1 report.high ending [] (SinkStopped ending) → EndingCause ending old new → SinksRose old new
     → Reported tally tr Takes settings l0 l1 gave w0 w1 s0 s1 old new report
-reported_quiet ending old new status takes shown cause rose =
+unfolding shown_line
+reported_quiet ending old new {w0 = w0} {w1 = w1} status takes shown cause rose =
     let causes : StatusCause ending old new = status_cause ending old new new cause (omega arith) refl refl (λ e. refl) in
     record {
       ending = ending;
       status = status;
       takes = takes;
       shown = shown_line [] shown (Appends-nil _) (quiet_line _ _ shown.grew rose);
+      silent = λ other. Cut-fault tt (subst (λ (l : List ℕ). Cut w0 w1 (SinkStopped ending) l) (append-nil (printed shown.answers ++ shown.part)) shown.grew);
       cause = causes;
       completes = λ t input e k a b. completes old new input shown takes causes t e k a b;
     }

@@ -1,11 +1,11 @@
 -- A statement that was cut off asks a first part of what it asks whole.
-use Rattle.std.proofs.Common.{◌≡◌, ◌⊎◌, inl, inr, ◌+◌, ◌-◌, ◌≤◌, ◌<◌, ℕ, Bool, true, false, List, [], ◌∷◌, ◌++◌, length, take, drop, Option, Some, None, refl, sym, ◌∙◌, ap, subst, append-nil, append_assoc, arith}
+use Rattle.std.proofs.Common.{◌≡◌, ◌⊎◌, inl, inr, ◌+◌, ◌-◌, ◌≤◌, ◌<◌, ℕ, Bool, true, false, List, [], ◌++◌, length, take, drop, Option, Some, None, refl, sym, ◌∙◌, ap, subst, append-nil, append_assoc, arith}
 use Rattle.std.specs.Prelude.{nat_le}
 use Rattle.std.specs.Option.{option_map_or}
 use Rattle.std.proofs.lemmas.Bool.Decides.{nat_tests}
 use Rattle.std.proofs.lemmas.List.{length-append, take-append-drop, take-append-le}
 use Rattle.ob_base.specs.declared.access.Access.{Access}
-use Rattle.ob_base.specs.declared.access.Access.TheVariants.{Discard}
+use Rattle.ob_base.specs.Accesses.{discard_at}
 use Rattle.ob_base.specs.declared.config.Plan.{Plan}
 use Rattle.ob_base.specs.declared.config.Public.{Public}
 use Rattle.ob_base.specs.declared.seen.Seen.{Seen}
@@ -18,7 +18,7 @@ use Rattle.ob_base.specs.Limits.{buffered_blocks}
 use Rattle.ob_base.specs.Stored.{Stored, stored_at, stored_regions}
 use Rattle.ob_mean.specs.Replay.{cut_at, count_end, done_of, ending_len, held_if, walk_end}
 use Rattle.ob_script.specs.Parts.{count_part, join_part}
-use Rattle.ob_script.specs.Script.{blocks_of, extent_of, join_script, joined_extent, result_part, rows_width, table_script, whole_script}
+use Rattle.ob_script.specs.Script.{behind_count, blocks_of, extent_of, join_script, joined_extent, padded_part, result_part, rows_width, table_script, whole_script}
 use Rattle.ob_shell.specs.Words.{Begins}
 
 take_begins : (n : ℕ) (part rest : List Access) → Begins (take n part) (part ++ rest)
@@ -54,23 +54,29 @@ HasParts p sk =
     Fixed (λ k plan then end. whole_script p sk (holding k plan then end))
     ⊎ ByCount (λ k plan then end. whole_script p sk (holding k plan then end)) (ending_len sk)
 
+-- a SELECT of rows behind these accesses; where results are padded, it is the same whatever is held
+select_parts : (pad : Option ℕ) (p : Public) (before : List Access) (g : ℕ) (t : _) (ending : List Access)
+    → Fixed (λ k plan then end. before ++ (count_part t.region (blocks_of p t) ++ behind_count pad p (holding k plan then end) g t ending))
+    ⊎ ByCount (λ k plan then end. before ++ (count_part t.region (blocks_of p t) ++ behind_count pad p (holding k plan then end) g t ending)) (length ending)
+select_parts (Some pad) p before g t ending = inl (record { all = before ++ (count_part t.region (blocks_of p t) ++ (padded_part p pad g t ++ ending)); is = λ k plan then end. refl })
+select_parts None p before g t ending =
+    let count = count_part t.region (blocks_of p t) in
+    inr (record {
+      front = before ++ count;
+      first = λ plan k. result_part p plan k g t;
+      second = λ plan k. result_part p plan k (g + 1) t;
+      ending = ending;
+      sized = refl;
+      unsecond = λ k. refl;
+      uncounted = λ plan then end. ap (λ (l : List Access). before ++ l) (append-nil count);
+      counted = λ k plan then end. sym (append_assoc before count _);
+    })
+
 table_parts : (p : Public) (o : Option (Stored ℕ))
     → Fixed (λ k plan then end. option_map_or (table_script p (holding k plan then end)) o [])
     ⊎ ByCount (λ k plan then end. option_map_or (table_script p (holding k plan then end)) o []) 0
 table_parts p None = inl (record { all = []; is = λ k plan then end. refl })
-table_parts p (Some t) =
-    let from = extent_of t in
-    let count = count_part from.region (blocks_of p from) in
-    inr (record {
-      front = count;
-      first = λ plan k. result_part p plan k p.next_region from;
-      second = λ plan k. result_part p plan k (p.next_region + 1) from;
-      ending = [];
-      sized = refl;
-      unsecond = λ k. refl;
-      uncounted = λ plan then end. append-nil count;
-      counted = λ k plan then end. refl;
-    })
+table_parts p (Some t) = select_parts p.pad p [] p.next_region (extent_of t) []
 
 join_parts : (p : Public) (l r : Option (Stored ℕ))
     → Fixed (λ k plan then end. option_map_or (λ left. option_map_or (λ right. join_script p (holding k plan then end) left right) r []) l [])
@@ -79,20 +85,9 @@ join_parts p None r = inl (record { all = []; is = λ k plan then end. refl })
 join_parts p (Some left) None = inl (record { all = []; is = λ k plan then end. refl })
 join_parts p (Some left) (Some right) =
     let from = joined_extent p left.heading right.heading in
-    let g = p.next_region + 1 in
     let pairs =
     join_part left.held right.held p.next_region (blocks_of p (extent_of left)) (blocks_of p (extent_of right)) (buffered_blocks p.pack p.buffer) (rows_width p from) in
-    let count = count_part from.region (blocks_of p from) in
-    inr (record {
-      front = pairs ++ count;
-      first = λ plan k. result_part p plan k g from;
-      second = λ plan k. result_part p plan k (g + 1) from;
-      ending = Discard p.next_region ∷ [];
-      sized = refl;
-      unsecond = λ k. refl;
-      uncounted = λ plan then end. ap (λ (l : List Access). pairs ++ l) (append-nil count);
-      counted = λ k plan then end. sym (append_assoc pairs count _);
-    })
+    select_parts p.pad p pairs (p.next_region + 1) from (discard_at p.next_region)
 
 parts : (p : Public) (sk : Skeleton) → HasParts p sk
 parts p (Create table cs n) = inl (record { all = whole_script p (Create table cs n) (holding None None None Whole); is = λ k plan then end. refl })

@@ -1,5 +1,5 @@
 -- What a statement asks is a first part of what its meaning asks.
-use Rattle.std.proofs.Common.{◌≡◌, ◌≤◌, ℕ, Bool, true, false, cond, List, [], ◌∷◌, length, Some, None, Ok, Err, Result, refl, sym, ap, subst, arith, append-nil}
+use Rattle.std.proofs.Common.{◌≡◌, ◌≤◌, ℕ, Bool, true, false, cond, List, [], ◌∷◌, length, Option, Some, None, Ok, Err, Result, refl, sym, ap, subst, arith, append-nil}
 use Rattle.std.proofs.lemmas.List.{length-append}
 use Rattle.ob_base.specs.declared.access.Access.{Access}
 use Rattle.ob_base.specs.declared.config.Plan.{Plan}
@@ -17,7 +17,7 @@ use Rattle.ob_exec.specs.declared.outcome.Outcome.{Outcome}
 use Rattle.ob_exec.proofs.EmitLemmas.{unfit_none}
 use Rattle.ob_mean.specs.Refusals.{early_refusal}
 use Rattle.ob_mean.specs.Replay.{cut_at}
-use Rattle.ob_mean.specs.Verdict.{Tables, counted, is_late, seen, seen_rows, seen_started, seen_with}
+use Rattle.ob_mean.specs.Verdict.{Tables, counted, is_late, seen, seen_by, seen_started, seen_with}
 use Rattle.ob_mean.proofs.VerdictLemmas.{seen_late}
 use Rattle.ob_script.specs.Script.{script, until_end, whole_script}
 use Rattle.ob_shell.specs.Words.{Begins}
@@ -52,9 +52,10 @@ with_ends p Continuous places = go _ where
   go true = tt
   go false = tt
 
-rows_end : (p : Public) (n : ℕ) (places : List ℕ) → IsToEnd (seen_rows p n places).end
-rows_end p n [] = tt
-rows_end p n (i ∷ is) = with_ends p _ (i ∷ is)
+rows_end : (pad : Option ℕ) (p : Public) (n : ℕ) (places : List ℕ) → IsToEnd (seen_by pad p n places).end
+rows_end (Some pad) p n places = tt
+rows_end None p n [] = tt
+rows_end None p n (i ∷ is) = with_ends p _ (i ∷ is)
 
 started_ends : (p : Public) (tables : Tables) (stmt : Stmt) → IsToEnd (seen_started p tables stmt).end
 started_ends p tables (Create table columns capacity) = tt
@@ -63,7 +64,7 @@ started_ends p tables (Update table sets cond) = tt
 started_ends p tables (Delete table cond) = tt
 started_ends p tables (DropTable table) = tt
 started_ends p tables (TotalsStmt q) = tt
-started_ends p tables (RowsStmt q) = rows_end p _ _
+started_ends p tables (RowsStmt q) = rows_end p.pad p _ _
 
 to_end : (end : End) (all : List Access) → IsToEnd end → until_end end all ≡ all
 to_end Static all ends = absurd ends

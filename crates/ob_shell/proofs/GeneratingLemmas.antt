@@ -1,7 +1,8 @@
 -- What a run over the generated text promises.
 use Rattle.std.proofs.Common.{◌≡◌, ℕ, ◌≤◌, Bool, true, false, List, [], Option, Some, None, Ok, Err, refl, sym, ◌∙◌, ap, subst, inl, inr, arith}
-use Rattle.std.specs.Prelude.{⊤, option_and_then}
+use Rattle.std.specs.Prelude.{◌≢◌, ⊤, option_and_then}
 use Rattle.clap.specs.Words.{App, Text}
+use Rattle.std.specs.Io.KnownBytes.{Appends}
 use Rattle.std.proofs.KnownBytes.{Appends-nil}
 use Rattle.ob_base.specs.Counts.{Rises}
 use Rattle.ob_base.specs.declared.access.Access.{Access}
@@ -14,7 +15,7 @@ use Rattle.ob_print.proofs.CutLemmas.{Cut-whole}
 use Rattle.ob_store.specs.State.{StoreState}
 use Rattle.ob_shell.specs.Closed.{LineWritten, refused_by}
 use Rattle.ob_shell.specs.Endings.{SinkStopped, last_line, status_of}
-use Rattle.ob_shell.specs.Generating.{RanGenerated, ClosedBy, ConcludedBy, Concludes, Summarized, asked_for}
+use Rattle.ob_shell.specs.Generating.{RanGenerated, ClosedBy, ConcludedBy, Concludes, StatusIs, Summarized, asked_for, conclusion}
 use Rattle.ob_shell.specs.Settings.{generated_by}
 use Rattle.ob_shell.specs.Top.{EndingCause, EndingWords, IsFresh, Reported, Shown, StatusCause, TraceSink, sink_of}
 use Rattle.ob_shell.specs.Tracing.{Traced}
@@ -56,27 +57,43 @@ module _ (tally : Tally) (asked : List Access) (w0 w1 : Option (List ℕ)) (trac
   closed_later ending true closed = let same = (closed.silent refl).faults in omega (arith, same)
   closed_later ending false closed = (closed.line refl).later
 
-  pub concludes_by : (ending : Ending) (quiet : Bool) → ConcludedBy ending quiet tally asked w0 w1 out0 out1 report.status → (quiet ≡ true → Rises trace0 trace1)
+  closed_silent : (ending : Ending) (quiet : Bool) → ClosedBy ending quiet w0 w1 out0 out1 report.status → (quiet ≡ false → trace1 ≡ trace0) → trace1 ≢ trace0 → w1 ≡ w0
+  closed_silent ending true closed kept other = (closed.silent refl).written
+  closed_silent ending false closed kept other = absurd (other (kept refl))
+
+  closed_by : (ending : Ending) (quiet : Bool) → ClosedBy ending quiet w0 w1 out0 out1 report.status → (quiet ≡ true → Rises trace0 trace1) → (quiet ≡ false → trace1 ≡ trace0)
+      → StatusIs ending report.status (Appends w0 w1 (conclusion ending tally asked) × (out1 ≡ out0)) (Rises out0 out1) → conclusion ending tally asked ≡ last_line ending
       → Concludes ending tally asked report.high w0 w1 before after report
-  concludes_by Usage quiet by rose = record { grew = closed_grew Usage quiet by rose; status = by.told; later = closed_later Usage quiet by; high = refl }
-  concludes_by BadKey quiet by rose = record { grew = closed_grew BadKey quiet by rose; status = by.told; later = closed_later BadKey quiet by; high = refl }
-  concludes_by (Ran (Ok refused)) quiet by rose = record {
+  closed_by ending quiet by rose kept told line = record {
+    grew = subst (λ (l : List ℕ). Cut w0 w1 (SinksRose before after) l) (sym line) (closed_grew ending quiet by rose);
+    silent = closed_silent ending quiet by kept;
+    status = told;
+    later = closed_later ending quiet by;
+    high = refl;
+  }
+
+  pub concludes_by : (ending : Ending) (quiet : Bool) → ConcludedBy ending quiet tally asked w0 w1 out0 out1 report.status → (quiet ≡ true → Rises trace0 trace1) → (quiet ≡ false → trace1 ≡ trace0)
+      → EndingCause ending (faults_of 0 0 trace0) (faults_of 0 0 trace1) → Concludes ending tally asked report.high w0 w1 before after report
+  concludes_by Usage quiet by rose kept cause = closed_by Usage quiet by rose kept by.told refl
+  concludes_by BadKey quiet by rose kept cause = closed_by BadKey quiet by rose kept by.told refl
+  concludes_by (Ran (Ok refused)) quiet by rose kept cause = record {
     grew = cut_rose _ (λ r. inl r) by.cut;
+    silent = λ other. absurd (other cause.trace);
     status = elim by.told [ inl whole ↦ inl (whole.0, (whole.1, whole.2)) | inr cut ↦ inr cut ];
     later = by.later;
     high = refl;
   }
-  concludes_by (Ran (Err stop)) quiet by rose = record { grew = closed_grew (Ran (Err stop)) quiet by rose; status = by.told; later = closed_later (Ran (Err stop)) quiet by; high = refl }
+  concludes_by (Ran (Err stop)) quiet by rose kept cause = closed_by (Ran (Err stop)) quiet by rose kept by.told refl
 
 pub concludes_at : {ending : Ending} {tally : Tally} {asked : List Access} {w0 w1 : Option (List ℕ)} {old new : Faults} {report : Report} (rows : ℕ)
     → report.high ≡ rows → Concludes ending tally asked report.high w0 w1 old new report → Concludes ending tally asked rows w0 w1 old new report
-concludes_at rows is c = record { grew = c.grew; status = c.status; later = c.later; high = is }
+concludes_at rows is c = record { grew = c.grew; silent = c.silent; status = c.status; later = c.later; high = is }
 
 -- the source has no part in it
 pub with_source : {ending : Ending} {tally : Tally} {asked : List Access} {rows : ℕ} {w0 w1 : Option (List ℕ)} {trace0 trace1 out0 out1 : ℕ} {report : Report} (source : ℕ)
     → Concludes ending tally asked rows w0 w1 (faults_of 0 out0 trace0) (faults_of 0 out1 trace1) report
     → Concludes ending tally asked rows w0 w1 (faults_of source out0 trace0) (faults_of source out1 trace1) report
-with_source source c = record { grew = c.grew; status = c.status; later = c.later; high = c.high }
+with_source source c = record { grew = c.grew; silent = c.silent; status = c.status; later = c.later; high = c.high }
 
 -- ---- the run, whose answers are kept nowhere
 unfoldable unkept : {tally : Tally} {tr : TraceSink} {Takes : Type 0} {settings : Option Config} {gave : ℕ} {l0 l1 : Option (List ℕ)} {s0 s1 : StoreState} (ending : Ending) (high : ℕ) (old new : Faults)
@@ -89,6 +106,7 @@ unkept ending high old new takes shown cause =
       status = refl;
       takes = takes;
       shown = shown_line [] shown tt (Cut-whole None None (SinksRose old new) _ tt);
+      silent = λ rose. Cut-whole None None (Unit {0}) _ tt;
       cause = causes;
       completes = λ t input e k a b. completes old new input shown takes causes t e k a b;
     }
@@ -155,7 +173,7 @@ unread_summarized {Takes = Takes} {settings = settings} {tracing = tracing} {s =
       tally = empty_tally;
       counted = r.shown.counted;
       concludes = with_source source (concludes_at 0 high
-          (concludes_by empty_tally s.asked w0 w1 trace trace out0 out1 report ending false (unread_closed empty_tally s.asked error closed) (λ loud. absurd (cc loud))));
+          (concludes_by empty_tally s.asked w0 w1 trace trace out0 out1 report ending false (unread_closed empty_tally s.asked error closed) (λ loud. absurd (cc loud)) (λ loud. refl) (words_cause error faults)));
     }
 
 -- ---- faults

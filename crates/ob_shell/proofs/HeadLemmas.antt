@@ -56,6 +56,7 @@ headlined Takes settings tracing old new report fresh r traces =
       grew = shown.grew;
       whole = shown.whole;
       through = shown.through;
+      silent = r.silent;
       seen = run.seen;
       last = run.last;
       one_last = run.one_last;

@@ -1,6 +1,6 @@
 -- Two runs that came to their end, and of which no text was answered that the store failed.
-use Rattle.std.proofs.Common.{◌≡◌, ◌+◌, ◌≤◌, ◌++◌, ℕ, Bool, true, false, IsTrue, Ok, Err, List, [], ◌∷◌, length, Option, Some, None, refl, sym, ◌∙◌, ap, subst, append-nil, arith}
-use Rattle.std.specs.Prelude.{is_some}
+use Rattle.std.proofs.Common.{◌≡◌, ◌+◌, ◌≤◌, ◌++◌, ◌||◌, ◌⊎◌, inl, inr, ℕ, Bool, true, false, IsTrue, Ok, Err, List, [], ◌∷◌, length, Option, Some, None, refl, sym, ◌∙◌, ap, subst, append-nil, arith}
+use Rattle.std.specs.Prelude.{IsSome, is_some}
 use Rattle.clap.specs.Words.{Text}
 use Rattle.ob_base.specs.declared.config.Config.{Config}
 use Rattle.ob_base.specs.declared.config.Plan.{Plan}
@@ -16,13 +16,13 @@ use Rattle.ob_base.specs.declared.skeleton.Skeleton.TheVariants as K
 use Rattle.ob_exec.specs.Running.{refusal_now}
 use Rattle.ob_exec.specs.declared.outcome.Outcome.{Outcome}
 use Rattle.ob_exec.specs.declared.outcome.Outcome.TheVariants.{Refused}
-use Rattle.ob_mean.specs.Lawful.{EndsUncounted, Holds, Lawful, is_counted}
+use Rattle.ob_mean.specs.Lawful.{EndsUncounted, Holds, IsCount, Lawful, is_counted}
 use Rattle.ob_mean.specs.Replay.{Spelt}
 use Rattle.ob_script.specs.Script.{script}
 use Rattle.ob_script.specs.Trace.{Served as Entry, next, trace}
 use Rattle.ob_shell.specs.Endings.{status_of}
 use Rattle.ob_shell.specs.Failures.{failures, outcome_failures}
-use Rattle.ob_shell.specs.Reruns.{Alike, EndsWell, ShellRun, ShowAlike, plainly, seen_plainly, statements}
+use Rattle.ob_shell.specs.Reruns.{Alike, EndsWell, IsPlain, ShellRun, ShowAlike, any_counted, plainly, seen_plainly, statements}
 use Rattle.ob_shell.specs.Settings.{settings_of}
 use Rattle.ob_shell.specs.Usage.{usage}
 use Rattle.ob_shell.specs.Words.{Answer, AreSeen, Because, Outside, SpellFirst, is_cut, public_with}
@@ -41,30 +41,34 @@ AreUncut p m (stmt ∷ stmts) (x ∷ seen) =
     (x.skeleton ≡ skeleton stmt) × Lawful p m stmt x.seen × (is_cut x.seen.end ≡ false)
     × AreUncut (next p x.skeleton x.seen) (m + length (script p x.skeleton x.seen)) stmts seen
 
--- ---- what is seen of a statement that is no SELECT of rows, and was not cut off, follows from its early refusal
+-- ---- what is seen of a statement that was not cut off, where it is no SELECT of rows or results are padded, follows from
+-- its early refusal
 -- it holds neither a k nor a plan
-record HoldsNone (stmt : Stmt) (here : Seen) (k : Option ℕ) (plan second : Option Plan) : Type 0 where
+record HoldsNone (p : Public) (stmt : Stmt) (here : Seen) (k : Option ℕ) (plan second : Option Plan) : Type 0 where
   no_k : k ≡ None
   no_plan : plan ≡ None
   no_second : second ≡ None
-  ends : EndsUncounted stmt here.end
+  ends : EndsUncounted p stmt here.end
 
-module _ (p : Public) (stmt : Stmt) (here : Seen) (uncounted : is_counted stmt ≡ false) where
-  not_counted : {A : Type 0} → IsTrue (is_counted stmt) → A
-  not_counted counted = absurd (cc (counted, uncounted))
+module _ (p : Public) (stmt : Stmt) (here : Seen) (plain : IsPlain p stmt) where
+  not_counted : {A : Type 0} (k : ℕ) → IsCount p stmt k → A
+  not_counted k count = elim plain [
+    | inl uncounted ↦ let counted = count.counted in absurd (cc (counted, uncounted))
+    | inr padded ↦ let unpadded = ap is_some count.unpadded in absurd (cc (padded, unpadded))
+  ]
 
-  holds_none : (k : Option ℕ) (plan second : Option Plan) → Holds p stmt here k plan second → HoldsNone stmt here k plan second
+  holds_none : (k : Option ℕ) (plan second : Option Plan) → Holds p stmt here k plan second → HoldsNone p stmt here k plan second
   holds_none None None None holds = record { no_k = refl; no_plan = refl; no_second = refl; ends = holds }
   holds_none None None (Some s) holds = absurd holds
   holds_none None (Some plan) None holds = absurd holds
   holds_none None (Some plan) (Some s) holds = absurd holds
-  holds_none (Some k) None None holds = not_counted holds.0.counted
+  holds_none (Some k) None None holds = not_counted k holds.0
   holds_none (Some k) None (Some s) holds = absurd holds
-  holds_none (Some k) (Some plan) None holds = not_counted holds.0.counted
+  holds_none (Some k) (Some plan) None holds = not_counted k holds.0
   holds_none (Some k) (Some Small) (Some s) holds = absurd holds
   holds_none (Some k) (Some Large) (Some s) holds = absurd holds
   holds_none (Some k) (Some Continuous) (Some s) holds = absurd holds
-  holds_none (Some k) (Some Hash) (Some Small) holds = not_counted holds.0.counted
+  holds_none (Some k) (Some Hash) (Some Small) holds = not_counted k holds.0
   holds_none (Some k) (Some Hash) (Some Large) holds = absurd holds
   holds_none (Some k) (Some Hash) (Some Continuous) holds = absurd holds
   holds_none (Some k) (Some Hash) (Some Hash) holds = absurd holds
@@ -75,7 +79,7 @@ end_by true = Static
 end_by false = Whole
 
 end_is : (p : Public) (m : ℕ) (stmt : Stmt) (here : Seen) (end : End) (early : Bool) → here.end ≡ end → is_some (refusal_now p m stmt) ≡ early
-    → Lawful p m stmt here → is_cut here.end ≡ false → EndsUncounted stmt end → here.end ≡ end_by early
+    → Lawful p m stmt here → is_cut here.end ≡ false → EndsUncounted p stmt end → here.end ≡ end_by early
 end_is p m stmt here Static true is now lawful uncut ends = is
 end_is p m stmt here Static false is now lawful uncut ends = let early = lawful.static.0 is in absurd (cc (early, now))
 end_is p m stmt here Whole true is now lawful uncut ends = let static = lawful.static.1 now in absurd (cc (static, is))
@@ -87,9 +91,9 @@ plain_of : (refused : Bool) (here : Seen) → here.k ≡ None → here.plan ≡ 
 plain_of true here k plan second end = λ i. record { k = k i; plan = plan i; then = second i; end = end i }
 plain_of false here k plan second end = λ i. record { k = k i; plan = plan i; then = second i; end = end i }
 
-pub shows_plainly : (p : Public) (m : ℕ) (stmt : Stmt) (here : Seen) → Lawful p m stmt here → is_counted stmt ≡ false → is_cut here.end ≡ false → here ≡ plainly p m stmt
-shows_plainly p m stmt here lawful uncounted uncut =
-    let held = holds_none p stmt here uncounted here.k here.plan here.then lawful.holds in
+pub shows_plainly : (p : Public) (m : ℕ) (stmt : Stmt) (here : Seen) → Lawful p m stmt here → IsPlain p stmt → is_cut here.end ≡ false → here ≡ plainly p m stmt
+shows_plainly p m stmt here lawful plain uncut =
+    let held = holds_none p stmt here plain here.k here.plan here.then lawful.holds in
     plain_of (is_some (refusal_now p m stmt)) here held.no_k held.no_plan held.no_second
     (end_is p m stmt here here.end (is_some (refusal_now p m stmt)) refl refl lawful uncut held.ends)
 
@@ -114,9 +118,9 @@ one_alike : (p : Public) (m : ℕ) (a b : Stmt) (x y : Seen) (counted : Bool) �
     → skeleton a ≡ skeleton b → is_some (refusal_now p m a) ≡ is_some (refusal_now p m b) → (IsTrue (is_counted a) → x ≡ y) → x ≡ y
 one_alike p m a b x y true is lawful lawful_too uncut uncut_too sk early shows = shows is
 one_alike p m a b x y false is lawful lawful_too uncut uncut_too sk early shows =
-    shows_plainly p m a x lawful is uncut
+    shows_plainly p m a x lawful (inl is) uncut
     ∙ ap seen_plainly early
-    ∙ sym (shows_plainly p m b y lawful_too (sym (same_counted a b sk) ∙ is) uncut_too)
+    ∙ sym (shows_plainly p m b y lawful_too (inl (sym (same_counted a b sk) ∙ is)) uncut_too)
 
 same_seen : (p : Public) (m : ℕ) (ps : List Stmt) (xs : List Entry) (qs : List Stmt) (ys : List Entry) → AreUncut p m ps xs → AreUncut p m qs ys → ShowAlike p m ps xs qs ys → xs ≡ ys
 unfolding AreUncut ShowAlike
@@ -186,28 +190,48 @@ module _ (words : List Text) (old new : Outside) (report : Report) (a : ShellRun
   run_uncut : AreUncut (public_with (settings_of usage words)) 0 (statements a.spelt) (a.seen ++ a.last)
   run_uncut = all_uncut a.ending a.spelt a.answers (public_with (settings_of usage words)) 0 (a.seen ++ a.last) a.lawful answered_all well.none
 
+-- none is a SELECT of rows, or results are padded
+abbrev ArePlain : Public → List Stmt → Type 0
+ArePlain p stmts = (any_counted stmts ≡ false) ⊎ IsSome p.pad
+
+neither : (a b : Bool) → (a || b) ≡ false → (a ≡ false) × (b ≡ false)
+neither true b is = absurd (cc is)
+neither false b is = (refl, is)
+
+first_plain : (p : Public) (a : Stmt) (ps : List Stmt) → ArePlain p (a ∷ ps) → IsPlain p a
+unfolding any_counted
+first_plain p a ps plain = elim plain [ inl none ↦ inl (neither (is_counted a) (any_counted ps) none).0 | inr padded ↦ inr padded ]
+
+-- after any statement results are still padded
+rest_plain : (p : Public) (a : Stmt) (ps : List Stmt) (x : Entry) → ArePlain p (a ∷ ps) → ArePlain (next p x.skeleton x.seen) ps
+unfolding any_counted
+rest_plain p a ps x plain = elim plain [ inl none ↦ inl (neither (is_counted a) (any_counted ps) none).1 | inr padded ↦ inr padded ]
+
+plain_too : (p : Public) (a b : Stmt) → skeleton a ≡ skeleton b → IsPlain p a → IsPlain p b
+plain_too p a b sk plain = elim plain [ inl none ↦ inl (sym (same_counted a b sk) ∙ none) | inr padded ↦ inr padded ]
+
 -- lists of statements that are alike show alike
-shows : (p : Public) (m : ℕ) (ps : List Stmt) (xs : List Entry) (qs : List Stmt) (ys : List Entry) → AreUncut p m ps xs → AreUncut p m qs ys → Alike p m ps qs → ShowAlike p m ps xs qs ys
+shows : (p : Public) (m : ℕ) (ps : List Stmt) (xs : List Entry) (qs : List Stmt) (ys : List Entry) → AreUncut p m ps xs → AreUncut p m qs ys → ArePlain p ps → Alike p m ps qs → ShowAlike p m ps xs qs ys
 unfolding AreUncut Alike ShowAlike
-shows p m [] xs [] ys a b alike = tt
-shows p m [] xs (b ∷ qs) ys one two alike = absurd alike
-shows p m (a ∷ ps) xs [] ys one two alike = absurd alike
-shows p m (a ∷ ps) [] (b ∷ qs) ys one two alike = absurd one
-shows p m (a ∷ ps) (x ∷ xs) (b ∷ qs) [] one two alike = absurd two
-shows p m (a ∷ ps) (x ∷ xs) (b ∷ qs) (y ∷ ys) one two alike =
-    let here : x.seen ≡ plainly p m a = shows_plainly p m a x.seen one.1 alike.1 one.2 in
-    let there : y.seen ≡ plainly p m b = shows_plainly p m b y.seen two.1 (sym (same_counted a b alike.0) ∙ alike.1) two.2 in
-    let same : y.seen ≡ x.seen = there ∙ ap seen_plainly (sym alike.2) ∙ sym here in
+shows p m [] xs [] ys a b plain alike = tt
+shows p m [] xs (b ∷ qs) ys one two plain alike = absurd alike
+shows p m (a ∷ ps) xs [] ys one two plain alike = absurd alike
+shows p m (a ∷ ps) [] (b ∷ qs) ys one two plain alike = absurd one
+shows p m (a ∷ ps) (x ∷ xs) (b ∷ qs) [] one two plain alike = absurd two
+shows p m (a ∷ ps) (x ∷ xs) (b ∷ qs) (y ∷ ys) one two plain alike =
+    let here : x.seen ≡ plainly p m a = shows_plainly p m a x.seen one.1 (first_plain p a ps plain) one.2 in
+    let there : y.seen ≡ plainly p m b = shows_plainly p m b y.seen two.1 (plain_too p a b alike.0 (first_plain p a ps plain)) two.2 in
+    let same : y.seen ≡ x.seen = there ∙ ap seen_plainly (sym alike.1) ∙ sym here in
     let first : next p (skeleton a) (plainly p m a) ≡ next p x.skeleton x.seen = λ i. next p (sym one.0 i) (sym here i) in
     let asked : m + length (script p (skeleton a) (plainly p m a)) ≡ m + length (script p x.skeleton x.seen) = λ i. m + length (script p (sym one.0 i) (sym here i)) in
     let sk : y.skeleton ≡ x.skeleton = two.0 ∙ sym alike.0 ∙ sym one.0 in
     let rest : AreUncut (next p x.skeleton x.seen) (m + length (script p x.skeleton x.seen)) qs ys =
     subst (λ (e : Entry). AreUncut (next p e.skeleton e.seen) (m + length (script p e.skeleton e.seen)) qs ys) (λ i. record { skeleton = sk i; seen = same i }) two.3 in (
       alike.0,
-      alike.2,
+      alike.1,
       (λ counted. sym same),
-      shows (next p x.skeleton x.seen) (m + length (script p x.skeleton x.seen)) ps xs qs ys one.3 rest
-          (subst (λ (n : ℕ). Alike (next p x.skeleton x.seen) n ps qs) asked (subst (λ (r : Public). Alike r (m + length (script p (skeleton a) (plainly p m a))) ps qs) first alike.3)),
+      shows (next p x.skeleton x.seen) (m + length (script p x.skeleton x.seen)) ps xs qs ys one.3 rest (rest_plain p a ps x plain)
+          (subst (λ (n : ℕ). Alike (next p x.skeleton x.seen) n ps qs) asked (subst (λ (r : Public). Alike r (m + length (script p (skeleton a) (plainly p m a))) ps qs) first alike.2)),
     )
 
 module _ (words words_too : List Text) (old new old_too new_too : Outside) (report report_too : Report) (a : ShellRun words old new report) (b : ShellRun words_too old_too new_too report_too)
@@ -224,6 +248,12 @@ module _ (words words_too : List Text) (old new old_too new_too : Outside) (repo
       let same = same_seen p 0 (statements a.spelt) (a.seen ++ a.last) (statements b.spelt) (b.seen ++ b.last) (run_uncut words old new report a well) there alike in
       (same, a.asked ∙ (λ i. trace (public_with (set i)) (same i)) ∙ sym b.asked)
 
-  pub ask_the_same : Alike p 0 (statements a.spelt) (statements b.spelt) → new.store.asked ≡ new_too.store.asked
-  ask_the_same alike =
-      (show_the_same (shows p 0 (statements a.spelt) (a.seen ++ a.last) (statements b.spelt) (b.seen ++ b.last) (run_uncut words old new report a well) there alike)).1
+  asks_alike : ArePlain p (statements a.spelt) → Alike p 0 (statements a.spelt) (statements b.spelt) → new.store.asked ≡ new_too.store.asked
+  asks_alike plain alike =
+      (show_the_same (shows p 0 (statements a.spelt) (a.seen ++ a.last) (statements b.spelt) (b.seen ++ b.last) (run_uncut words old new report a well) there plain alike)).1
+
+  pub ask_the_same : any_counted (statements a.spelt) ≡ false → Alike p 0 (statements a.spelt) (statements b.spelt) → new.store.asked ≡ new_too.store.asked
+  ask_the_same none = asks_alike (inl none)
+
+  pub padded_ask_the_same : IsSome p.pad → Alike p 0 (statements a.spelt) (statements b.spelt) → new.store.asked ≡ new_too.store.asked
+  padded_ask_the_same padded = asks_alike (inr padded)

@@ -299,5 +299,5 @@ ran_input_limit {p = p} so none full traced = ran_halt InputLimit tt so (rw none
 -- the trace of all that was asked, and then of what was asked until the end
 pub traced_by : {tracing : Bool} {a0 a1 a2 : List Access} {w0 w1 w2 : Option (List ℕ)} (result : Result Tally Halted) → TracedAll tracing a0 a1 w0 w1
     → OnOk result (TracedAll tracing a1 a2 w1 w2) → OnErr result (Traced tracing a1 a2 w1 w2 (IsQuiet result)) → Traced tracing a0 a2 w0 w2 (IsQuiet result)
-traced_by (Ok flag) p all stop = traced_whole ⊥ (traced_then p all)
+traced_by (Ok flag) p all stop = traced_whole _ (traced_then p all)
 traced_by (Err halted) p all stop = traced_cut p stop

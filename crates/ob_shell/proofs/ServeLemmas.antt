@@ -1,9 +1,8 @@
 -- What the engine was given and what it left.
-use Rattle.std.proofs.Common.{ℕ, List, [], ◌∷◌, ◌++◌, ◌≡◌, ◌≤◌, Bool, true, Option, None, Result, Ok, Err, refl, sym, ◌⊎◌, inl, inr, arith}
+use Rattle.std.proofs.Common.{ℕ, List, [], ◌∷◌, ◌++◌, ◌≡◌, ◌≤◌, Bool, Option, None, Result, Ok, Err, refl, ◌∙◌, ◌⊎◌, inl, inr, arith}
 use Rattle.std.specs.Io.KnownBytes.{Appends}
 use Rattle.std.proofs.KnownBytes.{Appends-nil}
 use Rattle.std.specs.Result.{is_err}
-use Rattle.ob_base.specs.Counts.{Rises}
 use Rattle.ob_base.specs.Events.{Event}
 use Rattle.ob_base.specs.declared.refusal.Stop.{Stop}
 use Rattle.ob_base.specs.declared.refusal.Refusal.TheVariants.{Syntax}
@@ -21,7 +20,7 @@ use Rattle.ob_shell.specs.Closing.{closing_line}
 use Rattle.ob_shell.specs.Steps.{Machine, Does, HasBody, Served, StopsIn}
 use Rattle.ob_sql.specs.declared.stmt.Stmt.{Stmt}
 use Rattle.ob_vault.specs.State.{RevState}
-use Rattle.ob_shell.specs.Running.{StopCause}
+use Rattle.ob_shell.specs.Running.{Silenced, StopCause}
 use Rattle.ob_shell.specs.Words.{Spells, faults_of}
 use Rattle.ob_shell.proofs.CountLemmas.{rises_earlier, rises_later}
 
@@ -128,6 +127,14 @@ misspelt state w m text at spells = record {
   step = record { done = inl (record { same = refl; at = at; spells = spells; refused = refl; line = refl; unplanned = refl }) };
 }
 
+-- of the emitter's stop alone the count rises
+stop_keeps : (stop : Stop) (out0 out1 : ℕ) → (stop ≡ SinkFault → ⊥) → SinkCause (Err stop) out0 out1 → out1 ≡ out0
+stop_keeps (Tampered region place) out0 out1 not cause = cause
+stop_keeps NoMemory out0 out1 not cause = cause
+stop_keeps SinkFault out0 out1 not cause = absurd (not refl)
+stop_keeps SourceFault out0 out1 not cause = absurd cause
+stop_keeps InputLimit out0 out1 not cause = absurd cause
+
 -- a stop of the engine, and what waited was flushed after it
 pub stop_cause : (T : Type 0) (stop : Stop) (out0 out1 out2 : ℕ) → SinkCause (Err stop) out0 out1 → out1 ≤ out2 → StopCause {T = T} (faults_of 0 out0 0) (faults_of 0 out2 0) (Err stop)
 stop_cause T (Tampered region place) out0 out1 out2 cause later = (refl, omega arith, omega arith)
@@ -136,14 +143,10 @@ stop_cause T SinkFault out0 out1 out2 cause later = (refl, inl (rises_later out0
 stop_cause T SourceFault out0 out1 out2 cause later = absurd cause
 stop_cause T InputLimit out0 out1 out2 cause later = absurd cause
 
--- what waited could not be flushed
-pub flush_rose : {T E : Type 0} (r : Result T E) (quiet : Bool) (out1 out2 : ℕ) → quiet ≡ is_err r → HasCause out1 out2 r → quiet ≡ true → Rises out1 out2
-flush_rose (Ok x) quiet out1 out2 is cause failed = absurd (cc)
-flush_rose (Err e) quiet out1 out2 is cause failed = cause.failed
-
-pub stop_rose : (stop : Stop) (out0 out1 out2 : ℕ) → SinkCause (Err stop) out0 out1 → Rises out1 out2 → Rises out0 out2
-stop_rose (Tampered region place) out0 out1 out2 cause rose = rises_earlier out0 out1 out2 (omega arith) rose
-stop_rose NoMemory out0 out1 out2 cause rose = rises_earlier out0 out1 out2 (omega arith) rose
-stop_rose SinkFault out0 out1 out2 cause rose = omega arith
-stop_rose SourceFault out0 out1 out2 cause rose = absurd cause
-stop_rose InputLimit out0 out1 out2 cause rose = absurd cause
+-- whether what waited could be flushed after it
+pub flush_silences : {T E : Type 0} (stop : Stop) (r : Result T E) (quiet : Bool) (out0 out1 out2 : ℕ) → (stop ≡ SinkFault → ⊥) → SinkCause (Err stop) out0 out1 → quiet ≡ is_err r → HasCause out1 out2 r
+    → Silenced quiet (faults_of 0 out0 0) (faults_of 0 out2 0)
+flush_silences stop (Ok x) quiet out0 out1 out2 not cause is flushed = rw is (flushed.kept ∙ stop_keeps stop out0 out1 not cause, refl)
+flush_silences stop (Err e) quiet out0 out1 out2 not cause is flushed =
+    let same = stop_keeps stop out0 out1 not cause in
+    rw is (inl (rises_earlier out0 out1 out2 (omega (arith, same)) flushed.failed))

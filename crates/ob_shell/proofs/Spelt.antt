@@ -4,8 +4,8 @@ use Rattle.std.specs.Prelude.{Some, None, codes}
 use Rattle.clap.specs.Words.{fault_of}
 use Rattle.clap.specs.declared.error.kind.ErrorKind.TheVariants as kind
 use Rattle.clap.proofs.OnLiterals.{clap_on_literals}
-use Rattle.ob_base.specs.declared.config.Plan.TheVariants.{Hash}
-use Rattle.ob_shell.specs.Settings.{fitted, generated_by, number_in, plan_in, seed_in, settings_of}
+use Rattle.ob_base.specs.declared.config.Plan.TheVariants.{Continuous, Large, Hash}
+use Rattle.ob_shell.specs.Settings.{fitted, generated_by, number_in, pad_in, plan_in, seed_in, settings_of}
 use Rattle.ob_shell.specs.Usage.{Parses, meddle_usage, store_of, usage}
 
 -- ---- one value
@@ -42,12 +42,37 @@ auto = refl
 no_plan : plan_in (Some (codes "fast")) ≡ None
 no_plan = refl
 
--- ---- three blocks and one row
-room_enough : fitted 49 5 None 16 4096 ≡ Some (record { buffer = 49; depth = 5; pack = 16; plan = None; max_input = 4096 })
+unpadded : pad_in None ≡ Some None
+unpadded = refl
+
+least_pad : pad_in (Some (codes "1")) ≡ Some (Some 1)
+least_pad = refl
+
+greatest_pad : pad_in (Some (codes "1048576")) ≡ Some (Some 1048576)
+greatest_pad = refl
+
+pad_of_none : pad_in (Some (codes "0")) ≡ None
+pad_of_none = refl
+
+pad_too_great : pad_in (Some (codes "1048577")) ≡ None
+pad_too_great = refl
+
+-- ---- three blocks and one row, and a plan that may be padded
+room_enough : fitted 49 5 None 16 None 4096 ≡ Some (record { buffer = 49; depth = 5; pack = 16; plan = None; pad = None; max_input = 4096 })
 room_enough = refl
 
-too_little : fitted 48 5 None 16 4096 ≡ None
+too_little : fitted 48 5 None 16 None 4096 ≡ None
 too_little = refl
+
+padded_by_large : fitted 64 5 (Some Large) 1 (Some 40) 4096
+    ≡ Some (record { buffer = 64; depth = 5; pack = 1; plan = Some Large; pad = Some 40; max_input = 4096 })
+padded_by_large = refl
+
+no_padded_continuous : fitted 64 5 (Some Continuous) 1 (Some 40) 4096 ≡ None
+no_padded_continuous = refl
+
+no_padded_hash : fitted 64 5 (Some Hash) 1 (Some 40) 4096 ≡ None
+no_padded_hash = refl
 
 -- ---- what is generated
 least_seed : seed_in (Some (codes "0,1")) ≡ Some (Some (record { start = 0; rows = 1 }))
@@ -84,7 +109,7 @@ three_numbers : seed_in (Some (codes "0,1,2")) ≡ None
 three_numbers = refl
 
 -- ---- whole command lines
-no_words : settings_of usage [] ≡ Some (record { buffer = 64; depth = 5; pack = 1; plan = None; max_input = 1073741824 })
+no_words : settings_of usage [] ≡ Some (record { buffer = 64; depth = 5; pack = 1; plan = None; pad = None; max_input = 1073741824 })
 unfolding clap_on_literals
 no_words = refl
 
@@ -93,7 +118,7 @@ unfolding clap_on_literals
 no_words_parse = refl
 
 two_words : settings_of usage (codes "--pack" ∷ codes "2" ∷ codes "--plan=hash" ∷ [])
-    ≡ Some (record { buffer = 64; depth = 5; pack = 2; plan = Some Hash; max_input = 1073741824 })
+    ≡ Some (record { buffer = 64; depth = 5; pack = 2; plan = Some Hash; pad = None; max_input = 1073741824 })
 unfolding clap_on_literals
 two_words = refl
 
@@ -104,6 +129,14 @@ they_parse = refl
 pack_is_too_great : settings_of usage (codes "--pack" ∷ codes "22" ∷ []) ≡ None
 unfolding clap_on_literals
 pack_is_too_great = refl
+
+padded : settings_of usage (codes "--pad" ∷ codes "40" ∷ []) ≡ Some (record { buffer = 64; depth = 5; pack = 1; plan = None; pad = Some 40; max_input = 1073741824 })
+unfolding clap_on_literals
+padded = refl
+
+padded_by_hash : settings_of usage (codes "--pad" ∷ codes "40" ∷ codes "--plan=hash" ∷ []) ≡ None
+unfolding clap_on_literals
+padded_by_hash = refl
 
 generated : generated_by usage (codes "--gen" ∷ codes "0,1" ∷ []) ≡ Some (Some (record { start = 0; rows = 1 }))
 unfolding clap_on_literals
@@ -134,7 +167,7 @@ no_value : fault_of usage (codes "--buffer" ∷ []) ≡ kind.InvalidValue ∷ []
 unfolding clap_on_literals
 no_value = refl
 
-input_bounded : settings_of usage (codes "--max-input" ∷ codes "1024" ∷ []) ≡ Some (record { buffer = 64; depth = 5; pack = 1; plan = None; max_input = 1024 })
+input_bounded : settings_of usage (codes "--max-input" ∷ codes "1024" ∷ []) ≡ Some (record { buffer = 64; depth = 5; pack = 1; plan = None; pad = None; max_input = 1024 })
 unfolding clap_on_literals
 input_bounded = refl
 

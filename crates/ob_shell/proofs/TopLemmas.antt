@@ -602,7 +602,7 @@ pub quiet_line : {w0 w1 : Option (List ℕ)} {F G : Type 0} (bytes line : List �
 quiet_line {w0 = w0} {w1 = w1} {F = F} bytes line c g =
     Cut-more line (Cut-fault g (subst (λ (l : List ℕ). Cut w0 w1 F l) (append-nil bytes) c)) g
 
-pub shown_line : {tally : Tally} {tr : TraceSink} {settings : Option Config} {gave : ℕ} {l0 l1 w0 w1 w2 : Option (List ℕ)} {s0 s1 : StoreState} {high : ℕ} {ending : Ending} {line line' : List ℕ} {F H : Type 0}
+unfoldable pub shown_line : {tally : Tally} {tr : TraceSink} {settings : Option Config} {gave : ℕ} {l0 l1 w0 w1 w2 : Option (List ℕ)} {s0 s1 : StoreState} {high : ℕ} {ending : Ending} {line line' : List ℕ} {F H : Type 0}
     (more : List ℕ) → (shown : Shown tally tr settings l0 l1 gave w0 w1 s0 s1 high ending line F) → Appends w1 w2 more → Cut w0 w2 H ((printed shown.answers ++ shown.part) ++ line')
     → Shown tally tr settings l0 l1 gave w0 w2 s0 s1 high ending line' H
 shown_line more shown after cut = record {

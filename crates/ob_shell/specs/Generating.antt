@@ -1,5 +1,5 @@
 -- Runs over the text that is generated in place of the input.
-use Rattle.std.specs.Prelude.{ℕ, ◌≡◌, ◌≤◌, ◌⊎◌, ⊤, Bool, true, false, List, Option, Some, None, Ok, Err, option_and_then}
+use Rattle.std.specs.Prelude.{ℕ, ◌≡◌, ◌≢◌, ◌≤◌, ◌⊎◌, ⊤, Bool, true, false, List, Option, Some, None, Ok, Err, option_and_then}
 use Rattle.std.specs.Io.KnownBytes.{Appends}
 use Rattle.clap.specs.Words.{App, Text}
 use Rattle.ob_base.specs.Counts.{Rises}
@@ -72,10 +72,11 @@ StatusIs (Ran (Ok refused)) status Whole Rose =
     ⊎ ((status ≡ status_of (Ran (Err SinkFault))) × Rose)
 StatusIs (Ran (Err stop)) status Whole Rose = status ≡ status_of (Ran (Err stop))
 
--- what was written of a run that ended so, and with which status
+-- what was written of a run that ended so, and with which status; nothing after a fault of the trace's sink
 pub record Concludes (ending : Ending) (tally : Tally) (asked : List Access) (opened : ℕ)
     (written0 written1 : Option (List ℕ)) (old new : Faults) (report : Report) : Type 0 where
   pub grew : Cut written0 written1 (SinksRose old new) (conclusion ending tally asked)
+  pub silent : new.trace ≢ old.trace → written1 ≡ written0
   pub status : StatusIs ending report.status
       (Appends written0 written1 (conclusion ending tally asked) × (new.out ≡ old.out))
       (Rises old.out new.out)

@@ -1,5 +1,5 @@
 -- The headline: one whole run, by what lies outside of it before and after.
-use Rattle.std.specs.Prelude.{ℕ, ◌≡◌, ◌+◌, ◌≤◌, ◌⊎◌, min, Bool, true, false, List, [], ◌∷◌, ◌++◌, length, IsTrue, Option, Some, Err}
+use Rattle.std.specs.Prelude.{ℕ, ◌≡◌, ◌≢◌, ◌+◌, ◌≤◌, ◌⊎◌, min, Bool, true, false, List, [], ◌∷◌, ◌++◌, length, IsTrue, Option, Some, Err}
 use Rattle.std.specs.List.{list_any}
 use Rattle.std.specs.Io.KnownBytes.{Consumes, IsAtEnd}
 use Rattle.ob_base.specs.Counts.{Rises}
@@ -49,7 +49,8 @@ pub record Headline (Takes : Type 0) (settings : Option Config) (tracing : Bool)
   pub reached : length served ≤ length spelt
   pub begun : length spelt ≤ length served + 1
   pub keyed : HasSecret taken ⊎ (spelt ≡ [])
-  -- THE OUTPUT: the answers, what was printed of the one begun, and the last line. A sink's fault ends the run.
+  -- THE OUTPUT: the answers, what was printed of the one begun, and the last line. A sink's fault ends the run, and after
+  -- one of the trace's the last line isn't written.
   pub answers : List Answer
   pub each : length answers ≡ length served
   pub part : List ℕ
@@ -58,6 +59,8 @@ pub record Headline (Takes : Type 0) (settings : Option Config) (tracing : Bool)
       ((printed answers ++ part) ++ last_line ending)
   pub whole : Took old.written new.written (printed answers)
   pub through : ¬ SinkStopped ending → Took old.written new.written (printed answers ++ part)
+  pub silent : new.faults.trace ≢ old.faults.trace
+      → Cut old.written new.written (Unit {0}) (printed answers ++ part)
   -- THE ACCESSES, over every store, are the trace of the statements' skeletons and of what is seen of each, of which the
   -- last belongs to the one begun. They are traced, those before it whole, where tracing is asked for.
   pub seen : List Served

@@ -1,5 +1,5 @@
 -- When two runs ask the same.
-use Rattle.std.specs.Prelude.{ℕ, ◌≡◌, ◌≤◌, ◌+◌, ⊤, Bool, true, false, List, [], ◌∷◌, length, IsTrue, None, Ok, Err, is_some}
+use Rattle.std.specs.Prelude.{ℕ, ◌≡◌, ◌≤◌, ◌+◌, ◌⊎◌, ◌||◌, ⊤, Bool, true, false, List, [], ◌∷◌, length, IsSome, IsTrue, None, Ok, Err, is_some}
 use Rattle.clap.specs.Words.{Text}
 use Rattle.ob_base.specs.declared.config.Public.{Public}
 use Rattle.ob_base.specs.declared.seen.End.TheVariants.{Static, Whole}
@@ -33,7 +33,8 @@ statements [] = []
 statements (Ok stmt ∷ spelt) = stmt ∷ statements spelt
 statements (Err at ∷ spelt) = statements spelt
 
--- what is seen of a statement that is no SELECT of rows and was not cut off: whether it was refused before any access
+-- what is seen of a statement that was not cut off, where it is no SELECT of rows or results are padded: whether it was
+-- refused before any access
 abbrev pub seen_plainly : (refused : Bool) → Seen
 seen_plainly true = record { k = None; plan = None; then = None; end = Static }
 seen_plainly false = record { k = None; plan = None; then = None; end = Whole }
@@ -41,15 +42,23 @@ seen_plainly false = record { k = None; plan = None; then = None; end = Whole }
 abbrev pub plainly : Public → ℕ → Stmt → Seen
 plainly p m stmt = seen_plainly (is_some (refusal_now p m stmt))
 
--- two lists of statements, none a SELECT of rows: their skeletons are the same, and the same ones are refused before any
--- access
+-- it is no SELECT of rows, or results are padded
+abbrev pub IsPlain : Public → Stmt → Type 0
+IsPlain p stmt = (is_counted stmt ≡ false) ⊎ IsSome p.pad
+
+-- one of them is a SELECT of rows
+unfoldable pub any_counted : List Stmt → Bool
+any_counted [] = false
+any_counted (stmt ∷ stmts) = is_counted stmt || any_counted stmts
+
+-- two lists of statements, of each of which is seen whether it was refused before any access, and nothing else: their
+-- skeletons are the same, and the same ones are refused so
 unfoldable pub Alike : Public → ℕ → List Stmt → List Stmt → Type 0
 Alike p m [] [] = ⊤
 Alike p m [] (b ∷ qs) = ⊥
 Alike p m (a ∷ ps) [] = ⊥
 Alike p m (a ∷ ps) (b ∷ qs) =
-    (skeleton a ≡ skeleton b) × (is_counted a ≡ false)
-    × (is_some (refusal_now p m a) ≡ is_some (refusal_now p m b))
+    (skeleton a ≡ skeleton b) × (is_some (refusal_now p m a) ≡ is_some (refusal_now p m b))
     × Alike (next p (skeleton a) (plainly p m a))
     (m + length (script p (skeleton a) (plainly p m a))) ps qs
 

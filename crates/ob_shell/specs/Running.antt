@@ -22,9 +22,17 @@ stop_of (Ok x) = Ok x
 stop_of (Err halted) = Err halted.stop
 
 -- no further line may be written
+abbrev pub is_quiet : {T : Type 0} → Result T Halted → Bool
+is_quiet (Ok x) = false
+is_quiet (Err halted) = halted.quiet
+
 abbrev pub IsQuiet : {T : Type 0} → Result T Halted → Type 0
-IsQuiet (Ok x) = ⊥
-IsQuiet (Err halted) = halted.quiet ≡ true
+IsQuiet result = is_quiet result ≡ true
+
+-- it may not where a sink failed, and only there
+abbrev pub Silenced : (quiet : Bool) → (old new : Faults) → Type 0
+Silenced true old new = SinksRose old new
+Silenced false old new = (new.out ≡ old.out) × (new.trace ≡ old.trace)
 
 -- when each stop comes: only where that count rose; those of the sinks may have risen behind a stop by a block or for want
 -- of memory

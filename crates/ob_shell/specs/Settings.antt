@@ -1,5 +1,5 @@
 -- The settings of a run that the words of its command line spell.
-use Rattle.std.specs.Prelude.{ℕ, ◌≡◌, ◌≤◌, ◌+◌, ◌*◌, nat_le, Bool, List, Option, Some, None, IsSome, option_map, codes, bytes_eq, if◌then◌else◌}
+use Rattle.std.specs.Prelude.{ℕ, ◌≡◌, ◌≤◌, ◌+◌, ◌*◌, ◌&&◌, nat_le, Bool, true, false, List, Option, Some, None, IsSome, option_map, codes, bytes_eq, if◌then◌else◌}
 use Rattle.clap.specs.Words.{App, Text}
 use Rattle.ob_base.specs.Publics.{first_public}
 use Rattle.ob_base.specs.declared.config.Config.{Config}
@@ -39,37 +39,55 @@ abbrev pub plan_in : Option Text → Option (Option Plan)
 plan_in None = Some None
 plan_in (Some name) = plan_named name
 
+-- the rows to which results are padded, from 1 to 1,048,576; none where none are given
+abbrev pub pad_in : Option Text → Option (Option ℕ)
+pad_in None = Some None
+pad_in (Some text) = option_map Some (at_least 1 (number 1048576 text))
+
 -- ---- settings
 
--- settings whose buffer holds three blocks and one row
-abbrev pub fitted : (buffer depth : ℕ) → Option Plan → (pack max_input : ℕ) → Option Config
-fitted buffer depth plan pack max_input =
-    if nat_le (3 * pack + 1) buffer
+-- where results are padded, neither Continuous nor Hash is forced
+abbrev pub may_pad : (pad : Option ℕ) → Option Plan → Bool
+may_pad None plan = true
+may_pad (Some rows) None = true
+may_pad (Some rows) (Some Small) = true
+may_pad (Some rows) (Some Large) = true
+may_pad (Some rows) (Some Continuous) = false
+may_pad (Some rows) (Some Hash) = false
+
+-- settings whose buffer holds three blocks and one row, and whose plan may be padded
+abbrev pub fitted : (buffer depth : ℕ) → Option Plan → (pack : ℕ) → (pad : Option ℕ)
+    → (max_input : ℕ) → Option Config
+fitted buffer depth plan pack pad max_input =
+    if nat_le (3 * pack + 1) buffer && may_pad pad plan
     then Some (record {
       buffer = buffer;
       depth = depth;
       pack = pack;
       plan = plan;
+      pad = pad;
       max_input = max_input;
     })
     else None
 
 -- settings of which each value has its form and its range
-abbrev pub joined : (buffer depth : Option ℕ) → Option (Option Plan) → (pack max_input : Option ℕ)
-    → Option Config
-joined None depth plan pack max_input = None
-joined (Some buffer) None plan pack max_input = None
-joined (Some buffer) (Some depth) None pack max_input = None
-joined (Some buffer) (Some depth) (Some plan) None max_input = None
-joined (Some buffer) (Some depth) (Some plan) (Some pack) None = None
-joined (Some buffer) (Some depth) (Some plan) (Some pack) (Some max_input) =
-    fitted buffer depth plan pack max_input
+abbrev pub joined : (buffer depth : Option ℕ) → Option (Option Plan) → (pack : Option ℕ)
+    → (pad : Option (Option ℕ)) → (max_input : Option ℕ) → Option Config
+joined None depth plan pack pad max_input = None
+joined (Some buffer) None plan pack pad max_input = None
+joined (Some buffer) (Some depth) None pack pad max_input = None
+joined (Some buffer) (Some depth) (Some plan) None pad max_input = None
+joined (Some buffer) (Some depth) (Some plan) (Some pack) None max_input = None
+joined (Some buffer) (Some depth) (Some plan) (Some pack) (Some pad) None = None
+joined (Some buffer) (Some depth) (Some plan) (Some pack) (Some pad) (Some max_input) =
+    fitted buffer depth plan pack pad max_input
 
 -- the settings that these values spell, each under its name
 abbrev pub settings_by : (Text → Option Text) → Option Config
 settings_by value =
     joined (number_in 4 65536 64 (value (codes "buffer"))) (number_in 1 8 5 (value (codes "depth")))
     (plan_in (value (codes "plan"))) (number_in 1 16 1 (value (codes "pack")))
+    (pad_in (value (codes "pad")))
     (number_in 1024 1073741824 1073741824 (value (codes "max-input")))
 
 -- the settings that the words spell, none where a value has not its form or not its range

@@ -1,5 +1,5 @@
 -- What a whole run promises, by its words and the bytes that its source gave.
-use Rattle.std.specs.Prelude.{ℕ, ◌≡◌, ◌+◌, ◌≤◌, ◌⊎◌, min, Bool, true, false, List, [], ◌∷◌, ◌++◌, length, IsTrue, Option, Some, None, IsSome, Result, Ok, Err}
+use Rattle.std.specs.Prelude.{ℕ, ◌≡◌, ◌≢◌, ◌+◌, ◌≤◌, ◌⊎◌, min, Bool, true, false, List, [], ◌∷◌, ◌++◌, length, IsTrue, Option, Some, None, IsSome, Result, Ok, Err}
 use Rattle.std.specs.List.{list_any}
 use Rattle.std.specs.Option.{option_map_or}
 use Rattle.std.specs.Io.KnownBytes.{Consumes, IsAtEnd}
@@ -219,6 +219,8 @@ pub record Reported (tally : Tally) (tr : TraceSink) (Takes : Type 0) (settings 
   pub takes : EndingWords ending Takes
   pub shown : Shown tally tr settings left0 left1 gave written0 written1 store0 store1 report.high ending
       (last_line ending) (SinksRose old new)
+  pub silent : new.trace ≢ old.trace
+      → Cut written0 written1 (Unit {0}) (printed shown.answers ++ shown.part)
   pub cause : StatusCause ending old new
   pub completes : Takes → (input : List ℕ) → left0 ≡ Some input
       → KeepsLimits (limit_of settings) input

@@ -193,7 +193,7 @@ Says (Some r) p stmt answer = answer ≡ refused_as r
 pub record WantsMemory (p : Public) (stmt : Stmt) (seen : Seen) : Type 0 where
   pub rest : List Access
   pub split : script p (skeleton stmt) seen ++ rest ≡ whole_script p (skeleton stmt) seen
-  pub place : AtMake (script p (skeleton stmt) seen) rest ⊎ AtEmission stmt seen rest
+  pub place : AtMake (script p (skeleton stmt) seen) rest ⊎ AtEmission p stmt seen rest
 
 -- of each statement its skeleton and what is seen of it, which is lawful by what is public before it and m accesses;
 -- its answer is its early refusal, if there is one, says that the store failed exactly where it was cut off, and has the

@@ -1,13 +1,14 @@
 //! What follows of whole runs, and how bytes are cut into texts.
-ghost use Rattle.std.specs.Prelude.{◌≡◌, ◌++◌, List, [], ℕ, false};
+ghost use Rattle.std.specs.Prelude.{◌≡◌, ◌++◌, List, [], ℕ, IsSome, false};
 ghost use Rattle.clap.specs.Words.{Text};
 ghost use Rattle.ob_base.specs.declared.config.Public.{Public};
 ghost use Rattle.ob_base.specs.declared.seen.Seen.{Seen};
 ghost use Rattle.ob_exec.specs.Running.{refusal_now};
-ghost use Rattle.ob_mean.specs.Lawful.{Lawful, is_counted};
+ghost use Rattle.ob_mean.specs.Lawful.{Lawful};
 ghost use Rattle.ob_shell.specs.Failures.{failures};
 ghost use Rattle.ob_shell.specs.Pieces.{BeginsWith};
-ghost use Rattle.ob_shell.specs.Reruns.{Alike, EndsWell, ShellRun, ShowAlike, plainly, statements};
+ghost use Rattle.ob_shell.specs.Reruns.{Alike, EndsWell, IsPlain, ShellRun, ShowAlike};
+ghost use Rattle.ob_shell.specs.Reruns.{any_counted, plainly, statements};
 ghost use Rattle.ob_shell.specs.Settings.{settings_of};
 ghost use Rattle.ob_shell.specs.Texts.{is_over, rest_of, texts_of};
 ghost use Rattle.ob_shell.specs.Usage.{usage};
@@ -24,11 +25,12 @@ pub fn texts_are_pieces()
         → BeginsWith bytes (texts_of [] bytes) (rest_of [] bytes) (cut bytes) }
 {}
 
-/// Of a statement that is no SELECT of rows, and was not cut off, nothing is seen but whether it was refused before any
-/// access: of CREATE, INSERT, UPDATE, DELETE, DROP and SELECT of totals no row and no literal has a part in it.
+/// Of a statement that was not cut off, and is no SELECT of rows or has its result padded, nothing is seen but whether it
+/// was refused before any access: of CREATE, INSERT, UPDATE, DELETE, DROP and SELECT of totals no row and no literal has a
+/// part in it, and of a padded SELECT of rows neither has the number of rows selected.
 pub fn shows_its_refusal_alone()
     ensures { (p : Public) (m : ℕ) (stmt : Stmt) (here : Seen) → Lawful p m stmt here
-        → is_counted stmt ≡ false → is_cut here.end ≡ false → here ≡ plainly p m stmt }
+        → IsPlain p stmt → is_cut here.end ≡ false → here ≡ plainly p m stmt }
 {}
 
 /// Two runs of the program with the same settings, over any stores, that came to their end, and of which no text was
@@ -41,6 +43,22 @@ pub fn reruns_ask_the_same()
         → settings_of usage words ≡ settings_of usage words_too
         → EndsWell report.status (failures a.answers)
         → EndsWell report_too.status (failures b.answers)
+        → any_counted (statements a.spelt) ≡ false
+        → Alike (public_with (settings_of usage words)) 0 (statements a.spelt) (statements b.spelt)
+        → new.store.asked ≡ new_too.store.asked }
+{}
+
+/// Two runs of the program with the same settings, among them `--pad`, over any stores, that came to their end, and of
+/// which no text was answered that the store failed, ask the same, whatever their literals and their rows and however
+/// many rows are selected: if their skeletons are the same, and the same ones are refused before any access.
+pub fn padded_reruns_ask_the_same()
+    ensures { (words words_too : List Text) (old new old_too new_too : Outside)
+        (report report_too : Report)
+        (a : ShellRun words old new report) (b : ShellRun words_too old_too new_too report_too)
+        → settings_of usage words ≡ settings_of usage words_too
+        → EndsWell report.status (failures a.answers)
+        → EndsWell report_too.status (failures b.answers)
+        → IsSome (public_with (settings_of usage words)).pad
         → Alike (public_with (settings_of usage words)) 0 (statements a.spelt) (statements b.spelt)
         → new.store.asked ≡ new_too.store.asked }
 {}

@@ -14,7 +14,8 @@ mod words;
 pub use feed::{Feed, Halt};
 pub use key::{FirstLine, read_key};
 pub use laws::{
-    reruns_ask_the_same, reruns_show_the_same, shows_its_refusal_alone, texts_are_pieces,
+    padded_reruns_ask_the_same, reruns_ask_the_same, reruns_show_the_same, shows_its_refusal_alone,
+    texts_are_pieces,
 };
 pub use pending::{Grown, Pending, PushStop};
 pub use session::{Halted, serve};

@@ -4,11 +4,11 @@ ghost use Rattle.ob_base.specs.declared.access.Access.{Access};
 ghost use Rattle.ob_shell.specs.Texts.{text_max, is_over, rest_after, texts_at, tail_text};
 ghost use Rattle.ob_shell.specs.Steps.{machine_of, IsReady, HasBody, AnswersAll, StopsIn};
 ghost use Rattle.ob_shell.specs.Feeding.{IsFedBy};
-ghost use Rattle.ob_shell.specs.Running.{StopCause, SessionRan, IsQuiet, stop_of};
+ghost use Rattle.ob_shell.specs.Running.{IsQuiet, SessionRan, Silenced, StopCause, is_quiet, stop_of};
 ghost use Rattle.ob_shell.specs.Tracing.{TracedAll, Traced};
 ghost use Rattle.ob_shell.specs.Closing;
 ghost use Rattle.ob_shell.specs.Tallies;
-ghost use Rattle.ob_shell.specs.Words.{Spells, faults_of, SinksRose};
+ghost use Rattle.ob_shell.specs.Words.{Spells, faults_of};
 ghost use Rattle.ob_shell.specs.Endings.{SinkFailed};
 
 use crate::feed::{Feed, Halt};
@@ -114,7 +114,7 @@ fn run_stmt<R: Revisions, S: BlockStore, K: Sink>(
         ≡ (S.state store.old).asked ++ seen) }
     ensures cause { StopCause (faults_of 0 (K.faults printer.old.out.out.now) 0)
         (faults_of 0 (K.faults printer.new.out.out.now) 0) (stop_of result) }
-    ensures quiet { IsQuiet result → SinksRose (faults_of 0 (K.faults printer.old.out.out.now) 0)
+    ensures quiet { Silenced (is_quiet result) (faults_of 0 (K.faults printer.old.out.out.now) 0)
         (faults_of 0 (K.faults printer.new.out.out.now) 0) }
     ensures limit { stop_of result ≡ Err Stop.InputLimit → ⊥ }
     ensures source { stop_of result ≡ Err Stop.SourceFault → ⊥ }
@@ -127,11 +127,13 @@ fn run_stmt<R: Revisions, S: BlockStore, K: Sink>(
             }),
             Err(Failed) => Err(SINK_FAILED),
         },
-        Err(Stop::SinkFault) => Err(SINK_FAILED),
-        Err(stop) => {
-            let quiet = printer.out.flush().is_err();
-            Err(Halted { stop, quiet })
-        }
+        Err(stop) => match stop {
+            Stop::SinkFault => Err(SINK_FAILED),
+            _ => {
+                let quiet = printer.out.flush().is_err();
+                Err(Halted { stop, quiet })
+            }
+        },
     }
 }
 
@@ -156,7 +158,7 @@ fn run_text<R: Revisions, S: BlockStore, K: Sink>(
         ≡ (S.state store.old).asked ++ seen) }
     ensures cause { StopCause (faults_of 0 (K.faults out.old) 0) (faults_of 0 (K.faults out.new) 0)
         (stop_of result) }
-    ensures quiet { IsQuiet result → SinksRose (faults_of 0 (K.faults out.old) 0)
+    ensures quiet { Silenced (is_quiet result) (faults_of 0 (K.faults out.old) 0)
         (faults_of 0 (K.faults out.new) 0) }
     ensures limit { stop_of result ≡ Err Stop.InputLimit → ⊥ }
     ensures source { stop_of result ≡ Err Stop.SourceFault → ⊥ }
@@ -207,7 +209,7 @@ fn answer<R: Revisions, S: BlockStore, K: Sink>(
         ≡ (S.state store.old).asked ++ seen) }
     ensures cause { StopCause (faults_of 0 (K.faults out.old) 0) (faults_of 0 (K.faults out.new) 0)
         (stop_of result) }
-    ensures quiet { IsQuiet result → SinksRose (faults_of 0 (K.faults out.old) 0)
+    ensures quiet { Silenced (is_quiet result) (faults_of 0 (K.faults out.old) 0)
         (faults_of 0 (K.faults out.new) 0) }
     ensures limit { stop_of result ≡ Err Stop.InputLimit → ⊥ }
     ensures source { stop_of result ≡ Err Stop.SourceFault → ⊥ }
@@ -247,7 +249,8 @@ fn answer_traced<R: Revisions, S: BlockStore, K: Sink, T: Sink>(
         (S.state store.new).asked (T.written trace.old) (T.written trace.new) (IsQuiet result)) }
     ensures cause { StopCause (faults_of 0 (K.faults out.old) (T.faults trace.old))
         (faults_of 0 (K.faults out.new) (T.faults trace.new)) (stop_of result) }
-    ensures quiet { IsQuiet result → SinksRose (faults_of 0 (K.faults out.old) (T.faults trace.old))
+    ensures quiet { Silenced (is_quiet result)
+        (faults_of 0 (K.faults out.old) (T.faults trace.old))
         (faults_of 0 (K.faults out.new) (T.faults trace.new)) }
     ensures limit { stop_of result ≡ Err Stop.InputLimit → ⊥ }
     ensures source { stop_of result ≡ Err Stop.SourceFault → ⊥ }
@@ -294,7 +297,8 @@ fn turn<R: Revisions, S: BlockStore, K: Sink, T: Sink>(
         (S.state store.new).asked (T.written trace.old) (T.written trace.new) (IsQuiet result)) }
     ensures cause { StopCause (faults_of 0 (K.faults out.old) (T.faults trace.old))
         (faults_of 0 (K.faults out.new) (T.faults trace.new)) (stop_of result) }
-    ensures quiet { IsQuiet result → SinksRose (faults_of 0 (K.faults out.old) (T.faults trace.old))
+    ensures quiet { Silenced (is_quiet result)
+        (faults_of 0 (K.faults out.old) (T.faults trace.old))
         (faults_of 0 (K.faults out.new) (T.faults trace.new)) }
     ensures limit { stop_of result ≡ Err Stop.InputLimit →
         (texts_at session.old.pending b ≡ []) × (is_over (rest_after session.old.pending b) ≡ true)
@@ -359,7 +363,8 @@ fn finish<R: Revisions, S: BlockStore, K: Sink, T: Sink>(
         (S.state store.new).asked (T.written trace.old) (T.written trace.new) (IsQuiet result)) }
     ensures cause { StopCause (faults_of 0 (K.faults out.old) (T.faults trace.old))
         (faults_of 0 (K.faults out.new) (T.faults trace.new)) (stop_of result) }
-    ensures quiet { IsQuiet result → SinksRose (faults_of 0 (K.faults out.old) (T.faults trace.old))
+    ensures quiet { Silenced (is_quiet result)
+        (faults_of 0 (K.faults out.old) (T.faults trace.old))
         (faults_of 0 (K.faults out.new) (T.faults trace.new)) }
     ensures limit { stop_of result ≡ Err Stop.InputLimit → ⊥ }
     ensures source { stop_of result ≡ Err Stop.SourceFault → ⊥ }
@@ -404,7 +409,7 @@ pub fn serve<I: Source, R: Revisions, S: BlockStore, K: Sink, T: Sink>(
     ensures cause { StopCause
         (faults_of (I.faults input.old) (K.faults out.old) (T.faults trace.old))
         (faults_of (I.faults input.new) (K.faults out.new) (T.faults trace.new)) (stop_of result) }
-    ensures quiet { IsQuiet result → SinksRose
+    ensures quiet { Silenced (is_quiet result)
         (faults_of (I.faults input.old) (K.faults out.old) (T.faults trace.old))
         (faults_of (I.faults input.new) (K.faults out.new) (T.faults trace.new)) }
 {

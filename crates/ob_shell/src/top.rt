@@ -9,7 +9,7 @@ ghost use Rattle.ob_shell.specs.Generating.{MeddleRan, Summarized, asked_for};
 ghost use Rattle.ob_shell.specs.declared.words.Seed.{Seed};
 ghost use Rattle.ob_shell.specs.Feeding.{IsFedBy};
 ghost use Rattle.ob_shell.specs.KeyLine.{secret_of};
-ghost use Rattle.ob_shell.specs.Running.{IsQuiet, stop_of, StopCause};
+ghost use Rattle.ob_shell.specs.Running.{IsQuiet, Silenced, StopCause, is_quiet, stop_of};
 ghost use Rattle.ob_meddle.specs.Shows.{state_of};
 ghost use Rattle.ob_gen.specs.Tally.{empty_tally};
 ghost use Rattle.ob_gen.specs.declared.tally.Tally.{Tally};
@@ -109,8 +109,7 @@ fn ended_at(ending: Ending) -> Ended
 fn ended_with(ran: Result<Tally, Halted>, high: u64) -> Ended
     ensures ending { result.ending ≡ Ending.Ran (flagged (stop_of ran)) }
     ensures tally { IfOk (stop_of ran) (λ tally. result.tally ≡ tally) }
-    ensures quiet { result.quiet ≡ true → IsQuiet ran }
-    ensures loud { IsQuiet ran → result.quiet ≡ true }
+    ensures quiet { result.quiet ≡ is_quiet ran }
     ensures high { result.high ≡ high }
 {
     match ran {
@@ -158,7 +157,7 @@ fn serve_with<I: Source, O: Sink, T: Sink, S: BlockStore>(
         (faults_of (I.faults input.old) (O.faults out.old) (T.faults trace.old))
         (faults_of (I.faults input.new) (O.faults out.new) (T.faults trace.new))
         (stop_of result.0) }
-    ensures quiet { IsQuiet result.0 → SinksRose
+    ensures quiet { Silenced (is_quiet result.0)
         (faults_of (I.faults input.old) (O.faults out.old) (T.faults trace.old))
         (faults_of (I.faults input.new) (O.faults out.new) (T.faults trace.new)) }
 {
@@ -206,7 +205,7 @@ pub(crate) fn run<I: Source, O: Sink, T: Sink, S: BlockStore>(
     ensures cause { EndingCause result.ending
         (faults_of (I.faults input.old) (O.faults out.old) (T.faults trace.old))
         (faults_of (I.faults input.new) (O.faults out.new) (T.faults trace.new)) }
-    ensures quiet { result.quiet ≡ true → SinksRose
+    ensures quiet { Silenced result.quiet
         (faults_of (I.faults input.old) (O.faults out.old) (T.faults trace.old))
         (faults_of (I.faults input.new) (O.faults out.new) (T.faults trace.new)) }
 {

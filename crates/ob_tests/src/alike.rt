@@ -1,20 +1,21 @@
 //! A caller outside: what follows for two sessions from what is promised of each.
-ghost use Rattle.std.specs.Prelude.{◌≡◌, [], None, map, string_bytes};
+ghost use Rattle.std.specs.Prelude.{◌≡◌, ◌⊎◌, [], IsSome, None, false, map, string_bytes};
 ghost use Rattle.ob_shell.specs.Failures.{failures};
 ghost use Rattle.ob_shell.specs.Generating.{asked_for};
-ghost use Rattle.ob_shell.specs.Reruns.{Alike, EndsWell, ShellRun, statements};
+ghost use Rattle.ob_shell.specs.Reruns.{Alike, EndsWell, ShellRun, any_counted, statements};
 ghost use Rattle.ob_shell.specs.Settings.{settings_of};
 ghost use Rattle.ob_shell.specs.Usage.{usage};
 ghost use Rattle.ob_shell.specs.Words.{faults_of, outside_of, public_with};
 
 use ob_io::{Sink, Source};
-use ob_shell::{Report, reruns_ask_the_same, shell_top};
+use ob_shell::{Report, padded_reruns_ask_the_same, reruns_ask_the_same, shell_top};
 use ob_store::BlockStore;
 use std::alloc::Global;
 
 /// Serves two inputs with the same words, each over a store of its own. Where the words have the input read, both came to
 /// their end and no text was answered that a store failed, and the statements that they spell differ in their literals
-/// alone and have the same early refusals, none of them a SELECT of rows, both sessions asked the same of their stores.
+/// alone and have the same early refusals, both sessions asked the same of their stores, if none of the statements is a
+/// SELECT of rows or the words have `--pad`.
 pub fn sessions_ask_the_same<I: Source, O: Sink, T: Sink, S: BlockStore>(
     alloc: Global,
     words: &[String],
@@ -47,11 +48,14 @@ pub fn sessions_ask_the_same<I: Source, O: Sink, T: Sink, S: BlockStore>(
         result.1)
         × (EndsWell result.0.status (failures a.answers)
         → EndsWell result.1.status (failures b.answers)
+        → (any_counted (statements a.spelt) ≡ false)
+        ⊎ IsSome (public_with (settings_of usage (map string_bytes words.now))).pad
         → Alike (public_with (settings_of usage (map string_bytes words.now))) 0
         (statements a.spelt) (statements b.spelt)
         → (S.state store.new).asked ≡ (S.state store_too.new).asked) }
 {
     reruns_ask_the_same();
+    padded_reruns_ask_the_same();
     let first = shell_top(alloc, words, input, out, trace, store);
     let second = shell_top(alloc, words, input_too, out_too, trace_too, store_too);
     (first, second)

@@ -1,5 +1,6 @@
 use Rattle.std.proofs.Common.{ap}
 use Rattle.ob_gen.specs.Generated.{GeneratedState}
+use Rattle.ob_shell.proofs.CountLemmas.{silenced_kept, silenced_rose}
 use Rattle.ob_shell.proofs.GeneratingLemmas.{ran_generated, concludes_at, concludes_by, trace_rose, traced_by_fault}
 use Rattle.ob_shell.proofs.TopLemmas.{takes_of}
 use Rattle.ob_shell.proofs.generating.serve_generated.Goals as goal
@@ -10,9 +11,11 @@ returns g c =
     let ended = c.run-ended.result in
     let trace0 = g.T.Sink.faults c.args.trace.now in
     let trace1 = g.T.Sink.faults c.run-ended.new.trace in
+    let rose = silenced_rose ended.quiet _ _ run.quiet in
     let asked = (g.S.BlockStore.state c.run-ended.new.store).asked in
     let report = c.conclude.result in
     ran_generated c.args.seed c.run-ended.new.input.left ended.ending ended.high trace0 trace1 _ _ report (takes_of ended.ending run.words tt)
-    (rw (ap (λ (s : GeneratedState). s.left) c.new-input.ensures) at run.shown) run.cause (traced_by_fault run.quiet run.traced)
+    (rw (ap (λ (s : GeneratedState). s.left) c.new-input.ensures) at run.shown) run.cause (traced_by_fault rose run.traced)
     (concludes_at ended.high c.conclude.ensures.high
-    (concludes_by ended.tally asked _ _ trace0 trace1 _ _ report ended.ending ended.quiet c.conclude.ensures.concluded (λ quiet. trace_rose trace0 trace1 (run.quiet quiet))))
+    (concludes_by ended.tally asked _ _ trace0 trace1 _ _ report ended.ending ended.quiet c.conclude.ensures.concluded (λ quiet. trace_rose trace0 trace1 (rose quiet))
+    (silenced_kept ended.quiet _ _ run.quiet) run.cause))

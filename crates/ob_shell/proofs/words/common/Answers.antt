@@ -21,7 +21,10 @@ returns c =
     let five : App = with_rule four (valued (codes "pack")) in
     let fifth : app_of c.in_ok-arg-5.field-0 ≡ five =
     c.in_ok-arg-5.ensures.shape c.valued-4.ensures.local ∙ ap₂ with_rule fourth c.valued-4.ensures.rule in
-    let six : App = with_rule five (valued (codes "max-input")) in
+    let six : App = with_rule five (valued (codes "pad")) in
     let sixth : app_of c.in_ok-arg-6.field-0 ≡ six =
     c.in_ok-arg-6.ensures.shape c.valued-5.ensures.local ∙ ap₂ with_rule fifth c.valued-5.ensures.rule in
-    adds_last c.arg-7.result _ _ _ c.valued-6.ensures.local (ap₂ with_rule sixth c.valued-6.ensures.rule) c.arg-7.ensures
+    let seven : App = with_rule six (valued (codes "max-input")) in
+    let seventh : app_of c.in_ok-arg-7.field-0 ≡ seven =
+    c.in_ok-arg-7.ensures.shape c.valued-6.ensures.local ∙ ap₂ with_rule sixth c.valued-6.ensures.rule in
+    adds_last c.arg-8.result _ _ _ c.valued-7.ensures.local (ap₂ with_rule seventh c.valued-7.ensures.rule) c.arg-8.ensures

@@ -1,4 +1,4 @@
-use Rattle.std.proofs.Common.{refl}
+use Rattle.std.proofs.Common.{refl, inl, inr}
 use Rattle.ob_tests.proofs.alike.sessions_ask_the_same.Goals as goal
 
 pub returns : goal.returns
@@ -7,5 +7,8 @@ returns g c read =
     let second = c.shell_top-second.ensures.headline read in (
       first,
       second,
-      λ well well_too alike. c.reruns_ask_the_same.ensures _ _ _ _ _ _ _ _ first second refl well well_too alike,
+      λ well well_too plain alike. elim plain [
+        | inl none ↦ c.reruns_ask_the_same.ensures _ _ _ _ _ _ _ _ first second refl well well_too none alike
+        | inr padded ↦ c.padded_reruns_ask_the_same.ensures _ _ _ _ _ _ _ _ first second refl well well_too padded alike
+      ],
     )
