@@ -1,6 +1,6 @@
 #!/bin/sh
 # Times accesses of an index beside the bare seals and unseals of the same blocks, and prints their ratio beside the limit
-# that it has: the processor's time (bench/driven.py), the least of seven rounds, with the quartiles of the rounds' ratios.
+# that it has: the processor's time (bench/driven.py), the least of 15 rounds, with the quartiles of the rounds' ratios.
 # Then does a million drawn operations beside a map, each answer compared. Last, for indexes with a row at each key, it
 # prints how many accesses of drawn keys go through before one finds a stash of 1, 2, 3 slots and so on full, up to the
 # least stash at which all do. Ends with 1 where a ratio is over the limit.
@@ -20,7 +20,7 @@ index, bare = (Passes(f"{top}/crates/{name}/out/{name}") for name in ("ob_oram_b
 LIMIT, SEED = 1.5, 1
 
 # ---- an access beside the seals and unseals of its blocks: it reads and writes the stash and a path of buckets of four
-KEYS, SLOTS, COUNT, ROUNDS = 65536, 32, 5000, 7
+KEYS, SLOTS, COUNT, ROUNDS = 65536, 32, 1000, 15
 BLOCKS = SLOTS + 4 * ((KEYS - 1).bit_length() + 1)
 over_limit = 0
 
