@@ -50,8 +50,8 @@ impl<R: Revisions> Engine<R> {
     pub fn start(alloc: Global, config: Config, keys: Keys) -> Result<Engine<R>, NoMemory>
         requires { IsConfig config }
         ensures agrees { IfOk result (λ e. (s : StoreState) → s.asked ≡ [] → Agrees R.state e s) }
-        ensures public { IfOk result (λ e.
-            public_of e ≡ first_public config.buffer config.depth config.pack config.plan config.pad) }
+        ensures public { IfOk result (λ e. public_of e
+            ≡ first_public config.buffer config.depth config.pack config.plan config.pad) }
         ensures keyed { IfOk result (λ e. engine_keys e ≡ keys) }
         ensures alive { IfOk result (λ e. has_ended e ≡ false) }
         ensures none_open { IfOk result (λ e. high_of e ≡ 0) }
