@@ -59,7 +59,7 @@ update_alters p m name sets cond heading pred cells pred_is cells_is = record {
   tables = refl;
   answers = λ n. record { whole = λ k. refl; own = refl };
   silent = λ n. tt;
-  whole = λ tables. refl;
+  plain = refl;
   meant = λ tables x early found size is.
       let stmt = Update name sets cond in
       let none : refusal p m tables stmt ≡ None = refused_late p m tables stmt early in
@@ -85,7 +85,7 @@ delete_alters p m name cond heading pred pred_is = record {
   tables = refl;
   answers = λ n. record { whole = λ k. refl; own = refl };
   silent = λ n. tt;
-  whole = λ tables. refl;
+  plain = refl;
   meant = λ tables x early found size is.
       let stmt = Delete name cond in
       let none : refusal p m tables stmt ≡ None = refused_late p m tables stmt early in

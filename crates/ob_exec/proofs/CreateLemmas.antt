@@ -176,7 +176,7 @@ module _ {R : Type 0} (state : R → RevState) (old : Engine R) (s s1 : StoreSta
       (ap (λ (c : Columns). old.public.tables ++ record { heading = record { name = table; schema = c; capacity = capacity }; region = old.public.next_region } ∷ []) schema_is)
       (tables_added old.public.pack old.vault.next old.public.tables new_table _ _ all.lasts agrees.ready refl agrees.tables agrees.next is_table
       (λ i u is same. unnamed i u (record { get = is; named = same })) (λ q. cases_eq q old.vault.next)) in
-      finished state stmt old s agrees now (λ tables. refl) v room t (old.public.tables ++ new_table ∷ []) Created answered tt ran
+      finished state stmt old s agrees now refl v room t (old.public.tables ++ new_table ∷ []) Created answered tt ran
       (keeps_pass state old s s1 rests agrees (engine_after old v room (old.public.tables ++ new_table ∷ []) Whole old.ended) t done refl (λ good accepts. seals.seals good (accepts _ _)))
       (λ tables reads.
       let none = no_refusal tables reads.held in
@@ -207,7 +207,7 @@ module _ {R : Type 0} (state : R → RevState) (old : Engine R) (s s1 : StoreSta
       → ServesSilently state (CreateStmt table columns capacity) result old s new t
   not_created e n new result creates count answered is =
       serves_as state (CreateStmt table columns capacity) old s t _ _ _ _ answered is
-      (cut_off state (CreateStmt table columns capacity) old s agrees now (λ tables. refl) s1 v room t rests room_is part _ _ _ n e script_is refl creates.ran.err count creates.makes.gone
+      (cut_off state (CreateStmt table columns capacity) old s agrees now refl s1 v room t rests room_is part _ _ _ n e script_is refl creates.ran.err count creates.makes.gone
       (λ is. creates.memory.began (ap (λ (z : OpErr). Err z) is)) (silent_fault e creates.never) (λ tables reads. fault_made e creates.never)
       (λ good accepts. creates.makes.seals.seals good (accepts _ _)))
 

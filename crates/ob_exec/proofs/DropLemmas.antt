@@ -215,7 +215,7 @@ module _ {R : Type 0} (state : R → RevState) (old : Engine R) (s s1 : StoreSta
       (script_is Whole) removed
       (tables_removed old.public.pack r old.public.tables table i _ _ all.lasts agrees.tables here.get refl (λ shape live. absurd (cc (live, gone)))) in
       serves_as state stmt old s t _ _ _ _ answered is
-      (finished state stmt old s agrees now (λ tables. refl) v old.room t (remove old.public.tables i) Dropped is_answered tt ran
+      (finished state stmt old s agrees now refl v old.room t (remove old.public.tables i) Dropped is_answered tt ran
       (keeps_pass state old s s1 rests agrees (engine_after old v old.room (remove old.public.tables i) Whole old.ended) t (at state v t) refl (λ good accepts. discards.seals.seals good))
       (λ tables reads.
       let early = early_held old.public (length s.asked) stmt tables (world_of state old s) None reads.held.held now in

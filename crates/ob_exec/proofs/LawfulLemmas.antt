@@ -1,5 +1,5 @@
 -- What is seen of a statement is lawful, whatever the store does.
-use Rattle.std.proofs.Common.{◌≡◌, ◌-◌, ◌≤◌, ℕ, false, List, ◌++◌, length, take, Option, Some, None, Result, Ok, Err, refl, sym, ◌∙◌, ap, subst, arith}
+use Rattle.std.proofs.Common.{◌≡◌, inl, ◌-◌, ◌≤◌, ℕ, false, List, ◌++◌, length, take, Option, Some, None, Result, Ok, Err, refl, sym, ◌∙◌, ap, subst, arith}
 use Rattle.std.specs.Prelude.{IsSome}
 use Rattle.std.proofs.lemmas.List.{length-append, length-take}
 use Rattle.ob_base.specs.declared.access.Access.{Access}
@@ -73,18 +73,18 @@ static_as None result now early = (λ is. absurd (early is), λ some. absurd (cc
 static_as (Some r) result now early = (λ is. refl, λ some. ap (λ (x : Seen). x.end) early.1)
 
 -- nothing is held
-held_nothing : (stmt : Stmt) (end : End) → is_counted stmt ≡ false → (end ≡ AfterCount → ⊥) → EndsUncounted stmt end
-held_nothing stmt Static uncounted after = tt
-held_nothing stmt Whole uncounted after = uncounted
-held_nothing stmt AfterCount uncounted after = after refl
-held_nothing stmt (Cut n) uncounted after = tt
+held_nothing : (p : Public) (stmt : Stmt) (end : End) → is_counted stmt ≡ false → (end ≡ AfterCount → ⊥) → EndsUncounted p stmt end
+held_nothing p stmt Static uncounted after = tt
+held_nothing p stmt Whole uncounted after = inl uncounted
+held_nothing p stmt AfterCount uncounted after = after refl
+held_nothing p stmt (Cut n) uncounted after = tt
 
 plain : (p : Public) (m : ℕ) (stmt : Stmt) (result : Result Outcome Stop) (end : End) (before after : List Access) → is_counted stmt ≡ false → (end ≡ AfterCount → ⊥)
     → RefusedEarly (refusal_now p m stmt) result (ended end) → after ≡ before ++ script p (skeleton stmt) (ended end) → end ≡ result_end result (length after - length before)
     → Lawful p m stmt (ended end)
 plain p m stmt result end before after uncounted whole early asked ends = record {
   static = static_as (refusal_now p m stmt) result (ended end) early;
-  holds = held_nothing stmt end uncounted whole;
+  holds = held_nothing p stmt end uncounted whole;
   cut = within p (skeleton stmt) result end before after asked ends;
 }
 

@@ -25,6 +25,7 @@ pub mod ResultReads
 pub mod ResultMade
 pub mod ResultRows
 pub mod ResultSteps
+pub mod ResultPadded
 pub mod PlaceLemmas
 pub mod RowsLawful
 pub mod RowsRun
@@ -41,6 +42,7 @@ pub mod SelectFirst
 pub mod SelectHeld
 pub mod SelectSecond
 pub mod SelectEnds
+pub mod SelectPadded
 pub mod RowsLength
 pub mod RowsNothing
 pub mod RowsTable

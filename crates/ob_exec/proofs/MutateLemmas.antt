@@ -36,7 +36,8 @@ use Rattle.ob_sql.specs.declared.stmt.Stmt.{Stmt}
 use Rattle.ob_sql.specs.Skeleton.{skeleton}
 use Rattle.ob_mean.specs.Refusals.{early_refusal}
 use Rattle.ob_mean.specs.Settle.{settle}
-use Rattle.ob_mean.specs.Verdict.{Tables, is_late, verdict, seen_started, ended as seen_to}
+use Rattle.ob_mean.specs.Lawful.{is_counted}
+use Rattle.ob_mean.specs.Verdict.{Tables, is_late, verdict, ended as seen_to}
 use Rattle.ob_exec.specs.declared.engine.Engine.{Engine}
 use Rattle.ob_exec.specs.declared.outcome.Outcome.{Outcome}
 use Rattle.ob_exec.specs.Engines.{IsAt, IsTable, AreTables, flat_of}
@@ -67,7 +68,7 @@ pub record Alters {T : Type 0} (p : Public) (m : ℕ) (stmt : Stmt) (name : List
   pub tables : tables_after p (skeleton stmt) ≡ moved name p.next_region p.tables
   pub answers : (x : T) → IsAnswered (outcome x)
   pub silent : (x : T) → HasNoRows (outcome x)
-  pub whole : (tables : Tables) → seen_started p tables stmt ≡ seen_to Whole
+  pub plain : is_counted stmt ≡ false
   pub meant : (tables : Tables) (x : Stored Slots) → early_refusal (is_late m) p.pack p.buffer (headings tables) stmt ≡ None → stored_at name tables ≡ Some x
       → length x.held ≡ x.heading.capacity → x.heading ≡ heading → MeansFor p m stmt name outcome answer after tables x.held
 
@@ -132,7 +133,7 @@ module _ {R T : Type 0} (state : R → RevState) (stmt : Stmt) (name : List ℕ)
       (subst (λ (ts : List Table). AreTables ts old.public.pack done) (sym set)
       (tables_moved old.public.pack g r name old.public.tables table i _ _ all.lasts agrees.ready refl agrees.tables here.get here.named refl is_table
       (λ shape live. absurd (cc (live, mutates.gone))) (λ q z. cases_eq q z))) in
-      finished state stmt old s agrees now alters.whole v room t (slice_set old.public.tables i moved_table) (outcome y) (alters.answers y) (alters.silent y) ran
+      finished state stmt old s agrees now alters.plain v room t (slice_set old.public.tables i moved_table) (outcome y) (alters.answers y) (alters.silent y) ran
       (keeps_pass state old s s1 rests agrees (engine_after old v room (slice_set old.public.tables i moved_table) Whole old.ended) t done refl (λ good accepts. mutates.seals.seals good (accepts _ _)))
       (λ tables reads.
       let told = mutates.told (honest tables reads) (beside tables reads.held).table.held (slots_before tables reads.held) in
@@ -156,7 +157,7 @@ module _ {R T : Type 0} (state : R → RevState) (stmt : Stmt) (name : List ℕ)
   unchanged : (e : OpErr) (n : ℕ) → Mutates old.room.pack (flat_of table) left x answer after (Err e) before done → n ≡ length t.asked - length s.asked
       → ServesSilently state stmt (answer_of e) old s (engine_after old v room old.public.tables (Cut n) (is_stop (answer_of e))) t
   unchanged e n mutates count =
-      cut_off state stmt old s agrees now alters.whole s1 v room t rests room_is x _ _ _ n e script_is (alters.makes _ _ _ _) mutates.err count mutates.gone
+      cut_off state stmt old s agrees now alters.plain s1 v room t rests room_is x _ _ _ n e script_is (alters.makes _ _ _ _) mutates.err count mutates.gone
       (λ is. mutates.memory.began (ap (λ (z : OpErr). Err z) is)) (silent_pass e mutates.never)
       (λ tables reads. fault_made e (mutates.told (honest tables reads) (beside tables reads.held).table.held (slots_before tables reads.held)).0)
       (λ good accepts. mutates.seals.seals good (accepts _ _))

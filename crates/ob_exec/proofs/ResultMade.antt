@@ -1,6 +1,8 @@
 -- A result by each of the plans.
-use Rattle.std.proofs.Common.{◌≡◌, ◌⊎◌, inl, inr, ◌≤◌, ◌*◌, ◌+◌, ℕ, IsTrue, List, [], ◌∷◌, ◌++◌, None, Result, Ok, Err, length, refl, sym, ap, subst, arith}
+use Rattle.std.proofs.Common.{◌≡◌, ◌⊎◌, inl, inr, ◌≤◌, ◌*◌, ◌+◌, ℕ, IsTrue, List, [], ◌∷◌, ◌++◌, Option, None, Some, Result, Ok, Err, length, refl, sym, ap, subst, arith}
 use Rattle.ob_base.specs.declared.access.Access.{Access}
+use Rattle.ob_base.specs.declared.config.Plan.{Plan}
+use Rattle.ob_base.specs.Plans.{MayPad}
 use Rattle.ob_base.specs.declared.config.Plan.TheVariants.{Small, Large, Continuous, Hash}
 use Rattle.ob_base.specs.Accesses.{make_at}
 use Rattle.ob_base.specs.Limits.{buffered_blocks}
@@ -18,6 +20,7 @@ use Rattle.ob_flat.specs.Flats.{IsWritten, Represents}
 use Rattle.ob_flat.specs.Passes.{PassCut}
 use Rattle.ob_flat.specs.Words.{SealsTable}
 use Rattle.ob_flat.proofs.Tables.{written_flat}
+use Rattle.std.specs.Prelude.{IfOk}
 use Rattle.ob_small.specs.Selection as S
 use Rattle.ob_large.specs.Selecting as L
 use Rattle.ob_cont.specs.Selecting as C
@@ -29,7 +32,7 @@ use Rattle.ob_hash.proofs.Sizes.{blocks_whole}
 use Rattle.ob_exec.specs.Engines.{IsFree}
 use Rattle.ob_exec.specs.Memory.{is_make}
 use Rattle.ob_exec.specs.Selecting.{Selection}
-use Rattle.ob_exec.specs.Results.{Planned, planned, fresh_flat, make_part, left_out, held_slots, PlannedToEnd, LacksMemoryOf, MakesResult, placed_as}
+use Rattle.ob_exec.specs.Results.{Planned, planned, padded, MakesPadded, fresh_flat, make_part, left_out, held_slots, stored_slots, PlannedToEnd, LacksMemoryOf, MakesResult, placed_as}
 use Rattle.ob_exec.proofs.ResultParts.{buffered_some}
 use Rattle.ob_exec.specs.Engines.{AreSettings}
 use Rattle.ob_hash.specs.Hashing as HL
@@ -47,10 +50,17 @@ lacks_from m more (x ∷ y ∷ done) rest old new make split asked = absurd (cc 
 lacks_make : (m : Access) (more : List Access) (old new : World) → IsTrue (is_make m) → Began (m ∷ []) old.store new.store → LacksMemoryOf (m ∷ more) old new ⊥
 lacks_make m more old new make began = lacks_from m more began.done began.rest old new make began.split began.asked
 
+-- a plan that may be taken for a padded result, and isn't Large
+pub small_alone : (plan : Plan) → MayPad (Some plan) → (plan ≡ Small) ⊎ (plan ≡ Continuous) ⊎ (plan ≡ Hash) → plan ≡ Small
+small_alone Small may is = refl
+small_alone Large may is = elim is [ inl a ↦ absurd (cc a) | inr b ↦ elim b [ inl c ↦ absurd (cc c) | inr d ↦ absurd (cc d) ] ]
+small_alone Continuous may is = absurd may
+small_alone Hash may is = absurd may
+
 module _ (r : Planned) (old new : World) where
   made_done : (fresh : Flat) → Went (make_part r old.vault.next) (one old.vault.next) old new → fresh ≡ fresh_flat r old.vault.next
       → IsWritten r.selection.public.pack fresh new → SealsTable r.selection.public.pack r.selection.flat.schema old.vault.next old new
-      → ((s : PlannedToEnd r old new) → (None ≡ left_out r s.slots) × Represents r.selection.public.pack fresh (held_slots r s.slots) new)
+      → ((s : PlannedToEnd r old new) → (None ≡ left_out r s.slots) × Represents r.selection.public.pack fresh (stored_slots r s.slots) new)
       → MakesResult r (Ok (Done fresh)) old new
   made_done fresh went value written seals told = record {
     ran = record { ok = went; err = tt };
@@ -62,7 +72,7 @@ module _ (r : Planned) (old new : World) where
     written = subst (λ (f : Flat). IsWritten r.selection.public.pack f new) value written;
     gone = tt;
     seals = seals;
-    told = λ s. let is = told s in (is.0, subst (λ (f : Flat). Represents r.selection.public.pack f (held_slots r s.slots) new) value is.1);
+    told = λ s. let is = told s in (is.0, subst (λ (f : Flat). Represents r.selection.public.pack f (stored_slots r s.slots) new) value is.1);
   }
 
   made_err : (e : OpErr) → PassCut e (make_part r old.vault.next) (one old.vault.next) old new → (e ≡ Sink → ⊥) → (e ≡ NoMemory → LacksMemoryOf (make_part r old.vault.next) old new ⊥)
@@ -83,30 +93,67 @@ module _ (r : Planned) (old new : World) where
   }
 
 module _ (q : Selection) (k : ℕ) (room : RoomState) (free : IsFree q.public room) (old new : World) where
+  -- so many rows were put into a Small result
+  module _ (n : ℕ) (pad : Option ℕ) where
+    abbrev of_small : Planned
+    of_small = record { selection = q; plan = Small; k = n; taken = k; pad = pad }
+
+    small_by : (result : Result Flat OpErr) → S.Selects (S.select_of q.public.pack (buffered_blocks q.public.pack q.public.buffer) q.flat q.condition k) result old new
+        → IfOk result (λ fresh. (s : PlannedToEnd of_small old new) → Represents q.public.pack fresh (stored_slots of_small s.slots) new) → MakesResult of_small (placed_as result) old new
+    small_by (Ok fresh) is told = made_done of_small old new fresh is.ran.ok is.makes.value (written_flat _ _ _ is.makes.flat) is.makes.seals (λ s. (refl, told s))
+    small_by (Err e) is told = made_err of_small old new e is.ran.err
+        (λ sink. elim is.never [ inl f ↦ cc (f, sink) | inr more ↦ elim more [ inl n ↦ cc (n, sink) | inr t ↦ cc (t.is, sink) ] ])
+        (λ none. lacks_make _ _ old new refl (is.memory.began (ap Err none)))
+        is.makes.gone is.makes.seals (λ s. is.told s.honest s.slots s.is)
+
   small_of : (result : Result Flat OpErr) → S.Selects (S.select_of q.public.pack (buffered_blocks q.public.pack q.public.buffer) q.flat q.condition k) result old new
       → MakesResult (planned q Small k) (placed_as result) old new
-  small_of (Ok fresh) is = made_done (planned q Small k) old new fresh is.ran.ok is.makes.value (written_flat _ _ _ is.makes.flat) is.makes.seals
-      (λ s. (refl, is.exact s.honest s.slots s.suits.count s.is))
-  small_of (Err e) is = made_err (planned q Small k) old new e is.ran.err
-      (λ sink. elim is.never [ inl f ↦ cc (f, sink) | inr more ↦ elim more [ inl n ↦ cc (n, sink) | inr t ↦ cc (t.is, sink) ] ])
-      (λ none. lacks_make _ _ old new refl (is.memory.began (ap Err none)))
-      is.makes.gone is.makes.seals (λ s. is.told s.honest s.slots s.is)
+  small_of (Ok fresh) is = small_by k None (Ok fresh) is (λ s. is.exact s.honest s.slots s.suits.count s.is)
+  small_of (Err e) is = small_by k None (Err e) is tt
+
+  small_padded : (result : Result Flat OpErr) → S.Selects (S.select_of q.public.pack (buffered_blocks q.public.pack q.public.buffer) q.flat q.condition k) result old new
+      → MakesPadded q Small k result old new
+  small_padded (Ok fresh) is pad n = small_by n (Some pad) (Ok fresh) is (λ s. is.told s.honest s.slots s.is)
+  small_padded (Err e) is pad n = small_by n (Some pad) (Err e) is tt
+
+  small_in : (result : Result Flat OpErr) → S.Selects (S.select_in room q.flat q.condition k) result old new
+      → S.Selects (S.select_of q.public.pack (buffered_blocks q.public.pack q.public.buffer) q.flat q.condition k) result old new
+  small_in result is =
+      subst (λ (n : ℕ). S.Selects (S.select_of q.public.pack (buffered_blocks q.public.pack n) q.flat q.condition k) result old new) free.rows
+      (subst (λ (p : ℕ). S.Selects (S.select_of p (buffered_blocks p room.rows) q.flat q.condition k) result old new) free.pack is)
 
   pub made_small : (result : Result Flat OpErr) → S.Selects (S.select_in room q.flat q.condition k) result old new → MakesResult (planned q Small k) (placed_as result) old new
-  made_small result is =
-      small_of result (subst (λ (n : ℕ). S.Selects (S.select_of q.public.pack (buffered_blocks q.public.pack n) q.flat q.condition k) result old new) free.rows
-      (subst (λ (p : ℕ). S.Selects (S.select_of p (buffered_blocks p room.rows) q.flat q.condition k) result old new) free.pack is))
+  made_small result is = small_of result (small_in result is)
+
+  pub padded_small : (result : Result Flat OpErr) → S.Selects (S.select_in room q.flat q.condition k) result old new → MakesPadded q Small k result old new
+  padded_small result is = small_padded result (small_in result is)
+
+  -- and into a Large one
+  module _ (n : ℕ) (pad : Option ℕ) where
+    abbrev of_large : Planned
+    of_large = record { selection = q; plan = Large; k = n; taken = k; pad = pad }
+
+    large_by : (result : Result Flat OpErr) → L.Selects q.public.pack q.flat (is_true q.condition) result old new
+        → IfOk result (λ fresh. (s : PlannedToEnd of_large old new) → Represents q.public.pack fresh (stored_slots of_large s.slots) new) → MakesResult of_large (placed_as result) old new
+    large_by (Ok fresh) is told = made_done of_large old new fresh is.ran.ok is.makes.value (written_flat _ _ _ is.makes.flat) is.makes.seals (λ s. (refl, told s))
+    large_by (Err e) is told = made_err of_large old new e is.ran.err
+        (λ sink. elim is.never [ inl f ↦ cc (f, sink) | inr more ↦ elim more [ inl n ↦ cc (n, sink) | inr t ↦ elim t [ inl t ↦ cc (t.is, sink) | inr t ↦ cc (t.is, sink) ] ] ])
+        (λ none. lacks_make _ _ old new refl (is.memory.began (ap Err none)))
+        is.makes.gone is.makes.seals (λ s. is.told s.honest s.slots s.is)
 
   large_of : (result : Result Flat OpErr) → L.Selects q.public.pack q.flat (is_true q.condition) result old new → MakesResult (planned q Large k) (placed_as result) old new
-  large_of (Ok fresh) is = made_done (planned q Large k) old new fresh is.ran.ok is.makes.value (written_flat _ _ _ is.makes.flat) is.makes.seals
-      (λ s. (refl, is.told s.honest s.slots s.is))
-  large_of (Err e) is = made_err (planned q Large k) old new e is.ran.err
-      (λ sink. elim is.never [ inl f ↦ cc (f, sink) | inr more ↦ elim more [ inl n ↦ cc (n, sink) | inr t ↦ elim t [ inl t ↦ cc (t.is, sink) | inr t ↦ cc (t.is, sink) ] ] ])
-      (λ none. lacks_make _ _ old new refl (is.memory.began (ap Err none)))
-      is.makes.gone is.makes.seals (λ s. is.told s.honest s.slots s.is)
+  large_of (Ok fresh) is = large_by k None (Ok fresh) is (λ s. is.told s.honest s.slots s.is)
+  large_of (Err e) is = large_by k None (Err e) is tt
+
+  large_padded : (result : Result Flat OpErr) → L.Selects q.public.pack q.flat (is_true q.condition) result old new → MakesPadded q Large k result old new
+  large_padded (Ok fresh) is pad n = large_by n (Some pad) (Ok fresh) is (λ s. is.told s.honest s.slots s.is)
+  large_padded (Err e) is pad n = large_by n (Some pad) (Err e) is tt
 
   pub made_large : (result : Result Flat OpErr) → L.Selects room.pack q.flat (is_true q.condition) result old new → MakesResult (planned q Large k) (placed_as result) old new
   made_large result is = large_of result (subst (λ (p : ℕ). L.Selects p q.flat (is_true q.condition) result old new) free.pack is)
+
+  pub padded_large : (result : Result Flat OpErr) → L.Selects room.pack q.flat (is_true q.condition) result old new → MakesPadded q Large k result old new
+  padded_large result is = large_padded result (subst (λ (p : ℕ). L.Selects p q.flat (is_true q.condition) result old new) free.pack is)
 
   cont_of : (result : Result Flat OpErr) → C.Selects q.public.pack q.flat (is_true q.condition) k result old new → MakesResult (planned q Continuous k) (placed_as result) old new
   cont_of (Ok fresh) is = made_done (planned q Continuous k) old new fresh is.ran.ok is.value is.written is.seals

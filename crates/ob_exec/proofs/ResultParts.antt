@@ -29,14 +29,14 @@ buffered_some p h = let a = h.pack_least in let b = h.blocks in (le-div_iff_mul-
 
 -- the blocks of the fresh region, as the script counts them
 blocks-plan : (r : Planned) (plan : Plan) → 1 ≤ r.selection.public.pack
-    → blocks_for r.selection.public.pack (slots_for r plan) ≡ result_blocks r.selection.public plan r.k (extent_of (region_of r.selection))
+    → blocks_for r.selection.public.pack (slots_for r plan) ≡ result_blocks r.selection.public plan r.taken (extent_of (region_of r.selection))
 blocks-plan r Small some = refl
 blocks-plan r Large some = refl
 blocks-plan r Continuous some = refl
-blocks-plan r Hash some = blocks_whole r.selection.public.pack (r.k * r.selection.public.depth) some
+blocks-plan r Hash some = blocks_whole r.selection.public.pack (r.taken * r.selection.public.depth) some
 
 pub blocks-fresh : (r : Planned) (g : ℕ) → 1 ≤ r.selection.public.pack
-    → blocks_of r.selection.public.pack (fresh_flat r g) ≡ result_blocks r.selection.public r.plan r.k (extent_of (region_of r.selection))
+    → blocks_of r.selection.public.pack (fresh_flat r g) ≡ result_blocks r.selection.public r.plan r.taken (extent_of (region_of r.selection))
 blocks-fresh r g some = blocks-plan r r.plan some
 
 -- the whole, with the blocks of the fresh region
@@ -45,7 +45,7 @@ pub whole_is : (r : Planned) (g : ℕ) → 1 ≤ r.selection.public.pack
 whole_is r g some = ap (λ (n : ℕ). make_part r g ++ emission_part g n) (blocks-fresh r g some)
 
 -- ---- a make comes first
-starts-plan : (r : Planned) (g : ℕ) (plan : Plan) → IsTrue (starts_with_make (plan_part r.selection.public plan r.k g (extent_of (region_of r.selection))))
+starts-plan : (r : Planned) (g : ℕ) (plan : Plan) → IsTrue (starts_with_make (plan_part r.selection.public plan r.taken g (extent_of (region_of r.selection))))
 starts-plan r g Small = refl
 starts-plan r g Large = refl
 starts-plan r g Continuous = refl
@@ -86,10 +86,10 @@ rest-reading g n done rest split =
 
 -- ---- how many they are
 module _ (r : Planned) (plan : Plan) (g : ℕ) where
-  both-plan : length (plan_part r.selection.public plan r.k g (extent_of (region_of r.selection)) ++ emission_part g (result_blocks r.selection.public plan r.k (extent_of (region_of r.selection))))
-      ≡ length (plan_part r.selection.public plan r.k g (extent_of (region_of r.selection))) + (result_blocks r.selection.public plan r.k (extent_of (region_of r.selection)) + 1)
-  both-plan = length-append (plan_part r.selection.public plan r.k g (extent_of (region_of r.selection))) (emission_part g (result_blocks r.selection.public plan r.k (extent_of (region_of r.selection))))
-      ∙ ap (λ (n : ℕ). length (plan_part r.selection.public plan r.k g (extent_of (region_of r.selection))) + n) (length-emission_part g (result_blocks r.selection.public plan r.k (extent_of (region_of r.selection))))
+  both-plan : length (plan_part r.selection.public plan r.taken g (extent_of (region_of r.selection)) ++ emission_part g (result_blocks r.selection.public plan r.taken (extent_of (region_of r.selection))))
+      ≡ length (plan_part r.selection.public plan r.taken g (extent_of (region_of r.selection))) + (result_blocks r.selection.public plan r.taken (extent_of (region_of r.selection)) + 1)
+  both-plan = length-append (plan_part r.selection.public plan r.taken g (extent_of (region_of r.selection))) (emission_part g (result_blocks r.selection.public plan r.taken (extent_of (region_of r.selection))))
+      ∙ ap (λ (n : ℕ). length (plan_part r.selection.public plan r.taken g (extent_of (region_of r.selection))) + n) (length-emission_part g (result_blocks r.selection.public plan r.taken (extent_of (region_of r.selection))))
 
 module _ (q : Selection) (k g : ℕ) (settings : AreSettings q.public) where
   abbrev pub source : ℕ

@@ -11,7 +11,7 @@ use Rattle.std.specs.Option.{option_map}
 use Rattle.std.specs.List.{list_all}
 use Rattle.ob_base.specs.declared.access.Access.{Access}
 use Rattle.ob_base.specs.declared.config.Plan.TheVariants.{Small, Large, Continuous, Hash}
-use Rattle.ob_base.specs.declared.refusal.Refusal.TheVariants.{Overflow as OverflowAt}
+use Rattle.ob_base.specs.declared.refusal.Refusal.{Refusal}
 use Rattle.ob_base.specs.declared.shown.Shown.{Shown}
 use Rattle.ob_base.specs.Events.{Event, row_events}
 use Rattle.ob_row.specs.Rows.{Row}
@@ -45,12 +45,13 @@ use Rattle.ob_exec.specs.declared.selecting.Selected.{Selected}
 use Rattle.ob_exec.specs.declared.selecting.Selected.TheVariants.{Rows, Refused}
 use Rattle.ob_exec.specs.Memory.{is_reading, starts_with_make, ends_with_make}
 use Rattle.ob_exec.specs.Selecting.{SealsRows, emitted_unless, selected_as}
-use Rattle.ob_exec.specs.Results.{Planned, PlannedToEnd, PlannedToHalt, MakesResult, EmitsResult, WalksResult, SelectsBy, EmitsHeld, slots_for, fresh_flat, make_part, whole_part, left_out, held_slots, held_shown, held_events, head_of}
+use Rattle.ob_exec.specs.Results.{Planned, PlannedToEnd, PlannedToHalt, MakesResult, EmitsResult, WalksResult, SelectsBy, EmitsHeld, slots_for, MayAnswer, fresh_flat, make_part, whole_part, left_out, refused_for, held_slots, stored_slots, held_shown, held_events, head_of}
 use Rattle.ob_exec.proofs.ResultParts.{whole_is, starts-make, starts-more, rest-reading}
 use Rattle.ob_exec.proofs.ResultReads.{emitted_from}
 use Rattle.ob_exec.proofs.UntilLemmas.{until_none, until_from, until_ends, ends_halted}
 use Rattle.ob_emit.specs.Emitting.{table_shown}
-use Rattle.ob_exec.proofs.ResultRows.{held_count}
+use Rattle.ob_exec.proofs.ResultRows.{held_count, stored_rows}
+use Rattle.ob_script.specs.Sizes.{HasRows}
 
 many_shown : (cols : List ℕ) (is : List Row) → length (map (printed cols) is) ≡ length is
 many_shown cols [] = refl
@@ -256,18 +257,24 @@ module _ {E : Type 0} (grew cut : E → E → List Event → Type 0) (faults : E
       grown e ran = let few = began-few script mid new ran.err.began in omega (arith, few.1, went_length (one g) (make_part r g) old mid made.ran.ok, make-some r g)
 
       -- it was read back, and emitted
-      module _ (out_old out_new : E) (is_done : (s : PlannedToEnd r old mid) → None ≡ left_out r s.slots) (k_some : 1 ≤ r.k) where
-        held : (s : PlannedToEnd r old mid) → Represents pack fresh (held_slots r s.slots) mid
+      module _ (out_old out_new : E) (is_left : (s : PlannedToEnd r old mid) → None ≡ left_out r s.slots) (is_done : (s : PlannedToEnd r old mid) → None ≡ refused_for r s.slots)
+          (k_some : HasRows r.plan r.k) (fits : (s : PlannedToEnd r old mid) → IsSome r.pad → r.k ≤ r.taken) where
+        held : (s : PlannedToEnd r old mid) → Represents pack fresh (stored_slots r s.slots) mid
         held s = (made.told s).1
 
-        same_events : (s : PlannedToEnd r old mid) → head_of r.selection ++ row_events (held_shown r s.slots) ≡ held_events r s.slots
-        same_events s = ap (λ (o : Option ℕ). emitted_unless (option_map OverflowAt o) (head_of r.selection ++ row_events (held_shown r s.slots))) (is_done s)
+        same_shown : (s : PlannedToEnd r old mid) → table_shown r.selection.cols (stored_slots r s.slots) ≡ held_shown r s.slots
+        same_shown s = ap (map (printed r.selection.cols)) (stored_rows r s.slots s.suits (fits s))
+
+        same_events : (s : PlannedToEnd r old mid) → head_of r.selection ++ row_events (table_shown r.selection.cols (stored_slots r s.slots)) ≡ held_events r s.slots
+        same_events s =
+            ap (λ (l : List (List Shown)). head_of r.selection ++ row_events l) (same_shown s)
+            ∙ ap (λ (o : Option Refusal). emitted_unless o (head_of r.selection ++ row_events (held_shown r s.slots))) (is_done s)
 
         pub by_emit_ok : (n : ℕ) → r.selection.ending + length (whole_part r g) ≤ old.store.spare → EmitsResult grew cut faults pack fresh r.selection.cols (Ok n) mid new out_old out_new
             → SelectsBy grew cut faults r (Ok (Rows n)) old new out_old out_new
         by_emit_ok n spare is =
             let ran = joined (Ok n) is.ran in
-            let back : PlannedToEnd r old new → SlotsToEnd pack fresh mid new = λ s. let t = end_mid (Ok n) is.ran s in record { slots = held_slots r s.slots; is = held t; nolie = s.honest.nolie } in
+            let back : PlannedToEnd r old new → SlotsToEnd pack fresh mid new = λ s. let t = end_mid (Ok n) is.ran s in record { slots = stored_slots r s.slots; is = held t; nolie = s.honest.nolie } in
             record {
               ran = record { ok = ran.ok; err = tt };
               some = tt;
@@ -276,15 +283,14 @@ module _ {E : Type 0} (grew cut : E → E → List Event → Type 0) (faults : E
               seals = all_seals made.ran.ok.lasts is.seals.seals;
               may = tt;
               memory = λ none. absurd (cc none);
-              emitted = emitted_from back (λ s. refl) is.emitted;
+              emitted = emitted_from back (λ s. same_shown (end_mid (Ok n) is.ran s)) is.emitted;
               halted = tt;
               sink = is.sink;
               told = λ s.
                   let t = end_mid (Ok n) is.ran s in
-                  let none = is_done t in
-                  let shown : length is.emitted.rows ≡ length (held_shown r s.slots) = ap (λ (l : List (List Shown)). length l) (is.emitted.told (back s)) in
-                  let many : n ≡ r.k = omega (arith, is.emitted.count, shown, many_shown r.selection.cols (rows (held_slots r s.slots)), held_count r s.slots s.suits k_some none) in
-                  ap (λ (m : ℕ). Rows m) many ∙ ap (λ (o : Option ℕ). selected_as (option_map OverflowAt o) r.k) none;
+                  let shown : length is.emitted.rows ≡ length (held_shown r s.slots) = ap (λ (l : List (List Shown)). length l) (is.emitted.told (back s) ∙ same_shown t) in
+                  let many : n ≡ r.k = omega (arith, is.emitted.count, shown, many_shown r.selection.cols (rows (held_slots r s.slots)), held_count r s.slots s.suits k_some (is_left t)) in
+                  ap (λ (m : ℕ). Rows m) many ∙ ap (λ (o : Option Refusal). selected_as o r.k) (is_done t);
               before = λ s left. tt;
             }
 
@@ -292,7 +298,7 @@ module _ {E : Type 0} (grew cut : E → E → List Event → Type 0) (faults : E
             → SelectsBy grew cut faults r (Err e) old new out_old out_new
         by_emit_err e is =
             let ran = joined {T = ℕ} (Err e) is.ran in
-            let back : PlannedToHalt r old new → SlotsToHalt pack fresh mid new = λ s. let t = halt_mid {T = ℕ} (Err e) is.ran s in record { slots = held_slots r s.slots; is = held t; nolie = t.honest.nolie; unfit = s.unfit } in
+            let back : PlannedToHalt r old new → SlotsToHalt pack fresh mid new = λ s. let t = halt_mid {T = ℕ} (Err e) is.ran s in record { slots = stored_slots r s.slots; is = held t; nolie = t.honest.nolie; unfit = s.unfit } in
             record {
               ran = record { ok = tt; err = ran.err };
               some = λ access. grown {T = ℕ} e is.ran;
@@ -313,15 +319,15 @@ module _ {E : Type 0} (grew cut : E → E → List Event → Type 0) (faults : E
               halted = until_from grew cut (head_of r.selection) e (λ s. head_of r.selection ++ row_events (table_shown r.selection.cols s.slots)) (λ s. held_events r s.slots) out_old out_new back
                   (λ s. inl (same_events (halt_mid {T = ℕ} (Err e) is.ran s))) (until_ends grew cut (head_of r.selection) e (λ s. table_shown r.selection.cols s.slots) out_old out_new is.halted);
               sink = sink_as ℕ Selected e _ _ is.sink;
-              told = λ s. let t = end_mid {T = ℕ} (Err e) is.ran s in is.told (held_slots r s.slots) (held t) s.honest.nolie;
-              before = λ s left. absurd (left_none _ (is_done (halt_mid {T = ℕ} (Err e) is.ran s)) left);
+              told = λ s. let t = end_mid {T = ℕ} (Err e) is.ran s in is.told (stored_slots r s.slots) (held t) s.honest.nolie;
+              before = λ s left. absurd (left_none _ (is_left (halt_mid {T = ℕ} (Err e) is.ran s)) left);
             }
 
       -- it was read back, and nothing emitted
       module _ (out : E) where
-        pub by_walk_ok : {T : Type 0} (v : T) (i : ℕ) → r.plan ≡ Hash → ((s : PlannedToEnd r old mid) → Some i ≡ left_out r s.slots) → r.selection.ending + length (whole_part r g) ≤ old.store.spare
-            → WalksResult {T = T} pack fresh (Ok v) mid new → SelectsBy grew cut faults r (Ok (Refused (OverflowAt i))) old new out out
-        by_walk_ok v i hashed left spare is =
+        pub by_walk_ok : {T : Type 0} (v : T) (why : Refusal) → MayAnswer r.plan r.pad (Refused why) → ((s : PlannedToEnd r old mid) → Some why ≡ refused_for r s.slots) → r.selection.ending + length (whole_part r g) ≤ old.store.spare
+            → WalksResult {T = T} pack fresh (Ok v) mid new → SelectsBy grew cut faults r (Ok (Refused why)) old new out out
+        by_walk_ok v why answers left spare is =
             let ran = joined (Ok v) is.ran in
             record {
               ran = record { ok = ran.ok; err = tt };
@@ -329,12 +335,12 @@ module _ {E : Type 0} (grew cut : E → E → List Event → Type 0) (faults : E
               gone = is.gone;
               spare = omega (arith, spare, ran.ok.spare);
               seals = all_seals made.ran.ok.lasts is.seals.seals;
-              may = hashed;
+              may = answers;
               memory = λ none. absurd (cc none);
               emitted = refl;
               halted = tt;
               sink = refl;
-              told = λ s. ap (λ (o : Option ℕ). selected_as (option_map OverflowAt o) r.k) (left (end_mid (Ok v) is.ran s));
+              told = λ s. ap (λ (o : Option Refusal). selected_as o r.k) (left (end_mid (Ok v) is.ran s));
               before = λ s some. tt;
             }
 
@@ -352,7 +358,7 @@ module _ {E : Type 0} (grew cut : E → E → List Event → Type 0) (faults : E
               emitted = tt;
               halted = until_none grew cut (head_of r.selection) e _ out is.never.0;
               sink = sink_none Selected e _ is.never.0;
-              told = λ s. let t = end_mid {T = T} (Err e) is.ran s in inl (is.told (held_slots r s.slots) (made.told t).1 s.honest.nolie);
+              told = λ s. let t = end_mid {T = T} (Err e) is.ran s in inl (is.told (stored_slots r s.slots) (made.told t).1 s.honest.nolie);
               before = λ s left.
                   let few = began-few (count_part g (blocks_of pack fresh)) mid new is.cut in
                   let long = went_length (one g) (make_part r g) old mid made.ran.ok in
@@ -378,7 +384,7 @@ pub spare_at : (p q : ℕ) (f h : Flat) (w : World) → p ≡ q → f ≡ h → 
 spare_at p q f h w pack same is = subst (λ (x : Flat). HasSpare (blocks_of p x + 1) w) (sym same) (subst (λ (n : ℕ). HasSpare (blocks_of n h + 1) w) (sym pack) is)
 
 -- the sizes of a result
-fits-plan : (r : Planned) (plan : Plan) → AreSettings r.selection.public → IsSized r.selection.flat.schema r.selection.flat.capacity → 1 ≤ r.k → r.k ≤ r.selection.flat.capacity
+fits-plan : (r : Planned) (plan : Plan) → AreSettings r.selection.public → IsSized r.selection.flat.schema r.selection.flat.capacity → 1 ≤ r.taken → r.taken ≤ r.selection.flat.capacity
     → FitsRegion r.selection.public.pack r.selection.flat.schema (slots_for r plan)
 fits-plan r Small settings size some most =
     fits_sized _ _ _ settings.pack_least (record { some = size.some; few = size.few; wide = size.wide; least = some; most = omega (arith, most, size.most) })
@@ -386,15 +392,15 @@ fits-plan r Large settings size some most = fits_sized _ _ _ settings.pack_least
 fits-plan r Continuous settings size some most =
     fits_sized _ _ _ settings.pack_least (record { some = size.some; few = size.few; wide = size.wide; least = some; most = omega (arith, most, size.most) })
 fits-plan r Hash settings size some most =
-    let blocks = blocks_whole r.selection.public.pack (r.k * r.selection.public.depth) settings.pack_least in
-    let k_few : r.k ≤ 16777216 = omega (arith, most, size.most) in
-    let few : r.k * r.selection.public.depth ≤ 16777216 * 8 = mul-le-mul k_few settings.depth_most in
-    let least : 1 * 1 ≤ r.k * r.selection.public.depth = mul-le-mul some settings.depth_least in
-    let one_least : 1 ≤ r.k * r.selection.public.depth = omega (arith, least) in
-    let all : 1 * 1 ≤ (r.k * r.selection.public.depth) * r.selection.public.pack = mul-le-mul one_least settings.pack_least in
+    let blocks = blocks_whole r.selection.public.pack (r.taken * r.selection.public.depth) settings.pack_least in
+    let k_few : r.taken ≤ 16777216 = omega (arith, most, size.most) in
+    let few : r.taken * r.selection.public.depth ≤ 16777216 * 8 = mul-le-mul k_few settings.depth_most in
+    let least : 1 * 1 ≤ r.taken * r.selection.public.depth = mul-le-mul some settings.depth_least in
+    let one_least : 1 ≤ r.taken * r.selection.public.depth = omega (arith, least) in
+    let all : 1 * 1 ≤ (r.taken * r.selection.public.depth) * r.selection.public.pack = mul-le-mul one_least settings.pack_least in
     record { some = size.some; few = size.few; wide = size.wide; least = omega (arith, all); blocks = omega (arith, blocks, few) }
 
-pub fits_fresh : (r : Planned) (g : ℕ) → AreSettings r.selection.public → IsSized r.selection.flat.schema r.selection.flat.capacity → 1 ≤ r.k → r.k ≤ r.selection.flat.capacity
+pub fits_fresh : (r : Planned) (g : ℕ) → AreSettings r.selection.public → IsSized r.selection.flat.schema r.selection.flat.capacity → 1 ≤ r.taken → r.taken ≤ r.selection.flat.capacity
     → FitsRegion r.selection.public.pack (fresh_flat r g).schema (fresh_flat r g).capacity
 fits_fresh r g settings size some most = fits-plan r r.plan settings size some most
 

@@ -38,7 +38,7 @@ use Rattle.ob_mean.specs.Verdict.{Tables}
 use Rattle.ob_sql.specs.declared.stmt.SelectRows.{SelectRows}
 use Rattle.ob_exec.specs.declared.selecting.Selected.{Selected}
 use Rattle.ob_exec.specs.declared.selecting.Selected.TheVariants.{Rows, Refused}
-use Rattle.ob_exec.specs.Memory.{AtMake, HasHalted, ends_with_make, is_reading, starts_with_make}
+use Rattle.ob_exec.specs.Memory.{AtMake, HasCounted, HasHalted, ends_with_make, is_reading, starts_with_make}
 use Rattle.ob_exec.specs.Selecting.{EmitsSelected, HoldsSeen, MayHold, SealsRows, Selection, SelectsFrom, SelectsToEnd, SelectsToHalt, answer_events, counted_after, from, places, region_of, seen_of, selection_script, walked_after}
 use Rattle.ob_exec.specs.Sources.{EmitsRows, EndsRows, HaltsRows, HoldsRows, LacksRowMemory, LeavesNone, SourceToEnd, SourceToHalt, rows_script, rows_skeleton, slots_of, stated}
 use Rattle.ob_exec.specs.Telling.{AreHeld}
@@ -96,14 +96,22 @@ planned_count q None (Some p) (Some s) may some = absurd may
 planned_count q (Some k) plan (Some s) may some = refl
 planned_count q k plan None may some = absurd (cc some)
 
--- the last access, where there is a count
-abbrev pub ending_for : Option ℕ → List Access → List Access
-ending_for None ending = []
-ending_for (Some k) ending = ending
+-- the last access, where there is a count, or results are padded
+abbrev pub ending_for : (pad k : Option ℕ) → List Access → List Access
+ending_for (Some pad) k ending = ending
+ending_for None None ending = []
+ending_for None (Some k) ending = ending
 
-reading_for : (k : Option ℕ) (g : ℕ) → IsTrue (list_all is_reading (ending_for k (discard_at g)))
-reading_for None g = refl
-reading_for (Some k) g = refl
+reading_for : (pad k : Option ℕ) (g : ℕ) → IsTrue (list_all is_reading (ending_for pad k (discard_at g)))
+reading_for (Some pad) k g = refl
+reading_for None None g = refl
+reading_for None (Some k) g = refl
+
+ending_whole : (pad k : Option ℕ) (ending : List Access) → IsSome k ⊎ IsSome pad → ending_for pad k ending ≡ ending
+ending_whole (Some pad) k ending counted = refl
+ending_whole None (Some k) ending counted = refl
+ending_whole None None ending (inl some) = absurd (cc some)
+ending_whole None None ending (inr some) = absurd (cc some)
 
 -- the first result is read back behind the count
 walks_late : (p : Public) (select : SelectRows) (g k : ℕ) (plan second : Plan) (end : End) (now : Seen) → now ≡ seen_as (Some k) (Some plan) (Some second) end
@@ -117,7 +125,7 @@ walks_late p select g k plan second end now two =
 
 module _ (p : Public) (select : SelectRows) (g : ℕ) (x : List Access) (a b : World) (made : Went x (from g) a b) (next : a.vault.next ≡ g) (after : b.vault.next ≡ g + 1)
     (seals : SealsRows p.pack a b)
-    (least : 1 ≤ counted_after (stated p select g 1)) (script_is : (now : Seen) → rows_script p select now ≡ x ++ (selection_script (stated p select g 1) now (g + 1) ++ ending_for now.k (discard_at g)))
+    (least : 1 ≤ counted_after (stated p select g 1)) (script_is : (now : Seen) → rows_script p select now ≡ x ++ (selection_script (stated p select g 1) now (g + 1) ++ ending_for p.pad now.k (discard_at g)))
     (count_is : count_end p (rows_skeleton select) ≡ length x + counted_after (stated p select g 1))
     (walk_is : (now : Seen) → IsSome now.k → walk_end p (rows_skeleton select) now ≡ length x + walked_after (stated p select g 1) now)
     (slots_are : (tables : Tables) → AreHeld p.pack p.tables tables a → IsTrue a.store.tells → b.store.lie ≡ None → Represents p.pack (stated p select g 1).flat (slots_of p select tables) b) where
@@ -131,7 +139,7 @@ module _ (p : Public) (select : SelectRows) (g : ℕ) (x : List Access) (a b : W
       let slots = slots_of p select y.tables in
       let meant = seen_of q slots in
       let part = selection_script q meant (g + 1) in
-      let last = ending_for meant.k (discard_at g) in
+      let last = ending_for p.pad meant.k (discard_at g) in
       let all = ap (λ (l : List Access). a.store.asked ++ l) (sym (script_is meant)) in
       elim (lie_before b.store c.store lie later told) [
         | inl nolie ↦
@@ -155,7 +163,7 @@ module _ (p : Public) (select : SelectRows) (g : ℕ) (x : List Access) (a b : W
     ran_all : PassCut e (rows_script p select now) (from g) a d
     ran_all =
         let part = selection_script q now (g + 1) in
-        let last = ending_for now.k (discard_at g) in
+        let last = ending_for p.pad now.k (discard_at g) in
         subst (λ (all : List Access). PassCut e all (from g) a d) (append_assoc x part last ∙ sym (script_is now))
         (pass_more (from g) a d e (x ++ part) last
         (pass_after (from g) a b d e x part made (subst (λ (n : ℕ). PassCut e (selection_script q now n) (from g) b d) after cut_from)))
@@ -216,7 +224,7 @@ module _ (p : Public) (select : SelectRows) (g : ℕ) (x : List Access) (a b : W
     lacks_all : e ≡ OpErrs.NoMemory → LacksRowMemory p select now a d (HasHalted (Leads grew cut) out_old out_new)
     lacks_all wanted =
         let lacks = is.memory (an_error wanted) in
-        let last = ending_for now.k (discard_at g) in
+        let last = ending_for p.pad now.k (discard_at g) in
         record {
           done = x ++ lacks.done;
           rest = lacks.rest ++ last;
@@ -227,7 +235,7 @@ module _ (p : Public) (select : SelectRows) (g : ℕ) (x : List Access) (a b : W
           asked = ap (λ (t : StoreState). t.asked) same ∙ lacks.asked ∙ ap (λ (y : List Access). y ++ lacks.done) made.did.asked ∙ append_assoc a.store.asked x lacks.done;
           place = elim lacks.place [
             | inl make ↦ inl (place_behind x lacks.done lacks.rest last lacks.some make)
-            | inr emits ↦ inr (emits.0, reads_too lacks.rest last (reading_for now.k g) emits.1, emits.2)
+            | inr emits ↦ inr (emits.0, reads_too lacks.rest last (reading_for p.pad now.k g) emits.1, emits.2)
           ];
         }
 
@@ -273,24 +281,20 @@ module _ (p : Public) (select : SelectRows) (g : ℕ) (x : List Access) (a b : W
     behind_emits (Rows k) emits = emitted_from _ _ at_end (λ y. refl) emits
     behind_emits (Refused r) emits = emits
 
-    went_all : (k : ℕ) → now.k ≡ Some k → Went (rows_script p select now) (from g) a d
-    went_all k counted =
+    went_all : HasCounted p now → Went (rows_script p select now) (from g) a d
+    went_all counted =
         let part = selection_script q now (g + 1) in
-        let whole = ap (λ (o : Option ℕ). x ++ (part ++ ending_for o (discard_at g))) (sym counted) ∙ sym (script_is now) in
+        let whole = ap (λ (last : List Access). x ++ (part ++ last)) (sym (ending_whole p.pad now.k (discard_at g) counted)) ∙ sym (script_is now) in
         let second = subst (λ (n : ℕ). Went (selection_script q now n) (from g) b c) after (went_wider (from b.vault.next) b c (from g) (λ r above. omega (arith, after, above)) _ is.ran.ok) in
         let last = went_wider (one g) c d (from g) (λ r here. omega (arith, here)) (discard_at g) discards.went in
         subst (λ (all : List Access). Went all (from g) a d) whole
         (went_join (from g) a b d x (part ++ discard_at g) made (went_join (from g) b c d part (discard_at g) second last))
 
-    some_counted : (o : Option ℕ) → IsSome o → (k : ℕ) × (o ≡ Some k)
-    some_counted None some = absurd (cc some)
-    some_counted (Some k) some = (k, refl)
-
     pub behind_ends : EndsRows grew p select answer now a d out_old out_new
     behind_ends =
-        let counted = some_counted now.k (counted_some q answer now.k now.plan now.then now.end is.holds is.ended) in
+        let counted = counted_some q answer now.k now.plan now.then now.end is.holds is.ended in
         record {
-          ran = subst (λ (n : ℕ). Went (rows_script p select now) (from n) a d) (sym next) (went_all counted.0 counted.1);
+          ran = subst (λ (n : ℕ). Went (rows_script p select now) (from n) a d) (sym next) (went_all counted);
           leaves = record { gone = λ r above. left_by r above (cases_eq r g) };
           seals = λ good accepts. seals_join good a b d made.lasts.later (seals good accepts) (seals_join good b c d is.ran.ok.lasts.later (is.seals good accepts) (discards.seals.seals good));
           holds = may_stated p select g 1 now.k now.plan now.then is.holds;
@@ -305,7 +309,7 @@ module _ (p : Public) (select : SelectRows) (g : ℕ) (x : List Access) (a b : W
                 = record { tells = subst (λ (t : Bool). IsTrue t) (sym made.lasts.later.tells) y.tells; slots = slots; is = slots_are y.tables y.held y.tells before; nolie = nolie } in
                 let meant = (is.told ends).1 in
                 subst (λ (x : Seen). ReadsIn lie (a.store.asked ++ rows_script p select x)) meant
-                (subst (λ (l : List Access). ReadsIn lie (a.store.asked ++ l)) (append-nil (rows_script p select now)) (went_in (rows_script p select now) [] a d lie (went_all counted.0 counted.1) y.nolie told))
+                (subst (λ (l : List Access). ReadsIn lie (a.store.asked ++ l)) (append-nil (rows_script p select now)) (went_in (rows_script p select now) [] a d lie (went_all counted) y.nolie told))
             | inr early ↦ reads_by c is.ran.ok.lasts.later is.begun y lie early
           ];
         }

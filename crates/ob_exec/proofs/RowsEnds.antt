@@ -66,7 +66,7 @@ module _ {R : Type 0} (state : R → RevState) (old : Engine R) (s : StoreState)
       (rows_prints old.public (length s.asked) select tables
       (headed state old s v room t select agrees free source is.ran.lasts tables reads.held) reads.held.in_place
       (early state old s v room t select agrees free source is.ran.lasts tables reads.held)
-      agrees.settings.pack_least agrees.settings.blocks source.labelled
+      agrees.settings.pack_least agrees.settings.blocks agrees.settings.padded source.labelled
       (rows_of state old s v room t select agrees free source is.ran.lasts tables reads.held)))
 
   answered_rows : (k : ℕ) → EndsWith (Rows k) → IsFew (Rows k) → Leads grew grew out_mid out_new (closing (Rows k))
@@ -123,11 +123,11 @@ module _ {R : Type 0} (state : R → RevState) (old : Engine R) (s : StoreState)
       let rows_are = rows_of state old s v room t select agrees free source is.ran.lasts tables stands in
       of_other _ _ (is_fault (selected_outcome answer)) (ended_well (selection old.public select) answer now is.ended) (record {
         answer = ap selected_outcome told.0
-            ∙ rows_outcome old.public (length s.asked) select tables headed_is stands.in_place early_is agrees.settings.pack_least agrees.settings.blocks source.labelled rows_are;
+            ∙ rows_outcome old.public (length s.asked) select tables headed_is stands.in_place early_is agrees.settings.pack_least agrees.settings.blocks agrees.settings.padded source.labelled rows_are;
         seen = told.1
-            ∙ sym (rows_seen old.public (length s.asked) select tables headed_is stands.in_place early_is agrees.settings.pack_least agrees.settings.blocks source.labelled rows_are);
+            ∙ sym (rows_seen old.public (length s.asked) select tables headed_is stands.in_place early_is agrees.settings.pack_least agrees.settings.blocks agrees.settings.padded source.labelled rows_are);
         held = subst (λ (ts : Tables). Represents state (rows_after old v room now old.ended) t ts)
-            (sym (rows_settle old.public (length s.asked) select tables headed_is stands.in_place early_is agrees.settings.pack_least agrees.settings.blocks source.labelled rows_are))
+            (sym (rows_settle old.public (length s.asked) select tables headed_is stands.in_place early_is agrees.settings.pack_least agrees.settings.blocks agrees.settings.padded source.labelled rows_are))
             (still_held state old s v room t select agrees free source is.ran.lasts now old.ended tables stands);
       })
 

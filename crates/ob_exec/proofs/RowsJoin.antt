@@ -20,7 +20,7 @@ use Rattle.ob_base.specs.Numbers.{blocks_for}
 use Rattle.ob_base.specs.Schemas.{Columns, width}
 use Rattle.ob_base.specs.Stored.{Stored, headings_of, heading_at}
 use Rattle.ob_script.specs.Parts.{count_part, join_part}
-use Rattle.ob_script.specs.Script.{after_count, blocks_of, extent_of, join_script, result_part, select_part, source_script}
+use Rattle.ob_script.specs.Script.{after_count, behind_count, blocks_of, extent_of, join_script, padded_part, result_part, select_part, source_script}
 use Rattle.ob_script.proofs.Lengths.{length-count_part}
 use Rattle.ob_store.specs.State.{StoreState}
 use Rattle.ob_vault.specs.State.{RevState}
@@ -60,13 +60,21 @@ behind_parts : (count first next ending : List Access) → count ++ (first ++ (n
 behind_parts count first next ending =
     ap (λ (x : List Access). count ++ (first ++ (x ++ ending))) (sym (append-nil next)) ∙ simp append_assoc
 
-select_split : (p : Public) (now : Seen) (g : ℕ) (t : Stored ℕ) (ending : List Access) → select_part p now g (extent_of t) ending ≡ select_part p now g (extent_of t) [] ++ ending_for now.k ending
-select_split p now g t ending = by_count now.k
+behind_padded : (count result ending : List Access) → count ++ (result ++ ending) ≡ (count ++ (result ++ [])) ++ ending
+behind_padded count result ending = ap (λ (x : List Access). count ++ (x ++ ending)) (sym (append-nil result)) ∙ simp append_assoc
+
+select_split : (p : Public) (now : Seen) (g : ℕ) (t : Stored ℕ) (ending : List Access) → select_part p now g (extent_of t) ending ≡ select_part p now g (extent_of t) [] ++ ending_for p.pad now.k ending
+select_split p now g t ending = by_pad p.pad
   where
     by_count : (k : Option ℕ) → count_part t.held (blocks_of p (extent_of t)) ++ after_count p now k g (extent_of t) ending
-        ≡ (count_part t.held (blocks_of p (extent_of t)) ++ after_count p now k g (extent_of t) []) ++ ending_for k ending
+        ≡ (count_part t.held (blocks_of p (extent_of t)) ++ after_count p now k g (extent_of t) []) ++ ending_for None k ending
     by_count None = sym (append-nil (count_part t.held (blocks_of p (extent_of t)) ++ []))
     by_count (Some k) = behind_parts (count_part t.held (blocks_of p (extent_of t))) (result_part p now.plan k g (extent_of t)) (result_part p now.then k (g + 1) (extent_of t)) ending
+
+    by_pad : (pad : Option ℕ) → count_part t.held (blocks_of p (extent_of t)) ++ behind_count pad p now g (extent_of t) ending
+        ≡ (count_part t.held (blocks_of p (extent_of t)) ++ behind_count pad p now g (extent_of t) []) ++ ending_for pad now.k ending
+    by_pad None = by_count now.k
+    by_pad (Some pad) = behind_padded (count_part t.held (blocks_of p (extent_of t))) (padded_part p pad g (extent_of t)) ending
 
 enough_left : (lefts pairs n spare : ℕ) → n ≡ lefts + 3 * pairs + 2 → n ≤ spare → 1 + (lefts + 2 * pairs) ≤ spare
 enough_left lefts pairs n spare is within = omega arith
@@ -100,28 +108,36 @@ module _ {R : Type 0} (state : R → RevState) (old : Engine R) (s : StoreState)
   joins lcol rcol = pass_script (join_in old.room (flat_of t) lcol (flat_of u) rcol) old.vault.next
 
   -- what is asked is what the statement asks
-  pub join_asks : (lcol rcol : ℕ) (now : Seen) → rows_script old.public select now ≡ joins lcol rcol ++ (selection_script q now (old.vault.next + 1) ++ ending_for now.k (discard_at old.vault.next))
-  join_asks lcol rcol now =
-      ap (source_script old.public now) of_join
-      ∙ (λ k. option_map_or (λ (left : Stored ℕ). option_map_or (λ (right : Stored ℕ). join_script old.public now left right) (stored_found b old.public.tables j u agrees.tables.names get_b named_b k) [])
+  asks_by : (pad : Option ℕ) (lcol rcol : ℕ) (now : Seen) → rows_script (record old.public { pad = pad }) select now
+      ≡ joins lcol rcol ++ (select_part (record old.public { pad = pad }) now (old.vault.next + 1) (extent_of (region_of q)) [] ++ ending_for pad now.k (discard_at old.vault.next))
+  asks_by pad lcol rcol now =
+      let p = record old.public { pad = pad } in
+      ap (source_script p now) of_join
+      ∙ (λ k. option_map_or (λ (left : Stored ℕ). option_map_or (λ (right : Stored ℕ). join_script p now left right) (stored_found b old.public.tables j u agrees.tables.names get_b named_b k) [])
       (stored_found a old.public.tables i t agrees.tables.names get_a named_a k) [])
       ∙ (λ k. join_part t.region u.region (agrees.next k) (blocks_for (sym agrees.room.pack k) t.heading.capacity) (blocks_for (sym agrees.room.pack k) u.heading.capacity)
       (buffered_blocks (sym agrees.room.pack k) (sym agrees.room.rows k)) (sym agrees.room.pack k * width (t.heading.schema ++ u.heading.schema))
-      ++ select_part old.public now (agrees.next k + 1) (extent_of (record { heading = record { name = []; schema = both_schemas k; capacity = both_slots k }; held = agrees.next k })) (discard_at (agrees.next k)))
-      ∙ ap (λ (x : List Access). joins lcol rcol ++ x) (select_split old.public now (old.vault.next + 1) (region_of q) (discard_at old.vault.next))
+      ++ select_part p now (agrees.next k + 1) (extent_of (record { heading = record { name = []; schema = both_schemas k; capacity = both_slots k }; held = agrees.next k })) (discard_at (agrees.next k)))
+      ∙ ap (λ (x : List Access). joins lcol rcol ++ x) (select_split p now (old.vault.next + 1) (region_of q) (discard_at old.vault.next))
 
-  long : (lcol rcol : ℕ) (now : Seen) → length (rows_script old.public select now)
-      ≡ length (joins lcol rcol) + (length (selection_script q now (old.vault.next + 1)) + length (ending_for now.k (discard_at old.vault.next)))
-  long lcol rcol now =
-      ap length (join_asks lcol rcol now) ∙ length-append (joins lcol rcol) (selection_script q now (old.vault.next + 1) ++ ending_for now.k (discard_at old.vault.next))
-      ∙ ap (λ (n : ℕ). length (joins lcol rcol) + n) (length-append (selection_script q now (old.vault.next + 1)) (ending_for now.k (discard_at old.vault.next)))
+  pub join_asks : (lcol rcol : ℕ) (now : Seen)
+      → rows_script old.public select now ≡ joins lcol rcol ++ (selection_script q now (old.vault.next + 1) ++ ending_for old.public.pad now.k (discard_at old.vault.next))
+  join_asks lcol rcol now = asks_by old.public.pad lcol rcol now
+
+  long : (pad : Option ℕ) (lcol rcol : ℕ) (now : Seen) → length (rows_script (record old.public { pad = pad }) select now)
+      ≡ length (joins lcol rcol)
+      + (length (select_part (record old.public { pad = pad }) now (old.vault.next + 1) (extent_of (region_of q)) []) + length (ending_for pad now.k (discard_at old.vault.next)))
+  long pad lcol rcol now =
+      let part = select_part (record old.public { pad = pad }) now (old.vault.next + 1) (extent_of (region_of q)) [] in
+      ap length (asks_by pad lcol rcol now) ∙ length-append (joins lcol rcol) (part ++ ending_for pad now.k (discard_at old.vault.next))
+      ∙ ap (λ (n : ℕ). length (joins lcol rcol) + n) (length-append part (ending_for pad now.k (discard_at old.vault.next)))
 
   counted_long : length (count_part old.vault.next (blocks_of old.public (extent_of (region_of q)))) ≡ counted_after q
   counted_long = length-count_part old.vault.next (blocks_of old.public (extent_of (region_of q)))
 
   pub join_count : (lcol rcol : ℕ) → count_end old.public (rows_skeleton select) ≡ length (joins lcol rcol) + counted_after q
   join_count lcol rcol =
-      let all = long lcol rcol (seen_to Whole) in
+      let all = long None lcol rcol (seen_to Whole) in
       let count = ap length (append-nil (count_part old.vault.next (blocks_of old.public (extent_of (region_of q))))) ∙ counted_long in
       omega (arith, all, count)
 
@@ -137,18 +153,19 @@ module _ {R : Type 0} (state : R → RevState) (old : Engine R) (s : StoreState)
   one_ending : ending_len (rows_skeleton select) ≡ 1
   one_ending = ap (λ (source : Source). ending_len (RowsSkeleton source select.list)) of_join
 
-  ending_long : (k : Option ℕ) (g : ℕ) → IsSome k → length (ending_for k (discard_at g)) ≡ 1
-  ending_long None g some = absurd (cc some)
-  ending_long (Some k) g some = refl
+  ending_long : (pad k : Option ℕ) (g : ℕ) → IsSome k → length (ending_for pad k (discard_at g)) ≡ 1
+  ending_long (Some pad) k g some = refl
+  ending_long None None g some = absurd (cc some)
+  ending_long None (Some k) g some = refl
 
   pub join_walk : (lcol rcol : ℕ) (now : Seen) → IsSome now.k → walk_end old.public (rows_skeleton select) now ≡ length (joins lcol rcol) + walked_after q now
   join_walk lcol rcol now some =
-      let all = long lcol rcol (record now { then = None }) in
-      let last = ending_long now.k old.vault.next some in
+      let all = long old.public.pad lcol rcol (record now { then = None }) in
+      let last = ending_long old.public.pad now.k old.vault.next some in
       let ends = one_ending in
       let same = select_length old.public agrees.settings.pack_least (some_buffered old.public.pack old.public.buffer agrees.settings.pack_least agrees.settings.blocks)
       (record now { then = None }) (old.vault.next + 1) 0 (region_of q) [] in
-      let parts = length-append (count_part old.vault.next (blocks_of old.public (extent_of (region_of q)))) (after_count old.public (record now { then = None }) now.k 0 (extent_of (region_of q)) []) in
+      let parts = length-append (count_part old.vault.next (blocks_of old.public (extent_of (region_of q)))) (behind_count old.public.pad old.public (record now { then = None }) 0 (extent_of (region_of q)) []) in
       let count = counted_long in
       let least = join_least in
       omega (arith, all, last, ends, same, parts, count, least)

@@ -240,7 +240,7 @@ module _ {R : Type 0} (state : R → RevState) (old : Engine R) (s s1 : StoreSta
           let least = join_least state old s i j t u a b on equals select agrees get_a get_b named_a named_b of_join in
           record {
             ended = tt;
-            halted = pairs_halt grew cut old.public select now before after out script (selection_script q now (old.vault.next + 1) ++ ending_for now.k (discard_at old.vault.next))
+            halted = pairs_halt grew cut old.public select now before after out script (selection_script q now (old.vault.next + 1) ++ ending_for old.public.pad now.k (discard_at old.vault.next))
                 (Make old.vault.next (Rattle.ob_join.specs.Join.blocks pass) (old.room.pack * width (columns pass) + 32)) (fill_script pass old.vault.next) e
                 (join_asks state old s i j t u a b on equals select agrees get_a get_b named_a named_b of_join lcol rcol now)
                 (λ y. (_, join_asks state old s i j t u a b on equals select agrees get_a get_b named_a named_b of_join lcol rcol y))

@@ -1,40 +1,53 @@
 -- What is seen of a SELECT of rows is lawful, whatever the store does.
-use Rattle.std.proofs.Common.{◌≡◌, ◌≤◌, ℕ, false, List, length, Option, Some, None, refl, sym, ap, subst, arith}
+use Rattle.std.proofs.Common.{◌≡◌, ◌⊎◌, inl, inr, ◌≤◌, ◌+◌, ◌-◌, ℕ, false, List, length, Option, Some, None, refl, sym, ap, subst, arith}
 use Rattle.std.specs.Prelude.{IsSome}
 use Rattle.ob_base.specs.declared.config.Plan.{Plan}
 use Rattle.ob_base.specs.declared.config.Plan.TheVariants.{Small, Hash}
 use Rattle.ob_base.specs.declared.config.Public.{Public}
 use Rattle.ob_base.specs.declared.refusal.Refusal.{Refusal}
-use Rattle.ob_base.specs.declared.refusal.Refusal.TheVariants.{NotConsecutive, Overflow}
+use Rattle.ob_base.specs.declared.refusal.Refusal.TheVariants.{NotConsecutive, Overflow, PadPassed}
 use Rattle.ob_base.specs.declared.access.Access.{Access}
 use Rattle.ob_base.specs.declared.seen.Seen.{Seen}
 use Rattle.ob_base.specs.declared.seen.End.{End}
 use Rattle.ob_base.specs.declared.seen.End.TheVariants.{Static, Whole, AfterCount, Cut}
 use Rattle.ob_script.specs.Script.{until_end}
 use Rattle.ob_sql.specs.declared.stmt.SelectRows.{SelectRows}
+use Rattle.ob_sql.specs.declared.stmt.Stmt.{Stmt}
 use Rattle.ob_sql.specs.declared.stmt.Stmt.TheVariants.{SelectRows as RowsStmt}
-use Rattle.ob_mean.specs.Lawful.{Lawful, Holds, EndsUnplanned as Unplanned, EndsFrom, CutUpTo}
+use Rattle.ob_mean.specs.Lawful.{Lawful, Holds, EndsUncounted, EndsUnplanned as Unplanned, EndsFrom, CutUpTo}
 use Rattle.ob_exec.specs.declared.selecting.Selected.{Selected}
 use Rattle.ob_exec.specs.declared.selecting.Selected.TheVariants.{Rows, Refused}
 use Rattle.ob_exec.specs.Running.{refusal_now, is_fault, outcome_end}
-use Rattle.ob_exec.specs.Selecting.{Selection, MayHold, EndsAs}
-use Rattle.ob_exec.specs.Sources.{selection, rows_script, ReachesRows, selected_outcome}
+use Rattle.ob_exec.specs.Selecting.{Selection, MayHold, EndsAs, EndsCounted, EndsPadded}
+use Rattle.ob_mean.specs.Replay.{ending_len}
+use Rattle.ob_verdict.proofs.LawfulProof.{same_script}
+use Rattle.ob_exec.specs.Sources.{selection, rows_script, rows_skeleton, ReachesRows, selected_outcome}
 
 -- ---- how it ends
+whole_padded : (q : Selection) (seen : Seen) → EndsPadded q seen → seen.end ≡ Whole
+whole_padded q seen is = ap (λ (x : Seen). x.end) is.nothing
+
+whole_rows : (q : Selection) (seen : Seen) → EndsCounted seen ⊎ EndsPadded q seen → seen.end ≡ Whole
+whole_rows q seen (inl is) = is.end
+whole_rows q seen (inr is) = whole_padded q seen is
+
 pub ended_end : (q : Selection) (answer : Selected) (seen : Seen) (n : ℕ) → EndsAs q answer seen → seen.end ≡ outcome_end (selected_outcome answer) n
-ended_end q (Rows k) seen n is = is.end
+ended_end q (Rows k) seen n is = whole_rows q seen is
+ended_end q (Refused PadPassed) seen n is = whole_padded q seen is
 ended_end q (Refused NotConsecutive) seen n is = is.end
 ended_end q (Refused (Overflow i)) seen n is = is.end
 ended_end q (Refused r) seen n is = absurd is
 
 pub ended_whole : (q : Selection) (answer : Selected) (seen : Seen) (all : List Access) → EndsAs q answer seen → until_end seen.end all ≡ all
-ended_whole q (Rows k) seen all is = ap (λ (e : End). until_end e all) is.end
+ended_whole q (Rows k) seen all is = ap (λ (e : End). until_end e all) (whole_rows q seen is)
+ended_whole q (Refused PadPassed) seen all is = ap (λ (e : End). until_end e all) (whole_padded q seen is)
 ended_whole q (Refused NotConsecutive) seen all is = ap (λ (e : End). until_end e all) is.end
 ended_whole q (Refused (Overflow i)) seen all is = ap (λ (e : End). until_end e all) is.end
 ended_whole q (Refused r) seen all is = absurd is
 
 pub ended_well : (q : Selection) (answer : Selected) (seen : Seen) → EndsAs q answer seen → is_fault (selected_outcome answer) ≡ false
 ended_well q (Rows k) seen is = refl
+ended_well q (Refused PadPassed) seen is = refl
 ended_well q (Refused NotConsecutive) seen is = refl
 ended_well q (Refused (Overflow i)) seen is = refl
 ended_well q (Refused r) seen is = absurd is
@@ -46,13 +59,15 @@ after_static : (e : End) → e ≡ AfterCount → e ≡ Static → ⊥
 after_static e is other = cc
 
 pub ended_late : (q : Selection) (answer : Selected) (seen : Seen) → EndsAs q answer seen → seen.end ≡ Static → ⊥
-ended_late q (Rows k) seen is static = whole_static seen.end is.end static
+ended_late q (Rows k) seen is static = whole_static seen.end (whole_rows q seen is) static
+ended_late q (Refused PadPassed) seen is static = whole_static seen.end (whole_padded q seen is) static
 ended_late q (Refused NotConsecutive) seen is static = after_static seen.end is.end static
 ended_late q (Refused (Overflow i)) seen is static = whole_static seen.end is.end static
 ended_late q (Refused r) seen is static = absurd is
 
 pub ended_uncut : (q : Selection) (answer : Selected) (seen : Seen) (m : ℕ) → EndsAs q answer seen → CutUpTo m seen.end
-ended_uncut q (Rows k) seen m is = subst (λ (e : End). CutUpTo m e) (sym is.end) tt
+ended_uncut q (Rows k) seen m is = subst (λ (e : End). CutUpTo m e) (sym (whole_rows q seen is)) tt
+ended_uncut q (Refused PadPassed) seen m is = subst (λ (e : End). CutUpTo m e) (sym (whole_padded q seen is)) tt
 ended_uncut q (Refused NotConsecutive) seen m is = subst (λ (e : End). CutUpTo m e) (sym is.end) tt
 ended_uncut q (Refused (Overflow i)) seen m is = subst (λ (e : End). CutUpTo m e) (sym is.end) tt
 ended_uncut q (Refused r) seen m is = absurd is
@@ -61,20 +76,32 @@ ended_uncut q (Refused r) seen m is = absurd is
 abbrev pub seen_as : Option ℕ → (plan second : Option Plan) → End → Seen
 seen_as k plan second end = record { k = k; plan = plan; then = second; end = end }
 
-uncounted : (q : Selection) (answer : Selected) (end : End) → EndsAs q answer (seen_as None None None end) → ⊥
-uncounted q (Rows k) end is = let none : None ≡ Some is.counted = is.count in cc
-uncounted q (Refused NotConsecutive) end is = let none : None ≡ Some is.k = is.count in cc
-uncounted q (Refused (Overflow i)) end is = let none : None ≡ Some Hash = is.plan in cc
-uncounted q (Refused r) end is = is
+-- without a count where results are padded alone
+pub uncounted : (q : Selection) (answer : Selected) (end : End) → EndsAs q answer (seen_as None None None end) → EndsPadded q (seen_as None None None end)
+uncounted q (Rows k) end (inl is) = let none : None ≡ Some is.counted = is.count in absurd (cc)
+uncounted q (Rows k) end (inr is) = is
+uncounted q (Refused PadPassed) end is = is
+uncounted q (Refused NotConsecutive) end is = let none : None ≡ Some is.k = is.count in absurd (cc)
+uncounted q (Refused (Overflow i)) end is = let none : None ≡ Some Hash = is.plan in absurd (cc)
+uncounted q (Refused r) end is = absurd is
+
+ends_uncounted : (p : Public) (stmt : Stmt) (end : End) → end ≡ Whole → IsSome p.pad → EndsUncounted p stmt end
+ends_uncounted p stmt end is padded = subst (λ (e : End). EndsUncounted p stmt e) (sym is) (inr padded)
 
 planned : (q : Selection) (answer : Selected) (k : ℕ) (plan : Plan) (second : Option Plan) (end : End) → EndsAs q answer (seen_as (Some k) (Some plan) second end) → end ≡ Whole
-planned q (Rows n) k plan second end is = is.end
+planned q (Rows n) k plan second end is = whole_rows q (seen_as (Some k) (Some plan) second end) is
+planned q (Refused PadPassed) k plan second end is = whole_padded q (seen_as (Some k) (Some plan) second end) is
 planned q (Refused NotConsecutive) k plan second end is = let none : Some plan ≡ None = is.plan in absurd (cc)
 planned q (Refused (Overflow i)) k plan second end is = is.end
 planned q (Refused r) k plan second end is = absurd is
 
+some_none : (k : ℕ) → Some k ≡ None → ⊥
+some_none k is = cc
+
 unplanned : (q : Selection) (answer : Selected) (k m : ℕ) (end : End) → EndsAs q answer (seen_as (Some k) None None end) → Unplanned q.public k m end
-unplanned q (Rows n) k m end is =
+unplanned q (Rows n) k m end (inr is) = absurd (some_none k (ap (λ (x : Seen). x.k) is.nothing))
+unplanned q (Refused PadPassed) k m end is = absurd (some_none k (ap (λ (x : Seen). x.k) is.nothing))
+unplanned q (Rows n) k m end (inl is) =
     let same : Some k ≡ Some is.counted = is.count in
     let zero_is : k ≡ 0 = omega (arith, unwrapped k is.counted same, is.none refl) in
     subst (λ (e : End). Unplanned q.public k m e) (sym is.end) zero_is
@@ -101,18 +128,20 @@ module _ (p : Public) (select : SelectRows) where
   -- of one that came to its end, or was refused for its rows
   holds_ended : (answer : Selected) (k : Option ℕ) (plan second : Option Plan) (end : End) → MayHold (selection p select) k plan second
       → EndsAs (selection p select) answer (seen_as k plan second end) → Holding k plan second end
-  holds_ended answer None None None end may is = absurd (uncounted (selection p select) answer end is)
+  holds_ended answer None None None end may is =
+      let padded = uncounted (selection p select) answer end is in
+      ends_uncounted p (RowsStmt select) end (whole_padded (selection p select) (seen_as None None None end) padded) padded.padded
   holds_ended answer None None (Some second) end may is = absurd may
   holds_ended answer None (Some plan) second end may is = absurd may
-  holds_ended answer (Some k) None None end may is = (record { counted = refl; most = may.0 }, unplanned (selection p select) answer k _ end is)
+  holds_ended answer (Some k) None None end may is = (record { counted = refl; unpadded = may.0.unpadded; most = may.0.most }, unplanned (selection p select) answer k _ end is)
   holds_ended answer (Some k) None (Some second) end may is = absurd may
   holds_ended answer (Some k) (Some plan) None end may is = (
-    record { counted = refl; most = may.0 },
+    record { counted = refl; unpadded = may.0.unpadded; most = may.0.most },
     record { some = may.1.some; chosen = (may.1.consecutive, may.1.chosen) },
     from_whole _ end (planned (selection p select) answer k plan None end is),
   )
   holds_ended answer (Some k) (Some Hash) (Some Small) end may is = (
-    record { counted = refl; most = may.0 },
+    record { counted = refl; unpadded = may.0.unpadded; most = may.0.most },
     record { some = may.1.some; chosen = (may.1.consecutive, may.1.chosen) },
     from_whole _ end (planned (selection p select) answer k Hash (Some Small) end is),
     may.2,
@@ -125,17 +154,17 @@ module _ (p : Public) (select : SelectRows) where
   holds_cut None None None end n may reached = tt
   holds_cut None None (Some second) end n may reached = absurd may
   holds_cut None (Some plan) second end n may reached = absurd may
-  holds_cut (Some k) None None end n may reached = (record { counted = refl; most = may.0 }, (reached.count refl, may.1))
+  holds_cut (Some k) None None end n may reached = (record { counted = refl; unpadded = may.0.unpadded; most = may.0.most }, (reached.count refl, may.1))
   holds_cut (Some k) None (Some second) end n may reached = absurd may
   holds_cut (Some k) (Some plan) None end n may reached = (
-    record { counted = refl; most = may.0 },
+    record { counted = refl; unpadded = may.0.unpadded; most = may.0.most },
     record { some = may.1.some; chosen = (may.1.consecutive, may.1.chosen) },
     reached.count refl,
   )
   holds_cut (Some k) (Some Hash) (Some Small) end n may reached = (
-    record { counted = refl; most = may.0 },
+    record { counted = refl; unpadded = may.0.unpadded; most = may.0.most },
     record { some = may.1.some; chosen = (may.1.consecutive, may.1.chosen) },
-    reached.walk refl,
+    subst (λ (l : List Access). length l - (ending_len (rows_skeleton select) + 1) ≤ n) (same_script p (rows_skeleton select) (seen_as (Some k) (Some Hash) None end) (Cut n)) (reached.walk refl),
     may.2,
   )
   holds_cut (Some k) (Some plan) (Some second) end n may reached = absurd may
@@ -160,5 +189,5 @@ module _ (p : Public) (select : SelectRows) where
     lawful_cut seen n may reached most = record {
       static = (λ static. absurd (cut_static n static), λ some. absurd (none_early some));
       holds = holds_cut seen.k seen.plan seen.then seen.end n may reached;
-      cut = most;
+      cut = subst (λ (l : List Access). n ≤ length l) (same_script p (rows_skeleton select) seen (Cut n)) most;
     }

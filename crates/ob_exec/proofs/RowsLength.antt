@@ -13,13 +13,14 @@ use Rattle.ob_base.specs.Lists.{each}
 use Rattle.ob_base.specs.Stored.{Stored}
 use Rattle.ob_row.specs.Slots.{is_consecutive}
 use Rattle.ob_base.specs.Accesses.{discard_at}
-use Rattle.ob_base.specs.Limits.{buffered_blocks}
+use Rattle.ob_base.specs.Limits.{buffered, buffered_blocks}
 use Rattle.ob_base.specs.Numbers.{blocks_for}
+use Rattle.ob_base.specs.Plans.{choose_padded, padded_rows}
 use Rattle.ob_script.specs.Parts.{continuous_block, continuous_part, copy_part, count_part, create_part, emission_part, hash_block, hash_part, large_part}
-use Rattle.ob_script.specs.Script.{after_count, blocks_of, extent_of, plan_part, result_blocks, result_part, rows_width, select_part}
+use Rattle.ob_script.specs.Script.{after_count, behind_count, blocks_of, extent_of, padded_part, plan_part, result_blocks, result_part, rows_width, select_part}
 use Rattle.ob_script.proofs.Lengths.{length-buckets, length-copy_part, length-count_part, length-passes, length-turns, length-writes}
 use Rattle.ob_mean.specs.Replay.{held_if}
-use Rattle.ob_mean.specs.Verdict.{fallback, first_unplaced, plan_for, seen_rows, seen_with}
+use Rattle.ob_mean.specs.Verdict.{fallback, first_unplaced, plan_for, seen_by, seen_rows, seen_with}
 use Rattle.ob_exec.proofs.RowsLawful.{seen_as}
 
 both_length : (a b c d : List Access) → length a ≡ length b → length c ≡ length d → length (a ++ c) ≡ length (b ++ d)
@@ -71,11 +72,19 @@ module _ (p : Public) (some : 0 < p.pack) (enough : 0 < buffered_blocks p.pack p
       (result_length now.plan k g h t)
       (both_length (result_part p now.then k (g + 1) (extent_of t)) (result_part p now.then k (h + 1) (extent_of t)) ending ending (result_length now.then k (g + 1) (h + 1) t) refl)
 
+  behind_length : (pad : Option ℕ) (now : Seen) (g h : ℕ) (t : Stored ℕ) (ending : List Access)
+      → length (behind_count pad p now g (extent_of t) ending) ≡ length (behind_count pad p now h (extent_of t) ending)
+  behind_length None now g h t ending = after_length now now.k g h t ending
+  behind_length (Some pad) now g h t ending =
+      let q = padded_rows pad t.heading.capacity in
+      both_length (padded_part p pad g (extent_of t)) (padded_part p pad h (extent_of t)) ending ending
+      (result_length (Some (choose_padded p.plan (buffered p.pack p.buffer) q)) q g h t) refl
+
   pub select_length : (now : Seen) (g h : ℕ) (t : Stored ℕ) (ending : List Access)
       → length (select_part p now g (extent_of t) ending) ≡ length (select_part p now h (extent_of t) ending)
   select_length now g h t ending =
       both_length (count_part t.held (blocks_of p (extent_of t))) (count_part t.held (blocks_of p (extent_of t)))
-      (after_count p now now.k g (extent_of t) ending) (after_count p now now.k h (extent_of t) ending) refl (after_length now now.k g h t ending)
+      (behind_count p.pad p now g (extent_of t) ending) (behind_count p.pad p now h (extent_of t) ending) refl (behind_length p.pad now g h t ending)
 
 -- ---- a second plan comes behind a first
 pub data Seconded (now : Seen) : Type 0 where
@@ -96,9 +105,13 @@ with_seconded p Large places = alone refl
 with_seconded p Continuous places = by_turn (is_consecutive places) (length places)
 with_seconded p Hash places = hash_seconded (length places) (fallback p.plan (first_unplaced p places))
 
+by_seconded : (pad : Option ℕ) (p : Public) (n : ℕ) (places : List ℕ) → Seconded (seen_by pad p n places)
+by_seconded None p n [] = alone refl
+by_seconded None p n (i ∷ is) = with_seconded p (plan_for p n (i ∷ is)) (i ∷ is)
+by_seconded (Some pad) p n places = alone refl
+
 pub rows_seconded : (p : Public) (n : ℕ) (places : List ℕ) → Seconded (seen_rows p n places)
-rows_seconded p n [] = alone refl
-rows_seconded p n (i ∷ is) = with_seconded p (plan_for p n (i ∷ is)) (i ∷ is)
+rows_seconded p n places = by_seconded p.pad p n places
 
 -- ---- nothing is held before
 pub held_none : {A : Type 0} (o : Option A) (m n : ℕ) → n < m → None ≡ held_if (nat_le m n) o

@@ -9,9 +9,9 @@ use Rattle.ob_base.specs.declared.shown.Shown.{Shown}
 use Rattle.ob_base.specs.Events.{Event, Head, Close, row_events}
 use Rattle.ob_base.specs.Limits.{buffered_blocks}
 use Rattle.ob_base.specs.Lists.{places_from}
+use Rattle.ob_base.specs.Plans.{IsPadded}
 use Rattle.ob_base.specs.Stored.{headings, headings_of}
 use Rattle.ob_row.specs.Bags.{Same, Inserts, here, further}
-use Rattle.ob_row.specs.Results.{result_slots}
 use Rattle.ob_row.specs.Rows.{Row}
 use Rattle.ob_row.specs.Slots.{Slots, rows, selected, is_selected}
 use Rattle.ob_row.specs.Totals.{printed}
@@ -26,9 +26,9 @@ use Rattle.ob_mean.specs.Prints.{Prints, Unfinished, Begun}
 use Rattle.ob_mean.specs.Refusals.{early_refusal}
 use Rattle.ob_mean.specs.Settle.{settle}
 use Rattle.ob_mean.specs.Step.{source_rows, selected_rows, rows_answer, select_columns, select_condition, printed_places, answered, followed}
-use Rattle.ob_mean.specs.Verdict.{Tables, database, is_late, refusal, verdict, seen, seen_rows, selected_places, plan_for, bucket_size, rows_refusal}
+use Rattle.ob_mean.specs.Verdict.{Tables, database, is_late, refusal, verdict, seen, seen_rows, selected_places, rows_refusal}
 use Rattle.ob_mean.proofs.VerdictLemmas.{headings-database, refused_late, seen_late}
-use Rattle.ob_verdict.specs.Laws.{AreInPlace, last_plan, printed_rows}
+use Rattle.ob_verdict.specs.Laws.{AreInPlace, printed_rows, selected_result}
 use Rattle.ob_verdict.proofs.AnswerProof.{prints_answer}
 use Rattle.ob_exec.specs.declared.outcome.Outcome.TheVariants.{Rows as RowsOut}
 use Rattle.ob_exec.specs.declared.selecting.Selected.TheVariants.{Rows}
@@ -76,7 +76,7 @@ followed_same None tables = refl
 followed_same (Some r) tables = refl
 
 module _ (p : Public) (m : ℕ) (select : SelectRows) (tables : Tables) (headed : headings tables ≡ headings_of p.tables) (in_place : AreInPlace tables)
-    (early : early_refusal (is_late m) p.pack p.buffer (headings tables) (RowsStmt select) ≡ None) (some : 1 ≤ p.pack) (enough : 3 * p.pack + 1 ≤ p.buffer)
+    (early : early_refusal (is_late m) p.pack p.buffer (headings tables) (RowsStmt select) ≡ None) (some : 1 ≤ p.pack) (enough : 3 * p.pack + 1 ≤ p.buffer) (padded : IsPadded p.pad p.plan)
     (labelled : labels_of (selection p select).flat.schema (selection p select).cols ≡ answer_labels (RowsStmt select) p)
     (source : Same (source_rows select.source (database tables)) (rows (slots_of p select tables))) where
   abbrev q : Selection
@@ -121,7 +121,7 @@ module _ (p : Public) (m : ℕ) (select : SelectRows) (tables : Tables) (headed 
   printed_is : printed_rows p tables select ≡ map (printed q.cols) (rows (result_of q slots))
   printed_is = λ i.
       map (printed (printed_places select (select_columns select (headed i))))
-      (rows (result_slots (last_plan p (plan_for p (length slots) (places_is i)) (places_is i)) (length (places_is i)) (bucket_size p) (is_true (select_condition select (headed i))) slots))
+      (rows (selected_result p (is_true (select_condition select (headed i))) slots))
 
   by_places : (ps : List ℕ) → chosen ≡ ps → rows_refusal p chosen ≡ None → Same told_rows (shown_where ps (map (printed q.cols) (rows (result_of q slots))))
   by_places [] is none =
@@ -130,7 +130,7 @@ module _ (p : Public) (m : ℕ) (select : SelectRows) (tables : Tables) (headed 
   by_places (i ∷ is) same none =
       let long : length (selected_places p select tables) ≡ suc (length is) = ap length (places_is ∙ same) in
       subst (λ (xs : List (List Shown)). Same told_rows xs) printed_is
-      (prints_answer p m tables select some (buffered_some p.pack p.buffer some enough) in_place (rows_refused ∙ none) (omega (arith, long)))
+      (prints_answer p m tables select some (buffered_some p.pack p.buffer some enough) padded in_place (rows_refused ∙ none) (omega (arith, long)))
 
   same_rows : rows_refusal p chosen ≡ None → Same told_rows (shown_rows q slots)
   same_rows none = by_places chosen refl none

@@ -12,13 +12,15 @@ use Rattle.ob_base.specs.declared.skeleton.Skeleton.TheVariants.{Rows as RowsSke
 use Rattle.ob_base.specs.declared.skeleton.Source.{Source}
 use Rattle.ob_base.specs.declared.skeleton.Source.TheVariants.{Table as OneTable, Join}
 use Rattle.ob_base.specs.Accesses.{discard_at}
+use Rattle.ob_base.specs.Limits.{buffered}
+use Rattle.ob_base.specs.Plans.{choose_padded, padded_rows}
 use Rattle.ob_base.specs.Events.{Event}
 use Rattle.ob_emit.specs.Emitting.{header}
 use Rattle.ob_exec.proofs.UntilLemmas.{until_none}
 use Rattle.ob_base.specs.Stored.{Stored, stored_at, stored_regions}
 use Rattle.ob_row.specs.Slots.{Slots}
 use Rattle.ob_script.specs.Parts.{count_part}
-use Rattle.ob_script.specs.Script.{extent_of, join_script, plan_part, result_blocks, table_script}
+use Rattle.ob_script.specs.Script.{behind_count, extent_of, join_script, plan_part, result_blocks, result_part, table_script}
 use Rattle.ob_store.specs.State.{StoreState}
 use Rattle.ob_store.specs.Calls.{Rests}
 use Rattle.ob_vault.specs.State.{VaultState}
@@ -33,28 +35,45 @@ use Rattle.ob_exec.specs.Selecting.{answer_events, from, places, seen_of}
 use Rattle.ob_exec.specs.Sources.{HaltsRows, HoldsRows, LeavesNone, SourceToHalt, rows_script, rows_skeleton, selection, slots_of}
 use Rattle.ob_exec.proofs.RowsLawful.{seen_as}
 use Rattle.ob_exec.proofs.RowsLength.{Seconded, alone, followed, held_empty, held_none, rows_seconded}
-use Rattle.ob_exec.proofs.RowsReach.{joined_part, joined_stored, part, part_length}
+use Rattle.ob_exec.proofs.RowsReach.{count_length, joined_part, joined_stored, part, part_length, unpadded}
 use Rattle.ob_exec.proofs.RunLemmas.{world}
 
 -- ---- the first result is read back behind the count
 module _ (p : Public) (k : ℕ) (plan : Plan) (second : Option Plan) (end : End) where
-  pub part_late : (g : ℕ) (t : Stored ℕ) (pre ending : List Access)
-      → length (part p g t pre ending (seen_to Whole)) ≤ length (part p g t pre ending (seen_as (Some k) (Some plan) None end)) - (length ending + 1)
-  part_late g t pre ending =
-      let a = part_length p g t pre ending (seen_to Whole) in
-      let b = part_length p g t pre ending (seen_as (Some k) (Some plan) None end) in
-      let made = plan_part p plan k g (extent_of t) in
-      let back = count_part g (result_blocks p plan k (extent_of t)) in
-      let c = length-append (made ++ (back ++ discard_at g)) ending in
-      let d = length-append made (back ++ discard_at g) in
-      let e = length-append back (discard_at g) in
-      omega (arith, a, b, c, d, e)
+  result_some : (taken : Plan) (rows g : ℕ) (t : Stored ℕ) → 1 ≤ length (result_part p (Some taken) rows g (extent_of t))
+  result_some taken rows g t =
+      let made = plan_part p taken rows g (extent_of t) in
+      let back = count_part g (result_blocks p taken rows (extent_of t)) in
+      let a = length-append made (back ++ discard_at g) in
+      let b = length-append back (discard_at g) in
+      omega (arith, a, b)
 
-  table_late : (o : Option (Stored ℕ)) → length (option_map_or (table_script p (seen_to Whole)) o []) ≤ length (option_map_or (table_script p (seen_as (Some k) (Some plan) None end)) o []) - 1
+  behind_late : (pad : Option ℕ) (g : ℕ) (t : Stored ℕ) (ending : List Access)
+      → length ending + 1 ≤ length (behind_count pad p (seen_as (Some k) (Some plan) None end) g (extent_of t) ending)
+  behind_late None g t ending =
+      let a = result_some plan k g t in
+      let b = length-append (result_part p (Some plan) k g (extent_of t)) ending in
+      omega (arith, a, b)
+  behind_late (Some pad) g t ending =
+      let rows = padded_rows pad t.heading.capacity in
+      let taken = choose_padded p.plan (buffered p.pack p.buffer) rows in
+      let a = result_some taken rows g t in
+      let b = length-append (result_part p (Some taken) rows g (extent_of t)) ending in
+      omega (arith, a, b)
+
+  pub part_late : (g : ℕ) (t : Stored ℕ) (pre ending : List Access)
+      → length (part (unpadded p) g t pre ending (seen_to Whole)) ≤ length (part p g t pre ending (seen_as (Some k) (Some plan) None end)) - (length ending + 1)
+  part_late g t pre ending =
+      let a = count_length p g t pre ending in
+      let b = part_length p g t pre ending (seen_as (Some k) (Some plan) None end) in
+      let c = behind_late p.pad g t ending in
+      omega (arith, a, b, c)
+
+  table_late : (o : Option (Stored ℕ)) → length (option_map_or (table_script (unpadded p) (seen_to Whole)) o []) ≤ length (option_map_or (table_script p (seen_as (Some k) (Some plan) None end)) o []) - 1
   table_late None = omega arith
   table_late (Some t) = part_late p.next_region t [] []
 
-  join_late : (o q : Option (Stored ℕ)) → length (option_map_or (λ left. option_map_or (λ right. join_script p (seen_to Whole) left right) q []) o [])
+  join_late : (o q : Option (Stored ℕ)) → length (option_map_or (λ left. option_map_or (λ right. join_script (unpadded p) (seen_to Whole) left right) q []) o [])
       ≤ length (option_map_or (λ left. option_map_or (λ right. join_script p (seen_as (Some k) (Some plan) None end) left right) q []) o []) - 2
   join_late None q = omega arith
   join_late (Some left) None = omega arith

@@ -7,7 +7,6 @@ use Rattle.ob_base.specs.declared.access.Access.{Access}
 use Rattle.ob_base.specs.declared.config.Plan.{Plan}
 use Rattle.ob_base.specs.declared.config.Public.{Public}
 use Rattle.ob_base.specs.declared.refusal.Refusal.{Refusal}
-use Rattle.ob_base.specs.declared.refusal.Refusal.TheVariants.{NotConsecutive, Overflow}
 use Rattle.ob_base.specs.declared.seen.Seen.{Seen}
 use Rattle.ob_base.specs.declared.seen.End.{End}
 use Rattle.ob_base.specs.declared.seen.End.TheVariants.{Whole}
@@ -19,7 +18,7 @@ use Rattle.ob_base.specs.Joins.{joined_slots}
 use Rattle.ob_base.specs.Limits.{buffered_blocks}
 use Rattle.ob_base.specs.Stored.{Stored, stored_at, stored_regions}
 use Rattle.ob_script.specs.Parts.{count_part, join_part}
-use Rattle.ob_script.specs.Script.{after_count, blocks_of, extent_of, join_script, joined_extent, result_part, rows_width, select_part, table_script, with_table}
+use Rattle.ob_script.specs.Script.{behind_count, blocks_of, extent_of, join_script, joined_extent, result_part, rows_width, select_part, table_script, with_table}
 use Rattle.ob_store.specs.State.{Lie}
 use Rattle.ob_vault.specs.State.{World}
 use Rattle.ob_vault.specs.Tied.{Calm, IsUnfit}
@@ -36,7 +35,8 @@ use Rattle.ob_exec.specs.declared.selecting.Selected.{Selected}
 use Rattle.ob_exec.specs.declared.selecting.Selected.TheVariants.{Rows, Refused}
 use Rattle.ob_exec.specs.Selecting.{EndsAs, MayHold, Selection, answer_events, answer_of, emitted_unless, from, seen_of, selected_as, shown_rows}
 use Rattle.ob_exec.specs.Sources.{EndsRows, HoldsRows, SourceToEnd, SourceToHalt, closing, rows_script, rows_skeleton, selection, slots_of}
-use Rattle.ob_exec.proofs.RowsLawful.{seen_as}
+use Rattle.ob_exec.specs.Memory.{HasCounted}
+use Rattle.ob_exec.proofs.RowsLawful.{seen_as, uncounted}
 use Rattle.ob_exec.proofs.RowsStops.{StopsRows}
 
 -- ---- no more than is asked
@@ -47,25 +47,42 @@ module _ (p : Public) (g : ℕ) (t : Stored ℕ) (pre ending : List Access) wher
   abbrev pub count : List Access
   count = count_part t.held (blocks_of p (extent_of t))
 
-  pub part_length : (now : Seen) → length (part now) ≡ length pre + (length count + length (after_count p now now.k g (extent_of t) ending))
+  pub part_length : (now : Seen) → length (part now) ≡ length pre + (length count + length (behind_count p.pad p now g (extent_of t) ending))
   part_length now =
       length-append pre (select_part p now g (extent_of t) ending)
-      ∙ ap (λ (n : ℕ). length pre + n) (length-append count (after_count p now now.k g (extent_of t) ending))
+      ∙ ap (λ (n : ℕ). length pre + n) (length-append count (behind_count p.pad p now g (extent_of t) ending))
 
-  pub count_short : (now : Seen) → length (part (seen_to Whole)) ≤ length (part now)
-  count_short now = let a = part_length (seen_to Whole) in let b = part_length now in omega (arith, a, b)
-
-  pub walk_short : (k : Option ℕ) (plan second : Option Plan) (end : End) → length (part (seen_as k plan None end)) ≤ length (part (seen_as k plan second end))
-  walk_short None plan second end = omega arith
-  walk_short (Some k) plan second end =
-      let a = part_length (seen_as (Some k) plan None end) in
-      let b = part_length (seen_as (Some k) plan second end) in
+  behind_short : (pad k : Option ℕ) (plan second : Option Plan) (end : End)
+      → length (behind_count pad p (seen_as k plan None end) g (extent_of t) ending) ≤ length (behind_count pad p (seen_as k plan second end) g (extent_of t) ending)
+  behind_short (Some pad) k plan second end = omega arith
+  behind_short None None plan second end = omega arith
+  behind_short None (Some k) plan second end =
       let first = result_part p plan k g (extent_of t) in
       let next = result_part p second k (g + 1) (extent_of t) in
       let c = length-append first ending in
       let d = length-append first (next ++ ending) in
       let e = length-append next ending in
-      omega (arith, a, b, c, d, e)
+      omega (arith, c, d, e)
+
+  pub walk_short : (k : Option ℕ) (plan second : Option Plan) (end : End) → length (part (seen_as k plan None end)) ≤ length (part (seen_as k plan second end))
+  walk_short k plan second end =
+      let a = part_length (seen_as k plan None end) in
+      let b = part_length (seen_as k plan second end) in
+      let c = behind_short p.pad k plan second end in
+      omega (arith, a, b, c)
+
+-- where results aren't padded
+abbrev pub unpadded : Public → Public
+unpadded p = record p { pad = None }
+
+-- the count alone
+pub count_length : (p : Public) (g : ℕ) (t : Stored ℕ) (pre ending : List Access)
+    → length (part (unpadded p) g t pre ending (seen_to Whole)) ≡ length pre + length (count p g t pre ending)
+count_length p g t pre ending = let a = part_length (unpadded p) g t pre ending (seen_to Whole) in omega (arith, a)
+
+count_short : (p : Public) (g : ℕ) (t : Stored ℕ) (pre ending : List Access) (now : Seen)
+    → length (part (unpadded p) g t pre ending (seen_to Whole)) ≤ length (part p g t pre ending now)
+count_short p g t pre ending now = let a = count_length p g t pre ending in let b = part_length p g t pre ending now in omega (arith, a, b)
 
 -- the joined region as a table's, whatever its name
 abbrev pub joined_stored : Public → (left right : Stored ℕ) → Stored ℕ
@@ -84,11 +101,11 @@ joined_part p left right =
     (rows_width p (joined_extent p left.heading right.heading))
 
 module _ (p : Public) (now : Seen) where
-  table_count : (o : Option (Stored ℕ)) → length (option_map_or (table_script p (seen_to Whole)) o []) ≤ length (option_map_or (table_script p now) o [])
+  table_count : (o : Option (Stored ℕ)) → length (option_map_or (table_script (unpadded p) (seen_to Whole)) o []) ≤ length (option_map_or (table_script p now) o [])
   table_count None = omega arith
   table_count (Some t) = count_short p p.next_region t [] [] now
 
-  join_count : (o q : Option (Stored ℕ)) → length (option_map_or (λ left. option_map_or (λ right. join_script p (seen_to Whole) left right) q []) o [])
+  join_count : (o q : Option (Stored ℕ)) → length (option_map_or (λ left. option_map_or (λ right. join_script (unpadded p) (seen_to Whole) left right) q []) o [])
       ≤ length (option_map_or (λ left. option_map_or (λ right. join_script p now left right) q []) o [])
   join_count None q = omega arith
   join_count (Some left) None = omega arith
@@ -133,14 +150,12 @@ held_all o m n within = sym (ap (λ (b : Bool). held_if b o) reached)
     reached : nat_le m n ≡ true
     reached = grind (arith, nat_tests)
 
-pub counted_some : (q : Selection) (answer : Selected) (k : Option ℕ) (plan second : Option Plan) (end : End) → MayHold q k plan second → EndsAs q answer (seen_as k plan second end) → IsSome k
-counted_some q answer (Some k) plan second end may is = refl
+pub counted_some : (q : Selection) (answer : Selected) (k : Option ℕ) (plan second : Option Plan) (end : End) → MayHold q k plan second → EndsAs q answer (seen_as k plan second end)
+    → HasCounted q.public (seen_as k plan second end)
+counted_some q answer (Some k) plan second end may is = inl refl
 counted_some q answer None (Some plan) second end may is = absurd may
 counted_some q answer None None (Some second) end may is = absurd may
-counted_some q (Rows n) None None None end may is = let none : None ≡ Some is.counted = is.count in absurd (cc)
-counted_some q (Refused NotConsecutive) None None None end may is = let none : None ≡ Some is.k = is.count in absurd (cc)
-counted_some q (Refused (Overflow i)) None None None end may is = let none : None ≡ Some Rattle.ob_base.specs.declared.config.Plan.TheVariants.Hash = is.plan in absurd (cc)
-counted_some q (Refused r) None None None end may is = absurd is
+counted_some q answer None None None end may is = inr (uncounted q answer end is).padded
 
 lie_unfit : (w : World) → Calm w → IsUnfit w → w.store.lie ≡ None
 lie_unfit w calm unfit = go w.store.lie refl

@@ -21,6 +21,7 @@ use Rattle.ob_flat.specs.declared.fault.OpErr.{OpErr}
 use Rattle.ob_flat.specs.declared.fault.OpErr.TheVariants as OpErrs
 use Rattle.ob_flat.specs.Passes.{PassCut, PassCause}
 use Rattle.ob_sql.specs.declared.stmt.SelectRows.{SelectRows}
+use Rattle.ob_verdict.proofs.LawfulProof.{same_script}
 use Rattle.ob_exec.specs.declared.engine.Engine.{Engine}
 use Rattle.ob_exec.specs.declared.selecting.Selected.{Selected}
 use Rattle.ob_exec.specs.Agreeing.{Agrees, world_of}
@@ -91,14 +92,7 @@ module _ {R : Type 0} (state : R → RevState) (old : Engine R) (s : StoreState)
         agrees = record {
           ready = ready;
           next = refl;
-          settings = record {
-            blocks = agrees.settings.blocks;
-            most = agrees.settings.most;
-            depth_least = agrees.settings.depth_least;
-            depth_most = agrees.settings.depth_most;
-            pack_least = agrees.settings.pack_least;
-            pack_most = agrees.settings.pack_most;
-          };
+          settings = agrees.settings;
           room = record { idle = rows_free.idle; rows = rows_free.rows; pack = rows_free.pack };
           tables = are;
         };
@@ -136,8 +130,10 @@ module _ {R : Type 0} (state : R → RevState) (old : Engine R) (s : StoreState)
   pub rows_cut : (e : OpErr) (seen : Seen) (n : ℕ) → n ≡ length t.asked - length s.asked
       → PassCut e (rows_script old.public select seen) (from old.vault.next) (world_of state old s) (at state v t) → LeavesNone (world_of state old s) (at state v t)
       → Ran state (rows_skeleton select) (answer_of e) old s (rows_after old v room (record seen { end = Cut n }) (is_stop (answer_of e))) t
-  rows_cut e seen n count cut leaves =
-      let all = rows_script old.public select seen in
+  rows_cut e seen n count cut_short leaves =
+      let all = rows_script old.public select (record seen { end = Cut n }) in
+      let cut : PassCut e all (from old.vault.next) (world_of state old s) (at state v t) =
+      subst (λ (l : List Access). PassCut e l (from old.vault.next) (world_of state old s) (at state v t)) (same_script old.public (rows_skeleton select) seen (Cut n)) cut_short in
       let first : t.asked ≡ s.asked ++ take n all = began_take all _ _ cut.began ∙ ap (λ (k : ℕ). s.asked ++ take k all) (sym count) in
       record {
         asked = first;

@@ -32,8 +32,9 @@ use Rattle.ob_sql.specs.declared.stmt.Stmt.TheVariants.{SelectRows as RowsStmt}
 use Rattle.ob_mean.specs.Refusals.{early_refusal}
 use Rattle.ob_mean.specs.Replay.{cut_at}
 use Rattle.ob_mean.specs.Step.{source_rows}
-use Rattle.ob_mean.specs.Verdict.{Tables, database, is_late, plan_for, seen, seen_rows, seen_with}
+use Rattle.ob_mean.specs.Verdict.{Tables, database, is_late, plan_for, seen, seen_by, seen_with}
 use Rattle.ob_verdict.specs.Laws.{AreInPlace}
+use Rattle.ob_verdict.proofs.LawfulProof.{same_script}
 use Rattle.ob_exec.specs.declared.engine.Engine.{Engine}
 use Rattle.ob_exec.specs.declared.outcome.Outcome.{Outcome}
 use Rattle.ob_exec.specs.declared.selecting.Selected.{Selected}
@@ -88,9 +89,10 @@ pub record StopsRows {E : Type 0} (grew cut : E → E → List Event → Type 0)
   pub begun : ReadsMeant p select old new
 
 -- a SELECT of rows comes to its end, or is refused behind its count
-until_rows : (p : Public) (n : ℕ) (places : List ℕ) (all : List Access) → until_end (seen_rows p n places).end all ≡ all
-until_rows p n [] all = refl
-until_rows p n (i ∷ is) all = by (plan_for p n (i ∷ is))
+until_rows : (pad : Option ℕ) (p : Public) (n : ℕ) (places : List ℕ) (all : List Access) → until_end (seen_by pad p n places).end all ≡ all
+until_rows (Some pad) p n places all = refl
+until_rows None p n [] all = refl
+until_rows None p n (i ∷ is) all = by (plan_for p n (i ∷ is))
   where
     side : (b : Bool) (x y : Seen) → until_end x.end all ≡ all → until_end y.end all ≡ all → until_end (if b then x else y).end all ≡ all
     side true x y one two = one
@@ -191,16 +193,16 @@ module _ {R : Type 0} (state : R → RevState) (old : Engine R) (s : StoreState)
     seen_cut failed now n count holds =
         (λ i. record { k = holds.k i; plan = holds.plan i; then = holds.second i; end = Cut (count i) })
         ∙ ap (cut_at failed (length t.asked - length s.asked) old.public (rows_skeleton select))
-        (sym (rows_seen old.public (length s.asked) select tables headed stands.in_place early agrees.settings.pack_least agrees.settings.blocks source.labelled rows_of))
+        (sym (rows_seen old.public (length s.asked) select tables headed stands.in_place early agrees.settings.pack_least agrees.settings.blocks agrees.settings.padded source.labelled rows_of))
 
   pub rows_begun : ReadsMeant old.public select before after → (tables : Tables) → ReadsTrue state old s s tables → (lie : Lie) → t.lie ≡ Some lie
       → ReadsIn lie (s.asked ++ meant_script old.public (length s.asked) tables (RowsStmt select))
   rows_begun begun tables reads lie told =
       let q = selection old.public select in
       let slots = slots_of old.public select tables in
-      let meant = rows_seen old.public (length s.asked) select tables (headed tables reads.held) reads.held.in_place (early tables reads.held) agrees.settings.pack_least agrees.settings.blocks source.labelled (rows_of tables reads.held) in
+      let meant = rows_seen old.public (length s.asked) select tables (headed tables reads.held) reads.held.in_place (early tables reads.held) agrees.settings.pack_least agrees.settings.blocks agrees.settings.padded source.labelled (rows_of tables reads.held) in
       subst (λ (l : List Access). ReadsIn lie (s.asked ++ l))
-      (sym (ap (script old.public (rows_skeleton select)) meant ∙ until_rows old.public (length slots) (places q slots) (rows_script old.public select (seen_of q slots))))
+      (sym (ap (script old.public (rows_skeleton select)) meant ∙ until_rows old.public.pad old.public (length slots) (places q slots) (rows_script old.public select (seen_of q slots))))
       (begun (record { tells = reads.tells; tables = tables; held = reads.held.held; in_place = reads.held.in_place; nolie = reads.nolie }) lie told)
 
   module _ {E : Type 0} (grew cut : E → E → List Event → Type 0) (faults : E → ℕ) (starts : (x : E) → grew x x []) (now : Seen) (n : ℕ) (out_old out_new : E)
@@ -249,7 +251,7 @@ module _ {R : Type 0} (state : R → RevState) (old : Engine R) (s : StoreState)
           told = λ tables reads.
               let rest = part.told (to_halt tables reads) in
               rows_unfinished old.public (length s.asked) select tables (headed tables reads.held) reads.held.in_place (early tables reads.held)
-              agrees.settings.pack_least agrees.settings.blocks source.labelled (rows_of tables reads.held) part.events rest.0 rest.1;
+              agrees.settings.pack_least agrees.settings.blocks agrees.settings.padded source.labelled (rows_of tables reads.held) part.events rest.0 rest.1;
         }
     stop_answered (OpErrs.Tampered q x) is = tt
     stop_answered OpErrs.Sink is = tt
@@ -265,7 +267,7 @@ module _ {R : Type 0} (state : R → RevState) (old : Engine R) (s : StoreState)
       ends = ends;
       told = λ tables reads.
           rows_partly old.public (length s.asked) select tables (headed tables reads.held) reads.held.in_place (early tables reads.held)
-          agrees.settings.pack_least agrees.settings.blocks source.labelled (rows_of tables reads.held) events (told (until (record now { end = Cut n }) (is_stop (answer_of e)) tables reads));
+          agrees.settings.pack_least agrees.settings.blocks agrees.settings.padded source.labelled (rows_of tables reads.held) events (told (until (record now { end = Cut n }) (is_stop (answer_of e)) tables reads));
     }
 
     stop_stopped : (e : OpErr) → StopsRows grew cut old.public select e now before after out_old out_new
@@ -299,7 +301,7 @@ module _ {R : Type 0} (state : R → RevState) (old : Engine R) (s : StoreState)
           record {
             done = lacks.done;
             rest = lacks.rest;
-            split = lacks.split;
+            split = lacks.split ∙ same_script old.public (rows_skeleton select) now (Cut n);
             asked = lacks.asked;
             place = elim lacks.place [
               | inl make ↦ inl make

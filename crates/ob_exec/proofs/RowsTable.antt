@@ -122,15 +122,18 @@ module _ {R : Type 0} (state : R → RevState) (old : Engine R) (s s1 : StoreSta
   q = stated old.public select t.region 0
 
   -- what is asked is what the statement asks
+  script_by : (pad : Option ℕ) (now : Seen) → select_part (record old.public { pad = pad }) now old.vault.next (extent_of (region_of q)) [] ≡ rows_script (record old.public { pad = pad }) select now
+  script_by pad now =
+      (λ j. select_part (record old.public { pad = pad }) now (sym agrees.next j) (extent_of (record { heading = record { name = []; schema = sym schema_is j; capacity = sym capacity_is j }; held = t.region })) [])
+      ∙ sym (ap (λ (o : Option (Stored ℕ)). option_map_or (table_script (record old.public { pad = pad }) now) o []) (stored_found name old.public.tables i t agrees.tables.names get named))
+      ∙ sym (ap (source_script (record old.public { pad = pad }) now) of_table)
+
   script_is : (now : Seen) → selection_script q now old.vault.next ≡ rows_script old.public select now
-  script_is now =
-      (λ j. select_part old.public now (sym agrees.next j) (extent_of (record { heading = record { name = []; schema = sym schema_is j; capacity = sym capacity_is j }; held = t.region })) [])
-      ∙ sym (ap (λ (o : Option (Stored ℕ)). option_map_or (table_script old.public now) o []) (stored_found name old.public.tables i t agrees.tables.names get named))
-      ∙ sym (ap (source_script old.public now) of_table)
+  script_is now = script_by old.public.pad now
 
   count_is : count_end old.public (rows_skeleton select) ≡ counted_after q
   count_is =
-      ap length (sym (script_is (seen_to Whole))) ∙ ap length (append-nil (count_part t.region (blocks_of old.public (extent_of (region_of q)))))
+      ap length (sym (script_by None (seen_to Whole))) ∙ ap length (append-nil (count_part t.region (blocks_of old.public (extent_of (region_of q)))))
       ∙ length-count_part t.region (blocks_of old.public (extent_of (region_of q)))
 
   no_ending : ending_len (rows_skeleton select) ≡ 0

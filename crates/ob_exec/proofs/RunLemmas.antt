@@ -138,14 +138,7 @@ module _ {R : Type 0} (state : R → RevState) (skeleton : Skeleton) (old : Engi
         agrees = record {
           ready = ready;
           next = refl;
-          settings = record {
-            blocks = agrees.settings.blocks;
-            most = agrees.settings.most;
-            depth_least = agrees.settings.depth_least;
-            depth_most = agrees.settings.depth_most;
-            pack_least = agrees.settings.pack_least;
-            pack_most = agrees.settings.pack_most;
-          };
+          settings = agrees.settings;
           room = record { idle = free.idle; rows = free.rows; pack = free.pack };
           tables = are;
         };

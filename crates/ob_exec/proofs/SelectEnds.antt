@@ -13,6 +13,8 @@ use Rattle.ob_base.specs.Plans.{choose}
 use Rattle.ob_base.proofs.EventLemmas.{emitted_head}
 use Rattle.ob_room.specs.RoomState.{RoomState}
 use Rattle.ob_row.specs.Truth.{is_true}
+use Rattle.ob_base.specs.declared.seen.Seen.{Seen}
+use Rattle.ob_script.specs.Script.{after_count, extent_of}
 use Rattle.ob_script.proofs.Lengths.{length-count_part}
 use Rattle.ob_vault.specs.State.{World}
 use Rattle.ob_vault.specs.Calls.{Went, none, one}
@@ -29,7 +31,7 @@ use Rattle.ob_flat.proofs.WordLemmas.{ran_lasts}
 use Rattle.ob_mean.specs.Verdict.{counted, plan_for, ended as seen_to}
 use Rattle.ob_exec.specs.declared.selecting.Selected.{Selected}
 use Rattle.ob_exec.specs.declared.selecting.Selected.TheVariants.{Rows, Refused}
-use Rattle.ob_exec.specs.Selecting.{Selection, MaySelect, SelectsFrom, SelectsToEnd, SelectsToHalt, EmitsSelected, places, selected_as, shown_rows, result_of, seen_of, answer_of, answer_events, emitted_unless, EndsAs, counted_after, from}
+use Rattle.ob_exec.specs.Selecting.{Selection, MaySelect, SelectsFrom, SelectsToEnd, SelectsToHalt, EmitsSelected, places, selected_as, shown_rows, result_of, seen_of, answer_of, answer_events, emitted_unless, EndsAs, IsCountOf, selection_script, region_of, counted_after, from}
 use Rattle.std.specs.Prelude.{is_some}
 use Rattle.ob_base.specs.declared.config.Public.{Public}
 use Rattle.ob_vault.proofs.Runs.{lives_apart}
@@ -52,7 +54,7 @@ use Rattle.ob_row.specs.Slots.{Slots}
 use Rattle.std.specs.Prelude.{map}
 use Rattle.ob_row.specs.Slots.{rows, is_consecutive}
 use Rattle.ob_row.specs.Totals.{printed}
-use Rattle.ob_exec.proofs.SelectRuns.{counts_of, none_above, none_still, none_again, none_from, ran_first, ran_second, next_counted, next_made, place_in, not_empty}
+use Rattle.ob_exec.proofs.SelectRuns.{counts_of, script_is, none_above, none_still, none_again, none_from, ran_first, ran_second, next_counted, next_made, place_in, not_empty}
 
 -- a selection counts at least one block
 pub count_some : (q : Selection) (room : RoomState) (w : World) → MaySelect q room w → 1 ≤ counted_after q
@@ -63,7 +65,7 @@ count_some q room w may =
 pub counts_at : (q : Selection) (pack : ℕ) (result : Result Counted OpErr) (old mid : World) → pack ≡ q.public.pack → CountsRows pack q.flat (is_true q.condition) result old mid → CountsRows q.public.pack q.flat (is_true q.condition) result old mid
 counts_at q pack result old mid same is = subst (λ (p : ℕ). CountsRows p q.flat (is_true q.condition) result old mid) same is
 
-on_err_of : {T F P : Type 0} (x : Result T F) → P → OnErr x P
+pub on_err_of : {T F P : Type 0} (x : Result T F) → P → OnErr x P
 on_err_of (Ok v) h = tt
 on_err_of (Err e) h = h
 
@@ -79,7 +81,7 @@ module _ {E : Type 0} (grew cut : E → E → List Event → Type 0) (faults : E
   -- the count failed
   pub end_uncounted : (e : OpErr) (out : E) → CountsRows q.public.pack q.flat (is_true q.condition) (Err e) old mid → SelectsFrom grew cut faults q (Err e) (seen_to Whole) old mid out out
   end_uncounted e out is = record {
-    ran = record { ok = tt; err = pass_more (from old.vault.next) old mid e (counts_of q) [] (pass_wider none old mid (from old.vault.next) (none_from old.vault.next) e (counts_of q) is.ran.err) };
+    ran = record { ok = tt; err = pass_more (from old.vault.next) old mid e (counts_of q) _ (pass_wider none old mid (from old.vault.next) (none_from old.vault.next) e (counts_of q) is.ran.err) };
     gone = none_still old.vault.next old mid is.ran.err.lasts (none_above old may.ready);
     spare = tt;
     seals = λ good fine. is.seals.seals good;
@@ -104,7 +106,7 @@ module _ {E : Type 0} (grew cut : E → E → List Event → Type 0) (faults : E
       never : e ≡ NoMemory → ⊥
       never none = elim is.never [ inl f ↦ cc (f, none) | inr t ↦ cc (t.is, none) ]
 
-  module _ (k : ℕ) (c : Bool) (is : CountsRows q.public.pack q.flat (is_true q.condition) (Ok (record { k = k; consecutive = c })) old mid) where
+  module _ (unpadded : q.public.pad ≡ None) (k : ℕ) (c : Bool) (is : CountsRows q.public.pack q.flat (is_true q.condition) (Ok (record { k = k; consecutive = c })) old mid) where
     count : Went (counts_of q) none old mid
     count = is.ran.ok
 
@@ -127,6 +129,13 @@ module _ {E : Type 0} (grew cut : E → E → List Event → Type 0) (faults : E
         cause Failed never = absurd (elim never [ inl e ↦ cc e | inr e ↦ cc e ])
         cause (Tampered r x) never = absurd (elim never [ inl e ↦ cc e | inr e ↦ cc e ])
 
+    by_script : (seen : Seen) (result : Result Selected OpErr) (new : World) → Ran (counts_of q ++ after_count q.public seen seen.k old.vault.next (extent_of (region_of q)) []) (from old.vault.next) result old new
+        → Ran (selection_script q seen old.vault.next) (from old.vault.next) result old new
+    by_script seen result new ran = subst (λ (x : List Access). Ran x (from old.vault.next) result old new) (sym (script_is q seen old.vault.next unpadded)) ran
+
+    is_count : IsCountOf q k
+    is_count = record { unpadded = unpadded; most = is.most }
+
     gone_alone : (x : ℕ) → old.vault.next ≤ x → mid.vault.revs.live x ≡ None
     gone_alone = none_still old.vault.next old mid count.lasts (none_above old may.ready)
 
@@ -140,24 +149,24 @@ module _ {E : Type 0} (grew cut : E → E → List Event → Type 0) (faults : E
     none_shown slots empty = sym (shown_none (places q slots) (map (printed q.cols) (rows (result_of q slots))) empty)
 
     none_events : (slots : Slots) → length (places q slots) ≡ 0 → head_of q ++ [] ≡ answer_events q slots
-    none_events slots empty = λ i. emitted_unless (sym (refusal_none q.public (places q slots) empty) i) (head_of q ++ row_events (none_shown slots empty i))
+    none_events slots empty = λ i. emitted_unless (sym (refusal_none q.public (places q slots) empty unpadded) i) (head_of q ++ row_events (none_shown slots empty i))
 
     none_seen : (slots : Slots) → length (places q slots) ≡ 0 → k ≡ 0 → counted k None None Whole ≡ seen_of q slots
-    none_seen slots empty zeros = ap (λ (n : ℕ). counted n None None Whole) zeros ∙ sym (seen_none q.public (length slots) (places q slots) empty)
+    none_seen slots empty zeros = ap (λ (n : ℕ). counted n None None Whole) zeros ∙ sym (seen_none q.public (length slots) (places q slots) empty unpadded)
 
     none_answer : (slots : Slots) → length (places q slots) ≡ 0 → Rows 0 ≡ answer_of q slots
-    none_answer slots empty = sym (λ i. selected_as (refusal_none q.public (places q slots) empty i) (empty i))
+    none_answer slots empty = sym (λ i. selected_as (refusal_none q.public (places q slots) empty unpadded i) (empty i))
 
     -- no row was counted
     pub end_none : (result : Result Selected OpErr) (out_old out_new : E) → k ≡ 0 → EmitsHead grew cut faults (head_of q) result out_old out_new
         → SelectsFrom grew cut faults q result (counted k None None Whole) old mid out_old out_new
     end_none (Ok answer) out_old out_new empty head = record {
-      ran = ran_alone (Ok answer) tt;
+      ran = by_script (counted k None None Whole) (Ok answer) mid (ran_alone (Ok answer) tt);
       gone = gone_alone;
       spare = omega (arith, may.spare, count.spare, length-count_part q.flat.region (counted_after q));
       seals = λ good fine. is.seals.seals good;
-      holds = (is.most, inl empty);
-      ended = subst (λ (a : Selected). EndsAs q a (counted k None None Whole)) (sym head.ok.0) (record { counted = k; count = refl; end = refl; none = λ same. empty });
+      holds = (is_count, inl empty);
+      ended = subst (λ (a : Selected). EndsAs q a (counted k None None Whole)) (sym head.ok.0) (inl (record { counted = k; count = refl; end = refl; none = λ same. empty }));
       reached = tt;
       memory = λ none. absurd (cc none);
       emitted = subst (λ (a : Selected). EmitsSelected grew q a old mid out_old out_new) (sym head.ok.0)
@@ -169,20 +178,20 @@ module _ {E : Type 0} (grew cut : E → E → List Event → Type 0) (faults : E
       begun = λ s lie told. went_in (counts_of q) _ old mid lie count s.nolie told;
     }
     end_none (Err e) out_old out_new empty head = record {
-      ran = ran_alone (Err e) head.err.0;
+      ran = by_script (counted k None None Whole) (Err e) mid (ran_alone (Err e) head.err.0);
       gone = gone_alone;
       spare = tt;
       seals = λ good fine. is.seals.seals good;
-      holds = (is.most, inl empty);
+      holds = (is_count, inl empty);
       ended = tt;
       reached = record { count = λ some. omega (arith, long); walk = λ some. absurd (cc some) };
       memory = λ none. record {
         done = counts_of q;
         rest = [];
-        split = refl;
+        split = append-nil (counts_of q) ∙ sym (append-nil (counts_of q)) ∙ sym (script_is q (counted k None None Whole) old.vault.next unpadded);
         asked = count.did.asked;
         some = not_empty (counts_of q) (omega (arith, count_some q room old may, length-count_part q.flat.region (counted_after q)));
-        place = inr (refl, refl, record { events = head_of q; ends = head.err.1 });
+        place = inr (inl refl, refl, record { events = head_of q; ends = head.err.1 });
       };
       emitted = tt;
       halted = until_given grew cut (head_of q) e _ out_old out_new head.err.0 (record { events = head_of q; ends = head.err.1; told = λ s. ([], none_events s.slots (no_places s.slots s.is (halt_nolie s) empty)) });
@@ -196,11 +205,11 @@ module _ {E : Type 0} (grew cut : E → E → List Event → Type 0) (faults : E
     -- Continuous was forced, and refused
     pub end_refused : (out : E) → 1 ≤ k → q.public.plan ≡ Some Continuous → c ≡ false → SelectsFrom grew cut faults q (Ok (Refused Refusals.NotConsecutive)) (counted k None None AfterCount) old mid out out
     end_refused out least forced apart = record {
-      ran = ran_alone (Ok (Refused Refusals.NotConsecutive)) tt;
+      ran = by_script (counted k None None AfterCount) (Ok (Refused Refusals.NotConsecutive)) mid (ran_alone (Ok (Refused Refusals.NotConsecutive)) tt);
       gone = gone_alone;
       spare = omega (arith, may.spare, count.spare, length-count_part q.flat.region (counted_after q));
       seals = λ good fine. is.seals.seals good;
-      holds = (is.most, inr forced);
+      holds = (is_count, inr forced);
       ended = record { k = k; some = least; count = refl; forced = forced; plan = refl; end = refl };
       reached = tt;
       memory = λ none. absurd (cc none);
@@ -212,19 +221,20 @@ module _ {E : Type 0} (grew cut : E → E → List Event → Type 0) (faults : E
           let some : 1 ≤ length (places q s.slots) = omega (arith, least, are.0) in
           let off = sym are.1 ∙ apart in
           let so : Continuous ≡ plan_for q.public (length s.slots) (places q s.slots) = sym (ap (λ (o : Option Plan). choose o (buffered q.public.pack q.public.buffer) (length s.slots) (length (places q s.slots)) (is_consecutive (places q s.slots))) forced) in (
-            sym (ap (λ (o : Option Refusal). selected_as o (length (places q s.slots))) (refuses_apart q.public (places q s.slots) (length s.slots) Continuous some so forced off)),
-            ap (λ (n : ℕ). counted n None None AfterCount) are.0 ∙ sym (seen_apart q.public (places q s.slots) (length s.slots) Continuous some so refl off),
+            sym (ap (λ (o : Option Refusal). selected_as o (length (places q s.slots))) (refuses_apart q.public (places q s.slots) (length s.slots) Continuous some so unpadded forced off)),
+            ap (λ (n : ℕ). counted n None None AfterCount) are.0 ∙ sym (seen_apart q.public (places q s.slots) (length s.slots) Continuous some so unpadded refl off),
           );
       held = λ s. tt;
       begun = λ s lie told. went_in (counts_of q) _ old mid lie count s.nolie told;
     }
 
     module _ (plan : Plan) (side : plan ≡ Continuous → IsTrue c) (least : 1 ≤ k) (chosen : plan ≡ choose q.public.plan (buffered q.public.pack q.public.buffer) q.flat.capacity k c) where
-      first_ended : (result : Result Selected OpErr) → IfOk result (IsFinal q) → IfOk result (MayAnswer plan) → IfOk result (λ a. EndsAs q a (counted k (Some plan) None Whole))
-      first_ended (Ok (Rows n)) final answers = record { counted = k; count = refl; end = refl; none = λ none. absurd (cc none) }
+      first_ended : (result : Result Selected OpErr) → IfOk result (IsFinal q) → IfOk result (MayAnswer plan None) → IfOk result (λ a. EndsAs q a (counted k (Some plan) None Whole))
+      first_ended (Ok (Rows n)) final answers = inl (record { counted = k; count = refl; end = refl; none = λ none. absurd (cc none) })
       first_ended (Ok (Refused (Refusals.Overflow i))) final answers =
-          record { forced = forced_is q k plan c q.public.plan chosen final ∙ ap Some answers; plan = ap Some answers; second = refl; end = refl }
+          record { forced = forced_is q k plan c q.public.plan chosen final ∙ ap Some answers.0; plan = ap Some answers.0; second = refl; end = refl }
       first_ended (Err e) final answers = tt
+      first_ended (Ok (Refused Refusals.PadPassed)) final answers = absurd (cc answers)
       first_ended (Ok (Refused _)) final answers = absurd answers
 
       -- the first plan's result came to an end
@@ -235,11 +245,11 @@ module _ {E : Type 0} (grew cut : E → E → List Event → Type 0) (faults : E
           let same = next_counted q old mid may.ready count in
           let ran = ran_first q old mid may.ready count result (planned q plan k) new by.ran in
           record {
-            ran = ran;
+            ran = by_script (counted k (Some plan) None Whole) result new ran;
             gone = none_again old.vault.next mid.vault.next mid new lasts by.gone gone_alone;
             spare = by.spare;
             seals = λ good fine. seals_join good old mid new count.lasts.later (is.seals.seals good) (by.seals good fine);
-            holds = (is.most, record { some = least; consecutive = c; chosen = chosen });
+            holds = (is_count, record { some = least; consecutive = c; chosen = chosen });
             ended = first_ended result final by.may;
             reached = on_err_of result (record { count = λ some. omega (arith, long, ran_long result by.ran); walk = λ some. absurd (cc some) });
             memory = λ none.
@@ -247,28 +257,30 @@ module _ {E : Type 0} (grew cut : E → E → List Event → Type 0) (faults : E
                 record {
                   done = counts_of q ++ m.done;
                   rest = m.rest;
-                  split = append_assoc (counts_of q) m.done m.rest ∙ ap (λ (x : List Access). counts_of q ++ x) (m.split ∙ ap (λ (n : ℕ). whole_part (planned q plan k) n) same ∙ sym (append-nil (whole_part (planned q plan k) old.vault.next)));
+                  split = append_assoc (counts_of q) m.done m.rest ∙ ap (λ (x : List Access). counts_of q ++ x) (m.split ∙ ap (λ (n : ℕ). whole_part (planned q plan k) n) same ∙ sym (append-nil (whole_part (planned q plan k) old.vault.next)))
+                      ∙ sym (script_is q (counted k (Some plan) None Whole) old.vault.next unpadded);
                   asked = m.asked ∙ ap (λ (x : List Access). x ++ m.done) count.did.asked ∙ append_assoc old.store.asked (counts_of q) m.done;
                   some = not_empty (counts_of q ++ m.done) (omega (arith, count_some q room old may, length-count_part q.flat.region (counted_after q), length-append (counts_of q) m.done));
-                  place = place_in _ (counts_of q) m.done m.rest refl m.place;
+                  place = place_in _ (counts_of q) m.done m.rest (inl refl) m.place;
                 };
-            emitted = first_emitted q k c plan old mid is side least chosen grew cut faults new out_old out_new result by;
-            halted = first_halted q k c plan old mid is side least chosen grew cut faults new out_old out_new result by;
+            emitted = first_emitted q k c plan old mid is side least chosen unpadded grew cut faults new out_old out_new result by;
+            halted = first_halted q k c plan old mid is side least chosen unpadded grew cut faults new out_old out_new result by;
             sink = by.sink;
-            told = first_told q k c plan old mid is side least chosen grew cut faults new out_old out_new result final by;
+            told = first_told q k c plan old mid is side least chosen unpadded grew cut faults new out_old out_new result final by;
             begun = λ s lie told. elim (lie_before mid.store new.store lie lasts.later told) [
-              | inl nolie ↦ first_begun q k c plan old mid is side least chosen may.ready new result by.ran s nolie lie told
+              | inl nolie ↦ first_begun q k c plan old mid is side least chosen unpadded may.ready new result by.ran s nolie lie told
               | inr early ↦ went_in (counts_of q) _ old mid lie count s.nolie early
             ];
-            held = λ s. first_held q k c plan old mid is side least chosen grew cut faults new out_old out_new may.settings long (count_some q room old may) result by s;
+            held = λ s. first_held q k c plan old mid is side least chosen unpadded grew cut faults new out_old out_new may.settings long (count_some q room old may) result by s;
           }
 
     -- Small took the place of a Hash that left a row out
     module _ (least : 1 ≤ k) (free : q.public.plan ≡ None) (chosen : Hash ≡ choose q.public.plan (buffered q.public.pack q.public.buffer) q.flat.capacity k c) (i : ℕ) (late : World) (out : E)
         (first : SelectsBy grew cut faults (planned q Hash k) (Ok (Refused (Refusals.Overflow i))) mid late out out) where
-      second_ended : (result : Result Selected OpErr) → IfOk result (MayAnswer Small) → IfOk result (λ a. EndsAs q a (counted k (Some Hash) (Some Small) Whole))
-      second_ended (Ok (Rows n)) answers = record { counted = k; count = refl; end = refl; none = λ none. absurd (cc none) }
-      second_ended (Ok (Refused (Refusals.Overflow i))) answers = absurd (cc answers)
+      second_ended : (result : Result Selected OpErr) → IfOk result (MayAnswer Small None) → IfOk result (λ a. EndsAs q a (counted k (Some Hash) (Some Small) Whole))
+      second_ended (Ok (Rows n)) answers = inl (record { counted = k; count = refl; end = refl; none = λ none. absurd (cc none) })
+      second_ended (Ok (Refused (Refusals.Overflow i))) answers = absurd (cc answers.0)
+      second_ended (Ok (Refused Refusals.PadPassed)) answers = absurd (cc answers)
       second_ended (Ok (Refused _)) answers = absurd answers
       second_ended (Err e) answers = tt
 
@@ -284,15 +296,15 @@ module _ {E : Type 0} (grew cut : E → E → List Event → Type 0) (faults : E
           = first.ran.ok.did.asked ∙ ap (λ (n : ℕ). mid.store.asked ++ whole_part (planned q Hash k) n) same ∙ ap (λ (x : List Access). x ++ whole_part (planned q Hash k) old.vault.next) count.did.asked ∙ append_assoc old.store.asked (counts_of q) (whole_part (planned q Hash k) old.vault.next) in
           let more = went_length (one mid.vault.next) (whole_part (planned q Hash k) mid.vault.next) mid late first.ran.ok in
           record {
-            ran = ran_second q old mid may.ready count result (planned q Hash k) (planned q Small k) late new first.ran.ok by.ran;
+            ran = by_script (counted k (Some Hash) (Some Small) Whole) result new (ran_second q old mid may.ready count result (planned q Hash k) (planned q Small k) late new first.ran.ok by.ran);
             gone = none_again old.vault.next late.vault.next late new lasts by.gone (none_again old.vault.next mid.vault.next mid late first.ran.ok.lasts first.gone gone_alone);
             spare = by.spare;
             seals = λ good fine. seals_join good old mid new count.lasts.later (is.seals.seals good) (seals_join good mid late new first.ran.ok.lasts.later (first.seals good fine) (by.seals good fine));
-            holds = (is.most, record { some = least; consecutive = c; chosen = chosen }, free);
+            holds = (is_count, record { some = least; consecutive = c; chosen = chosen }, free);
             ended = second_ended result by.may;
             reached = on_err_of result (record {
               count = λ some. omega (arith, long, more, ran_long result by.ran);
-              walk = λ some. omega (arith, long, more, ran_long result by.ran, walked_hash q k may.settings, length_hash q k mid.vault.next may.settings, length_hash q k 0 may.settings);
+              walk = λ some. omega (arith, long, more, ran_long result by.ran, walked_hash q k may.settings unpadded, length_hash q k mid.vault.next may.settings, length_hash q k 0 may.settings);
             });
             memory = λ none.
                 let m = by.memory none in
@@ -300,23 +312,24 @@ module _ {E : Type 0} (grew cut : E → E → List Event → Type 0) (faults : E
                   done = done ++ m.done;
                   rest = m.rest;
                   split = append_assoc done m.done m.rest ∙ ap (λ (x : List Access). done ++ x) (m.split ∙ ap (λ (n : ℕ). whole_part (planned q Small k) n) after ∙ sym (append-nil (whole_part (planned q Small k) (old.vault.next + 1))))
-                      ∙ append_assoc (counts_of q) (whole_part (planned q Hash k) old.vault.next) (whole_part (planned q Small k) (old.vault.next + 1) ++ []);
+                      ∙ append_assoc (counts_of q) (whole_part (planned q Hash k) old.vault.next) (whole_part (planned q Small k) (old.vault.next + 1) ++ [])
+                      ∙ sym (script_is q (counted k (Some Hash) (Some Small) Whole) old.vault.next unpadded);
                   asked = m.asked ∙ ap (λ (x : List Access). x ++ m.done) asked ∙ append_assoc old.store.asked done m.done;
                   some = not_empty (done ++ m.done) (omega (arith, count_some q room old may, length-count_part q.flat.region (counted_after q), length-append done m.done, length-append (counts_of q) (whole_part (planned q Hash k) old.vault.next)));
-                  place = place_in _ done m.done m.rest refl m.place;
+                  place = place_in _ done m.done m.rest (inl refl) m.place;
                 };
-            emitted = second_emitted q k c old mid may.ready is least free chosen grew cut faults i late new out out_new first result by;
-            halted = second_halted q k c old mid may.ready is least free chosen grew cut faults i late new out out_new first result by;
+            emitted = second_emitted q k c old mid may.ready is least free chosen unpadded grew cut faults i late new out out_new first result by;
+            halted = second_halted q k c old mid may.ready is least free chosen unpadded grew cut faults i late new out out_new first result by;
             sink = by.sink;
-            told = second_told q k c old mid may.ready is least free chosen grew cut faults i late new out out_new first result by;
+            told = second_told q k c old mid may.ready is least free chosen unpadded grew cut faults i late new out out_new first result by;
             begun = λ s lie told. elim (lie_before late.store new.store lie lasts.later told) [
-              | inl nolie ↦ second_begun q k c old mid may.ready is least free chosen grew cut faults i late new out out_new first result by s nolie lie told
+              | inl nolie ↦ second_begun q k c old mid may.ready is least free chosen unpadded grew cut faults i late new out out_new first result by s nolie lie told
               | inr before ↦ elim (lie_before mid.store late.store lie first.ran.ok.lasts.later before) [
-                | inl nolie ↦ first_begun q k c Hash old mid is (λ hashed. absurd (cc hashed)) least chosen may.ready late (Ok (Refused (Refusals.Overflow i))) first.ran s nolie lie before
+                | inl nolie ↦ first_begun q k c Hash old mid is (λ hashed. absurd (cc hashed)) least chosen unpadded may.ready late (Ok (Refused (Refusals.Overflow i))) first.ran s nolie lie before
                 | inr early ↦ went_in (counts_of q) _ old mid lie count s.nolie early
               ]
             ];
-            held = second_held q k c old mid may.ready is least free chosen grew cut faults i late new out out_new first may.settings long result by;
+            held = second_held q k c old mid may.ready is least free chosen unpadded grew cut faults i late new out out_new first may.settings long result by;
           }
 
       pub end_second_at : (result : Result Selected OpErr) (new : World) (out_mid out_new : E) → out_mid ≡ out → SelectsBy grew cut faults (planned q Small k) result late new out_mid out_new
@@ -339,8 +352,9 @@ pub none_of : {A : Type 0} (o : Option A) → is_some o ≡ false → o ≡ None
 none_of None is = refl
 none_of (Some x) is = absurd (cc is)
 
-hashed_by : (plan : Plan) (why : Refusal) → MayAnswer plan (Refused why) → (i : ℕ) × (why ≡ Refusals.Overflow i) × (plan ≡ Hash)
-hashed_by plan (Refusals.Overflow i) is = (i, refl, is)
+hashed_by : (plan : Plan) (why : Refusal) → MayAnswer plan None (Refused why) → (i : ℕ) × (why ≡ Refusals.Overflow i) × (plan ≡ Hash)
+hashed_by plan (Refusals.Overflow i) is = (i, refl, is.0)
+hashed_by plan Refusals.PadPassed is = absurd (cc is)
 hashed_by plan _ is = absurd is
 
 pub hashed_first : {E : Type 0} (grew cut : E → E → List Event → Type 0) (faults : E → ℕ) (q : Selection) (plan : Plan) (k : ℕ) (why : Refusal) (mid late : World) (out_old out_new : E)

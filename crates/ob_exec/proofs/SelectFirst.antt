@@ -37,7 +37,7 @@ use Rattle.ob_exec.proofs.SelectMeans.{seen_is_first, seen_second, refuses_force
 use Rattle.ob_exec.proofs.UntilLemmas.{until_from}
 use Rattle.ob_exec.specs.Halting.{EmitsUntil}
 use Rattle.ob_exec.proofs.BegunLemmas.{ran_in}
-use Rattle.ob_exec.proofs.SelectRuns.{counts_of, next_counted}
+use Rattle.ob_exec.proofs.SelectRuns.{counts_of, script_is, next_counted}
 use Rattle.ob_exec.proofs.SelectTold.{suits_mid, rows_left, refused_left, none_or_some, counted_is, end_back, halt_back, is_plan, shown_is, seen_last, answer_last, events_last}
 
 -- what may be answered at last where a plan was taken first
@@ -62,21 +62,21 @@ fallback_forced None left some = absurd (cc some)
 fallback_forced (Some plan) left some = refl
 
 module _ (q : Selection) (k : ℕ) (c : Bool) (plan : Plan) (old mid : World) (is : CountsRows q.public.pack q.flat (is_true q.condition) (Ok (record { k = k; consecutive = c })) old mid)
-    (side : plan ≡ Continuous → IsTrue c) (least : 1 ≤ k) (chosen : plan ≡ choose q.public.plan (buffered q.public.pack q.public.buffer) q.flat.capacity k c) where
+    (side : plan ≡ Continuous → IsTrue c) (least : 1 ≤ k) (chosen : plan ≡ choose q.public.plan (buffered q.public.pack q.public.buffer) q.flat.capacity k c) (unpadded : q.public.pad ≡ None) where
   -- whatever is left out, k and the plan are seen
   module _ (mid_slots : Slots) (size : length mid_slots ≡ q.flat.capacity) (suits : Rattle.ob_exec.specs.Results.Suits (planned q plan k) mid_slots) (same : c ≡ is_consecutive (places q mid_slots)) where
     some : 1 ≤ length (places q mid_slots)
     some = omega (arith, least, suits.count)
 
     planned_so : plan ≡ Rattle.ob_mean.specs.Verdict.plan_for q.public (length mid_slots) (places q mid_slots)
-    planned_so = is_plan q k c plan old mid is side mid_slots size suits same least chosen
+    planned_so = is_plan q k c plan old mid is side mid_slots size suits same least chosen unpadded
 
     placed_so : (i : ℕ) → left_out (planned q plan k) mid_slots ≡ Some i → first_unplaced q.public (places q mid_slots) ≡ Some i
     placed_so i left = ap (λ (n : ℕ). Rattle.ob_row.specs.Results.unplaced n (bucket_size q.public) (places q mid_slots)) (sym suits.count) ∙ left_place (planned q plan k) plan mid_slots i left
 
     forced_seen : IsSome q.public.plan → counted k (Some plan) None Whole ≡ seen_of q mid_slots
     forced_seen forced = ap (λ (n : ℕ). counted n (Some plan) None Whole) suits.count
-        ∙ sym (seen_is_first q.public (places q mid_slots) (length mid_slots) plan some planned_so (suits.consecutive, λ hashed. fallback_forced q.public.plan _ forced))
+        ∙ sym (seen_is_first q.public (places q mid_slots) (length mid_slots) plan some planned_so unpadded (suits.consecutive, λ hashed. fallback_forced q.public.plan _ forced))
 
     forced_plan : (o : Option Plan) → plan ≡ choose o (buffered q.public.pack q.public.buffer) q.flat.capacity k c → IsSome o → o ≡ Some plan
     forced_plan None is_it forced = absurd (cc forced)
@@ -85,13 +85,13 @@ module _ (q : Selection) (k : ℕ) (c : Bool) (plan : Plan) (old mid : World) (i
     forced_answer : (i : ℕ) → left_out (planned q plan k) mid_slots ≡ Some i → IsSome q.public.plan → Refused (Overflow i) ≡ answer_of q mid_slots
     forced_answer i left forced =
         let hashed = left_hashed (planned q plan k) plan mid_slots i left in
-        let refuses = refuses_forced q.public (places q mid_slots) (length mid_slots) plan some planned_so i (forced_plan q.public.plan chosen forced ∙ ap Some hashed) (placed_so i left) in
+        let refuses = refuses_forced q.public (places q mid_slots) (length mid_slots) plan some planned_so unpadded i (forced_plan q.public.plan chosen forced ∙ ap Some hashed) (placed_so i left) in
         sym (ap (λ (o : Option Refusal). selected_as o (length (places q mid_slots))) refuses)
 
     -- what is seen of it
     pub seen_cases : (seen_of q mid_slots ≡ counted k (Some plan) None Whole) ⊎ ((plan ≡ Hash) × IsSome (left_out (planned q plan k) mid_slots) × (seen_of q mid_slots ≡ counted k (Some Hash) (Some Small) Whole))
     seen_cases = elim (none_or_some (left_out (planned q plan k) mid_slots)) [
-      | inl none ↦ inl (sym (seen_last q k c plan old mid is side mid_slots size suits same least chosen none))
+      | inl none ↦ inl (sym (seen_last q k c plan old mid is side mid_slots size suits same least chosen unpadded none))
       | inr left ↦ by_forced q.public.plan refl left.0 left.1
     ]
       where
@@ -103,17 +103,17 @@ module _ (q : Selection) (k : ℕ) (c : Bool) (plan : Plan) (old mid : World) (i
             inr (
               hashed,
               ap Rattle.std.specs.Prelude.is_some left,
-              seen_second q.public (places q mid_slots) (length mid_slots) plan some planned_so i hashed is_it (placed_so i left) ∙ ap (λ (n : ℕ). counted n (Some Hash) (Some Small) Whole) (sym suits.count),
+              seen_second q.public (places q mid_slots) (length mid_slots) plan some planned_so unpadded i hashed is_it (placed_so i left) ∙ ap (λ (n : ℕ). counted n (Some Hash) (Some Small) Whole) (sym suits.count),
             )
 
   -- the accesses of these slots begin with those of the count and of the first plan
   first_script : (slots : Slots) → length slots ≡ q.flat.capacity → Rattle.ob_exec.specs.Results.Suits (planned q plan k) slots → c ≡ is_consecutive (places q slots)
       → (more : List Access) × (selection_script q (seen_of q slots) old.vault.next ≡ counts_of q ++ (whole_part (planned q plan k) old.vault.next ++ more))
   first_script slots size suits same = elim (seen_cases slots size suits same) [
-    | inl seen ↦ ([], ap (λ (x : Seen). selection_script q x old.vault.next) seen)
+    | inl seen ↦ ([], ap (λ (x : Seen). selection_script q x old.vault.next) seen ∙ script_is q (counted k (Some plan) None Whole) old.vault.next unpadded)
     | inr both ↦ (
       whole_part (planned q Small k) (old.vault.next + 1) ++ [],
-      ap (λ (x : Seen). selection_script q x old.vault.next) both.2
+      ap (λ (x : Seen). selection_script q x old.vault.next) both.2 ∙ script_is q (counted k (Some Hash) (Some Small) Whole) old.vault.next unpadded
           ∙ ap (λ (p : Plan). counts_of q ++ (whole_part (planned q p k) old.vault.next ++ (whole_part (planned q Small k) (old.vault.next + 1) ++ []))) (sym both.0),
     )
   ]
@@ -133,7 +133,7 @@ module _ (q : Selection) (k : ℕ) (c : Bool) (plan : Plan) (old mid : World) (i
     pub first_emitted : (result : Result Selected OpErr) → SelectsBy grew cut faults (planned q plan k) result mid new out_old out_new → IfOk result (λ a. EmitsSelected grew q a old new out_old out_new)
     first_emitted (Ok (Rows n)) by =
         let back = end_back q k c plan old mid is side mid.vault.next new by.ran.ok.lasts in
-        emitted_from back (λ s. shown_is q k c plan old mid is side s.slots s.is.size (back s).suits (counted_is q k c plan old mid is s.slots s.is (nolie s)).1 least chosen (rows_left _ n k (by.told (back s)))) by.emitted
+        emitted_from back (λ s. shown_is q k c plan old mid is side s.slots s.is.size (back s).suits (counted_is q k c plan old mid is s.slots s.is (nolie s)).1 least chosen unpadded (rows_left _ n k (by.told (back s)))) by.emitted
       where
         nolie : SelectsToEnd q old new → mid.store.lie ≡ None
         nolie s = Rattle.ob_store.proofs.Steps.none_before mid.store new.store by.ran.ok.lasts.later s.nolie
@@ -147,8 +147,8 @@ module _ (q : Selection) (k : ℕ) (c : Bool) (plan : Plan) (old mid : World) (i
         let nolie = Rattle.ob_store.proofs.Steps.none_before mid.store new.store by.ran.ok.lasts.later s.nolie in
         let same = (counted_is q k c plan old mid is s.slots s.is nolie).1 in
         let left = rows_left _ n k (by.told (back s)) in (
-          by.told (back s) ∙ answer_last q k c plan old mid is side s.slots s.is.size (back s).suits same least chosen left,
-          seen_last q k c plan old mid is side s.slots s.is.size (back s).suits same least chosen left,
+          by.told (back s) ∙ answer_last q k c plan old mid is side s.slots s.is.size (back s).suits same least chosen unpadded left,
+          seen_last q k c plan old mid is side s.slots s.is.size (back s).suits same least chosen unpadded left,
         )
     first_told (Ok (Refused why)) last by s =
         let back = end_back q k c plan old mid is side mid.vault.next new by.ran.ok.lasts in
@@ -169,7 +169,7 @@ module _ (q : Selection) (k : ℕ) (c : Bool) (plan : Plan) (old mid : World) (i
     part e by s =
         let back = halt_back q k c plan old mid is side mid.vault.next new by.ran.err.lasts in
         elim (none_or_some (left_out (planned q plan k) s.slots)) [
-          | inl none ↦ inl (events_last q k c plan old mid is side s.slots s.is.size (back s).suits (counted_is q k c plan old mid is s.slots s.is (back s).nolie).1 least chosen none)
+          | inl none ↦ inl (events_last q k c plan old mid is side s.slots s.is.size (back s).suits (counted_is q k c plan old mid is s.slots s.is (back s).nolie).1 least chosen unpadded none)
           | inr left ↦ inr (ap (λ (o : Option ℕ). emitted_unless (option_map Overflow o) (head_of q ++ row_events (held_shown (planned q plan k) s.slots))) left.1)
         ]
 
@@ -195,5 +195,5 @@ module _ (q : Selection) (k : ℕ) (c : Bool) (plan : Plan) (old mid : World) (i
               let size : length (whole_part (planned q plan k) mid.vault.next) ≡ length (whole_part (planned q Hash k) 0)
               = ap (λ (x : Plan). length (whole_part (planned q x k) mid.vault.next)) both.0 ∙ length_hash q k mid.vault.next settings ∙ sym (length_hash q k 0 settings) in
               subst (λ (x : Plan). HoldsSeen q s.slots (is_of_access e) n (counted k (Some x) None Whole)) (sym both.0)
-              (walking_held q s.slots k (is_of_access e) n both.2 enough (omega (arith, within, size, walked_hash q k settings)))
+              (walking_held q s.slots k (is_of_access e) n both.2 enough (omega (arith, within, size, walked_hash q k settings unpadded)))
         ]

@@ -11,7 +11,8 @@ use Rattle.ob_base.specs.Numbers.{blocks_for}
 use Rattle.ob_base.specs.Schemas.{width}
 use Rattle.ob_base.proofs.AccessLemmas.{makes-append}
 use Rattle.ob_script.specs.Parts.{count_part, emission_part}
-use Rattle.ob_script.specs.Script.{extent_of, plan_part, result_blocks}
+use Rattle.ob_base.specs.declared.seen.Seen.{Seen}
+use Rattle.ob_script.specs.Script.{after_count, behind_count, extent_of, plan_part, result_blocks}
 use Rattle.ob_script.proofs.Makes.{makes-count_part, makes-small_part, makes-large_part, makes-continuous_part, makes-hash_part, makes-emission_part}
 use Rattle.ob_vault.specs.State.{Start, World}
 use Rattle.ob_vault.specs.Tied.{Ready}
@@ -23,7 +24,7 @@ use Rattle.ob_flat.specs.Words.{Ran, blocks_of}
 use Rattle.ob_flat.proofs.Runs.{pass_wider}
 use Rattle.ob_flat.proofs.WordLemmas.{ran_after}
 use Rattle.ob_exec.specs.Memory.{AtMake, is_reading, starts_with_make, ends_with_make}
-use Rattle.ob_exec.specs.Selecting.{Selection, region_of, from}
+use Rattle.ob_exec.specs.Selecting.{Selection, region_of, selection_script, from}
 use Rattle.ob_exec.specs.Results.{Planned, whole_part}
 
 -- ---- regions
@@ -61,18 +62,18 @@ pub next_after : {some : ℕ → Type 0} (a b : World) (x : List Access) → Rea
 next_after a b x ready went =
     omega (arith, ready.tied.next, went.lasts.ready.tied.next, ap (λ (s : Start). s.region) went.lasts.start, makes-append a.store.asked x, ap makes went.did.asked)
 
-makes-plan : (r : Planned) (g : ℕ) (plan : Plan) → makes (plan_part r.selection.public plan r.k g (extent_of (region_of r.selection))) ≡ 1
+makes-plan : (r : Planned) (g : ℕ) (plan : Plan) → makes (plan_part r.selection.public plan r.taken g (extent_of (region_of r.selection))) ≡ 1
 makes-plan r g Small =
     let q = r.selection in
-    makes-small_part q.flat.region g (blocks_of q.public.pack q.flat) (blocks_for q.public.pack r.k) (buffered_blocks q.public.pack q.public.buffer) (q.public.pack * width q.flat.schema)
+    makes-small_part q.flat.region g (blocks_of q.public.pack q.flat) (blocks_for q.public.pack r.taken) (buffered_blocks q.public.pack q.public.buffer) (q.public.pack * width q.flat.schema)
 makes-plan r g Large = let q = r.selection in makes-large_part q.flat.region g (blocks_of q.public.pack q.flat) (q.public.pack * width q.flat.schema)
-makes-plan r g Continuous = let q = r.selection in makes-continuous_part q.flat.region g q.public.pack q.flat.capacity r.k (q.public.pack * width q.flat.schema)
-makes-plan r g Hash = let q = r.selection in makes-hash_part q.flat.region g q.public.pack q.flat.capacity r.k q.public.depth (q.public.pack * width q.flat.schema)
+makes-plan r g Continuous = let q = r.selection in makes-continuous_part q.flat.region g q.public.pack q.flat.capacity r.taken (q.public.pack * width q.flat.schema)
+makes-plan r g Hash = let q = r.selection in makes-hash_part q.flat.region g q.public.pack q.flat.capacity r.taken q.public.depth (q.public.pack * width q.flat.schema)
 
 pub makes-whole : (r : Planned) (g : ℕ) → makes (whole_part r g) ≡ 1
 makes-whole r g =
-    let n = result_blocks r.selection.public r.plan r.k (extent_of (region_of r.selection)) in
-    omega (arith, makes-append (plan_part r.selection.public r.plan r.k g (extent_of (region_of r.selection))) (emission_part g n), makes-plan r g r.plan, makes-emission_part g n)
+    let n = result_blocks r.selection.public r.plan r.taken (extent_of (region_of r.selection)) in
+    omega (arith, makes-append (plan_part r.selection.public r.plan r.taken g (extent_of (region_of r.selection))) (emission_part g n), makes-plan r g r.plan, makes-emission_part g n)
 
 pub next_counted : (q : Selection) (a b : World) → Ready a → Went (count_part q.flat.region (blocks_of q.public.pack q.flat)) none a b → b.vault.next ≡ a.vault.next
 next_counted q a b ready went = omega (arith, next_after a b _ ready went, makes-count_part q.flat.region (blocks_of q.public.pack q.flat))
@@ -83,6 +84,10 @@ next_made r a b ready went = omega (arith, next_after a b _ ready went, makes-wh
 -- ---- the scripts
 abbrev pub counts_of : Selection → List Access
 counts_of q = count_part q.flat.region (blocks_of q.public.pack q.flat)
+
+-- where results aren't padded
+pub script_is : (q : Selection) (seen : Seen) (g : ℕ) → q.public.pad ≡ None → selection_script q seen g ≡ counts_of q ++ after_count q.public seen seen.k g (extent_of (region_of q)) []
+script_is q seen g unpadded = ap (λ (pad : Option ℕ). counts_of q ++ behind_count pad q.public seen g (extent_of (region_of q)) []) unpadded
 
 module _ (q : Selection) (old mid : World) (ready : Ready old) (count : Went (count_part q.flat.region (blocks_of q.public.pack q.flat)) none old mid) where
   -- behind the count

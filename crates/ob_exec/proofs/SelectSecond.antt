@@ -1,5 +1,5 @@
 -- What is told of a selection where Small took the place of a Hash.
-use Rattle.std.proofs.Common.{◌≡◌, ◌⊎◌, inl, ◌≤◌, ◌+◌, ◌-◌, ℕ, Bool, IsTrue, List, [], ◌++◌, append_assoc, None, Some, Result, Ok, Err, length, refl, sym, ◌∙◌, ap, subst, arith}
+use Rattle.std.proofs.Common.{◌≡◌, ◌⊎◌, inl, ◌≤◌, ◌+◌, ◌-◌, ℕ, Bool, IsTrue, List, [], ◌++◌, append_assoc, Option, None, Some, Result, Ok, Err, length, refl, sym, ◌∙◌, ap, subst, arith}
 use Rattle.std.specs.Prelude.{IfErr, IfOk, MatchResult, map}
 use Rattle.ob_base.specs.declared.config.Plan.TheVariants.{Small, Hash}
 use Rattle.ob_base.specs.declared.refusal.Refusal.TheVariants.{Overflow}
@@ -27,6 +27,7 @@ use Rattle.ob_flat.proofs.Sinks.{none_before}
 use Rattle.ob_flat.proofs.Tables.{represents_lasts}
 use Rattle.ob_mean.specs.Verdict.{counted, bucket_size, first_unplaced, plan_for, rows_refusal}
 use Rattle.ob_flat.specs.Passes.{is_of_access}
+use Rattle.ob_verdict.specs.Laws.{result_plan}
 use Rattle.ob_exec.specs.Engines.{AreSettings}
 use Rattle.ob_exec.specs.declared.selecting.Selected.{Selected}
 use Rattle.ob_exec.specs.declared.selecting.Selected.TheVariants.{Rows, Refused}
@@ -37,14 +38,14 @@ use Rattle.ob_exec.proofs.ResultReads.{emitted_from}
 use Rattle.ob_exec.proofs.UntilLemmas.{until_from}
 use Rattle.ob_exec.specs.Halting.{EmitsUntil}
 use Rattle.ob_exec.proofs.ResultSteps.{began-few}
-use Rattle.ob_exec.proofs.SelectRuns.{counts_of, none_from, one_from, next_counted, next_made}
+use Rattle.ob_exec.proofs.SelectRuns.{counts_of, script_is, none_from, one_from, next_counted, next_made}
 use Rattle.ob_exec.proofs.BegunLemmas.{ran_in}
 use Rattle.ob_exec.proofs.SelectMeans.{seen_second, last_second, refuses_free, shown_some}
 use Rattle.ob_exec.proofs.SelectTold.{refused_left, counted_is, held_mid}
 use Rattle.ob_exec.proofs.SelectHeld.{walked_held, walked_hash, done_behind}
 
 module _ (q : Selection) (k : ℕ) (c : Bool) (old mid : World) (ready : Ready old) (is : CountsRows q.public.pack q.flat (is_true q.condition) (Ok (record { k = k; consecutive = c })) old mid)
-    (least : 1 ≤ k) (free : q.public.plan ≡ None) (chosen : Hash ≡ choose q.public.plan (buffered q.public.pack q.public.buffer) q.flat.capacity k c) where
+    (least : 1 ≤ k) (free : q.public.plan ≡ None) (chosen : Hash ≡ choose q.public.plan (buffered q.public.pack q.public.buffer) q.flat.capacity k c) (unpadded : q.public.pad ≡ None) where
   -- slots of which one finds no bucket
   module _ (slots : Slots) (size : length slots ≡ q.flat.capacity) (count : k ≡ length (places q slots)) (same : c ≡ is_consecutive (places q slots))
       (j : ℕ) (left : unplaced k (bucket_size q.public) (places q slots) ≡ Some j) where
@@ -58,15 +59,18 @@ module _ (q : Selection) (k : ℕ) (c : Bool) (old mid : World) (ready : Ready o
     left_so = ap (λ (n : ℕ). unplaced n (bucket_size q.public) (places q slots)) (sym count) ∙ left
 
     seen_so : counted k (Some Hash) (Some Small) Whole ≡ seen_of q slots
-    seen_so = ap (λ (n : ℕ). counted n (Some Hash) (Some Small) Whole) count ∙ sym (seen_second q.public (places q slots) (length slots) Hash some so j refl free left_so)
+    seen_so = ap (λ (n : ℕ). counted n (Some Hash) (Some Small) Whole) count ∙ sym (seen_second q.public (places q slots) (length slots) Hash some so unpadded j refl free left_so)
+
+    last_so : Small ≡ result_plan q.public.pad q.public (length slots) (places q slots)
+    last_so = sym (ap (λ (pad : Option ℕ). result_plan pad q.public (length slots) (places q slots)) unpadded ∙ last_second q.public (places q slots) (length slots) Hash some so unpadded j refl free left_so)
 
     shown_so : held_shown (planned q Small k) slots ≡ shown_rows q slots
     shown_so =
-        ap (λ (l : Slots). map (printed q.cols) (rows l)) (λ i. result_slots (sym (last_second q.public (places q slots) (length slots) Hash some so j refl free left_so) i) (count i) (bucket_size q.public) (is_true q.condition) slots)
+        ap (λ (l : Slots). map (printed q.cols) (rows l)) (λ i. result_slots (last_so i) (count i) (bucket_size q.public) (is_true q.condition) slots)
         ∙ sym (shown_some (places q slots) (map (printed q.cols) (rows (result_of q slots))) some)
 
     none_refused : None ≡ rows_refusal q.public (places q slots)
-    none_refused = sym (refuses_free q.public (places q slots) (length slots) Hash some so free)
+    none_refused = sym (refuses_free q.public (places q slots) (length slots) Hash some so unpadded free)
 
     answer_so : held_answer (planned q Small k) slots ≡ answer_of q slots
     answer_so = λ i. selected_as (none_refused i) (count i)
@@ -169,7 +173,7 @@ module _ (q : Selection) (k : ℕ) (c : Bool) (old mid : World) (ready : Ready o
         (ap (λ (n : ℕ). late.store.asked ++ (whole_part (planned q Small k) n ++ [])) after
         ∙ ap (λ (x : List Access). x ++ small) (whole.did.asked ∙ ap (λ (n : ℕ). mid.store.asked ++ whole_part (planned q Hash k) n) same) ∙ append_assoc mid.store.asked hash small
         ∙ ap (λ (x : List Access). x ++ (hash ++ small)) is.ran.ok.did.asked ∙ append_assoc old.store.asked (counts_of q) (hash ++ small)
-        ∙ ap (λ (x : Seen). old.store.asked ++ selection_script q x old.vault.next) (seen_so s.slots s.is.size a.0 a.1 l.0 l.1))
+        ∙ ap (λ (x : List Access). old.store.asked ++ x) (sym (script_is q (counted k (Some Hash) (Some Small) Whole) old.vault.next unpadded)) ∙ ap (λ (x : Seen). old.store.asked ++ selection_script q x old.vault.next) (seen_so s.slots s.is.size a.0 a.1 l.0 l.1))
         (ran_in result (whole_part (planned q Small k) late.vault.next) [] late new lie by.ran nolie told)
 
     pub second_held : AreSettings q.public → length mid.store.asked ≡ length old.store.asked + counted_after q → (result : Result Selected OpErr)
@@ -185,7 +189,7 @@ module _ (q : Selection) (k : ℕ) (c : Bool) (old mid : World) (ready : Ready o
         let through = went_length (one mid.vault.next) (whole_part (planned q Hash k) mid.vault.next) mid late whole in
         let size = length_hash q k mid.vault.next settings in
         let zeros = length_hash q k 0 settings in
-        let until = walked_hash q k settings in
+        let until = walked_hash q k settings unpadded in
         walked_held q s.slots k (is_of_access e) n (sym (seen_so s.slots s.is.size a.0 a.1 l.0 l.1))
         (done_behind e n (counted_after q) (omega (arith, long, more, through)) (λ access. omega (arith, long, more, through, size)))
         (done_behind e n _ (omega (arith, long, more, through, size, zeros, until)) (λ access. omega (arith, long, more, through, size, zeros, until)))

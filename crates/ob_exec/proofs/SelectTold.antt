@@ -23,6 +23,7 @@ use Rattle.ob_flat.specs.Flats.{Represents}
 use Rattle.ob_flat.proofs.Sinks.{none_before}
 use Rattle.ob_flat.proofs.Tables.{represents_lasts}
 use Rattle.ob_mean.specs.Verdict.{counted, bucket_size, fallback, first_unplaced, plan_for}
+use Rattle.ob_verdict.specs.Laws.{result_plan}
 use Rattle.ob_exec.specs.declared.selecting.Selected.TheVariants.{Rows, Refused}
 use Rattle.ob_exec.specs.Selecting.{Selection, SelectsToEnd, SelectsToHalt, places, selected_as, emitted_unless, result_of, shown_rows, answer_of, answer_events, seen_of}
 use Rattle.ob_exec.specs.Results.{Planned, planned, PlannedToEnd, PlannedToHalt, Suits, left_out, held_slots, held_shown, held_events, held_answer, head_of}
@@ -74,7 +75,7 @@ module _ (q : Selection) (k : ℕ) (c : Bool) (plan : Plan) (old mid : World) (i
 
     -- of slots that are counted so
     module _ (slots : Slots) (size : length slots ≡ q.flat.capacity) (suits : Suits r slots) (same : c ≡ is_consecutive (places q slots)) (least : 1 ≤ k)
-        (chosen : plan ≡ choose q.public.plan (buffered q.public.pack q.public.buffer) q.flat.capacity k c) where
+        (chosen : plan ≡ choose q.public.plan (buffered q.public.pack q.public.buffer) q.flat.capacity k c) (unpadded : q.public.pad ≡ None) where
       some : 1 ≤ length (places q slots)
       some = omega (arith, least, suits.count)
 
@@ -93,16 +94,19 @@ module _ (q : Selection) (k : ℕ) (c : Bool) (plan : Plan) (old mid : World) (i
         is_last = (suits.consecutive, λ hashed. ap (fallback q.public.plan) (room hashed) ∙ fallback_none q.public.plan)
 
         result_is : held_slots r slots ≡ result_of q slots
-        result_is = λ i. result_slots (sym (last_is_first q.public (places q slots) (length slots) plan some is_plan is_last) i) (suits.count i) (bucket_size q.public) (is_true q.condition) slots
+        result_is =
+            let plans : plan ≡ result_plan q.public.pad q.public (length slots) (places q slots)
+            = sym (last_is_first q.public (places q slots) (length slots) plan some is_plan unpadded is_last) ∙ sym (ap (λ (pad : Option ℕ). result_plan pad q.public (length slots) (places q slots)) unpadded) in
+            λ i. result_slots (plans i) (suits.count i) (bucket_size q.public) (is_true q.condition) slots
 
         pub shown_is : held_shown r slots ≡ shown_rows q slots
         shown_is = ap (λ (l : Slots). map (printed q.cols) (rows l)) result_is ∙ sym (shown_some (places q slots) (map (printed q.cols) (rows (result_of q slots))) some)
 
         pub seen_last : counted k (Some plan) None Rattle.ob_base.specs.declared.seen.End.TheVariants.Whole ≡ seen_of q slots
-        seen_last = ap (λ (n : ℕ). counted n (Some plan) None Rattle.ob_base.specs.declared.seen.End.TheVariants.Whole) suits.count ∙ sym (seen_is_first q.public (places q slots) (length slots) plan some is_plan is_last)
+        seen_last = ap (λ (n : ℕ). counted n (Some plan) None Rattle.ob_base.specs.declared.seen.End.TheVariants.Whole) suits.count ∙ sym (seen_is_first q.public (places q slots) (length slots) plan some is_plan unpadded is_last)
 
         refusal_last : None ≡ Rattle.ob_mean.specs.Verdict.rows_refusal q.public (places q slots)
-        refusal_last = sym (refuses_none q.public (places q slots) (length slots) plan some is_plan suits.consecutive room)
+        refusal_last = sym (refuses_none q.public (places q slots) (length slots) plan some is_plan unpadded suits.consecutive room)
 
         pub answer_last : held_answer r slots ≡ answer_of q slots
         answer_last = (λ i. selected_as (option_map Overflow (sym left i)) k) ∙ (λ i. selected_as (refusal_last i) (suits.count i))

@@ -4,9 +4,6 @@ use Rattle.std.specs.Prelude.{IsSome, IsTrue, Some, slice_get}
 use Rattle.ob_base.specs.declared.access.Access.{Access}
 use Rattle.ob_base.specs.declared.refusal.Stop.{Stop}
 use Rattle.ob_base.specs.declared.refusal.Stop.TheVariants as Stops
-use Rattle.ob_base.specs.declared.config.Plan.{Plan}
-use Rattle.ob_base.specs.declared.config.Plan.TheVariants.{Small, Large, Continuous, Hash}
-use Rattle.ob_base.specs.declared.config.Public.{Public}
 use Rattle.ob_base.specs.declared.schema.Table.{Table}
 use Rattle.ob_base.specs.declared.seen.Seen.{Seen}
 use Rattle.ob_base.specs.declared.seen.End.{End}
@@ -29,13 +26,12 @@ use Rattle.ob_flat.specs.Passes.{PassCut}
 use Rattle.ob_flat.proofs.Runs.{pass_after}
 use Rattle.ob_script.specs.Script.{whole_script}
 use Rattle.ob_sql.specs.declared.stmt.Stmt.{Stmt}
-use Rattle.ob_sql.specs.declared.stmt.Stmt.TheVariants.{Create, Insert, Update, Delete, Drop as DropTable, SelectRows as RowsStmt, SelectTotals as TotalsStmt}
 use Rattle.ob_sql.specs.Skeleton.{skeleton}
-use Rattle.ob_row.specs.Slots.{is_consecutive}
 use Rattle.ob_mean.specs.Lawful.{is_counted}
 use Rattle.ob_mean.specs.Settle.{settle}
-use Rattle.ob_mean.specs.Verdict.{Tables, verdict, plan_for, seen, seen_rows, seen_started, seen_with, selected_places, source_slots, ended as seen_to}
+use Rattle.ob_mean.specs.Verdict.{Tables, verdict, seen, ended as seen_to}
 use Rattle.ob_verdict.proofs.InPlaceProof.{keeps_in_place}
+use Rattle.ob_verdict.proofs.SeenProof.{shows_kind_alone}
 use Rattle.ob_exec.specs.declared.engine.Engine.{Engine}
 use Rattle.ob_exec.specs.declared.outcome.Outcome.{Outcome}
 use Rattle.ob_exec.specs.Agreeing.{Agrees, world_of}
@@ -48,7 +44,7 @@ use Rattle.ob_exec.proofs.HeldLemmas.{held_kept}
 use Rattle.ob_exec.proofs.RunLemmas.{IsAnswered, engine_after, ran_cut, ran_no_room}
 use Rattle.ob_exec.proofs.SealLemmas.{keeps_pass, keeps_rests}
 use Rattle.ob_exec.proofs.TableLemmas.{region_below, tables_kept}
-use Rattle.ob_exec.proofs.ToldLemmas.{IsFault, cut_seen, started_seen, told_whole}
+use Rattle.ob_exec.proofs.ToldLemmas.{IsFault, cut_seen, early_held, told_whole}
 
 -- the same, of an equal answer and an equal engine
 pub serves_as : {R : Type 0} (state : R → RevState) (stmt : Stmt) (old : Engine R) (s t : StoreState) (r q : Result Outcome Stop) (new same : Engine R)
@@ -70,40 +66,10 @@ at_make made [] rest more make is = inl refl
 at_make made (d ∷ []) rest more make is = let same : d ≡ made = cc is in inr (inl (subst (λ (a : Access). IsTrue (is_make a)) (sym same) make))
 at_make made (d ∷ e ∷ done) rest more make is = let none : e ∷ (done ++ rest) ≡ [] = cc is in absurd (cc none)
 
--- of rows k is always seen
-rows_counted : (p : Public) (n : ℕ) (places : List ℕ) → IsSome (seen_rows p n places).k
-rows_counted p n [] = refl
-rows_counted p n (i ∷ is) = by (plan_for p n (i ∷ is))
-  where
-    side : (b : Bool) (x y : Seen) → IsSome x.k → IsSome y.k → IsSome (if b then x else y).k
-    side true x y one two = one
-    side false x y one two = two
-
-    by : (plan : Plan) → IsSome (seen_with p plan (i ∷ is)).k
-    by Small = refl
-    by Large = refl
-    by Continuous = side (is_consecutive (i ∷ is)) _ _ refl refl
-    by Hash = refl
-
 module _ {R : Type 0} (state : R → RevState) (stmt : Stmt) (old : Engine R) (s : StoreState) (agrees : Agrees state old s)
-    (now : refusal_now old.public (length s.asked) stmt ≡ None) (whole : (tables : Tables) → seen_started old.public tables stmt ≡ seen_to Whole) where
+    (now : refusal_now old.public (length s.asked) stmt ≡ None) (plain : is_counted stmt ≡ false) where
   seen_whole : (tables : Tables) (w : World) → AreHeld old.public.pack old.public.tables tables w → seen old.public (length s.asked) tables stmt ≡ seen_to Whole
-  seen_whole tables w held = started_seen old.public (length s.asked) stmt now tables w held ∙ whole tables
-
-  plain : is_counted stmt ≡ false
-  plain = uncounted stmt whole
-    where
-      none : (o : Option ℕ) → IsSome o → o ≡ None → ⊥
-      none o some is = cc (subst (λ (x : Option ℕ). IsSome x) is some)
-
-      uncounted : (x : Stmt) → ((tables : Tables) → seen_started old.public tables x ≡ seen_to Whole) → is_counted x ≡ false
-      uncounted (RowsStmt q) whole = absurd (none _ (rows_counted old.public (length (source_slots old.public q.source [])) (selected_places old.public q [])) (ap (λ (x : Seen). x.k) (whole [])))
-      uncounted (Create table columns capacity) whole = refl
-      uncounted (Insert table columns values) whole = refl
-      uncounted (Update table sets cond) whole = refl
-      uncounted (Delete table cond) whole = refl
-      uncounted (DropTable table) whole = refl
-      uncounted (TotalsStmt q) whole = refl
+  seen_whole tables w held = shows_kind_alone old.public (length s.asked) tables stmt (early_held old.public (length s.asked) stmt tables w None held now) plain
 
   -- nothing was asked, for want of memory
   pub unasked : (s1 : StoreState) (ts : List Table) → Rests s s1 → ServesSilently state stmt (Err Stops.NoMemory) old s (engine_after old old.vault old.room ts (Cut 0) true) s1

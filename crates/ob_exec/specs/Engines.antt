@@ -1,8 +1,10 @@
 -- The tables of an engine, and the store that it is used with.
-use Rattle.std.specs.Prelude.{◌≡◌, ◌≤◌, ◌+◌, ◌*◌, ℕ, List, Some, slice_get}
+use Rattle.std.specs.Prelude.{◌≡◌, ◌≤◌, ◌+◌, ◌*◌, ℕ, List, Option, Some, slice_get}
 use Rattle.ob_base.specs.declared.schema.Table.{Table}
 use Rattle.ob_base.specs.declared.config.Public.{Public}
 use Rattle.ob_base.specs.declared.config.Config.{Config}
+use Rattle.ob_base.specs.declared.config.Plan.{Plan}
+use Rattle.ob_base.specs.Plans.{IsPadded}
 use Rattle.ob_room.specs.RoomState.{RoomState}
 use Rattle.ob_vault.specs.State.{World}
 use Rattle.ob_vault.specs.declared.region.Region.{Region}
@@ -20,20 +22,21 @@ pub record IsTable (pack : ℕ) (t : Table) (w : World) : Type 0 where
   pub stored : IsStored t.heading
   pub flat : IsFlat pack (flat_of t) w
 
--- settings within their limits
-pub record IsSettings (buffer depth pack : ℕ) : Type 0 where
+-- settings within their limits, and a plan that may be taken where results are padded
+pub record IsSettings (buffer depth pack : ℕ) (plan : Option Plan) (pad : Option ℕ) : Type 0 where
   pub blocks : 3 * pack + 1 ≤ buffer
   pub most : buffer ≤ 65536
   pub depth_least : 1 ≤ depth
   pub depth_most : depth ≤ 8
   pub pack_least : 1 ≤ pack
   pub pack_most : pack ≤ 16
+  pub padded : IsPadded pad plan
 
 abbrev pub IsConfig : Config → Type 0
-IsConfig config = IsSettings config.buffer config.depth config.pack
+IsConfig config = IsSettings config.buffer config.depth config.pack config.plan config.pad
 
 abbrev pub AreSettings : Public → Type 0
-AreSettings p = IsSettings p.buffer p.depth p.pack
+AreSettings p = IsSettings p.buffer p.depth p.pack p.plan p.pad
 
 -- the room has the rows of the buffer, all of them free
 pub record IsFree (public : Public) (room : RoomState) : Type 0 where

@@ -35,12 +35,16 @@ ends_with_make (a ∷ b ∷ rest) = ends_with_make (b ∷ rest)
 abbrev pub AtMake : (done rest : List Access) → Type 0
 AtMake done rest = (done ≡ []) ⊎ IsTrue (ends_with_make done) ⊎ IsTrue (starts_with_make rest)
 
+-- a SELECT of rows has counted, as k tells, or what its script tells where results are padded
+abbrev pub HasCounted : Public → Seen → Type 0
+HasCounted p seen = IsSome seen.k ⊎ IsSome p.pad
+
 -- where rows are emitted: of a SELECT of rows once it has counted and nothing is left to be written, of one of totals once
 -- all was read
-abbrev pub AtEmission : Stmt → Seen → (rest : List Access) → Type 0
-AtEmission (RowsStmt s) seen rest = IsSome seen.k × IsTrue (list_all is_reading rest)
-AtEmission (TotalsStmt s) seen rest = rest ≡ []
-AtEmission _ seen rest = ⊥
+abbrev pub AtEmission : Public → Stmt → Seen → (rest : List Access) → Type 0
+AtEmission p (RowsStmt s) seen rest = HasCounted p seen × IsTrue (list_all is_reading rest)
+AtEmission p (TotalsStmt s) seen rest = rest ≡ []
+AtEmission p _ seen rest = ⊥
 
 -- the emitter's output ends within some events, as it does only where the emitter gave up
 pub record HasHalted {E : Type 0} (cut : E → E → List Event → Type 0) (out_old out_new : E) : Type 0 where
@@ -54,4 +58,4 @@ pub record LacksMemory (p : Public) (stmt : Stmt) (seen : Seen) (s t : StoreStat
   pub rest : List Access
   pub split : done ++ rest ≡ whole_script p (skeleton stmt) seen
   pub asked : t.asked ≡ s.asked ++ done
-  pub place : AtMake done rest ⊎ (AtEmission stmt seen rest × Halts)
+  pub place : AtMake done rest ⊎ (AtEmission p stmt seen rest × Halts)

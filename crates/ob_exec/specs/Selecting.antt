@@ -38,7 +38,7 @@ use Rattle.ob_exec.specs.declared.selecting.Selected.{Selected}
 use Rattle.ob_exec.specs.declared.selecting.Selected.TheVariants.{Rows, Refused}
 use Rattle.ob_exec.specs.Engines.{AreSettings, IsFree}
 use Rattle.ob_exec.specs.Halting.{EmitsUntil}
-use Rattle.ob_exec.specs.Memory.{AtMake, HasHalted, is_reading}
+use Rattle.ob_exec.specs.Memory.{AtMake, HasCounted, HasHalted, is_reading}
 use Rattle.ob_exec.specs.Telling.{AcceptsRows}
 use Rattle.std.specs.List.{list_all}
 
@@ -214,10 +214,6 @@ pub record MaySelect (q : Selection) (room : RoomState) (w : World) : Type 0 whe
 abbrev pub from : ℕ → ℕ → Type 0
 from g region = g ≤ region
 
--- it has counted, as k tells, or what its script tells where results are padded
-abbrev pub HasCounted : Selection → Seen → Type 0
-HasCounted q seen = IsSome seen.k ⊎ IsSome q.public.pad
-
 -- want of memory comes before or at a make, or once it has counted, nothing is left to be written, and the emitter gave
 -- up, which is this
 pub record LacksMemoryIn (q : Selection) (seen : Seen) (old new : World) (Halts : Type 0) : Type 0 where
@@ -226,7 +222,7 @@ pub record LacksMemoryIn (q : Selection) (seen : Seen) (old new : World) (Halts 
   pub split : done ++ rest ≡ selection_script q seen old.vault.next
   pub asked : new.store.asked ≡ old.store.asked ++ done
   pub some : done ≡ [] → ⊥
-  pub place : AtMake done rest ⊎ (HasCounted q seen × IsTrue (list_all is_reading rest) × Halts)
+  pub place : AtMake done rest ⊎ (HasCounted q.public seen × IsTrue (list_all is_reading rest) × Halts)
 
 -- rows were emitted, or nothing of what was refused
 abbrev pub EmitsSelected : {E : Type 0} → (grew : E → E → List Event → Type 0) → Selection → Selected → (old new : World) → (out_old out_new : E) → Type 0

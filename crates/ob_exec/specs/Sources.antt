@@ -31,7 +31,7 @@ use Rattle.ob_exec.specs.declared.selecting.Selected.TheVariants.{Rows, Refused}
 use Rattle.ob_exec.specs.declared.outcome.Outcome.{Outcome}
 use Rattle.ob_exec.specs.declared.outcome.Outcome.TheVariants.{Rows as RowsOut, Refused as RefusedOut}
 use Rattle.ob_exec.specs.Halting.{EmitsUntil}
-use Rattle.ob_exec.specs.Memory.{AtMake, HasHalted, is_reading}
+use Rattle.ob_exec.specs.Memory.{AtMake, HasCounted, HasHalted, is_reading}
 use Rattle.ob_exec.specs.Selecting.{Selection, SealsRows, MayHold, EndsAs, from, shown_rows, answer_of, answer_events, seen_of}
 use Rattle.ob_exec.specs.Telling.{AreHeld}
 
@@ -107,7 +107,7 @@ pub record LacksRowMemory (p : Public) (select : SelectRows) (seen : Seen) (old 
   pub rest : List Access
   pub split : done ++ rest ≡ rows_script p select seen
   pub asked : new.store.asked ≡ old.store.asked ++ done
-  pub place : AtMake done rest ⊎ (IsSome seen.k × IsTrue (list_all is_reading rest) × Halts)
+  pub place : AtMake done rest ⊎ (HasCounted p seen × IsTrue (list_all is_reading rest) × Halts)
 
 -- the first changed block that is read is one that the statement reads over the tables before
 abbrev pub ReadsMeant : Public → SelectRows → (old new : World) → Type 0

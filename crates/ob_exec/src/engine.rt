@@ -40,7 +40,6 @@ pub(crate) fn seen_to_end(end: End) -> Seen
     Seen {
         k: None,
         plan: None,
-        pad: None,
         then: None,
         end,
     }

@@ -1,5 +1,6 @@
 //! The result of a selection by one plan: made, read back and discarded.
-ghost use Rattle.std.specs.Prelude.{◌≡◌, ◌≤◌, ◌+◌, ◌^◌, ℕ, length};
+ghost use Rattle.std.specs.Prelude.{◌≡◌, ◌≤◌, ◌+◌, ◌^◌, ℕ, Some, length};
+ghost use Rattle.ob_base.specs.Plans.{MayPad};
 ghost use Rattle.ob_base.specs.Schemas.{width};
 ghost use Rattle.ob_blocks.specs.Idle.{IsIdle};
 ghost use Rattle.ob_vault.specs.Places.{at};
@@ -8,13 +9,14 @@ ghost use Rattle.ob_flat.specs.Words.{HasSpare, blocks_of};
 ghost use Rattle.ob_emit.specs.Emitting.{AreColumns};
 ghost use Rattle.ob_exec.specs.Engines.{AreSettings};
 ghost use Rattle.ob_exec.specs.Selecting.{selection_of};
-ghost use Rattle.ob_exec.specs.Results.{IsPlanned, KeepsRoom, MakesResult, EmitsResult, WalksResult, SelectsBy, make_part, placed_as, whole_part, planned};
+ghost use Rattle.ob_exec.specs.Results.{IsPlanned, KeepsRoom, MakesPadded, MakesResult, EmitsResult, WalksResult, SelectsBy, make_part, padded_to, placed_as, whole_part, planned};
 
 use crate::selecting::{Query, Selected};
 use ob_base::{Emit, Plan, Public, Refusal};
 use ob_emit::{emit_all, walk};
 use ob_flat::{Flat, OpErr, discard};
 use ob_hash::Placed;
+use ob_plan::padded_plan;
 use ob_room::Room;
 use ob_store::BlockStore;
 use ob_vault::{Revisions, Vault};
@@ -81,6 +83,33 @@ fn make_result<S: BlockStore, R: Revisions>(
         Plan::Large => placed(ob_large::select(store, vault, room, flat, pred, k)),
         Plan::Continuous => placed(ob_cont::select(store, vault, room, flat, pred, k)),
         Plan::Hash => ob_hash::select(store, vault, room, flat, pred, k, public.depth),
+    }
+}
+
+// Selects the first rows, as many as a padded result takes, into a fresh region.
+fn make_padded<S: BlockStore, R: Revisions>(
+    store: &mut S,
+    vault: &mut Vault<R>,
+    room: &mut Room,
+    _public: &Public,
+    query: &Query<'_>,
+    rows: u32,
+    plan: Plan,
+) -> Result<Flat, OpErr>
+    requires may { IsPlanned (planned (selection_of _public.now query.now) plan rows) room.old
+        (at R.state vault.old (S.state store.old)) }
+    requires plan { MayPad (Some plan) }
+    requires spare { length (make_part (planned (selection_of _public.now query.now) plan rows)
+        vault.old.next) ≤ (S.state store.old).spare }
+    ensures room { KeepsRoom room.old room.new }
+    ensures makes { MakesPadded (selection_of _public.now query.now) plan rows result
+        (at R.state vault.old (S.state store.old)) (at R.state vault.new (S.state store.new)) }
+{
+    match plan {
+        Plan::Large => ob_large::select(store, vault, room, query.flat, query.pred, rows),
+        Plan::Small | Plan::Continuous | Plan::Hash => {
+            ob_small::select_padded(store, vault, room, query.flat, query.pred, rows)
+        }
     }
 }
 
@@ -179,4 +208,42 @@ pub(crate) fn select_by<S: BlockStore, R: Revisions, E: Emit>(
             Ok(Selected::Refused(Refusal::Overflow(i)))
         }
     }
+}
+
+// Makes a padded result, and emits and discards it; where more rows are selected than it is padded to, it is
+// not emitted, but read all the same.
+pub(crate) fn select_padded<S: BlockStore, R: Revisions, E: Emit>(
+    store: &mut S,
+    vault: &mut Vault<R>,
+    room: &mut Room,
+    public: &Public,
+    query: &Query<'_>,
+    pad: u32,
+    k: u32,
+    out: &mut E,
+) -> Result<Selected, OpErr>
+    requires may { IsPlanned (padded_to (selection_of public.now query.now) pad k) room.old
+        (at R.state vault.old (S.state store.old)) }
+    requires plan { MayPad public.now.plan }
+    requires count { k ≤ query.now.flat.now.capacity }
+    requires ending { query.now.ending ≤ 1 }
+    ensures room { KeepsRoom room.old room.new }
+    ensures selects { SelectsBy E.grew E.cut E.faults
+        (padded_to (selection_of public.now query.now) pad k) result
+        (at R.state vault.old (S.state store.old)) (at R.state vault.new (S.state store.new))
+        out.old out.new }
+{
+    let rows = pad.min(query.flat.capacity);
+    let plan = padded_plan(rows, public);
+    let accesses = result_length(public, query, rows, plan) + query.ending;
+    if store.room(accesses).is_err() {
+        return Err(OpErr::NoMemory);
+    }
+    let fresh = make_padded(store, vault, room, public, query, rows, plan)?;
+    if k > pad {
+        walk_result(store, vault, room, fresh)?;
+        return Ok(Selected::Refused(Refusal::PadPassed));
+    }
+    let n = emit_result(store, vault, room, fresh, query.cols, out)?;
+    Ok(Selected::Rows(n))
 }

@@ -29,7 +29,8 @@ impl<R: Revisions> Engine<R> {
     ///
     /// Whatever the store does, its accesses are exactly those that follow from what was public before,
     /// the statement without its literals and conditions, and what is seen of it; and no row comes to
-    /// lie there in clear.
+    /// lie there in clear. Of a SELECT of rows neither their number nor a plan is seen where results are
+    /// padded; one of more rows than that is refused as `PadPassed`.
     pub fn run<S: BlockStore, E: Emit>(
         &mut self,
         store: &mut S,

@@ -8,7 +8,7 @@ ghost use Rattle.ob_exec.specs.Engines.{AreSettings};
 ghost use Rattle.ob_exec.specs.Results.{ChoosesPlan, EmitsHead};
 ghost use Rattle.ob_exec.specs.Selecting.{MaySelect, SelectsFrom, UsesRoom, selection_of};
 
-use crate::results::select_by;
+use crate::results::{select_by, select_padded};
 use ob_base::{Emit, EmitErr, End, Plan, Public, Refusal, Seen};
 use ob_emit::emit_head;
 use ob_flat::{Counted, Flat, OpErr};
@@ -68,7 +68,9 @@ fn plan_of(n: u32, counted: Counted, public: &Public) -> Option<Plan>
 /// Selects from a region: its rows are counted, then put into a fresh region by the plan for so many, and
 /// the result is emitted and discarded. Where a Hash that wasn't forced left a row out, its result is
 /// walked and discarded, and Small takes its place. `seen` has afterwards what is known by what was asked,
-/// on an error too; no region is left but those that there were.
+/// on an error too; no region is left but those that there were. Where results are padded, all that is asked
+/// follows from the sizes of the region and of the padding, and `seen` stays as it is; where more rows are
+/// selected than that, the result is walked and discarded, and refused.
 pub(crate) fn select_from<S: BlockStore, R: Revisions, E: Emit>(
     store: &mut S,
     vault: &mut Vault<R>,
@@ -88,6 +90,9 @@ pub(crate) fn select_from<S: BlockStore, R: Revisions, E: Emit>(
         out.old out.new }
 {
     let counted = ob_flat::count(store, vault, room, query.flat, query.pred)?;
+    if let Some(pad) = public.pad {
+        return select_padded(store, vault, room, public, query, pad, counted.k, out);
+    }
     seen.k = Some(u64::from(counted.k));
     if counted.k == 0 {
         return emit_none(query, out);

@@ -10,6 +10,7 @@ ghost use Rattle.ob_pass_tests.specs.Tables.{TakesInts};
 mod continuous;
 mod large;
 mod numbers;
+mod padded;
 mod small;
 mod texts;
 
@@ -29,6 +30,7 @@ use std::process::Abort;
 #[derive(Clone, Copy, Debug, PartialEq, Eq)]
 pub(crate) enum Operator {
     Small,
+    Padded,
     Large,
     Continuous,
 }
@@ -105,6 +107,10 @@ pub(crate) fn select_by<S: BlockStore, R: Revisions>(
     make_room(rt, store);
     match operator {
         Operator::Small => ob_small::select(store, vault, room, flat, pred, k).expect(rt, "Small"),
+        Operator::Padded => ob_small::select_padded(store, vault, room, flat, pred, k).expect(
+            rt,
+            "padded",
+        ),
         Operator::Large => ob_large::select(store, vault, room, flat, pred, k).expect(rt, "Large"),
         Operator::Continuous => ob_cont::select(store, vault, room, flat, pred, k).expect(
             rt,

@@ -8,4 +8,4 @@ mod keeping;
 mod selecting;
 mod writing;
 
-pub use selecting::select;
+pub use selecting::{select, select_padded};

@@ -95,3 +95,33 @@ pub fn select<S: BlockStore, R: Revisions>(
     room.clear_shelf();
     result
 }
+
+/// Selects the first `q` rows of a table that make the condition true into a fresh region of `q` slots, in
+/// order of their slots, with empty slots behind them where there are fewer: as [`select`] does, but for a
+/// `q` that is no number of selected rows, from 1 to that of the table's slots. A result is padded so: what
+/// is asked follows from `q` alone, whatever the rows are.
+///
+/// `Failed`, `Tampered` and `NoMemory` as in [`select`]. After an error the fresh region is forgotten.
+pub fn select_padded<S: BlockStore, R: Revisions>(
+    store: &mut S,
+    vault: &mut Vault<R>,
+    room: &mut Room,
+    flat: &Flat,
+    pred: &Pred,
+    q: u32,
+) -> Result<Flat, OpErr>
+    requires starts { MayStart (1 + fill_length (select_in room.old flat.now pred.now q))
+        (at R.state vault.old (S.state store.old)) }
+    requires flat { IsFlat room.old.pack flat.now (at R.state vault.old (S.state store.old)) }
+    requires size { IsSized flat.now.schema flat.now.capacity }
+    requires room { IsIdle (width flat.now.schema) room.old }
+    requires number { (1 ≤ q) × (q ≤ flat.now.capacity) }
+    ensures room { room.new ≡ record room.old {
+      high = max room.old.high (room.old.pack
+          + buffered_blocks room.old.pack room.old.rows * room.old.pack);
+    } }
+    ensures selects { Selects (select_in room.old flat.now pred.now q) result
+        (at R.state vault.old (S.state store.old)) (at R.state vault.new (S.state store.new)) }
+{
+    select(store, vault, room, flat, pred, q)
+}

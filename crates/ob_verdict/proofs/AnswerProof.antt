@@ -12,7 +12,7 @@ use Rattle.ob_base.specs.declared.schema.Heading.{Heading}
 use Rattle.ob_base.specs.declared.skeleton.Source.{Source}
 use Rattle.ob_base.specs.declared.skeleton.Source.TheVariants.{Table as OneTable, Join}
 use Rattle.ob_base.specs.Limits.{buffered, buffered_blocks}
-use Rattle.ob_base.specs.Plans.{choose}
+use Rattle.ob_base.specs.Plans.{IsPadded, MayPad, choose, choose_padded, padded_rows}
 use Rattle.ob_base.specs.Schemas.{key_place}
 use Rattle.ob_base.specs.Stored.{Stored, headings, stored_at, heading_at}
 use Rattle.ob_row.specs.Bags.{Same}
@@ -33,8 +33,8 @@ use Rattle.ob_mean.proofs.EarlyLemmas.{allowed}
 use Rattle.ob_mean.proofs.VerdictLemmas.{headings-database}
 use Rattle.ob_mean.specs.Step.{rows_at, source_rows, join_places, select_columns, select_condition, printed_places}
 use Rattle.ob_row.specs.Totals.{printed}
-use Rattle.ob_mean.specs.Verdict.{Tables, database, slots_at, source_slots, plan_for, bucket_size, first_unplaced, fallback, forced_refusal, rows_refusal, last_refusal, is_late}
-use Rattle.ob_verdict.specs.Laws.{last_plan, result_of, printed_rows, AreInPlace, PrintsAnswer}
+use Rattle.ob_mean.specs.Verdict.{Tables, database, slots_at, source_slots, plan_for, bucket_size, first_unplaced, fallback, forced_refusal, unpadded_refusal, refusal_by, last_refusal, is_late}
+use Rattle.ob_verdict.specs.Laws.{last_plan, result_plan, result_of, printed_rows, AreInPlace, PrintsAnswer}
 
 -- the plan finds a place for each of these
 abbrev PlanFits : Plan → ℕ → List ℕ → Type 0
@@ -143,22 +143,33 @@ pub both_none : (a b : Option Refusal) → option_or a b ≡ None → (a ≡ Non
 both_none None b h = (refl, h)
 both_none (Some x) b h = absurd (cc)
 
-not_empty : (p : Public) (places : List ℕ) → 0 < length places → rows_refusal p places ≡ None → forced_refusal p p.plan places ≡ None
+not_empty : (p : Public) (places : List ℕ) → 0 < length places → unpadded_refusal p places ≡ None → forced_refusal p p.plan places ≡ None
 not_empty p [] h r = absurd (omega arith)
 not_empty p (i ∷ is) h r = r
 
+-- a padded result is one of Small or Large
+padded_fits : (forced : Option Plan) (s q n : ℕ) (places : List ℕ) → MayPad forced → PlanFits (choose_padded forced s q) n places
+padded_fits (Some Small) s q n places h = tt
+padded_fits (Some Large) s q n places h = tt
+padded_fits (Some Continuous) s q n places h = absurd h
+padded_fits (Some Hash) s q n places h = absurd h
+padded_fits None s q n places h = elim (nat_le q (4 * s)) as (λ b. PlanFits (cond b Small Large) n places) [ true ↦ tt | false ↦ tt ]
+
+result_fits : (pad : Option ℕ) (p : Public) (n : ℕ) (places : List ℕ) → IsPadded pad p.plan → 0 < length places → refusal_by pad p places ≡ None →
+    PlanFits (result_plan pad p n places) (bucket_size p) places
+result_fits None p n places h some r = last_fits p n places (plan_for p n places) refl (not_empty p places some r)
+result_fits (Some pad) p n places h some r = padded_fits p.plan (buffered p.pack p.buffer) (padded_rows pad n) (bucket_size p) places h.2
+
 pub prints_answer : PrintsAnswer
-prints_answer p m ts q one s k r h =
+prints_answer p m ts q one s padded k r h =
     let both = both_none _ (last_refusal p ts (RowsStmt q)) r in
     let early = (both_none (early_refusal (is_late m) p.pack p.buffer (headings (database ts)) (RowsStmt q)) _ both.0).0 in
     let key = on_key (is_late m) p.pack p.buffer (headings ts) q (subst (λ hs. early_refusal (is_late m) p.pack p.buffer hs (RowsStmt q) ≡ None) (headings-database ts) early) in
     let slots = source_slots p q.source ts in
     let test = is_true (select_condition q (headings ts)) in
     let places = selected test slots in
-    let accepts = not_empty p places h both.1 in
-    let plan = plan_for p (length slots) places in
     let same : Same (filter test (source_rows q.source (database ts))) (rows (result_of p ts q)) =
     Same-trans _ _ _ (Same-filter test _ _ (source-same p ts q.source one s k key))
-    (result-same (last_plan p plan places) (bucket_size p) test slots h (last_fits p (length slots) places plan refl accepts)) in
+    (result-same (result_plan p.pad p (length slots) places) (bucket_size p) test slots h (result_fits p.pad p (length slots) places padded h both.1)) in
     subst (λ hs. Same (map (printed (printed_places q (select_columns q hs))) (filter (is_true (select_condition q hs)) (source_rows q.source (database ts)))) (printed_rows p ts q)) (sym (headings-database ts))
     (Same-map (printed (printed_places q (select_columns q (headings ts)))) _ _ same)

@@ -1,6 +1,6 @@
 -- What is seen of a statement is lawful.
 use Rattle.std.proofs.Common.{◌≡◌, inl, inr, ◌≢◌, ℕ, suc, zero, ◌+◌, ◌-◌, ◌*◌, ◌≤◌, ◌<◌, Bool, true, false, List, [], ◌∷◌, ◌++◌, map, length, refl, sym, ◌∙◌, ap, subst, cond, arith}
-use Rattle.std.specs.Prelude.{Option, Some, None, is_some, nat_le, bytes_eq}
+use Rattle.std.specs.Prelude.{Option, Some, None, IsSome, is_some, nat_le, bytes_eq}
 use Rattle.std.specs.Option.{option_map_or}
 use Rattle.std.proofs.lemmas.Bool.Decides.{nat_tests}
 use Rattle.std.proofs.lemmas.List.{length-append, length-map}
@@ -20,6 +20,7 @@ use Rattle.ob_base.specs.declared.skeleton.Source.{Source}
 use Rattle.ob_base.specs.declared.skeleton.Source.TheVariants.{Table as OneTable, Join}
 use Rattle.ob_base.specs.declared.skeleton.Skeleton.{Skeleton}
 use Rattle.ob_base.specs.declared.skeleton.Skeleton.TheVariants.{Create as CreateSkeleton, Insert as InsertSkeleton, Update as UpdateSkeleton, Delete as DeleteSkeleton, Drop as DropSkeleton, Rows, Groups}
+use Rattle.ob_base.specs.Accesses.{discard_at}
 use Rattle.ob_base.specs.Limits.{buffered, buffered_blocks}
 use Rattle.ob_base.specs.Lists.{each, places_from}
 use Rattle.ob_base.specs.Plans.{choose}
@@ -32,9 +33,9 @@ use Rattle.ob_sql.specs.Skeleton.{skeleton}
 use Rattle.ob_mean.specs.Refusals.{early_refusal}
 use Rattle.ob_mean.specs.Step.{select_condition}
 use Rattle.ob_row.specs.Truth.{is_true}
-use Rattle.ob_mean.specs.Verdict.{Tables, seen, seen_started, seen_rows, seen_with, ended, counted, is_late, plan_for, fallback, first_unplaced, source_slots, slots_at, selected_places}
+use Rattle.ob_mean.specs.Verdict.{Tables, seen, seen_started, seen_by, seen_unpadded, seen_with, ended, counted, is_late, plan_for, fallback, first_unplaced, source_slots, slots_at, selected_places}
 use Rattle.ob_mean.specs.Replay.{count_end, walk_end, ending_len, done_of, held_if}
-use Rattle.ob_script.specs.Script.{whole_script, table_script, join_script, extent_of, blocks_of, rows_width, joined_extent, plan_part, result_blocks}
+use Rattle.ob_script.specs.Script.{whole_script, with_table, table_script, join_script, select_part, behind_count, extent_of, blocks_of, rows_width, joined_extent, plan_part, result_blocks}
 use Rattle.ob_script.specs.Parts.{count_part, join_part}
 use Rattle.ob_row.specs.Rows.{Row}
 use Rattle.std.proofs.lemmas.Grind.{div_ceil_times}
@@ -56,14 +57,17 @@ record Started (p : Public) (stmt : Stmt) (x : Seen) : Type 0 where
   pub holds : Holds p stmt x x.k x.plan x.then
 
 kind_alone : (p : Public) (stmt : Stmt) → is_counted stmt ≡ false → Started p stmt (ended Whole)
-kind_alone p stmt e = record { not_static = λ e. cc; not_cut = λ m. tt; holds = e }
+kind_alone p stmt e = record { not_static = λ e. cc; not_cut = λ m. tt; holds = inl e }
 
-module _ (p : Public) (stmt : Stmt) (rows : is_counted stmt ≡ true) where
+padded_alone : (p : Public) (stmt : Stmt) → IsSome p.pad → Started p stmt (ended Whole)
+padded_alone p stmt h = record { not_static = λ e. cc; not_cut = λ m. tt; holds = inr h }
+
+module _ (p : Public) (stmt : Stmt) (rows : is_counted stmt ≡ true) (unpadded : p.pad ≡ None) where
   abbrev n : ℕ
   n = statement_slots p stmt
 
   count_of : (k : ℕ) → k ≤ n → IsCount p stmt k
-  count_of k l = record { counted = rows; most = l }
+  count_of k l = record { counted = rows; unpadded = unpadded; most = l }
 
   no_rows : Started p stmt (counted 0 None None Whole)
   no_rows = record { not_static = λ e. cc; not_cut = λ m. tt; holds = (count_of 0 (omega arith), refl) }
@@ -90,12 +94,12 @@ forced_only None s n k h = absurd (unforced (nat_le k (4 * s)) (nat_le (3 * n) (
   unforced false true h = cc
   unforced false false h = cc
 
-module _ (p : Public) (stmt : Stmt) (counts : is_counted stmt ≡ true) where
+module _ (p : Public) (stmt : Stmt) (counts : is_counted stmt ≡ true) (unpadded : p.pad ≡ None) where
   abbrev slots : ℕ
   slots = statement_slots p stmt
 
   planned : (k : ℕ) (plan : Plan) (c : Bool) → 1 ≤ k → k ≤ slots → choose p.plan (buffered p.pack p.buffer) slots k c ≡ plan → IsCount p stmt k × IsPlan p stmt k plan
-  planned k plan c h l e = (count_of p stmt counts k l, plan_of p stmt counts k plan c h (sym e))
+  planned k plan c h l e = (count_of p stmt counts unpadded k l, plan_of p stmt counts unpadded k plan c h (sym e))
 
   with_plan : (plan : Plan) (places : List ℕ) → 1 ≤ length places → length places ≤ slots →
       choose p.plan (buffered p.pack p.buffer) slots (length places) (is_consecutive places) ≡ plan → Started p stmt (seen_with p plan places)
@@ -105,17 +109,23 @@ module _ (p : Public) (stmt : Stmt) (counts : is_counted stmt ≡ true) where
       let both = planned (length places) Large (is_consecutive places) h l e in record { not_static = λ e. cc; not_cut = λ m. tt; holds = (both.0, both.1, tt) }
   with_plan Hash places h l e =
       let both = planned (length places) Hash (is_consecutive places) h l e in
-      record { not_static = λ e. cc; not_cut = λ m. tt; holds = hash_holds p stmt counts (length places) p.plan (first_unplaced p places) refl both.0 both.1 }
+      record { not_static = λ e. cc; not_cut = λ m. tt; holds = hash_holds p stmt counts unpadded (length places) p.plan (first_unplaced p places) refl both.0 both.1 }
   with_plan Continuous places h l e = at_answer (is_consecutive places) e where
     at_answer : (b : Bool) → choose p.plan (buffered p.pack p.buffer) slots (length places) b ≡ Continuous →
         Started p stmt (cond b (counted (length places) (Some Continuous) None Whole) (counted (length places) None None AfterCount))
     at_answer true e =
         let both = planned (length places) Continuous true h l e in record { not_static = λ e. cc; not_cut = λ m. tt; holds = (both.0, both.1, tt) }
-    at_answer false e = stopped p stmt counts (length places) h l (forced_only p.plan (buffered p.pack p.buffer) slots (length places) e)
+    at_answer false e = stopped p stmt counts unpadded (length places) h l (forced_only p.plan (buffered p.pack p.buffer) slots (length places) e)
 
-  rows_started : (places : List ℕ) → length places ≤ slots → Started p stmt (seen_rows p slots places)
-  rows_started [] l = no_rows p stmt counts
-  rows_started (i ∷ is) l = with_plan (plan_for p slots (i ∷ is)) (i ∷ is) (omega arith) l refl
+  unpadded_started : (places : List ℕ) → length places ≤ slots → Started p stmt (seen_unpadded p slots places)
+  unpadded_started [] l = no_rows p stmt counts unpadded
+  unpadded_started (i ∷ is) l = with_plan (plan_for p slots (i ∷ is)) (i ∷ is) (omega arith) l refl
+
+-- with the pad of p
+rows_started : (p : Public) (stmt : Stmt) (pad : Option ℕ) (places : List ℕ) → is_counted stmt ≡ true → p.pad ≡ pad → length places ≤ statement_slots p stmt →
+    Started p stmt (seen_by pad p (statement_slots p stmt) places)
+rows_started p stmt None places counts e l = unpadded_started p stmt counts e places l
+rows_started p stmt (Some pad) places counts e l = padded_alone p stmt (ap is_some e)
 
 length-places_from : {A : Type 0} (f : A → Bool) (n : ℕ) (xs : List A) → length (places_from n f xs) ≤ length xs
 length-places_from f n [] = omega arith
@@ -167,7 +177,7 @@ all_started p ts (TotalsStmt q) some e h = kind_alone p (TotalsStmt q) refl
 all_started p ts (RowsStmt q) some e h =
     let size : length (source_slots p q.source ts) ≡ counted_slots p q.source = source-slots p ts q.source some e h in
     let few : length (selected_places p q ts) ≤ counted_slots p q.source = let l = selected_few (is_true (select_condition q (headings ts))) (source_slots p q.source ts) in omega (arith, l, size) in
-    subst (λ n. Started p (RowsStmt q) (seen_rows p n (selected_places p q ts))) (sym size) (rows_started p (RowsStmt q) refl (selected_places p q ts) few)
+    subst (λ n. Started p (RowsStmt q) (seen_by p.pad p n (selected_places p q ts))) (sym size) (rows_started p (RowsStmt q) p.pad (selected_places p q ts) refl refl few)
 
 not_both : {b : Bool} → b ≡ true → b ≡ false → ⊥
 not_both h k = cc
@@ -194,15 +204,28 @@ abbrev seen_of : Option ℕ → (plan second : Option Plan) → End → Seen
 seen_of k plan second end = record { k = k; plan = plan; then = second; end = end }
 
 -- a script is the same however it ended
-same_script : (p : Public) (s : Skeleton) (k : Option ℕ) (plan second : Option Plan) (a b : End) → whole_script p s (seen_of k plan second a) ≡ whole_script p s (seen_of k plan second b)
-same_script p (CreateSkeleton table cs n) k plan second a b = refl
-same_script p (InsertSkeleton table cs) k plan second a b = refl
-same_script p (UpdateSkeleton table cs) k plan second a b = refl
-same_script p (DeleteSkeleton table) k plan second a b = refl
-same_script p (DropSkeleton table) k plan second a b = refl
-same_script p (Rows (OneTable name) cs) k plan second a b = refl
-same_script p (Rows (Join left right on equals) cs) k plan second a b = refl
-same_script p (Groups table cs key) k plan second a b = refl
+same_behind : (pad : Option ℕ) (p : Public) (now : Seen) (end : End) (g : ℕ) (t : _) (ending : List Access)
+    → behind_count pad p now g t ending ≡ behind_count pad p (record now { end = end }) g t ending
+same_behind None p now end g t ending = refl
+same_behind (Some pad) p now end g t ending = refl
+
+same_select : (p : Public) (now : Seen) (end : End) (g : ℕ) (t : _) (ending : List Access) → select_part p now g t ending ≡ select_part p (record now { end = end }) g t ending
+same_select p now end g t ending = ap (λ (x : List Access). count_part t.region (blocks_of p t) ++ x) (same_behind p.pad p now end g t ending)
+
+pub same_script : (p : Public) (s : Skeleton) (now : Seen) (end : End) → whole_script p s now ≡ whole_script p s (record now { end = end })
+same_script p (CreateSkeleton table cs n) now end = refl
+same_script p (InsertSkeleton table cs) now end = refl
+same_script p (UpdateSkeleton table cs) now end = refl
+same_script p (DeleteSkeleton table) now end = refl
+same_script p (DropSkeleton table) now end = refl
+same_script p (Rows (OneTable name) cs) now end =
+    λ i. with_table name p (λ t. same_select p now end p.next_region (extent_of t) [] i)
+same_script p (Rows (Join left right on equals) cs) now end =
+    λ i. with_table left p (λ l. with_table right p (λ r.
+    let t = joined_extent p l.heading r.heading in
+    join_part l.held r.held p.next_region (blocks_of p (extent_of l)) (blocks_of p (extent_of r)) (buffered_blocks p.pack p.buffer) (rows_width p t)
+    ++ same_select p now end (p.next_region + 1) t (discard_at p.next_region) i))
+same_script p (Groups table cs key) now end = refl
 
 -- the result of a plan is read back behind the count, and a block at least is left to discard
 behind : (counted plan back ending : List Access) (last : Access) → length (counted ++ []) + (length ending + 1) ≤ length (counted ++ ((plan ++ (back ++ last ∷ [])) ++ ([] ++ ending)))
@@ -217,8 +240,12 @@ behind counted plan back ending last =
 in_front : (front short long : List Access) (m : ℕ) → length short + m ≤ length long → length (front ++ short) ≤ length (front ++ long) - m
 in_front front short long m h = let a = length-append front short in let b = length-append front long in omega (arith, a, b)
 
+-- where results aren't padded
+abbrev unpadded : Public → Public
+unpadded p = record p { pad = None }
+
 walk_of_table : (p : Public) (k : ℕ) (plan : Plan) (end : End) (o : Option (Stored ℕ))
-    → length (option_map_or (table_script p (ended Whole)) o []) ≤ length (option_map_or (table_script p (seen_of (Some k) (Some plan) None end)) o []) - (0 + 1)
+    → length (option_map_or (table_script (unpadded p) (ended Whole)) o []) ≤ length (option_map_or (table_script (unpadded p) (seen_of (Some k) (Some plan) None end)) o []) - (0 + 1)
 walk_of_table p k plan end None = omega arith
 walk_of_table p k plan end (Some t) =
     let from = extent_of t in
@@ -228,8 +255,8 @@ walk_of_table p k plan end (Some t) =
     in_front [] (count ++ []) (count ++ ((result ++ (back ++ Discard p.next_region ∷ [])) ++ [])) 1 (behind count result back [] (Discard p.next_region))
 
 walk_of_join : (p : Public) (k : ℕ) (plan : Plan) (end : End) (l r : Option (Stored ℕ))
-    → length (option_map_or (λ left. option_map_or (λ right. join_script p (ended Whole) left right) r []) l [])
-    ≤ length (option_map_or (λ left. option_map_or (λ right. join_script p (seen_of (Some k) (Some plan) None end) left right) r []) l []) - (1 + 1)
+    → length (option_map_or (λ left. option_map_or (λ right. join_script (unpadded p) (ended Whole) left right) r []) l [])
+    ≤ length (option_map_or (λ left. option_map_or (λ right. join_script (unpadded p) (seen_of (Some k) (Some plan) None end) left right) r []) l []) - (1 + 1)
 walk_of_join p k plan end None r = omega arith
 walk_of_join p k plan end (Some left) None = omega arith
 walk_of_join p k plan end (Some left) (Some right) =
@@ -242,10 +269,50 @@ walk_of_join p k plan end (Some left) (Some right) =
     let result = plan_part p plan k g from in
     in_front pairs (count ++ []) (count ++ ((result ++ (back ++ Discard g ∷ [])) ++ (Discard p.next_region ∷ []))) 2 (behind count result back (Discard p.next_region ∷ []) (Discard g))
 
-count_before_walk : (p : Public) (source : Source) (cs : Option (List ColumnName)) (k : ℕ) (plan : Plan) (second : Option Plan) (end : End)
+-- a padded script has the count, too
+counted_before : (p : Public) (g : ℕ) (t : _) (ending : List Access) → length (select_part (unpadded p) (ended Whole) g t ending) ≤ length (select_part p (ended Whole) g t ending)
+counted_before p g t ending =
+    let a = length-append (count_part t.region (blocks_of p t)) [] in
+    let b = length-append (count_part t.region (blocks_of p t)) (behind_count p.pad p (ended Whole) g t ending) in
+    omega (arith, a, b)
+
+count_of_table : (p : Public) (o : Option (Stored ℕ)) → length (option_map_or (table_script (unpadded p) (ended Whole)) o []) ≤ length (option_map_or (table_script p (ended Whole)) o [])
+count_of_table p None = omega arith
+count_of_table p (Some t) = counted_before p p.next_region (extent_of t) []
+
+count_of_join : (p : Public) (l r : Option (Stored ℕ))
+    → length (option_map_or (λ left. option_map_or (λ right. join_script (unpadded p) (ended Whole) left right) r []) l [])
+    ≤ length (option_map_or (λ left. option_map_or (λ right. join_script p (ended Whole) left right) r []) l [])
+count_of_join p None r = omega arith
+count_of_join p (Some left) None = omega arith
+count_of_join p (Some left) (Some right) =
+    let t = joined_extent p left.heading right.heading in
+    let pairs =
+    join_part left.held right.held p.next_region (blocks_of p (extent_of left)) (blocks_of p (extent_of right)) (buffered_blocks p.pack p.buffer) (rows_width p t) in
+    let h = counted_before p (p.next_region + 1) t (discard_at p.next_region) in
+    let a = length-append pairs (select_part (unpadded p) (ended Whole) (p.next_region + 1) t (discard_at p.next_region)) in
+    let b = length-append pairs (select_part p (ended Whole) (p.next_region + 1) t (discard_at p.next_region)) in
+    omega (arith, h, a, b)
+
+count_within : (p : Public) (s : Skeleton) → count_end p s ≤ length (whole_script p s (ended Whole))
+count_within p (CreateSkeleton table cs n) = omega arith
+count_within p (InsertSkeleton table cs) = omega arith
+count_within p (UpdateSkeleton table cs) = omega arith
+count_within p (DeleteSkeleton table) = omega arith
+count_within p (DropSkeleton table) = omega arith
+count_within p (Rows (OneTable name) cs) = count_of_table p (stored_at name (stored_regions p.tables))
+count_within p (Rows (Join a b on equals) cs) = count_of_join p (stored_at a (stored_regions p.tables)) (stored_at b (stored_regions p.tables))
+count_within p (Groups table cs key) = omega arith
+
+unpadded_walk : (p : Public) (source : Source) (cs : Option (List ColumnName)) (k : ℕ) (plan : Plan) (second : Option Plan) (end : End)
+    → count_end p (Rows source cs) ≤ walk_end (unpadded p) (Rows source cs) (seen_of (Some k) (Some plan) second end)
+unpadded_walk p (OneTable name) cs k plan second end = walk_of_table p k plan end (stored_at name (stored_regions p.tables))
+unpadded_walk p (Join a b on equals) cs k plan second end = walk_of_join p k plan end (stored_at a (stored_regions p.tables)) (stored_at b (stored_regions p.tables))
+
+count_before_walk : (p : Public) (source : Source) (cs : Option (List ColumnName)) (k : ℕ) (plan : Plan) (second : Option Plan) (end : End) → p.pad ≡ None
     → count_end p (Rows source cs) ≤ walk_end p (Rows source cs) (seen_of (Some k) (Some plan) second end)
-count_before_walk p (OneTable name) cs k plan second end = walk_of_table p k plan end (stored_at name (stored_regions p.tables))
-count_before_walk p (Join a b on equals) cs k plan second end = walk_of_join p k plan end (stored_at a (stored_regions p.tables)) (stored_at b (stored_regions p.tables))
+count_before_walk p source cs k plan second end e =
+    subst (λ pad. count_end p (Rows source cs) ≤ walk_end (record p { pad = pad }) (Rows source cs) (seen_of (Some k) (Some plan) second end)) (sym e) (unpadded_walk p source cs k plan second end)
 
 not_second : (p : Public) (stmt : Stmt) (k : Option ℕ) (plan : Option Plan) (second : Plan) (end : End) → is_counted stmt ≡ false
     → Holds p stmt (seen_of k plan (Some second) end) k plan (Some second) → ⊥
@@ -257,7 +324,8 @@ not_second p stmt None None second end e h = h
 
 walks : (p : Public) (stmt : Stmt) (k : Option ℕ) (plan : Option Plan) (second : Plan) (end : End) → Holds p stmt (seen_of k plan (Some second) end) k plan (Some second)
     → count_end p (skeleton stmt) ≤ walk_end p (skeleton stmt) (seen_of k plan (Some second) end)
-walks p (RowsStmt q) (Some k) (Some plan) second end h = count_before_walk p q.source q.list k plan (Some second) end
+walks p (RowsStmt q) (Some k) (Some Hash) Small end h = count_before_walk p q.source q.list k Hash (Some Small) end h.0.unpadded
+walks p (RowsStmt q) (Some k) (Some plan) second end h = absurd h
 walks p (RowsStmt q) (Some k) None second end h = absurd h
 walks p (RowsStmt q) None (Some plan) second end h = absurd h
 walks p (RowsStmt q) None None second end h = absurd h
@@ -276,7 +344,7 @@ module _ (p : Public) (stmt : Stmt) (n done : ℕ) (within : done ≤ n) (last :
   IsLong k plan second end = n ≤ length (whole_script p (skeleton stmt) (seen_of k plan second end))
 
   long : (k : Option ℕ) (plan second : Option Plan) (end : End) → IsLong k plan second end → IsLong k plan second (Cut n)
-  long k plan second end h = subst (λ (x : List Access). n ≤ length x) (same_script p (skeleton stmt) k plan second end (Cut n)) h
+  long k plan second end h = subst (λ (x : List Access). n ≤ length x) (same_script p (skeleton stmt) (seen_of k plan second end) (Cut n)) h
 
   unplanned : (k m : ℕ) (end : End) → m ≤ n → EndsUnplanned p k m end → EndsUnplanned p k m (Cut n)
   unplanned k m Static le h = absurd h
@@ -285,7 +353,7 @@ module _ (p : Public) (stmt : Stmt) (n done : ℕ) (within : done ≤ n) (last :
   unplanned k m (Cut j) le h = (le, h.1)
 
   uncounted : done < count_end p (skeleton stmt) → Cutting None None None
-  uncounted less = (tt, long None None None Whole (omega arith))
+  uncounted less = (tt, long None None None Whole (let c = count_within p (skeleton stmt) in omega arith))
 
   kept_one : (k : Option ℕ) (plan : Option Plan) (end : End) → Holds p stmt (seen_of k plan None end) k plan None → IsLong k plan None end → count_end p (skeleton stmt) ≤ done → Cutting k plan None
   kept_one None None end h l le = (tt, long None None None end l)
@@ -297,7 +365,7 @@ module _ (p : Public) (stmt : Stmt) (n done : ℕ) (within : done ≤ n) (last :
       → walk_end p (skeleton stmt) (seen_of k plan (Some second) end) ≤ done → Cutting k plan (Some second)
   kept_two (Some k) (Some Hash) Small end h l le =
       let walk : walk_end p (skeleton stmt) (seen_of (Some k) (Some Hash) (Some Small) (Cut n)) ≤ n =
-      subst (λ (x : List Access). length x - (ending_len (skeleton stmt) + 1) ≤ n) (same_script p (skeleton stmt) (Some k) (Some Hash) None end (Cut n)) (omega arith) in
+      subst (λ (x : List Access). length x - (ending_len (skeleton stmt) + 1) ≤ n) (same_script p (skeleton stmt) (seen_of (Some k) (Some Hash) None end) (Cut n)) (omega arith) in
       ((h.0, h.1, walk, h.3), long (Some k) (Some Hash) (Some Small) end l)
   kept_two (Some k) (Some plan) second end h l le = absurd h
   kept_two (Some k) None second end h l le = absurd h

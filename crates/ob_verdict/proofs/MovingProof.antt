@@ -1,6 +1,6 @@
 -- What stands at a name after a statement.
 use Rattle.std.proofs.Common.{◌≡◌, ◌≢◌, ℕ, Bool, true, false, List, [], ◌∷◌, ◌++◌, map, refl, sym, ◌∙◌, ap, cond}
-use Rattle.std.specs.Prelude.{Option, Some, None, filter, not, bytes_eq, ◌||◌}
+use Rattle.std.specs.Prelude.{Option, Some, None, filter, not, bytes_eq}
 use Rattle.std.specs.List.{list_any}
 use Rattle.std.specs.Option.{option_map}
 use Rattle.std.proofs.lemmas.Slice.Eq.{bytes_eq-Decides}

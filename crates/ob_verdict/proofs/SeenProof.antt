@@ -1,6 +1,6 @@
 -- What the seen of a statement tells.
 use Rattle.std.proofs.Common.{◌≡◌, ℕ, Bool, true, false, List, [], ◌∷◌, length, refl, sym, ◌∙◌, ap, subst, cond}
-use Rattle.std.specs.Prelude.{Option, Some, None, is_some, nat_le, ◌*◌}
+use Rattle.std.specs.Prelude.{Option, Some, None, IsSome, is_some, nat_le, ◌*◌}
 use Rattle.ob_base.specs.declared.config.Public.{Public}
 use Rattle.ob_base.specs.declared.config.Plan.{Plan}
 use Rattle.ob_base.specs.declared.config.Plan.TheVariants.{Small, Large, Continuous, Hash}
@@ -8,22 +8,22 @@ use Rattle.ob_base.specs.declared.seen.Seen.{Seen}
 use Rattle.ob_base.specs.declared.seen.End.{End}
 use Rattle.ob_base.specs.declared.seen.End.TheVariants.{Static, Whole, AfterCount}
 use Rattle.ob_base.specs.declared.refusal.Refusal.{Refusal}
-use Rattle.ob_base.specs.declared.refusal.Refusal.TheVariants.{NotConsecutive, Duplicate, Full as FullTable, TooManyGroups, Overflow}
+use Rattle.ob_base.specs.declared.refusal.Refusal.TheVariants.{NotConsecutive, Duplicate, Full as FullTable, TooManyGroups, Overflow, PadPassed}
 use Rattle.ob_mean.specs.Step.{late_refusal, insert_refusal, new_row, Database, overgroups, totals_columns, totalled_rows}
 use Rattle.ob_mean.proofs.VerdictLemmas.{headings-database}
-use Rattle.ob_mean.specs.Verdict.{database, refusal, last_refusal, rows_refusal, forced_refusal, first_unplaced, fallback, source_slots, selected_places}
+use Rattle.ob_mean.specs.Verdict.{database, refusal, last_refusal, refusal_by, unpadded_refusal, forced_refusal, first_unplaced, fallback, source_slots, selected_places}
 use Rattle.ob_base.specs.Plans.{choose}
 use Rattle.std.specs.Option.{option_map, option_map_or, option_or}
 use Rattle.ob_sql.specs.declared.stmt.Stmt.{Stmt}
 use Rattle.ob_sql.specs.declared.stmt.Stmt.TheVariants.{Create, Insert, Update, Delete, Drop as DropTable, SelectRows as RowsStmt, SelectTotals as TotalsStmt}
 use Rattle.ob_row.specs.Slots.{is_consecutive}
-use Rattle.ob_mean.specs.Verdict.{Tables, seen, seen_started, seen_rows, seen_with, ended, counted, is_late, plan_for}
+use Rattle.ob_mean.specs.Verdict.{Tables, seen, seen_started, seen_by, seen_unpadded, seen_with, ended, counted, is_late, plan_for}
 use Rattle.ob_mean.specs.Refusals.{early_refusal}
 use Rattle.ob_base.specs.Limits.{buffered}
 use Rattle.ob_base.specs.Stored.{Stored, headings, stored_at}
 use Rattle.ob_row.specs.Rows.{Row}
 use Rattle.ob_mean.specs.Lawful.{is_counted}
-use Rattle.ob_verdict.specs.Laws.{IsStarted, ShowsKindAlone, PlanIsWhole, ForcedShowsAlike, ShowsNotConsecutive}
+use Rattle.ob_verdict.specs.Laws.{IsStarted, ShowsKindAlone, PaddedShowsKind, PlanIsWhole, ForcedShowsAlike, ShowsNotConsecutive}
 
 seen-started : (p : Public) (m : ℕ) (ts : Tables) (stmt : Stmt) → IsStarted p m ts stmt → seen p m ts stmt ≡ seen_started p ts stmt
 seen-started p m ts stmt h = ap (λ r. cond (is_some r) (ended Static) (seen_started p ts stmt)) h
@@ -39,6 +39,23 @@ started-kind p ts (TotalsStmt q) h = refl
 
 pub shows_kind_alone : ShowsKindAlone
 shows_kind_alone p m ts stmt h k = seen-started p m ts stmt h ∙ started-kind p ts stmt k
+
+-- ---- a padded result
+seen_by-padded : (pad : Option ℕ) (p : Public) (n : ℕ) (places : List ℕ) → IsSome pad → seen_by pad p n places ≡ ended Whole
+seen_by-padded None p n places h = absurd (cc)
+seen_by-padded (Some pad) p n places h = refl
+
+padded-kind : (p : Public) (ts : Tables) (stmt : Stmt) → IsSome p.pad → seen_started p ts stmt ≡ ended Whole
+padded-kind p ts (Create a b c) h = refl
+padded-kind p ts (Insert a b c) h = refl
+padded-kind p ts (Update a b c) h = refl
+padded-kind p ts (Delete a b) h = refl
+padded-kind p ts (DropTable a) h = refl
+padded-kind p ts (RowsStmt q) h = seen_by-padded p.pad p _ _ h
+padded-kind p ts (TotalsStmt q) h = refl
+
+pub padded_shows_kind : PaddedShowsKind
+padded_shows_kind p m ts stmt h padded = seen-started p m ts stmt h ∙ padded-kind p ts stmt padded
 
 -- a fact of both choices
 of_cond : (P : Seen → Type 0) (b : Bool) (x y : Seen) → P x → P y → P (cond b x y)
@@ -59,10 +76,14 @@ seen_with-plan p Large places = λ x h. refl
 seen_with-plan p Continuous places = of_cond PlanEnds (is_consecutive places) _ _ (λ x h. refl) (λ x h. cc)
 seen_with-plan p Hash places = λ x h. refl
 
-seen_rows-plan : (p : Public) (n : ℕ) (places : List ℕ) → PlanEnds (seen_rows p n places)
+seen_unpadded-plan : (p : Public) (n : ℕ) (places : List ℕ) → PlanEnds (seen_unpadded p n places)
 unfolding PlanEnds
-seen_rows-plan p n [] = λ x h. refl
-seen_rows-plan p n (i ∷ is) = seen_with-plan p (plan_for p n (i ∷ is)) (i ∷ is)
+seen_unpadded-plan p n [] = λ x h. refl
+seen_unpadded-plan p n (i ∷ is) = seen_with-plan p (plan_for p n (i ∷ is)) (i ∷ is)
+
+seen_by-plan : (pad : Option ℕ) (p : Public) (n : ℕ) (places : List ℕ) → PlanEnds (seen_by pad p n places)
+seen_by-plan None p n places = seen_unpadded-plan p n places
+seen_by-plan (Some pad) p n places = ended-plan Whole
 
 started-plan : (p : Public) (ts : Tables) (stmt : Stmt) → PlanEnds (seen_started p ts stmt)
 started-plan p ts (Create a b c) = ended-plan Whole
@@ -70,7 +91,7 @@ started-plan p ts (Insert a b c) = ended-plan Whole
 started-plan p ts (Update a b c) = ended-plan Whole
 started-plan p ts (Delete a b) = ended-plan Whole
 started-plan p ts (DropTable a) = ended-plan Whole
-started-plan p ts (RowsStmt q) = seen_rows-plan p _ _
+started-plan p ts (RowsStmt q) = seen_by-plan p.pad p _ _
 started-plan p ts (TotalsStmt q) = ended-plan Whole
 
 pub plan_is_whole : PlanIsWhole
@@ -146,10 +167,19 @@ plan-shows p s n k places (Some Continuous) = continuous-shows (is_consecutive p
 plan-shows p s n k places (Some Hash) = (λ e. cc, λ e. absurd (overflow-not (first_unplaced p places) e))
 plan-shows p s n k places None = unforced-shows p places (nat_le k (4 * s)) (nat_le (3 * n) (4 * k))
 
-rows-shows : (p : Public) (n : ℕ) (places : List ℕ) → Shows (seen_rows p n places) (rows_refusal p places)
+unpadded-shows : (p : Public) (n : ℕ) (places : List ℕ) → Shows (seen_unpadded p n places) (unpadded_refusal p places)
 unfolding Shows
-rows-shows p n [] = (λ e. cc, λ e. cc)
-rows-shows p n (i ∷ is) = plan-shows p (buffered p.pack p.buffer) n (length (i ∷ is)) (i ∷ is) p.plan
+unpadded-shows p n [] = (λ e. cc, λ e. cc)
+unpadded-shows p n (i ∷ is) = plan-shows p (buffered p.pack p.buffer) n (length (i ∷ is)) (i ∷ is) p.plan
+
+passed-not : (b : Bool) → NotSame (cond b (Some PadPassed) None)
+unfolding NotSame
+passed-not true h = cc
+passed-not false h = cc
+
+rows-shows : (pad : Option ℕ) (p : Public) (n : ℕ) (places : List ℕ) → Shows (seen_by pad p n places) (refusal_by pad p places)
+rows-shows None p n places = unpadded-shows p n places
+rows-shows (Some pad) p n places = neither Whole _ (λ e. cc) (passed-not _)
 
 or_none : (a : Option Refusal) → a ≡ option_or a None
 or_none None = refl
@@ -167,7 +197,7 @@ late-shows p ts (Insert a b c) = (λ e. cc, λ e. absurd (late-not (buffered p.p
 late-shows p ts (Update a b c) = (λ e. cc, λ e. cc)
 late-shows p ts (Delete a b) = (λ e. cc, λ e. cc)
 late-shows p ts (DropTable a) = (λ e. cc, λ e. cc)
-late-shows p ts (RowsStmt q) = rows-shows p (length (source_slots p q.source ts)) (selected_places p q ts)
+late-shows p ts (RowsStmt q) = rows-shows p.pad p (length (source_slots p q.source ts)) (selected_places p q ts)
 late-shows p ts (TotalsStmt q) =
     (λ e. cc, λ e. absurd (groups-not-either (overgroups (buffered p.pack p.buffer) q.group (totals_columns q (headings (database ts))) (totalled_rows q (database ts))) e))
 
@@ -196,10 +226,15 @@ seen_with-second p Large places = λ x e. refl
 seen_with-second p Continuous places = of_cond (λ s. (plan : Plan) → p.plan ≡ Some plan → s.then ≡ None) (is_consecutive places) _ _ (λ x e. refl) (λ x e. refl)
 seen_with-second p Hash places = λ x e. fallback-none p places p.plan x e
 
-seen_rows-second : (p : Public) (n : ℕ) (places : List ℕ) → NoSecond p.plan (seen_rows p n places)
+seen_unpadded-second : (p : Public) (n : ℕ) (places : List ℕ) → NoSecond p.plan (seen_unpadded p n places)
 unfolding NoSecond
-seen_rows-second p n [] = λ x e. refl
-seen_rows-second p n (i ∷ is) = seen_with-second p (plan_for p n (i ∷ is)) (i ∷ is)
+seen_unpadded-second p n [] = λ x e. refl
+seen_unpadded-second p n (i ∷ is) = seen_with-second p (plan_for p n (i ∷ is)) (i ∷ is)
+
+seen_by-second : (pad : Option ℕ) (p : Public) (n : ℕ) (places : List ℕ) → NoSecond p.plan (seen_by pad p n places)
+unfolding NoSecond
+seen_by-second None p n places = seen_unpadded-second p n places
+seen_by-second (Some pad) p n places = λ x e. refl
 
 started-second : (p : Public) (ts : Tables) (stmt : Stmt) → NoSecond p.plan (seen_started p ts stmt)
 unfolding NoSecond
@@ -208,7 +243,7 @@ started-second p ts (Insert a b c) = λ x e. refl
 started-second p ts (Update a b c) = λ x e. refl
 started-second p ts (Delete a b) = λ x e. refl
 started-second p ts (DropTable a) = λ x e. refl
-started-second p ts (RowsStmt q) = seen_rows-second p _ _
+started-second p ts (RowsStmt q) = seen_by-second p.pad p _ _
 started-second p ts (TotalsStmt q) = λ x e. refl
 
 all-second : (p : Public) (m : ℕ) (ts : Tables) (stmt : Stmt) → NoSecond p.plan (seen p m ts stmt)

@@ -1,9 +1,11 @@
 -- Small sessions, computed: what they answer, what they ask, and what their results hold.
 use Rattle.std.proofs.Common.{◌≡◌, ℕ, List, [], ◌∷◌, ◌++◌, refl}
 use Rattle.std.specs.Prelude.{Some, None, Ok, Err, codes, pos, map, true, false}
+use Rattle.ob_base.specs.declared.access.Access.{Access}
 use Rattle.ob_base.specs.declared.access.Access.TheVariants.{Make, Read, Write, Discard}
+use Rattle.ob_base.specs.declared.config.Public.{Public}
 use Rattle.ob_base.specs.declared.config.Plan.TheVariants.{Small, Large, Continuous, Hash}
-use Rattle.ob_base.specs.declared.refusal.Refusal.TheVariants.{Syntax, Duplicate, Full, TooManyGroups, NotConsecutive, Overflow, NameTaken, NoColumn, WrongType, KeyRule, JoinKey, StoreFault}
+use Rattle.ob_base.specs.declared.refusal.Refusal.TheVariants.{Syntax, Duplicate, Full, TooManyGroups, NotConsecutive, Overflow, NameTaken, NoColumn, WrongType, KeyRule, JoinKey, StoreFault, PadPassed}
 use Rattle.ob_base.specs.declared.shown.Shown.TheVariants.{Int as I, Null}
 use Rattle.ob_base.specs.declared.skeleton.ColumnName.{ColumnName}
 use Rattle.ob_base.specs.declared.skeleton.Source.TheVariants.{Join}
@@ -154,6 +156,50 @@ large_total = refl
 large_result : result_after (forced Large 5) four_rows (select_where (Some (compare v Equal 10))) ≡ Some (row_of 1 10) ∷ None ∷ Some (row_of 3 10) ∷ None ∷ []
 unfolding makes
 large_result = refl
+
+-- results padded to two rows: the count and the result of two, whatever is selected
+abbrev padded : Public
+padded = first_public 4 5 1 None (Some 2)
+
+-- of a table of four slots with three rows
+abbrev three_rows : List Spelt
+three_rows = create_t ∷ insert t 1 10 ∷ insert t 2 20 ∷ insert t 3 10 ∷ []
+
+abbrev padded_script : List Access
+padded_script = Read 4 0 ∷ Read 4 1 ∷ Read 4 2 ∷ Read 4 3 ∷ Make 5 2 49 ∷ Read 4 0 ∷ Read 4 1 ∷ Read 4 2 ∷ Read 4 3 ∷ Write 5 0 ∷ Write 5 1 ∷ Read 5 0 ∷ Read 5 1 ∷ Discard 5 ∷ []
+
+padded_none : last_answers padded three_rows (select_where (Some (compare v Equal 99)) ∷ []) ≡ Rows [] ∷ []
+unfolding makes
+padded_none = refl
+
+padded_none_trace : last_trace padded three_rows (select_where (Some (compare v Equal 99)) ∷ []) ≡ padded_script
+unfolding makes
+padded_none_trace = refl
+
+padded_two : last_answers padded three_rows (select_where (Some (compare v Equal 10)) ∷ []) ≡ Rows (ints (1 ∷ 10 ∷ []) ∷ ints (3 ∷ 10 ∷ []) ∷ []) ∷ []
+unfolding makes
+padded_two = refl
+
+padded_two_trace : last_trace padded three_rows (select_where (Some (compare v Equal 10)) ∷ []) ≡ padded_script
+unfolding makes
+padded_two_trace = refl
+
+padded_two_result : result_after padded three_rows (select_where (Some (compare v Equal 10))) ≡ Some (row_of 1 10) ∷ Some (row_of 3 10) ∷ []
+unfolding makes
+padded_two_result = refl
+
+padded_passed : last_answers padded three_rows (select_where None ∷ []) ≡ Refused PadPassed ∷ []
+unfolding makes
+padded_passed = refl
+
+padded_passed_trace : last_trace padded three_rows (select_where None ∷ []) ≡ padded_script
+unfolding makes
+padded_passed_trace = refl
+
+-- forced Large, of all slots
+padded_large_trace : last_trace (first_public 4 5 1 (Some Large) (Some 2)) three_rows (select_where (Some (compare v Equal 99)) ∷ []) ≡ Read 4 0 ∷ Read 4 1 ∷ Read 4 2 ∷ Read 4 3 ∷ Make 5 4 49 ∷ Read 4 0 ∷ Write 5 0 ∷ Read 4 1 ∷ Write 5 1 ∷ Read 4 2 ∷ Write 5 2 ∷ Read 4 3 ∷ Write 5 3 ∷ Read 5 0 ∷ Write 5 0 ∷ Read 5 1 ∷ Write 5 1 ∷ Read 5 2 ∷ Write 5 2 ∷ Read 5 3 ∷ Write 5 3 ∷ Read 5 0 ∷ Read 5 1 ∷ Read 5 2 ∷ Read 5 3 ∷ Discard 5 ∷ []
+unfolding makes
+padded_large_trace = refl
 
 continuous_trace : last_trace (forced Continuous 5) four_rows (select_where (Some (compare id GreaterOrEqual 2)) ∷ []) ≡ Read 5 0 ∷ Read 5 1 ∷ Read 5 2 ∷ Read 5 3 ∷ Make 6 3 49 ∷ Write 6 0 ∷ Write 6 1 ∷ Write 6 2 ∷ Read 5 0 ∷ Read 6 0 ∷ Write 6 0 ∷ Read 5 1 ∷ Read 6 1 ∷ Write 6 1 ∷ Read 5 2 ∷ Read 6 2 ∷ Write 6 2 ∷ Read 5 3 ∷ Read 6 0 ∷ Write 6 0 ∷ Read 6 0 ∷ Read 6 1 ∷ Read 6 2 ∷ Discard 6 ∷ []
 unfolding makes

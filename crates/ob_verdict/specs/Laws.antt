@@ -7,7 +7,7 @@ use Rattle.ob_base.specs.declared.seen.End.TheVariants.{Whole, AfterCount}
 use Rattle.ob_base.specs.declared.refusal.Refusal.TheVariants.{NotConsecutive}
 use Rattle.ob_base.specs.declared.shown.Shown.{Shown}
 use Rattle.ob_base.specs.Limits.{buffered, buffered_blocks}
-use Rattle.ob_base.specs.Plans.{choose_padded, padded_rows}
+use Rattle.ob_base.specs.Plans.{IsPadded, choose_padded, padded_rows}
 use Rattle.ob_base.specs.Schemas.{key_place}
 use Rattle.ob_base.specs.Stored.{Stored, NamesTable, headings, headings_of}
 use Rattle.ob_row.specs.Bags.{Same}
@@ -110,6 +110,6 @@ abbrev pub printed_rows : Public → Tables → SelectRows → List (List Shown)
 printed_rows p ts q = map (printed (printed_places q (select_columns q (headings ts)))) (rows (result_of p ts q))
 
 abbrev pub PrintsAnswer : Type 0
-PrintsAnswer = (p : Public) (m : ℕ) (ts : Tables) (q : SelectRows) → 1 ≤ p.pack → 1 ≤ buffered_blocks p.pack p.buffer → AreInPlace ts →
+PrintsAnswer = (p : Public) (m : ℕ) (ts : Tables) (q : SelectRows) → 1 ≤ p.pack → 1 ≤ buffered_blocks p.pack p.buffer → IsPadded p.pad p.plan → AreInPlace ts →
     refusal p m ts (RowsStmt q) ≡ None → 0 < length (selected_places p q ts) →
     Same (rows_answer q (select_columns q (headings (database ts))) (selected_rows q (database ts))) (printed_rows p ts q)

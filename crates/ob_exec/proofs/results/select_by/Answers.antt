@@ -1,4 +1,7 @@
 use Rattle.std.proofs.Common.{◌≡◌, refl, sym, ◌∙◌, ap, arith, length}
+use Rattle.std.specs.Option.{option_map}
+use Rattle.ob_base.specs.declared.refusal.Refusal.TheVariants.{Overflow}
+use Rattle.ob_exec.proofs.ResultRows.{rows_some}
 use Rattle.std.proofs.lemmas.Result.{err_from_is_err_and}
 use Rattle.ob_vault.specs.Places.{at}
 use Rattle.ob_vault.proofs.WordLemmas.{ready_rests}
@@ -92,7 +95,7 @@ returns-in_err-n-in-Done-clause-selects g c =
     let made = rw c.in-Done.is at c.in_ok-fresh.ensures.makes in
     let p = err_from_is_err_and c.from_residual-in_err-n-in-Done.result c.from_residual-in_err-n-in-Done.ensures.1 in
     rw (p.1, p.2) (by_rests g.E.Emit.grew g.E.Emit.cut g.E.Emit.faults r v _ _ c.room.ensures.rests _ _ _ _ may.ready
-    (by_emit_err g.E.Emit.grew g.E.Emit.cut g.E.Emit.faults r _ _ may.settings.pack_least _ _ made _ _ (λ s. (made.told s).0) may.some _ (emits_at g.E.Emit.grew g.E.Emit.cut g.E.Emit.faults _ _ _ (fresh_flat r v.next) _ _ _ _ _ _ pack made.value c.in_err-n-in-Done.ensures.emits)))
+    (by_emit_err g.E.Emit.grew g.E.Emit.cut g.E.Emit.faults r _ _ may.settings.pack_least _ _ made _ _ (λ s. (made.told s).0) (λ s. ap (option_map Overflow) (made.told s).0) (rows_some c.args.plan c.args.k may.some) (λ s padded. absurd (cc padded)) _ (emits_at g.E.Emit.grew g.E.Emit.cut g.E.Emit.faults _ _ _ (fresh_flat r v.next) _ _ _ _ _ _ pack made.value c.in_err-n-in-Done.ensures.emits)))
 
 pub returns-in_ok-n-in-Done-clause-selects : goal.returns-in_ok-n-in-Done-clause-selects
 returns-in_ok-n-in-Done-clause-selects g c =
@@ -104,7 +107,7 @@ returns-in_ok-n-in-Done-clause-selects g c =
     let long = c.result_length.ensures.length v.next in
     let enough = room_made c.room.result (sym c.is_err.ensures.value ∙ c.if-is_err.false) c.room.ensures.spare in
     by_rests g.E.Emit.grew g.E.Emit.cut g.E.Emit.faults r v _ _ c.room.ensures.rests _ _ _ _ may.ready
-    (by_emit_ok g.E.Emit.grew g.E.Emit.cut g.E.Emit.faults r _ _ may.settings.pack_least _ _ made _ _ (λ s. (made.told s).0) may.some _ (omega (arith, long, enough)) (emits_at g.E.Emit.grew g.E.Emit.cut g.E.Emit.faults _ _ _ (fresh_flat r v.next) _ _ _ _ _ _ pack made.value c.in_ok-n-in-Done.ensures.emits))
+    (by_emit_ok g.E.Emit.grew g.E.Emit.cut g.E.Emit.faults r _ _ may.settings.pack_least _ _ made _ _ (λ s. (made.told s).0) (λ s. ap (option_map Overflow) (made.told s).0) (rows_some c.args.plan c.args.k may.some) (λ s padded. absurd (cc padded)) _ (omega (arith, long, enough)) (emits_at g.E.Emit.grew g.E.Emit.cut g.E.Emit.faults _ _ _ (fresh_flat r v.next) _ _ _ _ _ _ pack made.value c.in_ok-n-in-Done.ensures.emits))
 
 pub returns-in_err-walk_result-in-Overflow-clause-selects : goal.returns-in_err-walk_result-in-Overflow-clause-selects
 returns-in_err-walk_result-in-Overflow-clause-selects g c =
@@ -127,4 +130,4 @@ returns-in_ok-walk_result-in-Overflow-clause-selects g c =
     let long = c.result_length.ensures.length v.next in
     let enough = room_made c.room.result (sym c.is_err.ensures.value ∙ c.if-is_err.false) c.room.ensures.spare in
     by_rests g.E.Emit.grew g.E.Emit.cut g.E.Emit.faults r v _ _ c.room.ensures.rests _ _ _ _ may.ready
-    (by_walk_ok g.E.Emit.grew g.E.Emit.cut g.E.Emit.faults r _ _ may.settings.pack_least _ _ made _ _ _ (made.left refl) (λ s. (made.told s).0) (omega (arith, long, enough)) (walks_at _ _ _ (fresh_flat r v.next) _ _ _ pack made.value c.in_ok-walk_result-in-Overflow.ensures.walks))
+    (by_walk_ok g.E.Emit.grew g.E.Emit.cut g.E.Emit.faults r _ _ may.settings.pack_least _ _ made _ _ _ (made.left refl, refl) (λ s. ap (option_map Overflow) (made.told s).0) (omega (arith, long, enough)) (walks_at _ _ _ (fresh_flat r v.next) _ _ _ pack made.value c.in_ok-walk_result-in-Overflow.ensures.walks))

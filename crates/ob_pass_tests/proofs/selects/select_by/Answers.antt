@@ -42,3 +42,10 @@ select-requires-in-Continuous-clause-starts g c =
     let some = c.requires.pack in
     let n = c.args.flat.now.capacity in
     starts_rests _ _ _ room.rests c.requires.ready _ (omega (arith, room.spare, blocks_few pack c.args.k some, blocks_few pack n some, c.requires.few, c.requires.number.1)) room.few
+
+pub select_padded-requires-clause-starts : goal.select_padded-requires-clause-starts
+select_padded-requires-clause-starts g c =
+    let room = c.make_room.ensures in
+    let s = c.args.room.now in
+    let fact = asked s.pack s.rows c.args.k c.args.flat.now.capacity c.requires.pack c.requires.room.enough c.requires.number.1 c.requires.few in
+    starts_rests _ _ _ room.rests c.requires.ready _ (omega (arith, room.spare, fact)) room.few

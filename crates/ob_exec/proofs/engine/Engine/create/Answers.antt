@@ -17,7 +17,7 @@ returns-then-is_err g c = record {
   serves =
       serves_as g.R.Revisions.state (Create c.args.table.now c.args.columns.now c.args.capacity) c.args.self.now (g.S.BlockStore.state c.args.store.now) (g.S.BlockStore.state c.room.new.self) _ _ _ _
       c.cut.ensures.answer c.cut.ensures.seen
-      (unasked g.R.Revisions.state (Create c.args.table.now c.args.columns.now c.args.capacity) c.args.self.now (g.S.BlockStore.state c.args.store.now) c.requires.agrees c.requires.allowed (λ tables. refl)
+      (unasked g.R.Revisions.state (Create c.args.table.now c.args.columns.now c.args.capacity) c.args.self.now (g.S.BlockStore.state c.args.store.now) c.requires.agrees c.requires.allowed refl
       (g.S.BlockStore.state c.room.new.self) c.args.self.now.public.tables c.room.ensures.rests);
 }
 
@@ -26,7 +26,7 @@ returns-then-is_err-2 g c = record {
   serves =
       serves_as g.R.Revisions.state (Create c.args.table.now c.args.columns.now c.args.capacity) c.args.self.now (g.S.BlockStore.state c.args.store.now) (g.S.BlockStore.state c.room.new.self) _ _ _ _
       c.cut-then-is_err-2.ensures.answer c.cut-then-is_err-2.ensures.seen
-      (unasked g.R.Revisions.state (Create c.args.table.now c.args.columns.now c.args.capacity) c.args.self.now (g.S.BlockStore.state c.args.store.now) c.requires.agrees c.requires.allowed (λ tables. refl)
+      (unasked g.R.Revisions.state (Create c.args.table.now c.args.columns.now c.args.capacity) c.args.self.now (g.S.BlockStore.state c.args.store.now) c.requires.agrees c.requires.allowed refl
       (g.S.BlockStore.state c.room.new.self) c.push.new.self c.room.ensures.rests);
 }
 

@@ -25,7 +25,7 @@ returns-then-is_err g c = record {
   serves =
       serves_as g.R.Revisions.state (Delete c.args.table.now c.args.cond.now) c.args.self.now (g.S.BlockStore.state c.args.store.now) (g.S.BlockStore.state c.make_room.new.store) _ _ _ _
       c.cut-then-is_err.ensures.answer c.cut-then-is_err.ensures.seen
-      (unasked g.R.Revisions.state (Delete c.args.table.now c.args.cond.now) c.args.self.now (g.S.BlockStore.state c.args.store.now) c.requires.agrees c.requires.allowed (λ tables. refl)
+      (unasked g.R.Revisions.state (Delete c.args.table.now c.args.cond.now) c.args.self.now (g.S.BlockStore.state c.args.store.now) c.requires.agrees c.requires.allowed refl
       (g.S.BlockStore.state c.make_room.new.store) c.args.self.now.public.tables c.make_room.ensures.rests);
 }
 

@@ -23,7 +23,7 @@ returns-then-is_err g c = record {
   serves =
       serves_as g.R.Revisions.state (DropTable c.args.table.now) c.args.self.now (g.S.BlockStore.state c.args.store.now) (g.S.BlockStore.state c.room.new.self) _ _ _ _
       c.cut.ensures.answer c.cut.ensures.seen
-      (unasked g.R.Revisions.state (DropTable c.args.table.now) c.args.self.now (g.S.BlockStore.state c.args.store.now) c.requires.agrees c.requires.allowed (λ tables. refl)
+      (unasked g.R.Revisions.state (DropTable c.args.table.now) c.args.self.now (g.S.BlockStore.state c.args.store.now) c.requires.agrees c.requires.allowed refl
       (g.S.BlockStore.state c.room.new.self) c.args.self.now.public.tables c.room.ensures.rests);
 }
 

@@ -14,6 +14,7 @@ returns-clause-agrees g c = λ s none. record {
     depth_most = c.requires.depth_most;
     pack_least = c.requires.pack_least;
     pack_most = c.requires.pack_most;
+    padded = c.requires.padded;
   };
   room = record {
     idle = record {
