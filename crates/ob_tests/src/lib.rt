@@ -11,6 +11,8 @@ mod forging;
 #[cfg(test)]
 mod generated;
 #[cfg(test)]
+mod padded;
+#[cfg(test)]
 mod printing;
 #[cfg(test)]
 mod session;
