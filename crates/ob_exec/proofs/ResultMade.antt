@@ -32,7 +32,7 @@ use Rattle.ob_hash.proofs.Sizes.{blocks_whole}
 use Rattle.ob_exec.specs.Engines.{IsFree}
 use Rattle.ob_exec.specs.Memory.{is_make}
 use Rattle.ob_exec.specs.Selecting.{Selection}
-use Rattle.ob_exec.specs.Results.{Planned, planned, padded, MakesPadded, fresh_flat, make_part, left_out, held_slots, stored_slots, PlannedToEnd, LacksMemoryOf, MakesResult, placed_as}
+use Rattle.ob_exec.specs.Results.{Planned, planned, MakesPadded, fresh_flat, make_part, left_out, held_slots, stored_slots, PlannedToEnd, LacksMemoryOf, MakesResult, placed_as}
 use Rattle.ob_exec.proofs.ResultParts.{buffered_some}
 use Rattle.ob_exec.specs.Engines.{AreSettings}
 use Rattle.ob_hash.specs.Hashing as HL

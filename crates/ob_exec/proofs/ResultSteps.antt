@@ -7,7 +7,6 @@ use Rattle.ob_hash.proofs.Sizes.{blocks_whole}
 use Rattle.ob_flat.proofs.Tables.{fits_sized, blocks_hold}
 use Rattle.ob_exec.specs.Engines.{AreSettings}
 use Rattle.std.specs.Prelude.{IsSome, OnOk, IfErr, IfOk, map}
-use Rattle.std.specs.Option.{option_map}
 use Rattle.std.specs.List.{list_all}
 use Rattle.ob_base.specs.declared.access.Access.{Access}
 use Rattle.ob_base.specs.declared.config.Plan.TheVariants.{Small, Large, Continuous, Hash}

@@ -1,12 +1,10 @@
 -- What a padded selection tells, by what is told of its steps.
-use Rattle.std.proofs.Common.{◌≡◌, ◌⊎◌, inl, inr, ◌≤◌, ◌<◌, ◌+◌, ◌-◌, ℕ, Bool, IsTrue, List, [], ◌∷◌, ◌++◌, append_assoc, append-nil, Option, None, Some, Result, Ok, Err, length, refl, sym, ◌∙◌, ap, subst, arith, length-append}
+use Rattle.std.proofs.Common.{◌≡◌, ◌⊎◌, inl, inr, ◌≤◌, ◌-◌, ℕ, Bool, List, [], ◌∷◌, ◌++◌, append_assoc, append-nil, Option, None, Some, Result, Ok, Err, length, refl, sym, ◌∙◌, ap, subst, arith, length-append}
 use Rattle.std.specs.Prelude.{is_some, IfErr, IfOk, MatchResult, map}
 use Rattle.std.proofs.lemmas.List.{length-map}
 use Rattle.ob_base.specs.declared.access.Access.{Access}
 use Rattle.ob_base.specs.declared.config.Plan.{Plan}
 use Rattle.ob_base.specs.declared.config.Plan.TheVariants.{Small, Large, Continuous, Hash}
-use Rattle.ob_base.specs.declared.config.Public.{Public}
-use Rattle.ob_base.specs.declared.refusal.Refusal.{Refusal}
 use Rattle.ob_base.specs.declared.refusal.Refusal.TheVariants as Refusals
 use Rattle.ob_base.specs.declared.seen.Seen.{Seen}
 use Rattle.ob_base.specs.declared.seen.End.TheVariants.{Whole}
@@ -15,8 +13,7 @@ use Rattle.ob_base.specs.Events.{Event, row_events}
 use Rattle.ob_base.specs.Limits.{buffered}
 use Rattle.ob_base.specs.Plans.{IsPadded, MayPad, choose_padded, padded_rows}
 use Rattle.ob_room.specs.RoomState.{RoomState}
-use Rattle.ob_row.specs.Rows.{Row}
-use Rattle.ob_row.specs.Slots.{Slots, rows, is_consecutive}
+use Rattle.ob_row.specs.Slots.{Slots, rows}
 use Rattle.ob_row.specs.Results.{result_slots}
 use Rattle.ob_row.specs.Totals.{printed}
 use Rattle.ob_row.specs.Truth.{is_true}
@@ -28,11 +25,9 @@ use Rattle.ob_vault.specs.State.{World}
 use Rattle.ob_vault.specs.Tied.{ReadsIn, Ready}
 use Rattle.ob_vault.specs.Calls.{Went, Lasts, none, one}
 use Rattle.ob_vault.proofs.Runs.{went_length, seals_join, tells_went}
-use Rattle.ob_flat.specs.declared.counting.Counted.{Counted}
 use Rattle.ob_flat.specs.declared.fault.OpErr.{OpErr}
 use Rattle.ob_flat.specs.declared.fault.OpErr.TheVariants.{Failed, Sink, NoMemory}
 use Rattle.ob_flat.specs.Counted.{CountsRows}
-use Rattle.ob_flat.specs.Flats.{Represents}
 use Rattle.ob_flat.specs.Passes.{is_of_access}
 use Rattle.ob_flat.specs.Words.{Ran}
 use Rattle.ob_flat.proofs.Sinks.{none_before}

@@ -108,8 +108,7 @@ pub(crate) fn select_by<S: BlockStore, R: Revisions>(
     match operator {
         Operator::Small => ob_small::select(store, vault, room, flat, pred, k).expect(rt, "Small"),
         Operator::Padded => ob_small::select_padded(store, vault, room, flat, pred, k).expect(
-            rt,
-            "padded",
+            rt, "padded",
         ),
         Operator::Large => ob_large::select(store, vault, room, flat, pred, k).expect(rt, "Large"),
         Operator::Continuous => ob_cont::select(store, vault, room, flat, pred, k).expect(

@@ -20,7 +20,11 @@ const INTO_TWO: [Entry; 14] = [
     (b'D', 6, 0, 0),
 ];
 
-const fn into_two(selects: Option<Comparison>, counted: u32, ids: &'static [i128]) -> Case<'static> {
+const fn into_two(
+    selects: Option<Comparison>,
+    counted: u32,
+    ids: &'static [i128],
+) -> Case<'static> {
     Case {
         operator: Operator::Padded,
         open: 4,

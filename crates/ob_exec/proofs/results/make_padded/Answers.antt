@@ -1,8 +1,4 @@
-use Rattle.std.proofs.Common.{◌≡◌, ◌⊎◌, refl, sym, subst}
-use Rattle.ob_base.specs.declared.config.Plan.{Plan}
-use Rattle.ob_base.specs.declared.config.Plan.TheVariants.{Small, Large, Continuous, Hash}
 use Rattle.ob_exec.specs.Selecting.{selection_of}
-use Rattle.ob_exec.specs.Results.{MakesPadded}
 use Rattle.ob_exec.proofs.ResultMade.{padded_small, padded_large, small_alone, starts_small, starts_large}
 use Rattle.ob_exec.proofs.results.make_padded.Goals as goal
 
