@@ -11,8 +11,6 @@ mod forging;
 #[cfg(test)]
 mod generated;
 #[cfg(test)]
-mod padded;
-#[cfg(test)]
 mod printing;
 #[cfg(test)]
 mod session;

@@ -16,15 +16,6 @@ fn words_are_taken_or_not(rt: HostRuntime) -> Result<(), Fail> {
             "M 1 2 50\nW 1 0\nW 1 1\n",
         ),
         ("--pack 2 --buffer 6 --trace", 2, ""),
-        (
-            "--pad 1048576 --plan large --pack 2 --trace",
-            0,
-            "M 1 2 50\nW 1 0\nW 1 1\n",
-        ),
-        ("--pad 0 --trace", 2, ""),
-        ("--pad 1048577 --trace", 2, ""),
-        ("--pad 9 --plan continuous --trace", 2, ""),
-        ("--pad 9 --plan hash --trace", 2, ""),
         ("--meddle 9:fail --trace", 2, ""),
     ];
     for (line, status, accesses) in cases {
