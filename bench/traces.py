@@ -84,10 +84,10 @@ def main():
     if mine[0] != mine[1] or mine[2] != mine[3]:
         sys.exit("two sessions asked for other blocks")
     drawn = []
-    names = ("one session", "another, with other keys and values", "padded", "padded, with other rows and numbers of them")
+    names = ("one session", "other keys and values", "rows by their values", "other rows, and other numbers of them")
     for i, name in enumerate(names):
         top = TITLE + i * (HEIGHT + GAP)
-        drawn += picture(mine[i], 10, top, "Ribquince, %s: %d blocks read and written" % (name, len(mine[i])))
+        drawn += picture(mine[i], 10, top, "Ribquince, %s%s: %d blocks" % (name, ", padded" if words[i] else "", len(mine[i])))
         drawn += picture(other[i], 30 + WIDTH, top, "SQLite, %s: %d pages" % (name, len(other[i])))
     style = ".t{font:12px sans-serif}.f{fill:none;stroke:#999}.r{stroke:#1f77b4;stroke-width:2}.w{stroke:#d62728;stroke-width:2}"
     size = (40 + 2 * WIDTH, TITLE + len(sessions) * (HEIGHT + GAP) - GAP + 12)
