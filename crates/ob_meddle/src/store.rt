@@ -1,13 +1,14 @@
 ghost use Rattle.std.specs.Prelude.{◌≡◌, ◌+◌, ◌++◌, ◌∷◌, ◌<◌, ◌≤◌, ℕ, [], None, true, false, length, if◌then◌else◌, is_err, not, ◌&&◌};
 ghost use Rattle.std.specs.Ordering.{nat_cmp};
 ghost use Rattle.std.specs.BTreeMap.{get};
+ghost use Rattle.std.specs.BTreeSet.{contains};
 ghost use Rattle.std.specs.Option.{ForSome};
 ghost use Rattle.ob_store.specs.Logs.{asked_of};
 ghost use Rattle.ob_meddle.specs.Acts.{rests_of, stands_of, after_acts};
-ghost use Rattle.ob_meddle.specs.Regions.{shape_at, last_at};
-ghost use Rattle.ob_meddle.specs.Due.{fails_at, failed_among, has_acted, is_discard, is_source};
+ghost use Rattle.ob_meddle.specs.Regions.{open_shape, last_at};
+ghost use Rattle.ob_meddle.specs.Due.{disturbances, fails_at, failed_among, has_acted, is_discard, is_source};
 ghost use Rattle.ob_meddle.specs.Caught.{lie_of};
-ghost use Rattle.ob_meddle.specs.Fresh.{IsFresh, IsHonest, IsEarly, fresh_live, honest_start, none_failed_yet};
+ghost use Rattle.ob_meddle.specs.Fresh.{IsFresh, IsHonest, IsEarly, fresh_live, honest_start, keeps_live, none_failed_yet};
 
 use crate::acts::do_acts;
 use crate::caught::Caught;
@@ -16,9 +17,9 @@ use crate::meddle::Meddle;
 use crate::region::Region;
 use crate::regions::{add, read, retire, write};
 use ob_base::{Access, Failed, Items, NoMemory, StoreErr};
-use ob_store::{BlockStore, Log};
+use ob_store::{BlockStore, Lasting, Log};
 use std::alloc::Global;
-use std::collections::BTreeMap;
+use std::collections::{BTreeMap, BTreeSet};
 
 /// A store in memory that others change, as a list says. It tells what was written, and the first read
 /// that gave something else.
@@ -28,14 +29,19 @@ pub struct MeddledStore {
     list: Items<Meddle>,
     log: Log,
     regions: BTreeMap<u64, Region>,
+    open: BTreeSet<u64>,
+    reopened: bool,
     faults: u64,
     slips: u64,
     caught: Option<Caught>,
-    ghost fresh: { IsFresh (asked_of log) regions },
-    ghost counted: { faults + slips ≡ failed_among list (length (asked_of log)) },
-    ghost honest: { IsHonest list (length (asked_of log)) regions },
+    ghost fresh: { IsFresh (asked_of log) open },
+    ghost few: { faults + slips ≤ length (asked_of log) },
+    ghost counted: { reopened ≡ false
+        → faults + slips ≡ failed_among list (length (asked_of log)) },
+    ghost honest: { reopened ≡ false → IsHonest list (length (asked_of log)) regions },
     ghost early: { IsEarly caught (asked_of log) },
-    ghost caused: { ForSome caught (λ c. has_acted list (c.count + 1) ≡ true) },
+    ghost caused: { reopened ≡ false
+        → ForSome caught (λ c. has_acted list (c.count + 1) ≡ true) },
 }
 
 impl MeddledStore {
@@ -47,12 +53,38 @@ impl MeddledStore {
     pub fn new(alloc: Global, list: Vec<Meddle>) -> MeddledStore
         ensures list { list_of result ≡ list.items }
         ensures asked { (⟦<MeddledStore as BlockStore>⟧.state result).asked ≡ [] }
+        ensures told { (⟦<MeddledStore as BlockStore>⟧.state result).disturbed
+            ≡ disturbances list.items }
     {
         MeddledStore {
             alloc,
             list: Items::from_vec(list),
             log: Log::new(alloc),
             regions: BTreeMap::new(alloc),
+            open: BTreeSet::new(alloc),
+            reopened: false,
+            faults: 0,
+            slips: 0,
+            caught: None,
+        }
+    }
+
+    /// What it keeps, for the next run, in which others make these changes: of that nothing was asked, no
+    /// read has lied, and no region is live. It takes no memory.
+    pub fn rest(self, list: Vec<Meddle>) -> MeddledStore
+        ensures list { list_of result ≡ list.items }
+        ensures asked { (⟦<MeddledStore as BlockStore>⟧.state result).asked ≡ [] }
+        ensures kept { (q : ℕ) → (⟦<MeddledStore as BlockStore>⟧.state result).kept q
+            ≡ (⟦<MeddledStore as BlockStore>⟧.state self).kept q }
+    {
+        let MeddledStore { alloc, regions, .. } = self;
+        MeddledStore {
+            alloc,
+            list: Items::from_vec(list),
+            log: Log::new(alloc),
+            regions,
+            open: BTreeSet::new(alloc),
+            reopened: true,
             faults: 0,
             slips: 0,
             caught: None,
@@ -66,6 +98,8 @@ impl MeddledStore {
         ensures steady { IsSteady (state_of self.new) }
         ensures spare { self.old.log.spare ≤ self.new.log.spare + 1 }
         ensures list { self.new.list ≡ self.old.list }
+        ensures open { self.new.open ≡ self.old.open }
+        ensures reopened { self.new.reopened ≡ self.old.reopened }
         ensures caught { self.new.caught ≡ self.old.caught }
         ensures rests { (q : ℕ) → rests_of self.new.regions q ≡ rests_of self.old.regions q }
         ensures stands { stands_of self.new.regions
@@ -102,7 +136,12 @@ impl BlockStore for MeddledStore {
 
     ghost state = { λ m. state_of m };
 
-    ghost starts_empty = { λ m q none. fresh_live (asked_of m.log) m.regions m.fresh none q };
+    ghost keeps_live = { λ m q shape told is.
+        keeps_live (contains nat_cmp m.open q) (rests_of m.regions q) shape is _ q refl
+        (λ x. refl) };
+
+    ghost starts_empty = { λ m q none.
+        fresh_live (asked_of m.log) m.open m.fresh none q (rests_of m.regions q) };
 
     ghost starts_honest = { λ m none. honest_start m.caught (asked_of m.log) m.early none };
 
@@ -146,10 +185,18 @@ impl BlockStore for MeddledStore {
         })?;
         match Region::new(self.alloc, blocks, len) {
             Err(_) => Err(StoreErr::NoMemory),
-            Ok(made) => match add(&mut self.regions, region, made) {
-                Err(_) => Err(StoreErr::NoMemory),
-                Ok(()) => Ok(()),
-            },
+            Ok(made) => {
+                let Ok(is_new) = self.open.insert(region) else {
+                    return Err(StoreErr::NoMemory);
+                };
+                if add(&mut self.regions, region, made).is_err() {
+                    if is_new {
+                        self.open.remove(&region);
+                    }
+                    return Err(StoreErr::NoMemory);
+                }
+                Ok(())
+            }
         }
     }
 
@@ -207,6 +254,7 @@ impl BlockStore for MeddledStore {
         self.begin(Access::Discard { region })?;
         let kept = is_source(self.list.as_slice(), region);
         retire(&mut self.regions, region, kept);
+        self.open.remove(&region);
         Ok(())
     }
 
@@ -216,5 +264,25 @@ impl BlockStore for MeddledStore {
 
     fn nth(&self, i: u64) -> Access {
         self.log.nth(i)
+    }
+}
+
+impl Lasting for MeddledStore {
+    fn resume(&mut self, region: u64, blocks: u32, len: u32) -> Result<(), StoreErr> {
+        self.reopened = true;
+        self.begin(Access::Open {
+            region,
+            blocks,
+            len,
+        })?;
+        let found = self.regions.get(&region);
+        if !found.is_some_and(|found| found.live && found.has_size(blocks, len)) {
+            self.faults += 1;
+            return Err(StoreErr::Failed);
+        }
+        match self.open.insert(region) {
+            Ok(_) => Ok(()),
+            Err(_) => Err(StoreErr::NoMemory),
+        }
     }
 }
