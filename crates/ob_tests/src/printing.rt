@@ -7,10 +7,7 @@ use std::test::Fail;
 fn prints_an_answer(rt: HostRuntime) -> Result<(), Fail> {
     let a = rt.alloc();
     let mut out = MemSink::new(a, 64, vec![in a; 2]?)?;
-    let mut printer = Printer {
-        out: Pieces::new(&mut out),
-        alloc: a,
-    };
+    let mut printer = Printer::new(&mut out, a);
     printer.head(&[Label::from_bytes(b"id"), Label::from_bytes(b"SUM(v)")])?;
     let cells = [Shown::Text(Text::from_bytes(b"a\"b,")), Shown::Int(-7)];
     printer.row(&cells)?;
