@@ -1,6 +1,6 @@
 -- A record is spelt alike where records may have any length.
 use Rattle.std.proofs.Common.{◌≡◌, ℕ, List, [], ◌∷◌, refl}
-use Rattle.csv.specs.Writing.{escaped, field_text, fields_text, is_blank, row_text}
+use Rattle.csv.specs.Writing.{escaped, fields_text, is_blank, row_text}
 use Rattle.ob_print.specs.Records.{of_any_length}
 use Rattle.ob_print.specs.Rows.{always}
 

@@ -1,6 +1,6 @@
-use Rattle.std.proofs.Common.{◌≡◌, ◌≢◌, ◌≤◌, ◌+◌, ◌^◌, ◌-◌, ◌<◌, ◌∙◌, ◌++◌, [], Some, ℕ, List, ap, map, take, length, sym, refl, arith, rules, append-nil, append_assoc}
+use Rattle.std.proofs.Common.{◌≡◌, ◌≢◌, ◌≤◌, ◌+◌, ◌^◌, ◌-◌, ◌<◌, ◌∙◌, ◌++◌, [], Some, ℕ, List, ap, map, length, sym, refl, arith, rules, append-nil, append_assoc}
 use Rattle.std.proofs.lemmas.List.{get_or-map, length-map, take_all}
-use Rattle.csv.specs.Writing.{is_blank, row_body, row_text}
+use Rattle.csv.specs.Writing.{is_blank, row_text}
 use Rattle.csv.specs.declared.writer.QuoteStyle.TheVariants as style
 use Rattle.csv.proofs.WriteFacts.{blank-step, row-step, row-final}
 use Rattle.ob_print.specs.Records.{of_any_length}
@@ -58,8 +58,8 @@ returns-clause-line g c =
     let all = take_all c.loop-field.field-index fields end in
     let ended = rw inv.setup at c.in-Ok-end_record.ensures.bytes in
     let whole = row-final (Some c.args.writer.now.wtr.inner.items) (Some (c.loop-field.writer.wtr.inner.items ++ c.loop-field.writer.wtr.buf))
-        (Some (c.end_record.new.self.wtr.inner.items ++ c.end_record.new.self.wtr.buf)) of_any_length fields c.loop-field.writer.wrote c.loop-field.writer.fields
-        (rw all at inv.text) (rw (all, ← inv.count) at inv.blank) ended in
+    (Some (c.end_record.new.self.wtr.inner.items ++ c.end_record.new.self.wtr.buf)) of_any_length fields c.loop-field.writer.wrote c.loop-field.writer.fields
+    (rw all at inv.text) (rw (all, ← inv.count) at inv.blank) ended in
     elim c.match-flush.branch [
       | in-Ok-flush w ↦ rw w.result-is (handed_on fields c.args.writer.now.wtr.inner.items _ _ w.in-Ok-flush.ensures.pending (c.flush.ensures.bytes ∙ whole))
       | in-Err-flush w ↦ rw w.result-is tt

@@ -1,4 +1,4 @@
-use Rattle.std.proofs.Common.{◌∙◌, ap, map-id, sym}
+use Rattle.std.proofs.Common.{◌∙◌, ap, map-id}
 use Rattle.std.proofs.lemmas.Result.{on_ok_weaker}
 use Rattle.csv.specs.Writing.{row_text}
 use Rattle.ob_base.specs.Events.{Head}
