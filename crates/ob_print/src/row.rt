@@ -53,6 +53,17 @@ fn record_writer(alloc: Global) -> Writer<Vec<u8>>
         .from_writer(Vec::new(alloc))
 }
 
+// Puts a writer that has written nothing in the place of another. (A call of its own, since it moves and clears the 8,192
+// bytes of both their buffers.)
+#[cold]
+#[inline(never)]
+fn renew(writer: &mut Writer<Vec<u8>>, alloc: Global)
+    ensures between { IsBetween writer.new }
+    ensures empty { (writer_under writer.new).items ≡ [] }
+{
+    *writer = record_writer(alloc);
+}
+
 // Writes a record and hands it on to the bytes below.
 fn write_record<F: Field>(writer: &mut Writer<Vec<u8>>, fields: &[F]) -> Result<(), NoMemory>
     requires { IsBetween writer.old }
@@ -119,12 +130,12 @@ impl RecordLine {
     {
         self.from = self.writer.get_ref().len();
         if self.from > MOST_KEPT {
-            self.writer = record_writer(self.alloc);
+            renew(&mut self.writer, self.alloc);
             self.from = 0;
         }
         let ran = write_record(&mut self.writer, fields);
         if ran.is_err() {
-            self.writer = record_writer(self.alloc);
+            renew(&mut self.writer, self.alloc);
             self.from = 0;
         }
         ran
