@@ -9,7 +9,7 @@ use ob_emit::emit_all;
 use ob_flat::{Flat, OpErr};
 use ob_group::{aggregate, group};
 use ob_io::StdSink;
-use ob_print::Printer;
+use ob_print::{Pieces, Printer, RecordLine};
 use ob_room::Room;
 use ob_row::{Agg, Item, Pred};
 use ob_store::BlockStore;
@@ -134,7 +134,11 @@ pub(crate) fn printing<S: BlockStore, R: Revisions>(
     requires { MayRun room.old flat.now (at R.state vault.old (S.state store.old)) }
 {
     let mut sink = StdSink::new(io::sink());
-    let mut printer = Printer::new(&mut sink, alloc);
+    let mut line = RecordLine::new(alloc);
+    let mut printer = Printer {
+        out: Pieces::new(&mut sink),
+        line: &mut line,
+    };
     let rows = emit_columns(store, vault, room, flat, &mut printer)?;
     match printer.out.flush() {
         Ok(()) => Ok(rows),

@@ -9,26 +9,12 @@ use crate::pieces::Pieces;
 use crate::row::{Field, RecordLine};
 use ob_base::{Emit, EmitErr, Failed, Label, NoMemory, Shown};
 use ob_io::Sink;
-use std::alloc::Global;
 
 /// Prints header, rows and their number as lines, of which some may wait for their sink until they are flushed.
 #[derive(Drop)]
 pub struct Printer<'a, K: Sink> {
     pub out: Pieces<'a, K>,
-    line: RecordLine,
-}
-
-impl<'a, K: Sink> Printer<'a, K> {
-    /// Nothing waits yet.
-    pub fn new(out: &'a mut K, alloc: Global) -> Printer<'a, K>
-        ensures out { result.out.out ≡ out.entry }
-        ensures waiting { result.out.waiting.items ≡ [] }
-    {
-        Printer {
-            out: Pieces::new(out),
-            line: RecordLine::new(alloc),
-        }
-    }
+    pub line: &'a mut RecordLine,
 }
 
 // Writes a line.
@@ -70,11 +56,11 @@ impl<'a, K: Sink> Emit for Printer<'a, K> {
     ghost faults = { λ s. K.faults s.out.out.now };
 
     fn head(&mut self, cols: &[Label]) -> Result<(), EmitErr> {
-        emit_record(&mut self.out, &mut self.line, cols)
+        emit_record(&mut self.out, self.line, cols)
     }
 
     fn row(&mut self, cells: &[Shown]) -> Result<(), EmitErr> {
-        emit_record(&mut self.out, &mut self.line, cells)
+        emit_record(&mut self.out, self.line, cells)
     }
 
     fn close(&mut self, k: u64) -> Result<(), EmitErr> {

@@ -19,7 +19,7 @@ use ob_exec::{Engine, Outcome};
 use ob_gen::Tally;
 use ob_io::{Sink, Source};
 use ob_parse::{ParseErr, parse};
-use ob_print::{Line, Printer, refusal_line, write_all};
+use ob_print::{Line, Pieces, Printer, RecordLine, refusal_line, write_all};
 use ob_sql::Stmt;
 use ob_store::BlockStore;
 use ob_vault::Revisions;
@@ -180,7 +180,11 @@ fn run_text<R: Revisions, S: BlockStore, K: Sink>(
             }
         },
     };
-    let mut printer = Printer::new(out, alloc);
+    let mut line = RecordLine::new(alloc);
+    let mut printer = Printer {
+        out: Pieces::new(out),
+        line: &mut line,
+    };
     run_stmt(engine, store, text, &stmt, &mut printer)
 }
 
