@@ -9,7 +9,7 @@ use ob_base::{Config, Emit, EmitErr, Items, NoMemory, Refusal, Shown};
 use ob_io::{Sink, StdSink};
 use ob_mean::Answer;
 use ob_parse::{ParseErr, parse};
-use ob_print::{Line, Pieces, Printer, refusal_line, write_all};
+use ob_print::{Line, Pieces, Printer, RecordLine, refusal_line, write_all};
 use ob_reference::Database;
 use ob_token::{Piece, split};
 use std::alloc::Global;
@@ -108,7 +108,8 @@ fn print_answer<K: Sink>(alloc: Global, out: &mut K, answer: &Answer) -> Result<
         }
         Answer::Rows(rows) => {
             let out = Pieces::new(out);
-            print_rows(&mut Printer { out, alloc }, rows.as_slice())
+            let line = &mut RecordLine::new(alloc);
+            print_rows(&mut Printer { out, line }, rows.as_slice())
         }
         Answer::Refused(refusal) => print_line(out, &refusal_line(*refusal)),
     }

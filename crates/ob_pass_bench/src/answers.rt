@@ -4,14 +4,18 @@ ghost use Rattle.ob_pass_bench.specs.Tables.{MayRun};
 
 use crate::filling::make_room;
 use crate::mutations::half;
-use ob_base::{Emit, EmitErr, Label, Shown};
+use ob_base::{Emit, EmitErr, Failed, Label, Shown};
 use ob_emit::emit_all;
 use ob_flat::{Flat, OpErr};
 use ob_group::{aggregate, group};
+use ob_io::StdSink;
+use ob_print::{Pieces, Printer, RecordLine};
 use ob_room::Room;
 use ob_row::{Agg, Item, Pred};
 use ob_store::BlockStore;
 use ob_vault::{Revisions, Vault};
+use std::alloc::Global;
+use std::io;
 
 // Counts the rows that it takes.
 #[derive(Clone, Copy, Debug, PartialEq, Eq)]
@@ -89,6 +93,22 @@ pub(crate) fn groups<S: BlockStore, R: Revisions>(
     Ok(out.rows)
 }
 
+// Emits all columns of the rows, and answers how many rows there are.
+fn emit_columns<S: BlockStore, R: Revisions, E: Emit>(
+    store: &mut S,
+    vault: &mut Vault<R>,
+    room: &mut Room,
+    flat: &Flat,
+    out: &mut E,
+) -> Result<u64, OpErr>
+    requires { MayRun room.old flat.now (at R.state vault.old (S.state store.old)) }
+{
+    make_room(store, u64::from(flat.capacity))?;
+    let places = [0, 1, 2, 3, 4, 5];
+    let cols = &places[..flat.schema.as_slice().len()];
+    emit_all(store, vault, room, flat, cols, out)
+}
+
 /// Emits all columns of the rows.
 pub(crate) fn emission<S: BlockStore, R: Revisions>(
     store: &mut S,
@@ -98,10 +118,30 @@ pub(crate) fn emission<S: BlockStore, R: Revisions>(
 ) -> Result<u64, OpErr>
     requires { MayRun room.old flat.now (at R.state vault.old (S.state store.old)) }
 {
-    make_room(store, u64::from(flat.capacity))?;
-    let places = [0, 1, 2, 3, 4, 5];
-    let cols = &places[..flat.schema.as_slice().len()];
     let mut out = Counter { rows: 0 };
-    emit_all(store, vault, room, flat, cols, &mut out)?;
+    emit_columns(store, vault, room, flat, &mut out)?;
     Ok(out.rows)
+}
+
+/// Prints all columns of the rows for a sink that keeps nothing.
+pub(crate) fn printing<S: BlockStore, R: Revisions>(
+    alloc: Global,
+    store: &mut S,
+    vault: &mut Vault<R>,
+    room: &mut Room,
+    flat: &Flat,
+) -> Result<u64, OpErr>
+    requires { MayRun room.old flat.now (at R.state vault.old (S.state store.old)) }
+{
+    let mut sink = StdSink::new(io::sink());
+    let mut line = RecordLine::new(alloc);
+    let mut printer = Printer {
+        out: Pieces::new(&mut sink),
+        line: &mut line,
+    };
+    let rows = emit_columns(store, vault, room, flat, &mut printer)?;
+    match printer.out.flush() {
+        Ok(()) => Ok(rows),
+        Err(Failed) => Err(OpErr::Sink),
+    }
 }

@@ -5,7 +5,7 @@ ghost use Rattle.ob_vault.specs.Tied.{Ready};
 ghost use Rattle.ob_flat.specs.Flats.{IsSized};
 ghost use Rattle.ob_pass_bench.specs.Tables.{AreColumns, IsOpen, MayRun};
 
-use crate::answers::{count_aggregate, emission, groups, total};
+use crate::answers::{count_aggregate, emission, groups, printing, total};
 use crate::filling::{filled, make_room, wait};
 use crate::joining::join_keys;
 use crate::mutations::{count_half, delete_half, insert_one, update_half};
@@ -119,6 +119,7 @@ fn run_pass<S: BlockStore, R: Revisions>(
         b'a' => total(store, vault, room, flat),
         b'g' => groups(store, vault, room, flat),
         b'e' => emission(store, vault, room, flat),
+        b'p' => printing(alloc, store, vault, room, flat),
         _ => Ok(0),
     }
 }

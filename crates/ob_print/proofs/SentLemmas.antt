@@ -7,6 +7,10 @@ use Rattle.std.proofs.lemmas.List.{append_cancel_left}
 use Rattle.ob_print.specs.Cuts.{Cut}
 use Rattle.ob_print.specs.Sent.{Sends}
 
+-- none of it came
+pub Sends-none : {F : Type 0} (w : Option (List ℕ)) (q bytes : List ℕ) → F → Sends w w q q F bytes
+Sends-none w q bytes fault = record { sent = []; appends = Appends-nil w; lost = bytes; joined = refl; all = inr fault }
+
 -- all of it waits
 pub Sends-waits : (w : Option (List ℕ)) (q0 q1 bytes : List ℕ) → q1 ≡ q0 ++ bytes → Sends w w q0 q1 ⊥ bytes
 Sends-waits w q0 q1 bytes is = record { sent = []; appends = Appends-nil w; lost = []; joined = sym (append-nil q1 ∙ is); all = inl refl }

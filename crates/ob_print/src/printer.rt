@@ -1,20 +1,20 @@
-ghost use Rattle.std.specs.Prelude.{◌≡◌, ℕ, ◌++◌, List, [], ◌∷◌, OnOk, OnErr, IsErr};
+ghost use Rattle.std.specs.Prelude.{◌≡◌, ℕ, ◌++◌, List, [], ◌∷◌, map, OnOk, OnErr, IsErr};
+ghost use Rattle.csv.specs.Writing.{row_text};
 ghost use Rattle.ob_base.specs.Events.{Event, Head, Row, Close, EmitCause};
-ghost use Rattle.ob_print.specs.Rows.{Printed, PrintedCut};
+ghost use Rattle.ob_print.specs.Rows.{Printed, PrintedCut, always};
 ghost use Rattle.ob_print.specs.Sent.{Sends};
 
 use crate::line::rows_line;
 use crate::pieces::Pieces;
-use crate::row::{head_line, row_line};
-use ob_base::{Emit, EmitErr, Failed, Label, Shown};
+use crate::row::{Field, RecordLine};
+use ob_base::{Emit, EmitErr, Failed, Label, NoMemory, Shown};
 use ob_io::Sink;
-use std::alloc::Global;
 
 /// Prints header, rows and their number as lines, of which some may wait for their sink until they are flushed.
 #[derive(Drop)]
 pub struct Printer<'a, K: Sink> {
     pub out: Pieces<'a, K>,
-    pub alloc: Global,
+    pub line: &'a mut RecordLine,
 }
 
 // Writes a line.
@@ -30,6 +30,24 @@ fn emit_line<K: Sink>(out: &mut Pieces<'_, K>, line: &[u8]) -> Result<(), EmitEr
     }
 }
 
+// Writes the line of these fields.
+fn emit_record<K: Sink, F: Field>(
+    out: &mut Pieces<'_, K>,
+    line: &mut RecordLine,
+    fields: &[F],
+) -> Result<(), EmitErr>
+    ensures same_sink { out.new.out.ghost_name ≡ out.old.out.ghost_name }
+    ensures sends { Sends (K.written out.old.out.now) (K.written out.new.out.now)
+        out.old.waiting.items out.new.waiting.items (IsErr result)
+        (row_text always (map F.text fields.now)) }
+    ensures cause { EmitCause result (K.faults out.old.out.now) (K.faults out.new.out.now) }
+{
+    match line.write(fields) {
+        Ok(()) => emit_line(out, line.as_bytes()),
+        Err(NoMemory) => Err(EmitErr::NoMemory),
+    }
+}
+
 impl<'a, K: Sink> Emit for Printer<'a, K> {
     ghost grew = { λ s t events. Printed (K.written s.out.out.now) (K.written t.out.out.now) s.out.waiting.items t.out.waiting.items events × (t.out.out.ghost_name ≡ s.out.out.ghost_name) };
 
@@ -38,17 +56,11 @@ impl<'a, K: Sink> Emit for Printer<'a, K> {
     ghost faults = { λ s. K.faults s.out.out.now };
 
     fn head(&mut self, cols: &[Label]) -> Result<(), EmitErr> {
-        match head_line(self.alloc, cols) {
-            Err(_) => Err(EmitErr::NoMemory),
-            Ok(line) => emit_line(&mut self.out, line.as_slice()),
-        }
+        emit_record(&mut self.out, self.line, cols)
     }
 
     fn row(&mut self, cells: &[Shown]) -> Result<(), EmitErr> {
-        match row_line(self.alloc, cells) {
-            Err(_) => Err(EmitErr::NoMemory),
-            Ok(line) => emit_line(&mut self.out, line.as_slice()),
-        }
+        emit_record(&mut self.out, self.line, cells)
     }
 
     fn close(&mut self, k: u64) -> Result<(), EmitErr> {

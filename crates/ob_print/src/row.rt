@@ -1,127 +1,150 @@
-ghost use Rattle.std.specs.Prelude.{◌≡◌, ◌≤◌, List, length, map, IfOk};
-ghost use Rattle.csv.specs.Writing.{row_text};
-ghost use Rattle.ob_base.specs.declared.shown.Shown.{Shown};
+//! The lines of a header and of rows.
+ghost use Rattle.std.specs.Prelude.{◌≡◌, [], ◌++◌, map, OnErr, OnOk};
+ghost use Rattle.csv.specs.Writing.{row_text, writer_under};
+ghost use Rattle.ob_print.specs.Records.{IsBetween};
 ghost use Rattle.ob_print.specs.Rows.{always, shown_text};
 
-use arrayvec::ArrayVec;
-use csv::{QuoteStyle, WriterBuilder};
+use csv::{QuoteStyle, Writer, WriterBuilder};
 use itoa::Buffer;
 use ob_base::{Label, NoMemory, Shown};
-use std::alloc::{AllocError, Global};
+use std::alloc::Global;
 use std::marker::Model;
 
-// The line of a row, each field in quotes.
-fn fields_line(alloc: Global, fields: &[&[u8]]) -> Result<Vec<u8>, NoMemory>
-    ensures { IfOk result (λ v. v.items ≡ row_text always (map (λ f. f.now) fields.now)) }
+/// What stands in a record.
+pub trait Field {
+    ghost use Rattle.std.specs.Prelude.{◌≡◌, ℕ, List};
+
+    // What stands between its quotes.
+    ghost text: { Self → List ℕ };
+
+    /// Its bytes between the quotes, some of them spelt in the buffer.
+    fn bytes<'a>(&'a self, buffer: &'a mut Buffer) -> &'a [u8]
+        ensures { result.now ≡ text self.now };
+}
+
+impl Field for Label {
+    ghost text = { λ label. label };
+
+    fn bytes<'a>(&'a self, _buffer: &'a mut Buffer) -> &'a [u8] {
+        self.as_bytes()
+    }
+}
+
+impl Field for Shown {
+    ghost text = { shown_text };
+
+    fn bytes<'a>(&'a self, buffer: &'a mut Buffer) -> &'a [u8] {
+        match self {
+            Shown::Int(n) => buffer.format(*n).as_bytes(),
+            Shown::Text(text) => text.as_bytes(),
+            Shown::Null => b"NULL",
+        }
+    }
+}
+
+// A writer of records of any length, each field in quotes.
+fn record_writer(alloc: Global) -> Writer<Vec<u8>>
+    ensures between { IsBetween result }
+    ensures empty { (writer_under result).items ≡ [] }
 {
-    let mut writer = WriterBuilder::new()
+    WriterBuilder::new()
         .quote_style(QuoteStyle::Always)
-        .from_writer(Vec::new(alloc));
-    match writer.write_fields(fields) {
+        .flexible(true)
+        .from_writer(Vec::new(alloc))
+}
+
+// Puts a writer that has written nothing in the place of another. (A call of its own, since it moves and clears the 8,192
+// bytes of both their buffers.)
+#[cold]
+#[inline(never)]
+fn renew(writer: &mut Writer<Vec<u8>>, alloc: Global)
+    ensures between { IsBetween writer.new }
+    ensures empty { (writer_under writer.new).items ≡ [] }
+{
+    *writer = record_writer(alloc);
+}
+
+// Writes a record and hands it on to the bytes below.
+fn write_record<F: Field>(writer: &mut Writer<Vec<u8>>, fields: &[F]) -> Result<(), NoMemory>
+    requires { IsBetween writer.old }
+    ensures between { OnOk result (IsBetween writer.new) }
+    ensures line { OnOk result ((writer_under writer.new).items
+        ≡ (writer_under writer.old).items ++ row_text always (map F.text fields.now)) }
+{
+    let mut buffer = Buffer::new();
+    for field in fields {
+        match writer.write_field(field.bytes(&mut buffer)) {
+            Ok(()) => {}
+            Err(_) => return Err(NoMemory),
+        }
+    }
+    match writer.end_record() {
         Ok(()) => {}
         Err(_) => return Err(NoMemory),
     }
-    match writer.into_inner() {
-        Ok(text) => Ok(text),
+    match writer.flush() {
+        Ok(()) => Ok(()),
         Err(_) => Err(NoMemory),
     }
 }
 
-// What stands between the quotes of a cell.
+/// How many bytes of earlier lines may be kept.
+const MOST_KEPT: usize = 32_768;
+
+/// The line of a record. One writer writes one line after the other, behind those that it keeps.
 #[derive(Drop)]
-struct Field {
-    bytes: ArrayVec<u8, 255>,
+pub struct RecordLine {
+    writer: Writer<Vec<u8>>,
+    from: usize,
+    alloc: Global,
 }
 
-impl Model for Field {
-    ghost use Rattle.std.specs.Prelude.{ℕ, List};
+impl Model for RecordLine {
+    ghost use Rattle.std.specs.Prelude.{ℕ, List, drop};
+    ghost use Rattle.csv.specs.Writing.{writer_under};
+    ghost use Rattle.ob_print.specs.Records.{HasLine};
 
     ghost Value = { List ℕ };
 
-    ghost view = { λ f. f.bytes.items };
+    ghost view = { λ l. drop l.from (writer_under l.writer).items };
+
+    ghost invariant = { λ l. HasLine l.from l.writer };
 }
 
-impl Field {
-    fn from_bytes(text: &[u8]) -> Field
-        requires { length text.now ≤ 255 }
-        ensures { result ≡ text.now }
+impl RecordLine {
+    /// No line is written yet.
+    pub fn new(alloc: Global) -> RecordLine
+        ensures { result ≡ [] }
     {
-        let mut bytes = ArrayVec::new();
-        for b in text {
-            bytes.push(*b);
+        RecordLine {
+            writer: record_writer(alloc),
+            from: 0,
+            alloc,
         }
-        Field { bytes }
     }
 
-    fn as_bytes(&self) -> &[u8]
+    /// The line of these fields, each of them in quotes, in place of the one before; or none, where memory is short.
+    pub fn write<F: Field>(&mut self, fields: &[F]) -> Result<(), NoMemory>
+        ensures ok { OnOk result (self.new ≡ row_text always (map F.text fields.now)) }
+        ensures err { OnErr result (self.new ≡ []) }
+    {
+        self.from = self.writer.get_ref().len();
+        if self.from > MOST_KEPT {
+            renew(&mut self.writer, self.alloc);
+            self.from = 0;
+        }
+        let ran = write_record(&mut self.writer, fields);
+        if ran.is_err() {
+            renew(&mut self.writer, self.alloc);
+            self.from = 0;
+        }
+        ran
+    }
+
+    /// Its bytes.
+    pub fn as_bytes(&self) -> &[u8]
         ensures { result.now ≡ self.now }
     {
-        self.bytes.as_slice()
+        &self.writer.get_ref()[self.from..]
     }
-}
-
-// A cell without its quotes.
-fn text_of(cell: &Shown) -> Field
-    ensures { result ≡ shown_text cell.now }
-{
-    match cell {
-        Shown::Int(n) => {
-            let mut buffer = Buffer::new();
-            Field::from_bytes(buffer.format(*n).as_bytes())
-        }
-        Shown::Text(text) => Field::from_bytes(text.as_bytes()),
-        Shown::Null => Field::from_bytes(b"NULL"),
-    }
-}
-
-// The bytes of each label.
-fn label_fields(alloc: Global, labels: &[Label]) -> Result<Vec<&[u8]>, AllocError>
-    ensures { IfOk result (λ v. map (λ f. f.now) v.items ≡ labels.entry.now) }
-{
-    let mut fields = Vec::new(alloc);
-    for label in labels {
-        fields.push(label.as_bytes())?;
-    }
-    Ok(fields)
-}
-
-// The bytes of each text.
-fn text_fields(alloc: Global, texts: &[Field]) -> Result<Vec<&[u8]>, AllocError>
-    ensures { IfOk result (λ v. map (λ f. f.now) v.items ≡ texts.entry.now) }
-{
-    let mut fields = Vec::new(alloc);
-    for text in texts {
-        fields.push(text.as_bytes())?;
-    }
-    Ok(fields)
-}
-
-// Each cell without its quotes.
-fn cell_texts(alloc: Global, cells: &[Shown]) -> Result<Vec<Field>, AllocError>
-    ensures { IfOk result (λ v. v.items ≡ map shown_text cells.now) }
-{
-    cells.iter().map(|cell| text_of(cell)).collect(alloc)
-}
-
-/// The line of a header.
-pub fn head_line(alloc: Global, labels: &[Label]) -> Result<Vec<u8>, NoMemory>
-    ensures { IfOk result (λ v. v.items ≡ row_text always labels.now) }
-{
-    let Ok(fields) = label_fields(alloc, labels) else {
-        return Err(NoMemory);
-    };
-    fields_line(alloc, &fields)
-}
-
-/// The line of a row.
-pub fn row_line(alloc: Global, cells: &[Shown]) -> Result<Vec<u8>, NoMemory>
-    ensures { IfOk result (λ v. v.items ≡ row_text always (map shown_text cells.now)) }
-{
-    let Ok(texts) = cell_texts(alloc, cells) else {
-        return Err(NoMemory);
-    };
-    let Ok(fields) = text_fields(alloc, &texts) else {
-        return Err(NoMemory);
-    };
-    fields_line(alloc, &fields)
 }

@@ -19,7 +19,7 @@ use ob_exec::{Engine, Outcome};
 use ob_gen::Tally;
 use ob_io::{Sink, Source};
 use ob_parse::{ParseErr, parse};
-use ob_print::{Line, Pieces, Printer, refusal_line, write_all};
+use ob_print::{Line, Pieces, Printer, RecordLine, refusal_line, write_all};
 use ob_sql::Stmt;
 use ob_store::BlockStore;
 use ob_vault::Revisions;
@@ -180,9 +180,10 @@ fn run_text<R: Revisions, S: BlockStore, K: Sink>(
             }
         },
     };
+    let mut line = RecordLine::new(alloc);
     let mut printer = Printer {
         out: Pieces::new(out),
-        alloc,
+        line: &mut line,
     };
     run_stmt(engine, store, text, &stmt, &mut printer)
 }

@@ -1,15 +1,16 @@
 use ob_base::{Access, Emit, Failed, Label, Refusal, Shown, Stop, Text};
 use ob_io::MemSink;
-use ob_print::{Pieces, Printer, access_line, refusal_line, stop_line};
+use ob_print::{Pieces, Printer, RecordLine, access_line, refusal_line, stop_line};
 use std::test::Fail;
 
 #[test]
 fn prints_an_answer(rt: HostRuntime) -> Result<(), Fail> {
     let a = rt.alloc();
     let mut out = MemSink::new(a, 64, vec![in a; 2]?)?;
+    let mut line = RecordLine::new(a);
     let mut printer = Printer {
         out: Pieces::new(&mut out),
-        alloc: a,
+        line: &mut line,
     };
     printer.head(&[Label::from_bytes(b"id"), Label::from_bytes(b"SUM(v)")])?;
     let cells = [Shown::Text(Text::from_bytes(b"a\"b,")), Shown::Int(-7)];
