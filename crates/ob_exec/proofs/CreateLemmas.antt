@@ -51,7 +51,7 @@ use Rattle.ob_exec.specs.declared.outcome.Outcome.{Outcome}
 use Rattle.ob_exec.specs.declared.outcome.Outcome.TheVariants.{Created}
 use Rattle.ob_exec.specs.Schemas.{IsStored}
 use Rattle.ob_exec.specs.Engines.{IsAt, IsTable}
-use Rattle.ob_exec.specs.Agreeing.{Agrees, world_of}
+use Rattle.ob_exec.specs.Agreeing.{Agrees, world_of, count_of}
 use Rattle.ob_exec.specs.Running.{answer_of, is_stop, refusal_now}
 use Rattle.ob_exec.specs.Serving.{ServesSilently}
 use Rattle.ob_exec.specs.Telling.{AreHeld, Represents, outcome_of}
@@ -131,7 +131,7 @@ module _ (p : Public) (m : ℕ) (table : List ℕ) (columns : List NewColumn) (c
 module _ {R : Type 0} (state : R → RevState) (old : Engine R) (s s1 : StoreState) (v : Vault R) (room : RoomState) (t : StoreState)
     (table : List ℕ) (columns : List NewColumn) (schema : Columns) (capacity : ℕ)
     (agrees : Agrees state old s) (rests : Rests s s1) (room_is : room ≡ record old.room { high = max old.room.high old.room.pack }) (schema_is : schema ≡ columns_of table columns)
-    (now : refusal_now old.public (length s.asked) (CreateStmt table columns capacity) ≡ None) where
+    (now : refusal_now old.public (count_of old s) (CreateStmt table columns capacity) ≡ None) where
   abbrev before : World
   before = at state old.vault s1
 
@@ -150,14 +150,14 @@ module _ {R : Type 0} (state : R → RevState) (old : Engine R) (s s1 : StoreSta
   stored : IsStored new_table.heading
   stored =
       subst (λ (cs : Columns). IsStored (record { name = table; schema = cs; capacity = capacity })) (sym schema_is)
-      (new_stored old.public (length s.asked) table columns capacity now)
+      (new_stored old.public (count_of old s) table columns capacity now)
 
   abbrev fresh : Flat
   fresh = table_of schema capacity old.vault.next
 
-  no_refusal : (tables : Tables) → Represents state old s tables → refusal old.public (length s.asked) tables (CreateStmt table columns capacity) ≡ None
+  no_refusal : (tables : Tables) → Represents state old s tables → refusal old.public (count_of old s) tables (CreateStmt table columns capacity) ≡ None
   no_refusal tables held =
-      refused_late old.public (length s.asked) tables (CreateStmt table columns capacity) (early_held old.public (length s.asked) (CreateStmt table columns capacity) tables (world_of state old s) None held.held now)
+      refused_late old.public (count_of old s) tables (CreateStmt table columns capacity) (early_held old.public (count_of old s) (CreateStmt table columns capacity) tables (world_of state old s) None held.held now)
 
   made : Went part (one old.vault.next) before done → IsFlat old.room.pack fresh done → (IsTrue s.tells → FlatRepresents old.room.pack fresh (empty_slots capacity) done)
       → SealsTable old.room.pack schema old.vault.next before done → old.ended ≡ false
@@ -170,7 +170,7 @@ module _ {R : Type 0} (state : R → RevState) (old : Engine R) (s s1 : StoreSta
         flat = subst (λ (g : ℕ). IsFlat old.public.pack (table_of schema capacity g) done) (sym agrees.next) (subst (λ (k : ℕ). IsFlat k fresh done) agrees.room.pack flat);
       } in
       let answered : IsAnswered Created = record { whole = λ n. refl; own = refl } in
-      let unnamed = new_name old.public (length s.asked) table columns capacity now in
+      let unnamed = new_name old.public (count_of old s) table columns capacity now in
       let ran = ran_done state (Create table columns capacity) old s v room t agrees room_is (one old.vault.next)
       (old.public.tables ++ new_table ∷ []) part Created lives answered all (script_is Whole)
       (ap (λ (c : Columns). old.public.tables ++ record { heading = record { name = table; schema = c; capacity = capacity }; region = old.public.next_region } ∷ []) schema_is)
@@ -185,7 +185,7 @@ module _ {R : Type 0} (state : R → RevState) (old : Engine R) (s s1 : StoreSta
       let kept = held_kept (one old.vault.next) old.public.pack old.public.tables tables _ _ all.lasts
       (λ i u here same. let less = region_below old.public.pack i old.public.tables u _ agrees.ready agrees.tables here in omega (arith, less, same)) reads.held.held in
       let added = held_added old.public.pack old.public.tables tables new_table (empty_slots capacity) done kept slots in
-      let settles : settle old.public (length s.asked) tables stmt ≡ tables ++ record { heading = new_table.heading; held = empty_slots capacity } ∷ [] =
+      let settles : settle old.public (count_of old s) tables stmt ≡ tables ++ record { heading = new_table.heading; held = empty_slots capacity } ∷ [] =
       ap (λ (o : Option Refusal). followed o (settled tables stmt) tables) none
       ∙ (λ i. tables ++ record { heading = record { name = table; schema = sym schema_is i; capacity = capacity }; held = empty_slots capacity } ∷ []) in (
         sym (ap (λ (o : Option Refusal). outcome_of stmt (answered_by o (accepted_answer (database tables) stmt))) none),

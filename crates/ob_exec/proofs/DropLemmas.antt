@@ -39,7 +39,7 @@ use Rattle.ob_exec.specs.declared.outcome.Outcome.{Outcome}
 use Rattle.ob_exec.specs.declared.outcome.Outcome.TheVariants.{Dropped}
 use Rattle.ob_exec.specs.Engines.{AreTables, IsAt, IsTable, flat_of}
 use Rattle.ob_exec.specs.Opening.{Opens}
-use Rattle.ob_exec.specs.Agreeing.{Agrees, world_of}
+use Rattle.ob_exec.specs.Agreeing.{Agrees, world_of, count_of}
 use Rattle.ob_exec.specs.Running.{refusal_now}
 use Rattle.ob_exec.specs.Serving.{ServesSilently}
 use Rattle.ob_exec.specs.Telling.{AreHeld, outcome_of}
@@ -192,7 +192,7 @@ opens_discard : (r high : ℕ) → Opens (discard_at r) high high
 opens_discard r high = record { kept = omega (arith); some = λ none. absurd (cc none) }
 
 module _ {R : Type 0} (state : R → RevState) (old : Engine R) (s s1 : StoreState) (v : Vault R) (t : StoreState) (name : List ℕ) (i : ℕ) (table : Table)
-    (agrees : Agrees state old s) (rests : Rests s s1) (here : IsAt name i table old.public.tables) (now : refusal_now old.public (length s.asked) (DropTable name) ≡ None) where
+    (agrees : Agrees state old s) (rests : Rests s s1) (here : IsAt name i table old.public.tables) (now : refusal_now old.public (count_of old s) (DropTable name) ≡ None) where
   script_is : (end : End) → whole_script old.public (DropSkeleton name) (seen_to end) ≡ discard_at table.region
   script_is end =
       ap (λ (o : Option (Stored ℕ)). option_map_or (λ (u : Stored ℕ). discard_at u.held) o [])
@@ -218,9 +218,9 @@ module _ {R : Type 0} (state : R → RevState) (old : Engine R) (s s1 : StoreSta
       (finished state stmt old s agrees now refl v old.room t (remove old.public.tables i) Dropped is_answered tt ran
       (keeps_pass state old s s1 rests agrees (engine_after old v old.room (remove old.public.tables i) Whole old.ended) t (at state v t) refl (λ good accepts. discards.seals.seals good))
       (λ tables reads.
-      let early = early_held old.public (length s.asked) stmt tables (world_of state old s) None reads.held.held now in
-      let none : refusal old.public (length s.asked) tables stmt ≡ None = refused_late old.public (length s.asked) tables stmt early in
-      let settles : settle old.public (length s.asked) tables stmt ≡ dropped_at name tables = ap (λ (o : Option Refusal). followed o (settled tables stmt) tables) none in (
+      let early = early_held old.public (count_of old s) stmt tables (world_of state old s) None reads.held.held now in
+      let none : refusal old.public (count_of old s) tables stmt ≡ None = refused_late old.public (count_of old s) tables stmt early in
+      let settles : settle old.public (count_of old s) tables stmt ≡ dropped_at name tables = ap (λ (o : Option Refusal). followed o (settled tables stmt) tables) none in (
         sym (ap (λ (o : Option Refusal). outcome_of stmt (answered_by o (accepted_answer (database tables) stmt))) none),
         subst (λ (ts : Tables). AreHeld old.public.pack (remove old.public.tables i) ts (at state v t)) (sym settles)
             (held_removed old.public.pack r name old.public.tables tables i table _ _ agrees.tables.names reads.held.held all.lasts apart here.get here.named),

@@ -41,7 +41,7 @@ use Rattle.ob_mean.specs.Verdict.{Tables, is_late, verdict, ended as seen_to}
 use Rattle.ob_exec.specs.declared.engine.Engine.{Engine}
 use Rattle.ob_exec.specs.declared.outcome.Outcome.{Outcome}
 use Rattle.ob_exec.specs.Engines.{IsAt, IsTable, AreTables, flat_of}
-use Rattle.ob_exec.specs.Agreeing.{Agrees, world_of}
+use Rattle.ob_exec.specs.Agreeing.{Agrees, world_of, count_of}
 use Rattle.ob_exec.specs.Running.{HasNoRows, answer_of, is_stop, refusal_now}
 use Rattle.ob_exec.specs.Serving.{ServesSilently}
 use Rattle.ob_exec.specs.Telling.{AreHeld, ReadsTrue, Represents, outcome_of}
@@ -75,8 +75,8 @@ pub record Alters {T : Type 0} (p : Public) (m : ℕ) (stmt : Stmt) (name : List
 module _ {R T : Type 0} (state : R → RevState) (stmt : Stmt) (name : List ℕ) (part : ℕ → ℕ → ℕ → ℕ → List Access) (outcome : T → Outcome) (answer : Slots → T) (after : Slots → Slots)
     (old : Engine R) (s s1 : StoreState) (v : Vault R) (room : RoomState) (t : StoreState) (i : ℕ) (table : Table) (flat left : Flat)
     (agrees : Agrees state old s) (rests : Rests s s1) (room_is : room ≡ record old.room { high = max old.room.high old.room.pack })
-    (here : IsAt name i table old.public.tables) (flat_is : flat ≡ flat_of table) (now : refusal_now old.public (length s.asked) stmt ≡ None)
-    (alters : Alters old.public (length s.asked) stmt name table.heading part outcome answer after) where
+    (here : IsAt name i table old.public.tables) (flat_is : flat ≡ flat_of table) (now : refusal_now old.public (count_of old s) stmt ≡ None)
+    (alters : Alters old.public (count_of old s) stmt name table.heading part outcome answer after) where
   abbrev before : World
   before = at state old.vault s1
 
@@ -137,7 +137,7 @@ module _ {R T : Type 0} (state : R → RevState) (stmt : Stmt) (name : List ℕ)
       (keeps_pass state old s s1 rests agrees (engine_after old v room (slice_set old.public.tables i moved_table) Whole old.ended) t done refl (λ good accepts. mutates.seals.seals good (accepts _ _)))
       (λ tables reads.
       let told = mutates.told (honest tables reads) (beside tables reads.held).table.held (slots_before tables reads.held) in
-      let early = early_held old.public (length s.asked) stmt tables (world_of state old s) None reads.held.held now in
+      let early = early_held old.public (count_of old s) stmt tables (world_of state old s) None reads.held.held now in
       let found = (beside tables reads.held).found in
       let size : length (beside tables reads.held).table.held ≡ (beside tables reads.held).table.heading.capacity =
       (beside tables reads.held).represents.size ∙ ap (λ (h : Heading). h.capacity) (sym (beside tables reads.held).heading) in

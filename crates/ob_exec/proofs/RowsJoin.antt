@@ -45,7 +45,7 @@ use Rattle.ob_exec.specs.Running.{refusal_now}
 use Rattle.ob_sql.specs.declared.stmt.SelectRows.{SelectRows}
 use Rattle.ob_sql.specs.declared.stmt.Stmt.TheVariants.{SelectRows as RowsStmt}
 use Rattle.ob_exec.specs.declared.engine.Engine.{Engine}
-use Rattle.ob_exec.specs.Agreeing.{Agrees, world_of}
+use Rattle.ob_exec.specs.Agreeing.{Agrees, world_of, count_of}
 use Rattle.ob_exec.specs.Engines.{flat_of}
 use Rattle.ob_exec.specs.Selecting.{Selection, counted_after, from, region_of, selection_script, walked_after}
 use Rattle.ob_exec.specs.Sources.{rows_script, rows_skeleton, selection, stated}
@@ -173,11 +173,11 @@ module _ {R : Type 0} (state : R → RevState) (old : Engine R) (s : StoreState)
   pub join_some : 1 ≤ count_end old.public (rows_skeleton select)
   join_some = let is = join_count 0 0 in let least = join_least in omega (arith, is, least)
 
-  module _ (free : refusal_now old.public (length s.asked) (RowsStmt select) ≡ None) where
+  module _ (free : refusal_now old.public (count_of old s) (RowsStmt select) ≡ None) where
     pub join_fits : JoinFits old.public.pack old.public.buffer t.heading u.heading on equals
     join_fits =
-        joins_fit (is_late (length s.asked)) old.public.pack old.public.buffer (headings_of old.public.tables) select.list a b on equals select.cond t.heading u.heading found_a found_b
-        (subst (λ (source : Source). early_refusal (is_late (length s.asked)) old.public.pack old.public.buffer (headings_of old.public.tables) (RowsStmt (record { list = select.list; source = source; cond = select.cond })) ≡ None) of_join free)
+        joins_fit (is_late (count_of old s)) old.public.pack old.public.buffer (headings_of old.public.tables) select.list a b on equals select.cond t.heading u.heading found_a found_b
+        (subst (λ (source : Source). early_refusal (is_late (count_of old s)) old.public.pack old.public.buffer (headings_of old.public.tables) (RowsStmt (record { list = select.list; source = source; cond = select.cond })) ≡ None) of_join free)
 
     pub join_idle : (left right : Flat) → left ≡ flat_of t → right ≡ flat_of u → IsIdle (width (left.schema ++ right.schema)) old.room
     join_idle left right left_is right_is =
@@ -235,7 +235,7 @@ module _ {R : Type 0} (state : R → RevState) (old : Engine R) (s : StoreState)
         → MayStart (1 + fill_length (join_in old.room left lcol right rcol)) (at state old.vault s1)
     join_starts s1 left right lcol rcol n rests is spare =
         let same = ap length rests.asked in
-        let early = not_late (length s.asked) (allowed (is_late (length s.asked)) old.public.pack old.public.buffer (headings_of old.public.tables) (RowsStmt select) free).early in
+        let early = not_late (count_of old s) (allowed (is_late (count_of old s)) old.public.pack old.public.buffer (headings_of old.public.tables) (RowsStmt select) free).early in
         let lefts : blocks_for old.room.pack left.capacity ≡ blocks_for old.public.pack left.capacity = ap (λ (k : ℕ). blocks_for k left.capacity) agrees.room.pack in
         let pairs : joined_blocks old.room.pack old.room.rows left.capacity right.capacity ≡ joined_blocks old.public.pack old.public.buffer left.capacity right.capacity =
         λ k. joined_blocks (agrees.room.pack k) (agrees.room.rows k) left.capacity right.capacity in

@@ -111,6 +111,7 @@ module _ {R : Type 0} (state : R → RevState) (old : Engine R) (s : StoreState)
         asked = is.ran.did.asked ∙ ap (λ (y : List Access). s.asked ++ y) (sym whole);
         later = is.ran.lasts.later;
         keys = is.ran.lasts.keys;
+        start = is.ran.lasts.start;
         ends = ended_end (selection old.public select) answer seen _ is.ended;
         asks = asks_none (selected_outcome answer) _ (ended_well (selection old.public select) answer seen is.ended);
         cause = (of_other _ _ (is_fault (selected_outcome answer)) (ended_well (selection old.public select) answer seen is.ended) is.ran.did.faults, is.ran.calm);
@@ -139,6 +140,7 @@ module _ {R : Type 0} (state : R → RevState) (old : Engine R) (s : StoreState)
         asked = first;
         later = cut.lasts.later;
         keys = cut.lasts.keys;
+        start = cut.lasts.start;
         ends = cut_ends e n ∙ ap (result_end (answer_of e)) count;
         asks = asks_cut e s t cut.asks;
         cause = cut_cause e _ _ cut.cause;

@@ -98,6 +98,7 @@ module _ {R : Type 0} (state : R → RevState) (skeleton : Skeleton) (old : Engi
     asked = sym (append-nil s.asked);
     later = later_refl s;
     keys = refl;
+    start = refl;
     ends = sym (early.static _);
     asks = asks_none (Refused r) _ early.own;
     cause = (of_other _ _ (is_store_fault r) early.own refl, λ calm. calm);
@@ -154,6 +155,7 @@ module _ {R : Type 0} (state : R → RevState) (skeleton : Skeleton) (old : Engi
     asked = went.did.asked ∙ ap (λ (y : List Access). s.asked ++ y) (sym is);
     later = went.lasts.later;
     keys = went.lasts.keys;
+    start = went.lasts.start;
     ends = sym (answered.whole _);
     asks = asks_none outcome _ answered.own;
     cause = (of_other _ _ (is_fault outcome) answered.own went.did.faults, went.calm);
@@ -191,6 +193,7 @@ module _ {R : Type 0} (state : R → RevState) (skeleton : Skeleton) (old : Engi
         asked = first ∙ ap (λ (y : List Access). s.asked ++ take n y) (sym is);
         later = cut.lasts.later;
         keys = cut.lasts.keys;
+        start = cut.lasts.start;
         ends = cut_ends e n ∙ ap (result_end (answer_of e)) count;
         asks = asks_cut e s t cut.asks;
         cause = cut_cause e _ _ cut.cause;
@@ -250,6 +253,7 @@ ran_no_room state skeleton old s t tables agrees rests =
       asked = rests.asked ∙ sym (append-nil s.asked);
       later = later_rests s t rests;
       keys = refl;
+      start = refl;
       ends = ap (λ (n : ℕ). Cut n) none;
       asks = λ faulted. absurd faulted;
       cause = (rests.faults, λ calm. record { calm = λ lie is. calm.calm lie (sym rests.lie ∙ is); within = λ lie is. subst (ReadsIn lie) (sym rests.asked) (calm.within lie (sym rests.lie ∙ is)) });
@@ -260,4 +264,4 @@ ran_no_room state skeleton old s t tables agrees rests =
 
 -- a store that no call was made on
 pub rests_refl : (s : StoreState) → Rests s s
-rests_refl s = record { spare = omega (arith); asked = refl; gave = refl; faults = refl; slips = refl; tells = refl; lie = refl; disturbed = refl; keeps = record { live = λ q. refl; last = λ q x. refl } }
+rests_refl s = record { spare = omega (arith); asked = refl; gave = refl; faults = refl; slips = refl; tells = refl; lie = refl; disturbed = refl; keeps = record { live = λ q. refl; last = λ q x. refl; kept = λ q. refl } }

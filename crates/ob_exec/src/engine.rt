@@ -2,10 +2,11 @@
 ghost use Rattle.std.specs.Prelude.{◌≡◌, ◌≤◌, List, [], IfOk, false};
 ghost use Rattle.ob_base.specs.declared.seen.End.TheVariants.{Static, Whole, Cut};
 ghost use Rattle.ob_store.specs.State.{StoreState};
+ghost use Rattle.ob_vault.specs.State.{from_nothing};
 ghost use Rattle.ob_mean.specs.Verdict.{ended as seen_to};
 ghost use Rattle.ob_exec.specs.Engines.{IsConfig};
 ghost use Rattle.ob_base.specs.Publics.{first_public};
-ghost use Rattle.ob_exec.specs.Agreeing.{Agrees, public_of, seen_of, engine_keys, has_ended, high_of, rows_of};
+ghost use Rattle.ob_exec.specs.Agreeing.{Agrees, public_of, seen_of, engine_keys, engine_start, has_ended, high_of, rows_of};
 ghost use Rattle.ob_exec.specs.Running.{answer_of, is_stop};
 
 use crate::outcome::Outcome;
@@ -53,6 +54,7 @@ impl<R: Revisions> Engine<R> {
         ensures public { IfOk result (λ e. public_of e
             ≡ first_public config.buffer config.depth config.pack config.plan config.pad) }
         ensures keyed { IfOk result (λ e. engine_keys e ≡ keys) }
+        ensures started { IfOk result (λ e. engine_start e ≡ from_nothing) }
         ensures alive { IfOk result (λ e. has_ended e ≡ false) }
         ensures none_open { IfOk result (λ e. high_of e ≡ 0) }
         ensures rows { IfOk result (λ e. rows_of e ≡ config.buffer) }

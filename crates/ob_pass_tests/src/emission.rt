@@ -1,7 +1,7 @@
 //! What is emitted of a table, and the accesses of it.
 ghost use Rattle.std.specs.Prelude.{◌≤◌};
-ghost use Rattle.ob_vault.specs.Tied.{Ready};
 ghost use Rattle.ob_vault.specs.Places.{at};
+ghost use Rattle.ob_vault.specs.Words.{StartsAnew};
 ghost use Rattle.ob_blocks.specs.Idle.{IsIdle};
 
 use crate::tables::{filled, make_room, opened, two_ints};
@@ -54,7 +54,7 @@ fn emission<S: BlockStore, R: Revisions>(
     mut room: Room,
     accesses: u64,
 )
-    requires ready { Ready (at R.state vault (S.state store.old)) }
+    requires ready { StartsAnew (at R.state vault (S.state store.old)) }
     requires room { IsIdle 17 room }
     requires pack { 1 ≤ room.pack }
 {
@@ -76,7 +76,7 @@ fn walking<S: BlockStore, R: Revisions>(
     mut room: Room,
     accesses: u64,
 )
-    requires ready { Ready (at R.state vault (S.state store.old)) }
+    requires ready { StartsAnew (at R.state vault (S.state store.old)) }
     requires room { IsIdle 17 room }
     requires pack { 1 ≤ room.pack }
 {

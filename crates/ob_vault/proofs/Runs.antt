@@ -13,7 +13,8 @@ use Rattle.ob_vault.specs.declared.region.Order.TheVariants.{Round, Any}
 use Rattle.ob_vault.specs.Revs.{turn_after, place_after}
 use Rattle.ob_vault.specs.declared.fault.VaultErr.{VaultErr}
 use Rattle.ob_vault.specs.declared.fault.VaultErr.TheVariants.{Failed, Tampered, NoMemory}
-use Rattle.ob_vault.specs.State.{VaultState, World}
+use Rattle.ob_vault.specs.State.{VaultState, World, earlier}
+use Rattle.ob_vault.specs.Numbers.{spent}
 use Rattle.ob_vault.specs.Tied.{Ready, Lives, Written, OnTurn, Holds, at_of}
 use Rattle.ob_vault.specs.Rows.{SameSizes}
 use Rattle.ob_vault.specs.Places.{RowsFit, MayGet, MayPut}
@@ -28,6 +29,7 @@ module _ (some : ℕ → Type 0) (a b c : World) where
     turn = λ q off. second.turn q off ∙ first.turn q off;
     kept = λ q off. second.kept q off ∙ first.kept q off;
     last = λ q x off. second.last q x off ∙ first.last q x off;
+    rests = λ q off. second.rests q off ∙ first.rests q off;
   }
 
   shapes_trans : KeepsShapes a b → KeepsShapes b c → KeepsShapes a c
@@ -98,6 +100,7 @@ module _ (some : ℕ → Type 0) (a b : World) where
       turn = λ q off. lasts.apart.turn q (λ s. off (within q s));
       kept = λ q off. lasts.apart.kept q (λ s. off (within q s));
       last = λ q x off. lasts.apart.last q x (λ s. off (within q s));
+      rests = λ q off. lasts.apart.rests q (λ s. off (within q s));
     };
   }
 
@@ -176,6 +179,10 @@ module _ (some : ℕ → Type 0) (part : ℕ → List Access) (a b c : World) wh
 
 pub went_length : (some : ℕ → Type 0) (x : List Access) (a b : World) → Went x some a b → length b.store.asked ≡ length a.store.asked + length x
 went_length some x a b went = ap length went.did.asked ∙ length-append a.store.asked x
+
+-- so the count goes on
+pub went_spent : (some : ℕ → Type 0) (x : List Access) (a b : World) → Went x some a b → spent b ≡ spent a + length x
+went_spent some x a b went = omega (arith, went_length some x a b went, ap earlier went.lasts.start)
 
 pub tells_went : (some : ℕ → Type 0) (x : List Access) (a b : World) → Went x some a b → IsTrue a.store.tells → IsTrue b.store.tells
 tells_went some x a b went tells = subst (λ (t : Bool). IsTrue t) (sym went.lasts.later.tells) tells

@@ -1,5 +1,6 @@
 -- What each call of a vault does to it and its store.
-use Rattle.std.proofs.Common.{◌≡◌, ◌≢◌, ◌==◌, if◌then◌else◌, true, false, Err, Option, ◌⊎◌, inl, inr, ℕ, ◌+◌, ◌-◌, ◌<◌, ◌≤◌, List, [], ◌∷◌, ◌++◌, Some, None, Bool, IsTrue, refl, sym, ◌∙◌, ap, subst, arith, append_assoc, length, length-append}
+use Rattle.std.proofs.Common.{◌≡◌, ◌≢◌, ◌==◌, if◌then◌else◌, true, false, Result, Ok, Err, OnOk, OnErr, Option, ◌⊎◌, inl, inr, ℕ, ◌+◌, ◌-◌, ◌<◌, ◌≤◌, List, [], ◌∷◌, ◌++◌, Some, None, Bool, IsTrue, refl, sym, ◌∙◌, ap, subst, arith, append_assoc, length, length-append}
+use Rattle.std.specs.Result.{is_err}
 use Rattle.std.proofs.lemmas.Bool.{cases_eq}
 use Rattle.std.proofs.lemmas.List.{append-nil}
 use Rattle.ob_base.specs.declared.access.Access.{Access}
@@ -16,7 +17,7 @@ use Rattle.ob_vault.specs.declared.fault.VaultErr.TheVariants as VaultErrs
 use Rattle.ob_vault.specs.Revs.{OtherRegions, Begins, Wrote, turn_after, place_after}
 use Rattle.ob_vault.specs.declared.region.Order.{Order}
 use Rattle.ob_vault.specs.declared.region.Order.TheVariants.{Round, Any}
-use Rattle.ob_vault.specs.State.{Start, RevState, VaultState, World, from_nothing}
+use Rattle.ob_vault.specs.State.{Start, RevState, VaultState, World, from_earlier, earlier}
 use Rattle.ob_base.specs.Accesses.{writes, makes, nth_write, make_at}
 use Rattle.ob_base.specs.Accesses.{AllBelow}
 use Rattle.ob_vault.specs.Numbers.{number_after, last_number, IsNumber, IsStart}
@@ -32,13 +33,13 @@ number_stays old new more q x n start asked is = elim is [
   | inr given ↦ inr (given.0 ∙ ap (λ (s : Start). s.given q x) (sym start), given.1)
 ]
 
-module _ (good : ℕ → List ℕ → Bool) (old new : World) (a : Access) (keys : new.vault.keys ≡ old.vault.keys) (start : new.vault.start ≡ old.vault.start) (asks : Asks a old.store new.store) where
+module _ (good : ℕ → List ℕ → Bool) (old new : World) (a : Access) (keys : new.vault.keys ≡ old.vault.keys) (start : new.vault.start ≡ old.vault.start) (asked : new.store.asked ≡ old.store.asked ++ a ∷ []) where
   kept_at : (q x : ℕ) (b : List ℕ) → SealedAt good old q x b → SealedAt good new q x b
   kept_at q x b s = record {
     number = s.number;
     rows = s.rows;
     is = s.is ∙ ap (λ (k : KeySet). sealed k (at_of q x s.number) s.rows) (sym keys);
-    went = number_stays old new (a ∷ []) q x s.number start asks.asked s.went;
+    went = number_stays old new (a ∷ []) q x s.number start asked s.went;
     fine = s.fine;
   }
 
@@ -109,6 +110,7 @@ apart_moved g old new m = record {
   turn = λ q off. m.revs.turn q off;
   kept = λ q off. m.only.live q off;
   last = λ q x off. m.only.last q x off;
+  rests = λ q off. m.only.kept q off;
 }
 
 pub lasts_moved : (g : ℕ) (old new : World) → Ready old → Moved g old new → Later old.store new.store → Lasts (one g) old new
@@ -161,7 +163,7 @@ lasts_none some w ready = record {
   keys = refl;
   start = refl;
   shapes = record { next = omega arith; shapes = λ q below. inr refl };
-  apart = record { live = λ q off. refl; number = λ q x off. refl; turn = λ q off. refl; kept = λ q off. refl; last = λ q x off. refl };
+  apart = record { live = λ q off. refl; number = λ q x off. refl; turn = λ q off. refl; kept = λ q off. refl; last = λ q x off. refl; rests = λ q off. refl };
 }
 
 -- a read
@@ -193,6 +195,7 @@ lasts_read v old new q x shape ready lives asks keeps =
         turn = λ r off. refl;
         kept = λ r off. keeps.live r;
         last = λ r y off. keeps.last r y;
+        rests = λ r off. keeps.kept r;
       };
     }
 
@@ -232,7 +235,7 @@ lasts_forget v revs s g ready others gone =
       above = tied.above;
       up = omega arith;
       revs = others;
-      only = record { live = λ q off. refl; last = λ q x off. refl };
+      only = record { live = λ q off. refl; last = λ q x off. refl; kept = λ q off. refl };
       numbers = λ q x. refl;
       here_shape = inl gone;
       here_live = λ s l. absurd (cc (l, gone));
@@ -264,23 +267,23 @@ seals_drop good v revs old new g asks only left =
     let now = world (record v { revs = revs }) new in
     record {
       seals = λ tells all. elim left [
-        | inl left ↦ sealed_but good was now (Discard g) refl refl asks g only (inl left) all
-        | inr keeps ↦ sealed_keeps good was now (Discard g) refl refl asks keeps all
+        | inl left ↦ sealed_but good was now (Discard g) refl refl asks.asked g only (inl left) all
+        | inr keeps ↦ sealed_keeps good was now (Discard g) refl refl asks.asked keeps all
       ];
     }
 
 pub seals_read : (good : ℕ → List ℕ → Bool) (v : VaultState) (old new : StoreState) (q x : ℕ) → Asks (Read q x) old new → Keeps old new → Seals good (world v old) (world v new)
-seals_read good v old new q x asks keeps = record { seals = λ tells all. sealed_keeps good (world v old) (world v new) (Read q x) refl refl asks keeps all }
+seals_read good v old new q x asks keeps = record { seals = λ tells all. sealed_keeps good (world v old) (world v new) (Read q x) refl refl asks.asked keeps all }
 
 pub seals_make : (good : ℕ → List ℕ → Bool) (v : VaultState) (revs : RevState) (old new : StoreState) (g blocks len : ℕ) → Asks (Make g blocks len) old new → Makes g blocks len old new
     → Seals good (world v old) (world (record v { next = v.next + 1; revs = revs }) new)
 seals_make good v revs old new g blocks len asks makes' =
-    record { seals = λ tells all. sealed_but good (world v old) (world (record v { next = v.next + 1; revs = revs }) new) (Make g blocks len) refl refl asks g makes'.others (inr makes'.empty) all }
+    record { seals = λ tells all. sealed_but good (world v old) (world (record v { next = v.next + 1; revs = revs }) new) (Make g blocks len) refl refl asks.asked g makes'.others (inr makes'.empty) all }
 
 pub seals_unmade : (good : ℕ → List ℕ → Bool) (v : VaultState) (revs : RevState) (old new : StoreState) (g blocks len : ℕ) → Asks (Make g blocks len) old new → Keeps old new
     → Seals good (world v old) (world (record v { next = v.next + 1; revs = revs }) new)
 seals_unmade good v revs old new g blocks len asks keeps =
-    record { seals = λ tells all. sealed_keeps good (world v old) (world (record v { next = v.next + 1; revs = revs }) new) (Make g blocks len) refl refl asks keeps all }
+    record { seals = λ tells all. sealed_keeps good (world v old) (world (record v { next = v.next + 1; revs = revs }) new) (Make g blocks len) refl refl asks.asked keeps all }
 
 -- a call that answered
 pub went_call : (a : Access) (some : ℕ → Type 0) (old new : World) → Lasts some old new → Asks a old.store new.store → new.store.faults ≡ old.store.faults → new.store.lie ≡ old.store.lie → Went (a ∷ []) some old new
@@ -323,7 +326,7 @@ module _ (v : VaultState) (revs : RevState) (old new : StoreState) (q x : ℕ) (
 
   now_sealed : (good : ℕ → List ℕ → Bool) (block rows : List ℕ) → IsTrue (good q rows) → block ≡ sealed v.keys (at_of q x (v.count + 1)) rows → (new.last q x ≡ old.last q x) ⊎ (new.last q x ≡ Some block)
       → AllSealed good (world v old) → AllSealed good (world (record v { count = v.count + 1; revs = revs }) new)
-  now_sealed good block rows fine is left all = sealed_kept good (world v old) (world (record v { count = v.count + 1; revs = revs }) new) (Write q x) refl refl asks each all
+  now_sealed good block rows fine is left all = sealed_kept good (world v old) (world (record v { count = v.count + 1; revs = revs }) new) (Write q x) refl refl asks.asked each all
     where
       now : World
       now = world (record v { count = v.count + 1; revs = revs }) new
@@ -370,6 +373,7 @@ module _ (v : VaultState) (revs : RevState) (old new : StoreState) (q x : ℕ) (
       turn = λ r off. wrote.turns r off;
       kept = λ r off. only.live r;
       last = λ r y off. only.elsewhere r y (λ same _. off same);
+      rests = λ r off. only.kept r off;
     };
   }
 
@@ -463,7 +467,7 @@ lasts_unmade v revs old new blocks len ready others gone asks keeps =
       above = subst (AllBelow (v.next + 1)) (sym asks.asked) (below_more (v.next + 1) old.asked access (below_up v.next (v.next + 1) old.asked (omega arith) tied.above) (omega arith));
       up = omega arith;
       revs = others;
-      only = record { live = λ q off. keeps.live q; last = λ q x off. keeps.last q x };
+      only = record { live = λ q off. keeps.live q; last = λ q x off. keeps.last q x; kept = λ q off. keeps.kept q };
       numbers = λ q x. ap (λ (l : List Access). number_after v.start l q x) asks.asked ∙ number_make v.start.writes (v.start.given q x) q x g blocks len old.asked;
       here_shape = inl gone;
       here_live = λ s l. absurd (cc (l, gone));
@@ -480,7 +484,7 @@ others_twice g a b c first second = record {
 }
 
 -- no region has the next number
-next_none : (o : Option Region) → ((shape : Region) → o ≡ Some shape → ⊥) → o ≡ None
+pub next_none : (o : Option Region) → ((shape : Region) → o ≡ Some shape → ⊥) → o ≡ None
 next_none None off = refl
 next_none (Some shape) off = absurd (off shape refl)
 
@@ -511,9 +515,27 @@ cut_call_none a some old new lasts asks faults lie = record {
   cause = (faults, calm_lasts some old new (a ∷ []) lasts asks.asked lie);
 }
 
--- no earlier run has left a number
-pub start_nothing : IsStart from_nothing
-start_nothing = record { fresh = λ q x above. refl; within = λ q x. omega arith; alone = λ q x r y same some. absurd (some refl) }
+-- no region of an earlier run was opened
+pub start_earlier : (writes region : ℕ) → IsStart (from_earlier writes region)
+start_earlier writes region = record { fresh = λ q x above. refl; within = λ q x. omega arith; alone = λ q x r y same some. absurd (some refl) }
+
+-- what holds at an `Ok`, where there is no `Err`, and at an `Err`
+pub at_ok : {T E : Type 0} (r : Result T E) (P : Type 0) → false ≡ is_err r → OnOk r P → P
+at_ok (Ok x) P ok h = h
+at_ok (Err e) P ok h = absurd (cc ok)
+
+pub at_err : {T E : Type 0} (r : Result T E) (P : Type 0) → true ≡ is_err r → OnErr r P → P
+at_err (Ok x) P bad h = absurd (cc bad)
+at_err (Err e) P bad h = h
+
+-- no number of an earlier run is above where its numbers are
+pub earlier_writes : (start : Start) → start.writes ≤ earlier start
+unfolding earlier
+earlier_writes start = omega arith
+
+pub earlier_region : (start : Start) → start.region ≤ earlier start
+unfolding earlier
+earlier_region start = omega arith
 
 -- before the first access
 pub ready_new : (w : World) → w.store.asked ≡ [] → IsStart w.vault.start → w.vault.count ≡ w.vault.start.writes → w.vault.next ≡ w.vault.start.region + 1 → ((q : ℕ) → w.vault.revs.live q ≡ None) → Ready w

@@ -1,8 +1,8 @@
 //! A table of one slot, which has a text.
 ghost use Rattle.std.specs.Prelude.{◌≡◌, ◌≤◌, [], ◌∷◌, ℕ, List, length};
 ghost use Rattle.ob_base.specs.Schemas.{width};
-ghost use Rattle.ob_vault.specs.Tied.{Ready};
 ghost use Rattle.ob_vault.specs.Places.{at};
+ghost use Rattle.ob_vault.specs.Words.{StartsAnew};
 ghost use Rattle.ob_row.specs.declared.cell.Cell.TheVariants.{Text as TextCell};
 ghost use Rattle.ob_row.specs.Spelling.{Fits as FitColumns, FitsText};
 ghost use Rattle.ob_blocks.specs.Idle.{IsIdle};
@@ -75,7 +75,7 @@ fn select_text<S: BlockStore, R: Revisions>(
     room: &mut Room,
     flat: &Flat,
 )
-    requires ready { Ready (at R.state vault.old (S.state store.old)) }
+    requires ready { StartsAnew (at R.state vault.old (S.state store.old)) }
     requires flat { IsFlat room.old.pack flat.now (at R.state vault.old (S.state store.old)) }
     requires size { IsSized flat.now.schema flat.now.capacity }
     requires room { IsIdle (width flat.now.schema) room.old }
@@ -114,7 +114,7 @@ fn session<S: BlockStore, R: Revisions>(
     mut vault: Vault<R>,
     mut room: Room,
 )
-    requires ready { Ready (at R.state vault (S.state store.old)) }
+    requires ready { StartsAnew (at R.state vault (S.state store.old)) }
     requires room { IsIdle 6 room }
     requires pack { 1 ≤ room.pack }
 {

@@ -13,6 +13,7 @@ use Rattle.ob_sql.specs.declared.stmt.Stmt.TheVariants.{Insert}
 use Rattle.ob_mean.specs.Step.{new_row}
 use Rattle.ob_mean.specs.Verdict.{ended as seen_to}
 use Rattle.ob_mean.proofs.InsertLemmas.{insert_fits}
+use Rattle.ob_exec.specs.Agreeing.{count_of}
 use Rattle.ob_exec.specs.declared.engine.Engine.{Engine}
 use Rattle.ob_exec.specs.declared.outcome.Outcome.{Outcome}
 use Rattle.ob_exec.specs.Running.{inserted_as}
@@ -58,7 +59,7 @@ returns-in-Ok-result g c =
     let schema_is : flat.schema ≡ table.heading.schema = ap (λ (f : Flat). f.schema) found.is in
     let row_is : row ≡ new_row table.heading.schema c.args.columns.now c.args.values.now =
     c.as_slice.ensures.value ∙ c.in-Ok.ensures.value ∙ ap (λ (cs : Columns). new_row cs c.args.columns.now c.args.values.now) schema_is in
-    let alters = insert_alters old.public (length s.asked) c.args.table.now c.args.columns.now c.args.values.now table.heading flat.schema row schema_is row_is in
+    let alters = insert_alters old.public (count_of old s) c.args.table.now c.args.columns.now c.args.values.now table.heading flat.schema row schema_is row_is in
     record {
       serves =
           mutated g.R.Revisions.state (Insert c.args.table.now c.args.columns.now c.args.values.now) c.args.table.now insert_part inserted_as (insert_answer flat.schema row)
@@ -80,7 +81,7 @@ returns g c =
     let schema_is : flat.schema ≡ table.heading.schema = ap (λ (f : Flat). f.schema) found.is in
     let row_is : row ≡ new_row table.heading.schema c.args.columns.now c.args.values.now =
     c.as_slice.ensures.value ∙ c.in-Ok.ensures.value ∙ ap (λ (cs : Columns). new_row cs c.args.columns.now c.args.values.now) schema_is in
-    let alters = insert_alters old.public (length s.asked) c.args.table.now c.args.columns.now c.args.values.now table.heading flat.schema row schema_is row_is in
+    let alters = insert_alters old.public (count_of old s) c.args.table.now c.args.columns.now c.args.values.now table.heading flat.schema row schema_is row_is in
     record {
       serves =
           unmutated g.R.Revisions.state (Insert c.args.table.now c.args.columns.now c.args.values.now) c.args.table.now insert_part inserted_as (insert_answer flat.schema row)

@@ -17,7 +17,7 @@ use Rattle.ob_join.specs.Join.{Joins, TellsSlots, join_in}
 use Rattle.ob_mean.specs.Verdict.{is_late}
 use Rattle.ob_mean.proofs.EarlyLemmas.{allowed}
 use Rattle.ob_vault.specs.Places.{at}
-use Rattle.ob_exec.specs.Agreeing.{world_of}
+use Rattle.ob_exec.specs.Agreeing.{world_of, count_of}
 use Rattle.ob_exec.specs.Engines.{IsAt, flat_of}
 use Rattle.ob_exec.specs.Selecting.{MaySelect, Selection, SelectsFrom}
 use Rattle.ob_exec.proofs.FoundLemmas.{absent}
@@ -38,14 +38,14 @@ at_ok (Err e) P ok h = absurd (cc ok)
 pub table_at-left-requires : goal.table_at-left-requires
 table_at-left-requires g c =
     let hs = headings_of c.args.self.now.public.tables in
-    let free = allowed (is_late (length (g.S.BlockStore.state c.args.store.now).asked)) c.args.self.now.public.pack c.args.self.now.public.buffer hs (RowsStmt c.args.select.now) c.requires.allowed in
+    let free = allowed (is_late (count_of c.args.self.now (g.S.BlockStore.state c.args.store.now))) c.args.self.now.public.pack c.args.self.now.public.buffer hs (RowsStmt c.args.select.now) c.requires.allowed in
     (there_are (has_table c.in-Join.left hs) (has_table c.in-Join.right hs)
     (sym (ap (λ (source : Source). list_any (λ (name : List ℕ). not (has_table name hs)) (source_tables source)) c.in-Join.is) ∙ free.tables)).0
 
 pub table_at-right-requires : goal.table_at-right-requires
 table_at-right-requires g c =
     let hs = headings_of c.args.self.now.public.tables in
-    let free = allowed (is_late (length (g.S.BlockStore.state c.args.store.now).asked)) c.args.self.now.public.pack c.args.self.now.public.buffer hs (RowsStmt c.args.select.now) c.requires.allowed in
+    let free = allowed (is_late (count_of c.args.self.now (g.S.BlockStore.state c.args.store.now))) c.args.self.now.public.pack c.args.self.now.public.buffer hs (RowsStmt c.args.select.now) c.requires.allowed in
     (there_are (has_table c.in-Join.left hs) (has_table c.in-Join.right hs)
     (sym (ap (λ (source : Source). list_any (λ (name : List ℕ). not (has_table name hs)) (source_tables source)) c.in-Join.is) ∙ free.tables)).1
 

@@ -12,7 +12,7 @@ use Rattle.ob_mean.specs.Refusals.{source_tables}
 use Rattle.ob_mean.specs.Verdict.{is_late}
 use Rattle.ob_mean.proofs.EarlyLemmas.{allowed}
 use Rattle.ob_vault.specs.Places.{at}
-use Rattle.ob_exec.specs.Agreeing.{world_of}
+use Rattle.ob_exec.specs.Agreeing.{world_of, count_of}
 use Rattle.ob_exec.specs.Engines.{IsAt}
 use Rattle.ob_exec.specs.Selecting.{MaySelect, Selection, SelectsFrom}
 use Rattle.ob_exec.proofs.FoundLemmas.{is_there, absent}
@@ -30,7 +30,7 @@ pub table_at-flat-requires : goal.table_at-flat-requires
 table_at-flat-requires g c =
     let old = c.args.self.now in
     let hs = headings_of old.public.tables in
-    let free = allowed (is_late (length (g.S.BlockStore.state c.args.store.now).asked)) old.public.pack old.public.buffer hs (RowsStmt c.args.select.now) c.requires.allowed in
+    let free = allowed (is_late (count_of c.args.self.now (g.S.BlockStore.state c.args.store.now))) old.public.pack old.public.buffer hs (RowsStmt c.args.select.now) c.requires.allowed in
     is_there (has_table c.args.table.now hs)
     (sym (ap (λ (source : Source). list_any (λ (name : List ℕ). not (has_table name hs)) (source_tables source)) c.requires.source) ∙ free.tables)
 

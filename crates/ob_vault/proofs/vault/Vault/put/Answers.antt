@@ -6,16 +6,17 @@ use Rattle.ob_vault.specs.declared.region.Region.{Region}
 use Rattle.ob_vault.specs.Revs.{turn_after}
 use Rattle.ob_vault.specs.Rows.{joined}
 use Rattle.ob_vault.specs.State.{World}
+use Rattle.ob_vault.specs.Places.{start_of}
 use Rattle.ob_vault.specs.Tied.{OnTurn, at_of}
 use Rattle.ob_base.proofs.AccessLemmas.{writes_few}
-use Rattle.ob_vault.proofs.WorldSteps.{lasts_write, seals_write, only_write, turn_write, holds_write, went_call, cut_call}
+use Rattle.ob_vault.proofs.WorldSteps.{earlier_writes, lasts_write, seals_write, only_write, turn_write, holds_write, went_call, cut_call}
 use Rattle.ob_vault.proofs.vault.Vault.put.Goals as goal
 
 pub overflow_add-number : goal.overflow_add-number
-overflow_add-number g c = omega (arith, c.requires.ready.tied.count, c.requires.few, writes_few (g.S.BlockStore.state c.args.store.now).asked)
+overflow_add-number g c = omega (arith, c.requires.ready.tied.count, c.requires.few, writes_few (g.S.BlockStore.state c.args.store.now).asked, earlier_writes (start_of c.args.self.now))
 
 pub wrote-requires-clause-number : goal.wrote-requires-clause-number
-wrote-requires-clause-number g c = (omega arith, omega (arith, c.requires.ready.tied.count, c.requires.few, writes_few (g.S.BlockStore.state c.args.store.now).asked))
+wrote-requires-clause-number g c = (omega arith, omega (arith, c.requires.ready.tied.count, c.requires.few, writes_few (g.S.BlockStore.state c.args.store.now).asked, earlier_writes (start_of c.args.self.now)))
 
 -- a region has one shape
 same_shape : (o : Option Region) (a b : Region) → o ≡ Some a → o ≡ Some b → a ≡ b
