@@ -12,12 +12,15 @@
 # the passes alone (ob_pass_bench), and stands in the table. A padded SELECT asks the same whatever is selected, so it runs in
 # sessions of its own (`--pad 128`), over a table without a row.
 #
+# Last, what it takes to open and to close 64 tables of 65,536 slots: runs with --keep that serve nothing, beside runs
+# without a table. Of these the time by the clock stands there, too, since files are waited for until they are on the disk.
+#
 # SQLCipher has the table with the same columns, a raw key, and neither journal nor syncs, as our files have none. It
 # finds rows by their key, so INSERT, SELECT of 100 rows and the join take no pass there. Each statement comes in a
 # connection of its own, so that it reads the file and not its cache.
 #
 # usage: bench/sessions.sh [ROUNDS]     (11 without it)
-# Needs `rt` (bench/build.sh), python3, 300 MB, and 60 MB in the folder for temporary files (TMPDIR), where the files lie.
+# Needs `rt` (bench/build.sh), python3, 300 MB, and 150 MB in the folder for temporary files (TMPDIR), where the files lie.
 # Takes five minutes once the programs are built.
 set -eu
 top=$(cd "$(dirname "$0")/.." && pwd)
@@ -26,13 +29,13 @@ trap 'rm -rf "$work"' EXIT
 "$top/bench/build.sh" oblitrace oblidb ob_pass_bench
 
 PYTHONPATH="$top/bench" python3 - "$top" "$work" "${1:-11}" <<'PY'
-import shutil, subprocess, sys
+import resource, shutil, subprocess, sys, time
 from driven import Driven, Passes, Session, machine, quartiles
 from shapes import blocks, count, insert, join, rewrite, small
 
 top, work, rounds = sys.argv[1], sys.argv[2], int(sys.argv[3])
 MEMORY, FILES, PASSES = (f"{top}/crates/{name}/out/{name}" for name in ("oblitrace", "oblidb", "ob_pass_bench"))
-SLOTS, WIDTH, JOINED, OPEN, SELECTED, PAD, LEFT, LEFTS = 65536, 17, 33, 64, 100, 128, 32, 4
+SLOTS, WIDTH, JOINED, OPEN, SELECTED, PAD, LEFT, LEFTS, TABLES = 65536, 17, 33, 64, 100, 128, 32, 4, 64
 PACKS = (1, 8, 16)
 
 # The seals and unseals of a statement, and the bytes of the rows that are sealed.
@@ -184,5 +187,25 @@ if cipher:
         print(f"| {it.name} | {theirs:.2f} | {' | '.join(cells)} | {goal} |", flush=True)
 else:
     print("\nNot beside SQLCipher: there is no `sqlcipher` here.")
+
+# ---- opening and closing: whole runs that serve nothing
+def whole_run(text, *words):
+    """The milliseconds that a run takes, of the processor and by the clock."""
+    used, begun = resource.getrusage(resource.RUSAGE_CHILDREN), time.monotonic()
+    ran = subprocess.run([FILES, "--store", f"{work}/kept", *words], input="0" * 64 + "\n" + text, text=True, stdout=subprocess.DEVNULL)
+    ended, after = time.monotonic(), resource.getrusage(resource.RUSAGE_CHILDREN)
+    if ran.returncode:
+        sys.exit(f"a run that serves nothing ended with status {ran.returncode}")
+    return 1000 * (after.ru_utime + after.ru_stime - used.ru_utime - used.ru_stime), 1000 * (ended - begun)
+
+words = ["--keep", "--pack", str(PACKS[-1])]
+whole_run("".join(f"CREATE TABLE t{n} (id INT PRIMARY KEY, v INT) CAPACITY {SLOTS};\n" for n in range(TABLES)), *words)
+kept = [whole_run("", *words) for _ in range(rounds)]
+plain = [whole_run("") for _ in range(rounds)]
+print(f"\nA run that serves nothing, with {TABLES} tables of {SLOTS:,} slots in files, {PACKS[-1]} rows in a block: milliseconds, the least of {rounds} runs.\n")
+print("| | of the processor | by the clock |")
+print("|---|---:|---:|")
+print(f"| tables are opened and closed (`--keep`) | {min(one for one, _ in kept):.1f} | {min(one for _, one in kept):.1f} |")
+print(f"| no tables | {min(one for one, _ in plain):.1f} | {min(one for _, one in plain):.1f} |")
 sys.exit(over_goal > 0)
 PY

@@ -3,7 +3,7 @@ use Rattle.std.proofs.Common.{◌≡◌, ◌≢◌, ◌⊎◌, inl, inr, zero, s
 use Rattle.std.proofs.lemmas.Bool.{cases_eq}
 use Rattle.std.proofs.lemmas.Bool.Decides.{nat_tests}
 use Rattle.ob_base.specs.declared.access.Access.{Access}
-use Rattle.ob_base.specs.declared.access.Access.TheVariants.{Make, Read, Write, Discard}
+use Rattle.ob_base.specs.declared.access.Access.TheVariants.{Make, Read, Write, Discard, Open}
 use Rattle.ob_base.specs.Accesses.{highest, AllBelow, region_of, writes, makes, number_from, nth_write}
 
 -- a read leaves the numbers
@@ -14,6 +14,7 @@ number_read n found region place q x (Make a b c ∷ rest) = number_read n found
 number_read n found region place q x (Read a b ∷ rest) = number_read n found region place q x rest
 number_read n found region place q x (Write a b ∷ rest) = number_read (n + 1) (if (a == region) && (b == place) then n + 1 else found) region place q x rest
 number_read n found region place q x (Discard a ∷ rest) = number_read n found region place q x rest
+number_read n found region place q x (Open a blocks len ∷ rest) = number_read n found region place q x rest
 
 -- a write gives its place the next number, and leaves the others
 pub number_write : (n found region place q x : ℕ) (asked : List Access) → number_from n found region place (asked ++ Write q x ∷ []) ≡ (if (q == region) && (x == place) then n + writes asked + 1 else number_from n found region place asked)
@@ -26,6 +27,7 @@ number_write n found region place q x (Write a b ∷ rest) =
     let sum : n + 1 + writes rest ≡ n + (1 + writes rest) = omega arith in
     number_write (n + 1) put region place q x rest ∙ ap (λ (k : ℕ). if (q == region) && (x == place) then k + 1 else number_from (n + 1) put region place rest) sum
 number_write n found region place q x (Discard a ∷ rest) = number_write n found region place q x rest
+number_write n found region place q x (Open a blocks len ∷ rest) = number_write n found region place q x rest
 
 pub writes_read : (q x : ℕ) (asked : List Access) → writes (asked ++ Read q x ∷ []) ≡ writes asked
 unfolding writes
@@ -34,6 +36,7 @@ writes_read q x (Make a b c ∷ rest) = writes_read q x rest
 writes_read q x (Read a b ∷ rest) = writes_read q x rest
 writes_read q x (Write a b ∷ rest) = ap (λ (n : ℕ). 1 + n) (writes_read q x rest)
 writes_read q x (Discard a ∷ rest) = writes_read q x rest
+writes_read q x (Open a blocks len ∷ rest) = writes_read q x rest
 
 pub writes_write : (q x : ℕ) (asked : List Access) → writes (asked ++ Write q x ∷ []) ≡ writes asked + 1
 unfolding writes
@@ -42,6 +45,7 @@ writes_write q x (Make a b c ∷ rest) = writes_write q x rest
 writes_write q x (Read a b ∷ rest) = writes_write q x rest
 writes_write q x (Write a b ∷ rest) = let more : 1 + (writes rest + 1) ≡ 1 + writes rest + 1 = omega arith in ap (λ (n : ℕ). 1 + n) (writes_write q x rest) ∙ more
 writes_write q x (Discard a ∷ rest) = writes_write q x rest
+writes_write q x (Open a blocks len ∷ rest) = writes_write q x rest
 
 pub number_write_here : (n found region place : ℕ) (asked : List Access) → number_from n found region place (asked ++ Write region place ∷ []) ≡ n + writes asked + 1
 number_write_here n found region place asked = number_write n found region place region place asked ∙ grind (arith, nat_tests)
@@ -68,6 +72,7 @@ number_make n found region place q x y (Make a b c ∷ rest) = number_make n fou
 number_make n found region place q x y (Read a b ∷ rest) = number_make n found region place q x y rest
 number_make n found region place q x y (Write a b ∷ rest) = number_make (n + 1) (if (a == region) && (b == place) then n + 1 else found) region place q x y rest
 number_make n found region place q x y (Discard a ∷ rest) = number_make n found region place q x y rest
+number_make n found region place q x y (Open a blocks len ∷ rest) = number_make n found region place q x y rest
 
 pub number_discard : (n found region place q : ℕ) (asked : List Access) → number_from n found region place (asked ++ Discard q ∷ []) ≡ number_from n found region place asked
 unfolding number_from
@@ -76,6 +81,16 @@ number_discard n found region place q (Make a b c ∷ rest) = number_discard n f
 number_discard n found region place q (Read a b ∷ rest) = number_discard n found region place q rest
 number_discard n found region place q (Write a b ∷ rest) = number_discard (n + 1) (if (a == region) && (b == place) then n + 1 else found) region place q rest
 number_discard n found region place q (Discard a ∷ rest) = number_discard n found region place q rest
+number_discard n found region place q (Open a blocks len ∷ rest) = number_discard n found region place q rest
+
+pub number_open : (n found region place q blocks len : ℕ) (asked : List Access) → number_from n found region place (asked ++ Open q blocks len ∷ []) ≡ number_from n found region place asked
+unfolding number_from
+number_open n found region place q x y [] = refl
+number_open n found region place q x y (Make a b c ∷ rest) = number_open n found region place q x y rest
+number_open n found region place q x y (Read a b ∷ rest) = number_open n found region place q x y rest
+number_open n found region place q x y (Write a b ∷ rest) = number_open (n + 1) (if (a == region) && (b == place) then n + 1 else found) region place q x y rest
+number_open n found region place q x y (Discard a ∷ rest) = number_open n found region place q x y rest
+number_open n found region place q x y (Open a b c ∷ rest) = number_open n found region place q x y rest
 
 pub writes_make : (q blocks len : ℕ) (asked : List Access) → writes (asked ++ Make q blocks len ∷ []) ≡ writes asked
 unfolding writes
@@ -84,6 +99,7 @@ writes_make q x y (Make a b c ∷ rest) = writes_make q x y rest
 writes_make q x y (Read a b ∷ rest) = writes_make q x y rest
 writes_make q x y (Write a b ∷ rest) = ap (λ (n : ℕ). 1 + n) (writes_make q x y rest)
 writes_make q x y (Discard a ∷ rest) = writes_make q x y rest
+writes_make q x y (Open a blocks len ∷ rest) = writes_make q x y rest
 
 pub writes_discard : (q : ℕ) (asked : List Access) → writes (asked ++ Discard q ∷ []) ≡ writes asked
 unfolding writes
@@ -92,6 +108,16 @@ writes_discard q (Make a b c ∷ rest) = writes_discard q rest
 writes_discard q (Read a b ∷ rest) = writes_discard q rest
 writes_discard q (Write a b ∷ rest) = ap (λ (n : ℕ). 1 + n) (writes_discard q rest)
 writes_discard q (Discard a ∷ rest) = writes_discard q rest
+writes_discard q (Open a blocks len ∷ rest) = writes_discard q rest
+
+pub writes_open : (q blocks len : ℕ) (asked : List Access) → writes (asked ++ Open q blocks len ∷ []) ≡ writes asked
+unfolding writes
+writes_open q x y [] = refl
+writes_open q x y (Make a b c ∷ rest) = writes_open q x y rest
+writes_open q x y (Read a b ∷ rest) = writes_open q x y rest
+writes_open q x y (Write a b ∷ rest) = ap (λ (n : ℕ). 1 + n) (writes_open q x y rest)
+writes_open q x y (Discard a ∷ rest) = writes_open q x y rest
+writes_open q x y (Open a b c ∷ rest) = writes_open q x y rest
 
 -- how many regions one more access makes
 abbrev pub made : Access → ℕ
@@ -99,6 +125,7 @@ made (Make q blocks len) = 1
 made (Read q x) = 0
 made (Write q x) = 0
 made (Discard q) = 0
+made (Open q blocks len) = 0
 
 pub makes_more : (asked : List Access) (a : Access) → makes (asked ++ a ∷ []) ≡ makes asked + made a
 unfolding makes
@@ -106,10 +133,12 @@ makes_more [] (Make q blocks len) = refl
 makes_more [] (Read q x) = refl
 makes_more [] (Write q x) = refl
 makes_more [] (Discard q) = refl
+makes_more [] (Open q blocks len) = refl
 makes_more (Make q blocks len ∷ rest) a = omega (arith, makes_more rest a)
 makes_more (Read q x ∷ rest) a = makes_more rest a
 makes_more (Write q x ∷ rest) a = makes_more rest a
 makes_more (Discard q ∷ rest) a = makes_more rest a
+makes_more (Open q blocks len ∷ rest) a = makes_more rest a
 
 -- the region of an access
 pub below_more : (n : ℕ) (asked : List Access) (a : Access) → AllBelow n asked → region_of a < n → AllBelow n (asked ++ a ∷ [])
@@ -117,10 +146,12 @@ below_more n [] (Make q blocks len) all h = (h, tt)
 below_more n [] (Read q x) all h = (h, tt)
 below_more n [] (Write q x) all h = (h, tt)
 below_more n [] (Discard q) all h = (h, tt)
+below_more n [] (Open q blocks len) all h = (h, tt)
 below_more n (Make q blocks len ∷ rest) a all h = (all.0, below_more n rest a all.1 h)
 below_more n (Read q x ∷ rest) a all h = (all.0, below_more n rest a all.1 h)
 below_more n (Write q x ∷ rest) a all h = (all.0, below_more n rest a all.1 h)
 below_more n (Discard q ∷ rest) a all h = (all.0, below_more n rest a all.1 h)
+below_more n (Open q blocks len ∷ rest) a all h = (all.0, below_more n rest a all.1 h)
 
 pub below_up : (n m : ℕ) (asked : List Access) → n ≤ m → AllBelow n asked → AllBelow m asked
 below_up n m [] le all = tt
@@ -128,6 +159,7 @@ below_up n m (Make q blocks len ∷ rest) le all = (omega (arith, all.0), below_
 below_up n m (Read q x ∷ rest) le all = (omega (arith, all.0), below_up n m rest le all.1)
 below_up n m (Write q x ∷ rest) le all = (omega (arith, all.0), below_up n m rest le all.1)
 below_up n m (Discard q ∷ rest) le all = (omega (arith, all.0), below_up n m rest le all.1)
+below_up n m (Open q blocks len ∷ rest) le all = (omega (arith, all.0), below_up n m rest le all.1)
 
 pub highest_below : (n : ℕ) (asked : List Access) → 1 ≤ n → AllBelow n asked → highest asked < n
 highest_below n [] one all = one
@@ -135,6 +167,7 @@ highest_below n (Make q blocks len ∷ rest) one all = omega (arith, all.0, high
 highest_below n (Read q x ∷ rest) one all = highest_below n rest one all.1
 highest_below n (Write q x ∷ rest) one all = highest_below n rest one all.1
 highest_below n (Discard q ∷ rest) one all = highest_below n rest one all.1
+highest_below n (Open q blocks len ∷ rest) one all = highest_below n rest one all.1
 
 -- no place of a region above all was written
 pub number_fresh : (n found region place : ℕ) (asked : List Access) → AllBelow region asked → number_from n found region place asked ≡ found
@@ -143,6 +176,7 @@ number_fresh n found region place [] all = refl
 number_fresh n found region place (Make q blocks len ∷ rest) all = number_fresh n found region place rest all.1
 number_fresh n found region place (Read q x ∷ rest) all = number_fresh n found region place rest all.1
 number_fresh n found region place (Discard q ∷ rest) all = number_fresh n found region place rest all.1
+number_fresh n found region place (Open q blocks len ∷ rest) all = number_fresh n found region place rest all.1
 number_fresh n found region place (Write q x ∷ rest) all =
     number_fresh (n + 1) (if (q == region) && (x == place) then n + 1 else found) region place rest all.1 ∙ off (n + 1) found (omega (arith, all.0))
   where
@@ -156,6 +190,7 @@ writes_few (Make q blocks len ∷ rest) = omega (arith, writes_few rest)
 writes_few (Read q x ∷ rest) = omega (arith, writes_few rest)
 writes_few (Write q x ∷ rest) = omega (arith, writes_few rest)
 writes_few (Discard q ∷ rest) = omega (arith, writes_few rest)
+writes_few (Open q blocks len ∷ rest) = omega (arith, writes_few rest)
 
 pub makes_few : (asked : List Access) → makes asked ≤ length asked
 unfolding makes
@@ -164,6 +199,7 @@ makes_few (Make q blocks len ∷ rest) = omega (arith, makes_few rest)
 makes_few (Read q x ∷ rest) = omega (arith, makes_few rest)
 makes_few (Write q x ∷ rest) = omega (arith, makes_few rest)
 makes_few (Discard q ∷ rest) = omega (arith, makes_few rest)
+makes_few (Open q blocks len ∷ rest) = omega (arith, makes_few rest)
 
 pub went_on : (n : ℕ) (asked more : List Access) (p : ℕ × ℕ) → nth_write n asked ≡ Some p → nth_write n (asked ++ more) ≡ Some p
 unfolding nth_write
@@ -177,6 +213,7 @@ went_on n (Write q x ∷ rest) more p is = go (n == 1) (went_on (n - 1) rest mor
 went_on n (Make a b c ∷ rest) more p is = went_on n rest more p is
 went_on n (Read a b ∷ rest) more p is = went_on n rest more p is
 went_on n (Discard a ∷ rest) more p is = went_on n rest more p is
+went_on n (Open a blocks len ∷ rest) more p is = went_on n rest more p is
 
 pub went_last : (n q x : ℕ) (asked : List Access) → n ≡ writes asked + 1 → nth_write n (asked ++ Write q x ∷ []) ≡ Some (q, x)
 unfolding nth_write writes
@@ -190,6 +227,7 @@ went_last n q x (Write a b ∷ rest) is =
 went_last n q x (Make a b c ∷ rest) is = went_last n q x rest is
 went_last n q x (Read a b ∷ rest) is = went_last n q x rest is
 went_last n q x (Discard a ∷ rest) is = went_last n q x rest is
+went_last n q x (Open a blocks len ∷ rest) is = went_last n q x rest is
 
 -- the regions of two lists of accesses
 pub makes-append : (asked more : List Access) → makes (asked ++ more) ≡ makes asked + makes more
@@ -199,6 +237,7 @@ makes-append (Make q blocks len ∷ rest) more = omega (arith, makes-append rest
 makes-append (Read q x ∷ rest) more = makes-append rest more
 makes-append (Write q x ∷ rest) more = makes-append rest more
 makes-append (Discard q ∷ rest) more = makes-append rest more
+makes-append (Open q blocks len ∷ rest) more = makes-append rest more
 
 -- where a place's number is from: it was found before, or it is that of a write to the place
 abbrev pub NumberFrom : ℕ → ℕ → ℕ → ℕ → ℕ → List Access → Type 0
@@ -232,6 +271,7 @@ number_own n found region place [] = inl refl
 number_own n found region place (Make a b c ∷ rest) = number_own n found region place rest
 number_own n found region place (Read a b ∷ rest) = number_own n found region place rest
 number_own n found region place (Discard a ∷ rest) = number_own n found region place rest
+number_own n found region place (Open a blocks len ∷ rest) = number_own n found region place rest
 number_own n found region place (Write a b ∷ rest) = own_write n found region place a b rest (λ f. number_own (n + 1) f region place rest)
 
 -- the write at a position has the number of the writes before it and 1
@@ -242,6 +282,7 @@ write_named (Write a b ∷ rest) zero q x is = let r : a ≡ q = cc is in let p 
 write_named (Make a b c ∷ rest) zero q x is = absurd (cc is)
 write_named (Read a b ∷ rest) zero q x is = absurd (cc is)
 write_named (Discard a ∷ rest) zero q x is = absurd (cc is)
+write_named (Open a blocks len ∷ rest) zero q x is = absurd (cc is)
 write_named (Write a b ∷ rest) (suc i) q x is =
     let n = writes (take i rest) in
     let later : (1 + n + 1 == 1) ≡ false = grind (arith, nat_tests) in
@@ -250,6 +291,7 @@ write_named (Write a b ∷ rest) (suc i) q x is =
 write_named (Make a b c ∷ rest) (suc i) q x is = write_named rest i q x is
 write_named (Read a b ∷ rest) (suc i) q x is = write_named rest i q x is
 write_named (Discard a ∷ rest) (suc i) q x is = write_named rest i q x is
+write_named (Open a blocks len ∷ rest) (suc i) q x is = write_named rest i q x is
 
 some_before : (a : Access) (rest : List Access) (j q x : ℕ) → a ≡ Write q x → 0 ≡ writes (take (suc j) (a ∷ rest)) → ⊥
 unfolding writes
@@ -257,6 +299,7 @@ some_before (Write a b) rest j q x is none = omega (arith, none)
 some_before (Make a b c) rest j q x is none = cc is
 some_before (Read a b) rest j q x is none = cc is
 some_before (Discard a) rest j q x is none = cc is
+some_before (Open a blocks len) rest j q x is none = cc is
 
 one_less : (a : Access) (xs ys : List Access) → writes (a ∷ xs) ≡ writes (a ∷ ys) → writes xs ≡ writes ys
 unfolding writes
@@ -264,6 +307,7 @@ one_less (Write a b) xs ys same = omega (arith, same)
 one_less (Make a b c) xs ys same = same
 one_less (Read a b) xs ys same = same
 one_less (Discard a) xs ys same = same
+one_less (Open a blocks len) xs ys same = same
 
 -- no two writes have as many before them
 pub write_apart : (asked : List Access) (i j q x r y : ℕ) → slice_get asked i ≡ Some (Write q x) → slice_get asked j ≡ Some (Write r y) → writes (take i asked) ≡ writes (take j asked) → i ≡ j

@@ -8,4 +8,6 @@ pub enum Access {
     Read { region: u64, place: u32 },
     Write { region: u64, place: u32 },
     Discard { region: u64 },
+    /// A region of an earlier run is asked for.
+    Open { region: u64, blocks: u32, len: u32 },
 }

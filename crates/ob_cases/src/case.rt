@@ -1,8 +1,15 @@
 //! A case as its file spells it: what is typed, and what must come of it.
+ghost use Rattle.std.specs.Prelude.{◌≤◌, IfOk};
+ghost use Rattle.ob_reopen.specs.Keepers.{IsMark};
+
+use ob_base::Mark;
 use std::alloc::{AllocError, AllocFailed, Global};
 
 /// The first line of an input where a case names none: a secret of zeros.
 pub const SECRET: &str = "0000000000000000000000000000000000000000000000000000000000000000";
+
+/// The greatest number of a region, or of a write, that a mark may have.
+const MOST: u64 = 9_223_372_036_854_775_807;
 
 /// What may differ from what a case wants.
 #[derive(Clone, Copy, Debug, PartialEq, Eq)]
@@ -11,6 +18,7 @@ pub enum Part {
     Accesses,
     Total,
     Status,
+    Mark,
 }
 
 impl Part {
@@ -21,6 +29,7 @@ impl Part {
             Part::Accesses => "accesses",
             Part::Total => "total",
             Part::Status => "status",
+            Part::Mark => "mark",
         }
     }
 
@@ -31,18 +40,20 @@ impl Part {
             "accesses" => Some(Part::Accesses),
             "total" => Some(Part::Total),
             "status" => Some(Part::Status),
+            "mark" => Some(Part::Mark),
             _ => None,
         }
     }
 }
 
-/// A session, and what it must answer, ask and end with.
+/// One run: what is typed, and what it must answer, ask and end with.
 #[derive(Drop)]
-pub struct Case {
-    pub name: String,
+pub struct Run {
     pub words: Vec<String>,
     /// The input, from its first byte.
     pub input: Vec<u8>,
+    /// What others do to the store, as `--meddle` spells it.
+    pub changes: Option<String>,
     /// What is answered, line by line; without one it isn't looked at.
     pub answers: Option<Vec<u8>>,
     /// The accesses, one a line, as the trace has them; a line that is a number stands for so many of any
@@ -50,6 +61,20 @@ pub struct Case {
     pub accesses: Option<Vec<u8>>,
     pub total: Option<u64>,
     pub status: u64,
+    /// The mark that the keeper holds afterwards; without one it isn't looked at.
+    pub mark: Option<Mark>,
+}
+
+/// A session; or runs over one store, each over what the one before it left, with a keeper.
+#[derive(Drop)]
+pub struct Case {
+    pub name: String,
+    /// The mark that the keeper holds before the first run, where there is one: without it a single run is served over
+    /// a store that its words have changed.
+    pub keeper: Option<String>,
+    /// The numbers of the keeper's calls that fail, over all runs. To look at the mark behind a run is a call.
+    pub faults: Vec<u64>,
+    pub runs: Vec<Run>,
     /// Whether the rows of an answer may come in any order.
     pub unordered: bool,
     /// What has to differ: this case wants something wrong, to show that it is noticed.
@@ -82,27 +107,31 @@ impl From<AllocFailed<u8>> for LineErr {
     }
 }
 
-impl Case {
-    /// A case of this name that types nothing and wants nothing.
-    pub fn new(alloc: Global, name: &str) -> Result<Case, LineErr> {
+impl From<AllocFailed<u64>> for LineErr {
+    fn from(_error: AllocFailed<u64>) -> LineErr {
+        LineErr::NoMemory
+    }
+}
+
+impl Run {
+    // A run that types nothing and wants nothing.
+    fn new(alloc: Global) -> Result<Run, LineErr> {
         let mut input = Vec::new(alloc);
         push_line(&mut input, SECRET)?;
-        Ok(Case {
-            name: String::from_str(alloc, name)?,
+        Ok(Run {
             words: Vec::new(alloc),
             input,
+            changes: None,
             answers: None,
             accesses: None,
             total: None,
             status: 0,
-            unordered: false,
-            differs: None,
+            mark: None,
         })
     }
 
-    /// Takes the next line of its file.
-    pub fn take(&mut self, alloc: Global, line: &str) -> Result<(), LineErr> {
-        let (head, rest) = line.split_once(' ').unwrap_or((line, ""));
+    // Takes a line of its own.
+    fn take(&mut self, alloc: Global, head: &str, rest: &str) -> Result<(), LineErr> {
         match head {
             "words" => self.take_words(alloc, rest),
             "key" => {
@@ -115,6 +144,10 @@ impl Case {
                 self.input.truncate(number(rest)? as usize);
                 Ok(())
             }
+            "changes" => {
+                self.changes = Some(String::from_str(alloc, rest)?);
+                Ok(())
+            }
             "<" => self.take_answer(alloc, rest),
             "@" => self.take_accesses(alloc, rest),
             "total" => {
@@ -125,17 +158,10 @@ impl Case {
                 self.status = number(rest)?;
                 Ok(())
             }
-            "unordered" => {
-                self.unordered = true;
+            "mark" => {
+                self.mark = Some(mark_of(rest)?);
                 Ok(())
             }
-            "differs" => match Part::of_word(rest) {
-                Some(part) => {
-                    self.differs = Some(part);
-                    Ok(())
-                }
-                None => Err(LineErr::Form),
-            },
             _ => Err(LineErr::Form),
         }
     }
@@ -180,6 +206,118 @@ impl Case {
         }
         self.accesses = Some(all);
         Ok(())
+    }
+}
+
+impl Case {
+    /// A case of this name, of one run that types nothing and wants nothing.
+    pub fn new(alloc: Global, name: &str) -> Result<Case, LineErr> {
+        let mut runs = Vec::new(alloc);
+        let run = Run::new(alloc)?;
+        if runs.push(run).is_err() {
+            return Err(LineErr::NoMemory);
+        }
+        Ok(Case {
+            name: String::from_str(alloc, name)?,
+            keeper: None,
+            faults: Vec::new(alloc),
+            runs,
+            unordered: false,
+            differs: None,
+        })
+    }
+
+    /// Takes the next line of its file.
+    pub fn take(&mut self, alloc: Global, line: &str) -> Result<(), LineErr> {
+        let (head, rest) = line.split_once(' ').unwrap_or((line, ""));
+        match head {
+            "keeper" => {
+                self.keeper = Some(String::from_str(alloc, rest)?);
+                Ok(())
+            }
+            "faults" => self.take_faults(rest),
+            "then" => {
+                let run = Run::new(alloc)?;
+                match self.runs.push(run) {
+                    Ok(()) => Ok(()),
+                    Err(_) => Err(LineErr::NoMemory),
+                }
+            }
+            "unordered" => {
+                self.unordered = true;
+                Ok(())
+            }
+            "differs" => match Part::of_word(rest) {
+                Some(part) => {
+                    self.differs = Some(part);
+                    Ok(())
+                }
+                None => Err(LineErr::Form),
+            },
+            _ => match self.runs.last_mut() {
+                Some(run) => run.take(alloc, head, rest),
+                None => Err(LineErr::Form),
+            },
+        }
+    }
+
+    // Numbers of calls, parted by commas.
+    fn take_faults(&mut self, rest: &str) -> Result<(), LineErr> {
+        for call in rest.split(',') {
+            let call = number(call.trim())?;
+            self.faults.push(call)?;
+        }
+        Ok(())
+    }
+}
+
+/// The mark that a text spells: `fresh`, `in use`, or `closed REGION BLOCKS NUMBER PACK`.
+pub fn mark_of(text: &str) -> Result<Mark, LineErr>
+    ensures { IfOk result IsMark }
+{
+    match text {
+        "fresh" => Ok(Mark::Fresh),
+        "in use" => Ok(Mark::InUse),
+        _ => closed_of(text),
+    }
+}
+
+// The mark of a closing, in whose numbers there is one.
+fn closed_of(text: &str) -> Result<Mark, LineErr>
+    ensures { IfOk result IsMark }
+{
+    let Some((head, rest)) = text.split_once(' ') else {
+        return Err(LineErr::Form);
+    };
+    let Some((region, rest)) = rest.split_once(' ') else {
+        return Err(LineErr::Form);
+    };
+    let Some((blocks, rest)) = rest.split_once(' ') else {
+        return Err(LineErr::Form);
+    };
+    let Some((first, pack)) = rest.split_once(' ') else {
+        return Err(LineErr::Form);
+    };
+    if head != "closed" {
+        return Err(LineErr::Form);
+    }
+    Ok(Mark::Closed {
+        region: number_to(region, MOST)?,
+        blocks: number_to(blocks, 65)? as u32,
+        number: number_to(first, MOST)?,
+        pack: number_to(pack, 16)? as u8,
+    })
+}
+
+// A number from 1 to this one.
+fn number_to(text: &str, most: u64) -> Result<u64, LineErr>
+    ensures { IfOk result (λ n. (1 ≤ n) × (n ≤ most)) }
+{
+    let n = number(text)?;
+    if 1 <= n && n <= most {
+        Ok(n)
+    } else {
+        Err(LineErr::Form)
     }
 }
 

@@ -1,20 +1,28 @@
-//! What came of a case, beside what was wanted.
-use crate::case::{Case, LineErr, Part};
+//! What came of a run, beside what was wanted.
+use crate::case::{LineErr, Part, Run};
+use ob_base::Mark;
 use std::alloc::{AllocError, Global};
 
-/// What came of a session.
+/// What came of a run.
 #[derive(Clone, Copy)]
 pub struct Came<'a> {
     pub answers: &'a [u8],
     /// The accesses, one a line.
     pub trace: &'a [u8],
     pub status: u8,
+    /// The mark that the keeper holds, where there is a keeper and it told.
+    pub mark: Option<Mark>,
 }
 
-/// The first part in which what came is other than what a case wants.
-pub fn difference(alloc: Global, case: &Case, came: &Came) -> Result<Option<Part>, LineErr> {
-    let answered = match &case.answers {
-        Some(wanted) if case.unordered => {
+/// The first part in which what came is other than what a run wants, whose rows may come in any order or may not.
+pub fn difference(
+    alloc: Global,
+    run: &Run,
+    unordered: bool,
+    came: &Came,
+) -> Result<Option<Part>, LineErr> {
+    let answered = match &run.answers {
+        Some(wanted) if unordered => {
             ordered(alloc, wanted.as_slice())? == ordered(alloc, came.answers)?
         }
         Some(wanted) => wanted.as_slice() == came.answers,
@@ -23,21 +31,24 @@ pub fn difference(alloc: Global, case: &Case, came: &Came) -> Result<Option<Part
     if !answered {
         return Ok(Some(Part::Answers));
     }
-    let traced = match &case.accesses {
+    let traced = match &run.accesses {
         Some(wanted) => is_traced(wanted.as_slice(), came.trace),
         None => true,
     };
     if !traced {
         return Ok(Some(Part::Accesses));
     }
-    if case
+    if run
         .total
         .is_some_and(|total| total != lines_in(came.trace))
     {
         return Ok(Some(Part::Total));
     }
-    if case.status != u64::from(came.status) {
+    if run.status != u64::from(came.status) {
         return Ok(Some(Part::Status));
+    }
+    if run.mark.is_some() && run.mark != came.mark {
+        return Ok(Some(Part::Mark));
     }
     Ok(None)
 }

@@ -3,6 +3,7 @@ ghost use Rattle.ob_base.specs.Schemas.{Columns, width};
 ghost use Rattle.ob_row.specs.Rows.{Row};
 ghost use Rattle.ob_row.specs.Slots.{Slots};
 ghost use Rattle.ob_row.specs.Spelling.{Begins};
+ghost use Rattle.ob_vault.specs.Numbers.{spent};
 ghost use Rattle.ob_vault.specs.Places.{at};
 ghost use Rattle.ob_vault.specs.Rows.{SameSizes, Wide};
 ghost use Rattle.ob_flat.specs.Slots.{Spelt, AreSlots};
@@ -79,7 +80,7 @@ pub(crate) fn put_row<S: BlockStore, R: Revisions>(
     i: u32,
 ) -> Result<(), OpErr>
     requires spare { HasSpare 2 (at R.state vault.old (S.state store.old)) }
-    requires few { length (S.state store.old).asked + 1 < 2 ^ 63 + 2 ^ 60 }
+    requires few { spent (at R.state vault.old (S.state store.old)) + 1 < 2 ^ 63 + 2 ^ 60 }
     requires due { IsDue (length held.old) to.now i (at R.state vault.old (S.state store.old)) }
     requires fit { FitBlock to.now.schema held.old }
     requires row { SpellsSlot to.now.schema row.now }

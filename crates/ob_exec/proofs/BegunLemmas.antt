@@ -1,5 +1,5 @@
 -- The first changed block that a statement reads is one that its meaning reads.
-use Rattle.std.proofs.Common.{◌≡◌, ◌⊎◌, inl, inr, ℕ, false, List, [], ◌++◌, drop, length, Option, None, Some, Ok, Err, Result, refl, sym, ◌∙◌, ap, subst, append_assoc}
+use Rattle.std.proofs.Common.{◌≡◌, ◌⊎◌, inl, inr, ℕ, false, List, [], ◌++◌, drop, Option, None, Some, Ok, Err, Result, refl, sym, ◌∙◌, ap, subst, append_assoc}
 use Rattle.std.proofs.lemmas.List.{append-nil, take-append-drop}
 use Rattle.ob_base.specs.declared.access.Access.{Access}
 use Rattle.ob_base.specs.declared.config.Public.{Public}
@@ -26,7 +26,7 @@ use Rattle.ob_mean.specs.Lawful.{is_counted}
 use Rattle.ob_mean.specs.Verdict.{Tables, seen, ended as seen_to}
 use Rattle.ob_exec.specs.declared.engine.Engine.{Engine}
 use Rattle.ob_exec.specs.declared.outcome.Outcome.{Outcome}
-use Rattle.ob_exec.specs.Agreeing.{world_of}
+use Rattle.ob_exec.specs.Agreeing.{world_of, count_of}
 use Rattle.ob_exec.specs.Running.{Ran, RunCause}
 use Rattle.ob_exec.specs.Telling.{meant_script}
 
@@ -97,12 +97,12 @@ plain_script p (RowsStmt s) a b plain = absurd (cc plain)
 plain_script p (TotalsStmt s) a b plain = refl
 
 pub begun_plain : {R : Type 0} (state : R → RevState) (stmt : Stmt) (result : Result Outcome Stop) (old : Engine R) (s : StoreState) (new : Engine R) (t : StoreState) (tables : Tables)
-    → is_counted stmt ≡ false → Ran state (skeleton stmt) result old s new t → seen old.public (length s.asked) tables stmt ≡ seen_to Whole → s.lie ≡ None
-    → (lie : Lie) → t.lie ≡ Some lie → ReadsIn lie (s.asked ++ meant_script old.public (length s.asked) tables stmt)
+    → is_counted stmt ≡ false → Ran state (skeleton stmt) result old s new t → seen old.public (count_of old s) tables stmt ≡ seen_to Whole → s.lie ≡ None
+    → (lie : Lie) → t.lie ≡ Some lie → ReadsIn lie (s.asked ++ meant_script old.public (count_of old s) tables stmt)
 begun_plain state stmt result old s new t tables plain ran whole none lie told =
     let all = whole_script old.public (skeleton stmt) new.seen in
     let part = until_part new.seen.end all in
-    let meant : meant_script old.public (length s.asked) tables stmt ≡ all = ap (script old.public (skeleton stmt)) whole ∙ plain_script old.public stmt (seen_to Whole) new.seen plain in
-    reads_on lie t.asked part.0 (s.asked ++ meant_script old.public (length s.asked) tables stmt)
+    let meant : meant_script old.public (count_of old s) tables stmt ≡ all = ap (script old.public (skeleton stmt)) whole ∙ plain_script old.public stmt (seen_to Whole) new.seen plain in
+    reads_on lie t.asked part.0 (s.asked ++ meant_script old.public (count_of old s) tables stmt)
     (ap (λ (l : List Access). s.asked ++ l) (meant ∙ sym part.1) ∙ sym (append_assoc s.asked (until_end new.seen.end all) part.0) ∙ ap (λ (l : List Access). l ++ part.0) (sym ran.asked))
     (run_reads result (world_of state old s) (world_of state new t) lie ran.cause none told)

@@ -1,10 +1,12 @@
 -- CREATE TABLE, after its pass.
+use Rattle.std.proofs.lemmas.Bool.{le-leb}
+use Rattle.std.proofs.lemmas.Bool.Decides.{nat_tests}
 use Rattle.std.proofs.lemmas.List.{length-map}
-use Rattle.std.proofs.lemmas.List.Elements.{All-map}
-use Rattle.std.proofs.Common.{◌≡◌, ◌-◌, ◌*◌, ℕ, zero, suc, false, List, [], ◌∷◌, ◌++◌, length, Some, Ok, Err, Result, OnOk, refl, sym, ◌∙◌, ap, subst, arith}
-use Rattle.std.specs.List.{All}
-use Rattle.std.specs.Result.{is_err}
-use Rattle.std.specs.Prelude.{◌<◌, ◌≤◌, max, Bool, IsTrue, Option, None, MatchOption, map, bytes_eq}
+use Rattle.std.proofs.lemmas.List.Elements.{All-map, All-head, All-tail}
+use Rattle.std.proofs.lemmas.List.Sums.{sum_by-cons}
+use Rattle.std.proofs.Common.{◌≡◌, ◌-◌, ◌*◌, ℕ, zero, suc, cond, true, false, List, [], ◌∷◌, ◌++◌, length, Some, Ok, Err, Result, refl, sym, ◌∙◌, ap, subst, arith}
+use Rattle.std.specs.List.{All, list_all, list_any}
+use Rattle.std.specs.Prelude.{◌<◌, ◌≤◌, ◌&&◌, max, Bool, IsTrue, Option, None, MatchOption, count_by, map, nat_lt, not, sum_by, bytes_eq}
 use Rattle.std.proofs.lemmas.Slice.Eq.{bytes_eq-Decides}
 use Rattle.std.proofs.lemmas.Bool.{cases_eq}
 use Rattle.ob_base.specs.declared.access.Access.{Access}
@@ -16,10 +18,12 @@ use Rattle.ob_base.specs.declared.schema.Table.{Table}
 use Rattle.ob_base.specs.declared.seen.End.{End}
 use Rattle.ob_base.specs.declared.seen.End.TheVariants.{Whole, Cut}
 use Rattle.ob_base.specs.declared.skeleton.NewColumn.{NewColumn}
+use Rattle.ob_base.specs.declared.skeleton.NewKind.{NewKind}
+use Rattle.ob_base.specs.declared.skeleton.NewKind.TheVariants.{Int as NewInt, Varchar as NewVarchar}
 use Rattle.ob_base.specs.declared.skeleton.Skeleton.TheVariants.{Create}
 use Rattle.ob_base.specs.Lists.{has_repeats}
 use Rattle.ob_base.specs.Numbers.{blocks_for}
-use Rattle.ob_base.specs.Schemas.{Columns, width, new_column, columns_of}
+use Rattle.ob_base.specs.Schemas.{Columns, width, kind_of, new_column, columns_of}
 use Rattle.ob_base.specs.Stored.{has_table}
 use Rattle.ob_room.specs.RoomState.{RoomState}
 use Rattle.ob_blocks.specs.Idle.{IsIdle}
@@ -29,11 +33,12 @@ use Rattle.ob_vault.specs.State.{RevState, World}
 use Rattle.ob_vault.specs.declared.vault.Vault.{Vault}
 use Rattle.ob_vault.specs.Places.{at}
 use Rattle.ob_vault.specs.Calls.{Went, one}
+use Rattle.ob_vault.specs.Tied.{Lives}
 use Rattle.ob_vault.proofs.Runs.{went_join}
 use Rattle.ob_script.specs.Parts.{create_part}
 use Rattle.ob_script.specs.Script.{whole_script}
 use Rattle.ob_flat.specs.declared.fault.OpErr.{OpErr}
-use Rattle.ob_flat.specs.Flats.{IsFlat, IsSized, Represents as FlatRepresents}
+use Rattle.ob_flat.specs.Flats.{IsFlat, IsSized, Represents as FlatRepresents, table_region}
 use Rattle.ob_flat.specs.declared.flat.Flat.{Flat}
 use Rattle.ob_flat.specs.Creates.{Creates, table_of}
 use Rattle.ob_flat.specs.Words.{SealsTable}
@@ -41,6 +46,7 @@ use Rattle.ob_vault.specs.declared.region.Order.TheVariants.{Round}
 use Rattle.ob_row.specs.Slots.{empty_slots}
 use Rattle.ob_sql.specs.declared.stmt.Stmt.TheVariants.{Create as CreateStmt}
 use Rattle.ob_base.specs.Stored.{headings_of}
+use Rattle.ob_mean.specs.Refusals.{is_size}
 use Rattle.ob_mean.specs.Step.{accepted_answer, answered as answered_by, followed}
 use Rattle.ob_mean.specs.Settle.{settle, settled}
 use Rattle.ob_mean.specs.Verdict.{Tables, database, is_late, refusal, ended as seen_to}
@@ -49,9 +55,9 @@ use Rattle.ob_mean.proofs.VerdictLemmas.{refused_late}
 use Rattle.ob_exec.specs.declared.engine.Engine.{Engine}
 use Rattle.ob_exec.specs.declared.outcome.Outcome.{Outcome}
 use Rattle.ob_exec.specs.declared.outcome.Outcome.TheVariants.{Created}
-use Rattle.ob_exec.specs.Schemas.{IsStored}
+use Rattle.ob_reopen.specs.Limits.{IsHeading, IsStored, is_column, is_kind}
 use Rattle.ob_exec.specs.Engines.{IsAt, IsTable}
-use Rattle.ob_exec.specs.Agreeing.{Agrees, world_of}
+use Rattle.ob_exec.specs.Agreeing.{Agrees, world_of, count_of}
 use Rattle.ob_exec.specs.Running.{answer_of, is_stop, refusal_now}
 use Rattle.ob_exec.specs.Serving.{ServesSilently}
 use Rattle.ob_exec.specs.Telling.{AreHeld, Represents, outcome_of}
@@ -62,11 +68,6 @@ use Rattle.ob_exec.proofs.SilentLemmas.{cut_off, finished, serves_as}
 use Rattle.ob_exec.proofs.ToldLemmas.{early_held, fault_made, silent_fault}
 use Rattle.ob_vault.proofs.WordLemmas.{went_rests}
 use Rattle.ob_exec.proofs.RunLemmas.{IsAnswered, early_few, engine_after, ran_done}
-
--- what holds at an `Ok`, where there is no `Err`
-pub at_ok : {T E : Type 0} (r : Result T E) (P : Type 0) → is_err r ≡ false → OnOk r P → P
-at_ok (Ok x) P ok h = h
-at_ok (Err e) P ok h = absurd (cc ok)
 
 -- ---- what is known of a CREATE that is not refused early
 named_alike : (table : List ℕ) (columns : List NewColumn) → map (λ (c : Column). c.name) (columns_of table columns) ≡ map (λ (c : NewColumn). c.name) columns
@@ -85,6 +86,45 @@ no_table name (x ∷ xs) zero t none is =
     absurd (cc (hit, (neither (bytes_eq x.heading.name name) _ none).0))
 no_table name (x ∷ xs) (suc i) t none is = no_table name xs i t (neither (bytes_eq x.heading.name name) _ none).1 (record { get = is.get; named = is.named })
 
+-- each column of a new table is within its limits
+kind_within : (kind : NewKind) → is_size kind ≡ true → is_kind (kind_of kind) ≡ true
+kind_within NewInt sized = refl
+kind_within (NewVarchar n) sized = sized
+
+column_within : (table : List ℕ) (c : NewColumn) → length c.name ≤ 32 → is_size c.kind ≡ true → is_column (new_column table c) ≡ true
+column_within table c short sized = ap (λ (b : Bool). b && is_kind (kind_of c.kind)) (le-leb (length c.name) 32 short) ∙ kind_within c.kind sized
+
+passes : (b : Bool) → not b ≡ false → b ≡ true
+passes true is = refl
+passes false is = absurd (cc is)
+
+abbrev pub IsShort : NewColumn → Type 0
+IsShort c = length c.name ≤ 32
+
+columns_within : (table : List ℕ) (columns : List NewColumn) → All IsShort columns → list_any (λ (c : NewColumn). not (is_size c.kind)) columns ≡ false
+    → list_all is_column (columns_of table columns) ≡ true
+columns_within table [] short sizes = refl
+columns_within table (c ∷ cs) short sizes =
+    let both = neither (not (is_size c.kind)) (list_any (λ (d : NewColumn). not (is_size d.kind)) cs) sizes in
+    ap (λ (b : Bool). b && list_all is_column (columns_of table cs)) (column_within table c (All-head IsShort c cs short) (passes (is_size c.kind) both.0))
+    ∙ columns_within table cs (All-tail IsShort c cs short) both.1
+
+-- at most one of them is the primary key
+counted_once : (n : ℕ) → cond (nat_lt 0 n) 1 0 ≤ n
+counted_once n = grind (arith, nat_tests)
+
+keys_few : (table : List ℕ) (columns : List NewColumn) → count_by (λ (c : Column). c.key) (columns_of table columns) ≤ sum_by (λ (c : NewColumn). c.keys) columns
+keys_few table [] = omega (arith)
+keys_few table (c ∷ cs) =
+    let first = sum_by-cons (λ (d : Column). cond d.key 1 0) (new_column table c) (columns_of table cs) in
+    let written = sum_by-cons (λ (d : NewColumn). d.keys) c cs in
+    let rest = keys_few table cs in
+    let one = counted_once c.keys in
+    omega (arith, first, written, rest, one)
+
+at_most_one : (n : ℕ) → nat_lt 1 n ≡ false → n ≤ 1
+at_most_one n is = grind (arith, nat_tests)
+
 module _ (p : Public) (m : ℕ) (table : List ℕ) (columns : List NewColumn) (capacity : ℕ) (now : refusal_now p m (CreateStmt table columns capacity) ≡ None) where
   pub new_stored : IsStored (record { name = table; schema = columns_of table columns; capacity = capacity })
   new_stored =
@@ -101,6 +141,17 @@ module _ (p : Public) (m : ℕ) (table : List ℕ) (columns : List NewColumn) (c
         table = names_table table columns;
       }
 
+  pub new_heading : length table ≤ 32 → All IsShort columns → IsHeading (record { name = table; schema = columns_of table columns; capacity = capacity })
+  new_heading short names =
+      let free = allowed (is_late m) p.pack p.buffer (headings_of p.tables) (CreateStmt table columns capacity) now in
+      let size = within (headings_of p.tables) table columns capacity free.limits in
+      record {
+        stored = new_stored;
+        name = short;
+        columns = columns_within table columns names size.sizes;
+        keys = let few = keys_few table columns in let one = at_most_one (sum_by (λ (c : NewColumn). c.keys) columns) free.keys in omega (arith, few, one);
+      }
+
   pub new_name : (i : ℕ) (t : Table) → IsAt table i t p.tables → ⊥
   new_name i t is =
       let free = allowed (is_late m) p.pack p.buffer (headings_of p.tables) (CreateStmt table columns capacity) now in
@@ -108,6 +159,9 @@ module _ (p : Public) (m : ℕ) (table : List ℕ) (columns : List NewColumn) (c
 
   pub new_within : IsWithin (headings_of p.tables) table columns capacity
   new_within = within (headings_of p.tables) table columns capacity (allowed (is_late m) p.pack p.buffer (headings_of p.tables) (CreateStmt table columns capacity) now).limits
+
+  pub new_place : length p.tables < 64
+  new_place = let fewer = new_within.tables in let same = length-map p.tables (λ (t : Table). t.heading) in omega (arith, fewer, same)
 
   pub new_few : length columns ≤ 32
   new_few = let few = new_within.few in omega (arith, few)
@@ -131,7 +185,7 @@ module _ (p : Public) (m : ℕ) (table : List ℕ) (columns : List NewColumn) (c
 module _ {R : Type 0} (state : R → RevState) (old : Engine R) (s s1 : StoreState) (v : Vault R) (room : RoomState) (t : StoreState)
     (table : List ℕ) (columns : List NewColumn) (schema : Columns) (capacity : ℕ)
     (agrees : Agrees state old s) (rests : Rests s s1) (room_is : room ≡ record old.room { high = max old.room.high old.room.pack }) (schema_is : schema ≡ columns_of table columns)
-    (now : refusal_now old.public (length s.asked) (CreateStmt table columns capacity) ≡ None) where
+    (now : refusal_now old.public (count_of old s) (CreateStmt table columns capacity) ≡ None) where
   abbrev before : World
   before = at state old.vault s1
 
@@ -147,34 +201,38 @@ module _ {R : Type 0} (state : R → RevState) (old : Engine R) (s s1 : StoreSta
   abbrev new_table : Table
   new_table = record { heading = record { name = table; schema = schema; capacity = capacity }; region = old.public.next_region }
 
-  stored : IsStored new_table.heading
-  stored =
-      subst (λ (cs : Columns). IsStored (record { name = table; schema = cs; capacity = capacity })) (sym schema_is)
-      (new_stored old.public (length s.asked) table columns capacity now)
+  heading_is : length table ≤ 32 → All IsShort columns → IsHeading new_table.heading
+  heading_is short names =
+      subst (λ (cs : Columns). IsHeading (record { name = table; schema = cs; capacity = capacity })) (sym schema_is)
+      (new_heading old.public (count_of old s) table columns capacity now short names)
 
   abbrev fresh : Flat
   fresh = table_of schema capacity old.vault.next
 
-  no_refusal : (tables : Tables) → Represents state old s tables → refusal old.public (length s.asked) tables (CreateStmt table columns capacity) ≡ None
+  no_refusal : (tables : Tables) → Represents state old s tables → refusal old.public (count_of old s) tables (CreateStmt table columns capacity) ≡ None
   no_refusal tables held =
-      refused_late old.public (length s.asked) tables (CreateStmt table columns capacity) (early_held old.public (length s.asked) (CreateStmt table columns capacity) tables (world_of state old s) None held.held now)
+      refused_late old.public (count_of old s) tables (CreateStmt table columns capacity) (early_held old.public (count_of old s) (CreateStmt table columns capacity) tables (world_of state old s) None held.held now)
 
-  made : Went part (one old.vault.next) before done → IsFlat old.room.pack fresh done → (IsTrue s.tells → FlatRepresents old.room.pack fresh (empty_slots capacity) done)
+  made : length table ≤ 32 → All IsShort columns → Went part (one old.vault.next) before done → IsFlat old.room.pack fresh done
+      → Lives old.vault.next (table_region Round old.room.pack schema capacity) done → (IsTrue s.tells → FlatRepresents old.room.pack fresh (empty_slots capacity) done)
       → SealsTable old.room.pack schema old.vault.next before done → old.ended ≡ false
       → ServesSilently state (CreateStmt table columns capacity) (Ok Created) old s (engine_after old v room (old.public.tables ++ new_table ∷ []) Whole old.ended) t
-  made went flat told seals lives =
+  made short names went flat round told seals lives =
       let stmt = CreateStmt table columns capacity in
       let all = went_join (one old.vault.next) _ _ _ [] part (went_rests _ s s1 rests (one old.vault.next) agrees.ready) went in
       let is_table : IsTable old.public.pack new_table done = record {
-        stored = stored;
+        heading = heading_is short names;
+        least = let number = agrees.ready.tied.next in let same = agrees.next in omega (arith, number, same);
         flat = subst (λ (g : ℕ). IsFlat old.public.pack (table_of schema capacity g) done) (sym agrees.next) (subst (λ (k : ℕ). IsFlat k fresh done) agrees.room.pack flat);
+        round = record { live = ap (state v.revs).live agrees.next ∙ round.live ∙ (λ i. Some (table_region Round (agrees.room.pack i) schema capacity)) };
       } in
       let answered : IsAnswered Created = record { whole = λ n. refl; own = refl } in
-      let unnamed = new_name old.public (length s.asked) table columns capacity now in
+      let unnamed = new_name old.public (count_of old s) table columns capacity now in
       let ran = ran_done state (Create table columns capacity) old s v room t agrees room_is (one old.vault.next)
       (old.public.tables ++ new_table ∷ []) part Created lives answered all (script_is Whole)
       (ap (λ (c : Columns). old.public.tables ++ record { heading = record { name = table; schema = c; capacity = capacity }; region = old.public.next_region } ∷ []) schema_is)
-      (tables_added old.public.pack old.vault.next old.public.tables new_table _ _ all.lasts agrees.ready refl agrees.tables agrees.next is_table
+      (tables_added old.public.pack old.vault.next old.public.tables old.closing new_table _ _ all.lasts agrees.ready refl agrees.tables
+      (new_place old.public (count_of old s) table columns capacity now) agrees.next is_table
       (λ i u is same. unnamed i u (record { get = is; named = same })) (λ q. cases_eq q old.vault.next)) in
       finished state stmt old s agrees now refl v room t (old.public.tables ++ new_table ∷ []) Created answered tt ran
       (keeps_pass state old s s1 rests agrees (engine_after old v room (old.public.tables ++ new_table ∷ []) Whole old.ended) t done refl (λ good accepts. seals.seals good (accepts _ _)))
@@ -185,7 +243,7 @@ module _ {R : Type 0} (state : R → RevState) (old : Engine R) (s s1 : StoreSta
       let kept = held_kept (one old.vault.next) old.public.pack old.public.tables tables _ _ all.lasts
       (λ i u here same. let less = region_below old.public.pack i old.public.tables u _ agrees.ready agrees.tables here in omega (arith, less, same)) reads.held.held in
       let added = held_added old.public.pack old.public.tables tables new_table (empty_slots capacity) done kept slots in
-      let settles : settle old.public (length s.asked) tables stmt ≡ tables ++ record { heading = new_table.heading; held = empty_slots capacity } ∷ [] =
+      let settles : settle old.public (count_of old s) tables stmt ≡ tables ++ record { heading = new_table.heading; held = empty_slots capacity } ∷ [] =
       ap (λ (o : Option Refusal). followed o (settled tables stmt) tables) none
       ∙ (λ i. tables ++ record { heading = record { name = table; schema = sym schema_is i; capacity = capacity }; held = empty_slots capacity } ∷ []) in (
         sym (ap (λ (o : Option Refusal). outcome_of stmt (answered_by o (accepted_answer (database tables) stmt))) none),
@@ -193,12 +251,12 @@ module _ {R : Type 0} (state : R → RevState) (old : Engine R) (s s1 : StoreSta
       ))
 
   -- the table was made
-  pub created : (flat : Flat) (new : Engine R) (result : Result Outcome Stop) → Creates Round old.room.pack fresh (Ok flat) before done → old.ended ≡ false
+  pub created : length table ≤ 32 → All IsShort columns → (flat : Flat) (new : Engine R) (result : Result Outcome Stop) → Creates Round old.room.pack fresh (Ok flat) before done → old.ended ≡ false
       → result ≡ Ok Created → new ≡ engine_after old v room (old.public.tables ++ new_table ∷ []) Whole old.ended → ServesSilently state (CreateStmt table columns capacity) result old s new t
-  created flat new result creates lives answered is =
+  created short names flat new result creates lives answered is =
       serves_as state (CreateStmt table columns capacity) old s t _ _ _ _ answered is
-      (made creates.ran.ok (subst (λ (f : Flat). IsFlat old.room.pack f done) creates.makes.value creates.makes.flat)
-      (λ tells. subst (λ (f : Flat). FlatRepresents old.room.pack f (empty_slots capacity) done) creates.makes.value (creates.told (subst (λ (b : Bool). IsTrue b) (sym rests.tells) tells)))
+      (made short names creates.ran.ok (subst (λ (f : Flat). IsFlat old.room.pack f done) creates.makes.value creates.makes.flat)
+      creates.makes.lives (λ tells. subst (λ (f : Flat). FlatRepresents old.room.pack f (empty_slots capacity) done) creates.makes.value (creates.told (subst (λ (b : Bool). IsTrue b) (sym rests.tells) tells)))
       creates.makes.seals lives)
 
   -- it was not

@@ -1,5 +1,5 @@
 -- DROP TABLE.
-use Rattle.std.proofs.Common.{◌≡◌, ◌⊎◌, inl, inr, ◌<◌, ℕ, zero, suc, Bool, true, false, if◌then◌else◌, List, [], ◌∷◌, length, Some, None, Option, Ok, Result, refl, sym, ◌∙◌, ap, subst, arith, slice_get}
+use Rattle.std.proofs.Common.{◌≡◌, ◌⊎◌, inl, inr, ◌<◌, ◌≤◌, ℕ, zero, suc, Bool, true, false, if◌then◌else◌, List, [], ◌∷◌, length, Some, None, Option, Ok, Result, refl, sym, ◌∙◌, ap, subst, arith, slice_get}
 use Rattle.std.specs.Prelude.{bytes_eq, filter, not}
 use Rattle.std.specs.List.{remove}
 use Rattle.std.specs.Option.{option_map_or}
@@ -37,9 +37,9 @@ use Rattle.ob_mean.proofs.VerdictLemmas.{refused_late}
 use Rattle.ob_exec.specs.declared.engine.Engine.{Engine}
 use Rattle.ob_exec.specs.declared.outcome.Outcome.{Outcome}
 use Rattle.ob_exec.specs.declared.outcome.Outcome.TheVariants.{Dropped}
-use Rattle.ob_exec.specs.Engines.{AreTables, IsAt, IsTable, flat_of}
+use Rattle.ob_exec.specs.Engines.{AreTables, IsAt, IsBeside, IsTable, IsTableRegion, flat_of}
 use Rattle.ob_exec.specs.Opening.{Opens}
-use Rattle.ob_exec.specs.Agreeing.{Agrees, world_of}
+use Rattle.ob_exec.specs.Agreeing.{Agrees, world_of, count_of}
 use Rattle.ob_exec.specs.Running.{refusal_now}
 use Rattle.ob_exec.specs.Serving.{ServesSilently}
 use Rattle.ob_exec.specs.Telling.{AreHeld, outcome_of}
@@ -47,7 +47,7 @@ use Rattle.ob_exec.proofs.HeldLemmas.{held_kept}
 use Rattle.ob_exec.proofs.RunLemmas.{IsAnswered, engine_after, ran_whole}
 use Rattle.ob_exec.proofs.SealLemmas.{keeps_pass}
 use Rattle.ob_exec.proofs.SilentLemmas.{finished, serves_as}
-use Rattle.ob_exec.proofs.TableLemmas.{AreNamed, named, stored_found, table_kept}
+use Rattle.ob_exec.proofs.TableLemmas.{AreNamed, beside_kept, named, stored_found, table_kept}
 use Rattle.ob_exec.proofs.ToldLemmas.{early_held}
 
 -- ---- a list without the element at a place
@@ -92,6 +92,12 @@ left_at (x ∷ xs) (suc i) zero y is off = (zero, is)
 left_at (x ∷ xs) (suc i) (suc k) y is off =
     let rest = left_at xs i k y is (λ same. off (ap suc same)) in (suc rest.0, rest.1)
 
+remove_few : {A : Type 0} (xs : List A) (i : ℕ) → length (remove xs i) ≤ length xs
+remove_few [] zero = omega (arith)
+remove_few [] (suc i) = omega (arith)
+remove_few (x ∷ xs) zero = omega (arith)
+remove_few (x ∷ xs) (suc i) = let rest = remove_few xs i in omega (arith, rest)
+
 -- ---- the tables without the one of a name
 no_others : (name : List ℕ) (ts : List Table) → ((j : ℕ) (u : Table) → slice_get ts j ≡ Some u → u.heading.name ≡ name → ⊥) → filter (λ (t : Table). not (bytes_eq t.heading.name name)) ts ≡ ts
 no_others name [] off = refl
@@ -124,7 +130,7 @@ removed_is name (x ∷ xs) (suc i) t names at is =
         ap (λ (ys : List Table). x ∷ ys) rest
         ∙ ap (λ (b : Bool). if not b then x ∷ filter (λ (t : Table). not (bytes_eq t.heading.name name)) xs else filter (λ (t : Table). not (bytes_eq t.heading.name name)) xs) (sym miss)
 
-module _ (pack r : ℕ) (ts : List Table) (t : Table) (i : ℕ) (old new : World) (lasts : Lasts (one r) old new) (tables : AreTables ts pack old)
+module _ (pack r : ℕ) (ts : List Table) (closing : Option ℕ) (t : Table) (i : ℕ) (old new : World) (lasts : Lasts (one r) old new) (tables : AreTables ts closing pack old)
     (at_i : slice_get ts i ≡ Some t) (region_is : t.region ≡ r) (gone : (shape : Region) → new.vault.revs.live r ≡ Some shape → ⊥) where
   elsewhere : (k : ℕ) (u : Table) → slice_get ts k ≡ Some u → (k ≡ i → ⊥) → one r u.region → ⊥
   elsewhere k u is off same = off (tables.apart k i u t is at_i (same ∙ sym region_is))
@@ -146,15 +152,34 @@ module _ (pack r : ℕ) (ts : List Table) (t : Table) (i : ℕ) (old new : World
       let b = origin ts i k v ks in
       same_origin ts i j k u v a b (tables.names a.from b.from u v a.get b.get same)
 
-  removed_only : (q : ℕ) (shape : Region) → new.vault.revs.live q ≡ Some shape → (q ≡ r) ⊎ (q ≡ r → ⊥) → (j : ℕ) × (u : Table) × (slice_get (remove ts i) j ≡ Some u) × (u.region ≡ q)
-  removed_only q shape live (inl here) = absurd (gone shape (ap new.vault.revs.live (sym here) ∙ live))
-  removed_only q shape live (inr off) =
-      let found = tables.only q shape (sym (lasts.apart.live q off) ∙ live) in
-      let left = left_at ts i found.0 found.1 found.2 (λ same. let one_table : found.1 ≡ t = cc (found.2, at_i, same) in off (sym found.3 ∙ ap (λ (x : Table). x.region) one_table ∙ region_is)) in
-      (left.0, found.1, left.1, found.3)
+  removed_beside : (q : ℕ) → closing ≡ Some q → IsBeside (remove ts i) q new
+  removed_beside q is =
+      let beside = tables.beside q is in
+      beside_kept (one r) ts (remove ts i) q old new lasts (λ same. beside.off (record { place = i; table = t; get = at_i; region = region_is ∙ sym same }))
+      (λ of. let o = origin ts i of.place of.table of.get in record { place = o.from; table = of.table; get = o.get; region = of.region }) beside
 
-  tables_removed : AreTables (remove ts i) pack new
-  tables_removed = record { each = removed_each; apart = removed_apart; names = removed_names; only = λ q shape live. removed_only q shape live (cases_eq q r) }
+  left_region : (q : ℕ) → (q ≡ r → ⊥) → IsTableRegion ts q → IsTableRegion (remove ts i) q
+  left_region q off of =
+      let elsewhere : of.place ≡ i → ⊥ = λ same. let one_table : of.table ≡ t = cc (of.get, at_i, same) in off (sym of.region ∙ ap (λ (x : Table). x.region) one_table ∙ region_is) in
+      let left = left_at ts i of.place of.table of.get elsewhere in
+      record { place = left.0; table = of.table; get = left.1; region = of.region }
+
+  removed_only : (q : ℕ) (shape : Region) → new.vault.revs.live q ≡ Some shape → (q ≡ r) ⊎ (q ≡ r → ⊥) → IsTableRegion (remove ts i) q ⊎ (closing ≡ Some q)
+  removed_only q shape live (inl here) = absurd (gone shape (ap new.vault.revs.live (sym here) ∙ live))
+  removed_only q shape live (inr off) = elim (tables.only q shape (sym (lasts.apart.live q off) ∙ live)) [
+    | inl of ↦ inl (left_region q off of)
+    | inr closed ↦ inr closed
+  ]
+
+  tables_removed : AreTables (remove ts i) closing pack new
+  tables_removed = record {
+    each = removed_each;
+    few = let fewer = remove_few ts i in let few = tables.few in omega (arith, fewer, few);
+    apart = removed_apart;
+    names = removed_names;
+    beside = removed_beside;
+    only = λ q shape live. removed_only q shape live (cases_eq q r);
+  }
 
 -- the tables in place beside them
 held_removed : (pack r : ℕ) (name : List ℕ) (ts : List Table) (tables : Tables) (i : ℕ) (t : Table) (old new : World) → AreNamed ts → AreHeld pack ts tables old → Lasts (one r) old new
@@ -192,7 +217,7 @@ opens_discard : (r high : ℕ) → Opens (discard_at r) high high
 opens_discard r high = record { kept = omega (arith); some = λ none. absurd (cc none) }
 
 module _ {R : Type 0} (state : R → RevState) (old : Engine R) (s s1 : StoreState) (v : Vault R) (t : StoreState) (name : List ℕ) (i : ℕ) (table : Table)
-    (agrees : Agrees state old s) (rests : Rests s s1) (here : IsAt name i table old.public.tables) (now : refusal_now old.public (length s.asked) (DropTable name) ≡ None) where
+    (agrees : Agrees state old s) (rests : Rests s s1) (here : IsAt name i table old.public.tables) (now : refusal_now old.public (count_of old s) (DropTable name) ≡ None) where
   script_is : (end : End) → whole_script old.public (DropSkeleton name) (seen_to end) ≡ discard_at table.region
   script_is end =
       ap (λ (o : Option (Stored ℕ)). option_map_or (λ (u : Stored ℕ). discard_at u.held) o [])
@@ -213,14 +238,14 @@ module _ {R : Type 0} (state : R → RevState) (old : Engine R) (s s1 : StoreSta
       let is_answered : IsAnswered Dropped = record { whole = λ n. refl; own = refl } in
       let ran = ran_whole state (DropSkeleton name) old s v old.room t agrees agrees.room (one r) (remove old.public.tables i) (discard_at r) Dropped lives is_answered (opens_discard r old.room.high) all
       (script_is Whole) removed
-      (tables_removed old.public.pack r old.public.tables table i _ _ all.lasts agrees.tables here.get refl (λ shape live. absurd (cc (live, gone)))) in
+      (tables_removed old.public.pack r old.public.tables old.closing table i _ _ all.lasts agrees.tables here.get refl (λ shape live. absurd (cc (live, gone)))) in
       serves_as state stmt old s t _ _ _ _ answered is
       (finished state stmt old s agrees now refl v old.room t (remove old.public.tables i) Dropped is_answered tt ran
       (keeps_pass state old s s1 rests agrees (engine_after old v old.room (remove old.public.tables i) Whole old.ended) t (at state v t) refl (λ good accepts. discards.seals.seals good))
       (λ tables reads.
-      let early = early_held old.public (length s.asked) stmt tables (world_of state old s) None reads.held.held now in
-      let none : refusal old.public (length s.asked) tables stmt ≡ None = refused_late old.public (length s.asked) tables stmt early in
-      let settles : settle old.public (length s.asked) tables stmt ≡ dropped_at name tables = ap (λ (o : Option Refusal). followed o (settled tables stmt) tables) none in (
+      let early = early_held old.public (count_of old s) stmt tables (world_of state old s) None reads.held.held now in
+      let none : refusal old.public (count_of old s) tables stmt ≡ None = refused_late old.public (count_of old s) tables stmt early in
+      let settles : settle old.public (count_of old s) tables stmt ≡ dropped_at name tables = ap (λ (o : Option Refusal). followed o (settled tables stmt) tables) none in (
         sym (ap (λ (o : Option Refusal). outcome_of stmt (answered_by o (accepted_answer (database tables) stmt))) none),
         subst (λ (ts : Tables). AreHeld old.public.pack (remove old.public.tables i) ts (at state v t)) (sym settles)
             (held_removed old.public.pack r name old.public.tables tables i table _ _ agrees.tables.names reads.held.held all.lasts apart here.get here.named),

@@ -53,3 +53,10 @@ pub mod RowsPairs
 pub mod RowsRoom
 pub mod RowsJoinEnd
 pub mod RowsJoinStart
+pub mod GivenNumbers
+pub mod KeptLemmas
+pub mod OpeningLemmas
+pub mod ListedLemmas
+pub mod ByNameLemmas
+pub mod ClosedLemmas
+pub mod ByNameAlike

@@ -28,7 +28,8 @@ use Rattle.ob_script.specs.Script.{whole_script, with_table, mutation_script}
 use Rattle.ob_script.specs.Trace.{moved, tables_after}
 use Rattle.ob_flat.specs.declared.fault.OpErr.{OpErr}
 use Rattle.ob_flat.specs.declared.flat.Flat.{Flat}
-use Rattle.ob_flat.specs.Flats.{IsFlat, Represents as FlatRepresents}
+use Rattle.ob_flat.specs.Flats.{IsFlat, Represents as FlatRepresents, table_region}
+use Rattle.ob_vault.specs.declared.region.Order.TheVariants.{Round}
 use Rattle.ob_flat.proofs.Resting.{represents_rests}
 use Rattle.ob_row.specs.Slots.{Slots}
 use Rattle.ob_mutate.specs.Mutating.{Mutates}
@@ -41,7 +42,7 @@ use Rattle.ob_mean.specs.Verdict.{Tables, is_late, verdict, ended as seen_to}
 use Rattle.ob_exec.specs.declared.engine.Engine.{Engine}
 use Rattle.ob_exec.specs.declared.outcome.Outcome.{Outcome}
 use Rattle.ob_exec.specs.Engines.{IsAt, IsTable, AreTables, flat_of}
-use Rattle.ob_exec.specs.Agreeing.{Agrees, world_of}
+use Rattle.ob_exec.specs.Agreeing.{Agrees, world_of, count_of}
 use Rattle.ob_exec.specs.Running.{HasNoRows, answer_of, is_stop, refusal_now}
 use Rattle.ob_exec.specs.Serving.{ServesSilently}
 use Rattle.ob_exec.specs.Telling.{AreHeld, ReadsTrue, Represents, outcome_of}
@@ -75,8 +76,8 @@ pub record Alters {T : Type 0} (p : Public) (m : ℕ) (stmt : Stmt) (name : List
 module _ {R T : Type 0} (state : R → RevState) (stmt : Stmt) (name : List ℕ) (part : ℕ → ℕ → ℕ → ℕ → List Access) (outcome : T → Outcome) (answer : Slots → T) (after : Slots → Slots)
     (old : Engine R) (s s1 : StoreState) (v : Vault R) (room : RoomState) (t : StoreState) (i : ℕ) (table : Table) (flat left : Flat)
     (agrees : Agrees state old s) (rests : Rests s s1) (room_is : room ≡ record old.room { high = max old.room.high old.room.pack })
-    (here : IsAt name i table old.public.tables) (flat_is : flat ≡ flat_of table) (now : refusal_now old.public (length s.asked) stmt ≡ None)
-    (alters : Alters old.public (length s.asked) stmt name table.heading part outcome answer after) where
+    (here : IsAt name i table old.public.tables) (flat_is : flat ≡ flat_of table) (now : refusal_now old.public (count_of old s) stmt ≡ None)
+    (alters : Alters old.public (count_of old s) stmt name table.heading part outcome answer after) where
   abbrev before : World
   before = at state old.vault s1
 
@@ -124,20 +125,22 @@ module _ {R T : Type 0} (state : R → RevState) (stmt : Stmt) (name : List ℕ)
       let all = went_join (two r g) _ _ _ [] x (went_rests _ s s1 rests (two r g) agrees.ready) mutates.ok in
       let flat_now : IsFlat old.room.pack (flat_of moved_table) done = subst (λ (f : Flat). IsFlat old.room.pack f done) mutates.moves mutates.table in
       let is_table : IsTable old.public.pack moved_table done = record {
-        stored = (agrees.tables.each i table here.get).stored;
+        heading = (agrees.tables.each i table here.get).heading;
+        least = let number = agrees.ready.tied.next in omega (arith, number);
         flat = subst (λ (k : ℕ). IsFlat k (flat_of moved_table) done) agrees.room.pack flat_now;
+        round = record { live = mutates.lives.live ∙ (λ j. Some (table_region Round (agrees.room.pack j) table.heading.schema table.heading.capacity)) };
       } in
       let set = set_moved name g old.public.tables i table agrees.tables.names here.get here.named in
       let ran = ran_done state (skeleton stmt) old s v room t agrees room_is (two r g) (slice_set old.public.tables i moved_table) x (outcome y) lives (alters.answers y) all (script_is Whole)
       (set ∙ ap (λ (n : ℕ). moved name n old.public.tables) (sym agrees.next) ∙ sym alters.tables)
-      (subst (λ (ts : List Table). AreTables ts old.public.pack done) (sym set)
-      (tables_moved old.public.pack g r name old.public.tables table i _ _ all.lasts agrees.ready refl agrees.tables here.get here.named refl is_table
+      (subst (λ (ts : List Table). AreTables ts old.closing old.public.pack done) (sym set)
+      (tables_moved old.public.pack g r name old.public.tables old.closing table i _ _ all.lasts agrees.ready refl agrees.tables here.get here.named refl is_table
       (λ shape live. absurd (cc (live, mutates.gone))) (λ q z. cases_eq q z))) in
       finished state stmt old s agrees now alters.plain v room t (slice_set old.public.tables i moved_table) (outcome y) (alters.answers y) (alters.silent y) ran
       (keeps_pass state old s s1 rests agrees (engine_after old v room (slice_set old.public.tables i moved_table) Whole old.ended) t done refl (λ good accepts. mutates.seals.seals good (accepts _ _)))
       (λ tables reads.
       let told = mutates.told (honest tables reads) (beside tables reads.held).table.held (slots_before tables reads.held) in
-      let early = early_held old.public (length s.asked) stmt tables (world_of state old s) None reads.held.held now in
+      let early = early_held old.public (count_of old s) stmt tables (world_of state old s) None reads.held.held now in
       let found = (beside tables reads.held).found in
       let size : length (beside tables reads.held).table.held ≡ (beside tables reads.held).table.heading.capacity =
       (beside tables reads.held).represents.size ∙ ap (λ (h : Heading). h.capacity) (sym (beside tables reads.held).heading) in

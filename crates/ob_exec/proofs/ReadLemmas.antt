@@ -1,5 +1,5 @@
 -- A statement that reads a table and changes none.
-use Rattle.std.proofs.Common.{◌≡◌, ◌+◌, ◌-◌, ℕ, false, Bool, List, [], ◌++◌, length, take, Some, None, Option, Ok, refl, sym, ◌∙◌, ap, subst, arith, slice_get}
+use Rattle.std.proofs.Common.{◌≡◌, ◌-◌, ℕ, false, List, [], length, Some, None, Option, Ok, refl, sym, ◌∙◌, ap, subst, arith, slice_get}
 use Rattle.std.specs.Option.{option_map_or}
 use Rattle.ob_base.specs.declared.access.Access.{Access}
 use Rattle.ob_base.specs.declared.schema.Table.{Table}
@@ -8,28 +8,24 @@ use Rattle.ob_base.specs.declared.seen.End.TheVariants.{Whole, Cut}
 use Rattle.ob_base.specs.declared.skeleton.ColumnName.{ColumnName}
 use Rattle.ob_base.specs.declared.skeleton.Skeleton.{Skeleton}
 use Rattle.ob_base.specs.declared.skeleton.Skeleton.TheVariants.{Groups}
-use Rattle.ob_base.specs.Accesses.{makes}
 use Rattle.ob_base.specs.Numbers.{blocks_for}
 use Rattle.ob_base.specs.Stored.{Stored}
 use Rattle.ob_room.specs.RoomState.{RoomState}
 use Rattle.ob_store.specs.State.{Lie, StoreState}
 use Rattle.ob_store.specs.Calls.{Rests}
-use Rattle.ob_store.proofs.Steps.{began_take}
 use Rattle.ob_script.specs.Parts.{count_part}
-use Rattle.ob_script.specs.Script.{script, whole_script, blocks_of, extent_of}
-use Rattle.ob_script.specs.Trace.{tables_then}
+use Rattle.ob_script.specs.Script.{whole_script, blocks_of, extent_of}
 use Rattle.ob_vault.specs.State.{RevState, World}
-use Rattle.ob_vault.specs.Tied.{Ready, Calm, Fits, IsUnfit}
+use Rattle.ob_vault.specs.Tied.{Calm, Fits, IsUnfit}
 use Rattle.ob_vault.specs.Calls.{Lasts, Went, none}
 use Rattle.ob_vault.specs.Places.{at}
 use Rattle.ob_vault.specs.declared.vault.Vault.{Vault}
 use Rattle.ob_vault.proofs.Runs.{went_join}
 use Rattle.ob_vault.proofs.WordLemmas.{went_rests}
 use Rattle.ob_flat.specs.declared.fault.OpErr.{OpErr}
-use Rattle.ob_flat.specs.declared.fault.OpErr.TheVariants as OpErrs
 use Rattle.ob_flat.specs.declared.flat.Flat.{Flat}
 use Rattle.ob_flat.specs.Flats.{IsFlat, IsSized}
-use Rattle.ob_flat.specs.Passes.{PassCut, PassCause}
+use Rattle.ob_flat.specs.Passes.{PassCut}
 use Rattle.ob_flat.proofs.Runs.{pass_after}
 use Rattle.ob_mean.specs.Verdict.{Tables, ended as seen_to}
 use Rattle.ob_exec.specs.declared.engine.Engine.{Engine}
@@ -37,7 +33,7 @@ use Rattle.ob_exec.specs.declared.outcome.Outcome.{Outcome}
 use Rattle.ob_exec.specs.Agreeing.{Agrees, world_of}
 use Rattle.ob_exec.specs.Engines.{IsAt, IsFree, AreTables, flat_of}
 use Rattle.ob_exec.specs.Opening.{Opens}
-use Rattle.ob_exec.specs.Running.{answer_of, is_stop, result_end, RunCause, GoesOn, Continues, Ran}
+use Rattle.ob_exec.specs.Running.{answer_of, is_stop, Ran}
 use Rattle.ob_exec.specs.Selecting.{UsesRoom}
 use Rattle.ob_exec.specs.Telling.{AreHeld}
 use Rattle.ob_exec.proofs.HeldLemmas.{held_kept}
@@ -64,7 +60,7 @@ module _ {R : Type 0} (state : R → RevState) (old : Engine R) (s s1 : StoreSta
 
   pub read_size : IsSized flat.schema flat.capacity
   read_size =
-      let stored = (agrees.tables.each i table get).stored in
+      let stored = (agrees.tables.each i table get).heading.stored in
       let few = stored.few in
       let most = stored.most in
       subst (λ (f : Flat). IsSized f.schema f.capacity) (sym flat_is)
@@ -89,8 +85,8 @@ module _ {R : Type 0} (state : R → RevState) (old : Engine R) (s s1 : StoreSta
       (stored_found name old.public.tables i table agrees.tables.names here.get here.named)
       ∙ (λ j. count_part table.region (blocks_for (sym agrees.room.pack j) table.heading.capacity))
 
-  tables_read : Lasts none (world_of state old s) now → AreTables old.public.tables old.public.pack now
-  tables_read lasts = tables_kept none old.public.pack old.public.tables _ _ lasts (λ j u is off. off) (λ q shape live off. off) agrees.tables
+  tables_read : Lasts none (world_of state old s) now → AreTables old.public.tables old.closing old.public.pack now
+  tables_read lasts = tables_kept none old.public.pack old.public.tables old.closing _ _ lasts (λ j u is off. off) (λ q is off. off) (λ q shape live off. off) agrees.tables
 
   pub held_read : (tables : Tables) → AreHeld old.public.pack old.public.tables tables (world_of state old s) → Lasts none (world_of state old s) now → AreHeld old.public.pack old.public.tables tables now
   held_read tables held lasts = held_kept none old.public.pack old.public.tables tables _ _ lasts (λ j u is off. off) held

@@ -3,7 +3,7 @@ use Rattle.std.proofs.Common.{◌≡◌, ◌≤◌, ◌+◌, ◌*◌, ◌-◌, �
 use Rattle.std.specs.Int.{div_ceil}
 use Rattle.std.specs.List.{list_all}
 use Rattle.ob_base.specs.declared.access.Access.{Access}
-use Rattle.ob_base.specs.declared.access.Access.TheVariants.{Make, Read, Write, Discard}
+use Rattle.ob_base.specs.declared.access.Access.TheVariants.{Make, Read, Write, Discard, Open}
 use Rattle.ob_base.specs.declared.config.Plan.{Plan}
 use Rattle.ob_base.specs.declared.config.Plan.TheVariants.{Small, Large, Continuous, Hash}
 use Rattle.ob_base.specs.Accesses.{read_at}
@@ -63,6 +63,7 @@ pub all-join : (xs ys : List Access) → IsTrue (list_all is_reading xs) → IsT
 all-join [] ys p q = q
 all-join (Read r x ∷ xs) ys p q = all-join xs ys p q
 all-join (Discard r ∷ xs) ys p q = all-join xs ys p q
+all-join (Open r blocks len ∷ xs) ys p q = absurd (cc p)
 all-join (Make r n l ∷ xs) ys p q = absurd (cc p)
 all-join (Write r x ∷ xs) ys p q = absurd (cc p)
 
@@ -70,6 +71,7 @@ all-rest : (xs ys : List Access) → IsTrue (list_all is_reading (xs ++ ys)) →
 all-rest [] ys p = p
 all-rest (Read r x ∷ xs) ys p = all-rest xs ys p
 all-rest (Discard r ∷ xs) ys p = all-rest xs ys p
+all-rest (Open r blocks len ∷ xs) ys p = absurd (cc p)
 all-rest (Make r n l ∷ xs) ys p = absurd (cc p)
 all-rest (Write r x ∷ xs) ys p = absurd (cc p)
 

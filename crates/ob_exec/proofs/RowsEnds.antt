@@ -1,5 +1,5 @@
 -- A SELECT of rows that came to its end, or was refused for its rows.
-use Rattle.std.proofs.Common.{◌≡◌, inl, ℕ, Bool, true, false, List, [], ◌∷◌, ◌++◌, length, Option, Some, None, Ok, refl, sym, ◌∙◌, ap, subst, arith}
+use Rattle.std.proofs.Common.{◌≡◌, inl, ℕ, Bool, true, false, List, [], ◌∷◌, ◌++◌, Option, Some, None, Ok, refl, sym, ◌∙◌, ap, subst, arith}
 use Rattle.std.proofs.lemmas.List.{length-map}
 use Rattle.ob_base.specs.declared.refusal.Refusal.{Refusal}
 use Rattle.ob_base.specs.declared.seen.Seen.{Seen}
@@ -18,7 +18,7 @@ use Rattle.ob_mean.specs.Verdict.{Tables, rows_refusal, verdict}
 use Rattle.ob_exec.specs.declared.engine.Engine.{Engine}
 use Rattle.ob_exec.specs.declared.selecting.Selected.{Selected}
 use Rattle.ob_exec.specs.declared.selecting.Selected.TheVariants.{Rows, Refused}
-use Rattle.ob_exec.specs.Agreeing.{Agrees, world_of}
+use Rattle.ob_exec.specs.Agreeing.{Agrees, world_of, count_of}
 use Rattle.ob_exec.specs.Refusals.{by_fault}
 use Rattle.ob_exec.specs.Running.{IsBegunAnswer, is_fault, refusal_now}
 use Rattle.ob_exec.proofs.UntilLemmas.{are_rows}
@@ -45,7 +45,7 @@ as_refused None n q is = absurd (cc is)
 as_refused (Some r) n q is = let same : r ≡ q = sym (cc is) in ap (λ (x : Refusal). Some x) same
 
 module _ {R : Type 0} (state : R → RevState) (old : Engine R) (s : StoreState) (v : Vault R) (room : RoomState) (t : StoreState) (select : SelectRows)
-    (agrees : Agrees state old s) (free : refusal_now old.public (length s.asked) (RowsStmt select) ≡ None) (source : IsSource old.public select)
+    (agrees : Agrees state old s) (free : refusal_now old.public (count_of old s) (RowsStmt select) ≡ None) (source : IsSource old.public select)
     {E : Type 0} (grew : E → E → List Event → Type 0) (starts : (x : E) → grew x x []) (now : Seen) (out_old out_mid out_new : E) where
   abbrev before : World
   before = world_of state old s
@@ -59,11 +59,11 @@ module _ {R : Type 0} (state : R → RevState) (old : Engine R) (s : StoreState)
   -- all events are those of the meaning
   prints_as : (answer : Selected) (is : EndsWith answer) (tables : Tables) (reads : ReadsTrue state old s t tables) (events : List Event)
       → events ≡ answer_events (selection old.public select) (slots_of old.public select tables) ++ closing (answer_of (selection old.public select) (slots_of old.public select tables))
-      → Emitted (RowsStmt select) old.public (length s.asked) tables (selected_outcome answer) events
+      → Emitted (RowsStmt select) old.public (count_of old s) tables (selected_outcome answer) events
   prints_as answer is tables reads events same =
       of_other _ _ (is_fault (selected_outcome answer)) (ended_well (selection old.public select) answer now is.ended)
-      (subst (λ (all : List Event). Prints (answer_labels (RowsStmt select) old.public) (verdict old.public (length s.asked) tables (RowsStmt select)) all) (sym same)
-      (rows_prints old.public (length s.asked) select tables
+      (subst (λ (all : List Event). Prints (answer_labels (RowsStmt select) old.public) (verdict old.public (count_of old s) tables (RowsStmt select)) all) (sym same)
+      (rows_prints old.public (count_of old s) select tables
       (headed state old s v room t select agrees free source is.ran.lasts tables reads.held) reads.held.in_place
       (early state old s v room t select agrees free source is.ran.lasts tables reads.held)
       agrees.settings.pack_least agrees.settings.blocks agrees.settings.padded source.labelled
@@ -114,7 +114,7 @@ module _ {R : Type 0} (state : R → RevState) (old : Engine R) (s : StoreState)
   answered_by (Refused r) is few closes = answered_refused r is closes
 
   told_by : (answer : Selected) → EndsWith answer → (tables : Tables) → ReadsTrue state old s t tables
-      → Told state (RowsStmt select) (length s.asked) tables (selected_outcome answer) old (rows_after old v room now old.ended) t
+      → Told state (RowsStmt select) tables (selected_outcome answer) old s (rows_after old v room now old.ended) t
   told_by answer is tables reads =
       let stands = reads.held in
       let told = is.told (to_end state old s v room t select agrees free source is.ran.lasts tables reads) in
@@ -123,11 +123,11 @@ module _ {R : Type 0} (state : R → RevState) (old : Engine R) (s : StoreState)
       let rows_are = rows_of state old s v room t select agrees free source is.ran.lasts tables stands in
       of_other _ _ (is_fault (selected_outcome answer)) (ended_well (selection old.public select) answer now is.ended) (record {
         answer = ap selected_outcome told.0
-            ∙ rows_outcome old.public (length s.asked) select tables headed_is stands.in_place early_is agrees.settings.pack_least agrees.settings.blocks agrees.settings.padded source.labelled rows_are;
+            ∙ rows_outcome old.public (count_of old s) select tables headed_is stands.in_place early_is agrees.settings.pack_least agrees.settings.blocks agrees.settings.padded source.labelled rows_are;
         seen = told.1
-            ∙ sym (rows_seen old.public (length s.asked) select tables headed_is stands.in_place early_is agrees.settings.pack_least agrees.settings.blocks agrees.settings.padded source.labelled rows_are);
+            ∙ sym (rows_seen old.public (count_of old s) select tables headed_is stands.in_place early_is agrees.settings.pack_least agrees.settings.blocks agrees.settings.padded source.labelled rows_are);
         held = subst (λ (ts : Tables). Represents state (rows_after old v room now old.ended) t ts)
-            (sym (rows_settle old.public (length s.asked) select tables headed_is stands.in_place early_is agrees.settings.pack_least agrees.settings.blocks agrees.settings.padded source.labelled rows_are))
+            (sym (rows_settle old.public (count_of old s) select tables headed_is stands.in_place early_is agrees.settings.pack_least agrees.settings.blocks agrees.settings.padded source.labelled rows_are))
             (still_held state old s v room t select agrees free source is.ran.lasts now old.ended tables stands);
       })
 
@@ -137,8 +137,8 @@ module _ {R : Type 0} (state : R → RevState) (old : Engine R) (s : StoreState)
       → Serves state grew cut faults (RowsStmt select) (Ok (selected_outcome answer)) old s (rows_after old v room now old.ended) t out_old out_new
   serves_ended cut faults answer lives used is few closes sink = record {
     ran = rows_ran state old s v room t select agrees used answer now lives is;
-    early = early_none old.public (length s.asked) select (Ok (selected_outcome answer)) now free (ended_late (selection old.public select) answer now is.ended);
-    lawful = lawful_ended old.public select (length s.asked) free answer now is.holds is.ended;
+    early = early_none old.public (count_of old s) select (Ok (selected_outcome answer)) now free (ended_late (selection old.public select) answer now is.ended);
+    lawful = lawful_ended old.public select (count_of old s) free answer now is.holds is.ended;
     memory = λ wanted. absurd (cc wanted);
     seals = is.seals;
     answered = answered_by answer is few closes;

@@ -1,5 +1,5 @@
 -- What is known of the source of a SELECT of rows, where it is not refused before any access.
-use Rattle.std.proofs.Common.{◌≡◌, false, List, length, None, refl, sym, ◌∙◌, ap, subst}
+use Rattle.std.proofs.Common.{◌≡◌, false, List, None, refl, sym, ◌∙◌, ap, subst}
 use Rattle.std.specs.Prelude.{not}
 use Rattle.std.specs.List.{list_any}
 use Rattle.ob_base.specs.declared.schema.Heading.{Heading}
@@ -21,19 +21,19 @@ use Rattle.ob_sql.specs.declared.stmt.SelectRows.{SelectRows}
 use Rattle.ob_sql.specs.declared.stmt.Stmt.TheVariants.{SelectRows as RowsStmt}
 use Rattle.ob_verdict.specs.Laws.{AreInPlace}
 use Rattle.ob_exec.specs.declared.engine.Engine.{Engine}
-use Rattle.ob_exec.specs.Agreeing.{Agrees}
+use Rattle.ob_exec.specs.Agreeing.{Agrees, count_of}
 use Rattle.ob_exec.specs.Running.{refusal_now}
 use Rattle.ob_exec.proofs.RowsSource.{AreStored, join_joined, join_same, labels_are, table_same, table_unjoined}
 use Rattle.ob_exec.proofs.RowsTable.{some_buffered}
 use Rattle.ob_exec.proofs.RowsStops.{IsSource}
 
 module _ {R : Type 0} (state : R → RevState) (old : Engine R) (s : StoreState) (select : SelectRows) (agrees : Agrees state old s)
-    (free : refusal_now old.public (length s.asked) (RowsStmt select) ≡ None) where
+    (free : refusal_now old.public (count_of old s) (RowsStmt select) ≡ None) where
   stored : AreStored old.public.tables
-  stored i t at = (agrees.tables.each i t at).stored
+  stored i t at = (agrees.tables.each i t at).heading.stored
 
-  fits : Allowed (is_late (length s.asked)) old.public.pack old.public.buffer (headings_of old.public.tables) (RowsStmt select)
-  fits = allowed (is_late (length s.asked)) old.public.pack old.public.buffer (headings_of old.public.tables) (RowsStmt select) free
+  fits : Allowed (is_late (count_of old s)) old.public.pack old.public.buffer (headings_of old.public.tables) (RowsStmt select)
+  fits = allowed (is_late (count_of old s)) old.public.pack old.public.buffer (headings_of old.public.tables) (RowsStmt select) free
 
   unjoined : (source : Source) → select.source ≡ source → is_joined (source_columns source (headings_of old.public.tables)) ≡ is_join source
   unjoined (OneTable name) is = table_unjoined name old.public.tables stored

@@ -45,7 +45,7 @@ use Rattle.ob_exec.specs.Running.{refusal_now}
 use Rattle.ob_sql.specs.declared.stmt.SelectRows.{SelectRows}
 use Rattle.ob_sql.specs.declared.stmt.Stmt.TheVariants.{SelectRows as RowsStmt}
 use Rattle.ob_exec.specs.declared.engine.Engine.{Engine}
-use Rattle.ob_exec.specs.Agreeing.{Agrees, world_of}
+use Rattle.ob_exec.specs.Agreeing.{Agrees, world_of, count_of}
 use Rattle.ob_exec.specs.Engines.{flat_of}
 use Rattle.ob_exec.specs.Selecting.{Selection, counted_after, from, region_of, selection_script, walked_after}
 use Rattle.ob_exec.specs.Sources.{rows_script, rows_skeleton, selection, stated}
@@ -145,8 +145,8 @@ module _ {R : Type 0} (state : R → RevState) (old : Engine R) (s : StoreState)
   join_least =
       let some = agrees.settings.pack_least in
       let enough = some_buffered old.public.pack old.public.buffer agrees.settings.pack_least agrees.settings.blocks in
-      let lefts = some_of t.heading.capacity old.public.pack some (agrees.tables.each i t get_a).stored.least in
-      let rights = some_of u.heading.capacity old.public.pack some (agrees.tables.each j u get_b).stored.least in
+      let lefts = some_of t.heading.capacity old.public.pack some (agrees.tables.each i t get_a).heading.stored.least in
+      let rights = some_of u.heading.capacity old.public.pack some (agrees.tables.each j u get_b).heading.stored.least in
       let chunks = some_of (div_ceil t.heading.capacity old.public.pack) (buffered_blocks old.public.pack old.public.buffer) enough lefts in
       some_of (selection old.public select).flat.capacity old.public.pack some (subst (λ (n : ℕ). 1 ≤ n) both_slots (least_times _ _ _ chunks rights some))
 
@@ -173,11 +173,11 @@ module _ {R : Type 0} (state : R → RevState) (old : Engine R) (s : StoreState)
   pub join_some : 1 ≤ count_end old.public (rows_skeleton select)
   join_some = let is = join_count 0 0 in let least = join_least in omega (arith, is, least)
 
-  module _ (free : refusal_now old.public (length s.asked) (RowsStmt select) ≡ None) where
+  module _ (free : refusal_now old.public (count_of old s) (RowsStmt select) ≡ None) where
     pub join_fits : JoinFits old.public.pack old.public.buffer t.heading u.heading on equals
     join_fits =
-        joins_fit (is_late (length s.asked)) old.public.pack old.public.buffer (headings_of old.public.tables) select.list a b on equals select.cond t.heading u.heading found_a found_b
-        (subst (λ (source : Source). early_refusal (is_late (length s.asked)) old.public.pack old.public.buffer (headings_of old.public.tables) (RowsStmt (record { list = select.list; source = source; cond = select.cond })) ≡ None) of_join free)
+        joins_fit (is_late (count_of old s)) old.public.pack old.public.buffer (headings_of old.public.tables) select.list a b on equals select.cond t.heading u.heading found_a found_b
+        (subst (λ (source : Source). early_refusal (is_late (count_of old s)) old.public.pack old.public.buffer (headings_of old.public.tables) (RowsStmt (record { list = select.list; source = source; cond = select.cond })) ≡ None) of_join free)
 
     pub join_idle : (left right : Flat) → left ≡ flat_of t → right ≡ flat_of u → IsIdle (width (left.schema ++ right.schema)) old.room
     join_idle left right left_is right_is =
@@ -189,7 +189,7 @@ module _ {R : Type 0} (state : R → RevState) (old : Engine R) (s : StoreState)
 
     table_sized : (k : ℕ) (x : Table) → slice_get old.public.tables k ≡ Some x → IsSized x.heading.schema x.heading.capacity
     table_sized k x get =
-        let stored = (agrees.tables.each k x get).stored in
+        let stored = (agrees.tables.each k x get).heading.stored in
         let few = stored.few in
         let most = stored.most in
         record { some = stored.some; few = omega (arith, few); wide = stored.wide; least = stored.least; most = omega (arith, most) }
@@ -202,14 +202,14 @@ module _ {R : Type 0} (state : R → RevState) (old : Engine R) (s : StoreState)
 
     joined_sized : IsSized (t.heading.schema ++ u.heading.schema) (joined_slots old.room.pack old.room.rows t.heading.capacity u.heading.capacity)
     joined_sized =
-        let first = (agrees.tables.each i t get_a).stored.some in
-        let one = (agrees.tables.each i t get_a).stored.few in
-        let two = (agrees.tables.each j u get_b).stored.few in
+        let first = (agrees.tables.each i t get_a).heading.stored.some in
+        let one = (agrees.tables.each i t get_a).heading.stored.few in
+        let two = (agrees.tables.each j u get_b).heading.stored.few in
         let both = length-append t.heading.schema u.heading.schema in
         let some = agrees.settings.pack_least in
         let enough = some_buffered old.public.pack old.public.buffer agrees.settings.pack_least agrees.settings.blocks in
-        let lefts = some_of t.heading.capacity old.public.pack some (agrees.tables.each i t get_a).stored.least in
-        let rights = some_of u.heading.capacity old.public.pack some (agrees.tables.each j u get_b).stored.least in
+        let lefts = some_of t.heading.capacity old.public.pack some (agrees.tables.each i t get_a).heading.stored.least in
+        let rights = some_of u.heading.capacity old.public.pack some (agrees.tables.each j u get_b).heading.stored.least in
         let chunks = some_of (div_ceil t.heading.capacity old.public.pack) (buffered_blocks old.public.pack old.public.buffer) enough lefts in
         subst (λ (n : ℕ). IsSized (t.heading.schema ++ u.heading.schema) n) (λ k. joined_slots (sym agrees.room.pack k) (sym agrees.room.rows k) t.heading.capacity u.heading.capacity)
         (record { some = omega (arith, first, both); few = omega (arith, one, two, both); wide = join_fits.wide; least = least_times _ _ _ chunks rights some; most = join_fits.slots })
@@ -235,7 +235,7 @@ module _ {R : Type 0} (state : R → RevState) (old : Engine R) (s : StoreState)
         → MayStart (1 + fill_length (join_in old.room left lcol right rcol)) (at state old.vault s1)
     join_starts s1 left right lcol rcol n rests is spare =
         let same = ap length rests.asked in
-        let early = not_late (length s.asked) (allowed (is_late (length s.asked)) old.public.pack old.public.buffer (headings_of old.public.tables) (RowsStmt select) free).early in
+        let early = not_late (count_of old s) (allowed (is_late (count_of old s)) old.public.pack old.public.buffer (headings_of old.public.tables) (RowsStmt select) free).early in
         let lefts : blocks_for old.room.pack left.capacity ≡ blocks_for old.public.pack left.capacity = ap (λ (k : ℕ). blocks_for k left.capacity) agrees.room.pack in
         let pairs : joined_blocks old.room.pack old.room.rows left.capacity right.capacity ≡ joined_blocks old.public.pack old.public.buffer left.capacity right.capacity =
         λ k. joined_blocks (agrees.room.pack k) (agrees.room.rows k) left.capacity right.capacity in

@@ -27,7 +27,7 @@ use Rattle.ob_store.specs.State.{StoreState}
 use Rattle.ob_store.specs.Calls.{Rests}
 use Rattle.ob_store.specs.Runs.{Began}
 use Rattle.ob_store.proofs.Steps.{later_rests}
-use Rattle.ob_vault.specs.State.{RevState, World}
+use Rattle.ob_vault.specs.State.{RevState, World, earlier}
 use Rattle.ob_vault.specs.Calls.{one}
 use Rattle.ob_vault.specs.declared.vault.Vault.{Vault}
 use Rattle.ob_vault.specs.Places.{at}
@@ -55,7 +55,7 @@ use Rattle.ob_sql.specs.declared.stmt.Stmt.TheVariants.{SelectRows as RowsStmt}
 use Rattle.ob_verdict.proofs.AcceptedProof.{places_fit}
 use Rattle.ob_exec.specs.declared.engine.Engine.{Engine}
 use Rattle.ob_exec.specs.declared.selecting.Selected.{Selected}
-use Rattle.ob_exec.specs.Agreeing.{Agrees, world_of}
+use Rattle.ob_exec.specs.Agreeing.{Agrees, world_of, count_of}
 use Rattle.ob_exec.specs.Engines.{flat_of}
 use Rattle.ob_exec.specs.Running.{refusal_now}
 use Rattle.ob_exec.specs.Selecting.{MaySelect, SealsRows, Selection, counted_after, from, selection_script}
@@ -83,7 +83,7 @@ no_sink OpErrs.NoMemory n never = refl
 
 module _ {R : Type 0} (state : R → RevState) (old : Engine R) (s s1 : StoreState) (i j : ℕ) (t u : Table) (a b : List ℕ) (on equals : ColumnName) (select : SelectRows)
     (agrees : Agrees state old s) (get_a : slice_get old.public.tables i ≡ Some t) (get_b : slice_get old.public.tables j ≡ Some u) (named_a : t.heading.name ≡ a) (named_b : u.heading.name ≡ b)
-    (of_join : select.source ≡ JoinOf a b on equals) (free : refusal_now old.public (length s.asked) (RowsStmt select) ≡ None) (rests : Rests s s1)
+    (of_join : select.source ≡ JoinOf a b on equals) (free : refusal_now old.public (count_of old s) (RowsStmt select) ≡ None) (rests : Rests s s1)
     (lcol rcol : ℕ) (v : Vault R) (s2 : StoreState) where
   abbrev before : World
   before = world_of state old s
@@ -152,7 +152,7 @@ module _ {R : Type 0} (state : R → RevState) (old : Engine R) (s s1 : StoreSta
 
   join_columns : AreColumns q.flat.schema q.cols
   join_columns =
-      let fit = places_fit (is_late (length s.asked)) old.public.pack old.public.buffer (headings_of old.public.tables) select free in
+      let fit = places_fit (is_late (count_of old s)) old.public.pack old.public.buffer (headings_of old.public.tables) select free in
       record { few = listed_few select.list q.flat.schema fit.few join_size.few; within = fit.printed }
 
   pub join_selects : (room : RoomState) (high : ℕ) (joined : Flat) (n : ℕ) → room ≡ record old.room { high = high } → Joins pass (Ok joined) ready after → n ≡ lefts + 3 * pairs + 2 → n ≤ s1.spare → MaySelect q room after
@@ -163,14 +163,15 @@ module _ {R : Type 0} (state : R → RevState) (old : Engine R) (s s1 : StoreSta
       let counted : counted_after q ≡ pairs = ap (blocks_for old.public.pack) (sym capacity_is) ∙ whole_product pairs old.public.pack agrees.settings.pack_least in
       let enough = still_spare lefts pairs n s1.spare s2.spare (length script) is spare went.spare long in
       let asked = ap length went.did.asked in
+      let begun = ap earlier went.lasts.start in
       let sum = length-append s1.asked script in
       let same = ap length rests.asked in
-      let early = not_late (length s.asked) (allowed (is_late (length s.asked)) old.public.pack old.public.buffer (headings_of old.public.tables) (RowsStmt select) free).early in
+      let early = not_late (count_of old s) (allowed (is_late (count_of old s)) old.public.pack old.public.buffer (headings_of old.public.tables) (RowsStmt select) free).early in
       let fits = join_fits state old s i j t u a b on equals select agrees get_a get_b named_a named_b of_join free in
       let most = fits.slots in
       let within = product_least pairs old.public.pack agrees.settings.pack_least in
       let few = blocks_few old.public.pack t.heading.capacity agrees.settings.pack_least in
-      let small = (agrees.tables.each i t get_a).stored.most in
+      let small = (agrees.tables.each i t get_a).heading.stored.most in
       record {
         settings = agrees.settings;
         free = record {
@@ -181,7 +182,7 @@ module _ {R : Type 0} (state : R → RevState) (old : Engine R) (s s1 : StoreSta
         ready = went.lasts.ready;
         spare = omega (arith, counted, enough);
         short = omega arith;
-        few = omega (arith, asked, sum, same, early, long, most, within, few, small);
+        few = omega (arith, asked, sum, same, begun, early, long, most, within, few, small);
         flat = subst (λ (k : ℕ). IsFlat k q.flat after) agrees.room.pack (subst (λ (f : Flat). IsFlat old.room.pack f after) (joins.makes.value ∙ table_is) joins.makes.flat);
         size = join_size;
         columns = join_columns;

@@ -16,7 +16,7 @@ use Rattle.ob_vault.specs.State.{RevState, World}
 use Rattle.ob_vault.specs.Tied.{Ready}
 use Rattle.ob_vault.specs.Calls.{Lasts}
 use Rattle.ob_vault.specs.declared.vault.Vault.{Vault}
-use Rattle.ob_vault.specs.Places.{at}
+use Rattle.ob_vault.specs.Places.{at, start_of}
 use Rattle.ob_flat.specs.declared.fault.OpErr.{OpErr}
 use Rattle.ob_flat.specs.declared.fault.OpErr.TheVariants as OpErrs
 use Rattle.ob_flat.specs.Passes.{PassCut, PassCause}
@@ -32,7 +32,7 @@ use Rattle.ob_exec.specs.Selecting.{from}
 use Rattle.ob_exec.specs.Sources.{EndsRows, LeavesNone, UsesRoomFor, rows_script, rows_skeleton, selected_outcome, selection}
 use Rattle.ob_exec.proofs.RunLemmas.{asks_cut, asks_none, free_after, next_after, of_other}
 use Rattle.ob_exec.proofs.RowsLawful.{ended_end, ended_whole, ended_well}
-use Rattle.ob_exec.proofs.TableLemmas.{tables_kept, region_below}
+use Rattle.ob_exec.proofs.TableLemmas.{beside_below, tables_kept, region_below}
 
 -- an engine after a SELECT
 abbrev pub rows_after : {R : Type 0} → Engine R → Vault R → RoomState → Seen → Bool → Engine R
@@ -65,10 +65,11 @@ cut_cause OpErrs.NoMemory a b cause = cause
 module _ {R : Type 0} (state : R → RevState) (old : Engine R) (s : StoreState) (v : Vault R) (room : RoomState) (t : StoreState) (select : SelectRows)
     (agrees : Agrees state old s) (used : UsesRoomFor old.room room (world_of state old s) (at state v t)) where
   -- the tables stay where they are
-  pub rows_tables : Lasts (from old.vault.next) (world_of state old s) (at state v t) → LeavesNone (world_of state old s) (at state v t) → AreTables old.public.tables old.public.pack (at state v t)
+  pub rows_tables : Lasts (from old.vault.next) (world_of state old s) (at state v t) → LeavesNone (world_of state old s) (at state v t) → AreTables old.public.tables old.closing old.public.pack (at state v t)
   rows_tables lasts leaves =
-      tables_kept (from old.vault.next) old.public.pack old.public.tables _ _ lasts
+      tables_kept (from old.vault.next) old.public.pack old.public.tables old.closing _ _ lasts
       (λ i u here above. let below = region_below old.public.pack i old.public.tables u _ agrees.ready agrees.tables here in omega (arith, below, above))
+      (λ q is above. let below = beside_below old.public.pack old.public.tables old.closing q _ agrees.ready agrees.tables is in omega (arith, below, above))
       (λ q shape live above. let none = leaves.gone q above in cc (live, none)) agrees.tables
 
   rows_free : IsFree old.public room
@@ -81,11 +82,11 @@ module _ {R : Type 0} (state : R → RevState) (old : Engine R) (s : StoreState)
     some = λ any. used.some (λ same. let l = ap length same in let m = ap length asked in let n = length-append s.asked (x ∷ xs) in omega (arith, l, m, n));
   }
 
-  rows_on : (seen : Seen) (x : List Access) (ended : Bool) → ended ≡ false → Ready (at state v t) → t.asked ≡ s.asked ++ x
-      → script old.public (rows_skeleton select) seen ≡ x → AreTables old.public.tables old.public.pack (at state v t)
+  rows_on : (seen : Seen) (x : List Access) (ended : Bool) → ended ≡ false → Ready (at state v t) → start_of v ≡ start_of old.vault → t.asked ≡ s.asked ++ x
+      → script old.public (rows_skeleton select) seen ≡ x → AreTables old.public.tables old.closing old.public.pack (at state v t)
       → GoesOn state (rows_skeleton select) old (rows_after old v room seen ended) t
-  rows_on seen x ended lives ready asked is are =
-      let number = next_after (world_of state old s) (at state v t) x agrees.ready ready refl asked in
+  rows_on seen x ended lives ready start asked is are =
+      let number = next_after (world_of state old s) (at state v t) x agrees.ready ready start asked in
       let region : v.next ≡ old.public.next_region + makes (script old.public (rows_skeleton select) seen) =
       number ∙ ap (λ (n : ℕ). n + makes x) (sym agrees.next) ∙ ap (λ (y : List Access). old.public.next_region + makes y) (sym is) in
       record {
@@ -111,12 +112,14 @@ module _ {R : Type 0} (state : R → RevState) (old : Engine R) (s : StoreState)
         asked = is.ran.did.asked ∙ ap (λ (y : List Access). s.asked ++ y) (sym whole);
         later = is.ran.lasts.later;
         keys = is.ran.lasts.keys;
+        start = is.ran.lasts.start;
+        from_closing = refl;
         ends = ended_end (selection old.public select) answer seen _ is.ended;
         asks = asks_none (selected_outcome answer) _ (ended_well (selection old.public select) answer seen is.ended);
         cause = (of_other _ _ (is_fault (selected_outcome answer)) (ended_well (selection old.public select) answer seen is.ended) is.ran.did.faults, is.ran.calm);
         room = rows_free;
         opened = subst (λ (y : List Access). Opens y old.room.high room.high) (sym whole) (opens_by all is.ran.did.asked);
-        goes_on = rows_on seen all old.ended lives is.ran.lasts.ready is.ran.did.asked whole (rows_tables is.ran.lasts is.leaves);
+        goes_on = rows_on seen all old.ended lives is.ran.lasts.ready is.ran.lasts.start is.ran.did.asked whole (rows_tables is.ran.lasts is.leaves);
       }
 
   cut_on : (e : OpErr) (seen : Seen) → GoesOn state (rows_skeleton select) old (rows_after old v room seen false) t
@@ -139,11 +142,13 @@ module _ {R : Type 0} (state : R → RevState) (old : Engine R) (s : StoreState)
         asked = first;
         later = cut.lasts.later;
         keys = cut.lasts.keys;
+        start = cut.lasts.start;
+        from_closing = refl;
         ends = cut_ends e n ∙ ap (result_end (answer_of e)) count;
         asks = asks_cut e s t cut.asks;
         cause = cut_cause e _ _ cut.cause;
         room = rows_free;
         opened = opens_by (take n all) first;
         goes_on = cut_on e (record seen { end = Cut n })
-            (rows_on (record seen { end = Cut n }) (take n all) false refl cut.lasts.ready first refl (rows_tables cut.lasts leaves));
+            (rows_on (record seen { end = Cut n }) (take n all) false refl cut.lasts.ready cut.lasts.start first refl (rows_tables cut.lasts leaves));
       }

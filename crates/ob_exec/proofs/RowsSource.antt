@@ -32,7 +32,7 @@ use Rattle.ob_verdict.specs.Laws.{AreInPlace}
 use Rattle.ob_verdict.proofs.JoinLemmas.{rows-joined}
 use Rattle.ob_mean.specs.Verdict.{Tables, database, slots_at, source_slots}
 use Rattle.ob_sql.specs.declared.stmt.SelectRows.{SelectRows}
-use Rattle.ob_exec.specs.Schemas.{IsStored}
+use Rattle.ob_reopen.specs.Limits.{IsStored}
 
 -- ---- labels
 get_at : (xs : Columns) (x : Column) (ys : Columns) → slice_get (xs ++ x ∷ ys) (length xs) ≡ Some x

@@ -38,7 +38,7 @@ use Rattle.ob_verdict.proofs.LawfulProof.{same_script}
 use Rattle.ob_exec.specs.declared.engine.Engine.{Engine}
 use Rattle.ob_exec.specs.declared.outcome.Outcome.{Outcome}
 use Rattle.ob_exec.specs.declared.selecting.Selected.{Selected}
-use Rattle.ob_exec.specs.Agreeing.{Agrees, world_of}
+use Rattle.ob_exec.specs.Agreeing.{Agrees, world_of, count_of}
 use Rattle.ob_exec.specs.Running.{RefusedEarly, SinkCause, answer_of, is_stop, refusal_now}
 use Rattle.ob_exec.specs.Selecting.{MayHold, SealsRows, answer_events, answer_of as selected_of, from, places, seen_of}
 use Rattle.ob_exec.specs.Serving.{Answered, EndsWithin, Serves, Stopped}
@@ -138,7 +138,7 @@ sink_of OpErrs.Sink a b cause = cause
 sink_of OpErrs.NoMemory a b cause = cause
 
 module _ {R : Type 0} (state : R → RevState) (old : Engine R) (s : StoreState) (v : Vault R) (room : RoomState) (t : StoreState) (select : SelectRows)
-    (agrees : Agrees state old s) (free : refusal_now old.public (length s.asked) (RowsStmt select) ≡ None) (source : IsSource old.public select)
+    (agrees : Agrees state old s) (free : refusal_now old.public (count_of old s) (RowsStmt select) ≡ None) (source : IsSource old.public select)
     (lasts : Lasts (from old.vault.next) (world_of state old s) (at state v t)) where
   abbrev pub before : World
   before = world_of state old s
@@ -181,26 +181,26 @@ module _ {R : Type 0} (state : R → RevState) (old : Engine R) (s : StoreState)
     pub headed : headings tables ≡ headings_of old.public.tables
     headed = held_headings old.public.pack old.public.tables tables before stands.held
 
-    pub early : early_refusal (is_late (length s.asked)) old.public.pack old.public.buffer (headings tables) (RowsStmt select) ≡ None
-    early = early_held old.public (length s.asked) (RowsStmt select) tables before None stands.held free
+    pub early : early_refusal (is_late (count_of old s)) old.public.pack old.public.buffer (headings tables) (RowsStmt select) ≡ None
+    early = early_held old.public (count_of old s) (RowsStmt select) tables before None stands.held free
 
     pub rows_of : Same (source_rows select.source (database tables)) (rows (slots_of old.public select tables))
     rows_of = source.rows_are tables stands.in_place headed
 
     seen_cut : (failed : Bool) (now : Seen) (n : ℕ) → n ≡ length t.asked - length s.asked
         → HoldsRows old.public select (slots_of old.public select tables) failed (length t.asked - length s.asked) now
-        → record now { end = Cut n } ≡ cut_at failed (length t.asked - length s.asked) old.public (rows_skeleton select) (seen old.public (length s.asked) tables (RowsStmt select))
+        → record now { end = Cut n } ≡ cut_at failed (length t.asked - length s.asked) old.public (rows_skeleton select) (seen old.public (count_of old s) tables (RowsStmt select))
     seen_cut failed now n count holds =
         (λ i. record { k = holds.k i; plan = holds.plan i; then = holds.second i; end = Cut (count i) })
         ∙ ap (cut_at failed (length t.asked - length s.asked) old.public (rows_skeleton select))
-        (sym (rows_seen old.public (length s.asked) select tables headed stands.in_place early agrees.settings.pack_least agrees.settings.blocks agrees.settings.padded source.labelled rows_of))
+        (sym (rows_seen old.public (count_of old s) select tables headed stands.in_place early agrees.settings.pack_least agrees.settings.blocks agrees.settings.padded source.labelled rows_of))
 
   pub rows_begun : ReadsMeant old.public select before after → (tables : Tables) → ReadsTrue state old s s tables → (lie : Lie) → t.lie ≡ Some lie
-      → ReadsIn lie (s.asked ++ meant_script old.public (length s.asked) tables (RowsStmt select))
+      → ReadsIn lie (s.asked ++ meant_script old.public (count_of old s) tables (RowsStmt select))
   rows_begun begun tables reads lie told =
       let q = selection old.public select in
       let slots = slots_of old.public select tables in
-      let meant = rows_seen old.public (length s.asked) select tables (headed tables reads.held) reads.held.in_place (early tables reads.held) agrees.settings.pack_least agrees.settings.blocks agrees.settings.padded source.labelled (rows_of tables reads.held) in
+      let meant = rows_seen old.public (count_of old s) select tables (headed tables reads.held) reads.held.in_place (early tables reads.held) agrees.settings.pack_least agrees.settings.blocks agrees.settings.padded source.labelled (rows_of tables reads.held) in
       subst (λ (l : List Access). ReadsIn lie (s.asked ++ l))
       (sym (ap (script old.public (rows_skeleton select)) meant ∙ until_rows old.public.pad old.public (length slots) (places q slots) (rows_script old.public select (seen_of q slots))))
       (begun (record { tells = reads.tells; tables = tables; held = reads.held.held; in_place = reads.held.in_place; nolie = reads.nolie }) lie told)
@@ -211,7 +211,7 @@ module _ {R : Type 0} (state : R → RevState) (old : Engine R) (s : StoreState)
     stopped_engine e = rows_after old v room (record now { end = Cut n }) (is_stop (answer_of e))
 
     stop_told : (e : OpErr) → StopsRows grew cut old.public select e now before after out_old out_new → (tables : Tables) → ReadsTrue state old s t tables
-        → IfOk (answer_of e) (λ outcome. Told state (RowsStmt select) (length s.asked) tables outcome old (stopped_engine e) t)
+        → IfOk (answer_of e) (λ outcome. Told state (RowsStmt select) tables outcome old s (stopped_engine e) t)
     stop_told OpErrs.Failed is tables reads = record {
       seen = seen_cut tables reads.held true now n count (is.held (to_halt tables reads));
       held = still_held (record now { end = Cut n }) false tables reads.held;
@@ -230,7 +230,7 @@ module _ {R : Type 0} (state : R → RevState) (old : Engine R) (s : StoreState)
     stop_honest OpErrs.NoMemory is tables reads = refl
 
     stop_held : (e : OpErr) → StopsRows grew cut old.public select e now before after out_old out_new → (tables : Tables) → ReadsTrueUntil state old s (stopped_engine e) t tables
-        → IfErr (answer_of e) (λ stop. SeenCut (is_refused stop) (RowsStmt select) (length s.asked) tables old (stopped_engine e) t)
+        → IfErr (answer_of e) (λ stop. SeenCut (is_refused stop) (RowsStmt select) tables old s (stopped_engine e) t)
     stop_held OpErrs.Failed is tables reads = tt
     stop_held (OpErrs.Tampered q x) is tables reads = seen_cut tables reads.held true now n count (is.held (until (record now { end = Cut n }) true tables reads))
     stop_held OpErrs.Sink is tables reads = seen_cut tables reads.held false now n count (is.held (until (record now { end = Cut n }) true tables reads))
@@ -250,7 +250,7 @@ module _ {R : Type 0} (state : R → RevState) (old : Engine R) (s : StoreState)
           };
           told = λ tables reads.
               let rest = part.told (to_halt tables reads) in
-              rows_unfinished old.public (length s.asked) select tables (headed tables reads.held) reads.held.in_place (early tables reads.held)
+              rows_unfinished old.public (count_of old s) select tables (headed tables reads.held) reads.held.in_place (early tables reads.held)
               agrees.settings.pack_least agrees.settings.blocks agrees.settings.padded source.labelled (rows_of tables reads.held) part.events rest.0 rest.1;
         }
     stop_answered (OpErrs.Tampered q x) is = tt
@@ -266,7 +266,7 @@ module _ {R : Type 0} (state : R → RevState) (old : Engine R) (s : StoreState)
       events = events;
       ends = ends;
       told = λ tables reads.
-          rows_partly old.public (length s.asked) select tables (headed tables reads.held) reads.held.in_place (early tables reads.held)
+          rows_partly old.public (count_of old s) select tables (headed tables reads.held) reads.held.in_place (early tables reads.held)
           agrees.settings.pack_least agrees.settings.blocks agrees.settings.padded source.labelled (rows_of tables reads.held) events (told (until (record now { end = Cut n }) (is_stop (answer_of e)) tables reads));
     }
 
@@ -294,8 +294,8 @@ module _ {R : Type 0} (state : R → RevState) (old : Engine R) (s : StoreState)
         → Serves state grew cut faults (RowsStmt select) (answer_of e) old s (stopped_engine e) t out_old out_new
     serves_stopped e used is sink = record {
       ran = rows_cut state old s v room t select agrees used e now n count is.ran is.leaves;
-      early = early_none old.public (length s.asked) select (answer_of e) (record now { end = Cut n }) free cut_static;
-      lawful = lawful_cut old.public select (length s.asked) free now n is.holds (subst (λ (k : ℕ). ReachesRows old.public select now k) (sym count) is.reached) (few e is.ran);
+      early = early_none old.public (count_of old s) select (answer_of e) (record now { end = Cut n }) free cut_static;
+      lawful = lawful_cut old.public select (count_of old s) free now n is.holds (subst (λ (k : ℕ). ReachesRows old.public select now k) (sym count) is.reached) (few e is.ran);
       memory = λ wanted.
           let lacks = is.memory (only_memory e wanted) in
           record {

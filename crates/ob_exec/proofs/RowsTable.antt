@@ -59,7 +59,7 @@ use Rattle.ob_exec.proofs.PlaceLemmas.{all_places}
 use Rattle.ob_exec.specs.declared.engine.Engine.{Engine}
 use Rattle.ob_exec.specs.declared.selecting.Selected.{Selected}
 use Rattle.ob_exec.specs.declared.selecting.Selected.TheVariants.{Rows, Refused}
-use Rattle.ob_exec.specs.Agreeing.{Agrees, world_of}
+use Rattle.ob_exec.specs.Agreeing.{Agrees, world_of, count_of}
 use Rattle.ob_exec.specs.Engines.{flat_of}
 use Rattle.ob_exec.specs.Selecting.{HoldsSeen, MaySelect, Selection, SelectsFrom, SelectsToEnd, SelectsToHalt, EmitsSelected, answer_events, counted_after, from, region_of, seen_of, selection_script, walked_after}
 use Rattle.ob_exec.specs.Sources.{EmitsRows, EndsRows, HaltsRows, HoldsRows, ReadsMeant, SelectsRows, SourceToEnd, SourceToHalt, rows_script, rows_skeleton, selection, slots_of, stated}
@@ -149,7 +149,7 @@ module _ {R : Type 0} (state : R → RevState) (old : Engine R) (s s1 : StoreSta
 
   pub counts_some : 1 ≤ count_end old.public (rows_skeleton select)
   counts_some =
-      let least = (agrees.tables.each i t get).stored.least in
+      let least = (agrees.tables.each i t get).heading.stored.least in
       let blocks : 1 ≤ div_ceil (selection old.public select).flat.capacity old.public.pack =
       subst (λ (n : ℕ). 1 ≤ div_ceil n old.public.pack) capacity_is (some_of t.heading.capacity old.public.pack agrees.settings.pack_least least) in
       subst (λ (n : ℕ). 1 ≤ n) (sym count_is) blocks
@@ -259,31 +259,31 @@ module _ {R : Type 0} (state : R → RevState) (old : Engine R) (s s1 : StoreSta
       (condition_is ∙ ap (where_at select.cond) all) (cols_are ∙ ap (printed_places select) all)
       ∙ ap (λ (f : Flat). stated old.public select f.region 0) flat_is
 
-  module _ (free : refusal_now old.public (length s.asked) (RowsStmt select) ≡ None) where
+  module _ (free : refusal_now old.public (count_of old s) (RowsStmt select) ≡ None) where
     pub few_listed : length (listed select) ≤ 32
-    few_listed = (places_fit (is_late (length s.asked)) old.public.pack old.public.buffer (headings_of old.public.tables) select free).few
+    few_listed = (places_fit (is_late (count_of old s)) old.public.pack old.public.buffer (headings_of old.public.tables) select free).few
 
     table_columns : AreColumns q.flat.schema q.cols
     table_columns =
-        let stored = (agrees.tables.each i t get).stored in
+        let stored = (agrees.tables.each i t get).heading.stored in
         let few = stored.few in
         let wide : length (selection old.public select).flat.schema ≤ 32 = subst (λ (cs : Columns). length cs ≤ 32) schema_is (omega (arith, few)) in
         record {
           few = listed_few select.list q.flat.schema few_listed wide;
-          within = (places_fit (is_late (length s.asked)) old.public.pack old.public.buffer (headings_of old.public.tables) select free).printed;
+          within = (places_fit (is_late (count_of old s)) old.public.pack old.public.buffer (headings_of old.public.tables) select free).printed;
         }
 
     table_size : IsSized q.flat.schema q.flat.capacity
     table_size =
-        let stored = (agrees.tables.each i t get).stored in
+        let stored = (agrees.tables.each i t get).heading.stored in
         let few = stored.few in
         let most = stored.most in
         subst (λ (cs : Columns). IsSized cs q.flat.capacity) schema_is
         (subst (λ (n : ℕ). IsSized t.heading.schema n) capacity_is
         (record { some = stored.some; few = omega (arith, few); wide = stored.wide; least = stored.least; most = omega (arith, most) }))
 
-    early_asked : length s.asked < 9223372036854775808
-    early_asked = not_late (length s.asked) (allowed (is_late (length s.asked)) old.public.pack old.public.buffer (headings_of old.public.tables) (RowsStmt select) free).early
+    early_asked : count_of old s < 9223372036854775808
+    early_asked = not_late (count_of old s) (allowed (is_late (count_of old s)) old.public.pack old.public.buffer (headings_of old.public.tables) (RowsStmt select) free).early
 
     pub table_may : (rests : Rests s s1) (blocks : ℕ) → blocks ≡ div_ceil t.heading.capacity old.public.pack → blocks ≤ s1.spare → MaySelect q old.room (at state old.vault s1)
     table_may rests blocks blocks_are spare =

@@ -1,5 +1,5 @@
 -- How a statement of an engine ends.
-use Rattle.std.proofs.Common.{IsTrue, ◌≡◌, ◌≤◌, ◌+◌, ◌-◌, max, ℕ, Bool, true, false, List, [], ◌++◌, length, take, Ok, Err, Result, refl, sym, ◌∙◌, ap, subst, arith, append-nil}
+use Rattle.std.proofs.Common.{IsTrue, ◌≡◌, ◌≤◌, ◌+◌, ◌-◌, max, ℕ, Bool, true, false, List, [], ◌++◌, length, take, Ok, Err, OnOk, Result, refl, sym, ◌∙◌, ap, subst, arith, append-nil}
 use Rattle.ob_base.specs.declared.access.Access.{Access}
 use Rattle.ob_base.specs.declared.config.Public.{Public}
 use Rattle.ob_base.specs.declared.refusal.Refusal.{Refusal}
@@ -22,13 +22,14 @@ use Rattle.ob_flat.specs.declared.fault.OpErr.TheVariants as OpErrs
 use Rattle.ob_flat.specs.Passes.{PassCut, PassCause, is_of_access}
 use Rattle.ob_script.specs.Script.{script, whole_script}
 use Rattle.std.specs.Prelude.{◌<◌}
+use Rattle.std.specs.Result.{is_err}
 use Rattle.std.proofs.lemmas.Bool.Decides.{nat_tests}
 use Rattle.std.proofs.lemmas.List.{length-append}
 use Rattle.ob_script.specs.Trace.{tables_after, tables_then}
 use Rattle.ob_base.specs.declared.schema.Table.{Table}
 use Rattle.ob_room.specs.RoomState.{RoomState}
 use Rattle.ob_vault.specs.declared.vault.Vault.{Vault}
-use Rattle.ob_vault.specs.Places.{at}
+use Rattle.ob_vault.specs.Places.{at, start_of}
 use Rattle.ob_mean.specs.Verdict.{is_late, ended as seen_to}
 use Rattle.ob_exec.specs.declared.engine.Engine.{Engine}
 use Rattle.ob_exec.specs.declared.outcome.Outcome.{Outcome}
@@ -49,6 +50,11 @@ next_after a b x was is start asked =
     let sum = makes-append a.store.asked x in
     let all = ap makes asked in
     omega (arith, was.tied.next, is.tied.next, ap (λ (s : Start). s.region) start, sum, all)
+
+-- what holds at an `Ok`, where there is no `Err`
+pub at_ok : {T E : Type 0} (r : Result T E) (P : Type 0) → is_err r ≡ false → OnOk r P → P
+at_ok (Ok x) P ok h = h
+at_ok (Err e) P ok h = absurd (cc ok)
 
 makes_none : makes [] ≡ 0
 unfolding makes
@@ -98,6 +104,8 @@ module _ {R : Type 0} (state : R → RevState) (skeleton : Skeleton) (old : Engi
     asked = sym (append-nil s.asked);
     later = later_refl s;
     keys = refl;
+    start = refl;
+    from_closing = refl;
     ends = sym (early.static _);
     asks = asks_none (Refused r) _ early.own;
     cause = (of_other _ _ (is_store_fault r) early.own refl, λ calm. calm);
@@ -127,11 +135,11 @@ engine_after old v room tables end ended = record old {
 
 module _ {R : Type 0} (state : R → RevState) (skeleton : Skeleton) (old : Engine R) (s : StoreState) (v : Vault R) (room : RoomState) (t : StoreState)
     (agrees : Agrees state old s) (free : IsFree old.public room) where
-  went_on : (tables : List Table) (end : End) (x : List Access) (ended : Bool) → ended ≡ false → Ready (at state v t) → t.asked ≡ s.asked ++ x
-      → script old.public skeleton (seen_to end) ≡ x → tables ≡ tables_then old.public skeleton end → AreTables tables old.public.pack (at state v t)
+  went_on : (tables : List Table) (end : End) (x : List Access) (ended : Bool) → ended ≡ false → Ready (at state v t) → start_of v ≡ start_of old.vault → t.asked ≡ s.asked ++ x
+      → script old.public skeleton (seen_to end) ≡ x → tables ≡ tables_then old.public skeleton end → AreTables tables old.closing old.public.pack (at state v t)
       → GoesOn state skeleton old (engine_after old v room tables end ended) t
-  went_on tables end x ended lives ready asked is same are =
-      let number = next_after (world_of state old s) (at state v t) x agrees.ready ready refl asked in
+  went_on tables end x ended lives ready start asked is same are =
+      let number = next_after (world_of state old s) (at state v t) x agrees.ready ready start asked in
       let region : v.next ≡ old.public.next_region + makes (script old.public skeleton (seen_to end)) =
       number ∙ ap (λ (n : ℕ). n + makes x) (sym agrees.next) ∙ ap (λ (y : List Access). old.public.next_region + makes y) (sym is) in
       record {
@@ -149,17 +157,19 @@ module _ {R : Type 0} (state : R → RevState) (skeleton : Skeleton) (old : Engi
   -- all of it was asked
   pub ran_whole : (some : ℕ → Type 0) (tables : List Table) (x : List Access) (outcome : Outcome) → old.ended ≡ false → IsAnswered outcome → Opens x old.room.high room.high
       → Went x some (world_of state old s) (at state v t) → whole_script old.public skeleton (seen_to Whole) ≡ x → tables ≡ tables_after old.public skeleton
-      → AreTables tables old.public.pack (at state v t) → Ran state skeleton (Ok outcome) old s (engine_after old v room tables Whole old.ended) t
+      → AreTables tables old.closing old.public.pack (at state v t) → Ran state skeleton (Ok outcome) old s (engine_after old v room tables Whole old.ended) t
   ran_whole some tables x outcome lives answered opens went is same are = record {
     asked = went.did.asked ∙ ap (λ (y : List Access). s.asked ++ y) (sym is);
     later = went.lasts.later;
     keys = went.lasts.keys;
+    start = went.lasts.start;
+    from_closing = refl;
     ends = sym (answered.whole _);
     asks = asks_none outcome _ answered.own;
     cause = (of_other _ _ (is_fault outcome) answered.own went.did.faults, went.calm);
     room = free;
     opened = subst (λ (y : List Access). Opens y old.room.high room.high) (sym is) opens;
-    goes_on = went_on tables Whole x old.ended lives went.lasts.ready went.did.asked is same are;
+    goes_on = went_on tables Whole x old.ended lives went.lasts.ready went.lasts.start went.did.asked is same are;
   }
 
   cut_ends : (e : OpErr) (n : ℕ) → Cut n ≡ result_end (answer_of e) n
@@ -183,7 +193,7 @@ module _ {R : Type 0} (state : R → RevState) (skeleton : Skeleton) (old : Engi
 
   -- a pass gave up
   pub ran_stopped : (some : ℕ → Type 0) (n : ℕ) (x : List Access) (e : OpErr) → Opens (script old.public skeleton (seen_to (Cut n))) old.room.high room.high → PassCut e x some (world_of state old s) (at state v t)
-      → whole_script old.public skeleton (seen_to (Cut n)) ≡ x → n ≡ length t.asked - length s.asked → AreTables old.public.tables old.public.pack (at state v t)
+      → whole_script old.public skeleton (seen_to (Cut n)) ≡ x → n ≡ length t.asked - length s.asked → AreTables old.public.tables old.closing old.public.pack (at state v t)
       → Ran state skeleton (answer_of e) old s (engine_after old v room old.public.tables (Cut n) (is_stop (answer_of e))) t
   ran_stopped some n x e opens cut is count are =
       let first : t.asked ≡ s.asked ++ take n x = began_take x _ _ cut.began ∙ ap (λ (k : ℕ). s.asked ++ take k x) (sym count) in
@@ -191,12 +201,14 @@ module _ {R : Type 0} (state : R → RevState) (skeleton : Skeleton) (old : Engi
         asked = first ∙ ap (λ (y : List Access). s.asked ++ take n y) (sym is);
         later = cut.lasts.later;
         keys = cut.lasts.keys;
+        start = cut.lasts.start;
+        from_closing = refl;
         ends = cut_ends e n ∙ ap (result_end (answer_of e)) count;
         asks = asks_cut e s t cut.asks;
         cause = cut_cause e _ _ cut.cause;
         room = free;
         opened = opens;
-        goes_on = cut_on e n (went_on old.public.tables (Cut n) (take n x) false refl cut.lasts.ready first (ap (take n) is) refl are);
+        goes_on = cut_on e n (went_on old.public.tables (Cut n) (take n x) false refl cut.lasts.ready cut.lasts.start first (ap (take n) is) refl are);
       }
 
 module _ {R : Type 0} (state : R → RevState) (skeleton : Skeleton) (old : Engine R) (s : StoreState) (v : Vault R) (room : RoomState) (t : StoreState)
@@ -210,14 +222,14 @@ module _ {R : Type 0} (state : R → RevState) (skeleton : Skeleton) (old : Engi
 
   -- all of a pass over the room was asked
   pub ran_done : (some : ℕ → Type 0) (tables : List Table) (x : List Access) (outcome : Outcome) → old.ended ≡ false → IsAnswered outcome → Went x some (world_of state old s) (at state v t)
-      → whole_script old.public skeleton (seen_to Whole) ≡ x → tables ≡ tables_after old.public skeleton → AreTables tables old.public.pack (at state v t)
+      → whole_script old.public skeleton (seen_to Whole) ≡ x → tables ≡ tables_after old.public skeleton → AreTables tables old.closing old.public.pack (at state v t)
       → Ran state skeleton (Ok outcome) old s (engine_after old v room tables Whole old.ended) t
   ran_done some tables x outcome lives answered went is same are =
       ran_whole state skeleton old s v room t agrees free some tables x outcome lives answered (opened x) went is same are
 
   -- a pass over the room gave up
   pub ran_cut : (some : ℕ → Type 0) (n : ℕ) (x : List Access) (e : OpErr) → PassCut e x some (world_of state old s) (at state v t)
-      → whole_script old.public skeleton (seen_to (Cut n)) ≡ x → n ≡ length t.asked - length s.asked → AreTables old.public.tables old.public.pack (at state v t)
+      → whole_script old.public skeleton (seen_to (Cut n)) ≡ x → n ≡ length t.asked - length s.asked → AreTables old.public.tables old.closing old.public.pack (at state v t)
       → Ran state skeleton (answer_of e) old s (engine_after old v room old.public.tables (Cut n) (is_stop (answer_of e))) t
   ran_cut some n x e cut is count are = ran_stopped state skeleton old s v room t agrees free some n x e (opened _) cut is count are
 
@@ -250,6 +262,8 @@ ran_no_room state skeleton old s t tables agrees rests =
       asked = rests.asked ∙ sym (append-nil s.asked);
       later = later_rests s t rests;
       keys = refl;
+      start = refl;
+      from_closing = refl;
       ends = ap (λ (n : ℕ). Cut n) none;
       asks = λ faulted. absurd faulted;
       cause = (rests.faults, λ calm. record { calm = λ lie is. calm.calm lie (sym rests.lie ∙ is); within = λ lie is. subst (ReadsIn lie) (sym rests.asked) (calm.within lie (sym rests.lie ∙ is)) });
@@ -260,4 +274,4 @@ ran_no_room state skeleton old s t tables agrees rests =
 
 -- a store that no call was made on
 pub rests_refl : (s : StoreState) → Rests s s
-rests_refl s = record { spare = omega (arith); asked = refl; gave = refl; faults = refl; slips = refl; tells = refl; lie = refl; disturbed = refl; keeps = record { live = λ q. refl; last = λ q x. refl } }
+rests_refl s = record { spare = omega (arith); asked = refl; gave = refl; faults = refl; slips = refl; tells = refl; lie = refl; disturbed = refl; keeps = record { live = λ q. refl; last = λ q x. refl; kept = λ q. refl } }

@@ -18,7 +18,8 @@ use Rattle.ob_script.specs.Script.{after_count, extent_of}
 use Rattle.ob_script.proofs.Lengths.{length-count_part}
 use Rattle.ob_vault.specs.State.{World}
 use Rattle.ob_vault.specs.Calls.{Went, none, one}
-use Rattle.ob_vault.proofs.Runs.{went_length, went_wider, went_none, seals_join}
+use Rattle.ob_vault.specs.Numbers.{spent}
+use Rattle.ob_vault.proofs.Runs.{went_length, went_spent, went_wider, went_none, seals_join}
 use Rattle.ob_flat.specs.declared.counting.Counted.{Counted}
 use Rattle.ob_flat.specs.declared.fault.OpErr.{OpErr}
 use Rattle.ob_flat.specs.declared.fault.OpErr.TheVariants.{Failed, Tampered, Sink, NoMemory}
@@ -373,8 +374,8 @@ hashed_first grew cut faults q plan k why mid late out_old out_new is =
 
 module _ (q : Selection) (room : RoomState) (old mid : World) (may : MaySelect q room old) (k : ℕ) (c : Bool) (is : CountsRows q.public.pack q.flat (is_true q.condition) (Ok (record { k = k; consecutive = c })) old mid)
     (least : 1 ≤ k) (fresh : RoomState) (free : IsFree q.public fresh) where
-  counted_few : length mid.store.asked ≤ length old.store.asked + 16777216
-  counted_few = omega (arith, went_length none (counts_of q) old mid is.ran.ok, length-count_part q.flat.region (counted_after q), blocks_few q.public.pack q.flat.capacity may.settings.pack_least, may.size.most)
+  counted_few : spent mid ≤ spent old + 16777216
+  counted_few = omega (arith, went_spent none (counts_of q) old mid is.ran.ok, length-count_part q.flat.region (counted_after q), blocks_few q.public.pack q.flat.capacity may.settings.pack_least, may.size.most)
 
   pub planned_first : (plan : Plan) → IsPlanned (planned q plan k) fresh mid
   planned_first plan = record {
@@ -401,7 +402,7 @@ module _ (q : Selection) (room : RoomState) (old mid : World) (may : MaySelect q
         settings = may.settings;
         free = free;
         ready = went.lasts.ready;
-        few = omega (arith, may.few, counted_few, went_length (one mid.vault.next) _ mid late went, length_hash q k mid.vault.next may.settings, deep, all, blocks, may.size.most);
+        few = omega (arith, may.few, counted_few, went_spent (one mid.vault.next) _ mid late went, length_hash q k mid.vault.next may.settings, deep, all, blocks, may.size.most);
         flat = flat_lasts q.public.pack q.flat (one mid.vault.next) mid late went.lasts off is.source;
         size = may.size;
         columns = may.columns;

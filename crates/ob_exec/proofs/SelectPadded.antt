@@ -24,7 +24,7 @@ use Rattle.ob_store.proofs.Steps as Stores
 use Rattle.ob_vault.specs.State.{World}
 use Rattle.ob_vault.specs.Tied.{ReadsIn, Ready}
 use Rattle.ob_vault.specs.Calls.{Went, Lasts, none, one}
-use Rattle.ob_vault.proofs.Runs.{went_length, seals_join, tells_went}
+use Rattle.ob_vault.proofs.Runs.{went_spent, seals_join, tells_went}
 use Rattle.ob_flat.specs.declared.fault.OpErr.{OpErr}
 use Rattle.ob_flat.specs.declared.fault.OpErr.TheVariants.{Failed, Sink, NoMemory}
 use Rattle.ob_flat.specs.Counted.{CountsRows}
@@ -237,7 +237,7 @@ module _ (q : Selection) (pad : ℕ) (is_pad : q.public.pad ≡ Some pad) where
           settings = may.settings;
           free = free;
           ready = count.lasts.ready;
-          few = omega (arith, may.few, went_length none (counts_of q) old mid count, length-count_part q.flat.region (counted_after q), blocks_few q.public.pack q.flat.capacity may.settings.pack_least, may.size.most);
+          few = omega (arith, may.few, went_spent none (counts_of q) old mid count, length-count_part q.flat.region (counted_after q), blocks_few q.public.pack q.flat.capacity may.settings.pack_least, may.size.most);
           flat = is.source;
           size = may.size;
           columns = may.columns;

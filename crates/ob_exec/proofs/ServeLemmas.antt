@@ -1,5 +1,5 @@
 -- A statement, from what its kind says of it.
-use Rattle.std.proofs.Common.{◌≡◌, inl, ℕ, Bool, true, false, List, [], length, Option, Some, None, Result, Ok, Err, refl, sym, ◌∙◌, ap, subst}
+use Rattle.std.proofs.Common.{◌≡◌, inl, ℕ, Bool, true, false, List, [], Option, Some, None, Result, Ok, Err, refl, sym, ◌∙◌, ap, subst}
 use Rattle.std.specs.Prelude.{IfOk, IfErr}
 use Rattle.ob_base.specs.declared.refusal.Refusal.{Refusal}
 use Rattle.ob_base.specs.declared.refusal.Stop.{Stop}
@@ -24,7 +24,7 @@ use Rattle.ob_verdict.specs.Laws.{AreInPlace}
 use Rattle.ob_exec.specs.declared.engine.Engine.{Engine}
 use Rattle.ob_exec.specs.declared.outcome.Outcome.{Outcome}
 use Rattle.ob_exec.specs.declared.outcome.Outcome.TheVariants.{Created, Inserted, Changed, Deleted, Dropped, Rows, Refused}
-use Rattle.ob_exec.specs.Agreeing.{Agrees, world_of}
+use Rattle.ob_exec.specs.Agreeing.{Agrees, world_of, count_of}
 use Rattle.ob_exec.specs.Refusals.{by_fault}
 use Rattle.ob_exec.specs.Running.{Emits, EmitsUntilFault, HasNoRows, IsSilent, RefusedEarly, SinkCause, is_fault, refusal_now}
 use Rattle.ob_exec.specs.Serving.{EndsWithin, Serves, ServesSilently, Stopped}
@@ -114,17 +114,17 @@ silent_stopped grew cut P out starts (Err Stops.InputLimit) silent h = absurd si
 
 module _ {R E : Type 0} (state : R → RevState) (grew cut : E → E → List Event → Type 0) (faults : E → ℕ) (stmt : Stmt) (old : Engine R) (s : StoreState) (out : E) (starts : grew out out []) where
   -- a statement that emits nothing and of which nothing is counted
-  pub serves_silently : (result : Result Outcome Stop) (new : Engine R) (t : StoreState) → refusal_now old.public (length s.asked) stmt ≡ None → is_counted stmt ≡ false
+  pub serves_silently : (result : Result Outcome Stop) (new : Engine R) (t : StoreState) → refusal_now old.public (count_of old s) stmt ≡ None → is_counted stmt ≡ false
       → ((tables : Tables) → IsBare (accepted_answer (database tables) stmt)) → ServesSilently state stmt result old s new t
       → Serves state grew cut faults stmt result old s new t out out
   serves_silently result new t now uncounted bare serves =
-      let early = refused_none (refusal_now old.public (length s.asked) stmt) result new.seen now serves.started in
-      let no_rows : (tables : Tables) → IsBare (verdict old.public (length s.asked) tables stmt) = λ tables. bare_answered (refusal old.public (length s.asked) tables stmt) _ (bare tables) in
+      let early = refused_none (refusal_now old.public (count_of old s) stmt) result new.seen now serves.started in
+      let no_rows : (tables : Tables) → IsBare (verdict old.public (count_of old s) tables stmt) = λ tables. bare_answered (refusal old.public (count_of old s) tables stmt) _ (bare tables) in
       let labels = answer_labels stmt old.public in
       record {
         ran = serves.ran;
         early = early;
-        lawful = lawful_now old.public (length s.asked) stmt result new.seen s.asked t.asked uncounted serves.plain serves.uncounted early serves.ran.asked serves.ran.ends;
+        lawful = lawful_now old.public (count_of old s) stmt result new.seen s.asked t.asked uncounted serves.plain serves.uncounted early serves.ran.asked serves.ran.ends;
         memory = λ is. lacks_less (λ none. absurd none) (serves.memory is);
         seals = serves.seals;
         answered = silent_answered result serves.silent (λ outcome silent. record {
@@ -143,20 +143,20 @@ module _ {R E : Type 0} (state : R → RevState) (grew cut : E → E → List Ev
       }
 
   -- a refusal before any access
-  pub serves_refused : (agrees : Agrees state old s) → old.ended ≡ false → (r : Refusal) → refusal_now old.public (length s.asked) stmt ≡ Some r
+  pub serves_refused : (agrees : Agrees state old s) → old.ended ≡ false → (r : Refusal) → refusal_now old.public (count_of old s) stmt ≡ Some r
       → Serves state grew cut faults stmt (Ok (Refused r)) old s (record old { seen = seen_to Static }) s out out
   serves_refused agrees lives r now =
       let new = record old { seen = seen_to Static } in
-      let is_early = early_is old.public (length s.asked) stmt r now in
+      let is_early = early_is old.public (count_of old s) stmt r now in
       let labels = answer_labels stmt old.public in
-      let refused : (tables : Tables) → Represents state old s tables → refusal old.public (length s.asked) tables stmt ≡ Some r = λ tables held.
-      refused_early old.public (length s.asked) tables stmt r (early_held old.public (length s.asked) stmt tables (world_of state old s) (Some r) held.held now) in
-      let verdict_is : (tables : Tables) → Represents state old s tables → verdict old.public (length s.asked) tables stmt ≡ A.Refused r = λ tables held.
+      let refused : (tables : Tables) → Represents state old s tables → refusal old.public (count_of old s) tables stmt ≡ Some r = λ tables held.
+      refused_early old.public (count_of old s) tables stmt r (early_held old.public (count_of old s) stmt tables (world_of state old s) (Some r) held.held now) in
+      let verdict_is : (tables : Tables) → Represents state old s tables → verdict old.public (count_of old s) tables stmt ≡ A.Refused r = λ tables held.
       ap (λ (o : Option Refusal). answered o (accepted_answer (database tables) stmt)) (refused tables held) in
       record {
         ran = ran_refused state (skeleton stmt) old s agrees lives r is_early;
         early = subst (λ (o : Option Refusal). RefusedEarly o (Ok (Refused r)) (seen_to Static)) (sym now) (refl, refl);
-        lawful = lawful_refused old.public (length s.asked) stmt r now;
+        lawful = lawful_refused old.public (count_of old s) stmt r now;
         memory = λ is. absurd (cc is);
         seals = keeps_none state old s new refl;
         answered = record {
@@ -170,7 +170,7 @@ module _ {R E : Type 0} (state : R → RevState) (grew cut : E → E → List Ev
         means = record {
           told = λ tables reads. of_other _ _ (is_store_fault r) is_early.own (record {
             answer = sym (ap (outcome_of stmt) (verdict_is tables reads.held));
-            seen = sym (seen_early old.public (length s.asked) tables stmt r (early_held old.public (length s.asked) stmt tables (world_of state old s) (Some r) reads.held.held now));
+            seen = sym (seen_early old.public (count_of old s) tables stmt r (early_held old.public (count_of old s) stmt tables (world_of state old s) (Some r) reads.held.held now));
             held = record {
               held = subst (λ (ts : Tables). AreHeld old.public.pack old.public.tables ts (world_of state old s)) (sym (ap (λ (o : Option Refusal). followed o (settled tables stmt) tables) (refused tables reads.held))) reads.held.held;
               in_place = subst (λ (ts : Tables). AreInPlace ts) (sym (ap (λ (o : Option Refusal). followed o (settled tables stmt) tables) (refused tables reads.held))) reads.held.in_place;
@@ -184,8 +184,8 @@ module _ {R E : Type 0} (state : R → RevState) (grew cut : E → E → List Ev
 
 -- a statement by what its kind says of it
 pub served_as : {R E : Type 0} (state : R → RevState) (grew cut : E → E → List Event → Type 0) (faults : E → ℕ) (stmt other : Stmt) (old : Engine R) (s : StoreState) (out : E) (result : Result Outcome Stop)
-    (new : Engine R) (t : StoreState) → grew out out [] → other ≡ stmt → refusal_now old.public (length s.asked) stmt ≡ None → is_counted other ≡ false
+    (new : Engine R) (t : StoreState) → grew out out [] → other ≡ stmt → refusal_now old.public (count_of old s) stmt ≡ None → is_counted other ≡ false
     → ((tables : Tables) → IsBare (accepted_answer (database tables) other)) → ServesSilently state other result old s new t → Serves state grew cut faults stmt result old s new t out out
 served_as state grew cut faults stmt other old s out result new t starts is now uncounted bare serves =
     subst (λ (x : Stmt). Serves state grew cut faults x result old s new t out out) is
-    (serves_silently state grew cut faults other old s out starts result new t (ap (refusal_now old.public (length s.asked)) is ∙ now) uncounted bare serves)
+    (serves_silently state grew cut faults other old s out starts result new t (ap (refusal_now old.public (count_of old s)) is ∙ now) uncounted bare serves)

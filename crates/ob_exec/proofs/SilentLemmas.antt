@@ -33,7 +33,7 @@ use Rattle.ob_verdict.proofs.InPlaceProof.{keeps_in_place}
 use Rattle.ob_verdict.proofs.SeenProof.{shows_kind_alone}
 use Rattle.ob_exec.specs.declared.engine.Engine.{Engine}
 use Rattle.ob_exec.specs.declared.outcome.Outcome.{Outcome}
-use Rattle.ob_exec.specs.Agreeing.{Agrees, world_of}
+use Rattle.ob_exec.specs.Agreeing.{Agrees, world_of, count_of}
 use Rattle.ob_exec.specs.Memory.{AtMake, is_make}
 use Rattle.ob_exec.specs.Running.{Ran, HasNoRows, IsSilent, answer_of, is_stop, refusal_now}
 use Rattle.ob_exec.specs.Serving.{Means, ServesSilently}
@@ -42,7 +42,7 @@ use Rattle.ob_exec.proofs.BegunLemmas.{begun_plain}
 use Rattle.ob_exec.proofs.HeldLemmas.{held_kept}
 use Rattle.ob_exec.proofs.RunLemmas.{IsAnswered, engine_after, ran_cut, ran_no_room}
 use Rattle.ob_exec.proofs.SealLemmas.{keeps_pass, keeps_rests}
-use Rattle.ob_exec.proofs.TableLemmas.{region_below, tables_kept}
+use Rattle.ob_exec.proofs.TableLemmas.{beside_below, region_below, tables_kept}
 use Rattle.ob_exec.proofs.ToldLemmas.{IsFault, cut_seen, early_held, told_whole}
 
 -- the same, of an equal answer and an equal engine
@@ -66,9 +66,9 @@ at_make made (d ∷ []) rest more make is = let same : d ≡ made = cc is in inr
 at_make made (d ∷ e ∷ done) rest more make is = let none : e ∷ (done ++ rest) ≡ [] = cc is in absurd (cc none)
 
 module _ {R : Type 0} (state : R → RevState) (stmt : Stmt) (old : Engine R) (s : StoreState) (agrees : Agrees state old s)
-    (now : refusal_now old.public (length s.asked) stmt ≡ None) (plain : is_counted stmt ≡ false) where
-  seen_whole : (tables : Tables) (w : World) → AreHeld old.public.pack old.public.tables tables w → seen old.public (length s.asked) tables stmt ≡ seen_to Whole
-  seen_whole tables w held = shows_kind_alone old.public (length s.asked) tables stmt (early_held old.public (length s.asked) stmt tables w None held now) plain
+    (now : refusal_now old.public (count_of old s) stmt ≡ None) (plain : is_counted stmt ≡ false) where
+  seen_whole : (tables : Tables) (w : World) → AreHeld old.public.pack old.public.tables tables w → seen old.public (count_of old s) tables stmt ≡ seen_to Whole
+  seen_whole tables w held = shows_kind_alone old.public (count_of old s) tables stmt (early_held old.public (count_of old s) stmt tables w None held now) plain
 
   -- nothing was asked, for want of memory
   pub unasked : (s1 : StoreState) (ts : List Table) → Rests s s1 → ServesSilently state stmt (Err Stops.NoMemory) old s (engine_after old old.vault old.room ts (Cut 0) true) s1
@@ -101,7 +101,7 @@ module _ {R : Type 0} (state : R → RevState) (stmt : Stmt) (old : Engine R) (s
       → Ran state (skeleton stmt) (Ok outcome) old s (engine_after old v room ts Whole old.ended) t
       → KeepsSealed state old s (engine_after old v room ts Whole old.ended) t
       → ((tables : Tables) → ReadsTrue state old s t tables
-      → (outcome ≡ outcome_of stmt (verdict old.public (length s.asked) tables stmt)) × AreHeld old.public.pack ts (settle old.public (length s.asked) tables stmt) (at state v t))
+      → (outcome ≡ outcome_of stmt (verdict old.public (count_of old s) tables stmt)) × AreHeld old.public.pack ts (settle old.public (count_of old s) tables stmt) (at state v t))
       → ServesSilently state stmt (Ok outcome) old s (engine_after old v room ts Whole old.ended) t
   finished v room t ts outcome answered silent ran seals meant = record {
     ran = ran;
@@ -115,7 +115,7 @@ module _ {R : Type 0} (state : R → RevState) (stmt : Stmt) (old : Engine R) (s
       told = λ tables reads. told_whole outcome _ _ answered (record {
         answer = (meant tables reads).0;
         seen = sym (seen_whole tables _ reads.held.held);
-        held = record { held = (meant tables reads).1; in_place = keeps_in_place old.public (length s.asked) tables stmt reads.held.in_place };
+        held = record { held = (meant tables reads).1; in_place = keeps_in_place old.public (count_of old s) tables stmt reads.held.in_place };
       });
       honest = λ tables reads. tt;
       held = λ tables reads. tt;
@@ -168,7 +168,8 @@ module _ {R : Type 0} (state : R → RevState) (stmt : Stmt) (old : Engine R) (s
         let apart : (i : ℕ) (u : Table) → slice_get old.public.tables i ≡ Some u → one old.vault.next u.region → ⊥ =
         λ i u is here. let less = region_below old.public.pack i old.public.tables u _ agrees.ready agrees.tables is in omega (arith, less, here) in
         let ran = ran_cut state (skeleton stmt) old s v room t agrees room_is (one old.vault.next) n x e all (script_is (Cut n)) count
-        (tables_kept (one old.vault.next) old.public.pack old.public.tables _ _ all.lasts apart (λ q shape live here. absurd (cc (live, gone, here))) agrees.tables) in
+        (tables_kept (one old.vault.next) old.public.pack old.public.tables old.closing _ _ all.lasts apart
+        (λ q is here. let less = beside_below old.public.pack old.public.tables old.closing q _ agrees.ready agrees.tables is in omega (arith, less, here)) (λ q shape live here. absurd (cc (live, gone, here))) agrees.tables) in
         record {
           ran = ran;
           started = λ is. absurd (cc is);

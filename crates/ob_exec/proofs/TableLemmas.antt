@@ -1,7 +1,8 @@
 -- The tables of an engine, after a pass.
-use Rattle.std.proofs.Common.{◌≡◌, ◌⊎◌, inl, inr, ◌<◌, ℕ, zero, suc, Bool, true, false, if◌then◌else◌, cond, List, [], ◌∷◌, ◌++◌, length, Option, Some, None, refl, sym, ◌∙◌, ap, subst, arith}
+use Rattle.std.proofs.Common.{◌≡◌, ◌⊎◌, inl, inr, ◌<◌, ◌≤◌, ℕ, zero, suc, Bool, true, false, if◌then◌else◌, cond, List, [], ◌∷◌, ◌++◌, length, Option, Some, None, refl, sym, ◌∙◌, ap, subst, arith}
 use Rattle.std.specs.Prelude.{slice_get, slice_set, bytes_eq}
 use Rattle.std.specs.Option.{option_map}
+use Rattle.std.proofs.lemmas.List.{length-append, length-map}
 use Rattle.std.proofs.lemmas.Option.{slice_get-map}
 use Rattle.std.proofs.lemmas.Slice.Eq.{bytes_eq-Decides}
 use Rattle.ob_base.specs.declared.schema.Table.{Table}
@@ -13,7 +14,7 @@ use Rattle.ob_vault.specs.Tied.{Ready}
 use Rattle.ob_vault.specs.Calls.{Lasts, none, one, two}
 use Rattle.ob_flat.specs.declared.flat.Flat.{Flat}
 use Rattle.ob_flat.specs.Flats.{IsFlat}
-use Rattle.ob_exec.specs.Engines.{flat_of, IsTable, AreTables}
+use Rattle.ob_exec.specs.Engines.{flat_of, IsTable, IsTableRegion, IsBeside, AreTables}
 
 no_get : (ts : List Table) (i : ℕ) (t : Table) → ts ≡ [] → slice_get ts i ≡ Some t → ⊥
 no_get [] zero t none is = absurd (cc is)
@@ -21,11 +22,13 @@ no_get [] (suc i) t none is = absurd (cc is)
 no_get (x ∷ xs) i t none is = absurd (cc none)
 
 -- no table, and no region
-pub no_tables : (pack : ℕ) (w : World) (ts : List Table) → ts ≡ [] → ((q : ℕ) → w.vault.revs.live q ≡ None) → AreTables ts pack w
+pub no_tables : (pack : ℕ) (w : World) (ts : List Table) → ts ≡ [] → ((q : ℕ) → w.vault.revs.live q ≡ None) → AreTables ts None pack w
 no_tables pack w ts none empty = record {
   each = λ i t is. absurd (no_get ts i t none is);
+  few = let long = ap length none in omega (arith, long);
   apart = λ i j t u is. absurd (no_get ts i t none is);
   names = λ i j t u is. absurd (no_get ts i t none is);
+  beside = λ q is. absurd (cc is);
   only = λ q shape live. absurd (cc (live, empty q));
 }
 
@@ -44,21 +47,41 @@ flat_kept some pack flat old new lasts apart is = record {
 }
 
 pub table_kept : (some : ℕ → Type 0) (pack : ℕ) (t : Table) (old new : World) → Lasts some old new → (some t.region → ⊥) → IsTable pack t old → IsTable pack t new
-table_kept some pack t old new lasts apart is = record { stored = is.stored; flat = flat_kept some pack (flat_of t) old new lasts apart is.flat }
+table_kept some pack t old new lasts apart is = record {
+  heading = is.heading;
+  least = is.least;
+  flat = flat_kept some pack (flat_of t) old new lasts apart is.flat;
+  round = record { live = lasts.apart.live t.region apart ∙ is.round.live };
+}
 
 -- the region of a table is below the next
-pub region_below : (pack i : ℕ) (ts : List Table) (t : Table) (w : World) → Ready w → AreTables ts pack w → slice_get ts i ≡ Some t → t.region < w.vault.next
+pub region_below : (pack i : ℕ) (ts : List Table) {closing : Option ℕ} (t : Table) (w : World) → Ready w → AreTables ts closing pack w → slice_get ts i ≡ Some t → t.region < w.vault.next
 region_below pack i ts t w ready tables is = ready.below t.region _ (tables.each i t is).flat.made.lives.live
 
+-- so is that of a closing
+pub beside_below : (pack : ℕ) (ts : List Table) (closing : Option ℕ) (q : ℕ) (w : World) → Ready w → AreTables ts closing pack w → closing ≡ Some q → q < w.vault.next
+beside_below pack ts closing q w ready tables is = let beside = tables.beside q is in ready.below q beside.shape beside.lives.live
+
+-- a closing whose region has not changed, beside tables of which none lies there
+pub beside_kept : (some : ℕ → Type 0) (ts us : List Table) (q : ℕ) (old new : World) → Lasts some old new → (some q → ⊥) → (IsTableRegion us q → IsTableRegion ts q) → IsBeside ts q old → IsBeside us q new
+beside_kept some ts us q old new lasts apart was beside = record {
+  shape = beside.shape;
+  lives = record { live = lasts.apart.live q apart ∙ beside.lives.live };
+  off = λ of. beside.off (was of);
+}
+
 -- after a pass that changed no table's region, and left none of its own
-pub tables_kept : (some : ℕ → Type 0) (pack : ℕ) (ts : List Table) (old new : World) → Lasts some old new
+pub tables_kept : (some : ℕ → Type 0) (pack : ℕ) (ts : List Table) (closing : Option ℕ) (old new : World) → Lasts some old new
     → ((i : ℕ) (t : Table) → slice_get ts i ≡ Some t → some t.region → ⊥)
+    → ((q : ℕ) → closing ≡ Some q → some q → ⊥)
     → ((q : ℕ) (shape : Region) → new.vault.revs.live q ≡ Some shape → some q → ⊥)
-    → AreTables ts pack old → AreTables ts pack new
-tables_kept some pack ts old new lasts apart gone tables = record {
+    → AreTables ts closing pack old → AreTables ts closing pack new
+tables_kept some pack ts closing old new lasts apart off gone tables = record {
   each = λ i t is. table_kept some pack t old new lasts (apart i t is) (tables.each i t is);
+  few = tables.few;
   apart = tables.apart;
   names = tables.names;
+  beside = λ q is. beside_kept some ts ts q old new lasts (off q is) (λ of. of) (tables.beside q is);
   only = λ q shape live. tables.only q shape (sym (lasts.apart.live q (gone q shape live)) ∙ live);
 }
 
@@ -80,8 +103,8 @@ pub get_last : {A : Type 0} (xs : List A) (x : A) → slice_get (xs ++ x ∷ [])
 get_last [] x = refl
 get_last (z ∷ xs) x = get_last xs x
 
-module _ (pack g : ℕ) (ts : List Table) (new_table : Table) (old new : World) (lasts : Lasts (one g) old new) (ready : Ready old) (next : g ≡ old.vault.next)
-    (tables : AreTables ts pack old) (fresh : new_table.region ≡ g) (is_table : IsTable pack new_table new)
+module _ (pack g : ℕ) (ts : List Table) (closing : Option ℕ) (new_table : Table) (old new : World) (lasts : Lasts (one g) old new) (ready : Ready old) (next : g ≡ old.vault.next)
+    (tables : AreTables ts closing pack old) (room : length ts < 64) (fresh : new_table.region ≡ g) (is_table : IsTable pack new_table new)
     (unnamed : (i : ℕ) (t : Table) → slice_get ts i ≡ Some t → t.heading.name ≡ new_table.heading.name → ⊥) where
   below : (i : ℕ) (t : Table) → slice_get ts i ≡ Some t → t.region < g
   below i t is = let less = region_below pack i ts t old ready tables is in omega (arith, less, next)
@@ -116,22 +139,42 @@ module _ (pack g : ℕ) (ts : List Table) (new_table : Table) (old new : World) 
     ]
   ]
 
-  added_only : (q : ℕ) (shape : Region) → new.vault.revs.live q ≡ Some shape → (q ≡ g) ⊎ (q ≡ g → ⊥) → (i : ℕ) × (t : Table) × (slice_get (ts ++ new_table ∷ []) i ≡ Some t) × (t.region ≡ q)
-  added_only q shape live (inl here) = (length ts, new_table, get_last ts new_table, fresh ∙ sym here)
-  added_only q shape live (inr off) =
-      let found = tables.only q shape (sym (lasts.apart.live q off) ∙ live) in
-      (found.0, found.1, get_front ts new_table found.1 found.0 found.2, found.3)
+  added_few : length (ts ++ new_table ∷ []) ≤ 64
+  added_few = let long = length-append ts (new_table ∷ []) in omega (arith, long, room)
 
-  pub tables_added : ((q : ℕ) → (q ≡ g) ⊎ (q ≡ g → ⊥)) → AreTables (ts ++ new_table ∷ []) pack new
-  tables_added cases = record { each = added_each; apart = added_apart; names = added_names; only = λ q shape live. added_only q shape live (cases q) }
+  added_beside : (q : ℕ) → closing ≡ Some q → IsBeside (ts ++ new_table ∷ []) q new
+  added_beside q is =
+      let less = beside_below pack ts closing q old ready tables is in
+      beside_kept (one g) ts (ts ++ new_table ∷ []) q old new lasts (λ same. omega (arith, less, next, same))
+      (λ of. elim (get_more ts new_table of.table of.place of.get) [
+        | inl here ↦ record { place = of.place; table = of.table; get = here; region = of.region }
+        | inr last ↦ absurd (omega (arith, less, next, of.region, ap (λ (x : Table). x.region) last.1, fresh))
+      ]) (tables.beside q is)
+
+  added_only : (q : ℕ) (shape : Region) → new.vault.revs.live q ≡ Some shape → (q ≡ g) ⊎ (q ≡ g → ⊥) → IsTableRegion (ts ++ new_table ∷ []) q ⊎ (closing ≡ Some q)
+  added_only q shape live (inl here) = inl (record { place = length ts; table = new_table; get = get_last ts new_table; region = fresh ∙ sym here })
+  added_only q shape live (inr off) = elim (tables.only q shape (sym (lasts.apart.live q off) ∙ live)) [
+    | inl of ↦ inl (record { place = of.place; table = of.table; get = get_front ts new_table of.table of.place of.get; region = of.region })
+    | inr closed ↦ inr closed
+  ]
+
+  pub tables_added : ((q : ℕ) → (q ≡ g) ⊎ (q ≡ g → ⊥)) → AreTables (ts ++ new_table ∷ []) closing pack new
+  tables_added cases = record {
+    each = added_each;
+    few = added_few;
+    apart = added_apart;
+    names = added_names;
+    beside = added_beside;
+    only = λ q shape live. added_only q shape live (cases q);
+  }
 
 -- ---- a table that lies in another region
 -- the test of a name
 pub named : (a b : List ℕ) → (bytes_eq a b ≡ true) → a ≡ b
 named a b is = (bytes_eq-Decides a b).0 is
 
-module _ (pack g r : ℕ) (name : List ℕ) (ts : List Table) (t : Table) (i : ℕ) (old new : World) (lasts : Lasts (two r g) old new) (ready : Ready old) (next : g ≡ old.vault.next)
-    (tables : AreTables ts pack old) (at_i : slice_get ts i ≡ Some t) (name_is : t.heading.name ≡ name) (region_is : t.region ≡ r)
+module _ (pack g r : ℕ) (name : List ℕ) (ts : List Table) (closing : Option ℕ) (t : Table) (i : ℕ) (old new : World) (lasts : Lasts (two r g) old new) (ready : Ready old) (next : g ≡ old.vault.next)
+    (tables : AreTables ts closing pack old) (at_i : slice_get ts i ≡ Some t) (name_is : t.heading.name ≡ name) (region_is : t.region ≡ r)
     (is_table : IsTable pack (record t { region = g }) new)
     (gone : (shape : Region) → new.vault.revs.live r ≡ Some shape → ⊥) where
   -- what stands at a place of the moved tables: the one that was moved, or another, as it was
@@ -214,19 +257,47 @@ module _ (pack g r : ℕ) (name : List ℕ) (ts : List Table) (t : Table) (i : �
   in_old : (q : ℕ) → (q ≡ r → ⊥) → (j : ℕ) (v : Table) → slice_get ts j ≡ Some v → v.region ≡ q → j ≡ i → ⊥
   in_old q off j v was is same = let one_table : v ≡ t = cc (was, at_i, same) in off (sym is ∙ ap (λ (x : Table). x.region) one_table ∙ region_is)
 
-  moved_only : ((q x : ℕ) → (q ≡ x) ⊎ (q ≡ x → ⊥)) → (q : ℕ) (shape : Region) → new.vault.revs.live q ≡ Some shape → (j : ℕ) × (u : Table) × (slice_get (moved name g ts) j ≡ Some u) × (u.region ≡ q)
+  moved_few : length (moved name g ts) ≤ 64
+  moved_few =
+      let same = length-map ts (λ (v : Table). if bytes_eq v.heading.name name then record v { region = g } else v) in
+      let few = tables.few in
+      omega (arith, same, few)
+
+  moved_beside : (q : ℕ) → closing ≡ Some q → IsBeside (moved name g ts) q new
+  moved_beside q is =
+      let less = beside_below pack ts closing q old ready tables is in
+      let beside = tables.beside q is in
+      beside_kept (two r g) ts (moved name g ts) q old new lasts
+      (λ hit. elim hit [
+        | inl same ↦ beside.off (record { place = i; table = t; get = at_i; region = region_is ∙ sym same })
+        | inr same ↦ omega (arith, less, next, same)
+      ])
+      (λ of. elim (moved_at of.place of.table of.get) [
+        | this at end ↦ absurd (omega (arith, less, next, of.region, ap (λ (x : Table). x.region) end))
+        | that off was ↦ record { place = of.place; table = of.table; get = was; region = of.region }
+      ]) beside
+
+  moved_only : ((q x : ℕ) → (q ≡ x) ⊎ (q ≡ x → ⊥)) → (q : ℕ) (shape : Region) → new.vault.revs.live q ≡ Some shape → IsTableRegion (moved name g ts) q ⊎ (closing ≡ Some q)
   moved_only cases q shape live = elim (cases q g) [
-    | inl here ↦ (i, record t { region = g }, get_this, sym here)
+    | inl here ↦ inl (record { place = i; table = record t { region = g }; get = get_this; region = sym here })
     | inr off ↦ elim (cases q r) [
       | inl there ↦ absurd (gone shape (sym (ap new.vault.revs.live there) ∙ live))
-      | inr off' ↦
-          let found = tables.only q shape (sym (lasts.apart.live q (λ hit. elim hit [ inl same ↦ off' same | inr same ↦ off same ])) ∙ live) in
-          (found.0, found.1, get_that found.0 found.1 found.2 (in_old q off' found.0 found.1 found.2 found.3), found.3)
+      | inr off' ↦ elim (tables.only q shape (sym (lasts.apart.live q (λ hit. elim hit [ inl same ↦ off' same | inr same ↦ off same ])) ∙ live)) [
+        | inl of ↦ inl (record { place = of.place; table = of.table; get = get_that of.place of.table of.get (in_old q off' of.place of.table of.get of.region); region = of.region })
+        | inr closed ↦ inr closed
+      ]
     ]
   ]
 
-  pub tables_moved : ((q x : ℕ) → (q ≡ x) ⊎ (q ≡ x → ⊥)) → AreTables (moved name g ts) pack new
-  tables_moved cases = record { each = moved_each; apart = moved_apart; names = moved_names; only = moved_only cases }
+  pub tables_moved : ((q x : ℕ) → (q ≡ x) ⊎ (q ≡ x → ⊥)) → AreTables (moved name g ts) closing pack new
+  tables_moved cases = record {
+    each = moved_each;
+    few = moved_few;
+    apart = moved_apart;
+    names = moved_names;
+    beside = moved_beside;
+    only = moved_only cases;
+  }
 
 -- ---- a table by its name
 abbrev pub AreNamed : List Table → Type 0

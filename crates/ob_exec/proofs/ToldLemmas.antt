@@ -1,5 +1,7 @@
 -- What a statement did is what it means.
 use Rattle.std.proofs.Common.{◌≡◌, ◌⊎◌, inl, inr, ℕ, Result, Bool, true, false, List, Option, Some, None, Ok, [], refl, sym, ◌∙◌, ap, subst}
+use Rattle.std.proofs.Common.{◌-◌, ◌^◌, min, arith}
+use Rattle.std.proofs.lemmas.Bool.{cases_lt, le-leb, lt-leb}
 use Rattle.std.specs.Prelude.{◌<◌, nat_le, ⊤, ◌∷◌}
 use Rattle.ob_base.specs.declared.config.Public.{Public}
 use Rattle.ob_base.specs.declared.refusal.Refusal.{Refusal}
@@ -137,5 +139,12 @@ pub refused_some : (o : Option Refusal) (r : Refusal) (result : Result Outcome S
 refused_some o r result now is answer seen = subst (λ (x : Option Refusal). RefusedEarly x result now) (sym is) (answer, seen)
 
 -- a refusal that was found is that of the statement
-pub now_is : (p : Public) (m n : ℕ) (stmt : Stmt) (o q : Option Refusal) → n ≡ m → o ≡ refusal_now p n stmt → o ≡ q → refusal_now p m stmt ≡ q
-now_is p m n stmt o q count found is = (λ i. refusal_now p (sym count i) stmt) ∙ sym found ∙ is
+pub now_is : (p : Public) (m n : ℕ) (stmt : Stmt) (o q : Option Refusal) → n ≡ min m (2 ^ 64 - 1) → o ≡ refusal_now p n stmt → o ≡ q → refusal_now p m stmt ≡ q
+now_is p m n stmt o q count found is = ap (λ (late : Bool). early_refusal late p.pack p.buffer (headings_of p.tables) stmt) (late_as m n count) ∙ sym found ∙ is
+  where
+    -- a count that stands at the last value of a u64 is late
+    late_as : (m n : ℕ) → n ≡ min m (2 ^ 64 - 1) → is_late m ≡ is_late n
+    late_as m n count = elim (cases_lt m (2 ^ 63)) [
+      | inl early ↦ lt-leb (2 ^ 63) m early ∙ sym (lt-leb (2 ^ 63) n (omega (arith, early, count)))
+      | inr late ↦ le-leb (2 ^ 63) m late ∙ sym (le-leb (2 ^ 63) n (omega (arith, late, count)))
+    ]

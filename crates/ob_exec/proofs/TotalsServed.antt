@@ -52,7 +52,7 @@ use Rattle.ob_mean.proofs.VerdictLemmas.{heading-stored, headings-database, stor
 use Rattle.ob_exec.specs.declared.engine.Engine.{Engine}
 use Rattle.ob_exec.specs.declared.outcome.Outcome.{Outcome}
 use Rattle.ob_exec.specs.declared.outcome.Outcome.TheVariants.{Refused}
-use Rattle.ob_exec.specs.Agreeing.{Agrees, world_of}
+use Rattle.ob_exec.specs.Agreeing.{Agrees, world_of, count_of}
 use Rattle.ob_exec.specs.Engines.{IsAt, flat_of}
 use Rattle.ob_exec.specs.Running.{Emits, SinkCause, answer_of, is_stop, refusal_now}
 use Rattle.ob_exec.specs.Selecting.{UsesRoom}
@@ -155,7 +155,7 @@ unfinished_none labels (A.Refused r) = refl
 module _ {R E : Type 0} (state : R → RevState) (grew cut : E → E → List Event → Type 0) (faults : E → ℕ) (starts : (a : E) → grew a a [])
     (old : Engine R) (s s1 : StoreState) (q : SelectTotals) (i : ℕ) (table : Table)
     (agrees : Agrees state old s) (rests : Rests s s1) (here : IsAt q.table i table old.public.tables)
-    (allowed : refusal_now old.public (length s.asked) (TotalsStmt q) ≡ None) where
+    (allowed : refusal_now old.public (count_of old s) (TotalsStmt q) ≡ None) where
   abbrev stmt : Stmt
   stmt = TotalsStmt q
 
@@ -181,17 +181,17 @@ module _ {R E : Type 0} (state : R → RevState) (grew cut : E → E → List Ev
       represents_rests _ s s1 rests old.room.pack (flat_of table) (beside tables held).table.held
       (subst (λ (n : ℕ). FlatRepresents n (flat_of table) (beside tables held).table.held (world_of state old s)) (sym agrees.room.pack) (beside tables held).represents)
 
-  verdict_at : (tables : Tables) (held : Represents state old s tables) → verdict old.public (length s.asked) tables stmt ≡ answer_at places cs q (beside tables held).table.held
+  verdict_at : (tables : Tables) (held : Represents state old s tables) → verdict old.public (count_of old s) tables stmt ≡ answer_at places cs q (beside tables held).table.held
   verdict_at tables held =
       let x = beside tables held in
-      verdict_is old.public (length s.asked) tables q x.table (early_held old.public (length s.asked) stmt tables (world_of state old s) None held.held allowed) x.found
+      verdict_is old.public (count_of old s) tables q x.table (early_held old.public (count_of old s) stmt tables (world_of state old s) None held.held allowed) x.found
       ∙ (λ j. answer_at (buffered (sym agrees.room.pack j) (sym agrees.room.rows j)) (x.heading j).schema q x.table.held)
 
-  seen_whole : (tables : Tables) → Represents state old s tables → seen old.public (length s.asked) tables stmt ≡ seen_to Whole
-  seen_whole tables held = started_seen old.public (length s.asked) stmt allowed tables (world_of state old s) held.held
+  seen_whole : (tables : Tables) → Represents state old s tables → seen old.public (count_of old s) tables stmt ≡ seen_to Whole
+  seen_whole tables held = started_seen old.public (count_of old s) stmt allowed tables (world_of state old s) held.held
 
-  settled_at : (tables : Tables) → settle old.public (length s.asked) tables stmt ≡ tables
-  settled_at tables = followed_same (refusal old.public (length s.asked) tables stmt) tables
+  settled_at : (tables : Tables) → settle old.public (count_of old s) tables stmt ≡ tables
+  settled_at tables = followed_same (refusal old.public (count_of old s) tables stmt) tables
 
   -- what its pass asks, once the store has room
   pub may_total : (flat : Flat) (condition : Condition) → flat ≡ flat_of table → condition ≡ where_at q.cond flat.schema → (n : ℕ) → n ≡ blocks_for old.public.pack flat.capacity → n ≤ s1.spare
@@ -213,7 +213,7 @@ module _ {R E : Type 0} (state : R → RevState) (grew cut : E → E → List Ev
         written = read_flat state old s s1 i table agrees rests here.get flat flat_is;
         size = read_size state old s s1 i table agrees rests here.get flat flat_is;
         meant = meant;
-        items = subst (λ (columns : Columns). TotalsFit columns q) columns_are (totals_fit (is_late (length s.asked)) old.public.pack old.public.buffer (headings_of old.public.tables) q allowed);
+        items = subst (λ (columns : Columns). TotalsFit columns q) columns_are (totals_fit (is_late (count_of old s)) old.public.pack old.public.buffer (headings_of old.public.tables) q allowed);
       }
 
   -- no memory before the first access
@@ -223,11 +223,11 @@ module _ {R E : Type 0} (state : R → RevState) (grew cut : E → E → List Ev
       let new = engine_after old old.vault old.room old.public.tables (Cut 0) true in
       let same : length s1.asked ≡ length s.asked = ap length rests.asked in
       let ran = ran_no_room state (skeleton stmt) old s s1 old.public.tables agrees rests in
-      let early = refused_none (refusal_now old.public (length s.asked) stmt) (Err Stops.NoMemory) new.seen allowed (λ is. absurd (cc is)) in
+      let early = refused_none (refusal_now old.public (count_of old s) stmt) (Err Stops.NoMemory) new.seen allowed (λ is. absurd (cc is)) in
       record {
         ran = ran;
         early = early;
-        lawful = lawful_now old.public (length s.asked) stmt (Err Stops.NoMemory) new.seen s.asked s1.asked refl refl (λ is. absurd (cc is)) early ran.asked ran.ends;
+        lawful = lawful_now old.public (count_of old s) stmt (Err Stops.NoMemory) new.seen s.asked s1.asked refl refl (λ is. absurd (cc is)) early ran.asked ran.ends;
         memory = λ is. record { done = []; rest = _; split = refl; asked = rests.asked ∙ sym (append-nil s.asked); place = inl (inl refl) };
         seals = keeps_rests state old s s1 rests new refl;
         answered = tt;
@@ -261,12 +261,12 @@ module _ {R E : Type 0} (state : R → RevState) (grew cut : E → E → List Ev
         let whole = is_answered outcome totals.whole in
         let went = went_all state old s s1 v room t q.table (flat_map named_by q.items) q.group i table agrees rests uses here totals.ran.ok in
         let ran = read_done state old s s1 v room t q.table (flat_map named_by q.items) q.group i table agrees rests uses here outcome whole totals.ran.ok lives in
-        let early = refused_none (refusal_now old.public (length s.asked) stmt) (Ok outcome) new.seen allowed (λ is. absurd (cc is)) in
+        let early = refused_none (refusal_now old.public (count_of old s) stmt) (Ok outcome) new.seen allowed (λ is. absurd (cc is)) in
         let given = totals.emitted in
         record {
           ran = ran;
           early = early;
-          lawful = lawful_now old.public (length s.asked) stmt (Ok outcome) new.seen s.asked t.asked refl refl (λ is. absurd (cc is)) early ran.asked ran.ends;
+          lawful = lawful_now old.public (count_of old s) stmt (Ok outcome) new.seen s.asked t.asked refl refl (λ is. absurd (cc is)) early ran.asked ran.ends;
           memory = λ is. absurd (cc is);
           seals = keeps_pass state old s s1 rests agrees new t now refl (λ good accepts. totals.seals.seals good);
           answered = record {
@@ -275,7 +275,7 @@ module _ {R E : Type 0} (state : R → RevState) (grew cut : E → E → List Ev
             emits = subst (λ (l : List (List ℕ)). Emits stmt l outcome given.events) (sym labels_are) given.emits;
             told = λ tables reads.
                 told_whole outcome _ _ whole
-                (subst (λ (l : List (List ℕ)). Prints l (verdict old.public (length s.asked) tables stmt) given.events) (sym labels_are)
+                (subst (λ (l : List (List ℕ)). Prints l (verdict old.public (count_of old s) tables stmt) given.events) (sym labels_are)
                 (subst (λ (a : Answer). Prints (labels_at cs q) a given.events) (sym (verdict_at tables reads.held)) (given.told (ended_with tables reads.held reads.nolie))));
           };
           stopped = tt;
@@ -300,12 +300,12 @@ module _ {R E : Type 0} (state : R → RevState) (grew cut : E → E → List Ev
         let new = engine_after old v room old.public.tables (Cut n) (is_stop (answer_of e)) in
         let all = cut_after state old s s1 v room t q.table (flat_map named_by q.items) q.group i table agrees rests uses here e totals.ran.err in
         let ran = read_cut state old s s1 v room t q.table (flat_map named_by q.items) q.group i table agrees rests uses here e n totals.ran.err count in
-        let early = refused_none (refusal_now old.public (length s.asked) stmt) (answer_of e) new.seen allowed (λ is. absurd (cc is)) in
+        let early = refused_none (refusal_now old.public (count_of old s) stmt) (answer_of e) new.seen allowed (λ is. absurd (cc is)) in
         let given = totals.halted in
         record {
           ran = ran;
           early = early;
-          lawful = lawful_now old.public (length s.asked) stmt (answer_of e) new.seen s.asked t.asked refl refl (λ is. absurd (cc is)) early ran.asked ran.ends;
+          lawful = lawful_now old.public (count_of old s) stmt (answer_of e) new.seen s.asked t.asked refl refl (λ is. absurd (cc is)) early ran.asked ran.ends;
           memory = λ is.
               let went = went_all state old s s1 v room t q.table (flat_map named_by q.items) q.group i table agrees rests uses here (totals.after (ap Err (made_none e is))) in
               record {
@@ -329,7 +329,7 @@ module _ {R E : Type 0} (state : R → RevState) (grew cut : E → E → List Ev
                 let x = beside tables reads.held in
                 let held = before tables reads.held in
                 let none_before : s1.lie ≡ None = rests.lie ∙ calm_none none (world_of state old s) now all.lasts reads.calm reads.unfit in
-                subst (λ (l : List (List ℕ)). Partly l (verdict old.public (length s.asked) tables stmt) given.events) (sym labels_are)
+                subst (λ (l : List (List ℕ)). Partly l (verdict old.public (count_of old s) tables stmt) given.events) (sym labels_are)
                 (subst (λ (a : Answer). Partly (labels_at cs q) a given.events) (sym (verdict_at tables reads.held))
                 (given.told (record { slots = x.table.held; is = held; nolie = none_before; unfit = reads.unfit })));
           });

@@ -1,12 +1,12 @@
 -- What contracts see of an engine, and how it and its store belong together.
-use Rattle.std.specs.Prelude.{◌≡◌, ℕ, Bool}
+use Rattle.std.specs.Prelude.{◌≡◌, ◌+◌, ℕ, Bool, Option, length}
 use Rattle.ob_base.specs.declared.config.Public.{Public}
 use Rattle.ob_base.specs.declared.seen.Seen.{Seen}
 use Rattle.ob_seal.specs.KeySet.{KeySet}
 use Rattle.ob_store.specs.State.{StoreState}
-use Rattle.ob_vault.specs.State.{RevState, World}
+use Rattle.ob_vault.specs.State.{RevState, Start, World, earlier}
 use Rattle.ob_vault.specs.Tied.{Ready}
-use Rattle.ob_vault.specs.Places.{at}
+use Rattle.ob_vault.specs.Places.{at, start_of}
 use Rattle.ob_exec.specs.declared.engine.Engine.{Engine}
 use Rattle.ob_exec.specs.Engines.{AreSettings, IsFree, AreTables}
 
@@ -18,9 +18,17 @@ public_of e = e.public
 abbrev pub engine_keys : {R : Type 0} → Engine R → KeySet
 engine_keys e = e.vault.keys
 
+-- what its numbers go on from
+abbrev pub engine_start : {R : Type 0} → Engine R → Start
+engine_start e = start_of e.vault
+
 -- what was seen of the last statement
 abbrev pub seen_of : {R : Type 0} → Engine R → Seen
 seen_of e = e.seen
+
+-- the region of the closing that it was opened from, until it is closed
+abbrev pub opened_from : {R : Type 0} → Engine R → Option ℕ
+opened_from e = e.closing
 
 -- whether a stop has ended the session
 abbrev pub has_ended : {R : Type 0} → Engine R → Bool
@@ -38,10 +46,14 @@ rows_of e = e.room.rows
 abbrev pub world_of : {R : Type 0} → (R → RevState) → Engine R → StoreState → World
 world_of state e s = at state e.vault s
 
+-- the accesses so far, counted on from where an earlier run's numbers are
+abbrev pub count_of : {R : Type 0} → Engine R → StoreState → ℕ
+count_of e s = earlier (engine_start e) + length s.asked
+
 -- what every statement asks of an engine and its store, and leaves
 pub record Agrees {R : Type 0} (state : R → RevState) (e : Engine R) (s : StoreState) : Type 0 where
   pub ready : Ready (world_of state e s)
   pub next : e.public.next_region ≡ e.vault.next
   pub settings : AreSettings e.public
   pub room : IsFree e.public e.room
-  pub tables : AreTables e.public.tables e.public.pack (world_of state e s)
+  pub tables : AreTables e.public.tables e.closing e.public.pack (world_of state e s)

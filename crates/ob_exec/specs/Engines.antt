@@ -1,26 +1,30 @@
 -- The tables of an engine, and the store that it is used with.
-use Rattle.std.specs.Prelude.{◌≡◌, ◌≤◌, ◌+◌, ◌*◌, ℕ, List, Option, Some, slice_get}
+use Rattle.std.specs.Prelude.{◌≡◌, ◌⊎◌, ◌≤◌, ◌+◌, ◌*◌, ℕ, List, Option, Some, length, slice_get}
 use Rattle.ob_base.specs.declared.schema.Table.{Table}
 use Rattle.ob_base.specs.declared.config.Public.{Public}
 use Rattle.ob_base.specs.declared.config.Config.{Config}
 use Rattle.ob_base.specs.declared.config.Plan.{Plan}
 use Rattle.ob_base.specs.Plans.{IsPadded}
 use Rattle.ob_room.specs.RoomState.{RoomState}
+use Rattle.ob_reopen.specs.Limits.{IsHeading}
 use Rattle.ob_vault.specs.State.{World}
+use Rattle.ob_vault.specs.Tied.{Lives}
 use Rattle.ob_vault.specs.declared.region.Region.{Region}
+use Rattle.ob_vault.specs.declared.region.Order.TheVariants.{Round}
 use Rattle.ob_blocks.specs.Idle.{IsIdle}
 use Rattle.ob_flat.specs.declared.flat.Flat.{Flat}
-use Rattle.ob_flat.specs.Flats.{IsFlat}
-use Rattle.ob_exec.specs.Schemas.{IsStored}
+use Rattle.ob_flat.specs.Flats.{IsFlat, table_region}
 
 -- a table as the passes see it
 abbrev pub flat_of : Table → Flat
 flat_of t = record { schema = t.heading.schema; capacity = t.heading.capacity; region = t.region }
 
--- a table whose sizes are within their limits, and whose region is live and written
+-- a table that is within its limits, and whose region is live, written, and written round and round
 pub record IsTable (pack : ℕ) (t : Table) (w : World) : Type 0 where
-  pub stored : IsStored t.heading
+  pub heading : IsHeading t.heading
+  pub least : 1 ≤ t.region
   pub flat : IsFlat pack (flat_of t) w
+  pub round : Lives t.region (table_region Round pack t.heading.schema t.heading.capacity) w
 
 -- settings within their limits, and a plan that may be taken where results are padded
 pub record IsSettings (buffer depth pack : ℕ) (plan : Option Plan) (pad : Option ℕ) : Type 0 where
@@ -44,12 +48,31 @@ pub record IsFree (public : Public) (room : RoomState) : Type 0 where
   pub rows : room.rows ≡ public.buffer
   pub pack : room.pack ≡ public.pack
 
--- the tables, each in a region of its own, are all that lives in the vault; their names are distinct
-pub record AreTables (tables : List Table) (pack : ℕ) (w : World) : Type 0 where
+-- one of the tables lies in this region
+pub record IsTableRegion (tables : List Table) (q : ℕ) : Type 0 where
+  pub place : ℕ
+  pub table : Table
+  pub get : slice_get tables place ≡ Some table
+  pub region : table.region ≡ q
+
+-- a closing's region is live, and none of the tables lies there
+pub record IsBeside (tables : List Table) (q : ℕ) (w : World) : Type 0 where
+  pub shape : Region
+  pub lives : Lives q shape w
+  pub off : IsTableRegion tables q → ⊥
+
+-- the tables, 64 at most, each with a name and a region of its own, and beside them the closing's region, if there is
+-- one, are all that lives in the vault
+pub record AreTables (tables : List Table) (closing : Option ℕ) (pack : ℕ) (w : World) : Type 0 where
   pub each : (i : ℕ) (t : Table) → slice_get tables i ≡ Some t → IsTable pack t w
-  pub apart : (i j : ℕ) (t u : Table) → slice_get tables i ≡ Some t → slice_get tables j ≡ Some u → t.region ≡ u.region → i ≡ j
-  pub names : (i j : ℕ) (t u : Table) → slice_get tables i ≡ Some t → slice_get tables j ≡ Some u → t.heading.name ≡ u.heading.name → i ≡ j
-  pub only : (q : ℕ) (shape : Region) → w.vault.revs.live q ≡ Some shape → (i : ℕ) × (t : Table) × (slice_get tables i ≡ Some t) × (t.region ≡ q)
+  pub few : length tables ≤ 64
+  pub apart : (i j : ℕ) (t u : Table) → slice_get tables i ≡ Some t
+      → slice_get tables j ≡ Some u → t.region ≡ u.region → i ≡ j
+  pub names : (i j : ℕ) (t u : Table) → slice_get tables i ≡ Some t
+      → slice_get tables j ≡ Some u → t.heading.name ≡ u.heading.name → i ≡ j
+  pub beside : (q : ℕ) → closing ≡ Some q → IsBeside tables q w
+  pub only : (q : ℕ) (shape : Region) → w.vault.revs.live q ≡ Some shape
+      → IsTableRegion tables q ⊎ (closing ≡ Some q)
 
 -- a table of this name stands at this place
 pub record IsAt (name : List ℕ) (i : ℕ) (t : Table) (tables : List Table) : Type 0 where

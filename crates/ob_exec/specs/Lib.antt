@@ -12,3 +12,6 @@ pub mod Totalling
 pub mod Results
 pub mod Sources
 pub mod Serving
+pub mod Resting
+pub mod Reopening
+pub mod Closing

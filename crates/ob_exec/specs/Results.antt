@@ -21,6 +21,7 @@ use Rattle.ob_script.specs.Script.{extent_of, plan_part, result_part}
 use Rattle.ob_script.specs.Parts.{count_part, emission_part}
 use Rattle.ob_store.specs.Runs.{Began}
 use Rattle.ob_vault.specs.State.{World}
+use Rattle.ob_vault.specs.Numbers.{spent}
 use Rattle.ob_vault.specs.Tied.{Ready, IsUnfit}
 use Rattle.ob_vault.specs.Calls.{one}
 use Rattle.ob_vault.specs.Words.{IsHonest, SealsAll}
@@ -153,7 +154,7 @@ pub record IsPlanned (r : Planned) (room : RoomState) (w : World) : Type 0 where
   pub settings : AreSettings r.selection.public
   pub free : IsFree r.selection.public room
   pub ready : Ready w
-  pub few : length w.store.asked < 2 ^ 63 + 2 ^ 59
+  pub few : spent w < 2 ^ 63 + 2 ^ 59
   pub flat : IsFlat r.selection.public.pack r.selection.flat w
   pub size : IsSized r.selection.flat.schema r.selection.flat.capacity
   pub columns : AreColumns r.selection.flat.schema r.selection.cols

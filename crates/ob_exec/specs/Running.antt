@@ -31,7 +31,7 @@ use Rattle.ob_mutate.specs.declared.inserting.Inserted.TheVariants.{Done, Duplic
 use Rattle.ob_exec.specs.declared.engine.Engine.{Engine}
 use Rattle.ob_exec.specs.declared.outcome.Outcome.{Outcome}
 use Rattle.ob_exec.specs.declared.outcome.Outcome.TheVariants.{Inserted, Rows, Refused}
-use Rattle.ob_exec.specs.Agreeing.{Agrees, world_of}
+use Rattle.ob_exec.specs.Agreeing.{Agrees, engine_start, opened_from, world_of}
 use Rattle.ob_exec.specs.Engines.{IsFree}
 use Rattle.ob_exec.specs.Opening.{Opens}
 use Rattle.ob_exec.specs.Refusals.{refused_end, by_fault}
@@ -111,6 +111,8 @@ pub record Ran {R : Type 0} (state : R → RevState) (skeleton : Skeleton) (resu
   pub asked : t.asked ≡ s.asked ++ script old.public skeleton new.seen
   pub later : Later s t
   pub keys : new.vault.keys ≡ old.vault.keys
+  pub start : engine_start new ≡ engine_start old
+  pub from_closing : opened_from new ≡ opened_from old
   pub ends : new.seen.end ≡ result_end result (length t.asked - length s.asked)
   pub asks : IsFaulted result → length s.asked < length t.asked
   pub cause : RunCause result (world_of state old s) (world_of state new t)

@@ -21,6 +21,7 @@ use Rattle.ob_row.specs.Truth.{is_true}
 use Rattle.ob_script.specs.Script.{blocks_of, extent_of, select_part}
 use Rattle.ob_vault.specs.State.{World}
 use Rattle.ob_store.specs.State.{Lie}
+use Rattle.ob_vault.specs.Numbers.{spent}
 use Rattle.ob_vault.specs.Tied.{Ready, ReadsIn, IsUnfit}
 use Rattle.ob_vault.specs.Calls.{Seals}
 use Rattle.ob_flat.specs.declared.fault.OpErr.{OpErr}
@@ -204,7 +205,7 @@ pub record MaySelect (q : Selection) (room : RoomState) (w : World) : Type 0 whe
   pub ready : Ready w
   pub spare : counted_after q + q.ending ≤ w.store.spare
   pub short : q.ending ≤ 1
-  pub few : length w.store.asked < 2 ^ 63 + 2 ^ 58
+  pub few : spent w < 2 ^ 63 + 2 ^ 58
   pub flat : IsFlat q.public.pack q.flat w
   pub size : IsSized q.flat.schema q.flat.capacity
   pub columns : AreColumns q.flat.schema q.cols

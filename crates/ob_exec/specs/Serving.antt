@@ -1,5 +1,5 @@
 -- What a call of the engine does.
-use Rattle.std.specs.Prelude.{◌≡◌, ◌⊎◌, ℕ, List, ◌++◌, Some, Result, Err, IfOk, IfErr, length}
+use Rattle.std.specs.Prelude.{◌≡◌, ◌⊎◌, ℕ, List, ◌++◌, Some, Result, Err, IfOk, IfErr}
 use Rattle.ob_base.specs.declared.refusal.Stop.{Stop}
 use Rattle.ob_base.specs.declared.refusal.Stop.TheVariants.{NoMemory, SinkFault, Tampered}
 use Rattle.ob_base.specs.declared.seen.End.TheVariants.{Static, AfterCount}
@@ -13,6 +13,7 @@ use Rattle.ob_mean.specs.Lawful.{Lawful}
 use Rattle.ob_mean.specs.Verdict.{Tables, verdict, ended as seen_to}
 use Rattle.ob_exec.specs.declared.engine.Engine.{Engine}
 use Rattle.ob_exec.specs.declared.outcome.Outcome.{Outcome}
+use Rattle.ob_exec.specs.Agreeing.{count_of}
 use Rattle.ob_exec.specs.Running.{Ran, RefusedEarly, Emits, SinkCause, IsSilent, refusal_now}
 use Rattle.ob_exec.specs.Memory.{HasHalted, LacksMemory}
 use Rattle.ob_exec.specs.Telling.{KeepsSealed, ReadsTrue, ReadsTrueUntil, SeenCut, Told, is_refused, IsNotTampered, Partly, Emitted, answer_labels, meant_script}
@@ -24,7 +25,7 @@ pub record Answered {R E : Type 0} (state : R → RevState) (grew : E → E → 
   pub took : grew out_old out_new events
   pub emits : Emits stmt (answer_labels stmt old.public) outcome events
   pub told : (tables : Tables) → ReadsTrue state old s t tables
-      → Emitted stmt old.public (length s.asked) tables outcome events
+      → Emitted stmt old.public (count_of old s) tables outcome events
 
 -- until a stop the emitter took these events, and its output ends within them where it failed
 abbrev pub EndsWithin : {E : Type 0} → (grew cut : E → E → List Event → Type 0) → Stop → (out_old out_new : E) → List Event → Type 0
@@ -39,21 +40,21 @@ pub record Stopped {R E : Type 0} (state : R → RevState) (grew cut : E → E �
   pub events : List Event
   pub ends : EndsWithin grew cut stop out_old out_new events
   pub told : (tables : Tables) → ReadsTrueUntil state old s new t tables
-      → Partly (answer_labels stmt old.public) (verdict old.public (length s.asked) tables stmt) events
+      → Partly (answer_labels stmt old.public) (verdict old.public (count_of old s) tables stmt) events
 
 -- what is known of a statement by its meaning
 pub record Means {R : Type 0} (state : R → RevState) (stmt : Stmt) (result : Result Outcome Stop)
     (old : Engine R) (s : StoreState) (new : Engine R) (t : StoreState) : Type 0 where
   -- the answer, what is seen and the tables afterwards are those of the statement over the tables before
   pub told : (tables : Tables) → ReadsTrue state old s t tables
-      → IfOk result (λ outcome. Told state stmt (length s.asked) tables outcome old new t)
+      → IfOk result (λ outcome. Told state stmt tables outcome old s new t)
   pub honest : (tables : Tables) → ReadsTrue state old s t tables → IfErr result IsNotTampered
   -- so is what is seen until a stop
   pub held : (tables : Tables) → ReadsTrueUntil state old s new t tables
-      → IfErr result (λ stop. SeenCut (is_refused stop) stmt (length s.asked) tables old new t)
+      → IfErr result (λ stop. SeenCut (is_refused stop) stmt tables old s new t)
   -- the first changed block that is read is one that the statement over the tables before reads too
   pub begun : (tables : Tables) → ReadsTrue state old s s tables → (lie : Lie) → t.lie ≡ Some lie
-      → ReadsIn lie (s.asked ++ meant_script old.public (length s.asked) tables stmt)
+      → ReadsIn lie (s.asked ++ meant_script old.public (count_of old s) tables stmt)
 
 -- a statement was carried out
 pub record Serves {R E : Type 0} (state : R → RevState) (grew cut : E → E → List Event → Type 0)
@@ -63,9 +64,9 @@ pub record Serves {R E : Type 0} (state : R → RevState) (grew cut : E → E �
   -- whatever the store answers, its accesses are those of what is public, its skeleton and what is seen of it
   pub ran : Ran state (skeleton stmt) result old s new t
   -- it is refused before any access exactly where its meaning says so
-  pub early : RefusedEarly (refusal_now old.public (length s.asked) stmt) result new.seen
+  pub early : RefusedEarly (refusal_now old.public (count_of old s) stmt) result new.seen
   -- what is seen may be seen
-  pub lawful : Lawful old.public (length s.asked) stmt new.seen
+  pub lawful : Lawful old.public (count_of old s) stmt new.seen
   -- want of memory tells nothing of rows
   pub memory : result ≡ Err NoMemory → LacksMemory old.public stmt new.seen s t (HasHalted cut out_old out_new)
   -- nothing comes to lie in clear

@@ -28,7 +28,7 @@ use Rattle.ob_exec.specs.declared.engine.Engine.{Engine}
 use Rattle.ob_exec.specs.declared.outcome.Outcome.{Outcome}
 use Rattle.ob_exec.specs.declared.outcome.Outcome.TheVariants.{Created, Inserted, Changed, Deleted, Dropped, Rows, Refused}
 use Rattle.ob_exec.specs.Engines.{flat_of}
-use Rattle.ob_exec.specs.Agreeing.{world_of}
+use Rattle.ob_exec.specs.Agreeing.{world_of, count_of}
 use Rattle.ob_exec.specs.Running.{is_fault}
 use Rattle.ob_verdict.specs.Laws.{AreInPlace}
 
@@ -92,17 +92,18 @@ pub record Meant {R : Type 0} (state : R → RevState) (stmt : Stmt) (m : ℕ) (
   pub held : Represents state new t (settle old.public m tables stmt)
 
 -- what is seen of one that was cut off, at an access that failed or behind one
-abbrev pub SeenCut : {R : Type 0} → (failed : Bool) → Stmt → (m : ℕ) → Tables → (old new : Engine R) → StoreState → Type 0
-SeenCut failed stmt m tables old new t = new.seen ≡ cut_at failed (length t.asked - m) old.public (skeleton stmt) (seen old.public m tables stmt)
+abbrev pub SeenCut : {R : Type 0} → (failed : Bool) → Stmt → Tables → (old : Engine R) → StoreState → (new : Engine R) → StoreState → Type 0
+SeenCut failed stmt tables old s new t =
+    new.seen ≡ cut_at failed (length t.asked - length s.asked) old.public (skeleton stmt) (seen old.public (count_of old s) tables stmt)
 
 -- one that the store cut off: the tables are as they were
-pub record Kept {R : Type 0} (state : R → RevState) (stmt : Stmt) (m : ℕ) (tables : Tables) (old new : Engine R) (t : StoreState) : Type 0 where
-  pub seen : SeenCut true stmt m tables old new t
+pub record Kept {R : Type 0} (state : R → RevState) (stmt : Stmt) (tables : Tables) (old : Engine R) (s : StoreState) (new : Engine R) (t : StoreState) : Type 0 where
+  pub seen : SeenCut true stmt tables old s new t
   pub held : Represents state new t tables
 
 -- a statement that was answered
-abbrev pub Told : {R : Type 0} → (R → RevState) → Stmt → (m : ℕ) → Tables → Outcome → (old new : Engine R) → StoreState → Type 0
-Told state stmt m tables outcome old new t = by_fault (is_fault outcome) (Kept state stmt m tables old new t) (Meant state stmt m tables outcome old new t)
+abbrev pub Told : {R : Type 0} → (R → RevState) → Stmt → Tables → Outcome → (old : Engine R) → StoreState → (new : Engine R) → StoreState → Type 0
+Told state stmt tables outcome old s new t = by_fault (is_fault outcome) (Kept state stmt tables old s new t) (Meant state stmt (count_of old s) tables outcome old new t)
 
 -- whether the access that a statement was stopped at is the last, and was not carried out
 abbrev pub is_refused : Stop → Bool

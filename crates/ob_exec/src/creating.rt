@@ -1,7 +1,7 @@
 //! CREATE TABLE.
-ghost use Rattle.std.specs.Prelude.{◌≡◌, None, false, length};
+ghost use Rattle.std.specs.Prelude.{◌≡◌, ◌≤◌, None, false, length};
 ghost use Rattle.ob_sql.specs.declared.stmt.Stmt.TheVariants.{Create};
-ghost use Rattle.ob_exec.specs.Agreeing.{Agrees, has_ended, public_of};
+ghost use Rattle.ob_exec.specs.Agreeing.{Agrees, has_ended, public_of, count_of};
 ghost use Rattle.ob_exec.specs.Running.{refusal_now};
 ghost use Rattle.ob_exec.specs.Serving.{ServesSilently};
 
@@ -15,14 +15,15 @@ use ob_vault::Revisions;
 
 // A new table as the engine keeps it.
 fn new_table(name: &Name, schema: &Schema, capacity: u32, region: u64) -> Table
-    ensures { result ≡ record {
+    ensures value { result ≡ record {
       heading = record { name = name.now; schema = schema.now; capacity = capacity };
       region = region;
     } }
+    ensures short { length name.now ≤ 32 }
 {
     Table {
         heading: Heading {
-            name: name.copied(),
+            name: Name::from_bytes(name.as_bytes()),
             schema: schema.copied(),
             capacity,
         },
@@ -41,7 +42,7 @@ impl<R: Revisions> Engine<R> {
     ) -> Result<Outcome, Stop>
         requires agrees { Agrees R.state self.old (S.state store.old) }
         requires lives { has_ended self.old ≡ false }
-        requires allowed { refusal_now (public_of self.old) (length (S.state store.old).asked)
+        requires allowed { refusal_now (public_of self.old) (count_of self.old (S.state store.old))
             (Create table.now columns.now capacity) ≡ None }
         ensures serves { ServesSilently R.state (Create table.now columns.now capacity) result
             self.old (S.state store.old) self.new (S.state store.new) }

@@ -1,11 +1,12 @@
 //! An engine, and how its statements end.
-ghost use Rattle.std.specs.Prelude.{◌≡◌, ◌≤◌, List, [], IfOk, false};
+ghost use Rattle.std.specs.Prelude.{◌≡◌, ◌≤◌, List, [], None, IfOk, false};
 ghost use Rattle.ob_base.specs.declared.seen.End.TheVariants.{Static, Whole, Cut};
 ghost use Rattle.ob_store.specs.State.{StoreState};
+ghost use Rattle.ob_vault.specs.State.{from_nothing};
 ghost use Rattle.ob_mean.specs.Verdict.{ended as seen_to};
 ghost use Rattle.ob_exec.specs.Engines.{IsConfig};
 ghost use Rattle.ob_base.specs.Publics.{first_public};
-ghost use Rattle.ob_exec.specs.Agreeing.{Agrees, public_of, seen_of, engine_keys, has_ended, high_of, rows_of};
+ghost use Rattle.ob_exec.specs.Agreeing.{Agrees, public_of, seen_of, engine_keys, engine_start, has_ended, high_of, opened_from, rows_of};
 ghost use Rattle.ob_exec.specs.Running.{answer_of, is_stop};
 
 use crate::outcome::Outcome;
@@ -17,7 +18,7 @@ use ob_vault::{Revisions, Vault};
 use std::alloc::Global;
 
 /// The width of an open row: every row of a table, or of a join, is at most so wide.
-const ROW_WIDTH: u32 = 1_024;
+pub(crate) const ROW_WIDTH: u32 = 1_024;
 
 /// From so many accesses on no statement is served.
 pub(crate) const LATE: u64 = 1 << 63;
@@ -31,6 +32,8 @@ pub struct Engine<R: Revisions> {
     pub(crate) public: Public,
     pub(crate) seen: Seen,
     pub(crate) ended: bool,
+    // the region of the closing that it was opened from
+    pub(crate) closing: Option<u64>,
 }
 
 // What is seen of a statement without a count.
@@ -53,6 +56,8 @@ impl<R: Revisions> Engine<R> {
         ensures public { IfOk result (λ e. public_of e
             ≡ first_public config.buffer config.depth config.pack config.plan config.pad) }
         ensures keyed { IfOk result (λ e. engine_keys e ≡ keys) }
+        ensures started { IfOk result (λ e. engine_start e ≡ from_nothing) }
+        ensures anew { IfOk result (λ e. opened_from e ≡ None) }
         ensures alive { IfOk result (λ e. has_ended e ≡ false) }
         ensures none_open { IfOk result (λ e. high_of e ≡ 0) }
         ensures rows { IfOk result (λ e. rows_of e ≡ config.buffer) }
@@ -73,6 +78,7 @@ impl<R: Revisions> Engine<R> {
             },
             seen: seen_to_end(End::Whole),
             ended: false,
+            closing: None,
         })
     }
 

@@ -1,11 +1,14 @@
 //! The engine: statements over sealed tables in a block store that others watch and change.
 #![tactic(auto)]
 
+mod closing;
 mod creating;
 mod deleting;
 mod dropping;
 mod engine;
 mod inserting;
+mod laws;
+mod opening;
 mod outcome;
 mod places;
 mod results;
@@ -18,4 +21,6 @@ mod totals;
 mod updating;
 
 pub use engine::Engine;
+pub use laws::{names_are_apart, names_order_tables};
+pub use ob_reopen::{CloseErr, Closing, Listed, OpenErr};
 pub use outcome::Outcome;

@@ -1,5 +1,5 @@
 //! SELECT of rows, of a table or of a join.
-ghost use Rattle.std.specs.Prelude.{◌≡◌, ◌≤◌, ◌⊎◌, ◌+◌, ◌*◌, None, true, false, length, OnOk, OnErr, IfErr};
+ghost use Rattle.std.specs.Prelude.{◌≡◌, ◌≤◌, ◌⊎◌, ◌+◌, ◌*◌, None, true, false, OnOk, OnErr, IfErr};
 ghost use Rattle.ob_base.specs.declared.seen.End.TheVariants.{Whole};
 ghost use Rattle.ob_base.specs.declared.skeleton.Source.TheVariants.{Table as OneTable};
 ghost use Rattle.ob_base.specs.Events.{Leads};
@@ -10,7 +10,7 @@ ghost use Rattle.ob_flat.specs.Passes.{SinkCause};
 ghost use Rattle.ob_sql.specs.declared.stmt.Stmt.TheVariants.{SelectRows as RowsStmt};
 ghost use Rattle.ob_mean.specs.Prints.{is_join};
 ghost use Rattle.ob_mean.specs.Verdict.{ended as seen_to};
-ghost use Rattle.ob_exec.specs.Agreeing.{Agrees, has_ended, public_of, world_of};
+ghost use Rattle.ob_exec.specs.Agreeing.{Agrees, has_ended, public_of, world_of, count_of};
 ghost use Rattle.ob_exec.specs.Running.{refusal_now};
 ghost use Rattle.ob_exec.specs.Serving.{Serves};
 ghost use Rattle.ob_exec.specs.Sources.{SelectsRows, UsesRoomFor, IsFew, closing, selected_outcome};
@@ -82,7 +82,7 @@ impl<R: Revisions> Engine<R> {
         out: &mut E,
     ) -> Result<Selected, OpErr>
         requires agrees { Agrees R.state self.old (S.state store.old) }
-        requires allowed { refusal_now (public_of self.old) (length (S.state store.old).asked)
+        requires allowed { refusal_now (public_of self.old) (count_of self.old (S.state store.old))
             (RowsStmt select.now) ≡ None }
         requires source { select.now.source ≡ OneTable table.now }
         requires fresh { seen.old ≡ seen_to Whole }
@@ -131,7 +131,7 @@ impl<R: Revisions> Engine<R> {
         out: &mut E,
     ) -> Result<Selected, OpErr>
         requires agrees { Agrees R.state self.old (S.state store.old) }
-        requires allowed { refusal_now (public_of self.old) (length (S.state store.old).asked)
+        requires allowed { refusal_now (public_of self.old) (count_of self.old (S.state store.old))
             (RowsStmt select.now) ≡ None }
         requires joins { is_join select.now.source ≡ true }
         requires fresh { seen.old ≡ seen_to Whole }
@@ -215,7 +215,7 @@ impl<R: Revisions> Engine<R> {
         out: &mut E,
     ) -> Result<Selected, OpErr>
         requires agrees { Agrees R.state self.old (S.state store.old) }
-        requires allowed { refusal_now (public_of self.old) (length (S.state store.old).asked)
+        requires allowed { refusal_now (public_of self.old) (count_of self.old (S.state store.old))
             (RowsStmt select.now) ≡ None }
         requires fresh { seen.old ≡ seen_to Whole }
         ensures frame { self.new
@@ -242,7 +242,7 @@ impl<R: Revisions> Engine<R> {
     ) -> Result<Outcome, Stop>
         requires agrees { Agrees R.state self.old (S.state store.old) }
         requires lives { has_ended self.old ≡ false }
-        requires allowed { refusal_now (public_of self.old) (length (S.state store.old).asked)
+        requires allowed { refusal_now (public_of self.old) (count_of self.old (S.state store.old))
             (RowsStmt select.now) ≡ None }
         ensures serves { Serves R.state E.grew E.cut E.faults (RowsStmt select.now) result
             self.old (S.state store.old) self.new (S.state store.new) out.old out.new }

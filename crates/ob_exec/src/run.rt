@@ -42,7 +42,7 @@ impl<R: Revisions> Engine<R> {
         ensures serves { Serves R.state E.grew E.cut E.faults stmt.now result
             self.old (S.state store.old) self.new (S.state store.new) out.old out.new }
     {
-        if let Some(refusal) = early_refusal(store.count() >= LATE, &self.public, stmt) {
+        if let Some(refusal) = early_refusal(self.vault.spent(store) >= LATE, &self.public, stmt) {
             return Ok(self.refuse(refusal));
         }
         match stmt {

@@ -1,7 +1,7 @@
 //! SELECT of totals: aggregates, and GROUP BY.
-ghost use Rattle.std.specs.Prelude.{◌≡◌, None, false, length};
+ghost use Rattle.std.specs.Prelude.{◌≡◌, None, false};
 ghost use Rattle.ob_sql.specs.declared.stmt.Stmt.TheVariants.{SelectTotals as TotalsStmt};
-ghost use Rattle.ob_exec.specs.Agreeing.{Agrees, has_ended, public_of};
+ghost use Rattle.ob_exec.specs.Agreeing.{Agrees, has_ended, public_of, count_of};
 ghost use Rattle.ob_exec.specs.Running.{refusal_now};
 ghost use Rattle.ob_exec.specs.Serving.{Serves};
 
@@ -25,7 +25,7 @@ impl<R: Revisions> Engine<R> {
     ) -> Result<Outcome, Stop>
         requires agrees { Agrees R.state self.old (S.state store.old) }
         requires lives { has_ended self.old ≡ false }
-        requires allowed { refusal_now (public_of self.old) (length (S.state store.old).asked)
+        requires allowed { refusal_now (public_of self.old) (count_of self.old (S.state store.old))
             (TotalsStmt select.now) ≡ None }
         ensures serves { Serves R.state E.grew E.cut E.faults (TotalsStmt select.now) result
             self.old (S.state store.old) self.new (S.state store.new) out.old out.new }

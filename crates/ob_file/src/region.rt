@@ -2,7 +2,7 @@
 ghost use Rattle.std.specs.Prelude.{◌≡◌, ◌≤◌, length};
 
 use ob_base::Failed;
-use std::fs::OpenOptions;
+use std::fs::{OpenOptions, metadata};
 use std::os::unix::fs::FileExt;
 use std::rt::Files;
 
@@ -24,6 +24,18 @@ pub fn create<R: Files>(files: &R, path: &str) -> Result<R::File, Failed> {
         .truncate(true)
         .open(files, path);
     match opened {
+        Ok(file) => Ok(file),
+        Err(_) => Err(Failed),
+    }
+}
+
+/// Opens the file that a region of an earlier run has, of so many bytes.
+pub fn reopen<R: Files>(files: &R, path: &str, size: u64) -> Result<R::File, Failed> {
+    match metadata(files, path) {
+        Ok(found) if found.len() == size => {}
+        Ok(_) | Err(_) => return Err(Failed),
+    }
+    match OpenOptions::new().read(true).write(true).open(files, path) {
         Ok(file) => Ok(file),
         Err(_) => Err(Failed),
     }

@@ -5,9 +5,9 @@ ghost use Rattle.std.specs.BTreeMap.{get};
 ghost use Rattle.ob_store.specs.Logs.{asked_of};
 ghost use Rattle.ob_file.specs.Regions.{IsFresh, fresh_live, shape_of};
 
-use crate::region::{Region, create, read, write};
+use crate::region::{Region, create, read, reopen, write};
 use ob_base::{Access, Failed, NoMemory, StoreErr};
-use ob_store::{BlockStore, Log};
+use ob_store::{BlockStore, Lasting, Log};
 use std::alloc::Global;
 use std::collections::BTreeMap;
 use std::fs;
@@ -89,9 +89,14 @@ where
       tells = false;
       last = λ r p. None;
       lie = None;
+      kept = λ r. None;
       gave = take m.given_len m.given;
       disturbed = None;
     } };
+
+    ghost keeps_live = { λ m r shape told is. absurd (cc told) };
+
+    ghost keeps_within = { λ m r region is. absurd (cc is) };
 
     ghost starts_empty = { λ m r none. fresh_live (asked_of m.log) m.regions m.fresh none r };
 
@@ -186,5 +191,36 @@ where
 
     fn nth(&self, i: u64) -> Access {
         self.log.nth(i)
+    }
+}
+
+impl<'a, R: Files> Lasting for FileStore<'a, R>
+where
+    R::File: FileExt,
+{
+    fn resume(&mut self, region: u64, blocks: u32, len: u32) -> Result<(), StoreErr> {
+        self.log.push(Access::Open {
+            region,
+            blocks,
+            len,
+        });
+        let Ok(path) = self.path_of(region) else {
+            return Err(StoreErr::NoMemory);
+        };
+        let size = u64::from(blocks) * u64::from(len);
+        let Ok(file) = reopen(self.files, path.as_str(), size) else {
+            self.faults = self.faults.saturating_add(1);
+            return Err(StoreErr::Failed);
+        };
+        let found = Region {
+            path,
+            file,
+            blocks,
+            len,
+        };
+        match self.regions.insert(region, found) {
+            Ok(_) => Ok(()),
+            Err(_) => Err(StoreErr::NoMemory),
+        }
     }
 }

@@ -3,6 +3,7 @@ ghost use Rattle.ob_base.specs.Numbers.{blocks_for};
 ghost use Rattle.ob_base.specs.Schemas.{width};
 ghost use Rattle.ob_vault.specs.declared.region.Order.TheVariants.{Round};
 ghost use Rattle.ob_vault.specs.Tied.{Lives, OnTurn};
+ghost use Rattle.ob_vault.specs.Numbers.{spent};
 ghost use Rattle.ob_vault.specs.Places.{at, RowsFit};
 ghost use Rattle.ob_vault.specs.Rows.{joined};
 ghost use Rattle.ob_vault.specs.Words.{MayAsk, MayStart};
@@ -46,7 +47,7 @@ pub fn make_table<S: BlockStore, R: Revisions>(
     order: Order,
 ) -> Result<u64, OpErr>
     requires spare { HasSpare 1 (at R.state vault.old (S.state store.old)) }
-    requires few { length (S.state store.old).asked < 2 ^ 63 + 2 ^ 60 }
+    requires few { spent (at R.state vault.old (S.state store.old)) < 2 ^ 63 + 2 ^ 60 }
     requires size { FitsRegion pack schema.now capacity }
     requires pack { (1 ≤ pack) × (pack ≤ 16) }
     ensures makes { MakesTable order pack (table_of schema.now capacity vault.old.next)

@@ -1,5 +1,6 @@
 ghost use Rattle.std.specs.Prelude.{◌≡◌, ◌≤◌, ◌<◌, ◌+◌, ◌^◌, ℕ, OnOk, MatchResult, length};
 ghost use Rattle.ob_base.specs.Schemas.{Columns, width};
+ghost use Rattle.ob_vault.specs.Numbers.{spent};
 ghost use Rattle.ob_vault.specs.Places.{at};
 ghost use Rattle.ob_vault.specs.Rows.{SameSizes, Wide};
 ghost use Rattle.ob_row.specs.Slots.{Slots};
@@ -56,7 +57,7 @@ pub fn rework_block<S: BlockStore, R: Revisions, W: Rework>(
     work: &mut W,
 ) -> Result<(), OpErr>
     requires spare { HasSpare 2 (at R.state vault.old (S.state store.old)) }
-    requires few { length (S.state store.old).asked + 1 < 2 ^ 63 + 2 ^ 60 }
+    requires few { spent (at R.state vault.old (S.state store.old)) + 1 < 2 ^ 63 + 2 ^ 60 }
     requires table { MayRework (length rows.old) flat.now place
         (at R.state vault.old (S.state store.old)) }
     requires fit { FitBlock flat.now.schema rows.old }

@@ -1,6 +1,6 @@
 //! The limits of a new table.
 ghost use Rattle.std.specs.Prelude.{◌≡◌, ◌≤◌, ◌+◌, ◌++◌, ℕ, List, [], length, map, sum_by, nat_lt, not, min, true, false};
-ghost use Rattle.std.specs.List.{list_any};
+ghost use Rattle.std.specs.List.{All, list_any};
 ghost use Rattle.ob_base.specs.Schemas.{width, kind_width, kind_of, new_column, columns_of};
 ghost use Rattle.ob_base.specs.declared.skeleton.NewColumn.{NewColumn};
 ghost use Rattle.ob_base.specs.Stored.{headings_of};
@@ -87,11 +87,12 @@ fn kind_of(kind: NewKind) -> Kind
 
 fn column_of(table: &Name, column: &NewColumn) -> Column
     requires { is_size column.now.kind ≡ true }
-    ensures { result ≡ new_column table.now column.now }
+    ensures value { result ≡ new_column table.now column.now }
+    ensures short { length column.now.name ≤ 32 }
 {
     Column {
         table: table.copied(),
-        name: column.name.copied(),
+        name: Name::from_bytes(column.name.as_bytes()),
         kind: kind_of(column.kind),
         key: column.keys > 0,
     }
@@ -100,7 +101,8 @@ fn column_of(table: &Name, column: &NewColumn) -> Column
 fn add_columns(table: &Name, columns: &[NewColumn], schema: &mut Schema)
     requires few { length schema.old + length columns.now ≤ 32 }
     requires sizes { list_any (λ (c : NewColumn). not (is_size c.kind)) columns.now ≡ false }
-    ensures { schema.new ≡ schema.old ++ columns_of table.now columns.now }
+    ensures value { schema.new ≡ schema.old ++ columns_of table.now columns.now }
+    ensures names { All (λ (c : NewColumn). length c.name ≤ 32) columns.now }
 {
     match columns.split_first() {
         None => {}
@@ -111,11 +113,12 @@ fn add_columns(table: &Name, columns: &[NewColumn], schema: &mut Schema)
     }
 }
 
-/// The schema of a new table, whose sizes are within their limits.
+/// The schema of a new table, whose sizes are within their limits. Names have at most 32 bytes.
 pub fn new_schema(table: &Name, columns: &[NewColumn]) -> Schema
     requires few { length columns.now ≤ 32 }
     requires sizes { list_any (λ (c : NewColumn). not (is_size c.kind)) columns.now ≡ false }
-    ensures { result ≡ columns_of table.now columns.now }
+    ensures value { result ≡ columns_of table.now columns.now }
+    ensures names { All (λ (c : NewColumn). length c.name ≤ 32) columns.now }
 {
     let mut schema = Schema::new();
     add_columns(table, columns, &mut schema);

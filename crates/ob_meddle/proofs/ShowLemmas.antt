@@ -1,9 +1,9 @@
 -- Nothing shows before the first change.
-use Rattle.std.proofs.Common.{subst, sym, ◌≡◌, ◌∙◌, ◌+◌, ◌<◌, ◌≤◌, ℕ, true, false, refl, ap, List, [], ◌∷◌, ◌++◌, map, Option, Some, None, length, take, arith}
+use Rattle.std.proofs.Common.{Bool, IsSome, subst, sym, ◌≡◌, ◌∙◌, ◌+◌, ◌<◌, ◌≤◌, ℕ, true, false, refl, ap, List, [], ◌∷◌, ◌++◌, map, Option, Some, None, length, take, arith}
 use Rattle.std.proofs.lemmas.List.{length-take-le, take-append-le}
 use Rattle.std.specs.Option.{ForSome}
 use Rattle.ob_base.specs.declared.access.Access.{Access}
-use Rattle.ob_store.specs.State.{Disturbance, Lie, Shape, StoreState}
+use Rattle.ob_store.specs.State.{Disturbance, KeptRegion, Lie, Shape, StoreState}
 use Rattle.ob_store.specs.Calls.{Asks, IsBefore, IsQuiet, IsSteady}
 use Rattle.ob_store.specs.Logs.{asked_of}
 use Rattle.ob_meddle.specs.declared.caught.Caught.{Caught}
@@ -14,7 +14,7 @@ use Rattle.ob_meddle.specs.declared.store.MeddledStore.{MeddledStore}
 use Rattle.ob_meddle.specs.Caught.{lie_of}
 use Rattle.ob_meddle.specs.Due.{failed_among, has_acted, are_later, spelt_act, disturbance_of, disturbances}
 use Rattle.ob_meddle.specs.Fresh.{IsEarly}
-use Rattle.ob_meddle.specs.Shows.{list_of, state_of, Shows}
+use Rattle.ob_meddle.specs.Shows.{list_of, state_of, told_of, Shows}
 use Rattle.ob_meddle.proofs.DueLemmas.{acted_later, none_acted, none_failed, all_later}
 
 -- a read was caught behind an act
@@ -49,9 +49,9 @@ quiet_as s list caught counted lie early caused later =
       lie = lie ∙ no_lie list s.asked caught early caused (none_acted list (length s.asked) later);
     }
 
-pub steady_as : (s : StoreState) (list : List Meddle) (caught : Option Caught) → s.disturbed ≡ disturbances list → s.faults + s.slips ≡ failed_among list (length s.asked) → s.lie ≡ lie_of caught s.asked
+told_steady : (s : StoreState) (list : List Meddle) (caught : Option Caught) → s.disturbed ≡ disturbances list → s.faults + s.slips ≡ failed_among list (length s.asked) → s.lie ≡ lie_of caught s.asked
     → IsEarly caught s.asked → IsCaused list caught → IsSteady s
-steady_as s list caught names counted lie early caused =
+told_steady s list caught names counted lie early caused =
     let later : (n : ℕ) → IsBefore s.disturbed n → are_later list n ≡ true = λ n before. all_later list n (subst (λ (o : Option (List Disturbance)). IsBefore o n) names before) in
     record {
       quiet = λ before. quiet_as s list caught counted lie early caused (later (length s.asked) before);
@@ -61,15 +61,33 @@ steady_as s list caught names counted lie early caused =
       ));
     }
 
--- when the changes of a store show
-pub shows : (m : MeddledStore) → Shows (list_of m) (state_of m)
-shows m = record {
-  counted = m.counted;
-  asked = λ lie is. (count_of m.list (asked_of m.log) m.caught m.early m.caused lie is).0;
-  caused = λ lie is. (count_of m.list (asked_of m.log) m.caught m.early m.caused lie is).1;
-  quiet = quiet_as (state_of m) m.list m.caught m.counted refl m.early m.caused;
-  disturbed = refl;
+-- so it is, too, where nothing is told of what others do
+pub steady_as : (reopened : Bool) (s : StoreState) (list : List Meddle) (caught : Option Caught) → s.disturbed ≡ told_of reopened list → (reopened ≡ false → s.faults + s.slips ≡ failed_among list (length s.asked))
+    → s.lie ≡ lie_of caught s.asked → IsEarly caught s.asked → (reopened ≡ false → IsCaused list caught) → IsSteady s
+steady_as false s list caught names counted lie early caused = told_steady s list caught names (counted refl) lie early (caused refl)
+steady_as true s list caught names counted lie early caused = record {
+  quiet = λ before. absurd (subst (λ (o : Option (List Disturbance)). IsBefore o (length s.asked)) names before);
+  lied = λ one is before. absurd (subst (λ (o : Option (List Disturbance)). IsBefore o (length one.before + 1)) names before);
 }
+
+-- where it is told, no earlier run's region was asked for
+pub not_reopened : (reopened : Bool) (list : List Meddle) → IsSome (told_of reopened list) → reopened ≡ false
+not_reopened false list told = refl
+not_reopened true list told = absurd (cc told)
+
+-- when the changes of a store show
+pub shows : (m : MeddledStore) → IsSome (state_of m).disturbed → Shows (list_of m) (state_of m)
+shows m told =
+    let still = not_reopened m.reopened m.list told in
+    let counted = m.counted still in
+    let caused = m.caused still in
+    record {
+      counted = counted;
+      asked = λ lie is. (count_of m.list (asked_of m.log) m.caught m.early caused lie is).0;
+      caused = λ lie is. (count_of m.list (asked_of m.log) m.caught m.early caused lie is).1;
+      quiet = quiet_as (state_of m) m.list m.caught counted refl m.early caused;
+      disturbed = ap (λ (b : Bool). told_of b m.list) still;
+    }
 
 -- what is said of the changes is which they are
 heads : {x y : ℕ} {xs ys : List ℕ} → x ∷ xs ≡ y ∷ ys → x ≡ y
@@ -120,13 +138,14 @@ lie_stays (Some c) old more a e early =
     ap (λ (before : List Access). Some (record { region = c.region; place = c.place; bytes = take c.len c.bytes; before = before })) (ap (λ (l : List Access). take c.count l) e ∙ take-append-le c.count old (a ∷ []) (omega (arith, less)))
 
 -- the state of a store but for its regions, and for the read that was caught
-abbrev shown : MeddledStore → Option Caught → (ℕ → Option Shape) → (ℕ → ℕ → Option (List ℕ)) → List ℕ → StoreState
-shown m caught live last gave = record (state_of m) { live = live; last = last; lie = lie_of caught (asked_of m.log); gave = gave }
+abbrev pub shown : MeddledStore → Option Caught → (ℕ → Option Shape) → (ℕ → ℕ → Option (List ℕ)) → (ℕ → Option KeptRegion) → List ℕ → StoreState
+shown m caught live last kept gave = record (state_of m) { live = live; last = last; lie = lie_of caught (asked_of m.log); kept = kept; gave = gave }
 
 -- one access more was asked, and perhaps it failed
-module _ (a : Access) (old new : MeddledStore) (faults slips : ℕ) (live : ℕ → Option Shape) (last : ℕ → ℕ → Option (List ℕ)) (gave : List ℕ) (asked : asked_of new.log ≡ asked_of old.log ++ a ∷ []) (spare : old.log.spare ≤ new.log.spare + 1)
-    (list : new.list ≡ old.list) (failed : new.faults ≡ old.faults + faults) (slipped : new.slips ≡ old.slips + slips) where
-  asks_of : (caught : Option Caught) → ((lie : Lie) → (state_of old).lie ≡ Some lie → lie_of caught (asked_of new.log) ≡ Some lie) → IsEarly caught (asked_of new.log) → IsCaused new.list caught → Asks a (state_of old) (shown new caught live last gave)
+module _ (a : Access) (old new : MeddledStore) (faults slips : ℕ) (live : ℕ → Option Shape) (last : ℕ → ℕ → Option (List ℕ)) (kept : ℕ → Option KeptRegion) (gave : List ℕ) (asked : asked_of new.log ≡ asked_of old.log ++ a ∷ [])
+    (spare : old.log.spare ≤ new.log.spare + 1) (list : new.list ≡ old.list) (reopened : new.reopened ≡ old.reopened) (failed : new.faults ≡ old.faults + faults) (slipped : new.slips ≡ old.slips + slips) where
+  asks_of : (caught : Option Caught) → ((lie : Lie) → (state_of old).lie ≡ Some lie → lie_of caught (asked_of new.log) ≡ Some lie) → IsEarly caught (asked_of new.log) → (new.reopened ≡ false → IsCaused new.list caught)
+      → Asks a (state_of old) (shown new caught live last kept gave)
   asks_of caught stays early caused = record {
     asked = asked;
     spare = spare;
@@ -134,14 +153,14 @@ module _ (a : Access) (old new : MeddledStore) (faults slips : ℕ) (live : ℕ 
     slips = omega (arith, slipped);
     tells = refl;
     lie = stays;
-    disturbed = ap disturbances list;
-    steady = steady_as (shown new caught live last gave) new.list caught refl new.counted refl early caused;
+    disturbed = λ t. told_of (reopened t) (list t);
+    steady = steady_as new.reopened (shown new caught live last kept gave) new.list caught refl new.counted refl early caused;
   }
 
   -- no read was caught
-  pub asks_same : new.caught ≡ old.caught → Asks a (state_of old) (shown new new.caught live last gave)
+  pub asks_same : new.caught ≡ old.caught → Asks a (state_of old) (shown new new.caught live last kept gave)
   asks_same same = asks_of new.caught (λ lie is. ap (λ (c : Option Caught). lie_of c (asked_of new.log)) same ∙ lie_stays old.caught (asked_of old.log) (asked_of new.log) a asked old.early ∙ is) new.early new.caused
 
   -- it is the first that was caught
-  pub asks_caught : (caught : Option Caught) → old.caught ≡ None → IsEarly caught (asked_of new.log) → IsCaused new.list caught → Asks a (state_of old) (shown new caught live last gave)
+  pub asks_caught : (caught : Option Caught) → old.caught ≡ None → IsEarly caught (asked_of new.log) → (new.reopened ≡ false → IsCaused new.list caught) → Asks a (state_of old) (shown new caught live last kept gave)
   asks_caught caught none early caused = asks_of caught (λ lie is. absurd (cc (is, ap (λ (c : Option Caught). lie_of c (asked_of old.log)) none))) early caused

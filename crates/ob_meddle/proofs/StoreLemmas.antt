@@ -1,10 +1,10 @@
 -- What holds of a store after one access more.
-use Rattle.std.proofs.Common.{◌≡◌, ◌≢◌, ◌⊎◌, inl, inr, ℕ, suc, ◌+◌, Bool, true, false, List, [], ◌∷◌, ◌++◌, Option, Some, None, length, refl, ap, ◌∙◌, sym, rules, arith}
+use Rattle.std.proofs.Common.{◌≡◌, ◌≢◌, ◌⊎◌, inl, inr, ℕ, suc, ◌+◌, Bool, List, [], ◌∷◌, ◌++◌, Option, Some, None, length, refl, ap, ◌∙◌, sym, rules, arith}
 use Rattle.std.specs.Prelude.{Result, Ok, Err, OnOk, OnErr, if◌then◌else◌}
 use Rattle.ob_base.specs.declared.fault.NoMemory.{NoMemory}
-use Rattle.std.specs.Option.{ForSome}
 use Rattle.std.specs.Ordering.{nat_cmp}
 use Rattle.std.specs.BTreeMap.{BTreeMap, is_at}
+use Rattle.std.specs.BTreeSet.{BTreeSet}
 use Rattle.std.specs.Map.{lookup}
 use Rattle.ob_base.specs.declared.access.Access.{Access}
 use Rattle.ob_meddle.specs.declared.meddle.Meddle.{Meddle}
@@ -13,7 +13,7 @@ use Rattle.ob_meddle.specs.declared.caught.Caught.{Caught}
 use Rattle.ob_meddle.specs.Held.{Rest}
 use Rattle.ob_meddle.specs.Acts.{RegionRests, Stands, rest_at, rests_of, stands_of, after_acts}
 use Rattle.ob_meddle.specs.Regions.{last_at}
-use Rattle.ob_meddle.specs.Due.{fails_at, failed_among, has_acted}
+use Rattle.ob_meddle.specs.Due.{fails_at, failed_among}
 use Rattle.ob_meddle.specs.Fresh.{IsFresh, IsHonest, IsEarly}
 use Rattle.ob_meddle.proofs.DueLemmas.{more_asked, failed_more, acted_later, none_due}
 
@@ -21,9 +21,9 @@ module _ (list : List Meddle) (old more : List Access) (a : Access) (e : more �
   one_more : length more ≡ suc (length old)
   one_more = ap length e ∙ more_asked old a
 
-  pub fresh_more : (regions : BTreeMap ℕ Region) → IsFresh more regions
-  fresh_more regions = rw e (go old) where
-    go : (asked : List Access) → IsFresh (asked ++ a ∷ []) regions
+  pub fresh_more : (usable : BTreeSet ℕ) → IsFresh more usable
+  fresh_more usable = rw e (go old) where
+    go : (asked : List Access) → IsFresh (asked ++ a ∷ []) usable
     go [] = search rules
     go (x ∷ xs) = search rules
 
@@ -43,8 +43,8 @@ module _ (list : List Meddle) (old more : List Access) (a : Access) (e : more �
   early_more caught early = λ c is. let before = early c is in omega (arith, one_more)
 
 -- ---- before the first access
-pub fresh_none : (asked : List Access) (regions : BTreeMap ℕ Region) → asked ≡ [] → regions.entries ≡ [] → IsFresh asked regions
-fresh_none asked regions none empty = rw none (rw empty (search rules))
+pub fresh_none : (asked : List Access) (usable : BTreeSet ℕ) → asked ≡ [] → usable.keys ≡ [] → IsFresh asked usable
+fresh_none asked usable none empty = rw none (rw empty (search rules))
 
 pub counted_none : (list : List Meddle) (asked : List Access) → asked ≡ [] → 0 ≡ failed_among list (length asked)
 unfolding failed_among

@@ -2,7 +2,7 @@
 use Rattle.std.specs.Prelude.{ℕ, zero, suc, ◌+◌, ◌==◌, ◌&&◌, not, Bool, true, false, nat_lt, nat_le, map, List, [], ◌∷◌, Option, Some, if◌then◌else◌}
 use Rattle.std.specs.List.{list_any, list_all}
 use Rattle.ob_base.specs.declared.access.Access.{Access}
-use Rattle.ob_base.specs.declared.access.Access.TheVariants.{Make, Read, Write, Discard}
+use Rattle.ob_base.specs.declared.access.Access.TheVariants.{Make, Read, Write, Discard, Open}
 use Rattle.ob_store.specs.State.{Disturbance}
 use Rattle.ob_meddle.specs.declared.meddle.Act.{Act}
 use Rattle.ob_meddle.specs.declared.meddle.Act.TheVariants.{Fail, Flip, Copy, Older}
@@ -61,3 +61,4 @@ is_discard (Discard region) = true
 is_discard (Make region blocks len) = false
 is_discard (Read region place) = false
 is_discard (Write region place) = false
+is_discard (Open region blocks len) = false

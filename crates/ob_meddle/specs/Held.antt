@@ -19,6 +19,10 @@ last_in r place = if slice_index_or r.written.items place false then Some (block
 abbrev pub rest_of : Region → Rest
 rest_of r = record { blocks = r.stands.count; len = r.stands.len; live = r.live; last = last_in r; before = block_at r.stood }
 
+-- whether it has so many blocks of this length
+abbrev pub is_of_size : ℕ → ℕ → Rest → Bool
+is_of_size blocks len r = (r.blocks == blocks) && (r.len == len)
+
 -- what stands at a place
 abbrev pub stand_of : Region → ℕ → List ℕ
 stand_of r place = block_at r.stands place

@@ -21,7 +21,7 @@ pub(crate) struct Region {
 impl Region {
     ghost use Rattle.std.specs.Prelude.{ℕ, ◌≢◌, ◌≤◌, ◌<◌, false, true, None, Some, length, replicate, nat_lt, IfOk, if◌then◌else◌};
     ghost use Rattle.ob_meddle.specs.Flips.{flipped};
-    ghost use Rattle.ob_meddle.specs.Held.{rest_of, stand_of, Differs, Agrees, can_flip, has_older, can_hold};
+    ghost use Rattle.ob_meddle.specs.Held.{rest_of, is_of_size, stand_of, Differs, Agrees, can_flip, has_older, can_hold};
 
     /// A live region of zeros.
     pub(crate) fn new(alloc: Global, blocks: u32, len: u32) -> Result<Region, AllocError>
@@ -49,6 +49,13 @@ impl Region {
         ensures short { result ≤ 16416 }
     {
         self.stands.len as usize
+    }
+
+    /// Whether it has so many blocks of this length.
+    pub(crate) fn has_size(&self, blocks: u32, len: u32) -> bool
+        ensures { result ≡ is_of_size blocks len (rest_of self.now) }
+    {
+        self.stands.count == blocks && self.stands.len == len
     }
 
     /// Whether it has such a place.

@@ -2,20 +2,28 @@
 ghost use Rattle.std.specs.Prelude.{◌≡◌, ◌≢◌, ◌≤◌, ℕ, None, Some, true, false, length, OnOk, OnErr, if◌then◌else◌};
 ghost use Rattle.std.specs.Ordering.{nat_cmp};
 ghost use Rattle.std.specs.BTreeMap.{get};
+ghost use Rattle.std.specs.BTreeSet.{contains};
 ghost use Rattle.ob_meddle.specs.Held.{rest_of, stand_of, Differs, Agrees};
 ghost use Rattle.ob_meddle.specs.Acts.{OnlyStand, OtherStands, OtherRests, rests_of, stands_of, before_at, len_at, has_place};
-ghost use Rattle.ob_meddle.specs.Regions.{IsPlaceOf, last_at, shape_at};
+ghost use Rattle.ob_store.specs.Calls.{is_kept};
+ghost use Rattle.ob_meddle.specs.Regions.{IsPlaceOf, kept_at, last_at, shape_at};
 
 use crate::region::Region;
 use ob_base::NoMemory;
-use std::collections::BTreeMap;
+use std::collections::{BTreeMap, BTreeSet};
 
-/// Adds a region.
+/// Adds a region, which may be used.
 pub(crate) fn add(
     regions: &mut BTreeMap<u64, Region>,
+    usable: &mut BTreeSet<u64>,
     region: u64,
     made: Region,
 ) -> Result<(), NoMemory>
+    ensures used { OnOk result (contains nat_cmp usable.new region ≡ true) }
+    ensures others_used { OnOk result ((q : ℕ) → q ≢ region
+        → contains nat_cmp usable.new q ≡ contains nat_cmp usable.old q) }
+    ensures unused { OnErr result ((q : ℕ)
+        → contains nat_cmp usable.new q ≡ contains nat_cmp usable.old q) }
     ensures rest { OnOk result (rests_of regions.new region ≡ Some (rest_of made)) }
     ensures here { OnOk result ((x : ℕ) → stands_of regions.new region x ≡ stand_of made x) }
     ensures others { OnOk result (OtherRests region (rests_of regions.old) (rests_of regions.new)) }
@@ -25,9 +33,17 @@ pub(crate) fn add(
     ensures stay { OnErr result ((q x : ℕ)
         → stands_of regions.new q x ≡ stands_of regions.old q x) }
 {
+    let Ok(is_new) = usable.insert(region) else {
+        return Err(NoMemory);
+    };
     match regions.insert(region, made) {
         Ok(_) => Ok(()),
-        Err(_) => Err(NoMemory),
+        Err(_) => {
+            if is_new {
+                usable.remove(&region);
+            }
+            Err(NoMemory)
+        }
     }
 }
 
@@ -68,6 +84,15 @@ pub(crate) fn write(regions: &mut BTreeMap<u64, Region>, region: u64, place: u32
         Some(region) => region.write(place, block),
         None => unreachable!(),
     }
+}
+
+/// Whether a region is kept with this size, and was not taken out.
+pub(crate) fn is_kept(regions: &BTreeMap<u64, Region>, region: u64, blocks: u32, len: u32) -> bool
+    ensures { result ≡ is_kept blocks len (kept_at (rests_of regions.now region)) }
+{
+    regions
+        .get(&region)
+        .is_some_and(|region| region.live && region.has_size(blocks, len))
 }
 
 /// Takes a region out; its blocks are kept where they may still be copied from.

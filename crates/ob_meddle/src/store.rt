@@ -1,24 +1,25 @@
-ghost use Rattle.std.specs.Prelude.{◌≡◌, ◌+◌, ◌++◌, ◌∷◌, ◌<◌, ◌≤◌, ℕ, [], None, true, false, length, if◌then◌else◌, is_err, not, ◌&&◌};
+ghost use Rattle.std.specs.Prelude.{◌≡◌, ◌+◌, ◌++◌, ◌∷◌, ◌<◌, ◌≤◌, ℕ, [], None, refl, true, false, length, if◌then◌else◌, is_err, not, ◌&&◌};
 ghost use Rattle.std.specs.Ordering.{nat_cmp};
 ghost use Rattle.std.specs.BTreeMap.{get};
+ghost use Rattle.std.specs.BTreeSet.{contains};
 ghost use Rattle.std.specs.Option.{ForSome};
 ghost use Rattle.ob_store.specs.Logs.{asked_of};
 ghost use Rattle.ob_meddle.specs.Acts.{rests_of, stands_of, after_acts};
-ghost use Rattle.ob_meddle.specs.Regions.{shape_at, last_at};
-ghost use Rattle.ob_meddle.specs.Due.{fails_at, failed_among, has_acted, is_discard, is_source};
+ghost use Rattle.ob_meddle.specs.Regions.{usable_shape, last_at};
+ghost use Rattle.ob_meddle.specs.Due.{disturbances, fails_at, failed_among, has_acted, is_discard, is_source};
 ghost use Rattle.ob_meddle.specs.Caught.{lie_of};
-ghost use Rattle.ob_meddle.specs.Fresh.{IsFresh, IsHonest, IsEarly, fresh_live, honest_start, none_failed_yet};
+ghost use Rattle.ob_meddle.specs.Fresh.{IsFresh, IsHonest, IsEarly, fresh_live, honest_start, keeps_live, keeps_within, none_failed_yet};
 
 use crate::acts::do_acts;
 use crate::caught::Caught;
 use crate::due::{fails_at, is_source};
 use crate::meddle::Meddle;
 use crate::region::Region;
-use crate::regions::{add, read, retire, write};
+use crate::regions::{add, is_kept, read, retire, write};
 use ob_base::{Access, Failed, Items, NoMemory, StoreErr};
-use ob_store::{BlockStore, Log};
+use ob_store::{BlockStore, Lasting, Log};
 use std::alloc::Global;
-use std::collections::BTreeMap;
+use std::collections::{BTreeMap, BTreeSet};
 
 /// A store in memory that others change, as a list says. It tells what was written, and the first read
 /// that gave something else.
@@ -28,31 +29,71 @@ pub struct MeddledStore {
     list: Items<Meddle>,
     log: Log,
     regions: BTreeMap<u64, Region>,
+    // those that may be used in this run
+    usable: BTreeSet<u64>,
+    reopened: bool,
     faults: u64,
     slips: u64,
     caught: Option<Caught>,
-    ghost fresh: { IsFresh (asked_of log) regions },
-    ghost counted: { faults + slips ≡ failed_among list (length (asked_of log)) },
-    ghost honest: { IsHonest list (length (asked_of log)) regions },
+    ghost fresh: { IsFresh (asked_of log) usable },
+    ghost few: { faults + slips ≤ length (asked_of log) },
+    ghost counted: { reopened ≡ false
+        → faults + slips ≡ failed_among list (length (asked_of log)) },
+    ghost honest: { reopened ≡ false → IsHonest list (length (asked_of log)) regions },
     ghost early: { IsEarly caught (asked_of log) },
-    ghost caused: { ForSome caught (λ c. has_acted list (c.count + 1) ≡ true) },
+    ghost caused: { reopened ≡ false
+        → ForSome caught (λ c. has_acted list (c.count + 1) ≡ true) },
 }
 
 impl MeddledStore {
     ghost use Rattle.ob_store.specs.Calls.{IsSteady};
-    ghost use Rattle.ob_meddle.specs.Shows.{list_of, state_of};
+    ghost use Rattle.ob_meddle.specs.Shows.{list_of, state_of, standing, held};
 
     /// A store of which nothing was asked, in which others make these changes. It takes its memory of
     /// `alloc`.
     pub fn new(alloc: Global, list: Vec<Meddle>) -> MeddledStore
         ensures list { list_of result ≡ list.items }
         ensures asked { (⟦<MeddledStore as BlockStore>⟧.state result).asked ≡ [] }
+        ensures told { (⟦<MeddledStore as BlockStore>⟧.state result).disturbed
+            ≡ disturbances list.items }
     {
         MeddledStore {
             alloc,
             list: Items::from_vec(list),
             log: Log::new(alloc),
             regions: BTreeMap::new(alloc),
+            usable: BTreeSet::new(alloc),
+            reopened: false,
+            faults: 0,
+            slips: 0,
+            caught: None,
+        }
+    }
+
+    /// What it keeps, for the next run, in which others make these changes: of that nothing was asked, no
+    /// read has lied, and no region is live. It takes no memory.
+    ///
+    /// What others made of the blocks stays, too, and from here on it doesn't say what others do. Blocks of a
+    /// region that the first run discarded are there to be copied only where a change of its own list copies
+    /// from that region; later runs keep them all.
+    #[tactic(auto, unfolding(ob_store::specs::Logs::spelt))]
+    pub fn rest(self, list: Vec<Meddle>) -> MeddledStore
+        ensures list { list_of result ≡ list.items }
+        ensures asked { (⟦<MeddledStore as BlockStore>⟧.state result).asked ≡ [] }
+        ensures kept { (q : ℕ) → (⟦<MeddledStore as BlockStore>⟧.state result).kept q
+            ≡ (⟦<MeddledStore as BlockStore>⟧.state self).kept q }
+        ensures untold { (⟦<MeddledStore as BlockStore>⟧.state result).disturbed ≡ None }
+        ensures stands { standing result ≡ standing self }
+        ensures held { held result ≡ held self }
+    {
+        let MeddledStore { alloc, regions, .. } = self;
+        MeddledStore {
+            alloc,
+            list: Items::from_vec(list),
+            log: Log::new(alloc),
+            regions,
+            usable: BTreeSet::new(alloc),
+            reopened: true,
             faults: 0,
             slips: 0,
             caught: None,
@@ -66,6 +107,8 @@ impl MeddledStore {
         ensures steady { IsSteady (state_of self.new) }
         ensures spare { self.old.log.spare ≤ self.new.log.spare + 1 }
         ensures list { self.new.list ≡ self.old.list }
+        ensures usable { self.new.usable ≡ self.old.usable }
+        ensures reopened { self.new.reopened ≡ self.old.reopened }
         ensures caught { self.new.caught ≡ self.old.caught }
         ensures rests { (q : ℕ) → rests_of self.new.regions q ≡ rests_of self.old.regions q }
         ensures stands { stands_of self.new.regions
@@ -96,20 +139,27 @@ impl MeddledStore {
 impl BlockStore for MeddledStore {
     ghost use Rattle.std.specs.Prelude.{OnOk, OnErr};
     ghost use Rattle.ob_base.specs.Accesses.{highest};
-    ghost use Rattle.ob_store.specs.Calls.{IsLive, IsPlace, Asks, CountsFault, CountsSlip, CountsMakeFault, Keeps, Makes, ReadGives, OnlyAt, Holds, MayHold, OnlyRegion, Rests};
+    ghost use Rattle.ob_store.specs.Calls.{IsLive, IsPlace, IsGivenUp, Asks, CountsFault, CountsSlip, CountsMakeFault, Keeps, Makes, ReadGives, OnlyAt, Holds, MayHold, OnlyRegion, Rests};
     ghost use Rattle.ob_meddle.specs.Calls.{Made, Gave, Wrote, Retired};
     ghost use Rattle.ob_meddle.specs.Shows.{list_of, state_of, standing, held};
 
     ghost state = { λ m. state_of m };
 
-    ghost starts_empty = { λ m q none. fresh_live (asked_of m.log) m.regions m.fresh none q };
+    ghost keeps_live = { λ m q shape told is.
+        keeps_live (contains nat_cmp m.usable q) (rests_of m.regions q) shape is (state_of m) q
+        refl (λ x. refl) };
+
+    ghost keeps_within = { λ m q region is. keeps_within (get nat_cmp m.regions q) region is };
+
+    ghost starts_empty = { λ m q none.
+        fresh_live (asked_of m.log) m.usable m.fresh none q (rests_of m.regions q) };
 
     ghost starts_honest = { λ m none. honest_start m.caught (asked_of m.log) m.early none };
 
     ghost starts_steady = { λ m none. record {
       quiet = λ before. record {
-        faults = (none_failed_yet m.list (asked_of m.log) m.faults m.slips m.counted none).0;
-        slips = (none_failed_yet m.list (asked_of m.log) m.faults m.slips m.counted none).1;
+        faults = (none_failed_yet (asked_of m.log) m.faults m.slips m.few none).0;
+        slips = (none_failed_yet (asked_of m.log) m.faults m.slips m.few none).1;
         lie = honest_start m.caught (asked_of m.log) m.early none;
       };
       lied = λ lie is. absurd (cc (is, honest_start m.caught (asked_of m.log) m.early none));
@@ -146,7 +196,7 @@ impl BlockStore for MeddledStore {
         })?;
         match Region::new(self.alloc, blocks, len) {
             Err(_) => Err(StoreErr::NoMemory),
-            Ok(made) => match add(&mut self.regions, region, made) {
+            Ok(made) => match add(&mut self.regions, &mut self.usable, region, made) {
                 Err(_) => Err(StoreErr::NoMemory),
                 Ok(()) => Ok(()),
             },
@@ -201,12 +251,15 @@ impl BlockStore for MeddledStore {
         ensures others { OnlyRegion region (state_of self.old) (state_of self.new) }
         ensures ok { OnOk result ((state_of self.new).live region ≡ None) }
         ensures err { OnErr result (Keeps (state_of self.old) (state_of self.new)) }
+        ensures given_up { (state_of self.new).live region ≡ None
+            → IsGivenUp region (state_of self.new) }
         ensures lie { (state_of self.new).lie ≡ (state_of self.old).lie }
         ensures retired { Retired region result self.old self.new }
     {
         self.begin(Access::Discard { region })?;
-        let kept = is_source(self.list.as_slice(), region);
+        let kept = self.reopened || is_source(self.list.as_slice(), region);
         retire(&mut self.regions, region, kept);
+        self.usable.remove(&region);
         Ok(())
     }
 
@@ -216,5 +269,41 @@ impl BlockStore for MeddledStore {
 
     fn nth(&self, i: u64) -> Access {
         self.log.nth(i)
+    }
+}
+
+impl Lasting for MeddledStore {
+    ghost use Rattle.std.specs.Prelude.{OnOk, OnErr};
+    ghost use Rattle.ob_store.specs.Calls.{Reopens, CountsMakeFault, Resumes, Keeps};
+    ghost use Rattle.ob_meddle.specs.Calls.{Resumed};
+    ghost use Rattle.ob_meddle.specs.Shows.{state_of};
+
+    fn resume(&mut self, region: u64, blocks: u32, len: u32) -> Result<(), StoreErr>
+        requires spare { 1 ≤ (state_of self.old).spare }
+        requires gone { (state_of self.old).live region ≡ None }
+        requires blocks { (1 ≤ blocks) × (blocks ≤ 134217728) }
+        requires len { (33 ≤ len) × (len ≤ 16416) }
+        ensures asks { Reopens (Access.Open region blocks len) (state_of self.old)
+            (state_of self.new) }
+        ensures cause { CountsMakeFault result (state_of self.old) (state_of self.new) }
+        ensures ok { OnOk result (Resumes region blocks len (state_of self.old)
+            (state_of self.new)) }
+        ensures err { OnErr result (Keeps (state_of self.old) (state_of self.new)) }
+        ensures resumed { Resumed region blocks len result self.old self.new }
+    {
+        self.reopened = true;
+        self.begin(Access::Open {
+            region,
+            blocks,
+            len,
+        })?;
+        if !is_kept(&self.regions, region, blocks, len) {
+            self.faults = self.faults.saturating_add(1);
+            return Err(StoreErr::Failed);
+        }
+        match self.usable.insert(region) {
+            Ok(_) => Ok(()),
+            Err(_) => Err(StoreErr::NoMemory),
+        }
     }
 }

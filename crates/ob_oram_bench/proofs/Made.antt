@@ -3,7 +3,8 @@ use Rattle.std.proofs.Common.{◌≡◌, ◌≤◌, ◌+◌, ◌*◌, ◌^◌, �
 use Rattle.ob_base.specs.Schemas.{Columns, width, key_place}
 use Rattle.ob_room.specs.RoomState.{RoomState}
 use Rattle.ob_vault.specs.State.{World}
-use Rattle.ob_vault.specs.Tied.{Ready}
+use Rattle.ob_vault.specs.Words.{StartsAnew}
+use Rattle.ob_vault.proofs.WordLemmas.{anew_lasts}
 use Rattle.ob_blocks.specs.Idle.{IsIdle}
 use Rattle.ob_oram.specs.declared.index.Index.{Index}
 use Rattle.ob_oram.specs.Creating.{CreatesIndex}
@@ -24,7 +25,7 @@ low_rows n h slots few small least =
 
 module _ (columns : Columns) (capacity slots : ℕ) (draws : List ℕ) (room : RoomState) (index : Index) (old w : World)
     (few : capacity ≤ 65536) (small : slots ≤ 1024) (are : AreColumns columns) (narrow : width columns ≤ 265)
-    (idle : IsIdle 265 room) (many : 2048 ≤ room.rows) (made : CreatesIndex columns capacity slots draws (Ok index) old w) where
+    (anew : StartsAnew old) (idle : IsIdle 265 room) (many : 2048 ≤ room.rows) (made : CreatesIndex columns capacity slots draws (Ok index) old w) where
   same : index.schema ≡ columns
   same = made.fresh.has_schema
 
@@ -39,10 +40,10 @@ module _ (columns : Columns) (capacity slots : ℕ) (draws : List ℕ) (room : R
       let wide : width index.schema ≡ width columns = ap width same in
       omega (arith, wide, narrow, idle.wide)
 
-  ready_here : Ready w
+  ready_here : StartsAnew w
   ready_here =
       let height : IsHeight capacity index.height = subst (λ n. IsHeight n index.height) made.fresh.has_capacity made.index.stored.shaped.height in
-      (made.regions index.height height).ran.ok.lasts.ready
+      anew_lasts (made.regions index.height height).ran.ok.lasts anew
 
   session_higher : (n : ℕ) → IsSession (record room { high = n }) index w
   session_higher n =

@@ -4,7 +4,7 @@ use Rattle.ob_base.specs.declared.schema.Kind.TheVariants as Kinds
 use Rattle.ob_base.specs.Schemas.{Columns, width}
 use Rattle.ob_room.specs.RoomState.{RoomState}
 use Rattle.ob_vault.specs.State.{World}
-use Rattle.ob_vault.specs.Tied.{Ready}
+use Rattle.ob_vault.specs.Words.{StartsAnew}
 use Rattle.ob_blocks.specs.Idle.{IsIdle}
 use Rattle.ob_oram.specs.declared.index.Index.{Index}
 use Rattle.ob_oram.specs.Heights.{rows_open}
@@ -24,7 +24,7 @@ pub record AreColumns (columns : Columns) : Type 0 where
 
 -- an index of these columns in its vault and store, and a room for its accesses
 pub record IsSession (room : RoomState) (index : Index) (w : World) : Type 0 where
-  pub ready : Ready w
+  pub ready : StartsAnew w
   pub stands : IsIndex index w
   pub columns : AreColumns index.schema
   pub place : index.key ≡ 0

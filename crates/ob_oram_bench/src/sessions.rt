@@ -1,7 +1,7 @@
 //! An index in a store, with the vault and the room for its accesses.
 ghost use Rattle.std.specs.Prelude.{◌≡◌, ◌≤◌, ◌<◌, ◌^◌, ℕ, length, OnOk, IfOk};
 ghost use Rattle.ob_store.specs.Calls.{Rests};
-ghost use Rattle.ob_vault.specs.Tied.{Ready};
+ghost use Rattle.ob_vault.specs.Words.{StartsAnew};
 ghost use Rattle.ob_vault.specs.Places.{at};
 ghost use Rattle.ob_blocks.specs.Idle.{IsIdle};
 ghost use Rattle.ob_oram.specs.Ops.{FitsOp};
@@ -48,7 +48,7 @@ pub(crate) fn made<S: BlockStore, R: Revisions>(
     slots: u32,
     draws: &[u64],
 ) -> Result<Index, Fault>
-    requires ready { Ready (at R.state vault.old (S.state store.old)) }
+    requires ready { StartsAnew (at R.state vault.old (S.state store.old)) }
     requires room { IsIdle 265 room.old }
     requires rows { 2048 ≤ room.old.rows }
     ensures session { IfOk result (λ index.

@@ -1,11 +1,10 @@
 -- The indexes of the tests.
-use Rattle.std.specs.Prelude.{◌≡◌, ◌≤◌, ℕ, ℤ, true, false, List, [], ◌∷◌, codes}
-use Rattle.ob_base.specs.declared.schema.Column.{Column}
+use Rattle.std.specs.Prelude.{◌≡◌, ◌≤◌, true, false, [], ◌∷◌, codes}
 use Rattle.ob_base.specs.declared.schema.Kind.TheVariants as Kinds
 use Rattle.ob_base.specs.Schemas.{Columns}
 use Rattle.ob_room.specs.RoomState.{RoomState}
 use Rattle.ob_vault.specs.State.{World}
-use Rattle.ob_vault.specs.Tied.{Ready}
+use Rattle.ob_vault.specs.Words.{StartsAnew}
 use Rattle.ob_blocks.specs.Idle.{IsIdle}
 use Rattle.ob_oram.specs.declared.index.Index.{Index}
 use Rattle.ob_oram.specs.Heights.{rows_open}
@@ -18,7 +17,7 @@ key_and_number = record { table = codes "t"; name = codes "id"; kind = Kinds.Int
 
 -- an index of these columns in its vault and store, and a room for its accesses
 pub record IsSession (room : RoomState) (index : Index) (w : World) : Type 0 where
-  pub ready : Ready w
+  pub ready : StartsAnew w
   pub stands : IsIndex index w
   pub columns : index.schema ≡ key_and_number
   pub place : index.key ≡ 0

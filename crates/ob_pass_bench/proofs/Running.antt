@@ -4,7 +4,7 @@ use Rattle.ob_room.specs.RoomState.{RoomState}
 use Rattle.ob_vault.specs.State.{World}
 use Rattle.ob_flat.specs.declared.flat.Flat.{Flat}
 use Rattle.ob_base.specs.Schemas.{Columns}
-use Rattle.ob_vault.specs.Tied.{Ready}
+use Rattle.ob_vault.specs.Words.{StartsAnew}
 use Rattle.ob_flat.specs.Flats.{IsSized, IsFlat}
 use Rattle.ob_pass_bench.specs.Tables.{AreColumns, IsOpen, MayRun}
 
@@ -25,7 +25,7 @@ pub runs_after : (room : RoomState) (n : ℕ) (other : RoomState) (flat : Flat) 
 runs_after room n other flat w same is = subst (λ (r : RoomState). MayRun r flat w) (sym same) (runs_higher room n flat w is)
 
 -- over a table that was made through the rows of a block
-pub run_over : (room : RoomState) (n capacity region : ℕ) (schema columns : Columns) (w : World) → schema ≡ columns → n ≡ room.pack → Ready w → IsFlat n (record { schema = schema; capacity = capacity; region = region }) w
+pub run_over : (room : RoomState) (n capacity region : ℕ) (schema columns : Columns) (w : World) → schema ≡ columns → n ≡ room.pack → StartsAnew w → IsFlat n (record { schema = schema; capacity = capacity; region = region }) w
     → IsSized columns capacity → AreColumns columns → IsOpen columns room → MayRun room (record { schema = schema; capacity = capacity; region = region }) w
 run_over room n capacity region schema columns w same pack ready table size are place =
     let flat : ℕ → Flat = λ q. record { schema = schema; capacity = capacity; region = q } in

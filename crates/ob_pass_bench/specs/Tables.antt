@@ -4,7 +4,7 @@ use Rattle.std.specs.Int.{w64}
 use Rattle.ob_base.specs.Schemas.{Columns, width}
 use Rattle.ob_room.specs.RoomState.{RoomState}
 use Rattle.ob_vault.specs.State.{World}
-use Rattle.ob_vault.specs.Tied.{Ready}
+use Rattle.ob_vault.specs.Words.{StartsAnew}
 use Rattle.ob_blocks.specs.Idle.{IsIdle}
 use Rattle.ob_flat.specs.declared.flat.Flat.{Flat}
 use Rattle.ob_flat.specs.Flats.{IsSized, IsFlat}
@@ -32,7 +32,7 @@ pub record IsOpen (columns : Columns) (room : RoomState) : Type 0 where
 
 -- a pass may run over the table
 pub record MayRun (room : RoomState) (flat : Flat) (w : World) : Type 0 where
-  pub ready : Ready w
+  pub ready : StartsAnew w
   pub table : IsFlat room.pack flat w
   pub size : IsSized flat.schema flat.capacity
   pub columns : AreColumns flat.schema

@@ -8,8 +8,8 @@ ghost use Rattle.ob_vault.specs.declared.region.Order.TheVariants.{Round};
 ghost use Rattle.ob_vault.specs.Calls.{Went, one};
 ghost use Rattle.ob_vault.specs.Places.{at};
 ghost use Rattle.ob_vault.specs.Rows.{SameSizes, Wide};
-ghost use Rattle.ob_vault.specs.Tied.{Ready, Lives, OnTurn};
-ghost use Rattle.ob_vault.specs.Words.{MayAsk};
+ghost use Rattle.ob_vault.specs.Tied.{Lives, OnTurn};
+ghost use Rattle.ob_vault.specs.Words.{MayAsk, StartsAnew};
 ghost use Rattle.ob_flat.specs.declared.flat.Flat.{Flat as Table};
 ghost use Rattle.ob_flat.specs.Flats.{IsSized, IsFlat, table_region};
 ghost use Rattle.ob_flat.specs.Words.{FitBlock, blocks_of};
@@ -147,7 +147,7 @@ pub(crate) fn filled<S: BlockStore, R: Revisions>(
     capacity: u32,
     full: u32,
 ) -> Result<Flat, OpErr>
-    requires ready { Ready (at R.state vault.old (S.state store.old)) }
+    requires ready { StartsAnew (at R.state vault.old (S.state store.old)) }
     requires size { IsSized schema.now capacity }
     requires columns { AreColumns schema.now }
     requires place { IsOpen schema.now room.old }

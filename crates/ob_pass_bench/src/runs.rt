@@ -1,7 +1,7 @@
 //! One pass over a table of its own.
 ghost use Rattle.std.specs.Prelude.{◌≤◌};
 ghost use Rattle.ob_vault.specs.Places.{at};
-ghost use Rattle.ob_vault.specs.Tied.{Ready};
+ghost use Rattle.ob_vault.specs.Words.{StartsAnew};
 ghost use Rattle.ob_flat.specs.Flats.{IsSized};
 ghost use Rattle.ob_pass_bench.specs.Tables.{AreColumns, IsOpen, MayRun};
 
@@ -42,7 +42,7 @@ fn run_join<H: Input + Print + AllocGlobal, S: BlockStore, R: Revisions>(
     schemas: (&Schema, &Schema),
     case: &Case,
 ) -> Result<u64, OpErr>
-    requires ready { Ready (at R.state vault.old (S.state store.old)) }
+    requires ready { StartsAnew (at R.state vault.old (S.state store.old)) }
     requires left { AreColumns schemas.0.now }
     requires left_place { IsOpen schemas.0.now room.old }
     requires right { AreColumns schemas.1.now }
@@ -69,7 +69,7 @@ fn run_create<H: Input + Print + AllocGlobal, S: BlockStore, R: Revisions>(
     schema: &Schema,
     slots: u32,
 ) -> Result<u64, OpErr>
-    requires ready { Ready (at R.state vault.old (S.state store.old)) }
+    requires ready { StartsAnew (at R.state vault.old (S.state store.old)) }
     requires size { IsSized schema.now slots }
     requires place { IsOpen schema.now room.old }
 {
@@ -133,7 +133,7 @@ fn run_case<H: Input + Print + AllocGlobal, S: BlockStore, R: Revisions>(
     schemas: (&Schema, &Schema),
     case: &Case,
 ) -> Result<u64, OpErr>
-    requires ready { Ready (at R.state vault.old (S.state store.old)) }
+    requires ready { StartsAnew (at R.state vault.old (S.state store.old)) }
     requires left { AreColumns schemas.0.now }
     requires left_place { IsOpen schemas.0.now room.old }
     requires right { AreColumns schemas.1.now }

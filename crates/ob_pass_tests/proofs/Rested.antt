@@ -4,19 +4,18 @@ use Rattle.ob_base.specs.Numbers.{blocks_for}
 use Rattle.ob_store.specs.State.{StoreState}
 use Rattle.ob_store.specs.Calls.{Rests}
 use Rattle.ob_vault.specs.State.{VaultState}
-use Rattle.ob_vault.specs.Tied.{Ready}
-use Rattle.ob_vault.specs.Words.{MayStart}
+use Rattle.ob_vault.specs.Words.{MayStart, StartsAnew}
 use Rattle.ob_vault.proofs.WorldSteps.{world}
-use Rattle.ob_vault.proofs.WordLemmas.{ready_rests}
+use Rattle.ob_vault.proofs.WordLemmas.{ready_rests, anew_rests, anew_starts}
 use Rattle.ob_flat.specs.Words.{HasSpare}
 
 -- a table has few blocks
 pub few_blocks : (pack capacity : ℕ) → capacity ≤ 16777216 → 4 * blocks_for pack capacity + 2 ≤ 100000000
 few_blocks pack capacity few = grind arith
 
-module _ (v : VaultState) (s t : StoreState) (rests : Rests s t) (ready : Ready (world v s)) (n : ℕ) (spare : n ≤ t.spare) where
+module _ (v : VaultState) (s t : StoreState) (rests : Rests s t) (ready : StartsAnew (world v s)) (n : ℕ) (spare : n ≤ t.spare) where
   pub spare_rests : HasSpare n (world v t)
-  spare_rests = record { ready = ready_rests v s t rests ready; spare = spare }
+  spare_rests = record { ready = ready_rests v s t rests ready.ready; spare = spare }
 
   pub starts_rests : length t.asked < 1000000 → MayStart n (world v t)
-  starts_rests few = record { ready = ready_rests v s t rests ready; spare = spare; few = omega (arith, few) }
+  starts_rests few = anew_starts (anew_rests v s t rests ready) spare (omega (arith, few))

@@ -2,8 +2,8 @@
 ghost use Rattle.std.specs.Prelude.{◌≡◌, ◌≤◌, ℕ, List, [], ◌∷◌, ℤ, FitsSigned, length};
 ghost use Rattle.std.specs.Int.{w64};
 ghost use Rattle.ob_base.specs.Schemas.{width};
-ghost use Rattle.ob_vault.specs.Tied.{Ready};
 ghost use Rattle.ob_vault.specs.Places.{at};
+ghost use Rattle.ob_vault.specs.Words.{StartsAnew};
 ghost use Rattle.ob_row.specs.declared.cell.Cell.TheVariants.{Int as IntCell, Text as TextCell};
 ghost use Rattle.ob_row.specs.Spelling.{Fits as FitColumns, FitsText};
 ghost use Rattle.ob_blocks.specs.Idle.{IsIdle};
@@ -49,7 +49,7 @@ fn session<S: BlockStore, R: Revisions>(
     wanted: &[Shown],
     blocks: u32,
 )
-    requires ready { Ready (at R.state vault (S.state store.old)) }
+    requires ready { StartsAnew (at R.state vault (S.state store.old)) }
     requires room { IsIdle 17 room }
     requires pack { 1 ≤ room.pack }
 {
@@ -205,7 +205,7 @@ fn of_texts<S: BlockStore, R: Revisions>(
     mut vault: Vault<R>,
     mut room: Room,
 )
-    requires ready { Ready (at R.state vault (S.state store.old)) }
+    requires ready { StartsAnew (at R.state vault (S.state store.old)) }
     requires room { IsIdle 14 room }
     requires pack { 1 ≤ room.pack }
 {

@@ -1,50 +1,18 @@
 //! What is emitted of a table, and the accesses of it.
 ghost use Rattle.std.specs.Prelude.{◌≤◌};
-ghost use Rattle.ob_vault.specs.Tied.{Ready};
 ghost use Rattle.ob_vault.specs.Places.{at};
+ghost use Rattle.ob_vault.specs.Words.{StartsAnew};
 ghost use Rattle.ob_blocks.specs.Idle.{IsIdle};
 
+use crate::emitter::Wanted;
 use crate::tables::{filled, make_room, opened, two_ints};
-use ob_base::{Emit, EmitErr, Label, Shown};
+use ob_base::EmitErr;
 use ob_emit::{emit_all, walk};
 use ob_room::Room;
 use ob_store::BlockStore;
 use ob_vault::{BaseRevs, Revisions, Vault};
 use std::alloc::Global;
 use std::process::Abort;
-
-// Keeps the number of the labels and of the rows.
-#[derive(Clone, Copy, Debug, PartialEq, Eq)]
-struct Digest {
-    labels: usize,
-    rows: u64,
-}
-
-impl Emit for Digest {
-    ghost use Rattle.std.specs.Prelude.{⊤};
-
-    ghost grew = { λ a b events. ⊤ };
-
-    ghost cut = { λ a b events. ⊤ };
-
-    ghost faults = { λ d. 0 };
-
-    ghost starts = { λ d. tt };
-
-    fn head(&mut self, cols: &[Label]) -> Result<(), EmitErr> {
-        self.labels = cols.len();
-        Ok(())
-    }
-
-    fn row(&mut self, _cells: &[Shown]) -> Result<(), EmitErr> {
-        self.rows = self.rows.saturating_add(1);
-        Ok(())
-    }
-
-    fn close(&mut self, _k: u64) -> Result<(), EmitErr> {
-        Ok(())
-    }
-}
 
 // A table with no rows: its header is emitted, and no row.
 fn emission<S: BlockStore, R: Revisions>(
@@ -54,17 +22,19 @@ fn emission<S: BlockStore, R: Revisions>(
     mut room: Room,
     accesses: u64,
 )
-    requires ready { Ready (at R.state vault (S.state store.old)) }
+    requires ready { StartsAnew (at R.state vault (S.state store.old)) }
     requires room { IsIdle 17 room }
     requires pack { 1 ≤ room.pack }
 {
     let schema = two_ints(b"id", b"v", true);
     let flat = filled(rt, store, &mut vault, &mut room, &schema, 4, &[]);
     make_room(rt, store);
-    let mut out = Digest { labels: 0, rows: 0 };
+    let labels: [&[u8]; 2] = [b"v", b"id"];
+    let mut out = Wanted::new(&labels, &[], 9, EmitErr::Failed);
     let rows = emit_all(store, &mut vault, &mut room, &flat, &[1, 0], &mut out);
     assert_eq!(rt; rows, Ok(0));
-    assert_eq!(rt; out, Digest { labels: 2, rows: 0 });
+    assert!(rt; out.is_same);
+    assert_eq!(rt; (out.heads, out.count), (1, 0));
     assert_eq!(rt; store.count(), accesses);
 }
 
@@ -76,7 +46,7 @@ fn walking<S: BlockStore, R: Revisions>(
     mut room: Room,
     accesses: u64,
 )
-    requires ready { Ready (at R.state vault (S.state store.old)) }
+    requires ready { StartsAnew (at R.state vault (S.state store.old)) }
     requires room { IsIdle 17 room }
     requires pack { 1 ≤ room.pack }
 {

@@ -1,7 +1,7 @@
 //! The groups of tables with rows, and the accesses of them.
 ghost use Rattle.std.specs.Prelude.{◌≤◌, ◌<◌, ◌*◌, ◌+◌, length};
-ghost use Rattle.ob_vault.specs.Tied.{Ready};
 ghost use Rattle.ob_vault.specs.Places.{at};
+ghost use Rattle.ob_vault.specs.Words.{StartsAnew};
 ghost use Rattle.ob_blocks.specs.Idle.{IsIdle};
 ghost use Rattle.ob_group.specs.Running.{AreWithin};
 ghost use Rattle.ob_group.specs.Grouping.{aggs_of};
@@ -43,7 +43,7 @@ fn session<S: BlockStore, R: Revisions>(
     case: &Case<'_>,
     blocks: u32,
 )
-    requires ready { Ready (at R.state vault (S.state store.old)) }
+    requires ready { StartsAnew (at R.state vault (S.state store.old)) }
     requires room { IsIdle 17 room }
     requires pack { 1 ≤ room.pack }
     requires wide { 768 ≤ room.width }
@@ -332,7 +332,7 @@ fn texts<S: BlockStore, R: Revisions>(
     mut vault: Vault<R>,
     mut room: Room,
 )
-    requires ready { Ready (at R.state vault (S.state store.old)) }
+    requires ready { StartsAnew (at R.state vault (S.state store.old)) }
     requires room { IsIdle 14 room }
     requires pack { 1 ≤ room.pack }
     requires wide { 768 ≤ room.width }

@@ -1,8 +1,8 @@
 //! What is selected into buckets, and the accesses of it: counted, selected, emitted and discarded.
 ghost use Rattle.std.specs.Prelude.{◌≡◌, ◌≤◌, length};
 ghost use Rattle.ob_base.specs.Schemas.{width};
-ghost use Rattle.ob_vault.specs.Tied.{Ready};
 ghost use Rattle.ob_vault.specs.Places.{at};
+ghost use Rattle.ob_vault.specs.Words.{StartsAnew};
 ghost use Rattle.ob_blocks.specs.Idle.{IsIdle};
 ghost use Rattle.ob_flat.specs.Flats.{IsSized, IsFlat};
 ghost use Rattle.ob_hash.specs.Answers.{flat_of};
@@ -56,7 +56,7 @@ fn select_emit<S: BlockStore, R: Revisions>(
     flat: &Flat,
     case: &Case<'_>,
 )
-    requires ready { Ready (at R.state vault.old (S.state store.old)) }
+    requires ready { StartsAnew (at R.state vault.old (S.state store.old)) }
     requires flat { IsFlat room.old.pack flat.now (at R.state vault.old (S.state store.old)) }
     requires size { IsSized flat.now.schema flat.now.capacity }
     requires room { IsIdle (width flat.now.schema) room.old }
@@ -85,7 +85,7 @@ fn session<S: BlockStore, R: Revisions>(
     mut room: Room,
     case: &Case<'_>,
 )
-    requires ready { Ready (at R.state vault (S.state store.old)) }
+    requires ready { StartsAnew (at R.state vault (S.state store.old)) }
     requires room { IsIdle 17 room }
     requires pack { (1 ≤ room.pack) × (room.pack ≤ 16) }
     requires rows { (1 ≤ length case.now.rows.now) × (length case.now.rows.now ≤ 16) }
@@ -438,7 +438,7 @@ fn select_into_nine<S: BlockStore, R: Revisions>(
     mut room: Room,
     pred: &Pred,
 ) -> Option<u32>
-    requires ready { Ready (at R.state vault (S.state store.old)) }
+    requires ready { StartsAnew (at R.state vault (S.state store.old)) }
     requires room { IsIdle 17 room }
     requires pack { 1 ≤ room.pack }
 {

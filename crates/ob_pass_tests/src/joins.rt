@@ -1,8 +1,8 @@
 //! Joins of two tables with rows: what comes of them, and their accesses.
 ghost use Rattle.std.specs.Prelude.{◌≡◌, ◌≤◌, length};
 ghost use Rattle.ob_base.specs.Schemas.{width};
-ghost use Rattle.ob_vault.specs.Tied.{Ready};
 ghost use Rattle.ob_vault.specs.Places.{at};
+ghost use Rattle.ob_vault.specs.Words.{StartsAnew};
 ghost use Rattle.ob_blocks.specs.Idle.{IsIdle};
 ghost use Rattle.ob_flat.specs.Flats.{IsFlat};
 
@@ -37,7 +37,7 @@ fn join_emit<S: BlockStore, R: Revisions>(
     right: &Flat,
     case: &Case<'_>,
 )
-    requires ready { Ready (at R.state vault.old (S.state store.old)) }
+    requires ready { StartsAnew (at R.state vault.old (S.state store.old)) }
     requires left { IsFlat room.old.pack left.now (at R.state vault.old (S.state store.old)) }
     requires right { IsFlat room.old.pack right.now (at R.state vault.old (S.state store.old)) }
     requires left_count { length left.now.schema ≡ 2 }
@@ -68,7 +68,7 @@ fn session<S: BlockStore, R: Revisions>(
     mut room: Room,
     case: &Case<'_>,
 )
-    requires ready { Ready (at R.state vault (S.state store.old)) }
+    requires ready { StartsAnew (at R.state vault (S.state store.old)) }
     requires room { IsIdle 33 room }
     requires pack { (1 ≤ room.pack) × (room.pack ≤ 16) }
     requires left { (1 ≤ case.now.left.0) × (case.now.left.0 ≤ 8) }

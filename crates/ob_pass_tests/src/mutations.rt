@@ -1,8 +1,8 @@
 //! Changes of a table: their answers and their accesses.
 ghost use Rattle.std.specs.Prelude.{◌≡◌, ◌≤◌};
 ghost use Rattle.ob_base.specs.Schemas.{width};
-ghost use Rattle.ob_vault.specs.Tied.{Ready};
 ghost use Rattle.ob_vault.specs.Places.{at};
+ghost use Rattle.ob_vault.specs.Words.{StartsAnew};
 ghost use Rattle.ob_blocks.specs.Idle.{IsIdle};
 ghost use Rattle.ob_flat.specs.Flats.{IsSized, IsFlat};
 ghost use Rattle.ob_pass_tests.specs.Tables.{TakesInts, SetsSecond};
@@ -48,13 +48,13 @@ pub(crate) fn take_step<S: BlockStore, R: Revisions>(
     flat: &mut Flat,
     step: &Step,
 )
-    requires ready { Ready (at R.state vault.old (S.state store.old)) }
+    requires ready { StartsAnew (at R.state vault.old (S.state store.old)) }
     requires flat { IsFlat room.old.pack flat.old (at R.state vault.old (S.state store.old)) }
     requires size { IsSized flat.old.schema flat.old.capacity }
     requires room { IsIdle (width flat.old.schema) room.old }
     requires ints { TakesInts flat.old.schema }
     requires sets { SetsSecond flat.old.schema }
-    ensures ready { Ready (at R.state vault.new (S.state store.new)) }
+    ensures ready { StartsAnew (at R.state vault.new (S.state store.new)) }
     ensures flat { IsFlat room.old.pack flat.new (at R.state vault.new (S.state store.new)) }
     ensures schema { flat.new.schema ≡ flat.old.schema }
     ensures capacity { flat.new.capacity ≡ flat.old.capacity }
@@ -89,13 +89,13 @@ pub(crate) fn take_steps<S: BlockStore, R: Revisions>(
     flat: &mut Flat,
     steps: &[Step],
 )
-    requires ready { Ready (at R.state vault.old (S.state store.old)) }
+    requires ready { StartsAnew (at R.state vault.old (S.state store.old)) }
     requires flat { IsFlat room.old.pack flat.old (at R.state vault.old (S.state store.old)) }
     requires size { IsSized flat.old.schema flat.old.capacity }
     requires room { IsIdle (width flat.old.schema) room.old }
     requires ints { TakesInts flat.old.schema }
     requires sets { SetsSecond flat.old.schema }
-    ensures ready { Ready (at R.state vault.new (S.state store.new)) }
+    ensures ready { StartsAnew (at R.state vault.new (S.state store.new)) }
     ensures flat { IsFlat room.old.pack flat.new (at R.state vault.new (S.state store.new)) }
     ensures schema { flat.new.schema ≡ flat.old.schema }
     ensures capacity { flat.new.capacity ≡ flat.old.capacity }
@@ -119,7 +119,7 @@ fn finish<S: BlockStore, R: Revisions>(
     from: u64,
     wanted: &[Entry],
 )
-    requires ready { Ready (at R.state vault.old (S.state store.old)) }
+    requires ready { StartsAnew (at R.state vault.old (S.state store.old)) }
     requires flat { IsFlat room.old.pack flat (at R.state vault.old (S.state store.old)) }
     requires size { IsSized flat.schema flat.capacity }
     requires room { IsIdle (width flat.schema) room.old }
@@ -144,7 +144,7 @@ fn session<S: BlockStore, R: Revisions>(
     from: u64,
     wanted: &[Entry],
 )
-    requires ready { Ready (at R.state vault (S.state store.old)) }
+    requires ready { StartsAnew (at R.state vault (S.state store.old)) }
     requires room { IsIdle 17 room }
     requires pack { 1 ≤ room.pack }
 {
@@ -569,7 +569,7 @@ fn update_by<S: BlockStore, R: Revisions>(
     mut room: Room,
     pred: &Pred,
 )
-    requires ready { Ready (at R.state vault (S.state store.old)) }
+    requires ready { StartsAnew (at R.state vault (S.state store.old)) }
     requires room { IsIdle 17 room }
     requires pack { 1 ≤ room.pack }
 {

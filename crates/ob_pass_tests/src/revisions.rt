@@ -1,8 +1,8 @@
 //! A table over each kind of revisions: it is created, filled, updated and selected, with the same accesses
 //! and rows.
 ghost use Rattle.std.specs.Prelude.{◌≤◌};
-ghost use Rattle.ob_vault.specs.Tied.{Ready};
 ghost use Rattle.ob_vault.specs.Places.{at};
+ghost use Rattle.ob_vault.specs.Words.{StartsAnew};
 ghost use Rattle.ob_blocks.specs.Idle.{IsIdle};
 
 use crate::mutations::{Step, take_step};
@@ -134,7 +134,7 @@ fn session<S: BlockStore, R: Revisions>(
     mut room: Room,
     case: &Case<'_>,
 )
-    requires ready { Ready (at R.state vault (S.state store.old)) }
+    requires ready { StartsAnew (at R.state vault (S.state store.old)) }
     requires room { IsIdle 17 room }
     requires pack { 1 ≤ room.pack }
     requires number { (1 ≤ case.now.k) × (case.now.k ≤ 4) }

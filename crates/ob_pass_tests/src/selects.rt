@@ -1,8 +1,8 @@
 //! What is selected of a table, and the accesses of it: counted, selected, emitted and discarded.
 ghost use Rattle.std.specs.Prelude.{◌≡◌, ◌≤◌, length};
 ghost use Rattle.ob_base.specs.Schemas.{width};
-ghost use Rattle.ob_vault.specs.Tied.{Ready};
 ghost use Rattle.ob_vault.specs.Places.{at};
+ghost use Rattle.ob_vault.specs.Words.{StartsAnew};
 ghost use Rattle.ob_blocks.specs.Idle.{IsIdle};
 ghost use Rattle.ob_flat.specs.Flats.{IsSized, IsFlat, IsWritten};
 ghost use Rattle.ob_pass_tests.specs.Tables.{TakesInts};
@@ -63,12 +63,12 @@ fn change_rows<S: BlockStore, R: Revisions>(
     gone: &Pred,
     come: Option<&[(i64, i64)]>,
 )
-    requires ready { Ready (at R.state vault.old (S.state store.old)) }
+    requires ready { StartsAnew (at R.state vault.old (S.state store.old)) }
     requires flat { IsFlat room.old.pack flat.old (at R.state vault.old (S.state store.old)) }
     requires size { IsSized flat.old.schema flat.old.capacity }
     requires room { IsIdle (width flat.old.schema) room.old }
     requires ints { TakesInts flat.old.schema }
-    ensures ready { Ready (at R.state vault.new (S.state store.new)) }
+    ensures ready { StartsAnew (at R.state vault.new (S.state store.new)) }
     ensures flat { IsFlat room.old.pack flat.new (at R.state vault.new (S.state store.new)) }
     ensures schema { flat.new.schema ≡ flat.old.schema }
     ensures capacity { flat.new.capacity ≡ flat.old.capacity }
@@ -91,14 +91,14 @@ pub(crate) fn select_by<S: BlockStore, R: Revisions>(
     operator: Operator,
     k: u32,
 ) -> Flat
-    requires ready { Ready (at R.state vault.old (S.state store.old)) }
+    requires ready { StartsAnew (at R.state vault.old (S.state store.old)) }
     requires flat { IsFlat room.old.pack flat.now (at R.state vault.old (S.state store.old)) }
     requires size { IsSized flat.now.schema flat.now.capacity }
     requires room { IsIdle (width flat.now.schema) room.old }
     requires pack { 1 ≤ room.old.pack }
     requires few { flat.now.capacity ≡ 4 }
     requires number { (1 ≤ k) × (k ≤ 4) }
-    ensures ready { Ready (at R.state vault.new (S.state store.new)) }
+    ensures ready { StartsAnew (at R.state vault.new (S.state store.new)) }
     ensures room { room.new ≡ record room.old { high = room.new.high } }
     ensures schema { result.schema ≡ flat.now.schema }
     ensures capacity { (1 ≤ result.capacity) × (result.capacity ≤ 4) }
@@ -127,7 +127,7 @@ fn select_emit<S: BlockStore, R: Revisions>(
     flat: &Flat,
     case: &Case<'_>,
 )
-    requires ready { Ready (at R.state vault.old (S.state store.old)) }
+    requires ready { StartsAnew (at R.state vault.old (S.state store.old)) }
     requires flat { IsFlat room.old.pack flat.now (at R.state vault.old (S.state store.old)) }
     requires size { IsSized flat.now.schema flat.now.capacity }
     requires room { IsIdle (width flat.now.schema) room.old }
@@ -152,7 +152,7 @@ pub(crate) fn session<S: BlockStore, R: Revisions>(
     mut room: Room,
     case: &Case<'_>,
 )
-    requires ready { Ready (at R.state vault (S.state store.old)) }
+    requires ready { StartsAnew (at R.state vault (S.state store.old)) }
     requires room { IsIdle 17 room }
     requires pack { 1 ≤ room.pack }
     requires number { (1 ≤ case.now.k) × (case.now.k ≤ 4) }
@@ -191,7 +191,7 @@ fn count_rows<S: BlockStore, R: Revisions>(
     wanted: Counted,
     accesses: (u32, u32),
 )
-    requires ready { Ready (at R.state vault (S.state store.old)) }
+    requires ready { StartsAnew (at R.state vault (S.state store.old)) }
     requires room { IsIdle 17 room }
     requires pack { 1 ≤ room.pack }
 {

@@ -1,7 +1,7 @@
 -- Lines of the trace, of refusals and of stops.
 use Rattle.std.specs.Prelude.{ℕ, List, [], ◌∷◌, ◌++◌, codes, decimal}
 use Rattle.ob_base.specs.declared.access.Access.{Access}
-use Rattle.ob_base.specs.declared.access.Access.TheVariants.{Make, Read, Write, Discard}
+use Rattle.ob_base.specs.declared.access.Access.TheVariants.{Make, Read, Write, Discard, Open}
 use Rattle.ob_base.specs.declared.refusal.Refusal.{Refusal}
 use Rattle.ob_base.specs.declared.refusal.Refusal.TheVariants.{Syntax, NoTable, NameTaken, NoColumn, WrongType, ValueRange, Limit, KeyRule, JoinKey, Duplicate, Full, TooManyGroups, NotConsecutive, Overflow, StoreFault, PadPassed}
 use Rattle.ob_base.specs.declared.refusal.Stop.{Stop}
@@ -12,6 +12,7 @@ access_line (Make region blocks len) = codes "M " ++ (decimal region ++ (codes "
 access_line (Read region place) = codes "R " ++ (decimal region ++ (codes " " ++ (decimal place ++ codes "\n")))
 access_line (Write region place) = codes "W " ++ (decimal region ++ (codes " " ++ (decimal place ++ codes "\n")))
 access_line (Discard region) = codes "D " ++ (decimal region ++ codes "\n")
+access_line (Open region blocks len) = codes "O " ++ (decimal region ++ (codes " " ++ (decimal blocks ++ (codes " " ++ (decimal len ++ codes "\n")))))
 
 unfoldable pub trace_text : List Access → List ℕ
 trace_text [] = []

@@ -75,6 +75,19 @@ fn numbered(start: &[u8], n: u32) -> Line
     line
 }
 
+// A word, a region, the number of its blocks and their length.
+fn sized(start: &[u8], region: u64, blocks: u32, len: u32) -> Line
+    requires { length start.now ≤ 6 }
+    ensures { result ≡ start.now ++ (decimal region ++ (codes " "
+        ++ (decimal blocks ++ (codes " " ++ (decimal len ++ codes "\n"))))) }
+{
+    let mut line = Line::new(start);
+    line.push_number(region, b" ");
+    line.push_number(blocks, b" ");
+    line.push_number(len, b"\n");
+    line
+}
+
 // A word, a region and a place in it.
 fn placed(start: &[u8], region: u64, place: u32) -> Line
     requires { length start.now ≤ 16 }
@@ -106,13 +119,12 @@ pub fn access_line(access: Access) -> Line
             region,
             blocks,
             len,
-        } => {
-            let mut line = Line::new(b"M ");
-            line.push_number(region, b" ");
-            line.push_number(blocks, b" ");
-            line.push_number(len, b"\n");
-            line
-        }
+        } => sized(b"M ", region, blocks, len),
+        Access::Open {
+            region,
+            blocks,
+            len,
+        } => sized(b"O ", region, blocks, len),
         Access::Read { region, place } => placed(b"R ", region, place),
         Access::Write { region, place } => placed(b"W ", region, place),
         Access::Discard { region } => {

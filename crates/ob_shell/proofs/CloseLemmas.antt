@@ -3,6 +3,7 @@ use Rattle.std.proofs.Common.{◌≡◌, ℕ, Bool, true, false, List, [], ◌�
 use Rattle.std.specs.Prelude.{⊤, ◌≢◌}
 use Rattle.std.specs.Io.KnownBytes.{Appends}
 use Rattle.ob_print.specs.Cuts.{Cut}
+use Rattle.ob_shell.specs.Bases.{Base, fresh}
 use Rattle.ob_shell.specs.Closed.{Unwritten, LineWritten, refused_by}
 use Rattle.ob_shell.specs.Endings.{status_of, last_line, SinkStopped}
 use Rattle.ob_gen.specs.declared.tally.Tally.{Tally}
@@ -26,32 +27,32 @@ nothing_cut : (grown lost : List ℕ) → [] ≡ grown ++ lost → grown ≡ []
 nothing_cut [] lost e = refl
 nothing_cut (b ∷ grown) lost e = absurd (cc e)
 
-none_of_it : {w0 w1 : Option (List ℕ)} {F : Type 0} {line : List ℕ} → Cut w0 w1 F line → line ≡ [] → Appends w0 w1 line
+pub none_of_it : {w0 w1 : Option (List ℕ)} {F : Type 0} {line : List ℕ} → Cut w0 w1 F line → line ≡ [] → Appends w0 w1 line
 none_of_it {w0 = w0} {w1 = w1} cut none =
     subst (λ (l : List ℕ). Appends w0 w1 l) (nothing_cut cut.grown cut.prefix.lost (sym none ∙ cut.prefix.whole) ∙ sym none) cut.appends
 
-module _ {tally : Tally} {tr : TraceSink} {Takes : Type 0} {settings : Option Config} {gave : ℕ} {l0 l1 w0 w1 w2 : Option (List ℕ)} {s0 s1 : StoreState} where
+module _ {tally : Tally} {tr : TraceSink} {Takes : Type 0} {base : Base} {gave : ℕ} {l0 l1 w0 w1 w2 : Option (List ℕ)} {s0 s1 : StoreState} where
   -- the last line was written, or might not be
   pub reported_closed : (ended : Ended) (report : Report) (old mid new : Faults)
       → report.status ≡ status_of ended.ending → report.high ≡ ended.high → EndingWords ended.ending Takes
-      → Shown tally tr settings l0 l1 gave w0 w1 s0 s1 ended.high ended.ending [] (SinkStopped ended.ending) → EndingCause ended.ending old mid
+      → Shown tally tr base l0 l1 gave w0 w1 s0 s1 ended.high ended.ending [] (SinkStopped ended.ending) → EndingCause ended.ending old mid
       → (ended.quiet ≡ true → Unwritten w1 w2 mid.out new.out) → (ended.quiet ≡ false → LineWritten (last_line ended.ending) w1 w2 mid.out new.out)
       → (ended.quiet ≡ true → SinksRose old mid) → (ended.quiet ≡ false → mid.trace ≡ old.trace) → new.trace ≡ mid.trace → new.source ≡ mid.source
-      → Reported tally tr Takes settings l0 l1 gave w0 w2 s0 s1 old new report
+      → Reported tally tr Takes base l0 l1 gave w0 w2 s0 s1 old new report
   reported_closed ended report old mid new status high takes shown cause quiet line rose loud trace source = go ended.quiet refl
     where
-      shown_high : Shown tally tr settings l0 l1 gave w0 w1 s0 s1 report.high ended.ending [] (SinkStopped ended.ending)
-      shown_high = subst (λ (n : ℕ). Shown tally tr settings l0 l1 gave w0 w1 s0 s1 n ended.ending [] (SinkStopped ended.ending)) (sym high) shown
+      shown_high : Shown tally tr base l0 l1 gave w0 w1 s0 s1 report.high ended.ending [] (SinkStopped ended.ending)
+      shown_high = subst (λ (n : ℕ). Shown tally tr base l0 l1 gave w0 w1 s0 s1 n ended.ending [] (SinkStopped ended.ending)) (sym high) shown
 
-      go : (b : Bool) → ended.quiet ≡ b → Reported tally tr Takes settings l0 l1 gave w0 w2 s0 s1 old new report
+      go : (b : Bool) → ended.quiet ≡ b → Reported tally tr Takes base l0 l1 gave w0 w2 s0 s1 old new report
       go true is =
           let same : mid ≡ new = λ i. record { source = sym source i; out = sym (quiet is).faults i; trace = sym trace i } in
-          subst (λ (f : Faults). Reported tally tr Takes settings l0 l1 gave w0 w2 s0 s1 old f report) same
-          (subst (λ (w : Option (List ℕ)). Reported tally tr Takes settings l0 l1 gave w0 w s0 s1 old mid report) (sym (quiet is).written)
+          subst (λ (f : Faults). Reported tally tr Takes base l0 l1 gave w0 w2 s0 s1 old f report) same
+          (subst (λ (w : Option (List ℕ)). Reported tally tr Takes base l0 l1 gave w0 w s0 s1 old mid report) (sym (quiet is).written)
           (reported_quiet ended.ending old mid status takes shown_high cause (rose is)))
       go false is =
           let l = line is in
-          reported_line ended.ending old mid new (last_line ended.ending) status takes shown_high cause refl l.cut (λ rises. rises) (none_of_it l.cut) l.empty l.later trace source (loud is)
+          reported_line ended.ending old mid new status takes shown_high cause l.cut (λ rises. rises) (none_of_it l.cut) l.empty l.later trace source (loud is)
 
 -- the words were not read
 pub words_end : (error : WordsErr) {Takes : Type 0} → (error ≡ Words.Usage → ¬ Takes) → EndingWords (refused_by error) Takes
@@ -62,15 +63,22 @@ pub words_cause : (error : WordsErr) (faults : Faults) → EndingCause (refused_
 words_cause Words.Usage faults = record { source = refl; out = refl; trace = refl }
 words_cause Words.NoMemory faults = (refl, omega arith, omega arith)
 
-pub words_shown : (tally : Tally) (tr : TraceSink) (settings : Option Config) (error : WordsErr) (l : Option (List ℕ)) (gave : ℕ) (w : Option (List ℕ)) (s : StoreState) → IsFresh s → tr.new ≡ tr.old
-    → Shown tally tr settings l l gave w w s s 0 (refused_by error) [] (SinkStopped (refused_by error))
+unfoldable pub words_shown : (tally : Tally) (tr : TraceSink) (settings : Option Config) (error : WordsErr) (l : Option (List ℕ)) (gave : ℕ) (w : Option (List ℕ)) (s : StoreState) → IsFresh s → tr.new ≡ tr.old
+    → Shown tally tr (fresh settings) l l gave w w s s 0 (refused_by error) [] (SinkStopped (refused_by error))
 words_shown tally tr settings Words.Usage l gave w s fresh untraced = shown_unread tally tr settings l gave w s _ fresh untraced tt tt tt refl
 words_shown tally tr settings Words.NoMemory l gave w s fresh untraced = shown_unread tally tr settings l gave w s _ fresh untraced tt tt tt tt
+
+-- of which nothing is taken
+pub words_none : (tally : Tally) (tr : TraceSink) (settings : Option Config) (error : WordsErr) (l : Option (List ℕ)) (gave : ℕ) (w : Option (List ℕ)) (s : StoreState) (blank : IsFresh s) (untraced : tr.new ≡ tr.old)
+    → (words_shown tally tr settings error l gave w s blank untraced).taken ≡ []
+unfolding words_shown shown_unread
+words_none tally tr settings Words.Usage l gave w s blank untraced = refl
+words_none tally tr settings Words.NoMemory l gave w s blank untraced = refl
 
 pub reported_words : (tally : Tally) (tr : TraceSink) {Takes : Type 0} {settings : Option Config} {gave : ℕ} {l w0 w1 : Option (List ℕ)} {s : StoreState} (error : WordsErr) (report : Report) (old new : Faults) → IsFresh s → tr.new ≡ tr.old
     → (error ≡ Words.Usage → ¬ Takes) → report.status ≡ status_of (refused_by error) → report.high ≡ 0
     → LineWritten (last_line (refused_by error)) w0 w1 old.out new.out → new.trace ≡ old.trace → new.source ≡ old.source
-    → Reported tally tr Takes settings l l gave w0 w1 s s old new report
+    → Reported tally tr Takes (fresh settings) l l gave w0 w1 s s old new report
 reported_words tally tr {settings = settings} {gave = gave} {l = l} {w0 = w0} {s = s} error report old new fresh untraced not status high line trace source =
     reported_closed (record { ending = refused_by error; quiet = false; high = 0; tally = tally }) report old old new status high (words_end error not)
     (words_shown tally tr settings error l gave w0 s fresh untraced) (words_cause error old) (λ loud. absurd (cc loud)) (λ loud. line) (λ loud. absurd (cc loud)) (λ loud. refl) trace source
@@ -88,11 +96,11 @@ words_taken (Ran (Err InputLimit)) taken t = t
 
 unfoldable pub reported_taken : {tally : Tally} {tr : TraceSink} {Takes : Type 0} {settings asked : Option Config} {gave : ℕ}
     {l0 l1 w0 w1 : Option (List ℕ)} {s0 s1 : StoreState} {old new : Faults} {report : Report}
-    → Takes → settings ≡ asked → Reported tally tr ⊤ asked l0 l1 gave w0 w1 s0 s1 old new report
-    → Reported tally tr Takes settings l0 l1 gave w0 w1 s0 s1 old new report
+    → Takes → settings ≡ asked → Reported tally tr ⊤ (fresh asked) l0 l1 gave w0 w1 s0 s1 old new report
+    → Reported tally tr Takes (fresh settings) l0 l1 gave w0 w1 s0 s1 old new report
 reported_taken {tally = tally} {tr = tr} {Takes = Takes} {gave = gave} {l0 = l0} {l1 = l1} {w0 = w0} {w1 = w1} {s0 = s0} {s1 = s1} {old = old} {new = new} {report = report} t is r =
     let both = subst
-    (λ (o : Option Config). (x : Shown tally tr o l0 l1 gave w0 w1 s0 s1 report.high r.ending (last_line r.ending) (SinksRose old new)) × (new.trace ≢ old.trace → Cut w0 w1 (Unit {0}) (printed x.answers ++ x.part)))
+    (λ (o : Option Config). (x : Shown tally tr (fresh o) l0 l1 gave w0 w1 s0 s1 report.high r.ending (last_line r.ending) (SinksRose old new)) × (new.trace ≢ old.trace → Cut w0 w1 (Unit {0}) (printed x.answers ++ x.part)))
     (sym is) (r.shown, r.silent) in
     record {
       ending = r.ending;
@@ -103,3 +111,16 @@ reported_taken {tally = tally} {tr = tr} {Takes = Takes} {gave = gave} {l0 = l0}
       cause = r.cause;
       completes = λ taken input e keeps. r.completes tt input e (subst (λ (o : Option Config). KeepsLimits (limit_of o) input) is keeps);
     }
+
+-- the same of a base that the words say nothing of
+pub reported_takes : {tally : Tally} {tr : TraceSink} {Takes : Type 0} {base : Base} {gave : ℕ} {l0 l1 w0 w1 : Option (List ℕ)} {s0 s1 : StoreState} {old new : Faults} {report : Report}
+    → Takes → Reported tally tr ⊤ base l0 l1 gave w0 w1 s0 s1 old new report → Reported tally tr Takes base l0 l1 gave w0 w1 s0 s1 old new report
+reported_takes t r = record {
+  ending = r.ending;
+  status = r.status;
+  takes = words_taken r.ending r.takes t;
+  shown = r.shown;
+  silent = r.silent;
+  cause = r.cause;
+  completes = λ taken input e keeps. r.completes tt input e keeps;
+}

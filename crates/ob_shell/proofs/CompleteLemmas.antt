@@ -3,13 +3,13 @@ use Rattle.std.proofs.Common.{◌≡◌, ℕ, ◌≤◌, Bool, true, false, List
 use Rattle.std.specs.Io.KnownBytes.{Appends, Consumes}
 use Rattle.std.proofs.KnownBytes.{Appends-nil}
 use Rattle.ob_base.specs.Counts.{Rises}
-use Rattle.ob_base.specs.declared.config.Config.{Config}
 use Rattle.ob_base.specs.declared.refusal.Stop.TheVariants.{Tampered, SourceFault, SinkFault, NoMemory, InputLimit}
 use Rattle.ob_print.specs.Cuts.{Cut}
 use Rattle.ob_print.proofs.CutLemmas.{Cut-fault}
 use Rattle.ob_store.specs.State.{StoreState}
 use Rattle.ob_shell.specs.Texts.{is_over, rest_of}
 use Rattle.ob_shell.specs.KeyLine.{line_max, has_lf, first_line, after_line, secret_of, LineTaken}
+use Rattle.ob_shell.specs.Bases.{Base, FromEach}
 use Rattle.ob_shell.specs.Settings.{limit_of}
 use Rattle.ob_shell.specs.Endings.{status_of, last_line, SinkStopped}
 use Rattle.ob_gen.specs.declared.tally.Tally.{Tally}
@@ -17,6 +17,7 @@ use Rattle.ob_shell.specs.Top.{TraceSink, EndsUntampered, EndingSays, EndingWord
 use Rattle.ob_shell.specs.declared.top.Report.{Report}
 use Rattle.ob_shell.specs.declared.top.Ending.{Ending}
 use Rattle.ob_shell.specs.declared.top.Ending.TheVariants.{Usage, BadKey, Ran}
+use Rattle.ob_shell.proofs.BaseLemmas.{from_each}
 use Rattle.ob_shell.proofs.TextLemmas.{rest_of-append, rest_of-over, rest_of-nil}
 use Rattle.ob_shell.proofs.KeyLemmas.{after_line-none, first_line-long, secret_of-long}
 use Rattle.ob_shell.proofs.TopLemmas.{first_line-more, after_line-more, shown_line, line_grew, quiet_line, line_rose, rose_with, status_cause}
@@ -71,49 +72,50 @@ limits_kept (Ran (Err InputLimit)) max taken rest ended more part t words k says
       | inr full ↦ let few = k.short in absurd (omega (arith, few, full, length-append taken rest))
     ]
 
-pub completes : {tally : Tally} {tr : TraceSink} {settings : Option Config} {gave : ℕ} {l0 l1 w0 w1 : Option (List ℕ)} {s0 s1 : StoreState} {high : ℕ} {ending : Ending} {line : List ℕ} {F Takes : Type 0} (old new : Faults) (input : List ℕ)
-    → Shown tally tr settings l0 l1 gave w0 w1 s0 s1 high ending line F → EndingWords ending Takes → StatusCause ending old new
-    → Takes → l0 ≡ Some input → KeepsLimits (limit_of settings) input → ¬ Rises old.source new.source → ¬ SinksRose old new → IsCompleted (IsHonest s0 s1) ending
-completes {settings = settings} {l1 = l1} {s0 = s0} {s1 = s1} {ending = ending} old new input shown words cause t e k a c =
-    go l1 shown.says (subst (λ (l : Option (List ℕ)). Consumes l l1 shown.taken) e shown.given)
+pub completes : {tally : Tally} {tr : TraceSink} {base : Base} {gave : ℕ} {l0 l1 w0 w1 : Option (List ℕ)} {s0 s1 : StoreState} {high : ℕ} {ending : Ending} {line : List ℕ} {F Takes : Type 0} (old new : Faults) (input : List ℕ)
+    → Shown tally tr base l0 l1 gave w0 w1 s0 s1 high ending line F → EndingWords ending Takes → StatusCause ending old new
+    → Takes → l0 ≡ Some input → KeepsLimits (limit_of base.settings) input → ¬ Rises old.source new.source → ¬ SinksRose old new
+    → FromEach base (λ s. IsCompleted (IsHonest s0 s1) ending)
+completes {base = base} {l1 = l1} {s0 = s0} {s1 = s1} {ending = ending} old new input shown words cause t e k a c =
+    from_each base (λ s. IsHonest s0 s1 → EndsUntampered ending) (λ s. IsCompleted (IsHonest s0 s1) ending)
+    (λ tables calm. go l1 shown.says (subst (λ (l : Option (List ℕ)). Consumes l l1 shown.taken) e shown.given) calm) shown.carried.untampered
   where
-    go : (l : Option (List ℕ)) → EndingSays ending (limit_of settings) shown.taken l shown.ended shown.more shown.part → Consumes (Some input) l shown.taken → IsCompleted (IsHonest s0 s1) ending
-    go None says given = absurd given
-    go (Some rest) says given =
-        limits_kept ending (limit_of settings) shown.taken rest shown.ended shown.more shown.part t words (subst (KeepsLimits (limit_of settings)) given k) says old new cause a c
-        (λ honest. shown.carried.untampered honest)
+    go : (l : Option (List ℕ)) → EndingSays ending (limit_of base.settings) shown.taken l shown.ended shown.more shown.part → Consumes (Some input) l shown.taken → (IsHonest s0 s1 → EndsUntampered ending)
+        → IsCompleted (IsHonest s0 s1) ending
+    go None says given calm = absurd given
+    go (Some rest) says given calm =
+        limits_kept ending (limit_of base.settings) shown.taken rest shown.ended shown.more shown.part t words (subst (KeepsLimits (limit_of base.settings)) given k) says old new cause a c
+        calm
 
 -- the last line was written, or cut by a sink's fault
-pub reported_line : {tally : Tally} {tr : TraceSink} {Takes : Type 0} {settings : Option Config} {report : Report} (ending : Ending) (old mid new : Faults)
-    {gave : ℕ} {l0 l1 w0 w1 w2 : Option (List ℕ)} {s0 s1 : StoreState} {E : Type 0} (line : List ℕ)
+unfoldable pub reported_line : {tally : Tally} {tr : TraceSink} {Takes : Type 0} {base : Base} {report : Report} (ending : Ending) (old mid new : Faults)
+    {gave : ℕ} {l0 l1 w0 w1 w2 : Option (List ℕ)} {s0 s1 : StoreState} {E : Type 0}
     → report.status ≡ status_of ending → EndingWords ending Takes
-    → Shown tally tr settings l0 l1 gave w0 w1 s0 s1 report.high ending [] (SinkStopped ending) → EndingCause ending old mid
-    → line ≡ last_line ending → Cut w1 w2 E line → (E → Rises mid.out new.out) → (line ≡ [] → Appends w1 w2 line) → (line ≡ [] → new.out ≡ mid.out)
+    → Shown tally tr base l0 l1 gave w0 w1 s0 s1 report.high ending [] (SinkStopped ending) → EndingCause ending old mid
+    → Cut w1 w2 E (last_line ending) → (E → Rises mid.out new.out) → (last_line ending ≡ [] → Appends w1 w2 (last_line ending)) → (last_line ending ≡ [] → new.out ≡ mid.out)
     → mid.out ≤ new.out → new.trace ≡ mid.trace → new.source ≡ mid.source → mid.trace ≡ old.trace
-    → Reported tally tr Takes settings l0 l1 gave w0 w2 s0 s1 old new report
-reported_line ending old mid new line status takes shown cause is_line cut rose all none later trace source kept =
-    let causes : StatusCause ending old new = status_cause ending old mid new cause later trace source (λ e. none (is_line ∙ e)) in
+    → Reported tally tr Takes base l0 l1 gave w0 w2 s0 s1 old new report
+reported_line ending old mid new status takes shown cause cut rose all none later trace source kept =
+    let causes : StatusCause ending old new = status_cause ending old mid new cause later trace source none in
     record {
       ending = ending;
       status = status;
       takes = takes;
-      shown =
-          rw (← is_line)
-          (shown_line cut.grown shown cut.appends
+      shown = shown_line cut.grown shown cut.appends
           (line_grew _ _ (λ e. line_rose ending old mid new cause (rose e) later trace) ending old mid
           (λ r. rose_with old mid new r later trace)
-          cause shown.grew is_line cut all));
+          cause shown.grew refl cut all);
       silent = λ other. absurd (other (trace ∙ kept));
       cause = causes;
       completes = λ t input e k a b. completes old new input shown takes causes t e k a b;
     }
 
 -- no line may be written any more
-pub reported_quiet : {tally : Tally} {tr : TraceSink} {Takes : Type 0} {settings : Option Config} {report : Report} (ending : Ending) (old new : Faults)
+unfoldable pub reported_quiet : {tally : Tally} {tr : TraceSink} {Takes : Type 0} {base : Base} {report : Report} (ending : Ending) (old new : Faults)
     {gave : ℕ} {l0 l1 w0 w1 : Option (List ℕ)} {s0 s1 : StoreState}
     → report.status ≡ status_of ending → EndingWords ending Takes
-    → Shown tally tr settings l0 l1 gave w0 w1 s0 s1 report.high ending [] (SinkStopped ending) → EndingCause ending old new → SinksRose old new
-    → Reported tally tr Takes settings l0 l1 gave w0 w1 s0 s1 old new report
+    → Shown tally tr base l0 l1 gave w0 w1 s0 s1 report.high ending [] (SinkStopped ending) → EndingCause ending old new → SinksRose old new
+    → Reported tally tr Takes base l0 l1 gave w0 w1 s0 s1 old new report
 unfolding shown_line
 reported_quiet ending old new {w0 = w0} {w1 = w1} status takes shown cause rose =
     let causes : StatusCause ending old new = status_cause ending old new new cause (omega arith) refl refl (λ e. refl) in

@@ -15,7 +15,7 @@ use Rattle.ob_exec.specs.declared.outcome.Outcome.{Outcome}
 use Rattle.ob_mean.specs.Verdict.{Tables}
 use Rattle.ob_script.specs.Script.{script}
 use Rattle.ob_shell.specs.Words.{Begins}
-use Rattle.ob_shell.specs.Steps.{Does, Machine}
+use Rattle.ob_shell.specs.Steps.{Does, Machine, asked_of}
 use Rattle.ob_shell.proofs.CalmLemmas.{first_calm}
 use Rattle.ob_shell.proofs.FirstPartLemmas.{begins_length, begins_truly}
 use Rattle.ob_sql.specs.Skeleton.{skeleton}
@@ -91,7 +91,7 @@ module _ {R : Type 0} (state : R → RevState) (m0 m1 : Machine R) (tables : Tab
     (tells : IsTrue m0.store.tells) (steady : IsSteady m0.store) (held : Represents state m0.engine m0.store tables) (n : ℕ) (before : IsBefore m0.store.disturbed n)
     (few : length m0.store.asked ≤ n) where
   abbrev pub all_meant : List Access
-  all_meant = m0.store.asked ++ meant_script (public_of m0.engine) (length m0.store.asked) tables stmt
+  all_meant = m0.store.asked ++ meant_script (public_of m0.engine) (asked_of m0) tables stmt
 
   -- what is asked until the first disturbance is a first part of what is meant; where that comes before, it is asked
   pub record Crosses : Type 0 where
@@ -126,7 +126,7 @@ module _ {R : Type 0} (state : R → RevState) (m0 m1 : Machine R) (tables : Tab
       }) in
       let all : Begins m1.store.asked all_meant =
       subst (λ (l : List Access). Begins l all_meant) (sym does.ran.asked)
-      (begins_after m0.store.asked (script (public_of m0.engine) (skeleton stmt) (seen_of m1.engine)) (meant_script (public_of m0.engine) (length m0.store.asked) tables stmt) begins) in
+      (begins_after m0.store.asked (script (public_of m0.engine) (skeleton stmt) (seen_of m1.engine)) (meant_script (public_of m0.engine) (asked_of m0) tables stmt) begins) in
       let most = begins_length m1.store.asked all_meant all in
       record {
         begins = begins_take n m1.store.asked all_meant all;

@@ -21,7 +21,7 @@ use Rattle.ob_mean.specs.Verdict.{Tables, counted, is_late, seen, seen_by, seen_
 use Rattle.ob_mean.proofs.VerdictLemmas.{seen_late}
 use Rattle.ob_script.specs.Script.{script, until_end, whole_script}
 use Rattle.ob_shell.specs.Words.{Begins}
-use Rattle.ob_shell.specs.Steps.{Machine, Does}
+use Rattle.ob_shell.specs.Steps.{Machine, Does, asked_of}
 use Rattle.ob_shell.proofs.CutLemmas.{cut_begins}
 use Rattle.ob_shell.proofs.ReplayLemmas.{cut_early}
 use Rattle.ob_sql.specs.Skeleton.{skeleton}
@@ -83,7 +83,7 @@ begins_cut p m tables stmt failed n early =
 
 module _ {R : Type 0} (state : R → RevState) (m0 m1 : Machine R) (tables : Tables) (stmt : Stmt) where
   abbrev meant : Seen
-  meant = seen (public_of m0.engine) (length m0.store.asked) tables stmt
+  meant = seen (public_of m0.engine) (asked_of m0) tables stmt
 
   abbrev IsFirstPart : Type 0
   IsFirstPart = Begins (script (public_of m0.engine) (skeleton stmt) (seen_of m1.engine)) (script (public_of m0.engine) (skeleton stmt) meant)
@@ -97,10 +97,10 @@ module _ {R : Type 0} (state : R → RevState) (m0 m1 : Machine R) (tables : Tab
         let p = public_of m0.engine in
         let sk = skeleton stmt in
         subst (λ (x : Seen). Begins (script p sk x) (script p sk meant)) (sym is)
-        (begins_cut p (length m0.store.asked) tables stmt failed n (cut_early state m0 m1 tables stmt result does failed n is reads.held))
+        (begins_cut p (asked_of m0) tables stmt failed n (cut_early state m0 m1 tables stmt result does failed n is reads.held))
 
   as_told : (failed : Bool) (outcome : Outcome) → Does state m0 m1 stmt (Ok outcome) → ReadsTrueUntil state m0.engine m0.store m1.engine m1.store tables → is_fault outcome ≡ failed
-      → Told state stmt (length m0.store.asked) tables outcome m0.engine m1.engine m1.store → IsFirstPart
+      → Told state stmt tables outcome m0.engine m0.store m1.engine m1.store → IsFirstPart
   as_told true outcome does reads e told = as_cut (Ok outcome) does reads true _ (rw e at told).seen
   as_told false outcome does reads e told = as_meant (rw e at told).seen
 

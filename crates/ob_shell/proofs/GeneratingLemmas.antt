@@ -13,6 +13,7 @@ use Rattle.ob_gen.specs.declared.tally.Tally.{Tally}
 use Rattle.ob_print.specs.Cuts.{Cut}
 use Rattle.ob_print.proofs.CutLemmas.{Cut-whole}
 use Rattle.ob_store.specs.State.{StoreState}
+use Rattle.ob_shell.specs.Bases.{Base, fresh}
 use Rattle.ob_shell.specs.Closed.{LineWritten, refused_by}
 use Rattle.ob_shell.specs.Endings.{SinkStopped, last_line, status_of}
 use Rattle.ob_shell.specs.Generating.{RanGenerated, ClosedBy, ConcludedBy, Concludes, StatusIs, Summarized, asked_for, conclusion}
@@ -34,11 +35,11 @@ use Rattle.ob_shell.proofs.TraceLemmas.{traced_none, traced_whole}
 
 -- ---- what was written
 -- bytes that were cut by a fault of the one sink
-cut_rose : {w0 w1 : Option (List ℕ)} {F G : Type 0} (bytes : List ℕ) → (F → G) → Cut w0 w1 F bytes → Cut w0 w1 G bytes
+pub cut_rose : {w0 w1 : Option (List ℕ)} {F G : Type 0} (bytes : List ℕ) → (F → G) → Cut w0 w1 F bytes → Cut w0 w1 G bytes
 cut_rose bytes rose c = record { grown = c.grown; appends = c.appends; prefix = c.prefix; all = elim c.all [ inl whole ↦ inl whole | inr fault ↦ inr (rose fault) ] }
 
 -- nothing, of a line, behind another fault
-nothing_written : {w0 w1 : Option (List ℕ)} {G : Type 0} (bytes : List ℕ) → w1 ≡ w0 → G → Cut w0 w1 G bytes
+pub nothing_written : {w0 w1 : Option (List ℕ)} {G : Type 0} (bytes : List ℕ) → w1 ≡ w0 → G → Cut w0 w1 G bytes
 nothing_written {w0 = w0} {G = G} bytes same g =
     subst (λ (w : Option (List ℕ)). Cut w0 w G bytes) (sym same) (record { grown = []; appends = Appends-nil w0; prefix = record { lost = bytes; whole = refl }; all = inr g })
 
@@ -96,9 +97,9 @@ pub with_source : {ending : Ending} {tally : Tally} {asked : List Access} {rows 
 with_source source c = record { grew = c.grew; silent = c.silent; status = c.status; later = c.later; high = c.high }
 
 -- ---- the run, whose answers are kept nowhere
-unfoldable unkept : {tally : Tally} {tr : TraceSink} {Takes : Type 0} {settings : Option Config} {gave : ℕ} {l0 l1 : Option (List ℕ)} {s0 s1 : StoreState} (ending : Ending) (high : ℕ) (old new : Faults)
-    → EndingWords ending Takes → Shown tally tr settings l0 l1 gave None None s0 s1 high ending [] (SinkStopped ending) → EndingCause ending old new
-    → Reported tally tr Takes settings l0 l1 gave None None s0 s1 old new (record { status = status_of ending; high = high })
+unfoldable unkept : {tally : Tally} {tr : TraceSink} {Takes : Type 0} {base : Base} {gave : ℕ} {l0 l1 : Option (List ℕ)} {s0 s1 : StoreState} (ending : Ending) (high : ℕ) (old new : Faults)
+    → EndingWords ending Takes → Shown tally tr base l0 l1 gave None None s0 s1 high ending [] (SinkStopped ending) → EndingCause ending old new
+    → Reported tally tr Takes base l0 l1 gave None None s0 s1 old new (record { status = status_of ending; high = high })
 unkept ending high old new takes shown cause =
     let causes : StatusCause ending old new = status_cause ending old new new cause (omega arith) refl refl (λ e. refl) in
     record {
@@ -114,7 +115,7 @@ unkept ending high old new takes shown cause =
 pub ran_generated : {tally : Tally} {tracing : Bool} {settings : Option Config} {t0 t1 : Option (List ℕ)} {s0 s1 : StoreState} {gave : ℕ} {w0 w1 : Option (List ℕ)}
     (seed : Seed) (left : List ℕ) (ending : Ending) (high trace0 trace1 out0 out1 : ℕ) (report : Report)
     → EndingWords ending ⊤
-    → Shown tally (sink_of tracing t0 t1) settings (Some (generated seed.start seed.rows)) (Some left) gave None None s0 s1 high ending [] (SinkStopped ending)
+    → Shown tally (sink_of tracing t0 t1) (fresh settings) (Some (generated seed.start seed.rows)) (Some left) gave None None s0 s1 high ending [] (SinkStopped ending)
     → EndingCause ending (faults_of 0 0 trace0) (faults_of 0 0 trace1)
     → Traced tracing s0.asked s1.asked t0 t1 (SinksRose (faults_of 0 0 trace0) (faults_of 0 0 trace1))
     → Concludes ending tally s1.asked high w0 w1 (faults_of 0 out0 trace0) (faults_of 0 out1 trace1) report
@@ -135,14 +136,14 @@ pub summarized : {Takes : Type 0} {settings asked : Option Config} {tracing : Bo
     → Takes → settings ≡ asked → s0.asked ≡ [] → RanGenerated seed tracing asked t0 t1 s0 s1 trace0 trace1 w0 w1 out0 out1 report
     → Summarized Takes settings tracing seed (outside_of l gave w0 t0 s0 (faults_of source out0 trace0)) (outside_of l gave w1 t1 s1 (faults_of source out1 trace1)) report
 unfolding headlined reported_taken
-summarized {Takes = Takes} {settings = settings} {tracing = tracing} source takes is fresh a =
+summarized {Takes = Takes} {settings = settings} {tracing = tracing} source takes is none a =
     let r = reported_taken takes is a.reported in
     record {
       unread = record { left = refl; gave = refl; source = refl };
       run = a.run;
       left = a.left;
       gave = a.gave;
-      headline = headlined Takes settings tracing _ _ a.run fresh r a.traces;
+      headline = headlined Takes (fresh settings) tracing _ _ a.run none r a.traces;
       tally = a.tally;
       counted = r.shown.counted;
       concludes = with_source source a.concludes;
@@ -158,10 +159,10 @@ pub unread_summarized : {Takes : Type 0} {settings : Option Config} {tracing : B
     → IsFresh s → (error ≡ Words.Usage → ¬ Takes) → report.status ≡ status_of (refused_by error) → report.high ≡ 0 → LineWritten (last_line (refused_by error)) w0 w1 out0 out1
     → Summarized Takes settings tracing seed (outside_of l gave w0 t s (faults_of source out0 trace)) (outside_of l gave w1 t s (faults_of source out1 trace)) report
 unfolding headlined unkept
-unread_summarized {Takes = Takes} {settings = settings} {tracing = tracing} {s = s} {t = t} {w0 = w0} {w1 = w1} {out0 = out0} {out1 = out1} {report = report} source trace seed error fresh not status high line =
+unread_summarized {Takes = Takes} {settings = settings} {tracing = tracing} {s = s} {t = t} {w0 = w0} {w1 = w1} {out0 = out0} {out1 = out1} {report = report} source trace seed error blank not status high line =
     let ending = refused_by error in
     let faults : Faults = faults_of 0 0 trace in
-    let shown = words_shown empty_tally (sink_of tracing t t) settings error (Some (generated seed.start seed.rows)) 0 None s fresh refl in
+    let shown = words_shown empty_tally (sink_of tracing t t) settings error (Some (generated seed.start seed.rows)) 0 None s blank refl in
     let r = unkept ending 0 faults faults (words_end error not) shown (words_cause error faults) in
     let closed : ClosedBy ending false w0 w1 out0 out1 report.status = record { told = status; silent = λ loud. absurd (cc loud); line = λ loud. line } in
     record {
@@ -169,7 +170,7 @@ unread_summarized {Takes = Takes} {settings = settings} {tracing = tracing} {s =
       run = record { status = status_of ending; high = 0 };
       left = generated seed.start seed.rows;
       gave = 0;
-      headline = headlined Takes settings tracing _ _ _ fresh.unasked r (traced_whole _ (traced_none tracing s.asked t));
+      headline = headlined Takes (fresh settings) tracing _ _ _ blank.unasked r (traced_whole _ (traced_none tracing s.asked t));
       tally = empty_tally;
       counted = r.shown.counted;
       concludes = with_source source (concludes_at 0 high

@@ -80,9 +80,9 @@ pub line_grows : (line : List ℕ) (n b : ℕ) → n < length line → take (n +
 line_grows line n b h = rw add-one (take-suc-set line n b h)
 
 key_ends_last : (taken : List ℕ) (new : Fetch) (left1 : Option (List ℕ)) (r : Option (List ℕ))
-    → r ≡ secret_of (first_line taken) → after_line taken ≡ [] → IsAtEnd left1 → new.taken < new.limit → KeyEnds taken new left1 (Ok (line_at_end r))
-key_ends_last taken new left1 (Some key) e rest h below = (sym e, rest, h, below)
-key_ends_last taken new left1 None e rest h below = (sym e, inr (inr h))
+    → r ≡ secret_of (first_line taken) → after_line taken ≡ [] → IsAtEnd left1 → new.taken < new.limit → new.unread ≡ [] → KeyEnds taken new left1 (Ok (line_at_end r))
+key_ends_last taken new left1 (Some key) e rest h below none = (sym e, rest, h, below, none)
+key_ends_last taken new left1 None e rest h below none = (sym e, inr (inr h))
 
 key_ends : (taken : List ℕ) (new : Fetch) (left1 : Option (List ℕ)) (r : Option (List ℕ))
     → r ≡ secret_of (first_line taken) → after_line taken ≡ new.unread → has_lf taken ≡ true → KeyEnds taken new left1 (Ok (line_before_more r))
@@ -99,7 +99,7 @@ key_at_end {a = a} {c = c} {l0 = l0} {l2 = l2} {line = line} r p q no_lf none at
       fed = subst (λ (xs : List ℕ). Fed a c l0 l2 xs) (append-nil line) (Fed-then p q);
       ends =
           subst (λ (t : List ℕ). KeyEnds t c l2 (Ok (line_at_end r))) (sym all)
-          (key_ends_last line c l2 r (e ∙ ap secret_of (sym (first_line-none line no_lf))) (after_line-none line no_lf) at_end below);
+          (key_ends_last line c l2 r (e ∙ ap secret_of (sym (first_line-none line no_lf))) (after_line-none line no_lf) at_end below none);
       ahead = rw (all, after_line-none line no_lf) (omega arith);
     }
 

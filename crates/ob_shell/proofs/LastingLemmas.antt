@@ -8,7 +8,6 @@ use Rattle.ob_exec.specs.Telling.{AcceptsRows}
 use Rattle.ob_exec.specs.declared.engine.Engine.{Engine}
 use Rattle.ob_store.specs.State.{StoreState}
 use Rattle.ob_shell.specs.Running.{LastPart}
-use Rattle.ob_shell.specs.Settings.{public_by}
 use Rattle.ob_shell.specs.Steps.{Machine, Step, Steps}
 use Rattle.ob_vault.specs.State.{RevState}
 use Rattle.ob_vault.specs.Tied.{AllSealed}
@@ -83,8 +82,3 @@ module _ {R : Type 0} (state : R → RevState) where
 -- no region lives, and so no block does
 pub none_sealed : {R : Type 0} (state : R → RevState) (good : ℕ → List ℕ → Bool) (e : Engine R) (s : StoreState) → ((q : ℕ) → s.live q ≡ None) → AllSealed good (world_of state e s)
 none_sealed state good e s none = record { all = λ q x block live last. absurd (live (none q)) }
-
--- an engine that was just started
-pub first_sizes : {R : Type 0} (config : Config) (m : Machine R) → public_of m.engine ≡ public_by config
-    → rows_of m.engine ≡ config.buffer → HasSizes config m
-first_sizes config m fresh rows = record { pack = ap (λ (p : Public). p.pack) fresh; buffer = ap (λ (p : Public). p.buffer) fresh; rows = rows }

@@ -1,10 +1,17 @@
 pub mod GeneratingLemmas
 pub mod CompleteLemmas
+pub mod EngageLemmas
 pub mod CountLemmas
 pub mod FeedLemmas
+pub mod FewLemmas
+pub mod KeepLemmas
+pub mod KeepRunLemmas
+pub mod KeptGenLemmas
+pub mod KeptLemmas
 pub mod KeyLemmas
 pub mod RunLemmas
 pub mod ServeLemmas
+pub mod SessionLemmas
 pub mod StepLemmas
 pub mod TallyLemmas
 pub mod TextLemmas
@@ -13,6 +20,7 @@ pub mod TopLemmas
 pub mod TraceLemmas
 pub mod ReplayLemmas
 pub mod LastingLemmas
+pub mod BaseLemmas
 pub mod CalmLemmas
 pub mod FailureLemmas
 pub mod PieceLemmas

@@ -1,5 +1,5 @@
 -- What the changes of a store do to a run.
-use Rattle.std.proofs.Common.{◌≡◌, ◌≢◌, ◌+◌, ℕ, Bool, true, false, not, IsTrue, List, [], ◌∷◌, length, Option, None, Some, Ok, Err, refl, sym, ◌∙◌, ap, subst, arith}
+use Rattle.std.proofs.Common.{◌≡◌, ◌≢◌, ◌+◌, ℕ, Bool, true, false, not, IsSome, IsTrue, List, [], ◌∷◌, length, Option, None, Some, Ok, Err, refl, sym, ◌∙◌, ap, subst, arith}
 use Rattle.std.specs.List.{list_all}
 use Rattle.std.specs.Prelude.{nat_lt, ⊤}
 use Rattle.std.proofs.lemmas.List.Folds.{list_all-map}
@@ -7,6 +7,7 @@ use Rattle.ob_base.specs.declared.access.Access.{Access}
 use Rattle.ob_base.specs.declared.config.Config.{Config}
 use Rattle.ob_base.specs.declared.refusal.Stop.TheVariants.{Tampered, SourceFault, SinkFault, NoMemory, InputLimit}
 use Rattle.clap.specs.Words.{Text}
+use Rattle.ob_meddle.specs.Acts.{rests_of}
 use Rattle.ob_meddle.specs.Due.{are_later, disturbance_of, disturbances, failed_among, has_acted, is_fail}
 use Rattle.ob_meddle.specs.Fresh.{fresh_live, honest_start}
 use Rattle.ob_meddle.specs.Shows.{Shows, list_of, state_of}
@@ -14,6 +15,7 @@ use Rattle.ob_meddle.specs.declared.meddle.Meddle.{Meddle}
 use Rattle.ob_meddle.specs.declared.store.MeddledStore.{MeddledStore}
 use Rattle.ob_meddle.proofs.ShowLemmas.{list_same, shows}
 use Rattle.ob_meddle.proofs.DueLemmas.{acted_later, all_later}
+use Rattle.ob_shell.specs.Bases.{fresh}
 use Rattle.ob_shell.specs.Endings.{status_of}
 use Rattle.ob_shell.specs.Failures.{RisesBy, failures}
 use Rattle.ob_shell.specs.Generating.{RanGenerated, MeddleRan, MeddleSummarized}
@@ -82,7 +84,7 @@ no_lie_by list s show none = go s.lie refl where
   go (Some lie) is = absurd (cc (show.caused lie is, acted_later list (length lie.before + 1) (length s.asked) (omega (arith, show.asked lie is)) none))
 
 module _ {tally : Tally} {tr : TraceSink} {Takes : Type 0} {settings : Option Config} {gave : ℕ} {l0 l1 w0 w1 : Option (List ℕ)} {s0 s1 : StoreState} {old new : Faults} {report : Report}
-    (r : Reported tally tr Takes settings l0 l1 gave w0 w1 s0 s1 old new report) where
+    (r : Reported tally tr Takes (fresh settings) l0 l1 gave w0 w1 s0 s1 old new report) where
   pub honest_status : IsHonest s0 s1 → report.status ≢ 4
   honest_status honest is = status_not r.ending (r.shown.carried.untampered honest) (sym r.status ∙ is)
 
@@ -96,31 +98,34 @@ module _ {tally : Tally} {tr : TraceSink} {Takes : Type 0} {settings : Option Co
       }
 
 pub meddled : {tally : Tally} {words : List Text} {gave0 gave : ℕ} {l0 l1 w0 w1 t0 t1 : Option (List ℕ)} {old new : Faults} {report : Report}
-    (m0 m1 : MeddledStore) (config : Config) (list : List Meddle) → ParsesChanges words config list → list_of m0 ≡ list → (state_of m0).asked ≡ []
-    → Reported tally (sink_of (is_traced meddle_usage words) t0 t1) ⊤ (Some config) l0 l1 gave w0 w1 (state_of m0) (state_of m1) old new report
+    (m0 m1 : MeddledStore) (config : Config) (list : List Meddle) → ParsesChanges words config list → list_of m0 ≡ list → (state_of m0).asked ≡ [] → (state_of m0).disturbed ≡ disturbances list
+    → Reported tally (sink_of (is_traced meddle_usage words) t0 t1) ⊤ (fresh (Some config)) l0 l1 gave w0 w1 (state_of m0) (state_of m1) old new report
     → Traced (is_traced meddle_usage words) (state_of m0).asked (state_of m1).asked t0 t1 (SinksRose old new)
     → Meddled words (λ start. outside_of l0 gave0 w0 t0 start old) (outside_of l1 gave w1 t1 (state_of m1) new) m1 report
-meddled {tally = tally} {words = words} {gave0 = gave0} {gave = gave} {l0 = l0} {l1 = l1} {w0 = w0} {w1 = w1} {t0 = t0} {t1 = t1} {old = old} {new = new} {report = report} m0 m1 config list parses same none served traced =
+meddled {tally = tally} {words = words} {gave0 = gave0} {gave = gave} {l0 = l0} {l1 = l1} {w0 = w0} {w1 = w1} {t0 = t0} {t1 = t1} {old = old} {new = new} {report = report} m0 m1 config list parses same none told served traced =
     let s0 = state_of m0 in
     let s1 = state_of m1 in
     let settings = settings_of meddle_usage words in
-    let r : Reported tally (sink_of (is_traced meddle_usage words) t0 t1) (MeddleParses words) settings l0 l1 gave w0 w1 s0 s1 old new report =
+    let r : Reported tally (sink_of (is_traced meddle_usage words) t0 t1) (MeddleParses words) (fresh settings) l0 l1 gave w0 w1 s0 s1 old new report =
     reported_taken (config, list, parses) parses.settings.settings served in
     let later = r.shown.carried.later in
     let here = list_of m1 in
-    let there = shows m1 in
+    let told_first : IsSome s0.disturbed = subst (λ (o : Option (List Disturbance)). IsSome o) (sym told) refl in
+    let told_last : IsSome s1.disturbed = subst (λ (o : Option (List Disturbance)). IsSome o) (sym later.disturbed) told_first in
+    let first : Shows (list_of m0) s0 = shows m0 told_first in
+    let there : Shows here s1 = shows m1 told_last in
     let changes : s0.disturbed ≡ disturbances here = sym later.disturbed ∙ there.disturbed in
-    let kept : list ≡ here = sym same ∙ list_same (list_of m0) here (sym (shows m0).disturbed ∙ changes) in
-    let counted = (shows m0).counted ∙ ap (λ (l : List Access). failed_among (list_of m0) (length l)) none ∙ failed_none (list_of m0) in
+    let kept : list ≡ here = sym same ∙ list_same (list_of m0) here (sym first.disturbed ∙ changes) in
+    let counted = first.counted ∙ ap (λ (l : List Access). failed_among (list_of m0) (length l)) none ∙ failed_none (list_of m0) in
     let faults : s0.faults ≡ 0 = omega (arith, counted) in
     let before : (n : ℕ) → are_later here n ≡ true → IsBefore s0.disturbed n = λ n after. subst (λ (o : Option (List Disturbance)). IsBefore o n) (sym changes) (before_of here n after) in
     let honest : s0.lie ≡ None = honest_start m0.caught (asked_of m0.log) m0.early none in
     let steady : IsSteady s0 = record {
-      quiet = λ before. (shows m0).quiet (all_later (list_of m0) (length s0.asked) (subst (λ (o : Option (List Disturbance)). IsBefore o (length s0.asked)) (shows m0).disturbed before));
+      quiet = λ before. first.quiet (all_later (list_of m0) (length s0.asked) (subst (λ (o : Option (List Disturbance)). IsBefore o (length s0.asked)) first.disturbed before));
       lied = λ lie is. absurd (cc (is, honest));
     } in
-    let h : Headline (MeddleParses words) settings (is_traced meddle_usage words) (outside_of l0 gave0 w0 t0 s0 old) (outside_of l1 gave w1 t1 s1 new) report =
-    headlined (MeddleParses words) settings (is_traced meddle_usage words) (outside_of l0 gave0 w0 t0 s0 old) (outside_of l1 gave w1 t1 s1 new) report none r traced in
+    let h : Headline (fresh settings) (MeddleParses words) (is_traced meddle_usage words) (outside_of l0 gave0 w0 t0 s0 old) (outside_of l1 gave w1 t1 s1 new) report =
+    headlined (MeddleParses words) (fresh settings) (is_traced meddle_usage words) (outside_of l0 gave0 w0 t0 s0 old) (outside_of l1 gave w1 t1 s1 new) report none r traced in
     record {
       config = config;
       words_are = subst (λ (l : List Meddle). ParsesChanges words config l) kept parses;
@@ -129,7 +134,7 @@ meddled {tally = tally} {words = words} {gave0 = gave0} {gave = gave} {l0 = l0} 
         fresh = record {
           unasked = none;
           honest = honest;
-          empty = λ q. fresh_live (asked_of m0.log) m0.regions m0.fresh none q;
+          empty = λ q. fresh_live (asked_of m0.log) m0.usable m0.fresh none q (rests_of m0.regions q);
         };
         tells = refl;
         changes = changes;
@@ -154,17 +159,17 @@ meddled {tally = tally} {words = words} {gave0 = gave0} {gave = gave} {l0 = l0} 
 
 -- the same over the generated text
 pub meddle_summarized : {words : List Text} {seed : Seed} {t0 t1 w0 w1 l : Option (List ℕ)} {gave trace0 trace1 out0 out1 : ℕ} {report : Report} (source : ℕ) (m0 m1 : MeddledStore) (config : Config) (list : List Meddle)
-    → ParsesChanges words config list → list_of m0 ≡ list → (state_of m0).asked ≡ []
+    → ParsesChanges words config list → list_of m0 ≡ list → (state_of m0).asked ≡ [] → (state_of m0).disturbed ≡ disturbances list
     → RanGenerated seed (is_traced meddle_usage words) (Some config) t0 t1 (state_of m0) (state_of m1) trace0 trace1 w0 w1 out0 out1 report
     → MeddleSummarized words seed (λ start. outside_of l gave w0 t0 start (faults_of source out0 trace0)) (outside_of l gave w1 t1 (state_of m1) (faults_of source out1 trace1)) m1 report
 unfolding meddled headlined reported_taken
-meddle_summarized {words = words} source m0 m1 config list parses same none a =
+meddle_summarized {words = words} source m0 m1 config list parses same none told a =
     let takes : MeddleParses words = (config, list, parses) in
     record {
       run = a.run;
       left = a.left;
       gave = a.gave;
-      meddled = meddled m0 m1 config list parses same none a.reported a.traces;
+      meddled = meddled m0 m1 config list parses same none told a.reported a.traces;
       unread = record { left = refl; gave = refl; source = refl };
       tally = a.tally;
       counted = (reported_taken takes parses.settings.settings a.reported).shown.counted;

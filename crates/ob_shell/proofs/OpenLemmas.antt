@@ -6,13 +6,10 @@ use Rattle.ob_base.specs.declared.access.Access.{Access}
 use Rattle.ob_base.specs.declared.refusal.Stop.{Stop}
 use Rattle.ob_exec.specs.Opening.{is_of_rows, Opens}
 use Rattle.ob_shell.specs.Running.{LastPart}
+use Rattle.ob_shell.specs.Standing.{IsUsed}
 use Rattle.ob_shell.specs.Steps.{Machine, Step, Steps}
 use Rattle.ob_vault.specs.State.{RevState}
 use Rattle.ob_shell.specs.Words.{Answer}
-
--- where a block was read or written, at least one row was open
-abbrev pub IsUsed : List Access → ℕ → Type 0
-IsUsed asked high = IsTrue (list_any is_of_rows asked) → 1 ≤ high
 
 either : (a b : Bool) (old new : ℕ) → old ≤ new → (IsTrue a → 1 ≤ old) → (IsTrue b → 1 ≤ new) → IsTrue (a || b) → 1 ≤ new
 either true b old new kept used some any = let least = used refl in omega (arith, least, kept)
@@ -50,7 +47,5 @@ module _ {R : Type 0} (state : R → RevState) where
 
   -- of the texts that were served, and what was done after them
   pub session_opens : (m0 m1 m2 : Machine R) (texts more : List (List ℕ)) (answers : List Answer) (part : List ℕ) (result : Result Bool Stop)
-      → m0.store.asked ≡ [] → Steps state m0 m1 texts answers → LastPart state m1 m2 more part result → Used m2
-  session_opens m0 m1 m2 texts more answers part result none steps last =
-      last_opens m1 m2 more part result last (steps_open m0 m1 texts answers steps
-      (λ any. let some : IsTrue (list_any is_of_rows []) = subst (λ (asked : List Access). IsTrue (list_any is_of_rows asked)) none any in absurd (cc some)))
+      → Used m0 → Steps state m0 m1 texts answers → LastPart state m1 m2 more part result → Used m2
+  session_opens m0 m1 m2 texts more answers part result used steps last = last_opens m1 m2 more part result last (steps_open m0 m1 texts answers steps used)

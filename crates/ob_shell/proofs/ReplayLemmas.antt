@@ -1,6 +1,7 @@
 -- One statement that was answered or cut off, by its meaning.
-use Rattle.std.proofs.Common.{◌≡◌, ◌⊎◌, inl, inr, ◌+◌, ◌≤◌, ℕ, Bool, true, false, List, length, Option, Some, None, Result, refl, sym, ◌∙◌, ap, subst, arith}
+use Rattle.std.proofs.Common.{◌≡◌, ◌⊎◌, inl, inr, ◌+◌, ◌≤◌, ℕ, Bool, true, false, List, ◌++◌, length, Option, Some, None, Result, refl, sym, ◌∙◌, ap, subst, arith}
 use Rattle.std.proofs.lemmas.List.{length-append}
+use Rattle.ob_base.specs.declared.access.Access.{Access}
 use Rattle.ob_base.specs.declared.refusal.Refusal.{Refusal}
 use Rattle.ob_base.specs.declared.refusal.Stop.{Stop}
 use Rattle.ob_base.specs.Refusals.{is_store_fault}
@@ -9,7 +10,7 @@ use Rattle.ob_base.specs.declared.refusal.Refusal.TheVariants.{StoreFault}
 use Rattle.ob_base.specs.declared.schema.Heading.{Heading}
 use Rattle.ob_base.specs.declared.seen.Seen.{Seen}
 use Rattle.ob_base.specs.declared.seen.End.TheVariants.{Cut}
-use Rattle.ob_exec.specs.Agreeing.{public_of, seen_of}
+use Rattle.ob_exec.specs.Agreeing.{engine_start, public_of, seen_of}
 use Rattle.ob_exec.specs.Refusals.{by_fault}
 use Rattle.ob_exec.specs.Running.{RefusedEarly, is_fault}
 use Rattle.ob_exec.specs.Telling.{Represents}
@@ -22,13 +23,13 @@ use Rattle.ob_mean.specs.Replay.{after, cut_at, seen_now, seen_or_cut}
 use Rattle.ob_mean.specs.Verdict.{Tables, is_late}
 use Rattle.ob_script.specs.Script.{script, whole_script}
 use Rattle.ob_script.specs.Trace.{next}
-use Rattle.ob_shell.specs.Steps.{Machine, Does, Misspelt, Served, session_of}
+use Rattle.ob_shell.specs.Steps.{Machine, Does, Misspelt, Served, asked_of, session_of}
 use Rattle.ob_shell.proofs.CutLemmas.{cut_shorter}
 use Rattle.ob_sql.specs.Skeleton.{skeleton}
 use Rattle.ob_sql.specs.declared.stmt.Stmt.{Stmt}
 use Rattle.ob_store.specs.Runs.{Later}
 use Rattle.ob_store.specs.State.{Lie, StoreState}
-use Rattle.ob_vault.specs.State.{RevState}
+use Rattle.ob_vault.specs.State.{RevState, earlier}
 use Rattle.ob_shell.specs.Words.{Answer}
 
 -- ---- an answer is none by the store, or the store's
@@ -71,6 +72,10 @@ step_goes {R} state m0 m1 text answer (inl bad) = record { tells = ap (λ (m : M
 step_goes state m0 m1 text answer (inr did) = record { tells = did.does.ran.later.tells; lie = no_lie m0.store.lie m0.store m1.store refl did.does.ran.later }
 
 -- ---- the session after a statement
+-- what was asked counts on
+pub counts_on : {R : Type 0} (m0 m1 : Machine R) (part : List Access) → engine_start m1.engine ≡ engine_start m0.engine → m1.store.asked ≡ m0.store.asked ++ part → asked_of m1 ≡ asked_of m0 + length part
+counts_on m0 m1 part start grew = omega (arith, ap earlier start, ap length grew, length-append m0.store.asked part)
+
 pub stands_after : {R : Type 0} (state : R → RevState) (m0 m1 : Machine R) (tables : Tables) (text : List ℕ) (one : Answer) (did : Served state m0 m1 text one) (how : Option ℕ) (after_it : Tables)
     → seen_of m1.engine ≡ seen_or_cut how (session_of m0 tables) did.stmt → (after how (session_of m0 tables) did.stmt).tables ≡ after_it
     → after how (session_of m0 tables) did.stmt ≡ session_of m1 after_it
@@ -78,8 +83,8 @@ stands_after state m0 m1 tables text one did how after_it seen_is settles =
     let p = public_of m0.engine in
     let sk = skeleton did.stmt in
     let public_is : next p sk (seen_or_cut how (session_of m0 tables) did.stmt) ≡ public_of m1.engine = ap (next p sk) (sym seen_is) ∙ sym did.does.ran.goes_on.public in
-    let asked_is : length m0.store.asked + length (script p sk (seen_or_cut how (session_of m0 tables) did.stmt)) ≡ length m1.store.asked =
-    ap (λ (x : Seen). length m0.store.asked + length (script p sk x)) (sym seen_is) ∙ sym (length-append m0.store.asked (script p sk (seen_of m1.engine))) ∙ ap length (sym did.does.ran.asked) in
+    let asked_is : asked_of m0 + length (script p sk (seen_or_cut how (session_of m0 tables) did.stmt)) ≡ asked_of m1 =
+    ap (λ (x : Seen). asked_of m0 + length (script p sk x)) (sym seen_is) ∙ sym (counts_on m0 m1 (script p sk (seen_of m1.engine)) did.does.ran.start did.does.ran.asked) in
     λ i. record { public = public_is i; tables = settles i; asked = asked_is i }
 
 -- ---- a statement that was cut off wasn't refused before its first access, and no more than all of it was asked
@@ -100,7 +105,7 @@ module _ {R : Type 0} (state : R → RevState) (m0 m1 : Machine R) (tables : Tab
       omega (arith, most, less)
 
   pub cut_early : Represents state m0.engine m0.store tables
-      → early_refusal (is_late (length m0.store.asked)) (public_of m0.engine).pack (public_of m0.engine).buffer (headings tables) stmt ≡ None
+      → early_refusal (is_late (asked_of m0)) (public_of m0.engine).pack (public_of m0.engine).buffer (headings tables) stmt ≡ None
   cut_early held =
-      ap (λ (hs : List Heading). early_refusal (is_late (length m0.store.asked)) (public_of m0.engine).pack (public_of m0.engine).buffer hs stmt) (held_headings _ _ tables _ held.held)
+      ap (λ (hs : List Heading). early_refusal (is_late (asked_of m0)) (public_of m0.engine).pack (public_of m0.engine).buffer hs stmt) (held_headings _ _ tables _ held.held)
       ∙ not_refused _ result (seen_of m1.engine) n does.early (ap (λ (x : Seen). x.end) seen_is)

@@ -20,12 +20,13 @@ use Rattle.ob_mean.specs.Lawful.{EndsUncounted, Holds, IsCount, Lawful, is_count
 use Rattle.ob_mean.specs.Replay.{Spelt}
 use Rattle.ob_script.specs.Script.{script}
 use Rattle.ob_script.specs.Trace.{Served as Entry, next, trace}
+use Rattle.ob_shell.specs.Bases.{Base, fresh, public_with}
 use Rattle.ob_shell.specs.Endings.{status_of}
 use Rattle.ob_shell.specs.Failures.{failures, outcome_failures}
 use Rattle.ob_shell.specs.Reruns.{Alike, EndsWell, IsPlain, ShellRun, ShowAlike, any_counted, plainly, seen_plainly, statements}
-use Rattle.ob_shell.specs.Settings.{settings_of}
+use Rattle.ob_shell.specs.Settings.{IsTaken, limit_of, settings_of}
 use Rattle.ob_shell.specs.Usage.{usage}
-use Rattle.ob_shell.specs.Words.{Answer, AreSeen, Because, Outside, SpellFirst, is_cut, public_with}
+use Rattle.ob_shell.specs.Words.{Answer, AreSeen, Because, Outside, SpellFirst, is_cut}
 use Rattle.ob_shell.specs.declared.top.Ending.{Ending}
 use Rattle.ob_shell.specs.declared.top.Ending.TheVariants.{Usage, BadKey, Ran}
 use Rattle.ob_shell.specs.declared.top.Report.{Report}
@@ -168,21 +169,21 @@ spell_few (text ∷ texts) [] spells = omega arith
 spell_few [] (x ∷ spelt) spells = absurd spells
 spell_few (text ∷ texts) (x ∷ spelt) spells = let few = spell_few texts spelt spells.1 in omega (arith, few)
 
-no_more : (status : ℕ) (ending : Ending) (Takes : Type 0) (max : ℕ) (taken : List ℕ) (at_end : Bool) (more : List (List ℕ)) (answers : List Answer) (part : List ℕ) (old new : Outside)
-    → status ≡ status_of ending → status ≤ 1 → Because ending Takes max taken at_end more answers part old new → more ≡ []
-no_more status Usage Takes max taken at_end more answers part old new is few why = absurd (omega (arith, is, few))
-no_more status BadKey Takes max taken at_end more answers part old new is few why = absurd (omega (arith, is, few))
-no_more status (Ran (Ok flag)) Takes max taken at_end more answers part old new is few why = why.2.all.no_more
-no_more status (Ran (Err (Stops.Tampered q x))) Takes max taken at_end more answers part old new is few why = absurd (omega (arith, is, few))
-no_more status (Ran (Err Stops.SourceFault)) Takes max taken at_end more answers part old new is few why = absurd (omega (arith, is, few))
-no_more status (Ran (Err Stops.SinkFault)) Takes max taken at_end more answers part old new is few why = absurd (omega (arith, is, few))
-no_more status (Ran (Err Stops.NoMemory)) Takes max taken at_end more answers part old new is few why = absurd (omega (arith, is, few))
-no_more status (Ran (Err Stops.InputLimit)) Takes max taken at_end more answers part old new is few why = absurd (omega (arith, is, few))
+no_more : (base : Base) (status : ℕ) (ending : Ending) (Takes : Type 0) (max : ℕ) (taken : List ℕ) (at_end : Bool) (more : List (List ℕ)) (answers : List Answer) (part : List ℕ) (old new : Outside)
+    → status ≡ status_of ending → status ≤ 1 → Because base ending Takes max taken at_end more answers part old new → more ≡ []
+no_more base status Usage Takes max taken at_end more answers part old new is few why = absurd (omega (arith, is, few))
+no_more base status BadKey Takes max taken at_end more answers part old new is few why = absurd (omega (arith, is, few))
+no_more base status (Ran (Ok flag)) Takes max taken at_end more answers part old new is few why = why.2.all.no_more
+no_more base status (Ran (Err (Stops.Tampered q x))) Takes max taken at_end more answers part old new is few why = absurd (omega (arith, is, few))
+no_more base status (Ran (Err Stops.SourceFault)) Takes max taken at_end more answers part old new is few why = absurd (omega (arith, is, few))
+no_more base status (Ran (Err Stops.SinkFault)) Takes max taken at_end more answers part old new is few why = absurd (omega (arith, is, few))
+no_more base status (Ran (Err Stops.NoMemory)) Takes max taken at_end more answers part old new is few why = absurd (omega (arith, is, few))
+no_more base status (Ran (Err Stops.InputLimit)) Takes max taken at_end more answers part old new is few why = absurd (omega (arith, is, few))
 
 module _ (words : List Text) (old new : Outside) (report : Report) (a : ShellRun words old new report) (well : EndsWell report.status (failures a.answers)) where
   answered_all : length a.answers ≡ length a.spelt
   answered_all =
-      let none : a.more ≡ [] = no_more report.status a.ending _ _ a.taken a.ended a.more a.answers a.part old new a.status well.ended a.because in
+      let none : a.more ≡ [] = no_more (fresh (settings_of usage words)) report.status a.ending (IsTaken usage words) (limit_of (settings_of usage words)) a.taken a.ended a.more a.answers a.part old new a.status well.ended a.because in
       let few : length a.spelt ≤ length a.served =
       subst (λ (ts : List (List ℕ)). length a.spelt ≤ length ts) (ap (λ (ts : List (List ℕ)). a.served ++ ts) none ∙ append-nil a.served) (spell_few (a.served ++ a.more) a.spelt a.spells) in
       omega (arith, few, a.reached, a.each)

@@ -50,7 +50,7 @@ took_of {w0 = w0} {w1 = w1} c not = elim c.all [
 ]
 
 -- ---- what the trace took
-traces_all : {on : Bool} {t0 t1 : Option (List ℕ)} {a0 a1 : List Access} → TracedAll on a0 a1 t0 t1 → Traces on t0 t1 a0 a1
+pub traces_all : {on : Bool} {t0 t1 : Option (List ℕ)} {a0 a1 : List Access} → TracedAll on a0 a1 t0 t1 → Traces on t0 t1 a0 a1
 traces_all {on = on} {t0 = t0} {t1 = t1} {a0 = a0} all = record {
   whole = λ asked is. took_whole (subst (λ (l : List Access). Appends t0 t1 (traced on l)) (append_cancel_left a0 all.seen asked (sym all.grew ∙ is)) all.appends);
 }

@@ -12,7 +12,7 @@ use Rattle.ob_base.specs.declared.refusal.Stop.{Stop}
 use Rattle.ob_base.specs.declared.refusal.Stop.TheVariants.{InputLimit, NoMemory, SinkFault, SourceFault, Tampered}
 use Rattle.ob_base.specs.declared.seen.End.{End}
 use Rattle.ob_base.specs.declared.seen.Seen.{Seen}
-use Rattle.ob_exec.specs.Agreeing.{public_of, seen_of, world_of}
+use Rattle.ob_exec.specs.Agreeing.{engine_start, opened_from, public_of, seen_of, world_of}
 use Rattle.ob_exec.specs.Memory.{AtMake}
 use Rattle.ob_exec.specs.Refusals.{by_fault, refused_end}
 use Rattle.ob_exec.specs.Running.{Emits, RefusedEarly, RunCause, is_fault, outcome_end, refusal_now}
@@ -20,28 +20,29 @@ use Rattle.ob_exec.specs.Telling.{IsNotTampered, meant_script, ReadsTrue, ReadsT
 use Rattle.ob_exec.specs.declared.outcome.Outcome.{Outcome}
 use Rattle.ob_exec.specs.declared.outcome.Outcome.TheVariants.{Created, Inserted, Changed, Deleted, Dropped, Rows, Refused}
 use Rattle.ob_exec.proofs.EmitLemmas.{unfit_none}
-use Rattle.ob_mean.specs.Replay.{Broken, IsCutOff, Session, Spelt, after, all_served, seen_now, seen_or_cut}
+use Rattle.ob_mean.specs.Replay.{Broken, IsCutOff, Session, Spelt, after, after_all, all_served, seen_now, seen_or_cut}
 use Rattle.ob_mean.specs.Verdict.{Tables}
 use Rattle.ob_print.specs.Rows.{events_text}
 use Rattle.ob_script.specs.Script.{script, whole_script}
-use Rattle.ob_script.specs.Trace.{Served as Entry, next, trace}
+use Rattle.ob_script.specs.Trace.{Served as Entry, after_all as all_public, next, trace}
 use Rattle.ob_shell.specs.Disturbed.{MeantUntil}
 use Rattle.ob_shell.specs.Endings.{IsSinkFault}
 use Rattle.ob_shell.specs.Closing.{closing_line}
 use Rattle.ob_shell.specs.Running.{LastPart}
-use Rattle.ob_shell.specs.Steps.{CutStep, Does, IsUntampered, Machine, Misspelt, Served, Steps, session_of}
+use Rattle.ob_shell.specs.Steps.{CutStep, Does, IsUntampered, Machine, Misspelt, Served, Steps, asked_of, session_of}
 use Rattle.ob_shell.specs.Top.{EndsUntampered}
 use Rattle.ob_shell.specs.Words.{Answer, Answers, AnswersIn, AreSeen, Begins, BeginsAnswer, Says, SpellFirst, WantsMemory, any_cut, is_cut, refused_at}
 use Rattle.ob_shell.specs.declared.top.Ending.{Ending}
-use Rattle.ob_shell.specs.declared.top.Ending.TheVariants.{Ran}
+use Rattle.ob_shell.specs.declared.top.Ending.TheVariants.{Usage, BadKey, Ran}
 use Rattle.ob_shell.proofs.DisturbLemmas.{before_less, begins_more, crosses, few_or_more, take_begins}
-use Rattle.ob_shell.proofs.ReplayLemmas.{fault_is, cut_early, cut_within, outcome_cases, stands_after}
+use Rattle.ob_shell.proofs.ReplayLemmas.{counts_on, fault_is, cut_early, cut_within, outcome_cases, stands_after}
+use Rattle.ob_seal.specs.KeySet.{KeySet}
 use Rattle.ob_sql.specs.Skeleton.{skeleton}
 use Rattle.ob_sql.specs.declared.stmt.Stmt.{Stmt}
 use Rattle.ob_store.specs.Calls.{IsBefore, IsSteady}
 use Rattle.ob_store.specs.State.{Disturbance, Lie}
-use Rattle.ob_vault.specs.State.{RevState, World}
-use Rattle.ob_vault.specs.Tied.{Calm, IsUnfit}
+use Rattle.ob_vault.specs.State.{RevState, Start, World}
+use Rattle.ob_vault.specs.Tied.{Calm, Fits, IsUnfit}
 
 -- ---- a statement is cut off exactly where the store failed it
 refused_cut : (r : Refusal) (n : ℕ) → is_cut (refused_end r n) ≡ is_store_fault r
@@ -105,6 +106,13 @@ or_rest : (a b : Bool) → (a || b) ≡ false → b ≡ false
 or_rest true b is = absurd (cc is)
 or_rest false b is = is
 
+-- the input was read to its end
+abbrev pub EndsWhole : Ending → Type 0
+EndsWhole Usage = ⊥
+EndsWhole BadKey = ⊥
+EndsWhole (Ran (Ok refused)) = Unit {0}
+EndsWhole (Ran (Err stop)) = ⊥
+
 -- ---- the walk
 module _ {R : Type 0} (state : R → RevState) where
   abbrev pub world : Machine R → World
@@ -142,7 +150,7 @@ module _ {R : Type 0} (state : R → RevState) where
   unfolding MeantUntil
   early_one m0 m2 tables stmt result n seen does tells steady held before few =
       let cross = crosses state m0 m2 tables stmt result does tells steady held n before few in
-      let all = meant_script (public_of m0.engine) (length m0.store.asked) tables stmt in
+      let all = meant_script (public_of m0.engine) (asked_of m0) tables stmt in
       let same : all ++ [] ≡ all = append-nil all in
       record {
         meant = tt;
@@ -160,14 +168,18 @@ module _ {R : Type 0} (state : R → RevState) where
     pub seen : List Entry
     pub last : List Entry
     pub one_last : length last ≤ 1
-    pub lawful : AreSeen ending (public_of m0.engine) (length m0.store.asked) spelt answers (seen ++ last)
+    pub lawful : AreSeen ending (public_of m0.engine) (asked_of m0) spelt answers (seen ++ last)
     pub passed : m1.store.asked ≡ m0.store.asked ++ trace (public_of m0.engine) seen
     pub asked : m2.store.asked ≡ m0.store.asked ++ trace (public_of m0.engine) (seen ++ last)
     pub keys : m2.engine.vault.keys ≡ m0.engine.vault.keys
+    pub start : engine_start m2.engine ≡ engine_start m0.engine
+    pub from_closing : opened_from m2.engine ≡ opened_from m0.engine
+    pub public : public_of m1.engine ≡ all_public (public_of m0.engine) seen
     pub unfailed : any_cut (seen ++ last) ≡ false → m2.store.faults ≡ m0.store.faults
     pub lie : (lie : Lie) → m0.store.lie ≡ Some lie → m2.store.lie ≡ Some lie
     pub meant : IsTrue m0.store.tells → Calm (world m0) → IsUnfit (world m2) → (tables : Tables) → Represents state m0.engine m0.store tables
         → (broken : Broken) × Answers ending (session_of m0 tables) spelt broken answers (seen ++ last) part
+        × (EndsWhole ending → Represents state m2.engine m2.store (after_all (session_of m0 tables) spelt broken).tables)
     pub untampered : IsTrue m0.store.tells → (tables : Tables) → Represents state m0.engine m0.store tables → m2.store.lie ≡ None → EndsUntampered ending
     pub early : IsTrue m0.store.tells → IsSteady m0.store → (tables : Tables) → Represents state m0.engine m0.store tables → (n : ℕ) → IsBefore m0.store.disturbed n → length m0.store.asked ≤ n
         → EarlyFrom n (session_of m0 tables) m0.store.asked m2.store.asked spelt answers (seen ++ last)
@@ -188,9 +200,12 @@ module _ {R : Type 0} (state : R → RevState) where
     passed = sym (append-nil m0.store.asked);
     asked = ap (λ (m : Machine R). m.store.asked) same ∙ sym (append-nil m0.store.asked);
     keys = ap (λ (m : Machine R). m.engine.vault.keys) same;
+    start = ap (λ (m : Machine R). engine_start m.engine) same;
+    from_closing = ap (λ (m : Machine R). opened_from m.engine) same;
+    public = refl;
     unfailed = λ not. ap (λ (m : Machine R). m.store.faults) same;
     lie = λ lie is. ap (λ (m : Machine R). m.store.lie) same ∙ is;
-    meant = λ tells calm unfit tables held. ([], (refl, none));
+    meant = λ tells calm unfit tables held. ([], (refl, none), λ whole. subst (λ (m : Machine R). Represents state m.engine m.store tables) (sym same) held);
     untampered = λ tells tables held honest. fine;
     early = λ tells steady tables held n before few. early_none n (session_of m0 tables) m0.store.asked m2.store.asked [] (ap (λ (m : Machine R). m.store.asked) same) few;
   }
@@ -246,9 +261,12 @@ module _ {R : Type 0} (state : R → RevState) where
         passed = sym (append-nil m0.store.asked);
         asked = cut.does.ran.asked ∙ ap (λ xs. m0.store.asked ++ xs) (sym (append-nil (script (public_of m0.engine) sk here)));
         keys = cut.does.ran.keys;
+        start = cut.does.ran.start;
+        from_closing = cut.does.ran.from_closing;
+        public = refl;
         unfailed = λ not. absurd (cc (ap is_cut cut.does.ran.ends, or_first (is_cut here.end) false not));
         lie = cut.does.ran.later.lie;
-        meant = λ tells calm unfit tables held. ([], stopped_part m0 m2 tables text stop part cut (record { tells = tells; held = held; calm = calm; unfit = unfit }));
+        meant = λ tells calm unfit tables held. ([], stopped_part m0 m2 tables text stop part cut (record { tells = tells; held = held; calm = calm; unfit = unfit }), λ whole. absurd whole);
         untampered = λ tells tables held honest. stop_untampered stop (cut.does.means.honest tables (record { tells = tells; held = held; nolie = honest }));
         early = λ tells steady tables held n before few. early_one m0 m2 tables cut.stmt (Err stop) n _ cut.does tells steady held before few;
       }
@@ -313,11 +331,14 @@ module _ {R : Type 0} (state : R → RevState) where
         passed = sym (append-nil m0.store.asked);
         asked = did.does.ran.asked ∙ ap (λ xs. m0.store.asked ++ xs) (sym (append-nil (script (public_of m0.engine) sk here)));
         keys = did.does.ran.keys;
+        start = did.does.ran.start;
+        from_closing = did.does.ran.from_closing;
+        public = refl;
         unfailed = λ not. same_by one.outcome (world m0) (world m2) here.end _ did.does.ran.cause did.does.ran.ends (or_first (is_cut here.end) false not);
         lie = did.does.ran.later.lie;
         meant = λ tells calm unfit tables held.
             let by = answered_by m0 m2 tables text one did (reads_true m0 m2 tables text one did tells held calm unfit) in
-            ([], inr (record { broken = by.how; cuts = by.cuts; seen = by.seen; answer = one; answers = by.answer; whole = is }));
+            ([], inr (record { broken = by.how; cuts = by.cuts; seen = by.seen; answer = one; answers = by.answer; whole = is }), λ whole. absurd whole);
         untampered = λ tells tables held honest. sink_untampered stop fault;
         early = λ tells steady tables held n before few. early_one m0 m2 tables did.stmt (Ok one.outcome) n _ did.does tells steady held before few;
       }
@@ -341,9 +362,13 @@ module _ {R : Type 0} (state : R → RevState) where
     passed = sym (append-nil m0.store.asked);
     asked = ap (λ (m : Machine R). m.store.asked) bad.same ∙ sym (append-nil m0.store.asked);
     keys = ap (λ (m : Machine R). m.engine.vault.keys) bad.same;
+    start = ap (λ (m : Machine R). engine_start m.engine) bad.same;
+    from_closing = ap (λ (m : Machine R). opened_from m.engine) bad.same;
+    public = refl;
     unfailed = λ not. ap (λ (m : Machine R). m.store.faults) bad.same;
     lie = λ lie it. ap (λ (m : Machine R). m.store.lie) bad.same ∙ it;
-    meant = λ tells calm unfit tables held. ([], is ∙ ap (λ (a : Answer). a.bytes) (refused_is m0 m2 text one bad));
+    meant = λ tells calm unfit tables held.
+        ([], is ∙ ap (λ (a : Answer). a.bytes) (refused_is m0 m2 text one bad), λ whole. subst (λ (m : Machine R). Represents state m.engine m.store tables) (sym bad.same) held);
     untampered = λ tells tables held honest. fine;
     early = λ tells steady tables held n before few. early_refused n (session_of m0 tables) m0.store.asked m2.store.asked bad.at [] [] refl (early_none n (session_of m0 tables) m0.store.asked m2.store.asked [] (ap (λ (m : Machine R). m.store.asked) bad.same) few);
   }
@@ -377,9 +402,12 @@ module _ {R : Type 0} (state : R → RevState) where
         passed = rest.passed;
         asked = rest.asked;
         keys = rest.keys;
+        start = rest.start;
+        from_closing = rest.from_closing;
+        public = rest.public;
         unfailed = rest.unfailed;
         lie = rest.lie;
-        meant = λ tells calm unfit tables held. let from = rest.meant tells calm unfit tables held in (None ∷ from.0, (refused_is m0 m1 text one bad, from.1));
+        meant = λ tells calm unfit tables held. let from = rest.meant tells calm unfit tables held in (None ∷ from.0, (refused_is m0 m1 text one bad, from.1), from.2);
         untampered = rest.untampered;
         early = λ tells steady tables held n before few.
             early_answered n (session_of m0 tables) m0.store.asked m2.store.asked bad.at rest.spelt one answers (rest.seen ++ rest.last) (refused_is m0 m1 text one bad)
@@ -402,7 +430,7 @@ module _ {R : Type 0} (state : R → RevState) where
       let s = session_of m0 tables in
       let p = public_of m0.engine in
       let sk = skeleton did.stmt in
-      let part = meant_script p (length m0.store.asked) tables did.stmt in
+      let part = meant_script p (asked_of m0) tables did.stmt in
       let tail = trace (after None s did.stmt).public (all_served (after None s did.stmt) spelt []) in
       let later = did.does.ran.later in
       let asked_is : length m1.store.asked ≡ length m0.store.asked + length (script p sk (seen_of m1.engine)) = ap length did.does.ran.asked ∙ length-append m0.store.asked (script p sk (seen_of m1.engine)) in
@@ -445,8 +473,11 @@ module _ {R : Type 0} (state : R → RevState) where
   asked_more m0 m1 m text one did seen is =
       is ∙ (λ i. did.does.ran.asked i ++ trace (did.does.ran.goes_on.public i) seen) ∙ append_assoc m0.store.asked (script (public_of m0.engine) (skeleton did.stmt) (seen_of m1.engine)) _
 
-  unfit_before : (m1 m2 : Machine R) → m2.engine.vault.keys ≡ m1.engine.vault.keys → ((lie : Lie) → m1.store.lie ≡ Some lie → m2.store.lie ≡ Some lie) → IsUnfit (world m2) → IsUnfit (world m1)
-  unfit_before m1 m2 keys stays unfit = record { unfit = λ lie is fits. unfit.unfit lie (stays lie is) (rw keys fits) }
+  unfit_before : (m1 m2 : Machine R) → m2.engine.vault.keys ≡ m1.engine.vault.keys → engine_start m2.engine ≡ engine_start m1.engine → ((lie : Lie) → m1.store.lie ≡ Some lie → m2.store.lie ≡ Some lie) → IsUnfit (world m2) → IsUnfit (world m1)
+  unfit_before m1 m2 keys start stays unfit = record {
+    unfit = λ lie is fits. unfit.unfit lie (stays lie is)
+        (subst (λ (x : Start). Fits m2.engine.vault.keys x lie) (sym start) (subst (λ (k : KeySet). Fits k (engine_start m1.engine) lie) (sym keys) fits));
+  }
 
   more_served : (ending : Ending) (m0 m1 m m2 : Machine R) (text : List ℕ) (texts more : List (List ℕ)) (one : Answer) (answers : List Answer) (part : List ℕ) → Served state m0 m1 text one
       → Walked ending m1 m m2 texts more answers part → Walked ending m0 m m2 (text ∷ texts) more (one ∷ answers) part
@@ -457,7 +488,7 @@ module _ {R : Type 0} (state : R → RevState) where
       let here = seen_of m1.engine in
       let all = rest.seen ++ rest.last in
       let public_is : public_of m1.engine ≡ next p sk here = did.does.ran.goes_on.public in
-      let asked_is : length m1.store.asked ≡ length m0.store.asked + length (script p sk here) = ap length did.does.ran.asked ∙ length-append m0.store.asked (script p sk here) in
+      let asked_is : asked_of m1 ≡ asked_of m0 + length (script p sk here) = counts_on m0 m1 (script p sk here) did.does.ran.start did.does.ran.asked in
       record {
         spelt = Ok did.stmt ∷ rest.spelt;
         spells = (did.spells, rest.spells);
@@ -471,32 +502,37 @@ module _ {R : Type 0} (state : R → RevState) where
           refl,
           did.does.lawful,
           (
-            says (refusal_now p (length m0.store.asked) did.stmt) p did.stmt one here did.events did.does.early did.emits did.printed (ap is_cut did.does.ran.ends ∙ end_cut one.outcome _)
+            says (refusal_now p (asked_of m0) did.stmt) p did.stmt one here did.events did.does.early did.emits did.printed (ap is_cut did.does.ran.ends ∙ end_cut one.outcome _)
                 did.planned,
             cut_by one.outcome here.end _ did.does.ran.ends,
             did.planned,
           ),
-          subst (λ (q : Public). AreSeen ending q (length m0.store.asked + length (script p sk here)) rest.spelt answers all) public_is
+          subst (λ (q : Public). AreSeen ending q (asked_of m0 + length (script p sk here)) rest.spelt answers all) public_is
               (subst (λ (n : ℕ). AreSeen ending (public_of m1.engine) n rest.spelt answers all) asked_is rest.lawful),
         );
         passed = asked_more m0 m1 m text one did rest.seen rest.passed;
         asked = asked_more m0 m1 m2 text one did all rest.asked;
         keys = rest.keys ∙ did.does.ran.keys;
+        start = rest.start ∙ did.does.ran.start;
+        from_closing = rest.from_closing ∙ did.does.ran.from_closing;
+        public = rest.public ∙ ap (λ (q : Public). all_public q rest.seen) did.does.ran.goes_on.public;
         unfailed = λ not.
             rest.unfailed (or_rest (is_cut here.end) (any_cut all) not)
             ∙ same_by one.outcome (world m0) (world m1) here.end _ did.does.ran.cause did.does.ran.ends (or_first (is_cut here.end) (any_cut all) not);
         lie = λ lie it. rest.lie lie (did.does.ran.later.lie lie it);
         meant = λ tells calm unfit tables held.
-            let by = answered_by m0 m1 tables text one did (reads_true m0 m1 tables text one did tells held calm (unfit_before m1 m2 rest.keys rest.lie unfit)) in
+            let by = answered_by m0 m1 tables text one did (reads_true m0 m1 tables text one did tells held calm (unfit_before m1 m2 rest.keys rest.start rest.lie unfit)) in
             let after_it = (after by.how (session_of m0 tables) did.stmt).tables in
-            let from = rest.meant (subst (λ (b : Bool). IsTrue b) (sym did.does.ran.later.tells) tells) (did.does.ran.cause.1 calm) unfit after_it by.held in (
+            let from = rest.meant (subst (λ (b : Bool). IsTrue b) (sym did.does.ran.later.tells) tells) (did.does.ran.cause.1 calm) unfit after_it by.held in
+            let stands = stands_after state m0 m1 tables text one did by.how after_it by.seen refl in (
               by.how ∷ from.0,
               (
                 by.cuts,
                 by.answer,
                 by.seen,
-                subst (λ (s : Session). Answers ending s rest.spelt from.0 answers all part) (sym (stands_after state m0 m1 tables text one did by.how after_it by.seen refl)) from.1,
+                subst (λ (s : Session). Answers ending s rest.spelt from.0 answers all part) (sym stands) from.1,
               ),
+              λ whole. subst (λ (s : Session). Represents state m2.engine m2.store (after_all s rest.spelt from.0).tables) (sym stands) (from.2 whole),
             );
         untampered = λ tells tables held honest.
             let none : m1.store.lie ≡ None = none_before m1.store.lie m1 m2 refl rest.lie honest in

@@ -1,9 +1,11 @@
 -- What a command makes of the words.
-use Rattle.std.proofs.Common.{sym, ap, subst, refl, Bool, true, false, ◌≡◌, ◌∙◌, List, [], Option, Some, None, Ok, Err, Result}
+use Rattle.std.proofs.Common.{inl, inr, sym, ap, subst, refl, Bool, true, false, ◌≡◌, ◌∙◌, List, [], Option, Some, None, Ok, Err, Result}
 use Rattle.std.specs.Prelude.{IfOk, IsSome}
-use Rattle.clap.specs.Words.{AddsArg, App, Text, HasMatchesOf, app_of, rule_of, with_rule, fault_of, first_of, first_value, is_simple, is_simple_and_free, matches_of, found_of}
+use Rattle.clap.specs.Words.{AddsArg, App, HasKind, Text, HasMatchesOf, app_of, kind_of, rule_of, with_rule, fault_of, first_of, first_value, is_simple, is_simple_and_free, matches_of, found_of}
 use Rattle.clap.specs.declared.builder.arg.Arg.{Arg}
 use Rattle.clap.specs.declared.builder.command.Command.{Command}
+use Rattle.clap.specs.declared.error.Error.{Error}
+use Rattle.clap.specs.declared.error.kind.ErrorKind.TheVariants.{OutOfMemory}
 use Rattle.clap.specs.declared.parser.matches.ArgMatches.{ArgMatches}
 use Rattle.clap.proofs.WalkLemmas.{first_value-rows}
 use Rattle.ob_base.specs.declared.config.Config.{Config}
@@ -84,3 +86,7 @@ no_meddling words none taken = no_words meddle_usage words none (taken.0, taken.
 -- what has no form of changes is none that the words name
 pub no_changes : (words : List Text) → changes_of words ≡ None → ¬ MeddleParses words
 no_changes words none taken = let some = taken.2.changes in absurd (cc (none, some))
+
+-- where the words have no fault memory was wanting
+pub out_of_memory : (e : Error) → HasKind [] e → kind_of e ≡ OutOfMemory
+out_of_memory e kind = elim kind [ inl is ↦ is | inr among ↦ absurd among ]

@@ -5,7 +5,8 @@ use Rattle.ob_base.specs.declared.config.Config.{Config}
 use Rattle.ob_mean.specs.Replay.{Session, Spelt, after, all_served, seen_now}
 use Rattle.ob_script.specs.Script.{script}
 use Rattle.ob_script.specs.Trace.{Served, trace}
-use Rattle.ob_shell.specs.Words.{Answer, AnswersIn, Begins, public_with, refused_at, start}
+use Rattle.ob_shell.specs.Bases.{public_with, start}
+use Rattle.ob_shell.specs.Words.{Answer, AnswersIn, Begins, refused_at}
 use Rattle.ob_sql.specs.Skeleton.{skeleton}
 
 -- the accesses of these statements by their meaning, from no tables, where no call fails

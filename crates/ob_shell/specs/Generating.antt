@@ -11,6 +11,7 @@ use Rattle.ob_gen.specs.SummaryText.{summary_of, summary_text}
 use Rattle.ob_gen.specs.declared.tally.Tally.{Tally}
 use Rattle.ob_meddle.specs.declared.store.MeddledStore.{MeddledStore}
 use Rattle.ob_print.specs.Cuts.{Cut}
+use Rattle.ob_shell.specs.Bases.{fresh}
 use Rattle.ob_shell.specs.Closed.{LineWritten, Unwritten}
 use Rattle.ob_shell.specs.Endings.{last_line, status_of}
 use Rattle.ob_shell.specs.Headline.{Headline}
@@ -108,8 +109,8 @@ pub record Summarized (Takes : Type 0) (settings : Option Config) (tracing : Boo
   pub run : Report
   pub left : List ℕ
   pub gave : ℕ
-  pub headline : Headline Takes settings tracing (before_text seed old) (after_text left gave new)
-      run
+  pub headline : Headline (fresh settings) Takes tracing (before_text seed old)
+      (after_text left gave new) run
   pub tally : Tally
   pub counted : EndingTally headline.ending headline.answers tally
   pub concludes : Concludes headline.ending tally new.store.asked run.high
@@ -145,7 +146,7 @@ pub record RanGenerated (seed : Seed) (tracing : Bool) (settings : Option Config
   pub left : List ℕ
   pub gave : ℕ
   pub tally : Tally
-  pub reported : Reported tally (sink_of tracing traced0 traced1) ⊤ settings
+  pub reported : Reported tally (sink_of tracing traced0 traced1) ⊤ (fresh settings)
       (Some (generated seed.start seed.rows)) (Some left) gave None None store0 store1
       (faults_of 0 0 trace0) (faults_of 0 0 trace1) run
   pub traces : Traced tracing store0.asked store1.asked traced0 traced1

@@ -1,15 +1,15 @@
 -- The headline: one whole run, by what lies outside of it before and after.
-use Rattle.std.specs.Prelude.{ℕ, ◌≡◌, ◌≢◌, ◌+◌, ◌≤◌, ◌⊎◌, min, Bool, true, false, List, [], ◌∷◌, ◌++◌, length, IsTrue, Option, Some, Err}
+use Rattle.std.specs.Prelude.{ℕ, ◌≡◌, ◌≢◌, ◌+◌, ◌≤◌, ◌⊎◌, min, Bool, true, false, List, [], ◌∷◌, ◌++◌, length, IsTrue, Some, Err}
 use Rattle.std.specs.List.{list_any}
 use Rattle.std.specs.Io.KnownBytes.{Consumes, IsAtEnd}
 use Rattle.ob_base.specs.Counts.{Rises}
 use Rattle.ob_base.specs.declared.access.Access.TheVariants.{Read}
-use Rattle.ob_base.specs.declared.config.Config.{Config}
 use Rattle.ob_base.specs.declared.refusal.Stop.TheVariants.{Tampered}
 use Rattle.ob_exec.specs.Opening.{is_of_rows}
 use Rattle.ob_mean.specs.Replay.{Broken, Spelt}
 use Rattle.ob_print.specs.Cuts.{Cut}
 use Rattle.ob_script.specs.Trace.{Served, trace}
+use Rattle.ob_shell.specs.Bases.{Base, FromEach, said_of}
 use Rattle.ob_shell.specs.Disturbed.{Until}
 use Rattle.ob_shell.specs.Endings.{SinkStopped, last_line, status_of}
 use Rattle.ob_shell.specs.Failures.{RisesBy, failures}
@@ -17,23 +17,22 @@ use Rattle.ob_shell.specs.KeyLine.{after_line}
 use Rattle.ob_shell.specs.Settings.{limit_of}
 use Rattle.ob_shell.specs.Texts.{texts_in}
 use Rattle.ob_shell.specs.Tracing.{traced}
-use Rattle.ob_shell.specs.Words.{Answer, Answers, AreSeen, Because, Begins, HasSecret, IsCompleted, IsHonest, IsSealed, IsUndeceived, KeepsLimits, Outside, SinksRose, SpellFirst, Took, any_cut, before_read, keys_in, printed, public_with, rows_in, start}
+use Rattle.ob_shell.specs.Words.{Answer, Answers, AreSeen, Because, Begins, HasSecret, IsCompleted, IsHonest, IsSealed, IsUndeceived, KeepsLimits, Outside, PassesFrom, SinksRose, SpellFirst, Took, any_cut, before_read, keys_in, printed, rows_in}
 use Rattle.ob_shell.specs.declared.top.Ending.{Ending}
 use Rattle.ob_shell.specs.declared.top.Ending.TheVariants.{Ran}
 use Rattle.ob_shell.specs.declared.top.Report.{Report}
 use Rattle.ob_store.specs.Calls.{IsBefore}
 use Rattle.ob_store.specs.Runs.{Later}
 use Rattle.ob_store.specs.State.{Lie}
-use Rattle.ob_vault.specs.State.{from_nothing}
 use Rattle.ob_vault.specs.Tied.{Fits}
 
--- of words that the program takes, or doesn't, and of the settings that they spell
-pub record Headline (Takes : Type 0) (settings : Option Config) (tracing : Bool)
+-- of words that the program takes, or doesn't, and of what its statements go on from, with the settings
+pub record Headline (base : Base) (Takes : Type 0) (tracing : Bool)
     (old new : Outside) (report : Report) : Type 0 where
   -- THE BYTES. These were taken: a first line, then texts. Some texts were answered, and more were not.
   pub taken : List ℕ
   pub given : Consumes old.left new.left taken
-  pub within : length taken ≤ limit_of settings
+  pub within : length taken ≤ limit_of base.settings
   pub ended : Bool
   pub at_end : ended ≡ true → IsAtEnd new.left
   pub served : List (List ℕ)
@@ -61,39 +60,42 @@ pub record Headline (Takes : Type 0) (settings : Option Config) (tracing : Bool)
   pub through : ¬ SinkStopped ending → Took old.written new.written (printed answers ++ part)
   pub silent : new.faults.trace ≢ old.faults.trace
       → Cut old.written new.written (Unit {0}) (printed answers ++ part)
-  -- THE ACCESSES, over every store, are the trace of the statements' skeletons and of what is seen of each, of which the
-  -- last belongs to the one begun. They are traced, those before it whole, where tracing is asked for.
+  -- THE ACCESSES, over every store, are those that the statements go on from, if there are any, and the trace of their
+  -- skeletons and of what is seen of each, of which the last belongs to the one begun. This trace is written, what comes
+  -- before the one begun whole, where tracing is asked for.
   pub seen : List Served
   pub last : List Served
   pub one_last : length last ≤ 1
-  pub lawful : AreSeen ending (public_with settings) 0 spelt answers (seen ++ last)
-  pub asked : new.store.asked ≡ trace (public_with settings) (seen ++ last)
+  pub lawful : AreSeen ending base.public base.count spelt answers (seen ++ last)
+  pub asked : new.store.asked ≡ base.before ++ trace base.public (seen ++ last)
   pub traced_all : Cut old.traced new.traced (SinksRose old.faults new.faults)
-      (traced tracing new.store.asked)
-  pub traced_whole : Took old.traced new.traced (traced tracing (trace (public_with settings) seen))
+      (traced tracing (trace base.public (seen ++ last)))
+  pub traced_whole : Took old.traced new.traced (traced tracing (trace base.public seen))
   pub failed : RisesBy (failures answers) old.store.faults new.store.faults
   pub unfailed : any_cut (seen ++ last) ≡ false → new.store.faults ≡ old.store.faults
-  -- THE ANSWERS. Unless a changed block's tag fits, they and what is seen are those of SQL over plain tables, from no tables.
-  pub meant : IsUndeceived (keys_in taken) old.store new.store
-      → (broken : Broken) × Answers ending (start settings) spelt broken answers (seen ++ last) part
+  -- THE ANSWERS. Unless a changed block's tag fits, they and what is seen are those of SQL over plain tables, from those
+  -- that the statements go on from.
+  pub meant : IsUndeceived (keys_in taken) base.start old.store new.store → FromEach base
+      (λ s. (broken : Broken) × Answers ending s spelt broken answers (seen ++ last) part)
   -- TAMPERING. A changed block whose tag doesn't fit ends the run at its read, and the last line names it.
-  pub tampered : (lie : Lie) → new.store.lie ≡ Some lie → ¬ Fits (keys_in taken) from_nothing lie
+  pub tampered : (lie : Lie) → new.store.lie ≡ Some lie → ¬ Fits (keys_in taken) base.start lie
       → (ending ≡ Ran (Err (Tampered lie.region lie.place)))
       × (new.store.asked ≡ lie.before ++ Read lie.region lie.place ∷ [])
   -- BEFORE OTHERS CHANGE THE STORE, where it says behind how many accesses they do, all is as it is meant; and that stays.
   pub later : Later old.store new.store
-  pub always : IsTrue old.store.tells → (n : ℕ) → IsBefore old.store.disturbed n
-      → Until settings n spelt answers (seen ++ last) new.store.asked
+  pub always : IsTrue old.store.tells → (n : ℕ) → IsBefore (said_of base.opened old.store) n
+      → Until base.settings n spelt answers (seen ++ last) new.store.asked
   -- SEALING. Of a store that tells what it holds no block of a live region lies in clear.
-  pub sealed : IsTrue old.store.tells
-      → IsSealed (keys_in taken) (public_with settings).pack new.store
+  pub sealed : IsTrue old.store.tells → FromEach base
+      (λ s. IsSealed (PassesFrom base) (keys_in taken) base.start new.store)
   -- OPEN ROWS. Never more than the settings say, and at least one where a block was read or written.
-  pub most_open : report.high ≤ rows_in settings
+  pub most_open : report.high ≤ rows_in base.settings
   pub some_open : IsTrue (list_any is_of_rows new.store.asked) → 1 ≤ report.high
   -- THE STATUS says how the run ended, for its cause; and one that nothing hinders comes to the end of its input.
   pub status : report.status ≡ status_of ending
-  pub because : Because ending Takes (limit_of settings) taken ended more answers part old new
+  pub because : Because base ending Takes (limit_of base.settings) taken ended more answers part
+      old new
   pub completes : Takes → (input : List ℕ) → old.left ≡ Some input
-      → KeepsLimits (limit_of settings) input
+      → KeepsLimits (limit_of base.settings) input
       → ¬ Rises old.faults.source new.faults.source → ¬ SinksRose old.faults new.faults
-      → IsCompleted (IsHonest old.store new.store) ending
+      → FromEach base (λ s. IsCompleted (IsHonest old.store new.store) ending)

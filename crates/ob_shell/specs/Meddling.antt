@@ -7,6 +7,7 @@ use Rattle.ob_meddle.specs.Due.{are_later, disturbances, failed_among, has_acted
 use Rattle.ob_meddle.specs.Shows.{Shows, list_of}
 use Rattle.ob_meddle.specs.declared.meddle.Meddle.{Meddle}
 use Rattle.ob_meddle.specs.declared.store.MeddledStore.{MeddledStore}
+use Rattle.ob_shell.specs.Bases.{fresh}
 use Rattle.ob_shell.specs.Closed.{LineWritten, refused_by}
 use Rattle.ob_shell.specs.Disturbed.{Until, meant_trace}
 use Rattle.ob_shell.specs.Endings.{last_line, status_of}
@@ -58,7 +59,7 @@ pub record Meddled (words : List Text) (old : StoreState → Outside) (new : Out
   pub start : StoreState
   pub starts : StartsWith (list_of store) start
   pub shows : Shows (list_of store) new.store
-  pub headline : Headline (MeddleParses words) (settings_of meddle_usage words)
+  pub headline : Headline (fresh (settings_of meddle_usage words)) (MeddleParses words)
       (is_traced meddle_usage words) (old start) new report
   -- until the first change all is as it is meant
   pub always : (n : ℕ) → are_later (list_of store) n ≡ true

@@ -9,6 +9,7 @@ use Rattle.ob_mean.specs.Lawful.{is_counted}
 use Rattle.ob_mean.specs.Replay.{Spelt}
 use Rattle.ob_script.specs.Script.{script}
 use Rattle.ob_script.specs.Trace.{Served, next}
+use Rattle.ob_shell.specs.Bases.{fresh}
 use Rattle.ob_shell.specs.Headline.{Headline}
 use Rattle.ob_shell.specs.Settings.{IsTaken, settings_of}
 use Rattle.ob_shell.specs.Usage.{is_traced, usage}
@@ -20,7 +21,8 @@ use Rattle.ob_sql.specs.declared.stmt.Stmt.{Stmt}
 -- what `shell_top` promises of a run that reads its input
 abbrev pub ShellRun : List Text → (old new : Outside) → Report → Type 0
 ShellRun words old new report =
-    Headline (IsTaken usage words) (settings_of usage words) (is_traced usage words) old new report
+    Headline (fresh (settings_of usage words)) (IsTaken usage words) (is_traced usage words)
+    old new report
 
 -- a run that came to its end, and of which no text was answered that the store failed
 pub record EndsWell (status : ℕ) (failures : ℕ) : Type 0 where

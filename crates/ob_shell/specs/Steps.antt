@@ -1,12 +1,12 @@
 -- What texts do to an engine and its store, one after the other, and what is printed of them.
-use Rattle.std.specs.Prelude.{ℕ, ◌≡◌, ◌⊎◌, ⊤, false, List, [], ◌∷◌, ◌++◌, length, Option, None, Result, Ok, Err}
+use Rattle.std.specs.Prelude.{ℕ, ◌≡◌, ◌⊎◌, ⊤, false, List, [], ◌∷◌, ◌++◌, Option, None, Result, Ok, Err}
 use Rattle.std.specs.Io.KnownBytes.{Appends}
 use Rattle.ob_base.specs.Events.{Event}
 use Rattle.ob_base.specs.declared.config.Plan.{Plan}
 use Rattle.ob_base.specs.declared.refusal.Refusal.TheVariants.{Syntax}
 use Rattle.ob_base.specs.declared.refusal.Stop.{Stop}
 use Rattle.ob_base.specs.declared.refusal.Stop.TheVariants.{Tampered, SourceFault, SinkFault, NoMemory, InputLimit}
-use Rattle.ob_exec.specs.Agreeing.{Agrees, has_ended, public_of, seen_of}
+use Rattle.ob_exec.specs.Agreeing.{Agrees, count_of, has_ended, public_of, seen_of}
 use Rattle.ob_exec.specs.Memory.{LacksMemory}
 use Rattle.ob_exec.specs.Running.{Ran, RefusedEarly, Emits, refusal_now}
 use Rattle.ob_exec.specs.Serving.{Means}
@@ -52,13 +52,13 @@ pub record Misspelt {R : Type 0} (m0 m1 : Machine R) (text : List ℕ)
   pub line : answer.bytes ≡ closing_line answer.outcome
   pub unplanned : answer.plan ≡ None
 
+-- how many accesses were asked of a machine's store, counted on from where an earlier run's numbers are
+abbrev pub asked_of : {R : Type 0} → Machine R → ℕ
+asked_of m = count_of m.engine m.store
+
 -- the session of the model at which a machine stands that holds these tables
 abbrev pub session_of : {R : Type 0} → Machine R → Tables → Session
-session_of m tables = record { public = public_of m.engine; tables = tables; asked = length m.store.asked }
-
--- how many accesses were asked of a machine's store
-abbrev pub asked_of : {R : Type 0} → Machine R → ℕ
-asked_of m = length m.store.asked
+session_of m tables = record { public = public_of m.engine; tables = tables; asked = asked_of m }
 
 -- the engine carried out a statement, whatever it answered
 pub record Does {R : Type 0} (state : R → RevState) (m0 m1 : Machine R) (stmt : Stmt)

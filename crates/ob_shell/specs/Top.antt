@@ -5,7 +5,6 @@ use Rattle.std.specs.Option.{option_map_or}
 use Rattle.std.specs.Io.KnownBytes.{Consumes, IsAtEnd}
 use Rattle.ob_base.specs.Counts.{Rises}
 use Rattle.ob_base.specs.declared.access.Access.TheVariants.{Read}
-use Rattle.ob_base.specs.declared.config.Config.{Config}
 use Rattle.ob_base.specs.declared.refusal.Stop.{Stop}
 use Rattle.ob_base.specs.declared.refusal.Stop.TheVariants.{Tampered, SourceFault, SinkFault, NoMemory, InputLimit}
 use Rattle.ob_exec.specs.Opening.{is_of_rows}
@@ -17,8 +16,8 @@ use Rattle.ob_seal.specs.Sealed.{keys_of}
 use Rattle.ob_store.specs.Calls.{IsBefore}
 use Rattle.ob_store.specs.Runs.{Later}
 use Rattle.ob_store.specs.State.{Lie, StoreState}
-use Rattle.ob_vault.specs.State.{from_nothing}
 use Rattle.ob_vault.specs.Tied.{Fits}
+use Rattle.ob_shell.specs.Bases.{Base, FromEach, said_of}
 use Rattle.ob_shell.specs.Disturbed.{Until}
 use Rattle.ob_shell.specs.Endings.{SinkFailed, SinkStopped, last_line, status_of}
 use Rattle.ob_shell.specs.Failures.{RisesBy, failures}
@@ -31,7 +30,7 @@ use Rattle.ob_gen.specs.declared.tally.Tally.{Tally}
 use Rattle.ob_shell.specs.Tallies.{TallyIs, flagged, tally_of}
 use Rattle.ob_shell.specs.Texts.{texts_in}
 use Rattle.ob_shell.specs.Tracing.{traced}
-use Rattle.ob_shell.specs.Words.{Answer, Answers, AreSeen, Begins, EndsAtRead, Faults, HasSecret, IsCompleted, IsHonest, IsSealed, IsUndeceived, KeepsLimits, NoneRose, ReadToLimit, ReadUntilFault, ReadWhole, SinksRose, SpellFirst, Took, any_cut, before_read, printed, public_with, rows_in, start}
+use Rattle.ob_shell.specs.Words.{Answer, Answers, AreSeen, Begins, EndsAtRead, Faults, HasSecret, IsCompleted, IsHonest, IsSealed, IsUndeceived, KeepsLimits, NoneRose, PassesFrom, ReadToLimit, ReadUntilFault, ReadWhole, SinksRose, SpellFirst, Took, any_cut, before_read, printed, rows_in}
 use Rattle.ob_shell.specs.declared.top.Ending.{Ending}
 use Rattle.ob_shell.specs.declared.top.Ending.TheVariants.{Usage, BadKey, Ran}
 use Rattle.ob_shell.specs.declared.top.Report.{Report}
@@ -62,7 +61,7 @@ abbrev pub keys_with : Option (List ℕ) → KeySet
 keys_with secret = option_map_or keys_of secret (keys_of [])
 
 -- what the texts did to the store, and what was answered
-pub record Carried (tr : TraceSink) (settings : Option Config) (secret : Option (List ℕ))
+pub record Carried (tr : TraceSink) (base : Base) (secret : Option (List ℕ))
     (store0 store1 : StoreState) (high : ℕ) (served more : List (List ℕ)) (answers : List Answer)
     (part : List ℕ) (ending : Ending) : Type 0 where
   pub spelt : List Spelt
@@ -74,29 +73,29 @@ pub record Carried (tr : TraceSink) (settings : Option Config) (secret : Option 
   pub seen : List Served
   pub last : List Served
   pub one_last : length last ≤ 1
-  pub lawful : AreSeen ending (public_with settings) 0 spelt answers (seen ++ last)
-  pub asked : store1.asked ≡ trace (public_with settings) (seen ++ last)
-  pub traced_whole : Took tr.old tr.new (traced tr.on (trace (public_with settings) seen))
+  pub lawful : AreSeen ending base.public base.count spelt answers (seen ++ last)
+  pub asked : store1.asked ≡ base.before ++ trace base.public (seen ++ last)
+  pub traced_whole : Took tr.old tr.new (traced tr.on (trace base.public seen))
   pub failed : RisesBy (failures answers) store0.faults store1.faults
   pub unfailed : any_cut (seen ++ last) ≡ false → store1.faults ≡ store0.faults
-  pub meant : IsUndeceived (keys_with secret) store0 store1
-      → (broken : Broken) × Answers ending (start settings) spelt broken answers (seen ++ last) part
-  pub tampered : (lie : Lie) → store1.lie ≡ Some lie → ¬ Fits (keys_with secret) from_nothing lie
+  pub meant : IsUndeceived (keys_with secret) base.start store0 store1 → FromEach base
+      (λ s. (broken : Broken) × Answers ending s spelt broken answers (seen ++ last) part)
+  pub tampered : (lie : Lie) → store1.lie ≡ Some lie → ¬ Fits (keys_with secret) base.start lie
       → (ending ≡ Ran (Err (Tampered lie.region lie.place)))
       × (store1.asked ≡ lie.before ++ Read lie.region lie.place ∷ [])
-  pub sealed : IsTrue store0.tells
-      → IsSealed (keys_with secret) (public_with settings).pack store1
-  pub untampered : IsHonest store0 store1 → EndsUntampered ending
+  pub sealed : IsTrue store0.tells → FromEach base
+      (λ s. IsSealed (PassesFrom base) (keys_with secret) base.start store1)
+  pub untampered : FromEach base (λ s. IsHonest store0 store1 → EndsUntampered ending)
   pub at_read : (region place : ℕ) → ending ≡ Ran (Err (Tampered region place))
       → EndsAtRead region place store1.asked
-  pub most_open : high ≤ rows_in settings
+  pub most_open : high ≤ rows_in base.settings
   pub some_open : IsTrue (list_any is_of_rows store1.asked) → 1 ≤ high
   pub later : Later store0 store1
-  pub early : IsTrue store0.tells → (n : ℕ) → IsBefore store0.disturbed n
-      → Until settings n spelt answers (seen ++ last) store1.asked
+  pub early : IsTrue store0.tells → (n : ℕ) → IsBefore (said_of base.opened store0) n
+      → Until base.settings n spelt answers (seen ++ last) store1.asked
 
--- what was done with these settings after the first line, which was this secret
-pub record RanAfter (tr : TraceSink) (settings : Option Config)
+-- what was done from this base after the first line, which was this secret
+pub record RanAfter (tr : TraceSink) (base : Base)
     (secret : Option (List ℕ)) (feed0 feed1 : Fetch)
     (left0 left1 : Option (List ℕ)) (gave : ℕ) (written0 written1 : Option (List ℕ))
     (store0 store1 : StoreState) (high : ℕ) (result : Result Tally Stop) : Type 0 where
@@ -112,7 +111,7 @@ pub record RanAfter (tr : TraceSink) (settings : Option Config)
   pub prompt : Begins (texts_in false (before_read gave (feed0.unread ++ piece))) served
   pub answers : List Answer
   pub part : List ℕ
-  pub carried : Carried tr settings secret store0 store1 high served more answers part
+  pub carried : Carried tr base secret store0 store1 high served more answers part
       (Ran (flagged result))
   pub cut : Cut written0 written1 (SinkFailed (flagged result)) (printed answers ++ part)
   pub whole : Took written0 written1 (printed answers)
@@ -182,13 +181,13 @@ StatusCause (Ran (Err NoMemory)) old new = new.source ≡ old.source
 StatusCause (Ran (Err InputLimit)) old new = new.source ≡ old.source
 
 -- what was taken, what of it was served, and what the sink took of the answers and the last line
-pub record Shown (tally : Tally) (tr : TraceSink) (settings : Option Config)
+pub record Shown (tally : Tally) (tr : TraceSink) (base : Base)
     (left0 left1 : Option (List ℕ)) (gave : ℕ) (written0 written1 : Option (List ℕ))
     (store0 store1 : StoreState) (high : ℕ)
     (ending : Ending) (line : List ℕ) (Fault : Type 0) : Type 0 where
   pub taken : List ℕ
   pub given : Consumes left0 left1 taken
-  pub within : length taken ≤ limit_of settings
+  pub within : length taken ≤ limit_of base.settings
   pub few : min gave (length taken) ≤ 4096
   pub ended : Bool
   pub at_end : ended ≡ true → IsAtEnd left1
@@ -198,7 +197,7 @@ pub record Shown (tally : Tally) (tr : TraceSink) (settings : Option Config)
   pub prompt : Begins (texts_in false (after_line (before_read gave taken))) served
   pub answers : List Answer
   pub part : List ℕ
-  pub carried : Carried tr settings (secret_of (first_line taken)) store0 store1 high served more
+  pub carried : Carried tr base (secret_of (first_line taken)) store0 store1 high served more
       answers part ending
   pub grew : Cut written0 written1 Fault ((printed answers ++ part) ++ line)
   -- a sink's fault ends the run: all answers were taken whole, and so was what was printed of the one that was begun,
@@ -207,22 +206,22 @@ pub record Shown (tally : Tally) (tr : TraceSink) (settings : Option Config)
   pub through : ¬ SinkStopped ending → Took written0 written1 (printed answers ++ part)
   pub flag : EndingFlag ending answers
   pub counted : EndingTally ending answers tally
-  pub says : EndingSays ending (limit_of settings) taken left1 ended more part
+  pub says : EndingSays ending (limit_of base.settings) taken left1 ended more part
 
--- the whole run, of words that the program takes, with the settings that they spell, or doesn't
-pub record Reported (tally : Tally) (tr : TraceSink) (Takes : Type 0) (settings : Option Config)
+-- the whole run, of words that the program takes, or doesn't, from this base, with the settings that they spell
+pub record Reported (tally : Tally) (tr : TraceSink) (Takes : Type 0) (base : Base)
     (left0 left1 : Option (List ℕ)) (gave : ℕ) (written0 written1 : Option (List ℕ))
     (store0 store1 : StoreState)
     (old new : Faults) (report : Report) : Type 0 where
   pub ending : Ending
   pub status : report.status ≡ status_of ending
   pub takes : EndingWords ending Takes
-  pub shown : Shown tally tr settings left0 left1 gave written0 written1 store0 store1 report.high ending
+  pub shown : Shown tally tr base left0 left1 gave written0 written1 store0 store1 report.high ending
       (last_line ending) (SinksRose old new)
   pub silent : new.trace ≢ old.trace
       → Cut written0 written1 (Unit {0}) (printed shown.answers ++ shown.part)
   pub cause : StatusCause ending old new
   pub completes : Takes → (input : List ℕ) → left0 ≡ Some input
-      → KeepsLimits (limit_of settings) input
+      → KeepsLimits (limit_of base.settings) input
       → ¬ Rises old.source new.source → ¬ SinksRose old new
-      → IsCompleted (IsHonest store0 store1) ending
+      → FromEach base (λ s. IsCompleted (IsHonest store0 store1) ending)

@@ -1,5 +1,5 @@
--- The words of the command lines: the flag `--trace`, the settings of a run, `--gen`, and of the program whose store others
--- change also `--meddle`.
+-- The words of the command lines: the flag `--trace`, the settings of a run, `--gen`, where a store is given `--store` and
+-- `--keep`, and of the program whose store others change `--meddle`.
 use Rattle.std.specs.Prelude.{◌≡◌, Bool, true, false, List, [], Option, Some, None, codes, bytes_eq}
 use Rattle.clap.specs.Words.{App, Rule, Text, fault_of, first_of, matches_of, new_app, new_rule, with_rule}
 use Rattle.clap.specs.declared.builder.ArgAction.TheVariants.{SetTrue, Set}
@@ -37,6 +37,11 @@ usage = nameless (with_rule (common (codes "oblidb")) (valued (codes "store")))
 abbrev pub meddle_usage : App
 meddle_usage = nameless (with_rule (common (codes "oblitrace")) (valued (codes "meddle")))
 
+-- of a program that may keep its tables for the next run, in a store that it is given
+abbrev pub kept_usage : App
+kept_usage = nameless (with_rule (with_rule (common (codes "oblidb")) (valued (codes "store")))
+    (flag (codes "keep")))
+
 -- the command takes these words
 abbrev pub Parses : App → List Text → Type 0
 Parses app words = fault_of app words ≡ []
@@ -51,7 +56,7 @@ is_set (Some text) = bytes_eq text (codes "true")
 
 -- the name of the store, where the words give one
 abbrev pub store_of : List Text → Option Text
-store_of words = value_of usage words (codes "store")
+store_of words = value_of kept_usage words (codes "store")
 
 -- the name where they give none
 abbrev pub default_store : Text
@@ -60,6 +65,10 @@ default_store = codes "oblidb-store"
 -- whether the accesses are to be traced
 abbrev pub is_traced : App → List Text → Bool
 is_traced app words = is_set (value_of app words (codes "trace"))
+
+-- whether the tables are to be kept for the next run
+abbrev pub is_kept : List Text → Bool
+is_kept words = is_set (value_of kept_usage words (codes "keep"))
 
 -- the changes that a value spells: at most 64
 abbrev pub changes_in : Option Text → Option (List Meddle)

@@ -6,7 +6,6 @@ use Rattle.std.specs.Io.KnownBytes.{Appends}
 use Rattle.ob_base.specs.Accesses.{nth_write}
 use Rattle.ob_base.specs.Counts.{Rises}
 use Rattle.ob_base.specs.Events.{Event}
-use Rattle.ob_base.specs.Publics.{first_public}
 use Rattle.ob_base.specs.Stored.{headings, headings_of}
 use Rattle.ob_base.specs.declared.access.Access.{Access}
 use Rattle.ob_base.specs.declared.access.Access.TheVariants.{Read}
@@ -20,6 +19,7 @@ use Rattle.ob_base.specs.declared.seen.End.{End}
 use Rattle.ob_base.specs.declared.seen.End.TheVariants.{Cut}
 use Rattle.ob_base.specs.declared.seen.Seen.{Seen}
 use Rattle.ob_exec.specs.Memory.{AtMake, AtEmission}
+use Rattle.ob_exec.specs.Resting.{AcceptsClosings}
 use Rattle.ob_exec.specs.Running.{Emits, refusal_now}
 use Rattle.ob_exec.specs.Telling.{AcceptsRows, Partly, outcome_of}
 use Rattle.ob_exec.specs.declared.outcome.Outcome.{Outcome}
@@ -27,7 +27,7 @@ use Rattle.ob_exec.specs.declared.outcome.Outcome.TheVariants.{Refused}
 use Rattle.ob_mean.specs.Lawful.{Lawful}
 use Rattle.ob_mean.specs.Prints.{Prints, Unfinished, labels_of}
 use Rattle.ob_mean.specs.Refusals.{early_refusal}
-use Rattle.ob_mean.specs.Replay.{Session, Spelt, Broken, IsCutOff, after, cut_at, first_session, head_of, rest_of, seen_now, seen_or_cut}
+use Rattle.ob_mean.specs.Replay.{Session, Spelt, Broken, IsCutOff, after, cut_at, head_of, rest_of, seen_now, seen_or_cut}
 use Rattle.ob_mean.specs.Verdict.{is_late, verdict}
 use Rattle.ob_mean.specs.declared.answer.Answer.{Answer as Meaning}
 use Rattle.ob_parse.specs.Refusal.{RefusedAt}
@@ -38,10 +38,10 @@ use Rattle.ob_script.specs.Script.{script, whole_script}
 use Rattle.ob_script.specs.Trace.{Served, next, trace}
 use Rattle.ob_seal.specs.KeySet.{KeySet}
 use Rattle.ob_seal.specs.Sealed.{keys_of, sealed}
+use Rattle.ob_shell.specs.Bases.{Base, FromEach, Opened}
 use Rattle.ob_shell.specs.Closing.{closing_line, is_refused}
 use Rattle.ob_shell.specs.Endings.{is_tampered}
 use Rattle.ob_shell.specs.KeyLine.{LineTaken, after_line, first_line, has_lf, line_max, secret_of}
-use Rattle.ob_shell.specs.Settings.{public_by}
 use Rattle.ob_shell.specs.Texts.{is_over, rest_of as pending_of}
 use Rattle.ob_shell.specs.declared.top.Ending.{Ending}
 use Rattle.ob_shell.specs.declared.top.Ending.TheVariants.{Usage, BadKey, Ran}
@@ -49,7 +49,7 @@ use Rattle.ob_sql.specs.Skeleton.{skeleton}
 use Rattle.ob_sql.specs.declared.stmt.Stmt.{Stmt}
 use Rattle.ob_store.specs.State.{Lie, StoreState}
 use Rattle.ob_token.specs.Tokens.{tokens_of}
-use Rattle.ob_vault.specs.State.{from_nothing}
+use Rattle.ob_vault.specs.State.{Start}
 use Rattle.ob_vault.specs.Tied.{Fits, at_of}
 
 -- ---- the world outside
@@ -113,22 +113,14 @@ pub record IsHonest (store0 store1 : StoreState) : Type 0 where
   pub no_lie : store1.lie ≡ None
 
 -- the store tells what it holds, and of the first changed block that was read, if there is one, the tag doesn't fit
-pub record IsUndeceived (keys : KeySet) (store0 store1 : StoreState) : Type 0 where
+pub record IsUndeceived (keys : KeySet) (start : Start) (store0 store1 : StoreState) : Type 0 where
   pub tells : IsTrue store0.tells
-  pub unfit : (lie : Lie) → store1.lie ≡ Some lie → ¬ Fits keys from_nothing lie
+  pub unfit : (lie : Lie) → store1.lie ≡ Some lie → ¬ Fits keys start lie
 
 -- ---- the settings and the secret
--- what is public before the first statement, and how many rows may be open; without settings none is served
-abbrev pub public_with : Option Config → Public
-public_with None = first_public 0 0 0 None None
-public_with (Some config) = public_by config
-
+-- how many rows may be open; without settings none is served
 abbrev pub rows_in : Option Config → ℕ
 rows_in settings = option_map_or (λ (config : Config). config.buffer) settings 0
-
--- the model's session without tables
-abbrev pub start : Option Config → Session
-start settings = first_session (public_with settings)
 
 -- the keys of the secret in the first line
 abbrev pub keys_in : List ℕ → KeySet
@@ -290,20 +282,35 @@ Answers ending s (Ok stmt ∷ spelt) broken (one ∷ more) (x ∷ seen) part =
 abbrev pub PassesRows : (good : List ℕ → Bool) → (pack : ℕ) → Type 0
 PassesRows good pack = AcceptsRows (λ region. good) pack
 
+-- and so do those of closings, where one was opened
+abbrev pub PassesWith : Option Opened → (pack : ℕ) → (good : List ℕ → Bool) → Type 0
+PassesWith None pack good = PassesRows good pack
+PassesWith (Some o) pack good = PassesRows good pack × AcceptsClosings (λ region. good)
+
+abbrev pub PassesFrom : Base → (good : List ℕ → Bool) → Type 0
+PassesFrom base good = PassesWith base.opened base.public.pack good
+
+-- the number of a write to a place: of one of these, which count on from an earlier run's, or of its last one there
+abbrev pub IsWriteTo : Start → List Access → (region place number : ℕ) → Type 0
+IsWriteTo start asked region place number =
+    (nth_write (number - start.writes) asked ≡ Some (region, place))
+    ⊎ ((number ≡ start.given region place) × (number ≢ 0))
+
 -- a block is sealed under its place and the number of a write to it, and its clear bytes pass
-pub record IsSealedAt (good : List ℕ → Bool) (keys : KeySet) (asked : List Access)
+pub record IsSealedAt (good : List ℕ → Bool) (keys : KeySet) (start : Start) (asked : List Access)
     (region place : ℕ) (block : List ℕ) : Type 0 where
   pub number : ℕ
-  pub written : nth_write number asked ≡ Some (region, place)
+  pub written : IsWriteTo start asked region place number
   pub clear : List ℕ
   pub sealed : block ≡ sealed keys (at_of region place number) clear
   pub passes : IsTrue (good clear)
 
 -- each block of a live region is, by every test that rows and dummies pass
-pub record IsSealed (keys : KeySet) (pack : ℕ) (store : StoreState) : Type 0 where
+pub record IsSealed (Passes : (List ℕ → Bool) → Type 0) (keys : KeySet) (start : Start)
+    (store : StoreState) : Type 0 where
   pub each : (region place : ℕ) (block : List ℕ) → store.live region ≢ None
-      → store.last region place ≡ Some block → (good : List ℕ → Bool) → PassesRows good pack
-      → IsSealedAt good keys store.asked region place block
+      → store.last region place ≡ Some block → (good : List ℕ → Bool) → Passes good
+      → IsSealedAt good keys start store.asked region place block
 
 -- ---- why a run ends
 -- the first line is a secret
@@ -346,27 +353,27 @@ pub record EndsAtRead (region place : ℕ) (asked : List Access) : Type 0 where
   pub is : asked ≡ before ++ Read region place ∷ []
 
 -- of the words, the bytes taken, what was served, the store and the counts of faults
-abbrev pub Because : Ending → (Takes : Type 0) (max : ℕ) (taken : List ℕ) (ended : Bool)
+abbrev pub Because : Base → Ending → (Takes : Type 0) (max : ℕ) (taken : List ℕ) (ended : Bool)
     (more : List (List ℕ)) (answers : List Answer) (part : List ℕ) (old new : Outside) → Type 0
-Because Usage Takes max taken ended more answers part old new =
+Because base Usage Takes max taken ended more answers part old new =
     (¬ Takes) × (taken ≡ []) × (new.faults.source ≡ old.faults.source)
-Because BadKey Takes max taken ended more answers part old new =
+Because base BadKey Takes max taken ended more answers part old new =
     Takes × (secret_of (first_line taken) ≡ None) × LineTaken taken new.left
     × (new.faults.source ≡ old.faults.source)
-Because (Ran (Ok refused)) Takes max taken ended more answers part old new =
+Because base (Ran (Ok refused)) Takes max taken ended more answers part old new =
     Takes × (refused ≡ any_refused answers) × ReadWhole max taken ended more part
     × NoneRose old.faults new.faults
-Because (Ran (Err (Tampered region place))) Takes max taken ended more answers part old new =
-    Takes × HasSecret taken × (¬ IsHonest old.store new.store)
+Because base (Ran (Err (Tampered region place))) Takes max taken ended more answers part old new =
+    Takes × HasSecret taken × FromEach base (λ s. ¬ IsHonest old.store new.store)
     × EndsAtRead region place new.store.asked × (new.faults.source ≡ old.faults.source)
-Because (Ran (Err SourceFault)) Takes max taken ended more answers part old new =
+Because base (Ran (Err SourceFault)) Takes max taken ended more answers part old new =
     Takes × ReadUntilFault taken ended more part × Rises old.faults.source new.faults.source
-Because (Ran (Err SinkFault)) Takes max taken ended more answers part old new =
+Because base (Ran (Err SinkFault)) Takes max taken ended more answers part old new =
     Takes × HasSecret taken × SinksRose old.faults new.faults
     × (new.faults.source ≡ old.faults.source)
-Because (Ran (Err NoMemory)) Takes max taken ended more answers part old new =
+Because base (Ran (Err NoMemory)) Takes max taken ended more answers part old new =
     new.faults.source ≡ old.faults.source
-Because (Ran (Err InputLimit)) Takes max taken ended more answers part old new =
+Because base (Ran (Err InputLimit)) Takes max taken ended more answers part old new =
     Takes × ReadToLimit max taken ended more part × (new.faults.source ≡ old.faults.source)
 
 -- an input that keeps to the limits: its first line is a secret, and neither it nor a text of it is too long

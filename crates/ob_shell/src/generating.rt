@@ -14,7 +14,12 @@ use ob_store::BlockStore;
 use std::alloc::Global;
 
 // Writes the summary of a run that came to the end of the text, in which a text was refused or none was.
-fn sum_up<O: Sink, S: BlockStore>(ended: Ended, refused: bool, store: &S, out: &mut O) -> Report
+pub(crate) fn sum_up<O: Sink, S: BlockStore>(
+    ended: Ended,
+    refused: bool,
+    store: &S,
+    out: &mut O,
+) -> Report
     ensures high { result.high ≡ ended.high }
     ensures summed { SummedUp refused
         (summary_text (summary_of ended.tally (S.state store.now).asked))

@@ -3,6 +3,7 @@
 
 mod feed;
 mod generating;
+mod keeping;
 mod key;
 mod laws;
 mod pending;
@@ -12,6 +13,7 @@ mod trace;
 mod words;
 
 pub use feed::{Feed, Halt};
+pub use keeping::{KeptEnded, KeptEnding, keep_top};
 pub use key::{FirstLine, read_key};
 pub use laws::{
     padded_reruns_ask_the_same, reruns_ask_the_same, reruns_show_the_same, shows_its_refusal_alone,
@@ -21,4 +23,7 @@ pub use pending::{Grown, Pending, PushStop};
 pub use session::{Halted, serve};
 pub use top::{Ended, Ending, Report, meddle_top, shell_top};
 pub use trace::trace_from;
-pub use words::{MeddleWords, Seed, Words, WordsErr, read_meddle_words, read_words, store_name};
+pub use words::{
+    KeptWords, MeddleWords, Seed, Words, WordsErr, read_kept_words, read_meddle_words, read_words,
+    store_name,
+};

@@ -352,6 +352,7 @@ fn finish<R: Revisions, S: BlockStore, K: Sink, T: Sink>(
 ) -> Result<Tally, Halted>
     requires short { length session.now.pending ≤ text_max }
     requires ready { IsReady R.state (machine_of engine.old (S.state store.old)) }
+    ensures ready { OnOk result (IsReady R.state (machine_of engine.new (S.state store.new))) }
     ensures answered { IfOk result (λ counted. AnswersAll R.state (K.written out.old)
         (K.written out.new) (tail_text session.now.pending) session.now.tally counted
         (machine_of engine.old (S.state store.old)) (machine_of engine.new (S.state store.new))) }
@@ -398,6 +399,7 @@ pub fn serve<I: Source, R: Revisions, S: BlockStore, K: Sink, T: Sink>(
 ) -> Result<Tally, Halted>
     requires ready { IsReady R.state (machine_of engine.old (S.state store.old)) }
     requires fed_by { IsFedBy feed.old (I.gave input.old) }
+    ensures ready { OnOk result (IsReady R.state (machine_of engine.new (S.state store.new))) }
     ensures ran { SessionRan R.state tracing feed.old feed.new
         (I.left input.old) (I.left input.new) (I.gave input.new)
         (K.written out.old) (K.written out.new) (T.written trace.old) (T.written trace.new)

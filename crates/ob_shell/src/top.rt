@@ -3,6 +3,7 @@ ghost use Rattle.std.specs.Prelude.{◌≡◌, ◌≢◌, ◌≤◌, ℕ, List, 
 ghost use Rattle.std.specs.Prelude.{IfOk, MatchOption, string_bytes};
 ghost use Rattle.ob_shell.specs.Usage.{usage, meddle_usage, is_traced};
 ghost use Rattle.ob_shell.specs.Settings.{AreWithin, IsTaken, settings_of};
+ghost use Rattle.ob_shell.specs.Bases.{fresh};
 ghost use Rattle.ob_shell.specs.Closed.{LineWritten, Untouched, Unwritten, refused_by};
 ghost use Rattle.ob_shell.specs.Meddling.{Unserved};
 ghost use Rattle.ob_shell.specs.Generating.{MeddleRan, Summarized, asked_for};
@@ -82,7 +83,7 @@ pub(crate) fn status_of(ending: Ending) -> u8
     }
 }
 
-fn last_line(ending: Ending) -> Line
+pub(crate) fn last_line(ending: Ending) -> Line
     ensures { result ≡ Endings.last_line ending }
 {
     match ending {
@@ -106,7 +107,7 @@ fn ended_at(ending: Ending) -> Ended
 }
 
 // The end of a session.
-fn ended_with(ran: Result<Tally, Halted>, high: u64) -> Ended
+pub(crate) fn ended_with(ran: Result<Tally, Halted>, high: u64) -> Ended
     ensures ending { result.ending ≡ Ending.Ran (flagged (stop_of ran)) }
     ensures tally { IfOk (stop_of ran) (λ tally. result.tally ≡ tally) }
     ensures quiet { result.quiet ≡ is_quiet ran }
@@ -144,7 +145,7 @@ fn serve_with<I: Source, O: Sink, T: Sink, S: BlockStore>(
     requires fed_by { IsFedBy feed.old (I.gave input.old) }
     requires fresh { (S.state store.old).asked ≡ [] }
     ensures ran { RanAfter (sink_of words.trace (T.written trace.old) (T.written trace.new))
-        (Some words.config) (Some key.now)
+        (fresh (Some words.config)) (Some key.now)
         feed.old feed.new
         (I.left input.old) (I.left input.new) (I.gave input.new)
         (O.written out.old) (O.written out.new)
@@ -194,7 +195,8 @@ pub(crate) fn run<I: Source, O: Sink, T: Sink, S: BlockStore>(
     requires within { AreWithin words.config }
     requires fresh { (S.state store.old).asked ≡ [] }
     ensures shown { Shown result.tally
-        (sink_of words.trace (T.written trace.old) (T.written trace.new)) (Some words.config)
+        (sink_of words.trace (T.written trace.old) (T.written trace.new))
+        (fresh (Some words.config))
         (I.left input.old) (I.left input.new) (I.gave input.new)
         (O.written out.old) (O.written out.new)
         (S.state store.old) (S.state store.new)
@@ -241,7 +243,7 @@ pub(crate) fn close<O: Sink>(ended: Ended, out: &mut O) -> Report
 }
 
 // The end where the words were not read.
-fn refuse_words<O: Sink>(error: WordsErr, out: &mut O) -> Report
+pub(crate) fn refuse_words<O: Sink>(error: WordsErr, out: &mut O) -> Report
     ensures status { result.status ≡ Endings.status_of (refused_by error) }
     ensures high { result.high ≡ 0 }
     ensures line { LineWritten (Endings.last_line (refused_by error))
@@ -255,7 +257,7 @@ fn refuse_words<O: Sink>(error: WordsErr, out: &mut O) -> Report
 }
 
 // Serves the input of words that were taken, and writes the last line.
-fn serve_over<I: Source, O: Sink, T: Sink, S: BlockStore>(
+pub(crate) fn serve_over<I: Source, O: Sink, T: Sink, S: BlockStore>(
     alloc: Global,
     words: Words,
     input: &mut I,
@@ -266,7 +268,8 @@ fn serve_over<I: Source, O: Sink, T: Sink, S: BlockStore>(
     requires within { AreWithin words.config }
     requires fresh { (S.state store.old).asked ≡ [] }
     ensures reported { (tally : Tally) × Reported tally
-        (sink_of words.trace (T.written trace.old) (T.written trace.new)) ⊤ (Some words.config)
+        (sink_of words.trace (T.written trace.old) (T.written trace.new)) ⊤
+        (fresh (Some words.config))
         (I.left input.old) (I.left input.new) (I.gave input.new)
         (O.written out.old) (O.written out.new)
         (S.state store.old) (S.state store.new)
@@ -294,8 +297,8 @@ pub fn shell_top<I: Source, O: Sink, T: Sink, S: BlockStore>(
 ) -> Report
     requires fresh { (S.state store.old).asked ≡ [] }
     ensures headline { asked_for usage (map string_bytes words.now) ≡ None
-        → Headline (IsTaken usage (map string_bytes words.now))
-        (settings_of usage (map string_bytes words.now))
+        → Headline (fresh (settings_of usage (map string_bytes words.now)))
+        (IsTaken usage (map string_bytes words.now))
         (is_traced usage (map string_bytes words.now))
         (outside_of (I.left input.old) (I.gave input.old) (O.written out.old) (T.written trace.old)
         (S.state store.old)

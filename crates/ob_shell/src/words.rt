@@ -11,7 +11,7 @@ ghost use Rattle.ob_shell.specs.Settings.{generated_by, seed_in, seed_of, words_
 ghost use Rattle.ob_shell.specs.Settings.{ParsesAs, IsTaken, ParsesChanges, MeddleParses};
 ghost use Rattle.clap.specs.Words.{Text};
 ghost use Rattle.ob_shell.specs.Usage.{common, usage, meddle_usage, flag, valued, is_set, is_traced, changes_in};
-ghost use Rattle.ob_shell.specs.Usage.{default_store, store_of};
+ghost use Rattle.ob_shell.specs.Usage.{default_store, is_kept, kept_usage, store_of};
 
 use clap::error::ErrorKind;
 use clap::{Arg, ArgAction, ArgMatches, Command, Error};
@@ -58,6 +58,13 @@ pub struct MeddleWords {
     pub changes: Vec<Meddle>,
 }
 
+/// The same, and whether the tables are to be kept for the next run.
+#[derive(Clone, Copy, Debug, PartialEq, Eq)]
+pub struct KeptWords {
+    pub common: Words,
+    pub keep: bool,
+}
+
 // A flag `--NAME`.
 fn flag(alloc: Global, name: &str) -> Arg<'_>
     ensures rule { rule_of result ≡ flag name.now }
@@ -100,6 +107,15 @@ fn meddle_command<'a>(alloc: Global) -> Result<Command<'a>, AllocError>
     ensures { IfOk result (λ c. app_of c ≡ meddle_usage) }
 {
     let command = common(alloc, "oblitrace")?.arg(valued(alloc, "meddle"))?;
+    Ok(command.no_binary_name(true))
+}
+
+fn kept_command<'a>(alloc: Global) -> Result<Command<'a>, AllocError>
+    ensures { IfOk result (λ c. app_of c ≡ kept_usage) }
+{
+    let command = common(alloc, "oblidb")?
+        .arg(valued(alloc, "store"))?
+        .arg(flag(alloc, "keep"))?;
     Ok(command.no_binary_name(true))
 }
 
@@ -305,6 +321,35 @@ pub fn read_words(alloc: Global, words: &[String]) -> Result<Words, WordsErr>
     }
 }
 
+/// Reads the words of a program that may keep its tables for the next run, the program's name left out.
+pub fn read_kept_words(alloc: Global, words: &[String]) -> Result<KeptWords, WordsErr>
+    ensures ok { IfOk result (λ w.
+        ParsesAs kept_usage (map string_bytes words.now) w.common.config) }
+    ensures usage { result ≡ Err WordsErr.Usage →
+        ¬ IsTaken kept_usage (map string_bytes words.now) }
+    ensures trace { IfOk result (λ w.
+        w.common.trace ≡ is_traced kept_usage (map string_bytes words.now)) }
+    ensures generated { IfOk result (λ w.
+        generated_by kept_usage (map string_bytes words.now) ≡ Some w.common.generated) }
+    ensures keep { IfOk result (λ w. w.keep ≡ is_kept (map string_bytes words.now)) }
+    ensures within { IfOk result (λ w. AreWithin w.common.config) }
+{
+    let Ok(command) = kept_command(alloc) else {
+        return Err(WordsErr::NoMemory);
+    };
+    let matches = match command.try_get_matches_from(words) {
+        Ok(matches) => matches,
+        Err(error) => return Err(words_err(&error)),
+    };
+    match common_words(&matches) {
+        Some(common) => Ok(KeptWords {
+            common,
+            keep: is_set(matches.get_str("keep")),
+        }),
+        None => Err(WordsErr::Usage),
+    }
+}
+
 /// Reads the words of a program over a store that others change, the program's name left out.
 pub fn read_meddle_words(alloc: Global, words: &[String]) -> Result<MeddleWords, WordsErr>
     ensures ok { IfOk result (λ w.
@@ -335,14 +380,14 @@ pub fn read_meddle_words(alloc: Global, words: &[String]) -> Result<MeddleWords,
 /// The name of the store that the words of a program over a store give, the program's name left out; `oblidb-store`
 /// where they give none, and where they are none that the program takes.
 pub fn store_name(alloc: Global, words: &[String]) -> Result<String, NoMemory>
-    ensures named { (name : Text) → IsTaken usage (map string_bytes words.now)
+    ensures named { (name : Text) → IsTaken kept_usage (map string_bytes words.now)
         → store_of (map string_bytes words.now) ≡ Some name
         → IfOk result (λ s. string_bytes s ≡ name) }
-    ensures unnamed { (IsTaken usage (map string_bytes words.now)
+    ensures unnamed { (IsTaken kept_usage (map string_bytes words.now)
         → store_of (map string_bytes words.now) ≡ None)
         → IfOk result (λ s. string_bytes s ≡ default_store) }
 {
-    let Ok(command) = command(alloc) else {
+    let Ok(command) = kept_command(alloc) else {
         return Err(NoMemory);
     };
     let matches = match command.try_get_matches_from(words) {

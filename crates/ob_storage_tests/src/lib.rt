@@ -4,6 +4,8 @@
 #[cfg(test)]
 mod changes;
 #[cfg(test)]
+mod lasting;
+#[cfg(test)]
 mod rooms;
 #[cfg(test)]
 mod rows;

@@ -3,7 +3,7 @@ use Rattle.std.proofs.Common.{◌≡◌, ◌==◌, ◌&&◌, ◌≤◌, ◌+◌,
 use Rattle.std.proofs.lemmas.Bool.Decides.{nat_tests}
 use Rattle.ob_base.specs.Lists.{tabulate}
 use Rattle.ob_base.specs.declared.access.Access.{Access}
-use Rattle.ob_base.specs.declared.access.Access.TheVariants.{Make, Read, Write, Discard}
+use Rattle.ob_base.specs.declared.access.Access.TheVariants.{Make, Read, Write, Discard, Open}
 use Rattle.ob_store.specs.Logs.{Run, raised, entry, spelt_run, spelt, is_raised, is_next, is_turn, goes_on, comes_round, lengthened, added}
 
 -- each run has a cycle, which is no longer than the run
@@ -28,17 +28,21 @@ raised_is n (Write q x) (Write r y) is = let e = left_of q r (x + n) y is in let
 raised_is n (Read q x) (Write r y) is = absurd (cc is)
 raised_is n (Read q x) (Make r b l) is = absurd (cc is)
 raised_is n (Read q x) (Discard r) is = absurd (cc is)
+raised_is n (Read q x) (Open r b l) is = absurd (cc is)
 raised_is n (Write q x) (Read r y) is = absurd (cc is)
 raised_is n (Write q x) (Make r b l) is = absurd (cc is)
 raised_is n (Write q x) (Discard r) is = absurd (cc is)
+raised_is n (Write q x) (Open r b l) is = absurd (cc is)
 raised_is n (Make q b l) a is = absurd (cc is)
 raised_is n (Discard q) a is = absurd (cc is)
+raised_is n (Open q b l) a is = absurd (cc is)
 
 raised_zero : (a : Access) → raised 0 a ≡ a
 raised_zero (Read q x) = ap (Read q) (add-zero x)
 raised_zero (Write q x) = ap (Write q) (add-zero x)
 raised_zero (Make q b l) = refl
 raised_zero (Discard q) = refl
+raised_zero (Open q b l) = refl
 
 pub entry_one : (a : Access) → entry (a ∷ []) 0 ≡ a
 entry_one a = raised_zero a

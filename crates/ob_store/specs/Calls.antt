@@ -1,12 +1,12 @@
 -- What each call on a store does to its state.
-use Rattle.std.specs.Prelude.{◌≡◌, ◌≢◌, ◌⊎◌, ◌<◌, ◌≤◌, ◌+◌, ℕ, IsTrue, List, [], ◌∷◌, ◌++◌, length, nat_lt, true, Option, Some, None, Result, Ok, Err}
+use Rattle.std.specs.Prelude.{◌≡◌, ◌≢◌, ◌⊎◌, ◌<◌, ◌≤◌, ◌+◌, ◌==◌, ◌&&◌, not, ℕ, Bool, IsTrue, false, List, [], ◌∷◌, ◌++◌, length, nat_lt, true, Option, Some, None, Result, Ok, Err}
 use Rattle.std.specs.List.{list_all}
 use Rattle.ob_base.specs.Counts.{Rises}
 use Rattle.ob_base.specs.declared.access.Access.{Access}
 use Rattle.ob_base.specs.declared.fault.Failed.{Failed}
 use Rattle.ob_base.specs.declared.fault.StoreErr.{StoreErr}
 use Rattle.ob_base.specs.declared.fault.StoreErr.TheVariants as StoreErrs
-use Rattle.ob_store.specs.State.{Shape, Lie, Disturbance, StoreState}
+use Rattle.ob_store.specs.State.{Shape, KeptRegion, Lie, Disturbance, StoreState}
 
 pub record IsLive (s : StoreState) (region : ℕ) : Type 0 where
   pub shape : Shape
@@ -72,11 +72,13 @@ CountsMakeFault (Err StoreErrs.Failed) old new = Rises old.faults new.faults
 pub record Keeps (old new : StoreState) : Type 0 where
   pub live : (q : ℕ) → new.live q ≡ old.live q
   pub last : (q x : ℕ) → new.last q x ≡ old.last q x
+  pub kept : (q : ℕ) → new.kept q ≡ old.kept q
 
 -- nothing but this region may have changed
 pub record OnlyRegion (region : ℕ) (old new : StoreState) : Type 0 where
   pub live : (q : ℕ) → q ≢ region → new.live q ≡ old.live q
   pub last : (q x : ℕ) → q ≢ region → new.last q x ≡ old.last q x
+  pub kept : (q : ℕ) → q ≢ region → new.kept q ≡ old.kept q
 
 -- a region is live, and nothing was written there
 pub record Makes (region blocks len : ℕ) (old new : StoreState) : Type 0 where
@@ -96,6 +98,7 @@ pub record ReadGives (region place : ℕ) (bytes : List ℕ) (old new : StoreSta
 pub record OnlyAt (region place : ℕ) (old new : StoreState) : Type 0 where
   pub live : (q : ℕ) → new.live q ≡ old.live q
   pub elsewhere : (q x : ℕ) → (q ≡ region → x ≡ place → ⊥) → new.last q x ≡ old.last q x
+  pub kept : (q : ℕ) → q ≢ region → new.kept q ≡ old.kept q
 
 -- the block is what was written last
 pub record Holds (region place : ℕ) (block : List ℕ) (old new : StoreState) : Type 0 where
@@ -116,3 +119,48 @@ pub record Rests (old new : StoreState) : Type 0 where
   pub gave : new.gave ≡ old.gave
   pub disturbed : new.disturbed ≡ old.disturbed
   pub keeps : Keeps old new
+
+-- ---- regions of earlier runs
+-- a live region is kept as it stands
+pub record KeepsLive (number : ℕ) (shape : Shape) (s : StoreState) : Type 0 where
+  pub region : KeptRegion
+  pub is : s.kept number ≡ Some region
+  pub same : region.shape ≡ shape
+  pub whole : region.given_up ≡ false
+  pub last : (x : ℕ) → region.last x ≡ s.last number x
+
+-- a block that is kept of a region lies at one of its places
+pub record IsBounded (region : KeptRegion) : Type 0 where
+  pub below : (x : ℕ) (block : List ℕ) → region.last x ≡ Some block → x < region.shape.blocks
+
+-- a region that was taken out is kept as one that was given up, if it is kept
+abbrev pub IsGivenUp : ℕ → StoreState → Type 0
+IsGivenUp number s = (region : KeptRegion) → s.kept number ≡ Some region → region.given_up ≡ true
+
+-- whether a region is kept with this size, and was not given up
+abbrev pub is_kept : (blocks len : ℕ) → Option KeptRegion → Bool
+is_kept blocks len None = false
+is_kept blocks len (Some region) = not region.given_up && ((region.shape.blocks == blocks) && (region.shape.len == len))
+
+-- whether the store failed
+abbrev pub is_failed : {T : Type 0} → Result T StoreErr → Bool
+is_failed (Ok t) = false
+is_failed (Err StoreErrs.NoMemory) = false
+is_failed (Err StoreErrs.Failed) = true
+
+-- an earlier run's region was asked for, whatever was answered; from here on nothing is told of what others do
+pub record Reopens (access : Access) (old new : StoreState) : Type 0 where
+  pub asked : new.asked ≡ old.asked ++ access ∷ []
+  pub spare : old.spare ≤ new.spare + 1
+  pub faults : old.faults ≤ new.faults
+  pub slips : new.slips ≡ old.slips
+  pub tells : new.tells ≡ old.tells
+  pub lie : new.lie ≡ old.lie
+  pub disturbed : new.disturbed ≡ None
+
+-- it is live again, with this size and what was written there last
+pub record Resumes (number blocks len : ℕ) (old new : StoreState) : Type 0 where
+  pub here : IsRegion number blocks len new
+  pub last : (region : KeptRegion) → IsTrue old.tells → old.kept number ≡ Some region
+      → (x : ℕ) → new.last number x ≡ region.last x
+  pub others : OnlyRegion number old new

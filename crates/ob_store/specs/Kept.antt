@@ -1,7 +1,7 @@
 -- How a log keeps its runs: the accesses of all cycles, one cycle behind the other, and where each run begins.
 use Rattle.std.specs.Prelude.{◌≡◌, ◌<◌, ◌≤◌, ◌-◌, ◌^◌, ℕ, zero, suc, List, [], ◌∷◌, length, slice_index_or, slice_range}
 use Rattle.ob_base.specs.declared.access.Access.{Access}
-use Rattle.ob_base.specs.declared.access.Access.TheVariants.{Make, Read, Write, Discard}
+use Rattle.ob_base.specs.declared.access.Access.TheVariants.{Make, Read, Write, Discard, Open}
 use Rattle.ob_store.specs.Logs.{Run, access_at, spelt}
 use Rattle.ob_store.specs.declared.log.Start.{Start}
 
@@ -19,6 +19,7 @@ place_of (Make region blocks len) = 0
 place_of (Read region place) = place
 place_of (Write region place) = place
 place_of (Discard region) = 0
+place_of (Open region blocks len) = 0
 
 -- each run has a cycle, which is no longer than the run
 unfoldable pub Sound : List Start → ℕ → ℕ → ℕ → Type 0

@@ -6,3 +6,4 @@ pub mod Memory
 pub mod Fresh
 pub mod Logs
 pub mod Kept
+pub mod MemoryState

@@ -3,7 +3,7 @@ use Rattle.std.specs.Prelude.{◌==◌, ◌&&◌, ◌+◌, ◌/◌, ◌%◌, ℕ
 use Rattle.std.specs.List.{list_all}
 use Rattle.ob_base.specs.Lists.{tabulate}
 use Rattle.ob_base.specs.declared.access.Access.{Access}
-use Rattle.ob_base.specs.declared.access.Access.TheVariants.{Make, Read, Write, Discard}
+use Rattle.ob_base.specs.declared.access.Access.TheVariants.{Make, Read, Write, Discard, Open}
 
 -- a run spells `count` accesses by a cycle of one to three
 pub record Run : Type 0 where
@@ -21,6 +21,7 @@ raised n (Read region place) = Read region (place + n)
 raised n (Write region place) = Write region (place + n)
 raised n (Make region blocks len) = Make region blocks len
 raised n (Discard region) = Discard region
+raised n (Open region blocks len) = Open region blocks len
 
 abbrev pub access_at : List Access → ℕ → Access
 access_at cycle i = slice_index_or cycle i (Make 0 0 0)
@@ -45,6 +46,7 @@ is_block (Read region place) = true
 is_block (Write region place) = true
 is_block (Make region blocks len) = false
 is_block (Discard region) = false
+is_block (Open region blocks len) = false
 
 -- whether both are Reads, or both Writes, of one region, the second at a place that is higher by n
 abbrev pub is_raised : ℕ → Access → Access → Bool

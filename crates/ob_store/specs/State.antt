@@ -7,6 +7,12 @@ pub record Shape : Type 0 where
   pub blocks : ℕ
   pub len : ℕ
 
+-- a region that a store keeps, live or not: its size, whether it was given up, and the block last written at each place
+pub record KeptRegion : Type 0 where
+  pub shape : Shape
+  pub given_up : Bool
+  pub last : ℕ → Option (List ℕ)
+
 -- the first read that gave other bytes than were written, and what was asked before it
 pub record Lie : Type 0 where
   pub region : ℕ
@@ -37,6 +43,8 @@ pub record StoreState : Type 0 where
   -- the block last written at a region's place
   pub last : ℕ → ℕ → Option (List ℕ)
   pub lie : Option Lie
+  -- the regions that are kept, for a later run too, where they are told
+  pub kept : ℕ → Option KeptRegion
   -- the bytes that the last read gave, where the last access is a read that went well
   pub gave : List ℕ
   -- all that others do, where the store says so

@@ -10,7 +10,7 @@ use std::marker::Model;
 ///
 /// A run has a cycle of one to three accesses, and goes through it again and again: its entry `t` is
 /// entry `t mod c` of a cycle of `c`, with the place raised by `t div c`. So a pass over a table is one
-/// run, however large the table. Make and Discard are runs of one access. An access takes at most 40 bytes,
+/// run, however large the table. Make, Discard and Open are runs of one access. An access takes at most 40 bytes,
 /// and none where it goes on a run.
 #[derive(Drop)]
 pub struct Log {
@@ -176,7 +176,7 @@ fn raise(access: Access, by: u64) -> Access
             region,
             place: place + by as u32,
         },
-        Access::Make { .. } | Access::Discard { .. } => access,
+        Access::Make { .. } | Access::Discard { .. } | Access::Open { .. } => access,
     }
 }
 
@@ -215,7 +215,7 @@ fn place_of(access: Access) -> u32
 {
     match access {
         Access::Read { place, .. } | Access::Write { place, .. } => place,
-        Access::Make { .. } | Access::Discard { .. } => 0,
+        Access::Make { .. } | Access::Discard { .. } | Access::Open { .. } => 0,
     }
 }
 

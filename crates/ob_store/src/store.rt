@@ -1,7 +1,7 @@
-ghost use Rattle.std.specs.Prelude.{◌≡◌, ◌⊎◌, ◌<◌, ◌≤◌, ℕ, [], None, length, slice_get, OnOk, OnErr};
-ghost use Rattle.ob_store.specs.State.{StoreState};
+ghost use Rattle.std.specs.Prelude.{◌≡◌, ◌⊎◌, ◌<◌, ◌≤◌, ℕ, IsTrue, [], Some, None, length, slice_get, OnOk, OnErr};
+ghost use Rattle.ob_store.specs.State.{KeptRegion, Shape, StoreState};
 ghost use Rattle.ob_base.specs.Accesses.{highest};
-ghost use Rattle.ob_store.specs.Calls.{IsLive, IsPlace, Asks, CountsFault, CountsSlip, CountsMakeFault, Keeps, Makes, ReadGives, OnlyAt, Holds, MayHold, OnlyRegion, Rests, IsSteady};
+ghost use Rattle.ob_store.specs.Calls.{IsBounded, IsLive, IsPlace, IsGivenUp, KeepsLive, Reopens, Resumes, Asks, CountsFault, CountsSlip, CountsMakeFault, Keeps, Makes, ReadGives, OnlyAt, Holds, MayHold, OnlyRegion, Rests, IsSteady};
 
 use ob_base::{Access, Failed, NoMemory, StoreErr};
 
@@ -84,6 +84,7 @@ pub trait BlockStore {
         ensures ok { OnOk result ((state self.new).live region ≡ None) }
         ensures err { OnErr result
             (((state self.new).live region ≡ None) ⊎ Keeps (state self.old) (state self.new)) }
+        ensures given_up { (state self.new).live region ≡ None → IsGivenUp region (state self.new) }
         ensures lie { (state self.new).lie ≡ (state self.old).lie };
 
     /// How many accesses were asked so far.
@@ -95,6 +96,14 @@ pub trait BlockStore {
         requires { i < length (state self.now).asked }
         ensures { slice_get (state self.now).asked i ≡ Some result };
 
+    /// A live region is kept as it stands, where that is told.
+    ghost keeps_live: { (store : Self) (region : ℕ) (shape : Shape) → IsTrue (state store).tells
+        → (state store).live region ≡ Some shape → KeepsLive region shape (state store) };
+
+    /// What is kept of a region lies at its places.
+    ghost keeps_within: { (store : Self) (number : ℕ) (region : KeptRegion)
+        → (state store).kept number ≡ Some region → IsBounded region };
+
     /// Before the first access no region is live.
     ghost starts_empty: { (store : Self) (region : ℕ) → (state store).asked ≡ []
         → (state store).live region ≡ None };
@@ -104,4 +113,25 @@ pub trait BlockStore {
 
     /// Nor had a call failed, where others may not disturb the first access.
     ghost starts_steady: { (store : Self) → (state store).asked ≡ [] → IsSteady (state store) };
+}
+
+/// A store whose regions outlive a run.
+pub trait Lasting: BlockStore {
+    /// Makes a region of an earlier run live again, with the blocks that were last written there.
+    ///
+    /// It is one access. `Failed` where no region of this number and size is kept, or where the store
+    /// failed; after an error it is not live. From here on the store doesn't say what others do.
+    fn resume(&mut self, region: u64, blocks: u32, len: u32) -> Result<(), StoreErr>
+        requires spare { 1 ≤ (Self.state self.old).spare }
+        requires gone { (Self.state self.old).live region ≡ None }
+        requires blocks { (1 ≤ blocks) × (blocks ≤ 134217728) }
+        requires len { (33 ≤ len) × (len ≤ 16416) }
+        ensures asks { Reopens (Access.Open region blocks len)
+            (Self.state self.old) (Self.state self.new) }
+        ensures cause { CountsMakeFault result
+            (Self.state self.old) (Self.state self.new) }
+        ensures ok { OnOk result (Resumes region blocks len
+            (Self.state self.old) (Self.state self.new)) }
+        ensures err { OnErr result
+            (Keeps (Self.state self.old) (Self.state self.new)) };
 }

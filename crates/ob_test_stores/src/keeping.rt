@@ -1,6 +1,6 @@
 //! A store in memory that keeps each block of 49 bytes that was written to it, in order.
 ghost use Rattle.std.specs.Prelude.{◌≡◌};
-ghost use Rattle.ob_store.specs.contracts.memory.MemStoreBlockStore.TheImpl.Laws.{starts_empty-law, starts_honest-law, starts_steady-law};
+ghost use Rattle.ob_store.specs.contracts.memory.MemStoreBlockStore.TheImpl.Laws.{keeps_live-law, keeps_within-law, starts_empty-law, starts_honest-law, starts_steady-law};
 
 use ob_base::{Access, Failed, NoMemory, StoreErr};
 use ob_store::{BlockStore, MemStore};
@@ -35,6 +35,10 @@ impl KeepingStore {
 
 impl BlockStore for KeepingStore {
     ghost state = { λ s. ⟦<MemStore as BlockStore>⟧.state s.inner };
+
+    ghost keeps_live = { λ s r shape told is. keeps_live-law s.inner r shape told is };
+
+    ghost keeps_within = { λ s r region is. keeps_within-law s.inner r region is };
 
     ghost starts_empty = { λ s r none. starts_empty-law s.inner r none };
 

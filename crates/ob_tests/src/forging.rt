@@ -44,16 +44,21 @@ impl BlockStore for ForgingStore {
       tells = false;
       last = λ q x. None;
       lie = None;
+      kept = λ q. None;
       gave = if s.forged then s.block else (⟦<MemStore as BlockStore>⟧.state s.inner).gave;
       disturbed = None;
     } };
+
+    ghost keeps_live = { λ s r shape told is. absurd (cc told) };
+
+    ghost keeps_within = { λ s r region is. absurd (cc is) };
 
     ghost starts_empty = { λ s r none. starts_empty-law s.inner r none };
 
     ghost starts_honest = { λ s none. refl };
 
     ghost starts_steady = { λ s none. record {
-      quiet = λ before. record { faults = refl; slips = refl; lie = refl };
+      quiet = λ before. absurd before;
       lied = λ lie is. absurd (cc is);
     } };
 

@@ -2,7 +2,7 @@
 use Rattle.std.proofs.Common.{◌≡◌, ◌≢◌, inl, inr, ◌+◌, ◌-◌, ℕ, List, [], ◌∷◌, Some, length, length-append, drop, take, refl, sym, ◌∙◌, ap, arith}
 use Rattle.std.proofs.lemmas.List.{take_at, drop_at}
 use Rattle.ob_base.specs.declared.access.Access.{Access}
-use Rattle.ob_base.specs.declared.access.Access.TheVariants.{Make, Read, Write, Discard}
+use Rattle.ob_base.specs.declared.access.Access.TheVariants.{Make, Read, Write, Discard, Open}
 use Rattle.ob_base.specs.Accesses.{writes, nth_write}
 use Rattle.ob_base.proofs.AccessLemmas.{number_own, write_named, write_apart}
 use Rattle.ob_store.specs.State.{Lie}
@@ -37,6 +37,7 @@ none_first (Write q x ∷ rest) p is = none_first rest p is
 none_first (Make q blocks len ∷ rest) p is = none_first rest p is
 none_first (Read q x ∷ rest) p is = none_first rest p is
 none_first (Discard q ∷ rest) p is = none_first rest p is
+none_first (Open q blocks len ∷ rest) p is = none_first rest p is
 
 -- a number of an earlier run is none of this one
 early : (w : World) (q x r y n : ℕ) → Tied w → nth_write (n - w.vault.start.writes) w.store.asked ≡ Some (q, x) → n ≡ w.vault.start.given r y → ⊥

@@ -1,4 +1,5 @@
 pub mod WorldSteps
+pub mod Resumed
 pub mod Lies
 pub mod Runs
 pub mod RowsLemmas

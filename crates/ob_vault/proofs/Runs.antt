@@ -1,5 +1,5 @@
 -- How calls of a vault join to runs, and what is kept over them.
-use Rattle.std.proofs.Common.{◌≡◌, ◌==◌, if◌then◌else◌, inl, inr, ℕ, suc, ◌*◌, ◌+◌, ◌<◌, List, [], ◌++◌, Some, None, Bool, IsTrue, length, length-append, refl, sym, ◌∙◌, ap, subst, arith}
+use Rattle.std.proofs.Common.{◌≡◌, ◌≢◌, ◌==◌, if◌then◌else◌, inl, inr, ℕ, zero, suc, ◌*◌, ◌+◌, ◌<◌, List, [], ◌++◌, Some, None, Bool, IsTrue, length, length-append, refl, sym, ◌∙◌, ap, subst, arith}
 use Rattle.ob_base.specs.declared.access.Access.{Access}
 use Rattle.ob_store.specs.State.{StoreState}
 use Rattle.ob_base.specs.Counts.{Rises}
@@ -13,7 +13,8 @@ use Rattle.ob_vault.specs.declared.region.Order.TheVariants.{Round, Any}
 use Rattle.ob_vault.specs.Revs.{turn_after, place_after}
 use Rattle.ob_vault.specs.declared.fault.VaultErr.{VaultErr}
 use Rattle.ob_vault.specs.declared.fault.VaultErr.TheVariants.{Failed, Tampered, NoMemory}
-use Rattle.ob_vault.specs.State.{VaultState, World}
+use Rattle.ob_vault.specs.State.{VaultState, World, earlier}
+use Rattle.ob_vault.specs.Numbers.{spent}
 use Rattle.ob_vault.specs.Tied.{Ready, Lives, Written, OnTurn, Holds, at_of}
 use Rattle.ob_vault.specs.Rows.{SameSizes}
 use Rattle.ob_vault.specs.Places.{RowsFit, MayGet, MayPut}
@@ -28,6 +29,7 @@ module _ (some : ℕ → Type 0) (a b c : World) where
     turn = λ q off. second.turn q off ∙ first.turn q off;
     kept = λ q off. second.kept q off ∙ first.kept q off;
     last = λ q x off. second.last q x off ∙ first.last q x off;
+    rests = λ q off. second.rests q off ∙ first.rests q off;
   }
 
   shapes_trans : KeepsShapes a b → KeepsShapes b c → KeepsShapes a c
@@ -98,6 +100,7 @@ module _ (some : ℕ → Type 0) (a b : World) where
       turn = λ q off. lasts.apart.turn q (λ s. off (within q s));
       kept = λ q off. lasts.apart.kept q (λ s. off (within q s));
       last = λ q x off. lasts.apart.last q x (λ s. off (within q s));
+      rests = λ q off. lasts.apart.rests q (λ s. off (within q s));
     };
   }
 
@@ -177,6 +180,10 @@ module _ (some : ℕ → Type 0) (part : ℕ → List Access) (a b c : World) wh
 pub went_length : (some : ℕ → Type 0) (x : List Access) (a b : World) → Went x some a b → length b.store.asked ≡ length a.store.asked + length x
 went_length some x a b went = ap length went.did.asked ∙ length-append a.store.asked x
 
+-- so the count goes on
+pub went_spent : (some : ℕ → Type 0) (x : List Access) (a b : World) → Went x some a b → spent b ≡ spent a + length x
+went_spent some x a b went = omega (arith, went_length some x a b went, ap earlier went.lasts.start)
+
 pub tells_went : (some : ℕ → Type 0) (x : List Access) (a b : World) → Went x some a b → IsTrue a.store.tells → IsTrue b.store.tells
 tells_went some x a b went tells = subst (λ (t : Bool). IsTrue t) (sym went.lasts.later.tells) tells
 
@@ -209,6 +216,17 @@ may_put q x shape rows w lives within fit turn = record { place = record { shape
 -- a write to any place of a region without order is in turn
 pub turn_any : (q : ℕ) (shape : Region) (x : ℕ) (w : World) → shape.order ≡ Any → OnTurn q shape x w
 turn_any q shape x w any = record { turn = λ round. absurd (cc (any, round)); run = λ round off. absurd (cc (any, round)) }
+
+-- where a round region was written to its end, its places have numbers in order
+pub numbers_run : (q : ℕ) (shape : Region) (w : World) → Ready w → Lives q shape w → shape.order ≡ Round → OnTurn q shape 0 w → Written q 0 w
+    → (x : ℕ) → x < shape.blocks → w.vault.revs.number q x ≡ w.vault.revs.number q 0 + x
+numbers_run q shape w ready lives round turn written zero below = omega arith
+numbers_run q shape w ready lives round turn written (suc x) below =
+    let before = numbers_run q shape w ready lives round turn written x (omega (arith, below)) in
+    let some : w.vault.revs.number q x ≢ 0 = λ none. absurd (written.number (omega (arith, before, none))) in
+    let next = (ready.laps q shape lives.live round).runs x (omega (arith, below)) (λ same. absurd (omega (arith, same, turn.turn round))) some in
+    let step : suc x ≡ x + 1 = omega arith in
+    ap (w.vault.revs.number q) step ∙ omega (arith, before, next)
 
 -- in whichever order, the next place may be written next
 pub next_turn : (q u : ℕ) (shape : Region) (w : World) → OnTurn q shape (turn_after shape u) w → OnTurn q shape (if u + 1 == shape.blocks then 0 else u + 1) w

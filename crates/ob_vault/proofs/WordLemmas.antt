@@ -1,18 +1,18 @@
 -- The words of contracts, from one call to the next.
-use Rattle.std.proofs.Common.{◌≡◌, ◌≤◌, ◌+◌, ◌-◌, ◌^◌, ℕ, Bool, List, [], Some, None, inl, inr, take, drop, length, refl, sym, ◌∙◌, ap, subst, arith}
+use Rattle.std.proofs.Common.{◌≡◌, ◌<◌, ◌≤◌, ◌+◌, ◌-◌, ◌^◌, ℕ, Bool, List, [], Some, None, inl, inr, take, drop, length, refl, sym, ◌∙◌, ap, subst, arith}
 use Rattle.ob_base.specs.declared.access.Access.{Access}
 use Rattle.ob_store.specs.State.{StoreState}
 use Rattle.ob_store.specs.Calls.{Rests}
 use Rattle.ob_store.proofs.Steps.{none_before, later_rests}
 use Rattle.ob_base.specs.Accesses.{AllBelow, writes, makes, number_of, nth_write}
 use Rattle.ob_seal.specs.Sealed.{sealed, tag_of}
-use Rattle.ob_vault.specs.State.{Start, VaultState, World, from_nothing}
-use Rattle.ob_vault.specs.Numbers.{number_after, last_number}
+use Rattle.ob_vault.specs.State.{Start, VaultState, World, from_nothing, earlier}
+use Rattle.ob_vault.specs.Numbers.{number_after, last_number, spent}
 use Rattle.ob_vault.specs.Tied.{Ready, SealedAt, at_of}
 use Rattle.ob_vault.specs.Calls.{Went, Lasts, Seals, Unfit, Opened}
-use Rattle.ob_vault.specs.Words.{MayAsk, MayStart, IsHonest}
+use Rattle.ob_vault.specs.Words.{MayAsk, MayStart, StartsAnew, IsHonest}
 use Rattle.ob_vault.proofs.WorldSteps.{world, calm_lasts, number_stays}
-use Rattle.ob_vault.proofs.Runs.{went_length, tells_went, shapes_none}
+use Rattle.ob_vault.proofs.Runs.{went_spent, tells_went, shapes_none}
 use Rattle.std.proofs.lemmas.List.{append-nil}
 
 -- fewer accesses are left
@@ -20,7 +20,7 @@ pub asks_after : {n m : ℕ} {x : List Access} {some : ℕ → Type 0} {a b : Wo
 asks_after asks went enough = record {
   ready = went.lasts.ready;
   spare = omega (arith, asks.spare, went.spare, enough);
-  few = omega (arith, asks.few, went_length _ _ _ _ went, enough);
+  few = omega (arith, asks.few, went_spent _ _ _ _ went, enough);
 }
 
 pub asks_fewer : {n m : ℕ} {w : World} → MayAsk n w → m ≤ n → MayAsk m w
@@ -76,6 +76,7 @@ module _ (v : VaultState) (s t : StoreState) (rests : Rests s t) where
         };
         below = ready.below;
         fits = ready.fits;
+        laps = ready.laps;
       }
 
   pub went_rests : (some : ℕ → Type 0) → Ready (world v s) → Went [] some (world v s) (world v t)
@@ -86,7 +87,7 @@ module _ (v : VaultState) (s t : StoreState) (rests : Rests s t) where
         keys = refl;
         start = refl;
         shapes = shapes_none v s t;
-        apart = record { live = λ q off. refl; number = λ q x off. refl; turn = λ q off. refl; kept = λ q off. rests.keeps.live q; last = λ q x off. rests.keeps.last q x };
+        apart = record { live = λ q off. refl; number = λ q x off. refl; turn = λ q off. refl; kept = λ q off. rests.keeps.live q; last = λ q x off. rests.keeps.last q x; rests = λ q off. rests.keeps.kept q };
       } in
       record {
         lasts = lasts;
@@ -104,7 +105,27 @@ module _ (v : VaultState) (s t : StoreState) (rests : Rests s t) where
     };
   }
 
--- of a vault that starts from nothing: its numbers are the positions among the accesses
+-- of a vault that starts from nothing: it counts its own accesses
+pub earlier_nothing : earlier from_nothing ≡ 0
+unfolding earlier
+earlier_nothing = refl
+
+pub spent_nothing : (w : World) → w.vault.start ≡ from_nothing → spent w ≡ length w.store.asked
+spent_nothing w none = omega (arith, ap earlier none, earlier_nothing)
+
+pub starts_anew : {w : World} → Ready w → w.vault.start ≡ from_nothing → StartsAnew w
+starts_anew ready none = record { ready = ready; first = ap earlier none ∙ earlier_nothing }
+
+pub anew_lasts : {some : ℕ → Type 0} {a b : World} → Lasts some a b → StartsAnew a → StartsAnew b
+anew_lasts lasts is = record { ready = lasts.ready; first = ap earlier lasts.start ∙ is.first }
+
+pub anew_rests : (v : VaultState) (s t : StoreState) → Rests s t → StartsAnew (world v s) → StartsAnew (world v t)
+anew_rests v s t rests is = record { ready = ready_rests v s t rests is.ready; first = is.first }
+
+pub anew_starts : {n : ℕ} {w : World} → StartsAnew w → n ≤ w.store.spare → length w.store.asked < 2 ^ 59 → MayStart n w
+anew_starts is spare few = record { ready = is.ready; spare = spare; few = omega (arith, is.first, few) }
+
+-- and its numbers are the positions among the accesses
 pub number_from_nothing : (asked : List Access) (q x : ℕ) → number_after from_nothing asked q x ≡ number_of asked q x
 unfolding number_of
 number_from_nothing asked q x = refl

@@ -1,6 +1,8 @@
 -- What each call of a vault does to it and its store.
-use Rattle.std.proofs.Common.{◌≡◌, ◌≢◌, ◌==◌, if◌then◌else◌, true, false, Err, Option, ◌⊎◌, inl, inr, ℕ, ◌+◌, ◌-◌, ◌<◌, ◌≤◌, List, [], ◌∷◌, ◌++◌, Some, None, Bool, IsTrue, refl, sym, ◌∙◌, ap, subst, arith, append_assoc, length, length-append}
+use Rattle.std.proofs.Common.{◌≡◌, ◌≢◌, ◌==◌, if◌then◌else◌, true, false, Result, Ok, Err, OnOk, OnErr, Option, ◌⊎◌, inl, inr, ℕ, ◌+◌, ◌-◌, ◌<◌, ◌≤◌, List, [], ◌∷◌, ◌++◌, Some, None, Bool, IsTrue, refl, sym, ◌∙◌, ap, subst, arith, append_assoc, length, length-append}
+use Rattle.std.specs.Result.{is_err}
 use Rattle.std.proofs.lemmas.Bool.{cases_eq}
+use Rattle.std.proofs.lemmas.Bool.Decides.{nat_tests}
 use Rattle.std.proofs.lemmas.List.{append-nil}
 use Rattle.ob_base.specs.declared.access.Access.{Access}
 use Rattle.ob_base.specs.declared.access.Access.TheVariants.{Make, Read, Write, Discard}
@@ -16,11 +18,11 @@ use Rattle.ob_vault.specs.declared.fault.VaultErr.TheVariants as VaultErrs
 use Rattle.ob_vault.specs.Revs.{OtherRegions, Begins, Wrote, turn_after, place_after}
 use Rattle.ob_vault.specs.declared.region.Order.{Order}
 use Rattle.ob_vault.specs.declared.region.Order.TheVariants.{Round, Any}
-use Rattle.ob_vault.specs.State.{Start, RevState, VaultState, World, from_nothing}
+use Rattle.ob_vault.specs.State.{Start, RevState, VaultState, World, from_earlier, earlier}
 use Rattle.ob_base.specs.Accesses.{writes, makes, nth_write, make_at}
 use Rattle.ob_base.specs.Accesses.{AllBelow}
 use Rattle.ob_vault.specs.Numbers.{number_after, last_number, IsNumber, IsStart}
-use Rattle.ob_vault.specs.Tied.{Ready, SealedAt, AllSealed, Fits, ReadsIn, Calm, OnTurn, Holds, at_of}
+use Rattle.ob_vault.specs.Tied.{InLaps, Ready, SealedAt, AllSealed, Fits, ReadsIn, Calm, OnTurn, Holds, at_of}
 use Rattle.ob_vault.specs.Calls.{Apart, Only, Lasts, Seals, Went, Cut, none, one}
 use Rattle.ob_vault.specs.VaultCalls.{MakesRegion, Forgets}
 use Rattle.ob_base.proofs.AccessLemmas.{number_read, number_make, number_discard, number_write_here, number_write_other, writes_read, writes_write, writes_make, writes_discard, makes_more, below_more, below_up, number_fresh, went_on, went_last}
@@ -32,13 +34,13 @@ number_stays old new more q x n start asked is = elim is [
   | inr given ↦ inr (given.0 ∙ ap (λ (s : Start). s.given q x) (sym start), given.1)
 ]
 
-module _ (good : ℕ → List ℕ → Bool) (old new : World) (a : Access) (keys : new.vault.keys ≡ old.vault.keys) (start : new.vault.start ≡ old.vault.start) (asks : Asks a old.store new.store) where
+module _ (good : ℕ → List ℕ → Bool) (old new : World) (a : Access) (keys : new.vault.keys ≡ old.vault.keys) (start : new.vault.start ≡ old.vault.start) (asked : new.store.asked ≡ old.store.asked ++ a ∷ []) where
   kept_at : (q x : ℕ) (b : List ℕ) → SealedAt good old q x b → SealedAt good new q x b
   kept_at q x b s = record {
     number = s.number;
     rows = s.rows;
     is = s.is ∙ ap (λ (k : KeySet). sealed k (at_of q x s.number) s.rows) (sym keys);
-    went = number_stays old new (a ∷ []) q x s.number start asks.asked s.went;
+    went = number_stays old new (a ∷ []) q x s.number start asked s.went;
     fine = s.fine;
   }
 
@@ -59,6 +61,13 @@ module _ (good : ℕ → List ℕ → Bool) (old new : World) (a : Access) (keys
     | inr off ↦ inr ((λ n. live (only.live q off ∙ n)), sym (only.last q x off) ∙ at)
   ])
 
+-- numbers and the next place that stay as they were
+pub laps_same : (q : ℕ) (shape : Region) (a b : RevState) → ((x : ℕ) → b.number q x ≡ a.number q x) → b.turn q ≡ a.turn q → InLaps q shape a → InLaps q shape b
+laps_same q shape a b numbers turn laps = record {
+  runs = λ x below next some.
+      numbers (x + 1) ∙ laps.runs x below (λ same. next (same ∙ sym turn)) (λ none. some (numbers x ∙ none)) ∙ ap (λ (n : ℕ). n + 1) (sym (numbers x));
+}
+
 -- a call that may have changed one region, and no number
 pub record Moved (g : ℕ) (old new : World) : Type 0 where
   pub keys : new.vault.keys ≡ old.vault.keys
@@ -75,6 +84,7 @@ pub record Moved (g : ℕ) (old new : World) : Type 0 where
   pub here_number : (shape : Region) → new.vault.revs.live g ≡ Some shape → (x : ℕ) → new.vault.revs.number g x ≡ last_number new g x
   pub here_below : (shape : Region) → new.vault.revs.live g ≡ Some shape → g < new.vault.next
   pub here_fits : (shape : Region) → new.vault.revs.live g ≡ Some shape → (1 ≤ shape.width) × (shape.width ≤ 16384)
+  pub here_laps : (shape : Region) → new.vault.revs.live g ≡ Some shape → InLaps g shape new.vault.revs
 
 pub ready_moved : (g : ℕ) (old new : World) → Ready old → Moved g old new → Ready new
 ready_moved g old new ready m = record {
@@ -100,6 +110,10 @@ ready_moved g old new ready m = record {
     | inl here ↦ m.here_fits shape (sym (ap new.vault.revs.live here) ∙ l)
     | inr off ↦ ready.fits q shape (sym (m.revs.live q off) ∙ l)
   ];
+  laps = λ q shape l round. elim (cases_eq q g) [
+    | inl here ↦ subst (λ (k : ℕ). InLaps k shape new.vault.revs) (sym here) (m.here_laps shape (sym (ap new.vault.revs.live here) ∙ l))
+    | inr off ↦ laps_same q shape old.vault.revs new.vault.revs (λ x. m.revs.number q x off) (m.revs.turn q off) (ready.laps q shape (sym (m.revs.live q off) ∙ l) round)
+  ];
 }
 
 pub apart_moved : (g : ℕ) (old new : World) → Moved g old new → Apart (one g) old new
@@ -109,6 +123,7 @@ apart_moved g old new m = record {
   turn = λ q off. m.revs.turn q off;
   kept = λ q off. m.only.live q off;
   last = λ q x off. m.only.last q x off;
+  rests = λ q off. m.only.kept q off;
 }
 
 pub lasts_moved : (g : ℕ) (old new : World) → Ready old → Moved g old new → Later old.store new.store → Lasts (one g) old new
@@ -161,7 +176,7 @@ lasts_none some w ready = record {
   keys = refl;
   start = refl;
   shapes = record { next = omega arith; shapes = λ q below. inr refl };
-  apart = record { live = λ q off. refl; number = λ q x off. refl; turn = λ q off. refl; kept = λ q off. refl; last = λ q x off. refl };
+  apart = record { live = λ q off. refl; number = λ q x off. refl; turn = λ q off. refl; kept = λ q off. refl; last = λ q x off. refl; rests = λ q off. refl };
 }
 
 -- a read
@@ -182,6 +197,7 @@ lasts_read v old new q x shape ready lives asks keeps =
         };
         below = ready.below;
         fits = ready.fits;
+        laps = ready.laps;
       };
       later = later_call _ _ _ asks;
       keys = refl;
@@ -193,6 +209,7 @@ lasts_read v old new q x shape ready lives asks keeps =
         turn = λ r off. refl;
         kept = λ r off. keeps.live r;
         last = λ r y off. keeps.last r y;
+        rests = λ r off. keeps.kept r;
       };
     }
 
@@ -218,6 +235,7 @@ lasts_drop v revs old new g shape ready lives others gone asks only left =
       here_number = λ s l x. absurd (cc (l, gone));
       here_below = λ s l. absurd (cc (l, gone));
       here_fits = λ s l. absurd (cc (l, gone));
+      here_laps = λ s l. absurd (cc (l, gone));
     }) (later_call _ _ _ asks)
 
 -- a region that the vault alone forgets
@@ -232,13 +250,14 @@ lasts_forget v revs s g ready others gone =
       above = tied.above;
       up = omega arith;
       revs = others;
-      only = record { live = λ q off. refl; last = λ q x off. refl };
+      only = record { live = λ q off. refl; last = λ q x off. refl; kept = λ q off. refl };
       numbers = λ q x. refl;
       here_shape = inl gone;
       here_live = λ s l. absurd (cc (l, gone));
       here_number = λ s l x. absurd (cc (l, gone));
       here_below = λ s l. absurd (cc (l, gone));
       here_fits = λ s l. absurd (cc (l, gone));
+      here_laps = λ s l. absurd (cc (l, gone));
     }) (later_refl s)
 
 pub forgets_region : (v : VaultState) (revs : RevState) (s : StoreState) (g : ℕ) → OtherRegions g v.revs revs → revs.live g ≡ None → Forgets g (world v s) (world (record v { revs = revs }) s)
@@ -264,23 +283,23 @@ seals_drop good v revs old new g asks only left =
     let now = world (record v { revs = revs }) new in
     record {
       seals = λ tells all. elim left [
-        | inl left ↦ sealed_but good was now (Discard g) refl refl asks g only (inl left) all
-        | inr keeps ↦ sealed_keeps good was now (Discard g) refl refl asks keeps all
+        | inl left ↦ sealed_but good was now (Discard g) refl refl asks.asked g only (inl left) all
+        | inr keeps ↦ sealed_keeps good was now (Discard g) refl refl asks.asked keeps all
       ];
     }
 
 pub seals_read : (good : ℕ → List ℕ → Bool) (v : VaultState) (old new : StoreState) (q x : ℕ) → Asks (Read q x) old new → Keeps old new → Seals good (world v old) (world v new)
-seals_read good v old new q x asks keeps = record { seals = λ tells all. sealed_keeps good (world v old) (world v new) (Read q x) refl refl asks keeps all }
+seals_read good v old new q x asks keeps = record { seals = λ tells all. sealed_keeps good (world v old) (world v new) (Read q x) refl refl asks.asked keeps all }
 
 pub seals_make : (good : ℕ → List ℕ → Bool) (v : VaultState) (revs : RevState) (old new : StoreState) (g blocks len : ℕ) → Asks (Make g blocks len) old new → Makes g blocks len old new
     → Seals good (world v old) (world (record v { next = v.next + 1; revs = revs }) new)
 seals_make good v revs old new g blocks len asks makes' =
-    record { seals = λ tells all. sealed_but good (world v old) (world (record v { next = v.next + 1; revs = revs }) new) (Make g blocks len) refl refl asks g makes'.others (inr makes'.empty) all }
+    record { seals = λ tells all. sealed_but good (world v old) (world (record v { next = v.next + 1; revs = revs }) new) (Make g blocks len) refl refl asks.asked g makes'.others (inr makes'.empty) all }
 
 pub seals_unmade : (good : ℕ → List ℕ → Bool) (v : VaultState) (revs : RevState) (old new : StoreState) (g blocks len : ℕ) → Asks (Make g blocks len) old new → Keeps old new
     → Seals good (world v old) (world (record v { next = v.next + 1; revs = revs }) new)
 seals_unmade good v revs old new g blocks len asks keeps =
-    record { seals = λ tells all. sealed_keeps good (world v old) (world (record v { next = v.next + 1; revs = revs }) new) (Make g blocks len) refl refl asks keeps all }
+    record { seals = λ tells all. sealed_keeps good (world v old) (world (record v { next = v.next + 1; revs = revs }) new) (Make g blocks len) refl refl asks.asked keeps all }
 
 -- a call that answered
 pub went_call : (a : Access) (some : ℕ → Type 0) (old new : World) → Lasts some old new → Asks a old.store new.store → new.store.faults ≡ old.store.faults → new.store.lie ≡ old.store.lie → Went (a ∷ []) some old new
@@ -292,12 +311,49 @@ went_call a some old new lasts asks faults lie = record {
 }
 
 module _ (v : VaultState) (revs : RevState) (old new : StoreState) (q x : ℕ) (shape : Region) (ready : Ready (world v old)) (lives : v.revs.live q ≡ Some shape)
-    (wrote : Wrote q shape x (v.count + 1) v.revs revs) (asks : Asks (Write q x) old new) (only : OnlyAt q x old new) where
+    (in_turn : OnTurn q shape x (world v old)) (wrote : Wrote q shape x (v.count + 1) v.revs revs) (asks : Asks (Write q x) old new) (only : OnlyAt q x old new) where
   number_here : number_after v.start new.asked q x ≡ v.count + 1
   number_here = ap (λ (l : List Access). number_after v.start l q x) asks.asked ∙ number_write_here v.start.writes (v.start.given q x) q x old.asked ∙ ap (λ (n : ℕ). n + 1) (sym ready.tied.count)
 
   number_other : (r y : ℕ) → (r ≡ q → y ≡ x → ⊥) → number_after v.start new.asked r y ≡ number_after v.start old.asked r y
   number_other r y off = ap (λ (l : List Access). number_after v.start l r y) asks.asked ∙ number_write_other v.start.writes (v.start.given r y) r y q x old.asked off
+
+  -- behind the last place the first one is next, and behind any other the one after it
+  next_place : (n : ℕ) → n + 1 < shape.blocks → (if n + 1 == shape.blocks then 0 else n + 1) ≡ n + 1
+  next_place n below = grind (arith, nat_tests)
+
+  next_turn : (o : Order) → o ≡ Round → x + 1 < shape.blocks → place_after o shape.blocks x ≡ x + 1
+  next_turn Round round below = next_place x below
+  next_turn Any round below = absurd (cc round)
+
+  kept_number : (y : ℕ) → y ≢ x → revs.number q y ≡ v.revs.number q y
+  kept_number y off = wrote.others q y (λ _ same. off same)
+
+  laps_here : shape.order ≡ Round → InLaps q shape revs
+  laps_here round = record {
+    runs = λ y below next some. elim (cases_eq (y + 1) x) [
+      | inl last ↦
+          let here : revs.number q (y + 1) ≡ v.count + 1 = ap (revs.number q) last ∙ wrote.here in
+          let kept : revs.number q y ≡ v.revs.number q y = kept_number y (λ same. absurd (omega (arith, last, same))) in
+          let before : v.revs.number q y ≡ v.count = ap (v.revs.number q) (omega (arith, last)) ∙ in_turn.run round (λ zero. absurd (omega (arith, last, zero))) in
+          omega (arith, here, kept, before)
+      | inr off ↦ elim (cases_eq y x) [
+        | inl here ↦ absurd (next (ap (λ (n : ℕ). n + 1) here ∙ sym (wrote.turn ∙ next_turn shape.order round (omega (arith, here, below)))))
+        | inr away ↦
+            kept_number (y + 1) off
+            ∙ (ready.laps q shape lives round).runs y below (λ same. off (same ∙ sym (in_turn.turn round))) (λ none. some (kept_number y away ∙ none))
+            ∙ ap (λ (n : ℕ). n + 1) (sym (kept_number y away))
+      ]
+    ];
+  }
+
+  now_laps : (r : ℕ) (s : Region) → revs.live r ≡ Some s → s.order ≡ Round → InLaps r s revs
+  now_laps r s l round = elim (cases_eq r q) [
+    | inl here ↦
+        let same : shape ≡ s = cc (lives, sym (ap v.revs.live here) ∙ sym (wrote.live r) ∙ l) in
+        subst (λ (k : ℕ). InLaps k s revs) (sym here) (subst (λ (k : Region). InLaps q k revs) same (laps_here (ap (λ (k : Region). k.order) same ∙ round)))
+    | inr off ↦ laps_same r s v.revs revs (λ y. wrote.others r y (λ same _. off same)) (wrote.turns r off) (ready.laps r s (sym (wrote.live r) ∙ l) round)
+  ]
 
   now_ready : Ready (world (record v { count = v.count + 1; revs = revs }) new)
   now_ready =
@@ -319,11 +375,12 @@ module _ (v : VaultState) (revs : RevState) (old new : StoreState) (q x : ℕ) (
         };
         below = λ r s l. ready.below r s (sym (wrote.live r) ∙ l);
         fits = λ r s l. ready.fits r s (sym (wrote.live r) ∙ l);
+        laps = now_laps;
       }
 
   now_sealed : (good : ℕ → List ℕ → Bool) (block rows : List ℕ) → IsTrue (good q rows) → block ≡ sealed v.keys (at_of q x (v.count + 1)) rows → (new.last q x ≡ old.last q x) ⊎ (new.last q x ≡ Some block)
       → AllSealed good (world v old) → AllSealed good (world (record v { count = v.count + 1; revs = revs }) new)
-  now_sealed good block rows fine is left all = sealed_kept good (world v old) (world (record v { count = v.count + 1; revs = revs }) new) (Write q x) refl refl asks each all
+  now_sealed good block rows fine is left all = sealed_kept good (world v old) (world (record v { count = v.count + 1; revs = revs }) new) (Write q x) refl refl asks.asked each all
     where
       now : World
       now = world (record v { count = v.count + 1; revs = revs }) new
@@ -370,6 +427,7 @@ module _ (v : VaultState) (revs : RevState) (old new : StoreState) (q x : ℕ) (
       turn = λ r off. wrote.turns r off;
       kept = λ r off. only.live r;
       last = λ r y off. only.elsewhere r y (λ same _. off same);
+      rests = λ r off. only.kept r off;
     };
   }
 
@@ -444,6 +502,7 @@ lasts_make v revs old new shape ready wide begins asks makes' =
       here_number = λ s l x. begins.unwritten x ∙ sym (tied.start.fresh g x (omega (arith, tied.next))) ∙ sym (number_fresh v.start.writes (v.start.given g x) g x old.asked tied.above) ∙ sym (numbers g x);
       here_below = λ s l. omega arith;
       here_fits = λ s l. let same : shape ≡ s = cc (begins.here, l) in subst (λ (k : Region). (1 ≤ k.width) × (k.width ≤ 16384)) same wide;
+      here_laps = λ s l. record { runs = λ x below next some. absurd (some (begins.unwritten x)) };
     }) (later_call _ _ _ asks)
 
 -- one that was not
@@ -463,13 +522,14 @@ lasts_unmade v revs old new blocks len ready others gone asks keeps =
       above = subst (AllBelow (v.next + 1)) (sym asks.asked) (below_more (v.next + 1) old.asked access (below_up v.next (v.next + 1) old.asked (omega arith) tied.above) (omega arith));
       up = omega arith;
       revs = others;
-      only = record { live = λ q off. keeps.live q; last = λ q x off. keeps.last q x };
+      only = record { live = λ q off. keeps.live q; last = λ q x off. keeps.last q x; kept = λ q off. keeps.kept q };
       numbers = λ q x. ap (λ (l : List Access). number_after v.start l q x) asks.asked ∙ number_make v.start.writes (v.start.given q x) q x g blocks len old.asked;
       here_shape = inl gone;
       here_live = λ s l. absurd (cc (l, gone));
       here_number = λ s l x. absurd (cc (l, gone));
       here_below = λ s l. absurd (cc (l, gone));
       here_fits = λ s l. absurd (cc (l, gone));
+      here_laps = λ s l. absurd (cc (l, gone));
     }) (later_call _ _ _ asks)
 
 pub others_twice : (g : ℕ) (a b c : RevState) → OtherRegions g a b → OtherRegions g b c → OtherRegions g a c
@@ -480,7 +540,7 @@ others_twice g a b c first second = record {
 }
 
 -- no region has the next number
-next_none : (o : Option Region) → ((shape : Region) → o ≡ Some shape → ⊥) → o ≡ None
+pub next_none : (o : Option Region) → ((shape : Region) → o ≡ Some shape → ⊥) → o ≡ None
 next_none None off = refl
 next_none (Some shape) off = absurd (off shape refl)
 
@@ -511,9 +571,27 @@ cut_call_none a some old new lasts asks faults lie = record {
   cause = (faults, calm_lasts some old new (a ∷ []) lasts asks.asked lie);
 }
 
--- no earlier run has left a number
-pub start_nothing : IsStart from_nothing
-start_nothing = record { fresh = λ q x above. refl; within = λ q x. omega arith; alone = λ q x r y same some. absurd (some refl) }
+-- no region of an earlier run was opened
+pub start_earlier : (writes region : ℕ) → IsStart (from_earlier writes region)
+start_earlier writes region = record { fresh = λ q x above. refl; within = λ q x. omega arith; alone = λ q x r y same some. absurd (some refl) }
+
+-- what holds at an `Ok`, where there is no `Err`, and at an `Err`
+pub at_ok : {T E : Type 0} (r : Result T E) (P : Type 0) → false ≡ is_err r → OnOk r P → P
+at_ok (Ok x) P ok h = h
+at_ok (Err e) P ok h = absurd (cc ok)
+
+pub at_err : {T E : Type 0} (r : Result T E) (P : Type 0) → true ≡ is_err r → OnErr r P → P
+at_err (Ok x) P bad h = absurd (cc bad)
+at_err (Err e) P bad h = h
+
+-- no number of an earlier run is above where its numbers are
+pub earlier_writes : (start : Start) → start.writes ≤ earlier start
+unfolding earlier
+earlier_writes start = omega arith
+
+pub earlier_region : (start : Start) → start.region ≤ earlier start
+unfolding earlier
+earlier_region start = omega arith
 
 -- before the first access
 pub ready_new : (w : World) → w.store.asked ≡ [] → IsStart w.vault.start → w.vault.count ≡ w.vault.start.writes → w.vault.next ≡ w.vault.start.region + 1 → ((q : ℕ) → w.vault.revs.live q ≡ None) → Ready w
@@ -529,4 +607,5 @@ ready_new w none start count next empty = record {
   };
   below = λ q s l. absurd (cc (l, empty q));
   fits = λ q s l. absurd (cc (l, empty q));
+  laps = λ q s l. absurd (cc (l, empty q));
 }

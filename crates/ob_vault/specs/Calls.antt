@@ -18,6 +18,7 @@ pub record Apart (some : ℕ → Type 0) (old new : World) : Type 0 where
   pub turn : (q : ℕ) → (some q → ⊥) → new.vault.revs.turn q ≡ old.vault.revs.turn q
   pub kept : (q : ℕ) → (some q → ⊥) → new.store.live q ≡ old.store.live q
   pub last : (q x : ℕ) → (some q → ⊥) → new.store.last q x ≡ old.store.last q x
+  pub rests : (q : ℕ) → (some q → ⊥) → new.store.kept q ≡ old.store.kept q
 
 -- no region came or went, and nothing has changed at any other place
 pub record Only (q x : ℕ) (old new : World) : Type 0 where

@@ -9,4 +9,5 @@ pub mod Calls
 pub mod Places
 pub mod Rows
 pub mod VaultCalls
+pub mod Resuming
 pub mod Words

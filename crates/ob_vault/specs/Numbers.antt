@@ -1,9 +1,9 @@
 -- The numbers of writes and of places, where a run goes on from an earlier one.
-use Rattle.std.specs.Prelude.{◌≡◌, ◌≢◌, ◌⊎◌, ◌<◌, ◌≤◌, ◌+◌, ◌-◌, ℕ, List, Some, slice_get, take}
+use Rattle.std.specs.Prelude.{◌≡◌, ◌≢◌, ◌⊎◌, ◌<◌, ◌≤◌, ◌+◌, ◌-◌, ℕ, List, Some, length, slice_get, take}
 use Rattle.ob_base.specs.declared.access.Access.{Access}
 use Rattle.ob_base.specs.declared.access.Access.TheVariants.{Write}
 use Rattle.ob_base.specs.Accesses.{writes, number_from, nth_write}
-use Rattle.ob_vault.specs.State.{Start, World}
+use Rattle.ob_vault.specs.State.{Start, World, earlier}
 
 -- the number of the last write to a place: that of a write of this run, or the one that was given
 abbrev pub number_after : Start → List Access → ℕ → ℕ → ℕ
@@ -33,3 +33,7 @@ pub record IsWrite (i q x : ℕ) (w : World) : Type 0 where
 -- its number
 abbrev pub write_number : ℕ → World → ℕ
 write_number i w = w.vault.start.writes + (writes (take i w.store.asked) + 1)
+
+-- the accesses so far, counted on from where an earlier run's numbers are: no number of a write or a region is above it
+abbrev pub spent : World → ℕ
+spent w = earlier w.vault.start + length w.store.asked

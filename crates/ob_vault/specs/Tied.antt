@@ -10,7 +10,7 @@ use Rattle.ob_seal.specs.Sealed.{sealed, tag_of}
 use Rattle.ob_seal.specs.declared.At.{At}
 use Rattle.ob_vault.specs.declared.region.Region.{Region}
 use Rattle.ob_vault.specs.declared.region.Order.TheVariants.{Round}
-use Rattle.ob_vault.specs.State.{Start, World}
+use Rattle.ob_vault.specs.State.{RevState, Start, World}
 use Rattle.ob_vault.specs.Numbers.{number_after, last_number, IsNumber, IsStart}
 use Rattle.ob_base.specs.Accesses.{writes, makes}
 
@@ -25,12 +25,20 @@ pub record Tied (w : World) : Type 0 where
   pub numbers : (q x : ℕ) (shape : Region) → w.vault.revs.live q ≡ Some shape → x < shape.blocks
       → w.vault.revs.number q x ≡ last_number w q x
 
+-- a place of a round region has the number behind that of the place before it, unless it is the next one in turn or
+-- nothing was written before it
+pub record InLaps (q : ℕ) (shape : Region) (revs : RevState) : Type 0 where
+  pub runs : (x : ℕ) → x + 1 < shape.blocks → x + 1 ≢ revs.turn q → revs.number q x ≢ 0
+      → revs.number q (x + 1) ≡ revs.number q x + 1
+
 -- what each call asks of a vault and a store, and leaves
 pub record Ready (w : World) : Type 0 where
   pub tied : Tied w
   pub below : (q : ℕ) (shape : Region) → w.vault.revs.live q ≡ Some shape → q < w.vault.next
   pub fits : (q : ℕ) (shape : Region) → w.vault.revs.live q ≡ Some shape → (1 ≤ shape.width)
       × (shape.width ≤ 16384)
+  pub laps : (q : ℕ) (shape : Region) → w.vault.revs.live q ≡ Some shape → shape.order ≡ Round
+      → InLaps q shape w.vault.revs
 
 -- a region of the vault
 pub record Lives (q : ℕ) (shape : Region) (w : World) : Type 0 where

@@ -1,49 +1,77 @@
+use crate::earlier::Earlier;
 use crate::fault::VaultErr;
 use crate::region::{Order, Region};
 use crate::revs::Revisions;
 use crate::sealing::{load, open, shut};
-use ob_base::StoreErr;
+use ob_base::{Items, StoreErr};
 use ob_room::ClearRow;
 use ob_seal::{At, Keys};
-use ob_store::BlockStore;
+use ob_store::{BlockStore, Lasting};
 use std::alloc::Global;
 
 /// Sealed regions in a store, and the write number of each of their places.
+///
+/// It may go on from an earlier run: its numbers do, and that run's regions can be opened again.
 #[derive(Drop)]
 pub struct Vault<R> {
     keys: Keys,
     revs: R,
     count: u64,
     next: u64,
+    // of the earlier run: how many writes it made, its last region, and its regions that are live again
+    writes: u64,
+    region: u64,
+    resumed: Items<Earlier>,
     block: [u8; 16416],
 }
 
 impl<R: Revisions> Vault<R> {
-    ghost use Rattle.std.specs.Prelude.{◌≡◌, ◌<◌, ◌≤◌, ◌+◌, ◌^◌, [], ℕ, Some, None, length};
+    ghost use Rattle.std.specs.Prelude.{◌≡◌, ◌<◌, ◌≤◌, ◌+◌, ◌-◌, ◌^◌, [], ℕ, Some, None, min};
     ghost use Rattle.ob_store.specs.State.{StoreState};
     ghost use Rattle.ob_vault.specs.declared.region.Region.{Region as Layout};
+    ghost use Rattle.ob_vault.specs.State.{from_nothing, from_earlier};
+    ghost use Rattle.ob_vault.specs.Numbers.{spent};
     ghost use Rattle.ob_vault.specs.Tied.{Ready, Lives};
     ghost use Rattle.ob_vault.specs.Rows.{SameSizes};
-    ghost use Rattle.ob_vault.specs.Places.{at, MayGet, MayPut};
+    ghost use Rattle.ob_vault.specs.Places.{at, start_of, MayGet, MayPut};
+    ghost use Rattle.ob_vault.specs.Resuming.{MayResume, ResumesRegion};
     ghost use Rattle.ob_vault.specs.VaultCalls.{MakesRegion, Gets, Puts, DropsRegion, Forgets};
 
     /// A vault with no region.
     pub fn new(alloc: Global, keys: Keys) -> Vault<R>
         ensures ready { (s : StoreState) → s.asked ≡ [] → Ready (at R.state result s) }
+        ensures started { start_of result ≡ from_nothing }
         ensures keyed { result.keys ≡ keys }
         ensures first { result.next ≡ 1 }
         ensures empty { (q : ℕ) → (R.state result.revs).live q ≡ None }
     {
+        Vault::start_at(alloc, keys, 1, 0)
+    }
+
+    /// A vault with no region that goes on from an earlier run: `region` is the number of the next region
+    /// (1 at least), and `writes` the number of the earlier run's last write.
+    pub fn start_at(alloc: Global, keys: Keys, region: u64, writes: u64) -> Vault<R>
+        requires { 1 ≤ region }
+        ensures ready { (s : StoreState) → s.asked ≡ [] → Ready (at R.state result s) }
+        ensures started { start_of result ≡ from_earlier writes (region - 1) }
+        ensures keyed { result.keys ≡ keys }
+        ensures first { result.next ≡ region }
+        ensures empty { (q : ℕ) → (R.state result.revs).live q ≡ None }
+    {
+        let resumed = Items::new(alloc);
         Vault {
             keys,
             revs: R::new(alloc),
-            count: 0,
-            next: 1,
+            count: writes,
+            next: region,
+            writes,
+            region: region - 1,
+            resumed,
             block: [0; 16416],
         }
     }
 
-    /// Makes a region. Only this takes memory, and before the store is asked.
+    /// Makes a region. It takes memory, and before the store is asked.
     pub fn make<S: BlockStore>(
         &mut self,
         store: &mut S,
@@ -53,7 +81,7 @@ impl<R: Revisions> Vault<R> {
     ) -> Result<u64, VaultErr>
         requires ready { Ready (at R.state self.old (S.state store.old)) }
         requires spare { 1 ≤ (S.state store.old).spare }
-        requires few { length (S.state store.old).asked < 2 ^ 63 + 2 ^ 60 }
+        requires few { spent (at R.state self.old (S.state store.old)) < 2 ^ 63 + 2 ^ 60 }
         requires blocks { (1 ≤ blocks) × (blocks ≤ 134217728) }
         requires width { (1 ≤ width) × (width ≤ 16384) }
         ensures makes { MakesRegion blocks width order result
@@ -78,6 +106,59 @@ impl<R: Revisions> Vault<R> {
             Err(StoreErr::NoMemory) => {
                 self.revs.end(region);
                 Err(VaultErr::NoMemory)
+            }
+        }
+    }
+
+    /// Makes a region of an earlier run live again: its places were last written in order, the first of
+    /// them under this number.
+    ///
+    /// It takes memory, and before the store is asked. After an error the region is not live.
+    pub fn resume<S: Lasting>(
+        &mut self,
+        store: &mut S,
+        region: u64,
+        blocks: u32,
+        width: u32,
+        order: Order,
+        number: u64,
+    ) -> Result<(), VaultErr>
+        requires ready { Ready (at R.state self.old (S.state store.old)) }
+        requires spare { 1 ≤ (S.state store.old).spare }
+        requires few { spent (at R.state self.old (S.state store.old)) < 2 ^ 63 + 2 ^ 60 }
+        requires blocks { (1 ≤ blocks) × (blocks ≤ 134217728) }
+        requires width { (1 ≤ width) × (width ≤ 16384) }
+        requires may { MayResume region blocks number (at R.state self.old (S.state store.old)) }
+        ensures resumes { ResumesRegion region
+            (record { blocks = blocks; width = width; order = order }) number result
+            (at R.state self.old (S.state store.old)) (at R.state self.new (S.state store.new)) }
+    {
+        let shape = Region {
+            blocks,
+            width,
+            order,
+        };
+        let earlier = Earlier {
+            region,
+            blocks,
+            first: number,
+        };
+        if self.revs.resume(region, shape, number).is_err() {
+            return Err(VaultErr::NoMemory);
+        }
+        if self.resumed.push(earlier).is_err() {
+            self.revs.end(region);
+            return Err(VaultErr::NoMemory);
+        }
+        match store.resume(region, blocks, width + 32) {
+            Ok(()) => Ok(()),
+            Err(e) => {
+                let _ = self.resumed.pop();
+                self.revs.end(region);
+                match e {
+                    StoreErr::Failed => Err(VaultErr::Failed),
+                    StoreErr::NoMemory => Err(VaultErr::NoMemory),
+                }
             }
         }
     }
@@ -127,7 +208,7 @@ impl<R: Revisions> Vault<R> {
     ) -> Result<(), VaultErr>
         requires ready { Ready (at R.state self.old (S.state store.old)) }
         requires spare { 1 ≤ (S.state store.old).spare }
-        requires few { length (S.state store.old).asked < 2 ^ 63 + 2 ^ 60 }
+        requires few { spent (at R.state self.old (S.state store.old)) < 2 ^ 63 + 2 ^ 60 }
         requires place { MayPut region place rows.now (at R.state self.old (S.state store.old)) }
         ensures puts { Puts region place rows.now result
             (at R.state self.old (S.state store.old)) (at R.state self.new (S.state store.new)) }
@@ -179,6 +260,30 @@ impl<R: Revisions> Vault<R> {
         ensures { result ≡ self.now.next }
     {
         self.next
+    }
+
+    /// The number under which a place of a live region was last written, or 0.
+    pub fn number(&self, region: u64, place: u32) -> u64
+        requires { (shape : Layout) × ((R.state self.now.revs).live region ≡ Some shape)
+            × (place < shape.blocks) }
+        ensures { result ≡ (R.state self.now.revs).number region place }
+    {
+        self.revs.number(region, place)
+    }
+
+    /// The number of the last write, or that of the earlier run's last one where there was none since.
+    pub fn writes(&self) -> u64
+        ensures { result ≡ self.now.count }
+    {
+        self.count
+    }
+
+    /// The accesses so far, counted on from the earlier run's writes or regions, whichever are more; or
+    /// 2^64 - 1 where that is above it.
+    pub fn spent<S: BlockStore>(&self, store: &S) -> u64
+        ensures { result ≡ min (spent (at R.state self.now (S.state store.now))) (2 ^ 64 - 1) }
+    {
+        self.writes.max(self.region).saturating_add(store.count())
     }
 
     /// The next place of a round region.

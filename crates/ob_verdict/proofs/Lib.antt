@@ -13,3 +13,6 @@ pub mod AcceptedProof
 pub mod Sessions
 pub mod TableSessions
 pub mod LongSessions
+pub mod AlikeHeadings
+pub mod AlikeTables
+pub mod AlikeProof

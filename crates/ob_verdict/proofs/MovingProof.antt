@@ -14,17 +14,17 @@ use Rattle.ob_script.specs.Trace.{moved}
 use Rattle.ob_verdict.proofs.InPlaceProof.{none_either}
 use Rattle.ob_verdict.specs.Moving.{table_at, Moves, CreatesNew, DropsOne}
 
-same_name : (a b : List ℕ) → bytes_eq a b ≡ true → a ≡ b
+pub same_name : (a b : List ℕ) → bytes_eq a b ≡ true → a ≡ b
 same_name a b = (bytes_eq-Decides a b).0
 
-is_name : (a : List ℕ) → bytes_eq a a ≡ true
+pub is_name : (a : List ℕ) → bytes_eq a a ≡ true
 is_name a = (bytes_eq-Decides a a).1 refl
 
 is_false : (b : Bool) → (b ≡ true → ⊥) → b ≡ false
 is_false true h = absurd (h refl)
 is_false false h = refl
 
-other_name : (a b : List ℕ) → a ≢ b → bytes_eq a b ≡ false
+pub other_name : (a b : List ℕ) → a ≢ b → bytes_eq a b ≡ false
 other_name a b off = is_false (bytes_eq a b) (λ e. off (same_name a b e))
 
 abbrev at_region : ℕ → Option (Stored ℕ) → Option (Stored ℕ)

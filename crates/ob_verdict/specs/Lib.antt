@@ -1,3 +1,4 @@
 pub mod Laws
 pub mod Accepted
 pub mod Moving
+pub mod Alike

@@ -9,6 +9,8 @@ ghost use Rattle.ob_sql.specs.declared.stmt.Stmt.{Stmt};
 ghost use Rattle.ob_row.specs.Results.{large_slots, continuous_slots, hash_slots, unplaced, joined};
 ghost use Rattle.ob_mean.specs.Verdict.{Tables};
 ghost use Rattle.ob_base.specs.declared.schema.Table.{Table};
+ghost use Rattle.ob_base.specs.Stored.{AreApart, headings};
+ghost use Rattle.ob_verdict.specs.Alike.{AreAlike, OrderIsNothing};
 ghost use Rattle.ob_verdict.specs.Accepted.{PlacesFit, TotalsPlacesFit, JoinsFit, SetsFit, ConditionsFit, BucketsFit};
 ghost use Rattle.ob_verdict.specs.Moving.{Moves, CreatesNew, DropsOne};
 ghost use Rattle.ob_verdict.specs.Laws.{SettlesAsStep, KeepsInPlace, ShowsKindAlone, PaddedShowsKind, PlanIsWhole, ForcedShowsAlike, ShowsNotConsecutive, SeenIsLawful, CutIsLawful, PrintsAnswer};
@@ -89,4 +91,16 @@ pub fn moving_laws()
     ensures moves { (name : List ℕ) (region : ℕ) (ts : List Table) → Moves name region ts }
     ensures creates { CreatesNew }
     ensures drops { DropsOne }
+{}
+
+/// In whichever order the tables stand, a statement is refused, answered and seen alike, and leaves them alike.
+pub fn order_is_nothing()
+    ensures { OrderIsNothing }
+{}
+
+/// Being the same tables, in whichever order, is an equivalence of those of which no two have one name.
+pub fn alike_tables()
+    ensures same { (ts : Tables) → AreApart (headings ts) → AreAlike ts ts }
+    ensures turned { (ts us : Tables) → AreAlike ts us → AreAlike us ts }
+    ensures chained { (ts us vs : Tables) → AreAlike ts us → AreAlike us vs → AreAlike ts vs }
 {}

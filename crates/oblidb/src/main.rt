@@ -1,10 +1,10 @@
-//! Serves the statements of standard input over a store in files, whose names begin as `--store` says. The exit status
-//! tells how that ended.
+//! Serves the statements of standard input over a store in files, whose names begin as `--store` says. With `--keep` its
+//! tables are there again in the next run. The exit status tells how that ended.
 #![tactic(auto)]
 
-use ob_file::FileStore;
+use ob_file::{FileKeeper, FileStore};
 use ob_io::{StdSink, StdSource};
-use ob_shell::{shell_top, store_name};
+use ob_shell::{keep_top, store_name};
 use std::process::ExitCode;
 use std::rt::Env;
 use std::{env, io};
@@ -28,19 +28,26 @@ fn main(rt: HostRuntime) -> ExitCode {
     let Ok(name) = store_name(rt.alloc(), &words) else {
         return ExitCode::from(NO_MEMORY);
     };
+    let Ok(kept) = String::from_str(rt.alloc(), name.as_str()) else {
+        return ExitCode::from(NO_MEMORY);
+    };
+    let Ok(mut keeper) = FileKeeper::new(rt.alloc(), &rt, kept) else {
+        return ExitCode::from(NO_MEMORY);
+    };
     let mut store = FileStore::new(rt.alloc(), &rt, name);
     let stdout = rt.stdout();
     let stderr = rt.stderr();
     let mut input = StdSource::new(rt.reader());
     let mut out = StdSink::new(io::writer(&stdout));
     let mut trace = StdSink::new(io::writer(&stderr));
-    let report = shell_top(
+    let report = keep_top(
         rt.alloc(),
         &words,
         &mut input,
         &mut out,
         &mut trace,
         &mut store,
+        &mut keeper,
     );
     ExitCode::from(report.status)
 }

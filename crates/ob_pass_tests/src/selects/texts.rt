@@ -1,15 +1,16 @@
 //! A table of one slot, which has a text.
 ghost use Rattle.std.specs.Prelude.{◌≡◌, ◌≤◌, [], ◌∷◌, ℕ, List, length};
 ghost use Rattle.ob_base.specs.Schemas.{width};
-ghost use Rattle.ob_vault.specs.Tied.{Ready};
 ghost use Rattle.ob_vault.specs.Places.{at};
+ghost use Rattle.ob_vault.specs.Words.{StartsAnew};
 ghost use Rattle.ob_row.specs.declared.cell.Cell.TheVariants.{Text as TextCell};
 ghost use Rattle.ob_row.specs.Spelling.{Fits as FitColumns, FitsText};
 ghost use Rattle.ob_blocks.specs.Idle.{IsIdle};
 ghost use Rattle.ob_flat.specs.Flats.{IsSized, IsFlat};
 
+use crate::emitter::Wanted;
 use crate::tables::{Entry, check, column, counted, emit_to, insert_cells, make_room, opened};
-use ob_base::{Emit, EmitErr, Kind, Label, Schema, Shown, Text};
+use ob_base::{EmitErr, Kind, Schema, Shown, Text};
 use ob_flat::{Flat, create};
 use ob_room::Room;
 use ob_row::{Cell, Pred};
@@ -18,43 +19,6 @@ use ob_vault::{BaseRevs, Revisions, Vault};
 use std::process::Abort;
 
 const TEXT: &[u8] = b"a'\"";
-
-// How many rows were emitted, and how many of them have the text alone.
-#[derive(Clone, Copy, Debug, PartialEq, Eq)]
-struct Texts {
-    rows: u8,
-    same: u8,
-}
-
-impl Emit for Texts {
-    ghost use Rattle.std.specs.Prelude.{⊤};
-
-    ghost grew = { λ a b events. ⊤ };
-
-    ghost cut = { λ a b events. ⊤ };
-
-    ghost faults = { λ d. 0 };
-
-    ghost starts = { λ d. tt };
-
-    fn head(&mut self, _cols: &[Label]) -> Result<(), EmitErr> {
-        Ok(())
-    }
-
-    fn row(&mut self, cells: &[Shown]) -> Result<(), EmitErr> {
-        self.rows = self.rows.saturating_add(1);
-        if let [Shown::Text(text)] = cells {
-            if text.as_bytes() == TEXT {
-                self.same = self.same.saturating_add(1);
-            }
-        }
-        Ok(())
-    }
-
-    fn close(&mut self, _k: u64) -> Result<(), EmitErr> {
-        Ok(())
-    }
-}
 
 fn one_text() -> Schema
     ensures size { IsSized result 1 }
@@ -75,7 +39,7 @@ fn select_text<S: BlockStore, R: Revisions>(
     room: &mut Room,
     flat: &Flat,
 )
-    requires ready { Ready (at R.state vault.old (S.state store.old)) }
+    requires ready { StartsAnew (at R.state vault.old (S.state store.old)) }
     requires flat { IsFlat room.old.pack flat.now (at R.state vault.old (S.state store.old)) }
     requires size { IsSized flat.now.schema flat.now.capacity }
     requires room { IsIdle (width flat.now.schema) room.old }
@@ -87,9 +51,14 @@ fn select_text<S: BlockStore, R: Revisions>(
     assert_eq!(rt; counted.k, 1);
     make_room(rt, store);
     let result = ob_small::select(store, vault, room, flat, &Pred::all(), 1).expect(rt, "Small");
-    let mut out = Texts { rows: 0, same: 0 };
+    let labels: [&[u8]; 1] = [b"x"];
+    let row = [Shown::Text(Text::from_bytes(TEXT))];
+    let wanted: [&[Shown]; 1] = [&row];
+    let mut out = Wanted::new(&labels, &wanted, 9, EmitErr::Failed);
     let rows = emit_to(rt, store, vault, room, result, &[0], &mut out);
-    assert_eq!(rt; (rows, out), (1, Texts { rows: 1, same: 1 }));
+    assert_eq!(rt; rows, 1);
+    assert!(rt; out.is_same);
+    assert_eq!(rt; (out.heads, out.count), (1, 1));
 }
 
 const ASKED: [Entry; 13] = [
@@ -114,7 +83,7 @@ fn session<S: BlockStore, R: Revisions>(
     mut vault: Vault<R>,
     mut room: Room,
 )
-    requires ready { Ready (at R.state vault (S.state store.old)) }
+    requires ready { StartsAnew (at R.state vault (S.state store.old)) }
     requires room { IsIdle 6 room }
     requires pack { 1 ≤ room.pack }
 {

@@ -18,6 +18,11 @@ fn entry(access: Access) -> Entry {
         Access::Read { region, place } => (b'R', region, place, 0),
         Access::Write { region, place } => (b'W', region, place, 0),
         Access::Discard { region } => (b'D', region, 0, 0),
+        Access::Open {
+            region,
+            blocks,
+            len,
+        } => (b'O', region, blocks, len),
     }
 }
 

@@ -1,8 +1,8 @@
 //! Rows that are put into tables one by one.
 ghost use Rattle.std.specs.Prelude.{◌≡◌, ◌≤◌, max};
 ghost use Rattle.ob_base.specs.Schemas.{width};
-ghost use Rattle.ob_vault.specs.Tied.{Ready};
 ghost use Rattle.ob_vault.specs.Places.{at};
+ghost use Rattle.ob_vault.specs.Words.{StartsAnew};
 ghost use Rattle.ob_row.specs.Spelling.{Fits};
 ghost use Rattle.ob_blocks.specs.Idle.{IsIdle};
 ghost use Rattle.ob_flat.specs.Flats.{IsSized, IsFlat};
@@ -30,12 +30,12 @@ pub(crate) fn insert_cells<S: BlockStore, R: Revisions>(
     flat: &mut Flat,
     cells: &[Cell],
 )
-    requires ready { Ready (at R.state vault.old (S.state store.old)) }
+    requires ready { StartsAnew (at R.state vault.old (S.state store.old)) }
     requires flat { IsFlat room.old.pack flat.old (at R.state vault.old (S.state store.old)) }
     requires size { IsSized flat.old.schema flat.old.capacity }
     requires room { IsIdle (width flat.old.schema) room.old }
     requires cells { Fits flat.old.schema cells.now }
-    ensures ready { Ready (at R.state vault.new (S.state store.new)) }
+    ensures ready { StartsAnew (at R.state vault.new (S.state store.new)) }
     ensures flat { IsFlat room.old.pack flat.new (at R.state vault.new (S.state store.new)) }
     ensures moved { flat.new ≡ record flat.old { region = vault.old.next } }
     ensures room { room.new ≡ record room.old { high = max room.old.high room.old.pack } }
@@ -56,12 +56,12 @@ pub(crate) fn insert_rows<S: BlockStore, R: Revisions>(
     flat: &mut Flat,
     rows: &[(i64, i64)],
 )
-    requires ready { Ready (at R.state vault.old (S.state store.old)) }
+    requires ready { StartsAnew (at R.state vault.old (S.state store.old)) }
     requires flat { IsFlat room.old.pack flat.old (at R.state vault.old (S.state store.old)) }
     requires size { IsSized flat.old.schema flat.old.capacity }
     requires room { IsIdle (width flat.old.schema) room.old }
     requires ints { TakesInts flat.old.schema }
-    ensures ready { Ready (at R.state vault.new (S.state store.new)) }
+    ensures ready { StartsAnew (at R.state vault.new (S.state store.new)) }
     ensures flat { IsFlat room.old.pack flat.new (at R.state vault.new (S.state store.new)) }
     ensures schema { flat.new.schema ≡ flat.old.schema }
     ensures capacity { flat.new.capacity ≡ flat.old.capacity }
@@ -84,11 +84,11 @@ pub(crate) fn delete_rows<S: BlockStore, R: Revisions>(
     flat: &mut Flat,
     gone: &Pred,
 )
-    requires ready { Ready (at R.state vault.old (S.state store.old)) }
+    requires ready { StartsAnew (at R.state vault.old (S.state store.old)) }
     requires flat { IsFlat room.old.pack flat.old (at R.state vault.old (S.state store.old)) }
     requires size { IsSized flat.old.schema flat.old.capacity }
     requires room { IsIdle (width flat.old.schema) room.old }
-    ensures ready { Ready (at R.state vault.new (S.state store.new)) }
+    ensures ready { StartsAnew (at R.state vault.new (S.state store.new)) }
     ensures flat { IsFlat room.old.pack flat.new (at R.state vault.new (S.state store.new)) }
     ensures moved { flat.new ≡ record flat.old { region = vault.old.next } }
     ensures room { room.new ≡ record room.old { high = max room.old.high room.old.pack } }
@@ -107,12 +107,12 @@ pub(crate) fn filled<S: BlockStore, R: Revisions>(
     capacity: u32,
     rows: &[(i64, i64)],
 ) -> Flat
-    requires ready { Ready (at R.state vault.old (S.state store.old)) }
+    requires ready { StartsAnew (at R.state vault.old (S.state store.old)) }
     requires size { IsSized schema.now capacity }
     requires room { IsIdle (width schema.now) room.old }
     requires pack { 1 ≤ room.old.pack }
     requires ints { TakesInts schema.now }
-    ensures ready { Ready (at R.state vault.new (S.state store.new)) }
+    ensures ready { StartsAnew (at R.state vault.new (S.state store.new)) }
     ensures flat { IsFlat room.old.pack result (at R.state vault.new (S.state store.new)) }
     ensures schema { result.schema ≡ schema.now }
     ensures capacity { result.capacity ≡ capacity }

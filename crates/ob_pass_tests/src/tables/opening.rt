@@ -1,8 +1,8 @@
 //! A store, a vault and a room for one table or more.
 ghost use Rattle.std.specs.Prelude.{◌≡◌, ◌≤◌, ◌<◌, ◌*◌, ◌+◌, ℕ, [], length};
 ghost use Rattle.ob_store.specs.Calls.{Rests};
-ghost use Rattle.ob_vault.specs.Tied.{Ready};
 ghost use Rattle.ob_vault.specs.Places.{at};
+ghost use Rattle.ob_vault.specs.Words.{StartsAnew};
 ghost use Rattle.ob_blocks.specs.Idle.{IsIdle};
 
 use ob_room::Room;
@@ -23,7 +23,7 @@ pub(crate) fn opened<R: Revisions>(
     requires pack { (1 ≤ pack) × (pack ≤ 16) }
     requires rows { 3 * pack + 1 ≤ rows }
     ensures none { (⟦<MemStore as BlockStore>⟧.state result.0).asked ≡ [] }
-    ensures ready { Ready (at R.state result.1 (⟦<MemStore as BlockStore>⟧.state result.0)) }
+    ensures ready { StartsAnew (at R.state result.1 (⟦<MemStore as BlockStore>⟧.state result.0)) }
     ensures first { result.1.next ≡ 1 }
     ensures rows { result.2.rows ≡ rows }
     ensures width { result.2.width ≡ 1024 }

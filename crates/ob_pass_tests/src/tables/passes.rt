@@ -1,8 +1,8 @@
 //! What stands around a pass: its count, and the emission and the discard of its result.
 ghost use Rattle.std.specs.Prelude.{◌≡◌, ◌≤◌, max};
 ghost use Rattle.ob_base.specs.Schemas.{width};
-ghost use Rattle.ob_vault.specs.Tied.{Ready};
 ghost use Rattle.ob_vault.specs.Places.{at};
+ghost use Rattle.ob_vault.specs.Words.{StartsAnew};
 ghost use Rattle.ob_blocks.specs.Idle.{IsIdle};
 ghost use Rattle.ob_flat.specs.Flats.{FitsRegion, IsSized, IsFlat, IsWritten};
 ghost use Rattle.ob_emit.specs.Emitting.{AreColumns};
@@ -27,12 +27,12 @@ pub(crate) fn counted<S: BlockStore, R: Revisions>(
     flat: &Flat,
     pred: &Pred,
 ) -> Counted
-    requires ready { Ready (at R.state vault.old (S.state store.old)) }
+    requires ready { StartsAnew (at R.state vault.old (S.state store.old)) }
     requires flat { IsFlat room.old.pack flat.now (at R.state vault.old (S.state store.old)) }
     requires size { IsSized flat.now.schema flat.now.capacity }
     requires room { IsIdle (width flat.now.schema) room.old }
     requires pack { 1 ≤ room.old.pack }
-    ensures ready { Ready (at R.state vault.new (S.state store.new)) }
+    ensures ready { StartsAnew (at R.state vault.new (S.state store.new)) }
     ensures flat { IsFlat room.old.pack flat.now (at R.state vault.new (S.state store.new)) }
     ensures room { room.new ≡ record room.old { high = max room.old.high room.old.pack } }
     ensures most { result.k ≤ flat.now.capacity }
@@ -51,14 +51,14 @@ pub(crate) fn emit_to<S: BlockStore, R: Revisions, E: Emit>(
     cols: &[u8],
     out: &mut E,
 ) -> u64
-    requires ready { Ready (at R.state vault.old (S.state store.old)) }
+    requires ready { StartsAnew (at R.state vault.old (S.state store.old)) }
     requires written { IsWritten room.old.pack flat (at R.state vault.old (S.state store.old)) }
     requires size { FitsRegion room.old.pack flat.schema flat.capacity }
     requires slots { flat.capacity ≤ 16777216 }
     requires room { IsIdle (width flat.schema) room.old }
     requires pack { 1 ≤ room.old.pack }
     requires columns { AreColumns flat.schema cols.now }
-    ensures ready { Ready (at R.state vault.new (S.state store.new)) }
+    ensures ready { StartsAnew (at R.state vault.new (S.state store.new)) }
     ensures room { room.new ≡ record room.old { high = max room.old.high room.old.pack } }
     ensures most { result ≤ flat.capacity }
 {
@@ -79,14 +79,14 @@ pub(crate) fn emit_discard<S: BlockStore, R: Revisions>(
     cols: &[u8],
     wanted: &[i128],
 )
-    requires ready { Ready (at R.state vault.old (S.state store.old)) }
+    requires ready { StartsAnew (at R.state vault.old (S.state store.old)) }
     requires written { IsWritten room.old.pack flat (at R.state vault.old (S.state store.old)) }
     requires size { FitsRegion room.old.pack flat.schema flat.capacity }
     requires slots { flat.capacity ≤ 16777216 }
     requires room { IsIdle (width flat.schema) room.old }
     requires pack { 1 ≤ room.old.pack }
     requires columns { AreColumns flat.schema cols.now }
-    ensures ready { Ready (at R.state vault.new (S.state store.new)) }
+    ensures ready { StartsAnew (at R.state vault.new (S.state store.new)) }
     ensures room { room.new ≡ record room.old { high = max room.old.high room.old.pack } }
 {
     let mut out = Ints::new(cols.len());

@@ -6,7 +6,7 @@ use Rattle.std.proofs.lemmas.Bool.{cases_eq}
 use Rattle.ob_vault.specs.Calls.{none, one}
 use Rattle.ob_vault.specs.Tied.{Written}
 use Rattle.ob_vault.specs.Places.{at}
-use Rattle.ob_vault.proofs.Runs.{went_join, went_wider, went_length, lives_went, lives_only, written_went, written_only, tells_went, fit_same, fit_trans, may_get, may_put, next_turn, holds_rows}
+use Rattle.ob_vault.proofs.Runs.{went_join, went_wider, went_spent, lives_went, lives_only, written_went, written_only, tells_went, fit_same, fit_trans, may_get, may_put, next_turn, holds_rows}
 use Rattle.ob_vault.proofs.WordLemmas.{honest_before, honest_after}
 use Rattle.ob_blocks.specs.Blocks.{block_at}
 use Rattle.ob_flat.specs.Flats.{HoldsBlock, table_region}
@@ -110,7 +110,7 @@ put-requires g c =
     record {
       ready = read.lasts.ready;
       spare = one_is_left c.requires.spare.spare read.spare;
-      few = less_same (went_length _ _ _ _ read) c.requires.few;
+      few = less_same (went_spent _ _ _ _ read) c.requires.few;
       place = may_put _ x shape _ _ (lives_went none _ _ _ flat.region shape read (λ s. s) table.turn.lives) table.within (fit_same _ _ _ same c.requires.fit) (c.get.ensures.gets.turns flat.region x shape table.turn.turn);
     }
 

@@ -2,6 +2,7 @@ use Rattle.std.proofs.Common.{◌≡◌, ◌≤◌, ◌+◌, ◌^◌, ◌∙◌,
 use Rattle.std.proofs.Math.Nat.{pow-le-pow_right}
 use Rattle.ob_tree.proofs.PathLemmas.{power_next}
 use Rattle.ob_oram.specs.Heights.{IsHeight, tree_blocks}
+use Rattle.ob_vault.proofs.WordLemmas.{anew_starts, starts_anew}
 use Rattle.ob_oram_tests.proofs.creates.makes_both_regions.Goals as goal
 
 -- a tree for four keys has 28 blocks
@@ -15,9 +16,6 @@ few h is =
 pub create-requires-clause-starts : goal.create-requires-clause-starts
 create-requires-clause-starts g c = λ h is.
     let rests = c.room.ensures.rests in
-    let none = rests.asked ∙ c.new-store.ensures in
-    record {
-      ready = c.new-vault.ensures.ready _ none;
-      spare = omega (arith, few h is, c.in_ok-room-2.ensures.spare);
-      few = omega (arith, ap length none);
-    }
+    let none = rests.asked ∙ c.new-store.ensures.asked in
+    anew_starts (starts_anew (c.new-vault.ensures.ready _ none) c.new-vault.ensures.started)
+    (omega (arith, few h is, c.in_ok-room-2.ensures.spare)) (omega (arith, ap length none))

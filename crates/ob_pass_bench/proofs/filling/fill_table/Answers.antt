@@ -5,7 +5,7 @@ use Rattle.ob_base.specs.Schemas.{width}
 use Rattle.ob_store.proofs.Steps.{length-each}
 use Rattle.ob_vault.specs.declared.region.Order.TheVariants.{Round}
 use Rattle.ob_vault.specs.Calls.{one}
-use Rattle.ob_vault.proofs.Runs.{went_length, went_each, lives_only, written_only, fit_same, fit_trans, may_put, next_turn}
+use Rattle.ob_vault.proofs.Runs.{went_spent, went_each, lives_only, written_only, fit_same, fit_trans, may_put, next_turn}
 use Rattle.ob_flat.specs.Flats.{table_region}
 use Rattle.ob_flat.proofs.Rows.{wide_fit, wide_same}
 use Rattle.ob_flat.proofs.Tables.{index_fits, not_last}
@@ -28,7 +28,7 @@ pub put-requires-clause-spare : goal.put-requires-clause-spare
 put-requires-clause-spare g c = omega (arith, c.requires.asks.spare, c.loop-u.invariant.went.spare, size c.args.flat.now.region c.loop-u.u)
 
 pub put-requires-clause-few : goal.put-requires-clause-few
-put-requires-clause-few g c = omega (arith, c.requires.asks.few, went_length _ _ _ _ c.loop-u.invariant.went, size c.args.flat.now.region c.loop-u.u)
+put-requires-clause-few g c = omega (arith, c.requires.asks.few, went_spent _ _ _ _ c.loop-u.invariant.went, size c.args.flat.now.region c.loop-u.u)
 
 pub put-requires-clause-place : goal.put-requires-clause-place
 put-requires-clause-place g c =

@@ -2,7 +2,7 @@ use Rattle.std.proofs.Common.{◌∙◌, arith}
 use Rattle.ob_base.specs.Schemas.{width}
 use Rattle.ob_vault.specs.Calls.{one}
 use Rattle.ob_vault.proofs.Runs.{lives_apart}
-use Rattle.ob_vault.proofs.WordLemmas.{ready_rests}
+use Rattle.ob_vault.proofs.WordLemmas.{anew_lasts, anew_rests}
 use Rattle.ob_flat.proofs.Resting.{flat_rests}
 use Rattle.ob_flat.proofs.Rooms.{shelf_wide, room_after, rows_count}
 use Rattle.ob_flat.proofs.Tables.{flat_lasts}
@@ -21,15 +21,17 @@ returns-in-Ok-clause-room g c =
 pub returns-in-Ok-clause-runs : goal.returns-in-Ok-clause-runs
 returns-in-Ok-clause-runs g c =
     let made = c.in-Ok.ensures in
+    let anew = anew_lasts made.ok.lasts (anew_lasts c.in_ok-region.ensures.makes.ran.ok.lasts (anew_rests _ _ _ c.make_room.ensures.rests c.requires.ready)) in
     let size = rows_count (width c.args.schema.now) c.pack-pack.result c.args.room.now _ c.requires.place.idle c.open-rows.ensures.value (omega (arith, c.pack-pack.ensures.value, c.requires.place.some)) ∙ c.pack-pack.ensures.value in
     runs_after c.args.room.now _ _ _ _ (returns-in-Ok-clause-room g c)
-    (run_over c.args.room.now _ c.args.capacity _ _ c.args.schema.now _ c.copied.ensures size made.ok.lasts.ready made.flat c.requires.size c.requires.columns c.requires.place)
+    (run_over c.args.room.now _ c.args.capacity _ _ c.args.schema.now _ c.copied.ensures size anew made.flat c.requires.size c.requires.columns c.requires.place)
 
 pub returns-in-Ok-clause-beside : goal.returns-in-Ok-clause-beside
 returns-in-Ok-clause-beside g c = λ other is.
     let pack = c.args.room.now.pack in
     let before = flat_rests _ _ _ c.make_room.ensures.rests pack other is.table in
-    let apart = lives_apart _ _ _ (ready_rests _ _ _ c.make_room.ensures.rests c.requires.ready) before.made.lives in
+    let anew = anew_rests _ _ _ c.make_room.ensures.rests c.requires.ready in
+    let apart = lives_apart _ _ _ anew.ready before.made.lives in
     let made = flat_lasts pack other (one c.args.vault.now.next) _ _ c.in_ok-region.ensures.makes.ran.ok.lasts apart before in
     let now = flat_lasts pack other (one c.in_ok-region.region) _ _ c.in-Ok.ensures.ok.lasts (λ same. apart (same ∙ c.in_ok-region.ensures.makes.number)) made in
-    runs_after _ _ _ other _ (returns-in-Ok-clause-room g c) (record { ready = c.in-Ok.ensures.ok.lasts.ready; table = now; size = is.size; columns = is.columns; place = is.place })
+    runs_after _ _ _ other _ (returns-in-Ok-clause-room g c) (record { ready = anew_lasts c.in-Ok.ensures.ok.lasts (anew_lasts c.in_ok-region.ensures.makes.ran.ok.lasts anew); table = now; size = is.size; columns = is.columns; place = is.place })

@@ -1,27 +1,27 @@
-use Rattle.std.proofs.Common.{rules, ◌≡◌, sym, ap, subst, length, length-append, arith}
+use Rattle.std.proofs.Common.{◌≡◌, sym, ap, subst, length, length-append, arith}
 use Rattle.ob_room.specs.RoomState.{RoomState}
 use Rattle.ob_vault.specs.Places.{at}
 use Rattle.ob_flat.specs.declared.flat.Flat.{Flat}
 use Rattle.ob_flat.specs.Flats.{FitsRegion, IsFlat}
+use Rattle.ob_flat.proofs.Resting.{flat_rests}
 use Rattle.ob_flat.proofs.Tables.{fits_sized, written_flat}
+use Rattle.ob_pass_tests.proofs.Rested.{starts_rests}
 use Rattle.ob_pass_tests.proofs.Sizes.{few_accesses, few_slots, joined_sized, within_four}
 use Rattle.ob_pass_tests.proofs.joins.join_emit.Goals as goal
 
 pub join-requires-clause-starts : goal.join-requires-clause-starts
 join-requires-clause-starts g c =
     let s = c.args.room.now in
-    record {
-      ready = search rules;
-      spare = omega (arith, c.make_room.ensures.spare, few_accesses s.pack s.rows c.args.left.now.capacity c.args.right.now.capacity c.requires.pack.0 c.requires.pack.1 c.requires.room.enough c.requires.left_few c.requires.right_few);
-      few = search rules;
-    }
+    let room = c.make_room.ensures in
+    let fact = few_accesses s.pack s.rows c.args.left.now.capacity c.args.right.now.capacity c.requires.pack.0 c.requires.pack.1 c.requires.room.enough c.requires.left_few c.requires.right_few in
+    starts_rests _ _ _ room.rests c.requires.ready _ (omega (arith, room.spare, fact)) room.few
 
 pub join-requires-clause-tables : goal.join-requires-clause-tables
 join-requires-clause-tables g c =
     let s = c.args.room.now in
     record {
-      left = search rules;
-      right = search rules;
+      left = flat_rests _ _ _ c.make_room.ensures.rests s.pack c.args.left.now c.requires.left;
+      right = flat_rests _ _ _ c.make_room.ensures.rests s.pack c.args.right.now c.requires.right;
       left_size = record { some = omega (arith, c.requires.left_count); few = omega (arith, c.requires.left_count); wide = omega (arith, c.requires.left_width); least = c.requires.left_few.0; most = omega (arith, c.requires.left_few.1) };
       right_size = record { some = omega (arith, c.requires.right_count); few = omega (arith, c.requires.right_count); wide = omega (arith, c.requires.right_width); least = c.requires.right_few.0; most = omega (arith, c.requires.right_few.1) };
       sized = joined_sized s.pack s.rows c.args.left.now.capacity c.args.right.now.capacity c.requires.pack.0 c.requires.pack.1 c.requires.room.enough c.requires.left_few c.requires.right_few

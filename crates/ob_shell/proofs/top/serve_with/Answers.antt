@@ -1,5 +1,6 @@
 use Rattle.std.proofs.Common.{◌∙◌, refl}
-use Rattle.ob_shell.proofs.TopLemmas.{ran_nothing, ran_after}
+use Rattle.ob_shell.proofs.SessionLemmas.{ran_after, stands_first}
+use Rattle.ob_shell.proofs.TopLemmas.{ran_nothing}
 use Rattle.ob_shell.proofs.TraceLemmas.{traced_none, traced_whole}
 use Rattle.ob_shell.proofs.top.serve_with.Goals as goal
 
@@ -16,13 +17,13 @@ returns-in-Err-clause-traced g c = traced_whole _ (traced_none _ _ _)
 
 pub returns-in-Ok-clause-ran : goal.returns-in-Ok-clause-ran
 returns-in-Ok-clause-ran g c =
-    ran_after _ _ _ _ _ _ _ _ c.in-Ok.ensures.public (c.in-Ok.ensures.keyed ∙ c.derive.ensures) c.in-Ok.ensures.rows
+    ran_after _ _ _ _ _ _ _ _ _
+    (stands_first _ _ _ _ _ c.in-Ok.ensures.public (c.in-Ok.ensures.keyed ∙ c.derive.ensures) c.in-Ok.ensures.started c.in-Ok.ensures.rows
     (record {
       unasked = c.requires.fresh;
       honest = g.met.S.BlockStore.starts_honest c.args.store.now c.requires.fresh;
       empty = λ q. g.met.S.BlockStore.starts_empty c.args.store.now q c.requires.fresh;
-    })
-    (g.met.S.BlockStore.starts_steady c.args.store.now c.requires.fresh) c.high.ensures.most c.high.ensures.value _ _ _ _ _ _ _ _ c.serve-ran.ensures.ran
+    }) (g.met.S.BlockStore.starts_steady c.args.store.now c.requires.fresh)) c.high.ensures.most c.high.ensures.value _ _ _ _ _ _ _ _ c.serve-ran.ensures.ran
 
 pub serve-ran-requires-clause-ready : goal.serve-ran-requires-clause-ready
 serve-ran-requires-clause-ready g c = record { agrees = c.in-Ok.ensures.agrees (g.S.BlockStore.state c.args.store.now) c.requires.fresh; lives = c.in-Ok.ensures.alive }

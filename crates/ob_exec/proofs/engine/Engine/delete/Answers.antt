@@ -1,4 +1,4 @@
-use Rattle.std.proofs.Common.{◌≡◌, ◌-◌, Ok, refl, ◌∙◌, ap, append-nil, length, map}
+use Rattle.std.proofs.Common.{◌≡◌, ◌-◌, Ok, refl, ◌∙◌, ap, append-nil, map}
 use Rattle.std.specs.Prelude.{count_by}
 use Rattle.std.proofs.lemmas.Option.{slice_get_within}
 use Rattle.ob_base.specs.declared.seen.End.TheVariants.{Whole}
@@ -9,6 +9,7 @@ use Rattle.ob_row.specs.Truth.{is_true}
 use Rattle.ob_sql.specs.declared.stmt.Stmt.TheVariants.{Delete}
 use Rattle.ob_mean.specs.Names.{where_at}
 use Rattle.ob_mean.specs.Verdict.{ended as seen_to}
+use Rattle.ob_exec.specs.Agreeing.{count_of}
 use Rattle.ob_exec.specs.declared.engine.Engine.{Engine}
 use Rattle.ob_exec.specs.declared.outcome.Outcome.{Outcome}
 use Rattle.ob_exec.specs.declared.outcome.Outcome.TheVariants.{Deleted}
@@ -44,7 +45,7 @@ returns-in-Ok-delete g c =
           mutated g.R.Revisions.state (Delete c.args.table.now c.args.cond.now) c.args.table.now rewrite_part Deleted (λ slots. count_by (is_true pred) (rows slots))
           (map (emptied (is_true pred))) old s (g.S.BlockStore.state c.make_room.new.store) c.delete.new.vault c.delete.new.room (g.S.BlockStore.state c.delete.new.store)
           c.table_at-i.result.0 table flat c.delete.new.flat c.requires.agrees c.make_room.ensures.rests c.delete.ensures.room found.here found.is c.requires.allowed
-          (delete_alters old.public (length s.asked) c.args.table.now c.args.cond.now table.heading pred pred_is)
+          (delete_alters old.public (count_of old s) c.args.table.now c.args.cond.now table.heading pred pred_is)
           c.in-Ok-delete.deleted c.finish.new.self _ c.in-Ok-delete.ensures.deletes c.requires.lives (ap (λ (o : Outcome). Ok o) c.finish.ensures.answer)
           (c.finish.ensures.seen
           ∙ ap (λ (e : Engine g.row.R.Denot). record e { seen = seen_to Whole; public = record e.public { next_region = e.vault.next } }) (c.move_table.ensures table found.here.get));
@@ -65,6 +66,6 @@ returns g c =
           unmutated g.R.Revisions.state (Delete c.args.table.now c.args.cond.now) c.args.table.now rewrite_part Deleted (λ slots. count_by (is_true pred) (rows slots))
           (map (emptied (is_true pred))) old s (g.S.BlockStore.state c.make_room.new.store) c.delete.new.vault c.delete.new.room (g.S.BlockStore.state c.delete.new.store)
           c.table_at-i.result.0 table flat c.delete.new.flat c.requires.agrees c.make_room.ensures.rests c.delete.ensures.room found.here found.is c.requires.allowed
-          (delete_alters old.public (length s.asked) c.args.table.now c.args.cond.now table.heading pred pred_is)
+          (delete_alters old.public (count_of old s) c.args.table.now c.args.cond.now table.heading pred pred_is)
           c.in-Err.error (c.count.result - c.count-before.result) c.cut-in-Err.new.self _ c.in-Err.ensures.deletes (λ i. c.count.ensures i - c.count-before.ensures i) c.cut-in-Err.ensures.answer c.cut-in-Err.ensures.seen;
     }

@@ -1,4 +1,4 @@
-use Rattle.std.proofs.Common.{◌≡◌, ◌-◌, Ok, refl, sym, ◌∙◌, subst, ap, length}
+use Rattle.std.proofs.Common.{◌≡◌, ◌-◌, Ok, refl, sym, ◌∙◌, subst, ap}
 use Rattle.std.specs.Prelude.{All}
 use Rattle.std.proofs.lemmas.Option.{slice_get_within}
 use Rattle.ob_base.specs.declared.seen.End.TheVariants.{Whole}
@@ -13,6 +13,7 @@ use Rattle.ob_sql.specs.declared.stmt.Stmt.TheVariants.{Insert}
 use Rattle.ob_mean.specs.Step.{new_row}
 use Rattle.ob_mean.specs.Verdict.{ended as seen_to}
 use Rattle.ob_mean.proofs.InsertLemmas.{insert_fits}
+use Rattle.ob_exec.specs.Agreeing.{count_of}
 use Rattle.ob_exec.specs.declared.engine.Engine.{Engine}
 use Rattle.ob_exec.specs.declared.outcome.Outcome.{Outcome}
 use Rattle.ob_exec.specs.Running.{inserted_as}
@@ -32,7 +33,7 @@ insert-result-requires-clause-cells g c =
     c.in-Ok.ensures.value ∙ ap (λ (cs : Columns). new_row cs c.args.columns.now c.args.values.now) schema_is in
     let fits = insert_fits _ old.public.pack old.public.buffer (headings_of old.public.tables) c.args.table.now table.heading c.args.columns.now c.args.values.now c.requires.allowed
     (heading_found c.args.table.now old.public.tables c.table_at-i.result.0 table c.requires.agrees.tables.names found.here.get found.here.named)
-    (c.requires.agrees.tables.each c.table_at-i.result.0 table found.here.get).stored.names (subst (λ (r : Row). All IsCell r) row_is c.in-Ok.ensures.held) in
+    (c.requires.agrees.tables.each c.table_at-i.result.0 table found.here.get).heading.stored.names (subst (λ (r : Row). All IsCell r) row_is c.in-Ok.ensures.held) in
     subst (λ (cs : Columns). Fits cs c.as_slice.result.now) (sym schema_is) (subst (λ (r : Row). Fits table.heading.schema r) (sym (c.as_slice.ensures.value ∙ row_is)) fits)
 
 pub move_table-requires : goal.move_table-requires
@@ -58,7 +59,7 @@ returns-in-Ok-result g c =
     let schema_is : flat.schema ≡ table.heading.schema = ap (λ (f : Flat). f.schema) found.is in
     let row_is : row ≡ new_row table.heading.schema c.args.columns.now c.args.values.now =
     c.as_slice.ensures.value ∙ c.in-Ok.ensures.value ∙ ap (λ (cs : Columns). new_row cs c.args.columns.now c.args.values.now) schema_is in
-    let alters = insert_alters old.public (length s.asked) c.args.table.now c.args.columns.now c.args.values.now table.heading flat.schema row schema_is row_is in
+    let alters = insert_alters old.public (count_of old s) c.args.table.now c.args.columns.now c.args.values.now table.heading flat.schema row schema_is row_is in
     record {
       serves =
           mutated g.R.Revisions.state (Insert c.args.table.now c.args.columns.now c.args.values.now) c.args.table.now insert_part inserted_as (insert_answer flat.schema row)
@@ -80,7 +81,7 @@ returns g c =
     let schema_is : flat.schema ≡ table.heading.schema = ap (λ (f : Flat). f.schema) found.is in
     let row_is : row ≡ new_row table.heading.schema c.args.columns.now c.args.values.now =
     c.as_slice.ensures.value ∙ c.in-Ok.ensures.value ∙ ap (λ (cs : Columns). new_row cs c.args.columns.now c.args.values.now) schema_is in
-    let alters = insert_alters old.public (length s.asked) c.args.table.now c.args.columns.now c.args.values.now table.heading flat.schema row schema_is row_is in
+    let alters = insert_alters old.public (count_of old s) c.args.table.now c.args.columns.now c.args.values.now table.heading flat.schema row schema_is row_is in
     record {
       serves =
           unmutated g.R.Revisions.state (Insert c.args.table.now c.args.columns.now c.args.values.now) c.args.table.now insert_part inserted_as (insert_answer flat.schema row)

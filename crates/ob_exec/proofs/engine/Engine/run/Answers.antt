@@ -1,9 +1,10 @@
-use Rattle.std.proofs.Common.{List, Ok, refl, sym, ◌∙◌, ap, subst, length}
+use Rattle.std.proofs.Common.{List, Ok, refl, sym, ◌∙◌, ap, subst}
 use Rattle.ob_base.specs.declared.skeleton.NewColumn.{NewColumn}
 use Rattle.ob_sql.specs.declared.stmt.Literal.{Literal}
 use Rattle.ob_sql.specs.declared.stmt.Set.{Set}
 use Rattle.ob_sql.specs.declared.stmt.Stmt.{Stmt}
 use Rattle.ob_sql.specs.declared.stmt.Stmt.TheVariants.{Create, Insert, Update, Delete, Drop as DropTable}
+use Rattle.ob_exec.specs.Agreeing.{count_of}
 use Rattle.ob_exec.specs.declared.outcome.Outcome.{Outcome}
 use Rattle.ob_exec.specs.Serving.{Serves}
 use Rattle.ob_exec.proofs.ServeLemmas.{served_as, serves_refused, serves_same}
@@ -14,7 +15,7 @@ pub returns-in-Some : goal.returns-in-Some
 returns-in-Some g c =
     let old = c.args.self.now in
     let s = g.S.BlockStore.state c.args.store.now in
-    let now = now_is old.public (length s.asked) c.count.result c.args.stmt.now c.early_refusal.result _ c.count.ensures c.early_refusal.ensures c.in-Some.is in
+    let now = now_is old.public (count_of old s) c.spent.result c.args.stmt.now c.early_refusal.result _ c.spent.ensures c.early_refusal.ensures c.in-Some.is in
     record {
       serves =
           serves_same g.R.Revisions.state g.E.Emit.grew g.E.Emit.cut g.E.Emit.faults c.args.stmt.now old s s c.args.out.now c.args.out.now _ _ _ _
@@ -26,7 +27,7 @@ pub returns-in-Create : goal.returns-in-Create
 returns-in-Create g c =
     let old = c.args.self.now in
     let s = g.S.BlockStore.state c.args.store.now in
-    let now = now_is old.public (length s.asked) c.count.result c.args.stmt.now c.early_refusal.result _ c.count.ensures c.early_refusal.ensures c.in_default.is in
+    let now = now_is old.public (count_of old s) c.spent.result c.args.stmt.now c.early_refusal.result _ c.spent.ensures c.early_refusal.ensures c.in_default.is in
     record {
       serves =
           served_as g.R.Revisions.state g.E.Emit.grew g.E.Emit.cut g.E.Emit.faults c.args.stmt.now (Create c.in-Create.table c.as_slice.result.now c.in-Create.capacity) old s c.args.out.now c.create.result c.create.new.self
@@ -37,7 +38,7 @@ pub returns-in-Insert : goal.returns-in-Insert
 returns-in-Insert g c =
     let old = c.args.self.now in
     let s = g.S.BlockStore.state c.args.store.now in
-    let now = now_is old.public (length s.asked) c.count.result c.args.stmt.now c.early_refusal.result _ c.count.ensures c.early_refusal.ensures c.in_default.is in
+    let now = now_is old.public (count_of old s) c.spent.result c.args.stmt.now c.early_refusal.result _ c.spent.ensures c.early_refusal.ensures c.in_default.is in
     record {
       serves =
           served_as g.R.Revisions.state g.E.Emit.grew g.E.Emit.cut g.E.Emit.faults c.args.stmt.now (Insert c.in-Insert.table c.in-Insert.columns c.as_slice-in-Insert.result.now) old s c.args.out.now c.insert.result c.insert.new.self
@@ -48,7 +49,7 @@ pub returns-in-Update : goal.returns-in-Update
 returns-in-Update g c =
     let old = c.args.self.now in
     let s = g.S.BlockStore.state c.args.store.now in
-    let now = now_is old.public (length s.asked) c.count.result c.args.stmt.now c.early_refusal.result _ c.count.ensures c.early_refusal.ensures c.in_default.is in
+    let now = now_is old.public (count_of old s) c.spent.result c.args.stmt.now c.early_refusal.result _ c.spent.ensures c.early_refusal.ensures c.in_default.is in
     record {
       serves =
           served_as g.R.Revisions.state g.E.Emit.grew g.E.Emit.cut g.E.Emit.faults c.args.stmt.now (Update c.in-Update.table c.as_slice-in-Update.result.now c.in-Update.cond) old s c.args.out.now c.update.result c.update.new.self
@@ -59,7 +60,7 @@ pub returns-in-Delete : goal.returns-in-Delete
 returns-in-Delete g c =
     let old = c.args.self.now in
     let s = g.S.BlockStore.state c.args.store.now in
-    let now = now_is old.public (length s.asked) c.count.result c.args.stmt.now c.early_refusal.result _ c.count.ensures c.early_refusal.ensures c.in_default.is in
+    let now = now_is old.public (count_of old s) c.spent.result c.args.stmt.now c.early_refusal.result _ c.spent.ensures c.early_refusal.ensures c.in_default.is in
     record {
       serves =
           served_as g.R.Revisions.state g.E.Emit.grew g.E.Emit.cut g.E.Emit.faults c.args.stmt.now (Delete c.in-Delete.table c.in-Delete.cond) old s c.args.out.now c.delete.result c.delete.new.self
@@ -70,7 +71,7 @@ pub returns-in-Drop : goal.returns-in-Drop
 returns-in-Drop g c =
     let old = c.args.self.now in
     let s = g.S.BlockStore.state c.args.store.now in
-    let now = now_is old.public (length s.asked) c.count.result c.args.stmt.now c.early_refusal.result _ c.count.ensures c.early_refusal.ensures c.in_default.is in
+    let now = now_is old.public (count_of old s) c.spent.result c.args.stmt.now c.early_refusal.result _ c.spent.ensures c.early_refusal.ensures c.in_default.is in
     record {
       serves =
           served_as g.R.Revisions.state g.E.Emit.grew g.E.Emit.cut g.E.Emit.faults c.args.stmt.now (DropTable c.in-Drop.table) old s c.args.out.now c.drop_table.result c.drop_table.new.self

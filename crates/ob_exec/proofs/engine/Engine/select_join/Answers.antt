@@ -1,9 +1,7 @@
-use Rattle.std.proofs.Common.{◌≡◌, ◌++◌, ◌+◌, ◌*◌, ℕ, false, List, length, Ok, Err, Result, refl, sym, ◌∙◌, ap, subst, arith}
-use Rattle.std.specs.Prelude.{OnOk, not, slice_get}
+use Rattle.std.proofs.Common.{◌≡◌, ◌++◌, ◌+◌, ◌*◌, ℕ, false, List, length, Ok, Err, Result, refl, sym, ◌∙◌, ap, subst}
+use Rattle.std.specs.Prelude.{OnOk, not}
 use Rattle.std.specs.Result.{is_err}
 use Rattle.std.specs.List.{list_any}
-use Rattle.std.proofs.lemmas.Option.{slice_get_within}
-use Rattle.ob_base.specs.declared.schema.Table.{Table}
 use Rattle.ob_base.specs.declared.skeleton.Source.{Source}
 use Rattle.ob_base.specs.Joins.{joined_blocks}
 use Rattle.ob_base.specs.Numbers.{blocks_for}
@@ -17,10 +15,9 @@ use Rattle.ob_join.specs.Join.{Joins, TellsSlots, join_in}
 use Rattle.ob_mean.specs.Verdict.{is_late}
 use Rattle.ob_mean.proofs.EarlyLemmas.{allowed}
 use Rattle.ob_vault.specs.Places.{at}
-use Rattle.ob_exec.specs.Agreeing.{world_of}
-use Rattle.ob_exec.specs.Engines.{IsAt, flat_of}
+use Rattle.ob_exec.specs.Agreeing.{world_of, count_of}
+use Rattle.ob_exec.specs.Engines.{flat_of}
 use Rattle.ob_exec.specs.Selecting.{MaySelect, Selection, SelectsFrom}
-use Rattle.ob_exec.proofs.FoundLemmas.{absent}
 use Rattle.ob_exec.proofs.RowsJoin.{join_idle, join_may, join_some, join_starts}
 use Rattle.ob_exec.proofs.RowsJoinStart.{join_stops, start_query, join_selects}
 use Rattle.ob_exec.proofs.RowsJoinEnd.{join_ends, join_halts, join_query}
@@ -38,14 +35,14 @@ at_ok (Err e) P ok h = absurd (cc ok)
 pub table_at-left-requires : goal.table_at-left-requires
 table_at-left-requires g c =
     let hs = headings_of c.args.self.now.public.tables in
-    let free = allowed (is_late (length (g.S.BlockStore.state c.args.store.now).asked)) c.args.self.now.public.pack c.args.self.now.public.buffer hs (RowsStmt c.args.select.now) c.requires.allowed in
+    let free = allowed (is_late (count_of c.args.self.now (g.S.BlockStore.state c.args.store.now))) c.args.self.now.public.pack c.args.self.now.public.buffer hs (RowsStmt c.args.select.now) c.requires.allowed in
     (there_are (has_table c.in-Join.left hs) (has_table c.in-Join.right hs)
     (sym (ap (λ (source : Source). list_any (λ (name : List ℕ). not (has_table name hs)) (source_tables source)) c.in-Join.is) ∙ free.tables)).0
 
 pub table_at-right-requires : goal.table_at-right-requires
 table_at-right-requires g c =
     let hs = headings_of c.args.self.now.public.tables in
-    let free = allowed (is_late (length (g.S.BlockStore.state c.args.store.now).asked)) c.args.self.now.public.pack c.args.self.now.public.buffer hs (RowsStmt c.args.select.now) c.requires.allowed in
+    let free = allowed (is_late (count_of c.args.self.now (g.S.BlockStore.state c.args.store.now))) c.args.self.now.public.pack c.args.self.now.public.buffer hs (RowsStmt c.args.select.now) c.requires.allowed in
     (there_are (has_table c.in-Join.left hs) (has_table c.in-Join.right hs)
     (sym (ap (λ (source : Source). list_any (λ (name : List ℕ). not (has_table name hs)) (source_tables source)) c.in-Join.is) ∙ free.tables)).1
 

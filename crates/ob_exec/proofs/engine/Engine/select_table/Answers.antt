@@ -1,10 +1,8 @@
-use Rattle.std.proofs.Common.{◌≡◌, ℕ, false, List, length, Ok, Err, Result, refl, sym, ◌∙◌, ap, subst, arith}
-use Rattle.std.specs.Prelude.{OnOk, not, slice_get}
+use Rattle.std.proofs.Common.{◌≡◌, ℕ, false, List, Ok, Err, Result, refl, sym, ◌∙◌, ap, subst}
+use Rattle.std.specs.Prelude.{OnOk, not}
 use Rattle.std.specs.Int.{div_ceil}
 use Rattle.std.specs.List.{list_any}
 use Rattle.std.specs.Result.{is_err}
-use Rattle.std.proofs.lemmas.Option.{slice_get_within}
-use Rattle.ob_base.specs.declared.schema.Table.{Table}
 use Rattle.ob_base.specs.declared.skeleton.Source.{Source}
 use Rattle.ob_base.specs.Stored.{has_table, headings_of}
 use Rattle.ob_sql.specs.declared.stmt.Stmt.TheVariants.{SelectRows as RowsStmt}
@@ -12,10 +10,9 @@ use Rattle.ob_mean.specs.Refusals.{source_tables}
 use Rattle.ob_mean.specs.Verdict.{is_late}
 use Rattle.ob_mean.proofs.EarlyLemmas.{allowed}
 use Rattle.ob_vault.specs.Places.{at}
-use Rattle.ob_exec.specs.Agreeing.{world_of}
-use Rattle.ob_exec.specs.Engines.{IsAt}
+use Rattle.ob_exec.specs.Agreeing.{world_of, count_of}
 use Rattle.ob_exec.specs.Selecting.{MaySelect, Selection, SelectsFrom}
-use Rattle.ob_exec.proofs.FoundLemmas.{is_there, absent}
+use Rattle.ob_exec.proofs.FoundLemmas.{is_there}
 use Rattle.ob_exec.proofs.RowsNothing.{halts_first}
 use Rattle.ob_exec.proofs.RowsTable.{counts_some, table_may, table_query, table_selects}
 use Rattle.ob_exec.proofs.RunLemmas.{rests_refl}
@@ -30,7 +27,7 @@ pub table_at-flat-requires : goal.table_at-flat-requires
 table_at-flat-requires g c =
     let old = c.args.self.now in
     let hs = headings_of old.public.tables in
-    let free = allowed (is_late (length (g.S.BlockStore.state c.args.store.now).asked)) old.public.pack old.public.buffer hs (RowsStmt c.args.select.now) c.requires.allowed in
+    let free = allowed (is_late (count_of c.args.self.now (g.S.BlockStore.state c.args.store.now))) old.public.pack old.public.buffer hs (RowsStmt c.args.select.now) c.requires.allowed in
     is_there (has_table c.args.table.now hs)
     (sym (ap (λ (source : Source). list_any (λ (name : List ℕ). not (has_table name hs)) (source_tables source)) c.requires.source) ∙ free.tables)
 

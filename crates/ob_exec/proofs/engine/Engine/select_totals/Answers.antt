@@ -8,11 +8,11 @@ use Rattle.ob_sql.specs.declared.stmt.Stmt.TheVariants.{SelectTotals as TotalsSt
 use Rattle.ob_mean.specs.Names.{where_at}
 use Rattle.ob_mean.specs.Verdict.{is_late}
 use Rattle.ob_mean.proofs.EarlyLemmas.{allowed}
+use Rattle.ob_exec.specs.Agreeing.{count_of}
 use Rattle.ob_exec.specs.declared.outcome.Outcome.{Outcome}
 use Rattle.ob_exec.specs.Totalling.{Totals}
 use Rattle.ob_exec.proofs.FoundLemmas.{is_there}
-use Rattle.ob_exec.proofs.CreateLemmas.{at_ok}
-use Rattle.ob_exec.proofs.RunLemmas.{rests_refl}
+use Rattle.ob_exec.proofs.RunLemmas.{at_ok, rests_refl}
 use Rattle.ob_exec.proofs.ServeLemmas.{serves_same}
 use Rattle.ob_exec.proofs.TotalsServed.{may_total, serves_cut, serves_done, serves_none}
 use Rattle.ob_exec.proofs.engine.Engine.select_totals.Goals as goal
@@ -20,9 +20,9 @@ use Rattle.ob_exec.proofs.engine.Engine.select_totals.Goals as goal
 pub table_at-flat-requires : goal.table_at-flat-requires
 table_at-flat-requires g c =
     let old = c.args.self.now in
-    let asked = (g.S.BlockStore.state c.args.store.now).asked in
+    let s = g.S.BlockStore.state c.args.store.now in
     is_there (has_table c.args.select.now.table (headings_of old.public.tables))
-    (allowed (is_late (length asked)) old.public.pack old.public.buffer (headings_of old.public.tables) (TotalsStmt c.args.select.now) c.requires.allowed).tables
+    (allowed (is_late (count_of old s)) old.public.pack old.public.buffer (headings_of old.public.tables) (TotalsStmt c.args.select.now) c.requires.allowed).tables
 
 pub returns-in_default : goal.returns-in_default
 returns-in_default g c =

@@ -1,4 +1,4 @@
-use Rattle.std.proofs.Common.{◌≡◌, ◌-◌, ℕ, List, Ok, refl, sym, ◌∙◌, subst, ap, append-nil, length, map}
+use Rattle.std.proofs.Common.{◌≡◌, ◌-◌, ℕ, List, Ok, refl, sym, ◌∙◌, subst, ap, append-nil, map}
 use Rattle.std.specs.Option.{option_map}
 use Rattle.std.specs.List.{All}
 use Rattle.std.specs.Prelude.{count_by}
@@ -13,6 +13,7 @@ use Rattle.ob_sql.specs.declared.stmt.Stmt.TheVariants.{Update}
 use Rattle.ob_mean.specs.Names.{where_at}
 use Rattle.ob_mean.specs.Step.{set_cells}
 use Rattle.ob_mean.specs.Verdict.{ended as seen_to}
+use Rattle.ob_exec.specs.Agreeing.{count_of}
 use Rattle.ob_exec.specs.declared.engine.Engine.{Engine}
 use Rattle.ob_exec.specs.declared.outcome.Outcome.{Outcome}
 use Rattle.ob_exec.specs.declared.outcome.Outcome.TheVariants.{Changed}
@@ -27,7 +28,7 @@ pub update-requires-clause-sets : goal.update-requires-clause-sets
 update-requires-clause-sets g c =
     let found = c.table_at-i.ensures in
     let held = subst (λ (xs : List (ℕ × Cell)). All IsSet xs) (sym c.as_slice-3.ensures.value) c.in-Ok-set_cells.ensures.held in
-    sets_found c.args.self.now.public (length (g.S.BlockStore.state c.args.store.now).asked) c.args.table.now c.args.sets.now c.args.cond.now found.table.heading c.table_at-i.result.1.schema c.as_slice-3.result.now
+    sets_found c.args.self.now.public (count_of c.args.self.now (g.S.BlockStore.state c.args.store.now)) c.args.table.now c.args.sets.now c.args.cond.now found.table.heading c.table_at-i.result.1.schema c.as_slice-3.result.now
     c.requires.allowed (heading_found c.args.table.now c.args.self.now.public.tables c.table_at-i.result.0 found.table c.requires.agrees.tables.names found.here.get found.here.named) (ap (λ (f : Flat). f.schema) found.is)
     (c.as_slice-3.ensures.value ∙ c.in-Ok-set_cells.ensures.value ∙ ap (set_cells c.args.sets.now) c.as_slice-2.ensures.value) held
 
@@ -61,7 +62,7 @@ returns-in-Ok-update g c =
           mutated g.R.Revisions.state (Update c.args.table.now c.args.sets.now c.args.cond.now) c.args.table.now rewrite_part Changed (λ slots. count_by (is_true pred) (rows slots))
           (map (option_map (updated pred cells))) old s (g.S.BlockStore.state c.make_room.new.store) c.update.new.vault c.update.new.room (g.S.BlockStore.state c.update.new.store)
           c.table_at-i.result.0 table flat c.update.new.flat c.requires.agrees c.make_room.ensures.rests c.update.ensures.room found.here found.is c.requires.allowed
-          (update_alters old.public (length s.asked) c.args.table.now c.args.sets.now c.args.cond.now table.heading pred cells pred_is cells_is)
+          (update_alters old.public (count_of old s) c.args.table.now c.args.sets.now c.args.cond.now table.heading pred cells pred_is cells_is)
           c.in-Ok-update.changed c.finish.new.self _ c.in-Ok-update.ensures.updates c.requires.lives (ap (λ (o : Outcome). Ok o) c.finish.ensures.answer)
           (c.finish.ensures.seen
           ∙ ap (λ (e : Engine g.row.R.Denot). record e { seen = seen_to Whole; public = record e.public { next_region = e.vault.next } }) (c.move_table.ensures table found.here.get));
@@ -85,6 +86,6 @@ returns g c =
           unmutated g.R.Revisions.state (Update c.args.table.now c.args.sets.now c.args.cond.now) c.args.table.now rewrite_part Changed (λ slots. count_by (is_true pred) (rows slots))
           (map (option_map (updated pred cells))) old s (g.S.BlockStore.state c.make_room.new.store) c.update.new.vault c.update.new.room (g.S.BlockStore.state c.update.new.store)
           c.table_at-i.result.0 table flat c.update.new.flat c.requires.agrees c.make_room.ensures.rests c.update.ensures.room found.here found.is c.requires.allowed
-          (update_alters old.public (length s.asked) c.args.table.now c.args.sets.now c.args.cond.now table.heading pred cells pred_is cells_is)
+          (update_alters old.public (count_of old s) c.args.table.now c.args.sets.now c.args.cond.now table.heading pred cells pred_is cells_is)
           c.in-Err.error (c.count.result - c.count-before.result) c.cut-in-Err.new.self _ c.in-Err.ensures.updates (λ i. c.count.ensures i - c.count-before.ensures i) c.cut-in-Err.ensures.answer c.cut-in-Err.ensures.seen;
     }

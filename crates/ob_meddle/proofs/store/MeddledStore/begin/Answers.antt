@@ -2,7 +2,7 @@ use Rattle.std.proofs.Common.{rules, refl, ◌≡◌, ◌+◌, ◌∙◌, sym, a
 use Rattle.ob_store.specs.Logs.{asked_of}
 use Rattle.ob_meddle.specs.Acts.{RegionRests, rests_of, stands_of, after_acts}
 use Rattle.ob_meddle.specs.Due.{fails_at}
-use Rattle.ob_meddle.proofs.DueLemmas.{more_asked, failed_few}
+use Rattle.ob_meddle.proofs.DueLemmas.{more_asked}
 use Rattle.ob_meddle.proofs.StoreLemmas.{fresh_more, counted_more, honest_more, early_more}
 use Rattle.ob_meddle.proofs.ShowLemmas.{steady_as}
 use Rattle.ob_meddle.proofs.store.MeddledStore.begin.Goals as goal
@@ -19,12 +19,12 @@ returns-else-matches-clause-rests c = λ q. ap (λ (r : RegionRests). r q) c.do_
 pub overflow_add-self : goal.overflow_add-self
 overflow_add-self c =
     let old = c.args.self.now in
-    omega (arith, failed_few old.list (length (asked_of old.log)), old.counted, c.count-number.ensures, c.count-number.type_inv, ap length c.push.ensures.asked, more_asked (asked_of old.log) c.args.access)
+    omega (arith, old.few, c.count-number.ensures, c.count-number.type_inv, ap length c.push.ensures.asked, more_asked (asked_of old.log) c.args.access)
 
 pub overflow_add-self-else-matches : goal.overflow_add-self-else-matches
 overflow_add-self-else-matches c =
     let old = c.args.self.now in
-    omega (arith, failed_few old.list (length (asked_of old.log)), old.counted, c.count-number.ensures, c.count-number.type_inv, ap length c.push.ensures.asked, more_asked (asked_of old.log) c.args.access)
+    omega (arith, old.few, c.count-number.ensures, c.count-number.type_inv, ap length c.push.ensures.asked, more_asked (asked_of old.log) c.args.access)
 
 pub invariant_of-self : goal.invariant_of-self
 invariant_of-self c =
@@ -37,9 +37,10 @@ invariant_of-self c =
     let stands : stands_of c.do_acts.new.regions ≡ after_acts (rests_of old.regions) old.list (length more) (stands_of old.regions) =
     c.do_acts.ensures.stands ∙ (λ t. after_acts (rests_of old.regions) (c.as_slice.ensures t) (c.count-number.ensures t) (stands_of old.regions)) in
     record {
-      fresh = fresh_more old.list before more c.args.access e c.do_acts.new.regions;
-      counted = omega (arith, counted_more old.list before more c.args.access e (old.faults + old.slips) false old.counted fails);
-      honest = honest_more old.list before more c.args.access e old.regions c.do_acts.new.regions old.honest c.do_acts.ensures.rests stands;
+      fresh = fresh_more old.list before more c.args.access e old.usable;
+      few = omega (arith, old.few, ap length e, more_asked before c.args.access);
+      counted = λ still. omega (arith, counted_more old.list before more c.args.access e (old.faults + old.slips) false (old.counted still) fails);
+      honest = λ still. honest_more old.list before more c.args.access e old.regions c.do_acts.new.regions (old.honest still) c.do_acts.ensures.rests stands;
       early = early_more old.list before more c.args.access e old.caught old.early;
       caused = old.caused;
     }
@@ -55,9 +56,10 @@ invariant_of-self-then-matches c =
     let stands : stands_of c.do_acts.new.regions ≡ after_acts (rests_of old.regions) old.list (length more) (stands_of old.regions) =
     c.do_acts.ensures.stands ∙ (λ t. after_acts (rests_of old.regions) (c.as_slice.ensures t) (c.count-number.ensures t) (stands_of old.regions)) in
     record {
-      fresh = fresh_more old.list before more c.args.access e c.do_acts.new.regions;
-      counted = omega (arith, counted_more old.list before more c.args.access e (old.faults + old.slips) true old.counted fails);
-      honest = honest_more old.list before more c.args.access e old.regions c.do_acts.new.regions old.honest c.do_acts.ensures.rests stands;
+      fresh = fresh_more old.list before more c.args.access e old.usable;
+      few = omega (arith, old.few, ap length e, more_asked before c.args.access);
+      counted = λ still. omega (arith, counted_more old.list before more c.args.access e (old.faults + old.slips) true (old.counted still) fails);
+      honest = λ still. honest_more old.list before more c.args.access e old.regions c.do_acts.new.regions (old.honest still) c.do_acts.ensures.rests stands;
       early = early_more old.list before more c.args.access e old.caught old.early;
       caused = old.caused;
     }
@@ -73,18 +75,19 @@ invariant_of-self-else-matches c =
     let stands : stands_of c.do_acts.new.regions ≡ after_acts (rests_of old.regions) old.list (length more) (stands_of old.regions) =
     c.do_acts.ensures.stands ∙ (λ t. after_acts (rests_of old.regions) (c.as_slice.ensures t) (c.count-number.ensures t) (stands_of old.regions)) in
     record {
-      fresh = fresh_more old.list before more c.args.access e c.do_acts.new.regions;
-      counted = omega (arith, counted_more old.list before more c.args.access e (old.faults + old.slips) true old.counted fails);
-      honest = honest_more old.list before more c.args.access e old.regions c.do_acts.new.regions old.honest c.do_acts.ensures.rests stands;
+      fresh = fresh_more old.list before more c.args.access e old.usable;
+      few = omega (arith, old.few, ap length e, more_asked before c.args.access);
+      counted = λ still. omega (arith, counted_more old.list before more c.args.access e (old.faults + old.slips) true (old.counted still) fails);
+      honest = λ still. honest_more old.list before more c.args.access e old.regions c.do_acts.new.regions (old.honest still) c.do_acts.ensures.rests stands;
       early = early_more old.list before more c.args.access e old.caught old.early;
       caused = old.caused;
     }
 
 pub returns-then-not-fails_at-clause-steady : goal.returns-then-not-fails_at-clause-steady
-returns-then-not-fails_at-clause-steady c = let old = c.args.self.now in steady_as _ old.list old.caught refl (search rules) refl (search rules) (search rules)
+returns-then-not-fails_at-clause-steady c = let old = c.args.self.now in steady_as old.reopened _ old.list old.caught refl (search rules) refl (search rules) (search rules)
 
 pub returns-then-matches-clause-steady : goal.returns-then-matches-clause-steady
-returns-then-matches-clause-steady c = let old = c.args.self.now in steady_as _ old.list old.caught refl (search rules) refl (search rules) (search rules)
+returns-then-matches-clause-steady c = let old = c.args.self.now in steady_as old.reopened _ old.list old.caught refl (search rules) refl (search rules) (search rules)
 
 pub returns-else-matches-clause-steady : goal.returns-else-matches-clause-steady
-returns-else-matches-clause-steady c = let old = c.args.self.now in steady_as _ old.list old.caught refl (search rules) refl (search rules) (search rules)
+returns-else-matches-clause-steady c = let old = c.args.self.now in steady_as old.reopened _ old.list old.caught refl (search rules) refl (search rules) (search rules)

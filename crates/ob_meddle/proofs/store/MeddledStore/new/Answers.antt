@@ -1,4 +1,4 @@
-use Rattle.std.proofs.Common.{ap}
+use Rattle.std.proofs.Common.{ap, arith}
 use Rattle.ob_store.specs.Logs.{spelt, asked_of}
 use Rattle.ob_meddle.proofs.StoreLemmas.{fresh_none, counted_none, honest_none}
 use Rattle.ob_meddle.proofs.store.MeddledStore.new.Goals as goal
@@ -15,9 +15,10 @@ invariant_of-result c =
     let none = ap spelt c.new.ensures in
     let list = c.from_vec.result in
     record {
-      fresh = fresh_none asked regions none c.new-2.ensures.empty;
-      counted = counted_none list asked none;
-      honest = honest_none list asked regions c.new-2.ensures.empty;
+      fresh = fresh_none asked c.new-3.result none c.new-3.ensures.empty;
+      few = omega arith;
+      counted = λ still. counted_none list asked none;
+      honest = λ still. honest_none list asked regions c.new-2.ensures.empty;
       early = λ x is. absurd (cc is);
-      caused = λ x is. absurd (cc is);
+      caused = λ still x is. absurd (cc is);
     }

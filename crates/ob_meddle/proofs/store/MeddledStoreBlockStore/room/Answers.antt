@@ -6,6 +6,7 @@ invariant_of-self c =
     let same = c.room.ensures.runs in
     record {
       fresh = rw same old.fresh;
+      few = rw same old.few;
       counted = rw same old.counted;
       honest = rw same old.honest;
       early = rw same old.early;

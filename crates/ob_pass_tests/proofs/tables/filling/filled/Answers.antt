@@ -8,7 +8,7 @@ use Rattle.ob_pass_tests.proofs.tables.filling.filled.Goals as goal
 
 pub returns-clause-beside : goal.returns-clause-beside
 returns-clause-beside g c = λ other is.
-    let ready = ready_rests _ _ _ c.make_room.ensures.rests c.requires.ready in
+    let ready = ready_rests _ _ _ c.make_room.ensures.rests c.requires.ready.ready in
     let before = flat_rests _ _ _ c.make_room.ensures.rests c.args.room.now.pack other is in
     let went = rw c.expect-flat.ensures at c.create.ensures.creates.ran.ok in
     let value = rw c.expect-flat.ensures at c.create.ensures.creates.makes.value in

@@ -7,7 +7,7 @@ use Rattle.ob_pass_tests.proofs.tables.filling.insert_cells.Goals as goal
 
 pub returns-clause-beside : goal.returns-clause-beside
 returns-clause-beside g c = λ other is apart.
-    let ready = ready_rests _ _ _ c.make_room.ensures.rests c.requires.ready in
+    let ready = ready_rests _ _ _ c.make_room.ensures.rests c.requires.ready.ready in
     let before = flat_rests _ _ _ c.make_room.ensures.rests c.args.room.now.pack other is in
     let went = rw c.expect-found.ensures at c.insert.ensures.inserts.ok in
     let moves = rw c.expect-found.ensures at c.insert.ensures.inserts.moves in

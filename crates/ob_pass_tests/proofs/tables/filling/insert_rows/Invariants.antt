@@ -1,5 +1,5 @@
 use Rattle.std.proofs.Common.{◌≡◌, ◌≢◌}
-use Rattle.ob_vault.specs.Tied.{Ready}
+use Rattle.ob_vault.specs.Words.{StartsAnew}
 use Rattle.ob_vault.specs.Places.{at}
 use Rattle.ob_flat.specs.declared.flat.Flat.{Flat}
 use Rattle.ob_flat.specs.Flats.{IsFlat}
@@ -11,7 +11,7 @@ invariant-loop-row g l =
     let now = at g.R.Revisions.state l.vault (g.S.BlockStore.state l.store) in
     let pack = l.initial.room.pack in
     record {
-      ready : Ready now;
+      ready : StartsAnew now;
       flat : IsFlat pack l.flat now;
       schema : l.flat.schema ≡ l.initial.flat.schema;
       capacity : l.flat.capacity ≡ l.initial.flat.capacity;

@@ -6,7 +6,7 @@ use Rattle.ob_seal.specs.Sealed.{sealed, tag_of}
 use Rattle.ob_vault.specs.Rows.{joined, Tails}
 use Rattle.ob_vault.specs.Tied.{at_of}
 use Rattle.ob_vault.specs.Numbers.{number_after}
-use Rattle.ob_vault.specs.State.{from_nothing}
+use Rattle.ob_vault.specs.Places.{start_of}
 use Rattle.ob_vault.proofs.WorldSteps.{lasts_read, seals_read, cut_call}
 use Rattle.ob_vault.proofs.Lies.{read_went, read_tampered, read_unfit, read_opened}
 use Rattle.ob_vault.proofs.vault.Vault.get.Goals as goal
@@ -37,7 +37,7 @@ returns-then-open-clause-gets g c =
     let new = g.S.BlockStore.state c.load.new.store in
     let block = take (c.shape-shape.result.width + 32) c.load.new.block in
     let lasts = lasts_read _ _ _ _ _ _ c.requires.ready c.shape-shape.ensures c.load.ensures.asks c.load.ensures.keeps in
-    let number : c.number-number.result ≡ number_after from_nothing old.asked q x = c.number-number.ensures ∙ c.requires.ready.tied.numbers _ _ place.shape place.lives.live place.within in
+    let number : c.number-number.result ≡ number_after (start_of c.args.self.now) old.asked q x = c.number-number.ensures ∙ c.requires.ready.tied.numbers _ _ place.shape place.lives.live place.within in
     let gave = c.in-Ok.ensures.gave in
     record {
       ok = read_went _ _ _ _ _ c.load.ensures.asks _ lasts c.in-Ok.ensures.ok c.in-Ok.ensures.cause
@@ -73,7 +73,7 @@ returns-else-open-clause-gets g c =
     let new = g.S.BlockStore.state c.load.new.store in
     let block = take (c.shape-shape.result.width + 32) c.load.new.block in
     let lasts = lasts_read _ _ _ _ _ _ c.requires.ready c.shape-shape.ensures c.load.ensures.asks c.load.ensures.keeps in
-    let number : c.number-number.result ≡ number_after from_nothing old.asked q x = c.number-number.ensures ∙ c.requires.ready.tied.numbers _ _ place.shape place.lives.live place.within in
+    let number : c.number-number.result ≡ number_after (start_of c.args.self.now) old.asked q x = c.number-number.ensures ∙ c.requires.ready.tied.numbers _ _ place.shape place.lives.live place.within in
     let gave = c.in-Ok.ensures.gave in
     record {
       ok = tt;

@@ -1,23 +1,18 @@
-use Rattle.std.proofs.Common.{arith, ◌≡◌, ◌∙◌, inl, inr, ℕ, refl, sym, subst, true, false, Result, Ok, Err, OnOk, OnErr}
-use Rattle.std.specs.Result.{is_err}
+use Rattle.std.proofs.Common.{arith, ◌≡◌, ◌∙◌, inl, inr, ℕ, refl, sym, subst, Err}
 use Rattle.ob_store.specs.State.{StoreState}
 use Rattle.ob_vault.specs.State.{RevState, VaultState}
+use Rattle.ob_vault.specs.Places.{start_of}
 use Rattle.ob_vault.specs.Tied.{Ready}
 use Rattle.ob_vault.specs.VaultCalls.{MakesRegion}
 use Rattle.ob_vault.specs.declared.fault.VaultErr.TheVariants.{NoMemory}
 use Rattle.ob_vault.specs.declared.region.Order.{Order}
 use Rattle.ob_vault.specs.declared.region.Region.{Region}
 use Rattle.ob_base.proofs.AccessLemmas.{makes_few, highest_below}
-use Rattle.ob_vault.proofs.WorldSteps.{world, lasts_make, unmade, seals_make, seals_unmade, lasts_unmade, others_twice, went_call, cut_call, cut_call_none}
+use Rattle.ob_vault.proofs.WorldSteps.{at_ok, at_err, world, earlier_region, lasts_make, unmade, seals_make, seals_unmade, lasts_unmade, others_twice, went_call, cut_call, cut_call_none}
 use Rattle.ob_vault.proofs.vault.Vault.make.Goals as goal
 
--- what holds at an `Ok`, where there is no `Err`
-at_ok : {T E : Type 0} (r : Result T E) (P : Type 0) → false ≡ is_err r → OnOk r P → P
-at_ok (Ok x) P ok h = h
-at_ok (Err e) P ok h = absurd (cc ok)
-
 pub overflow_add-self : goal.overflow_add-self
-overflow_add-self g c = omega (arith, c.requires.ready.tied.next, c.requires.few, makes_few (g.S.BlockStore.state c.args.store.now).asked)
+overflow_add-self g c = omega (arith, c.requires.ready.tied.next, c.requires.few, makes_few (g.S.BlockStore.state c.args.store.now).asked, earlier_region (start_of c.args.self.now))
 
 pub make-requires-clause-next : goal.make-requires-clause-next
 make-requires-clause-next g c = highest_below _ _ (omega (arith, c.requires.ready.tied.next)) c.requires.ready.tied.above
@@ -27,10 +22,6 @@ unmade_same : (v : VaultState) (revs : RevState) (s : StoreState) (blocks width 
     → MakesRegion blocks width order (Err NoMemory) (world v s) (world (record v { revs = revs }) s)
 unmade_same v revs s blocks width order ready same =
     subst (λ (r : RevState). MakesRegion blocks width order (Err NoMemory) (world v s) (world (record v { revs = r }) s)) (sym same) (unmade v s blocks width order ready)
-
-at_err : {T E : Type 0} (r : Result T E) (P : Type 0) → true ≡ is_err r → OnErr r P → P
-at_err (Ok x) P bad h = absurd (cc bad)
-at_err (Err e) P bad h = h
 
 pub returns-then-is_err : goal.returns-then-is_err
 returns-then-is_err g c =

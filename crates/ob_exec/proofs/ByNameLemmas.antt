@@ -1,0 +1,94 @@
+-- Tables in place beside those that a closing lists, both in order of their names.
+use Rattle.std.proofs.Common.{◌≡◌, ℕ, zero, suc, ◌+◌, ◌≤◌, List, [], ◌∷◌, map, Option, Some, refl, sym, ◌∙◌, ap}
+use Rattle.std.specs.Prelude.{fold, slice_get}
+use Rattle.std.specs.List.{insert, prefix_len}
+use Rattle.ob_base.specs.declared.schema.Heading.{Heading}
+use Rattle.ob_base.specs.declared.schema.Table.{Table}
+use Rattle.ob_base.specs.Stored.{Stored}
+use Rattle.ob_flat.specs.Flats.{Represents as FlatRepresents, table_region}
+use Rattle.ob_mean.specs.Verdict.{Tables}
+use Rattle.ob_row.specs.Slots.{Slots}
+use Rattle.ob_seal.specs.KeySet.{KeySet}
+use Rattle.ob_seal.specs.Sealed.{sealed}
+use Rattle.ob_store.specs.State.{KeptRegion, Shape, StoreState}
+use Rattle.ob_store.specs.Calls.{KeepsLive}
+use Rattle.ob_vault.specs.declared.region.Order.TheVariants.{Round}
+use Rattle.ob_vault.specs.State.{RevState, World}
+use Rattle.ob_vault.specs.Tied.{Ready, at_of}
+use Rattle.ob_reopen.specs.declared.listed.Listed.{Listed}
+use Rattle.ob_reopen.specs.Writings.{catalogue_of, listed_of}
+use Rattle.ob_reopen.proofs.InStep.{Beside, fold_beside}
+use Rattle.ob_exec.specs.Engines.{IsTable, flat_of}
+use Rattle.ob_exec.specs.Resting.{AreKept, KeepsTable, by_name, is_before, kept_block, placed}
+use Rattle.ob_exec.specs.Telling.{AreHeld}
+use Rattle.ob_exec.proofs.ListedLemmas.{table_numbers}
+use Rattle.ob_verdict.specs.Laws.{AreInPlace, IsInPlace}
+
+-- ---- each in its place
+placed_in : (tables : Tables) (n : ℕ) (t : Stored Slots) → IsInPlace t → AreInPlace tables → AreInPlace (insert tables n t)
+placed_in [] zero t is are = (is, tt)
+placed_in [] (suc n) t is are = (is, tt)
+placed_in (u ∷ us) zero t is are = (is, are)
+placed_in (u ∷ us) (suc n) t is are = (are.0, placed_in us n t is are.1)
+
+folded_in : (tables more : Tables) → AreInPlace tables → AreInPlace more → AreInPlace (fold placed tables more)
+folded_in tables [] are fine = are
+folded_in tables (t ∷ ts) are fine = folded_in (placed tables t) ts (placed_in tables (prefix_len (is_before t) tables) t fine.0 are) fine.1
+
+pub named_in : (tables : Tables) → AreInPlace tables → AreInPlace (by_name tables)
+named_in tables are = folded_in [] tables tt are
+
+-- ---- one beside the other
+pub record KeepsBeside (keys : KeySet) (pack : ℕ) (kept : ℕ → Option KeptRegion) (t : Listed) (x : Stored Slots) : Type 0 where
+  pub heading : x.heading ≡ t.table.heading
+  pub keeps : KeepsTable keys pack t x.held kept
+
+kept_beside : (keys : KeySet) (pack : ℕ) (kept : ℕ → Option KeptRegion) (listed : List Listed) (tables : Tables) → Beside (KeepsBeside keys pack kept) listed tables → AreKept keys pack listed tables kept
+kept_beside keys pack kept [] [] all = tt
+kept_beside keys pack kept [] (x ∷ xs) all = absurd all
+kept_beside keys pack kept (t ∷ ts) [] all = absurd all
+kept_beside keys pack kept (t ∷ ts) (x ∷ xs) all = (all.0.heading, all.0.keeps, kept_beside keys pack kept ts xs all.1)
+
+-- what holds of each table beside the one in place
+listed_beside : (R : Listed → Stored Slots → Type 0) (revs : RevState) (pack : ℕ) (w : World) (ts : List Table) (tables : Tables) → AreHeld pack ts tables w
+    → ((i : ℕ) (t : Table) (x : Stored Slots) → slice_get ts i ≡ Some t → x.heading ≡ t.heading → FlatRepresents pack (flat_of t) x.held w → R (listed_of revs t) x)
+    → Beside R (map (listed_of revs) ts) tables
+listed_beside R revs pack w [] [] held each = tt
+listed_beside R revs pack w [] (x ∷ xs) held each = absurd held
+listed_beside R revs pack w (t ∷ ts) [] held each = absurd held
+listed_beside R revs pack w (t ∷ ts) (x ∷ xs) held each =
+    (each 0 t x refl held.0 held.1, listed_beside R revs pack w ts xs held.2 (λ i u y is. each (suc i) u y is))
+
+-- the tables in order of their names are kept, if each is
+pub named_kept : (keys : KeySet) (pack : ℕ) (kept : ℕ → Option KeptRegion) (revs : RevState) (w : World) (ts : List Table) (tables : Tables) → AreHeld pack ts tables w
+    → ((i : ℕ) (t : Table) (x : Stored Slots) → slice_get ts i ≡ Some t → x.heading ≡ t.heading → FlatRepresents pack (flat_of t) x.held w → KeepsBeside keys pack kept (listed_of revs t) x)
+    → AreKept keys pack (catalogue_of revs ts) (by_name tables) kept
+named_kept keys pack kept revs w ts tables held each =
+    kept_beside keys pack kept (catalogue_of revs ts) (by_name tables)
+    (fold_beside (KeepsBeside keys pack kept) (λ (t : Listed). t.table.heading.name) (λ (x : Stored Slots). x.heading.name)
+    (λ t x beside. ap (λ (h : Heading). h.name) (sym beside.heading)) [] (map (listed_of revs) ts) [] tables tt
+    (listed_beside (KeepsBeside keys pack kept) revs pack w ts tables held each))
+
+-- ---- a table of which the store keeps each block
+pub table_kept_as : (keys : KeySet) (pack : ℕ) (revs : RevState) (t : Table) (slots : Slots) (w : World) (s : StoreState) → s ≡ w.store → 1 ≤ pack → Ready w → IsTable pack t w
+    → FlatRepresents pack (flat_of t) slots w → w.vault.keys ≡ keys → w.vault.revs.number t.region 0 ≡ revs.number t.region 0
+    → ((shape : Shape) → s.live t.region ≡ Some shape → KeepsLive t.region shape s) → KeepsTable keys pack (listed_of revs t) slots s.kept
+table_kept_as keys pack revs t slots w s same some ready is represents keyed number keeps =
+    let live = (ready.tied.live t.region (table_region Round pack t.heading.schema t.heading.capacity) is.round.live).live in
+    let kept = keeps _ (ap (λ (x : StoreState). x.live t.region) same ∙ live) in
+    record {
+      size = represents.size;
+      fits = represents.fits;
+      region = kept.region;
+      is = kept.is;
+      blocks = ap (λ (x : Shape). x.blocks) kept.same;
+      len = ap (λ (x : Shape). x.len) kept.same;
+      whole = kept.whole;
+      holds = λ p below.
+          let count : w.vault.revs.number t.region p ≡ revs.number t.region 0 + p =
+          table_numbers pack some w ready t is p below ∙ ap (λ (k : ℕ). k + p) number in
+          kept.last p
+          ∙ ap (λ (x : StoreState). x.last t.region p) same
+          ∙ (represents.holds p below).last
+          ∙ (λ i. Some (sealed (keyed i) (at_of t.region p (count i)) (kept_block pack (listed_of revs t) slots p)));
+    }

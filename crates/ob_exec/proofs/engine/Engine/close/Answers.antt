@@ -1,0 +1,106 @@
+use Rattle.std.proofs.Common.{◌≤◌, ◌+◌, List, Ok, Err, sym, ◌∙◌, ap, subst, length}
+use Rattle.std.specs.List.{All}
+use Rattle.std.proofs.lemmas.Result.{err_from_is_err_and}
+use Rattle.ob_base.specs.declared.schema.Table.{Table}
+use Rattle.ob_vault.specs.Places.{at}
+use Rattle.ob_vault.specs.Words.{MayAsk}
+use Rattle.ob_reopen.specs.declared.listed.Listed.{Listed}
+use Rattle.ob_reopen.specs.Writings.{HasBlock, WritesClosing, catalogue_of}
+use Rattle.ob_exec.proofs.RunLemmas.{at_ok}
+use Rattle.ob_exec.proofs.ClosedLemmas.{closes_all, closes_cut, closes_none, few_columns, few_listed, have_blocks, lives_fore, may_write, used_is}
+use Rattle.ob_exec.proofs.engine.Engine.close.Goals as goal
+
+pub returns-then-is_err : goal.returns-then-is_err
+returns-then-is_err g c =
+    let old = c.args.self in
+    let s = g.S.BlockStore.state c.args.store.now in
+    record {
+      closes =
+          closes_none g.R.Revisions.state old s c.requires.agrees (sym (used_is g.R.Revisions.state old s c.requires.agrees) ∙ sym c.is_used_up.ensures ∙ c.if-is_used_up.false)
+          (g.S.BlockStore.state c.room.new.self) c.room.ensures.rests;
+    }
+
+pub list_tables-requires : goal.list_tables-requires
+list_tables-requires g c =
+    let old = c.args.self in
+    subst (λ (ts : List Table). All (λ (t : Table). HasBlock t.region (g.R.Revisions.state old.vault.revs)) ts) (sym c.as_slice-tables.ensures)
+    (have_blocks g.R.Revisions.state old (g.S.BlockStore.state c.args.store.now) c.requires.agrees)
+
+pub returns-in_default : goal.returns-in_default
+returns-in_default g c =
+    let old = c.args.self in
+    let s = g.S.BlockStore.state c.args.store.now in
+    record {
+      closes =
+          closes_none g.R.Revisions.state old s c.requires.agrees (sym (used_is g.R.Revisions.state old s c.requires.agrees) ∙ sym c.is_used_up.ensures ∙ c.if-is_used_up.false)
+          (g.S.BlockStore.state c.room.new.self) c.room.ensures.rests;
+    }
+
+pub drop_closing-requires-clause-lives : goal.drop_closing-requires-clause-lives
+drop_closing-requires-clause-lives g c =
+    let old = c.args.self in
+    let s = g.S.BlockStore.state c.args.store.now in
+    lives_fore g.R.Revisions.state old s c.requires.agrees (sym (used_is g.R.Revisions.state old s c.requires.agrees) ∙ sym c.is_used_up.ensures ∙ c.if-is_used_up.false)
+    (g.S.BlockStore.state c.room.new.self) c.room.ensures.rests
+
+pub write_closing-requires-clause-asks : goal.write_closing-requires-clause-asks
+write_closing-requires-clause-asks g c =
+    let old = c.args.self in
+    let s = g.S.BlockStore.state c.args.store.now in
+    let s1 = g.S.BlockStore.state c.room.new.self in
+    let listed = c.as_slice.ensures ∙ c.in-Ok.ensures ∙ ap (catalogue_of (g.R.Revisions.state old.vault.revs)) c.as_slice-tables.ensures in
+    let spare : 3 + length old.public.tables ≤ s1.spare = subst (λ (ts : List Table). 3 + length ts ≤ s1.spare) c.as_slice-tables.ensures
+    (at_ok c.room.result _ (sym c.is_err.ensures.value ∙ c.if-is_err.false) c.room.ensures.spare) in
+    subst (λ (l : List Listed). MayAsk (2 + length l) (at g.R.Revisions.state c.drop_closing.new.vault (g.S.BlockStore.state c.drop_closing.new.store))) (sym listed)
+    (may_write g.R.Revisions.state old s c.requires.agrees (sym (used_is g.R.Revisions.state old s c.requires.agrees) ∙ sym c.is_used_up.ensures ∙ c.if-is_used_up.false) s1 c.room.ensures.rests
+    c.drop_closing.new.vault (g.S.BlockStore.state c.drop_closing.new.store) c.drop_closing.ensures.drops c.requires.few spare)
+
+pub write_closing-requires-clause-few : goal.write_closing-requires-clause-few
+write_closing-requires-clause-few g c =
+    let old = c.args.self in
+    let s = g.S.BlockStore.state c.args.store.now in
+    let listed = c.as_slice.ensures ∙ c.in-Ok.ensures ∙ ap (catalogue_of (g.R.Revisions.state old.vault.revs)) c.as_slice-tables.ensures in
+    subst (λ (l : List Listed). length l ≤ 64) (sym listed)
+    (few_listed g.R.Revisions.state old s c.requires.agrees (sym (used_is g.R.Revisions.state old s c.requires.agrees) ∙ sym c.is_used_up.ensures ∙ c.if-is_used_up.false)
+    (g.S.BlockStore.state c.room.new.self) c.room.ensures.rests c.drop_closing.new.vault (g.S.BlockStore.state c.drop_closing.new.store) c.drop_closing.ensures.drops)
+
+pub write_closing-requires-clause-columns : goal.write_closing-requires-clause-columns
+write_closing-requires-clause-columns g c =
+    let old = c.args.self in
+    let s = g.S.BlockStore.state c.args.store.now in
+    let listed = c.as_slice.ensures ∙ c.in-Ok.ensures ∙ ap (catalogue_of (g.R.Revisions.state old.vault.revs)) c.as_slice-tables.ensures in
+    subst (λ (l : List Listed). All (λ (t : Listed). length t.table.heading.schema ≤ 16) l) (sym listed)
+    (few_columns g.R.Revisions.state old s c.requires.agrees (sym (used_is g.R.Revisions.state old s c.requires.agrees) ∙ sym c.is_used_up.ensures ∙ c.if-is_used_up.false)
+    (g.S.BlockStore.state c.room.new.self) c.room.ensures.rests c.drop_closing.new.vault (g.S.BlockStore.state c.drop_closing.new.store) c.drop_closing.ensures.drops)
+
+pub returns-in_err-written : goal.returns-in_err-written
+returns-in_err-written g c =
+    let p = err_from_is_err_and c.from_residual.result c.from_residual.ensures.1 in
+    let old = c.args.self in
+    let s = g.S.BlockStore.state c.args.store.now in
+    let listed = c.as_slice.ensures ∙ c.in-Ok.ensures ∙ ap (catalogue_of (g.R.Revisions.state old.vault.revs)) c.as_slice-tables.ensures in
+    let mid = at g.R.Revisions.state c.drop_closing.new.vault (g.S.BlockStore.state c.drop_closing.new.store) in
+    let last = at g.R.Revisions.state c.write_closing.new.vault (g.S.BlockStore.state c.write_closing.new.store) in
+    rw (p.1, p.2) (record {
+      closes =
+          closes_cut g.R.Revisions.state old s c.requires.agrees (sym (used_is g.R.Revisions.state old s c.requires.agrees) ∙ sym c.is_used_up.ensures ∙ c.if-is_used_up.false)
+          (g.S.BlockStore.state c.room.new.self) c.room.ensures.rests c.drop_closing.new.vault (g.S.BlockStore.state c.drop_closing.new.store) c.drop_closing.ensures.drops
+          c.write_closing.new.vault (g.S.BlockStore.state c.write_closing.new.store) c.in_err-written.field-0.0
+          (subst (λ (l : List Listed). WritesClosing old.room.pack l (Err c.in_err-written.field-0.0) mid last) listed c.in_err-written.ensures.writes);
+    })
+
+pub returns : goal.returns
+returns g c =
+    let old = c.args.self in
+    let s = g.S.BlockStore.state c.args.store.now in
+    let listed = c.as_slice.ensures ∙ c.in-Ok.ensures ∙ ap (catalogue_of (g.R.Revisions.state old.vault.revs)) c.as_slice-tables.ensures in
+    let mid = at g.R.Revisions.state c.drop_closing.new.vault (g.S.BlockStore.state c.drop_closing.new.store) in
+    let last = at g.R.Revisions.state c.write_closing.new.vault (g.S.BlockStore.state c.write_closing.new.store) in
+    record {
+      closes =
+          closes_all g.R.Revisions.state old s c.requires.agrees (sym (used_is g.R.Revisions.state old s c.requires.agrees) ∙ sym c.is_used_up.ensures ∙ c.if-is_used_up.false)
+          (g.S.BlockStore.state c.room.new.self) c.room.ensures.rests c.drop_closing.new.vault (g.S.BlockStore.state c.drop_closing.new.store) c.drop_closing.ensures.drops
+          c.write_closing.new.vault (g.S.BlockStore.state c.write_closing.new.store) c.in_ok-written.written
+          (subst (λ (l : List Listed). WritesClosing old.room.pack l (Ok c.in_ok-written.written) mid last) listed c.in_ok-written.ensures.writes)
+          (λ q shape tells live. g.met.S.BlockStore.keeps_live c.write_closing.new.store q shape tells live) c.mark_of.result c.mark_of.ensures;
+    }

@@ -1,0 +1,149 @@
+//! The line that a mark is spelt as.
+ghost use Rattle.std.specs.Prelude.{◌≡◌, ◌<◌, ◌^◌, ◌++◌, ◌∷◌, ℕ, List, codes, decimal, MatchOption, IfSome, Some, OnOk};
+ghost use Rattle.std.specs.Io.KnownBytes.{Appends};
+ghost use Rattle.ob_base.specs.declared.mark.Mark.{Mark as HeldMark};
+ghost use Rattle.ob_reopen.specs.Keepers.{AreMarked};
+ghost use Rattle.ob_file.specs.Marks.{HasNoBlank, Spells, mark_text};
+
+use itoa::{Buffer, Integer};
+use ob_base::{Failed, Mark};
+use std::io::Write;
+use std::str;
+
+/// The numbers of a closing's region and of its first write are below this one.
+const END: u64 = 1 << 63;
+
+// Writes all of a piece.
+fn put<W: Write>(out: &mut W, piece: &[u8]) -> Result<(), Failed>
+    ensures { OnOk result (Appends (W.contents out.old) (W.contents out.new) piece.now) }
+{
+    match out.write_all(piece) {
+        Ok(()) => Ok(()),
+        Err(_) => Err(Failed),
+    }
+}
+
+// Writes a number in decimal, and what follows it.
+fn put_number<W: Write, I: Integer>(out: &mut W, n: I, end: &[u8]) -> Result<(), Failed>
+    ensures { OnOk result
+        (Appends (W.contents out.old) (W.contents out.new) (I.text n ++ end.now)) }
+{
+    let mut buffer = Buffer::new();
+    put(out, buffer.format(n).as_bytes())?;
+    put(out, end)
+}
+
+/// Writes the line of a mark, or nothing of a fresh one. `Failed` where `out` did.
+pub fn spell<W: Write>(out: &mut W, mark: &Mark) -> Result<(), Failed>
+    ensures { OnOk result
+        (Appends (W.contents out.old) (W.contents out.new) (mark_text mark.now)) }
+{
+    match *mark {
+        Mark::Fresh => Ok(()),
+        Mark::InUse => put(out, b"in use\n"),
+        Mark::Closed {
+            region,
+            blocks,
+            number,
+            pack,
+        } => {
+            put(out, b"closed ")?;
+            put_number(out, region, b" ")?;
+            put_number(out, blocks, b" ")?;
+            put_number(out, number, b" ")?;
+            put_number(out, pack, b"\n")
+        }
+    }
+}
+
+// A text before its first blank, and behind it.
+fn word(text: &str) -> Option<(&str, &str)>
+    ensures spelt { IfSome result (λ w. text.now ≡ w.0.now ++ 32 ∷ w.1.now) }
+    ensures read { (head rest : List ℕ) → HasNoBlank head → text.now ≡ head ++ 32 ∷ rest
+        → MatchOption result ⊥ (λ w. (w.0.now ≡ head) × (w.1.now ≡ rest)) }
+{
+    text.split_once(' ')
+}
+
+// The number that is spelt so, in decimal and in no other way.
+fn number_of(digits: &str) -> Option<u64>
+    ensures spelt { IfSome result (λ n. digits.now ≡ decimal n) }
+    ensures read { (n : ℕ) → n < 2 ^ 64 → digits.now ≡ decimal n → result ≡ Some n }
+{
+    let n: u64 = digits.parse().ok()?;
+    let mut buffer = Buffer::new();
+    if buffer.format(n) == digits {
+        Some(n)
+    } else {
+        None
+    }
+}
+
+// The number before a text's first blank, and what is behind it.
+fn numbered(text: &str) -> Option<(u64, &str)>
+    ensures spelt { IfSome result (λ r. text.now ≡ decimal r.0 ++ 32 ∷ r.1.now) }
+    ensures read { (n : ℕ) (rest : List ℕ) → n < 2 ^ 64 → text.now ≡ decimal n ++ 32 ∷ rest
+        → MatchOption result ⊥ (λ r. (r.0 ≡ n) × (r.1.now ≡ rest)) }
+{
+    let (digits, rest) = word(text)?;
+    Some((number_of(digits)?, rest))
+}
+
+// The number that a line ends with.
+fn last_number(text: &str) -> Option<u64>
+    ensures spelt { IfSome result (λ n. text.now ≡ decimal n ++ codes "\n") }
+    ensures read { (n : ℕ) → n < 2 ^ 64 → text.now ≡ decimal n ++ codes "\n" → result ≡ Some n }
+{
+    number_of(text.strip_suffix('\n')?)
+}
+
+// The mark of a closing with these numbers, if it may have them.
+fn closing_mark(region: u64, blocks: u64, number: u64, pack: u64) -> Option<Mark>
+    ensures { MatchOption result (AreMarked region blocks number pack → ⊥)
+        (λ mark. (mark ≡ Mark.Closed region blocks number pack)
+        × AreMarked region blocks number pack) }
+{
+    let are_places = 1 <= region && region < END && 1 <= number && number < END;
+    if are_places && 1 <= blocks && blocks <= 65 && 1 <= pack && pack <= 16 {
+        Some(Mark::Closed {
+            region,
+            blocks: blocks as u32,
+            number,
+            pack: pack as u8,
+        })
+    } else {
+        None
+    }
+}
+
+// The mark of a closing that a line spells.
+fn closed_of(line: &str) -> Option<Mark>
+    ensures spelt { IfSome result (Spells line.now) }
+    ensures read { (region blocks number pack : ℕ)
+        → Spells line.now (Mark.Closed region blocks number pack)
+        → result ≡ Some (Mark.Closed region blocks number pack) }
+{
+    let (head, rest) = word(line)?;
+    let (region, rest) = numbered(rest)?;
+    let (blocks, rest) = numbered(rest)?;
+    let (number, rest) = numbered(rest)?;
+    let pack = last_number(rest)?;
+    if head == "closed" {
+        closing_mark(region, blocks, number, pack)
+    } else {
+        None
+    }
+}
+
+/// The mark that a file with this text holds, if it is one line as `spell` writes it, of a mark within its limits.
+pub fn mark_of(text: &[u8]) -> Option<Mark>
+    ensures spelt { IfSome result (Spells text.now) }
+    ensures read { (mark : HeldMark) → Spells text.now mark → result ≡ Some mark }
+{
+    let line = str::from_utf8(text).ok()?;
+    if line == "in use\n" {
+        Some(Mark::InUse)
+    } else {
+        closed_of(line)
+    }
+}

@@ -1,0 +1,15 @@
+pub mod Parts
+pub mod Lists
+pub mod LimitLemmas
+pub mod CatalogueLemmas
+pub mod CatalogueLaws
+pub mod InStep
+pub mod Runs
+pub mod OpenLemmas
+pub mod RoomLemmas
+pub mod ReadLemmas
+pub mod ClosingLemmas
+pub mod TableLemmas
+pub mod WriteLemmas
+pub mod CloseLemmas
+pub mod ListLemmas

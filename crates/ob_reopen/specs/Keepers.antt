@@ -1,0 +1,71 @@
+-- What contracts see of a keeper, and what its calls do.
+use Rattle.std.specs.Prelude.{◌≡◌, ◌⊎◌, ◌↔◌, ◌==◌, ◌≤◌, ◌<◌, ◌+◌, ◌-◌, ◌^◌, ℕ, min, List, Option, Some, Result, Ok, Err, IsErr, IsTrue, IfOk, OnOk, OnErr, ⊤}
+use Rattle.std.specs.List.{list_any}
+use Rattle.ob_base.specs.declared.fault.Failed.{Failed}
+use Rattle.ob_base.specs.declared.mark.Mark.{Mark}
+use Rattle.ob_base.specs.declared.mark.Mark.TheVariants.{Fresh, InUse, Closed}
+use Rattle.ob_base.specs.Counts.{Rises}
+
+pub record KeeperState : Type 0 where
+  -- the mark that is held, where that is told
+  pub held : Option Mark
+  -- how often a call failed
+  pub faults : ℕ
+
+-- the numbers of a closing that a mark may name
+pub record AreMarked (region blocks number pack : ℕ) : Type 0 where
+  pub region_least : 1 ≤ region
+  pub region_most : region < 2 ^ 63
+  pub blocks_least : 1 ≤ blocks
+  pub blocks_most : blocks ≤ 65
+  pub number_least : 1 ≤ number
+  pub number_most : number < 2 ^ 63
+  pub pack_least : 1 ≤ pack
+  pub pack_most : pack ≤ 16
+
+-- a mark within its limits
+abbrev pub IsMark : Mark → Type 0
+IsMark Fresh = ⊤
+IsMark InUse = ⊤
+IsMark (Closed region blocks number pack) = AreMarked region blocks number pack
+
+-- `Failed` comes only where the count rose, and any other answer leaves it
+abbrev pub CountsFault : {T : Type 0} → Result T Failed → KeeperState → KeeperState → Type 0
+CountsFault (Ok _) old new = new.faults ≡ old.faults
+CountsFault (Err _) old new = Rises old.faults new.faults
+
+-- the mark was asked for: it is the one that is held, where that is told, and stays
+pub record GivesMark (result : Result Mark Failed) (old new : KeeperState) : Type 0 where
+  pub cause : CountsFault result old new
+  pub faults : old.faults ≤ new.faults
+  pub within : IfOk result IsMark
+  pub told : IfOk result (λ mark. (held : Mark) → old.held ≡ Some held → mark ≡ held)
+  pub stays : new.held ≡ old.held
+
+-- a mark was handed over: it is held, or what was held stays
+pub record SetsMark {T : Type 0} (mark : Mark) (result : Result T Failed)
+    (old new : KeeperState) : Type 0 where
+  pub cause : CountsFault result old new
+  pub faults : old.faults ≤ new.faults
+  pub told : OnOk result ((held : Mark) → old.held ≡ Some held → new.held ≡ Some mark)
+  pub failed : OnErr result ((held : Mark) → old.held ≡ Some held
+      → (new.held ≡ Some held) ⊎ (new.held ≡ Some mark))
+
+-- ---- a keeper in memory
+pub record MemoryState : Type 0 where
+  pub mark : Mark
+  -- the numbers of the calls that fail, from 1
+  pub fail : List ℕ
+  -- the calls so far, and how many of them failed
+  pub calls : ℕ
+  pub faults : ℕ
+
+-- it tells
+abbrev pub told_by : MemoryState → KeeperState
+told_by m = record { held = Some m.mark; faults = m.faults }
+
+-- one call more was made, which failed where its number is listed
+pub record Calls {T : Type 0} (result : Result T Failed) (old new : MemoryState) : Type 0 where
+  pub fail : new.fail ≡ old.fail
+  pub calls : new.calls ≡ min (old.calls + 1) (2 ^ 64 - 1)
+  pub fails : IsErr result ↔ IsTrue (list_any (λ n. n == new.calls) old.fail)

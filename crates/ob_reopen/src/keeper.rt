@@ -1,0 +1,20 @@
+ghost use Rattle.ob_reopen.specs.Keepers.{KeeperState, IsMark, GivesMark, SetsMark};
+
+use ob_base::{Failed, Mark};
+
+/// What keeps a mark where nobody else can change it, from a run to the next: the trusted counter.
+///
+/// A keeper that tells says which mark it holds. `faults` counts the calls that failed; a count that stands at the
+/// last value of a `u64` counts as risen. No call takes memory.
+pub trait Keeper {
+    ghost state: { Self → KeeperState };
+
+    /// The mark that is held.
+    fn mark(&mut self) -> Result<Mark, Failed>
+        ensures gives { GivesMark result (state self.old) (state self.new) };
+
+    /// Holds another mark from now on. After `Failed` it is the old one, or the new one.
+    fn set(&mut self, mark: &Mark) -> Result<(), Failed>
+        requires { IsMark mark.now }
+        ensures sets { SetsMark mark.now result (state self.old) (state self.new) };
+}

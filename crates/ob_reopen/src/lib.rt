@@ -1,0 +1,30 @@
+//! What outlasts a run: the mark that a keeper holds, and the closing, a region that lists an engine's tables,
+//! from which the next run opens them again.
+#![tactic(auto)]
+
+mod catalogue;
+mod closing;
+mod fault;
+mod keeper;
+mod laws;
+mod limits;
+mod listed;
+mod memory;
+mod parsing;
+mod reading;
+mod spelling;
+mod tables;
+#[cfg(test)]
+mod tests;
+mod writing;
+
+pub use catalogue::list_tables;
+pub use closing::Closing;
+pub use fault::{CloseErr, OpenErr};
+pub use keeper::Keeper;
+pub use laws::lists_are_catalogues;
+pub use listed::Listed;
+pub use memory::MemKeeper;
+pub use reading::read_closing;
+pub use tables::reopen_tables;
+pub use writing::write_closing;

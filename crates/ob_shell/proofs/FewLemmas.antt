@@ -1,0 +1,238 @@
+-- Fewer accesses are asked than there are numbers.
+use Rattle.std.proofs.Common.{◌≡◌, ◌≤◌, ◌<◌, ◌+◌, ◌^◌, ℕ, suc, Bool, true, false, List, [], ◌∷◌, length, Option, None, Some, Ok, Result, inl, inr, refl, sym, ◌∙◌, ap, subst, arith, get_or}
+use Rattle.std.specs.Prelude.{All, IfSome, bytes_eq, if◌then◌else◌, option_map, slice_get}
+use Rattle.std.specs.Option.{option_map_or}
+use Rattle.std.proofs.lemmas.Bool.Decides.{nat_tests}
+use Rattle.std.proofs.lemmas.Option.{slice_get-get_or}
+use Rattle.ob_base.proofs.AccessLemmas.{makes_few}
+use Rattle.ob_base.specs.Joins.{joined_slots}
+use Rattle.ob_base.specs.Schemas.{width}
+use Rattle.ob_base.specs.Stored.{Stored, heading_at, headings, headings_of, stored_at, stored_regions}
+use Rattle.ob_base.specs.declared.config.Plan.{Plan}
+use Rattle.ob_base.specs.declared.config.Plan.TheVariants.{Small, Large, Continuous, Hash}
+use Rattle.ob_base.specs.declared.config.Public.{Public}
+use Rattle.ob_base.specs.declared.refusal.Refusal.{Refusal}
+use Rattle.ob_base.specs.declared.refusal.Stop.{Stop}
+use Rattle.ob_base.specs.declared.schema.Heading.{Heading}
+use Rattle.ob_base.specs.declared.schema.Table.{Table}
+use Rattle.ob_base.specs.declared.seen.Seen.{Seen}
+use Rattle.ob_base.specs.declared.skeleton.Source.{Source}
+use Rattle.ob_base.specs.declared.skeleton.Source.TheVariants.{Table as OneTable, Join}
+use Rattle.ob_exec.specs.Agreeing.{Agrees, count_of, public_of, seen_of}
+use Rattle.ob_exec.specs.Running.{RefusedEarly, refusal_now}
+use Rattle.ob_exec.specs.declared.engine.Engine.{Engine}
+use Rattle.ob_exec.specs.declared.outcome.Outcome.{Outcome}
+use Rattle.ob_mean.proofs.EarlyLemmas.{allowed, within}
+use Rattle.ob_mean.proofs.VerdictLemmas.{heading-stored}
+use Rattle.ob_mean.specs.Lawful.{Holds, IsCount, counted_slots, statement_slots}
+use Rattle.ob_mean.specs.Refusals.{early_refusal}
+use Rattle.ob_mean.specs.Verdict.{is_late}
+use Rattle.ob_reopen.specs.Limits.{IsStored}
+use Rattle.ob_script.proofs.Few.{script_few}
+use Rattle.ob_script.specs.Script.{extent_of, joined_extent, script}
+use Rattle.ob_script.specs.Sizes.{IsCounted, IsPublic, IsSourceCounted, IsTable, IsWithin}
+use Rattle.ob_shell.proofs.ReplayLemmas.{counts_on}
+use Rattle.ob_gen.specs.declared.tally.Tally.{Tally}
+use Rattle.ob_shell.specs.Feeding.{Fetch}
+use Rattle.ob_shell.specs.Running.{SessionRan}
+use Rattle.ob_shell.specs.Steps.{Does, Machine, Step, Steps, asked_of}
+use Rattle.ob_shell.specs.Words.{Answer}
+use Rattle.ob_sql.specs.Skeleton.{skeleton}
+use Rattle.ob_sql.specs.declared.stmt.SelectRows.{SelectRows}
+use Rattle.ob_sql.specs.declared.stmt.Stmt.{Stmt}
+use Rattle.ob_sql.specs.declared.stmt.Stmt.TheVariants.{Create, Insert, Update, Delete, Drop as DropTable, SelectRows as RowsStmt, SelectTotals as TotalsStmt}
+use Rattle.ob_store.specs.State.{StoreState}
+use Rattle.ob_vault.specs.Places.{start_of}
+use Rattle.ob_vault.specs.State.{RevState, Start, earlier}
+use Rattle.ob_verdict.proofs.AcceptedProof.{joins_fit}
+
+-- ---- what is public is within its limits
+region_few : (start : Start) → start.region ≤ earlier start
+unfolding earlier
+region_few start = omega arith
+
+tables_are : (ts : List Table) → ((i : ℕ) (t : Table) → slice_get ts i ≡ Some t → IsStored t.heading) → All IsTable ts
+tables_are ts each = λ i d below. let one = each i (get_or ts i d) (slice_get-get_or ts i d below) in record { capacity = one.most; width = one.wide }
+
+public_is : {R : Type 0} (state : R → RevState) (e : Engine R) (s : StoreState) → Agrees state e s → count_of e s < 2 ^ 63 → IsPublic (public_of e)
+public_is state e s agrees few =
+    let set = agrees.settings in
+    let next = agrees.next in
+    let tied = agrees.ready.tied.next in
+    let made = makes_few s.asked in
+    let region = region_few (start_of e.vault) in
+    record {
+      pack_some = set.pack_least;
+      pack_few = set.pack_most;
+      buffer_some = set.blocks;
+      buffer_few = set.most;
+      depth_some = set.depth_least;
+      depth_few = set.depth_most;
+      next = omega (arith, next, tied, made, region, few);
+      padded = set.padded;
+      tables = tables_are e.public.tables (λ i t is. (agrees.tables.each i t is).heading.stored);
+    }
+
+-- ---- a table that there is
+record IsSized (t : Stored ℕ) : Type 0 where
+  capacity : t.heading.capacity ≤ 2 ^ 20
+  width : width t.heading.schema ≤ 1024
+
+sized : (name : List ℕ) (ts : List Table) → All IsTable ts → IfSome (stored_at name (stored_regions ts)) IsSized
+sized name [] h = tt
+sized name (t ∷ ts) h = split (bytes_eq t.heading.name name) (sized name ts (λ k d l. h (suc k) d (omega arith))) where
+  split : (b : Bool) → IfSome (stored_at name (stored_regions ts)) IsSized → IfSome (if b then Some (record { heading = t.heading; held = t.region }) else stored_at name (stored_regions ts)) IsSized
+  split true rest = let one = h 0 t (omega arith) in record { capacity = one.capacity; width = one.width }
+  split false rest = rest
+
+headings-regions : (ts : List Table) → headings (stored_regions ts) ≡ headings_of ts
+headings-regions [] = refl
+headings-regions (t ∷ ts) = ap (λ (hs : List Heading). t.heading ∷ hs) (headings-regions ts)
+
+heading_is : (name : List ℕ) (ts : List Table) (t : Stored ℕ) → stored_at name (stored_regions ts) ≡ Some t → heading_at name (headings_of ts) ≡ Some t.heading
+heading_is name ts t is =
+    ap (heading_at name) (sym (headings-regions ts)) ∙ heading-stored name (stored_regions ts) ∙ ap (λ (o : Option (Stored ℕ)). option_map (λ (x : Stored ℕ). x.heading) o) is
+
+-- ---- what is seen of a statement is within the limits
+record CountedAs (p : Public) (stmt : Stmt) (k : Option ℕ) (plan second : Option Plan) : Type 0 where
+  count : IfSome k (λ n. IsCount p stmt n)
+  plan_some : IfSome plan (λ x. IfSome k (λ n. 1 ≤ n))
+  second_some : IfSome second (λ x. IfSome k (λ n. 1 ≤ n))
+
+counted_as : (p : Public) (stmt : Stmt) (seen : Seen) (k : Option ℕ) (plan second : Option Plan) → Holds p stmt seen k plan second → CountedAs p stmt k plan second
+counted_as p stmt seen None None None h = record { count = tt; plan_some = tt; second_some = tt }
+counted_as p stmt seen None None (Some s) h = absurd h
+counted_as p stmt seen None (Some plan) None h = absurd h
+counted_as p stmt seen None (Some plan) (Some s) h = absurd h
+counted_as p stmt seen (Some k) None None h = record { count = h.0; plan_some = tt; second_some = tt }
+counted_as p stmt seen (Some k) None (Some s) h = absurd h
+counted_as p stmt seen (Some k) (Some plan) None h = record { count = h.0; plan_some = h.1.some; second_some = tt }
+counted_as p stmt seen (Some k) (Some Small) (Some s) h = absurd h
+counted_as p stmt seen (Some k) (Some Large) (Some s) h = absurd h
+counted_as p stmt seen (Some k) (Some Continuous) (Some s) h = absurd h
+counted_as p stmt seen (Some k) (Some Hash) (Some Small) h = record { count = h.0; plan_some = h.1.some; second_some = h.1.some }
+counted_as p stmt seen (Some k) (Some Hash) (Some Large) h = absurd h
+counted_as p stmt seen (Some k) (Some Hash) (Some Continuous) h = absurd h
+counted_as p stmt seen (Some k) (Some Hash) (Some Hash) h = absurd h
+
+-- over so many slots
+slots_as : (p : Public) (stmt : Stmt) (k : Option ℕ) (n : ℕ) → IfSome k (λ x. IsCount p stmt x) → statement_slots p stmt ≡ n → IfSome k (λ x. x ≤ n)
+slots_as p stmt None n count is = tt
+slots_as p stmt (Some k) n count is = let most = count.most in omega (arith, most, is)
+
+module _ (p : Public) (late : Bool) (q : SelectRows) (seen : Seen) (public : IsPublic p) (accepted : early_refusal late p.pack p.buffer (headings_of p.tables) (RowsStmt q) ≡ None)
+    (told : CountedAs p (RowsStmt q) seen.k seen.plan seen.then) where
+  table_counted : (name : List ℕ) → counted_slots p q.source ≡ counted_slots p (OneTable name) → IsSourceCounted p seen (OneTable name)
+  table_counted name same = go (stored_at name (stored_regions p.tables)) refl (sized name p.tables public.tables)
+    where
+      go : (o : Option (Stored ℕ)) → stored_at name (stored_regions p.tables) ≡ o → IfSome o IsSized → IfSome o (λ t. IsCounted seen (extent_of t))
+      go None is size = tt
+      go (Some t) is size =
+          let slots = same ∙ ap (λ (o : Option Heading). option_map_or (λ (h : Heading). h.capacity) o 0) (heading_is name p.tables t is) in
+          record {
+            slots = let few = size.capacity in omega (arith, few);
+            width = size.width;
+            count = slots_as p (RowsStmt q) seen.k t.heading.capacity told.count slots;
+            plan = told.plan_some;
+            then = told.second_some;
+          }
+
+source_counted : (p : Public) (late : Bool) (q : SelectRows) (seen : Seen) → IsPublic p → early_refusal late p.pack p.buffer (headings_of p.tables) (RowsStmt q) ≡ None → CountedAs p (RowsStmt q) seen.k seen.plan seen.then
+    → IsSourceCounted p seen q.source
+source_counted p late q seen public accepted told = go q.source refl
+  where
+    join_counted : (a b : List ℕ) (on equals : _) → q.source ≡ Join a b on equals → IsSourceCounted p seen (Join a b on equals)
+    join_counted a b on equals is = left (stored_at a (stored_regions p.tables)) refl
+      where
+        accepted_join : early_refusal late p.pack p.buffer (headings_of p.tables) (RowsStmt (record { list = q.list; source = Join a b on equals; cond = q.cond })) ≡ None
+        accepted_join = subst (λ (s : Source). early_refusal late p.pack p.buffer (headings_of p.tables) (RowsStmt (record { list = q.list; source = s; cond = q.cond })) ≡ None) is accepted
+
+        right : (l : Stored ℕ) → stored_at a (stored_regions p.tables) ≡ Some l → (o : Option (Stored ℕ)) → stored_at b (stored_regions p.tables) ≡ o → IfSome o (λ r. IsCounted seen (joined_extent p l.heading r.heading))
+        right l l_is None r_is = tt
+        right l l_is (Some r) r_is =
+            let la = heading_is a p.tables l l_is in
+            let rb = heading_is b p.tables r r_is in
+            let fits = joins_fit late p.pack p.buffer (headings_of p.tables) q.list a b on equals q.cond l.heading r.heading la rb accepted_join in
+            let cap : Option Heading → ℕ = λ o. option_map_or (λ (h : Heading). h.capacity) o 0 in
+            let slots : statement_slots p (RowsStmt q) ≡ (joined_extent p l.heading r.heading).slots =
+            ap (counted_slots p) is ∙ (λ i. joined_slots p.pack p.buffer (cap (la i)) (cap (rb i))) in
+            record {
+              slots = let few = fits.slots in omega (arith, few);
+              width = fits.wide;
+              count = slots_as p (RowsStmt q) seen.k (joined_extent p l.heading r.heading).slots told.count slots;
+              plan = told.plan_some;
+              then = told.second_some;
+            }
+
+        left : (o : Option (Stored ℕ)) → stored_at a (stored_regions p.tables) ≡ o → IfSome o (λ l. IfSome (stored_at b (stored_regions p.tables)) (λ r. IsCounted seen (joined_extent p l.heading r.heading)))
+        left None is_none = tt
+        left (Some l) l_is = right l l_is (stored_at b (stored_regions p.tables)) refl
+
+    go : (s : Source) → q.source ≡ s → IsSourceCounted p seen q.source
+    go (OneTable name) is = subst (λ (s : Source). IsSourceCounted p seen s) (sym is) (table_counted p late q seen public accepted told name (ap (counted_slots p) is))
+    go (Join a b on equals) is = subst (λ (s : Source). IsSourceCounted p seen s) (sym is) (join_counted a b on equals is)
+
+within_limits : (p : Public) (late : Bool) (stmt : Stmt) (seen : Seen) → IsPublic p → early_refusal late p.pack p.buffer (headings_of p.tables) stmt ≡ None → Holds p stmt seen seen.k seen.plan seen.then → IsWithin p (skeleton stmt) seen
+within_limits p late (Create table columns capacity) seen public accepted holds =
+    let free = allowed late p.pack p.buffer (headings_of p.tables) (Create table columns capacity) accepted in
+    let new = within (headings_of p.tables) table columns capacity free.limits in
+    (new.most, new.wide)
+within_limits p late (Insert table columns values) seen public accepted holds = tt
+within_limits p late (Update table sets cond) seen public accepted holds = tt
+within_limits p late (Delete table cond) seen public accepted holds = tt
+within_limits p late (DropTable table) seen public accepted holds = tt
+within_limits p late (TotalsStmt s) seen public accepted holds = tt
+within_limits p late (RowsStmt q) seen public accepted holds = source_counted p late q seen public accepted (counted_as p (RowsStmt q) seen seen.k seen.plan seen.then holds)
+
+-- ---- a statement asks few accesses, or none where many were asked before
+late_or_not : (m : ℕ) (late : Bool) → is_late m ≡ late → late ≡ false → m < 2 ^ 63
+late_or_not m true is not = absurd (cc not)
+late_or_not m false is not = grind (arith, nat_tests)
+
+does_few : {R : Type 0} (state : R → RevState) (m0 m1 : Machine R) (stmt : Stmt) (result : Result Outcome Stop) → Agrees state m0.engine m0.store → Does state m0 m1 stmt result
+    → asked_of m0 < 2 ^ 63 + 2 ^ 59 → asked_of m1 < 2 ^ 63 + 2 ^ 59
+does_few state m0 m1 stmt result agrees does few = go (refusal_now p (asked_of m0) stmt) refl
+  where
+    p : Public
+    p = public_of m0.engine
+
+    go : (o : Option Refusal) → refusal_now (public_of m0.engine) (asked_of m0) stmt ≡ o → asked_of m1 < 2 ^ 63 + 2 ^ 59
+    go (Some r) is =
+        let early : RefusedEarly (Some r) result (seen_of m1.engine) = subst (λ (o : Option Refusal). RefusedEarly o result (seen_of m1.engine)) is does.early in
+        let none : length (script (public_of m0.engine) (skeleton stmt) (seen_of m1.engine)) ≡ 0 = ap (λ (x : Seen). length (script (public_of m0.engine) (skeleton stmt) x)) early.1 in
+        let on = counts_on m0 m1 (script (public_of m0.engine) (skeleton stmt) (seen_of m1.engine)) does.ran.start does.ran.asked in
+        omega (arith, on, none, few)
+    go None is =
+        let free = allowed (is_late (asked_of m0)) (public_of m0.engine).pack (public_of m0.engine).buffer (headings_of (public_of m0.engine).tables) stmt is in
+        let small = late_or_not (asked_of m0) (is_late (asked_of m0)) refl free.early in
+        let public = public_is state m0.engine m0.store agrees small in
+        let short = script_few (public_of m0.engine) (skeleton stmt) (seen_of m1.engine) public
+        (λ started. within_limits (public_of m0.engine) (is_late (asked_of m0)) stmt (seen_of m1.engine) public is does.lawful.holds) in
+        let on = counts_on m0 m1 (script (public_of m0.engine) (skeleton stmt) (seen_of m1.engine)) does.ran.start does.ran.asked in
+        omega (arith, on, short, small)
+
+module _ {R : Type 0} (state : R → RevState) where
+  step_ready : (m0 m1 : Machine R) (text : List ℕ) (answer : Answer) → Step state m0 m1 text answer → Agrees state m0.engine m0.store → Agrees state m1.engine m1.store
+  step_ready m0 m1 text answer step agrees = elim step.done [
+    | inl bad ↦ subst (λ (m : Machine R). Agrees state m.engine m.store) (sym bad.same) agrees
+    | inr did ↦ did.does.ran.goes_on.agrees
+  ]
+
+  step_few : (m0 m1 : Machine R) (text : List ℕ) (answer : Answer) → Step state m0 m1 text answer → Agrees state m0.engine m0.store → asked_of m0 < 2 ^ 63 + 2 ^ 59 → asked_of m1 < 2 ^ 63 + 2 ^ 59
+  step_few m0 m1 text answer step agrees few = elim step.done [
+    | inl bad ↦ subst (λ (m : Machine R). asked_of m < 2 ^ 63 + 2 ^ 59) (sym bad.same) few
+    | inr did ↦ does_few state m0 m1 did.stmt (Ok answer.outcome) agrees did.does few
+  ]
+
+  -- texts that were answered leave numbers for a closing
+  pub steps_few : (m0 m2 : Machine R) (texts : List (List ℕ)) (answers : List Answer) → Steps state m0 m2 texts answers → Agrees state m0.engine m0.store → asked_of m0 < 2 ^ 63 + 2 ^ 59 → asked_of m2 < 2 ^ 63 + 2 ^ 59
+  unfolding Steps
+  steps_few m0 m2 [] answers steps agrees few = subst (λ (m : Machine R). asked_of m < 2 ^ 63 + 2 ^ 59) (sym steps.0) few
+  steps_few m0 m2 (text ∷ texts) answers steps agrees few =
+      steps_few steps.0 m2 texts steps.2 steps.5 (step_ready m0 steps.0 text steps.1 steps.4 agrees) (step_few m0 steps.0 text steps.1 steps.4 agrees few)
+
+-- so does a session that came to its end
+pub session_few : {R : Type 0} (state : R → RevState) {on : Bool} {f0 f1 : Fetch} {l0 l1 : Option (List ℕ)} {gave : ℕ} {w0 w1 t0 t1 : Option (List ℕ)} (m0 m2 : Machine R) (tally : Tally)
+    → SessionRan state on f0 f1 l0 l1 gave w0 w1 t0 t1 m0 m2 (Ok tally) → Agrees state m0.engine m0.store → asked_of m0 < 2 ^ 63 + 2 ^ 59 → asked_of m2 < 2 ^ 63 + 2 ^ 59
+session_few state m0 m2 tally ran agrees few =
+    subst (λ (m : Machine _). asked_of m < 2 ^ 63 + 2 ^ 59) (sym ran.last.machine) (steps_few state m0 ran.middle ran.served ran.answers ran.steps agrees few)

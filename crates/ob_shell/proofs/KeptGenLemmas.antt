@@ -1,0 +1,216 @@
+-- A run whose tables are kept over the generated text, and one whose words are not read.
+use Rattle.std.proofs.Common.{◌≡◌, ◌≤◌, ℕ, Bool, true, false, List, [], Option, Some, None, Ok, Err, inl, inr, refl, sym, subst, arith}
+use Rattle.std.specs.Prelude.{◌≢◌}
+use Rattle.std.specs.Io.KnownBytes.{Appends}
+use Rattle.ob_base.specs.Counts.{Rises}
+use Rattle.ob_base.specs.declared.access.Access.{Access}
+use Rattle.ob_base.specs.declared.config.Config.{Config}
+use Rattle.ob_gen.specs.Generated.{generated}
+use Rattle.ob_gen.specs.Tally.{empty_tally}
+use Rattle.ob_gen.specs.declared.tally.Tally.{Tally}
+use Rattle.ob_print.specs.Cuts.{Cut}
+use Rattle.ob_print.proofs.CutLemmas.{Cut-whole}
+use Rattle.ob_reopen.specs.Keepers.{KeeperState}
+use Rattle.ob_shell.specs.Bases.{fresh}
+use Rattle.ob_shell.specs.Closed.{LineWritten, refused_by}
+use Rattle.ob_shell.specs.Endings.{SinkStopped, last_line, status_of}
+use Rattle.ob_shell.specs.Engaging.{IsHushed, KeptClosedBy, KeptConcludedBy, KeptGenerated, RanKept}
+use Rattle.ob_shell.specs.Keeping.{kept_line, kept_status}
+use Rattle.ob_shell.specs.KeptHeadline.{EndsUnkeyed, KeptHeadline}
+use Rattle.ob_shell.specs.KeptSummary.{KeptConcludes, KeptStatusIs, KeptSummarized, KeptTally, MayKeep, kept_conclusion}
+use Rattle.ob_shell.specs.Top.{IsFresh, Reported, Shown, sink_of}
+use Rattle.ob_shell.specs.Words.{Faults, Outside, SinksRose, faults_of, outside_of}
+use Rattle.ob_shell.specs.declared.keeping.KeptEnded.{KeptEnded}
+use Rattle.ob_shell.specs.declared.keeping.KeptEnding.{KeptEnding}
+use Rattle.ob_shell.specs.declared.keeping.KeptEnding.TheVariants.{Plain, OtherPack, NotClosed as LeftOpen, KeeperFault, StoreFault}
+use Rattle.ob_shell.specs.declared.top.Ending.TheVariants.{Usage, BadKey, Ran}
+use Rattle.ob_shell.specs.declared.top.Report.{Report}
+use Rattle.ob_shell.specs.declared.words.Seed.{Seed}
+use Rattle.ob_shell.specs.declared.words.WordsErr.{WordsErr}
+use Rattle.ob_shell.specs.declared.words.WordsErr.TheVariants as Words
+use Rattle.ob_shell.proofs.CloseLemmas.{none_of_it, reported_words, words_cause, words_end, words_none, words_shown}
+use Rattle.ob_shell.proofs.CompleteLemmas.{reported_line}
+use Rattle.ob_shell.proofs.CountLemmas.{silenced_kept, silenced_rose}
+use Rattle.ob_shell.proofs.GeneratingLemmas.{cut_rose, nothing_written, trace_rose, unread_summarized}
+use Rattle.ob_shell.proofs.HeadLemmas.{headlined}
+use Rattle.ob_shell.proofs.KeptLemmas.{begun_stops, ends_whole, kept_headlined, kept_told}
+use Rattle.ob_shell.proofs.TopLemmas.{shown_line}
+use Rattle.ob_shell.proofs.TraceLemmas.{traced_none, traced_whole}
+use Rattle.ob_store.specs.State.{StoreState}
+
+-- ---- what was written
+module _ (tally : Tally) (asked : List Access) (w0 w1 : Option (List ℕ)) (source trace0 trace1 out0 out1 : ℕ) (report : Report) where
+  abbrev before : Faults
+  before = faults_of source out0 trace0
+
+  abbrev after : Faults
+  after = faults_of source out1 trace1
+
+  line_grew : (ending : KeptEnding) (quiet : Bool) → KeptClosedBy ending quiet w0 w1 out0 out1 report.status → IsHushed quiet trace0 trace1 → Cut w0 w1 (SinksRose before after) (kept_line ending)
+  line_grew ending true by hush = nothing_written (kept_line ending) (by.silent refl).written (inr (hush.rose refl))
+  line_grew ending false by hush = cut_rose (kept_line ending) (λ r. inl r) (by.line refl).cut
+
+  line_later : (ending : KeptEnding) (quiet : Bool) → KeptClosedBy ending quiet w0 w1 out0 out1 report.status → out0 ≤ out1
+  line_later ending true by = let same = (by.silent refl).faults in omega (arith, same)
+  line_later ending false by = (by.line refl).later
+
+  line_silent : (ending : KeptEnding) (quiet : Bool) → KeptClosedBy ending quiet w0 w1 out0 out1 report.status → IsHushed quiet trace0 trace1 → trace1 ≢ trace0 → w1 ≡ w0
+  line_silent ending true by hush other = (by.silent refl).written
+  line_silent ending false by hush other = absurd (other (hush.kept refl))
+
+  line_concludes : (ending : KeptEnding) (quiet : Bool) → KeptClosedBy ending quiet w0 w1 out0 out1 report.status → IsHushed quiet trace0 trace1
+      → KeptStatusIs ending report.status (Appends w0 w1 (kept_conclusion ending tally asked) × (out1 ≡ out0)) (Rises out0 out1) → kept_conclusion ending tally asked ≡ kept_line ending
+      → KeptConcludes ending tally asked report.high w0 w1 before after report
+  line_concludes ending quiet by hush told line = record {
+    grew = subst (λ (l : List ℕ). Cut w0 w1 (SinksRose before after) l) (sym line) (line_grew ending quiet by hush);
+    silent = line_silent ending quiet by hush;
+    status = told;
+    later = line_later ending quiet by;
+    high = refl;
+  }
+
+  kept_concludes : (ending : KeptEnding) (quiet : Bool) → KeptConcludedBy ending quiet tally asked w0 w1 out0 out1 report.status → IsHushed quiet trace0 trace1 → ((refused : Bool) → ending ≡ Plain (Ran (Ok refused)) → trace1 ≡ trace0)
+      → KeptConcludes ending tally asked report.high w0 w1 before after report
+  kept_concludes (Plain Usage) quiet by hush calm = line_concludes (Plain Usage) quiet by hush by.told refl
+  kept_concludes (Plain BadKey) quiet by hush calm = line_concludes (Plain BadKey) quiet by hush by.told refl
+  kept_concludes (Plain (Ran (Ok refused))) quiet by hush calm = record {
+    grew = cut_rose _ (λ r. inl r) by.cut;
+    silent = λ other. absurd (other (calm refused refl));
+    status = elim by.told [ inl whole ↦ inl (whole.0, (whole.1, whole.2)) | inr cut ↦ inr cut ];
+    later = by.later;
+    high = refl;
+  }
+  kept_concludes (Plain (Ran (Err stop))) quiet by hush calm = line_concludes (Plain (Ran (Err stop))) quiet by hush by.told refl
+  kept_concludes OtherPack quiet by hush calm = line_concludes OtherPack quiet by hush by.told refl
+  kept_concludes StoreFault quiet by hush calm = line_concludes StoreFault quiet by hush by.told refl
+  kept_concludes LeftOpen quiet by hush calm = line_concludes LeftOpen quiet by hush by.told refl
+  kept_concludes KeeperFault quiet by hush calm = line_concludes KeeperFault quiet by hush by.told refl
+
+-- of another report that tells of as many rows
+concluded_at : {ending : KeptEnding} {tally : Tally} {asked : List Access} {w0 w1 : Option (List ℕ)} {old new : Faults} {report : Report} (rows : ℕ)
+    → report.high ≡ rows → KeptConcludes ending tally asked report.high w0 w1 old new report → KeptConcludes ending tally asked rows w0 w1 old new report
+concluded_at rows is c = record { grew = c.grew; silent = c.silent; status = c.status; later = c.later; high = is }
+
+-- ---- the run
+module _ (config : Config) (tracing : Bool) (ended : KeptEnded) (old mid : Outside) (k0 k1 : KeeperState) where
+  kept_quiet : (SinksRose old.faults mid.faults → Rises old.faults.trace mid.faults.trace) → RanKept config tracing ended old mid k0 k1 → IsHushed ended.quiet old.faults.trace mid.faults.trace
+  kept_quiet only (inl ran) = record { rose = λ it. absurd (cc (it, ran.loud)); kept = λ it. ran.silent.1 }
+  kept_quiet only (inr (inl ran)) = ran.unserved.quiet
+  kept_quiet only (inr (inr (inl ran))) = record {
+    rose = λ it. only (silenced_rose ended.quiet old.faults mid.faults ran.silent it);
+    kept = silenced_kept ended.quiet old.faults mid.faults ran.silent;
+  }
+  kept_quiet only (inr (inr (inr ran))) = ran.closed.quiet
+
+  kept_calm : RanKept config tracing ended old mid k0 k1 → (refused : Bool) → ended.ending ≡ Plain (Ran (Ok refused)) → mid.faults.trace ≡ old.faults.trace
+  kept_calm (inl ran) refused is = ran.silent.1
+  kept_calm (inr (inl ran)) refused is = absurd (begun_stops config _ ended.ending _ _ _ _ _ _ refused ran.unserved.begun is)
+  kept_calm (inr (inr (inl ran))) refused is = absurd (cc (ran.ending, is))
+  kept_calm (inr (inr (inr ran))) refused is = (ends_whole ran.closed.tables.closes.result _ _ _ _ _ _ refused ran.closed.tables.closes.ends is).1
+
+pub kept_summarized : {Takes : Type 0} {settings : Option Config} {config : Config} {tracing : Bool} {seed : Seed} {s0 s1 : StoreState} {t0 t1 w0 w1 l : Option (List ℕ)} {gave trace0 trace1 out0 out1 : ℕ} {k0 k1 : KeeperState}
+    {report : Report} (source : ℕ)
+    → Takes → settings ≡ Some config → s0.asked ≡ [] → KeptGenerated config tracing seed t0 t1 s0 s1 trace0 trace1 k0 k1 w0 w1 out0 out1 report
+    → KeptSummarized settings Takes tracing seed (outside_of l gave w0 t0 s0 (faults_of source out0 trace0)) (outside_of l gave w1 t1 s1 (faults_of source out1 trace1)) k0 k1 report
+kept_summarized {Takes = Takes} {settings = settings} {config = config} {tracing = tracing} {seed = seed} {s0 = s0} {s1 = s1} {t0 = t0} {t1 = t1} {w0 = w0} {w1 = w1} {trace0 = trace0} {trace1 = trace1} {out0 = out0} {out1 = out1}
+    {k0 = k0} {k1 = k1} {report = report} source takes set none g =
+    let ended = g.ended in
+    let old = outside_of (Some (generated seed.start seed.rows)) 0 None t0 s0 (faults_of 0 0 trace0) in
+    let mid = outside_of (Some g.left) g.gave None t1 s1 (faults_of 0 0 trace1) in
+    let run : Report = record { status = kept_status ended.ending; high = ended.high } in
+    let line : ended.quiet ≡ false → LineWritten (kept_line ended.ending) None None 0 0 = λ loud. record { cut = Cut-whole None None (Rises 0 0) (kept_line ended.ending) tt; later = omega arith; empty = λ e. refl } in
+    let head : KeptHeadline settings Takes tracing old mid k0 k1 run = kept_headlined settings config takes set tracing old mid ended k0 k1 None 0 run refl refl (λ hush. record { written = refl; faults = refl }) line none g.ran in
+    let told = kept_told settings config takes set tracing old mid ended k0 k1 None 0 run refl refl (λ hush. record { written = refl; faults = refl }) line none g.ran in
+    record {
+      unread = record { left = refl; gave = refl; source = refl };
+      run = run;
+      left = g.left;
+      gave = g.gave;
+      headline = head;
+      tally = ended.tally;
+      counted = subst (λ (e : KeptEnding). KeptTally e head.answers ended.tally) (sym told.0) told.1;
+      concludes = subst (λ (e : KeptEnding). KeptConcludes e ended.tally s1.asked ended.high w0 w1 (faults_of source out0 trace0) (faults_of source out1 trace1) report) (sym told.0)
+          (concluded_at ended.high g.high
+          (kept_concludes ended.tally s1.asked w0 w1 source trace0 trace1 out0 out1 report ended.ending ended.quiet g.concluded (kept_quiet config tracing ended old mid k0 k1 (trace_rose trace0 trace1) g.ran)
+          (kept_calm config tracing ended old mid k0 k1 g.ran)));
+    }
+
+-- ---- the words were not read
+pub unkeyed_words : (error : WordsErr) (taken : List ℕ) → taken ≡ [] → EndsUnkeyed (refused_by error) taken
+unkeyed_words Words.Usage taken none = tt
+unkeyed_words Words.NoMemory taken none = none
+
+unfoldable pub kept_unread : {Takes : Type 0} {settings : Option Config} {tracing : Bool} {s : StoreState} {t w0 w1 l : Option (List ℕ)} {gave source trace out0 out1 : ℕ} {k : KeeperState} {report : Report} (error : WordsErr)
+    → IsFresh s → (error ≡ Words.Usage → ¬ Takes) → report.status ≡ status_of (refused_by error) → report.high ≡ 0 → LineWritten (last_line (refused_by error)) w0 w1 out0 out1
+    → KeptHeadline settings Takes tracing (outside_of l gave w0 t s (faults_of source out0 trace)) (outside_of l gave w1 t s (faults_of source out1 trace)) k k report
+unfolding headlined reported_line shown_line
+kept_unread {Takes = Takes} {settings = settings} {tracing = tracing} {s = s} {t = t} {w0 = w0} {w1 = w1} {l = l} {gave = gave} {source = source} {trace = trace} {out0 = out0} {out1 = out1} {report = report} error blank not status high line =
+    let ending = refused_by error in
+    let tr = sink_of tracing t t in
+    let old : Faults = faults_of source out0 trace in
+    let new : Faults = faults_of source out1 trace in
+    let shown = subst (λ (n : ℕ). (x : Shown empty_tally tr (fresh settings) l l gave w0 w0 s s n ending [] (SinkStopped ending)) × (x.taken ≡ [])) (sym high)
+    (words_shown empty_tally tr settings error l gave w0 s blank refl, words_none empty_tally tr settings error l gave w0 s blank refl) in
+    let r : Reported empty_tally tr Takes (fresh settings) l l gave w0 w1 s s old new report =
+    reported_line ending old old new status (words_end error not) shown.0 (words_cause error old) line.cut (λ rises. rises) (none_of_it line.cut) line.empty line.later refl refl refl in
+    record {
+      ending = Plain ending;
+      status = status;
+      answers = [];
+      ran = inl (record {
+        headline = headlined Takes (fresh settings) tracing (outside_of l gave w0 t s old) (outside_of l gave w1 t s new) report blank.unasked r (traced_whole _ (traced_none tracing s.asked t));
+        ends = unkeyed_words error shown.0.taken shown.1;
+        is = refl;
+        unanswered = refl;
+        unasked = refl;
+        kept = refl;
+      });
+    }
+
+words_counted : (error : WordsErr) (tally : Tally) → KeptTally (Plain (refused_by error)) [] tally
+words_counted Words.Usage tally = tt
+words_counted Words.NoMemory tally = tt
+
+words_concluded : (error : WordsErr) (tally : Tally) (asked : List Access) (w0 w1 : Option (List ℕ)) (f0 f1 status : ℕ) → KeptClosedBy (Plain (refused_by error)) false w0 w1 f0 f1 status
+    → KeptConcludedBy (Plain (refused_by error)) false tally asked w0 w1 f0 f1 status
+words_concluded Words.Usage tally asked w0 w1 f0 f1 status closed = closed
+words_concluded Words.NoMemory tally asked w0 w1 f0 f1 status closed = closed
+
+pub kept_unread_summarized : {Takes : Type 0} {settings : Option Config} {tracing : Bool} {s : StoreState} {t w0 w1 l : Option (List ℕ)} {gave out0 out1 : ℕ} {k : KeeperState} {report : Report} (source trace : ℕ) (seed : Seed) (error : WordsErr)
+    → IsFresh s → (error ≡ Words.Usage → ¬ Takes) → report.status ≡ status_of (refused_by error) → report.high ≡ 0 → LineWritten (last_line (refused_by error)) w0 w1 out0 out1
+    → KeptSummarized settings Takes tracing seed (outside_of l gave w0 t s (faults_of source out0 trace)) (outside_of l gave w1 t s (faults_of source out1 trace)) k k report
+unfolding kept_unread
+kept_unread_summarized {s = s} {t = t} {w0 = w0} {w1 = w1} {out0 = out0} {out1 = out1} {report = report} source trace seed error blank not status high line =
+    let ending = refused_by error in
+    let closed : KeptClosedBy (Plain ending) false w0 w1 out0 out1 report.status = record { told = status; silent = λ loud. absurd (cc loud); line = λ loud. line } in
+    record {
+      unread = record { left = refl; gave = refl; source = refl };
+      run = record { status = status_of ending; high = 0 };
+      left = generated seed.start seed.rows;
+      gave = 0;
+      headline = kept_unread error blank not refl refl (record { cut = Cut-whole None None (Rises 0 0) (last_line ending) tt; later = omega arith; empty = λ e. refl });
+      tally = empty_tally;
+      counted = words_counted error empty_tally;
+      concludes = concluded_at 0 high
+          (kept_concludes empty_tally s.asked w0 w1 source trace trace out0 out1 report (Plain ending) false (words_concluded error empty_tally s.asked w0 w1 out0 out1 report.status closed)
+          (record { rose = λ loud. absurd (cc loud); kept = λ loud. refl }) (λ refused is. refl));
+    }
+
+-- ---- whether tables are kept
+pub may_keep : (settings : Option Config) (Takes : Type 0) (tracing : Bool) (old new : Outside) (k0 k1 : KeeperState) (report : Report) (keeps on : Bool) (asked seed : Option Seed) → keeps ≡ on → asked ≡ seed
+    → MayKeep on seed settings Takes tracing old new k0 k1 report → MayKeep keeps asked settings Takes tracing old new k0 k1 report
+may_keep settings Takes tracing old new k0 k1 report keeps on asked seed is same run =
+    subst (λ (b : Bool). MayKeep b asked settings Takes tracing old new k0 k1 report) (sym is) (subst (λ (s : Option Seed). MayKeep on s settings Takes tracing old new k0 k1 report) (sym same) run)
+
+pub may_keep_unread : {Takes : Type 0} {s : StoreState} {w0 w1 : Option (List ℕ)} {out0 out1 : ℕ} {report : Report} (settings : Option Config) (tracing : Bool) (t l : Option (List ℕ)) (gave source trace : ℕ) (k : KeeperState)
+    (keeps : Bool) (asked : Option Seed) (error : WordsErr)
+    → IsFresh s → (error ≡ Words.Usage → ¬ Takes) → report.status ≡ status_of (refused_by error) → report.high ≡ 0 → LineWritten (last_line (refused_by error)) w0 w1 out0 out1
+    → MayKeep keeps asked settings Takes tracing (outside_of l gave w0 t s (faults_of source out0 trace)) (outside_of l gave w1 t s (faults_of source out1 trace)) k k report
+may_keep_unread {Takes = Takes} {s = s} {out0 = out0} {out1 = out1} {report = report} settings tracing t l gave source trace k false None error blank not status high line = (
+  headlined Takes (fresh settings) tracing _ _ report blank.unasked
+      (reported_words empty_tally (sink_of tracing t t) error report (faults_of source out0 trace) (faults_of source out1 trace) blank refl not status high line refl refl) (traced_whole _ (traced_none tracing s.asked t)),
+  refl,
+)
+may_keep_unread settings tracing t l gave source trace k false (Some seed) error blank not status high line = (unread_summarized source trace seed error blank not status high line, refl)
+may_keep_unread settings tracing t l gave source trace k true None error blank not status high line = kept_unread error blank not status high line
+may_keep_unread settings tracing t l gave source trace k true (Some seed) error blank not status high line = kept_unread_summarized source trace seed error blank not status high line

@@ -1,0 +1,318 @@
+-- The headline of a run whose tables are kept, by what was done until its last line.
+use Rattle.std.proofs.Common.{◌≡◌, ◌≢◌, ℕ, Bool, true, false, List, [], ◌++◌, Option, Some, Result, Ok, Err, inl, inr, refl, sym, ◌∙◌, ap, subst, arith}
+use Rattle.ob_shell.specs.KeptSummary.{KeptTally}
+use Rattle.ob_seal.specs.KeySet.{KeySet}
+use Rattle.ob_reopen.specs.declared.fault.OpenErr.{OpenErr}
+use Rattle.ob_reopen.specs.declared.fault.OpenErr.TheVariants as OpenErrs
+use Rattle.ob_reopen.specs.declared.fault.CloseErr.{CloseErr}
+use Rattle.ob_reopen.specs.declared.fault.CloseErr.TheVariants as CloseErrs
+use Rattle.ob_gen.specs.declared.tally.Tally.{Tally}
+use Rattle.ob_base.specs.declared.mark.Mark.TheVariants.{Fresh, InUse, Closed}
+use Rattle.ob_base.specs.declared.mark.Mark.{Mark}
+use Rattle.ob_base.specs.declared.fault.Failed.{Failed}
+use Rattle.std.specs.Prelude.{◌==◌, MatchBool}
+use Rattle.std.proofs.KnownBytes.{Appends-nil}
+use Rattle.ob_base.specs.Counts.{Rises}
+use Rattle.ob_base.specs.declared.config.Config.{Config}
+use Rattle.ob_print.specs.Cuts.{Cut}
+use Rattle.ob_print.proofs.CutLemmas.{Cut-whole}
+use Rattle.ob_reopen.specs.Keepers.{KeeperState}
+use Rattle.ob_seal.specs.Sealed.{keys_of}
+use Rattle.ob_shell.specs.Bases.{fresh}
+use Rattle.ob_shell.specs.Closed.{LineWritten, Unwritten}
+use Rattle.ob_shell.specs.Endings.{SinkStopped, status_of}
+use Rattle.ob_shell.specs.Engaging.{RanKept, RanStopped, RanUnbegun, RanUnkeyed, RanWhole}
+use Rattle.ob_shell.specs.Headline.{Headline}
+use Rattle.ob_shell.specs.Keeping.{kept_line, kept_status, EndsAtMark, EndsWith, NotBegun, NotReopened, closing_end, closing_named, handed_end, opening_end}
+use Rattle.ob_shell.specs.KeptHeadline.{EndsBehind, EndsUnkeyed, KeptHeadline, begun_at}
+use Rattle.ob_shell.specs.KeyLine.{first_line, secret_of}
+use Rattle.ob_shell.specs.Tallies.{has_refused}
+use Rattle.ob_shell.specs.Top.{EndingWords, Reported, Shown, sink_of, EndingTally}
+use Rattle.ob_shell.specs.Tracing.{Traced}
+use Rattle.ob_shell.specs.Words.{Faults, Outside, SinksRose, outside_of, Answer}
+use Rattle.ob_shell.specs.declared.keeping.KeptEnded.{KeptEnded}
+use Rattle.ob_shell.specs.declared.keeping.KeptEnding.{KeptEnding}
+use Rattle.ob_shell.specs.declared.keeping.KeptEnding.TheVariants.{Plain, OtherPack, NotClosed as LeftOpen, KeeperFault, StoreFault}
+use Rattle.ob_shell.specs.declared.top.Ending.{Ending}
+use Rattle.ob_shell.specs.declared.top.Ending.TheVariants.{Ran, Usage, BadKey}
+use Rattle.ob_shell.specs.declared.top.Report.{Report}
+use Rattle.ob_shell.proofs.CloseLemmas.{none_of_it, words_taken}
+use Rattle.ob_shell.proofs.CompleteLemmas.{reported_line, reported_quiet}
+use Rattle.ob_shell.proofs.CountLemmas.{silenced_kept, silenced_rose}
+use Rattle.ob_shell.proofs.GeneratingLemmas.{cut_rose, nothing_written, traced_by_fault}
+use Rattle.ob_shell.proofs.HeadLemmas.{headlined}
+use Rattle.ob_shell.proofs.TopLemmas.{shown_line, takes_of}
+use Rattle.ob_shell.proofs.TraceLemmas.{traced_none, traced_whole}
+use Rattle.ob_store.specs.State.{StoreState}
+
+-- what lies outside once the last line was written
+abbrev pub with_line : Outside → (written : Option (List ℕ)) → (out : ℕ) → Outside
+with_line mid written out = record mid { written = written; faults = record mid.faults { out = out } }
+
+-- ---- how a run ends that may be closed
+-- where its tables can't be opened, or closed, it doesn't come to its end
+opening_stops : (error : OpenErr) (refused : Bool) → opening_end error ≡ Plain (Ran (Ok refused)) → ⊥
+opening_stops OpenErrs.Failed refused is = cc is
+opening_stops (OpenErrs.Tampered region place) refused is = cc is
+opening_stops OpenErrs.NoMemory refused is = cc is
+
+closing_stops : (error : CloseErr) (refused : Bool) → closing_end error ≡ Plain (Ran (Ok refused)) → ⊥
+closing_stops CloseErrs.Failed refused is = cc is
+closing_stops CloseErrs.NoMemory refused is = cc is
+
+-- neither where it ends at the mark
+mark_stops : (mark : Result Mark Failed) (config : Config) (keys : KeySet) (ending : KeptEnding) (s t : StoreState) (refused : Bool) → EndsAtMark mark config keys ending s t → ending ≡ Plain (Ran (Ok refused)) → ⊥
+mark_stops (Err failed) config keys ending s t refused ends is = cc (ends.0, is)
+mark_stops (Ok Fresh) config keys ending s t refused ends is = cc (ends.0, is)
+mark_stops (Ok InUse) config keys ending s t refused ends is = cc (ends.0, is)
+mark_stops (Ok (Closed region blocks number pack)) config keys ending s t refused ends is = go (pack == config.pack) ends
+  where
+    go : (b : Bool) → MatchBool b (NotReopened (closing_named region blocks number pack) keys ending s t) ((ending ≡ OtherPack) × (t ≡ s)) → ⊥
+    go true not = opening_stops not.error refused (sym not.ends ∙ is)
+    go false other = cc (other.0, is)
+
+pub begun_stops : (config : Config) (keys : KeySet) (ending : KeptEnding) (s t : StoreState) (f0 f1 : ℕ) (k0 k1 : KeeperState) (refused : Bool) → NotBegun config keys ending s t f0 f1 k0 k1 → ending ≡ Plain (Ran (Ok refused)) → ⊥
+begun_stops config keys ending s t f0 f1 k0 k1 refused begun is = elim begun.why [
+  | inl ends ↦ mark_stops begun.mark config keys ending s t refused ends.0 is
+  | inr held ↦ elim held.2.ends [ inl sink ↦ cc (sink.0, is) | inr keeper ↦ cc (keeper.0, is) ]
+]
+
+-- where it came to its end and was closed, it ends as it would without, and nothing failed
+handed_whole : (whole ending : KeptEnding) (result : Result (Unit {0}) Failed) (refused : Bool) → ending ≡ handed_end whole result → ending ≡ Plain (Ran (Ok refused)) → ending ≡ whole
+handed_whole whole ending (Ok done) refused ends is = ends
+handed_whole whole ending (Err failed) refused ends is = absurd (cc (ends, is))
+
+pub ends_whole : (result : Result Mark CloseErr) (whole ending : KeptEnding) (f0 f1 : ℕ) (k0 k1 : KeeperState) (refused : Bool) → EndsWith result whole ending f0 f1 k0 k1 → ending ≡ Plain (Ran (Ok refused)) → (ending ≡ whole) × (f1 ≡ f0)
+ends_whole (Err error) whole ending f0 f1 k0 k1 refused ends is = absurd (closing_stops error refused (sym ends.0 ∙ is))
+ends_whole (Ok mark) whole ending f0 f1 k0 k1 refused (inl sink) is = absurd (cc (sink.0, is))
+ends_whole (Ok mark) whole ending f0 f1 k0 k1 refused (inr handed) is = (handed_whole whole ending handed.1.result refused handed.1.ends is, handed.0)
+
+-- what is counted of the answers of one that came to its end
+counted_by : (ending : KeptEnding) (answers : List Answer) (tally : Tally) → ((refused : Bool) → ending ≡ Plain (Ran (Ok refused)) → KeptTally ending answers tally) → KeptTally ending answers tally
+counted_by (Plain Usage) answers tally count = tt
+counted_by (Plain BadKey) answers tally count = tt
+counted_by (Plain (Ran (Ok refused))) answers tally count = count refused refl
+counted_by (Plain (Ran (Err stop))) answers tally count = tt
+counted_by OtherPack answers tally count = tt
+counted_by StoreFault answers tally count = tt
+counted_by LeftOpen answers tally count = tt
+counted_by KeeperFault answers tally count = tt
+
+module _ {Takes : Type 0} (settings : Option Config) (config : Config) (takes : Takes) (set : settings ≡ Some config) (tracing : Bool) (old mid : Outside) (ended : KeptEnded) (k0 k1 : KeeperState)
+    (w2 : Option (List ℕ)) (out2 : ℕ) (report : Report) (status : report.status ≡ kept_status ended.ending) (high : report.high ≡ ended.high)
+    (hushed : ended.quiet ≡ true → Unwritten mid.written w2 mid.faults.out out2) (line : ended.quiet ≡ false → LineWritten (kept_line ended.ending) mid.written w2 mid.faults.out out2) where
+  abbrev new : Outside
+  new = with_line mid w2 out2
+
+  -- the last line behind what the sink of the answers held at the end, none of which failed until then
+  line_behind : (quiet : Bool) → ended.quiet ≡ quiet → (before : Option (List ℕ)) → mid.written ≡ before → (from : Faults) → mid.faults.out ≡ from.out → (quiet ≡ true → Rises from.trace mid.faults.trace)
+      → Cut before w2 (SinksRose from new.faults) (kept_line ended.ending)
+  line_behind true is before same from out rose = nothing_written (kept_line ended.ending) ((hushed is).written ∙ same) (inr (rose refl))
+  line_behind false is before same from out rose =
+      cut_rose (kept_line ended.ending) (λ r. inl (subst (λ (n : ℕ). Rises n out2) out r)) (subst (λ (w : Option (List ℕ)). Cut w w2 (Rises mid.faults.out out2) (kept_line ended.ending)) same (line is).cut)
+
+  silent_behind : (quiet : Bool) → ended.quiet ≡ quiet → (before : Option (List ℕ)) → mid.written ≡ before → (trace : ℕ) → (quiet ≡ false → mid.faults.trace ≡ trace) → mid.faults.trace ≢ trace → w2 ≡ before
+  silent_behind true is before same trace kept other = (hushed is).written ∙ same
+  silent_behind false is before same trace kept other = absurd (other (kept refl))
+
+  -- ---- the keeper was not asked
+  kept_unkeyed : old.store.asked ≡ [] → RanUnkeyed config tracing ended old mid k0 k1 → KeptHeadline settings Takes tracing old new k0 k1 report
+  unfolding headlined reported_line shown_line
+  kept_unkeyed none ran =
+      let tr = sink_of tracing old.traced mid.traced in
+      let ending = ran.ending in
+      let at_high = subst
+      (λ (n : ℕ). (x : Shown ended.tally tr (fresh (Some config)) old.left mid.left mid.gave old.written mid.written old.store mid.store n ending [] (SinkStopped ending)) × EndsUnkeyed ending x.taken)
+      (sym high) (ran.shown, ran.ends) in
+      let shown = subst
+      (λ (o : Option Config). (x : Shown ended.tally tr (fresh o) old.left mid.left mid.gave old.written mid.written old.store mid.store report.high ending [] (SinkStopped ending)) × EndsUnkeyed ending x.taken)
+      (sym set) at_high in
+      let l = subst (λ (e : KeptEnding). LineWritten (kept_line e) mid.written w2 mid.faults.out out2) ran.is (line ran.loud) in
+      let r : Reported ended.tally tr Takes (fresh settings) old.left mid.left mid.gave old.written w2 old.store mid.store old.faults new.faults report =
+      reported_line ending old.faults mid.faults new.faults (status ∙ ap kept_status ran.is) (words_taken ending (takes_of ending ran.read tt) takes) shown.0 ran.cause l.cut (λ rises. rises) (none_of_it l.cut) l.empty l.later refl refl
+      ran.silent.1 in
+      let traces : Traced tracing old.store.asked mid.store.asked old.traced mid.traced (SinksRose old.faults new.faults) =
+      subst (λ (s : StoreState). Traced tracing old.store.asked s.asked old.traced mid.traced (SinksRose old.faults new.faults)) (sym ran.unasked)
+      (subst (λ (t : Option (List ℕ)). Traced tracing old.store.asked old.store.asked old.traced t (SinksRose old.faults new.faults)) (sym ran.traced) (traced_whole _ (traced_none tracing old.store.asked old.traced))) in
+      record {
+        ending = ended.ending;
+        status = status;
+        answers = [];
+        ran = inl (record {
+          headline = headlined Takes (fresh settings) tracing old new report none r traces;
+          ends = shown.1;
+          is = ran.is;
+          unanswered = refl;
+          unasked = ran.unasked;
+          kept = ran.kept;
+        });
+      }
+
+  -- ---- no statement was served
+  kept_unbegun : RanUnbegun config tracing ended old mid k0 k1 → KeptHeadline settings Takes tracing old new k0 k1 report
+  kept_unbegun ran = record {
+    ending = ended.ending;
+    status = status;
+    answers = [];
+    ran = inr (inl (record {
+      takes = takes;
+      config = config;
+      set = set;
+      taken = ran.taken;
+      given = ran.given;
+      within = ran.within;
+      few = ran.few;
+      prompt = ran.prompt;
+      secret = ran.secret;
+      keyed = ran.keyed;
+      begun = ran.unserved.begun;
+      unanswered = refl;
+      grew = line_behind ended.quiet refl old.written ran.written old.faults ran.out ran.unserved.quiet.rose;
+      silent = silent_behind ended.quiet refl old.written ran.written old.faults.trace ran.unserved.quiet.kept;
+      traced_all = cut_rose _ (λ r. inr r) ran.unserved.traced_all;
+      source = ran.source;
+      most_open = let few = ran.unserved.high in omega (arith, high, few);
+    }));
+  }
+
+  -- ---- a stop ended the session
+  record StopTold (ran : RanStopped config tracing ended old mid k0 k1) (w : Option (List ℕ)) (out : ℕ) : Type 0 where
+    r : Reported ended.tally (sink_of tracing ran.begun.traced mid.traced) Takes ran.begun.base old.left mid.left mid.gave old.written w ran.begun.opened mid.store old.faults (record mid.faults { out = out }) report
+    ending : r.ending ≡ Ran (Err ran.stop)
+    keyed : secret_of (first_line r.shown.taken) ≡ Some ran.begun.secret
+    rose : ended.quiet ≡ true → SinksRose old.faults (record mid.faults { out = out })
+
+  stop_told : (ran : RanStopped config tracing ended old mid k0 k1) → StopTold ran w2 out2
+  unfolding reported_line reported_quiet shown_line
+  stop_told ran = go ended.quiet refl
+    where
+      ending : Ending
+      ending = Ran (Err ran.stop)
+
+      at_high : (x : Shown ended.tally (sink_of tracing ran.begun.traced mid.traced) ran.begun.base old.left mid.left mid.gave old.written mid.written ran.begun.opened mid.store report.high (Ran (Err ran.stop)) [] (SinkStopped (Ran (Err ran.stop))))
+          × (secret_of (first_line x.taken) ≡ Some ran.begun.secret)
+      at_high = subst
+          (λ (n : ℕ). (x : Shown ended.tally (sink_of tracing ran.begun.traced mid.traced) ran.begun.base old.left mid.left mid.gave old.written mid.written ran.begun.opened mid.store n (Ran (Err ran.stop)) [] (SinkStopped (Ran (Err ran.stop))))
+          × (secret_of (first_line x.taken) ≡ Some ran.begun.secret)) (sym high) (ran.shown, ran.keyed)
+
+      words : EndingWords (Ran (Err ran.stop)) Takes
+      words = takes_of (Ran (Err ran.stop)) (λ not. absurd (cc not)) takes
+
+      is_status : report.status ≡ status_of (Ran (Err ran.stop))
+      is_status = status ∙ ap kept_status ran.ending
+
+      go : (b : Bool) → ended.quiet ≡ b → StopTold ran w2 out2
+      go true is =
+          let rose = silenced_rose ended.quiet old.faults mid.faults ran.silent is in
+          subst (λ (w : Option (List ℕ)). StopTold ran w out2) (sym (hushed is).written)
+          (subst (λ (n : ℕ). StopTold ran mid.written n) (sym (hushed is).faults) (record {
+            r = reported_quiet (Ran (Err ran.stop)) old.faults mid.faults is_status words at_high.0 ran.cause rose;
+            ending = refl;
+            keyed = at_high.1;
+            rose = λ it. rose;
+          }))
+      go false is =
+          let l = subst (λ (e : KeptEnding). LineWritten (kept_line e) mid.written w2 mid.faults.out out2) ran.ending (line is) in
+          record {
+            r = reported_line (Ran (Err ran.stop)) old.faults mid.faults new.faults is_status words at_high.0 ran.cause l.cut (λ rises. rises) (none_of_it l.cut) l.empty l.later refl refl
+                (silenced_kept ended.quiet old.faults mid.faults ran.silent is);
+            ending = refl;
+            keyed = at_high.1;
+            rose = λ it. absurd (cc (it, is));
+          }
+
+  kept_stopped : RanStopped config tracing ended old mid k0 k1 → KeptHeadline settings Takes tracing old new k0 k1 report
+  unfolding headlined
+  kept_stopped ran =
+      let told = stop_told ran in
+      let begun = begun_at old ran.begun.opened ran.begun.traced in
+      let traces : Traced tracing ran.begun.opened.asked mid.store.asked ran.begun.traced mid.traced (SinksRose old.faults new.faults) = traced_by_fault told.rose ran.traced_all in
+      let session : Headline ran.begun.base Takes tracing begun new report = headlined Takes ran.begun.base tracing begun new report ran.begun.first told.r traces in
+      record {
+        ending = ended.ending;
+        status = status;
+        answers = session.answers;
+        ran = inr (inr (record {
+          takes = takes;
+          config = config;
+          set = set;
+          secret = ran.begun.secret;
+          base = ran.begun.base;
+          opened = ran.begun.opened;
+          traced = ran.begun.traced;
+          in_use = ran.begun.in_use;
+          began = ran.begun.began;
+          served = new;
+          run = report;
+          session = session;
+          keyed = told.keyed;
+          answered = refl;
+          high = refl;
+          behind = subst (λ (e : Ending). EndsBehind e ran.begun.base (keys_of ran.begun.secret) tracing session.spelt session.answers session.seen (session.seen ++ session.last) session.part begun new new report report ran.begun.in_use k1 ended.ending)
+              (sym told.ending) (record { is = ran.ending; same = refl; reports = refl; kept = ran.kept });
+        }));
+      }
+
+  -- ---- it came to its end
+  kept_whole : RanWhole config tracing ended old mid k0 k1 → KeptHeadline settings Takes tracing old new k0 k1 report
+  unfolding headlined reported_line shown_line
+  kept_whole ran =
+      let begun = begun_at old ran.begun.opened ran.begun.traced in
+      let ending : Ending = Ran (Ok (has_refused ran.tally)) in
+      let run : Report = record { status = status_of ending; high = ran.high } in
+      let served : Outside = outside_of mid.left mid.gave mid.written ran.traced ran.served old.faults in
+      let r : Reported ran.tally (sink_of tracing ran.begun.traced ran.traced) Takes ran.begun.base old.left mid.left mid.gave old.written mid.written ran.begun.opened ran.served old.faults old.faults run =
+      reported_line (Ran (Ok (has_refused ran.tally))) old.faults old.faults old.faults {E = ⊥} refl takes ran.shown (record { source = refl; out = refl; trace = refl }) (Cut-whole mid.written mid.written ⊥ [] (Appends-nil mid.written))
+      (λ never. absurd never) (λ empty. Appends-nil mid.written) (λ empty. refl) (omega arith) refl refl refl in
+      record {
+        ending = ended.ending;
+        status = status;
+        answers = ran.shown.answers;
+        ran = inr (inr (record {
+          takes = takes;
+          config = config;
+          set = set;
+          secret = ran.begun.secret;
+          base = ran.begun.base;
+          opened = ran.begun.opened;
+          traced = ran.begun.traced;
+          in_use = ran.begun.in_use;
+          began = ran.begun.began;
+          served = served;
+          run = run;
+          session = headlined Takes ran.begun.base tracing begun served run ran.begun.first r (traced_by_fault (λ never. absurd never) ran.traced_all);
+          keyed = ran.keyed;
+          answered = refl;
+          high = high ∙ ran.closed.rows;
+          behind = record {
+            tables = ran.closed.tables;
+            left = refl;
+            gave = refl;
+            source = ran.source;
+            grew = line_behind ended.quiet refl mid.written refl old.faults ran.out ran.closed.quiet.rose;
+            silent = silent_behind ended.quiet refl mid.written refl old.faults.trace ran.closed.quiet.kept;
+          };
+        }));
+      }
+
+  pub kept_headlined : old.store.asked ≡ [] → RanKept config tracing ended old mid k0 k1 → KeptHeadline settings Takes tracing old new k0 k1 report
+  kept_headlined none (inl ran) = kept_unkeyed none ran
+  kept_headlined none (inr (inl ran)) = kept_unbegun ran
+  kept_headlined none (inr (inr (inl ran))) = kept_stopped ran
+  kept_headlined none (inr (inr (inr ran))) = kept_whole ran
+
+  -- what was counted of its answers
+  pub kept_told : (none : old.store.asked ≡ []) (ran : RanKept config tracing ended old mid k0 k1) → ((kept_headlined none ran).ending ≡ ended.ending) × KeptTally ended.ending (kept_headlined none ran).answers ended.tally
+  unfolding kept_headlined kept_unkeyed kept_unbegun kept_stopped kept_whole
+  kept_told none (inl ran) = (
+    refl,
+    subst (λ (e : KeptEnding). KeptTally e [] ended.tally) (sym ran.is) (subst (λ (a : List Answer). EndingTally ran.ending a ended.tally) ran.unanswered ran.shown.counted),
+  )
+  kept_told none (inr (inl ran)) = (refl, counted_by ended.ending [] ended.tally (λ refused is. absurd (begun_stops config (keys_of ran.secret) ended.ending _ _ _ _ _ _ refused ran.unserved.begun is)))
+  kept_told none (inr (inr (inl ran))) = (refl, counted_by ended.ending (kept_stopped ran).answers ended.tally (λ refused is. absurd (cc (ran.ending, is))))
+  kept_told none (inr (inr (inr ran))) = (refl, counted_by ended.ending ran.shown.answers ended.tally (λ refused is. counts_whole ran refused is))
+    where
+      counts_whole : (ran : RanWhole config tracing ended old mid k0 k1) (refused : Bool) → ended.ending ≡ Plain (Ran (Ok refused)) → KeptTally ended.ending ran.shown.answers ended.tally
+      counts_whole ran refused is =
+          let came = ends_whole ran.closed.tables.closes.result _ _ _ _ _ _ refused ran.closed.tables.closes.ends is in
+          subst (λ (e : KeptEnding). KeptTally e ran.shown.answers ended.tally) (sym came.0) (ran.closed.counted came.0 ∙ ran.shown.counted)

@@ -1,0 +1,407 @@
+-- A session that goes on from a base, and the closing behind it.
+use Rattle.std.proofs.Common.{◌≡◌, ℕ, ◌≤◌, ◌<◌, Bool, true, false, List, [], ◌∷◌, ◌++◌, length, take, Option, None, Some, IsTrue, Ok, Err, Result, refl, sym, ap, ◌∙◌, subst, inl, inr, arith, append-nil}
+use Rattle.std.specs.List.{list_any}
+use Rattle.std.specs.Prelude.{IfOk, MatchBool}
+use Rattle.std.specs.Io.KnownBytes.{IsAtEnd}
+use Rattle.std.proofs.KnownBytes.{Appends-nil, Consumes-nil}
+use Rattle.ob_base.specs.Counts.{Rises}
+use Rattle.ob_base.specs.declared.access.Access.{Access}
+use Rattle.ob_base.specs.declared.access.Access.TheVariants.{Read}
+use Rattle.ob_base.specs.declared.mark.Mark.{Mark}
+use Rattle.ob_base.specs.declared.refusal.Stop.{Stop}
+use Rattle.ob_base.specs.declared.refusal.Stop.TheVariants.{Tampered, SourceFault, SinkFault, NoMemory, InputLimit}
+use Rattle.ob_base.specs.declared.config.Config.{Config}
+use Rattle.ob_base.specs.declared.config.Public.{Public}
+use Rattle.ob_exec.specs.Agreeing.{count_of, engine_keys, engine_start, opened_from, public_of, high_of, rows_of, world_of}
+use Rattle.ob_exec.specs.Closing.{ClosesEngine, IsClosedAs, StaysInUse, closing_script, is_used_up, next_closing}
+use Rattle.ob_exec.specs.Resting.{Rests, by_name}
+use Rattle.ob_exec.specs.Opening.{is_of_rows}
+use Rattle.ob_exec.specs.Telling.{AcceptsRows, AreHeld, Represents}
+use Rattle.ob_exec.specs.declared.engine.Engine.{Engine}
+use Rattle.ob_mean.specs.Replay.{Broken, Session, after_all, all_served}
+use Rattle.ob_mean.specs.Verdict.{Tables}
+use Rattle.ob_vault.proofs.WordLemmas.{earlier_nothing}
+use Rattle.ob_vault.specs.State.{RevState, Start, VaultState, World, earlier, from_nothing}
+use Rattle.ob_vault.specs.Tied.{AllSealed, EndsAt, Fits, SealedAt, at_of}
+use Rattle.ob_print.proofs.CutLemmas.{Cut-whole}
+use Rattle.ob_reopen.specs.Keepers.{KeeperState}
+use Rattle.ob_reopen.specs.declared.closing.Closing.{Closing}
+use Rattle.ob_reopen.specs.declared.fault.CloseErr.{CloseErr}
+use Rattle.ob_script.specs.Trace.{Served, after_all as all_public, trace}
+use Rattle.ob_seal.specs.KeySet.{KeySet}
+use Rattle.ob_seal.specs.Sealed.{keys_of, sealed}
+use Rattle.ob_store.specs.Calls.{IsSteady}
+use Rattle.ob_store.specs.Runs.{Later}
+use Rattle.ob_store.specs.State.{Lie, StoreState}
+use Rattle.ob_store.proofs.Steps.{later_trans}
+use Rattle.ob_shell.specs.Bases.{Base, Opened, fresh, session_at, start}
+use Rattle.ob_shell.specs.Disturbed.{MeantUntil, meant_trace}
+use Rattle.ob_shell.specs.Texts.{texts_in}
+use Rattle.ob_shell.specs.Feeding.{Fetch}
+use Rattle.ob_shell.specs.Keeping.{EndsWith, Writes, closing_behind, last_script, region_opened}
+use Rattle.ob_shell.specs.KeptHeadline.{ClosesTables, PassesBoth}
+use Rattle.ob_shell.specs.Standing.{IsUsed, StandsOn}
+use Rattle.ob_shell.specs.Steps.{Machine, machine_of, session_of}
+use Rattle.ob_shell.specs.Running.{SessionRan, LastPart}
+use Rattle.ob_shell.specs.Settings.{public_by}
+use Rattle.ob_gen.specs.Tally.{empty_tally}
+use Rattle.ob_gen.specs.declared.tally.Tally.{Tally}
+use Rattle.ob_shell.specs.Tallies.{flagged, has_refused}
+use Rattle.ob_shell.specs.Top.{EndsUntampered, IsFresh, TraceSink, Carried, RanAfter}
+use Rattle.ob_shell.specs.Tracing.{Traced}
+use Rattle.ob_shell.specs.Words.{Answers, AreSeen, Begins, EndsAtRead, IsHonest, IsSealed, IsSealedAt, IsWriteTo, PassesFrom, PassesWith, before_read, rows_in}
+use Rattle.ob_shell.specs.declared.keeping.KeptEnding.{KeptEnding}
+use Rattle.ob_shell.specs.declared.keeping.KeptEnding.TheVariants.{Plain}
+use Rattle.ob_shell.specs.declared.top.Ending.{Ending}
+use Rattle.ob_shell.specs.declared.top.Ending.TheVariants.{Ran as RanEnding}
+use Rattle.ob_shell.proofs.TextLemmas.{rest_of-nil, texts_of-nil}
+use Rattle.ob_shell.proofs.BaseLemmas.{from_each}
+use Rattle.ob_shell.proofs.CalmLemmas.{MeetsChange, first_calm, last_met, steps_calm}
+use Rattle.ob_shell.proofs.FailureLemmas.{session_fails}
+use Rattle.ob_shell.proofs.LaterLemmas.{steps_later, last_later}
+use Rattle.ob_shell.proofs.OpenLemmas.{session_opens}
+use Rattle.ob_shell.proofs.LastingLemmas.{HasSizes, steps_sizes, last_rows, steps_sealed, last_sealed, steps_tell, none_sealed}
+use Rattle.ob_shell.proofs.PromptLemmas.{prompt_all}
+use Rattle.ob_shell.proofs.RunLemmas.{traces_all}
+use Rattle.ob_shell.proofs.StepLemmas.{Steps-none, printed-nil}
+use Rattle.ob_shell.proofs.TallyLemmas.{tally_after-nil}
+use Rattle.ob_shell.proofs.TraceLemmas.{traced_none}
+use Rattle.ob_shell.proofs.WalkLemmas.{EndsWhole, Walked, walked, walked_last}
+use Rattle.ob_shell.proofs.TopLemmas.{nothing_over, took_none}
+
+-- ---- what an engine stands on
+-- from no tables
+nothing_held : {R : Type 0} (state : R → RevState) (first : Engine R) (s : StoreState) (config : Config) → public_of first ≡ public_by config → Represents state first s []
+nothing_held state first s config is =
+    record { held = subst (λ (p : Public). AreHeld p.pack p.tables [] (world_of state first s)) (sym is) tt; in_place = tt }
+
+pub none_asked : {R : Type 0} (first : Engine R) (s : StoreState) → engine_start first ≡ from_nothing → s.asked ≡ [] → count_of first s ≡ 0
+none_asked first s from none = omega (arith, ap earlier from, earlier_nothing, ap length none)
+
+session_is : {R : Type 0} (config : Config) (first : Engine R) (s : StoreState) → public_of first ≡ public_by config → engine_start first ≡ from_nothing → s.asked ≡ []
+    → session_of (machine_of first s) [] ≡ start (Some config)
+session_is config first s is from none = let unasked = none_asked first s from none in λ i. record { public = is i; tables = []; asked = unasked i }
+
+not_used : (asked : List Access) (high : ℕ) → asked ≡ [] → IsUsed asked high
+not_used asked high none some = let any : IsTrue (list_any is_of_rows []) = subst (λ (xs : List Access). IsTrue (list_any is_of_rows xs)) none some in absurd (cc any)
+
+-- an engine that was just started
+pub stands_first : {R : Type 0} (state : R → RevState) (config : Config) (key : List ℕ) (first : Engine R) (s : StoreState) → public_of first ≡ public_by config → first.vault.keys ≡ keys_of key
+    → engine_start first ≡ from_nothing → rows_of first ≡ config.buffer → IsFresh s → IsSteady s → StandsOn state (fresh (Some config)) config key first s
+stands_first state config key first s is keyed from rows blank steady =
+    let nothing = nothing_held state first s config is in
+    record {
+      settings = refl;
+      public = is;
+      count = none_asked first s from blank.unasked;
+      start = from;
+      asked = blank.unasked;
+      keyed = keyed;
+      pack = refl;
+      buffer = refl;
+      rows = rows;
+      calm = first_calm state first s blank.honest;
+      used = not_used s.asked (high_of first) blank.unasked;
+      held = nothing;
+      sealed = λ tells good passes. none_sealed state (λ r. good) first s blank.empty;
+      passes = λ good passes. passes;
+      early = λ n before. (
+        record {
+          steady = steady;
+          unasked = blank.unasked;
+          nothing = nothing;
+          here = session_is config first s is from blank.unasked;
+        },
+        before,
+      );
+    }
+
+-- each block of a live region is sealed
+sealed_at : (good : List ℕ → Bool) (v : VaultState) (s : StoreState) (region place : ℕ) (block : List ℕ) (keys : KeySet) (start : Start) → v.start ≡ start → v.keys ≡ keys
+    → SealedAt (λ r. good) (record { vault = v; store = s }) region place block → IsSealedAt good keys start s.asked region place block
+sealed_at good v s region place block keys start from same at = record {
+  number = at.number;
+  written = subst (λ (x : Start). IsWriteTo x s.asked region place at.number) from at.went;
+  clear = at.rows;
+  sealed = at.is ∙ ap (λ (k : KeySet). sealed k (at_of region place at.number) at.rows) same;
+  passes = at.fine;
+}
+
+-- a changed block that doesn't fit ends the run at its read
+ends_there : (region place : ℕ) (w : World) (lie : Lie) → w.store.lie ≡ Some lie → EndsAt region place w
+    → (RanEnding (Err (Tampered region place)) ≡ RanEnding (Err (Tampered lie.region lie.place))) × (w.store.asked ≡ lie.before ++ Read lie.region lie.place ∷ [])
+ends_there region place w lie is ends =
+    let same : ends.lie ≡ lie = cc (sym ends.told ∙ is) in (
+      (λ i. RanEnding (Err (Tampered ((sym ends.at_region ∙ ap (λ (l : Lie). l.region) same) i) ((sym ends.at_place ∙ ap (λ (l : Lie). l.place) same) i)))),
+      ends.asked ∙ ap (λ (l : Lie). l.before ++ Read l.region l.place ∷ []) same,
+    )
+
+meets : (result : Result Bool Stop) (w : World) (lie : Lie) → MeetsChange result w → w.store.lie ≡ Some lie → ¬ Fits w.vault.keys w.vault.start lie
+    → (RanEnding result ≡ RanEnding (Err (Tampered lie.region lie.place))) × (w.store.asked ≡ lie.before ++ Read lie.region lie.place ∷ [])
+meets (Ok refused) w lie calm is unfit = absurd (unfit (calm.calm lie is))
+meets (Err (Tampered region place)) w lie (inl calm) is unfit = absurd (unfit (calm.calm lie is))
+meets (Err (Tampered region place)) w lie (inr ends) is unfit = ends_there region place w lie is ends
+meets (Err SourceFault) w lie calm is unfit = absurd (unfit (calm.calm lie is))
+meets (Err SinkFault) w lie calm is unfit = absurd (unfit (calm.calm lie is))
+meets (Err NoMemory) w lie calm is unfit = absurd (unfit (calm.calm lie is))
+meets (Err InputLimit) w lie calm is unfit = absurd (unfit (calm.calm lie is))
+
+-- a session that ends as tampered ends with the read of that place
+last_read : {R : Type 0} (state : R → RevState) (m1 m2 : Machine R) (more : List (List ℕ)) (part : List ℕ) (region place : ℕ) → LastPart state m1 m2 more part (Err (Tampered region place))
+    → EndsAtRead region place m2.store.asked
+last_read state m1 m2 [] part region place idle = absurd idle.untampered
+last_read state m1 m2 (text ∷ more) part region place (inl idle) = absurd idle.untampered
+last_read state m1 m2 (text ∷ more) part region place (inr (inl cut)) = record { before = cut.does.ran.cause.1.before; is = cut.does.ran.cause.1.asked }
+last_read state m1 m2 (text ∷ more) part region place (inr (inr done)) = absurd done.fault
+
+-- what is said of a closing
+writes_by : {R : Type 0} {state : R → RevState} {e : Engine R} {s t : StoreState} (r : Result Mark CloseErr) → ClosesEngine state r e s t → Writes (next_closing e s) (closing_script e s) r s t
+writes_by {e = e} {s = s} {t = t} (Ok mark) closes = go (is_used_up (next_closing e s)) refl where
+  go : (b : Bool) → is_used_up (next_closing e s) ≡ b → MatchBool b (StaysInUse mark s t) (IsClosedAs (next_closing e s) (closing_script e s) mark s t)
+  go true is = closes.full is
+  go false is = closes.ok is
+writes_by {e = e} {s = s} {t = t} (Err error) closes = (go (is_used_up (next_closing e s)) refl, closes.err) where
+  go : (b : Bool) → is_used_up (next_closing e s) ≡ b → is_used_up (next_closing e s) ≡ false
+  go true is = absurd (closes.gives_up is)
+  go false is = is
+
+none_lies : (o : Option Lie) (s t : StoreState) → s.lie ≡ o → Later s t → t.lie ≡ None → s.lie ≡ None
+none_lies None s t is later none = is
+none_lies (Some lie) s t is later none = absurd (cc (later.lie lie is, none))
+
+passes_from : (base : Base) (good : List ℕ → Bool) → PassesBoth base.public.pack good → PassesFrom base good
+passes_from base good both = go base.opened where
+  go : (o : Option Opened) → PassesWith o base.public.pack good
+  go None = both.0
+  go (Some o) = both
+
+-- a session over an engine that stands on a base
+module _ {R : Type 0} {state : R → RevState} (base : Base) (config : Config) (key : List ℕ) (first last : Engine R) (high : ℕ) (told : Result Tally Stop) (s0 s1 : StoreState)
+    (on : StandsOn state base config key first s0) (most : high ≤ rows_of last) (opened : high ≡ high_of last)
+    (tr : TraceSink) (f0 f1 : Fetch) (l0 l1 : Option (List ℕ)) (gave : ℕ) (w0 w1 : Option (List ℕ)) (ran : SessionRan state tr.on f0 f1 l0 l1 gave w0 w1 tr.old tr.new (machine_of first s0) (machine_of last s1) told) where
+  abbrev result : Result Bool Stop
+  result = flagged told
+
+  abbrev m0 : Machine R
+  m0 = machine_of first s0
+
+  abbrev m2 : Machine R
+  m2 = machine_of last s1
+
+  walk : Walked state (RanEnding result) m0 ran.middle m2 ran.served ran.more ran.answers ran.part
+  walk = walked state (RanEnding result) ran.served m0 ran.middle m2 ran.more ran.answers ran.part ran.steps (walked_last state ran.middle m2 ran.more ran.part result ran.last)
+
+  abbrev all : List Served
+  all = walk.seen ++ walk.last
+
+  keys_are : last.vault.keys ≡ keys_of key
+  keys_are = walk.keys ∙ on.keyed
+
+  start_is : engine_start last ≡ base.start
+  start_is = walk.start ∙ on.start
+
+  fits_here : (lie : Lie) → Fits last.vault.keys (engine_start last) lie → Fits (keys_of key) base.start lie
+  fits_here lie fits = subst (λ (k : KeySet). Fits k base.start lie) keys_are (subst (λ (x : Start). Fits last.vault.keys x lie) start_is fits)
+
+  met : MeetsChange result (world_of state last s1)
+  met = last_met state ran.middle m2 ran.more ran.part result ran.last (steps_calm state m0 ran.middle ran.served ran.answers ran.steps on.calm)
+
+  sizes : HasSizes config m0
+  sizes = record {
+    pack = ap (λ (p : Public). p.pack) on.public ∙ on.pack;
+    buffer = ap (λ (p : Public). p.buffer) on.public ∙ on.buffer;
+    rows = on.rows;
+  }
+
+  middle_sizes : HasSizes config ran.middle
+  middle_sizes = steps_sizes state config m0 ran.middle ran.served ran.answers ran.steps sizes
+
+  tells_on : IsTrue s0.tells → IsTrue ran.middle.store.tells
+  tells_on tells = steps_tell state m0 ran.middle ran.served ran.answers ran.steps tells
+
+  abbrev AreSealed : Session → Type 0
+  AreSealed x = (good : List ℕ → Bool) → PassesFrom base good → AllSealed (λ r. good) (world_of state first s0)
+
+  all_sealed : IsTrue s0.tells → ((good : List ℕ → Bool) → PassesFrom base good → AllSealed (λ r. good) (world_of state first s0)) → IsSealed (PassesFrom base) (keys_of key) base.start s1
+  all_sealed tells sealed = record {
+    each = λ region place block lives held good passes.
+        let accepts = on.passes good passes in
+        sealed_at good (world_of state last s1).vault s1 region place block (keys_of key) base.start start_is keys_are
+        ((last_sealed state config (λ r. good) accepts ran.middle m2 ran.more ran.part result ran.last middle_sizes (tells_on tells)
+        (steps_sealed state config (λ r. good) accepts m0 ran.middle ran.served ran.answers ran.steps sizes tells
+        (sealed good passes))).all region place block lives held);
+  }
+
+  here : (tables : Tables) → session_of m0 tables ≡ session_at base tables
+  here tables = λ i. record { public = on.public i; tables = tables; asked = on.count i }
+
+  pub carried_by : Carried tr base (Some key) s0 s1 high ran.served ran.more ran.answers ran.part (RanEnding result)
+  carried_by = record {
+    spelt = walk.spelt;
+    spells = walk.spells;
+    reached = walk.reached;
+    begun = walk.begun;
+    keyed = inl refl;
+    each = walk.each;
+    seen = walk.seen;
+    last = walk.last;
+    one_last = walk.one_last;
+    lawful = subst (λ (s : Session). AreSeen (RanEnding result) s.public s.asked walk.spelt ran.answers all) (here []) walk.lawful;
+    asked = walk.asked ∙ (λ i. on.asked i ++ trace (on.public i) all);
+    traced_whole = ran.traced.whole (trace base.public walk.seen) (walk.passed ∙ ap (λ (p : Public). s0.asked ++ trace p walk.seen) on.public);
+    failed = session_fails state m0 ran.middle m2 ran.served ran.more ran.answers ran.part result ran.steps ran.last;
+    unfailed = walk.unfailed;
+    meant = λ undeceived. from_each base (λ x. Represents state first s0 x.tables) (λ x. (broken : Broken) × Answers (RanEnding result) x walk.spelt broken ran.answers all ran.part)
+        (λ tables held.
+        let from = walk.meant undeceived.tells on.calm (record { unfit = λ lie is fits. undeceived.unfit lie is (fits_here lie fits) }) tables held in
+        (from.0, subst (λ (s : Session). Answers (RanEnding result) s walk.spelt from.0 ran.answers all ran.part) (here tables) from.1)) on.held;
+    tampered = λ lie is unfit. meets result (world_of state last s1) lie met is (λ fits. unfit (fits_here lie fits));
+    sealed = λ tells. from_each base AreSealed (λ x. IsSealed (PassesFrom base) (keys_of key) base.start s1) (λ tables sealed. all_sealed tells sealed) (on.sealed tells);
+    untampered = from_each base (λ x. Represents state first s0 x.tables) (λ x. IsHonest s0 s1 → EndsUntampered (RanEnding result))
+        (λ tables held honest. walk.untampered honest.tells tables held honest.no_lie) on.held;
+    at_read = λ region place is. let stopped : result ≡ Err (Tampered region place) = cc is in
+        last_read state ran.middle m2 ran.more ran.part region place (subst (λ (x : Result Bool Stop). LastPart state ran.middle m2 ran.more ran.part x) stopped ran.last);
+    most_open = subst (λ (o : Option Config). high ≤ rows_in o) (sym on.settings)
+        (subst (λ (n : ℕ). high ≤ n) (last_rows state config ran.middle m2 ran.more ran.part result ran.last middle_sizes) most);
+    some_open = subst (λ (n : ℕ). IsUsed s1.asked n) (sym opened) (session_opens state m0 ran.middle m2 ran.served ran.more ran.answers ran.part result on.used ran.steps ran.last);
+    later = later_trans _ _ _ (steps_later state m0 ran.middle ran.served ran.answers ran.steps) (last_later state ran.middle m2 ran.more ran.part result ran.last);
+    early = λ tells n before.
+        let facts = on.early n before in
+        let is = facts.0 in
+        let from = walk.early tells is.steady [] is.nothing n facts.1 (omega (arith, ap length is.unasked)) in
+        let joined : s0.asked ++ trace (session_of m0 []).public (all_served (session_of m0 []) walk.spelt []) ≡ meant_trace base.settings walk.spelt =
+        λ i. is.unasked i ++ trace (is.here i).public (all_served (is.here i) walk.spelt []) in
+        record {
+          meant = subst (λ (s : Session). MeantUntil n s walk.spelt ran.answers all) is.here from.meant;
+          begins = subst (λ (l : List Access). Begins (take n s1.asked) l) joined from.begins;
+          quiet = λ le. from.quiet (subst (λ (l : List Access). length l ≤ n) (sym joined) le);
+        };
+  }
+
+  -- ---- the engine is closed behind a session that came to its end
+  last_on : (tally : Tally) → told ≡ Ok tally → m2 ≡ ran.middle
+  last_on tally is = (subst (λ (r : Result Tally Stop). LastPart state ran.middle m2 ran.more ran.part (flagged r)) is ran.last).machine
+
+  last_sizes : (tally : Tally) → told ≡ Ok tally → HasSizes config m2
+  last_sizes tally is = subst (λ (m : Machine R). HasSizes config m) (sym (last_on tally is)) middle_sizes
+
+  lasting : Later s0 s1
+  lasting = later_trans _ _ _ (steps_later state m0 ran.middle ran.served ran.answers ran.steps) (last_later state ran.middle m2 ran.more ran.part result ran.last)
+
+  public_is : (tally : Tally) → told ≡ Ok tally → public_of last ≡ all_public base.public walk.seen
+  public_is tally is = ap (λ (m : Machine R). public_of m.engine) (last_on tally is) ∙ walk.public ∙ ap (λ (p : Public). all_public p walk.seen) on.public
+
+  ending_is : (tally : Tally) → told ≡ Ok tally → RanEnding result ≡ RanEnding (Ok (has_refused tally))
+  ending_is tally is = ap (λ (r : Result Tally Stop). RanEnding (flagged r)) is
+
+  last_all : (good : List ℕ → Bool) → PassesFrom base good → AllSealed (λ r. good) (world_of state first s0) → IsTrue s0.tells → AllSealed (λ r. good) (world_of state last s1)
+  last_all good passes sealed tells =
+      last_sealed state config (λ r. good) (on.passes good passes) ran.middle m2 ran.more ran.part result ran.last middle_sizes (tells_on tells)
+      (steps_sealed state config (λ r. good) (on.passes good passes) m0 ran.middle ran.served ran.answers ran.steps sizes tells sealed)
+
+  module _ (tally : Tally) (is : told ≡ Ok tally) (from : opened_from first ≡ region_opened base.opened) (s2 : StoreState) (r : Result Mark CloseErr) (closes : ClosesEngine state r last s1 s2) where
+    abbrev closing : Closing
+    closing = next_closing last s1
+
+    fits_last : (lie : Lie) → s2.lie ≡ Some lie → Fits (keys_of key) base.start lie
+    fits_last lie told_it = fits_here lie ((closes.calm (subst (λ (x : Result Bool Stop). MeetsChange x (world_of state last s1)) (ap flagged is) met)).calm lie told_it)
+
+    rests_last : (tables : Tables) → IsHonest s0 s2 → is_used_up closing ≡ false → (mark : Mark) → r ≡ Ok mark → Represents state first s0 tables
+        → (broken : Broken) × Answers (RanEnding (Ok (has_refused tally))) (session_at base tables) walk.spelt broken ran.answers all ran.part
+        × Rests (keys_of key) closing s2.kept (by_name (after_all (session_at base tables) walk.spelt broken).tables)
+    rests_last tables honest left mark closed held =
+        let none : s1.lie ≡ None = none_lies s1.lie s1 s2 refl closes.later honest.no_lie in
+        let from_it = walk.meant honest.tells on.calm (record { unfit = λ lie it. absurd (cc (none, it)) }) tables held in
+        let whole = subst (λ (e : Ending). EndsWhole e) (sym (ending_is tally is)) tt in
+        let tables_after = (after_all (session_of m0 tables) walk.spelt from_it.0).tables in
+        let tells : IsTrue s1.tells = subst (λ (b : Bool). IsTrue b) (sym lasting.tells) honest.tells in
+        let rest = subst (λ (x : Result Mark CloseErr). IfOk x (λ m. Rests (engine_keys last) closing s2.kept (by_name tables_after))) closed (closes.told tells left tables_after (from_it.2 whole)) in (
+          from_it.0,
+          subst (λ (e : Ending). Answers e (session_at base tables) walk.spelt from_it.0 ran.answers all ran.part) (ending_is tally is)
+              (subst (λ (x : Session). Answers (RanEnding result) x walk.spelt from_it.0 ran.answers all ran.part) (here tables) from_it.1),
+          subst (λ (k : KeySet). Rests k closing s2.kept (by_name (after_all (session_at base tables) walk.spelt from_it.0).tables)) keys_are
+              (subst (λ (x : Session). Rests (engine_keys last) closing s2.kept (by_name (after_all x walk.spelt from_it.0).tables)) (here tables) rest),
+        )
+
+    sealed_last : IsTrue s0.tells → ((good : List ℕ → Bool) → PassesFrom base good → AllSealed (λ r. good) (world_of state first s0)) → IsSealed (PassesBoth base.public.pack) (keys_of key) base.start s2
+    sealed_last tells sealed = record {
+      each = λ region place block lives held good both.
+          let passes = passes_from base good both in
+          let pack_is : config.pack ≡ (public_of last).pack = sym (last_sizes tally is).pack in
+          let accepts = subst (λ (k : ℕ). AcceptsRows (λ r. good) k) pack_is (on.passes good passes) in
+          let tells_last : IsTrue s1.tells = subst (λ (b : Bool). IsTrue b) (sym lasting.tells) tells in
+          sealed_at good (world_of state last s2).vault s2 region place block (keys_of key) base.start start_is keys_are
+          ((closes.sealed (λ r. good) accepts both.1 tells_last (last_all good passes (sealed good passes) tells)).all region place block lives held);
+    }
+
+    pub closed_behind : (tracing : Bool) (ended : KeptEnding) (t1 t2 : Option (List ℕ)) (fault1 fault2 : ℕ) (k1 k2 : KeeperState) (done : Traced tracing s1.asked s2.asked t1 t2 (Rises fault1 fault2)) → fault1 ≤ fault2
+        → EndsWith r (Plain (RanEnding (Ok (has_refused tally)))) ended fault1 fault2 k1 k2
+        → ClosesTables base (keys_of key) tracing (has_refused tally) carried_by.spelt ran.answers carried_by.seen (carried_by.seen ++ carried_by.last) ran.part s0 s1 s2 t1 t2 fault1 fault2 k1 k2 ended
+    unfolding carried_by
+    closed_behind tracing ended t1 t2 fault1 fault2 k1 k2 done later ends = record {
+      closing = closing;
+      is = λ i. closing_behind (public_is tally is i) (start_is i) s1.asked;
+      closes = record {
+        result = r;
+        writes = subst (λ (o : Option ℕ). Writes closing (last_script o closing) r s1 s2) (walk.from_closing ∙ from) (writes_by r closes);
+        done = done.seen;
+        asked = done.grew;
+        traced = done.cut;
+        later = later;
+        ends = ends;
+      };
+      later = closes.later;
+      fits = fits_last;
+      rests = λ honest left mark closed. from_each base (λ x. Represents state first s0 x.tables)
+          (λ x. (broken : Broken) × Answers (RanEnding (Ok (has_refused tally))) x walk.spelt broken ran.answers all ran.part × Rests (keys_of key) closing s2.kept (by_name (after_all x walk.spelt broken).tables))
+          (λ tables held. rests_last tables honest left mark closed held) on.held;
+      sealed = λ tells. from_each base AreSealed (λ x. IsSealed (PassesBoth base.public.pack) (keys_of key) base.start s2) (λ tables sealed. sealed_last tells sealed) (on.sealed tells);
+    }
+
+  unfoldable pub ran_after : RanAfter tr base (Some key) f0 f1 l0 l1 gave w0 w1 s0 s1 high told
+  ran_after = record {
+    piece = ran.piece;
+    consumed = ran.consumed;
+    taken = ran.taken;
+    limit = ran.limit;
+    ended = ran.ended;
+    at_end = ran.at_end;
+    served = ran.served;
+    more = ran.more;
+    texts = ran.texts;
+    prompt = ran.prompt;
+    answers = ran.answers;
+    part = ran.part;
+    carried = carried_by;
+    cut = ran.cut;
+    whole = ran.whole;
+    counted = ran.counted;
+    ends = ran.ends;
+  }
+
+-- nothing is served, since the input has ended
+unfoldable pub ran_last : {R : Type 0} (state : R → RevState) (on : Bool) (f : Fetch) (l : Option (List ℕ)) (gave : ℕ) (w t : Option (List ℕ)) (m : Machine R) → f.unread ≡ [] → IsAtEnd l → f.taken < f.limit
+    → SessionRan state on f f l l gave w w t t m m (Ok empty_tally)
+ran_last state on f l gave w t m none at_end below = record {
+  piece = [];
+  consumed = Consumes-nil l;
+  taken = omega arith;
+  limit = refl;
+  ended = true;
+  at_end = λ _. at_end;
+  served = [];
+  more = [];
+  texts = rw (none, texts_of-nil, rest_of-nil) refl;
+  prompt = subst (λ (xs : List (List ℕ)). Begins (texts_in false (before_read gave (f.unread ++ []))) xs) (texts_of-nil [])
+      (prompt_all (f.unread ++ []) [] f.unread gave (append-nil f.unread) (let few = ap length none in omega (arith, few)));
+  middle = m;
+  answers = [];
+  steps = Steps-none state m;
+  part = [];
+  last = record { machine = refl; none = refl };
+  cut = rw printed-nil (Cut-whole w w ⊥ [] (Appends-nil w));
+  whole = took_none w;
+  traced = traces_all (traced_none on m.store.asked t);
+  counted = sym (tally_after-nil empty_tally);
+  ends = (refl, refl, refl, rw none nothing_over, below);
+}

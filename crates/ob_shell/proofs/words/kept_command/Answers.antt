@@ -1,0 +1,13 @@
+use Rattle.std.proofs.Common.{ap, ap₂, codes, ◌≡◌, ◌∙◌}
+use Rattle.clap.specs.Words.{app_of, with_rule}
+use Rattle.clap.specs.Simple.{app_of_fields}
+use Rattle.ob_shell.specs.Usage.{common, flag, nameless, valued}
+use Rattle.ob_shell.proofs.words.kept_command.Goals as goal
+
+pub returns : goal.returns
+returns c =
+    let named : app_of c.in_ok-arg.field-0 ≡ with_rule (common (codes "oblidb")) (valued (codes "store")) =
+    c.in_ok-arg.ensures.shape c.valued.ensures.local ∙ ap₂ with_rule c.in_ok-common.ensures c.valued.ensures.rule in
+    let kept : app_of c.in_ok-command.command ≡ with_rule (with_rule (common (codes "oblidb")) (valued (codes "store"))) (flag (codes "keep")) =
+    c.in_ok-command.ensures.shape c.flag.ensures.local ∙ ap₂ with_rule named c.flag.ensures.rule in
+    ap app_of_fields c.no_binary_name.ensures ∙ ap nameless kept

@@ -1,0 +1,82 @@
+-- A run that may keep its tables, by what its words ask for; and one that keeps them and serves the generated text.
+use Rattle.std.specs.Prelude.{ℕ, ◌≡◌, ◌≢◌, ◌≤◌, ⊤, Bool, true, false, List, Option, Some, None}
+use Rattle.std.specs.Io.KnownBytes.{Appends}
+use Rattle.ob_base.specs.Counts.{Rises}
+use Rattle.ob_base.specs.declared.access.Access.{Access}
+use Rattle.ob_base.specs.declared.config.Config.{Config}
+use Rattle.ob_gen.specs.declared.tally.Tally.{Tally}
+use Rattle.ob_print.specs.Cuts.{Cut}
+use Rattle.ob_reopen.specs.Keepers.{KeeperState}
+use Rattle.ob_shell.specs.Bases.{fresh}
+use Rattle.ob_shell.specs.Generating.{IsUnread, StatusIs, Summarized, after_text, before_text, conclusion}
+use Rattle.ob_shell.specs.Headline.{Headline}
+use Rattle.ob_shell.specs.Keeping.{kept_line, kept_status}
+use Rattle.ob_shell.specs.KeptHeadline.{KeptHeadline}
+use Rattle.ob_shell.specs.Top.{EndingTally}
+use Rattle.ob_shell.specs.Words.{Answer, Faults, Outside, SinksRose}
+use Rattle.ob_shell.specs.declared.keeping.KeptEnding.{KeptEnding}
+use Rattle.ob_shell.specs.declared.keeping.KeptEnding.TheVariants.{Plain, OtherPack, StoreFault, NotClosed, KeeperFault}
+use Rattle.ob_shell.specs.declared.top.Report.{Report}
+use Rattle.ob_shell.specs.declared.words.Seed.{Seed}
+
+-- a run that came to the end of the text ends with its summary, another one with its last line
+abbrev pub kept_conclusion : KeptEnding → Tally → List Access → List ℕ
+kept_conclusion (Plain ending) tally asked = conclusion ending tally asked
+kept_conclusion OtherPack tally asked = kept_line OtherPack
+kept_conclusion StoreFault tally asked = kept_line StoreFault
+kept_conclusion NotClosed tally asked = kept_line NotClosed
+kept_conclusion KeeperFault tally asked = kept_line KeeperFault
+
+-- the status is that of the run, or a sink's fault where its summary was not written whole
+abbrev pub KeptStatusIs : KeptEnding → (status : ℕ) (Whole Rose : Type 0) → Type 0
+KeptStatusIs (Plain ending) status Whole Rose = StatusIs ending status Whole Rose
+KeptStatusIs OtherPack status Whole Rose = status ≡ kept_status OtherPack
+KeptStatusIs StoreFault status Whole Rose = status ≡ kept_status StoreFault
+KeptStatusIs NotClosed status Whole Rose = status ≡ kept_status NotClosed
+KeptStatusIs KeeperFault status Whole Rose = status ≡ kept_status KeeperFault
+
+-- what was counted of the answers, where the run came to the end of its input
+abbrev pub KeptTally : KeptEnding → List Answer → Tally → Type 0
+KeptTally (Plain ending) answers tally = EndingTally ending answers tally
+KeptTally OtherPack answers tally = ⊤
+KeptTally StoreFault answers tally = ⊤
+KeptTally NotClosed answers tally = ⊤
+KeptTally KeeperFault answers tally = ⊤
+
+-- what was written of a run that ended so, and with which status; nothing after a fault of the trace's sink
+pub record KeptConcludes (ending : KeptEnding) (tally : Tally) (asked : List Access) (opened : ℕ)
+    (written0 written1 : Option (List ℕ)) (old new : Faults) (report : Report) : Type 0 where
+  pub grew : Cut written0 written1 (SinksRose old new) (kept_conclusion ending tally asked)
+  pub silent : new.trace ≢ old.trace → written1 ≡ written0
+  pub status : KeptStatusIs ending report.status
+      (Appends written0 written1 (kept_conclusion ending tally asked) × (new.out ≡ old.out))
+      (Rises old.out new.out)
+  pub later : old.out ≤ new.out
+  pub high : report.high ≡ opened
+
+-- a run over the text that is generated from this seed, with it as input and a sink that keeps no answer; and what is
+-- written is its summary, by what was counted of its answers, or its last line
+pub record KeptSummarized (settings : Option Config) (Takes : Type 0) (tracing : Bool) (seed : Seed)
+    (old new : Outside) (keeper0 keeper1 : KeeperState) (report : Report) : Type 0 where
+  pub unread : IsUnread old new
+  pub run : Report
+  pub left : List ℕ
+  pub gave : ℕ
+  pub headline : KeptHeadline settings Takes tracing (before_text seed old)
+      (after_text left gave new) keeper0 keeper1 run
+  pub tally : Tally
+  pub counted : KeptTally headline.ending headline.answers tally
+  pub concludes : KeptConcludes headline.ending tally new.store.asked run.high
+      old.written new.written old.faults new.faults report
+
+-- whether tables are kept, and over which text, if one is generated; where none are kept, the keeper isn't asked
+abbrev pub MayKeep : (keeps : Bool) → Option Seed → (settings : Option Config) → (Takes : Type 0)
+    → (tracing : Bool) → (old new : Outside) → (keeper0 keeper1 : KeeperState) → Report → Type 0
+MayKeep false None settings Takes tracing old new keeper0 keeper1 report =
+    Headline (fresh settings) Takes tracing old new report × (keeper1 ≡ keeper0)
+MayKeep false (Some seed) settings Takes tracing old new keeper0 keeper1 report =
+    Summarized Takes settings tracing seed old new report × (keeper1 ≡ keeper0)
+MayKeep true None settings Takes tracing old new keeper0 keeper1 report =
+    KeptHeadline settings Takes tracing old new keeper0 keeper1 report
+MayKeep true (Some seed) settings Takes tracing old new keeper0 keeper1 report =
+    KeptSummarized settings Takes tracing seed old new keeper0 keeper1 report

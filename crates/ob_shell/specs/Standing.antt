@@ -1,0 +1,50 @@
+-- The engine with which a run goes on from a base.
+use Rattle.std.specs.Prelude.{ℕ, ◌≡◌, ◌≤◌, Bool, IsTrue, List, [], Option, Some}
+use Rattle.std.specs.List.{list_any}
+use Rattle.ob_base.specs.declared.access.Access.{Access}
+use Rattle.ob_base.specs.declared.config.Config.{Config}
+use Rattle.ob_exec.specs.Agreeing.{count_of, engine_keys, engine_start, high_of, public_of, rows_of, world_of}
+use Rattle.ob_exec.specs.Opening.{is_of_rows}
+use Rattle.ob_exec.specs.Telling.{AcceptsRows, Represents}
+use Rattle.ob_exec.specs.declared.engine.Engine.{Engine}
+use Rattle.ob_seal.specs.Sealed.{keys_of}
+use Rattle.ob_shell.specs.Bases.{Base, FromEach, said_of, start}
+use Rattle.ob_shell.specs.Steps.{machine_of, session_of}
+use Rattle.ob_shell.specs.Words.{PassesFrom}
+use Rattle.ob_store.specs.Calls.{IsBefore, IsSteady}
+use Rattle.ob_store.specs.State.{StoreState}
+use Rattle.ob_vault.specs.State.{RevState}
+use Rattle.ob_vault.specs.Tied.{AllSealed, Calm}
+
+-- where a block was read or written, at least one row was open
+abbrev pub IsUsed : List Access → ℕ → Type 0
+IsUsed asked high = IsTrue (list_any is_of_rows asked) → 1 ≤ high
+
+-- nothing was asked, there are no tables, and the store says what others do
+pub record IsFirst {R : Type 0} (state : R → RevState) (settings : Option Config) (e : Engine R)
+    (s : StoreState) : Type 0 where
+  pub steady : IsSteady s
+  pub unasked : s.asked ≡ []
+  pub nothing : Represents state e s []
+  pub here : session_of (machine_of e s) [] ≡ start settings
+
+-- an engine and its store are those that a base tells of, with the keys of a secret
+pub record StandsOn {R : Type 0} (state : R → RevState) (base : Base) (config : Config)
+    (key : List ℕ) (e : Engine R) (s : StoreState) : Type 0 where
+  pub settings : base.settings ≡ Some config
+  pub public : public_of e ≡ base.public
+  pub pack : base.public.pack ≡ config.pack
+  pub buffer : base.public.buffer ≡ config.buffer
+  pub rows : rows_of e ≡ config.buffer
+  pub count : count_of e s ≡ base.count
+  pub start : engine_start e ≡ base.start
+  pub asked : s.asked ≡ base.before
+  pub keyed : engine_keys e ≡ keys_of key
+  pub calm : Calm (world_of state e s)
+  pub used : IsUsed s.asked (high_of e)
+  pub held : FromEach base (λ x. Represents state e s x.tables)
+  pub sealed : IsTrue s.tells → FromEach base (λ x. (good : List ℕ → Bool)
+      → PassesFrom base good → AllSealed (λ r. good) (world_of state e s))
+  pub passes : (good : List ℕ → Bool) → PassesFrom base good → AcceptsRows (λ r. good) config.pack
+  pub early : (n : ℕ) → IsBefore (said_of base.opened s) n
+      → IsFirst state base.settings e s × IsBefore s.disturbed n
