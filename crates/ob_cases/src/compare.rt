@@ -38,10 +38,7 @@ pub fn difference(
     if !traced {
         return Ok(Some(Part::Accesses));
     }
-    if run
-        .total
-        .is_some_and(|total| total != lines_in(came.trace))
-    {
+    if run.total.is_some_and(|total| total != lines_in(came.trace)) {
         return Ok(Some(Part::Total));
     }
     if run.status != u64::from(came.status) {

@@ -52,12 +52,7 @@ fn changes_of(alloc: Global, run: &Run) -> Result<Vec<Meddle>, LineErr> {
 }
 
 // What came of a run, beside what it wants.
-fn served_as(
-    alloc: Global,
-    run: &Run,
-    unordered: bool,
-    came: &Came,
-) -> Result<Served, LineErr> {
+fn served_as(alloc: Global, run: &Run, unordered: bool, came: &Came) -> Result<Served, LineErr> {
     Ok(Served {
         differs: difference(alloc, run, unordered, came)?,
         answers: copied(alloc, came.answers)?,

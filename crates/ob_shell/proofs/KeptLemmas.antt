@@ -56,7 +56,7 @@ opening_stops OpenErrs.Failed refused is = cc is
 opening_stops (OpenErrs.Tampered region place) refused is = cc is
 opening_stops OpenErrs.NoMemory refused is = cc is
 
-closing_stops : (error : CloseErr) (refused : Bool) → closing_end error ≡ Plain (Ran (Ok refused)) → ⊥
+pub closing_stops : (error : CloseErr) (refused : Bool) → closing_end error ≡ Plain (Ran (Ok refused)) → ⊥
 closing_stops CloseErrs.Failed refused is = cc is
 closing_stops CloseErrs.NoMemory refused is = cc is
 

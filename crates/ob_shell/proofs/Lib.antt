@@ -9,6 +9,7 @@ pub mod KeepRunLemmas
 pub mod KeptGenLemmas
 pub mod KeptLemmas
 pub mod KeyLemmas
+pub mod MarkLemmas
 pub mod RunLemmas
 pub mod ServeLemmas
 pub mod SessionLemmas

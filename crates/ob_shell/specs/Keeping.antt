@@ -67,7 +67,8 @@ handed_end whole (Ok done) = whole
 handed_end whole (Err failed) = KeeperFault
 
 -- a mark was handed to the keeper; the run ends as it would without, unless that failed
-pub record HandsOver (mark : Mark) (whole ending : KeptEnding) (old new : KeeperState) : Type 0 where
+pub record HandsOver (mark : Mark) (whole ending : KeptEnding) (old new : KeeperState)
+    : Type 0 where
   pub result : Result (Unit {0}) Failed
   pub sets : SetsMark mark result old new
   pub ends : ending ≡ handed_end whole result

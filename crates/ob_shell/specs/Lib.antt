@@ -5,6 +5,7 @@ pub mod Feeding
 pub mod Engaging
 pub mod Keeping
 pub mod KeptHeadline
+pub mod KeptMarks
 pub mod KeptSummary
 pub mod KeyLine
 pub mod Pushed

@@ -1,12 +1,15 @@
 //! What follows of whole runs, and how bytes are cut into texts.
-ghost use Rattle.std.specs.Prelude.{◌≡◌, ◌++◌, List, [], ℕ, IsSome, false};
+ghost use Rattle.std.specs.Prelude.{◌≡◌, ◌++◌, List, [], ℕ, IsSome, Some, false};
 ghost use Rattle.clap.specs.Words.{Text};
 ghost use Rattle.ob_base.specs.declared.config.Public.{Public};
+ghost use Rattle.ob_base.specs.declared.mark.Mark.{Mark};
 ghost use Rattle.ob_base.specs.declared.seen.Seen.{Seen};
 ghost use Rattle.ob_exec.specs.Running.{refusal_now};
 ghost use Rattle.ob_mean.specs.Lawful.{Lawful};
+ghost use Rattle.ob_reopen.specs.Keepers.{KeeperState};
 ghost use Rattle.ob_shell.specs.Bases.{public_with};
 ghost use Rattle.ob_shell.specs.Failures.{failures};
+ghost use Rattle.ob_shell.specs.KeptMarks.{HeldAfter, KeptRun};
 ghost use Rattle.ob_shell.specs.Pieces.{BeginsWith};
 ghost use Rattle.ob_shell.specs.Reruns.{Alike, EndsWell, IsPlain, ShellRun, ShowAlike};
 ghost use Rattle.ob_shell.specs.Reruns.{any_counted, plainly, statements};
@@ -76,4 +79,13 @@ pub fn reruns_show_the_same()
         → ShowAlike (public_with (settings_of usage words)) 0
         (statements a.spelt) (a.seen ++ a.last) (statements b.spelt) (b.seen ++ b.last)
         → (a.seen ++ a.last ≡ b.seen ++ b.last) × (new.store.asked ≡ new_too.store.asked) }
+{}
+
+/// The mark that a keeper holds, where it tells, once a run with `--keep` ended. Before the first statement it is the one
+/// that was held. Behind a session that came to its end, and whose tables were closed, it is the one of that closing, and
+/// else the store is in use. Where the keeper failed it may have changed the mark, or not.
+pub fn marks_are_held()
+    ensures { (words : List Text) (old new : Outside) (keeper0 keeper1 : KeeperState)
+        (report : Report) (run : KeptRun words old new keeper0 keeper1 report)
+        (held : Mark) → keeper0.held ≡ Some held → HeldAfter run.ran held }
 {}
