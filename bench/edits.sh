@@ -1,18 +1,18 @@
 #!/bin/sh
 # Tries the wrong bodies of crates/NAME/more-edits/, of the crates that are named or else of all: each edit is put into a
 # copy of its crate, and the prover has to refuse it at a clause or a goal. Prints a line for each, and ends with 1 where
-# one is proved, can't be applied, or is refused only because a proof file names what it took away. Work that checks
-# have kept in out/ is used.
+# one is proved, can't be applied, or is refused only because a proof file names what it took away. What `rt ci` has
+# proved on this machine isn't proved again, and an edit that was tried over the same sources isn't tried again.
 #
 # usage: bench/edits.sh [NAME..]
-# Needs `rt` and python3. Takes some minutes for a crate, and hours for all.
+# Needs `rt` and python3. Behind `rt ci` it takes some minutes for a crate, and hours for all.
 set -eu
 top=$(cd "$(dirname "$0")/.." && pwd)
 work=$(mktemp -d)
 trap 'rm -rf "$work"' EXIT
 
 python3 - "$top" "$work" "$@" <<'PY'
-import os, pathlib, shutil, subprocess, sys
+import pathlib, re, shutil, subprocess, sys
 
 top, work, named = pathlib.Path(sys.argv[1]), pathlib.Path(sys.argv[2]), sys.argv[3:]
 
@@ -30,37 +30,44 @@ def below(name, found):
             below(library, found)
     return found
 
-tried = [name for name in uses if list((top / "crates" / name / "more-edits").glob("*.edit"))]
+def edits_of(crate):
+    return sorted(edit.stem for edit in (crate / "more-edits").glob("*.edit"))
+
+tried = {name: edits for name in uses if (edits := edits_of(top / "crates" / name))}
 for name in named:
     if name not in uses:
         sys.exit(f"{name} is no crate")
 if named:
-    tried = [name for name in tried if name in named]
+    tried = {name: edits for name, edits in tried.items() if name in named}
+if not tried:
+    sys.exit("nothing to try")
 
-# The crates that are tried and those that they use, with what was kept of them.
+# The crates that are tried and those that they use.
 copied = set(tried).union(*[below(name, set()) for name in tried])
 (work / "crates").mkdir()
 (work / "crates.txt").write_text("".join(f"{name}: {' '.join(uses[name])}\n" for name in uses if name in copied))
 shutil.copy(top / "HANDLES", work)
 for name in copied:
-    shutil.copytree(top / "crates" / name, work / "crates" / name, ignore=shutil.ignore_patterns("must-fail"))
+    shutil.copytree(top / "crates" / name, work / "crates" / name, ignore=shutil.ignore_patterns("must-fail", "out"))
 for name in tried:
     (work / "crates" / name / "more-edits").rename(work / "crates" / name / "must-fail")
 
-refused = failed = 0
-for name in uses:
-    if name not in tried:
-        continue
-    ran = subprocess.run(["rt", "must-fail", name], cwd=work, stdin=subprocess.DEVNULL, stdout=subprocess.PIPE, stderr=subprocess.STDOUT, text=True)
-    said = [line.partition(f"{name}/")[2] for line in ran.stdout.split("\n") if "must-fail " + name + "/" in line]
-    for line in said:
-        edit, _, verdict = line.partition(".edit: ")
-        well = verdict.startswith("refused") and "says little" not in verdict
-        print(f"{name}/{edit}: {'refused' if well else verdict}", flush=True)
-        refused, failed = refused + well, failed + (not well)
-    if not said:
-        print(f"{name}: nothing was tried:", *ran.stdout.strip().split("\n")[-4:], sep="\n    ", flush=True)
-        failed += 1
+waiting = {f"{name}/{edit}" for name, edits in tried.items() for edit in edits}
+refused, said = 0, []
+with subprocess.Popen(["rt", "ci", *tried], cwd=work, stdin=subprocess.DEVNULL, stdout=subprocess.PIPE, stderr=subprocess.STDOUT, text=True) as ran:
+    for line in ran.stdout:
+        said.append(line)
+        told = re.search(r"must-fail (\w+/[\w.-]+)\.edit: (.*)", line)
+        if told and told[1] in waiting:
+            well = told[2].startswith("refused") and "says little" not in told[2]
+            print(f"{told[1]}: {'refused' if well else told[2]}", flush=True)
+            waiting.remove(told[1])
+            refused += well
+            said.clear()
+failed = sum(map(len, tried.values())) - refused
+if waiting:
+    print("not tried:", *sorted(waiting))
+    print("rt said:", *said[-6:], sep="\n    ", end="")
 print(f"{refused} refused, {failed} not refused")
 sys.exit(failed > 0)
 PY

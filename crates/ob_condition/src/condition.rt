@@ -2,12 +2,10 @@
 ghost use Rattle.std.specs.Prelude.{◌≡◌, false, IfOk, IfErr, IsOk};
 ghost use Rattle.ob_token.specs.declared.token.Mark.TheVariants.{Where};
 ghost use Rattle.ob_condition.specs.Marks.{is};
-ghost use Rattle.ob_sql.specs.Search.{Search, Compare, Not, And, Or};
+ghost use Rattle.ob_sql.specs.Search.{Compare, Not, And, Or};
 ghost use Rattle.ob_condition.specs.Reading.{begins, Gives, IsStuck, column, comparison, cond_of, condition, conj_of, constant, operand, prim, search_in, where_part};
 
-use crate::reader::{
-    Fault, begins_name, expect, name, number, order, plain, sign, skip, with_sign,
-};
+use crate::reader::{Fault, begins_name, name, number, order, plain, sign, skip, with_sign};
 use ob_base::ColumnName;
 use ob_sql::{Against, Cond, CondTree, Literal};
 use ob_token::{Mark, Token};

@@ -1,5 +1,5 @@
-ghost use Rattle.std.specs.Prelude.{◌≡◌, ◌≤◌, ◌<◌, ◌+◌, ◌^◌, Option, length, slice_set};
-ghost use Rattle.ob_base.specs.Schemas.{Columns, width};
+ghost use Rattle.std.specs.Prelude.{◌≡◌, ◌<◌, ◌+◌, ◌^◌, Option, length, slice_set};
+ghost use Rattle.ob_base.specs.Schemas.{width};
 ghost use Rattle.ob_row.specs.Rows.{Row};
 ghost use Rattle.ob_row.specs.Slots.{Slots};
 ghost use Rattle.ob_row.specs.Spelling.{Begins};

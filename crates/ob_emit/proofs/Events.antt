@@ -1,7 +1,7 @@
 -- Events that follow each other.
 use mir.Val.{bool_byte}
 use Rattle.std.proofs.Common.{◌≡◌, is_some, IsTrue, ◌<◌, ◌≤◌, ◌+◌, ◌*◌, ◌-◌, ℕ, zero, suc, Bool, true, false, nat_lt, List, [], ◌∷◌, ◌++◌, Option, Some, None, length, take, drop, map, replicate, slice_index_or, if◌then◌else◌, refl, sym, ◌∙◌, ap, arith, append_assoc}
-use Rattle.std.proofs.lemmas.List.{append-nil, map-append, take_more, take-append-drop}
+use Rattle.std.proofs.lemmas.List.{append-nil, take_more, take-append-drop}
 use Rattle.std.proofs.lemmas.Bool.Decides.{nat_tests}
 use Rattle.ob_base.specs.declared.shown.Shown.{Shown}
 use Rattle.ob_row.specs.Rows.{Row}

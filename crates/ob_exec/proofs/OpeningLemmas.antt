@@ -39,7 +39,8 @@ use Rattle.ob_reopen.specs.Limits.{IsCatalogue, IsMarked}
 use Rattle.ob_reopen.specs.Closings.{KeepsRows, closing_region, open_script, read_script}
 use Rattle.ob_reopen.specs.Spelling.{catalogue_rows}
 use Rattle.ob_reopen.specs.Openings.{ClosingTampered, Follows, IsNumbered, IsOf, IsReopened, OpenCause, ReadsClosing, ReopensTables}
-use Rattle.ob_reopen.proofs.TableLemmas.{AreApart, is_of, table_is, tables_apart}
+use Rattle.ob_reopen.specs.Writings.{StandApart}
+use Rattle.ob_reopen.proofs.TableLemmas.{is_of, table_is, tables_apart}
 use Rattle.ob_exec.specs.declared.engine.Engine.{Engine}
 use Rattle.ob_exec.specs.Agreeing.{Agrees, world_of}
 use Rattle.ob_exec.specs.Engines.{AreSettings, AreTables, IsBeside, IsConfig, IsFree, IsTable}
@@ -159,7 +160,7 @@ module _ (closing : Closing) (listed : List Listed) (marked : IsMarked closing) 
   no_closing : IsOf listed closing.region → ⊥
   no_closing of = let within = (table_is closing listed catalogue of.place of.table of.is).region_most in let same = of.region in omega (arith, within, same)
 
-  apart : (i j : ℕ) (t u : Listed) → i < j → slice_get listed i ≡ Some t → slice_get listed j ≡ Some u → AreApart closing.pack t u
+  apart : (i j : ℕ) (t u : Listed) → i < j → slice_get listed i ≡ Some t → slice_get listed j ≡ Some u → StandApart closing.pack t u
   apart i j t u below is at = tables_apart closing listed catalogue i j t u below is at
 
   pub opened_tables : AreTables ts (Some closing.region) closing.pack w
@@ -174,12 +175,12 @@ module _ (closing : Closing) (listed : List Listed) (marked : IsMarked closing) 
         let a = mapped listed i t is in
         let b = mapped listed j u js in
         let regions : a.table.table.region ≡ b.table.table.region = ap (λ (x : Table). x.region) a.same ∙ same ∙ ap (λ (x : Table). x.region) (sym b.same) in
-        by_order i j (λ below. (apart i j a.table b.table below a.get b.get).region regions) (λ below. (apart j i b.table a.table below b.get a.get).region (sym regions));
+        by_order i j (λ below. (apart i j a.table b.table below a.get b.get).regions regions) (λ below. (apart j i b.table a.table below b.get a.get).regions (sym regions));
     names = λ i j t u is js same.
         let a = mapped listed i t is in
         let b = mapped listed j u js in
         let names : a.table.table.heading.name ≡ b.table.table.heading.name = ap (λ (x : Table). x.heading.name) a.same ∙ same ∙ ap (λ (x : Table). x.heading.name) (sym b.same) in
-        by_order i j (λ below. (apart i j a.table b.table below a.get b.get).name names) (λ below. (apart j i b.table a.table below b.get a.get).name (sym names));
+        by_order i j (λ below. (apart i j a.table b.table below a.get b.get).names names) (λ below. (apart j i b.table a.table below b.get a.get).names (sym names));
     beside = λ q is. let here : closing.region ≡ q = cc is in subst (λ (r : ℕ). IsBeside ts r w) here (record {
       shape = closing_region closing;
       lives = record { live = kept closing.region no_closing ∙ lives };

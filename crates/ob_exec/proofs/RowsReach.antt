@@ -18,7 +18,7 @@ use Rattle.ob_base.specs.Joins.{joined_slots}
 use Rattle.ob_base.specs.Limits.{buffered_blocks}
 use Rattle.ob_base.specs.Stored.{Stored, stored_at, stored_regions}
 use Rattle.ob_script.specs.Parts.{count_part, join_part}
-use Rattle.ob_script.specs.Script.{behind_count, blocks_of, extent_of, join_script, joined_extent, result_part, rows_width, select_part, table_script, with_table}
+use Rattle.ob_script.specs.Script.{behind_count, blocks_of, extent_of, join_script, joined_extent, result_part, rows_width, select_part, table_script}
 use Rattle.ob_store.specs.State.{Lie}
 use Rattle.ob_vault.specs.State.{World}
 use Rattle.ob_vault.specs.Tied.{Calm, IsUnfit}
@@ -33,7 +33,7 @@ use Rattle.ob_mean.specs.Replay.{count_end, held_if, walk_end}
 use Rattle.ob_mean.specs.Verdict.{ended as seen_to}
 use Rattle.ob_exec.specs.declared.selecting.Selected.{Selected}
 use Rattle.ob_exec.specs.declared.selecting.Selected.TheVariants.{Rows, Refused}
-use Rattle.ob_exec.specs.Selecting.{EndsAs, MayHold, Selection, answer_events, answer_of, emitted_unless, from, seen_of, selected_as, shown_rows}
+use Rattle.ob_exec.specs.Selecting.{EndsAs, MayHold, Selection, answer_events, answer_of, emitted_unless, selected_as, shown_rows}
 use Rattle.ob_exec.specs.Sources.{EndsRows, HoldsRows, SourceToEnd, SourceToHalt, closing, rows_script, rows_skeleton, selection, slots_of}
 use Rattle.ob_exec.specs.Memory.{HasCounted}
 use Rattle.ob_exec.proofs.RowsLawful.{seen_as, uncounted}

@@ -1,6 +1,6 @@
 -- What is told of a selection that its first plan ended.
 use Rattle.std.proofs.Common.{◌≡◌, ◌⊎◌, inl, inr, ◌≤◌, ◌+◌, ◌-◌, ℕ, Bool, IsTrue, List, [], ◌++◌, append_assoc, Option, None, Some, Result, Ok, Err, length, refl, sym, ◌∙◌, ap, subst, arith}
-use Rattle.std.specs.Prelude.{IsSome, IfErr, IfOk, OnErr, OnOk, MatchResult}
+use Rattle.std.specs.Prelude.{IsSome, IfErr, IfOk, MatchResult}
 use Rattle.std.specs.Option.{option_map}
 use Rattle.ob_base.specs.declared.config.Plan.{Plan}
 use Rattle.ob_base.specs.declared.config.Plan.TheVariants.{Small, Large, Continuous, Hash}
@@ -27,7 +27,7 @@ use Rattle.ob_flat.specs.Passes.{is_of_access}
 use Rattle.ob_exec.specs.declared.selecting.Selected.{Selected}
 use Rattle.ob_exec.specs.declared.selecting.Selected.TheVariants.{Rows, Refused}
 use Rattle.ob_exec.specs.Selecting.{Selection, HoldsSeen, counted_after, SelectsToEnd, SelectsToHalt, EmitsSelected, places, selected_as, emitted_unless, answer_of, answer_events, seen_of, selection_script}
-use Rattle.ob_exec.specs.Results.{Planned, planned, PlannedToEnd, PlannedToHalt, SelectsBy, left_out, whole_part, left_by, held_shown, held_events, head_of}
+use Rattle.ob_exec.specs.Results.{Planned, planned, SelectsBy, left_out, whole_part, left_by, held_shown, held_events, head_of}
 use Rattle.ob_exec.proofs.ResultReads.{emitted_from}
 use Rattle.ob_exec.specs.Engines.{AreSettings}
 use Rattle.ob_exec.proofs.ResultParts.{length_hash}

@@ -1,5 +1,5 @@
 //! An engine, and how its statements end.
-ghost use Rattle.std.specs.Prelude.{◌≡◌, ◌≤◌, List, [], None, IfOk, false};
+ghost use Rattle.std.specs.Prelude.{◌≡◌, ◌≤◌, [], None, IfOk, false};
 ghost use Rattle.ob_base.specs.declared.seen.End.TheVariants.{Static, Whole, Cut};
 ghost use Rattle.ob_store.specs.State.{StoreState};
 ghost use Rattle.ob_vault.specs.State.{from_nothing};

@@ -1,5 +1,5 @@
 //! An engine that goes on from what an earlier run closed.
-ghost use Rattle.std.specs.Prelude.{◌≡◌, ℕ, List, [], map, IfOk};
+ghost use Rattle.std.specs.Prelude.{◌≡◌, ℕ, [], map, IfOk};
 ghost use Rattle.ob_exec.specs.Reopening.{IsClosed, OpensEngine};
 ghost use Rattle.ob_exec.specs.Engines.{IsConfig};
 ghost use Rattle.ob_reopen.specs.declared.closing.Closing.{Closing as Named};

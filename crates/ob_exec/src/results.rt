@@ -1,5 +1,5 @@
 //! The result of a selection by one plan: made, read back and discarded.
-ghost use Rattle.std.specs.Prelude.{◌≡◌, ◌≤◌, ◌+◌, ◌^◌, ℕ, Some, length};
+ghost use Rattle.std.specs.Prelude.{◌≡◌, ◌≤◌, ◌+◌, ℕ, Some, length};
 ghost use Rattle.ob_base.specs.Plans.{MayPad};
 ghost use Rattle.ob_base.specs.Schemas.{width};
 ghost use Rattle.ob_blocks.specs.Idle.{IsIdle};

@@ -1,5 +1,5 @@
 //! Tables by their names.
-ghost use Rattle.std.specs.Prelude.{◌≡◌, ◌<◌, ◌≤◌, ◌+◌, ◌*◌, ℕ, true, List, length, Some, slice_get, slice_set, IfSome, IfNone, OnOk};
+ghost use Rattle.std.specs.Prelude.{◌≡◌, ◌<◌, ◌≤◌, ◌+◌, ◌*◌, ℕ, true, length, Some, slice_get, slice_set, IfSome, IfNone, OnOk};
 ghost use Rattle.std.specs.List.{remove};
 ghost use Rattle.ob_base.specs.declared.schema.Table.{Table as TableOf};
 ghost use Rattle.ob_base.specs.Numbers.{blocks_for};

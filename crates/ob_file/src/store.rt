@@ -1,5 +1,5 @@
 //! The store.
-ghost use Rattle.std.specs.Prelude.{◌≡◌, ◌≤◌, ℕ, [], None, refl, false, length, take};
+ghost use Rattle.std.specs.Prelude.{◌≡◌, ◌≤◌, [], None, refl, false, length, take};
 ghost use Rattle.std.specs.Ordering.{nat_cmp};
 ghost use Rattle.std.specs.BTreeMap.{get};
 ghost use Rattle.ob_store.specs.Logs.{asked_of};

@@ -1,4 +1,4 @@
-ghost use Rattle.std.specs.Prelude.{◌≡◌, ◌≤◌, ◌<◌, ◌+◌, ◌^◌, ℕ, OnOk, MatchResult, length};
+ghost use Rattle.std.specs.Prelude.{◌≤◌, ◌<◌, ◌+◌, ◌^◌, ℕ, OnOk, MatchResult, length};
 ghost use Rattle.ob_base.specs.Schemas.{Columns, width};
 ghost use Rattle.ob_vault.specs.Numbers.{spent};
 ghost use Rattle.ob_vault.specs.Places.{at};

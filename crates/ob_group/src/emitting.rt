@@ -1,4 +1,4 @@
-ghost use Rattle.std.specs.Prelude.{◌≡◌, ◌≤◌, ◌<◌, [], ◌∷◌, length};
+ghost use Rattle.std.specs.Prelude.{◌≡◌, ◌≤◌, ◌<◌, [], length};
 ghost use Rattle.ob_row.specs.Spelling.{kind_at};
 ghost use Rattle.ob_group.specs.Held.{IsGroup, HasGroups};
 ghost use Rattle.ob_group.specs.Labels.{header};

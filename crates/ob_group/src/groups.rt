@@ -1,5 +1,5 @@
 //! The rows that hold the running groups, one each.
-ghost use Rattle.std.specs.Prelude.{◌≡◌, ◌≤◌, ◌<◌, ◌+◌, ◌*◌, ℕ, true, false, List, Option, Some, length, take};
+ghost use Rattle.std.specs.Prelude.{◌≡◌, ◌≤◌, ◌<◌, ◌+◌, ◌*◌, ℕ, true, false, List, Some, length, take};
 ghost use Rattle.ob_base.specs.Schemas.{kind_width, width};
 ghost use Rattle.ob_vault.specs.Rows.{SameSizes, row_at};
 ghost use Rattle.ob_row.specs.declared.cell.Cell.{Cell as RowCell};

@@ -5,7 +5,6 @@ ghost use Rattle.ob_vault.specs.Rows.{SameSizes, Wide};
 ghost use Rattle.ob_flat.specs.Words.{HasSpare, IsTable, blocks_of};
 ghost use Rattle.ob_join.specs.Join.{Collects};
 
-use ob_base::Schema;
 use ob_flat::{Flat, OpErr, check_rows};
 use ob_room::ClearRow;
 use ob_row::Malformed;

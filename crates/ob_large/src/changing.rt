@@ -1,5 +1,4 @@
 ghost use Rattle.std.specs.Prelude.{◌≡◌};
-ghost use Rattle.ob_row.specs.Slots.{Slots};
 
 use ob_base::Schema;
 use ob_flat::{Change, Rework, change_rows, clear_row};

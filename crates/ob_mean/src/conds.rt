@@ -1,6 +1,5 @@
 //! The names and the comparisons of a condition.
-ghost use Rattle.std.specs.Prelude.{◌≡◌, ◌≤◌, ◌++◌, length, not, flat_map};
-ghost use Rattle.std.specs.List.{list_any};
+ghost use Rattle.std.specs.Prelude.{◌≡◌, ◌≤◌, ◌++◌, length, flat_map};
 ghost use Rattle.std.specs.Prelude.{Option};
 ghost use Rattle.ob_sql.specs.Search.{search_of};
 ghost use Rattle.ob_mean.specs.Kinds.{comparisons, where_comparisons, comparison_columns, mistype_comparisons, overflow_comparisons};

@@ -1,5 +1,5 @@
 //! The limits of a new table.
-ghost use Rattle.std.specs.Prelude.{◌≡◌, ◌≤◌, ◌+◌, ◌++◌, ℕ, List, [], length, map, sum_by, nat_lt, not, min, true, false};
+ghost use Rattle.std.specs.Prelude.{◌≡◌, ◌≤◌, ◌+◌, ◌++◌, ℕ, List, length, map, sum_by, nat_lt, not, min, true, false};
 ghost use Rattle.std.specs.List.{All, list_any};
 ghost use Rattle.ob_base.specs.Schemas.{width, kind_width, kind_of, new_column, columns_of};
 ghost use Rattle.ob_base.specs.declared.skeleton.NewColumn.{NewColumn};

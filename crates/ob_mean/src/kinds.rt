@@ -1,8 +1,8 @@
 //! The kinds of literals and of compared columns.
-ghost use Rattle.std.specs.Prelude.{◌≡◌, ◌≤◌, ◌++◌, length, not};
+ghost use Rattle.std.specs.Prelude.{◌≡◌, ◌≤◌, ◌++◌, length};
 ghost use Rattle.ob_base.specs.Schemas.{same_kind};
 ghost use Rattle.ob_base.specs.declared.schema.Kind.TheVariants.{Int as IntKind};
-ghost use Rattle.ob_mean.specs.Kinds.{is_of_kind, is_too_large, is_too_large_for, at_kind, against_kind, against_too_large, is_wrong_comparison};
+ghost use Rattle.ob_mean.specs.Kinds.{is_of_kind, is_too_large, is_too_large_for, at_kind, against_too_large, is_wrong_comparison};
 
 use crate::names::kind_meant;
 use ob_base::{Column, ColumnName, Kind};

@@ -1,8 +1,7 @@
 //! What has a name, and lists of such things.
-ghost use Rattle.std.specs.Prelude.{◌≡◌, ◌≤◌, ◌++◌, length, map, not, zip, bytes_eq};
+ghost use Rattle.std.specs.Prelude.{◌≡◌, ◌≤◌, ◌++◌, length, map, zip, bytes_eq};
 ghost use Rattle.std.specs.List.{list_any};
 ghost use Rattle.ob_base.specs.Lists.{has_repeats};
-ghost use Rattle.ob_base.specs.declared.skeleton.ColumnName.{ColumnName};
 ghost use Rattle.ob_sql.specs.declared.stmt.Literal.{Literal};
 ghost use Rattle.ob_mean.specs.Names.{unqualified};
 ghost use Rattle.ob_mean.specs.Kinds.{mistype_columns, overflow_columns};

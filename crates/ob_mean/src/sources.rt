@@ -1,11 +1,9 @@
 //! Where a SELECT takes its rows from.
-ghost use Rattle.std.specs.Prelude.{◌≡◌, ◌≤◌, ◌<◌, ◌+◌, ◌*◌, ◌++◌, ◌-◌, length, not, position, IfSome, IfNone};
+ghost use Rattle.std.specs.Prelude.{◌≡◌, ◌≤◌, ◌<◌, ◌+◌, ◌*◌, ◌++◌, ◌-◌, length, not, position};
 ghost use Rattle.std.specs.List.{list_any};
-ghost use Rattle.ob_base.specs.Schemas.{same_kind, key_place};
 ghost use Rattle.ob_base.specs.Stored.{has_table};
 ghost use Rattle.ob_base.specs.Joins.{joined_slots};
 ghost use Rattle.ob_base.specs.Stored.{headings_of};
-ghost use Rattle.ob_mean.specs.Kinds.{at_kind};
 ghost use Rattle.ob_mean.specs.Refusals.{source_tables, joins_itself, joins_kinds, joins_past, joins_past_at, joins_off_key_at, join_columns, is_key, left_place, right_place, is_across, lack_columns};
 ghost use Rattle.ob_mean.specs.Scopes.{left_of_source, right_of_source, joins_apart_in};
 

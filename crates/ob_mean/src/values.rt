@@ -1,5 +1,5 @@
 //! The cells that INSERT and UPDATE give.
-ghost use Rattle.std.specs.Prelude.{◌≡◌, ◌≤◌, ◌<◌, ◌++◌, Option, IfOk, IfSome, OnOk, length, map, flat_map, zip, find, bytes_eq, option_to_list};
+ghost use Rattle.std.specs.Prelude.{◌≡◌, ◌≤◌, ◌<◌, ◌++◌, Option, IfOk, IfSome, OnOk, length, map, flat_map, zip, option_to_list};
 ghost use Rattle.std.specs.List.{All};
 ghost use Rattle.ob_row.specs.Spelling.{IsCell};
 ghost use Rattle.ob_sql.specs.declared.stmt.Literal.{Literal};

@@ -1,6 +1,5 @@
 //! What others do to the blocks.
-ghost use Rattle.std.specs.Prelude.{◌≡◌, ◌≤◌, ◌==◌, ◌&&◌, ◌<◌, ℕ, length, take, nat_lt, if◌then◌else◌, IfSome, IfNone, false, true};
-ghost use Rattle.std.specs.Ordering.{nat_cmp};
+ghost use Rattle.std.specs.Prelude.{◌≡◌, ◌≤◌, ◌==◌, ◌<◌, ℕ, length, take, if◌then◌else◌, IfSome, IfNone, false, true};
 ghost use Rattle.std.specs.BTreeMap.{get};
 ghost use Rattle.ob_meddle.specs.Flips.{flipped};
 ghost use Rattle.ob_meddle.specs.Held.{can_flip, has_older, can_hold};

@@ -1,7 +1,7 @@
 //! Reads the changes that a text spells.
 ghost use Rattle.std.specs.Prelude.{◌≡◌, ◌≤◌, ◌<◌, ◌==◌, Some, None, Err, length, IfOk, OnOk, IfSome, IfNone};
 ghost use Rattle.std.specs.List.{position};
-ghost use Rattle.ob_meddle.specs.Changes.{front, rest, number_from, number, wide, narrow, narrow_rest, spot, spot_rest, flip, copy, act, act_rest, change, changes, Extends};
+ghost use Rattle.ob_meddle.specs.Changes.{front, rest, number_from, number, narrow, spot, flip, copy, act, change, changes, Extends};
 
 use crate::meddle::{Act, Meddle, Spot};
 use std::alloc::Global;

@@ -5,9 +5,7 @@ ghost use Rattle.std.specs.BTreeSet.{contains};
 ghost use Rattle.std.specs.Option.{ForSome};
 ghost use Rattle.ob_store.specs.Logs.{asked_of};
 ghost use Rattle.ob_meddle.specs.Acts.{rests_of, stands_of, after_acts};
-ghost use Rattle.ob_meddle.specs.Regions.{usable_shape, last_at};
 ghost use Rattle.ob_meddle.specs.Due.{disturbances, fails_at, failed_among, has_acted, is_discard, is_source};
-ghost use Rattle.ob_meddle.specs.Caught.{lie_of};
 ghost use Rattle.ob_meddle.specs.Fresh.{IsFresh, IsHonest, IsEarly, fresh_live, honest_start, keeps_live, keeps_within, none_failed_yet};
 
 use crate::acts::do_acts;

@@ -1,5 +1,4 @@
 -- What stands while a store makes room for more accesses.
-use Rattle.std.proofs.Common.{ℕ}
 use Rattle.ob_store.specs.State.{StoreState}
 use Rattle.ob_store.specs.Calls.{Rests}
 use Rattle.ob_vault.specs.declared.region.Order.{Order}

@@ -15,7 +15,7 @@ ghost use Rattle.ob_oram.specs.Opens.{IsOpen, OpensIndex, leaves_with};
 ghost use Rattle.ob_oram.specs.Ops.{FitsOp};
 ghost use Rattle.ob_oram.specs.Scripts.{script_length};
 ghost use Rattle.ob_oram.specs.Halves.{ReadsIndex, WritesIndex, leaf_blocks, stash_blocks};
-ghost use Rattle.ob_oram.specs.Accessing.{Accesses, LeftBy, leaf_read, remap_of};
+ghost use Rattle.ob_oram.specs.Accessing.{Accesses, LeftBy, remap_of};
 
 use crate::fault::OramErr;
 use crate::held::{Held, Remap};

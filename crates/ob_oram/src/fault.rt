@@ -1,4 +1,3 @@
-use ob_vault::VaultErr;
 use thiserror::Error;
 
 /// Why an access stopped: the store failed; a block was not what was last written to its place; or more rows are

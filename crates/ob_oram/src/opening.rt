@@ -1,5 +1,5 @@
 //! Rows as the buffer has them.
-ghost use Rattle.std.specs.Prelude.{◌≡◌, ◌<◌, ◌≤◌, ℕ, Option, Some, IfOk, MatchResult, length, replicate, slice_index_or};
+ghost use Rattle.std.specs.Prelude.{◌≡◌, ◌<◌, ◌≤◌, Option, Some, IfOk, MatchResult, length, replicate, slice_index_or};
 ghost use Rattle.ob_base.specs.Schemas.{width};
 ghost use Rattle.ob_row.specs.Rows.{Row};
 ghost use Rattle.ob_row.specs.Spelling.{Begins};

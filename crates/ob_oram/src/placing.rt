@@ -1,5 +1,5 @@
 //! The rows of a buffer put in their places.
-ghost use Rattle.std.specs.Prelude.{◌≡◌, ◌<◌, ◌≤◌, ◌+◌, ◌/◌, ℕ, Option, None, List, length, min, slice_index_or, IsSome, MatchOption};
+ghost use Rattle.std.specs.Prelude.{◌≡◌, ◌<◌, ◌≤◌, ◌+◌, ◌/◌, ℕ, Option, None, length, min, slice_index_or, IsSome, MatchOption};
 ghost use Rattle.ob_base.specs.Schemas.{Columns};
 ghost use Rattle.ob_row.specs.Rows.{Row};
 ghost use Rattle.ob_row.specs.Slots.{Slots};

@@ -1,5 +1,5 @@
 //! An operation on the rows that lie open.
-ghost use Rattle.std.specs.Prelude.{◌≡◌, ◌≢◌, ◌↔◌, ◌+◌, ◌<◌, ◌≤◌, ℕ, Option, Some, None, MatchOption, length, slice_index_or};
+ghost use Rattle.std.specs.Prelude.{◌≡◌, ◌≢◌, ◌↔◌, ◌<◌, ◌≤◌, ℕ, Option, Some, None, MatchOption, length, slice_index_or};
 ghost use Rattle.std.specs.List.{All};
 ghost use Rattle.ob_base.specs.Schemas.{width};
 ghost use Rattle.ob_vault.specs.Rows.{SameSizes, Wide};

@@ -1,5 +1,5 @@
 //! The blocks of an index, written from the rows of a buffer.
-ghost use Rattle.std.specs.Prelude.{◌≡◌, ◌<◌, ℕ, Option, length};
+ghost use Rattle.std.specs.Prelude.{◌≡◌, ◌<◌, Option, length};
 ghost use Rattle.ob_vault.specs.Places.{at};
 ghost use Rattle.ob_vault.specs.Words.{MayAsk};
 ghost use Rattle.ob_row.specs.Rows.{Row};

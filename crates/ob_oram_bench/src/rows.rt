@@ -1,5 +1,5 @@
 //! The rows of the indexes: a key, and a text that fills the width.
-ghost use Rattle.std.specs.Prelude.{◌≡◌, ◌≤◌, ◌+◌, ℕ, IfSome, length};
+ghost use Rattle.std.specs.Prelude.{◌≡◌, ◌≤◌, ◌+◌, ℕ, IfSome};
 ghost use Rattle.ob_base.specs.Schemas.{width};
 ghost use Rattle.ob_flat.specs.Flats.{IsSized};
 ghost use Rattle.ob_oram.specs.Keys.{IsIntKey};

@@ -1,5 +1,5 @@
 //! An index in a store, with the vault and the room for its accesses.
-ghost use Rattle.std.specs.Prelude.{◌≡◌, ◌≤◌, ◌<◌, ◌^◌, ℕ, length, OnOk, IfOk};
+ghost use Rattle.std.specs.Prelude.{◌≤◌, ◌<◌, ◌^◌, length, OnOk, IfOk};
 ghost use Rattle.ob_store.specs.Calls.{Rests};
 ghost use Rattle.ob_vault.specs.Words.{StartsAnew};
 ghost use Rattle.ob_vault.specs.Places.{at};
@@ -9,7 +9,7 @@ ghost use Rattle.ob_oram_bench.specs.Sessions.{IsSession};
 
 use crate::fault::Fault;
 use crate::rows::{schema_of, text_of};
-use ob_oram::{Got, Index, Op, OramErr, access, create};
+use ob_oram::{Got, Index, Op, access, create};
 use ob_room::Room;
 use ob_row::Cell;
 use ob_store::BlockStore;

@@ -1,7 +1,7 @@
 //! CREATE, INSERT, UPDATE, DELETE and DROP are read, behind their first words.
-ghost use Rattle.std.specs.Prelude.{◌≡◌, ◌≤◌, length, IfOk};
-ghost use Rattle.ob_parse.specs.Statements.{capped, integer_mark, integer_of, new_column, set_of};
-ghost use Rattle.ob_condition.specs.Reading.{Begun, Gives};
+ghost use Rattle.std.specs.Prelude.{◌≡◌};
+ghost use Rattle.ob_parse.specs.Statements.{capped, integer_mark, integer_of};
+ghost use Rattle.ob_condition.specs.Reading.{Gives};
 ghost use Rattle.ob_parse.specs.StatementReading.{assignment, constrains, constraint, constraints, create, definition, delete, drop_table, insert, kind, names, targets, update, varchar};
 ghost use Rattle.ob_condition.specs.Reading.{begins};
 ghost use Rattle.ob_grammar.specs.Reader.{token};

@@ -1,5 +1,5 @@
 //! Lists of parts, with commas between them.
-ghost use Rattle.std.specs.Prelude.{◌≡◌, ◌≤◌, length, IfOk};
+ghost use Rattle.std.specs.Prelude.{◌≤◌, length, IfOk};
 ghost use Rattle.ob_grammar.specs.Reader.{listed, token};
 ghost use Rattle.ob_token.specs.declared.token.Mark.TheVariants.{Comma};
 ghost use Rattle.ob_condition.specs.Marks.{key, name_of};

@@ -18,7 +18,6 @@ use ob_room::Room;
 use ob_row::Pred;
 use ob_store::BlockStore;
 use ob_vault::{BaseRevs, Revisions, Vault};
-use std::alloc::Global;
 use std::process::Abort;
 
 // The result, and the first slot whose row found no bucket.

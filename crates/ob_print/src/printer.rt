@@ -1,6 +1,6 @@
-ghost use Rattle.std.specs.Prelude.{◌≡◌, ℕ, ◌++◌, List, [], ◌∷◌, map, OnOk, OnErr, IsErr};
+ghost use Rattle.std.specs.Prelude.{◌≡◌, map, IsErr};
 ghost use Rattle.csv.specs.Writing.{row_text};
-ghost use Rattle.ob_base.specs.Events.{Event, Head, Row, Close, EmitCause};
+ghost use Rattle.ob_base.specs.Events.{EmitCause};
 ghost use Rattle.ob_print.specs.Rows.{Printed, PrintedCut, always};
 ghost use Rattle.ob_print.specs.Sent.{Sends};
 

@@ -1,5 +1,5 @@
 //! Copies of rows, and joined rows.
-ghost use Rattle.std.specs.Prelude.{◌≡◌, ◌++◌, List, IfOk, OnOk, filter, map};
+ghost use Rattle.std.specs.Prelude.{◌≡◌, ◌++◌, IfOk, OnOk, filter, map};
 ghost use Rattle.ob_row.specs.Rows.{agree_at, pairs};
 
 use crate::tables::Tuple;

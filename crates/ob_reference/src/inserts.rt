@@ -1,11 +1,10 @@
 //! INSERT.
-ghost use Rattle.std.specs.Prelude.{◌≡◌, [], ◌∷◌, ◌++◌, ℕ, IfOk, OnOk, OnErr, flat_map, position, zip};
+ghost use Rattle.std.specs.Prelude.{◌≡◌, [], ◌∷◌, ◌++◌, ℕ, IfOk, OnErr, position};
 ghost use Rattle.std.specs.List.{list_any};
 ghost use Rattle.ob_base.specs.Schemas.{key_place};
 ghost use Rattle.ob_row.specs.Rows.{agree_at, has_key};
 ghost use Rattle.ob_sql.specs.declared.stmt.Stmt.TheVariants.{Insert};
-ghost use Rattle.ob_mean.specs.Refusals.{insert_columns};
-ghost use Rattle.ob_mean.specs.Step.{given_cell, new_row, insert_refusal, late_refusal, followed, accepted_next};
+ghost use Rattle.ob_mean.specs.Step.{new_row, insert_refusal, late_refusal, followed, accepted_next};
 
 use crate::tables::{Database, Held, Tuple};
 use crate::truth::agree_at;

@@ -3,7 +3,7 @@ ghost use Rattle.std.specs.Prelude.{◌≡◌, ◌≤◌, ◌++◌, length, filt
 ghost use Rattle.ob_base.specs.Stored.{headings};
 ghost use Rattle.ob_base.specs.declared.skeleton.Source.TheVariants.{Join};
 ghost use Rattle.ob_row.specs.Truth.{is_true};
-ghost use Rattle.ob_mean.specs.Names.{where_at, source_columns};
+ghost use Rattle.ob_mean.specs.Names.{where_at};
 ghost use Rattle.ob_mean.specs.Scopes.{left_of_source, right_of_source};
 ghost use Rattle.ob_mean.specs.Step.{source_rows, selected_rows, totalled_rows};
 

@@ -1,5 +1,5 @@
 //! Whether the cells of a row make a condition true.
-ghost use Rattle.std.specs.Prelude.{◌≡◌, ◌≤◌, ◌++◌, Some, length, slice_get};
+ghost use Rattle.std.specs.Prelude.{◌≡◌, ◌≤◌, ◌++◌, Some, length};
 ghost use Rattle.ob_row.specs.Rows.{agree_at};
 ghost use Rattle.ob_row.specs.Truth.{compare, is_true, operand_of};
 ghost use Rattle.ob_sql.specs.Search.{search_of};

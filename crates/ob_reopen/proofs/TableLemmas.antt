@@ -25,8 +25,9 @@ use Rattle.ob_vault.proofs.Resumed.{unasked_append}
 use Rattle.ob_vault.proofs.Runs.{went_none, seals_none}
 use Rattle.ob_reopen.specs.declared.closing.Closing.{Closing}
 use Rattle.ob_reopen.specs.declared.listed.Listed.{Listed}
-use Rattle.ob_reopen.specs.Limits.{IsMarked, IsListed, IsCatalogue, blocks_of, end_of, are_apart}
+use Rattle.ob_reopen.specs.Limits.{IsMarked, IsListed, IsCatalogue, blocks_of, are_apart}
 use Rattle.ob_reopen.specs.Closings.{listed_region, open_table, open_script}
+use Rattle.ob_reopen.specs.Writings.{StandApart}
 use Rattle.ob_reopen.specs.Openings.{open_error, OpensAll, OpensPart, AwaitsTables, IsOf, IsReopened, ReopensTables}
 use Rattle.ob_reopen.proofs.Lists.{got_within, took_more}
 use Rattle.ob_reopen.proofs.OpenLemmas.{earlier_same}
@@ -60,19 +61,14 @@ open_parts pack [] us = refl
 open_parts pack (t ∷ ts) us = ap (λ (l : List Access). open_table pack t ++ l) (open_parts pack ts us) ∙ sym (append_assoc (open_table pack t) (open_script pack ts) (open_script pack us))
 
 -- ---- two tables of a catalogue
-pub record AreApart (pack : ℕ) (t u : Listed) : Type 0 where
-  pub name : t.table.heading.name ≢ u.table.heading.name
-  pub region : t.table.region ≢ u.table.region
-  pub numbers : (end_of pack t ≤ u.number) ⊎ (end_of pack u ≤ t.number)
-
-apart_is : (pack : ℕ) (t u : Listed) → are_apart pack t u ≡ true → AreApart pack t u
+apart_is : (pack : ℕ) (t u : Listed) → are_apart pack t u ≡ true → StandApart pack t u
 apart_is pack t u is =
     let both = and_parts _ _ is in
     let first = and_parts _ _ both.0 in
     let own : is_lt (slice_cmp nat_cmp t.table.heading.name t.table.heading.name) ≡ false = ap is_lt (tied_itself nat_list_cmp_total t.table.heading.name) in
     record {
-      name = λ same. false≢true (sym own ∙ ap (λ (n : List ℕ). is_lt (slice_cmp nat_cmp t.table.heading.name n)) same ∙ first.0);
-      region = λ same. false≢true (sym (not-true _ first.1) ∙ eq-eqb _ _ same);
+      names = λ same. false≢true (sym own ∙ ap (λ (n : List ℕ). is_lt (slice_cmp nat_cmp t.table.heading.name n)) same ∙ first.0);
+      regions = λ same. false≢true (sym (not-true _ first.1) ∙ eq-eqb _ _ same);
       numbers = elim (or_cases _ _ both.1) [
         | inl before ↦ inl (leb-true _ _ before)
         | inr behind ↦ inr (leb-true _ _ behind)
@@ -80,7 +76,7 @@ apart_is pack t u is =
     }
 
 module _ (closing : Closing) (listed : List Listed) (catalogue : IsCatalogue closing listed) where
-  pub tables_apart : (i j : ℕ) (t u : Listed) → i < j → slice_get listed i ≡ Some t → slice_get listed j ≡ Some u → AreApart closing.pack t u
+  pub tables_apart : (i j : ℕ) (t u : Listed) → i < j → slice_get listed i ≡ Some t → slice_get listed j ≡ Some u → StandApart closing.pack t u
   tables_apart i j t u below first second =
       apart_is closing.pack t u (passes_at (λ (v : Listed). are_apart closing.pack v u) (take j listed) i t (catalogue.are.each j u second).apart (got_taken listed i j below ∙ first))
 
@@ -91,7 +87,7 @@ module _ (closing : Closing) (listed : List Listed) (catalogue : IsCatalogue clo
   pub not_before : (i : ℕ) (t : Listed) → slice_get listed i ≡ Some t → IsOf (take i listed) t.table.region → ⊥
   not_before i t is of =
       let (below, at) = got_early listed i of.place of.table of.is in
-      (tables_apart of.place i of.table t below at is).region of.region
+      (tables_apart of.place i of.table t below at is).regions of.region
 
 -- ---- regions of tables
 pub is_of : (ts : List Listed) (q : ℕ) → IsOf ts q ⊎ (IsOf ts q → ⊥)
@@ -235,7 +231,7 @@ module _ {T : Type 0} (value : T) (closing : Closing) (listed : List Listed) (ca
 
   -- one before it has another region
   other : (j : ℕ) (u : Listed) → j < i → slice_get listed j ≡ Some u → u.table.region ≢ t.table.region
-  other j u below at = (tables_apart closing listed catalogue j i u t below at is).region
+  other j u below at = (tables_apart closing listed catalogue j i u t below at is).regions
 
   either : (j : ℕ) (u : Listed) → j < i + 1 → slice_get listed j ≡ Some u → (j < i) ⊎ (u ≡ t)
   either j u below at = elim (cases_lt j i) [

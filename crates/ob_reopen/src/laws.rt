@@ -1,5 +1,5 @@
 //! Laws of the list of an engine's tables.
-ghost use Rattle.std.specs.Prelude.{ℕ, List};
+ghost use Rattle.std.specs.Prelude.{List};
 ghost use Rattle.ob_base.specs.declared.schema.Table.{Table};
 ghost use Rattle.ob_vault.specs.State.{RevState};
 ghost use Rattle.ob_reopen.specs.declared.closing.Closing.{Closing};

@@ -1,6 +1,6 @@
 //! The bytes of a closing's rows.
-ghost use Rattle.std.specs.Prelude.{◌≡◌, ◌≤◌, ◌*◌, ◌++◌, ◌-◌, length, replicate, take};
-ghost use Rattle.ob_reopen.specs.Spelling.{name_text, kind_text, key_text, column_text, columns_text, table_text, head_text};
+ghost use Rattle.std.specs.Prelude.{◌≡◌, ◌≤◌, ◌*◌, ◌-◌, length};
+ghost use Rattle.ob_reopen.specs.Spelling.{name_text, kind_text, column_text, columns_text, table_text, head_text};
 
 use crate::listed::Listed;
 use ob_base::{Column, Kind, Name};

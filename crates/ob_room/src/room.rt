@@ -1,4 +1,4 @@
-ghost use Rattle.std.specs.Prelude.{◌≡◌, ◌↔◌, ℕ, List, [], ◌∷◌, ◌++◌, ◌+◌, ◌-◌, ◌≤◌, ◌<◌, max, length, IfOk, IfSome, IsNone, OnOk, MatchOption, replicate, slice_index_or};
+ghost use Rattle.std.specs.Prelude.{◌≡◌, [], ◌∷◌, ◌++◌, ◌+◌, ◌-◌, ◌≤◌, ◌<◌, max, length, IfOk, MatchOption, replicate, slice_index_or};
 ghost use Rattle.std.specs.Borrow.{sem};
 ghost use Rattle.ob_room.specs.RoomState.{RoomState, out, clear};
 

@@ -1,5 +1,5 @@
 //! Laws of the spelling of rows.
-ghost use Rattle.std.specs.Prelude.{◌≡◌, ◌≢◌, ◌++◌, ℕ, List, Option, Some, length};
+ghost use Rattle.std.specs.Prelude.{◌≡◌, ◌≢◌, ◌++◌, ℕ, List, Some, length};
 ghost use Rattle.ob_base.specs.Schemas.{Columns, width};
 ghost use Rattle.ob_row.specs.Rows.{Row};
 ghost use Rattle.ob_row.specs.Spelling.{Fits, Begins, row_bytes, dummy_bytes};

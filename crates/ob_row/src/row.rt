@@ -1,11 +1,10 @@
 //! The bytes of a row.
-ghost use Rattle.std.specs.Prelude.{◌≡◌, ◌≤◌, ◌<◌, ◌-◌, ◌++◌, ◌↔◌, List, ℕ, Option, Some, length, replicate, take, IfOk, IsOkAnd, IfSome, IsTrue, is_some, slice_get};
+ghost use Rattle.std.specs.Prelude.{◌≡◌, ◌≤◌, ◌<◌, ◌-◌, ◌++◌, ◌↔◌, Option, Some, length, replicate, IfOk, IsOkAnd, IsTrue, is_some, slice_get};
 ghost use Rattle.std.specs.Bool.{OnTrue, OnFalse};
 ghost use Rattle.ob_base.specs.Schemas.{width};
 ghost use Rattle.ob_row.specs.Rows.{Row};
 ghost use Rattle.ob_row.specs.Spelling.{Fits, Spells, Begins, cells_bytes, cells_width, row_bytes};
 ghost use Rattle.ob_row.specs.Cells.{HoldsCells};
-ghost use Rattle.ob_row.specs.Condition.{condition_of};
 ghost use Rattle.ob_row.specs.Truth.{is_true};
 ghost use Rattle.ob_row.specs.Slots.{is_selected};
 

@@ -1,5 +1,5 @@
 //! The buckets of a slot, which hang on its number alone.
-ghost use Rattle.std.specs.Prelude.{◌≡◌, ◌≤◌, ◌<◌, ◌^◌};
+ghost use Rattle.std.specs.Prelude.{◌≡◌, ◌≤◌, ◌<◌};
 ghost use Rattle.ob_base.specs.Numbers.{first_bucket, second_bucket};
 
 const MODULUS: u64 = 1 << 32;

@@ -1,5 +1,5 @@
 //! Laws of the scripts.
-ghost use Rattle.std.specs.Prelude.{◌≡◌, ◌≢◌, ◌<◌, ◌+◌, ◌*◌, ◌^◌, ℕ, List, length};
+ghost use Rattle.std.specs.Prelude.{◌≡◌, ◌≢◌, ◌<◌, ◌+◌, ◌*◌, ◌^◌, ℕ, length};
 ghost use Rattle.ob_base.specs.declared.config.Public.{Public};
 ghost use Rattle.ob_base.specs.declared.seen.Seen.{Seen};
 ghost use Rattle.ob_base.specs.declared.skeleton.Skeleton.{Skeleton};

@@ -1,5 +1,5 @@
 //! What stands at a place of the parts that go over a region block by block.
-ghost use Rattle.std.specs.Prelude.{◌≡◌, ◌≤◌, ◌<◌, ◌*◌, ◌/◌, ◌%◌, ◌^◌, ◌==◌, Some, length, slice_get, if◌then◌else◌};
+ghost use Rattle.std.specs.Prelude.{◌≡◌, ◌≤◌, ◌<◌, ◌*◌, ◌/◌, ◌%◌, ◌==◌, Some, length, slice_get, if◌then◌else◌};
 ghost use Rattle.std.specs.Int.{div_ceil};
 ghost use Rattle.ob_base.specs.Lists.{each};
 ghost use Rattle.ob_script.specs.Parts.{small_pass, continuous_block, bucket_part, hash_slot, hash_block, join_chunk};

@@ -1,5 +1,5 @@
 //! The accesses of a statement.
-ghost use Rattle.std.specs.Prelude.{◌≡◌, ◌≢◌, ◌≤◌, ◌<◌, ◌+◌, ◌*◌, ◌^◌, ◌-◌, ◌++◌, Option, Some, IfSome, [], length, slice_get, if◌then◌else◌};
+ghost use Rattle.std.specs.Prelude.{◌≡◌, ◌≢◌, ◌≤◌, ◌<◌, ◌+◌, ◌*◌, ◌^◌, ◌-◌, Option, Some, IfSome, [], length, slice_get, if◌then◌else◌};
 ghost use Rattle.std.specs.Option.{option_map_or};
 ghost use Rattle.ob_base.specs.Accesses.{discard_at};
 ghost use Rattle.ob_base.specs.Numbers.{blocks_for};
@@ -7,9 +7,9 @@ ghost use Rattle.ob_base.specs.Plans.{MayPad};
 ghost use Rattle.ob_base.specs.Joins.{chunks, joined_blocks, joined_slots};
 ghost use Rattle.ob_base.specs.Limits.{buffered_blocks};
 ghost use Rattle.ob_base.specs.Stored.{stored_region};
-ghost use Rattle.ob_script.specs.Parts.{count_part, create_part, insert_part, rewrite_part, small_part, large_part, emission_part, join_part};
+ghost use Rattle.ob_script.specs.Parts.{count_part, create_part, insert_part, rewrite_part, small_part, large_part, emission_part};
 ghost use Rattle.ob_script.specs.Sections.{all_accesses, Adds, IsFew};
-ghost use Rattle.ob_script.specs.Script.{script, whole_script, with_table, mutation_script, blocks_of, extent_of, source_script, join_script, joined_extent, select_part, behind_count, padded_part, result_part, plan_part, result_blocks, rows_width};
+ghost use Rattle.ob_script.specs.Script.{script, whole_script, with_table, mutation_script, blocks_of, extent_of, source_script, join_script, joined_extent, select_part, padded_part, result_part, plan_part, result_blocks};
 ghost use Rattle.ob_script.specs.Sizes.{HasRows, IsPublic, IsCounted, IsWithin, IsSourceCounted, IsTable};
 
 use crate::extent::{Extent, extent_of, new_width, table_at};

@@ -1,5 +1,5 @@
 //! The parts of which every script is joined.
-ghost use Rattle.std.specs.Prelude.{◌≡◌, ◌≤◌, ◌<◌, ◌^◌, true, Some, length, slice_get};
+ghost use Rattle.std.specs.Prelude.{◌≡◌, ◌<◌, ◌^◌, true, Some, length, slice_get};
 ghost use Rattle.ob_script.specs.Sections.{accesses_of, is_even, IsSized};
 
 use crate::place::{bucket_nth, copied, pair_nth, pass_nth, turn_nth};

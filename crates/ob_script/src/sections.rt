@@ -1,6 +1,6 @@
 //! A list of sections, which is a script.
-ghost use Rattle.std.specs.Prelude.{◌≡◌, ◌≤◌, ◌<◌, ◌+◌, All, [], ◌∷◌, ◌++◌, Some, length, slice_get};
-ghost use Rattle.ob_script.specs.Sections.{accesses_of, all_accesses, IsSized};
+ghost use Rattle.std.specs.Prelude.{◌≡◌, ◌<◌, ◌+◌, All, [], ◌∷◌, ◌++◌, Some, length, slice_get};
+ghost use Rattle.ob_script.specs.Sections.{all_accesses, IsSized};
 
 use crate::section::Section;
 use arrayvec::ArrayVec;

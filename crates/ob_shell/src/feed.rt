@@ -1,5 +1,5 @@
 //! Single bytes from a source, of which no more than a limit are taken.
-ghost use Rattle.std.specs.Prelude.{◌≡◌, ◌<◌, ◌≤◌, ℕ, List, [], length};
+ghost use Rattle.std.specs.Prelude.{◌≡◌, ◌<◌, ◌≤◌, [], length};
 ghost use Rattle.ob_shell.specs.Feeding.{Fed, FetchCause, IsFedBy, bytes_of};
 
 use ob_base::Failed;

@@ -1,5 +1,5 @@
 //! Runs whose tables are kept for the next one.
-ghost use Rattle.std.specs.Prelude.{◌≡◌, ◌≤◌, ◌<◌, ◌+◌, ◌^◌, ℕ, List, [], Err, IfErr, IfOk, Option, Some, false, map, string_bytes, true, ⊤};
+ghost use Rattle.std.specs.Prelude.{◌≡◌, ◌≤◌, ◌<◌, ◌+◌, ◌^◌, ℕ, List, [], Err, IfErr, IfOk, Some, false, map, string_bytes, true};
 ghost use Rattle.ob_base.specs.declared.config.Config.{Config};
 ghost use Rattle.ob_exec.specs.Agreeing.{count_of, high_of};
 ghost use Rattle.ob_gen.specs.Tally.{empty_tally};

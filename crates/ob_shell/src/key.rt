@@ -1,8 +1,8 @@
 //! The first line, which is the secret.
-ghost use Rattle.std.specs.Prelude.{◌≡◌, ◌<◌, ◌≤◌, ℕ, List, [], ◌++◌, Option, Some, None, Ok, Err, length};
-ghost use Rattle.ob_shell.specs.Feeding.{FetchCause, HaltCause, IsFedBy};
+ghost use Rattle.std.specs.Prelude.{◌≡◌, ◌<◌, ◌≤◌, Option, Some, None, Ok, Err};
+ghost use Rattle.ob_shell.specs.Feeding.{HaltCause, IsFedBy};
 ghost use Rattle.ob_shell.specs.KeyLine;
-ghost use Rattle.ob_shell.specs.KeyLine.{line_max, without_cr, secret_of, KeyRead};
+ghost use Rattle.ob_shell.specs.KeyLine.{without_cr, secret_of, KeyRead};
 
 use crate::feed::{Feed, Halt};
 use ob_io::Source;

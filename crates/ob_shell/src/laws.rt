@@ -4,7 +4,6 @@ ghost use Rattle.clap.specs.Words.{Text};
 ghost use Rattle.ob_base.specs.declared.config.Public.{Public};
 ghost use Rattle.ob_base.specs.declared.mark.Mark.{Mark};
 ghost use Rattle.ob_base.specs.declared.seen.Seen.{Seen};
-ghost use Rattle.ob_exec.specs.Running.{refusal_now};
 ghost use Rattle.ob_mean.specs.Lawful.{Lawful};
 ghost use Rattle.ob_reopen.specs.Keepers.{KeeperState};
 ghost use Rattle.ob_shell.specs.Bases.{public_with};

@@ -1,5 +1,5 @@
 //! The top calls.
-ghost use Rattle.std.specs.Prelude.{◌≡◌, ◌≢◌, ◌≤◌, ℕ, List, [], map, Ok, Err, Some, None, true, false, ⊤};
+ghost use Rattle.std.specs.Prelude.{◌≡◌, ◌≢◌, ◌≤◌, [], map, Ok, Err, Some, None, true, false, ⊤};
 ghost use Rattle.std.specs.Prelude.{IfOk, MatchOption, string_bytes};
 ghost use Rattle.ob_shell.specs.Usage.{usage, meddle_usage, is_traced};
 ghost use Rattle.ob_shell.specs.Settings.{AreWithin, IsTaken, settings_of};
@@ -9,7 +9,6 @@ ghost use Rattle.ob_shell.specs.Meddling.{Unserved};
 ghost use Rattle.ob_shell.specs.Generating.{MeddleRan, Summarized, asked_for};
 ghost use Rattle.ob_shell.specs.declared.words.Seed.{Seed};
 ghost use Rattle.ob_shell.specs.Feeding.{IsFedBy};
-ghost use Rattle.ob_shell.specs.KeyLine.{secret_of};
 ghost use Rattle.ob_shell.specs.Running.{IsQuiet, Silenced, StopCause, is_quiet, stop_of};
 ghost use Rattle.ob_meddle.specs.Shows.{state_of};
 ghost use Rattle.ob_gen.specs.Tally.{empty_tally};

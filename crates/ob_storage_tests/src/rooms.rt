@@ -1,5 +1,5 @@
-ghost use Rattle.std.specs.Prelude.{◌≡◌, ◌<◌, ◌≤◌, ◌+◌, ℕ, [], length, slice_set, slice_index_or, replicate, max};
-ghost use Rattle.ob_room.specs.RoomState.{RoomState, out, clear};
+ghost use Rattle.std.specs.Prelude.{◌≡◌, ◌<◌, ◌≤◌, [], length, slice_set, slice_index_or, replicate, max};
+ghost use Rattle.ob_room.specs.RoomState.{out, clear};
 ghost use Rattle.ob_room.specs.LendingRow.{with_shelved};
 
 use ob_room::Room;

@@ -1,5 +1,5 @@
 ghost use Rattle.std.specs.Prelude.{◌≡◌, ◌+◌, ◌-◌, ◌<◌, ◌≤◌, ◌^◌, ◌==◌, ◌++◌, ◌∷◌, [], length, slice_get, slice_range, OnOk, vec_len, vec_capacity};
-ghost use Rattle.ob_store.specs.Logs.{Run, LogState, asked_of, added, raised, entry, is_block, is_raised, is_next, is_turn, comes_round, joins};
+ghost use Rattle.ob_store.specs.Logs.{LogState, asked_of, added, raised, entry, is_block, is_raised, is_next, is_turn, comes_round, joins};
 ghost use Rattle.ob_store.specs.Kept.{runs_of, place_of, IsLog, start_of};
 
 use ob_base::{Access, NoMemory};

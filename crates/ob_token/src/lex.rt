@@ -1,5 +1,5 @@
 //! A text is cut into tokens.
-ghost use Rattle.std.specs.Prelude.{◌≡◌, ◌+◌, ◌≤◌, ◌<◌, ◌==◌, ◌++◌, true, [], ◌∷◌, length, map, drop, if◌then◌else◌, vec_capacity, IfOk, IfSome, IsOk, MatchOption};
+ghost use Rattle.std.specs.Prelude.{◌≡◌, ◌+◌, ◌≤◌, ◌<◌, ◌==◌, true, [], ◌∷◌, length, map, drop, if◌then◌else◌, vec_capacity, IfOk, IfSome, IsOk, MatchOption};
 ghost use Rattle.ob_token.specs.Bytes.{all_digits, comment_len, is_blank, is_digit, is_letter, is_printable, is_run, lower, magnitude, quoted_len, run};
 ghost use Rattle.ob_token.specs.Words.{keyword, statement_word, clause_word, column_word, aggregate_word, lone_sign, pair_sign};
 ghost use Rattle.ob_token.specs.Lexemes.{first_byte, gap, piece, run_lexeme, sign_piece, some_piece, word_lexeme};

@@ -4,14 +4,14 @@
 ghost use Rattle.std.specs.Prelude.{◌≡◌, ◌≢◌, ◌<◌, ◌≤◌, ℕ, ◌+◌, ◌*◌, ◌-◌, ◌/◌, ◌^◌, ◌==◌, Option, Some, None, List, [], ◌∷◌, ◌++◌, suc, Bool, true, false, replicate, length, map, take, drop, slice_index_or};
 ghost use Rattle.std.specs.List.{All, AllPairs};
 ghost use Rattle.ob_row.specs.Bags.{Same};
-ghost use Rattle.ob_tree.specs.Paths.{above, path, path_up, is_on_path};
-ghost use Rattle.ob_tree.specs.Rows.{firsts, but_firsts, by_key, rows, slots_of, Single};
+ghost use Rattle.ob_tree.specs.Paths.{above, path_up, is_on_path};
+ghost use Rattle.ob_tree.specs.Rows.{firsts, but_firsts, by_key, slots_of, Single};
 ghost use Rattle.ob_tree.specs.States.{State, Represents, Stands, map_of, held, leaf_of, bucket};
 ghost use Rattle.ob_tree.specs.Access.{Op, Done, Found, Duplicate, OutOfRange, Went, Evicted, key_of, applied, access, evict, evicted, leaf_read, take_path, fits_by};
 ghost use Rattle.ob_tree.specs.Runs.{run, created, map_after, map_answer, KeepsKey, AllKeep, RunsAsMap, ReadsDraws, leaf_at, draws_read, last_given, insert_from, small_ops};
 ghost use Rattle.ob_tree.specs.Slotwise.{laid, slot_tests, laid_slots, left_behind};
 ghost use Rattle.ob_tree.specs.Places.{tests, InPlace};
-ghost use Rattle.ob_tree.specs.Scripts.{numbers, path_places, read_script, access_script};
+ghost use Rattle.ob_tree.specs.Scripts.{numbers, read_script, access_script};
 
 /// A row and its key.
 pub trait Keyed {

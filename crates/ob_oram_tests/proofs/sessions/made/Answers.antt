@@ -1,4 +1,4 @@
-use Rattle.std.proofs.Common.{◌≤◌, ℕ, arith}
+use Rattle.std.proofs.Common.{◌≤◌, arith}
 use Rattle.ob_oram.proofs.Heights.{blocks_few}
 use Rattle.ob_oram_tests.proofs.Rested.{starts_rests}
 use Rattle.ob_oram_tests.proofs.sessions.made.Goals as goal
