@@ -6,15 +6,18 @@ use Rattle.std.specs.Result.{is_err}
 use Rattle.ob_base.specs.Accesses.{read_at}
 use Rattle.ob_base.specs.Counts.{Rises}
 use Rattle.ob_base.specs.Lists.{each}
+use Rattle.ob_base.specs.Stored.{headings_of}
 use Rattle.ob_base.specs.declared.access.Access.{Access}
 use Rattle.ob_base.specs.declared.config.Config.{Config}
-use Rattle.ob_exec.specs.Agreeing.{Agrees, count_of, engine_keys, engine_start, has_ended, high_of, opened_from, public_of, rows_of}
+use Rattle.ob_base.specs.declared.config.Public.{Public}
+use Rattle.ob_exec.specs.Agreeing.{Agrees, count_of, engine_keys, engine_start, has_ended, high_of, opened_from, public_of, rows_of, world_of}
 use Rattle.ob_base.specs.declared.mark.Mark.{Mark}
 use Rattle.ob_base.specs.declared.refusal.Stop.{Stop}
 use Rattle.ob_exec.specs.Closing.{ClosesEngine, closing_script, is_used_up, next_closing}
 use Rattle.ob_exec.specs.Reopening.{IsOpened, NotOpened, OpensEngine, opened_start, opening_script}
 use Rattle.ob_exec.specs.Resting.{Rests}
 use Rattle.ob_exec.specs.declared.engine.Engine.{Engine}
+use Rattle.ob_exec.proofs.HeldLemmas.{held_headings}
 use Rattle.ob_gen.specs.declared.tally.Tally.{Tally}
 use Rattle.ob_io.specs.Causes.{HasCause}
 use Rattle.ob_print.specs.Cuts.{Cut}
@@ -148,6 +151,10 @@ module _ {R : Type 0} (state : R → RevState) (config : Config) (key : List ℕ
     catalogue = is.catalogue;
     is = refl;
     did = is.did;
+    tells = opens.tells;
+    told = λ tells honest tables rests.
+        let holds = opens.told tells honest tables (subst (λ (k : KeySet). Rests k closing s.kept tables) (sym same) rests) in
+        held_headings (public_of e).pack (public_of e).tables tables (world_of state e t) holds.held ∙ ap (λ (p : Public). headings_of p.tables) is.public;
     fits = λ lie told.
         let fits = is.calm.calm lie told in
         subst (λ (x : Start). Fits (keys_of key) x lie) is.start (subst (λ (k : KeySet). Fits k (engine_start e) lie) keyed fits);

@@ -10,6 +10,10 @@ pub mod KeptGenLemmas
 pub mod KeptLemmas
 pub mod KeyLemmas
 pub mod MarkLemmas
+pub mod InStep
+pub mod AlikeSessions
+pub mod AsOne
+pub mod Numbered
 pub mod RunLemmas
 pub mod ServeLemmas
 pub mod SessionLemmas

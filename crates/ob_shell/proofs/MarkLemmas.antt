@@ -93,7 +93,7 @@ behind_held (Ran (Ok refused)) base keys tracing spelt answers seen all part beg
     subst (λ (c : Closing). HeldBehind ending c k1.held) behind.tables.is (closed_held behind.tables.closing _ closes.result refused ending _ _ _ _ k0 k1 used closes.writes closes.ends)
 
 -- ---- the run
-held_after : {settings : Option Config} {Takes : Type 0} {tracing : Bool} {old new : Outside} {k0 k1 : KeeperState} {ending : KeptEnding} {answers : List Answer} {report : Report}
+pub held_after : {settings : Option Config} {Takes : Type 0} {tracing : Bool} {old new : Outside} {k0 k1 : KeeperState} {ending : KeptEnding} {answers : List Answer} {report : Report}
     (run : Unkeyed settings Takes tracing old new k0 k1 ending answers report ⊎ (Unbegun settings Takes tracing old new k0 k1 ending answers report ⊎ SessionKept settings Takes tracing old new k0 k1 ending answers report))
     (held : Mark) → k0.held ≡ Some held → HeldAfter run held
 held_after (inl run) held is = ap (λ (k : KeeperState). k.held) run.kept ∙ is

@@ -20,11 +20,12 @@ use Rattle.ob_mean.specs.Lawful.{EndsUncounted, Holds, IsCount, Lawful, is_count
 use Rattle.ob_mean.specs.Replay.{Spelt}
 use Rattle.ob_script.specs.Script.{script}
 use Rattle.ob_script.specs.Trace.{Served as Entry, next, trace}
-use Rattle.ob_shell.specs.Bases.{Base, fresh, public_with}
+use Rattle.ob_shell.specs.Bases.{Base, public_with}
 use Rattle.ob_shell.specs.Endings.{status_of}
 use Rattle.ob_shell.specs.Failures.{failures, outcome_failures}
+use Rattle.ob_shell.specs.Headline.{Headline}
 use Rattle.ob_shell.specs.Reruns.{Alike, EndsWell, IsPlain, ShellRun, ShowAlike, any_counted, plainly, seen_plainly, statements}
-use Rattle.ob_shell.specs.Settings.{IsTaken, limit_of, settings_of}
+use Rattle.ob_shell.specs.Settings.{limit_of, settings_of}
 use Rattle.ob_shell.specs.Usage.{usage}
 use Rattle.ob_shell.specs.Words.{Answer, AreSeen, Because, Outside, SpellFirst, is_cut}
 use Rattle.ob_shell.specs.declared.top.Ending.{Ending}
@@ -180,16 +181,16 @@ no_more base status (Ran (Err Stops.SinkFault)) Takes max taken at_end more answ
 no_more base status (Ran (Err Stops.NoMemory)) Takes max taken at_end more answers part old new is few why = absurd (omega (arith, is, few))
 no_more base status (Ran (Err Stops.InputLimit)) Takes max taken at_end more answers part old new is few why = absurd (omega (arith, is, few))
 
-module _ (words : List Text) (old new : Outside) (report : Report) (a : ShellRun words old new report) (well : EndsWell report.status (failures a.answers)) where
-  answered_all : length a.answers ≡ length a.spelt
-  answered_all =
-      let none : a.more ≡ [] = no_more (fresh (settings_of usage words)) report.status a.ending (IsTaken usage words) (limit_of (settings_of usage words)) a.taken a.ended a.more a.answers a.part old new a.status well.ended a.because in
-      let few : length a.spelt ≤ length a.served =
-      subst (λ (ts : List (List ℕ)). length a.spelt ≤ length ts) (ap (λ (ts : List (List ℕ)). a.served ++ ts) none ∙ append-nil a.served) (spell_few (a.served ++ a.more) a.spelt a.spells) in
-      omega (arith, few, a.reached, a.each)
+pub answered_all : {base : Base} {Takes : Type 0} {tracing : Bool} {old new : Outside} {report : Report} (a : Headline base Takes tracing old new report) → report.status ≤ 1 → length a.answers ≡ length a.spelt
+answered_all {base} {Takes} {old = old} {new = new} {report = report} a few =
+    let none : a.more ≡ [] = no_more base report.status a.ending Takes (limit_of base.settings) a.taken a.ended a.more a.answers a.part old new a.status few a.because in
+    let most : length a.spelt ≤ length a.served =
+    subst (λ (ts : List (List ℕ)). length a.spelt ≤ length ts) (ap (λ (ts : List (List ℕ)). a.served ++ ts) none ∙ append-nil a.served) (spell_few (a.served ++ a.more) a.spelt a.spells) in
+    omega (arith, most, a.reached, a.each)
 
+module _ (words : List Text) (old new : Outside) (report : Report) (a : ShellRun words old new report) (well : EndsWell report.status (failures a.answers)) where
   run_uncut : AreUncut (public_with (settings_of usage words)) 0 (statements a.spelt) (a.seen ++ a.last)
-  run_uncut = all_uncut a.ending a.spelt a.answers (public_with (settings_of usage words)) 0 (a.seen ++ a.last) a.lawful answered_all well.none
+  run_uncut = all_uncut a.ending a.spelt a.answers (public_with (settings_of usage words)) 0 (a.seen ++ a.last) a.lawful (answered_all a well.ended) well.none
 
 -- none is a SELECT of rows, or results are padded
 abbrev ArePlain : Public → List Stmt → Type 0

@@ -3,6 +3,7 @@ use Rattle.std.specs.Prelude.{ℕ, ◌≡◌, ◌⊎◌, ◌==◌, ◌+◌, ◌�
 use Rattle.std.specs.Io.KnownBytes.{Appends}
 use Rattle.ob_base.specs.Accesses.{writes}
 use Rattle.ob_base.specs.Counts.{Rises}
+use Rattle.ob_base.specs.Stored.{headings, headings_of}
 use Rattle.ob_base.specs.declared.access.Access.{Access}
 use Rattle.ob_base.specs.declared.config.Config.{Config}
 use Rattle.ob_base.specs.declared.config.Public.{Public}
@@ -88,7 +89,11 @@ pub record OpensClosing (closing : Closing) (config : Config) (keys : KeySet) (b
     new = new;
   })
   pub did : Did (opening_script closing listed) old new
+  pub tells : new.tells ≡ old.tells
   pub fits : (lie : Lie) → new.lie ≡ Some lie → Fits keys (opened_start closing listed) lie
+  -- those that rested there are listed
+  pub told : IsTrue old.tells → new.lie ≡ None → (tables : Tables)
+      → Rests keys closing old.kept tables → headings tables ≡ headings_of base.public.tables
 
 -- they weren't; a store that told the truth, and in which tables rested as the mark says, is not taken for a changed one
 pub record NotReopened (closing : Closing) (keys : KeySet) (ending : KeptEnding)

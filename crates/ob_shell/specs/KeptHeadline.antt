@@ -171,12 +171,18 @@ pub record SessionKept (settings : Option Config) (Takes : Type 0) (tracing : Bo
       session.answers session.seen (session.seen ++ session.last) session.part
       (begun_at old opened traced) served new run report in_use keeper1 ending
 
+-- one of the three
+abbrev pub RunKept : Option Config → (Takes : Type 0) → (tracing : Bool) → (old new : Outside)
+    → (keeper0 keeper1 : KeeperState) → KeptEnding → List Answer → Report → Type 0
+RunKept settings Takes tracing old new keeper0 keeper1 ending answers report =
+    Unkeyed settings Takes tracing old new keeper0 keeper1 ending answers report
+    ⊎ (Unbegun settings Takes tracing old new keeper0 keeper1 ending answers report
+    ⊎ SessionKept settings Takes tracing old new keeper0 keeper1 ending answers report)
+
 -- of words that the program takes, or doesn't, and of the settings that they spell
 pub record KeptHeadline (settings : Option Config) (Takes : Type 0) (tracing : Bool)
     (old new : Outside) (keeper0 keeper1 : KeeperState) (report : Report) : Type 0 where
   pub ending : KeptEnding
   pub status : report.status ≡ kept_status ending
   pub answers : List Answer
-  pub ran : Unkeyed settings Takes tracing old new keeper0 keeper1 ending answers report
-      ⊎ (Unbegun settings Takes tracing old new keeper0 keeper1 ending answers report
-      ⊎ SessionKept settings Takes tracing old new keeper0 keeper1 ending answers report)
+  pub ran : RunKept settings Takes tracing old new keeper0 keeper1 ending answers report

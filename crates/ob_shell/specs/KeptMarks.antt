@@ -12,7 +12,7 @@ use Rattle.ob_reopen.specs.Keepers.{KeeperState}
 use Rattle.ob_reopen.specs.declared.closing.Closing.{Closing}
 use Rattle.ob_script.specs.Trace.{after_all as all_public}
 use Rattle.ob_shell.specs.Keeping.{closing_behind}
-use Rattle.ob_shell.specs.KeptHeadline.{KeptHeadline, SessionKept, Unbegun, Unkeyed}
+use Rattle.ob_shell.specs.KeptHeadline.{KeptHeadline, RunKept}
 use Rattle.ob_shell.specs.Settings.{IsTaken, settings_of}
 use Rattle.ob_shell.specs.Usage.{is_traced, kept_usage}
 use Rattle.ob_shell.specs.Words.{Answer, Outside}
@@ -44,9 +44,7 @@ pub record HeldBehind (ending : KeptEnding) (closing : Closing) (held : Option M
 abbrev pub HeldAfter : {settings : Option Config} {Takes : Type 0} {tracing : Bool}
     {old new : Outside} {keeper0 keeper1 : KeeperState} {ending : KeptEnding}
     {answers : List Answer} {report : Report}
-    → Unkeyed settings Takes tracing old new keeper0 keeper1 ending answers report
-    ⊎ (Unbegun settings Takes tracing old new keeper0 keeper1 ending answers report
-    ⊎ SessionKept settings Takes tracing old new keeper0 keeper1 ending answers report)
+    → RunKept settings Takes tracing old new keeper0 keeper1 ending answers report
     → (held : Mark) → Type 0
 HeldAfter {keeper1 = keeper1} (inl run) held = keeper1.held ≡ Some held
 HeldAfter {keeper1 = keeper1} {ending = ending} (inr (inl run)) held =

@@ -6,6 +6,7 @@ pub mod Engaging
 pub mod Keeping
 pub mod KeptHeadline
 pub mod KeptMarks
+pub mod KeptRuns
 pub mod KeptSummary
 pub mod KeyLine
 pub mod Pushed

@@ -1,14 +1,16 @@
 //! What follows of whole runs, and how bytes are cut into texts.
-ghost use Rattle.std.specs.Prelude.{◌≡◌, ◌++◌, List, [], ℕ, IsSome, Some, false};
+ghost use Rattle.std.specs.Prelude.{◌≡◌, ◌++◌, List, [], ℕ, IsSome, Option, Some, false};
 ghost use Rattle.clap.specs.Words.{Text};
 ghost use Rattle.ob_base.specs.declared.config.Public.{Public};
 ghost use Rattle.ob_base.specs.declared.mark.Mark.{Mark};
+ghost use Rattle.ob_base.specs.declared.mark.Mark.TheVariants.{Fresh};
 ghost use Rattle.ob_base.specs.declared.seen.Seen.{Seen};
 ghost use Rattle.ob_mean.specs.Lawful.{Lawful};
 ghost use Rattle.ob_reopen.specs.Keepers.{KeeperState};
 ghost use Rattle.ob_shell.specs.Bases.{public_with};
 ghost use Rattle.ob_shell.specs.Failures.{failures};
 ghost use Rattle.ob_shell.specs.KeptMarks.{HeldAfter, KeptRun};
+ghost use Rattle.ob_shell.specs.KeptRuns.{AnswerAsOne, AreChained, GoOn, NumberOn, OneRun};
 ghost use Rattle.ob_shell.specs.Pieces.{BeginsWith};
 ghost use Rattle.ob_shell.specs.Reruns.{Alike, EndsWell, IsPlain, ShellRun, ShowAlike};
 ghost use Rattle.ob_shell.specs.Reruns.{any_counted, plainly, statements};
@@ -18,6 +20,7 @@ ghost use Rattle.ob_shell.specs.Usage.{usage};
 ghost use Rattle.ob_shell.specs.Words.{Outside, is_cut};
 ghost use Rattle.ob_shell.specs.declared.top.Report.{Report};
 ghost use Rattle.ob_sql.specs.declared.stmt.Stmt.{Stmt};
+ghost use Rattle.ob_store.specs.State.{KeptRegion};
 ghost use Rattle.ob_token.specs.Cutting.{cut};
 
 /// The texts that a session cuts, a byte at a time, are the pieces that `split` finds in its bytes, one after the
@@ -87,4 +90,20 @@ pub fn marks_are_held()
     ensures { (words : List Text) (old new : Outside) (keeper0 keeper1 : KeeperState)
         (report : Report) (run : KeptRun words old new keeper0 keeper1 report)
         (held : Mark) → keeper0.held ≡ Some held → HeldAfter run.ran held }
+{}
+
+/// Runs with one secret and the same words, `--keep` among them, that came to their end, the first over a fresh mark and
+/// each later one over the mark and the store that the one before it left, where that tells, gave what was written and
+/// failed at no statement: together they answer as one run does over all their texts. Only that so many accesses were
+/// asked that a statement is refused for it may come at another place.
+pub fn runs_answer_as_one()
+    ensures { (words : List Text) (secret : List ℕ) (kept : ℕ → Option KeptRegion)
+        (runs : List (OneRun words)) → GoOn secret (Some Fresh) kept runs → AnswerAsOne runs }
+{}
+
+/// No write of a run has the number of a write of an earlier one: over all runs of one keeper that tells, the first over a
+/// fresh mark, whatever became of them and whatever their stores did, the numbers go on.
+pub fn numbers_go_on()
+    ensures { (words : List Text) (runs : List (OneRun words)) → AreChained (Some Fresh) runs
+        → NumberOn 0 runs }
 {}
