@@ -30,7 +30,6 @@ use Rattle.ob_shell.specs.Failures.{failures, outcome_failures}
 use Rattle.ob_shell.specs.Words.{Answer, Answers, AnswersAs, AnswersIn, AreSeen}
 use Rattle.ob_shell.specs.declared.top.Ending.{Ending}
 use Rattle.ob_shell.proofs.InStep.{InStep, keeps_step}
-use Rattle.ob_sql.specs.Skeleton.{skeleton}
 use Rattle.ob_sql.specs.declared.stmt.SelectRows.{SelectRows}
 use Rattle.ob_sql.specs.declared.stmt.Stmt.{Stmt}
 use Rattle.ob_sql.specs.declared.stmt.Stmt.TheVariants.{Create, Insert, Update, Delete, Drop as DropTable, SelectRows as RowsStmt, SelectTotals as TotalsStmt}

@@ -262,7 +262,7 @@ all_as_one words secret f (one ∷ runs) held kept t goes waits few =
     let run = found.0 in
     let keyed : run.secret ≡ secret = cc (subst (λ (r : RunKept (settings_of kept_usage words) (IsTaken kept_usage words) (is_traced kept_usage words) one.old one.new one.keeper0 one.keeper1 one.run.ending one.run.answers one.report). secret_in r ≡ Some secret) found.1 good.keyed) in
     let soon = subst (λ (r : RunKept (settings_of kept_usage words) (IsTaken kept_usage words) (is_traced kept_usage words) one.old one.new one.keeper0 one.keeper1 one.run.ending one.run.answers one.report). count_in r < 2 ^ 63) found.1 good.early in
-    let here = subst (λ (k : ℕ → Option KeptRegion). Waits words secret held k t) (sym goes.1) waits in
+    let here = subst (λ (k : ℕ → Option KeptRegion). Waits words secret held k t) (sym (λ i q. goes.1 q i)) waits in
     subst (λ (r : RunKept (settings_of kept_usage words) (IsTaken kept_usage words) (is_traced kept_usage words) one.old one.new one.keeper0 one.keeper1 one.run.ending one.run.answers one.report).
     Answers f t (spelt_in r ++ all_spelt runs) [] (one.run.answers ++ all_answers runs) (seen_in r ++ all_seen runs) []) (sym found.1)
     (one_of_all words secret f one run found.1 ended.0 ended.1 keyed good.well.none good.tells good.honest soon held goes.0 t here (all_spelt runs) (all_answers runs) (all_seen runs)

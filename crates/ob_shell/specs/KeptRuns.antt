@@ -83,8 +83,8 @@ abbrev pub GoOn : {words : List Text} → (secret : List ℕ) → (held : Option
     → (kept : ℕ → Option KeptRegion) → List (OneRun words) → Type 0
 GoOn secret held kept [] = ⊤
 GoOn secret held kept (one ∷ runs) =
-    (one.keeper0.held ≡ held) × (one.old.store.kept ≡ kept) × GoesWell secret one
-    × GoOn secret one.keeper1.held one.new.store.kept runs
+    (one.keeper0.held ≡ held) × ((q : ℕ) → one.old.store.kept q ≡ kept q)
+    × GoesWell secret one × GoOn secret one.keeper1.held one.new.store.kept runs
 
 -- what all texts spell, how they were answered, and what is seen of them
 abbrev pub all_spelt : {words : List Text} → List (OneRun words) → List Spelt
