@@ -1,7 +1,6 @@
 -- The numbers of writes go on over all runs of one keeper.
 use Rattle.std.proofs.Common.{◌≡◌, ◌≤◌, ◌+◌, ◌++◌, ℕ, zero, suc, Bool, true, false, List, [], ◌∷◌, Option, Some, None, Result, Ok, Err, inl, inr, refl, sym, ◌∙◌, ap, subst, arith}
 use Rattle.std.specs.Prelude.{MatchBool, ⊤, if◌then◌else◌}
-use Rattle.clap.specs.Words.{Text}
 use Rattle.ob_base.specs.Accesses.{write_at, writes}
 use Rattle.ob_base.specs.Lists.{each}
 use Rattle.ob_base.specs.declared.access.Access.{Access}
@@ -22,7 +21,7 @@ use Rattle.ob_shell.specs.Bases.{Base}
 use Rattle.ob_shell.specs.Keeping.{BeginsFrom, Writes, closing_behind, last_script}
 use Rattle.ob_shell.specs.KeptHeadline.{EndsBehind, RunKept}
 use Rattle.ob_shell.specs.KeptMarks.{mark_made}
-use Rattle.ob_shell.specs.KeptRuns.{AreChained, GoesOnFrom, NumberOn, OneRun, numbered_in}
+use Rattle.ob_shell.specs.KeptRuns.{AnyRun, AreChained, GoesOnFrom, NumberOn, numbered_in}
 use Rattle.ob_shell.specs.Words.{Answer, Outside}
 use Rattle.ob_shell.specs.declared.keeping.KeptEnding.{KeptEnding}
 use Rattle.ob_shell.specs.declared.top.Ending.{Ending}
@@ -121,11 +120,11 @@ one_goes_on {tracing = tracing} {old = old} {new = new} {k1 = k1} {ending = endi
       | inr made ↦ (from, mark_made closing, made, reaches_made closing (run.base.start.writes + writes new.store.asked) (omega (arith, most)))
     ]
 
-all_number_on : (words : List Text) (runs : List (OneRun words)) (held : Option Mark) (mark : Mark) (n : ℕ) → held ≡ Some mark → Reaches mark n → AreChained held runs → NumberOn n runs
-all_number_on words [] held mark n is reaches chained = tt
-all_number_on words (one ∷ runs) held mark n is reaches chained =
-    let here = one_goes_on one.run.ran mark n (chained.0 ∙ is) reaches in
-    (here.0, all_number_on words runs one.keeper1.held here.1 (numbered_in n one.run.ran) here.2 here.3 chained.1)
+all_number_on : (runs : List AnyRun) (held : Option Mark) (mark : Mark) (n : ℕ) → held ≡ Some mark → Reaches mark n → AreChained held runs → NumberOn n runs
+all_number_on [] held mark n is reaches chained = tt
+all_number_on (run ∷ runs) held mark n is reaches chained =
+    let here = one_goes_on run.one.run.ran mark n (chained.0 ∙ is) reaches in
+    (here.0, all_number_on runs run.one.keeper1.held here.1 (numbered_in n run.one.run.ran) here.2 here.3 chained.1)
 
-pub number_on : (words : List Text) (runs : List (OneRun words)) → AreChained (Some Fresh) runs → NumberOn 0 runs
-number_on words runs chained = all_number_on words runs (Some Fresh) Fresh 0 refl refl chained
+pub number_on : (runs : List AnyRun) → AreChained (Some Fresh) runs → NumberOn 0 runs
+number_on runs chained = all_number_on runs (Some Fresh) Fresh 0 refl refl chained

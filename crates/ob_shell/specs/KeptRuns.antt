@@ -107,11 +107,16 @@ AnswerAsOne {words} runs =
     (all_spelt runs) [] (all_answers runs) (all_seen runs) []
 
 -- ---- numbers over runs
+-- a run by any words
+pub record AnyRun : Type 0 where
+  pub words : List Text
+  pub one : OneRun words
+
 -- each run goes on from the mark that the one before it left, whatever else became of it
-abbrev pub AreChained : {words : List Text} → (held : Option Mark) → List (OneRun words) → Type 0
+abbrev pub AreChained : (held : Option Mark) → List AnyRun → Type 0
 AreChained held [] = ⊤
-AreChained held (one ∷ runs) =
-    (one.keeper0.held ≡ held) × AreChained one.keeper1.held runs
+AreChained held (run ∷ runs) =
+    (run.one.keeper0.held ≡ held) × AreChained run.one.keeper1.held runs
 
 -- the numbers that its writes go on from are no less than n
 abbrev pub GoesOnFrom : {settings : Option Config} {Takes : Type 0} {tracing : Bool}
@@ -132,7 +137,7 @@ numbered_in n (inr (inl run)) = n
 numbered_in {new = new} n (inr (inr run)) = run.base.start.writes + writes new.store.asked
 
 -- the writes of each run have greater numbers than those of all runs before it
-abbrev pub NumberOn : {words : List Text} → (n : ℕ) → List (OneRun words) → Type 0
+abbrev pub NumberOn : (n : ℕ) → List AnyRun → Type 0
 NumberOn n [] = ⊤
-NumberOn n (one ∷ runs) =
-    GoesOnFrom n one.run.ran × NumberOn (numbered_in n one.run.ran) runs
+NumberOn n (run ∷ runs) =
+    GoesOnFrom n run.one.run.ran × NumberOn (numbered_in n run.one.run.ran) runs

@@ -10,7 +10,7 @@ ghost use Rattle.ob_reopen.specs.Keepers.{KeeperState};
 ghost use Rattle.ob_shell.specs.Bases.{public_with};
 ghost use Rattle.ob_shell.specs.Failures.{failures};
 ghost use Rattle.ob_shell.specs.KeptMarks.{HeldAfter, KeptRun};
-ghost use Rattle.ob_shell.specs.KeptRuns.{AnswerAsOne, AreChained, GoOn, NumberOn, OneRun};
+ghost use Rattle.ob_shell.specs.KeptRuns.{AnswerAsOne, AnyRun, AreChained, GoOn, NumberOn, OneRun};
 ghost use Rattle.ob_shell.specs.Pieces.{BeginsWith};
 ghost use Rattle.ob_shell.specs.Reruns.{Alike, EndsWell, IsPlain, ShellRun, ShowAlike};
 ghost use Rattle.ob_shell.specs.Reruns.{any_counted, plainly, statements};
@@ -101,9 +101,9 @@ pub fn runs_answer_as_one()
         (runs : List (OneRun words)) → GoOn secret (Some Fresh) kept runs → AnswerAsOne runs }
 {}
 
-/// No write of a run has the number of a write of an earlier one: over all runs of one keeper that tells, the first over a
-/// fresh mark, whatever became of them and whatever their stores did, the numbers go on.
+/// The numbers of writes, which count on from where a run begins, go on over all runs of one keeper that tells, the first
+/// over a fresh mark and each later one over the mark that the one before it left, by whatever words and over whatever
+/// stores, whatever became of them: those of a run are greater than those of all runs before it.
 pub fn numbers_go_on()
-    ensures { (words : List Text) (runs : List (OneRun words)) → AreChained (Some Fresh) runs
-        → NumberOn 0 runs }
+    ensures { (runs : List AnyRun) → AreChained (Some Fresh) runs → NumberOn 0 runs }
 {}
