@@ -1,4 +1,4 @@
-use Rattle.std.proofs.Common.{◌≡◌, ◌+◌, ◌*◌, ◌/◌, ◌%◌, ◌≤◌, ◌==◌, ◌++◌, ℕ, true, List, [], length, drop, sym, ◌∙◌, ap, subst, arith, slice_index}
+use Rattle.std.proofs.Common.{◌≡◌, ◌+◌, ◌*◌, ◌/◌, ◌%◌, ◌≤◌, ◌==◌, ◌++◌, ℕ, true, List, [], length, sym, ◌∙◌, ap, subst, arith, slice_index}
 use Rattle.std.specs.Int.{w32, to_le_bytes}
 use Rattle.std.proofs.lemmas.List.{append-nil, length-take-le, length-drop, take_all, drop_all}
 use Rattle.std.proofs.lemmas.Bool.Decides.{nat_tests}

@@ -1,0 +1,58 @@
+-- The keys of a region in a run with a salt are those of its own salt.
+use Rattle.std.proofs.Common.{◌≡◌, ◌≢◌, inl, inr, arith, zero, suc, ℕ, ◌==◌, Bool, true, false, List, [], ◌∷◌, Option, Some, map, if◌then◌else◌, refl, sym, ◌∙◌, ap}
+use Rattle.std.proofs.lemmas.Bool.{cases_eq}
+use Rattle.std.proofs.lemmas.Bool.Decides.{nat_tests}
+use Rattle.std.specs.Prelude.{slice_get}
+use Rattle.ob_seal.specs.declared.Salted.{Salted}
+use Rattle.ob_seal.specs.declared.pairs.Pair.{Pair}
+use Rattle.ob_seal.specs.KeySet.{pair_in, pair_of}
+use Rattle.ob_seal.specs.Sealed.{held_of, keys_salted, pair_by, relisted, salt_at}
+
+module _ (secret salt : List ℕ) where
+  chosen : (b : Bool) (x y : Option (List ℕ)) → (if b then pair_by secret x else pair_by secret y) ≡ pair_by secret (if b then x else y)
+  chosen true x y = refl
+  chosen false x y = refl
+
+  among : (earlier : List Salted) (q : ℕ) → pair_in (pair_by secret (Some salt)) (map (held_of secret) earlier) q ≡ pair_by secret (salt_at salt earlier q)
+  unfolding pair_in salt_at
+  among [] q = refl
+  among (e ∷ es) q =
+      ap (λ (p : Pair). if e.region == q then pair_by secret e.salt else p) (among es q)
+      ∙ chosen (e.region == q) e.salt (salt_at salt es q)
+
+  pub salted_pair : (earlier : List Salted) (q : ℕ) → pair_of (keys_salted secret salt earlier) q ≡ pair_by secret (salt_at salt earlier q)
+  salted_pair earlier q = among earlier q
+
+module _ (s t : List ℕ) (earlier : List Salted) (r q : ℕ) (rs : List ℕ) where
+  chosen_salt : Bool → Option (List ℕ)
+  chosen_salt b = if b then salt_at s earlier r else salt_at t (relisted s earlier rs) q
+
+  salt_here : r ≡ q → salt_at t (relisted s earlier (r ∷ rs)) q ≡ salt_at s earlier q
+  unfolding salt_at chosen_salt
+  salt_here same =
+      let test : (r == q) ≡ true = grind (arith, nat_tests) in
+      ap chosen_salt test ∙ ap (salt_at s earlier) same
+
+  salt_further : r ≢ q → salt_at t (relisted s earlier (r ∷ rs)) q ≡ salt_at t (relisted s earlier rs) q
+  unfolding salt_at chosen_salt
+  salt_further off =
+      let test : (r == q) ≡ false = grind (arith, nat_tests) in
+      ap chosen_salt test
+
+-- a run that lists regions of one before it, each with its salt, knows the same salt of each
+kept_salt : (s t : List ℕ) (earlier : List Salted) (regions : List ℕ) (i q : ℕ) → slice_get regions i ≡ Some q → salt_at t (relisted s earlier regions) q ≡ salt_at s earlier q
+kept_salt s t earlier [] zero q is = absurd (cc is)
+kept_salt s t earlier [] (suc i) q is = absurd (cc is)
+kept_salt s t earlier (r ∷ rs) zero q is = let same : r ≡ q = cc is in salt_here s t earlier r q rs same
+kept_salt s t earlier (r ∷ rs) (suc i) q is = elim (cases_eq r q) [
+  | inl same ↦ salt_here s t earlier r q rs same
+  | inr off ↦ salt_further s t earlier r q rs off ∙ kept_salt s t earlier rs i q is
+]
+
+-- runs of one secret, under whatever salts of theirs, have the same keys for a region of which they know the same salt
+pub salts_agree : (secret s t : List ℕ) (one other : List Salted) (q : ℕ) → salt_at s one q ≡ salt_at t other q → pair_of (keys_salted secret s one) q ≡ pair_of (keys_salted secret t other) q
+salts_agree secret s t one other q same = salted_pair secret s one q ∙ ap (pair_by secret) same ∙ sym (salted_pair secret t other q)
+
+pub relisted_pair : (secret s t : List ℕ) (earlier : List Salted) (regions : List ℕ) (i q : ℕ) → slice_get regions i ≡ Some q
+    → pair_of (keys_salted secret t (relisted s earlier regions)) q ≡ pair_of (keys_salted secret s earlier) q
+relisted_pair secret s t earlier regions i q is = salts_agree secret t s (relisted s earlier regions) earlier q (kept_salt s t earlier regions i q is)

@@ -1,0 +1,33 @@
+//! Laws of the keys of regions.
+ghost use Rattle.std.specs.Prelude.{◌≡◌, ◌≢◌, ℕ, List, Option, Some, slice_get};
+ghost use Rattle.ob_seal.specs.KeySet.{KeySet, pair_of};
+ghost use Rattle.ob_seal.specs.Sealed.{IsSalt, cipher_label, draw_label, keys_salted, mac_label, pair_by, relisted, salt_at, sealed};
+ghost use Rattle.ob_seal.specs.declared.At.{At as Head};
+ghost use Rattle.ob_seal.specs.declared.Salted.{Salted as Earlier};
+
+/// A run's keys for a region are those of the region's salt; a later run that lists the region with its salt has the
+/// same for it; and keys that are the same for a region seal its blocks alike.
+pub fn salts_name_keys()
+    ensures named { (secret salt : List ℕ) (earlier : List Earlier) (q : ℕ)
+        → pair_of (keys_salted secret salt earlier) q
+        ≡ pair_by secret (salt_at salt earlier q) }
+    ensures later { (secret s t : List ℕ) (earlier : List Earlier) (regions : List ℕ) (i q : ℕ)
+        → slice_get regions i ≡ Some q
+        → pair_of (keys_salted secret t (relisted s earlier regions)) q
+        ≡ pair_of (keys_salted secret s earlier) q }
+    ensures alike { (k l : KeySet) (at : Head) (row : List ℕ)
+        → pair_of k at.region ≡ pair_of l at.region → sealed k at row ≡ sealed l at row }
+{}
+
+/// Under a secret no text is hashed for two salts, nor for two purposes.
+pub fn labels_are_apart()
+    ensures ciphers { (s t : Option (List ℕ)) → IsSalt s → IsSalt t
+        → cipher_label s ≡ cipher_label t → s ≡ t }
+    ensures tags { (s t : Option (List ℕ)) → IsSalt s → IsSalt t
+        → mac_label s ≡ mac_label t → s ≡ t }
+    ensures draws { (s t : Option (List ℕ)) → IsSalt s → IsSalt t
+        → draw_label s ≡ draw_label t → s ≡ t }
+    ensures purposes { (s t : Option (List ℕ)) → IsSalt s → IsSalt t
+        → (cipher_label s ≢ mac_label t) × (cipher_label s ≢ draw_label t)
+        × (mac_label s ≢ draw_label t) }
+{}
