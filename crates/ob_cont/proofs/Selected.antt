@@ -57,7 +57,7 @@ module _ (pack : ℕ) (flat : Flat) (p : RowTest) (k region : ℕ) (old mid : Wo
       record {
         ran = record { ok = filled.ok; err = tt };
         never = tt;
-        memory = record { began = λ is. absurd (cc is) };
+        memory = record { did = λ is. absurd (cc is) };
         value = refl;
         lives = shape_lasts (one next) _ _ next (table_region (order_for pack) pack flat.schema k) _ went.lasts.ready fills.ran.ok.lasts creates.lives fills.written.lives;
         written = fills.written;
@@ -85,7 +85,7 @@ module _ (pack : ℕ) (flat : Flat) (p : RowTest) (k region : ℕ) (old mid : Wo
           | inr (inl there) ↦ inr (inr (inl (tampered_after forgot same there)))
           | inr (inr there) ↦ inr (inr (inr (tampered_after forgot same there)))
         ];
-        memory = record { began = λ is. elim fills.never [ inl failed ↦ not_memory failed is | inr (inl there) ↦ absurd (cc (is, there.is)) | inr (inr there) ↦ absurd (cc (is, there.is)) ] };
+        memory = record { did = λ is. elim fills.never [ inl failed ↦ not_memory failed is | inr (inl there) ↦ absurd (cc (is, there.is)) | inr (inr there) ↦ absurd (cc (is, there.is)) ] };
         value = tt;
         lives = tt;
         written = tt;

@@ -20,7 +20,7 @@ use Rattle.ob_flat.specs.declared.fault.OpErr.{OpErr}
 use Rattle.ob_flat.specs.declared.fault.OpErr.TheVariants.{Failed, NoMemory}
 use Rattle.ob_flat.specs.Slots.{Spelt, AreSlots}
 use Rattle.ob_flat.specs.Flats.{IsSized, FitsRegion, IsInTurn, IsFlat, IsWritten, HoldsSlots, HoldsRows, Represents, table_region}
-use Rattle.ob_flat.specs.Words.{Ran, TamperedAt, TamperedIn, SealsTable, NoMemoryIn, FitBlock, blocks_of}
+use Rattle.ob_flat.specs.Words.{Ran, TamperedAt, TamperedIn, SealsTable, NoMemoryBehind, FitBlock, blocks_of}
 use Rattle.ob_flat.specs.Creates.{make_script, table_of}
 use Rattle.ob_cont.specs.Putting.{order_for, put_if, put_at, put_slots, place_of, put_part}
 
@@ -130,7 +130,7 @@ pub record Selects (pack : ℕ) (flat : Flat) (p : RowTest) (k : ℕ)
   pub never : IfErr result (λ e. (e ≡ Failed) ⊎ (e ≡ NoMemory)
       ⊎ TamperedIn pack flat e new
       ⊎ TamperedIn pack (table_of flat.schema k old.vault.next) e new)
-  pub memory : NoMemoryIn (make_script pack (table_of flat.schema k old.vault.next))
+  pub memory : NoMemoryBehind (make_script pack (table_of flat.schema k old.vault.next))
       result old new
   pub value : IfOk result (λ fresh. fresh ≡ table_of flat.schema k old.vault.next)
   pub lives : OnOk result (Lives old.vault.next

@@ -1,5 +1,5 @@
 -- How parts of a pass join where one of them gave up.
-use Rattle.std.proofs.Common.{◌≡◌, inl, inr, ℕ, ◌<◌, List, [], ◌++◌, IsTrue, length, length-append, Result, Err, sym, ◌∙◌, ap, subst, arith}
+use Rattle.std.proofs.Common.{◌≡◌, inl, inr, ℕ, ◌<◌, List, [], ◌++◌, IsTrue, length, length-append, Result, Err, refl, sym, ◌∙◌, ap, subst, arith}
 use Rattle.ob_base.specs.declared.access.Access.{Access}
 use Rattle.ob_base.specs.Accesses.{read_at}
 use Rattle.ob_base.specs.Counts.{Rises}
@@ -101,3 +101,9 @@ pass_then some e x a b c cut went same = record {
 
 pub not_memory : {A P : Type 0} {e : OpErr} → e ≡ Failed → ◌≡◌ {A = Result A OpErr} (Err e) (Err NoMemory) → P
 not_memory failed same = cc
+
+-- a pass wants memory where the vault did
+pub vault_memory : {A B : Type 0} (e : VaultErr) → ◌≡◌ {A = Result A OpErr} (Err (pass_error e)) (Err NoMemory) → ◌≡◌ {A = Result B VaultErr} (Err e) (Err VaultErrs.NoMemory)
+vault_memory VaultErrs.NoMemory same = refl
+vault_memory VaultErrs.Failed same = cc
+vault_memory (VaultErrs.Tampered q p) same = cc

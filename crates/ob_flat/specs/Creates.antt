@@ -18,7 +18,7 @@ use Rattle.ob_flat.specs.declared.flat.Flat.{Flat}
 use Rattle.ob_flat.specs.declared.fault.OpErr.{OpErr}
 use Rattle.ob_flat.specs.declared.fault.OpErr.TheVariants.{Failed, NoMemory}
 use Rattle.ob_flat.specs.Flats.{IsMade, IsFlat, Represents, table_region}
-use Rattle.ob_flat.specs.Words.{Ran, SealsTable, Makes, NoMemoryIn, blocks_of}
+use Rattle.ob_flat.specs.Words.{Ran, SealsTable, Makes, NoMemoryBehind, blocks_of}
 
 -- a table, by its parts
 abbrev pub table_of : Columns → (capacity region : ℕ) → Flat
@@ -41,6 +41,7 @@ pub record MakesTable (order : Order) (pack : ℕ) (flat : Flat)
     (result : Result ℕ OpErr) (old new : World) : Type 0 where
   pub ran : Ran (make_script pack flat) (one flat.region) result old new
   pub never : IfErr result (λ e. (e ≡ Failed) ⊎ (e ≡ NoMemory))
+  pub memory : NoMemoryBehind (make_script pack flat) result old new
   pub number : IfOk result (λ region. region ≡ flat.region)
   pub lives : OnOk result
       (Lives flat.region (table_region order pack flat.schema flat.capacity) new)
@@ -72,7 +73,7 @@ pub record CreatesRegion (order : Order) (pack : ℕ) (flat : Flat)
     (result : Result ℕ OpErr) (old new : World) : Type 0 where
   pub ran : Ran (create_script pack flat) (one flat.region) result old new
   pub never : IfErr result (λ e. (e ≡ Failed) ⊎ (e ≡ NoMemory))
-  pub memory : NoMemoryIn (make_script pack flat) result old new
+  pub memory : NoMemoryBehind (make_script pack flat) result old new
   pub number : IfOk result (λ region. region ≡ flat.region)
   pub lives : OnOk result
       (Lives flat.region (table_region order pack flat.schema flat.capacity) new)
@@ -87,7 +88,7 @@ pub record Creates (order : Order) (pack : ℕ) (flat : Flat)
     (result : Result Flat OpErr) (old new : World) : Type 0 where
   pub ran : Ran (create_script pack flat) (one flat.region) result old new
   pub never : IfErr result (λ e. (e ≡ Failed) ⊎ (e ≡ NoMemory))
-  pub memory : NoMemoryIn (make_script pack flat) result old new
+  pub memory : NoMemoryBehind (make_script pack flat) result old new
   pub makes : Makes order pack flat result old new
   pub told : IfOk result (λ fresh. IsTrue old.store.tells
       → Represents pack fresh (empty_slots flat.capacity) new)

@@ -3,7 +3,7 @@ use Rattle.std.specs.Prelude.{◌≡◌, ◌⊎◌, ◌<◌, ◌≤◌, ◌*◌,
 use Rattle.ob_base.specs.declared.access.Access.{Access}
 use Rattle.ob_base.specs.Numbers.{blocks_for}
 use Rattle.ob_base.specs.Schemas.{Columns, width}
-use Rattle.ob_store.specs.Runs.{Began}
+use Rattle.ob_store.specs.Runs.{Did}
 use Rattle.ob_vault.specs.declared.region.Order.{Order}
 use Rattle.ob_vault.specs.State.{World}
 use Rattle.ob_vault.specs.Tied.{Ready, Lives}
@@ -82,7 +82,7 @@ pub record Makes (order : Order) (pack : ℕ) (made : Flat)
   pub gone : OnErr result (new.vault.revs.live made.region ≡ None)
   pub seals : SealsTable pack made.schema made.region old new
 
--- want of memory comes in this part of the script
-pub record NoMemoryIn {T : Type 0} (script : List Access)
+-- memory is wanted only once all of this part of the script was asked
+pub record NoMemoryBehind {T : Type 0} (script : List Access)
     (result : Result T OpErr) (old new : World) : Type 0 where
-  pub began : result ≡ Err NoMemory → Began script old.store new.store
+  pub did : result ≡ Err NoMemory → Did script old.store new.store

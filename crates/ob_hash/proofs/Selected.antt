@@ -35,7 +35,7 @@ module _ (l : Layout) (flat : Flat) (p : RowTest) (old : World) (is : IsHashed l
       record {
         ran = ran_more (create_part l.table.region (l.k * l.depth) (l.pack * width l.table.schema)) (table_script l flat) made;
         never = elim created.never [ inl failed ↦ inl failed | inr none ↦ inr (inl none) ];
-        memory = record { began = λ none. created.memory.began (cc none) };
+        memory = record { did = λ none. created.memory.did (cc none) };
         makes = record { value = tt; lives = tt; flat = tt; gone = created.gone; seals = created.seals };
         size = tt;
         rows = tt;
@@ -57,7 +57,7 @@ module _ (l : Layout) (flat : Flat) (p : RowTest) (old : World) (is : IsHashed l
         record {
           ran = record { ok = filled.ok; err = tt };
           never = tt;
-          memory = record { began = λ none. absurd (cc none) };
+          memory = record { did = λ none. absurd (cc none) };
           makes = record {
             value = value;
             lives = stays.lives;
@@ -89,7 +89,7 @@ module _ (l : Layout) (flat : Flat) (p : RowTest) (old : World) (is : IsHashed l
             | inr (inl there) ↦ inr (inr (inl (tampered_after forgot same there)))
             | inr (inr there) ↦ inr (inr (inr (tampered_after forgot same there)))
           ];
-          memory = record { began = λ none. elim hashes.never [ inl failed ↦ not_memory failed none | inr (inl there) ↦ absurd (cc (none, there.is)) | inr (inr there) ↦ absurd (cc (none, there.is)) ] };
+          memory = record { did = λ none. elim hashes.never [ inl failed ↦ not_memory failed none | inr (inl there) ↦ absurd (cc (none, there.is)) | inr (inr there) ↦ absurd (cc (none, there.is)) ] };
           makes = record { value = tt; lives = tt; flat = tt; gone = gone; seals = seals_after went.lasts created.seals (seals_after hashes.keeps.ran.err.lasts hashes.keeps.seals (seals_any sealed)) };
           size = tt;
           rows = tt;

@@ -16,7 +16,7 @@ use Rattle.ob_flat.specs.declared.fault.OpErr.{OpErr}
 use Rattle.ob_flat.specs.declared.fault.OpErr.TheVariants.{Failed, NoMemory}
 use Rattle.ob_flat.specs.Slots.{Spelt}
 use Rattle.ob_flat.specs.Flats.{FitsRegion, IsFlat, HoldsSlots, HoldsRows, Represents, whole_blocks}
-use Rattle.ob_flat.specs.Words.{Ran, TamperedIn, SealsTable, Makes, NoMemoryIn}
+use Rattle.ob_flat.specs.Words.{Ran, TamperedIn, SealsTable, Makes, NoMemoryBehind}
 use Rattle.ob_flat.specs.Creates.{make_script}
 use Rattle.ob_hash.specs.declared.selecting.Placed.{Placed}
 use Rattle.ob_hash.specs.Answers.{flat_of, flat_result, overflow_of}
@@ -101,7 +101,7 @@ pub record Selects (l : Layout) (flat : Flat) (p : RowTest)
   pub ran : Ran (select_script l flat) (one l.table.region) result old new
   pub never : IfErr result (λ e. (e ≡ Failed) ⊎ (e ≡ NoMemory)
       ⊎ TamperedIn l.pack flat e new ⊎ TamperedIn l.pack l.table e new)
-  pub memory : NoMemoryIn (make_script l.pack l.table) result old new
+  pub memory : NoMemoryBehind (make_script l.pack l.table) result old new
   pub makes : Makes Any l.pack l.table (flat_result result) old new
   pub size : OnOk result (FitsRegion l.pack l.table.schema l.table.capacity)
   pub rows : IfOk result (λ placed. IsTrue old.store.tells

@@ -54,7 +54,7 @@ module _ (pack : ℕ) (flat : Flat) (p : Row → Bool) (old mid : World) (ready 
       record {
         ran = record { ok = filled.ok; err = tt };
         never = tt;
-        memory = record { began = λ is. absurd (cc is) };
+        memory = record { did = λ is. absurd (cc is) };
         makes = makes_ok Round pack (moved flat next) _ _ made went seals _ lives fills.ran.ok.lasts fills.table fills.seals;
         holds = λ tells. fills.holds (tells_went _ _ _ _ went tells);
         source = flat_lasts pack flat (one next) _ _ filled.ok.lasts off table.written;
@@ -76,7 +76,7 @@ module _ (pack : ℕ) (flat : Flat) (p : Row → Bool) (old mid : World) (ready 
           | inr (inl there) ↦ inr (inr (inl (tampered_after forgot same there)))
           | inr (inr there) ↦ inr (inr (inr (tampered_after forgot same there)))
         ];
-        memory = record { began = λ is. elim fills.never [ inl failed ↦ not_memory failed is | inr (inl there) ↦ absurd (cc (is, there.is)) | inr (inr there) ↦ absurd (cc (is, there.is)) ] };
+        memory = record { did = λ is. elim fills.never [ inl failed ↦ not_memory failed is | inr (inl there) ↦ absurd (cc (is, there.is)) | inr (inr there) ↦ absurd (cc (is, there.is)) ] };
         makes = makes_err Round pack (moved flat next) _ _ made went seals e _ _ fills.ran.err.lasts fills.seals sealed gone;
         holds = tt;
         source = flat_lasts pack flat (one next) _ _ ended.lasts off table.written;

@@ -14,7 +14,7 @@ use Rattle.ob_flat.specs.declared.fault.OpErr.{OpErr}
 use Rattle.ob_flat.specs.declared.fault.OpErr.TheVariants.{Failed, NoMemory}
 use Rattle.ob_flat.specs.Flats.{IsMade, IsFlat, HoldsRows, Represents}
 use Rattle.ob_vault.specs.Words.{IsHonest}
-use Rattle.ob_flat.specs.Words.{Ran, TamperedIn, SealsTable, Makes, NoMemoryIn, blocks_of, moved}
+use Rattle.ob_flat.specs.Words.{Ran, TamperedIn, SealsTable, Makes, NoMemoryBehind, blocks_of, moved}
 use Rattle.ob_flat.specs.Creates.{make_script}
 
 -- what is asked to copy a table, and then to go through the copy
@@ -65,7 +65,7 @@ pub record Selects (pack : ℕ) (flat : Flat) (p : Row → Bool)
   pub ran : Ran (large_script pack flat old.vault.next) (one old.vault.next) result old new
   pub never : IfErr result (λ e. (e ≡ Failed) ⊎ (e ≡ NoMemory)
       ⊎ TamperedIn pack flat e new ⊎ TamperedIn pack (moved flat old.vault.next) e new)
-  pub memory : NoMemoryIn (make_script pack (moved flat old.vault.next)) result old new
+  pub memory : NoMemoryBehind (make_script pack (moved flat old.vault.next)) result old new
   pub makes : Makes Round pack (moved flat old.vault.next) result old new
   pub holds : IfOk result (λ fresh. IsTrue old.store.tells → HoldsRows pack fresh new)
   pub source : IsFlat pack flat new

@@ -55,7 +55,7 @@ module _ {T : Type 0} (pack : ℕ) (flat : Flat) (fill : List Access) (answer : 
         ok = tt;
         err = pass_more (one next) _ _ _ (make_script pack (moved flat next)) (fill ++ discard_at flat.region) makes.ran.err;
         never = elim makes.never [ inl failed ↦ inl failed | inr none ↦ inr (inl none) ];
-        memory = record { began = λ is. makes.ran.err.began };
+        memory = record { did = λ is. makes.memory.did (cc is) };
         gone = makes.gone;
         seals = seals_any makes.seals.seals;
         moves = tt;
@@ -83,7 +83,7 @@ module _ {T : Type 0} (pack : ℕ) (flat : Flat) (fill : List Access) (answer : 
               (went_join both _ _ _ fill (discard_at flat.region) (went_wider (one next) _ _ both (λ r s. inr s) _ filled) (went_wider (one flat.region) _ _ both (λ r s. inl s) _ dropped.went));
           err = tt;
           never = tt;
-          memory = record { began = λ is. absurd (cc is) };
+          memory = record { did = λ is. absurd (cc is) };
           gone = dropped.gone;
           seals = seals_after made.lasts (seals_any makes.seals.seals) (seals_after filled.lasts fills.seals (seals_any dropped.seals.seals));
           moves = refl;
@@ -109,7 +109,7 @@ module _ {T : Type 0} (pack : ℕ) (flat : Flat) (fill : List Access) (answer : 
           ok = tt;
           err = ended;
           never = elim fills.never [ inl failed ↦ inl failed | inr there ↦ inr (inr (tampered_after forgot same there)) ];
-          memory = record { began = λ is. elim fills.never [ inl failed ↦ not_memory failed is | inr there ↦ absurd (cc (is, there.is)) ] };
+          memory = record { did = λ is. elim fills.never [ inl failed ↦ not_memory failed is | inr there ↦ absurd (cc (is, there.is)) ] };
           gone = gone;
           seals = seals_after makes.ran.ok.lasts (seals_any makes.seals.seals) (seals_after fills.ran.err.lasts fills.seals (seals_any sealed));
           moves = tt;

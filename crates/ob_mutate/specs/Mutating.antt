@@ -20,7 +20,7 @@ use Rattle.ob_flat.specs.declared.fault.OpErr.{OpErr}
 use Rattle.ob_flat.specs.declared.fault.OpErr.TheVariants.{Failed, NoMemory}
 use Rattle.ob_flat.specs.Flats.{IsFlat, HoldsRows, Represents, table_region}
 use Rattle.ob_flat.specs.Passes.{PassCut}
-use Rattle.ob_flat.specs.Words.{Ran, TamperedIn, SealsTable, NoMemoryIn, blocks_of, moved}
+use Rattle.ob_flat.specs.Words.{Ran, TamperedIn, SealsTable, NoMemoryBehind, blocks_of, moved}
 use Rattle.ob_flat.specs.Creates.{make_script}
 use Rattle.ob_mutate.specs.declared.inserting.Inserted.{Inserted}
 use Rattle.ob_mutate.specs.Inserting.{insert_answer, slots_after}
@@ -69,7 +69,7 @@ pub record Mutates {T : Type 0} (pack : ℕ) (flat left : Flat) (script : List A
   pub ok : OnOk result (Went script (two flat.region old.vault.next) old new)
   pub err : IfErr result (λ e. PassCut e script (one old.vault.next) old new)
   pub never : IfErr result (λ e. (e ≡ Failed) ⊎ (e ≡ NoMemory) ⊎ TamperedIn pack flat e new)
-  pub memory : NoMemoryIn (make_script pack (moved flat old.vault.next)) result old new
+  pub memory : NoMemoryBehind (make_script pack (moved flat old.vault.next)) result old new
   pub gone : MatchResult result
       (λ _. new.vault.revs.live flat.region ≡ None)
       (λ _. new.vault.revs.live old.vault.next ≡ None)

@@ -3,7 +3,6 @@ use Rattle.std.proofs.Common.{◌≡◌, ◌⊎◌, inl, inr, ℕ, IsTrue, List,
 use Rattle.std.specs.Prelude.{Bool}
 use Rattle.ob_base.specs.Accesses.{read_at}
 use Rattle.ob_base.specs.Lists.{each}
-use Rattle.ob_store.proofs.Steps.{began_more}
 use Rattle.ob_vault.specs.declared.fault.VaultErr.{VaultErr}
 use Rattle.ob_vault.specs.State.{Start, World}
 use Rattle.ob_vault.specs.Calls.{Seals, none, one}
@@ -34,7 +33,7 @@ reads_shut {T} closing a b e resumes =
         err = opens_more (one closing.region) a b (open_error e) first rest (opens_shut {T = T} closing.region closing.number (closing_region closing) a b e resumes);
       };
       never = elim either [ inl failed ↦ inl failed | inr memory ↦ inr (inl memory) ];
-      memory = λ is. began_more first rest _ _ resumes.err.began;
+      memory = λ is. resumes.err.began;
       catalogue = tt;
       lives = tt;
       awaits = tt;

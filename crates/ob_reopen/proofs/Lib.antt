@@ -13,3 +13,4 @@ pub mod TableLemmas
 pub mod WriteLemmas
 pub mod CloseLemmas
 pub mod ListLemmas
+pub mod ReadsRekeyed

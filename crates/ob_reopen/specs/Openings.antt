@@ -12,7 +12,7 @@ use Rattle.ob_vault.specs.State.{World, from_earlier}
 use Rattle.ob_vault.specs.Numbers.{spent}
 use Rattle.ob_vault.specs.Tied.{Ready, Lives, Written, OnTurn, Holds, Calm, EndsAt}
 use Rattle.ob_vault.specs.Calls.{Seals, EndsRead, Unfit, Opened, none, one}
-use Rattle.ob_vault.specs.Resuming.{Unasked, Stays, KeptSealed}
+use Rattle.ob_vault.specs.Resuming.{Unasked, Stays, KeptSealed, open_at}
 use Rattle.ob_vault.specs.Words.{IsHonest, SealsAll}
 use Rattle.ob_reopen.specs.declared.closing.Closing.{Closing}
 use Rattle.ob_reopen.specs.declared.fault.OpenErr.{OpenErr}
@@ -159,7 +159,9 @@ pub record ReadsClosing (closing : Closing) (result : Result (List Listed) OpenE
     (old new : World) : Type 0 where
   pub opens : Opens (read_script closing) (one closing.region) result old new
   pub never : IfErr result (λ e. (e ≡ Failed) ⊎ (e ≡ NoMemory) ⊎ ClosingTampered closing e new)
-  pub memory : result ≡ Err NoMemory → Began (read_script closing) old.store new.store
+  -- memory is wanted before the first read: the opening alone was asked, or nothing
+  pub memory : result ≡ Err NoMemory
+      → Began (open_at closing.region closing.blocks 1024) old.store new.store
   pub catalogue : IfOk result (IsCatalogue closing)
   pub lives : OnOk result (Lives closing.region (closing_region closing) new)
   pub awaits : OnOk result (AwaitsTables closing new)

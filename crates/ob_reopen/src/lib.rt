@@ -22,7 +22,7 @@ pub use catalogue::list_tables;
 pub use closing::Closing;
 pub use fault::{CloseErr, OpenErr};
 pub use keeper::Keeper;
-pub use laws::lists_are_catalogues;
+pub use laws::{closings_keep_keys, lists_are_catalogues};
 pub use listed::Listed;
 pub use memory::MemKeeper;
 pub use reading::read_closing;

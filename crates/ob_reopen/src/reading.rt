@@ -107,7 +107,7 @@ fn open_rows<S: Lasting, R: Revisions>(
 /// Opens the region of a closing, and reads which tables it lists, in order of their names. The vault is one that
 /// goes on from the run that was closed so.
 ///
-/// `NoMemory` before a block is read. `Failed` where the store failed, or keeps no such region. `Tampered` with the
+/// `NoMemory` before a block is read, with nothing asked or the opening alone. `Failed` where the store failed, or keeps no such region. `Tampered` with the
 /// place of a block that is not the one that was written there, or that spells no closing.
 pub fn read_closing<S: Lasting, R: Revisions>(
     alloc: Global,

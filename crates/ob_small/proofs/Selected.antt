@@ -15,7 +15,7 @@ use Rattle.ob_flat.specs.declared.fault.OpErr.{OpErr}
 use Rattle.ob_flat.specs.declared.fault.OpErr.TheVariants.{Failed, NoMemory}
 use Rattle.ob_flat.specs.Flats.{Represents, table_region}
 use Rattle.ob_flat.specs.Passes.{PassCut}
-use Rattle.ob_flat.specs.Words.{IsTable}
+use Rattle.ob_flat.specs.Words.{IsTable, NoMemoryBehind}
 use Rattle.ob_flat.specs.Creates.{make_script}
 use Rattle.ob_flat.proofs.Runs.{not_memory}
 use Rattle.ob_flat.proofs.Tables.{flat_lasts, represents_lasts}
@@ -42,13 +42,13 @@ module _ (s : Selection) (old : World) (ready : Ready old) (is_table : IsTable s
 
   -- it was not made
   pub selects_none : (e : OpErr) (new : World) → PassCut e (make_script s.pack (table s old.vault.next)) (one old.vault.next) old new → (e ≡ Failed) ⊎ (e ≡ NoMemory)
-      → new.vault.revs.live old.vault.next ≡ None → ((good : ℕ → List ℕ → Bool) → Seals good old new) → Selects s (Err e) old new
-  selects_none e new cut never gone sealed =
+      → NoMemoryBehind {T = ℕ} (make_script s.pack (table s old.vault.next)) (Err e) old new → new.vault.revs.live old.vault.next ≡ None → ((good : ℕ → List ℕ → Bool) → Seals good old new) → Selects s (Err e) old new
+  selects_none e new cut never memory gone sealed =
       let next = old.vault.next in
       record {
         ran = ran_more (make_script s.pack (table s next)) (fill_script s next) cut;
         never = elim never [ inl failed ↦ inl failed | inr none ↦ inr (inl none) ];
-        memory = record { began = λ is. cut.began };
+        memory = record { did = λ is. memory.did (cc is) };
         makes = record { value = tt; lives = tt; flat = tt; gone = gone; seals = seals_any sealed };
         rows = tt;
         source = flat_lasts s.pack s.flat (one next) _ _ cut.lasts off is_table.written;
@@ -68,7 +68,7 @@ module _ (s : Selection) (old : World) (ready : Ready old) (is_table : IsTable s
         record {
           ran = record { ok = filled.ok; err = tt };
           never = tt;
-          memory = record { began = λ is. absurd (cc is) };
+          memory = record { did = λ is. absurd (cc is) };
           makes = makes_ok Round s.pack (table s next) _ _ made went seals _ lives fills.ran.ok.lasts fills.filled fills.seals;
           rows = λ tells. fills.rows (tells_went _ _ _ _ went tells);
           source = flat_lasts s.pack s.flat (one next) _ _ filled.ok.lasts off is_table.written;
@@ -87,7 +87,7 @@ module _ (s : Selection) (old : World) (ready : Ready old) (is_table : IsTable s
         record {
           ran = record { ok = tt; err = ended };
           never = elim fills.never [ inl failed ↦ inl failed | inr there ↦ inr (inr (tampered_after forgot same there)) ];
-          memory = record { began = λ is. elim fills.never [ inl failed ↦ not_memory failed is | inr there ↦ absurd (cc (is, there.is)) ] };
+          memory = record { did = λ is. elim fills.never [ inl failed ↦ not_memory failed is | inr there ↦ absurd (cc (is, there.is)) ] };
           makes = makes_err Round s.pack (table s next) _ _ made went seals e _ _ fills.ran.err.lasts fills.seals sealed gone;
           rows = tt;
           source = flat_lasts s.pack s.flat (one next) _ _ ended.lasts off is_table.written;

@@ -26,7 +26,7 @@ use Rattle.ob_flat.specs.declared.fault.OpErr.{OpErr}
 use Rattle.ob_flat.specs.declared.fault.OpErr.TheVariants.{Failed, NoMemory}
 use Rattle.ob_flat.specs.Slots.{AreSlots, block_bytes}
 use Rattle.ob_flat.specs.Flats.{IsMade, IsFlat, HoldsBlock, HoldsRows, Represents, table_region, whole_blocks}
-use Rattle.ob_flat.specs.Words.{Ran, TamperedIn, SealsTable, Makes, NoMemoryIn, blocks_of}
+use Rattle.ob_flat.specs.Words.{Ran, TamperedIn, SealsTable, Makes, NoMemoryBehind, blocks_of}
 use Rattle.ob_flat.specs.Creates.{make_script}
 use Rattle.ob_small.specs.Keeping.{chosen, fitted, AreKept}
 
@@ -168,7 +168,7 @@ pub record Fills {T : Type 0} (s : Selection) (to : ℕ)
 pub record Selects (s : Selection) (result : Result Flat OpErr) (old new : World) : Type 0 where
   pub ran : Ran (select_script s old.vault.next) (one old.vault.next) result old new
   pub never : IfErr result (λ e. (e ≡ Failed) ⊎ (e ≡ NoMemory) ⊎ TamperedIn s.pack s.flat e new)
-  pub memory : NoMemoryIn (make_script s.pack (table s old.vault.next)) result old new
+  pub memory : NoMemoryBehind (make_script s.pack (table s old.vault.next)) result old new
   pub makes : Makes Round s.pack (table s old.vault.next) result old new
   pub rows : IfOk result (λ fresh. IsTrue old.store.tells → HoldsRows s.pack fresh new)
   pub source : IsFlat s.pack s.flat new

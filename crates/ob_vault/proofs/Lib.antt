@@ -5,3 +5,4 @@ pub mod Runs
 pub mod RowsLemmas
 pub mod WordLemmas
 pub mod LawLemmas
+pub mod Rekeyed

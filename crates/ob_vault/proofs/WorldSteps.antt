@@ -291,6 +291,7 @@ seals_drop good v revs old new g asks only left =
 pub seals_read : (good : ℕ → List ℕ → Bool) (v : VaultState) (old new : StoreState) (q x : ℕ) → Asks (Read q x) old new → Keeps old new → Seals good (world v old) (world v new)
 seals_read good v old new q x asks keeps = record { seals = λ tells all. sealed_keeps good (world v old) (world v new) (Read q x) refl refl asks.asked keeps all }
 
+-- a make: nothing lies in its region, if that is there
 pub seals_make : (good : ℕ → List ℕ → Bool) (v : VaultState) (revs : RevState) (old new : StoreState) (g blocks len : ℕ) → Asks (Make g blocks len) old new → Makes g blocks len old new
     → Seals good (world v old) (world (record v { next = v.next + 1; revs = revs }) new)
 seals_make good v revs old new g blocks len asks makes' =
@@ -300,6 +301,9 @@ pub seals_unmade : (good : ℕ → List ℕ → Bool) (v : VaultState) (revs : R
     → Seals good (world v old) (world (record v { next = v.next + 1; revs = revs }) new)
 seals_unmade good v revs old new g blocks len asks keeps =
     record { seals = λ tells all. sealed_keeps good (world v old) (world (record v { next = v.next + 1; revs = revs }) new) (Make g blocks len) refl refl asks.asked keeps all }
+
+pub only_keeps : (g : ℕ) (old new : StoreState) → Keeps old new → OnlyRegion g old new
+only_keeps g old new keeps = record { live = λ q off. keeps.live q; last = λ q x off. keeps.last q x; kept = λ q off. keeps.kept q }
 
 -- a call that answered
 pub went_call : (a : Access) (some : ℕ → Type 0) (old new : World) → Lasts some old new → Asks a old.store new.store → new.store.faults ≡ old.store.faults → new.store.lie ≡ old.store.lie → Went (a ∷ []) some old new
@@ -505,15 +509,27 @@ lasts_make v revs old new shape ready wide begins asks makes' =
       here_laps = λ s l. record { runs = λ x below next some. absurd (some (begins.unwritten x)) };
     }) (later_call _ _ _ asks)
 
--- one that was not
-pub lasts_unmade : (v : VaultState) (revs : RevState) (old new : StoreState) (blocks len : ℕ) → Ready (world v old) → OtherRegions v.next v.revs revs → revs.live v.next ≡ None
-    → Asks (Make v.next blocks len) old new → Keeps old new → Lasts (one v.next) (world v old) (world (record v { next = v.next + 1; revs = revs }) new)
-lasts_unmade v revs old new blocks len ready others gone asks keeps =
+-- no region has the next number
+pub next_none : (o : Option Region) → ((shape : Region) → o ≡ Some shape → ⊥) → o ≡ None
+next_none None off = refl
+next_none (Some shape) off = absurd (off shape refl)
+
+pub next_gone : (v : VaultState) (s : StoreState) → Ready (world v s) → v.revs.live v.next ≡ None
+next_gone v s ready = next_none (v.revs.live v.next) (λ shape is. absurd (omega (arith, ready.below v.next shape is)))
+
+others_same : (g : ℕ) (revs : RevState) → OtherRegions g revs revs
+others_same g revs = record { live = λ q off. refl; number = λ q x off. refl; turn = λ q off. refl }
+
+-- one that was not, or of which the vault took no note
+pub lasts_unmade : (v : VaultState) (revs : RevState) (old new : StoreState) (blocks len : ℕ) → Ready (world v old) → revs ≡ v.revs
+    → Asks (Make v.next blocks len) old new → OnlyRegion v.next old new → Lasts (one v.next) (world v old) (world (record v { next = v.next + 1; revs = revs }) new)
+lasts_unmade v revs old new blocks len ready same asks only =
     let tied = ready.tied in
     let g = v.next in
     let access = Make g blocks len in
     let was = world v old in
     let now = world (record v { next = v.next + 1; revs = revs }) new in
+    let gone : revs.live g ≡ None = ap (λ (r : RevState). r.live g) same ∙ next_gone v old ready in
     lasts_moved g was now ready (record {
       keys = refl;
       start = refl;
@@ -521,8 +537,8 @@ lasts_unmade v revs old new blocks len ready others gone asks keeps =
       next = omega (arith, tied.next, ap makes asks.asked, makes_more old.asked access);
       above = subst (AllBelow (v.next + 1)) (sym asks.asked) (below_more (v.next + 1) old.asked access (below_up v.next (v.next + 1) old.asked (omega arith) tied.above) (omega arith));
       up = omega arith;
-      revs = others;
-      only = record { live = λ q off. keeps.live q; last = λ q x off. keeps.last q x; kept = λ q off. keeps.kept q };
+      revs = subst (OtherRegions g v.revs) (sym same) (others_same g v.revs);
+      only = only;
       numbers = λ q x. ap (λ (l : List Access). number_after v.start l q x) asks.asked ∙ number_make v.start.writes (v.start.given q x) q x g blocks len old.asked;
       here_shape = inl gone;
       here_live = λ s l. absurd (cc (l, gone));
@@ -539,30 +555,7 @@ others_twice g a b c first second = record {
   turn = λ q off. second.turn q off ∙ first.turn q off;
 }
 
--- no region has the next number
-pub next_none : (o : Option Region) → ((shape : Region) → o ≡ Some shape → ⊥) → o ≡ None
-next_none None off = refl
-next_none (Some shape) off = absurd (off shape refl)
-
--- a make for which the vault had no memory
-pub unmade : (v : VaultState) (s : StoreState) (blocks width : ℕ) (order : Order) → Ready (world v s) → MakesRegion blocks width order (Err VaultErrs.NoMemory) (world v s) (world v s)
-unmade v s blocks width order ready = record {
-  ok = tt;
-  err = record {
-    lasts = lasts_none (one v.next) (world v s) ready;
-    began = record { done = []; rest = make_at v.next blocks width; split = refl; asked = sym (append-nil s.asked) };
-    asks = λ some. absurd (some refl);
-    cause = (refl, λ calm. calm);
-  };
-  never = inr refl;
-  seals = λ good. record { seals = λ tells all. all };
-  number = tt;
-  lives = tt;
-  turn = tt;
-  gone = next_none (v.revs.live v.next) (λ shape is. absurd (omega (arith, ready.below v.next shape is)));
-}
-
--- a make for which the store had no memory
+-- a make for which the store or the vault had no memory
 pub cut_call_none : (a : Access) (some : ℕ → Type 0) (old new : World) → Lasts some old new → Asks a old.store new.store → new.store.faults ≡ old.store.faults → new.store.lie ≡ old.store.lie → Cut VaultErrs.NoMemory (a ∷ []) some old new
 cut_call_none a some old new lasts asks faults lie = record {
   lasts = lasts;

@@ -11,3 +11,4 @@ pub mod Rows
 pub mod VaultCalls
 pub mod Resuming
 pub mod Words
+pub mod Rekeying

@@ -3,6 +3,7 @@ use Rattle.std.specs.Prelude.{◌≡◌, ◌⊎◌, ◌+◌, ◌/◌, ℕ, Bool,
 use Rattle.ob_base.specs.Accesses.{read_at, write_at, make_at, discard_at}
 use Rattle.ob_base.specs.Counts.{Rises}
 use Rattle.ob_store.specs.Calls.{ReadGives}
+use Rattle.ob_store.specs.Runs.{Did}
 use Rattle.ob_vault.specs.declared.region.Region.{Region}
 use Rattle.ob_vault.specs.declared.region.Order.{Order}
 use Rattle.ob_vault.specs.declared.fault.VaultErr.{VaultErr}
@@ -13,13 +14,15 @@ use Rattle.ob_vault.specs.Rows.{joined, Tails}
 use Rattle.ob_vault.specs.Tied.{Ready, Lives, Written, OnTurn, Holds}
 use Rattle.ob_vault.specs.Calls.{Went, Cut, Only, Seals, Opened, none, one}
 
--- a region is made under the next number, or that number is used up
+-- a region is made under the next number, or that number is used up; memory is wanted only once the store was asked
 pub record MakesRegion (blocks width : ℕ) (order : Order) (result : Result ℕ VaultErr)
     (old new : World) : Type 0 where
   pub ok : OnOk result (Went (make_at old.vault.next blocks width) (one old.vault.next) old new)
   pub err : IfErr result (λ e.
       Cut e (make_at old.vault.next blocks width) (one old.vault.next) old new)
   pub never : IfErr result (λ e. (e ≡ Failed) ⊎ (e ≡ NoMemory))
+  pub memory : result ≡ Err NoMemory
+      → Did (make_at old.vault.next blocks width) old.store new.store
   pub seals : (good : ℕ → List ℕ → Bool) → Seals good old new
   pub number : IfOk result (λ g. g ≡ old.vault.next)
   pub lives : OnOk result

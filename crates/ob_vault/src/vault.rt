@@ -35,6 +35,7 @@ impl<R: Revisions> Vault<R> {
     ghost use Rattle.ob_vault.specs.Rows.{SameSizes};
     ghost use Rattle.ob_vault.specs.Places.{at, start_of, MayGet, MayPut};
     ghost use Rattle.ob_vault.specs.Resuming.{MayResume, ResumesRegion};
+    ghost use Rattle.ob_vault.specs.Rekeying.{rekeyed};
     ghost use Rattle.ob_vault.specs.VaultCalls.{MakesRegion, Gets, Puts, DropsRegion, Forgets};
 
     /// A vault with no region.
@@ -71,7 +72,9 @@ impl<R: Revisions> Vault<R> {
         }
     }
 
-    /// Makes a region. It takes memory, and before the store is asked.
+    /// Makes a region. It takes memory, but only once the store was asked: want of memory comes behind it.
+    ///
+    /// After an error the region is not live, and its number is used up all the same.
     pub fn make<S: BlockStore>(
         &mut self,
         store: &mut S,
@@ -93,20 +96,16 @@ impl<R: Revisions> Vault<R> {
             width,
             order,
         };
-        if self.revs.begin(region, shape).is_err() {
-            return Err(VaultErr::NoMemory);
-        }
         self.next += 1;
         match store.make(region, blocks, width + 32) {
-            Ok(()) => Ok(region),
-            Err(StoreErr::Failed) => {
-                self.revs.end(region);
-                Err(VaultErr::Failed)
+            Ok(()) => {
+                if self.revs.begin(region, shape).is_err() {
+                    return Err(VaultErr::NoMemory);
+                }
+                Ok(region)
             }
-            Err(StoreErr::NoMemory) => {
-                self.revs.end(region);
-                Err(VaultErr::NoMemory)
-            }
+            Err(StoreErr::Failed) => Err(VaultErr::Failed),
+            Err(StoreErr::NoMemory) => Err(VaultErr::NoMemory),
         }
     }
 
@@ -253,6 +252,15 @@ impl<R: Revisions> Vault<R> {
             → Forgets region (at R.state self.old s) (at R.state self.new s) }
     {
         self.revs.end(region);
+    }
+
+    /// Goes on under these keys, and keeps its regions and numbers. A run that saves its tables learns the salts of
+    /// those that it goes on from only in their closing, which it reads under keys that know no other salt.
+    pub fn rekey(&mut self, keys: Keys)
+        ensures { (s : StoreState)
+            → at R.state self.new s ≡ rekeyed keys (at R.state self.old s) }
+    {
+        self.keys = keys;
     }
 
     /// The number of the next region.

@@ -48,7 +48,7 @@ returns-in_err-region-clause-selects g c =
     rw (p.1, p.2) (record {
       ran = ran_more (create_script pack to) (fill_script pack flat to) cut;
       never = elim creates.never [ inl failed ↦ inl failed | inr none ↦ inr (inl none) ];
-      memory = record { began = λ is. creates.memory.began (cc is) };
+      memory = record { did = λ is. creates.memory.did (cc is) };
       value = tt;
       lives = tt;
       written = tt;

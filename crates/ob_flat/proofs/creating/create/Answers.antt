@@ -46,7 +46,7 @@ returns-in-Ok-clause-creates g c =
     rw value (record {
       ran = record { ok = creates.ran.ok; err = tt };
       never = tt;
-      memory = record { began = λ is. absurd (cc is) };
+      memory = record { did = λ is. absurd (cc is) };
       makes = record { value = refl; lives = creates.lives; flat = creates.table; gone = tt; seals = creates.seals };
       told = creates.told;
     })
@@ -62,7 +62,7 @@ returns-in-Err-clause-creates g c =
     record {
       ran = record { ok = tt; err = creates.ran.err };
       never = creates.never;
-      memory = record { began = λ is. creates.memory.began (cc is) };
+      memory = record { did = λ is. creates.memory.did (cc is) };
       makes = record { value = tt; lives = tt; flat = tt; gone = creates.gone; seals = creates.seals };
       told = tt;
     }

@@ -1,7 +1,7 @@
 use Rattle.std.proofs.Common.{inl, inr, ap}
 use Rattle.std.proofs.lemmas.Result.{err_from_is_err_and}
 use Rattle.ob_flat.specs.Passes.{pass_error}
-use Rattle.ob_flat.proofs.Runs.{pass_of}
+use Rattle.ob_flat.proofs.Runs.{pass_of, vault_memory}
 use Rattle.ob_flat.proofs.creating.make_table.Goals as goal
 
 pub returns-in_err-region : goal.returns-in_err-region
@@ -12,6 +12,7 @@ returns-in_err-region g c =
       makes = record {
         ran = record { ok = tt; err = pass_of _ _ _ _ _ made.err };
         never = elim made.never [ inl failed ↦ inl (ap pass_error failed) | inr none ↦ inr (ap pass_error none) ];
+        memory = record { did = λ is. made.memory (vault_memory _ is) };
         number = tt;
         lives = tt;
         turn = tt;
@@ -28,6 +29,7 @@ returns g c =
       makes = record {
         ran = record { ok = made.ok; err = tt };
         never = tt;
+        memory = record { did = λ is. absurd (cc is) };
         number = made.number;
         lives = made.lives;
         turn = made.turn;

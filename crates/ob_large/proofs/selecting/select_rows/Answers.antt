@@ -37,7 +37,7 @@ returns-in_err-region-clause-selects g c =
     rw (p.1, p.2) (record {
       ran = ran_more (make_script pack (moved flat next)) (fill_script pack flat next) cut;
       never = elim made.never [ inl failed ↦ inl failed | inr none ↦ inr (inl none) ];
-      memory = record { began = λ is. cut.began };
+      memory = record { did = λ is. made.memory.did (cc is) };
       makes = record { value = tt; lives = tt; flat = tt; gone = made.gone; seals = seals_any made.seals.seals };
       holds = tt;
       source = flat_lasts pack flat (one next) _ _ cut.lasts off c.requires.table.written;

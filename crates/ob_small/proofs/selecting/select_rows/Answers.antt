@@ -49,7 +49,7 @@ returns-in_err-region-clause-selects g c =
     let p = err_from_is_err_and c.from_residual.result c.from_residual.ensures.1 in
     let s = select_of (length c.args.rows.now) c.args.buffered c.args.flat.now c.args.pred.now c.args.k in
     let made = c.in_err-region.ensures.makes in
-    rw (p.1, p.2) (selects_none s _ c.requires.starts.ready c.requires.table _ _ made.ran.err made.never made.gone made.seals.seals)
+    rw (p.1, p.2) (selects_none s _ c.requires.starts.ready c.requires.table _ _ made.ran.err made.never made.memory made.gone made.seals.seals)
 
 pub fill_result-requires : goal.fill_result-requires
 fill_result-requires g c =
