@@ -38,9 +38,9 @@ def least(name, letter, shape, case):
         pairs.append((spent, alone))
     return map(min, zip(*pairs))
 
-# Each pass: its letter, the blocks that it seals and opens, its limit, its slots, the rows that may be open, and how
-# many are selected; of a join, the slots of the left table. The program has 64 rows open at most; the last two lines
-# have as many as fit all that is selected, or the left table.
+# Each pass: its letter, the blocks that it seals and opens, its limit (or two, for 1 and 8 rows a block), its slots, the rows that may be open, and how
+# many are selected; of a join, the slots of the left table. The program has 64 rows open at most; the last three lines
+# have as many as fit all that is selected, the left table, or all groups, whose keys come in no order.
 passes = [
     ("count", "c", count, 1.5, slots, 64, slots // 2),
     ("INSERT", "i", insert, 1.5, slots, 64, 1),
@@ -55,17 +55,19 @@ passes = [
     ("GROUP BY", "g", count, 1.7, slots, 64, slots),
     ("join", "j", join, 1.7, slots, 64, 256),
     ("Small", "S", small, 1.7, slots, most_open, slots),
-    ("join", "j", join, 1.7, slots // 16, most_open, slots // 16),
+    ("join", "j", join, (2.0, 4.0), slots // 16, most_open, slots // 16),
+    ("GROUP BY", "G", count, 3.0, slots, most_open, 60000),
 ]
 
 print(f"Passes beside their bare blocks, on {machine()}:\n")
 print("| Pass | bytes of a row | rows of a block | slots | open rows | k | pass, ms | bare, ms | ratio | limit | |")
 print("|---|---:|---:|---:|---:|---:|---:|---:|---:|---:|---|")
-for name, letter, shape, limit, n, rows, k in passes:
+for name, letter, shape, limits, n, rows, k in passes:
     for width in (17, 128, 1024):
         for pack in (1, 8):
             # A joined row has at most 1,024 bytes: with a left one of 17, the right one has these.
             given = 1008 if name == "join" and width == 1024 else width
+            limit = limits if isinstance(limits, float) else limits[pack > 1]
             spent, alone = least(name, letter, shape, (given, pack, n, rows, k))
             ratio = spent / alone
             print(

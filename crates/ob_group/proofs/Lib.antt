@@ -6,6 +6,8 @@ pub mod Taking
 pub mod Wide
 pub mod TotalBytes
 pub mod GroupBytes
+pub mod Listed
+pub mod Kept
 pub mod Putting
 pub mod SlotLemmas
 pub mod Rows

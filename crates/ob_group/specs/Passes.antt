@@ -1,9 +1,10 @@
 -- What the passes do that aggregate and group.
-use Rattle.std.specs.Prelude.{◌≡◌, [], ◌∷◌, ◌⊎◌, ◌<◌, ◌≤◌, ◌+◌, ◌++◌, ℕ, Bool, List, ⊤, None, Some, filter, length, Result, OnOk, OnErr, IfOk, IfErr, MatchResult}
+use Rattle.std.specs.Prelude.{◌≡◌, [], ◌∷◌, ◌⊎◌, ◌<◌, ◌≤◌, ◌+◌, ◌++◌, ◌*◌, ℕ, min, Bool, List, ⊤, None, Some, filter, length, Result, OnOk, OnErr, IfOk, IfErr, MatchResult}
 use Rattle.ob_base.specs.declared.emit.EmitErr.{EmitErr}
 use Rattle.ob_base.specs.declared.schema.Kind.{Kind}
 use Rattle.ob_base.specs.declared.shown.Shown.{Shown}
 use Rattle.ob_base.specs.Events.{Event, row_events, EmitCause, IsEmitted, IsHalted}
+use Rattle.ob_base.specs.Limits.{buffered_blocks}
 use Rattle.ob_base.specs.Schemas.{Columns, width}
 use Rattle.ob_script.specs.Parts.{count_part}
 use Rattle.ob_row.specs.declared.aggregate.Agg.{Agg}
@@ -68,6 +69,14 @@ pub record AddsTo (columns : Columns) (kind : Kind) (items : List Item)
   pub told : (cells : Row) → Begins columns (Some cells) row
       → (g : Group) (m : ℕ) → m ≤ 2147483648 → HoldsGroup kind m (length items) g group_old
       → HoldsGroup kind (m + 1) (length items) (group_with (aggs_of items) cells g) group_new
+
+-- how many blocks of groups are kept at once: a table's slots have no more groups
+abbrev pub kept_blocks : (pack rows : ℕ) → Flat → ℕ
+kept_blocks pack rows flat = min (buffered_blocks pack rows) (blocks_of pack flat)
+
+-- how many rows are open: those of a block, and the groups
+abbrev pub open_rows : (pack rows : ℕ) → Flat → ℕ
+open_rows pack rows flat = pack + kept_blocks pack rows flat * pack
 
 -- rows that may hold a group each
 pub record AreGroupRows (rows : List (List ℕ)) : Type 0 where

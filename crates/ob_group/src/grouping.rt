@@ -1,4 +1,4 @@
-ghost use Rattle.std.specs.Prelude.{◌≡◌, ◌≤◌, ◌+◌, max, length};
+ghost use Rattle.std.specs.Prelude.{◌≡◌, ◌≤◌, max, length};
 ghost use Rattle.ob_base.specs.Limits.{buffered};
 ghost use Rattle.ob_base.specs.Schemas.{width};
 ghost use Rattle.ob_vault.specs.Places.{at};
@@ -7,12 +7,13 @@ ghost use Rattle.ob_blocks.specs.Idle.{IsIdle};
 ghost use Rattle.ob_row.specs.Truth.{is_true};
 ghost use Rattle.ob_flat.specs.Flats.{IsSized, IsFlat};
 ghost use Rattle.ob_flat.specs.Words.{HasSpare, IsTable, FitBlock, blocks_of};
-ghost use Rattle.ob_group.specs.Passes.{AreItems, AreGroupRows, GroupsRows};
+ghost use Rattle.ob_group.specs.Passes.{AreItems, AreGroupRows, GroupsRows, open_rows};
 
 use crate::emitting::emit_answer;
 use crate::reading::group_blocks;
 use ob_base::{Emit, EmitErr};
 use ob_flat::{Flat, OpErr};
+use ob_order::Order;
 use ob_room::{ClearRow, Room};
 use ob_row::{Item, Pred};
 use ob_store::BlockStore;
@@ -29,6 +30,7 @@ pub enum Grouped {
 fn group_table<S: BlockStore, R: Revisions, E: Emit>(
     store: &mut S,
     vault: &mut Vault<R>,
+    order: &mut Order,
     rows: &mut [ClearRow],
     groups: &mut [ClearRow],
     flat: &Flat,
@@ -43,6 +45,8 @@ fn group_table<S: BlockStore, R: Revisions, E: Emit>(
     requires fit { FitBlock flat.now.schema rows.old }
     requires items { AreItems flat.now.schema key items.now }
     requires places { AreGroupRows groups.old }
+    requires most { length groups.old ≤ order.old.most }
+    ensures most { order.new.most ≡ order.old.most }
     ensures rows { SameSizes rows.old rows.new }
     ensures groups { SameSizes groups.old groups.new }
     ensures answers { GroupsRows E.grew E.cut E.faults (length groups.old) (length rows.old)
@@ -50,7 +54,7 @@ fn group_table<S: BlockStore, R: Revisions, E: Emit>(
         (at R.state vault.old (S.state store.old)) (at R.state vault.new (S.state store.new))
         out.old out.new }
 {
-    match group_blocks(store, vault, rows, groups, flat, pred, key, items) {
+    match group_blocks(store, vault, order, rows, groups, flat, pred, key, items) {
         Ok(n) => {
             if n > groups.len() {
                 Ok(Grouped::TooMany)
@@ -78,11 +82,13 @@ fn group_table<S: BlockStore, R: Revisions, E: Emit>(
 /// `Failed` where the store failed, and `Tampered` with the place of a block that is not what was written
 /// there last, or that has a malformed row: nothing is emitted then. Once all blocks were read, `Sink`
 /// where the emitter failed, and `NoMemory` where it had no memory: what was emitted by then is a first
-/// part of the whole. It takes no memory itself.
+/// part of the whole. It takes no memory itself: `order` has room for a place of each row of `room`, and
+/// a row's group is found in it by halving.
 pub fn group<S: BlockStore, R: Revisions, E: Emit>(
     store: &mut S,
     vault: &mut Vault<R>,
     room: &mut Room,
+    order: &mut Order,
     flat: &Flat,
     pred: &Pred,
     key: u8,
@@ -96,8 +102,10 @@ pub fn group<S: BlockStore, R: Revisions, E: Emit>(
     requires room { IsIdle (width flat.now.schema) room.old }
     requires wide { 768 ≤ room.old.width }
     requires items { AreItems flat.now.schema key items.now }
+    requires places { room.old.rows ≤ order.old.most }
+    ensures most { order.new.most ≡ order.old.most }
     ensures room { room.new ≡ record room.old {
-      high = max room.old.high (room.old.pack + buffered room.old.pack room.old.rows);
+      high = max room.old.high (open_rows room.old.pack room.old.rows flat.now);
     } }
     ensures answers { GroupsRows E.grew E.cut E.faults (buffered room.old.pack room.old.rows)
         room.old.pack flat.now (is_true pred.now) key items.now result
@@ -106,9 +114,12 @@ pub fn group<S: BlockStore, R: Revisions, E: Emit>(
 {
     let pack = room.pack();
     let buffered = (room.rows() - 2 * pack) / pack;
-    let open = room.open(pack + buffered * pack);
+    let kept_blocks = buffered.min(flat.capacity.div_ceil(pack));
+    let open = room.open(pack + kept_blocks * pack);
     let (rows, groups) = open.split_at_mut(pack as usize);
-    let result = group_table(store, vault, rows, groups, flat, pred, key, items, out);
+    let result = group_table(
+        store, vault, order, rows, groups, flat, pred, key, items, out,
+    );
     room.clear_shelf();
     result
 }

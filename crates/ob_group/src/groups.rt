@@ -8,11 +8,12 @@ ghost use Rattle.ob_row.specs.Rows.{Row, cell_eq};
 ghost use Rattle.ob_row.specs.Spelling.{Begins, kind_at};
 ghost use Rattle.ob_group.specs.Running.{AreWithin, starts, grown_all};
 ghost use Rattle.ob_group.specs.Grouping.{Group, aggs_of, put_row, group_shown};
-ghost use Rattle.ob_group.specs.Held.{HoldsKey, HoldsGroup, AreGroups, IsGroup, MayGrow};
+ghost use Rattle.ob_group.specs.Held.{HoldsKey, HoldsGroup, AreGroups, AreListed, IsGroup, ListsGroups, MayGrow};
 ghost use Rattle.ob_group.specs.Passes.{AreItems, AreGroupRows, IsRow, AddsTo};
 
 use crate::fields::{add_totals, show_items, start_totals};
 use ob_base::{Kind, Schema, Shown};
+use ob_order::Order;
 use ob_room::ClearRow;
 use ob_row::{Cell, Item, cell_in, field_of, kind_at};
 
@@ -80,9 +81,10 @@ pub(crate) fn show_group(kind: Kind, items: &[Item], group: &ClearRow, cells: &m
     show_bytes(kind, items, group.bytes(), front);
 }
 
-// The place of the group whose key has this field among the first n rows, or n where none has it.
-fn place_of(kind: Kind, field: &[u8], groups: &[ClearRow], n: usize) -> usize
-    requires few { n ≤ length groups.now }
+// The place of the group whose key has this field among the first n rows, whose places are in order of
+// their keys, or n where none has it.
+fn place_of(kind: Kind, field: &[u8], order: &Order, groups: &[ClearRow], n: usize) -> usize
+    requires listed { AreListed (length field.now) n groups.now order.now.places }
     requires field { (y : RowCell) × HoldsCell kind y field.now }
     requires keys { (i : ℕ) → i < n → (x : RowCell) × HoldsKey kind x (row_at groups.now i) }
     ensures most { result ≤ n }
@@ -91,14 +93,10 @@ fn place_of(kind: Kind, field: &[u8], groups: &[ClearRow], n: usize) -> usize
     ensures on { (y : RowCell) → HoldsCell kind y field.now → result < n
         → (x : RowCell) → HoldsKey kind x (row_at groups.now result) → cell_eq x y ≡ true }
 {
-    let width = kind.width() as usize;
-    for i in 0..n {
-        let (own, _) = groups[i].bytes().split_at(width);
-        if own == field {
-            return i;
-        }
+    match order.find(groups, 0, field) {
+        Some(place) => place as usize,
+        None => n,
     }
-    n
 }
 
 // Adds the row to a group.
@@ -138,12 +136,14 @@ fn start(
 }
 
 // Puts a row to the group with its key, or to a new one behind the n that there are, and answers how many
-// there are then: one more than the rows, where there are more.
+// there are then: one more than the rows, where there are more. The groups' places are in order of their
+// keys, and a new one's is put among them.
 pub(crate) fn put_row(
     schema: &Schema,
     row: &ClearRow,
     key: u8,
     items: &[Item],
+    order: &mut Order,
     groups: &mut [ClearRow],
     n: usize,
 ) -> usize
@@ -151,7 +151,11 @@ pub(crate) fn put_row(
     requires items { AreItems schema.now key items.now }
     requires groups { AreGroupRows groups.old }
     requires held { MayGrow (kind_at schema.now key) (length items.now) n 1 groups.old }
+    requires listed { ListsGroups (kind_at schema.now key) n groups.old order.old.places }
+    requires most { length groups.old ≤ order.old.most }
     ensures size { SameSizes groups.old groups.new }
+    ensures listed { ListsGroups (kind_at schema.now key) result groups.new order.new.places }
+    ensures most { order.new.most ≡ order.old.most }
     ensures told { (cells : Row) → Begins schema.now (Some cells) row.now
         → (gs : List Group) (m : ℕ) → m < 2147483648
         → AreGroups (kind_at schema.now key) m (length items.now) n gs groups.old
@@ -163,12 +167,13 @@ pub(crate) fn put_row(
     }
     let kind = kind_at(schema, key);
     let field = field_of(schema, row, key);
-    let i = place_of(kind, field, groups, n);
+    let i = place_of(kind, field, order, groups, n);
     if i < n {
         add(schema, row, kind, items, &mut groups[i]);
         n
     } else if n < groups.len() {
         start(schema, row, kind, field, items, &mut groups[n]);
+        order.insert(groups, 0, field.len(), n as u32);
         n + 1
     } else {
         n + 1

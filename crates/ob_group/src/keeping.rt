@@ -1,13 +1,14 @@
-ghost use Rattle.std.specs.Prelude.{length};
+ghost use Rattle.std.specs.Prelude.{◌≡◌, ◌≤◌, IfOk, length};
 ghost use Rattle.ob_base.specs.Schemas.{width};
 ghost use Rattle.ob_vault.specs.Rows.{Wide};
 ghost use Rattle.ob_row.specs.Spelling.{kind_at};
 ghost use Rattle.ob_row.specs.Truth.{is_true};
-ghost use Rattle.ob_group.specs.Held.{MayGrow};
+ghost use Rattle.ob_group.specs.Held.{ListsGroups, MayGrow};
 ghost use Rattle.ob_group.specs.Passes.{AreItems, AreGroupRows, GathersBlock};
 
 use crate::groups::put_row;
 use ob_base::Schema;
+use ob_order::Order;
 use ob_room::ClearRow;
 use ob_row::{Item, Malformed, Pred, holds};
 
@@ -19,6 +20,7 @@ pub(crate) fn group_rows(
     rows: &[ClearRow],
     key: u8,
     items: &[Item],
+    order: &mut Order,
     groups: &mut [ClearRow],
     before: usize,
 ) -> Result<usize, Malformed>
@@ -27,15 +29,20 @@ pub(crate) fn group_rows(
     requires groups { AreGroupRows groups.old }
     requires held { MayGrow (kind_at schema.now key) (length items.now) before (length rows.now)
         groups.old }
-    ensures { GathersBlock (is_true pred.now) schema.now key items.now rows.now before result
-        groups.old groups.new }
+    requires listed { ListsGroups (kind_at schema.now key) before groups.old order.old.places }
+    requires most { length groups.old ≤ order.old.most }
+    ensures most { order.new.most ≡ order.old.most }
+    ensures listed { IfOk result (λ n. ListsGroups (kind_at schema.now key) n groups.new
+        order.new.places) }
+    ensures gathers { GathersBlock (is_true pred.now) schema.now key items.now rows.now before
+        result groups.old groups.new }
 {
     let mut n = before;
     for z in 0..rows.len() {
         match holds(pred, schema, &rows[z]) {
             Ok(selected) => {
                 if selected {
-                    n = put_row(schema, &rows[z], key, items, groups, n);
+                    n = put_row(schema, &rows[z], key, items, order, groups, n);
                 }
             }
             Err(malformed) => return Err(malformed),

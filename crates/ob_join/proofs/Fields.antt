@@ -12,8 +12,9 @@ use Rattle.ob_row.specs.Spelling.{FitsKind, Fits, Begins, kind_at, cells_width}
 use Rattle.ob_row.proofs.SpellingLemmas.{length-cell_bytes}
 use Rattle.ob_row.proofs.PlaceLemmas.{located, begun, row_field, same_fields, cell_eq-same, is_false}
 use Rattle.ob_flat.specs.Slots.{Spelt}
-use Rattle.ob_join.specs.Joining.{has_field}
-use Rattle.ob_join.proofs.Pairs.{find_past}
+use Rattle.ob_order.specs.Orders.{has_field, IsFirstRow, NoRowHas}
+use Rattle.ob_join.specs.Joining.{IsPartner}
+use Rattle.ob_join.proofs.Pairs.{find_past, none_before, partner}
 
 first_zero : (n : ℕ) (behind bytes : List ℕ) → bytes ≡ replicate (1 + n) 0 ++ behind → slice_index_or bytes 0 0 ≡ 0
 first_zero n behind bytes is =
@@ -64,3 +65,24 @@ module _ (cs : Columns) (i : ℕ) (y : Cell) (below : i < length cs) (never : Fi
 -- no row before the end passes
 pub all_found : (p : Row → Bool) (slots : Slots) (i : ℕ) → length slots ≤ i → find p (rows (take i slots)) ≡ None → find p (rows slots) ≡ None
 all_found p slots i past none = subst (λ (l : Slots). find p (rows l) ≡ None) (take_all i slots past) none
+
+-- ---- kept rows that are looked up by a field
+module _ (cs : Columns) (column : ℕ) (below : column < length cs) (at : ℕ) (at_is : at ≡ width (take column cs)) (field : List ℕ) (cell : Cell) (held : HoldsCell (kind_at cs column) cell field) (slots : Slots) (kept : List (List ℕ)) (spelt : Spelt cs slots kept) where
+  abbrev same : Row → Bool
+  same a = options_eq (cell_at a column) (Some cell)
+
+  tells : (j : ℕ) → j < length kept → has_field at field (slice_index_or kept j []) ≡ is_selected same (slice_index_or slots j None)
+  tells j inside =
+      ap (λ (n : ℕ). has_field n field (slice_index_or kept j [])) at_is
+      ∙ has_field_is cs (slice_index_or slots j None) column (slice_index_or kept j []) field cell below (spelt.each j inside) held
+
+  pub found_at : (i : ℕ) → IsFirstRow at field kept i → IsPartner same slots i
+  found_at i first =
+      partner same slots i (omega (arith, first.inside, spelt.count))
+      (none_before same slots i (omega (arith, first.inside, spelt.count)) (λ j less. sym (tells j (omega (arith, less, first.inside))) ∙ first.before j less))
+      (sym (tells i first.inside) ∙ first.has)
+
+  pub found_nowhere : NoRowHas at field kept → find same (rows slots) ≡ None
+  found_nowhere none =
+      all_found same slots (length slots) (omega arith)
+      (none_before same slots (length slots) (omega arith) (λ j less. let inside : j < length kept = omega (arith, less, spelt.count) in sym (tells j inside) ∙ none j inside))

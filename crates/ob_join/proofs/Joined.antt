@@ -1,6 +1,7 @@
 -- A join, from one step to the next.
 use Rattle.std.proofs.Common.{◌≡◌, inl, inr, ℕ, Bool, List, [], None, Ok, Err}
 use Rattle.std.specs.Prelude.{◌⊎◌}
+use Rattle.ob_store.specs.Runs.{Did}
 use Rattle.ob_vault.specs.declared.region.Order.TheVariants.{Round}
 use Rattle.ob_vault.specs.State.{World}
 use Rattle.ob_vault.specs.Tied.{Ready, Lives}
@@ -37,13 +38,13 @@ module _ (j : Join) (old : World) (ready : Ready old) (may : MayJoin j old) wher
 
   -- the region was not made
   pub joins_none : (e : OpErr) (new : World) → PassCut e (make_script j old.vault.next) (one old.vault.next) old new → (e ≡ Failed) ⊎ (e ≡ NoMemory)
-      → new.vault.revs.live old.vault.next ≡ None → ((good : ℕ → List ℕ → Bool) → Seals good old new) → Joins j (Err e) old new
-  joins_none e new cut never gone sealed =
+      → (e ≡ NoMemory → Did (make_script j old.vault.next) old.store new.store) → new.vault.revs.live old.vault.next ≡ None → ((good : ℕ → List ℕ → Bool) → Seals good old new) → Joins j (Err e) old new
+  joins_none e new cut never did gone sealed =
       let still = may_lasts new cut.lasts in
       record {
         ran = ran_more (make_script j old.vault.next) (fill_script j old.vault.next) cut;
         never = elim never [ inl failed ↦ inl failed | inr none ↦ inr (inl none) ];
-        memory = record { began = λ is. cut.began };
+        memory = record { did = λ is. did (cc is) };
         makes = record { value = tt; lives = tt; flat = tt; gone = gone; seals = seals_any sealed };
         left = still.left;
         right = still.right;
@@ -60,7 +61,7 @@ module _ (j : Join) (old : World) (ready : Ready old) (may : MayJoin j old) wher
         record {
           ran = record { ok = filled.ok; err = tt };
           never = tt;
-          memory = record { began = λ is. absurd (cc is) };
+          memory = record { did = λ is. absurd (cc is) };
           makes = makes_ok Round j.pack (table j next) _ _ (make_script j next) went seals _ lives fills.ran.ok.lasts fills.filled fills.seals;
           left = still.left;
           right = still.right;
@@ -81,7 +82,7 @@ module _ (j : Join) (old : World) (ready : Ready old) (may : MayJoin j old) wher
             | inr (inl there) ↦ inr (inr (inl (tampered_after forgot same there)))
             | inr (inr there) ↦ inr (inr (inr (tampered_after forgot same there)))
           ];
-          memory = record { began = λ is. elim fills.never [ inl failed ↦ not_memory failed is | inr (inl there) ↦ absurd (cc (is, there.is)) | inr (inr there) ↦ absurd (cc (is, there.is)) ] };
+          memory = record { did = λ is. elim fills.never [ inl failed ↦ not_memory failed is | inr (inl there) ↦ absurd (cc (is, there.is)) | inr (inr there) ↦ absurd (cc (is, there.is)) ] };
           makes = makes_err Round j.pack (table j next) _ _ (make_script j next) went seals e _ _ fills.ran.err.lasts fills.seals sealed gone;
           left = still.left;
           right = still.right;

@@ -8,6 +8,8 @@ use Rattle.ob_base.specs.Joins.{chunks}
 use Rattle.ob_base.specs.Limits.{buffered_blocks}
 use Rattle.ob_base.specs.Numbers.{blocks_for}
 use Rattle.ob_base.specs.Schemas.{Columns, width}
+use Rattle.ob_store.specs.State.{StoreState}
+use Rattle.ob_store.specs.Runs.{Did}
 use Rattle.ob_vault.specs.State.{World}
 use Rattle.ob_vault.specs.Calls.{Went}
 use Rattle.ob_row.specs.Slots.{Slots}
@@ -31,6 +33,9 @@ module _ (g n m w v : ℕ) (some : ℕ → Type 0) (a b : World) (blocks : n ≡
 
   pub cut_make : (e : OpErr) → PassCut e (make_at g n w) some a b → PassCut e (make_at g m v) some a b
   cut_make e cut = subst (λ (l : List Access). PassCut e l some a b) script cut
+
+pub did_make : (g n m w v : ℕ) (blocks : n ≡ m) (wide : w ≡ v) {s t : StoreState} → Did (make_at g n w) s t → Did (make_at g m v) s t
+did_make g n m w v blocks wide {s} {t} did = subst (λ (l : List Access). Did l s t) (λ i. make_at g (blocks i) (wide i)) did
 
 -- its capacity, by its blocks
 pub capacity_is : (pack left right q a c b : ℕ) → a ≡ div_ceil left pack → c ≡ div_ceil a q → b ≡ div_ceil right pack → c * b * pack ≡ div_ceil (blocks_for pack left) q * blocks_for pack right * pack

@@ -1,5 +1,5 @@
 -- The bytes of a joined row, and the row that one is joined with.
-use Rattle.std.proofs.Common.{◌≡◌, ◌≤◌, ◌<◌, ◌+◌, ◌-◌, ℕ, Bool, true, false, List, [], ◌∷◌, ◌++◌, Option, Some, None, length, take, drop, slice_index_or, cond, refl, sym, ◌∙◌, ap, subst, arith, append_assoc}
+use Rattle.std.proofs.Common.{◌≡◌, ◌≤◌, ◌<◌, ◌+◌, ◌-◌, ℕ, zero, suc, Bool, true, false, List, [], ◌∷◌, ◌++◌, Option, Some, None, length, take, drop, slice_index_or, cond, refl, sym, ◌∙◌, ap, subst, arith, append_assoc}
 use Rattle.std.specs.Prelude.{find, is_some, slice_get, replicate}
 use Rattle.std.proofs.lemmas.List.{take_more, take_at, drop-take, take-append-drop}
 use Rattle.std.proofs.lemmas.List.Sums.{sum_by-append}
@@ -107,3 +107,12 @@ dummy columns slot n row none wide is =
 pub empty_joins : (i j : ℕ) (left : List Row) (slot : Option Row) → is_some slot ≡ false → joined_slot i j left slot ≡ None
 empty_joins i j left None not = refl
 empty_joins i j left (Some b) not = absurd (cc not)
+
+-- no row before the i-th passes, where no slot before it does
+pub none_before : (p : Row → Bool) (slots : Slots) (i : ℕ) → i ≤ length slots → ((j : ℕ) → j < i → is_selected p (slice_index_or slots j None) ≡ false) → find p (rows (take i slots)) ≡ None
+none_before p slots zero within off = refl
+none_before p slots (suc i) within off =
+    let inside : i < length slots = omega (arith, within) in
+    let next = find_past p slots i inside (none_before p slots i (omega (arith, within)) (λ j less. off j (omega (arith, less)))) (off i (omega arith)) in
+    let one : i + 1 ≡ suc i = omega arith in
+    subst (λ (k : ℕ). find p (rows (take k slots)) ≡ None) one next

@@ -1,8 +1,9 @@
 -- The rows of some blocks among those that are kept.
-use Rattle.std.proofs.Common.{◌≡◌, ◌≤◌, ◌<◌, ◌+◌, ◌-◌, ◌*◌, ℕ, Fits, w32, w64, List, [], ◌++◌, Option, None, length, take, drop, replicate, slice_index_or, refl, inl, inr, sym, ◌∙◌, ap, subst, arith, length-append}
+use Rattle.std.proofs.Common.{◌≡◌, ◌≤◌, ◌<◌, ◌+◌, ◌-◌, ◌*◌, ℕ, min, Fits, w32, w64, List, [], ◌++◌, Option, None, length, take, drop, replicate, slice_index_or, refl, inl, inr, sym, ◌∙◌, ap, subst, arith, length-append}
 use Rattle.std.proofs.lemmas.List.{get_or-take, get_or-drop, get_or-replicate, get_or_append_left, length-take, length-drop, length-replicate}
 use Rattle.std.proofs.Math.Seq.{get_or-append_right}
 use Rattle.std.proofs.lemmas.Bool.{cases_lt}
+use Rattle.std.specs.Int.{div_ceil}
 use borrow.Rule.Slice.PartMut.{put_mid}
 use Rattle.ob_base.specs.Lists.{each}
 use Rattle.ob_base.specs.Numbers.{blocks_for}
@@ -150,6 +151,10 @@ read_next columns r first x all rows size spelt z below =
 
 pub product_within : (a b r : ℕ) → a ≤ b → a * r ≤ b * r
 product_within a b r fits = grind arith
+
+-- a chunk is no longer than what is kept
+pub kept_within : {n lefts : ℕ} (first capacity q pack : ℕ) → lefts ≡ div_ceil capacity pack → n ≡ min q (lefts - first) → n * pack ≤ min q (div_ceil capacity pack) * pack
+kept_within {n} {lefts} first capacity q pack whole is = product_within n (min q (div_ceil capacity pack)) pack (omega (arith, whole, is))
 
 pub sum_room : (first n m r : ℕ) → first + n ≤ m → first * r + n * r ≤ m * r
 sum_room first n m r fits =

@@ -1,5 +1,5 @@
 -- A join: its sizes, what its calls ask, and what they do.
-use Rattle.std.specs.Prelude.{◌≡◌, ◌≤◌, ◌<◌, ◌+◌, ◌++◌, ◌*◌, ◌⊎◌, ℕ, List, Result, None, OnOk, IfErr, MatchResult, length}
+use Rattle.std.specs.Prelude.{◌≡◌, ◌≤◌, ◌<◌, ◌+◌, ◌++◌, ◌*◌, ◌⊎◌, ℕ, min, List, Result, None, OnOk, IfErr, MatchResult, length}
 use Rattle.std.specs.Int.{div_ceil}
 use Rattle.ob_base.specs.declared.access.Access.{Access}
 use Rattle.ob_base.specs.Accesses.{make_at}
@@ -21,12 +21,12 @@ use Rattle.ob_flat.specs.declared.fault.OpErr.TheVariants.{Failed, NoMemory}
 use Rattle.ob_flat.specs.Slots.{Spelt, AreSlots}
 use Rattle.ob_flat.specs.Flats.{IsSized, IsMade, IsFlat, Represents}
 use Rattle.ob_vault.specs.Words.{IsHonest, SealsAll}
-use Rattle.ob_flat.specs.Words.{Ran, TamperedIn, SealsTable, Makes, NoMemoryIn, FitBlock, blocks_of}
+use Rattle.ob_flat.specs.Words.{Ran, TamperedIn, SealsTable, Makes, NoMemoryBehind, FitBlock, blocks_of}
 use Rattle.ob_join.specs.declared.sides.Sides.{Sides}
 use Rattle.ob_join.specs.Filling.{IsFilling, HoldsFirst, TurnsStay}
 use Rattle.ob_join.specs.Joining.{blocks_from, joined_in}
 
--- two tables of `pack` slots a block, their columns that are equal, and how many left blocks are
+-- two tables of `pack` slots a block, their columns that are equal, and how many left blocks may be
 -- kept
 pub record Join : Type 0 where
   pub pack : ℕ
@@ -64,7 +64,15 @@ lefts j = blocks_of j.pack j.left
 abbrev pub rights : Join → ℕ
 rights j = blocks_of j.pack j.right
 
--- as many left blocks as are kept are a chunk
+-- how many left blocks are kept at once: no more than there are
+abbrev pub kept_blocks : Join → ℕ
+kept_blocks j = min j.buffered (lefts j)
+
+-- how many rows are open: those of a right block and of one of the result, and the kept ones
+abbrev pub open_rows : Join → ℕ
+open_rows j = 2 * j.pack + kept_blocks j * j.pack
+
+-- as many left blocks as may be kept are a chunk
 abbrev pub chunks : Join → ℕ
 chunks j = div_ceil (lefts j) j.buffered
 
@@ -129,7 +137,7 @@ pub record AreBuffers (j : Join) (rows out : List (List ℕ)) : Type 0 where
 -- and those of a chunk
 pub record AreKept (j : Join) (kept : List (List ℕ)) : Type 0 where
   pub some : 1 ≤ j.buffered
-  pub space : length kept ≡ j.buffered * j.pack
+  pub space : length kept ≡ kept_blocks j * j.pack
   pub wide : Wide (width j.left.schema) kept
 
 -- the rows of a chunk were read
@@ -200,7 +208,7 @@ pub record Joins (j : Join) (result : Result Flat OpErr) (old new : World) : Typ
   pub ran : Ran (join_script j old.vault.next) (one old.vault.next) result old new
   pub never : IfErr result (λ e. (e ≡ Failed) ⊎ (e ≡ NoMemory)
       ⊎ TamperedIn j.pack j.left e new ⊎ TamperedIn j.pack j.right e new)
-  pub memory : NoMemoryIn (make_script j old.vault.next) result old new
+  pub memory : NoMemoryBehind (make_script j old.vault.next) result old new
   pub makes : Makes Round j.pack (table j old.vault.next) result old new
   pub left : IsFlat j.pack j.left new
   pub right : IsFlat j.pack j.right new

@@ -1,9 +1,11 @@
 -- The slots that a join makes of those of its right table.
-use Rattle.std.specs.Prelude.{◌≡◌, ◌<◌, ◌++◌, ◌*◌, ◌==◌, ◌&&◌, ℕ, Bool, nat_lt, List, Option, Some, None, length, find, take, drop, bytes_eq, slice_index_or, if◌then◌else◌}
-use Rattle.ob_base.specs.Schemas.{Columns}
+use Rattle.std.specs.Prelude.{◌≡◌, ◌<◌, ◌++◌, ◌*◌, ℕ, Bool, nat_lt, List, Option, Some, None, length, find, take, drop, slice_index_or, if◌then◌else◌}
+use Rattle.ob_base.specs.Schemas.{Columns, kind_width, width}
+use Rattle.ob_order.specs.Orders.{Lists}
 use Rattle.ob_row.specs.declared.cell.Cell.{Cell}
 use Rattle.ob_row.specs.Rows.{Row, cell_at, options_eq}
 use Rattle.ob_row.specs.Slots.{Slots, rows}
+use Rattle.ob_row.specs.Spelling.{kind_at}
 use Rattle.ob_base.specs.Lists.{each}
 use Rattle.ob_row.specs.Results.{joined_slot, joined_chunk, chunk}
 use Rattle.ob_blocks.specs.Blocks.{map_at}
@@ -17,10 +19,10 @@ abbrev pub joined_below : (i j : ℕ) → List Row → ℕ → ℕ → Option Ro
 joined_below i j left capacity x slot =
     if nat_lt x capacity then joined_slot i j left slot else None
 
--- whether the bytes have a row's mark, and this field at a place
-abbrev pub has_field : (at : ℕ) → (field bytes : List ℕ) → Bool
-has_field at field bytes =
-    (slice_index_or bytes 0 0 == 1) && bytes_eq (take (length field) (drop at bytes)) field
+-- the places of these rows, dummies left out, are listed in order of the cells of a column
+abbrev pub ListsBy : Columns → (column : ℕ) → (kept : List (List ℕ)) → (places : List ℕ) → Type 0
+ListsBy columns column kept places =
+    Lists (width (take column columns)) (kind_width (kind_at columns column)) kept places
 
 -- slot i has the first row that passes the test
 pub record IsPartner (p : Row → Bool) (slots : Slots) (i : ℕ) : Type 0 where

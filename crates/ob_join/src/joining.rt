@@ -8,11 +8,12 @@ ghost use Rattle.ob_row.specs.declared.cell.Cell.{Cell as RowCell};
 ghost use Rattle.ob_row.specs.Fields.{HoldsCell};
 ghost use Rattle.ob_row.specs.Spelling.{FitsKind, Begins, kind_at};
 ghost use Rattle.ob_flat.specs.Slots.{Spelt, AreSlots};
-ghost use Rattle.ob_join.specs.Joining.{HasColumns, FindsAt, FindsNone, agrees, columns_of, slot_of, block_of, has_field};
+ghost use Rattle.ob_join.specs.Joining.{HasColumns, FindsAt, FindsNone, ListsBy, agrees, columns_of, slot_of, block_of};
 
 use crate::sides::Sides;
 use ob_base::{Kind, Schema};
 use ob_flat::clear_row;
+use ob_order::Order;
 use ob_room::ClearRow;
 use ob_row::{Cell, Malformed, cell_in, kind_at, offset, put_cell, read, width};
 
@@ -49,18 +50,15 @@ fn field_at(row: &ClearRow, at: usize, n: usize) -> &[u8]
     &row.bytes()[at..at + n]
 }
 
-// Whether the bytes are those of a row, and have this field at a place.
-fn has_field(row: &ClearRow, at: usize, field: &[u8]) -> bool
-    requires some { 1 ≤ at }
-    requires wide { at + length field.now ≤ length row.now }
-    ensures { result ≡ has_field at field.now row.now }
-{
-    row.bytes()[0] == 1 && field_at(row, at, field.len()) == field
-}
-
 // The first kept row that has this field at this place.
-fn find_field(schema: &Schema, kept: &[ClearRow], column: u8, field: &[u8]) -> Option<usize>
-    requires wide { Wide (width schema.now) kept.now }
+fn find_field(
+    schema: &Schema,
+    order: &Order,
+    kept: &[ClearRow],
+    column: u8,
+    field: &[u8],
+) -> Option<usize>
+    requires listed { ListsBy schema.now column kept.now order.now.places }
     requires within { column < length schema.now }
     requires field { length field.now ≡ kind_width (kind_at schema.now column) }
     ensures inside { IfSome result (λ i. i < length kept.now) }
@@ -70,12 +68,10 @@ fn find_field(schema: &Schema, kept: &[ClearRow], column: u8, field: &[u8]) -> O
         → IfNone result (FindsNone (agrees column cell) schema.now kept.now) }
 {
     let at = offset(schema, column);
-    for i in 0..kept.len() {
-        if has_field(&kept[i], at, field) {
-            return Some(i);
-        }
+    match order.first_row(kept, at, field) {
+        Some(i) => Some(i as usize),
+        None => None,
     }
-    None
 }
 
 // Whether a column of this kind holds a cell that some column holds.
@@ -91,8 +87,14 @@ fn fits(kind: Kind, cell: &Cell) -> bool
 }
 
 // The first kept row with a cell at this place that is equal to another.
-fn find_cell(schema: &Schema, kept: &[ClearRow], column: u8, cell: &Cell) -> Option<usize>
-    requires wide { Wide (width schema.now) kept.now }
+fn find_cell(
+    schema: &Schema,
+    order: &Order,
+    kept: &[ClearRow],
+    column: u8,
+    cell: &Cell,
+) -> Option<usize>
+    requires listed { ListsBy schema.now column kept.now order.now.places }
     requires within { column < length schema.now }
     requires fits { (other : ColumnKind) × FitsKind other cell.now }
     ensures inside { IfSome result (λ i. i < length kept.now) }
@@ -106,18 +108,19 @@ fn find_cell(schema: &Schema, kept: &[ClearRow], column: u8, cell: &Cell) -> Opt
     let mut buffer = [0; 256];
     let (field, _) = buffer.split_at_mut(kind.width() as usize);
     put_cell(kind, cell, field);
-    find_field(schema, kept, column, field)
+    find_field(schema, order, kept, column, field)
 }
 
 // The first kept row with a cell at this place that is equal to the one that a field of this kind holds.
 fn find_partner(
     schema: &Schema,
+    order: &Order,
     kept: &[ClearRow],
     column: u8,
     kind: Kind,
     field: &[u8],
 ) -> Option<usize>
-    requires wide { Wide (width schema.now) kept.now }
+    requires listed { ListsBy schema.now column kept.now order.now.places }
     requires within { column < length schema.now }
     requires field { length field.now ≡ kind_width kind }
     ensures inside { IfSome result (λ i. i < length kept.now) }
@@ -127,10 +130,10 @@ fn find_partner(
         → IfNone result (FindsNone (agrees column cell) schema.now kept.now) }
 {
     if kind == kind_at(schema, column) {
-        return find_field(schema, kept, column, field);
+        return find_field(schema, order, kept, column, field);
     }
     match cell_in(kind, field) {
-        Some(cell) => find_cell(schema, kept, column, &cell),
+        Some(cell) => find_cell(schema, order, kept, column, &cell),
         None => None,
     }
 }
@@ -139,12 +142,14 @@ fn find_partner(
 // none, and where the right slot lies behind the capacity; refuses a right row that is malformed.
 fn join_slot(
     sides: &Sides<'_>,
+    order: &Order,
     kept: &[ClearRow],
     row: &ClearRow,
     inside: bool,
     to: &mut ClearRow,
 ) -> Result<(), Malformed>
     requires kept { Wide (width sides.now.left.now.schema) kept.now }
+    requires listed { ListsBy sides.now.left.now.schema sides.now.lcol kept.now order.now.places }
     requires row { width sides.now.right.now.schema ≤ length row.now }
     requires to { width (columns_of sides.now) ≤ length to.old }
     requires columns { HasColumns sides.now }
@@ -162,7 +167,7 @@ fn join_slot(
         let kind = kind_at(&sides.right.schema, sides.rcol);
         let at = offset(&sides.right.schema, sides.rcol);
         let field = field_at(row, at, kind.width() as usize);
-        if let Some(i) = find_partner(&sides.left.schema, kept, sides.lcol, kind, field) {
+        if let Some(i) = find_partner(&sides.left.schema, order, kept, sides.lcol, kind, field) {
             join_pair(&sides.left.schema, &kept[i], &sides.right.schema, row, to);
         }
     }
@@ -173,12 +178,14 @@ fn join_slot(
 // agrees with it; those behind the capacity become dummies. Refuses a block of which a row is malformed.
 pub(crate) fn join_rows(
     sides: &Sides<'_>,
+    order: &Order,
     kept: &[ClearRow],
     first: u32,
     rows: &[ClearRow],
     to: &mut [ClearRow],
 ) -> Result<(), Malformed>
     requires kept { Wide (width sides.now.left.now.schema) kept.now }
+    requires listed { ListsBy sides.now.left.now.schema sides.now.lcol kept.now order.now.places }
     requires rows { Wide (width sides.now.right.now.schema) rows.now }
     requires to { Wide (width (columns_of sides.now)) to.old }
     requires same { length to.old ≡ length rows.now }
@@ -194,7 +201,7 @@ pub(crate) fn join_rows(
 {
     for z in 0..rows.len() {
         let inside = first + (z as u32) < sides.right.capacity;
-        match join_slot(sides, kept, &rows[z], inside, &mut to[z]) {
+        match join_slot(sides, order, kept, &rows[z], inside, &mut to[z]) {
             Ok(()) => {}
             Err(malformed) => return Err(malformed),
         }

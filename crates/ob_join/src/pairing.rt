@@ -4,12 +4,13 @@ ghost use Rattle.ob_vault.specs.Rows.{SameSizes};
 ghost use Rattle.ob_vault.specs.Words.{MayAsk};
 ghost use Rattle.ob_flat.specs.Words.{IsTable, blocks_of};
 ghost use Rattle.ob_join.specs.Filling.{IsFilling};
-ghost use Rattle.ob_join.specs.Joining.{HasColumns};
+ghost use Rattle.ob_join.specs.Joining.{HasColumns, ListsBy};
 ghost use Rattle.ob_join.specs.Join.{IsResult, AreBuffers, IsChunk, PairsUp, join_of, rights};
 
 use crate::joining::join_rows;
 use crate::sides::Sides;
 use ob_flat::{Flat, OpErr};
+use ob_order::Order;
 use ob_room::ClearRow;
 use ob_row::Malformed;
 use ob_store::BlockStore;
@@ -20,6 +21,7 @@ use ob_vault::{Revisions, Vault};
 pub(crate) fn pair_blocks<S: BlockStore, R: Revisions>(
     store: &mut S,
     vault: &mut Vault<R>,
+    order: &Order,
     kept: &[ClearRow],
     sides: &Sides<'_>,
     rows: &mut [ClearRow],
@@ -39,6 +41,7 @@ pub(crate) fn pair_blocks<S: BlockStore, R: Revisions>(
     requires within { let rights = rights (join_of (length rows.old) sides.now) in
         chunk * rights + rights ≤ blocks_of (length rows.old) to.now }
     requires buffers { AreBuffers (join_of (length rows.old) sides.now) rows.old out.old }
+    requires listed { ListsBy sides.now.left.now.schema sides.now.lcol kept.now order.now.places }
     requires kept { IsChunk (join_of (length rows.old) sides.now) kept.now }
     ensures rows { SameSizes rows.old rows.new }
     ensures out { SameSizes out.old out.new }
@@ -51,7 +54,7 @@ pub(crate) fn pair_blocks<S: BlockStore, R: Revisions>(
     let first = chunk * blocks;
     for v in 0..blocks {
         vault.get(store, right.region, v, rows)?;
-        match join_rows(sides, kept, v * pack, rows, out) {
+        match join_rows(sides, order, kept, v * pack, rows, out) {
             Ok(()) => {}
             Err(Malformed) => {
                 return Err(OpErr::Tampered {

@@ -1,20 +1,20 @@
-ghost use Rattle.std.specs.Prelude.{◌≡◌, ◌≤◌, ◌+◌, ◌*◌, ◌++◌, max, length};
-ghost use Rattle.ob_base.specs.Limits.{buffered_blocks};
+ghost use Rattle.std.specs.Prelude.{◌≡◌, ◌≤◌, ◌<◌, ◌+◌, ◌*◌, ◌^◌, ◌++◌, max, length};
 ghost use Rattle.ob_base.specs.Schemas.{width};
 ghost use Rattle.ob_vault.specs.Places.{at};
 ghost use Rattle.ob_vault.specs.Rows.{SameSizes};
 ghost use Rattle.ob_row.specs.Results.{joined};
 ghost use Rattle.ob_blocks.specs.Idle.{IsIdle};
 ghost use Rattle.ob_vault.specs.Words.{MayStart};
-ghost use Rattle.ob_join.specs.Join.{MayJoin, AreBuffers, AreKept, Joins, TellsSlots, join_of, join_in, fill_length, result_slots};
+ghost use Rattle.ob_join.specs.Join.{MayJoin, AreBuffers, AreKept, Joins, TellsSlots, join_of, join_in, fill_length, open_rows, result_slots};
 
 use crate::filling::fill_result;
 use crate::sides::Sides;
 use ob_base::Schema;
 use ob_flat::{Flat, OpErr, make_table};
+use ob_order::Order;
 use ob_room::{ClearRow, Room};
 use ob_store::BlockStore;
-use ob_vault::{Order, Revisions, Vault};
+use ob_vault::{Order as Turns, Revisions, Vault};
 
 // The columns of the left table, and then those of the right one.
 fn joined_schema(left: &Schema, right: &Schema) -> Schema
@@ -33,6 +33,7 @@ fn joined_schema(left: &Schema, right: &Schema) -> Schema
 fn join_tables<S: BlockStore, R: Revisions>(
     store: &mut S,
     vault: &mut Vault<R>,
+    order: &mut Order,
     rows: &mut [ClearRow],
     out: &mut [ClearRow],
     kept: &mut [ClearRow],
@@ -44,6 +45,9 @@ fn join_tables<S: BlockStore, R: Revisions>(
         (at R.state vault.old (S.state store.old)) }
     requires buffers { AreBuffers (join_of (length rows.old) sides.now) rows.old out.old }
     requires kept { AreKept (join_of (length rows.old) sides.now) kept.old }
+    requires places { length kept.old ≤ order.old.most }
+    requires few { length kept.old < 2 ^ 32 }
+    ensures most { order.new.most ≡ order.old.most }
     ensures rows { SameSizes rows.old rows.new }
     ensures out { SameSizes out.old out.new }
     ensures kept { SameSizes kept.old kept.new }
@@ -58,13 +62,13 @@ fn join_tables<S: BlockStore, R: Revisions>(
     let chunks = left.capacity.div_ceil(pack).div_ceil(sides.buffered);
     let capacity = chunks * right.capacity.div_ceil(pack) * pack;
     let schema = joined_schema(&left.schema, &right.schema);
-    let region = make_table(store, vault, &schema, capacity, pack, Order::Round)?;
+    let region = make_table(store, vault, &schema, capacity, pack, Turns::Round)?;
     let fresh = Flat {
         schema,
         capacity,
         region,
     };
-    match fill_result(store, vault, kept, sides, rows, out, &fresh) {
+    match fill_result(store, vault, order, kept, sides, rows, out, &fresh) {
         Ok(()) => Ok(fresh),
         Err(e) => {
             vault.forget(region);
@@ -87,11 +91,12 @@ fn join_tables<S: BlockStore, R: Revisions>(
 /// the place of a block that is not what was written there last, or that has a malformed row, and
 /// `NoMemory` before anything is read. After an error the fresh region is forgotten. The chunks, and the
 /// dummies for right rows without a partner, are those of the hash join of ObliDB (Eskandarian and
-/// Zaharia, PVLDB 13(2), 2019); a chunk's rows are searched one by one here.
+/// Zaharia, PVLDB 13(2), 2019); a chunk's rows are sorted here.
 pub fn join<S: BlockStore, R: Revisions>(
     store: &mut S,
     vault: &mut Vault<R>,
     room: &mut Room,
+    order: &mut Order,
     left: &Flat,
     right: &Flat,
     lcol: u8,
@@ -102,9 +107,12 @@ pub fn join<S: BlockStore, R: Revisions>(
     requires tables { MayJoin (join_in room.old left.now lcol right.now rcol)
         (at R.state vault.old (S.state store.old)) }
     requires room { IsIdle (width (left.now.schema ++ right.now.schema)) room.old }
+    requires places { room.old.rows ≤ order.old.most }
+    requires few { room.old.rows < 2 ^ 32 }
+    ensures most { order.new.most ≡ order.old.most }
     ensures room { room.new ≡ record room.old {
-      high = max room.old.high (2 * room.old.pack
-          + buffered_blocks room.old.pack room.old.rows * room.old.pack);
+      high = max room.old.high
+          (open_rows (join_in room.old left.now lcol right.now rcol));
     } }
     ensures joins { Joins (join_in room.old left.now lcol right.now rcol) result
         (at R.state vault.old (S.state store.old)) (at R.state vault.new (S.state store.new)) }
@@ -114,7 +122,8 @@ pub fn join<S: BlockStore, R: Revisions>(
 {
     let pack = room.pack();
     let buffered = (room.rows() - 2 * pack) / pack;
-    let open = room.open(2 * pack + buffered * pack);
+    let kept_blocks = buffered.min(left.capacity.div_ceil(pack));
+    let open = room.open(2 * pack + kept_blocks * pack);
     let (blocks, kept) = open.split_at_mut(2 * pack as usize);
     let (rows, out) = blocks.split_at_mut(pack as usize);
     let sides = Sides {
@@ -124,7 +133,7 @@ pub fn join<S: BlockStore, R: Revisions>(
         rcol,
         buffered,
     };
-    let result = join_tables(store, vault, rows, out, kept, &sides);
+    let result = join_tables(store, vault, order, rows, out, kept, &sides);
     room.clear_shelf();
     result
 }

@@ -9,6 +9,7 @@ use ob_emit::emit_all;
 use ob_flat::{Flat, OpErr};
 use ob_group::{aggregate, group};
 use ob_io::StdSink;
+use ob_order::Order;
 use ob_print::{Pieces, Printer, RecordLine};
 use ob_room::Room;
 use ob_row::{Agg, Item, Pred};
@@ -77,8 +78,9 @@ pub(crate) fn count_aggregate<S: BlockStore, R: Revisions>(
     Ok(1)
 }
 
-/// Counts the rows of each group, and sums up their keys. There are sixteen groups.
+/// Counts the rows of each group, and sums up their keys. There are sixteen groups, or as many as rows.
 pub(crate) fn groups<S: BlockStore, R: Revisions>(
+    alloc: Global,
     store: &mut S,
     vault: &mut Vault<R>,
     room: &mut Room,
@@ -87,9 +89,15 @@ pub(crate) fn groups<S: BlockStore, R: Revisions>(
     requires { MayRun room.old flat.now (at R.state vault.old (S.state store.old)) }
 {
     make_room(store, u64::from(flat.capacity))?;
+    let Ok(mut order) = Order::new(alloc, room.rows()) else {
+        return Err(OpErr::NoMemory);
+    };
     let items = [Item::Key, Item::Agg(Agg::CountAll), Item::Agg(Agg::Sum(0))];
+    let all = Pred::all();
     let mut out = Counter { rows: 0 };
-    let _answer = group(store, vault, room, flat, &Pred::all(), 1, &items, &mut out)?;
+    let _answer = group(
+        store, vault, room, &mut order, flat, &all, 1, &items, &mut out,
+    )?;
     Ok(out.rows)
 }
 

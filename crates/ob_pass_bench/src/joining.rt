@@ -7,9 +7,11 @@ ghost use Rattle.ob_pass_bench.specs.Tables.{MayRun};
 use crate::filling::make_room;
 use ob_flat::{Flat, OpErr};
 use ob_join::join;
+use ob_order::Order;
 use ob_room::Room;
 use ob_store::BlockStore;
 use ob_vault::{Revisions, Vault};
+use std::alloc::Global;
 
 /// The most bytes of a joined row, and the most slots of its table.
 const WIDEST: u32 = 1024;
@@ -32,6 +34,7 @@ pub(crate) fn join_keys<S: BlockStore, R: Revisions>(
     store: &mut S,
     vault: &mut Vault<R>,
     room: &mut Room,
+    alloc: Global,
     left: &Flat,
     right: &Flat,
 ) -> Result<u64, OpErr>
@@ -44,7 +47,13 @@ pub(crate) fn join_keys<S: BlockStore, R: Revisions>(
     if width > WIDEST || blocks > MOST || blocks * u64::from(pack) > MOST {
         return Err(OpErr::NoMemory);
     }
+    if room.rows() > 65_536 {
+        return Err(OpErr::NoMemory);
+    }
+    let Ok(mut order) = Order::new(alloc, room.rows()) else {
+        return Err(OpErr::NoMemory);
+    };
     make_room(store, 1 + u64::from(left.capacity) + 2 * blocks)?;
-    let joined = join(store, vault, room, left, right, 0, 0)?;
+    let joined = join(store, vault, room, &mut order, left, right, 0, 0)?;
     Ok(u64::from(joined.capacity))
 }

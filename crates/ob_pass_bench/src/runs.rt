@@ -9,7 +9,7 @@ use crate::answers::{count_aggregate, emission, groups, printing, total};
 use crate::filling::{filled, make_room, wait};
 use crate::joining::join_keys;
 use crate::mutations::{count_half, delete_half, insert_one, update_half};
-use crate::schemas::schema_of;
+use crate::schemas::{FEW, SCATTERED, schema_of};
 use crate::selects::{continuous, hash, large, small};
 use ob_base::Schema;
 use ob_flat::{Flat, OpErr, create, discard};
@@ -57,7 +57,7 @@ fn run_join<H: Input + Print + AllocGlobal, S: BlockStore, R: Revisions>(
         return Ok(0);
     }
     wait(host)?;
-    join_keys(store, vault, room, &left, &right)
+    join_keys(store, vault, room, alloc, &left, &right)
 }
 
 // Makes a table whose slots are empty.
@@ -117,7 +117,7 @@ fn run_pass<S: BlockStore, R: Revisions>(
         b'H' => hash(store, vault, room, flat, case.k, false),
         b'h' => hash(store, vault, room, flat, case.k, true),
         b'a' => total(store, vault, room, flat),
-        b'g' => groups(store, vault, room, flat),
+        b'g' | b'G' => groups(alloc, store, vault, room, flat),
         b'e' => emission(store, vault, room, flat),
         b'p' => printing(alloc, store, vault, room, flat),
         _ => Ok(0),
@@ -146,8 +146,12 @@ fn run_case<H: Input + Print + AllocGlobal, S: BlockStore, R: Revisions>(
         b'n' => return run_create(host, store, vault, room, schemas.1, case.slots),
         _ => {}
     }
-    // (an INSERT finds an empty slot)
-    let full = case.full.min(case.slots - u32::from(case.pass == b'i'));
+    // (an INSERT finds an empty slot, and each row of a GROUP BY of scattered numbers is a group of its own)
+    let full = match case.pass {
+        b'i' => case.full.min(case.slots - 1),
+        b'G' => case.full.min(case.k),
+        _ => case.full.min(case.slots),
+    };
     let mut flat = filled(
         host.alloc(),
         store,
@@ -170,8 +174,9 @@ fn run_case<H: Input + Print + AllocGlobal, S: BlockStore, R: Revisions>(
 /// memory ran out.
 pub(crate) fn run<H: Input + Print + AllocGlobal>(host: &H, case: &Case) -> Option<u64> {
     let alloc = host.alloc();
-    let numbers = schema_of(17)?;
-    let schema = schema_of(case.width)?;
+    let second = if case.pass == b'G' { SCATTERED } else { FEW };
+    let numbers = schema_of(17, second)?;
+    let schema = schema_of(case.width, second)?;
     if case.pack < 1 || case.pack > 16 || case.rows < 3 * case.pack + 1 || case.rows > 65_536 {
         return None;
     }

@@ -22,21 +22,28 @@ fn column(name: &[u8], kind: Kind, key: bool) -> Column
     }
 }
 
-// A key, and a number beside it.
-fn two_numbers() -> Schema
+/// The name of a column of sixteen numbers, and that of one of scattered numbers, each in one row.
+pub(crate) const FEW: &[u8] = b"v";
+
+pub(crate) const SCATTERED: &[u8] = b"u";
+
+// A key, and beside it numbers in a column of this name.
+fn two_numbers(second: &[u8]) -> Schema
+    requires { length second.now ≤ 32 }
     ensures { HasColumns 2 17 result }
 {
     let mut schema = Schema::new();
     schema.push(column(b"id", Kind::Int, true));
-    schema.push(column(b"v", Kind::Int, false));
+    schema.push(column(second, Kind::Int, false));
     schema
 }
 
 // The columns of two tables of two numbers that are joined.
-fn four_numbers() -> Schema
+fn four_numbers(second: &[u8]) -> Schema
+    requires { length second.now ≤ 32 }
     ensures { HasColumns 4 33 result }
 {
-    with_number(with_number(two_numbers(), b"k"), b"w")
+    with_number(with_number(two_numbers(second), b"k"), b"w")
 }
 
 // The same columns, and one of numbers.
@@ -61,26 +68,29 @@ fn with_text(mut schema: Schema, n: u8) -> Schema
 }
 
 // Two numbers, and three of the longest texts, and one of so many bytes.
-fn with_texts(n: u8) -> Schema
+fn with_texts(second: &[u8], n: u8) -> Schema
+    requires { length second.now ≤ 32 }
     ensures { HasColumns 6 (786 + n) result }
 {
-    let schema = with_text(two_numbers(), 255);
+    let schema = with_text(two_numbers(second), 255);
     let schema = with_text(schema, 255);
     let schema = with_text(schema, 255);
     with_text(schema, n)
 }
 
-/// The columns of a table whose rows have so many bytes, for the widths that are measured.
-pub(crate) fn schema_of(bytes: u32) -> Option<Schema>
+/// The columns of a table whose rows have so many bytes, for the widths that are measured; the second of them
+/// has this name.
+pub(crate) fn schema_of(bytes: u32, second: &[u8]) -> Option<Schema>
+    requires { length second.now ≤ 32 }
     ensures columns { IfSome result AreColumns }
     ensures wide { IfSome result (λ schema. width schema ≡ bytes) }
 {
     match bytes {
-        17 => Some(two_numbers()),
-        33 => Some(four_numbers()),
-        128 => Some(with_text(two_numbers(), 110)),
-        1008 => Some(with_texts(222)),
-        1024 => Some(with_texts(238)),
+        17 => Some(two_numbers(second)),
+        33 => Some(four_numbers(second)),
+        128 => Some(with_text(two_numbers(second), 110)),
+        1008 => Some(with_texts(second, 222)),
+        1024 => Some(with_texts(second, 238)),
         _ => None,
     }
 }
@@ -93,12 +103,18 @@ fn text_of(n: u8) -> Text
     Text::from_bytes(&bytes[..usize::from(n)])
 }
 
+// A number of its own for each index below 65,536, in no order.
+fn scattered(i: u32) -> u32 {
+    i.wrapping_mul(40_503) % 65_536
+}
+
 // What stands in a column of the row of this index.
 fn sample_cell(column: &Column, i: u32) -> Cell
     ensures { FitsKind column.now.kind result }
 {
     match column.kind {
         Kind::Int if column.key => Cell::Int(i64::from(i)),
+        Kind::Int if column.name.as_bytes() == SCATTERED => Cell::Int(i64::from(scattered(i))),
         Kind::Int => Cell::Int(i64::from(i % 16)),
         Kind::Varchar(n) => Cell::Text(text_of(n)),
     }

@@ -12,6 +12,7 @@ use crate::tables::{FOUR, filled, insert_cells, make_room, opened, two_ints};
 use ob_base::{ComparisonOperator, EmitErr, Shown, Text};
 use ob_flat::{OpErr, create};
 use ob_group::{Grouped, agg_label, group};
+use ob_order::Order;
 use ob_room::Room;
 use ob_row::{Agg, Cell, Item, Operand, Pred};
 use ob_store::BlockStore;
@@ -37,6 +38,7 @@ struct Case<'a> {
 
 fn session<S: BlockStore, R: Revisions>(
     rt: &impl Abort,
+    alloc: Global,
     store: &mut S,
     mut vault: Vault<R>,
     mut room: Room,
@@ -56,8 +58,9 @@ fn session<S: BlockStore, R: Revisions>(
     make_room(rt, store);
     let from = store.count();
     let mut out = Wanted::new(case.labels, case.wanted, case.calls, case.fault);
+    let mut order = Order::new(alloc, room.rows()).expect(rt, "an order");
     let answer = group(
-        store, &mut vault, &mut room, &flat, case.pred, case.key, case.items, &mut out,
+        store, &mut vault, &mut room, &mut order, &flat, case.pred, case.key, case.items, &mut out,
     );
     assert_eq!(rt; answer, case.answer);
     assert!(rt; out.is_same);
@@ -73,7 +76,7 @@ fn in_memory(rt: &impl Abort, alloc: Global, buffer: u32, pack: u32, blocks: u32
     requires within { AreWithin 2 (aggs_of case.now.items.now) }
 {
     let (mut store, vault, room) = opened::<BaseRevs>(rt, alloc, buffer, pack);
-    session(rt, &mut store, vault, room, case, blocks);
+    session(rt, alloc, &mut store, vault, room, case, blocks);
 }
 
 // In blocks of one row and of two, where two groups may be kept.
@@ -133,6 +136,36 @@ fn by_first_slot(rt: HostRuntime) {
             fault: EmitErr::Failed,
         },
     );
+}
+
+// Groups in another order than their keys, as many as blocks, or fewer: an earlier one has a later row.
+#[test]
+fn in_another_order_than_their_keys(rt: HostRuntime) {
+    for (buffer, pack, blocks) in [(5, 1, 4), (64, 1, 4), (64, 2, 2), (64, 3, 2)] {
+        in_memory(
+            &rt,
+            rt.alloc(),
+            buffer,
+            pack,
+            blocks,
+            &Case {
+                rows: &[(1, 30), (2, -5), (3, 7), (4, -5)],
+                pred: &Pred::all(),
+                key: 1,
+                items: &COUNTED,
+                labels: &[b"v", b"COUNT(*)", b"SUM(id)"],
+                wanted: &[
+                    &[Shown::Int(30), Shown::Int(1), Shown::Int(1)],
+                    &[Shown::Int(-5), Shown::Int(2), Shown::Int(6)],
+                    &[Shown::Int(7), Shown::Int(1), Shown::Int(3)],
+                ],
+                answer: Ok(Grouped::Groups(3)),
+                taken: (1, 3),
+                calls: 9,
+                fault: EmitErr::Failed,
+            },
+        );
+    }
 }
 
 // Three keys, two of them of selected rows.
@@ -328,6 +361,7 @@ const OF_TEXTS: [Item; 4] = [
 // Texts as keys; a column of them has no integers.
 fn texts<S: BlockStore, R: Revisions>(
     rt: &impl Abort,
+    alloc: Global,
     store: &mut S,
     mut vault: Vault<R>,
     mut room: Room,
@@ -363,10 +397,12 @@ fn texts<S: BlockStore, R: Revisions>(
     ];
     let labels: [&[u8]; 4] = [b"s", b"COUNT(s)", b"MAX(s)", b"MAX(id)"];
     let mut out = Wanted::new(&labels, &wanted, 9, EmitErr::Failed);
+    let mut order = Order::new(alloc, room.rows()).expect(rt, "an order");
     let answer = group(
         store,
         &mut vault,
         &mut room,
+        &mut order,
         &flat,
         &Pred::all(),
         1,
@@ -381,5 +417,5 @@ fn texts<S: BlockStore, R: Revisions>(
 #[test]
 fn of_texts(rt: HostRuntime) {
     let (mut store, vault, room) = opened::<BaseRevs>(&rt, rt.alloc(), 7, 2);
-    texts(&rt, &mut store, vault, room);
+    texts(&rt, rt.alloc(), &mut store, vault, room);
 }

@@ -9,6 +9,7 @@ ghost use Rattle.ob_flat.specs.Flats.{IsFlat};
 use crate::tables::{Entry, FOUR, check, emit_discard, filled, make_room, opened, two_ints};
 use ob_flat::Flat;
 use ob_join::join;
+use ob_order::Order;
 use ob_room::Room;
 use ob_store::BlockStore;
 use ob_vault::{BaseRevs, Revisions, Vault};
@@ -30,6 +31,7 @@ struct Case<'a> {
 
 fn join_emit<S: BlockStore, R: Revisions>(
     rt: &impl Abort,
+    alloc: Global,
     store: &mut S,
     vault: &mut Vault<R>,
     room: &mut Room,
@@ -53,7 +55,8 @@ fn join_emit<S: BlockStore, R: Revisions>(
     make_room(rt, store);
     let from = store.count();
     let (lcol, rcol) = case.columns;
-    let result = join(store, vault, room, left, right, lcol, rcol).expect(rt, "join");
+    let mut order = Order::new(alloc, room.rows()).expect(rt, "an order");
+    let result = join(store, vault, room, &mut order, left, right, lcol, rcol).expect(rt, "join");
     emit_discard(rt, store, vault, room, result, &[0, 1, 2, 3], case.rows);
     if let Some(wanted) = case.wanted {
         check(rt, store, from, wanted);
@@ -63,6 +66,7 @@ fn join_emit<S: BlockStore, R: Revisions>(
 // Both tables are made, filled and joined.
 fn session<S: BlockStore, R: Revisions>(
     rt: &impl Abort,
+    alloc: Global,
     store: &mut S,
     mut vault: Vault<R>,
     mut room: Room,
@@ -81,7 +85,7 @@ fn session<S: BlockStore, R: Revisions>(
     let left = filled(rt, store, &mut vault, &mut room, &keyed, slots, rows);
     let (slots, rows) = case.right;
     let right = filled(rt, store, &mut vault, &mut room, &plain, slots, rows);
-    join_emit(rt, store, &mut vault, &mut room, &left, &right, case);
+    join_emit(rt, alloc, store, &mut vault, &mut room, &left, &right, case);
 }
 
 fn run(rt: &impl Abort, alloc: Global, cases: &[Case<'_>]) {
@@ -93,7 +97,7 @@ fn run(rt: &impl Abort, alloc: Global, cases: &[Case<'_>]) {
             assert!(rt; 1 <= *pack && *pack <= 16);
             assert!(rt; 3 * *pack < *rows);
             let (mut store, vault, room) = opened::<BaseRevs>(rt, alloc, *rows, *pack);
-            session(rt, &mut store, vault, room, case);
+            session(rt, alloc, &mut store, vault, room, case);
         }
     }
 }
@@ -213,7 +217,7 @@ fn asks_what_is_wanted(rt: HostRuntime) {
     run(&rt, rt.alloc(), &WITH_ACCESSES);
 }
 
-const IN_ALL_SIZES: [Case<'static>; 5] = [
+const IN_ALL_SIZES: [Case<'static>; 7] = [
     // All left rows fit one chunk, and the joined rows come in order of the right slots. Rows on either side
     // have no partner, and slots stay empty.
     Case {
@@ -240,6 +244,24 @@ const IN_ALL_SIZES: [Case<'static>; 5] = [
         right: (3, &[(5, 20), (6, 10), (7, 30)]),
         columns: (1, 1),
         rows: &[2, 20, 5, 20, 1, 10, 6, 10],
+        wanted: None,
+    },
+    // Left rows in another order than their cells: the joined rows come in order of the right slots all the same.
+    Case {
+        sizes: &[(64, 1), (64, 2), (64, 3)],
+        left: (8, &[(9, 1), (7, 2), (-5, 3), (3, 4), (1, 5)]),
+        right: (6, &[(9, 11), (3, 12), (9, 13), (4, 14), (-5, 15)]),
+        columns: (0, 0),
+        rows: &[9, 1, 9, 11, 3, 4, 3, 12, 9, 1, 9, 13, -5, 3, -5, 15],
+        wanted: None,
+    },
+    // The same in chunks of two left slots, the last of them empty.
+    Case {
+        sizes: &[(4, 1), (7, 2)],
+        left: (8, &[(9, 1), (7, 2), (-5, 3), (3, 4), (1, 5)]),
+        right: (6, &[(9, 11), (3, 12), (9, 13), (4, 14), (-5, 15)]),
+        columns: (0, 0),
+        rows: &[9, 1, 9, 11, 9, 1, 9, 13, 3, 4, 3, 12, -5, 3, -5, 15],
         wanted: None,
     },
     // No rows on the left.

@@ -18,6 +18,8 @@ mod joins;
 #[cfg(test)]
 mod mutations;
 #[cfg(test)]
+mod orders;
+#[cfg(test)]
 mod revisions;
 #[cfg(test)]
 mod selects;

@@ -1,12 +1,13 @@
-use Rattle.std.proofs.Common.{◌≡◌, ◌≤◌, ◌+◌, ◌*◌, ◌<◌, ◌++◌, [], ℕ, List, inl, inr, length, take, sym, ◌∙◌, ap, subst, arith}
+use Rattle.std.proofs.Common.{◌≡◌, ◌≤◌, ◌+◌, ◌*◌, ◌<◌, ◌++◌, [], ℕ, List, inl, inr, length, take, refl, sym, ◌∙◌, ap, subst, arith}
 use Rattle.std.proofs.lemmas.List.{take_all}
 use Rattle.std.proofs.lemmas.List.Sums.{fold-append}
 use Rattle.std.proofs.lemmas.Result.{err_from_is_err_and}
 use Rattle.ob_base.specs.Accesses.{read_at}
 use Rattle.ob_base.specs.Numbers.{blocks_for}
-use Rattle.ob_base.specs.Schemas.{width}
+use Rattle.ob_base.specs.Schemas.{kind_width, width}
 use Rattle.ob_vault.specs.Calls.{none}
 use Rattle.ob_vault.proofs.Runs.{went_none, went_each, lives_went, written_went, none_went, fit_same, fit_trans, may_get, seals_none}
+use Rattle.ob_order.specs.Orders.{OrderState}
 use Rattle.ob_row.specs.Slots.{Slots}
 use Rattle.ob_row.specs.Spelling.{kind_at}
 use Rattle.ob_row.specs.Truth.{is_true}
@@ -20,8 +21,9 @@ use Rattle.ob_flat.proofs.Rows.{wide_fit, wide_same}
 use Rattle.ob_flat.proofs.Runs.{pass_of, pass_each, pass_malformed}
 use Rattle.ob_flat.proofs.Tables.{reads, flat_lasts, index_fits, represents_lasts, block_long, got, whole_size, blocks_end}
 use Rattle.ob_group.specs.Grouping.{Group, put_slot, aggs_of, groups_with, groups_of}
-use Rattle.ob_group.specs.Held.{AreGroups}
+use Rattle.ob_group.specs.Held.{AreGroups, AreListed}
 use Rattle.ob_flat.proofs.WordLemmas.{sealed_after, tampered_in, get_refused, rows_malformed}
+use Rattle.ob_group.proofs.Listed.{none_listed}
 use Rattle.ob_group.proofs.SlotLemmas.{spelt_same, groups_weak, groups_none}
 use Rattle.ob_group.proofs.reading.group_blocks.Goals as goal
 
@@ -63,6 +65,8 @@ loop-u-init g c =
       seals = record { seals = λ good. seals_none good _ };
       same = same_rows c.args.rows.now;
       kept = same_rows groups;
+      listed = λ most. subst (AreListed (kind_width kind) 0 groups) (sym (ap (λ (o : OrderState). o.places) c.clear.ensures)) (none_listed (kind_width kind) groups);
+      most = refl;
       held = ([], subst (λ (m : ℕ). AreGroups kind m (length c.args.items.now) 0 [] groups) zero (groups_none kind (length c.args.items.now) groups), λ slots is nolie. none_taken pack (whole_blocks pack c.args.flat.now.capacity slots));
     }
 
@@ -132,7 +136,7 @@ pub returns-in-Err-clause-rows : goal.returns-in-Err-clause-rows
 returns-in-Err-clause-rows g c = fit_trans _ _ _ c.loop-u.invariant.same c.get.ensures.rows
 
 pub returns-in-Err-clause-groups : goal.returns-in-Err-clause-groups
-returns-in-Err-clause-groups g c = fit_trans _ _ _ c.loop-u.invariant.kept c.group_rows.ensures.size
+returns-in-Err-clause-groups g c = fit_trans _ _ _ c.loop-u.invariant.kept c.group_rows.ensures.gathers.size
 
 pub returns-in-Err-clause-gathers : goal.returns-in-Err-clause-gathers
 returns-in-Err-clause-gathers g c =
@@ -151,7 +155,7 @@ returns-in-Err-clause-gathers g c =
     record {
       ran = record { ok = tt; err = ended };
       never = inr (tampered_in below (rows_malformed (length c.loop-u.rows) c.get.new.rows table.some before.same.count same.count wide (read.opened shape lives)
-          (λ slots is. c.in-Err.ensures.malformed (record { slots = slots; spelt = is }))));
+          (λ slots is. c.in-Err.ensures.gathers.malformed (record { slots = slots; spelt = is }))));
       seals = sealed_after before.went.lasts before.seals c.get.ensures.gets.seals;
       source = flat_lasts pack flat none _ _ ended.lasts (λ s. s) table.written;
       held = tt;
@@ -159,7 +163,7 @@ returns-in-Err-clause-gathers g c =
           let now = represents_lasts pack flat none _ _ before.went.lasts (λ s. s) slots is in
           let bytes = read.told _ shape lives (block_long pack flat slots _ is table.some u below) (now.holds u below) nolie in
           let spelt = got pack flat slots _ is table.some u (length c.loop-u.rows) c.get.new.rows below before.same.count same.count wide bytes in
-          absurd (c.in-Err.ensures.malformed (record { slots = block_at pack (whole_blocks pack flat.capacity slots) u; spelt = spelt }));
+          absurd (c.in-Err.ensures.gathers.malformed (record { slots = block_at pack (whole_blocks pack flat.capacity slots) u; spelt = spelt }));
     }
 
 pub loop-u-preserved : goal.loop-u-preserved
@@ -176,7 +180,7 @@ loop-u-preserved g c =
     let went = c.loop-u.invariant.went in
     let same = fit_trans _ _ _ c.loop-u.invariant.same c.get.ensures.rows in
     let held = c.loop-u.invariant.held in
-    let block = c.in-Ok.ensures.held in
+    let block = c.in-Ok.ensures.gathers.held in
     let few = fits pack flat.capacity u (length c.get.new.rows) table.some table.most table.size.most below same.count in
     let more : u * pack + length c.get.new.rows ≡ (u + 1) * pack = next u pack (length c.get.new.rows) same.count in
     let grown = block.put (groups_of p c.args.key c.args.items.now held.0) (u * pack) few held.1 in
@@ -186,7 +190,9 @@ loop-u-preserved g c =
       went = went_each none (read_at flat.region) _ _ _ u went c.in_ok-get.ensures.gets.ok;
       seals = sealed_after went.lasts c.loop-u.invariant.seals c.get.ensures.gets.seals;
       same = same;
-      kept = fit_trans _ _ _ c.loop-u.invariant.kept c.group_rows.ensures.size;
+      kept = fit_trans _ _ _ c.loop-u.invariant.kept c.group_rows.ensures.gathers.size;
+      listed = c.in-Ok.ensures.listed;
+      most = c.group_rows.ensures.most ∙ c.loop-u.invariant.most;
       held = (
         held.0 ++ block.slots,
         subst (λ (m : ℕ). AreGroups kind m count c.in-Ok.more (groups_of p c.args.key c.args.items.now (held.0 ++ block.slots)) c.group_rows.new.groups) more
@@ -227,3 +233,19 @@ returns-clause-gathers g c =
       };
       told = λ slots is nolie. tt;
     }
+
+-- ---- the order has as much room as before
+pub returns-in_err-get-clause-most : goal.returns-in_err-get-clause-most
+returns-in_err-get-clause-most g c = c.loop-u.invariant.most ∙ ap (λ (o : OrderState). o.most) c.clear.ensures
+
+pub group_rows-requires-clause-listed : goal.group_rows-requires-clause-listed
+group_rows-requires-clause-listed g c = c.loop-u.invariant.listed
+
+pub group_rows-requires-clause-most : goal.group_rows-requires-clause-most
+group_rows-requires-clause-most g c = omega (arith, c.loop-u.invariant.kept.count, c.loop-u.invariant.most, ap (λ (o : OrderState). o.most) c.clear.ensures, c.requires.most)
+
+pub returns-in-Err-clause-most : goal.returns-in-Err-clause-most
+returns-in-Err-clause-most g c = c.group_rows.ensures.most ∙ c.loop-u.invariant.most ∙ ap (λ (o : OrderState). o.most) c.clear.ensures
+
+pub returns-clause-most : goal.returns-clause-most
+returns-clause-most g c = c.loop-u.invariant.most ∙ ap (λ (o : OrderState). o.most) c.clear.ensures

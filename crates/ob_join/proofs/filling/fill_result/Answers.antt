@@ -1,9 +1,10 @@
-use Rattle.std.proofs.Common.{◌≡◌, ◌≤◌, ◌+◌, ◌-◌, ◌*◌, [], min, ℕ, inl, inr, length, take, sym, ◌∙◌, ap, subst, arith}
+use Rattle.std.proofs.Common.{◌≡◌, ◌≤◌, ◌+◌, ◌-◌, ◌*◌, [], min, ℕ, inl, inr, length, take, refl, sym, ◌∙◌, ap, subst, arith}
 use Rattle.std.proofs.lemmas.List.{length-take}
 use Rattle.std.proofs.lemmas.Result.{err_from_is_err_and}
 use Rattle.ob_base.specs.Lists.{each}
 use Rattle.ob_base.specs.Numbers.{blocks_for}
-use Rattle.ob_base.specs.Schemas.{width}
+use Rattle.ob_base.specs.Schemas.{kind_width, width}
+use Rattle.ob_order.specs.Orders.{Lists}
 use Rattle.ob_script.specs.Parts.{read_from}
 use Rattle.ob_vault.specs.Calls.{none, one}
 use Rattle.ob_vault.specs.Places.{at, RowsFit}
@@ -24,7 +25,7 @@ use Rattle.ob_join.specs.Joining.{blocks_from}
 use Rattle.ob_join.proofs.Lengths.{spent, begun, taken, all_chunks, next_chunk}
 use Rattle.ob_join.proofs.Places.{filling_first, filling_at, filling_read, filled, holds_at, holds_read}
 use Rattle.ob_join.proofs.Results.{chunk_inside, joined_kept, represents_joined, whole_product}
-use Rattle.ob_join.proofs.Windows.{nearer, reads_from, product_within, part_wide, put_sizes}
+use Rattle.ob_join.proofs.Windows.{nearer, reads_from, product_within, kept_within, part_wide, put_sizes}
 use Rattle.ob_join.proofs.filling.fill_result.Goals as goal
 
 pub overflow_mul-first : goal.overflow_mul-first
@@ -56,13 +57,28 @@ overflow_mul-own g c =
 pub slice_bounds-own-end : goal.slice_bounds-own-end
 slice_bounds-own-end g c =
     let pack = length c.args.rows.now in
-    omega (arith, product_within c.min-n.result c.args.sides.now.buffered pack (omega (arith, c.min-n.ensures)), c.loop-chunk.invariant.kept.count, c.requires.kept.space)
+    omega (arith, kept_within _ c.args.sides.now.left.now.capacity c.args.sides.now.buffered pack c.div_ceil-lefts.ensures c.min-n.ensures, c.loop-chunk.invariant.kept.count, c.requires.kept.space)
 
 pub slice_bounds-own-end-in-loop-chunk : goal.slice_bounds-own-end-in-loop-chunk
 slice_bounds-own-end-in-loop-chunk g c =
     let pack = length c.args.rows.now in
     let n = c.min-n.result in
-    omega (arith, product_within n c.args.sides.now.buffered pack (omega (arith, c.min-n.ensures)), c.loop-chunk.invariant.kept.count, c.requires.kept.space, length-take (n * pack) c.loop-chunk.kept)
+    omega (arith, kept_within _ c.args.sides.now.left.now.capacity c.args.sides.now.buffered pack c.div_ceil-lefts.ensures c.min-n.ensures, c.loop-chunk.invariant.kept.count, c.requires.kept.space, length-take (n * pack) c.loop-chunk.kept)
+
+pub list-requires-clause-room : goal.list-requires-clause-room
+list-requires-clause-room g c =
+    let kept = c.loop-chunk.kept in
+    let n = c.min-n.result * length c.args.rows.now in
+    omega (arith, c.collect_chunk.ensures.kept.count, length-take n kept, c.loop-chunk.invariant.kept.count, c.requires.places, c.loop-chunk.invariant.most)
+
+pub returns-in_err-collect_chunk-clause-most : goal.returns-in_err-collect_chunk-clause-most
+returns-in_err-collect_chunk-clause-most g c = c.loop-chunk.invariant.most
+
+pub returns-in_err-pair_blocks-clause-most : goal.returns-in_err-pair_blocks-clause-most
+returns-in_err-pair_blocks-clause-most g c = c.list.ensures.most ∙ c.loop-chunk.invariant.most
+
+pub returns-clause-most : goal.returns-clause-most
+returns-clause-most g c = c.loop-chunk.invariant.most
 
 pub collect_chunk-requires-clause-within : goal.collect_chunk-requires-clause-within
 collect_chunk-requires-clause-within g c =
@@ -76,13 +92,13 @@ pub collect_chunk-requires-clause-space : goal.collect_chunk-requires-clause-spa
 collect_chunk-requires-clause-space g c =
     let pack = length c.args.rows.now in
     let n = c.min-n.result in
-    omega (arith, product_within n c.args.sides.now.buffered pack (omega (arith, c.min-n.ensures)), c.loop-chunk.invariant.kept.count, c.requires.kept.space, length-take (n * pack) c.loop-chunk.kept)
+    omega (arith, kept_within _ c.args.sides.now.left.now.capacity c.args.sides.now.buffered pack c.div_ceil-lefts.ensures c.min-n.ensures, c.loop-chunk.invariant.kept.count, c.requires.kept.space, length-take (n * pack) c.loop-chunk.kept)
 
 pub collect_chunk-requires-clause-wide : goal.collect_chunk-requires-clause-wide
 collect_chunk-requires-clause-wide g c =
     let pack = length c.args.rows.now in
     let n = c.min-n.result in
-    let fits : 0 + n * pack ≤ length c.loop-chunk.kept = omega (arith, product_within n c.args.sides.now.buffered pack (omega (arith, c.min-n.ensures)), c.loop-chunk.invariant.kept.count, c.requires.kept.space) in
+    let fits : 0 + n * pack ≤ length c.loop-chunk.kept = omega (arith, kept_within _ c.args.sides.now.left.now.capacity c.args.sides.now.buffered pack c.div_ceil-lefts.ensures c.min-n.ensures, c.loop-chunk.invariant.kept.count, c.requires.kept.space) in
     part_wide 0 (n * pack) c.loop-chunk.kept fits (width c.args.sides.now.left.now.schema) (wide_same _ _ _ c.loop-chunk.invariant.kept c.requires.kept.wide)
 
 pub returns-in_err-collect_chunk-clause-kept : goal.returns-in_err-collect_chunk-clause-kept
@@ -90,7 +106,7 @@ returns-in_err-collect_chunk-clause-kept g c =
     let pack = length c.args.rows.now in
     let n = c.min-n.result in
     let kept = c.loop-chunk.kept in
-    let fits : 0 + n * pack ≤ length kept = omega (arith, product_within n c.args.sides.now.buffered pack (omega (arith, c.min-n.ensures)), c.loop-chunk.invariant.kept.count, c.requires.kept.space) in
+    let fits : 0 + n * pack ≤ length kept = omega (arith, kept_within _ c.args.sides.now.left.now.capacity c.args.sides.now.buffered pack c.div_ceil-lefts.ensures c.min-n.ensures, c.loop-chunk.invariant.kept.count, c.requires.kept.space) in
     let long : length (take (n * pack) kept) ≡ n * pack = omega (arith, fits, length-take (n * pack) kept) in
     fit_trans _ _ _ c.loop-chunk.invariant.kept (put_sizes 0 (n * pack) kept fits c.collect_chunk.new.kept (c.collect_chunk.ensures.kept.count ∙ long) c.collect_chunk.ensures.kept)
 
@@ -105,7 +121,7 @@ returns-in_err-pair_blocks-clause-kept g c =
     let pack = length c.args.rows.now in
     let n = c.min-n.result in
     let kept = c.loop-chunk.kept in
-    let fits : 0 + n * pack ≤ length kept = omega (arith, product_within n c.args.sides.now.buffered pack (omega (arith, c.min-n.ensures)), c.loop-chunk.invariant.kept.count, c.requires.kept.space) in
+    let fits : 0 + n * pack ≤ length kept = omega (arith, kept_within _ c.args.sides.now.left.now.capacity c.args.sides.now.buffered pack c.div_ceil-lefts.ensures c.min-n.ensures, c.loop-chunk.invariant.kept.count, c.requires.kept.space) in
     let long : length (take (n * pack) kept) ≡ n * pack = omega (arith, fits, length-take (n * pack) kept) in
     fit_trans _ _ _ c.loop-chunk.invariant.kept (put_sizes 0 (n * pack) kept fits c.collect_chunk.new.kept (c.collect_chunk.ensures.kept.count ∙ long) c.collect_chunk.ensures.kept)
 
@@ -136,6 +152,7 @@ loop-chunk-init g c =
     record {
       went = went_none (one to.region) _ c.requires.asks.ready;
       seals = seals_any (λ good. seals_none good _);
+      most = refl;
       kept = same_rows c.args.kept.now;
       rows = same_rows c.args.rows.now;
       out = same_rows c.args.out.now;
@@ -218,7 +235,7 @@ pair_blocks-requires g c =
     let filling = filling_read pack to (j * rights join) _ _ _ read.ran.ok read.turns.stay before.filling in
     let all : blocks_of pack to ≡ blocks join = ap (blocks_for pack) total ∙ whole_product (blocks join) pack c.requires.buffers.some in
     let within : j * rights join + rights join ≤ blocks_of pack to = omega (arith, all, rows_room j (chunks join) (rights join) below) in
-    let fits : 0 + n * pack ≤ length c.loop-chunk.kept = omega (arith, product_within n q pack (omega (arith, c.min-n.ensures)), before.kept.count, c.requires.kept.space) in
+    let fits : 0 + n * pack ≤ length c.loop-chunk.kept = omega (arith, kept_within _ c.args.sides.now.left.now.capacity q pack c.div_ceil-lefts.ensures c.min-n.ensures, before.kept.count, c.requires.kept.space) in
     record {
       asks = rw count asks;
       right = rw count table;
@@ -233,6 +250,8 @@ pair_blocks-requires g c =
         same = before.out.count ∙ c.requires.buffers.same ∙ sym count;
         out_fit = subst (λ (k : ℕ). RowsFit c.loop-chunk.out (k * width (columns join))) (sym before.out.count) (fit_same _ _ _ before.out c.requires.buffers.out_fit);
       };
+      listed = subst (λ (m : ℕ). Lists (width (take c.args.sides.now.lcol left.schema)) m c.collect_chunk.new.kept c.list.new.self.places) (c.width-len.ensures.value ∙ ap kind_width c.kind_at.ensures)
+          (subst (λ (m : ℕ). Lists m c.width-len.result c.collect_chunk.new.kept c.list.new.self.places) c.offset-at.ensures c.list.ensures.lists);
       kept = record {
         wide = wide_same _ _ _ c.collect_chunk.ensures.kept (part_wide 0 (n * pack) c.loop-chunk.kept fits (width left.schema) (wide_same _ _ _ before.kept c.requires.kept.wide));
         spells = read.spells;
@@ -292,11 +311,12 @@ loop-chunk-preserved g c =
     let read = rw n_is at collects.ran.ok in
     let pairs = rw before.rows.count at c.in_ok-pair_blocks.ensures.pairs in
     let sealed = rw schema at pairs.seals in
-    let fits : 0 + n * pack ≤ length kept = omega (arith, product_within n q pack (omega (arith, c.min-n.ensures)), before.kept.count, c.requires.kept.space) in
+    let fits : 0 + n * pack ≤ length kept = omega (arith, kept_within _ c.args.sides.now.left.now.capacity q pack c.div_ceil-lefts.ensures c.min-n.ensures, before.kept.count, c.requires.kept.space) in
     let long : length (take (n * pack) kept) ≡ n * pack = omega (arith, fits, length-take (n * pack) kept) in
     record {
       went = went_each (one to.region) (chunk_script join to.region) _ _ _ j before.went
           (went_join (one to.region) _ _ _ (each (min q (lefts join - j * q)) (read_from left.region (j * q))) (pairs_script join to.region j) (went_wider none _ _ (one to.region) (λ r s. absurd s) _ read) pairs.ran.ok);
+      most = c.list.ensures.most ∙ before.most;
       seals = seals_after before.went.lasts before.seals (seals_after read.lasts (seals_any collects.seals.seals) sealed);
       kept = fit_trans _ _ _ before.kept (put_sizes 0 (n * pack) kept fits c.collect_chunk.new.kept (c.collect_chunk.ensures.kept.count ∙ long) c.collect_chunk.ensures.kept);
       rows = fit_trans _ _ _ before.rows c.pair_blocks.ensures.rows;

@@ -1,4 +1,4 @@
-use Rattle.std.proofs.Common.{◌*◌, length}
+use Rattle.std.proofs.Common.{◌≡◌, ◌*◌, length}
 use Rattle.ob_base.specs.Lists.{each}
 use Rattle.ob_vault.specs.Calls.{Went, one}
 use Rattle.ob_vault.specs.Rows.{SameSizes}
@@ -20,6 +20,7 @@ invariant-loop-chunk g l =
     record {
       went : Went (each l.chunk (chunk_script j l.to.region)) (one l.to.region) old now;
       seals : SealsTable pack (columns j) l.to.region old now;
+      most : l.order.most ≡ l.initial.order.most;
       kept : SameSizes l.initial.kept l.kept;
       rows : SameSizes l.initial.rows l.rows;
       out : SameSizes l.initial.out l.out;

@@ -1,4 +1,4 @@
-use Rattle.std.proofs.Common.{◌*◌, length, ◌∙◌, ap, refl, arith}
+use Rattle.std.proofs.Common.{◌*◌, length, ◌∙◌, Err, ap, refl, arith}
 use Rattle.std.proofs.lemmas.Result.{err_from_is_err_and}
 use Rattle.ob_base.specs.Schemas.{Columns, width}
 use Rattle.ob_vault.specs.Calls.{one}
@@ -8,7 +8,7 @@ use Rattle.ob_flat.proofs.Rooms.{same_rows}
 use Rattle.ob_vault.proofs.WordLemmas.{asks_start, asks_after}
 use Rattle.ob_join.specs.Join.{join_of, blocks, columns}
 use Rattle.ob_join.proofs.Lengths.{product_least}
-use Rattle.ob_join.proofs.Making.{went_make, cut_make, capacity_is, blocks_are, columns_few}
+use Rattle.ob_join.proofs.Making.{went_make, cut_make, did_make, capacity_is, blocks_are, columns_few}
 use Rattle.ob_join.proofs.Joined.{may_lasts, joins_none, joins_ok, joins_err, tells_ok, tells_err}
 use Rattle.ob_join.proofs.tables.join_tables.Goals as goal
 
@@ -52,8 +52,10 @@ returns-in_err-region-clause-joins g c =
     let next = c.args.vault.now.next in
     let count = blocks_are join.pack join.left.capacity join.right.capacity join.buffered _ _ _ c.requires.buffers.some c.div_ceil.ensures c.div_ceil-chunks.ensures c.div_ceil-2.ensures in
     let cut = c.in_err-region.ensures.makes in
-    let made = cut_make next _ (blocks join) _ (join.pack * width (columns join)) (one next) _ _ count (ap (λ (s : Columns). join.pack * width s) c.joined_schema-schema.ensures) _ cut.ran.err in
-    rw (p.1, p.2) (joins_none join _ c.requires.starts.ready c.requires.tables _ _ made cut.never cut.gone cut.seals.seals)
+    let wide = ap (λ (s : Columns). join.pack * width s) c.joined_schema-schema.ensures in
+    let made = cut_make next _ (blocks join) _ (join.pack * width (columns join)) (one next) _ _ count wide _ cut.ran.err in
+    let did = did_make next _ (blocks join) _ (join.pack * width (columns join)) count wide in
+    rw (p.1, p.2) (joins_none join _ c.requires.starts.ready c.requires.tables _ _ made cut.never (λ none. did (cut.memory.did (ap Err none))) cut.gone cut.seals.seals)
 
 pub returns-in_err-region-clause-told : goal.returns-in_err-region-clause-told
 returns-in_err-region-clause-told g c =
@@ -80,6 +82,8 @@ fill_result-requires g c =
       };
       buffers = c.requires.buffers;
       kept = c.requires.kept;
+      places = c.requires.places;
+      few = c.requires.few;
     }
 
 pub returns-in-Ok-clause-rows : goal.returns-in-Ok-clause-rows
