@@ -5,3 +5,5 @@ pub mod SourceLemmas
 pub mod EarlyLemmas
 pub mod InsertLemmas
 pub mod VerdictLemmas
+pub mod SameLemmas
+pub mod SameProof

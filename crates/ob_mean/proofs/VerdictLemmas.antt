@@ -10,25 +10,25 @@ use Rattle.ob_base.specs.declared.shown.Shown.TheVariants.{Int as ShownInt}
 use Rattle.ob_base.specs.Limits.{buffered}
 use Rattle.ob_base.specs.Stored.{Stored, headings, heading_at, stored_at}
 use Rattle.ob_row.specs.Rows.{Row}
-use Rattle.ob_row.specs.Slots.{Slots, rows}
+use Rattle.ob_row.specs.Slots.{rows}
 use Rattle.ob_sql.specs.declared.stmt.Listed.TheVariants.{CountAll}
 use Rattle.ob_sql.specs.declared.stmt.Stmt.{Stmt}
 use Rattle.ob_sql.specs.declared.stmt.Stmt.TheVariants.{SelectTotals as TotalsStmt}
 use Rattle.ob_mean.specs.declared.answer.Answer.TheVariants.{Rows}
 use Rattle.ob_mean.specs.Refusals.{early_refusal}
 use Rattle.ob_mean.specs.Step.{rows_at, late_refusal, accepted_answer, answered}
-use Rattle.ob_mean.specs.Verdict.{Tables, database, is_late, last_refusal, refusal, verdict, seen, seen_started, ended}
+use Rattle.ob_mean.specs.Verdict.{Held, Tables, database, is_late, last_refusal, refusal, verdict, seen, seen_started, ended}
 
 pub headings-database : (ts : Tables) → headings (database ts) ≡ headings ts
 headings-database [] = refl
 headings-database (t ∷ ts) = ap (λ (hs : List Heading). t.heading ∷ hs) (headings-database ts)
 
 -- the table of a name among the bags, and its heading
-pub stored-database : (name : List ℕ) (ts : Tables) → stored_at name (database ts) ≡ option_map (λ t. record { heading = t.heading; held = rows t.held }) (stored_at name ts)
+pub stored-database : (name : List ℕ) (ts : Tables) → stored_at name (database ts) ≡ option_map (λ t. record { heading = t.heading; held = rows t.held.slots }) (stored_at name ts)
 stored-database name [] = refl
 stored-database name (t ∷ ts) =
-    elim (bytes_eq t.heading.name name) as (λ b. cond b (Some (record { heading = t.heading; held = rows t.held })) (stored_at name (database ts))
-    ≡ option_map (λ (u : Stored Slots). record { heading = u.heading; held = rows u.held }) (cond b (Some t) (stored_at name ts)))
+    elim (bytes_eq t.heading.name name) as (λ b. cond b (Some (record { heading = t.heading; held = rows t.held.slots })) (stored_at name (database ts))
+    ≡ option_map (λ (u : Stored Held). record { heading = u.heading; held = rows u.held.slots }) (cond b (Some t) (stored_at name ts)))
     [ true ↦ refl | false ↦ stored-database name ts ]
 
 pub heading-stored : {A : Type 0} (name : List ℕ) (ts : List (Stored A)) → heading_at name (headings ts) ≡ option_map (λ t. t.heading) (stored_at name ts)
@@ -65,11 +65,11 @@ filter-all (x ∷ xs) = ap (λ (ys : List Row). x ∷ ys) (filter-all xs)
 abbrev pub count_all : List ℕ → Stmt
 count_all name = TotalsStmt (record { items = CountAll ∷ []; table = name; cond = None; group = None })
 
-pub counted : (p : Public) (m : ℕ) (ts : Tables) (name : List ℕ) (t : Stored Slots) → early_refusal (is_late m) p.pack p.buffer (headings ts) (count_all name) ≡ None
-    → stored_at name ts ≡ Some t → verdict p m ts (count_all name) ≡ Rows ((ShownInt (pos (length (rows t.held))) ∷ []) ∷ [])
+pub counted : (p : Public) (m : ℕ) (ts : Tables) (name : List ℕ) (t : Stored Held) → early_refusal (is_late m) p.pack p.buffer (headings ts) (count_all name) ≡ None
+    → stored_at name ts ≡ Some t → verdict p m ts (count_all name) ≡ Rows ((ShownInt (pos (length (rows t.held.slots))) ∷ []) ∷ [])
 counted p m ts name t early found =
     let none : refusal p m ts (count_all name) ≡ None = refused_late p m ts (count_all name) early in
-    let all : rows_at name (database ts) ≡ rows t.held =
-    ap (λ (o : Option (Stored (List Row))). option_map_or (λ (u : Stored (List Row)). u.held) o []) (stored-database name ts ∙ ap (option_map (λ (u : Stored Slots). record { heading = u.heading; held = rows u.held })) found) in
+    let all : rows_at name (database ts) ≡ rows t.held.slots =
+    ap (λ (o : Option (Stored (List Row))). option_map_or (λ (u : Stored (List Row)). u.held) o []) (stored-database name ts ∙ ap (option_map (λ (u : Stored Held). record { heading = u.heading; held = rows u.held.slots })) found) in
     ap (λ (o : Option Refusal). answered o (accepted_answer (database ts) (count_all name))) none
     ∙ ap (λ (xs : List Row). Rows ((ShownInt (pos (length xs)) ∷ []) ∷ [])) (filter-all (rows_at name (database ts)) ∙ all)

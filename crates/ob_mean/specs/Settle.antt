@@ -10,16 +10,16 @@ use Rattle.ob_sql.specs.declared.stmt.Stmt.{Stmt}
 use Rattle.ob_sql.specs.declared.stmt.Stmt.TheVariants.{Create, Insert, Update, Delete, Drop as DropTable, SelectRows as RowsStmt, SelectTotals as TotalsStmt}
 use Rattle.ob_mean.specs.Names.{columns_at, where_at}
 use Rattle.ob_mean.specs.Step.{new_row, set_cells, followed}
-use Rattle.ob_mean.specs.Verdict.{Tables, refusal}
+use Rattle.ob_mean.specs.Verdict.{Tables, in_slots, refusal}
 
 -- where the statement is not refused
 abbrev pub settled : Tables → Stmt → Tables
 settled ts (Create table columns capacity) =
-    ts ++ record { heading = record { name = table; schema = columns_of table columns; capacity = capacity }; held = empty_slots capacity } ∷ []
-settled ts (Insert table columns values) = changed_at table (fill_first (new_row (columns_at table (headings ts)) columns values)) ts
+    ts ++ record { heading = record { name = table; schema = columns_of table columns; capacity = capacity }; held = record { slots = empty_slots capacity; leaves = [] } } ∷ []
+settled ts (Insert table columns values) = changed_at table (in_slots (fill_first (new_row (columns_at table (headings ts)) columns values))) ts
 settled ts (Update table sets cond) =
-    let cs = columns_at table (headings ts) in changed_at table (map (option_map (updated (where_at cond cs) (set_cells sets cs)))) ts
-settled ts (Delete table cond) = changed_at table (map (emptied (is_true (where_at cond (columns_at table (headings ts)))))) ts
+    let cs = columns_at table (headings ts) in changed_at table (in_slots (map (option_map (updated (where_at cond cs) (set_cells sets cs))))) ts
+settled ts (Delete table cond) = changed_at table (in_slots (map (emptied (is_true (where_at cond (columns_at table (headings ts))))))) ts
 settled ts (DropTable table) = dropped_at table ts
 settled ts (RowsStmt s) = ts
 settled ts (TotalsStmt s) = ts

@@ -24,16 +24,26 @@ use Rattle.ob_mean.specs.Refusals.{early_refusal}
 use Rattle.ob_mean.specs.Step.{Database, join_places, select_condition, refusal_of, accepted_answer, answered}
 use Rattle.ob_row.specs.Results.{joined, unplaced}
 
+-- what a table in place holds: its slots, and of an index, whose slots are those of its tree and behind them those of its
+-- stash, the leaf of each key; no statement makes an index yet, and a new table has no leaves
+pub record Held : Type 0 where
+  pub slots : Slots
+  pub leaves : List ℕ
+
+-- a change of its slots alone
+abbrev pub in_slots : (Slots → Slots) → Held → Held
+in_slots f held = record { slots = f held.slots; leaves = held.leaves }
+
 -- the tables in place
 abbrev pub Tables : Type 0
-Tables = List (Stored Slots)
+Tables = List (Stored Held)
 
 -- the same tables as bags
 abbrev pub database : Tables → Database
-database ts = map (λ t. record { heading = t.heading; held = rows t.held }) ts
+database ts = map (λ t. record { heading = t.heading; held = rows t.held.slots }) ts
 
 abbrev pub slots_at : List ℕ → Tables → Slots
-slots_at name ts = option_map_or (λ t. t.held) (stored_at name ts) []
+slots_at name ts = option_map_or (λ t. t.held.slots) (stored_at name ts) []
 
 -- the slots over which a SELECT of rows runs
 abbrev pub source_slots : Public → Source → Tables → Slots

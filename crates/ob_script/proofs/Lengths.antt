@@ -8,7 +8,7 @@ use Rattle.ob_base.specs.declared.access.Access.TheVariants.{Read, Write}
 use Rattle.ob_base.specs.Accesses.{read_at, write_at}
 use Rattle.ob_base.specs.Lists.{each}
 use Rattle.ob_base.specs.Numbers.{first_bucket, second_bucket}
-use Rattle.ob_script.specs.Parts.{read_from, write_from, count_part, copy_part, small_pass, slots_in, continuous_block, bucket_part, hash_slot, hash_block, pair_at, join_chunk}
+use Rattle.ob_script.specs.Parts.{read_from, write_from, count_part, copy_part, small_pass, slots_in, continuous_block, bucket_part, hash_slot, hash_block, pair_at, join_chunk, path_place, path_read, path_write}
 use Rattle.ob_script.proofs.Eaches.{length-even}
 use Rattle.ob_script.proofs.Shares.{Shares, length-shares}
 
@@ -26,6 +26,12 @@ length-writes g blocks = length-ones blocks (λ u. Write g u)
 
 pub length-copy_part : (t g blocks : ℕ) → length (copy_part t g blocks) ≡ blocks * 2
 length-copy_part t g blocks = length-twos blocks (λ u. Read t u) (λ u. Write g u)
+
+pub length-path_reads : (g height leaf : ℕ) → length (each (4 * (height + 1)) (path_read g height leaf)) ≡ 4 * (height + 1)
+length-path_reads g height leaf = length-ones (4 * (height + 1)) (λ c. Read g (path_place height leaf c))
+
+pub length-path_writes : (g height leaf : ℕ) → length (each (4 * (height + 1)) (path_write g height leaf)) ≡ 4 * (height + 1)
+length-path_writes g height leaf = length-ones (4 * (height + 1)) (λ c. Write g (path_place height leaf c))
 
 -- ---- Small
 pub small_shares : (t g blocks results buffered : ℕ) → Shares (small_pass t g blocks results buffered) blocks 1 buffered results

@@ -4,6 +4,7 @@ pub mod Shares
 pub mod Lengths
 pub mod Sizes
 pub mod Places
+pub mod Leaves
 pub mod Joined
 pub mod Numbers
 pub mod Few

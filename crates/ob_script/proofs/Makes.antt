@@ -6,7 +6,7 @@ use Rattle.ob_base.specs.Accesses.{makes, read_at, write_at, make_at, discard_at
 use Rattle.ob_base.specs.Lists.{each}
 use Rattle.ob_base.specs.Numbers.{blocks_for, first_bucket, second_bucket}
 use Rattle.ob_base.proofs.AccessLemmas.{makes-append}
-use Rattle.ob_script.specs.Parts.{copy_at, read_from, write_from, count_part, copy_part, create_part, insert_part, rewrite_part, small_pass, small_part, large_part, slots_in, continuous_block, continuous_part, bucket_part, hash_slot, hash_block, hash_part, emission_part, pair_at, join_chunk, join_part}
+use Rattle.ob_script.specs.Parts.{copy_at, read_from, write_from, count_part, copy_part, create_part, insert_part, rewrite_part, small_pass, small_part, large_part, slots_in, continuous_block, continuous_part, bucket_part, hash_slot, hash_block, hash_part, emission_part, pair_at, join_chunk, join_part, access_part, path_place, path_read, path_write}
 
 -- lists of which none asks for a region, joined
 makes-each : (n : ℕ) (f : ℕ → List Access) → ((i : ℕ) → makes (f i) ≡ 0) → makes (each n f) ≡ 0
@@ -125,3 +125,13 @@ makes-join_part a b g lefts rights buffered width =
         let n = min buffered (lefts - q * buffered) in
         let f = read_from a (q * buffered) in
         none_in (each n f) (each rights (pair_at b g rights q)) (makes-each n f (λ x. was_read a (q * buffered + x))) (makes-each rights (pair_at b g rights q) (paired b g rights q))
+
+pub makes-access_part : (tree stash slots height leaf : ℕ) → makes (access_part tree stash slots height leaf) ≡ 0
+makes-access_part tree stash slots height leaf =
+    let reads = each (4 * (height + 1)) (path_read tree height leaf) in
+    let writes = each (4 * (height + 1)) (path_write tree height leaf) in
+    let last = each slots (write_at stash) in
+    none_in (count_part stash slots) (reads ++ (writes ++ last)) (makes-count_part stash slots)
+    (none_in reads (writes ++ last) (makes-each (4 * (height + 1)) (path_read tree height leaf) (λ c. was_read tree (path_place height leaf c)))
+    (none_in writes last (makes-each (4 * (height + 1)) (path_write tree height leaf) (λ c. was_written tree (path_place height leaf c)))
+    (makes-each slots (write_at stash) (λ x. was_written stash x))))

@@ -5,11 +5,11 @@ use Rattle.std.specs.Int.{div_ceil}
 use Rattle.std.proofs.lemmas.List.{length-append}
 use Rattle.std.proofs.lemmas.Grind.{div_ceil_times}
 use Rattle.std.proofs.Math.Nat.{mul-le-mul_right}
-use Rattle.ob_base.specs.Accesses.{discard_at}
+use Rattle.ob_base.specs.Accesses.{discard_at, write_at}
 use Rattle.ob_base.specs.Lists.{each}
 use Rattle.ob_base.specs.Numbers.{blocks_for}
-use Rattle.ob_script.specs.Parts.{count_part, copy_part, create_part, insert_part, rewrite_part, small_part, large_part, continuous_part, continuous_block, hash_part, hash_block, emission_part, join_part}
-use Rattle.ob_script.proofs.Lengths.{length-count_part, length-writes, length-copy_part, length-passes, length-turns, length-buckets, length-pairs}
+use Rattle.ob_script.specs.Parts.{count_part, copy_part, create_part, insert_part, rewrite_part, small_part, large_part, continuous_part, continuous_block, hash_part, hash_block, emission_part, join_part, access_part, path_read, path_write}
+use Rattle.ob_script.proofs.Lengths.{length-count_part, length-writes, length-copy_part, length-passes, length-turns, length-buckets, length-pairs, length-path_reads, length-path_writes}
 
 pub length-create_part : (g blocks width : ℕ) → length (create_part g blocks width) ≡ 1 + blocks
 length-create_part g blocks width = let e = length-writes g blocks in omega arith
@@ -53,6 +53,19 @@ length-hash_part t g pack n k depth width pos =
 pub length-join_part : (a b g lefts rights q width : ℕ) → 0 < q →
     length (join_part a b g lefts rights q width) ≡ 1 + (div_ceil lefts q * (2 * rights) + lefts)
 length-join_part a b g lefts rights q width pos = let e = length-pairs a b g lefts rights q pos in omega arith
+
+pub length-access_part : (tree stash slots height leaf : ℕ) → length (access_part tree stash slots height leaf) ≡ 2 * slots + 8 * (height + 1)
+length-access_part tree stash slots height leaf =
+    let reads = each (4 * (height + 1)) (path_read tree height leaf) in
+    let writes = each (4 * (height + 1)) (path_write tree height leaf) in
+    let last = each slots (write_at stash) in
+    let a = length-append (count_part stash slots) (reads ++ (writes ++ last)) in
+    let b = length-append reads (writes ++ last) in
+    let c = length-append writes last in
+    let d = length-count_part stash slots in
+    let e = length-path_reads tree height leaf in
+    let f = length-path_writes tree height leaf in
+    let g = length-writes stash slots in omega (arith, a, b, c, d, e, f, g)
 
 -- the least number of parts of q that hold n
 ceil_least : (n q m : ℕ) → 0 < q → n ≤ m * q → div_ceil n q ≤ m

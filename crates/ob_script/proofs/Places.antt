@@ -9,7 +9,7 @@ use Rattle.ob_base.specs.declared.access.Access.TheVariants.{Read, Write}
 use Rattle.ob_base.specs.Lists.{each}
 use Rattle.ob_base.specs.Accesses.{read_at, write_at}
 use Rattle.ob_base.specs.Numbers.{first_bucket, second_bucket}
-use Rattle.ob_script.specs.Parts.{copy_at, read_from, write_from, count_part, copy_part, small_pass, slots_in, continuous_block, bucket_part, hash_slot, hash_block, pair_at, join_chunk}
+use Rattle.ob_script.specs.Parts.{copy_at, read_from, write_from, count_part, copy_part, small_pass, slots_in, continuous_block, bucket_part, hash_slot, hash_block, pair_at, join_chunk, path_place, path_read, path_write}
 use Rattle.ob_script.proofs.Eaches.{at_front, at_back, at_each}
 use Rattle.ob_script.proofs.Shares.{at_shares, within_turn}
 use Rattle.ob_script.proofs.Lengths.{length-ones, length-count_part, length-bucket_part, length-hash_slot, small_shares, turn_shares, bucket_shares, pair_shares}
@@ -40,6 +40,12 @@ at_write g blocks i h = at_ones blocks (λ u. Write g u) i h
 
 pub at_copy : (t g blocks i : ℕ) → i < 2 * blocks → slice_get (copy_part t g blocks) i ≡ Some (pick i (Read t (i / 2)) (Write g (i / 2)))
 at_copy t g blocks i h = at_twos blocks (λ u. Read t u) (λ u. Write g u) i (omega arith)
+
+pub at_path_read : (g height leaf i : ℕ) → i < 4 * (height + 1) → slice_get (each (4 * (height + 1)) (path_read g height leaf)) i ≡ Some (Read g (path_place height leaf i))
+at_path_read g height leaf i h = at_ones (4 * (height + 1)) (λ c. Read g (path_place height leaf c)) i h
+
+pub at_path_write : (g height leaf i : ℕ) → i < 4 * (height + 1) → slice_get (each (4 * (height + 1)) (path_write g height leaf)) i ≡ Some (Write g (path_place height leaf i))
+at_path_write g height leaf i h = at_ones (4 * (height + 1)) (λ c. Write g (path_place height leaf c)) i h
 
 -- ---- Small
 module _ (t g blocks results q i : ℕ) (pos : 0 < q) (l : i < length (each (div_ceil results q) (small_pass t g blocks results q))) where

@@ -1,5 +1,5 @@
 -- The accesses of each pass over a region, by its number of blocks and the width of a block's rows.
-use Rattle.std.specs.Prelude.{ℕ, ◌+◌, ◌-◌, ◌*◌, ◌/◌, ◌%◌, min, List, [], ◌∷◌, ◌++◌}
+use Rattle.std.specs.Prelude.{ℕ, ◌+◌, ◌-◌, ◌*◌, ◌/◌, ◌%◌, ◌^◌, min, List, [], ◌∷◌, ◌++◌}
 use Rattle.ob_base.specs.declared.access.Access.{Access}
 use Rattle.ob_base.specs.declared.access.Access.TheVariants.{Read, Write}
 use Rattle.ob_base.specs.Accesses.{read_at, write_at, make_at, discard_at}
@@ -100,3 +100,27 @@ abbrev pub join_part : ℕ → ℕ → ℕ → ℕ → ℕ → ℕ → ℕ → L
 join_part a b g lefts rights buffered width =
     make_at g (div_ceil lefts buffered * rights) width
     ++ each (div_ceil lefts buffered) (join_chunk a b g lefts rights buffered)
+
+-- ---- an index, which no statement makes or accesses yet
+-- the bucket of a leaf's path, so many above the leaf: of a tree of this height, its root is bucket 0, and the children of
+-- bucket b are 2 * b + 1 and 2 * b + 2
+abbrev pub bucket_at : (height leaf above : ℕ) → ℕ
+bucket_at height leaf above = (2 ^ height + leaf) / 2 ^ above - 1
+
+-- the place of block c of the path, counted from the root down, where each bucket has four blocks
+abbrev pub path_place : (height leaf c : ℕ) → ℕ
+path_place height leaf c = 4 * bucket_at height leaf (height - c / 4) + c % 4
+
+abbrev pub path_read : (tree height leaf c : ℕ) → List Access
+path_read tree height leaf c = Read tree (path_place height leaf c) ∷ []
+
+abbrev pub path_write : (tree height leaf c : ℕ) → List Access
+path_write tree height leaf c = Write tree (path_place height leaf c) ∷ []
+
+-- an access of an index: its stash and the path of a leaf are read, and the path and the stash are written
+abbrev pub access_part : (tree stash slots height leaf : ℕ) → List Access
+access_part tree stash slots height leaf =
+    count_part stash slots
+    ++ (each (4 * (height + 1)) (path_read tree height leaf)
+    ++ (each (4 * (height + 1)) (path_write tree height leaf)
+    ++ each slots (write_at stash)))

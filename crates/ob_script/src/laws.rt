@@ -8,7 +8,7 @@ ghost use Rattle.ob_script.specs.Script.{script};
 ghost use Rattle.ob_script.specs.Sizes.{IsPublic, IsWithin};
 ghost use Rattle.std.specs.Int.{div_ceil};
 ghost use Rattle.ob_base.specs.Numbers.{blocks_for};
-ghost use Rattle.ob_script.specs.Parts.{count_part, create_part, insert_part, rewrite_part, small_part, large_part, continuous_part, hash_part, emission_part, join_part};
+ghost use Rattle.ob_script.specs.Parts.{count_part, create_part, insert_part, rewrite_part, small_part, large_part, continuous_part, hash_part, emission_part, join_part, access_part};
 
 use ob_base::End;
 
@@ -35,6 +35,8 @@ pub fn part_lengths()
     ensures join { (a b g lefts rights buffered width : ℕ) → 0 < buffered →
         length (join_part a b g lefts rights buffered width)
         ≡ 1 + (div_ceil lefts buffered * (2 * rights) + lefts) }
+    ensures access { (tree stash slots height leaf : ℕ) →
+        length (access_part tree stash slots height leaf) ≡ 2 * slots + 8 * (height + 1) }
 {}
 
 /// How many regions each part of a statement asks for: one where it writes to a new region, else none.
@@ -53,6 +55,8 @@ pub fn part_makes()
     ensures emission { (g blocks : ℕ) → makes (emission_part g blocks) ≡ 0 }
     ensures join { (a b g lefts rights buffered width : ℕ) →
         makes (join_part a b g lefts rights buffered width) ≡ 1 }
+    ensures access { (tree stash slots height leaf : ℕ) →
+        makes (access_part tree stash slots height leaf) ≡ 0 }
 {}
 
 /// As many buffers of blocks hold the blocks of so many rows, as buffers of rows hold the rows.

@@ -1,9 +1,9 @@
 //! What stands at a place of the parts that go over a region block by block.
-ghost use Rattle.std.specs.Prelude.{◌≡◌, ◌≤◌, ◌<◌, ◌*◌, ◌/◌, ◌%◌, ◌==◌, Some, length, slice_get, if◌then◌else◌};
+ghost use Rattle.std.specs.Prelude.{◌≡◌, ◌≤◌, ◌<◌, ◌+◌, ◌*◌, ◌/◌, ◌%◌, ◌==◌, Some, length, slice_get, if◌then◌else◌};
 ghost use Rattle.std.specs.Int.{div_ceil};
 ghost use Rattle.ob_base.specs.Lists.{each};
-ghost use Rattle.ob_script.specs.Parts.{small_pass, continuous_block, bucket_part, hash_slot, hash_block, join_chunk};
-ghost use Rattle.ob_script.specs.Sections.{IsFew};
+ghost use Rattle.ob_script.specs.Parts.{small_pass, continuous_block, bucket_part, hash_slot, hash_block, join_chunk, path_place};
+ghost use Rattle.ob_script.specs.Sections.{IsFew, IsLeaf};
 
 use crate::bucket::{first_bucket, second_bucket};
 use ob_base::Access;
@@ -27,6 +27,15 @@ pub(crate) fn copied(i: u64, from: u64, to: u64, place: u32) -> Access
         },
         Access::Write { region: to, place },
     )
+}
+
+/// The place of block `c` of the path of leaf `leaf`, counted from the root down, in a tree of this height.
+pub(crate) fn path_place(height: u32, leaf: u32, c: u32) -> u32
+    requires leaf { IsLeaf height leaf }
+    requires within { c < 4 * (height + 1) }
+    ensures { result ≡ path_place height leaf c }
+{
+    4 * ((((1 << height) + leaf) >> (height - c / 4)) - 1) + c % 4
 }
 
 /// The accesses of Small's passes.

@@ -7,8 +7,8 @@ ghost use Rattle.ob_base.specs.Plans.{MayPad};
 ghost use Rattle.ob_base.specs.Joins.{chunks, joined_blocks, joined_slots};
 ghost use Rattle.ob_base.specs.Limits.{buffered_blocks};
 ghost use Rattle.ob_base.specs.Stored.{stored_region};
-ghost use Rattle.ob_script.specs.Parts.{count_part, create_part, insert_part, rewrite_part, small_part, large_part, emission_part};
-ghost use Rattle.ob_script.specs.Sections.{all_accesses, Adds, IsFew};
+ghost use Rattle.ob_script.specs.Parts.{access_part, count_part, create_part, insert_part, rewrite_part, small_part, large_part, emission_part};
+ghost use Rattle.ob_script.specs.Sections.{all_accesses, Adds, IsFew, IsLeaf};
 ghost use Rattle.ob_script.specs.Script.{script, whole_script, with_table, mutation_script, blocks_of, extent_of, source_script, join_script, joined_extent, select_part, padded_part, result_part, plan_part, result_blocks};
 ghost use Rattle.ob_script.specs.Sizes.{HasRows, IsPublic, IsCounted, IsWithin, IsSourceCounted, IsTable};
 
@@ -68,6 +68,34 @@ fn push_rewrite(sections: &mut Sections, from: u64, to: u64, blocks: u32, width:
     });
     sections.push(Section::Copies { from, to, blocks });
     sections.push(Section::Discard { region: from });
+}
+
+// An access of an index, for the leaf that is read. No statement accesses an index yet, and nothing calls it.
+#[tactic(auto, using(crate::proofs::Joined::all_more))]
+fn push_access(sections: &mut Sections, tree: u64, stash: u64, slots: u32, height: u32, leaf: u32)
+    requires room { length sections.old ≤ 12 }
+    requires leaf { IsLeaf height leaf }
+    ensures adds { Adds sections.old sections.new (access_part tree stash slots height leaf) }
+    ensures few { length sections.new ≡ length sections.old + 4 }
+{
+    sections.push(Section::Reads {
+        region: stash,
+        blocks: slots,
+    });
+    sections.push(Section::PathReads {
+        region: tree,
+        height,
+        leaf,
+    });
+    sections.push(Section::PathWrites {
+        region: tree,
+        height,
+        leaf,
+    });
+    sections.push(Section::Writes {
+        region: stash,
+        blocks: slots,
+    });
 }
 
 // A result is read in order and discarded.

@@ -2,7 +2,7 @@
 ghost use Rattle.std.specs.Prelude.{◌≡◌, ◌<◌, ◌^◌, true, Some, length, slice_get};
 ghost use Rattle.ob_script.specs.Sections.{accesses_of, is_even, IsSized};
 
-use crate::place::{bucket_nth, copied, pair_nth, pass_nth, turn_nth};
+use crate::place::{bucket_nth, copied, pair_nth, pass_nth, path_place, turn_nth};
 use ob_base::Access;
 
 /// A part of a script; `blocks` are those of the region that is read.
@@ -68,6 +68,18 @@ pub(crate) enum Section {
         rights: u32,
         buffered: u32,
     },
+    /// The blocks of a leaf's path in an index's tree are read from the root down. No statement accesses an index yet.
+    PathReads {
+        region: u64,
+        height: u32,
+        leaf: u32,
+    },
+    /// The same blocks are written, in this order too.
+    PathWrites {
+        region: u64,
+        height: u32,
+        leaf: u32,
+    },
 }
 
 impl Section {
@@ -107,6 +119,8 @@ impl Section {
             } => {
                 u64::from(lefts.div_ceil(buffered)) * (2 * u64::from(rights)) + u64::from(lefts)
             }
+            Section::PathReads { height, .. } => 4 * (u64::from(height) + 1),
+            Section::PathWrites { height, .. } => 4 * (u64::from(height) + 1),
         }
     }
 
@@ -152,7 +166,7 @@ impl Section {
     }
 
     // The same of a section whose blocks are all asked alike.
-    #[tactic(auto, using(crate::proofs::Sizes::size_is, crate::proofs::Places::at_read, crate::proofs::Places::at_write, crate::proofs::Places::at_copy))]
+    #[tactic(auto, using(crate::proofs::Sizes::size_is, crate::proofs::Places::at_read, crate::proofs::Places::at_write, crate::proofs::Places::at_copy, crate::proofs::Places::at_path_read, crate::proofs::Places::at_path_write))]
     fn even_nth(&self, i: u64) -> Access
         requires even { is_even self.now ≡ true }
         requires sized { IsSized self.now }
@@ -179,6 +193,22 @@ impl Section {
             },
             Section::Copies { from, to, .. } => copied(i, from, to, (i / 2) as u32),
             Section::Discard { region } => Access::Discard { region },
+            Section::PathReads {
+                region,
+                height,
+                leaf,
+            } => Access::Read {
+                region,
+                place: path_place(height, leaf, i as u32),
+            },
+            Section::PathWrites {
+                region,
+                height,
+                leaf,
+            } => Access::Write {
+                region,
+                place: path_place(height, leaf, i as u32),
+            },
             _ => unreachable!(),
         }
     }

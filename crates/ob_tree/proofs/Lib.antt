@@ -16,3 +16,5 @@ pub mod HeightLemmas
 pub mod WalkLemmas
 pub mod LayLemmas
 pub mod ServeLemmas
+pub mod KeyNumbers
+pub mod DrawLemmas

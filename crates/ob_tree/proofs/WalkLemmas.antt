@@ -4,7 +4,8 @@ use Rattle.std.specs.List.{flat_map}
 use Rattle.std.proofs.lemmas.Bool.{cases_lt}
 use Rattle.std.proofs.lemmas.List.{append-nil, ext_get_or, get_or_append_left, get_or-append_right, get_or-reverse, length-take-le, length-drop, length-reverse, get_or-take, get_or-drop}
 use Rattle.ob_row.specs.Bags.{Same}
-use Rattle.ob_tree.specs.Paths.{above, upward, path, path_up, bucket_at, path_place, path_slot}
+use Rattle.ob_script.specs.Parts.{bucket_at, path_place}
+use Rattle.ob_tree.specs.Paths.{above, upward, path, path_up, path_slot}
 use Rattle.ob_tree.specs.Rows.{rows}
 use Rattle.ob_tree.specs.States.{State, bucket}
 use Rattle.ob_tree.specs.Access.{take_path}

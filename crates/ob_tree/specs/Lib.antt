@@ -1,8 +1,10 @@
 pub mod Paths
 pub mod Rows
+pub mod Keys
 pub mod States
 pub mod Access
 pub mod Scripts
 pub mod Runs
+pub mod Drawing
 pub mod Slotwise
 pub mod Places

@@ -1,7 +1,8 @@
 -- The same slots one by one, as a loop over a buffer of rows leaves them.
 use Rattle.std.specs.Prelude.{◌≡◌, ◌<◌, ◌+◌, ◌*◌, ◌/◌, ℕ, Bool, true, false, List, [], ◌∷◌, ◌++◌, Option, None, length, replicate, slice_index_or}
 use Rattle.std.specs.List.{flat_map}
-use Rattle.ob_tree.specs.Paths.{path_up, is_on_path, path_place, path_slot}
+use Rattle.ob_script.specs.Parts.{path_place}
+use Rattle.ob_tree.specs.Paths.{path_up, is_on_path, path_slot}
 use Rattle.ob_tree.specs.Rows.{slots_of, firsts, but_firsts, first}
 use Rattle.ob_tree.specs.States.{State, bucket}
 

@@ -4,7 +4,10 @@
 ghost use Rattle.std.specs.Prelude.{◌≡◌, ◌≢◌, ◌<◌, ◌≤◌, ℕ, ◌+◌, ◌*◌, ◌-◌, ◌/◌, ◌^◌, ◌==◌, Option, Some, None, List, [], ◌∷◌, ◌++◌, suc, Bool, true, false, replicate, length, map, take, drop, slice_index_or};
 ghost use Rattle.std.specs.List.{All, AllPairs};
 ghost use Rattle.ob_row.specs.Bags.{Same};
+ghost use Rattle.ob_row.specs.Rows.{Row, keys_repeat};
 ghost use Rattle.ob_tree.specs.Paths.{above, path_up, is_on_path};
+ghost use Rattle.ob_tree.specs.Drawing.{Event, numbers_read};
+ghost use Rattle.ob_tree.specs.Keys.{row_key, InRange};
 ghost use Rattle.ob_tree.specs.Rows.{firsts, but_firsts, by_key, slots_of, Single};
 ghost use Rattle.ob_tree.specs.States.{State, Represents, Stands, map_of, held, leaf_of, bucket};
 ghost use Rattle.ob_tree.specs.Access.{Op, Done, Found, Duplicate, OutOfRange, Went, Evicted, key_of, applied, access, evict, evicted, leaf_read, take_path, fits_by};
@@ -88,6 +91,23 @@ pub fn reads_draws<R: Keyed>()
         → slice_index_or (draws_read next given ks) i 0 ≡ next + i }
     ensures once { (first n : ℕ) (ks : List ℕ)
         → AllPairs (λ a b. a ≢ b) (draws_read (first + n) (numbers first n) ks) }
+{}
+
+/// No draw of a session is read twice, whatever indexes are made and accessed in it.
+pub fn session_reads_apart()
+    ensures { (events : List Event) → AllPairs (λ a b. a ≢ b) (numbers_read 0 [] events) }
+{}
+
+/// Rows of which no two have one number have distinct keys at this place.
+pub fn keys_apart()
+    ensures { (n place : ℕ) (all : List Row) → Single (row_key n place) all
+        → keys_repeat (Some place) all ≡ false }
+{}
+
+/// Rows of distinct keys, of which each is one of the n keys, have distinct numbers.
+pub fn keys_single()
+    ensures { (n place : ℕ) (all : List Row) → InRange n place all
+        → keys_repeat (Some place) all ≡ false → Single (row_key n place) all }
 {}
 
 /// The length of an access's script, and of its reads.

@@ -17,7 +17,7 @@ use Rattle.ob_base.specs.Schemas.{Columns, columns_of}
 use Rattle.ob_base.specs.Stored.{Stored, changed_at, has_table, headings, stored_at}
 use Rattle.ob_row.specs.Results.{joined}
 use Rattle.ob_row.specs.Rows.{Row, pairs}
-use Rattle.ob_row.specs.Slots.{Slots, emptied, empty_slots, fill_first, rows, selected}
+use Rattle.ob_row.specs.Slots.{emptied, empty_slots, fill_first, rows, selected}
 use Rattle.ob_row.specs.Truth.{is_true, updated}
 use Rattle.ob_sql.specs.declared.stmt.SelectRows.{SelectRows}
 use Rattle.ob_sql.specs.declared.stmt.Stmt.{Stmt}
@@ -27,7 +27,7 @@ use Rattle.ob_mean.specs.Names.{columns_at, where_at}
 use Rattle.ob_mean.specs.Refusals.{early_refusal, left_place, right_place}
 use Rattle.ob_mean.specs.Settle.{settled}
 use Rattle.ob_mean.specs.Step.{accepted_answer, answered, followed, insert_refusal, late_refusal, new_row, overgroups, rows_answer, rows_at, set_cells, source_rows, totals_answer}
-use Rattle.ob_mean.specs.Verdict.{Tables, database, ended, is_late, last_refusal, refusal, rows_refusal, seen, seen_rows, seen_started, selected_places, slots_at, source_slots}
+use Rattle.ob_mean.specs.Verdict.{Held, in_slots, Tables, database, ended, is_late, last_refusal, refusal, rows_refusal, seen, seen_rows, seen_started, selected_places, slots_at, source_slots}
 use Rattle.ob_mean.proofs.EarlyLemmas.{allowed, neither}
 use Rattle.ob_mean.proofs.VerdictLemmas.{headings-database, stored-database}
 use Rattle.ob_verdict.proofs.AlikeHeadings.{SameHeadings, columns_same, early_same, headings_same, source_same}
@@ -39,7 +39,7 @@ module _ (p : Public) (m : ℕ) (ts us : Tables) (alike : AreAlike ts us) where
   -- ---- what a name finds
   held_same : (name : List ℕ) → stored_at name (database ts) ≡ stored_at name (database us)
   held_same name =
-      stored-database name ts ∙ ap (option_map (λ (t : Stored Slots). record { heading = t.heading; held = rows t.held })) (alike.found name) ∙ sym (stored-database name us)
+      stored-database name ts ∙ ap (option_map (λ (t : Stored Held). record { heading = t.heading; held = rows t.held.slots })) (alike.found name) ∙ sym (stored-database name us)
 
   heads : SameHeadings (headings ts) (headings us)
   heads = headings_same ts us alike.count alike.found
@@ -47,12 +47,12 @@ module _ (p : Public) (m : ℕ) (ts us : Tables) (alike : AreAlike ts us) where
   bag_heads : SameHeadings (headings (database ts)) (headings (database us))
   bag_heads =
       headings_same (database ts) (database us)
-      (length-map ts (λ (t : Stored Slots). record { heading = t.heading; held = rows t.held }) ∙ alike.count
-      ∙ sym (length-map us (λ (t : Stored Slots). record { heading = t.heading; held = rows t.held })))
+      (length-map ts (λ (t : Stored Held). record { heading = t.heading; held = rows t.held.slots }) ∙ alike.count
+      ∙ sym (length-map us (λ (t : Stored Held). record { heading = t.heading; held = rows t.held.slots })))
       held_same
 
   slots_same : (name : List ℕ) → slots_at name ts ≡ slots_at name us
-  slots_same name = ap (λ (o : Option (Stored Slots)). option_map_or (λ (t : Stored Slots). t.held) o []) (alike.found name)
+  slots_same name = ap (λ (o : Option (Stored Held)). option_map_or (λ (t : Stored Held). t.held.slots) o []) (alike.found name)
 
   bag_same : (name : List ℕ) → rows_at name (database ts) ≡ rows_at name (database us)
   bag_same name = ap (λ (o : Option (Stored (List Row))). option_map_or (λ (t : Stored (List Row)). t.held) o []) (held_same name)
@@ -153,19 +153,19 @@ module _ (p : Public) (m : ℕ) (ts us : Tables) (alike : AreAlike ts us) where
       let own = (neither (has_table table (headings (database vs))) (has_repeats bytes_eq (map (λ (c : NewColumn). c.name) columns)) free.names).0 in
       subst (λ (hs : List Heading). has_table table hs ≡ false) (headings-database vs) own
 
-  changed_by : (name : List ℕ) (f g : Slots → Slots) → f ≡ g → AreAlike (changed_at name f ts) (changed_at name g us)
-  changed_by name f g same = subst (λ (h : Slots → Slots). AreAlike (changed_at name f ts) (changed_at name h us)) same (alike_changed name f ts us alike)
+  changed_by : (name : List ℕ) (f g : Held → Held) → f ≡ g → AreAlike (changed_at name f ts) (changed_at name g us)
+  changed_by name f g same = subst (λ (h : Held → Held). AreAlike (changed_at name f ts) (changed_at name h us)) same (alike_changed name f ts us alike)
 
   settled_alike : (stmt : Stmt) → refusal p m ts stmt ≡ None → AreAlike (settled ts stmt) (settled us stmt)
   settled_alike (Create table columns capacity) none =
-      alike_added (record { heading = record { name = table; schema = columns_of table columns; capacity = capacity }; held = empty_slots capacity }) ts us alike
+      alike_added (record { heading = record { name = table; schema = columns_of table columns; capacity = capacity }; held = record { slots = empty_slots capacity; leaves = [] } }) ts us alike
       (new_in ts table columns capacity none) (new_in us table columns capacity (sym (refusal_same (Create table columns capacity)) ∙ none))
   settled_alike (Insert table columns values) none =
-      changed_by table _ _ (ap (λ (cs : Columns). fill_first (new_row cs columns values)) (table_columns table))
+      changed_by table _ _ (ap (λ (cs : Columns). in_slots (fill_first (new_row cs columns values))) (table_columns table))
   settled_alike (Update table sets cond) none =
-      changed_by table _ _ (ap (λ (cs : Columns). map (option_map (updated (where_at cond cs) (set_cells sets cs)))) (table_columns table))
+      changed_by table _ _ (ap (λ (cs : Columns). in_slots (map (option_map (updated (where_at cond cs) (set_cells sets cs))))) (table_columns table))
   settled_alike (Delete table cond) none =
-      changed_by table _ _ (ap (λ (cs : Columns). map (emptied (is_true (where_at cond cs)))) (table_columns table))
+      changed_by table _ _ (ap (λ (cs : Columns). in_slots (map (emptied (is_true (where_at cond cs))))) (table_columns table))
   settled_alike (DropTable table) none = alike_dropped table ts us alike
   settled_alike (RowsStmt q) none = alike
   settled_alike (TotalsStmt q) none = alike

@@ -8,8 +8,7 @@ use Rattle.std.proofs.lemmas.Slice.Eq.{bytes_eq-Decides}
 use Rattle.ob_base.specs.declared.schema.Heading.{Heading}
 use Rattle.ob_base.specs.Lists.{has_repeats}
 use Rattle.ob_base.specs.Stored.{AreApart, Stored, changed_at, dropped_at, has_table, headings, stored_at}
-use Rattle.ob_row.specs.Slots.{Slots}
-use Rattle.ob_mean.specs.Verdict.{Tables}
+use Rattle.ob_mean.specs.Verdict.{Held, Tables}
 use Rattle.ob_mean.proofs.EarlyLemmas.{neither}
 use Rattle.ob_verdict.proofs.InPlaceProof.{none_either}
 use Rattle.ob_verdict.proofs.MovingProof.{other_name, same_name}
@@ -62,24 +61,24 @@ apart_more h (g ∷ gs) apart new =
     none_either (list_any (bytes_eq g.name) (names_of (gs ++ h ∷ []))) (has_repeats bytes_eq (names_of (gs ++ h ∷ [])))
     (any_more g.name h gs off.0 both.0) (apart_more h gs both.1 off.1)
 
-apart_added : (t : Stored Slots) (ts : Tables) → AreApart (headings ts) → has_table t.heading.name (headings ts) ≡ false → AreApart (headings (ts ++ t ∷ []))
+apart_added : (t : Stored Held) (ts : Tables) → AreApart (headings ts) → has_table t.heading.name (headings ts) ≡ false → AreApart (headings (ts ++ t ∷ []))
 apart_added t ts apart new =
-    subst AreApart (sym (map_push (λ (u : Stored Slots). u.heading) ts t)) (apart_more t.heading (headings ts) apart new)
+    subst AreApart (sym (map_push (λ (u : Stored Held). u.heading) ts t)) (apart_more t.heading (headings ts) apart new)
 
-pub alike_added : (t : Stored Slots) (ts us : Tables) → AreAlike ts us → has_table t.heading.name (headings ts) ≡ false → has_table t.heading.name (headings us) ≡ false → AreAlike (ts ++ t ∷ []) (us ++ t ∷ [])
+pub alike_added : (t : Stored Held) (ts us : Tables) → AreAlike ts us → has_table t.heading.name (headings ts) ≡ false → has_table t.heading.name (headings us) ≡ false → AreAlike (ts ++ t ∷ []) (us ++ t ∷ [])
 alike_added t ts us alike new too = record {
   count = length-append ts (t ∷ []) ∙ ap (λ (n : ℕ). n + 1) alike.count ∙ sym (length-append us (t ∷ []));
   found = λ name.
-      stored_more name ts (t ∷ []) ∙ ap (λ (o : Option (Stored Slots)). option_or o (stored_at name (t ∷ []))) (alike.found name) ∙ sym (stored_more name us (t ∷ []));
+      stored_more name ts (t ∷ []) ∙ ap (λ (o : Option (Stored Held)). option_or o (stored_at name (t ∷ []))) (alike.found name) ∙ sym (stored_more name us (t ∷ []));
   apart = apart_added t ts alike.apart new;
   too = apart_added t us alike.too too;
 }
 
 -- ---- one changed
-abbrev with_slots : (Slots → Slots) → Stored Slots → Stored Slots
+abbrev with_slots : (Held → Held) → Stored Held → Stored Held
 with_slots f t = record { heading = t.heading; held = f t.held }
 
-module _ (name : List ℕ) (f : Slots → Slots) where
+module _ (name : List ℕ) (f : Held → Held) where
   headings_changed : (ts : Tables) → headings (changed_at name f ts) ≡ headings ts
   headings_changed [] = refl
   headings_changed (t ∷ ts) =
@@ -185,7 +184,7 @@ module _ (name : List ℕ) where
     count =
         let first = dropped_count ts in
         let second = dropped_count us in
-        let one = ap (λ (o : Option (Stored Slots)). counted o) (alike.found name) in
+        let one = ap (λ (o : Option (Stored Held)). counted o) (alike.found name) in
         let many = alike.count in
         omega (arith, first, second, one, many);
     found = λ other. elim (name_cases other name) [

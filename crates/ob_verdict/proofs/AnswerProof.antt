@@ -33,7 +33,7 @@ use Rattle.ob_mean.proofs.EarlyLemmas.{allowed}
 use Rattle.ob_mean.proofs.VerdictLemmas.{headings-database}
 use Rattle.ob_mean.specs.Step.{rows_at, source_rows, join_places, select_columns, select_condition, printed_places}
 use Rattle.ob_row.specs.Totals.{printed}
-use Rattle.ob_mean.specs.Verdict.{Tables, database, slots_at, source_slots, plan_for, bucket_size, first_unplaced, fallback, forced_refusal, unpadded_refusal, refusal_by, last_refusal, is_late}
+use Rattle.ob_mean.specs.Verdict.{Held, Tables, database, slots_at, source_slots, plan_for, bucket_size, first_unplaced, fallback, forced_refusal, unpadded_refusal, refusal_by, last_refusal, is_late}
 use Rattle.ob_verdict.specs.Laws.{last_plan, result_plan, result_of, printed_rows, AreInPlace, PrintsAnswer}
 
 -- the plan finds a place for each of these
@@ -104,13 +104,13 @@ last_fits p n places Hash e r =
 rows-slots_at : (name : List ℕ) (ts : Tables) → rows_at name (database ts) ≡ rows (slots_at name ts)
 rows-slots_at name [] = refl
 rows-slots_at name (t ∷ ts) =
-    elim (bytes_eq t.heading.name name) as (λ b. option_map_or (λ (x : Stored (List Row)). x.held) (cond b (Some (record { heading = t.heading; held = rows t.held })) (stored_at name (database ts))) [] ≡ rows (option_map_or (λ (x : Stored Slots). x.held) (cond b (Some t) (stored_at name ts)) []))
+    elim (bytes_eq t.heading.name name) as (λ b. option_map_or (λ (x : Stored (List Row)). x.held) (cond b (Some (record { heading = t.heading; held = rows t.held.slots })) (stored_at name (database ts))) [] ≡ rows (option_map_or (λ (x : Stored Held). x.held.slots) (cond b (Some t) (stored_at name ts)) []))
     [ true ↦ refl | false ↦ rows-slots_at name ts ]
 
 keys-distinct : (name : List ℕ) (ts : Tables) → AreInPlace ts → keys_repeat (key_place (columns_at name (headings ts))) (rows (slots_at name ts)) ≡ false
 keys-distinct name [] h = refl
 keys-distinct name (t ∷ ts) h =
-    elim (bytes_eq t.heading.name name) as (λ b. keys_repeat (key_place (option_map_or (λ (g : Heading). g.schema) (cond b (Some t.heading) (heading_at name (headings ts))) [])) (rows (option_map_or (λ (x : Stored Slots). x.held) (cond b (Some t) (stored_at name ts)) [])) ≡ false)
+    elim (bytes_eq t.heading.name name) as (λ b. keys_repeat (key_place (option_map_or (λ (g : Heading). g.schema) (cond b (Some t.heading) (heading_at name (headings ts))) [])) (rows (option_map_or (λ (x : Stored Held). x.held.slots) (cond b (Some t) (stored_at name ts)) [])) ≡ false)
     [ true ↦ h.0.keys | false ↦ keys-distinct name ts h.1 ]
 
 key_is : (o : Option ℕ) (i : ℕ) → option_map_or (λ j. i == j) o false ≡ true → o ≡ Some i

@@ -29,7 +29,7 @@ use Rattle.ob_sql.specs.declared.stmt.Stmt.TheVariants.{Create, Insert, Update, 
 use Rattle.ob_mean.specs.Names.{columns_at, place_of, unqualified, where_at}
 use Rattle.ob_mean.specs.Refusals.{early_refusal, sets_key}
 use Rattle.ob_mean.specs.Step.{insert_refusal, late_refusal, new_row, set_cells, followed}
-use Rattle.ob_mean.specs.Verdict.{Tables, database, is_late, last_refusal, refusal}
+use Rattle.ob_mean.specs.Verdict.{Held, in_slots, Tables, database, is_late, last_refusal, refusal}
 use Rattle.ob_mean.specs.Settle.{settled}
 use Rattle.ob_mean.proofs.EarlyLemmas.{allowed, neither}
 use Rattle.ob_mean.proofs.VerdictLemmas.{headings-database, heading-stored, stored-database}
@@ -163,16 +163,16 @@ no_keys : (o : Option ℕ) → keys_repeat o [] ≡ false
 no_keys None = refl
 no_keys (Some i) = refl
 
-module _ (name : List ℕ) (f : Slots → Slots) where
-  abbrev changed : Stored Slots → Stored Slots
+module _ (name : List ℕ) (f : Held → Held) where
+  abbrev changed : Stored Held → Stored Held
   changed t = record { heading = t.heading; held = f t.held }
 
   -- where the table of this name stays in place, all of them do
-  changed_stays : (ts : Tables) → ((t : Stored Slots) → stored_at name ts ≡ Some t → IsInPlace t → IsInPlace (changed t)) → AreInPlace ts → AreInPlace (changed_at name f ts)
+  changed_stays : (ts : Tables) → ((t : Stored Held) → stored_at name ts ≡ Some t → IsInPlace t → IsInPlace (changed t)) → AreInPlace ts → AreInPlace (changed_at name f ts)
   changed_stays [] one all = tt
   changed_stays (t ∷ ts) one all = go (bytes_eq t.heading.name name) (λ one. changed_stays ts one all.1) one where
-    go : (b : Bool) → (((u : Stored Slots) → stored_at name ts ≡ Some u → IsInPlace u → IsInPlace (changed u)) → AreInPlace (changed_at name f ts))
-        → ((u : Stored Slots) → cond b (Some t) (stored_at name ts) ≡ Some u → IsInPlace u → IsInPlace (changed u)) → AreInPlace (cond b (changed t ∷ ts) (t ∷ changed_at name f ts))
+    go : (b : Bool) → (((u : Stored Held) → stored_at name ts ≡ Some u → IsInPlace u → IsInPlace (changed u)) → AreInPlace (changed_at name f ts))
+        → ((u : Stored Held) → cond b (Some t) (stored_at name ts) ≡ Some u → IsInPlace u → IsInPlace (changed u)) → AreInPlace (cond b (changed t ∷ ts) (t ∷ changed_at name f ts))
     go true rest one = (one t refl all.0, all.1)
     go false rest one = (all.0, rest one)
 
@@ -180,11 +180,11 @@ dropped_stays : (name : List ℕ) (ts : Tables) → AreInPlace ts → AreInPlace
 dropped_stays name [] all = tt
 dropped_stays name (t ∷ ts) all = elim (bytes_eq t.heading.name name) as (λ b. AreInPlace (cond b ts (t ∷ dropped_at name ts))) [ true ↦ all.1 | false ↦ (all.0, dropped_stays name ts all.1) ]
 
-added_stays : (t : Stored Slots) (ts : Tables) → IsInPlace t → AreInPlace ts → AreInPlace (ts ++ t ∷ [])
+added_stays : (t : Stored Held) (ts : Tables) → IsInPlace t → AreInPlace ts → AreInPlace (ts ++ t ∷ [])
 added_stays t [] one all = (one, tt)
 added_stays t (u ∷ ts) one all = (all.0, added_stays t ts one all.1)
 
-created : (table : List ℕ) (columns : List NewColumn) (capacity : ℕ) → IsInPlace (record { heading = record { name = table; schema = columns_of table columns; capacity = capacity }; held = empty_slots capacity })
+created : (table : List ℕ) (columns : List NewColumn) (capacity : ℕ) → IsInPlace (record { heading = record { name = table; schema = columns_of table columns; capacity = capacity }; held = record { slots = empty_slots capacity; leaves = [] } })
 created table columns capacity = record {
   slots = length-replicate {A = Option Row} capacity None;
   keys = ap (keys_repeat (key_place (columns_of table columns))) (rows-empty_slots capacity) ∙ no_keys (key_place (columns_of table columns));
@@ -192,19 +192,19 @@ created table columns capacity = record {
 }
 
 -- the columns of the table of a name
-schema_is : (name : List ℕ) (ts : Tables) (t : Stored Slots) → stored_at name ts ≡ Some t → columns_at name (headings ts) ≡ t.heading.schema
+schema_is : (name : List ℕ) (ts : Tables) (t : Stored Held) → stored_at name ts ≡ Some t → columns_at name (headings ts) ≡ t.heading.schema
 schema_is name ts t is =
-    ap (λ (o : Option Heading). option_map_or (λ (h : Heading). h.schema) o []) (heading-stored name ts) ∙ ap (λ (o : Option (Stored Slots)). option_map_or (λ (h : Heading). h.schema) (option_map (λ t. t.heading) o) []) is
+    ap (λ (o : Option Heading). option_map_or (λ (h : Heading). h.schema) o []) (heading-stored name ts) ∙ ap (λ (o : Option (Stored Held)). option_map_or (λ (h : Heading). h.schema) (option_map (λ t. t.heading) o) []) is
 
 not_refused : (a b : Bool) → cond a (Some Duplicate) (cond b (Some FullTable) None) ≡ None → a ≡ false
 not_refused true b h = absurd (cc)
 not_refused false b h = refl
 
-inserted : (t : Stored Slots) (row : Row) → has_key (key_place t.heading.schema) row (rows t.held) ≡ false → length (rows t.held) < length t.held → IsInPlace t
-    → IsInPlace (record { heading = t.heading; held = fill_first row t.held })
+inserted : (t : Stored Held) (row : Row) → has_key (key_place t.heading.schema) row (rows t.held.slots) ≡ false → length (rows t.held.slots) < length t.held.slots → IsInPlace t
+    → IsInPlace (record { heading = t.heading; held = in_slots (fill_first row) t.held })
 inserted t row new space one = record {
-  slots = length-fill_first row t.held ∙ one.slots;
-  keys = keys-put_in (key_place t.heading.schema) row (rows t.held) (rows (fill_first row t.held)) (rows-fill_first row t.held space) new one.keys;
+  slots = length-fill_first row t.held.slots ∙ one.slots;
+  keys = keys-put_in (key_place t.heading.schema) row (rows t.held.slots) (rows (fill_first row t.held.slots)) (rows-fill_first row t.held.slots space) new one.keys;
   named = one.named;
 }
 
@@ -213,8 +213,8 @@ not_full true b h = absurd (cc)
 not_full false true h = absurd (cc)
 not_full false false h = refl
 
-has_space : (t : Stored Slots) → IsInPlace t → (length (rows t.held) == t.heading.capacity) ≡ false → length (rows t.held) < length t.held
-has_space t one h = let b = length-rows t.held in let c = one.slots in grind (arith, nat_tests)
+has_space : (t : Stored Held) → IsInPlace t → (length (rows t.held.slots) == t.heading.capacity) ≡ false → length (rows t.held.slots) < length t.held.slots
+has_space t one h = let b = length-rows t.held.slots in let c = one.slots in grind (arith, nat_tests)
 
 module _ (p : Public) (m : ℕ) (ts : Tables) (stmt : Stmt) (none : refusal p m ts stmt ≡ None) where
   not_refused_late : late_refusal (buffered p.pack p.buffer) (database ts) stmt ≡ None
@@ -226,44 +226,44 @@ module _ (p : Public) (m : ℕ) (ts : Tables) (stmt : Stmt) (none : refusal p m 
 
 settled_stays : (p : Public) (m : ℕ) (ts : Tables) (stmt : Stmt) → refusal p m ts stmt ≡ None → AreInPlace ts → AreInPlace (settled ts stmt)
 settled_stays p m ts (Create table columns capacity) none all = added_stays _ ts (created table columns capacity) all
-settled_stays p m ts (Insert table columns values) none all = changed_stays table (fill_first (new_row (columns_at table (headings ts)) columns values)) ts one all where
-  one : (t : Stored Slots) → stored_at table ts ≡ Some t → IsInPlace t → IsInPlace (record { heading = t.heading; held = fill_first (new_row (columns_at table (headings ts)) columns values) t.held })
+settled_stays p m ts (Insert table columns values) none all = changed_stays table (in_slots (fill_first (new_row (columns_at table (headings ts)) columns values))) ts one all where
+  one : (t : Stored Held) → stored_at table ts ≡ Some t → IsInPlace t → IsInPlace (record { heading = t.heading; held = in_slots (fill_first (new_row (columns_at table (headings ts)) columns values)) t.held })
   one t is place =
-      let held : Stored (List Row) = record { heading = t.heading; held = rows t.held } in
+      let held : Stored (List Row) = record { heading = t.heading; held = rows t.held.slots } in
       let row = new_row t.heading.schema columns values in
       let found : stored_at table (database ts) ≡ Some held =
-      stored-database table ts ∙ ap (option_map (λ (u : Stored Slots). record { heading = u.heading; held = rows u.held })) is in
+      stored-database table ts ∙ ap (option_map (λ (u : Stored Held). record { heading = u.heading; held = rows u.held.slots })) is in
       let free : insert_refusal held row ≡ None =
       sym (ap (λ (o : Option (Stored (List Row))). option_map_or (λ (u : Stored (List Row)). insert_refusal u (new_row u.heading.schema columns values)) o None) found)
       ∙ not_refused_late p m ts (Insert table columns values) none in
-      let new = not_refused (has_key (key_place t.heading.schema) row (rows t.held)) (length (rows t.held) == t.heading.capacity) free in
-      let space = has_space t place (not_full (has_key (key_place t.heading.schema) row (rows t.held)) (length (rows t.held) == t.heading.capacity) free) in
-      subst (λ (cs : Columns). IsInPlace (record { heading = t.heading; held = fill_first (new_row cs columns values) t.held })) (sym (schema_is table ts t is)) (inserted t row new space place)
-settled_stays p m ts (Update table sets cond) none all = changed_stays table (map (option_map (updated (where_at cond (columns_at table (headings ts))) (set_cells sets (columns_at table (headings ts)))))) ts one all where
+      let new = not_refused (has_key (key_place t.heading.schema) row (rows t.held.slots)) (length (rows t.held.slots) == t.heading.capacity) free in
+      let space = has_space t place (not_full (has_key (key_place t.heading.schema) row (rows t.held.slots)) (length (rows t.held.slots) == t.heading.capacity) free) in
+      subst (λ (cs : Columns). IsInPlace (record { heading = t.heading; held = in_slots (fill_first (new_row cs columns values)) t.held })) (sym (schema_is table ts t is)) (inserted t row new space place)
+settled_stays p m ts (Update table sets cond) none all = changed_stays table (in_slots (map (option_map (updated (where_at cond (columns_at table (headings ts))) (set_cells sets (columns_at table (headings ts))))))) ts one all where
   rule : sets_key (columns_at table (headings ts)) sets ≡ false
   rule = (allowed (is_late m) p.pack p.buffer (headings ts) (Update table sets cond) (not_refused_early p m ts (Update table sets cond) none)).keys
 
-  one : (t : Stored Slots) → stored_at table ts ≡ Some t → IsInPlace t
-      → IsInPlace (record { heading = t.heading; held = map (option_map (updated (where_at cond (columns_at table (headings ts))) (set_cells sets (columns_at table (headings ts))))) t.held })
+  one : (t : Stored Held) → stored_at table ts ≡ Some t → IsInPlace t
+      → IsInPlace (record { heading = t.heading; held = in_slots (map (option_map (updated (where_at cond (columns_at table (headings ts))) (set_cells sets (columns_at table (headings ts)))))) t.held })
   one t is place =
       let cs = columns_at table (headings ts) in
       let same = schema_is table ts t is in
       let f = updated (where_at cond cs) (set_cells sets cs) in
-      let before : keys_repeat (key_place cs) (rows t.held) ≡ false = subst (λ (cs : Columns). keys_repeat (key_place cs) (rows t.held) ≡ false) (sym same) place.keys in
-      let after : keys_repeat (key_place cs) (rows (map (option_map f) t.held)) ≡ false =
-      ap (keys_repeat (key_place cs)) (rows-map f t.held) ∙ keys-updated (where_at cond cs) cs sets rule (rows t.held) before in
+      let before : keys_repeat (key_place cs) (rows t.held.slots) ≡ false = subst (λ (cs : Columns). keys_repeat (key_place cs) (rows t.held.slots) ≡ false) (sym same) place.keys in
+      let after : keys_repeat (key_place cs) (rows (map (option_map f) t.held.slots)) ≡ false =
+      ap (keys_repeat (key_place cs)) (rows-map f t.held.slots) ∙ keys-updated (where_at cond cs) cs sets rule (rows t.held.slots) before in
       record {
-        slots = length-map t.held (option_map f) ∙ place.slots;
-        keys = subst (λ (s : Columns). keys_repeat (key_place s) (rows (map (option_map f) t.held)) ≡ false) same after;
+        slots = length-map t.held.slots (option_map f) ∙ place.slots;
+        keys = subst (λ (s : Columns). keys_repeat (key_place s) (rows (map (option_map f) t.held.slots)) ≡ false) same after;
         named = place.named;
       }
-settled_stays p m ts (Delete table cond) none all = changed_stays table (map (emptied (is_true (where_at cond (columns_at table (headings ts)))))) ts one all where
-  one : (t : Stored Slots) → stored_at table ts ≡ Some t → IsInPlace t → IsInPlace (record { heading = t.heading; held = map (emptied (is_true (where_at cond (columns_at table (headings ts))))) t.held })
+settled_stays p m ts (Delete table cond) none all = changed_stays table (in_slots (map (emptied (is_true (where_at cond (columns_at table (headings ts))))))) ts one all where
+  one : (t : Stored Held) → stored_at table ts ≡ Some t → IsInPlace t → IsInPlace (record { heading = t.heading; held = in_slots (map (emptied (is_true (where_at cond (columns_at table (headings ts)))))) t.held })
   one t is place =
       let test = is_true (where_at cond (columns_at table (headings ts))) in
       record {
-        slots = length-map t.held (emptied test) ∙ place.slots;
-        keys = ap (keys_repeat (key_place t.heading.schema)) (rows-emptied test t.held) ∙ keys-filter (key_place t.heading.schema) (λ r. not (test r)) (rows t.held) place.keys;
+        slots = length-map t.held.slots (emptied test) ∙ place.slots;
+        keys = ap (keys_repeat (key_place t.heading.schema)) (rows-emptied test t.held.slots) ∙ keys-filter (key_place t.heading.schema) (λ r. not (test r)) (rows t.held.slots) place.keys;
         named = place.named;
       }
 settled_stays p m ts (DropTable table) none all = dropped_stays table ts all

@@ -33,7 +33,7 @@ use Rattle.ob_sql.specs.Skeleton.{skeleton}
 use Rattle.ob_mean.specs.Refusals.{early_refusal}
 use Rattle.ob_mean.specs.Step.{select_condition}
 use Rattle.ob_row.specs.Truth.{is_true}
-use Rattle.ob_mean.specs.Verdict.{Tables, seen, seen_started, seen_by, seen_unpadded, seen_with, ended, counted, is_late, plan_for, fallback, first_unplaced, source_slots, slots_at, selected_places}
+use Rattle.ob_mean.specs.Verdict.{Held, Tables, seen, seen_started, seen_by, seen_unpadded, seen_with, ended, counted, is_late, plan_for, fallback, first_unplaced, source_slots, slots_at, selected_places}
 use Rattle.ob_mean.specs.Replay.{count_end, walk_end, ending_len, done_of, held_if}
 use Rattle.ob_script.specs.Script.{whole_script, with_table, table_script, join_script, select_part, behind_count, extent_of, blocks_of, rows_width, joined_extent, plan_part, result_blocks}
 use Rattle.ob_script.specs.Parts.{count_part, join_part}
@@ -140,7 +140,7 @@ selected_few test slots = length-places_from _ 0 slots
 slots-capacity : (name : List ℕ) (ts : Tables) → AreInPlace ts → length (slots_at name ts) ≡ capacity_at name (headings ts)
 slots-capacity name [] h = refl
 slots-capacity name (t ∷ ts) h =
-    elim (bytes_eq t.heading.name name) as (λ b. length (option_map_or (λ (t : Stored Slots). t.held) (cond b (Some t) (stored_at name ts)) []) ≡ option_map_or (λ (g : Heading). g.capacity) (cond b (Some t.heading) (heading_at name (headings ts))) 0)
+    elim (bytes_eq t.heading.name name) as (λ b. length (option_map_or (λ (t : Stored Held). t.held.slots) (cond b (Some t) (stored_at name ts)) []) ≡ option_map_or (λ (g : Heading). g.capacity) (cond b (Some t.heading) (heading_at name (headings ts))) 0)
     [ true ↦ h.0.slots | false ↦ slots-capacity name ts h.1 ]
 
 length-each : {A : Type 0} (n m : ℕ) (f : ℕ → List A) → ((i : ℕ) → length (f i) ≡ m) → length (each n f) ≡ n * m

@@ -16,3 +16,4 @@ pub mod LongSessions
 pub mod AlikeHeadings
 pub mod AlikeTables
 pub mod AlikeProof
+pub mod BagwiseProof

@@ -14,13 +14,14 @@ use Rattle.ob_row.specs.Slots.{Slots, rows, fill_first, empty_slots}
 use Rattle.ob_verdict.proofs.SlotLemmas.{rows-map, rows-emptied, rows-empty_slots, length-rows, rows-fill_first}
 use Rattle.ob_sql.specs.declared.stmt.Stmt.{Stmt}
 use Rattle.ob_sql.specs.declared.stmt.Stmt.TheVariants.{Create, Insert, Update, Delete, Drop as DropTable, SelectRows as RowsStmt, SelectTotals as TotalsStmt}
+use Rattle.ob_mean.specs.SameMeaning.{SameTables}
 use Rattle.ob_mean.specs.Step.{Database, step_next, insert_refusal, refusal_of, followed, new_row, set_cells}
 use Rattle.ob_mean.specs.Names.{columns_at, where_at}
 use Rattle.ob_row.specs.Truth.{is_true, updated}
-use Rattle.ob_mean.specs.Verdict.{Tables, database, is_late, last_refusal}
+use Rattle.ob_mean.specs.Verdict.{in_slots, Tables, database, is_late, last_refusal}
 use Rattle.ob_mean.specs.Settle.{settled}
 use Rattle.ob_mean.proofs.VerdictLemmas.{headings-database}
-use Rattle.ob_verdict.specs.Laws.{SameTables, AreInPlace, SettlesAsStep}
+use Rattle.ob_verdict.specs.Laws.{AreInPlace, SettlesAsStep}
 
 SameTables-refl : (db : Database) → SameTables db db
 SameTables-refl [] = refl
@@ -32,24 +33,24 @@ Same-put_in_at xs row ys i = Same-wholes i (subst (λ w. Inserts row w (xs ++ ro
 
 -- a change of slots that is a change of rows
 changed-same : (name : List ℕ) (f : Slots → Slots) (g : List Row → List Row) → ((s : Slots) → rows (f s) ≡ g (rows s)) →
-    (ts : Tables) → SameTables (database (changed_at name f ts)) (changed_at name g (database ts))
+    (ts : Tables) → SameTables (database (changed_at name (in_slots f) ts)) (changed_at name g (database ts))
 changed-same name f g e [] = refl
 changed-same name f g e (t ∷ ts) =
-    elim (bytes_eq t.heading.name name) as (λ b. SameTables (database (cond b (record { heading = t.heading; held = f t.held } ∷ ts) (t ∷ changed_at name f ts))) (cond b (record { heading = t.heading; held = g (rows t.held) } ∷ database ts) (record { heading = t.heading; held = rows t.held } ∷ changed_at name g (database ts)))) [
-      | true ↦ (refl, subst (λ w. Same (rows (f t.held)) w) (e t.held) (Same-refl (rows (f t.held))), SameTables-refl (database ts))
-      | false ↦ (refl, Same-refl (rows t.held), changed-same name f g e ts)
+    elim (bytes_eq t.heading.name name) as (λ b. SameTables (database (cond b (record { heading = t.heading; held = in_slots f t.held } ∷ ts) (t ∷ changed_at name (in_slots f) ts))) (cond b (record { heading = t.heading; held = g (rows t.held.slots) } ∷ database ts) (record { heading = t.heading; held = rows t.held.slots } ∷ changed_at name g (database ts)))) [
+      | true ↦ (refl, subst (λ w. Same (rows (f t.held.slots)) w) (e t.held.slots) (Same-refl (rows (f t.held.slots))), SameTables-refl (database ts))
+      | false ↦ (refl, Same-refl (rows t.held.slots), changed-same name f g e ts)
     ]
 
 dropped-same : (name : List ℕ) (ts : Tables) → SameTables (database (dropped_at name ts)) (dropped_at name (database ts))
 dropped-same name [] = refl
 dropped-same name (t ∷ ts) =
-    elim (bytes_eq t.heading.name name) as (λ b. SameTables (database (cond b ts (t ∷ dropped_at name ts))) (cond b (database ts) (record { heading = t.heading; held = rows t.held } ∷ dropped_at name (database ts))))
-    [ true ↦ SameTables-refl (database ts) | false ↦ (refl, Same-refl (rows t.held), dropped-same name ts) ]
+    elim (bytes_eq t.heading.name name) as (λ b. SameTables (database (cond b ts (t ∷ dropped_at name ts))) (cond b (database ts) (record { heading = t.heading; held = rows t.held.slots } ∷ dropped_at name (database ts))))
+    [ true ↦ SameTables-refl (database ts) | false ↦ (refl, Same-refl (rows t.held.slots), dropped-same name ts) ]
 
 created-same : (h : Heading) (n : ℕ) (ts : Tables) →
-    SameTables (database (ts ++ record { heading = h; held = empty_slots n } ∷ [])) (database ts ++ record { heading = h; held = [] } ∷ [])
+    SameTables (database (ts ++ record { heading = h; held = record { slots = empty_slots n; leaves = [] } } ∷ [])) (database ts ++ record { heading = h; held = [] } ∷ [])
 created-same h n [] = (refl, rw (rows-empty_slots n) refl, refl)
-created-same h n (t ∷ ts) = (refl, Same-refl (rows t.held), created-same h n ts)
+created-same h n (t ∷ ts) = (refl, Same-refl (rows t.held.slots), created-same h n ts)
 
 no_second : {R : Type 0} (x y : R) (a b : Bool) → cond a (Some x) (cond b (Some y) None) ≡ None → b ≡ false
 no_second x y true true h = cc
@@ -62,17 +63,17 @@ has_space n c s e f h = let b = length-rows s in grind (arith, nat_tests)
 
 inserted-same : (name : List ℕ) (row : Row) (made : Heading → Row) (ts : Tables) → AreInPlace ts →
     option_map_or (λ t. insert_refusal t (made t.heading)) (stored_at name (database ts)) None ≡ None →
-    SameTables (database (changed_at name (fill_first row) ts)) (changed_at name (λ rs. rs ++ row ∷ []) (database ts))
+    SameTables (database (changed_at name (in_slots (fill_first row)) ts)) (changed_at name (λ rs. rs ++ row ∷ []) (database ts))
 inserted-same name row made [] p = λ h. refl
 inserted-same name row made (t ∷ ts) p =
     elim (bytes_eq t.heading.name name) as (λ b.
-    option_map_or (λ t. insert_refusal t (made t.heading)) (cond b (Some (record { heading = t.heading; held = rows t.held })) (stored_at name (database ts))) None ≡ None →
-    SameTables (database (cond b (record { heading = t.heading; held = fill_first row t.held } ∷ ts) (t ∷ changed_at name (fill_first row) ts)))
-    (cond b (record { heading = t.heading; held = rows t.held ++ row ∷ [] } ∷ database ts) (record { heading = t.heading; held = rows t.held } ∷ changed_at name (λ rs. rs ++ row ∷ []) (database ts)))) [
+    option_map_or (λ t. insert_refusal t (made t.heading)) (cond b (Some (record { heading = t.heading; held = rows t.held.slots })) (stored_at name (database ts))) None ≡ None →
+    SameTables (database (cond b (record { heading = t.heading; held = in_slots (fill_first row) t.held } ∷ ts) (t ∷ changed_at name (in_slots (fill_first row)) ts)))
+    (cond b (record { heading = t.heading; held = rows t.held.slots ++ row ∷ [] } ∷ database ts) (record { heading = t.heading; held = rows t.held.slots } ∷ changed_at name (λ rs. rs ++ row ∷ []) (database ts)))) [
       | true ↦ λ h.
-          let space : length (rows t.held) < length t.held = has_space (length (rows t.held)) t.heading.capacity t.held refl p.0.slots (no_second _ _ _ _ h) in
-          (refl, Same-put_in_at (rows t.held) row (rows (fill_first row t.held)) (rows-fill_first row t.held space), SameTables-refl (database ts))
-      | false ↦ λ h. (refl, Same-refl (rows t.held), inserted-same name row made ts p.1 h)
+          let space : length (rows t.held.slots) < length t.held.slots = has_space (length (rows t.held.slots)) t.heading.capacity t.held.slots refl p.0.slots (no_second _ _ _ _ h) in
+          (refl, Same-put_in_at (rows t.held.slots) row (rows (fill_first row t.held.slots)) (rows-fill_first row t.held.slots space), SameTables-refl (database ts))
+      | false ↦ λ h. (refl, Same-refl (rows t.held.slots), inserted-same name row made ts p.1 h)
     ]
 
 -- what follows where nothing refuses is the same

@@ -20,25 +20,20 @@ use Rattle.ob_sql.specs.declared.stmt.Stmt.{Stmt}
 use Rattle.ob_sql.specs.declared.stmt.Stmt.TheVariants.{SelectRows as RowsStmt}
 use Rattle.ob_sql.specs.Skeleton.{skeleton}
 use Rattle.ob_mean.specs.Refusals.{early_refusal}
-use Rattle.ob_mean.specs.Step.{Database, step_next, select_columns, select_condition, rows_answer, selected_rows, printed_places}
+use Rattle.ob_mean.specs.SameMeaning.{SameTables}
+use Rattle.ob_mean.specs.Step.{step_next, select_columns, select_condition, rows_answer, selected_rows, printed_places}
 use Rattle.ob_row.specs.Results.{RowTest, result_slots}
-use Rattle.ob_mean.specs.Verdict.{Tables, database, source_slots, selected_places, plan_for, bucket_size, first_unplaced, fallback, refusal, seen, ended, is_late}
+use Rattle.ob_mean.specs.Verdict.{Held, Tables, database, source_slots, selected_places, plan_for, bucket_size, first_unplaced, fallback, refusal, seen, ended, is_late}
 use Rattle.ob_mean.specs.Settle.{settle}
 use Rattle.ob_mean.specs.Lawful.{Lawful, is_counted}
 use Rattle.ob_mean.specs.Replay.{cut_at}
 use Rattle.ob_script.specs.Script.{whole_script}
 
 -- ---- the tables in place and the tables as bags
--- the same tables in the same order, each with the same bag of rows
-abbrev pub SameTables : Database → Database → Type 0
-SameTables [] bs = bs ≡ []
-SameTables (a ∷ xs) [] = ⊥
-SameTables (a ∷ xs) (b ∷ ys) = (a.heading ≡ b.heading) × Same a.held b.held × SameTables xs ys
-
 -- a table has as many slots as its capacity, its rows have distinct primary keys, and its columns name it
-pub record IsInPlace (t : Stored Slots) : Type 0 where
-  pub slots : length t.held ≡ t.heading.capacity
-  pub keys : keys_repeat (key_place t.heading.schema) (rows t.held) ≡ false
+pub record IsInPlace (t : Stored Held) : Type 0 where
+  pub slots : length t.held.slots ≡ t.heading.capacity
+  pub keys : keys_repeat (key_place t.heading.schema) (rows t.held.slots) ≡ false
   pub named : NamesTable t.heading
 
 abbrev pub AreInPlace : Tables → Type 0

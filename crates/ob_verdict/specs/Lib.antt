@@ -1,4 +1,5 @@
 pub mod Laws
+pub mod Bagwise
 pub mod Accepted
 pub mod Moving
 pub mod Alike

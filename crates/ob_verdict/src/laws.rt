@@ -10,6 +10,7 @@ ghost use Rattle.ob_row.specs.Results.{large_slots, continuous_slots, hash_slots
 ghost use Rattle.ob_mean.specs.Verdict.{Tables};
 ghost use Rattle.ob_base.specs.declared.schema.Table.{Table};
 ghost use Rattle.ob_base.specs.Stored.{AreApart, headings};
+ghost use Rattle.ob_verdict.specs.Bagwise.{SessionsAreBagwise};
 ghost use Rattle.ob_verdict.specs.Alike.{AreAlike, OrderIsNothing};
 ghost use Rattle.ob_verdict.specs.Accepted.{PlacesFit, TotalsPlacesFit, JoinsFit, SetsFit, ConditionsFit, BucketsFit};
 ghost use Rattle.ob_verdict.specs.Moving.{Moves, CreatesNew, DropsOne};
@@ -29,6 +30,13 @@ pub fn bags_are_kept<A, B>()
 /// The tables in place and the tables as bags go on alike.
 pub fn settles_as_step()
     ensures { (p : Public) (m : ℕ) (ts : Tables) (stmt : Stmt) → SettlesAsStep p m ts stmt }
+{}
+
+/// The answers of a session over tables in place are SQL's answers over the same tables as bags, and so are the tables
+/// behind it, until 2^63 accesses were asked; where a plan is forced or results are padded, a SELECT of rows may be
+/// refused for that alone.
+pub fn sessions_are_bagwise()
+    ensures { SessionsAreBagwise }
 {}
 
 /// A statement leaves the tables in place, with as many slots as their capacities, distinct primary keys, and

@@ -1,0 +1,3 @@
+pub mod AskProof
+pub mod AnswerProof
+pub mod AccessProof

@@ -1,0 +1,4 @@
+pub mod Asking
+pub mod Answering
+pub mod Indexed
+pub mod Settling

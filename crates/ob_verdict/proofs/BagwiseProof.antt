@@ -1,0 +1,156 @@
+-- A session over tables in place answers what the session over the same bags does.
+use Rattle.std.proofs.Common.{◌≡◌, ◌⊎◌, inl, inr, ◌≤◌, ◌<◌, ◌^◌, ◌+◌, ℕ, Bool, true, false, List, [], ◌∷◌, length, refl, sym, ◌∙◌, subst, cond, arith}
+use Rattle.std.proofs.lemmas.Bool.Decides.{nat_tests}
+use Rattle.std.specs.Prelude.{Option, Some, None, Ok, Err, IsSome, nat_lt}
+use Rattle.std.specs.Option.{option_map, option_or}
+use Rattle.ob_base.specs.declared.config.Plan.{Plan}
+use Rattle.ob_base.specs.declared.config.Plan.TheVariants.{Small, Large, Continuous, Hash}
+use Rattle.ob_base.specs.declared.config.Public.{Public}
+use Rattle.ob_base.specs.declared.refusal.Refusal.{Refusal}
+use Rattle.ob_base.specs.declared.refusal.Refusal.TheVariants.{NotConsecutive, Overflow, PadPassed}
+use Rattle.ob_row.specs.Slots.{is_consecutive}
+use Rattle.ob_row.proofs.BagLemmas.{Same-trans}
+use Rattle.ob_script.specs.Script.{script}
+use Rattle.ob_sql.specs.declared.stmt.Stmt.{Stmt}
+use Rattle.ob_sql.specs.declared.stmt.Stmt.TheVariants.{Create, Insert, Update, Delete, Drop as DropTable, SelectRows as RowsStmt, SelectTotals as TotalsStmt}
+use Rattle.ob_sql.specs.Skeleton.{skeleton}
+use Rattle.ob_mean.specs.declared.answer.Answer.{Answer}
+use Rattle.ob_mean.specs.declared.answer.Answer.TheVariants.{Refused}
+use Rattle.ob_mean.specs.Replay.{Broken, Session, Spelt, after, after_all, answer_or_cut, answers, head_of, rest_of, seen_or_cut, settle_or_cut}
+use Rattle.ob_mean.specs.SameMeaning.{SameAnswer, SameTables}
+use Rattle.ob_mean.specs.Settle.{settle}
+use Rattle.ob_mean.specs.Step.{Database, accepted_answer, accepted_next, answered, followed, refusal_of, step_answer, step_next}
+use Rattle.ob_mean.specs.Verdict.{Tables, database, first_unplaced, forced_refusal, is_late, last_refusal, refusal_by, selected_places, verdict}
+use Rattle.ob_mean.proofs.SameProof.{meaning_is_of_bags}
+use Rattle.ob_verdict.proofs.InPlaceProof.{keeps_in_place}
+use Rattle.ob_verdict.proofs.SettleProof.{settles}
+use Rattle.ob_verdict.specs.Bagwise.{AnswersMeant, IsByPlan, IsForced, SessionsAreBagwise, bag_answer, bag_answers, bag_next, bags_after}
+use Rattle.ob_verdict.specs.Laws.{AreInPlace}
+
+SameTables-trans : (a b c : Database) → SameTables a b → SameTables b c → SameTables a c
+SameTables-trans [] b c s t = subst (λ (db : Database). SameTables db c) s t
+SameTables-trans (x ∷ a) [] c s t = absurd s
+SameTables-trans (x ∷ a) (y ∷ b) [] s t = absurd t
+SameTables-trans (x ∷ a) (y ∷ b) (z ∷ c) s t = (s.0 ∙ t.0, Same-trans x.held y.held z.held s.1 t.1, SameTables-trans a b c s.2 t.2)
+
+-- ---- the last refusal is the plan's or the padding's
+consecutive_by : (b : Bool) (r : Refusal) → cond b None (Some NotConsecutive) ≡ Some r → NotConsecutive ≡ r
+consecutive_by true r h = absurd (cc h)
+consecutive_by false r h = cc h
+
+forced_by_plan : (p : Public) (forced : Option Plan) (places : List ℕ) (r : Refusal) → p.plan ≡ forced → forced_refusal p forced places ≡ Some r → IsByPlan p (Refused r)
+forced_by_plan p None places r is h = absurd (cc h)
+forced_by_plan p (Some Small) places r is h = absurd (cc h)
+forced_by_plan p (Some Large) places r is h = absurd (cc h)
+forced_by_plan p (Some Continuous) places r is h = subst (λ q. IsByPlan p (Refused q)) (consecutive_by (is_consecutive places) r h) is
+forced_by_plan p (Some Hash) places r is h = go (first_unplaced p places) h
+  where
+    go : (left : Option ℕ) → option_map Overflow left ≡ Some r → IsByPlan p (Refused r)
+    go None h = absurd (cc h)
+    go (Some i) h = let same : Overflow i ≡ r = cc h in subst (λ q. IsByPlan p (Refused q)) same is
+
+padded_by : (b : Bool) (r : Refusal) → cond b (Some PadPassed) None ≡ Some r → PadPassed ≡ r
+padded_by true r h = cc h
+padded_by false r h = absurd (cc h)
+
+by_plan : (p : Public) (pad : Option ℕ) (places : List ℕ) (r : Refusal) → p.pad ≡ pad → refusal_by pad p places ≡ Some r → IsByPlan p (Refused r)
+by_plan p None [] r is h = absurd (cc h)
+by_plan p None (i ∷ places) r is h = forced_by_plan p p.plan (i ∷ places) r refl h
+by_plan p (Some pad) places r is h =
+    subst (λ q. IsByPlan p (Refused q)) (padded_by (nat_lt pad (length places)) r h) (subst (λ (o : Option ℕ). IsSome o) (sym is) refl)
+
+last_by_plan : (p : Public) (ts : Tables) (stmt : Stmt) (r : Refusal) → last_refusal p ts stmt ≡ Some r → IsByPlan p (Refused r)
+last_by_plan p ts (Create table columns capacity) r h = absurd (cc h)
+last_by_plan p ts (Insert table columns values) r h = absurd (cc h)
+last_by_plan p ts (Update table sets search) r h = absurd (cc h)
+last_by_plan p ts (Delete table search) r h = absurd (cc h)
+last_by_plan p ts (DropTable table) r h = absurd (cc h)
+last_by_plan p ts (RowsStmt q) r h = by_plan p p.pad (selected_places p q ts) r refl h
+last_by_plan p ts (TotalsStmt q) r h = absurd (cc h)
+
+-- ---- one statement
+-- as the meaning's, but for a refusal that comes last
+answered_last : (p : Public) (r l : Option Refusal) (x y : Answer) → ((q : Refusal) → l ≡ Some q → IsByPlan p (Refused q)) → SameAnswer (answered r x) y
+    → SameAnswer (answered (option_or r l) x) y ⊎ IsByPlan p (answered (option_or r l) x)
+answered_last p None None x y by same = inl same
+answered_last p None (Some q) x y by same = inr (by q refl)
+answered_last p (Some q) l x y by same = inl same
+
+verdict_meant : (p : Public) (m : ℕ) (ts : Tables) (db : Database) (stmt : Stmt) → m < 2 ^ 63 → SameTables (database ts) db
+    → SameAnswer (verdict p m ts stmt) (step_answer p db stmt) ⊎ IsByPlan p (verdict p m ts stmt)
+verdict_meant p m ts db stmt few same =
+    let early : is_late m ≡ false = grind (arith, nat_tests) in
+    subst (λ late. SameAnswer (answered (option_or (refusal_of late p.pack p.buffer (database ts) stmt) (last_refusal p ts stmt)) (accepted_answer (database ts) stmt)) (step_answer p db stmt)
+    ⊎ IsByPlan p (answered (option_or (refusal_of late p.pack p.buffer (database ts) stmt) (last_refusal p ts stmt)) (accepted_answer (database ts) stmt))) (sym early)
+    (answered_last p (refusal_of false p.pack p.buffer (database ts) stmt) (last_refusal p ts stmt) (accepted_answer (database ts) stmt) (step_answer p db stmt) (last_by_plan p ts stmt)
+    (meaning_is_of_bags p (database ts) db stmt same).answer)
+
+settle_meant : (p : Public) (m : ℕ) (ts : Tables) (db : Database) (stmt : Stmt) → m < 2 ^ 63 → AreInPlace ts → SameTables (database ts) db
+    → SameTables (database (settle p m ts stmt)) (step_next p db stmt)
+settle_meant p m ts db stmt few place same =
+    SameTables-trans _ (step_next p (database ts) stmt) _ (settles p m ts stmt few place) (meaning_is_of_bags p (database ts) db stmt same).next
+
+module _ (s : Session) (db : Database) (stmt : Stmt) (few : s.asked < 2 ^ 63) (place : AreInPlace s.tables) (same : SameTables (database s.tables) db) where
+  answer_meant : (broken : Option ℕ) → SameAnswer (answer_or_cut broken s stmt) (bag_answer broken s.public db stmt) ⊎ IsByPlan s.public (answer_or_cut broken s stmt)
+  answer_meant None = verdict_meant s.public s.asked s.tables db stmt few same
+  answer_meant (Some n) = inl refl
+
+  next_meant : (broken : Option ℕ) → SameTables (database (settle_or_cut broken s stmt)) (bag_next broken s.public db stmt)
+  next_meant None = settle_meant s.public s.asked s.tables db stmt few place same
+  next_meant (Some n) = same
+
+  next_in_place : (broken : Option ℕ) → AreInPlace (settle_or_cut broken s stmt)
+  next_in_place None = keeps_in_place s.public s.asked s.tables stmt place
+  next_in_place (Some n) = place
+
+-- ---- all of them
+asked_more : (s : Session) (texts : List Spelt) (bs : Broken) → s.asked ≤ (after_all s texts bs).asked
+asked_more s [] bs = omega arith
+asked_more s (Ok stmt ∷ texts) bs =
+    let rest = asked_more (after (head_of bs) s stmt) texts (rest_of bs) in
+    let here : (after (head_of bs) s stmt).asked ≡ s.asked + length (script s.public (skeleton stmt) (seen_or_cut (head_of bs) s stmt)) = refl in
+    omega (arith, rest, here)
+asked_more s (Err at ∷ texts) bs = asked_more s texts (rest_of bs)
+
+-- of two lots of settings that are the same but for tables and regions, as behind each statement
+record IsLike (p q : Public) : Type 0 where
+  pack : p.pack ≡ q.pack
+  rows : p.buffer ≡ q.buffer
+  plan : p.plan ≡ q.plan
+  pad : p.pad ≡ q.pad
+
+module _ (p q : Public) (like : IsLike p q) (db : Database) where
+  by_plan_like : (x : Answer) → IsByPlan p x → IsByPlan q x
+  by_plan_like x h = subst (λ (plan : Option Plan). IsForced plan q.pad x) like.plan (subst (λ (pad : Option ℕ). IsForced p.plan pad x) like.pad h)
+
+  answer_like : (broken : Option ℕ) (stmt : Stmt) → bag_answer broken p db stmt ≡ bag_answer broken q db stmt
+  answer_like None stmt = λ i. answered (refusal_of false (like.pack i) (like.rows i) db stmt) (accepted_answer db stmt)
+  answer_like (Some n) stmt = refl
+
+  next_like : (broken : Option ℕ) (stmt : Stmt) → bag_next broken p db stmt ≡ bag_next broken q db stmt
+  next_like None stmt = λ i. followed (refusal_of false (like.pack i) (like.rows i) db stmt) (accepted_next db stmt) db
+  next_like (Some n) stmt = refl
+
+  meant_like : (broken : Option ℕ) (stmt : Stmt) (x : Answer) → SameAnswer x (bag_answer broken p db stmt) ⊎ IsByPlan p x → SameAnswer x (bag_answer broken q db stmt) ⊎ IsByPlan q x
+  meant_like broken stmt x (inl same) = inl (subst (SameAnswer x) (answer_like broken stmt) same)
+  meant_like broken stmt x (inr forced) = inr (by_plan_like x forced)
+
+bagwise : (p : Public) (s : Session) (db : Database) (texts : List Spelt) (bs : Broken) → IsLike s.public p → AreInPlace s.tables → SameTables (database s.tables) db
+    → (after_all s texts bs).asked < 2 ^ 63
+    → AnswersMeant p (answers s texts bs) (bag_answers p db texts bs) × SameTables (database (after_all s texts bs).tables) (bags_after p db texts bs)
+bagwise p s db [] bs like place same few = (refl, same)
+bagwise p s db (Ok stmt ∷ texts) bs like place same few =
+    let broken = head_of bs in
+    let here : s.asked < 2 ^ 63 = omega (arith, few, asked_more s (Ok stmt ∷ texts) bs) in
+    let next = subst (SameTables (database (settle_or_cut broken s stmt))) (next_like s.public p like db broken stmt) (next_meant s db stmt here place same broken) in
+    let rest = bagwise p (after broken s stmt) (bag_next broken p db stmt) texts (rest_of bs)
+    (record { pack = like.pack; rows = like.rows; plan = like.plan; pad = like.pad }) (next_in_place s db stmt here place same broken) next few in
+    ((meant_like s.public p like db broken stmt (answer_or_cut broken s stmt) (answer_meant s db stmt here place same broken), rest.0), rest.1)
+bagwise p s db (Err at ∷ texts) bs like place same few =
+    let rest = bagwise p s db texts (rest_of bs) like place same few in
+    ((inl refl, rest.0), rest.1)
+
+pub sessions_are_bagwise : SessionsAreBagwise
+sessions_are_bagwise s db texts bs place same few =
+    let both = bagwise s.public s db texts bs (record { pack = refl; rows = refl; plan = refl; pad = refl }) place same few in
+    record { answers = both.0; after = both.1 }

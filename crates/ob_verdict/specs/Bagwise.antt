@@ -1,0 +1,62 @@
+-- A session over tables as bags, and what the session over tables in place has to do with it.
+use Rattle.std.specs.Prelude.{◌≡◌, ◌⊎◌, ◌<◌, ◌^◌, ℕ, List, [], ◌∷◌, Option, Some, None, IsSome, Ok, Err}
+use Rattle.ob_base.specs.declared.config.Public.{Public}
+use Rattle.ob_base.specs.declared.config.Plan.{Plan}
+use Rattle.ob_base.specs.declared.config.Plan.TheVariants.{Continuous, Hash}
+use Rattle.ob_base.specs.declared.refusal.Refusal.TheVariants.{Syntax, StoreFault, NotConsecutive, Overflow, PadPassed}
+use Rattle.ob_sql.specs.declared.stmt.Stmt.{Stmt}
+use Rattle.ob_mean.specs.declared.answer.Answer.{Answer}
+use Rattle.ob_mean.specs.declared.answer.Answer.TheVariants.{Refused}
+use Rattle.ob_mean.specs.Replay.{Broken, Session, Spelt, after_all, answers, head_of, rest_of}
+use Rattle.ob_mean.specs.SameMeaning.{SameAnswer, SameTables}
+use Rattle.ob_mean.specs.Step.{Database, step_answer, step_next}
+use Rattle.ob_mean.specs.Verdict.{database}
+use Rattle.ob_verdict.specs.Laws.{AreInPlace}
+
+-- ---- a session over tables as bags: a statement that the store cut off changes no table
+abbrev pub bag_answer : Option ℕ → Public → Database → Stmt → Answer
+bag_answer None p db stmt = step_answer p db stmt
+bag_answer (Some n) p db stmt = Refused StoreFault
+
+abbrev pub bag_next : Option ℕ → Public → Database → Stmt → Database
+bag_next None p db stmt = step_next p db stmt
+bag_next (Some n) p db stmt = db
+
+-- the answers of many texts, and the tables behind them
+abbrev pub bag_answers : Public → Database → List Spelt → Broken → List Answer
+bag_answers p db [] bs = []
+bag_answers p db (Ok stmt ∷ texts) bs = bag_answer (head_of bs) p db stmt ∷ bag_answers p (bag_next (head_of bs) p db stmt) texts (rest_of bs)
+bag_answers p db (Err at ∷ texts) bs = Refused (Syntax at) ∷ bag_answers p db texts (rest_of bs)
+
+abbrev pub bags_after : Public → Database → List Spelt → Broken → Database
+bags_after p db [] bs = db
+bags_after p db (Ok stmt ∷ texts) bs = bags_after p (bag_next (head_of bs) p db stmt) texts (rest_of bs)
+bags_after p db (Err at ∷ texts) bs = bags_after p db texts (rest_of bs)
+
+-- ---- what the answers of both have to do with each other
+-- a refusal that no bag tells: a plan that was forced, or the padding that was asked for, doesn't hold the result
+abbrev pub IsForced : (plan : Option Plan) → (pad : Option ℕ) → Answer → Type 0
+IsForced plan pad (Refused NotConsecutive) = plan ≡ Some Continuous
+IsForced plan pad (Refused (Overflow i)) = plan ≡ Some Hash
+IsForced plan pad (Refused PadPassed) = IsSome pad
+IsForced plan pad _ = ⊥
+
+abbrev pub IsByPlan : Public → Answer → Type 0
+IsByPlan p x = IsForced p.plan p.pad x
+
+-- each answer is the meaning's, rows as a bag, or such a refusal
+abbrev pub AnswersMeant : Public → (given meant : List Answer) → Type 0
+AnswersMeant p [] meant = meant ≡ []
+AnswersMeant p (x ∷ xs) [] = ⊥
+AnswersMeant p (x ∷ xs) (y ∷ ys) = (SameAnswer x y ⊎ IsByPlan p x) × AnswersMeant p xs ys
+
+-- the answers of a session over tables in place are those of the session over bags that are the same, and so are the
+-- tables behind it
+pub record GoesBagwise (s : Session) (db : Database) (texts : List Spelt) (bs : Broken) : Type 0 where
+  pub answers : AnswersMeant s.public (answers s texts bs) (bag_answers s.public db texts bs)
+  pub after : SameTables (database (after_all s texts bs).tables) (bags_after s.public db texts bs)
+
+-- until so many accesses were asked that no statement is served
+abbrev pub SessionsAreBagwise : Type 0
+SessionsAreBagwise = (s : Session) (db : Database) (texts : List Spelt) (bs : Broken) → AreInPlace s.tables → SameTables (database s.tables) db →
+    (after_all s texts bs).asked < 2 ^ 63 → GoesBagwise s db texts bs
