@@ -26,7 +26,7 @@ use Rattle.ob_oram.specs.Buffers.{IsBuffer, held_of}
 use Rattle.ob_oram.specs.Heights.{rows_open}
 use Rattle.ob_oram.specs.Indexes.{LiesAs, IsStored, IsShaped, leaves_of, key_of}
 use Rattle.ob_oram.specs.Opens.{IsOpen, leaf_with, leaves_with}
-use Rattle.ob_oram.specs.Accessing.{Accesses, Answers, HasLeaves, LeftBy, Stays, Stops, leaf_read, leaves_after, remap_of}
+use Rattle.ob_oram.specs.Accessing.{Accesses, Answers, HasLeaves, LeftBy, ReadsTooMany, Stays, Stops, leaf_read, leaves_after, remap_of}
 
 module _ (index : Index) (buffer : Vec (Option Held) Global) where
   abbrev other : Index
@@ -45,7 +45,7 @@ module _ (index : Index) (buffer : Vec (Option Held) Global) where
   has_other list left has = record { same = has.same; leaves = has.leaves }
 
   stays_other : (left : Index) (old new : World) → Stays other left old new → Stays index left old new
-  stays_other left old new is = record { same = has_other (leaves_of index) left is.same; stands = is.stands; lies = λ s lies. is.lies s (lies_other s old lies) }
+  stays_other left old new is = record { same = has_other (leaves_of index) left is.same; stored = is.stored; lies = λ s lies. is.lies s (lies_other s old lies) }
 
   stops_other : (e : OramErr) (left : Index) (leaf : ℕ) (old new : World) → Stops e other left leaf old new → Stops e index left leaf old new
   stops_other Failed left leaf old new is = elim is [
@@ -58,9 +58,22 @@ module _ (index : Index) (buffer : Vec (Option Held) Global) where
   answers_other : (left : Index) (op : Op) (draw : ℕ) (s : State Row) (got : Got) (new : World) → Answers other left op draw s got new → Answers index left op draw s got new
   answers_other left op draw s got new is = record { went = is.went; is = is.is; answer = is.answer; lies = is.lies }
 
+  many_other : (op : Op) (draw : ℕ) (old new : World) → ReadsTooMany other op draw old new → ReadsTooMany index op draw old new
+  many_other op draw old new is = record {
+    slots = is.slots;
+    keyed = record { within = is.keyed.within };
+    opens = record {
+      spare = is.opens.spare;
+      count = is.opens.count;
+      lying = λ honest s lies. let here = is.opens.lying honest s (lies_other s old lies) in record { path = here.path; stash = here.stash };
+      told = λ honest s lies. is.opens.told honest s (record { lies = lies_other s old lies.lies; stands = lies.stands });
+    };
+    crowded = is.crowded;
+  }
+
   pub left_other : (left : Index) (op : Op) (draw : ℕ) (r : Result Got OramErr) → LeftBy r index op draw left → LeftBy r other op draw left
   left_other left op draw (Ok got) by = record { ok = record { same = by.ok.same; leaves = by.ok.leaves }; err = tt; buffer = by.buffer }
-  left_other left op draw (Err e) by = record { ok = tt; err = record { same = by.err.same; leaves = by.err.leaves }; buffer = by.buffer }
+  left_other left op draw (Err e) by = record { ok = tt; err = record { same = by.err.same; leaves = by.err.leaves }; buffer = tt }
 
   pub accesses_other : (left : Index) (op : Op) (draw : ℕ) (r : Result Got OramErr) (old new : World) → Accesses other left op draw r old new → Accesses index left op draw r old new
   accesses_other left op draw (Ok got) old new is = record {
@@ -73,6 +86,7 @@ module _ (index : Index) (buffer : Vec (Option Held) Global) where
     maps = λ honest m map.
         let answers = is.maps honest m (record { state = map.state; lies = lies_other map.state old map.lies; represents = map.represents }) in
         record { answer = answers.answer; map = answers.map };
+    full = λ no. absurd (cc no);
     told = λ honest s lies. answers_other left op draw s got new (is.told honest s (record { lies = lies_other s old lies.lies; stands = lies.stands }));
   }
   accesses_other left op draw (Err e) old new is = record {
@@ -83,6 +97,7 @@ module _ (index : Index) (buffer : Vec (Option Held) Global) where
     stands = tt;
     range = tt;
     maps = λ honest m map. tt;
+    full = λ same. many_other op draw old new (is.full same);
     told = λ honest s lies. is.told honest s (record { lies = lies_other s old lies.lies; stands = lies.stands });
   }
 
@@ -91,9 +106,9 @@ pub left_ok : (index left : Index) (op : Op) (draw : ℕ) (r : Result Got OramEr
 left_ok index left op draw (Ok got) is has buffer = record { ok = has; err = tt; buffer = buffer }
 left_ok index left op draw (Err e) is has buffer = absurd (false≢true is)
 
-pub left_err : (index left : Index) (op : Op) (draw : ℕ) (r : Result Got OramErr) → is_ok r ≡ false → HasLeaves (leaves_of index) index left → length left.buffer.items ≡ rows_open index.height index.slots → LeftBy r index op draw left
-left_err index left op draw (Ok got) is has buffer = absurd (false≢true (sym is))
-left_err index left op draw (Err e) is has buffer = record { ok = tt; err = has; buffer = buffer }
+pub left_err : (index left : Index) (op : Op) (draw : ℕ) (r : Result Got OramErr) → is_ok r ≡ false → HasLeaves (leaves_of index) index left → LeftBy r index op draw left
+left_err index left op draw (Ok got) is has = absurd (false≢true (sym is))
+left_err index left op draw (Err e) is has = record { ok = tt; err = has; buffer = tt }
 
 -- zero rows are a buffer without a row
 module _ {rows : List (List ℕ)} (n wide : ℕ) (value : rows ≡ replicate n (clear wide)) where

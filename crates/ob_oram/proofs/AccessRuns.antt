@@ -13,7 +13,6 @@ use Rattle.ob_flat.specs.Flats.{IsInTurn, IsWritten, Represents}
 use Rattle.ob_flat.specs.Passes.{PassCut}
 use Rattle.ob_flat.specs.Words.{HasSpare}
 use Rattle.ob_flat.proofs.Runs.{pass_after}
-use Rattle.ob_flat.proofs.Tables.{represents_lasts}
 use Rattle.ob_tree.specs.States.{State}
 use Rattle.ob_tree.specs.Access as Tree
 use Rattle.ob_tree.specs.Scripts as Scripts
@@ -29,8 +28,8 @@ use Rattle.ob_oram.specs.Indexes.{IsShaped, IsStored, IsIndex, Lies, SealsIndex,
 use Rattle.ob_oram.specs.Ops.{op_in}
 use Rattle.ob_oram.specs.Scripts.{access_in, read_script, write_script, access_script, script_length}
 use Rattle.ob_oram.specs.Halves.{ReadsIndex, RefusesIndex, WritesIndex}
-use Rattle.ob_oram.specs.Accessing.{Accesses, HasLeaves, LeftBy, Stays, Stops, leaf_read, leaves_after, remap_of}
-use Rattle.ob_oram.proofs.IndexWrites.{in_turn_lasts}
+use Rattle.ob_oram.specs.Accessing.{Accesses, HasLeaves, LeftBy, ReadsTooMany, Stays, Stops, leaf_read, leaves_after, remap_of}
+use Rattle.ob_oram.proofs.Lasting.{lies_kept, stored_kept}
 use Rattle.ob_oram.proofs.WalkRows.{height_few}
 
 -- the index as a state of the model that has its leaves alone
@@ -79,25 +78,19 @@ module _ (index left : Index) (list : List ℕ) (has : HasLeaves list index left
 
 -- an index that wasn't touched
 pub stored_lasts : (index : Index) (old new : World) → Lasts none old new → IsStored index old → IsStored index new
-stored_lasts index old new lasts is = record {
-  shaped = is.shaped;
-  tree = in_turn_lasts Any (tree_of index) none old new lasts (λ q. q) is.tree;
-  stash = in_turn_lasts Round (stash_of index) none old new lasts (λ q. q) is.stash;
-  apart = is.apart;
-}
+stored_lasts index old new lasts = stored_kept none old new lasts index (λ q. q) (λ q. q)
 
-pub stays : (index left : Index) (old new : World) → Lasts none old new → IsStored index old → HasLeaves (leaves_of index) index left → length left.buffer.items ≡ rows_open index.height index.slots → Stays index left old new
-stays index left old new lasts stored has buffer = record {
+pub stays : (index left : Index) (old new : World) → Lasts none old new → IsStored index old → HasLeaves (leaves_of index) index left → Stays index left old new
+stays index left old new lasts stored has = record {
   same = has;
-  stands = record {
-    stored = stored_left index left (leaves_of index) has new stored.shaped.leaves (stored_lasts index old new lasts stored);
-    buffer = as_left index left (leaves_of index) has (λ i. length left.buffer.items ≡ rows_open i.height i.slots) buffer;
-  };
-  lies = λ s lies. record {
-    tree = as_left index left (leaves_of index) has (λ i. Represents 1 (tree_of i) s.tree new) (represents_lasts 1 (tree_of index) none old new lasts (λ q. q) s.tree lies.tree);
-    stash = as_left index left (leaves_of index) has (λ i. Represents 1 (stash_of i) s.stash new) (represents_lasts 1 (stash_of index) none old new lasts (λ q. q) s.stash lies.stash);
-    leaves = lies.leaves ∙ sym has.leaves;
-  };
+  stored = stored_left index left (leaves_of index) has new stored.shaped.leaves (stored_lasts index old new lasts stored);
+  lies = λ s lies.
+      let kept = lies_kept none old new lasts index (λ q. q) (λ q. q) s lies in
+      record {
+        tree = as_left index left (leaves_of index) has (λ i. Represents 1 (tree_of i) s.tree new) kept.tree;
+        stash = as_left index left (leaves_of index) has (λ i. Represents 1 (stash_of i) s.stash new) kept.stash;
+        leaves = lies.leaves ∙ sym has.leaves;
+      };
 }
 
 -- the accesses are those of the reads, and then those of the writes
@@ -123,8 +116,8 @@ module _ (index : Index) (op : Op) (draw : ℕ) (old : World) (stored : IsStored
   module _ (left : Index) where
     -- one of the reads was the last access
     stopped : (e : OramErr) (new : World) → RefusesIndex e index leaf old new → LeftBy {T = Got} (Err e) index op draw left → Stops e index left leaf old new
-    stopped Failed new cut by = inl (record { cut = cut; stays = stays index left old new cut.lasts stored by.err by.buffer })
-    stopped (Tampered q x) new cut by = (record { cut = cut.0; stays = stays index left old new cut.0.lasts stored by.err by.buffer }, cut.1)
+    stopped Failed new cut by = inl (record { cut = cut; stays = stays index left old new cut.lasts stored by.err })
+    stopped (Tampered q x) new cut by = (record { cut = cut.0; stays = stays index left old new cut.0.lasts stored by.err }, cut.1)
     stopped StashFull new cut by = absurd cut
 
     pub ends_reading : (e : OramErr) (new : World) → ReadsIndex {T = Unit {0}} index leaf (Err e) old new → LeftBy {T = Got} (Err e) index op draw left → Accesses index left op draw (Err e) old new
@@ -136,21 +129,23 @@ module _ (index : Index) (op : Op) (draw : ℕ) (old : World) (stored : IsStored
       stands = tt;
       range = tt;
       maps = λ honest m is. tt;
+      full = λ is. let same : e ≡ StashFull = cc is in absurd (subst (λ (x : OramErr). RefusesIndex x index leaf old new) same reads.err);
       told = λ honest s lies. inl (reads.told honest s lies.lies);
     }
 
     module _ (mid : World) (went : Went (read_script index (leaf_read index op draw)) none old mid) (sealed : SealsAll old mid) where
       -- all was read, and there are too many rows
       pub ends_full : ((s : State Row) → IsHonest old mid → Lies index s old → Tree.access (key_of index) index.height s (op_in index.capacity op) draw ≡ None)
-          → LeftBy {T = Got} (Err StashFull) index op draw left → Accesses index left op draw (Err StashFull) old mid
-      ends_full full by = record {
+          → ReadsTooMany index op draw old mid → LeftBy {T = Got} (Err StashFull) index op draw left → Accesses index left op draw (Err StashFull) old mid
+      ends_full full many by = record {
         ok = tt;
-        err = (went, stays index left old mid went.lasts stored by.err by.buffer);
+        err = (went, stays index left old mid went.lasts stored by.err);
         seals = record { seals = λ good fine other. sealed.seals good };
         leaves = tt;
         stands = tt;
         range = tt;
         maps = λ honest m is. tt;
+        full = λ is. many;
         told = λ honest s lies. inr (refl, full s honest lies);
       }
 
@@ -181,6 +176,7 @@ module _ (index : Index) (op : Op) (draw : ℕ) (old : World) (stored : IsStored
             stands = tt;
             range = tt;
             maps = λ honest m is. tt;
+            full = λ is. absurd (cc (is, writes.err.0));
             told = λ honest s lies. inl writes.err.0;
           }
 

@@ -2,7 +2,7 @@
 use Rattle.std.proofs.Common.{◌≡◌, ◌≤◌, ◌<◌, ◌+◌, ◌-◌, ◌*◌, ◌/◌, ◌%◌, ◌^◌, ℕ, suc, arith, Fits, w32, inl, inr, sym, ◌∙◌, ap}
 use Rattle.std.proofs.lemmas.Bool.{cases_lt}
 use Rattle.std.proofs.Math.Nat.{pow-le-pow_right, mod-eq_of_lt, le-div_iff_mul-le}
-use Rattle.ob_tree.specs.Paths.{path_place}
+use Rattle.ob_script.specs.Parts.{path_place}
 use Rattle.ob_tree.proofs.PathLemmas.{power_next, power_some}
 use Rattle.ob_tree.proofs.WalkLemmas.{path_place_below}
 

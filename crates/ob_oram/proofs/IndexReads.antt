@@ -18,7 +18,8 @@ use Rattle.ob_flat.specs.Words.{HasSpare}
 use Rattle.ob_flat.proofs.Runs.{pass_more, pass_after}
 use Rattle.ob_flat.proofs.Tables.{represents_lasts}
 use Rattle.ob_flat.proofs.WordLemmas.{sealed_after}
-use Rattle.ob_tree.specs.Paths.{path_place, path_slot}
+use Rattle.ob_script.specs.Parts.{path_place}
+use Rattle.ob_tree.specs.Paths.{path_slot}
 use Rattle.ob_tree.specs.Scripts.{numbers, path_places, ReadStash, ReadTree}
 use Rattle.ob_tree.specs.Slotwise.{open_slots}
 use Rattle.ob_tree.specs.States.{State}
@@ -132,7 +133,17 @@ module _ (index : Index) (remap : Remap) (leaf : ℕ) (below : leaf < 2 ^ index.
         (ap (λ k. get_or after (path_blocks index.height + k) None) size ∙ last_empty)
 
     pub opens_index : OpensIndex index leaf after old new
-    opens_index = record { spare = last_empty; told = all_open }
+    opens_index = record {
+      spare = last_empty;
+      count = count;
+      lying = λ honest s lies. record {
+        path = λ c within. path.told s.tree (represents_lasts 1 (tree_of index) none old mid first.lasts (λ q. q) s.tree lies.tree) honest.nolie c within;
+        stash = λ i within.
+            path.others (path_blocks index.height + i) (no_slot (path_blocks index.height + i) (omega arith))
+            ∙ stash.told s.stash lies.stash (none_went none mid new (walk_reads index (leaf_blocks index leaf)) second honest.nolie) i within;
+      };
+      told = all_open;
+    }
 
 -- both were read
 pub opens_both : (index : Index) (remap : Remap) (leaf : ℕ) (below : leaf < 2 ^ index.height) (shaped : IsShaped index) (old mid new : World) (slots : Slots) (buffer late : List (Option Held)) (list wide : List (List ℕ)) (r : Result (Unit {0}) OramErr)

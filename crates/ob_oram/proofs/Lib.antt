@@ -10,10 +10,16 @@ pub mod WalkWrites
 pub mod OpRows
 pub mod IndexReads
 pub mod IndexWrites
+pub mod Lasting
 pub mod AccessRuns
 pub mod AccessTold
+pub mod Overfull
 pub mod AccessIndex
+pub mod Crowding
 pub mod Seeing
 pub mod Regions
 pub mod Made
 pub mod Resting
+pub mod Shortness
+pub mod Early
+pub mod Scripting

@@ -1,7 +1,8 @@
 -- An operation on the rows that lie open.
-use Rattle.std.proofs.Common.{◌≡◌, ◌≢◌, ◌≤◌, ◌<◌, inl, inr, ℕ, ℤ, Bor, List, [], ◌∷◌, ◌++◌, Option, Some, None, length, get_or, set, replicate, refl, sym, ◌∙◌, ap, subst, arith, get_or-set_same, get_or-set_other}
+use Rattle.std.proofs.Common.{◌≡◌, ◌≢◌, ◌≤◌, ◌<◌, inl, inr, ℕ, ℤ, Bool, Bor, List, [], ◌∷◌, ◌++◌, Option, Some, None, length, get_or, set, replicate, refl, sym, ◌∙◌, ap, subst, arith, get_or-set_same, get_or-set_other}
 use Rattle.std.specs.List.{All}
 use Rattle.std.specs.Option.{option_map}
+use Rattle.std.specs.Prelude.{filter}
 use Rattle.std.proofs.lemmas.Bool.{cases_lt}
 use Rattle.std.proofs.lemmas.List.{set-get_or, length-set}
 use Rattle.std.proofs.lemmas.List.Elements.{All-head, All-tail}
@@ -29,9 +30,10 @@ use Rattle.ob_oram.specs.declared.op.Got.{Got}
 use Rattle.ob_oram.specs.declared.op.Got.TheVariants as Gots
 use Rattle.ob_oram.specs.Buffers.{HasAt, NoneHas, held_of}
 use Rattle.ob_oram.specs.Indexes.{IsShaped, key_of, leaves_of}
-use Rattle.ob_oram.specs.Keys.{key_number, cell_number}
+use Rattle.ob_tree.specs.Keys.{key_number, cell_number}
 use Rattle.ob_oram.specs.Opens.{IsOpen, OpensRow, ServesRows, leaf_with, leaves_with, tree_key}
-use Rattle.ob_oram.specs.Ops.{FitsOp, FitsSet, key_of_op, op_in, got_in}
+use Rattle.ob_oram.specs.Ops.{FitsOp, FitsSet, key_of_op, op_in, got_in, put_in}
+use Rattle.ob_oram.proofs.Crowding.{counts, tally_set, weigh, weigh_least}
 use Rattle.ob_oram.proofs.WalkReads.{open_set}
 
 -- a cell elsewhere leaves that of the key
@@ -94,6 +96,7 @@ module _ (index : Index) (slots : Slots) where
     bag = λ single. subst (λ o. Same (list_of o ++ rows slots) (Tree.applied (key_of index) index.capacity (op_in index.capacity op) (rows slots))) none
         (applied_absent (key_of index) index.capacity (op_in index.capacity op) slots absent within);
     answer = λ single. sym (answer_absent (key_of index) index.capacity (op_in index.capacity op) slots absent within ∙ answer);
+    most = λ p. omega arith;
   }
 
   pub serves_absent : (op : Op) → ((key : ℤ) (cells : Bor (List Cell)) → op ≡ Insert key cells → ⊥) → tree_key index op < index.capacity → Absent op → ServesRows index op slots slots Gots.None
@@ -113,6 +116,12 @@ module _ (index : Index) (slots : Slots) where
             (subst (λ l. Same (rows (set slots last (Some cells.now))) (cells.now ∷ l)) whole (rows-set_some slots last cells.now inside))
             (applied_absent (key_of index) index.capacity op slots absent within);
         answer = λ single. sym (answer_absent (key_of index) index.capacity op slots absent within);
+        most = λ p.
+            let q : Row → Bool = λ row. p (key_of index row) in
+            let changed = tally_set q slots last (Some cells.now) inside in
+            let least = weigh_least q cells.now in
+            let one : put_in (Insert key cells) ≡ 1 = refl in
+            omega (arith, changed, least, one);
       }
 
 -- the row that is put in, as the buffer has it
@@ -138,9 +147,24 @@ module _ (index : Index) (slots : Slots) (i : ℕ) (row : Row) (is : get_or slot
   slot_rows None inside = Same-refl (rows (set slots i None))
   slot_rows (Some new) inside = rows-set_some slots i new inside
 
+  -- rows with its key stand there, or none
+  fewer : (p : ℕ → Bool) (o : Option Row) → ((new : Row) → o ≡ Some new → key_of index new ≡ key_of index row) → i < length slots
+      → length (filter (λ (r : Row). p (key_of index r)) (rows (set slots i o))) ≤ length (filter (λ (r : Row). p (key_of index r)) (rows slots))
+  fewer p None keeps inside =
+      let q : Row → Bool = λ r. p (key_of index r) in
+      let changed = tally_set q slots i None inside in
+      let none : weigh q None ≡ 0 = refl in
+      omega (arith, changed, none)
+  fewer p (Some new) keeps inside =
+      let q : Row → Bool = λ r. p (key_of index r) in
+      let changed = tally_set q slots i (Some new) inside in
+      let same : weigh q (get_or slots i None) ≡ weigh q (Some new) = ap (weigh q) is ∙ ap (λ (k : ℕ). counts (p k)) (sym (keeps new refl)) in
+      omega (arith, changed, same)
+
   pub serves_found : (op : Op) (got : Got) → i < length slots → key_of index row ≡ tree_key index op → tree_key index op < index.capacity → got_in got ≡ Tree.got (op_in index.capacity op) (Some row)
+      → ((new : Row) → Tree.after (op_in index.capacity op) (Some row) ≡ Some new → key_of index new ≡ key_of index row)
       → ServesRows index op slots (set slots i (Tree.after (op_in index.capacity op) (Some row))) got
-  serves_found op got inside mine within answer =
+  serves_found op got inside mine within answer keeps =
       let model = op_in index.capacity op in
       record {
         bag = λ single.
@@ -148,6 +172,7 @@ module _ (index : Index) (slots : Slots) (i : ℕ) (row : Row) (is : get_or slot
             (slot_rows (Tree.after model (Some row)) inside)
             (applied_found (key_of index) index.capacity model slots i row is mine single within);
         answer = λ single. answer ∙ sym (answer_found (key_of index) index.capacity model slots i row is mine single within);
+        most = λ p. let few = fewer p (Tree.after model (Some row)) keeps inside in omega (arith, few);
       }
 
   -- which stays
@@ -155,7 +180,8 @@ module _ (index : Index) (slots : Slots) (i : ℕ) (row : Row) (is : get_or slot
       → Tree.after (op_in index.capacity op) (Some row) ≡ Some row → ServesRows index op slots slots got
   serves_kept op got inside mine within answer stays =
       let same : set slots i (Tree.after (op_in index.capacity op) (Some row)) ≡ slots = ap (set slots i) (stays ∙ sym is) ∙ set-get_or slots i None in
-      subst (λ after. ServesRows index op slots after got) same (serves_found op got inside mine within answer)
+      subst (λ after. ServesRows index op slots after got) same (serves_found op got inside mine within answer
+      (λ new at. let one : Some row ≡ Some new = sym stays ∙ at in let e : row ≡ new = cc one in ap (key_of index) (sym e)))
 
   module _ (remap : Remap) (buffer : List (Option Held)) (list : List (List ℕ)) (opened : IsOpen index remap slots buffer list) (inside : i < length buffer) where
     pub begins_row : (d : List ℕ) → Begins index.schema (Some row) (get_or list i d)
@@ -184,4 +210,5 @@ pub serves_past : (index : Index) (slots : Slots) (op : Op) → index.capacity �
 serves_past index slots op past = record {
   bag = λ single. applied_past (key_of index) index.capacity (op_in index.capacity op) slots past;
   answer = λ single. sym (answer_past (key_of index) index.capacity (op_in index.capacity op) slots past);
+  most = λ p. omega arith;
 }

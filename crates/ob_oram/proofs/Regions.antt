@@ -68,7 +68,7 @@ module _ (tree stash : Flat) (old : World) (ready : Ready old) (here : tree.regi
           (pass_wider (one tree.region) old new (two tree.region stash.region) (λ q s. inl s) e (create_script 1 tree) is.ran.err);
     };
     never = is.never;
-    memory = λ no. let began = is.memory.began (cc no) in inl (record { done = began.done; rest = began.rest; split = began.split; asked = began.asked });
+    memory = λ no. inl (record { done = make_script 1 tree; rest = []; split = append-nil (make_script 1 tree); asked = (is.memory.did (cc no)).asked });
     gone = is.gone;
     gone_stash = is.ran.err.lasts.apart.live stash.region apart ∙ none_yet;
     seals = λ good fine other. is.seals.seals good fine;
@@ -112,12 +112,12 @@ module _ (tree stash : Flat) (old : World) (ready : Ready old) (here : tree.regi
           };
           never = second.never;
           memory = λ no.
-              let began = second.memory.began (cc no) in
+              let made = make_script 1 stash in
               inr (record {
-                done = began.done;
-                rest = began.rest;
-                split = began.split;
-                asked = ap (λ s. s.asked) same ∙ began.asked ∙ ap (λ (l : List Access). l ++ began.done) first.ran.ok.did.asked ∙ append_assoc old.store.asked (create_script 1 tree) began.done;
+                done = made;
+                rest = [];
+                split = append-nil made;
+                asked = ap (λ s. s.asked) same ∙ (second.memory.did (cc no)).asked ∙ ap (λ (l : List Access). l ++ made) first.ran.ok.did.asked ∙ append_assoc old.store.asked (create_script 1 tree) made;
               });
           gone = forgets.gone;
           gone_stash = forgot.lasts.apart.live stash.region apart ∙ second.gone;

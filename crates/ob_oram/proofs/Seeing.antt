@@ -1,8 +1,8 @@
 -- What the buffer knows of the open rows, while they are put in their places.
-use Rattle.std.proofs.Common.{◌≡◌, ◌≢◌, ◌⊎◌, ◌<◌, ◌≤◌, ℕ, true, false, List, Option, Some, None, length, get_or, set, inl, inr, refl, sym, ◌∙◌, ap, subst, arith}
-use Rattle.std.proofs.Common.{[], ◌∷◌, get_or-set_same, get_or-set_other}
-use Rattle.std.proofs.lemmas.Bool.{cases_eq, cases_lt}
-use Rattle.std.proofs.lemmas.List.{length-set, get_or_past}
+use Rattle.std.proofs.Common.{◌≡◌, ◌⊎◌, ◌<◌, ◌≤◌, ℕ, true, false, List, Option, Some, None, length, get_or, inl, inr, refl, sym, ◌∙◌, ap, subst, arith}
+use Rattle.std.proofs.Common.{[], ◌∷◌}
+use Rattle.std.proofs.lemmas.Bool.{cases_lt}
+use Rattle.std.proofs.lemmas.List.{get_or_past}
 use Rattle.std.specs.Option.{option_map}
 use Rattle.std.specs.Prelude.{IsSome}
 use Rattle.ob_base.specs.Schemas.{Columns}
@@ -15,7 +15,8 @@ use Rattle.ob_tree.specs.Places.{lies_at, IsLeast, NoneLies}
 use Rattle.ob_tree.specs.Rows.{rows, Single}
 use Rattle.ob_tree.proofs.StepLemmas.{picked, emptied, stuck}
 use Rattle.ob_oram.specs.declared.held.Held.{Held}
-use Rattle.ob_oram.specs.Buffers.{held_key, held_leaf, held_of, IsBuffer, Sees, Steps, Places}
+use Rattle.ob_oram.specs.Buffers.{held_key, held_leaf, held_of, turned, HasRow, IsBuffer, IsCrowded, Sees, Steps, Places}
+use Rattle.ob_oram.proofs.Crowding.{length-turned, turned_get}
 use Rattle.ob_tree.proofs.GoingLemmas.{Going, going_end}
 use Rattle.std.proofs.lemmas.Bool.{false≢true}
 
@@ -29,28 +30,13 @@ held_by : (key lf : Row → ℕ) (held : Held) (slot : Option Row) → option_ma
 held_by key lf held None is = absurd (cc is)
 held_by key lf held (Some row) is = record { row = row; is = refl; same = cc is }
 
+has_row : (slots : Slots) (k : ℕ) (slot : Option Row) → get_or slots k None ≡ slot → IsSome slot → HasRow slots k
+has_row slots k None is some = absurd (false≢true some)
+has_row slots k (Some row) is some = record { row = row; is = is }
+
 none_held : (key lf : Row → ℕ) (slot : Option Row) → option_map (held_of key lf) slot ≡ None → slot ≡ None
 none_held key lf None is = refl
 none_held key lf (Some row) is = absurd (cc is)
-
--- two entries of a list exchanged
-abbrev pub turned : {A : Type 0} → A → List A → ℕ → ℕ → List A
-turned d list i q = set (set list i (get_or list q d)) q (get_or list i d)
-
-turned_get : {A : Type 0} (d : A) (list : List A) (i q j : ℕ) → i < length list → q < length list → (P : A → Type 0)
-    → (j ≡ q → P (get_or list i d)) → (j ≢ q → j ≡ i → P (get_or list q d)) → (j ≢ q → j ≢ i → P (get_or list j d)) → P (get_or (turned d list i q) j d)
-turned_get d list i q j hi hq P at_q at_i off = elim (cases_eq j q) [
-  | inl same ↦
-      let inside : q < length (set list i (get_or list q d)) = omega (arith, hq, length-set list i (get_or list q d)) in
-      subst P (sym (ap (λ (k : ℕ). get_or (turned d list i q) k d) same ∙ get_or-set_same (set list i (get_or list q d)) q (get_or list i d) d inside)) (at_q same)
-  | inr other ↦ elim (cases_eq j i) [
-    | inl same ↦ subst P (sym (get_or-set_other (set list i (get_or list q d)) q j (get_or list i d) d other ∙ ap (λ (k : ℕ). get_or (set list i (get_or list q d)) k d) same ∙ get_or-set_same list i (get_or list q d) d hi)) (at_i other same)
-    | inr third ↦ subst P (sym (get_or-set_other (set list i (get_or list q d)) q j (get_or list i d) d other ∙ get_or-set_other list i j (get_or list q d) d third)) (off other third)
-  ]
-]
-
-length-turned : {A : Type 0} (d : A) (list : List A) (i q : ℕ) → length (turned d list i q) ≡ length list
-length-turned d list i q = length-set (set list i (get_or list q d)) q (get_or list i d) ∙ length-set list i (get_or list q d)
 
 module _ (columns : Columns) (key lf : Row → ℕ) (slots : Slots) (buffer : List (Option Held)) (list : List (List ℕ)) (sees : Sees columns key lf slots buffer list) where
   -- what may lie where
@@ -120,17 +106,28 @@ module _ (columns : Columns) (key lf : Row → ℕ) (slots : Slots) (buffer : Li
       let seen = least_seen leaf height i (length buffer) q least is in
       let high : q < length slots = omega (arith, is.high, sees.count) in
       let whole = subst (λ (n : ℕ). IsLeast key lf leaf height slots i n q least) (sym sees.count) seen in
-      record { step = λ single. picked key lf leaf height i q slots is.low high single least whole }
+      record {
+        step = λ single. picked key lf leaf height i q slots is.low high single least whole;
+        moved = record { place = q; low = is.low; high = high; is = refl; had = inl (record { row = seen.row; is = seen.here }) };
+      }
 
   pub step_empty : (leaf height i q : ℕ) → i ≤ q → q < length buffer → NoneLies held_leaf leaf height buffer i (length buffer) → get_or buffer q None ≡ None → Steps key lf leaf height i slots (turned None slots i q) true
   step_empty leaf height i q low high none empty =
       let whole = subst (λ (n : ℕ). NoneLies lf leaf height slots i n) (sym sees.count) (none_seen leaf height i (length buffer) none) in
-      record { step = λ single. emptied key lf leaf height i q slots low (omega (arith, high, sees.count)) single whole (empty_seen q empty) }
+      let inside : q < length slots = omega (arith, high, sees.count) in
+      record {
+        step = λ single. emptied key lf leaf height i q slots low inside single whole (empty_seen q empty);
+        moved = record { place = q; low = low; high = inside; is = refl; had = inr whole };
+      }
 
   pub step_full : (leaf height i : ℕ) → NoneLies held_leaf leaf height buffer i (length buffer) → ((k : ℕ) → i ≤ k → k < length buffer → IsSome (get_or buffer k None)) → Steps key lf leaf height i slots slots false
   step_full leaf height i none each =
       let whole = subst (λ (n : ℕ). NoneLies lf leaf height slots i n) (sym sees.count) (none_seen leaf height i (length buffer) none) in
-      record { step = λ single. stuck key lf leaf height i slots whole (λ k low high. some_seen k (each k low (omega (arith, high, sees.count)))) }
+      let some = λ (k : ℕ) (low : i ≤ k) (high : k < length slots). some_seen k (each k low (omega (arith, high, sees.count))) in
+      record {
+        step = λ single. stuck key lf leaf height i slots whole some;
+        moved = record { is = refl; none = whole; each = λ k low high. has_row slots k (get_or slots k None) refl (some k low high) };
+      }
 
 -- behind the last slot
 module _ (key lf : Row → ℕ) (leaf height n i : ℕ) (slots now : Slots) (most : i ≤ n) (least : n ≤ i) (go : Single key (rows slots) → Going key lf leaf height n i slots now) where
@@ -141,14 +138,16 @@ module _ (key lf : Row → ℕ) (leaf height n i : ℕ) (slots now : Slots) (mos
   placed_all is = record {
     placed = λ single _. (going_end key lf leaf height n slots now (whole single)).0;
     full = λ single. ((λ _. (going_end key lf leaf height n slots now (whole single)).1 ∙ ap (λ (s : Option Row). length (rows (s ∷ []))) is), (λ _. refl));
+    crowded = λ no rooted. absurd (false≢true (sym no));
   }
 
-  pub placed_not : (row : Row) → get_or now n None ≡ Some row → Places key lf leaf height n slots now false
-  placed_not row is = record {
+  pub placed_not : (row : Row) → get_or now n None ≡ Some row → (((row : Row) → lies_at lf leaf height row ≡ true) → IsCrowded lf leaf height n 0 slots) → Places key lf leaf height n slots now false
+  placed_not row is crowded = record {
     placed = λ single never. absurd (false≢true never);
     full = λ single.
         let one = (going_end key lf leaf height n slots now (whole single)).1 ∙ ap (λ (s : Option Row). length (rows (s ∷ []))) is in
         ((λ never. absurd (false≢true never)), (λ none. absurd (cc (none, one))));
+    crowded = λ no. crowded;
   }
 
 -- rows of one width, and others of the same sizes

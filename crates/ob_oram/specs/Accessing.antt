@@ -1,9 +1,10 @@
 -- What an access of an index does.
-use Rattle.std.specs.Prelude.{◌≡◌, ◌⊎◌, ◌<◌, ◌+◌, ◌↔◌, ℕ, List, Option, Some, None, Result, OnOk, OnErr, IfOk, IfErr, MatchResult, length, slice_index_or}
+use Rattle.std.specs.Prelude.{◌≡◌, ◌⊎◌, ◌<◌, ◌+◌, ◌↔◌, ℕ, List, Option, Some, None, Result, Err, OnOk, OnErr, IfOk, IfErr, MatchResult, length, slice_index_or}
 use Rattle.ob_vault.specs.State.{World}
 use Rattle.ob_vault.specs.Calls.{Went, none, two}
 use Rattle.ob_vault.specs.Words.{IsHonest}
 use Rattle.ob_row.specs.Rows.{Row}
+use Rattle.ob_row.specs.Slots.{Slots}
 use Rattle.ob_flat.specs.declared.fault.OpErr.{OpErr}
 use Rattle.ob_flat.specs.declared.fault.OpErr.TheVariants as OpErrs
 use Rattle.ob_flat.specs.Flats.{IsWritten}
@@ -19,11 +20,12 @@ use Rattle.ob_oram.specs.declared.op.Got.{Got}
 use Rattle.ob_oram.specs.declared.op.Got.TheVariants as Gots
 use Rattle.ob_oram.specs.declared.fault.OramErr.{OramErr}
 use Rattle.ob_oram.specs.declared.fault.OramErr.TheVariants.{Failed, Tampered, StashFull}
-use Rattle.ob_oram.specs.Keys.{key_number}
+use Rattle.ob_tree.specs.Keys.{key_number}
+use Rattle.ob_oram.specs.Buffers.{IsCrowded}
 use Rattle.ob_oram.specs.Heights.{leaf_of_draw, rows_open}
-use Rattle.ob_oram.specs.Ops.{key_of_op, op_in, got_in}
-use Rattle.ob_oram.specs.Indexes.{IsIndex, IsMap, Lies, LiesAs, SealsIndex, leaves_of, key_of, tree_of, stash_of}
-use Rattle.ob_oram.specs.Opens.{leaves_with}
+use Rattle.ob_oram.specs.Ops.{key_of_op, op_in, got_in, put_in}
+use Rattle.ob_oram.specs.Indexes.{IsIndex, IsMap, IsStored, Lies, LiesAs, SealsIndex, leaves_of, key_of, tree_of, stash_of}
+use Rattle.ob_oram.specs.Opens.{AreKeyed, OpensIndex, last_slot, leaf_with, leaves_with}
 use Rattle.ob_oram.specs.Scripts.{read_script, access_script}
 
 -- the key of an operation, and the leaf of its draw
@@ -47,17 +49,19 @@ pub record HasLeaves (list : List ℕ) (index left : Index) : Type 0 where
   pub same : left ≡ record index { leaves = left.leaves; buffer = left.buffer }
   pub leaves : leaves_of left ≡ list
 
--- the index that an access leaves: an error leaves the leaves
+-- the index that an access leaves: an error leaves the leaves, and maybe no buffer
 pub record LeftBy {T : Type 0} (result : Result T OramErr) (index : Index) (op : Op) (draw : ℕ)
     (left : Index) : Type 0 where
   pub ok : OnOk result (HasLeaves (leaves_after index op draw) index left)
   pub err : OnErr result (HasLeaves (leaves_of index) index left)
-  pub buffer : length left.buffer.items ≡ rows_open index.height index.slots
+  pub buffer : OnOk result (length left.buffer.items ≡ rows_open index.height index.slots)
 
--- an index that wasn't touched is one still, and lies as it did
+-- an index that wasn't touched is stored still, and lies as it did. It may not be accessed again, for
+-- nothing is said of its buffer: the key has the leaf that was read, and another access would read the
+-- same path, from which a watcher could tell that the two are of one key
 pub record Stays (index left : Index) (old new : World) : Type 0 where
   pub same : HasLeaves (leaves_of index) index left
-  pub stands : IsIndex left new
+  pub stored : IsStored left new
   pub lies : (s : State Row) → LiesAs index s old → LiesAs left s new
 
 -- an access that ended with one of its reads
@@ -101,6 +105,15 @@ pub record AnswersMap (index left : Index) (op : Op) (m : ℕ → Option Row) (g
   pub answer : got_in got ≡ map_answer (key_of index) index.capacity (op_in index.capacity op) m
   pub map : IsMap left (map_after (key_of index) index.capacity (op_in index.capacity op) m) new
 
+-- more rows with keys of the index were read than fit: with the one that an insert puts in, more may lie at none of
+-- some heights of the path than there are slots above these and in the stash
+pub record ReadsTooMany (index : Index) (op : Op) (draw : ℕ) (old new : World) : Type 0 where
+  pub slots : Slots
+  pub keyed : AreKeyed index slots
+  pub opens : OpensIndex index (leaf_read index op draw) slots old new
+  pub crowded : IsCrowded (leaf_with index (remap_of index op draw)) (leaf_read index op draw)
+      index.height (last_slot index) (put_in op) slots
+
 -- the path of a key was read, and written again after the operation
 pub record Accesses (index left : Index) (op : Op) (draw : ℕ)
     (result : Result Got OramErr) (old new : World) : Type 0 where
@@ -115,7 +128,9 @@ pub record Accesses (index left : Index) (op : Op) (draw : ℕ)
       ↔ (key_number index.capacity (key_of_op op) ≡ index.capacity))
   pub maps : IsHonest old new → (m : ℕ → Option Row) → IsMap index m old
       → IfOk result (λ got. AnswersMap index left op m got new)
-  -- it stops at a full stash exactly where the model does
+  -- whatever was read, it stops at a full stash only where there are too many rows
+  pub full : result ≡ Err StashFull → ReadsTooMany index op draw old new
+  -- and where no read lied exactly where the model does
   pub told : IsHonest old new → (s : State Row) → Lies index s old → MatchResult result
       (λ got. Answers index left op draw s got new)
       (λ e. (e ≡ Failed) ⊎ ((e ≡ StashFull)

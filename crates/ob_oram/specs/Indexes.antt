@@ -8,7 +8,8 @@ use Rattle.ob_flat.specs.declared.flat.Flat.{Flat}
 use Rattle.ob_flat.specs.Flats.{IsSized, IsInTurn, Accepts, Represents as HoldsSlots}
 use Rattle.ob_tree.specs.States.{State, Represents, Stands}
 use Rattle.ob_oram.specs.declared.index.Index.{Index}
-use Rattle.ob_oram.specs.Keys.{IsIntKey, row_key}
+use Rattle.ob_oram.specs.Keys.{IsIntKey}
+use Rattle.ob_tree.specs.Keys.{row_key}
 use Rattle.ob_oram.specs.Heights.{IsHeight, AreLeaves, tree_blocks, rows_open}
 
 -- the leaf of each key

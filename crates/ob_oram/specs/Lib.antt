@@ -10,3 +10,4 @@ pub mod Walking
 pub mod Scripts
 pub mod Halves
 pub mod Accessing
+pub mod Short

@@ -11,13 +11,20 @@ use Rattle.ob_oram.specs.declared.op.Op.{Op}
 use Rattle.ob_oram.specs.declared.op.Op.TheVariants.{Get, Insert, Change, Remove}
 use Rattle.ob_oram.specs.declared.op.Got.{Got}
 use Rattle.ob_oram.specs.declared.op.Got.TheVariants as Gots
-use Rattle.ob_oram.specs.Keys.{key_number}
+use Rattle.ob_tree.specs.Keys.{key_number}
 
 abbrev pub key_of_op : Op → ℤ
 key_of_op (Get key) = key
 key_of_op (Insert key cells) = key
 key_of_op (Change key sets) = key
 key_of_op (Remove key) = key
+
+-- how many rows it may put in
+abbrev pub put_in : Op → ℕ
+put_in (Get key) = 0
+put_in (Insert key cells) = 1
+put_in (Change key sets) = 0
+put_in (Remove key) = 0
 
 -- the operation on a map from n keys to rows
 abbrev pub op_in : ℕ → Op → Tree.Op Row

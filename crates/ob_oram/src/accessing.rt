@@ -210,7 +210,8 @@ fn access_open<S: BlockStore, R: Revisions>(
 ///
 /// `Failed` where the store failed, `Tampered` with a block that is not what was written there last or that has a
 /// malformed row, and `StashFull`, before any write, where more rows are left than the stash has slots. An error
-/// leaves the leaves of the keys, and before the first write all that lies in the store.
+/// leaves the leaves of the keys, and before the first write all that lies in the store, but no index that may be
+/// accessed again: the path of the key's leaf was read, and would be read once more.
 pub fn access<S: BlockStore, R: Revisions>(
     store: &mut S,
     vault: &mut Vault<R>,

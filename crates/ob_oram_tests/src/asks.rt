@@ -1,7 +1,6 @@
 //! What is asked of a key, and what is answered.
-ghost use Rattle.std.specs.Prelude.{◌≡◌, OnOk, Err};
+ghost use Rattle.std.specs.Prelude.{OnOk};
 ghost use Rattle.ob_vault.specs.Places.{at};
-ghost use Rattle.ob_oram.specs.declared.fault.OramErr.TheVariants.{StashFull};
 ghost use Rattle.ob_oram.specs.Ops.{FitsOp};
 ghost use Rattle.ob_oram_tests.specs.Sessions.{IsSession, key_and_number};
 
@@ -64,10 +63,8 @@ fn serve<S: BlockStore, R: Revisions>(
 ) -> Result<Said, OramErr>
     requires session { IsSession room.old index.old (at R.state vault.old (S.state store.old)) }
     requires op { FitsOp key_and_number 0 op.now }
-    ensures done { OnOk result
+    ensures { OnOk result
         (IsSession room.new index.new (at R.state vault.new (S.state store.new))) }
-    ensures full { result ≡ Err StashFull
-        → IsSession room.new index.new (at R.state vault.new (S.state store.new)) }
 {
     make_room(rt, store);
     match access(store, vault, room, index, op, draw) {
@@ -88,10 +85,8 @@ pub(crate) fn ask_key<S: BlockStore, R: Revisions>(
     draw: u64,
 ) -> Result<Said, OramErr>
     requires session { IsSession room.old index.old (at R.state vault.old (S.state store.old)) }
-    ensures done { OnOk result
+    ensures { OnOk result
         (IsSession room.new index.new (at R.state vault.new (S.state store.new))) }
-    ensures full { result ≡ Err StashFull
-        → IsSession room.new index.new (at R.state vault.new (S.state store.new)) }
 {
     match what {
         Ask::Get => serve(rt, store, vault, room, index, &Op::Get(key), draw),

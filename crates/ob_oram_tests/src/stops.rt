@@ -13,7 +13,26 @@ use ob_vault::{BaseRevs, Revisions, Vault};
 use std::alloc::Global;
 use std::process::Abort;
 
-// Puts in the keys from 0 to 24, which fill the path of a leaf and the stash, and then one more.
+// Puts in the keys from 0 to 24, which fill the path of a leaf and the stash.
+fn fill<S: BlockStore, R: Revisions>(
+    rt: &impl Abort,
+    store: &mut S,
+    vault: &mut Vault<R>,
+    room: &mut Room,
+    index: &mut Index,
+)
+    requires { IsSession room.old index.old (at R.state vault.old (S.state store.old)) }
+    ensures { IsSession room.new index.new (at R.state vault.new (S.state store.new)) }
+{
+    for key in 0..25 {
+        let put = Ask::Insert(100 + key);
+        let got = ask_key(rt, store, vault, room, index, key, put, 0);
+        let got = got.expect(rt, "insert");
+        assert_eq!(rt; got, Said::Done);
+    }
+}
+
+// Then puts in one more.
 fn overfill<S: BlockStore, R: Revisions>(
     rt: &impl Abort,
     store: &mut S,
@@ -23,23 +42,31 @@ fn overfill<S: BlockStore, R: Revisions>(
 )
     requires { IsSession room index (at R.state vault (S.state store.old)) }
 {
-    for key in 0..25 {
-        let put = Ask::Insert(100 + key);
-        let got = ask_key(rt, store, &mut vault, &mut room, &mut index, key, put, 0);
-        let got = got.expect(rt, "insert");
-        assert_eq!(rt; got, Said::Done);
-    }
+    fill(rt, store, &mut vault, &mut room, &mut index);
     let from = store.count();
     let put = Ask::Insert(125);
     let got = ask_key(rt, store, &mut vault, &mut room, &mut index, 25, put, 0);
     assert!(rt; got == Err(OramErr::StashFull));
     let read = store.count().checked_sub(from).expect(rt, "reads");
     assert_eq!(rt; read, 25);
+}
+
+// Or takes one out first.
+fn make_place<S: BlockStore, R: Revisions>(
+    rt: &impl Abort,
+    store: &mut S,
+    mut vault: Vault<R>,
+    mut room: Room,
+    mut index: Index,
+)
+    requires { IsSession room index (at R.state vault (S.state store.old)) }
+{
+    fill(rt, store, &mut vault, &mut room, &mut index);
     let steps = [
         (25, Ask::Get, Said::None),
         (24, Ask::Get, Said::Row(24, 124)),
         (3, Ask::Remove, Said::Done),
-        (25, put, Said::Done),
+        (25, Ask::Insert(125), Said::Done),
         (0, Ask::Get, Said::Row(0, 100)),
         (25, Ask::Get, Said::Row(25, 125)),
     ];
@@ -50,7 +77,7 @@ fn overfill<S: BlockStore, R: Revisions>(
     }
 }
 
-// With all rows on the path of one leaf, the stop comes after the reads and before any write, and leaves the index.
+// With all rows on the path of one leaf, the stop comes after the reads and before any write.
 #[test]
 fn stash_is_full(rt: HostRuntime) {
     let mut store = MemStore::new(rt.alloc());
@@ -67,6 +94,25 @@ fn stash_is_full(rt: HostRuntime) {
         &draws,
     );
     overfill(&rt, &mut store, vault, room, index);
+}
+
+// As many rows as there are slots are served.
+#[test]
+fn stash_is_just_full(rt: HostRuntime) {
+    let mut store = MemStore::new(rt.alloc());
+    let mut vault: Vault<BaseRevs> = Vault::new(rt.alloc(), Keys::derive(&[0; 32]));
+    let mut room = Room::new(rt.alloc(), 26, 17, 1).expect(&rt, "rows");
+    let draws = [0; 32];
+    let index = made(
+        &rt,
+        rt.alloc(),
+        &mut store,
+        &mut vault,
+        &mut room,
+        1,
+        &draws,
+    );
+    make_place(&rt, &mut store, vault, room, index);
 }
 
 // An index of one key, which is made by the accesses 1 to 7: it is put in by the accesses 8 to 17, and looked for by

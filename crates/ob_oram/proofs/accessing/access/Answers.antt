@@ -62,7 +62,5 @@ returns-else-is_ok-clause-accesses g c =
     let op = c.args.op.now in
     let buffer = with_items c.replace-buffer.result c.access_open-result.new.buffer in
     let left : Index = record index { buffer = buffer } in
-    let size : length buffer.items ≡ rows_open index.height index.slots =
-    buffer_size c.replace-buffer.result c.access_open-result.new.buffer ∙ ap (λ b. length b.items) c.replace-buffer.ensures.value ∙ c.requires.index.buffer in
-    let by = left_err index left op c.args.draw c.access_open-result.result (sym c.if-is_ok.ensures.value) (has_buffer index buffer) size in
+    let by = left_err index left op c.args.draw c.access_open-result.result (sym c.if-is_ok.ensures.value) (has_buffer index buffer) in
     accesses_other index c.replace-buffer.new.dest left op c.args.draw c.access_open-result.result _ _ (c.access_open-result.ensures.accesses left (left_other index c.replace-buffer.new.dest left op c.args.draw c.access_open-result.result by))

@@ -33,7 +33,7 @@ returns-in_err-region g c =
       creates = record {
         ran = ran_more (make_script pack flat) (each (blocks_of pack flat) (write_at flat.region)) makes.ran.err;
         never = makes.never;
-        memory = record { began = λ is. makes.ran.err.began };
+        memory = record { did = λ is. makes.memory.did (cc is) };
         number = tt;
         lives = tt;
         table = tt;
@@ -65,7 +65,7 @@ returns-in-Ok g c =
       creates = record {
         ran = record { ok = went_join (one flat.region) _ _ _ (make_script pack flat) (each (blocks_of pack flat) (write_at flat.region)) makes.ran.ok fills.ok; err = tt };
         never = tt;
-        memory = record { began = λ is. absurd (cc is) };
+        memory = record { did = λ is. absurd (cc is) };
         number = makes.number;
         lives = fills.filled.lives;
         table = flat_filled c.args.order pack flat refl refl fills.filled.lives fills.filled.turn fills.filled.written;
@@ -97,7 +97,7 @@ returns-in-Err g c =
           err = rw c.from.ensures (pass_then (one flat.region) _ _ _ _ _ (pass_after (one flat.region) _ _ _ _ (make_script pack flat) (each (blocks_of pack flat) (write_at flat.region)) makes.ran.ok (pass_of _ _ _ _ _ fills.err)) forgot refl);
         };
         never = inl failed;
-        memory = record { began = λ is. not_memory failed is };
+        memory = record { did = λ is. not_memory failed is };
         number = tt;
         lives = tt;
         table = tt;

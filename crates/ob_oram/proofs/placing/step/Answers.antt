@@ -1,7 +1,7 @@
 use Rattle.std.proofs.Common.{None, [], ◌<◌, length, sym, ◌∙◌, subst, arith}
 use Rattle.std.proofs.lemmas.List.Edits.{swap_is}
-use Rattle.ob_oram.specs.Buffers.{Sees}
-use Rattle.ob_oram.proofs.Seeing.{turned, turned_sees, step_least, step_empty, step_full}
+use Rattle.ob_oram.specs.Buffers.{Sees, turned}
+use Rattle.ob_oram.proofs.Seeing.{turned_sees, step_least, step_empty, step_full}
 use Rattle.ob_oram.proofs.placing.step.Goals as goal
 
 pub returns-in-Some-clause-sees : goal.returns-in-Some-clause-sees

@@ -5,6 +5,7 @@ use Rattle.ob_row.specs.Rows.{with_cells}
 use Rattle.ob_tree.specs.Access as Tree
 use Rattle.ob_oram.specs.declared.op.Op.{Op}
 use Rattle.ob_oram.specs.declared.op.Got.TheVariants as Gots
+use Rattle.ob_oram.specs.Indexes.{key_of}
 use Rattle.ob_oram.specs.Opens.{ServesRows, tree_key}
 use Rattle.ob_oram.specs.Ops.{op_in}
 use Rattle.ob_oram.proofs.OpRows.{tree_key_is, keeps_key, row_here, begins_row, serves_found, serves_kept, opens_changed, opens_removed}
@@ -62,7 +63,8 @@ returns-in-Change-clause-serves c = λ remap slots opened.
       set slots i (Some new),
       opens_changed index slots i here.row here.is remap buffer rows opened c.requires.here.within new c.set_cells.new.row (keeps here.row) begins,
       subst (λ s. ServesRows index op slots (set slots i s) Gots.Done) after
-          (serves_found index slots i here.row here.is op Gots.Done inside (here.same ∙ sym key) within (sym (ap (λ (o : Op). Tree.got (op_in index.capacity o) (Some here.row)) c.in-Change.is))),
+          (serves_found index slots i here.row here.is op Gots.Done inside (here.same ∙ sym key) within (sym (ap (λ (o : Op). Tree.got (op_in index.capacity o) (Some here.row)) c.in-Change.is))
+          (λ r at. let one : Some new ≡ Some r = sym after ∙ at in let e : new ≡ r = cc one in ap (key_of index) (sym e) ∙ keeps here.row)),
     )
 
 pub returns-in-Remove-clause-serves : goal.returns-in-Remove-clause-serves
@@ -81,5 +83,6 @@ returns-in-Remove-clause-serves c = λ remap slots opened.
       set slots i None,
       opens_removed index slots i here.row here.is remap buffer rows opened c.requires.here.within c.clear.new.row (get_or rows i c.index-rows-i-in-Remove.result) c.clear.ensures wide,
       subst (λ s. ServesRows index op slots (set slots i s) Gots.Done) after
-          (serves_found index slots i here.row here.is op Gots.Done inside (here.same ∙ sym key) within (sym (ap (λ (o : Op). Tree.got (op_in index.capacity o) (Some here.row)) c.in-Remove.is))),
+          (serves_found index slots i here.row here.is op Gots.Done inside (here.same ∙ sym key) within (sym (ap (λ (o : Op). Tree.got (op_in index.capacity o) (Some here.row)) c.in-Remove.is))
+          (λ r at. absurd (cc (after, at)))),
     )
