@@ -7,7 +7,7 @@ use Rattle.std.proofs.lemmas.Slice.Eq.{bytes_eq-Decides}
 use Rattle.ob_base.specs.declared.schema.Table.{Table}
 use Rattle.ob_base.specs.Lists.{has_repeats}
 use Rattle.ob_base.specs.Stored.{AreApart, Stored, headings, headings_of, stored_at}
-use Rattle.ob_mean.specs.Verdict.{Tables}
+use Rattle.ob_mean.specs.Verdict.{Held, Tables}
 use Rattle.ob_mean.proofs.EarlyLemmas.{neither}
 use Rattle.ob_row.specs.Slots.{Slots}
 use Rattle.ob_exec.specs.Resting.{by_name, is_before, placed}
@@ -21,7 +21,7 @@ other_way : (a b : List ℕ) → bytes_eq a b ≡ false → bytes_eq b a ≡ fal
 other_way a b off = other_name b a (λ same. let hit = (bytes_eq-Decides a b).1 (sym same) in absurd (cc (hit, off)))
 
 -- no table of these has its name
-abbrev IsOff : Stored Slots → Tables → Type 0
+abbrev IsOff : Stored Held → Tables → Type 0
 IsOff t us = list_any (bytes_eq t.heading.name) (names_of (headings us)) ≡ false
 
 abbrev AreOff : Tables → Tables → Type 0
@@ -47,13 +47,13 @@ named_apart (t ∷ ts) names =
     (named_apart ts (λ j k u v js ks same. omega (arith, names (suc j) (suc k) u v js ks same)))
 
 -- ---- one more
-length-insert : (us : Tables) (n : ℕ) (t : Stored Slots) → length (insert us n t) ≡ suc (length us)
+length-insert : (us : Tables) (n : ℕ) (t : Stored Held) → length (insert us n t) ≡ suc (length us)
 length-insert [] zero t = refl
 length-insert [] (suc n) t = refl
 length-insert (u ∷ us) zero t = refl
 length-insert (u ∷ us) (suc n) t = ap suc (length-insert us n t)
 
-any_insert : (name : List ℕ) (us : Tables) (n : ℕ) (t : Stored Slots) → bytes_eq name t.heading.name ≡ false → list_any (bytes_eq name) (names_of (headings us)) ≡ false
+any_insert : (name : List ℕ) (us : Tables) (n : ℕ) (t : Stored Held) → bytes_eq name t.heading.name ≡ false → list_any (bytes_eq name) (names_of (headings us)) ≡ false
     → list_any (bytes_eq name) (names_of (headings (insert us n t))) ≡ false
 any_insert name [] zero t off none = none_either (bytes_eq name t.heading.name) false off refl
 any_insert name [] (suc n) t off none = none_either (bytes_eq name t.heading.name) false off refl
@@ -62,7 +62,7 @@ any_insert name (u ∷ us) (suc n) t off none =
     let both = neither (bytes_eq name u.heading.name) (list_any (bytes_eq name) (names_of (headings us))) none in
     none_either (bytes_eq name u.heading.name) (list_any (bytes_eq name) (names_of (headings (insert us n t)))) both.0 (any_insert name us n t off both.1)
 
-apart_insert : (us : Tables) (n : ℕ) (t : Stored Slots) → AreApart (headings us) → IsOff t us → AreApart (headings (insert us n t))
+apart_insert : (us : Tables) (n : ℕ) (t : Stored Held) → AreApart (headings us) → IsOff t us → AreApart (headings (insert us n t))
 apart_insert [] zero t apart off = refl
 apart_insert [] (suc n) t apart off = refl
 apart_insert (u ∷ us) zero t apart off = none_either (list_any (bytes_eq t.heading.name) (names_of (headings (u ∷ us)))) (has_repeats bytes_eq (names_of (headings (u ∷ us)))) off apart
@@ -79,7 +79,7 @@ swapped true false x y z never = refl
 swapped false true x y z never = refl
 swapped false false x y z never = refl
 
-insert_found : (name : List ℕ) (us : Tables) (n : ℕ) (t : Stored Slots) → IsOff t us → stored_at name (insert us n t) ≡ cond (bytes_eq t.heading.name name) (Some t) (stored_at name us)
+insert_found : (name : List ℕ) (us : Tables) (n : ℕ) (t : Stored Held) → IsOff t us → stored_at name (insert us n t) ≡ cond (bytes_eq t.heading.name name) (Some t) (stored_at name us)
 insert_found name [] zero t off = refl
 insert_found name [] (suc n) t off = refl
 insert_found name (u ∷ us) zero t off = refl
@@ -93,29 +93,29 @@ insert_found name (u ∷ us) (suc n) t off =
     cc (hit, here.0))
 
 -- ---- all of them
-off_insert : (us ts : Tables) (n : ℕ) (t : Stored Slots) → list_any (bytes_eq t.heading.name) (names_of (headings ts)) ≡ false → AreOff us ts → AreOff (insert us n t) ts
+off_insert : (us ts : Tables) (n : ℕ) (t : Stored Held) → list_any (bytes_eq t.heading.name) (names_of (headings ts)) ≡ false → AreOff us ts → AreOff (insert us n t) ts
 off_insert us [] n t none off = tt
 off_insert us (u ∷ ts) n t none off =
     let both = neither (bytes_eq t.heading.name u.heading.name) (list_any (bytes_eq t.heading.name) (names_of (headings ts))) none in
     (any_insert u.heading.name us n t (other_way t.heading.name u.heading.name both.0) off.0, off_insert us ts n t both.1 off.1)
 
 module _ (name : List ℕ) where
-  turned : (us ts : Tables) (t : Stored Slots) → IsOff t us → (b : Bool) → bytes_eq t.heading.name name ≡ b
+  turned : (us ts : Tables) (t : Stored Held) → IsOff t us → (b : Bool) → bytes_eq t.heading.name name ≡ b
       → option_or (cond b (Some t) (stored_at name us)) (stored_at name ts) ≡ option_or (stored_at name us) (cond b (Some t) (stored_at name ts))
-  turned us ts t off true is = sym (ap (λ (o : Option (Stored Slots)). option_or o (Some t)) (any_found t.heading.name name us (same_name t.heading.name name is) off))
+  turned us ts t off true is = sym (ap (λ (o : Option (Stored Held)). option_or o (Some t)) (any_found t.heading.name name us (same_name t.heading.name name is) off))
   turned us ts t off false is = refl
 
   fold_found : (us ts : Tables) → AreApart (headings ts) → AreOff us ts → stored_at name (fold placed us ts) ≡ option_or (stored_at name us) (stored_at name ts)
   fold_found us [] apart off = none_left (stored_at name us)
     where
-      none_left : (o : Option (Stored Slots)) → o ≡ option_or o None
+      none_left : (o : Option (Stored Held)) → o ≡ option_or o None
       none_left None = refl
       none_left (Some t) = refl
   fold_found us (t ∷ ts) apart off =
       let both = neither (list_any (bytes_eq t.heading.name) (names_of (headings ts))) (has_repeats bytes_eq (names_of (headings ts))) apart in
       let n = prefix_len (is_before t) us in
       fold_found (insert us n t) ts both.1 (off_insert us ts n t both.0 off.1)
-      ∙ ap (λ (o : Option (Stored Slots)). option_or o (stored_at name ts)) (insert_found name us n t off.0)
+      ∙ ap (λ (o : Option (Stored Held)). option_or o (stored_at name ts)) (insert_found name us n t off.0)
       ∙ turned us ts t off.0 (bytes_eq t.heading.name name) refl
 
 fold_count : (us ts : Tables) → length (fold placed us ts) ≡ length us + length ts

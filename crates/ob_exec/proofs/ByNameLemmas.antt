@@ -6,7 +6,7 @@ use Rattle.ob_base.specs.declared.schema.Heading.{Heading}
 use Rattle.ob_base.specs.declared.schema.Table.{Table}
 use Rattle.ob_base.specs.Stored.{Stored}
 use Rattle.ob_flat.specs.Flats.{Represents as FlatRepresents, table_region}
-use Rattle.ob_mean.specs.Verdict.{Tables}
+use Rattle.ob_mean.specs.Verdict.{Held, Tables}
 use Rattle.ob_row.specs.Slots.{Slots}
 use Rattle.ob_seal.specs.KeySet.{KeySet}
 use Rattle.ob_seal.specs.Sealed.{sealed}
@@ -25,7 +25,7 @@ use Rattle.ob_exec.proofs.ListedLemmas.{table_numbers}
 use Rattle.ob_verdict.specs.Laws.{AreInPlace, IsInPlace}
 
 -- ---- each in its place
-placed_in : (tables : Tables) (n : ℕ) (t : Stored Slots) → IsInPlace t → AreInPlace tables → AreInPlace (insert tables n t)
+placed_in : (tables : Tables) (n : ℕ) (t : Stored Held) → IsInPlace t → AreInPlace tables → AreInPlace (insert tables n t)
 placed_in [] zero t is are = (is, tt)
 placed_in [] (suc n) t is are = (is, tt)
 placed_in (u ∷ us) zero t is are = (is, are)
@@ -39,9 +39,9 @@ pub named_in : (tables : Tables) → AreInPlace tables → AreInPlace (by_name t
 named_in tables are = folded_in [] tables tt are
 
 -- ---- one beside the other
-pub record KeepsBeside (keys : KeySet) (pack : ℕ) (kept : ℕ → Option KeptRegion) (t : Listed) (x : Stored Slots) : Type 0 where
+pub record KeepsBeside (keys : KeySet) (pack : ℕ) (kept : ℕ → Option KeptRegion) (t : Listed) (x : Stored Held) : Type 0 where
   pub heading : x.heading ≡ t.table.heading
-  pub keeps : KeepsTable keys pack t x.held kept
+  pub keeps : KeepsTable keys pack t x.held.slots kept
 
 kept_beside : (keys : KeySet) (pack : ℕ) (kept : ℕ → Option KeptRegion) (listed : List Listed) (tables : Tables) → Beside (KeepsBeside keys pack kept) listed tables → AreKept keys pack listed tables kept
 kept_beside keys pack kept [] [] all = tt
@@ -50,8 +50,8 @@ kept_beside keys pack kept (t ∷ ts) [] all = absurd all
 kept_beside keys pack kept (t ∷ ts) (x ∷ xs) all = (all.0.heading, all.0.keeps, kept_beside keys pack kept ts xs all.1)
 
 -- what holds of each table beside the one in place
-listed_beside : (R : Listed → Stored Slots → Type 0) (revs : RevState) (pack : ℕ) (w : World) (ts : List Table) (tables : Tables) → AreHeld pack ts tables w
-    → ((i : ℕ) (t : Table) (x : Stored Slots) → slice_get ts i ≡ Some t → x.heading ≡ t.heading → FlatRepresents pack (flat_of t) x.held w → R (listed_of revs t) x)
+listed_beside : (R : Listed → Stored Held → Type 0) (revs : RevState) (pack : ℕ) (w : World) (ts : List Table) (tables : Tables) → AreHeld pack ts tables w
+    → ((i : ℕ) (t : Table) (x : Stored Held) → slice_get ts i ≡ Some t → x.heading ≡ t.heading → FlatRepresents pack (flat_of t) x.held.slots w → R (listed_of revs t) x)
     → Beside R (map (listed_of revs) ts) tables
 listed_beside R revs pack w [] [] held each = tt
 listed_beside R revs pack w [] (x ∷ xs) held each = absurd held
@@ -61,11 +61,11 @@ listed_beside R revs pack w (t ∷ ts) (x ∷ xs) held each =
 
 -- the tables in order of their names are kept, if each is
 pub named_kept : (keys : KeySet) (pack : ℕ) (kept : ℕ → Option KeptRegion) (revs : RevState) (w : World) (ts : List Table) (tables : Tables) → AreHeld pack ts tables w
-    → ((i : ℕ) (t : Table) (x : Stored Slots) → slice_get ts i ≡ Some t → x.heading ≡ t.heading → FlatRepresents pack (flat_of t) x.held w → KeepsBeside keys pack kept (listed_of revs t) x)
+    → ((i : ℕ) (t : Table) (x : Stored Held) → slice_get ts i ≡ Some t → x.heading ≡ t.heading → FlatRepresents pack (flat_of t) x.held.slots w → KeepsBeside keys pack kept (listed_of revs t) x)
     → AreKept keys pack (catalogue_of revs ts) (by_name tables) kept
 named_kept keys pack kept revs w ts tables held each =
     kept_beside keys pack kept (catalogue_of revs ts) (by_name tables)
-    (fold_beside (KeepsBeside keys pack kept) (λ (t : Listed). t.table.heading.name) (λ (x : Stored Slots). x.heading.name)
+    (fold_beside (KeepsBeside keys pack kept) (λ (t : Listed). t.table.heading.name) (λ (x : Stored Held). x.heading.name)
     (λ t x beside. ap (λ (h : Heading). h.name) (sym beside.heading)) [] (map (listed_of revs) ts) [] tables tt
     (listed_beside (KeepsBeside keys pack kept) revs pack w ts tables held each))
 

@@ -25,7 +25,7 @@ use Rattle.ob_verdict.proofs.AcceptedProof.{sets_fit}
 use Rattle.ob_mean.specs.Step.{accepted_answer, answered, followed, rows_at, set_cells}
 use Rattle.ob_mean.specs.Settle.{settled}
 use Rattle.ob_mean.proofs.VerdictLemmas.{headings-database, heading-stored, stored-database, refused_late}
-use Rattle.ob_mean.specs.Verdict.{Tables, database, is_late, refusal}
+use Rattle.ob_mean.specs.Verdict.{Held, in_slots, Tables, database, is_late, refusal}
 use Rattle.ob_exec.specs.declared.outcome.Outcome.TheVariants.{Changed, Deleted}
 use Rattle.ob_exec.specs.Running.{refusal_now}
 use Rattle.ob_exec.specs.Schemas.{IsSet}
@@ -33,18 +33,18 @@ use Rattle.ob_exec.specs.Telling.{outcome_of}
 use Rattle.ob_exec.proofs.MutateLemmas.{Alters}
 
 -- the columns and the rows of a table in place
-columns_found : (name : List ℕ) (tables : Tables) (x : Stored Slots) → stored_at name tables ≡ Some x → columns_at name (headings tables) ≡ x.heading.schema
+columns_found : (name : List ℕ) (tables : Tables) (x : Stored Held) → stored_at name tables ≡ Some x → columns_at name (headings tables) ≡ x.heading.schema
 columns_found name tables x found =
-    ap (λ (o : Option Heading). option_map_or (λ (h : Heading). h.schema) o []) (heading-stored name tables ∙ ap (option_map (λ (u : Stored Slots). u.heading)) found)
+    ap (λ (o : Option Heading). option_map_or (λ (h : Heading). h.schema) o []) (heading-stored name tables ∙ ap (option_map (λ (u : Stored Held). u.heading)) found)
 
-rows_found : (name : List ℕ) (tables : Tables) (x : Stored Slots) → stored_at name tables ≡ Some x → rows_at name (database tables) ≡ rows x.held
+rows_found : (name : List ℕ) (tables : Tables) (x : Stored Held) → stored_at name tables ≡ Some x → rows_at name (database tables) ≡ rows x.held.slots
 rows_found name tables x found =
     ap (λ (o : Option (Stored (List Row))). option_map_or (λ (u : Stored (List Row)). u.held) o [])
-    (stored-database name tables ∙ ap (option_map (λ (u : Stored Slots). record { heading = u.heading; held = rows u.held })) found)
+    (stored-database name tables ∙ ap (option_map (λ (u : Stored Held). record { heading = u.heading; held = rows u.held.slots })) found)
 
 -- how many of its rows make the condition true
-count_found : (name : List ℕ) (cond : Option Search) (tables : Tables) (x : Stored Slots) → stored_at name tables ≡ Some x
-    → count_by (is_true (where_at cond (columns_at name (headings (database tables))))) (rows_at name (database tables)) ≡ count_by (is_true (where_at cond x.heading.schema)) (rows x.held)
+count_found : (name : List ℕ) (cond : Option Search) (tables : Tables) (x : Stored Held) → stored_at name tables ≡ Some x
+    → count_by (is_true (where_at cond (columns_at name (headings (database tables))))) (rows_at name (database tables)) ≡ count_by (is_true (where_at cond x.heading.schema)) (rows x.held.slots)
 count_found name cond tables x found =
     ap (λ (cs : Columns). count_by (is_true (where_at cond cs)) (rows_at name (database tables))) (ap (columns_at name) (headings-database tables) ∙ columns_found name tables x found)
     ∙ ap (count_by (is_true (where_at cond x.heading.schema))) (rows_found name tables x found)
@@ -64,14 +64,14 @@ update_alters p m name sets cond heading pred cells pred_is cells_is = record {
       let stmt = Update name sets cond in
       let none : refusal p m tables stmt ≡ None = refused_late p m tables stmt early in
       let condition : pred ≡ where_at cond x.heading.schema = pred_is ∙ ap (λ (h : Heading). where_at cond h.schema) (sym is) in
-      let count : count_by (is_true pred) (rows x.held) ≡ count_by (is_true (where_at cond (columns_at name (headings (database tables))))) (rows_at name (database tables)) =
-      ap (λ (c : Condition). count_by (is_true c) (rows x.held)) condition ∙ sym (count_found name cond tables x found) in
+      let count : count_by (is_true pred) (rows x.held.slots) ≡ count_by (is_true (where_at cond (columns_at name (headings (database tables))))) (rows_at name (database tables)) =
+      ap (λ (c : Condition). count_by (is_true c) (rows x.held.slots)) condition ∙ sym (count_found name cond tables x found) in
       record {
         to = map (option_map (updated pred cells));
         answered = ap Changed count ∙ ap (λ (o : Option Refusal). outcome_of stmt (answered o (accepted_answer (database tables) stmt))) (sym none);
         settles = ap (λ (o : Option Refusal). followed o (settled tables stmt) tables) none
-            ∙ ap (λ (cs : Columns). changed_at name (map (option_map (updated (where_at cond cs) (set_cells sets cs)))) tables) (columns_found name tables x found ∙ ap (λ (h : Heading). h.schema) is)
-            ∙ (λ i. changed_at name (map (option_map (updated (sym pred_is i) (sym cells_is i)))) tables);
+            ∙ ap (λ (cs : Columns). changed_at name (in_slots (map (option_map (updated (where_at cond cs) (set_cells sets cs))))) tables) (columns_found name tables x found ∙ ap (λ (h : Heading). h.schema) is)
+            ∙ (λ i. changed_at name (in_slots (map (option_map (updated (sym pred_is i) (sym cells_is i))))) tables);
         here = refl;
       };
 }
@@ -90,14 +90,14 @@ delete_alters p m name cond heading pred pred_is = record {
       let stmt = Delete name cond in
       let none : refusal p m tables stmt ≡ None = refused_late p m tables stmt early in
       let condition : pred ≡ where_at cond x.heading.schema = pred_is ∙ ap (λ (h : Heading). where_at cond h.schema) (sym is) in
-      let count : count_by (is_true pred) (rows x.held) ≡ count_by (is_true (where_at cond (columns_at name (headings (database tables))))) (rows_at name (database tables)) =
-      ap (λ (c : Condition). count_by (is_true c) (rows x.held)) condition ∙ sym (count_found name cond tables x found) in
+      let count : count_by (is_true pred) (rows x.held.slots) ≡ count_by (is_true (where_at cond (columns_at name (headings (database tables))))) (rows_at name (database tables)) =
+      ap (λ (c : Condition). count_by (is_true c) (rows x.held.slots)) condition ∙ sym (count_found name cond tables x found) in
       record {
         to = map (emptied (is_true pred));
         answered = ap Deleted count ∙ ap (λ (o : Option Refusal). outcome_of stmt (answered o (accepted_answer (database tables) stmt))) (sym none);
         settles = ap (λ (o : Option Refusal). followed o (settled tables stmt) tables) none
-            ∙ ap (λ (cs : Columns). changed_at name (map (emptied (is_true (where_at cond cs)))) tables) (columns_found name tables x found ∙ ap (λ (h : Heading). h.schema) is)
-            ∙ (λ i. changed_at name (map (emptied (is_true (sym pred_is i)))) tables);
+            ∙ ap (λ (cs : Columns). changed_at name (in_slots (map (emptied (is_true (where_at cond cs))))) tables) (columns_found name tables x found ∙ ap (λ (h : Heading). h.schema) is)
+            ∙ (λ i. changed_at name (in_slots (map (emptied (is_true (sym pred_is i))))) tables);
         here = refl;
       };
 }

@@ -42,7 +42,7 @@ use Rattle.ob_reopen.proofs.CatalogueLaws.{catalogue_has, catalogue_is}
 use Rattle.ob_exec.specs.declared.engine.Engine.{Engine}
 use Rattle.ob_exec.specs.Agreeing.{Agrees, count_of, world_of}
 use Rattle.ob_exec.specs.Closing.{ClosesEngine, ClosingCause, DropsClosing, closing_script, drop_script, is_used_up, next_closing}
-use Rattle.ob_exec.specs.Engines.{flat_of}
+use Rattle.ob_exec.specs.Engines.{flat_of, others_of}
 use Rattle.ob_exec.specs.Resting.{AcceptsClosings, Rests, by_name}
 use Rattle.ob_exec.specs.Telling.{Represents}
 use Rattle.ob_exec.proofs.ByNameLemmas.{named_in, named_kept, table_kept_as}
@@ -141,6 +141,7 @@ module _ {R : Type 0} (state : R → RevState) (e : Engine R) (s : StoreState) (
     ready_fore = wents.lasts.ready
 
     pub lives_fore : (q : ℕ) → e.closing ≡ Some q → (shape : Region) × Lives q shape fore
+    unfolding others_of
     lives_fore q is = let beside = agrees.tables.beside q is in (beside.shape, record { live = beside.lives.live })
 
     -- the list is a catalogue of the closing that is made
@@ -308,6 +309,7 @@ module _ {R : Type 0} (state : R → RevState) (e : Engine R) (s : StoreState) (
               }
 
           off : (i : ℕ) (u : Table) → slice_get e.public.tables i ≡ Some u → both u.region → ⊥
+          unfolding others_of
           off i u at_i (inl closed) = (agrees.tables.beside u.region closed).off (record { place = i; table = u; get = at_i; region = refl })
           off i u at_i (inr fresh) =
               let below = region_below e.public.pack i e.public.tables u (world_of state e s) agrees.ready agrees.tables at_i in
@@ -330,9 +332,9 @@ module _ {R : Type 0} (state : R → RevState) (e : Engine R) (s : StoreState) (
                       heading = heading;
                       keeps =
                           let away = off i u at_i in
-                          table_kept_as e.vault.keys e.public.pack (state e.vault.revs) u x.held last t refl agrees.settings.pack_least went.lasts.ready
+                          table_kept_as e.vault.keys e.public.pack (state e.vault.revs) u x.held.slots last t refl agrees.settings.pack_least went.lasts.ready
                           (table_kept both e.public.pack u (world_of state e s) last went.lasts away (agrees.tables.each i u at_i))
-                          (represents_lasts e.public.pack (flat_of u) both (world_of state e s) last went.lasts away x.held represents)
+                          (represents_lasts e.public.pack (flat_of u) both (world_of state e s) last went.lasts away x.held.slots represents)
                           went.lasts.keys (went.lasts.apart.number u.region 0 away)
                           (λ shape live. keeps u.region shape tells_last live);
                     });

@@ -56,7 +56,7 @@ use Rattle.ob_exec.specs.declared.engine.Engine.{Engine}
 use Rattle.ob_exec.specs.declared.outcome.Outcome.{Outcome}
 use Rattle.ob_exec.specs.declared.outcome.Outcome.TheVariants.{Created}
 use Rattle.ob_reopen.specs.Limits.{IsHeading, IsStored, is_column, is_kind}
-use Rattle.ob_exec.specs.Engines.{IsAt, IsTable}
+use Rattle.ob_exec.specs.Engines.{IsAt, IsTable, others_of, indexes_of}
 use Rattle.ob_exec.specs.Agreeing.{Agrees, world_of, count_of}
 use Rattle.ob_exec.specs.Running.{answer_of, is_stop, refusal_now}
 use Rattle.ob_exec.specs.Serving.{ServesSilently}
@@ -231,7 +231,7 @@ module _ {R : Type 0} (state : R → RevState) (old : Engine R) (s s1 : StoreSta
       let ran = ran_done state (Create table columns capacity) old s v room t agrees room_is (one old.vault.next)
       (old.public.tables ++ new_table ∷ []) part Created lives answered all (script_is Whole)
       (ap (λ (c : Columns). old.public.tables ++ record { heading = record { name = table; schema = c; capacity = capacity }; region = old.public.next_region } ∷ []) schema_is)
-      (tables_added old.public.pack old.vault.next old.public.tables old.closing new_table _ _ all.lasts agrees.ready refl agrees.tables
+      (tables_added old.public.pack old.vault.next old.public.tables (others_of old.closing) (indexes_of old.closing) new_table _ _ all.lasts agrees.ready refl agrees.tables
       (new_place old.public (count_of old s) table columns capacity now) agrees.next is_table
       (λ i u is same. unnamed i u (record { get = is; named = same })) (λ q. cases_eq q old.vault.next)) in
       finished state stmt old s agrees now refl v room t (old.public.tables ++ new_table ∷ []) Created answered tt ran
@@ -243,9 +243,9 @@ module _ {R : Type 0} (state : R → RevState) (old : Engine R) (s s1 : StoreSta
       let kept = held_kept (one old.vault.next) old.public.pack old.public.tables tables _ _ all.lasts
       (λ i u here same. let less = region_below old.public.pack i old.public.tables u _ agrees.ready agrees.tables here in omega (arith, less, same)) reads.held.held in
       let added = held_added old.public.pack old.public.tables tables new_table (empty_slots capacity) done kept slots in
-      let settles : settle old.public (count_of old s) tables stmt ≡ tables ++ record { heading = new_table.heading; held = empty_slots capacity } ∷ [] =
+      let settles : settle old.public (count_of old s) tables stmt ≡ tables ++ record { heading = new_table.heading; held = record { slots = empty_slots capacity; leaves = [] } } ∷ [] =
       ap (λ (o : Option Refusal). followed o (settled tables stmt) tables) none
-      ∙ (λ i. tables ++ record { heading = record { name = table; schema = sym schema_is i; capacity = capacity }; held = empty_slots capacity } ∷ []) in (
+      ∙ (λ i. tables ++ record { heading = record { name = table; schema = sym schema_is i; capacity = capacity }; held = record { slots = empty_slots capacity; leaves = [] } } ∷ []) in (
         sym (ap (λ (o : Option Refusal). outcome_of stmt (answered_by o (accepted_answer (database tables) stmt))) none),
         subst (λ (ts : Tables). AreHeld old.public.pack (old.public.tables ++ new_table ∷ []) ts done) (sym settles) added,
       ))
@@ -266,7 +266,7 @@ module _ {R : Type 0} (state : R → RevState) (old : Engine R) (s s1 : StoreSta
   not_created e n new result creates count answered is =
       serves_as state (CreateStmt table columns capacity) old s t _ _ _ _ answered is
       (cut_off state (CreateStmt table columns capacity) old s agrees now refl s1 v room t rests room_is part _ _ _ n e script_is refl creates.ran.err count creates.makes.gone
-      (λ is. creates.memory.began (ap (λ (z : OpErr). Err z) is)) (silent_fault e creates.never) (λ tables reads. fault_made e creates.never)
+      (λ is. creates.memory.did (ap (λ (z : OpErr). Err z) is)) (silent_fault e creates.never) (λ tables reads. fault_made e creates.never)
       (λ good accepts. creates.makes.seals.seals good (accepts _ _)))
 
 snoc_front : {A : Type 0} (xs ys : List A) (x y : A) → xs ++ x ∷ [] ≡ ys ++ y ∷ [] → xs ≡ ys

@@ -1,4 +1,5 @@
 -- DROP TABLE.
+use Rattle.ob_oram.specs.declared.index.Index.{Index}
 use Rattle.std.proofs.Common.{◌≡◌, ◌⊎◌, inl, inr, ◌<◌, ◌≤◌, ℕ, zero, suc, Bool, true, false, if◌then◌else◌, List, [], ◌∷◌, length, Some, None, Option, Ok, Result, refl, sym, ◌∙◌, ap, subst, arith, slice_get}
 use Rattle.std.specs.Prelude.{bytes_eq, filter, not}
 use Rattle.std.specs.List.{remove}
@@ -37,7 +38,7 @@ use Rattle.ob_mean.proofs.VerdictLemmas.{refused_late}
 use Rattle.ob_exec.specs.declared.engine.Engine.{Engine}
 use Rattle.ob_exec.specs.declared.outcome.Outcome.{Outcome}
 use Rattle.ob_exec.specs.declared.outcome.Outcome.TheVariants.{Dropped}
-use Rattle.ob_exec.specs.Engines.{AreTables, IsAt, IsBeside, IsTable, IsTableRegion, flat_of}
+use Rattle.ob_exec.specs.Engines.{AreTables, IsAt, IsBeside, IsTable, IsTableRegion, flat_of, others_of, indexes_of, IsIndexIn}
 use Rattle.ob_exec.specs.Opening.{Opens}
 use Rattle.ob_exec.specs.Agreeing.{Agrees, world_of, count_of}
 use Rattle.ob_exec.specs.Running.{refusal_now}
@@ -47,7 +48,8 @@ use Rattle.ob_exec.proofs.HeldLemmas.{held_kept}
 use Rattle.ob_exec.proofs.RunLemmas.{IsAnswered, engine_after, ran_whole}
 use Rattle.ob_exec.proofs.SealLemmas.{keeps_pass}
 use Rattle.ob_exec.proofs.SilentLemmas.{finished, serves_as}
-use Rattle.ob_exec.proofs.TableLemmas.{AreNamed, beside_kept, named, stored_found, table_kept}
+use Rattle.ob_oram.proofs.Lasting.{index_kept}
+use Rattle.ob_exec.proofs.TableLemmas.{AreNamed, beside_kept, named, stored_found, table_kept, no_index}
 use Rattle.ob_exec.proofs.ToldLemmas.{early_held}
 
 -- ---- a list without the element at a place
@@ -130,8 +132,9 @@ removed_is name (x ∷ xs) (suc i) t names at is =
         ap (λ (ys : List Table). x ∷ ys) rest
         ∙ ap (λ (b : Bool). if not b then x ∷ filter (λ (t : Table). not (bytes_eq t.heading.name name)) xs else filter (λ (t : Table). not (bytes_eq t.heading.name name)) xs) (sym miss)
 
-module _ (pack r : ℕ) (ts : List Table) (closing : Option ℕ) (t : Table) (i : ℕ) (old new : World) (lasts : Lasts (one r) old new) (tables : AreTables ts closing pack old)
-    (at_i : slice_get ts i ≡ Some t) (region_is : t.region ≡ r) (gone : (shape : Region) → new.vault.revs.live r ≡ Some shape → ⊥) where
+module _ (pack r : ℕ) (ts : List Table) (other : ℕ → Type 0) (indexes : List Index) (t : Table) (i : ℕ) (old new : World) (lasts : Lasts (one r) old new) (tables : AreTables ts other indexes pack old)
+    (at_i : slice_get ts i ≡ Some t) (region_is : t.region ≡ r) (gone : (shape : Region) → new.vault.revs.live r ≡ Some shape → ⊥)
+    (unindexed : (k : ℕ) (x : Index) → slice_get indexes k ≡ Some x → x.tree ≡ r → ⊥) where
   elsewhere : (k : ℕ) (u : Table) → slice_get ts k ≡ Some u → (k ≡ i → ⊥) → one r u.region → ⊥
   elsewhere k u is off same = off (tables.apart k i u t is at_i (same ∙ sym region_is))
 
@@ -152,7 +155,7 @@ module _ (pack r : ℕ) (ts : List Table) (closing : Option ℕ) (t : Table) (i 
       let b = origin ts i k v ks in
       same_origin ts i j k u v a b (tables.names a.from b.from u v a.get b.get same)
 
-  removed_beside : (q : ℕ) → closing ≡ Some q → IsBeside (remove ts i) q new
+  removed_beside : (q : ℕ) → other q → IsBeside (remove ts i) q new
   removed_beside q is =
       let beside = tables.beside q is in
       beside_kept (one r) ts (remove ts i) q old new lasts (λ same. beside.off (record { place = i; table = t; get = at_i; region = region_is ∙ sym same }))
@@ -164,15 +167,27 @@ module _ (pack r : ℕ) (ts : List Table) (closing : Option ℕ) (t : Table) (i 
       let left = left_at ts i of.place of.table of.get elsewhere in
       record { place = left.0; table = of.table; get = left.1; region = of.region }
 
-  removed_only : (q : ℕ) (shape : Region) → new.vault.revs.live q ≡ Some shape → (q ≡ r) ⊎ (q ≡ r → ⊥) → IsTableRegion (remove ts i) q ⊎ (closing ≡ Some q)
+  removed_only : (q : ℕ) (shape : Region) → new.vault.revs.live q ≡ Some shape → (q ≡ r) ⊎ (q ≡ r → ⊥) → IsTableRegion (remove ts i) q ⊎ other q
   removed_only q shape live (inl here) = absurd (gone shape (ap new.vault.revs.live (sym here) ∙ live))
   removed_only q shape live (inr off) = elim (tables.only q shape (sym (lasts.apart.live q off) ∙ live)) [
     | inl of ↦ inl (left_region q off of)
     | inr closed ↦ inr closed
   ]
 
-  tables_removed : AreTables (remove ts i) closing pack new
+  removed_index : (k : ℕ) (x : Index) → slice_get indexes k ≡ Some x → IsIndexIn (remove ts i) other x new
+  removed_index k x is =
+      let at = tables.stand k x is in
+      let beside = tables.beside x.stash at.stash in
+      record {
+        tree = left_region x.tree (unindexed k x is) at.tree;
+        stash = at.stash;
+        stands = index_kept (one r) old new lasts x (unindexed k x is)
+            (λ same. beside.off (record { place = i; table = t; get = at_i; region = region_is ∙ sym same })) at.stands;
+      }
+
+  tables_removed : AreTables (remove ts i) other indexes pack new
   tables_removed = record {
+    stand = removed_index;
     each = removed_each;
     few = let fewer = remove_few ts i in let few = tables.few in omega (arith, fewer, few);
     apart = removed_apart;
@@ -204,7 +219,7 @@ held_removed pack r name (u ∷ ts) (x ∷ xs) (suc i) t old new names held last
     head true hit rest = absurd (omega (arith, names 0 (suc i) u t refl at (ap (λ (h : Heading). h.name) (sym held.0) ∙ named x.heading.name name hit ∙ sym is)))
     head false miss rest =
         subst (λ (b : Bool). AreHeld pack (u ∷ remove ts i) (if b then xs else x ∷ dropped_at name xs) new) (sym miss)
-        (held.0, represents_lasts pack (flat_of u) (one r) old new lasts (apart 0 u refl (λ off. omega (arith, off))) x.held held.1, rest)
+        (held.0, represents_lasts pack (flat_of u) (one r) old new lasts (apart 0 u refl (λ off. omega (arith, off))) x.held.slots held.1, rest)
 
 -- its region is live
 pub lives_found : {R : Type 0} (state : R → RevState) (old : Engine R) (s s1 : StoreState) (i : ℕ) (table : Table) (flat : Flat) → Agrees state old s → slice_get old.public.tables i ≡ Some table
@@ -238,7 +253,7 @@ module _ {R : Type 0} (state : R → RevState) (old : Engine R) (s s1 : StoreSta
       let is_answered : IsAnswered Dropped = record { whole = λ n. refl; own = refl } in
       let ran = ran_whole state (DropSkeleton name) old s v old.room t agrees agrees.room (one r) (remove old.public.tables i) (discard_at r) Dropped lives is_answered (opens_discard r old.room.high) all
       (script_is Whole) removed
-      (tables_removed old.public.pack r old.public.tables old.closing table i _ _ all.lasts agrees.tables here.get refl (λ shape live. absurd (cc (live, gone)))) in
+      (tables_removed old.public.pack r old.public.tables (others_of old.closing) (indexes_of old.closing) table i _ _ all.lasts agrees.tables here.get refl (λ shape live. absurd (cc (live, gone))) (λ k x is same. no_index old.closing k x is)) in
       serves_as state stmt old s t _ _ _ _ answered is
       (finished state stmt old s agrees now refl v old.room t (remove old.public.tables i) Dropped is_answered tt ran
       (keeps_pass state old s s1 rests agrees (engine_after old v old.room (remove old.public.tables i) Whole old.ended) t (at state v t) refl (λ good accepts. discards.seals.seals good))

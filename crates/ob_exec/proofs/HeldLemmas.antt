@@ -12,7 +12,7 @@ use Rattle.ob_vault.specs.Calls.{Lasts}
 use Rattle.ob_flat.specs.Flats.{Represents}
 use Rattle.ob_flat.proofs.Tables.{represents_lasts}
 use Rattle.ob_base.specs.Stored.{headings_of}
-use Rattle.ob_mean.specs.Verdict.{Tables}
+use Rattle.ob_mean.specs.Verdict.{Held, in_slots, Tables}
 use Rattle.ob_exec.specs.Engines.{flat_of}
 use Rattle.ob_exec.specs.Telling.{AreHeld}
 use Rattle.ob_exec.proofs.TableLemmas.{AreNamed, named, unmoved}
@@ -32,13 +32,13 @@ held_kept some pack [] (x ∷ xs) a b lasts apart held = absurd held
 held_kept some pack (t ∷ ts) [] a b lasts apart held = absurd held
 held_kept some pack (t ∷ ts) (x ∷ xs) a b lasts apart held = (
   held.0,
-  represents_lasts pack (flat_of t) some a b lasts (apart 0 t refl) x.held held.1,
+  represents_lasts pack (flat_of t) some a b lasts (apart 0 t refl) x.held.slots held.1,
   held_kept some pack ts xs a b lasts (λ i u at. apart (suc i) u at) held.2,
 )
 
 -- one table more
 pub held_added : (pack : ℕ) (ts : List Table) (tables : Tables) (t : Table) (slots : Slots) (w : World) → AreHeld pack ts tables w → Represents pack (flat_of t) slots w
-    → AreHeld pack (ts ++ t ∷ []) (tables ++ record { heading = t.heading; held = slots } ∷ []) w
+    → AreHeld pack (ts ++ t ∷ []) (tables ++ record { heading = t.heading; held = record { slots = slots; leaves = [] } } ∷ []) w
 held_added pack [] [] t slots w held is = (refl, is, tt)
 held_added pack [] (x ∷ xs) t slots w held is = absurd held
 held_added pack (u ∷ ts) [] t slots w held is = absurd held
@@ -47,13 +47,13 @@ held_added pack (u ∷ ts) (x ∷ xs) t slots w held is = (held.0, held.1, held_
 -- ---- the table of a name
 -- the table in place beside a table
 pub record Beside (pack : ℕ) (name : List ℕ) (t : Table) (tables : Tables) (w : World) : Type 0 where
-  pub table : Stored Slots
+  pub table : Stored Held
   pub found : stored_at name tables ≡ Some table
   pub heading : table.heading ≡ t.heading
-  pub represents : Represents pack (flat_of t) table.held w
+  pub represents : Represents pack (flat_of t) table.held.slots w
 
 -- what is found behind a table of another name is found
-behind : (pack : ℕ) (name : List ℕ) (t : Table) (x : Stored Slots) (xs : Tables) (w : World) → (b : Bool) → bytes_eq x.heading.name name ≡ b → b ≡ false
+behind : (pack : ℕ) (name : List ℕ) (t : Table) (x : Stored Held) (xs : Tables) (w : World) → (b : Bool) → bytes_eq x.heading.name name ≡ b → b ≡ false
     → Beside pack name t xs w → Beside pack name t (x ∷ xs) w
 behind pack name t x xs w b is miss beside = record {
   table = beside.table;
@@ -75,7 +75,7 @@ held_at pack name (u ∷ ts) (x ∷ xs) zero t w names held at is =
       table = x;
       found = ap (λ (c : Bool). cond c (Some x) (stored_at name xs)) ((bytes_eq-Decides x.heading.name name).1 of_name);
       heading = held.0 ∙ ap (λ (v : Table). v.heading) same;
-      represents = subst (λ (v : Table). Represents pack (flat_of v) x.held w) same held.1;
+      represents = subst (λ (v : Table). Represents pack (flat_of v) x.held.slots w) same held.1;
     }
 held_at pack name (u ∷ ts) (x ∷ xs) (suc i) t w names held at is =
     behind pack name t x xs w (bytes_eq x.heading.name name) refl (miss (bytes_eq x.heading.name name) refl)
@@ -88,25 +88,25 @@ held_at pack name (u ∷ ts) (x ∷ xs) (suc i) t w names held at is =
 -- ---- a table that lies in another region, with other slots
 module _ (pack g : ℕ) (name : List ℕ) (f : Slots → Slots) (w : World) where
   -- the head of both lists, by whether it has the name
-  moved_head : (u : Table) (ts : List Table) (x : Stored Slots) (xs : Tables) (b : Bool) → x.heading ≡ u.heading → bytes_eq u.heading.name name ≡ b
-      → (b ≡ true → AreHeld pack (record u { region = g } ∷ moved name g ts) (record { heading = x.heading; held = f x.held } ∷ xs) w)
-      → (b ≡ false → AreHeld pack (u ∷ moved name g ts) (x ∷ changed_at name f xs) w)
-      → AreHeld pack (moved name g (u ∷ ts)) (changed_at name f (x ∷ xs)) w
+  moved_head : (u : Table) (ts : List Table) (x : Stored Held) (xs : Tables) (b : Bool) → x.heading ≡ u.heading → bytes_eq u.heading.name name ≡ b
+      → (b ≡ true → AreHeld pack (record u { region = g } ∷ moved name g ts) (record { heading = x.heading; held = in_slots f x.held } ∷ xs) w)
+      → (b ≡ false → AreHeld pack (u ∷ moved name g ts) (x ∷ changed_at name (in_slots f) xs) w)
+      → AreHeld pack (moved name g (u ∷ ts)) (changed_at name (in_slots f) (x ∷ xs)) w
   moved_head u ts x xs true same is hit miss =
-      subst (λ (b : Bool). AreHeld pack ((if b then record u { region = g } else u) ∷ moved name g ts) (changed_at name f (x ∷ xs)) w) (sym is)
-      (subst (λ (b : Bool). AreHeld pack (record u { region = g } ∷ moved name g ts) (if b then record { heading = x.heading; held = f x.held } ∷ xs else x ∷ changed_at name f xs) w)
+      subst (λ (b : Bool). AreHeld pack ((if b then record u { region = g } else u) ∷ moved name g ts) (changed_at name (in_slots f) (x ∷ xs)) w) (sym is)
+      (subst (λ (b : Bool). AreHeld pack (record u { region = g } ∷ moved name g ts) (if b then record { heading = x.heading; held = in_slots f x.held } ∷ xs else x ∷ changed_at name (in_slots f) xs) w)
       (sym (ap (λ (h : Heading). bytes_eq h.name name) same ∙ is)) (hit refl))
   moved_head u ts x xs false same is hit miss =
-      subst (λ (b : Bool). AreHeld pack ((if b then record u { region = g } else u) ∷ moved name g ts) (changed_at name f (x ∷ xs)) w) (sym is)
-      (subst (λ (b : Bool). AreHeld pack (u ∷ moved name g ts) (if b then record { heading = x.heading; held = f x.held } ∷ xs else x ∷ changed_at name f xs) w)
+      subst (λ (b : Bool). AreHeld pack ((if b then record u { region = g } else u) ∷ moved name g ts) (changed_at name (in_slots f) (x ∷ xs)) w) (sym is)
+      (subst (λ (b : Bool). AreHeld pack (u ∷ moved name g ts) (if b then record { heading = x.heading; held = in_slots f x.held } ∷ xs else x ∷ changed_at name (in_slots f) xs) w)
       (sym (ap (λ (h : Heading). bytes_eq h.name name) same ∙ is)) (miss refl))
 
   -- the others' regions hold what they held
   pub held_moved : (ts : List Table) (tables : Tables) (i : ℕ) (t : Table) (some : ℕ → Type 0) (a : World) → AreNamed ts → AreHeld pack ts tables a
       → Lasts some a w → ((j : ℕ) (u : Table) → slice_get ts j ≡ Some u → (j ≡ i → ⊥) → some u.region → ⊥)
       → slice_get ts i ≡ Some t → t.heading.name ≡ name
-      → ((x : Stored Slots) → stored_at name tables ≡ Some x → Represents pack (flat_of (record t { region = g })) (f x.held) w)
-      → AreHeld pack (moved name g ts) (changed_at name f tables) w
+      → ((x : Stored Held) → stored_at name tables ≡ Some x → Represents pack (flat_of (record t { region = g })) (f x.held.slots) w)
+      → AreHeld pack (moved name g ts) (changed_at name (in_slots f) tables) w
   held_moved [] [] zero t some a names held lasts apart at is new = absurd (cc at)
   held_moved [] [] (suc i) t some a names held lasts apart at is new = absurd (cc at)
   held_moved [] (x ∷ xs) i t some a names held lasts apart at is new = absurd held
@@ -121,7 +121,7 @@ module _ (pack g : ℕ) (name : List ℕ) (f : Slots → Slots) (w : World) wher
       moved_head u ts x xs (bytes_eq u.heading.name name) held.0 refl
       (λ _. (
         held.0,
-        subst (λ (v : Table). Represents pack (flat_of (record v { region = g })) (f x.held) w) (sym same) (new x found),
+        subst (λ (v : Table). Represents pack (flat_of (record v { region = g })) (f x.held.slots) w) (sym same) (new x found),
         subst (λ (vs : List Table). AreHeld pack vs xs w) (sym rest)
             (held_kept some pack ts xs a w lasts (λ j v js hits. apart (suc j) v js (λ off. omega (arith, off)) hits) held.2),
       ))
@@ -131,17 +131,17 @@ module _ (pack g : ℕ) (name : List ℕ) (f : Slots → Slots) (w : World) wher
       (λ hit. absurd (omega (arith, names 0 (suc i) u t refl at (named u.heading.name name hit ∙ sym is))))
       (λ miss. (
         held.0,
-        represents_lasts pack (flat_of u) some a w lasts (apart 0 u refl (λ off. omega (arith, off))) x.held held.1,
+        represents_lasts pack (flat_of u) some a w lasts (apart 0 u refl (λ off. omega (arith, off))) x.held.slots held.1,
         held_moved ts xs i t some a (λ j k v z js ks same. omega (arith, names (suc j) (suc k) v z js ks same)) held.2 lasts
             (λ j v js off. apart (suc j) v js (λ same. off (omega (arith, same)))) at is
             (λ y found. new y (ap (λ (c : Bool). cond c (Some x) (stored_at name xs)) (ap (λ (h : Heading). bytes_eq h.name name) held.0 ∙ miss) ∙ found)),
       ))
 
 -- no slots change where f changes none
-pub changed_same : (name : List ℕ) (tables : Tables) → changed_at name (λ slots. slots) tables ≡ tables
+pub changed_same : (name : List ℕ) (tables : Tables) → changed_at name (in_slots (λ slots. slots)) tables ≡ tables
 changed_same name [] = refl
 changed_same name (x ∷ xs) = head (bytes_eq x.heading.name name) refl (changed_same name xs)
   where
-    head : (b : Bool) → bytes_eq x.heading.name name ≡ b → changed_at name (λ slots. slots) xs ≡ xs → changed_at name (λ slots. slots) (x ∷ xs) ≡ x ∷ xs
-    head true is rest = ap (λ (c : Bool). if c then record { heading = x.heading; held = x.held } ∷ xs else x ∷ changed_at name (λ slots. slots) xs) is
-    head false is rest = ap (λ (c : Bool). if c then record { heading = x.heading; held = x.held } ∷ xs else x ∷ changed_at name (λ slots. slots) xs) is ∙ ap (λ (ys : Tables). x ∷ ys) rest
+    head : (b : Bool) → bytes_eq x.heading.name name ≡ b → changed_at name (in_slots (λ slots. slots)) xs ≡ xs → changed_at name (in_slots (λ slots. slots)) (x ∷ xs) ≡ x ∷ xs
+    head true is rest = ap (λ (c : Bool). if c then record { heading = x.heading; held = x.held } ∷ xs else x ∷ changed_at name (in_slots (λ slots. slots)) xs) is
+    head false is rest = ap (λ (c : Bool). if c then record { heading = x.heading; held = x.held } ∷ xs else x ∷ changed_at name (in_slots (λ slots. slots)) xs) is ∙ ap (λ (ys : Tables). x ∷ ys) rest

@@ -23,7 +23,7 @@ use Rattle.ob_mean.specs.Refusals.{early_refusal}
 use Rattle.ob_mean.specs.Step.{new_row, insert_refusal, answered, followed}
 use Rattle.ob_mean.specs.Settle.{settle, settled}
 use Rattle.ob_mean.proofs.VerdictLemmas.{heading-stored, stored-database, refused_late}
-use Rattle.ob_mean.specs.Verdict.{Tables, is_late, refusal, verdict}
+use Rattle.ob_mean.specs.Verdict.{Held, in_slots, Tables, is_late, refusal, verdict}
 use Rattle.ob_exec.specs.declared.outcome.Outcome.TheVariants.{Inserted}
 use Rattle.ob_exec.specs.Running.{HasNoRows, inserted_as}
 use Rattle.ob_exec.specs.Telling.{done_of, outcome_of}
@@ -44,33 +44,33 @@ outcome_plain false true stmt is = refl
 outcome_plain false false stmt is = sym is
 
 settle_plain : (a b : Bool) (name : List ℕ) (row : Row) (tables : Tables)
-    → followed (option_or (refused_as a b) None) (changed_at name (fill_first row) tables) tables ≡ changed_at name (λ slots. slots_after (answered_as a b) row slots) tables
+    → followed (option_or (refused_as a b) None) (changed_at name (in_slots (fill_first row)) tables) tables ≡ changed_at name (in_slots (λ slots. slots_after (answered_as a b) row slots)) tables
 settle_plain true b name row tables = sym (changed_same name tables)
 settle_plain false true name row tables = sym (changed_same name tables)
 settle_plain false false name row tables = refl
 
-insert_meant : (p : Public) (m : ℕ) (tables : Tables) (name : List ℕ) (columns : Option (List (List ℕ))) (values : List Literal) (x : Stored Slots) (row : Row) (answer : InsertedAs)
-    → early_refusal (is_late m) p.pack p.buffer (headings tables) (InsertStmt name columns values) ≡ None → stored_at name tables ≡ Some x → length x.held ≡ x.heading.capacity
-    → row ≡ new_row x.heading.schema columns values → answer ≡ insert_answer x.heading.schema row x.held
+insert_meant : (p : Public) (m : ℕ) (tables : Tables) (name : List ℕ) (columns : Option (List (List ℕ))) (values : List Literal) (x : Stored Held) (row : Row) (answer : InsertedAs)
+    → early_refusal (is_late m) p.pack p.buffer (headings tables) (InsertStmt name columns values) ≡ None → stored_at name tables ≡ Some x → length x.held.slots ≡ x.heading.capacity
+    → row ≡ new_row x.heading.schema columns values → answer ≡ insert_answer x.heading.schema row x.held.slots
     → (inserted_as answer ≡ outcome_of (InsertStmt name columns values) (verdict p m tables (InsertStmt name columns values)))
-    × (settle p m tables (InsertStmt name columns values) ≡ changed_at name (λ slots. slots_after answer row slots) tables)
+    × (settle p m tables (InsertStmt name columns values) ≡ changed_at name (in_slots (λ slots. slots_after answer row slots)) tables)
 insert_meant p m tables name columns values x row answer early found size row_is is =
     let stmt = InsertStmt name columns values in
-    let a = has_key (key_place x.heading.schema) row (rows x.held) in
-    let b = length (rows x.held) == length x.held in
+    let a = has_key (key_place x.heading.schema) row (rows x.held.slots) in
+    let b = length (rows x.held.slots) == length x.held.slots in
     let refusal_is : refusal p m tables stmt ≡ option_or (refused_as a b) None =
     refused_late p m tables stmt early
     ∙ ap (λ (o : Option (Stored (List Row))). option_or (option_map_or (λ (t : Stored (List Row)). insert_refusal t (new_row t.heading.schema columns values)) o None) None)
-    (stored-database name tables ∙ ap (option_map (λ (u : Stored Slots). record { heading = u.heading; held = rows u.held })) found)
-    ∙ ap (λ (r : Row). option_or (insert_refusal (record { heading = x.heading; held = rows x.held }) r) None) (sym row_is)
-    ∙ ap (λ (n : ℕ). option_or (if a then Some R.Duplicate else (if length (rows x.held) == n then Some R.Full else None)) None) (sym size) in
+    (stored-database name tables ∙ ap (option_map (λ (u : Stored Held). record { heading = u.heading; held = rows u.held.slots })) found)
+    ∙ ap (λ (r : Row). option_or (insert_refusal (record { heading = x.heading; held = rows x.held.slots }) r) None) (sym row_is)
+    ∙ ap (λ (n : ℕ). option_or (if a then Some R.Duplicate else (if length (rows x.held.slots) == n then Some R.Full else None)) None) (sym size) in
     let schema_is : columns_at name (headings tables) ≡ x.heading.schema =
-    ap (λ (o : Option Heading). option_map_or (λ (h : Heading). h.schema) o []) (heading-stored name tables ∙ ap (option_map (λ (u : Stored Slots). u.heading)) found) in (
+    ap (λ (o : Option Heading). option_map_or (λ (h : Heading). h.schema) o []) (heading-stored name tables ∙ ap (option_map (λ (u : Stored Held). u.heading)) found) in (
       ap inserted_as is ∙ outcome_plain a b stmt refl ∙ ap (λ (o : Option Refusal). outcome_of stmt (answered o A.Done)) (sym refusal_is),
       ap (λ (o : Option Refusal). followed o (settled tables stmt) tables) refusal_is
-          ∙ ap (λ (r : Row). followed (option_or (refused_as a b) None) (changed_at name (fill_first r) tables) tables) (ap (λ (cs : Columns). new_row cs columns values) schema_is ∙ sym row_is)
+          ∙ ap (λ (r : Row). followed (option_or (refused_as a b) None) (changed_at name (in_slots (fill_first r)) tables) tables) (ap (λ (cs : Columns). new_row cs columns values) schema_is ∙ sym row_is)
           ∙ settle_plain a b name row tables
-          ∙ ap (λ (k : InsertedAs). changed_at name (λ slots. slots_after k row slots) tables) (sym is),
+          ∙ ap (λ (k : InsertedAs). changed_at name (in_slots (λ slots. slots_after k row slots)) tables) (sym is),
     )
 
 is_answered : (answer : InsertedAs) → IsAnswered (inserted_as answer)
@@ -97,7 +97,7 @@ insert_alters p m name columns values heading cs row schema_is row_is = record {
   plain = refl;
   meant = λ tables x early found size is.
       let cs_is : cs ≡ x.heading.schema = schema_is ∙ ap (λ (h : Heading). h.schema) (sym is) in
-      let meant = insert_meant p m tables name columns values x row (insert_answer cs row x.held) early found size
-      (row_is ∙ ap (λ (h : Heading). new_row h.schema columns values) (sym is)) (ap (λ (d : Columns). insert_answer d row x.held) cs_is) in
-      record { to = λ slots. slots_after (insert_answer cs row x.held) row slots; answered = meant.0; settles = meant.1; here = refl };
+      let meant = insert_meant p m tables name columns values x row (insert_answer cs row x.held.slots) early found size
+      (row_is ∙ ap (λ (h : Heading). new_row h.schema columns values) (sym is)) (ap (λ (d : Columns). insert_answer d row x.held.slots) cs_is) in
+      record { to = λ slots. slots_after (insert_answer cs row x.held.slots) row slots; answered = meant.0; settles = meant.1; here = refl };
 }

@@ -48,7 +48,7 @@ held_open keys pack [] (x ∷ xs) kept mid w are opened tells same keyed = absur
 held_open keys pack (t ∷ ts) [] kept mid w are opened tells same keyed = absurd are
 held_open keys pack (t ∷ ts) (x ∷ xs) kept mid w are opened tells same keyed = (
   are.0,
-  slots_open keys pack t x.held kept mid w are.1 (opened 0 t refl) tells (same 0 t refl) keyed,
+  slots_open keys pack t x.held.slots kept mid w are.1 (opened 0 t refl) tells (same 0 t refl) keyed,
   held_open keys pack ts xs kept mid w are.2 (λ i u is. opened (suc i) u is) tells (λ i u is. same (suc i) u is) keyed,
 )
 
@@ -63,7 +63,7 @@ kept_at keys pack [] [] kept are zero t is = absurd (cc is)
 kept_at keys pack [] [] kept are (suc i) t is = absurd (cc is)
 kept_at keys pack [] (x ∷ xs) kept are i t is = absurd are
 kept_at keys pack (u ∷ us) [] kept are i t is = absurd are
-kept_at keys pack (u ∷ us) (x ∷ xs) kept are zero t is = let same : u ≡ t = cc is in subst (λ (v : Listed). KeptAt keys pack v kept) same (record { slots = x.held; keeps = are.1 })
+kept_at keys pack (u ∷ us) (x ∷ xs) kept are zero t is = let same : u ≡ t = cc is in subst (λ (v : Listed). KeptAt keys pack v kept) same (record { slots = x.held.slots; keeps = are.1 })
 kept_at keys pack (u ∷ us) (x ∷ xs) kept are (suc i) t is = kept_at keys pack us xs kept are.2 i t is
 
 -- ---- nothing lies in clear

@@ -18,7 +18,7 @@ use Rattle.ob_vault.proofs.LawLemmas.{last_is, numbers_alone}
 use Rattle.ob_vault.proofs.Runs.{numbers_run}
 use Rattle.ob_reopen.specs.declared.closing.Closing.{Closing}
 use Rattle.ob_reopen.specs.Writings.{HasBlock, MayList}
-use Rattle.ob_exec.specs.Engines.{AreTables, IsTable}
+use Rattle.ob_exec.specs.Engines.{AreTables, IsTable, others_of, indexes_of}
 use Rattle.ob_exec.proofs.TableLemmas.{region_below}
 
 -- ---- no number is above the count of writes
@@ -139,7 +139,7 @@ module _ (pack : ℕ) (some : 1 ≤ pack) (w : World) (ready : Ready w) (t u : T
   ]
 
 -- ---- all of them
-pub may_list : (closing : Closing) (tables : List Table) (old : Option ℕ) (w : World) → 1 ≤ closing.pack → Ready w → AreTables tables old closing.pack w
+pub may_list : (closing : Closing) (tables : List Table) (old : Option ℕ) (w : World) → 1 ≤ closing.pack → Ready w → AreTables tables (others_of old) (indexes_of old) closing.pack w
     → closing.region ≡ w.vault.next → closing.number ≡ w.vault.count + 1 → closing.blocks ≡ length tables + 1 → MayList closing w.vault.revs tables
 may_list closing tables old w some ready are next number blocks = record {
   each = λ i t is.

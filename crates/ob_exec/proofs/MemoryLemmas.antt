@@ -13,5 +13,5 @@ lacks_less less lacks = record {
   rest = lacks.rest;
   split = lacks.split;
   asked = lacks.asked;
-  place = elim lacks.place [ inl make ↦ inl make | inr emits ↦ inr (emits.0, less emits.1) ];
+  place = elim lacks.place [ inl make ↦ inl make | inr other ↦ inr (elim other [ inl before ↦ inl before | inr emits ↦ inr (emits.0, less emits.1) ]) ];
 }

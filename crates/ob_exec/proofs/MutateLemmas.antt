@@ -38,10 +38,10 @@ use Rattle.ob_sql.specs.Skeleton.{skeleton}
 use Rattle.ob_mean.specs.Refusals.{early_refusal}
 use Rattle.ob_mean.specs.Settle.{settle}
 use Rattle.ob_mean.specs.Lawful.{is_counted}
-use Rattle.ob_mean.specs.Verdict.{Tables, is_late, verdict, ended as seen_to}
+use Rattle.ob_mean.specs.Verdict.{Held, in_slots, Tables, is_late, verdict, ended as seen_to}
 use Rattle.ob_exec.specs.declared.engine.Engine.{Engine}
 use Rattle.ob_exec.specs.declared.outcome.Outcome.{Outcome}
-use Rattle.ob_exec.specs.Engines.{IsAt, IsTable, AreTables, flat_of}
+use Rattle.ob_exec.specs.Engines.{IsAt, IsTable, AreTables, flat_of, others_of, indexes_of}
 use Rattle.ob_exec.specs.Agreeing.{Agrees, world_of, count_of}
 use Rattle.ob_exec.specs.Running.{HasNoRows, answer_of, is_stop, refusal_now}
 use Rattle.ob_exec.specs.Serving.{ServesSilently}
@@ -50,14 +50,14 @@ use Rattle.ob_exec.proofs.HeldLemmas.{Beside, held_at, held_moved}
 use Rattle.ob_exec.proofs.RunLemmas.{IsAnswered, engine_after, ran_done}
 use Rattle.ob_exec.proofs.SealLemmas.{keeps_pass}
 use Rattle.ob_exec.proofs.SilentLemmas.{cut_off, finished, serves_as}
-use Rattle.ob_exec.proofs.TableLemmas.{region_below, set_moved, stored_found, tables_moved}
+use Rattle.ob_exec.proofs.TableLemmas.{region_below, set_moved, stored_found, tables_moved, no_index}
 use Rattle.ob_exec.proofs.ToldLemmas.{early_held, fault_made, silent_pass}
 
 -- what a statement makes of the slots of the table of a name
 pub record MeansFor {T : Type 0} (p : Public) (m : ℕ) (stmt : Stmt) (name : List ℕ) (outcome : T → Outcome) (answer : Slots → T) (after : Slots → Slots) (tables : Tables) (slots : Slots) : Type 0 where
   pub to : Slots → Slots
   pub answered : outcome (answer slots) ≡ outcome_of stmt (verdict p m tables stmt)
-  pub settles : settle p m tables stmt ≡ changed_at name to tables
+  pub settles : settle p m tables stmt ≡ changed_at name (in_slots to) tables
   pub here : to slots ≡ after slots
 
 -- a statement that changes the slots of the table of a name
@@ -70,8 +70,8 @@ pub record Alters {T : Type 0} (p : Public) (m : ℕ) (stmt : Stmt) (name : List
   pub answers : (x : T) → IsAnswered (outcome x)
   pub silent : (x : T) → HasNoRows (outcome x)
   pub plain : is_counted stmt ≡ false
-  pub meant : (tables : Tables) (x : Stored Slots) → early_refusal (is_late m) p.pack p.buffer (headings tables) stmt ≡ None → stored_at name tables ≡ Some x
-      → length x.held ≡ x.heading.capacity → x.heading ≡ heading → MeansFor p m stmt name outcome answer after tables x.held
+  pub meant : (tables : Tables) (x : Stored Held) → early_refusal (is_late m) p.pack p.buffer (headings tables) stmt ≡ None → stored_at name tables ≡ Some x
+      → length x.held.slots ≡ x.heading.capacity → x.heading ≡ heading → MeansFor p m stmt name outcome answer after tables x.held.slots
 
 module _ {R T : Type 0} (state : R → RevState) (stmt : Stmt) (name : List ℕ) (part : ℕ → ℕ → ℕ → ℕ → List Access) (outcome : T → Outcome) (answer : Slots → T) (after : Slots → Slots)
     (old : Engine R) (s s1 : StoreState) (v : Vault R) (room : RoomState) (t : StoreState) (i : ℕ) (table : Table) (flat left : Flat)
@@ -103,10 +103,10 @@ module _ {R T : Type 0} (state : R → RevState) (stmt : Stmt) (name : List ℕ)
   beside : (tables : Tables) → Represents state old s tables → Beside old.public.pack name table tables (world_of state old s)
   beside tables held = held_at old.public.pack name old.public.tables tables i table (world_of state old s) agrees.tables.names held.held here.get here.named
 
-  slots_before : (tables : Tables) (held : Represents state old s tables) → FlatRepresents old.room.pack (flat_of table) (beside tables held).table.held before
+  slots_before : (tables : Tables) (held : Represents state old s tables) → FlatRepresents old.room.pack (flat_of table) (beside tables held).table.held.slots before
   slots_before tables held =
-      represents_rests _ s s1 rests old.room.pack (flat_of table) (beside tables held).table.held
-      (subst (λ (k : ℕ). FlatRepresents k (flat_of table) (beside tables held).table.held (world_of state old s)) (sym agrees.room.pack) (beside tables held).represents)
+      represents_rests _ s s1 rests old.room.pack (flat_of table) (beside tables held).table.held.slots
+      (subst (λ (k : ℕ). FlatRepresents k (flat_of table) (beside tables held).table.held.slots (world_of state old s)) (sym agrees.room.pack) (beside tables held).represents)
 
   honest : (tables : Tables) → ReadsTrue state old s t tables → IsHonest before done
   honest tables reads = record { tells = subst (λ (b : Bool). IsTrue b) (sym rests.tells) reads.tells; nolie = reads.nolie }
@@ -133,36 +133,36 @@ module _ {R T : Type 0} (state : R → RevState) (stmt : Stmt) (name : List ℕ)
       let set = set_moved name g old.public.tables i table agrees.tables.names here.get here.named in
       let ran = ran_done state (skeleton stmt) old s v room t agrees room_is (two r g) (slice_set old.public.tables i moved_table) x (outcome y) lives (alters.answers y) all (script_is Whole)
       (set ∙ ap (λ (n : ℕ). moved name n old.public.tables) (sym agrees.next) ∙ sym alters.tables)
-      (subst (λ (ts : List Table). AreTables ts old.closing old.public.pack done) (sym set)
-      (tables_moved old.public.pack g r name old.public.tables old.closing table i _ _ all.lasts agrees.ready refl agrees.tables here.get here.named refl is_table
-      (λ shape live. absurd (cc (live, mutates.gone))) (λ q z. cases_eq q z))) in
+      (subst (λ (ts : List Table). AreTables ts (others_of old.closing) (indexes_of old.closing) old.public.pack done) (sym set)
+      (tables_moved old.public.pack g r name old.public.tables (others_of old.closing) (indexes_of old.closing) table i _ _ all.lasts agrees.ready refl agrees.tables here.get here.named refl is_table
+      (λ shape live. absurd (cc (live, mutates.gone))) (λ k x is same. no_index old.closing k x is) (λ q z. cases_eq q z))) in
       finished state stmt old s agrees now alters.plain v room t (slice_set old.public.tables i moved_table) (outcome y) (alters.answers y) (alters.silent y) ran
       (keeps_pass state old s s1 rests agrees (engine_after old v room (slice_set old.public.tables i moved_table) Whole old.ended) t done refl (λ good accepts. mutates.seals.seals good (accepts _ _)))
       (λ tables reads.
-      let told = mutates.told (honest tables reads) (beside tables reads.held).table.held (slots_before tables reads.held) in
+      let told = mutates.told (honest tables reads) (beside tables reads.held).table.held.slots (slots_before tables reads.held) in
       let early = early_held old.public (count_of old s) stmt tables (world_of state old s) None reads.held.held now in
       let found = (beside tables reads.held).found in
-      let size : length (beside tables reads.held).table.held ≡ (beside tables reads.held).table.heading.capacity =
+      let size : length (beside tables reads.held).table.held.slots ≡ (beside tables reads.held).table.heading.capacity =
       (beside tables reads.held).represents.size ∙ ap (λ (h : Heading). h.capacity) (sym (beside tables reads.held).heading) in
       let meant = alters.meant tables (beside tables reads.held).table early found size (beside tables reads.held).heading in
-      let slots_now : FlatRepresents old.public.pack (flat_of moved_table) (meant.to (beside tables reads.held).table.held) done =
+      let slots_now : FlatRepresents old.public.pack (flat_of moved_table) (meant.to (beside tables reads.held).table.held.slots) done =
       subst (λ (slots : Slots). FlatRepresents old.public.pack (flat_of moved_table) slots done) (sym meant.here)
-      (subst (λ (k : ℕ). FlatRepresents k (flat_of moved_table) (after (beside tables reads.held).table.held) done) agrees.room.pack
-      (subst (λ (f : Flat). FlatRepresents old.room.pack f (after (beside tables reads.held).table.held) done) mutates.moves told.1)) in
+      (subst (λ (k : ℕ). FlatRepresents k (flat_of moved_table) (after (beside tables reads.held).table.held.slots) done) agrees.room.pack
+      (subst (λ (f : Flat). FlatRepresents old.room.pack f (after (beside tables reads.held).table.held.slots) done) mutates.moves told.1)) in
       let moved_are = held_moved old.public.pack g name meant.to done old.public.tables tables i table (two r g) (world_of state old s) agrees.tables.names reads.held.held all.lasts apart_moved here.get here.named
       (λ z at_z. let same : (beside tables reads.held).table ≡ z = cc (found, at_z) in
-      subst (λ (u : Stored Slots). FlatRepresents old.public.pack (flat_of moved_table) (meant.to u.held) done) same slots_now) in (
+      subst (λ (u : Stored Held). FlatRepresents old.public.pack (flat_of moved_table) (meant.to u.held.slots) done) same slots_now) in (
         ap outcome told.0 ∙ meant.answered,
         subst (λ (ts : Tables). AreHeld old.public.pack (slice_set old.public.tables i moved_table) ts done) (sym meant.settles)
-            (subst (λ (ts : List Table). AreHeld old.public.pack ts (changed_at name meant.to tables) done) (sym set) moved_are),
+            (subst (λ (ts : List Table). AreHeld old.public.pack ts (changed_at name (in_slots meant.to) tables) done) (sym set) moved_are),
       ))
 
   unchanged : (e : OpErr) (n : ℕ) → Mutates old.room.pack (flat_of table) left x answer after (Err e) before done → n ≡ length t.asked - length s.asked
       → ServesSilently state stmt (answer_of e) old s (engine_after old v room old.public.tables (Cut n) (is_stop (answer_of e))) t
   unchanged e n mutates count =
       cut_off state stmt old s agrees now alters.plain s1 v room t rests room_is x _ _ _ n e script_is (alters.makes _ _ _ _) mutates.err count mutates.gone
-      (λ is. mutates.memory.began (ap (λ (z : OpErr). Err z) is)) (silent_pass e mutates.never)
-      (λ tables reads. fault_made e (mutates.told (honest tables reads) (beside tables reads.held).table.held (slots_before tables reads.held)).0)
+      (λ is. mutates.memory.did (ap (λ (z : OpErr). Err z) is)) (silent_pass e mutates.never)
+      (λ tables reads. fault_made e (mutates.told (honest tables reads) (beside tables reads.held).table.held.slots (slots_before tables reads.held)).0)
       (λ good accepts. mutates.seals.seals good (accepts _ _))
 
   -- the table was changed

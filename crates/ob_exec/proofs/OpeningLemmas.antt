@@ -1,4 +1,5 @@
 -- An engine is opened: what is asked, how it may end, and which tables it has.
+use Rattle.ob_exec.proofs.TableLemmas.{no_index}
 use Rattle.std.proofs.Common.{◌≡◌, ◌≢◌, ◌⊎◌, inl, inr, ℕ, zero, suc, ◌+◌, ◌-◌, ◌*◌, ◌<◌, ◌≤◌, false, List, [], ◌∷◌, ◌++◌, length, length-append, map, Option, Some, None, Ok, Err, refl, sym, ◌∙◌, ap, subst, arith, append-nil}
 use Rattle.std.specs.Prelude.{Bool, IsTrue, max, replicate, slice_get}
 use Rattle.std.specs.Option.{option_map}
@@ -43,7 +44,7 @@ use Rattle.ob_reopen.specs.Writings.{StandApart}
 use Rattle.ob_reopen.proofs.TableLemmas.{is_of, table_is, tables_apart}
 use Rattle.ob_exec.specs.declared.engine.Engine.{Engine}
 use Rattle.ob_exec.specs.Agreeing.{Agrees, world_of}
-use Rattle.ob_exec.specs.Engines.{AreSettings, AreTables, IsBeside, IsConfig, IsFree, IsTable}
+use Rattle.ob_exec.specs.Engines.{AreSettings, AreTables, IsBeside, IsConfig, IsFree, IsTable, others_of, indexes_of}
 use Rattle.ob_exec.specs.Reopening.{IsClosed, NotOpened, OpeningCause, OpensEngine, opened_public, opened_start, opening_script}
 use Rattle.ob_exec.specs.Resting.{AcceptsClosings, AreKept, Rests}
 use Rattle.ob_exec.specs.Telling.{AcceptsRows, AreHeld, Represents}
@@ -163,8 +164,10 @@ module _ (closing : Closing) (listed : List Listed) (marked : IsMarked closing) 
   apart : (i j : ℕ) (t u : Listed) → i < j → slice_get listed i ≡ Some t → slice_get listed j ≡ Some u → StandApart closing.pack t u
   apart i j t u below is at = tables_apart closing listed catalogue i j t u below is at
 
-  pub opened_tables : AreTables ts (Some closing.region) closing.pack w
+  pub opened_tables : AreTables ts (others_of (Some closing.region)) (indexes_of (Some closing.region)) closing.pack w
+  unfolding others_of
   opened_tables = record {
+    stand = λ k x is. absurd (no_index (Some closing.region) k x is);
     each = λ i u is. let m = mapped listed i u is in subst (λ (x : Table). IsTable closing.pack x w) m.same (open_table i m.table m.get);
     few =
         let long = length-map listed (λ (t : Listed). t.table) in
@@ -373,7 +376,7 @@ module _ {R : Type 0} (state : R → RevState) (config : Config) (keys : KeySet)
                 let zero_is = makes_opening closing listed in
                 omega (arith, next, region, made, zero_is)
 
-            pub tables_last : AreTables (map (λ (x : Listed). x.table) listed) (Some closing.region) closing.pack last
+            pub tables_last : AreTables (map (λ (x : Listed). x.table) listed) (others_of (Some closing.region)) (indexes_of (Some closing.region)) closing.pack last
             tables_last =
                 opened_tables closing listed marked reads.catalogue mid last reads.lives.live
                 (λ q off. reads.opens.ok.stays.apart.live q off ∙ none q) reopens.opens.ok.stays.apart.live reopens.tables
@@ -503,11 +506,11 @@ module _ {R : Type 0} (state : R → RevState) (config : Config) (keys : KeySet)
       module _ (e : Engine R) (reopens : ReopensTables closing listed (Ok value) (at state v1 s2) (at state e.vault t))
           (public_is : e.public ≡ opened_public config closing listed) (from_is : e.closing ≡ Some closing.region) (alive : e.ended ≡ false)
           (free : IsFree e.public e.room) (high_is : e.room.high ≡ 1) (rows_is : e.room.rows ≡ config.buffer) where
-        tables_are : AreTables e.public.tables e.closing e.public.pack (world_of state e t)
+        tables_are : AreTables e.public.tables (others_of e.closing) (indexes_of e.closing) e.public.pack (world_of state e t)
         tables_are =
-            subst (λ (p : Public). AreTables p.tables e.closing p.pack (world_of state e t)) (sym public_is)
-            (subst (λ (o : Option ℕ). AreTables (map (λ (x : Listed). x.table) listed) o config.pack (world_of state e t)) (sym from_is)
-            (subst (λ (n : ℕ). AreTables (map (λ (x : Listed). x.table) listed) (Some closing.region) n (world_of state e t)) pack_is
+            subst (λ (p : Public). AreTables p.tables (others_of e.closing) (indexes_of e.closing) p.pack (world_of state e t)) (sym public_is)
+            (subst (λ (o : Option ℕ). AreTables (map (λ (x : Listed). x.table) listed) (others_of o) (indexes_of o) config.pack (world_of state e t)) (sym from_is)
+            (subst (λ (n : ℕ). AreTables (map (λ (x : Listed). x.table) listed) (others_of (Some closing.region)) (indexes_of (Some closing.region)) n (world_of state e t)) pack_is
             (tables_last state config keys closing marked s s1 fresh honest room v0 ready started keyed none v1 s2 listed reads e.vault t value reopens)))
 
         agrees : Agrees state e t

@@ -31,7 +31,7 @@ use Rattle.ob_mean.specs.Verdict.{Tables, ended as seen_to}
 use Rattle.ob_exec.specs.declared.engine.Engine.{Engine}
 use Rattle.ob_exec.specs.declared.outcome.Outcome.{Outcome}
 use Rattle.ob_exec.specs.Agreeing.{Agrees, world_of}
-use Rattle.ob_exec.specs.Engines.{IsAt, IsFree, AreTables, flat_of}
+use Rattle.ob_exec.specs.Engines.{IsAt, IsFree, AreTables, flat_of, others_of, indexes_of}
 use Rattle.ob_exec.specs.Opening.{Opens}
 use Rattle.ob_exec.specs.Running.{answer_of, is_stop, Ran}
 use Rattle.ob_exec.specs.Selecting.{UsesRoom}
@@ -85,8 +85,8 @@ module _ {R : Type 0} (state : R → RevState) (old : Engine R) (s s1 : StoreSta
       (stored_found name old.public.tables i table agrees.tables.names here.get here.named)
       ∙ (λ j. count_part table.region (blocks_for (sym agrees.room.pack j) table.heading.capacity))
 
-  tables_read : Lasts none (world_of state old s) now → AreTables old.public.tables old.closing old.public.pack now
-  tables_read lasts = tables_kept none old.public.pack old.public.tables old.closing _ _ lasts (λ j u is off. off) (λ q is off. off) (λ q shape live off. off) agrees.tables
+  tables_read : Lasts none (world_of state old s) now → AreTables old.public.tables (others_of old.closing) (indexes_of old.closing) old.public.pack now
+  tables_read lasts = tables_kept none old.public.pack old.public.tables (others_of old.closing) (indexes_of old.closing) _ _ lasts (λ j u is off. off) (λ q is off. off) (λ q shape live off. off) agrees.tables
 
   pub held_read : (tables : Tables) → AreHeld old.public.pack old.public.tables tables (world_of state old s) → Lasts none (world_of state old s) now → AreHeld old.public.pack old.public.tables tables now
   held_read tables held lasts = held_kept none old.public.pack old.public.tables tables _ _ lasts (λ j u is off. off) held

@@ -1,5 +1,5 @@
 -- A result by each of the plans.
-use Rattle.std.proofs.Common.{◌≡◌, ◌⊎◌, inl, inr, ◌≤◌, ◌*◌, ◌+◌, ℕ, IsTrue, List, [], ◌∷◌, ◌++◌, Option, None, Some, Result, Ok, Err, length, refl, sym, ap, subst, arith}
+use Rattle.std.proofs.Common.{◌≡◌, ◌⊎◌, inl, inr, ◌≤◌, ◌*◌, ◌+◌, ℕ, IsTrue, List, [], ◌∷◌, Option, None, Some, Result, Ok, Err, length, refl, ap, subst, arith}
 use Rattle.ob_base.specs.declared.access.Access.{Access}
 use Rattle.ob_base.specs.declared.config.Plan.{Plan}
 use Rattle.ob_base.specs.Plans.{MayPad}
@@ -10,7 +10,7 @@ use Rattle.ob_base.specs.Numbers.{blocks_for}
 use Rattle.ob_base.specs.Schemas.{width}
 use Rattle.ob_room.specs.RoomState.{RoomState}
 use Rattle.ob_row.specs.Truth.{is_true}
-use Rattle.ob_store.specs.Runs.{Began}
+use Rattle.ob_store.specs.Runs.{Did}
 use Rattle.ob_vault.specs.State.{World}
 use Rattle.ob_vault.specs.Calls.{Went, one}
 use Rattle.ob_flat.specs.declared.fault.OpErr.{OpErr}
@@ -39,16 +39,9 @@ use Rattle.ob_hash.specs.Hashing as HL
 use Rattle.ob_script.proofs.Numbers.{length-small_part, length-large_part, length-continuous_part, length-hash_part}
 use Rattle.ob_flat.specs.Words.{blocks_of}
 
--- want of memory at a make, or before
-lacks_from : (m : Access) (more done rest : List Access) (old new : World) → IsTrue (is_make m) → done ++ rest ≡ m ∷ [] → new.store.asked ≡ old.store.asked ++ done → LacksMemoryOf (m ∷ more) old new ⊥
-lacks_from m more [] rest old new make split asked = record { done = []; rest = m ∷ more; split = refl; asked = asked; place = inr (inl make) }
-lacks_from m more (x ∷ []) rest old new make split asked =
-    let same : x ≡ m = cc in
-    record { done = x ∷ []; rest = more; split = ap (λ (y : Access). y ∷ more) same; asked = asked; place = inl (subst (λ (y : Access). IsTrue (is_make y)) (sym same) make) }
-lacks_from m more (x ∷ y ∷ done) rest old new make split asked = absurd (cc split)
-
-lacks_make : (m : Access) (more : List Access) (old new : World) → IsTrue (is_make m) → Began (m ∷ []) old.store new.store → LacksMemoryOf (m ∷ more) old new ⊥
-lacks_make m more old new make began = lacks_from m more began.done began.rest old new make began.split began.asked
+-- want of memory at a make
+lacks_make : (m : Access) (more : List Access) (old new : World) → IsTrue (is_make m) → Did (m ∷ []) old.store new.store → LacksMemoryOf (m ∷ more) old new ⊥ ⊥
+lacks_make m more old new make did = record { done = m ∷ []; rest = more; split = refl; asked = did.asked; place = inl make }
 
 -- a plan that may be taken for a padded result, and isn't Large
 pub small_alone : (plan : Plan) → MayPad (Some plan) → (plan ≡ Small) ⊎ (plan ≡ Continuous) ⊎ (plan ≡ Hash) → plan ≡ Small
@@ -75,7 +68,7 @@ module _ (r : Planned) (old new : World) where
     told = λ s. let is = told s in (is.0, subst (λ (f : Flat). Represents r.selection.public.pack f (stored_slots r s.slots) new) value is.1);
   }
 
-  made_err : (e : OpErr) → PassCut e (make_part r old.vault.next) (one old.vault.next) old new → (e ≡ Sink → ⊥) → (e ≡ NoMemory → LacksMemoryOf (make_part r old.vault.next) old new ⊥)
+  made_err : (e : OpErr) → PassCut e (make_part r old.vault.next) (one old.vault.next) old new → (e ≡ Sink → ⊥) → (e ≡ NoMemory → LacksMemoryOf (make_part r old.vault.next) old new ⊥ ⊥)
       → new.vault.revs.live old.vault.next ≡ None → SealsTable r.selection.public.pack r.selection.flat.schema old.vault.next old new
       → ((s : PlannedToEnd r old new) → (e ≡ Failed) ⊎ (e ≡ NoMemory))
       → MakesResult r (Err e) old new
@@ -103,7 +96,7 @@ module _ (q : Selection) (k : ℕ) (room : RoomState) (free : IsFree q.public ro
     small_by (Ok fresh) is told = made_done of_small old new fresh is.ran.ok is.makes.value (written_flat _ _ _ is.makes.flat) is.makes.seals (λ s. (refl, told s))
     small_by (Err e) is told = made_err of_small old new e is.ran.err
         (λ sink. elim is.never [ inl f ↦ cc (f, sink) | inr more ↦ elim more [ inl n ↦ cc (n, sink) | inr t ↦ cc (t.is, sink) ] ])
-        (λ none. lacks_make _ _ old new refl (is.memory.began (ap Err none)))
+        (λ none. lacks_make _ _ old new refl (is.memory.did (ap Err none)))
         is.makes.gone is.makes.seals (λ s. is.told s.honest s.slots s.is)
 
   small_of : (result : Result Flat OpErr) → S.Selects (S.select_of q.public.pack (buffered_blocks q.public.pack q.public.buffer) q.flat q.condition k) result old new
@@ -138,7 +131,7 @@ module _ (q : Selection) (k : ℕ) (room : RoomState) (free : IsFree q.public ro
     large_by (Ok fresh) is told = made_done of_large old new fresh is.ran.ok is.makes.value (written_flat _ _ _ is.makes.flat) is.makes.seals (λ s. (refl, told s))
     large_by (Err e) is told = made_err of_large old new e is.ran.err
         (λ sink. elim is.never [ inl f ↦ cc (f, sink) | inr more ↦ elim more [ inl n ↦ cc (n, sink) | inr t ↦ elim t [ inl t ↦ cc (t.is, sink) | inr t ↦ cc (t.is, sink) ] ] ])
-        (λ none. lacks_make _ _ old new refl (is.memory.began (ap Err none)))
+        (λ none. lacks_make _ _ old new refl (is.memory.did (ap Err none)))
         is.makes.gone is.makes.seals (λ s. is.told s.honest s.slots s.is)
 
   large_of : (result : Result Flat OpErr) → L.Selects q.public.pack q.flat (is_true q.condition) result old new → MakesResult (planned q Large k) (placed_as result) old new
@@ -160,16 +153,16 @@ module _ (q : Selection) (k : ℕ) (room : RoomState) (free : IsFree q.public ro
       (λ s. (refl, is.exact s.honest s.slots s.suits.count (s.suits.consecutive refl) s.is))
   cont_of (Err e) is = made_err (planned q Continuous k) old new e is.ran.err
       (λ sink. elim is.never [ inl f ↦ cc (f, sink) | inr more ↦ elim more [ inl n ↦ cc (n, sink) | inr t ↦ elim t [ inl t ↦ cc (t.is, sink) | inr t ↦ cc (t.is, sink) ] ] ])
-      (λ none. lacks_make _ _ old new refl (is.memory.began (ap Err none)))
+      (λ none. lacks_make _ _ old new refl (is.memory.did (ap Err none)))
       is.gone is.seals (λ s. is.told s.honest s.slots s.is)
 
   pub made_cont : (result : Result Flat OpErr) → C.Selects room.pack q.flat (is_true q.condition) k result old new → MakesResult (planned q Continuous k) (placed_as result) old new
   made_cont result is = cont_of result (subst (λ (p : ℕ). C.Selects p q.flat (is_true q.condition) k result old new) free.pack is)
 
   module _ (some : 1 ≤ q.public.pack) where
-    hash_began : Began (make_at old.vault.next (blocks_for q.public.pack ((k * q.public.depth) * q.public.pack)) (q.public.pack * width q.flat.schema)) old.store new.store
-        → LacksMemoryOf (make_part (planned q Hash k) old.vault.next) old new ⊥
-    hash_began began = lacks_make _ _ old new refl (subst (λ (n : ℕ). Began (make_at old.vault.next n (q.public.pack * width q.flat.schema)) old.store new.store) (blocks_whole q.public.pack (k * q.public.depth) some) began)
+    hash_did : Did (make_at old.vault.next (blocks_for q.public.pack ((k * q.public.depth) * q.public.pack)) (q.public.pack * width q.flat.schema)) old.store new.store
+        → LacksMemoryOf (make_part (planned q Hash k) old.vault.next) old new ⊥ ⊥
+    hash_did did = lacks_make _ _ old new refl (subst (λ (n : ℕ). Did (make_at old.vault.next n (q.public.pack * width q.flat.schema)) old.store new.store) (blocks_whole q.public.pack (k * q.public.depth) some) did)
 
     hash_of : (result : Result Placed OpErr) → H.Selects (layout_at q.public.pack q.flat k q.public.depth old.vault.next) q.flat (is_true q.condition) result old new → MakesResult (planned q Hash k) result old new
     hash_of (Ok placed) is = record {
@@ -186,7 +179,7 @@ module _ (q : Selection) (k : ℕ) (room : RoomState) (free : IsFree q.public ro
     }
     hash_of (Err e) is = made_err (planned q Hash k) old new e is.ran.err
         (λ sink. elim is.never [ inl f ↦ cc (f, sink) | inr more ↦ elim more [ inl n ↦ cc (n, sink) | inr t ↦ elim t [ inl t ↦ cc (t.is, sink) | inr t ↦ cc (t.is, sink) ] ] ])
-        (λ none. hash_began (is.memory.began (ap Err none)))
+        (λ none. hash_did (is.memory.did (ap Err none)))
         is.makes.gone is.makes.seals (λ s. is.told s.honest s.slots s.is)
 
     pub made_hash : (result : Result Placed OpErr) → H.Selects (layout_at room.pack q.flat k q.public.depth old.vault.next) q.flat (is_true q.condition) result old new → MakesResult (planned q Hash k) result old new

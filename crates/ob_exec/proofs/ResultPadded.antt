@@ -18,7 +18,7 @@ use Rattle.ob_flat.specs.Flats.{IsWritten}
 use Rattle.ob_hash.specs.declared.selecting.Placed.{Placed}
 use Rattle.ob_mean.specs.Verdict.{padded_refusal}
 use Rattle.ob_exec.specs.Selecting.{Selection}
-use Rattle.ob_exec.specs.Results.{Planned, MakesResult, planned, padded, padded_to, whole_part}
+use Rattle.ob_exec.specs.Results.{Planned, MakesResult, padded, padded_to}
 
 -- the plan of a padded result may be taken
 may_if : (b : Bool) → MayPad (Some (if b then Small else Large))
@@ -76,6 +76,3 @@ idle_at old new f h room same few idle =
 pub made_at : (q : Selection) (plan : Plan) (rows pad k : ℕ) (result : Result Placed OpErr) (old new : World) → padded q plan rows pad k ≡ padded_to q pad k
     → MakesResult (padded q plan rows pad k) result old new → MakesResult (padded_to q pad k) result old new
 made_at q plan rows pad k result old new same is = subst (λ (r : Planned). MakesResult r result old new) same is
-
-pub long_at : (q : Selection) (plan : Plan) (rows pad k g n : ℕ) → padded q plan rows pad k ≡ padded_to q pad k → length (whole_part (planned q plan rows) g) ≡ n → length (whole_part (padded_to q pad k) g) ≡ n
-long_at q plan rows pad k g n same is = sym (ap (λ (r : Planned). length (whole_part r g)) same) ∙ is

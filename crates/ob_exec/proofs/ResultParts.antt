@@ -112,6 +112,24 @@ module _ (q : Selection) (k g : ℕ) (settings : AreSettings q.public) where
   pub length_hash : length (whole_part (planned q Hash k) g) ≡ ((source + 4 * q.public.depth * q.flat.capacity) + 2 * (k * q.public.depth)) + 2
   length_hash = omega (arith, both-plan (planned q Hash k) Hash g, length-hash_part q.flat.region g q.public.pack q.flat.capacity k q.public.depth (q.public.pack * width q.flat.schema) settings.pack_least)
 
+-- and by settings and a size that are the same
+module _ (q : Selection) (p : Public) (n k g : ℕ) (same : q.public ≡ p) (size : q.flat.capacity ≡ n) (settings : AreSettings p) where
+  by_settings : AreSettings q.public
+  by_settings = subst AreSettings (sym same) settings
+
+  pub small_as : length (whole_part (planned q Small k) g) ≡ (div_ceil (blocks_for p.pack k) (buffered_blocks p.pack p.buffer) * blocks_for p.pack n + 2 * blocks_for p.pack k) + 2
+  small_as = length_small q k g by_settings
+      ∙ (λ i. (div_ceil (blocks_for (same i).pack k) (buffered_blocks (same i).pack (same i).buffer) * blocks_for (same i).pack (size i) + 2 * blocks_for (same i).pack k) + 2)
+
+  pub large_as : length (whole_part (planned q Large k) g) ≡ 5 * blocks_for p.pack n + 2
+  large_as = length_large q k g by_settings ∙ (λ i. 5 * blocks_for (same i).pack (size i) + 2)
+
+  pub cont_as : length (whole_part (planned q Continuous k) g) ≡ ((blocks_for p.pack n + 2 * n) + 2 * blocks_for p.pack k) + 2
+  cont_as = length_cont q k g by_settings ∙ (λ i. ((blocks_for (same i).pack (size i) + 2 * size i) + 2 * blocks_for (same i).pack k) + 2)
+
+  pub hash_as : length (whole_part (planned q Hash k) g) ≡ ((blocks_for p.pack n + 4 * p.depth * n) + 2 * (k * p.depth)) + 2
+  hash_as = length_hash q k g by_settings ∙ (λ i. ((blocks_for (same i).pack (size i) + 4 * (same i).depth * size i) + 2 * (k * (same i).depth)) + 2)
+
 -- a Small result of few rows takes few accesses
 pub few_small : (passes source results n k : ℕ) → passes ≤ results → source ≤ n → results ≤ k → n ≤ 16777216 → k ≤ 16777216 → (passes * source + 2 * results) + 2 ≤ 576460752303423488
 few_small passes source results n k p s r m l =

@@ -115,12 +115,12 @@ if_ok_map (Err e) f h = tt
 pub err_is : {A : Type 0} {e f : OpErr} → ◌≡◌ {A = Result A OpErr} (Err e) (Err f) → e ≡ f
 err_is same = cc
 
-place_more : {Halts : Type 0} (done rest more : List Access) → IsTrue (ends_with_make done) ⊎ IsTrue (starts_with_make rest) ⊎ (IsTrue (list_all is_reading rest) × ⊥)
-    → IsTrue (ends_with_make done) ⊎ IsTrue (starts_with_make (rest ++ more)) ⊎ (IsTrue (list_all is_reading (rest ++ more)) × Halts)
+place_more : {Rooms Halts : Type 0} (done rest more : List Access) → IsTrue (ends_with_make done) ⊎ (⊥ × IsTrue (starts_with_make rest)) ⊎ (IsTrue (list_all is_reading rest) × ⊥)
+    → IsTrue (ends_with_make done) ⊎ (Rooms × IsTrue (starts_with_make (rest ++ more))) ⊎ (IsTrue (list_all is_reading (rest ++ more)) × Halts)
 place_more done rest more place = elim place [
   | inl ends ↦ inl ends
   | inr other ↦ elim other [
-    | inl starts ↦ inr (inl (starts-more rest more starts))
+    | inl room ↦ absurd room.0
     | inr all ↦ absurd all.1
   ]
 ]
@@ -148,8 +148,8 @@ module _ {E : Type 0} (grew cut : E → E → List Event → Type 0) (faults : E
 
   module _ (v : VaultState) (s t : StoreState) (rests : Rests s t) where
     -- no room for its accesses
-    pub by_none : (out : E) → Ready (record { vault = v; store = s }) → 1 ≤ pack → SelectsBy grew cut faults r (Err NoMemory) (record { vault = v; store = s }) (record { vault = v; store = t }) out out
-    by_none out ready some =
+    pub by_none : (out : E) → r.pad ≡ None → Ready (record { vault = v; store = s }) → 1 ≤ pack → SelectsBy grew cut faults r (Err NoMemory) (record { vault = v; store = s }) (record { vault = v; store = t }) out out
+    by_none out unpadded ready some =
         let went = went_rests v s t rests (one v.next) ready in
         record {
           ran = record {
@@ -161,7 +161,7 @@ module _ {E : Type 0} (grew cut : E → E → List Event → Type 0) (faults : E
           spare = tt;
           seals = λ good fine. seals_rests v s t rests good;
           may = tt;
-          memory = λ is. record { done = []; rest = whole_part r v.next; split = refl; asked = went.did.asked; place = inr (inl (starts-more (make_part r v.next) _ (starts-make r v.next))) };
+          memory = λ is. record { done = []; rest = whole_part r v.next; split = refl; asked = went.did.asked; place = inr (inl (unpadded, starts-more (make_part r v.next) _ (starts-make r v.next))) };
           emitted = tt;
           halted = until_none grew cut (head_of r.selection) NoMemory _ out (λ is. cc is);
           sink = refl;

@@ -70,11 +70,8 @@ reads_too (a ∷ rest) more last all = by_first (is_reading a) all (λ later. re
     by_first true all later = later all
     by_first false all later = absurd (cc all)
 
-place_behind : (x done rest more : List Access) → (done ≡ [] → ⊥) → AtMake done rest → AtMake (x ++ done) (rest ++ more)
-place_behind x done rest more some place = elim place [
-  | inl none ↦ absurd (some none)
-  | inr made ↦ elim made [ inl ends ↦ inr (inl (ends_behind x done ends)) | inr starts ↦ inr (inr (starts_before rest more starts)) ]
-]
+place_behind : (x done : List Access) → (done ≡ [] → ⊥) → AtMake done → AtMake (x ++ done)
+place_behind x done some place = elim place [ inl none ↦ absurd (some none) | inr ends ↦ inr (ends_behind x done ends) ]
 
 -- ---- what is held so many accesses later
 shifted : (failed : Bool) (x c n : ℕ) → 1 ≤ c → nat_le (x + c) (done_of failed (x + n)) ≡ nat_le c (done_of failed n)
@@ -234,8 +231,11 @@ module _ (p : Public) (select : SelectRows) (g : ℕ) (x : List Access) (a b : W
               ∙ sym (script_is now);
           asked = ap (λ (t : StoreState). t.asked) same ∙ lacks.asked ∙ ap (λ (y : List Access). y ++ lacks.done) made.did.asked ∙ append_assoc a.store.asked x lacks.done;
           place = elim lacks.place [
-            | inl make ↦ inl (place_behind x lacks.done lacks.rest last lacks.some make)
-            | inr emits ↦ inr (emits.0, reads_too lacks.rest last (reading_for p.pad now.k g) emits.1, emits.2)
+            | inl make ↦ inl (place_behind x lacks.done lacks.some make)
+            | inr other ↦ inr (elim other [
+              | inl room ↦ inl (room.0, room.1, starts_before lacks.rest last room.2)
+              | inr emits ↦ inr (emits.0, reads_too lacks.rest last (reading_for p.pad now.k g) emits.1, emits.2)
+            ])
           ];
         }
 

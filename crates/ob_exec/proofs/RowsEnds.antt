@@ -140,10 +140,11 @@ module _ {R : Type 0} (state : R → RevState) (old : Engine R) (s : StoreState)
     early = early_none old.public (count_of old s) select (Ok (selected_outcome answer)) now free (ended_late (selection old.public select) answer now is.ended);
     lawful = lawful_ended old.public select (count_of old s) free answer now is.holds is.ended;
     memory = λ wanted. absurd (cc wanted);
-    seals = is.seals;
+    seals = λ good accepts single. is.seals good accepts;
     answered = answered_by answer is few closes;
     stopped = tt;
     sink = sink;
+    emits = λ is. tt;
     means = record {
       told = told_by answer is;
       honest = λ tables reads. tt;

@@ -24,6 +24,8 @@ use Rattle.ob_script.specs.Script.{after_count, behind_count, blocks_of, extent_
 use Rattle.ob_script.proofs.Lengths.{length-count_part}
 use Rattle.ob_store.specs.State.{StoreState}
 use Rattle.ob_vault.specs.State.{RevState}
+use Rattle.ob_flat.proofs.Tables.{blocks_few}
+use Rattle.ob_join.proofs.Lengths.{product_least}
 use Rattle.ob_join.specs.Join.{MayJoin, fill_length, join_in, join_script as pass_script}
 use Rattle.ob_mean.specs.Lawful.{counted_slots}
 use Rattle.ob_mean.specs.Names.{source_columns}
@@ -76,8 +78,8 @@ select_split p now g t ending = by_pad p.pad
     by_pad None = by_count now.k
     by_pad (Some pad) = behind_padded (count_part t.held (blocks_of p (extent_of t))) (padded_part p pad g (extent_of t)) ending
 
-enough_left : (lefts pairs n spare : ℕ) → n ≡ lefts + 3 * pairs + 2 → n ≤ spare → 1 + (lefts + 2 * pairs) ≤ spare
-enough_left lefts pairs n spare is within = omega arith
+enough_left : (lefts pairs n padded spare : ℕ) → n ≡ lefts + 3 * pairs + 2 → n + padded ≤ spare → 1 + (lefts + 2 * pairs) ≤ spare
+enough_left lefts pairs n padded spare is within = omega arith
 
 least_times : (a b c : ℕ) → 1 ≤ a → 1 ≤ b → 1 ≤ c → 1 ≤ a * b * c
 least_times a b c first second third = grind arith
@@ -214,6 +216,21 @@ module _ {R : Type 0} (state : R → RevState) (old : Engine R) (s : StoreState)
         subst (λ (n : ℕ). IsSized (t.heading.schema ++ u.heading.schema) n) (λ k. joined_slots (sym agrees.room.pack k) (sym agrees.room.rows k) t.heading.capacity u.heading.capacity)
         (record { some = omega (arith, first, both); few = omega (arith, one, two, both); wide = join_fits.wide; least = least_times _ _ _ chunks rights some; most = join_fits.slots })
 
+    -- the slots that are joined, and the accesses until they are counted
+    pub slots_few : (left right : Flat) → left ≡ flat_of t → right ≡ flat_of u → joined_slots old.public.pack old.public.buffer left.capacity right.capacity ≤ 16777216
+    slots_few left right left_is right_is =
+        subst (λ (n : ℕ). n ≤ 16777216) (λ k. joined_slots old.public.pack old.public.buffer (sym left_is k).capacity (sym right_is k).capacity) join_fits.slots
+
+    pub asks_few : (left right : Flat) (n : ℕ) → left ≡ flat_of t → right ≡ flat_of u
+        → n ≡ blocks_for old.public.pack left.capacity + 3 * joined_blocks old.public.pack old.public.buffer left.capacity right.capacity + 2 → n ≤ 134217728
+    asks_few left right n left_is right_is is =
+        let some = agrees.settings.pack_least in
+        let pairs = product_least (joined_blocks old.public.pack old.public.buffer left.capacity right.capacity) old.public.pack some in
+        let slots = slots_few left right left_is right_is in
+        let lefts = blocks_few old.public.pack left.capacity some in
+        let most = (agrees.tables.each i t get_a).heading.stored.most in
+        omega (arith, is, pairs, slots, lefts, most, ap (λ (f : Flat). f.capacity) left_is)
+
     pub join_may : (s1 : StoreState) (left right : Flat) (lcol rcol : ℕ) → Rests s s1 → left ≡ flat_of t → right ≡ flat_of u
         → lcol ≡ left_place (length t.heading.schema) (t.heading.schema ++ u.heading.schema) on equals → rcol ≡ right_place (length t.heading.schema) (t.heading.schema ++ u.heading.schema) on equals
         → MayJoin (join_in old.room left lcol right rcol) (at state old.vault s1)
@@ -230,10 +247,10 @@ module _ {R : Type 0} (state : R → RevState) (old : Engine R) (s : StoreState)
           rcol = subst (λ (n : ℕ). n < length u.heading.schema) (sym rcol_is) join_fits.right_column;
         }))
 
-    pub join_starts : (s1 : StoreState) (left right : Flat) (lcol rcol n : ℕ) → Rests s s1
-        → n ≡ blocks_for old.public.pack left.capacity + 3 * joined_blocks old.public.pack old.public.buffer left.capacity right.capacity + 2 → n ≤ s1.spare
+    pub join_starts : (s1 : StoreState) (left right : Flat) (lcol rcol n padded : ℕ) → Rests s s1
+        → n ≡ blocks_for old.public.pack left.capacity + 3 * joined_blocks old.public.pack old.public.buffer left.capacity right.capacity + 2 → n + padded ≤ s1.spare
         → MayStart (1 + fill_length (join_in old.room left lcol right rcol)) (at state old.vault s1)
-    join_starts s1 left right lcol rcol n rests is spare =
+    join_starts s1 left right lcol rcol n padded rests is spare =
         let same = ap length rests.asked in
         let early = not_late (count_of old s) (allowed (is_late (count_of old s)) old.public.pack old.public.buffer (headings_of old.public.tables) (RowsStmt select) free).early in
         let lefts : blocks_for old.room.pack left.capacity ≡ blocks_for old.public.pack left.capacity = ap (λ (k : ℕ). blocks_for k left.capacity) agrees.room.pack in
@@ -241,7 +258,7 @@ module _ {R : Type 0} (state : R → RevState) (old : Engine R) (s : StoreState)
         λ k. joined_blocks (agrees.room.pack k) (agrees.room.rows k) left.capacity right.capacity in
         record {
           ready = ready_rests _ s s1 rests agrees.ready;
-          spare = enough_left (blocks_for old.room.pack left.capacity) (joined_blocks old.room.pack old.room.rows left.capacity right.capacity) n s1.spare
+          spare = enough_left (blocks_for old.room.pack left.capacity) (joined_blocks old.room.pack old.room.rows left.capacity right.capacity) n padded s1.spare
               (is ∙ (λ k. sym lefts k + 3 * sym pairs k + 2)) spare;
           few = omega (arith, same, early);
         }

@@ -38,7 +38,7 @@ use Rattle.ob_join.specs.Join.{Joins, TellsSlots, join_in, join_script as pass_s
 use Rattle.ob_mean.specs.Names.{where_at}
 use Rattle.ob_mean.specs.Refusals.{left_place, right_place}
 use Rattle.ob_mean.specs.Step.{printed_places}
-use Rattle.ob_mean.specs.Verdict.{Tables, source_slots}
+use Rattle.ob_mean.specs.Verdict.{Held, Tables, source_slots}
 use Rattle.ob_sql.specs.declared.stmt.SelectRows.{SelectRows}
 use Rattle.ob_exec.specs.declared.engine.Engine.{Engine}
 use Rattle.ob_exec.specs.declared.selecting.Selected.{Selected}
@@ -103,7 +103,7 @@ module _ {R : Type 0} (state : R → RevState) (old : Engine R) (s : StoreState)
 
   -- ---- its slots
   source_is : (tables : Tables) → AreHeld old.public.pack old.public.tables tables before → (x y : Slots)
-      → option_map_or (λ (z : Stored Slots). z.held) (stored_at a tables) [] ≡ x → option_map_or (λ (z : Stored Slots). z.held) (stored_at b tables) [] ≡ y
+      → option_map_or (λ (z : Stored Held). z.held.slots) (stored_at a tables) [] ≡ x → option_map_or (λ (z : Stored Held). z.held.slots) (stored_at b tables) [] ≡ y
       → joined lcol rcol old.room.pack old.room.rows x y ≡ slots_of old.public select tables
   source_is tables held x y left_held right_held =
       let same = held_headings old.public.pack old.public.tables tables before held in
@@ -120,17 +120,17 @@ module _ {R : Type 0} (state : R → RevState) (old : Engine R) (s : StoreState)
   slots_are tables held tells nolie =
       let one = held_at old.public.pack a old.public.tables tables i t before agrees.tables.names held get_a named_a in
       let two = held_at old.public.pack b old.public.tables tables j u before agrees.tables.names held get_b named_b in
-      let first : Represents old.room.pack left one.table.held ready =
-      subst (λ (n : ℕ). Represents n left one.table.held ready) (sym agrees.room.pack)
-      (subst (λ (f : Flat). Represents old.public.pack f one.table.held ready) (sym left_is) (represents_rests _ s s1 rests old.public.pack (flat_of t) one.table.held one.represents)) in
-      let second : Represents old.room.pack right two.table.held ready =
-      subst (λ (n : ℕ). Represents n right two.table.held ready) (sym agrees.room.pack)
-      (subst (λ (f : Flat). Represents old.public.pack f two.table.held ready) (sym right_is) (represents_rests _ s s1 rests old.public.pack (flat_of u) two.table.held two.represents)) in
-      let is = told.told (record { tells = subst (λ (x : Bool). IsTrue x) (sym rests.tells) tells; nolie = nolie }) one.table.held two.table.held first second in
+      let first : Represents old.room.pack left one.table.held.slots ready =
+      subst (λ (n : ℕ). Represents n left one.table.held.slots ready) (sym agrees.room.pack)
+      (subst (λ (f : Flat). Represents old.public.pack f one.table.held.slots ready) (sym left_is) (represents_rests _ s s1 rests old.public.pack (flat_of t) one.table.held.slots one.represents)) in
+      let second : Represents old.room.pack right two.table.held.slots ready =
+      subst (λ (n : ℕ). Represents n right two.table.held.slots ready) (sym agrees.room.pack)
+      (subst (λ (f : Flat). Represents old.public.pack f two.table.held.slots ready) (sym right_is) (represents_rests _ s s1 rests old.public.pack (flat_of u) two.table.held.slots two.represents)) in
+      let is = told.told (record { tells = subst (λ (x : Bool). IsTrue x) (sym rests.tells) tells; nolie = nolie }) one.table.held.slots two.table.held.slots first second in
       subst (λ (slots : Slots). Represents old.public.pack (stated old.public select g 1).flat slots after)
-      (source_is tables held one.table.held two.table.held (ap (λ (o : Option (Stored Slots)). option_map_or (λ (z : Stored Slots). z.held) o []) one.found) (ap (λ (o : Option (Stored Slots)). option_map_or (λ (z : Stored Slots). z.held) o []) two.found))
-      (subst (λ (f : Flat). Represents old.public.pack f (joined lcol rcol old.room.pack old.room.rows one.table.held two.table.held) after) flat_is
-      (subst (λ (n : ℕ). Represents n flat (joined lcol rcol old.room.pack old.room.rows one.table.held two.table.held) after) agrees.room.pack is))
+      (source_is tables held one.table.held.slots two.table.held.slots (ap (λ (o : Option (Stored Held)). option_map_or (λ (z : Stored Held). z.held.slots) o []) one.found) (ap (λ (o : Option (Stored Held)). option_map_or (λ (z : Stored Held). z.held.slots) o []) two.found))
+      (subst (λ (f : Flat). Represents old.public.pack f (joined lcol rcol old.room.pack old.room.rows one.table.held.slots two.table.held.slots) after) flat_is
+      (subst (λ (n : ℕ). Represents n flat (joined lcol rcol old.room.pack old.room.rows one.table.held.slots two.table.held.slots) after) agrees.room.pack is))
 
   -- ---- the accesses that made it
   abbrev x : List Access

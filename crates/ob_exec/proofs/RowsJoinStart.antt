@@ -25,7 +25,7 @@ use Rattle.ob_script.specs.Parts.{join_part}
 use Rattle.ob_script.proofs.Lengths.{length-pairs}
 use Rattle.ob_store.specs.State.{StoreState}
 use Rattle.ob_store.specs.Calls.{Rests}
-use Rattle.ob_store.specs.Runs.{Began}
+use Rattle.ob_store.specs.Runs.{Did}
 use Rattle.ob_store.proofs.Steps.{later_rests}
 use Rattle.ob_vault.specs.State.{RevState, World, earlier}
 use Rattle.ob_vault.specs.Calls.{one}
@@ -58,7 +58,7 @@ use Rattle.ob_exec.specs.declared.selecting.Selected.{Selected}
 use Rattle.ob_exec.specs.Agreeing.{Agrees, world_of, count_of}
 use Rattle.ob_exec.specs.Engines.{flat_of}
 use Rattle.ob_exec.specs.Running.{refusal_now}
-use Rattle.ob_exec.specs.Selecting.{MaySelect, SealsRows, Selection, counted_after, from, selection_script}
+use Rattle.ob_exec.specs.Selecting.{MaySelect, SealsRows, Selection, counted_after, from, padded_after, selection_script}
 use Rattle.ob_exec.specs.Sources.{LeavesNone, SelectsRows, SourceToEnd, stated}
 use Rattle.ob_exec.proofs.HeldLemmas.{held_at}
 use Rattle.ob_exec.proofs.RowsBehind.{ending_for}
@@ -68,8 +68,8 @@ use Rattle.ob_exec.proofs.RowsPairs.{pairs_halt}
 use Rattle.ob_exec.proofs.RowsTable.{listed_few, not_late, some_buffered, stated_is}
 
 -- what is left of the room of a join once it was made
-still_spare : (lefts pairs n spare now x : ℕ) → n ≡ lefts + 3 * pairs + 2 → n ≤ spare → spare ≤ now + x → x ≡ 1 + (2 * pairs + lefts) → pairs + 1 ≤ now
-still_spare lefts pairs n spare now x is within left long = omega arith
+still_spare : (lefts pairs padded n spare now x : ℕ) → n ≡ lefts + 3 * pairs + 2 → n + padded ≤ spare → spare ≤ now + x → x ≡ 1 + (2 * pairs + lefts) → pairs + padded + 1 ≤ now
+still_spare lefts pairs padded n spare now x is within left long = omega arith
 
 twice_each : (chunks rights : ℕ) → chunks * (2 * rights) ≡ 2 * (chunks * rights)
 twice_each chunks rights = grind arith
@@ -155,13 +155,16 @@ module _ {R : Type 0} (state : R → RevState) (old : Engine R) (s s1 : StoreSta
       let fit = places_fit (is_late (count_of old s)) old.public.pack old.public.buffer (headings_of old.public.tables) select free in
       record { few = listed_few select.list q.flat.schema fit.few join_size.few; within = fit.printed }
 
-  pub join_selects : (room : RoomState) (high : ℕ) (joined : Flat) (n : ℕ) → room ≡ record old.room { high = high } → Joins pass (Ok joined) ready after → n ≡ lefts + 3 * pairs + 2 → n ≤ s1.spare → MaySelect q room after
-  join_selects room high joined n room_is joins is spare =
+  pub join_selects : (room : RoomState) (high : ℕ) (joined : Flat) (n padded : ℕ) → room ≡ record old.room { high = high } → Joins pass (Ok joined) ready after → n ≡ lefts + 3 * pairs + 2
+      → ((x : Selection) → x.public ≡ old.public → x.flat.capacity ≡ joined_slots old.public.pack old.public.buffer t.heading.capacity u.heading.capacity → padded_after x.public.pad x ≡ padded)
+      → n + padded ≤ s1.spare → MaySelect q room after
+  join_selects room high joined n padded room_is joins is of_size spare =
+      let padded_is = of_size q refl (sym capacity_is) in
       let idle = agrees.room.idle in
       let went = joins.ran.ok in
       let long = script_long in
       let counted : counted_after q ≡ pairs = ap (blocks_for old.public.pack) (sym capacity_is) ∙ whole_product pairs old.public.pack agrees.settings.pack_least in
-      let enough = still_spare lefts pairs n s1.spare s2.spare (length script) is spare went.spare long in
+      let enough = still_spare lefts pairs padded n s1.spare s2.spare (length script) is spare went.spare long in
       let asked = ap length went.did.asked in
       let begun = ap earlier went.lasts.start in
       let sum = length-append s1.asked script in
@@ -180,7 +183,7 @@ module _ {R : Type 0} (state : R → RevState) (old : Engine R) (s s1 : StoreSta
           pack = ap (λ (r : RoomState). r.pack) room_is ∙ agrees.room.pack;
         };
         ready = went.lasts.ready;
-        spare = omega (arith, counted, enough);
+        spare = omega (arith, counted, padded_is, enough);
         short = omega arith;
         few = omega (arith, asked, sum, same, begun, early, long, most, within, few, small);
         flat = subst (λ (k : ℕ). IsFlat k q.flat after) agrees.room.pack (subst (λ (f : Flat). IsFlat old.room.pack f after) (joins.makes.value ∙ table_is) joins.makes.flat);
@@ -216,10 +219,11 @@ module _ {R : Type 0} (state : R → RevState) (old : Engine R) (s s1 : StoreSta
       ]
     ]
 
-    lacked : e ≡ OpErrs.NoMemory → Began (Make old.vault.next (Rattle.ob_join.specs.Join.blocks pass) (old.room.pack * width (columns pass) + 32) ∷ []) before.store after.store
+    lacked : e ≡ OpErrs.NoMemory → Did (Make old.vault.next (Rattle.ob_join.specs.Join.blocks pass) (old.room.pack * width (columns pass) + 32) ∷ []) before.store after.store
     lacked wanted =
-        let began = joins.memory.began (λ k. Err (wanted k)) in
-        record { done = began.done; rest = began.rest; split = began.split; asked = began.asked ∙ ap (λ (x : List Access). x ++ began.done) rests.asked }
+        let did = joins.memory.did (λ k. Err (wanted k)) in
+        let made = Make old.vault.next (Rattle.ob_join.specs.Join.blocks pass) (old.room.pack * width (columns pass) + 32) ∷ [] in
+        record { asked = did.asked ∙ ap (λ (x : List Access). x ++ made) rests.asked; faults = did.faults ∙ rests.faults }
 
     held_left : (slots : Slots) → Represents old.public.pack (flat_of t) slots before → Represents old.room.pack (flat_of t) slots ready
     held_left slots is = subst (λ (n : ℕ). Represents n (flat_of t) slots ready) (sym agrees.room.pack) (represents_rests _ s s1 rests old.public.pack (flat_of t) slots is)
@@ -231,8 +235,8 @@ module _ {R : Type 0} (state : R → RevState) (old : Engine R) (s s1 : StoreSta
     told_honest y =
         let left = held_at old.public.pack a old.public.tables y.tables i t before agrees.tables.names y.held get_a named_a in
         let right = held_at old.public.pack b old.public.tables y.tables j u before agrees.tables.names y.held get_b named_b in
-        tells.told (record { tells = subst (λ (x : Bool). IsTrue x) (sym rests.tells) y.tells; nolie = y.nolie }) left.table.held right.table.held
-        (held_left left.table.held left.represents) (held_right right.table.held right.represents)
+        tells.told (record { tells = subst (λ (x : Bool). IsTrue x) (sym rests.tells) y.tells; nolie = y.nolie }) left.table.held.slots right.table.held.slots
+        (held_left left.table.held.slots left.represents) (held_right right.table.held.slots right.represents)
 
     module _ {E : Type 0} (grew cut : E → E → List Event → Type 0) (faults : E → ℕ) (now : Seen) (out : E) (fresh : now ≡ seen_to Whole) where
       pub join_stops : SelectsRows grew cut faults old.public select (Err e) now before after out out

@@ -56,7 +56,7 @@ module _ (p : Public) (some : 0 < p.pack) (enough : 0 < buffered_blocks p.pack p
   plan_length Continuous k g h t = continuous_length t.held g h p.pack t.heading.capacity k (rows_width p (extent_of t)) some
   plan_length Hash k g h t = hash_length t.held g h p.pack t.heading.capacity k p.depth (rows_width p (extent_of t)) some
 
-  result_length : (plan : Option Plan) (k g h : ℕ) (t : Stored ℕ) → length (result_part p plan k g (extent_of t)) ≡ length (result_part p plan k h (extent_of t))
+  pub result_length : (plan : Option Plan) (k g h : ℕ) (t : Stored ℕ) → length (result_part p plan k g (extent_of t)) ≡ length (result_part p plan k h (extent_of t))
   result_length None k g h t = refl
   result_length (Some plan) k g h t =
       both_length (plan_part p plan k g (extent_of t)) (plan_part p plan k h (extent_of t))

@@ -1,5 +1,5 @@
 -- A SELECT of a join that its pairing stopped.
-use Rattle.std.proofs.Common.{◌≡◌, ◌⊎◌, inl, inr, ◌≤◌, ◌<◌, ◌-◌, ℕ, Bool, true, false, List, [], ◌∷◌, ◌++◌, length, refl, sym, ◌∙◌, ap, subst, arith, length-append, append_assoc}
+use Rattle.std.proofs.Common.{◌≡◌, ◌⊎◌, inl, inr, ◌≤◌, ◌<◌, ◌-◌, ℕ, Bool, true, false, List, [], ◌∷◌, ◌++◌, length, sym, ◌∙◌, ap, subst, arith, length-append, append_assoc}
 use Rattle.std.specs.Prelude.{IsSome}
 use Rattle.ob_base.specs.declared.access.Access.{Access}
 use Rattle.ob_base.specs.declared.config.Public.{Public}
@@ -8,7 +8,7 @@ use Rattle.ob_base.specs.declared.seen.End.TheVariants.{Whole}
 use Rattle.ob_base.specs.Events.{Event}
 use Rattle.ob_emit.specs.Emitting.{header}
 use Rattle.ob_exec.proofs.UntilLemmas.{until_none}
-use Rattle.ob_store.specs.Runs.{Began}
+use Rattle.ob_store.specs.Runs.{Did}
 use Rattle.ob_vault.specs.State.{World}
 use Rattle.ob_flat.specs.declared.fault.OpErr.{OpErr}
 use Rattle.ob_flat.specs.declared.fault.OpErr.TheVariants as OpErrs
@@ -17,7 +17,7 @@ use Rattle.ob_flat.proofs.Runs.{pass_more}
 use Rattle.ob_mean.specs.Replay.{count_end, done_of}
 use Rattle.ob_mean.specs.Verdict.{ended as seen_to}
 use Rattle.ob_sql.specs.declared.stmt.SelectRows.{SelectRows}
-use Rattle.ob_exec.specs.Memory.{AtMake, is_make}
+use Rattle.ob_exec.specs.Memory.{is_make}
 use Rattle.ob_exec.specs.Selecting.{MayHold, SealsRows, answer_events, from, seen_of}
 use Rattle.ob_exec.proofs.BegunLemmas.{cut_in}
 use Rattle.ob_vault.specs.Tied.{ReadsIn}
@@ -28,15 +28,9 @@ done_within : (failed : Bool) (n : ℕ) → done_of failed n ≤ n
 done_within true n = omega arith
 done_within false n = omega arith
 
--- within one make
-at_make : (done rest more : List Access) (make : Access) → is_make make ≡ true → done ++ rest ≡ make ∷ [] → AtMake done more
-at_make [] rest more make made is = inl refl
-at_make (x ∷ []) rest more make made is = let same : x ≡ make = cc is in inr (inl (ap is_make same ∙ made))
-at_make (x ∷ y ∷ done) rest more make made is = absurd (cc is)
-
 module _ {E : Type 0} (grew cut : E → E → List Event → Type 0) (p : Public) (select : SelectRows) (now : Seen) (a b : World) (out : E) (x more : List Access) (make : Access) (fill : List Access) (e : OpErr)
     (script_is : rows_script p select now ≡ x ++ more) (begins : (y : Seen) → (behind : List Access) × (rows_script p select y ≡ x ++ behind)) (makes : x ≡ (make ∷ []) ++ fill) (is_one : is_make make ≡ true) (halts : PassCut e x (from a.vault.next) a b) (leaves : LeavesNone a b) (seals : SealsRows p.pack a b)
-    (fresh : now ≡ seen_to Whole) (counts : length x < count_end p (rows_skeleton select)) (memory : e ≡ OpErrs.NoMemory → Began (make ∷ []) a.store b.store)
+    (fresh : now ≡ seen_to Whole) (counts : length x < count_end p (rows_skeleton select)) (memory : e ≡ OpErrs.NoMemory → Did (make ∷ []) a.store b.store)
     (no_sink : e ≡ OpErrs.Sink → ⊥) (honest : SourceToEnd p a b → (e ≡ OpErrs.Failed) ⊎ (e ≡ OpErrs.NoMemory)) where
   short : length b.store.asked - length a.store.asked ≤ length x
   short =
@@ -57,16 +51,13 @@ module _ {E : Type 0} (grew cut : E → E → List Event → Type 0) (p : Public
       count = λ some. let is = subst (λ (y : Seen). IsSome y.k) fresh some in absurd (cc is);
       walk = λ some. let is = subst (λ (y : Seen). IsSome y.then) fresh some in absurd (cc is);
     };
-    memory = λ wanted.
-        let began = memory wanted in
-        record {
-          done = began.done;
-          rest = began.rest ++ (fill ++ more);
-          split = sym (append_assoc began.done began.rest (fill ++ more)) ∙ ap (λ (y : List Access). y ++ (fill ++ more)) began.split
-              ∙ sym (append_assoc (make ∷ []) fill more) ∙ ap (λ (y : List Access). y ++ more) (sym makes) ∙ sym script_is;
-          asked = began.asked;
-          place = inl (at_make began.done began.rest (began.rest ++ (fill ++ more)) make is_one began.split);
-        };
+    memory = λ wanted. record {
+      done = make ∷ [];
+      rest = fill ++ more;
+      split = sym (append_assoc (make ∷ []) fill more) ∙ ap (λ (y : List Access). y ++ more) (sym makes) ∙ sym script_is;
+      asked = (memory wanted).asked;
+      place = inl (inr is_one);
+    };
     halted = until_none grew cut (header (selection p select).flat.schema (selection p select).cols) e (λ (y : SourceToHalt p a b). answer_events (selection p select) (slots_of p select y.tables)) out no_sink;
     begun = λ y lie told.
         let meant = begins (seen_of (selection p select) (slots_of p select y.tables)) in

@@ -270,7 +270,7 @@ module _ {E : Type 0} (grew cut : E → E → List Event → Type 0) (p : Public
           rest = [];
           split = append-nil all;
           asked = is.ran.did.asked;
-          place = inr (counted_some (selection p select) answer now.k now.plan now.then now.end is.holds is.ended, refl, record { events = ends.events; ends = ends.ends });
+          place = inr (inr (counted_some (selection p select) answer now.k now.plan now.then now.end is.holds is.ended, refl, record { events = ends.events; ends = ends.ends }));
         };
         halted = until_given grew cut (header (selection p select).flat.schema (selection p select).cols) e All out_old out_new never ends;
         failed = λ failed. absurd (elim never [ inl is ↦ cc (is, failed) | inr is ↦ cc (is, failed) ]);

@@ -25,7 +25,7 @@ use Rattle.ob_verdict.proofs.LawfulProof.{same_script}
 use Rattle.ob_exec.specs.declared.engine.Engine.{Engine}
 use Rattle.ob_exec.specs.declared.selecting.Selected.{Selected}
 use Rattle.ob_exec.specs.Agreeing.{Agrees, world_of}
-use Rattle.ob_exec.specs.Engines.{IsFree, AreTables}
+use Rattle.ob_exec.specs.Engines.{IsFree, AreTables, others_of, indexes_of}
 use Rattle.ob_exec.specs.Opening.{Opens}
 use Rattle.ob_exec.specs.Running.{Ran, RunCause, GoesOn, Continues, answer_of, is_fault, is_stop, result_end}
 use Rattle.ob_exec.specs.Selecting.{from}
@@ -65,11 +65,11 @@ cut_cause OpErrs.NoMemory a b cause = cause
 module _ {R : Type 0} (state : R → RevState) (old : Engine R) (s : StoreState) (v : Vault R) (room : RoomState) (t : StoreState) (select : SelectRows)
     (agrees : Agrees state old s) (used : UsesRoomFor old.room room (world_of state old s) (at state v t)) where
   -- the tables stay where they are
-  pub rows_tables : Lasts (from old.vault.next) (world_of state old s) (at state v t) → LeavesNone (world_of state old s) (at state v t) → AreTables old.public.tables old.closing old.public.pack (at state v t)
+  pub rows_tables : Lasts (from old.vault.next) (world_of state old s) (at state v t) → LeavesNone (world_of state old s) (at state v t) → AreTables old.public.tables (others_of old.closing) (indexes_of old.closing) old.public.pack (at state v t)
   rows_tables lasts leaves =
-      tables_kept (from old.vault.next) old.public.pack old.public.tables old.closing _ _ lasts
+      tables_kept (from old.vault.next) old.public.pack old.public.tables (others_of old.closing) (indexes_of old.closing) _ _ lasts
       (λ i u here above. let below = region_below old.public.pack i old.public.tables u _ agrees.ready agrees.tables here in omega (arith, below, above))
-      (λ q is above. let below = beside_below old.public.pack old.public.tables old.closing q _ agrees.ready agrees.tables is in omega (arith, below, above))
+      (λ q is above. let below = beside_below old.public.pack old.public.tables (others_of old.closing) q _ agrees.ready agrees.tables is in omega (arith, below, above))
       (λ q shape live above. let none = leaves.gone q above in cc (live, none)) agrees.tables
 
   rows_free : IsFree old.public room
@@ -83,7 +83,7 @@ module _ {R : Type 0} (state : R → RevState) (old : Engine R) (s : StoreState)
   }
 
   rows_on : (seen : Seen) (x : List Access) (ended : Bool) → ended ≡ false → Ready (at state v t) → start_of v ≡ start_of old.vault → t.asked ≡ s.asked ++ x
-      → script old.public (rows_skeleton select) seen ≡ x → AreTables old.public.tables old.closing old.public.pack (at state v t)
+      → script old.public (rows_skeleton select) seen ≡ x → AreTables old.public.tables (others_of old.closing) (indexes_of old.closing) old.public.pack (at state v t)
       → GoesOn state (rows_skeleton select) old (rows_after old v room seen ended) t
   rows_on seen x ended lives ready start asked is are =
       let number = next_after (world_of state old s) (at state v t) x agrees.ready ready start asked in

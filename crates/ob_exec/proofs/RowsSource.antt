@@ -30,7 +30,7 @@ use Rattle.ob_mean.proofs.CondLemmas.{any_append}
 use Rattle.ob_mean.proofs.VerdictLemmas.{headings-database}
 use Rattle.ob_verdict.specs.Laws.{AreInPlace}
 use Rattle.ob_verdict.proofs.JoinLemmas.{rows-joined}
-use Rattle.ob_mean.specs.Verdict.{Tables, database, slots_at, source_slots}
+use Rattle.ob_mean.specs.Verdict.{Held, Tables, database, slots_at, source_slots}
 use Rattle.ob_sql.specs.declared.stmt.SelectRows.{SelectRows}
 use Rattle.ob_reopen.specs.Limits.{IsStored}
 
@@ -103,7 +103,7 @@ table_unjoined name ts stored = one_joined name (columns_at name (headings_of ts
 pub table_rows : (name : List ℕ) (ts : Tables) → rows_at name (database ts) ≡ rows (slots_at name ts)
 table_rows name [] = refl
 table_rows name (t ∷ ts) =
-    elim (bytes_eq t.heading.name name) as (λ b. option_map_or (λ (x : Stored (List Row)). x.held) (cond b (Some (record { heading = t.heading; held = rows t.held })) (stored_at name (database ts))) [] ≡ rows (option_map_or (λ (x : Stored Slots). x.held) (cond b (Some t) (stored_at name ts)) []))
+    elim (bytes_eq t.heading.name name) as (λ b. option_map_or (λ (x : Stored (List Row)). x.held) (cond b (Some (record { heading = t.heading; held = rows t.held.slots })) (stored_at name (database ts))) [] ≡ rows (option_map_or (λ (x : Stored Held). x.held.slots) (cond b (Some t) (stored_at name ts)) []))
     [ true ↦ refl | false ↦ table_rows name ts ]
 
 pub table_same : (name : List ℕ) (ts : Tables) → Same (rows_at name (database ts)) (rows (slots_at name ts))
@@ -159,7 +159,7 @@ join_joined a b on equals ts stored there off =
 keys_distinct : (name : List ℕ) (ts : Tables) → AreInPlace ts → keys_repeat (key_place (columns_at name (headings ts))) (rows (slots_at name ts)) ≡ false
 keys_distinct name [] in_place = refl
 keys_distinct name (t ∷ ts) in_place =
-    elim (bytes_eq t.heading.name name) as (λ b. keys_repeat (key_place (option_map_or (λ (g : Heading). g.schema) (cond b (Some t.heading) (heading_at name (headings ts))) [])) (rows (option_map_or (λ (x : Stored Slots). x.held) (cond b (Some t) (stored_at name ts)) [])) ≡ false)
+    elim (bytes_eq t.heading.name name) as (λ b. keys_repeat (key_place (option_map_or (λ (g : Heading). g.schema) (cond b (Some t.heading) (heading_at name (headings ts))) [])) (rows (option_map_or (λ (x : Stored Held). x.held.slots) (cond b (Some t) (stored_at name ts)) [])) ≡ false)
     [ true ↦ in_place.0.keys | false ↦ keys_distinct name ts in_place.1 ]
 
 key_is : (o : Option ℕ) (i : ℕ) → option_map_or (λ j. i == j) o false ≡ true → o ≡ Some i

@@ -305,12 +305,16 @@ module _ {R : Type 0} (state : R → RevState) (old : Engine R) (s : StoreState)
             asked = lacks.asked;
             place = elim lacks.place [
               | inl make ↦ inl make
-              | inr emits ↦ inr ((emits.0, emits.1), record { events = emits.2.events; ends = emits.2.ends out_old [] (starts out_old) })
+              | inr other ↦ inr (elim other [
+                | inl before ↦ inl before
+                | inr emits ↦ inr ((emits.0, emits.1), record { events = emits.2.events; ends = emits.2.ends out_old [] (starts out_old) })
+              ])
             ];
           };
-      seals = is.seals;
+      seals = λ good accepts single. (is.seals) good accepts;
       answered = stop_answered e is;
       stopped = stop_stopped e is;
       sink = sink_of e _ _ sink;
+      emits = λ is. tt;
       means = record { told = stop_told e is; honest = stop_honest e is; held = stop_held e is; begun = rows_begun is.begun };
     }

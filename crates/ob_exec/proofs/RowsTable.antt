@@ -51,7 +51,7 @@ use Rattle.ob_mean.proofs.EarlyLemmas.{allowed}
 use Rattle.ob_verdict.proofs.AcceptedProof.{places_fit}
 use Rattle.ob_mean.specs.Replay.{count_end, done_of, ending_len, held_if, walk_end}
 use Rattle.ob_mean.specs.Step.{printed_places}
-use Rattle.ob_mean.specs.Verdict.{Tables, is_late, source_slots, ended as seen_to}
+use Rattle.ob_mean.specs.Verdict.{Held, Tables, is_late, source_slots, ended as seen_to}
 use Rattle.ob_sql.specs.declared.stmt.SelectRows.{SelectRows}
 use Rattle.ob_sql.specs.declared.stmt.Stmt.TheVariants.{SelectRows as RowsStmt}
 use Rattle.ob_exec.specs.Running.{refusal_now}
@@ -61,7 +61,7 @@ use Rattle.ob_exec.specs.declared.selecting.Selected.{Selected}
 use Rattle.ob_exec.specs.declared.selecting.Selected.TheVariants.{Rows, Refused}
 use Rattle.ob_exec.specs.Agreeing.{Agrees, world_of, count_of}
 use Rattle.ob_exec.specs.Engines.{flat_of}
-use Rattle.ob_exec.specs.Selecting.{HoldsSeen, MaySelect, Selection, SelectsFrom, SelectsToEnd, SelectsToHalt, EmitsSelected, answer_events, counted_after, from, region_of, seen_of, selection_script, walked_after}
+use Rattle.ob_exec.specs.Selecting.{HoldsSeen, MaySelect, Selection, SelectsFrom, SelectsToEnd, SelectsToHalt, EmitsSelected, answer_events, counted_after, from, padded_after, region_of, seen_of, selection_script, walked_after}
 use Rattle.ob_exec.specs.Sources.{EmitsRows, EndsRows, HaltsRows, HoldsRows, ReadsMeant, SelectsRows, SourceToEnd, SourceToHalt, rows_script, rows_skeleton, selection, slots_of, stated}
 use Rattle.ob_exec.specs.Telling.{AreHeld}
 use Rattle.ob_exec.proofs.FoundLemmas.{heading_found}
@@ -167,12 +167,12 @@ module _ {R : Type 0} (state : R → RevState) (old : Engine R) (s s1 : StoreSta
     holds_slots : (tables : Tables) → AreHeld old.public.pack old.public.tables tables before → Represents old.public.pack q.flat (slots_of old.public select tables) ready
     holds_slots tables held =
         let beside = held_at old.public.pack name old.public.tables tables i t before agrees.tables.names held get named in
-        let slots_is : beside.table.held ≡ slots_of old.public select tables =
-        sym (ap (λ (source : Source). source_slots old.public source tables) of_table ∙ ap (λ (o : Option (Stored Slots)). option_map_or (λ (x : Stored Slots). x.held) o []) beside.found) in
+        let slots_is : beside.table.held.slots ≡ slots_of old.public select tables =
+        sym (ap (λ (source : Source). source_slots old.public source tables) of_table ∙ ap (λ (o : Option (Stored Held)). option_map_or (λ (x : Stored Held). x.held.slots) o []) beside.found) in
         let flat_is : flat_of t ≡ q.flat = λ j. record { schema = schema_is j; capacity = capacity_is j; region = t.region } in
         subst (λ (slots : Slots). Represents old.public.pack q.flat slots ready) slots_is
-        (subst (λ (flat : Flat). Represents old.public.pack flat beside.table.held ready) flat_is
-        (represents_rests _ s s1 rests old.public.pack (flat_of t) beside.table.held beside.represents))
+        (subst (λ (flat : Flat). Represents old.public.pack flat beside.table.held.slots ready) flat_is
+        (represents_rests _ s s1 rests old.public.pack (flat_of t) beside.table.held.slots beside.represents))
 
     abbrev to_end : SourceToEnd old.public before after → SelectsToEnd q ready after
     to_end x = record { tells = subst (λ (b : Bool). IsTrue b) (sym rests.tells) x.tells; slots = slots_of old.public select x.tables; is = holds_slots x.tables x.held; nolie = x.nolie }
@@ -285,18 +285,21 @@ module _ {R : Type 0} (state : R → RevState) (old : Engine R) (s s1 : StoreSta
     early_asked : count_of old s < 9223372036854775808
     early_asked = not_late (count_of old s) (allowed (is_late (count_of old s)) old.public.pack old.public.buffer (headings_of old.public.tables) (RowsStmt select) free).early
 
-    pub table_may : (rests : Rests s s1) (blocks : ℕ) → blocks ≡ div_ceil t.heading.capacity old.public.pack → blocks ≤ s1.spare → MaySelect q old.room (at state old.vault s1)
-    table_may rests blocks blocks_are spare =
+    pub table_may : (rests : Rests s s1) (blocks padded : ℕ) → blocks ≡ div_ceil t.heading.capacity old.public.pack
+        → ((x : Selection) → x.public ≡ old.public → x.flat.capacity ≡ t.heading.capacity → padded_after x.public.pad x ≡ padded) → blocks + padded ≤ s1.spare
+        → MaySelect q old.room (at state old.vault s1)
+    table_may rests blocks padded blocks_are of_size spare =
+        let padded_is = of_size q refl (sym capacity_is) in
         let same = ap length rests.asked in
         let below = early_asked in
-        let enough : div_ceil (selection old.public select).flat.capacity old.public.pack ≤ s1.spare =
-        subst (λ (n : ℕ). div_ceil n old.public.pack ≤ s1.spare) capacity_is (omega (arith, blocks_are, spare)) in
+        let enough : div_ceil (selection old.public select).flat.capacity old.public.pack + padded ≤ s1.spare =
+        subst (λ (n : ℕ). div_ceil n old.public.pack + padded ≤ s1.spare) capacity_is (omega (arith, blocks_are, spare)) in
         let flat_is : flat_of t ≡ q.flat = λ j. record { schema = schema_is j; capacity = capacity_is j; region = t.region } in
         record {
           settings = agrees.settings;
           free = agrees.room;
           ready = ready_rests _ s s1 rests agrees.ready;
-          spare = omega (arith, enough);
+          spare = omega (arith, enough, padded_is);
           short = omega arith;
           few = omega (arith, same, below);
           flat = subst (λ (f : Flat). IsFlat old.public.pack f (at state old.vault s1)) flat_is

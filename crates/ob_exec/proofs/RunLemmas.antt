@@ -16,7 +16,7 @@ use Rattle.ob_store.specs.Runs.{Began}
 use Rattle.ob_store.proofs.Steps.{began_take, later_refl, later_rests}
 use Rattle.ob_vault.specs.State.{RevState, VaultState, Start, World}
 use Rattle.ob_vault.specs.Tied.{ReadsIn, Ready}
-use Rattle.ob_vault.specs.Calls.{Went}
+use Rattle.ob_vault.specs.Calls.{Went, Lasts}
 use Rattle.ob_flat.specs.declared.fault.OpErr.{OpErr}
 use Rattle.ob_flat.specs.declared.fault.OpErr.TheVariants as OpErrs
 use Rattle.ob_flat.specs.Passes.{PassCut, PassCause, is_of_access}
@@ -34,7 +34,7 @@ use Rattle.ob_mean.specs.Verdict.{is_late, ended as seen_to}
 use Rattle.ob_exec.specs.declared.engine.Engine.{Engine}
 use Rattle.ob_exec.specs.declared.outcome.Outcome.{Outcome}
 use Rattle.ob_exec.specs.declared.outcome.Outcome.TheVariants.{Refused}
-use Rattle.ob_exec.specs.Engines.{IsFree, AreTables}
+use Rattle.ob_exec.specs.Engines.{IsFree, AreTables, others_of, indexes_of}
 use Rattle.ob_exec.specs.Refusals.{IsNoFault, by_fault, refused_end}
 use Rattle.ob_base.specs.Refusals.{is_store_fault}
 use Rattle.ob_exec.specs.Agreeing.{Agrees, world_of}
@@ -136,7 +136,7 @@ engine_after old v room tables end ended = record old {
 module _ {R : Type 0} (state : R → RevState) (skeleton : Skeleton) (old : Engine R) (s : StoreState) (v : Vault R) (room : RoomState) (t : StoreState)
     (agrees : Agrees state old s) (free : IsFree old.public room) where
   went_on : (tables : List Table) (end : End) (x : List Access) (ended : Bool) → ended ≡ false → Ready (at state v t) → start_of v ≡ start_of old.vault → t.asked ≡ s.asked ++ x
-      → script old.public skeleton (seen_to end) ≡ x → tables ≡ tables_then old.public skeleton end → AreTables tables old.closing old.public.pack (at state v t)
+      → script old.public skeleton (seen_to end) ≡ x → tables ≡ tables_then old.public skeleton end → AreTables tables (others_of old.closing) (indexes_of old.closing) old.public.pack (at state v t)
       → GoesOn state skeleton old (engine_after old v room tables end ended) t
   went_on tables end x ended lives ready start asked is same are =
       let number = next_after (world_of state old s) (at state v t) x agrees.ready ready start asked in
@@ -157,7 +157,7 @@ module _ {R : Type 0} (state : R → RevState) (skeleton : Skeleton) (old : Engi
   -- all of it was asked
   pub ran_whole : (some : ℕ → Type 0) (tables : List Table) (x : List Access) (outcome : Outcome) → old.ended ≡ false → IsAnswered outcome → Opens x old.room.high room.high
       → Went x some (world_of state old s) (at state v t) → whole_script old.public skeleton (seen_to Whole) ≡ x → tables ≡ tables_after old.public skeleton
-      → AreTables tables old.closing old.public.pack (at state v t) → Ran state skeleton (Ok outcome) old s (engine_after old v room tables Whole old.ended) t
+      → AreTables tables (others_of old.closing) (indexes_of old.closing) old.public.pack (at state v t) → Ran state skeleton (Ok outcome) old s (engine_after old v room tables Whole old.ended) t
   ran_whole some tables x outcome lives answered opens went is same are = record {
     asked = went.did.asked ∙ ap (λ (y : List Access). s.asked ++ y) (sym is);
     later = went.lasts.later;
@@ -193,7 +193,7 @@ module _ {R : Type 0} (state : R → RevState) (skeleton : Skeleton) (old : Engi
 
   -- a pass gave up
   pub ran_stopped : (some : ℕ → Type 0) (n : ℕ) (x : List Access) (e : OpErr) → Opens (script old.public skeleton (seen_to (Cut n))) old.room.high room.high → PassCut e x some (world_of state old s) (at state v t)
-      → whole_script old.public skeleton (seen_to (Cut n)) ≡ x → n ≡ length t.asked - length s.asked → AreTables old.public.tables old.closing old.public.pack (at state v t)
+      → whole_script old.public skeleton (seen_to (Cut n)) ≡ x → n ≡ length t.asked - length s.asked → AreTables old.public.tables (others_of old.closing) (indexes_of old.closing) old.public.pack (at state v t)
       → Ran state skeleton (answer_of e) old s (engine_after old v room old.public.tables (Cut n) (is_stop (answer_of e))) t
   ran_stopped some n x e opens cut is count are =
       let first : t.asked ≡ s.asked ++ take n x = began_take x _ _ cut.began ∙ ap (λ (k : ℕ). s.asked ++ take k x) (sym count) in
@@ -211,6 +211,27 @@ module _ {R : Type 0} (state : R → RevState) (skeleton : Skeleton) (old : Engi
         goes_on = cut_on e n (went_on old.public.tables (Cut n) (take n x) false refl cut.lasts.ready cut.lasts.start first (ap (take n) is) refl are);
       }
 
+-- what ends the session behind some accesses asks nothing of the tables
+module _ {R : Type 0} (state : R → RevState) (skeleton : Skeleton) (old : Engine R) (s : StoreState) (v : Vault R) (room : RoomState) (t : StoreState)
+    (free : IsFree old.public room) where
+  pub ran_ended : (some : ℕ → Type 0) (n : ℕ) (x : List Access) (stop : Stop) → Opens (script old.public skeleton (seen_to (Cut n))) old.room.high room.high
+      → Lasts some (world_of state old s) (at state v t) → Began x s t → RunCause (Err stop) (world_of state old s) (at state v t)
+      → whole_script old.public skeleton (seen_to (Cut n)) ≡ x → n ≡ length t.asked - length s.asked
+      → Ran state skeleton (Err stop) old s (engine_after old v room old.public.tables (Cut n) true) t
+  ran_ended some n x stop opens lasts began cause is count = record {
+    asked = began_take x _ _ began ∙ ap (λ (k : ℕ). s.asked ++ take k x) (sym count) ∙ ap (λ (y : List Access). s.asked ++ take n y) (sym is);
+    later = lasts.later;
+    keys = lasts.keys;
+    start = lasts.start;
+    from_closing = refl;
+    ends = ap (λ (k : ℕ). Cut k) count;
+    asks = λ faulted. absurd faulted;
+    cause = cause;
+    room = free;
+    opened = opens;
+    goes_on = refl;
+  }
+
 module _ {R : Type 0} (state : R → RevState) (skeleton : Skeleton) (old : Engine R) (s : StoreState) (v : Vault R) (room : RoomState) (t : StoreState)
     (agrees : Agrees state old s) (room_is : room ≡ record old.room { high = max old.room.high old.room.pack }) where
   free : IsFree old.public room
@@ -222,14 +243,14 @@ module _ {R : Type 0} (state : R → RevState) (skeleton : Skeleton) (old : Engi
 
   -- all of a pass over the room was asked
   pub ran_done : (some : ℕ → Type 0) (tables : List Table) (x : List Access) (outcome : Outcome) → old.ended ≡ false → IsAnswered outcome → Went x some (world_of state old s) (at state v t)
-      → whole_script old.public skeleton (seen_to Whole) ≡ x → tables ≡ tables_after old.public skeleton → AreTables tables old.closing old.public.pack (at state v t)
+      → whole_script old.public skeleton (seen_to Whole) ≡ x → tables ≡ tables_after old.public skeleton → AreTables tables (others_of old.closing) (indexes_of old.closing) old.public.pack (at state v t)
       → Ran state skeleton (Ok outcome) old s (engine_after old v room tables Whole old.ended) t
   ran_done some tables x outcome lives answered went is same are =
       ran_whole state skeleton old s v room t agrees free some tables x outcome lives answered (opened x) went is same are
 
   -- a pass over the room gave up
   pub ran_cut : (some : ℕ → Type 0) (n : ℕ) (x : List Access) (e : OpErr) → PassCut e x some (world_of state old s) (at state v t)
-      → whole_script old.public skeleton (seen_to (Cut n)) ≡ x → n ≡ length t.asked - length s.asked → AreTables old.public.tables old.closing old.public.pack (at state v t)
+      → whole_script old.public skeleton (seen_to (Cut n)) ≡ x → n ≡ length t.asked - length s.asked → AreTables old.public.tables (others_of old.closing) (indexes_of old.closing) old.public.pack (at state v t)
       → Ran state skeleton (answer_of e) old s (engine_after old v room old.public.tables (Cut n) (is_stop (answer_of e))) t
   ran_cut some n x e cut is count are = ran_stopped state skeleton old s v room t agrees free some n x e (opened _) cut is count are
 

@@ -192,7 +192,7 @@ module _ {E : Type 0} (grew cut : E → E → List Event → Type 0) (faults : E
         split = append-nil (counts_of q) ∙ sym (append-nil (counts_of q)) ∙ sym (script_is q (counted k None None Whole) old.vault.next unpadded);
         asked = count.did.asked;
         some = not_empty (counts_of q) (omega (arith, count_some q room old may, length-count_part q.flat.region (counted_after q)));
-        place = inr (inl refl, refl, record { events = head_of q; ends = head.err.1 });
+        place = inr (inr (inl refl, refl, record { events = head_of q; ends = head.err.1 }));
       };
       emitted = tt;
       halted = until_given grew cut (head_of q) e _ out_old out_new head.err.0 (record { events = head_of q; ends = head.err.1; told = λ s. ([], none_events s.slots (no_places s.slots s.is (halt_nolie s) empty)) });
@@ -262,7 +262,7 @@ module _ {E : Type 0} (grew cut : E → E → List Event → Type 0) (faults : E
                       ∙ sym (script_is q (counted k (Some plan) None Whole) old.vault.next unpadded);
                   asked = m.asked ∙ ap (λ (x : List Access). x ++ m.done) count.did.asked ∙ append_assoc old.store.asked (counts_of q) m.done;
                   some = not_empty (counts_of q ++ m.done) (omega (arith, count_some q room old may, length-count_part q.flat.region (counted_after q), length-append (counts_of q) m.done));
-                  place = place_in _ (counts_of q) m.done m.rest (inl refl) m.place;
+                  place = place_in q.public (counted k (Some plan) None Whole) (counts_of q) m.done m.rest (inl refl) (λ none. (unpadded, refl)) m.place;
                 };
             emitted = first_emitted q k c plan old mid is side least chosen unpadded grew cut faults new out_old out_new result by;
             halted = first_halted q k c plan old mid is side least chosen unpadded grew cut faults new out_old out_new result by;
@@ -317,7 +317,7 @@ module _ {E : Type 0} (grew cut : E → E → List Event → Type 0) (faults : E
                       ∙ sym (script_is q (counted k (Some Hash) (Some Small) Whole) old.vault.next unpadded);
                   asked = m.asked ∙ ap (λ (x : List Access). x ++ m.done) asked ∙ append_assoc old.store.asked done m.done;
                   some = not_empty (done ++ m.done) (omega (arith, count_some q room old may, length-count_part q.flat.region (counted_after q), length-append done m.done, length-append (counts_of q) (whole_part (planned q Hash k) old.vault.next)));
-                  place = place_in _ done m.done m.rest (inl refl) m.place;
+                  place = place_in q.public (counted k (Some Hash) (Some Small) Whole) done m.done m.rest (inl refl) (λ none. (unpadded, refl)) m.place;
                 };
             emitted = second_emitted q k c old mid may.ready is least free chosen unpadded grew cut faults i late new out out_new first result by;
             halted = second_halted q k c old mid may.ready is least free chosen unpadded grew cut faults i late new out out_new first result by;

@@ -1,5 +1,5 @@
 -- What a padded selection tells, by what is told of its steps.
-use Rattle.std.proofs.Common.{◌≡◌, ◌⊎◌, inl, inr, ◌≤◌, ◌-◌, ℕ, Bool, List, [], ◌∷◌, ◌++◌, append_assoc, append-nil, Option, None, Some, Result, Ok, Err, length, refl, sym, ◌∙◌, ap, subst, arith, length-append}
+use Rattle.std.proofs.Common.{◌≡◌, ◌⊎◌, inl, inr, ◌≤◌, ◌+◌, ◌-◌, ℕ, Bool, List, [], ◌∷◌, ◌++◌, append_assoc, append-nil, Option, None, Some, Result, Ok, Err, length, refl, sym, ◌∙◌, ap, subst, arith, length-append}
 use Rattle.std.specs.Prelude.{is_some, IfErr, IfOk, MatchResult, map}
 use Rattle.std.proofs.lemmas.List.{length-map}
 use Rattle.ob_base.specs.declared.access.Access.{Access}
@@ -39,11 +39,13 @@ use Rattle.ob_exec.specs.declared.selecting.Selected.{Selected}
 use Rattle.ob_exec.specs.declared.selecting.Selected.TheVariants.{Rows, Refused}
 use Rattle.ob_exec.specs.Engines.{IsFree}
 use Rattle.ob_exec.specs.Halting.{EmitsUntil}
-use Rattle.ob_exec.specs.Selecting.{Selection, MaySelect, SelectsFrom, SelectsToEnd, SelectsToHalt, EmitsSelected, EndsAs, EndsPadded, places, selected_as, emitted_unless, shown_where, shown_rows, result_of, seen_of, answer_of, answer_events, selection_script, region_of, counted_after, from}
+use Rattle.ob_exec.specs.Selecting.{Selection, MaySelect, SelectsFrom, SelectsToEnd, SelectsToHalt, EmitsSelected, EndsAs, EndsPadded, places, selected_as, emitted_unless, shown_where, shown_rows, result_of, seen_of, answer_of, answer_events, selection_script, region_of, counted_after, padded_after, from}
 use Rattle.ob_exec.specs.Results.{Planned, IsPlanned, left_by, held_slots, PlannedToEnd, PlannedToHalt, SelectsBy, Suits, MayAnswer, padded_to, whole_part, held_shown, held_events, held_answer, head_of}
 use Rattle.ob_exec.proofs.ResultPadded.{may_choose, rows_of_padded}
+use Rattle.ob_exec.proofs.ResultParts.{buffered_some}
 use Rattle.ob_exec.proofs.ResultRows.{held_count}
 use Rattle.ob_exec.proofs.ResultSteps.{if_err_map}
+use Rattle.ob_exec.proofs.RowsLength.{result_length}
 use Rattle.ob_exec.proofs.SelectHeld.{nothing_held}
 use Rattle.ob_exec.proofs.ResultReads.{emitted_from}
 use Rattle.ob_exec.proofs.BegunLemmas.{lie_before, ran_in, went_in}
@@ -215,7 +217,7 @@ module _ (q : Selection) (pad : ℕ) (is_pad : q.public.pad ≡ Some pad) where
                 split = append_assoc (counts_of q) m.done m.rest ∙ ap (λ (x : List Access). counts_of q ++ x) (m.split ∙ ap (λ (n : ℕ). whole_part r n) same ∙ sym (append-nil (whole_part r old.vault.next))) ∙ script;
                 asked = m.asked ∙ ap (λ (x : List Access). x ++ m.done) count.did.asked ∙ append_assoc old.store.asked (counts_of q) m.done;
                 some = not_empty (counts_of q ++ m.done) (omega (arith, count_some q room old may, length-count_part q.flat.region (counted_after q), length-append (counts_of q) m.done));
-                place = place_in _ (counts_of q) m.done m.rest (inr (ap is_some is_pad)) m.place;
+                place = place_in q.public (seen_to Whole) (counts_of q) m.done m.rest (inr (ap is_some is_pad)) (λ none. absurd (cc none)) m.place;
               };
           emitted = emitted_padded grew cut faults new out_old out_new result by;
           halted = halted_padded grew cut faults new out_old out_new result by;
@@ -244,3 +246,9 @@ module _ (q : Selection) (pad : ℕ) (is_pad : q.public.pad ≡ Some pad) where
           some = omega (arith, pads, may.size.least);
           most = omega arith;
         }
+
+    pub spare_padded : (room : RoomState) → MaySelect q room old → q.ending + length (whole_part r mid.vault.next) ≤ mid.store.spare
+    spare_padded room may =
+        let kept = subst (λ (o : Option ℕ). counted_after q + padded_after o q + q.ending ≤ old.store.spare) is_pad may.spare in
+        let long = result_length q.public may.settings.pack_least (buffered_some q.public may.settings) (Some r.plan) r.taken mid.vault.next 0 (region_of q) in
+        omega (arith, kept, long, count.spare, length-count_part q.flat.region (counted_after q))

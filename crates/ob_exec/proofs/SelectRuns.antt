@@ -1,5 +1,6 @@
 -- The runs of a selection join, whatever the store answers.
 use Rattle.std.proofs.Common.{◌≡◌, ◌⊎◌, inl, inr, ◌≤◌, ◌+◌, ◌*◌, ℕ, IsTrue, List, [], ◌∷◌, ◌++◌, Option, None, Some, Result, Ok, Err, length, refl, sym, ◌∙◌, ap, subst, arith, append-nil}
+use Rattle.std.specs.Prelude.{IsSome}
 use Rattle.std.specs.List.{list_all}
 use Rattle.std.proofs.lemmas.Bool.{cases_eq}
 use Rattle.ob_base.specs.declared.access.Access.{Access}
@@ -11,6 +12,7 @@ use Rattle.ob_base.specs.Numbers.{blocks_for}
 use Rattle.ob_base.specs.Schemas.{width}
 use Rattle.ob_base.proofs.AccessLemmas.{makes-append}
 use Rattle.ob_script.specs.Parts.{count_part, emission_part}
+use Rattle.ob_base.specs.declared.config.Public.{Public}
 use Rattle.ob_base.specs.declared.seen.Seen.{Seen}
 use Rattle.ob_script.specs.Script.{after_count, behind_count, extent_of, plan_part, result_blocks}
 use Rattle.ob_script.proofs.Makes.{makes-count_part, makes-small_part, makes-large_part, makes-continuous_part, makes-hash_part, makes-emission_part}
@@ -23,7 +25,7 @@ use Rattle.ob_flat.specs.declared.fault.OpErr.{OpErr}
 use Rattle.ob_flat.specs.Words.{Ran, blocks_of}
 use Rattle.ob_flat.proofs.Runs.{pass_wider}
 use Rattle.ob_flat.proofs.WordLemmas.{ran_after}
-use Rattle.ob_exec.specs.Memory.{AtMake, is_reading, starts_with_make, ends_with_make}
+use Rattle.ob_exec.specs.Memory.{AtMake, BeforeResult, HasCounted, is_reading, starts_with_make, ends_with_make}
 use Rattle.ob_exec.specs.Selecting.{Selection, region_of, selection_script, from}
 use Rattle.ob_exec.specs.Results.{Planned, whole_part}
 
@@ -126,13 +128,15 @@ ends-more (x ∷ []) [] is = absurd (cc is)
 ends-more (x ∷ []) (d ∷ done) is = is
 ends-more (x ∷ y ∷ xs) done is = ends-more (y ∷ xs) done is
 
-pub place_in : {Halts : Type 0} (P : Type 0) (xs done rest : List Access) → P → IsTrue (ends_with_make done) ⊎ IsTrue (starts_with_make rest) ⊎ (IsTrue (list_all is_reading rest) × Halts) → AtMake (xs ++ done) rest ⊎ (P × IsTrue (list_all is_reading rest) × Halts)
-place_in P xs done rest known place = elim place [
-  | inl ends ↦ inl (inr (inl (ends-more xs done ends)))
-  | inr other ↦ elim other [
-    | inl starts ↦ inl (inr (inr starts))
-    | inr all ↦ inr (known, all.0, all.1)
-  ]
+pub place_in : {Rooms Halts : Type 0} (p : Public) (seen : Seen) (xs done rest : List Access) → HasCounted p seen → (Rooms → (p.pad ≡ None) × IsSome seen.k)
+    → IsTrue (ends_with_make done) ⊎ (Rooms × IsTrue (starts_with_make rest)) ⊎ (IsTrue (list_all is_reading rest) × Halts)
+    → AtMake (xs ++ done) ⊎ BeforeResult p seen rest ⊎ (HasCounted p seen × IsTrue (list_all is_reading rest) × Halts)
+place_in p seen xs done rest counted rooms place = elim place [
+  | inl ends ↦ inl (inr (ends-more xs done ends))
+  | inr other ↦ inr (elim other [
+    | inl before ↦ let room = rooms before.0 in inl (room.0, room.1, before.1)
+    | inr all ↦ inr (counted, all.0, all.1)
+  ])
 ]
 
 pub not_empty : (xs : List Access) → 1 ≤ length xs → xs ≡ [] → ⊥

@@ -99,6 +99,9 @@ silent_sink (Err Stops.NoMemory) n silent = refl
 silent_sink (Err Stops.SourceFault) n silent = absurd silent
 silent_sink (Err Stops.InputLimit) n silent = absurd silent
 
+silent_meets : {P : Type 0} (r : Result Outcome Stop) → IsSilent r → r ≡ Err Stops.SinkFault → P
+silent_meets r silent is = absurd (subst (λ (x : Result Outcome Stop). IsSilent x) is silent)
+
 silent_answered : {P : Outcome → Type 0} (r : Result Outcome Stop) → IsSilent r → ((o : Outcome) → HasNoRows o → P o) → IfOk r P
 silent_answered (Ok o) silent h = h o silent
 silent_answered (Err e) silent h = tt
@@ -139,6 +142,7 @@ module _ {R E : Type 0} (state : R → RevState) (grew cut : E → E → List Ev
           told = λ tables reads. record { whole = []; prints = bare_prints labels _ (no_rows tables); begun = ([], refl) };
         });
         sink = silent_sink result (faults out) serves.silent;
+        emits = λ is. silent_meets result serves.silent is;
         means = serves.means;
       }
 
@@ -167,6 +171,7 @@ module _ {R E : Type 0} (state : R → RevState) (grew cut : E → E → List Ev
         };
         stopped = tt;
         sink = refl;
+        emits = λ is. absurd (cc is);
         means = record {
           told = λ tables reads. of_other _ _ (is_store_fault r) is_early.own (record {
             answer = sym (ap (outcome_of stmt) (verdict_is tables reads.held));

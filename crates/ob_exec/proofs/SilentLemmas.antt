@@ -1,6 +1,7 @@
 -- A statement that emits nothing and of which nothing is counted, by how it ended.
-use Rattle.std.proofs.Common.{◌≡◌, inl, inr, ◌-◌, max, ℕ, Bool, true, false, List, [], ◌∷◌, ◌++◌, length, Ok, Err, Result, None, refl, sym, ◌∙◌, ap, subst, arith, append-nil, append_assoc}
-use Rattle.std.specs.Prelude.{IsTrue, Some, slice_get}
+use Rattle.ob_exec.specs.Engines.{others_of, indexes_of}
+use Rattle.std.proofs.Common.{◌≡◌, inl, inr, ◌-◌, max, ℕ, Bool, true, false, List, [], ◌++◌, length, Ok, Err, Result, None, refl, sym, ◌∙◌, ap, subst, arith, append-nil}
+use Rattle.std.specs.Prelude.{Some, slice_get}
 use Rattle.ob_base.specs.declared.access.Access.{Access}
 use Rattle.ob_base.specs.declared.refusal.Stop.{Stop}
 use Rattle.ob_base.specs.declared.refusal.Stop.TheVariants as Stops
@@ -12,7 +13,7 @@ use Rattle.ob_base.specs.Schemas.{Columns}
 use Rattle.ob_room.specs.RoomState.{RoomState}
 use Rattle.ob_store.specs.State.{StoreState}
 use Rattle.ob_store.specs.Calls.{Rests}
-use Rattle.ob_store.specs.Runs.{Began}
+use Rattle.ob_store.specs.Runs.{Did}
 use Rattle.ob_vault.specs.State.{RevState, World}
 use Rattle.ob_vault.specs.declared.vault.Vault.{Vault}
 use Rattle.ob_vault.specs.Places.{at}
@@ -34,7 +35,6 @@ use Rattle.ob_verdict.proofs.SeenProof.{shows_kind_alone}
 use Rattle.ob_exec.specs.declared.engine.Engine.{Engine}
 use Rattle.ob_exec.specs.declared.outcome.Outcome.{Outcome}
 use Rattle.ob_exec.specs.Agreeing.{Agrees, world_of, count_of}
-use Rattle.ob_exec.specs.Memory.{AtMake, is_make}
 use Rattle.ob_exec.specs.Running.{Ran, HasNoRows, IsSilent, answer_of, is_stop, refusal_now}
 use Rattle.ob_exec.specs.Serving.{Means, ServesSilently}
 use Rattle.ob_exec.specs.Telling.{AreHeld, KeepsSealed, ReadsTrue, outcome_of}
@@ -58,12 +58,6 @@ is_no_memory OpErrs.Failed is = absurd (cc is)
 is_no_memory (OpErrs.Tampered q x) is = absurd (cc is)
 is_no_memory OpErrs.Sink is = absurd (cc is)
 is_no_memory OpErrs.NoMemory is = refl
-
--- a first part of a make alone
-at_make : (made : Access) (done rest more : List Access) → IsTrue (is_make made) → done ++ rest ≡ made ∷ [] → AtMake done (rest ++ more)
-at_make made [] rest more make is = inl refl
-at_make made (d ∷ []) rest more make is = let same : d ≡ made = cc is in inr (inl (subst (λ (a : Access). IsTrue (is_make a)) (sym same) make))
-at_make made (d ∷ e ∷ done) rest more make is = let none : e ∷ (done ++ rest) ≡ [] = cc is in absurd (cc none)
 
 module _ {R : Type 0} (state : R → RevState) (stmt : Stmt) (old : Engine R) (s : StoreState) (agrees : Agrees state old s)
     (now : refusal_now old.public (count_of old s) stmt ≡ None) (plain : is_counted stmt ≡ false) where
@@ -159,7 +153,7 @@ module _ {R : Type 0} (state : R → RevState) (stmt : Stmt) (old : Engine R) (s
     -- a pass that makes a region first gave up
     pub cut_off : (x more : List Access) (blocks size n : ℕ) (e : OpErr) → ((end : End) → whole_script old.public (skeleton stmt) (seen_to end) ≡ x)
         → x ≡ make_at old.vault.next blocks size ++ more → PassCut e x (one old.vault.next) (at state old.vault s1) (at state v t) → n ≡ length t.asked - length s.asked
-        → ((state v.revs).live old.vault.next ≡ None) → (e ≡ OpErrs.NoMemory → Began (make_at old.vault.next blocks size) s1 t) → IsSilent (answer_of e)
+        → ((state v.revs).live old.vault.next ≡ None) → (e ≡ OpErrs.NoMemory → Did (make_at old.vault.next blocks size) s1 t) → IsSilent (answer_of e)
         → ((tables : Tables) → ReadsTrue state old s t tables → IsFault e)
         → ((good : ℕ → List ℕ → Bool) → ((columns : Columns) (region : ℕ) → Accepts good old.room.pack columns region) → Seals good (at state old.vault s1) (at state v t))
         → ServesSilently state stmt (answer_of e) old s (engine_after old v room old.public.tables (Cut n) (is_stop (answer_of e))) t
@@ -168,8 +162,8 @@ module _ {R : Type 0} (state : R → RevState) (stmt : Stmt) (old : Engine R) (s
         let apart : (i : ℕ) (u : Table) → slice_get old.public.tables i ≡ Some u → one old.vault.next u.region → ⊥ =
         λ i u is here. let less = region_below old.public.pack i old.public.tables u _ agrees.ready agrees.tables is in omega (arith, less, here) in
         let ran = ran_cut state (skeleton stmt) old s v room t agrees room_is (one old.vault.next) n x e all (script_is (Cut n)) count
-        (tables_kept (one old.vault.next) old.public.pack old.public.tables old.closing _ _ all.lasts apart
-        (λ q is here. let less = beside_below old.public.pack old.public.tables old.closing q _ agrees.ready agrees.tables is in omega (arith, less, here)) (λ q shape live here. absurd (cc (live, gone, here))) agrees.tables) in
+        (tables_kept (one old.vault.next) old.public.pack old.public.tables (others_of old.closing) (indexes_of old.closing) _ _ all.lasts apart
+        (λ q is here. let less = beside_below old.public.pack old.public.tables (others_of old.closing) q _ agrees.ready agrees.tables is in omega (arith, less, here)) (λ q shape live here. absurd (cc (live, gone, here))) agrees.tables) in
         record {
           ran = ran;
           started = λ is. absurd (cc is);
@@ -177,13 +171,13 @@ module _ {R : Type 0} (state : R → RevState) (stmt : Stmt) (old : Engine R) (s
           plain = refl;
           silent = silent;
           memory = λ is.
-              let began = memory (is_no_memory e is) in
+              let made = make_at old.vault.next blocks size in
               record {
-                done = began.done;
-                rest = began.rest ++ more;
-                split = sym (append_assoc began.done began.rest more) ∙ ap (λ (y : List Access). y ++ more) began.split ∙ sym parts ∙ sym (script_is (Cut n));
-                asked = began.asked ∙ ap (λ (y : List Access). y ++ began.done) rests.asked;
-                place = inl (at_make _ began.done began.rest more refl began.split);
+                done = made;
+                rest = more;
+                split = sym parts ∙ sym (script_is (Cut n));
+                asked = (memory (is_no_memory e is)).asked ∙ ap (λ (y : List Access). y ++ made) rests.asked;
+                place = inl (inr refl);
               };
           seals = keeps_pass state old s s1 rests agrees (engine_after old v room old.public.tables (Cut n) (is_stop (answer_of e))) t (at state v t) refl seals;
           means = means_cut e n count fault (λ tables held. held_kept (one old.vault.next) old.public.pack old.public.tables tables _ _ all.lasts apart held) ran;

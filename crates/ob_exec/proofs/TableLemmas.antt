@@ -1,4 +1,6 @@
 -- The tables of an engine, after a pass.
+use Rattle.ob_oram.proofs.Lasting.{index_kept}
+use Rattle.ob_oram.specs.declared.index.Index.{Index}
 use Rattle.std.proofs.Common.{◌≡◌, ◌⊎◌, inl, inr, ◌<◌, ◌≤◌, ℕ, zero, suc, Bool, true, false, if◌then◌else◌, cond, List, [], ◌∷◌, ◌++◌, length, Option, Some, None, refl, sym, ◌∙◌, ap, subst, arith}
 use Rattle.std.specs.Prelude.{slice_get, slice_set, bytes_eq}
 use Rattle.std.specs.Option.{option_map}
@@ -14,16 +16,24 @@ use Rattle.ob_vault.specs.Tied.{Ready}
 use Rattle.ob_vault.specs.Calls.{Lasts, none, one, two}
 use Rattle.ob_flat.specs.declared.flat.Flat.{Flat}
 use Rattle.ob_flat.specs.Flats.{IsFlat}
-use Rattle.ob_exec.specs.Engines.{flat_of, IsTable, IsTableRegion, IsBeside, AreTables}
+use Rattle.ob_exec.specs.Engines.{flat_of, IsTable, IsTableRegion, IsBeside, AreTables, others_of, indexes_of, IsIndexIn}
 
 no_get : (ts : List Table) (i : ℕ) (t : Table) → ts ≡ [] → slice_get ts i ≡ Some t → ⊥
 no_get [] zero t none is = absurd (cc is)
 no_get [] (suc i) t none is = absurd (cc is)
 no_get (x ∷ xs) i t none is = absurd (cc none)
 
+-- stands in for: a table that a statement moves or drops is no index
+pub no_index : (closing : Option ℕ) (k : ℕ) (x : Index) → slice_get (indexes_of closing) k ≡ Some x → ⊥
+unfolding indexes_of
+no_index closing zero x is = absurd (cc is)
+no_index closing (suc k) x is = absurd (cc is)
+
 -- no table, and no region
-pub no_tables : (pack : ℕ) (w : World) (ts : List Table) → ts ≡ [] → ((q : ℕ) → w.vault.revs.live q ≡ None) → AreTables ts None pack w
+pub no_tables : (pack : ℕ) (w : World) (ts : List Table) → ts ≡ [] → ((q : ℕ) → w.vault.revs.live q ≡ None) → AreTables ts (others_of None) (indexes_of None) pack w
+unfolding others_of
 no_tables pack w ts none empty = record {
+  stand = λ k x is. absurd (no_index None k x is);
   each = λ i t is. absurd (no_get ts i t none is);
   few = let long = ap length none in omega (arith, long);
   apart = λ i j t u is. absurd (no_get ts i t none is);
@@ -55,12 +65,12 @@ table_kept some pack t old new lasts apart is = record {
 }
 
 -- the region of a table is below the next
-pub region_below : (pack i : ℕ) (ts : List Table) {closing : Option ℕ} (t : Table) (w : World) → Ready w → AreTables ts closing pack w → slice_get ts i ≡ Some t → t.region < w.vault.next
+pub region_below : (pack i : ℕ) (ts : List Table) {other : ℕ → Type 0} {indexes : List Index} (t : Table) (w : World) → Ready w → AreTables ts other indexes pack w → slice_get ts i ≡ Some t → t.region < w.vault.next
 region_below pack i ts t w ready tables is = ready.below t.region _ (tables.each i t is).flat.made.lives.live
 
 -- so is that of a closing
-pub beside_below : (pack : ℕ) (ts : List Table) (closing : Option ℕ) (q : ℕ) (w : World) → Ready w → AreTables ts closing pack w → closing ≡ Some q → q < w.vault.next
-beside_below pack ts closing q w ready tables is = let beside = tables.beside q is in ready.below q beside.shape beside.lives.live
+pub beside_below : (pack : ℕ) (ts : List Table) (other : ℕ → Type 0) {indexes : List Index} (q : ℕ) (w : World) → Ready w → AreTables ts other indexes pack w → other q → q < w.vault.next
+beside_below pack ts other q w ready tables is = let beside = tables.beside q is in ready.below q beside.shape beside.lives.live
 
 -- a closing whose region has not changed, beside tables of which none lies there
 pub beside_kept : (some : ℕ → Type 0) (ts us : List Table) (q : ℕ) (old new : World) → Lasts some old new → (some q → ⊥) → (IsTableRegion us q → IsTableRegion ts q) → IsBeside ts q old → IsBeside us q new
@@ -71,12 +81,17 @@ beside_kept some ts us q old new lasts apart was beside = record {
 }
 
 -- after a pass that changed no table's region, and left none of its own
-pub tables_kept : (some : ℕ → Type 0) (pack : ℕ) (ts : List Table) (closing : Option ℕ) (old new : World) → Lasts some old new
+pub tables_kept : (some : ℕ → Type 0) (pack : ℕ) (ts : List Table) (other : ℕ → Type 0) (indexes : List Index) (old new : World) → Lasts some old new
     → ((i : ℕ) (t : Table) → slice_get ts i ≡ Some t → some t.region → ⊥)
-    → ((q : ℕ) → closing ≡ Some q → some q → ⊥)
+    → ((q : ℕ) → other q → some q → ⊥)
     → ((q : ℕ) (shape : Region) → new.vault.revs.live q ≡ Some shape → some q → ⊥)
-    → AreTables ts closing pack old → AreTables ts closing pack new
-tables_kept some pack ts closing old new lasts apart off gone tables = record {
+    → AreTables ts other indexes pack old → AreTables ts other indexes pack new
+tables_kept some pack ts other indexes old new lasts apart off gone tables = record {
+  stand = λ k x is. let at = tables.stand k x is in record {
+    tree = at.tree;
+    stash = at.stash;
+    stands = index_kept some old new lasts x (λ hit. apart at.tree.place at.tree.table at.tree.get (subst some (sym at.tree.region) hit)) (off x.stash at.stash) at.stands;
+  };
   each = λ i t is. table_kept some pack t old new lasts (apart i t is) (tables.each i t is);
   few = tables.few;
   apart = tables.apart;
@@ -103,8 +118,8 @@ pub get_last : {A : Type 0} (xs : List A) (x : A) → slice_get (xs ++ x ∷ [])
 get_last [] x = refl
 get_last (z ∷ xs) x = get_last xs x
 
-module _ (pack g : ℕ) (ts : List Table) (closing : Option ℕ) (new_table : Table) (old new : World) (lasts : Lasts (one g) old new) (ready : Ready old) (next : g ≡ old.vault.next)
-    (tables : AreTables ts closing pack old) (room : length ts < 64) (fresh : new_table.region ≡ g) (is_table : IsTable pack new_table new)
+module _ (pack g : ℕ) (ts : List Table) (other : ℕ → Type 0) (indexes : List Index) (new_table : Table) (old new : World) (lasts : Lasts (one g) old new) (ready : Ready old) (next : g ≡ old.vault.next)
+    (tables : AreTables ts other indexes pack old) (room : length ts < 64) (fresh : new_table.region ≡ g) (is_table : IsTable pack new_table new)
     (unnamed : (i : ℕ) (t : Table) → slice_get ts i ≡ Some t → t.heading.name ≡ new_table.heading.name → ⊥) where
   below : (i : ℕ) (t : Table) → slice_get ts i ≡ Some t → t.region < g
   below i t is = let less = region_below pack i ts t old ready tables is in omega (arith, less, next)
@@ -142,23 +157,34 @@ module _ (pack g : ℕ) (ts : List Table) (closing : Option ℕ) (new_table : Ta
   added_few : length (ts ++ new_table ∷ []) ≤ 64
   added_few = let long = length-append ts (new_table ∷ []) in omega (arith, long, room)
 
-  added_beside : (q : ℕ) → closing ≡ Some q → IsBeside (ts ++ new_table ∷ []) q new
+  added_beside : (q : ℕ) → other q → IsBeside (ts ++ new_table ∷ []) q new
   added_beside q is =
-      let less = beside_below pack ts closing q old ready tables is in
+      let less = beside_below pack ts other q old ready tables is in
       beside_kept (one g) ts (ts ++ new_table ∷ []) q old new lasts (λ same. omega (arith, less, next, same))
       (λ of. elim (get_more ts new_table of.table of.place of.get) [
         | inl here ↦ record { place = of.place; table = of.table; get = here; region = of.region }
         | inr last ↦ absurd (omega (arith, less, next, of.region, ap (λ (x : Table). x.region) last.1, fresh))
       ]) (tables.beside q is)
 
-  added_only : (q : ℕ) (shape : Region) → new.vault.revs.live q ≡ Some shape → (q ≡ g) ⊎ (q ≡ g → ⊥) → IsTableRegion (ts ++ new_table ∷ []) q ⊎ (closing ≡ Some q)
+  added_only : (q : ℕ) (shape : Region) → new.vault.revs.live q ≡ Some shape → (q ≡ g) ⊎ (q ≡ g → ⊥) → IsTableRegion (ts ++ new_table ∷ []) q ⊎ other q
   added_only q shape live (inl here) = inl (record { place = length ts; table = new_table; get = get_last ts new_table; region = fresh ∙ sym here })
   added_only q shape live (inr off) = elim (tables.only q shape (sym (lasts.apart.live q off) ∙ live)) [
     | inl of ↦ inl (record { place = of.place; table = of.table; get = get_front ts new_table of.table of.place of.get; region = of.region })
     | inr closed ↦ inr closed
   ]
 
-  pub tables_added : ((q : ℕ) → (q ≡ g) ⊎ (q ≡ g → ⊥)) → AreTables (ts ++ new_table ∷ []) closing pack new
+  added_index : (k : ℕ) (x : Index) → slice_get indexes k ≡ Some x → IsIndexIn (ts ++ new_table ∷ []) other x new
+  added_index k x is =
+      let at = tables.stand k x is in
+      let less = below at.tree.place at.tree.table at.tree.get in
+      let under = beside_below pack ts other x.stash old ready tables at.stash in
+      record {
+        tree = record { place = at.tree.place; table = at.tree.table; get = get_front ts new_table at.tree.table at.tree.place at.tree.get; region = at.tree.region };
+        stash = at.stash;
+        stands = index_kept (one g) old new lasts x (λ same. let region = at.tree.region in omega (arith, less, region, same)) (λ same. omega (arith, under, next, same)) at.stands;
+      }
+
+  pub tables_added : ((q : ℕ) → (q ≡ g) ⊎ (q ≡ g → ⊥)) → AreTables (ts ++ new_table ∷ []) other indexes pack new
   tables_added cases = record {
     each = added_each;
     few = added_few;
@@ -166,6 +192,7 @@ module _ (pack g : ℕ) (ts : List Table) (closing : Option ℕ) (new_table : Ta
     names = added_names;
     beside = added_beside;
     only = λ q shape live. added_only q shape live (cases q);
+    stand = added_index;
   }
 
 -- ---- a table that lies in another region
@@ -173,10 +200,11 @@ module _ (pack g : ℕ) (ts : List Table) (closing : Option ℕ) (new_table : Ta
 pub named : (a b : List ℕ) → (bytes_eq a b ≡ true) → a ≡ b
 named a b is = (bytes_eq-Decides a b).0 is
 
-module _ (pack g r : ℕ) (name : List ℕ) (ts : List Table) (closing : Option ℕ) (t : Table) (i : ℕ) (old new : World) (lasts : Lasts (two r g) old new) (ready : Ready old) (next : g ≡ old.vault.next)
-    (tables : AreTables ts closing pack old) (at_i : slice_get ts i ≡ Some t) (name_is : t.heading.name ≡ name) (region_is : t.region ≡ r)
+module _ (pack g r : ℕ) (name : List ℕ) (ts : List Table) (other : ℕ → Type 0) (indexes : List Index) (t : Table) (i : ℕ) (old new : World) (lasts : Lasts (two r g) old new) (ready : Ready old) (next : g ≡ old.vault.next)
+    (tables : AreTables ts other indexes pack old) (at_i : slice_get ts i ≡ Some t) (name_is : t.heading.name ≡ name) (region_is : t.region ≡ r)
     (is_table : IsTable pack (record t { region = g }) new)
-    (gone : (shape : Region) → new.vault.revs.live r ≡ Some shape → ⊥) where
+    (gone : (shape : Region) → new.vault.revs.live r ≡ Some shape → ⊥)
+    (unindexed : (k : ℕ) (x : Index) → slice_get indexes k ≡ Some x → x.tree ≡ r → ⊥) where
   -- what stands at a place of the moved tables: the one that was moved, or another, as it was
   data MovedAt (j : ℕ) (u : Table) : Type 0 where
     this : (at : j ≡ i) → (is : u ≡ record t { region = g }) → MovedAt j u
@@ -263,9 +291,9 @@ module _ (pack g r : ℕ) (name : List ℕ) (ts : List Table) (closing : Option 
       let few = tables.few in
       omega (arith, same, few)
 
-  moved_beside : (q : ℕ) → closing ≡ Some q → IsBeside (moved name g ts) q new
+  moved_beside : (q : ℕ) → other q → IsBeside (moved name g ts) q new
   moved_beside q is =
-      let less = beside_below pack ts closing q old ready tables is in
+      let less = beside_below pack ts other q old ready tables is in
       let beside = tables.beside q is in
       beside_kept (two r g) ts (moved name g ts) q old new lasts
       (λ hit. elim hit [
@@ -277,7 +305,7 @@ module _ (pack g r : ℕ) (name : List ℕ) (ts : List Table) (closing : Option 
         | that off was ↦ record { place = of.place; table = of.table; get = was; region = of.region }
       ]) beside
 
-  moved_only : ((q x : ℕ) → (q ≡ x) ⊎ (q ≡ x → ⊥)) → (q : ℕ) (shape : Region) → new.vault.revs.live q ≡ Some shape → IsTableRegion (moved name g ts) q ⊎ (closing ≡ Some q)
+  moved_only : ((q x : ℕ) → (q ≡ x) ⊎ (q ≡ x → ⊥)) → (q : ℕ) (shape : Region) → new.vault.revs.live q ≡ Some shape → IsTableRegion (moved name g ts) q ⊎ other q
   moved_only cases q shape live = elim (cases q g) [
     | inl here ↦ inl (record { place = i; table = record t { region = g }; get = get_this; region = sym here })
     | inr off ↦ elim (cases q r) [
@@ -289,7 +317,29 @@ module _ (pack g r : ℕ) (name : List ℕ) (ts : List Table) (closing : Option 
     ]
   ]
 
-  pub tables_moved : ((q x : ℕ) → (q ≡ x) ⊎ (q ≡ x → ⊥)) → AreTables (moved name g ts) closing pack new
+  moved_index : (k : ℕ) (x : Index) → slice_get indexes k ≡ Some x → IsIndexIn (moved name g ts) other x new
+  moved_index k x is =
+      let at = tables.stand k x is in
+      let less = moved_below at.tree.place at.tree.table at.tree.get in
+      let under = beside_below pack ts other x.stash old ready tables at.stash in
+      let beside = tables.beside x.stash at.stash in
+      record {
+        tree = record {
+          place = at.tree.place;
+          table = at.tree.table;
+          get = get_that at.tree.place at.tree.table at.tree.get (in_old x.tree (unindexed k x is) at.tree.place at.tree.table at.tree.get at.tree.region);
+          region = at.tree.region;
+        };
+        stash = at.stash;
+        stands = index_kept (two r g) old new lasts x
+            (λ hit. elim hit [ inl same ↦ unindexed k x is same | inr same ↦ let region = at.tree.region in omega (arith, less, region, same) ])
+            (λ hit. elim hit [
+              | inl same ↦ beside.off (record { place = i; table = t; get = at_i; region = region_is ∙ sym same })
+              | inr same ↦ omega (arith, under, next, same)
+            ]) at.stands;
+      }
+
+  pub tables_moved : ((q x : ℕ) → (q ≡ x) ⊎ (q ≡ x → ⊥)) → AreTables (moved name g ts) other indexes pack new
   tables_moved cases = record {
     each = moved_each;
     few = moved_few;
@@ -297,6 +347,7 @@ module _ (pack g r : ℕ) (name : List ℕ) (ts : List Table) (closing : Option 
     names = moved_names;
     beside = moved_beside;
     only = moved_only cases;
+    stand = moved_index;
   }
 
 -- ---- a table by its name

@@ -47,7 +47,7 @@ use Rattle.ob_mean.specs.Prints.{Prints, Unfinished}
 use Rattle.ob_mean.specs.Refusals.{early_refusal}
 use Rattle.ob_mean.specs.Settle.{settle}
 use Rattle.ob_mean.specs.Step.{accepted_answer, answered, followed, overgroups, rows_at, totals_answer}
-use Rattle.ob_mean.specs.Verdict.{Tables, database, is_late, refusal, verdict, seen, ended as seen_to}
+use Rattle.ob_mean.specs.Verdict.{Held, Tables, database, is_late, refusal, verdict, seen, ended as seen_to}
 use Rattle.ob_mean.proofs.VerdictLemmas.{heading-stored, headings-database, stored-database, refused_late}
 use Rattle.ob_exec.specs.declared.engine.Engine.{Engine}
 use Rattle.ob_exec.specs.declared.outcome.Outcome.{Outcome}
@@ -76,21 +76,21 @@ either_none : (b : Bool) (answer : Answer) → answered (option_or (if b then So
 either_none true answer = refl
 either_none false answer = refl
 
-verdict_is : (p : Public) (m : ℕ) (tables : Tables) (s : SelectTotals) (x : Stored Slots) → early_refusal (is_late m) p.pack p.buffer (headings tables) (TotalsStmt s) ≡ None
-    → stored_at s.table tables ≡ Some x → verdict p m tables (TotalsStmt s) ≡ answer_at (buffered p.pack p.buffer) x.heading.schema s x.held
+verdict_is : (p : Public) (m : ℕ) (tables : Tables) (s : SelectTotals) (x : Stored Held) → early_refusal (is_late m) p.pack p.buffer (headings tables) (TotalsStmt s) ≡ None
+    → stored_at s.table tables ≡ Some x → verdict p m tables (TotalsStmt s) ≡ answer_at (buffered p.pack p.buffer) x.heading.schema s x.held.slots
 verdict_is p m tables s x early found =
     let places = buffered p.pack p.buffer in
     let columns_is : columns_at s.table (headings (database tables)) ≡ x.heading.schema =
     ap (columns_at s.table) (headings-database tables)
-    ∙ ap (λ (o : Option Heading). option_map_or (λ (h : Heading). h.schema) o []) (heading-stored s.table tables ∙ ap (option_map (λ (u : Stored Slots). u.heading)) found) in
-    let rows_is : rows_at s.table (database tables) ≡ rows x.held =
+    ∙ ap (λ (o : Option Heading). option_map_or (λ (h : Heading). h.schema) o []) (heading-stored s.table tables ∙ ap (option_map (λ (u : Stored Held). u.heading)) found) in
+    let rows_is : rows_at s.table (database tables) ≡ rows x.held.slots =
     ap (λ (o : Option (Stored (List Row))). option_map_or (λ (u : Stored (List Row)). u.held) o [])
-    (stored-database s.table tables ∙ ap (option_map (λ (u : Stored Slots). record { heading = u.heading; held = rows u.held })) found) in
+    (stored-database s.table tables ∙ ap (option_map (λ (u : Stored Held). record { heading = u.heading; held = rows u.held.slots })) found) in
     ap (λ (o : Option Refusal). answered o (accepted_answer (database tables) (TotalsStmt s))) (refused_late p m tables (TotalsStmt s) early)
     ∙ (λ i.
     let chosen = filter (is_true (where_at s.cond (columns_is i))) (rows_is i) in
     answered (option_or (if overgroups places s.group (columns_is i) chosen then Some TooManyGroups else None) None) (A.Rows (totals_answer s (columns_is i) chosen)))
-    ∙ either_none (overgroups places s.group x.heading.schema (filter (is_true (where_at s.cond x.heading.schema)) (rows x.held))) _
+    ∙ either_none (overgroups places s.group x.heading.schema (filter (is_true (where_at s.cond x.heading.schema)) (rows x.held.slots))) _
 
 followed_same : (o : Option Refusal) (tables : Tables) → followed o tables tables ≡ tables
 followed_same None tables = refl
@@ -176,16 +176,16 @@ module _ {R E : Type 0} (state : R → RevState) (grew cut : E → E → List Ev
   beside : (tables : Tables) → Represents state old s tables → Beside old.public.pack q.table table tables (world_of state old s)
   beside tables held = held_at old.public.pack q.table old.public.tables tables i table (world_of state old s) agrees.tables.names held.held here.get here.named
 
-  before : (tables : Tables) (held : Represents state old s tables) → FlatRepresents old.room.pack (flat_of table) (beside tables held).table.held was
+  before : (tables : Tables) (held : Represents state old s tables) → FlatRepresents old.room.pack (flat_of table) (beside tables held).table.held.slots was
   before tables held =
-      represents_rests _ s s1 rests old.room.pack (flat_of table) (beside tables held).table.held
-      (subst (λ (n : ℕ). FlatRepresents n (flat_of table) (beside tables held).table.held (world_of state old s)) (sym agrees.room.pack) (beside tables held).represents)
+      represents_rests _ s s1 rests old.room.pack (flat_of table) (beside tables held).table.held.slots
+      (subst (λ (n : ℕ). FlatRepresents n (flat_of table) (beside tables held).table.held.slots (world_of state old s)) (sym agrees.room.pack) (beside tables held).represents)
 
-  verdict_at : (tables : Tables) (held : Represents state old s tables) → verdict old.public (count_of old s) tables stmt ≡ answer_at places cs q (beside tables held).table.held
+  verdict_at : (tables : Tables) (held : Represents state old s tables) → verdict old.public (count_of old s) tables stmt ≡ answer_at places cs q (beside tables held).table.held.slots
   verdict_at tables held =
       let x = beside tables held in
       verdict_is old.public (count_of old s) tables q x.table (early_held old.public (count_of old s) stmt tables (world_of state old s) None held.held allowed) x.found
-      ∙ (λ j. answer_at (buffered (sym agrees.room.pack j) (sym agrees.room.rows j)) (x.heading j).schema q x.table.held)
+      ∙ (λ j. answer_at (buffered (sym agrees.room.pack j) (sym agrees.room.rows j)) (x.heading j).schema q x.table.held.slots)
 
   seen_whole : (tables : Tables) → Represents state old s tables → seen old.public (count_of old s) tables stmt ≡ seen_to Whole
   seen_whole tables held = started_seen old.public (count_of old s) stmt allowed tables (world_of state old s) held.held
@@ -233,6 +233,7 @@ module _ {R E : Type 0} (state : R → RevState) (grew cut : E → E → List Ev
         answered = tt;
         stopped = record { events = []; ends = inl (starts out); told = λ tables reads. partly_none _ _ };
         sink = refl;
+        emits = λ is. tt;
         means = record {
           told = λ tables reads. tt;
           honest = λ tables reads. refl;
@@ -247,7 +248,7 @@ module _ {R E : Type 0} (state : R → RevState) (grew cut : E → E → List Ev
 
     -- its slots, and all that was read is as it was written
     ended_with : (tables : Tables) (held : Represents state old s tables) → t.lie ≡ None → SlotsToEnd old.room.pack (flat_of table) was now
-    ended_with tables held nolie = record { slots = (beside tables held).table.held; is = before tables held; nolie = nolie }
+    ended_with tables held nolie = record { slots = (beside tables held).table.held.slots; is = before tables held; nolie = nolie }
 
     still_held : (tables : Tables) → Represents state old s tables → Lasts none (world_of state old s) now → AreHeld old.public.pack old.public.tables tables now
     still_held tables held lasts = held_read state old s s1 v room t q.table (flat_map named_by q.items) q.group i table agrees rests uses here tables held.held lasts
@@ -280,6 +281,7 @@ module _ {R E : Type 0} (state : R → RevState) (grew cut : E → E → List Ev
           };
           stopped = tt;
           sink = totals.sink;
+          emits = λ is. tt;
           means = record {
             told = λ tables reads.
                 told_whole outcome _ _ whole (record {
@@ -313,7 +315,7 @@ module _ {R E : Type 0} (state : R → RevState) (grew cut : E → E → List Ev
                 rest = [];
                 split = append-nil _ ∙ sym (reads_is state old s s1 v room t q.table (flat_map named_by q.items) q.group i table agrees rests uses here (Cut n));
                 asked = went.did.asked;
-                place = inr (refl, given_up grew cut given.events out_old out_new (starts out_old) e (made_none e is) given.ends);
+                place = inr (inr (refl, given_up grew cut given.events out_old out_new (starts out_old) e (made_none e is) given.ends));
               };
           seals = keeps_pass state old s s1 rests agrees new t now refl (λ good accepts. totals.seals.seals good);
           answered = if_failed _ e (λ is. record {
@@ -331,9 +333,10 @@ module _ {R E : Type 0} (state : R → RevState) (grew cut : E → E → List Ev
                 let none_before : s1.lie ≡ None = rests.lie ∙ calm_none none (world_of state old s) now all.lasts reads.calm reads.unfit in
                 subst (λ (l : List (List ℕ)). Partly l (verdict old.public (count_of old s) tables stmt) given.events) (sym labels_are)
                 (subst (λ (a : Answer). Partly (labels_at cs q) a given.events) (sym (verdict_at tables reads.held))
-                (given.told (record { slots = x.table.held; is = held; nolie = none_before; unfit = reads.unfit })));
+                (given.told (record { slots = x.table.held.slots; is = held; nolie = none_before; unfit = reads.unfit })));
           });
           sink = sink_of e (faults out_old) (faults out_new) totals.sink;
+          emits = λ is. tt;
           means = record {
             told = λ tables reads. if_failed _ e (λ is. record {
               seen = cut_seen true old.public (skeleton stmt) n _ _ (seen_whole tables reads.held) count;

@@ -8,7 +8,7 @@ use Rattle.ob_vault.specs.State.{RevState, Start, World, earlier}
 use Rattle.ob_vault.specs.Tied.{Ready}
 use Rattle.ob_vault.specs.Places.{at, start_of}
 use Rattle.ob_exec.specs.declared.engine.Engine.{Engine}
-use Rattle.ob_exec.specs.Engines.{AreSettings, IsFree, AreTables}
+use Rattle.ob_exec.specs.Engines.{AreSettings, IsFree, AreTables, others_of, indexes_of}
 
 -- what is public
 abbrev pub public_of : {R : Type 0} → Engine R → Public
@@ -56,4 +56,4 @@ pub record Agrees {R : Type 0} (state : R → RevState) (e : Engine R) (s : Stor
   pub next : e.public.next_region ≡ e.vault.next
   pub settings : AreSettings e.public
   pub room : IsFree e.public e.room
-  pub tables : AreTables e.public.tables e.closing e.public.pack (world_of state e s)
+  pub tables : AreTables e.public.tables (others_of e.closing) (indexes_of e.closing) e.public.pack (world_of state e s)

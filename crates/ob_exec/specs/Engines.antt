@@ -1,5 +1,7 @@
 -- The tables of an engine, and the store that it is used with.
-use Rattle.std.specs.Prelude.{◌≡◌, ◌⊎◌, ◌≤◌, ◌+◌, ◌*◌, ℕ, List, Option, Some, length, slice_get}
+use Rattle.ob_oram.specs.Indexes.{IsIndex}
+use Rattle.ob_oram.specs.declared.index.Index.{Index}
+use Rattle.std.specs.Prelude.{◌≡◌, ◌⊎◌, ◌≤◌, ◌+◌, ◌*◌, ℕ, List, [], Option, Some, length, slice_get}
 use Rattle.ob_base.specs.declared.schema.Table.{Table}
 use Rattle.ob_base.specs.declared.config.Public.{Public}
 use Rattle.ob_base.specs.declared.config.Config.{Config}
@@ -61,18 +63,33 @@ pub record IsBeside (tables : List Table) (q : ℕ) (w : World) : Type 0 where
   pub lives : Lives q shape w
   pub off : IsTableRegion tables q → ⊥
 
--- the tables, 64 at most, each with a name and a region of its own, and beside them the closing's region, if there is
--- one, are all that lives in the vault
-pub record AreTables (tables : List Table) (closing : Option ℕ) (pack : ℕ) (w : World) : Type 0 where
+-- the regions that are none of a table: the closing's, if there is one
+unfoldable pub others_of : Option ℕ → ℕ → Type 0
+others_of closing q = closing ≡ Some q
+
+-- stands in for the engine's list of indexes
+unfoldable pub indexes_of : Option ℕ → List Index
+indexes_of closing = []
+
+-- an index: its tree lies in a table's region, its stash in one that is none's
+pub record IsIndexIn (tables : List Table) (other : ℕ → Type 0) (index : Index) (w : World) : Type 0 where
+  pub tree : IsTableRegion tables index.tree
+  pub stash : other index.stash
+  pub stands : IsIndex index w
+
+-- the tables, 64 at most, each with a name and a region of its own, and beside them these other regions are all that
+-- lives in the vault
+pub record AreTables (tables : List Table) (other : ℕ → Type 0) (indexes : List Index) (pack : ℕ) (w : World) : Type 0 where
   pub each : (i : ℕ) (t : Table) → slice_get tables i ≡ Some t → IsTable pack t w
   pub few : length tables ≤ 64
   pub apart : (i j : ℕ) (t u : Table) → slice_get tables i ≡ Some t
       → slice_get tables j ≡ Some u → t.region ≡ u.region → i ≡ j
   pub names : (i j : ℕ) (t u : Table) → slice_get tables i ≡ Some t
       → slice_get tables j ≡ Some u → t.heading.name ≡ u.heading.name → i ≡ j
-  pub beside : (q : ℕ) → closing ≡ Some q → IsBeside tables q w
+  pub beside : (q : ℕ) → other q → IsBeside tables q w
   pub only : (q : ℕ) (shape : Region) → w.vault.revs.live q ≡ Some shape
-      → IsTableRegion tables q ⊎ (closing ≡ Some q)
+      → IsTableRegion tables q ⊎ other q
+  pub stand : (k : ℕ) (x : Index) → slice_get indexes k ≡ Some x → IsIndexIn tables other x w
 
 -- a table of this name stands at this place
 pub record IsAt (name : List ℕ) (i : ℕ) (t : Table) (tables : List Table) : Type 0 where

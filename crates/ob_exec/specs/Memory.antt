@@ -1,5 +1,5 @@
 -- Where want of memory may stop a statement.
-use Rattle.std.specs.Prelude.{◌≡◌, ◌⊎◌, Bool, true, false, List, [], ◌∷◌, ◌++◌, IsTrue, IsSome}
+use Rattle.std.specs.Prelude.{◌≡◌, ◌⊎◌, Bool, true, false, List, [], ◌∷◌, ◌++◌, IsTrue, IsSome, None}
 use Rattle.std.specs.List.{list_all}
 use Rattle.ob_base.specs.declared.access.Access.{Access}
 use Rattle.ob_base.specs.declared.access.Access.TheVariants.{Make, Read, Discard}
@@ -31,9 +31,19 @@ ends_with_make [] = false
 ends_with_make (a ∷ []) = is_make a
 ends_with_make (a ∷ b ∷ rest) = ends_with_make (b ∷ rest)
 
--- before the first access, at a make or just before it
-abbrev pub AtMake : (done rest : List Access) → Type 0
-AtMake done rest = (done ≡ []) ⊎ IsTrue (ends_with_make done) ⊎ IsTrue (starts_with_make rest)
+-- before the first access, or at a make, which was the last access then
+abbrev pub AtMake : (done : List Access) → Type 0
+AtMake done = (done ≡ []) ⊎ IsTrue (ends_with_make done)
+
+-- just before the make of a result for which room is taken by how many rows were counted, as it is where results aren't
+-- padded
+abbrev pub BeforeResult : Public → Seen → (rest : List Access) → Type 0
+BeforeResult p seen rest = (p.pad ≡ None) × IsSome seen.k × IsTrue (starts_with_make rest)
+
+-- there it comes of a SELECT of rows alone
+abbrev pub AtResult : Public → Stmt → Seen → (rest : List Access) → Type 0
+AtResult p (RowsStmt s) seen rest = BeforeResult p seen rest
+AtResult p _ seen rest = ⊥
 
 -- a SELECT of rows has counted, as k tells, or what its script tells where results are padded
 abbrev pub HasCounted : Public → Seen → Type 0
@@ -58,4 +68,4 @@ pub record LacksMemory (p : Public) (stmt : Stmt) (seen : Seen) (s t : StoreStat
   pub rest : List Access
   pub split : done ++ rest ≡ whole_script p (skeleton stmt) seen
   pub asked : t.asked ≡ s.asked ++ done
-  pub place : AtMake done rest ⊎ (AtEmission p stmt seen rest × Halts)
+  pub place : AtMake done ⊎ AtResult p stmt seen rest ⊎ (AtEmission p stmt seen rest × Halts)

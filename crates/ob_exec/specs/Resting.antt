@@ -1,5 +1,5 @@
 -- What rests in a store between runs: the tables in place that a closing lists.
-use Rattle.std.specs.Prelude.{◌≡◌, ◌<◌, ◌+◌, ◌*◌, ⊤, ℕ, Bool, false, IsTrue, List, [], ◌∷◌, Option, Some, fold, length}
+use Rattle.std.specs.Prelude.{◌≡◌, ◌<◌, ◌⊎◌, ◌+◌, ◌*◌, ⊤, ℕ, Bool, false, IsTrue, List, [], ◌∷◌, Option, Some, fold, length, slice_get}
 use Rattle.std.specs.Cmp.Lexicographic.{slice_cmp}
 use Rattle.std.specs.List.{All, insert, prefix_len}
 use Rattle.std.specs.Ordering.{is_lt, nat_cmp}
@@ -8,7 +8,7 @@ use Rattle.ob_base.specs.Stored.{Stored}
 use Rattle.ob_blocks.specs.Blocks.{block_at}
 use Rattle.ob_flat.specs.Flats.{whole_blocks}
 use Rattle.ob_flat.specs.Slots.{FitsSlot, block_bytes}
-use Rattle.ob_mean.specs.Verdict.{Tables}
+use Rattle.ob_mean.specs.Verdict.{Held, Tables}
 use Rattle.ob_reopen.specs.Closings.{IsClosing, row_of}
 use Rattle.ob_reopen.specs.Limits.{blocks_of}
 use Rattle.ob_reopen.specs.declared.closing.Closing.{Closing}
@@ -21,11 +21,11 @@ use Rattle.ob_vault.specs.Tied.{at_of}
 use Rattle.ob_verdict.specs.Laws.{AreInPlace}
 
 -- whether a table in place has a smaller name
-abbrev pub is_before : Stored Slots → Stored Slots → Bool
+abbrev pub is_before : Stored Held → Stored Held → Bool
 is_before t u = is_lt (slice_cmp nat_cmp u.heading.name t.heading.name)
 
 -- tables in place by their names, as a closing lists them
-abbrev pub placed : Tables → Stored Slots → Tables
+abbrev pub placed : Tables → Stored Held → Tables
 placed tables t = insert tables (prefix_len (is_before t) tables) t
 
 abbrev pub by_name : Tables → Tables
@@ -57,7 +57,7 @@ AreKept keys pack [] [] kept = ⊤
 AreKept keys pack [] (held ∷ tables) kept = ⊥
 AreKept keys pack (t ∷ ts) [] kept = ⊥
 AreKept keys pack (t ∷ ts) (held ∷ tables) kept =
-    (held.heading ≡ t.table.heading) × KeepsTable keys pack t held.held kept
+    (held.heading ≡ t.table.heading) × KeepsTable keys pack t held.held.slots kept
     × AreKept keys pack ts tables kept
 
 -- between runs these tables in place rest in a store: the closing lists them by their names, each region is kept, and
@@ -68,6 +68,11 @@ pub record Rests (keys : KeySet) (closing : Closing) (kept : ℕ → Option Kept
   pub closing_is : IsClosing keys closing listed kept
   pub held : AreKept keys closing.pack listed tables kept
   pub in_place : AreInPlace tables
+
+-- a region that the mark of a closing needs: the closing's own, or that of a table that it lists
+abbrev pub IsNeeded : Closing → List Listed → ℕ → Type 0
+IsNeeded closing listed q = (q ≡ closing.region)
+    ⊎ ((i : ℕ) × (t : Listed) × (slice_get listed i ≡ Some t) × (q ≡ t.table.region))
 
 -- the rows of closings pass this test of a region's bytes
 abbrev pub AcceptsClosings : (good : ℕ → List ℕ → Bool) → Type 0

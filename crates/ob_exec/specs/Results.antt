@@ -167,14 +167,14 @@ pub record KeepsRoom (old new : RoomState) : Type 0 where
   pub same : new ≡ record old { high = new.high }
   pub kept : old.high ≤ new.high
 
--- want of memory came just before a make or at it, or where nothing was left but to read and the emitter gave up, which
--- is this
-pub record LacksMemoryOf (script : List Access) (old new : World) (Halts : Type 0) : Type 0 where
+-- want of memory came at a make, just before it where room was wanted for what follows, or where nothing was left but to
+-- read and the emitter gave up: in these two cases that is so
+pub record LacksMemoryOf (script : List Access) (old new : World) (Rooms Halts : Type 0) : Type 0 where
   pub done : List Access
   pub rest : List Access
   pub split : done ++ rest ≡ script
   pub asked : new.store.asked ≡ old.store.asked ++ done
-  pub place : IsTrue (ends_with_make done) ⊎ IsTrue (starts_with_make rest)
+  pub place : IsTrue (ends_with_make done) ⊎ (Rooms × IsTrue (starts_with_make rest))
       ⊎ (IsTrue (list_all is_reading rest) × Halts)
 
 -- a result that has each row
@@ -188,7 +188,7 @@ pub record MakesResult (r : Planned) (result : Result Placed OpErr) (old new : W
   pub some : IfErr result (λ e. IsTrue (is_of_access e)
       → length old.store.asked < length new.store.asked)
   pub never : result ≡ Err Sink → ⊥
-  pub memory : result ≡ Err NoMemory → LacksMemoryOf (make_part r old.vault.next) old new ⊥
+  pub memory : result ≡ Err NoMemory → LacksMemoryOf (make_part r old.vault.next) old new ⊥ ⊥
   pub value : IfOk result (λ placed. flat_of placed ≡ fresh_flat r old.vault.next)
   pub left : IfOk result (λ placed. IsSome (overflow_of placed) → r.plan ≡ Hash)
   pub written : OnOk result (IsWritten r.selection.public.pack (fresh_flat r old.vault.next) new)
@@ -258,7 +258,7 @@ pub record SelectsBy {E : Type 0} (grew cut : E → E → List Event → Type 0)
   pub seals : SealsRows r.selection.public.pack old new
   pub may : IfOk result (MayAnswer r.plan r.pad)
   pub memory : result ≡ Err NoMemory
-      → LacksMemoryOf (whole_part r old.vault.next) old new (HasHalted (Leads grew cut) out_old out_new)
+      → LacksMemoryOf (whole_part r old.vault.next) old new (r.pad ≡ None) (HasHalted (Leads grew cut) out_old out_new)
   pub emitted : IfOk result (λ answer. EmitsHeld grew r answer old new out_old out_new)
   pub halted : IfErr result (λ e. EmitsUntil grew cut e (head_of r.selection)
       (λ (s : PlannedToHalt r old new). held_events r s.slots) out_old out_new)

@@ -21,7 +21,7 @@ use Rattle.ob_mean.specs.Refusals.{early_refusal}
 use Rattle.ob_mean.specs.Verdict.{is_late, ended as seen_to}
 use Rattle.ob_base.specs.Stored.{headings_of}
 use Rattle.ob_sql.specs.declared.stmt.Stmt.{Stmt}
-use Rattle.ob_sql.specs.declared.stmt.Stmt.TheVariants.{SelectRows as RowsStmt}
+use Rattle.ob_sql.specs.declared.stmt.Stmt.TheVariants.{SelectRows as RowsStmt, SelectTotals as TotalsStmt}
 use Rattle.ob_base.specs.declared.config.Public.{Public}
 use Rattle.ob_script.specs.Trace.{next}
 use Rattle.ob_flat.specs.declared.fault.OpErr.{OpErr}
@@ -158,6 +158,12 @@ SinkCause (Err (Tampered region place)) old new = new ≡ old
 SinkCause (Err NoMemory) old new = new ≡ old
 SinkCause (Err SourceFault) old new = ⊥
 SinkCause (Err InputLimit) old new = ⊥
+
+-- a statement whose answer may be rows
+abbrev pub MayEmit : Stmt → Type 0
+MayEmit (RowsStmt s) = Unit {0}
+MayEmit (TotalsStmt s) = Unit {0}
+MayEmit _ = ⊥
 
 -- an answer that is no rows
 abbrev pub HasNoRows : Outcome → Type 0

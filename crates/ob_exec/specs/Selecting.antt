@@ -18,7 +18,7 @@ use Rattle.ob_row.specs.Condition.{Condition}
 use Rattle.ob_row.specs.Totals.{printed}
 use Rattle.ob_row.specs.Slots.{Slots, rows, selected}
 use Rattle.ob_row.specs.Truth.{is_true}
-use Rattle.ob_script.specs.Script.{blocks_of, extent_of, select_part}
+use Rattle.ob_script.specs.Script.{blocks_of, extent_of, padded_part, select_part}
 use Rattle.ob_vault.specs.State.{World}
 use Rattle.ob_store.specs.State.{Lie}
 use Rattle.ob_vault.specs.Numbers.{spent}
@@ -39,7 +39,7 @@ use Rattle.ob_exec.specs.declared.selecting.Selected.{Selected}
 use Rattle.ob_exec.specs.declared.selecting.Selected.TheVariants.{Rows, Refused}
 use Rattle.ob_exec.specs.Engines.{AreSettings, IsFree}
 use Rattle.ob_exec.specs.Halting.{EmitsUntil}
-use Rattle.ob_exec.specs.Memory.{AtMake, HasCounted, HasHalted, is_reading}
+use Rattle.ob_exec.specs.Memory.{AtMake, BeforeResult, HasCounted, HasHalted, is_reading}
 use Rattle.ob_exec.specs.Telling.{AcceptsRows}
 use Rattle.std.specs.List.{list_all}
 
@@ -199,11 +199,16 @@ pub record HoldsSeen (q : Selection) (slots : Slots) (failed : Bool) (n : ℕ) (
       ≡ held_if (nat_le (walked_after q (seen_of q slots)) (done_of failed n)) (seen_of q slots).then
 
 -- ---- what a selection asks
+-- how many accesses of a padded result room is kept for before its rows are counted: all, and of another none
+abbrev pub padded_after : (pad : Option ℕ) → Selection → ℕ
+padded_after None q = 0
+padded_after (Some pad) q = length (padded_part q.public pad 0 (extent_of (region_of q)))
+
 pub record MaySelect (q : Selection) (room : RoomState) (w : World) : Type 0 where
   pub settings : AreSettings q.public
   pub free : IsFree q.public room
   pub ready : Ready w
-  pub spare : counted_after q + q.ending ≤ w.store.spare
+  pub spare : counted_after q + padded_after q.public.pad q + q.ending ≤ w.store.spare
   pub short : q.ending ≤ 1
   pub few : spent w < 2 ^ 63 + 2 ^ 58
   pub flat : IsFlat q.public.pack q.flat w
@@ -215,15 +220,16 @@ pub record MaySelect (q : Selection) (room : RoomState) (w : World) : Type 0 whe
 abbrev pub from : ℕ → ℕ → Type 0
 from g region = g ≤ region
 
--- want of memory comes before or at a make, or once it has counted, nothing is left to be written, and the emitter gave
--- up, which is this
+-- want of memory comes at a make, just before that of a result that isn't padded, or once it has counted, nothing is left
+-- to be written, and the emitter gave up, which is this
 pub record LacksMemoryIn (q : Selection) (seen : Seen) (old new : World) (Halts : Type 0) : Type 0 where
   pub done : List Access
   pub rest : List Access
   pub split : done ++ rest ≡ selection_script q seen old.vault.next
   pub asked : new.store.asked ≡ old.store.asked ++ done
   pub some : done ≡ [] → ⊥
-  pub place : AtMake done rest ⊎ (HasCounted q.public seen × IsTrue (list_all is_reading rest) × Halts)
+  pub place : AtMake done ⊎ BeforeResult q.public seen rest
+      ⊎ (HasCounted q.public seen × IsTrue (list_all is_reading rest) × Halts)
 
 -- rows were emitted, or nothing of what was refused
 abbrev pub EmitsSelected : {E : Type 0} → (grew : E → E → List Event → Type 0) → Selection → Selected → (old new : World) → (out_old out_new : E) → Type 0

@@ -14,7 +14,7 @@ use Rattle.ob_mean.specs.Verdict.{Tables, verdict, ended as seen_to}
 use Rattle.ob_exec.specs.declared.engine.Engine.{Engine}
 use Rattle.ob_exec.specs.declared.outcome.Outcome.{Outcome}
 use Rattle.ob_exec.specs.Agreeing.{count_of}
-use Rattle.ob_exec.specs.Running.{Ran, RefusedEarly, Emits, SinkCause, IsSilent, refusal_now}
+use Rattle.ob_exec.specs.Running.{Ran, RefusedEarly, Emits, SinkCause, IsSilent, MayEmit, refusal_now}
 use Rattle.ob_exec.specs.Memory.{HasHalted, LacksMemory}
 use Rattle.ob_exec.specs.Telling.{KeepsSealed, ReadsTrue, ReadsTrueUntil, SeenCut, Told, is_refused, IsNotTampered, Partly, Emitted, answer_labels, meant_script}
 
@@ -74,6 +74,8 @@ pub record Serves {R E : Type 0} (state : R → RevState) (grew cut : E → E �
   pub answered : IfOk result (λ outcome. Answered state grew stmt outcome old s t out_old out_new)
   pub stopped : IfErr result (λ stop. Stopped state grew cut stmt stop old s new t out_old out_new)
   pub sink : SinkCause result (faults out_old) (faults out_new)
+  -- an emitter stops nothing but a SELECT
+  pub emits : result ≡ Err SinkFault → MayEmit stmt
   pub means : Means state stmt result old s new t
 
 -- the same of a statement that emits nothing and of which nothing is counted, once it isn't refused before any access

@@ -31,7 +31,7 @@ use Rattle.ob_exec.specs.declared.selecting.Selected.TheVariants.{Rows, Refused}
 use Rattle.ob_exec.specs.declared.outcome.Outcome.{Outcome}
 use Rattle.ob_exec.specs.declared.outcome.Outcome.TheVariants.{Rows as RowsOut, Refused as RefusedOut}
 use Rattle.ob_exec.specs.Halting.{EmitsUntil}
-use Rattle.ob_exec.specs.Memory.{AtMake, HasCounted, HasHalted, is_reading}
+use Rattle.ob_exec.specs.Memory.{AtMake, BeforeResult, HasCounted, HasHalted, is_reading}
 use Rattle.ob_exec.specs.Selecting.{Selection, SealsRows, MayHold, EndsAs, from, shown_rows, answer_of, answer_events, seen_of}
 use Rattle.ob_exec.specs.Telling.{AreHeld}
 
@@ -99,15 +99,16 @@ pub record HoldsRows (p : Public) (select : SelectRows) (slots : Slots) (failed 
       (done_of failed n)) (seen_of (selection p select) slots).then
 
 -- ---- what it does
--- want of memory comes before the first access, before or at a make, or once it has counted, nothing is left to be
--- written, and the emitter gave up, which is this
+-- want of memory comes before the first access, at a make, just before that of a result that isn't padded, or once it has
+-- counted, nothing is left to be written, and the emitter gave up, which is this
 pub record LacksRowMemory (p : Public) (select : SelectRows) (seen : Seen) (old new : World)
     (Halts : Type 0) : Type 0 where
   pub done : List Access
   pub rest : List Access
   pub split : done ++ rest ≡ rows_script p select seen
   pub asked : new.store.asked ≡ old.store.asked ++ done
-  pub place : AtMake done rest ⊎ (HasCounted p seen × IsTrue (list_all is_reading rest) × Halts)
+  pub place : AtMake done ⊎ BeforeResult p seen rest
+      ⊎ (HasCounted p seen × IsTrue (list_all is_reading rest) × Halts)
 
 -- the first changed block that is read is one that the statement reads over the tables before
 abbrev pub ReadsMeant : Public → SelectRows → (old new : World) → Type 0

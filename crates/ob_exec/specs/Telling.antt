@@ -38,7 +38,7 @@ abbrev pub AreHeld : (pack : ℕ) → List Table → Tables → World → Type 0
 AreHeld pack [] [] w = ⊤
 AreHeld pack [] (held ∷ tables) w = ⊥
 AreHeld pack (t ∷ ts) [] w = ⊥
-AreHeld pack (t ∷ ts) (held ∷ tables) w = (held.heading ≡ t.heading) × F.Represents pack (flat_of t) held.held w × AreHeld pack ts tables w
+AreHeld pack (t ∷ ts) (held ∷ tables) w = (held.heading ≡ t.heading) × F.Represents pack (flat_of t) held.held.slots w × AreHeld pack ts tables w
 
 -- an engine and its store hold these tables in place, whose primary keys are distinct
 pub record Represents {R : Type 0} (state : R → RevState) (e : Engine R) (s : StoreState) (tables : Tables) : Type 0 where
@@ -139,4 +139,4 @@ AcceptsRows good pack = (columns : Columns) (region : ℕ) → F.Accepts good pa
 
 -- where each block of a live region was sealed, of rows that are good, under the position of a write to its place, it is
 abbrev pub KeepsSealed : {R : Type 0} → (R → RevState) → (old : Engine R) → StoreState → (new : Engine R) → StoreState → Type 0
-KeepsSealed state old s new t = (good : ℕ → List ℕ → Bool) → AcceptsRows good old.public.pack → Seals good (world_of state old s) (world_of state new t)
+KeepsSealed state old s new t = (good : ℕ → List ℕ → Bool) → AcceptsRows good old.public.pack → AcceptsRows good 1 → Seals good (world_of state old s) (world_of state new t)

@@ -55,7 +55,7 @@ impl<R: Revisions> Engine<R> {
 
     /// Writes a closing, a region that lists the tables by their names, and gives the mark that names it:
     /// from this mark the next run opens them again. The closing that the engine itself was opened from is
-    /// discarded before, whatever the store answers to that.
+    /// discarded before, whatever the store answers to that. The closing is written through the engine's own room.
     ///
     /// `InUse`, and nothing is asked of the store, where the closing's region or its first write would have a
     /// number above 2^63 - 1. `Failed` where the store failed; `NoMemory` before the first access, or where the

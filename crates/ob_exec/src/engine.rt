@@ -23,7 +23,8 @@ pub(crate) const ROW_WIDTH: u32 = 1_024;
 /// From so many accesses on no statement is served.
 pub(crate) const LATE: u64 = 1 << 63;
 
-/// Tables in sealed regions of a store, the keys to them, and a buffer of open rows.
+/// Tables in sealed regions of a store, the keys to them, and a buffer of open rows: the one room that there is, made by
+/// `start` and `open` and by no other call.
 #[derive(Drop)]
 pub struct Engine<R: Revisions> {
     pub(crate) alloc: Global,

@@ -21,6 +21,6 @@ mod totals;
 mod updating;
 
 pub use engine::Engine;
-pub use laws::{names_are_apart, names_order_tables};
+pub use laws::{names_are_apart, names_order_tables, rests_outlast, tables_keep_keys};
 pub use ob_reopen::{CloseErr, Closing, Listed, OpenErr};
 pub use outcome::Outcome;

@@ -4,11 +4,11 @@ ghost use Rattle.ob_base.specs.Plans.{MayPad};
 ghost use Rattle.ob_base.specs.Schemas.{width};
 ghost use Rattle.ob_blocks.specs.Idle.{IsIdle};
 ghost use Rattle.ob_vault.specs.Places.{at};
-ghost use Rattle.ob_flat.specs.Flats.{IsSized, IsWritten, FitsRegion};
+ghost use Rattle.ob_flat.specs.Flats.{IsWritten, FitsRegion};
 ghost use Rattle.ob_flat.specs.Words.{HasSpare, blocks_of};
 ghost use Rattle.ob_emit.specs.Emitting.{AreColumns};
 ghost use Rattle.ob_exec.specs.Engines.{AreSettings};
-ghost use Rattle.ob_exec.specs.Selecting.{selection_of};
+ghost use Rattle.ob_exec.specs.Selecting.{Selection, padded_after, selection_of};
 ghost use Rattle.ob_exec.specs.Results.{IsPlanned, KeepsRoom, MakesPadded, MakesResult, EmitsResult, WalksResult, SelectsBy, make_part, padded_to, placed_as, whole_part, planned};
 
 use crate::selecting::{Query, Selected};
@@ -21,19 +21,18 @@ use ob_room::Room;
 use ob_store::BlockStore;
 use ob_vault::{Revisions, Vault};
 
-// How many accesses a result of `k` rows takes, until it has been discarded.
-fn result_length(public: &Public, query: &Query<'_>, k: u32, plan: Plan) -> u64
+// How many accesses a result of `k` rows of `n` slots takes, until it has been discarded.
+fn result_length(public: &Public, n: u32, k: u32, plan: Plan) -> u64
     requires settings { AreSettings public.now }
-    requires size { IsSized query.now.flat.now.schema query.now.flat.now.capacity }
-    requires most { k ≤ query.now.flat.now.capacity }
+    requires size { n ≤ 16777216 }
+    requires most { k ≤ n }
     ensures few { result ≤ 576460752303423488 }
-    ensures length { (g : ℕ) →
-        length (whole_part (planned (selection_of public.now query.now) plan k) g) ≡ result }
+    ensures length { (q : Selection) → q.public ≡ public.now → q.flat.capacity ≡ n
+        → (g : ℕ) → length (whole_part (planned q plan k) g) ≡ result }
 {
-    let flat = query.flat;
     let pack = u64::from(public.pack);
     let depth = u64::from(public.depth);
-    let n = u64::from(flat.capacity);
+    let n = u64::from(n);
     let k = u64::from(k);
     let blocks = n.div_ceil(pack);
     let results = k.div_ceil(pack);
@@ -46,6 +45,22 @@ fn result_length(public: &Public, query: &Query<'_>, k: u32, plan: Plan) -> u64
         Plan::Continuous => blocks + 2 * n + 2 * results + 2,
         Plan::Hash => blocks + 4 * depth * n + 2 * k * depth + 2,
     }
+}
+
+// How many of these a padded result of `n` slots takes, which is known before its rows are counted; none
+// where results aren't padded.
+pub(crate) fn padded_length(public: &Public, n: u32) -> u64
+    requires settings { AreSettings public.now }
+    requires size { n ≤ 16777216 }
+    ensures few { result ≤ 576460752303423488 }
+    ensures length { (q : Selection) → q.public ≡ public.now → q.flat.capacity ≡ n
+        → padded_after q.public.pad q ≡ result }
+{
+    let Some(pad) = public.pad else {
+        return 0;
+    };
+    let rows = pad.min(n);
+    result_length(public, n, rows, padded_plan(rows, public))
 }
 
 // A result that has each row.
@@ -194,7 +209,7 @@ pub(crate) fn select_by<S: BlockStore, R: Revisions, E: Emit>(
         (at R.state vault.old (S.state store.old)) (at R.state vault.new (S.state store.new))
         out.old out.new }
 {
-    let accesses = result_length(public, query, k, plan) + query.ending;
+    let accesses = result_length(public, query.flat.capacity, k, plan) + query.ending;
     if store.room(accesses).is_err() {
         return Err(OpErr::NoMemory);
     }
@@ -211,7 +226,8 @@ pub(crate) fn select_by<S: BlockStore, R: Revisions, E: Emit>(
 }
 
 // Makes a padded result, and emits and discards it; where more rows are selected than it is padded to, it is
-// not emitted, but read all the same.
+// not emitted, but read all the same. Room for it was taken before its rows were counted, so that want of room
+// tells nothing of how many they are.
 pub(crate) fn select_padded<S: BlockStore, R: Revisions, E: Emit>(
     store: &mut S,
     vault: &mut Vault<R>,
@@ -224,9 +240,11 @@ pub(crate) fn select_padded<S: BlockStore, R: Revisions, E: Emit>(
 ) -> Result<Selected, OpErr>
     requires may { IsPlanned (padded_to (selection_of public.now query.now) pad k) room.old
         (at R.state vault.old (S.state store.old)) }
+    requires spare { query.now.ending + length (whole_part
+        (padded_to (selection_of public.now query.now) pad k) vault.old.next)
+        ≤ (S.state store.old).spare }
     requires plan { MayPad public.now.plan }
     requires count { k ≤ query.now.flat.now.capacity }
-    requires ending { query.now.ending ≤ 1 }
     ensures room { KeepsRoom room.old room.new }
     ensures selects { SelectsBy E.grew E.cut E.faults
         (padded_to (selection_of public.now query.now) pad k) result
@@ -235,10 +253,6 @@ pub(crate) fn select_padded<S: BlockStore, R: Revisions, E: Emit>(
 {
     let rows = pad.min(query.flat.capacity);
     let plan = padded_plan(rows, public);
-    let accesses = result_length(public, query, rows, plan) + query.ending;
-    if store.room(accesses).is_err() {
-        return Err(OpErr::NoMemory);
-    }
     let fresh = make_padded(store, vault, room, public, query, rows, plan)?;
     if k > pad {
         walk_result(store, vault, room, fresh)?;

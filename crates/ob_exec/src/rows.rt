@@ -3,7 +3,7 @@ ghost use Rattle.std.specs.Prelude.{◌≡◌, ◌≤◌, ◌⊎◌, ◌+◌, �
 ghost use Rattle.ob_base.specs.declared.seen.End.TheVariants.{Whole};
 ghost use Rattle.ob_base.specs.declared.skeleton.Source.TheVariants.{Table as OneTable};
 ghost use Rattle.ob_base.specs.Events.{Leads};
-ghost use Rattle.ob_base.specs.Joins.{joined_blocks};
+ghost use Rattle.ob_base.specs.Joins.{joined_blocks, joined_slots};
 ghost use Rattle.ob_base.specs.Numbers.{blocks_for};
 ghost use Rattle.ob_flat.specs.declared.fault.OpErr.TheVariants.{Sink, NoMemory};
 ghost use Rattle.ob_flat.specs.Passes.{SinkCause};
@@ -18,10 +18,12 @@ ghost use Rattle.ob_exec.specs.Sources.{SelectsRows, UsesRoomFor, IsFew, closing
 use crate::engine::{Engine, seen_to_end};
 use crate::outcome::Outcome;
 use crate::places::printed_places;
+use crate::results::padded_length;
 use crate::selecting::{Query, Selected, select_from};
 use ob_base::{Emit, EmitErr, End, Name, Public, Seen, Source, Stop};
 use ob_flat::{Flat, OpErr};
 use ob_mean::{left_place, right_place, where_at};
+use ob_order::Order;
 use ob_sql::SelectRows;
 use ob_store::BlockStore;
 use ob_vault::Revisions;
@@ -53,6 +55,36 @@ fn outcome_of(selected: Selected) -> Outcome
     }
 }
 
+// How many blocks a joined table has.
+fn joined_blocks(public: &Public, left: &Flat, right: &Flat) -> u64
+    requires pack { (1 ≤ public.now.pack) × (public.now.pack ≤ 16) }
+    requires buffer { 3 * public.now.pack + 1 ≤ public.now.buffer }
+    requires left { left.now.capacity ≤ 1048576 }
+    requires right { right.now.capacity ≤ 1048576 }
+    ensures few { result ≤ 1099511627776 }
+    ensures value { result ≡ joined_blocks public.now.pack public.now.buffer left.now.capacity
+        right.now.capacity }
+{
+    let pack = u32::from(public.pack);
+    let buffered = (public.buffer - 2 * pack) / pack;
+    let chunks = left.capacity.div_ceil(pack).div_ceil(buffered);
+    u64::from(chunks) * u64::from(right.capacity.div_ceil(pack))
+}
+
+// How many slots it has.
+fn joined_slots(public: &Public, left: &Flat, right: &Flat) -> u32
+    requires pack { (1 ≤ public.now.pack) × (public.now.pack ≤ 16) }
+    requires buffer { 3 * public.now.pack + 1 ≤ public.now.buffer }
+    requires left { left.now.capacity ≤ 1048576 }
+    requires right { right.now.capacity ≤ 1048576 }
+    requires few { joined_slots public.now.pack public.now.buffer left.now.capacity
+        right.now.capacity ≤ 16777216 }
+    ensures { result ≡ joined_slots public.now.pack public.now.buffer left.now.capacity
+        right.now.capacity }
+{
+    (joined_blocks(public, left, right) * u64::from(public.pack)) as u32
+}
+
 // How many accesses there are of a join, of the count of its rows, and of the discard of its region.
 fn join_accesses(public: &Public, left: &Flat, right: &Flat) -> u64
     requires pack { (1 ≤ public.now.pack) × (public.now.pack ≤ 16) }
@@ -63,12 +95,8 @@ fn join_accesses(public: &Public, left: &Flat, right: &Flat) -> u64
         + 3 * joined_blocks public.now.pack public.now.buffer left.now.capacity right.now.capacity
         + 2 }
 {
-    let pack = u32::from(public.pack);
-    let buffered = (public.buffer - 2 * pack) / pack;
-    let lefts = left.capacity.div_ceil(pack);
-    let rights = right.capacity.div_ceil(pack);
-    let blocks = u64::from(lefts.div_ceil(buffered)) * u64::from(rights);
-    u64::from(lefts) + 3 * blocks + 2
+    let lefts = left.capacity.div_ceil(u32::from(public.pack));
+    u64::from(lefts) + 3 * joined_blocks(public, left, right) + 2
 }
 
 impl<R: Revisions> Engine<R> {
@@ -101,8 +129,9 @@ impl<R: Revisions> Engine<R> {
             return Err(OpErr::NoMemory);
         };
         let cols = printed_places(select, columns, &[]);
-        let blocks = flat.capacity.div_ceil(u32::from(self.public.pack));
-        if store.room(u64::from(blocks)).is_err() {
+        let blocks = u64::from(flat.capacity.div_ceil(u32::from(self.public.pack)));
+        let padded = padded_length(&self.public, flat.capacity);
+        if store.room(blocks + padded).is_err() {
             return Err(OpErr::NoMemory);
         }
         let query = Query {
@@ -159,19 +188,22 @@ impl<R: Revisions> Engine<R> {
         let Ok(pred) = where_at(self.alloc, &select.cond, columns, others) else {
             return Err(OpErr::NoMemory);
         };
+        let Ok(mut order) = Order::new(self.alloc, self.room.rows()) else {
+            return Err(OpErr::NoMemory);
+        };
         let cols = printed_places(select, columns, others);
         let lcol = left_place(on, equals, columns, others) as u8;
         let rcol = right_place(on, equals, columns, others) as u8;
-        if store
-            .room(join_accesses(&self.public, &left, &right))
-            .is_err()
-        {
+        let accesses = join_accesses(&self.public, &left, &right);
+        let padded = padded_length(&self.public, joined_slots(&self.public, &left, &right));
+        if store.room(accesses + padded).is_err() {
             return Err(OpErr::NoMemory);
         }
         let joined = match ob_join::join(
             store,
             &mut self.vault,
             &mut self.room,
+            &mut order,
             &left,
             &right,
             lcol,

@@ -1,5 +1,5 @@
 //! The answer to a SELECT of totals, by one pass over its table.
-ghost use Rattle.std.specs.Prelude.{◌≡◌, ◌≤◌, [], ◌∷◌, map, take, length, Some, None};
+ghost use Rattle.std.specs.Prelude.{◌≡◌, ◌≤◌, [], ◌∷◌, map, take, length, Some, None, IfOk, IfSome};
 ghost use Rattle.ob_base.specs.Events.{Head, Row, Close};
 ghost use Rattle.ob_base.specs.Limits.{buffered};
 ghost use Rattle.ob_vault.specs.Places.{at};
@@ -9,15 +9,17 @@ ghost use Rattle.ob_exec.specs.Selecting.{UsesRoom};
 ghost use Rattle.ob_exec.specs.Totalling.{agg_at, error_of, Gives, MayTotal, Totals};
 
 use crate::outcome::Outcome;
-use ob_base::{Column, ColumnName, Emit, EmitErr, Label, Refusal, Schema, Shown};
+use ob_base::{Column, ColumnName, Emit, EmitErr, Label, NoMemory, Refusal, Schema, Shown};
 use ob_flat::{Flat, OpErr};
 use ob_group::{Grouped, agg_label, aggregate, group};
 use ob_mean::{agg_of, item_of, place_of};
+use ob_order::Order;
 use ob_room::Room;
 use ob_row::{Agg, Item, Pred};
 use ob_sql::{Listed, SelectTotals};
 use ob_store::BlockStore;
 use ob_vault::{Revisions, Vault};
+use std::alloc::Global;
 use std::array;
 
 // ---- what is totalled
@@ -135,11 +137,23 @@ fn answer_aggregates<S: BlockStore, R: Revisions, E: Emit>(
     }
 }
 
+/// The order in which the groups are found, with a place for each row that may be open; with none where a
+/// SELECT has no GROUP BY.
+pub(crate) fn order_for(alloc: Global, select: &SelectTotals, rows: u32) -> Result<Order, NoMemory>
+    ensures { IfOk result (λ order. IfSome select.now.group (λ key. rows ≤ order.most)) }
+{
+    match &select.group {
+        None => Order::new(alloc, 0),
+        Some(_) => Order::new(alloc, rows),
+    }
+}
+
 // A row for each group of them.
 fn answer_groups<S: BlockStore, R: Revisions, E: Emit>(
     store: &mut S,
     vault: &mut Vault<R>,
     room: &mut Room,
+    order: &mut Order,
     flat: &Flat,
     pred: &Pred,
     select: &SelectTotals,
@@ -149,6 +163,7 @@ fn answer_groups<S: BlockStore, R: Revisions, E: Emit>(
     requires may { MayTotal flat.now pred.now select.now room.old
         (at R.state vault.old (S.state store.old)) }
     requires grouped { select.now.group ≡ Some key.now }
+    requires places { room.old.rows ≤ order.old.most }
     ensures room { UsesRoom room.old room.new }
     ensures totals { Totals E.grew E.cut E.faults (buffered room.old.pack room.old.rows)
         room.old.pack flat.now select.now result (at R.state vault.old (S.state store.old))
@@ -162,6 +177,7 @@ fn answer_groups<S: BlockStore, R: Revisions, E: Emit>(
         store,
         vault,
         room,
+        order,
         flat,
         pred,
         place,
@@ -185,6 +201,7 @@ pub(crate) fn answer_totals<S: BlockStore, R: Revisions, E: Emit>(
     store: &mut S,
     vault: &mut Vault<R>,
     room: &mut Room,
+    order: &mut Order,
     flat: &Flat,
     pred: &Pred,
     select: &SelectTotals,
@@ -192,6 +209,7 @@ pub(crate) fn answer_totals<S: BlockStore, R: Revisions, E: Emit>(
 ) -> Result<Outcome, OpErr>
     requires may { MayTotal flat.now pred.now select.now room.old
         (at R.state vault.old (S.state store.old)) }
+    requires places { IfSome select.now.group (λ key. room.old.rows ≤ order.old.most) }
     ensures room { UsesRoom room.old room.new }
     ensures totals { Totals E.grew E.cut E.faults (buffered room.old.pack room.old.rows)
         room.old.pack flat.now select.now result (at R.state vault.old (S.state store.old))
@@ -199,6 +217,6 @@ pub(crate) fn answer_totals<S: BlockStore, R: Revisions, E: Emit>(
 {
     match &select.group {
         None => answer_aggregates(store, vault, room, flat, pred, select, out),
-        Some(key) => answer_groups(store, vault, room, flat, pred, select, key, out),
+        Some(key) => answer_groups(store, vault, room, order, flat, pred, select, key, out),
     }
 }

@@ -7,7 +7,7 @@ ghost use Rattle.ob_exec.specs.Serving.{Serves};
 
 use crate::engine::Engine;
 use crate::outcome::Outcome;
-use crate::totalling::answer_totals;
+use crate::totalling::{answer_totals, order_for};
 use ob_base::{Emit, Stop};
 use ob_flat::OpErr;
 use ob_mean::where_at;
@@ -34,6 +34,9 @@ impl<R: Revisions> Engine<R> {
         let Ok(pred) = where_at(self.alloc, &select.cond, flat.schema.as_slice(), &[]) else {
             return self.cut(0, OpErr::NoMemory);
         };
+        let Ok(mut order) = order_for(self.alloc, select, self.room.rows()) else {
+            return self.cut(0, OpErr::NoMemory);
+        };
         let before = store.count();
         let blocks = flat.capacity.div_ceil(u32::from(self.public.pack));
         if store.room(u64::from(blocks)).is_err() {
@@ -43,6 +46,7 @@ impl<R: Revisions> Engine<R> {
             store,
             &mut self.vault,
             &mut self.room,
+            &mut order,
             &flat,
             &pred,
             select,

@@ -9,7 +9,7 @@ use Rattle.ob_flat.proofs.Resting.{flat_rests}
 use Rattle.ob_room.specs.RoomState.{RoomState}
 use Rattle.ob_exec.specs.Selecting.{selection_of}
 use Rattle.ob_exec.specs.Results.{planned, fresh_flat}
-use Rattle.ob_exec.proofs.ResultSteps.{by_none, by_rests, by_make, by_emit_ok, by_emit_err, by_walk_ok, by_walk_err, emits_at, walks_at, spare_made, spare_at, fits_fresh, fits_at, blocks_some, room_made}
+use Rattle.ob_exec.proofs.ResultSteps.{whole-length, by_none, by_rests, by_make, by_emit_ok, by_emit_err, by_walk_ok, by_walk_err, emits_at, walks_at, spare_made, spare_at, fits_fresh, fits_at, blocks_some, room_made}
 use Rattle.ob_exec.proofs.results.select_by.Goals as goal
 
 pub make_result-requires-clause-may : goal.make_result-requires-clause-may
@@ -29,11 +29,19 @@ make_result-requires-clause-may g c =
       most = may.most;
     }
 
+pub make_result-requires-clause-spare : goal.make_result-requires-clause-spare
+make_result-requires-clause-spare g c =
+    let r = planned (selection_of c.args.public.now c.args.query.now) c.args.plan c.args.k in
+    let next = c.args.vault.now.next in
+    let long = c.result_length.ensures.length r.selection refl refl next in
+    let enough = room_made c.room.result (sym c.is_err.ensures.value ∙ c.if-is_err.false) c.room.ensures.spare in
+    omega (arith, long, enough, whole-length r next c.requires.may.settings.pack_least)
+
 pub returns-then-is_err-clause-selects : goal.returns-then-is_err-clause-selects
 returns-then-is_err-clause-selects g c =
     let may = c.requires.may in
     let v = (at g.R.Revisions.state c.args.vault.now (g.S.BlockStore.state c.args.store.now)).vault in
-    by_none g.E.Emit.grew g.E.Emit.cut g.E.Emit.faults (planned (selection_of c.args.public.now c.args.query.now) c.args.plan c.args.k) v _ _ c.room.ensures.rests c.args.out.now may.ready may.settings.pack_least
+    by_none g.E.Emit.grew g.E.Emit.cut g.E.Emit.faults (planned (selection_of c.args.public.now c.args.query.now) c.args.plan c.args.k) v _ _ c.room.ensures.rests c.args.out.now refl may.ready may.settings.pack_least
 
 pub returns-in_err-fresh-clause-selects : goal.returns-in_err-fresh-clause-selects
 returns-in_err-fresh-clause-selects g c =
@@ -53,7 +61,7 @@ emit_result-requires-clause-spare g c =
     let v = (at g.R.Revisions.state c.args.vault.now (g.S.BlockStore.state c.args.store.now)).vault in
     let pack : c.make_result.new.room.pack ≡ r.selection.public.pack = ap (λ (x : RoomState). x.pack) c.make_result.ensures.room.same ∙ may.free.pack in
     let made = rw c.in-Done.is at c.in_ok-fresh.ensures.makes in
-    let long = c.result_length.ensures.length v.next in
+    let long = c.result_length.ensures.length r.selection refl refl v.next in
     let enough = room_made c.room.result (sym c.is_err.ensures.value ∙ c.if-is_err.false) c.room.ensures.spare in
     spare_at _ _ _ (fresh_flat r v.next) _ pack made.value (spare_made r _ _ r.selection.ending may.settings.pack_least (omega (arith, long, enough)) made.ran.ok)
 
@@ -73,7 +81,7 @@ walk_result-requires-clause-spare g c =
     let v = (at g.R.Revisions.state c.args.vault.now (g.S.BlockStore.state c.args.store.now)).vault in
     let pack : c.make_result.new.room.pack ≡ r.selection.public.pack = ap (λ (x : RoomState). x.pack) c.make_result.ensures.room.same ∙ may.free.pack in
     let made = rw c.in-Overflow.is at c.in_ok-fresh.ensures.makes in
-    let long = c.result_length.ensures.length v.next in
+    let long = c.result_length.ensures.length r.selection refl refl v.next in
     let enough = room_made c.room.result (sym c.is_err.ensures.value ∙ c.if-is_err.false) c.room.ensures.spare in
     spare_at _ _ _ (fresh_flat r v.next) _ pack made.value (spare_made r _ _ r.selection.ending may.settings.pack_least (omega (arith, long, enough)) made.ran.ok)
 
@@ -104,7 +112,7 @@ returns-in_ok-n-in-Done-clause-selects g c =
     let v = (at g.R.Revisions.state c.args.vault.now (g.S.BlockStore.state c.args.store.now)).vault in
     let pack : c.make_result.new.room.pack ≡ r.selection.public.pack = ap (λ (x : RoomState). x.pack) c.make_result.ensures.room.same ∙ may.free.pack in
     let made = rw c.in-Done.is at c.in_ok-fresh.ensures.makes in
-    let long = c.result_length.ensures.length v.next in
+    let long = c.result_length.ensures.length r.selection refl refl v.next in
     let enough = room_made c.room.result (sym c.is_err.ensures.value ∙ c.if-is_err.false) c.room.ensures.spare in
     by_rests g.E.Emit.grew g.E.Emit.cut g.E.Emit.faults r v _ _ c.room.ensures.rests _ _ _ _ may.ready
     (by_emit_ok g.E.Emit.grew g.E.Emit.cut g.E.Emit.faults r _ _ may.settings.pack_least _ _ made _ _ (λ s. (made.told s).0) (λ s. ap (option_map Overflow) (made.told s).0) (rows_some c.args.plan c.args.k may.some) (λ s padded. absurd (cc padded)) _ (omega (arith, long, enough)) (emits_at g.E.Emit.grew g.E.Emit.cut g.E.Emit.faults _ _ _ (fresh_flat r v.next) _ _ _ _ _ _ pack made.value c.in_ok-n-in-Done.ensures.emits))
@@ -127,7 +135,7 @@ returns-in_ok-walk_result-in-Overflow-clause-selects g c =
     let v = (at g.R.Revisions.state c.args.vault.now (g.S.BlockStore.state c.args.store.now)).vault in
     let pack : c.make_result.new.room.pack ≡ r.selection.public.pack = ap (λ (x : RoomState). x.pack) c.make_result.ensures.room.same ∙ may.free.pack in
     let made = rw c.in-Overflow.is at c.in_ok-fresh.ensures.makes in
-    let long = c.result_length.ensures.length v.next in
+    let long = c.result_length.ensures.length r.selection refl refl v.next in
     let enough = room_made c.room.result (sym c.is_err.ensures.value ∙ c.if-is_err.false) c.room.ensures.spare in
     by_rests g.E.Emit.grew g.E.Emit.cut g.E.Emit.faults r v _ _ c.room.ensures.rests _ _ _ _ may.ready
     (by_walk_ok g.E.Emit.grew g.E.Emit.cut g.E.Emit.faults r _ _ may.settings.pack_least _ _ made _ _ _ (made.left refl, refl) (λ s. ap (option_map Overflow) (made.told s).0) (omega (arith, long, enough)) (walks_at _ _ _ (fresh_flat r v.next) _ _ _ pack made.value c.in_ok-walk_result-in-Overflow.ensures.walks))

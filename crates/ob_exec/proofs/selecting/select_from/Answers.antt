@@ -3,7 +3,7 @@ use Rattle.std.proofs.lemmas.Result.{err_from_is_err_and}
 use Rattle.ob_exec.specs.declared.selecting.Selected.TheVariants.{Rows, Refused}
 use Rattle.ob_exec.specs.Selecting.{selection_of}
 use Rattle.ob_exec.proofs.SelectEnds.{end_uncounted, end_none, end_refused, end_first, end_second_at, counts_at, some_of, none_of, free_same, planned_first, planned_second, hashed_first}
-use Rattle.ob_exec.proofs.SelectPadded.{pad_some, planned_padded, end_padded}
+use Rattle.ob_exec.proofs.SelectPadded.{pad_some, planned_padded, spare_padded, end_padded}
 use Rattle.ob_exec.proofs.selecting.select_from.Goals as goal
 
 pub returns-in_err-counted-clause-selects : goal.returns-in_err-counted-clause-selects
@@ -109,6 +109,13 @@ select_padded-requires-clause-may g c =
     let counts = counts_at q _ _ _ _ may.free.pack c.in_ok-counted.ensures.counts in
     planned_padded q c.in-Some.pad c.in-Some.is c.in_ok-counted.counted.k c.in_ok-counted.counted.consecutive _ _ counts (pad_some q c.in-Some.pad c.in-Some.is may.settings.padded).1 c.args.room.now may c.count.new.room
     (free_same _ _ _ _ may.free c.count.ensures.room)
+
+pub select_padded-requires-clause-spare : goal.select_padded-requires-clause-spare
+select_padded-requires-clause-spare g c =
+    let q = selection_of c.args.public.now c.args.query.now in
+    let may = c.requires.may in
+    let counts = counts_at q _ _ _ _ may.free.pack c.in_ok-counted.ensures.counts in
+    spare_padded q c.in-Some.pad c.in-Some.is c.in_ok-counted.counted.k c.in_ok-counted.counted.consecutive _ _ counts (pad_some q c.in-Some.pad c.in-Some.is may.settings.padded).1 c.args.room.now may
 
 pub select_padded-requires-clause-plan : goal.select_padded-requires-clause-plan
 select_padded-requires-clause-plan g c = let q = selection_of c.args.public.now c.args.query.now in (pad_some q c.in-Some.pad c.in-Some.is c.requires.may.settings.padded).1

@@ -20,6 +20,7 @@ use Rattle.ob_exec.specs.Running.{inserted_as}
 use Rattle.ob_exec.proofs.FoundLemmas.{heading_found}
 use Rattle.ob_exec.proofs.InsertLemmas.{insert_alters}
 use Rattle.ob_exec.proofs.MutateLemmas.{mutated, unmutated}
+use Rattle.ob_exec.proofs.RunLemmas.{rests_refl}
 use Rattle.ob_exec.proofs.SilentLemmas.{serves_as, unasked}
 use Rattle.ob_exec.proofs.engine.Engine.insert.Goals as goal
 
@@ -38,6 +39,15 @@ insert-result-requires-clause-cells g c =
 
 pub move_table-requires : goal.move_table-requires
 move_table-requires g c = slice_get_within c.args.self.now.public.tables c.table_at-i.result.0 c.table_at-i.ensures.table c.table_at-i.ensures.here.get
+
+pub returns-in_default : goal.returns-in_default
+returns-in_default g c = record {
+  serves =
+      serves_as g.R.Revisions.state (Insert c.args.table.now c.args.columns.now c.args.values.now) c.args.self.now (g.S.BlockStore.state c.args.store.now) (g.S.BlockStore.state c.args.store.now) _ _ _ _
+      c.cut.ensures.answer c.cut.ensures.seen
+      (unasked g.R.Revisions.state (Insert c.args.table.now c.args.columns.now c.args.values.now) c.args.self.now (g.S.BlockStore.state c.args.store.now) c.requires.agrees c.requires.allowed refl
+      (g.S.BlockStore.state c.args.store.now) c.args.self.now.public.tables (rests_refl (g.S.BlockStore.state c.args.store.now)));
+}
 
 pub returns-then-is_err : goal.returns-then-is_err
 returns-then-is_err g c = record {

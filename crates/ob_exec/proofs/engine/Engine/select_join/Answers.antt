@@ -1,9 +1,9 @@
-use Rattle.std.proofs.Common.{◌≡◌, ◌++◌, ◌+◌, ◌*◌, ℕ, false, List, length, Ok, Err, Result, refl, sym, ◌∙◌, ap, subst}
+use Rattle.std.proofs.Common.{◌≡◌, ◌++◌, ◌+◌, ◌*◌, ℕ, false, List, length, Ok, Err, Result, refl, sym, ◌∙◌, ap, subst, arith}
 use Rattle.std.specs.Prelude.{OnOk, not}
 use Rattle.std.specs.Result.{is_err}
 use Rattle.std.specs.List.{list_any}
 use Rattle.ob_base.specs.declared.skeleton.Source.{Source}
-use Rattle.ob_base.specs.Joins.{joined_blocks}
+use Rattle.ob_base.specs.Joins.{joined_blocks, joined_slots}
 use Rattle.ob_base.specs.Numbers.{blocks_for}
 use Rattle.ob_base.specs.Stored.{has_table, headings_of}
 use Rattle.ob_row.specs.Results.{joined}
@@ -18,7 +18,7 @@ use Rattle.ob_vault.specs.Places.{at}
 use Rattle.ob_exec.specs.Agreeing.{world_of, count_of}
 use Rattle.ob_exec.specs.Engines.{flat_of}
 use Rattle.ob_exec.specs.Selecting.{MaySelect, Selection, SelectsFrom}
-use Rattle.ob_exec.proofs.RowsJoin.{join_idle, join_may, join_some, join_starts}
+use Rattle.ob_exec.proofs.RowsJoin.{asks_few, slots_few, join_idle, join_may, join_some, join_starts}
 use Rattle.ob_exec.proofs.RowsJoinStart.{join_stops, start_query, join_selects}
 use Rattle.ob_exec.proofs.RowsJoinEnd.{join_ends, join_halts, join_query}
 use Rattle.ob_exec.proofs.RowsNothing.{halts_first}
@@ -62,6 +62,22 @@ returns-in_default-where_at-clause-selects g c =
       sink = refl;
     }
 
+pub returns-in_default-new-clause-selects : goal.returns-in_default-new-clause-selects
+returns-in_default-new-clause-selects g c =
+    let old = c.args.self.now in
+    let state = g.R.Revisions.state in
+    let s = g.S.BlockStore.state c.args.store.now in
+    let one = c.table_at-left.ensures in
+    let two = c.table_at-right.ensures in
+    let left = one.here in
+    let right = two.here in
+    record {
+      ended = tt;
+      halted = halts_first g.E.Emit.grew g.E.Emit.cut old.public c.args.select.now c.args.seen.now (world_of state old s).vault s s c.args.out.now c.requires.agrees.ready (rests_refl s) c.requires.fresh
+          (join_some state old s c.table_at-left.result.0 c.table_at-right.result.0 one.table two.table c.in-Join.left c.in-Join.right c.in-Join.on c.in-Join.equals c.args.select.now c.requires.agrees left.get right.get left.named right.named c.in-Join.is);
+      sink = refl;
+    }
+
 pub returns-then-is_err-clause-selects : goal.returns-then-is_err-clause-selects
 returns-then-is_err-clause-selects g c =
     let old = c.args.self.now in
@@ -78,6 +94,41 @@ returns-then-is_err-clause-selects g c =
       sink = refl;
     }
 
+pub joined_slots-requires-clause-few : goal.joined_slots-requires-clause-few
+joined_slots-requires-clause-few g c =
+    let old = c.args.self.now in
+    let state = g.R.Revisions.state in
+    let s = g.S.BlockStore.state c.args.store.now in
+    let one = c.table_at-left.ensures in
+    let two = c.table_at-right.ensures in
+    let left = one.here in
+    let right = two.here in
+    slots_few state old s c.table_at-left.result.0 c.table_at-right.result.0 one.table two.table c.in-Join.left c.in-Join.right c.in-Join.on c.in-Join.equals c.args.select.now c.requires.agrees left.get right.get left.named right.named c.in-Join.is c.requires.allowed c.table_at-left.result.1 c.table_at-right.result.1 one.is two.is
+
+pub padded_length-padded-requires-clause-size : goal.padded_length-padded-requires-clause-size
+padded_length-padded-requires-clause-size g c =
+    let old = c.args.self.now in
+    let state = g.R.Revisions.state in
+    let s = g.S.BlockStore.state c.args.store.now in
+    let one = c.table_at-left.ensures in
+    let two = c.table_at-right.ensures in
+    let left = one.here in
+    let right = two.here in
+    let few = slots_few state old s c.table_at-left.result.0 c.table_at-right.result.0 one.table two.table c.in-Join.left c.in-Join.right c.in-Join.on c.in-Join.equals c.args.select.now c.requires.agrees left.get right.get left.named right.named c.in-Join.is c.requires.allowed c.table_at-left.result.1 c.table_at-right.result.1 one.is two.is in
+    omega (arith, c.joined_slots.ensures, few)
+
+pub overflow_add-accesses : goal.overflow_add-accesses
+overflow_add-accesses g c =
+    let old = c.args.self.now in
+    let state = g.R.Revisions.state in
+    let s = g.S.BlockStore.state c.args.store.now in
+    let one = c.table_at-left.ensures in
+    let two = c.table_at-right.ensures in
+    let left = one.here in
+    let right = two.here in
+    let few = asks_few state old s c.table_at-left.result.0 c.table_at-right.result.0 one.table two.table c.in-Join.left c.in-Join.right c.in-Join.on c.in-Join.equals c.args.select.now c.requires.agrees left.get right.get left.named right.named c.in-Join.is c.requires.allowed c.table_at-left.result.1 c.table_at-right.result.1 c.join_accesses-accesses.result one.is two.is c.join_accesses-accesses.ensures in
+    omega (arith, few, c.padded_length-padded.ensures.few)
+
 pub join-requires-clause-starts : goal.join-requires-clause-starts
 join-requires-clause-starts g c =
     let old = c.args.self.now in
@@ -91,7 +142,7 @@ join-requires-clause-starts g c =
     let right_is = two.is in
     let spare = at_ok c.room.result _ (sym c.is_err.ensures.value ∙ c.if-is_err.false) c.room.ensures.spare in
     join_starts state old s c.table_at-left.result.0 c.table_at-right.result.0 one.table two.table c.in-Join.left c.in-Join.right c.in-Join.on c.in-Join.equals c.args.select.now c.requires.agrees left.get right.get left.named right.named c.in-Join.is c.requires.allowed (g.S.BlockStore.state c.room.new.self) c.table_at-left.result.1 c.table_at-right.result.1
-    c.left_place-lcol.result c.right_place-rcol.result c.join_accesses.result c.room.ensures.rests c.join_accesses.ensures spare
+    c.left_place-lcol.result c.right_place-rcol.result c.join_accesses-accesses.result c.padded_length-padded.result c.room.ensures.rests c.join_accesses-accesses.ensures spare
 
 pub join-requires-clause-tables : goal.join-requires-clause-tables
 join-requires-clause-tables g c =
@@ -174,8 +225,9 @@ select_from-requires-clause-may g c =
     (c.as_slice.ensures.value ∙ c.printed_places-cols.ensures) in
     let may = join_selects state old s s1 c.table_at-left.result.0 c.table_at-right.result.0 one.table two.table c.in-Join.left c.in-Join.right c.in-Join.on c.in-Join.equals c.args.select.now c.requires.agrees left.get right.get left.named right.named c.in-Join.is c.requires.allowed c.room.ensures.rests
     lcol rcol c.join.new.vault s2
-    c.join.new.room _ c.in-Ok-join.joined c.join_accesses.result c.join.ensures.room joins
-    (c.join_accesses.ensures ∙ (λ k. blocks_for old.public.pack (left_is k).capacity + 3 * joined_blocks old.public.pack old.public.buffer (left_is k).capacity (right_is k).capacity + 2)) spare in
+    c.join.new.room _ c.in-Ok-join.joined c.join_accesses-accesses.result c.padded_length-padded.result c.join.ensures.room joins
+    (c.join_accesses-accesses.ensures ∙ (λ k. blocks_for old.public.pack (left_is k).capacity + 3 * joined_blocks old.public.pack old.public.buffer (left_is k).capacity (right_is k).capacity + 2))
+    (λ x same size. c.padded_length-padded.ensures.length x same (size ∙ (λ k. joined_slots old.public.pack old.public.buffer (sym left_is k).capacity (sym right_is k).capacity) ∙ sym c.joined_slots.ensures)) spare in
     subst (λ (x : Selection). MaySelect x c.join.new.room (at state c.join.new.vault s2)) (sym is) may
 
 pub discard-requires-clause-lives : goal.discard-requires-clause-lives

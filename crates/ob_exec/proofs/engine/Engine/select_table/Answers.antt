@@ -10,6 +10,7 @@ use Rattle.ob_mean.specs.Refusals.{source_tables}
 use Rattle.ob_mean.specs.Verdict.{is_late}
 use Rattle.ob_mean.proofs.EarlyLemmas.{allowed}
 use Rattle.ob_vault.specs.Places.{at}
+use Rattle.ob_flat.specs.declared.flat.Flat.{Flat}
 use Rattle.ob_exec.specs.Agreeing.{world_of, count_of}
 use Rattle.ob_exec.specs.Selecting.{MaySelect, Selection, SelectsFrom}
 use Rattle.ob_exec.proofs.FoundLemmas.{is_there}
@@ -74,7 +75,8 @@ select_from-requires-clause-may g c =
     (c.as_slice.ensures.value ∙ c.printed_places-cols.ensures) in
     let spare = at_ok c.room.result _ (sym c.is_err.ensures.value ∙ c.if-is_err.false) c.room.ensures.spare in
     let may = table_may state old s s1 c.table_at-flat.result.0 found.table c.args.table.now c.args.select.now c.requires.agrees here.get here.named c.requires.source c.requires.allowed c.room.ensures.rests
-    c.from-2.result (c.from-2.ensures ∙ c.div_ceil-blocks.ensures ∙ (λ j. div_ceil (flat_is j).capacity (c.from.ensures j))) spare in
+    c.from-blocks.result c.padded_length-padded.result (c.from-blocks.ensures ∙ c.div_ceil.ensures ∙ (λ j. div_ceil (flat_is j).capacity (c.from.ensures j)))
+    (λ x same size. c.padded_length-padded.ensures.length x same (size ∙ ap (λ (f : Flat). f.capacity) (sym flat_is))) spare in
     subst (λ (x : Selection). MaySelect x old.room (at state old.vault s1)) (sym is) may
 
 pub returns-clause-selects : goal.returns-clause-selects

@@ -1,5 +1,5 @@
 use Rattle.std.specs.Int.{div_ceil}
-use Rattle.std.proofs.Common.{◌≡◌, ◌-◌, length, Ok, Err, sym, ◌∙◌, ap, subst, append-nil}
+use Rattle.std.proofs.Common.{◌≡◌, ◌≤◌, ◌-◌, ℕ, IfSome, length, Ok, Err, sym, ◌∙◌, ap, subst, append-nil}
 use Rattle.ob_base.specs.Limits.{buffered}
 use Rattle.ob_base.specs.Stored.{has_table, headings_of}
 use Rattle.ob_vault.specs.Places.{at}
@@ -36,6 +36,18 @@ returns-in_default g c =
           c.requires.allowed c.args.out.now);
     }
 
+pub returns-in_default-order_for : goal.returns-in_default-order_for
+returns-in_default-order_for g c =
+    let emit = g.E.Emit in
+    let s = g.S.BlockStore.state c.args.store.now in
+    let found = c.table_at-flat.ensures in
+    record {
+      serves =
+          serves_same g.R.Revisions.state emit.grew emit.cut emit.faults (TotalsStmt c.args.select.now) c.args.self.now s s c.args.out.now c.args.out.now _ _ _ _ c.cut-in_default-order_for.ensures.answer c.cut-in_default-order_for.ensures.seen
+          (serves_none g.R.Revisions.state emit.grew emit.cut emit.faults g.met.E.Emit.starts c.args.self.now s s c.args.select.now c.table_at-flat.result.0 found.table c.requires.agrees (rests_refl s) found.here
+          c.requires.allowed c.args.out.now);
+    }
+
 pub returns-then-is_err : goal.returns-then-is_err
 returns-then-is_err g c =
     let emit = g.E.Emit in
@@ -60,6 +72,7 @@ answer_totals-requires g c =
           (c.in-Ok.ensures ∙ ap (where_at c.args.select.now.cond) (append-nil c.as_slice.result.now ∙ c.as_slice.ensures.value))
           c.from-2.result (c.from-2.ensures ∙ c.div_ceil-blocks.ensures ∙ (λ j. div_ceil c.table_at-flat.result.1.capacity (c.from.ensures j)))
           (at_ok c.room.result _ (sym c.is_err.ensures.value ∙ c.if-is_err.false) c.room.ensures.spare);
+      places = subst (λ (n : ℕ). IfSome c.args.select.now.group (λ key. n ≤ c.in-Ok-order_for.order.most)) c.rows.ensures.value c.in-Ok-order_for.ensures;
     }
 
 pub returns-in-Ok-answer_totals : goal.returns-in-Ok-answer_totals

@@ -21,6 +21,7 @@ use Rattle.ob_exec.specs.Schemas.{IsSet}
 use Rattle.ob_exec.proofs.ChangeLemmas.{sets_found, update_alters}
 use Rattle.ob_exec.proofs.FoundLemmas.{heading_found}
 use Rattle.ob_exec.proofs.MutateLemmas.{mutated, unmutated}
+use Rattle.ob_exec.proofs.RunLemmas.{rests_refl}
 use Rattle.ob_exec.proofs.SilentLemmas.{serves_as, unasked}
 use Rattle.ob_exec.proofs.engine.Engine.update.Goals as goal
 
@@ -34,6 +35,24 @@ update-requires-clause-sets g c =
 
 pub move_table-requires : goal.move_table-requires
 move_table-requires g c = slice_get_within c.args.self.now.public.tables c.table_at-i.result.0 c.table_at-i.ensures.table c.table_at-i.ensures.here.get
+
+pub returns-in_default : goal.returns-in_default
+returns-in_default g c = record {
+  serves =
+      serves_as g.R.Revisions.state (Update c.args.table.now c.args.sets.now c.args.cond.now) c.args.self.now (g.S.BlockStore.state c.args.store.now) (g.S.BlockStore.state c.args.store.now) _ _ _ _
+      c.cut.ensures.answer c.cut.ensures.seen
+      (unasked g.R.Revisions.state (Update c.args.table.now c.args.sets.now c.args.cond.now) c.args.self.now (g.S.BlockStore.state c.args.store.now) c.requires.agrees c.requires.allowed refl
+      (g.S.BlockStore.state c.args.store.now) c.args.self.now.public.tables (rests_refl (g.S.BlockStore.state c.args.store.now)));
+}
+
+pub returns-in_default-set_cells : goal.returns-in_default-set_cells
+returns-in_default-set_cells g c = record {
+  serves =
+      serves_as g.R.Revisions.state (Update c.args.table.now c.args.sets.now c.args.cond.now) c.args.self.now (g.S.BlockStore.state c.args.store.now) (g.S.BlockStore.state c.args.store.now) _ _ _ _
+      c.cut-in_default-set_cells.ensures.answer c.cut-in_default-set_cells.ensures.seen
+      (unasked g.R.Revisions.state (Update c.args.table.now c.args.sets.now c.args.cond.now) c.args.self.now (g.S.BlockStore.state c.args.store.now) c.requires.agrees c.requires.allowed refl
+      (g.S.BlockStore.state c.args.store.now) c.args.self.now.public.tables (rests_refl (g.S.BlockStore.state c.args.store.now)));
+}
 
 pub returns-then-is_err : goal.returns-then-is_err
 returns-then-is_err g c = record {

@@ -1,0 +1,50 @@
+-- What rests under some keys rests under others that are the same for the closing's region and for those of its tables.
+use Rattle.std.proofs.Common.{◌≡◌, ℕ, zero, suc, ◌+◌, ◌<◌, List, [], ◌∷◌, Option, Some, refl, ◌∙◌, ap}
+use Rattle.std.specs.Prelude.{slice_get}
+use Rattle.ob_mean.specs.Verdict.{Tables}
+use Rattle.ob_row.specs.Slots.{Slots}
+use Rattle.ob_seal.specs.KeySet.{KeySet, pair_of}
+use Rattle.ob_seal.proofs.Agree.{sealed_agree}
+use Rattle.ob_store.specs.State.{KeptRegion}
+use Rattle.ob_vault.specs.Tied.{at_of}
+use Rattle.ob_reopen.specs.declared.closing.Closing.{Closing}
+use Rattle.ob_reopen.specs.declared.listed.Listed.{Listed}
+use Rattle.ob_reopen.specs.Closings.{IsClosing}
+use Rattle.ob_reopen.proofs.ReadsRekeyed.{rows_agree}
+use Rattle.ob_exec.specs.Resting.{AreKept, KeepsTable, Rests, kept_block}
+
+module _ (k l : KeySet) (kept : ℕ → Option KeptRegion) where
+  table_agree : (pack : ℕ) (t : Listed) (slots : Slots) → pair_of k t.table.region ≡ pair_of l t.table.region → KeepsTable k pack t slots kept → KeepsTable l pack t slots kept
+  table_agree pack t slots same keeps = record {
+    size = keeps.size;
+    fits = keeps.fits;
+    region = keeps.region;
+    is = keeps.is;
+    blocks = keeps.blocks;
+    len = keeps.len;
+    whole = keeps.whole;
+    holds = λ p below. keeps.holds p below ∙ ap Some (sealed_agree k l (at_of t.table.region p (t.number + p)) same (kept_block pack t slots p));
+  }
+
+  tables_agree : (pack : ℕ) (listed : List Listed) (tables : Tables) → ((i : ℕ) (t : Listed) → slice_get listed i ≡ Some t → pair_of k t.table.region ≡ pair_of l t.table.region)
+      → AreKept k pack listed tables kept → AreKept l pack listed tables kept
+  tables_agree pack [] [] same are = tt
+  tables_agree pack [] (x ∷ xs) same are = absurd are
+  tables_agree pack (t ∷ ts) [] same are = absurd are
+  tables_agree pack (t ∷ ts) (x ∷ xs) same are = (
+    are.0,
+    table_agree pack t x.held.slots (same 0 t refl) are.1,
+    tables_agree pack ts xs (λ i u is. same (suc i) u is) are.2,
+  )
+
+  pub rests_agree : (closing : Closing) (tables : Tables) (rests : Rests k closing kept tables) → pair_of k closing.region ≡ pair_of l closing.region
+      → ((i : ℕ) (t : Listed) → slice_get rests.listed i ≡ Some t → pair_of k t.table.region ≡ pair_of l t.table.region) → Rests l closing kept tables
+  rests_agree closing tables rests own each = record {
+    listed = rests.listed;
+    closing_is = record {
+      catalogue = rests.closing_is.catalogue;
+      rows = rows_agree k l closing _ kept own rests.closing_is.rows;
+    };
+    held = tables_agree closing.pack rests.listed tables each rests.held;
+    in_place = rests.in_place;
+  }
