@@ -10,6 +10,7 @@ use Rattle.ob_base.specs.Stored.{headings, headings_of}
 use Rattle.ob_base.specs.declared.config.Plan.{Plan}
 use Rattle.ob_base.specs.declared.config.Plan.TheVariants.{Small, Large, Continuous, Hash}
 use Rattle.ob_base.specs.declared.config.Public.{Public}
+use Rattle.ob_base.specs.declared.seen.Seen.{Seen}
 use Rattle.ob_base.specs.declared.refusal.Refusal.{Refusal}
 use Rattle.ob_base.specs.declared.schema.Heading.{Heading}
 use Rattle.ob_base.specs.declared.seen.End.TheVariants.{Static}
@@ -197,20 +198,20 @@ uncut None s stmt one none told = refl
 uncut (Some n) s stmt one none told = let failed = ap outcome_failures told.outcome in absurd (omega (arith, failed, none))
 
 -- these texts, each of which was answered and none by the store's fault, are answered alike, and so are more behind them
-pub answers_on : (e f : Ending) (spelt : List Spelt) (s t : Session) (broken : Broken) (answers : List Answer) (seen : List Served) (part : List ℕ) (more : List Spelt) (others : List Answer) (behind : List Served)
-    → SessionsAlike s t → length answers ≡ length spelt → failures answers ≡ 0 → Answers e s spelt broken answers seen part → AreSeen e s.public s.asked spelt answers seen
+pub answers_on : (Leaves : Public → Stmt → Seen → Type 0) (e f : Ending) (spelt : List Spelt) (s t : Session) (broken : Broken) (answers : List Answer) (seen : List Served) (part : List ℕ) (more : List Spelt) (others : List Answer) (behind : List Served)
+    → SessionsAlike s t → length answers ≡ length spelt → failures answers ≡ 0 → Answers e s spelt broken answers seen part → AreSeen Leaves s.public s.asked spelt answers seen
     → s.asked + length (trace s.public seen) < 2 ^ 63 → (after_all t (spelt ++ more) []).asked < 2 ^ 63
     → (SessionsAlike (after_all s spelt broken) (after_all t spelt []) → (after_all (after_all t spelt []) more []).asked < 2 ^ 63 → Answers f (after_all t spelt []) more [] others behind [])
     → Answers f t (spelt ++ more) [] (answers ++ others) (seen ++ behind) []
 unfolding Answers AreSeen failures
-answers_on e f [] s t broken answers seen part more others behind alike each none told lawful few few_too follows =
+answers_on Leaves e f [] s t broken answers seen part more others behind alike each none told lawful few few_too follows =
     subst (λ (a : List Answer). Answers f t more [] (a ++ others) (seen ++ behind) []) (sym told.0)
     (subst (λ (x : List Served). Answers f t more [] ([] ++ others) (x ++ behind) []) (sym lawful) (follows alike few_too))
-answers_on e f (x ∷ spelt) s t broken [] seen part more others behind alike each none told lawful few few_too follows = absurd (omega (arith, each))
-answers_on e f (Err at ∷ spelt) s t broken (one ∷ answers) seen part more others behind alike each none told lawful few few_too follows =
-    (told.0, answers_on e f spelt s t (rest_of broken) answers seen part more others behind alike (omega (arith, each)) (omega (arith, none)) told.1 lawful.1 few few_too follows)
-answers_on e f (Ok stmt ∷ spelt) s t broken (one ∷ answers) [] part more others behind alike each none told lawful few few_too follows = absurd told
-answers_on e f (Ok stmt ∷ spelt) s t broken (one ∷ answers) (x ∷ seen) part more others behind alike each none told lawful few few_too follows =
+answers_on Leaves e f (x ∷ spelt) s t broken [] seen part more others behind alike each none told lawful few few_too follows = absurd (omega (arith, each))
+answers_on Leaves e f (Err at ∷ spelt) s t broken (one ∷ answers) seen part more others behind alike each none told lawful few few_too follows =
+    (told.0, answers_on Leaves e f spelt s t (rest_of broken) answers seen part more others behind alike (omega (arith, each)) (omega (arith, none)) told.1 lawful.1 few few_too follows)
+answers_on Leaves e f (Ok stmt ∷ spelt) s t broken (one ∷ answers) [] part more others behind alike each none told lawful few few_too follows = absurd told
+answers_on Leaves e f (Ok stmt ∷ spelt) s t broken (one ∷ answers) (x ∷ seen) part more others behind alike each none told lawful few few_too follows =
     let whole = uncut (head_of broken) s stmt one (omega (arith, none)) told.1 in
     let here = subst (λ (o : Option ℕ). IsCutOff o s stmt × AnswersIn o s stmt one × (x.seen ≡ seen_or_cut o s stmt) × Answers e (after o s stmt) spelt (rest_of broken) answers seen part) whole told in
     let entry : x ≡ served None s stmt = λ i. record { skeleton = lawful.0 i; seen = here.2 i } in
@@ -223,9 +224,9 @@ answers_on e f (Ok stmt ∷ spelt) s t broken (one ∷ answers) (x ∷ seen) par
       tt,
       answers_alike s t alike soon soon_too stmt one here.1,
       here.2 ∙ shows_alike s t alike soon soon_too stmt,
-      answers_on e f spelt (after None s stmt) (after None t stmt) (rest_of broken) answers seen part more others behind
+      answers_on Leaves e f spelt (after None s stmt) (after None t stmt) (rest_of broken) answers seen part more others behind
           (after_alike s t alike soon soon_too stmt) (omega (arith, each)) (omega (arith, none)) here.3
-          (subst (λ (y : Served). AreSeen e (next s.public y.skeleton y.seen) (s.asked + length (script s.public y.skeleton y.seen)) spelt answers seen) entry lawful.3)
+          (subst (λ (y : Served). AreSeen Leaves (next s.public y.skeleton y.seen) (s.asked + length (script s.public y.skeleton y.seen)) spelt answers seen) entry lawful.3)
           (subst (λ (y : Served). s.asked + length (script s.public y.skeleton y.seen) + length (trace (next s.public y.skeleton y.seen) seen) < 2 ^ 63) entry rest)
           few_too
           (subst (λ (o : Option ℕ). SessionsAlike (after_all (after o s stmt) spelt (rest_of broken)) (after_all (after None t stmt) spelt [])

@@ -28,7 +28,7 @@ use Rattle.ob_shell.specs.KeptMarks.{HeldAfter, mark_made}
 use Rattle.ob_shell.specs.KeptRuns.{AnswerAsOne, GoOn, OneRun, all_answers, all_seen, all_spelt, count_in, secret_in, seen_in, spelt_in}
 use Rattle.ob_shell.specs.Settings.{IsTaken, settings_of}
 use Rattle.ob_shell.specs.Usage.{is_traced, kept_usage}
-use Rattle.ob_shell.specs.Words.{Answer, Answers, AreSeen, Outside, any_refused}
+use Rattle.ob_shell.specs.Words.{Answer, Answers, Outside, any_refused}
 use Rattle.ob_shell.specs.declared.keeping.KeptEnding.{KeptEnding}
 use Rattle.ob_shell.specs.declared.keeping.KeptEnding.TheVariants.{Plain, OtherPack, NotClosed as LeftOpen, KeeperFault, StoreFault}
 use Rattle.ob_shell.specs.declared.top.Ending.{Ending}
@@ -246,8 +246,8 @@ module _ (words : List Text) (secret : List ℕ) (f : Ending) (one : OneRun word
       let failed = subst (λ (a : List Answer). failures a ≡ 0) run.answered none in
       let lawful = run.session.lawful in
       subst (λ (a : List Answer). Answers f t (run.session.spelt ++ more) [] (a ++ others) (all ++ behind) []) (sym run.answered)
-      (answers_on (Ran (Ok closed.0)) f run.session.spelt s t told.0 run.session.answers all run.session.part more others behind begins.alike each failed told.1
-      (subst (λ (e : Ending). AreSeen e run.base.public run.base.count run.session.spelt run.session.answers all) closed.1 lawful) soon few
+      (answers_on _ (Ran (Ok closed.0)) f run.session.spelt s t told.0 run.session.answers all run.session.part more others behind begins.alike each failed told.1
+      lawful soon few
       (λ alike enough. follows (after_all t run.session.spelt []) (waits_behind used refl told.0 told.2 (after_all t run.session.spelt []) refl alike) enough))
 
 -- ---- all of them

@@ -1,12 +1,13 @@
 -- What a run promises once its last line was written.
-use Rattle.std.proofs.Common.{◌≡◌, ℕ, Bool, true, false, List, [], ◌∷◌, ◌++◌, Option, Ok, Err, refl, sym, ◌∙◌, subst, arith}
+use Rattle.std.proofs.Common.{◌≡◌, ◌⊎◌, ℕ, Bool, true, false, List, [], ◌++◌, Option, Ok, Err, refl, sym, subst, arith}
 use Rattle.std.specs.Prelude.{⊤, ◌≢◌}
-use Rattle.std.specs.Io.KnownBytes.{Appends}
+use Rattle.ob_base.specs.Counts.{Rises}
 use Rattle.ob_print.specs.Cuts.{Cut}
 use Rattle.ob_shell.specs.Bases.{Base, fresh}
 use Rattle.ob_shell.specs.Closed.{Unwritten, LineWritten, refused_by}
-use Rattle.ob_shell.specs.Endings.{status_of, last_line, SinkStopped}
+use Rattle.ob_shell.specs.Endings.{status_of, last_line}
 use Rattle.ob_gen.specs.declared.tally.Tally.{Tally}
+use Rattle.ob_shell.specs.Running.{OutFailed}
 use Rattle.ob_shell.specs.Top.{EndingCause, EndingWords, IsFresh, Reported, Shown, TraceSink}
 use Rattle.ob_base.specs.declared.config.Config.{Config}
 use Rattle.ob_base.specs.declared.refusal.Stop.TheVariants.{Tampered, SourceFault, SinkFault, NoMemory, InputLimit}
@@ -20,39 +21,30 @@ use Rattle.ob_shell.proofs.CompleteLemmas.{reported_line, reported_quiet}
 use Rattle.ob_shell.proofs.TopLemmas.{shown_unread}
 use Rattle.ob_store.specs.State.{StoreState}
 use Rattle.ob_shell.specs.Settings.{limit_of}
-use Rattle.ob_shell.specs.Words.{Faults, KeepsLimits, SinksRose, printed}
-
--- of an empty line all was written
-nothing_cut : (grown lost : List ℕ) → [] ≡ grown ++ lost → grown ≡ []
-nothing_cut [] lost e = refl
-nothing_cut (b ∷ grown) lost e = absurd (cc e)
-
-pub none_of_it : {w0 w1 : Option (List ℕ)} {F : Type 0} {line : List ℕ} → Cut w0 w1 F line → line ≡ [] → Appends w0 w1 line
-none_of_it {w0 = w0} {w1 = w1} cut none =
-    subst (λ (l : List ℕ). Appends w0 w1 l) (nothing_cut cut.grown cut.prefix.lost (sym none ∙ cut.prefix.whole) ∙ sym none) cut.appends
+use Rattle.ob_shell.specs.Words.{Faults, KeepsLimits, SinksRose, Took, printed}
 
 module _ {tally : Tally} {tr : TraceSink} {Takes : Type 0} {base : Base} {gave : ℕ} {l0 l1 w0 w1 w2 : Option (List ℕ)} {s0 s1 : StoreState} where
   -- the last line was written, or might not be
   pub reported_closed : (ended : Ended) (report : Report) (old mid new : Faults)
       → report.status ≡ status_of ended.ending → report.high ≡ ended.high → EndingWords ended.ending Takes
-      → Shown tally tr base l0 l1 gave w0 w1 s0 s1 ended.high ended.ending [] (SinkStopped ended.ending) → EndingCause ended.ending old mid
+      → Shown tally tr base l0 l1 gave w0 w1 s0 s1 ended.high ended.ending [] (OutFailed ended.quiet old.out mid.out) → EndingCause ended.ending old mid
       → (ended.quiet ≡ true → Unwritten w1 w2 mid.out new.out) → (ended.quiet ≡ false → LineWritten (last_line ended.ending) w1 w2 mid.out new.out)
       → (ended.quiet ≡ true → SinksRose old mid) → (ended.quiet ≡ false → mid.trace ≡ old.trace) → new.trace ≡ mid.trace → new.source ≡ mid.source
       → Reported tally tr Takes base l0 l1 gave w0 w2 s0 s1 old new report
   reported_closed ended report old mid new status high takes shown cause quiet line rose loud trace source = go ended.quiet refl
     where
-      shown_high : Shown tally tr base l0 l1 gave w0 w1 s0 s1 report.high ended.ending [] (SinkStopped ended.ending)
-      shown_high = subst (λ (n : ℕ). Shown tally tr base l0 l1 gave w0 w1 s0 s1 n ended.ending [] (SinkStopped ended.ending)) (sym high) shown
+      shown_high : Shown tally tr base l0 l1 gave w0 w1 s0 s1 report.high ended.ending [] (OutFailed ended.quiet old.out mid.out)
+      shown_high = subst (λ (n : ℕ). Shown tally tr base l0 l1 gave w0 w1 s0 s1 n ended.ending [] (OutFailed ended.quiet old.out mid.out)) (sym high) shown
 
       go : (b : Bool) → ended.quiet ≡ b → Reported tally tr Takes base l0 l1 gave w0 w2 s0 s1 old new report
       go true is =
           let same : mid ≡ new = λ i. record { source = sym source i; out = sym (quiet is).faults i; trace = sym trace i } in
           subst (λ (f : Faults). Reported tally tr Takes base l0 l1 gave w0 w2 s0 s1 old f report) same
           (subst (λ (w : Option (List ℕ)). Reported tally tr Takes base l0 l1 gave w0 w s0 s1 old mid report) (sym (quiet is).written)
-          (reported_quiet ended.ending old mid status takes shown_high cause (rose is)))
+          (reported_quiet ended.ending old mid status takes shown_high (λ lost. lost.1) cause (rose is)))
       go false is =
           let l = line is in
-          reported_line ended.ending old mid new status takes shown_high cause l.cut (λ rises. rises) (none_of_it l.cut) l.empty l.later trace source (loud is)
+          reported_line ended.ending old mid new status takes shown_high (λ lost. absurd (cc (is, lost.0))) cause l.cut (λ rises. rises) l.empty l.later trace source (loud is)
 
 -- the words were not read
 pub words_end : (error : WordsErr) {Takes : Type 0} → (error ≡ Words.Usage → ¬ Takes) → EndingWords (refused_by error) Takes
@@ -63,17 +55,17 @@ pub words_cause : (error : WordsErr) (faults : Faults) → EndingCause (refused_
 words_cause Words.Usage faults = record { source = refl; out = refl; trace = refl }
 words_cause Words.NoMemory faults = (refl, omega arith, omega arith)
 
-unfoldable pub words_shown : (tally : Tally) (tr : TraceSink) (settings : Option Config) (error : WordsErr) (l : Option (List ℕ)) (gave : ℕ) (w : Option (List ℕ)) (s : StoreState) → IsFresh s → tr.new ≡ tr.old
-    → Shown tally tr (fresh settings) l l gave w w s s 0 (refused_by error) [] (SinkStopped (refused_by error))
+unfoldable pub words_shown : {F : Type 0} (tally : Tally) (tr : TraceSink) (settings : Option Config) (error : WordsErr) (l : Option (List ℕ)) (gave : ℕ) (w : Option (List ℕ)) (s : StoreState) → IsFresh s → tr.new ≡ tr.old
+    → Shown tally tr (fresh settings) l l gave w w s s 0 (refused_by error) [] F
 words_shown tally tr settings Words.Usage l gave w s fresh untraced = shown_unread tally tr settings l gave w s _ fresh untraced tt tt tt refl
 words_shown tally tr settings Words.NoMemory l gave w s fresh untraced = shown_unread tally tr settings l gave w s _ fresh untraced tt tt tt tt
 
 -- of which nothing is taken
-pub words_none : (tally : Tally) (tr : TraceSink) (settings : Option Config) (error : WordsErr) (l : Option (List ℕ)) (gave : ℕ) (w : Option (List ℕ)) (s : StoreState) (blank : IsFresh s) (untraced : tr.new ≡ tr.old)
-    → (words_shown tally tr settings error l gave w s blank untraced).taken ≡ []
+pub words_none : (F : Type 0) (tally : Tally) (tr : TraceSink) (settings : Option Config) (error : WordsErr) (l : Option (List ℕ)) (gave : ℕ) (w : Option (List ℕ)) (s : StoreState) (blank : IsFresh s) (untraced : tr.new ≡ tr.old)
+    → (words_shown {F = F} tally tr settings error l gave w s blank untraced).taken ≡ []
 unfolding words_shown shown_unread
-words_none tally tr settings Words.Usage l gave w s blank untraced = refl
-words_none tally tr settings Words.NoMemory l gave w s blank untraced = refl
+words_none F tally tr settings Words.Usage l gave w s blank untraced = refl
+words_none F tally tr settings Words.NoMemory l gave w s blank untraced = refl
 
 pub reported_words : (tally : Tally) (tr : TraceSink) {Takes : Type 0} {settings : Option Config} {gave : ℕ} {l w0 w1 : Option (List ℕ)} {s : StoreState} (error : WordsErr) (report : Report) (old new : Faults) → IsFresh s → tr.new ≡ tr.old
     → (error ≡ Words.Usage → ¬ Takes) → report.status ≡ status_of (refused_by error) → report.high ≡ 0
@@ -100,13 +92,14 @@ unfoldable pub reported_taken : {tally : Tally} {tr : TraceSink} {Takes : Type 0
     → Reported tally tr Takes (fresh settings) l0 l1 gave w0 w1 s0 s1 old new report
 reported_taken {tally = tally} {tr = tr} {Takes = Takes} {gave = gave} {l0 = l0} {l1 = l1} {w0 = w0} {w1 = w1} {s0 = s0} {s1 = s1} {old = old} {new = new} {report = report} t is r =
     let both = subst
-    (λ (o : Option Config). (x : Shown tally tr (fresh o) l0 l1 gave w0 w1 s0 s1 report.high r.ending (last_line r.ending) (SinksRose old new)) × (new.trace ≢ old.trace → Cut w0 w1 (Unit {0}) (printed x.answers ++ x.part)))
-    (sym is) (r.shown, r.silent) in
+    (λ (o : Option Config). (x : Shown tally tr (fresh o) l0 l1 gave w0 w1 s0 s1 report.high r.ending (last_line r.ending) (SinksRose old new)) × (new.trace ≢ old.trace → Cut w0 w1 (Unit {0}) (printed x.answers ++ x.part)) × (Took w0 w1 (printed x.answers ++ x.part) ⊎ Rises old.out new.out))
+    (sym is) (r.shown, r.silent, r.through) in
     record {
       ending = r.ending;
       status = r.status;
       takes = words_taken r.ending r.takes t;
       shown = both.0;
+      through = both.2;
       silent = both.1;
       cause = r.cause;
       completes = λ taken input e keeps. r.completes tt input e (subst (λ (o : Option Config). KeepsLimits (limit_of o) input) is keeps);
@@ -120,6 +113,7 @@ reported_takes t r = record {
   status = r.status;
   takes = words_taken r.ending r.takes t;
   shown = r.shown;
+  through = r.through;
   silent = r.silent;
   cause = r.cause;
   completes = λ taken input e keeps. r.completes tt input e keeps;

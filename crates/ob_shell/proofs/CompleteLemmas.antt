@@ -1,26 +1,27 @@
 -- An input that keeps to the limits is served to its end.
 use Rattle.std.proofs.Common.{◌≡◌, ℕ, ◌≤◌, Bool, true, false, List, [], ◌++◌, length, Option, Some, None, Ok, Err, refl, ap, ◌∙◌, subst, inl, inr, arith, append-nil, length-append}
-use Rattle.std.specs.Io.KnownBytes.{Appends, Consumes}
+use Rattle.std.specs.Io.KnownBytes.{Consumes}
 use Rattle.std.proofs.KnownBytes.{Appends-nil}
 use Rattle.ob_base.specs.Counts.{Rises}
 use Rattle.ob_base.specs.declared.refusal.Stop.TheVariants.{Tampered, SourceFault, SinkFault, NoMemory, InputLimit}
 use Rattle.ob_print.specs.Cuts.{Cut}
-use Rattle.ob_print.proofs.CutLemmas.{Cut-fault}
+use Rattle.ob_print.proofs.CutLemmas.{Cut-by, Cut-fault}
 use Rattle.ob_store.specs.State.{StoreState}
 use Rattle.ob_shell.specs.Texts.{is_over, rest_of}
 use Rattle.ob_shell.specs.KeyLine.{line_max, has_lf, first_line, after_line, secret_of, LineTaken}
 use Rattle.ob_shell.specs.Bases.{Base, FromEach}
 use Rattle.ob_shell.specs.Settings.{limit_of}
-use Rattle.ob_shell.specs.Endings.{status_of, last_line, SinkStopped}
+use Rattle.ob_shell.specs.Endings.{status_of, last_line}
 use Rattle.ob_gen.specs.declared.tally.Tally.{Tally}
 use Rattle.ob_shell.specs.Top.{TraceSink, EndsUntampered, EndingSays, EndingWords, EndingCause, Shown, StatusCause, Reported}
 use Rattle.ob_shell.specs.declared.top.Report.{Report}
 use Rattle.ob_shell.specs.declared.top.Ending.{Ending}
 use Rattle.ob_shell.specs.declared.top.Ending.TheVariants.{Usage, BadKey, Ran}
 use Rattle.ob_shell.proofs.BaseLemmas.{from_each}
+use Rattle.ob_shell.proofs.RunLemmas.{took_more, took_of, took_or}
 use Rattle.ob_shell.proofs.TextLemmas.{rest_of-append, rest_of-over, rest_of-nil}
 use Rattle.ob_shell.proofs.KeyLemmas.{after_line-none, first_line-long, secret_of-long}
-use Rattle.ob_shell.proofs.TopLemmas.{first_line-more, after_line-more, shown_line, line_grew, quiet_line, line_rose, rose_with, status_cause}
+use Rattle.ob_shell.proofs.TopLemmas.{first_line-more, after_line-more, shown_line, cut_line, quiet_line, line_rose, rose_with, status_cause}
 use Rattle.ob_shell.specs.Words.{Faults, SinksRose, HasSecret, IsHonest, KeepsLimits, IsCompleted, printed}
 
 no_secret : (xs : List ℕ) → HasSecret xs → secret_of (first_line xs) ≡ None → ⊥
@@ -89,22 +90,22 @@ completes {base = base} {l1 = l1} {s0 = s0} {s1 = s1} {ending = ending} old new 
 
 -- the last line was written, or cut by a sink's fault
 unfoldable pub reported_line : {tally : Tally} {tr : TraceSink} {Takes : Type 0} {base : Base} {report : Report} (ending : Ending) (old mid new : Faults)
-    {gave : ℕ} {l0 l1 w0 w1 w2 : Option (List ℕ)} {s0 s1 : StoreState} {E : Type 0}
+    {gave : ℕ} {l0 l1 w0 w1 w2 : Option (List ℕ)} {s0 s1 : StoreState} {E Lost : Type 0}
     → report.status ≡ status_of ending → EndingWords ending Takes
-    → Shown tally tr base l0 l1 gave w0 w1 s0 s1 report.high ending [] (SinkStopped ending) → EndingCause ending old mid
-    → Cut w1 w2 E (last_line ending) → (E → Rises mid.out new.out) → (last_line ending ≡ [] → Appends w1 w2 (last_line ending)) → (last_line ending ≡ [] → new.out ≡ mid.out)
+    → Shown tally tr base l0 l1 gave w0 w1 s0 s1 report.high ending [] Lost → ¬ Lost → EndingCause ending old mid
+    → Cut w1 w2 E (last_line ending) → (E → Rises mid.out new.out) → (last_line ending ≡ [] → new.out ≡ mid.out)
     → mid.out ≤ new.out → new.trace ≡ mid.trace → new.source ≡ mid.source → mid.trace ≡ old.trace
     → Reported tally tr Takes base l0 l1 gave w0 w2 s0 s1 old new report
-reported_line ending old mid new status takes shown cause cut rose all none later trace source kept =
+unfolding shown_line
+reported_line ending old mid new {w0 = w0} {w1 = w1} status takes shown loud cause cut rose none later trace source kept =
     let causes : StatusCause ending old new = status_cause ending old mid new cause later trace source none in
+    let whole : Cut w0 w1 ⊥ ((printed shown.answers ++ shown.part) ++ []) = Cut-by loud shown.grew in
     record {
       ending = ending;
       status = status;
       takes = takes;
-      shown = shown_line cut.grown shown cut.appends
-          (line_grew _ _ (λ e. line_rose ending old mid new cause (rose e) later trace) ending old mid
-          (λ r. rose_with old mid new r later trace)
-          cause shown.grew refl cut all);
+      shown = shown_line cut.grown shown cut.appends (cut_line _ _ (λ e. line_rose ending old mid new cause (rose e) later trace) whole cut);
+      through = inl (took_more cut.grown (took_of (subst (λ (l : List ℕ). Cut w0 w1 ⊥ l) (append-nil (printed shown.answers ++ shown.part)) whole) (λ never. never)) cut.appends);
       silent = λ other. absurd (other (trace ∙ kept));
       cause = causes;
       completes = λ t input e k a b. completes old new input shown takes causes t e k a b;
@@ -112,19 +113,20 @@ reported_line ending old mid new status takes shown cause cut rose all none late
 
 -- no line may be written any more
 unfoldable pub reported_quiet : {tally : Tally} {tr : TraceSink} {Takes : Type 0} {base : Base} {report : Report} (ending : Ending) (old new : Faults)
-    {gave : ℕ} {l0 l1 w0 w1 : Option (List ℕ)} {s0 s1 : StoreState}
+    {gave : ℕ} {l0 l1 w0 w1 : Option (List ℕ)} {s0 s1 : StoreState} {Lost : Type 0}
     → report.status ≡ status_of ending → EndingWords ending Takes
-    → Shown tally tr base l0 l1 gave w0 w1 s0 s1 report.high ending [] (SinkStopped ending) → EndingCause ending old new → SinksRose old new
+    → Shown tally tr base l0 l1 gave w0 w1 s0 s1 report.high ending [] Lost → (Lost → Rises old.out new.out) → EndingCause ending old new → SinksRose old new
     → Reported tally tr Takes base l0 l1 gave w0 w1 s0 s1 old new report
 unfolding shown_line
-reported_quiet ending old new {w0 = w0} {w1 = w1} status takes shown cause rose =
+reported_quiet ending old new {w0 = w0} {w1 = w1} {Lost = Lost} status takes shown lost cause rose =
     let causes : StatusCause ending old new = status_cause ending old new new cause (omega arith) refl refl (λ e. refl) in
     record {
       ending = ending;
       status = status;
       takes = takes;
       shown = shown_line [] shown (Appends-nil _) (quiet_line _ _ shown.grew rose);
-      silent = λ other. Cut-fault tt (subst (λ (l : List ℕ). Cut w0 w1 (SinkStopped ending) l) (append-nil (printed shown.answers ++ shown.part)) shown.grew);
+      through = took_or (subst (λ (l : List ℕ). Cut w0 w1 Lost l) (append-nil (printed shown.answers ++ shown.part)) shown.grew) lost;
+      silent = λ other. Cut-fault tt (subst (λ (l : List ℕ). Cut w0 w1 Lost l) (append-nil (printed shown.answers ++ shown.part)) shown.grew);
       cause = causes;
       completes = λ t input e k a b. completes old new input shown takes causes t e k a b;
     }

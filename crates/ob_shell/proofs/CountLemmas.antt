@@ -1,10 +1,10 @@
 -- Counts that rise, one after the other.
-use Rattle.std.proofs.Common.{◌≡◌, ℕ, ◌≤◌, Bool, true, false, Err, arith}
+use Rattle.std.proofs.Common.{◌≡◌, ℕ, ◌≤◌, Bool, true, false, Result, Err, inl, inr, refl, arith, subst}
 use Rattle.ob_base.specs.Counts.{Rises}
 use Rattle.ob_base.specs.declared.refusal.Stop.{Stop}
 use Rattle.ob_base.specs.declared.refusal.Stop.TheVariants.{Tampered, SourceFault, SinkFault, NoMemory, InputLimit}
-use Rattle.ob_shell.specs.Running.{Silenced, StopCause}
-use Rattle.ob_shell.specs.Words.{Faults, SinksRose}
+use Rattle.ob_shell.specs.Running.{OutFailed, Silenced, StopCause}
+use Rattle.ob_shell.specs.Words.{Faults, SinksRose, faults_of}
 
 pub rises_later : (a b c : ℕ) → Rises a b → b ≤ c → Rises a c
 rises_later a b c h l = omega arith
@@ -27,3 +27,22 @@ same_cause A B SourceFault old new cause = cause
 same_cause A B SinkFault old new cause = cause
 same_cause A B NoMemory old new cause = cause
 same_cause A B InputLimit old new cause = cause
+
+-- what was lost since a count that hadn't risen before
+pub lost_since : {quiet : Bool} {k0 k1 k2 : ℕ} → k1 ≡ k0 → OutFailed quiet k1 k2 → OutFailed quiet k0 k2
+lost_since {k2 = k2} same lost = (lost.0, subst (λ (n : ℕ). Rises n k2) same lost.1)
+
+-- a stop, and what was traced after it
+pub traced_cause : {A : Type 0} (told stop : Stop) (out0 out1 trace0 trace1 : ℕ) → told ≡ stop → StopCause {T = A} (faults_of 0 out0 0) (faults_of 0 out1 0) (Err told)
+    → (◌≡◌ {A = Result A Stop} (Err told) (Err InputLimit) → ⊥) → (◌≡◌ {A = Result A Stop} (Err told) (Err SourceFault) → ⊥) → trace0 ≤ trace1
+    → StopCause {T = A} (faults_of 0 out0 trace0) (faults_of 0 out1 trace1) (Err stop)
+traced_cause {A} told stop out0 out1 trace0 trace1 is cause limit source later =
+    subst (λ (s : Stop). StopCause {T = A} (faults_of 0 out0 trace0) (faults_of 0 out1 trace1) (Err s)) is (go told cause limit source)
+  where
+    go : (s : Stop) → StopCause {T = A} (faults_of 0 out0 0) (faults_of 0 out1 0) (Err s) → (◌≡◌ {A = Result A Stop} (Err s) (Err InputLimit) → ⊥) → (◌≡◌ {A = Result A Stop} (Err s) (Err SourceFault) → ⊥)
+        → StopCause {T = A} (faults_of 0 out0 trace0) (faults_of 0 out1 trace1) (Err s)
+    go (Tampered region place) cause limit source = (cause.0, cause.1, later)
+    go NoMemory cause limit source = (cause.0, cause.1, later)
+    go SinkFault cause limit source = (cause.0, elim cause.1 [ inl rose ↦ inl rose | inr none ↦ absurd (omega (arith, none)) ])
+    go SourceFault cause limit source = absurd (source refl)
+    go InputLimit cause limit source = absurd (limit refl)

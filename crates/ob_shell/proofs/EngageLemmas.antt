@@ -1,5 +1,5 @@
 -- The engine of a run whose tables are kept, and what a failed trace leaves.
-use Rattle.std.proofs.Common.{◌≡◌, ◌<◌, ◌+◌, ◌++◌, ◌^◌, ℕ, Bool, true, false, List, [], ◌∷◌, length, Option, Some, None, Result, Ok, Err, inl, inr, refl, sym, ◌∙◌, ap, subst, arith, append-nil, length-append}
+use Rattle.std.proofs.Common.{◌≡◌, ◌<◌, ◌≤◌, ◌+◌, ◌++◌, ◌^◌, ℕ, Bool, true, false, List, [], ◌∷◌, length, Option, Some, None, Result, Ok, Err, inl, inr, refl, sym, ◌∙◌, ap, subst, arith, append-nil, length-append}
 use Rattle.std.specs.Prelude.{IsErr, ◌==◌, drop}
 use Rattle.std.proofs.lemmas.Bool.Decides.{nat_tests}
 use Rattle.std.specs.Result.{is_err}
@@ -124,7 +124,7 @@ module _ {R : Type 0} (state : R → RevState) (config : Config) (key : List ℕ
     used = λ some. omega (arith, is.high);
     held = λ tables rested. opens.told rested.tells rested.honest tables (subst (λ (k : KeySet). Rests k closing s.kept tables) (sym same) rested.rests);
     sealed = λ tells tables rested good passes.
-        opens.sealed rested.tells rested.honest tables (subst (λ (k : KeySet). Rests k closing s.kept tables) (sym same) rested.rests) (λ r. good) passes.0 passes.1;
+        opens.sealed rested.tells rested.honest tables (subst (λ (k : KeySet). Rests k closing s.kept tables) (sym same) rested.rests) (λ r. good) passes.0.0 passes.1;
     passes = λ good passes. passes.0;
     early = λ n before. absurd before;
   }
@@ -181,6 +181,14 @@ closing_grew (Ok mark) e s t closes = go (is_used_up (next_closing e s)) refl wh
   go : (b : Bool) → is_used_up (next_closing e s) ≡ b → (done : List Access) × (t.asked ≡ s.asked ++ done)
   go true is = ([], ap (λ (x : StoreState). x.asked) (closes.full is).same ∙ sym (append-nil s.asked))
   go false is = (closing_script e s, (closes.ok is).did.asked)
+
+-- what was asked before it is asked still
+pub closing_after : {R : Type 0} {state : R → RevState} (r : Result Mark CloseErr) (e : Engine R) (s t : StoreState) → ClosesEngine state r e s t → (from : ℕ) → from ≡ length s.asked → from ≤ length t.asked
+closing_after r e s t closes from is =
+    let grew = closing_grew r e s t closes in
+    let long = ap length grew.1 in
+    let sum = length-append s.asked grew.0 in
+    omega (arith, is, long, sum)
 
 pub closes_run : {R T E : Type 0} {state : R → RevState} (tally : Tally) (tracing : Bool) (e : Engine R) (ended : KeptEnded) (s t : StoreState) (t0 t1 : Option (List ℕ)) (f0 f1 : ℕ) (k0 k1 : KeeperState) (result : Result Mark CloseErr)
     → ClosesEngine state result e s t → (call : Result T E) (from : ℕ) → from ≡ length s.asked → Cut t0 t1 (IsErr call) (traced tracing (drop from t.asked)) → HasCause f0 f1 call

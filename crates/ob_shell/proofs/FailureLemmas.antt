@@ -9,7 +9,7 @@ use Rattle.ob_exec.specs.Running.{is_fault}
 use Rattle.ob_exec.specs.declared.outcome.Outcome.{Outcome}
 use Rattle.ob_exec.specs.declared.outcome.Outcome.TheVariants.{Created, Inserted, Changed, Deleted, Dropped, Rows, Refused}
 use Rattle.ob_shell.proofs.LaterLemmas.{last_later}
-use Rattle.ob_shell.specs.Failures.{outcome_failures, failures, RisesBy}
+use Rattle.ob_shell.specs.Failures.{FailsBeside, outcome_failures, failures, RisesBy}
 use Rattle.ob_shell.specs.Running.{LastPart}
 use Rattle.ob_shell.specs.Steps.{Machine, Step, Steps}
 use Rattle.ob_vault.specs.State.{RevState}
@@ -72,3 +72,8 @@ module _ {R : Type 0} (state : R → RevState) where
       → Steps state m0 m1 texts answers → LastPart state m1 m2 more part result → RisesBy (failures answers) m0.store.faults m2.store.faults
   session_fails m0 m1 m2 texts more answers part result steps last =
       later _ _ _ _ (steps_fail m0 m1 texts answers steps) (last_later state m1 m2 more part result last).faults
+
+  -- and where a call failed behind those texts
+  pub fails_beside : (m0 m1 m2 : Machine R) (texts : List (List ℕ)) (answers : List Answer) → Steps state m0 m1 texts answers → Rises m1.store.faults m2.store.faults
+      → FailsBeside answers m0.store.faults m2.store.faults
+  fails_beside m0 m1 m2 texts answers steps rose = let most = steps_fail m0 m1 texts answers steps in omega (arith, most, rose)

@@ -232,7 +232,7 @@ module _ {R : Type 0} (state : R → RevState) where
       steps_few steps.0 m2 texts steps.2 steps.5 (step_ready m0 steps.0 text steps.1 steps.4 agrees) (step_few m0 steps.0 text steps.1 steps.4 agrees few)
 
 -- so does a session that came to its end
-pub session_few : {R : Type 0} (state : R → RevState) {on : Bool} {f0 f1 : Fetch} {l0 l1 : Option (List ℕ)} {gave : ℕ} {w0 w1 t0 t1 : Option (List ℕ)} (m0 m2 : Machine R) (tally : Tally)
-    → SessionRan state on f0 f1 l0 l1 gave w0 w1 t0 t1 m0 m2 (Ok tally) → Agrees state m0.engine m0.store → asked_of m0 < 2 ^ 63 + 2 ^ 59 → asked_of m2 < 2 ^ 63 + 2 ^ 59
+pub session_few : {R : Type 0} (state : R → RevState) {Lost : Type 0} {on : Bool} {f0 f1 : Fetch} {l0 l1 : Option (List ℕ)} {gave : ℕ} {w0 w1 t0 t1 : Option (List ℕ)} (m0 m2 : Machine R) (tally : Tally)
+    → SessionRan state on f0 f1 l0 l1 gave w0 w1 t0 t1 m0 m2 Lost (Ok tally) → Agrees state m0.engine m0.store → asked_of m0 < 2 ^ 63 + 2 ^ 59 → asked_of m2 < 2 ^ 63 + 2 ^ 59
 session_few state m0 m2 tally ran agrees few =
     subst (λ (m : Machine _). asked_of m < 2 ^ 63 + 2 ^ 59) (sym ran.last.machine) (steps_few state m0 ran.middle ran.served ran.answers ran.steps agrees few)

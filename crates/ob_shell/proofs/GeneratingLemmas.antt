@@ -15,7 +15,7 @@ use Rattle.ob_print.proofs.CutLemmas.{Cut-whole}
 use Rattle.ob_store.specs.State.{StoreState}
 use Rattle.ob_shell.specs.Bases.{Base, fresh}
 use Rattle.ob_shell.specs.Closed.{LineWritten, refused_by}
-use Rattle.ob_shell.specs.Endings.{SinkStopped, last_line, status_of}
+use Rattle.ob_shell.specs.Endings.{last_line, status_of}
 use Rattle.ob_shell.specs.Generating.{RanGenerated, ClosedBy, ConcludedBy, Concludes, StatusIs, Summarized, asked_for, conclusion}
 use Rattle.ob_shell.specs.Settings.{generated_by}
 use Rattle.ob_shell.specs.Top.{EndingCause, EndingWords, IsFresh, Reported, Shown, StatusCause, TraceSink, sink_of}
@@ -97,8 +97,8 @@ pub with_source : {ending : Ending} {tally : Tally} {asked : List Access} {rows 
 with_source source c = record { grew = c.grew; silent = c.silent; status = c.status; later = c.later; high = c.high }
 
 -- ---- the run, whose answers are kept nowhere
-unfoldable unkept : {tally : Tally} {tr : TraceSink} {Takes : Type 0} {base : Base} {gave : ℕ} {l0 l1 : Option (List ℕ)} {s0 s1 : StoreState} (ending : Ending) (high : ℕ) (old new : Faults)
-    → EndingWords ending Takes → Shown tally tr base l0 l1 gave None None s0 s1 high ending [] (SinkStopped ending) → EndingCause ending old new
+unfoldable unkept : {Lost : Type 0} {tally : Tally} {tr : TraceSink} {Takes : Type 0} {base : Base} {gave : ℕ} {l0 l1 : Option (List ℕ)} {s0 s1 : StoreState} (ending : Ending) (high : ℕ) (old new : Faults)
+    → EndingWords ending Takes → Shown tally tr base l0 l1 gave None None s0 s1 high ending [] Lost → EndingCause ending old new
     → Reported tally tr Takes base l0 l1 gave None None s0 s1 old new (record { status = status_of ending; high = high })
 unkept ending high old new takes shown cause =
     let causes : StatusCause ending old new = status_cause ending old new new cause (omega arith) refl refl (λ e. refl) in
@@ -107,15 +107,16 @@ unkept ending high old new takes shown cause =
       status = refl;
       takes = takes;
       shown = shown_line [] shown tt (Cut-whole None None (SinksRose old new) _ tt);
+      through = inl (record { after = []; appends = tt });
       silent = λ rose. Cut-whole None None (Unit {0}) _ tt;
       cause = causes;
       completes = λ t input e k a b. completes old new input shown takes causes t e k a b;
     }
 
-pub ran_generated : {tally : Tally} {tracing : Bool} {settings : Option Config} {t0 t1 : Option (List ℕ)} {s0 s1 : StoreState} {gave : ℕ} {w0 w1 : Option (List ℕ)}
+pub ran_generated : {Lost : Type 0} {tally : Tally} {tracing : Bool} {settings : Option Config} {t0 t1 : Option (List ℕ)} {s0 s1 : StoreState} {gave : ℕ} {w0 w1 : Option (List ℕ)}
     (seed : Seed) (left : List ℕ) (ending : Ending) (high trace0 trace1 out0 out1 : ℕ) (report : Report)
     → EndingWords ending ⊤
-    → Shown tally (sink_of tracing t0 t1) (fresh settings) (Some (generated seed.start seed.rows)) (Some left) gave None None s0 s1 high ending [] (SinkStopped ending)
+    → Shown tally (sink_of tracing t0 t1) (fresh settings) (Some (generated seed.start seed.rows)) (Some left) gave None None s0 s1 high ending [] Lost
     → EndingCause ending (faults_of 0 0 trace0) (faults_of 0 0 trace1)
     → Traced tracing s0.asked s1.asked t0 t1 (SinksRose (faults_of 0 0 trace0) (faults_of 0 0 trace1))
     → Concludes ending tally s1.asked high w0 w1 (faults_of 0 out0 trace0) (faults_of 0 out1 trace1) report
@@ -162,7 +163,7 @@ unfolding headlined unkept
 unread_summarized {Takes = Takes} {settings = settings} {tracing = tracing} {s = s} {t = t} {w0 = w0} {w1 = w1} {out0 = out0} {out1 = out1} {report = report} source trace seed error blank not status high line =
     let ending = refused_by error in
     let faults : Faults = faults_of 0 0 trace in
-    let shown = words_shown empty_tally (sink_of tracing t t) settings error (Some (generated seed.start seed.rows)) 0 None s blank refl in
+    let shown = words_shown {F = ⊥} empty_tally (sink_of tracing t t) settings error (Some (generated seed.start seed.rows)) 0 None s blank refl in
     let r = unkept ending 0 faults faults (words_end error not) shown (words_cause error faults) in
     let closed : ClosedBy ending false w0 w1 out0 out1 report.status = record { told = status; silent = λ loud. absurd (cc loud); line = λ loud. line } in
     record {

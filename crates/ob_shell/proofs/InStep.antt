@@ -20,10 +20,10 @@ use Rattle.ob_mean.specs.Refusals.{early_refusal}
 use Rattle.ob_mean.specs.Replay.{Session, after}
 use Rattle.ob_mean.specs.Settle.{settle, settled}
 use Rattle.ob_mean.specs.Step.{followed, late_refusal}
-use Rattle.ob_mean.specs.Verdict.{Tables, database, ended, is_late, last_refusal, refusal, seen, seen_started}
+use Rattle.ob_mean.specs.Verdict.{Held, Tables, database, ended, is_late, last_refusal, refusal, seen, seen_started}
 use Rattle.ob_mean.proofs.EarlyLemmas.{neither}
 use Rattle.ob_mean.proofs.VerdictLemmas.{headings-database}
-use Rattle.ob_row.specs.Slots.{Slots, empty_slots}
+use Rattle.ob_row.specs.Slots.{empty_slots}
 use Rattle.ob_script.specs.Trace.{next, tables_after, tables_then}
 use Rattle.ob_sql.specs.Skeleton.{skeleton}
 use Rattle.ob_sql.specs.declared.stmt.Stmt.{Stmt}
@@ -35,7 +35,7 @@ abbrev pub InStep : Session → Type 0
 InStep s = headings s.tables ≡ headings_of s.public.tables
 
 -- ---- a table's slots change
-changed_headings : (name : List ℕ) (f : Slots → Slots) (ts : Tables) → headings (changed_at name f ts) ≡ headings ts
+changed_headings : (name : List ℕ) (f : Held → Held) (ts : Tables) → headings (changed_at name f ts) ≡ headings ts
 changed_headings name f [] = refl
 changed_headings name f (t ∷ ts) =
     elim (bytes_eq t.heading.name name) as (λ b. headings (if b then record { heading = t.heading; held = f t.held } ∷ ts else t ∷ changed_at name f ts) ≡ t.heading ∷ headings ts)
@@ -130,9 +130,9 @@ module _ (p : Public) (m : ℕ) (ts : Tables) (same : headings ts ≡ headings_o
   steps (Create table columns capacity) apart =
       let heading : Heading = record { name = table; schema = columns_of table columns; capacity = capacity } in
       let there : Table = record { heading = heading; region = p.next_region } in
-      let here : Stored Slots = record { heading = heading; held = empty_slots capacity } in
+      let here : Stored Held = record { heading = heading; held = record { slots = empty_slots capacity; leaves = [] } } in
       changes (Create table columns capacity) refl refl refl
-      (map_push (λ (t : Stored Slots). t.heading) ts here ∙ ap (λ (hs : List Heading). hs ++ heading ∷ []) same ∙ sym (map_push (λ (t : Table). t.heading) p.tables there))
+      (map_push (λ (t : Stored Held). t.heading) ts here ∙ ap (λ (hs : List Heading). hs ++ heading ∷ []) same ∙ sym (map_push (λ (t : Table). t.heading) p.tables there))
   steps (Insert table columns values) apart = leaves (Insert table columns values) (changed_headings table _ ts) (moves table p.next_region p.tables).headings
   steps (Update table sets cond) apart = leaves (Update table sets cond) (changed_headings table _ ts) (moves table p.next_region p.tables).headings
   steps (Delete table cond) apart = leaves (Delete table cond) (changed_headings table _ ts) (moves table p.next_region p.tables).headings

@@ -14,7 +14,7 @@ use Rattle.ob_shell.specs.Bases.{Base}
 use Rattle.ob_shell.specs.Engaging.{ClosedRun, ClosesRun, EndsUnserved, Engages, RanBegun, RanStopped, RanUnbegun, RanUnkeyed, RanWhole, ServesAll, StartsRun, StopsRun}
 use Rattle.ob_shell.specs.Feeding.{Fetch, IsFedBy}
 use Rattle.ob_shell.specs.KeyLine.{KeyRead, after_line, first_line, secret_of}
-use Rattle.ob_shell.specs.Running.{SessionRan, Silenced, StopCause}
+use Rattle.ob_shell.specs.Running.{OutFailed, SessionRan, Silenced, StopCause}
 use Rattle.ob_shell.specs.Settings.{limit_of}
 use Rattle.ob_shell.specs.Steps.{machine_of}
 use Rattle.ob_shell.specs.Tallies.{has_refused}
@@ -37,12 +37,12 @@ use Rattle.ob_vault.specs.State.{RevState}
 module _ {R : Type 0} (state : R → RevState) (base : Base) (config : Config) (key : List ℕ) (first last : Engine R) (s0 s1 : StoreState) (engages : Engages state base config key first s0)
     (high : ℕ) (most : high ≤ rows_of last) (is_high : high ≡ high_of last) (tracing : Bool) (t0 t1 : Option (List ℕ)) (f0 f1 : Fetch) (l0 l1 : Option (List ℕ)) (gave : ℕ) (w0 w1 : Option (List ℕ)) where
   pub serves_stop : (stop : Stop) (ended : KeptEnded) (k : KeeperState) (old new : Faults) → ended.high ≡ high
-      → SessionRan state tracing f0 f1 l0 l1 gave w0 w1 t0 t1 (machine_of first s0) (machine_of last s1) (Err stop)
+      → SessionRan state tracing f0 f1 l0 l1 gave w0 w1 t0 t1 (machine_of first s0) (machine_of last s1) (OutFailed ended.quiet old.out new.out) (Err stop)
       → Traced tracing s0.asked s1.asked t0 t1 (ended.quiet ≡ true) → StopCause {T = Tally} old new (Err stop) → Silenced ended.quiet old new → ended.ending ≡ Plain (Ran (Err stop))
-      → StopsRun base key tracing ended f0 f1 l0 l1 gave w0 w1 t0 t1 s0 s1 old new k k
+      → StopsRun state base key tracing ended f0 f1 l0 l1 gave w0 w1 t0 t1 s0 s1 old new k k
   serves_stop stop ended k old new rows ran traced cause silent ending = record {
     stop = stop;
-    ran = subst (λ (n : ℕ). RanAfter (sink_of tracing t0 t1) base (Some key) f0 f1 l0 l1 gave w0 w1 s0 s1 n (Err stop)) (sym rows)
+    ran = subst (λ (n : ℕ). RanAfter state (sink_of tracing t0 t1) base (Some key) f0 f1 l0 l1 gave w0 w1 s0 s1 n (OutFailed ended.quiet old.out new.out) (Err stop)) (sym rows)
         (ran_after base config key first last high (Err stop) s0 s1 engages.stands most is_high (sink_of tracing t0 t1) f0 f1 l0 l1 gave w0 w1 ran);
     traced_all = traced;
     cause = same_cause Tally Bool stop old new cause;
@@ -52,9 +52,9 @@ module _ {R : Type 0} (state : R → RevState) (base : Base) (config : Config) (
   }
 
   unfoldable pub serves_all : (tally : Tally) (ended : KeptEnded) (s2 : StoreState) (t2 : Option (List ℕ)) (k0 k1 : KeeperState) (old new : Faults)
-      → SessionRan state tracing f0 f1 l0 l1 gave w0 w1 t0 t1 (machine_of first s0) (machine_of last s1) (Ok tally) → Traced tracing s0.asked s1.asked t0 t1 ⊥
+      → SessionRan state tracing f0 f1 l0 l1 gave w0 w1 t0 t1 (machine_of first s0) (machine_of last s1) (OutFailed false old.out new.out) (Ok tally) → Traced tracing s0.asked s1.asked t0 t1 ⊥
       → new.source ≡ old.source → new.out ≡ old.out → ClosesRun state tally tracing last ended s1 s2 t1 t2 old.trace new.trace k0 k1
-      → ServesAll base key tracing ended f0 f1 l0 l1 gave w0 w1 t0 t2 s0 s2 old new k0 k1
+      → ServesAll state base key tracing ended f0 f1 l0 l1 gave w0 w1 t0 t2 s0 s2 old new k0 k1
   unfolding ran_after
   serves_all tally ended s2 t2 k0 k1 old new ran traced source out closes = record {
     tally = tally;
@@ -172,7 +172,7 @@ module _ (config : Config) (tracing : Bool) (f0 f1 : Fetch) (none : f0.unread �
     module _ (f2 : Fetch) (gave : ℕ) (l2 w2 t2 : Option (List ℕ)) (s2 : StoreState) (ended : KeptEnded) (new : Faults) (k2 : KeeperState) (below : f2.taken ≤ f2.limit) (by : IsFedBy f2 gave)
         {line : Result FirstLine Halt} (read : KeyRead f0 f1 l0 l1 line) where
       -- until a stop
-      pub ran_stopped : (stops : StopsRun starts.base key tracing ended f1 f2 l1 l2 gave w w2 t1 t2 s1 s2 begun_faults new k1 k2) → after_line (read.fed.piece ++ stops.ran.piece) ≡ f1.unread ++ stops.ran.piece
+      pub ran_stopped : (stops : StopsRun state starts.base key tracing ended f1 f2 l1 l2 gave w w2 t1 t2 s1 s2 begun_faults new k1 k2) → after_line (read.fed.piece ++ stops.ran.piece) ≡ f1.unread ++ stops.ran.piece
           → secret_of (first_line (read.fed.piece ++ stops.ran.piece)) ≡ Some key → RanStopped config tracing ended (outside_of l0 g0 w t0 s0 old) (outside_of l2 gave w2 t2 s2 new) k0 k2
       unfolding ran_begun shown_by
       ran_stopped stops after keyed = record {
@@ -189,7 +189,7 @@ module _ (config : Config) (tracing : Bool) (f0 f1 : Fetch) (none : f0.unread �
       }
 
       -- to their end
-      pub ran_whole : (serves : ServesAll starts.base key tracing ended f1 f2 l1 l2 gave w w2 t1 t2 s1 s2 begun_faults new k1 k2) → after_line (read.fed.piece ++ serves.ran.piece) ≡ f1.unread ++ serves.ran.piece
+      pub ran_whole : (serves : ServesAll state starts.base key tracing ended f1 f2 l1 l2 gave w w2 t1 t2 s1 s2 begun_faults new k1 k2) → after_line (read.fed.piece ++ serves.ran.piece) ≡ f1.unread ++ serves.ran.piece
           → secret_of (first_line (read.fed.piece ++ serves.ran.piece)) ≡ Some key → RanWhole config tracing ended (outside_of l0 g0 w t0 s0 old) (outside_of l2 gave w2 t2 s2 new) k0 k2
       unfolding ran_begun shown_by
       ran_whole serves after keyed =

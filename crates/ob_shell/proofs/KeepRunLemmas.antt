@@ -36,7 +36,7 @@ module _ {R : Type 0} (state : R → RevState) (config : Config) (key : List ℕ
 
   -- what followed it was served
   pub secret_ran : (f2 : Fetch) (l2 w2 : Option (List ℕ)) (new : Faults) → (read : KeyRead f0 f1 l0 l1 (Ok (Secret key))) → f2.taken ≤ f2.limit → IsFedBy f2 gave
-      → ServesRun starts.base key tracing ended f1 f2 l1 l2 gave w w2 t1 t2 s1 s2 (record old { trace = r1 }) new k1 k2
+      → ServesRun state starts.base key tracing ended f1 f2 l1 l2 gave w w2 t1 t2 s1 s2 (record old { trace = r1 }) new k1 k2
       → RanKept config tracing ended (outside_of l0 g0 w t0 s0 old) (outside_of l2 gave w2 t2 s2 new) k0 k2
   secret_ran f2 l2 w2 new read below by (inl stops) =
       let behind = after_secret stops.ran.piece none read in

@@ -13,7 +13,7 @@ use Rattle.ob_print.proofs.CutLemmas.{Cut-whole}
 use Rattle.ob_reopen.specs.Keepers.{KeeperState}
 use Rattle.ob_shell.specs.Bases.{fresh}
 use Rattle.ob_shell.specs.Closed.{LineWritten, refused_by}
-use Rattle.ob_shell.specs.Endings.{SinkStopped, last_line, status_of}
+use Rattle.ob_shell.specs.Endings.{last_line, status_of}
 use Rattle.ob_shell.specs.Engaging.{IsHushed, KeptClosedBy, KeptConcludedBy, KeptGenerated, RanKept}
 use Rattle.ob_shell.specs.Keeping.{kept_line, kept_status}
 use Rattle.ob_shell.specs.KeptHeadline.{EndsUnkeyed, KeptHeadline}
@@ -28,7 +28,7 @@ use Rattle.ob_shell.specs.declared.top.Report.{Report}
 use Rattle.ob_shell.specs.declared.words.Seed.{Seed}
 use Rattle.ob_shell.specs.declared.words.WordsErr.{WordsErr}
 use Rattle.ob_shell.specs.declared.words.WordsErr.TheVariants as Words
-use Rattle.ob_shell.proofs.CloseLemmas.{none_of_it, reported_words, words_cause, words_end, words_none, words_shown}
+use Rattle.ob_shell.proofs.CloseLemmas.{reported_words, words_cause, words_end, words_none, words_shown}
 use Rattle.ob_shell.proofs.CompleteLemmas.{reported_line}
 use Rattle.ob_shell.proofs.CountLemmas.{silenced_kept, silenced_rose}
 use Rattle.ob_shell.proofs.GeneratingLemmas.{cut_rose, nothing_written, trace_rose, unread_summarized}
@@ -149,10 +149,10 @@ kept_unread {Takes = Takes} {settings = settings} {tracing = tracing} {s = s} {t
     let tr = sink_of tracing t t in
     let old : Faults = faults_of source out0 trace in
     let new : Faults = faults_of source out1 trace in
-    let shown = subst (λ (n : ℕ). (x : Shown empty_tally tr (fresh settings) l l gave w0 w0 s s n ending [] (SinkStopped ending)) × (x.taken ≡ [])) (sym high)
-    (words_shown empty_tally tr settings error l gave w0 s blank refl, words_none empty_tally tr settings error l gave w0 s blank refl) in
+    let shown = subst (λ (n : ℕ). (x : Shown empty_tally tr (fresh settings) l l gave w0 w0 s s n ending [] ⊥) × (x.taken ≡ [])) (sym high)
+    (words_shown empty_tally tr settings error l gave w0 s blank refl, words_none ⊥ empty_tally tr settings error l gave w0 s blank refl) in
     let r : Reported empty_tally tr Takes (fresh settings) l l gave w0 w1 s s old new report =
-    reported_line ending old old new status (words_end error not) shown.0 (words_cause error old) line.cut (λ rises. rises) (none_of_it line.cut) line.empty line.later refl refl refl in
+    reported_line ending old old new status (words_end error not) shown.0 (λ never. never) (words_cause error old) line.cut (λ rises. rises) line.empty line.later refl refl refl in
     record {
       ending = Plain ending;
       status = status;

@@ -20,12 +20,13 @@ use Rattle.ob_reopen.specs.Keepers.{KeeperState}
 use Rattle.ob_seal.specs.Sealed.{keys_of}
 use Rattle.ob_shell.specs.Bases.{fresh}
 use Rattle.ob_shell.specs.Closed.{LineWritten, Unwritten}
-use Rattle.ob_shell.specs.Endings.{SinkStopped, status_of}
+use Rattle.ob_shell.specs.Endings.{status_of}
 use Rattle.ob_shell.specs.Engaging.{RanKept, RanStopped, RanUnbegun, RanUnkeyed, RanWhole}
 use Rattle.ob_shell.specs.Headline.{Headline}
 use Rattle.ob_shell.specs.Keeping.{kept_line, kept_status, EndsAtMark, EndsWith, NotBegun, NotReopened, closing_end, closing_named, handed_end, opening_end}
 use Rattle.ob_shell.specs.KeptHeadline.{EndsBehind, EndsUnkeyed, KeptHeadline, begun_at}
 use Rattle.ob_shell.specs.KeyLine.{first_line, secret_of}
+use Rattle.ob_shell.specs.Running.{OutFailed}
 use Rattle.ob_shell.specs.Tallies.{has_refused}
 use Rattle.ob_shell.specs.Top.{EndingWords, Reported, Shown, sink_of, EndingTally}
 use Rattle.ob_shell.specs.Tracing.{Traced}
@@ -36,7 +37,7 @@ use Rattle.ob_shell.specs.declared.keeping.KeptEnding.TheVariants.{Plain, OtherP
 use Rattle.ob_shell.specs.declared.top.Ending.{Ending}
 use Rattle.ob_shell.specs.declared.top.Ending.TheVariants.{Ran, Usage, BadKey}
 use Rattle.ob_shell.specs.declared.top.Report.{Report}
-use Rattle.ob_shell.proofs.CloseLemmas.{none_of_it, words_taken}
+use Rattle.ob_shell.proofs.CloseLemmas.{words_taken}
 use Rattle.ob_shell.proofs.CompleteLemmas.{reported_line, reported_quiet}
 use Rattle.ob_shell.proofs.CountLemmas.{silenced_kept, silenced_rose}
 use Rattle.ob_shell.proofs.GeneratingLemmas.{cut_rose, nothing_written, traced_by_fault}
@@ -122,14 +123,14 @@ module _ {Takes : Type 0} (settings : Option Config) (config : Config) (takes : 
       let tr = sink_of tracing old.traced mid.traced in
       let ending = ran.ending in
       let at_high = subst
-      (λ (n : ℕ). (x : Shown ended.tally tr (fresh (Some config)) old.left mid.left mid.gave old.written mid.written old.store mid.store n ending [] (SinkStopped ending)) × EndsUnkeyed ending x.taken)
+      (λ (n : ℕ). (x : Shown ended.tally tr (fresh (Some config)) old.left mid.left mid.gave old.written mid.written old.store mid.store n ending [] ⊥) × EndsUnkeyed ending x.taken)
       (sym high) (ran.shown, ran.ends) in
       let shown = subst
-      (λ (o : Option Config). (x : Shown ended.tally tr (fresh o) old.left mid.left mid.gave old.written mid.written old.store mid.store report.high ending [] (SinkStopped ending)) × EndsUnkeyed ending x.taken)
+      (λ (o : Option Config). (x : Shown ended.tally tr (fresh o) old.left mid.left mid.gave old.written mid.written old.store mid.store report.high ending [] ⊥) × EndsUnkeyed ending x.taken)
       (sym set) at_high in
       let l = subst (λ (e : KeptEnding). LineWritten (kept_line e) mid.written w2 mid.faults.out out2) ran.is (line ran.loud) in
       let r : Reported ended.tally tr Takes (fresh settings) old.left mid.left mid.gave old.written w2 old.store mid.store old.faults new.faults report =
-      reported_line ending old.faults mid.faults new.faults (status ∙ ap kept_status ran.is) (words_taken ending (takes_of ending ran.read tt) takes) shown.0 ran.cause l.cut (λ rises. rises) (none_of_it l.cut) l.empty l.later refl refl
+      reported_line ending old.faults mid.faults new.faults (status ∙ ap kept_status ran.is) (words_taken ending (takes_of ending ran.read tt) takes) shown.0 (λ never. never) ran.cause l.cut (λ rises. rises) l.empty l.later refl refl
       ran.silent.1 in
       let traces : Traced tracing old.store.asked mid.store.asked old.traced mid.traced (SinksRose old.faults new.faults) =
       subst (λ (s : StoreState). Traced tracing old.store.asked s.asked old.traced mid.traced (SinksRose old.faults new.faults)) (sym ran.unasked)
@@ -189,10 +190,10 @@ module _ {Takes : Type 0} (settings : Option Config) (config : Config) (takes : 
       ending : Ending
       ending = Ran (Err ran.stop)
 
-      at_high : (x : Shown ended.tally (sink_of tracing ran.begun.traced mid.traced) ran.begun.base old.left mid.left mid.gave old.written mid.written ran.begun.opened mid.store report.high (Ran (Err ran.stop)) [] (SinkStopped (Ran (Err ran.stop))))
+      at_high : (x : Shown ended.tally (sink_of tracing ran.begun.traced mid.traced) ran.begun.base old.left mid.left mid.gave old.written mid.written ran.begun.opened mid.store report.high (Ran (Err ran.stop)) [] (OutFailed ended.quiet old.faults.out mid.faults.out))
           × (secret_of (first_line x.taken) ≡ Some ran.begun.secret)
       at_high = subst
-          (λ (n : ℕ). (x : Shown ended.tally (sink_of tracing ran.begun.traced mid.traced) ran.begun.base old.left mid.left mid.gave old.written mid.written ran.begun.opened mid.store n (Ran (Err ran.stop)) [] (SinkStopped (Ran (Err ran.stop))))
+          (λ (n : ℕ). (x : Shown ended.tally (sink_of tracing ran.begun.traced mid.traced) ran.begun.base old.left mid.left mid.gave old.written mid.written ran.begun.opened mid.store n (Ran (Err ran.stop)) [] (OutFailed ended.quiet old.faults.out mid.faults.out))
           × (secret_of (first_line x.taken) ≡ Some ran.begun.secret)) (sym high) (ran.shown, ran.keyed)
 
       words : EndingWords (Ran (Err ran.stop)) Takes
@@ -206,7 +207,7 @@ module _ {Takes : Type 0} (settings : Option Config) (config : Config) (takes : 
           let rose = silenced_rose ended.quiet old.faults mid.faults ran.silent is in
           subst (λ (w : Option (List ℕ)). StopTold ran w out2) (sym (hushed is).written)
           (subst (λ (n : ℕ). StopTold ran mid.written n) (sym (hushed is).faults) (record {
-            r = reported_quiet (Ran (Err ran.stop)) old.faults mid.faults is_status words at_high.0 ran.cause rose;
+            r = reported_quiet (Ran (Err ran.stop)) old.faults mid.faults is_status words at_high.0 (λ lost. lost.1) ran.cause rose;
             ending = refl;
             keyed = at_high.1;
             rose = λ it. rose;
@@ -214,7 +215,7 @@ module _ {Takes : Type 0} (settings : Option Config) (config : Config) (takes : 
       go false is =
           let l = subst (λ (e : KeptEnding). LineWritten (kept_line e) mid.written w2 mid.faults.out out2) ran.ending (line is) in
           record {
-            r = reported_line (Ran (Err ran.stop)) old.faults mid.faults new.faults is_status words at_high.0 ran.cause l.cut (λ rises. rises) (none_of_it l.cut) l.empty l.later refl refl
+            r = reported_line (Ran (Err ran.stop)) old.faults mid.faults new.faults is_status words at_high.0 (λ lost. absurd (cc (is, lost.0))) ran.cause l.cut (λ rises. rises) l.empty l.later refl refl
                 (silenced_kept ended.quiet old.faults mid.faults ran.silent is);
             ending = refl;
             keyed = at_high.1;
@@ -262,8 +263,8 @@ module _ {Takes : Type 0} (settings : Option Config) (config : Config) (takes : 
       let run : Report = record { status = status_of ending; high = ran.high } in
       let served : Outside = outside_of mid.left mid.gave mid.written ran.traced ran.served old.faults in
       let r : Reported ran.tally (sink_of tracing ran.begun.traced ran.traced) Takes ran.begun.base old.left mid.left mid.gave old.written mid.written ran.begun.opened ran.served old.faults old.faults run =
-      reported_line (Ran (Ok (has_refused ran.tally))) old.faults old.faults old.faults {E = ⊥} refl takes ran.shown (record { source = refl; out = refl; trace = refl }) (Cut-whole mid.written mid.written ⊥ [] (Appends-nil mid.written))
-      (λ never. absurd never) (λ empty. Appends-nil mid.written) (λ empty. refl) (omega arith) refl refl refl in
+      reported_line (Ran (Ok (has_refused ran.tally))) old.faults old.faults old.faults {E = ⊥} refl takes ran.shown (λ lost. absurd (cc lost.0)) (record { source = refl; out = refl; trace = refl }) (Cut-whole mid.written mid.written ⊥ [] (Appends-nil mid.written))
+      (λ never. absurd never) (λ empty. refl) (omega arith) refl refl refl in
       record {
         ending = ended.ending;
         status = status;

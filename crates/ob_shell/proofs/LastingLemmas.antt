@@ -44,7 +44,7 @@ module _ {R : Type 0} (state : R → RevState) (config : Config) where
   last_rows m1 m2 (text ∷ more) part (Err stop) (inr (inr done)) sizes = (step_sizes m1 m2 text done.answer done.step sizes).rows
 
   -- ---- blocks
-  module _ (good : ℕ → List ℕ → Bool) (accepts : AcceptsRows good config.pack) where
+  module _ (good : ℕ → List ℕ → Bool) (accepts : AcceptsRows good config.pack) (single : AcceptsRows good 1) where
     abbrev IsSealed : Machine R → Type 0
     IsSealed m = AllSealed good (world_of state m.engine m.store)
 
@@ -54,7 +54,7 @@ module _ {R : Type 0} (state : R → RevState) (config : Config) where
     step_sealed : (m0 m1 : Machine R) (text : List ℕ) (answer : Answer) → Step state m0 m1 text answer → HasSizes config m0 → IsTrue m0.store.tells → IsSealed m0 → IsSealed m1
     step_sealed m0 m1 text answer step sizes tells all = elim step.done [
       | inl bad ↦ subst (λ (m : Machine R). IsSealed m) (sym bad.same) all
-      | inr did ↦ (did.does.seals good (accepts_at m0 sizes)).seals tells all
+      | inr did ↦ (did.does.seals good (accepts_at m0 sizes) single).seals tells all
     ]
 
     pub steps_sealed : (m0 m2 : Machine R) (texts : List (List ℕ)) (answers : List Answer) → Steps state m0 m2 texts answers → HasSizes config m0 → IsTrue m0.store.tells → IsSealed m0 → IsSealed m2
@@ -69,7 +69,7 @@ module _ {R : Type 0} (state : R → RevState) (config : Config) where
     last_sealed m1 m2 more part (Ok flag) rests sizes tells all = subst (λ (m : Machine R). IsSealed m) (sym rests.machine) all
     last_sealed m1 m2 [] part (Err stop) rests sizes tells all = subst (λ (m : Machine R). IsSealed m) (sym rests.rests.machine) all
     last_sealed m1 m2 (text ∷ more) part (Err stop) (inl rests) sizes tells all = subst (λ (m : Machine R). IsSealed m) (sym rests.rests.machine) all
-    last_sealed m1 m2 (text ∷ more) part (Err stop) (inr (inl cut)) sizes tells all = (cut.does.seals good (accepts_at m1 sizes)).seals tells all
+    last_sealed m1 m2 (text ∷ more) part (Err stop) (inr (inl cut)) sizes tells all = (cut.does.seals good (accepts_at m1 sizes) single).seals tells all
     last_sealed m1 m2 (text ∷ more) part (Err stop) (inr (inr done)) sizes tells all = step_sealed m1 m2 text done.answer done.step sizes tells all
 
 module _ {R : Type 0} (state : R → RevState) where

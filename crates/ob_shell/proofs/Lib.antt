@@ -39,5 +39,6 @@ pub mod LaterLemmas
 pub mod DisturbLemmas
 pub mod MeddleLemmas
 pub mod RerunLemmas
+pub mod KindLemmas
 pub mod CutLemmas
 mod Spelt

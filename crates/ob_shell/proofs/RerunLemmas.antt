@@ -24,10 +24,10 @@ use Rattle.ob_shell.specs.Bases.{Base, public_with}
 use Rattle.ob_shell.specs.Endings.{status_of}
 use Rattle.ob_shell.specs.Failures.{failures, outcome_failures}
 use Rattle.ob_shell.specs.Headline.{Headline}
-use Rattle.ob_shell.specs.Reruns.{Alike, EndsWell, IsPlain, ShellRun, ShowAlike, any_counted, plainly, seen_plainly, statements}
+use Rattle.ob_shell.specs.Reruns.{Alike, ArePlain, EndsWell, IsPlain, ShellRun, ShowAlike, any_counted, plainly, seen_plainly}
 use Rattle.ob_shell.specs.Settings.{limit_of, settings_of}
 use Rattle.ob_shell.specs.Usage.{usage}
-use Rattle.ob_shell.specs.Words.{Answer, AreSeen, Because, Outside, SpellFirst, is_cut}
+use Rattle.ob_shell.specs.Words.{Answer, AreSeen, Because, Outside, SpellFirst, is_cut, statements}
 use Rattle.ob_shell.specs.declared.top.Ending.{Ending}
 use Rattle.ob_shell.specs.declared.top.Ending.TheVariants.{Usage, BadKey, Ran}
 use Rattle.ob_shell.specs.declared.top.Report.{Report}
@@ -46,11 +46,11 @@ AreUncut p m (stmt ∷ stmts) (x ∷ seen) =
 -- ---- what is seen of a statement that was not cut off, where it is no SELECT of rows or results are padded, follows from
 -- its early refusal
 -- it holds neither a k nor a plan
-record HoldsNone (p : Public) (stmt : Stmt) (here : Seen) (k : Option ℕ) (plan second : Option Plan) : Type 0 where
-  no_k : k ≡ None
-  no_plan : plan ≡ None
-  no_second : second ≡ None
-  ends : EndsUncounted p stmt here.end
+pub record HoldsNone (p : Public) (stmt : Stmt) (here : Seen) (k : Option ℕ) (plan second : Option Plan) : Type 0 where
+  pub no_k : k ≡ None
+  pub no_plan : plan ≡ None
+  pub no_second : second ≡ None
+  pub ends : EndsUncounted p stmt here.end
 
 module _ (p : Public) (stmt : Stmt) (here : Seen) (plain : IsPlain p stmt) where
   not_counted : {A : Type 0} (k : ℕ) → IsCount p stmt k → A
@@ -59,7 +59,7 @@ module _ (p : Public) (stmt : Stmt) (here : Seen) (plain : IsPlain p stmt) where
     | inr padded ↦ let unpadded = ap is_some count.unpadded in absurd (cc (padded, unpadded))
   ]
 
-  holds_none : (k : Option ℕ) (plan second : Option Plan) → Holds p stmt here k plan second → HoldsNone p stmt here k plan second
+  pub holds_none : (k : Option ℕ) (plan second : Option Plan) → Holds p stmt here k plan second → HoldsNone p stmt here k plan second
   holds_none None None None holds = record { no_k = refl; no_plan = refl; no_second = refl; ends = holds }
   holds_none None None (Some s) holds = absurd holds
   holds_none None (Some plan) None holds = absurd holds
@@ -144,22 +144,22 @@ same_seen p m (a ∷ ps) (x ∷ xs) (b ∷ qs) (y ∷ ys) lawful lawful_too alik
 failure_is : (o : Outcome) → o ≡ Refused StoreFault → outcome_failures o ≡ 1
 failure_is o is = ap outcome_failures is
 
-not_cut : (b : Bool) (o : Outcome) → (IsTrue b → o ≡ Refused StoreFault) → outcome_failures o ≡ 0 → b ≡ false
+pub not_cut : (b : Bool) (o : Outcome) → (IsTrue b → o ≡ Refused StoreFault) → outcome_failures o ≡ 0 → b ≡ false
 not_cut true o cut none = let one = failure_is o (cut refl) in absurd (omega (arith, one, none))
 not_cut false o cut none = refl
 
-all_uncut : (ending : Ending) (spelt : List Spelt) (answers : List Answer) (p : Public) (m : ℕ) (seen : List Entry) → AreSeen ending p m spelt answers seen → length answers ≡ length spelt → failures answers ≡ 0
+all_uncut : (Leaves : Public → Stmt → Seen → Type 0) (spelt : List Spelt) (answers : List Answer) (p : Public) (m : ℕ) (seen : List Entry) → AreSeen Leaves p m spelt answers seen → length answers ≡ length spelt → failures answers ≡ 0
     → AreUncut p m (statements spelt) seen
 unfolding AreSeen failures statements AreUncut
-all_uncut ending [] answers p m seen lawful each none = lawful
-all_uncut ending (x ∷ spelt) [] p m seen lawful each none = absurd (omega (arith, each))
-all_uncut ending (Err at ∷ spelt) (one ∷ answers) p m seen lawful each none = all_uncut ending spelt answers p m seen lawful.1 (omega (arith, each)) (omega (arith, none))
-all_uncut ending (Ok stmt ∷ spelt) (one ∷ answers) p m [] lawful each none = absurd lawful
-all_uncut ending (Ok stmt ∷ spelt) (one ∷ answers) p m (x ∷ seen) lawful each none = (
+all_uncut Leaves [] answers p m seen lawful each none = lawful
+all_uncut Leaves (x ∷ spelt) [] p m seen lawful each none = absurd (omega (arith, each))
+all_uncut Leaves (Err at ∷ spelt) (one ∷ answers) p m seen lawful each none = all_uncut Leaves spelt answers p m seen lawful.1 (omega (arith, each)) (omega (arith, none))
+all_uncut Leaves (Ok stmt ∷ spelt) (one ∷ answers) p m [] lawful each none = absurd lawful
+all_uncut Leaves (Ok stmt ∷ spelt) (one ∷ answers) p m (x ∷ seen) lawful each none = (
   lawful.0,
   lawful.1,
   not_cut (is_cut x.seen.end) one.outcome lawful.2.1.0 (omega (arith, none)),
-  all_uncut ending spelt answers (next p x.skeleton x.seen) (m + length (script p x.skeleton x.seen)) seen lawful.3 (omega (arith, each)) (omega (arith, none)),
+  all_uncut Leaves spelt answers (next p x.skeleton x.seen) (m + length (script p x.skeleton x.seen)) seen lawful.3 (omega (arith, each)) (omega (arith, none)),
 )
 
 -- a run that came to its end answered all that it reached
@@ -190,22 +190,20 @@ answered_all {base} {Takes} {old = old} {new = new} {report = report} a few =
 
 module _ (words : List Text) (old new : Outside) (report : Report) (a : ShellRun words old new report) (well : EndsWell report.status (failures a.answers)) where
   run_uncut : AreUncut (public_with (settings_of usage words)) 0 (statements a.spelt) (a.seen ++ a.last)
-  run_uncut = all_uncut a.ending a.spelt a.answers (public_with (settings_of usage words)) 0 (a.seen ++ a.last) a.lawful (answered_all a well.ended) well.none
+  run_uncut = all_uncut _ a.spelt a.answers (public_with (settings_of usage words)) 0 (a.seen ++ a.last) a.lawful (answered_all a well.ended) well.none
 
 -- none is a SELECT of rows, or results are padded
-abbrev ArePlain : Public → List Stmt → Type 0
-ArePlain p stmts = (any_counted stmts ≡ false) ⊎ IsSome p.pad
 
 neither : (a b : Bool) → (a || b) ≡ false → (a ≡ false) × (b ≡ false)
 neither true b is = absurd (cc is)
 neither false b is = (refl, is)
 
-first_plain : (p : Public) (a : Stmt) (ps : List Stmt) → ArePlain p (a ∷ ps) → IsPlain p a
+pub first_plain : (p : Public) (a : Stmt) (ps : List Stmt) → ArePlain p (a ∷ ps) → IsPlain p a
 unfolding any_counted
 first_plain p a ps plain = elim plain [ inl none ↦ inl (neither (is_counted a) (any_counted ps) none).0 | inr padded ↦ inr padded ]
 
 -- after any statement results are still padded
-rest_plain : (p : Public) (a : Stmt) (ps : List Stmt) (x : Entry) → ArePlain p (a ∷ ps) → ArePlain (next p x.skeleton x.seen) ps
+pub rest_plain : (p : Public) (a : Stmt) (ps : List Stmt) (x : Entry) → ArePlain p (a ∷ ps) → ArePlain (next p x.skeleton x.seen) ps
 unfolding any_counted
 rest_plain p a ps x plain = elim plain [ inl none ↦ inl (neither (is_counted a) (any_counted ps) none).1 | inr padded ↦ inr padded ]
 

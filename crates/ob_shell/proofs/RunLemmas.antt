@@ -1,5 +1,5 @@
 -- What a session has done, byte by byte, and how it ends.
-use Rattle.std.proofs.Common.{◌≡◌, ℕ, ◌<◌, ◌≤◌, Bool, true, false, List, [], ◌∷◌, ◌++◌, length, Option, Ok, Err, Result, refl, sym, ap, ◌∙◌, subst, inl, inr, arith, append_assoc, append-nil}
+use Rattle.std.proofs.Common.{◌≡◌, ℕ, ◌<◌, ◌≤◌, Bool, true, false, List, [], ◌∷◌, ◌++◌, length, Option, Ok, Err, Result, refl, sym, ap, ◌∙◌, subst, ◌⊎◌, inl, inr, arith, append_assoc, append-nil}
 use Rattle.std.specs.Prelude.{IfOk, IfErr, OnOk, OnErr}
 use Rattle.std.specs.Io.KnownBytes.{Appends, IsAtEnd}
 use Rattle.std.proofs.KnownBytes.{Appends-nil, Appends-trans}
@@ -12,19 +12,19 @@ use Rattle.ob_print.proofs.CutLemmas.{Cut-after, Cut-whole}
 use Rattle.ob_shell.specs.Texts.{text_max, is_over, rest_after, texts_at, texts_of, tail_text}
 use Rattle.ob_shell.specs.Feeding.{Fetch, Fed}
 use Rattle.ob_shell.specs.Steps.{Machine, Steps, AnswersAll, StopsIn, IsUntampered}
-use Rattle.ob_shell.specs.Running.{SoFar, SessionRan, EndsBy, stop_of, IsQuiet}
+use Rattle.ob_shell.specs.Running.{SoFar, SessionRan, EndsBy, OutFailed, stop_of, IsQuiet, is_quiet}
 use Rattle.ob_shell.specs.Tracing.{TracedAll, Traced, Traces, traced}
 use Rattle.ob_shell.specs.declared.session.Halted.{Halted}
 use Rattle.ob_shell.proofs.FeedLemmas.{Fed-none, Fed-then}
 use Rattle.ob_shell.proofs.TextLemmas.{rest_of-append, texts_of-append, rest_of-cons, texts_of-cons, rest_of-nil, texts_of-nil, rest_of-over, texts_of-over}
 use Rattle.ob_shell.proofs.PromptLemmas.{prompt_all, prompt_by}
-use Rattle.ob_shell.proofs.StepLemmas.{Steps-none, Steps-append, printed-append, printed-nil, PartlyAt-none, PartlyAt-more}
+use Rattle.ob_shell.proofs.CountLemmas.{lost_since}
+use Rattle.ob_shell.proofs.StepLemmas.{Steps-none, Steps-append, printed-append, printed-nil, PartlyAt-none, PartlyAt-more, stops_by}
 use Rattle.ob_shell.proofs.TraceLemmas.{traced_then, traced_cut, traced_whole}
 use Rattle.std.proofs.lemmas.List.{append_cancel_left}
 use Rattle.ob_gen.specs.Tally.{empty_tally}
 use Rattle.ob_gen.specs.declared.tally.Tally.{Tally}
 use Rattle.ob_shell.proofs.TallyLemmas.{tally_after-nil, tally_more}
-use Rattle.ob_shell.specs.Endings.{IsSinkFault}
 use Rattle.ob_shell.specs.Words.{printed, Took}
 
 -- ---- what a sink took
@@ -47,6 +47,13 @@ pub took_of : {w0 w1 : Option (List ℕ)} {F : Type 0} {bytes : List ℕ} → Cu
 took_of {w0 = w0} {w1 = w1} c not = elim c.all [
   | inl e ↦ took_whole (subst (λ (l : List ℕ). Appends w0 w1 l) e c.appends)
   | inr f ↦ absurd (not f)
+]
+
+-- or an end of it was lost
+pub took_or : {w0 w1 : Option (List ℕ)} {F G : Type 0} {bytes : List ℕ} → Cut w0 w1 F bytes → (F → G) → Took w0 w1 bytes ⊎ G
+took_or {w0 = w0} {w1 = w1} c by = elim c.all [
+  | inl e ↦ inl (took_whole (subst (λ (l : List ℕ). Appends w0 w1 l) e c.appends))
+  | inr f ↦ inr (by f)
 ]
 
 -- ---- what the trace took
@@ -115,14 +122,14 @@ pub at_limit_is_over : (new rest : List ℕ) → new ≡ rest → length new ≡
 at_limit_is_over new rest e h = rw (← e) (grind arith)
 
 -- it stopped at the source's fault or at a limit, with every text served that had come whole
-pub ran_halt : {R : Type 0} {state : R → RevState} {on : Bool} {t0 t2 : Option (List ℕ)} {f0 f2 : Fetch} {gave : ℕ} {l0 l2 w0 w2 : Option (List ℕ)} {p : List ℕ} {r : Tally} {m0 m1 : Machine R} (stop : Stop) → IsUntampered stop
+pub ran_halt : {R : Type 0} {state : R → RevState} {Lost : Type 0} {on : Bool} {t0 t2 : Option (List ℕ)} {f0 f2 : Fetch} {gave : ℕ} {l0 l2 w0 w2 : Option (List ℕ)} {p : List ℕ} {r : Tally} {m0 m1 : Machine R} (stop : Stop) → IsUntampered stop
     → (so : SoFar state f0 f2 l0 l2 w0 w2 p r m0 m1)
     → texts_of p f2.unread ≡ []
     → length f2.unread ≤ gave
     → EndsBy f2 false (so.passed ++ f2.unread) [] [] (Err stop)
     → Traces on t0 t2 m0.store.asked m1.store.asked
-    → SessionRan state on f0 f2 l0 l2 gave w0 w2 t0 t2 m0 m1 (Err stop)
-ran_halt {state = state} {f0 = f0} {f2 = f2} {gave = gave} {w0 = w0} {w2 = w2} {m1 = m1} stop fine so none late ends traces = record {
+    → SessionRan state on f0 f2 l0 l2 gave w0 w2 t0 t2 m0 m1 Lost (Err stop)
+ran_halt {state = state} {Lost} {f0 = f0} {f2 = f2} {gave = gave} {w0 = w0} {w2 = w2} {m1 = m1} stop fine so none late ends traces = record {
   piece = so.fed.piece;
   consumed = so.fed.consumed;
   taken = so.fed.taken;
@@ -139,7 +146,7 @@ ran_halt {state = state} {f0 = f0} {f2 = f2} {gave = gave} {w0 = w0} {w2 = w2} {
   steps = so.steps;
   part = [];
   last = PartlyAt-none state m1 [] stop fine;
-  cut = subst (λ (l : List ℕ). Cut w0 w2 (IsSinkFault stop) l) (sym (append-nil (printed so.answers))) (Cut-whole w0 w2 (IsSinkFault stop) (printed so.answers) so.appends);
+  cut = subst (λ (l : List ℕ). Cut w0 w2 Lost l) (sym (append-nil (printed so.answers))) (Cut-whole w0 w2 Lost (printed so.answers) so.appends);
   whole = took_whole so.appends;
   traced = traces;
   counted = tt;
@@ -155,11 +162,11 @@ other_stop f ended bytes more part SourceFault x y = absurd (x refl)
 other_stop f ended bytes more part InputLimit x y = absurd (y refl)
 
 -- it stopped while it served the text that a byte had ended
-pub ran_stop : {R : Type 0} {state : R → RevState} {on : Bool} {t0 t2 : Option (List ℕ)} {f0 f1 f2 : Fetch} {gave : ℕ} {l0 l1 l2 w0 w1 w2 : Option (List ℕ)} {p : List ℕ} {r : Tally} {b : ℕ} {m0 m1 m2 : Machine R} (stop : Stop)
+pub ran_stop : {R : Type 0} {state : R → RevState} {Lost : Type 0} {on : Bool} {t0 t2 : Option (List ℕ)} {f0 f1 f2 : Fetch} {gave : ℕ} {l0 l1 l2 w0 w1 w2 : Option (List ℕ)} {p : List ℕ} {r : Tally} {b : ℕ} {m0 m1 m2 : Machine R} (stop : Stop)
     → SoFar state f0 f1 l0 l1 w0 w1 p r m0 m1 → Fed f1 f2 l1 l2 (b ∷ []) → length f2.unread < gave
-    → StopsIn state w1 w2 (texts_at p b) stop m1 m2
+    → StopsIn state w1 w2 Lost (texts_at p b) stop m1 m2
     → (stop ≡ SourceFault → ⊥) → (stop ≡ InputLimit → ⊥) → Traces on t0 t2 m0.store.asked m1.store.asked
-    → SessionRan state on f0 f2 l0 l2 gave w0 w2 t0 t2 m0 m2 (Err stop)
+    → SessionRan state on f0 f2 l0 l2 gave w0 w2 t0 t2 m0 m2 Lost (Err stop)
 ran_stop {f0 = f0} {f2 = f2} {gave = gave} {w1 = w1} {p = p} {b = b} {m1 = m1} stop so fed late st no_fault no_limit traces =
     let all = Fed-then so.fed fed in
     record {
@@ -190,11 +197,11 @@ ran_stop {f0 = f0} {f2 = f2} {gave = gave} {w1 = w1} {p = p} {b = b} {m1 = m1} s
     }
 
 -- the input ended, and the rest was served, too
-pub ran_done : {R : Type 0} {state : R → RevState} {on : Bool} {t0 t2 : Option (List ℕ)} {f0 f2 : Fetch} {gave : ℕ} {l0 l2 w0 w1 w2 : Option (List ℕ)} {p : List ℕ} {r : Tally} {m0 m1 m2 : Machine R} (tally : Tally)
+pub ran_done : {R : Type 0} {state : R → RevState} {Lost : Type 0} {on : Bool} {t0 t2 : Option (List ℕ)} {f0 f2 : Fetch} {gave : ℕ} {l0 l2 w0 w1 w2 : Option (List ℕ)} {p : List ℕ} {r : Tally} {m0 m1 m2 : Machine R} (tally : Tally)
     → SoFar state f0 f2 l0 l2 w0 w1 p r m0 m1 → f2.unread ≡ [] → IsAtEnd l2 → f2.taken < f2.limit → length p < text_max
     → AnswersAll state w1 w2 (tail_text p) r tally m1 m2 → Traces on t0 t2 m0.store.asked m2.store.asked
-    → SessionRan state on f0 f2 l0 l2 gave w0 w2 t0 t2 m0 m2 (Ok tally)
-ran_done {state = state} {f0 = f0} {f2 = f2} {gave = gave} {w0 = w0} {w2 = w2} {p = p} {m0 = m0} {m2 = m2} tally so none at_end below short now traces =
+    → SessionRan state on f0 f2 l0 l2 gave w0 w2 t0 t2 m0 m2 Lost (Ok tally)
+ran_done {state = state} {Lost} {f0 = f0} {f2 = f2} {gave = gave} {w0 = w0} {w2 = w2} {p = p} {m0 = m0} {m2 = m2} tally so none at_end below short now traces =
     let bytes : f0.unread ++ so.fed.piece ≡ so.passed = so.fed.joined ∙ rw none (append-nil so.passed) in
     record {
       piece = so.fed.piece;
@@ -213,8 +220,8 @@ ran_done {state = state} {f0 = f0} {f2 = f2} {gave = gave} {w0 = w0} {w2 = w2} {
       part = [];
       last = record { machine = refl; none = refl };
       cut =
-          subst (λ (l : List ℕ). Cut w0 w2 ⊥ l) (sym (append-nil (printed (so.answers ++ now.answers))))
-          (Cut-whole w0 w2 ⊥ _ (rw printed-append (Appends-trans _ _ _ _ _ so.appends now.appends)));
+          subst (λ (l : List ℕ). Cut w0 w2 Lost l) (sym (append-nil (printed (so.answers ++ now.answers))))
+          (Cut-whole w0 w2 Lost _ (rw printed-append (Appends-trans _ _ _ _ _ so.appends now.appends)));
       whole = took_whole (rw printed-append (Appends-trans _ _ _ _ _ so.appends now.appends));
       traced = traces;
       counted = tally_more empty_tally _ _ so.answers now.answers so.counted now.counted;
@@ -222,11 +229,11 @@ ran_done {state = state} {f0 = f0} {f2 = f2} {gave = gave} {w0 = w0} {w2 = w2} {
     }
 
 -- the input ended, and it stopped while it served the rest
-pub ran_cut : {R : Type 0} {state : R → RevState} {on : Bool} {t0 t2 : Option (List ℕ)} {f0 f2 : Fetch} {gave : ℕ} {l0 l2 w0 w1 w2 : Option (List ℕ)} {p : List ℕ} {r : Tally} {m0 m1 m2 : Machine R} (stop : Stop)
+pub ran_cut : {R : Type 0} {state : R → RevState} {Lost : Type 0} {on : Bool} {t0 t2 : Option (List ℕ)} {f0 f2 : Fetch} {gave : ℕ} {l0 l2 w0 w1 w2 : Option (List ℕ)} {p : List ℕ} {r : Tally} {m0 m1 m2 : Machine R} (stop : Stop)
     → SoFar state f0 f2 l0 l2 w0 w1 p r m0 m1 → f2.unread ≡ [] → IsAtEnd l2
-    → StopsIn state w1 w2 (tail_text p) stop m1 m2
+    → StopsIn state w1 w2 Lost (tail_text p) stop m1 m2
     → (stop ≡ SourceFault → ⊥) → (stop ≡ InputLimit → ⊥) → Traces on t0 t2 m0.store.asked m1.store.asked
-    → SessionRan state on f0 f2 l0 l2 gave w0 w2 t0 t2 m0 m2 (Err stop)
+    → SessionRan state on f0 f2 l0 l2 gave w0 w2 t0 t2 m0 m2 Lost (Err stop)
 ran_cut {f0 = f0} {f2 = f2} {gave = gave} {w1 = w1} {p = p} {m1 = m1} stop so none at_end st no_fault no_limit traces =
     let bytes : f0.unread ++ so.fed.piece ≡ so.passed = so.fed.joined ∙ rw none (append-nil so.passed) in
     record {
@@ -252,28 +259,28 @@ ran_cut {f0 = f0} {f2 = f2} {gave = gave} {w1 = w1} {p = p} {m1 = m1} stop so no
       ends = other_stop f2 true _ _ _ stop no_fault no_limit;
     }
 
-pub ran_finish : {R : Type 0} {state : R → RevState} {on : Bool} {t0 t2 : Option (List ℕ)} {f0 f2 : Fetch} {gave : ℕ} {l0 l2 w0 w1 w2 : Option (List ℕ)} {p : List ℕ} {r : Tally} {m0 m1 m2 : Machine R} (result : Result Tally Halted)
+pub ran_finish : {R : Type 0} {state : R → RevState} {k0 k1 k2 : ℕ} {on : Bool} {t0 t2 : Option (List ℕ)} {f0 f2 : Fetch} {gave : ℕ} {l0 l2 w0 w1 w2 : Option (List ℕ)} {p : List ℕ} {r : Tally} {m0 m1 m2 : Machine R} (result : Result Tally Halted)
     → SoFar state f0 f2 l0 l2 w0 w1 p r m0 m1 → f2.unread ≡ [] → IsAtEnd l2 → f2.taken < f2.limit → length p < text_max
     → IfOk result (λ tally. AnswersAll state w1 w2 (tail_text p) r tally m1 m2)
-    → IfErr result (λ halted. StopsIn state w1 w2 (tail_text p) halted.stop m1 m2)
+    → IfErr result (λ halted. StopsIn state w1 w2 (OutFailed halted.quiet k1 k2) (tail_text p) halted.stop m1 m2) → k1 ≡ k0
     → (stop_of result ≡ Err SourceFault → ⊥) → (stop_of result ≡ Err InputLimit → ⊥)
     → (t1 : Option (List ℕ)) → TracedAll on m0.store.asked m1.store.asked t0 t1 → OnOk result (TracedAll on m1.store.asked m2.store.asked t1 t2)
     → OnErr result (Traced on m1.store.asked m2.store.asked t1 t2 (IsQuiet result))
-    → SessionRan state on f0 f2 l0 l2 gave w0 w2 t0 t2 m0 m2 (stop_of result)
-ran_finish (Ok tally) so none at_end below short answered stopped no_fault no_limit t1 before all cut =
+    → SessionRan state on f0 f2 l0 l2 gave w0 w2 t0 t2 m0 m2 (OutFailed (is_quiet result) k0 k2) (stop_of result)
+ran_finish (Ok tally) so none at_end below short answered stopped same no_fault no_limit t1 before all cut =
     ran_done tally so none at_end below short answered (traces_all (traced_then before all))
-ran_finish (Err halted) so none at_end below short answered stopped no_fault no_limit t1 before all cut =
-    ran_cut halted.stop so none at_end stopped
+ran_finish (Err halted) so none at_end below short answered stopped same no_fault no_limit t1 before all cut =
+    ran_cut halted.stop so none at_end (stops_by (lost_since same) stopped)
     (λ h. no_fault (rw h)) (λ h. no_limit (rw h)) (traces_more before cut)
 
 -- a byte brought a stop
-pub ran_turn : {R : Type 0} {state : R → RevState} {on : Bool} {t0 t2 : Option (List ℕ)} {f0 f1 f2 : Fetch} {gave : ℕ} {l0 l1 l2 w0 w1 w2 : Option (List ℕ)} {p : List ℕ} {r : Tally} {b : ℕ} {m0 m1 m2 : Machine R} (stop : Stop)
+pub ran_turn : {R : Type 0} {state : R → RevState} {Lost : Type 0} {on : Bool} {t0 t2 : Option (List ℕ)} {f0 f1 f2 : Fetch} {gave : ℕ} {l0 l1 l2 w0 w1 w2 : Option (List ℕ)} {p : List ℕ} {r : Tally} {b : ℕ} {m0 m1 m2 : Machine R} (stop : Stop)
     → SoFar state f0 f1 l0 l1 w0 w1 p r m0 m1 → Fed f1 f2 l1 l2 (b ∷ []) → length f2.unread < gave
-    → StopsIn state w1 w2 (texts_at p b) stop m1 m2
+    → StopsIn state w1 w2 Lost (texts_at p b) stop m1 m2
     → (◌≡◌ {A = Result (Unit {0}) Stop} (Err stop) (Err SourceFault) → ⊥)
     → (◌≡◌ {A = Result (Unit {0}) Stop} (Err stop) (Err InputLimit) → (texts_at p b ≡ []) × (is_over (rest_after p b) ≡ true) × AnswersAll state w1 w2 [] r r m1 m2)
     → (t1 : Option (List ℕ)) {F : Type 0} → TracedAll on m0.store.asked m1.store.asked t0 t1 → Traced on m1.store.asked m2.store.asked t1 t2 F
-    → SessionRan state on f0 f2 l0 l2 gave w0 w2 t0 t2 m0 m2 (Err stop)
+    → SessionRan state on f0 f2 l0 l2 gave w0 w2 t0 t2 m0 m2 Lost (Err stop)
 ran_turn (Tampered region place) so fed late st no_fault limit t1 before cut = ran_stop (Tampered region place) so fed late st (λ h. cc) (λ h. cc) (traces_more before cut)
 ran_turn SinkFault so fed late st no_fault limit t1 before cut = ran_stop SinkFault so fed late st (λ h. cc) (λ h. cc) (traces_more before cut)
 ran_turn NoMemory so fed late st no_fault limit t1 before cut = ran_stop NoMemory so fed late st (λ h. cc) (λ h. cc) (traces_more before cut)
@@ -285,15 +292,15 @@ ran_turn {f2 = f2} {p = p} {b = b} {m1 = m1} {m2 = m2} InputLimit so fed late st
     (refl, refl, refl, inl (rw (rest_of-append, ← now.pending_is, rest_of-over (rest_after p b) f2.unread h.1) h.1))
     (traces_same (ap (λ (m : Machine _). m.store.asked) (no_steps h.2)) (traces_more before cut))
 
-pub ran_source_fault : {R : Type 0} {state : R → RevState} {on : Bool} {t0 t2 : Option (List ℕ)} {f0 f2 : Fetch} {gave : ℕ} {l0 l2 w0 w2 : Option (List ℕ)} {p : List ℕ} {r : Tally} {m0 m1 : Machine R}
+pub ran_source_fault : {R : Type 0} {state : R → RevState} {Lost : Type 0} {on : Bool} {t0 t2 : Option (List ℕ)} {f0 f2 : Fetch} {gave : ℕ} {l0 l2 w0 w2 : Option (List ℕ)} {p : List ℕ} {r : Tally} {m0 m1 : Machine R}
     → SoFar state f0 f2 l0 l2 w0 w2 p r m0 m1 → f2.unread ≡ [] → length p < text_max → TracedAll on m0.store.asked m1.store.asked t0 t2
-    → SessionRan state on f0 f2 l0 l2 gave w0 w2 t0 t2 m0 m1 (Err SourceFault)
+    → SessionRan state on f0 f2 l0 l2 gave w0 w2 t0 t2 m0 m1 Lost (Err SourceFault)
 ran_source_fault {p = p} so none short traced =
     ran_halt SourceFault tt so (rw none (texts_of-nil p)) (rw none (omega arith)) (refl, refl, refl, rw (none, append-nil, ← so.pending_is) (below_is_not_over p short)) (traces_all traced)
 
-pub ran_input_limit : {R : Type 0} {state : R → RevState} {on : Bool} {t0 t2 : Option (List ℕ)} {f0 f2 : Fetch} {gave : ℕ} {l0 l2 w0 w2 : Option (List ℕ)} {p : List ℕ} {r : Tally} {m0 m1 : Machine R}
+pub ran_input_limit : {R : Type 0} {state : R → RevState} {Lost : Type 0} {on : Bool} {t0 t2 : Option (List ℕ)} {f0 f2 : Fetch} {gave : ℕ} {l0 l2 w0 w2 : Option (List ℕ)} {p : List ℕ} {r : Tally} {m0 m1 : Machine R}
     → SoFar state f0 f2 l0 l2 w0 w2 p r m0 m1 → f2.unread ≡ [] → f2.taken ≡ f2.limit → TracedAll on m0.store.asked m1.store.asked t0 t2
-    → SessionRan state on f0 f2 l0 l2 gave w0 w2 t0 t2 m0 m1 (Err InputLimit)
+    → SessionRan state on f0 f2 l0 l2 gave w0 w2 t0 t2 m0 m1 Lost (Err InputLimit)
 ran_input_limit {p = p} so none full traced = ran_halt InputLimit tt so (rw none (texts_of-nil p)) (rw none (omega arith)) (refl, refl, refl, inr full) (traces_all traced)
 
 -- the trace of all that was asked, and then of what was asked until the end

@@ -1,7 +1,8 @@
 -- What the engine was given and what it left.
-use Rattle.std.proofs.Common.{ℕ, List, [], ◌∷◌, ◌++◌, ◌≡◌, ◌≤◌, Bool, Option, None, Result, Ok, Err, refl, ◌∙◌, ◌⊎◌, inl, inr, arith}
+use Rattle.std.proofs.Common.{ℕ, List, [], ◌∷◌, ◌++◌, ◌≡◌, ◌≤◌, Bool, Option, None, Result, Ok, Err, refl, sym, ◌∙◌, inl, inr, append-nil, arith}
 use Rattle.std.specs.Io.KnownBytes.{Appends}
 use Rattle.std.proofs.KnownBytes.{Appends-nil}
+use Rattle.std.specs.Prelude.{IsErr}
 use Rattle.std.specs.Result.{is_err}
 use Rattle.ob_base.specs.Events.{Event}
 use Rattle.ob_base.specs.declared.refusal.Stop.{Stop}
@@ -9,33 +10,25 @@ use Rattle.ob_base.specs.declared.refusal.Refusal.TheVariants.{Syntax}
 use Rattle.ob_base.specs.declared.refusal.Stop.TheVariants.{InputLimit, NoMemory, SinkFault, SourceFault, Tampered}
 use Rattle.ob_exec.specs.Agreeing.{seen_of}
 use Rattle.ob_exec.specs.Running.{SinkCause}
-use Rattle.ob_exec.specs.Serving.{EndsWithin, Serves}
+use Rattle.ob_exec.specs.Serving.{Serves}
 use Rattle.ob_exec.specs.declared.outcome.Outcome.{Outcome}
 use Rattle.ob_exec.specs.declared.outcome.Outcome.TheVariants.{Refused}
 use Rattle.ob_io.specs.Causes.{HasCause}
 use Rattle.ob_print.specs.Cuts.{Cut}
 use Rattle.ob_print.specs.Rows.{events_text}
-use Rattle.ob_print.proofs.CutLemmas.{Cut-more, Cut-whole}
+use Rattle.ob_print.proofs.CutLemmas.{Cut-fault, Cut-more, Cut-whole}
 use Rattle.ob_shell.specs.Closing.{closing_line}
 use Rattle.ob_shell.specs.Steps.{Machine, Does, HasBody, Served, StopsIn}
 use Rattle.ob_sql.specs.declared.stmt.Stmt.{Stmt}
 use Rattle.ob_vault.specs.State.{RevState}
-use Rattle.ob_shell.specs.Running.{Silenced, StopCause}
-use Rattle.ob_shell.specs.Words.{Spells, faults_of}
+use Rattle.ob_shell.specs.Running.{OutFailed, Silenced, StopCause}
+use Rattle.ob_shell.specs.Words.{PrintsUntil, Spells, faults_of}
 use Rattle.ob_shell.proofs.CountLemmas.{rises_earlier, rises_later}
 
 module _ {R E : Type 0} (state : R → RevState) (grew cut : E → E → List Event → Type 0) (faults : E → ℕ)
     (m0 m1 : Machine R) (out_old out_new : E) (stmt : Stmt) where
   abbrev pub Called : Result Outcome Stop → Type 0
   Called result = Serves state grew cut faults stmt result m0.engine m0.store m1.engine m1.store out_old out_new
-
-  -- it took all of them, or its output ends within them
-  ends_either : (stop : Stop) (a b : E) (events : List Event) → EndsWithin grew cut stop a b events → grew a b events ⊎ cut a b events
-  ends_either SinkFault a b events ends = inr ends
-  ends_either (Tampered region place) a b events ends = inl ends
-  ends_either SourceFault a b events ends = ends
-  ends_either NoMemory a b events ends = ends
-  ends_either InputLimit a b events ends = ends
 
   -- what a call of the engine did
   done : (result : Result Outcome Stop) → Called result → Does state m0 m1 stmt result
@@ -48,8 +41,9 @@ module _ {R E : Type 0} (state : R → RevState) (grew cut : E → E → List Ev
       rest = lacks.rest;
       split = lacks.split;
       asked = lacks.asked;
-      place = elim lacks.place [ inl make ↦ inl make | inr emits ↦ inr (emits.0, tt) ];
+      place = elim lacks.place [ inl make ↦ inl make | inr (inl result) ↦ inr (inl result) | inr (inr emits) ↦ inr (inr (emits.0, tt)) ];
     };
+    emits = serves.emits;
     seals = serves.seals;
     means = serves.means;
   }
@@ -82,41 +76,54 @@ module _ {R E : Type 0} (state : R → RevState) (grew cut : E → E → List Ev
           step = record { done = inr (served_by text spells outcome serves) };
         }
 
-    -- the engine answered, and a sink failed within these events
-    pub finished_by : (outcome : Outcome) → Called (Ok outcome) → ((events : List Event) → grew out_old out_new events → Cut w0 w1 (Unit {0}) (events_text events))
-        → StopsIn state w0 w1 (text ∷ []) SinkFault m0 m1
-    finished_by outcome serves began =
-        let answer = serves.answered in
-        let text_of = events_text answer.events in
-        record {
-          bytes = text_of ++ closing_line outcome;
-          partly = inr (inr (record {
-            answer = record { outcome = outcome; bytes = text_of ++ closing_line outcome; plan = (seen_of m1.engine).plan };
-            step = record { done = inr (served_by text spells outcome serves) };
-            whole = refl;
-            fault = tt;
-          }));
-          cut = Cut-more (closing_line outcome) (began answer.events answer.took) tt;
-        }
+    module _ {Lost : Type 0} where
+      -- the engine answered, and a sink failed within these events
+      pub finished_by : (outcome : Outcome) → Called (Ok outcome) → Lost → ((events : List Event) → grew out_old out_new events → Cut w0 w1 (Unit {0}) (events_text events))
+          → StopsIn state w0 w1 Lost (text ∷ []) SinkFault m0 m1
+      finished_by outcome serves lost began =
+          let answer = serves.answered in
+          let text_of = events_text answer.events in
+          record {
+            bytes = text_of ++ closing_line outcome;
+            partly = inr (inr (record {
+              answer = record { outcome = outcome; bytes = text_of ++ closing_line outcome; plan = (seen_of m1.engine).plan };
+              step = record { done = inr (served_by text spells outcome serves) };
+              whole = refl;
+              fault = tt;
+            }));
+            cut = Cut-more (closing_line outcome) (Cut-fault lost (began answer.events answer.took)) lost;
+          }
 
-    -- the engine was stopped, and the sink took these events, or a first part of them
-    pub stopped_by : (stop : Stop) → Called (Err stop) → ((events : List Event) → grew out_old out_new events ⊎ cut out_old out_new events → Cut w0 w1 (Unit {0}) (events_text events))
-        → StopsIn state w0 w1 (text ∷ []) stop m0 m1
-    stopped_by stop serves began =
-        let stopped = serves.stopped in
-        let printed = began stopped.events (ends_either stop out_old out_new stopped.events stopped.ends) in
-        record {
-          bytes = printed.grown;
-          partly = inr (inl (record {
-            stmt = stmt;
-            spells = spells;
-            does = done (Err stop) serves;
-            events = stopped.events;
-            emitted = stopped.told;
-            printed = printed.prefix;
-          }));
-          cut = Cut-whole _ _ _ _ printed.appends;
-        }
+      -- the engine was stopped, and of the text of these events this was printed
+      cut_short : (stop : Stop) (serves : Called (Err stop)) (bytes : List ℕ) → PrintsUntil stop bytes (events_text serves.stopped.events) → Cut w0 w1 Lost bytes → StopsIn state w0 w1 Lost (text ∷ []) stop m0 m1
+      cut_short stop serves bytes printed cut = record {
+        bytes = bytes;
+        partly = inr (inl (record {
+          stmt = stmt;
+          spells = spells;
+          does = done (Err stop) serves;
+          events = serves.stopped.events;
+          emitted = serves.stopped.told;
+          printed = printed;
+        }));
+        cut = cut;
+      }
+
+      -- a sink failed within them
+      pub failed_by : Called (Err SinkFault) → Lost → ((events : List Event) → cut out_old out_new events → Cut w0 w1 (Unit {0}) (events_text events)) → StopsIn state w0 w1 Lost (text ∷ []) SinkFault m0 m1
+      failed_by serves lost began = cut_short SinkFault serves (events_text serves.stopped.events) refl (Cut-fault lost (began serves.stopped.events serves.stopped.ends))
+
+      -- the sink took them, unless it failed; or memory was wanting for the last of them
+      pub stopped_by : (stop : Stop) → (stop ≡ SinkFault → ⊥) → Called (Err stop) → ((events : List Event) → grew out_old out_new events → Cut w0 w1 Lost (events_text events))
+          → ((events : List Event) → cut out_old out_new events → Cut w0 w1 (Unit {0}) (events_text events)) → StopsIn state w0 w1 Lost (text ∷ []) stop m0 m1
+      stopped_by (Tampered region place) other serves whole began = cut_short (Tampered region place) serves (events_text serves.stopped.events) refl (whole serves.stopped.events serves.stopped.ends)
+      stopped_by SinkFault other serves whole began = absurd (other refl)
+      stopped_by SourceFault other serves whole began = absurd serves.ran.cause
+      stopped_by InputLimit other serves whole began = absurd serves.ran.cause
+      stopped_by NoMemory other serves whole began = elim serves.stopped.ends [
+        | inl took ↦ cut_short NoMemory serves (events_text serves.stopped.events) (record { lost = []; whole = sym (append-nil (events_text serves.stopped.events)) }) (whole serves.stopped.events took)
+        | inr ends ↦ let printed = began serves.stopped.events ends in cut_short NoMemory serves printed.grown printed.prefix (Cut-whole _ _ _ _ printed.appends)
+      ]
 
 -- a text that is no statement is answered by its line alone
 pub misspelt : {R : Type 0} (state : R → RevState) (w : Option (List ℕ)) (m : Machine R) (text : List ℕ) (at : ℕ) → Spells text (Err at)
@@ -150,3 +157,10 @@ flush_silences stop (Ok x) quiet out0 out1 out2 not cause is flushed = rw is (fl
 flush_silences stop (Err e) quiet out0 out1 out2 not cause is flushed =
     let same = stop_keeps stop out0 out1 not cause in
     rw is (inl (rises_earlier out0 out1 out2 (omega (arith, same)) flushed.failed))
+
+-- where the flush after it fails, what waited may be lost
+pub flush_loses : {T E : Type 0} (stop : Stop) (r : Result T E) (quiet : Bool) (out0 out1 out2 : ℕ) → (stop ≡ SinkFault → ⊥) → SinkCause (Err stop) out0 out1 → quiet ≡ is_err r → HasCause out1 out2 r → IsErr r
+    → OutFailed quiet out0 out2
+flush_loses stop (Ok x) quiet out0 out1 out2 not cause is flushed failed = absurd (cc failed)
+flush_loses stop (Err e) quiet out0 out1 out2 not cause is flushed failed =
+    let same = stop_keeps stop out0 out1 not cause in (is, rises_earlier out0 out1 out2 (omega (arith, same)) flushed.failed)

@@ -37,6 +37,7 @@ use Rattle.ob_store.proofs.Steps.{later_trans}
 use Rattle.ob_shell.specs.Bases.{Base, Opened, fresh, session_at, start}
 use Rattle.ob_shell.specs.Disturbed.{MeantUntil, meant_trace}
 use Rattle.ob_shell.specs.Texts.{texts_in}
+use Rattle.ob_shell.specs.Failures.{FailsBeside}
 use Rattle.ob_shell.specs.Feeding.{Fetch}
 use Rattle.ob_shell.specs.Keeping.{EndsWith, Writes, closing_behind, last_script, region_opened}
 use Rattle.ob_shell.specs.KeptHeadline.{ClosesTables, PassesBoth}
@@ -49,7 +50,7 @@ use Rattle.ob_gen.specs.declared.tally.Tally.{Tally}
 use Rattle.ob_shell.specs.Tallies.{flagged, has_refused}
 use Rattle.ob_shell.specs.Top.{EndsUntampered, IsFresh, TraceSink, Carried, RanAfter}
 use Rattle.ob_shell.specs.Tracing.{Traced}
-use Rattle.ob_shell.specs.Words.{Answers, AreSeen, Begins, EndsAtRead, IsHonest, IsSealed, IsSealedAt, IsWriteTo, PassesFrom, PassesWith, before_read, rows_in}
+use Rattle.ob_shell.specs.Words.{Answers, AreSeen, Begins, EndsAtRead, IsHonest, IsSealed, IsSealedAt, IsWriteTo, PassesFrom, PassesWith, StopsWithin, before_read, rows_in}
 use Rattle.ob_shell.specs.declared.keeping.KeptEnding.{KeptEnding}
 use Rattle.ob_shell.specs.declared.keeping.KeptEnding.TheVariants.{Plain}
 use Rattle.ob_shell.specs.declared.top.Ending.{Ending}
@@ -57,7 +58,7 @@ use Rattle.ob_shell.specs.declared.top.Ending.TheVariants.{Ran as RanEnding}
 use Rattle.ob_shell.proofs.TextLemmas.{rest_of-nil, texts_of-nil}
 use Rattle.ob_shell.proofs.BaseLemmas.{from_each}
 use Rattle.ob_shell.proofs.CalmLemmas.{MeetsChange, first_calm, last_met, steps_calm}
-use Rattle.ob_shell.proofs.FailureLemmas.{session_fails}
+use Rattle.ob_shell.proofs.FailureLemmas.{fails_beside, session_fails}
 use Rattle.ob_shell.proofs.LaterLemmas.{steps_later, last_later}
 use Rattle.ob_shell.proofs.OpenLemmas.{session_opens}
 use Rattle.ob_shell.proofs.LastingLemmas.{HasSizes, steps_sizes, last_rows, steps_sealed, last_sealed, steps_tell, none_sealed}
@@ -176,9 +177,9 @@ passes_from base good both = go base.opened where
   go (Some o) = both
 
 -- a session over an engine that stands on a base
-module _ {R : Type 0} {state : R → RevState} (base : Base) (config : Config) (key : List ℕ) (first last : Engine R) (high : ℕ) (told : Result Tally Stop) (s0 s1 : StoreState)
+module _ {R : Type 0} {state : R → RevState} {Lost : Type 0} (base : Base) (config : Config) (key : List ℕ) (first last : Engine R) (high : ℕ) (told : Result Tally Stop) (s0 s1 : StoreState)
     (on : StandsOn state base config key first s0) (most : high ≤ rows_of last) (opened : high ≡ high_of last)
-    (tr : TraceSink) (f0 f1 : Fetch) (l0 l1 : Option (List ℕ)) (gave : ℕ) (w0 w1 : Option (List ℕ)) (ran : SessionRan state tr.on f0 f1 l0 l1 gave w0 w1 tr.old tr.new (machine_of first s0) (machine_of last s1) told) where
+    (tr : TraceSink) (f0 f1 : Fetch) (l0 l1 : Option (List ℕ)) (gave : ℕ) (w0 w1 : Option (List ℕ)) (ran : SessionRan state tr.on f0 f1 l0 l1 gave w0 w1 tr.old tr.new (machine_of first s0) (machine_of last s1) Lost told) where
   abbrev result : Result Bool Stop
   result = flagged told
 
@@ -188,8 +189,13 @@ module _ {R : Type 0} {state : R → RevState} (base : Base) (config : Config) (
   abbrev m2 : Machine R
   m2 = machine_of last s1
 
-  walk : Walked state (RanEnding result) m0 ran.middle m2 ran.served ran.more ran.answers ran.part
-  walk = walked state (RanEnding result) ran.served m0 ran.middle m2 ran.more ran.answers ran.part ran.steps (walked_last state ran.middle m2 ran.more ran.part result ran.last)
+  -- the store failed once more than texts were answered so
+  abbrev Failed : Type 0
+  Failed = FailsBeside ran.answers s0.faults s1.faults
+
+  walk : Walked state (RanEnding result) Failed m0 ran.middle m2 ran.served ran.more ran.answers ran.part
+  walk = walked state (RanEnding result) Failed ran.served m0 ran.middle m2 ran.more ran.answers ran.part ran.steps
+      (walked_last state Failed ran.middle m2 ran.more ran.part result (fails_beside state m0 ran.middle m2 ran.served ran.answers ran.steps) ran.last)
 
   abbrev all : List Served
   all = walk.seen ++ walk.last
@@ -227,8 +233,8 @@ module _ {R : Type 0} {state : R → RevState} (base : Base) (config : Config) (
     each = λ region place block lives held good passes.
         let accepts = on.passes good passes in
         sealed_at good (world_of state last s1).vault s1 region place block (keys_of key) base.start start_is keys_are
-        ((last_sealed state config (λ r. good) accepts ran.middle m2 ran.more ran.part result ran.last middle_sizes (tells_on tells)
-        (steps_sealed state config (λ r. good) accepts m0 ran.middle ran.served ran.answers ran.steps sizes tells
+        ((last_sealed state config (λ r. good) accepts.0 accepts.1 ran.middle m2 ran.more ran.part result ran.last middle_sizes (tells_on tells)
+        (steps_sealed state config (λ r. good) accepts.0 accepts.1 m0 ran.middle ran.served ran.answers ran.steps sizes tells
         (sealed good passes))).all region place block lives held);
   }
 
@@ -246,7 +252,8 @@ module _ {R : Type 0} {state : R → RevState} (base : Base) (config : Config) (
     seen = walk.seen;
     last = walk.last;
     one_last = walk.one_last;
-    lawful = subst (λ (s : Session). AreSeen (RanEnding result) s.public s.asked walk.spelt ran.answers all) (here []) walk.lawful;
+    each_seen = walk.each_seen;
+    lawful = subst (λ (s : Session). AreSeen (StopsWithin (RanEnding result) Failed) s.public s.asked walk.spelt ran.answers all) (here []) walk.lawful;
     asked = walk.asked ∙ (λ i. on.asked i ++ trace (on.public i) all);
     traced_whole = ran.traced.whole (trace base.public walk.seen) (walk.passed ∙ ap (λ (p : Public). s0.asked ++ trace p walk.seen) on.public);
     failed = session_fails state m0 ran.middle m2 ran.served ran.more ran.answers ran.part result ran.steps ran.last;
@@ -296,8 +303,8 @@ module _ {R : Type 0} {state : R → RevState} (base : Base) (config : Config) (
 
   last_all : (good : List ℕ → Bool) → PassesFrom base good → AllSealed (λ r. good) (world_of state first s0) → IsTrue s0.tells → AllSealed (λ r. good) (world_of state last s1)
   last_all good passes sealed tells =
-      last_sealed state config (λ r. good) (on.passes good passes) ran.middle m2 ran.more ran.part result ran.last middle_sizes (tells_on tells)
-      (steps_sealed state config (λ r. good) (on.passes good passes) m0 ran.middle ran.served ran.answers ran.steps sizes tells sealed)
+      last_sealed state config (λ r. good) (on.passes good passes).0 (on.passes good passes).1 ran.middle m2 ran.more ran.part result ran.last middle_sizes (tells_on tells)
+      (steps_sealed state config (λ r. good) (on.passes good passes).0 (on.passes good passes).1 m0 ran.middle ran.served ran.answers ran.steps sizes tells sealed)
 
   module _ (tally : Tally) (is : told ≡ Ok tally) (from : opened_from first ≡ region_opened base.opened) (s2 : StoreState) (r : Result Mark CloseErr) (closes : ClosesEngine state r last s1 s2) where
     abbrev closing : Closing
@@ -328,7 +335,7 @@ module _ {R : Type 0} {state : R → RevState} (base : Base) (config : Config) (
       each = λ region place block lives held good both.
           let passes = passes_from base good both in
           let pack_is : config.pack ≡ (public_of last).pack = sym (last_sizes tally is).pack in
-          let accepts = subst (λ (k : ℕ). AcceptsRows (λ r. good) k) pack_is (on.passes good passes) in
+          let accepts = subst (λ (k : ℕ). AcceptsRows (λ r. good) k) pack_is (on.passes good passes).0 in
           let tells_last : IsTrue s1.tells = subst (λ (b : Bool). IsTrue b) (sym lasting.tells) tells in
           sealed_at good (world_of state last s2).vault s2 region place block (keys_of key) base.start start_is keys_are
           ((closes.sealed (λ r. good) accepts both.1 tells_last (last_all good passes (sealed good passes) tells)).all region place block lives held);
@@ -358,7 +365,7 @@ module _ {R : Type 0} {state : R → RevState} (base : Base) (config : Config) (
       sealed = λ tells. from_each base AreSealed (λ x. IsSealed (PassesBoth base.public.pack) (keys_of key) base.start s2) (λ tables sealed. sealed_last tells sealed) (on.sealed tells);
     }
 
-  unfoldable pub ran_after : RanAfter tr base (Some key) f0 f1 l0 l1 gave w0 w1 s0 s1 high told
+  unfoldable pub ran_after : RanAfter state tr base (Some key) f0 f1 l0 l1 gave w0 w1 s0 s1 high Lost told
   ran_after = record {
     piece = ran.piece;
     consumed = ran.consumed;
@@ -373,6 +380,7 @@ module _ {R : Type 0} {state : R → RevState} (base : Base) (config : Config) (
     answers = ran.answers;
     part = ran.part;
     carried = carried_by;
+    rows = inl (record { first = first; last = last; ran = ran; counts = opened });
     cut = ran.cut;
     whole = ran.whole;
     counted = ran.counted;
@@ -380,9 +388,9 @@ module _ {R : Type 0} {state : R → RevState} (base : Base) (config : Config) (
   }
 
 -- nothing is served, since the input has ended
-unfoldable pub ran_last : {R : Type 0} (state : R → RevState) (on : Bool) (f : Fetch) (l : Option (List ℕ)) (gave : ℕ) (w t : Option (List ℕ)) (m : Machine R) → f.unread ≡ [] → IsAtEnd l → f.taken < f.limit
-    → SessionRan state on f f l l gave w w t t m m (Ok empty_tally)
-ran_last state on f l gave w t m none at_end below = record {
+unfoldable pub ran_last : {R : Type 0} {Lost : Type 0} (state : R → RevState) (on : Bool) (f : Fetch) (l : Option (List ℕ)) (gave : ℕ) (w t : Option (List ℕ)) (m : Machine R) → f.unread ≡ [] → IsAtEnd l → f.taken < f.limit
+    → SessionRan state on f f l l gave w w t t m m Lost (Ok empty_tally)
+ran_last {Lost = Lost} state on f l gave w t m none at_end below = record {
   piece = [];
   consumed = Consumes-nil l;
   taken = omega arith;
@@ -399,7 +407,7 @@ ran_last state on f l gave w t m none at_end below = record {
   steps = Steps-none state m;
   part = [];
   last = record { machine = refl; none = refl };
-  cut = rw printed-nil (Cut-whole w w ⊥ [] (Appends-nil w));
+  cut = rw printed-nil (Cut-whole w w Lost [] (Appends-nil w));
   whole = took_none w;
   traced = traces_all (traced_none on m.store.asked t);
   counted = sym (tally_after-nil empty_tally);

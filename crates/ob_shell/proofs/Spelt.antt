@@ -6,7 +6,7 @@ use Rattle.clap.specs.declared.error.kind.ErrorKind.TheVariants as kind
 use Rattle.clap.proofs.OnLiterals.{clap_on_literals}
 use Rattle.ob_base.specs.declared.config.Plan.TheVariants.{Continuous, Large, Hash}
 use Rattle.ob_shell.specs.Settings.{fitted, generated_by, number_in, pad_in, plan_in, seed_in, settings_of}
-use Rattle.ob_shell.specs.Usage.{Parses, meddle_usage, store_of, usage}
+use Rattle.ob_shell.specs.Usage.{Parses, kept_usage, mark_of, meddle_usage, store_of, usage}
 
 -- ---- one value
 the_least : number_in 4 65536 64 (Some (codes "4")) ≡ Some 4
@@ -186,3 +186,24 @@ store_unnamed = refl
 no_store_of_others : fault_of meddle_usage (codes "--store" ∷ codes "safe" ∷ []) ≡ kind.UnknownArgument ∷ []
 unfolding clap_on_literals
 no_store_of_others = refl
+
+mark_placed : mark_of (codes "--keep" ∷ codes "--mark" ∷ codes "safe" ∷ []) ≡ Some (codes "safe")
+unfolding clap_on_literals
+mark_placed = refl
+
+mark_unplaced : mark_of (codes "--keep" ∷ []) ≡ None
+unfolding clap_on_literals
+mark_unplaced = refl
+
+mark_with_keep : settings_of kept_usage (codes "--keep" ∷ codes "--mark" ∷ codes "safe" ∷ [])
+    ≡ Some (record { buffer = 64; depth = 5; pack = 1; plan = None; pad = None; max_input = 1073741824 })
+unfolding clap_on_literals
+mark_with_keep = refl
+
+mark_without_keep : settings_of kept_usage (codes "--mark" ∷ codes "safe" ∷ []) ≡ None
+unfolding clap_on_literals
+mark_without_keep = refl
+
+no_mark_of_others : fault_of meddle_usage (codes "--mark" ∷ codes "safe" ∷ []) ≡ kind.UnknownArgument ∷ []
+unfolding clap_on_literals
+no_mark_of_others = refl

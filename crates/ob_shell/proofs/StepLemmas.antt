@@ -4,7 +4,7 @@ use Rattle.std.specs.Io.KnownBytes.{Appends}
 use Rattle.std.proofs.KnownBytes.{Appends-nil}
 use Rattle.ob_base.specs.declared.refusal.Stop.{Stop}
 use Rattle.ob_vault.specs.State.{RevState}
-use Rattle.ob_print.proofs.CutLemmas.{Cut-whole}
+use Rattle.ob_print.proofs.CutLemmas.{Cut-by, Cut-whole}
 use Rattle.ob_gen.specs.declared.tally.Tally.{Tally}
 use Rattle.ob_shell.specs.Tallies.{tally_with}
 use Rattle.ob_shell.proofs.TallyLemmas.{tally_after-nil, tally_after-one}
@@ -79,7 +79,7 @@ PartlyAt-more state m0 m1 [] more stop bytes p = PartlyAt-rests state m0 m1 more
 PartlyAt-more state m0 m1 (t ∷ ts) more stop bytes p = p
 
 -- nothing was done of the texts
-pub stops_before : {R : Type 0} {state : R → RevState} (w : Option (List ℕ)) (m : Machine R) (texts : List (List ℕ)) (stop : Stop) → IsUntampered stop → StopsIn state w w texts stop m m
+pub stops_before : {R : Type 0} {state : R → RevState} {Lost : Type 0} (w : Option (List ℕ)) (m : Machine R) (texts : List (List ℕ)) (stop : Stop) → IsUntampered stop → StopsIn state w w Lost texts stop m m
 stops_before {state = state} w m texts stop fine = record { bytes = []; partly = PartlyAt-none state m texts stop fine; cut = Cut-whole w w _ [] (Appends-nil w) }
 
 -- the only answer of a list
@@ -97,8 +97,8 @@ only_answer {R = R} state m0 m1 text answers p = record {
 }
 
 -- the whole answer was taken, and the stop came after it
-pub stops_after : {R : Type 0} {state : R → RevState} {w0 w1 : Option (List ℕ)} {text : List ℕ} {r0 r1 : Tally} {m0 m1 : Machine R} (stop : Stop) → IsSinkFault stop
-    → AnswersAll state w0 w1 (text ∷ []) r0 r1 m0 m1 → StopsIn state w0 w1 (text ∷ []) stop m0 m1
+pub stops_after : {R : Type 0} {state : R → RevState} {Lost : Type 0} {w0 w1 : Option (List ℕ)} {text : List ℕ} {r0 r1 : Tally} {m0 m1 : Machine R} (stop : Stop) → IsSinkFault stop
+    → AnswersAll state w0 w1 (text ∷ []) r0 r1 m0 m1 → StopsIn state w0 w1 Lost (text ∷ []) stop m0 m1
 stops_after {state = state} {text = text} {m0 = m0} {m1 = m1} stop fault all =
     let one = only_answer state m0 m1 text all.answers all.steps in
     record {
@@ -106,3 +106,8 @@ stops_after {state = state} {text = text} {m0 = m0} {m1 = m1} stop fault all =
       partly = inr (inr (record { answer = one.answer; step = one.step; whole = one.bytes; fault = fault }));
       cut = Cut-whole _ _ _ _ all.appends;
     }
+
+-- what was lost has a cause of its own
+pub stops_by : {R : Type 0} {state : R → RevState} {w0 w1 : Option (List ℕ)} {F G : Type 0} {texts : List (List ℕ)} {stop : Stop} {m0 m1 : Machine R} → (F → G) → StopsIn state w0 w1 F texts stop m0 m1
+    → StopsIn state w0 w1 G texts stop m0 m1
+stops_by by stops = record { bytes = stops.bytes; partly = stops.partly; cut = Cut-by by stops.cut }

@@ -15,6 +15,7 @@ use Rattle.ob_print.proofs.CutLemmas.{Cut-whole, Cut-after, Cut-fault, Cut-more}
 use Rattle.ob_script.specs.Trace.{trace}
 use Rattle.ob_store.specs.State.{StoreState}
 use Rattle.ob_store.proofs.Steps.{later_refl}
+use Rattle.ob_vault.specs.State.{RevState}
 use Rattle.ob_shell.specs.Bases.{Base, fresh, start}
 use Rattle.ob_shell.specs.Disturbed.{MeantUntil}
 use Rattle.ob_shell.specs.Failures.{failures}
@@ -22,13 +23,13 @@ use Rattle.ob_shell.specs.Texts.{is_over, rest_of, texts_of, texts_in}
 use Rattle.ob_shell.specs.Feeding.{Fetch, Fed, IsFedBy}
 use Rattle.ob_shell.specs.KeyLine.{has_lf, first_line, after_line, secret_of, KeyRead}
 use Rattle.ob_shell.specs.Running.{EndsBy}
-use Rattle.ob_shell.specs.Endings.{last_line, SinkFailed, SinkStopped}
+use Rattle.ob_shell.specs.Endings.{last_line}
 use Rattle.ob_shell.specs.Settings.{limit_of}
 use Rattle.ob_gen.specs.declared.tally.Tally.{Tally}
 use Rattle.ob_shell.specs.Tallies.{flagged, tally_of}
 use Rattle.ob_shell.specs.Top.{EndingTally, EndsUntampered, IsFresh, TraceSink, RanSays, EndingSays, EndingWords, Carried, Shown, RanAfter, EndingCause, EndingFlag, StatusCause}
 use Rattle.ob_shell.specs.Tracing.{traced}
-use Rattle.ob_shell.specs.Words.{Answers, AreSeen, Begins, Faults, HasSecret, SinksRose, SpellFirst, Took, any_cut, before_read, printed}
+use Rattle.ob_shell.specs.Words.{Answers, AreSeen, Begins, Faults, HasSecret, SinksRose, SpellFirst, Took, any_cut, before_read, printed, statements}
 use Rattle.ob_shell.specs.declared.feed.Halt.{Halt}
 use Rattle.ob_shell.specs.declared.key.FirstLine.{FirstLine}
 use Rattle.ob_shell.specs.declared.key.FirstLine.TheVariants.{Secret, Last, Bad}
@@ -38,7 +39,7 @@ use Rattle.ob_shell.proofs.TextLemmas.{rest_of-nil, texts_of-nil}
 use Rattle.ob_shell.proofs.CountLemmas.{rises_earlier, rises_later}
 use Rattle.ob_shell.proofs.DisturbLemmas.{take_begins}
 use Rattle.ob_shell.proofs.PromptLemmas.{prompt_all, prompt_behind, prompt_line}
-use Rattle.ob_shell.proofs.RunLemmas.{took_more, took_of, took_whole}
+use Rattle.ob_shell.proofs.RunLemmas.{took_more, took_whole}
 use Rattle.ob_shell.proofs.StepLemmas.{printed-nil}
 use Rattle.ob_shell.proofs.TallyLemmas.{any_refused-nil, flag_by, tally_by}
 use Rattle.ob_shell.proofs.TraceLemmas.{traced-nil}
@@ -75,7 +76,7 @@ nothing_over = rw rest_of-nil
 
 pub unstarted : (tr : TraceSink) (settings : Option Config) (secret : Option (List ℕ)) (s : StoreState) (more : List (List ℕ)) (ending : Ending) → IsFresh s → tr.new ≡ tr.old → EndsUntampered ending
     → Carried tr (fresh settings) secret s s 0 [] more [] [] ending
-unfolding SpellFirst AreSeen Answers MeantUntil failures any_cut
+unfolding SpellFirst AreSeen Answers MeantUntil failures any_cut statements
 unstarted tr settings secret s more ending blank untraced untampered = record {
   spelt = [];
   spells = tt;
@@ -86,6 +87,7 @@ unstarted tr settings secret s more ending blank untraced untampered = record {
   seen = [];
   last = [];
   one_last = omega arith;
+  each_seen = refl;
   lawful = refl;
   asked = blank.unasked;
   traced_whole = took_whole (subst (λ (w : Option (List ℕ)). Appends tr.old w (traced tr.on [])) (sym untraced) (rw (traced-nil) (Appends-nil tr.old)));
@@ -109,11 +111,8 @@ unstarted tr settings secret s more ending blank untraced untampered = record {
 pub took_none : (w : Option (List ℕ)) → Took w w (printed [])
 took_none w = took_whole (rw printed-nil (Appends-nil w))
 
-pub took_nothing : (w : Option (List ℕ)) → Took w w (printed [] ++ [])
-took_nothing w = took_whole (rw printed-nil (Appends-nil w))
-
-pub no_bytes : (w : Option (List ℕ)) → Cut w w ⊥ ((printed [] ++ []) ++ [])
-no_bytes w = rw printed-nil (Cut-whole w w ⊥ [] (Appends-nil w))
+pub no_bytes : {F : Type 0} (w : Option (List ℕ)) → Cut w w F ((printed [] ++ []) ++ [])
+no_bytes {F} w = rw printed-nil (Cut-whole w w F [] (Appends-nil w))
 
 -- from a feed that had nothing unread
 pub piece_is : {f0 f1 : Fetch} {l0 l1 : Option (List ℕ)} {xs : List ℕ} (fed : Fed f0 f1 l0 l1 xs) → f0.unread ≡ [] → fed.piece ≡ xs ++ f1.unread
@@ -135,8 +134,8 @@ module _ (tally : Tally) (tr : TraceSink) (untraced : tr.new ≡ tr.old) (settin
       let same = ap (λ (l : List ℕ). length (after_line l)) (piece_is fed none) in
       prompt_line gave fed.piece [] (omega (arith, late, same, ahead))
 
-  unfoldable pub shown_source_fault : {l0 l1 : Option (List ℕ)} (w : Option (List ℕ)) (s : StoreState) → IsFresh s
-      → KeyRead f0 f1 l0 l1 (Err Halt.SourceFault) → Shown tally tr (fresh settings) l0 l1 gave w w s s 0 (RanEnding (Err SourceFault)) [] ⊥
+  unfoldable pub shown_source_fault : {F : Type 0} {l0 l1 : Option (List ℕ)} (w : Option (List ℕ)) (s : StoreState) → IsFresh s
+      → KeyRead f0 f1 l0 l1 (Err Halt.SourceFault) → Shown tally tr (fresh settings) l0 l1 gave w w s s 0 (RanEnding (Err SourceFault)) [] F
   shown_source_fault w s fresh read =
       let e = piece_is read.fed none in
       let ends = rw (← e) at read.ends in
@@ -157,14 +156,13 @@ module _ (tally : Tally) (tr : TraceSink) (untraced : tr.new ≡ tr.old) (settin
         carried = unstarted tr settings _ s [] _ fresh untraced tt;
         grew = no_bytes w;
         whole = took_none w;
-        through = λ not. took_nothing w;
         flag = tt;
         counted = tt;
         says = record { line = inr (ends.0, ends.1); cut = refl; all = record { no_more = refl; no_part = refl }; short = rw after nothing_over };
       }
 
-  unfoldable pub shown_bad_key : {l0 l1 : Option (List ℕ)} (w : Option (List ℕ)) (s : StoreState) → IsFresh s
-      → KeyRead f0 f1 l0 l1 (Ok Bad) → Shown tally tr (fresh settings) l0 l1 gave w w s s 0 BadKey [] ⊥
+  unfoldable pub shown_bad_key : {F : Type 0} {l0 l1 : Option (List ℕ)} (w : Option (List ℕ)) (s : StoreState) → IsFresh s
+      → KeyRead f0 f1 l0 l1 (Ok Bad) → Shown tally tr (fresh settings) l0 l1 gave w w s s 0 BadKey [] F
   shown_bad_key w s fresh read =
       let e = piece_is read.fed none in
       let ends = rw (← e) at read.ends in
@@ -184,14 +182,13 @@ module _ (tally : Tally) (tr : TraceSink) (untraced : tr.new ≡ tr.old) (settin
         carried = unstarted tr settings _ s _ _ fresh untraced tt;
         grew = no_bytes w;
         whole = took_none w;
-        through = λ not. took_nothing w;
         flag = tt;
         counted = tt;
         says = ends;
       }
 
-  pub shown_last : tally ≡ tally_of [] → {l0 l1 : Option (List ℕ)} (key : List ℕ) (w : Option (List ℕ)) (s : StoreState) → IsFresh s
-      → KeyRead f0 f1 l0 l1 (Ok (Last key)) → Shown tally tr (fresh settings) l0 l1 gave w w s s 0 (RanEnding (Ok false)) [] ⊥
+  pub shown_last : tally ≡ tally_of [] → {F : Type 0} {l0 l1 : Option (List ℕ)} (key : List ℕ) (w : Option (List ℕ)) (s : StoreState) → IsFresh s
+      → KeyRead f0 f1 l0 l1 (Ok (Last key)) → Shown tally tr (fresh settings) l0 l1 gave w w s s 0 (RanEnding (Ok false)) [] F
   shown_last blank key w s fresh read =
       let e = piece_is read.fed none in
       let ends = rw (← e) at read.ends in
@@ -211,7 +208,6 @@ module _ (tally : Tally) (tr : TraceSink) (untraced : tr.new ≡ tr.old) (settin
         carried = unstarted tr settings _ s [] _ fresh untraced tt;
         grew = no_bytes w;
         whole = took_none w;
-        through = λ not. took_nothing w;
         flag = sym any_refused-nil;
         counted = blank;
         says = record {
@@ -226,10 +222,10 @@ module _ (tally : Tally) (tr : TraceSink) (untraced : tr.new ≡ tr.old) (settin
 -- ---- the session after the first line
 
 -- memory was wanting for the engine
-pub ran_nothing : (tr : TraceSink) (settings : Option Config) (secret : Option (List ℕ)) (f : Fetch)
+pub ran_nothing : {R : Type 0} {state : R → RevState} {Lost : Type 0} (tr : TraceSink) (settings : Option Config) (secret : Option (List ℕ)) (f : Fetch)
     (l : Option (List ℕ)) (gave : ℕ) (w : Option (List ℕ)) (s : StoreState) → IsFresh s → tr.new ≡ tr.old → length f.unread ≤ gave
-    → RanAfter tr (fresh settings) secret f f l l gave w w s s 0 (Err NoMemory)
-ran_nothing tr settings secret f l gave w s fresh untraced late = record {
+    → RanAfter state tr (fresh settings) secret f f l l gave w w s s 0 Lost (Err NoMemory)
+ran_nothing {Lost = Lost} tr settings secret f l gave w s fresh untraced late = record {
   piece = [];
   consumed = Consumes-nil l;
   taken = omega arith;
@@ -244,7 +240,8 @@ ran_nothing tr settings secret f l gave w s fresh untraced late = record {
   answers = [];
   part = [];
   carried = unstarted tr settings secret s _ _ fresh untraced tt;
-  cut = rw printed-nil (Cut-whole w w ⊥ [] (Appends-nil w));
+  rows = inr (refl, refl);
+  cut = rw printed-nil (Cut-whole w w Lost [] (Appends-nil w));
   whole = took_none w;
   counted = tt;
   ends = tt;
@@ -298,14 +295,14 @@ after_last {f1 = f1} piece last none read =
     )
 
 -- the session behind the first line, of which this was carried out
-unfoldable pub shown_by : {tally : Tally} {tr : TraceSink} (base : Base) {f0 f1 f2 : Fetch} {gave : ℕ} {l0 l1 l2 w0 w2 : Option (List ℕ)} {s0 s2 : StoreState} {high : ℕ} {first : Result FirstLine Halt} (key : List ℕ) (result : Result Tally Stop)
+unfoldable pub shown_by : {R : Type 0} {state : R → RevState} {Lost : Type 0} {tally : Tally} {tr : TraceSink} (base : Base) {f0 f1 f2 : Fetch} {gave : ℕ} {l0 l1 l2 w0 w2 : Option (List ℕ)} {s0 s2 : StoreState} {high : ℕ} {first : Result FirstLine Halt} (key : List ℕ) (result : Result Tally Stop)
     → f0.taken ≡ 0 → f0.limit ≡ limit_of base.settings → f2.taken ≤ f2.limit → IsFedBy f2 gave
-    → (read : KeyRead f0 f1 l0 l1 first) (ran : RanAfter tr base (Some key) f1 f2 l1 l2 gave w0 w2 s0 s2 high result)
+    → (read : KeyRead f0 f1 l0 l1 first) (ran : RanAfter state tr base (Some key) f1 f2 l1 l2 gave w0 w2 s0 s2 high Lost result)
     → after_line (read.fed.piece ++ ran.piece) ≡ f1.unread ++ ran.piece → secret_of (first_line (read.fed.piece ++ ran.piece)) ≡ Some key
     → Carried tr base (secret_of (first_line (read.fed.piece ++ ran.piece))) s0 s2 high ran.served ran.more ran.answers ran.part (RanEnding (flagged result))
     → IfOk result (λ t. tally ≡ t)
-    → Shown tally tr base l0 l2 gave w0 w2 s0 s2 high (RanEnding (flagged result)) [] (SinkFailed (flagged result))
-shown_by {tally = tally} base {f1 = f1} {f2 = f2} {gave = gave} {l2 = l2} {w0 = w0} {w2 = w2} {s0 = s0} {s2 = s2} {high = high} key result start top below by read ran after line carried told =
+    → Shown tally tr base l0 l2 gave w0 w2 s0 s2 high (RanEnding (flagged result)) [] Lost
+shown_by {Lost = Lost} {tally = tally} base {f1 = f1} {f2 = f2} {gave = gave} {l2 = l2} {w0 = w0} {w2 = w2} {s0 = s0} {s2 = s2} {high = high} key result start top below by read ran after line carried told =
     let secret : HasSecret (read.fed.piece ++ ran.piece) = rw line in
     let count : length (read.fed.piece ++ ran.piece) ≡ f2.taken =
     omega (arith, length-append read.fed.piece ran.piece, read.fed.taken, ran.taken) in
@@ -324,9 +321,8 @@ shown_by {tally = tally} base {f1 = f1} {f2 = f2} {gave = gave} {l2 = l2} {w0 = 
       answers = ran.answers;
       part = ran.part;
       carried = carried;
-      grew = subst (λ (l : List ℕ). Cut w0 w2 (SinkFailed (flagged result)) l) (sym (append-nil (printed ran.answers ++ ran.part))) ran.cut;
+      grew = subst (λ (l : List ℕ). Cut w0 w2 Lost l) (sym (append-nil (printed ran.answers ++ ran.part))) ran.cut;
       whole = ran.whole;
-      through = λ not. took_of ran.cut not;
       flag = flag_by result ran.answers ran.counted;
       counted = tally_by result ran.answers tally ran.counted told;
       says =
@@ -334,11 +330,11 @@ shown_by {tally = tally} base {f1 = f1} {f2 = f2} {gave = gave} {l2 = l2} {w0 = 
           (subst (λ (l : List ℕ). EndsBy f2 ran.ended l ran.more ran.part (flagged result)) (sym after) ran.ends);
     }
 
-pub shown_ran : {tally : Tally} {tr : TraceSink} (base : Base) {f0 f1 f2 : Fetch} {gave : ℕ} {l0 l1 l2 w0 w2 : Option (List ℕ)} {s0 s2 : StoreState} {high : ℕ} (key : List ℕ) (result : Result Tally Stop)
+pub shown_ran : {R : Type 0} {state : R → RevState} {Lost : Type 0} {tally : Tally} {tr : TraceSink} (base : Base) {f0 f1 f2 : Fetch} {gave : ℕ} {l0 l1 l2 w0 w2 : Option (List ℕ)} {s0 s2 : StoreState} {high : ℕ} (key : List ℕ) (result : Result Tally Stop)
     → f0.unread ≡ [] → f0.taken ≡ 0 → f0.limit ≡ limit_of base.settings → f2.taken ≤ f2.limit → IsFedBy f2 gave
-    → KeyRead f0 f1 l0 l1 (Ok (Secret key)) → RanAfter tr base (Some key) f1 f2 l1 l2 gave w0 w2 s0 s2 high result
+    → KeyRead f0 f1 l0 l1 (Ok (Secret key)) → RanAfter state tr base (Some key) f1 f2 l1 l2 gave w0 w2 s0 s2 high Lost result
     → IfOk result (λ t. tally ≡ t)
-    → Shown tally tr base l0 l2 gave w0 w2 s0 s2 high (RanEnding (flagged result)) [] (SinkFailed (flagged result))
+    → Shown tally tr base l0 l2 gave w0 w2 s0 s2 high (RanEnding (flagged result)) [] Lost
 shown_ran base key result none start top below by read ran told =
     let behind = after_secret ran.piece none read in
     shown_by base key result start top below by read ran behind.0 behind.1 (rw behind.1 ran.carried) told
@@ -346,8 +342,8 @@ shown_ran base key result none start top below by read ran told =
 -- ---- before the input is read
 
 -- nothing was read
-unfoldable pub shown_unread : (tally : Tally) (tr : TraceSink) (settings : Option Config) (l : Option (List ℕ)) (gave : ℕ) (w : Option (List ℕ)) (s : StoreState) (ending : Ending) → IsFresh s → tr.new ≡ tr.old → EndsUntampered ending → EndingFlag ending [] → EndingTally ending [] tally
-    → EndingSays ending (limit_of settings) [] l false (texts_of [] (after_line [])) [] → Shown tally tr (fresh settings) l l gave w w s s 0 ending [] ⊥
+unfoldable pub shown_unread : {F : Type 0} (tally : Tally) (tr : TraceSink) (settings : Option Config) (l : Option (List ℕ)) (gave : ℕ) (w : Option (List ℕ)) (s : StoreState) (ending : Ending) → IsFresh s → tr.new ≡ tr.old → EndsUntampered ending → EndingFlag ending [] → EndingTally ending [] tally
+    → EndingSays ending (limit_of settings) [] l false (texts_of [] (after_line [])) [] → Shown tally tr (fresh settings) l l gave w w s s 0 ending [] F
 shown_unread tally tr settings l gave w s ending fresh untraced untampered flag counted says = record {
   taken = [];
   given = Consumes-nil l;
@@ -364,7 +360,6 @@ shown_unread tally tr settings l gave w s ending fresh untraced untampered flag 
   carried = unstarted tr settings _ s _ _ fresh untraced untampered;
   grew = no_bytes w;
   whole = took_none w;
-  through = λ not. took_nothing w;
   flag = flag;
   counted = counted;
   says = says;
@@ -385,33 +380,12 @@ takes_of (RanEnding (Err InputLimit)) not_usage t = t
 whole_of : {w0 w1 : Option (List ℕ)} {bytes : List ℕ} → Cut w0 w1 ⊥ bytes → Appends w0 w1 bytes
 whole_of {w0 = w0} {w1 = w1} c = elim c.all [ inl e ↦ subst (λ (l : List ℕ). Appends w0 w1 l) e c.appends | inr never ↦ absurd never ]
 
--- after the sink's fault nothing more was written
-cut_stays : {w0 w1 w2 : Option (List ℕ)} {F G : Type 0} {bytes : List ℕ} → Cut w0 w1 F bytes → Appends w1 w2 [] → G → Cut w0 w2 G bytes
-cut_stays {w0 = w0} {w2 = w2} c same g = record {
-  grown = c.grown;
-  appends = subst (λ (l : List ℕ). Appends w0 w2 l) (append-nil c.grown) (Appends-trans _ _ _ _ _ c.appends same);
-  prefix = c.prefix;
-  all = inr g;
-}
-
 module _ {w0 w1 w2 : Option (List ℕ)} (bytes line : List ℕ) {F G : Type 0} (rose : F → G) where
-  cut_line : Cut w0 w1 ⊥ (bytes ++ []) → Cut w1 w2 F line → Cut w0 w2 G (bytes ++ line)
+  pub cut_line : Cut w0 w1 ⊥ (bytes ++ []) → Cut w1 w2 F line → Cut w0 w2 G (bytes ++ line)
   cut_line a b =
       let first : Appends w0 w1 bytes = subst (λ (l : List ℕ). Appends w0 w1 l) (append-nil bytes) (whole_of a) in
       let c = Cut-after bytes first b in
       record { grown = c.grown; appends = c.appends; prefix = c.prefix; all = elim c.all [ inl e ↦ inl e | inr f ↦ inr (rose f) ] }
-
-  pub line_grew : (ending : Ending) (old new : Faults) → (SinksRose old new → G) → EndingCause ending old new
-      → Cut w0 w1 (SinkStopped ending) (bytes ++ []) → line ≡ last_line ending → Cut w1 w2 F line → (line ≡ [] → Appends w1 w2 line)
-      → Cut w0 w2 G (bytes ++ line)
-  line_grew Usage old new up cause a e b all = cut_line a b
-  line_grew BadKey old new up cause a e b all = cut_line a b
-  line_grew (RanEnding (Ok refused)) old new up cause a e b all = cut_line a b
-  line_grew (RanEnding (Err (Tampered region place))) old new up cause a e b all = cut_line a b
-  line_grew (RanEnding (Err SourceFault)) old new up cause a e b all = cut_line a b
-  line_grew (RanEnding (Err NoMemory)) old new up cause a e b all = cut_line a b
-  line_grew (RanEnding (Err InputLimit)) old new up cause a e b all = cut_line a b
-  line_grew (RanEnding (Err SinkFault)) old new up cause a e b all = rw e (cut_stays a (rw e at (all e)) (up cause.1))
 
 -- the sinks' counts after the last line
 pub rose_with : (old mid new : Faults) → SinksRose old mid → mid.out ≤ new.out → new.trace ≡ mid.trace → SinksRose old new
@@ -469,7 +443,6 @@ shown_line more shown after cut = record {
   carried = shown.carried;
   grew = cut;
   whole = took_more more shown.whole after;
-  through = λ not. took_more more (shown.through not) after;
   flag = shown.flag;
   counted = shown.counted;
   says = shown.says;

@@ -2,6 +2,7 @@
 use Rattle.std.proofs.Common.{suc, ◌≡◌, inl, inr, ◌+◌, ◌-◌, ◌≤◌, ◌<◌, ℕ, IsTrue, Bool, Ok, Err, Result, List, [], ◌∷◌, ◌++◌, length, take, Option, Some, None, refl, sym, ◌∙◌, ap, subst, append-nil, append_assoc, arith, ◌||◌, true, false, length-append}
 use Rattle.std.specs.Prelude.{◌↔◌}
 use Rattle.std.proofs.lemmas.List.{append_cancel_left, take-append-le}
+use Rattle.ob_base.specs.Counts.{Rises}
 use Rattle.ob_base.specs.Events.{Event}
 use Rattle.ob_base.specs.Refusals.{is_store_fault}
 use Rattle.ob_base.specs.declared.access.Access.{Access}
@@ -31,7 +32,7 @@ use Rattle.ob_shell.specs.Closing.{closing_line}
 use Rattle.ob_shell.specs.Running.{LastPart}
 use Rattle.ob_shell.specs.Steps.{CutStep, Does, IsUntampered, Machine, Misspelt, Served, Steps, asked_of, session_of}
 use Rattle.ob_shell.specs.Top.{EndsUntampered}
-use Rattle.ob_shell.specs.Words.{Answer, Answers, AnswersIn, AreSeen, Begins, BeginsAnswer, Says, SpellFirst, WantsMemory, any_cut, is_cut, refused_at}
+use Rattle.ob_shell.specs.Words.{Answer, Answers, AnswersIn, AreSeen, Begins, BeginsAnswer, Says, SpellFirst, StopsWithin, WantsMemory, any_cut, is_cut, refused_at, statements}
 use Rattle.ob_shell.specs.declared.top.Ending.{Ending}
 use Rattle.ob_shell.specs.declared.top.Ending.TheVariants.{Usage, BadKey, Ran}
 use Rattle.ob_shell.proofs.DisturbLemmas.{before_less, begins_more, crosses, few_or_more, take_begins}
@@ -67,6 +68,11 @@ cut_by o end n ends =
 same_by : (o : Outcome) (old new : World) (end : End) (n : ℕ) → RunCause (Ok o) old new → end ≡ outcome_end o n → is_cut end ≡ false → new.store.faults ≡ old.store.faults
 same_by o old new end n cause ends not =
     let none : is_fault o ≡ false = sym (ap is_cut ends ∙ end_cut o n) ∙ not in rw none at cause.0
+
+-- where it was, one did
+rose_by : (o : Outcome) (old new : World) (end : End) (n : ℕ) → RunCause (Ok o) old new → end ≡ outcome_end o n → IsTrue (is_cut end) → Rises old.store.faults new.store.faults
+rose_by o old new end n cause ends cut =
+    let failed : is_fault o ≡ true = sym (ap is_cut ends ∙ end_cut o n) ∙ cut in rw failed at cause.0
 
 -- ---- what an answer says of its statement
 says : (early : Option Refusal) (p : Public) (stmt : Stmt) (answer : Answer) (here : Seen) (events : List Event) → RefusedEarly early (Ok answer.outcome) here
@@ -159,7 +165,7 @@ module _ {R : Type 0} (state : R → RevState) where
       }
 
   -- from the first machine to the second these texts were answered so, and to the third one more was begun
-  pub record Walked (ending : Ending) (m0 m1 m2 : Machine R) (texts more : List (List ℕ)) (answers : List Answer) (part : List ℕ) : Type 0 where
+  pub record Walked (ending : Ending) (Failed : Type 0) (m0 m1 m2 : Machine R) (texts more : List (List ℕ)) (answers : List Answer) (part : List ℕ) : Type 0 where
     pub spelt : List Spelt
     pub spells : SpellFirst (texts ++ more) spelt
     pub reached : length texts ≤ length spelt
@@ -168,7 +174,8 @@ module _ {R : Type 0} (state : R → RevState) where
     pub seen : List Entry
     pub last : List Entry
     pub one_last : length last ≤ 1
-    pub lawful : AreSeen ending (public_of m0.engine) (asked_of m0) spelt answers (seen ++ last)
+    pub each_seen : length seen ≡ length (statements (take (length texts) spelt))
+    pub lawful : AreSeen (StopsWithin ending Failed) (public_of m0.engine) (asked_of m0) spelt answers (seen ++ last)
     pub passed : m1.store.asked ≡ m0.store.asked ++ trace (public_of m0.engine) seen
     pub asked : m2.store.asked ≡ m0.store.asked ++ trace (public_of m0.engine) (seen ++ last)
     pub keys : m2.engine.vault.keys ≡ m0.engine.vault.keys
@@ -185,9 +192,9 @@ module _ {R : Type 0} (state : R → RevState) where
         → EarlyFrom n (session_of m0 tables) m0.store.asked m2.store.asked spelt answers (seen ++ last)
 
   -- nothing was done
-  walked_none : (ending : Ending) (m0 m2 : Machine R) (more : List (List ℕ)) (part : List ℕ) → m2 ≡ m0 → part ≡ [] → EndsUntampered ending → Walked ending m0 m0 m2 [] more [] part
-  unfolding SpellFirst AreSeen Answers any_cut
-  walked_none ending m0 m2 more part same none fine = record {
+  walked_none : (ending : Ending) (Failed : Type 0) (m0 m2 : Machine R) (more : List (List ℕ)) (part : List ℕ) → m2 ≡ m0 → part ≡ [] → EndsUntampered ending → Walked ending Failed m0 m0 m2 [] more [] part
+  unfolding SpellFirst AreSeen Answers any_cut statements
+  walked_none ending Failed m0 m2 more part same none fine = record {
     spelt = [];
     spells = tt;
     reached = omega arith;
@@ -196,6 +203,7 @@ module _ {R : Type 0} (state : R → RevState) where
     seen = [];
     last = [];
     one_last = omega arith;
+    each_seen = refl;
     lawful = refl;
     passed = sym (append-nil m0.store.asked);
     asked = ap (λ (m : Machine R). m.store.asked) same ∙ sym (append-nil m0.store.asked);
@@ -221,8 +229,8 @@ module _ {R : Type 0} (state : R → RevState) where
         rest = lacks.rest;
         split = subst (λ (l : List Access). l ++ lacks.rest ≡ whole_script p (skeleton stmt) (seen_of m2.engine)) done lacks.split;
         place = elim lacks.place [
-          | inl make ↦ inl (subst (λ (l : List Access). AtMake l lacks.rest) done make)
-          | inr emits ↦ inr emits.0
+          | inl make ↦ inl (subst (λ (l : List Access). AtMake l) done make)
+          | inr other ↦ inr (elim other [ inl before ↦ inl before | inr emits ↦ inr emits.0 ])
         ];
       }
 
@@ -242,10 +250,10 @@ module _ {R : Type 0} (state : R → RevState) where
         printed = cut.printed;
       })
 
-  walked_cut : (m0 m2 : Machine R) (text : List ℕ) (more : List (List ℕ)) (stop : Stop) (part : List ℕ) → CutStep state m0 m2 text stop part
-      → Walked (Ran (Err stop)) m0 m0 m2 [] (text ∷ more) [] part
-  unfolding SpellFirst AreSeen Answers any_cut
-  walked_cut m0 m2 text more stop part cut =
+  walked_cut : (Failed : Type 0) (m0 m2 : Machine R) (text : List ℕ) (more : List (List ℕ)) (stop : Stop) (part : List ℕ) → CutStep state m0 m2 text stop part
+      → Walked (Ran (Err stop)) Failed m0 m0 m2 [] (text ∷ more) [] part
+  unfolding SpellFirst AreSeen Answers any_cut statements
+  walked_cut Failed m0 m2 text more stop part cut =
       let sk = skeleton cut.stmt in
       let here = seen_of m2.engine in
       record {
@@ -257,7 +265,8 @@ module _ {R : Type 0} (state : R → RevState) where
         seen = [];
         last = record { skeleton = sk; seen = here } ∷ [];
         one_last = omega arith;
-        lawful = (refl, cut.does.lawful, (λ is. wants m0 m2 cut.stmt stop cut.does is), refl);
+        each_seen = refl;
+        lawful = (refl, cut.does.lawful, ((λ is. wants m0 m2 cut.stmt stop cut.does is), (λ is off. inl (cut.does.emits (cc is)))), refl);
         passed = sym (append-nil m0.store.asked);
         asked = cut.does.ran.asked ∙ ap (λ xs. m0.store.asked ++ xs) (sym (append-nil (script (public_of m0.engine) sk here)));
         keys = cut.does.ran.keys;
@@ -312,10 +321,10 @@ module _ {R : Type 0} (state : R → RevState) where
   not_memory : (stop : Stop) → IsSinkFault stop → Ran (Err stop) ≡ Ran (Err NoMemory) → ⊥
   not_memory stop fault is = let same : stop ≡ NoMemory = cc is in subst (λ (s : Stop). IsSinkFault s) same fault
 
-  walked_done : (m0 m2 : Machine R) (text : List ℕ) (more : List (List ℕ)) (stop : Stop) (one : Answer) (part : List ℕ) → part ≡ one.bytes → IsSinkFault stop → Served state m0 m2 text one
-      → Walked (Ran (Err stop)) m0 m0 m2 [] (text ∷ more) [] part
-  unfolding SpellFirst AreSeen Answers any_cut
-  walked_done m0 m2 text more stop one part is fault did =
+  walked_done : (Failed : Type 0) (m0 m2 : Machine R) → (Rises m0.store.faults m2.store.faults → Failed) → (text : List ℕ) (more : List (List ℕ)) (stop : Stop) (one : Answer) (part : List ℕ) → part ≡ one.bytes → IsSinkFault stop → Served state m0 m2 text one
+      → Walked (Ran (Err stop)) Failed m0 m0 m2 [] (text ∷ more) [] part
+  unfolding SpellFirst AreSeen Answers any_cut statements
+  walked_done Failed m0 m2 rose text more stop one part is fault did =
       let sk = skeleton did.stmt in
       let here = seen_of m2.engine in
       record {
@@ -327,7 +336,8 @@ module _ {R : Type 0} (state : R → RevState) where
         seen = [];
         last = record { skeleton = sk; seen = here } ∷ [];
         one_last = omega arith;
-        lawful = (refl, did.does.lawful, (λ is. absurd (not_memory stop fault is)), refl);
+        each_seen = refl;
+        lawful = (refl, did.does.lawful, ((λ is. absurd (not_memory stop fault is)), (λ is off. inr (rose (rose_by one.outcome (world m0) (world m2) here.end _ did.does.ran.cause did.does.ran.ends off)))), refl);
         passed = sym (append-nil m0.store.asked);
         asked = did.does.ran.asked ∙ ap (λ xs. m0.store.asked ++ xs) (sym (append-nil (script (public_of m0.engine) sk here)));
         keys = did.does.ran.keys;
@@ -346,10 +356,10 @@ module _ {R : Type 0} (state : R → RevState) where
   refused_is : (m0 m1 : Machine R) (text : List ℕ) (one : Answer) → (bad : Misspelt m0 m1 text one) → one ≡ refused_at bad.at
   refused_is m0 m1 text one bad = λ i. record { outcome = bad.refused i; bytes = (bad.line ∙ ap closing_line bad.refused) i; plan = bad.unplanned i }
 
-  walked_refused : (ending : Ending) (m0 m2 : Machine R) (text : List ℕ) (more : List (List ℕ)) (one : Answer) (part : List ℕ) → part ≡ one.bytes → Misspelt m0 m2 text one → EndsUntampered ending
-      → Walked ending m0 m0 m2 [] (text ∷ more) [] part
-  unfolding SpellFirst AreSeen Answers any_cut
-  walked_refused ending m0 m2 text more one part is bad fine = record {
+  walked_refused : (ending : Ending) (Failed : Type 0) (m0 m2 : Machine R) (text : List ℕ) (more : List (List ℕ)) (one : Answer) (part : List ℕ) → part ≡ one.bytes → Misspelt m0 m2 text one → EndsUntampered ending
+      → Walked ending Failed m0 m0 m2 [] (text ∷ more) [] part
+  unfolding SpellFirst AreSeen Answers any_cut statements
+  walked_refused ending Failed m0 m2 text more one part is bad fine = record {
     spelt = Err bad.at ∷ [];
     spells = (bad.spells, tt);
     reached = omega arith;
@@ -358,6 +368,7 @@ module _ {R : Type 0} (state : R → RevState) where
     seen = [];
     last = [];
     one_last = omega arith;
+    each_seen = refl;
     lawful = refl;
     passed = sym (append-nil m0.store.asked);
     asked = ap (λ (m : Machine R). m.store.asked) bad.same ∙ sym (append-nil m0.store.asked);
@@ -373,22 +384,22 @@ module _ {R : Type 0} (state : R → RevState) where
     early = λ tells steady tables held n before few. early_refused n (session_of m0 tables) m0.store.asked m2.store.asked bad.at [] [] refl (early_none n (session_of m0 tables) m0.store.asked m2.store.asked [] (ap (λ (m : Machine R). m.store.asked) bad.same) few);
   }
 
-  pub walked_last : (m1 m2 : Machine R) (more : List (List ℕ)) (part : List ℕ) (result : Result Bool Stop) → LastPart state m1 m2 more part result → Walked (Ran result) m1 m1 m2 [] more [] part
-  walked_last m1 m2 more part (Ok flag) rests = walked_none (Ran (Ok flag)) m1 m2 more part rests.machine rests.none tt
-  walked_last m1 m2 [] part (Err stop) idle = walked_none (Ran (Err stop)) m1 m2 [] part idle.rests.machine idle.rests.none idle.untampered
-  walked_last m1 m2 (text ∷ more) part (Err stop) (inl idle) = walked_none (Ran (Err stop)) m1 m2 (text ∷ more) part idle.rests.machine idle.rests.none idle.untampered
-  walked_last m1 m2 (text ∷ more) part (Err stop) (inr (inl cut)) = walked_cut m1 m2 text more stop part cut
-  walked_last m1 m2 (text ∷ more) part (Err stop) (inr (inr done)) = elim done.step.done [
-    | inl bad ↦ walked_refused (Ran (Err stop)) m1 m2 text more done.answer part done.whole bad (sink_untampered stop done.fault)
-    | inr did ↦ walked_done m1 m2 text more stop done.answer part done.whole done.fault did
+  pub walked_last : (Failed : Type 0) (m1 m2 : Machine R) (more : List (List ℕ)) (part : List ℕ) (result : Result Bool Stop) → (Rises m1.store.faults m2.store.faults → Failed) → LastPart state m1 m2 more part result → Walked (Ran result) Failed m1 m1 m2 [] more [] part
+  walked_last Failed m1 m2 more part (Ok flag) rose rests = walked_none (Ran (Ok flag)) Failed m1 m2 more part rests.machine rests.none tt
+  walked_last Failed m1 m2 [] part (Err stop) rose idle = walked_none (Ran (Err stop)) Failed m1 m2 [] part idle.rests.machine idle.rests.none idle.untampered
+  walked_last Failed m1 m2 (text ∷ more) part (Err stop) rose (inl idle) = walked_none (Ran (Err stop)) Failed m1 m2 (text ∷ more) part idle.rests.machine idle.rests.none idle.untampered
+  walked_last Failed m1 m2 (text ∷ more) part (Err stop) rose (inr (inl cut)) = walked_cut Failed m1 m2 text more stop part cut
+  walked_last Failed m1 m2 (text ∷ more) part (Err stop) rose (inr (inr done)) = elim done.step.done [
+    | inl bad ↦ walked_refused (Ran (Err stop)) Failed m1 m2 text more done.answer part done.whole bad (sink_untampered stop done.fault)
+    | inr did ↦ walked_done Failed m1 m2 rose text more stop done.answer part done.whole done.fault did
   ]
 
   -- one text more
-  more_refused : (ending : Ending) (m0 m1 m m2 : Machine R) (text : List ℕ) (texts more : List (List ℕ)) (one : Answer) (answers : List Answer) (part : List ℕ) → Misspelt m0 m1 text one
-      → Walked ending m1 m m2 texts more answers part → Walked ending m0 m m2 (text ∷ texts) more (one ∷ answers) part
-  unfolding SpellFirst AreSeen Answers any_cut
-  more_refused ending m0 m1 m m2 text texts more one answers part bad there =
-      let rest : Walked ending m0 m m2 texts more answers part = subst (λ (x : Machine R). Walked ending x m m2 texts more answers part) bad.same there in
+  more_refused : (ending : Ending) (Failed : Type 0) (m0 m1 m m2 : Machine R) (text : List ℕ) (texts more : List (List ℕ)) (one : Answer) (answers : List Answer) (part : List ℕ) → Misspelt m0 m1 text one
+      → Walked ending Failed m1 m m2 texts more answers part → Walked ending Failed m0 m m2 (text ∷ texts) more (one ∷ answers) part
+  unfolding SpellFirst AreSeen Answers any_cut statements
+  more_refused ending Failed m0 m1 m m2 text texts more one answers part bad there =
+      let rest : Walked ending Failed m0 m m2 texts more answers part = subst (λ (x : Machine R). Walked ending Failed x m m2 texts more answers part) bad.same there in
       record {
         spelt = Err bad.at ∷ rest.spelt;
         spells = (bad.spells, rest.spells);
@@ -398,6 +409,7 @@ module _ {R : Type 0} (state : R → RevState) where
         seen = rest.seen;
         last = rest.last;
         one_last = rest.one_last;
+        each_seen = rest.each_seen;
         lawful = (refused_is m0 m1 text one bad, rest.lawful);
         passed = rest.passed;
         asked = rest.asked;
@@ -479,10 +491,10 @@ module _ {R : Type 0} (state : R → RevState) where
         (subst (λ (x : Start). Fits m2.engine.vault.keys x lie) (sym start) (subst (λ (k : KeySet). Fits k (engine_start m1.engine) lie) (sym keys) fits));
   }
 
-  more_served : (ending : Ending) (m0 m1 m m2 : Machine R) (text : List ℕ) (texts more : List (List ℕ)) (one : Answer) (answers : List Answer) (part : List ℕ) → Served state m0 m1 text one
-      → Walked ending m1 m m2 texts more answers part → Walked ending m0 m m2 (text ∷ texts) more (one ∷ answers) part
-  unfolding SpellFirst AreSeen Answers any_cut
-  more_served ending m0 m1 m m2 text texts more one answers part did rest =
+  more_served : (ending : Ending) (Failed : Type 0) (m0 m1 m m2 : Machine R) (text : List ℕ) (texts more : List (List ℕ)) (one : Answer) (answers : List Answer) (part : List ℕ) → Served state m0 m1 text one
+      → Walked ending Failed m1 m m2 texts more answers part → Walked ending Failed m0 m m2 (text ∷ texts) more (one ∷ answers) part
+  unfolding SpellFirst AreSeen Answers any_cut statements
+  more_served ending Failed m0 m1 m m2 text texts more one answers part did rest =
       let p = public_of m0.engine in
       let sk = skeleton did.stmt in
       let here = seen_of m1.engine in
@@ -498,6 +510,7 @@ module _ {R : Type 0} (state : R → RevState) where
         seen = record { skeleton = sk; seen = here } ∷ rest.seen;
         last = rest.last;
         one_last = rest.one_last;
+        each_seen = ap (λ (n : ℕ). suc n) rest.each_seen;
         lawful = (
           refl,
           did.does.lawful,
@@ -507,8 +520,8 @@ module _ {R : Type 0} (state : R → RevState) where
             cut_by one.outcome here.end _ did.does.ran.ends,
             did.planned,
           ),
-          subst (λ (q : Public). AreSeen ending q (asked_of m0 + length (script p sk here)) rest.spelt answers all) public_is
-              (subst (λ (n : ℕ). AreSeen ending (public_of m1.engine) n rest.spelt answers all) asked_is rest.lawful),
+          subst (λ (q : Public). AreSeen (StopsWithin ending Failed) q (asked_of m0 + length (script p sk here)) rest.spelt answers all) public_is
+              (subst (λ (n : ℕ). AreSeen (StopsWithin ending Failed) (public_of m1.engine) n rest.spelt answers all) asked_is rest.lawful),
         );
         passed = asked_more m0 m1 m text one did rest.seen rest.passed;
         asked = asked_more m0 m1 m2 text one did all rest.asked;
@@ -544,14 +557,14 @@ module _ {R : Type 0} (state : R → RevState) where
             (subst (λ (o : Option (List Disturbance)). IsBefore o n) (sym did.does.ran.later.disturbed) before) few_there);
       }
 
-  pub walked : (ending : Ending) (texts : List (List ℕ)) (m0 m1 m2 : Machine R) (more : List (List ℕ)) (answers : List Answer) (part : List ℕ) → Steps state m0 m1 texts answers
-      → Walked ending m1 m1 m2 [] more [] part → Walked ending m0 m1 m2 texts more answers part
+  pub walked : (ending : Ending) (Failed : Type 0) (texts : List (List ℕ)) (m0 m1 m2 : Machine R) (more : List (List ℕ)) (answers : List Answer) (part : List ℕ) → Steps state m0 m1 texts answers
+      → Walked ending Failed m1 m1 m2 [] more [] part → Walked ending Failed m0 m1 m2 texts more answers part
   unfolding Steps
-  walked ending [] m0 m1 m2 more answers part steps rest =
-      subst (λ (xs : List Answer). Walked ending m0 m1 m2 [] more xs part) (sym steps.1) (subst (λ (m : Machine R). Walked ending m m1 m2 [] more [] part) steps.0 rest)
-  walked ending (text ∷ texts) m0 m1 m2 more answers part steps rest =
-      let from = walked ending texts steps.0 m1 m2 more steps.2 part steps.5 rest in
-      subst (λ (xs : List Answer). Walked ending m0 m1 m2 (text ∷ texts) more xs part) (sym steps.3) (elim steps.4.done [
-        | inl bad ↦ more_refused ending m0 steps.0 m1 m2 text texts more steps.1 steps.2 part bad from
-        | inr did ↦ more_served ending m0 steps.0 m1 m2 text texts more steps.1 steps.2 part did from
+  walked ending Failed [] m0 m1 m2 more answers part steps rest =
+      subst (λ (xs : List Answer). Walked ending Failed m0 m1 m2 [] more xs part) (sym steps.1) (subst (λ (m : Machine R). Walked ending Failed m m1 m2 [] more [] part) steps.0 rest)
+  walked ending Failed (text ∷ texts) m0 m1 m2 more answers part steps rest =
+      let from = walked ending Failed texts steps.0 m1 m2 more steps.2 part steps.5 rest in
+      subst (λ (xs : List Answer). Walked ending Failed m0 m1 m2 (text ∷ texts) more xs part) (sym steps.3) (elim steps.4.done [
+        | inl bad ↦ more_refused ending Failed m0 steps.0 m1 m2 text texts more steps.1 steps.2 part bad from
+        | inr did ↦ more_served ending Failed m0 steps.0 m1 m2 text texts more steps.1 steps.2 part did from
       ])

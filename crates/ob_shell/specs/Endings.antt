@@ -44,13 +44,3 @@ IsSinkFault SourceFault = ⊥
 IsSinkFault SinkFault = Unit {0}
 IsSinkFault NoMemory = ⊥
 IsSinkFault InputLimit = ⊥
-
-abbrev pub SinkFailed : {T : Type 0} → Result T Stop → Type 0
-SinkFailed (Ok x) = ⊥
-SinkFailed (Err stop) = IsSinkFault stop
-
--- it stopped at a sink's fault
-abbrev pub SinkStopped : Ending → Type 0
-SinkStopped Usage = ⊥
-SinkStopped BadKey = ⊥
-SinkStopped (Ran ran) = SinkFailed ran

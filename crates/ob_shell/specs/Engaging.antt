@@ -22,13 +22,12 @@ use Rattle.ob_seal.specs.KeySet.{KeySet}
 use Rattle.ob_seal.specs.Sealed.{keys_of}
 use Rattle.ob_shell.specs.Bases.{Base, fresh}
 use Rattle.ob_shell.specs.Closed.{LineWritten, Unwritten}
-use Rattle.ob_shell.specs.Endings.{SinkStopped}
 use Rattle.ob_shell.specs.Feeding.{Fetch}
 use Rattle.ob_shell.specs.Generating.{SummedUp}
 use Rattle.ob_shell.specs.Keeping.{Began, BeginsFrom, EndsAtMark, EndsWith, NotBegun, kept_line, kept_status, region_opened}
 use Rattle.ob_shell.specs.KeptHeadline.{ClosesTables, EndsUnkeyed}
 use Rattle.ob_shell.specs.KeyLine.{after_line, first_line, secret_of}
-use Rattle.ob_shell.specs.Running.{Silenced, StopCause}
+use Rattle.ob_shell.specs.Running.{OutFailed, Silenced, StopCause}
 use Rattle.ob_shell.specs.Standing.{StandsOn}
 use Rattle.ob_shell.specs.Steps.{IsReady, machine_of}
 use Rattle.ob_shell.specs.Tallies.{has_refused}
@@ -126,13 +125,15 @@ pub record ClosedRun (base : Base) (keys : KeySet) (tracing : Bool) (tally : Tal
   pub counted : ended.ending ≡ Plain (Ran (Ok (has_refused tally))) → ended.tally ≡ tally
 
 -- texts were served with the engine until a stop came, and nothing was done behind that
-pub record StopsRun (base : Base) (key : List ℕ) (tracing : Bool) (ended : KeptEnded)
+pub record StopsRun {R : Type 0} (state : R → RevState) (base : Base) (key : List ℕ)
+    (tracing : Bool) (ended : KeptEnded)
     (feed0 feed1 : Fetch) (left0 left1 : Option (List ℕ)) (gave : ℕ)
     (written0 written1 traced0 traced1 : Option (List ℕ)) (begun new : StoreState)
     (old_faults new_faults : Faults) (keeper0 keeper1 : KeeperState) : Type 0 where
   pub stop : Stop
-  pub ran : RanAfter (sink_of tracing traced0 traced1) base (Some key) feed0 feed1 left0 left1 gave
-      written0 written1 begun new ended.high (Err stop)
+  pub ran : RanAfter state (sink_of tracing traced0 traced1) base (Some key) feed0 feed1
+      left0 left1 gave written0 written1 begun new ended.high
+      (OutFailed ended.quiet old_faults.out new_faults.out) (Err stop)
   pub traced_all : Traced tracing begun.asked new.asked traced0 traced1 (ended.quiet ≡ true)
   pub cause : StopCause {T = Bool} old_faults new_faults (Err stop)
   pub silent : Silenced ended.quiet old_faults new_faults
@@ -140,7 +141,8 @@ pub record StopsRun (base : Base) (key : List ℕ) (tracing : Bool) (ended : Kep
   pub kept : keeper1 ≡ keeper0
 
 -- they came to their end, and the engine was closed, or why not
-pub record ServesAll (base : Base) (key : List ℕ) (tracing : Bool) (ended : KeptEnded)
+pub record ServesAll {R : Type 0} (state : R → RevState) (base : Base) (key : List ℕ)
+    (tracing : Bool) (ended : KeptEnded)
     (feed0 feed1 : Fetch) (left0 left1 : Option (List ℕ)) (gave : ℕ)
     (written0 written1 traced0 traced2 : Option (List ℕ)) (begun new : StoreState)
     (old_faults new_faults : Faults) (keeper0 keeper1 : KeeperState) : Type 0 where
@@ -148,8 +150,9 @@ pub record ServesAll (base : Base) (key : List ℕ) (tracing : Bool) (ended : Ke
   pub high : ℕ
   pub served : StoreState
   pub traced1 : Option (List ℕ)
-  pub ran : RanAfter (sink_of tracing traced0 traced1) base (Some key) feed0 feed1 left0 left1 gave
-      written0 written1 begun served high (Ok tally)
+  pub ran : RanAfter state (sink_of tracing traced0 traced1) base (Some key) feed0 feed1
+      left0 left1 gave written0 written1 begun served high
+      (OutFailed false old_faults.out new_faults.out) (Ok tally)
   pub traced_all : Traced tracing begun.asked served.asked traced0 traced1 ⊥
   pub source : new_faults.source ≡ old_faults.source
   pub out : new_faults.out ≡ old_faults.out
@@ -157,15 +160,15 @@ pub record ServesAll (base : Base) (key : List ℕ) (tracing : Bool) (ended : Ke
       ran.carried.seen (ran.carried.seen ++ ran.carried.last) ran.part high ended begun served new
       traced1 traced2 old_faults.trace new_faults.trace keeper0 keeper1
 
-abbrev pub ServesRun : Base → (key : List ℕ) → (tracing : Bool) → KeptEnded
-    → (feed0 feed1 : Fetch) → (left0 left1 : Option (List ℕ)) → (gave : ℕ)
+abbrev pub ServesRun : {R : Type 0} → (R → RevState) → Base → (key : List ℕ) → (tracing : Bool)
+    → KeptEnded → (feed0 feed1 : Fetch) → (left0 left1 : Option (List ℕ)) → (gave : ℕ)
     → (written0 written1 traced0 traced1 : Option (List ℕ)) → (begun new : StoreState)
     → (old_faults new_faults : Faults) → (keeper0 keeper1 : KeeperState) → Type 0
-ServesRun base key tracing ended feed0 feed1 left0 left1 gave written0 written1 traced0 traced1
-    begun new old_faults new_faults keeper0 keeper1 =
-    StopsRun base key tracing ended feed0 feed1 left0 left1 gave written0 written1
+ServesRun state base key tracing ended feed0 feed1 left0 left1 gave written0 written1 traced0
+    traced1 begun new old_faults new_faults keeper0 keeper1 =
+    StopsRun state base key tracing ended feed0 feed1 left0 left1 gave written0 written1
     traced0 traced1 begun new old_faults new_faults keeper0 keeper1
-    ⊎ ServesAll base key tracing ended feed0 feed1 left0 left1 gave written0 written1
+    ⊎ ServesAll state base key tracing ended feed0 feed1 left0 left1 gave written0 written1
     traced0 traced1 begun new old_faults new_faults keeper0 keeper1
 
 -- ---- what is written last
@@ -204,7 +207,7 @@ pub record RanUnkeyed (config : Config) (tracing : Bool) (ended : KeptEnded) (ol
   pub read : ending ≢ Usage
   pub shown : Shown ended.tally (sink_of tracing old.traced new.traced) (fresh (Some config))
       old.left new.left new.gave old.written new.written old.store new.store ended.high
-      ending [] (SinkStopped ending)
+      ending [] ⊥
   pub ends : EndsUnkeyed ending shown.taken
   pub unanswered : shown.answers ≡ []
   pub cause : EndingCause ending old.faults new.faults
@@ -250,7 +253,7 @@ pub record RanStopped (config : Config) (tracing : Bool) (ended : KeptEnded) (ol
   pub stop : Stop
   pub shown : Shown ended.tally (sink_of tracing begun.traced new.traced) begun.base
       old.left new.left new.gave old.written new.written begun.opened new.store ended.high
-      (Ran (Err stop)) [] (SinkStopped (Ran (Err stop)))
+      (Ran (Err stop)) [] (OutFailed ended.quiet old.faults.out new.faults.out)
   pub keyed : secret_of (first_line shown.taken) ≡ Some begun.secret
   pub traced_all : Traced tracing begun.opened.asked new.store.asked begun.traced new.traced
       (ended.quiet ≡ true)
@@ -269,7 +272,7 @@ pub record RanWhole (config : Config) (tracing : Bool) (ended : KeptEnded) (old 
   pub traced : Option (List ℕ)
   pub shown : Shown tally (sink_of tracing begun.traced traced) begun.base
       old.left new.left new.gave old.written new.written begun.opened served high
-      (Ran (Ok (has_refused tally))) [] ⊥
+      (Ran (Ok (has_refused tally))) [] (OutFailed false old.faults.out new.faults.out)
   pub keyed : secret_of (first_line shown.taken) ≡ Some begun.secret
   pub traced_all : Traced tracing begun.opened.asked served.asked begun.traced traced ⊥
   pub source : new.faults.source ≡ old.faults.source

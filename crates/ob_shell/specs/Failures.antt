@@ -26,3 +26,7 @@ failures (answer ∷ answers) = outcome_failures answer.outcome + failures answe
 -- a count of faults has risen by so many at least, or stands at the last value of a u64
 abbrev pub RisesBy : ℕ → ℕ → ℕ → Type 0
 RisesBy n old new = min (old + n) (2 ^ 64 - 1) ≤ new
+
+-- calls of the store failed beside those that texts were answered for
+abbrev pub FailsBeside : List Answer → ℕ → ℕ → Type 0
+FailsBeside answers old new = RisesBy (failures answers + 1) old new

@@ -1,5 +1,5 @@
 -- The headline: one whole run, by what lies outside of it before and after.
-use Rattle.std.specs.Prelude.{ℕ, ◌≡◌, ◌≢◌, ◌+◌, ◌≤◌, ◌⊎◌, min, Bool, true, false, List, [], ◌∷◌, ◌++◌, length, IsTrue, Some, Err}
+use Rattle.std.specs.Prelude.{ℕ, ◌≡◌, ◌≢◌, ◌+◌, ◌≤◌, ◌⊎◌, min, Bool, true, false, List, [], ◌∷◌, ◌++◌, length, take, IsTrue, Some, Err}
 use Rattle.std.specs.List.{list_any}
 use Rattle.std.specs.Io.KnownBytes.{Consumes, IsAtEnd}
 use Rattle.ob_base.specs.Counts.{Rises}
@@ -11,13 +11,13 @@ use Rattle.ob_print.specs.Cuts.{Cut}
 use Rattle.ob_script.specs.Trace.{Served, trace}
 use Rattle.ob_shell.specs.Bases.{Base, FromEach, said_of}
 use Rattle.ob_shell.specs.Disturbed.{Until}
-use Rattle.ob_shell.specs.Endings.{SinkStopped, last_line, status_of}
-use Rattle.ob_shell.specs.Failures.{RisesBy, failures}
+use Rattle.ob_shell.specs.Endings.{last_line, status_of}
+use Rattle.ob_shell.specs.Failures.{FailsBeside, RisesBy, failures}
 use Rattle.ob_shell.specs.KeyLine.{after_line}
 use Rattle.ob_shell.specs.Settings.{limit_of}
 use Rattle.ob_shell.specs.Texts.{texts_in}
 use Rattle.ob_shell.specs.Tracing.{traced}
-use Rattle.ob_shell.specs.Words.{Answer, Answers, AreSeen, Because, Begins, HasSecret, IsCompleted, IsHonest, IsSealed, IsUndeceived, KeepsLimits, Outside, PassesFrom, SinksRose, SpellFirst, Took, any_cut, before_read, keys_in, printed, rows_in}
+use Rattle.ob_shell.specs.Words.{Answer, Answers, AreSeen, Because, Begins, HasSecret, IsCompleted, IsHonest, IsSealed, IsUndeceived, KeepsLimits, Outside, PassesFrom, SinksRose, SpellFirst, StopsWithin, Took, any_cut, before_read, keys_in, printed, rows_in, statements}
 use Rattle.ob_shell.specs.declared.top.Ending.{Ending}
 use Rattle.ob_shell.specs.declared.top.Ending.TheVariants.{Ran}
 use Rattle.ob_shell.specs.declared.top.Report.{Report}
@@ -48,8 +48,8 @@ pub record Headline (base : Base) (Takes : Type 0) (tracing : Bool)
   pub reached : length served ≤ length spelt
   pub begun : length spelt ≤ length served + 1
   pub keyed : HasSecret taken ⊎ (spelt ≡ [])
-  -- THE OUTPUT: the answers, what was printed of the one begun, and the last line. A sink's fault ends the run, and after
-  -- one of the trace's the last line isn't written.
+  -- THE OUTPUT: the answers, what was printed of the one begun, and the last line. A sink's fault ends the run: where the
+  -- answers' fails, the end of what was printed may be lost, and after one of the trace's the last line isn't written.
   pub answers : List Answer
   pub each : length answers ≡ length served
   pub part : List ℕ
@@ -57,20 +57,25 @@ pub record Headline (base : Base) (Takes : Type 0) (tracing : Bool)
   pub grew : Cut old.written new.written (SinksRose old.faults new.faults)
       ((printed answers ++ part) ++ last_line ending)
   pub whole : Took old.written new.written (printed answers)
-  pub through : ¬ SinkStopped ending → Took old.written new.written (printed answers ++ part)
+  pub through : Took old.written new.written (printed answers ++ part)
+      ⊎ Rises old.faults.out new.faults.out
   pub silent : new.faults.trace ≢ old.faults.trace
       → Cut old.written new.written (Unit {0}) (printed answers ++ part)
   -- THE ACCESSES, over every store, are those that the statements go on from, if there are any, and the trace of their
-  -- skeletons and of what is seen of each, of which the last belongs to the one begun. This trace is written, what comes
-  -- before the one begun whole, where tracing is asked for.
+  -- skeletons and of what is seen of each: of those that were answered, and of the one begun, if it is a statement. This
+  -- trace is written, what comes before the one begun whole, where tracing is asked for.
   pub seen : List Served
   pub last : List Served
   pub one_last : length last ≤ 1
-  pub lawful : AreSeen ending base.public base.count spelt answers (seen ++ last)
+  pub each_seen : length seen ≡ length (statements (take (length served) spelt))
+  pub lawful : AreSeen
+      (StopsWithin ending (FailsBeside answers old.store.faults new.store.faults))
+      base.public base.count spelt answers (seen ++ last)
   pub asked : new.store.asked ≡ base.before ++ trace base.public (seen ++ last)
   pub traced_all : Cut old.traced new.traced (SinksRose old.faults new.faults)
       (traced tracing (trace base.public (seen ++ last)))
   pub traced_whole : Took old.traced new.traced (traced tracing (trace base.public seen))
+  -- Calls that discard a region are counted apart, and change no answer.
   pub failed : RisesBy (failures answers) old.store.faults new.store.faults
   pub unfailed : any_cut (seen ++ last) ≡ false → new.store.faults ≡ old.store.faults
   -- THE ANSWERS. Unless a changed block's tag fits, they and what is seen are those of SQL over plain tables, from those

@@ -4,14 +4,16 @@ use Rattle.std.specs.Io.KnownBytes.{Appends, Consumes, IsAtEnd}
 use Rattle.ob_base.specs.Counts.{Rises}
 use Rattle.ob_base.specs.declared.refusal.Stop.{Stop}
 use Rattle.ob_base.specs.declared.refusal.Stop.TheVariants.{Tampered, SourceFault, SinkFault, NoMemory, InputLimit}
+use Rattle.ob_exec.specs.Agreeing.{high_of}
+use Rattle.ob_exec.specs.declared.engine.Engine.{Engine}
 use Rattle.ob_print.specs.Cuts.{Cut}
 use Rattle.ob_shell.specs.Texts.{is_over, rest_of, texts_of, texts_in}
 use Rattle.ob_shell.specs.Feeding.{Fetch, Fed}
-use Rattle.ob_shell.specs.Steps.{Machine, Steps, PartlyAt, IsUndone}
+use Rattle.ob_shell.specs.Steps.{Machine, Steps, PartlyAt, IsUndone, machine_of}
+use Rattle.ob_store.specs.State.{StoreState}
 use Rattle.ob_vault.specs.State.{RevState}
 use Rattle.ob_shell.specs.declared.session.Halted.{Halted}
 use Rattle.ob_gen.specs.declared.tally.Tally.{Tally}
-use Rattle.ob_shell.specs.Endings.{SinkFailed}
 use Rattle.ob_shell.specs.Tallies.{TallyIs, flagged, tally_of}
 use Rattle.ob_shell.specs.Tracing.{Traces}
 use Rattle.ob_shell.specs.Words.{Answer, Begins, Faults, NoneRose, SinksRose, Took, any_refused, before_read, printed}
@@ -33,6 +35,10 @@ IsQuiet result = is_quiet result ≡ true
 abbrev pub Silenced : (quiet : Bool) → (old new : Faults) → Type 0
 Silenced true old new = SinksRose old new
 Silenced false old new = (new.out ≡ old.out) × (new.trace ≡ old.trace)
+
+-- of what is printed the end is lost only where the sink of the answers failed, and then nothing more is written
+abbrev pub OutFailed : (quiet : Bool) → (old new : ℕ) → Type 0
+OutFailed quiet old new = (quiet ≡ true) × Rises old new
 
 -- when each stop comes: only where that count rose; those of the sinks may have risen behind a stop by a block or for want
 -- of memory
@@ -85,12 +91,12 @@ abbrev pub FlagIs : List Answer → Result Bool Stop → Type 0
 FlagIs answers (Ok refused) = refused ≡ any_refused answers
 FlagIs answers (Err stop) = Unit {0}
 
--- what a session did: the sink took the answers of all texts that were served, and of the last part all or, where it
--- failed, a first part; and the texts that were whole before the source's last read, which gave so many, were served
+-- what a session did: the sink took the answers of all texts that were served, and of the last part all or, where its end
+-- was lost, a first part; and the texts that were whole before the source's last read, which gave so many, were served
 pub record SessionRan {R : Type 0} (state : R → RevState) (tracing : Bool) (feed0 feed1 : Fetch)
     (left0 left1 : Option (List ℕ)) (gave : ℕ)
     (written0 written1 traced0 traced1 : Option (List ℕ))
-    (m0 m2 : Machine R) (result : Result Tally Stop) : Type 0 where
+    (m0 m2 : Machine R) (Lost : Type 0) (result : Result Tally Stop) : Type 0 where
   pub piece : List ℕ
   pub consumed : Consumes left0 left1 piece
   pub taken : feed1.taken ≡ feed0.taken + length piece
@@ -106,8 +112,19 @@ pub record SessionRan {R : Type 0} (state : R → RevState) (tracing : Bool) (fe
   pub steps : Steps state m0 middle served answers
   pub part : List ℕ
   pub last : LastPart state middle m2 more part (flagged result)
-  pub cut : Cut written0 written1 (SinkFailed (flagged result)) (printed answers ++ part)
+  pub cut : Cut written0 written1 Lost (printed answers ++ part)
   pub whole : Took written0 written1 (printed answers)
   pub traced : Traces tracing traced0 traced1 m0.store.asked middle.store.asked
   pub counted : TallyIs answers result
   pub ends : EndsBy feed1 ended (feed0.unread ++ piece) more part (flagged result)
+
+-- so many rows were open at once, as the engine counts them with which a session ended
+pub record CountsRows {R : Type 0} (state : R → RevState) (tracing : Bool) (feed0 feed1 : Fetch)
+    (left0 left1 : Option (List ℕ)) (gave : ℕ)
+    (written0 written1 traced0 traced1 : Option (List ℕ)) (store0 store1 : StoreState)
+    (Lost : Type 0) (result : Result Tally Stop) (high : ℕ) : Type 0 where
+  pub first : Engine R
+  pub last : Engine R
+  pub ran : SessionRan state tracing feed0 feed1 left0 left1 gave written0 written1
+      traced0 traced1 (machine_of first store0) (machine_of last store1) Lost result
+  pub counts : high ≡ high_of last

@@ -83,14 +83,26 @@ joined (Some buffer) (Some depth) (Some plan) (Some pack) (Some pad) (Some max_i
     fitted buffer depth plan pack pad max_input
 
 -- the settings that these values spell, each under its name
-abbrev pub settings_by : (Text → Option Text) → Option Config
-settings_by value =
+abbrev pub settings_in : (Text → Option Text) → Option Config
+settings_in value =
     joined (number_in 4 65536 64 (value (codes "buffer"))) (number_in 1 8 5 (value (codes "depth")))
     (plan_in (value (codes "plan"))) (number_in 1 16 1 (value (codes "pack")))
     (pad_in (value (codes "pad")))
     (number_in 1024 1073741824 1073741824 (value (codes "max-input")))
 
--- the settings that the words spell, none where a value has not its form or not its range
+-- a place of the mark may be given with `--keep` alone
+abbrev pub may_mark : (place : Option Text) → (keeps : Bool) → Bool
+may_mark None keeps = true
+may_mark (Some place) keeps = keeps
+
+-- the same, where each of the values may be given
+abbrev pub settings_by : (Text → Option Text) → Option Config
+settings_by value =
+    if may_mark (value (codes "mark")) (is_set (value (codes "keep"))) then settings_in value
+    else None
+
+-- the settings that the words spell, none where a value has not its form or not its range, or goes with a word that
+-- isn't given
 abbrev pub settings_of : App → List Text → Option Config
 settings_of app words = settings_by (value_of app words)
 

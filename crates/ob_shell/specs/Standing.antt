@@ -45,6 +45,7 @@ pub record StandsOn {R : Type 0} (state : R → RevState) (base : Base) (config 
   pub held : FromEach base (λ x. Represents state e s x.tables)
   pub sealed : IsTrue s.tells → FromEach base (λ x. (good : List ℕ → Bool)
       → PassesFrom base good → AllSealed (λ r. good) (world_of state e s))
-  pub passes : (good : List ℕ → Bool) → PassesFrom base good → AcceptsRows (λ r. good) config.pack
+  pub passes : (good : List ℕ → Bool) → PassesFrom base good
+      → AcceptsRows (λ r. good) config.pack × AcceptsRows (λ r. good) 1
   pub early : (n : ℕ) → IsBefore (said_of base.opened s) n
       → IsFirst state base.settings e s × IsBefore s.disturbed n

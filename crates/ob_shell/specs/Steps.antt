@@ -8,7 +8,7 @@ use Rattle.ob_base.specs.declared.refusal.Stop.{Stop}
 use Rattle.ob_base.specs.declared.refusal.Stop.TheVariants.{Tampered, SourceFault, SinkFault, NoMemory, InputLimit}
 use Rattle.ob_exec.specs.Agreeing.{Agrees, count_of, has_ended, public_of, seen_of}
 use Rattle.ob_exec.specs.Memory.{LacksMemory}
-use Rattle.ob_exec.specs.Running.{Ran, RefusedEarly, Emits, refusal_now}
+use Rattle.ob_exec.specs.Running.{Ran, RefusedEarly, Emits, MayEmit, refusal_now}
 use Rattle.ob_exec.specs.Serving.{Means}
 use Rattle.ob_exec.specs.Telling.{KeepsSealed, ReadsTrue, ReadsTrueUntil, Emitted, Partly, answer_labels}
 use Rattle.ob_mean.specs.Lawful.{Lawful}
@@ -18,10 +18,10 @@ use Rattle.ob_exec.specs.declared.engine.Engine.{Engine}
 use Rattle.ob_shell.specs.Endings.{IsSinkFault}
 use Rattle.ob_gen.specs.declared.tally.Tally.{Tally}
 use Rattle.ob_shell.specs.Tallies.{tally_after}
-use Rattle.ob_shell.specs.Words.{Answer, Spells, printed}
+use Rattle.ob_shell.specs.Words.{Answer, PrintsUntil, Spells, printed}
 use Rattle.ob_exec.specs.declared.outcome.Outcome.{Outcome}
 use Rattle.ob_exec.specs.declared.outcome.Outcome.TheVariants.{Refused}
-use Rattle.ob_print.specs.Cuts.{Cut, IsCutOf}
+use Rattle.ob_print.specs.Cuts.{Cut}
 use Rattle.ob_print.specs.Rows.{events_text}
 use Rattle.ob_shell.specs.Closing.{closing_line}
 use Rattle.ob_sql.specs.Skeleton.{skeleton}
@@ -70,6 +70,8 @@ pub record Does {R : Type 0} (state : R → RevState) (m0 m1 : Machine R) (stmt 
   -- want of memory shows how far it got, and nothing of rows
   pub memory : result ≡ Err NoMemory
       → LacksMemory (public_of m0.engine) stmt (seen_of m1.engine) m0.store m1.store ⊤
+  -- a sink's fault stops nothing but a SELECT
+  pub emits : result ≡ Err SinkFault → MayEmit stmt
   pub seals : KeepsSealed state m0.engine m0.store m1.engine m1.store
   pub means : Means state stmt result m0.engine m0.store m1.engine m1.store
 
@@ -100,8 +102,8 @@ pub record HasBody {R : Type 0} (state : R → RevState) (written0 written1 : Op
   pub step : Step state m0 m1 text
       (record { outcome = outcome; bytes = body ++ closing_line outcome; plan = plan })
 
--- the engine was stopped in the statement of this text, and a first part of its header and rows was printed, also where
--- a changed block stopped it
+-- the engine was stopped in the statement of this text, of whose header and rows a first part was emitted, also where a
+-- changed block stopped it
 pub record CutStep {R : Type 0} (state : R → RevState) (m0 m1 : Machine R) (text : List ℕ)
     (stop : Stop) (bytes : List ℕ) : Type 0 where
   pub stmt : Stmt
@@ -112,7 +114,7 @@ pub record CutStep {R : Type 0} (state : R → RevState) (m0 m1 : Machine R) (te
       → ReadsTrueUntil state m0.engine m0.store m1.engine m1.store tables
       → Partly (answer_labels stmt (public_of m0.engine))
       (verdict (public_of m0.engine) (asked_of m0) tables stmt) events
-  pub printed : IsCutOf bytes (events_text events)
+  pub printed : PrintsUntil stop bytes (events_text events)
 
 -- these texts were answered, in order
 unfoldable pub Steps : {R : Type 0} → (R → RevState) → Machine R → Machine R → List (List ℕ)
@@ -164,9 +166,9 @@ pub record AnswersAll {R : Type 0} (state : R → RevState) (written0 written1 :
   pub appends : Appends written0 written1 (printed answers)
   pub counted : tally1 ≡ tally_after tally0 answers
 
--- a stop came within the first of these texts, or before it
+-- a stop came within the first of these texts, or before it, and a sink took what was printed, or for this cause less
 pub record StopsIn {R : Type 0} (state : R → RevState) (written0 written1 : Option (List ℕ))
-    (texts : List (List ℕ)) (stop : Stop) (m0 m1 : Machine R) : Type 0 where
+    (Lost : Type 0) (texts : List (List ℕ)) (stop : Stop) (m0 m1 : Machine R) : Type 0 where
   pub bytes : List ℕ
   pub partly : PartlyAt state m0 m1 texts stop bytes
-  pub cut : Cut written0 written1 (IsSinkFault stop) bytes
+  pub cut : Cut written0 written1 Lost bytes

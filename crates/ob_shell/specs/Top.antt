@@ -1,5 +1,5 @@
 -- What a whole run promises, by its words and the bytes that its source gave.
-use Rattle.std.specs.Prelude.{ℕ, ◌≡◌, ◌≢◌, ◌+◌, ◌≤◌, ◌⊎◌, min, Bool, true, false, List, [], ◌∷◌, ◌++◌, length, IsTrue, Option, Some, None, IsSome, Result, Ok, Err}
+use Rattle.std.specs.Prelude.{ℕ, ◌≡◌, ◌≢◌, ◌+◌, ◌≤◌, ◌⊎◌, min, Bool, true, false, List, [], ◌∷◌, ◌++◌, length, take, IsTrue, Option, Some, None, IsSome, Result, Ok, Err}
 use Rattle.std.specs.List.{list_any}
 use Rattle.std.specs.Option.{option_map_or}
 use Rattle.std.specs.Io.KnownBytes.{Consumes, IsAtEnd}
@@ -16,21 +16,22 @@ use Rattle.ob_seal.specs.Sealed.{keys_of}
 use Rattle.ob_store.specs.Calls.{IsBefore}
 use Rattle.ob_store.specs.Runs.{Later}
 use Rattle.ob_store.specs.State.{Lie, StoreState}
+use Rattle.ob_vault.specs.State.{RevState}
 use Rattle.ob_vault.specs.Tied.{Fits}
 use Rattle.ob_shell.specs.Bases.{Base, FromEach, said_of}
 use Rattle.ob_shell.specs.Disturbed.{Until}
-use Rattle.ob_shell.specs.Endings.{SinkFailed, SinkStopped, last_line, status_of}
-use Rattle.ob_shell.specs.Failures.{RisesBy, failures}
+use Rattle.ob_shell.specs.Endings.{last_line, status_of}
+use Rattle.ob_shell.specs.Failures.{FailsBeside, RisesBy, failures}
 use Rattle.ob_shell.specs.Feeding.{Fetch}
 use Rattle.ob_shell.specs.KeyLine.{LineTaken, after_line, first_line, secret_of}
-use Rattle.ob_shell.specs.Running.{EndsBy, FlagIs, StopCause}
+use Rattle.ob_shell.specs.Running.{CountsRows, EndsBy, FlagIs, StopCause}
 use Rattle.ob_shell.specs.Settings.{limit_of}
 use Rattle.ob_shell.specs.Steps.{IsUntampered}
 use Rattle.ob_gen.specs.declared.tally.Tally.{Tally}
 use Rattle.ob_shell.specs.Tallies.{TallyIs, flagged, tally_of}
 use Rattle.ob_shell.specs.Texts.{texts_in}
 use Rattle.ob_shell.specs.Tracing.{traced}
-use Rattle.ob_shell.specs.Words.{Answer, Answers, AreSeen, Begins, EndsAtRead, Faults, HasSecret, IsCompleted, IsHonest, IsSealed, IsUndeceived, KeepsLimits, NoneRose, PassesFrom, ReadToLimit, ReadUntilFault, ReadWhole, SinksRose, SpellFirst, Took, any_cut, before_read, printed, rows_in}
+use Rattle.ob_shell.specs.Words.{Answer, Answers, AreSeen, Begins, EndsAtRead, Faults, HasSecret, IsCompleted, IsHonest, IsSealed, IsUndeceived, KeepsLimits, NoneRose, PassesFrom, ReadToLimit, ReadUntilFault, ReadWhole, SinksRose, SpellFirst, StopsWithin, Took, any_cut, before_read, printed, rows_in, statements}
 use Rattle.ob_shell.specs.declared.top.Ending.{Ending}
 use Rattle.ob_shell.specs.declared.top.Ending.TheVariants.{Usage, BadKey, Ran}
 use Rattle.ob_shell.specs.declared.top.Report.{Report}
@@ -73,7 +74,9 @@ pub record Carried (tr : TraceSink) (base : Base) (secret : Option (List ℕ))
   pub seen : List Served
   pub last : List Served
   pub one_last : length last ≤ 1
-  pub lawful : AreSeen ending base.public base.count spelt answers (seen ++ last)
+  pub each_seen : length seen ≡ length (statements (take (length served) spelt))
+  pub lawful : AreSeen (StopsWithin ending (FailsBeside answers store0.faults store1.faults))
+      base.public base.count spelt answers (seen ++ last)
   pub asked : store1.asked ≡ base.before ++ trace base.public (seen ++ last)
   pub traced_whole : Took tr.old tr.new (traced tr.on (trace base.public seen))
   pub failed : RisesBy (failures answers) store0.faults store1.faults
@@ -95,10 +98,11 @@ pub record Carried (tr : TraceSink) (base : Base) (secret : Option (List ℕ))
       → Until base.settings n spelt answers (seen ++ last) store1.asked
 
 -- what was done from this base after the first line, which was this secret
-pub record RanAfter (tr : TraceSink) (base : Base)
+pub record RanAfter {R : Type 0} (state : R → RevState) (tr : TraceSink) (base : Base)
     (secret : Option (List ℕ)) (feed0 feed1 : Fetch)
     (left0 left1 : Option (List ℕ)) (gave : ℕ) (written0 written1 : Option (List ℕ))
-    (store0 store1 : StoreState) (high : ℕ) (result : Result Tally Stop) : Type 0 where
+    (store0 store1 : StoreState) (high : ℕ) (Lost : Type 0) (result : Result Tally Stop)
+    : Type 0 where
   pub piece : List ℕ
   pub consumed : Consumes left0 left1 piece
   pub taken : feed1.taken ≡ feed0.taken + length piece
@@ -113,7 +117,10 @@ pub record RanAfter (tr : TraceSink) (base : Base)
   pub part : List ℕ
   pub carried : Carried tr base secret store0 store1 high served more answers part
       (Ran (flagged result))
-  pub cut : Cut written0 written1 (SinkFailed (flagged result)) (printed answers ++ part)
+  -- the rows that were open are those of the session's engine; where none was started, there are none
+  pub rows : CountsRows state tr.on feed0 feed1 left0 left1 gave written0 written1 tr.old tr.new
+      store0 store1 Lost result high ⊎ ((high ≡ 0) × (store1 ≡ store0))
+  pub cut : Cut written0 written1 Lost (printed answers ++ part)
   pub whole : Took written0 written1 (printed answers)
   pub counted : TallyIs answers result
   pub ends : EndsBy feed1 ended (feed0.unread ++ piece) more part (flagged result)
@@ -200,10 +207,8 @@ pub record Shown (tally : Tally) (tr : TraceSink) (base : Base)
   pub carried : Carried tr base (secret_of (first_line taken)) store0 store1 high served more
       answers part ending
   pub grew : Cut written0 written1 Fault ((printed answers ++ part) ++ line)
-  -- a sink's fault ends the run: all answers were taken whole, and so was what was printed of the one that was begun,
-  -- unless the run ended there
+  -- a sink's fault ends the run: all answers were taken whole
   pub whole : Took written0 written1 (printed answers)
-  pub through : ¬ SinkStopped ending → Took written0 written1 (printed answers ++ part)
   pub flag : EndingFlag ending answers
   pub counted : EndingTally ending answers tally
   pub says : EndingSays ending (limit_of base.settings) taken left1 ended more part
@@ -218,6 +223,8 @@ pub record Reported (tally : Tally) (tr : TraceSink) (Takes : Type 0) (base : Ba
   pub takes : EndingWords ending Takes
   pub shown : Shown tally tr base left0 left1 gave written0 written1 store0 store1 report.high ending
       (last_line ending) (SinksRose old new)
+  -- so was what was printed of the one that was begun, unless the sink of the answers failed
+  pub through : Took written0 written1 (printed shown.answers ++ shown.part) ⊎ Rises old.out new.out
   pub silent : new.trace ≢ old.trace
       → Cut written0 written1 (Unit {0}) (printed shown.answers ++ shown.part)
   pub cause : StatusCause ending old new

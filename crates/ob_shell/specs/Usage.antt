@@ -1,5 +1,5 @@
--- The words of the command lines: the flag `--trace`, the settings of a run, `--gen`, where a store is given `--store` and
--- `--keep`, and of the program whose store others change `--meddle`.
+-- The words of the command lines: the flag `--trace`, the settings of a run, `--gen`, where a store is given `--store`,
+-- `--keep` and `--mark`, and of the program whose store others change `--meddle`.
 use Rattle.std.specs.Prelude.{◌≡◌, Bool, true, false, List, [], Option, Some, None, codes, bytes_eq}
 use Rattle.clap.specs.Words.{App, Rule, Text, fault_of, first_of, matches_of, new_app, new_rule, with_rule}
 use Rattle.clap.specs.declared.builder.ArgAction.TheVariants.{SetTrue, Set}
@@ -37,10 +37,11 @@ usage = nameless (with_rule (common (codes "oblidb")) (valued (codes "store")))
 abbrev pub meddle_usage : App
 meddle_usage = nameless (with_rule (common (codes "oblitrace")) (valued (codes "meddle")))
 
--- of a program that may keep its tables for the next run, in a store that it is given
+-- of a program that may keep its tables for the next run, in a store that it is given, by a mark whose place the words
+-- may give
 abbrev pub kept_usage : App
-kept_usage = nameless (with_rule (with_rule (common (codes "oblidb")) (valued (codes "store")))
-    (flag (codes "keep")))
+kept_usage = nameless (with_rule (with_rule (with_rule (common (codes "oblidb"))
+    (valued (codes "store"))) (flag (codes "keep"))) (valued (codes "mark")))
 
 -- the command takes these words
 abbrev pub Parses : App → List Text → Type 0
@@ -57,6 +58,10 @@ is_set (Some text) = bytes_eq text (codes "true")
 -- the name of the store, where the words give one
 abbrev pub store_of : List Text → Option Text
 store_of words = value_of kept_usage words (codes "store")
+
+-- the place of the mark, where the words give one
+abbrev pub mark_of : List Text → Option Text
+mark_of words = value_of kept_usage words (codes "mark")
 
 -- the name where they give none
 abbrev pub default_store : Text

@@ -14,13 +14,14 @@ use Rattle.ob_base.specs.declared.config.Plan.{Plan}
 use Rattle.ob_base.specs.declared.config.Public.{Public}
 use Rattle.ob_base.specs.declared.refusal.Refusal.{Refusal}
 use Rattle.ob_base.specs.declared.refusal.Refusal.TheVariants.{Syntax, StoreFault}
+use Rattle.ob_base.specs.declared.refusal.Stop.{Stop}
 use Rattle.ob_base.specs.declared.refusal.Stop.TheVariants.{Tampered, SourceFault, SinkFault, NoMemory, InputLimit}
 use Rattle.ob_base.specs.declared.seen.End.{End}
 use Rattle.ob_base.specs.declared.seen.End.TheVariants.{Cut}
 use Rattle.ob_base.specs.declared.seen.Seen.{Seen}
-use Rattle.ob_exec.specs.Memory.{AtMake, AtEmission}
+use Rattle.ob_exec.specs.Memory.{AtMake, AtResult, AtEmission}
 use Rattle.ob_exec.specs.Resting.{AcceptsClosings}
-use Rattle.ob_exec.specs.Running.{Emits, refusal_now}
+use Rattle.ob_exec.specs.Running.{Emits, MayEmit, refusal_now}
 use Rattle.ob_exec.specs.Telling.{AcceptsRows, Partly, outcome_of}
 use Rattle.ob_exec.specs.declared.outcome.Outcome.{Outcome}
 use Rattle.ob_exec.specs.declared.outcome.Outcome.TheVariants.{Refused}
@@ -138,6 +139,12 @@ SpellFirst texts [] = ⊤
 SpellFirst [] (x ∷ xs) = ⊥
 SpellFirst (text ∷ texts) (x ∷ xs) = Spells text x × SpellFirst texts xs
 
+-- the statements among what texts spell
+unfoldable pub statements : List Spelt → List Stmt
+statements [] = []
+statements (Ok stmt ∷ spelt) = stmt ∷ statements spelt
+statements (Err at ∷ spelt) = statements spelt
+
 -- ---- answers
 -- how a text was answered, what was printed of it, and the plan that was seen of it, if one was
 pub record Answer : Type 0 where
@@ -181,33 +188,44 @@ abbrev pub Says : Option Refusal → Public → Stmt → Answer → Type 0
 Says None p stmt answer = HasForm p stmt answer
 Says (Some r) p stmt answer = answer ≡ refused_as r
 
--- a stop for want of memory comes before the first access, where a region is made, or where rows are emitted
+-- a stop for want of memory comes before the first access, where a region is made, where rows are emitted, or, of a SELECT
+-- of rows that isn't padded, just before its result is made
 pub record WantsMemory (p : Public) (stmt : Stmt) (seen : Seen) : Type 0 where
   pub rest : List Access
   pub split : script p (skeleton stmt) seen ++ rest ≡ whole_script p (skeleton stmt) seen
-  pub place : AtMake (script p (skeleton stmt) seen) rest ⊎ AtEmission p stmt seen rest
+  pub place : AtMake (script p (skeleton stmt) seen) ⊎ AtResult p stmt seen rest
+      ⊎ AtEmission p stmt seen rest
+
+-- a stop by a sink's fault cuts a statement off only where it may emit rows, unless the store had failed in it
+abbrev pub MeetsSink : (Failed : Type 0) → Stmt → Seen → Type 0
+MeetsSink Failed stmt seen = IsTrue (is_cut seen.end) → MayEmit stmt ⊎ Failed
+
+-- where a run that ended so left the statement that was begun
+abbrev pub StopsWithin : Ending → (Failed : Type 0) → Public → Stmt → Seen → Type 0
+StopsWithin ending Failed p stmt seen =
+    (ending ≡ Ran (Err NoMemory) → WantsMemory p stmt seen)
+    × (ending ≡ Ran (Err SinkFault) → MeetsSink Failed stmt seen)
 
 -- of each statement its skeleton and what is seen of it, which is lawful by what is public before it and m accesses;
 -- its answer is its early refusal, if there is one, says that the store failed exactly where it was cut off, and has the
--- plan that is seen. The one that was begun has no answer.
-unfoldable pub AreSeen : Ending → Public → (m : ℕ) → List Spelt → List Answer → List Served
-    → Type 0
-AreSeen ending p m [] answers seen = seen ≡ []
-AreSeen ending p m (Err at ∷ spelt) [] seen = AreSeen ending p m spelt [] seen
-AreSeen ending p m (Err at ∷ spelt) (one ∷ answers) seen =
-    (one ≡ refused_at at) × AreSeen ending p m spelt answers seen
-AreSeen ending p m (Ok stmt ∷ spelt) answers [] = ⊥
-AreSeen ending p m (Ok stmt ∷ spelt) [] (x ∷ seen) =
-    (x.skeleton ≡ skeleton stmt) × Lawful p m stmt x.seen
-    × (ending ≡ Ran (Err NoMemory) → WantsMemory p stmt x.seen)
-    × AreSeen ending (next p x.skeleton x.seen) (m + length (script p x.skeleton x.seen)) spelt []
+-- plan that is seen. The one that was begun has no answer, and was left so.
+unfoldable pub AreSeen : (Leaves : Public → Stmt → Seen → Type 0) → Public → (m : ℕ) → List Spelt
+    → List Answer → List Served → Type 0
+AreSeen Leaves p m [] answers seen = seen ≡ []
+AreSeen Leaves p m (Err at ∷ spelt) [] seen = AreSeen Leaves p m spelt [] seen
+AreSeen Leaves p m (Err at ∷ spelt) (one ∷ answers) seen =
+    (one ≡ refused_at at) × AreSeen Leaves p m spelt answers seen
+AreSeen Leaves p m (Ok stmt ∷ spelt) answers [] = ⊥
+AreSeen Leaves p m (Ok stmt ∷ spelt) [] (x ∷ seen) =
+    (x.skeleton ≡ skeleton stmt) × Lawful p m stmt x.seen × Leaves p stmt x.seen
+    × AreSeen Leaves (next p x.skeleton x.seen) (m + length (script p x.skeleton x.seen)) spelt []
     seen
-AreSeen ending p m (Ok stmt ∷ spelt) (one ∷ answers) (x ∷ seen) =
+AreSeen Leaves p m (Ok stmt ∷ spelt) (one ∷ answers) (x ∷ seen) =
     (x.skeleton ≡ skeleton stmt) × Lawful p m stmt x.seen
     × (Says (refusal_now p m stmt) p stmt one
     × (IsTrue (is_cut x.seen.end) ↔ (one.outcome ≡ Refused StoreFault))
     × (one.plan ≡ x.seen.plan))
-    × AreSeen ending (next p x.skeleton x.seen) (m + length (script p x.skeleton x.seen)) spelt
+    × AreSeen Leaves (next p x.skeleton x.seen) (m + length (script p x.skeleton x.seen)) spelt
     answers seen
 
 -- ---- what the model answers
@@ -234,19 +252,28 @@ AnswersIn (Some n) s stmt answer =
     CutOff (labels_of stmt (headings_of s.public.tables)) (verdict s.public s.asked s.tables stmt)
     answer
 
+-- what was emitted until a stop is printed; where memory was wanting, maybe for the last of it, a first part
+abbrev pub PrintsUntil : Stop → (part text : List ℕ) → Type 0
+PrintsUntil NoMemory part text = IsCutOf part text
+PrintsUntil _ part text = part ≡ text
+
+abbrev pub PrintsTo : Ending → (part text : List ℕ) → Type 0
+PrintsTo (Ran (Err stop)) part text = PrintsUntil stop part text
+PrintsTo _ part text = part ≡ text
+
 -- of the one begun: it was stopped after n of its accesses, of which the last was refused as tampered or none was, and
--- what was printed is cut from a first part of its header and rows
-pub record StopsAt (tampered : Bool) (s : Session) (stmt : Stmt) (here : Seen)
+-- a first part of its header and rows was emitted until then
+pub record StopsAt (ending : Ending) (s : Session) (stmt : Stmt) (here : Seen)
     (part : List ℕ) : Type 0 where
   pub started : early_refusal (is_late s.asked) s.public.pack s.public.buffer (headings s.tables)
       stmt ≡ None
   pub n : ℕ
   pub within : n ≤ length (whole_script s.public (skeleton stmt) (seen_now s stmt))
-  pub seen : here ≡ cut_at tampered n s.public (skeleton stmt) (seen_now s stmt)
+  pub seen : here ≡ cut_at (is_tampered ending) n s.public (skeleton stmt) (seen_now s stmt)
   pub events : List Event
   pub begun : Partly (labels_of stmt (headings_of s.public.tables))
       (verdict s.public s.asked s.tables stmt) events
-  pub printed : IsCutOf part (events_text events)
+  pub printed : PrintsTo ending part (events_text events)
 
 -- or it was answered, and a sink failed within its last line or after it
 pub record AnswersLast (s : Session) (stmt : Stmt) (here : Seen) (part : List ℕ) : Type 0 where
@@ -261,7 +288,7 @@ abbrev pub BeginsAnswer : Ending → Session → Spelt → List Served → (part
 BeginsAnswer ending s (Err at) seen part = part ≡ (refused_at at).bytes
 BeginsAnswer ending s (Ok stmt) [] part = ⊥
 BeginsAnswer ending s (Ok stmt) (x ∷ seen) part =
-    StopsAt (is_tampered ending) s stmt x.seen part ⊎ AnswersLast s stmt x.seen part
+    StopsAt ending s stmt x.seen part ⊎ AnswersLast s stmt x.seen part
 
 -- from a session of the model on: these statements, of which the store cut some off, each at one of its accesses, are
 -- answered so, this is seen of each, and what was printed after them is a first part of the next answer
@@ -280,7 +307,7 @@ Answers ending s (Ok stmt ∷ spelt) broken (one ∷ more) (x ∷ seen) part =
 -- ---- nothing lies in clear
 -- blocks of this many rows or dummies pass this test of bytes
 abbrev pub PassesRows : (good : List ℕ → Bool) → (pack : ℕ) → Type 0
-PassesRows good pack = AcceptsRows (λ region. good) pack
+PassesRows good pack = AcceptsRows (λ region. good) pack × AcceptsRows (λ region. good) 1
 
 -- and so do those of closings, where one was opened
 abbrev pub PassesWith : Option Opened → (pack : ℕ) → (good : List ℕ → Bool) → Type 0

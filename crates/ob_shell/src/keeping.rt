@@ -264,7 +264,7 @@ fn serve_run<R: Revisions, I: Source, O: Sink, T: Sink, S: BlockStore, K: Keeper
     requires fed_by { IsFedBy feed.old (I.gave input.old) }
     ensures served { (base : Base) (config : Config) (key : List ℕ)
         → Engages R.state base config key engine (S.state store.old)
-        → ServesRun base key tracing result feed.old feed.new
+        → ServesRun R.state base key tracing result feed.old feed.new
         (I.left input.old) (I.left input.new) (I.gave input.new)
         (O.written out.old) (O.written out.new) (T.written trace.old) (T.written trace.new)
         (S.state store.old) (S.state store.new)

@@ -1,23 +1,24 @@
 //! What follows of whole runs, and how bytes are cut into texts.
-ghost use Rattle.std.specs.Prelude.{◌≡◌, ◌++◌, List, [], ℕ, IsSome, Option, Some, false};
-ghost use Rattle.clap.specs.Words.{Text};
+ghost use Rattle.std.specs.Prelude.{◌≡◌, ◌++◌, Bool, List, [], ℕ, IsSome, Option, Some, false};
+ghost use Rattle.clap.specs.Words.{App, Text};
 ghost use Rattle.ob_base.specs.declared.config.Public.{Public};
 ghost use Rattle.ob_base.specs.declared.mark.Mark.{Mark};
 ghost use Rattle.ob_base.specs.declared.mark.Mark.TheVariants.{Fresh};
 ghost use Rattle.ob_base.specs.declared.seen.Seen.{Seen};
 ghost use Rattle.ob_mean.specs.Lawful.{Lawful};
 ghost use Rattle.ob_reopen.specs.Keepers.{KeeperState};
-ghost use Rattle.ob_shell.specs.Bases.{public_with};
+ghost use Rattle.ob_shell.specs.Bases.{Base, public_with};
 ghost use Rattle.ob_shell.specs.Failures.{failures};
+ghost use Rattle.ob_shell.specs.Headline.{Headline};
 ghost use Rattle.ob_shell.specs.KeptMarks.{HeldAfter, KeptRun};
 ghost use Rattle.ob_shell.specs.KeptRuns.{AnswerAsOne, AnyRun, AreChained, GoOn, NumberOn, OneRun};
 ghost use Rattle.ob_shell.specs.Pieces.{BeginsWith};
-ghost use Rattle.ob_shell.specs.Reruns.{Alike, EndsWell, IsPlain, ShellRun, ShowAlike};
-ghost use Rattle.ob_shell.specs.Reruns.{any_counted, plainly, statements};
-ghost use Rattle.ob_shell.specs.Settings.{settings_of};
+ghost use Rattle.ob_shell.specs.Reruns.{Alike, AsksByKinds, EndsWell, IsPlain, ShellRun};
+ghost use Rattle.ob_shell.specs.Reruns.{ShowAlike, any_counted, plainly};
+ghost use Rattle.ob_shell.specs.Settings.{IsTaken, MeddleParses, settings_of};
 ghost use Rattle.ob_shell.specs.Texts.{is_over, rest_of, texts_of};
 ghost use Rattle.ob_shell.specs.Usage.{usage};
-ghost use Rattle.ob_shell.specs.Words.{Outside, is_cut};
+ghost use Rattle.ob_shell.specs.Words.{Outside, is_cut, statements};
 ghost use Rattle.ob_shell.specs.declared.top.Report.{Report};
 ghost use Rattle.ob_sql.specs.declared.stmt.Stmt.{Stmt};
 ghost use Rattle.ob_store.specs.State.{KeptRegion};
@@ -106,4 +107,17 @@ pub fn runs_answer_as_one()
 /// stores, whatever became of them: those of a run are greater than those of all runs before it.
 pub fn numbers_go_on()
     ensures { (runs : List AnyRun) → AreChained (Some Fresh) runs → NumberOn 0 runs }
+{}
+
+/// Whatever a store answers and however a run ends, where no text was answered that the store failed, and no statement is
+/// a SELECT of rows or results are padded, it asks a first part of what follows from the skeletons of its statements, and
+/// from which are refused before any access, alone: from no tables or from those of an earlier run, by the words of any
+/// program, with `--meddle` among them or without.
+pub fn asks_by_kinds()
+    ensures taken { (base : Base) (app : App) (words : List Text) (tracing : Bool)
+        (old new : Outside) (report : Report)
+        (run : Headline base (IsTaken app words) tracing old new report) → AsksByKinds run }
+    ensures meddled { (base : Base) (words : List Text) (tracing : Bool)
+        (old new : Outside) (report : Report)
+        (run : Headline base (MeddleParses words) tracing old new report) → AsksByKinds run }
 {}

@@ -24,6 +24,6 @@ pub use session::{Halted, serve};
 pub use top::{Ended, Ending, Report, meddle_top, shell_top};
 pub use trace::trace_from;
 pub use words::{
-    KeptWords, MeddleWords, Seed, Words, WordsErr, read_kept_words, read_meddle_words, read_words,
-    store_name,
+    KeptWords, MeddleWords, Seed, Words, WordsErr, mark_place, read_kept_words, read_meddle_words,
+    read_words, store_name,
 };

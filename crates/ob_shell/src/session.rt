@@ -4,7 +4,7 @@ ghost use Rattle.ob_base.specs.declared.access.Access.{Access};
 ghost use Rattle.ob_shell.specs.Texts.{text_max, is_over, rest_after, texts_at, tail_text};
 ghost use Rattle.ob_shell.specs.Steps.{machine_of, IsReady, HasBody, AnswersAll, StopsIn};
 ghost use Rattle.ob_shell.specs.Feeding.{IsFedBy};
-ghost use Rattle.ob_shell.specs.Running.{IsQuiet, SessionRan, Silenced, StopCause, is_quiet, stop_of};
+ghost use Rattle.ob_shell.specs.Running.{IsQuiet, OutFailed, SessionRan, Silenced, StopCause, is_quiet, stop_of};
 ghost use Rattle.ob_shell.specs.Tracing.{TracedAll, Traced};
 ghost use Rattle.ob_shell.specs.Closing;
 ghost use Rattle.ob_shell.specs.Tallies;
@@ -107,7 +107,9 @@ fn run_stmt<R: Revisions, S: BlockStore, K: Sink>(
         (K.written printer.new.out.out.now) text.now a.outcome a.plan
         (machine_of engine.old (S.state store.old)) (machine_of engine.new (S.state store.new))) }
     ensures stopped { IfErr result (λ halted. StopsIn R.state (K.written printer.old.out.out.now)
-        (K.written printer.new.out.out.now) (text.now ∷ []) halted.stop
+        (K.written printer.new.out.out.now) (OutFailed halted.quiet
+        (K.faults printer.old.out.out.now) (K.faults printer.new.out.out.now))
+        (text.now ∷ []) halted.stop
         (machine_of engine.old (S.state store.old)) (machine_of engine.new (S.state store.new))) }
     ensures asked { (seen : List Access) × ((S.state store.new).asked
         ≡ (S.state store.old).asked ++ seen) }
@@ -151,7 +153,8 @@ fn run_text<R: Revisions, S: BlockStore, K: Sink>(
         (K.written out.new) text.now a.outcome a.plan
         (machine_of engine.old (S.state store.old)) (machine_of engine.new (S.state store.new))) }
     ensures stopped { IfErr result (λ halted. StopsIn R.state (K.written out.old)
-        (K.written out.new) (text.now ∷ []) halted.stop
+        (K.written out.new) (OutFailed halted.quiet (K.faults out.old) (K.faults out.new))
+        (text.now ∷ []) halted.stop
         (machine_of engine.old (S.state store.old)) (machine_of engine.new (S.state store.new))) }
     ensures asked { (seen : List Access) × ((S.state store.new).asked
         ≡ (S.state store.old).asked ++ seen) }
@@ -203,7 +206,8 @@ fn answer<R: Revisions, S: BlockStore, K: Sink>(
         (K.written out.new) (text.now ∷ []) tally counted
         (machine_of engine.old (S.state store.old)) (machine_of engine.new (S.state store.new))) }
     ensures stopped { IfErr result (λ halted. StopsIn R.state (K.written out.old)
-        (K.written out.new) (text.now ∷ []) halted.stop
+        (K.written out.new) (OutFailed halted.quiet (K.faults out.old) (K.faults out.new))
+        (text.now ∷ []) halted.stop
         (machine_of engine.old (S.state store.old)) (machine_of engine.new (S.state store.new))) }
     ensures asked { (seen : List Access) × ((S.state store.new).asked
         ≡ (S.state store.old).asked ++ seen) }
@@ -241,7 +245,8 @@ fn answer_traced<R: Revisions, S: BlockStore, K: Sink, T: Sink>(
         (K.written out.new) (text.now ∷ []) tally counted
         (machine_of engine.old (S.state store.old)) (machine_of engine.new (S.state store.new))) }
     ensures stopped { IfErr result (λ halted. StopsIn R.state (K.written out.old)
-        (K.written out.new) (text.now ∷ []) halted.stop
+        (K.written out.new) (OutFailed halted.quiet (K.faults out.old) (K.faults out.new))
+        (text.now ∷ []) halted.stop
         (machine_of engine.old (S.state store.old)) (machine_of engine.new (S.state store.new))) }
     ensures traced { OnOk result (TracedAll tracing (S.state store.old).asked
         (S.state store.new).asked (T.written trace.old) (T.written trace.new)) }
@@ -289,7 +294,8 @@ fn turn<R: Revisions, S: BlockStore, K: Sink, T: Sink>(
         (texts_at session.old.pending b) session.old.tally session.new.tally
         (machine_of engine.old (S.state store.old)) (machine_of engine.new (S.state store.new))) }
     ensures stopped { IfErr result (λ halted. StopsIn R.state (K.written out.old)
-        (K.written out.new) (texts_at session.old.pending b) halted.stop
+        (K.written out.new) (OutFailed halted.quiet (K.faults out.old) (K.faults out.new))
+        (texts_at session.old.pending b) halted.stop
         (machine_of engine.old (S.state store.old)) (machine_of engine.new (S.state store.new))) }
     ensures traced { OnOk result (TracedAll tracing (S.state store.old).asked
         (S.state store.new).asked (T.written trace.old) (T.written trace.new)) }
@@ -356,7 +362,8 @@ fn finish<R: Revisions, S: BlockStore, K: Sink, T: Sink>(
         (K.written out.new) (tail_text session.now.pending) session.now.tally counted
         (machine_of engine.old (S.state store.old)) (machine_of engine.new (S.state store.new))) }
     ensures stopped { IfErr result (λ halted. StopsIn R.state (K.written out.old)
-        (K.written out.new) (tail_text session.now.pending) halted.stop
+        (K.written out.new) (OutFailed halted.quiet (K.faults out.old) (K.faults out.new))
+        (tail_text session.now.pending) halted.stop
         (machine_of engine.old (S.state store.old)) (machine_of engine.new (S.state store.new))) }
     ensures traced { OnOk result (TracedAll tracing (S.state store.old).asked
         (S.state store.new).asked (T.written trace.old) (T.written trace.new)) }
@@ -403,7 +410,7 @@ pub fn serve<I: Source, R: Revisions, S: BlockStore, K: Sink, T: Sink>(
         (I.left input.old) (I.left input.new) (I.gave input.new)
         (K.written out.old) (K.written out.new) (T.written trace.old) (T.written trace.new)
         (machine_of engine.old (S.state store.old)) (machine_of engine.new (S.state store.new))
-        (stop_of result) }
+        (OutFailed (is_quiet result) (K.faults out.old) (K.faults out.new)) (stop_of result) }
     ensures within { feed.new.taken ≤ feed.new.limit }
     ensures fed_by { IsFedBy feed.new (I.gave input.new) }
     ensures traced { Traced tracing (S.state store.old).asked (S.state store.new).asked

@@ -9,7 +9,7 @@ ghost use Rattle.ob_shell.specs.Meddling.{Unserved};
 ghost use Rattle.ob_shell.specs.Generating.{MeddleRan, Summarized, asked_for};
 ghost use Rattle.ob_shell.specs.declared.words.Seed.{Seed};
 ghost use Rattle.ob_shell.specs.Feeding.{IsFedBy};
-ghost use Rattle.ob_shell.specs.Running.{IsQuiet, Silenced, StopCause, is_quiet, stop_of};
+ghost use Rattle.ob_shell.specs.Running.{IsQuiet, OutFailed, Silenced, StopCause, is_quiet, stop_of};
 ghost use Rattle.ob_meddle.specs.Shows.{state_of};
 ghost use Rattle.ob_gen.specs.Tally.{empty_tally};
 ghost use Rattle.ob_gen.specs.declared.tally.Tally.{Tally};
@@ -17,7 +17,6 @@ ghost use Rattle.ob_shell.specs.Headline.{Headline};
 ghost use Rattle.ob_shell.specs.Tallies.{flagged};
 ghost use Rattle.ob_shell.specs.Tracing.{Traced};
 ghost use Rattle.ob_shell.specs.Endings;
-ghost use Rattle.ob_shell.specs.Endings.{SinkStopped};
 ghost use Rattle.ob_shell.specs.Top.{EndingCause, RanAfter, Reported, Shown, sink_of};
 ghost use Rattle.ob_shell.specs.Words.{SinksRose, faults_of, outside_of};
 
@@ -34,7 +33,7 @@ use ob_meddle::MeddledStore;
 use ob_print::{Line, stop_line, write_all};
 use ob_seal::Keys;
 use ob_store::BlockStore;
-use ob_vault::BaseRevs;
+use ob_vault::{BaseRevs, Revisions};
 use std::alloc::Global;
 
 /// How a run ended.
@@ -143,12 +142,14 @@ fn serve_with<I: Source, O: Sink, T: Sink, S: BlockStore>(
     requires taken { feed.old.taken ≤ feed.old.limit }
     requires fed_by { IsFedBy feed.old (I.gave input.old) }
     requires fresh { (S.state store.old).asked ≡ [] }
-    ensures ran { RanAfter (sink_of words.trace (T.written trace.old) (T.written trace.new))
+    ensures ran { RanAfter ⟦<BaseRevs as Revisions>⟧.state
+        (sink_of words.trace (T.written trace.old) (T.written trace.new))
         (fresh (Some words.config)) (Some key.now)
         feed.old feed.new
         (I.left input.old) (I.left input.new) (I.gave input.new)
         (O.written out.old) (O.written out.new)
-        (S.state store.old) (S.state store.new) result.1 (stop_of result.0) }
+        (S.state store.old) (S.state store.new) result.1
+        (OutFailed (is_quiet result.0) (O.faults out.old) (O.faults out.new)) (stop_of result.0) }
     ensures within { feed.new.taken ≤ feed.new.limit }
     ensures fed_by { IsFedBy feed.new (I.gave input.new) }
     ensures traced { Traced words.trace (S.state store.old).asked (S.state store.new).asked
@@ -199,7 +200,8 @@ pub(crate) fn run<I: Source, O: Sink, T: Sink, S: BlockStore>(
         (I.left input.old) (I.left input.new) (I.gave input.new)
         (O.written out.old) (O.written out.new)
         (S.state store.old) (S.state store.new)
-        result.high result.ending [] (SinkStopped result.ending) }
+        result.high result.ending []
+        (OutFailed result.quiet (O.faults out.old) (O.faults out.new)) }
     ensures words { result.ending ≢ Ending.Usage }
     ensures traced { Traced words.trace (S.state store.old).asked (S.state store.new).asked
         (T.written trace.old) (T.written trace.new) (result.quiet ≡ true) }

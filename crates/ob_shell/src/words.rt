@@ -6,12 +6,12 @@ ghost use Rattle.clap.specs.declared.error.kind.ErrorKind.TheVariants.{OutOfMemo
 ghost use Rattle.ob_base.specs.Plans.{MayPad};
 ghost use Rattle.ob_meddle.specs.Changes.{number};
 ghost use Rattle.ob_shell.specs.Settings.{AreWithin, at_least, may_pad, number_in, pad_in, plan_in};
-ghost use Rattle.ob_shell.specs.Settings.{settings_by};
+ghost use Rattle.ob_shell.specs.Settings.{may_mark, settings_by, settings_in};
 ghost use Rattle.ob_shell.specs.Settings.{generated_by, seed_in, seed_of, words_by};
 ghost use Rattle.ob_shell.specs.Settings.{ParsesAs, IsTaken, ParsesChanges, MeddleParses};
 ghost use Rattle.clap.specs.Words.{Text};
 ghost use Rattle.ob_shell.specs.Usage.{common, usage, meddle_usage, flag, valued, is_set, is_traced, changes_in};
-ghost use Rattle.ob_shell.specs.Usage.{default_store, is_kept, kept_usage, store_of};
+ghost use Rattle.ob_shell.specs.Usage.{default_store, is_kept, kept_usage, mark_of, store_of, value_of};
 
 use clap::error::ErrorKind;
 use clap::{Arg, ArgAction, ArgMatches, Command, Error};
@@ -115,7 +115,8 @@ fn kept_command<'a>(alloc: Global) -> Result<Command<'a>, AllocError>
 {
     let command = common(alloc, "oblidb")?
         .arg(valued(alloc, "store"))?
-        .arg(flag(alloc, "keep"))?;
+        .arg(flag(alloc, "keep"))?
+        .arg(valued(alloc, "mark"))?;
     Ok(command.no_binary_name(true))
 }
 
@@ -247,9 +248,19 @@ fn copied(alloc: Global, text: &str) -> Result<String, NoMemory>
     }
 }
 
-// The settings that the values spell.
-fn settings(matches: &ArgMatches) -> Option<Config>
-    ensures settings { result ≡ settings_by (first_value (found_of matches.now)) }
+// The same, of a text that is there.
+fn some_copy(alloc: Global, text: &str) -> Result<Option<String>, NoMemory>
+    ensures { IfOk result (λ s. option_map string_bytes s ≡ Some text.now) }
+{
+    match copied(alloc, text) {
+        Ok(copy) => Ok(Some(copy)),
+        Err(error) => Err(error),
+    }
+}
+
+// The settings that the values spell, whatever other words are given.
+fn settings_in(matches: &ArgMatches) -> Option<Config>
+    ensures settings { result ≡ settings_in (first_value (found_of matches.now)) }
     ensures within { IfSome result AreWithin }
 {
     let buffer = number_in(4, 65_536, 64, matches.get_str("buffer"))?;
@@ -272,6 +283,28 @@ fn settings(matches: &ArgMatches) -> Option<Config>
         pad,
         max_input: max_input as u64,
     })
+}
+
+// Whether a place of the mark may be given, where one is: the tables have to be kept.
+fn may_mark(place: Option<&str>, keeps: bool) -> bool
+    ensures { result ≡ may_mark (option_map (λ t. t.now) place.entry) keeps }
+{
+    match place {
+        None => true,
+        Some(_) => keeps,
+    }
+}
+
+// The settings that the values spell.
+fn settings(matches: &ArgMatches) -> Option<Config>
+    ensures settings { result ≡ settings_by (first_value (found_of matches.now)) }
+    ensures within { IfSome result AreWithin }
+{
+    if may_mark(matches.get_str("mark"), is_set(matches.get_str("keep"))) {
+        settings_in(matches)
+    } else {
+        None
+    }
 }
 
 // What the values spell that every program takes.
@@ -377,6 +410,34 @@ pub fn read_meddle_words(alloc: Global, words: &[String]) -> Result<MeddleWords,
     }
 }
 
+// The value that the words of a program that may keep its tables give a name; none where they are none that it takes.
+fn given(alloc: Global, words: &[String], name: &str) -> Result<Option<String>, NoMemory>
+    ensures given { (text : Text) → IsTaken kept_usage (map string_bytes words.now)
+        → value_of kept_usage (map string_bytes words.now) name.now ≡ Some text
+        → IfOk result (λ value. option_map string_bytes value ≡ Some text) }
+    ensures none { (IsTaken kept_usage (map string_bytes words.now)
+        → value_of kept_usage (map string_bytes words.now) name.now ≡ None)
+        → IfOk result (λ value. option_map string_bytes value ≡ None) }
+{
+    let Ok(command) = kept_command(alloc) else {
+        return Err(NoMemory);
+    };
+    let matches = match command.try_get_matches_from(words) {
+        Ok(matches) => matches,
+        Err(error) => match words_err(&error) {
+            WordsErr::NoMemory => return Err(NoMemory),
+            WordsErr::Usage => return Ok(None),
+        },
+    };
+    let Some(_) = common_words(&matches) else {
+        return Ok(None);
+    };
+    match matches.get_str(name) {
+        Some(text) => some_copy(alloc, text),
+        None => Ok(None),
+    }
+}
+
 /// The name of the store that the words of a program over a store give, the program's name left out; `oblidb-store`
 /// where they give none, and where they are none that the program takes.
 pub fn store_name(alloc: Global, words: &[String]) -> Result<String, NoMemory>
@@ -387,21 +448,22 @@ pub fn store_name(alloc: Global, words: &[String]) -> Result<String, NoMemory>
         → store_of (map string_bytes words.now) ≡ None)
         → IfOk result (λ s. string_bytes s ≡ default_store) }
 {
-    let Ok(command) = kept_command(alloc) else {
-        return Err(NoMemory);
-    };
-    let matches = match command.try_get_matches_from(words) {
-        Ok(matches) => matches,
-        Err(error) => match words_err(&error) {
-            WordsErr::NoMemory => return Err(NoMemory),
-            WordsErr::Usage => return copied(alloc, STORE),
-        },
-    };
-    let Some(_) = common_words(&matches) else {
-        return copied(alloc, STORE);
-    };
-    match matches.get_str("store") {
-        Some(name) => copied(alloc, name),
-        None => copied(alloc, STORE),
+    match given(alloc, words, "store") {
+        Ok(Some(name)) => Ok(name),
+        Ok(None) => copied(alloc, STORE),
+        Err(error) => Err(error),
     }
+}
+
+/// The place of the mark that the words of a program over a store give, the program's name left out, if they give one;
+/// none where they are none that the program takes.
+pub fn mark_place(alloc: Global, words: &[String]) -> Result<Option<String>, NoMemory>
+    ensures placed { (place : Text) → IsTaken kept_usage (map string_bytes words.now)
+        → mark_of (map string_bytes words.now) ≡ Some place
+        → IfOk result (λ p. option_map string_bytes p ≡ Some place) }
+    ensures unplaced { (IsTaken kept_usage (map string_bytes words.now)
+        → mark_of (map string_bytes words.now) ≡ None)
+        → IfOk result (λ p. option_map string_bytes p ≡ None) }
+{
+    given(alloc, words, "mark")
 }

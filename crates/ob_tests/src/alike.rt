@@ -3,10 +3,10 @@ ghost use Rattle.std.specs.Prelude.{◌≡◌, ◌⊎◌, [], IsSome, None, fals
 ghost use Rattle.ob_shell.specs.Bases.{public_with};
 ghost use Rattle.ob_shell.specs.Failures.{failures};
 ghost use Rattle.ob_shell.specs.Generating.{asked_for};
-ghost use Rattle.ob_shell.specs.Reruns.{Alike, EndsWell, ShellRun, any_counted, statements};
+ghost use Rattle.ob_shell.specs.Reruns.{Alike, EndsWell, ShellRun, any_counted};
 ghost use Rattle.ob_shell.specs.Settings.{settings_of};
 ghost use Rattle.ob_shell.specs.Usage.{usage};
-ghost use Rattle.ob_shell.specs.Words.{faults_of, outside_of};
+ghost use Rattle.ob_shell.specs.Words.{faults_of, outside_of, statements};
 
 use ob_io::{Sink, Source};
 use ob_shell::{Report, padded_reruns_ask_the_same, reruns_ask_the_same, shell_top};

@@ -1,7 +1,18 @@
-use Rattle.std.proofs.Common.{Ok, inl, inr, refl, ◌∙◌}
+use Rattle.std.proofs.Common.{Err, Ok, inl, inr, refl, ◌∙◌}
 use Rattle.ob_base.specs.declared.refusal.Stop.TheVariants.{SinkFault}
-use Rattle.ob_shell.proofs.EngageLemmas.{closes_run, not_plain}
+use Rattle.ob_shell.proofs.EngageLemmas.{closes_run, closing_after, not_plain}
+use Rattle.ob_shell.proofs.KeptLemmas.{closing_stops}
 use Rattle.ob_shell.proofs.keeping.close_run.Goals as goal
+
+pub trace_from-requires-in-Ok : goal.trace_from-requires-in-Ok
+trace_from-requires-in-Ok g c = closing_after (Ok c.in-Ok.mark) c.args.engine _ _ c.in-Ok.ensures.closes c.count-from.result c.count-from.ensures
+
+pub returns-in-Err : goal.returns-in-Err
+returns-in-Err g c =
+    let traces = c.trace_from.ensures in
+    rw (c.kept_at.ensures, c.closing_end.ensures)
+    (closes_run c.args.tally c.args.tracing c.args.engine _ _ _ _ _ _ _ _ _ (Err c.in-Err.error) c.in-Err.ensures.closes c.trace_from.result c.count-from.result c.count-from.ensures traces.cut traces.cause (refl, refl)
+    c.is_err-quiet.ensures.value c.requires.high (λ other. absurd (closing_stops c.in-Err.error _ other)))
 
 pub returns-in-Err-trace_from : goal.returns-in-Err-trace_from
 returns-in-Err-trace_from g c =

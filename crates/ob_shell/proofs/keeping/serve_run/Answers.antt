@@ -18,5 +18,5 @@ returns-in-Err-clause-served g c base config key engages =
     let ran = c.in-Err.ensures in
     let ended = c.ended_with.ensures in
     inl (rw c.plainly.ensures
-    (serves_stop _ base config key _ _ _ _ engages c.high.result c.high.ensures.most c.high.ensures.value c.args.tracing _ _ _ _ _ _ _ _ _ c.in-Err.halted.stop _ _ _ _ ended.high ran.ran
+    (serves_stop _ base config key _ c.serve.new.engine _ _ engages c.high.result c.high.ensures.most c.high.ensures.value c.args.tracing _ _ _ _ _ _ _ _ _ c.in-Err.halted.stop _ _ _ _ ended.high (rw ended.quiet ran.ran)
     (rw ended.quiet ran.traced) ran.cause (rw ended.quiet ran.quiet) (rw ended.ending refl)))

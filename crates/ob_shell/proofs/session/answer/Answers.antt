@@ -1,7 +1,8 @@
-use Rattle.std.proofs.Common.{refl, inr, ◌∙◌, ◌++◌}
+use Rattle.std.proofs.Common.{refl, inr, ◌∙◌, ◌++◌, arith}
 use Rattle.std.proofs.KnownBytes.{Appends-trans}
 use Rattle.ob_print.proofs.CutLemmas.{Cut-after, Cut-fault}
 use Rattle.ob_shell.specs.Closing.{closing_line}
+use Rattle.ob_shell.proofs.CountLemmas.{rises_earlier}
 use Rattle.ob_shell.proofs.StepLemmas.{answers_one}
 use Rattle.ob_shell.proofs.session.answer.Goals as goal
 
@@ -20,5 +21,5 @@ returns-in-Err-write_all-clause-stopped g c =
     record {
       bytes = body.body ++ closing_line c.in-Ok.answered.outcome;
       partly = inr (inr (record { answer = record { outcome = c.in-Ok.answered.outcome; bytes = body.body ++ closing_line c.in-Ok.answered.outcome; plan = c.in-Ok.answered.plan }; step = body.step; whole = refl; fault = tt }));
-      cut = Cut-after _ body.appends (Cut-fault tt (rw line at c.in-Err-write_all.ensures.cut));
+      cut = Cut-after _ body.appends (Cut-fault (refl, rises_earlier _ _ _ (omega (arith, c.in-Ok.ensures.cause.out)) c.in-Err-write_all.ensures.cause.failed) (rw line at c.in-Err-write_all.ensures.cut));
     }

@@ -1,7 +1,9 @@
-use Rattle.std.proofs.Common.{◌≡◌, false, true, inl, inr, ap}
+use Rattle.std.proofs.Common.{◌≡◌, false, true, ap, arith, refl}
 use Rattle.ob_base.specs.declared.seen.Seen.{Seen}
-use Rattle.ob_print.proofs.SentLemmas.{Sends-cut, flushed_cut, flushed_whole}
-use Rattle.ob_shell.proofs.ServeLemmas.{answered_by, finished_by, flush_silences, stop_cause, stopped_by}
+use Rattle.ob_print.proofs.CutLemmas.{Cut-by}
+use Rattle.ob_print.proofs.SentLemmas.{Sends-cut, flushed, flushed_cut, flushed_whole}
+use Rattle.ob_shell.proofs.CountLemmas.{rises_earlier}
+use Rattle.ob_shell.proofs.ServeLemmas.{answered_by, failed_by, finished_by, flush_loses, flush_silences, stop_cause, stopped_by}
 use Rattle.ob_print.specs.Rows.{events_text}
 use Rattle.ob_shell.specs.declared.session.Answered.{Answered}
 use Rattle.ob_shell.proofs.session.run_stmt.Goals as goal
@@ -14,25 +16,20 @@ returns-in-Ok-flush-clause-answered g c =
 
 pub returns-in-Err-flush-clause-stopped : goal.returns-in-Err-flush-clause-stopped
 returns-in-Err-flush-clause-stopped g c =
-    finished_by _ _ _ _ _ _ _ _ c.args.stmt.now _ _ c.args.text.now c.requires.spells c.in-Ok.outcome c.in-Ok.ensures.serves
+    finished_by _ _ _ _ _ _ _ _ c.args.stmt.now _ _ c.args.text.now c.requires.spells c.in-Ok.outcome c.in-Ok.ensures.serves (refl, rises_earlier _ _ _ (omega (arith, c.in-Ok.ensures.serves.sink)) c.in-Err-flush.ensures.cause.failed)
     (λ events took. flushed_cut (events_text events) c.requires.none took.0 c.flush.ensures.cut)
 
 pub returns-in-SinkFault-clause-stopped : goal.returns-in-SinkFault-clause-stopped
 returns-in-SinkFault-clause-stopped g c =
-    rw (← c.in-SinkFault.is)
-    (stopped_by _ _ _ _ _ _ _ _ c.args.stmt.now _ _ c.args.text.now c.requires.spells c.in-Err.stop c.in-Err.ensures.serves
-    (λ events either. elim either [
-      | inl took ↦ Sends-cut (events_text events) c.requires.none took.0
-      | inr began ↦ Sends-cut (events_text events) c.requires.none began.0
-    ]))
+    let serves = rw c.in-SinkFault.is at c.in-Err.ensures.serves in
+    failed_by _ _ _ _ _ _ _ _ c.args.stmt.now _ _ c.args.text.now c.requires.spells serves (refl, serves.sink) (λ events began. Sends-cut (events_text events) c.requires.none began.0)
 
 pub returns-in_default-clause-stopped : goal.returns-in_default-clause-stopped
 returns-in_default-clause-stopped g c =
-    stopped_by _ _ _ _ _ _ _ _ c.args.stmt.now _ _ c.args.text.now c.requires.spells c.in-Err.stop c.in-Err.ensures.serves
-    (λ events either. elim either [
-      | inl took ↦ flushed_cut (events_text events) c.requires.none took.0 c.flush-in_default.ensures.cut
-      | inr began ↦ flushed_cut (events_text events) c.requires.none began.0 c.flush-in_default.ensures.cut
-    ])
+    let lost = flush_loses c.in-Err.stop c.flush-in_default.result c.is_err-quiet.result _ _ _ c.in_default.not-SinkFault c.in-Err.ensures.serves.sink c.is_err-quiet.ensures.value c.flush-in_default.ensures.cause in
+    stopped_by _ _ _ _ _ _ _ _ c.args.stmt.now _ _ c.args.text.now c.requires.spells c.in-Err.stop c.in_default.not-SinkFault c.in-Err.ensures.serves
+    (λ events took. Cut-by lost (flushed (events_text events) c.requires.none took.0 c.flush-in_default.ensures.cut))
+    (λ events began. flushed_cut (events_text events) c.requires.none began.0 c.flush-in_default.ensures.cut)
 
 pub returns-in_default-clause-cause : goal.returns-in_default-clause-cause
 returns-in_default-clause-cause g c = stop_cause Answered c.in-Err.stop _ _ _ c.in-Err.ensures.serves.sink c.flush-in_default.ensures.cause.later

@@ -1,6 +1,8 @@
 use Rattle.std.proofs.Common.{arith, ◌∙◌, refl}
+use Rattle.ob_shell.proofs.CountLemmas.{lost_since}
 use Rattle.ob_shell.proofs.FeedLemmas.{fed_smaller}
 use Rattle.ob_shell.proofs.RunLemmas.{so_far_start, so_far_end, so_far_turn, ran_source_fault, ran_input_limit, ran_finish, ran_turn, traced_by}
+use Rattle.ob_shell.proofs.StepLemmas.{stops_by}
 use Rattle.ob_shell.proofs.TraceLemmas.{traced_none, traced_then, traced_cut}
 use Rattle.ob_shell.proofs.session.serve.Goals as goal
 
@@ -31,13 +33,13 @@ returns-in-Ok-None-clause-ran g c =
     let fetch = rw c.in-Ok-None.field-0-is at c.in-Ok-None.ensures in
     let done = c.finish.ensures in
     ran_finish c.finish.result (so_far_end c.bytes.invariant.so_far fetch.fed) fetch.cause.1 fetch.cause.2 fetch.cause.3
-    c.bytes.invariant.short done.answered done.stopped done.source done.limit _ c.bytes.invariant.traced done.traced done.traced_stop
+    c.bytes.invariant.short done.answered done.stopped c.bytes.invariant.sink done.source done.limit _ c.bytes.invariant.traced done.traced done.traced_stop
 
 pub returns-in-Err-clause-ran : goal.returns-in-Err-clause-ran
 returns-in-Err-clause-ran g c =
     let fetch = rw c.in-Ok-Some.field-0-is at c.in-Ok-Some.ensures in
     let turn = c.in-Err.ensures in
-    ran_turn c.in-Err.halted.stop c.bytes.invariant.so_far fetch.fed fetch.cause.2 turn.stopped turn.source turn.limit _ c.bytes.invariant.traced turn.traced_stop
+    ran_turn c.in-Err.halted.stop c.bytes.invariant.so_far fetch.fed fetch.cause.2 (stops_by (lost_since c.bytes.invariant.sink) turn.stopped) turn.source turn.limit _ c.bytes.invariant.traced turn.traced_stop
 
 pub bytes-smaller : goal.bytes-smaller
 bytes-smaller g c =

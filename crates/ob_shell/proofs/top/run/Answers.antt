@@ -53,6 +53,6 @@ returns-in-Ok-Secret-clause-shown g c =
     let new = c.new-feed.ensures in
     let read = rw c.in-Ok-Secret.field-0-is at c.in-Ok-Secret.ensures in
     let ended = c.ended_with.ensures in
-    rw (ended.ending, ended.high)
+    rw (ended.ending, ended.high, ended.quiet)
     (shown_ran _ c.in-Ok-Secret.key (stop_of c.serve_with-ran.result.0) new.unread new.taken new.limit c.serve_with-ran.ensures.within c.serve_with-ran.ensures.fed_by read.read c.serve_with-ran.ensures.ran
     ended.tally)
