@@ -64,7 +64,8 @@ session("nobody at work", "s", MADE, COUNT, nothing, MADE_LINES + ONE, 0, ["s.2"
 session("a folder that is not there", "none/s", MADE, COUNT, nothing, ["E15 store fault", "E02 no table", "E02 no table"], 1, [])
 session("a block that another program changed", "s", MADE, COUNT + COUNT, changed, MADE_LINES + ["! tampered 2 1"], 4, ["s.2"])
 session("a file that was cut short", "s", MADE, COUNT + COUNT, cut, MADE_LINES + ["E15 store fault"] * 2, 1, ["s.2"])
-session("a full disk", "s", MADE, "CREATE TABLE big (id INT) CAPACITY 4096;\n" + COUNT, nothing, MADE_LINES + ["E15 store fault"] + ONE, 1, ["s.2", "s.3"], 65536)
+session("a full disk", "s", MADE, "CREATE TABLE big (id INT) CAPACITY 4096;\n" * 5 + COUNT, nothing, MADE_LINES + ["E15 store fault"] * 5 + ONE, 1, ["s.2"], 65536)
+session("a file that was cut short before an INSERT", "s", MADE, "INSERT INTO t VALUES (2, 20);\n", cut, MADE_LINES + ["E15 store fault"], 1, ["s.2"])
 session("a table that is given up", "s", MADE, "DROP TABLE t;\n", nothing, MADE_LINES + ["= dropped"], 0, [])
 
 # The sessions of examples/. With more rows in a block the same rows are printed, in the same order.

@@ -189,10 +189,10 @@ else:
     print("\nNot beside SQLCipher: there is no `sqlcipher` here.")
 
 # ---- opening and closing: whole runs that serve nothing
-def whole_run(text, *words):
+def whole_run(text, *words, store="kept"):
     """The milliseconds that a run takes, of the processor and by the clock."""
     used, begun = resource.getrusage(resource.RUSAGE_CHILDREN), time.monotonic()
-    ran = subprocess.run([FILES, "--store", f"{work}/kept", *words], input="0" * 64 + "\n" + text, text=True, stdout=subprocess.DEVNULL)
+    ran = subprocess.run([FILES, "--store", f"{work}/{store}", *words], input="0" * 64 + "\n" + text, text=True, stdout=subprocess.DEVNULL)
     ended, after = time.monotonic(), resource.getrusage(resource.RUSAGE_CHILDREN)
     if ran.returncode:
         sys.exit(f"a run that serves nothing ended with status {ran.returncode}")
@@ -201,7 +201,7 @@ def whole_run(text, *words):
 words = ["--keep", "--pack", str(PACKS[-1])]
 whole_run("".join(f"CREATE TABLE t{n} (id INT PRIMARY KEY, v INT) CAPACITY {SLOTS};\n" for n in range(TABLES)), *words)
 kept = [whole_run("", *words) for _ in range(rounds)]
-plain = [whole_run("") for _ in range(rounds)]
+plain = [whole_run("", store="plain") for _ in range(rounds)]
 print(f"\nA run that serves nothing, with {TABLES} tables of {SLOTS:,} slots in files, {PACKS[-1]} rows in a block: milliseconds, the least of {rounds} runs.\n")
 print("| | of the processor | by the clock |")
 print("|---|---:|---:|")

@@ -4,8 +4,8 @@ ghost use Rattle.std.specs.Str.{all_ascii_digits};
 
 use ob_base::{Failed, NoMemory};
 use std::alloc::Global;
-use std::fs::{File, OpenFile};
-use std::io::Read;
+use std::fs::{File, OpenFile, OpenOptions, symlink_metadata};
+use std::io::{ErrorKind, Read};
 use std::rt::Files;
 use std::str;
 
@@ -27,6 +27,24 @@ pub struct RegionFiles<'a, R: Files> {
 /// Waits until all of a file is on the disk. A folder is a file, too.
 pub fn settle<R: Files>(files: &R, path: &str) -> Result<(), Failed> {
     let Ok(file) = File::open(files, path) else {
+        return Err(Failed);
+    };
+    match file.sync_all() {
+        Ok(()) => Ok(()),
+        Err(_) => Err(Failed),
+    }
+}
+
+// The same of a file that is no folder; what isn't a file is left alone, and what is gone. It is opened to be written,
+// since that doesn't wait for others at a pipe.
+fn settle_file<R: Files>(files: &R, path: &str) -> Result<(), Failed> {
+    match symlink_metadata(files, path) {
+        Ok(found) if found.is_file() => {}
+        Ok(_) => return Ok(()),
+        Err(error) if error.kind() == ErrorKind::NotFound => return Ok(()),
+        Err(_) => return Err(Failed),
+    }
+    let Ok(file) = OpenOptions::new().read(true).write(true).open(files, path) else {
         return Err(Failed);
     };
     match file.sync_all() {
@@ -101,7 +119,7 @@ impl<'a, R: Files> RegionFiles<'a, R> {
             && self.path.push('.').is_ok()
             && self.path.push_str(digits).is_ok();
         if is_whole {
-            settle(self.files, self.path.as_str())
+            settle_file(self.files, self.path.as_str())
         } else {
             Err(Failed)
         }
@@ -115,6 +133,38 @@ impl<'a, R: Files> RegionFiles<'a, R> {
             }
         }
         Ok(())
+    }
+
+    // Whether one of these names, each with a zero byte behind it, is that of a region's file.
+    fn is_among(&self, names: &[u8]) -> bool {
+        for name in names.split(|byte| *byte == 0) {
+            if region_in(name, split_path(self.name.as_str()).1).is_some() {
+                return true;
+            }
+        }
+        false
+    }
+
+    /// Whether anything has the name of one of them. Where the folder isn't there, nothing has.
+    pub fn are_there(&self) -> Result<bool, Failed> {
+        let mut folder = match self.files.open_dir(self.folder.as_str()) {
+            Ok(folder) => folder,
+            Err(error) if error.kind() == ErrorKind::NotFound => return Ok(false),
+            Err(_) => return Err(Failed),
+        };
+        let mut names = [0; NAMES];
+        for _ in 0..u64::MAX {
+            match folder.read(&mut names) {
+                Ok(0) => return Ok(false),
+                Ok(len) => {
+                    if self.is_among(&names[..len]) {
+                        return Ok(true);
+                    }
+                }
+                Err(_) => return Err(Failed),
+            }
+        }
+        Err(Failed)
     }
 
     /// Waits until all of them are on the disk, and their names.

@@ -4,23 +4,23 @@ ghost use Rattle.ob_reopen.specs.Keepers.{IsMark};
 
 use crate::folder::{RegionFiles, settle, split_path};
 use crate::mark::{mark_of, spell};
+use crate::region::clear;
 use ob_base::{Failed, Mark, NoMemory};
 use ob_reopen::Keeper;
 use std::alloc::Global;
 use std::fs;
-use std::fs::{File, OpenFile};
+use std::fs::{File, OpenFile, OpenOptions, symlink_metadata};
 use std::io::{ErrorKind, Read};
 use std::rt::Files;
 
 /// More bytes than the line of a mark has.
 const LONG: usize = 80;
 
-/// What keeps the mark of a store in files, in `NAME.mark` beside them, or where that points if it is a link when the
-/// keeper is made. Which mark it holds is not told: others may change the file at any time.
+/// What keeps the mark of a store in a file. Which mark it holds is not told: others may change the file at any time.
 ///
-/// No file is a fresh mark, else it is one line. A new line is written beside, and takes the file's place once it is
-/// on the disk; before it says that a run was closed, all files of the store are. Each error of a file, and a file
-/// that spells no mark, is `Failed`.
+/// No file is a fresh mark, else it is one line. A new line is written beside, as `PLACE.next`, and takes the file's
+/// place once it is on the disk; before it says that a run was closed, all files of the store are. No link is followed.
+/// Each error of a file, what isn't a file, and a file that spells no mark is `Failed`.
 #[derive(Drop)]
 pub struct FileKeeper<'a, R: Files> {
     files: &'a R,
@@ -29,25 +29,6 @@ pub struct FileKeeper<'a, R: Files> {
     path: String,
     beside: String,
     faults: u64,
-}
-
-// The place of the mark whose file has this path: where it is a link, that where it points.
-fn place_of<R: Files>(alloc: Global, files: &R, path: String) -> Result<String, NoMemory> {
-    let link = match files.read_link(alloc, path.as_str()) {
-        Ok(link) => link,
-        Err(error) if error.kind() == ErrorKind::OutOfMemory => return Err(NoMemory),
-        Err(_) => return Ok(path),
-    };
-    let target = link.as_str();
-    let folder = if target.starts_with('/') {
-        ""
-    } else {
-        split_path(path.as_str()).0
-    };
-    match format!(in alloc; "{}{}", folder, target) {
-        Ok(place) => Ok(place),
-        Err(_) => Err(NoMemory),
-    }
 }
 
 // Reads a file from its first byte on, until it ends or the buffer is full, and tells how many bytes there were.
@@ -66,15 +47,16 @@ fn fill<F: Read>(file: &mut F, buffer: &mut [u8]) -> Result<usize, Failed>
 }
 
 impl<'a, R: Files> FileKeeper<'a, R> {
-    /// The keeper of a store whose files have names that begin with this one and a dot. It takes all its memory of
-    /// `alloc` here.
-    pub fn new(alloc: Global, files: &'a R, name: String) -> Result<FileKeeper<'a, R>, NoMemory>
+    /// The keeper of a store whose files have names that begin with this one and a dot, with its mark in the file of
+    /// this path. It takes all its memory of `alloc` here.
+    pub fn new(
+        alloc: Global,
+        files: &'a R,
+        name: String,
+        path: String,
+    ) -> Result<FileKeeper<'a, R>, NoMemory>
         ensures { IfOk result (λ k. (⟦<FileKeeper<'a, R> as Keeper>⟧.state k).faults ≡ 0) }
     {
-        let Ok(path) = format!(in alloc; "{}.mark", name) else {
-            return Err(NoMemory);
-        };
-        let path = place_of(alloc, files, path)?;
         let Ok(folder) = String::from_str(alloc, split_path(path.as_str()).0) else {
             return Err(NoMemory);
         };
@@ -95,10 +77,13 @@ impl<'a, R: Files> FileKeeper<'a, R> {
     fn held(&self) -> Result<Mark, Failed>
         ensures { IfOk result IsMark }
     {
-        let mut file = match File::open(self.files, self.path.as_str()) {
-            Ok(file) => file,
+        match symlink_metadata(self.files, self.path.as_str()) {
+            Ok(found) if found.is_file() => {}
             Err(error) if error.kind() == ErrorKind::NotFound => return Ok(Mark::Fresh),
-            Err(_) => return Err(Failed),
+            Ok(_) | Err(_) => return Err(Failed),
+        }
+        let Ok(mut file) = File::open(self.files, self.path.as_str()) else {
+            return Err(Failed);
         };
         let mut line = [0; LONG];
         let len = fill(&mut file, &mut line)?;
@@ -115,7 +100,12 @@ impl<'a, R: Files> FileKeeper<'a, R> {
 
     // Puts a line in the place of the file's.
     fn replace(&self, mark: &Mark) -> Result<(), Failed> {
-        let Ok(mut file) = File::create(self.files, self.beside.as_str()) else {
+        clear(self.files, self.beside.as_str())?;
+        let opened = OpenOptions::new()
+            .write(true)
+            .create_new(true)
+            .open(self.files, self.beside.as_str());
+        let Ok(mut file) = opened else {
             return Err(Failed);
         };
         spell(&mut file, mark)?;

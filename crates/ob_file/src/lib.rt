@@ -5,9 +5,11 @@ mod folder;
 mod keeper;
 mod mark;
 mod region;
+mod start;
 mod store;
 #[cfg(test)]
 mod tests;
 
 pub use keeper::FileKeeper;
+pub use start::{StartErr, follow, lock, mark_beside, may_begin_anew, may_keep};
 pub use store::FileStore;

@@ -1,8 +1,9 @@
 //! A region in a file of its own.
-ghost use Rattle.std.specs.Prelude.{◌≡◌, ◌≤◌, length};
+ghost use Rattle.std.specs.Prelude.{◌≡◌, ◌≤◌, ◌*◌, length};
 
 use ob_base::Failed;
-use std::fs::{OpenOptions, metadata};
+use std::fs::{OpenFile, OpenOptions, remove_file, symlink_metadata};
+use std::io::ErrorKind;
 use std::os::unix::fs::FileExt;
 use std::rt::Files;
 
@@ -15,13 +16,22 @@ pub struct Region<F> {
     pub len: u32,
 }
 
-/// Opens the file of a region, made anew or cut to nothing.
+/// Takes away what has this name, if anything has.
+pub fn clear<R: Files>(files: &R, path: &str) -> Result<(), Failed> {
+    match remove_file(files, path) {
+        Ok(()) => Ok(()),
+        Err(error) if error.kind() == ErrorKind::NotFound => Ok(()),
+        Err(_) => Err(Failed),
+    }
+}
+
+/// Makes the file of a region anew, in the place of what has its name. No link is followed.
 pub fn create<R: Files>(files: &R, path: &str) -> Result<R::File, Failed> {
+    clear(files, path)?;
     let opened = OpenOptions::new()
         .read(true)
         .write(true)
-        .create(true)
-        .truncate(true)
+        .create_new(true)
         .open(files, path);
     match opened {
         Ok(file) => Ok(file),
@@ -29,16 +39,27 @@ pub fn create<R: Files>(files: &R, path: &str) -> Result<R::File, Failed> {
     }
 }
 
-/// Opens the file that a region of an earlier run has, of so many bytes.
+/// Opens the file that a region of an earlier run has, of so many bytes. A link isn't followed, and nothing is waited for.
 pub fn reopen<R: Files>(files: &R, path: &str, size: u64) -> Result<R::File, Failed> {
-    match metadata(files, path) {
-        Ok(found) if found.len() == size => {}
+    match symlink_metadata(files, path) {
+        Ok(found) if found.is_file() => {}
         Ok(_) | Err(_) => return Err(Failed),
     }
-    match OpenOptions::new().read(true).write(true).open(files, path) {
-        Ok(file) => Ok(file),
-        Err(_) => Err(Failed),
+    let Ok(file) = OpenOptions::new().read(true).write(true).open(files, path) else {
+        return Err(Failed);
+    };
+    match file.metadata() {
+        Ok(found) if found.is_file() && found.len() == size => Ok(file),
+        Ok(_) | Err(_) => Err(Failed),
     }
+}
+
+/// The byte at which the block at a place begins, of blocks of `len` bytes.
+pub fn start_of(place: u32, len: usize) -> u64
+    requires { len ≤ 16416 }
+    ensures { result ≡ place * len }
+{
+    place as u64 * len as u64
 }
 
 /// Reads the bytes at a block's place, which are as many as `buf` has.
@@ -46,8 +67,7 @@ pub fn read<F: FileExt>(file: &F, place: u32, buf: &mut [u8]) -> Result<(), Fail
     requires { length buf.old ≤ 16416 }
     ensures { length buf.new ≡ length buf.old }
 {
-    let at = place as u64 * buf.len() as u64;
-    match file.read_exact_at(buf, at) {
+    match file.read_exact_at(buf, start_of(place, buf.len())) {
         Ok(()) => Ok(()),
         Err(_) => Err(Failed),
     }
@@ -57,8 +77,7 @@ pub fn read<F: FileExt>(file: &F, place: u32, buf: &mut [u8]) -> Result<(), Fail
 pub fn write<F: FileExt>(file: &F, place: u32, block: &[u8]) -> Result<(), Failed>
     requires { length block.now ≤ 16416 }
 {
-    let at = place as u64 * block.len() as u64;
-    match file.write_all_at(block, at) {
+    match file.write_all_at(block, start_of(place, block.len())) {
         Ok(()) => Ok(()),
         Err(_) => Err(Failed),
     }

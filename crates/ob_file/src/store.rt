@@ -11,6 +11,7 @@ use ob_store::{BlockStore, Lasting, Log};
 use std::alloc::Global;
 use std::collections::BTreeMap;
 use std::fs;
+use std::fs::OpenFile;
 use std::os::unix::fs::FileExt;
 use std::rt::Files;
 
@@ -20,7 +21,9 @@ const LONGEST: usize = 16416;
 /// A store that keeps each region in a file of its own, `NAME.REGION`, block by block from the first byte on. A file
 /// is open for as long as its region lives. What the files hold is not told: others may change them at any time.
 ///
-/// Each error of a file, and a file that is too short, is `Failed`.
+/// Each error of a file, a file that is too short, and what isn't a file where one is wanted is `Failed`. Where a call
+/// fails while the region that was made last isn't full, its last block not yet written, it won't be any more: its file
+/// is emptied and removed.
 #[derive(Drop)]
 pub struct FileStore<'a, R: Files> {
     alloc: Global,
@@ -28,12 +31,28 @@ pub struct FileStore<'a, R: Files> {
     name: String,
     log: Log,
     regions: BTreeMap<u64, Region<R::File>>,
+    filling: Option<u64>,
     faults: u64,
     slips: u64,
     given: [u8; 16416],
     given_len: usize,
     ghost fresh: { IsFresh (asked_of log) regions },
     ghost short: { given_len ≤ 16416 },
+}
+
+// Removes the file of the region that is being filled, if one is, and frees what it took of the disk.
+fn give_up<R: Files>(
+    files: &R,
+    regions: &BTreeMap<u64, Region<R::File>>,
+    filling: &mut Option<u64>,
+) {
+    let Some(region) = filling.take() else {
+        return;
+    };
+    if let Some(begun) = regions.get(&region) {
+        let _ = begun.file.set_len(0);
+        let _ = fs::remove_file(files, begun.path.as_str());
+    }
 }
 
 // Copies a block to the beginning of a buffer.
@@ -60,6 +79,7 @@ impl<'a, R: Files> FileStore<'a, R> {
             name,
             log: Log::new(alloc),
             regions: BTreeMap::new(alloc),
+            filling: None,
             faults: 0,
             slips: 0,
             given: [0; 16416],
@@ -122,6 +142,7 @@ where
         };
         let Ok(file) = create(self.files, path.as_str()) else {
             self.faults = self.faults.saturating_add(1);
+            give_up(self.files, &self.regions, &mut self.filling);
             return Err(StoreErr::Failed);
         };
         let made = Region {
@@ -131,7 +152,10 @@ where
             len,
         };
         match self.regions.insert(region, made) {
-            Ok(_) => Ok(()),
+            Ok(_) => {
+                self.filling = Some(region);
+                Ok(())
+            }
             Err(unmade) => {
                 let (_, left) = unmade.value;
                 let _ = fs::remove_file(self.files, left.path.as_str());
@@ -154,6 +178,7 @@ where
             }
             Err(Failed) => {
                 self.faults = self.faults.saturating_add(1);
+                give_up(self.files, &self.regions, &mut self.filling);
                 Err(Failed)
             }
         }
@@ -161,12 +186,18 @@ where
 
     fn write(&mut self, region: u64, place: u32, block: &[u8]) -> Result<(), Failed> {
         self.log.push(Access::Write { region, place });
-        let done = match self.regions.get(&region) {
-            Some(found) => write(&found.file, place, block),
+        let (done, is_last) = match self.regions.get(&region) {
+            Some(found) => {
+                let is_last = u64::from(place) + 1 == u64::from(found.blocks);
+                (write(&found.file, place, block), is_last)
+            }
             None => unreachable!(),
         };
         if done.is_err() {
             self.faults = self.faults.saturating_add(1);
+            give_up(self.files, &self.regions, &mut self.filling);
+        } else if is_last && self.filling == Some(region) {
+            self.filling = None;
         }
         done
     }

@@ -1,40 +1,38 @@
 //! Serves the statements of standard input over a store in files, whose names begin as `--store` says. With `--keep` its
-//! tables are there again in the next run. The exit status tells how that ended.
+//! tables are there again in the next run, by a mark that lies where `--mark` says. The exit status tells how that ended.
 #![tactic(auto)]
 
-use ob_file::{FileKeeper, FileStore};
+mod start;
+
+use ob_file::{FileKeeper, FileStore, StartErr};
 use ob_io::{StdSink, StdSource};
-use ob_shell::{keep_top, store_name};
+use ob_shell::keep_top;
+use start::{Begun, begin};
+use std::io;
+use std::io::Write;
 use std::process::ExitCode;
-use std::rt::Env;
-use std::{env, io};
 
-/// The exit status where memory is wanting before anything is read.
-const NO_MEMORY: u8 = 7;
-
-// The words of the command line, without the program's name.
-fn words<R: Env + AllocGlobal>(rt: &R) -> io::Result<Vec<String>> {
-    let mut words = Vec::new(rt.alloc());
-    for word in env::args(rt)?.skip(1) {
-        words.push(word)?;
-    }
-    Ok(words)
+// The end of a run that didn't begin.
+fn end(rt: &HostRuntime, error: StartErr) -> ExitCode {
+    let stdout = rt.stdout();
+    let mut out = io::writer(&stdout);
+    let _ = out.write_all(error.line().as_bytes());
+    ExitCode::from(error.status())
 }
 
-fn main(rt: HostRuntime) -> ExitCode {
-    let Ok(words) = words(&rt) else {
-        return ExitCode::from(NO_MEMORY);
+// Serves the input: the lock is held until the run ends.
+fn serve(rt: &HostRuntime, begun: Begun) -> ExitCode {
+    let Begun {
+        words,
+        name,
+        kept,
+        place,
+        lock: _lock,
+    } = begun;
+    let Ok(mut keeper) = FileKeeper::new(rt.alloc(), rt, kept, place) else {
+        return end(rt, StartErr::NoMemory);
     };
-    let Ok(name) = store_name(rt.alloc(), &words) else {
-        return ExitCode::from(NO_MEMORY);
-    };
-    let Ok(kept) = String::from_str(rt.alloc(), name.as_str()) else {
-        return ExitCode::from(NO_MEMORY);
-    };
-    let Ok(mut keeper) = FileKeeper::new(rt.alloc(), &rt, kept) else {
-        return ExitCode::from(NO_MEMORY);
-    };
-    let mut store = FileStore::new(rt.alloc(), &rt, name);
+    let mut store = FileStore::new(rt.alloc(), rt, name);
     let stdout = rt.stdout();
     let stderr = rt.stderr();
     let mut input = StdSource::new(rt.reader());
@@ -50,4 +48,11 @@ fn main(rt: HostRuntime) -> ExitCode {
         &mut keeper,
     );
     ExitCode::from(report.status)
+}
+
+fn main(rt: HostRuntime) -> ExitCode {
+    match begin(&rt) {
+        Ok(begun) => serve(&rt, begun),
+        Err(error) => end(&rt, error),
+    }
 }
