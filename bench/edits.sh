@@ -1,11 +1,13 @@
 #!/bin/sh
-# Tries the wrong bodies of crates/NAME/more-edits/, of the crates that are named or else of all: each edit is put into a
-# copy of its crate, and the prover has to refuse it at a clause or a goal. Prints a line for each, and ends with 1 where
-# one is proved, can't be applied, or is refused only because a proof file names what it took away. What `rt ci` has
-# proved on this machine isn't proved again, and an edit that was tried over the same sources isn't tried again.
+# Tries the wrong bodies of crates/NAME/must-fail/ and more-edits/, of the crates that are named or else of all: each edit
+# is put into a copy of its crate, and the prover has to refuse it at a clause or a goal. The function that holds the edit
+# is checked alone first, which takes 5 to 25 seconds, and the whole crate where that doesn't refuse it. Prints a line for
+# each, and ends with 1 where one is proved, can't be applied, or is refused only because a proof file names what it took
+# away.
 #
 # usage: bench/edits.sh [NAME..]
-# Needs `rt` and python3. Behind `rt ci` it takes some minutes for a crate, and hours for all.
+# Needs `rt` and python3. What `rt check` and `rt lib` have kept in this tree isn't proved again; in a clean clone all that
+# stands below the named crates is proved first. Some minutes for a crate behind that, and some three hours for all.
 set -eu
 top=$(cd "$(dirname "$0")/.." && pwd)
 work=$(mktemp -d)
@@ -30,10 +32,10 @@ def below(name, found):
             below(library, found)
     return found
 
-def edits_of(crate):
-    return sorted(edit.stem for edit in (crate / "more-edits").glob("*.edit"))
+def edits_of(name):
+    return [edit for part in ("must-fail", "more-edits") for edit in sorted((top / "crates" / name / part).glob("*.edit"))]
 
-tried = {name: edits for name in uses if (edits := edits_of(top / "crates" / name))}
+tried = {name: edits for name in uses if (edits := edits_of(name))}
 for name in named:
     if name not in uses:
         sys.exit(f"{name} is no crate")
@@ -42,32 +44,76 @@ if named:
 if not tried:
     sys.exit("nothing to try")
 
-# The crates that are tried and those that they use.
+# A copy of the crates that are tried and of those that they use, with what was kept of them.
 copied = set(tried).union(*[below(name, set()) for name in tried])
 (work / "crates").mkdir()
 (work / "crates.txt").write_text("".join(f"{name}: {' '.join(uses[name])}\n" for name in uses if name in copied))
 shutil.copy(top / "HANDLES", work)
 for name in copied:
-    shutil.copytree(top / "crates" / name, work / "crates" / name, ignore=shutil.ignore_patterns("must-fail", "out"))
-for name in tried:
-    (work / "crates" / name / "more-edits").rename(work / "crates" / name / "must-fail")
+    shutil.copytree(top / "crates" / name, work / "crates" / name, ignore=shutil.ignore_patterns("must-fail", "more-edits"))
 
-waiting = {f"{name}/{edit}" for name, edits in tried.items() for edit in edits}
-refused, said = 0, []
-with subprocess.Popen(["rt", "ci", *tried], cwd=work, stdin=subprocess.DEVNULL, stdout=subprocess.PIPE, stderr=subprocess.STDOUT, text=True) as ran:
-    for line in ran.stdout:
-        said.append(line)
-        told = re.search(r"must-fail (\w+/[\w.-]+)\.edit: (.*)", line)
-        if told and told[1] in waiting:
-            well = told[2].startswith("refused") and "says little" not in told[2]
-            print(f"{told[1]}: {'refused' if well else told[2]}", flush=True)
-            waiting.remove(told[1])
-            refused += well
-            said.clear()
-failed = sum(map(len, tried.values())) - refused
-if waiting:
-    print("not tried:", *sorted(waiting))
-    print("rt said:", *said[-6:], sep="\n    ", end="")
+# The pairs of texts of an edit, each with the file that it changes.
+def changes(edit):
+    pairs, file, old = [], None, None
+    for line in edit.read_text().split("\n"):
+        word, _, text = line.partition(": ")
+        if word == "file":
+            file = text
+        elif word == "old":
+            old = text
+        elif word in ("new", "new:"):
+            pairs.append((file, old, text))
+    return pairs
+
+# The name of the function that a place of a file stands in.
+def function_at(text, place):
+    heads = [head for head in re.finditer(r"(?m)^\s*(?:pub(?:\([a-z]+\))? )?(?:const )?fn (\w+)", text) if head.start() <= place]
+    return heads[-1][1] if heads else None
+
+NAMES = re.compile(r"(\./)?proofs/.*(has no field|is not in scope|has no `|was not admitted)")
+
+# Whether the prover refuses the crate, or one of its functions, and at what; none where it can't tell.
+def check(folder, only=None):
+    words = ["rt", "check", *(["--only", only] if only else [])]
+    ran = subprocess.run(words, cwd=folder, stdin=subprocess.DEVNULL, stdout=subprocess.PIPE, stderr=subprocess.STDOUT, text=True, errors="replace")
+    if ran.returncode == 0:
+        return False, ""
+    told = [line for line in ran.stdout.split("\n") if re.match(r"(note: )?\S+:\d+:\d+:", line)]
+    real = [line for line in told if not NAMES.match(line)]
+    if ran.returncode == 1 and told:
+        return (True, real[0]) if real else (None, "only because a proof file names what it took away")
+    return None, ran.stdout.strip().split("\n")[-1]
+
+def attempt(name, edit):
+    folder, kept, functions = work / "crates" / name, {}, set()
+    try:
+        for file, old, new in changes(edit):
+            text = (folder / file).read_text()
+            if text.count(old) != 1:
+                return False, f"'{old}' stands {text.count(old)} times in {file}"
+            kept.setdefault(file, text)
+            if file.endswith(".rt") and (function := function_at(text, text.index(old))):
+                functions.add(function)
+            (folder / file).write_text(text.replace(old, new))
+        for function in sorted(functions):
+            refused, why = check(folder, function)
+            if refused:
+                return True, why
+        refused, why = check(folder)
+        return bool(refused), why if refused is not False else "the crate is still proved"
+    finally:
+        for file, text in kept.items():
+            (folder / file).write_text(text)
+
+refused = failed = 0
+for name, edits in tried.items():
+    proved, why = check(work / "crates" / name)
+    if proved is not False:
+        sys.exit(f"{name} itself isn't proved: {why}")
+    for edit in edits:
+        well, why = attempt(name, edit)
+        print(f"{name}/{edit.stem}: {'refused' if well else 'NOT REFUSED: ' + why}", flush=True)
+        refused, failed = refused + well, failed + (not well)
 print(f"{refused} refused, {failed} not refused")
 sys.exit(failed > 0)
 PY
