@@ -38,9 +38,10 @@ def least(name, letter, shape, case):
         pairs.append((spent, alone))
     return map(min, zip(*pairs))
 
-# Each pass: its letter, the blocks that it seals and opens, its limit (or two, for 1 and 8 rows a block), its slots, the rows that may be open, and how
-# many are selected; of a join, the slots of the left table. The program has 64 rows open at most; the last three lines
-# have as many as fit all that is selected, the left table, or all groups, whose keys come in no order.
+# Each pass: its letter, the blocks that it seals and opens, its limit (or two, for 1 and 8 rows a block), its slots, the
+# rows that may be open, and how many are selected; of a join, the slots of the left table. The program has 64 rows open at
+# most; the last three lines have as many as fit all that is selected, the left table, or all groups, whose keys come in no
+# order.
 passes = [
     ("count", "c", count, 1.5, slots, 64, slots // 2),
     ("INSERT", "i", insert, 1.5, slots, 64, 1),
