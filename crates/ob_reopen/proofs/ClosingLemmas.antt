@@ -1,5 +1,5 @@
 -- A closing is opened, and then read.
-use Rattle.std.proofs.Common.{◌≡◌, ◌⊎◌, inl, inr, ℕ, IsTrue, List, None, Result, Ok, Err, sym, ◌∙◌, ap, subst}
+use Rattle.std.proofs.Common.{◌≡◌, ◌⊎◌, inl, inr, ℕ, IsTrue, List, None, Result, Ok, Err, sym, ◌∙◌, ap, subst, arith}
 use Rattle.std.specs.Prelude.{Bool}
 use Rattle.ob_base.specs.Accesses.{read_at}
 use Rattle.ob_base.specs.Lists.{each}
@@ -59,7 +59,7 @@ module _ {T : Type 0} (value : T) (closing : Closing) (marked : IsMarked closing
 
   sealed_on : ((good : ℕ → List ℕ → Bool) → Seals good b c) → (good : ℕ → List ℕ → Bool) → KeptSealed good closing.region closing.number a → Seals good a c
   sealed_on seals good kept = record {
-    seals = λ tells all. (seals good).seals (subst IsTrue (sym resumes.stays.tells) tells) ((resumes.seals good kept).seals tells all);
+    seals = λ scope few tells all. (seals good).seals scope (omega (arith, few, resumes.stays.faults)) (subst IsTrue (sym resumes.stays.tells) tells) ((resumes.seals good kept).seals scope few tells all);
   }
 
   told_on : (result : Result (List Listed) OpenErr) → (IsHonest b c → (rows : List (List ℕ)) → HoldsRows closing rows b → ReadsRows closing rows result)

@@ -13,7 +13,7 @@ use Rattle.ob_vault.specs.Numbers.{last_number}
 use Rattle.ob_vault.specs.Rekeying.{rekeyed}
 use Rattle.ob_vault.specs.Resuming.{KeptSealed, Stays, Unasked}
 use Rattle.ob_vault.specs.State.{World}
-use Rattle.ob_vault.specs.Tied.{AllSealed, Calm, EndsAt, at_of}
+use Rattle.ob_vault.specs.Tied.{AllSealed, Calm, EndsAt, Scope, at_of}
 use Rattle.ob_vault.proofs.Rekeyed.{calm_rekeyed, ready_rekeyed, sealed_rekeyed}
 use Rattle.ob_reopen.specs.declared.closing.Closing.{Closing}
 use Rattle.ob_reopen.specs.declared.fault.OpenErr.{OpenErr}
@@ -148,12 +148,12 @@ module _ (closing : Closing) (keys : KeySet) (old new : World)
         record { rows = here.rows; is = here.is ∙ sym (sealed_agree old.vault.keys keys (at_of closing.region x (closing.number + x)) same here.rows); fine = here.fine };
   }
 
-  all_old : (good : ℕ → List ℕ → Bool) → AllSealed good old
-  all_old good = record { all = λ q x block lives last. absurd (lives (empty q)) }
+  all_old : (good : ℕ → List ℕ → Bool) (scope : Scope) → AllSealed good scope old
+  all_old good scope = record { all = λ q x block from lives last. absurd (lives (empty q)) }
 
   seals_rekeyed : (good : ℕ → List ℕ → Bool) → Seals good old new → Seals good (rekeyed keys old) (rekeyed keys new)
   seals_rekeyed good seals = record {
-    seals = λ tells all. sealed_rekeyed keys new good (λ q lives. same_at q (live_there q lives (cases_eq q closing.region))) (seals.seals tells (all_old good));
+    seals = λ scope few tells all. sealed_rekeyed keys new good scope (λ q from lives. same_at q (live_there q lives (cases_eq q closing.region))) (seals.seals scope few tells (all_old good scope));
   }
 
   read_rekeyed : (listed : List Listed) → ReadsClosing closing (Ok listed) old new → ReadsClosing closing (Ok listed) (rekeyed keys old) (rekeyed keys new)

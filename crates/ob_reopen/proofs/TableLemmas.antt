@@ -18,7 +18,7 @@ use Rattle.ob_vault.specs.declared.region.Order.TheVariants.{Round}
 use Rattle.ob_vault.specs.declared.fault.VaultErr.{VaultErr}
 use Rattle.ob_vault.specs.State.{World, earlier}
 use Rattle.ob_vault.specs.Numbers.{spent}
-use Rattle.ob_vault.specs.Tied.{Ready, at_of}
+use Rattle.ob_vault.specs.Tied.{Ready, at_of, next_fault}
 use Rattle.ob_vault.specs.Calls.{Seals, one}
 use Rattle.ob_vault.specs.Resuming.{Unasked, MayResume, Stays, KeptSealed, ResumesRegion}
 use Rattle.ob_vault.proofs.Resumed.{unasked_append}
@@ -283,7 +283,9 @@ module _ {T : Type 0} (value : T) (closing : Closing) (listed : List Listed) (ca
       })
     ];
     seals = λ good kept. record {
-      seals = λ tells all. (resumes.seals good (kept_now good (kept i t is))).seals (subst IsTrue (sym opened.all.stays.tells) tells) ((opened.seals good kept).seals tells all);
+      seals = λ scope few tells all.
+          let few_now : scope.below ≤ next_fault now.store = omega (arith, few, opened.all.stays.faults) in
+          (resumes.seals good (kept_now good (kept i t is))).seals scope few_now (subst IsTrue (sym opened.all.stays.tells) tells) ((opened.seals good kept).seals scope few tells all);
     };
   }
 
@@ -346,7 +348,9 @@ tables_cut {T} e closing listed catalogue old now new i t is opened resumes = re
   lie = resumes.lie ∙ opened.lie;
   tables = tt;
   seals = λ good kept. record {
-    seals = λ tells all. (resumes.unsealed good).seals (subst IsTrue (sym opened.all.stays.tells) tells) ((opened.seals good kept).seals tells all);
+    seals = λ scope few tells all.
+        let few_now : scope.below ≤ next_fault now.store = omega (arith, few, opened.all.stays.faults) in
+        (resumes.unsealed good).seals scope few_now (subst IsTrue (sym opened.all.stays.tells) tells) ((opened.seals good kept).seals scope few tells all);
   };
 }
 

@@ -1,11 +1,11 @@
 -- A vault that goes on under other keys, which are the same for each region that matters.
-use Rattle.std.proofs.Common.{◌≡◌, ◌≢◌, ◌-◌, ℕ, Bool, List, Some, None, length, take, ◌∙◌, ap}
+use Rattle.std.proofs.Common.{◌≡◌, ◌≢◌, ◌≤◌, ◌-◌, ℕ, Bool, List, Some, None, length, take, ◌∙◌, ap}
 use Rattle.ob_store.specs.State.{Lie}
 use Rattle.ob_seal.specs.KeySet.{KeySet, pair_of}
 use Rattle.ob_seal.proofs.Agree.{sealed_agree, tag_agree}
 use Rattle.ob_vault.specs.State.{World}
 use Rattle.ob_vault.specs.Rekeying.{rekeyed}
-use Rattle.ob_vault.specs.Tied.{AllSealed, Calm, Holds, Ready, at_lie, at_of}
+use Rattle.ob_vault.specs.Tied.{AllSealed, Calm, Holds, Ready, Scope, at_lie, at_of}
 
 module _ (keys : KeySet) (w : World) where
   pub ready_rekeyed : Ready w → Ready (rekeyed keys w)
@@ -26,15 +26,17 @@ module _ (keys : KeySet) (w : World) where
   pub holds_rekeyed : (q x : ℕ) (rows : List ℕ) → pair_of w.vault.keys q ≡ pair_of keys q → Holds q x rows w → Holds q x rows (rekeyed keys w)
   holds_rekeyed q x rows same holds = record { last = holds.last ∙ ap Some (sealed_agree w.vault.keys keys (at_of q x (w.vault.revs.number q x)) same rows) }
 
-  pub sealed_rekeyed : (good : ℕ → List ℕ → Bool) → ((q : ℕ) → w.store.live q ≢ None → pair_of w.vault.keys q ≡ pair_of keys q) → AllSealed good w → AllSealed good (rekeyed keys w)
-  sealed_rekeyed good same all = record {
-    all = λ q x block lives last.
-        let here = all.all q x block lives last in
+  pub sealed_rekeyed : (good : ℕ → List ℕ → Bool) (scope : Scope) → ((q : ℕ) → scope.from ≤ q → w.store.live q ≢ None → pair_of w.vault.keys q ≡ pair_of keys q)
+      → AllSealed good scope w → AllSealed good scope (rekeyed keys w)
+  sealed_rekeyed good scope same all = record {
+    all = λ q x block from lives last.
+        let here = all.all q x block from lives last in
         record {
           number = here.number;
           rows = here.rows;
-          is = here.is ∙ sealed_agree w.vault.keys keys (at_of q x here.number) (same q lives) here.rows;
+          is = here.is ∙ sealed_agree w.vault.keys keys (at_of q x here.number) (same q from lives) here.rows;
           went = here.went;
+          newest = here.newest;
           fine = here.fine;
         };
   }

@@ -20,10 +20,10 @@ use Rattle.ob_vault.specs.Revs.{OtherRegions, Resumes as Numbered}
 use Rattle.ob_vault.specs.State.{Start, RevState, VaultState, World, from_earlier}
 use Rattle.ob_vault.specs.Numbers.{number_after, IsNumber, IsStart}
 use Rattle.ob_vault.specs.Places.{given_from}
-use Rattle.ob_vault.specs.Tied.{InLaps, Ready, Written, Holds, SealedAt, AllSealed, Calm, at_of}
+use Rattle.ob_vault.specs.Tied.{InLaps, Ready, Written, Holds, Scope, SealedAt, AllSealed, Calm, at_of}
 use Rattle.ob_vault.specs.Calls.{Apart, Lasts, Seals, one}
 use Rattle.ob_vault.specs.Resuming.{Unasked, MayResume, Gives, Stays, Reopened, KeptSealed, ResumesRegion, open_at}
-use Rattle.ob_vault.proofs.WorldSteps.{world, Moved, laps_same, ready_moved, apart_moved, next_none, lasts_forget, reads_on, sealed_keeps}
+use Rattle.ob_vault.proofs.WorldSteps.{world, Moved, laps_same, ready_moved, apart_moved, next_none, lasts_forget, reads_on, sealed_keeps, seals_unasked}
 
 -- ---- regions that no access was at
 pub unasked_append : (q : ℕ) (a b : List Access) → Unasked q a → Unasked q b → Unasked q (a ++ b)
@@ -223,24 +223,26 @@ module _ (v : VaultState) (revs : RevState) (start : Start) (old new : StoreStat
       | inr given ↦ inr (given.0 ∙ sym (gives.others r x (λ same _. off same)), given.1)
     ]
 
-    sealed_opened : (good : ℕ → List ℕ → Bool) → IsTrue old.tells → ((x : ℕ) (b : List ℕ) → new.last q x ≡ Some b → x < shape.blocks)
-        → KeptSealed good q number was → AllSealed good was → AllSealed good now
-    sealed_opened good tells within under all = record {
-      all = λ r x b live at. elim (cases_eq r q) [
+    sealed_opened : (good : ℕ → List ℕ → Bool) (scope : Scope) → old.faults ≤ new.faults → IsTrue old.tells → ((x : ℕ) (b : List ℕ) → new.last q x ≡ Some b → x < shape.blocks)
+        → KeptSealed good q number was → AllSealed good scope was → AllSealed good scope now
+    sealed_opened good scope faults tells within under all = record {
+      all = λ r x b from live at. elim (cases_eq r q) [
         | inl here ↦
             let stands : new.last q x ≡ Some b = ap (λ (k : ℕ). new.last k x) (sym here) ∙ at in
             let last : under.kept.last x ≡ Some b = sym (resumes.last under.kept tells under.is x) ∙ stands in
             let is = under.all x b last in
-            subst (λ (k : ℕ). SealedAt good now k x b) (sym here) (record {
+            subst (λ (k : ℕ). SealedAt good scope now k x b) (sym here) (record {
               number = number + x;
               rows = is.rows;
               is = is.is;
               went = inr (sym (gives.here x (within x b stands)), λ zero. absurd (omega (arith, zero, may.some)));
+              newest = λ few. sym (numbered.numbers x (within x b stands)) ∙ number_here x (within x b stands);
               fine = is.fine;
             })
         | inr off ↦
-            let is = all.all r x b (λ none. live (resumes.others.live r off ∙ none)) (sym (resumes.others.last r x off) ∙ at) in
-            record { number = is.number; rows = is.rows; is = is.is; went = went_opened r x is.number off is.went; fine = is.fine }
+            let is = all.all r x b from (λ none. live (resumes.others.live r off ∙ none)) (sym (resumes.others.last r x off) ∙ at) in
+            let same = number_on start r x ∙ number_gives number q shape.blocks v.start start gives old.asked r x off in
+            record { number = is.number; rows = is.rows; is = is.is; went = went_opened r x is.number off is.went; newest = λ few. is.newest (omega (arith, few, faults)) ∙ sym same; fine = is.fine }
       ];
     }
 
@@ -375,7 +377,9 @@ module _ (v : VaultState) (revs : RevState) (old new : StoreState) (q number : �
     };
     err = tt;
     never = tt;
-    seals = λ good under. record { seals = λ tells all. sealed_opened v revs start old new q number shape ready may asks.asked gives numbered resumes good tells (within tells) under all };
+    seals = λ good under. record {
+      seals = λ scope few tells all. sealed_opened v revs start old new q number shape ready may asks.asked gives numbered resumes good scope asks.faults tells (within tells) under all;
+    };
     unsealed = tt;
   }
 
@@ -384,7 +388,10 @@ module _ (v : VaultState) (revs : RevState) (old new : StoreState) (q number : �
     calm_shut = calm_on v revs v.start old new q number shape ready may asks.asked asks.lie (λ l r x off. refl)
 
     shut_seals : (good : ℕ → List ℕ → Bool) → Seals good (world v old) (world (record v { revs = revs }) new)
-    shut_seals good = record { seals = λ tells all. sealed_keeps good (world v old) (world (record v { revs = revs }) new) (Open q shape.blocks (shape.width + 32)) refl refl asks.asked keeps all }
+    shut_seals good = record {
+      seals = λ scope few tells all. sealed_keeps good scope (world v old) (world (record v { revs = revs }) new) (open_at q shape.blocks shape.width) refl refl asks.asked asks.faults
+          (number_on v revs v.start old new q number shape ready may asks.asked v.start) keeps all;
+    }
 
     shut_stays : Stays (one q) (world v old) (world (record v { revs = revs }) new)
     shut_stays =
@@ -465,11 +472,7 @@ resumes_unasked v revs s q number shape ready others gone = record {
   calm_same calm = record { calm = λ lie is. let fits = calm.calm lie is in record { tag = fits.tag }; within = calm.within }
 
   seals_same : (good : ℕ → List ℕ → Bool) → Seals good (world v s) (world (record v { revs = revs }) s)
-  seals_same good = record {
-    seals = λ tells all. record {
-      all = λ r x b live at. let is = all.all r x b live at in record { number = is.number; rows = is.rows; is = is.is; went = is.went; fine = is.fine };
-    };
-  }
+  seals_same good = seals_unasked good _ _ refl refl refl (omega arith) (record { live = λ r. refl; last = λ r x. refl; kept = λ r. refl })
 
 -- where its revisions stayed as they were
 pub resumes_unchanged : {T : Type 0} (v : VaultState) (revs : RevState) (s : StoreState) (q number : ℕ) (shape : Region) → Ready (world v s) → MayResume q shape.blocks number (world v s) → revs ≡ v.revs

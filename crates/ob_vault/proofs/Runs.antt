@@ -145,10 +145,12 @@ module _ (r y : ℕ) (a b : World) (only : Only r y a b) where
   }
 
 pub seals_join : (good : ℕ → List ℕ → Bool) (a b c : World) → Later a.store b.store → Seals good a b → Seals good b c → Seals good a c
-seals_join good a b c later first second = record { seals = λ tells all. second.seals (subst (λ (t : Bool). IsTrue t) (sym later.tells) tells) (first.seals tells all) }
+seals_join good a b c later first second = record {
+  seals = λ scope few tells all. second.seals scope (omega (arith, few, later.faults)) (subst (λ (t : Bool). IsTrue t) (sym later.tells) tells) (first.seals scope few tells all);
+}
 
 pub seals_none : (good : ℕ → List ℕ → Bool) (w : World) → Seals good w w
-seals_none good w = record { seals = λ tells all. all }
+seals_none good w = record { seals = λ scope few tells all. all }
 
 -- a vault that has not changed keeps all shapes
 pub shapes_none : (v : VaultState) (s t : StoreState) → KeepsShapes (record { vault = v; store = s }) (record { vault = v; store = t })

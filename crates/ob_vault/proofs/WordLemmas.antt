@@ -8,10 +8,10 @@ use Rattle.ob_base.specs.Accesses.{AllBelow, writes, makes, number_of, nth_write
 use Rattle.ob_seal.specs.Sealed.{sealed, tag_of}
 use Rattle.ob_vault.specs.State.{Start, VaultState, World, from_nothing, earlier}
 use Rattle.ob_vault.specs.Numbers.{number_after, last_number, spent}
-use Rattle.ob_vault.specs.Tied.{Ready, SealedAt, at_of}
+use Rattle.ob_vault.specs.Tied.{Ready, Scope, SealedAt, at_of}
 use Rattle.ob_vault.specs.Calls.{Went, Lasts, Seals, Unfit, Opened}
 use Rattle.ob_vault.specs.Words.{MayAsk, MayStart, StartsAnew, IsHonest}
-use Rattle.ob_vault.proofs.WorldSteps.{world, calm_lasts, number_stays}
+use Rattle.ob_vault.proofs.WorldSteps.{world, calm_lasts, seals_unasked}
 use Rattle.ob_vault.proofs.Runs.{went_spent, tells_went, shapes_none}
 use Rattle.std.proofs.lemmas.List.{append-nil}
 
@@ -97,13 +97,7 @@ module _ (v : VaultState) (s t : StoreState) (rests : Rests s t) where
       }
 
   pub seals_rests : (good : ℕ → List ℕ → Bool) → Seals good (world v s) (world v t)
-  seals_rests good = record {
-    seals = λ tells all. record {
-      all = λ q x block live last.
-          let was = all.all q x block (λ none. live (rests.keeps.live q ∙ none)) (sym (rests.keeps.last q x) ∙ last) in
-          record { number = was.number; rows = was.rows; is = was.is; went = number_stays (world v s) (world v t) [] q x was.number refl (rests.asked ∙ sym (append-nil s.asked)) was.went; fine = was.fine };
-    };
-  }
+  seals_rests good = seals_unasked good (world v s) (world v t) refl refl rests.asked (omega (arith, rests.faults)) rests.keeps
 
 -- of a vault that starts from nothing: it counts its own accesses
 pub earlier_nothing : earlier from_nothing ≡ 0
@@ -133,8 +127,8 @@ number_from_nothing asked q x = refl
 pub last_from_nothing : (w : World) (q x : ℕ) → w.vault.start ≡ from_nothing → last_number w q x ≡ number_of w.store.asked q x
 last_from_nothing w q x none = ap (λ (s : Start). number_after s w.store.asked q x) none ∙ number_from_nothing w.store.asked q x
 
-pub went_from_nothing : (good : ℕ → List ℕ → Bool) (w : World) (q x : ℕ) (block : List ℕ) → w.vault.start ≡ from_nothing → (is : SealedAt good w q x block) → nth_write is.number w.store.asked ≡ Some (q, x)
-went_from_nothing good w q x block none is = elim is.went [
+pub went_from_nothing : (good : ℕ → List ℕ → Bool) (scope : Scope) (w : World) (q x : ℕ) (block : List ℕ) → w.vault.start ≡ from_nothing → (is : SealedAt good scope w q x block) → nth_write is.number w.store.asked ≡ Some (q, x)
+went_from_nothing good scope w q x block none is = elim is.went [
   | inl went ↦ let zero : is.number - w.vault.start.writes ≡ is.number = omega (arith, ap (λ (s : Start). s.writes) none) in sym (ap (λ (k : ℕ). nth_write k w.store.asked) zero) ∙ went
   | inr given ↦ absurd (given.1 (given.0 ∙ ap (λ (s : Start). s.given q x) none))
 ]

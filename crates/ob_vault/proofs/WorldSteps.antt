@@ -19,12 +19,12 @@ use Rattle.ob_vault.specs.Revs.{OtherRegions, Begins, Wrote, turn_after, place_a
 use Rattle.ob_vault.specs.declared.region.Order.{Order}
 use Rattle.ob_vault.specs.declared.region.Order.TheVariants.{Round, Any}
 use Rattle.ob_vault.specs.State.{Start, RevState, VaultState, World, from_earlier, earlier}
-use Rattle.ob_base.specs.Accesses.{writes, makes, nth_write, make_at}
+use Rattle.ob_base.specs.Accesses.{writes, makes, nth_write, discard_at, read_at, write_at}
 use Rattle.ob_base.specs.Accesses.{AllBelow}
 use Rattle.ob_vault.specs.Numbers.{number_after, last_number, IsNumber, IsStart}
-use Rattle.ob_vault.specs.Tied.{InLaps, Ready, SealedAt, AllSealed, Fits, ReadsIn, Calm, OnTurn, Holds, at_of}
+use Rattle.ob_vault.specs.Tied.{InLaps, Ready, Scope, SealedAt, AllSealed, Fits, ReadsIn, Calm, OnTurn, Holds, at_of}
 use Rattle.ob_vault.specs.Calls.{Apart, Only, Lasts, Seals, Went, Cut, none, one}
-use Rattle.ob_vault.specs.VaultCalls.{MakesRegion, Forgets}
+use Rattle.ob_vault.specs.VaultCalls.{Forgets}
 use Rattle.ob_base.proofs.AccessLemmas.{number_read, number_make, number_discard, number_write_here, number_write_other, writes_read, writes_write, writes_make, writes_discard, makes_more, below_more, below_up, number_fresh, went_on, went_last}
 
 -- the number of a write is one after more accesses too
@@ -34,32 +34,48 @@ number_stays old new more q x n start asked is = elim is [
   | inr given ↦ inr (given.0 ∙ ap (λ (s : Start). s.given q x) (sym start), given.1)
 ]
 
-module _ (good : ℕ → List ℕ → Bool) (old new : World) (a : Access) (keys : new.vault.keys ≡ old.vault.keys) (start : new.vault.start ≡ old.vault.start) (asked : new.store.asked ≡ old.store.asked ++ a ∷ []) where
-  kept_at : (q x : ℕ) (b : List ℕ) → SealedAt good old q x b → SealedAt good new q x b
-  kept_at q x b s = record {
+-- what stood at a place of a live region stands there, and unless a call failed no write was made to it
+pub record StoodAt (scope : Scope) (old new : World) (q x : ℕ) (b : List ℕ) : Type 0 where
+  pub live : old.store.live q ≡ None → ⊥
+  pub last : old.store.last q x ≡ Some b
+  pub number : new.store.faults < scope.below → last_number new q x ≡ last_number old q x
+
+module _ (good : ℕ → List ℕ → Bool) (scope : Scope) (old new : World) (more : List Access) (keys : new.vault.keys ≡ old.vault.keys) (start : new.vault.start ≡ old.vault.start)
+    (asked : new.store.asked ≡ old.store.asked ++ more) (faults : old.store.faults ≤ new.store.faults) where
+  kept_at : (q x : ℕ) (b : List ℕ) → (new.store.faults < scope.below → last_number new q x ≡ last_number old q x) → SealedAt good scope old q x b → SealedAt good scope new q x b
+  kept_at q x b same s = record {
     number = s.number;
     rows = s.rows;
     is = s.is ∙ ap (λ (k : KeySet). sealed k (at_of q x s.number) s.rows) (sym keys);
-    went = number_stays old new (a ∷ []) q x s.number start asked s.went;
+    went = number_stays old new more q x s.number start asked s.went;
+    newest = λ few. s.newest (omega (arith, few, faults)) ∙ sym (same few);
     fine = s.fine;
   }
 
-  pub sealed_kept : ((q x : ℕ) (b : List ℕ) → (new.store.live q ≡ None → ⊥) → new.store.last q x ≡ Some b
-      → SealedAt good new q x b ⊎ ((old.store.live q ≡ None → ⊥) × (old.store.last q x ≡ Some b))) → AllSealed good old → AllSealed good new
-  sealed_kept each all = record { all = λ q x b live at. elim (each q x b live at) [ inl s ↦ s | inr o ↦ kept_at q x b (all.all q x b o.0 o.1) ] }
+  pub sealed_kept : ((q x : ℕ) (b : List ℕ) → (new.store.live q ≡ None → ⊥) → new.store.last q x ≡ Some b → SealedAt good scope new q x b ⊎ StoodAt scope old new q x b) → AllSealed good scope old → AllSealed good scope new
+  sealed_kept each all = record { all = λ q x b from live at. elim (each q x b live at) [ inl s ↦ s | inr o ↦ kept_at q x b o.number (all.all q x b from o.live o.last) ] }
 
-  pub sealed_keeps : Keeps old.store new.store → AllSealed good old → AllSealed good new
-  sealed_keeps keeps = sealed_kept (λ q x b live at. inr ((λ n. live (keeps.live q ∙ n)), sym (keeps.last q x) ∙ at))
+  -- over a call that makes no write
+  module _ (numbers : (q x : ℕ) → last_number new q x ≡ last_number old q x) where
+    pub sealed_keeps : Keeps old.store new.store → AllSealed good scope old → AllSealed good scope new
+    sealed_keeps keeps = sealed_kept (λ q x b live at. inr (record { live = λ n. live (keeps.live q ∙ n); last = sym (keeps.last q x) ∙ at; number = λ few. numbers q x }))
 
-  -- but for a region that is gone, or has no block
-  pub sealed_but : (g : ℕ) → OnlyRegion g old.store new.store → ((new.store.live g ≡ None) ⊎ ((x : ℕ) → new.store.last g x ≡ None)) → AllSealed good old → AllSealed good new
-  sealed_but g only gone = sealed_kept (λ q x b live at. elim (cases_eq q g) [
-    | inl here ↦ absurd (elim gone [
-      | inl left ↦ live (ap new.store.live here ∙ left)
-      | inr empty ↦ cc (sym at ∙ ap (λ (k : ℕ). new.store.last k x) here ∙ empty x)
+    -- but for a region that is gone, or has no block
+    pub sealed_but : (g : ℕ) → OnlyRegion g old.store new.store → ((new.store.live g ≡ None) ⊎ ((x : ℕ) → new.store.last g x ≡ None)) → AllSealed good scope old → AllSealed good scope new
+    sealed_but g only gone = sealed_kept (λ q x b live at. elim (cases_eq q g) [
+      | inl here ↦ absurd (elim gone [
+        | inl left ↦ live (ap new.store.live here ∙ left)
+        | inr empty ↦ cc (sym at ∙ ap (λ (k : ℕ). new.store.last k x) here ∙ empty x)
+      ])
+      | inr off ↦ inr (record { live = λ n. live (only.live q off ∙ n); last = sym (only.last q x off) ∙ at; number = λ few. numbers q x })
     ])
-    | inr off ↦ inr ((λ n. live (only.live q off ∙ n)), sym (only.last q x off) ∙ at)
-  ])
+
+-- where nothing was asked, and the vault has the same keys and start
+pub seals_unasked : (good : ℕ → List ℕ → Bool) (old new : World) → new.vault.keys ≡ old.vault.keys → new.vault.start ≡ old.vault.start → new.store.asked ≡ old.store.asked
+    → old.store.faults ≤ new.store.faults → Keeps old.store new.store → Seals good old new
+seals_unasked good old new keys start asked faults keeps = record {
+  seals = λ scope few tells all. sealed_keeps good scope old new [] keys start (asked ∙ sym (append-nil old.store.asked)) faults (λ q x i. number_after (start i) (asked i) q x) keeps all;
+}
 
 -- numbers and the next place that stay as they were
 pub laps_same : (q : ℕ) (shape : Region) (a b : RevState) → ((x : ℕ) → b.number q x ≡ a.number q x) → b.turn q ≡ a.turn q → InLaps q shape a → InLaps q shape b
@@ -268,11 +284,7 @@ forgets_region v revs s g others gone = record {
     spare = omega arith;
     calm = calm_lasts _ _ _ [] lasts (sym (append-nil s.asked)) refl;
   };
-  seals = λ good. record {
-    seals = λ tells all. record {
-      all = λ q x b live at. let is = all.all q x b live at in record { number = is.number; rows = is.rows; is = is.is; went = is.went; fine = is.fine };
-    };
-  };
+  seals = λ good. seals_unasked good _ _ refl refl refl (omega arith) (record { live = λ q. refl; last = λ q x. refl; kept = λ q. refl });
   gone = gone;
 }
 
@@ -281,26 +293,37 @@ pub seals_drop : (good : ℕ → List ℕ → Bool) (v : VaultState) (revs : Rev
 seals_drop good v revs old new g asks only left =
     let was = world v old in
     let now = world (record v { revs = revs }) new in
+    let numbers : (q x : ℕ) → number_after v.start new.asked q x ≡ number_after v.start old.asked q x =
+    λ q x. ap (λ (l : List Access). number_after v.start l q x) asks.asked ∙ number_discard v.start.writes (v.start.given q x) q x g old.asked in
     record {
-      seals = λ tells all. elim left [
-        | inl left ↦ sealed_but good was now (Discard g) refl refl asks.asked g only (inl left) all
-        | inr keeps ↦ sealed_keeps good was now (Discard g) refl refl asks.asked keeps all
+      seals = λ scope few tells all. elim left [
+        | inl left ↦ sealed_but good scope was now (discard_at g) refl refl asks.asked asks.faults numbers g only (inl left) all
+        | inr keeps ↦ sealed_keeps good scope was now (discard_at g) refl refl asks.asked asks.faults numbers keeps all
       ];
     }
 
 pub seals_read : (good : ℕ → List ℕ → Bool) (v : VaultState) (old new : StoreState) (q x : ℕ) → Asks (Read q x) old new → Keeps old new → Seals good (world v old) (world v new)
-seals_read good v old new q x asks keeps = record { seals = λ tells all. sealed_keeps good (world v old) (world v new) (Read q x) refl refl asks.asked keeps all }
+seals_read good v old new q x asks keeps =
+    let numbers : (r y : ℕ) → number_after v.start new.asked r y ≡ number_after v.start old.asked r y =
+    λ r y. ap (λ (l : List Access). number_after v.start l r y) asks.asked ∙ number_read v.start.writes (v.start.given r y) r y q x old.asked in
+    record { seals = λ scope few tells all. sealed_keeps good scope (world v old) (world v new) (read_at q x) refl refl asks.asked asks.faults numbers keeps all }
+
+-- no number changes by a make
+numbers_make : (v : VaultState) (old new : StoreState) (g blocks len : ℕ) → Asks (Make g blocks len) old new → (q x : ℕ) → number_after v.start new.asked q x ≡ number_after v.start old.asked q x
+numbers_make v old new g blocks len asks q x = ap (λ (l : List Access). number_after v.start l q x) asks.asked ∙ number_make v.start.writes (v.start.given q x) q x g blocks len old.asked
 
 -- a make: nothing lies in its region, if that is there
 pub seals_make : (good : ℕ → List ℕ → Bool) (v : VaultState) (revs : RevState) (old new : StoreState) (g blocks len : ℕ) → Asks (Make g blocks len) old new → Makes g blocks len old new
     → Seals good (world v old) (world (record v { next = v.next + 1; revs = revs }) new)
 seals_make good v revs old new g blocks len asks makes' =
-    record { seals = λ tells all. sealed_but good (world v old) (world (record v { next = v.next + 1; revs = revs }) new) (Make g blocks len) refl refl asks.asked g makes'.others (inr makes'.empty) all }
+    let numbers = numbers_make v old new g blocks len asks in
+    record { seals = λ scope few tells all. sealed_but good scope (world v old) (world (record v { next = v.next + 1; revs = revs }) new) (Make g blocks len ∷ []) refl refl asks.asked asks.faults numbers g makes'.others (inr makes'.empty) all }
 
 pub seals_unmade : (good : ℕ → List ℕ → Bool) (v : VaultState) (revs : RevState) (old new : StoreState) (g blocks len : ℕ) → Asks (Make g blocks len) old new → Keeps old new
     → Seals good (world v old) (world (record v { next = v.next + 1; revs = revs }) new)
 seals_unmade good v revs old new g blocks len asks keeps =
-    record { seals = λ tells all. sealed_keeps good (world v old) (world (record v { next = v.next + 1; revs = revs }) new) (Make g blocks len) refl refl asks.asked keeps all }
+    let numbers = numbers_make v old new g blocks len asks in
+    record { seals = λ scope few tells all. sealed_keeps good scope (world v old) (world (record v { next = v.next + 1; revs = revs }) new) (Make g blocks len ∷ []) refl refl asks.asked asks.faults numbers keeps all }
 
 pub only_keeps : (g : ℕ) (old new : StoreState) → Keeps old new → OnlyRegion g old new
 only_keeps g old new keeps = record { live = λ q off. keeps.live q; last = λ q x off. keeps.last q x; kept = λ q off. keeps.kept q }
@@ -382,18 +405,19 @@ module _ (v : VaultState) (revs : RevState) (old new : StoreState) (q x : ℕ) (
         laps = now_laps;
       }
 
-  now_sealed : (good : ℕ → List ℕ → Bool) (block rows : List ℕ) → IsTrue (good q rows) → block ≡ sealed v.keys (at_of q x (v.count + 1)) rows → (new.last q x ≡ old.last q x) ⊎ (new.last q x ≡ Some block)
-      → AllSealed good (world v old) → AllSealed good (world (record v { count = v.count + 1; revs = revs }) new)
-  now_sealed good block rows fine is left all = sealed_kept good (world v old) (world (record v { count = v.count + 1; revs = revs }) new) (Write q x) refl refl asks.asked each all
+  -- the block is there, or the store failed and what was there stands
+  now_sealed : (good : ℕ → List ℕ → Bool) (scope : Scope) (block rows : List ℕ) → IsTrue (good q rows) → block ≡ sealed v.keys (at_of q x (v.count + 1)) rows
+      → ((scope.below ≤ new.faults) × (new.last q x ≡ old.last q x)) ⊎ (new.last q x ≡ Some block) → AllSealed good scope (world v old) → AllSealed good scope (world (record v { count = v.count + 1; revs = revs }) new)
+  now_sealed good scope block rows fine is left all = sealed_kept good scope (world v old) (world (record v { count = v.count + 1; revs = revs }) new) (write_at q x) refl refl asks.asked asks.faults each all
     where
       now : World
       now = world (record v { count = v.count + 1; revs = revs }) new
 
       Goal : ℕ → ℕ → List ℕ → Type 0
-      Goal r y b = SealedAt good now r y b ⊎ ((old.live r ≡ None → ⊥) × (old.last r y ≡ Some b))
+      Goal r y b = SealedAt good scope now r y b ⊎ StoodAt scope (world v old) now r y b
 
-      at_place : (b : List ℕ) → (new.live q ≡ None → ⊥) → new.last q x ≡ Some b → (new.last q x ≡ old.last q x) ⊎ (new.last q x ≡ Some block) → Goal q x b
-      at_place b live at (inl same) = inr ((λ n. live (only.live q ∙ n)), sym same ∙ at)
+      at_place : (b : List ℕ) → (new.live q ≡ None → ⊥) → new.last q x ≡ Some b → ((scope.below ≤ new.faults) × (new.last q x ≡ old.last q x)) ⊎ (new.last q x ≡ Some block) → Goal q x b
+      at_place b live at (inl same) = inr (record { live = λ n. live (only.live q ∙ n); last = sym same.1 ∙ at; number = λ few. absurd (omega (arith, few, same.0)) })
       at_place b live at (inr put) =
           let same : b ≡ block = cc (at, put) in
           inl (record {
@@ -402,7 +426,11 @@ module _ (v : VaultState) (revs : RevState) (old new : StoreState) (q x : ℕ) (
             is = same ∙ is;
             fine = fine;
             went = inl (ap (nth_write (v.count + 1 - v.start.writes)) asks.asked ∙ went_last (v.count + 1 - v.start.writes) q x old.asked (omega (arith, ready.tied.count)));
+            newest = λ few. sym number_here;
           })
+
+      elsewhere : (r y : ℕ) (b : List ℕ) → (new.live r ≡ None → ⊥) → new.last r y ≡ Some b → (r ≡ q → y ≡ x → ⊥) → Goal r y b
+      elsewhere r y b live at off = inr (record { live = λ n. live (only.live r ∙ n); last = sym (only.elsewhere r y off) ∙ at; number = λ few. number_other r y off })
 
       each : (r y : ℕ) (b : List ℕ) → (new.live r ≡ None → ⊥) → new.last r y ≡ Some b → Goal r y b
       each r y b live at = elim (cases_eq r q) [
@@ -413,9 +441,9 @@ module _ (v : VaultState) (revs : RevState) (old new : StoreState) (q x : ℕ) (
               let there : new.last q x ≡ Some b = (λ i. new.last (r' i) (h' i)) ∙ at in
               let alive : new.live q ≡ None → ⊥ = λ n. live (ap new.live in_region ∙ n) in
               subst (λ (k : ℕ). Goal k y b) r' (subst (λ (k : ℕ). Goal q k b) h' (at_place b alive there left))
-          | inr off ↦ inr ((λ n. live (only.live r ∙ n)), sym (only.elsewhere r y (λ _ same. off same)) ∙ at)
+          | inr off ↦ elsewhere r y b live at (λ _ same. off same)
         ]
-        | inr off ↦ inr ((λ n. live (only.live r ∙ n)), sym (only.elsewhere r y (λ same _. off same)) ∙ at)
+        | inr off ↦ elsewhere r y b live at (λ same _. off same)
       ]
 
   pub lasts_write : Lasts (one q) (world v old) (world (record v { count = v.count + 1; revs = revs }) new)
@@ -435,9 +463,11 @@ module _ (v : VaultState) (revs : RevState) (old new : StoreState) (q x : ℕ) (
     };
   }
 
-  pub seals_write : (good : ℕ → List ℕ → Bool) (block rows : List ℕ) → IsTrue (good q rows) → block ≡ sealed v.keys (at_of q x (v.count + 1)) rows → (IsTrue old.tells → (new.last q x ≡ old.last q x) ⊎ (new.last q x ≡ Some block))
-      → Seals good (world v old) (world (record v { count = v.count + 1; revs = revs }) new)
-  seals_write good block rows fine is left = record { seals = λ tells all. now_sealed good block rows fine is (left tells) all }
+  pub seals_write : (good : ℕ → List ℕ → Bool) (block rows : List ℕ) → IsTrue (good q rows) → block ≡ sealed v.keys (at_of q x (v.count + 1)) rows
+      → (IsTrue old.tells → (Rises old.faults new.faults × (new.last q x ≡ old.last q x)) ⊎ (new.last q x ≡ Some block)) → Seals good (world v old) (world (record v { count = v.count + 1; revs = revs }) new)
+  seals_write good block rows fine is left = record {
+    seals = λ scope few tells all. now_sealed good scope block rows fine is (elim (left tells) [ inl failed ↦ inl (omega (arith, few, failed.0), failed.1) | inr put ↦ inr put ]) all;
+  }
 
   pub only_write : Only q x (world v old) (world (record v { count = v.count + 1; revs = revs }) new)
   only_write = record {
@@ -489,8 +519,7 @@ lasts_make v revs old new shape ready wide begins asks makes' =
     let access = Make g shape.blocks (shape.width + 32) in
     let was = world v old in
     let now = world (record v { next = v.next + 1; revs = revs }) new in
-    let numbers : (q x : ℕ) → number_after v.start new.asked q x ≡ number_after v.start old.asked q x =
-    λ q x. ap (λ (l : List Access). number_after v.start l q x) asks.asked ∙ number_make v.start.writes (v.start.given q x) q x g shape.blocks (shape.width + 32) old.asked in
+    let numbers = numbers_make v old new g shape.blocks (shape.width + 32) asks in
     lasts_moved g was now ready (record {
       keys = refl;
       start = refl;
@@ -539,7 +568,7 @@ lasts_unmade v revs old new blocks len ready same asks only =
       up = omega arith;
       revs = subst (OtherRegions g v.revs) (sym same) (others_same g v.revs);
       only = only;
-      numbers = λ q x. ap (λ (l : List Access). number_after v.start l q x) asks.asked ∙ number_make v.start.writes (v.start.given q x) q x g blocks len old.asked;
+      numbers = numbers_make v old new g blocks len asks;
       here_shape = inl gone;
       here_live = λ s l. absurd (cc (l, gone));
       here_number = λ s l x. absurd (cc (l, gone));

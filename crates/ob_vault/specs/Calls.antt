@@ -7,7 +7,7 @@ use Rattle.ob_store.specs.Runs.{Did, Began, Later}
 use Rattle.ob_vault.specs.declared.fault.VaultErr.{VaultErr}
 use Rattle.ob_vault.specs.declared.fault.VaultErr.TheVariants.{Failed, Tampered, NoMemory}
 use Rattle.ob_vault.specs.State.{World}
-use Rattle.ob_vault.specs.Tied.{Ready, AllSealed, Calm, EndsAt, at_of}
+use Rattle.ob_vault.specs.Tied.{Ready, Scope, AllSealed, Calm, EndsAt, at_of, next_fault}
 use Rattle.ob_vault.specs.Numbers.{last_number}
 use Rattle.ob_seal.specs.Sealed.{sealed, tag_of}
 
@@ -43,9 +43,10 @@ pub record Lasts (some : ℕ → Type 0) (old new : World) : Type 0 where
   pub shapes : KeepsShapes old new
   pub apart : Apart some old new
 
--- where all that lay in the store was sealed and good, it is
+-- where all that lay in the store was sealed and good, it is; and under the last numbers until a call fails
 pub record Seals (good : ℕ → List ℕ → Bool) (old new : World) : Type 0 where
-  pub seals : IsTrue old.store.tells → AllSealed good old → AllSealed good new
+  pub seals : (scope : Scope) → scope.below ≤ next_fault old.store → IsTrue old.store.tells
+      → AllSealed good scope old → AllSealed good scope new
 
 -- all of the script was asked, and no other region has changed
 pub record Went (script : List Access) (some : ℕ → Type 0) (old new : World) : Type 0 where

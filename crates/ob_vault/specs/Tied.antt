@@ -1,9 +1,9 @@
 -- How a vault and its store belong together.
-use Rattle.std.specs.Prelude.{◌≡◌, ◌≢◌, ◌<◌, ◌≤◌, ◌+◌, ◌-◌, ℕ, Bool, IsTrue, List, [], ◌∷◌, ◌++◌, length, take, drop, Some, None}
+use Rattle.std.specs.Prelude.{◌≡◌, ◌≢◌, ◌<◌, ◌≤◌, ◌+◌, ◌-◌, ◌^◌, min, ℕ, Bool, IsTrue, List, [], ◌∷◌, ◌++◌, length, take, drop, Some, None}
 use Rattle.ob_base.specs.Accesses.{AllBelow}
 use Rattle.ob_base.specs.declared.access.Access.{Access}
 use Rattle.ob_base.specs.declared.access.Access.TheVariants.{Read}
-use Rattle.ob_store.specs.State.{Lie}
+use Rattle.ob_store.specs.State.{Lie, StoreState}
 use Rattle.ob_store.specs.Calls.{IsRegion}
 use Rattle.ob_seal.specs.KeySet.{KeySet}
 use Rattle.ob_seal.specs.Sealed.{sealed, tag_of}
@@ -62,18 +62,30 @@ pub record Holds (q x : ℕ) (rows : List ℕ) (w : World) : Type 0 where
   pub last : w.store.last q x ≡ Some
       (sealed w.vault.keys (at_of q x (w.vault.revs.number q x)) rows)
 
+-- what the count of a store's faults is below until a call fails
+abbrev pub next_fault : StoreState → ℕ
+next_fault s = min (s.faults + 1) (2 ^ 64 - 1)
+
+-- of which blocks it is said that they are sealed: of regions from this one on; and under the number of the last write
+-- to their place for as long as the store's faults are below this
+pub record Scope : Type 0 where
+  pub from : ℕ
+  pub below : ℕ
+
 -- a block is some rows' that are good for its region, sealed under the number of a write to its place
-pub record SealedAt (good : ℕ → List ℕ → Bool) (w : World) (q x : ℕ) (block : List ℕ) : Type 0 where
+pub record SealedAt (good : ℕ → List ℕ → Bool) (scope : Scope) (w : World) (q x : ℕ)
+    (block : List ℕ) : Type 0 where
   pub number : ℕ
   pub rows : List ℕ
   pub is : block ≡ sealed w.vault.keys (at_of q x number) rows
   pub went : IsNumber w q x number
+  pub newest : w.store.faults < scope.below → number ≡ last_number w q x
   pub fine : IsTrue (good q rows)
 
 -- nothing lies in clear
-pub record AllSealed (good : ℕ → List ℕ → Bool) (w : World) : Type 0 where
-  pub all : (q x : ℕ) (block : List ℕ) → w.store.live q ≢ None → w.store.last q x ≡ Some block
-      → SealedAt good w q x block
+pub record AllSealed (good : ℕ → List ℕ → Bool) (scope : Scope) (w : World) : Type 0 where
+  pub all : (q x : ℕ) (block : List ℕ) → scope.from ≤ q → w.store.live q ≢ None
+      → w.store.last q x ≡ Some block → SealedAt good scope w q x block
 
 -- the place of a lie and the number of its last write then
 abbrev pub at_lie : Start → Lie → At

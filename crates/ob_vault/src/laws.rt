@@ -1,12 +1,12 @@
 //! Laws of the numbers of writes, and of tags.
-ghost use Rattle.std.specs.Prelude.{◌≡◌, ◌≢◌, ℕ, Bool, List, None, Some};
+ghost use Rattle.std.specs.Prelude.{◌≡◌, ◌≢◌, ◌≤◌, ℕ, Bool, List, None, Some};
 ghost use Rattle.ob_store.specs.State.{Lie};
 ghost use Rattle.ob_seal.specs.KeySet.{KeySet, pair_of};
 ghost use Rattle.ob_seal.specs.Sealed.{InRange, TwoTexts, sealed, tag_of};
 ghost use Rattle.ob_seal.specs.declared.At.{At as Head};
 ghost use Rattle.ob_vault.specs.State.{Start, World};
 ghost use Rattle.ob_vault.specs.Numbers.{IsNumber, IsWrite, last_number, write_number};
-ghost use Rattle.ob_vault.specs.Tied.{AllSealed, Calm, Fits, Holds, Ready, Tied, at_lie};
+ghost use Rattle.ob_vault.specs.Tied.{AllSealed, Calm, Fits, Holds, Ready, Scope, Tied, at_lie};
 ghost use Rattle.ob_vault.specs.Rekeying.{rekeyed};
 
 /// No two writes have one number, and the number of a place is that of a write to it alone.
@@ -37,9 +37,10 @@ pub fn regions_keep_keys()
     ensures holds { (keys : KeySet) (w : World) (q x : ℕ) (rows : List ℕ)
         → pair_of w.vault.keys q ≡ pair_of keys q → Holds q x rows w
         → Holds q x rows (rekeyed keys w) }
-    ensures sealed { (keys : KeySet) (w : World) (good : ℕ → List ℕ → Bool)
-        → ((q : ℕ) → w.store.live q ≢ None → pair_of w.vault.keys q ≡ pair_of keys q)
-        → AllSealed good w → AllSealed good (rekeyed keys w) }
+    ensures sealed { (keys : KeySet) (w : World) (good : ℕ → List ℕ → Bool) (scope : Scope)
+        → ((q : ℕ) → scope.from ≤ q → w.store.live q ≢ None
+        → pair_of w.vault.keys q ≡ pair_of keys q)
+        → AllSealed good scope w → AllSealed good scope (rekeyed keys w) }
     ensures calm { (keys : KeySet) (w : World)
         → ((lie : Lie) → w.store.lie ≡ Some lie
         → pair_of w.vault.keys lie.region ≡ pair_of keys lie.region)

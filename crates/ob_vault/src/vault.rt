@@ -29,7 +29,7 @@ impl<R: Revisions> Vault<R> {
     ghost use Rattle.std.specs.Prelude.{◌≡◌, ◌<◌, ◌≤◌, ◌+◌, ◌-◌, ◌^◌, [], ℕ, Some, None, min};
     ghost use Rattle.ob_store.specs.State.{StoreState};
     ghost use Rattle.ob_vault.specs.declared.region.Region.{Region as Layout};
-    ghost use Rattle.ob_vault.specs.State.{from_nothing, from_earlier};
+    ghost use Rattle.ob_vault.specs.State.{HasNoneFrom, from_nothing, from_earlier};
     ghost use Rattle.ob_vault.specs.Numbers.{spent};
     ghost use Rattle.ob_vault.specs.Tied.{Ready, Lives};
     ghost use Rattle.ob_vault.specs.Rows.{SameSizes};
@@ -252,6 +252,14 @@ impl<R: Revisions> Vault<R> {
             → Forgets region (at R.state self.old s) (at R.state self.new s) }
     {
         self.revs.end(region);
+    }
+
+    /// Has the store give up the regions from this number on, none of which the vault has.
+    pub fn give_up<S: BlockStore>(&self, store: &mut S, from: u64)
+        requires forgotten { HasNoneFrom from (R.state self.now.revs) }
+        ensures same { S.state store.new ≡ S.state store.old }
+    {
+        store.give_up(from);
     }
 
     /// Goes on under these keys, and keeps its regions and numbers. A run that saves its tables learns the salts of

@@ -1,4 +1,4 @@
-use Rattle.std.proofs.Common.{[], ◌≡◌, inl, ℕ, None, refl, ◌∙◌, ap, subst, arith}
+use Rattle.std.proofs.Common.{[], ◌≡◌, inl, ℕ, None, Result, Ok, Err, refl, ◌∙◌, ap, subst, arith}
 use Rattle.std.proofs.lemmas.Result.{err_from_is_err_and}
 use Rattle.ob_base.specs.Accesses.{write_at}
 use Rattle.ob_base.specs.Lists.{each}
@@ -7,6 +7,8 @@ use Rattle.ob_vault.specs.Places.{at}
 use Rattle.ob_vault.proofs.Runs.{tells_went, holds_rows, went_join}
 use Rattle.ob_vault.proofs.WordLemmas.{asks_after}
 use Rattle.ob_blocks.specs.Blocks.{none_of}
+use Rattle.ob_flat.specs.declared.fault.OpErr.{OpErr}
+use Rattle.ob_flat.specs.declared.fault.OpErr.TheVariants.{NoMemory}
 use Rattle.ob_flat.specs.Passes.{pass_error}
 use Rattle.ob_flat.specs.Words.{SealsTable, blocks_of}
 use Rattle.ob_flat.specs.Creates.{table_of, make_script}
@@ -50,6 +52,10 @@ fill_blocks-requires g c =
     let asks = asks_after {m = blocks_of pack (table_of c.args.schema.now c.args.slots 0)} c.requires.asks makes.ran.ok (omega arith) in
     rw (makes.number, c.region_of_slots.ensures) (record { asks = asks; lives = makes.lives; turn = makes.turn; fit = (rw c.requires.one at c.requires.fit) })
 
+-- it was no want of memory
+no_error : {P : Type 0} (region : ℕ) → ◌≡◌ {A = Result ℕ OpErr} (Ok region) (Err NoMemory) → P
+no_error region is = absurd (cc is)
+
 pub returns-in-Ok : goal.returns-in-Ok
 returns-in-Ok g c =
     let rows = c.args.rows.now in
@@ -65,7 +71,7 @@ returns-in-Ok g c =
       creates = record {
         ran = record { ok = went_join (one flat.region) _ _ _ (make_script pack flat) (each (blocks_of pack flat) (write_at flat.region)) makes.ran.ok fills.ok; err = tt };
         never = tt;
-        memory = record { did = λ is. absurd (cc is) };
+        memory = record { did = λ is. no_error _ is };
         number = makes.number;
         lives = fills.filled.lives;
         table = flat_filled c.args.order pack flat refl refl fills.filled.lives fills.filled.turn fills.filled.written;

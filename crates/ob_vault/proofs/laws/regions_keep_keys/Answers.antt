@@ -8,7 +8,7 @@ pub returns-clause-holds : goal.returns-clause-holds
 returns-clause-holds c = holds_rekeyed
 
 pub returns-clause-sealed : goal.returns-clause-sealed
-returns-clause-sealed c = λ keys w good same all. sealed_rekeyed keys w good same all
+returns-clause-sealed c = λ keys w good scope same all. sealed_rekeyed keys w good scope same all
 
 pub returns-clause-calm : goal.returns-clause-calm
 returns-clause-calm c = calm_rekeyed

@@ -1,4 +1,4 @@
-use Rattle.std.proofs.Common.{arith, ◌≡◌, ◌∙◌, inl, inr, refl, sym}
+use Rattle.std.proofs.Common.{arith, ◌∙◌, inl, inr, refl, sym}
 use Rattle.ob_vault.specs.Places.{start_of}
 use Rattle.ob_vault.specs.declared.region.Region.{Region}
 use Rattle.ob_base.proofs.AccessLemmas.{makes_few, highest_below}

@@ -76,7 +76,7 @@ returns-in-Err g c =
         written = record { number = λ none. absurd (omega (arith, none, wrote.here)) };
         turn = λ shape is. turn_of _ _ _ _ _ (turn_write _ _ _ _ _ _ _ c.requires.ready lives in_turn wrote write.asks write.only) (same_shape _ _ _ lives is.live);
         seals = λ good shape is fine.
-            seals_write _ _ _ _ _ _ _ c.requires.ready lives in_turn wrote write.asks write.only good _ _ fine (shut shape (same_shape _ _ _ lives is.live)) (λ tells. c.in-Err.ensures.err.last);
+            seals_write _ _ _ _ _ _ _ c.requires.ready lives in_turn wrote write.asks write.only good _ _ fine (shut shape (same_shape _ _ _ lives is.live)) (λ tells. elim c.in-Err.ensures.err.last [ inl same ↦ inl (c.in-Err.ensures.cause, same) | inr new ↦ inr new ]);
         told = tt;
         failed = λ tells shape is. elim c.in-Err.ensures.err.last [
           | inl same ↦ inl same
