@@ -1,11 +1,12 @@
 #!/bin/sh
 # Runs the program over files: the sessions of examples/, with 1, 2 and 16 rows in a block, whose answers stand beside them;
 # and with others at work: a folder that isn't there, a file that another program changes or cuts short while the session
-# runs, and a disk that is full (a limit on the size of files). Prints a line for each, and ends with 1 where an answer, a
-# status or the files that stay behind are not as they should be.
+# runs, a disk that is full (a limit on the size of files), also behind a region that was written whole, and one that fails
+# while a result is read back; and 1,500 statements that fail where few files may be open. Prints a line for each, and ends
+# with 1 where an answer, a status or the files that stay behind are not as they should be.
 #
-# Needs `rt` (bench/build.sh) and python3, on a system whose limit on the size of files binds (Linux). Takes a second
-# once the program is built.
+# Needs `rt` (bench/build.sh), python3 and `strace`, on a system whose limit on the size of files binds (Linux). Takes some
+# seconds once the program is built.
 set -eu
 top=$(cd "$(dirname "$0")/.." && pwd)
 work=$(mktemp -d)
@@ -22,8 +23,9 @@ COUNT = "SELECT COUNT(*) FROM t;\n"
 ONE = ['"COUNT(*)"', '"1"', "= 1 rows"]
 failed = 0
 
-# A session whose statements come in two parts, with something done between them.
-def session(name, store, first, second, between, wanted, status, files, limit=None):
+# A session whose statements come in two parts, with something done between them; maybe under a limit of the size of files
+# or of how many are open, by other words or behind other ones.
+def session(name, store, first, second, between, wanted, status, files, limit=None, most=None, words=(), behind=()):
     global failed
     folder = os.path.join(work, name.replace(" ", "_"))
     os.mkdir(folder)
@@ -32,8 +34,10 @@ def session(name, store, first, second, between, wanted, status, files, limit=No
         if limit:
             signal.signal(signal.SIGXFSZ, signal.SIG_IGN)
             resource.setrlimit(resource.RLIMIT_FSIZE, (limit, limit))
+        if most:
+            resource.setrlimit(resource.RLIMIT_NOFILE, (most, most))
 
-    child = subprocess.Popen([program, "--store", os.path.join(folder, store)], stdin=subprocess.PIPE, stdout=subprocess.PIPE, text=True, preexec_fn=limited)
+    child = subprocess.Popen([*behind, program, "--store", os.path.join(folder, store), *words], stdin=subprocess.PIPE, stdout=subprocess.PIPE, text=True, preexec_fn=limited)
     child.stdin.write(KEY + first)
     child.stdin.flush()
     got = [child.stdout.readline().rstrip("\n") for _ in range(first.count(";"))]
@@ -67,6 +71,23 @@ session("a file that was cut short", "s", MADE, COUNT + COUNT, cut, MADE_LINES +
 session("a full disk", "s", MADE, "CREATE TABLE big (id INT) CAPACITY 4096;\n" * 5 + COUNT, nothing, MADE_LINES + ["E15 store fault"] * 5 + ONE, 1, ["s.2"], 65536)
 session("a file that was cut short before an INSERT", "s", MADE, "INSERT INTO t VALUES (2, 20);\n", cut, MADE_LINES + ["E15 store fault"], 1, ["s.2"])
 session("a table that is given up", "s", MADE, "DROP TABLE t;\n", nothing, MADE_LINES + ["= dropped"], 0, [])
+
+# A join whose result, by Hash, is longer than the joined region: the disk is full behind that one. Of another SELECT the
+# last read, which is that of its result, fails.
+FAULT = ["E15 store fault"]
+JOINED = MADE + "CREATE TABLE u (id INT, v INT) CAPACITY 8;\n" + "".join(f"INSERT INTO u VALUES (1, {n});\n" for n in range(8))
+JOIN, HASH = "SELECT * FROM t JOIN u ON t.id = u.id;\n", ("--plan", "hash", "--depth", "8")
+JOINED_LINES = MADE_LINES + ["= created"] + ["= inserted"] * 8
+session("a full disk behind a joined region", "s", JOINED, JOIN + COUNT, nothing, JOINED_LINES + FAULT + ONE, 1, ["s.11", "s.2"], 1000, words=HASH)
+ROWS = "SELECT * FROM t;\n"
+reads = os.path.join(work, "reads")
+subprocess.run(["strace", "-o", reads, "-e", "trace=pread64", program, "--store", os.path.join(work, "r")], input=KEY + MADE + ROWS, text=True, stdout=subprocess.DEVNULL)
+count = len([line for line in open(reads) if line.startswith("pread64")])
+failing = ("strace", "-o", os.devnull, "-e", "trace=pread64", "-e", f"inject=pread64:error=EIO:when={count}")
+session("a disk that fails while a result is read back", "s", MADE, ROWS + ROWS, nothing, MADE_LINES + ['"id","v"'] + FAULT + ['"id","v"', '"1","10"', "= 1 rows"], 1, ["s.2"], behind=failing)
+MANY = 1500
+session("statements that fail where few files may be open", "s", MADE, "CREATE TABLE big (id INT) CAPACITY 256;\n" * MANY + COUNT, nothing, MADE_LINES + FAULT * MANY + ONE, 1, ["s.2"], 4096, 16)
+session("joins that fail where few files may be open", "s", JOINED, JOIN * 200 + COUNT, nothing, JOINED_LINES + FAULT * 200 + ONE, 1, ["s.11", "s.2"], 1000, 16, HASH)
 
 # The sessions of examples/. With more rows in a block the same rows are printed, in the same order.
 for session_text in sorted(examples.glob("*.sql")):

@@ -151,7 +151,7 @@ expect("no mark at all", run(folder, COUNT), ["! keeper fault"], 10, mark_of(fol
 
 # ---- a full disk, and a mark elsewhere
 folder = begun("a full disk")
-expect("a disk that is full for the closing", run(folder, COUNT, limit=1000), rows(1) + ["! store fault"], 3, mark_of(folder) == "in use\n")
+expect("a disk that is full for the closing", run(folder, COUNT, limit=1000), rows(1) + ["! store fault"], 3, mark_of(folder) == "in use\n" and len(regions_of(folder)) == 1)
 
 folder, safe = folder_of("a link"), folder_of("a safe place")
 os.mkdir(folder)

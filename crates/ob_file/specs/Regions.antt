@@ -6,26 +6,26 @@ use Rattle.std.specs.Map.{lookup}
 use Rattle.std.proofs.Common.{ap}
 use Rattle.ob_base.specs.declared.access.Access.{Access}
 use Rattle.ob_store.specs.State.{Shape}
-use Rattle.ob_file.specs.declared.region.Region.{Region}
+use Rattle.ob_file.specs.declared.region.Size.{Size}
 
-abbrev pub shape_of : {F : Type 0} → Option (Region F) → Option Shape
+abbrev pub shape_of : Option Size → Option Shape
 shape_of None = None
 shape_of (Some r) = Some (record { blocks = r.blocks; len = r.len })
 
-abbrev pub is_fresh : {F : Type 0} → List Access → List (ℕ × Region F) → Bool
+abbrev pub is_fresh : List Access → List (ℕ × Size) → Bool
 is_fresh [] (entry ∷ entries) = false
 is_fresh [] [] = true
 is_fresh (access ∷ log) entries = true
 
 -- no region, where nothing was asked
-abbrev pub IsFresh : {F : Type 0} → List Access → BTreeMap ℕ (Region F) → Type 0
+abbrev pub IsFresh : List Access → BTreeMap ℕ Size → Type 0
 IsFresh log regions = IsTrue (is_fresh log regions.entries)
 
-no_entries : {F : Type 0} (log : List Access) (entries : List (ℕ × Region F)) → IsTrue (is_fresh log entries) → log ≡ [] → entries ≡ []
+no_entries : (log : List Access) (entries : List (ℕ × Size)) → IsTrue (is_fresh log entries) → log ≡ [] → entries ≡ []
 no_entries log [] fresh none = refl
 no_entries [] (entry ∷ entries) fresh none = absurd (cc fresh)
 no_entries (access ∷ log) (entry ∷ entries) fresh none = absurd (cc none)
 
-pub fresh_live : {F : Type 0} (log : List Access) (regions : BTreeMap ℕ (Region F)) → IsFresh log regions → log ≡ [] → (r : ℕ) → shape_of (get nat_cmp regions r) ≡ None
-fresh_live {F = F} log regions fresh none r =
-    ap (λ (entries : List (ℕ × Region F)). shape_of (lookup (is_at (nat_cmp r)) entries)) (no_entries log regions.entries fresh none)
+pub fresh_live : (log : List Access) (regions : BTreeMap ℕ Size) → IsFresh log regions → log ≡ [] → (r : ℕ) → shape_of (get nat_cmp regions r) ≡ None
+fresh_live log regions fresh none r =
+    ap (λ (entries : List (ℕ × Size)). shape_of (lookup (is_at (nat_cmp r)) entries)) (no_entries log regions.entries fresh none)

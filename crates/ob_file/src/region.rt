@@ -7,13 +7,18 @@ use std::io::ErrorKind;
 use std::os::unix::fs::FileExt;
 use std::rt::Files;
 
-/// A region: its file, which stays open, and the size of its blocks.
+/// The size of a region: how many blocks it has, and their length.
 #[derive(Drop)]
-pub struct Region<F> {
-    pub path: String,
-    pub file: F,
+pub struct Size {
     pub blocks: u32,
     pub len: u32,
+}
+
+/// The file of a region, which is open.
+#[derive(Drop)]
+pub struct Opened<F> {
+    pub path: String,
+    pub file: F,
 }
 
 /// Takes away what has this name, if anything has.
@@ -37,6 +42,12 @@ pub fn create<R: Files>(files: &R, path: &str) -> Result<R::File, Failed> {
         Ok(file) => Ok(file),
         Err(_) => Err(Failed),
     }
+}
+
+/// Closes the file of a region and removes it, where the file system lets it; what it took of the disk is freed before.
+pub fn remove<R: Files>(files: &R, opened: Opened<R::File>) {
+    let _ = opened.file.set_len(0);
+    let _ = remove_file(files, opened.path.as_str());
 }
 
 /// Opens the file that a region of an earlier run has, of so many bytes. A link isn't followed, and nothing is waited for.

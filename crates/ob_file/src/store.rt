@@ -5,7 +5,7 @@ ghost use Rattle.std.specs.BTreeMap.{get};
 ghost use Rattle.ob_store.specs.Logs.{asked_of};
 ghost use Rattle.ob_file.specs.Regions.{IsFresh, fresh_live, shape_of};
 
-use crate::region::{Region, create, read, reopen, write};
+use crate::region::{Opened, Size, create, read, remove, reopen, write};
 use ob_base::{Access, Failed, NoMemory, StoreErr};
 use ob_store::{BlockStore, Lasting, Log};
 use std::alloc::Global;
@@ -21,17 +21,18 @@ const LONGEST: usize = 16416;
 /// A store that keeps each region in a file of its own, `NAME.REGION`, block by block from the first byte on. A file
 /// is open for as long as its region lives. What the files hold is not told: others may change them at any time.
 ///
-/// Each error of a file, a file that is too short, and what isn't a file where one is wanted is `Failed`. Where a call
-/// fails while the region that was made last isn't full, its last block not yet written, it won't be any more: its file
-/// is emptied and removed.
+/// Each error of a file, a file that is too short, and what isn't a file where one is wanted is `Failed`. The files of
+/// regions that are given up are emptied, removed and closed; a call at one of them is `Failed` from then on.
 #[derive(Drop)]
 pub struct FileStore<'a, R: Files> {
     alloc: Global,
     files: &'a R,
     name: String,
     log: Log,
-    regions: BTreeMap<u64, Region<R::File>>,
-    filling: Option<u64>,
+    // those that live, whether they were given up or not
+    regions: BTreeMap<u64, Size>,
+    // the files of those that were not
+    opened: BTreeMap<u64, Opened<R::File>>,
     faults: u64,
     slips: u64,
     given: [u8; 16416],
@@ -40,18 +41,15 @@ pub struct FileStore<'a, R: Files> {
     ghost short: { given_len ≤ 16416 },
 }
 
-// Removes the file of the region that is being filled, if one is, and frees what it took of the disk.
-fn give_up<R: Files>(
-    files: &R,
-    regions: &BTreeMap<u64, Region<R::File>>,
-    filling: &mut Option<u64>,
-) {
-    let Some(region) = filling.take() else {
-        return;
-    };
-    if let Some(begun) = regions.get(&region) {
-        let _ = begun.file.set_len(0);
-        let _ = fs::remove_file(files, begun.path.as_str());
+// Removes the files of the regions from this number on.
+fn remove_from<R: Files>(files: &R, opened: &mut BTreeMap<u64, Opened<R::File>>, from: u64) {
+    'files: while let Some((last, _)) = opened.last_key_value() {
+        if *last < from {
+            return;
+        }
+        if let Some((_, file)) = opened.pop_last() {
+            remove(files, file);
+        }
     }
 }
 
@@ -79,7 +77,7 @@ impl<'a, R: Files> FileStore<'a, R> {
             name,
             log: Log::new(alloc),
             regions: BTreeMap::new(alloc),
-            filling: None,
+            opened: BTreeMap::new(alloc),
             faults: 0,
             slips: 0,
             given: [0; 16416],
@@ -142,23 +140,19 @@ where
         };
         let Ok(file) = create(self.files, path.as_str()) else {
             self.faults = self.faults.saturating_add(1);
-            give_up(self.files, &self.regions, &mut self.filling);
             return Err(StoreErr::Failed);
         };
-        let made = Region {
-            path,
-            file,
-            blocks,
-            len,
-        };
+        if let Err(unmade) = self.opened.insert(region, Opened { path, file }) {
+            remove(self.files, unmade.value.1);
+            return Err(StoreErr::NoMemory);
+        }
+        let made = Size { blocks, len };
         match self.regions.insert(region, made) {
-            Ok(_) => {
-                self.filling = Some(region);
-                Ok(())
-            }
-            Err(unmade) => {
-                let (_, left) = unmade.value;
-                let _ = fs::remove_file(self.files, left.path.as_str());
+            Ok(_) => Ok(()),
+            Err(_) => {
+                if let Some(unmade) = self.opened.remove(&region) {
+                    remove(self.files, unmade);
+                }
                 Err(StoreErr::NoMemory)
             }
         }
@@ -166,9 +160,9 @@ where
 
     fn read(&mut self, region: u64, place: u32, buf: &mut [u8]) -> Result<(), Failed> {
         self.log.push(Access::Read { region, place });
-        let done = match self.regions.get(&region) {
+        let done = match self.opened.get(&region) {
             Some(found) => read(&found.file, place, buf),
-            None => unreachable!(),
+            None => Err(Failed),
         };
         match done {
             Ok(()) => {
@@ -178,7 +172,6 @@ where
             }
             Err(Failed) => {
                 self.faults = self.faults.saturating_add(1);
-                give_up(self.files, &self.regions, &mut self.filling);
                 Err(Failed)
             }
         }
@@ -186,34 +179,33 @@ where
 
     fn write(&mut self, region: u64, place: u32, block: &[u8]) -> Result<(), Failed> {
         self.log.push(Access::Write { region, place });
-        let (done, is_last) = match self.regions.get(&region) {
-            Some(found) => {
-                let is_last = u64::from(place) + 1 == u64::from(found.blocks);
-                (write(&found.file, place, block), is_last)
-            }
-            None => unreachable!(),
+        let done = match self.opened.get(&region) {
+            Some(found) => write(&found.file, place, block),
+            None => Err(Failed),
         };
         if done.is_err() {
             self.faults = self.faults.saturating_add(1);
-            give_up(self.files, &self.regions, &mut self.filling);
-        } else if is_last && self.filling == Some(region) {
-            self.filling = None;
         }
         done
     }
 
     fn discard(&mut self, region: u64) -> Result<(), Failed> {
         self.log.push(Access::Discard { region });
-        let Some(gone) = self.regions.remove(&region) else {
-            unreachable!();
+        let _ = self.regions.remove(&region);
+        let done = match self.opened.remove(&region) {
+            Some(gone) => fs::remove_file(self.files, gone.path.as_str()).is_ok(),
+            None => false,
         };
-        match fs::remove_file(self.files, gone.path.as_str()) {
-            Ok(()) => Ok(()),
-            Err(_) => {
-                self.slips = self.slips.saturating_add(1);
-                Err(Failed)
-            }
+        if done {
+            Ok(())
+        } else {
+            self.slips = self.slips.saturating_add(1);
+            Err(Failed)
         }
+    }
+
+    fn give_up(&mut self, from: u64) {
+        remove_from(self.files, &mut self.opened, from);
     }
 
     fn count(&self) -> u64 {
@@ -243,15 +235,16 @@ where
             self.faults = self.faults.saturating_add(1);
             return Err(StoreErr::Failed);
         };
-        let found = Region {
-            path,
-            file,
-            blocks,
-            len,
-        };
+        if self.opened.insert(region, Opened { path, file }).is_err() {
+            return Err(StoreErr::NoMemory);
+        }
+        let found = Size { blocks, len };
         match self.regions.insert(region, found) {
             Ok(_) => Ok(()),
-            Err(_) => Err(StoreErr::NoMemory),
+            Err(_) => {
+                let _ = self.opened.remove(&region);
+                Err(StoreErr::NoMemory)
+            }
         }
     }
 }

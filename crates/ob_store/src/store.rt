@@ -87,6 +87,14 @@ pub trait BlockStore {
         ensures given_up { (state self.new).live region ≡ None → IsGivenUp region (state self.new) }
         ensures lie { (state self.new).lie ≡ (state self.old).lie };
 
+    /// Gives up the regions from this number on: nobody will ask for them any more.
+    ///
+    /// It is no access, and can't fail. A store that has better use for their room frees it, whether they were taken
+    /// out or not; a later call at one of them may fail.
+    fn give_up(&mut self, _from: u64)
+        ensures same { state self.new ≡ state self.old }
+    {}
+
     /// How many accesses were asked so far.
     fn count(&self) -> u64
         ensures { result ≡ length (state self.now).asked };
