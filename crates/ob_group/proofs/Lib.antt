@@ -6,7 +6,7 @@ pub mod Taking
 pub mod Wide
 pub mod TotalBytes
 pub mod GroupBytes
-pub mod Listed
+pub mod Keyed
 pub mod Kept
 pub mod Putting
 pub mod SlotLemmas

@@ -1,10 +1,9 @@
 -- The bytes of a running group: its key, as a row spells it, and 16 bytes for each total.
 use Rattle.std.specs.Prelude.{◌≡◌, ◌≤◌, ◌<◌, ℕ, ◌+◌, ◌^◌, ◌-◌, ℤ, negsuc, List, [], ◌∷◌, ◌++◌, length, Option, Some, None, slice_index_or}
 use Rattle.std.specs.Int.{to_be_bytes, cast_unsigned, w128}
-use Rattle.std.specs.List.{Contains}
 use Rattle.ob_base.specs.declared.schema.Kind.{Kind}
 use Rattle.ob_base.specs.Schemas.{kind_width}
-use Rattle.ob_order.specs.Orders.{AreInOrder}
+use Rattle.ob_order.specs.Buckets.{BucketsState, AreBucketed}
 use Rattle.ob_row.specs.declared.cell.Cell.{Cell}
 use Rattle.ob_row.specs.Spelling.{FitsKind, cell_bytes}
 use Rattle.ob_vault.specs.Rows.{row_at}
@@ -73,13 +72,6 @@ pub record MayGrow (kind : Kind) (count n more : ℕ) (rows : List (List ℕ)) :
   pub room : m + more ≤ 2147483648
   pub are : AreGroups kind m count n groups rows
 
--- these are the places of the first n rows, each once, in order of the keys that the rows begin with
-pub record AreListed (width n : ℕ) (rows : List (List ℕ)) (places : List ℕ) : Type 0 where
-  pub sorted : AreInOrder 0 width rows places
-  pub count : length places ≡ n
-  pub each : (i : ℕ) → Contains places i → i < n
-  pub all : (i : ℕ) → i < n → Contains places i
-
--- those of n groups are, unless they are more than the rows
-abbrev pub ListsGroups : Kind → (n : ℕ) → (rows : List (List ℕ)) → (places : List ℕ) → Type 0
-ListsGroups kind n rows places = n ≤ length rows → AreListed (kind_width kind) n rows places
+-- n groups are in the buckets of the keys that their rows begin with, unless they are more than the rows
+abbrev pub KeepsGroups : Kind → (n : ℕ) → (rows : List (List ℕ)) → BucketsState → Type 0
+KeepsGroups kind n rows buckets = n ≤ length rows → AreBucketed 0 (kind_width kind) n rows buckets

@@ -13,7 +13,7 @@ use crate::emitting::emit_answer;
 use crate::reading::group_blocks;
 use ob_base::{Emit, EmitErr};
 use ob_flat::{Flat, OpErr};
-use ob_order::Order;
+use ob_order::Buckets;
 use ob_room::{ClearRow, Room};
 use ob_row::{Item, Pred};
 use ob_store::BlockStore;
@@ -30,7 +30,7 @@ pub enum Grouped {
 fn group_table<S: BlockStore, R: Revisions, E: Emit>(
     store: &mut S,
     vault: &mut Vault<R>,
-    order: &mut Order,
+    buckets: &mut Buckets,
     rows: &mut [ClearRow],
     groups: &mut [ClearRow],
     flat: &Flat,
@@ -45,8 +45,8 @@ fn group_table<S: BlockStore, R: Revisions, E: Emit>(
     requires fit { FitBlock flat.now.schema rows.old }
     requires items { AreItems flat.now.schema key items.now }
     requires places { AreGroupRows groups.old }
-    requires most { length groups.old ≤ order.old.most }
-    ensures most { order.new.most ≡ order.old.most }
+    requires most { length groups.old ≤ buckets.old.most }
+    ensures most { buckets.new.most ≡ buckets.old.most }
     ensures rows { SameSizes rows.old rows.new }
     ensures groups { SameSizes groups.old groups.new }
     ensures answers { GroupsRows E.grew E.cut E.faults (length groups.old) (length rows.old)
@@ -54,7 +54,7 @@ fn group_table<S: BlockStore, R: Revisions, E: Emit>(
         (at R.state vault.old (S.state store.old)) (at R.state vault.new (S.state store.new))
         out.old out.new }
 {
-    match group_blocks(store, vault, order, rows, groups, flat, pred, key, items) {
+    match group_blocks(store, vault, buckets, rows, groups, flat, pred, key, items) {
         Ok(n) => {
             if n > groups.len() {
                 Ok(Grouped::TooMany)
@@ -82,13 +82,13 @@ fn group_table<S: BlockStore, R: Revisions, E: Emit>(
 /// `Failed` where the store failed, and `Tampered` with the place of a block that is not what was written
 /// there last, or that has a malformed row: nothing is emitted then. Once all blocks were read, `Sink`
 /// where the emitter failed, and `NoMemory` where it had no memory: what was emitted by then is a first
-/// part of the whole. It takes no memory itself: `order` has room for a place of each row of `room`, and
-/// a row's group is found in it by halving.
+/// part of the whole. It takes no memory itself: `buckets` has room for a place of each row of `room`, and
+/// a row's group is found in its key's bucket.
 pub fn group<S: BlockStore, R: Revisions, E: Emit>(
     store: &mut S,
     vault: &mut Vault<R>,
     room: &mut Room,
-    order: &mut Order,
+    buckets: &mut Buckets,
     flat: &Flat,
     pred: &Pred,
     key: u8,
@@ -102,8 +102,8 @@ pub fn group<S: BlockStore, R: Revisions, E: Emit>(
     requires room { IsIdle (width flat.now.schema) room.old }
     requires wide { 768 ≤ room.old.width }
     requires items { AreItems flat.now.schema key items.now }
-    requires places { room.old.rows ≤ order.old.most }
-    ensures most { order.new.most ≡ order.old.most }
+    requires places { room.old.rows ≤ buckets.old.most }
+    ensures most { buckets.new.most ≡ buckets.old.most }
     ensures room { room.new ≡ record room.old {
       high = max room.old.high (open_rows room.old.pack room.old.rows flat.now);
     } }
@@ -118,7 +118,7 @@ pub fn group<S: BlockStore, R: Revisions, E: Emit>(
     let open = room.open(pack + kept_blocks * pack);
     let (rows, groups) = open.split_at_mut(pack as usize);
     let result = group_table(
-        store, vault, order, rows, groups, flat, pred, key, items, out,
+        store, vault, buckets, rows, groups, flat, pred, key, items, out,
     );
     room.clear_shelf();
     result

@@ -1,6 +1,6 @@
 //! The rows that hold the running groups, one each.
 ghost use Rattle.std.specs.Prelude.{◌≡◌, ◌≤◌, ◌<◌, ◌+◌, ◌*◌, ℕ, true, false, List, Some, length, take};
-ghost use Rattle.ob_base.specs.Schemas.{kind_width, width};
+ghost use Rattle.ob_base.specs.Schemas.{kind_width};
 ghost use Rattle.ob_vault.specs.Rows.{SameSizes, row_at};
 ghost use Rattle.ob_row.specs.declared.cell.Cell.{Cell as RowCell};
 ghost use Rattle.ob_row.specs.Fields.{HoldsCell};
@@ -8,12 +8,13 @@ ghost use Rattle.ob_row.specs.Rows.{Row, cell_eq};
 ghost use Rattle.ob_row.specs.Spelling.{Begins, kind_at};
 ghost use Rattle.ob_group.specs.Running.{AreWithin, starts, grown_all};
 ghost use Rattle.ob_group.specs.Grouping.{Group, aggs_of, put_row, group_shown};
-ghost use Rattle.ob_group.specs.Held.{HoldsKey, HoldsGroup, AreGroups, AreListed, IsGroup, ListsGroups, MayGrow};
+ghost use Rattle.ob_order.specs.Buckets.{AreBucketed, NoneHas};
+ghost use Rattle.ob_group.specs.Held.{HoldsKey, HoldsGroup, AreGroups, IsGroup, KeepsGroups, MayGrow};
 ghost use Rattle.ob_group.specs.Passes.{AreItems, AreGroupRows, IsRow, AddsTo};
 
 use crate::fields::{add_totals, show_items, start_totals};
 use ob_base::{Kind, Schema, Shown};
-use ob_order::Order;
+use ob_order::Buckets;
 use ob_room::ClearRow;
 use ob_row::{Cell, Item, cell_in, field_of, kind_at};
 
@@ -81,10 +82,10 @@ pub(crate) fn show_group(kind: Kind, items: &[Item], group: &ClearRow, cells: &m
     show_bytes(kind, items, group.bytes(), front);
 }
 
-// The place of the group whose key has this field among the first n rows, whose places are in order of
+// The place of the group whose key has this field among the first n rows, which are in the buckets of
 // their keys, or n where none has it.
-fn place_of(kind: Kind, field: &[u8], order: &Order, groups: &[ClearRow], n: usize) -> usize
-    requires listed { AreListed (length field.now) n groups.now order.now.places }
+fn place_of(kind: Kind, field: &[u8], buckets: &Buckets, groups: &[ClearRow], n: usize) -> usize
+    requires kept { AreBucketed 0 (length field.now) n groups.now buckets.now }
     requires field { (y : RowCell) × HoldsCell kind y field.now }
     requires keys { (i : ℕ) → i < n → (x : RowCell) × HoldsKey kind x (row_at groups.now i) }
     ensures most { result ≤ n }
@@ -92,8 +93,9 @@ fn place_of(kind: Kind, field: &[u8], order: &Order, groups: &[ClearRow], n: usi
         → (x : RowCell) → HoldsKey kind x (row_at groups.now i) → cell_eq x y ≡ false }
     ensures on { (y : RowCell) → HoldsCell kind y field.now → result < n
         → (x : RowCell) → HoldsKey kind x (row_at groups.now result) → cell_eq x y ≡ true }
+    ensures new { n ≤ result → NoneHas 0 field.now n groups.now }
 {
-    match order.find(groups, 0, field) {
+    match buckets.find(groups, 0, field) {
         Some(place) => place as usize,
         None => n,
     }
@@ -136,14 +138,14 @@ fn start(
 }
 
 // Puts a row to the group with its key, or to a new one behind the n that there are, and answers how many
-// there are then: one more than the rows, where there are more. The groups' places are in order of their
-// keys, and a new one's is put among them.
+// there are then: one more than the rows, where there are more. The groups are in the buckets of their keys,
+// and a new one is put into its own.
 pub(crate) fn put_row(
     schema: &Schema,
     row: &ClearRow,
     key: u8,
     items: &[Item],
-    order: &mut Order,
+    buckets: &mut Buckets,
     groups: &mut [ClearRow],
     n: usize,
 ) -> usize
@@ -151,11 +153,11 @@ pub(crate) fn put_row(
     requires items { AreItems schema.now key items.now }
     requires groups { AreGroupRows groups.old }
     requires held { MayGrow (kind_at schema.now key) (length items.now) n 1 groups.old }
-    requires listed { ListsGroups (kind_at schema.now key) n groups.old order.old.places }
-    requires most { length groups.old ≤ order.old.most }
+    requires kept { KeepsGroups (kind_at schema.now key) n groups.old buckets.old }
+    requires most { length groups.old ≤ buckets.old.most }
     ensures size { SameSizes groups.old groups.new }
-    ensures listed { ListsGroups (kind_at schema.now key) result groups.new order.new.places }
-    ensures most { order.new.most ≡ order.old.most }
+    ensures kept { KeepsGroups (kind_at schema.now key) result groups.new buckets.new }
+    ensures most { buckets.new.most ≡ buckets.old.most }
     ensures told { (cells : Row) → Begins schema.now (Some cells) row.now
         → (gs : List Group) (m : ℕ) → m < 2147483648
         → AreGroups (kind_at schema.now key) m (length items.now) n gs groups.old
@@ -167,13 +169,13 @@ pub(crate) fn put_row(
     }
     let kind = kind_at(schema, key);
     let field = field_of(schema, row, key);
-    let i = place_of(kind, field, order, groups, n);
+    let i = place_of(kind, field, buckets, groups, n);
     if i < n {
         add(schema, row, kind, items, &mut groups[i]);
         n
     } else if n < groups.len() {
         start(schema, row, kind, field, items, &mut groups[n]);
-        order.insert(groups, 0, field.len(), n as u32);
+        buckets.add(field);
         n + 1
     } else {
         n + 1

@@ -3,12 +3,12 @@ ghost use Rattle.ob_base.specs.Schemas.{width};
 ghost use Rattle.ob_vault.specs.Rows.{Wide};
 ghost use Rattle.ob_row.specs.Spelling.{kind_at};
 ghost use Rattle.ob_row.specs.Truth.{is_true};
-ghost use Rattle.ob_group.specs.Held.{ListsGroups, MayGrow};
+ghost use Rattle.ob_group.specs.Held.{KeepsGroups, MayGrow};
 ghost use Rattle.ob_group.specs.Passes.{AreItems, AreGroupRows, GathersBlock};
 
 use crate::groups::put_row;
 use ob_base::Schema;
-use ob_order::Order;
+use ob_order::Buckets;
 use ob_room::ClearRow;
 use ob_row::{Item, Malformed, Pred, holds};
 
@@ -20,7 +20,7 @@ pub(crate) fn group_rows(
     rows: &[ClearRow],
     key: u8,
     items: &[Item],
-    order: &mut Order,
+    buckets: &mut Buckets,
     groups: &mut [ClearRow],
     before: usize,
 ) -> Result<usize, Malformed>
@@ -29,11 +29,11 @@ pub(crate) fn group_rows(
     requires groups { AreGroupRows groups.old }
     requires held { MayGrow (kind_at schema.now key) (length items.now) before (length rows.now)
         groups.old }
-    requires listed { ListsGroups (kind_at schema.now key) before groups.old order.old.places }
-    requires most { length groups.old ≤ order.old.most }
-    ensures most { order.new.most ≡ order.old.most }
-    ensures listed { IfOk result (λ n. ListsGroups (kind_at schema.now key) n groups.new
-        order.new.places) }
+    requires kept { KeepsGroups (kind_at schema.now key) before groups.old buckets.old }
+    requires most { length groups.old ≤ buckets.old.most }
+    ensures most { buckets.new.most ≡ buckets.old.most }
+    ensures kept { IfOk result (λ n. KeepsGroups (kind_at schema.now key) n groups.new
+        buckets.new) }
     ensures gathers { GathersBlock (is_true pred.now) schema.now key items.now rows.now before
         result groups.old groups.new }
 {
@@ -42,7 +42,7 @@ pub(crate) fn group_rows(
         match holds(pred, schema, &rows[z]) {
             Ok(selected) => {
                 if selected {
-                    n = put_row(schema, &rows[z], key, items, order, groups, n);
+                    n = put_row(schema, &rows[z], key, items, buckets, groups, n);
                 }
             }
             Err(malformed) => return Err(malformed),

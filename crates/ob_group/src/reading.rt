@@ -7,7 +7,7 @@ ghost use Rattle.ob_group.specs.Passes.{AreItems, AreGroupRows, Gathers};
 
 use crate::keeping::group_rows;
 use ob_flat::{Flat, OpErr};
-use ob_order::Order;
+use ob_order::Buckets;
 use ob_room::ClearRow;
 use ob_row::{Item, Malformed, Pred};
 use ob_store::BlockStore;
@@ -19,7 +19,7 @@ use ob_vault::{Revisions, Vault};
 pub(crate) fn group_blocks<S: BlockStore, R: Revisions>(
     store: &mut S,
     vault: &mut Vault<R>,
-    order: &mut Order,
+    buckets: &mut Buckets,
     rows: &mut [ClearRow],
     groups: &mut [ClearRow],
     flat: &Flat,
@@ -33,8 +33,8 @@ pub(crate) fn group_blocks<S: BlockStore, R: Revisions>(
     requires fit { FitBlock flat.now.schema rows.old }
     requires items { AreItems flat.now.schema key items.now }
     requires places { AreGroupRows groups.old }
-    requires most { length groups.old ≤ order.old.most }
-    ensures most { order.new.most ≡ order.old.most }
+    requires most { length groups.old ≤ buckets.old.most }
+    ensures most { buckets.new.most ≡ buckets.old.most }
     ensures rows { SameSizes rows.old rows.new }
     ensures groups { SameSizes groups.old groups.new }
     ensures gathers { Gathers (length rows.old) flat.now (is_true pred.now) key items.now groups.new
@@ -43,11 +43,11 @@ pub(crate) fn group_blocks<S: BlockStore, R: Revisions>(
 {
     let pack = rows.len() as u32;
     let blocks = flat.capacity.div_ceil(pack);
-    order.clear();
+    buckets.clear();
     let mut n = 0;
     for u in 0..blocks {
         vault.get(store, flat.region, u, rows)?;
-        match group_rows(pred, &flat.schema, rows, key, items, order, groups, n) {
+        match group_rows(pred, &flat.schema, rows, key, items, buckets, groups, n) {
             Ok(more) => n = more,
             Err(Malformed) => {
                 return Err(OpErr::Tampered {

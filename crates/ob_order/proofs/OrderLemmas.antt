@@ -1,10 +1,7 @@
 -- Places in order of their rows' fields, and what a search among them finds.
-use Rattle.std.proofs.Common.{◌≡◌, ◌<◌, ◌≤◌, ◌+◌, ◌-◌, ℕ, Bool, true, false, List, [], ◌∷◌, length, slice_index_or, leb, leb-true, leb-false, refl, sym, ◌∙◌, ap, subst, arith}
+use Rattle.std.proofs.Common.{◌≡◌, ◌<◌, ◌≤◌, ℕ, Bool, true, false, List, [], ◌∷◌, length, slice_index_or, leb, leb-true, leb-false, refl, sym, ◌∙◌, ap, subst, arith}
 use Rattle.std.proofs.lemmas.Cmp.{on_total, then_total, nat_cmp_total, nat_list_cmp_total, tied_itself, ranked}
 use Rattle.std.proofs.lemmas.List.{get_or_default}
-use Rattle.std.proofs.lemmas.List.Elements.{Contains-get_or}
-use Rattle.std.proofs.lemmas.List.Edits.{get_or-insert_at, get_or-insert_below, get_or-insert_above, length-insert}
-use Rattle.std.specs.List.{insert}
 use Rattle.std.proofs.lemmas.List.Sorted.{ranks_by, sorted_far}
 use Rattle.std.specs.Cmp.{IsTotalOrder, IsStrictWeakOrder}
 use Rattle.std.specs.Cmp.Lexicographic.{slice_cmp}
@@ -89,68 +86,6 @@ module _ (at len : ℕ) (rows : List (List ℕ)) where
     parted wanted i j d up below less =
         before nat_list_cmp_total (field (slice_index_or places i d)) (field (slice_index_or places j d)) wanted (fields i j d up below) less
 
-    -- those that come before another place come first
-    pub parted_at : (place : ℕ) → IsPartitionedBy (λ p. is_lt (place_cmp at len rows p place)) places
-    parted_at place i j d up below less =
-        before places_total (slice_index_or places i d) (slice_index_or places j d) place (far i j d up below) less
-
-    -- another place is put behind those that come before it
-    module _ (place i : ℕ) (most : i ≤ length places) (point : IsPartitionPoint (λ p. is_lt (place_cmp at len rows p place) ≡ true) (λ p. is_lt (place_cmp at len rows p place) ≡ false) places i) where
-      abbrev lt : ℕ → ℕ → Bool
-      lt p q = is_lt (place_cmp at len rows p q)
-
-      abbrev new : List ℕ
-      new = insert places i place
-
-      below : (k d : ℕ) → k + 1 < i → lt (slice_index_or new (k + 1) d) (slice_index_or new k d) ≡ false
-      below k d less =
-          let first = get_or-insert_below places i place d k (omega (arith, less)) most in
-          let second = get_or-insert_below places i place d (k + 1) less most in
-          ap (λ (m : ℕ). lt m (slice_index_or new k d)) second ∙ ap (λ (m : ℕ). lt (slice_index_or places (k + 1) d) m) first
-          ∙ sorted k d (omega arith) (omega (arith, less, most))
-
-      last : (k d : ℕ) → k + 1 ≡ i → lt (slice_index_or new (k + 1) d) (slice_index_or new k d) ≡ false
-      last k d is =
-          let first = get_or-insert_below places i place d k (omega (arith, is)) most in
-          let second = ap (λ (m : ℕ). slice_index_or new m d) is ∙ get_or-insert_at places i place d most in
-          ap (λ (m : ℕ). lt m (slice_index_or new k d)) second ∙ ap (λ (m : ℕ). lt place m) first
-          ∙ places_weak.one_way (slice_index_or places k d) place (point.0 k d (omega arith) (omega (arith, is)))
-
-      itself : (k d : ℕ) → k ≡ i → k < length places → lt (slice_index_or new (k + 1) d) (slice_index_or new k d) ≡ false
-      itself k d is inside =
-          let first = ap (λ (m : ℕ). slice_index_or new m d) is ∙ get_or-insert_at places i place d most in
-          let second = get_or-insert_above places i place d k (omega (arith, is)) most in
-          ap (λ (m : ℕ). lt m (slice_index_or new k d)) second ∙ ap (λ (m : ℕ). lt (slice_index_or places k d) m) first
-          ∙ point.1 k d (omega (arith, is)) inside
-
-      behind_it : (k d : ℕ) → i ≤ k → k + 1 < length places → lt (slice_index_or new (k + 1 + 1) d) (slice_index_or new (k + 1) d) ≡ false
-      behind_it k d up inside =
-          let first = get_or-insert_above places i place d k up most in
-          let second = get_or-insert_above places i place d (k + 1) (omega (arith, up)) most in
-          ap (λ (m : ℕ). lt m (slice_index_or new (k + 1) d)) second ∙ ap (λ (m : ℕ). lt (slice_index_or places (k + 1) d) m) first
-          ∙ sorted k d (omega arith) inside
-
-      pub inserted : AreInOrder at len rows (insert places i place)
-      inserted k d zero inside = go (nat_cmp (k + 1) i) refl
-        where
-          long : length new ≡ length places + 1
-          long = length-insert places i place most
-
-          later : i < k → lt (slice_index_or new (k + 1) d) (slice_index_or new k d) ≡ false
-          later up =
-              let one : k - 1 + 1 ≡ k = omega (arith, up) in
-              subst (λ (m : ℕ). lt (slice_index_or new (m + 1) d) (slice_index_or new m d) ≡ false) one (behind_it (k - 1) d (omega (arith, up)) (omega (arith, up, inside, long)))
-
-          at_or_past : (o : Ordering) → o ≡ nat_cmp k i → i ≤ k → lt (slice_index_or new (k + 1) d) (slice_index_or new k d) ≡ false
-          at_or_past Less is up = let e = ranked k i Less is in absurd (omega (arith, e, up))
-          at_or_past Equal is up = itself k d (ranked k i Equal is) (omega (arith, inside, long))
-          at_or_past Greater is up = later (ranked k i Greater is)
-
-          go : (o : Ordering) → o ≡ nat_cmp (k + 1) i → lt (slice_index_or new (k + 1) d) (slice_index_or new k d) ≡ false
-          go Less is = below k d (ranked (k + 1) i Less is)
-          go Equal is = last k d (ranked (k + 1) i Equal is)
-          go Greater is = let e = ranked (k + 1) i Greater is in at_or_past (nat_cmp k i) refl (omega (arith, e))
-
     -- where the first one whose field is not less is no such row, no row is
     module _ (wanted : List ℕ) (i : ℕ) (point : IsPartitionPoint (λ p. is_lt (slice_cmp nat_cmp (field p) wanted) ≡ true) (λ p. is_lt (slice_cmp nat_cmp (field p) wanted) ≡ false) places i) where
       -- a row that has the field isn't among those before
@@ -190,15 +125,3 @@ module _ (at len : ℕ) (rows : List (List ℕ)) where
       pub none_past : length places ≤ i → (q : ℕ) → Contains places q → field q ≡ wanted → ⊥
       none_past past q listed has =
           let up = behind listed.0 q listed.1 (ap field listed.2 ∙ has) in absurd (omega (arith, up, past, listed.1))
-
--- ---- places stay in order where their rows' fields stay
-pub in_order_where_same : (at len : ℕ) (old new : List (List ℕ)) (places : List ℕ) → AreInOrder at len old places
-    → ((p : ℕ) → Contains places p → field_at at len new p ≡ field_at at len old p) → AreInOrder at len new places
-in_order_where_same at len old new places sorted same k d zero inside =
-    let p = slice_index_or places k d in
-    let q = slice_index_or places (k + 1) d in
-    let first = same p (Contains-get_or places k d (omega (arith, inside))) in
-    let second = same q (Contains-get_or places (k + 1) d inside) in
-    ap (λ (l : List ℕ). is_lt (ordering_then (slice_cmp nat_cmp l (field_at at len new p)) (nat_cmp q p))) second
-    ∙ ap (λ (l : List ℕ). is_lt (ordering_then (slice_cmp nat_cmp (field_at at len old q) l) (nat_cmp q p))) first
-    ∙ sorted k d zero inside

@@ -1,7 +1,6 @@
-ghost use Rattle.std.specs.Prelude.{◌≡◌, ◌≤◌, ◌<◌, ◌^◌, ◌∷◌, [], ℕ, true, false, vec_len, vec_capacity, length, slice_index_or, take, drop, IfSome, IfNone};
+ghost use Rattle.std.specs.Prelude.{◌≡◌, ◌≤◌, ◌<◌, ◌^◌, [], ℕ, true, false, vec_capacity, length, slice_index_or, take, drop, IfSome, IfNone};
 ghost use Rattle.std.specs.List.{Contains};
 ghost use Rattle.std.specs.List.Sorted.{IsPermutation, IsPartitionPoint};
-ghost use Rattle.std.specs.Ordering.{is_lt};
 ghost use Rattle.ob_order.specs.Orders.{field_at, place_cmp, has_lesser, AreInOrder, IsFirst, HasNone, is_marked};
 
 use ob_room::ClearRow;
@@ -75,28 +74,6 @@ pub(crate) fn find(places: &[u32], rows: &[ClearRow], at: usize, field: &[u8]) -
     } else {
         None
     }
-}
-
-// How many of these places, which are in order, come before another: they are the first ones.
-fn before(places: &[u32], rows: &[ClearRow], at: usize, len: usize, place: u32) -> usize
-    requires { AreInOrder at len rows.now places.now }
-    ensures parted { IsPartitionPoint (λ p. is_lt (place_cmp at len rows.now p place) ≡ true)
-        (λ p. is_lt (place_cmp at len rows.now p place) ≡ false) places.now result }
-    ensures most { result ≤ length places.now }
-{
-    places.partition_point(|p| place_cmp(rows, at, len, *p, place).is_lt())
-}
-
-/// Puts another place among those that are in order, for which there is room.
-pub(crate) fn insert(places: &mut Vec<u32>, rows: &[ClearRow], at: usize, len: usize, place: u32)
-    requires room { vec_len places.old < vec_capacity places.old }
-    requires sorted { AreInOrder at len rows.now places.old.items }
-    ensures sorted { AreInOrder at len rows.now places.new.items }
-    ensures same { IsPermutation (place ∷ places.old.items) places.new.items }
-    ensures room { vec_capacity places.new ≡ vec_capacity places.old }
-{
-    let first = before(places, rows, at, len, place);
-    let _ = places.insert(first, place);
 }
 
 // Whether a row has the mark of one that is no dummy.

@@ -9,7 +9,7 @@ use ob_emit::emit_all;
 use ob_flat::{Flat, OpErr};
 use ob_group::{aggregate, group};
 use ob_io::StdSink;
-use ob_order::Order;
+use ob_order::Buckets;
 use ob_print::{Pieces, Printer, RecordLine};
 use ob_room::Room;
 use ob_row::{Agg, Item, Pred};
@@ -89,14 +89,22 @@ pub(crate) fn groups<S: BlockStore, R: Revisions>(
     requires { MayRun room.old flat.now (at R.state vault.old (S.state store.old)) }
 {
     make_room(store, u64::from(flat.capacity))?;
-    let Ok(mut order) = Order::new(alloc, room.rows()) else {
+    let Ok(mut buckets) = Buckets::new(alloc, room.rows()) else {
         return Err(OpErr::NoMemory);
     };
     let items = [Item::Key, Item::Agg(Agg::CountAll), Item::Agg(Agg::Sum(0))];
     let all = Pred::all();
     let mut out = Counter { rows: 0 };
     let _answer = group(
-        store, vault, room, &mut order, flat, &all, 1, &items, &mut out,
+        store,
+        vault,
+        room,
+        &mut buckets,
+        flat,
+        &all,
+        1,
+        &items,
+        &mut out,
     )?;
     Ok(out.rows)
 }

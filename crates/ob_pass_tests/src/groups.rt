@@ -12,7 +12,7 @@ use crate::tables::{FOUR, filled, insert_cells, make_room, opened, two_ints};
 use ob_base::{ComparisonOperator, EmitErr, Shown, Text};
 use ob_flat::{OpErr, create};
 use ob_group::{Grouped, agg_label, group};
-use ob_order::Order;
+use ob_order::Buckets;
 use ob_room::Room;
 use ob_row::{Agg, Cell, Item, Operand, Pred};
 use ob_store::BlockStore;
@@ -58,9 +58,17 @@ fn session<S: BlockStore, R: Revisions>(
     make_room(rt, store);
     let from = store.count();
     let mut out = Wanted::new(case.labels, case.wanted, case.calls, case.fault);
-    let mut order = Order::new(alloc, room.rows()).expect(rt, "an order");
+    let mut buckets = Buckets::new(alloc, room.rows()).expect(rt, "buckets");
     let answer = group(
-        store, &mut vault, &mut room, &mut order, &flat, case.pred, case.key, case.items, &mut out,
+        store,
+        &mut vault,
+        &mut room,
+        &mut buckets,
+        &flat,
+        case.pred,
+        case.key,
+        case.items,
+        &mut out,
     );
     assert_eq!(rt; answer, case.answer);
     assert!(rt; out.is_same);
@@ -397,12 +405,12 @@ fn texts<S: BlockStore, R: Revisions>(
     ];
     let labels: [&[u8]; 4] = [b"s", b"COUNT(s)", b"MAX(s)", b"MAX(id)"];
     let mut out = Wanted::new(&labels, &wanted, 9, EmitErr::Failed);
-    let mut order = Order::new(alloc, room.rows()).expect(rt, "an order");
+    let mut buckets = Buckets::new(alloc, room.rows()).expect(rt, "buckets");
     let answer = group(
         store,
         &mut vault,
         &mut room,
-        &mut order,
+        &mut buckets,
         &flat,
         &Pred::all(),
         1,

@@ -1,7 +1,7 @@
-use Rattle.std.proofs.Common.{◌≡◌, ◌<◌, ◌≤◌, ◌+◌, ◌∙◌, ℕ, Option, length, slice_index_or, slice_set, refl, sym, ap, subst, arith}
+use Rattle.std.proofs.Common.{◌≡◌, ◌<◌, ◌≤◌, ◌+◌, ◌∙◌, ℕ, [], Option, length, take, get_or-set_same, slice_index_or, slice_set, refl, sym, ap, subst, arith}
 use Rattle.ob_base.specs.declared.schema.Kind.{Kind}
 use Rattle.ob_base.specs.Schemas.{kind_width}
-use Rattle.ob_order.specs.Orders.{AreInOrder}
+use Rattle.ob_order.specs.Buckets.{AreBucketed}
 use Rattle.ob_row.specs.declared.cell.Cell.{Cell}
 use Rattle.ob_row.specs.Fields.{HoldsCell}
 use Rattle.ob_row.specs.Spelling.{kind_at}
@@ -9,9 +9,9 @@ use Rattle.ob_vault.specs.Rows.{row_at}
 use Rattle.ob_flat.proofs.Rows.{row_is}
 use Rattle.ob_group.specs.Running.{starts, grown_all}
 use Rattle.ob_group.specs.Grouping.{aggs_of, group_with}
-use Rattle.ob_group.specs.Held.{AreListed, HoldsKey, HoldsGroup, no_group}
+use Rattle.ob_group.specs.Held.{HoldsKey, HoldsGroup, no_group}
 use Rattle.ob_group.proofs.GroupBytes.{holds_key, holds_more}
-use Rattle.ob_group.proofs.Listed.{key_stays, listed_more, listed_same, sorted_beside}
+use Rattle.ob_group.proofs.Keyed.{begins_with, bucketed_beside, bucketed_same, key_stays, none_beside}
 use Rattle.ob_group.proofs.Putting.{groups_past, groups_old, groups_new, groups_full}
 use Rattle.ob_group.proofs.groups.put_row.Goals as goal
 
@@ -30,9 +30,9 @@ place_of-i-requires-clause-keys c = λ i below.
     let one = held.are.each (omega arith) i below in
     (one.key, subst (λ (k : Kind). HoldsKey k one.key (row_at c.args.groups.now i)) (sym c.kind_at-kind.ensures) (holds_key _ held.m (length c.args.items.now) _ _ one))
 
-pub place_of-i-requires-clause-listed : goal.place_of-i-requires-clause-listed
-place_of-i-requires-clause-listed c =
-    subst (λ (w : ℕ). AreListed w c.args.n c.args.groups.now c.args.order.now.places) (sym c.field_of-field.ensures.len) (c.requires.listed (omega arith))
+pub place_of-i-requires-clause-kept : goal.place_of-i-requires-clause-kept
+place_of-i-requires-clause-kept c =
+    subst (λ (w : ℕ). AreBucketed 0 w c.args.n c.args.groups.now c.args.buckets.now) (sym c.field_of-field.ensures.len) (c.requires.kept (omega arith))
 
 pub add-requires-clause-held : goal.add-requires-clause-held
 add-requires-clause-held c =
@@ -95,12 +95,12 @@ returns-else-n-groups-2-clause-told c = λ cells begins gs m few are.
     groups_full c.args.key (aggs_of c.args.items.now) cells kind m n c.args.n gs c.args.groups.now are most cell.0 cell.1
     (λ j h. rw c.kind_at-kind.ensures at (c.place_of-i.ensures.off cell.0 field j (omega (arith, h, here)))) (omega arith)
 
--- ---- the places of the groups
-pub returns-then-n-groups-clause-listed : goal.returns-then-n-groups-clause-listed
-returns-then-n-groups-clause-listed c = λ most. absurd (omega (arith, most))
+-- ---- the buckets of the groups
+pub returns-then-n-groups-clause-kept : goal.returns-then-n-groups-clause-kept
+returns-then-n-groups-clause-kept c = λ most. absurd (omega (arith, most))
 
-pub returns-then-i-n-clause-listed : goal.returns-then-i-n-clause-listed
-returns-then-i-n-clause-listed c = λ most.
+pub returns-then-i-n-clause-kept : goal.returns-then-i-n-clause-kept
+returns-then-i-n-clause-kept c = λ most.
     let held = c.requires.held in
     let kind = kind_at c.args.schema.now c.args.key in
     let n = length c.args.items.now in
@@ -114,25 +114,26 @@ returns-then-i-n-clause-listed c = λ most.
     let there' = subst (λ (k : Kind). HoldsGroup k held.m n g (slice_index_or c.args.groups.now i c.index-groups-i.result)) (sym c.kind_at-kind.ensures) there in
     let grown = rw c.kind_at-kind.ensures at (c.add.ensures.told c.requires.row.cells c.requires.row.is g held.m (omega (arith, held.room)) there') in
     let stays = key_stays kind held.m (held.m + 1) n g (group_with (aggs_of c.args.items.now) c.requires.row.cells g) (row_at c.args.groups.now i) c.add.new.group one grown refl in
-    listed_same (kind_width kind) c.args.n c.args.groups.now c.args.order.now.places (c.requires.listed fits) i c.add.new.group inside stays
+    bucketed_same (kind_width kind) c.args.n c.args.groups.now c.args.buckets.now (c.requires.kept fits) i c.add.new.group inside stays
 
-pub insert-requires-clause-room : goal.insert-requires-clause-room
-insert-requires-clause-room c = let listed = c.requires.listed (omega arith) in omega (arith, listed.count, c.requires.most)
+pub add-requires-then-n-groups-2 : goal.add-requires-then-n-groups-2
+add-requires-then-n-groups-2 c = let kept = c.requires.kept (omega arith) in omega (arith, kept.count, c.requires.most)
 
-pub insert-requires-clause-sorted : goal.insert-requires-clause-sorted
-insert-requires-clause-sorted c =
+pub returns-then-n-groups-2-clause-kept : goal.returns-then-n-groups-2-clause-kept
+returns-then-n-groups-2-clause-kept c = λ most.
     let kind = kind_at c.args.schema.now c.args.key in
-    let listed = c.requires.listed (omega arith) in
-    subst (λ (w : ℕ). AreInOrder 0 w (slice_set c.args.groups.now c.args.n c.start.new.group) c.args.order.now.places) (sym c.field_of-field.ensures.len)
-    (sorted_beside (kind_width kind) c.args.n c.args.groups.now c.args.order.now.places listed c.start.new.group)
+    let n = c.args.n in
+    let field = c.field_of-field.result.now in
+    let old = c.args.groups.now in
+    let rows = slice_set old n c.start.new.group in
+    let kept = subst (λ (w : ℕ). AreBucketed 0 w n rows c.args.buckets.now) (sym c.field_of-field.ensures.len) (bucketed_beside (kind_width kind) n old c.args.buckets.now (c.requires.kept (omega arith)) c.start.new.group) in
+    let none = none_beside field n old c.start.new.group (c.place_of-i.ensures.new (omega arith)) in
+    let cell = c.field_of-field.ensures.told c.requires.row.cells c.requires.row.is in
+    let held = subst (λ (k : Kind). HoldsCell k cell.0 field) (sym c.kind_at-kind.ensures) cell.2 in
+    let first = c.start.ensures.told c.requires.row.cells c.requires.row.is cell.0 held in
+    let begins = begins_with c.kind_at-kind.result 1 (length c.args.items.now) cell.0 _ field c.start.new.group first held in
+    let has = ap (take (length field)) (get_or-set_same old n c.start.new.group [] (omega arith)) ∙ begins in
+    subst (λ (w : ℕ). AreBucketed 0 w (n + 1) rows c.add-then-n-groups-2.new.self) c.field_of-field.ensures.len (c.add-then-n-groups-2.ensures.adds 0 n rows kept none has)
 
-pub returns-then-n-groups-2-clause-listed : goal.returns-then-n-groups-2-clause-listed
-returns-then-n-groups-2-clause-listed c = λ most.
-    let kind = kind_at c.args.schema.now c.args.key in
-    let listed = c.requires.listed (omega arith) in
-    let rows = slice_set c.args.groups.now c.args.n c.start.new.group in
-    listed_more (kind_width kind) c.args.n c.args.groups.now c.args.order.now.places listed rows c.insert.new.self.places c.insert.ensures.same
-    (subst (λ (w : ℕ). AreInOrder 0 w rows c.insert.new.self.places) c.field_of-field.ensures.len c.insert.ensures.sorted)
-
-pub returns-else-n-groups-2-clause-listed : goal.returns-else-n-groups-2-clause-listed
-returns-else-n-groups-2-clause-listed c = λ most. absurd (omega (arith, most))
+pub returns-else-n-groups-2-clause-kept : goal.returns-else-n-groups-2-clause-kept
+returns-else-n-groups-2-clause-kept c = λ most. absurd (omega (arith, most))

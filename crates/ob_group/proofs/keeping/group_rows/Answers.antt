@@ -1,5 +1,5 @@
 use Rattle.std.proofs.Common.{◌≡◌, ◌+◌, ◌++◌, ◌∷◌, [], ℕ, List, Option, Some, length, sym, ◌∙◌, ap, subst, arith, length-append}
-use Rattle.ob_order.specs.Orders.{OrderState}
+use Rattle.ob_order.specs.Buckets.{BucketsState}
 use Rattle.ob_row.specs.Rows.{Row}
 use Rattle.ob_row.specs.Slots.{is_selected}
 use Rattle.ob_row.specs.Spelling.{Begins, kind_at}
@@ -8,7 +8,7 @@ use Rattle.ob_vault.specs.Rows.{SameSizes}
 use Rattle.ob_vault.proofs.RowsLemmas.{same_at}
 use Rattle.ob_vault.proofs.Runs.{fit_trans}
 use Rattle.ob_group.specs.Grouping.{Group, aggs_of, put_row, groups_with}
-use Rattle.ob_group.specs.Held.{AreGroups, ListsGroups}
+use Rattle.ob_group.specs.Held.{AreGroups, KeepsGroups}
 use Rattle.ob_group.proofs.SlotLemmas.{with_more, slot_on, slot_off, read_more, groups_weak}
 use Rattle.ob_group.proofs.keeping.group_rows.Goals as goal
 use Rattle.ob_group.proofs.keeping.group_rows.Goals.{then-selected, else-selected}
@@ -33,19 +33,19 @@ loop-z-preserved c =
         | then-selected w ↦ subst (SameSizes c.args.groups.now) (sym w.groups-is) (fit_trans _ _ _ was.same w.put_row-n.ensures.size)
         | else-selected w ↦ subst (SameSizes c.args.groups.now) (sym w.groups-is) was.same
       ];
-      listed = elim c.if-selected.branch [
+      held_by = elim c.if-selected.branch [
         | then-selected w ↦
-            subst (λ (q : List ℕ). ListsGroups kind c.if-selected.n c.if-selected.groups q) (sym (ap (λ (o : OrderState). o.places) w.order-is))
-            (subst (λ (l : List (List ℕ)). ListsGroups kind c.if-selected.n l w.put_row-n.new.order.places) (sym w.groups-is)
-            (subst (λ (k : ℕ). ListsGroups kind k w.put_row-n.new.groups w.put_row-n.new.order.places) (sym w.n-is) w.put_row-n.ensures.listed))
+            subst (KeepsGroups kind c.if-selected.n c.if-selected.groups) (sym w.buckets-is)
+            (subst (λ (l : List (List ℕ)). KeepsGroups kind c.if-selected.n l w.put_row-n.new.buckets) (sym w.groups-is)
+            (subst (λ (k : ℕ). KeepsGroups kind k w.put_row-n.new.groups w.put_row-n.new.buckets) (sym w.n-is) w.put_row-n.ensures.kept))
         | else-selected w ↦
-            subst (λ (q : List ℕ). ListsGroups kind c.if-selected.n c.if-selected.groups q) (sym (ap (λ (o : OrderState). o.places) w.order-is))
-            (subst (λ (l : List (List ℕ)). ListsGroups kind c.if-selected.n l c.loop-z.order.places) (sym w.groups-is)
-            (subst (λ (k : ℕ). ListsGroups kind k c.loop-z.groups c.loop-z.order.places) (sym w.n-is) was.listed))
+            subst (KeepsGroups kind c.if-selected.n c.if-selected.groups) (sym w.buckets-is)
+            (subst (λ (l : List (List ℕ)). KeepsGroups kind c.if-selected.n l c.loop-z.buckets) (sym w.groups-is)
+            (subst (λ (k : ℕ). KeepsGroups kind k c.loop-z.groups c.loop-z.buckets) (sym w.n-is) was.held_by))
       ];
       most = elim c.if-selected.branch [
-        | then-selected w ↦ ap (λ (o : OrderState). o.most) w.order-is ∙ w.put_row-n.ensures.most ∙ was.most
-        | else-selected w ↦ ap (λ (o : OrderState). o.most) w.order-is ∙ was.most
+        | then-selected w ↦ ap (λ (b : BucketsState). b.most) w.buckets-is ∙ w.put_row-n.ensures.most ∙ was.most
+        | else-selected w ↦ ap (λ (b : BucketsState). b.most) w.buckets-is ∙ was.most
       ];
       kept = (
         slots ++ slot ∷ [],

@@ -4,7 +4,7 @@ use Rattle.ob_row.specs.Slots.{Slots}
 use Rattle.ob_row.specs.Spelling.{Begins, kind_at}
 use Rattle.ob_row.specs.Truth.{is_true}
 use Rattle.ob_group.specs.Grouping.{Group, aggs_of, groups_with}
-use Rattle.ob_group.specs.Held.{AreGroups, ListsGroups}
+use Rattle.ob_group.specs.Held.{AreGroups, KeepsGroups}
 use Rattle.ob_group.proofs.keeping.group_rows.Given as goal
 
 abbrev pub invariant-loop-z : goal.invariant-loop-z
@@ -13,8 +13,8 @@ invariant-loop-z l =
     let count = length l.items in
     record {
       same : SameSizes l.initial.groups l.groups;
-      listed : ListsGroups kind l.n l.groups l.order.places;
-      most : l.order.most ≡ l.initial.order.most;
+      held_by : KeepsGroups kind l.n l.groups l.buckets;
+      most : l.buckets.most ≡ l.initial.buckets.most;
       kept : (slots : Slots) × (length slots ≡ l.z) × ((j : ℕ) → j < l.z → Begins l.schema (slice_index_or slots j None) (row_at l.rows j))
           × ((gs : List Group) (m : ℕ) → m + length l.rows ≤ 2147483648 → AreGroups kind m count l.before gs l.initial.groups
           → AreGroups kind (m + l.z) count l.n (groups_with (is_true l.pred) l.key (aggs_of l.items) gs slots) l.groups);

@@ -7,7 +7,6 @@ use Rattle.ob_base.specs.Numbers.{blocks_for}
 use Rattle.ob_base.specs.Schemas.{kind_width, width}
 use Rattle.ob_vault.specs.Calls.{none}
 use Rattle.ob_vault.proofs.Runs.{went_none, went_each, lives_went, written_went, none_went, fit_same, fit_trans, may_get, seals_none}
-use Rattle.ob_order.specs.Orders.{OrderState}
 use Rattle.ob_row.specs.Slots.{Slots}
 use Rattle.ob_row.specs.Spelling.{kind_at}
 use Rattle.ob_row.specs.Truth.{is_true}
@@ -21,9 +20,8 @@ use Rattle.ob_flat.proofs.Rows.{wide_fit, wide_same}
 use Rattle.ob_flat.proofs.Runs.{pass_of, pass_each, pass_malformed}
 use Rattle.ob_flat.proofs.Tables.{reads, flat_lasts, index_fits, represents_lasts, block_long, got, whole_size, blocks_end}
 use Rattle.ob_group.specs.Grouping.{Group, put_slot, aggs_of, groups_with, groups_of}
-use Rattle.ob_group.specs.Held.{AreGroups, AreListed}
+use Rattle.ob_group.specs.Held.{AreGroups}
 use Rattle.ob_flat.proofs.WordLemmas.{sealed_after, tampered_in, get_refused, rows_malformed}
-use Rattle.ob_group.proofs.Listed.{none_listed}
 use Rattle.ob_group.proofs.SlotLemmas.{spelt_same, groups_weak, groups_none}
 use Rattle.ob_group.proofs.reading.group_blocks.Goals as goal
 
@@ -65,7 +63,7 @@ loop-u-init g c =
       seals = record { seals = λ good. seals_none good _ };
       same = same_rows c.args.rows.now;
       kept = same_rows groups;
-      listed = λ most. subst (AreListed (kind_width kind) 0 groups) (sym (ap (λ (o : OrderState). o.places) c.clear.ensures)) (none_listed (kind_width kind) groups);
+      held_by = λ most. c.clear.ensures.empty 0 (kind_width kind) groups;
       most = refl;
       held = ([], subst (λ (m : ℕ). AreGroups kind m (length c.args.items.now) 0 [] groups) zero (groups_none kind (length c.args.items.now) groups), λ slots is nolie. none_taken pack (whole_blocks pack c.args.flat.now.capacity slots));
     }
@@ -191,7 +189,7 @@ loop-u-preserved g c =
       seals = sealed_after went.lasts c.loop-u.invariant.seals c.get.ensures.gets.seals;
       same = same;
       kept = fit_trans _ _ _ c.loop-u.invariant.kept c.group_rows.ensures.gathers.size;
-      listed = c.in-Ok.ensures.listed;
+      held_by = c.in-Ok.ensures.kept;
       most = c.group_rows.ensures.most ∙ c.loop-u.invariant.most;
       held = (
         held.0 ++ block.slots,
@@ -234,18 +232,18 @@ returns-clause-gathers g c =
       told = λ slots is nolie. tt;
     }
 
--- ---- the order has as much room as before
+-- ---- the buckets have as much room as before
 pub returns-in_err-get-clause-most : goal.returns-in_err-get-clause-most
-returns-in_err-get-clause-most g c = c.loop-u.invariant.most ∙ ap (λ (o : OrderState). o.most) c.clear.ensures
+returns-in_err-get-clause-most g c = c.loop-u.invariant.most ∙ c.clear.ensures.most
 
-pub group_rows-requires-clause-listed : goal.group_rows-requires-clause-listed
-group_rows-requires-clause-listed g c = c.loop-u.invariant.listed
+pub group_rows-requires-clause-kept : goal.group_rows-requires-clause-kept
+group_rows-requires-clause-kept g c = c.loop-u.invariant.held_by
 
 pub group_rows-requires-clause-most : goal.group_rows-requires-clause-most
-group_rows-requires-clause-most g c = omega (arith, c.loop-u.invariant.kept.count, c.loop-u.invariant.most, ap (λ (o : OrderState). o.most) c.clear.ensures, c.requires.most)
+group_rows-requires-clause-most g c = omega (arith, c.loop-u.invariant.kept.count, c.loop-u.invariant.most, c.clear.ensures.most, c.requires.most)
 
 pub returns-in-Err-clause-most : goal.returns-in-Err-clause-most
-returns-in-Err-clause-most g c = c.group_rows.ensures.most ∙ c.loop-u.invariant.most ∙ ap (λ (o : OrderState). o.most) c.clear.ensures
+returns-in-Err-clause-most g c = c.group_rows.ensures.most ∙ c.loop-u.invariant.most ∙ c.clear.ensures.most
 
 pub returns-clause-most : goal.returns-clause-most
-returns-clause-most g c = c.loop-u.invariant.most ∙ ap (λ (o : OrderState). o.most) c.clear.ensures
+returns-clause-most g c = c.loop-u.invariant.most ∙ c.clear.ensures.most

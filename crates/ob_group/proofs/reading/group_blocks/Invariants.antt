@@ -10,7 +10,7 @@ use Rattle.ob_row.specs.Spelling.{kind_at}
 use Rattle.ob_row.specs.Truth.{is_true}
 use Rattle.ob_flat.specs.Flats.{Represents, whole_blocks}
 use Rattle.ob_group.specs.Grouping.{groups_of}
-use Rattle.ob_group.specs.Held.{AreGroups, ListsGroups}
+use Rattle.ob_group.specs.Held.{AreGroups, KeepsGroups}
 use Rattle.ob_group.proofs.reading.group_blocks.Given as goal
 
 abbrev pub invariant-loop-u : goal.invariant-loop-u
@@ -23,8 +23,8 @@ invariant-loop-u g l =
       seals : SealsAll old now;
       same : SameSizes l.initial.rows l.rows;
       kept : SameSizes l.initial.groups l.groups;
-      listed : ListsGroups (kind_at l.flat.schema l.key) l.n l.groups l.order.places;
-      most : l.order.most ≡ l.initial.order.most;
+      held_by : KeepsGroups (kind_at l.flat.schema l.key) l.n l.groups l.buckets;
+      most : l.buckets.most ≡ l.initial.buckets.most;
       held : (seen : Slots) × AreGroups (kind_at l.flat.schema l.key) (l.u * pack) (length l.items) l.n (groups_of (is_true l.pred) l.key l.items seen) l.groups
           × ((slots : Slots) → Represents pack l.flat slots old → now.store.lie ≡ None → seen ≡ take (l.u * pack) (whole_blocks pack l.flat.capacity slots));
     }

@@ -1,0 +1,8 @@
+-- What is true of the fields of buckets.
+use Rattle.std.specs.Prelude.{◌≡◌, ◌<◌, ◌^◌, vec_len, vec_capacity}
+use Rattle.ob_order.specs.declared.buckets.Buckets.TheInside.{Inside}
+
+-- there are as many buckets as there may be places, and a link to each place fits
+pub record IsBuckets (a : Inside) : Type 0 where
+  pub count : vec_len a.heads ≡ vec_capacity a.next
+  pub few : vec_capacity a.next < 2 ^ 32
