@@ -1,9 +1,9 @@
 -- What is public before the first statement.
-use Rattle.std.specs.Prelude.{ℕ, [], Option}
-use Rattle.ob_base.specs.declared.config.Plan.{Plan}
+use Rattle.std.specs.Prelude.{[]}
+use Rattle.ob_base.specs.declared.config.Config.{Config}
 use Rattle.ob_base.specs.declared.config.Public.{Public}
 
 -- no tables, and nothing asked
-abbrev pub first_public : (buffer depth pack : ℕ) → Option Plan → (pad : Option ℕ) → Public
-first_public buffer depth pack plan pad =
-    record { tables = []; next_region = 1; buffer = buffer; depth = depth; pack = pack; plan = plan; pad = pad }
+abbrev pub first_public : Config → Public
+first_public config =
+    record { tables = []; next_region = 1; buffer = config.buffer; depth = config.depth; pack = config.pack; plan = config.plan; pad = config.pad }

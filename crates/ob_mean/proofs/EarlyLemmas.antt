@@ -10,16 +10,16 @@ use Rattle.ob_base.specs.declared.skeleton.NewColumn.{NewColumn}
 use Rattle.std.specs.Int.{is_in_range}
 use Rattle.ob_base.specs.Schemas.{width, columns_of}
 use Rattle.ob_sql.specs.declared.stmt.Stmt.{Stmt}
-use Rattle.ob_mean.specs.Refusals.{first_holding, early_refusal, is_size, creates_past, is_past_limit, lacks_table, takes_name, lacks_column, has_wrong_type, is_out_of_range, breaks_key_rule, joins_off_key}
+use Rattle.ob_mean.specs.Refusals.{first_holding, early_refusal, is_size, creates_past, is_past_limit, lacks_table, takes_name, lacks_column, has_wrong_type, is_out_of_range, breaks_key_rule, joins_off_key, Limits}
 
 -- none of the conditions holds
-pub record Allowed (late : Bool) (pack rows : ℕ) (hs : List Heading) (stmt : Stmt) : Type 0 where
+pub record Allowed (late : Bool) (given : Limits) (hs : List Heading) (stmt : Stmt) : Type 0 where
   pub tables : lacks_table hs stmt ≡ false
   pub names : takes_name hs stmt ≡ false
   pub columns : lacks_column hs stmt ≡ false
   pub types : has_wrong_type hs stmt ≡ false
   pub values : is_out_of_range hs stmt ≡ false
-  pub limits : is_past_limit pack rows hs stmt ≡ false
+  pub limits : is_past_limit given hs stmt ≡ false
   pub early : late ≡ false
   pub keys : breaks_key_rule hs stmt ≡ false
   pub joins : joins_off_key hs stmt ≡ false
@@ -49,11 +49,11 @@ eight a b c d e f g h r1 r2 r3 r4 r5 r6 r7 r8 none =
     let last = none_of h r8 [] seventh.1 in
     (first.0, second.0, third.0, fourth.0, fifth.0, sixth.0, seventh.0, last.0)
 
-pub allowed : (late : Bool) (pack rows : ℕ) (hs : List Heading) (stmt : Stmt) → early_refusal late pack rows hs stmt ≡ None → Allowed late pack rows hs stmt
-allowed late pack rows hs stmt none =
+pub allowed : (late : Bool) (limits : Limits) (hs : List Heading) (stmt : Stmt) → early_refusal late limits hs stmt ≡ None → Allowed late limits hs stmt
+allowed late limits hs stmt none =
     let all = eight (lacks_table hs stmt) (takes_name hs stmt) (lacks_column hs stmt) (has_wrong_type hs stmt) (is_out_of_range hs stmt)
-    (is_past_limit pack rows hs stmt || late) (breaks_key_rule hs stmt) (joins_off_key hs stmt) NoTable NameTaken NoColumn WrongType ValueRange Limit KeyRule JoinKey none in
-    let both = neither (is_past_limit pack rows hs stmt) late all.5 in
+    (is_past_limit limits hs stmt || late) (breaks_key_rule hs stmt) (joins_off_key hs stmt) NoTable NameTaken NoColumn WrongType ValueRange Limit KeyRule JoinKey none in
+    let both = neither (is_past_limit limits hs stmt) late all.5 in
     record {
       tables = all.0;
       names = all.1;

@@ -24,7 +24,7 @@ use Rattle.ob_sql.specs.declared.stmt.Literal.TheVariants.{Int as IntLiteral, Ou
 use Rattle.ob_sql.specs.declared.stmt.Stmt.TheVariants.{Insert}
 use Rattle.ob_mean.specs.Names.{is_named, unqualified, literal_cell, columns_at}
 use Rattle.ob_mean.specs.Kinds.{is_of_kind, is_too_large_for, at_kind}
-use Rattle.ob_mean.specs.Refusals.{insert_columns, means_one, is_incomplete, early_refusal}
+use Rattle.ob_mean.specs.Refusals.{insert_columns, means_one, is_incomplete, early_refusal, Limits}
 use Rattle.ob_mean.specs.Step.{given_cell, new_row}
 use Rattle.ob_mean.proofs.EarlyLemmas.{allowed, neither}
 
@@ -237,12 +237,12 @@ first_and_last false false true d h = cc
 first_and_last false false false d h = (refl, h)
 
 -- the row of an INSERT that is not refused early fits the columns at the table's name
-insert_fits_at : (late : Bool) (pack rows : ℕ) (hs : List Heading) (table : List ℕ) (columns : Option (List (List ℕ))) (values : List Literal) →
-    early_refusal late pack rows hs (Insert table columns values) ≡ None → has_repeats bytes_eq (names_of (columns_at table hs)) ≡ false →
+insert_fits_at : (late : Bool) (limits : Limits) (hs : List Heading) (table : List ℕ) (columns : Option (List (List ℕ))) (values : List Literal) →
+    early_refusal late limits hs (Insert table columns values) ≡ None → has_repeats bytes_eq (names_of (columns_at table hs)) ≡ false →
     All IsCell (new_row (columns_at table hs) columns values) → Fits (columns_at table hs) (new_row (columns_at table hs) columns values)
-insert_fits_at late pack rows hs table columns values none distinct =
+insert_fits_at late limits hs table columns values none distinct =
     let cs = columns_at table hs in
-    let a = allowed late pack rows hs (Insert table columns values) none in
+    let a = allowed late limits hs (Insert table columns values) none in
     let given = zip (map unqualified (insert_columns columns cs)) values in
     let known = map unqualified (unwrap_or columns []) in
     let lacks = neither (list_any (λ name. not (means_one cs name)) (known ++ [])) false a.columns in
@@ -251,11 +251,11 @@ insert_fits_at late pack rows hs table columns values none distinct =
     fits_columns cs columns values distinct a.names (ap (list_any (λ name. not (means_one cs name))) (sym (append-nil known)) ∙ lacks.0) types.1 types.0 sizes.0
 
 -- and those of the heading that stands at the table's name
-pub insert_fits : (late : Bool) (pack rows : ℕ) (hs : List Heading) (table : List ℕ) (h : Heading) (columns : Option (List (List ℕ))) (values : List Literal) →
-    early_refusal late pack rows hs (Insert table columns values) ≡ None → heading_at table hs ≡ Some h →
+pub insert_fits : (late : Bool) (limits : Limits) (hs : List Heading) (table : List ℕ) (h : Heading) (columns : Option (List (List ℕ))) (values : List Literal) →
+    early_refusal late limits hs (Insert table columns values) ≡ None → heading_at table hs ≡ Some h →
     has_repeats bytes_eq (map (λ (c : Column). c.name) h.schema) ≡ false →
     All IsCell (new_row h.schema columns values) → Fits h.schema (new_row h.schema columns values)
-insert_fits late pack rows hs table h columns values none stands =
+insert_fits late limits hs table h columns values none stands =
     subst (λ cs. has_repeats bytes_eq (names_of cs) ≡ false → All IsCell (new_row cs columns values) → Fits cs (new_row cs columns values))
     (ap (λ o. option_map_or (λ (g : Heading). g.schema) o []) stands)
-    (insert_fits_at late pack rows hs table columns values none)
+    (insert_fits_at late limits hs table columns values none)

@@ -24,7 +24,7 @@ use Rattle.ob_sql.specs.Search.{Search}
 use Rattle.ob_mean.specs.declared.answer.Answer.{Answer}
 use Rattle.ob_mean.specs.declared.answer.Answer.TheVariants.{Changed}
 use Rattle.ob_mean.specs.Names.{columns_at, place_of, source_columns, where_at}
-use Rattle.ob_mean.specs.Refusals.{early_refusal}
+use Rattle.ob_mean.specs.Refusals.{early_refusal, limits_of, Limits}
 use Rattle.ob_mean.specs.SameMeaning.{SameTables, SameAnswer, MeaningIsOfBags}
 use Rattle.ob_mean.specs.Step.{Database, accepted_answer, accepted_next, agg_of, answered, followed, insert_refusal, item_of, join_places, late_refusal, new_row, overgroups, printed_places, refusal_of, rows_answer, rows_at, set_cells, source_rows, total_rows}
 use Rattle.ob_mean.proofs.SameLemmas.{same-any, same-count, same-grouped, same-heads, same-is, same-length, same-pairs, same-totals}
@@ -139,11 +139,11 @@ module _ (a b : Database) (same : SameTables a b) where
       refused hs db =
           if overgroups s q.group (columns_at q.table hs) (filter (is_true (where_at q.cond (columns_at q.table hs))) (rows_at q.table db)) then Some TooManyGroups else None
 
-  early_same : (late : Bool) (pack rows : ℕ) (stmt : Stmt) → early_refusal late pack rows (headings a) stmt ≡ early_refusal late pack rows (headings b) stmt
-  early_same late pack rows stmt = ap (λ (hs : List Heading). early_refusal late pack rows hs stmt) heads
+  early_same : (late : Bool) (limits : Limits) (stmt : Stmt) → early_refusal late limits (headings a) stmt ≡ early_refusal late limits (headings b) stmt
+  early_same late limits stmt = ap (λ (hs : List Heading). early_refusal late limits hs stmt) heads
 
-  refusal_same : (late : Bool) (pack rows : ℕ) (stmt : Stmt) → refusal_of late pack rows a stmt ≡ refusal_of late pack rows b stmt
-  refusal_same late pack rows stmt = let early = early_same late pack rows stmt in let later = late_same (buffered pack rows) stmt in λ i. option_or (early i) (later i)
+  refusal_same : (late : Bool) (limits : Limits) (stmt : Stmt) → refusal_of late limits a stmt ≡ refusal_of late limits b stmt
+  refusal_same late limits stmt = let early = early_same late limits stmt in let later = late_same (buffered limits.pack limits.buffer) stmt in λ i. option_or (early i) (later i)
 
   -- ---- answers
   changed_same : (table : List ℕ) (search : Option Search) → SameAnswer (Changed (count_by (is_true (where_at search (columns_at table (headings a)))) (rows_at table a)))
@@ -212,9 +212,9 @@ module _ (a b : Database) (same : SameTables a b) where
 
 pub meaning_is_of_bags : MeaningIsOfBags
 meaning_is_of_bags p a b stmt same =
-    let refused = refusal_same a b same false p.pack p.buffer stmt in
+    let refused = refusal_same a b same false (limits_of p) stmt in
     record {
-      early = λ late. early_same a b same late p.pack p.buffer stmt;
+      early = λ late. early_same a b same late (limits_of p) stmt;
       late = late_same a b same (buffered p.pack p.buffer) stmt;
       accepted = accepted_same a b same stmt;
       answer = answered_same a b same _ _ (accepted_answer a stmt) (accepted_answer b stmt) refused (accepted_same a b same stmt);

@@ -15,7 +15,7 @@ use Rattle.ob_sql.specs.declared.stmt.Listed.TheVariants.{CountAll}
 use Rattle.ob_sql.specs.declared.stmt.Stmt.{Stmt}
 use Rattle.ob_sql.specs.declared.stmt.Stmt.TheVariants.{SelectTotals as TotalsStmt}
 use Rattle.ob_mean.specs.declared.answer.Answer.TheVariants.{Rows}
-use Rattle.ob_mean.specs.Refusals.{early_refusal}
+use Rattle.ob_mean.specs.Refusals.{early_refusal, limits_of}
 use Rattle.ob_mean.specs.Step.{rows_at, late_refusal, accepted_answer, answered}
 use Rattle.ob_mean.specs.Verdict.{Held, Tables, database, is_late, last_refusal, refusal, verdict, seen, seen_started, ended}
 
@@ -38,20 +38,20 @@ heading-stored {A} name (t ∷ ts) =
     [ true ↦ refl | false ↦ heading-stored name ts ]
 
 -- ---- refused early
-module _ (p : Public) (m : ℕ) (ts : Tables) (stmt : Stmt) (r : Refusal) (early : early_refusal (is_late m) p.pack p.buffer (headings ts) stmt ≡ Some r) where
+module _ (p : Public) (m : ℕ) (ts : Tables) (stmt : Stmt) (r : Refusal) (early : early_refusal (is_late m) (limits_of p) (headings ts) stmt ≡ Some r) where
   pub refused_early : refusal p m ts stmt ≡ Some r
   refused_early =
-      ap (λ (hs : List Heading). option_or (option_or (early_refusal (is_late m) p.pack p.buffer hs stmt) (late_refusal (buffered p.pack p.buffer) (database ts) stmt)) (last_refusal p ts stmt)) (headings-database ts)
+      ap (λ (hs : List Heading). option_or (option_or (early_refusal (is_late m) (limits_of p) hs stmt) (late_refusal (buffered p.pack p.buffer) (database ts) stmt)) (last_refusal p ts stmt)) (headings-database ts)
       ∙ ap (λ (o : Option Refusal). option_or (option_or o (late_refusal (buffered p.pack p.buffer) (database ts) stmt)) (last_refusal p ts stmt)) early
 
   pub seen_early : seen p m ts stmt ≡ ended Static
   seen_early = ap (λ (o : Option Refusal). if is_some o then ended Static else seen_started p ts stmt) early
 
 -- ---- not refused early
-module _ (p : Public) (m : ℕ) (ts : Tables) (stmt : Stmt) (early : early_refusal (is_late m) p.pack p.buffer (headings ts) stmt ≡ None) where
+module _ (p : Public) (m : ℕ) (ts : Tables) (stmt : Stmt) (early : early_refusal (is_late m) (limits_of p) (headings ts) stmt ≡ None) where
   pub refused_late : refusal p m ts stmt ≡ option_or (late_refusal (buffered p.pack p.buffer) (database ts) stmt) (last_refusal p ts stmt)
   refused_late =
-      ap (λ (hs : List Heading). option_or (option_or (early_refusal (is_late m) p.pack p.buffer hs stmt) (late_refusal (buffered p.pack p.buffer) (database ts) stmt)) (last_refusal p ts stmt)) (headings-database ts)
+      ap (λ (hs : List Heading). option_or (option_or (early_refusal (is_late m) (limits_of p) hs stmt) (late_refusal (buffered p.pack p.buffer) (database ts) stmt)) (last_refusal p ts stmt)) (headings-database ts)
       ∙ ap (λ (o : Option Refusal). option_or (option_or o (late_refusal (buffered p.pack p.buffer) (database ts) stmt)) (last_refusal p ts stmt)) early
 
   pub seen_late : seen p m ts stmt ≡ seen_started p ts stmt
@@ -65,7 +65,7 @@ filter-all (x ∷ xs) = ap (λ (ys : List Row). x ∷ ys) (filter-all xs)
 abbrev pub count_all : List ℕ → Stmt
 count_all name = TotalsStmt (record { items = CountAll ∷ []; table = name; cond = None; group = None })
 
-pub counted : (p : Public) (m : ℕ) (ts : Tables) (name : List ℕ) (t : Stored Held) → early_refusal (is_late m) p.pack p.buffer (headings ts) (count_all name) ≡ None
+pub counted : (p : Public) (m : ℕ) (ts : Tables) (name : List ℕ) (t : Stored Held) → early_refusal (is_late m) (limits_of p) (headings ts) (count_all name) ≡ None
     → stored_at name ts ≡ Some t → verdict p m ts (count_all name) ≡ Rows ((ShownInt (pos (length (rows t.held.slots))) ∷ []) ∷ [])
 counted p m ts name t early found =
     let none : refusal p m ts (count_all name) ≡ None = refused_late p m ts (count_all name) early in

@@ -18,7 +18,7 @@ use Rattle.ob_script.specs.Script.{whole_script}
 use Rattle.ob_sql.specs.declared.stmt.Stmt.{Stmt}
 use Rattle.ob_sql.specs.declared.stmt.Stmt.TheVariants.{SelectRows as RowsStmt}
 use Rattle.ob_sql.specs.Skeleton.{skeleton}
-use Rattle.ob_mean.specs.Refusals.{early_refusal}
+use Rattle.ob_mean.specs.Refusals.{early_refusal, limits_of}
 use Rattle.ob_mean.specs.Verdict.{is_late}
 use Rattle.ob_mean.specs.Replay.{count_end, walk_end}
 
@@ -89,7 +89,7 @@ CutUpTo m _ = ⊤
 -- m accesses were asked before
 pub record Lawful (p : Public) (m : ℕ) (stmt : Stmt) (seen : Seen) : Type 0 where
   -- refused before any access
-  pub static : (seen.end ≡ Static) ↔ IsSome (early_refusal (is_late m) p.pack p.buffer (headings_of p.tables) stmt)
+  pub static : (seen.end ≡ Static) ↔ IsSome (early_refusal (is_late m) (limits_of p) (headings_of p.tables) stmt)
   pub holds : Holds p stmt seen seen.k seen.plan seen.then
   -- no more was asked than the statement asks
   pub cut : CutUpTo (length (whole_script p (skeleton stmt) seen)) seen.end

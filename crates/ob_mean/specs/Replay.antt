@@ -14,7 +14,7 @@ use Rattle.ob_script.specs.Script.{script, whole_script}
 use Rattle.ob_script.specs.Trace.{Served, next}
 use Rattle.ob_mean.specs.declared.answer.Answer.{Answer}
 use Rattle.ob_mean.specs.declared.answer.Answer.TheVariants.{Refused}
-use Rattle.ob_mean.specs.Refusals.{early_refusal}
+use Rattle.ob_mean.specs.Refusals.{early_refusal, limits_of}
 use Rattle.ob_mean.specs.Verdict.{Tables, verdict, seen, ended, is_late}
 use Rattle.ob_mean.specs.Settle.{settle}
 
@@ -118,7 +118,7 @@ after_all s (Err at ∷ texts) bs = after_all s texts (rest_of bs)
 abbrev pub IsCutOff : Option ℕ → Session → Stmt → Type 0
 IsCutOff None s stmt = ⊤
 IsCutOff (Some n) s stmt =
-    (early_refusal (is_late s.asked) s.public.pack s.public.buffer (headings s.tables) stmt ≡ None)
+    (early_refusal (is_late s.asked) (limits_of s.public) (headings s.tables) stmt ≡ None)
     × (1 ≤ n) × (n ≤ length (whole_script s.public (skeleton stmt) (seen_now s stmt)))
 
 abbrev pub AreCutOff : Session → List Spelt → Broken → Type 0

@@ -7,7 +7,7 @@ use Rattle.ob_row.specs.Bags.{Same}
 use Rattle.ob_sql.specs.declared.stmt.Stmt.{Stmt}
 use Rattle.ob_mean.specs.declared.answer.Answer.{Answer}
 use Rattle.ob_mean.specs.declared.answer.Answer.TheVariants.{Rows}
-use Rattle.ob_mean.specs.Refusals.{early_refusal}
+use Rattle.ob_mean.specs.Refusals.{early_refusal, limits_of}
 use Rattle.ob_mean.specs.Step.{Database, late_refusal, accepted_answer, step_answer, step_next}
 
 -- the same tables in the same order, each with the same bag of rows
@@ -24,7 +24,7 @@ SameAnswer a b = a ≡ b
 -- a statement over the one tables and over the others: refused alike, before its first access and by the rows that there
 -- are, answered the same, and such tables are left again
 pub record MeansSame (p : Public) (a b : Database) (stmt : Stmt) : Type 0 where
-  pub early : (late : Bool) → early_refusal late p.pack p.buffer (headings a) stmt ≡ early_refusal late p.pack p.buffer (headings b) stmt
+  pub early : (late : Bool) → early_refusal late (limits_of p) (headings a) stmt ≡ early_refusal late (limits_of p) (headings b) stmt
   pub late : late_refusal (buffered p.pack p.buffer) a stmt ≡ late_refusal (buffered p.pack p.buffer) b stmt
   pub accepted : SameAnswer (accepted_answer a stmt) (accepted_answer b stmt)
   pub answer : SameAnswer (step_answer p a stmt) (step_answer p b stmt)

@@ -20,7 +20,7 @@ use Rattle.ob_sql.specs.declared.stmt.SelectRows.{SelectRows}
 use Rattle.ob_sql.specs.declared.stmt.Stmt.{Stmt}
 use Rattle.ob_sql.specs.declared.stmt.Stmt.TheVariants.{SelectRows as RowsStmt}
 use Rattle.ob_mean.specs.declared.answer.Answer.{Answer}
-use Rattle.ob_mean.specs.Refusals.{early_refusal}
+use Rattle.ob_mean.specs.Refusals.{early_refusal, limits_of}
 use Rattle.ob_mean.specs.Step.{Database, join_places, select_condition, refusal_of, accepted_answer, answered}
 use Rattle.ob_row.specs.Results.{joined, unplaced}
 
@@ -99,7 +99,7 @@ is_late m = nat_le (2 ^ 63) m
 
 -- the refusal of a statement, where m accesses were asked before
 abbrev pub refusal : Public → (m : ℕ) → Tables → Stmt → Option Refusal
-refusal p m ts stmt = option_or (refusal_of (is_late m) p.pack p.buffer (database ts) stmt) (last_refusal p ts stmt)
+refusal p m ts stmt = option_or (refusal_of (is_late m) (limits_of p) (database ts) stmt) (last_refusal p ts stmt)
 
 abbrev pub verdict : Public → (m : ℕ) → Tables → Stmt → Answer
 verdict p m ts stmt = answered (refusal p m ts stmt) (accepted_answer (database ts) stmt)
@@ -143,4 +143,4 @@ seen_started p ts _ = ended Whole
 
 abbrev pub seen : Public → (m : ℕ) → Tables → Stmt → Seen
 seen p m ts stmt =
-    if is_some (early_refusal (is_late m) p.pack p.buffer (headings ts) stmt) then ended Static else seen_started p ts stmt
+    if is_some (early_refusal (is_late m) (limits_of p) (headings ts) stmt) then ended Static else seen_started p ts stmt

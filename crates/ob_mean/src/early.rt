@@ -7,7 +7,7 @@ ghost use Rattle.ob_sql.specs.declared.stmt.Set.{Set};
 ghost use Rattle.ob_base.specs.Stored.{headings_of};
 ghost use Rattle.ob_mean.specs.Names.{unqualified, place_of};
 ghost use Rattle.ob_mean.specs.Kinds.{mistype_columns, overflow_columns};
-ghost use Rattle.ob_mean.specs.Refusals.{early_refusal, first_holding, lacks_table, takes_name, is_past_limit, breaks_key_rule, joins_off_key, is_incomplete, insert_columns, lack_columns, sets_key};
+ghost use Rattle.ob_mean.specs.Refusals.{early_refusal, first_holding, lacks_table, takes_name, is_past_limit, breaks_key_rule, joins_off_key, is_incomplete, insert_columns, lack_columns, sets_key, limits_of};
 ghost use Rattle.ob_mean.specs.Scopes.{HasOneTable, left_of, right_of, lacks_in, mistypes_in, overflows_in};
 
 use crate::conds::{exceeds, lacks, mistypes};
@@ -308,7 +308,7 @@ fn is_past_limit(public: &Public, stmt: &Stmt) -> bool
     requires pack { 1 ≤ public.now.pack }
     requires buffer { 3 * public.now.pack + 1 ≤ public.now.buffer }
     ensures { result
-        ≡ is_past_limit public.now.pack public.now.buffer (headings_of public.now.tables) stmt.now }
+        ≡ is_past_limit (limits_of public.now) (headings_of public.now.tables) stmt.now }
 {
     match stmt {
         Stmt::Create {
@@ -329,7 +329,7 @@ fn meets_limit(late: bool, public: &Public, stmt: &Stmt) -> bool
     requires pack { 1 ≤ public.now.pack }
     requires buffer { 3 * public.now.pack + 1 ≤ public.now.buffer }
     ensures { result
-        ≡ (is_past_limit public.now.pack public.now.buffer (headings_of public.now.tables) stmt.now
+        ≡ (is_past_limit (limits_of public.now) (headings_of public.now.tables) stmt.now
         || late) }
 {
     is_past_limit(public, stmt) || late
@@ -436,8 +436,7 @@ pub fn early_refusal(late: bool, public: &Public, stmt: &Stmt) -> Option<Refusal
     requires pack { 1 ≤ public.now.pack }
     requires buffer { 3 * public.now.pack + 1 ≤ public.now.buffer }
     ensures { result
-        ≡ early_refusal late public.now.pack public.now.buffer
-        (headings_of public.now.tables) stmt.now }
+        ≡ early_refusal late (limits_of public.now) (headings_of public.now.tables) stmt.now }
 {
     let tables = public.tables.as_slice();
     let left = left_columns(tables, stmt);

@@ -4,7 +4,7 @@ ghost use Rattle.std.specs.List.{list_any};
 ghost use Rattle.ob_base.specs.Stored.{has_table};
 ghost use Rattle.ob_base.specs.Joins.{joined_slots};
 ghost use Rattle.ob_base.specs.Stored.{headings_of};
-ghost use Rattle.ob_mean.specs.Refusals.{source_tables, joins_itself, joins_kinds, joins_past, joins_past_at, joins_off_key_at, join_columns, is_key, left_place, right_place, is_across, lack_columns};
+ghost use Rattle.ob_mean.specs.Refusals.{source_tables, joins_itself, joins_kinds, joins_past, joins_past_at, joins_off_key_at, join_columns, is_key, left_place, right_place, is_across, lack_columns, limits_of};
 ghost use Rattle.ob_mean.specs.Scopes.{left_of_source, right_of_source, joins_apart_in};
 
 use crate::kinds::are_alike;
@@ -121,7 +121,7 @@ fn headings_past(public: &Public, left: &Heading, right: &Heading) -> bool
     requires pack { 1 ≤ public.now.pack }
     requires buffer { 3 * public.now.pack + 1 ≤ public.now.buffer }
     ensures { result
-        ≡ joins_past_at public.now.pack public.now.buffer (Some left.now) (Some right.now) }
+        ≡ joins_past_at (limits_of public.now) (Some left.now) (Some right.now) }
 {
     u64::from(width(&left.schema)) + u64::from(width(&right.schema)) > 1025
         || joined_slots(public, left.capacity, right.capacity) > 16_777_216
@@ -132,7 +132,7 @@ pub(crate) fn joins_past(public: &Public, source: &Source) -> bool
     requires pack { 1 ≤ public.now.pack }
     requires buffer { 3 * public.now.pack + 1 ≤ public.now.buffer }
     ensures { result
-        ≡ joins_past public.now.pack public.now.buffer (headings_of public.now.tables) source.now }
+        ≡ joins_past (limits_of public.now) (headings_of public.now.tables) source.now }
 {
     let tables = public.tables.as_slice();
     match source {

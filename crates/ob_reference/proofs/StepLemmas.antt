@@ -1,21 +1,21 @@
 -- A statement that is not refused early.
-use Rattle.std.proofs.Common.{◌≡◌, ℕ, Bool, List, arith}
+use Rattle.std.proofs.Common.{◌≡◌, Bool, List, arith}
 use Rattle.std.specs.Prelude.{None}
 use Rattle.ob_base.specs.declared.schema.Heading.{Heading}
 use Rattle.ob_sql.specs.declared.stmt.Stmt.{Stmt}
 use Rattle.ob_sql.specs.declared.stmt.Stmt.TheVariants.{Create, Insert, Update, Delete, Drop as DropTable, SelectRows, SelectTotals}
-use Rattle.ob_mean.specs.Refusals.{early_refusal}
+use Rattle.ob_mean.specs.Refusals.{early_refusal, Limits}
 use Rattle.ob_mean.proofs.EarlyLemmas.{allowed, within}
 use Rattle.ob_reference.specs.Runs.{HasSizes}
 
 -- a CREATE has sizes within the limits
-pub sizes : (late : Bool) (pack rows : ℕ) (hs : List Heading) (stmt : Stmt) → early_refusal late pack rows hs stmt ≡ None → HasSizes stmt
-sizes late pack rows hs (Create table columns capacity) h =
-    let sized = within hs table columns capacity (allowed late pack rows hs (Create table columns capacity) h).limits in
+pub sizes : (late : Bool) (limits : Limits) (hs : List Heading) (stmt : Stmt) → early_refusal late limits hs stmt ≡ None → HasSizes stmt
+sizes late limits hs (Create table columns capacity) h =
+    let sized = within hs table columns capacity (allowed late limits hs (Create table columns capacity) h).limits in
     (omega (arith, sized.few), sized.sizes)
-sizes late pack rows hs (Insert table columns values) h = tt
-sizes late pack rows hs (Update table sets c) h = tt
-sizes late pack rows hs (Delete table c) h = tt
-sizes late pack rows hs (DropTable table) h = tt
-sizes late pack rows hs (SelectRows s) h = tt
-sizes late pack rows hs (SelectTotals s) h = tt
+sizes late limits hs (Insert table columns values) h = tt
+sizes late limits hs (Update table sets c) h = tt
+sizes late limits hs (Delete table c) h = tt
+sizes late limits hs (DropTable table) h = tt
+sizes late limits hs (SelectRows s) h = tt
+sizes late limits hs (SelectTotals s) h = tt

@@ -4,7 +4,8 @@ ghost use Rattle.ob_base.specs.Limits.{buffered};
 ghost use Rattle.ob_base.specs.Stored.{headings};
 ghost use Rattle.ob_mean.specs.declared.answer.Answer.TheVariants.{Done};
 ghost use Rattle.ob_base.specs.Stored.{headings_of};
-ghost use Rattle.ob_mean.specs.Refusals.{early_refusal};
+ghost use Rattle.ob_base.specs.Publics.{first_public};
+ghost use Rattle.ob_mean.specs.Refusals.{early_refusal, limits_of};
 ghost use Rattle.ob_mean.specs.Step.{late_refusal, answered, followed, accepted_answer, accepted_next};
 ghost use Rattle.ob_reference.specs.Runs.{HasSizes, answer, next};
 
@@ -75,7 +76,7 @@ fn early_of(
     requires pack { 1 ≤ config.now.pack }
     requires buffer { 3 * config.now.pack + 1 ≤ config.now.buffer }
     ensures { IfOk result
-        (λ r. r ≡ early_refusal false config.now.pack config.now.buffer
+        (λ r. r ≡ early_refusal false (limits_of (first_public config.now))
         (headings tables.now) stmt.now) }
 {
     match public_of(alloc, config, tables) {

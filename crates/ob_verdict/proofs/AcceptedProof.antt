@@ -36,7 +36,7 @@ use Rattle.ob_sql.specs.Skeleton.{named_by}
 use Rattle.ob_mean.specs.Names.{columns_at, is_named, literal_cell, meant_by, place_of, unqualified}
 use Rattle.ob_mean.specs.Kinds.{Comparison, against_kind, against_too_large, are_texts, at_kind, comparison_columns, is_of_kind, is_too_large_for, is_wrong_comparison, number_columns, mistype_columns, mistype_comparisons, overflow_columns, overflow_comparisons}
 use Rattle.ob_mean.specs.Lawful.{capacity_at, counted_slots, statement_slots}
-use Rattle.ob_mean.specs.Refusals.{assignments, compared, early_refusal, has_wrong_type, is_across, is_badly_typed, is_key, is_out_of_range, items_of, join_columns, joins_past, joins_past_at, lack_columns, lacks_column, left_place, listed, means_one, named_columns, right_place, scope_of, select_lacks_column, source_tables}
+use Rattle.ob_mean.specs.Refusals.{assignments, compared, early_refusal, has_wrong_type, is_across, is_badly_typed, is_key, is_out_of_range, items_of, join_columns, joins_past, joins_past_at, lack_columns, lacks_column, left_place, listed, means_one, named_columns, right_place, scope_of, select_lacks_column, source_tables, limits_of, Limits}
 use Rattle.ob_mean.specs.Step.{agg_of, select_columns, totals_columns}
 use Rattle.ob_mean.proofs.EarlyLemmas.{allowed, neither}
 use Rattle.ob_mean.proofs.InsertLemmas.{fits_kind}
@@ -111,12 +111,12 @@ printed_within cs None h = all_of cs
 printed_within cs (Some names) h = All-map (IsPlace cs) (λ c. place_of c cs) names (all_meant cs names h)
 
 pub places_fit : PlacesFit
-places_fit late pack rows hs s accepted =
-    let free = allowed late pack rows hs (RowsStmt s) accepted in
+places_fit late limits hs s accepted =
+    let free = allowed late limits hs (RowsStmt s) accepted in
     let known = names_known hs (RowsStmt s) free.columns in
     let list = known_parts (select_columns s hs) (listed s) (join_columns s.source) known.0 in
-    let limits = neither (nat_lt 32 (length (listed s))) (joins_past pack rows hs s.source) free.limits in
-    record { few = at_most 32 (length (listed s)) limits.0; printed = printed_within (select_columns s hs) s.list list.0 }
+    let both = neither (nat_lt 32 (length (listed s))) (joins_past limits hs s.source) free.limits in
+    record { few = at_most 32 (length (listed s)) both.0; printed = printed_within (select_columns s hs) s.list list.0 }
 
 -- ---- totals
 aggregates_within : (cs : Columns) (items : List Listed) → lack_columns cs (flat_map named_by items) ≡ false
@@ -147,8 +147,8 @@ key_within cs None h = tt
 key_within cs (Some key) h = one_meant key cs (neither (not (means_one cs key)) false h).0
 
 pub totals_places_fit : TotalsPlacesFit
-totals_places_fit late pack rows hs s accepted =
-    let free = allowed late pack rows hs (TotalsStmt s) accepted in
+totals_places_fit late limits hs s accepted =
+    let free = allowed late limits hs (TotalsStmt s) accepted in
     let cs = totals_columns s hs in
     let known = names_known hs (TotalsStmt s) free.columns in
     let both = known_parts cs (flat_map named_by s.items) (option_to_list s.group) known.0 in
@@ -205,9 +205,9 @@ schema_at : (name : List ℕ) (hs : List Heading) (h : Heading) → heading_at n
 schema_at name hs h is = ap (λ o. option_map_or (λ (h : Heading). h.schema) o []) is
 
 pub joins_fit : JoinsFit
-joins_fit late pack rows hs list a b on equals where_ left right at_left at_right accepted =
+joins_fit late limits hs list a b on equals where_ left right at_left at_right accepted =
     let s : SelectRows = record { list = list; source = Join a b on equals; cond = where_ } in
-    let free = allowed late pack rows hs (RowsStmt s) accepted in
+    let free = allowed late limits hs (RowsStmt s) accepted in
     let l = columns_at a hs in
     let r = columns_at b hs in
     let names = names_known hs (RowsStmt s) free.columns in
@@ -216,10 +216,10 @@ joins_fit late pack rows hs list a b on equals where_ left right at_left at_righ
     columns_fit l r on equals (not-false (is_across (length l) (l ++ r) on equals) names.1) known.1 (not-false (is_key l (left_place (length l) (l ++ r) on equals)) free.joins) in
     let there : ColumnsFit left.schema right.schema on equals =
     subst (λ c. ColumnsFit c right.schema on equals) (schema_at a hs left at_left) (subst (λ c. ColumnsFit l c on equals) (schema_at b hs right at_right) fit) in
-    let limits = neither (nat_lt 32 (length (listed s))) (joins_past_at pack rows (heading_at a hs) (heading_at b hs)) free.limits in
-    let past : joins_past_at pack rows (Some left) (Some right) ≡ false = (λ t. joins_past_at pack rows (sym at_left t) (sym at_right t)) ∙ limits.1 in
-    let sizes = neither (nat_lt 1024 (width (left.schema ++ right.schema))) (nat_lt 16777216 (joined_slots pack rows left.capacity right.capacity)) past in
-    record { left_column = there.left; right_column = there.right; key = there.key; wide = at_most 1024 (width (left.schema ++ right.schema)) sizes.0; slots = at_most 16777216 (joined_slots pack rows left.capacity right.capacity) sizes.1 }
+    let both = neither (nat_lt 32 (length (listed s))) (joins_past_at limits (heading_at a hs) (heading_at b hs)) free.limits in
+    let past : joins_past_at limits (Some left) (Some right) ≡ false = (λ t. joins_past_at limits (sym at_left t) (sym at_right t)) ∙ both.1 in
+    let sizes = neither (nat_lt 1024 (width (left.schema ++ right.schema))) (nat_lt 16777216 (joined_slots limits.pack limits.buffer left.capacity right.capacity)) past in
+    record { left_column = there.left; right_column = there.right; key = there.key; wide = at_most 1024 (width (left.schema ++ right.schema)) sizes.0; slots = at_most 16777216 (joined_slots limits.pack limits.buffer left.capacity right.capacity) sizes.1 }
 
 -- ---- cells
 set_fits : (cs : Columns) (sets : List Set) → mistype_columns cs (map (λ (s : Set). (unqualified s.column, s.value)) sets) ≡ false
@@ -238,8 +238,8 @@ set_fits cs (s ∷ sets) m o =
     at_column (Some c) t l cell = fits_kind c.kind s.value t l cell
 
 pub sets_fit : SetsFit
-sets_fit late pack rows hs table sets cond accepted =
-    let free = allowed late pack rows hs (Update table sets cond) accepted in
+sets_fit late limits hs table sets cond accepted =
+    let free = allowed late limits hs (Update table sets cond) accepted in
     set_fits (columns_at table hs) sets (types_right hs (Update table sets cond) free.types).0 (values_right hs (Update table sets cond) free.values).0
 
 some_of_kind : (p : Kind → Bool) (o : Option Column) → option_map_or (λ (c : Column). p c.kind) o false ≡ true → IsSomeAnd o (λ c. p c.kind ≡ true)
@@ -263,8 +263,8 @@ comparisons_fit cs (c ∷ xs) m o =
     All-cons (ComparisonFits cs) c xs (comparison_fits cs c (slice_get cs (place_of c.0 cs)) (not-false (at_kind (against_kind c.1 cs) c.0 cs) typed.0) sized.0) (comparisons_fit cs xs typed.1 sized.1)
 
 pub conditions_fit : ConditionsFit
-conditions_fit late pack rows hs stmt accepted =
-    let free = allowed late pack rows hs stmt accepted in
+conditions_fit late limits hs stmt accepted =
+    let free = allowed late limits hs stmt accepted in
     comparisons_fit (scope_of stmt hs) (compared stmt) (types_right hs stmt free.types).1 (values_right hs stmt free.values).1
 
 -- ---- hash regions
@@ -279,24 +279,24 @@ capacity_few name (t ∷ ts) all =
 there_is : (name : List ℕ) (hs : List Heading) → not (has_table name hs) ≡ false → is_some (heading_at name hs) ≡ true
 there_is name hs h = sym (has_table_found name hs) ∙ not-false (has_table name hs) h
 
-joined_few : (pack rows : ℕ) (l r : Option Heading) → is_some l ≡ true → is_some r ≡ true → joins_past_at pack rows l r ≡ false
-    → joined_slots pack rows (option_map_or (λ (h : Heading). h.capacity) l 0) (option_map_or (λ (h : Heading). h.capacity) r 0) ≤ 16777216
-joined_few pack rows None r e f h = absurd (cc)
-joined_few pack rows (Some l) None e f h = absurd (cc)
-joined_few pack rows (Some l) (Some r) e f h =
-    at_most 16777216 (joined_slots pack rows l.capacity r.capacity) (neither (nat_lt 1024 (width (l.schema ++ r.schema))) (nat_lt 16777216 (joined_slots pack rows l.capacity r.capacity)) h).1
+joined_few : (limits : Limits) (l r : Option Heading) → is_some l ≡ true → is_some r ≡ true → joins_past_at limits l r ≡ false
+    → joined_slots limits.pack limits.buffer (option_map_or (λ (h : Heading). h.capacity) l 0) (option_map_or (λ (h : Heading). h.capacity) r 0) ≤ 16777216
+joined_few limits None r e f h = absurd (cc)
+joined_few limits (Some l) None e f h = absurd (cc)
+joined_few limits (Some l) (Some r) e f h =
+    at_most 16777216 (joined_slots limits.pack limits.buffer l.capacity r.capacity) (neither (nat_lt 1024 (width (l.schema ++ r.schema))) (nat_lt 16777216 (joined_slots limits.pack limits.buffer l.capacity r.capacity)) h).1
 
 source_few : (p : Public) (source : Source) → All IsTable p.tables → list_any (λ name. not (has_table name (headings_of p.tables))) (source_tables source) ≡ false
-    → joins_past p.pack p.buffer (headings_of p.tables) source ≡ false → counted_slots p source ≤ 16777216
+    → joins_past (limits_of p) (headings_of p.tables) source ≡ false → counted_slots p source ≤ 16777216
 source_few p (OneTable name) tables there past = let few = capacity_few name p.tables tables in omega arith
 source_few p (Join a b on equals) tables there past =
     let first = neither (not (has_table a (headings_of p.tables))) (list_any (λ name. not (has_table name (headings_of p.tables))) (b ∷ [])) there in
     let second = neither (not (has_table b (headings_of p.tables))) false first.1 in
-    joined_few p.pack p.buffer (heading_at a (headings_of p.tables)) (heading_at b (headings_of p.tables)) (there_is a (headings_of p.tables) first.0) (there_is b (headings_of p.tables) second.0) past
+    joined_few (limits_of p) (heading_at a (headings_of p.tables)) (heading_at b (headings_of p.tables)) (there_is a (headings_of p.tables) first.0) (there_is b (headings_of p.tables) second.0) past
 
-slots_few : (p : Public) (late : Bool) (stmt : Stmt) → IsPublic p → early_refusal late p.pack p.buffer (headings_of p.tables) stmt ≡ None → statement_slots p stmt ≤ 16777216
+slots_few : (p : Public) (late : Bool) (stmt : Stmt) → IsPublic p → early_refusal late (limits_of p) (headings_of p.tables) stmt ≡ None → statement_slots p stmt ≤ 16777216
 slots_few p late (RowsStmt s) public accepted =
-    let free = allowed late p.pack p.buffer (headings_of p.tables) (RowsStmt s) accepted in source_few p s.source public.tables free.tables (neither (nat_lt 32 (length (listed s))) (joins_past p.pack p.buffer (headings_of p.tables) s.source) free.limits).1
+    let free = allowed late (limits_of p) (headings_of p.tables) (RowsStmt s) accepted in source_few p s.source public.tables free.tables (neither (nat_lt 32 (length (listed s))) (joins_past (limits_of p) (headings_of p.tables) s.source) free.limits).1
 slots_few p late (TotalsStmt s) public accepted = omega arith
 slots_few p late (Create a b c) public accepted = omega arith
 slots_few p late (Insert a b c) public accepted = omega arith

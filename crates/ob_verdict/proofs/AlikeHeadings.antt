@@ -17,7 +17,7 @@ use Rattle.ob_sql.specs.declared.stmt.Stmt.{Stmt}
 use Rattle.ob_sql.specs.declared.stmt.Stmt.TheVariants.{Create, Insert, Update, Delete, Drop as DropTable, SelectRows as RowsStmt, SelectTotals as TotalsStmt}
 use Rattle.ob_mean.specs.Kinds.{are_texts, comparison_columns, mistype_columns, mistype_comparisons, number_columns, overflow_columns, overflow_comparisons}
 use Rattle.ob_mean.specs.Names.{columns_at, source_columns}
-use Rattle.ob_mean.specs.Refusals.{assignments, breaks_key_rule, compared, early_refusal, first_holding, has_stray_column, has_wrong_type, is_across, is_badly_typed, is_key, is_out_of_range, is_past_limit, is_size, items_of, joins_apart, joins_off_key, joins_off_key_at, joins_past, joins_past_at, lack_columns, lacks_column, left_place, listed, named_columns, scope_of, select_lacks_column, sets_key, tables_of, takes_name}
+use Rattle.ob_mean.specs.Refusals.{assignments, breaks_key_rule, compared, early_refusal, first_holding, has_stray_column, has_wrong_type, is_across, is_badly_typed, is_key, is_out_of_range, is_past_limit, is_size, items_of, joins_apart, joins_off_key, joins_off_key_at, joins_past, joins_past_at, lack_columns, lacks_column, left_place, listed, named_columns, scope_of, select_lacks_column, sets_key, tables_of, takes_name, Limits}
 use Rattle.ob_mean.proofs.VerdictLemmas.{heading-stored}
 
 -- ---- headings that each name finds alike
@@ -94,20 +94,20 @@ module _ (hs gs : List Heading) (same : SameHeadings hs gs) where
   range_same : (stmt : Stmt) → is_out_of_range hs stmt ≡ is_out_of_range gs stmt
   range_same stmt = ap (λ (cs : Columns). overflow_columns cs (assignments stmt cs) || overflow_comparisons (compared stmt)) (scope_same stmt)
 
-  past_same : (pack rows : ℕ) (source : Source) → joins_past pack rows hs source ≡ joins_past pack rows gs source
-  past_same pack rows (OneTable name) = refl
-  past_same pack rows (Join a b on equals) = λ i. joins_past_at pack rows (same.at a i) (same.at b i)
+  past_same : (limits : Limits) (source : Source) → joins_past limits hs source ≡ joins_past limits gs source
+  past_same limits (OneTable name) = refl
+  past_same limits (Join a b on equals) = λ i. joins_past_at limits (same.at a i) (same.at b i)
 
-  limit_same : (pack rows : ℕ) (stmt : Stmt) → is_past_limit pack rows hs stmt ≡ is_past_limit pack rows gs stmt
-  limit_same pack rows (Create table columns capacity) =
+  limit_same : (limits : Limits) (stmt : Stmt) → is_past_limit limits hs stmt ≡ is_past_limit limits gs stmt
+  limit_same limits (Create table columns capacity) =
       ap (λ (n : ℕ). not (is_in_range 1 1048576 capacity) || not (is_in_range 1 16 (length columns)) || list_any (λ (c : NewColumn). not (is_size c.kind)) columns
       || nat_lt 1024 (width (columns_of table columns)) || nat_le 64 n) same.count
-  limit_same pack rows (Insert table columns values) = refl
-  limit_same pack rows (Update table sets cond) = refl
-  limit_same pack rows (Delete table cond) = refl
-  limit_same pack rows (DropTable table) = refl
-  limit_same pack rows (RowsStmt s) = ap (λ (b : Bool). nat_lt 32 (length (listed s)) || b) (past_same pack rows s.source)
-  limit_same pack rows (TotalsStmt s) = refl
+  limit_same limits (Insert table columns values) = refl
+  limit_same limits (Update table sets cond) = refl
+  limit_same limits (Delete table cond) = refl
+  limit_same limits (DropTable table) = refl
+  limit_same limits (RowsStmt s) = ap (λ (b : Bool). nat_lt 32 (length (listed s)) || b) (past_same limits s.source)
+  limit_same limits (TotalsStmt s) = refl
 
   key_same : (stmt : Stmt) → breaks_key_rule hs stmt ≡ breaks_key_rule gs stmt
   key_same (Create table columns capacity) = refl
@@ -131,13 +131,13 @@ module _ (hs gs : List Heading) (same : SameHeadings hs gs) where
   join_same (RowsStmt s) = off_key_same s.source
   join_same (TotalsStmt s) = refl
 
-  pub early_same : (late : Bool) (pack rows : ℕ) (stmt : Stmt) → early_refusal late pack rows hs stmt ≡ early_refusal late pack rows gs stmt
-  early_same late pack rows stmt = λ i. first_holding (
+  pub early_same : (late : Bool) (limits : Limits) (stmt : Stmt) → early_refusal late limits hs stmt ≡ early_refusal late limits gs stmt
+  early_same late limits stmt = λ i. first_holding (
       (lacking_same (tables_of stmt) i, NoTable) ∷
       (takes_same stmt i, NameTaken) ∷
       (column_same stmt i, NoColumn) ∷
       (type_same stmt i, WrongType) ∷
       (range_same stmt i, ValueRange) ∷
-      (limit_same pack rows stmt i || late, Limit) ∷
+      (limit_same limits stmt i || late, Limit) ∷
       (key_same stmt i, KeyRule) ∷
       (join_same stmt i, JoinKey) ∷ [])

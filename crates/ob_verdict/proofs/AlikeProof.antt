@@ -24,7 +24,7 @@ use Rattle.ob_sql.specs.declared.stmt.Stmt.{Stmt}
 use Rattle.ob_sql.specs.declared.stmt.Stmt.TheVariants.{Create, Insert, Update, Delete, Drop as DropTable, SelectRows as RowsStmt, SelectTotals as TotalsStmt}
 use Rattle.ob_mean.specs.declared.answer.Answer.TheVariants as A
 use Rattle.ob_mean.specs.Names.{columns_at, where_at}
-use Rattle.ob_mean.specs.Refusals.{early_refusal, left_place, right_place}
+use Rattle.ob_mean.specs.Refusals.{early_refusal, left_place, right_place, limits_of}
 use Rattle.ob_mean.specs.Settle.{settled}
 use Rattle.ob_mean.specs.Step.{accepted_answer, answered, followed, insert_refusal, late_refusal, new_row, overgroups, rows_answer, rows_at, set_cells, source_rows, totals_answer}
 use Rattle.ob_mean.specs.Verdict.{Held, in_slots, Tables, database, ended, is_late, last_refusal, refusal, rows_refusal, seen, seen_rows, seen_started, selected_places, slots_at, source_slots}
@@ -105,7 +105,7 @@ module _ (p : Public) (m : ℕ) (ts us : Tables) (alike : AreAlike ts us) where
 
   refusal_same : (stmt : Stmt) → refusal p m ts stmt ≡ refusal p m us stmt
   refusal_same stmt =
-      let early = early_same (headings (database ts)) (headings (database us)) bag_heads (is_late m) p.pack p.buffer stmt in
+      let early = early_same (headings (database ts)) (headings (database us)) bag_heads (is_late m) (limits_of p) stmt in
       λ i. option_or (option_or (early i) (late_same (buffered p.pack p.buffer) stmt i)) (last_same stmt i)
 
   accepted_same : (stmt : Stmt) → accepted_answer (database ts) stmt ≡ accepted_answer (database us) stmt
@@ -137,7 +137,7 @@ module _ (p : Public) (m : ℕ) (ts us : Tables) (alike : AreAlike ts us) where
 
   seen_same : (stmt : Stmt) → seen p m ts stmt ≡ seen p m us stmt
   seen_same stmt =
-      let early = early_same (headings ts) (headings us) heads (is_late m) p.pack p.buffer stmt in
+      let early = early_same (headings ts) (headings us) heads (is_late m) (limits_of p) stmt in
       λ i. if is_some (early i) then ended Static else started_same stmt i
 
   -- ---- the tables afterwards
@@ -148,8 +148,8 @@ module _ (p : Public) (m : ℕ) (ts us : Tables) (alike : AreAlike ts us) where
   new_in : (vs : Tables) (table : List ℕ) (columns : List NewColumn) (capacity : ℕ) → refusal p m vs (Create table columns capacity) ≡ None → has_table table (headings vs) ≡ false
   new_in vs table columns capacity none =
       let first = both_none _ (last_refusal p vs (Create table columns capacity)) none in
-      let early = (both_none (early_refusal (is_late m) p.pack p.buffer (headings (database vs)) (Create table columns capacity)) _ first.0).0 in
-      let free = allowed (is_late m) p.pack p.buffer (headings (database vs)) (Create table columns capacity) early in
+      let early = (both_none (early_refusal (is_late m) (limits_of p) (headings (database vs)) (Create table columns capacity)) _ first.0).0 in
+      let free = allowed (is_late m) (limits_of p) (headings (database vs)) (Create table columns capacity) early in
       let own = (neither (has_table table (headings (database vs))) (has_repeats bytes_eq (map (λ (c : NewColumn). c.name) columns)) free.names).0 in
       subst (λ (hs : List Heading). has_table table hs ≡ false) (headings-database vs) own
 

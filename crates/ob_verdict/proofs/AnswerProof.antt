@@ -28,7 +28,7 @@ use Rattle.ob_verdict.proofs.JoinLemmas.{rows-joined}
 use Rattle.ob_sql.specs.declared.stmt.SelectRows.{SelectRows}
 use Rattle.ob_sql.specs.declared.stmt.Stmt.TheVariants.{SelectRows as RowsStmt}
 use Rattle.ob_mean.specs.Names.{columns_at}
-use Rattle.ob_mean.specs.Refusals.{early_refusal, is_key, joins_off_key_at}
+use Rattle.ob_mean.specs.Refusals.{early_refusal, is_key, joins_off_key_at, limits_of, Limits}
 use Rattle.ob_mean.proofs.EarlyLemmas.{allowed}
 use Rattle.ob_mean.proofs.VerdictLemmas.{headings-database}
 use Rattle.ob_mean.specs.Step.{rows_at, source_rows, join_places, select_columns, select_condition, printed_places}
@@ -121,8 +121,8 @@ distinct_at : (name : List ℕ) (ts : Tables) (i : ℕ) → AreInPlace ts → is
 distinct_at name ts i h k =
     subst (λ o. keys_repeat o (rows (slots_at name ts)) ≡ false) (key_is (key_place (columns_at name (headings ts))) i k) (keys-distinct name ts h)
 
-on_key : (b : Bool) (pack room : ℕ) (hs : List Heading) (q : SelectRows) → early_refusal b pack room hs (RowsStmt q) ≡ None → joins_off_key_at hs q.source ≡ false
-on_key b pack room hs q h = (allowed b pack room hs (RowsStmt q) h).joins
+on_key : (b : Bool) (limits : Limits) (hs : List Heading) (q : SelectRows) → early_refusal b limits hs (RowsStmt q) ≡ None → joins_off_key_at hs q.source ≡ false
+on_key b limits hs q h = (allowed b limits hs (RowsStmt q) h).joins
 
 not_false : (b : Bool) → not b ≡ false → b ≡ true
 not_false true h = refl
@@ -163,8 +163,8 @@ result_fits (Some pad) p n places h some r = padded_fits p.plan (buffered p.pack
 pub prints_answer : PrintsAnswer
 prints_answer p m ts q one s padded k r h =
     let both = both_none _ (last_refusal p ts (RowsStmt q)) r in
-    let early = (both_none (early_refusal (is_late m) p.pack p.buffer (headings (database ts)) (RowsStmt q)) _ both.0).0 in
-    let key = on_key (is_late m) p.pack p.buffer (headings ts) q (subst (λ hs. early_refusal (is_late m) p.pack p.buffer hs (RowsStmt q) ≡ None) (headings-database ts) early) in
+    let early = (both_none (early_refusal (is_late m) (limits_of p) (headings (database ts)) (RowsStmt q)) _ both.0).0 in
+    let key = on_key (is_late m) (limits_of p) (headings ts) q (subst (λ hs. early_refusal (is_late m) (limits_of p) hs (RowsStmt q) ≡ None) (headings-database ts) early) in
     let slots = source_slots p q.source ts in
     let test = is_true (select_condition q (headings ts)) in
     let places = selected test slots in

@@ -22,6 +22,7 @@ use Rattle.ob_mean.specs.Settle.{settle}
 use Rattle.ob_mean.specs.Step.{Database, accepted_answer, accepted_next, answered, followed, refusal_of, step_answer, step_next}
 use Rattle.ob_mean.specs.Verdict.{Tables, database, first_unplaced, forced_refusal, is_late, last_refusal, refusal_by, selected_places, verdict}
 use Rattle.ob_mean.proofs.SameProof.{meaning_is_of_bags}
+use Rattle.ob_mean.specs.Refusals.{limits_of}
 use Rattle.ob_verdict.proofs.InPlaceProof.{keeps_in_place}
 use Rattle.ob_verdict.proofs.SettleProof.{settles}
 use Rattle.ob_verdict.specs.Bagwise.{AnswersMeant, IsByPlan, IsForced, SessionsAreBagwise, bag_answer, bag_answers, bag_next, bags_after}
@@ -80,9 +81,9 @@ verdict_meant : (p : Public) (m : ℕ) (ts : Tables) (db : Database) (stmt : Stm
     → SameAnswer (verdict p m ts stmt) (step_answer p db stmt) ⊎ IsByPlan p (verdict p m ts stmt)
 verdict_meant p m ts db stmt few same =
     let early : is_late m ≡ false = grind (arith, nat_tests) in
-    subst (λ late. SameAnswer (answered (option_or (refusal_of late p.pack p.buffer (database ts) stmt) (last_refusal p ts stmt)) (accepted_answer (database ts) stmt)) (step_answer p db stmt)
-    ⊎ IsByPlan p (answered (option_or (refusal_of late p.pack p.buffer (database ts) stmt) (last_refusal p ts stmt)) (accepted_answer (database ts) stmt))) (sym early)
-    (answered_last p (refusal_of false p.pack p.buffer (database ts) stmt) (last_refusal p ts stmt) (accepted_answer (database ts) stmt) (step_answer p db stmt) (last_by_plan p ts stmt)
+    subst (λ late. SameAnswer (answered (option_or (refusal_of late (limits_of p) (database ts) stmt) (last_refusal p ts stmt)) (accepted_answer (database ts) stmt)) (step_answer p db stmt)
+    ⊎ IsByPlan p (answered (option_or (refusal_of late (limits_of p) (database ts) stmt) (last_refusal p ts stmt)) (accepted_answer (database ts) stmt))) (sym early)
+    (answered_last p (refusal_of false (limits_of p) (database ts) stmt) (last_refusal p ts stmt) (accepted_answer (database ts) stmt) (step_answer p db stmt) (last_by_plan p ts stmt)
     (meaning_is_of_bags p (database ts) db stmt same).answer)
 
 settle_meant : (p : Public) (m : ℕ) (ts : Tables) (db : Database) (stmt : Stmt) → m < 2 ^ 63 → AreInPlace ts → SameTables (database ts) db
@@ -114,8 +115,7 @@ asked_more s (Err at ∷ texts) bs = asked_more s texts (rest_of bs)
 
 -- of two lots of settings that are the same but for tables and regions, as behind each statement
 record IsLike (p q : Public) : Type 0 where
-  pack : p.pack ≡ q.pack
-  rows : p.buffer ≡ q.buffer
+  limits : limits_of p ≡ limits_of q
   plan : p.plan ≡ q.plan
   pad : p.pad ≡ q.pad
 
@@ -124,11 +124,11 @@ module _ (p q : Public) (like : IsLike p q) (db : Database) where
   by_plan_like x h = subst (λ (plan : Option Plan). IsForced plan q.pad x) like.plan (subst (λ (pad : Option ℕ). IsForced p.plan pad x) like.pad h)
 
   answer_like : (broken : Option ℕ) (stmt : Stmt) → bag_answer broken p db stmt ≡ bag_answer broken q db stmt
-  answer_like None stmt = λ i. answered (refusal_of false (like.pack i) (like.rows i) db stmt) (accepted_answer db stmt)
+  answer_like None stmt = λ i. answered (refusal_of false (like.limits i) db stmt) (accepted_answer db stmt)
   answer_like (Some n) stmt = refl
 
   next_like : (broken : Option ℕ) (stmt : Stmt) → bag_next broken p db stmt ≡ bag_next broken q db stmt
-  next_like None stmt = λ i. followed (refusal_of false (like.pack i) (like.rows i) db stmt) (accepted_next db stmt) db
+  next_like None stmt = λ i. followed (refusal_of false (like.limits i) db stmt) (accepted_next db stmt) db
   next_like (Some n) stmt = refl
 
   meant_like : (broken : Option ℕ) (stmt : Stmt) (x : Answer) → SameAnswer x (bag_answer broken p db stmt) ⊎ IsByPlan p x → SameAnswer x (bag_answer broken q db stmt) ⊎ IsByPlan q x
@@ -144,7 +144,7 @@ bagwise p s db (Ok stmt ∷ texts) bs like place same few =
     let here : s.asked < 2 ^ 63 = omega (arith, few, asked_more s (Ok stmt ∷ texts) bs) in
     let next = subst (SameTables (database (settle_or_cut broken s stmt))) (next_like s.public p like db broken stmt) (next_meant s db stmt here place same broken) in
     let rest = bagwise p (after broken s stmt) (bag_next broken p db stmt) texts (rest_of bs)
-    (record { pack = like.pack; rows = like.rows; plan = like.plan; pad = like.pad }) (next_in_place s db stmt here place same broken) next few in
+    (record { limits = like.limits; plan = like.plan; pad = like.pad }) (next_in_place s db stmt here place same broken) next few in
     ((meant_like s.public p like db broken stmt (answer_or_cut broken s stmt) (answer_meant s db stmt here place same broken), rest.0), rest.1)
 bagwise p s db (Err at ∷ texts) bs like place same few =
     let rest = bagwise p s db texts (rest_of bs) like place same few in
@@ -152,5 +152,5 @@ bagwise p s db (Err at ∷ texts) bs like place same few =
 
 pub sessions_are_bagwise : SessionsAreBagwise
 sessions_are_bagwise s db texts bs place same few =
-    let both = bagwise s.public s db texts bs (record { pack = refl; rows = refl; plan = refl; pad = refl }) place same few in
+    let both = bagwise s.public s db texts bs (record { limits = refl; plan = refl; pad = refl }) place same few in
     record { answers = both.0; after = both.1 }

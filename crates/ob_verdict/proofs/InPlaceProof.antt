@@ -27,7 +27,7 @@ use Rattle.ob_sql.specs.declared.stmt.Set.{Set}
 use Rattle.ob_sql.specs.declared.stmt.Stmt.{Stmt}
 use Rattle.ob_sql.specs.declared.stmt.Stmt.TheVariants.{Create, Insert, Update, Delete, Drop as DropTable, SelectRows as RowsStmt, SelectTotals as TotalsStmt}
 use Rattle.ob_mean.specs.Names.{columns_at, place_of, unqualified, where_at}
-use Rattle.ob_mean.specs.Refusals.{early_refusal, sets_key}
+use Rattle.ob_mean.specs.Refusals.{early_refusal, sets_key, limits_of}
 use Rattle.ob_mean.specs.Step.{insert_refusal, late_refusal, new_row, set_cells, followed}
 use Rattle.ob_mean.specs.Verdict.{Held, in_slots, Tables, database, is_late, last_refusal, refusal}
 use Rattle.ob_mean.specs.Settle.{settled}
@@ -220,9 +220,9 @@ module _ (p : Public) (m : ℕ) (ts : Tables) (stmt : Stmt) (none : refusal p m 
   not_refused_late : late_refusal (buffered p.pack p.buffer) (database ts) stmt ≡ None
   not_refused_late = (both_none _ _ (both_none _ (last_refusal p ts stmt) none).0).1
 
-  not_refused_early : early_refusal (is_late m) p.pack p.buffer (headings ts) stmt ≡ None
+  not_refused_early : early_refusal (is_late m) (limits_of p) (headings ts) stmt ≡ None
   not_refused_early =
-      subst (λ (hs : List Heading). early_refusal (is_late m) p.pack p.buffer hs stmt ≡ None) (headings-database ts) (both_none _ _ (both_none _ (last_refusal p ts stmt) none).0).0
+      subst (λ (hs : List Heading). early_refusal (is_late m) (limits_of p) hs stmt ≡ None) (headings-database ts) (both_none _ _ (both_none _ (last_refusal p ts stmt) none).0).0
 
 settled_stays : (p : Public) (m : ℕ) (ts : Tables) (stmt : Stmt) → refusal p m ts stmt ≡ None → AreInPlace ts → AreInPlace (settled ts stmt)
 settled_stays p m ts (Create table columns capacity) none all = added_stays _ ts (created table columns capacity) all
@@ -241,7 +241,7 @@ settled_stays p m ts (Insert table columns values) none all = changed_stays tabl
       subst (λ (cs : Columns). IsInPlace (record { heading = t.heading; held = in_slots (fill_first (new_row cs columns values)) t.held })) (sym (schema_is table ts t is)) (inserted t row new space place)
 settled_stays p m ts (Update table sets cond) none all = changed_stays table (in_slots (map (option_map (updated (where_at cond (columns_at table (headings ts))) (set_cells sets (columns_at table (headings ts))))))) ts one all where
   rule : sets_key (columns_at table (headings ts)) sets ≡ false
-  rule = (allowed (is_late m) p.pack p.buffer (headings ts) (Update table sets cond) (not_refused_early p m ts (Update table sets cond) none)).keys
+  rule = (allowed (is_late m) (limits_of p) (headings ts) (Update table sets cond) (not_refused_early p m ts (Update table sets cond) none)).keys
 
   one : (t : Stored Held) → stored_at table ts ≡ Some t → IsInPlace t
       → IsInPlace (record { heading = t.heading; held = in_slots (map (option_map (updated (where_at cond (columns_at table (headings ts))) (set_cells sets (columns_at table (headings ts)))))) t.held })

@@ -30,7 +30,7 @@ use Rattle.ob_row.specs.Results.{joined, joined_chunk, joined_slot, padded, chun
 use Rattle.ob_sql.specs.declared.stmt.Stmt.{Stmt}
 use Rattle.ob_sql.specs.declared.stmt.Stmt.TheVariants.{Create, Insert, Update, Delete, Drop as DropTable, SelectRows as RowsStmt, SelectTotals as TotalsStmt}
 use Rattle.ob_sql.specs.Skeleton.{skeleton}
-use Rattle.ob_mean.specs.Refusals.{early_refusal}
+use Rattle.ob_mean.specs.Refusals.{early_refusal, limits_of}
 use Rattle.ob_mean.specs.Step.{select_condition}
 use Rattle.ob_row.specs.Truth.{is_true}
 use Rattle.ob_mean.specs.Verdict.{Held, Tables, seen, seen_started, seen_by, seen_unpadded, seen_with, ended, counted, is_late, plan_for, fallback, first_unplaced, source_slots, slots_at, selected_places}
@@ -182,7 +182,7 @@ all_started p ts (RowsStmt q) some e h =
 not_both : {b : Bool} → b ≡ true → b ≡ false → ⊥
 not_both h k = cc
 
-early_or_started : (p : Public) (m : ℕ) (stmt : Stmt) (r : Option Refusal) (x : Seen) → early_refusal (is_late m) p.pack p.buffer (headings_of p.tables) stmt ≡ r →
+early_or_started : (p : Public) (m : ℕ) (stmt : Stmt) (r : Option Refusal) (x : Seen) → early_refusal (is_late m) (limits_of p) (headings_of p.tables) stmt ≡ r →
     Started p stmt x → Lawful p m stmt (cond (is_some r) (ended Static) x)
 early_or_started p m stmt (Some r) x e s = record { static = (λ _. ap is_some e, λ _. refl); holds = tt; cut = tt }
 early_or_started p m stmt None x e s = record {
@@ -192,12 +192,12 @@ early_or_started p m stmt None x e s = record {
 }
 
 early-public : (p : Public) (m : ℕ) (ts : Tables) (stmt : Stmt) → headings ts ≡ headings_of p.tables
-    → early_refusal (is_late m) p.pack p.buffer (headings ts) stmt ≡ early_refusal (is_late m) p.pack p.buffer (headings_of p.tables) stmt
-early-public p m ts stmt e = ap (λ hs. early_refusal (is_late m) p.pack p.buffer hs stmt) e
+    → early_refusal (is_late m) (limits_of p) (headings ts) stmt ≡ early_refusal (is_late m) (limits_of p) (headings_of p.tables) stmt
+early-public p m ts stmt e = ap (λ hs. early_refusal (is_late m) (limits_of p) hs stmt) e
 
 pub seen_is_lawful : SeenIsLawful
 seen_is_lawful p m ts stmt some e h =
-    early_or_started p m stmt (early_refusal (is_late m) p.pack p.buffer (headings ts) stmt) (seen_started p ts stmt) (sym (early-public p m ts stmt e)) (all_started p ts stmt some e h)
+    early_or_started p m stmt (early_refusal (is_late m) (limits_of p) (headings ts) stmt) (seen_started p ts stmt) (sym (early-public p m ts stmt e)) (all_started p ts stmt some e h)
 
 -- ---- a statement that was cut off
 abbrev seen_of : Option ℕ → (plan second : Option Plan) → End → Seen

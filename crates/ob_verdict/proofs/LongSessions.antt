@@ -15,8 +15,7 @@ use Rattle.ob_sql.specs.Search.{Search, Or}
 use Rattle.ob_mean.specs.declared.answer.Answer.{Answer}
 use Rattle.ob_mean.specs.declared.answer.Answer.TheVariants.{Done, Changed, Rows}
 use Rattle.ob_mean.specs.Replay.{Spelt, Session, after_all, all_served, first_session, seen_now}
-use Rattle.ob_base.specs.Publics.{first_public}
-use Rattle.ob_verdict.proofs.Sessions.{id, v, col, of_table, int, compare, column, insert, answers_of, asked_by, ints}
+use Rattle.ob_verdict.proofs.Sessions.{by_settings, id, v, col, of_table, int, compare, column, insert, answers_of, asked_by, ints}
 
 abbrev g : List ℕ
 g = codes "g"
@@ -49,40 +48,40 @@ its_answers =
     Done ∷ Done ∷ Rows [] ∷ Rows (ints (1 ∷ []) ∷ []) ∷ Rows (ints (7 ∷ []) ∷ []) ∷ Rows (ints (7 ∷ 1 ∷ []) ∷ []) ∷ Changed 0 ∷ Changed 0 ∷ Done ∷ Done
     ∷ Rows (ints (1 ∷ 7 ∷ 1 ∷ []) ∷ []) ∷ Rows (ints (1 ∷ 7 ∷ []) ∷ []) ∷ Done ∷ Done ∷ []
 
-generated_answers : answers_of (first_public 64 5 1 None None) generated ≡ its_answers
+generated_answers : answers_of (by_settings 64 5 1 None None) generated ≡ its_answers
 unfolding makes
 generated_answers = refl
 
-generated_total : asked_by (first_public 64 5 1 None None) generated ≡ 74
+generated_total : asked_by (by_settings 64 5 1 None None) generated ≡ 74
 unfolding makes
 generated_total = refl
 
 -- with room for four rows, of which a pass buffers two
-generated_answers_of_four : answers_of (first_public 4 5 1 None None) generated ≡ its_answers
+generated_answers_of_four : answers_of (by_settings 4 5 1 None None) generated ≡ its_answers
 unfolding makes
 generated_answers_of_four = refl
 
-generated_total_of_four : asked_by (first_public 4 5 1 None None) generated ≡ 74
+generated_total_of_four : asked_by (by_settings 4 5 1 None None) generated ≡ 74
 unfolding makes
 generated_total_of_four = refl
 
 abbrev plans_of : Public → List Spelt → List (Option Plan)
 plans_of p texts = map (λ s. s.seen.plan) (all_served (first_session p) texts [])
 
-generated_plans_of_four : plans_of (first_public 4 5 1 None None) generated ≡
+generated_plans_of_four : plans_of (by_settings 4 5 1 None None) generated ≡
     None ∷ None ∷ None ∷ Some Small ∷ Some Small ∷ None ∷ None ∷ None ∷ None ∷ None ∷ Some Small ∷ None ∷ None ∷ None ∷ []
 unfolding makes
 generated_plans_of_four = refl
 
-generated_by_large : asked_by (first_public 64 5 1 (Some Large) None) generated ≡ 92
+generated_by_large : asked_by (by_settings 64 5 1 (Some Large) None) generated ≡ 92
 unfolding makes
 generated_by_large = refl
 
-generated_by_hash : asked_by (first_public 64 5 1 (Some Hash) None) generated ≡ 218
+generated_by_hash : asked_by (by_settings 64 5 1 (Some Hash) None) generated ≡ 218
 unfolding makes
 generated_by_hash = refl
 
-generated_in_pairs : asked_by (first_public 64 5 2 None None) generated ≡ 58
+generated_in_pairs : asked_by (by_settings 64 5 2 None None) generated ≡ 58
 unfolding makes
 generated_in_pairs = refl
 
@@ -104,10 +103,10 @@ abbrev seen_in : Session → Spelt → Option Seen
 seen_in s (Ok stmt) = Some (seen_now s stmt)
 seen_in s _ = None
 
-fallback_seen : seen_in (after_all (first_session (first_public 4 1 1 None None)) thirteen []) nine_of_them ≡ Some (record { k = Some 9; plan = Some Hash; then = Some Small; end = Whole })
+fallback_seen : seen_in (after_all (first_session (by_settings 4 1 1 None None)) thirteen []) nine_of_them ≡ Some (record { k = Some 9; plan = Some Hash; then = Some Small; end = Whole })
 unfolding makes
 fallback_seen = refl
 
-fallback_total : asked_by (first_public 4 1 1 None None) (thirteen ++ nine_of_them ∷ []) ≡ 730
+fallback_total : asked_by (by_settings 4 1 1 None None) (thirteen ++ nine_of_them ∷ []) ≡ 730
 unfolding makes
 fallback_total = refl

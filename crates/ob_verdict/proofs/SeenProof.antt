@@ -18,7 +18,7 @@ use Rattle.ob_sql.specs.declared.stmt.Stmt.{Stmt}
 use Rattle.ob_sql.specs.declared.stmt.Stmt.TheVariants.{Create, Insert, Update, Delete, Drop as DropTable, SelectRows as RowsStmt, SelectTotals as TotalsStmt}
 use Rattle.ob_row.specs.Slots.{is_consecutive}
 use Rattle.ob_mean.specs.Verdict.{Tables, seen, seen_started, seen_by, seen_unpadded, seen_with, ended, counted, is_late, plan_for}
-use Rattle.ob_mean.specs.Refusals.{early_refusal}
+use Rattle.ob_mean.specs.Refusals.{early_refusal, limits_of}
 use Rattle.ob_base.specs.Limits.{buffered}
 use Rattle.ob_base.specs.Stored.{Stored, headings, stored_at}
 use Rattle.ob_row.specs.Rows.{Row}
@@ -96,7 +96,7 @@ started-plan p ts (TotalsStmt q) = ended-plan Whole
 
 pub plan_is_whole : PlanIsWhole
 unfolding PlanEnds
-plan_is_whole p m ts stmt = of_cond PlanEnds (is_some (early_refusal (is_late m) p.pack p.buffer (headings ts) stmt)) _ _ (ended-plan Static) (started-plan p ts stmt)
+plan_is_whole p m ts stmt = of_cond PlanEnds (is_some (early_refusal (is_late m) (limits_of p) (headings ts) stmt)) _ _ (ended-plan Static) (started-plan p ts stmt)
 
 NotSame : Option Refusal → Type 0
 NotSame r = r ≡ Some NotConsecutive → ⊥
@@ -204,7 +204,7 @@ late-shows p ts (TotalsStmt q) =
 pub shows_not_consecutive : ShowsNotConsecutive
 unfolding Shows
 shows_not_consecutive p m ts stmt h =
-    let hs : early_refusal (is_late m) p.pack p.buffer (headings (database ts)) stmt ≡ None = subst (λ w. early_refusal (is_late m) p.pack p.buffer w stmt ≡ None) (sym (headings-database ts)) h in
+    let hs : early_refusal (is_late m) (limits_of p) (headings (database ts)) stmt ≡ None = subst (λ w. early_refusal (is_late m) (limits_of p) w stmt ≡ None) (sym (headings-database ts)) h in
     let s : seen p m ts stmt ≡ seen_started p ts stmt = seen-started p m ts stmt h in
     let r : refusal p m ts stmt ≡ option_or (late_refusal (buffered p.pack p.buffer) (database ts) stmt) (last_refusal p ts stmt) =
     ap (λ e. option_or (option_or e (late_refusal (buffered p.pack p.buffer) (database ts) stmt)) (last_refusal p ts stmt)) hs in
@@ -249,7 +249,7 @@ started-second p ts (TotalsStmt q) = λ x e. refl
 all-second : (p : Public) (m : ℕ) (ts : Tables) (stmt : Stmt) → NoSecond p.plan (seen p m ts stmt)
 unfolding NoSecond
 all-second p m ts stmt =
-    of_cond (λ s. (plan : Plan) → p.plan ≡ Some plan → s.then ≡ None) (is_some (early_refusal (is_late m) p.pack p.buffer (headings ts) stmt)) _ _ (λ x e. refl) (started-second p ts stmt)
+    of_cond (λ s. (plan : Plan) → p.plan ≡ Some plan → s.then ≡ None) (is_some (early_refusal (is_late m) (limits_of p) (headings ts) stmt)) _ _ (λ x e. refl) (started-second p ts stmt)
 
 pub forced_shows_alike : ForcedShowsAlike
 unfolding NoSecond

@@ -82,15 +82,20 @@ join_on a b xs c = Ok (RowsStmt (record { list = xs; source = Join t u a b; cond
 abbrev pub update_v : ℕ → Option Search → Spelt
 update_v x c = Ok (Update t (record { column = v; value = int x } ∷ []) c)
 
+-- what is public before the first statement, by these settings
+abbrev pub by_settings : (buffer depth pack : ℕ) → Option Plan → (pad : Option ℕ) → Public
+by_settings buffer depth pack plan pad =
+    first_public (record { buffer = buffer; depth = depth; pack = pack; plan = plan; pad = pad; max_input = 1048576 })
+
 abbrev pub by_four : Public
-by_four = first_public 4 5 1 None None
+by_four = by_settings 4 5 1 None None
 
 abbrev pub forced : Plan → (depth : ℕ) → Public
-forced plan depth = first_public 4 depth 1 (Some plan) None
+forced plan depth = by_settings 4 depth 1 (Some plan) None
 
 -- two rows in each block
 abbrev pub in_pairs : Option Plan → (depth : ℕ) → Public
-in_pairs plan depth = first_public 7 depth 2 plan None
+in_pairs plan depth = by_settings 7 depth 2 plan None
 
 abbrev pub trace_of : Public → List Spelt → Broken → List Access
 trace_of p texts broken = trace p (all_served (first_session p) texts broken)

@@ -21,6 +21,7 @@ use Rattle.ob_row.specs.Truth.{is_true, updated}
 use Rattle.ob_mean.specs.Verdict.{in_slots, Tables, database, is_late, last_refusal}
 use Rattle.ob_mean.specs.Settle.{settled}
 use Rattle.ob_mean.proofs.VerdictLemmas.{headings-database}
+use Rattle.ob_mean.specs.Refusals.{limits_of}
 use Rattle.ob_verdict.specs.Laws.{AreInPlace, SettlesAsStep}
 
 SameTables-refl : (db : Database) → SameTables db db
@@ -92,7 +93,7 @@ second_none None b h = h
 second_none (Some x) b h = cc
 
 settles-early : (p : Public) (ts : Tables) (stmt : Stmt) → AreInPlace ts →
-    SameTables (database (followed (option_or (refusal_of false p.pack p.buffer (database ts) stmt) (last_refusal p ts stmt)) (settled ts stmt) ts)) (step_next p (database ts) stmt)
+    SameTables (database (followed (option_or (refusal_of false (limits_of p) (database ts) stmt) (last_refusal p ts stmt)) (settled ts stmt) ts)) (step_next p (database ts) stmt)
 settles-early p ts (Create table columns capacity) place =
     followed-same _ _ _ ts (λ _. created-same _ capacity ts)
 settles-early p ts (Insert table columns values) place =
@@ -109,12 +110,12 @@ settles-early p ts (Delete table cond) place =
     (changed-same table _ _ (rows-emptied (is_true (where_at cond (columns_at table (headings ts))))) ts))
 settles-early p ts (DropTable table) place = followed-same _ _ _ ts (λ _. dropped-same table ts)
 settles-early p ts (RowsStmt q) place =
-    unchanged-same (refusal_of false p.pack p.buffer (database ts) (RowsStmt q)) (last_refusal p ts (RowsStmt q)) ts
+    unchanged-same (refusal_of false (limits_of p) (database ts) (RowsStmt q)) (last_refusal p ts (RowsStmt q)) ts
 settles-early p ts (TotalsStmt q) place =
-    unchanged-same (refusal_of false p.pack p.buffer (database ts) (TotalsStmt q)) (last_refusal p ts (TotalsStmt q)) ts
+    unchanged-same (refusal_of false (limits_of p) (database ts) (TotalsStmt q)) (last_refusal p ts (TotalsStmt q)) ts
 
 pub settles : (p : Public) (m : ℕ) (ts : Tables) (stmt : Stmt) → SettlesAsStep p m ts stmt
 settles p m ts stmt h place =
     let e : is_late m ≡ false = grind (arith, nat_tests) in
-    subst (λ l. SameTables (database (followed (option_or (refusal_of l p.pack p.buffer (database ts) stmt) (last_refusal p ts stmt)) (settled ts stmt) ts)) (step_next p (database ts) stmt)) (sym e)
+    subst (λ l. SameTables (database (followed (option_or (refusal_of l (limits_of p) (database ts) stmt) (last_refusal p ts stmt)) (settled ts stmt) ts)) (step_next p (database ts) stmt)) (sym e)
     (settles-early p ts stmt place)

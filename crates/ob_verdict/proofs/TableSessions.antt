@@ -19,8 +19,7 @@ use Rattle.ob_sql.specs.declared.stmt.Stmt.TheVariants.{Insert, Update, Delete, 
 use Rattle.ob_sql.specs.Search.{Search, Not, Or}
 use Rattle.ob_mean.specs.declared.answer.Answer.TheVariants.{Done, Changed, Rows, Refused}
 use Rattle.ob_mean.specs.Replay.{Spelt, first_session, answers}
-use Rattle.ob_base.specs.Publics.{first_public}
-use Rattle.ob_verdict.proofs.Sessions.{t, u, id, v, col, of_table, int, compare, create_t, insert, four_rows, two_tables, select_where, select_columns, select_items, join_on, update_v, by_four, forced, in_pairs, trace_of, answers_of, asked_by, last_answers, last_trace, result_after, row_of, ints}
+use Rattle.ob_verdict.proofs.Sessions.{by_settings, t, u, id, v, col, of_table, int, compare, create_t, insert, four_rows, two_tables, select_where, select_columns, select_items, join_on, update_v, by_four, forced, in_pairs, trace_of, answers_of, asked_by, last_answers, last_trace, result_after, row_of, ints}
 use Rattle.std.specs.Prelude.{Option}
 
 abbrev count_all : Spelt
@@ -159,7 +158,7 @@ large_result = refl
 
 -- results padded to two rows: the count and the result of two, whatever is selected
 abbrev padded : Public
-padded = first_public 4 5 1 None (Some 2)
+padded = by_settings 4 5 1 None (Some 2)
 
 -- of a table of four slots with three rows
 abbrev three_rows : List Spelt
@@ -197,7 +196,7 @@ unfolding makes
 padded_passed_trace = refl
 
 -- forced Large, of all slots
-padded_large_trace : last_trace (first_public 4 5 1 (Some Large) (Some 2)) three_rows (select_where (Some (compare v Equal 99)) ∷ []) ≡ Read 4 0 ∷ Read 4 1 ∷ Read 4 2 ∷ Read 4 3 ∷ Make 5 4 49 ∷ Read 4 0 ∷ Write 5 0 ∷ Read 4 1 ∷ Write 5 1 ∷ Read 4 2 ∷ Write 5 2 ∷ Read 4 3 ∷ Write 5 3 ∷ Read 5 0 ∷ Write 5 0 ∷ Read 5 1 ∷ Write 5 1 ∷ Read 5 2 ∷ Write 5 2 ∷ Read 5 3 ∷ Write 5 3 ∷ Read 5 0 ∷ Read 5 1 ∷ Read 5 2 ∷ Read 5 3 ∷ Discard 5 ∷ []
+padded_large_trace : last_trace (by_settings 4 5 1 (Some Large) (Some 2)) three_rows (select_where (Some (compare v Equal 99)) ∷ []) ≡ Read 4 0 ∷ Read 4 1 ∷ Read 4 2 ∷ Read 4 3 ∷ Make 5 4 49 ∷ Read 4 0 ∷ Write 5 0 ∷ Read 4 1 ∷ Write 5 1 ∷ Read 4 2 ∷ Write 5 2 ∷ Read 4 3 ∷ Write 5 3 ∷ Read 5 0 ∷ Write 5 0 ∷ Read 5 1 ∷ Write 5 1 ∷ Read 5 2 ∷ Write 5 2 ∷ Read 5 3 ∷ Write 5 3 ∷ Read 5 0 ∷ Read 5 1 ∷ Read 5 2 ∷ Read 5 3 ∷ Discard 5 ∷ []
 unfolding makes
 padded_large_trace = refl
 
@@ -269,11 +268,11 @@ too_many_groups_total : asked_by by_four (four_rows ++ (update_v 30 (Some (compa
 unfolding makes
 too_many_groups_total = refl
 
-groups_in_larger_buffer : last_answers (first_public 5 5 1 None None) four_rows (update_v 30 (Some (compare id Equal 4)) ∷ by_v ∷ []) ≡ Changed 1 ∷ Rows (ints (10 ∷ 2 ∷ 4 ∷ []) ∷ ints (20 ∷ 1 ∷ 2 ∷ []) ∷ ints (30 ∷ 1 ∷ 4 ∷ []) ∷ []) ∷ []
+groups_in_larger_buffer : last_answers (by_settings 5 5 1 None None) four_rows (update_v 30 (Some (compare id Equal 4)) ∷ by_v ∷ []) ≡ Changed 1 ∷ Rows (ints (10 ∷ 2 ∷ 4 ∷ []) ∷ ints (20 ∷ 1 ∷ 2 ∷ []) ∷ ints (30 ∷ 1 ∷ 4 ∷ []) ∷ []) ∷ []
 unfolding makes
 groups_in_larger_buffer = refl
 
-groups_in_larger_buffer_total : asked_by (first_public 5 5 1 None None) (four_rows ++ (update_v 30 (Some (compare id Equal 4)) ∷ by_v ∷ [])) ≡ 75
+groups_in_larger_buffer_total : asked_by (by_settings 5 5 1 None None) (four_rows ++ (update_v 30 (Some (compare id Equal 4)) ∷ by_v ∷ [])) ≡ 75
 unfolding makes
 groups_in_larger_buffer_total = refl
 

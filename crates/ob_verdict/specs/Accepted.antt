@@ -24,7 +24,7 @@ use Rattle.ob_sql.specs.Search.{Search}
 use Rattle.ob_mean.specs.Names.{columns_at, place_of, unqualified, literal_cell}
 use Rattle.ob_mean.specs.Kinds.{Comparison, is_of_kind, is_too_large}
 use Rattle.ob_mean.specs.Lawful.{statement_slots}
-use Rattle.ob_mean.specs.Refusals.{early_refusal, compared, is_key, left_place, listed, right_place, scope_of}
+use Rattle.ob_mean.specs.Refusals.{early_refusal, compared, is_key, left_place, listed, right_place, scope_of, limits_of, Limits}
 use Rattle.ob_mean.specs.Step.{agg_of, printed_places, select_columns, totals_columns}
 
 -- ---- the places of columns
@@ -58,19 +58,19 @@ pub record JoinFits (pack rows : ℕ) (left right : Heading) (on equals : Column
   pub wide : width (left.schema ++ right.schema) ≤ 1024
   pub slots : joined_slots pack rows left.capacity right.capacity ≤ 16777216
 
-abbrev pub IsAccepted : (late : Bool) → (pack rows : ℕ) → List Heading → Stmt → Type 0
-IsAccepted late pack rows hs stmt = early_refusal late pack rows hs stmt ≡ None
+abbrev pub IsAccepted : (late : Bool) → Limits → List Heading → Stmt → Type 0
+IsAccepted late limits hs stmt = early_refusal late limits hs stmt ≡ None
 
 abbrev pub PlacesFit : Type 0
-PlacesFit = (late : Bool) (pack rows : ℕ) (hs : List Heading) (s : SelectRows) → IsAccepted late pack rows hs (RowsStmt s) → RowsFit hs s
+PlacesFit = (late : Bool) (limits : Limits) (hs : List Heading) (s : SelectRows) → IsAccepted late limits hs (RowsStmt s) → RowsFit hs s
 
 abbrev pub TotalsPlacesFit : Type 0
-TotalsPlacesFit = (late : Bool) (pack rows : ℕ) (hs : List Heading) (s : SelectTotals) → IsAccepted late pack rows hs (TotalsStmt s) → TotalsFit hs s
+TotalsPlacesFit = (late : Bool) (limits : Limits) (hs : List Heading) (s : SelectTotals) → IsAccepted late limits hs (TotalsStmt s) → TotalsFit hs s
 
 abbrev pub JoinsFit : Type 0
-JoinsFit = (late : Bool) (pack rows : ℕ) (hs : List Heading) (list : Option (List ColumnName)) (a b : List ℕ) (on equals : ColumnName) (cond : Option Search) (left right : Heading) →
+JoinsFit = (late : Bool) (limits : Limits) (hs : List Heading) (list : Option (List ColumnName)) (a b : List ℕ) (on equals : ColumnName) (cond : Option Search) (left right : Heading) →
     heading_at a hs ≡ Some left → heading_at b hs ≡ Some right →
-    IsAccepted late pack rows hs (RowsStmt (record { list = list; source = Join a b on equals; cond = cond })) → JoinFits pack rows left right on equals
+    IsAccepted late limits hs (RowsStmt (record { list = list; source = Join a b on equals; cond = cond })) → JoinFits limits.pack limits.buffer left right on equals
 
 -- ---- cells
 -- a value that is set fits its column, where a cell holds it
@@ -86,13 +86,13 @@ abbrev pub ComparisonFits : Columns → Comparison → Type 0
 ComparisonFits cs c = IsSomeAnd (slice_get cs (place_of c.0 cs)) (λ d. AgainstFits cs d.kind c.1)
 
 abbrev pub SetsFit : Type 0
-SetsFit = (late : Bool) (pack rows : ℕ) (hs : List Heading) (table : List ℕ) (sets : List Set) (cond : Option Search) →
-    IsAccepted late pack rows hs (Update table sets cond) → All (SetFits (columns_at table hs)) sets
+SetsFit = (late : Bool) (limits : Limits) (hs : List Heading) (table : List ℕ) (sets : List Set) (cond : Option Search) →
+    IsAccepted late limits hs (Update table sets cond) → All (SetFits (columns_at table hs)) sets
 
 abbrev pub ConditionsFit : Type 0
-ConditionsFit = (late : Bool) (pack rows : ℕ) (hs : List Heading) (stmt : Stmt) → IsAccepted late pack rows hs stmt → All (ComparisonFits (scope_of stmt hs)) (compared stmt)
+ConditionsFit = (late : Bool) (limits : Limits) (hs : List Heading) (stmt : Stmt) → IsAccepted late limits hs stmt → All (ComparisonFits (scope_of stmt hs)) (compared stmt)
 
 -- ---- the blocks of a hash region, of at most so many buckets as there are slots
 abbrev pub BucketsFit : Type 0
-BucketsFit = (p : Public) (late : Bool) (stmt : Stmt) (k : ℕ) → IsPublic p → IsAccepted late p.pack p.buffer (headings_of p.tables) stmt →
+BucketsFit = (p : Public) (late : Bool) (stmt : Stmt) (k : ℕ) → IsPublic p → IsAccepted late (limits_of p) (headings_of p.tables) stmt →
     k ≤ statement_slots p stmt → (k ≤ 16777216) × (k * p.depth ≤ 134217728)

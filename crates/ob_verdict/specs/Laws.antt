@@ -19,7 +19,7 @@ use Rattle.ob_sql.specs.declared.stmt.SelectRows.{SelectRows}
 use Rattle.ob_sql.specs.declared.stmt.Stmt.{Stmt}
 use Rattle.ob_sql.specs.declared.stmt.Stmt.TheVariants.{SelectRows as RowsStmt}
 use Rattle.ob_sql.specs.Skeleton.{skeleton}
-use Rattle.ob_mean.specs.Refusals.{early_refusal}
+use Rattle.ob_mean.specs.Refusals.{early_refusal, limits_of}
 use Rattle.ob_mean.specs.SameMeaning.{SameTables}
 use Rattle.ob_mean.specs.Step.{step_next, select_columns, select_condition, rows_answer, selected_rows, printed_places}
 use Rattle.ob_row.specs.Results.{RowTest, result_slots}
@@ -50,7 +50,7 @@ SettlesAsStep p m ts stmt = m < 2 ^ 63 → AreInPlace ts → SameTables (databas
 -- ---- what the seen of a statement tells
 -- no refusal before the first access
 abbrev pub IsStarted : Public → ℕ → Tables → Stmt → Type 0
-IsStarted p m ts stmt = early_refusal (is_late m) p.pack p.buffer (headings ts) stmt ≡ None
+IsStarted p m ts stmt = early_refusal (is_late m) (limits_of p) (headings ts) stmt ≡ None
 
 -- all but a SELECT of rows shows its kind alone, also where a duplicate key, a full table or too many groups refuse it
 abbrev pub ShowsKindAlone : Type 0
