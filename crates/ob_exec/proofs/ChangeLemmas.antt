@@ -13,7 +13,7 @@ use Rattle.ob_script.specs.Parts.{copy_part, rewrite_part}
 use Rattle.ob_row.specs.declared.cell.Cell.{Cell}
 use Rattle.ob_row.specs.Condition.{Condition}
 use Rattle.ob_row.specs.Rows.{Row}
-use Rattle.ob_row.specs.Slots.{Slots, rows, emptied}
+use Rattle.ob_row.specs.Slots.{rows, emptied}
 use Rattle.ob_row.specs.Truth.{is_true, updated}
 use Rattle.ob_sql.specs.declared.stmt.Set.{Set}
 use Rattle.ob_sql.specs.declared.stmt.Stmt.TheVariants.{Update, Delete}
@@ -26,6 +26,7 @@ use Rattle.ob_mean.specs.Step.{accepted_answer, answered, followed, rows_at, set
 use Rattle.ob_mean.specs.Settle.{settled}
 use Rattle.ob_mean.proofs.VerdictLemmas.{headings-database, heading-stored, stored-database, refused_late}
 use Rattle.ob_mean.specs.Verdict.{Held, in_slots, Tables, database, is_late, refusal}
+use Rattle.ob_mean.specs.Refusals.{limits_of}
 use Rattle.ob_exec.specs.declared.outcome.Outcome.TheVariants.{Changed, Deleted}
 use Rattle.ob_exec.specs.Running.{refusal_now}
 use Rattle.ob_exec.specs.Schemas.{IsSet}
@@ -114,5 +115,5 @@ pub sets_found : (p : Public) (m : ℕ) (name : List ℕ) (sets : List Set) (con
     → refusal_now p m (Update name sets cond) ≡ None → heading_at name (headings_of p.tables) ≡ Some heading → cs ≡ heading.schema → cells ≡ set_cells sets cs → All IsSet cells → FitsSets cs cells
 sets_found p m name sets cond heading cs cells now found schema_is cells_is held =
     let columns_is : columns_at name (headings_of p.tables) ≡ cs = ap (λ (o : Option Heading). option_map_or (λ (h : Heading). h.schema) o []) found ∙ sym schema_is in
-    let fit = subst (λ (c : Columns). All (SetFits c) sets) columns_is (sets_fit (is_late m) p.pack p.buffer (headings_of p.tables) name sets cond now) in
+    let fit = subst (λ (c : Columns). All (SetFits c) sets) columns_is (sets_fit (is_late m) (limits_of p) (headings_of p.tables) name sets cond now) in
     subst (λ (xs : List (ℕ × Cell)). FitsSets cs xs) (sym cells_is) (sets_hold cs sets fit (subst (λ (xs : List (ℕ × Cell)). All IsSet xs) cells_is held))

@@ -16,20 +16,20 @@ use Rattle.ob_seal.specs.KeySet.{KeySet}
 use Rattle.ob_seal.specs.Sealed.{sealed}
 use Rattle.ob_store.specs.State.{Shape, StoreState}
 use Rattle.ob_store.specs.Calls.{KeepsLive, Rests as OnlyRoom}
-use Rattle.ob_store.specs.Runs.{Began, Did}
+use Rattle.ob_store.specs.Runs.{Began, Did, Later}
 use Rattle.ob_store.proofs.Steps.{later_refl, later_rests}
 use Rattle.ob_vault.specs.declared.fault.VaultErr.{VaultErr}
 use Rattle.ob_vault.specs.declared.region.Region.{Region}
 use Rattle.ob_vault.specs.declared.vault.Vault.{Vault}
 use Rattle.ob_vault.specs.State.{RevState, Start, World}
-use Rattle.ob_vault.specs.Numbers.{IsNumber}
 use Rattle.ob_vault.specs.Places.{at, start_of}
-use Rattle.ob_vault.specs.Tied.{AllSealed, Calm, Fits, Lives, Ready, at_of}
+use Rattle.ob_vault.specs.Tied.{Calm, Fits, Lives, Ready}
 use Rattle.ob_vault.specs.Calls.{Cause, Cut, Seals, Went, one}
 use Rattle.ob_vault.specs.VaultCalls.{DropsRegion}
 use Rattle.ob_vault.specs.Words.{MayAsk}
 use Rattle.ob_vault.proofs.Runs.{cut_after, lasts_wider, seals_join, seals_none, went_join, went_none, went_spent, went_wider}
 use Rattle.ob_vault.proofs.WordLemmas.{seals_rests, went_rests}
+use Rattle.ob_vault.proofs.WorldSteps.{seals_unasked}
 use Rattle.ob_reopen.specs.declared.closing.Closing.{Closing}
 use Rattle.ob_reopen.specs.declared.fault.CloseErr.{CloseErr}
 use Rattle.ob_reopen.specs.declared.fault.CloseErr.TheVariants.{Failed, NoMemory}
@@ -97,7 +97,7 @@ module _ {R : Type 0} (state : R → RevState) (e : Engine R) (s : StoreState) (
     later = later_refl s;
     calm = λ calm. calm;
     told = λ tells free. absurd (cc (used, free));
-    sealed = λ good rows closings tells all. all;
+    sealed = λ good rows closings. seals_none good (world_of state e s);
   }
 
   -- each table has a block
@@ -134,7 +134,7 @@ module _ {R : Type 0} (state : R → RevState) (e : Engine R) (s : StoreState) (
       later = later_rests s s1 room;
       calm = wents.calm;
       told = λ tells _ tables held. tt;
-      sealed = λ good rows closings tells all. (seals_rests _ s s1 room good).seals tells all;
+      sealed = λ good rows closings. seals_rests _ s s1 room good;
     }
 
     pub ready_fore : Ready fore
@@ -226,18 +226,9 @@ module _ {R : Type 0} (state : R → RevState) (e : Engine R) (s : StoreState) (
             (seals_join good fore amid last drops.went.lasts.later (drops.seals.seals good) (writes_it.seals good (λ p below. closings v1.next listed p below)))
 
         -- what was sealed stays so in a vault that has the same keys and numbers
-        sealed_as : (good : ℕ → List ℕ → Bool) → v2.keys ≡ e.vault.keys → start_of v2 ≡ start_of e.vault → AllSealed good last → AllSealed good (world_of state e t)
-        sealed_as good keys start all = record {
-          all = λ q x block live held.
-              let here = all.all q x block live held in
-              record {
-                number = here.number;
-                rows = here.rows;
-                is = here.is ∙ ap (λ (k : KeySet). sealed k (at_of q x here.number) here.rows) keys;
-                went = subst (λ (b : Start). IsNumber (record { vault = record { keys = e.vault.keys; start = b; count = e.vault.count; next = e.vault.next; revs = state e.vault.revs }; store = t }) q x here.number) start here.went;
-                fine = here.fine;
-              };
-        }
+        sealed_as : (good : ℕ → List ℕ → Bool) → Later s t → v2.keys ≡ e.vault.keys → start_of v2 ≡ start_of e.vault → Seals good (world_of state e s) last → Seals good (world_of state e s) (world_of state e t)
+        sealed_as good later keys start seals =
+            seals_join good (world_of state e s) last (world_of state e t) later seals (seals_unasked good last (world_of state e t) (sym keys) (sym start) refl (omega arith) (record { live = λ q. refl; last = λ q x. refl; kept = λ q. refl }))
 
         calm_as : v2.keys ≡ e.vault.keys → start_of v2 ≡ start_of e.vault → Calm last → Calm (world_of state e t)
         calm_as keys start calm = record {
@@ -274,7 +265,7 @@ module _ {R : Type 0} (state : R → RevState) (e : Engine R) (s : StoreState) (
             later = cut.lasts.later;
             calm = λ calm. calm_as cut.lasts.keys cut.lasts.start ((cause_as err cut.cause).1 calm);
             told = λ tells _ tables held. tt;
-            sealed = λ good rows closings tells all. sealed_as good cut.lasts.keys cut.lasts.start ((seals_all is good closings).seals tells all);
+            sealed = λ good rows closings. sealed_as good cut.lasts.later cut.lasts.keys cut.lasts.start (seals_all is good closings);
           }
 
         -- it was written
@@ -356,5 +347,5 @@ module _ {R : Type 0} (state : R → RevState) (e : Engine R) (s : StoreState) (
                 later = went.lasts.later;
                 calm = λ calm. calm_as went.lasts.keys went.lasts.start (went.calm calm);
                 told = λ tells _ tables held. rests tells tables held;
-                sealed = λ good rows closings tells all. sealed_as good went.lasts.keys went.lasts.start ((seals_all is good closings).seals tells all);
+                sealed = λ good rows closings. sealed_as good went.lasts.later went.lasts.keys went.lasts.start (seals_all is good closings);
               }

@@ -46,7 +46,7 @@ use Rattle.ob_vault.specs.declared.region.Order.TheVariants.{Round}
 use Rattle.ob_row.specs.Slots.{empty_slots}
 use Rattle.ob_sql.specs.declared.stmt.Stmt.TheVariants.{Create as CreateStmt}
 use Rattle.ob_base.specs.Stored.{headings_of}
-use Rattle.ob_mean.specs.Refusals.{is_size}
+use Rattle.ob_mean.specs.Refusals.{is_size, limits_of}
 use Rattle.ob_mean.specs.Step.{accepted_answer, answered as answered_by, followed}
 use Rattle.ob_mean.specs.Settle.{settle, settled}
 use Rattle.ob_mean.specs.Verdict.{Tables, database, is_late, refusal, ended as seen_to}
@@ -128,7 +128,7 @@ at_most_one n is = grind (arith, nat_tests)
 module _ (p : Public) (m : ℕ) (table : List ℕ) (columns : List NewColumn) (capacity : ℕ) (now : refusal_now p m (CreateStmt table columns capacity) ≡ None) where
   pub new_stored : IsStored (record { name = table; schema = columns_of table columns; capacity = capacity })
   new_stored =
-      let free = allowed (is_late m) p.pack p.buffer (headings_of p.tables) (CreateStmt table columns capacity) now in
+      let free = allowed (is_late m) (limits_of p) (headings_of p.tables) (CreateStmt table columns capacity) now in
       let size = within (headings_of p.tables) table columns capacity free.limits in
       let same = length-map columns (new_column table) in
       record {
@@ -143,7 +143,7 @@ module _ (p : Public) (m : ℕ) (table : List ℕ) (columns : List NewColumn) (c
 
   pub new_heading : length table ≤ 32 → All IsShort columns → IsHeading (record { name = table; schema = columns_of table columns; capacity = capacity })
   new_heading short names =
-      let free = allowed (is_late m) p.pack p.buffer (headings_of p.tables) (CreateStmt table columns capacity) now in
+      let free = allowed (is_late m) (limits_of p) (headings_of p.tables) (CreateStmt table columns capacity) now in
       let size = within (headings_of p.tables) table columns capacity free.limits in
       record {
         stored = new_stored;
@@ -154,11 +154,11 @@ module _ (p : Public) (m : ℕ) (table : List ℕ) (columns : List NewColumn) (c
 
   pub new_name : (i : ℕ) (t : Table) → IsAt table i t p.tables → ⊥
   new_name i t is =
-      let free = allowed (is_late m) p.pack p.buffer (headings_of p.tables) (CreateStmt table columns capacity) now in
+      let free = allowed (is_late m) (limits_of p) (headings_of p.tables) (CreateStmt table columns capacity) now in
       no_table table p.tables i t (neither (has_table table (headings_of p.tables)) _ free.names).0 is
 
   pub new_within : IsWithin (headings_of p.tables) table columns capacity
-  new_within = within (headings_of p.tables) table columns capacity (allowed (is_late m) p.pack p.buffer (headings_of p.tables) (CreateStmt table columns capacity) now).limits
+  new_within = within (headings_of p.tables) table columns capacity (allowed (is_late m) (limits_of p) (headings_of p.tables) (CreateStmt table columns capacity) now).limits
 
   pub new_place : length p.tables < 64
   new_place = let fewer = new_within.tables in let same = length-map p.tables (λ (t : Table). t.heading) in omega (arith, fewer, same)
@@ -167,7 +167,7 @@ module _ (p : Public) (m : ℕ) (table : List ℕ) (columns : List NewColumn) (c
   new_few = let few = new_within.few in omega (arith, few)
 
   pub new_asked : (n : ℕ) → n ≡ m → n < 9799832789158199296
-  new_asked n same = early_few m n (allowed (is_late m) p.pack p.buffer (headings_of p.tables) (CreateStmt table columns capacity) now).early same
+  new_asked n same = early_few m n (allowed (is_late m) (limits_of p) (headings_of p.tables) (CreateStmt table columns capacity) now).early same
 
   pub new_size : (schema : Columns) → schema ≡ columns_of table columns → IsSized schema capacity
   new_size schema is =

@@ -10,7 +10,7 @@ use Rattle.ob_base.specs.Schemas.{Columns, key_place}
 use Rattle.ob_base.specs.Stored.{Stored, headings, stored_at, changed_at}
 use Rattle.ob_script.specs.Parts.{count_part, copy_part, insert_part}
 use Rattle.ob_row.specs.Rows.{Row, has_key}
-use Rattle.ob_row.specs.Slots.{Slots, rows, fill_first}
+use Rattle.ob_row.specs.Slots.{rows, fill_first}
 use Rattle.ob_mutate.specs.declared.inserting.Inserted.{Inserted as InsertedAs}
 use Rattle.ob_mutate.specs.declared.inserting.Inserted.TheVariants.{Done, Duplicate, Full}
 use Rattle.ob_mutate.specs.Inserting.{insert_answer, slots_after}
@@ -19,7 +19,7 @@ use Rattle.ob_sql.specs.declared.stmt.Stmt.{Stmt}
 use Rattle.ob_sql.specs.declared.stmt.Stmt.TheVariants.{Insert as InsertStmt}
 use Rattle.ob_mean.specs.declared.answer.Answer.TheVariants as A
 use Rattle.ob_mean.specs.Names.{columns_at}
-use Rattle.ob_mean.specs.Refusals.{early_refusal}
+use Rattle.ob_mean.specs.Refusals.{early_refusal, limits_of}
 use Rattle.ob_mean.specs.Step.{new_row, insert_refusal, answered, followed}
 use Rattle.ob_mean.specs.Settle.{settle, settled}
 use Rattle.ob_mean.proofs.VerdictLemmas.{heading-stored, stored-database, refused_late}
@@ -50,7 +50,7 @@ settle_plain false true name row tables = sym (changed_same name tables)
 settle_plain false false name row tables = refl
 
 insert_meant : (p : Public) (m : ℕ) (tables : Tables) (name : List ℕ) (columns : Option (List (List ℕ))) (values : List Literal) (x : Stored Held) (row : Row) (answer : InsertedAs)
-    → early_refusal (is_late m) p.pack p.buffer (headings tables) (InsertStmt name columns values) ≡ None → stored_at name tables ≡ Some x → length x.held.slots ≡ x.heading.capacity
+    → early_refusal (is_late m) (limits_of p) (headings tables) (InsertStmt name columns values) ≡ None → stored_at name tables ≡ Some x → length x.held.slots ≡ x.heading.capacity
     → row ≡ new_row x.heading.schema columns values → answer ≡ insert_answer x.heading.schema row x.held.slots
     → (inserted_as answer ≡ outcome_of (InsertStmt name columns values) (verdict p m tables (InsertStmt name columns values)))
     × (settle p m tables (InsertStmt name columns values) ≡ changed_at name (in_slots (λ slots. slots_after answer row slots)) tables)

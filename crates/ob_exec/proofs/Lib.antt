@@ -1,4 +1,5 @@
 pub mod TableLemmas
+pub mod GivenUpLemmas
 pub mod RunLemmas
 pub mod ToldLemmas
 pub mod SealLemmas

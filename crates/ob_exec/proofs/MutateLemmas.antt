@@ -35,7 +35,7 @@ use Rattle.ob_row.specs.Slots.{Slots}
 use Rattle.ob_mutate.specs.Mutating.{Mutates}
 use Rattle.ob_sql.specs.declared.stmt.Stmt.{Stmt}
 use Rattle.ob_sql.specs.Skeleton.{skeleton}
-use Rattle.ob_mean.specs.Refusals.{early_refusal}
+use Rattle.ob_mean.specs.Refusals.{early_refusal, limits_of}
 use Rattle.ob_mean.specs.Settle.{settle}
 use Rattle.ob_mean.specs.Lawful.{is_counted}
 use Rattle.ob_mean.specs.Verdict.{Held, in_slots, Tables, is_late, verdict, ended as seen_to}
@@ -70,7 +70,7 @@ pub record Alters {T : Type 0} (p : Public) (m : ℕ) (stmt : Stmt) (name : List
   pub answers : (x : T) → IsAnswered (outcome x)
   pub silent : (x : T) → HasNoRows (outcome x)
   pub plain : is_counted stmt ≡ false
-  pub meant : (tables : Tables) (x : Stored Held) → early_refusal (is_late m) p.pack p.buffer (headings tables) stmt ≡ None → stored_at name tables ≡ Some x
+  pub meant : (tables : Tables) (x : Stored Held) → early_refusal (is_late m) (limits_of p) (headings tables) stmt ≡ None → stored_at name tables ≡ Some x
       → length x.held.slots ≡ x.heading.capacity → x.heading ≡ heading → MeansFor p m stmt name outcome answer after tables x.held.slots
 
 module _ {R T : Type 0} (state : R → RevState) (stmt : Stmt) (name : List ℕ) (part : ℕ → ℕ → ℕ → ℕ → List Access) (outcome : T → Outcome) (answer : Slots → T) (after : Slots → Slots)

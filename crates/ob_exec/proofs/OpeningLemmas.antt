@@ -30,7 +30,7 @@ use Rattle.ob_vault.specs.declared.vault.Vault.{Vault}
 use Rattle.ob_vault.specs.State.{RevState, Start, World, from_earlier}
 use Rattle.ob_vault.specs.Places.{at, start_of}
 use Rattle.ob_vault.specs.Resuming.{Stays, Unasked, open_at}
-use Rattle.ob_vault.specs.Tied.{AllSealed, Calm, Fits, Ready}
+use Rattle.ob_vault.specs.Tied.{AllSealed, Calm, Fits, Ready, Scope, next_fault}
 use Rattle.ob_vault.specs.Words.{IsHonest}
 use Rattle.ob_reopen.specs.declared.closing.Closing.{Closing}
 use Rattle.ob_reopen.specs.declared.fault.OpenErr.{OpenErr}
@@ -446,12 +446,14 @@ module _ {R : Type 0} (state : R → RevState) (config : Config) (keys : KeySet)
       pub held_last : AreHeld closing.pack (map (λ (x : Listed). x.table) listed) tables (at state v2 t)
       held_last = held_open keys closing.pack listed tables s.kept amid (at state v2 t) are_kept reopens.tables tells_amid kept_amid (reopens.opens.ok.stays.keys ∙ keys_amid)
 
-      pub sealed_last : (good : ℕ → List ℕ → Bool) → AcceptsRows good closing.pack → AcceptsClosings good → AllSealed good (at state v2 t)
-      sealed_last good accepts closes =
+      pub sealed_last : (good : ℕ → List ℕ → Bool) → AcceptsRows good closing.pack → AcceptsClosings good → (scope : Scope) → scope.below ≤ next_fault s → AllSealed good scope (at state v2 t)
+      sealed_last good accepts closes scope few =
           let first = reads.seals good (closing_sealed good keys s.kept bounded fore keyed closes closing rests.listed rests.closing_is (room.keeps.kept closing.region)) in
           let second = reopens.seals good (tables_sealed good keys s.kept bounded amid keys_amid closing.pack marked.pack_least accepts listed tables are_kept kept_amid) in
-          second.seals tells_amid (first.seals (subst IsTrue (sym room.tells) tells)
-          (record { all = λ q x block live last. absurd (live (room.keeps.live q ∙ empty q)) }))
+          let few_fore : scope.below ≤ next_fault s1 = omega (arith, few, room.faults) in
+          let few_amid : scope.below ≤ next_fault s2 = omega (arith, few_fore, reads.opens.ok.stays.faults) in
+          second.seals scope few_amid tells_amid (first.seals scope few_fore (subst IsTrue (sym room.tells) tells)
+          (record { all = λ q x block from live last. absurd (live (room.keeps.live q ∙ empty q)) }))
 
 -- ---- the engine
 module _ {R : Type 0} (state : R → RevState) (config : Config) (keys : KeySet) (closing : Closing) (marked : IsMarked closing) (pack_is : closing.pack ≡ config.pack) (is_config : IsConfig config)
@@ -535,6 +537,13 @@ module _ {R : Type 0} (state : R → RevState) (config : Config) (keys : KeySet)
           in_place = rests.in_place;
         }
 
+        -- and no region above the closing's has come
+        none_above : (q : ℕ) → closing.region < q → t.live q ≡ None
+        none_above q above =
+            let early : (i : ℕ) (x : Listed) → slice_get listed i ≡ Some x → x.table.region < closing.region = λ i x is. omega (arith, (table_is closing listed reads.catalogue i x is).region_most) in
+            let off : IsOf listed q → ⊥ = λ of. omega (arith, early of.place of.table of.is, of.region, above) in
+            reopens.opens.ok.stays.apart.kept q off ∙ reads.opens.ok.stays.apart.kept q (λ same. omega (arith, same, above)) ∙ room.keeps.live q ∙ empty q
+
         pub opens_all : OpensEngine state config keys closing (Ok e) s t
         opens_all =
             let did = did_open state config keys closing marked s s1 fresh honest room v0 ready started keyed none v1 s2 listed reads e.vault t value reopens in
@@ -552,14 +561,15 @@ module _ {R : Type 0} (state : R → RevState) (config : Config) (keys : KeySet)
                 rows = rows_is;
                 did = did;
                 calm = calm_last state config keys closing marked s s1 fresh honest room v0 ready started keyed none v1 s2 listed reads e.vault t value reopens;
+                earlier = none_above;
               };
               err = tt;
               faults = let same = did.faults in omega (arith, same);
               tells = reopens.opens.ok.stays.tells ∙ reads.opens.ok.stays.tells ∙ room.tells;
               told = represents;
-              sealed = λ tells nolie tables rests good accepts closes.
+              sealed = λ tells nolie tables rests good accepts closes scope few.
                   sealed_last state config keys closing marked s s1 fresh honest empty bounded room v0 keyed v1 s2 listed reads tells (nolie_before nolie) tables rests value e.vault t reopens
-                  good (subst (λ (n : ℕ). AcceptsRows good n) (sym pack_is) accepts) closes;
+                  good (subst (λ (n : ℕ). AcceptsRows good n) (sym pack_is) accepts) closes scope few;
             }
 
 -- the room of an engine, once a closing was read into it

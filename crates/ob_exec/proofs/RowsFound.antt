@@ -13,7 +13,7 @@ use Rattle.ob_store.specs.State.{StoreState}
 use Rattle.ob_vault.specs.State.{RevState}
 use Rattle.ob_mean.specs.Names.{source_columns}
 use Rattle.ob_mean.specs.Prints.{is_join}
-use Rattle.ob_mean.specs.Refusals.{joins_itself, joins_off_key_at, source_tables}
+use Rattle.ob_mean.specs.Refusals.{joins_itself, joins_off_key_at, source_tables, limits_of}
 use Rattle.ob_mean.specs.Step.{source_rows}
 use Rattle.ob_mean.specs.Verdict.{Tables, database, is_late, source_slots}
 use Rattle.ob_mean.proofs.EarlyLemmas.{Allowed, allowed}
@@ -32,8 +32,8 @@ module _ {R : Type 0} (state : R → RevState) (old : Engine R) (s : StoreState)
   stored : AreStored old.public.tables
   stored i t at = (agrees.tables.each i t at).heading.stored
 
-  fits : Allowed (is_late (count_of old s)) old.public.pack old.public.buffer (headings_of old.public.tables) (RowsStmt select)
-  fits = allowed (is_late (count_of old s)) old.public.pack old.public.buffer (headings_of old.public.tables) (RowsStmt select) free
+  fits : Allowed (is_late (count_of old s)) (limits_of old.public) (headings_of old.public.tables) (RowsStmt select)
+  fits = allowed (is_late (count_of old s)) (limits_of old.public) (headings_of old.public.tables) (RowsStmt select) free
 
   unjoined : (source : Source) → select.source ≡ source → is_joined (source_columns source (headings_of old.public.tables)) ≡ is_join source
   unjoined (OneTable name) is = table_unjoined name old.public.tables stored

@@ -31,7 +31,7 @@ use Rattle.ob_mean.specs.Lawful.{counted_slots}
 use Rattle.ob_mean.specs.Names.{source_columns}
 use Rattle.ob_mean.specs.Replay.{count_end, ending_len, walk_end}
 use Rattle.ob_mean.specs.Verdict.{ended as seen_to}
-use Rattle.ob_mean.specs.Refusals.{early_refusal, left_place, right_place}
+use Rattle.ob_mean.specs.Refusals.{early_refusal, left_place, right_place, limits_of}
 use Rattle.ob_store.specs.Calls.{Rests}
 use Rattle.ob_vault.specs.Places.{at}
 use Rattle.ob_vault.proofs.WordLemmas.{ready_rests, went_rests}
@@ -178,8 +178,8 @@ module _ {R : Type 0} (state : R → RevState) (old : Engine R) (s : StoreState)
   module _ (free : refusal_now old.public (count_of old s) (RowsStmt select) ≡ None) where
     pub join_fits : JoinFits old.public.pack old.public.buffer t.heading u.heading on equals
     join_fits =
-        joins_fit (is_late (count_of old s)) old.public.pack old.public.buffer (headings_of old.public.tables) select.list a b on equals select.cond t.heading u.heading found_a found_b
-        (subst (λ (source : Source). early_refusal (is_late (count_of old s)) old.public.pack old.public.buffer (headings_of old.public.tables) (RowsStmt (record { list = select.list; source = source; cond = select.cond })) ≡ None) of_join free)
+        joins_fit (is_late (count_of old s)) (limits_of old.public) (headings_of old.public.tables) select.list a b on equals select.cond t.heading u.heading found_a found_b
+        (subst (λ (source : Source). early_refusal (is_late (count_of old s)) (limits_of old.public) (headings_of old.public.tables) (RowsStmt (record { list = select.list; source = source; cond = select.cond })) ≡ None) of_join free)
 
     pub join_idle : (left right : Flat) → left ≡ flat_of t → right ≡ flat_of u → IsIdle (width (left.schema ++ right.schema)) old.room
     join_idle left right left_is right_is =
@@ -252,7 +252,7 @@ module _ {R : Type 0} (state : R → RevState) (old : Engine R) (s : StoreState)
         → MayStart (1 + fill_length (join_in old.room left lcol right rcol)) (at state old.vault s1)
     join_starts s1 left right lcol rcol n padded rests is spare =
         let same = ap length rests.asked in
-        let early = not_late (count_of old s) (allowed (is_late (count_of old s)) old.public.pack old.public.buffer (headings_of old.public.tables) (RowsStmt select) free).early in
+        let early = not_late (count_of old s) (allowed (is_late (count_of old s)) (limits_of old.public) (headings_of old.public.tables) (RowsStmt select) free).early in
         let lefts : blocks_for old.room.pack left.capacity ≡ blocks_for old.public.pack left.capacity = ap (λ (k : ℕ). blocks_for k left.capacity) agrees.room.pack in
         let pairs : joined_blocks old.room.pack old.room.rows left.capacity right.capacity ≡ joined_blocks old.public.pack old.public.buffer left.capacity right.capacity =
         λ k. joined_blocks (agrees.room.pack k) (agrees.room.rows k) left.capacity right.capacity in

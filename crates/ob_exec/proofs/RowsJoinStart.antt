@@ -46,7 +46,7 @@ use Rattle.ob_join.specs.Join.{Join, Joins, TellsSlots, columns, fill_script, jo
 use Rattle.ob_join.proofs.Lengths.{product_least}
 use Rattle.ob_join.proofs.Results.{whole_product}
 use Rattle.ob_mean.specs.Names.{where_at}
-use Rattle.ob_mean.specs.Refusals.{left_place, right_place}
+use Rattle.ob_mean.specs.Refusals.{left_place, right_place, limits_of}
 use Rattle.ob_mean.specs.Step.{printed_places}
 use Rattle.ob_mean.specs.Verdict.{is_late, ended as seen_to}
 use Rattle.ob_mean.proofs.EarlyLemmas.{allowed}
@@ -152,7 +152,7 @@ module _ {R : Type 0} (state : R → RevState) (old : Engine R) (s s1 : StoreSta
 
   join_columns : AreColumns q.flat.schema q.cols
   join_columns =
-      let fit = places_fit (is_late (count_of old s)) old.public.pack old.public.buffer (headings_of old.public.tables) select free in
+      let fit = places_fit (is_late (count_of old s)) (limits_of old.public) (headings_of old.public.tables) select free in
       record { few = listed_few select.list q.flat.schema fit.few join_size.few; within = fit.printed }
 
   pub join_selects : (room : RoomState) (high : ℕ) (joined : Flat) (n padded : ℕ) → room ≡ record old.room { high = high } → Joins pass (Ok joined) ready after → n ≡ lefts + 3 * pairs + 2
@@ -169,7 +169,7 @@ module _ {R : Type 0} (state : R → RevState) (old : Engine R) (s s1 : StoreSta
       let begun = ap earlier went.lasts.start in
       let sum = length-append s1.asked script in
       let same = ap length rests.asked in
-      let early = not_late (count_of old s) (allowed (is_late (count_of old s)) old.public.pack old.public.buffer (headings_of old.public.tables) (RowsStmt select) free).early in
+      let early = not_late (count_of old s) (allowed (is_late (count_of old s)) (limits_of old.public) (headings_of old.public.tables) (RowsStmt select) free).early in
       let fits = join_fits state old s i j t u a b on equals select agrees get_a get_b named_a named_b of_join free in
       let most = fits.slots in
       let within = product_least pairs old.public.pack agrees.settings.pack_least in

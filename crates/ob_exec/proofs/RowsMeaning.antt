@@ -23,7 +23,7 @@ use Rattle.ob_sql.specs.declared.stmt.Stmt.TheVariants.{SelectRows as RowsStmt}
 use Rattle.ob_mean.specs.declared.answer.Answer.{Answer}
 use Rattle.ob_mean.specs.declared.answer.Answer.TheVariants as A
 use Rattle.ob_mean.specs.Prints.{Prints, Unfinished, Begun}
-use Rattle.ob_mean.specs.Refusals.{early_refusal}
+use Rattle.ob_mean.specs.Refusals.{early_refusal, limits_of}
 use Rattle.ob_mean.specs.Settle.{settle}
 use Rattle.ob_mean.specs.Step.{source_rows, selected_rows, rows_answer, select_columns, select_condition, printed_places, answered, followed}
 use Rattle.ob_mean.specs.Verdict.{Tables, database, is_late, refusal, verdict, seen, seen_rows, selected_places, rows_refusal}
@@ -76,7 +76,7 @@ followed_same None tables = refl
 followed_same (Some r) tables = refl
 
 module _ (p : Public) (m : ℕ) (select : SelectRows) (tables : Tables) (headed : headings tables ≡ headings_of p.tables) (in_place : AreInPlace tables)
-    (early : early_refusal (is_late m) p.pack p.buffer (headings tables) (RowsStmt select) ≡ None) (some : 1 ≤ p.pack) (enough : 3 * p.pack + 1 ≤ p.buffer) (padded : IsPadded p.pad p.plan)
+    (early : early_refusal (is_late m) (limits_of p) (headings tables) (RowsStmt select) ≡ None) (some : 1 ≤ p.pack) (enough : 3 * p.pack + 1 ≤ p.buffer) (padded : IsPadded p.pad p.plan)
     (labelled : labels_of (selection p select).flat.schema (selection p select).cols ≡ answer_labels (RowsStmt select) p)
     (source : Same (source_rows select.source (database tables)) (rows (slots_of p select tables))) where
   abbrev q : Selection

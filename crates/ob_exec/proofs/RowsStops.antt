@@ -29,7 +29,7 @@ use Rattle.ob_flat.specs.Passes.{PassCut, SinkCause as PassSink, is_of_access}
 use Rattle.ob_emit.specs.Emitting.{header, labels_of}
 use Rattle.ob_sql.specs.declared.stmt.SelectRows.{SelectRows}
 use Rattle.ob_sql.specs.declared.stmt.Stmt.TheVariants.{SelectRows as RowsStmt}
-use Rattle.ob_mean.specs.Refusals.{early_refusal}
+use Rattle.ob_mean.specs.Refusals.{early_refusal, limits_of}
 use Rattle.ob_mean.specs.Replay.{cut_at}
 use Rattle.ob_mean.specs.Step.{source_rows}
 use Rattle.ob_mean.specs.Verdict.{Tables, database, is_late, plan_for, seen, seen_by, seen_with}
@@ -181,7 +181,7 @@ module _ {R : Type 0} (state : R → RevState) (old : Engine R) (s : StoreState)
     pub headed : headings tables ≡ headings_of old.public.tables
     headed = held_headings old.public.pack old.public.tables tables before stands.held
 
-    pub early : early_refusal (is_late (count_of old s)) old.public.pack old.public.buffer (headings tables) (RowsStmt select) ≡ None
+    pub early : early_refusal (is_late (count_of old s)) (limits_of old.public) (headings tables) (RowsStmt select) ≡ None
     early = early_held old.public (count_of old s) (RowsStmt select) tables before None stands.held free
 
     pub rows_of : Same (source_rows select.source (database tables)) (rows (slots_of old.public select tables))

@@ -46,7 +46,7 @@ use Rattle.ob_flat.proofs.Resting.{represents_rests}
 use Rattle.ob_flat.proofs.Runs.{pass_after}
 use Rattle.ob_mean.specs.Lawful.{counted_slots}
 use Rattle.ob_mean.specs.Names.{place_of, source_columns, where_at}
-use Rattle.ob_mean.specs.Refusals.{listed}
+use Rattle.ob_mean.specs.Refusals.{listed, limits_of}
 use Rattle.ob_mean.proofs.EarlyLemmas.{allowed}
 use Rattle.ob_verdict.proofs.AcceptedProof.{places_fit}
 use Rattle.ob_mean.specs.Replay.{count_end, done_of, ending_len, held_if, walk_end}
@@ -261,7 +261,7 @@ module _ {R : Type 0} (state : R → RevState) (old : Engine R) (s s1 : StoreSta
 
   module _ (free : refusal_now old.public (count_of old s) (RowsStmt select) ≡ None) where
     pub few_listed : length (listed select) ≤ 32
-    few_listed = (places_fit (is_late (count_of old s)) old.public.pack old.public.buffer (headings_of old.public.tables) select free).few
+    few_listed = (places_fit (is_late (count_of old s)) (limits_of old.public) (headings_of old.public.tables) select free).few
 
     table_columns : AreColumns q.flat.schema q.cols
     table_columns =
@@ -270,7 +270,7 @@ module _ {R : Type 0} (state : R → RevState) (old : Engine R) (s s1 : StoreSta
         let wide : length (selection old.public select).flat.schema ≤ 32 = subst (λ (cs : Columns). length cs ≤ 32) schema_is (omega (arith, few)) in
         record {
           few = listed_few select.list q.flat.schema few_listed wide;
-          within = (places_fit (is_late (count_of old s)) old.public.pack old.public.buffer (headings_of old.public.tables) select free).printed;
+          within = (places_fit (is_late (count_of old s)) (limits_of old.public) (headings_of old.public.tables) select free).printed;
         }
 
     table_size : IsSized q.flat.schema q.flat.capacity
@@ -283,7 +283,7 @@ module _ {R : Type 0} (state : R → RevState) (old : Engine R) (s s1 : StoreSta
         (record { some = stored.some; few = omega (arith, few); wide = stored.wide; least = stored.least; most = omega (arith, most) }))
 
     early_asked : count_of old s < 9223372036854775808
-    early_asked = not_late (count_of old s) (allowed (is_late (count_of old s)) old.public.pack old.public.buffer (headings_of old.public.tables) (RowsStmt select) free).early
+    early_asked = not_late (count_of old s) (allowed (is_late (count_of old s)) (limits_of old.public) (headings_of old.public.tables) (RowsStmt select) free).early
 
     pub table_may : (rests : Rests s s1) (blocks padded : ℕ) → blocks ≡ div_ceil t.heading.capacity old.public.pack
         → ((x : Selection) → x.public ≡ old.public → x.flat.capacity ≡ t.heading.capacity → padded_after x.public.pad x ≡ padded) → blocks + padded ≤ s1.spare

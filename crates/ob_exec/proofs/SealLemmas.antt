@@ -6,7 +6,7 @@ use Rattle.ob_store.specs.State.{StoreState}
 use Rattle.ob_store.proofs.Steps.{later_rests}
 use Rattle.ob_vault.specs.Calls.{Seals}
 use Rattle.ob_vault.specs.State.{RevState, World}
-use Rattle.ob_vault.proofs.Runs.{seals_join}
+use Rattle.ob_vault.proofs.Runs.{seals_join, seals_none}
 use Rattle.ob_vault.proofs.WordLemmas.{seals_rests}
 use Rattle.ob_flat.specs.Flats.{Accepts}
 use Rattle.ob_exec.specs.Agreeing.{Agrees, world_of}
@@ -29,4 +29,4 @@ module _ {R : Type 0} (state : R → RevState) (old : Engine R) (s s1 : StoreSta
 
 -- nothing was asked
 pub keeps_none : {R : Type 0} (state : R → RevState) (old : Engine R) (s : StoreState) (new : Engine R) → world_of state new s ≡ world_of state old s → KeepsSealed state old s new s
-keeps_none state old s new same good accepts single = subst (λ (w : World). Seals good (world_of state old s) w) (sym same) (record { seals = λ tells all. all })
+keeps_none state old s new same good accepts single = subst (λ (w : World). Seals good (world_of state old s) w) (sym same) (seals_none good (world_of state old s))

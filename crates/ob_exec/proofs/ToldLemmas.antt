@@ -18,7 +18,7 @@ use Rattle.ob_flat.specs.declared.fault.OpErr.{OpErr}
 use Rattle.ob_flat.specs.declared.fault.OpErr.TheVariants as OpErrs
 use Rattle.ob_sql.specs.declared.stmt.Stmt.{Stmt}
 use Rattle.ob_base.specs.Stored.{headings_of}
-use Rattle.ob_mean.specs.Refusals.{first_holding, early_conditions, early_refusal}
+use Rattle.ob_mean.specs.Refusals.{first_holding, early_conditions, early_refusal, limits_of}
 use Rattle.ob_mean.specs.Step.{answered}
 use Rattle.ob_mean.proofs.VerdictLemmas.{seen_late}
 use Rattle.ob_mean.proofs.EarlyLemmas.{allowed}
@@ -37,9 +37,9 @@ use Rattle.ob_exec.proofs.RunLemmas.{of_other, IsAnswered, IsEarly, early_few}
 
 -- the refusal by what is public is that by the tables in place
 pub early_held : (p : Public) (m : ℕ) (stmt : Stmt) (tables : Tables) (w : World) (o : Option Refusal) → AreHeld p.pack p.tables tables w → refusal_now p m stmt ≡ o
-    → early_refusal (is_late m) p.pack p.buffer (headings tables) stmt ≡ o
+    → early_refusal (is_late m) (limits_of p) (headings tables) stmt ≡ o
 early_held p m stmt tables w o held now =
-    ap (λ (hs : List Heading). early_refusal (is_late m) p.pack p.buffer hs stmt) (held_headings p.pack p.tables tables w held) ∙ now
+    ap (λ (hs : List Heading). early_refusal (is_late m) (limits_of p) hs stmt) (held_headings p.pack p.tables tables w held) ∙ now
 
 -- a statement that is not refused before any access
 module _ (p : Public) (m : ℕ) (stmt : Stmt) (now : refusal_now p m stmt ≡ None) where
@@ -47,7 +47,7 @@ module _ (p : Public) (m : ℕ) (stmt : Stmt) (now : refusal_now p m stmt ≡ No
   started_seen tables w held = seen_late p m tables stmt (early_held p m stmt tables w None held now)
 
   pub few_asked : (n : ℕ) → n ≡ m → n < 9799832789158199296
-  few_asked n same = early_few m n (allowed (is_late m) p.pack p.buffer (headings_of p.tables) stmt now).early same
+  few_asked n same = early_few m n (allowed (is_late m) (limits_of p) (headings_of p.tables) stmt now).early same
 
 -- an answer that is none by the store
 pub told_whole : (outcome : Outcome) (whole cut : Type 0) → IsAnswered outcome → whole → by_fault (is_fault outcome) cut whole
@@ -116,7 +116,7 @@ plain_early : (r : Refusal) → ((n : ℕ) → refused_end r n ≡ Static) → i
 plain_early r static own = record { static = static; own = own }
 
 pub early_is : (p : Public) (m : ℕ) (stmt : Stmt) (r : Refusal) → refusal_now p m stmt ≡ Some r → IsEarly r
-early_is p m stmt r is = holding_early (early_conditions (is_late m) p.pack p.buffer (headings_of p.tables) stmt) r (
+early_is p m stmt r is = holding_early (early_conditions (is_late m) (limits_of p) (headings_of p.tables) stmt) r (
   plain_early NoTable (λ n. refl) refl,
   (
     plain_early NameTaken (λ n. refl) refl,
@@ -140,7 +140,7 @@ refused_some o r result now is answer seen = subst (λ (x : Option Refusal). Ref
 
 -- a refusal that was found is that of the statement
 pub now_is : (p : Public) (m n : ℕ) (stmt : Stmt) (o q : Option Refusal) → n ≡ min m (2 ^ 64 - 1) → o ≡ refusal_now p n stmt → o ≡ q → refusal_now p m stmt ≡ q
-now_is p m n stmt o q count found is = ap (λ (late : Bool). early_refusal late p.pack p.buffer (headings_of p.tables) stmt) (late_as m n count) ∙ sym found ∙ is
+now_is p m n stmt o q count found is = ap (λ (late : Bool). early_refusal late (limits_of p) (headings_of p.tables) stmt) (late_as m n count) ∙ sym found ∙ is
   where
     -- a count that stands at the last value of a u64 is late
     late_as : (m n : ℕ) → n ≡ min m (2 ^ 64 - 1) → is_late m ≡ is_late n

@@ -31,7 +31,7 @@ use Rattle.ob_mean.specs.declared.answer.Answer.TheVariants as A
 use Rattle.ob_mean.specs.Kinds.{plain_columns}
 use Rattle.ob_mean.specs.Names.{place_of}
 use Rattle.ob_mean.specs.Prints.{Prints, Begun, item_label}
-use Rattle.ob_mean.specs.Refusals.{is_group}
+use Rattle.ob_mean.specs.Refusals.{is_group, Limits}
 use Rattle.ob_mean.specs.Step.{agg_of, item_of, answered, overgroups, total_rows, totals_columns}
 use Rattle.ob_mean.proofs.EarlyLemmas.{allowed, neither}
 use Rattle.ob_mean.specs.Refusals.{early_refusal}
@@ -106,10 +106,10 @@ module _ (cs : Columns) where
   are_within (Aggs.Max i ∷ aggs) h = (All-head (IsPlace cs) i [] (All-head Places (Aggs.Max i) aggs h), are_within aggs (All-tail Places (Aggs.Max i) aggs h))
 
 -- a SELECT that is not refused before any access
-pub totals_fit : (late : Bool) (pack rows : ℕ) (hs : List Heading) (s : SelectTotals) → early_refusal late pack rows hs (TotalsStmt s) ≡ None → TotalsFit (totals_columns s hs) s
-totals_fit late pack rows hs s accepted =
-    let fit = totals_places_fit late pack rows hs s accepted in
-    let free = allowed late pack rows hs (TotalsStmt s) accepted in
+pub totals_fit : (late : Bool) (limits : Limits) (hs : List Heading) (s : SelectTotals) → early_refusal late limits hs (TotalsStmt s) ≡ None → TotalsFit (totals_columns s hs) s
+totals_fit late limits hs s accepted =
+    let fit = totals_places_fit late limits hs s accepted in
+    let free = allowed late limits hs (TotalsStmt s) accepted in
     record { few = fit.few; within = are_within (totals_columns s hs) (filter_map (agg_of (totals_columns s hs)) s.items) fit.aggregates; key = fit.key; own = (neither _ _ free.columns).1 }
 
 -- ---- the answer

@@ -18,7 +18,7 @@ use Rattle.ob_base.specs.Stored.{Stored, headings, headings_of, stored_at}
 use Rattle.ob_room.specs.RoomState.{RoomState}
 use Rattle.ob_row.specs.Condition.{Condition}
 use Rattle.ob_row.specs.Rows.{Row}
-use Rattle.ob_row.specs.Slots.{Slots, rows}
+use Rattle.ob_row.specs.Slots.{rows}
 use Rattle.ob_row.specs.Truth.{is_true}
 use Rattle.ob_row.proofs.BagLemmas.{Same-refl}
 use Rattle.ob_store.specs.State.{StoreState}
@@ -44,7 +44,7 @@ use Rattle.ob_mean.specs.declared.answer.Answer.{Answer}
 use Rattle.ob_mean.specs.declared.answer.Answer.TheVariants as A
 use Rattle.ob_mean.specs.Names.{columns_at, where_at}
 use Rattle.ob_mean.specs.Prints.{Prints, Unfinished}
-use Rattle.ob_mean.specs.Refusals.{early_refusal}
+use Rattle.ob_mean.specs.Refusals.{early_refusal, limits_of}
 use Rattle.ob_mean.specs.Settle.{settle}
 use Rattle.ob_mean.specs.Step.{accepted_answer, answered, followed, overgroups, rows_at, totals_answer}
 use Rattle.ob_mean.specs.Verdict.{Held, Tables, database, is_late, refusal, verdict, seen, ended as seen_to}
@@ -76,7 +76,7 @@ either_none : (b : Bool) (answer : Answer) → answered (option_or (if b then So
 either_none true answer = refl
 either_none false answer = refl
 
-verdict_is : (p : Public) (m : ℕ) (tables : Tables) (s : SelectTotals) (x : Stored Held) → early_refusal (is_late m) p.pack p.buffer (headings tables) (TotalsStmt s) ≡ None
+verdict_is : (p : Public) (m : ℕ) (tables : Tables) (s : SelectTotals) (x : Stored Held) → early_refusal (is_late m) (limits_of p) (headings tables) (TotalsStmt s) ≡ None
     → stored_at s.table tables ≡ Some x → verdict p m tables (TotalsStmt s) ≡ answer_at (buffered p.pack p.buffer) x.heading.schema s x.held.slots
 verdict_is p m tables s x early found =
     let places = buffered p.pack p.buffer in
@@ -213,7 +213,7 @@ module _ {R E : Type 0} (state : R → RevState) (grew cut : E → E → List Ev
         written = read_flat state old s s1 i table agrees rests here.get flat flat_is;
         size = read_size state old s s1 i table agrees rests here.get flat flat_is;
         meant = meant;
-        items = subst (λ (columns : Columns). TotalsFit columns q) columns_are (totals_fit (is_late (count_of old s)) old.public.pack old.public.buffer (headings_of old.public.tables) q allowed);
+        items = subst (λ (columns : Columns). TotalsFit columns q) columns_are (totals_fit (is_late (count_of old s)) (limits_of old.public) (headings_of old.public.tables) q allowed);
       }
 
   -- no memory before the first access

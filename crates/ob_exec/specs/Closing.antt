@@ -17,9 +17,9 @@ use Rattle.ob_reopen.specs.declared.fault.CloseErr.{CloseErr}
 use Rattle.ob_reopen.specs.declared.fault.CloseErr.TheVariants.{Failed, NoMemory}
 use Rattle.ob_store.specs.Runs.{Began, Did, Later}
 use Rattle.ob_store.specs.State.{StoreState}
-use Rattle.ob_vault.specs.Calls.{Went}
+use Rattle.ob_vault.specs.Calls.{Seals, Went}
 use Rattle.ob_vault.specs.State.{RevState, World}
-use Rattle.ob_vault.specs.Tied.{AllSealed, Calm}
+use Rattle.ob_vault.specs.Tied.{Calm}
 use Rattle.ob_vault.specs.Words.{SealsAll}
 
 -- the closing that is made: the next region, and the next write number
@@ -87,5 +87,4 @@ pub record ClosesEngine {R : Type 0} (state : R → RevState) (result : Result M
       → IfOk result (λ mark. Rests (engine_keys e) (next_closing e s) t.kept (by_name tables))
   -- and nothing comes to lie in clear: the engine's vault is gone, so this is said of one that has its keys and numbers
   pub sealed : (good : ℕ → List ℕ → Bool) → AcceptsRows good (public_of e).pack
-      → AcceptsClosings good → IsTrue s.tells → AllSealed good (world_of state e s)
-      → AllSealed good (world_of state e t)
+      → AcceptsClosings good → Seals good (world_of state e s) (world_of state e t)

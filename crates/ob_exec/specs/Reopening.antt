@@ -22,7 +22,7 @@ use Rattle.ob_seal.specs.KeySet.{KeySet}
 use Rattle.ob_store.specs.Runs.{Began, Did}
 use Rattle.ob_store.specs.State.{Lie, StoreState}
 use Rattle.ob_vault.specs.State.{RevState, Start}
-use Rattle.ob_vault.specs.Tied.{AllSealed, Calm, Fits}
+use Rattle.ob_vault.specs.Tied.{AllSealed, Calm, Fits, Scope, next_fault}
 
 -- the closing that a mark names, of a pack
 abbrev pub IsClosed : Mark → (pack : ℕ) → Closing → Type 0
@@ -80,6 +80,8 @@ pub record IsOpened {R : Type 0} (state : R → RevState) (config : Config) (key
   pub rows : rows_of e ≡ config.buffer
   pub did : Did (opening_script closing listed) s t
   pub calm : Calm (world_of state e t)
+  -- no region is live that an earlier run didn't make
+  pub earlier : (region : ℕ) → closing.region < region → t.live region ≡ None
 
 -- why an engine wasn't opened: `Failed` comes only where the store's faults rose, and no other error where they did
 abbrev pub OpeningCause : OpenErr → Closing → (s t : StoreState) → Type 0
@@ -116,4 +118,5 @@ pub record OpensEngine {R : Type 0} (state : R → RevState) (config : Config) (
   pub sealed : IsTrue s.tells → t.lie ≡ None → (tables : Tables)
       → Rests keys closing s.kept tables
       → IfOk result (λ e. (good : ℕ → List ℕ → Bool) → AcceptsRows good config.pack
-      → AcceptsClosings good → AllSealed good (world_of state e t))
+      → AcceptsClosings good → (scope : Scope) → scope.below ≤ next_fault s
+      → AllSealed good scope (world_of state e t))

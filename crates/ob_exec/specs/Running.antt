@@ -17,7 +17,7 @@ use Rattle.ob_vault.specs.State.{RevState, World}
 use Rattle.ob_vault.specs.Calls.{EndsRead}
 use Rattle.ob_vault.specs.Tied.{Calm, EndsAt}
 use Rattle.ob_script.specs.Script.{script}
-use Rattle.ob_mean.specs.Refusals.{early_refusal}
+use Rattle.ob_mean.specs.Refusals.{early_refusal, limits_of}
 use Rattle.ob_mean.specs.Verdict.{is_late, ended as seen_to}
 use Rattle.ob_base.specs.Stored.{headings_of}
 use Rattle.ob_sql.specs.declared.stmt.Stmt.{Stmt}
@@ -51,7 +51,7 @@ inserted_as Full = Refused Refusal.Full
 
 -- the refusal of a statement before any access, where m were asked before
 abbrev pub refusal_now : Public → (m : ℕ) → Stmt → Option Refusal
-refusal_now p m stmt = early_refusal (is_late m) p.pack p.buffer (headings_of p.tables) stmt
+refusal_now p m stmt = early_refusal (is_late m) (limits_of p) (headings_of p.tables) stmt
 
 -- a statement is refused before any access exactly where the meaning says so
 abbrev pub RefusedEarly : Option Refusal → Result Outcome Stop → Seen → Type 0

@@ -137,6 +137,7 @@ Emitted stmt p m tables outcome events =
 abbrev pub AcceptsRows : (good : ℕ → List ℕ → Bool) → (pack : ℕ) → Type 0
 AcceptsRows good pack = (columns : Columns) (region : ℕ) → F.Accepts good pack columns region
 
--- where each block of a live region was sealed, of rows that are good, under the position of a write to its place, it is
+-- where each block of a live region was sealed, of rows that are good, under the position of the last write to its place,
+-- and once a call has failed of a write to it, it is
 abbrev pub KeepsSealed : {R : Type 0} → (R → RevState) → (old : Engine R) → StoreState → (new : Engine R) → StoreState → Type 0
 KeepsSealed state old s new t = (good : ℕ → List ℕ → Bool) → AcceptsRows good old.public.pack → AcceptsRows good 1 → Seals good (world_of state old s) (world_of state new t)

@@ -85,7 +85,13 @@ impl<R: Revisions> Engine<R> {
             return Err(CloseErr::NoMemory);
         };
         drop_closing(store, &mut vault, closing);
-        let written = write_closing(store, &mut vault, &mut room, listed.as_slice())?;
-        Ok(mark_of(written))
+        let from = vault.next_region();
+        match write_closing(store, &mut vault, &mut room, listed.as_slice()) {
+            Ok(written) => Ok(mark_of(written)),
+            Err(e) => {
+                vault.give_up(store, from);
+                Err(e)
+            }
+        }
     }
 }

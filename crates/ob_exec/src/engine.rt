@@ -54,8 +54,7 @@ impl<R: Revisions> Engine<R> {
     pub fn start(alloc: Global, config: Config, keys: Keys) -> Result<Engine<R>, NoMemory>
         requires { IsConfig config }
         ensures agrees { IfOk result (λ e. (s : StoreState) → s.asked ≡ [] → Agrees R.state e s) }
-        ensures public { IfOk result (λ e. public_of e
-            ≡ first_public config.buffer config.depth config.pack config.plan config.pad) }
+        ensures public { IfOk result (λ e. public_of e ≡ first_public config) }
         ensures keyed { IfOk result (λ e. engine_keys e ≡ keys) }
         ensures started { IfOk result (λ e. engine_start e ≡ from_nothing) }
         ensures anew { IfOk result (λ e. opened_from e ≡ None) }

@@ -5,33 +5,15 @@ ghost use Rattle.ob_exec.specs.Serving.{Serves};
 
 use crate::engine::{Engine, LATE};
 use crate::outcome::Outcome;
-use ob_base::{Emit, Stop};
+use ob_base::{Emit, Refusal, Stop};
 use ob_mean::early_refusal;
 use ob_sql::Stmt;
 use ob_store::BlockStore;
 use ob_vault::Revisions;
 
 impl<R: Revisions> Engine<R> {
-    /// Carries out a statement of the language, and gives the rows of its answer to the emitter: a
-    /// header, each row, and their number. Any other answer emits nothing, but that a SELECT of rows may
-    /// have emitted its header and some rows when the store failed.
-    ///
-    /// The answer is that of the statement over the tables before, if the store gave each block as it
-    /// was written last. `Refused` says why it was not carried out, and changes no table: for what it
-    /// says, for what the tables hold, or because the store failed at some access, by `StoreFault`.
-    /// Where it is refused for what it says, nothing was asked of the store.
-    ///
-    /// `Tampered` names a block that is not what was written there last, or that no table's rows make;
-    /// `SinkFault` says that the emitter failed; and `NoMemory` comes before the first access, where a
-    /// region is made, or from the emitter while rows are emitted, so that it tells nothing of rows. What
-    /// was emitted until then is a first part of the answer. After each of the three the session has
-    /// ended: the engine takes no statement any more. After an answer it takes the next one.
-    ///
-    /// Whatever the store does, its accesses are exactly those that follow from what was public before,
-    /// the statement without its literals and conditions, and what is seen of it; and no row comes to
-    /// lie there in clear. Of a SELECT of rows neither their number nor a plan is seen where results are
-    /// padded; one of more rows than that is refused as `PadPassed`.
-    pub fn run<S: BlockStore, E: Emit>(
+    // Carries out a statement, and leaves in the store what the vault forgot of it.
+    fn serve<S: BlockStore, E: Emit>(
         &mut self,
         store: &mut S,
         stmt: &Stmt,
@@ -62,5 +44,43 @@ impl<R: Revisions> Engine<R> {
             Stmt::SelectRows(select) => self.select_rows(store, select, out),
             Stmt::SelectTotals(select) => self.select_totals(store, select, out),
         }
+    }
+
+    /// Carries out a statement of the language, and gives the rows of its answer to the emitter: a
+    /// header, each row, and their number. Any other answer emits nothing, but that a SELECT of rows may
+    /// have emitted its header and some rows when the store failed.
+    ///
+    /// The answer is that of the statement over the tables before, if the store gave each block as it
+    /// was written last. `Refused` says why it was not carried out, and changes no table: for what it
+    /// says, for what the tables hold, or because the store failed at some access, by `StoreFault`.
+    /// Where it is refused for what it says, nothing was asked of the store.
+    ///
+    /// `Tampered` names a block that is not what was written there last, or that no table's rows make;
+    /// `SinkFault` says that the emitter failed; and `NoMemory` comes before the first access, where a
+    /// region is made, or from the emitter while rows are emitted, so that it tells nothing of rows. What
+    /// was emitted until then is a first part of the answer. After each of the three the session has
+    /// ended: the engine takes no statement any more. After an answer it takes the next one.
+    ///
+    /// Whatever the store does, its accesses are exactly those that follow from what was public before,
+    /// the statement without its literals and conditions, and what is seen of it; and no row comes to
+    /// lie there in clear. Of a SELECT of rows neither their number nor a plan is seen where results are
+    /// padded; one of more rows than that is refused as `PadPassed`.
+    pub fn run<S: BlockStore, E: Emit>(
+        &mut self,
+        store: &mut S,
+        stmt: &Stmt,
+        out: &mut E,
+    ) -> Result<Outcome, Stop>
+        requires agrees { Agrees R.state self.old (S.state store.old) }
+        requires lives { has_ended self.old ≡ false }
+        ensures serves { Serves R.state E.grew E.cut E.faults stmt.now result
+            self.old (S.state store.old) self.new (S.state store.new) out.old out.new }
+    {
+        let from = self.public.next_region;
+        let answer = self.serve(store, stmt, out);
+        if let Ok(Outcome::Refused(Refusal::StoreFault)) = answer {
+            self.vault.give_up(store, from);
+        }
+        answer
     }
 }

@@ -13,7 +13,7 @@ use ob_base::{Column, ColumnName, Emit, EmitErr, Label, NoMemory, Refusal, Schem
 use ob_flat::{Flat, OpErr};
 use ob_group::{Grouped, agg_label, aggregate, group};
 use ob_mean::{agg_of, item_of, place_of};
-use ob_order::Order;
+use ob_order::Buckets;
 use ob_room::Room;
 use ob_row::{Agg, Item, Pred};
 use ob_sql::{Listed, SelectTotals};
@@ -137,14 +137,18 @@ fn answer_aggregates<S: BlockStore, R: Revisions, E: Emit>(
     }
 }
 
-/// The order in which the groups are found, with a place for each row that may be open; with none where a
+/// The buckets in which the groups are found, with a place for each row that may be open; with none where a
 /// SELECT has no GROUP BY.
-pub(crate) fn order_for(alloc: Global, select: &SelectTotals, rows: u32) -> Result<Order, NoMemory>
-    ensures { IfOk result (λ order. IfSome select.now.group (λ key. rows ≤ order.most)) }
+pub(crate) fn buckets_for(
+    alloc: Global,
+    select: &SelectTotals,
+    rows: u32,
+) -> Result<Buckets, NoMemory>
+    ensures { IfOk result (λ buckets. IfSome select.now.group (λ key. rows ≤ buckets.most)) }
 {
     match &select.group {
-        None => Order::new(alloc, 0),
-        Some(_) => Order::new(alloc, rows),
+        None => Buckets::new(alloc, 0),
+        Some(_) => Buckets::new(alloc, rows),
     }
 }
 
@@ -153,7 +157,7 @@ fn answer_groups<S: BlockStore, R: Revisions, E: Emit>(
     store: &mut S,
     vault: &mut Vault<R>,
     room: &mut Room,
-    order: &mut Order,
+    buckets: &mut Buckets,
     flat: &Flat,
     pred: &Pred,
     select: &SelectTotals,
@@ -163,7 +167,7 @@ fn answer_groups<S: BlockStore, R: Revisions, E: Emit>(
     requires may { MayTotal flat.now pred.now select.now room.old
         (at R.state vault.old (S.state store.old)) }
     requires grouped { select.now.group ≡ Some key.now }
-    requires places { room.old.rows ≤ order.old.most }
+    requires places { room.old.rows ≤ buckets.old.most }
     ensures room { UsesRoom room.old room.new }
     ensures totals { Totals E.grew E.cut E.faults (buffered room.old.pack room.old.rows)
         room.old.pack flat.now select.now result (at R.state vault.old (S.state store.old))
@@ -177,7 +181,7 @@ fn answer_groups<S: BlockStore, R: Revisions, E: Emit>(
         store,
         vault,
         room,
-        order,
+        buckets,
         flat,
         pred,
         place,
@@ -201,7 +205,7 @@ pub(crate) fn answer_totals<S: BlockStore, R: Revisions, E: Emit>(
     store: &mut S,
     vault: &mut Vault<R>,
     room: &mut Room,
-    order: &mut Order,
+    buckets: &mut Buckets,
     flat: &Flat,
     pred: &Pred,
     select: &SelectTotals,
@@ -209,7 +213,7 @@ pub(crate) fn answer_totals<S: BlockStore, R: Revisions, E: Emit>(
 ) -> Result<Outcome, OpErr>
     requires may { MayTotal flat.now pred.now select.now room.old
         (at R.state vault.old (S.state store.old)) }
-    requires places { IfSome select.now.group (λ key. room.old.rows ≤ order.old.most) }
+    requires places { IfSome select.now.group (λ key. room.old.rows ≤ buckets.old.most) }
     ensures room { UsesRoom room.old room.new }
     ensures totals { Totals E.grew E.cut E.faults (buffered room.old.pack room.old.rows)
         room.old.pack flat.now select.now result (at R.state vault.old (S.state store.old))
@@ -217,6 +221,6 @@ pub(crate) fn answer_totals<S: BlockStore, R: Revisions, E: Emit>(
 {
     match &select.group {
         None => answer_aggregates(store, vault, room, flat, pred, select, out),
-        Some(key) => answer_groups(store, vault, room, order, flat, pred, select, key, out),
+        Some(key) => answer_groups(store, vault, room, buckets, flat, pred, select, key, out),
     }
 }

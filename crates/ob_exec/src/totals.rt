@@ -7,7 +7,7 @@ ghost use Rattle.ob_exec.specs.Serving.{Serves};
 
 use crate::engine::Engine;
 use crate::outcome::Outcome;
-use crate::totalling::{answer_totals, order_for};
+use crate::totalling::{answer_totals, buckets_for};
 use ob_base::{Emit, Stop};
 use ob_flat::OpErr;
 use ob_mean::where_at;
@@ -34,7 +34,7 @@ impl<R: Revisions> Engine<R> {
         let Ok(pred) = where_at(self.alloc, &select.cond, flat.schema.as_slice(), &[]) else {
             return self.cut(0, OpErr::NoMemory);
         };
-        let Ok(mut order) = order_for(self.alloc, select, self.room.rows()) else {
+        let Ok(mut buckets) = buckets_for(self.alloc, select, self.room.rows()) else {
             return self.cut(0, OpErr::NoMemory);
         };
         let before = store.count();
@@ -46,7 +46,7 @@ impl<R: Revisions> Engine<R> {
             store,
             &mut self.vault,
             &mut self.room,
-            &mut order,
+            &mut buckets,
             &flat,
             &pred,
             select,

@@ -1,12 +1,15 @@
-use Rattle.std.proofs.Common.{◌≤◌, ◌+◌, List, Ok, Err, sym, ◌∙◌, ap, subst, length}
+use Rattle.std.proofs.Common.{ℕ, ◌≤◌, ◌+◌, List, Ok, Err, sym, ◌∙◌, ap, subst, length}
 use Rattle.std.specs.List.{All}
-use Rattle.std.proofs.lemmas.Result.{err_from_is_err_and}
 use Rattle.ob_base.specs.declared.schema.Table.{Table}
 use Rattle.ob_vault.specs.Places.{at}
 use Rattle.ob_vault.specs.Words.{MayAsk}
 use Rattle.ob_reopen.specs.declared.listed.Listed.{Listed}
 use Rattle.ob_reopen.specs.Writings.{HasBlock, WritesClosing, catalogue_of}
+use Rattle.ob_exec.proofs.GivenUpLemmas.{none_behind}
 use Rattle.ob_exec.proofs.RunLemmas.{at_ok}
+use Rattle.ob_store.specs.State.{StoreState}
+use Rattle.ob_vault.specs.State.{HasNoneFrom}
+use Rattle.ob_exec.specs.Closing.{ClosesEngine}
 use Rattle.ob_exec.proofs.ClosedLemmas.{closes_all, closes_cut, closes_none, few_columns, few_listed, have_blocks, lives_fore, may_write, used_is}
 use Rattle.ob_exec.proofs.engine.Engine.close.Goals as goal
 
@@ -73,21 +76,16 @@ write_closing-requires-clause-columns g c =
     (few_columns g.R.Revisions.state old s c.requires.agrees (sym (used_is g.R.Revisions.state old s c.requires.agrees) ∙ sym c.is_used_up.ensures ∙ c.if-is_used_up.false)
     (g.S.BlockStore.state c.room.new.self) c.room.ensures.rests c.drop_closing.new.vault (g.S.BlockStore.state c.drop_closing.new.store) c.drop_closing.ensures.drops)
 
-pub returns-in_err-written : goal.returns-in_err-written
-returns-in_err-written g c =
-    let p = err_from_is_err_and c.from_residual.result c.from_residual.ensures.1 in
-    let old = c.args.self in
-    let s = g.S.BlockStore.state c.args.store.now in
-    let listed = c.as_slice.ensures ∙ c.in-Ok.ensures ∙ ap (catalogue_of (g.R.Revisions.state old.vault.revs)) c.as_slice-tables.ensures in
+pub give_up-requires : goal.give_up-requires
+give_up-requires g c =
     let mid = at g.R.Revisions.state c.drop_closing.new.vault (g.S.BlockStore.state c.drop_closing.new.store) in
     let last = at g.R.Revisions.state c.write_closing.new.vault (g.S.BlockStore.state c.write_closing.new.store) in
-    rw (p.1, p.2) (record {
-      closes =
-          closes_cut g.R.Revisions.state old s c.requires.agrees (sym (used_is g.R.Revisions.state old s c.requires.agrees) ∙ sym c.is_used_up.ensures ∙ c.if-is_used_up.false)
-          (g.S.BlockStore.state c.room.new.self) c.room.ensures.rests c.drop_closing.new.vault (g.S.BlockStore.state c.drop_closing.new.store) c.drop_closing.ensures.drops
-          c.write_closing.new.vault (g.S.BlockStore.state c.write_closing.new.store) c.in_err-written.field-0.0
-          (subst (λ (l : List Listed). WritesClosing old.room.pack l (Err c.in_err-written.field-0.0) mid last) listed c.in_err-written.ensures.writes);
-    })
+    let writes = c.in-Err.ensures.writes in
+    record {
+      forgotten =
+          subst (λ (from : ℕ). HasNoneFrom from (g.R.Revisions.state c.write_closing.new.vault.revs)) (sym c.next_region-from.ensures)
+          (none_behind mid last c.drop_closing.ensures.drops.went.lasts.ready writes.err.lasts writes.gone);
+    }
 
 pub returns : goal.returns
 returns g c =
@@ -98,9 +96,25 @@ returns g c =
     let last = at g.R.Revisions.state c.write_closing.new.vault (g.S.BlockStore.state c.write_closing.new.store) in
     record {
       closes =
+          subst (λ (t : StoreState). ClosesEngine g.R.Revisions.state (Err c.in-Err.e) old s t) (sym c.give_up.ensures.same)
+          (closes_cut g.R.Revisions.state old s c.requires.agrees (sym (used_is g.R.Revisions.state old s c.requires.agrees) ∙ sym c.is_used_up.ensures ∙ c.if-is_used_up.false)
+          (g.S.BlockStore.state c.room.new.self) c.room.ensures.rests c.drop_closing.new.vault (g.S.BlockStore.state c.drop_closing.new.store) c.drop_closing.ensures.drops
+          c.write_closing.new.vault (g.S.BlockStore.state c.write_closing.new.store) c.in-Err.e
+          (subst (λ (l : List Listed). WritesClosing old.room.pack l (Err c.in-Err.e) mid last) listed c.in-Err.ensures.writes));
+    }
+
+pub returns-in-Ok-write_closing : goal.returns-in-Ok-write_closing
+returns-in-Ok-write_closing g c =
+    let old = c.args.self in
+    let s = g.S.BlockStore.state c.args.store.now in
+    let listed = c.as_slice.ensures ∙ c.in-Ok.ensures ∙ ap (catalogue_of (g.R.Revisions.state old.vault.revs)) c.as_slice-tables.ensures in
+    let mid = at g.R.Revisions.state c.drop_closing.new.vault (g.S.BlockStore.state c.drop_closing.new.store) in
+    let last = at g.R.Revisions.state c.write_closing.new.vault (g.S.BlockStore.state c.write_closing.new.store) in
+    record {
+      closes =
           closes_all g.R.Revisions.state old s c.requires.agrees (sym (used_is g.R.Revisions.state old s c.requires.agrees) ∙ sym c.is_used_up.ensures ∙ c.if-is_used_up.false)
           (g.S.BlockStore.state c.room.new.self) c.room.ensures.rests c.drop_closing.new.vault (g.S.BlockStore.state c.drop_closing.new.store) c.drop_closing.ensures.drops
-          c.write_closing.new.vault (g.S.BlockStore.state c.write_closing.new.store) c.in_ok-written.written
-          (subst (λ (l : List Listed). WritesClosing old.room.pack l (Ok c.in_ok-written.written) mid last) listed c.in_ok-written.ensures.writes)
+          c.write_closing.new.vault (g.S.BlockStore.state c.write_closing.new.store) c.in-Ok-write_closing.written
+          (subst (λ (l : List Listed). WritesClosing old.room.pack l (Ok c.in-Ok-write_closing.written) mid last) listed c.in-Ok-write_closing.ensures.writes)
           (λ q shape tells live. g.met.S.BlockStore.keeps_live c.write_closing.new.store q shape tells live) c.mark_of.result c.mark_of.ensures;
     }

@@ -13,6 +13,7 @@ use Rattle.ob_sql.specs.declared.stmt.Stmt.TheVariants.{Insert}
 use Rattle.ob_mean.specs.Step.{new_row}
 use Rattle.ob_mean.specs.Verdict.{ended as seen_to}
 use Rattle.ob_mean.proofs.InsertLemmas.{insert_fits}
+use Rattle.ob_mean.specs.Refusals.{limits_of}
 use Rattle.ob_exec.specs.Agreeing.{count_of}
 use Rattle.ob_exec.specs.declared.engine.Engine.{Engine}
 use Rattle.ob_exec.specs.declared.outcome.Outcome.{Outcome}
@@ -32,7 +33,7 @@ insert-result-requires-clause-cells g c =
     let schema_is : c.table_at-i.result.1.schema ≡ table.heading.schema = ap (λ (f : Flat). f.schema) found.is in
     let row_is : c.in-Ok.cells.items ≡ new_row table.heading.schema c.args.columns.now c.args.values.now =
     c.in-Ok.ensures.value ∙ ap (λ (cs : Columns). new_row cs c.args.columns.now c.args.values.now) schema_is in
-    let fits = insert_fits _ old.public.pack old.public.buffer (headings_of old.public.tables) c.args.table.now table.heading c.args.columns.now c.args.values.now c.requires.allowed
+    let fits = insert_fits _ (limits_of old.public) (headings_of old.public.tables) c.args.table.now table.heading c.args.columns.now c.args.values.now c.requires.allowed
     (heading_found c.args.table.now old.public.tables c.table_at-i.result.0 table c.requires.agrees.tables.names found.here.get found.here.named)
     (c.requires.agrees.tables.each c.table_at-i.result.0 table found.here.get).heading.stored.names (subst (λ (r : Row). All IsCell r) row_is c.in-Ok.ensures.held) in
     subst (λ (cs : Columns). Fits cs c.as_slice.result.now) (sym schema_is) (subst (λ (r : Row). Fits table.heading.schema r) (sym (c.as_slice.ensures.value ∙ row_is)) fits)

@@ -9,7 +9,7 @@ use Rattle.ob_base.specs.Stored.{has_table, headings_of}
 use Rattle.ob_row.specs.Results.{joined}
 use Rattle.ob_vault.specs.Places.{at}
 use Rattle.ob_sql.specs.declared.stmt.Stmt.TheVariants.{SelectRows as RowsStmt}
-use Rattle.ob_mean.specs.Refusals.{left_place, right_place, source_tables}
+use Rattle.ob_mean.specs.Refusals.{left_place, right_place, source_tables, limits_of}
 use Rattle.ob_flat.specs.declared.flat.Flat.{Flat}
 use Rattle.ob_join.specs.Join.{Joins, TellsSlots, join_in}
 use Rattle.ob_mean.specs.Verdict.{is_late}
@@ -35,14 +35,14 @@ at_ok (Err e) P ok h = absurd (cc ok)
 pub table_at-left-requires : goal.table_at-left-requires
 table_at-left-requires g c =
     let hs = headings_of c.args.self.now.public.tables in
-    let free = allowed (is_late (count_of c.args.self.now (g.S.BlockStore.state c.args.store.now))) c.args.self.now.public.pack c.args.self.now.public.buffer hs (RowsStmt c.args.select.now) c.requires.allowed in
+    let free = allowed (is_late (count_of c.args.self.now (g.S.BlockStore.state c.args.store.now))) (limits_of c.args.self.now.public) hs (RowsStmt c.args.select.now) c.requires.allowed in
     (there_are (has_table c.in-Join.left hs) (has_table c.in-Join.right hs)
     (sym (ap (λ (source : Source). list_any (λ (name : List ℕ). not (has_table name hs)) (source_tables source)) c.in-Join.is) ∙ free.tables)).0
 
 pub table_at-right-requires : goal.table_at-right-requires
 table_at-right-requires g c =
     let hs = headings_of c.args.self.now.public.tables in
-    let free = allowed (is_late (count_of c.args.self.now (g.S.BlockStore.state c.args.store.now))) c.args.self.now.public.pack c.args.self.now.public.buffer hs (RowsStmt c.args.select.now) c.requires.allowed in
+    let free = allowed (is_late (count_of c.args.self.now (g.S.BlockStore.state c.args.store.now))) (limits_of c.args.self.now.public) hs (RowsStmt c.args.select.now) c.requires.allowed in
     (there_are (has_table c.in-Join.left hs) (has_table c.in-Join.right hs)
     (sym (ap (λ (source : Source). list_any (λ (name : List ℕ). not (has_table name hs)) (source_tables source)) c.in-Join.is) ∙ free.tables)).1
 

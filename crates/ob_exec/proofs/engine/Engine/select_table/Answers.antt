@@ -6,7 +6,7 @@ use Rattle.std.specs.Result.{is_err}
 use Rattle.ob_base.specs.declared.skeleton.Source.{Source}
 use Rattle.ob_base.specs.Stored.{has_table, headings_of}
 use Rattle.ob_sql.specs.declared.stmt.Stmt.TheVariants.{SelectRows as RowsStmt}
-use Rattle.ob_mean.specs.Refusals.{source_tables}
+use Rattle.ob_mean.specs.Refusals.{source_tables, limits_of}
 use Rattle.ob_mean.specs.Verdict.{is_late}
 use Rattle.ob_mean.proofs.EarlyLemmas.{allowed}
 use Rattle.ob_vault.specs.Places.{at}
@@ -28,7 +28,7 @@ pub table_at-flat-requires : goal.table_at-flat-requires
 table_at-flat-requires g c =
     let old = c.args.self.now in
     let hs = headings_of old.public.tables in
-    let free = allowed (is_late (count_of c.args.self.now (g.S.BlockStore.state c.args.store.now))) old.public.pack old.public.buffer hs (RowsStmt c.args.select.now) c.requires.allowed in
+    let free = allowed (is_late (count_of c.args.self.now (g.S.BlockStore.state c.args.store.now))) (limits_of old.public) hs (RowsStmt c.args.select.now) c.requires.allowed in
     is_there (has_table c.args.table.now hs)
     (sym (ap (λ (source : Source). list_any (λ (name : List ℕ). not (has_table name hs)) (source_tables source)) c.requires.source) ∙ free.tables)
 

@@ -8,6 +8,7 @@ use Rattle.ob_sql.specs.declared.stmt.Stmt.TheVariants.{SelectTotals as TotalsSt
 use Rattle.ob_mean.specs.Names.{where_at}
 use Rattle.ob_mean.specs.Verdict.{is_late}
 use Rattle.ob_mean.proofs.EarlyLemmas.{allowed}
+use Rattle.ob_mean.specs.Refusals.{limits_of}
 use Rattle.ob_exec.specs.Agreeing.{count_of}
 use Rattle.ob_exec.specs.declared.outcome.Outcome.{Outcome}
 use Rattle.ob_exec.specs.Totalling.{Totals}
@@ -22,7 +23,7 @@ table_at-flat-requires g c =
     let old = c.args.self.now in
     let s = g.S.BlockStore.state c.args.store.now in
     is_there (has_table c.args.select.now.table (headings_of old.public.tables))
-    (allowed (is_late (count_of old s)) old.public.pack old.public.buffer (headings_of old.public.tables) (TotalsStmt c.args.select.now) c.requires.allowed).tables
+    (allowed (is_late (count_of old s)) (limits_of old.public) (headings_of old.public.tables) (TotalsStmt c.args.select.now) c.requires.allowed).tables
 
 pub returns-in_default : goal.returns-in_default
 returns-in_default g c =
@@ -36,14 +37,14 @@ returns-in_default g c =
           c.requires.allowed c.args.out.now);
     }
 
-pub returns-in_default-order_for : goal.returns-in_default-order_for
-returns-in_default-order_for g c =
+pub returns-in_default-buckets_for : goal.returns-in_default-buckets_for
+returns-in_default-buckets_for g c =
     let emit = g.E.Emit in
     let s = g.S.BlockStore.state c.args.store.now in
     let found = c.table_at-flat.ensures in
     record {
       serves =
-          serves_same g.R.Revisions.state emit.grew emit.cut emit.faults (TotalsStmt c.args.select.now) c.args.self.now s s c.args.out.now c.args.out.now _ _ _ _ c.cut-in_default-order_for.ensures.answer c.cut-in_default-order_for.ensures.seen
+          serves_same g.R.Revisions.state emit.grew emit.cut emit.faults (TotalsStmt c.args.select.now) c.args.self.now s s c.args.out.now c.args.out.now _ _ _ _ c.cut-in_default-buckets_for.ensures.answer c.cut-in_default-buckets_for.ensures.seen
           (serves_none g.R.Revisions.state emit.grew emit.cut emit.faults g.met.E.Emit.starts c.args.self.now s s c.args.select.now c.table_at-flat.result.0 found.table c.requires.agrees (rests_refl s) found.here
           c.requires.allowed c.args.out.now);
     }
@@ -72,7 +73,7 @@ answer_totals-requires g c =
           (c.in-Ok.ensures ∙ ap (where_at c.args.select.now.cond) (append-nil c.as_slice.result.now ∙ c.as_slice.ensures.value))
           c.from-2.result (c.from-2.ensures ∙ c.div_ceil-blocks.ensures ∙ (λ j. div_ceil c.table_at-flat.result.1.capacity (c.from.ensures j)))
           (at_ok c.room.result _ (sym c.is_err.ensures.value ∙ c.if-is_err.false) c.room.ensures.spare);
-      places = subst (λ (n : ℕ). IfSome c.args.select.now.group (λ key. n ≤ c.in-Ok-order_for.order.most)) c.rows.ensures.value c.in-Ok-order_for.ensures;
+      places = subst (λ (n : ℕ). IfSome c.args.select.now.group (λ key. n ≤ c.in-Ok-buckets_for.buckets.most)) c.rows.ensures.value c.in-Ok-buckets_for.ensures;
     }
 
 pub returns-in-Ok-answer_totals : goal.returns-in-Ok-answer_totals
