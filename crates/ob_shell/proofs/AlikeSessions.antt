@@ -17,7 +17,7 @@ use Rattle.ob_base.specs.declared.seen.End.TheVariants.{Static}
 use Rattle.ob_base.specs.declared.skeleton.Source.{Source}
 use Rattle.ob_base.specs.declared.skeleton.Source.TheVariants.{Table as OneTable, Join}
 use Rattle.ob_mean.specs.Prints.{is_join, item_label, label_at, labels_of}
-use Rattle.ob_mean.specs.Refusals.{early_refusal}
+use Rattle.ob_mean.specs.Refusals.{early_refusal, limits_of}
 use Rattle.ob_mean.specs.Replay.{Broken, IsCutOff, Session, Spelt, after, after_all, head_of, rest_of, seen_now, seen_or_cut, served}
 use Rattle.ob_mean.specs.Settle.{settle, settled}
 use Rattle.ob_mean.specs.Step.{accepted_answer, answered, followed, refusal_of, select_condition}
@@ -115,20 +115,17 @@ module _ (p q : Public) (settings : plain p ≡ plain q) (m n : ℕ) (late : is_
   started_same : seen_started p ts stmt ≡ seen_started q ts stmt
   started_same = sym (started_plain p ts stmt) ∙ ap (λ (r : Public). seen_started r ts stmt) settings ∙ started_plain q ts stmt
 
-  pack_same : p.pack ≡ q.pack
-  pack_same = ap (λ (r : Public). r.pack) settings
-
-  buffer_same : p.buffer ≡ q.buffer
-  buffer_same = ap (λ (r : Public). r.buffer) settings
+  limits_same : limits_of p ≡ limits_of q
+  limits_same = ap limits_of settings
 
   refusal_same : refusal p m ts stmt ≡ refusal q n ts stmt
-  refusal_same = λ i. option_or (refusal_of (late i) (pack_same i) (buffer_same i) (database ts) stmt) (last_same i)
+  refusal_same = λ i. option_or (refusal_of (late i) (limits_same i) (database ts) stmt) (last_same i)
 
   verdict_same : verdict p m ts stmt ≡ verdict q n ts stmt
   verdict_same = ap (λ (o : Option Refusal). answered o (accepted_answer (database ts) stmt)) refusal_same
 
   seen_same : seen p m ts stmt ≡ seen q n ts stmt
-  seen_same = λ i. if is_some (early_refusal (late i) (pack_same i) (buffer_same i) (headings ts) stmt) then ended Static else started_same i
+  seen_same = λ i. if is_some (early_refusal (late i) (limits_same i) (headings ts) stmt) then ended Static else started_same i
 
   settle_same : settle p m ts stmt ≡ settle q n ts stmt
   settle_same = ap (λ (o : Option Refusal). followed o (settled ts stmt) ts) refusal_same

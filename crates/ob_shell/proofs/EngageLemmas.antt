@@ -13,6 +13,7 @@ use Rattle.ob_base.specs.declared.config.Public.{Public}
 use Rattle.ob_exec.specs.Agreeing.{Agrees, count_of, engine_keys, engine_start, has_ended, high_of, opened_from, public_of, rows_of, world_of}
 use Rattle.ob_base.specs.declared.mark.Mark.{Mark}
 use Rattle.ob_base.specs.declared.refusal.Stop.{Stop}
+use Rattle.ob_base.specs.Publics.{first_public}
 use Rattle.ob_exec.specs.Closing.{ClosesEngine, closing_script, is_used_up, next_closing}
 use Rattle.ob_exec.specs.Reopening.{IsOpened, NotOpened, OpensEngine, opened_start, opening_script}
 use Rattle.ob_exec.specs.Resting.{Rests}
@@ -33,7 +34,6 @@ use Rattle.ob_seal.specs.Sealed.{keys_of}
 use Rattle.ob_shell.specs.Bases.{Opened, fresh, reopened}
 use Rattle.ob_shell.specs.Engaging.{ClosesRun, Engages, IsHushed}
 use Rattle.ob_shell.specs.Keeping.{EndsWith, NotReopened, OpensClosing, opening_end}
-use Rattle.ob_shell.specs.Settings.{public_by}
 use Rattle.ob_shell.specs.Standing.{StandsOn}
 use Rattle.ob_shell.specs.Tallies.{has_refused}
 use Rattle.ob_shell.specs.Top.{IsFresh}
@@ -64,7 +64,7 @@ cut_caused r f0 f1 cause cut = record { grown = cut.grown; appends = cut.appends
     rose (Err e) cause failed = cause.failed
 
 -- ---- an engine that was just started
-pub engages_first : {R : Type 0} (state : R → RevState) (config : Config) (key : List ℕ) (e : Engine R) (s : StoreState) → Agrees state e s → public_of e ≡ public_by config → engine_keys e ≡ keys_of key
+pub engages_first : {R : Type 0} (state : R → RevState) (config : Config) (key : List ℕ) (e : Engine R) (s : StoreState) → Agrees state e s → public_of e ≡ first_public config → engine_keys e ≡ keys_of key
     → engine_start e ≡ from_nothing → opened_from e ≡ None → has_ended e ≡ false → high_of e ≡ 0 → rows_of e ≡ config.buffer → IsFresh s → IsSteady s → Engages state (fresh (Some config)) config key e s
 engages_first state config key e s agrees public keyed started anew alive low rows blank steady = record {
   stands = stands_first state config key e s public keyed started rows blank steady;
@@ -123,8 +123,10 @@ module _ {R : Type 0} (state : R → RevState) (config : Config) (key : List ℕ
     calm = is.calm;
     used = λ some. omega (arith, is.high);
     held = λ tables rested. opens.told rested.tells rested.honest tables (subst (λ (k : KeySet). Rests k closing s.kept tables) (sym same) rested.rests);
-    sealed = λ tells tables rested good passes.
-        opens.sealed rested.tells rested.honest tables (subst (λ (k : KeySet). Rests k closing s.kept tables) (sym same) rested.rests) (λ r. good) passes.0.0 passes.1;
+    earlier = is.earlier;
+    sealed = λ tells tables rested good passes scope few.
+        opens.sealed rested.tells rested.honest tables (subst (λ (k : KeySet). Rests k closing s.kept tables) (sym same) rested.rests) (λ r. good) passes.0.0 passes.1 scope
+        (omega (arith, few, is.did.faults));
     passes = λ good passes. passes.0;
     early = λ n before. absurd before;
   }

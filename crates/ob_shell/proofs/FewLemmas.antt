@@ -25,7 +25,7 @@ use Rattle.ob_exec.specs.declared.outcome.Outcome.{Outcome}
 use Rattle.ob_mean.proofs.EarlyLemmas.{allowed, within}
 use Rattle.ob_mean.proofs.VerdictLemmas.{heading-stored}
 use Rattle.ob_mean.specs.Lawful.{Holds, IsCount, counted_slots, statement_slots}
-use Rattle.ob_mean.specs.Refusals.{early_refusal}
+use Rattle.ob_mean.specs.Refusals.{early_refusal, limits_of}
 use Rattle.ob_mean.specs.Verdict.{is_late}
 use Rattle.ob_reopen.specs.Limits.{IsStored}
 use Rattle.ob_script.proofs.Few.{script_few}
@@ -120,7 +120,7 @@ slots_as : (p : Public) (stmt : Stmt) (k : Option ℕ) (n : ℕ) → IfSome k (�
 slots_as p stmt None n count is = tt
 slots_as p stmt (Some k) n count is = let most = count.most in omega (arith, most, is)
 
-module _ (p : Public) (late : Bool) (q : SelectRows) (seen : Seen) (public : IsPublic p) (accepted : early_refusal late p.pack p.buffer (headings_of p.tables) (RowsStmt q) ≡ None)
+module _ (p : Public) (late : Bool) (q : SelectRows) (seen : Seen) (public : IsPublic p) (accepted : early_refusal late (limits_of p) (headings_of p.tables) (RowsStmt q) ≡ None)
     (told : CountedAs p (RowsStmt q) seen.k seen.plan seen.then) where
   table_counted : (name : List ℕ) → counted_slots p q.source ≡ counted_slots p (OneTable name) → IsSourceCounted p seen (OneTable name)
   table_counted name same = go (stored_at name (stored_regions p.tables)) refl (sized name p.tables public.tables)
@@ -137,22 +137,22 @@ module _ (p : Public) (late : Bool) (q : SelectRows) (seen : Seen) (public : IsP
             then = told.second_some;
           }
 
-source_counted : (p : Public) (late : Bool) (q : SelectRows) (seen : Seen) → IsPublic p → early_refusal late p.pack p.buffer (headings_of p.tables) (RowsStmt q) ≡ None → CountedAs p (RowsStmt q) seen.k seen.plan seen.then
+source_counted : (p : Public) (late : Bool) (q : SelectRows) (seen : Seen) → IsPublic p → early_refusal late (limits_of p) (headings_of p.tables) (RowsStmt q) ≡ None → CountedAs p (RowsStmt q) seen.k seen.plan seen.then
     → IsSourceCounted p seen q.source
 source_counted p late q seen public accepted told = go q.source refl
   where
     join_counted : (a b : List ℕ) (on equals : _) → q.source ≡ Join a b on equals → IsSourceCounted p seen (Join a b on equals)
     join_counted a b on equals is = left (stored_at a (stored_regions p.tables)) refl
       where
-        accepted_join : early_refusal late p.pack p.buffer (headings_of p.tables) (RowsStmt (record { list = q.list; source = Join a b on equals; cond = q.cond })) ≡ None
-        accepted_join = subst (λ (s : Source). early_refusal late p.pack p.buffer (headings_of p.tables) (RowsStmt (record { list = q.list; source = s; cond = q.cond })) ≡ None) is accepted
+        accepted_join : early_refusal late (limits_of p) (headings_of p.tables) (RowsStmt (record { list = q.list; source = Join a b on equals; cond = q.cond })) ≡ None
+        accepted_join = subst (λ (s : Source). early_refusal late (limits_of p) (headings_of p.tables) (RowsStmt (record { list = q.list; source = s; cond = q.cond })) ≡ None) is accepted
 
         right : (l : Stored ℕ) → stored_at a (stored_regions p.tables) ≡ Some l → (o : Option (Stored ℕ)) → stored_at b (stored_regions p.tables) ≡ o → IfSome o (λ r. IsCounted seen (joined_extent p l.heading r.heading))
         right l l_is None r_is = tt
         right l l_is (Some r) r_is =
             let la = heading_is a p.tables l l_is in
             let rb = heading_is b p.tables r r_is in
-            let fits = joins_fit late p.pack p.buffer (headings_of p.tables) q.list a b on equals q.cond l.heading r.heading la rb accepted_join in
+            let fits = joins_fit late (limits_of p) (headings_of p.tables) q.list a b on equals q.cond l.heading r.heading la rb accepted_join in
             let cap : Option Heading → ℕ = λ o. option_map_or (λ (h : Heading). h.capacity) o 0 in
             let slots : statement_slots p (RowsStmt q) ≡ (joined_extent p l.heading r.heading).slots =
             ap (counted_slots p) is ∙ (λ i. joined_slots p.pack p.buffer (cap (la i)) (cap (rb i))) in
@@ -172,9 +172,9 @@ source_counted p late q seen public accepted told = go q.source refl
     go (OneTable name) is = subst (λ (s : Source). IsSourceCounted p seen s) (sym is) (table_counted p late q seen public accepted told name (ap (counted_slots p) is))
     go (Join a b on equals) is = subst (λ (s : Source). IsSourceCounted p seen s) (sym is) (join_counted a b on equals is)
 
-within_limits : (p : Public) (late : Bool) (stmt : Stmt) (seen : Seen) → IsPublic p → early_refusal late p.pack p.buffer (headings_of p.tables) stmt ≡ None → Holds p stmt seen seen.k seen.plan seen.then → IsWithin p (skeleton stmt) seen
+within_limits : (p : Public) (late : Bool) (stmt : Stmt) (seen : Seen) → IsPublic p → early_refusal late (limits_of p) (headings_of p.tables) stmt ≡ None → Holds p stmt seen seen.k seen.plan seen.then → IsWithin p (skeleton stmt) seen
 within_limits p late (Create table columns capacity) seen public accepted holds =
-    let free = allowed late p.pack p.buffer (headings_of p.tables) (Create table columns capacity) accepted in
+    let free = allowed late (limits_of p) (headings_of p.tables) (Create table columns capacity) accepted in
     let new = within (headings_of p.tables) table columns capacity free.limits in
     (new.most, new.wide)
 within_limits p late (Insert table columns values) seen public accepted holds = tt
@@ -203,7 +203,7 @@ does_few state m0 m1 stmt result agrees does few = go (refusal_now p (asked_of m
         let on = counts_on m0 m1 (script (public_of m0.engine) (skeleton stmt) (seen_of m1.engine)) does.ran.start does.ran.asked in
         omega (arith, on, none, few)
     go None is =
-        let free = allowed (is_late (asked_of m0)) (public_of m0.engine).pack (public_of m0.engine).buffer (headings_of (public_of m0.engine).tables) stmt is in
+        let free = allowed (is_late (asked_of m0)) (limits_of (public_of m0.engine)) (headings_of (public_of m0.engine).tables) stmt is in
         let small = late_or_not (asked_of m0) (is_late (asked_of m0)) refl free.early in
         let public = public_is state m0.engine m0.store agrees small in
         let short = script_few (public_of m0.engine) (skeleton stmt) (seen_of m1.engine) public

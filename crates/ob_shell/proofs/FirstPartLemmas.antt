@@ -15,7 +15,7 @@ use Rattle.ob_exec.specs.Running.{is_fault}
 use Rattle.ob_exec.specs.Telling.{ReadsTrueUntil, Told, is_refused}
 use Rattle.ob_exec.specs.declared.outcome.Outcome.{Outcome}
 use Rattle.ob_exec.proofs.EmitLemmas.{unfit_none}
-use Rattle.ob_mean.specs.Refusals.{early_refusal}
+use Rattle.ob_mean.specs.Refusals.{early_refusal, limits_of}
 use Rattle.ob_mean.specs.Replay.{cut_at}
 use Rattle.ob_mean.specs.Verdict.{Tables, counted, is_late, seen, seen_by, seen_started, seen_with}
 use Rattle.ob_mean.proofs.VerdictLemmas.{seen_late}
@@ -73,7 +73,7 @@ to_end AfterCount all ends = refl
 to_end (Cut n) all ends = absurd ends
 
 -- what was asked of a statement that was cut off after n accesses is a first part of what its meaning asks
-pub begins_cut : (p : Public) (m : ℕ) (tables : Tables) (stmt : Stmt) (failed : Bool) (n : ℕ) → early_refusal (is_late m) p.pack p.buffer (headings tables) stmt ≡ None
+pub begins_cut : (p : Public) (m : ℕ) (tables : Tables) (stmt : Stmt) (failed : Bool) (n : ℕ) → early_refusal (is_late m) (limits_of p) (headings tables) stmt ≡ None
     → Begins (script p (skeleton stmt) (cut_at failed n p (skeleton stmt) (seen p m tables stmt))) (script p (skeleton stmt) (seen p m tables stmt))
 begins_cut p m tables stmt failed n early =
     let sk = skeleton stmt in

@@ -74,6 +74,7 @@ headlined Takes base tracing old new report first r traces =
       later = run.later;
       always = run.early;
       sealed = run.sealed;
+      sealed_before = run.sealed_before;
       most_open = run.most_open;
       some_open = run.some_open;
       status = r.status;

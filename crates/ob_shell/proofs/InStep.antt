@@ -16,7 +16,7 @@ use Rattle.ob_base.specs.declared.seen.End.{End}
 use Rattle.ob_base.specs.declared.seen.End.TheVariants.{Static, Whole, AfterCount, Cut}
 use Rattle.ob_base.specs.declared.seen.Seen.{Seen}
 use Rattle.ob_base.specs.declared.skeleton.Skeleton.{Skeleton}
-use Rattle.ob_mean.specs.Refusals.{early_refusal}
+use Rattle.ob_mean.specs.Refusals.{early_refusal, limits_of}
 use Rattle.ob_mean.specs.Replay.{Session, after}
 use Rattle.ob_mean.specs.Settle.{settle, settled}
 use Rattle.ob_mean.specs.Step.{followed, late_refusal}
@@ -106,17 +106,17 @@ module _ (p : Public) (m : ℕ) (ts : Tables) (same : headings ts ≡ headings_o
   -- one that adds a table or drops one
   changes : (stmt : Stmt) → late_refusal (buffered p.pack p.buffer) (database ts) stmt ≡ None → last_refusal p ts stmt ≡ None → seen_started p ts stmt ≡ ended Whole
       → headings (settled ts stmt) ≡ headings_of (tables_after p (skeleton stmt)) → headings (settle p m ts stmt) ≡ headings_of (next p (skeleton stmt) (seen p m ts stmt)).tables
-  changes stmt late last started is = go (early_refusal (is_late m) p.pack p.buffer (headings ts) stmt) refl
+  changes stmt late last started is = go (early_refusal (is_late m) (limits_of p) (headings ts) stmt) refl
     where
-      shows : (o : Option Refusal) → early_refusal (is_late m) p.pack p.buffer (headings ts) stmt ≡ o → seen p m ts stmt ≡ (if is_some o then ended Static else ended Whole)
+      shows : (o : Option Refusal) → early_refusal (is_late m) (limits_of p) (headings ts) stmt ≡ o → seen p m ts stmt ≡ (if is_some o then ended Static else ended Whole)
       shows o early = λ i. if is_some (early i) then ended Static else started i
 
-      refuses : (o : Option Refusal) → early_refusal (is_late m) p.pack p.buffer (headings ts) stmt ≡ o → refusal p m ts stmt ≡ option_or (option_or o None) None
+      refuses : (o : Option Refusal) → early_refusal (is_late m) (limits_of p) (headings ts) stmt ≡ o → refusal p m ts stmt ≡ option_or (option_or o None) None
       refuses o early =
-          let both : early_refusal (is_late m) p.pack p.buffer (headings (database ts)) stmt ≡ o = ap (λ (hs : List Heading). early_refusal (is_late m) p.pack p.buffer hs stmt) (headings-database ts) ∙ early in
+          let both : early_refusal (is_late m) (limits_of p) (headings (database ts)) stmt ≡ o = ap (λ (hs : List Heading). early_refusal (is_late m) (limits_of p) hs stmt) (headings-database ts) ∙ early in
           λ i. option_or (option_or (both i) (late i)) (last i)
 
-      go : (o : Option Refusal) → early_refusal (is_late m) p.pack p.buffer (headings ts) stmt ≡ o → headings (settle p m ts stmt) ≡ headings_of (next p (skeleton stmt) (seen p m ts stmt)).tables
+      go : (o : Option Refusal) → early_refusal (is_late m) (limits_of p) (headings ts) stmt ≡ o → headings (settle p m ts stmt) ≡ headings_of (next p (skeleton stmt) (seen p m ts stmt)).tables
       go None early =
           ap (λ (o : Option Refusal). headings (followed o (settled ts stmt) ts)) (refuses None early)
           ∙ is

@@ -1,10 +1,9 @@
 -- What a run asks of which no text was answered that the store failed, however it ended.
-use Rattle.std.proofs.Common.{◌≡◌, ◌+◌, ◌≤◌, ◌++◌, ◌||◌, ℕ, Bool, true, false, Ok, Err, List, [], ◌∷◌, length, take, drop, Option, Some, None, refl, sym, ◌∙◌, ap, subst, append-nil, append_assoc, arith}
+use Rattle.std.proofs.Common.{◌≡◌, ◌+◌, ◌≤◌, ◌++◌, ℕ, Bool, true, false, Ok, Err, List, [], ◌∷◌, length, take, drop, Option, Some, None, refl, sym, ◌∙◌, ap, subst, append-nil, append_assoc, arith}
 use Rattle.std.specs.Prelude.{is_some}
 use Rattle.std.proofs.lemmas.List.{take-append-drop}
 use Rattle.clap.specs.Words.{App, Text}
 use Rattle.ob_base.specs.declared.access.Access.{Access}
-use Rattle.ob_base.specs.declared.config.Plan.{Plan}
 use Rattle.ob_base.specs.declared.config.Public.{Public}
 use Rattle.ob_base.specs.declared.seen.End.{End}
 use Rattle.ob_base.specs.declared.seen.End.TheVariants.{Static, Whole, AfterCount, Cut}
@@ -62,7 +61,7 @@ whole_same p (K.Rows (Join a b on equals) cs) e f =
     ++ joined_same p.pad p e f (p.next_region + 1) left.heading right.heading (discard_at p.next_region) i)))
 
 -- ---- one statement asks a first part of what its early refusal says
-begins_all : {A : Type 0} (xs : List A) → Begins xs xs
+pub begins_all : {A : Type 0} (xs : List A) → Begins xs xs
 begins_all xs = record { rest = []; joined = sym (append-nil xs) }
 
 begins_take : (n : ℕ) (xs : List Access) → Begins (take n xs) xs
@@ -91,7 +90,7 @@ begins_uncut p m stmt here uncut plain lawful =
     subst (λ (x : Seen). Begins (script p (skeleton stmt) here) (script p (skeleton stmt) x)) (shows_plainly p m stmt here lawful plain uncut)
     (begins_all (script p (skeleton stmt) here))
 
-begins_by : (p : Public) (m : ℕ) (stmt : Stmt) (here : Seen) (end : End) → here.end ≡ end → IsPlain p stmt → Lawful p m stmt here
+pub begins_by : (p : Public) (m : ℕ) (stmt : Stmt) (here : Seen) (end : End) → here.end ≡ end → IsPlain p stmt → Lawful p m stmt here
     → Begins (script p (skeleton stmt) here) (script p (skeleton stmt) (plainly p m stmt))
 begins_by p m stmt here Static is plain lawful = begins_uncut p m stmt here (ap is_cut is) plain lawful
 begins_by p m stmt here Whole is plain lawful = begins_uncut p m stmt here (ap is_cut is) plain lawful
@@ -100,12 +99,12 @@ begins_by p m stmt here (Cut n) is plain lawful = begins_cut p m stmt here n is 
 
 -- ---- all statements do
 -- the last one
-begins_last : (p p1 p2 : Public) (here whole : List Access) (seen : List Entry) → seen ≡ [] → Begins here whole → Begins (here ++ trace p1 seen) (whole ++ trace p2 [])
+pub begins_last : (p p1 p2 : Public) (here whole : List Access) (seen : List Entry) → seen ≡ [] → Begins here whole → Begins (here ++ trace p1 seen) (whole ++ trace p2 [])
 begins_last p p1 p2 here whole seen none begins =
     subst (λ (xs : List Entry). Begins (here ++ trace p1 xs) (whole ++ trace p2 [])) (sym none)
     (record { rest = begins.rest; joined = append-nil whole ∙ begins.joined ∙ ap (λ (l : List Access). l ++ begins.rest) (sym (append-nil here)) })
 
-begins_more : (one xs ys : List Access) → Begins xs ys → Begins (one ++ xs) (one ++ ys)
+pub begins_more : (one xs ys : List Access) → Begins xs ys → Begins (one ++ xs) (one ++ ys)
 begins_more one xs ys begins =
     record { rest = begins.rest; joined = ap (λ (l : List Access). one ++ l) begins.joined ∙ sym (append_assoc one xs begins.rest) }
 

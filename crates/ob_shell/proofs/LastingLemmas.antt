@@ -1,5 +1,5 @@
 -- What lasts while texts are served: the pack, the rows that may be open, and that no block lies in clear.
-use Rattle.std.proofs.Common.{◌≡◌, ℕ, Bool, IsTrue, List, [], ◌∷◌, None, Ok, Err, Result, inl, inr, sym, ◌∙◌, ap, subst}
+use Rattle.std.proofs.Common.{◌≡◌, ◌≤◌, ℕ, Bool, IsTrue, List, [], ◌∷◌, None, Ok, Err, Result, inl, inr, sym, ◌∙◌, ap, subst, arith}
 use Rattle.ob_base.specs.declared.config.Config.{Config}
 use Rattle.ob_base.specs.declared.config.Public.{Public}
 use Rattle.ob_base.specs.declared.refusal.Stop.{Stop}
@@ -10,7 +10,8 @@ use Rattle.ob_store.specs.State.{StoreState}
 use Rattle.ob_shell.specs.Running.{LastPart}
 use Rattle.ob_shell.specs.Steps.{Machine, Step, Steps}
 use Rattle.ob_vault.specs.State.{RevState}
-use Rattle.ob_vault.specs.Tied.{AllSealed}
+use Rattle.ob_vault.specs.Tied.{AllSealed, Scope, next_fault}
+use Rattle.ob_shell.proofs.LaterLemmas.{step_later}
 use Rattle.ob_shell.proofs.ReplayLemmas.{step_goes}
 use Rattle.ob_shell.specs.Words.{Answer}
 
@@ -44,33 +45,37 @@ module _ {R : Type 0} (state : R → RevState) (config : Config) where
   last_rows m1 m2 (text ∷ more) part (Err stop) (inr (inr done)) sizes = (step_sizes m1 m2 text done.answer done.step sizes).rows
 
   -- ---- blocks
-  module _ (good : ℕ → List ℕ → Bool) (accepts : AcceptsRows good config.pack) (single : AcceptsRows good 1) where
+  module _ (good : ℕ → List ℕ → Bool) (scope : Scope) (accepts : AcceptsRows good config.pack) (single : AcceptsRows good 1) where
     abbrev IsSealed : Machine R → Type 0
-    IsSealed m = AllSealed good (world_of state m.engine m.store)
+    IsSealed m = AllSealed good scope (world_of state m.engine m.store)
+
+    abbrev IsBelow : Machine R → Type 0
+    IsBelow m = scope.below ≤ next_fault m.store
 
     accepts_at : (m : Machine R) → HasSizes config m → AcceptsRows good (public_of m.engine).pack
     accepts_at m sizes = subst (λ (k : ℕ). AcceptsRows good k) (sym sizes.pack) accepts
 
-    step_sealed : (m0 m1 : Machine R) (text : List ℕ) (answer : Answer) → Step state m0 m1 text answer → HasSizes config m0 → IsTrue m0.store.tells → IsSealed m0 → IsSealed m1
-    step_sealed m0 m1 text answer step sizes tells all = elim step.done [
+    step_sealed : (m0 m1 : Machine R) (text : List ℕ) (answer : Answer) → Step state m0 m1 text answer → HasSizes config m0 → IsBelow m0 → IsTrue m0.store.tells → IsSealed m0 → IsSealed m1
+    step_sealed m0 m1 text answer step sizes few tells all = elim step.done [
       | inl bad ↦ subst (λ (m : Machine R). IsSealed m) (sym bad.same) all
-      | inr did ↦ (did.does.seals good (accepts_at m0 sizes) single).seals tells all
+      | inr did ↦ (did.does.seals good (accepts_at m0 sizes) single).seals scope few tells all
     ]
 
-    pub steps_sealed : (m0 m2 : Machine R) (texts : List (List ℕ)) (answers : List Answer) → Steps state m0 m2 texts answers → HasSizes config m0 → IsTrue m0.store.tells → IsSealed m0 → IsSealed m2
+    pub steps_sealed : (m0 m2 : Machine R) (texts : List (List ℕ)) (answers : List Answer) → Steps state m0 m2 texts answers → HasSizes config m0 → IsBelow m0 → IsTrue m0.store.tells → IsSealed m0 → IsSealed m2
     unfolding Steps
-    steps_sealed m0 m2 [] answers steps sizes tells all = subst (λ (m : Machine R). IsSealed m) (sym steps.0) all
-    steps_sealed m0 m2 (text ∷ texts) answers steps sizes tells all =
+    steps_sealed m0 m2 [] answers steps sizes few tells all = subst (λ (m : Machine R). IsSealed m) (sym steps.0) all
+    steps_sealed m0 m2 (text ∷ texts) answers steps sizes few tells all =
         let m1 = steps.0 in
-        steps_sealed m1 m2 texts steps.2 steps.5 (step_sizes m0 m1 text steps.1 steps.4 sizes)
-        (subst (λ (b : Bool). IsTrue b) (sym (step_goes state m0 m1 text steps.1 steps.4.done).tells) tells) (step_sealed m0 m1 text steps.1 steps.4 sizes tells all)
+        let later = step_later state m0 m1 text steps.1 steps.4 in
+        steps_sealed m1 m2 texts steps.2 steps.5 (step_sizes m0 m1 text steps.1 steps.4 sizes) (omega (arith, few, later.faults))
+        (subst (λ (b : Bool). IsTrue b) (sym later.tells) tells) (step_sealed m0 m1 text steps.1 steps.4 sizes few tells all)
 
-    pub last_sealed : (m1 m2 : Machine R) (more : List (List ℕ)) (part : List ℕ) (result : Result Bool Stop) → LastPart state m1 m2 more part result → HasSizes config m1 → IsTrue m1.store.tells → IsSealed m1 → IsSealed m2
-    last_sealed m1 m2 more part (Ok flag) rests sizes tells all = subst (λ (m : Machine R). IsSealed m) (sym rests.machine) all
-    last_sealed m1 m2 [] part (Err stop) rests sizes tells all = subst (λ (m : Machine R). IsSealed m) (sym rests.rests.machine) all
-    last_sealed m1 m2 (text ∷ more) part (Err stop) (inl rests) sizes tells all = subst (λ (m : Machine R). IsSealed m) (sym rests.rests.machine) all
-    last_sealed m1 m2 (text ∷ more) part (Err stop) (inr (inl cut)) sizes tells all = (cut.does.seals good (accepts_at m1 sizes) single).seals tells all
-    last_sealed m1 m2 (text ∷ more) part (Err stop) (inr (inr done)) sizes tells all = step_sealed m1 m2 text done.answer done.step sizes tells all
+    pub last_sealed : (m1 m2 : Machine R) (more : List (List ℕ)) (part : List ℕ) (result : Result Bool Stop) → LastPart state m1 m2 more part result → HasSizes config m1 → IsBelow m1 → IsTrue m1.store.tells → IsSealed m1 → IsSealed m2
+    last_sealed m1 m2 more part (Ok flag) rests sizes few tells all = subst (λ (m : Machine R). IsSealed m) (sym rests.machine) all
+    last_sealed m1 m2 [] part (Err stop) rests sizes few tells all = subst (λ (m : Machine R). IsSealed m) (sym rests.rests.machine) all
+    last_sealed m1 m2 (text ∷ more) part (Err stop) (inl rests) sizes few tells all = subst (λ (m : Machine R). IsSealed m) (sym rests.rests.machine) all
+    last_sealed m1 m2 (text ∷ more) part (Err stop) (inr (inl cut)) sizes few tells all = (cut.does.seals good (accepts_at m1 sizes) single).seals scope few tells all
+    last_sealed m1 m2 (text ∷ more) part (Err stop) (inr (inr done)) sizes few tells all = step_sealed m1 m2 text done.answer done.step sizes few tells all
 
 module _ {R : Type 0} (state : R → RevState) where
   pub steps_tell : (m0 m2 : Machine R) (texts : List (List ℕ)) (answers : List Answer) → Steps state m0 m2 texts answers → IsTrue m0.store.tells → IsTrue m2.store.tells
@@ -79,6 +84,6 @@ module _ {R : Type 0} (state : R → RevState) where
   steps_tell m0 m2 (text ∷ texts) answers steps tells =
       steps_tell steps.0 m2 texts steps.2 steps.5 (subst (λ (b : Bool). IsTrue b) (sym (step_goes state m0 steps.0 text steps.1 steps.4.done).tells) tells)
 
--- no region lives, and so no block does
-pub none_sealed : {R : Type 0} (state : R → RevState) (good : ℕ → List ℕ → Bool) (e : Engine R) (s : StoreState) → ((q : ℕ) → s.live q ≡ None) → AllSealed good (world_of state e s)
-none_sealed state good e s none = record { all = λ q x block live last. absurd (live (none q)) }
+-- no region of these lives, and so no block does
+pub none_sealed : {R : Type 0} (state : R → RevState) (good : ℕ → List ℕ → Bool) (scope : Scope) (e : Engine R) (s : StoreState) → ((q : ℕ) → scope.from ≤ q → s.live q ≡ None) → AllSealed good scope (world_of state e s)
+none_sealed state good scope e s none = record { all = λ q x block from live last. absurd (live (none q from)) }

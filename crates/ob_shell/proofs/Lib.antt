@@ -42,3 +42,5 @@ pub mod RerunLemmas
 pub mod KindLemmas
 pub mod CutLemmas
 mod Spelt
+pub mod ShownLemmas
+pub mod PlainLemmas

@@ -18,7 +18,7 @@ use Rattle.ob_exec.specs.declared.outcome.Outcome.{Outcome}
 use Rattle.ob_exec.specs.declared.outcome.Outcome.TheVariants.{Created, Inserted, Changed, Deleted, Dropped, Rows, Refused}
 use Rattle.ob_exec.proofs.HeldLemmas.{held_headings}
 use Rattle.ob_mean.specs.Lawful.{CutUpTo}
-use Rattle.ob_mean.specs.Refusals.{early_refusal}
+use Rattle.ob_mean.specs.Refusals.{early_refusal, limits_of}
 use Rattle.ob_mean.specs.Replay.{after, cut_at, seen_now, seen_or_cut}
 use Rattle.ob_mean.specs.Verdict.{Tables, is_late}
 use Rattle.ob_script.specs.Script.{script, whole_script}
@@ -105,7 +105,7 @@ module _ {R : Type 0} (state : R → RevState) (m0 m1 : Machine R) (tables : Tab
       omega (arith, most, less)
 
   pub cut_early : Represents state m0.engine m0.store tables
-      → early_refusal (is_late (asked_of m0)) (public_of m0.engine).pack (public_of m0.engine).buffer (headings tables) stmt ≡ None
+      → early_refusal (is_late (asked_of m0)) (limits_of (public_of m0.engine)) (headings tables) stmt ≡ None
   cut_early held =
-      ap (λ (hs : List Heading). early_refusal (is_late (asked_of m0)) (public_of m0.engine).pack (public_of m0.engine).buffer hs stmt) (held_headings _ _ tables _ held.held)
+      ap (λ (hs : List Heading). early_refusal (is_late (asked_of m0)) (limits_of (public_of m0.engine)) hs stmt) (held_headings _ _ tables _ held.held)
       ∙ not_refused _ result (seen_of m1.engine) n does.early (ap (λ (x : Seen). x.end) seen_is)

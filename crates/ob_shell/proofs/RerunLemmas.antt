@@ -1,8 +1,6 @@
 -- Two runs that came to their end, and of which no text was answered that the store failed.
-use Rattle.std.proofs.Common.{◌≡◌, ◌+◌, ◌≤◌, ◌++◌, ◌||◌, ◌⊎◌, inl, inr, ℕ, Bool, true, false, IsTrue, Ok, Err, List, [], ◌∷◌, length, Option, Some, None, refl, sym, ◌∙◌, ap, subst, append-nil, arith}
+use Rattle.std.proofs.Common.{◌≡◌, ◌+◌, ◌≤◌, ◌++◌, ◌||◌, inl, inr, ℕ, Bool, true, false, IsTrue, Ok, Err, List, [], ◌∷◌, length, Option, Some, None, refl, sym, ◌∙◌, ap, subst, append-nil, arith}
 use Rattle.std.specs.Prelude.{IsSome, is_some}
-use Rattle.clap.specs.Words.{Text}
-use Rattle.ob_base.specs.declared.config.Config.{Config}
 use Rattle.ob_base.specs.declared.config.Plan.{Plan}
 use Rattle.ob_base.specs.declared.config.Plan.TheVariants.{Small, Large, Continuous, Hash}
 use Rattle.ob_base.specs.declared.config.Public.{Public}
@@ -20,13 +18,12 @@ use Rattle.ob_mean.specs.Lawful.{EndsUncounted, Holds, IsCount, Lawful, is_count
 use Rattle.ob_mean.specs.Replay.{Spelt}
 use Rattle.ob_script.specs.Script.{script}
 use Rattle.ob_script.specs.Trace.{Served as Entry, next, trace}
-use Rattle.ob_shell.specs.Bases.{Base, public_with}
+use Rattle.ob_shell.specs.Bases.{Base}
 use Rattle.ob_shell.specs.Endings.{status_of}
 use Rattle.ob_shell.specs.Failures.{failures, outcome_failures}
 use Rattle.ob_shell.specs.Headline.{Headline}
-use Rattle.ob_shell.specs.Reruns.{Alike, ArePlain, EndsWell, IsPlain, ShellRun, ShowAlike, any_counted, plainly, seen_plainly}
-use Rattle.ob_shell.specs.Settings.{limit_of, settings_of}
-use Rattle.ob_shell.specs.Usage.{usage}
+use Rattle.ob_shell.specs.Reruns.{Alike, ArePlain, EndsWell, GoOnFromOne, IsPlain, ShowAlike, SomeRun, any_counted, asked_by, failures_of, plainly, seen_by, seen_plainly, stmts_of}
+use Rattle.ob_shell.specs.Settings.{limit_of}
 use Rattle.ob_shell.specs.Words.{Answer, AreSeen, Because, Outside, SpellFirst, is_cut, statements}
 use Rattle.ob_shell.specs.declared.top.Ending.{Ending}
 use Rattle.ob_shell.specs.declared.top.Ending.TheVariants.{Usage, BadKey, Ran}
@@ -36,7 +33,7 @@ use Rattle.ob_sql.specs.declared.stmt.Stmt.{Stmt}
 use Rattle.ob_sql.specs.declared.stmt.Stmt.TheVariants.{Create, Insert, Update, Delete, Drop as DropTable, SelectRows, SelectTotals}
 
 -- of each statement its skeleton, and what is seen of it, which is lawful; none is cut off
-unfoldable AreUncut : Public → ℕ → List Stmt → List Entry → Type 0
+unfoldable pub AreUncut : Public → ℕ → List Stmt → List Entry → Type 0
 AreUncut p m [] seen = seen ≡ []
 AreUncut p m (stmt ∷ stmts) [] = ⊥
 AreUncut p m (stmt ∷ stmts) (x ∷ seen) =
@@ -141,7 +138,7 @@ same_seen p m (a ∷ ps) (x ∷ xs) (b ∷ qs) (y ∷ ys) lawful lawful_too alik
 
 -- ---- of a run by its headline
 -- none was cut off where no text was answered that the store failed
-failure_is : (o : Outcome) → o ≡ Refused StoreFault → outcome_failures o ≡ 1
+pub failure_is : (o : Outcome) → o ≡ Refused StoreFault → outcome_failures o ≡ 1
 failure_is o is = ap outcome_failures is
 
 pub not_cut : (b : Bool) (o : Outcome) → (IsTrue b → o ≡ Refused StoreFault) → outcome_failures o ≡ 0 → b ≡ false
@@ -188,9 +185,9 @@ answered_all {base} {Takes} {old = old} {new = new} {report = report} a few =
     subst (λ (ts : List (List ℕ)). length a.spelt ≤ length ts) (ap (λ (ts : List (List ℕ)). a.served ++ ts) none ∙ append-nil a.served) (spell_few (a.served ++ a.more) a.spelt a.spells) in
     omega (arith, most, a.reached, a.each)
 
-module _ (words : List Text) (old new : Outside) (report : Report) (a : ShellRun words old new report) (well : EndsWell report.status (failures a.answers)) where
-  run_uncut : AreUncut (public_with (settings_of usage words)) 0 (statements a.spelt) (a.seen ++ a.last)
-  run_uncut = all_uncut _ a.spelt a.answers (public_with (settings_of usage words)) 0 (a.seen ++ a.last) a.lawful (answered_all a well.ended) well.none
+module _ (one : SomeRun) (well : EndsWell one.report.status (failures_of one)) where
+  pub run_uncut : AreUncut one.base.public one.base.count (stmts_of one) (seen_by one)
+  run_uncut = all_uncut _ one.run.spelt one.run.answers one.base.public one.base.count (seen_by one) one.run.lawful (answered_all one.run well.ended) well.none
 
 -- none is a SELECT of rows, or results are padded
 
@@ -234,26 +231,28 @@ shows p m (a ∷ ps) (x ∷ xs) (b ∷ qs) (y ∷ ys) one two plain alike =
           (subst (λ (n : ℕ). Alike (next p x.skeleton x.seen) n ps qs) asked (subst (λ (r : Public). Alike r (m + length (script p (skeleton a) (plainly p m a))) ps qs) first alike.2)),
     )
 
-module _ (words words_too : List Text) (old new old_too new_too : Outside) (report report_too : Report) (a : ShellRun words old new report) (b : ShellRun words_too old_too new_too report_too)
-    (set : settings_of usage words ≡ settings_of usage words_too) (well : EndsWell report.status (failures a.answers)) (well_too : EndsWell report_too.status (failures b.answers)) where
+module _ (a b : SomeRun) (same : GoOnFromOne a b) (well : EndsWell a.report.status (failures_of a)) (well_too : EndsWell b.report.status (failures_of b)) where
   abbrev p : Public
-  p = public_with (settings_of usage words)
+  p = a.base.public
 
-  there : AreUncut p 0 (statements b.spelt) (b.seen ++ b.last)
-  there = subst (λ (o : Option Config). AreUncut (public_with o) 0 (statements b.spelt) (b.seen ++ b.last)) (sym set) (run_uncut words_too old_too new_too report_too b well_too)
+  abbrev m : ℕ
+  m = a.base.count
 
-  pub show_the_same : ShowAlike p 0 (statements a.spelt) (a.seen ++ a.last) (statements b.spelt) (b.seen ++ b.last)
-      → (a.seen ++ a.last ≡ b.seen ++ b.last) × (new.store.asked ≡ new_too.store.asked)
+  there : AreUncut p m (stmts_of b) (seen_by b)
+  there =
+      subst (λ (r : Public). AreUncut r m (stmts_of b) (seen_by b)) (sym same.public)
+      (subst (λ (n : ℕ). AreUncut b.base.public n (stmts_of b) (seen_by b)) (sym same.count) (run_uncut b well_too))
+
+  pub show_the_same : ShowAlike p m (stmts_of a) (seen_by a) (stmts_of b) (seen_by b) → (seen_by a ≡ seen_by b) × (asked_by a ≡ asked_by b)
   show_the_same alike =
-      let same = same_seen p 0 (statements a.spelt) (a.seen ++ a.last) (statements b.spelt) (b.seen ++ b.last) (run_uncut words old new report a well) there alike in
-      (same, a.asked ∙ (λ i. trace (public_with (set i)) (same i)) ∙ sym b.asked)
+      let seen = same_seen p m (stmts_of a) (seen_by a) (stmts_of b) (seen_by b) (run_uncut a well) there alike in
+      (seen, a.run.asked ∙ (λ i. same.before i ++ trace (same.public i) (seen i)) ∙ sym b.run.asked)
 
-  asks_alike : ArePlain p (statements a.spelt) → Alike p 0 (statements a.spelt) (statements b.spelt) → new.store.asked ≡ new_too.store.asked
-  asks_alike plain alike =
-      (show_the_same (shows p 0 (statements a.spelt) (a.seen ++ a.last) (statements b.spelt) (b.seen ++ b.last) (run_uncut words old new report a well) there plain alike)).1
+  asks_alike : ArePlain p (stmts_of a) → Alike p m (stmts_of a) (stmts_of b) → asked_by a ≡ asked_by b
+  asks_alike plain alike = (show_the_same (shows p m (stmts_of a) (seen_by a) (stmts_of b) (seen_by b) (run_uncut a well) there plain alike)).1
 
-  pub ask_the_same : any_counted (statements a.spelt) ≡ false → Alike p 0 (statements a.spelt) (statements b.spelt) → new.store.asked ≡ new_too.store.asked
+  pub ask_the_same : any_counted (stmts_of a) ≡ false → Alike p m (stmts_of a) (stmts_of b) → asked_by a ≡ asked_by b
   ask_the_same none = asks_alike (inl none)
 
-  pub padded_ask_the_same : IsSome p.pad → Alike p 0 (statements a.spelt) (statements b.spelt) → new.store.asked ≡ new_too.store.asked
+  pub padded_ask_the_same : IsSome p.pad → Alike p m (stmts_of a) (stmts_of b) → asked_by a ≡ asked_by b
   padded_ask_the_same padded = asks_alike (inr padded)

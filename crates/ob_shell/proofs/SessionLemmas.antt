@@ -1,6 +1,7 @@
 -- A session that goes on from a base, and the closing behind it.
-use Rattle.std.proofs.Common.{◌≡◌, ℕ, ◌≤◌, ◌<◌, Bool, true, false, List, [], ◌∷◌, ◌++◌, length, take, Option, None, Some, IsTrue, Ok, Err, Result, refl, sym, ap, ◌∙◌, subst, inl, inr, arith, append-nil}
+use Rattle.std.proofs.Common.{◌≡◌, ℕ, ◌+◌, ◌≤◌, ◌<◌, Bool, true, false, List, [], ◌∷◌, ◌++◌, length, take, Option, None, Some, IsTrue, Ok, Err, Result, refl, sym, ap, ◌∙◌, subst, inl, inr, arith, append-nil}
 use Rattle.std.specs.List.{list_any}
+use Rattle.std.proofs.lemmas.Bool.{cases_lt}
 use Rattle.std.specs.Prelude.{IfOk, MatchBool}
 use Rattle.std.specs.Io.KnownBytes.{IsAtEnd}
 use Rattle.std.proofs.KnownBytes.{Appends-nil, Consumes-nil}
@@ -12,6 +13,7 @@ use Rattle.ob_base.specs.declared.refusal.Stop.{Stop}
 use Rattle.ob_base.specs.declared.refusal.Stop.TheVariants.{Tampered, SourceFault, SinkFault, NoMemory, InputLimit}
 use Rattle.ob_base.specs.declared.config.Config.{Config}
 use Rattle.ob_base.specs.declared.config.Public.{Public}
+use Rattle.ob_base.specs.Publics.{first_public}
 use Rattle.ob_exec.specs.Agreeing.{count_of, engine_keys, engine_start, opened_from, public_of, high_of, rows_of, world_of}
 use Rattle.ob_exec.specs.Closing.{ClosesEngine, IsClosedAs, StaysInUse, closing_script, is_used_up, next_closing}
 use Rattle.ob_exec.specs.Resting.{Rests, by_name}
@@ -21,8 +23,9 @@ use Rattle.ob_exec.specs.declared.engine.Engine.{Engine}
 use Rattle.ob_mean.specs.Replay.{Broken, Session, after_all, all_served}
 use Rattle.ob_mean.specs.Verdict.{Tables}
 use Rattle.ob_vault.proofs.WordLemmas.{earlier_nothing}
+use Rattle.ob_vault.specs.Numbers.{number_after}
 use Rattle.ob_vault.specs.State.{RevState, Start, VaultState, World, earlier, from_nothing}
-use Rattle.ob_vault.specs.Tied.{AllSealed, EndsAt, Fits, SealedAt, at_of}
+use Rattle.ob_vault.specs.Tied.{AllSealed, EndsAt, Fits, Scope, SealedAt, at_of, next_fault}
 use Rattle.ob_print.proofs.CutLemmas.{Cut-whole}
 use Rattle.ob_reopen.specs.Keepers.{KeeperState}
 use Rattle.ob_reopen.specs.declared.closing.Closing.{Closing}
@@ -44,13 +47,12 @@ use Rattle.ob_shell.specs.KeptHeadline.{ClosesTables, PassesBoth}
 use Rattle.ob_shell.specs.Standing.{IsUsed, StandsOn}
 use Rattle.ob_shell.specs.Steps.{Machine, machine_of, session_of}
 use Rattle.ob_shell.specs.Running.{SessionRan, LastPart}
-use Rattle.ob_shell.specs.Settings.{public_by}
 use Rattle.ob_gen.specs.Tally.{empty_tally}
 use Rattle.ob_gen.specs.declared.tally.Tally.{Tally}
 use Rattle.ob_shell.specs.Tallies.{flagged, has_refused}
 use Rattle.ob_shell.specs.Top.{EndsUntampered, IsFresh, TraceSink, Carried, RanAfter}
 use Rattle.ob_shell.specs.Tracing.{Traced}
-use Rattle.ob_shell.specs.Words.{Answers, AreSeen, Begins, EndsAtRead, IsHonest, IsSealed, IsSealedAt, IsWriteTo, PassesFrom, PassesWith, StopsWithin, before_read, rows_in}
+use Rattle.ob_shell.specs.Words.{Answers, AreSeen, Begins, EndsAtRead, IsHonest, IsSealed, IsSealedAt, IsWriteTo, PassesFrom, PassesHere, PassesWith, SealsOwn, StopsWithin, before_read, rows_in}
 use Rattle.ob_shell.specs.declared.keeping.KeptEnding.{KeptEnding}
 use Rattle.ob_shell.specs.declared.keeping.KeptEnding.TheVariants.{Plain}
 use Rattle.ob_shell.specs.declared.top.Ending.{Ending}
@@ -72,14 +74,14 @@ use Rattle.ob_shell.proofs.TopLemmas.{nothing_over, took_none}
 
 -- ---- what an engine stands on
 -- from no tables
-nothing_held : {R : Type 0} (state : R → RevState) (first : Engine R) (s : StoreState) (config : Config) → public_of first ≡ public_by config → Represents state first s []
+nothing_held : {R : Type 0} (state : R → RevState) (first : Engine R) (s : StoreState) (config : Config) → public_of first ≡ first_public config → Represents state first s []
 nothing_held state first s config is =
     record { held = subst (λ (p : Public). AreHeld p.pack p.tables [] (world_of state first s)) (sym is) tt; in_place = tt }
 
 pub none_asked : {R : Type 0} (first : Engine R) (s : StoreState) → engine_start first ≡ from_nothing → s.asked ≡ [] → count_of first s ≡ 0
 none_asked first s from none = omega (arith, ap earlier from, earlier_nothing, ap length none)
 
-session_is : {R : Type 0} (config : Config) (first : Engine R) (s : StoreState) → public_of first ≡ public_by config → engine_start first ≡ from_nothing → s.asked ≡ []
+session_is : {R : Type 0} (config : Config) (first : Engine R) (s : StoreState) → public_of first ≡ first_public config → engine_start first ≡ from_nothing → s.asked ≡ []
     → session_of (machine_of first s) [] ≡ start (Some config)
 session_is config first s is from none = let unasked = none_asked first s from none in λ i. record { public = is i; tables = []; asked = unasked i }
 
@@ -87,7 +89,7 @@ not_used : (asked : List Access) (high : ℕ) → asked ≡ [] → IsUsed asked 
 not_used asked high none some = let any : IsTrue (list_any is_of_rows []) = subst (λ (xs : List Access). IsTrue (list_any is_of_rows xs)) none some in absurd (cc any)
 
 -- an engine that was just started
-pub stands_first : {R : Type 0} (state : R → RevState) (config : Config) (key : List ℕ) (first : Engine R) (s : StoreState) → public_of first ≡ public_by config → first.vault.keys ≡ keys_of key
+pub stands_first : {R : Type 0} (state : R → RevState) (config : Config) (key : List ℕ) (first : Engine R) (s : StoreState) → public_of first ≡ first_public config → first.vault.keys ≡ keys_of key
     → engine_start first ≡ from_nothing → rows_of first ≡ config.buffer → IsFresh s → IsSteady s → StandsOn state (fresh (Some config)) config key first s
 stands_first state config key first s is keyed from rows blank steady =
     let nothing = nothing_held state first s config is in
@@ -104,7 +106,8 @@ stands_first state config key first s is keyed from rows blank steady =
       calm = first_calm state first s blank.honest;
       used = not_used s.asked (high_of first) blank.unasked;
       held = nothing;
-      sealed = λ tells good passes. none_sealed state (λ r. good) first s blank.empty;
+      earlier = λ region above. blank.empty region;
+      sealed = λ tells good passes scope few. none_sealed state (λ r. good) scope first s (λ q from. blank.empty q);
       passes = λ good passes. passes;
       early = λ n before. (
         record {
@@ -118,11 +121,12 @@ stands_first state config key first s is keyed from rows blank steady =
     }
 
 -- each block of a live region is sealed
-sealed_at : (good : List ℕ → Bool) (v : VaultState) (s : StoreState) (region place : ℕ) (block : List ℕ) (keys : KeySet) (start : Start) → v.start ≡ start → v.keys ≡ keys
-    → SealedAt (λ r. good) (record { vault = v; store = s }) region place block → IsSealedAt good keys start s.asked region place block
-sealed_at good v s region place block keys start from same at = record {
+sealed_at : (good : List ℕ → Bool) (v : VaultState) (first : ℕ) (s t : StoreState) (region place : ℕ) (block : List ℕ) (keys : KeySet) (start : Start) → v.start ≡ start → v.keys ≡ keys
+    → SealedAt (λ r. good) (record { from = first; below = next_fault s }) (record { vault = v; store = t }) region place block → IsSealedAt good keys start s t region place block
+sealed_at good v first s t region place block keys start from same at = record {
   number = at.number;
-  written = subst (λ (x : Start). IsWriteTo x s.asked region place at.number) from at.went;
+  written = subst (λ (x : Start). IsWriteTo x t.asked region place at.number) from at.went;
+  newest = λ none. at.newest (elim (cases_lt t.faults (next_fault s)) [ inl below ↦ below | inr past ↦ absurd (none past) ]) ∙ ap (λ (x : Start). number_after x t.asked region place) from;
   clear = at.rows;
   sealed = at.is ∙ ap (λ (k : KeySet). sealed k (at_of region place at.number) at.rows) same;
   passes = at.fine;
@@ -226,16 +230,39 @@ module _ {R : Type 0} {state : R → RevState} {Lost : Type 0} (base : Base) (co
   tells_on tells = steps_tell state m0 ran.middle ran.served ran.answers ran.steps tells
 
   abbrev AreSealed : Session → Type 0
-  AreSealed x = (good : List ℕ → Bool) → PassesFrom base good → AllSealed (λ r. good) (world_of state first s0)
+  AreSealed x = (good : List ℕ → Bool) → PassesFrom base good → (scope : Scope) → scope.below ≤ next_fault s0 → AllSealed (λ r. good) scope (world_of state first s0)
 
-  all_sealed : IsTrue s0.tells → ((good : List ℕ → Bool) → PassesFrom base good → AllSealed (λ r. good) (world_of state first s0)) → IsSealed (PassesFrom base) (keys_of key) base.start s1
-  all_sealed tells sealed = record {
-    each = λ region place block lives held good passes.
+  -- blocks of these regions, until a call fails
+  abbrev from_on : ℕ → Scope
+  from_on region = record { from = region; below = next_fault s0 }
+
+  -- none of them is live yet, if they are those that this run makes
+  own_sealed : (good : List ℕ → Bool) → AllSealed (λ r. good) (from_on (base.start.region + 1)) (world_of state first s0)
+  own_sealed good = none_sealed state (λ r. good) (from_on (base.start.region + 1)) first s0 (λ q above. on.earlier q (omega (arith, above)))
+
+  accepts_here : (good : List ℕ → Bool) → PassesHere base good → AcceptsRows (λ r. good) config.pack
+  accepts_here good passes = subst (λ (k : ℕ). AcceptsRows (λ r. good) k) on.pack passes.0
+
+  last_all : (good : List ℕ → Bool) (from : ℕ) → AcceptsRows (λ r. good) config.pack → AcceptsRows (λ r. good) 1 → IsTrue s0.tells
+      → AllSealed (λ r. good) (from_on from) (world_of state first s0) → AllSealed (λ r. good) (from_on from) (world_of state last s1)
+  last_all good from accepts single tells sealed =
+      let later = steps_later state m0 ran.middle ran.served ran.answers ran.steps in
+      last_sealed state config (λ r. good) (from_on from) accepts single ran.middle m2 ran.more ran.part result ran.last middle_sizes (omega (arith, later.faults)) (tells_on tells)
+      (steps_sealed state config (λ r. good) (from_on from) accepts single m0 ran.middle ran.served ran.answers ran.steps sizes (omega arith) tells sealed)
+
+  seals_own : SealsOwn (PassesHere base) base (keys_of key) s0 s1
+  seals_own tells = record {
+    each = λ region place block from lives held good passes.
+        sealed_at good (world_of state last s1).vault (base.start.region + 1) s0 s1 region place block (keys_of key) base.start start_is keys_are
+        ((last_all good (base.start.region + 1) (accepts_here good passes) passes.1 tells (own_sealed good)).all region place block from lives held);
+  }
+
+  all_sealed : IsTrue s0.tells → ((tables : Tables) → AreSealed (session_at base tables) → IsSealed (PassesFrom base) (keys_of key) base.start 0 s0 s1)
+  all_sealed tells tables sealed = record {
+    each = λ region place block from lives held good passes.
         let accepts = on.passes good passes in
-        sealed_at good (world_of state last s1).vault s1 region place block (keys_of key) base.start start_is keys_are
-        ((last_sealed state config (λ r. good) accepts.0 accepts.1 ran.middle m2 ran.more ran.part result ran.last middle_sizes (tells_on tells)
-        (steps_sealed state config (λ r. good) accepts.0 accepts.1 m0 ran.middle ran.served ran.answers ran.steps sizes tells
-        (sealed good passes))).all region place block lives held);
+        sealed_at good (world_of state last s1).vault 0 s0 s1 region place block (keys_of key) base.start start_is keys_are
+        ((last_all good 0 accepts.0 accepts.1 tells (sealed good passes (from_on 0) (omega arith))).all region place block from lives held);
   }
 
   here : (tables : Tables) → session_of m0 tables ≡ session_at base tables
@@ -263,7 +290,8 @@ module _ {R : Type 0} {state : R → RevState} {Lost : Type 0} (base : Base) (co
         let from = walk.meant undeceived.tells on.calm (record { unfit = λ lie is fits. undeceived.unfit lie is (fits_here lie fits) }) tables held in
         (from.0, subst (λ (s : Session). Answers (RanEnding result) s walk.spelt from.0 ran.answers all ran.part) (here tables) from.1)) on.held;
     tampered = λ lie is unfit. meets result (world_of state last s1) lie met is (λ fits. unfit (fits_here lie fits));
-    sealed = λ tells. from_each base AreSealed (λ x. IsSealed (PassesFrom base) (keys_of key) base.start s1) (λ tables sealed. all_sealed tells sealed) (on.sealed tells);
+    sealed = seals_own;
+    sealed_before = λ tells. from_each base AreSealed (λ x. IsSealed (PassesFrom base) (keys_of key) base.start 0 s0 s1) (all_sealed tells) (on.sealed tells);
     untampered = from_each base (λ x. Represents state first s0 x.tables) (λ x. IsHonest s0 s1 → EndsUntampered (RanEnding result))
         (λ tables held honest. walk.untampered honest.tells tables held honest.no_lie) on.held;
     at_read = λ region place is. let stopped : result ≡ Err (Tampered region place) = cc is in
@@ -301,11 +329,6 @@ module _ {R : Type 0} {state : R → RevState} {Lost : Type 0} (base : Base) (co
   ending_is : (tally : Tally) → told ≡ Ok tally → RanEnding result ≡ RanEnding (Ok (has_refused tally))
   ending_is tally is = ap (λ (r : Result Tally Stop). RanEnding (flagged r)) is
 
-  last_all : (good : List ℕ → Bool) → PassesFrom base good → AllSealed (λ r. good) (world_of state first s0) → IsTrue s0.tells → AllSealed (λ r. good) (world_of state last s1)
-  last_all good passes sealed tells =
-      last_sealed state config (λ r. good) (on.passes good passes).0 (on.passes good passes).1 ran.middle m2 ran.more ran.part result ran.last middle_sizes (tells_on tells)
-      (steps_sealed state config (λ r. good) (on.passes good passes).0 (on.passes good passes).1 m0 ran.middle ran.served ran.answers ran.steps sizes tells sealed)
-
   module _ (tally : Tally) (is : told ≡ Ok tally) (from : opened_from first ≡ region_opened base.opened) (s2 : StoreState) (r : Result Mark CloseErr) (closes : ClosesEngine state r last s1 s2) where
     abbrev closing : Closing
     closing = next_closing last s1
@@ -330,15 +353,17 @@ module _ {R : Type 0} {state : R → RevState} {Lost : Type 0} (base : Base) (co
               (subst (λ (x : Session). Rests (engine_keys last) closing s2.kept (by_name (after_all x walk.spelt from_it.0).tables)) (here tables) rest),
         )
 
-    sealed_last : IsTrue s0.tells → ((good : List ℕ → Bool) → PassesFrom base good → AllSealed (λ r. good) (world_of state first s0)) → IsSealed (PassesBoth base.public.pack) (keys_of key) base.start s2
-    sealed_last tells sealed = record {
-      each = λ region place block lives held good both.
-          let passes = passes_from base good both in
+    sealed_last : (from : ℕ) → IsTrue s0.tells → ((good : List ℕ → Bool) → PassesBoth base.public.pack good → AllSealed (λ r. good) (from_on from) (world_of state first s0))
+        → IsSealed (PassesBoth base.public.pack) (keys_of key) base.start from s0 s2
+    sealed_last from tells sealed = record {
+      each = λ region place block above lives held good both.
+          let accepts = accepts_here good both.0 in
           let pack_is : config.pack ≡ (public_of last).pack = sym (last_sizes tally is).pack in
-          let accepts = subst (λ (k : ℕ). AcceptsRows (λ r. good) k) pack_is (on.passes good passes).0 in
+          let accepts_last = subst (λ (k : ℕ). AcceptsRows (λ r. good) k) pack_is accepts in
           let tells_last : IsTrue s1.tells = subst (λ (b : Bool). IsTrue b) (sym lasting.tells) tells in
-          sealed_at good (world_of state last s2).vault s2 region place block (keys_of key) base.start start_is keys_are
-          ((closes.sealed (λ r. good) accepts both.1 tells_last (last_all good passes (sealed good passes) tells)).all region place block lives held);
+          sealed_at good (world_of state last s2).vault from s0 s2 region place block (keys_of key) base.start start_is keys_are
+          (((closes.sealed (λ r. good) accepts_last both.1).seals (from_on from) (omega (arith, lasting.faults)) tells_last
+          (last_all good from accepts both.0.1 tells (sealed good both))).all region place block above lives held);
     }
 
     pub closed_behind : (tracing : Bool) (ended : KeptEnding) (t1 t2 : Option (List ℕ)) (fault1 fault2 : ℕ) (k1 k2 : KeeperState) (done : Traced tracing s1.asked s2.asked t1 t2 (Rises fault1 fault2)) → fault1 ≤ fault2
@@ -362,7 +387,9 @@ module _ {R : Type 0} {state : R → RevState} {Lost : Type 0} (base : Base) (co
       rests = λ honest left mark closed. from_each base (λ x. Represents state first s0 x.tables)
           (λ x. (broken : Broken) × Answers (RanEnding (Ok (has_refused tally))) x walk.spelt broken ran.answers all ran.part × Rests (keys_of key) closing s2.kept (by_name (after_all x walk.spelt broken).tables))
           (λ tables held. rests_last tables honest left mark closed held) on.held;
-      sealed = λ tells. from_each base AreSealed (λ x. IsSealed (PassesBoth base.public.pack) (keys_of key) base.start s2) (λ tables sealed. sealed_last tells sealed) (on.sealed tells);
+      sealed = λ tells. sealed_last (base.start.region + 1) tells (λ good both. own_sealed good);
+      sealed_before = λ tells. from_each base AreSealed (λ x. IsSealed (PassesBoth base.public.pack) (keys_of key) base.start 0 s0 s2)
+          (λ tables sealed. sealed_last 0 tells (λ good both. sealed good (passes_from base good both) (from_on 0) (omega arith))) (on.sealed tells);
     }
 
   unfoldable pub ran_after : RanAfter state tr base (Some key) f0 f1 l0 l1 gave w0 w1 s0 s1 high Lost told

@@ -3,7 +3,7 @@ use Rattle.std.proofs.Common.{◌≡◌, ◌≢◌, ℕ, ◌≤◌, ◌==◌, mi
 use Rattle.std.specs.List.{list_any}
 use Rattle.std.specs.Prelude.{IfOk}
 use Rattle.std.specs.Io.KnownBytes.{Appends}
-use Rattle.std.proofs.KnownBytes.{Appends-nil, Appends-trans, Consumes-trans, Consumes-nil}
+use Rattle.std.proofs.KnownBytes.{Appends-nil, Consumes-trans, Consumes-nil}
 use Rattle.ob_base.specs.Counts.{Rises}
 use Rattle.ob_base.specs.declared.access.Access.{Access}
 use Rattle.ob_base.specs.declared.refusal.Stop.{Stop}
@@ -95,7 +95,8 @@ unstarted tr settings secret s more ending blank untraced untampered = record {
   unfailed = λ not. refl;
   meant = λ undeceived. ([], (refl, refl));
   tampered = λ lie is unfit. absurd (cc (blank.honest, is));
-  sealed = λ tells. record { each = λ region place block lives last good passes. absurd (lives (blank.empty region)) };
+  sealed = λ tells. record { each = λ region place block from lives last good passes. absurd (lives (blank.empty region)) };
+  sealed_before = λ tells. record { each = λ region place block from lives last good passes. absurd (lives (blank.empty region)) };
   untampered = λ honest. untampered;
   at_read = λ region place is. absurd (subst (λ (e : Ending). EndsUntampered e) is untampered);
   most_open = omega arith;

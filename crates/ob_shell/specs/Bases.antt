@@ -11,14 +11,13 @@ use Rattle.ob_mean.specs.Verdict.{Tables}
 use Rattle.ob_reopen.specs.declared.closing.Closing.{Closing}
 use Rattle.ob_reopen.specs.declared.listed.Listed.{Listed}
 use Rattle.ob_seal.specs.KeySet.{KeySet}
-use Rattle.ob_shell.specs.Settings.{public_by}
 use Rattle.ob_store.specs.State.{Disturbance, StoreState}
 use Rattle.ob_vault.specs.State.{Start, earlier, from_nothing}
 
 -- what is public before the first statement, where there are no tables; without settings none is served
 abbrev pub public_with : Option Config → Public
-public_with None = first_public 0 0 0 None None
-public_with (Some config) = public_by config
+public_with None = first_public (record { buffer = 0; depth = 0; pack = 0; plan = None; pad = None; max_input = 0 })
+public_with (Some config) = first_public config
 
 -- the model's session without tables
 abbrev pub start : Option Config → Session

@@ -17,7 +17,7 @@ use Rattle.ob_shell.specs.KeyLine.{after_line}
 use Rattle.ob_shell.specs.Settings.{limit_of}
 use Rattle.ob_shell.specs.Texts.{texts_in}
 use Rattle.ob_shell.specs.Tracing.{traced}
-use Rattle.ob_shell.specs.Words.{Answer, Answers, AreSeen, Because, Begins, HasSecret, IsCompleted, IsHonest, IsSealed, IsUndeceived, KeepsLimits, Outside, PassesFrom, SinksRose, SpellFirst, StopsWithin, Took, any_cut, before_read, keys_in, printed, rows_in, statements}
+use Rattle.ob_shell.specs.Words.{Answer, Answers, AreSeen, Because, Begins, HasSecret, IsCompleted, IsHonest, IsUndeceived, KeepsLimits, Outside, PassesFrom, PassesHere, SealsEach, SealsOwn, SinksRose, SpellFirst, StopsWithin, Took, any_cut, before_read, keys_in, printed, rows_in, statements}
 use Rattle.ob_shell.specs.declared.top.Ending.{Ending}
 use Rattle.ob_shell.specs.declared.top.Ending.TheVariants.{Ran}
 use Rattle.ob_shell.specs.declared.top.Report.{Report}
@@ -90,9 +90,10 @@ pub record Headline (base : Base) (Takes : Type 0) (tracing : Bool)
   pub later : Later old.store new.store
   pub always : IsTrue old.store.tells → (n : ℕ) → IsBefore (said_of base.opened old.store) n
       → Until base.settings n spelt answers (seen ++ last) new.store.asked
-  -- SEALING. Of a store that tells what it holds no block of a live region lies in clear.
-  pub sealed : IsTrue old.store.tells → FromEach base
-      (λ s. IsSealed (PassesFrom base) (keys_in taken) base.start new.store)
+  -- SEALING. Of a store that tells what it holds no block lies in clear of a live region that was made in this run; and of
+  -- none at all, where the tables that the statements go on from rested.
+  pub sealed : SealsOwn (PassesHere base) base (keys_in taken) old.store new.store
+  pub sealed_before : SealsEach (PassesFrom base) base (keys_in taken) old.store new.store
   -- OPEN ROWS. Never more than the settings say, and at least one where a block was read or written.
   pub most_open : report.high ≤ rows_in base.settings
   pub some_open : IsTrue (list_any is_of_rows new.store.asked) → 1 ≤ report.high

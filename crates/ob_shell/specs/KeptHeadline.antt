@@ -1,5 +1,5 @@
 -- The headline of a run whose tables are kept: an opening, a session that goes on from it, and a closing.
-use Rattle.std.specs.Prelude.{ℕ, ◌≡◌, ◌≢◌, ◌≤◌, ◌⊎◌, min, ⊤, Bool, false, IsTrue, List, [], ◌++◌, length, Option, Some, Ok, Err}
+use Rattle.std.specs.Prelude.{ℕ, ◌≡◌, ◌≢◌, ◌≤◌, ◌⊎◌, min, ⊤, Bool, false, List, [], ◌++◌, length, Option, Some, Ok, Err}
 use Rattle.std.specs.Io.KnownBytes.{Consumes}
 use Rattle.ob_base.specs.declared.config.Config.{Config}
 use Rattle.ob_base.specs.declared.mark.Mark.{Mark}
@@ -19,7 +19,7 @@ use Rattle.ob_shell.specs.Keeping.{Began, Closes, NotBegun, closing_behind, kept
 use Rattle.ob_shell.specs.KeyLine.{after_line, first_line, has_lf, secret_of}
 use Rattle.ob_shell.specs.Texts.{texts_in}
 use Rattle.ob_shell.specs.Tracing.{traced}
-use Rattle.ob_shell.specs.Words.{Answer, Answers, Begins, IsHonest, IsSealed, Outside, PassesRows, SinksRose, before_read, outside_of}
+use Rattle.ob_shell.specs.Words.{Answer, Answers, Begins, IsHonest, Outside, PassesRows, SealsEach, SealsOwn, SinksRose, before_read, outside_of}
 use Rattle.ob_shell.specs.declared.keeping.KeptEnding.{KeptEnding}
 use Rattle.ob_shell.specs.declared.keeping.KeptEnding.TheVariants.{Plain}
 use Rattle.ob_shell.specs.declared.top.Ending.{Ending}
@@ -100,8 +100,8 @@ pub record ClosesTables (base : Base) (keys : KeySet) (tracing refused : Bool) (
       × Answers (Ran (Ok refused)) s spelt broken answers all part
       × Rests keys closing new.kept (by_name (after_all s spelt broken).tables))
   -- and no block of a live region lies in clear, of the closing neither
-  pub sealed : IsTrue begun.tells → FromEach base
-      (λ s. IsSealed (PassesBoth base.public.pack) keys base.start new)
+  pub sealed : SealsOwn (PassesBoth base.public.pack) base keys begun new
+  pub sealed_before : SealsEach (PassesBoth base.public.pack) base keys begun new
 
 -- that is all; the input is not read on, and nothing is written but the last line
 pub record IsClosed (base : Base) (keys : KeySet) (tracing refused : Bool) (spelt : List Spelt)

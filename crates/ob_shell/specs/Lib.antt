@@ -29,3 +29,4 @@ pub mod Closed
 pub mod Meddling
 pub mod Disturbed
 pub mod Reruns
+pub mod Plainly

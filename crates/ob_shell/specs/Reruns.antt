@@ -1,6 +1,7 @@
--- When two runs ask the same.
-use Rattle.std.specs.Prelude.{ℕ, ◌≡◌, ◌≤◌, ◌+◌, ◌⊎◌, ◌||◌, ⊤, Bool, true, false, List, [], ◌∷◌, ◌++◌, length, IsSome, IsTrue, None, is_some}
-use Rattle.clap.specs.Words.{Text}
+-- What runs ask, and when two of them ask the same.
+use Rattle.std.specs.Prelude.{ℕ, ◌≡◌, ◌≤◌, ◌+◌, ◌⊎◌, ◌&&◌, ◌||◌, ⊤, Bool, true, false, not, if◌then◌else◌, List, [], ◌∷◌, ◌++◌, length, IsSome, IsTrue, Option, Some, None, is_some}
+use Rattle.clap.specs.Words.{App, Text}
+use Rattle.ob_base.specs.declared.access.Access.{Access}
 use Rattle.ob_base.specs.declared.config.Public.{Public}
 use Rattle.ob_base.specs.declared.seen.End.TheVariants.{Static, Whole}
 use Rattle.ob_base.specs.declared.seen.Seen.{Seen}
@@ -11,7 +12,7 @@ use Rattle.ob_script.specs.Trace.{Served, next, trace}
 use Rattle.ob_shell.specs.Bases.{Base, fresh}
 use Rattle.ob_shell.specs.Failures.{failures}
 use Rattle.ob_shell.specs.Headline.{Headline}
-use Rattle.ob_shell.specs.Settings.{IsTaken, settings_of}
+use Rattle.ob_shell.specs.Settings.{IsTaken, MeddleParses, settings_of}
 use Rattle.ob_shell.specs.Usage.{is_traced, usage}
 use Rattle.ob_shell.specs.Words.{Begins, Outside, statements}
 use Rattle.ob_shell.specs.declared.top.Report.{Report}
@@ -23,6 +24,54 @@ abbrev pub ShellRun : List Text → (old new : Outside) → Report → Type 0
 ShellRun words old new report =
     Headline (fresh (settings_of usage words)) (IsTaken usage words) (is_traced usage words)
     old new report
+
+-- ---- one run, by the words of any program and from any base
+-- a program takes these words, or the one does over whose store others do what the words say
+abbrev pub TakesWords : Option App → List Text → Type 0
+TakesWords None words = MeddleParses words
+TakesWords (Some app) words = IsTaken app words
+
+pub record SomeRun : Type 0 where
+  pub base : Base
+  pub app : Option App
+  pub words : List Text
+  pub tracing : Bool
+  pub old : Outside
+  pub new : Outside
+  pub report : Report
+  pub run : Headline base (TakesWords app words) tracing old new report
+
+-- a run of `shell_top`
+abbrev pub shell_run : {words : List Text} {old new : Outside} {report : Report}
+    → ShellRun words old new report → SomeRun
+shell_run {words} {old} {new} {report} run = record {
+  base = fresh (settings_of usage words);
+  app = Some usage;
+  words = words;
+  tracing = is_traced usage words;
+  old = old;
+  new = new;
+  report = report;
+  run = run;
+}
+
+abbrev pub stmts_of : SomeRun → List Stmt
+stmts_of one = statements one.run.spelt
+
+abbrev pub seen_by : SomeRun → List Served
+seen_by one = one.run.seen ++ one.run.last
+
+abbrev pub asked_by : SomeRun → List Access
+asked_by one = one.new.store.asked
+
+abbrev pub failures_of : SomeRun → ℕ
+failures_of one = failures one.run.answers
+
+-- two runs go on from the same: what is public, and how much was asked
+pub record GoOnFromOne (a b : SomeRun) : Type 0 where
+  pub public : a.base.public ≡ b.base.public
+  pub count : a.base.count ≡ b.base.count
+  pub before : a.base.before ≡ b.base.before
 
 -- a run that came to its end, and of which no text was answered that the store failed
 pub record EndsWell (status : ℕ) (failures : ℕ) : Type 0 where
@@ -83,6 +132,45 @@ shown_plainly p m (stmt ∷ stmts) =
 -- none of them is a SELECT of rows, or results are padded
 abbrev pub ArePlain : Public → List Stmt → Type 0
 ArePlain p stmts = (any_counted stmts ≡ false) ⊎ IsSome p.pad
+
+-- what is seen of a statement that isn't cut off: where it is a SELECT of rows and results aren't padded what was seen of
+-- it, and else what follows from its early refusal
+abbrev pub shown_as : Public → ℕ → Stmt → Seen → Served
+shown_as p m stmt seen = record {
+  skeleton = skeleton stmt;
+  seen = if is_counted stmt && not (is_some p.pad) then seen else plainly p m stmt;
+}
+
+-- what is seen of statements of which none is cut off, but for such a SELECT
+unfoldable pub shown : Public → ℕ → List Stmt → List Served → List Served
+shown p m [] xs = []
+shown p m (stmt ∷ stmts) [] = []
+shown p m (stmt ∷ stmts) (x ∷ xs) =
+    shown_as p m stmt x.seen
+    ∷ shown (next p (skeleton stmt) (shown_as p m stmt x.seen).seen)
+    (m + length (script p (skeleton stmt) (shown_as p m stmt x.seen).seen)) stmts xs
+
+-- as far as both go two lists of statements show the same: their skeletons are the same, the same ones are refused before
+-- any access, and of each SELECT of rows that isn't padded the same is seen
+unfoldable pub AlikeSoFar : Public → ℕ → List Stmt → List Served → List Stmt → List Served → Type 0
+AlikeSoFar p m [] xs qs ys = ⊤
+AlikeSoFar p m (a ∷ ps) xs [] ys = ⊤
+AlikeSoFar p m (a ∷ ps) [] (b ∷ qs) ys = ⊤
+AlikeSoFar p m (a ∷ ps) (x ∷ xs) (b ∷ qs) [] = ⊤
+AlikeSoFar p m (a ∷ ps) (x ∷ xs) (b ∷ qs) (y ∷ ys) =
+    (shown_as p m a x.seen ≡ shown_as p m b y.seen)
+    × AlikeSoFar (next p (skeleton a) (shown_as p m a x.seen).seen)
+    (m + length (script p (skeleton a) (shown_as p m a x.seen).seen)) ps xs qs ys
+
+-- one of them is a first part of the other
+abbrev pub OneBegins : {A : Type 0} → (xs ys : List A) → Type 0
+OneBegins xs ys = Begins xs ys ⊎ Begins ys xs
+
+-- a run asks a first part of one list, behind what it begins with: of the accesses that follow from the skeletons of its
+-- statements, from which are refused before any access, and from what is seen of its SELECTs of rows that aren't padded
+abbrev pub AsksAsShown : SomeRun → Type 0
+AsksAsShown one = Begins (asked_by one) (one.base.before
+    ++ trace one.base.public (shown one.base.public one.base.count (stmts_of one) (seen_by one)))
 
 -- if no text of a run was answered that the store failed, and none of its statements is a SELECT of rows or results are
 -- padded, what it asks is a first part of one list, however it ends: behind what it begins with, of the accesses that

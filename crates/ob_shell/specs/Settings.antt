@@ -1,11 +1,9 @@
 -- The settings of a run that the words of its command line spell.
 use Rattle.std.specs.Prelude.{ℕ, ◌≡◌, ◌≤◌, ◌+◌, ◌*◌, ◌&&◌, nat_le, Bool, true, false, List, Option, Some, None, IsSome, option_map, codes, bytes_eq, if◌then◌else◌}
 use Rattle.clap.specs.Words.{App, Text}
-use Rattle.ob_base.specs.Publics.{first_public}
 use Rattle.ob_base.specs.declared.config.Config.{Config}
 use Rattle.ob_base.specs.declared.config.Plan.{Plan}
 use Rattle.ob_base.specs.declared.config.Plan.TheVariants.{Small, Large, Continuous, Hash}
-use Rattle.ob_base.specs.declared.config.Public.{Public}
 use Rattle.ob_exec.specs.Engines.{IsConfig}
 use Rattle.ob_meddle.specs.Changes.{comma, front, number, rest, wide}
 use Rattle.ob_meddle.specs.declared.meddle.Meddle.{Meddle}
@@ -168,10 +166,6 @@ pub record AreWithin (config : Config) : Type 0 where
   pub input : 1024 ≤ config.max_input
 
 -- ---- what settings set
-
--- what is public before the first statement
-abbrev pub public_by : Config → Public
-public_by config = first_public config.buffer config.depth config.pack config.plan config.pad
 
 -- as many bytes of the input are read, at most: none without settings
 abbrev pub limit_of : Option Config → ℕ

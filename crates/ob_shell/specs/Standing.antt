@@ -1,5 +1,5 @@
 -- The engine with which a run goes on from a base.
-use Rattle.std.specs.Prelude.{ℕ, ◌≡◌, ◌≤◌, Bool, IsTrue, List, [], Option, Some}
+use Rattle.std.specs.Prelude.{ℕ, ◌≡◌, ◌≤◌, ◌<◌, Bool, IsTrue, List, [], Option, None, Some}
 use Rattle.std.specs.List.{list_any}
 use Rattle.ob_base.specs.declared.access.Access.{Access}
 use Rattle.ob_base.specs.declared.config.Config.{Config}
@@ -14,7 +14,7 @@ use Rattle.ob_shell.specs.Words.{PassesFrom}
 use Rattle.ob_store.specs.Calls.{IsBefore, IsSteady}
 use Rattle.ob_store.specs.State.{StoreState}
 use Rattle.ob_vault.specs.State.{RevState}
-use Rattle.ob_vault.specs.Tied.{AllSealed, Calm}
+use Rattle.ob_vault.specs.Tied.{AllSealed, Calm, Scope, next_fault}
 
 -- where a block was read or written, at least one row was open
 abbrev pub IsUsed : List Access → ℕ → Type 0
@@ -43,8 +43,10 @@ pub record StandsOn {R : Type 0} (state : R → RevState) (base : Base) (config 
   pub calm : Calm (world_of state e s)
   pub used : IsUsed s.asked (high_of e)
   pub held : FromEach base (λ x. Represents state e s x.tables)
+  pub earlier : (region : ℕ) → base.start.region < region → s.live region ≡ None
   pub sealed : IsTrue s.tells → FromEach base (λ x. (good : List ℕ → Bool)
-      → PassesFrom base good → AllSealed (λ r. good) (world_of state e s))
+      → PassesFrom base good → (scope : Scope) → scope.below ≤ next_fault s
+      → AllSealed (λ r. good) scope (world_of state e s))
   pub passes : (good : List ℕ → Bool) → PassesFrom base good
       → AcceptsRows (λ r. good) config.pack × AcceptsRows (λ r. good) 1
   pub early : (n : ℕ) → IsBefore (said_of base.opened s) n

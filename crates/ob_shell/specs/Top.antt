@@ -31,7 +31,7 @@ use Rattle.ob_gen.specs.declared.tally.Tally.{Tally}
 use Rattle.ob_shell.specs.Tallies.{TallyIs, flagged, tally_of}
 use Rattle.ob_shell.specs.Texts.{texts_in}
 use Rattle.ob_shell.specs.Tracing.{traced}
-use Rattle.ob_shell.specs.Words.{Answer, Answers, AreSeen, Begins, EndsAtRead, Faults, HasSecret, IsCompleted, IsHonest, IsSealed, IsUndeceived, KeepsLimits, NoneRose, PassesFrom, ReadToLimit, ReadUntilFault, ReadWhole, SinksRose, SpellFirst, StopsWithin, Took, any_cut, before_read, printed, rows_in, statements}
+use Rattle.ob_shell.specs.Words.{Answer, Answers, AreSeen, Begins, EndsAtRead, Faults, HasSecret, IsCompleted, IsHonest, IsUndeceived, KeepsLimits, NoneRose, PassesFrom, PassesHere, ReadToLimit, ReadUntilFault, ReadWhole, SealsEach, SealsOwn, SinksRose, SpellFirst, StopsWithin, Took, any_cut, before_read, printed, rows_in, statements}
 use Rattle.ob_shell.specs.declared.top.Ending.{Ending}
 use Rattle.ob_shell.specs.declared.top.Ending.TheVariants.{Usage, BadKey, Ran}
 use Rattle.ob_shell.specs.declared.top.Report.{Report}
@@ -86,8 +86,8 @@ pub record Carried (tr : TraceSink) (base : Base) (secret : Option (List ℕ))
   pub tampered : (lie : Lie) → store1.lie ≡ Some lie → ¬ Fits (keys_with secret) base.start lie
       → (ending ≡ Ran (Err (Tampered lie.region lie.place)))
       × (store1.asked ≡ lie.before ++ Read lie.region lie.place ∷ [])
-  pub sealed : IsTrue store0.tells → FromEach base
-      (λ s. IsSealed (PassesFrom base) (keys_with secret) base.start store1)
+  pub sealed : SealsOwn (PassesHere base) base (keys_with secret) store0 store1
+  pub sealed_before : SealsEach (PassesFrom base) base (keys_with secret) store0 store1
   pub untampered : FromEach base (λ s. IsHonest store0 store1 → EndsUntampered ending)
   pub at_read : (region place : ℕ) → ending ≡ Ran (Err (Tampered region place))
       → EndsAtRead region place store1.asked

@@ -27,7 +27,7 @@ use Rattle.ob_exec.specs.declared.outcome.Outcome.{Outcome}
 use Rattle.ob_exec.specs.declared.outcome.Outcome.TheVariants.{Refused}
 use Rattle.ob_mean.specs.Lawful.{Lawful}
 use Rattle.ob_mean.specs.Prints.{Prints, Unfinished, labels_of}
-use Rattle.ob_mean.specs.Refusals.{early_refusal}
+use Rattle.ob_mean.specs.Refusals.{early_refusal, limits_of}
 use Rattle.ob_mean.specs.Replay.{Session, Spelt, Broken, IsCutOff, after, cut_at, head_of, rest_of, seen_now, seen_or_cut}
 use Rattle.ob_mean.specs.Verdict.{is_late, verdict}
 use Rattle.ob_mean.specs.declared.answer.Answer.{Answer as Meaning}
@@ -50,6 +50,7 @@ use Rattle.ob_sql.specs.Skeleton.{skeleton}
 use Rattle.ob_sql.specs.declared.stmt.Stmt.{Stmt}
 use Rattle.ob_store.specs.State.{Lie, StoreState}
 use Rattle.ob_token.specs.Tokens.{tokens_of}
+use Rattle.ob_vault.specs.Numbers.{number_after}
 use Rattle.ob_vault.specs.State.{Start}
 use Rattle.ob_vault.specs.Tied.{Fits, at_of}
 
@@ -265,7 +266,7 @@ PrintsTo _ part text = part ≡ text
 -- a first part of its header and rows was emitted until then
 pub record StopsAt (ending : Ending) (s : Session) (stmt : Stmt) (here : Seen)
     (part : List ℕ) : Type 0 where
-  pub started : early_refusal (is_late s.asked) s.public.pack s.public.buffer (headings s.tables)
+  pub started : early_refusal (is_late s.asked) (limits_of s.public) (headings s.tables)
       stmt ≡ None
   pub n : ℕ
   pub within : n ≤ length (whole_script s.public (skeleton stmt) (seen_now s stmt))
@@ -317,27 +318,44 @@ PassesWith (Some o) pack good = PassesRows good pack × AcceptsClosings (λ regi
 abbrev pub PassesFrom : Base → (good : List ℕ → Bool) → Type 0
 PassesFrom base good = PassesWith base.opened base.public.pack good
 
+-- those of the tables pass it alone
+abbrev pub PassesHere : Base → (good : List ℕ → Bool) → Type 0
+PassesHere base good = PassesRows good base.public.pack
+
 -- the number of a write to a place: of one of these, which count on from an earlier run's, or of its last one there
 abbrev pub IsWriteTo : Start → List Access → (region place number : ℕ) → Type 0
 IsWriteTo start asked region place number =
     (nth_write (number - start.writes) asked ≡ Some (region, place))
     ⊎ ((number ≡ start.given region place) × (number ≢ 0))
 
--- a block is sealed under its place and the number of a write to it, and its clear bytes pass
-pub record IsSealedAt (good : List ℕ → Bool) (keys : KeySet) (start : Start) (asked : List Access)
-    (region place : ℕ) (block : List ℕ) : Type 0 where
+-- a block is sealed under its place and the number of a write to it, of the last one unless a call has failed, and its
+-- clear bytes pass
+pub record IsSealedAt (good : List ℕ → Bool) (keys : KeySet) (start : Start)
+    (old new : StoreState) (region place : ℕ) (block : List ℕ) : Type 0 where
   pub number : ℕ
-  pub written : IsWriteTo start asked region place number
+  pub written : IsWriteTo start new.asked region place number
+  pub newest : ¬ Rises old.faults new.faults
+      → number ≡ number_after start new.asked region place
   pub clear : List ℕ
   pub sealed : block ≡ sealed keys (at_of region place number) clear
   pub passes : IsTrue (good clear)
 
--- each block of a live region is, by every test that rows and dummies pass
+-- each block of a live region is, from this one on, by every test that rows and dummies pass
 pub record IsSealed (Passes : (List ℕ → Bool) → Type 0) (keys : KeySet) (start : Start)
-    (store : StoreState) : Type 0 where
-  pub each : (region place : ℕ) (block : List ℕ) → store.live region ≢ None
-      → store.last region place ≡ Some block → (good : List ℕ → Bool) → Passes good
-      → IsSealedAt good keys start store.asked region place block
+    (from : ℕ) (old new : StoreState) : Type 0 where
+  pub each : (region place : ℕ) (block : List ℕ) → from ≤ region → new.live region ≢ None
+      → new.last region place ≡ Some block → (good : List ℕ → Bool) → Passes good
+      → IsSealedAt good keys start old new region place block
+
+-- of the regions that were made in this run, over every store that tells what it holds
+abbrev pub SealsOwn : ((List ℕ → Bool) → Type 0) → Base → KeySet → (old new : StoreState) → Type 0
+SealsOwn Passes base keys old new =
+    IsTrue old.tells → IsSealed Passes keys base.start (base.start.region + 1) old new
+
+-- of all regions, where the tables that they go on from rested
+abbrev pub SealsEach : ((List ℕ → Bool) → Type 0) → Base → KeySet → (old new : StoreState) → Type 0
+SealsEach Passes base keys old new =
+    IsTrue old.tells → FromEach base (λ s. IsSealed Passes keys base.start 0 old new)
 
 -- ---- why a run ends
 -- the first line is a secret

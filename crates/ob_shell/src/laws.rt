@@ -1,5 +1,5 @@
 //! What follows of whole runs, and how bytes are cut into texts.
-ghost use Rattle.std.specs.Prelude.{◌≡◌, ◌++◌, Bool, List, [], ℕ, IsSome, Option, Some, false};
+ghost use Rattle.std.specs.Prelude.{◌≡◌, Bool, List, [], ℕ, IsSome, Option, Some, false};
 ghost use Rattle.clap.specs.Words.{App, Text};
 ghost use Rattle.ob_base.specs.declared.config.Public.{Public};
 ghost use Rattle.ob_base.specs.declared.mark.Mark.{Mark};
@@ -7,18 +7,18 @@ ghost use Rattle.ob_base.specs.declared.mark.Mark.TheVariants.{Fresh};
 ghost use Rattle.ob_base.specs.declared.seen.Seen.{Seen};
 ghost use Rattle.ob_mean.specs.Lawful.{Lawful};
 ghost use Rattle.ob_reopen.specs.Keepers.{KeeperState};
-ghost use Rattle.ob_shell.specs.Bases.{Base, public_with};
-ghost use Rattle.ob_shell.specs.Failures.{failures};
+ghost use Rattle.ob_shell.specs.Bases.{Base, FromEach};
 ghost use Rattle.ob_shell.specs.Headline.{Headline};
 ghost use Rattle.ob_shell.specs.KeptMarks.{HeldAfter, KeptRun};
 ghost use Rattle.ob_shell.specs.KeptRuns.{AnswerAsOne, AnyRun, AreChained, GoOn, NumberOn, OneRun};
 ghost use Rattle.ob_shell.specs.Pieces.{BeginsWith};
-ghost use Rattle.ob_shell.specs.Reruns.{Alike, AsksByKinds, EndsWell, IsPlain, ShellRun};
-ghost use Rattle.ob_shell.specs.Reruns.{ShowAlike, any_counted, plainly};
-ghost use Rattle.ob_shell.specs.Settings.{IsTaken, MeddleParses, settings_of};
+ghost use Rattle.ob_shell.specs.Plainly.{IsUnhindered, RunsPlainly};
+ghost use Rattle.ob_shell.specs.Reruns.{Alike, AlikeSoFar, AsksAsShown, AsksByKinds, EndsWell, GoOnFromOne, IsPlain};
+ghost use Rattle.ob_shell.specs.Reruns.{OneBegins, ShowAlike, SomeRun, any_counted, asked_by, failures_of, plainly};
+ghost use Rattle.ob_shell.specs.Reruns.{seen_by, stmts_of};
+ghost use Rattle.ob_shell.specs.Settings.{IsTaken, MeddleParses};
 ghost use Rattle.ob_shell.specs.Texts.{is_over, rest_of, texts_of};
-ghost use Rattle.ob_shell.specs.Usage.{usage};
-ghost use Rattle.ob_shell.specs.Words.{Outside, is_cut, statements};
+ghost use Rattle.ob_shell.specs.Words.{Outside, is_cut};
 ghost use Rattle.ob_shell.specs.declared.top.Report.{Report};
 ghost use Rattle.ob_sql.specs.declared.stmt.Stmt.{Stmt};
 ghost use Rattle.ob_store.specs.State.{KeptRegion};
@@ -40,48 +40,57 @@ pub fn shows_its_refusal_alone()
         → IsPlain p stmt → is_cut here.end ≡ false → here ≡ plainly p m stmt }
 {}
 
-/// Two runs of the program with the same settings, over any stores, that came to their end, and of which no text was
-/// answered that the store failed, ask the same, whatever their literals and their rows: if none of their statements is
-/// a SELECT of rows, their skeletons are the same, and the same ones are refused before any access.
-pub fn reruns_ask_the_same()
-    ensures { (words words_too : List Text) (old new old_too new_too : Outside)
-        (report report_too : Report)
-        (a : ShellRun words old new report) (b : ShellRun words_too old_too new_too report_too)
-        → settings_of usage words ≡ settings_of usage words_too
-        → EndsWell report.status (failures a.answers)
-        → EndsWell report_too.status (failures b.answers)
-        → any_counted (statements a.spelt) ≡ false
-        → Alike (public_with (settings_of usage words)) 0 (statements a.spelt) (statements b.spelt)
-        → new.store.asked ≡ new_too.store.asked }
+/// However a run ends and whatever the store does, as long as no text was answered that the store failed, its accesses are
+/// a first part of one list, which follows from the settings, the skeletons of the statements, which of these were refused
+/// before any access, and what is seen of SELECTs of rows whose results aren't padded: by the words of any program, from no
+/// tables or from those of an earlier run.
+pub fn asks_as_shown()
+    ensures { (one : SomeRun) → failures_of one ≡ 0 → AsksAsShown one }
 {}
 
-/// Two runs of the program with the same settings, among them `--pad`, over any stores, that came to their end, and of
-/// which no text was answered that the store failed, ask the same, whatever their literals and their rows and however
-/// many rows are selected: if their skeletons are the same, and the same ones are refused before any access.
+/// So of two such runs that go on from the same, whose statements show the same as far as both go, one asks a first part of
+/// what the other asks, over any stores, however they end, and whatever their literals and their rows.
+pub fn one_asks_a_first_part()
+    ensures { (a b : SomeRun) → GoOnFromOne a b → failures_of a ≡ 0 → failures_of b ≡ 0
+        → AlikeSoFar a.base.public a.base.count (stmts_of a) (seen_by a) (stmts_of b) (seen_by b)
+        → OneBegins (asked_by a) (asked_by b) }
+{}
+
+/// Over a store that tells what it holds, gave what was written and failed at no statement, a run whose words are taken,
+/// whose input keeps to the limits, and whose source and sinks don't fail, is the run of the plain machine, unless it ends
+/// for want of memory: each text of its input is answered as SQL answers it over plain tables, from none or from those that
+/// rested, it printed these answers, asked and traced what they ask by their meaning, and has their status.
+pub fn unhindered_runs_are_plain()
+    ensures { (one : SomeRun) (input : List ℕ) → IsUnhindered one input
+        → FromEach one.base (RunsPlainly one input) }
+{}
+
+/// Two runs that go on from the same, over any stores, that came to their end, and of which no text was answered that the
+/// store failed, ask the same, whatever their literals and their rows: if none of their statements is a SELECT of rows,
+/// their skeletons are the same, and the same ones are refused before any access.
+pub fn reruns_ask_the_same()
+    ensures { (a b : SomeRun) → GoOnFromOne a b
+        → EndsWell a.report.status (failures_of a) → EndsWell b.report.status (failures_of b)
+        → any_counted (stmts_of a) ≡ false
+        → Alike a.base.public a.base.count (stmts_of a) (stmts_of b) → asked_by a ≡ asked_by b }
+{}
+
+/// Two such runs with `--pad`, over any stores, ask the same, whatever their literals and their rows and however many rows
+/// are selected: if their skeletons are the same, and the same ones are refused before any access.
 pub fn padded_reruns_ask_the_same()
-    ensures { (words words_too : List Text) (old new old_too new_too : Outside)
-        (report report_too : Report)
-        (a : ShellRun words old new report) (b : ShellRun words_too old_too new_too report_too)
-        → settings_of usage words ≡ settings_of usage words_too
-        → EndsWell report.status (failures a.answers)
-        → EndsWell report_too.status (failures b.answers)
-        → IsSome (public_with (settings_of usage words)).pad
-        → Alike (public_with (settings_of usage words)) 0 (statements a.spelt) (statements b.spelt)
-        → new.store.asked ≡ new_too.store.asked }
+    ensures { (a b : SomeRun) → GoOnFromOne a b
+        → EndsWell a.report.status (failures_of a) → EndsWell b.report.status (failures_of b)
+        → IsSome a.base.public.pad
+        → Alike a.base.public a.base.count (stmts_of a) (stmts_of b) → asked_by a ≡ asked_by b }
 {}
 
 /// The same over the whole language, where of each SELECT of rows the same is seen: then of all statements the same is
 /// seen, and the runs ask the same.
 pub fn reruns_show_the_same()
-    ensures { (words words_too : List Text) (old new old_too new_too : Outside)
-        (report report_too : Report)
-        (a : ShellRun words old new report) (b : ShellRun words_too old_too new_too report_too)
-        → settings_of usage words ≡ settings_of usage words_too
-        → EndsWell report.status (failures a.answers)
-        → EndsWell report_too.status (failures b.answers)
-        → ShowAlike (public_with (settings_of usage words)) 0
-        (statements a.spelt) (a.seen ++ a.last) (statements b.spelt) (b.seen ++ b.last)
-        → (a.seen ++ a.last ≡ b.seen ++ b.last) × (new.store.asked ≡ new_too.store.asked) }
+    ensures { (a b : SomeRun) → GoOnFromOne a b
+        → EndsWell a.report.status (failures_of a) → EndsWell b.report.status (failures_of b)
+        → ShowAlike a.base.public a.base.count (stmts_of a) (seen_by a) (stmts_of b) (seen_by b)
+        → (seen_by a ≡ seen_by b) × (asked_by a ≡ asked_by b) }
 {}
 
 /// The mark that a keeper holds, where it tells, once a run with `--keep` ended. Before the first statement it is the one

@@ -1,4 +1,5 @@
 use Rattle.std.proofs.Common.{refl, inl, inr}
+use Rattle.ob_shell.specs.Reruns.{shell_run}
 use Rattle.ob_tests.proofs.alike.sessions_ask_the_same.Goals as goal
 
 pub returns : goal.returns
@@ -8,7 +9,7 @@ returns g c read =
       first,
       second,
       λ well well_too plain alike. elim plain [
-        | inl none ↦ c.reruns_ask_the_same.ensures _ _ _ _ _ _ _ _ first second refl well well_too none alike
-        | inr padded ↦ c.padded_reruns_ask_the_same.ensures _ _ _ _ _ _ _ _ first second refl well well_too padded alike
+        | inl none ↦ c.reruns_ask_the_same.ensures (shell_run first) (shell_run second) (record { public = refl; count = refl; before = refl }) well well_too none alike
+        | inr padded ↦ c.padded_reruns_ask_the_same.ensures (shell_run first) (shell_run second) (record { public = refl; count = refl; before = refl }) well well_too padded alike
       ],
     )
