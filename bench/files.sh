@@ -85,9 +85,9 @@ subprocess.run(["strace", "-o", reads, "-e", "trace=pread64", program, "--store"
 count = len([line for line in open(reads) if line.startswith("pread64")])
 failing = ("strace", "-o", os.devnull, "-e", "trace=pread64", "-e", f"inject=pread64:error=EIO:when={count}")
 session("a disk that fails while a result is read back", "s", MADE, ROWS + ROWS, nothing, MADE_LINES + ['"id","v"'] + FAULT + ['"id","v"', '"1","10"', "= 1 rows"], 1, ["s.2"], behind=failing)
-MANY = 1500
-session("statements that fail where few files may be open", "s", MADE, "CREATE TABLE big (id INT) CAPACITY 256;\n" * MANY + COUNT, nothing, MADE_LINES + FAULT * MANY + ONE, 1, ["s.2"], 4096, 16)
-session("joins that fail where few files may be open", "s", JOINED, JOIN * 200 + COUNT, nothing, JOINED_LINES + FAULT * 200 + ONE, 1, ["s.11", "s.2"], 1000, 16, HASH)
+MORE, TWO = "INSERT INTO t VALUES (2, 20);\n", ["= inserted", '"COUNT(*)"', '"2"', "= 1 rows"]
+session("1500 failing statements where few files may be open", "s", MADE, "CREATE TABLE big (id INT) CAPACITY 256;\n" * 1500 + MORE + COUNT, nothing, MADE_LINES + FAULT * 1500 + TWO, 1, ["s.1503"], 4096, 16)
+session("200 failing joins where few files may be open", "s", JOINED, JOIN * 200 + MORE + COUNT, nothing, JOINED_LINES + FAULT * 200 + TWO, 1, ["s.11", "s.412"], 1000, 16, HASH)
 
 # The sessions of examples/. With more rows in a block the same rows are printed, in the same order.
 for session_text in sorted(examples.glob("*.sql")):
