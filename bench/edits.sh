@@ -71,6 +71,8 @@ def function_at(text, place):
     return heads[-1][1] if heads else None
 
 NAMES = re.compile(r"(\./)?proofs/.*(has no field|is not in scope|has no `|was not admitted)")
+# What the prover remarks of a proof whether it refuses anything or not.
+REMARKS = re.compile(r"note: (large solution|finished)")
 
 # Whether the prover refuses the crate, or one of its functions, and at what; none where it can't tell.
 def check(folder, only=None):
@@ -78,7 +80,7 @@ def check(folder, only=None):
     ran = subprocess.run(words, cwd=folder, stdin=subprocess.DEVNULL, stdout=subprocess.PIPE, stderr=subprocess.STDOUT, text=True, errors="replace")
     if ran.returncode == 0:
         return False, ""
-    told = [line for line in ran.stdout.split("\n") if re.match(r"(note: )?\S+:\d+:\d+:", line)]
+    told = [line for line in ran.stdout.split("\n") if re.match(r"(note: )?\S+:\d+:\d+:", line) and not REMARKS.search(line)]
     real = [line for line in told if not NAMES.match(line)]
     if ran.returncode == 1 and told:
         return (True, real[0]) if real else (None, "only because a proof file names what it took away")
