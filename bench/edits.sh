@@ -72,7 +72,7 @@ def function_at(text, place):
 
 NAMES = re.compile(r"(\./)?proofs/.*(has no field|is not in scope|has no `|was not admitted)")
 # What the prover remarks of a proof whether it refuses anything or not.
-REMARKS = re.compile(r"note: (large solution|finished)")
+REMARKS = re.compile(r"note: (large solution|finished|`cc` took no step)")
 
 # Whether the prover refuses the crate, or one of its functions, and at what; none where it can't tell.
 def check(folder, only=None):
