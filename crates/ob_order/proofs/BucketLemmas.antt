@@ -6,7 +6,7 @@ use Rattle.std.proofs.Math.Seq.{get_or-append_right}
 use Rattle.std.proofs.lemmas.Bool.{cases_eq, cases_lt}
 use Rattle.std.proofs.lemmas.List.{get_or_append_left, length-set}
 use Rattle.ob_order.specs.Orders.{field_at}
-use Rattle.ob_order.specs.Buckets.{BucketsState, bucket_of, bucket_at, Leads, AreBucketed, IsOnly, NoneHas}
+use Rattle.ob_order.specs.Buckets.{BucketsState, bucket_of, low_hash, bucket_at, Leads, AreBucketed, IsOnly, NoneHas}
 
 -- ---- the link at which a search stands: no later place has the field
 pub record Walks (at : ℕ) (field : List ℕ) (rows : List (List ℕ)) (buckets : BucketsState) (link : ℕ) : Type 0 where
@@ -81,6 +81,9 @@ module _ (at : ℕ) (field : List ℕ) (rows : List (List ℕ)) (old : BucketsSt
   abbrev head : ℕ
   head = slice_index_or old.heads b 0
 
+  abbrev row : ℕ → List ℕ
+  row p = field_at at (length field) rows p
+
   here : bucket n ≡ b
   here = ap (bucket_of (length old.heads)) has
 
@@ -101,7 +104,7 @@ module _ (at : ℕ) (field : List ℕ) (rows : List (List ℕ)) (old : BucketsSt
     ];
   }
 
-  module _ (new : BucketsState) (heads : new.heads ≡ slice_set old.heads b (n + 1)) (next : new.next ≡ old.next ++ head ∷ []) where
+  module _ (new : BucketsState) (heads : new.heads ≡ slice_set old.heads b (n + 1)) (next : new.next ≡ old.next ++ head ∷ []) (many : length old.hashes ≡ n) (hashes : new.hashes ≡ old.hashes ++ low_hash field ∷ []) where
     as_many : length new.heads ≡ length old.heads
     as_many = ap length heads ∙ length-set old.heads b (n + 1)
 
@@ -124,6 +127,14 @@ module _ (at : ℕ) (field : List ℕ) (rows : List (List ℕ)) (old : BucketsSt
           subst (Leads bucket (bucket p) p) (sym (get_or_append_left old.next (head ∷ []) 0 p (omega (arith, below, other, are.count)))) (are.next p (omega (arith, below, other)))
     ]
 
+    new_hash : (p : ℕ) → p < n + 1 → slice_index_or (old.hashes ++ low_hash field ∷ []) p 0 ≡ low_hash (row p)
+    new_hash p below = elim (cases_eq p n) [
+      | inl same ↦
+          let last : slice_index_or (old.hashes ++ low_hash field ∷ []) n 0 ≡ low_hash field = get_or-append_right old.hashes (low_hash field ∷ []) n 0 (omega (arith, many)) ∙ search (arith, many) in
+          subst (λ (q : ℕ). slice_index_or (old.hashes ++ low_hash field ∷ []) q 0 ≡ low_hash (row q)) (sym same) (last ∙ sym (ap low_hash has))
+      | inr other ↦ get_or_append_left old.hashes (low_hash field ∷ []) 0 p (omega (arith, below, other, many)) ∙ are.hashes p (omega (arith, below, other))
+    ]
+
     pub one_more : AreBucketed at (length field) (n + 1) rows new
     one_more = record {
       count = ap length next ∙ length-append old.next (head ∷ []) ∙ omega (arith, are.count);
@@ -133,6 +144,7 @@ module _ (at : ℕ) (field : List ℕ) (rows : List (List ℕ)) (old : BucketsSt
       next = λ p below.
           subst (λ (k : ℕ). Leads (bucket_at at (length field) rows k) (bucket_at at (length field) rows k p) p (slice_index_or new.next p 0)) (sym as_many)
           (subst (λ (l : List ℕ). Leads bucket (bucket p) p (slice_index_or l p 0)) (sym next) (new_next p below));
+      hashes = λ p below. ap (λ (l : List ℕ). slice_index_or l p 0) hashes ∙ new_hash p below;
       apart = λ p q less below same. elim (cases_lt q n) [
         | inl before ↦ are.apart p q less before same
         | inr behind ↦
@@ -157,5 +169,6 @@ bucketed_where_same at len n old new buckets are same =
       count = are.count;
       heads = λ b. leads b n _ (omega arith) (are.heads b);
       next = λ p below. subst (λ (b : ℕ). Leads (bucket_at at len new count) b p (slice_index_or buckets.next p 0)) (sym (stays p below)) (leads _ p _ (omega (arith, below)) (are.next p below));
+      hashes = λ p below. are.hashes p below ∙ sym (ap low_hash (same p below));
       apart = λ p q less below is. are.apart p q less below (sym (same p (omega (arith, less, below))) ∙ is ∙ same q below);
     }

@@ -1,5 +1,5 @@
 -- Places of rows, each in the bucket of the field that its row has.
-use Rattle.std.specs.Prelude.{◌≡◌, ◌≢◌, ◌≤◌, ◌<◌, ◌+◌, ◌*◌, ◌/◌, ◌^◌, ℕ, List, length, slice_index_or}
+use Rattle.std.specs.Prelude.{◌≡◌, ◌≢◌, ◌≤◌, ◌<◌, ◌+◌, ◌*◌, ◌/◌, ◌%◌, ◌^◌, ℕ, List, length, slice_index_or}
 use Rattle.std.specs.Hash.FoldHasher.{initial, write, finish}
 use Rattle.ob_order.specs.Orders.{field_at}
 
@@ -10,12 +10,20 @@ pub record BucketsState : Type 0 where
   pub heads : List ℕ
   -- of each place, the link to the one before it in its bucket
   pub next : List ℕ
+  -- of each place, the low half of its field's hash
+  pub hashes : List ℕ
   -- how many places there may be
   pub most : ℕ
 
--- the bucket of a field, among so many
+abbrev pub hash_of : (field : List ℕ) → ℕ
+hash_of field = finish (write initial field)
+
+-- the bucket of a field, among so many: by the high half of its hash
 abbrev pub bucket_of : (count : ℕ) → (field : List ℕ) → ℕ
-bucket_of count field = ((finish (write initial field) / 2 ^ 32) * count) / 2 ^ 32
+bucket_of count field = ((hash_of field / 2 ^ 32) * count) / 2 ^ 32
+
+abbrev pub low_hash : (field : List ℕ) → ℕ
+low_hash field = hash_of field % 2 ^ 32
 
 -- that of the row at a place
 abbrev pub bucket_at : (at len : ℕ) → (rows : List (List ℕ)) → (count place : ℕ) → ℕ
@@ -34,6 +42,8 @@ pub record AreBucketed (at len n : ℕ) (rows : List (List ℕ)) (buckets : Buck
       (slice_index_or buckets.heads b 0)
   pub next : (p : ℕ) → p < n → Leads (bucket_at at len rows (length buckets.heads))
       (bucket_at at len rows (length buckets.heads) p) p (slice_index_or buckets.next p 0)
+  pub hashes : (p : ℕ) → p < n
+      → slice_index_or buckets.hashes p 0 ≡ low_hash (field_at at len rows p)
   pub apart : (p q : ℕ) → p < q → q < n → field_at at len rows p ≢ field_at at len rows q
 
 -- of the first n rows it is the one that has this field

@@ -1,22 +1,24 @@
-ghost use Rattle.std.specs.Prelude.{◌≡◌, ◌<◌, ◌+◌, ◌^◌, ℕ, List, [], length, replicate, slice_index_or, IfOk, IfSome, IfNone};
+ghost use Rattle.std.specs.Prelude.{◌≡◌, ◌<◌, ◌+◌, ◌%◌, ◌*◌, ◌/◌, ◌^◌, ℕ, List, [], length, replicate, slice_index_or, IfOk, IfSome, IfNone};
 ghost use Rattle.ob_order.specs.Orders.{field_at};
-ghost use Rattle.ob_order.specs.Buckets.{bucket_of, AreBucketed, IsOnly, NoneHas};
+ghost use Rattle.ob_order.specs.Buckets.{hash_of, bucket_of, AreBucketed, IsOnly, NoneHas};
 
 use crate::places::field_at;
 use ob_base::NoMemory;
 use ob_room::ClearRow;
-use std::alloc::Global;
+use std::alloc::{AllocError, Global};
 use std::hash::{FoldHasher, Hasher};
 use std::marker::Model;
 
 /// The first places of rows, each in the bucket of a field that its row has, so that the row with a field is
-/// found among those of one bucket. No two of the rows have the same.
+/// found among those of one bucket. No two of the rows have the same. Half of each field's hash lies beside its
+/// place, so that seldom another row than the one that is looked for is read.
 ///
 /// It has room for so many places, and as many buckets; only `new` takes memory.
 #[derive(Drop)]
 pub struct Buckets {
     heads: Vec<u32>,
     next: Vec<u32>,
+    hashes: Vec<u32>,
 }
 
 impl Model for Buckets {
@@ -29,22 +31,35 @@ impl Model for Buckets {
     ghost view = { λ b. record {
       heads = b.heads.items;
       next = b.next.items;
+      hashes = b.hashes.items;
       most = vec_capacity b.next;
     } };
 
     ghost invariant = { IsBuckets };
 }
 
-// The bucket of a field, among so many.
-fn bucket_of(count: usize, field: &[u8]) -> usize
-    requires { count < 2 ^ 32 }
-    ensures value { result ≡ bucket_of count field.now }
-    ensures below { 0 < count → result < count }
+fn hash_of(field: &[u8]) -> u64
+    ensures { result ≡ hash_of field.now }
 {
     let mut hasher = FoldHasher::default();
     hasher.write(field);
-    let bucket = (hasher.finish() >> 32) * count as u64 >> 32;
+    hasher.finish()
+}
+
+// The bucket of a field with this hash, among so many.
+fn bucket_of(count: usize, hash: u64) -> usize
+    requires { count < 2 ^ 32 }
+    ensures value { result ≡ ((hash / 2 ^ 32) * count) / 2 ^ 32 }
+    ensures below { 0 < count → result < count }
+{
+    let bucket = (hash >> 32) * count as u64 >> 32;
     bucket as usize
+}
+
+fn low_half(hash: u64) -> u32
+    ensures { result ≡ hash % 2 ^ 32 }
+{
+    (hash % (1 << 32)) as u32
 }
 
 impl Buckets {
@@ -53,16 +68,31 @@ impl Buckets {
         ensures { IfOk result (λ buckets. buckets ≡ record {
           heads = replicate most 0;
           next = [];
+          hashes = [];
           most = most;
         }) }
     {
-        let Ok(heads) = Vec::from_elem(alloc, 0, most as usize) else {
-            return Err(NoMemory);
-        };
-        match Vec::with_capacity(alloc, most as usize) {
-            Ok(next) => Ok(Buckets { heads, next }),
+        match Buckets::built(alloc, most as usize) {
+            Ok(buckets) => Ok(buckets),
             Err(_) => Err(NoMemory),
         }
+    }
+
+    // The same, with the allocator's error.
+    fn built(alloc: Global, most: usize) -> Result<Buckets, AllocError>
+        requires { most < 2 ^ 32 }
+        ensures { IfOk result (λ buckets. buckets ≡ record {
+          heads = replicate most 0;
+          next = [];
+          hashes = [];
+          most = most;
+        }) }
+    {
+        Ok(Buckets {
+            heads: Vec::from_elem(alloc, 0, most)?,
+            next: Vec::with_capacity(alloc, most)?,
+            hashes: Vec::with_capacity(alloc, most)?,
+        })
     }
 
     /// Takes all places out.
@@ -72,14 +102,15 @@ impl Buckets {
     {
         self.heads.fill(0);
         self.next.clear();
+        self.hashes.clear();
     }
 
-    // The link to the place that came last into the bucket of a field.
-    fn head(&self, field: &[u8]) -> u32
-        ensures { result
-            ≡ slice_index_or self.now.heads (bucket_of (length self.now.heads) field.now) 0 }
+    // The link to the place that came last into the bucket of a field with this hash.
+    fn head(&self, hash: u64) -> u32
+        ensures { (field : List ℕ) → hash ≡ hash_of field → result
+            ≡ slice_index_or self.now.heads (bucket_of (length self.now.heads) field) 0 }
     {
-        match self.heads.get(bucket_of(self.heads.len(), field)) {
+        match self.heads.get(bucket_of(self.heads.len(), hash)) {
             Some(link) => *link,
             None => 0,
         }
@@ -92,10 +123,14 @@ impl Buckets {
             (IsOnly at field.now (length self.now.next) rows.now) }
         ensures none { IfNone result (NoneHas at field.now (length self.now.next) rows.now) }
     {
-        let mut link = self.head(field);
+        let hash = hash_of(field);
+        let low = low_half(hash);
+        let mut link = self.head(hash);
         while link > 0 {
             let place = link - 1;
-            if field_at(rows, at, field.len(), place) == field {
+            if self.hashes[place as usize] == low
+                && field_at(rows, at, field.len(), place) == field
+            {
                 return Some(place);
             }
             link = self.next[place as usize];
@@ -112,7 +147,9 @@ impl Buckets {
             → AreBucketed at (length field.now) (n + 1) rows self.new }
         ensures most { self.new.most ≡ self.old.most }
     {
-        let bucket = bucket_of(self.heads.len(), field);
+        let hash = hash_of(field);
+        let bucket = bucket_of(self.heads.len(), hash);
+        self.hashes.push_reserved(low_half(hash));
         self.next.push_reserved(self.heads[bucket]);
         self.heads[bucket] = self.next.len() as u32;
     }
