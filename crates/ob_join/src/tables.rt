@@ -108,7 +108,6 @@ pub fn join<S: BlockStore, R: Revisions>(
         (at R.state vault.old (S.state store.old)) }
     requires room { IsIdle (width (left.now.schema ++ right.now.schema)) room.old }
     requires places { room.old.rows ≤ order.old.most }
-    requires few { room.old.rows < 2 ^ 32 }
     ensures most { order.new.most ≡ order.old.most }
     ensures room { room.new ≡ record room.old {
       high = max room.old.high
