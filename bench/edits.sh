@@ -2,8 +2,8 @@
 # Tries the wrong bodies of crates/NAME/must-fail/ and more-edits/, of the crates that are named or else of all: each edit
 # is put into a copy of its crate, and the prover has to refuse it at a clause or a goal. The function that holds the edit
 # is checked alone first, which takes 5 to 25 seconds, and the whole crate where that doesn't refuse it. Prints a line for
-# each, and ends with 1 where one is proved, can't be applied, or is refused only because a proof file names what it took
-# away.
+# each, with the first that the prover says of what it refuses, and ends with 1 where one is proved, can't be applied, or
+# is refused only because a proof file names what it took away.
 #
 # usage: bench/edits.sh [NAME..]
 # Needs `rt` and python3. What `rt check` and `rt lib` have kept in this tree isn't proved again; in a clean clone all that
@@ -114,7 +114,7 @@ for name, edits in tried.items():
         sys.exit(f"{name} itself isn't proved: {why}")
     for edit in edits:
         well, why = attempt(name, edit)
-        print(f"{name}/{edit.stem}: {'refused' if well else 'NOT REFUSED: ' + why}", flush=True)
+        print(f"{name}/{edit.stem}: {'refused at' if well else 'NOT REFUSED:'} {why[:160]}", flush=True)
         refused, failed = refused + well, failed + (not well)
 print(f"{refused} refused, {failed} not refused")
 sys.exit(failed > 0)
