@@ -400,10 +400,12 @@ examples = [
 ]
 (data / "examples.case").write_text("\n".join(examples))
 
-# Documents show the first session as it is, and the program says how many cases pass.
-for document in ("README.md", "docs/GUIDE.md"):
-    if "\n".join(first) not in (TOP / document).read_text():
-        raise SystemExit(f"{document} doesn't show examples/first.out")
+# The documents show what is served: README the first case of changes.case, and the guide the first session. The program says
+# how many cases pass.
+changed = (data / "changes.case").read_text().split("\n\n")[1].partition("\n")[2]
+for document, shown in (("README.md", changed), ("docs/GUIDE.md", "\n".join(first))):
+    if shown not in (TOP / document).read_text():
+        raise SystemExit(f"{document} doesn't show what is served")
 served_files = (TOP / "crates/ob_cases/args").read_text().split()
 count = sum(len(re.findall(r"^case ", (data / name).read_text(), re.M)) for name in served_files)
 (TOP / "crates/ob_cases/stdout").write_text(f"{count} cases passed, 0 differ\n")

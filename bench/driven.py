@@ -2,7 +2,9 @@
 
 That is the time of the process, user and system, by the clock that the kernel keeps of it in nanoseconds
 (clock_getcpuclockid of POSIX). It is read while the process waits for its next line. What the wall's clock says isn't looked
-at: others at work on the machine count only as far as they slow its processors down. Linux alone: it looks into /proc.
+at: others at work on the machine count only as far as they slow its processors down.
+
+Other scripts import it; by itself it runs nothing. Needs python3, on Linux: it looks into /proc.
 """
 import statistics
 import subprocess

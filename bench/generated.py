@@ -1,7 +1,7 @@
 #!/usr/bin/env python3
 """Writes crates/ob_cases/data/generated.case: runs over generated text. What is wanted of them is counted here, from the
 rows that the statements leave and from the lists of their accesses in docs/SPECIFICATION.md; nothing that the program
-answers goes into it.
+answers goes into it. It needs python3 alone, and takes a second.
 """
 import hashlib
 import pathlib

@@ -1,5 +1,6 @@
 """How many blocks a pass seals and opens: by the slots of its table, the rows of a block, the rows that may be open, and how
-many rows are selected (of a join, by the slots of its left table)."""
+many rows are selected (of a join, by the slots of its left table). Other scripts import it; by itself it runs nothing. It
+needs python3 alone."""
 
 DEPTH = 5
 
