@@ -88,10 +88,12 @@ class Session(Driven):
 
 
 class Passes(Driven):
-    """A run of `ob_pass_bench` or of `ob_oram_bench`."""
+    """A run of `ob_pass_bench`, which waits behind a pass until it may give back the memory of rows and table."""
+
+    behind = "\n"
 
     def run(self, *line):
-        """The milliseconds of one pass alone, of accesses of an index, or of bare seals and unseals, and what the program says of it."""
+        """The milliseconds of one pass alone, of accesses of an index, or of bare seals and unseals, and what it gave."""
         typed = " ".join(map(str, line)) + "\n"
         if line[0] != "b":
             self.type(typed)
@@ -102,7 +104,15 @@ class Passes(Driven):
         said, spent = self.timed(typed, lambda _: True)
         if not said[0].isdigit() or line[0] == "b" and int(said[0]) != line[2]:
             sys.exit(f"{line}: {said[0]}")
+        if line[0] != "b":
+            self.type(self.behind)
         return spent, int(said[0])
+
+
+class Index(Passes):
+    """A run of `ob_oram_bench`."""
+
+    behind = ""
 
 
 def quartiles(numbers):

@@ -13,10 +13,11 @@ top=$(cd "$(dirname "$0")/.." && pwd)
 
 PYTHONPATH="$top/bench" python3 - "$top" "${1:-}" <<'PY'
 import sys
-from driven import Passes, machine, quartiles
+from driven import Index, Passes, machine, quartiles
 
 top, asked = sys.argv[1:]
-index, bare = (Passes(f"{top}/crates/{name}/out/{name}") for name in ("ob_oram_bench", "ob_pass_bench"))
+index = Index(f"{top}/crates/ob_oram_bench/out/ob_oram_bench")
+bare = Passes(f"{top}/crates/ob_pass_bench/out/ob_pass_bench")
 LIMIT, SEED = 1.5, 1
 
 # ---- an access beside the seals and unseals of its blocks: it reads and writes the stash and a path of buckets of four

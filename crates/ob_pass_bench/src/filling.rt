@@ -37,12 +37,23 @@ pub(crate) fn make_room<S: BlockStore>(store: &mut S, n: u64) -> Result<(), OpEr
     Ok(())
 }
 
-// Tells that all is filled, and waits for a line.
-fn tell_ready<H: Input + Print + AllocGlobal>(host: &H) -> io::Result<()> {
-    println!(host; "ready")?;
+// Waits for a line.
+fn skip_line<H: Input + AllocGlobal>(host: &H) -> io::Result<()> {
     let mut line = String::new(host.alloc());
     host.read_line(&mut line)?;
     Ok(())
+}
+
+// Tells that all is filled, and waits for a line.
+fn tell_ready<H: Input + Print + AllocGlobal>(host: &H) -> io::Result<()> {
+    println!(host; "ready")?;
+    skip_line(host)
+}
+
+/// Tells what a pass gave, and waits until that is heard.
+pub(crate) fn tell<H: Input + Print + AllocGlobal>(host: &H, given: u64) -> io::Result<()> {
+    println!(host; "{given}")?;
+    skip_line(host)
 }
 
 /// Tells whoever measures that all is filled, and waits until that is heard.

@@ -3,9 +3,10 @@
 //! It reads lines. A line has a letter for the pass, the bytes of a row, the rows of a block, the slots of the table,
 //! the rows that may be open, how many rows are selected, or how many slots the left table of a join has, and, where
 //! the table isn't to be full, how many of its first slots have rows. The table is filled, `ready` is printed, and the
-//! next line is waited for, whatever it says: then the pass runs, and what it gave is printed, so that whoever reads
-//! that can tell what the pass alone took. `s` and `t` fill the table, or both tables of a join, and run no pass. Or
-//! the line is `b`, how many blocks are sealed, how many are opened, and how many bytes their rows have.
+//! next line is waited for, whatever it says: then the pass runs, what it gave is printed, and another line is waited
+//! for before the memory of the rows and of the table is given back, so that whoever reads that can tell what the pass
+//! alone took. `s` and `t` fill the table, or both tables of a join, and run no pass. Or the line is `b`, how many
+//! blocks are sealed, how many are opened, and how many bytes their rows have.
 #![tactic(auto)]
 
 mod answers;
@@ -45,16 +46,17 @@ fn case_of(pass: u8, words: &mut SplitAsciiWhitespace<'_>) -> Option<Case> {
     })
 }
 
-// What a line asks for.
-fn answer<H: Input + Print + AllocGlobal>(host: &H, line: &str) -> Option<u64> {
+// Does what a line asks for, and prints what it gave.
+fn answer<H: Input + Print + AllocGlobal>(host: &H, line: &str) -> Option<()> {
     let mut words = line.split_ascii_whitespace();
     let pass = words.next()?.as_bytes().first()?;
     if *pass == b'b' {
-        return seal_open(
+        let opened = seal_open(
             number(&mut words)?,
             number(&mut words)?,
             number(&mut words)?,
-        );
+        )?;
+        return println!(host; "{opened}").ok();
     }
     run(host, &case_of(*pass, &mut words)?)
 }
@@ -66,7 +68,7 @@ fn main(rt: HostRuntime) -> io::Result<()> {
             break;
         }
         match answer(&rt, line.as_str()) {
-            Some(n) => println!(rt; "{n}")?,
+            Some(()) => {}
             None => {
                 println!(rt; "usage: PASS WIDTH PACK SLOTS ROWS K [FULL], or b SEALS UNSEALS LEN")?
             }

@@ -6,7 +6,7 @@ ghost use Rattle.ob_flat.specs.Flats.{IsSized};
 ghost use Rattle.ob_pass_bench.specs.Tables.{AreColumns, IsOpen, MayRun};
 
 use crate::answers::{count_aggregate, emission, groups, printing, total};
-use crate::filling::{filled, make_room, wait};
+use crate::filling::{filled, make_room, tell, wait};
 use crate::joining::join_keys;
 use crate::mutations::{count_half, delete_half, insert_one, update_half};
 use crate::schemas::{FEW, SCATTERED, schema_of};
@@ -170,9 +170,9 @@ fn run_case<H: Input + Print + AllocGlobal, S: BlockStore, R: Revisions>(
     run_pass(host.alloc(), store, vault, room, &mut flat, case)
 }
 
-/// Runs a case over a store in memory, and answers what it gave; or none where there is no such case, or
-/// memory ran out.
-pub(crate) fn run<H: Input + Print + AllocGlobal>(host: &H, case: &Case) -> Option<u64> {
+/// Runs a case over a store in memory, tells what it gave, and gives the memory of rows and table back once that
+/// was heard; or none where there is no such case, or memory ran out.
+pub(crate) fn run<H: Input + Print + AllocGlobal>(host: &H, case: &Case) -> Option<()> {
     let alloc = host.alloc();
     let second = if case.pass == b'G' { SCATTERED } else { FEW };
     let numbers = schema_of(17, second)?;
@@ -187,5 +187,6 @@ pub(crate) fn run<H: Input + Print + AllocGlobal>(host: &H, case: &Case) -> Opti
     let mut vault: Vault<BaseRevs> = Vault::new(alloc, Keys::derive(&[5; 32]));
     let mut room = Room::new(alloc, case.rows, 1024, case.pack).ok()?;
     let schemas = (&numbers, &schema);
-    run_case(host, &mut store, &mut vault, &mut room, schemas, case).ok()
+    let given = run_case(host, &mut store, &mut vault, &mut room, schemas, case).ok()?;
+    tell(host, given).ok()
 }
