@@ -1,58 +1,100 @@
--- The refusals by the columns of two tables are those by their scope.
-use Rattle.std.proofs.Common.{◌≡◌, List, ◌++◌, refl, append-nil}
-use Rattle.std.specs.Prelude.{not, ◌||◌}
-use Rattle.std.specs.List.{list_any, flat_map}
+-- The refusals by the parts of a statement and the columns of two tables are those of the statement.
+use Rattle.std.proofs.Common.{◌≡◌, Bool, true, false, List, [], ◌++◌, refl, sym, ◌∙◌, ap, append-nil}
+use Rattle.std.specs.Prelude.{not, ◌||◌, Option, Some, None}
+use Rattle.std.specs.Option.{option_map_or}
+use Rattle.std.specs.List.{flat_map}
+use Rattle.std.proofs.lemmas.Simd.{map-map}
 use Rattle.ob_base.specs.declared.schema.Heading.{Heading}
 use Rattle.ob_base.specs.declared.skeleton.Source.{Source}
 use Rattle.ob_base.specs.declared.skeleton.Source.TheVariants.{Table as OneTable, Join}
-use Rattle.ob_base.specs.Schemas.{same_kind}
-use Rattle.ob_base.specs.declared.schema.Kind.TheVariants.{Int as IntKind}
 use Rattle.ob_base.specs.declared.skeleton.ColumnName.{ColumnName}
-use Rattle.ob_sql.specs.declared.stmt.Literal.{Literal}
+use Rattle.ob_base.specs.Schemas.{Columns}
+use Rattle.ob_sql.specs.declared.stmt.Set.{Set}
 use Rattle.ob_sql.specs.declared.stmt.Stmt.{Stmt}
 use Rattle.ob_sql.specs.declared.stmt.Stmt.TheVariants.{Create, Insert, Update, Delete, Drop as DropTable, SelectRows as RowsStmt, SelectTotals as TotalsStmt}
-use Rattle.ob_mean.specs.Names.{columns_at, source_columns}
-use Rattle.ob_mean.specs.Kinds.{Comparison, comparison_columns, is_of_kind, is_too_large_for, at_kind, is_wrong_comparison, against_too_large, number_columns}
-use Rattle.ob_mean.specs.Refusals.{assignments, items_of, is_badly_typed, scope_of, compared, named_columns, means_one, joins_apart, has_stray_column, select_lacks_column, lacks_column, has_wrong_type, is_out_of_range}
-use Rattle.ob_mean.specs.Scopes.{left_of_source, right_of_source, left_of, right_of, joins_apart_in, select_lacks_in, lacks_in, mistypes_in, overflows_in}
+use Rattle.ob_mean.specs.Names.{columns_at, source_columns, unqualified}
+use Rattle.ob_mean.specs.Kinds.{comparison_columns, where_comparisons}
+use Rattle.ob_mean.specs.Parts.{parts_of}
+use Rattle.ob_mean.specs.Refusals.{Limits, scope_of, compared, named_columns, lack_columns, is_incomplete, joins_apart, joins_past, joins_off_key_at, has_stray_column, select_lacks_column, sets_key, lacks_table, takes_name, has_wrong_type, is_out_of_range, is_past_limit, breaks_key_rule, joins_off_key}
+use Rattle.ob_mean.specs.Scopes.{left_of_source, right_of_source, left_in, right_in, missing_in, takes_in, joins_apart_in, named_in, select_lacks_in, lacks_in, mistypes_in, overflows_in, exceeds_in, breaks_key_in, off_key_in}
 
-source_scope : (s : Source) (hs : List Heading) → left_of_source s hs ++ right_of_source s hs ≡ source_columns s hs
-source_scope (OneTable name) hs = append-nil (columns_at name hs)
-source_scope (Join a b on equals) hs = refl
+alone : {a : Bool} → (a || false) ≡ a
+alone {a} = elim a as (λ b. (b || false) ≡ b) [ true ↦ refl | false ↦ refl ]
 
-scope : (stmt : Stmt) (hs : List Heading) → left_of stmt hs ++ right_of stmt hs ≡ scope_of stmt hs
-scope (Create table columns capacity) hs = refl
-scope (Insert table columns values) hs = append-nil (columns_at table hs)
-scope (Update table sets cond) hs = append-nil (columns_at table hs)
-scope (Delete table cond) hs = append-nil (columns_at table hs)
-scope (DropTable table) hs = refl
-scope (RowsStmt s) hs = source_scope s.source hs
-scope (TotalsStmt s) hs = append-nil (columns_at s.table hs)
+no_more : {A : Type 0} {xs : List A} → xs ++ [] ≡ xs
+no_more {A} {xs} = append-nil xs
+
+abbrev left : List Heading → Stmt → Columns
+left hs stmt = left_in hs (parts_of stmt).source
+
+abbrev right : List Heading → Stmt → Columns
+right hs stmt = right_in hs (parts_of stmt).source
+
+abbrev both : List Heading → Option Source → Columns
+both hs source = option_map_or (λ s. source_columns s hs) source []
+
+pub scope : (source : Option Source) (hs : List Heading) → left_in hs source ++ right_in hs source ≡ both hs source
+scope None hs = refl
+scope (Some (OneTable name)) hs = append-nil (columns_at name hs)
+scope (Some (Join a b on equals)) hs = refl
 
 apart : (s : Source) (hs : List Heading) → joins_apart_in (left_of_source s hs) (right_of_source s hs) s ≡ joins_apart hs s
 apart (OneTable name) hs = refl
 apart (Join a b on equals) hs = refl
 
-select_lacks : (stmt : Stmt) (hs : List Heading) → select_lacks_in (left_of stmt hs) (right_of stmt hs) stmt ≡ select_lacks_column hs stmt
+off_key : (s : Source) (hs : List Heading) → off_key_in (left_of_source s hs) (right_of_source s hs) s ≡ joins_off_key_at hs s
+off_key (OneTable name) hs = refl
+off_key (Join a b on equals) hs = refl
+
+abbrev names_of : Stmt → List ColumnName
+names_of stmt = named_columns stmt ++ flat_map comparison_columns (compared stmt)
+
+named : (stmt : Stmt) → named_in (parts_of stmt) ≡ names_of stmt
+named (Create table columns capacity) = refl
+named (Insert table columns values) = no_more ∙ no_more ∙ no_more ∙ no_more ∙ no_more
+named (Update table sets cond) =
+    ap (λ names. names ++ flat_map comparison_columns (where_comparisons cond)) (no_more ∙ no_more ∙ no_more ∙ no_more ∙ map-map unqualified (λ (s : Set). s.column) sets)
+named (Delete table cond) = refl
+named (DropTable table) = refl
+named (RowsStmt s) = ap (λ names. names ++ flat_map comparison_columns (where_comparisons s.cond)) (no_more ∙ no_more)
+named (TotalsStmt s) = refl
+
+select_lacks : (stmt : Stmt) (hs : List Heading) → select_lacks_in (left hs stmt) (right hs stmt) (parts_of stmt) ≡ select_lacks_column hs stmt
 select_lacks (Create table columns capacity) hs = refl
 select_lacks (Insert table columns values) hs = refl
 select_lacks (Update table sets cond) hs = refl
 select_lacks (Delete table cond) hs = refl
 select_lacks (DropTable table) hs = refl
 select_lacks (RowsStmt s) hs = λ t. not (apart s.source hs t)
-select_lacks (TotalsStmt s) hs = λ t. has_stray_column (append-nil (columns_at s.table hs) t) s
+select_lacks (TotalsStmt s) hs = alone ∙ (λ t. has_stray_column (append-nil (columns_at s.table hs) t) s)
 
-pub lacks_is : (stmt : Stmt) (hs : List Heading) → lacks_in (left_of stmt hs) (right_of stmt hs) stmt ≡ lacks_column hs stmt
-lacks_is stmt hs = λ t. list_any (λ name. not (means_one (scope stmt hs t) name)) (named_columns stmt ++ flat_map comparison_columns (compared stmt)) || select_lacks stmt hs t
+-- the conditions by the columns of both tables
+pub others_are : (stmt : Stmt) (given : Limits) (hs : List Heading) →
+    (missing_in hs (parts_of stmt).source ≡ lacks_table hs stmt)
+    × (takes_in hs (parts_of stmt) ≡ takes_name hs stmt)
+    × (lack_columns (both hs (parts_of stmt).source) (names_of stmt) ≡ lack_columns (scope_of stmt hs) (names_of stmt))
+    × (mistypes_in (both hs (parts_of stmt).source) (left hs stmt) (parts_of stmt) ≡ has_wrong_type hs stmt)
+    × (overflows_in (both hs (parts_of stmt).source) (left hs stmt) (parts_of stmt) ≡ is_out_of_range hs stmt)
+    × (exceeds_in given hs (parts_of stmt) ≡ is_past_limit given hs stmt)
+    × (breaks_key_in (left hs stmt) (parts_of stmt) ≡ breaks_key_rule hs stmt)
+    × (option_map_or (off_key_in (left hs stmt) (right hs stmt)) (parts_of stmt).source false ≡ joins_off_key hs stmt)
+others_are (Create table columns capacity) given hs = (refl, alone ∙ alone ∙ alone, refl, refl, refl, alone ∙ alone ∙ alone, alone, refl)
+others_are (Insert table columns values) given hs = (
+  refl,
+  alone ∙ alone,
+  refl,
+  alone ∙ alone ∙ alone ∙ alone ∙ sym (ap (λ b. b || is_incomplete (columns_at table hs) columns values) (alone ∙ alone)),
+  alone,
+  refl,
+  refl,
+  refl,
+)
+others_are (Update table sets cond) given hs = (refl, alone, refl, refl, refl, refl, λ t. sets_key (append-nil (columns_at table hs) t) sets, refl)
+others_are (Delete table cond) given hs = (refl, refl, refl, refl, refl, refl, refl, refl)
+others_are (DropTable table) given hs = (refl, refl, refl, refl, refl, refl, refl, refl)
+others_are (RowsStmt s) given hs = (refl, refl, refl, refl, refl, ap (λ b. b || joins_past given hs s.source) alone, refl, off_key s.source hs)
+others_are (TotalsStmt s) given hs = (refl, refl, refl, refl, refl, alone, refl, refl)
 
-pub mistypes_is : (stmt : Stmt) (hs : List Heading) → mistypes_in (left_of stmt hs) (right_of stmt hs) stmt ≡ has_wrong_type hs stmt
-mistypes_is stmt hs =
-    λ t. list_any (λ (a : ColumnName × Literal). not (at_kind (λ k. is_of_kind k a.1) a.0 (scope stmt hs t))) (assignments stmt (scope stmt hs t))
-    || list_any (is_wrong_comparison (scope stmt hs t)) (compared stmt)
-    || list_any (λ name. not (at_kind (same_kind IntKind) name (scope stmt hs t))) (flat_map number_columns (items_of stmt))
-    || is_badly_typed (scope stmt hs t) stmt
-
-pub overflows_is : (stmt : Stmt) (hs : List Heading) → overflows_in (left_of stmt hs) (right_of stmt hs) stmt ≡ is_out_of_range hs stmt
-overflows_is stmt hs =
-    λ t. list_any (λ (a : ColumnName × Literal). at_kind (λ k. is_too_large_for k a.1) a.0 (scope stmt hs t)) (assignments stmt (scope stmt hs t))
-    || list_any (λ (c : Comparison). against_too_large c.1) (compared stmt)
+-- a name that no column has
+pub lacks_is : (stmt : Stmt) (hs : List Heading) → lacks_in (left hs stmt) (right hs stmt) (parts_of stmt) ≡ (lack_columns (both hs (parts_of stmt).source) (names_of stmt) || select_lacks_column hs stmt)
+lacks_is stmt hs = λ t. lack_columns (scope (parts_of stmt).source hs t) (named stmt t) || select_lacks stmt hs t

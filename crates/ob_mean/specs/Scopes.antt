@@ -1,15 +1,22 @@
--- The same refusals, by the columns of the left table and of the right one.
-use Rattle.std.specs.Prelude.{Bool, true, false, not, ◌||◌, List, [], ◌++◌, length, ◌≡◌, ⊤}
-use Rattle.std.specs.List.{flat_map}
+-- The same refusals, by the parts of a statement, the columns of the left table and those of the right one.
+use Rattle.std.specs.Prelude.{ℕ, Bool, true, false, not, ◌||◌, nat_lt, List, [], ◌++◌, map, length, sum_by, zip, Option, bytes_eq, option_to_list, unwrap_or}
+use Rattle.std.specs.List.{list_any, flat_map}
+use Rattle.std.specs.Option.{option_map_or}
 use Rattle.ob_base.specs.declared.schema.Heading.{Heading}
+use Rattle.ob_base.specs.declared.skeleton.ColumnName.{ColumnName}
+use Rattle.ob_base.specs.declared.skeleton.NewColumn.{NewColumn}
 use Rattle.ob_base.specs.declared.skeleton.Source.{Source}
 use Rattle.ob_base.specs.declared.skeleton.Source.TheVariants.{Table as OneTable, Join}
+use Rattle.ob_base.specs.Lists.{has_repeats}
 use Rattle.ob_base.specs.Schemas.{Columns}
-use Rattle.ob_sql.specs.declared.stmt.Stmt.{Stmt}
-use Rattle.ob_sql.specs.declared.stmt.Stmt.TheVariants.{Create, Insert, Update, Delete, Drop as DropTable, SelectRows as RowsStmt, SelectTotals as TotalsStmt}
-use Rattle.ob_mean.specs.Names.{columns_at}
-use Rattle.ob_mean.specs.Kinds.{comparison_columns, mistype_columns, overflow_columns, mistype_comparisons, overflow_comparisons, are_texts, number_columns}
-use Rattle.ob_mean.specs.Refusals.{assignments, compared, named_columns, items_of, lack_columns, is_across, has_stray_column, is_badly_typed}
+use Rattle.ob_base.specs.Stored.{has_table}
+use Rattle.ob_sql.specs.declared.stmt.Literal.{Literal}
+use Rattle.ob_sql.specs.declared.stmt.Set.{Set}
+use Rattle.ob_sql.specs.Skeleton.{named_by}
+use Rattle.ob_mean.specs.Names.{columns_at, unqualified}
+use Rattle.ob_mean.specs.Kinds.{where_comparisons, comparison_columns, mistype_columns, overflow_columns, mistype_comparisons, overflow_comparisons, are_texts, number_columns, plain_columns}
+use Rattle.ob_mean.specs.Parts.{Parts, NewTable, NewRow}
+use Rattle.ob_mean.specs.Refusals.{Limits, source_tables, join_columns, joins_itself, joins_kinds, joins_past, creates_past, insert_columns, is_incomplete, is_group, is_key, left_place, lack_columns, is_across, sets_key}
 
 abbrev pub left_of_source : Source → List Heading → Columns
 left_of_source (OneTable name) hs = columns_at name hs
@@ -19,54 +26,100 @@ abbrev pub right_of_source : Source → List Heading → Columns
 right_of_source (OneTable name) hs = []
 right_of_source (Join a b on equals) hs = columns_at b hs
 
-abbrev pub left_of : Stmt → List Heading → Columns
-left_of (Create table columns capacity) hs = []
-left_of (Insert table columns values) hs = columns_at table hs
-left_of (Update table sets cond) hs = columns_at table hs
-left_of (Delete table cond) hs = columns_at table hs
-left_of (DropTable table) hs = []
-left_of (RowsStmt s) hs = left_of_source s.source hs
-left_of (TotalsStmt s) hs = columns_at s.table hs
+abbrev pub left_in : List Heading → Option Source → Columns
+left_in hs source = option_map_or (λ s. left_of_source s hs) source []
 
-abbrev pub right_of : Stmt → List Heading → Columns
-right_of (RowsStmt s) hs = right_of_source s.source hs
-right_of _ hs = []
+abbrev pub right_in : List Heading → Option Source → Columns
+right_in hs source = option_map_or (λ s. right_of_source s hs) source []
 
--- a name that no column has
+-- a table that is to exist doesn't
+abbrev pub missing_in : List Heading → Option Source → Bool
+missing_in hs source = option_map_or (λ s. list_any (λ name. not (has_table name hs)) (source_tables s)) source false
+
+-- a table that is to be new exists, or a name stands twice
+abbrev pub is_taken : List Heading → NewTable → Bool
+is_taken hs t = has_table t.name hs || has_repeats bytes_eq (map (λ (c : NewColumn). c.name) t.columns)
+
+abbrev pub given_names : Option NewRow → List (List ℕ)
+given_names given = option_map_or (λ (r : NewRow). unwrap_or r.names []) given []
+
+abbrev pub takes_in : List Heading → Parts → Bool
+takes_in hs p =
+    option_map_or (is_taken hs) p.created false
+    || has_repeats bytes_eq (given_names p.given)
+    || has_repeats bytes_eq (map (λ (s : Set). s.column) p.sets)
+    || option_map_or joins_itself p.source false
+
+-- a name that no column has, a plain column that strays, or columns of ON that aren't one of each table
 abbrev pub joins_apart_in : (left right : Columns) → Source → Bool
 joins_apart_in left right (OneTable name) = true
 joins_apart_in left right (Join a b on equals) = is_across (length left) (left ++ right) on equals
 
-abbrev pub select_lacks_in : (left right : Columns) → Stmt → Bool
-select_lacks_in left right (RowsStmt s) = not (joins_apart_in left right s.source)
-select_lacks_in left right (TotalsStmt s) = has_stray_column (left ++ right) s
-select_lacks_in left right _ = false
+abbrev pub named_in : Parts → List ColumnName
+named_in p =
+    map unqualified (given_names p.given)
+    ++ map unqualified (map (λ (s : Set). s.column) p.sets)
+    ++ p.columns
+    ++ option_map_or join_columns p.source []
+    ++ flat_map named_by p.items
+    ++ option_to_list p.group
+    ++ flat_map comparison_columns (where_comparisons p.cond)
 
-abbrev pub lacks_in : (left right : Columns) → Stmt → Bool
-lacks_in left right stmt =
-    lack_columns (left ++ right) (named_columns stmt ++ flat_map comparison_columns (compared stmt))
-    || select_lacks_in left right stmt
+abbrev pub select_lacks_in : (left right : Columns) → Parts → Bool
+select_lacks_in left right p =
+    list_any (λ name. not (is_group (left ++ right) p.group name)) (flat_map plain_columns p.items)
+    || not (option_map_or (joins_apart_in left right) p.source true)
+
+abbrev pub lacks_in : (left right : Columns) → Parts → Bool
+lacks_in left right p = lack_columns (left ++ right) (named_in p) || select_lacks_in left right p
 
 -- a value of another kind
-abbrev pub mistypes_in : (left right : Columns) → Stmt → Bool
-mistypes_in left right stmt =
-    mistype_columns (left ++ right) (assignments stmt (left ++ right))
-    || mistype_comparisons (left ++ right) (compared stmt)
-    || are_texts (left ++ right) (flat_map number_columns (items_of stmt))
-    || is_badly_typed (left ++ right) stmt
+abbrev pub row_in : Columns → NewRow → List (ColumnName × Literal)
+row_in left r = zip (map unqualified (insert_columns r.names left)) r.values
+
+abbrev pub sets_in : Parts → List (ColumnName × Literal)
+sets_in p = map (λ (s : Set). (unqualified s.column, s.value)) p.sets
+
+abbrev pub row_mistyped : (cs left : Columns) → NewRow → Bool
+row_mistyped cs left r = mistype_columns cs (row_in left r) || is_incomplete left r.names r.values
+
+abbrev pub mistypes_in : (cs left : Columns) → Parts → Bool
+mistypes_in cs left p =
+    option_map_or (row_mistyped cs left) p.given false
+    || mistype_columns cs (sets_in p)
+    || mistype_comparisons cs (where_comparisons p.cond)
+    || are_texts cs (flat_map number_columns p.items)
+    || not (option_map_or (joins_kinds cs) p.source true)
 
 -- a value that its column doesn't hold
-abbrev pub overflows_in : (left right : Columns) → Stmt → Bool
-overflows_in left right stmt =
-    overflow_columns (left ++ right) (assignments stmt (left ++ right))
-    || overflow_comparisons (compared stmt)
+abbrev pub row_overflows : (cs left : Columns) → NewRow → Bool
+row_overflows cs left r = overflow_columns cs (row_in left r)
 
--- but for a SELECT of rows there is no right table
-abbrev pub HasOneTable : Stmt → Columns → Type 0
-HasOneTable (Create table columns capacity) right = right ≡ []
-HasOneTable (Insert table columns values) right = right ≡ []
-HasOneTable (Update table sets cond) right = right ≡ []
-HasOneTable (Delete table cond) right = right ≡ []
-HasOneTable (DropTable table) right = right ≡ []
-HasOneTable (RowsStmt s) right = ⊤
-HasOneTable (TotalsStmt s) right = right ≡ []
+abbrev pub overflows_in : (cs left : Columns) → Parts → Bool
+overflows_in cs left p =
+    option_map_or (row_overflows cs left) p.given false
+    || overflow_columns cs (sets_in p)
+    || overflow_comparisons (where_comparisons p.cond)
+
+-- a size past the limits
+abbrev pub is_past : List Heading → NewTable → Bool
+is_past hs t = creates_past hs t.name t.columns t.capacity
+
+abbrev pub exceeds_in : Limits → List Heading → Parts → Bool
+exceeds_in limits hs p =
+    option_map_or (is_past hs) p.created false
+    || nat_lt 32 (length p.columns)
+    || nat_lt 32 (length p.items)
+    || option_map_or (joins_past limits hs) p.source false
+
+-- a second primary key, or a change of one
+abbrev pub has_more_keys : NewTable → Bool
+has_more_keys t = nat_lt 1 (sum_by (λ (c : NewColumn). c.keys) t.columns)
+
+abbrev pub breaks_key_in : Columns → Parts → Bool
+breaks_key_in left p = option_map_or has_more_keys p.created false || sets_key (left ++ []) p.sets
+
+-- a join whose left column is not the primary key
+abbrev pub off_key_in : (left right : Columns) → Source → Bool
+off_key_in left right (OneTable name) = false
+off_key_in left right (Join a b on equals) = not (is_key left (left_place (length left) (left ++ right) on equals))

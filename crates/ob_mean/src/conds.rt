@@ -3,6 +3,7 @@ ghost use Rattle.std.specs.Prelude.{◌≡◌, ◌≤◌, ◌++◌, length, flat
 ghost use Rattle.std.specs.Prelude.{Option};
 ghost use Rattle.ob_sql.specs.Search.{search_of};
 ghost use Rattle.ob_mean.specs.Kinds.{comparisons, where_comparisons, comparison_columns, mistype_comparisons, overflow_comparisons};
+ghost use Rattle.ob_mean.specs.Parts.{behind};
 ghost use Rattle.ob_mean.specs.Refusals.{lack_columns};
 
 use crate::kinds::{is_against_too_large, is_wrong_comparison};
@@ -67,12 +68,12 @@ fn tree_exceeds(tree: &CondTree) -> bool
 }
 
 /// Whether a condition names a column that there isn't, or more than one.
-pub(crate) fn lacks(cond: &Option<Cond>, left: &[Column], right: &[Column]) -> bool
+pub(crate) fn lacks(cond: Option<&Cond>, left: &[Column], right: &[Column]) -> bool
     requires left { length left.now ≤ 32 }
     requires right { length right.now ≤ 32 }
     ensures { result
         ≡ lack_columns (left.now ++ right.now)
-        (flat_map comparison_columns (where_comparisons cond.now)) }
+        (flat_map comparison_columns (where_comparisons (behind cond.entry))) }
 {
     match cond {
         None => false,
@@ -81,10 +82,11 @@ pub(crate) fn lacks(cond: &Option<Cond>, left: &[Column], right: &[Column]) -> b
 }
 
 /// Whether it compares a column with another kind.
-pub(crate) fn mistypes(cond: &Option<Cond>, left: &[Column], right: &[Column]) -> bool
+pub(crate) fn mistypes(cond: Option<&Cond>, left: &[Column], right: &[Column]) -> bool
     requires left { length left.now ≤ 32 }
     requires right { length right.now ≤ 32 }
-    ensures { result ≡ mistype_comparisons (left.now ++ right.now) (where_comparisons cond.now) }
+    ensures { result
+        ≡ mistype_comparisons (left.now ++ right.now) (where_comparisons (behind cond.entry)) }
 {
     match cond {
         None => false,
@@ -93,8 +95,8 @@ pub(crate) fn mistypes(cond: &Option<Cond>, left: &[Column], right: &[Column]) -
 }
 
 /// Whether it compares one with a literal that no cell holds.
-pub(crate) fn exceeds(cond: &Option<Cond>) -> bool
-    ensures { result ≡ overflow_comparisons (where_comparisons cond.now) }
+pub(crate) fn exceeds(cond: Option<&Cond>) -> bool
+    ensures { result ≡ overflow_comparisons (where_comparisons (behind cond.entry)) }
 {
     match cond {
         None => false,

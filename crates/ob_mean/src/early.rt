@@ -1,5 +1,5 @@
 //! Which statements are refused before any access.
-ghost use Rattle.std.specs.Prelude.{◌≡◌, ◌≤◌, ◌+◌, ◌*◌, ◌++◌, ◌||◌, [], List, ℕ, length, map, not, unwrap_or, option_to_list, zip, bytes_eq, slice_get, false};
+ghost use Rattle.std.specs.Prelude.{◌≡◌, ◌≤◌, ◌+◌, ◌*◌, ◌++◌, ◌||◌, [], length, map, not, zip, unwrap_or, option_to_list, bytes_eq, slice_get, false};
 ghost use Rattle.std.specs.Option.{option_map_or};
 ghost use Rattle.std.specs.List.{list_any};
 ghost use Rattle.ob_base.specs.declared.schema.Column.{Column};
@@ -7,65 +7,58 @@ ghost use Rattle.ob_sql.specs.declared.stmt.Set.{Set};
 ghost use Rattle.ob_base.specs.Stored.{headings_of};
 ghost use Rattle.ob_mean.specs.Names.{unqualified, place_of};
 ghost use Rattle.ob_mean.specs.Kinds.{mistype_columns, overflow_columns};
-ghost use Rattle.ob_mean.specs.Refusals.{early_refusal, first_holding, lacks_table, takes_name, is_past_limit, breaks_key_rule, joins_off_key, is_incomplete, insert_columns, lack_columns, sets_key, limits_of};
-ghost use Rattle.ob_mean.specs.Scopes.{HasOneTable, left_of, right_of, lacks_in, mistypes_in, overflows_in};
+ghost use Rattle.ob_mean.specs.Parts.{behind, created_in, given_in, parts_in};
+ghost use Rattle.ob_mean.specs.Refusals.{early_refusal, first_holding, insert_columns, is_incomplete, lack_columns, limits_of, sets_key};
+ghost use Rattle.ob_mean.specs.Scopes.{is_taken, given_names, takes_in, named_in, lacks_in, row_mistyped, mistypes_in, row_overflows, overflows_in, is_past, exceeds_in, has_more_keys, breaks_key_in};
 
 use crate::conds::{exceeds, lacks, mistypes};
 use crate::creates::{creates_past, has_more_keys};
 use crate::kinds::{overflows, takes};
-use crate::listed::{columns_lack, has_stray_column, items_lack, items_mistype, listed};
+use crate::listed::{columns_lack, items_lack, items_mistype, items_stray};
 use crate::named::{Named, has_name, has_repeats, lack_column, mistype, overflow};
-use crate::names::{column_at, columns_at, has_table, means_one, place_of, unqualified};
+use crate::names::{column_at, has_table, means_one, place_of, unqualified};
+use crate::parts::{Created, Given, Parts, parts_of};
 use crate::sources;
-use ob_base::{Column, ColumnName, Items, Name, Public, Refusal, Table};
-use ob_sql::{Literal, SelectRows, SelectTotals, Set, Stmt};
+use ob_base::{Column, ColumnName, Name, Public, Refusal, Table};
+use ob_sql::{Set, Stmt};
 
-// A table that is to exist doesn't.
-fn lacks_table(tables: &[Table], stmt: &Stmt) -> bool
-    ensures { result ≡ lacks_table (headings_of tables.now) stmt.now }
+fn is_taken(tables: &[Table], created: &Option<Created<'_>>) -> bool
+    ensures { result
+        ≡ option_map_or (is_taken (headings_of tables.now)) (created_in created.now) false }
 {
-    match stmt {
-        Stmt::Create { .. } => false,
-        Stmt::Insert { table, .. } => !has_table(tables, table),
-        Stmt::Update { table, .. } => !has_table(tables, table),
-        Stmt::Delete { table, .. } => !has_table(tables, table),
-        Stmt::Drop { table } => !has_table(tables, table),
-        Stmt::SelectRows(select) => sources::source_lacks(tables, &select.source),
-        Stmt::SelectTotals(select) => !has_table(tables, &select.table),
+    match created {
+        None => false,
+        Some(created) => has_table(tables, created.name) || has_repeats(created.columns),
     }
 }
 
 // The names of an INSERT's list.
-fn names_of(columns: &Option<Items<Name>>) -> &[Name]
-    ensures { result.now ≡ unwrap_or columns.now [] }
+fn names_of<'a>(given: &Option<Given<'a>>) -> &'a [Name]
+    ensures { result.now ≡ given_names (given_in given.now) }
 {
-    match columns {
+    match given {
         None => &[],
-        Some(names) => names.as_slice(),
+        Some(given) => match given.names {
+            None => &[],
+            Some(names) => names.as_slice(),
+        },
     }
 }
 
 // A table that is to be new exists, or a name stands twice.
-fn takes_name(tables: &[Table], stmt: &Stmt) -> bool
-    ensures { result ≡ takes_name (headings_of tables.now) stmt.now }
+fn takes_name(tables: &[Table], parts: &Parts<'_>) -> bool
+    ensures { result ≡ takes_in (headings_of tables.now) (parts_in parts.now) }
 {
-    match stmt {
-        Stmt::Create { table, columns, .. } => {
-            has_table(tables, table) || has_repeats(columns.as_slice())
-        }
-        Stmt::Insert { columns, .. } => has_repeats(names_of(columns)),
-        Stmt::Update { sets, .. } => has_repeats(sets.as_slice()),
-        Stmt::Delete { .. } => false,
-        Stmt::Drop { .. } => false,
-        Stmt::SelectRows(select) => sources::joins_itself(&select.source),
-        Stmt::SelectTotals(_) => false,
-    }
+    is_taken(tables, &parts.created)
+        || has_repeats(names_of(&parts.given))
+        || has_repeats(parts.sets)
+        || sources::joins_itself(&parts.tables)
 }
 
-fn group_lacks(group: &Option<ColumnName>, left: &[Column], right: &[Column]) -> bool
+fn group_lacks(group: Option<&ColumnName>, left: &[Column], right: &[Column]) -> bool
     requires left { length left.now ≤ 32 }
     requires right { length right.now ≤ 32 }
-    ensures { result ≡ lack_columns (left.now ++ right.now) (option_to_list group.now) }
+    ensures { result ≡ lack_columns (left.now ++ right.now) (option_to_list (behind group.entry)) }
 {
     match group {
         None => false,
@@ -73,64 +66,31 @@ fn group_lacks(group: &Option<ColumnName>, left: &[Column], right: &[Column]) ->
     }
 }
 
-// A name of a SELECT of rows that no column has, or columns of ON that aren't one of each table.
 #[tactic(auto, using(crate::proofs::CondLemmas::any_append))]
-fn rows_lack(select: &SelectRows, left: &[Column], right: &[Column]) -> bool
+fn names_lack(parts: &Parts<'_>, left: &[Column], right: &[Column]) -> bool
     requires left { length left.now ≤ 32 }
     requires right { length right.now ≤ 32 }
-    ensures { result ≡ lacks_in left.now right.now (Stmt.SelectRows select.now) }
+    ensures { result ≡ lack_columns (left.now ++ right.now) (named_in (parts_in parts.now)) }
 {
-    columns_lack(listed(&select.list), left, right)
-        || sources::on_lacks(&select.source, left, right)
-        || lacks(&select.cond, left, right)
-        || !sources::joins_apart(&select.source, left, right)
+    lack_column(names_of(&parts.given), left, right)
+        || lack_column(parts.sets, left, right)
+        || columns_lack(parts.columns, left, right)
+        || sources::on_lacks(&parts.tables, left, right)
+        || items_lack(parts.items, left, right)
+        || group_lacks(parts.group, left, right)
+        || lacks(parts.cond, left, right)
 }
 
-// A name of a SELECT of totals that no column has, or a plain column that strays.
-#[tactic(auto, using(crate::proofs::CondLemmas::any_append))]
-fn totals_lack(select: &SelectTotals, left: &[Column], right: &[Column]) -> bool
+// A name that no column has there, a plain column that strays, or columns of ON that aren't one of each
+// table.
+fn lacks_column(parts: &Parts<'_>, left: &[Column], right: &[Column]) -> bool
     requires left { length left.now ≤ 32 }
     requires right { length right.now ≤ 32 }
-    ensures { result ≡ lacks_in left.now right.now (Stmt.SelectTotals select.now) }
+    ensures { result ≡ lacks_in left.now right.now (parts_in parts.now) }
 {
-    items_lack(select.items.as_slice(), left, right)
-        || group_lacks(&select.group, left, right)
-        || lacks(&select.cond, left, right)
-        || has_stray_column(select, left, right)
-}
-
-// A name that no column has there.
-#[tactic(auto, using(crate::proofs::CondLemmas::any_append))]
-fn lacks_column(stmt: &Stmt, left: &[Column], right: &[Column]) -> bool
-    requires left { length left.now ≤ 32 }
-    requires right { length right.now ≤ 32 }
-    ensures { result ≡ lacks_in left.now right.now stmt.now }
-{
-    match stmt {
-        Stmt::Create { .. } => false,
-        Stmt::Insert { columns, .. } => lack_column(names_of(columns), left, right),
-        Stmt::Update { sets, cond, .. } => {
-            sets_lack(sets.as_slice(), left, right) || lacks(cond, left, right)
-        }
-        Stmt::Delete { cond, .. } => lacks(cond, left, right),
-        Stmt::Drop { .. } => false,
-        Stmt::SelectRows(select) => rows_lack(select, left, right),
-        Stmt::SelectTotals(select) => totals_lack(select, left, right),
-    }
-}
-
-fn sets_lack(sets: &[Set], left: &[Column], right: &[Column]) -> bool
-    requires left { length left.now ≤ 32 }
-    requires right { length right.now ≤ 32 }
-    ensures { result ≡ lack_columns (left.now ++ right.now)
-        (map (λ (s : Set). unqualified s.column) sets.now) }
-{
-    match sets.split_first() {
-        None => false,
-        Some((set, sets)) => {
-            !means_one(&unqualified(&set.column), left, right) || sets_lack(sets, left, right)
-        }
-    }
+    names_lack(parts, left, right)
+        || items_stray(parts.group, parts.items, left, right)
+        || !sources::joins_apart(&parts.tables, left, right)
 }
 
 fn sets_mistype(sets: &[Set], left: &[Column], right: &[Column]) -> bool
@@ -164,37 +124,27 @@ fn sets_overflow(sets: &[Set], left: &[Column], right: &[Column]) -> bool
 }
 
 // The values of an INSERT, of another kind than their columns.
-fn values_mistype(
-    names: &Option<Items<Name>>,
-    values: &[Literal],
-    left: &[Column],
-    right: &[Column],
-) -> bool
+fn values_mistype(given: &Given<'_>, left: &[Column], right: &[Column]) -> bool
     requires left { length left.now ≤ 32 }
-    requires right { right.now ≡ [] }
+    requires right { length right.now ≤ 32 }
     ensures { result ≡ mistype_columns (left.now ++ right.now)
-        (zip (map unqualified (insert_columns names.now (left.now ++ right.now))) values.now) }
+        (zip (map unqualified (insert_columns given.now.names.now left.now)) given.now.values.now) }
 {
-    match names {
-        None => mistype(left, values, left, right),
-        Some(names) => mistype(names.as_slice(), values, left, right),
+    match given.names {
+        None => mistype(left, given.values, left, right),
+        Some(names) => mistype(names.as_slice(), given.values, left, right),
     }
 }
 
-fn values_overflow(
-    names: &Option<Items<Name>>,
-    values: &[Literal],
-    left: &[Column],
-    right: &[Column],
-) -> bool
+fn values_overflow(given: &Given<'_>, left: &[Column], right: &[Column]) -> bool
     requires left { length left.now ≤ 32 }
-    requires right { right.now ≡ [] }
+    requires right { length right.now ≤ 32 }
     ensures { result ≡ overflow_columns (left.now ++ right.now)
-        (zip (map unqualified (insert_columns names.now (left.now ++ right.now))) values.now) }
+        (zip (map unqualified (insert_columns given.now.names.now left.now)) given.now.values.now) }
 {
-    match names {
-        None => overflow(left, values, left, right),
-        Some(names) => overflow(names.as_slice(), values, left, right),
+    match given.names {
+        None => overflow(left, given.values, left, right),
+        Some(names) => overflow(names.as_slice(), given.values, left, right),
     }
 }
 
@@ -208,131 +158,87 @@ fn leaves_out<T: Named>(columns: &[Column], names: &[T]) -> bool
 }
 
 // The list of an INSERT leaves a column out, or there are more or fewer values than columns.
-fn is_incomplete(
-    names: &Option<Items<Name>>,
-    values: &[Literal],
-    left: &[Column],
-    right: &[Column],
-) -> bool
-    requires left { length left.now ≤ 32 }
-    requires right { right.now ≡ [] }
-    ensures { result ≡ is_incomplete (left.now ++ right.now) names.now values.now }
+fn is_incomplete(given: &Given<'_>, columns: &[Column]) -> bool
+    ensures { result ≡ is_incomplete columns.now given.now.names.now given.now.values.now }
 {
-    let left_out = match names {
-        None => leaves_out(left, left),
-        Some(names) => leaves_out(left, names.as_slice()),
+    let left_out = match given.names {
+        None => leaves_out(columns, columns),
+        Some(names) => leaves_out(columns, names.as_slice()),
     };
-    left_out || values.len() != left.len()
+    left_out || given.values.len() != columns.len()
 }
 
-fn rows_mistype(select: &SelectRows, left: &[Column], right: &[Column]) -> bool
+fn row_mistypes(given: &Option<Given<'_>>, left: &[Column], right: &[Column]) -> bool
     requires left { length left.now ≤ 32 }
     requires right { length right.now ≤ 32 }
-    ensures { result ≡ mistypes_in left.now right.now (Stmt.SelectRows select.now) }
+    ensures { result
+        ≡ option_map_or (row_mistyped (left.now ++ right.now) left.now) (given_in given.now) false }
 {
-    mistypes(&select.cond, left, right) || !sources::joins_kinds(&select.source, left, right)
+    match given {
+        None => false,
+        Some(given) => values_mistype(given, left, right) || is_incomplete(given, left),
+    }
 }
 
-fn totals_mistype(select: &SelectTotals, left: &[Column], right: &[Column]) -> bool
+fn row_overflows(given: &Option<Given<'_>>, left: &[Column], right: &[Column]) -> bool
     requires left { length left.now ≤ 32 }
     requires right { length right.now ≤ 32 }
-    ensures { result ≡ mistypes_in left.now right.now (Stmt.SelectTotals select.now) }
+    ensures { result
+        ≡ option_map_or (row_overflows (left.now ++ right.now) left.now) (given_in given.now) false }
 {
-    mistypes(&select.cond, left, right) || items_mistype(select.items.as_slice(), left, right)
-}
-
-fn insert_mistypes(
-    names: &Option<Items<Name>>,
-    values: &[Literal],
-    left: &[Column],
-    right: &[Column],
-) -> bool
-    requires left { length left.now ≤ 32 }
-    requires right { right.now ≡ [] }
-    ensures { (table : List ℕ) →
-        result ≡ mistypes_in left.now right.now (Stmt.Insert table names.now values.now) }
-{
-    values_mistype(names, values, left, right) || is_incomplete(names, values, left, right)
+    match given {
+        None => false,
+        Some(given) => values_overflow(given, left, right),
+    }
 }
 
 // A value of another kind than its column.
-fn mistypes_any(stmt: &Stmt, left: &[Column], right: &[Column]) -> bool
+fn mistypes_any(parts: &Parts<'_>, left: &[Column], right: &[Column]) -> bool
     requires left { length left.now ≤ 32 }
     requires right { length right.now ≤ 32 }
-    requires one { HasOneTable stmt.now right.now }
-    ensures { result ≡ mistypes_in left.now right.now stmt.now }
+    ensures { result ≡ mistypes_in (left.now ++ right.now) left.now (parts_in parts.now) }
 {
-    match stmt {
-        Stmt::Create { .. } => false,
-        Stmt::Insert {
-            columns,
-            values,
-            ..
-        } => insert_mistypes(columns, values.as_slice(), left, right),
-        Stmt::Update { sets, cond, .. } => {
-            sets_mistype(sets.as_slice(), left, right) || mistypes(cond, left, right)
-        }
-        Stmt::Delete { cond, .. } => mistypes(cond, left, right),
-        Stmt::Drop { .. } => false,
-        Stmt::SelectRows(select) => rows_mistype(select, left, right),
-        Stmt::SelectTotals(select) => totals_mistype(select, left, right),
-    }
+    row_mistypes(&parts.given, left, right)
+        || sets_mistype(parts.sets, left, right)
+        || mistypes(parts.cond, left, right)
+        || items_mistype(parts.items, left, right)
+        || !sources::joins_kinds(&parts.tables, left, right)
 }
 
 // A value that its column doesn't hold.
-fn overflows_any(stmt: &Stmt, left: &[Column], right: &[Column]) -> bool
+fn overflows_any(parts: &Parts<'_>, left: &[Column], right: &[Column]) -> bool
     requires left { length left.now ≤ 32 }
     requires right { length right.now ≤ 32 }
-    requires one { HasOneTable stmt.now right.now }
-    ensures { result ≡ overflows_in left.now right.now stmt.now }
+    ensures { result ≡ overflows_in (left.now ++ right.now) left.now (parts_in parts.now) }
 {
-    match stmt {
-        Stmt::Create { .. } => false,
-        Stmt::Insert {
-            columns,
-            values,
-            ..
-        } => values_overflow(columns, values.as_slice(), left, right),
-        Stmt::Update { sets, cond, .. } => {
-            sets_overflow(sets.as_slice(), left, right) || exceeds(cond)
-        }
-        Stmt::Delete { cond, .. } => exceeds(cond),
-        Stmt::Drop { .. } => false,
-        Stmt::SelectRows(select) => exceeds(&select.cond),
-        Stmt::SelectTotals(select) => exceeds(&select.cond),
-    }
+    row_overflows(&parts.given, left, right)
+        || sets_overflow(parts.sets, left, right)
+        || exceeds(parts.cond)
 }
 
-// A size past the limits.
-fn is_past_limit(public: &Public, stmt: &Stmt) -> bool
-    requires pack { 1 ≤ public.now.pack }
-    requires buffer { 3 * public.now.pack + 1 ≤ public.now.buffer }
+fn new_past(tables: &[Table], created: &Option<Created<'_>>) -> bool
     ensures { result
-        ≡ is_past_limit (limits_of public.now) (headings_of public.now.tables) stmt.now }
+        ≡ option_map_or (is_past (headings_of tables.now)) (created_in created.now) false }
 {
-    match stmt {
-        Stmt::Create {
-            columns,
-            capacity,
-            ..
-        } => creates_past(public.tables.as_slice(), columns.as_slice(), *capacity),
-        Stmt::SelectRows(select) => {
-            listed(&select.list).len() > 32 || sources::joins_past(public, &select.source)
-        }
-        Stmt::SelectTotals(select) => select.items.as_slice().len() > 32,
-        _ => false,
+    match created {
+        None => false,
+        Some(created) => creates_past(tables, created.columns, created.capacity),
     }
 }
 
 // A size past the limits, or too many accesses before it.
-fn meets_limit(late: bool, public: &Public, stmt: &Stmt) -> bool
+fn meets_limit(late: bool, public: &Public, parts: &Parts<'_>) -> bool
     requires pack { 1 ≤ public.now.pack }
     requires buffer { 3 * public.now.pack + 1 ≤ public.now.buffer }
     ensures { result
-        ≡ (is_past_limit (limits_of public.now) (headings_of public.now.tables) stmt.now
+        ≡ (exceeds_in (limits_of public.now) (headings_of public.now.tables) (parts_in parts.now)
         || late) }
 {
-    is_past_limit(public, stmt) || late
+    new_past(public.tables.as_slice(), &parts.created)
+        || parts.columns.len() > 32
+        || parts.items.len() > 32
+        || sources::joins_past(public, &parts.tables)
+        || late
 }
 
 // One of the columns is the primary key.
@@ -360,58 +266,21 @@ fn is_key_named(name: &ColumnName, columns: &[Column]) -> bool
     }
 }
 
+fn new_keys(created: &Option<Created<'_>>) -> bool
+    ensures { result ≡ option_map_or has_more_keys (created_in created.now) false }
+{
+    match created {
+        None => false,
+        Some(created) => has_more_keys(created.columns),
+    }
+}
+
 // A second primary key, or a change of one.
-fn breaks_key_rule(tables: &[Table], stmt: &Stmt) -> bool
-    ensures { result ≡ breaks_key_rule (headings_of tables.now) stmt.now }
+fn breaks_key_rule(parts: &Parts<'_>, columns: &[Column]) -> bool
+    requires { length columns.now ≤ 32 }
+    ensures { result ≡ breaks_key_in columns.now (parts_in parts.now) }
 {
-    match stmt {
-        Stmt::Create { columns, .. } => has_more_keys(columns.as_slice()),
-        Stmt::Update { table, sets, .. } => sets_key(sets.as_slice(), columns_at(tables, table)),
-        _ => false,
-    }
-}
-
-// A join whose left column is not the primary key.
-fn joins_off_key(tables: &[Table], stmt: &Stmt) -> bool
-    ensures { result ≡ joins_off_key (headings_of tables.now) stmt.now }
-{
-    match stmt {
-        Stmt::SelectRows(select) => sources::joins_off_key(tables, &select.source),
-        _ => false,
-    }
-}
-
-// The columns of the one table that a statement is on, or of its left one.
-fn left_columns<'a>(tables: &'a [Table], stmt: &Stmt) -> &'a [Column]
-    ensures value { result.now ≡ left_of stmt.now (headings_of tables.now) }
-    ensures few { length result.now ≤ 32 }
-{
-    match stmt {
-        Stmt::Create { .. } => &[],
-        Stmt::Insert { table, .. } => columns_at(tables, table),
-        Stmt::Update { table, .. } => columns_at(tables, table),
-        Stmt::Delete { table, .. } => columns_at(tables, table),
-        Stmt::Drop { .. } => &[],
-        Stmt::SelectRows(select) => sources::left_of(tables, &select.source),
-        Stmt::SelectTotals(select) => columns_at(tables, &select.table),
-    }
-}
-
-// The columns of its right table, if it has one.
-fn right_columns<'a>(tables: &'a [Table], stmt: &Stmt) -> &'a [Column]
-    ensures value { result.now ≡ right_of stmt.now (headings_of tables.now) }
-    ensures few { length result.now ≤ 32 }
-    ensures one { HasOneTable stmt.now result.now }
-{
-    match stmt {
-        Stmt::Create { .. } => &[],
-        Stmt::Insert { .. } => &[],
-        Stmt::Update { .. } => &[],
-        Stmt::Delete { .. } => &[],
-        Stmt::Drop { .. } => &[],
-        Stmt::SelectRows(select) => sources::right_of(tables, &select.source),
-        Stmt::SelectTotals(_) => &[],
-    }
+    new_keys(&parts.created) || sets_key(parts.sets, columns)
 }
 
 // The first refusal whose condition holds.
@@ -439,16 +308,23 @@ pub fn early_refusal(late: bool, public: &Public, stmt: &Stmt) -> Option<Refusal
         ≡ early_refusal late (limits_of public.now) (headings_of public.now.tables) stmt.now }
 {
     let tables = public.tables.as_slice();
-    let left = left_columns(tables, stmt);
-    let right = right_columns(tables, stmt);
+    let parts = parts_of(stmt);
+    let left = sources::left_of(tables, &parts.tables);
+    let right = sources::right_of(tables, &parts.tables);
     first_of(&[
-        (lacks_table(tables, stmt), Refusal::NoTable),
-        (takes_name(tables, stmt), Refusal::NameTaken),
-        (lacks_column(stmt, left, right), Refusal::NoColumn),
-        (mistypes_any(stmt, left, right), Refusal::WrongType),
-        (overflows_any(stmt, left, right), Refusal::ValueRange),
-        (meets_limit(late, public, stmt), Refusal::Limit),
-        (breaks_key_rule(tables, stmt), Refusal::KeyRule),
-        (joins_off_key(tables, stmt), Refusal::JoinKey),
+        (
+            sources::lacks_table(tables, &parts.tables),
+            Refusal::NoTable,
+        ),
+        (takes_name(tables, &parts), Refusal::NameTaken),
+        (lacks_column(&parts, left, right), Refusal::NoColumn),
+        (mistypes_any(&parts, left, right), Refusal::WrongType),
+        (overflows_any(&parts, left, right), Refusal::ValueRange),
+        (meets_limit(late, public, &parts), Refusal::Limit),
+        (breaks_key_rule(&parts, left), Refusal::KeyRule),
+        (
+            sources::joins_off_key(&parts.tables, left, right),
+            Refusal::JoinKey,
+        ),
     ])
 }

@@ -12,6 +12,7 @@ mod laws;
 mod listed;
 mod named;
 mod names;
+mod parts;
 mod sources;
 mod values;
 

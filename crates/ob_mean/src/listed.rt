@@ -3,12 +3,13 @@ ghost use Rattle.std.specs.Prelude.{◌≡◌, ◌≤◌, ◌++◌, [], length, 
 ghost use Rattle.std.specs.List.{list_any};
 ghost use Rattle.ob_sql.specs.Skeleton.{named_by};
 ghost use Rattle.ob_mean.specs.Kinds.{are_texts, number_columns, plain_columns};
-ghost use Rattle.ob_mean.specs.Refusals.{lack_columns, is_group, has_stray_column};
+ghost use Rattle.ob_mean.specs.Parts.{behind};
+ghost use Rattle.ob_mean.specs.Refusals.{lack_columns, is_group};
 
 use crate::kinds::is_number;
 use crate::names::{means_one, place_of};
 use ob_base::{Column, ColumnName, Items};
-use ob_sql::{Listed, SelectTotals};
+use ob_sql::Listed;
 
 /// The columns, none for `*`.
 pub(crate) fn listed(list: &Option<Items<ColumnName>>) -> &[ColumnName]
@@ -87,14 +88,14 @@ pub(crate) fn items_mistype(items: &[Listed], left: &[Column], right: &[Column])
 }
 
 fn is_group(
-    group: &Option<ColumnName>,
+    group: Option<&ColumnName>,
     name: &ColumnName,
     left: &[Column],
     right: &[Column],
 ) -> bool
     requires left { length left.now ≤ 32 }
     requires right { length right.now ≤ 32 }
-    ensures { result ≡ is_group (left.now ++ right.now) group.now name.now }
+    ensures { result ≡ is_group (left.now ++ right.now) (behind group.entry) name.now }
 {
     match group {
         None => false,
@@ -102,11 +103,11 @@ fn is_group(
     }
 }
 
-fn item_strays(group: &Option<ColumnName>, item: &Listed, left: &[Column], right: &[Column]) -> bool
+fn item_strays(group: Option<&ColumnName>, item: &Listed, left: &[Column], right: &[Column]) -> bool
     requires left { length left.now ≤ 32 }
     requires right { length right.now ≤ 32 }
     ensures { result ≡ list_any
-        (λ name. not (is_group (left.now ++ right.now) group.now name))
+        (λ name. not (is_group (left.now ++ right.now) (behind group.entry) name))
         (plain_columns item.now) }
 {
     match item {
@@ -115,9 +116,10 @@ fn item_strays(group: &Option<ColumnName>, item: &Listed, left: &[Column], right
     }
 }
 
+/// Whether a plain column stands there that isn't the one of GROUP BY.
 #[tactic(auto, using(crate::proofs::CondLemmas::any_append))]
-fn items_stray(
-    group: &Option<ColumnName>,
+pub(crate) fn items_stray(
+    group: Option<&ColumnName>,
     items: &[Listed],
     left: &[Column],
     right: &[Column],
@@ -125,7 +127,7 @@ fn items_stray(
     requires left { length left.now ≤ 32 }
     requires right { length right.now ≤ 32 }
     ensures { result ≡ list_any
-        (λ name. not (is_group (left.now ++ right.now) group.now name))
+        (λ name. not (is_group (left.now ++ right.now) (behind group.entry) name))
         (flat_map plain_columns items.now) }
 {
     match items.split_first() {
@@ -134,13 +136,4 @@ fn items_stray(
             item_strays(group, item, left, right) || items_stray(group, items, left, right)
         }
     }
-}
-
-/// Whether a plain column stands there that isn't the one of GROUP BY.
-pub(crate) fn has_stray_column(select: &SelectTotals, left: &[Column], right: &[Column]) -> bool
-    requires left { length left.now ≤ 32 }
-    requires right { length right.now ≤ 32 }
-    ensures { result ≡ has_stray_column (left.now ++ right.now) select.now }
-{
-    items_stray(&select.group, select.items.as_slice(), left, right)
 }

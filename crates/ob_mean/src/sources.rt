@@ -1,56 +1,59 @@
-//! Where a SELECT takes its rows from.
-ghost use Rattle.std.specs.Prelude.{◌≡◌, ◌≤◌, ◌<◌, ◌+◌, ◌*◌, ◌++◌, ◌-◌, length, not, position};
-ghost use Rattle.std.specs.List.{list_any};
-ghost use Rattle.ob_base.specs.Stored.{has_table};
+//! Where a statement takes its rows from.
+ghost use Rattle.std.specs.Prelude.{◌≡◌, ◌≤◌, ◌<◌, ◌+◌, ◌*◌, ◌++◌, ◌-◌, [], length, not, position, true, false, Some};
+ghost use Rattle.std.specs.Option.{option_map_or};
 ghost use Rattle.ob_base.specs.Joins.{joined_slots};
 ghost use Rattle.ob_base.specs.Stored.{headings_of};
-ghost use Rattle.ob_mean.specs.Refusals.{source_tables, joins_itself, joins_kinds, joins_past, joins_past_at, joins_off_key_at, join_columns, is_key, left_place, right_place, is_across, lack_columns, limits_of};
-ghost use Rattle.ob_mean.specs.Scopes.{left_of_source, right_of_source, joins_apart_in};
+ghost use Rattle.ob_mean.specs.Parts.{source_in};
+ghost use Rattle.ob_mean.specs.Refusals.{joins_itself, joins_kinds, joins_past, joins_past_at, join_columns, is_key, left_place, right_place, is_across, lack_columns, limits_of};
+ghost use Rattle.ob_mean.specs.Scopes.{missing_in, left_in, right_in, joins_apart_in, off_key_in};
 
 use crate::kinds::are_alike;
 use crate::names::{columns_at, has_table, heading_at, means_one, place_of};
-use ob_base::{Column, ColumnName, Heading, Public, Source, Table};
+use crate::parts::Tables;
+use ob_base::{Column, ColumnName, Heading, Public, Table};
 use ob_row::width;
 
-pub(crate) fn source_lacks(tables: &[Table], source: &Source) -> bool
-    ensures { result
-        ≡ list_any (λ name. not (has_table name (headings_of tables.now)))
-        (source_tables source.now) }
+/// Whether a table that is to exist doesn't.
+pub(crate) fn lacks_table(tables: &[Table], named: &Tables<'_>) -> bool
+    ensures { result ≡ missing_in (headings_of tables.now) (source_in named.now) }
 {
-    match source {
-        Source::Table(name) => !has_table(tables, name),
-        Source::Join { left, right, .. } => !has_table(tables, left) || !has_table(tables, right),
+    match named {
+        Tables::Nothing => false,
+        Tables::One(name) => !has_table(tables, name),
+        Tables::Joined { left, right, .. } => !has_table(tables, left) || !has_table(tables, right),
     }
 }
 
-pub(crate) fn joins_itself(source: &Source) -> bool
-    ensures { result ≡ joins_itself source.now }
+/// Whether a table is joined with itself.
+pub(crate) fn joins_itself(named: &Tables<'_>) -> bool
+    ensures { result ≡ option_map_or joins_itself (source_in named.now) false }
 {
-    match source {
-        Source::Table(_) => false,
-        Source::Join { left, right, .. } => left.as_bytes() == right.as_bytes(),
+    match named {
+        Tables::Nothing | Tables::One(_) => false,
+        Tables::Joined { left, right, .. } => left.as_bytes() == right.as_bytes(),
     }
 }
 
 /// The columns of the left table, or of the one.
-pub(crate) fn left_of<'a>(tables: &'a [Table], source: &Source) -> &'a [Column]
-    ensures value { result.now ≡ left_of_source source.now (headings_of tables.now) }
+pub(crate) fn left_of<'a>(tables: &'a [Table], named: &Tables<'_>) -> &'a [Column]
+    ensures value { result.now ≡ left_in (headings_of tables.now) (source_in named.now) }
     ensures few { length result.now ≤ 32 }
 {
-    match source {
-        Source::Table(name) => columns_at(tables, name),
-        Source::Join { left, .. } => columns_at(tables, left),
+    match named {
+        Tables::Nothing => &[],
+        Tables::One(name) => columns_at(tables, name),
+        Tables::Joined { left, .. } => columns_at(tables, left),
     }
 }
 
 /// The columns of the right table, if there is one.
-pub(crate) fn right_of<'a>(tables: &'a [Table], source: &Source) -> &'a [Column]
-    ensures value { result.now ≡ right_of_source source.now (headings_of tables.now) }
+pub(crate) fn right_of<'a>(tables: &'a [Table], named: &Tables<'_>) -> &'a [Column]
+    ensures value { result.now ≡ right_in (headings_of tables.now) (source_in named.now) }
     ensures few { length result.now ≤ 32 }
 {
-    match source {
-        Source::Table(_) => &[],
-        Source::Join { right, .. } => columns_at(tables, right),
+    match named {
+        Tables::Nothing | Tables::One(_) => &[],
+        Tables::Joined { right, .. } => columns_at(tables, right),
     }
 }
 
@@ -66,40 +69,44 @@ fn is_across(on: &ColumnName, equals: &ColumnName, left: &[Column], right: &[Col
 }
 
 /// Whether the columns of ON are one of each table.
-pub(crate) fn joins_apart(source: &Source, left: &[Column], right: &[Column]) -> bool
+pub(crate) fn joins_apart(named: &Tables<'_>, left: &[Column], right: &[Column]) -> bool
     requires left { length left.now ≤ 32 }
     requires right { length right.now ≤ 32 }
-    ensures { result ≡ joins_apart_in left.now right.now source.now }
+    ensures { result
+        ≡ option_map_or (joins_apart_in left.now right.now) (source_in named.now) true }
 {
-    match source {
-        Source::Table(_) => true,
-        Source::Join { on, equals, .. } => is_across(on, equals, left, right),
+    match named {
+        Tables::Nothing | Tables::One(_) => true,
+        Tables::Joined { on, equals, .. } => is_across(on, equals, left, right),
     }
 }
 
 /// Whether ON names no column, or more than one.
-pub(crate) fn on_lacks(source: &Source, left: &[Column], right: &[Column]) -> bool
+pub(crate) fn on_lacks(named: &Tables<'_>, left: &[Column], right: &[Column]) -> bool
     requires left { length left.now ≤ 32 }
     requires right { length right.now ≤ 32 }
-    ensures { result ≡ lack_columns (left.now ++ right.now) (join_columns source.now) }
+    ensures { result
+        ≡ lack_columns (left.now ++ right.now)
+        (option_map_or join_columns (source_in named.now) []) }
 {
-    match source {
-        Source::Table(_) => false,
-        Source::Join { on, equals, .. } => {
+    match named {
+        Tables::Nothing | Tables::One(_) => false,
+        Tables::Joined { on, equals, .. } => {
             !means_one(on, left, right) || !means_one(equals, left, right)
         }
     }
 }
 
 /// Whether the columns of ON are of one kind.
-pub(crate) fn joins_kinds(source: &Source, left: &[Column], right: &[Column]) -> bool
+pub(crate) fn joins_kinds(named: &Tables<'_>, left: &[Column], right: &[Column]) -> bool
     requires left { length left.now ≤ 32 }
     requires right { length right.now ≤ 32 }
-    ensures { result ≡ joins_kinds (left.now ++ right.now) source.now }
+    ensures { result
+        ≡ option_map_or (joins_kinds (left.now ++ right.now)) (source_in named.now) true }
 {
-    match source {
-        Source::Table(_) => true,
-        Source::Join { on, equals, .. } => are_alike(on, equals, left, right),
+    match named {
+        Tables::Nothing | Tables::One(_) => true,
+        Tables::Joined { on, equals, .. } => are_alike(on, equals, left, right),
     }
 }
 
@@ -128,16 +135,17 @@ fn headings_past(public: &Public, left: &Heading, right: &Heading) -> bool
 }
 
 /// Whether the joined row or region is past the limits.
-pub(crate) fn joins_past(public: &Public, source: &Source) -> bool
+pub(crate) fn joins_past(public: &Public, named: &Tables<'_>) -> bool
     requires pack { 1 ≤ public.now.pack }
     requires buffer { 3 * public.now.pack + 1 ≤ public.now.buffer }
     ensures { result
-        ≡ joins_past (limits_of public.now) (headings_of public.now.tables) source.now }
+        ≡ option_map_or (joins_past (limits_of public.now) (headings_of public.now.tables))
+        (source_in named.now) false }
 {
     let tables = public.tables.as_slice();
-    match source {
-        Source::Table(_) => false,
-        Source::Join { left, right, .. } => {
+    match named {
+        Tables::Nothing | Tables::One(_) => false,
+        Tables::Joined { left, right, .. } => {
             match (heading_at(tables, left), heading_at(tables, right)) {
                 (Some(left), Some(right)) => headings_past(public, left, right),
                 _ => false,
@@ -205,21 +213,14 @@ fn on_off_key(on: &ColumnName, equals: &ColumnName, left: &[Column], right: &[Co
 }
 
 /// Whether the left column of ON is not its table's primary key.
-pub(crate) fn joins_off_key(tables: &[Table], source: &Source) -> bool
-    ensures { result ≡ joins_off_key_at (headings_of tables.now) source.now }
+pub(crate) fn joins_off_key(named: &Tables<'_>, left: &[Column], right: &[Column]) -> bool
+    requires left { length left.now ≤ 32 }
+    requires right { length right.now ≤ 32 }
+    ensures { result
+        ≡ option_map_or (off_key_in left.now right.now) (source_in named.now) false }
 {
-    match source {
-        Source::Table(_) => false,
-        Source::Join {
-            left,
-            right,
-            on,
-            equals,
-        } => on_off_key(
-            on,
-            equals,
-            columns_at(tables, left),
-            columns_at(tables, right),
-        ),
+    match named {
+        Tables::Nothing | Tables::One(_) => false,
+        Tables::Joined { on, equals, .. } => on_off_key(on, equals, left, right),
     }
 }

@@ -1,0 +1,138 @@
+//! The parts of a statement that its refusals ask for.
+ghost use Rattle.std.specs.Prelude.{◌≡◌};
+ghost use Rattle.ob_mean.specs.Parts.{parts_of, parts_in, source_in};
+ghost use Rattle.std.specs.Prelude.{Some};
+
+use crate::listed::listed;
+use ob_base::{ColumnName, Items, Name, NewColumn, Source};
+use ob_sql::{Cond, Listed, Literal, Set, Stmt};
+
+/// A table that is to be new.
+#[derive(Drop)]
+pub(crate) struct Created<'a> {
+    pub(crate) name: &'a Name,
+    pub(crate) columns: &'a [NewColumn],
+    pub(crate) capacity: u32,
+}
+
+/// The tables that are to exist: none, one, or those of a join with the columns of its ON.
+#[derive(Drop)]
+pub(crate) enum Tables<'a> {
+    Nothing,
+    One(&'a Name),
+    Joined {
+        left: &'a Name,
+        right: &'a Name,
+        on: &'a ColumnName,
+        equals: &'a ColumnName,
+    },
+}
+
+/// The row of an INSERT: its list of columns, and the values.
+#[derive(Drop)]
+pub(crate) struct Given<'a> {
+    pub(crate) names: &'a Option<Items<Name>>,
+    pub(crate) values: &'a [Literal],
+}
+
+/// A statement's tables, and what it creates, gives, sets, compares and lists.
+#[derive(Drop)]
+pub(crate) struct Parts<'a> {
+    pub(crate) created: Option<Created<'a>>,
+    pub(crate) tables: Tables<'a>,
+    pub(crate) given: Option<Given<'a>>,
+    pub(crate) sets: &'a [Set],
+    pub(crate) cond: Option<&'a Cond>,
+    pub(crate) columns: &'a [ColumnName],
+    pub(crate) items: &'a [Listed],
+    pub(crate) group: Option<&'a ColumnName>,
+}
+
+fn tables_of(source: &Source) -> Tables<'_>
+    ensures { source_in result ≡ Some source.now }
+{
+    match source {
+        Source::Table(name) => Tables::One(name),
+        Source::Join {
+            left,
+            right,
+            on,
+            equals,
+        } => Tables::Joined {
+            left,
+            right,
+            on,
+            equals,
+        },
+    }
+}
+
+/// The parts of a statement.
+pub(crate) fn parts_of(stmt: &Stmt) -> Parts<'_>
+    ensures { parts_in result ≡ parts_of stmt.now }
+{
+    let none = Parts {
+        created: None,
+        tables: Tables::Nothing,
+        given: None,
+        sets: &[],
+        cond: None,
+        columns: &[],
+        items: &[],
+        group: None,
+    };
+    match stmt {
+        Stmt::Create {
+            table,
+            columns,
+            capacity,
+        } => Parts {
+            created: Some(Created {
+                name: table,
+                columns: columns.as_slice(),
+                capacity: *capacity,
+            }),
+            ..none
+        },
+        Stmt::Insert {
+            table,
+            columns,
+            values,
+        } => Parts {
+            tables: Tables::One(table),
+            given: Some(Given {
+                names: columns,
+                values: values.as_slice(),
+            }),
+            ..none
+        },
+        Stmt::Update { table, sets, cond } => Parts {
+            tables: Tables::One(table),
+            sets: sets.as_slice(),
+            cond: cond.as_ref(),
+            ..none
+        },
+        Stmt::Delete { table, cond } => Parts {
+            tables: Tables::One(table),
+            cond: cond.as_ref(),
+            ..none
+        },
+        Stmt::Drop { table } => Parts {
+            tables: Tables::One(table),
+            ..none
+        },
+        Stmt::SelectRows(select) => Parts {
+            tables: tables_of(&select.source),
+            cond: select.cond.as_ref(),
+            columns: listed(&select.list),
+            ..none
+        },
+        Stmt::SelectTotals(select) => Parts {
+            tables: Tables::One(&select.table),
+            cond: select.cond.as_ref(),
+            items: select.items.as_slice(),
+            group: select.group.as_ref(),
+            ..none
+        },
+    }
+}
