@@ -44,3 +44,8 @@ pub mod CutLemmas
 mod Spelt
 pub mod ShownLemmas
 pub mod PlainLemmas
+pub mod OwnLemmas
+pub mod AloneLemmas
+pub mod BetweenLemmas
+pub mod LeftLemmas
+pub mod BegunLemmas

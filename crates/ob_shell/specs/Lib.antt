@@ -30,3 +30,4 @@ pub mod Meddling
 pub mod Disturbed
 pub mod Reruns
 pub mod Plainly
+pub mod Shown

@@ -1,14 +1,17 @@
 //! What follows of whole runs, and how bytes are cut into texts.
-ghost use Rattle.std.specs.Prelude.{◌≡◌, Bool, List, [], ℕ, IsSome, Option, Some, false};
+ghost use Rattle.std.specs.Prelude.{◌≡◌, ◌<◌, Bool, List, [], ℕ, IsSome, IsTrue, Option, Some, false, length};
 ghost use Rattle.clap.specs.Words.{App, Text};
+ghost use Rattle.ob_base.specs.declared.config.Config.{Config};
 ghost use Rattle.ob_base.specs.declared.config.Public.{Public};
 ghost use Rattle.ob_base.specs.declared.mark.Mark.{Mark};
 ghost use Rattle.ob_base.specs.declared.mark.Mark.TheVariants.{Fresh};
 ghost use Rattle.ob_base.specs.declared.seen.Seen.{Seen};
 ghost use Rattle.ob_mean.specs.Lawful.{Lawful};
 ghost use Rattle.ob_reopen.specs.Keepers.{KeeperState};
-ghost use Rattle.ob_shell.specs.Bases.{Base, FromEach};
+ghost use Rattle.ob_seal.specs.KeySet.{KeySet};
+ghost use Rattle.ob_shell.specs.Bases.{Base, FromEach, fresh};
 ghost use Rattle.ob_shell.specs.Headline.{Headline};
+ghost use Rattle.ob_shell.specs.Keeping.{BeginsFrom};
 ghost use Rattle.ob_shell.specs.KeptMarks.{HeldAfter, KeptRun};
 ghost use Rattle.ob_shell.specs.KeptRuns.{AnswerAsOne, AnyRun, AreChained, GoOn, NumberOn, OneRun};
 ghost use Rattle.ob_shell.specs.Pieces.{BeginsWith};
@@ -17,11 +20,14 @@ ghost use Rattle.ob_shell.specs.Reruns.{Alike, AlikeSoFar, AsksAsShown, AsksByKi
 ghost use Rattle.ob_shell.specs.Reruns.{OneBegins, ShowAlike, SomeRun, any_counted, asked_by, failures_of, plainly};
 ghost use Rattle.ob_shell.specs.Reruns.{seen_by, stmts_of};
 ghost use Rattle.ob_shell.specs.Settings.{IsTaken, MeddleParses};
+ghost use Rattle.ob_shell.specs.Shown.{AskedTheSame, IsBegun, IsBetween, ShowNumbersAlike, ShowsBehind};
+ghost use Rattle.ob_shell.specs.Shown.{ShowsBetween, ShowsKept, ShowsSealed, WriteOwn, Wrote, asked_behind};
+ghost use Rattle.ob_shell.specs.Shown.{public_behind};
 ghost use Rattle.ob_shell.specs.Texts.{is_over, rest_of, texts_of};
 ghost use Rattle.ob_shell.specs.Words.{Outside, is_cut};
 ghost use Rattle.ob_shell.specs.declared.top.Report.{Report};
 ghost use Rattle.ob_sql.specs.declared.stmt.Stmt.{Stmt};
-ghost use Rattle.ob_store.specs.State.{KeptRegion};
+ghost use Rattle.ob_store.specs.State.{KeptRegion, StoreState};
 ghost use Rattle.ob_token.specs.Cutting.{cut};
 
 /// The texts that a session cuts, a byte at a time, are the pieces that `split` finds in its bytes, one after the
@@ -129,4 +135,46 @@ pub fn asks_by_kinds()
     ensures meddled { (base : Base) (words : List Text) (tracing : Bool)
         (old new : Outside) (report : Report)
         (run : Headline base (MeddleParses words) tracing old new report) → AsksByKinds run }
+{}
+
+/// Each statement of a run writes to the regions that it makes, and to no other, whatever the store does and however the
+/// run ends: behind a statement nothing is written to a region that was made by then.
+pub fn statements_write_their_own()
+    ensures own { (one : SomeRun) → WriteOwn one.base.public (seen_by one) }
+    ensures behind { (one : SomeRun) (k i region place : ℕ)
+        → region < (public_behind one k).next_region → Wrote (asked_by one) i region place
+        → i < length (asked_behind one k) }
+{}
+
+/// Over a store that tells what it holds, however a run ends, each block that lies in a live region that the run made is
+/// sealed for its place, under a number that is that of a write to it, and of no other write, of this run or of an earlier
+/// one. So it is at the end; behind any of the accesses, if the region is live to the end, where the place isn't written
+/// again; and so, behind each statement, of all blocks of the regions that were made by then and are live to the end.
+pub fn blocks_are_sealed_alone()
+    ensures ends { (one : SomeRun) → IsBegun one.base → ShowsSealed one }
+    ensures between { (one : SomeRun) → IsBegun one.base → IsTrue one.old.store.tells
+        → (between : StoreState) → IsBetween one between → ShowsBetween one between }
+    ensures behind { (one : SomeRun) → IsBegun one.base → IsTrue one.old.store.tells
+        → (between : StoreState) → IsBetween one between
+        → (k : ℕ) → between.asked ≡ asked_behind one k → ShowsBehind one k between }
+{}
+
+/// What the statements of a run go on from is as the laws of blocks ask: no tables, or those of a closing that was opened.
+pub fn runs_begin_behind_earlier_ones()
+    ensures fresh { (settings : Option Config) → IsBegun (fresh settings) }
+    ensures kept { (mark : Mark) (config : Config) (keys : KeySet) (base : Base)
+        (old new : StoreState) → BeginsFrom mark config keys base old new → IsBegun base }
+{}
+
+/// So it is once a run with `--keep` ended, over a store that tells: of the blocks of its statements and of its closing.
+pub fn kept_blocks_are_sealed_alone()
+    ensures { (words : List Text) (old new : Outside) (keeper0 keeper1 : KeeperState)
+        (report : Report) (run : KeptRun words old new keeper0 keeper1 report)
+        → ShowsKept run.ran }
+{}
+
+/// Where two runs that go on from the same asked the same, and no call failed, the blocks that lie at one place in both
+/// stores differ in the secret and the rows alone: they are sealed under one number.
+pub fn blocks_are_numbered_alike()
+    ensures { (a b : SomeRun) → AskedTheSame a b → ShowNumbersAlike a b }
 {}

@@ -16,9 +16,11 @@ pub use feed::{Feed, Halt};
 pub use keeping::{KeptEnded, KeptEnding, keep_top};
 pub use key::{FirstLine, read_key};
 pub use laws::{
-    asks_as_shown, asks_by_kinds, marks_are_held, numbers_go_on, one_asks_a_first_part,
+    asks_as_shown, asks_by_kinds, blocks_are_numbered_alike, blocks_are_sealed_alone,
+    kept_blocks_are_sealed_alone, marks_are_held, numbers_go_on, one_asks_a_first_part,
     padded_reruns_ask_the_same, reruns_ask_the_same, reruns_show_the_same, runs_answer_as_one,
-    shows_its_refusal_alone, texts_are_pieces, unhindered_runs_are_plain,
+    runs_begin_behind_earlier_ones, shows_its_refusal_alone, statements_write_their_own,
+    texts_are_pieces, unhindered_runs_are_plain,
 };
 pub use pending::{Grown, Pending, PushStop};
 pub use session::{Halted, serve};
