@@ -12,11 +12,11 @@ use Rattle.ob_base.specs.Schemas.{Columns}
 use Rattle.ob_sql.specs.declared.stmt.Set.{Set}
 use Rattle.ob_sql.specs.declared.stmt.Stmt.{Stmt}
 use Rattle.ob_sql.specs.declared.stmt.Stmt.TheVariants.{Create, Insert, Update, Delete, Drop as DropTable, SelectRows as RowsStmt, SelectTotals as TotalsStmt}
-use Rattle.ob_mean.specs.Names.{columns_at, source_columns, unqualified}
+use Rattle.ob_mean.specs.Names.{Scope, columns_in, columns_at, source_columns, unqualified}
 use Rattle.ob_mean.specs.Kinds.{comparison_columns, where_comparisons}
 use Rattle.ob_mean.specs.Parts.{parts_of}
 use Rattle.ob_mean.specs.Refusals.{Limits, scope_of, compared, named_columns, lack_columns, is_incomplete, joins_apart, joins_past, joins_off_key_at, has_stray_column, select_lacks_column, sets_key, lacks_table, takes_name, has_wrong_type, is_out_of_range, is_past_limit, breaks_key_rule, joins_off_key}
-use Rattle.ob_mean.specs.Scopes.{left_of_source, right_of_source, left_in, right_in, missing_in, takes_in, joins_apart_in, named_in, select_lacks_in, lacks_in, mistypes_in, overflows_in, exceeds_in, breaks_key_in, off_key_in}
+use Rattle.ob_mean.specs.Scopes.{source_scope, scope_in, missing_in, takes_in, joins_apart_in, named_in, select_lacks_in, lacks_in, mistypes_by, overflows_by, exceeds_in, breaks_key_in, off_key_in}
 
 alone : {a : Bool} → (a || false) ≡ a
 alone {a} = elim a as (λ b. (b || false) ≡ b) [ true ↦ refl | false ↦ refl ]
@@ -24,25 +24,22 @@ alone {a} = elim a as (λ b. (b || false) ≡ b) [ true ↦ refl | false ↦ ref
 no_more : {A : Type 0} {xs : List A} → xs ++ [] ≡ xs
 no_more {A} {xs} = append-nil xs
 
-abbrev left : List Heading → Stmt → Columns
-left hs stmt = left_in hs (parts_of stmt).source
-
-abbrev right : List Heading → Stmt → Columns
-right hs stmt = right_in hs (parts_of stmt).source
+abbrev scope : List Heading → Stmt → Scope
+scope hs stmt = scope_in hs (parts_of stmt).source
 
 abbrev both : List Heading → Option Source → Columns
 both hs source = option_map_or (λ s. source_columns s hs) source []
 
-pub scope : (source : Option Source) (hs : List Heading) → left_in hs source ++ right_in hs source ≡ both hs source
-scope None hs = refl
-scope (Some (OneTable name)) hs = append-nil (columns_at name hs)
-scope (Some (Join a b on equals)) hs = refl
+pub both_are : (source : Option Source) (hs : List Heading) → columns_in (scope_in hs source) ≡ both hs source
+both_are None hs = refl
+both_are (Some (OneTable name)) hs = append-nil (columns_at name hs)
+both_are (Some (Join a b on equals)) hs = refl
 
-apart : (s : Source) (hs : List Heading) → joins_apart_in (left_of_source s hs) (right_of_source s hs) s ≡ joins_apart hs s
+apart : (s : Source) (hs : List Heading) → joins_apart_in (source_scope s hs) s ≡ joins_apart hs s
 apart (OneTable name) hs = refl
 apart (Join a b on equals) hs = refl
 
-off_key : (s : Source) (hs : List Heading) → off_key_in (left_of_source s hs) (right_of_source s hs) s ≡ joins_off_key_at hs s
+off_key : (s : Source) (hs : List Heading) → off_key_in (source_scope s hs) s ≡ joins_off_key_at hs s
 off_key (OneTable name) hs = refl
 off_key (Join a b on equals) hs = refl
 
@@ -59,7 +56,7 @@ named (DropTable table) = refl
 named (RowsStmt s) = ap (λ names. names ++ flat_map comparison_columns (where_comparisons s.cond)) (no_more ∙ no_more)
 named (TotalsStmt s) = refl
 
-select_lacks : (stmt : Stmt) (hs : List Heading) → select_lacks_in (left hs stmt) (right hs stmt) (parts_of stmt) ≡ select_lacks_column hs stmt
+select_lacks : (stmt : Stmt) (hs : List Heading) → select_lacks_in (scope hs stmt) (parts_of stmt) ≡ select_lacks_column hs stmt
 select_lacks (Create table columns capacity) hs = refl
 select_lacks (Insert table columns values) hs = refl
 select_lacks (Update table sets cond) hs = refl
@@ -73,11 +70,11 @@ pub others_are : (stmt : Stmt) (given : Limits) (hs : List Heading) →
     (missing_in hs (parts_of stmt).source ≡ lacks_table hs stmt)
     × (takes_in hs (parts_of stmt) ≡ takes_name hs stmt)
     × (lack_columns (both hs (parts_of stmt).source) (names_of stmt) ≡ lack_columns (scope_of stmt hs) (names_of stmt))
-    × (mistypes_in (both hs (parts_of stmt).source) (left hs stmt) (parts_of stmt) ≡ has_wrong_type hs stmt)
-    × (overflows_in (both hs (parts_of stmt).source) (left hs stmt) (parts_of stmt) ≡ is_out_of_range hs stmt)
+    × (mistypes_by (both hs (parts_of stmt).source) (scope hs stmt).left (parts_of stmt) ≡ has_wrong_type hs stmt)
+    × (overflows_by (both hs (parts_of stmt).source) (scope hs stmt).left (parts_of stmt) ≡ is_out_of_range hs stmt)
     × (exceeds_in given hs (parts_of stmt) ≡ is_past_limit given hs stmt)
-    × (breaks_key_in (left hs stmt) (parts_of stmt) ≡ breaks_key_rule hs stmt)
-    × (option_map_or (off_key_in (left hs stmt) (right hs stmt)) (parts_of stmt).source false ≡ joins_off_key hs stmt)
+    × (breaks_key_in (scope hs stmt) (parts_of stmt) ≡ breaks_key_rule hs stmt)
+    × (option_map_or (off_key_in (scope hs stmt)) (parts_of stmt).source false ≡ joins_off_key hs stmt)
 others_are (Create table columns capacity) given hs = (refl, alone ∙ alone ∙ alone, refl, refl, refl, alone ∙ alone ∙ alone, alone, refl)
 others_are (Insert table columns values) given hs = (
   refl,
@@ -96,5 +93,5 @@ others_are (RowsStmt s) given hs = (refl, refl, refl, refl, refl, ap (λ b. b ||
 others_are (TotalsStmt s) given hs = (refl, refl, refl, refl, refl, alone, refl, refl)
 
 -- a name that no column has
-pub lacks_is : (stmt : Stmt) (hs : List Heading) → lacks_in (left hs stmt) (right hs stmt) (parts_of stmt) ≡ (lack_columns (both hs (parts_of stmt).source) (names_of stmt) || select_lacks_column hs stmt)
-lacks_is stmt hs = λ t. lack_columns (scope (parts_of stmt).source hs t) (named stmt t) || select_lacks stmt hs t
+pub lacks_is : (stmt : Stmt) (hs : List Heading) → lacks_in (scope hs stmt) (parts_of stmt) ≡ (lack_columns (both hs (parts_of stmt).source) (names_of stmt) || select_lacks_column hs stmt)
+lacks_is stmt hs = λ t. lack_columns (both_are (parts_of stmt).source hs t) (named stmt t) || select_lacks stmt hs t

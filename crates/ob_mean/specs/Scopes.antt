@@ -1,4 +1,4 @@
--- The same refusals, by the parts of a statement, the columns of the left table and those of the right one.
+-- The same refusals, by the parts of a statement and the columns that its names may mean.
 use Rattle.std.specs.Prelude.{ℕ, Bool, true, false, not, ◌||◌, nat_lt, List, [], ◌++◌, map, length, sum_by, zip, Option, bytes_eq, option_to_list, unwrap_or}
 use Rattle.std.specs.List.{list_any, flat_map}
 use Rattle.std.specs.Option.{option_map_or}
@@ -13,24 +13,20 @@ use Rattle.ob_base.specs.Stored.{has_table}
 use Rattle.ob_sql.specs.declared.stmt.Literal.{Literal}
 use Rattle.ob_sql.specs.declared.stmt.Set.{Set}
 use Rattle.ob_sql.specs.Skeleton.{named_by}
-use Rattle.ob_mean.specs.Names.{columns_at, unqualified}
+use Rattle.ob_mean.specs.Names.{Scope, columns_in, columns_at, unqualified}
 use Rattle.ob_mean.specs.Kinds.{where_comparisons, comparison_columns, mistype_columns, overflow_columns, mistype_comparisons, overflow_comparisons, are_texts, number_columns, plain_columns}
 use Rattle.ob_mean.specs.Parts.{Parts, NewTable, NewRow}
 use Rattle.ob_mean.specs.Refusals.{Limits, source_tables, join_columns, joins_itself, joins_kinds, joins_past, creates_past, insert_columns, is_incomplete, is_group, is_key, left_place, lack_columns, is_across, sets_key}
 
-abbrev pub left_of_source : Source → List Heading → Columns
-left_of_source (OneTable name) hs = columns_at name hs
-left_of_source (Join a b on equals) hs = columns_at a hs
+abbrev pub source_scope : Source → List Heading → Scope
+source_scope (OneTable name) hs = record { left = columns_at name hs; right = [] }
+source_scope (Join a b on equals) hs = record { left = columns_at a hs; right = columns_at b hs }
 
-abbrev pub right_of_source : Source → List Heading → Columns
-right_of_source (OneTable name) hs = []
-right_of_source (Join a b on equals) hs = columns_at b hs
+abbrev pub no_columns : Scope
+no_columns = record { left = []; right = [] }
 
-abbrev pub left_in : List Heading → Option Source → Columns
-left_in hs source = option_map_or (λ s. left_of_source s hs) source []
-
-abbrev pub right_in : List Heading → Option Source → Columns
-right_in hs source = option_map_or (λ s. right_of_source s hs) source []
+abbrev pub scope_in : List Heading → Option Source → Scope
+scope_in hs source = option_map_or (λ s. source_scope s hs) source no_columns
 
 -- a table that is to exist doesn't
 abbrev pub missing_in : List Heading → Option Source → Bool
@@ -51,9 +47,9 @@ takes_in hs p =
     || option_map_or joins_itself p.source false
 
 -- a name that no column has, a plain column that strays, or columns of ON that aren't one of each table
-abbrev pub joins_apart_in : (left right : Columns) → Source → Bool
-joins_apart_in left right (OneTable name) = true
-joins_apart_in left right (Join a b on equals) = is_across (length left) (left ++ right) on equals
+abbrev pub joins_apart_in : Scope → Source → Bool
+joins_apart_in s (OneTable name) = true
+joins_apart_in s (Join a b on equals) = is_across (length s.left) (columns_in s) on equals
 
 abbrev pub named_in : Parts → List ColumnName
 named_in p =
@@ -65,13 +61,13 @@ named_in p =
     ++ option_to_list p.group
     ++ flat_map comparison_columns (where_comparisons p.cond)
 
-abbrev pub select_lacks_in : (left right : Columns) → Parts → Bool
-select_lacks_in left right p =
-    list_any (λ name. not (is_group (left ++ right) p.group name)) (flat_map plain_columns p.items)
-    || not (option_map_or (joins_apart_in left right) p.source true)
+abbrev pub select_lacks_in : Scope → Parts → Bool
+select_lacks_in s p =
+    list_any (λ name. not (is_group (columns_in s) p.group name)) (flat_map plain_columns p.items)
+    || not (option_map_or (joins_apart_in s) p.source true)
 
-abbrev pub lacks_in : (left right : Columns) → Parts → Bool
-lacks_in left right p = lack_columns (left ++ right) (named_in p) || select_lacks_in left right p
+abbrev pub lacks_in : Scope → Parts → Bool
+lacks_in s p = lack_columns (columns_in s) (named_in p) || select_lacks_in s p
 
 -- a value of another kind
 abbrev pub row_in : Columns → NewRow → List (ColumnName × Literal)
@@ -83,23 +79,29 @@ sets_in p = map (λ (s : Set). (unqualified s.column, s.value)) p.sets
 abbrev pub row_mistyped : (cs left : Columns) → NewRow → Bool
 row_mistyped cs left r = mistype_columns cs (row_in left r) || is_incomplete left r.names r.values
 
-abbrev pub mistypes_in : (cs left : Columns) → Parts → Bool
-mistypes_in cs left p =
+abbrev pub mistypes_by : (cs left : Columns) → Parts → Bool
+mistypes_by cs left p =
     option_map_or (row_mistyped cs left) p.given false
     || mistype_columns cs (sets_in p)
     || mistype_comparisons cs (where_comparisons p.cond)
     || are_texts cs (flat_map number_columns p.items)
     || not (option_map_or (joins_kinds cs) p.source true)
 
+abbrev pub mistypes_in : Scope → Parts → Bool
+mistypes_in s p = mistypes_by (columns_in s) s.left p
+
 -- a value that its column doesn't hold
 abbrev pub row_overflows : (cs left : Columns) → NewRow → Bool
 row_overflows cs left r = overflow_columns cs (row_in left r)
 
-abbrev pub overflows_in : (cs left : Columns) → Parts → Bool
-overflows_in cs left p =
+abbrev pub overflows_by : (cs left : Columns) → Parts → Bool
+overflows_by cs left p =
     option_map_or (row_overflows cs left) p.given false
     || overflow_columns cs (sets_in p)
     || overflow_comparisons (where_comparisons p.cond)
+
+abbrev pub overflows_in : Scope → Parts → Bool
+overflows_in s p = overflows_by (columns_in s) s.left p
 
 -- a size past the limits
 abbrev pub is_past : List Heading → NewTable → Bool
@@ -116,10 +118,10 @@ exceeds_in limits hs p =
 abbrev pub has_more_keys : NewTable → Bool
 has_more_keys t = nat_lt 1 (sum_by (λ (c : NewColumn). c.keys) t.columns)
 
-abbrev pub breaks_key_in : Columns → Parts → Bool
-breaks_key_in left p = option_map_or has_more_keys p.created false || sets_key (left ++ []) p.sets
+abbrev pub breaks_key_in : Scope → Parts → Bool
+breaks_key_in s p = option_map_or has_more_keys p.created false || sets_key (columns_in s) p.sets
 
 -- a join whose left column is not the primary key
-abbrev pub off_key_in : (left right : Columns) → Source → Bool
-off_key_in left right (OneTable name) = false
-off_key_in left right (Join a b on equals) = not (is_key left (left_place (length left) (left ++ right) on equals))
+abbrev pub off_key_in : Scope → Source → Bool
+off_key_in s (OneTable name) = false
+off_key_in s (Join a b on equals) = not (is_key s.left (left_place (length s.left) (columns_in s) on equals))

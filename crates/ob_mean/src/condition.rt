@@ -1,11 +1,12 @@
 //! The condition of a WHERE, by the places of its columns.
-ghost use Rattle.std.specs.Prelude.{◌≡◌, ◌≤◌, ◌++◌, length, IfOk};
+ghost use Rattle.std.specs.Prelude.{◌≡◌, IfOk};
 ghost use Rattle.ob_row.specs.Spelling.{IsCell};
 ghost use Rattle.ob_sql.specs.Search.{search_of};
-ghost use Rattle.ob_mean.specs.Names.{literal_cell, operand_at, condition_at, where_at};
+ghost use Rattle.ob_mean.specs.Names.{columns_in, literal_cell, operand_at, condition_at, where_at};
 
 use crate::names::place_of;
-use ob_base::{Column, Text};
+use crate::scope::Scope;
+use ob_base::Text;
 use ob_row::{Cell, Operand, Pred};
 use ob_sql::{Against, Cond, CondTree, Literal};
 use std::alloc::{AllocError, Global};
@@ -23,61 +24,44 @@ pub fn literal_cell(literal: &Literal) -> Cell
     }
 }
 
-fn operand_at(with: &Against, left: &[Column], right: &[Column]) -> Operand
-    requires left { length left.now ≤ 32 }
-    requires right { length right.now ≤ 32 }
-    ensures { result ≡ operand_at with.now (left.now ++ right.now) }
+fn operand_at(with: &Against, scope: &Scope<'_>) -> Operand
+    ensures { result ≡ operand_at with.now (columns_in scope.now) }
 {
     match with {
         Against::Literal(literal) => Operand::Cell(literal_cell(literal)),
-        Against::Column(name) => Operand::Column(place_of(name, left, right) as u8),
+        Against::Column(name) => Operand::Column(place_of(name, scope) as u8),
     }
 }
 
-fn condition_at(
-    alloc: Global,
-    tree: &CondTree,
-    left: &[Column],
-    right: &[Column],
-) -> Result<Pred, AllocError>
-    requires left { length left.now ≤ 32 }
-    requires right { length right.now ≤ 32 }
-    ensures { IfOk result (λ p. p ≡ condition_at (search_of tree.now) (left.now ++ right.now)) }
+fn condition_at(alloc: Global, tree: &CondTree, scope: &Scope<'_>) -> Result<Pred, AllocError>
+    ensures { IfOk result (λ p. p ≡ condition_at (search_of tree.now) (columns_in scope.now)) }
 {
     match tree {
         CondTree::Compare(name, order, with) => Ok(Pred::compare(
-            place_of(name, left, right) as u8,
+            place_of(name, scope) as u8,
             *order,
-            operand_at(with, left, right),
+            operand_at(with, scope),
         )),
-        CondTree::Not(p) => Pred::not(alloc, condition_at(alloc, p, left, right)?),
+        CondTree::Not(p) => Pred::not(alloc, condition_at(alloc, p, scope)?),
         CondTree::And(p, q) => {
-            let p = condition_at(alloc, p, left, right)?;
-            let q = condition_at(alloc, q, left, right)?;
+            let p = condition_at(alloc, p, scope)?;
+            let q = condition_at(alloc, q, scope)?;
             Pred::and(alloc, p, q)
         }
         CondTree::Or(p, q) => {
-            let p = condition_at(alloc, p, left, right)?;
-            let q = condition_at(alloc, q, left, right)?;
+            let p = condition_at(alloc, p, scope)?;
+            let q = condition_at(alloc, q, scope)?;
             Pred::or(alloc, p, q)
         }
     }
 }
 
-/// The condition of a WHERE over the columns of the left table and the right one; without a WHERE it
-/// is true of every row.
-pub fn where_at(
-    alloc: Global,
-    cond: &Option<Cond>,
-    left: &[Column],
-    right: &[Column],
-) -> Result<Pred, AllocError>
-    requires left { length left.now ≤ 32 }
-    requires right { length right.now ≤ 32 }
-    ensures { IfOk result (λ p. p ≡ where_at cond.now (left.now ++ right.now)) }
+/// The condition of a WHERE; without one it is true of every row.
+pub fn where_at(alloc: Global, cond: &Option<Cond>, scope: &Scope<'_>) -> Result<Pred, AllocError>
+    ensures { IfOk result (λ p. p ≡ where_at cond.now (columns_in scope.now)) }
 {
     match cond {
         None => Ok(Pred::all()),
-        Some(cond) => condition_at(alloc, cond.tree(), left, right),
+        Some(cond) => condition_at(alloc, cond.tree(), scope),
     }
 }

@@ -1,57 +1,53 @@
 //! The names and the comparisons of a condition.
-ghost use Rattle.std.specs.Prelude.{◌≡◌, ◌≤◌, ◌++◌, length, flat_map};
+ghost use Rattle.std.specs.Prelude.{◌≡◌, flat_map};
 ghost use Rattle.std.specs.Prelude.{Option};
 ghost use Rattle.ob_sql.specs.Search.{search_of};
+ghost use Rattle.ob_mean.specs.Names.{columns_in};
 ghost use Rattle.ob_mean.specs.Kinds.{comparisons, where_comparisons, comparison_columns, mistype_comparisons, overflow_comparisons};
 ghost use Rattle.ob_mean.specs.Parts.{behind};
 ghost use Rattle.ob_mean.specs.Refusals.{lack_columns};
 
 use crate::kinds::{is_against_too_large, is_wrong_comparison};
 use crate::names::means_one;
-use ob_base::{Column, ColumnName};
+use crate::scope::Scope;
+use ob_base::ColumnName;
 use ob_sql::{Against, Cond, CondTree};
 
-fn comparison_lacks(name: &ColumnName, with: &Against, left: &[Column], right: &[Column]) -> bool
-    requires left { length left.now ≤ 32 }
-    requires right { length right.now ≤ 32 }
+fn comparison_lacks(name: &ColumnName, with: &Against, scope: &Scope<'_>) -> bool
     ensures { result
-        ≡ lack_columns (left.now ++ right.now) (comparison_columns (name.now, with.now)) }
+        ≡ lack_columns (columns_in scope.now) (comparison_columns (name.now, with.now)) }
 {
-    let lacks = !means_one(name, left, right);
+    let lacks = !means_one(name, scope);
     match with {
         Against::Literal(_) => lacks,
-        Against::Column(other) => lacks || !means_one(other, left, right),
+        Against::Column(other) => lacks || !means_one(other, scope),
     }
 }
 
 #[tactic(auto, using(crate::proofs::CondLemmas::any_append, crate::proofs::CondLemmas::columns_append))]
-fn tree_lacks(tree: &CondTree, left: &[Column], right: &[Column]) -> bool
-    requires left { length left.now ≤ 32 }
-    requires right { length right.now ≤ 32 }
+fn tree_lacks(tree: &CondTree, scope: &Scope<'_>) -> bool
     ensures { result
-        ≡ lack_columns (left.now ++ right.now)
+        ≡ lack_columns (columns_in scope.now)
         (flat_map comparison_columns (comparisons (search_of tree.now))) }
 {
     match tree {
-        CondTree::Compare(name, _, with) => comparison_lacks(name, with, left, right),
-        CondTree::Not(p) => tree_lacks(p, left, right),
-        CondTree::And(p, q) => tree_lacks(p, left, right) || tree_lacks(q, left, right),
-        CondTree::Or(p, q) => tree_lacks(p, left, right) || tree_lacks(q, left, right),
+        CondTree::Compare(name, _, with) => comparison_lacks(name, with, scope),
+        CondTree::Not(p) => tree_lacks(p, scope),
+        CondTree::And(p, q) => tree_lacks(p, scope) || tree_lacks(q, scope),
+        CondTree::Or(p, q) => tree_lacks(p, scope) || tree_lacks(q, scope),
     }
 }
 
 #[tactic(auto, using(crate::proofs::CondLemmas::any_append))]
-fn tree_mistypes(tree: &CondTree, left: &[Column], right: &[Column]) -> bool
-    requires left { length left.now ≤ 32 }
-    requires right { length right.now ≤ 32 }
+fn tree_mistypes(tree: &CondTree, scope: &Scope<'_>) -> bool
     ensures { result
-        ≡ mistype_comparisons (left.now ++ right.now) (comparisons (search_of tree.now)) }
+        ≡ mistype_comparisons (columns_in scope.now) (comparisons (search_of tree.now)) }
 {
     match tree {
-        CondTree::Compare(name, _, with) => is_wrong_comparison(name, with, left, right),
-        CondTree::Not(p) => tree_mistypes(p, left, right),
-        CondTree::And(p, q) => tree_mistypes(p, left, right) || tree_mistypes(q, left, right),
-        CondTree::Or(p, q) => tree_mistypes(p, left, right) || tree_mistypes(q, left, right),
+        CondTree::Compare(name, _, with) => is_wrong_comparison(name, with, scope),
+        CondTree::Not(p) => tree_mistypes(p, scope),
+        CondTree::And(p, q) => tree_mistypes(p, scope) || tree_mistypes(q, scope),
+        CondTree::Or(p, q) => tree_mistypes(p, scope) || tree_mistypes(q, scope),
     }
 }
 
@@ -68,29 +64,25 @@ fn tree_exceeds(tree: &CondTree) -> bool
 }
 
 /// Whether a condition names a column that there isn't, or more than one.
-pub(crate) fn lacks(cond: Option<&Cond>, left: &[Column], right: &[Column]) -> bool
-    requires left { length left.now ≤ 32 }
-    requires right { length right.now ≤ 32 }
+pub(crate) fn lacks(cond: Option<&Cond>, scope: &Scope<'_>) -> bool
     ensures { result
-        ≡ lack_columns (left.now ++ right.now)
+        ≡ lack_columns (columns_in scope.now)
         (flat_map comparison_columns (where_comparisons (behind cond.entry))) }
 {
     match cond {
         None => false,
-        Some(cond) => tree_lacks(cond.tree(), left, right),
+        Some(cond) => tree_lacks(cond.tree(), scope),
     }
 }
 
 /// Whether it compares a column with another kind.
-pub(crate) fn mistypes(cond: Option<&Cond>, left: &[Column], right: &[Column]) -> bool
-    requires left { length left.now ≤ 32 }
-    requires right { length right.now ≤ 32 }
+pub(crate) fn mistypes(cond: Option<&Cond>, scope: &Scope<'_>) -> bool
     ensures { result
-        ≡ mistype_comparisons (left.now ++ right.now) (where_comparisons (behind cond.entry)) }
+        ≡ mistype_comparisons (columns_in scope.now) (where_comparisons (behind cond.entry)) }
 {
     match cond {
         None => false,
-        Some(cond) => tree_mistypes(cond.tree(), left, right),
+        Some(cond) => tree_mistypes(cond.tree(), scope),
     }
 }
 

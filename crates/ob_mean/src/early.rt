@@ -1,11 +1,11 @@
 //! Which statements are refused before any access.
-ghost use Rattle.std.specs.Prelude.{◌≡◌, ◌≤◌, ◌+◌, ◌*◌, ◌++◌, ◌||◌, [], length, map, not, zip, unwrap_or, option_to_list, bytes_eq, slice_get, false};
+ghost use Rattle.std.specs.Prelude.{◌≡◌, ◌≤◌, ◌+◌, ◌*◌, ◌||◌, map, not, zip, option_to_list, bytes_eq, slice_get, false};
 ghost use Rattle.std.specs.Option.{option_map_or};
 ghost use Rattle.std.specs.List.{list_any};
 ghost use Rattle.ob_base.specs.declared.schema.Column.{Column};
 ghost use Rattle.ob_sql.specs.declared.stmt.Set.{Set};
 ghost use Rattle.ob_base.specs.Stored.{headings_of};
-ghost use Rattle.ob_mean.specs.Names.{unqualified, place_of};
+ghost use Rattle.ob_mean.specs.Names.{columns_in, unqualified, place_of};
 ghost use Rattle.ob_mean.specs.Kinds.{mistype_columns, overflow_columns};
 ghost use Rattle.ob_mean.specs.Parts.{behind, created_in, given_in, parts_in};
 ghost use Rattle.ob_mean.specs.Refusals.{early_refusal, first_holding, insert_columns, is_incomplete, lack_columns, limits_of, sets_key};
@@ -18,6 +18,7 @@ use crate::listed::{columns_lack, items_lack, items_mistype, items_stray};
 use crate::named::{Named, has_name, has_repeats, lack_column, mistype, overflow};
 use crate::names::{column_at, has_table, means_one, place_of, unqualified};
 use crate::parts::{Created, Given, Parts, parts_of};
+use crate::scope::Scope;
 use crate::sources;
 use ob_base::{Column, ColumnName, Name, Public, Refusal, Table};
 use ob_sql::{Set, Stmt};
@@ -55,96 +56,82 @@ fn takes_name(tables: &[Table], parts: &Parts<'_>) -> bool
         || sources::joins_itself(&parts.tables)
 }
 
-fn group_lacks(group: Option<&ColumnName>, left: &[Column], right: &[Column]) -> bool
-    requires left { length left.now ≤ 32 }
-    requires right { length right.now ≤ 32 }
-    ensures { result ≡ lack_columns (left.now ++ right.now) (option_to_list (behind group.entry)) }
+fn group_lacks(group: Option<&ColumnName>, scope: &Scope<'_>) -> bool
+    ensures { result ≡ lack_columns (columns_in scope.now) (option_to_list (behind group.entry)) }
 {
     match group {
         None => false,
-        Some(key) => !means_one(key, left, right),
+        Some(key) => !means_one(key, scope),
     }
 }
 
 #[tactic(auto, using(crate::proofs::CondLemmas::any_append))]
-fn names_lack(parts: &Parts<'_>, left: &[Column], right: &[Column]) -> bool
-    requires left { length left.now ≤ 32 }
-    requires right { length right.now ≤ 32 }
-    ensures { result ≡ lack_columns (left.now ++ right.now) (named_in (parts_in parts.now)) }
+fn names_lack(parts: &Parts<'_>, scope: &Scope<'_>) -> bool
+    ensures { result ≡ lack_columns (columns_in scope.now) (named_in (parts_in parts.now)) }
 {
-    lack_column(names_of(&parts.given), left, right)
-        || lack_column(parts.sets, left, right)
-        || columns_lack(parts.columns, left, right)
-        || sources::on_lacks(&parts.tables, left, right)
-        || items_lack(parts.items, left, right)
-        || group_lacks(parts.group, left, right)
-        || lacks(parts.cond, left, right)
+    lack_column(names_of(&parts.given), scope)
+        || lack_column(parts.sets, scope)
+        || columns_lack(parts.columns, scope)
+        || sources::on_lacks(&parts.tables, scope)
+        || items_lack(parts.items, scope)
+        || group_lacks(parts.group, scope)
+        || lacks(parts.cond, scope)
 }
 
 // A name that no column has there, a plain column that strays, or columns of ON that aren't one of each
 // table.
-fn lacks_column(parts: &Parts<'_>, left: &[Column], right: &[Column]) -> bool
-    requires left { length left.now ≤ 32 }
-    requires right { length right.now ≤ 32 }
-    ensures { result ≡ lacks_in left.now right.now (parts_in parts.now) }
+fn lacks_column(parts: &Parts<'_>, scope: &Scope<'_>) -> bool
+    ensures { result ≡ lacks_in scope.now (parts_in parts.now) }
 {
-    names_lack(parts, left, right)
-        || items_stray(parts.group, parts.items, left, right)
-        || !sources::joins_apart(&parts.tables, left, right)
+    names_lack(parts, scope)
+        || items_stray(parts.group, parts.items, scope)
+        || !sources::joins_apart(&parts.tables, scope)
 }
 
-fn sets_mistype(sets: &[Set], left: &[Column], right: &[Column]) -> bool
-    requires left { length left.now ≤ 32 }
-    requires right { length right.now ≤ 32 }
-    ensures { result ≡ mistype_columns (left.now ++ right.now)
+fn sets_mistype(sets: &[Set], scope: &Scope<'_>) -> bool
+    ensures { result ≡ mistype_columns (columns_in scope.now)
         (map (λ (s : Set). (unqualified s.column, s.value)) sets.now) }
 {
     match sets.split_first() {
         None => false,
         Some((set, sets)) => {
-            !takes(&unqualified(&set.column), &set.value, left, right)
-                || sets_mistype(sets, left, right)
+            !takes(&unqualified(&set.column), &set.value, scope) || sets_mistype(sets, scope)
         }
     }
 }
 
-fn sets_overflow(sets: &[Set], left: &[Column], right: &[Column]) -> bool
-    requires left { length left.now ≤ 32 }
-    requires right { length right.now ≤ 32 }
-    ensures { result ≡ overflow_columns (left.now ++ right.now)
+fn sets_overflow(sets: &[Set], scope: &Scope<'_>) -> bool
+    ensures { result ≡ overflow_columns (columns_in scope.now)
         (map (λ (s : Set). (unqualified s.column, s.value)) sets.now) }
 {
     match sets.split_first() {
         None => false,
         Some((set, sets)) => {
-            overflows(&unqualified(&set.column), &set.value, left, right)
-                || sets_overflow(sets, left, right)
+            overflows(&unqualified(&set.column), &set.value, scope) || sets_overflow(sets, scope)
         }
     }
 }
 
 // The values of an INSERT, of another kind than their columns.
-fn values_mistype(given: &Given<'_>, left: &[Column], right: &[Column]) -> bool
-    requires left { length left.now ≤ 32 }
-    requires right { length right.now ≤ 32 }
-    ensures { result ≡ mistype_columns (left.now ++ right.now)
-        (zip (map unqualified (insert_columns given.now.names.now left.now)) given.now.values.now) }
+fn values_mistype(given: &Given<'_>, scope: &Scope<'_>) -> bool
+    ensures { result ≡ mistype_columns (columns_in scope.now)
+        (zip (map unqualified (insert_columns given.now.names.now scope.now.left))
+        given.now.values.now) }
 {
     match given.names {
-        None => mistype(left, given.values, left, right),
-        Some(names) => mistype(names.as_slice(), given.values, left, right),
+        None => mistype(scope.left(), given.values, scope),
+        Some(names) => mistype(names.as_slice(), given.values, scope),
     }
 }
 
-fn values_overflow(given: &Given<'_>, left: &[Column], right: &[Column]) -> bool
-    requires left { length left.now ≤ 32 }
-    requires right { length right.now ≤ 32 }
-    ensures { result ≡ overflow_columns (left.now ++ right.now)
-        (zip (map unqualified (insert_columns given.now.names.now left.now)) given.now.values.now) }
+fn values_overflow(given: &Given<'_>, scope: &Scope<'_>) -> bool
+    ensures { result ≡ overflow_columns (columns_in scope.now)
+        (zip (map unqualified (insert_columns given.now.names.now scope.now.left))
+        given.now.values.now) }
 {
     match given.names {
-        None => overflow(left, given.values, left, right),
-        Some(names) => overflow(names.as_slice(), given.values, left, right),
+        None => overflow(scope.left(), given.values, scope),
+        Some(names) => overflow(names.as_slice(), given.values, scope),
     }
 }
 
@@ -168,52 +155,44 @@ fn is_incomplete(given: &Given<'_>, columns: &[Column]) -> bool
     left_out || given.values.len() != columns.len()
 }
 
-fn row_mistypes(given: &Option<Given<'_>>, left: &[Column], right: &[Column]) -> bool
-    requires left { length left.now ≤ 32 }
-    requires right { length right.now ≤ 32 }
+fn row_mistypes(given: &Option<Given<'_>>, scope: &Scope<'_>) -> bool
     ensures { result
-        ≡ option_map_or (row_mistyped (left.now ++ right.now) left.now) (given_in given.now) false }
+        ≡ option_map_or (row_mistyped (columns_in scope.now) scope.now.left)
+        (given_in given.now) false }
 {
     match given {
         None => false,
-        Some(given) => values_mistype(given, left, right) || is_incomplete(given, left),
+        Some(given) => values_mistype(given, scope) || is_incomplete(given, scope.left()),
     }
 }
 
-fn row_overflows(given: &Option<Given<'_>>, left: &[Column], right: &[Column]) -> bool
-    requires left { length left.now ≤ 32 }
-    requires right { length right.now ≤ 32 }
+fn row_overflows(given: &Option<Given<'_>>, scope: &Scope<'_>) -> bool
     ensures { result
-        ≡ option_map_or (row_overflows (left.now ++ right.now) left.now) (given_in given.now) false }
+        ≡ option_map_or (row_overflows (columns_in scope.now) scope.now.left)
+        (given_in given.now) false }
 {
     match given {
         None => false,
-        Some(given) => values_overflow(given, left, right),
+        Some(given) => values_overflow(given, scope),
     }
 }
 
 // A value of another kind than its column.
-fn mistypes_any(parts: &Parts<'_>, left: &[Column], right: &[Column]) -> bool
-    requires left { length left.now ≤ 32 }
-    requires right { length right.now ≤ 32 }
-    ensures { result ≡ mistypes_in (left.now ++ right.now) left.now (parts_in parts.now) }
+fn mistypes_any(parts: &Parts<'_>, scope: &Scope<'_>) -> bool
+    ensures { result ≡ mistypes_in scope.now (parts_in parts.now) }
 {
-    row_mistypes(&parts.given, left, right)
-        || sets_mistype(parts.sets, left, right)
-        || mistypes(parts.cond, left, right)
-        || items_mistype(parts.items, left, right)
-        || !sources::joins_kinds(&parts.tables, left, right)
+    row_mistypes(&parts.given, scope)
+        || sets_mistype(parts.sets, scope)
+        || mistypes(parts.cond, scope)
+        || items_mistype(parts.items, scope)
+        || !sources::joins_kinds(&parts.tables, scope)
 }
 
 // A value that its column doesn't hold.
-fn overflows_any(parts: &Parts<'_>, left: &[Column], right: &[Column]) -> bool
-    requires left { length left.now ≤ 32 }
-    requires right { length right.now ≤ 32 }
-    ensures { result ≡ overflows_in (left.now ++ right.now) left.now (parts_in parts.now) }
+fn overflows_any(parts: &Parts<'_>, scope: &Scope<'_>) -> bool
+    ensures { result ≡ overflows_in scope.now (parts_in parts.now) }
 {
-    row_overflows(&parts.given, left, right)
-        || sets_overflow(parts.sets, left, right)
-        || exceeds(parts.cond)
+    row_overflows(&parts.given, scope) || sets_overflow(parts.sets, scope) || exceeds(parts.cond)
 }
 
 fn new_past(tables: &[Table], created: &Option<Created<'_>>) -> bool
@@ -242,25 +221,23 @@ fn meets_limit(late: bool, public: &Public, parts: &Parts<'_>) -> bool
 }
 
 // One of the columns is the primary key.
-fn sets_key(sets: &[Set], columns: &[Column]) -> bool
-    requires { length columns.now ≤ 32 }
-    ensures { result ≡ sets_key (columns.now ++ []) sets.now }
+fn sets_key(sets: &[Set], scope: &Scope<'_>) -> bool
+    ensures { result ≡ sets_key (columns_in scope.now) sets.now }
 {
     match sets.split_first() {
         None => false,
         Some((set, sets)) => {
-            is_key_named(&unqualified(&set.column), columns) || sets_key(sets, columns)
+            is_key_named(&unqualified(&set.column), scope) || sets_key(sets, scope)
         }
     }
 }
 
-fn is_key_named(name: &ColumnName, columns: &[Column]) -> bool
-    requires { length columns.now ≤ 32 }
+fn is_key_named(name: &ColumnName, scope: &Scope<'_>) -> bool
     ensures { result
         ≡ option_map_or (λ (c : Column). c.key)
-        (slice_get (columns.now ++ []) (place_of name.now (columns.now ++ []))) false }
+        (slice_get (columns_in scope.now) (place_of name.now (columns_in scope.now))) false }
 {
-    match column_at(columns, &[], place_of(name, columns, &[])) {
+    match column_at(scope, place_of(name, scope)) {
         None => false,
         Some(column) => column.key,
     }
@@ -276,11 +253,10 @@ fn new_keys(created: &Option<Created<'_>>) -> bool
 }
 
 // A second primary key, or a change of one.
-fn breaks_key_rule(parts: &Parts<'_>, columns: &[Column]) -> bool
-    requires { length columns.now ≤ 32 }
-    ensures { result ≡ breaks_key_in columns.now (parts_in parts.now) }
+fn breaks_key_rule(parts: &Parts<'_>, scope: &Scope<'_>) -> bool
+    ensures { result ≡ breaks_key_in scope.now (parts_in parts.now) }
 {
-    new_keys(&parts.created) || sets_key(parts.sets, columns)
+    new_keys(&parts.created) || sets_key(parts.sets, scope)
 }
 
 // The first refusal whose condition holds.
@@ -309,21 +285,20 @@ pub fn early_refusal(late: bool, public: &Public, stmt: &Stmt) -> Option<Refusal
 {
     let tables = public.tables.as_slice();
     let parts = parts_of(stmt);
-    let left = sources::left_of(tables, &parts.tables);
-    let right = sources::right_of(tables, &parts.tables);
+    let scope = sources::scope_of(tables, &parts.tables);
     first_of(&[
         (
             sources::lacks_table(tables, &parts.tables),
             Refusal::NoTable,
         ),
         (takes_name(tables, &parts), Refusal::NameTaken),
-        (lacks_column(&parts, left, right), Refusal::NoColumn),
-        (mistypes_any(&parts, left, right), Refusal::WrongType),
-        (overflows_any(&parts, left, right), Refusal::ValueRange),
+        (lacks_column(&parts, &scope), Refusal::NoColumn),
+        (mistypes_any(&parts, &scope), Refusal::WrongType),
+        (overflows_any(&parts, &scope), Refusal::ValueRange),
         (meets_limit(late, public, &parts), Refusal::Limit),
-        (breaks_key_rule(&parts, left), Refusal::KeyRule),
+        (breaks_key_rule(&parts, &scope), Refusal::KeyRule),
         (
-            sources::joins_off_key(&parts.tables, left, right),
+            sources::joins_off_key(&parts.tables, &scope),
             Refusal::JoinKey,
         ),
     ])

@@ -1,11 +1,13 @@
 //! The kinds of literals and of compared columns.
-ghost use Rattle.std.specs.Prelude.{◌≡◌, ◌≤◌, ◌++◌, length};
+ghost use Rattle.std.specs.Prelude.{◌≡◌};
 ghost use Rattle.ob_base.specs.Schemas.{same_kind};
 ghost use Rattle.ob_base.specs.declared.schema.Kind.TheVariants.{Int as IntKind};
+ghost use Rattle.ob_mean.specs.Names.{columns_in};
 ghost use Rattle.ob_mean.specs.Kinds.{is_of_kind, is_too_large, is_too_large_for, at_kind, against_too_large, is_wrong_comparison};
 
 use crate::names::kind_meant;
-use ob_base::{Column, ColumnName, Kind};
+use crate::scope::Scope;
+use ob_base::{ColumnName, Kind};
 use ob_sql::{Against, Literal};
 
 fn same_kind(a: Kind, b: Kind) -> bool
@@ -42,75 +44,55 @@ fn is_too_large_for(kind: Kind, literal: &Literal) -> bool
 }
 
 /// Whether the column that a name means has the kind of this literal.
-pub(crate) fn takes(name: &ColumnName, literal: &Literal, left: &[Column], right: &[Column]) -> bool
-    requires left { length left.now ≤ 32 }
-    requires right { length right.now ≤ 32 }
-    ensures { result ≡ at_kind (λ k. is_of_kind k literal.now) name.now (left.now ++ right.now) }
+pub(crate) fn takes(name: &ColumnName, literal: &Literal, scope: &Scope<'_>) -> bool
+    ensures { result ≡ at_kind (λ k. is_of_kind k literal.now) name.now (columns_in scope.now) }
 {
-    match kind_meant(name, left, right) {
+    match kind_meant(name, scope) {
         Some(kind) => is_of_kind(kind, literal),
         None => false,
     }
 }
 
 /// Whether the column that a name means doesn't hold this literal.
-pub(crate) fn overflows(
-    name: &ColumnName,
-    literal: &Literal,
-    left: &[Column],
-    right: &[Column],
-) -> bool
-    requires left { length left.now ≤ 32 }
-    requires right { length right.now ≤ 32 }
+pub(crate) fn overflows(name: &ColumnName, literal: &Literal, scope: &Scope<'_>) -> bool
     ensures { result
-        ≡ at_kind (λ k. is_too_large_for k literal.now) name.now (left.now ++ right.now) }
+        ≡ at_kind (λ k. is_too_large_for k literal.now) name.now (columns_in scope.now) }
 {
-    match kind_meant(name, left, right) {
+    match kind_meant(name, scope) {
         Some(kind) => is_too_large_for(kind, literal),
         None => false,
     }
 }
 
 /// Whether the column that a name means holds numbers.
-pub(crate) fn is_number(name: &ColumnName, left: &[Column], right: &[Column]) -> bool
-    requires left { length left.now ≤ 32 }
-    requires right { length right.now ≤ 32 }
-    ensures { result ≡ at_kind (same_kind IntKind) name.now (left.now ++ right.now) }
+pub(crate) fn is_number(name: &ColumnName, scope: &Scope<'_>) -> bool
+    ensures { result ≡ at_kind (same_kind IntKind) name.now (columns_in scope.now) }
 {
-    match kind_meant(name, left, right) {
+    match kind_meant(name, scope) {
         Some(kind) => same_kind(Kind::Int, kind),
         None => false,
     }
 }
 
 /// Whether the columns that two names mean are of one kind.
-pub(crate) fn are_alike(a: &ColumnName, b: &ColumnName, left: &[Column], right: &[Column]) -> bool
-    requires left { length left.now ≤ 32 }
-    requires right { length right.now ≤ 32 }
+pub(crate) fn are_alike(a: &ColumnName, b: &ColumnName, scope: &Scope<'_>) -> bool
     ensures { result
-        ≡ at_kind (λ k. at_kind (same_kind k) b.now (left.now ++ right.now)) a.now
-        (left.now ++ right.now) }
+        ≡ at_kind (λ k. at_kind (same_kind k) b.now (columns_in scope.now)) a.now
+        (columns_in scope.now) }
 {
-    match (kind_meant(a, left, right), kind_meant(b, left, right)) {
+    match (kind_meant(a, scope), kind_meant(b, scope)) {
         (Some(kind), Some(other)) => same_kind(kind, other),
         _ => false,
     }
 }
 
 /// Whether a column is compared with another kind than its own.
-pub(crate) fn is_wrong_comparison(
-    name: &ColumnName,
-    with: &Against,
-    left: &[Column],
-    right: &[Column],
-) -> bool
-    requires left { length left.now ≤ 32 }
-    requires right { length right.now ≤ 32 }
-    ensures { result ≡ is_wrong_comparison (left.now ++ right.now) (name.now, with.now) }
+pub(crate) fn is_wrong_comparison(name: &ColumnName, with: &Against, scope: &Scope<'_>) -> bool
+    ensures { result ≡ is_wrong_comparison (columns_in scope.now) (name.now, with.now) }
 {
     match with {
-        Against::Literal(literal) => !takes(name, literal, left, right),
-        Against::Column(other) => !are_alike(name, other, left, right),
+        Against::Literal(literal) => !takes(name, literal, scope),
+        Against::Column(other) => !are_alike(name, other, scope),
     }
 }
 

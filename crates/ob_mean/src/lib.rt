@@ -13,6 +13,7 @@ mod listed;
 mod named;
 mod names;
 mod parts;
+mod scope;
 mod sources;
 mod values;
 
@@ -23,5 +24,6 @@ pub use early::early_refusal;
 pub use items::{agg_of, item_of};
 pub use laws::meaning_is_of_bags;
 pub use names::place_of;
+pub use scope::Scope;
 pub use sources::{left_place, right_place};
 pub use values::{new_row, set_cell};

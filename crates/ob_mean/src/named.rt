@@ -1,14 +1,15 @@
 //! What has a name, and lists of such things.
-ghost use Rattle.std.specs.Prelude.{◌≡◌, ◌≤◌, ◌++◌, length, map, zip, bytes_eq};
+ghost use Rattle.std.specs.Prelude.{◌≡◌, map, zip, bytes_eq};
 ghost use Rattle.std.specs.List.{list_any};
 ghost use Rattle.ob_base.specs.Lists.{has_repeats};
 ghost use Rattle.ob_sql.specs.declared.stmt.Literal.{Literal};
-ghost use Rattle.ob_mean.specs.Names.{unqualified};
+ghost use Rattle.ob_mean.specs.Names.{columns_in, unqualified};
 ghost use Rattle.ob_mean.specs.Kinds.{mistype_columns, overflow_columns};
 ghost use Rattle.ob_mean.specs.Refusals.{lack_columns};
 
 use crate::kinds::{overflows, takes};
 use crate::names::{means_one, unqualified};
+use crate::scope::Scope;
 use ob_base::{Column, Name, NewColumn};
 use ob_sql::{Literal, Set};
 
@@ -76,59 +77,41 @@ pub(crate) fn has_repeats<T: Named>(items: &[T]) -> bool
 }
 
 /// Whether one of their names doesn't mean one column.
-pub(crate) fn lack_column<T: Named>(items: &[T], left: &[Column], right: &[Column]) -> bool
-    requires left { length left.now ≤ 32 }
-    requires right { length right.now ≤ 32 }
+pub(crate) fn lack_column<T: Named>(items: &[T], scope: &Scope<'_>) -> bool
     ensures { result
-        ≡ lack_columns (left.now ++ right.now) (map unqualified (map T.name_of items.now)) }
+        ≡ lack_columns (columns_in scope.now) (map unqualified (map T.name_of items.now)) }
 {
     match items.split_first() {
         None => false,
         Some((item, items)) => {
-            !means_one(&unqualified(item.name()), left, right) || lack_column(items, left, right)
+            !means_one(&unqualified(item.name()), scope) || lack_column(items, scope)
         }
     }
 }
 
 /// Whether a value is of another kind than the column that the name beside it means.
-pub(crate) fn mistype<T: Named>(
-    items: &[T],
-    values: &[Literal],
-    left: &[Column],
-    right: &[Column],
-) -> bool
-    requires left { length left.now ≤ 32 }
-    requires right { length right.now ≤ 32 }
+pub(crate) fn mistype<T: Named>(items: &[T], values: &[Literal], scope: &Scope<'_>) -> bool
     ensures { result
-        ≡ mistype_columns (left.now ++ right.now)
+        ≡ mistype_columns (columns_in scope.now)
         (zip (map unqualified (map T.name_of items.now)) values.now) }
 {
     match (items.split_first(), values.split_first()) {
         (Some((item, items)), Some((value, values))) => {
-            !takes(&unqualified(item.name()), value, left, right)
-                || mistype(items, values, left, right)
+            !takes(&unqualified(item.name()), value, scope) || mistype(items, values, scope)
         }
         _ => false,
     }
 }
 
 /// Whether the column that the name beside it means doesn't hold a value.
-pub(crate) fn overflow<T: Named>(
-    items: &[T],
-    values: &[Literal],
-    left: &[Column],
-    right: &[Column],
-) -> bool
-    requires left { length left.now ≤ 32 }
-    requires right { length right.now ≤ 32 }
+pub(crate) fn overflow<T: Named>(items: &[T], values: &[Literal], scope: &Scope<'_>) -> bool
     ensures { result
-        ≡ overflow_columns (left.now ++ right.now)
+        ≡ overflow_columns (columns_in scope.now)
         (zip (map unqualified (map T.name_of items.now)) values.now) }
 {
     match (items.split_first(), values.split_first()) {
         (Some((item, items)), Some((value, values))) => {
-            overflows(&unqualified(item.name()), value, left, right)
-                || overflow(items, values, left, right)
+            overflows(&unqualified(item.name()), value, scope) || overflow(items, values, scope)
         }
         _ => false,
     }

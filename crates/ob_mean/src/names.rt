@@ -1,11 +1,12 @@
 //! What the names of a statement mean.
-ghost use Rattle.std.specs.Prelude.{◌≡◌, ◌≤◌, ◌<◌, ◌++◌, Option, Some, None, [], length, slice_get, IfSome, IfNone, count_by, position};
+ghost use Rattle.std.specs.Prelude.{◌≡◌, ◌≤◌, ◌<◌, Option, Some, None, length, slice_get, IfSome, IfNone, count_by, position};
 ghost use Rattle.ob_base.specs.Stored.{has_table, heading_at};
 ghost use Rattle.ob_base.specs.Stored.{headings_of};
-ghost use Rattle.ob_mean.specs.Names.{columns_at, is_named, place_of, unqualified};
+ghost use Rattle.ob_mean.specs.Names.{columns_in, columns_at, is_named, place_of, unqualified};
 ghost use Rattle.ob_mean.specs.Refusals.{means_one};
 ghost use Rattle.ob_mean.specs.Kinds.{kind_meant};
 
+use crate::scope::Scope;
 use ob_base::{Column, ColumnName, Heading, Kind, Name, Table};
 
 // The heading of the table of this name, if there is one.
@@ -77,26 +78,24 @@ fn first_named(name: &ColumnName, columns: &[Column]) -> Option<usize>
 }
 
 // Whether a name means one column, of these tables together.
-#[tactic(auto, using(crate::proofs::NameLemmas::meant_length))]
-pub(crate) fn means_one(name: &ColumnName, left: &[Column], right: &[Column]) -> bool
-    requires left { length left.now ≤ 32 }
-    requires right { length right.now ≤ 32 }
-    ensures { result ≡ means_one (left.now ++ right.now) name.now }
+pub(crate) fn means_one(name: &ColumnName, scope: &Scope<'_>) -> bool
+    ensures { result ≡ means_one (columns_in scope.now) name.now }
 {
+    let left = scope.left();
+    let right = scope.right();
     count_named(name, left) + count_named(name, right) == 1
 }
 
 /// The place of the column that a name means, among those of these tables together.
 #[tactic(auto, using(crate::proofs::NameLemmas::meant_first))]
-pub fn place_of(name: &ColumnName, left: &[Column], right: &[Column]) -> usize
-    requires left { length left.now ≤ 32 }
-    requires right { length right.now ≤ 32 }
-    ensures value { result ≡ place_of name.now (left.now ++ right.now) }
+pub fn place_of(name: &ColumnName, scope: &Scope<'_>) -> usize
+    ensures value { result ≡ place_of name.now (columns_in scope.now) }
     ensures few { result < 64 }
 {
+    let left = scope.left();
     match first_named(name, left) {
         Some(i) => i,
-        None => match first_named(name, right) {
+        None => match first_named(name, scope.right()) {
             Some(i) => left.len() + i,
             None => 0,
         },
@@ -104,23 +103,22 @@ pub fn place_of(name: &ColumnName, left: &[Column], right: &[Column]) -> usize
 }
 
 // The kind of the column that a name means.
-pub(crate) fn kind_meant(name: &ColumnName, left: &[Column], right: &[Column]) -> Option<Kind>
-    requires left { length left.now ≤ 32 }
-    requires right { length right.now ≤ 32 }
-    ensures { result ≡ kind_meant name.now (left.now ++ right.now) }
+pub(crate) fn kind_meant(name: &ColumnName, scope: &Scope<'_>) -> Option<Kind>
+    ensures { result ≡ kind_meant name.now (columns_in scope.now) }
 {
-    column_at(left, right, place_of(name, left, right)).map(|column| column.kind)
+    column_at(scope, place_of(name, scope)).map(|column| column.kind)
 }
 
 // The column at a place among those of two tables.
 #[tactic(auto, using(crate::proofs::NameLemmas::get_front, crate::proofs::NameLemmas::get_back))]
-pub(crate) fn column_at<'a>(left: &'a [Column], right: &'a [Column], i: usize) -> Option<&'a Column>
-    ensures none { IfNone result (slice_get (left.now ++ right.now) i ≡ None) }
-    ensures some { IfSome result (λ c. slice_get (left.now ++ right.now) i ≡ Some c.now) }
+pub(crate) fn column_at<'a>(scope: &'a Scope<'_>, i: usize) -> Option<&'a Column>
+    ensures none { IfNone result (slice_get (columns_in scope.now) i ≡ None) }
+    ensures some { IfSome result (λ c. slice_get (columns_in scope.now) i ≡ Some c.now) }
 {
+    let left = scope.left();
     if i < left.len() {
         left.get(i)
     } else {
-        right.get(i - left.len())
+        scope.right().get(i - left.len())
     }
 }

@@ -1,11 +1,11 @@
 //! The parts of a statement that its refusals ask for.
-ghost use Rattle.std.specs.Prelude.{◌≡◌};
-ghost use Rattle.ob_mean.specs.Parts.{parts_of, parts_in, source_in};
-ghost use Rattle.std.specs.Prelude.{Some};
+ghost use Rattle.std.specs.Prelude.{◌≡◌, Some};
+ghost use Rattle.ob_sql.specs.declared.stmt.Stmt.TheVariants.{SelectRows as RowsStmt, SelectTotals as TotalsStmt};
+ghost use Rattle.ob_mean.specs.Parts.{no_parts, parts_of, parts_in, source_in};
 
 use crate::listed::listed;
 use ob_base::{ColumnName, Items, Name, NewColumn, Source};
-use ob_sql::{Cond, Listed, Literal, Set, Stmt};
+use ob_sql::{Cond, Listed, Literal, SelectRows, SelectTotals, Set, Stmt};
 
 /// A table that is to be new.
 #[derive(Drop)]
@@ -67,20 +67,47 @@ fn tables_of(source: &Source) -> Tables<'_>
     }
 }
 
-/// The parts of a statement.
-pub(crate) fn parts_of(stmt: &Stmt) -> Parts<'_>
-    ensures { parts_in result ≡ parts_of stmt.now }
+// Those of a statement on these tables that has no others.
+fn parts_on(tables: Tables<'_>) -> Parts<'_>
+    ensures { parts_in result ≡ record no_parts { source = source_in tables.entry } }
 {
-    let none = Parts {
+    Parts {
         created: None,
-        tables: Tables::Nothing,
+        tables,
         given: None,
         sets: &[],
         cond: None,
         columns: &[],
         items: &[],
         group: None,
-    };
+    }
+}
+
+fn parts_of_rows(select: &SelectRows) -> Parts<'_>
+    ensures { parts_in result ≡ parts_of (RowsStmt select.now) }
+{
+    Parts {
+        cond: select.cond.as_ref(),
+        columns: listed(&select.list),
+        ..parts_on(tables_of(&select.source))
+    }
+}
+
+fn parts_of_totals(select: &SelectTotals) -> Parts<'_>
+    ensures { parts_in result ≡ parts_of (TotalsStmt select.now) }
+{
+    Parts {
+        cond: select.cond.as_ref(),
+        items: select.items.as_slice(),
+        group: select.group.as_ref(),
+        ..parts_on(Tables::One(&select.table))
+    }
+}
+
+/// The parts of a statement.
+pub(crate) fn parts_of(stmt: &Stmt) -> Parts<'_>
+    ensures { parts_in result ≡ parts_of stmt.now }
+{
     match stmt {
         Stmt::Create {
             table,
@@ -92,47 +119,30 @@ pub(crate) fn parts_of(stmt: &Stmt) -> Parts<'_>
                 columns: columns.as_slice(),
                 capacity: *capacity,
             }),
-            ..none
+            ..parts_on(Tables::Nothing)
         },
         Stmt::Insert {
             table,
             columns,
             values,
         } => Parts {
-            tables: Tables::One(table),
             given: Some(Given {
                 names: columns,
                 values: values.as_slice(),
             }),
-            ..none
+            ..parts_on(Tables::One(table))
         },
         Stmt::Update { table, sets, cond } => Parts {
-            tables: Tables::One(table),
             sets: sets.as_slice(),
             cond: cond.as_ref(),
-            ..none
+            ..parts_on(Tables::One(table))
         },
         Stmt::Delete { table, cond } => Parts {
-            tables: Tables::One(table),
             cond: cond.as_ref(),
-            ..none
+            ..parts_on(Tables::One(table))
         },
-        Stmt::Drop { table } => Parts {
-            tables: Tables::One(table),
-            ..none
-        },
-        Stmt::SelectRows(select) => Parts {
-            tables: tables_of(&select.source),
-            cond: select.cond.as_ref(),
-            columns: listed(&select.list),
-            ..none
-        },
-        Stmt::SelectTotals(select) => Parts {
-            tables: Tables::One(&select.table),
-            cond: select.cond.as_ref(),
-            items: select.items.as_slice(),
-            group: select.group.as_ref(),
-            ..none
-        },
+        Stmt::Drop { table } => parts_on(Tables::One(table)),
+        Stmt::SelectRows(select) => parts_of_rows(select),
+        Stmt::SelectTotals(select) => parts_of_totals(select),
     }
 }

@@ -1,15 +1,17 @@
 //! Where a statement takes its rows from.
-ghost use Rattle.std.specs.Prelude.{◌≡◌, ◌≤◌, ◌<◌, ◌+◌, ◌*◌, ◌++◌, ◌-◌, [], length, not, position, true, false, Some};
+ghost use Rattle.std.specs.Prelude.{◌≡◌, ◌≤◌, ◌<◌, ◌+◌, ◌*◌, ◌-◌, [], length, not, position, true, false, Some};
 ghost use Rattle.std.specs.Option.{option_map_or};
 ghost use Rattle.ob_base.specs.Joins.{joined_slots};
 ghost use Rattle.ob_base.specs.Stored.{headings_of};
+ghost use Rattle.ob_mean.specs.Names.{columns_in};
 ghost use Rattle.ob_mean.specs.Parts.{source_in};
 ghost use Rattle.ob_mean.specs.Refusals.{joins_itself, joins_kinds, joins_past, joins_past_at, join_columns, is_key, left_place, right_place, is_across, lack_columns, limits_of};
-ghost use Rattle.ob_mean.specs.Scopes.{missing_in, left_in, right_in, joins_apart_in, off_key_in};
+ghost use Rattle.ob_mean.specs.Scopes.{missing_in, scope_in, joins_apart_in, off_key_in};
 
 use crate::kinds::are_alike;
 use crate::names::{columns_at, has_table, heading_at, means_one, place_of};
 use crate::parts::Tables;
+use crate::scope::Scope;
 use ob_base::{Column, ColumnName, Heading, Public, Table};
 use ob_row::width;
 
@@ -34,79 +36,59 @@ pub(crate) fn joins_itself(named: &Tables<'_>) -> bool
     }
 }
 
-/// The columns of the left table, or of the one.
-pub(crate) fn left_of<'a>(tables: &'a [Table], named: &Tables<'_>) -> &'a [Column]
-    ensures value { result.now ≡ left_in (headings_of tables.now) (source_in named.now) }
-    ensures few { length result.now ≤ 32 }
+/// The columns of the table, or of those of a join.
+pub(crate) fn scope_of<'a>(tables: &'a [Table], named: &Tables<'_>) -> Scope<'a>
+    ensures { result ≡ scope_in (headings_of tables.now) (source_in named.now) }
 {
     match named {
-        Tables::Nothing => &[],
-        Tables::One(name) => columns_at(tables, name),
-        Tables::Joined { left, .. } => columns_at(tables, left),
-    }
-}
-
-/// The columns of the right table, if there is one.
-pub(crate) fn right_of<'a>(tables: &'a [Table], named: &Tables<'_>) -> &'a [Column]
-    ensures value { result.now ≡ right_in (headings_of tables.now) (source_in named.now) }
-    ensures few { length result.now ≤ 32 }
-{
-    match named {
-        Tables::Nothing | Tables::One(_) => &[],
-        Tables::Joined { right, .. } => columns_at(tables, right),
-    }
-}
-
-fn is_across(on: &ColumnName, equals: &ColumnName, left: &[Column], right: &[Column]) -> bool
-    requires left { length left.now ≤ 32 }
-    requires right { length right.now ≤ 32 }
-    ensures { result ≡ is_across (length left.now) (left.now ++ right.now) on.now equals.now }
-{
-    let n = left.len();
-    let a = place_of(on, left, right);
-    let b = place_of(equals, left, right);
-    (a < n && n <= b) || (b < n && n <= a)
-}
-
-/// Whether the columns of ON are one of each table.
-pub(crate) fn joins_apart(named: &Tables<'_>, left: &[Column], right: &[Column]) -> bool
-    requires left { length left.now ≤ 32 }
-    requires right { length right.now ≤ 32 }
-    ensures { result
-        ≡ option_map_or (joins_apart_in left.now right.now) (source_in named.now) true }
-{
-    match named {
-        Tables::Nothing | Tables::One(_) => true,
-        Tables::Joined { on, equals, .. } => is_across(on, equals, left, right),
-    }
-}
-
-/// Whether ON names no column, or more than one.
-pub(crate) fn on_lacks(named: &Tables<'_>, left: &[Column], right: &[Column]) -> bool
-    requires left { length left.now ≤ 32 }
-    requires right { length right.now ≤ 32 }
-    ensures { result
-        ≡ lack_columns (left.now ++ right.now)
-        (option_map_or join_columns (source_in named.now) []) }
-{
-    match named {
-        Tables::Nothing | Tables::One(_) => false,
-        Tables::Joined { on, equals, .. } => {
-            !means_one(on, left, right) || !means_one(equals, left, right)
+        Tables::Nothing => Scope::of_table(&[]),
+        Tables::One(name) => Scope::of_table(columns_at(tables, name)),
+        Tables::Joined { left, right, .. } => {
+            Scope::of_join(columns_at(tables, left), columns_at(tables, right))
         }
     }
 }
 
-/// Whether the columns of ON are of one kind.
-pub(crate) fn joins_kinds(named: &Tables<'_>, left: &[Column], right: &[Column]) -> bool
-    requires left { length left.now ≤ 32 }
-    requires right { length right.now ≤ 32 }
+fn is_across(on: &ColumnName, equals: &ColumnName, scope: &Scope<'_>) -> bool
+    ensures { result ≡ is_across (length scope.now.left) (columns_in scope.now) on.now equals.now }
+{
+    let n = scope.left().len();
+    let a = place_of(on, scope);
+    let b = place_of(equals, scope);
+    (a < n && n <= b) || (b < n && n <= a)
+}
+
+/// Whether the columns of ON are one of each table.
+pub(crate) fn joins_apart(named: &Tables<'_>, scope: &Scope<'_>) -> bool
     ensures { result
-        ≡ option_map_or (joins_kinds (left.now ++ right.now)) (source_in named.now) true }
+        ≡ option_map_or (joins_apart_in scope.now) (source_in named.now) true }
 {
     match named {
         Tables::Nothing | Tables::One(_) => true,
-        Tables::Joined { on, equals, .. } => are_alike(on, equals, left, right),
+        Tables::Joined { on, equals, .. } => is_across(on, equals, scope),
+    }
+}
+
+/// Whether ON names no column, or more than one.
+pub(crate) fn on_lacks(named: &Tables<'_>, scope: &Scope<'_>) -> bool
+    ensures { result
+        ≡ lack_columns (columns_in scope.now)
+        (option_map_or join_columns (source_in named.now) []) }
+{
+    match named {
+        Tables::Nothing | Tables::One(_) => false,
+        Tables::Joined { on, equals, .. } => { !means_one(on, scope) || !means_one(equals, scope) }
+    }
+}
+
+/// Whether the columns of ON are of one kind.
+pub(crate) fn joins_kinds(named: &Tables<'_>, scope: &Scope<'_>) -> bool
+    ensures { result
+        ≡ option_map_or (joins_kinds (columns_in scope.now)) (source_in named.now) true }
+{
+    match named {
+        Tables::Nothing | Tables::One(_) => true,
+        Tables::Joined { on, equals, .. } => are_alike(on, equals, scope),
     }
 }
 
@@ -171,56 +153,49 @@ fn is_key(columns: &[Column], i: usize) -> bool
 }
 
 /// The place of the left table's column of ON, whichever side it stands on.
-pub fn left_place(on: &ColumnName, equals: &ColumnName, left: &[Column], right: &[Column]) -> usize
-    requires left { length left.now ≤ 32 }
-    requires right { length right.now ≤ 32 }
+pub fn left_place(on: &ColumnName, equals: &ColumnName, scope: &Scope<'_>) -> usize
     ensures value { result
-        ≡ left_place (length left.now) (left.now ++ right.now) on.now equals.now }
+        ≡ left_place (length scope.now.left) (columns_in scope.now) on.now equals.now }
     ensures few { result < 64 }
 {
-    let i = place_of(on, left, right);
-    if i < left.len() {
+    let i = place_of(on, scope);
+    if i < scope.left().len() {
         i
     } else {
-        place_of(equals, left, right)
+        place_of(equals, scope)
     }
 }
 
 /// The place of the right table's column of ON, among that table's own.
-pub fn right_place(on: &ColumnName, equals: &ColumnName, left: &[Column], right: &[Column]) -> usize
-    requires left { length left.now ≤ 32 }
-    requires right { length right.now ≤ 32 }
+pub fn right_place(on: &ColumnName, equals: &ColumnName, scope: &Scope<'_>) -> usize
     ensures value { result
-        ≡ right_place (length left.now) (left.now ++ right.now) on.now equals.now }
+        ≡ right_place (length scope.now.left) (columns_in scope.now) on.now equals.now }
     ensures few { result < 64 }
 {
-    let i = place_of(on, left, right);
-    if i < left.len() {
-        place_of(equals, left, right).saturating_sub(left.len())
+    let n = scope.left().len();
+    let i = place_of(on, scope);
+    if i < n {
+        place_of(equals, scope).saturating_sub(n)
     } else {
-        i.saturating_sub(left.len())
+        i.saturating_sub(n)
     }
 }
 
-fn on_off_key(on: &ColumnName, equals: &ColumnName, left: &[Column], right: &[Column]) -> bool
-    requires left { length left.now ≤ 32 }
-    requires right { length right.now ≤ 32 }
+fn on_off_key(on: &ColumnName, equals: &ColumnName, scope: &Scope<'_>) -> bool
     ensures { result
-        ≡ not (is_key left.now
-        (left_place (length left.now) (left.now ++ right.now) on.now equals.now)) }
+        ≡ not (is_key scope.now.left
+        (left_place (length scope.now.left) (columns_in scope.now) on.now equals.now)) }
 {
-    !is_key(left, left_place(on, equals, left, right))
+    !is_key(scope.left(), left_place(on, equals, scope))
 }
 
 /// Whether the left column of ON is not its table's primary key.
-pub(crate) fn joins_off_key(named: &Tables<'_>, left: &[Column], right: &[Column]) -> bool
-    requires left { length left.now ≤ 32 }
-    requires right { length right.now ≤ 32 }
+pub(crate) fn joins_off_key(named: &Tables<'_>, scope: &Scope<'_>) -> bool
     ensures { result
-        ≡ option_map_or (off_key_in left.now right.now) (source_in named.now) false }
+        ≡ option_map_or (off_key_in scope.now) (source_in named.now) false }
 {
     match named {
         Tables::Nothing | Tables::One(_) => false,
-        Tables::Joined { on, equals, .. } => on_off_key(on, equals, left, right),
+        Tables::Joined { on, equals, .. } => on_off_key(on, equals, scope),
     }
 }

@@ -1,7 +1,8 @@
 //! GROUP BY.
-ghost use Rattle.std.specs.Prelude.{◌≡◌, ◌≤◌, ◌++◌, ◌∷◌, not, filter, map, length, IfOk, OnOk};
+ghost use Rattle.std.specs.Prelude.{◌≡◌, ◌++◌, ◌∷◌, not, filter, map, IfOk, OnOk};
 ghost use Rattle.ob_row.specs.Rows.{agree_at};
 ghost use Rattle.ob_row.specs.Totals.{group_heads, group_of, item_shown, grouped};
+ghost use Rattle.ob_mean.specs.Names.{columns_in};
 ghost use Rattle.ob_mean.specs.Step.{item_of};
 
 use crate::copies::{add_rows, copied};
@@ -9,8 +10,8 @@ use crate::printed::shown_at;
 use crate::tables::Tuple;
 use crate::totals::total;
 use crate::truth::agree_at;
-use ob_base::{Column, Items, NoMemory, Shown};
-use ob_mean::item_of;
+use ob_base::{Items, NoMemory, Shown};
+use ob_mean::{Scope, item_of};
 use ob_row::{Cell, Item};
 use ob_sql::Listed;
 use std::alloc::Global;
@@ -153,20 +154,17 @@ fn add_groups(
 /// Adds the items of a list, by the places of their columns.
 pub(crate) fn add_listed(
     listed: &[Listed],
-    left: &[Column],
-    right: &[Column],
+    scope: &Scope<'_>,
     items: &mut Vec<Item>,
 ) -> Result<(), NoMemory>
-    requires left { length left.now ≤ 32 }
-    requires right { length right.now ≤ 32 }
     ensures { OnOk result
-        (items.new.items ≡ items.old.items ++ map (item_of (left.now ++ right.now)) listed.now) }
+        (items.new.items ≡ items.old.items ++ map (item_of (columns_in scope.now)) listed.now) }
 {
     match listed.split_first() {
         None => Ok(()),
-        Some((item, listed)) => match items.push(item_of(item, left, right)) {
+        Some((item, listed)) => match items.push(item_of(item, scope)) {
             Err(_) => Err(NoMemory),
-            Ok(()) => add_listed(listed, left, right, items),
+            Ok(()) => add_listed(listed, scope, items),
         },
     }
 }

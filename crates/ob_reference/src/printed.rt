@@ -4,12 +4,12 @@ ghost use Rattle.ob_base.specs.Lists.{places_from};
 ghost use Rattle.ob_base.specs.declared.schema.Column.{Column};
 ghost use Rattle.ob_row.specs.Rows.{cell_at};
 ghost use Rattle.ob_row.specs.Totals.{shown, shown_at, printed};
-ghost use Rattle.ob_mean.specs.Names.{place_of};
+ghost use Rattle.ob_mean.specs.Names.{columns_in, place_of};
 ghost use Rattle.ob_mean.specs.Step.{printed_places, rows_answer};
 
 use crate::tables::Tuple;
 use ob_base::{Column, ColumnName, Items, NoMemory, Shown};
-use ob_mean::place_of;
+use ob_mean::{Scope, place_of};
 use ob_row::Cell;
 use ob_sql::SelectRows;
 use std::alloc::Global;
@@ -46,20 +46,17 @@ fn add_place(places: &mut Vec<usize>, i: usize) -> Result<(), NoMemory>
 #[tactic(auto, using(crate::proofs::PlaceLemmas::map_append))]
 fn add_named(
     names: &[ColumnName],
-    left: &[Column],
-    right: &[Column],
+    scope: &Scope<'_>,
     places: &mut Vec<usize>,
 ) -> Result<(), NoMemory>
-    requires left { length left.now ≤ 32 }
-    requires right { length right.now ≤ 32 }
     ensures { OnOk result (places.new.items
-        ≡ places.old.items ++ map (λ c. place_of c (left.now ++ right.now)) names.now) }
+        ≡ places.old.items ++ map (λ c. place_of c (columns_in scope.now)) names.now) }
 {
     match names.split_first() {
         None => Ok(()),
-        Some((name, names)) => match add_place(places, place_of(name, left, right)) {
+        Some((name, names)) => match add_place(places, place_of(name, scope)) {
             Err(_) => Err(NoMemory),
-            Ok(()) => add_named(names, left, right, places),
+            Ok(()) => add_named(names, scope, places),
         },
     }
 }
@@ -86,23 +83,20 @@ fn add_all(first: usize, columns: &[Column], places: &mut Vec<usize>) -> Result<
 fn printed_places(
     alloc: Global,
     select: &SelectRows,
-    left: &[Column],
-    right: &[Column],
+    scope: &Scope<'_>,
 ) -> Result<Vec<usize>, NoMemory>
-    requires left { length left.now ≤ 32 }
-    requires right { length right.now ≤ 32 }
     ensures { IfOk result
-        (λ places. places.items ≡ printed_places select.now (left.now ++ right.now)) }
+        (λ places. places.items ≡ printed_places select.now (columns_in scope.now)) }
 {
     let mut places = Vec::new(alloc);
     match &select.list {
-        Some(names) => match add_named(names.as_slice(), left, right, &mut places) {
+        Some(names) => match add_named(names.as_slice(), scope, &mut places) {
             Err(_) => Err(NoMemory),
             Ok(()) => Ok(places),
         },
-        None => match add_all(0, left, &mut places) {
+        None => match add_all(0, scope.left(), &mut places) {
             Err(_) => Err(NoMemory),
-            Ok(()) => match add_all(left.len(), right, &mut places) {
+            Ok(()) => match add_all(scope.left().len(), scope.right(), &mut places) {
                 Err(_) => Err(NoMemory),
                 Ok(()) => Ok(places),
             },
@@ -149,16 +143,13 @@ fn add_printed(
 pub(crate) fn printed_rows(
     alloc: Global,
     select: &SelectRows,
-    left: &[Column],
-    right: &[Column],
+    scope: &Scope<'_>,
     rows: &[Tuple],
 ) -> Result<Items<Items<Shown>>, NoMemory>
-    requires left { length left.now ≤ 32 }
-    requires right { length right.now ≤ 32 }
     ensures { IfOk result
-        (λ answer. answer ≡ rows_answer select.now (left.now ++ right.now) rows.now) }
+        (λ answer. answer ≡ rows_answer select.now (columns_in scope.now) rows.now) }
 {
-    match printed_places(alloc, select, left, right) {
+    match printed_places(alloc, select, scope) {
         Err(_) => Err(NoMemory),
         Ok(places) => {
             let mut answer = Items::new(alloc);

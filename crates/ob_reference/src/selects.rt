@@ -1,19 +1,20 @@
 //! SELECT.
-ghost use Rattle.std.specs.Prelude.{◌≡◌, ◌≤◌, ◌++◌, ◌∷◌, [], Some, None, if◌then◌else◌, nat_lt, length, map, filter_map, IfOk};
+ghost use Rattle.std.specs.Prelude.{◌≡◌, ◌∷◌, [], Some, None, if◌then◌else◌, nat_lt, length, map, filter_map, IfOk};
 ghost use Rattle.ob_base.specs.declared.refusal.Refusal.TheVariants.{TooManyGroups};
 ghost use Rattle.ob_row.specs.Totals.{totals, grouped, group_heads};
 ghost use Rattle.ob_sql.specs.declared.stmt.Stmt.TheVariants.{SelectRows as RowsStmt, SelectTotals as TotalsStmt};
 ghost use Rattle.ob_mean.specs.declared.answer.Answer.TheVariants.{Rows};
+ghost use Rattle.ob_mean.specs.Names.{columns_in};
 ghost use Rattle.ob_mean.specs.Step.{agg_of, item_of, answered, late_refusal, accepted_answer};
 ghost use Rattle.ob_reference.specs.Selected.{selected_answer};
 
 use crate::groups::{add_listed, group_heads, grouped};
 use crate::printed::printed_rows;
-use crate::sources::{left_of, right_of, selected_rows, totalled_rows};
+use crate::sources::{scope_of, selected_rows, totalled_rows};
 use crate::tables::{Database, Tuple, columns_at};
 use crate::totals::add_totals;
-use ob_base::{Column, Items, NoMemory, Refusal, Shown};
-use ob_mean::{Answer, place_of};
+use ob_base::{Items, NoMemory, Refusal, Shown};
+use ob_mean::{Answer, Scope, place_of};
 use ob_row::Item;
 use ob_sql::{Listed, SelectRows, SelectTotals};
 use std::alloc::Global;
@@ -22,19 +23,16 @@ use std::alloc::Global;
 fn totals_row(
     alloc: Global,
     items: &[Listed],
-    left: &[Column],
-    right: &[Column],
+    scope: &Scope<'_>,
     rows: &[Tuple],
 ) -> Result<Items<Items<Shown>>, NoMemory>
-    requires left { length left.now ≤ 32 }
-    requires right { length right.now ≤ 32 }
     ensures { IfOk result
         (λ answer. answer
-        ≡ totals (filter_map (agg_of (left.now ++ right.now)) items.now) rows.now ∷ []) }
+        ≡ totals (filter_map (agg_of (columns_in scope.now)) items.now) rows.now ∷ []) }
 {
     let mut answer = Items::new(alloc);
     let mut fields = Items::new(alloc);
-    match add_totals(items, left, right, rows, &mut fields) {
+    match add_totals(items, scope, rows, &mut fields) {
         Err(_) => Err(NoMemory),
         Ok(()) => match answer.push(fields) {
             Err(_) => Err(NoMemory),
@@ -46,15 +44,12 @@ fn totals_row(
 fn items_at(
     alloc: Global,
     items: &[Listed],
-    left: &[Column],
-    right: &[Column],
+    scope: &Scope<'_>,
 ) -> Result<Vec<Item>, NoMemory>
-    requires left { length left.now ≤ 32 }
-    requires right { length right.now ≤ 32 }
-    ensures { IfOk result (λ its. its.items ≡ map (item_of (left.now ++ right.now)) items.now) }
+    ensures { IfOk result (λ its. its.items ≡ map (item_of (columns_in scope.now)) items.now) }
 {
     let mut placed = Vec::new(alloc);
-    match add_listed(items, left, right, &mut placed) {
+    match add_listed(items, scope, &mut placed) {
         Err(_) => Err(NoMemory),
         Ok(()) => Ok(placed),
     }
@@ -93,26 +88,23 @@ fn totals_of(
     alloc: Global,
     limit: u64,
     select: &SelectTotals,
-    left: &[Column],
-    right: &[Column],
+    scope: &Scope<'_>,
     rows: &[Tuple],
 ) -> Result<Answer, NoMemory>
-    requires left { length left.now ≤ 32 }
-    requires right { length right.now ≤ 32 }
     ensures { IfOk result (λ a.
-        a ≡ selected_answer limit select.now (left.now ++ right.now) rows.now) }
+        a ≡ selected_answer limit select.now (columns_in scope.now) rows.now) }
 {
     match &select.group {
-        None => match totals_row(alloc, select.items.as_slice(), left, right, rows) {
+        None => match totals_row(alloc, select.items.as_slice(), scope, rows) {
             Err(_) => Err(NoMemory),
             Ok(answer) => Ok(Answer::Rows(answer)),
         },
-        Some(key) => match items_at(alloc, select.items.as_slice(), left, right) {
+        Some(key) => match items_at(alloc, select.items.as_slice(), scope) {
             Err(_) => Err(NoMemory),
             Ok(items) => group_answer(
                 alloc,
                 limit,
-                place_of(key, left, right),
+                place_of(key, scope),
                 items.as_slice(),
                 rows,
             ),
@@ -130,9 +122,8 @@ impl Database {
         match selected_rows(alloc, tables, select) {
             Err(_) => Err(NoMemory),
             Ok(rows) => {
-                let left = left_of(tables, &select.source);
-                let right = right_of(tables, &select.source);
-                match printed_rows(alloc, select, left, right, rows.as_slice()) {
+                let scope = scope_of(tables, &select.source);
+                match printed_rows(alloc, select, &scope, rows.as_slice()) {
                     Err(_) => Err(NoMemory),
                     Ok(answer) => Ok(Answer::Rows(answer)),
                 }
@@ -158,8 +149,8 @@ impl Database {
         match totalled_rows(alloc, tables, select) {
             Err(_) => Err(NoMemory),
             Ok(rows) => {
-                let columns = columns_at(tables, &select.table);
-                totals_of(alloc, limit, select, columns, &[], rows.as_slice())
+                let scope = Scope::of_table(columns_at(tables, &select.table));
+                totals_of(alloc, limit, select, &scope, rows.as_slice())
             }
         }
     }

@@ -1,39 +1,29 @@
 //! The rows that a SELECT takes.
-ghost use Rattle.std.specs.Prelude.{◌≡◌, ◌≤◌, ◌++◌, length, filter, IfOk, OnOk};
+ghost use Rattle.std.specs.Prelude.{◌≡◌, ◌++◌, filter, IfOk, OnOk};
 ghost use Rattle.ob_base.specs.Stored.{headings};
 ghost use Rattle.ob_base.specs.declared.skeleton.Source.TheVariants.{Join};
 ghost use Rattle.ob_row.specs.Truth.{is_true};
-ghost use Rattle.ob_mean.specs.Names.{where_at};
-ghost use Rattle.ob_mean.specs.Scopes.{left_of_source, right_of_source};
+ghost use Rattle.ob_mean.specs.Names.{columns_in, where_at};
+ghost use Rattle.ob_mean.specs.Scopes.{source_scope};
 ghost use Rattle.ob_mean.specs.Step.{source_rows, selected_rows, totalled_rows};
 
 use crate::copies::{add_pairs, add_rows};
 use crate::tables::{Held, Tuple, columns_at, rows_at};
 use crate::truth::selects;
-use ob_base::{Column, ColumnName, Name, NoMemory, Source};
-use ob_mean::{left_place, right_place};
+use ob_base::{ColumnName, Name, NoMemory, Source};
+use ob_mean::{Scope, left_place, right_place};
 use ob_sql::{Cond, SelectRows, SelectTotals};
 use std::alloc::Global;
 
-/// The columns of the one table that a SELECT of rows is on, or of its left one.
-pub(crate) fn left_of<'a>(tables: &'a [Held], source: &Source) -> &'a [Column]
-    ensures value { result.now ≡ left_of_source source.now (headings tables.now) }
-    ensures few { length result.now ≤ 32 }
+/// The columns that the names of a SELECT of rows may mean.
+pub(crate) fn scope_of<'a>(tables: &'a [Held], source: &Source) -> Scope<'a>
+    ensures { result ≡ source_scope source.now (headings tables.now) }
 {
     match source {
-        Source::Table(name) => columns_at(tables, name),
-        Source::Join { left, .. } => columns_at(tables, left),
-    }
-}
-
-/// The columns of its right table, if it has one.
-pub(crate) fn right_of<'a>(tables: &'a [Held], source: &Source) -> &'a [Column]
-    ensures value { result.now ≡ right_of_source source.now (headings tables.now) }
-    ensures few { length result.now ≤ 32 }
-{
-    match source {
-        Source::Table(_) => &[],
-        Source::Join { right, .. } => columns_at(tables, right),
+        Source::Table(name) => Scope::of_table(columns_at(tables, name)),
+        Source::Join { left, right, .. } => {
+            Scope::of_join(columns_at(tables, left), columns_at(tables, right))
+        }
     }
 }
 
@@ -51,10 +41,9 @@ fn add_join(
         (to.new.items
         ≡ to.old.items ++ source_rows (Join left.now right.now on.now equals.now) tables.now) }
 {
-    let left_columns = columns_at(tables, left);
-    let right_columns = columns_at(tables, right);
-    let i = left_place(on, equals, left_columns, right_columns);
-    let j = right_place(on, equals, left_columns, right_columns);
+    let scope = Scope::of_join(columns_at(tables, left), columns_at(tables, right));
+    let i = left_place(on, equals, &scope);
+    let j = right_place(on, equals, &scope);
     add_pairs(
         alloc,
         i,
@@ -96,13 +85,11 @@ fn source_rows(alloc: Global, tables: &[Held], source: &Source) -> Result<Vec<Tu
 }
 
 // Keeps the rows that a WHERE selects.
-fn keep_selected(cond: &Option<Cond>, left: &[Column], right: &[Column], rows: &mut Vec<Tuple>)
-    requires left { length left.now ≤ 32 }
-    requires right { length right.now ≤ 32 }
+fn keep_selected(cond: &Option<Cond>, scope: &Scope<'_>, rows: &mut Vec<Tuple>)
     ensures { rows.new.items
-        ≡ filter (is_true (where_at cond.now (left.now ++ right.now))) rows.old.items }
+        ≡ filter (is_true (where_at cond.now (columns_in scope.now))) rows.old.items }
 {
-    rows.retain(|row| selects(cond, left, right, row.as_slice()));
+    rows.retain(|row| selects(cond, scope, row.as_slice()));
 }
 
 /// The rows that a SELECT of rows selects.
@@ -117,9 +104,7 @@ pub(crate) fn selected_rows(
     match source_rows(alloc, tables, &select.source) {
         Err(_) => Err(NoMemory),
         Ok(mut rows) => {
-            let left = left_of(tables, &select.source);
-            let right = right_of(tables, &select.source);
-            keep_selected(&select.cond, left, right, &mut rows);
+            keep_selected(&select.cond, &scope_of(tables, &select.source), &mut rows);
             Ok(rows)
         }
     }
@@ -139,7 +124,7 @@ pub(crate) fn totalled_rows(
         Err(_) => Err(NoMemory),
         Ok(()) => {
             let columns = columns_at(tables, &select.table);
-            keep_selected(&select.cond, columns, &[], &mut rows);
+            keep_selected(&select.cond, &Scope::of_table(columns), &mut rows);
             Ok(rows)
         }
     }

@@ -1,12 +1,13 @@
 //! Aggregates over rows.
 ghost use Rattle.std.specs.Prelude.{◌≡◌, ◌≤◌, ◌<◌, ◌+◌, ◌*◌, ◌^◌, ◌++◌, Some, nat_abs, fold, filter_map, length, OnOk, slice_get};
 ghost use Rattle.ob_row.specs.Totals.{int_of, column_ints, combined, total, totals};
+ghost use Rattle.ob_mean.specs.Names.{columns_in};
 ghost use Rattle.ob_mean.specs.Step.{agg_of};
 ghost use Rattle.ob_reference.specs.Folds.{taken};
 
 use crate::tables::Tuple;
-use ob_base::{Column, Items, NoMemory, Shown};
-use ob_mean::agg_of;
+use ob_base::{Items, NoMemory, Shown};
+use ob_mean::{Scope, agg_of};
 use ob_row::{Agg, Cell};
 use ob_sql::Listed;
 
@@ -93,24 +94,21 @@ pub(crate) fn total(agg: Agg, rows: &[Tuple]) -> Shown
 /// Adds the aggregates of a list over the rows.
 pub(crate) fn add_totals(
     items: &[Listed],
-    left: &[Column],
-    right: &[Column],
+    scope: &Scope<'_>,
     rows: &[Tuple],
     fields: &mut Items<Shown>,
 ) -> Result<(), NoMemory>
-    requires left { length left.now ≤ 32 }
-    requires right { length right.now ≤ 32 }
     ensures { OnOk result
         (fields.new
-        ≡ fields.old ++ totals (filter_map (agg_of (left.now ++ right.now)) items.now) rows.now) }
+        ≡ fields.old ++ totals (filter_map (agg_of (columns_in scope.now)) items.now) rows.now) }
 {
     match items.split_first() {
         None => Ok(()),
-        Some((item, items)) => match agg_of(item, left, right) {
-            None => add_totals(items, left, right, rows, fields),
+        Some((item, items)) => match agg_of(item, scope) {
+            None => add_totals(items, scope, rows, fields),
             Some(agg) => match fields.push(total(agg, rows)) {
                 Err(_) => Err(NoMemory),
-                Ok(()) => add_totals(items, left, right, rows, fields),
+                Ok(()) => add_totals(items, scope, rows, fields),
             },
         },
     }

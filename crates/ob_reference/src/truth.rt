@@ -1,13 +1,13 @@
 //! Whether the cells of a row make a condition true.
-ghost use Rattle.std.specs.Prelude.{◌≡◌, ◌≤◌, ◌++◌, Some, length};
+ghost use Rattle.std.specs.Prelude.{◌≡◌, Some};
 ghost use Rattle.ob_row.specs.Rows.{agree_at};
 ghost use Rattle.ob_row.specs.Truth.{compare, is_true, operand_of};
 ghost use Rattle.ob_sql.specs.Search.{search_of};
-ghost use Rattle.ob_mean.specs.Names.{operand_at, condition_at, where_at};
+ghost use Rattle.ob_mean.specs.Names.{columns_in, operand_at, condition_at, where_at};
 
 use crate::tables::Tuple;
-use ob_base::{Column, ComparisonOperator, Schema};
-use ob_mean::{literal_cell, place_of};
+use ob_base::{ComparisonOperator, Schema};
+use ob_mean::{Scope, literal_cell, place_of};
 use ob_row::{Cell, compare_cells, same_cell};
 use ob_sql::{Against, Cond, CondTree};
 
@@ -16,50 +16,42 @@ fn compare(
     order: ComparisonOperator,
     a: &Cell,
     with: &Against,
-    left: &[Column],
-    right: &[Column],
+    scope: &Scope<'_>,
     row: &[Cell],
 ) -> bool
-    requires left { length left.now ≤ 32 }
-    requires right { length right.now ≤ 32 }
     ensures { result ≡ compare order (Some a.now)
-        (operand_of (operand_at with.now (left.now ++ right.now)) row.now) }
+        (operand_of (operand_at with.now (columns_in scope.now)) row.now) }
 {
     match with {
         Against::Literal(literal) => compare_cells(order, a, &literal_cell(literal)),
-        Against::Column(name) => match row.get(place_of(name, left, right)) {
+        Against::Column(name) => match row.get(place_of(name, scope)) {
             Some(b) => compare_cells(order, a, b),
             None => false,
         },
     }
 }
 
-fn holds(tree: &CondTree, left: &[Column], right: &[Column], row: &[Cell]) -> bool
-    requires left { length left.now ≤ 32 }
-    requires right { length right.now ≤ 32 }
-    ensures { result ≡ is_true (condition_at (search_of tree.now) (left.now ++ right.now)) row.now }
+fn holds(tree: &CondTree, scope: &Scope<'_>, row: &[Cell]) -> bool
+    ensures { result ≡ is_true (condition_at (search_of tree.now) (columns_in scope.now)) row.now }
 {
     match tree {
-        CondTree::Compare(name, order, with) => match row.get(place_of(name, left, right)) {
-            Some(a) => compare(*order, a, with, left, right, row),
+        CondTree::Compare(name, order, with) => match row.get(place_of(name, scope)) {
+            Some(a) => compare(*order, a, with, scope, row),
             None => false,
         },
-        CondTree::Not(p) => !holds(p, left, right, row),
-        CondTree::And(p, q) => holds(p, left, right, row) && holds(q, left, right, row),
-        CondTree::Or(p, q) => holds(p, left, right, row) || holds(q, left, right, row),
+        CondTree::Not(p) => !holds(p, scope, row),
+        CondTree::And(p, q) => holds(p, scope, row) && holds(q, scope, row),
+        CondTree::Or(p, q) => holds(p, scope, row) || holds(q, scope, row),
     }
 }
 
-/// Whether a WHERE over the columns of the left table and the right one selects a row; without a WHERE
-/// every row is selected.
-pub(crate) fn selects(cond: &Option<Cond>, left: &[Column], right: &[Column], row: &[Cell]) -> bool
-    requires left { length left.now ≤ 32 }
-    requires right { length right.now ≤ 32 }
-    ensures { result ≡ is_true (where_at cond.now (left.now ++ right.now)) row.now }
+/// Whether a WHERE selects a row; without one every row is selected.
+pub(crate) fn selects(cond: &Option<Cond>, scope: &Scope<'_>, row: &[Cell]) -> bool
+    ensures { result ≡ is_true (where_at cond.now (columns_in scope.now)) row.now }
 {
     match cond {
         None => true,
-        Some(cond) => holds(cond.tree(), left, right, row),
+        Some(cond) => holds(cond.tree(), scope, row),
     }
 }
 
@@ -68,7 +60,7 @@ pub(crate) fn selects(cond: &Option<Cond>, left: &[Column], right: &[Column], ro
 pub(crate) fn selects_of(cond: &Option<Cond>, schema: &Schema, row: &Tuple) -> bool
     ensures { result ≡ is_true (where_at cond.now schema.now) row.now }
 {
-    selects(cond, schema.as_slice(), &[], row.as_slice())
+    selects(cond, &Scope::of_table(schema.as_slice()), row.as_slice())
 }
 
 /// Whether the cells at place `i` of one row and at place `j` of another are there and equal.
