@@ -1,12 +1,11 @@
 //! The condition of a WHERE, by the places of its columns.
-ghost use Rattle.std.specs.Prelude.{◌≡◌, IfOk};
+ghost use Rattle.std.specs.Prelude.{◌≡◌, ◌≤◌, ◌++◌, length, IfOk};
 ghost use Rattle.ob_row.specs.Spelling.{IsCell};
 ghost use Rattle.ob_sql.specs.Search.{search_of};
 ghost use Rattle.ob_mean.specs.Names.{columns_in, literal_cell, operand_at, condition_at, where_at};
 
-use crate::names::place_of;
 use crate::scope::Scope;
-use ob_base::Text;
+use ob_base::{Column, Text};
 use ob_row::{Cell, Operand, Pred};
 use ob_sql::{Against, Cond, CondTree, Literal};
 use std::alloc::{AllocError, Global};
@@ -29,7 +28,7 @@ fn operand_at(with: &Against, scope: &Scope<'_>) -> Operand
 {
     match with {
         Against::Literal(literal) => Operand::Cell(literal_cell(literal)),
-        Against::Column(name) => Operand::Column(place_of(name, scope) as u8),
+        Against::Column(name) => Operand::Column(scope.place_of(name) as u8),
     }
 }
 
@@ -38,7 +37,7 @@ fn condition_at(alloc: Global, tree: &CondTree, scope: &Scope<'_>) -> Result<Pre
 {
     match tree {
         CondTree::Compare(name, order, with) => Ok(Pred::compare(
-            place_of(name, scope) as u8,
+            scope.place_of(name) as u8,
             *order,
             operand_at(with, scope),
         )),
@@ -56,12 +55,19 @@ fn condition_at(alloc: Global, tree: &CondTree, scope: &Scope<'_>) -> Result<Pre
     }
 }
 
-/// The condition of a WHERE; without one it is true of every row.
-pub fn where_at(alloc: Global, cond: &Option<Cond>, scope: &Scope<'_>) -> Result<Pred, AllocError>
-    ensures { IfOk result (λ p. p ≡ where_at cond.now (columns_in scope.now)) }
+/// The condition of a WHERE over the columns of two tables together; without one it is true of every row.
+pub fn where_at(
+    alloc: Global,
+    cond: &Option<Cond>,
+    left: &[Column],
+    right: &[Column],
+) -> Result<Pred, AllocError>
+    requires left { length left.now ≤ 32 }
+    requires right { length right.now ≤ 32 }
+    ensures { IfOk result (λ p. p ≡ where_at cond.now (left.now ++ right.now)) }
 {
     match cond {
         None => Ok(Pred::all()),
-        Some(cond) => condition_at(alloc, cond.tree(), scope),
+        Some(cond) => condition_at(alloc, cond.tree(), &Scope::of_join(left, right)),
     }
 }

@@ -16,7 +16,7 @@ use crate::creates::{creates_past, has_more_keys};
 use crate::kinds::{overflows, takes};
 use crate::listed::{columns_lack, items_lack, items_mistype, items_stray};
 use crate::named::{Named, has_name, has_repeats, lack_column, mistype, overflow};
-use crate::names::{column_at, has_table, means_one, place_of, unqualified};
+use crate::names::{column_at, has_table, means_one, unqualified};
 use crate::parts::{Created, Given, Parts, parts_of};
 use crate::scope::Scope;
 use crate::sources;
@@ -237,7 +237,7 @@ fn is_key_named(name: &ColumnName, scope: &Scope<'_>) -> bool
         ≡ option_map_or (λ (c : Column). c.key)
         (slice_get (columns_in scope.now) (place_of name.now (columns_in scope.now))) false }
 {
-    match column_at(scope, place_of(name, scope)) {
+    match column_at(scope, scope.place_of(name)) {
         None => false,
         Some(column) => column.key,
     }

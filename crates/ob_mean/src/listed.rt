@@ -8,7 +8,7 @@ ghost use Rattle.ob_mean.specs.Parts.{behind};
 ghost use Rattle.ob_mean.specs.Refusals.{lack_columns, is_group};
 
 use crate::kinds::is_number;
-use crate::names::{means_one, place_of};
+use crate::names::means_one;
 use crate::scope::Scope;
 use ob_base::{ColumnName, Items};
 use ob_sql::Listed;
@@ -82,7 +82,7 @@ fn is_group(group: Option<&ColumnName>, name: &ColumnName, scope: &Scope<'_>) ->
 {
     match group {
         None => false,
-        Some(key) => place_of(name, scope) == place_of(key, scope),
+        Some(key) => scope.place_of(name) == scope.place_of(key),
     }
 }
 

@@ -86,19 +86,21 @@ pub(crate) fn means_one(name: &ColumnName, scope: &Scope<'_>) -> bool
     count_named(name, left) + count_named(name, right) == 1
 }
 
-/// The place of the column that a name means, among those of these tables together.
-#[tactic(auto, using(crate::proofs::NameLemmas::meant_first))]
-pub fn place_of(name: &ColumnName, scope: &Scope<'_>) -> usize
-    ensures value { result ≡ place_of name.now (columns_in scope.now) }
-    ensures few { result < 64 }
-{
-    let left = scope.left();
-    match first_named(name, left) {
-        Some(i) => i,
-        None => match first_named(name, scope.right()) {
-            Some(i) => left.len() + i,
-            None => 0,
-        },
+impl Scope<'_> {
+    /// The place of the column that a name means, where it means one.
+    #[tactic(auto, using(crate::proofs::NameLemmas::meant_first))]
+    pub fn place_of(&self, name: &ColumnName) -> usize
+        ensures value { result ≡ place_of name.now (columns_in self.now) }
+        ensures few { result < 64 }
+    {
+        let left = self.left();
+        match first_named(name, left) {
+            Some(i) => i,
+            None => match first_named(name, self.right()) {
+                Some(i) => left.len() + i,
+                None => 0,
+            },
+        }
     }
 }
 
@@ -106,7 +108,7 @@ pub fn place_of(name: &ColumnName, scope: &Scope<'_>) -> usize
 pub(crate) fn kind_meant(name: &ColumnName, scope: &Scope<'_>) -> Option<Kind>
     ensures { result ≡ kind_meant name.now (columns_in scope.now) }
 {
-    column_at(scope, place_of(name, scope)).map(|column| column.kind)
+    column_at(scope, scope.place_of(name)).map(|column| column.kind)
 }
 
 // The column at a place among those of two tables.

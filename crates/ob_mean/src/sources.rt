@@ -9,7 +9,7 @@ ghost use Rattle.ob_mean.specs.Refusals.{joins_itself, joins_kinds, joins_past, 
 ghost use Rattle.ob_mean.specs.Scopes.{missing_in, scope_in, joins_apart_in, off_key_in};
 
 use crate::kinds::are_alike;
-use crate::names::{columns_at, has_table, heading_at, means_one, place_of};
+use crate::names::{columns_at, has_table, heading_at, means_one};
 use crate::parts::Tables;
 use crate::scope::Scope;
 use ob_base::{Column, ColumnName, Heading, Public, Table};
@@ -53,8 +53,8 @@ fn is_across(on: &ColumnName, equals: &ColumnName, scope: &Scope<'_>) -> bool
     ensures { result ≡ is_across (length scope.now.left) (columns_in scope.now) on.now equals.now }
 {
     let n = scope.left().len();
-    let a = place_of(on, scope);
-    let b = place_of(equals, scope);
+    let a = scope.place_of(on);
+    let b = scope.place_of(equals);
     (a < n && n <= b) || (b < n && n <= a)
 }
 
@@ -152,32 +152,34 @@ fn is_key(columns: &[Column], i: usize) -> bool
     }
 }
 
-/// The place of the left table's column of ON, whichever side it stands on.
-pub fn left_place(on: &ColumnName, equals: &ColumnName, scope: &Scope<'_>) -> usize
-    ensures value { result
-        ≡ left_place (length scope.now.left) (columns_in scope.now) on.now equals.now }
-    ensures few { result < 64 }
-{
-    let i = place_of(on, scope);
-    if i < scope.left().len() {
-        i
-    } else {
-        place_of(equals, scope)
+impl Scope<'_> {
+    /// The place of the left table's column of ON, whichever side it stands on.
+    pub fn left_place(&self, on: &ColumnName, equals: &ColumnName) -> usize
+        ensures value { result
+            ≡ left_place (length self.now.left) (columns_in self.now) on.now equals.now }
+        ensures few { result < 64 }
+    {
+        let i = self.place_of(on);
+        if i < self.left().len() {
+            i
+        } else {
+            self.place_of(equals)
+        }
     }
-}
 
-/// The place of the right table's column of ON, among that table's own.
-pub fn right_place(on: &ColumnName, equals: &ColumnName, scope: &Scope<'_>) -> usize
-    ensures value { result
-        ≡ right_place (length scope.now.left) (columns_in scope.now) on.now equals.now }
-    ensures few { result < 64 }
-{
-    let n = scope.left().len();
-    let i = place_of(on, scope);
-    if i < n {
-        place_of(equals, scope).saturating_sub(n)
-    } else {
-        i.saturating_sub(n)
+    /// The place of the right table's column of ON, among that table's own.
+    pub fn right_place(&self, on: &ColumnName, equals: &ColumnName) -> usize
+        ensures value { result
+            ≡ right_place (length self.now.left) (columns_in self.now) on.now equals.now }
+        ensures few { result < 64 }
+    {
+        let n = self.left().len();
+        let i = self.place_of(on);
+        if i < n {
+            self.place_of(equals).saturating_sub(n)
+        } else {
+            i.saturating_sub(n)
+        }
     }
 }
 
@@ -186,7 +188,7 @@ fn on_off_key(on: &ColumnName, equals: &ColumnName, scope: &Scope<'_>) -> bool
         ≡ not (is_key scope.now.left
         (left_place (length scope.now.left) (columns_in scope.now) on.now equals.now)) }
 {
-    !is_key(scope.left(), left_place(on, equals, scope))
+    !is_key(scope.left(), scope.left_place(on, equals))
 }
 
 /// Whether the left column of ON is not its table's primary key.

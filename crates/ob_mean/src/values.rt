@@ -9,7 +9,7 @@ ghost use Rattle.ob_mean.specs.Step.{given_cell, new_row};
 
 use crate::condition::literal_cell;
 use crate::named::Named;
-use crate::names::{place_of, unqualified};
+use crate::names::unqualified;
 use crate::scope::Scope;
 use ob_base::{Column, Items, Name, NoMemory, Schema};
 use ob_row::Cell;
@@ -107,7 +107,7 @@ pub fn set_cell(set: &Set, columns: &[Column]) -> (u8, Cell)
     ensures held { IsCell result.1 }
 {
     (
-        place_of(&unqualified(&set.column), &Scope::of_table(columns)) as u8,
+        Scope::of_table(columns).place_of(&unqualified(&set.column)) as u8,
         literal_cell(&set.value),
     )
 }

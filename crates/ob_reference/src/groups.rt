@@ -11,7 +11,7 @@ use crate::tables::Tuple;
 use crate::totals::total;
 use crate::truth::agree_at;
 use ob_base::{Items, NoMemory, Shown};
-use ob_mean::{Scope, item_of};
+use ob_mean::Scope;
 use ob_row::{Cell, Item};
 use ob_sql::Listed;
 use std::alloc::Global;
@@ -162,7 +162,7 @@ pub(crate) fn add_listed(
 {
     match listed.split_first() {
         None => Ok(()),
-        Some((item, listed)) => match items.push(item_of(item, scope)) {
+        Some((item, listed)) => match items.push(scope.item_of(item)) {
             Err(_) => Err(NoMemory),
             Ok(()) => add_listed(listed, scope, items),
         },

@@ -9,7 +9,7 @@ ghost use Rattle.ob_mean.specs.Step.{printed_places, rows_answer};
 
 use crate::tables::Tuple;
 use ob_base::{Column, ColumnName, Items, NoMemory, Shown};
-use ob_mean::{Scope, place_of};
+use ob_mean::Scope;
 use ob_row::Cell;
 use ob_sql::SelectRows;
 use std::alloc::Global;
@@ -54,7 +54,7 @@ fn add_named(
 {
     match names.split_first() {
         None => Ok(()),
-        Some((name, names)) => match add_place(places, place_of(name, scope)) {
+        Some((name, names)) => match add_place(places, scope.place_of(name)) {
             Err(_) => Err(NoMemory),
             Ok(()) => add_named(names, scope, places),
         },

@@ -14,7 +14,7 @@ use crate::sources::{scope_of, selected_rows, totalled_rows};
 use crate::tables::{Database, Tuple, columns_at};
 use crate::totals::add_totals;
 use ob_base::{Items, NoMemory, Refusal, Shown};
-use ob_mean::{Answer, Scope, place_of};
+use ob_mean::{Answer, Scope};
 use ob_row::Item;
 use ob_sql::{Listed, SelectRows, SelectTotals};
 use std::alloc::Global;
@@ -41,11 +41,7 @@ fn totals_row(
     }
 }
 
-fn items_at(
-    alloc: Global,
-    items: &[Listed],
-    scope: &Scope<'_>,
-) -> Result<Vec<Item>, NoMemory>
+fn items_at(alloc: Global, items: &[Listed], scope: &Scope<'_>) -> Result<Vec<Item>, NoMemory>
     ensures { IfOk result (λ its. its.items ≡ map (item_of (columns_in scope.now)) items.now) }
 {
     let mut placed = Vec::new(alloc);
@@ -101,13 +97,7 @@ fn totals_of(
         },
         Some(key) => match items_at(alloc, select.items.as_slice(), scope) {
             Err(_) => Err(NoMemory),
-            Ok(items) => group_answer(
-                alloc,
-                limit,
-                place_of(key, scope),
-                items.as_slice(),
-                rows,
-            ),
+            Ok(items) => group_answer(alloc, limit, scope.place_of(key), items.as_slice(), rows),
         },
     }
 }

@@ -11,7 +11,7 @@ use crate::copies::{add_pairs, add_rows};
 use crate::tables::{Held, Tuple, columns_at, rows_at};
 use crate::truth::selects;
 use ob_base::{ColumnName, Name, NoMemory, Source};
-use ob_mean::{Scope, left_place, right_place};
+use ob_mean::Scope;
 use ob_sql::{Cond, SelectRows, SelectTotals};
 use std::alloc::Global;
 
@@ -42,8 +42,8 @@ fn add_join(
         ≡ to.old.items ++ source_rows (Join left.now right.now on.now equals.now) tables.now) }
 {
     let scope = Scope::of_join(columns_at(tables, left), columns_at(tables, right));
-    let i = left_place(on, equals, &scope);
-    let j = right_place(on, equals, &scope);
+    let i = scope.left_place(on, equals);
+    let j = scope.right_place(on, equals);
     add_pairs(
         alloc,
         i,

@@ -7,7 +7,7 @@ ghost use Rattle.ob_reference.specs.Folds.{taken};
 
 use crate::tables::Tuple;
 use ob_base::{Items, NoMemory, Shown};
-use ob_mean::{Scope, agg_of};
+use ob_mean::Scope;
 use ob_row::{Agg, Cell};
 use ob_sql::Listed;
 
@@ -104,7 +104,7 @@ pub(crate) fn add_totals(
 {
     match items.split_first() {
         None => Ok(()),
-        Some((item, items)) => match agg_of(item, scope) {
+        Some((item, items)) => match scope.agg_of(item) {
             None => add_totals(items, scope, rows, fields),
             Some(agg) => match fields.push(total(agg, rows)) {
                 Err(_) => Err(NoMemory),

@@ -7,7 +7,7 @@ ghost use Rattle.ob_mean.specs.Names.{columns_in, operand_at, condition_at, wher
 
 use crate::tables::Tuple;
 use ob_base::{ComparisonOperator, Schema};
-use ob_mean::{Scope, literal_cell, place_of};
+use ob_mean::{Scope, literal_cell};
 use ob_row::{Cell, compare_cells, same_cell};
 use ob_sql::{Against, Cond, CondTree};
 
@@ -24,7 +24,7 @@ fn compare(
 {
     match with {
         Against::Literal(literal) => compare_cells(order, a, &literal_cell(literal)),
-        Against::Column(name) => match row.get(place_of(name, scope)) {
+        Against::Column(name) => match row.get(scope.place_of(name)) {
             Some(b) => compare_cells(order, a, b),
             None => false,
         },
@@ -35,7 +35,7 @@ fn holds(tree: &CondTree, scope: &Scope<'_>, row: &[Cell]) -> bool
     ensures { result ≡ is_true (condition_at (search_of tree.now) (columns_in scope.now)) row.now }
 {
     match tree {
-        CondTree::Compare(name, order, with) => match row.get(place_of(name, scope)) {
+        CondTree::Compare(name, order, with) => match row.get(scope.place_of(name)) {
             Some(a) => compare(*order, a, with, scope, row),
             None => false,
         },
