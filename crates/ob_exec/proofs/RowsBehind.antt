@@ -36,19 +36,20 @@ use Rattle.ob_flat.proofs.Runs.{pass_after, pass_more, pass_then, pass_wider}
 use Rattle.ob_mean.specs.Replay.{count_end, done_of, held_if, walk_end}
 use Rattle.ob_mean.specs.Verdict.{Tables}
 use Rattle.ob_sql.specs.declared.stmt.SelectRows.{SelectRows}
-use Rattle.ob_exec.specs.declared.selecting.Selected.{Selected}
-use Rattle.ob_exec.specs.declared.selecting.Selected.TheVariants.{Rows, Refused}
-use Rattle.ob_exec.specs.Memory.{AtMake, HasCounted, HasHalted, ends_with_make, is_reading, starts_with_make}
-use Rattle.ob_exec.specs.Selecting.{EmitsSelected, HoldsSeen, MayHold, SealsRows, Selection, SelectsFrom, SelectsToEnd, SelectsToHalt, answer_events, counted_after, from, places, region_of, seen_of, selection_script, walked_after}
+use Rattle.ob_select.specs.declared.selecting.Selected.{Selected}
+use Rattle.ob_select.specs.declared.selecting.Selected.TheVariants.{Rows, Refused}
+use Rattle.ob_select.specs.Memory.{AtMake, HasCounted, HasHalted, ends_with_make, is_reading, starts_with_make}
+use Rattle.ob_select.specs.Selecting.{EmitsSelected, HoldsSeen, MayHold, SealsRows, Selection, SelectsFrom, SelectsToEnd, SelectsToHalt, answer_events, counted_after, from, places, region_of, seen_of, selection_script, walked_after}
 use Rattle.ob_exec.specs.Sources.{EmitsRows, EndsRows, HaltsRows, HoldsRows, LacksRowMemory, LeavesNone, SourceToEnd, SourceToHalt, rows_script, rows_skeleton, slots_of, stated}
 use Rattle.ob_exec.specs.Telling.{AreHeld}
-use Rattle.ob_exec.proofs.RowsLength.{Seconded, alone, followed, held_empty, rows_seconded}
+use Rattle.ob_select.proofs.SelectHeld.{held_empty}
+use Rattle.ob_exec.proofs.RowsSeconded.{Seconded, alone, followed, rows_seconded}
 use Rattle.ob_exec.proofs.RowsReach.{counted_some}
 use Rattle.ob_exec.proofs.RowsStated.{ends_stated, may_stated}
 use Rattle.ob_exec.proofs.RowsStops.{lie_none}
 use Rattle.ob_exec.proofs.RowsTable.{an_error, emitted_from}
-use Rattle.ob_exec.proofs.UntilLemmas.{until_from}
-use Rattle.ob_exec.proofs.BegunLemmas.{lie_before, went_in}
+use Rattle.ob_select.proofs.UntilLemmas.{until_from}
+use Rattle.ob_select.proofs.LieLemmas.{lie_before, went_in}
 
 -- ---- where want of memory comes
 ends_behind : (x done : List Access) → IsTrue (ends_with_make done) → IsTrue (ends_with_make (x ++ done))

@@ -16,13 +16,13 @@ use Rattle.ob_sql.specs.declared.stmt.Stmt.TheVariants.{SelectRows as RowsStmt}
 use Rattle.ob_mean.specs.Prints.{Prints}
 use Rattle.ob_mean.specs.Verdict.{Tables, rows_refusal, verdict}
 use Rattle.ob_exec.specs.declared.engine.Engine.{Engine}
-use Rattle.ob_exec.specs.declared.selecting.Selected.{Selected}
-use Rattle.ob_exec.specs.declared.selecting.Selected.TheVariants.{Rows, Refused}
+use Rattle.ob_select.specs.declared.selecting.Selected.{Selected}
+use Rattle.ob_select.specs.declared.selecting.Selected.TheVariants.{Rows, Refused}
 use Rattle.ob_exec.specs.Agreeing.{Agrees, world_of, count_of}
 use Rattle.ob_exec.specs.Refusals.{by_fault}
 use Rattle.ob_exec.specs.Running.{IsBegunAnswer, is_fault, refusal_now}
-use Rattle.ob_exec.proofs.UntilLemmas.{are_rows}
-use Rattle.ob_exec.specs.Selecting.{answer_events, answer_of, emitted_unless, places, selected_as, shown_rows}
+use Rattle.ob_exec.proofs.EmitLemmas.{are_rows}
+use Rattle.ob_select.specs.Selecting.{answer_events, answer_of, emitted_unless, places, selected_as, shown_rows}
 use Rattle.ob_exec.specs.Serving.{Answered, Serves}
 use Rattle.ob_exec.specs.Sources.{EndsRows, IsFew, UsesRoomFor, closing, selected_outcome, selection, slots_of}
 use Rattle.ob_exec.specs.Telling.{Emitted, ReadsTrue, Represents, Told, answer_labels}

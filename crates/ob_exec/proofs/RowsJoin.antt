@@ -49,11 +49,11 @@ use Rattle.ob_sql.specs.declared.stmt.Stmt.TheVariants.{SelectRows as RowsStmt}
 use Rattle.ob_exec.specs.declared.engine.Engine.{Engine}
 use Rattle.ob_exec.specs.Agreeing.{Agrees, world_of, count_of}
 use Rattle.ob_exec.specs.Engines.{flat_of}
-use Rattle.ob_exec.specs.Selecting.{Selection, counted_after, from, region_of, selection_script, walked_after}
+use Rattle.ob_select.specs.Selecting.{Selection, counted_after, from, region_of, selection_script, walked_after}
 use Rattle.ob_exec.specs.Sources.{rows_script, rows_skeleton, selection, stated}
 use Rattle.ob_exec.proofs.FoundLemmas.{heading_found}
 use Rattle.ob_exec.proofs.RowsBehind.{ending_for}
-use Rattle.ob_exec.proofs.RowsLength.{select_length}
+use Rattle.ob_select.proofs.SelectLength.{select_length}
 use Rattle.ob_exec.proofs.RowsTable.{not_late, some_buffered, some_of}
 use Rattle.ob_exec.proofs.TableLemmas.{flat_kept, region_below, stored_found}
 

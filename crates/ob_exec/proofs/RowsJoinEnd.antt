@@ -41,10 +41,10 @@ use Rattle.ob_mean.specs.Step.{printed_places}
 use Rattle.ob_mean.specs.Verdict.{Held, Tables, source_slots}
 use Rattle.ob_sql.specs.declared.stmt.SelectRows.{SelectRows}
 use Rattle.ob_exec.specs.declared.engine.Engine.{Engine}
-use Rattle.ob_exec.specs.declared.selecting.Selected.{Selected}
+use Rattle.ob_select.specs.declared.selecting.Selected.{Selected}
 use Rattle.ob_exec.specs.Agreeing.{Agrees, world_of}
 use Rattle.ob_exec.specs.Engines.{flat_of}
-use Rattle.ob_exec.specs.Selecting.{SealsRows, Selection, SelectsFrom, from}
+use Rattle.ob_select.specs.Selecting.{SealsRows, Selection, SelectsFrom, from}
 use Rattle.ob_exec.specs.Sources.{EndsRows, HaltsRows, selection, slots_of, stated}
 use Rattle.ob_exec.specs.Telling.{AreHeld}
 use Rattle.ob_exec.proofs.FoundLemmas.{heading_found}

@@ -54,11 +54,11 @@ use Rattle.ob_sql.specs.declared.stmt.SelectRows.{SelectRows}
 use Rattle.ob_sql.specs.declared.stmt.Stmt.TheVariants.{SelectRows as RowsStmt}
 use Rattle.ob_verdict.proofs.AcceptedProof.{places_fit}
 use Rattle.ob_exec.specs.declared.engine.Engine.{Engine}
-use Rattle.ob_exec.specs.declared.selecting.Selected.{Selected}
+use Rattle.ob_select.specs.declared.selecting.Selected.{Selected}
 use Rattle.ob_exec.specs.Agreeing.{Agrees, world_of, count_of}
 use Rattle.ob_exec.specs.Engines.{flat_of}
 use Rattle.ob_exec.specs.Running.{refusal_now}
-use Rattle.ob_exec.specs.Selecting.{MaySelect, SealsRows, Selection, counted_after, from, padded_after, selection_script}
+use Rattle.ob_select.specs.Selecting.{MaySelect, SealsRows, Selection, counted_after, from, padded_after, selection_script}
 use Rattle.ob_exec.specs.Sources.{LeavesNone, SelectsRows, SourceToEnd, stated}
 use Rattle.ob_exec.proofs.HeldLemmas.{held_at}
 use Rattle.ob_exec.proofs.RowsBehind.{ending_for}

@@ -31,8 +31,8 @@ use Rattle.ob_mean.proofs.VerdictLemmas.{headings-database, refused_late, seen_l
 use Rattle.ob_verdict.specs.Laws.{AreInPlace, printed_rows, selected_result}
 use Rattle.ob_verdict.proofs.AnswerProof.{prints_answer}
 use Rattle.ob_exec.specs.declared.outcome.Outcome.TheVariants.{Rows as RowsOut}
-use Rattle.ob_exec.specs.declared.selecting.Selected.TheVariants.{Rows}
-use Rattle.ob_exec.specs.Selecting.{Selection, places, answer_of, answer_events, emitted_unless, result_of, seen_of, selected_as, shown_rows, shown_where}
+use Rattle.ob_select.specs.declared.selecting.Selected.TheVariants.{Rows}
+use Rattle.ob_select.specs.Selecting.{Selection, places, answer_of, answer_events, emitted_unless, result_of, seen_of, selected_as, shown_rows, shown_where}
 use Rattle.ob_exec.specs.Sources.{closing, selected_outcome, selection, slots_of}
 use Rattle.ob_exec.specs.Telling.{Partly, answer_labels, outcome_of}
 

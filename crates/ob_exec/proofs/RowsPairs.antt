@@ -7,7 +7,7 @@ use Rattle.ob_base.specs.declared.seen.Seen.{Seen}
 use Rattle.ob_base.specs.declared.seen.End.TheVariants.{Whole}
 use Rattle.ob_base.specs.Events.{Event}
 use Rattle.ob_emit.specs.Emitting.{header}
-use Rattle.ob_exec.proofs.UntilLemmas.{until_none}
+use Rattle.ob_select.proofs.UntilLemmas.{until_none}
 use Rattle.ob_store.specs.Runs.{Did}
 use Rattle.ob_vault.specs.State.{World}
 use Rattle.ob_flat.specs.declared.fault.OpErr.{OpErr}
@@ -17,9 +17,9 @@ use Rattle.ob_flat.proofs.Runs.{pass_more}
 use Rattle.ob_mean.specs.Replay.{count_end, done_of}
 use Rattle.ob_mean.specs.Verdict.{ended as seen_to}
 use Rattle.ob_sql.specs.declared.stmt.SelectRows.{SelectRows}
-use Rattle.ob_exec.specs.Memory.{is_make}
-use Rattle.ob_exec.specs.Selecting.{MayHold, SealsRows, answer_events, from, seen_of}
-use Rattle.ob_exec.proofs.BegunLemmas.{cut_in}
+use Rattle.ob_select.specs.Memory.{is_make}
+use Rattle.ob_select.specs.Selecting.{MayHold, SealsRows, answer_events, from, seen_of}
+use Rattle.ob_select.proofs.LieLemmas.{cut_in}
 use Rattle.ob_vault.specs.Tied.{ReadsIn}
 use Rattle.ob_exec.specs.Sources.{HaltsRows, LeavesNone, SourceToEnd, SourceToHalt, rows_script, rows_skeleton, selection, slots_of}
 use Rattle.ob_exec.proofs.RowsNothing.{holds_nothing}

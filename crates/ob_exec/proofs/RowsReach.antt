@@ -27,15 +27,15 @@ use Rattle.ob_flat.specs.declared.fault.OpErr.{OpErr}
 use Rattle.ob_flat.specs.declared.fault.OpErr.TheVariants as OpErrs
 use Rattle.ob_flat.specs.Passes.{PassCause, is_of_access}
 use Rattle.ob_emit.specs.Emitting.{header}
-use Rattle.ob_exec.proofs.UntilLemmas.{until_given}
+use Rattle.ob_select.proofs.UntilLemmas.{until_given}
 use Rattle.ob_sql.specs.declared.stmt.SelectRows.{SelectRows}
 use Rattle.ob_mean.specs.Replay.{count_end, held_if, walk_end}
 use Rattle.ob_mean.specs.Verdict.{ended as seen_to}
-use Rattle.ob_exec.specs.declared.selecting.Selected.{Selected}
-use Rattle.ob_exec.specs.declared.selecting.Selected.TheVariants.{Rows, Refused}
-use Rattle.ob_exec.specs.Selecting.{EndsAs, MayHold, Selection, answer_events, answer_of, emitted_unless, selected_as, shown_rows}
+use Rattle.ob_select.specs.declared.selecting.Selected.{Selected}
+use Rattle.ob_select.specs.declared.selecting.Selected.TheVariants.{Rows, Refused}
+use Rattle.ob_select.specs.Selecting.{EndsAs, MayHold, Selection, answer_events, answer_of, emitted_unless, selected_as, shown_rows}
 use Rattle.ob_exec.specs.Sources.{EndsRows, HoldsRows, SourceToEnd, SourceToHalt, closing, rows_script, rows_skeleton, selection, slots_of}
-use Rattle.ob_exec.specs.Memory.{HasCounted}
+use Rattle.ob_select.specs.Memory.{HasCounted}
 use Rattle.ob_exec.proofs.RowsLawful.{seen_as, uncounted}
 use Rattle.ob_exec.proofs.RowsStops.{StopsRows}
 
@@ -208,7 +208,7 @@ module _ {E : Type 0} (grew cut : E → E → List Event → Type 0) (p : Public
             (closes e (events ++ (head ++ row_events is.emitted.rows)) (is.emitted.leads e events took));
         told = λ (s : SourceToHalt p old new).
             let told = is.told (at_end (Rows k) is s) in
-            let none = rows_none (Rattle.ob_mean.specs.Verdict.rows_refusal p (Rattle.ob_exec.specs.Selecting.places (selection p select) (slots_of p select s.tables))) _ k told.0 in
+            let none = rows_none (Rattle.ob_mean.specs.Verdict.rows_refusal p (Rattle.ob_select.specs.Selecting.places (selection p select) (slots_of p select s.tables))) _ k told.0 in
             let rows_are : is.emitted.rows ≡ shown_rows (selection p select) (slots_of p select s.tables) = is.emitted.told (at_end (Rows k) is s) in (
               [],
               append-nil ((head ++ row_events is.emitted.rows) ++ closing (Rows k))
@@ -222,7 +222,7 @@ module _ {E : Type 0} (grew cut : E → E → List Event → Type 0) (p : Public
         ends = subst (λ (e : E). Leads grew cut e out_new []) is.emitted closes;
         told = λ (s : SourceToHalt p old new).
             let told = is.told (at_end (Refused r) is s) in
-            let refused = refused_some (Rattle.ob_mean.specs.Verdict.rows_refusal p (Rattle.ob_exec.specs.Selecting.places (selection p select) (slots_of p select s.tables))) _ r told.0 in (
+            let refused = refused_some (Rattle.ob_mean.specs.Verdict.rows_refusal p (Rattle.ob_select.specs.Selecting.places (selection p select) (slots_of p select s.tables))) _ r told.0 in (
               [],
               (λ i. emitted_unless (sym refused i) (head ++ row_events (shown_rows (selection p select) (slots_of p select s.tables))) ++ closing (told.0 i)),
             );

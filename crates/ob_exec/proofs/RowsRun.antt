@@ -23,12 +23,13 @@ use Rattle.ob_flat.specs.Passes.{PassCut, PassCause}
 use Rattle.ob_sql.specs.declared.stmt.SelectRows.{SelectRows}
 use Rattle.ob_verdict.proofs.LawfulProof.{same_script}
 use Rattle.ob_exec.specs.declared.engine.Engine.{Engine}
-use Rattle.ob_exec.specs.declared.selecting.Selected.{Selected}
+use Rattle.ob_select.specs.declared.selecting.Selected.{Selected}
 use Rattle.ob_exec.specs.Agreeing.{Agrees, world_of}
-use Rattle.ob_exec.specs.Engines.{IsFree, AreTables, others_of, indexes_of}
+use Rattle.ob_select.specs.Settings.{IsFree}
+use Rattle.ob_exec.specs.Engines.{AreTables, others_of, indexes_of}
 use Rattle.ob_exec.specs.Opening.{Opens}
 use Rattle.ob_exec.specs.Running.{Ran, RunCause, GoesOn, Continues, answer_of, is_fault, is_stop, result_end}
-use Rattle.ob_exec.specs.Selecting.{from}
+use Rattle.ob_select.specs.Selecting.{from}
 use Rattle.ob_exec.specs.Sources.{EndsRows, LeavesNone, UsesRoomFor, rows_script, rows_skeleton, selected_outcome, selection}
 use Rattle.ob_exec.proofs.RunLemmas.{asks_cut, asks_none, free_after, next_after, of_other}
 use Rattle.ob_exec.proofs.RowsLawful.{ended_end, ended_whole, ended_well}

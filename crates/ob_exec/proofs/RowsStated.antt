@@ -6,9 +6,9 @@ use Rattle.ob_base.specs.declared.config.Public.{Public}
 use Rattle.ob_base.specs.declared.refusal.Refusal.TheVariants.{NotConsecutive, Overflow, PadPassed}
 use Rattle.ob_base.specs.declared.seen.Seen.{Seen}
 use Rattle.ob_sql.specs.declared.stmt.SelectRows.{SelectRows}
-use Rattle.ob_exec.specs.declared.selecting.Selected.{Selected}
-use Rattle.ob_exec.specs.declared.selecting.Selected.TheVariants.{Rows, Refused}
-use Rattle.ob_exec.specs.Selecting.{EndsAs, EndsPadded, IsCountOf, IsPlanOf, MayHold}
+use Rattle.ob_select.specs.declared.selecting.Selected.{Selected}
+use Rattle.ob_select.specs.declared.selecting.Selected.TheVariants.{Rows, Refused}
+use Rattle.ob_select.specs.Selecting.{EndsAs, EndsPadded, IsCountOf, IsPlanOf, MayHold}
 use Rattle.ob_exec.specs.Sources.{selection, stated}
 
 module _ (p : Public) (select : SelectRows) (region ending : ℕ) where

@@ -37,14 +37,15 @@ use Rattle.ob_verdict.specs.Laws.{AreInPlace}
 use Rattle.ob_verdict.proofs.LawfulProof.{same_script}
 use Rattle.ob_exec.specs.declared.engine.Engine.{Engine}
 use Rattle.ob_exec.specs.declared.outcome.Outcome.{Outcome}
-use Rattle.ob_exec.specs.declared.selecting.Selected.{Selected}
+use Rattle.ob_select.specs.declared.selecting.Selected.{Selected}
 use Rattle.ob_exec.specs.Agreeing.{Agrees, world_of, count_of}
 use Rattle.ob_exec.specs.Running.{RefusedEarly, SinkCause, answer_of, is_stop, refusal_now}
-use Rattle.ob_exec.specs.Selecting.{MayHold, SealsRows, answer_events, answer_of as selected_of, from, places, seen_of}
+use Rattle.ob_select.specs.Selecting.{MayHold, SealsRows, answer_events, answer_of as selected_of, from, places, seen_of}
 use Rattle.ob_exec.specs.Serving.{Answered, EndsWithin, Serves, Stopped}
-use Rattle.ob_exec.specs.Halting.{EmitsUntil, TakesPart}
-use Rattle.ob_exec.specs.Memory.{HasHalted}
-use Rattle.ob_exec.proofs.UntilLemmas.{are_rows, until_failed, until_more}
+use Rattle.ob_select.specs.Halting.{EmitsUntil, TakesPart}
+use Rattle.ob_select.specs.Memory.{HasHalted}
+use Rattle.ob_exec.proofs.EmitLemmas.{are_rows}
+use Rattle.ob_select.proofs.UntilLemmas.{until_failed, until_more}
 use Rattle.ob_exec.specs.Sources.{HaltsRows, HoldsRows, LacksRowMemory, LeavesNone, ReachesRows, ReadsMeant, SourceToEnd, SourceToHalt, UsesRoomFor, closing, rows_script, rows_skeleton, selection, slots_of}
 use Rattle.ob_exec.specs.Telling.{IsNotTampered, ReadsTrue, ReadsTrueUntil, Represents, SeenCut, Told, answer_labels, is_refused, meant_script}
 use Rattle.ob_exec.proofs.HeldLemmas.{held_headings, held_kept}

@@ -40,7 +40,7 @@ use Rattle.ob_flat.specs.declared.fault.OpErr.{OpErr}
 use Rattle.ob_flat.specs.declared.flat.Flat.{Flat}
 use Rattle.ob_flat.specs.Flats.{IsFlat, IsSized, Represents}
 use Rattle.ob_emit.specs.Emitting.{AreColumns, header}
-use Rattle.ob_exec.proofs.UntilLemmas.{until_from}
+use Rattle.ob_select.proofs.UntilLemmas.{until_from}
 use Rattle.ob_flat.specs.Passes.{PassCut, is_of_access}
 use Rattle.ob_flat.proofs.Resting.{represents_rests}
 use Rattle.ob_flat.proofs.Runs.{pass_after}
@@ -55,18 +55,18 @@ use Rattle.ob_mean.specs.Verdict.{Held, Tables, is_late, source_slots, ended as 
 use Rattle.ob_sql.specs.declared.stmt.SelectRows.{SelectRows}
 use Rattle.ob_sql.specs.declared.stmt.Stmt.TheVariants.{SelectRows as RowsStmt}
 use Rattle.ob_exec.specs.Running.{refusal_now}
-use Rattle.ob_exec.proofs.PlaceLemmas.{all_places}
+use Rattle.ob_select.proofs.PlaceLemmas.{all_places}
 use Rattle.ob_exec.specs.declared.engine.Engine.{Engine}
-use Rattle.ob_exec.specs.declared.selecting.Selected.{Selected}
-use Rattle.ob_exec.specs.declared.selecting.Selected.TheVariants.{Rows, Refused}
+use Rattle.ob_select.specs.declared.selecting.Selected.{Selected}
+use Rattle.ob_select.specs.declared.selecting.Selected.TheVariants.{Rows, Refused}
 use Rattle.ob_exec.specs.Agreeing.{Agrees, world_of, count_of}
 use Rattle.ob_exec.specs.Engines.{flat_of}
-use Rattle.ob_exec.specs.Selecting.{HoldsSeen, MaySelect, Selection, SelectsFrom, SelectsToEnd, SelectsToHalt, EmitsSelected, answer_events, counted_after, from, padded_after, region_of, seen_of, selection_script, walked_after}
+use Rattle.ob_select.specs.Selecting.{HoldsSeen, MaySelect, Selection, SelectsFrom, SelectsToEnd, SelectsToHalt, EmitsSelected, answer_events, counted_after, from, padded_after, region_of, seen_of, selection_script, walked_after}
 use Rattle.ob_exec.specs.Sources.{EmitsRows, EndsRows, HaltsRows, HoldsRows, ReadsMeant, SelectsRows, SourceToEnd, SourceToHalt, rows_script, rows_skeleton, selection, slots_of, stated}
 use Rattle.ob_exec.specs.Telling.{AreHeld}
 use Rattle.ob_exec.proofs.FoundLemmas.{heading_found}
 use Rattle.ob_exec.proofs.HeldLemmas.{held_at}
-use Rattle.ob_exec.proofs.RowsLength.{select_length}
+use Rattle.ob_select.proofs.SelectLength.{select_length}
 use Rattle.ob_exec.proofs.RowsStated.{ends_stated, may_stated}
 use Rattle.ob_exec.proofs.TableLemmas.{flat_kept, region_below, stored_found}
 

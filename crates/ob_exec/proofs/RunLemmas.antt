@@ -34,7 +34,8 @@ use Rattle.ob_mean.specs.Verdict.{is_late, ended as seen_to}
 use Rattle.ob_exec.specs.declared.engine.Engine.{Engine}
 use Rattle.ob_exec.specs.declared.outcome.Outcome.{Outcome}
 use Rattle.ob_exec.specs.declared.outcome.Outcome.TheVariants.{Refused}
-use Rattle.ob_exec.specs.Engines.{IsFree, AreTables, others_of, indexes_of}
+use Rattle.ob_select.specs.Settings.{IsFree}
+use Rattle.ob_exec.specs.Engines.{AreTables, others_of, indexes_of}
 use Rattle.ob_exec.specs.Refusals.{IsNoFault, by_fault, refused_end}
 use Rattle.ob_base.specs.Refusals.{is_store_fault}
 use Rattle.ob_exec.specs.Agreeing.{Agrees, world_of}

@@ -40,7 +40,7 @@ use Rattle.ob_verdict.proofs.AcceptedProof.{totals_places_fit}
 use Rattle.ob_exec.specs.declared.outcome.Outcome.{Outcome}
 use Rattle.ob_exec.specs.declared.outcome.Outcome.TheVariants.{Rows, Refused}
 use Rattle.ob_exec.specs.Running.{IsAnswer}
-use Rattle.ob_exec.proofs.UntilLemmas.{are_rows}
+use Rattle.ob_exec.proofs.EmitLemmas.{are_rows}
 use Rattle.ob_exec.specs.Telling.{Partly, outcome_of}
 use Rattle.ob_exec.specs.Totalling.{Gives, TotalsFit, agg_at, answer_of, totalled}
 

@@ -55,9 +55,9 @@ use Rattle.ob_exec.specs.declared.outcome.Outcome.TheVariants.{Refused}
 use Rattle.ob_exec.specs.Agreeing.{Agrees, world_of, count_of}
 use Rattle.ob_exec.specs.Engines.{IsAt, flat_of}
 use Rattle.ob_exec.specs.Running.{Emits, SinkCause, answer_of, is_stop, refusal_now}
-use Rattle.ob_exec.specs.Selecting.{UsesRoom}
+use Rattle.ob_select.specs.Selecting.{UsesRoom}
 use Rattle.ob_exec.specs.Serving.{EndsWithin, Serves, Stopped}
-use Rattle.ob_exec.specs.Memory.{HasHalted}
+use Rattle.ob_select.specs.Memory.{HasHalted}
 use Rattle.ob_exec.proofs.BegunLemmas.{begun_plain}
 use Rattle.ob_exec.specs.Telling.{AreHeld, Represents, Partly, IsNotTampered, answer_labels, is_refused, outcome_of}
 use Rattle.ob_exec.specs.Totalling.{IsTotalled, MayTotal, Totals, TotalsFit, ends_by, labels_at, answer_of as answer_at}

@@ -32,7 +32,7 @@ use Rattle.ob_exec.specs.declared.engine.Engine.{Engine}
 use Rattle.ob_exec.specs.declared.outcome.Outcome.{Outcome}
 use Rattle.ob_exec.specs.declared.outcome.Outcome.TheVariants.{Inserted, Rows, Refused}
 use Rattle.ob_exec.specs.Agreeing.{Agrees, engine_start, opened_from, world_of}
-use Rattle.ob_exec.specs.Engines.{IsFree}
+use Rattle.ob_select.specs.Settings.{IsFree}
 use Rattle.ob_exec.specs.Opening.{Opens}
 use Rattle.ob_exec.specs.Refusals.{refused_end, by_fault}
 

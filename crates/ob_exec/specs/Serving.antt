@@ -15,7 +15,8 @@ use Rattle.ob_exec.specs.declared.engine.Engine.{Engine}
 use Rattle.ob_exec.specs.declared.outcome.Outcome.{Outcome}
 use Rattle.ob_exec.specs.Agreeing.{count_of}
 use Rattle.ob_exec.specs.Running.{Ran, RefusedEarly, Emits, SinkCause, IsSilent, MayEmit, refusal_now}
-use Rattle.ob_exec.specs.Memory.{HasHalted, LacksMemory}
+use Rattle.ob_select.specs.Memory.{HasHalted}
+use Rattle.ob_exec.specs.Memory.{LacksMemory}
 use Rattle.ob_exec.specs.Telling.{KeepsSealed, ReadsTrue, ReadsTrueUntil, SeenCut, Told, is_refused, IsNotTampered, Partly, Emitted, answer_labels, meant_script}
 
 -- what an answer emitted

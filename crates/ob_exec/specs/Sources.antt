@@ -26,13 +26,13 @@ use Rattle.ob_mean.specs.Replay.{count_end, walk_end, done_of, held_if}
 use Rattle.ob_mean.specs.Step.{printed_places, select_columns, select_condition}
 use Rattle.ob_mean.specs.Verdict.{Tables, source_slots}
 use Rattle.ob_verdict.specs.Laws.{AreInPlace}
-use Rattle.ob_exec.specs.declared.selecting.Selected.{Selected}
-use Rattle.ob_exec.specs.declared.selecting.Selected.TheVariants.{Rows, Refused}
+use Rattle.ob_select.specs.declared.selecting.Selected.{Selected}
+use Rattle.ob_select.specs.declared.selecting.Selected.TheVariants.{Rows, Refused}
 use Rattle.ob_exec.specs.declared.outcome.Outcome.{Outcome}
 use Rattle.ob_exec.specs.declared.outcome.Outcome.TheVariants.{Rows as RowsOut, Refused as RefusedOut}
-use Rattle.ob_exec.specs.Halting.{EmitsUntil}
-use Rattle.ob_exec.specs.Memory.{AtMake, BeforeResult, HasCounted, HasHalted, is_reading}
-use Rattle.ob_exec.specs.Selecting.{Selection, SealsRows, MayHold, EndsAs, from, shown_rows, answer_of, answer_events, seen_of}
+use Rattle.ob_select.specs.Halting.{EmitsUntil}
+use Rattle.ob_select.specs.Memory.{AtMake, BeforeResult, HasCounted, HasHalted, is_reading}
+use Rattle.ob_select.specs.Selecting.{Selection, SealsRows, MayHold, EndsAs, from, shown_rows, answer_of, answer_events, seen_of}
 use Rattle.ob_exec.specs.Telling.{AreHeld}
 
 -- what is selected, as if the source were one region

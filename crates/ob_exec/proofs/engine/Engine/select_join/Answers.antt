@@ -17,7 +17,7 @@ use Rattle.ob_mean.proofs.EarlyLemmas.{allowed}
 use Rattle.ob_vault.specs.Places.{at}
 use Rattle.ob_exec.specs.Agreeing.{world_of, count_of}
 use Rattle.ob_exec.specs.Engines.{flat_of}
-use Rattle.ob_exec.specs.Selecting.{MaySelect, Selection, SelectsFrom}
+use Rattle.ob_select.specs.Selecting.{MaySelect, Selection, SelectsFrom}
 use Rattle.ob_exec.proofs.RowsJoin.{asks_few, slots_few, join_idle, join_may, join_some, join_starts}
 use Rattle.ob_exec.proofs.RowsJoinStart.{join_stops, start_query, join_selects}
 use Rattle.ob_exec.proofs.RowsJoinEnd.{join_ends, join_halts, join_query}

@@ -12,7 +12,7 @@ use Rattle.ob_mean.proofs.EarlyLemmas.{allowed}
 use Rattle.ob_vault.specs.Places.{at}
 use Rattle.ob_flat.specs.declared.flat.Flat.{Flat}
 use Rattle.ob_exec.specs.Agreeing.{world_of, count_of}
-use Rattle.ob_exec.specs.Selecting.{MaySelect, Selection, SelectsFrom}
+use Rattle.ob_select.specs.Selecting.{MaySelect, Selection, SelectsFrom}
 use Rattle.ob_exec.proofs.FoundLemmas.{is_there}
 use Rattle.ob_exec.proofs.RowsNothing.{halts_first}
 use Rattle.ob_exec.proofs.RowsTable.{counts_some, table_may, table_query, table_selects}
