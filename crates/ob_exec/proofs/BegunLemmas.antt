@@ -1,5 +1,5 @@
 -- The first changed block that a statement reads is one that its meaning reads.
-use Rattle.std.proofs.Common.{◌≡◌, ◌⊎◌, inl, inr, ℕ, false, List, [], ◌++◌, drop, Option, None, Some, Ok, Err, Result, refl, sym, ◌∙◌, ap, subst, append_assoc}
+use Rattle.std.proofs.Common.{◌≡◌, false, List, [], ◌++◌, drop, None, Some, Ok, Err, Result, refl, sym, ◌∙◌, ap, append_assoc}
 use Rattle.std.proofs.lemmas.List.{append-nil, take-append-drop}
 use Rattle.ob_base.specs.declared.access.Access.{Access}
 use Rattle.ob_base.specs.declared.config.Public.{Public}
@@ -10,15 +10,10 @@ use Rattle.ob_base.specs.declared.seen.End.{End}
 use Rattle.ob_base.specs.declared.seen.End.TheVariants.{Static, Whole, AfterCount, Cut}
 use Rattle.ob_script.specs.Script.{script, until_end, whole_script}
 use Rattle.ob_store.specs.State.{Lie, StoreState}
-use Rattle.ob_store.specs.Runs.{Began, Later}
 use Rattle.ob_vault.specs.State.{RevState, World}
-use Rattle.ob_vault.specs.Calls.{Went}
-use Rattle.ob_vault.specs.Tied.{Calm, EndsAt, ReadsIn}
-use Rattle.ob_vault.proofs.WorldSteps.{calm_none, reads_on}
-use Rattle.ob_flat.specs.declared.fault.OpErr.{OpErr}
+use Rattle.ob_vault.specs.Tied.{ReadsIn}
+use Rattle.ob_vault.proofs.WorldSteps.{reads_on}
 use Rattle.ob_flat.specs.declared.fault.OpErr.TheVariants as OpErrs
-use Rattle.ob_flat.specs.Passes.{PassCause, PassCut}
-use Rattle.ob_flat.specs.Words.{Ran as PassRan}
 use Rattle.ob_sql.specs.declared.stmt.Stmt.{Stmt}
 use Rattle.ob_sql.specs.declared.stmt.Stmt.TheVariants.{Create, Insert, Update, Delete, Drop as DropTable, SelectRows as RowsStmt, SelectTotals as TotalsStmt}
 use Rattle.ob_sql.specs.Skeleton.{skeleton}
@@ -28,7 +23,7 @@ use Rattle.ob_select.proofs.LieLemmas.{calm_reads, ends_reads}
 use Rattle.ob_exec.specs.declared.engine.Engine.{Engine}
 use Rattle.ob_exec.specs.declared.outcome.Outcome.{Outcome}
 use Rattle.ob_exec.specs.Agreeing.{world_of, count_of}
-use Rattle.ob_exec.specs.Running.{Ran, RunCause}
+use Rattle.ob_exec.specs.Running.{RanStatement, RunCause}
 use Rattle.ob_exec.specs.Telling.{meant_script}
 
 run_reads : (result : Result Outcome Stop) (old new : World) (lie : Lie) → RunCause result old new → old.store.lie ≡ None → new.store.lie ≡ Some lie → ReadsIn lie new.store.asked
@@ -56,7 +51,7 @@ plain_script p (RowsStmt s) a b plain = absurd (cc plain)
 plain_script p (TotalsStmt s) a b plain = refl
 
 pub begun_plain : {R : Type 0} (state : R → RevState) (stmt : Stmt) (result : Result Outcome Stop) (old : Engine R) (s : StoreState) (new : Engine R) (t : StoreState) (tables : Tables)
-    → is_counted stmt ≡ false → Ran state (skeleton stmt) result old s new t → seen old.public (count_of old s) tables stmt ≡ seen_to Whole → s.lie ≡ None
+    → is_counted stmt ≡ false → RanStatement state (skeleton stmt) result old s new t → seen old.public (count_of old s) tables stmt ≡ seen_to Whole → s.lie ≡ None
     → (lie : Lie) → t.lie ≡ Some lie → ReadsIn lie (s.asked ++ meant_script old.public (count_of old s) tables stmt)
 begun_plain state stmt result old s new t tables plain ran whole none lie told =
     let all = whole_script old.public (skeleton stmt) new.seen in

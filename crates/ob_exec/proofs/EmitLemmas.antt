@@ -1,5 +1,5 @@
 -- The rows that are selected and emitted, and reads of blocks that were changed.
-use Rattle.std.proofs.Common.{◌≡◌, ℕ, suc, IsTrue, List, [], ◌∷◌, length, Option, Some, None, refl, ap}
+use Rattle.std.proofs.Common.{◌≡◌, ℕ, suc, IsTrue, List, [], ◌∷◌, length, Option, Some, None, refl, ap, sym, subst}
 use Rattle.std.specs.List.{list_all}
 use Rattle.ob_base.specs.declared.shown.Shown.{Shown}
 use Rattle.ob_base.specs.Events.{row_events}
@@ -9,8 +9,9 @@ use Rattle.ob_row.specs.Slots.{Slots, rows, is_selected, selected}
 use Rattle.ob_row.specs.Truth.{is_true}
 use Rattle.ob_store.specs.State.{Lie}
 use Rattle.ob_vault.specs.State.{World}
-use Rattle.ob_vault.specs.Tied.{Calm, IsUnfit}
+use Rattle.ob_vault.specs.Tied.{Calm, IsUnfit, Fits}
 use Rattle.ob_exec.specs.Running.{is_row}
+use Rattle.ob_vault.specs.Calls.{Lasts}
 
 -- ---- a count
 -- the selected places, where every row is selected
@@ -34,3 +35,12 @@ unfit_none w calm unfit = go w.store.lie refl
     go : (o : Option Lie) → w.store.lie ≡ o → w.store.lie ≡ None
     go None is = is
     go (Some lie) is = absurd (unfit.unfit lie is (calm.calm lie is))
+
+-- no changed block was read, where none that fits was, and none that doesn't was later
+pub lie_none : (some : ℕ → Type 0) (a b : World) → Lasts some a b → Calm a → IsUnfit b → a.store.lie ≡ None
+lie_none some a b lasts calm unfit = go a.store.lie refl
+  where
+    go : (o : Option Lie) → a.store.lie ≡ o → a.store.lie ≡ None
+    go None is = is
+    go (Some lie) is =
+        absurd (unfit.unfit lie (lasts.later.lie lie is) (subst (λ k. Fits k b.vault.start lie) (sym lasts.keys) (subst (λ x. Fits a.vault.keys x lie) (sym lasts.start) (calm.calm lie is))))

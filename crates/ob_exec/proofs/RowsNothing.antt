@@ -31,7 +31,7 @@ use Rattle.ob_flat.specs.declared.fault.OpErr.TheVariants as OpErrs
 use Rattle.ob_sql.specs.declared.stmt.SelectRows.{SelectRows}
 use Rattle.ob_mean.specs.Replay.{count_end, done_of, held_if, walk_end}
 use Rattle.ob_mean.specs.Verdict.{ended as seen_to}
-use Rattle.ob_select.specs.Selecting.{answer_events, from, places, seen_of}
+use Rattle.ob_select.specs.Selecting.{answer_events, from, places, selection_seen}
 use Rattle.ob_exec.specs.Sources.{HaltsRows, HoldsRows, LeavesNone, SourceToHalt, rows_script, rows_skeleton, selection, slots_of}
 use Rattle.ob_exec.proofs.RowsLawful.{seen_as}
 use Rattle.ob_select.proofs.SelectHeld.{held_empty}
@@ -90,13 +90,13 @@ module _ (p : Public) (k : ℕ) (plan : Plan) (second : Option Plan) (end : End)
 -- what is held before the count has ended
 module _ (p : Public) (select : SelectRows) (slots : Slots) (failed : Bool) (n : ℕ) (now : Seen) (fresh : now ≡ seen_to Whole)
     (less : done_of failed n < count_end p (rows_skeleton select)) where
-  second_nothing : Seconded (seen_of (selection p select) slots)
-      → None ≡ held_if (nat_le (walk_end p (rows_skeleton select) (seen_of (selection p select) slots)) (done_of failed n)) (seen_of (selection p select) slots).then
-  second_nothing (alone is) = held_empty (nat_le (walk_end p (rows_skeleton select) (seen_of (selection p select) slots)) (done_of failed n)) _ is
+  second_nothing : Seconded (selection_seen (selection p select) slots)
+      → None ≡ held_if (nat_le (walk_end p (rows_skeleton select) (selection_seen (selection p select) slots)) (done_of failed n)) (selection_seen (selection p select) slots).then
+  second_nothing (alone is) = held_empty (nat_le (walk_end p (rows_skeleton select) (selection_seen (selection p select) slots)) (done_of failed n)) _ is
   second_nothing (followed k plan second end is) =
       let late = walk_late p k plan (Some second) end select in
       let same = ap (walk_end p (rows_skeleton select)) is in
-      held_none _ (walk_end p (rows_skeleton select) (seen_of (selection p select) slots)) (done_of failed n) (omega (arith, late, same, less))
+      held_none _ (walk_end p (rows_skeleton select) (selection_seen (selection p select) slots)) (done_of failed n) (omega (arith, late, same, less))
 
   pub holds_nothing : HoldsRows p select slots failed n now
   holds_nothing = record {

@@ -1,19 +1,14 @@
 -- The tables of an engine, and the store that it is used with.
 use Rattle.ob_oram.specs.Indexes.{IsIndex}
 use Rattle.ob_oram.specs.declared.index.Index.{Index}
-use Rattle.std.specs.Prelude.{◌≡◌, ◌⊎◌, ◌≤◌, ◌+◌, ◌*◌, ℕ, List, [], Option, Some, length, slice_get}
+use Rattle.std.specs.Prelude.{◌≡◌, ◌⊎◌, ◌≤◌, ℕ, List, [], Option, Some, length, slice_get}
 use Rattle.ob_base.specs.declared.schema.Table.{Table}
-use Rattle.ob_base.specs.declared.config.Public.{Public}
 use Rattle.ob_base.specs.declared.config.Config.{Config}
-use Rattle.ob_base.specs.declared.config.Plan.{Plan}
-use Rattle.ob_base.specs.Plans.{IsPadded}
-use Rattle.ob_room.specs.RoomState.{RoomState}
 use Rattle.ob_reopen.specs.Limits.{IsHeading}
 use Rattle.ob_vault.specs.State.{World}
 use Rattle.ob_vault.specs.Tied.{Lives}
 use Rattle.ob_vault.specs.declared.region.Region.{Region}
 use Rattle.ob_vault.specs.declared.region.Order.TheVariants.{Round}
-use Rattle.ob_blocks.specs.Idle.{IsIdle}
 use Rattle.ob_flat.specs.declared.flat.Flat.{Flat}
 use Rattle.ob_select.specs.Settings.{IsSettings}
 use Rattle.ob_flat.specs.Flats.{IsFlat, table_region}

@@ -1,11 +1,9 @@
 -- Where want of memory may stop a statement.
-use Rattle.std.specs.Prelude.{◌≡◌, ◌⊎◌, Bool, true, false, List, [], ◌∷◌, ◌++◌, IsTrue, IsSome, None}
+use Rattle.std.specs.Prelude.{◌≡◌, ◌⊎◌, List, [], ◌++◌, IsTrue}
 use Rattle.std.specs.List.{list_all}
 use Rattle.ob_base.specs.declared.access.Access.{Access}
-use Rattle.ob_base.specs.declared.access.Access.TheVariants.{Make, Read, Discard}
 use Rattle.ob_base.specs.declared.config.Public.{Public}
 use Rattle.ob_base.specs.declared.seen.Seen.{Seen}
-use Rattle.ob_base.specs.Events.{Event}
 use Rattle.ob_sql.specs.declared.stmt.Stmt.{Stmt}
 use Rattle.ob_sql.specs.declared.stmt.Stmt.TheVariants.{SelectRows as RowsStmt, SelectTotals as TotalsStmt}
 use Rattle.ob_sql.specs.Skeleton.{skeleton}

@@ -7,7 +7,6 @@ use Rattle.ob_base.specs.declared.refusal.Stop.{Stop}
 use Rattle.ob_base.specs.declared.refusal.Stop.TheVariants.{Tampered}
 use Rattle.ob_base.specs.declared.schema.Table.{Table}
 use Rattle.ob_base.specs.Events.{Event}
-use Rattle.ob_base.specs.Schemas.{Columns}
 use Rattle.ob_store.specs.State.{StoreState}
 use Rattle.ob_script.specs.Script.{script}
 use Rattle.ob_vault.specs.State.{RevState, World}

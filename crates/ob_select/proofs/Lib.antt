@@ -1,5 +1,6 @@
 pub mod LieLemmas
 pub mod UntilLemmas
+pub mod RoomLemmas
 pub mod PlaceLemmas
 pub mod ResultParts
 pub mod ResultReads

@@ -24,8 +24,11 @@ use Rattle.ob_select.specs.Selecting.{Selection, region_of}
 use Rattle.ob_select.specs.Results.{Planned, planned, slots_for, fresh_flat, make_part, whole_part}
 
 -- at least one block may be buffered
+pub some_buffered : (pack rows : ℕ) → 1 ≤ pack → 3 * pack + 1 ≤ rows → 1 ≤ buffered_blocks pack rows
+some_buffered pack rows some enough = (le-div_iff_mul-le {k = pack} {x = 1} {y = rows - 2 * pack} some).1 (omega arith)
+
 pub buffered_some : (p : Public) → AreSettings p → 1 ≤ buffered_blocks p.pack p.buffer
-buffered_some p h = let a = h.pack_least in let b = h.blocks in (le-div_iff_mul-le {k = p.pack} {x = 1} {y = p.buffer - 2 * p.pack} a).1 (omega arith)
+buffered_some p h = some_buffered p.pack p.buffer h.pack_least h.blocks
 
 -- the blocks of the fresh region, as the script counts them
 blocks-plan : (r : Planned) (plan : Plan) → 1 ≤ r.selection.public.pack

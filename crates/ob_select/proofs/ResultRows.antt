@@ -19,16 +19,17 @@ use Rattle.ob_verdict.proofs.TurnLemmas.{rows-continuous_slots}
 use Rattle.ob_verdict.proofs.HashLemmas.{rows-hash_slots}
 use Rattle.ob_select.specs.Selecting.{places}
 use Rattle.ob_select.specs.Results.{Planned, Suits, left_by, left_out, held_slots, stored_by, stored_slots}
+use Rattle.ob_verdict.proofs.JoinLemmas.{rows-append}
 
 length-inserts : {A : Type 0} {x : A} {rest whole : List A} → Inserts x rest whole → length whole ≡ suc (length rest)
 length-inserts here = refl
 length-inserts (further is) = ap suc (length-inserts is)
 
-length-bag : {A : Type 0} (xs ys : List A) → Same xs ys → length ys ≡ length xs
+pub length-bag : {A : Type 0} (xs ys : List A) → Same xs ys → length ys ≡ length xs
 length-bag [] ys same = ap length same
 length-bag (x ∷ xs) ys same = length-inserts same.1 ∙ ap suc (length-bag xs same.0 same.2)
 
-length-chosen : (p : Row → Bool) (i : ℕ) (slots : Slots) → length (places_from i (is_selected p) slots) ≡ length (filter p (rows slots))
+pub length-chosen : (p : Row → Bool) (i : ℕ) (slots : Slots) → length (places_from i (is_selected p) slots) ≡ length (filter p (rows slots))
 length-chosen p i [] = refl
 length-chosen p i (None ∷ slots) = length-chosen p (suc i) slots
 length-chosen p i (Some r ∷ slots) =
@@ -65,11 +66,6 @@ rows_some Continuous k some = some
 rows_some Hash k some = some
 
 -- ---- padded
-rows-append : (xs ys : Slots) → rows (xs ++ ys) ≡ rows xs ++ rows ys
-rows-append [] ys = refl
-rows-append (None ∷ xs) ys = rows-append xs ys
-rows-append (Some a ∷ xs) ys = ap (λ (l : List Row). a ∷ l) (rows-append xs ys)
-
 rows-none : (n : ℕ) → rows (none_of n) ≡ []
 rows-none zero = refl
 rows-none (suc n) = rows-none n

@@ -32,9 +32,8 @@ use Rattle.ob_flat.proofs.WordLemmas.{ran_lasts}
 use Rattle.ob_mean.specs.Verdict.{counted, plan_for, ended as seen_to}
 use Rattle.ob_select.specs.declared.selecting.Selected.{Selected}
 use Rattle.ob_select.specs.declared.selecting.Selected.TheVariants.{Rows, Refused}
-use Rattle.ob_select.specs.Selecting.{Selection, MaySelect, SelectsFrom, SelectsToEnd, SelectsToHalt, EmitsSelected, places, selected_as, shown_rows, result_of, seen_of, answer_of, answer_events, emitted_unless, EndsAs, IsCountOf, selection_script, region_of, counted_after, from}
+use Rattle.ob_select.specs.Selecting.{Selection, MaySelect, SelectsFrom, SelectsToEnd, SelectsToHalt, EmitsSelected, places, selected_as, shown_rows, result_of, selection_seen, selection_answer, answer_events, emitted_unless, EndsSelected, IsCountOf, selection_script, region_of, counted_after, from}
 use Rattle.std.specs.Prelude.{is_some}
-use Rattle.ob_base.specs.declared.config.Public.{Public}
 use Rattle.ob_vault.proofs.Runs.{lives_apart}
 use Rattle.ob_flat.proofs.Tables.{blocks_few, flat_lasts}
 use Rattle.ob_select.specs.Settings.{IsFree}
@@ -152,10 +151,10 @@ module _ {E : Type 0} (grew cut : E → E → List Event → Type 0) (faults : E
     none_events : (slots : Slots) → length (places q slots) ≡ 0 → head_of q ++ [] ≡ answer_events q slots
     none_events slots empty = λ i. emitted_unless (sym (refusal_none q.public (places q slots) empty unpadded) i) (head_of q ++ row_events (none_shown slots empty i))
 
-    none_seen : (slots : Slots) → length (places q slots) ≡ 0 → k ≡ 0 → counted k None None Whole ≡ seen_of q slots
+    none_seen : (slots : Slots) → length (places q slots) ≡ 0 → k ≡ 0 → counted k None None Whole ≡ selection_seen q slots
     none_seen slots empty zeros = ap (λ (n : ℕ). counted n None None Whole) zeros ∙ sym (seen_none q.public (length slots) (places q slots) empty unpadded)
 
-    none_answer : (slots : Slots) → length (places q slots) ≡ 0 → Rows 0 ≡ answer_of q slots
+    none_answer : (slots : Slots) → length (places q slots) ≡ 0 → Rows 0 ≡ selection_answer q slots
     none_answer slots empty = sym (λ i. selected_as (refusal_none q.public (places q slots) empty unpadded i) (empty i))
 
     -- no row was counted
@@ -167,7 +166,7 @@ module _ {E : Type 0} (grew cut : E → E → List Event → Type 0) (faults : E
       spare = omega (arith, may.spare, count.spare, length-count_part q.flat.region (counted_after q));
       seals = λ good fine. is.seals.seals good;
       holds = (is_count, inl empty);
-      ended = subst (λ (a : Selected). EndsAs q a (counted k None None Whole)) (sym head.ok.0) (inl (record { counted = k; count = refl; end = refl; none = λ same. empty }));
+      ended = subst (λ (a : Selected). EndsSelected q a (counted k None None Whole)) (sym head.ok.0) (inl (record { counted = k; count = refl; end = refl; none = λ same. empty }));
       reached = tt;
       memory = λ none. absurd (cc none);
       emitted = subst (λ (a : Selected). EmitsSelected grew q a old mid out_old out_new) (sym head.ok.0)
@@ -230,7 +229,7 @@ module _ {E : Type 0} (grew cut : E → E → List Event → Type 0) (faults : E
     }
 
     module _ (plan : Plan) (side : plan ≡ Continuous → IsTrue c) (least : 1 ≤ k) (chosen : plan ≡ choose q.public.plan (buffered q.public.pack q.public.buffer) q.flat.capacity k c) where
-      first_ended : (result : Result Selected OpErr) → IfOk result (IsFinal q) → IfOk result (MayAnswer plan None) → IfOk result (λ a. EndsAs q a (counted k (Some plan) None Whole))
+      first_ended : (result : Result Selected OpErr) → IfOk result (IsFinal q) → IfOk result (MayAnswer plan None) → IfOk result (λ a. EndsSelected q a (counted k (Some plan) None Whole))
       first_ended (Ok (Rows n)) final answers = inl (record { counted = k; count = refl; end = refl; none = λ none. absurd (cc none) })
       first_ended (Ok (Refused (Refusals.Overflow i))) final answers =
           record { forced = forced_is q k plan c q.public.plan chosen final ∙ ap Some answers.0; plan = ap Some answers.0; second = refl; end = refl }
@@ -278,7 +277,7 @@ module _ {E : Type 0} (grew cut : E → E → List Event → Type 0) (faults : E
     -- Small took the place of a Hash that left a row out
     module _ (least : 1 ≤ k) (free : q.public.plan ≡ None) (chosen : Hash ≡ choose q.public.plan (buffered q.public.pack q.public.buffer) q.flat.capacity k c) (i : ℕ) (late : World) (out : E)
         (first : SelectsBy grew cut faults (planned q Hash k) (Ok (Refused (Refusals.Overflow i))) mid late out out) where
-      second_ended : (result : Result Selected OpErr) → IfOk result (MayAnswer Small None) → IfOk result (λ a. EndsAs q a (counted k (Some Hash) (Some Small) Whole))
+      second_ended : (result : Result Selected OpErr) → IfOk result (MayAnswer Small None) → IfOk result (λ a. EndsSelected q a (counted k (Some Hash) (Some Small) Whole))
       second_ended (Ok (Rows n)) answers = inl (record { counted = k; count = refl; end = refl; none = λ none. absurd (cc none) })
       second_ended (Ok (Refused (Refusals.Overflow i))) answers = absurd (cc answers.0)
       second_ended (Ok (Refused Refusals.PadPassed)) answers = absurd (cc answers)
@@ -338,13 +337,6 @@ module _ {E : Type 0} (grew cut : E → E → List Event → Type 0) (faults : E
       end_second_at result new out_mid out_new same by = end_second result new out_new (subst (λ (o : E). SelectsBy grew cut faults (planned q Small k) result late new o out_new) same by)
 
 -- ---- what the plans ask
-pub free_same : (p : Public) (old new : RoomState) (high : ℕ) → IsFree p old → new ≡ record old { high = high } → IsFree p new
-free_same p old new high free is = subst (λ (r : RoomState). IsFree p r) (sym is) (record {
-  idle = record { free = free.idle.free; shelf = free.idle.shelf; enough = free.idle.enough; wide = free.idle.wide };
-  rows = free.rows;
-  pack = free.pack;
-})
-
 pub some_of : (k : ℕ) → (k ≡ 0 → ⊥) → 1 ≤ k
 some_of zero off = absurd (off refl)
 some_of (suc k) off = omega arith

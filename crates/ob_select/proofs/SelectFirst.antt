@@ -26,7 +26,7 @@ use Rattle.ob_mean.specs.Verdict.{counted, bucket_size, fallback, first_unplaced
 use Rattle.ob_flat.specs.Passes.{is_of_access}
 use Rattle.ob_select.specs.declared.selecting.Selected.{Selected}
 use Rattle.ob_select.specs.declared.selecting.Selected.TheVariants.{Rows, Refused}
-use Rattle.ob_select.specs.Selecting.{Selection, HoldsSeen, counted_after, SelectsToEnd, SelectsToHalt, EmitsSelected, places, selected_as, emitted_unless, answer_of, answer_events, seen_of, selection_script}
+use Rattle.ob_select.specs.Selecting.{Selection, HoldsSeen, counted_after, SelectsToEnd, SelectsToHalt, EmitsSelected, places, selected_as, emitted_unless, selection_answer, answer_events, selection_seen, selection_script}
 use Rattle.ob_select.specs.Results.{Planned, planned, SelectsBy, left_out, whole_part, left_by, held_shown, held_events, head_of}
 use Rattle.ob_select.proofs.ResultReads.{emitted_from}
 use Rattle.ob_select.specs.Settings.{AreSettings}
@@ -74,7 +74,7 @@ module _ (q : Selection) (k : ℕ) (c : Bool) (plan : Plan) (old mid : World) (i
     placed_so : (i : ℕ) → left_out (planned q plan k) mid_slots ≡ Some i → first_unplaced q.public (places q mid_slots) ≡ Some i
     placed_so i left = ap (λ (n : ℕ). Rattle.ob_row.specs.Results.unplaced n (bucket_size q.public) (places q mid_slots)) (sym suits.count) ∙ left_place (planned q plan k) plan mid_slots i left
 
-    forced_seen : IsSome q.public.plan → counted k (Some plan) None Whole ≡ seen_of q mid_slots
+    forced_seen : IsSome q.public.plan → counted k (Some plan) None Whole ≡ selection_seen q mid_slots
     forced_seen forced = ap (λ (n : ℕ). counted n (Some plan) None Whole) suits.count
         ∙ sym (seen_is_first q.public (places q mid_slots) (length mid_slots) plan some planned_so unpadded (suits.consecutive, λ hashed. fallback_forced q.public.plan _ forced))
 
@@ -82,21 +82,21 @@ module _ (q : Selection) (k : ℕ) (c : Bool) (plan : Plan) (old mid : World) (i
     forced_plan None is_it forced = absurd (cc forced)
     forced_plan (Some other) is_it forced = ap Some (sym is_it)
 
-    forced_answer : (i : ℕ) → left_out (planned q plan k) mid_slots ≡ Some i → IsSome q.public.plan → Refused (Overflow i) ≡ answer_of q mid_slots
+    forced_answer : (i : ℕ) → left_out (planned q plan k) mid_slots ≡ Some i → IsSome q.public.plan → Refused (Overflow i) ≡ selection_answer q mid_slots
     forced_answer i left forced =
         let hashed = left_hashed (planned q plan k) plan mid_slots i left in
         let refuses = refuses_forced q.public (places q mid_slots) (length mid_slots) plan some planned_so unpadded i (forced_plan q.public.plan chosen forced ∙ ap Some hashed) (placed_so i left) in
         sym (ap (λ (o : Option Refusal). selected_as o (length (places q mid_slots))) refuses)
 
     -- what is seen of it
-    pub seen_cases : (seen_of q mid_slots ≡ counted k (Some plan) None Whole) ⊎ ((plan ≡ Hash) × IsSome (left_out (planned q plan k) mid_slots) × (seen_of q mid_slots ≡ counted k (Some Hash) (Some Small) Whole))
+    pub seen_cases : (selection_seen q mid_slots ≡ counted k (Some plan) None Whole) ⊎ ((plan ≡ Hash) × IsSome (left_out (planned q plan k) mid_slots) × (selection_seen q mid_slots ≡ counted k (Some Hash) (Some Small) Whole))
     seen_cases = elim (none_or_some (left_out (planned q plan k) mid_slots)) [
       | inl none ↦ inl (sym (seen_last q k c plan old mid is side mid_slots size suits same least chosen unpadded none))
       | inr left ↦ by_forced q.public.plan refl left.0 left.1
     ]
       where
         by_forced : (o : Option Plan) → q.public.plan ≡ o → (i : ℕ) → left_out (planned q plan k) mid_slots ≡ Some i
-            → (seen_of q mid_slots ≡ counted k (Some plan) None Whole) ⊎ ((plan ≡ Hash) × IsSome (left_out (planned q plan k) mid_slots) × (seen_of q mid_slots ≡ counted k (Some Hash) (Some Small) Whole))
+            → (selection_seen q mid_slots ≡ counted k (Some plan) None Whole) ⊎ ((plan ≡ Hash) × IsSome (left_out (planned q plan k) mid_slots) × (selection_seen q mid_slots ≡ counted k (Some Hash) (Some Small) Whole))
         by_forced (Some other) is_it i left = inl (sym (forced_seen (ap Rattle.std.specs.Prelude.is_some is_it)))
         by_forced None is_it i left =
             let hashed = left_hashed (planned q plan k) plan mid_slots i left in
@@ -108,7 +108,7 @@ module _ (q : Selection) (k : ℕ) (c : Bool) (plan : Plan) (old mid : World) (i
 
   -- the accesses of these slots begin with those of the count and of the first plan
   first_script : (slots : Slots) → length slots ≡ q.flat.capacity → Rattle.ob_select.specs.Results.Suits (planned q plan k) slots → c ≡ is_consecutive (places q slots)
-      → (more : List Access) × (selection_script q (seen_of q slots) old.vault.next ≡ counts_of q ++ (whole_part (planned q plan k) old.vault.next ++ more))
+      → (more : List Access) × (selection_script q (selection_seen q slots) old.vault.next ≡ counts_of q ++ (whole_part (planned q plan k) old.vault.next ++ more))
   first_script slots size suits same = elim (seen_cases slots size suits same) [
     | inl seen ↦ ([], ap (λ (x : Seen). selection_script q x old.vault.next) seen ∙ script_is q (counted k (Some plan) None Whole) old.vault.next unpadded)
     | inr both ↦ (
@@ -119,7 +119,7 @@ module _ (q : Selection) (k : ℕ) (c : Bool) (plan : Plan) (old mid : World) (i
   ]
 
   pub first_begun : {T : Type 0} (ready : Ready old) (new : World) (result : Result T OpErr) → Ran (whole_part (planned q plan k) mid.vault.next) (one mid.vault.next) result mid new → (s : SelectsToEnd q old old)
-      → mid.store.lie ≡ None → (lie : Lie) → new.store.lie ≡ Some lie → ReadsIn lie (old.store.asked ++ selection_script q (seen_of q s.slots) old.vault.next)
+      → mid.store.lie ≡ None → (lie : Lie) → new.store.lie ≡ Some lie → ReadsIn lie (old.store.asked ++ selection_script q (selection_seen q s.slots) old.vault.next)
   first_begun ready new result ran s nolie lie told =
       let are = counted_is q k c plan old mid is s.slots s.is nolie in
       let script = first_script s.slots s.is.size (suits_mid q k c plan old mid is side s.slots s.is nolie) are.1 in
@@ -141,7 +141,7 @@ module _ (q : Selection) (k : ℕ) (c : Bool) (plan : Plan) (old mid : World) (i
     first_emitted (Err e) by = tt
 
     pub first_told : (result : Result Selected OpErr) → IfOk result (IsFinal q) → SelectsBy grew cut faults (planned q plan k) result mid new out_old out_new → (s : SelectsToEnd q old new)
-        → MatchResult result (λ answer. (answer ≡ answer_of q s.slots) × (counted k (Some plan) None Whole ≡ seen_of q s.slots)) (λ e. (e ≡ Failed) ⊎ (e ≡ Sink) ⊎ (e ≡ NoMemory))
+        → MatchResult result (λ answer. (answer ≡ selection_answer q s.slots) × (counted k (Some plan) None Whole ≡ selection_seen q s.slots)) (λ e. (e ≡ Failed) ⊎ (e ≡ Sink) ⊎ (e ≡ NoMemory))
     first_told (Ok (Rows n)) last by s =
         let back = end_back q k c plan old mid is side mid.vault.next new by.ran.ok.lasts in
         let nolie = Rattle.ob_store.proofs.Steps.none_before mid.store new.store by.ran.ok.lasts.later s.nolie in

@@ -16,7 +16,7 @@ use Rattle.ob_mean.specs.Verdict.{counted, ended as seen_to, seen_by, seen_rows,
 use Rattle.ob_mean.specs.Replay.{done_of, held_if}
 use Rattle.ob_flat.specs.Passes.{is_of_access}
 use Rattle.ob_select.specs.Settings.{AreSettings}
-use Rattle.ob_select.specs.Selecting.{Selection, HoldsSeen, region_of, counted_after, walked_after, seen_of, places}
+use Rattle.ob_select.specs.Selecting.{Selection, HoldsSeen, region_of, counted_after, walked_after, selection_seen, places}
 use Rattle.ob_select.specs.Results.{planned, whole_part}
 use Rattle.ob_select.proofs.ResultParts.{length_hash}
 use Rattle.ob_base.specs.declared.access.Access.{Access}
@@ -91,49 +91,49 @@ pub uncounted_held : (q : Selection) (slots : Slots) (e : OpErr) (n : ℕ) → A
 uncounted_held q slots e n settings is few some =
     let less = few_done e n (counted_after q) is few some in
     record {
-      k = not_held _ (seen_of q slots).k (not_le _ _ less);
-      plan = not_held _ (seen_of q slots).plan (not_le _ _ less);
+      k = not_held _ (selection_seen q slots).k (not_le _ _ less);
+      plan = not_held _ (selection_seen q slots).plan (not_le _ _ less);
       second = elim (then_rows q.public (length slots) (places q slots)) [
-        | inl none ↦ held_empty _ (seen_of q slots).then none
-        | inr hashed ↦ not_held _ (seen_of q slots).then (not_le _ _ (omega (arith, less, walked_long q (seen_of q slots) (length (places q slots)) settings hashed)))
+        | inl none ↦ held_empty _ (selection_seen q slots).then none
+        | inr hashed ↦ not_held _ (selection_seen q slots).then (not_le _ _ (omega (arith, less, walked_long q (selection_seen q slots) (length (places q slots)) settings hashed)))
       ];
     }
 
 -- behind the count
-pub counted_held : (q : Selection) (slots : Slots) (k : ℕ) (plan : Option Plan) (failed : Bool) (n : ℕ) → seen_of q slots ≡ counted k plan None Whole → counted_after q ≤ done_of failed n
+pub counted_held : (q : Selection) (slots : Slots) (k : ℕ) (plan : Option Plan) (failed : Bool) (n : ℕ) → selection_seen q slots ≡ counted k plan None Whole → counted_after q ≤ done_of failed n
     → HoldsSeen q slots failed n (counted k plan None Whole)
 counted_held q slots k plan failed n seen enough = record {
-  k = held_so _ _ (seen_of q slots).k (is_le _ _ enough) (sym (ap (λ (s : Seen). s.k) seen));
-  plan = held_so _ _ (seen_of q slots).plan (is_le _ _ enough) (sym (ap (λ (s : Seen). s.plan) seen));
-  second = held_empty _ (seen_of q slots).then (ap (λ (s : Seen). s.then) seen);
+  k = held_so _ _ (selection_seen q slots).k (is_le _ _ enough) (sym (ap (λ (s : Seen). s.k) seen));
+  plan = held_so _ _ (selection_seen q slots).plan (is_le _ _ enough) (sym (ap (λ (s : Seen). s.plan) seen));
+  second = held_empty _ (selection_seen q slots).then (ap (λ (s : Seen). s.then) seen);
 }
 
 -- before a Hash's result was read back
-pub walking_held : (q : Selection) (slots : Slots) (k : ℕ) (failed : Bool) (n : ℕ) → seen_of q slots ≡ counted k (Some Hash) (Some Small) Whole → counted_after q ≤ done_of failed n
+pub walking_held : (q : Selection) (slots : Slots) (k : ℕ) (failed : Bool) (n : ℕ) → selection_seen q slots ≡ counted k (Some Hash) (Some Small) Whole → counted_after q ≤ done_of failed n
     → done_of failed n < walked_after q (counted k (Some Hash) (Some Small) Whole)
     → HoldsSeen q slots failed n (counted k (Some Hash) None Whole)
 walking_held q slots k failed n seen enough less = record {
-  k = held_so _ _ (seen_of q slots).k (is_le _ _ enough) (sym (ap (λ (s : Seen). s.k) seen));
-  plan = held_so _ _ (seen_of q slots).plan (is_le _ _ enough) (sym (ap (λ (s : Seen). s.plan) seen));
-  second = not_held _ (seen_of q slots).then (not_le _ _ (subst (λ (s : Seen). done_of failed n < walked_after q s) (sym seen) less));
+  k = held_so _ _ (selection_seen q slots).k (is_le _ _ enough) (sym (ap (λ (s : Seen). s.k) seen));
+  plan = held_so _ _ (selection_seen q slots).plan (is_le _ _ enough) (sym (ap (λ (s : Seen). s.plan) seen));
+  second = not_held _ (selection_seen q slots).then (not_le _ _ (subst (λ (s : Seen). done_of failed n < walked_after q s) (sym seen) less));
 }
 
 -- and behind it
-pub walked_held : (q : Selection) (slots : Slots) (k : ℕ) (failed : Bool) (n : ℕ) → seen_of q slots ≡ counted k (Some Hash) (Some Small) Whole → counted_after q ≤ done_of failed n
+pub walked_held : (q : Selection) (slots : Slots) (k : ℕ) (failed : Bool) (n : ℕ) → selection_seen q slots ≡ counted k (Some Hash) (Some Small) Whole → counted_after q ≤ done_of failed n
     → walked_after q (counted k (Some Hash) (Some Small) Whole) ≤ done_of failed n
     → HoldsSeen q slots failed n (counted k (Some Hash) (Some Small) Whole)
 walked_held q slots k failed n seen enough walked = record {
-  k = held_so _ _ (seen_of q slots).k (is_le _ _ enough) (sym (ap (λ (s : Seen). s.k) seen));
-  plan = held_so _ _ (seen_of q slots).plan (is_le _ _ enough) (sym (ap (λ (s : Seen). s.plan) seen));
-  second = held_so _ _ (seen_of q slots).then (is_le _ _ (subst (λ (s : Seen). walked_after q s ≤ done_of failed n) (sym seen) walked)) (sym (ap (λ (s : Seen). s.then) seen));
+  k = held_so _ _ (selection_seen q slots).k (is_le _ _ enough) (sym (ap (λ (s : Seen). s.k) seen));
+  plan = held_so _ _ (selection_seen q slots).plan (is_le _ _ enough) (sym (ap (λ (s : Seen). s.plan) seen));
+  second = held_so _ _ (selection_seen q slots).then (is_le _ _ (subst (λ (s : Seen). walked_after q s ≤ done_of failed n) (sym seen) walked)) (sym (ap (λ (s : Seen). s.then) seen));
 }
 
 -- of a selection of which nothing is seen
-pub nothing_held : (q : Selection) (slots : Slots) (failed : Bool) (n : ℕ) → seen_of q slots ≡ seen_to Whole → HoldsSeen q slots failed n (seen_to Whole)
+pub nothing_held : (q : Selection) (slots : Slots) (failed : Bool) (n : ℕ) → selection_seen q slots ≡ seen_to Whole → HoldsSeen q slots failed n (seen_to Whole)
 nothing_held q slots failed n is = record {
-  k = held_empty _ (seen_of q slots).k (ap (λ (s : Seen). s.k) is);
-  plan = held_empty _ (seen_of q slots).plan (ap (λ (s : Seen). s.plan) is);
-  second = held_empty _ (seen_of q slots).then (ap (λ (s : Seen). s.then) is);
+  k = held_empty _ (selection_seen q slots).k (ap (λ (s : Seen). s.k) is);
+  plan = held_empty _ (selection_seen q slots).plan (ap (λ (s : Seen). s.plan) is);
+  second = held_empty _ (selection_seen q slots).then (ap (λ (s : Seen). s.then) is);
 }
 
 -- how many were carried out, of those behind the first m

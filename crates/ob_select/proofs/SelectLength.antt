@@ -1,17 +1,12 @@
 -- How much is asked of a selection doesn't hang on the numbers of its regions.
-use Rattle.std.proofs.Common.{◌≡◌, ◌<◌, ◌+◌, ◌*◌, ℕ, suc, Bool, false, true, List, [], ◌∷◌, ◌++◌, length, Option, Some, None, if◌then◌else◌, refl, sym, ◌∙◌, ap, arith, length-append}
-use Rattle.std.specs.Prelude.{nat_le}
-use Rattle.std.proofs.lemmas.Bool.Decides.{nat_tests}
+use Rattle.std.proofs.Common.{◌≡◌, ◌<◌, ◌+◌, ◌*◌, ℕ, suc, List, ◌++◌, length, Option, Some, None, refl, sym, ◌∙◌, ap, length-append}
 use Rattle.ob_base.specs.declared.access.Access.{Access}
 use Rattle.ob_base.specs.declared.config.Plan.{Plan}
 use Rattle.ob_base.specs.declared.config.Plan.TheVariants.{Small, Large, Continuous, Hash}
 use Rattle.ob_base.specs.declared.config.Public.{Public}
 use Rattle.ob_base.specs.declared.seen.Seen.{Seen}
-use Rattle.ob_base.specs.declared.seen.End.{End}
-use Rattle.ob_base.specs.declared.seen.End.TheVariants.{Whole, AfterCount}
 use Rattle.ob_base.specs.Lists.{each}
 use Rattle.ob_base.specs.Stored.{Stored}
-use Rattle.ob_row.specs.Slots.{is_consecutive}
 use Rattle.ob_base.specs.Accesses.{discard_at}
 use Rattle.ob_base.specs.Limits.{buffered, buffered_blocks}
 use Rattle.ob_base.specs.Numbers.{blocks_for}
@@ -19,8 +14,6 @@ use Rattle.ob_base.specs.Plans.{choose_padded, padded_rows}
 use Rattle.ob_script.specs.Parts.{continuous_block, continuous_part, copy_part, count_part, create_part, emission_part, hash_block, hash_part, large_part}
 use Rattle.ob_script.specs.Script.{after_count, behind_count, blocks_of, extent_of, padded_part, plan_part, result_blocks, result_part, rows_width, select_part}
 use Rattle.ob_script.proofs.Lengths.{length-buckets, length-copy_part, length-count_part, length-passes, length-turns, length-writes}
-use Rattle.ob_mean.specs.Replay.{held_if}
-use Rattle.ob_mean.specs.Verdict.{fallback, first_unplaced, plan_for, seen_by, seen_rows, seen_with}
 
 both_length : (a b c d : List Access) → length a ≡ length b → length c ≡ length d → length (a ++ c) ≡ length (b ++ d)
 both_length a b c d first second = length-append a c ∙ (λ i. first i + second i) ∙ sym (length-append b d)

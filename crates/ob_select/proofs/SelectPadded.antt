@@ -39,7 +39,7 @@ use Rattle.ob_select.specs.declared.selecting.Selected.{Selected}
 use Rattle.ob_select.specs.declared.selecting.Selected.TheVariants.{Rows, Refused}
 use Rattle.ob_select.specs.Settings.{IsFree}
 use Rattle.ob_select.specs.Halting.{EmitsUntil}
-use Rattle.ob_select.specs.Selecting.{Selection, MaySelect, SelectsFrom, SelectsToEnd, SelectsToHalt, EmitsSelected, EndsAs, EndsPadded, places, selected_as, emitted_unless, shown_where, shown_rows, result_of, seen_of, answer_of, answer_events, selection_script, region_of, counted_after, padded_after, from}
+use Rattle.ob_select.specs.Selecting.{Selection, MaySelect, SelectsFrom, SelectsToEnd, SelectsToHalt, EmitsSelected, EndsSelected, EndsPadded, places, selected_as, emitted_unless, shown_where, shown_rows, result_of, selection_seen, selection_answer, answer_events, selection_script, region_of, counted_after, padded_after, from}
 use Rattle.ob_select.specs.Results.{Planned, IsPlanned, left_by, held_slots, PlannedToEnd, PlannedToHalt, SelectsBy, Suits, MayAnswer, padded_to, whole_part, held_shown, held_events, held_answer, head_of}
 use Rattle.ob_select.proofs.ResultPadded.{may_choose, rows_of_padded}
 use Rattle.ob_select.proofs.ResultParts.{buffered_some}
@@ -79,7 +79,7 @@ if_err_any (Err e) = tt
 
 module _ (q : Selection) (pad : ℕ) (is_pad : q.public.pad ≡ Some pad) where
   -- ---- by the definitions
-  seen_padded : (slots : Slots) → seen_to Whole ≡ seen_of q slots
+  seen_padded : (slots : Slots) → seen_to Whole ≡ selection_seen q slots
   seen_padded slots = sym (ap (λ (o : Option ℕ). seen_by o q.public (length slots) (places q slots)) is_pad)
 
   refusal_padded : (slots : Slots) → padded_refusal pad (places q slots) ≡ rows_refusal q.public (places q slots)
@@ -120,7 +120,7 @@ module _ (q : Selection) (pad : ℕ) (is_pad : q.public.pad ≡ Some pad) where
         ∙ shown_padded (places q slots) (map (printed q.cols) (rows (result_of q slots)))
         (length-map (rows (result_of q slots)) (printed q.cols) ∙ ap (λ (l : Slots). length (rows l)) (sym result_is) ∙ many ∙ is)
 
-    answer_is : (slots : Slots) → k ≡ length (places q slots) → held_answer r slots ≡ answer_of q slots
+    answer_is : (slots : Slots) → k ≡ length (places q slots) → held_answer r slots ≡ selection_answer q slots
     answer_is slots is = λ i. selected_as (refusal_padded slots i) (is i)
 
     events_is : (slots : Slots) → length slots ≡ q.flat.capacity → k ≡ length (places q slots) → held_events r slots ≡ answer_events q slots
@@ -163,7 +163,7 @@ module _ (q : Selection) (pad : ℕ) (is_pad : q.public.pad ≡ Some pad) where
       emitted_padded (Err e) by = tt
 
       told_padded : (result : Result Selected OpErr) → SelectsBy grew cut faults r result mid new out_old out_new → (s : SelectsToEnd q old new)
-          → MatchResult result (λ answer. (answer ≡ answer_of q s.slots) × (seen_to Whole ≡ seen_of q s.slots)) (λ e. (e ≡ Failed) ⊎ (e ≡ Sink) ⊎ (e ≡ NoMemory))
+          → MatchResult result (λ answer. (answer ≡ selection_answer q s.slots) × (seen_to Whole ≡ selection_seen q s.slots)) (λ e. (e ≡ Failed) ⊎ (e ≡ Sink) ⊎ (e ≡ NoMemory))
       told_padded (Ok answer) by s =
           let lasts = by.ran.ok.lasts in
           (by.told (end_back mid.vault.next new lasts s) ∙ answer_is s.slots (end_count mid.vault.next new lasts s), seen_padded s.slots)
@@ -177,7 +177,7 @@ module _ (q : Selection) (pad : ℕ) (is_pad : q.public.pad ≡ Some pad) where
           until_from grew cut (head_of q) e (λ s. held_events r s.slots) (λ s. answer_events q s.slots) out_old out_new (halt_back mid.vault.next new lasts)
           (λ s. inl (events_is s.slots s.is.size (halt_count mid.vault.next new lasts s))) by.halted
 
-      ended_padded : (result : Result Selected OpErr) → IfOk result (MayAnswer r.plan (Some pad)) → IfOk result (λ a. EndsAs q a (seen_to Whole))
+      ended_padded : (result : Result Selected OpErr) → IfOk result (MayAnswer r.plan (Some pad)) → IfOk result (λ a. EndsSelected q a (seen_to Whole))
       ended_padded (Ok (Rows n)) answers = inr ends_padded
       ended_padded (Ok (Refused Refusals.PadPassed)) answers = ends_padded
       ended_padded (Ok (Refused (Refusals.Overflow i))) answers = absurd (cc answers.1)
@@ -185,13 +185,13 @@ module _ (q : Selection) (pad : ℕ) (is_pad : q.public.pad ≡ Some pad) where
       ended_padded (Err e) answers = tt
 
     begun_padded : {T : Type 0} (ready : Ready old) (new : World) (result : Result T OpErr) → Ran (whole_part r mid.vault.next) (one mid.vault.next) result mid new → (s : SelectsToEnd q old old)
-        → mid.store.lie ≡ None → (lie : Lie) → new.store.lie ≡ Some lie → ReadsIn lie (old.store.asked ++ selection_script q (seen_of q s.slots) old.vault.next)
+        → mid.store.lie ≡ None → (lie : Lie) → new.store.lie ≡ Some lie → ReadsIn lie (old.store.asked ++ selection_script q (selection_seen q s.slots) old.vault.next)
     begun_padded ready new result ran s nolie lie told =
         let part = whole_part r old.vault.next ++ [] in
         subst (ReadsIn lie)
         (ap (λ (n : ℕ). mid.store.asked ++ (whole_part r n ++ [])) (next_counted q old mid ready count)
         ∙ ap (λ (l : List Access). l ++ part) count.did.asked ∙ append_assoc old.store.asked (counts_of q) part
-        ∙ ap (λ (l : List Access). old.store.asked ++ l) (script_padded (seen_of q s.slots) old.vault.next k))
+        ∙ ap (λ (l : List Access). old.store.asked ++ l) (script_padded (selection_seen q s.slots) old.vault.next k))
         (ran_in result (whole_part r mid.vault.next) [] mid new lie ran nolie told)
 
     -- ---- the end

@@ -122,7 +122,7 @@ module _ (q : Selection) (old mid : World) (ready : Ready old) (count : Went (co
       (subst (λ (x : List Access). Ran x (from old.vault.next) result late new) (sym (append-nil (whole_part p (old.vault.next + 1)))) second))
 
 -- ---- where memory lacks
-ends-more : (xs done : List Access) → IsTrue (ends_with_make done) → IsTrue (ends_with_make (xs ++ done))
+pub ends-more : (xs done : List Access) → IsTrue (ends_with_make done) → IsTrue (ends_with_make (xs ++ done))
 ends-more [] done is = is
 ends-more (x ∷ []) [] is = absurd (cc is)
 ends-more (x ∷ []) (d ∷ done) is = is

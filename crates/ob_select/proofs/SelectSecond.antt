@@ -31,7 +31,7 @@ use Rattle.ob_verdict.specs.Laws.{result_plan}
 use Rattle.ob_select.specs.Settings.{AreSettings}
 use Rattle.ob_select.specs.declared.selecting.Selected.{Selected}
 use Rattle.ob_select.specs.declared.selecting.Selected.TheVariants.{Rows, Refused}
-use Rattle.ob_select.specs.Selecting.{Selection, HoldsSeen, SelectsToEnd, SelectsToHalt, EmitsSelected, counted_after, from, places, selected_as, emitted_unless, result_of, shown_rows, answer_of, answer_events, seen_of, selection_script}
+use Rattle.ob_select.specs.Selecting.{Selection, HoldsSeen, SelectsToEnd, SelectsToHalt, EmitsSelected, counted_after, from, places, selected_as, emitted_unless, result_of, shown_rows, selection_answer, answer_events, selection_seen, selection_script}
 use Rattle.ob_select.specs.Results.{planned, PlannedToEnd, PlannedToHalt, SelectsBy, Suits, whole_part, held_shown, held_events, held_answer, head_of}
 use Rattle.ob_select.proofs.ResultParts.{length_hash}
 use Rattle.ob_select.proofs.ResultReads.{emitted_from}
@@ -58,7 +58,7 @@ module _ (q : Selection) (k : ℕ) (c : Bool) (old mid : World) (ready : Ready o
     left_so : first_unplaced q.public (places q slots) ≡ Some j
     left_so = ap (λ (n : ℕ). unplaced n (bucket_size q.public) (places q slots)) (sym count) ∙ left
 
-    seen_so : counted k (Some Hash) (Some Small) Whole ≡ seen_of q slots
+    seen_so : counted k (Some Hash) (Some Small) Whole ≡ selection_seen q slots
     seen_so = ap (λ (n : ℕ). counted n (Some Hash) (Some Small) Whole) count ∙ sym (seen_second q.public (places q slots) (length slots) Hash some so unpadded j refl free left_so)
 
     last_so : Small ≡ result_plan q.public.pad q.public (length slots) (places q slots)
@@ -72,7 +72,7 @@ module _ (q : Selection) (k : ℕ) (c : Bool) (old mid : World) (ready : Ready o
     none_refused : None ≡ rows_refusal q.public (places q slots)
     none_refused = sym (refuses_free q.public (places q slots) (length slots) Hash some so unpadded free)
 
-    answer_so : held_answer (planned q Small k) slots ≡ answer_of q slots
+    answer_so : held_answer (planned q Small k) slots ≡ selection_answer q slots
     answer_so = λ i. selected_as (none_refused i) (count i)
 
     events_so : held_events (planned q Small k) slots ≡ answer_events q slots
@@ -146,7 +146,7 @@ module _ (q : Selection) (k : ℕ) (c : Bool) (old mid : World) (ready : Ready o
     second_emitted (Err e) by = tt
 
     pub second_told : (result : Result Selected OpErr) → SelectsBy grew cut faults (planned q Small k) result late new out out_new → (s : SelectsToEnd q old new)
-        → MatchResult result (λ answer. (answer ≡ answer_of q s.slots) × (counted k (Some Hash) (Some Small) Whole ≡ seen_of q s.slots)) (λ e. (e ≡ Failed) ⊎ (e ≡ Sink) ⊎ (e ≡ NoMemory))
+        → MatchResult result (λ answer. (answer ≡ selection_answer q s.slots) × (counted k (Some Hash) (Some Small) Whole ≡ selection_seen q s.slots)) (λ e. (e ≡ Failed) ⊎ (e ≡ Sink) ⊎ (e ≡ NoMemory))
     second_told (Ok answer) by s =
         let a = are s.slots s.is (end_late by.ran.ok.lasts s) in
         let l = left_of s.tells s.slots s.is (end_late by.ran.ok.lasts s) in
@@ -160,7 +160,7 @@ module _ (q : Selection) (k : ℕ) (c : Bool) (old mid : World) (ready : Ready o
         until_from grew cut (head_of q) e (λ s. held_events (planned q Small k) s.slots) (λ s. answer_events q s.slots) out out_new (halt_small by.ran.err.lasts) (λ s. inl (halt_events by.ran.err.lasts s)) by.halted
 
     pub second_begun : (result : Result Selected OpErr) → SelectsBy grew cut faults (planned q Small k) result late new out out_new → (s : SelectsToEnd q old old) → late.store.lie ≡ None
-        → (lie : Lie) → new.store.lie ≡ Some lie → ReadsIn lie (old.store.asked ++ selection_script q (seen_of q s.slots) old.vault.next)
+        → (lie : Lie) → new.store.lie ≡ Some lie → ReadsIn lie (old.store.asked ++ selection_script q (selection_seen q s.slots) old.vault.next)
     second_begun result by s nolie lie told =
         let a = are s.slots s.is nolie in
         let l = left_of s.tells s.slots s.is nolie in

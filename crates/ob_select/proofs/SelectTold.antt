@@ -25,7 +25,7 @@ use Rattle.ob_flat.proofs.Tables.{represents_lasts}
 use Rattle.ob_mean.specs.Verdict.{counted, bucket_size, fallback, first_unplaced, plan_for}
 use Rattle.ob_verdict.specs.Laws.{result_plan}
 use Rattle.ob_select.specs.declared.selecting.Selected.TheVariants.{Rows, Refused}
-use Rattle.ob_select.specs.Selecting.{Selection, SelectsToEnd, SelectsToHalt, places, selected_as, emitted_unless, result_of, shown_rows, answer_of, answer_events, seen_of}
+use Rattle.ob_select.specs.Selecting.{Selection, SelectsToEnd, SelectsToHalt, places, selected_as, emitted_unless, result_of, shown_rows, selection_answer, answer_events, selection_seen}
 use Rattle.ob_select.specs.Results.{Planned, planned, PlannedToEnd, PlannedToHalt, Suits, left_out, held_slots, held_shown, held_events, held_answer, head_of}
 use Rattle.ob_select.proofs.ResultRows.{left_hash}
 use Rattle.ob_select.proofs.SelectRuns.{counts_of}
@@ -102,13 +102,13 @@ module _ (q : Selection) (k : ℕ) (c : Bool) (plan : Plan) (old mid : World) (i
         pub shown_is : held_shown r slots ≡ shown_rows q slots
         shown_is = ap (λ (l : Slots). map (printed q.cols) (rows l)) result_is ∙ sym (shown_some (places q slots) (map (printed q.cols) (rows (result_of q slots))) some)
 
-        pub seen_last : counted k (Some plan) None Rattle.ob_base.specs.declared.seen.End.TheVariants.Whole ≡ seen_of q slots
+        pub seen_last : counted k (Some plan) None Rattle.ob_base.specs.declared.seen.End.TheVariants.Whole ≡ selection_seen q slots
         seen_last = ap (λ (n : ℕ). counted n (Some plan) None Rattle.ob_base.specs.declared.seen.End.TheVariants.Whole) suits.count ∙ sym (seen_is_first q.public (places q slots) (length slots) plan some is_plan unpadded is_last)
 
         refusal_last : None ≡ Rattle.ob_mean.specs.Verdict.rows_refusal q.public (places q slots)
         refusal_last = sym (refuses_none q.public (places q slots) (length slots) plan some is_plan unpadded suits.consecutive room)
 
-        pub answer_last : held_answer r slots ≡ answer_of q slots
+        pub answer_last : held_answer r slots ≡ selection_answer q slots
         answer_last = (λ i. selected_as (option_map Overflow (sym left i)) k) ∙ (λ i. selected_as (refusal_last i) (suits.count i))
 
         pub events_last : held_events r slots ≡ answer_events q slots

@@ -1,6 +1,5 @@
 -- What is emitted of an answer until a pass gives up.
-use Rattle.std.proofs.Common.{◌≡◌, ◌⊎◌, inl, inr, IsTrue, List, [], ◌∷◌, ◌++◌, refl, sym, ◌∙◌, ap, subst, append_assoc}
-use Rattle.std.specs.List.{list_all}
+use Rattle.std.proofs.Common.{◌≡◌, ◌⊎◌, inl, inr, List, [], ◌∷◌, ◌++◌, refl, sym, ◌∙◌, ap, subst, append_assoc}
 use Rattle.std.proofs.lemmas.List.{append-nil, map-append}
 use Rattle.ob_base.specs.declared.shown.Shown.{Shown}
 use Rattle.ob_base.specs.Events.{Event, row_events, Leads, IsBegun, IsHalted}
@@ -10,7 +9,7 @@ use Rattle.ob_emit.specs.Emitting.{EndsAs}
 use Rattle.ob_select.specs.Halting.{TakesPart, EmitsUntil}
 use Rattle.ob_select.specs.Memory.{HasHalted}
 
-nothing : (xs ys : List Event) → xs ++ ys ≡ [] → xs ≡ []
+pub nothing : (xs ys : List Event) → xs ++ ys ≡ [] → xs ≡ []
 nothing [] ys none = refl
 nothing (x ∷ xs) ys none = absurd (cc none)
 

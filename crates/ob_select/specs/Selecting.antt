@@ -88,12 +88,12 @@ abbrev pub selected_as : Option Refusal → (k : ℕ) → Selected
 selected_as None k = Rows k
 selected_as (Some r) k = Refused r
 
-abbrev pub answer_of : Selection → Slots → Selected
-answer_of q slots = selected_as (rows_refusal q.public (places q slots)) (length (places q slots))
+abbrev pub selection_answer : Selection → Slots → Selected
+selection_answer q slots = selected_as (rows_refusal q.public (places q slots)) (length (places q slots))
 
 -- what is seen of it where it comes to its end
-abbrev pub seen_of : Selection → Slots → Seen
-seen_of q slots = seen_rows q.public (length slots) (places q slots)
+abbrev pub selection_seen : Selection → Slots → Seen
+selection_seen q slots = seen_rows q.public (length slots) (places q slots)
 
 -- the slots of its last result, but for those to which it is padded
 abbrev pub result_of : Selection → Slots → Slots
@@ -179,12 +179,12 @@ pub record EndsPadded (q : Selection) (seen : Seen) : Type 0 where
   pub padded : IsSome q.public.pad
   pub nothing : seen ≡ seen_to Whole
 
-abbrev pub EndsAs : Selection → Selected → Seen → Type 0
-EndsAs q (Rows k) seen = EndsCounted seen ⊎ EndsPadded q seen
-EndsAs q (Refused PadPassed) seen = EndsPadded q seen
-EndsAs q (Refused NotConsecutive) seen = EndsUnplanned q seen
-EndsAs q (Refused (Overflow i)) seen = EndsOverflowed q seen
-EndsAs q (Refused _) seen = ⊥
+abbrev pub EndsSelected : Selection → Selected → Seen → Type 0
+EndsSelected q (Rows k) seen = EndsCounted seen ⊎ EndsPadded q seen
+EndsSelected q (Refused PadPassed) seen = EndsPadded q seen
+EndsSelected q (Refused NotConsecutive) seen = EndsUnplanned q seen
+EndsSelected q (Refused (Overflow i)) seen = EndsOverflowed q seen
+EndsSelected q (Refused _) seen = ⊥
 
 -- what is held was reached within n accesses
 pub record Reaches (q : Selection) (seen : Seen) (n : ℕ) : Type 0 where
@@ -193,10 +193,10 @@ pub record Reaches (q : Selection) (seen : Seen) (n : ℕ) : Type 0 where
 
 -- what is held after n accesses, of which the last was carried out or not, is what is seen of these slots
 pub record HoldsSeen (q : Selection) (slots : Slots) (failed : Bool) (n : ℕ) (seen : Seen) : Type 0 where
-  pub k : seen.k ≡ held_if (nat_le (counted_after q) (done_of failed n)) (seen_of q slots).k
-  pub plan : seen.plan ≡ held_if (nat_le (counted_after q) (done_of failed n)) (seen_of q slots).plan
+  pub k : seen.k ≡ held_if (nat_le (counted_after q) (done_of failed n)) (selection_seen q slots).k
+  pub plan : seen.plan ≡ held_if (nat_le (counted_after q) (done_of failed n)) (selection_seen q slots).plan
   pub second : seen.then
-      ≡ held_if (nat_le (walked_after q (seen_of q slots)) (done_of failed n)) (seen_of q slots).then
+      ≡ held_if (nat_le (walked_after q (selection_seen q slots)) (done_of failed n)) (selection_seen q slots).then
 
 -- ---- what a selection asks
 -- how many accesses of a padded result room is kept for before its rows are counted: all, and of another none
@@ -260,7 +260,7 @@ pub record SelectsFrom {E : Type 0} (grew cut : E → E → List Event → Type 
   pub spare : OnOk result (q.ending ≤ new.store.spare)
   pub seals : SealsRows q.public.pack old new
   pub holds : MayHold q seen.k seen.plan seen.then
-  pub ended : IfOk result (λ answer. EndsAs q answer seen)
+  pub ended : IfOk result (λ answer. EndsSelected q answer seen)
   pub reached : OnErr result (Reaches q seen (length new.store.asked - length old.store.asked))
   pub memory : result ≡ Err NoMemory → LacksMemoryIn q seen old new (HasHalted (Leads grew cut) out_old out_new)
   pub emitted : IfOk result (λ answer. EmitsSelected grew q answer old new out_old out_new)
@@ -268,10 +268,10 @@ pub record SelectsFrom {E : Type 0} (grew cut : E → E → List Event → Type 
       (λ (s : SelectsToHalt q old new). answer_events q s.slots) out_old out_new)
   pub sink : SinkCause result (faults out_old) (faults out_new)
   pub told : (s : SelectsToEnd q old new) → MatchResult result
-      (λ answer. (answer ≡ answer_of q s.slots) × (seen ≡ seen_of q s.slots))
+      (λ answer. (answer ≡ selection_answer q s.slots) × (seen ≡ selection_seen q s.slots))
       (λ e. (e ≡ Failed) ⊎ (e ≡ Sink) ⊎ (e ≡ NoMemory))
   pub held : (s : SelectsToHalt q old new) → IfErr result (λ e.
       HoldsSeen q s.slots (is_of_access e) (length new.store.asked - length old.store.asked) seen)
   -- the first changed block that is read is one that is read of these slots
   pub begun : (s : SelectsToEnd q old old) (lie : Lie) → new.store.lie ≡ Some lie
-      → ReadsIn lie (old.store.asked ++ selection_script q (seen_of q s.slots) old.vault.next)
+      → ReadsIn lie (old.store.asked ++ selection_script q (selection_seen q s.slots) old.vault.next)

@@ -37,11 +37,7 @@ fn named_places(names: &[ColumnName], left: &[Column], right: &[Column]) -> Arra
 /// The places of the columns that a SELECT of rows prints, from 0 on, among those of the left table and then
 /// those of the right, which has none where one table is selected from: those of its list, in its order, or
 /// without a list all of them. It never fails.
-pub fn printed_places(
-    select: &SelectRows,
-    left: &[Column],
-    right: &[Column],
-) -> ArrayVec<u8, 32>
+pub fn printed_places(select: &SelectRows, left: &[Column], right: &[Column]) -> ArrayVec<u8, 32>
     requires few { length (listed select.now) ≤ 32 }
     requires columns { length left.now + length right.now ≤ 32 }
     ensures { result.items ≡ printed_places select.now (left.now ++ right.now) }

@@ -2,9 +2,10 @@ use Rattle.std.proofs.Common.{sym, ◌∙◌, Ok, Err}
 use Rattle.std.proofs.lemmas.Result.{err_from_is_err_and}
 use Rattle.ob_select.specs.declared.selecting.Selected.TheVariants.{Rows, Refused}
 use Rattle.ob_select.specs.Selecting.{selection_of}
-use Rattle.ob_select.proofs.SelectEnds.{end_uncounted, end_none, end_refused, end_first, end_second_at, counts_at, some_of, none_of, free_same, planned_first, planned_second, hashed_first}
+use Rattle.ob_select.proofs.SelectEnds.{end_uncounted, end_none, end_refused, end_first, end_second_at, counts_at, some_of, none_of, planned_first, planned_second, hashed_first}
 use Rattle.ob_select.proofs.SelectPadded.{pad_some, planned_padded, spare_padded, end_padded}
 use Rattle.ob_select.proofs.selecting.select_from.Goals as goal
+use Rattle.ob_select.proofs.RoomLemmas.{free_after}
 
 pub returns-in_err-counted-clause-selects : goal.returns-in_err-counted-clause-selects
 returns-in_err-counted-clause-selects g c =
@@ -38,7 +39,7 @@ select_by-requires-clause-may g c =
     let c1 = c.in_ok-counted.counted.consecutive in
     let counts = counts_at q _ _ _ _ may.free.pack c.in_ok-counted.ensures.counts in
     let least = some_of k c.if-counted-eq0.false in
-    planned_first q c.args.room.now _ _ may k c1 counts least c.count.new.room (free_same _ _ _ _ may.free c.count.ensures.room) c.in-Some-plan_of.plan
+    planned_first q c.args.room.now _ _ may k c1 counts least c.count.new.room (free_after _ _ _ _ may.free c.count.ensures.room) c.in-Some-plan_of.plan
 
 pub returns-in_err-n-clause-selects : goal.returns-in_err-n-clause-selects
 returns-in_err-n-clause-selects g c =
@@ -86,7 +87,7 @@ select_by-requires-in-Refused-clause-may g c =
     let least = some_of k c.if-counted-eq0.false in
     let refused = rw c.in-Refused.is at c.in_ok-n.ensures.selects in
     let first = hashed_first g.E.Emit.grew g.E.Emit.cut g.E.Emit.faults q c.in-Some-plan_of.plan k c.in-Refused.refusal _ _ _ _ refused in
-    planned_second q c.args.room.now _ _ may k c1 counts least c.select_by.new.room (free_same _ _ _ _ (free_same _ _ _ _ may.free c.count.ensures.room) c.select_by.ensures.room.same) _ first.3.ran.ok
+    planned_second q c.args.room.now _ _ may k c1 counts least c.select_by.new.room (free_after _ _ _ _ (free_after _ _ _ _ may.free c.count.ensures.room) c.select_by.ensures.room.same) _ first.3.ran.ok
 
 pub returns-else-is_some-clause-selects : goal.returns-else-is_some-clause-selects
 returns-else-is_some-clause-selects g c =
@@ -108,7 +109,7 @@ select_padded-requires-clause-may g c =
     let may = c.requires.may in
     let counts = counts_at q _ _ _ _ may.free.pack c.in_ok-counted.ensures.counts in
     planned_padded q c.in-Some.pad c.in-Some.is c.in_ok-counted.counted.k c.in_ok-counted.counted.consecutive _ _ counts (pad_some q c.in-Some.pad c.in-Some.is may.settings.padded).1 c.args.room.now may c.count.new.room
-    (free_same _ _ _ _ may.free c.count.ensures.room)
+    (free_after _ _ _ _ may.free c.count.ensures.room)
 
 pub select_padded-requires-clause-spare : goal.select_padded-requires-clause-spare
 select_padded-requires-clause-spare g c =
