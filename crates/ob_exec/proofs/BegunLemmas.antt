@@ -13,7 +13,6 @@ use Rattle.ob_store.specs.State.{Lie, StoreState}
 use Rattle.ob_vault.specs.State.{RevState, World}
 use Rattle.ob_vault.specs.Tied.{ReadsIn}
 use Rattle.ob_vault.proofs.WorldSteps.{reads_on}
-use Rattle.ob_flat.specs.declared.fault.OpErr.TheVariants as OpErrs
 use Rattle.ob_sql.specs.declared.stmt.Stmt.{Stmt}
 use Rattle.ob_sql.specs.declared.stmt.Stmt.TheVariants.{Create, Insert, Update, Delete, Drop as DropTable, SelectRows as RowsStmt, SelectTotals as TotalsStmt}
 use Rattle.ob_sql.specs.Skeleton.{skeleton}

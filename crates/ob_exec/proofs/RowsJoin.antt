@@ -107,9 +107,9 @@ pub record JoinOf {R : Type 0} (state : R → RevState) (old : Engine R) (s : St
   pub one : IsFound a i left old.public.tables
   pub two : IsFound b j right old.public.tables
 
-abbrev pub join_of : {R : Type 0} (state : R → RevState) (old : Engine R) (s : StoreState) (select : SelectRows) {a b : List ℕ} {on equals : ColumnName} {i j : ℕ} {left right : Flat} → Agrees state old s
+abbrev pub join_of : {R : Type 0} {state : R → RevState} {old : Engine R} {s : StoreState} (select : SelectRows) {a b : List ℕ} {on equals : ColumnName} {i j : ℕ} {left right : Flat} → Agrees state old s
     → refusal_now old.public (count_of old s) (RowsStmt select) ≡ None → select.source ≡ Join a b on equals → IsFound a i left old.public.tables → IsFound b j right old.public.tables → JoinOf state old s select
-join_of state old s select {a} {b} {on} {equals} {i} {j} {left} {right} agrees free of_join one two = record {
+join_of select {a = a} {b = b} {on = on} {equals = equals} {i = i} {j = j} {left = left} {right = right} agrees free of_join one two = record {
   agrees = agrees;
   free = free;
   a = a;

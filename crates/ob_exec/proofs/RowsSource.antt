@@ -19,7 +19,7 @@ use Rattle.ob_base.specs.Schemas.{key_place}
 use Rattle.ob_base.specs.Stored.{Stored, has_table, headings, headings_of, heading_at, stored_at}
 use Rattle.ob_row.specs.Bags.{Same}
 use Rattle.ob_row.specs.Rows.{AreDistinct, Row, keys_repeat, pairs}
-use Rattle.ob_row.specs.Slots.{rows, Slots}
+use Rattle.ob_row.specs.Slots.{rows}
 use Rattle.ob_row.proofs.BagLemmas.{Same-refl}
 use Rattle.ob_emit.specs.Emitting.{is_joined, label_at, labels_of}
 use Rattle.ob_mean.specs.Names.{columns_at, place_of, source_columns}

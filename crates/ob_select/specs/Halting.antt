@@ -6,7 +6,8 @@ use Rattle.ob_flat.specs.declared.fault.OpErr.{OpErr}
 use Rattle.ob_flat.specs.declared.fault.OpErr.TheVariants.{Failed, Tampered, Sink, NoMemory}
 
 -- these events were taken, or the output ends within them
-abbrev pub MayEnd : {E : Type 0} → (grew cut : E → E → List Event → Type 0) → E → E → List Event → Type 0
+abbrev pub MayEnd : {E : Type 0} → (grew cut : E → E → List Event → Type 0) → E → E
+    → List Event → Type 0
 MayEnd grew cut out_old out_new events = grew out_old out_new events ⊎ cut out_old out_new events
 
 -- nothing was taken, or the header and some rows, which are the first events of those of each source

@@ -39,6 +39,7 @@ abbrev pub HasCounted : Public → Seen → Type 0
 HasCounted p seen = IsSome seen.k ⊎ IsSome p.pad
 
 -- the emitter's output ends within some events, as it does only where the emitter gave up
-pub record HasHalted {E : Type 0} (cut : E → E → List Event → Type 0) (out_old out_new : E) : Type 0 where
+pub record HasHalted {E : Type 0} (cut : E → E → List Event → Type 0)
+    (out_old out_new : E) : Type 0 where
   pub events : List Event
   pub ends : cut out_old out_new events

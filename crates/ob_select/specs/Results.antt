@@ -59,7 +59,8 @@ abbrev pub planned : Selection → Plan → ℕ → Planned
 planned q plan k = record { selection = q; plan = plan; k = k; taken = k; pad = None }
 
 abbrev pub padded : Selection → Plan → (taken pad k : ℕ) → Planned
-padded q plan taken pad k = record { selection = q; plan = plan; k = k; taken = taken; pad = Some pad }
+padded q plan taken pad k =
+    record { selection = q; plan = plan; k = k; taken = taken; pad = Some pad }
 
 -- a padded result, by the plan for its rows
 abbrev pub padded_to : Selection → (pad k : ℕ) → Planned
@@ -81,7 +82,8 @@ abbrev pub make_part : Planned → (g : ℕ) → List Access
 make_part r g = plan_part r.selection.public r.plan r.taken g (extent_of (region_of r.selection))
 
 abbrev pub whole_part : Planned → (g : ℕ) → List Access
-whole_part r g = result_part r.selection.public (Some r.plan) r.taken g (extent_of (region_of r.selection))
+whole_part r g =
+    result_part r.selection.public (Some r.plan) r.taken g (extent_of (region_of r.selection))
 
 -- ---- what it holds
 -- the first selected slot that finds no place
@@ -103,7 +105,8 @@ abbrev pub refused_for : Planned → Slots → Option Refusal
 refused_for r slots = refused_by r.pad r slots
 
 abbrev pub held_slots : Planned → Slots → Slots
-held_slots r slots = result_slots r.plan r.k (bucket_size r.selection.public) (is_true r.selection.condition) slots
+held_slots r slots =
+    result_slots r.plan r.k (bucket_size r.selection.public) (is_true r.selection.condition) slots
 
 -- with the empty slots to which a Small result is padded, and without what is too much for it
 abbrev pub stored_by : (pad : Option ℕ) → Plan → (taken : ℕ) → Slots → Slots
@@ -124,7 +127,9 @@ abbrev pub head_of : Selection → List Event
 head_of q = header q.flat.schema q.cols
 
 abbrev pub held_events : Planned → Slots → List Event
-held_events r slots = emitted_unless (refused_for r slots) (head_of r.selection ++ row_events (held_shown r slots))
+held_events r slots =
+    emitted_unless (refused_for r slots)
+    (head_of r.selection ++ row_events (held_shown r slots))
 
 abbrev pub held_answer : Planned → Slots → Selected
 held_answer r slots = selected_as (refused_for r slots) r.k
@@ -169,7 +174,8 @@ pub record KeepsRoom (old new : RoomState) : Type 0 where
 
 -- want of memory came at a make, just before it where room was wanted for what follows, or where nothing was left but to
 -- read and the emitter gave up: in these two cases that is so
-pub record LacksMemoryOf (script : List Access) (old new : World) (Rooms Halts : Type 0) : Type 0 where
+pub record LacksMemoryOf (script : List Access) (old new : World)
+    (Rooms Halts : Type 0) : Type 0 where
   pub done : List Access
   pub rest : List Access
   pub split : done ++ rest ≡ script
@@ -196,12 +202,15 @@ pub record MakesResult (r : Planned) (result : Result Placed OpErr) (old new : W
   pub seals : SealsTable r.selection.public.pack r.selection.flat.schema old.vault.next old new
   pub told : (s : PlannedToEnd r old new) → MatchResult result
       (λ placed. (overflow_of placed ≡ left_out r s.slots)
-      × Represents r.selection.public.pack (fresh_flat r old.vault.next) (stored_slots r s.slots) new)
+      × Represents r.selection.public.pack (fresh_flat r old.vault.next)
+      (stored_slots r s.slots) new)
       (λ e. (e ≡ Failed) ⊎ (e ≡ NoMemory))
 
 -- and so whatever it is padded to, and however many rows are selected
-abbrev pub MakesPadded : Selection → Plan → (taken : ℕ) → Result Flat OpErr → (old new : World) → Type 0
-MakesPadded q plan taken result old new = (pad k : ℕ) → MakesResult (padded q plan taken pad k) (placed_as result) old new
+abbrev pub MakesPadded : Selection → Plan → (taken : ℕ) → Result Flat OpErr
+    → (old new : World) → Type 0
+MakesPadded q plan taken result old new =
+    (pad k : ℕ) → MakesResult (padded q plan taken pad k) (placed_as result) old new
 
 -- a result was read back and discarded, and its rows were emitted
 pub record EmitsResult {E : Type 0} (grew cut : E → E → List Event → Type 0) (faults : E → ℕ)
@@ -233,9 +242,11 @@ pub record WalksResult {T : Type 0} (pack : ℕ) (fresh : Flat) (result : Result
       → IfErr result (λ e. e ≡ Failed)
 
 -- its rows were emitted, or none of a result that is refused
-abbrev pub EmitsHeld : {E : Type 0} → (grew : E → E → List Event → Type 0) → Planned → Selected → (old new : World) → (out_old out_new : E) → Type 0
+abbrev pub EmitsHeld : {E : Type 0} → (grew : E → E → List Event → Type 0) → Planned → Selected
+    → (old new : World) → (out_old out_new : E) → Type 0
 EmitsHeld grew r (Rows n) old new out_old out_new =
-    IsEmitted grew (head_of r.selection) (λ (s : PlannedToEnd r old new). held_shown r s.slots) 0 n out_old out_new
+    IsEmitted grew (head_of r.selection)
+    (λ (s : PlannedToEnd r old new). held_shown r s.slots) 0 n out_old out_new
 EmitsHeld grew r (Refused why) old new out_old out_new = out_new ≡ out_old
 
 -- a result may be answered so, by its plan and by what it is padded to
@@ -258,7 +269,8 @@ pub record SelectsBy {E : Type 0} (grew cut : E → E → List Event → Type 0)
   pub seals : SealsRows r.selection.public.pack old new
   pub may : IfOk result (MayAnswer r.plan r.pad)
   pub memory : result ≡ Err NoMemory
-      → LacksMemoryOf (whole_part r old.vault.next) old new (r.pad ≡ None) (HasHalted (Leads grew cut) out_old out_new)
+      → LacksMemoryOf (whole_part r old.vault.next) old new (r.pad ≡ None)
+      (HasHalted (Leads grew cut) out_old out_new)
   pub emitted : IfOk result (λ answer. EmitsHeld grew r answer old new out_old out_new)
   pub halted : IfErr result (λ e. EmitsUntil grew cut e (head_of r.selection)
       (λ (s : PlannedToHalt r old new). held_events r s.slots) out_old out_new)

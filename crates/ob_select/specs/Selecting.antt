@@ -89,7 +89,8 @@ selected_as None k = Rows k
 selected_as (Some r) k = Refused r
 
 abbrev pub selection_answer : Selection → Slots → Selected
-selection_answer q slots = selected_as (rows_refusal q.public (places q slots)) (length (places q slots))
+selection_answer q slots =
+    selected_as (rows_refusal q.public (places q slots)) (length (places q slots))
 
 -- what is seen of it where it comes to its end
 abbrev pub selection_seen : Selection → Slots → Seen
@@ -137,7 +138,8 @@ pub record SelectsToHalt (q : Selection) (old new : World) : Type 0 where
 pub record IsPlanOf (q : Selection) (k : ℕ) (plan : Plan) : Type 0 where
   pub some : 1 ≤ k
   pub consecutive : Bool
-  pub chosen : plan ≡ choose q.public.plan (buffered q.public.pack q.public.buffer) q.flat.capacity k consecutive
+  pub chosen : plan
+      ≡ choose q.public.plan (buffered q.public.pack q.public.buffer) q.flat.capacity k consecutive
 
 -- k is a count of its slots, where results aren't padded
 pub record IsCountOf (q : Selection) (k : ℕ) : Type 0 where
@@ -148,7 +150,8 @@ abbrev pub MayHold : Selection → (k : Option ℕ) → (plan second : Option Pl
 MayHold q None None None = ⊤
 MayHold q (Some k) None None = IsCountOf q k × ((k ≡ 0) ⊎ (q.public.plan ≡ Some Continuous))
 MayHold q (Some k) (Some plan) None = IsCountOf q k × IsPlanOf q k plan
-MayHold q (Some k) (Some Hash) (Some Small) = IsCountOf q k × IsPlanOf q k Hash × (q.public.plan ≡ None)
+MayHold q (Some k) (Some Hash) (Some Small) =
+    IsCountOf q k × IsPlanOf q k Hash × (q.public.plan ≡ None)
 MayHold q _ _ _ = ⊥
 
 -- it came to its end, and without a plan where none was counted
@@ -192,11 +195,15 @@ pub record Reaches (q : Selection) (seen : Seen) (n : ℕ) : Type 0 where
   pub walk : IsSome seen.then → walked_after q seen ≤ n
 
 -- what is held after n accesses, of which the last was carried out or not, is what is seen of these slots
-pub record HoldsSeen (q : Selection) (slots : Slots) (failed : Bool) (n : ℕ) (seen : Seen) : Type 0 where
-  pub k : seen.k ≡ held_if (nat_le (counted_after q) (done_of failed n)) (selection_seen q slots).k
-  pub plan : seen.plan ≡ held_if (nat_le (counted_after q) (done_of failed n)) (selection_seen q slots).plan
+pub record HoldsSeen (q : Selection) (slots : Slots) (failed : Bool) (n : ℕ)
+    (seen : Seen) : Type 0 where
+  pub k : seen.k
+      ≡ held_if (nat_le (counted_after q) (done_of failed n)) (selection_seen q slots).k
+  pub plan : seen.plan
+      ≡ held_if (nat_le (counted_after q) (done_of failed n)) (selection_seen q slots).plan
   pub second : seen.then
-      ≡ held_if (nat_le (walked_after q (selection_seen q slots)) (done_of failed n)) (selection_seen q slots).then
+      ≡ held_if (nat_le (walked_after q (selection_seen q slots)) (done_of failed n))
+      (selection_seen q slots).then
 
 -- ---- what a selection asks
 -- how many accesses of a padded result room is kept for before its rows are counted: all, and of another none
@@ -222,7 +229,8 @@ from g region = g ≤ region
 
 -- want of memory comes at a make, just before that of a result that isn't padded, or once it has counted, nothing is left
 -- to be written, and the emitter gave up, which is this
-pub record LacksMemoryIn (q : Selection) (seen : Seen) (old new : World) (Halts : Type 0) : Type 0 where
+pub record LacksMemoryIn (q : Selection) (seen : Seen) (old new : World)
+    (Halts : Type 0) : Type 0 where
   pub done : List Access
   pub rest : List Access
   pub split : done ++ rest ≡ selection_script q seen old.vault.next
@@ -232,9 +240,11 @@ pub record LacksMemoryIn (q : Selection) (seen : Seen) (old new : World) (Halts 
       ⊎ (HasCounted q.public seen × IsTrue (list_all is_reading rest) × Halts)
 
 -- rows were emitted, or nothing of what was refused
-abbrev pub EmitsSelected : {E : Type 0} → (grew : E → E → List Event → Type 0) → Selection → Selected → (old new : World) → (out_old out_new : E) → Type 0
+abbrev pub EmitsSelected : {E : Type 0} → (grew : E → E → List Event → Type 0) → Selection
+    → Selected → (old new : World) → (out_old out_new : E) → Type 0
 EmitsSelected grew q (Rows k) old new out_old out_new =
-    IsEmitted grew (header q.flat.schema q.cols) (λ (s : SelectsToEnd q old new). shown_rows q s.slots) 0 k out_old out_new
+    IsEmitted grew (header q.flat.schema q.cols)
+    (λ (s : SelectsToEnd q old new). shown_rows q s.slots) 0 k out_old out_new
 EmitsSelected grew q (Refused r) old new out_old out_new = out_new ≡ out_old
 
 -- blocks of this many rows or dummies are good in every region
@@ -262,7 +272,8 @@ pub record SelectsFrom {E : Type 0} (grew cut : E → E → List Event → Type 
   pub holds : MayHold q seen.k seen.plan seen.then
   pub ended : IfOk result (λ answer. EndsSelected q answer seen)
   pub reached : OnErr result (Reaches q seen (length new.store.asked - length old.store.asked))
-  pub memory : result ≡ Err NoMemory → LacksMemoryIn q seen old new (HasHalted (Leads grew cut) out_old out_new)
+  pub memory : result ≡ Err NoMemory
+      → LacksMemoryIn q seen old new (HasHalted (Leads grew cut) out_old out_new)
   pub emitted : IfOk result (λ answer. EmitsSelected grew q answer old new out_old out_new)
   pub halted : IfErr result (λ e. EmitsUntil grew cut e (header q.flat.schema q.cols)
       (λ (s : SelectsToHalt q old new). answer_events q s.slots) out_old out_new)
@@ -274,4 +285,5 @@ pub record SelectsFrom {E : Type 0} (grew cut : E → E → List Event → Type 
       HoldsSeen q s.slots (is_of_access e) (length new.store.asked - length old.store.asked) seen)
   -- the first changed block that is read is one that is read of these slots
   pub begun : (s : SelectsToEnd q old old) (lie : Lie) → new.store.lie ≡ Some lie
-      → ReadsIn lie (old.store.asked ++ selection_script q (selection_seen q s.slots) old.vault.next)
+      → ReadsIn lie
+      (old.store.asked ++ selection_script q (selection_seen q s.slots) old.vault.next)

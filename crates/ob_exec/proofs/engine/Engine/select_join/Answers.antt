@@ -1,6 +1,5 @@
-use Rattle.std.proofs.Common.{◌++◌, ℕ, false, List, length, Ok, Err, refl, sym, ◌∙◌, ap, subst, arith}
+use Rattle.std.proofs.Common.{◌++◌, ℕ, List, length, Ok, Err, refl, sym, ◌∙◌, ap, subst, arith}
 use Rattle.std.specs.Prelude.{not}
-use Rattle.std.specs.Result.{is_err}
 use Rattle.std.specs.List.{list_any}
 use Rattle.ob_base.specs.declared.skeleton.Source.{Source}
 use Rattle.ob_base.specs.Stored.{has_table, headings_of}
@@ -36,79 +35,55 @@ table_at-right-requires g c =
 
 pub returns-in_default-where_at-clause-selects : goal.returns-in_default-where_at-clause-selects
 returns-in_default-where_at-clause-selects g c =
-    let state = g.R.Revisions.state in
-    let old = c.args.self.now in
-    let s = g.S.BlockStore.state c.args.store.now in
-    let y = join_of state old s c.args.select.now c.requires.agrees c.requires.allowed c.in-Join.is c.table_at-left.ensures c.table_at-right.ensures in
+    let y = join_of c.args.select.now c.requires.agrees c.requires.allowed c.in-Join.is c.table_at-left.ensures c.table_at-right.ensures in
     record {
       ended = tt;
-      halted = halts_first g.E.Emit.grew g.E.Emit.cut old.public c.args.select.now c.args.seen.now _ s s c.args.out.now c.requires.agrees.ready (rests_refl s) c.requires.fresh (join_some y);
+      halted = halts_first g.E.Emit.grew g.E.Emit.cut c.args.self.now.public c.args.select.now c.args.seen.now _ (g.S.BlockStore.state c.args.store.now) _ c.args.out.now c.requires.agrees.ready (rests_refl _) c.requires.fresh (join_some y);
       sink = refl;
     }
 
 pub returns-in_default-new-clause-selects : goal.returns-in_default-new-clause-selects
 returns-in_default-new-clause-selects g c =
-    let state = g.R.Revisions.state in
-    let old = c.args.self.now in
-    let s = g.S.BlockStore.state c.args.store.now in
-    let y = join_of state old s c.args.select.now c.requires.agrees c.requires.allowed c.in-Join.is c.table_at-left.ensures c.table_at-right.ensures in
+    let y = join_of c.args.select.now c.requires.agrees c.requires.allowed c.in-Join.is c.table_at-left.ensures c.table_at-right.ensures in
     record {
       ended = tt;
-      halted = halts_first g.E.Emit.grew g.E.Emit.cut old.public c.args.select.now c.args.seen.now _ s s c.args.out.now c.requires.agrees.ready (rests_refl s) c.requires.fresh (join_some y);
+      halted = halts_first g.E.Emit.grew g.E.Emit.cut c.args.self.now.public c.args.select.now c.args.seen.now _ (g.S.BlockStore.state c.args.store.now) _ c.args.out.now c.requires.agrees.ready (rests_refl _) c.requires.fresh (join_some y);
       sink = refl;
     }
 
 pub returns-then-is_err-clause-selects : goal.returns-then-is_err-clause-selects
 returns-then-is_err-clause-selects g c =
-    let state = g.R.Revisions.state in
-    let old = c.args.self.now in
-    let s = g.S.BlockStore.state c.args.store.now in
-    let y = join_of state old s c.args.select.now c.requires.agrees c.requires.allowed c.in-Join.is c.table_at-left.ensures c.table_at-right.ensures in
+    let y = join_of c.args.select.now c.requires.agrees c.requires.allowed c.in-Join.is c.table_at-left.ensures c.table_at-right.ensures in
     record {
       ended = tt;
-      halted = halts_first g.E.Emit.grew g.E.Emit.cut old.public c.args.select.now c.args.seen.now _ s _ c.args.out.now c.requires.agrees.ready c.room.ensures.rests c.requires.fresh (join_some y);
+      halted = halts_first g.E.Emit.grew g.E.Emit.cut c.args.self.now.public c.args.select.now c.args.seen.now _ (g.S.BlockStore.state c.args.store.now) _ c.args.out.now c.requires.agrees.ready c.room.ensures.rests c.requires.fresh (join_some y);
       sink = refl;
     }
 
 pub joined_slots-requires-clause-few : goal.joined_slots-requires-clause-few
 joined_slots-requires-clause-few g c =
-    let state = g.R.Revisions.state in
-    let old = c.args.self.now in
-    let s = g.S.BlockStore.state c.args.store.now in
-    let y = join_of state old s c.args.select.now c.requires.agrees c.requires.allowed c.in-Join.is c.table_at-left.ensures c.table_at-right.ensures in
+    let y = join_of c.args.select.now c.requires.agrees c.requires.allowed c.in-Join.is c.table_at-left.ensures c.table_at-right.ensures in
     slots_few y
 
 pub padded_length-padded-requires-clause-size : goal.padded_length-padded-requires-clause-size
 padded_length-padded-requires-clause-size g c =
-    let state = g.R.Revisions.state in
-    let old = c.args.self.now in
-    let s = g.S.BlockStore.state c.args.store.now in
-    let y = join_of state old s c.args.select.now c.requires.agrees c.requires.allowed c.in-Join.is c.table_at-left.ensures c.table_at-right.ensures in
+    let y = join_of c.args.select.now c.requires.agrees c.requires.allowed c.in-Join.is c.table_at-left.ensures c.table_at-right.ensures in
     omega (arith, c.joined_slots.ensures, slots_few y)
 
 pub overflow_add-accesses : goal.overflow_add-accesses
 overflow_add-accesses g c =
-    let state = g.R.Revisions.state in
-    let old = c.args.self.now in
-    let s = g.S.BlockStore.state c.args.store.now in
-    let y = join_of state old s c.args.select.now c.requires.agrees c.requires.allowed c.in-Join.is c.table_at-left.ensures c.table_at-right.ensures in
+    let y = join_of c.args.select.now c.requires.agrees c.requires.allowed c.in-Join.is c.table_at-left.ensures c.table_at-right.ensures in
     omega (arith, asks_few y c.join_accesses-accesses.result c.join_accesses-accesses.ensures, c.padded_length-padded.ensures.few)
 
 pub join-requires-clause-starts : goal.join-requires-clause-starts
 join-requires-clause-starts g c =
-    let state = g.R.Revisions.state in
-    let old = c.args.self.now in
-    let s = g.S.BlockStore.state c.args.store.now in
-    let y = join_of state old s c.args.select.now c.requires.agrees c.requires.allowed c.in-Join.is c.table_at-left.ensures c.table_at-right.ensures in
+    let y = join_of c.args.select.now c.requires.agrees c.requires.allowed c.in-Join.is c.table_at-left.ensures c.table_at-right.ensures in
     let spare = at_ok c.room.result _ (sym c.is_err.ensures.value ∙ c.if-is_err.false) c.room.ensures.spare in
     join_starts y _ c.left_place-lcol.result c.right_place-rcol.result c.join_accesses-accesses.result c.padded_length-padded.result c.room.ensures.rests c.join_accesses-accesses.ensures spare
 
 pub join-requires-clause-tables : goal.join-requires-clause-tables
 join-requires-clause-tables g c =
-    let state = g.R.Revisions.state in
-    let old = c.args.self.now in
-    let s = g.S.BlockStore.state c.args.store.now in
-    let y = join_of state old s c.args.select.now c.requires.agrees c.requires.allowed c.in-Join.is c.table_at-left.ensures c.table_at-right.ensures in
+    let y = join_of c.args.select.now c.requires.agrees c.requires.allowed c.in-Join.is c.table_at-left.ensures c.table_at-right.ensures in
     let columns = c.as_slice-columns.ensures.value in
     let others = c.as_slice-others.ensures.value in
     let lcol_is = c.left_place-lcol.ensures.value ∙ (λ k. left_place (length (columns k)) (columns k ++ others k) c.in-Join.on c.in-Join.equals) in
@@ -117,38 +92,29 @@ join-requires-clause-tables g c =
 
 pub join-requires-clause-room : goal.join-requires-clause-room
 join-requires-clause-room g c =
-    let state = g.R.Revisions.state in
-    let old = c.args.self.now in
-    let s = g.S.BlockStore.state c.args.store.now in
-    let y = join_of state old s c.args.select.now c.requires.agrees c.requires.allowed c.in-Join.is c.table_at-left.ensures c.table_at-right.ensures in
+    let y = join_of c.args.select.now c.requires.agrees c.requires.allowed c.in-Join.is c.table_at-left.ensures c.table_at-right.ensures in
     join_idle y
 
 pub returns-in-Err-clause-selects : goal.returns-in-Err-clause-selects
 returns-in-Err-clause-selects g c =
-    let state = g.R.Revisions.state in
-    let old = c.args.self.now in
-    let s = g.S.BlockStore.state c.args.store.now in
-    let y = join_of state old s c.args.select.now c.requires.agrees c.requires.allowed c.in-Join.is c.table_at-left.ensures c.table_at-right.ensures in
+    let y = join_of c.args.select.now c.requires.agrees c.requires.allowed c.in-Join.is c.table_at-left.ensures c.table_at-right.ensures in
     let columns = c.as_slice-columns.ensures.value in
     let others = c.as_slice-others.ensures.value in
     let lcol_is = c.left_place-lcol.ensures.value ∙ (λ k. left_place (length (columns k)) (columns k ++ others k) c.in-Join.on c.in-Join.equals) in
     let rcol_is = c.right_place-rcol.ensures.value ∙ (λ k. right_place (length (columns k)) (columns k ++ others k) c.in-Join.on c.in-Join.equals) in
-    let after = at state c.join.new.vault (g.S.BlockStore.state c.join.new.store) in
+    let after = at g.R.Revisions.state c.join.new.vault (g.S.BlockStore.state c.join.new.store) in
     let z : IsPaired y c.left_place-lcol.result c.right_place-rcol.result (g.S.BlockStore.state c.room.new.self) (Err c.in-Err.error) after =
     record { lcol_is = lcol_is; rcol_is = rcol_is; rests = c.room.ensures.rests; paired = c.in-Err.ensures.joins; told = c.in-Err.ensures.told } in
     join_stops y z g.E.Emit.grew g.E.Emit.cut g.E.Emit.faults c.args.seen.now c.args.out.now c.requires.fresh
 
 pub select_from-requires-clause-may : goal.select_from-requires-clause-may
 select_from-requires-clause-may g c =
-    let state = g.R.Revisions.state in
-    let old = c.args.self.now in
-    let s = g.S.BlockStore.state c.args.store.now in
-    let y = join_of state old s c.args.select.now c.requires.agrees c.requires.allowed c.in-Join.is c.table_at-left.ensures c.table_at-right.ensures in
+    let y = join_of c.args.select.now c.requires.agrees c.requires.allowed c.in-Join.is c.table_at-left.ensures c.table_at-right.ensures in
     let columns = c.as_slice-columns.ensures.value in
     let others = c.as_slice-others.ensures.value in
     let lcol_is = c.left_place-lcol.ensures.value ∙ (λ k. left_place (length (columns k)) (columns k ++ others k) c.in-Join.on c.in-Join.equals) in
     let rcol_is = c.right_place-rcol.ensures.value ∙ (λ k. right_place (length (columns k)) (columns k ++ others k) c.in-Join.on c.in-Join.equals) in
-    let after = at state c.join.new.vault (g.S.BlockStore.state c.join.new.store) in
+    let after = at g.R.Revisions.state c.join.new.vault (g.S.BlockStore.state c.join.new.store) in
     let z : IsPaired y c.left_place-lcol.result c.right_place-rcol.result (g.S.BlockStore.state c.room.new.self) (Ok c.in-Ok-join.joined) after =
     record { lcol_is = lcol_is; rcol_is = rcol_is; rests = c.room.ensures.rests; paired = c.in-Ok-join.ensures.joins; told = c.in-Ok-join.ensures.told } in
     let is = join_query y c.left_place-lcol.result c.right_place-rcol.result c.in-Ok-join.joined c.in-Ok.pred c.as_slice.result.now c.as_slice-columns.result.now c.as_slice-others.result.now z.paired.makes.value
@@ -168,23 +134,20 @@ returns-in-Ok-select_from-clause-room g c = room_twice c.args.self.now.room c.jo
 
 pub returns-in-Ok-select_from-clause-selects : goal.returns-in-Ok-select_from-clause-selects
 returns-in-Ok-select_from-clause-selects g c =
-    let state = g.R.Revisions.state in
-    let old = c.args.self.now in
-    let s = g.S.BlockStore.state c.args.store.now in
-    let y = join_of state old s c.args.select.now c.requires.agrees c.requires.allowed c.in-Join.is c.table_at-left.ensures c.table_at-right.ensures in
+    let y = join_of c.args.select.now c.requires.agrees c.requires.allowed c.in-Join.is c.table_at-left.ensures c.table_at-right.ensures in
     let columns = c.as_slice-columns.ensures.value in
     let others = c.as_slice-others.ensures.value in
     let lcol_is = c.left_place-lcol.ensures.value ∙ (λ k. left_place (length (columns k)) (columns k ++ others k) c.in-Join.on c.in-Join.equals) in
     let rcol_is = c.right_place-rcol.ensures.value ∙ (λ k. right_place (length (columns k)) (columns k ++ others k) c.in-Join.on c.in-Join.equals) in
-    let after = at state c.join.new.vault (g.S.BlockStore.state c.join.new.store) in
+    let after = at g.R.Revisions.state c.join.new.vault (g.S.BlockStore.state c.join.new.store) in
     let z : IsPaired y c.left_place-lcol.result c.right_place-rcol.result (g.S.BlockStore.state c.room.new.self) (Ok c.in-Ok-join.joined) after =
     record { lcol_is = lcol_is; rcol_is = rcol_is; rests = c.room.ensures.rests; paired = c.in-Ok-join.ensures.joins; told = c.in-Ok-join.ensures.told } in
     let is = join_query y c.left_place-lcol.result c.right_place-rcol.result c.in-Ok-join.joined c.in-Ok.pred c.as_slice.result.now c.as_slice-columns.result.now c.as_slice-others.result.now z.paired.makes.value
     columns others c.in-Ok.ensures (c.as_slice.ensures.value ∙ c.printed_places-cols.ensures) in
-    let end = at state c.select_from.new.vault (g.S.BlockStore.state c.select_from.new.store) in
+    let end = at g.R.Revisions.state c.select_from.new.vault (g.S.BlockStore.state c.select_from.new.store) in
     let now = c.select_from.new.seen in
     let selects = subst (λ (x : Selection). SelectsFrom g.E.Emit.grew g.E.Emit.cut g.E.Emit.faults x (Ok c.in-Ok-select_from.selected) now after end c.args.out.now c.select_from.new.out) is c.in-Ok-select_from.ensures.selects in
-    let last = at state c.discard.new.vault (g.S.BlockStore.state c.discard.new.store) in
+    let last = at g.R.Revisions.state c.discard.new.vault (g.S.BlockStore.state c.discard.new.store) in
     record {
       ended = join_ends z g.E.Emit.grew g.E.Emit.cut g.E.Emit.faults now c.args.out.now c.select_from.new.out end last c.in-Ok-select_from.selected c.discard.result selects c.discard.ensures.discards;
       halted = tt;
@@ -196,23 +159,20 @@ returns-clause-room g c = room_twice c.args.self.now.room c.join.new.room c.sele
 
 pub returns-clause-selects : goal.returns-clause-selects
 returns-clause-selects g c =
-    let state = g.R.Revisions.state in
-    let old = c.args.self.now in
-    let s = g.S.BlockStore.state c.args.store.now in
-    let y = join_of state old s c.args.select.now c.requires.agrees c.requires.allowed c.in-Join.is c.table_at-left.ensures c.table_at-right.ensures in
+    let y = join_of c.args.select.now c.requires.agrees c.requires.allowed c.in-Join.is c.table_at-left.ensures c.table_at-right.ensures in
     let columns = c.as_slice-columns.ensures.value in
     let others = c.as_slice-others.ensures.value in
     let lcol_is = c.left_place-lcol.ensures.value ∙ (λ k. left_place (length (columns k)) (columns k ++ others k) c.in-Join.on c.in-Join.equals) in
     let rcol_is = c.right_place-rcol.ensures.value ∙ (λ k. right_place (length (columns k)) (columns k ++ others k) c.in-Join.on c.in-Join.equals) in
-    let after = at state c.join.new.vault (g.S.BlockStore.state c.join.new.store) in
+    let after = at g.R.Revisions.state c.join.new.vault (g.S.BlockStore.state c.join.new.store) in
     let z : IsPaired y c.left_place-lcol.result c.right_place-rcol.result (g.S.BlockStore.state c.room.new.self) (Ok c.in-Ok-join.joined) after =
     record { lcol_is = lcol_is; rcol_is = rcol_is; rests = c.room.ensures.rests; paired = c.in-Ok-join.ensures.joins; told = c.in-Ok-join.ensures.told } in
     let is = join_query y c.left_place-lcol.result c.right_place-rcol.result c.in-Ok-join.joined c.in-Ok.pred c.as_slice.result.now c.as_slice-columns.result.now c.as_slice-others.result.now z.paired.makes.value
     columns others c.in-Ok.ensures (c.as_slice.ensures.value ∙ c.printed_places-cols.ensures) in
-    let end = at state c.select_from.new.vault (g.S.BlockStore.state c.select_from.new.store) in
+    let end = at g.R.Revisions.state c.select_from.new.vault (g.S.BlockStore.state c.select_from.new.store) in
     let now = c.select_from.new.seen in
     let selects = subst (λ (x : Selection). SelectsFrom g.E.Emit.grew g.E.Emit.cut g.E.Emit.faults x (Err c.in-Err-select_from.error) now after end c.args.out.now c.select_from.new.out) is c.in-Err-select_from.ensures.selects in
-    let last = at state c.forget.new.self (g.S.BlockStore.state c.select_from.new.store) in
+    let last = at g.R.Revisions.state c.forget.new.self (g.S.BlockStore.state c.select_from.new.store) in
     record {
       ended = tt;
       halted = join_halts z g.E.Emit.grew g.E.Emit.cut g.E.Emit.faults now c.args.out.now c.select_from.new.out end last c.in-Err-select_from.error selects (c.forget.ensures.forgets (g.S.BlockStore.state c.select_from.new.store)) refl;
