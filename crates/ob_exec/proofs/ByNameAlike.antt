@@ -9,7 +9,6 @@ use Rattle.ob_base.specs.Lists.{has_repeats}
 use Rattle.ob_base.specs.Stored.{AreApart, Stored, headings, headings_of, stored_at}
 use Rattle.ob_mean.specs.Verdict.{Held, Tables}
 use Rattle.ob_mean.proofs.EarlyLemmas.{neither}
-use Rattle.ob_row.specs.Slots.{Slots}
 use Rattle.ob_exec.specs.Resting.{by_name, is_before, placed}
 use Rattle.ob_exec.proofs.TableLemmas.{AreNamed}
 use Rattle.ob_verdict.proofs.AlikeTables.{any_found, names_of}

@@ -13,7 +13,6 @@ use Rattle.ob_flat.proofs.Tables.{represents_lasts}
 use Rattle.ob_mean.specs.Verdict.{Tables}
 use Rattle.ob_mean.proofs.EarlyLemmas.{neither}
 use Rattle.ob_seal.specs.KeySet.{KeySet}
-use Rattle.ob_seal.specs.Sealed.{sealed}
 use Rattle.ob_store.specs.State.{Shape, StoreState}
 use Rattle.ob_store.specs.Calls.{KeepsLive, Rests as OnlyRoom}
 use Rattle.ob_store.specs.Runs.{Began, Did, Later}

@@ -1,5 +1,5 @@
 -- CREATE TABLE, after its pass.
-use Rattle.std.proofs.lemmas.Bool.{le-leb}
+use Rattle.std.proofs.lemmas.Bool.{le-leb, not-false}
 use Rattle.std.proofs.lemmas.Bool.Decides.{nat_tests}
 use Rattle.std.proofs.lemmas.List.{length-map}
 use Rattle.std.proofs.lemmas.List.Elements.{All-map, All-head, All-tail}
@@ -94,10 +94,6 @@ kind_within (NewVarchar n) sized = sized
 column_within : (table : List ℕ) (c : NewColumn) → length c.name ≤ 32 → is_size c.kind ≡ true → is_column (new_column table c) ≡ true
 column_within table c short sized = ap (λ (b : Bool). b && is_kind (kind_of c.kind)) (le-leb (length c.name) 32 short) ∙ kind_within c.kind sized
 
-passes : (b : Bool) → not b ≡ false → b ≡ true
-passes true is = refl
-passes false is = absurd (cc is)
-
 abbrev pub IsShort : NewColumn → Type 0
 IsShort c = length c.name ≤ 32
 
@@ -106,7 +102,7 @@ columns_within : (table : List ℕ) (columns : List NewColumn) → All IsShort c
 columns_within table [] short sizes = refl
 columns_within table (c ∷ cs) short sizes =
     let both = neither (not (is_size c.kind)) (list_any (λ (d : NewColumn). not (is_size d.kind)) cs) sizes in
-    ap (λ (b : Bool). b && list_all is_column (columns_of table cs)) (column_within table c (All-head IsShort c cs short) (passes (is_size c.kind) both.0))
+    ap (λ (b : Bool). b && list_all is_column (columns_of table cs)) (column_within table c (All-head IsShort c cs short) (not-false (is_size c.kind) both.0))
     ∙ columns_within table cs (All-tail IsShort c cs short) both.1
 
 -- at most one of them is the primary key

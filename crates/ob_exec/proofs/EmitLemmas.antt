@@ -1,12 +1,17 @@
--- The rows that are selected, and reads of blocks that were changed.
-use Rattle.std.proofs.Common.{◌≡◌, ℕ, suc, [], ◌∷◌, length, Option, Some, None, refl, ap}
+-- The rows that are selected and emitted, and reads of blocks that were changed.
+use Rattle.std.proofs.Common.{◌≡◌, ℕ, suc, IsTrue, List, [], ◌∷◌, length, Option, Some, None, refl, ap, sym, subst}
+use Rattle.std.specs.List.{list_all}
+use Rattle.ob_base.specs.declared.shown.Shown.{Shown}
+use Rattle.ob_base.specs.Events.{row_events}
 use Rattle.ob_base.specs.Lists.{places_from}
 use Rattle.ob_row.specs.Condition.{All}
 use Rattle.ob_row.specs.Slots.{Slots, rows, is_selected, selected}
 use Rattle.ob_row.specs.Truth.{is_true}
 use Rattle.ob_store.specs.State.{Lie}
 use Rattle.ob_vault.specs.State.{World}
-use Rattle.ob_vault.specs.Tied.{Calm, IsUnfit}
+use Rattle.ob_vault.specs.Tied.{Calm, IsUnfit, Fits}
+use Rattle.ob_exec.specs.Running.{is_row}
+use Rattle.ob_vault.specs.Calls.{Lasts}
 
 -- ---- a count
 -- the selected places, where every row is selected
@@ -18,6 +23,11 @@ places_all n (Some row ∷ slots) = ap suc (places_all (suc n) slots)
 pub selected_all : (slots : Slots) → length (selected (is_true All) slots) ≡ length (rows slots)
 selected_all slots = places_all 0 slots
 
+-- the events of rows
+pub are_rows : (shown : List (List Shown)) → IsTrue (list_all is_row (row_events shown))
+are_rows [] = refl
+are_rows (x ∷ xs) = are_rows xs
+
 -- a block that was changed and doesn't fit was not read
 pub unfit_none : (w : World) → Calm w → IsUnfit w → w.store.lie ≡ None
 unfit_none w calm unfit = go w.store.lie refl
@@ -25,3 +35,12 @@ unfit_none w calm unfit = go w.store.lie refl
     go : (o : Option Lie) → w.store.lie ≡ o → w.store.lie ≡ None
     go None is = is
     go (Some lie) is = absurd (unfit.unfit lie is (calm.calm lie is))
+
+-- no changed block was read, where none that fits was, and none that doesn't was later
+pub lie_none : (some : ℕ → Type 0) (a b : World) → Lasts some a b → Calm a → IsUnfit b → a.store.lie ≡ None
+lie_none some a b lasts calm unfit = go a.store.lie refl
+  where
+    go : (o : Option Lie) → a.store.lie ≡ o → a.store.lie ≡ None
+    go None is = is
+    go (Some lie) is =
+        absurd (unfit.unfit lie (lasts.later.lie lie is) (subst (λ k. Fits k b.vault.start lie) (sym lasts.keys) (subst (λ x. Fits a.vault.keys x lie) (sym lasts.start) (calm.calm lie is))))

@@ -15,14 +15,14 @@ use Rattle.ob_vault.specs.Tied.{Ready}
 use Rattle.ob_vault.proofs.WorldSteps.{next_none}
 use Rattle.ob_exec.specs.Agreeing.{Agrees, world_of}
 use Rattle.ob_exec.specs.Engines.{others_of}
-use Rattle.ob_exec.specs.Running.{Ran}
+use Rattle.ob_exec.specs.Running.{RanStatement}
 use Rattle.ob_exec.specs.declared.engine.Engine.{Engine}
 use Rattle.ob_exec.specs.declared.outcome.Outcome.TheVariants.{Refused}
 use Rattle.ob_exec.proofs.TableLemmas.{beside_below, region_below}
 
 -- behind a statement that the store cut off it has the regions that it had before, at most
 pub none_left : {R : Type 0} (state : R → RevState) (skeleton : Skeleton) (old : Engine R) (s : StoreState) (new : Engine R) (t : StoreState) → Agrees state old s
-    → Ran state skeleton (Ok (Refused Refusal.StoreFault)) old s new t → HasNoneFrom old.public.next_region (state new.vault.revs)
+    → RanStatement state skeleton (Ok (Refused Refusal.StoreFault)) old s new t → HasNoneFrom old.public.next_region (state new.vault.revs)
 none_left state skeleton old s new t agrees ran q least =
     let tables : new.public.tables ≡ old.public.tables = ap (λ (p : Public). p.tables) ran.goes_on.public ∙ ap (λ (e : End). tables_then old.public skeleton e) ran.ends in
     let next = agrees.next in

@@ -23,7 +23,8 @@ use Rattle.ob_reopen.specs.Closings.{IsClosing, row_of}
 use Rattle.ob_reopen.specs.Openings.{IsReopened}
 use Rattle.ob_exec.specs.Engines.{flat_of}
 use Rattle.ob_exec.specs.Resting.{AcceptsClosings, AreKept, KeepsTable, kept_block}
-use Rattle.ob_exec.specs.Telling.{AcceptsRows, AreHeld}
+use Rattle.ob_select.specs.Selecting.{AcceptsRows}
+use Rattle.ob_exec.specs.Telling.{AreHeld}
 
 -- ---- the tables
 -- the slots of a table that is open again are those that were kept

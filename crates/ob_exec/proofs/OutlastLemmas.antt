@@ -1,5 +1,5 @@
 -- What rests in a store stays while the regions that it is read from do.
-use Rattle.std.proofs.Common.{◌≡◌, ◌∷◌, [], ℕ, zero, suc, List, Option, Some, inl, inr, refl, ◌∙◌}
+use Rattle.std.proofs.Common.{◌≡◌, ◌∷◌, [], ℕ, suc, List, Option, Some, inl, inr, refl, ◌∙◌}
 use Rattle.std.specs.Prelude.{slice_get}
 use Rattle.ob_exec.specs.Resting.{AreKept, IsNeeded, KeepsTable, Rests}
 use Rattle.ob_mean.specs.Verdict.{Tables}

@@ -1,5 +1,5 @@
 -- A statement that reads a table and changes none.
-use Rattle.std.proofs.Common.{◌≡◌, ◌-◌, ℕ, false, List, [], length, Some, None, Option, Ok, refl, sym, ◌∙◌, ap, subst, arith, slice_get}
+use Rattle.std.proofs.Common.{◌≡◌, ◌-◌, ℕ, false, List, [], length, Some, Option, Ok, refl, sym, ◌∙◌, ap, subst, arith, slice_get}
 use Rattle.std.specs.Option.{option_map_or}
 use Rattle.ob_base.specs.declared.access.Access.{Access}
 use Rattle.ob_base.specs.declared.schema.Table.{Table}
@@ -11,12 +11,11 @@ use Rattle.ob_base.specs.declared.skeleton.Skeleton.TheVariants.{Groups}
 use Rattle.ob_base.specs.Numbers.{blocks_for}
 use Rattle.ob_base.specs.Stored.{Stored}
 use Rattle.ob_room.specs.RoomState.{RoomState}
-use Rattle.ob_store.specs.State.{Lie, StoreState}
+use Rattle.ob_store.specs.State.{StoreState}
 use Rattle.ob_store.specs.Calls.{Rests}
 use Rattle.ob_script.specs.Parts.{count_part}
 use Rattle.ob_script.specs.Script.{whole_script, blocks_of, extent_of}
 use Rattle.ob_vault.specs.State.{RevState, World}
-use Rattle.ob_vault.specs.Tied.{Calm, Fits, IsUnfit}
 use Rattle.ob_vault.specs.Calls.{Lasts, Went, none}
 use Rattle.ob_vault.specs.Places.{at}
 use Rattle.ob_vault.specs.declared.vault.Vault.{Vault}
@@ -31,23 +30,16 @@ use Rattle.ob_mean.specs.Verdict.{Tables, ended as seen_to}
 use Rattle.ob_exec.specs.declared.engine.Engine.{Engine}
 use Rattle.ob_exec.specs.declared.outcome.Outcome.{Outcome}
 use Rattle.ob_exec.specs.Agreeing.{Agrees, world_of}
-use Rattle.ob_exec.specs.Engines.{IsAt, IsFree, AreTables, flat_of, others_of, indexes_of}
+use Rattle.ob_exec.specs.Engines.{IsAt, AreTables, flat_of, others_of, indexes_of}
+use Rattle.ob_select.specs.Settings.{IsFree}
 use Rattle.ob_exec.specs.Opening.{Opens}
-use Rattle.ob_exec.specs.Running.{answer_of, is_stop, Ran}
-use Rattle.ob_exec.specs.Selecting.{UsesRoom}
+use Rattle.ob_exec.specs.Running.{answer_of, is_stop, RanStatement}
+use Rattle.ob_select.specs.Selecting.{UsesRoom}
 use Rattle.ob_exec.specs.Telling.{AreHeld}
 use Rattle.ob_exec.proofs.HeldLemmas.{held_kept}
-use Rattle.ob_exec.proofs.RunLemmas.{IsAnswered, engine_after, free_after, ran_stopped, ran_whole}
+use Rattle.ob_exec.proofs.RunLemmas.{IsAnswered, engine_after, ran_stopped, ran_whole}
 use Rattle.ob_exec.proofs.TableLemmas.{flat_kept, tables_kept, stored_found}
-
--- no changed block was read, where none that fits was, and none that doesn't was later
-pub calm_none : (some : ℕ → Type 0) (a b : World) → Lasts some a b → Calm a → IsUnfit b → a.store.lie ≡ None
-calm_none some a b lasts calm unfit = go a.store.lie refl
-  where
-    go : (o : Option Lie) → a.store.lie ≡ o → a.store.lie ≡ None
-    go None is = is
-    go (Some lie) is =
-        absurd (unfit.unfit lie (lasts.later.lie lie is) (subst (λ k. Fits k b.vault.start lie) (sym lasts.keys) (subst (λ x. Fits a.vault.keys x lie) (sym lasts.start) (calm.calm lie is))))
+use Rattle.ob_select.proofs.RoomLemmas.{free_after}
 
 -- ---- its table, once the store has room
 module _ {R : Type 0} (state : R → RevState) (old : Engine R) (s s1 : StoreState) (i : ℕ) (table : Table) (agrees : Agrees state old s) (rests : Rests s s1)
@@ -102,7 +94,7 @@ module _ {R : Type 0} (state : R → RevState) (old : Engine R) (s s1 : StoreSta
   went_all went = went_join none _ _ _ [] reads (went_rests _ s s1 rests none agrees.ready) went
 
   pub read_done : (outcome : Outcome) → IsAnswered outcome → Went reads none (at state old.vault s1) now → old.ended ≡ false
-      → Ran state select (Ok outcome) old s (engine_after old v room old.public.tables Whole old.ended) t
+      → RanStatement state select (Ok outcome) old s (engine_after old v room old.public.tables Whole old.ended) t
   read_done outcome answered went lives =
       let all = went_all went in
       ran_whole state select old s v room t agrees free none old.public.tables reads outcome lives answered (opened reads) all (reads_is Whole) refl (tables_read all.lasts)
@@ -112,7 +104,7 @@ module _ {R : Type 0} (state : R → RevState) (old : Engine R) (s s1 : StoreSta
   cut_after e cut = pass_after none _ _ _ e [] reads (went_rests _ s s1 rests none agrees.ready) cut
 
   pub read_cut : (e : OpErr) (n : ℕ) → PassCut e reads none (at state old.vault s1) now → n ≡ length t.asked - length s.asked
-      → Ran state select (answer_of e) old s (engine_after old v room old.public.tables (Cut n) (is_stop (answer_of e))) t
+      → RanStatement state select (answer_of e) old s (engine_after old v room old.public.tables (Cut n) (is_stop (answer_of e))) t
   read_cut e n cut count =
       let all = cut_after e cut in
       ran_stopped state select old s v room t agrees free none n reads e (opened _) all (reads_is (Cut n)) count (tables_read all.lasts)

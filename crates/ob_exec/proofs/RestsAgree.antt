@@ -1,5 +1,5 @@
 -- What rests under some keys rests under others that are the same for the closing's region and for those of its tables.
-use Rattle.std.proofs.Common.{◌≡◌, ℕ, zero, suc, ◌+◌, ◌<◌, List, [], ◌∷◌, Option, Some, refl, ◌∙◌, ap}
+use Rattle.std.proofs.Common.{◌≡◌, ℕ, suc, ◌+◌, List, [], ◌∷◌, Option, Some, refl, ◌∙◌, ap}
 use Rattle.std.specs.Prelude.{slice_get}
 use Rattle.ob_mean.specs.Verdict.{Tables}
 use Rattle.ob_row.specs.Slots.{Slots}
@@ -9,7 +9,6 @@ use Rattle.ob_store.specs.State.{KeptRegion}
 use Rattle.ob_vault.specs.Tied.{at_of}
 use Rattle.ob_reopen.specs.declared.closing.Closing.{Closing}
 use Rattle.ob_reopen.specs.declared.listed.Listed.{Listed}
-use Rattle.ob_reopen.specs.Closings.{IsClosing}
 use Rattle.ob_reopen.proofs.ReadsRekeyed.{rows_agree}
 use Rattle.ob_exec.specs.Resting.{AreKept, KeepsTable, Rests, kept_block}
 

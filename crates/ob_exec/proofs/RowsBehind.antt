@@ -36,31 +36,24 @@ use Rattle.ob_flat.proofs.Runs.{pass_after, pass_more, pass_then, pass_wider}
 use Rattle.ob_mean.specs.Replay.{count_end, done_of, held_if, walk_end}
 use Rattle.ob_mean.specs.Verdict.{Tables}
 use Rattle.ob_sql.specs.declared.stmt.SelectRows.{SelectRows}
-use Rattle.ob_exec.specs.declared.selecting.Selected.{Selected}
-use Rattle.ob_exec.specs.declared.selecting.Selected.TheVariants.{Rows, Refused}
-use Rattle.ob_exec.specs.Memory.{AtMake, HasCounted, HasHalted, ends_with_make, is_reading, starts_with_make}
-use Rattle.ob_exec.specs.Selecting.{EmitsSelected, HoldsSeen, MayHold, SealsRows, Selection, SelectsFrom, SelectsToEnd, SelectsToHalt, answer_events, counted_after, from, places, region_of, seen_of, selection_script, walked_after}
+use Rattle.ob_select.specs.declared.selecting.Selected.{Selected}
+use Rattle.ob_select.specs.declared.selecting.Selected.TheVariants.{Rows, Refused}
+use Rattle.ob_select.specs.Memory.{AtMake, HasCounted, HasHalted, is_reading}
+use Rattle.ob_select.specs.Selecting.{EmitsSelected, HoldsSeen, MayHold, SealsRows, Selection, SelectsFrom, SelectsToEnd, SelectsToHalt, answer_events, counted_after, from, places, region_of, selection_seen, selection_script, walked_after}
 use Rattle.ob_exec.specs.Sources.{EmitsRows, EndsRows, HaltsRows, HoldsRows, LacksRowMemory, LeavesNone, SourceToEnd, SourceToHalt, rows_script, rows_skeleton, slots_of, stated}
 use Rattle.ob_exec.specs.Telling.{AreHeld}
-use Rattle.ob_exec.proofs.RowsLength.{Seconded, alone, followed, held_empty, rows_seconded}
+use Rattle.ob_select.proofs.SelectHeld.{held_empty}
+use Rattle.ob_exec.proofs.RowsSeconded.{Seconded, alone, followed, rows_seconded}
 use Rattle.ob_exec.proofs.RowsReach.{counted_some}
 use Rattle.ob_exec.proofs.RowsStated.{ends_stated, may_stated}
-use Rattle.ob_exec.proofs.RowsStops.{lie_none}
 use Rattle.ob_exec.proofs.RowsTable.{an_error, emitted_from}
-use Rattle.ob_exec.proofs.UntilLemmas.{until_from}
-use Rattle.ob_exec.proofs.BegunLemmas.{lie_before, went_in}
+use Rattle.ob_select.proofs.UntilLemmas.{until_from}
+use Rattle.ob_select.proofs.LieLemmas.{lie_before, went_in}
+use Rattle.ob_exec.proofs.EmitLemmas.{lie_none}
+use Rattle.ob_select.proofs.ResultParts.{starts-more}
+use Rattle.ob_select.proofs.SelectRuns.{ends-more}
 
 -- ---- where want of memory comes
-ends_behind : (x done : List Access) → IsTrue (ends_with_make done) → IsTrue (ends_with_make (x ++ done))
-ends_behind [] done ends = ends
-ends_behind (a ∷ []) [] ends = absurd (cc ends)
-ends_behind (a ∷ []) (b ∷ done) ends = ends
-ends_behind (a ∷ b ∷ x) done ends = ends_behind (b ∷ x) done ends
-
-starts_before : (rest more : List Access) → IsTrue (starts_with_make rest) → IsTrue (starts_with_make (rest ++ more))
-starts_before [] more starts = absurd (cc starts)
-starts_before (a ∷ rest) more starts = starts
-
 reads_too : (rest more : List Access) → IsTrue (list_all is_reading more) → IsTrue (list_all is_reading rest) → IsTrue (list_all is_reading (rest ++ more))
 reads_too [] more last all = last
 reads_too (a ∷ rest) more last all = by_first (is_reading a) all (λ later. reads_too rest more last later)
@@ -71,7 +64,7 @@ reads_too (a ∷ rest) more last all = by_first (is_reading a) all (λ later. re
     by_first false all later = absurd (cc all)
 
 place_behind : (x done : List Access) → (done ≡ [] → ⊥) → AtMake done → AtMake (x ++ done)
-place_behind x done some place = elim place [ inl none ↦ absurd (some none) | inr ends ↦ inr (ends_behind x done ends) ]
+place_behind x done some place = elim place [ inl none ↦ absurd (some none) | inr ends ↦ inr (ends-more x done ends) ]
 
 -- ---- what is held so many accesses later
 shifted : (failed : Bool) (x c n : ℕ) → 1 ≤ c → nat_le (x + c) (done_of failed (x + n)) ≡ nat_le c (done_of failed n)
@@ -130,11 +123,11 @@ module _ (p : Public) (select : SelectRows) (g : ℕ) (x : List Access) (a b : W
   q = stated p select g 1
 
   -- a changed block that was read by the end of the selection
-  reads_by : (c : World) → Later b.store c.store → ((y : SelectsToEnd q b b) (lie : Lie) → c.store.lie ≡ Some lie → ReadsIn lie (b.store.asked ++ selection_script q (seen_of q y.slots) b.vault.next))
-      → (y : SourceToEnd p a a) (lie : Lie) → c.store.lie ≡ Some lie → ReadsIn lie (a.store.asked ++ rows_script p select (seen_of q (slots_of p select y.tables)))
+  reads_by : (c : World) → Later b.store c.store → ((y : SelectsToEnd q b b) (lie : Lie) → c.store.lie ≡ Some lie → ReadsIn lie (b.store.asked ++ selection_script q (selection_seen q y.slots) b.vault.next))
+      → (y : SourceToEnd p a a) (lie : Lie) → c.store.lie ≡ Some lie → ReadsIn lie (a.store.asked ++ rows_script p select (selection_seen q (slots_of p select y.tables)))
   reads_by c later begun y lie told =
       let slots = slots_of p select y.tables in
-      let meant = seen_of q slots in
+      let meant = selection_seen q slots in
       let part = selection_script q meant (g + 1) in
       let last = ending_for p.pad meant.k (discard_at g) in
       let all = ap (λ (l : List Access). a.store.asked ++ l) (sym (script_is meant)) in
@@ -195,16 +188,16 @@ module _ (p : Public) (select : SelectRows) (g : ℕ) (x : List Access) (a b : W
         let parts = length-append b.store.asked is.ran.err.began.done in
         omega (arith, grown, sum, still, more, parts)
 
-    second_holds : (failed : Bool) (slots : Slots) → HoldsSeen q slots failed (length c.store.asked - length b.store.asked) now → Seconded (seen_of q slots)
-        → now.then ≡ held_if (nat_le (walk_end p (rows_skeleton select) (seen_of q slots)) (done_of failed (length x + (length c.store.asked - length b.store.asked)))) (seen_of q slots).then
+    second_holds : (failed : Bool) (slots : Slots) → HoldsSeen q slots failed (length c.store.asked - length b.store.asked) now → Seconded (selection_seen q slots)
+        → now.then ≡ held_if (nat_le (walk_end p (rows_skeleton select) (selection_seen q slots)) (done_of failed (length x + (length c.store.asked - length b.store.asked)))) (selection_seen q slots).then
     second_holds failed slots held (alone empty) = held.second ∙ sym (held_empty _ _ empty) ∙ held_empty _ _ empty
     second_holds failed slots held (followed k plan second end two) =
-        let counted : IsSome (seen_of q slots).k = subst (λ (o : Option ℕ). IsSome o) (sym (ap (λ (y : Seen). y.k) two)) refl in
+        let counted : IsSome (selection_seen q slots).k = subst (λ (o : Option ℕ). IsSome o) (sym (ap (λ (y : Seen). y.k) two)) refl in
         let n = length c.store.asked - length b.store.asked in
-        let late = walks_late p select g k plan second end (seen_of q slots) two in
+        let late = walks_late p select g k plan second end (selection_seen q slots) two in
         held.second
-        ∙ (λ j. held_if (sym (shifted failed (length x) (walked_after q (seen_of q slots)) n (omega (arith, least, late))) j) (seen_of q slots).then)
-        ∙ (λ j. held_if (nat_le (sym (walk_is (seen_of q slots) counted) j) (done_of failed (length x + n))) (seen_of q slots).then)
+        ∙ (λ j. held_if (sym (shifted failed (length x) (walked_after q (selection_seen q slots)) n (omega (arith, least, late))) j) (selection_seen q slots).then)
+        ∙ (λ j. held_if (nat_le (sym (walk_is (selection_seen q slots) counted) j) (done_of failed (length x + n))) (selection_seen q slots).then)
 
     all_holds : (failed : Bool) (slots : Slots) → HoldsSeen q slots failed (length c.store.asked - length b.store.asked) now
         → HoldsRows p select slots failed (length x + (length c.store.asked - length b.store.asked)) now
@@ -212,8 +205,8 @@ module _ (p : Public) (select : SelectRows) (g : ℕ) (x : List Access) (a b : W
         let n = length c.store.asked - length b.store.asked in
         let same_count = sym (shifted failed (length x) (counted_after q) n least) ∙ ap (λ (m : ℕ). nat_le m (done_of failed (length x + n))) (sym count_is) in
         record {
-          k = held.k ∙ ap (λ (b : Bool). held_if b (seen_of q slots).k) same_count;
-          plan = held.plan ∙ ap (λ (b : Bool). held_if b (seen_of q slots).plan) same_count;
+          k = held.k ∙ ap (λ (b : Bool). held_if b (selection_seen q slots).k) same_count;
+          plan = held.plan ∙ ap (λ (b : Bool). held_if b (selection_seen q slots).plan) same_count;
           second = second_holds failed slots held (rows_seconded p (length slots) (places q slots));
         }
 
@@ -233,7 +226,7 @@ module _ (p : Public) (select : SelectRows) (g : ℕ) (x : List Access) (a b : W
           place = elim lacks.place [
             | inl make ↦ inl (place_behind x lacks.done lacks.some make)
             | inr other ↦ inr (elim other [
-              | inl room ↦ inl (room.0, room.1, starts_before lacks.rest last room.2)
+              | inl room ↦ inl (room.0, room.1, starts-more lacks.rest last room.2)
               | inr emits ↦ inr (emits.0, reads_too lacks.rest last (reading_for p.pad now.k g) emits.1, emits.2)
             ])
           ];

@@ -1,5 +1,5 @@
 -- A SELECT of rows that came to its end, or was refused for its rows.
-use Rattle.std.proofs.Common.{◌≡◌, inl, ℕ, Bool, true, false, List, [], ◌∷◌, ◌++◌, Option, Some, None, Ok, refl, sym, ◌∙◌, ap, subst, arith}
+use Rattle.std.proofs.Common.{◌≡◌, inl, ℕ, Bool, true, false, List, [], ◌∷◌, ◌++◌, None, Ok, refl, sym, ◌∙◌, ap, subst, arith}
 use Rattle.std.proofs.lemmas.List.{length-map}
 use Rattle.ob_base.specs.declared.refusal.Refusal.{Refusal}
 use Rattle.ob_base.specs.declared.seen.Seen.{Seen}
@@ -16,13 +16,13 @@ use Rattle.ob_sql.specs.declared.stmt.Stmt.TheVariants.{SelectRows as RowsStmt}
 use Rattle.ob_mean.specs.Prints.{Prints}
 use Rattle.ob_mean.specs.Verdict.{Tables, rows_refusal, verdict}
 use Rattle.ob_exec.specs.declared.engine.Engine.{Engine}
-use Rattle.ob_exec.specs.declared.selecting.Selected.{Selected}
-use Rattle.ob_exec.specs.declared.selecting.Selected.TheVariants.{Rows, Refused}
+use Rattle.ob_select.specs.declared.selecting.Selected.{Selected}
+use Rattle.ob_select.specs.declared.selecting.Selected.TheVariants.{Rows, Refused}
 use Rattle.ob_exec.specs.Agreeing.{Agrees, world_of, count_of}
 use Rattle.ob_exec.specs.Refusals.{by_fault}
 use Rattle.ob_exec.specs.Running.{IsBegunAnswer, is_fault, refusal_now}
-use Rattle.ob_exec.proofs.UntilLemmas.{are_rows}
-use Rattle.ob_exec.specs.Selecting.{answer_events, answer_of, emitted_unless, places, selected_as, shown_rows}
+use Rattle.ob_exec.proofs.EmitLemmas.{are_rows}
+use Rattle.ob_select.specs.Selecting.{answer_events, selection_answer, emitted_unless, places, shown_rows}
 use Rattle.ob_exec.specs.Serving.{Answered, Serves}
 use Rattle.ob_exec.specs.Sources.{EndsRows, IsFew, UsesRoomFor, closing, selected_outcome, selection, slots_of}
 use Rattle.ob_exec.specs.Telling.{Emitted, ReadsTrue, Represents, Told, answer_labels}
@@ -31,18 +31,11 @@ use Rattle.ob_exec.proofs.RowsMeaning.{rows_outcome, rows_prints, rows_seen, row
 use Rattle.ob_exec.proofs.RowsRun.{rows_after, rows_ran}
 use Rattle.ob_exec.proofs.RowsStops.{IsSource, early, early_none, headed, rows_begun, rows_of, still_held, to_end}
 use Rattle.ob_exec.proofs.RunLemmas.{of_other}
+use Rattle.ob_exec.proofs.RowsReach.{as_rows, as_refused}
 
 either_way : (labels : List (List ℕ)) (failed : Bool) → by_fault failed (IsBegunAnswer labels []) (◌≡◌ {A = List Event} [] [])
 either_way labels true = record { rows = []; are_rows = refl; is = inl refl }
 either_way labels false = refl
-
-as_rows : (r : Option Refusal) (n k : ℕ) → Rows k ≡ selected_as r n → r ≡ None
-as_rows None n k is = refl
-as_rows (Some r) n k is = absurd (cc is)
-
-as_refused : (r : Option Refusal) (n : ℕ) (q : Refusal) → Refused q ≡ selected_as r n → r ≡ Some q
-as_refused None n q is = absurd (cc is)
-as_refused (Some r) n q is = let same : r ≡ q = sym (cc is) in ap (λ (x : Refusal). Some x) same
 
 module _ {R : Type 0} (state : R → RevState) (old : Engine R) (s : StoreState) (v : Vault R) (room : RoomState) (t : StoreState) (select : SelectRows)
     (agrees : Agrees state old s) (free : refusal_now old.public (count_of old s) (RowsStmt select) ≡ None) (source : IsSource old.public select)
@@ -58,7 +51,7 @@ module _ {R : Type 0} (state : R → RevState) (old : Engine R) (s : StoreState)
 
   -- all events are those of the meaning
   prints_as : (answer : Selected) (is : EndsWith answer) (tables : Tables) (reads : ReadsTrue state old s t tables) (events : List Event)
-      → events ≡ answer_events (selection old.public select) (slots_of old.public select tables) ++ closing (answer_of (selection old.public select) (slots_of old.public select tables))
+      → events ≡ answer_events (selection old.public select) (slots_of old.public select tables) ++ closing (selection_answer (selection old.public select) (slots_of old.public select tables))
       → Emitted (RowsStmt select) old.public (count_of old s) tables (selected_outcome answer) events
   prints_as answer is tables reads events same =
       of_other _ _ (is_fault (selected_outcome answer)) (ended_well (selection old.public select) answer now is.ended)

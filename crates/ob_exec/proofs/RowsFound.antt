@@ -24,8 +24,8 @@ use Rattle.ob_exec.specs.declared.engine.Engine.{Engine}
 use Rattle.ob_exec.specs.Agreeing.{Agrees, count_of}
 use Rattle.ob_exec.specs.Running.{refusal_now}
 use Rattle.ob_exec.proofs.RowsSource.{AreStored, join_joined, join_same, labels_are, table_same, table_unjoined}
-use Rattle.ob_exec.proofs.RowsTable.{some_buffered}
 use Rattle.ob_exec.proofs.RowsStops.{IsSource}
+use Rattle.ob_select.proofs.ResultParts.{some_buffered}
 
 module _ {R : Type 0} (state : R → RevState) (old : Engine R) (s : StoreState) (select : SelectRows) (agrees : Agrees state old s)
     (free : refusal_now old.public (count_of old s) (RowsStmt select) ≡ None) where

@@ -15,10 +15,10 @@ use Rattle.ob_sql.specs.declared.stmt.SelectRows.{SelectRows}
 use Rattle.ob_sql.specs.declared.stmt.Stmt.{Stmt}
 use Rattle.ob_sql.specs.declared.stmt.Stmt.TheVariants.{SelectRows as RowsStmt}
 use Rattle.ob_mean.specs.Lawful.{Lawful, Holds, EndsUncounted, EndsUnplanned as Unplanned, EndsFrom, CutUpTo}
-use Rattle.ob_exec.specs.declared.selecting.Selected.{Selected}
-use Rattle.ob_exec.specs.declared.selecting.Selected.TheVariants.{Rows, Refused}
+use Rattle.ob_select.specs.declared.selecting.Selected.{Selected}
+use Rattle.ob_select.specs.declared.selecting.Selected.TheVariants.{Rows, Refused}
 use Rattle.ob_exec.specs.Running.{refusal_now, is_fault, outcome_end}
-use Rattle.ob_exec.specs.Selecting.{Selection, MayHold, EndsAs, EndsCounted, EndsPadded}
+use Rattle.ob_select.specs.Selecting.{Selection, MayHold, EndsSelected, EndsCounted, EndsPadded}
 use Rattle.ob_mean.specs.Replay.{ending_len}
 use Rattle.ob_verdict.proofs.LawfulProof.{same_script}
 use Rattle.ob_exec.specs.Sources.{selection, rows_script, rows_skeleton, ReachesRows, selected_outcome}
@@ -31,21 +31,21 @@ whole_rows : (q : Selection) (seen : Seen) → EndsCounted seen ⊎ EndsPadded q
 whole_rows q seen (inl is) = is.end
 whole_rows q seen (inr is) = whole_padded q seen is
 
-pub ended_end : (q : Selection) (answer : Selected) (seen : Seen) (n : ℕ) → EndsAs q answer seen → seen.end ≡ outcome_end (selected_outcome answer) n
+pub ended_end : (q : Selection) (answer : Selected) (seen : Seen) (n : ℕ) → EndsSelected q answer seen → seen.end ≡ outcome_end (selected_outcome answer) n
 ended_end q (Rows k) seen n is = whole_rows q seen is
 ended_end q (Refused PadPassed) seen n is = whole_padded q seen is
 ended_end q (Refused NotConsecutive) seen n is = is.end
 ended_end q (Refused (Overflow i)) seen n is = is.end
 ended_end q (Refused r) seen n is = absurd is
 
-pub ended_whole : (q : Selection) (answer : Selected) (seen : Seen) (all : List Access) → EndsAs q answer seen → until_end seen.end all ≡ all
+pub ended_whole : (q : Selection) (answer : Selected) (seen : Seen) (all : List Access) → EndsSelected q answer seen → until_end seen.end all ≡ all
 ended_whole q (Rows k) seen all is = ap (λ (e : End). until_end e all) (whole_rows q seen is)
 ended_whole q (Refused PadPassed) seen all is = ap (λ (e : End). until_end e all) (whole_padded q seen is)
 ended_whole q (Refused NotConsecutive) seen all is = ap (λ (e : End). until_end e all) is.end
 ended_whole q (Refused (Overflow i)) seen all is = ap (λ (e : End). until_end e all) is.end
 ended_whole q (Refused r) seen all is = absurd is
 
-pub ended_well : (q : Selection) (answer : Selected) (seen : Seen) → EndsAs q answer seen → is_fault (selected_outcome answer) ≡ false
+pub ended_well : (q : Selection) (answer : Selected) (seen : Seen) → EndsSelected q answer seen → is_fault (selected_outcome answer) ≡ false
 ended_well q (Rows k) seen is = refl
 ended_well q (Refused PadPassed) seen is = refl
 ended_well q (Refused NotConsecutive) seen is = refl
@@ -58,14 +58,14 @@ whole_static e is other = cc
 after_static : (e : End) → e ≡ AfterCount → e ≡ Static → ⊥
 after_static e is other = cc
 
-pub ended_late : (q : Selection) (answer : Selected) (seen : Seen) → EndsAs q answer seen → seen.end ≡ Static → ⊥
+pub ended_late : (q : Selection) (answer : Selected) (seen : Seen) → EndsSelected q answer seen → seen.end ≡ Static → ⊥
 ended_late q (Rows k) seen is static = whole_static seen.end (whole_rows q seen is) static
 ended_late q (Refused PadPassed) seen is static = whole_static seen.end (whole_padded q seen is) static
 ended_late q (Refused NotConsecutive) seen is static = after_static seen.end is.end static
 ended_late q (Refused (Overflow i)) seen is static = whole_static seen.end is.end static
 ended_late q (Refused r) seen is static = absurd is
 
-pub ended_uncut : (q : Selection) (answer : Selected) (seen : Seen) (m : ℕ) → EndsAs q answer seen → CutUpTo m seen.end
+pub ended_uncut : (q : Selection) (answer : Selected) (seen : Seen) (m : ℕ) → EndsSelected q answer seen → CutUpTo m seen.end
 ended_uncut q (Rows k) seen m is = subst (λ (e : End). CutUpTo m e) (sym (whole_rows q seen is)) tt
 ended_uncut q (Refused PadPassed) seen m is = subst (λ (e : End). CutUpTo m e) (sym (whole_padded q seen is)) tt
 ended_uncut q (Refused NotConsecutive) seen m is = subst (λ (e : End). CutUpTo m e) (sym is.end) tt
@@ -77,7 +77,7 @@ abbrev pub seen_as : Option ℕ → (plan second : Option Plan) → End → Seen
 seen_as k plan second end = record { k = k; plan = plan; then = second; end = end }
 
 -- without a count where results are padded alone
-pub uncounted : (q : Selection) (answer : Selected) (end : End) → EndsAs q answer (seen_as None None None end) → EndsPadded q (seen_as None None None end)
+pub uncounted : (q : Selection) (answer : Selected) (end : End) → EndsSelected q answer (seen_as None None None end) → EndsPadded q (seen_as None None None end)
 uncounted q (Rows k) end (inl is) = let none : None ≡ Some is.counted = is.count in absurd (cc)
 uncounted q (Rows k) end (inr is) = is
 uncounted q (Refused PadPassed) end is = is
@@ -88,7 +88,7 @@ uncounted q (Refused r) end is = absurd is
 ends_uncounted : (p : Public) (stmt : Stmt) (end : End) → end ≡ Whole → IsSome p.pad → EndsUncounted p stmt end
 ends_uncounted p stmt end is padded = subst (λ (e : End). EndsUncounted p stmt e) (sym is) (inr padded)
 
-planned : (q : Selection) (answer : Selected) (k : ℕ) (plan : Plan) (second : Option Plan) (end : End) → EndsAs q answer (seen_as (Some k) (Some plan) second end) → end ≡ Whole
+planned : (q : Selection) (answer : Selected) (k : ℕ) (plan : Plan) (second : Option Plan) (end : End) → EndsSelected q answer (seen_as (Some k) (Some plan) second end) → end ≡ Whole
 planned q (Rows n) k plan second end is = whole_rows q (seen_as (Some k) (Some plan) second end) is
 planned q (Refused PadPassed) k plan second end is = whole_padded q (seen_as (Some k) (Some plan) second end) is
 planned q (Refused NotConsecutive) k plan second end is = let none : Some plan ≡ None = is.plan in absurd (cc)
@@ -98,7 +98,7 @@ planned q (Refused r) k plan second end is = absurd is
 some_none : (k : ℕ) → Some k ≡ None → ⊥
 some_none k is = cc
 
-unplanned : (q : Selection) (answer : Selected) (k m : ℕ) (end : End) → EndsAs q answer (seen_as (Some k) None None end) → Unplanned q.public k m end
+unplanned : (q : Selection) (answer : Selected) (k m : ℕ) (end : End) → EndsSelected q answer (seen_as (Some k) None None end) → Unplanned q.public k m end
 unplanned q (Rows n) k m end (inr is) = absurd (some_none k (ap (λ (x : Seen). x.k) is.nothing))
 unplanned q (Refused PadPassed) k m end is = absurd (some_none k (ap (λ (x : Seen). x.k) is.nothing))
 unplanned q (Rows n) k m end (inl is) =
@@ -127,7 +127,7 @@ module _ (p : Public) (select : SelectRows) where
 
   -- of one that came to its end, or was refused for its rows
   holds_ended : (answer : Selected) (k : Option ℕ) (plan second : Option Plan) (end : End) → MayHold (selection p select) k plan second
-      → EndsAs (selection p select) answer (seen_as k plan second end) → Holding k plan second end
+      → EndsSelected (selection p select) answer (seen_as k plan second end) → Holding k plan second end
   holds_ended answer None None None end may is =
       let padded = uncounted (selection p select) answer end is in
       ends_uncounted p (RowsStmt select) end (whole_padded (selection p select) (seen_as None None None end) padded) padded.padded
@@ -174,7 +174,7 @@ module _ (p : Public) (select : SelectRows) where
     none_early some = let is = subst (λ (o : Option Refusal). IsSome o) now some in cc is
 
     pub lawful_ended : (answer : Selected) (seen : Seen) → MayHold (selection p select) seen.k seen.plan seen.then
-        → EndsAs (selection p select) answer seen → Lawful p m (RowsStmt select) seen
+        → EndsSelected (selection p select) answer seen → Lawful p m (RowsStmt select) seen
     lawful_ended answer seen may is = record {
       static = (λ static. absurd (ended_late (selection p select) answer seen is static), λ some. absurd (none_early some));
       holds = holds_ended answer seen.k seen.plan seen.then seen.end may is;

@@ -7,11 +7,10 @@ use Rattle.ob_base.specs.declared.refusal.Refusal.{Refusal}
 use Rattle.ob_base.specs.declared.schema.Heading.{Heading}
 use Rattle.ob_base.specs.declared.shown.Shown.{Shown}
 use Rattle.ob_base.specs.Events.{Event, Head, Close, row_events}
-use Rattle.ob_base.specs.Limits.{buffered_blocks}
 use Rattle.ob_base.specs.Lists.{places_from}
 use Rattle.ob_base.specs.Plans.{IsPadded}
 use Rattle.ob_base.specs.Stored.{headings, headings_of}
-use Rattle.ob_row.specs.Bags.{Same, Inserts, here, further}
+use Rattle.ob_row.specs.Bags.{Same}
 use Rattle.ob_row.specs.Rows.{Row}
 use Rattle.ob_row.specs.Slots.{Slots, rows, selected, is_selected}
 use Rattle.ob_row.specs.Totals.{printed}
@@ -25,29 +24,22 @@ use Rattle.ob_mean.specs.declared.answer.Answer.TheVariants as A
 use Rattle.ob_mean.specs.Prints.{Prints, Unfinished, Begun}
 use Rattle.ob_mean.specs.Refusals.{early_refusal, limits_of}
 use Rattle.ob_mean.specs.Settle.{settle}
-use Rattle.ob_mean.specs.Step.{source_rows, selected_rows, rows_answer, select_columns, select_condition, printed_places, answered, followed}
+use Rattle.ob_mean.specs.Step.{source_rows, selected_rows, rows_answer, select_columns, select_condition, printed_places, answered}
 use Rattle.ob_mean.specs.Verdict.{Tables, database, is_late, refusal, verdict, seen, seen_rows, selected_places, rows_refusal}
 use Rattle.ob_mean.proofs.VerdictLemmas.{headings-database, refused_late, seen_late}
 use Rattle.ob_verdict.specs.Laws.{AreInPlace, printed_rows, selected_result}
 use Rattle.ob_verdict.proofs.AnswerProof.{prints_answer}
 use Rattle.ob_exec.specs.declared.outcome.Outcome.TheVariants.{Rows as RowsOut}
-use Rattle.ob_exec.specs.declared.selecting.Selected.TheVariants.{Rows}
-use Rattle.ob_exec.specs.Selecting.{Selection, places, answer_of, answer_events, emitted_unless, result_of, seen_of, selected_as, shown_rows, shown_where}
+use Rattle.ob_select.specs.declared.selecting.Selected.TheVariants.{Rows}
+use Rattle.ob_select.specs.Selecting.{Selection, places, selection_answer, answer_events, emitted_unless, result_of, selection_seen, selected_as, shown_rows, shown_where}
 use Rattle.ob_exec.specs.Sources.{closing, selected_outcome, selection, slots_of}
 use Rattle.ob_exec.specs.Telling.{Partly, answer_labels, outcome_of}
-
-buffered_some : (pack rows : ℕ) → 1 ≤ pack → 3 * pack + 1 ≤ rows → 1 ≤ buffered_blocks pack rows
-buffered_some pack rows some enough = grind arith
+use Rattle.ob_select.proofs.ResultRows.{length-bag, length-chosen}
+use Rattle.ob_select.proofs.UntilLemmas.{nothing}
+use Rattle.ob_select.proofs.ResultParts.{some_buffered}
+use Rattle.ob_exec.proofs.ToldLemmas.{followed_same}
 
 -- ---- bags and selected rows
-inserts_length : {A : Type 0} {x : A} {rest whole : List A} → Inserts x rest whole → length whole ≡ suc (length rest)
-inserts_length here = refl
-inserts_length (further is) = ap suc (inserts_length is)
-
-same_length : {A : Type 0} (xs ys : List A) → Same xs ys → length xs ≡ length ys
-same_length [] ys same = sym (ap length same)
-same_length (x ∷ xs) ys same = ap suc (same_length xs same.0 same.2) ∙ sym (inserts_length same.1)
-
 -- where no place is selected, no row is
 test_none : (b : Bool) (n : ℕ) (more : List ℕ) (row : Row) (rest : List Row) → cond b (n ∷ more) more ≡ [] → (more ≡ [] → rest ≡ []) → cond b (row ∷ rest) rest ≡ []
 test_none true n more row rest is later = absurd (cc is)
@@ -57,23 +49,6 @@ none_selected : (p : Row → Bool) (n : ℕ) (slots : Slots) → places_from n (
 none_selected p n [] is = refl
 none_selected p n (None ∷ slots) is = none_selected p (suc n) slots is
 none_selected p n (Some row ∷ slots) is = test_none (p row) n (places_from (suc n) (is_selected p) slots) row (filter p (rows slots)) is (none_selected p (suc n) slots)
-
-test_count : (b : Bool) (n : ℕ) (more : List ℕ) (row : Row) (rest : List Row) → length more ≡ length rest → length (cond b (n ∷ more) more) ≡ length (cond b (row ∷ rest) rest)
-test_count true n more row rest is = ap suc is
-test_count false n more row rest is = is
-
-count_selected : (p : Row → Bool) (n : ℕ) (slots : Slots) → length (places_from n (is_selected p) slots) ≡ length (filter p (rows slots))
-count_selected p n [] = refl
-count_selected p n (None ∷ slots) = count_selected p (suc n) slots
-count_selected p n (Some row ∷ slots) = test_count (p row) n (places_from (suc n) (is_selected p) slots) row (filter p (rows slots)) (count_selected p (suc n) slots)
-
-no_events : (events rest : List Event) → events ++ rest ≡ [] → events ≡ []
-no_events [] rest is = refl
-no_events (x ∷ xs) rest is = absurd (cc is)
-
-followed_same : (o : Option Refusal) (tables : Tables) → followed o tables tables ≡ tables
-followed_same None tables = refl
-followed_same (Some r) tables = refl
 
 module _ (p : Public) (m : ℕ) (select : SelectRows) (tables : Tables) (headed : headings tables ≡ headings_of p.tables) (in_place : AreInPlace tables)
     (early : early_refusal (is_late m) (limits_of p) (headings tables) (RowsStmt select) ≡ None) (some : 1 ≤ p.pack) (enough : 3 * p.pack + 1 ≤ p.buffer) (padded : IsPadded p.pad p.plan)
@@ -97,7 +72,7 @@ module _ (p : Public) (m : ℕ) (select : SelectRows) (tables : Tables) (headed 
   rows_refused : refusal p m tables (RowsStmt select) ≡ rows_refusal p chosen
   rows_refused = refused_late p m tables (RowsStmt select) early ∙ ap (rows_refusal p) places_is
 
-  pub rows_seen : seen p m tables (RowsStmt select) ≡ seen_of q slots
+  pub rows_seen : seen p m tables (RowsStmt select) ≡ selection_seen q slots
   rows_seen = seen_late p m tables (RowsStmt select) early ∙ ap (seen_rows p (length slots)) places_is
 
   pub rows_settle : settle p m tables (RowsStmt select) ≡ tables
@@ -115,7 +90,7 @@ module _ (p : Public) (m : ℕ) (select : SelectRows) (tables : Tables) (headed 
   -- as many as places
   counted_is : length chosen ≡ length told_rows
   counted_is =
-      count_selected (is_true q.condition) 0 slots ∙ sym (same_length _ _ same_selected)
+      length-chosen (is_true q.condition) 0 slots ∙ length-bag _ _ same_selected
       ∙ sym (length-map (selected_rows select (database tables)) (printed (printed_places select (select_columns select (headings (database tables))))))
 
   printed_is : printed_rows p tables select ≡ map (printed q.cols) (rows (result_of q slots))
@@ -130,7 +105,7 @@ module _ (p : Public) (m : ℕ) (select : SelectRows) (tables : Tables) (headed 
   by_places (i ∷ is) same none =
       let long : length (selected_places p select tables) ≡ suc (length is) = ap length (places_is ∙ same) in
       subst (λ (xs : List (List Shown)). Same told_rows xs) printed_is
-      (prints_answer p m tables select some (buffered_some p.pack p.buffer some enough) padded in_place (rows_refused ∙ none) (omega (arith, long)))
+      (prints_answer p m tables select some (some_buffered p.pack p.buffer some enough) padded in_place (rows_refused ∙ none) (omega (arith, long)))
 
   same_rows : rows_refusal p chosen ≡ None → Same told_rows (shown_rows q slots)
   same_rows none = by_places chosen refl none
@@ -149,7 +124,7 @@ module _ (p : Public) (m : ℕ) (select : SelectRows) (tables : Tables) (headed 
         begun = (rest, same ∙ ap (λ (labels : List (List ℕ)). Head labels ∷ row_events (shown_rows q slots)) labelled);
       })
   unfinished_by (Some r) events rest is same =
-      subst (λ (a : Answer). Unfinished (answer_labels (RowsStmt select) p) a events) (sym (verdict_is (Some r) is)) (no_events events rest same)
+      subst (λ (a : Answer). Unfinished (answer_labels (RowsStmt select) p) a events) (sym (verdict_is (Some r) is)) (nothing events rest same)
 
   -- a first part of its header and its rows
   pub rows_unfinished : (events rest : List Event) → events ++ rest ≡ answer_events q slots → Unfinished (answer_labels (RowsStmt select) p) (verdict p m tables (RowsStmt select)) events
@@ -168,17 +143,17 @@ module _ (p : Public) (m : ℕ) (select : SelectRows) (tables : Tables) (headed 
       subst (λ (a : Answer). Prints (answer_labels (RowsStmt select) p) a []) (sym (verdict_is (Some r) is)) refl
 
   -- all of it
-  pub rows_prints : Prints (answer_labels (RowsStmt select) p) (verdict p m tables (RowsStmt select)) (answer_events q slots ++ closing (answer_of q slots))
+  pub rows_prints : Prints (answer_labels (RowsStmt select) p) (verdict p m tables (RowsStmt select)) (answer_events q slots ++ closing (selection_answer q slots))
   rows_prints = prints_by (rows_refusal p chosen) refl
 
   -- a first part of it
-  pub rows_partly : (events : List Event) → Begun events (answer_events q slots ++ closing (answer_of q slots))
+  pub rows_partly : (events : List Event) → Begun events (answer_events q slots ++ closing (selection_answer q slots))
       → Partly (answer_labels (RowsStmt select) p) (verdict p m tables (RowsStmt select)) events
-  rows_partly events begun = record { whole = answer_events q slots ++ closing (answer_of q slots); prints = rows_prints; begun = begun }
+  rows_partly events begun = record { whole = answer_events q slots ++ closing (selection_answer q slots); prints = rows_prints; begun = begun }
 
   outcome_by : (r : Option Refusal) → rows_refusal p chosen ≡ r → selected_outcome (selected_as r (length chosen)) ≡ outcome_of (RowsStmt select) (answered r (A.Rows told_rows))
   outcome_by None is = ap (λ (k : ℕ). RowsOut k) counted_is
   outcome_by (Some r) is = refl
 
-  pub rows_outcome : selected_outcome (answer_of q slots) ≡ outcome_of (RowsStmt select) (verdict p m tables (RowsStmt select))
+  pub rows_outcome : selected_outcome (selection_answer q slots) ≡ outcome_of (RowsStmt select) (verdict p m tables (RowsStmt select))
   rows_outcome = outcome_by (rows_refusal p chosen) refl ∙ sym (ap (outcome_of (RowsStmt select)) (verdict_is (rows_refusal p chosen) refl))

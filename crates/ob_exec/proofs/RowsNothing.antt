@@ -16,7 +16,7 @@ use Rattle.ob_base.specs.Limits.{buffered}
 use Rattle.ob_base.specs.Plans.{choose_padded, padded_rows}
 use Rattle.ob_base.specs.Events.{Event}
 use Rattle.ob_emit.specs.Emitting.{header}
-use Rattle.ob_exec.proofs.UntilLemmas.{until_none}
+use Rattle.ob_select.proofs.UntilLemmas.{until_none}
 use Rattle.ob_base.specs.Stored.{Stored, stored_at, stored_regions}
 use Rattle.ob_row.specs.Slots.{Slots}
 use Rattle.ob_script.specs.Parts.{count_part}
@@ -31,10 +31,11 @@ use Rattle.ob_flat.specs.declared.fault.OpErr.TheVariants as OpErrs
 use Rattle.ob_sql.specs.declared.stmt.SelectRows.{SelectRows}
 use Rattle.ob_mean.specs.Replay.{count_end, done_of, held_if, walk_end}
 use Rattle.ob_mean.specs.Verdict.{ended as seen_to}
-use Rattle.ob_exec.specs.Selecting.{answer_events, from, places, seen_of}
+use Rattle.ob_select.specs.Selecting.{answer_events, from, places, selection_seen}
 use Rattle.ob_exec.specs.Sources.{HaltsRows, HoldsRows, LeavesNone, SourceToHalt, rows_script, rows_skeleton, selection, slots_of}
 use Rattle.ob_exec.proofs.RowsLawful.{seen_as}
-use Rattle.ob_exec.proofs.RowsLength.{Seconded, alone, followed, held_empty, held_none, rows_seconded}
+use Rattle.ob_select.proofs.SelectHeld.{held_empty}
+use Rattle.ob_exec.proofs.RowsSeconded.{Seconded, alone, followed, held_none, rows_seconded}
 use Rattle.ob_exec.proofs.RowsReach.{count_length, joined_part, joined_stored, part, part_length, unpadded}
 use Rattle.ob_exec.proofs.RunLemmas.{world}
 
@@ -89,13 +90,13 @@ module _ (p : Public) (k : ℕ) (plan : Plan) (second : Option Plan) (end : End)
 -- what is held before the count has ended
 module _ (p : Public) (select : SelectRows) (slots : Slots) (failed : Bool) (n : ℕ) (now : Seen) (fresh : now ≡ seen_to Whole)
     (less : done_of failed n < count_end p (rows_skeleton select)) where
-  second_nothing : Seconded (seen_of (selection p select) slots)
-      → None ≡ held_if (nat_le (walk_end p (rows_skeleton select) (seen_of (selection p select) slots)) (done_of failed n)) (seen_of (selection p select) slots).then
-  second_nothing (alone is) = held_empty (nat_le (walk_end p (rows_skeleton select) (seen_of (selection p select) slots)) (done_of failed n)) _ is
+  second_nothing : Seconded (selection_seen (selection p select) slots)
+      → None ≡ held_if (nat_le (walk_end p (rows_skeleton select) (selection_seen (selection p select) slots)) (done_of failed n)) (selection_seen (selection p select) slots).then
+  second_nothing (alone is) = held_empty (nat_le (walk_end p (rows_skeleton select) (selection_seen (selection p select) slots)) (done_of failed n)) _ is
   second_nothing (followed k plan second end is) =
       let late = walk_late p k plan (Some second) end select in
       let same = ap (walk_end p (rows_skeleton select)) is in
-      held_none _ (walk_end p (rows_skeleton select) (seen_of (selection p select) slots)) (done_of failed n) (omega (arith, late, same, less))
+      held_none _ (walk_end p (rows_skeleton select) (selection_seen (selection p select) slots)) (done_of failed n) (omega (arith, late, same, less))
 
   pub holds_nothing : HoldsRows p select slots failed n now
   holds_nothing = record {
@@ -128,7 +129,7 @@ module _ {E : Type 0} (grew cut : E → E → List Event → Type 0) (p : Public
         };
         leaves = leaves_ready v s t ready;
         seals = λ good accepts. seals_rests v s t rests good;
-        holds = subst (λ (x : Seen). Rattle.ob_exec.specs.Selecting.MayHold (selection p select) x.k x.plan x.then) (sym fresh) tt;
+        holds = subst (λ (x : Seen). Rattle.ob_select.specs.Selecting.MayHold (selection p select) x.k x.plan x.then) (sym fresh) tt;
         reached = record {
           count = λ some. let is = subst (λ (x : Seen). IsSome x.k) fresh some in absurd (cc is);
           walk = λ some. let is = subst (λ (x : Seen). IsSome x.then) fresh some in absurd (cc is);

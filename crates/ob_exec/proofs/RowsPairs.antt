@@ -7,7 +7,7 @@ use Rattle.ob_base.specs.declared.seen.Seen.{Seen}
 use Rattle.ob_base.specs.declared.seen.End.TheVariants.{Whole}
 use Rattle.ob_base.specs.Events.{Event}
 use Rattle.ob_emit.specs.Emitting.{header}
-use Rattle.ob_exec.proofs.UntilLemmas.{until_none}
+use Rattle.ob_select.proofs.UntilLemmas.{until_none}
 use Rattle.ob_store.specs.Runs.{Did}
 use Rattle.ob_vault.specs.State.{World}
 use Rattle.ob_flat.specs.declared.fault.OpErr.{OpErr}
@@ -17,9 +17,9 @@ use Rattle.ob_flat.proofs.Runs.{pass_more}
 use Rattle.ob_mean.specs.Replay.{count_end, done_of}
 use Rattle.ob_mean.specs.Verdict.{ended as seen_to}
 use Rattle.ob_sql.specs.declared.stmt.SelectRows.{SelectRows}
-use Rattle.ob_exec.specs.Memory.{is_make}
-use Rattle.ob_exec.specs.Selecting.{MayHold, SealsRows, answer_events, from, seen_of}
-use Rattle.ob_exec.proofs.BegunLemmas.{cut_in}
+use Rattle.ob_select.specs.Memory.{is_make}
+use Rattle.ob_select.specs.Selecting.{MayHold, SealsRows, answer_events, from, selection_seen}
+use Rattle.ob_select.proofs.LieLemmas.{cut_in}
 use Rattle.ob_vault.specs.Tied.{ReadsIn}
 use Rattle.ob_exec.specs.Sources.{HaltsRows, LeavesNone, SourceToEnd, SourceToHalt, rows_script, rows_skeleton, selection, slots_of}
 use Rattle.ob_exec.proofs.RowsNothing.{holds_nothing}
@@ -60,7 +60,7 @@ module _ {E : Type 0} (grew cut : E → E → List Event → Type 0) (p : Public
     };
     halted = until_none grew cut (header (selection p select).flat.schema (selection p select).cols) e (λ (y : SourceToHalt p a b). answer_events (selection p select) (slots_of p select y.tables)) out no_sink;
     begun = λ y lie told.
-        let meant = begins (seen_of (selection p select) (slots_of p select y.tables)) in
+        let meant = begins (selection_seen (selection p select) (slots_of p select y.tables)) in
         subst (ReadsIn lie) (ap (λ (l : List Access). a.store.asked ++ l) (sym meant.1)) (cut_in e x meant.0 a b lie halts y.nolie told);
     honest = λ y. elim (honest y) [ inl failed ↦ inl failed | inr wanted ↦ inr (inr wanted) ];
     held = λ y.

@@ -19,25 +19,25 @@ use Rattle.ob_base.specs.Limits.{buffered_blocks}
 use Rattle.ob_base.specs.Stored.{Stored, stored_at, stored_regions}
 use Rattle.ob_script.specs.Parts.{count_part, join_part}
 use Rattle.ob_script.specs.Script.{behind_count, blocks_of, extent_of, join_script, joined_extent, result_part, rows_width, select_part, table_script}
-use Rattle.ob_store.specs.State.{Lie}
 use Rattle.ob_vault.specs.State.{World}
-use Rattle.ob_vault.specs.Tied.{Calm, IsUnfit}
+use Rattle.ob_vault.specs.Tied.{Calm}
 use Rattle.ob_vault.proofs.WorldSteps.{calm_none}
 use Rattle.ob_flat.specs.declared.fault.OpErr.{OpErr}
 use Rattle.ob_flat.specs.declared.fault.OpErr.TheVariants as OpErrs
 use Rattle.ob_flat.specs.Passes.{PassCause, is_of_access}
 use Rattle.ob_emit.specs.Emitting.{header}
-use Rattle.ob_exec.proofs.UntilLemmas.{until_given}
+use Rattle.ob_select.proofs.UntilLemmas.{until_given}
 use Rattle.ob_sql.specs.declared.stmt.SelectRows.{SelectRows}
 use Rattle.ob_mean.specs.Replay.{count_end, held_if, walk_end}
 use Rattle.ob_mean.specs.Verdict.{ended as seen_to}
-use Rattle.ob_exec.specs.declared.selecting.Selected.{Selected}
-use Rattle.ob_exec.specs.declared.selecting.Selected.TheVariants.{Rows, Refused}
-use Rattle.ob_exec.specs.Selecting.{EndsAs, MayHold, Selection, answer_events, answer_of, emitted_unless, selected_as, shown_rows}
+use Rattle.ob_select.specs.declared.selecting.Selected.{Selected}
+use Rattle.ob_select.specs.declared.selecting.Selected.TheVariants.{Rows, Refused}
+use Rattle.ob_select.specs.Selecting.{EndsSelected, MayHold, Selection, answer_events, selection_answer, emitted_unless, selected_as, shown_rows}
 use Rattle.ob_exec.specs.Sources.{EndsRows, HoldsRows, SourceToEnd, SourceToHalt, closing, rows_script, rows_skeleton, selection, slots_of}
-use Rattle.ob_exec.specs.Memory.{HasCounted}
+use Rattle.ob_select.specs.Memory.{HasCounted}
 use Rattle.ob_exec.proofs.RowsLawful.{seen_as, uncounted}
 use Rattle.ob_exec.proofs.RowsStops.{StopsRows}
+use Rattle.ob_exec.proofs.EmitLemmas.{unfit_none}
 
 -- ---- no more than is asked
 module _ (p : Public) (g : ℕ) (t : Stored ℕ) (pre ending : List Access) where
@@ -150,19 +150,12 @@ held_all o m n within = sym (ap (λ (b : Bool). held_if b o) reached)
     reached : nat_le m n ≡ true
     reached = grind (arith, nat_tests)
 
-pub counted_some : (q : Selection) (answer : Selected) (k : Option ℕ) (plan second : Option Plan) (end : End) → MayHold q k plan second → EndsAs q answer (seen_as k plan second end)
+pub counted_some : (q : Selection) (answer : Selected) (k : Option ℕ) (plan second : Option Plan) (end : End) → MayHold q k plan second → EndsSelected q answer (seen_as k plan second end)
     → HasCounted q.public (seen_as k plan second end)
 counted_some q answer (Some k) plan second end may is = inl refl
 counted_some q answer None (Some plan) second end may is = absurd may
 counted_some q answer None None (Some second) end may is = absurd may
 counted_some q answer None None None end may is = inr (uncounted q answer end is).padded
-
-lie_unfit : (w : World) → Calm w → IsUnfit w → w.store.lie ≡ None
-lie_unfit w calm unfit = go w.store.lie refl
-  where
-    go : (o : Option Lie) → w.store.lie ≡ o → w.store.lie ≡ None
-    go None is = is
-    go (Some lie) is = absurd (unfit.unfit lie is (calm.calm lie is))
 
 closing_cause : (e : OpErr) (a b : World) → (e ≡ OpErrs.Sink) ⊎ (e ≡ OpErrs.NoMemory) → b.store.faults ≡ a.store.faults → (Calm a → Calm b) → PassCause e a b
 closing_cause e a b never faults calm = elim never [
@@ -173,13 +166,13 @@ closing_cause e a b never faults calm = elim never [
 no_access : (e : OpErr) → (e ≡ OpErrs.Sink) ⊎ (e ≡ OpErrs.NoMemory) → is_of_access e ≡ false
 no_access e never = elim never [ inl is ↦ ap is_of_access is | inr is ↦ ap is_of_access is ]
 
-rows_none : (r : Option Refusal) (n k : ℕ) → Rows k ≡ selected_as r n → r ≡ None
-rows_none None n k is = refl
-rows_none (Some r) n k is = absurd (cc is)
+pub as_rows : (r : Option Refusal) (n k : ℕ) → Rows k ≡ selected_as r n → r ≡ None
+as_rows None n k is = refl
+as_rows (Some r) n k is = absurd (cc is)
 
-refused_some : (r : Option Refusal) (n : ℕ) (q : Refusal) → Refused q ≡ selected_as r n → r ≡ Some q
-refused_some None n q is = absurd (cc is)
-refused_some (Some r) n q is = let same : r ≡ q = sym (cc is) in ap (λ (x : Refusal). Some x) same
+pub as_refused : (r : Option Refusal) (n : ℕ) (q : Refusal) → Refused q ≡ selected_as r n → r ≡ Some q
+as_refused None n q is = absurd (cc is)
+as_refused (Some r) n q is = let same : r ≡ q = sym (cc is) in ap (λ (x : Refusal). Some x) same
 
 module _ {E : Type 0} (grew cut : E → E → List Event → Type 0) (p : Public) (select : SelectRows) (now : Seen) (old new : World) (out_old out_mid out_new : E) where
   -- the events until the end of the answer
@@ -187,7 +180,7 @@ module _ {E : Type 0} (grew cut : E → E → List Event → Type 0) (p : Public
   Ends answer = EndsRows grew p select answer now old new out_old out_mid
 
   abbrev All : SourceToHalt p old new → List Event
-  All s = answer_events (selection p select) (slots_of p select s.tables) ++ closing (answer_of (selection p select) (slots_of p select s.tables))
+  All s = answer_events (selection p select) (slots_of p select s.tables) ++ closing (selection_answer (selection p select) (slots_of p select s.tables))
 
   at_end : (answer : Selected) → Ends answer → SourceToHalt p old new → SourceToEnd p old new
   at_end answer is s = record {
@@ -195,7 +188,7 @@ module _ {E : Type 0} (grew cut : E → E → List Event → Type 0) (p : Public
     tables = s.tables;
     held = s.held;
     in_place = s.in_place;
-    nolie = lie_unfit new (is.ran.calm (calm_none _ s.nolie)) s.unfit;
+    nolie = unfit_none new (is.ran.calm (calm_none _ s.nolie)) s.unfit;
   }
 
   closing_events : (answer : Selected) → Ends answer → Leads grew cut out_mid out_new (closing answer) → Rattle.ob_base.specs.Events.IsHalted grew cut All out_old out_new
@@ -208,7 +201,7 @@ module _ {E : Type 0} (grew cut : E → E → List Event → Type 0) (p : Public
             (closes e (events ++ (head ++ row_events is.emitted.rows)) (is.emitted.leads e events took));
         told = λ (s : SourceToHalt p old new).
             let told = is.told (at_end (Rows k) is s) in
-            let none = rows_none (Rattle.ob_mean.specs.Verdict.rows_refusal p (Rattle.ob_exec.specs.Selecting.places (selection p select) (slots_of p select s.tables))) _ k told.0 in
+            let none = as_rows (Rattle.ob_mean.specs.Verdict.rows_refusal p (Rattle.ob_select.specs.Selecting.places (selection p select) (slots_of p select s.tables))) _ k told.0 in
             let rows_are : is.emitted.rows ≡ shown_rows (selection p select) (slots_of p select s.tables) = is.emitted.told (at_end (Rows k) is s) in (
               [],
               append-nil ((head ++ row_events is.emitted.rows) ++ closing (Rows k))
@@ -222,7 +215,7 @@ module _ {E : Type 0} (grew cut : E → E → List Event → Type 0) (p : Public
         ends = subst (λ (e : E). Leads grew cut e out_new []) is.emitted closes;
         told = λ (s : SourceToHalt p old new).
             let told = is.told (at_end (Refused r) is s) in
-            let refused = refused_some (Rattle.ob_mean.specs.Verdict.rows_refusal p (Rattle.ob_exec.specs.Selecting.places (selection p select) (slots_of p select s.tables))) _ r told.0 in (
+            let refused = as_refused (Rattle.ob_mean.specs.Verdict.rows_refusal p (Rattle.ob_select.specs.Selecting.places (selection p select) (slots_of p select s.tables))) _ r told.0 in (
               [],
               (λ i. emitted_unless (sym refused i) (head ++ row_events (shown_rows (selection p select) (slots_of p select s.tables))) ++ closing (told.0 i)),
             );

@@ -7,7 +7,7 @@ use Rattle.ob_vault.specs.Calls.{Lasts}
 use Rattle.ob_vault.specs.declared.region.Region.{Region}
 use Rattle.ob_vault.proofs.Runs.{lives_lasts}
 use Rattle.ob_flat.specs.declared.flat.Flat.{Flat}
-use Rattle.ob_exec.specs.Selecting.{UsesRoom, from}
+use Rattle.ob_select.specs.Selecting.{UsesRoom, from}
 use Rattle.ob_exec.specs.Sources.{UsesRoomFor}
 
 pub room_twice : (old mid new : RoomState) (n : ℕ) (a d : World) → mid ≡ record old { high = max old.high n } → UsesRoom mid new → UsesRoomFor old new a d

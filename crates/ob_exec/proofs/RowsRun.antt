@@ -23,16 +23,18 @@ use Rattle.ob_flat.specs.Passes.{PassCut, PassCause}
 use Rattle.ob_sql.specs.declared.stmt.SelectRows.{SelectRows}
 use Rattle.ob_verdict.proofs.LawfulProof.{same_script}
 use Rattle.ob_exec.specs.declared.engine.Engine.{Engine}
-use Rattle.ob_exec.specs.declared.selecting.Selected.{Selected}
+use Rattle.ob_select.specs.declared.selecting.Selected.{Selected}
 use Rattle.ob_exec.specs.Agreeing.{Agrees, world_of}
-use Rattle.ob_exec.specs.Engines.{IsFree, AreTables, others_of, indexes_of}
+use Rattle.ob_select.specs.Settings.{IsFree}
+use Rattle.ob_exec.specs.Engines.{AreTables, others_of, indexes_of}
 use Rattle.ob_exec.specs.Opening.{Opens}
-use Rattle.ob_exec.specs.Running.{Ran, RunCause, GoesOn, Continues, answer_of, is_fault, is_stop, result_end}
-use Rattle.ob_exec.specs.Selecting.{from}
+use Rattle.ob_exec.specs.Running.{RanStatement, RunCause, GoesOn, Continues, answer_of, is_fault, is_stop, result_end}
+use Rattle.ob_select.specs.Selecting.{from}
 use Rattle.ob_exec.specs.Sources.{EndsRows, LeavesNone, UsesRoomFor, rows_script, rows_skeleton, selected_outcome, selection}
-use Rattle.ob_exec.proofs.RunLemmas.{asks_cut, asks_none, free_after, next_after, of_other}
+use Rattle.ob_exec.proofs.RunLemmas.{asks_cut, asks_none, next_after, of_other}
 use Rattle.ob_exec.proofs.RowsLawful.{ended_end, ended_whole, ended_well}
 use Rattle.ob_exec.proofs.TableLemmas.{beside_below, tables_kept, region_below}
+use Rattle.ob_select.proofs.RoomLemmas.{free_after}
 
 -- an engine after a SELECT
 abbrev pub rows_after : {R : Type 0} → Engine R → Vault R → RoomState → Seen → Bool → Engine R
@@ -104,7 +106,7 @@ module _ {R : Type 0} (state : R → RevState) (old : Engine R) (s : StoreState)
   -- all of it was asked
   pub rows_ran : {E : Type 0} {grew : E → E → List Event → Type 0} {out_old out_new : E} (answer : Selected) (seen : Seen) → old.ended ≡ false
       → EndsRows grew old.public select answer seen (world_of state old s) (at state v t) out_old out_new
-      → Ran state (rows_skeleton select) (Ok (selected_outcome answer)) old s (rows_after old v room seen old.ended) t
+      → RanStatement state (rows_skeleton select) (Ok (selected_outcome answer)) old s (rows_after old v room seen old.ended) t
   rows_ran answer seen lives is =
       let all = rows_script old.public select seen in
       let whole : script old.public (rows_skeleton select) seen ≡ all = ended_whole (selection old.public select) answer seen all is.ended in
@@ -132,7 +134,7 @@ module _ {R : Type 0} (state : R → RevState) (old : Engine R) (s : StoreState)
   -- it was cut off
   pub rows_cut : (e : OpErr) (seen : Seen) (n : ℕ) → n ≡ length t.asked - length s.asked
       → PassCut e (rows_script old.public select seen) (from old.vault.next) (world_of state old s) (at state v t) → LeavesNone (world_of state old s) (at state v t)
-      → Ran state (rows_skeleton select) (answer_of e) old s (rows_after old v room (record seen { end = Cut n }) (is_stop (answer_of e))) t
+      → RanStatement state (rows_skeleton select) (answer_of e) old s (rows_after old v room (record seen { end = Cut n }) (is_stop (answer_of e))) t
   rows_cut e seen n count cut_short leaves =
       let all = rows_script old.public select (record seen { end = Cut n }) in
       let cut : PassCut e all (from old.vault.next) (world_of state old s) (at state v t) =

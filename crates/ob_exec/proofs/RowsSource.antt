@@ -19,7 +19,7 @@ use Rattle.ob_base.specs.Schemas.{key_place}
 use Rattle.ob_base.specs.Stored.{Stored, has_table, headings, headings_of, heading_at, stored_at}
 use Rattle.ob_row.specs.Bags.{Same}
 use Rattle.ob_row.specs.Rows.{AreDistinct, Row, keys_repeat, pairs}
-use Rattle.ob_row.specs.Slots.{Slots, rows}
+use Rattle.ob_row.specs.Slots.{rows}
 use Rattle.ob_row.proofs.BagLemmas.{Same-refl}
 use Rattle.ob_emit.specs.Emitting.{is_joined, label_at, labels_of}
 use Rattle.ob_mean.specs.Names.{columns_at, place_of, source_columns}
@@ -33,6 +33,7 @@ use Rattle.ob_verdict.proofs.JoinLemmas.{rows-joined}
 use Rattle.ob_mean.specs.Verdict.{Held, Tables, database, slots_at, source_slots}
 use Rattle.ob_sql.specs.declared.stmt.SelectRows.{SelectRows}
 use Rattle.ob_reopen.specs.Limits.{IsStored}
+use Rattle.std.proofs.lemmas.Bool.{not-false}
 
 -- ---- labels
 get_at : (xs : Columns) (x : Column) (ys : Columns) → slice_get (xs ++ x ∷ ys) (length xs) ≡ Some x
@@ -166,15 +167,11 @@ key_is : (o : Option ℕ) (i : ℕ) → option_map_or (λ j. i == j) o false ≡
 key_is None i is = absurd (cc is)
 key_is (Some j) i is = ap (λ (k : ℕ). Some k) (sym ((Decides-eqb i j).0 is))
 
-not_false : (b : Bool) → not b ≡ false → b ≡ true
-not_false true is = refl
-not_false false is = absurd (cc is)
-
 pub join_same : (p : Public) (a b : List ℕ) (on equals : ColumnName) (ts : Tables) → 1 ≤ p.pack → 1 ≤ buffered_blocks p.pack p.buffer → AreInPlace ts
     → joins_off_key_at (headings ts) (Join a b on equals) ≡ false → Same (source_rows (Join a b on equals) (database ts)) (rows (source_slots p (Join a b on equals) ts))
 join_same p a b on equals ts some enough in_place on_key =
     let places = join_places (Join a b on equals) (headings ts) in
-    let key = key_is (key_place (columns_at a (headings ts))) places.0 (not_false _ on_key) in
+    let key = key_is (key_place (columns_at a (headings ts))) places.0 (not-false _ on_key) in
     let distinct : AreDistinct places.0 (rows (slots_at a ts)) = subst (λ (o : Option ℕ). keys_repeat o (rows (slots_at a ts)) ≡ false) key (keys_distinct a ts in_place) in
     subst (λ (w : List Row). Same w (rows (source_slots p (Join a b on equals) ts)))
     (λ t. pairs (join_places (Join a b on equals) (sym (headings-database ts) t)).0 (join_places (Join a b on equals) (sym (headings-database ts) t)).1 (sym (table_rows a ts) t) (sym (table_rows b ts) t))

@@ -6,9 +6,9 @@ use Rattle.ob_base.specs.declared.config.Public.{Public}
 use Rattle.ob_base.specs.declared.refusal.Refusal.TheVariants.{NotConsecutive, Overflow, PadPassed}
 use Rattle.ob_base.specs.declared.seen.Seen.{Seen}
 use Rattle.ob_sql.specs.declared.stmt.SelectRows.{SelectRows}
-use Rattle.ob_exec.specs.declared.selecting.Selected.{Selected}
-use Rattle.ob_exec.specs.declared.selecting.Selected.TheVariants.{Rows, Refused}
-use Rattle.ob_exec.specs.Selecting.{EndsAs, EndsPadded, IsCountOf, IsPlanOf, MayHold}
+use Rattle.ob_select.specs.declared.selecting.Selected.{Selected}
+use Rattle.ob_select.specs.declared.selecting.Selected.TheVariants.{Rows, Refused}
+use Rattle.ob_select.specs.Selecting.{EndsSelected, EndsPadded, IsCountOf, IsPlanOf, MayHold}
 use Rattle.ob_exec.specs.Sources.{selection, stated}
 
 module _ (p : Public) (select : SelectRows) (region ending : ℕ) where
@@ -31,7 +31,7 @@ module _ (p : Public) (select : SelectRows) (region ending : ℕ) where
   may_stated (Some k) (Some Hash) (Some Small) may = (count_stated k may.0, plan_stated k Hash may.1, may.2)
   may_stated (Some k) (Some plan) (Some second) may = absurd may
 
-  pub ends_stated : (answer : Selected) (now : Seen) → EndsAs (stated p select region ending) answer now → EndsAs (selection p select) answer now
+  pub ends_stated : (answer : Selected) (now : Seen) → EndsSelected (stated p select region ending) answer now → EndsSelected (selection p select) answer now
   ends_stated (Rows k) now (inl is) = inl is
   ends_stated (Rows k) now (inr is) = inr (padded_stated now is)
   ends_stated (Refused PadPassed) now is = padded_stated now is

@@ -15,17 +15,16 @@ use Rattle.ob_base.specs.declared.access.Access.{Access}
 use Rattle.ob_base.specs.declared.config.Plan.{Plan}
 use Rattle.ob_base.specs.declared.config.Plan.TheVariants.{Small, Large, Continuous, Hash}
 use Rattle.ob_script.specs.Script.{script, until_end}
-use Rattle.ob_seal.specs.KeySet.{KeySet}
 use Rattle.ob_store.specs.State.{StoreState, Lie}
 use Rattle.ob_store.proofs.Steps.{none_before}
-use Rattle.ob_vault.specs.State.{RevState, World, Start}
-use Rattle.ob_vault.specs.Tied.{Calm, IsUnfit, Fits, ReadsIn}
+use Rattle.ob_vault.specs.State.{RevState, World}
+use Rattle.ob_vault.specs.Tied.{IsUnfit, ReadsIn}
 use Rattle.ob_vault.specs.Calls.{Lasts}
 use Rattle.ob_vault.specs.declared.vault.Vault.{Vault}
 use Rattle.ob_vault.specs.Places.{at}
 use Rattle.ob_flat.specs.declared.fault.OpErr.{OpErr}
 use Rattle.ob_flat.specs.declared.fault.OpErr.TheVariants as OpErrs
-use Rattle.ob_flat.specs.Passes.{PassCut, SinkCause as PassSink, is_of_access}
+use Rattle.ob_flat.specs.Passes.{PassCut, SinkCause, is_of_access}
 use Rattle.ob_emit.specs.Emitting.{header, labels_of}
 use Rattle.ob_sql.specs.declared.stmt.SelectRows.{SelectRows}
 use Rattle.ob_sql.specs.declared.stmt.Stmt.TheVariants.{SelectRows as RowsStmt}
@@ -37,14 +36,15 @@ use Rattle.ob_verdict.specs.Laws.{AreInPlace}
 use Rattle.ob_verdict.proofs.LawfulProof.{same_script}
 use Rattle.ob_exec.specs.declared.engine.Engine.{Engine}
 use Rattle.ob_exec.specs.declared.outcome.Outcome.{Outcome}
-use Rattle.ob_exec.specs.declared.selecting.Selected.{Selected}
+use Rattle.ob_select.specs.declared.selecting.Selected.{Selected}
 use Rattle.ob_exec.specs.Agreeing.{Agrees, world_of, count_of}
-use Rattle.ob_exec.specs.Running.{RefusedEarly, SinkCause, answer_of, is_stop, refusal_now}
-use Rattle.ob_exec.specs.Selecting.{MayHold, SealsRows, answer_events, answer_of as selected_of, from, places, seen_of}
+use Rattle.ob_exec.specs.Running.{RefusedEarly, SinkStops, answer_of, is_stop, refusal_now}
+use Rattle.ob_select.specs.Selecting.{MayHold, SealsRows, answer_events, selection_answer, from, places, selection_seen}
 use Rattle.ob_exec.specs.Serving.{Answered, EndsWithin, Serves, Stopped}
-use Rattle.ob_exec.specs.Halting.{EmitsUntil, TakesPart}
-use Rattle.ob_exec.specs.Memory.{HasHalted}
-use Rattle.ob_exec.proofs.UntilLemmas.{are_rows, until_failed, until_more}
+use Rattle.ob_select.specs.Halting.{EmitsUntil, TakesPart}
+use Rattle.ob_select.specs.Memory.{HasHalted}
+use Rattle.ob_exec.proofs.EmitLemmas.{are_rows, lie_none}
+use Rattle.ob_select.proofs.UntilLemmas.{until_failed, until_more}
 use Rattle.ob_exec.specs.Sources.{HaltsRows, HoldsRows, LacksRowMemory, LeavesNone, ReachesRows, ReadsMeant, SourceToEnd, SourceToHalt, UsesRoomFor, closing, rows_script, rows_skeleton, selection, slots_of}
 use Rattle.ob_exec.specs.Telling.{IsNotTampered, ReadsTrue, ReadsTrueUntil, Represents, SeenCut, Told, answer_labels, is_refused, meant_script}
 use Rattle.ob_exec.proofs.HeldLemmas.{held_headings, held_kept}
@@ -53,16 +53,7 @@ use Rattle.ob_exec.proofs.RowsMeaning.{rows_partly, rows_seen, rows_unfinished}
 use Rattle.ob_exec.proofs.RowsRun.{rows_after, rows_cut}
 use Rattle.ob_exec.proofs.TableLemmas.{region_below}
 use Rattle.ob_exec.proofs.ToldLemmas.{early_held}
-
--- no changed block was read before, where one that fits none was read first
-pub lie_none : (some : ℕ → Type 0) (a b : World) → Lasts some a b → Calm a → IsUnfit b → a.store.lie ≡ None
-lie_none some a b lasts calm unfit = go a.store.lie refl
-  where
-    go : (o : Option Lie) → a.store.lie ≡ o → a.store.lie ≡ None
-    go None is = is
-    go (Some lie) is =
-        let fits = subst (λ (keys : KeySet). Fits keys a.vault.start lie) (sym lasts.keys) (calm.calm lie is) in
-        absurd (unfit.unfit lie (lasts.later.lie lie is) (subst (λ (start : Start). Fits b.vault.keys start lie) (sym lasts.start) fits))
+use Rattle.ob_exec.proofs.RunLemmas.{only_memory}
 
 pub unfit_none : (w : World) → w.store.lie ≡ None → IsUnfit w
 unfit_none w none = record { unfit = λ lie is. absurd (cc (is, none)) }
@@ -81,7 +72,7 @@ pub record StopsRows {E : Type 0} (grew cut : E → E → List Event → Type 0)
   pub reached : ReachesRows p select now (length new.store.asked - length old.store.asked)
   pub memory : error ≡ OpErrs.NoMemory → LacksRowMemory p select now old new (HasHalted (Leads grew cut) out_old out_new)
   pub halted : EmitsUntil grew cut error (header (selection p select).flat.schema (selection p select).cols)
-      (λ (s : SourceToHalt p old new). answer_events (selection p select) (slots_of p select s.tables) ++ closing (selected_of (selection p select) (slots_of p select s.tables))) out_old out_new
+      (λ (s : SourceToHalt p old new). answer_events (selection p select) (slots_of p select s.tables) ++ closing (selection_answer (selection p select) (slots_of p select s.tables))) out_old out_new
   pub failed : error ≡ OpErrs.Failed → TakesPart grew (header (selection p select).flat.schema (selection p select).cols)
       (λ (s : SourceToHalt p old new). answer_events (selection p select) (slots_of p select s.tables)) out_old out_new
   pub honest : SourceToEnd p old new → (error ≡ OpErrs.Failed) ⊎ (error ≡ OpErrs.Sink) ⊎ (error ≡ OpErrs.NoMemory)
@@ -114,7 +105,7 @@ stops_halted {grew = grew} {cut = cut} {p = p} {select = select} {error = error}
   reached = is.reached;
   memory = is.memory;
   halted = until_more grew cut (header (selection p select).flat.schema (selection p select).cols) error (λ (s : SourceToHalt p old new). answer_events (selection p select) (slots_of p select s.tables))
-      (λ s. closing (selected_of (selection p select) (slots_of p select s.tables))) out_old out_new is.halted;
+      (λ s. closing (selection_answer (selection p select) (slots_of p select s.tables))) out_old out_new is.halted;
   failed = λ failed. until_failed grew cut (header (selection p select).flat.schema (selection p select).cols) error (λ (s : SourceToHalt p old new). answer_events (selection p select) (slots_of p select s.tables)) out_old out_new failed is.halted;
   honest = is.honest;
   held = is.held;
@@ -125,13 +116,7 @@ pub early_none : (p : Public) (m : ℕ) (select : SelectRows) (result : Result O
     → RefusedEarly (refusal_now p m (RowsStmt select)) result now
 early_none p m select result now none started = subst (λ o. RefusedEarly o result now) (sym none) started
 
-only_memory : (e : OpErr) → answer_of e ≡ Err Stops.NoMemory → e ≡ OpErrs.NoMemory
-only_memory OpErrs.Failed is = absurd (cc is)
-only_memory (OpErrs.Tampered q x) is = absurd (cc is)
-only_memory OpErrs.Sink is = absurd (cc is)
-only_memory OpErrs.NoMemory is = refl
-
-sink_of : (e : OpErr) (a b : ℕ) → PassSink {T = Selected} (Err e) a b → SinkCause (answer_of e) a b
+sink_of : (e : OpErr) (a b : ℕ) → SinkCause {T = Selected} (Err e) a b → SinkStops (answer_of e) a b
 sink_of OpErrs.Failed a b cause = cause
 sink_of (OpErrs.Tampered q x) a b cause = cause
 sink_of OpErrs.Sink a b cause = cause
@@ -202,7 +187,7 @@ module _ {R : Type 0} (state : R → RevState) (old : Engine R) (s : StoreState)
       let slots = slots_of old.public select tables in
       let meant = rows_seen old.public (count_of old s) select tables (headed tables reads.held) reads.held.in_place (early tables reads.held) agrees.settings.pack_least agrees.settings.blocks agrees.settings.padded source.labelled (rows_of tables reads.held) in
       subst (λ (l : List Access). ReadsIn lie (s.asked ++ l))
-      (sym (ap (script old.public (rows_skeleton select)) meant ∙ until_rows old.public.pad old.public (length slots) (places q slots) (rows_script old.public select (seen_of q slots))))
+      (sym (ap (script old.public (rows_skeleton select)) meant ∙ until_rows old.public.pad old.public (length slots) (places q slots) (rows_script old.public select (selection_seen q slots))))
       (begun (record { tells = reads.tells; tables = tables; held = reads.held.held; in_place = reads.held.in_place; nolie = reads.nolie }) lie told)
 
   module _ {E : Type 0} (grew cut : E → E → List Event → Type 0) (faults : E → ℕ) (starts : (x : E) → grew x x []) (now : Seen) (n : ℕ) (out_old out_new : E)
@@ -258,7 +243,7 @@ module _ {R : Type 0} (state : R → RevState) (old : Engine R) (s : StoreState)
     stop_answered OpErrs.NoMemory is = tt
 
     abbrev All : SourceToHalt old.public before after → List Event
-    All x = answer_events (selection old.public select) (slots_of old.public select x.tables) ++ closing (selected_of (selection old.public select) (slots_of old.public select x.tables))
+    All x = answer_events (selection old.public select) (slots_of old.public select x.tables) ++ closing (selection_answer (selection old.public select) (slots_of old.public select x.tables))
 
     stop_partly : (e : OpErr) (stop : Stop) (events : List Event) → EndsWithin grew cut stop out_old out_new events → ((x : SourceToHalt old.public before after) → (rest : List Event) × (events ++ rest ≡ All x))
         → Stopped state grew cut (RowsStmt select) stop old s (stopped_engine e) t out_old out_new
@@ -290,7 +275,7 @@ module _ {R : Type 0} (state : R → RevState) (old : Engine R) (s : StoreState)
 
     -- it is what a SELECT does that was cut off
     pub serves_stopped : (e : OpErr) → UsesRoomFor old.room room before after → StopsRows grew cut old.public select e now before after out_old out_new
-        → PassSink {T = Selected} (Err e) (faults out_old) (faults out_new)
+        → SinkCause {T = Selected} (Err e) (faults out_old) (faults out_new)
         → Serves state grew cut faults (RowsStmt select) (answer_of e) old s (stopped_engine e) t out_old out_new
     serves_stopped e used is sink = record {
       ran = rows_cut state old s v room t select agrees used e now n count is.ran is.leaves;

@@ -1,5 +1,5 @@
 -- A SELECT of the rows of a table.
-use Rattle.std.proofs.Common.{◌≡◌, inl, ◌≤◌, ◌<◌, ◌+◌, ◌-◌, ◌*◌, ℕ, zero, suc, Bool, true, false, List, [], ◌∷◌, ◌++◌, map, length, length-append, Option, Some, None, Ok, Err, Result, refl, sym, ◌∙◌, ap, subst, arith, append-nil}
+use Rattle.std.proofs.Common.{◌≡◌, inl, ◌≤◌, ◌<◌, ◌+◌, ◌-◌, ℕ, zero, suc, Bool, true, false, List, [], ◌∷◌, ◌++◌, map, length, length-append, Option, Some, None, Ok, Err, Result, refl, sym, ◌∙◌, ap, subst, arith, append-nil}
 use Rattle.std.specs.Prelude.{IsTrue, nat_le, slice_get, unwrap_or}
 use Rattle.std.proofs.lemmas.Bool.Decides.{nat_tests}
 use Rattle.std.proofs.lemmas.List.{length-map}
@@ -18,7 +18,6 @@ use Rattle.ob_base.specs.declared.skeleton.Source.TheVariants.{Table as OneTable
 use Rattle.ob_base.specs.Events.{Event, IsEmitted}
 use Rattle.ob_base.specs.declared.skeleton.ColumnName.{ColumnName}
 use Rattle.ob_base.specs.Lists.{places_of, tabulate}
-use Rattle.ob_base.specs.Limits.{buffered_blocks}
 use Rattle.ob_base.specs.Schemas.{Columns}
 use Rattle.ob_base.specs.Stored.{Stored, headings_of, heading_at}
 use Rattle.ob_row.specs.Condition.{Condition}
@@ -40,7 +39,7 @@ use Rattle.ob_flat.specs.declared.fault.OpErr.{OpErr}
 use Rattle.ob_flat.specs.declared.flat.Flat.{Flat}
 use Rattle.ob_flat.specs.Flats.{IsFlat, IsSized, Represents}
 use Rattle.ob_emit.specs.Emitting.{AreColumns, header}
-use Rattle.ob_exec.proofs.UntilLemmas.{until_from}
+use Rattle.ob_select.proofs.UntilLemmas.{until_from}
 use Rattle.ob_flat.specs.Passes.{PassCut, is_of_access}
 use Rattle.ob_flat.proofs.Resting.{represents_rests}
 use Rattle.ob_flat.proofs.Runs.{pass_after}
@@ -55,20 +54,21 @@ use Rattle.ob_mean.specs.Verdict.{Held, Tables, is_late, source_slots, ended as 
 use Rattle.ob_sql.specs.declared.stmt.SelectRows.{SelectRows}
 use Rattle.ob_sql.specs.declared.stmt.Stmt.TheVariants.{SelectRows as RowsStmt}
 use Rattle.ob_exec.specs.Running.{refusal_now}
-use Rattle.ob_exec.proofs.PlaceLemmas.{all_places}
+use Rattle.ob_select.proofs.PlaceLemmas.{all_places}
 use Rattle.ob_exec.specs.declared.engine.Engine.{Engine}
-use Rattle.ob_exec.specs.declared.selecting.Selected.{Selected}
-use Rattle.ob_exec.specs.declared.selecting.Selected.TheVariants.{Rows, Refused}
+use Rattle.ob_select.specs.declared.selecting.Selected.{Selected}
+use Rattle.ob_select.specs.declared.selecting.Selected.TheVariants.{Rows, Refused}
 use Rattle.ob_exec.specs.Agreeing.{Agrees, world_of, count_of}
 use Rattle.ob_exec.specs.Engines.{flat_of}
-use Rattle.ob_exec.specs.Selecting.{HoldsSeen, MaySelect, Selection, SelectsFrom, SelectsToEnd, SelectsToHalt, EmitsSelected, answer_events, counted_after, from, padded_after, region_of, seen_of, selection_script, walked_after}
+use Rattle.ob_select.specs.Selecting.{HoldsSeen, MaySelect, Selection, SelectsFrom, SelectsToEnd, SelectsToHalt, EmitsSelected, answer_events, counted_after, from, padded_after, region_of, selection_seen, selection_script, walked_after}
 use Rattle.ob_exec.specs.Sources.{EmitsRows, EndsRows, HaltsRows, HoldsRows, ReadsMeant, SelectsRows, SourceToEnd, SourceToHalt, rows_script, rows_skeleton, selection, slots_of, stated}
 use Rattle.ob_exec.specs.Telling.{AreHeld}
 use Rattle.ob_exec.proofs.FoundLemmas.{heading_found}
 use Rattle.ob_exec.proofs.HeldLemmas.{held_at}
-use Rattle.ob_exec.proofs.RowsLength.{select_length}
+use Rattle.ob_select.proofs.SelectLength.{select_length}
 use Rattle.ob_exec.proofs.RowsStated.{ends_stated, may_stated}
 use Rattle.ob_exec.proofs.TableLemmas.{flat_kept, region_below, stored_found}
+use Rattle.ob_select.proofs.ResultParts.{some_buffered}
 
 pub not_late : (m : ℕ) → is_late m ≡ false → m < 9223372036854775808
 not_late m early = grind (arith, nat_tests)
@@ -102,9 +102,6 @@ an_error is = λ i. Err (is i)
 
 pub some_of : (n q : ℕ) → 1 ≤ q → 1 ≤ n → 1 ≤ div_ceil n q
 some_of n q some least = grind arith
-
-pub some_buffered : (pack rows : ℕ) → 1 ≤ pack → 3 * pack + 1 ≤ rows → 1 ≤ buffered_blocks pack rows
-some_buffered pack rows some enough = grind arith
 
 module _ {R : Type 0} (state : R → RevState) (old : Engine R) (s s1 : StoreState) (i : ℕ) (t : Table) (name : List ℕ) (select : SelectRows)
     (agrees : Agrees state old s) (get : slice_get old.public.tables i ≡ Some t) (named : t.heading.name ≡ name) (of_table : select.source ≡ OneTable name) where
@@ -200,7 +197,7 @@ module _ {R : Type 0} (state : R → RevState) (old : Engine R) (s s1 : StoreSta
       table_begun : {result : Result Selected OpErr} → SelectsFrom grew cut faults q result now ready after out_old out_new → ReadsMeant old.public select before after
       table_begun is x lie told =
           let slots = slots_of old.public select x.tables in
-          subst (ReadsIn lie) (λ j. rests.asked j ++ script_is (seen_of q slots) j)
+          subst (ReadsIn lie) (λ j. rests.asked j ++ script_is (selection_seen q slots) j)
           (is.begun (record { tells = subst (λ (b : Bool). IsTrue b) (sym rests.tells) x.tells; slots = slots; is = holds_slots x.tables x.held; nolie = rests.lie ∙ x.nolie }) lie told)
 
       table_ends : (answer : Selected) → SelectsFrom grew cut faults q (Ok answer) now ready after out_old out_new → EndsRows grew old.public select answer now before after out_old out_new
@@ -218,9 +215,9 @@ module _ {R : Type 0} (state : R → RevState) (old : Engine R) (s s1 : StoreSta
 
       table_holds : (failed : Bool) (slots : Slots) → HoldsSeen q slots failed (length u.asked - length s1.asked) now → HoldsRows old.public select slots failed (length u.asked - length s.asked) now
       table_holds failed slots is = record {
-        k = is.k ∙ (λ j. held_if (nat_le (sym count_is j) (done_of failed (length_is j))) (seen_of q slots).k);
-        plan = is.plan ∙ (λ j. held_if (nat_le (sym count_is j) (done_of failed (length_is j))) (seen_of q slots).plan);
-        second = is.second ∙ (λ j. held_if (nat_le (sym (walk_is (seen_of q slots)) j) (done_of failed (length_is j))) (seen_of q slots).then);
+        k = is.k ∙ (λ j. held_if (nat_le (sym count_is j) (done_of failed (length_is j))) (selection_seen q slots).k);
+        plan = is.plan ∙ (λ j. held_if (nat_le (sym count_is j) (done_of failed (length_is j))) (selection_seen q slots).plan);
+        second = is.second ∙ (λ j. held_if (nat_le (sym (walk_is (selection_seen q slots)) j) (done_of failed (length_is j))) (selection_seen q slots).then);
       }
 
       table_halts : (e : OpErr) → SelectsFrom grew cut faults q (Err e) now ready after out_old out_new → HaltsRows grew cut old.public select e now before after out_old out_new

@@ -1,7 +1,6 @@
 -- How a statement of an engine ends.
 use Rattle.std.proofs.Common.{IsTrue, ◌≡◌, ◌≤◌, ◌+◌, ◌-◌, max, ℕ, Bool, true, false, List, [], ◌++◌, length, take, Ok, Err, OnOk, Result, refl, sym, ◌∙◌, ap, subst, arith, append-nil}
 use Rattle.ob_base.specs.declared.access.Access.{Access}
-use Rattle.ob_base.specs.declared.config.Public.{Public}
 use Rattle.ob_base.specs.declared.refusal.Refusal.{Refusal}
 use Rattle.ob_base.specs.declared.refusal.Stop.{Stop}
 use Rattle.ob_base.specs.declared.refusal.Stop.TheVariants as Stops
@@ -34,12 +33,14 @@ use Rattle.ob_mean.specs.Verdict.{is_late, ended as seen_to}
 use Rattle.ob_exec.specs.declared.engine.Engine.{Engine}
 use Rattle.ob_exec.specs.declared.outcome.Outcome.{Outcome}
 use Rattle.ob_exec.specs.declared.outcome.Outcome.TheVariants.{Refused}
-use Rattle.ob_exec.specs.Engines.{IsFree, AreTables, others_of, indexes_of}
+use Rattle.ob_select.specs.Settings.{IsFree}
+use Rattle.ob_exec.specs.Engines.{AreTables, others_of, indexes_of}
 use Rattle.ob_exec.specs.Refusals.{IsNoFault, by_fault, refused_end}
 use Rattle.ob_base.specs.Refusals.{is_store_fault}
 use Rattle.ob_exec.specs.Agreeing.{Agrees, world_of}
 use Rattle.ob_exec.specs.Opening.{Opens}
-use Rattle.ob_exec.specs.Running.{answer_of, is_fault, is_stop, outcome_end, result_end, RunCause, GoesOn, Continues, Ran, IsFaulted}
+use Rattle.ob_exec.specs.Running.{answer_of, is_fault, is_stop, outcome_end, result_end, RunCause, GoesOn, Continues, RanStatement, IsFaulted}
+use Rattle.ob_select.proofs.RoomLemmas.{free_after}
 
 abbrev pub world : VaultState → StoreState → World
 world v s = record { vault = v; store = s }
@@ -70,14 +71,6 @@ pub record IsEarly (r : Refusal) : Type 0 where
   pub static : (n : ℕ) → refused_end r n ≡ Static
   pub own : IsNoFault r
 
--- the room after a pass
-pub free_after : (public : Public) (old new : RoomState) (high : ℕ) → IsFree public old → new ≡ record old { high = high } → IsFree public new
-free_after public old new high free is = subst (λ (r : RoomState). IsFree public r) (sym is) (record {
-  idle = record { free = free.idle.free; shelf = free.idle.shelf; enough = free.idle.enough; wide = free.idle.wide };
-  rows = free.rows;
-  pack = free.pack;
-})
-
 -- nothing was asked
 pub opens_none : (high : ℕ) → Opens [] high high
 opens_none high = record { kept = omega (arith); some = λ none. absurd (cc none) }
@@ -90,6 +83,13 @@ opens_some part old pack some = record { kept = omega (arith); some = λ any. om
 pub asks_none : (outcome : Outcome) (P : Type 0) → is_fault outcome ≡ false → IsFaulted (Ok outcome) → P
 asks_none outcome P well faulted = absurd (cc (well, faulted))
 
+-- want of memory alone is answered as such
+pub only_memory : (e : OpErr) → answer_of e ≡ Err Stops.NoMemory → e ≡ OpErrs.NoMemory
+only_memory OpErrs.Failed is = absurd (cc is)
+only_memory (OpErrs.Tampered q x) is = absurd (cc is)
+only_memory OpErrs.Sink is = absurd (cc is)
+only_memory OpErrs.NoMemory is = refl
+
 -- an access that failed was asked
 pub asks_cut : (e : OpErr) (s t : StoreState) → (IsTrue (is_of_access e) → length s.asked < length t.asked) → IsFaulted (answer_of e) → length s.asked < length t.asked
 asks_cut OpErrs.Failed s t asks faulted = asks refl
@@ -99,7 +99,7 @@ asks_cut OpErrs.NoMemory s t asks faulted = absurd faulted
 
 module _ {R : Type 0} (state : R → RevState) (skeleton : Skeleton) (old : Engine R) (s : StoreState) (agrees : Agrees state old s) (lives : old.ended ≡ false) where
   -- a refusal before any access
-  pub ran_refused : (r : Refusal) → IsEarly r → Ran state skeleton (Ok (Refused r)) old s (record old { seen = seen_to Static }) s
+  pub ran_refused : (r : Refusal) → IsEarly r → RanStatement state skeleton (Ok (Refused r)) old s (record old { seen = seen_to Static }) s
   ran_refused r early = record {
     asked = sym (append-nil s.asked);
     later = later_refl s;
@@ -157,7 +157,7 @@ module _ {R : Type 0} (state : R → RevState) (skeleton : Skeleton) (old : Engi
   -- all of it was asked
   pub ran_whole : (some : ℕ → Type 0) (tables : List Table) (x : List Access) (outcome : Outcome) → old.ended ≡ false → IsAnswered outcome → Opens x old.room.high room.high
       → Went x some (world_of state old s) (at state v t) → whole_script old.public skeleton (seen_to Whole) ≡ x → tables ≡ tables_after old.public skeleton
-      → AreTables tables (others_of old.closing) (indexes_of old.closing) old.public.pack (at state v t) → Ran state skeleton (Ok outcome) old s (engine_after old v room tables Whole old.ended) t
+      → AreTables tables (others_of old.closing) (indexes_of old.closing) old.public.pack (at state v t) → RanStatement state skeleton (Ok outcome) old s (engine_after old v room tables Whole old.ended) t
   ran_whole some tables x outcome lives answered opens went is same are = record {
     asked = went.did.asked ∙ ap (λ (y : List Access). s.asked ++ y) (sym is);
     later = went.lasts.later;
@@ -194,7 +194,7 @@ module _ {R : Type 0} (state : R → RevState) (skeleton : Skeleton) (old : Engi
   -- a pass gave up
   pub ran_stopped : (some : ℕ → Type 0) (n : ℕ) (x : List Access) (e : OpErr) → Opens (script old.public skeleton (seen_to (Cut n))) old.room.high room.high → PassCut e x some (world_of state old s) (at state v t)
       → whole_script old.public skeleton (seen_to (Cut n)) ≡ x → n ≡ length t.asked - length s.asked → AreTables old.public.tables (others_of old.closing) (indexes_of old.closing) old.public.pack (at state v t)
-      → Ran state skeleton (answer_of e) old s (engine_after old v room old.public.tables (Cut n) (is_stop (answer_of e))) t
+      → RanStatement state skeleton (answer_of e) old s (engine_after old v room old.public.tables (Cut n) (is_stop (answer_of e))) t
   ran_stopped some n x e opens cut is count are =
       let first : t.asked ≡ s.asked ++ take n x = began_take x _ _ cut.began ∙ ap (λ (k : ℕ). s.asked ++ take k x) (sym count) in
       record {
@@ -217,7 +217,7 @@ module _ {R : Type 0} (state : R → RevState) (skeleton : Skeleton) (old : Engi
   pub ran_ended : (some : ℕ → Type 0) (n : ℕ) (x : List Access) (stop : Stop) → Opens (script old.public skeleton (seen_to (Cut n))) old.room.high room.high
       → Lasts some (world_of state old s) (at state v t) → Began x s t → RunCause (Err stop) (world_of state old s) (at state v t)
       → whole_script old.public skeleton (seen_to (Cut n)) ≡ x → n ≡ length t.asked - length s.asked
-      → Ran state skeleton (Err stop) old s (engine_after old v room old.public.tables (Cut n) true) t
+      → RanStatement state skeleton (Err stop) old s (engine_after old v room old.public.tables (Cut n) true) t
   ran_ended some n x stop opens lasts began cause is count = record {
     asked = began_take x _ _ began ∙ ap (λ (k : ℕ). s.asked ++ take k x) (sym count) ∙ ap (λ (y : List Access). s.asked ++ take n y) (sym is);
     later = lasts.later;
@@ -244,21 +244,21 @@ module _ {R : Type 0} (state : R → RevState) (skeleton : Skeleton) (old : Engi
   -- all of a pass over the room was asked
   pub ran_done : (some : ℕ → Type 0) (tables : List Table) (x : List Access) (outcome : Outcome) → old.ended ≡ false → IsAnswered outcome → Went x some (world_of state old s) (at state v t)
       → whole_script old.public skeleton (seen_to Whole) ≡ x → tables ≡ tables_after old.public skeleton → AreTables tables (others_of old.closing) (indexes_of old.closing) old.public.pack (at state v t)
-      → Ran state skeleton (Ok outcome) old s (engine_after old v room tables Whole old.ended) t
+      → RanStatement state skeleton (Ok outcome) old s (engine_after old v room tables Whole old.ended) t
   ran_done some tables x outcome lives answered went is same are =
       ran_whole state skeleton old s v room t agrees free some tables x outcome lives answered (opened x) went is same are
 
   -- a pass over the room gave up
   pub ran_cut : (some : ℕ → Type 0) (n : ℕ) (x : List Access) (e : OpErr) → PassCut e x some (world_of state old s) (at state v t)
       → whole_script old.public skeleton (seen_to (Cut n)) ≡ x → n ≡ length t.asked - length s.asked → AreTables old.public.tables (others_of old.closing) (indexes_of old.closing) old.public.pack (at state v t)
-      → Ran state skeleton (answer_of e) old s (engine_after old v room old.public.tables (Cut n) (is_stop (answer_of e))) t
+      → RanStatement state skeleton (answer_of e) old s (engine_after old v room old.public.tables (Cut n) (is_stop (answer_of e))) t
   ran_cut some n x e cut is count are = ran_stopped state skeleton old s v room t agrees free some n x e (opened _) cut is count are
 
 -- the same, of an equal answer and an equal engine
 pub ran_as : {R : Type 0} (state : R → RevState) (skeleton : Skeleton) (old : Engine R) (s : StoreState) (t : StoreState) (r q : Result Outcome Stop) (new same : Engine R)
-    → r ≡ q → new ≡ same → Ran state skeleton q old s same t → Ran state skeleton r old s new t
+    → r ≡ q → new ≡ same → RanStatement state skeleton q old s same t → RanStatement state skeleton r old s new t
 ran_as {R} state skeleton old s t r q new same answer is ran =
-    subst (λ (e : Engine R). Ran state skeleton r old s e t) (sym is) (subst (λ (a : Result Outcome Stop). Ran state skeleton a old s same t) (sym answer) ran)
+    subst (λ (e : Engine R). RanStatement state skeleton r old s e t) (sym is) (subst (λ (a : Result Outcome Stop). RanStatement state skeleton a old s same t) (sym answer) ran)
 
 -- a statement that is not late begins below the last access of a pass
 pub early_few : (m n : ℕ) → is_late m ≡ false → n ≡ m → n < 9799832789158199296
@@ -275,7 +275,7 @@ count_rises a b x old mid new before rests began after =
 
 -- no room for the accesses: nothing was asked
 pub ran_no_room : {R : Type 0} (state : R → RevState) (skeleton : Skeleton) (old : Engine R) (s t : StoreState) (tables : List Table) → Agrees state old s → Rests s t
-    → Ran state skeleton (Err Stops.NoMemory) old s (engine_after old old.vault old.room tables (Cut 0) true) t
+    → RanStatement state skeleton (Err Stops.NoMemory) old s (engine_after old old.vault old.room tables (Cut 0) true) t
 ran_no_room state skeleton old s t tables agrees rests =
     let same : length t.asked ≡ length s.asked = ap length rests.asked in
     let none : 0 ≡ length t.asked - length s.asked = omega (arith, same) in

@@ -26,7 +26,7 @@ use Rattle.ob_exec.specs.declared.outcome.Outcome.{Outcome}
 use Rattle.ob_exec.specs.declared.outcome.Outcome.TheVariants.{Created, Inserted, Changed, Deleted, Dropped, Rows, Refused}
 use Rattle.ob_exec.specs.Agreeing.{Agrees, world_of, count_of}
 use Rattle.ob_exec.specs.Refusals.{by_fault}
-use Rattle.ob_exec.specs.Running.{Emits, EmitsUntilFault, HasNoRows, IsSilent, RefusedEarly, SinkCause, is_fault, refusal_now}
+use Rattle.ob_exec.specs.Running.{Emits, EmitsUntilFault, HasNoRows, IsSilent, RefusedEarly, SinkStops, is_fault, refusal_now}
 use Rattle.ob_exec.specs.Serving.{EndsWithin, Serves, ServesSilently, Stopped}
 use Rattle.ob_exec.proofs.MemoryLemmas.{lacks_less}
 use Rattle.ob_exec.specs.Telling.{AreHeld, Represents, answer_labels, outcome_of}
@@ -91,7 +91,7 @@ silent_emits stmt labels Dropped silent = refl
 silent_emits stmt labels (Rows k) silent = absurd silent
 
 -- an emitter did not fail where nothing was emitted
-silent_sink : (r : Result Outcome Stop) (n : ℕ) → IsSilent r → SinkCause r n n
+silent_sink : (r : Result Outcome Stop) (n : ℕ) → IsSilent r → SinkStops r n n
 silent_sink (Ok outcome) n silent = refl
 silent_sink (Err Stops.SinkFault) n silent = absurd silent
 silent_sink (Err (Stops.Tampered region place)) n silent = refl

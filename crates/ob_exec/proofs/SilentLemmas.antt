@@ -35,12 +35,12 @@ use Rattle.ob_verdict.proofs.SeenProof.{shows_kind_alone}
 use Rattle.ob_exec.specs.declared.engine.Engine.{Engine}
 use Rattle.ob_exec.specs.declared.outcome.Outcome.{Outcome}
 use Rattle.ob_exec.specs.Agreeing.{Agrees, world_of, count_of}
-use Rattle.ob_exec.specs.Running.{Ran, HasNoRows, IsSilent, answer_of, is_stop, refusal_now}
+use Rattle.ob_exec.specs.Running.{RanStatement, HasNoRows, IsSilent, answer_of, is_stop, refusal_now}
 use Rattle.ob_exec.specs.Serving.{Means, ServesSilently}
 use Rattle.ob_exec.specs.Telling.{AreHeld, KeepsSealed, ReadsTrue, outcome_of}
 use Rattle.ob_exec.proofs.BegunLemmas.{begun_plain}
 use Rattle.ob_exec.proofs.HeldLemmas.{held_kept}
-use Rattle.ob_exec.proofs.RunLemmas.{IsAnswered, engine_after, ran_cut, ran_no_room}
+use Rattle.ob_exec.proofs.RunLemmas.{IsAnswered, engine_after, ran_cut, ran_no_room, only_memory}
 use Rattle.ob_exec.proofs.SealLemmas.{keeps_pass, keeps_rests}
 use Rattle.ob_exec.proofs.TableLemmas.{beside_below, region_below, tables_kept}
 use Rattle.ob_exec.proofs.ToldLemmas.{IsFault, cut_seen, early_held, told_whole}
@@ -53,12 +53,6 @@ serves_as {R} state stmt old s t r q new same answer is serves =
     (subst (λ (a : Result Outcome Stop). ServesSilently state stmt a old s same t) (sym answer) serves)
 
 -- ---- where want of memory comes
-is_no_memory : (e : OpErr) → answer_of e ≡ Err Stops.NoMemory → e ≡ OpErrs.NoMemory
-is_no_memory OpErrs.Failed is = absurd (cc is)
-is_no_memory (OpErrs.Tampered q x) is = absurd (cc is)
-is_no_memory OpErrs.Sink is = absurd (cc is)
-is_no_memory OpErrs.NoMemory is = refl
-
 module _ {R : Type 0} (state : R → RevState) (stmt : Stmt) (old : Engine R) (s : StoreState) (agrees : Agrees state old s)
     (now : refusal_now old.public (count_of old s) stmt ≡ None) (plain : is_counted stmt ≡ false) where
   seen_whole : (tables : Tables) (w : World) → AreHeld old.public.pack old.public.tables tables w → seen old.public (count_of old s) tables stmt ≡ seen_to Whole
@@ -92,7 +86,7 @@ module _ {R : Type 0} (state : R → RevState) (stmt : Stmt) (old : Engine R) (s
 
   -- all of it was asked
   pub finished : (v : Vault R) (room : RoomState) (t : StoreState) (ts : List Table) (outcome : Outcome) → IsAnswered outcome → HasNoRows outcome
-      → Ran state (skeleton stmt) (Ok outcome) old s (engine_after old v room ts Whole old.ended) t
+      → RanStatement state (skeleton stmt) (Ok outcome) old s (engine_after old v room ts Whole old.ended) t
       → KeepsSealed state old s (engine_after old v room ts Whole old.ended) t
       → ((tables : Tables) → ReadsTrue state old s t tables
       → (outcome ≡ outcome_of stmt (verdict old.public (count_of old s) tables stmt)) × AreHeld old.public.pack ts (settle old.public (count_of old s) tables stmt) (at state v t))
@@ -120,7 +114,7 @@ module _ {R : Type 0} (state : R → RevState) (stmt : Stmt) (old : Engine R) (s
   module _ (s1 : StoreState) (v : Vault R) (room : RoomState) (t : StoreState) (rests : Rests s s1) (room_is : room ≡ record old.room { high = max old.room.high old.room.pack }) where
     means_cut : (e : OpErr) (n : ℕ) → n ≡ length t.asked - length s.asked → ((tables : Tables) → ReadsTrue state old s t tables → IsFault e)
         → ((tables : Tables) → AreHeld old.public.pack old.public.tables tables (world_of state old s) → AreHeld old.public.pack old.public.tables tables (at state v t))
-        → Ran state (skeleton stmt) (answer_of e) old s (engine_after old v room old.public.tables (Cut n) (is_stop (answer_of e))) t
+        → RanStatement state (skeleton stmt) (answer_of e) old s (engine_after old v room old.public.tables (Cut n) (is_stop (answer_of e))) t
         → Means state stmt (answer_of e) old s (engine_after old v room old.public.tables (Cut n) (is_stop (answer_of e))) t
     means_cut OpErrs.Failed n count fault kept ran = record {
       told = λ tables reads. record {
@@ -176,7 +170,7 @@ module _ {R : Type 0} (state : R → RevState) (stmt : Stmt) (old : Engine R) (s
                 done = made;
                 rest = more;
                 split = sym parts ∙ sym (script_is (Cut n));
-                asked = (memory (is_no_memory e is)).asked ∙ ap (λ (y : List Access). y ++ made) rests.asked;
+                asked = (memory (only_memory e is)).asked ∙ ap (λ (y : List Access). y ++ made) rests.asked;
                 place = inl (inr refl);
               };
           seals = keeps_pass state old s s1 rests agrees (engine_after old v room old.public.tables (Cut n) (is_stop (answer_of e))) t (at state v t) refl seals;

@@ -17,6 +17,7 @@ use Rattle.ob_vault.specs.Calls.{Lasts, none, one, two}
 use Rattle.ob_flat.specs.declared.flat.Flat.{Flat}
 use Rattle.ob_flat.specs.Flats.{IsFlat}
 use Rattle.ob_exec.specs.Engines.{flat_of, IsTable, IsTableRegion, IsBeside, AreTables, others_of, indexes_of, IsIndexIn}
+use Rattle.ob_reopen.proofs.Lists.{got_last}
 
 no_get : (ts : List Table) (i : ℕ) (t : Table) → ts ≡ [] → slice_get ts i ≡ Some t → ⊥
 no_get [] zero t none is = absurd (cc is)
@@ -114,10 +115,6 @@ get_front [] x y (suc i) is = absurd (cc is)
 get_front (z ∷ xs) x y zero is = is
 get_front (z ∷ xs) x y (suc i) is = get_front xs x y i is
 
-pub get_last : {A : Type 0} (xs : List A) (x : A) → slice_get (xs ++ x ∷ []) (length xs) ≡ Some x
-get_last [] x = refl
-get_last (z ∷ xs) x = get_last xs x
-
 module _ (pack g : ℕ) (ts : List Table) (other : ℕ → Type 0) (indexes : List Index) (new_table : Table) (old new : World) (lasts : Lasts (one g) old new) (ready : Ready old) (next : g ≡ old.vault.next)
     (tables : AreTables ts other indexes pack old) (room : length ts < 64) (fresh : new_table.region ≡ g) (is_table : IsTable pack new_table new)
     (unnamed : (i : ℕ) (t : Table) → slice_get ts i ≡ Some t → t.heading.name ≡ new_table.heading.name → ⊥) where
@@ -167,7 +164,7 @@ module _ (pack g : ℕ) (ts : List Table) (other : ℕ → Type 0) (indexes : Li
       ]) (tables.beside q is)
 
   added_only : (q : ℕ) (shape : Region) → new.vault.revs.live q ≡ Some shape → (q ≡ g) ⊎ (q ≡ g → ⊥) → IsTableRegion (ts ++ new_table ∷ []) q ⊎ other q
-  added_only q shape live (inl here) = inl (record { place = length ts; table = new_table; get = get_last ts new_table; region = fresh ∙ sym here })
+  added_only q shape live (inl here) = inl (record { place = length ts; table = new_table; get = got_last ts new_table; region = fresh ∙ sym here })
   added_only q shape live (inr off) = elim (tables.only q shape (sym (lasts.apart.live q off) ∙ live)) [
     | inl of ↦ inl (record { place = of.place; table = of.table; get = get_front ts new_table of.table of.place of.get; region = of.region })
     | inr closed ↦ inr closed

@@ -19,10 +19,10 @@ use Rattle.ob_flat.specs.declared.fault.OpErr.TheVariants as OpErrs
 use Rattle.ob_sql.specs.declared.stmt.Stmt.{Stmt}
 use Rattle.ob_base.specs.Stored.{headings_of}
 use Rattle.ob_mean.specs.Refusals.{first_holding, early_conditions, early_refusal, limits_of}
-use Rattle.ob_mean.specs.Step.{answered}
+use Rattle.ob_mean.specs.Step.{answered, followed}
 use Rattle.ob_mean.proofs.VerdictLemmas.{seen_late}
 use Rattle.ob_mean.proofs.EarlyLemmas.{allowed}
-use Rattle.ob_mean.specs.Replay.{held_if, done_of, cut_at, count_end, walk_end}
+use Rattle.ob_mean.specs.Replay.{done_of, cut_at, count_end, walk_end}
 use Rattle.ob_mean.specs.Verdict.{Tables, is_late, seen, seen_started, ended as seen_to}
 use Rattle.ob_flat.specs.declared.flat.Flat.{Flat}
 use Rattle.ob_flat.specs.Words.{TamperedIn}
@@ -34,6 +34,11 @@ use Rattle.ob_exec.specs.Running.{answer_of, is_fault, refusal_now, RefusedEarly
 use Rattle.ob_exec.specs.Telling.{AreHeld}
 use Rattle.ob_exec.proofs.HeldLemmas.{held_headings}
 use Rattle.ob_exec.proofs.RunLemmas.{of_other, IsAnswered, IsEarly, early_few}
+use Rattle.ob_select.proofs.SelectHeld.{held_empty}
+
+pub followed_same : (o : Option Refusal) (tables : Tables) → followed o tables tables ≡ tables
+followed_same None tables = refl
+followed_same (Some r) tables = refl
 
 -- the refusal by what is public is that by the tables in place
 pub early_held : (p : Public) (m : ℕ) (stmt : Stmt) (tables : Tables) (w : World) (o : Option Refusal) → AreHeld p.pack p.tables tables w → refusal_now p m stmt ≡ o
@@ -53,17 +58,13 @@ module _ (p : Public) (m : ℕ) (stmt : Stmt) (now : refusal_now p m stmt ≡ No
 pub told_whole : (outcome : Outcome) (whole cut : Type 0) → IsAnswered outcome → whole → by_fault (is_fault outcome) cut whole
 told_whole outcome whole cut answered is = of_other cut whole (is_fault outcome) answered.own is
 
-held_none : {A : Type 0} (b : Bool) (o : Option A) → o ≡ None → held_if b o ≡ None
-held_none true o is = is
-held_none false o is = refl
-
 -- nothing but the end is seen of a statement without a count that was cut off
 pub cut_seen : (failed : Bool) (p : Public) (s : Skeleton) (n k : ℕ) (now : Seen) → now ≡ seen_to Whole → n ≡ k → seen_to (Cut n) ≡ cut_at failed k p s now
 cut_seen failed p s n k now whole same =
     (λ i. record {
-      k = sym (held_none (nat_le (count_end p s) (done_of failed k)) (seen_to (Cut k)).k refl) i;
-      plan = sym (held_none (nat_le (count_end p s) (done_of failed k)) (seen_to (Cut k)).plan refl) i;
-      then = sym (held_none (nat_le (walk_end p s (seen_to Whole)) (done_of failed k)) (seen_to (Cut k)).then refl) i;
+      k = held_empty (nat_le (count_end p s) (done_of failed k)) (seen_to (Cut k)).k refl i;
+      plan = held_empty (nat_le (count_end p s) (done_of failed k)) (seen_to (Cut k)).plan refl i;
+      then = held_empty (nat_le (walk_end p s (seen_to Whole)) (done_of failed k)) (seen_to (Cut k)).then refl i;
       end = Cut (same i);
     })
     ∙ ap (cut_at failed k p s) (sym whole)

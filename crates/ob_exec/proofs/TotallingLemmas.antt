@@ -48,7 +48,7 @@ use Rattle.ob_mean.specs.Refusals.{is_group}
 use Rattle.ob_mean.specs.Step.{agg_of, answered, item_of}
 use Rattle.ob_exec.specs.declared.outcome.Outcome.{Outcome}
 use Rattle.ob_exec.specs.declared.outcome.Outcome.TheVariants.{Rows, Refused}
-use Rattle.ob_exec.specs.Totalling.{Gives, HaltsTotals, Totals, TotalsFit, agg_at, answer_of, ends_by, error_of, labels_at, outcome_at}
+use Rattle.ob_exec.specs.Totalling.{Gives, HaltsTotals, Totals, TotalsFit, agg_at, totalled_answer, ends_by, error_of, labels_at, outcome_at}
 use Rattle.ob_exec.proofs.EmitLemmas.{unfit_none}
 use Rattle.ob_exec.proofs.TotalsLemmas.{all_events, answer_grouped, answer_plain, are_many, begun_rows, group_labels, grouped_as, is_answer, items_within, leads_join, leads_none, not_many, partly_none, partly_rows, plain_aggs, plain_labels, prints_rows}
 
@@ -108,7 +108,7 @@ module _ {E : Type 0} (grew cut : E → E → List Event → Type 0) (faults : E
   halts_none a b same = record {
     events = [];
     ends = subst (λ (x : E). Leads grew grew a x []) (sym same) (leads_none grew a);
-    told = λ s. partly_none (labels_at cs q) (answer_of places cs q s.slots);
+    told = λ s. partly_none (labels_at cs q) (totalled_answer places cs q s.slots);
   }
 
   -- by the error
@@ -146,10 +146,10 @@ module _ {E : Type 0} (grew cut : E → E → List Event → Type 0) (faults : E
     pub aggs_labels : map (G.agg_label cs) aggs ≡ labels_at cs q
     aggs_labels = ap (map (G.agg_label cs)) aggs_are ∙ plain_labels cs q.items plain
 
-    one_row : (slots : Slots) → answer_of places cs q slots ≡ A.Rows (totals aggs (chosen slots) ∷ [])
+    one_row : (slots : Slots) → totalled_answer places cs q slots ≡ A.Rows (totals aggs (chosen slots) ∷ [])
     one_row slots = answer_plain places cs q slots ungrouped ∙ (λ i. A.Rows (totals (sym aggs_is i) (filter (is_true (sym meant i)) (rows slots)) ∷ []))
 
-    row_is : (slots : Slots) (accs : List Shown) → accs ≡ totals aggs (chosen slots) → answer_of places cs q slots ≡ A.Rows (accs ∷ [])
+    row_is : (slots : Slots) (accs : List Shown) → accs ≡ totals aggs (chosen slots) → totalled_answer places cs q slots ≡ A.Rows (accs ∷ [])
     row_is slots accs is = one_row slots ∙ ap (λ (r : List Shown). A.Rows (r ∷ [])) (sym is)
 
     pub totals_row : (accs : List Shown) (labels : List (List ℕ)) (a b : E) → labels ≡ labels_at cs q → Aggregates pack flat (is_true condition) aggs (Ok accs) old new
@@ -187,7 +187,7 @@ module _ {E : Type 0} (grew cut : E → E → List Event → Type 0) (faults : E
             events = part.0;
             ends = part.1;
             told = λ s.
-                partly_rows (labels_at cs q) (answer_of places cs q s.slots) (accs ∷ []) part.0
+                partly_rows (labels_at cs q) (totalled_answer places cs q s.slots) (accs ∷ []) part.0
                 (row_is s.slots accs (all.told s.slots s.is (halt_none reads old new all.ran.ok s.nolie s.unfit)))
                 (subst (λ (l : List (List ℕ)). Begun part.0 (Head l ∷ RowEvent accs ∷ Close 1 ∷ [])) labels_are part.2);
           });
@@ -242,7 +242,7 @@ module _ {E : Type 0} (grew cut : E → E → List Event → Type 0) (faults : E
     counted : (slots : Slots) → length (group_rows slots) ≡ count slots
     counted slots = length-map (group_heads place (chosen slots)) _
 
-    by_count : (slots : Slots) → answer_of places cs q slots ≡ answered (if nat_lt places (count slots) then Some TooManyGroups else None) (A.Rows (group_rows slots))
+    by_count : (slots : Slots) → totalled_answer places cs q slots ≡ answered (if nat_lt places (count slots) then Some TooManyGroups else None) (A.Rows (group_rows slots))
     by_count slots =
         answer_grouped places cs q slots key by_key
         ∙ (λ i.
@@ -283,7 +283,7 @@ module _ {E : Type 0} (grew cut : E → E → List Event → Type 0) (faults : E
       n_is = omega (arith, all.emitted.count)
 
       -- the rows are those of the groups, which are few
-      rows_are : (s : SlotsToEnd pack flat old new) → answer_of places cs q s.slots ≡ A.Rows given
+      rows_are : (s : SlotsToEnd pack flat old new) → totalled_answer places cs q s.slots ≡ A.Rows given
       rows_are s =
           let few = not_many q (count s.slots) (group_rows s.slots) (counted s.slots) (nat_lt places (count s.slots)) n (all.told s.slots s.is s.nolie) in
           by_count s.slots ∙ few.0 ∙ ap A.Rows (sym (all.emitted.told s))
@@ -324,7 +324,7 @@ module _ {E : Type 0} (grew cut : E → E → List Event → Type 0) (faults : E
           ends = subst (Leads grew cut a c) (λ i. Head (items_labels i) ∷ (row_events given ++ Close (n_is i) ∷ []))
               (leads_join grew cut a b c (Head (map (G.item_label cs place) items) ∷ row_events given) (Close n ∷ []) all.emitted.leads last);
           told = λ s.
-              partly_rows (labels_at cs q) (answer_of places cs q s.slots) given _
+              partly_rows (labels_at cs q) (totalled_answer places cs q s.slots) given _
               (rows_are (record { slots = s.slots; is = s.is; nolie = halt_none reads old new all.ran.ok s.nolie s.unfit })) ([], append-nil _);
         });
         failed = no_fault _ e;
@@ -349,7 +349,7 @@ module _ {E : Type 0} (grew cut : E → E → List Event → Type 0) (faults : E
                 let nolie = halt_none reads old new (all.after is) s.nolie s.unfit in
                 let part = given.told s in
                 let shown = group_rows s.slots in
-                partly_rows (labels_at cs q) (answer_of places cs q s.slots) shown given.events
+                partly_rows (labels_at cs q) (totalled_answer places cs q s.slots) shown given.events
                 (by_count s.slots ∙ ap (λ (b : Bool). answered (if b then Some TooManyGroups else None) (A.Rows shown)) (few_groups (count s.slots) (few is s.slots s.is nolie)))
                 (begun_rows (labels_at cs q) shown given.events (part.0, part.1 ∙ (λ i. Head (items_labels i) ∷ row_events shown)));
           }

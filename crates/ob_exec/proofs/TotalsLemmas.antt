@@ -40,9 +40,9 @@ use Rattle.ob_verdict.proofs.AcceptedProof.{totals_places_fit}
 use Rattle.ob_exec.specs.declared.outcome.Outcome.{Outcome}
 use Rattle.ob_exec.specs.declared.outcome.Outcome.TheVariants.{Rows, Refused}
 use Rattle.ob_exec.specs.Running.{IsAnswer}
-use Rattle.ob_exec.proofs.UntilLemmas.{are_rows}
+use Rattle.ob_exec.proofs.EmitLemmas.{are_rows}
 use Rattle.ob_exec.specs.Telling.{Partly, outcome_of}
-use Rattle.ob_exec.specs.Totalling.{Gives, TotalsFit, agg_at, answer_of, totalled}
+use Rattle.ob_exec.specs.Totalling.{Gives, TotalsFit, agg_at, totalled_answer, totalled}
 
 -- ---- the items
 module _ (cs : Columns) where
@@ -114,7 +114,7 @@ totals_fit late limits hs s accepted =
 
 -- ---- the answer
 module _ (places : ℕ) (cs : Columns) (s : SelectTotals) (slots : Slots) where
-  pub answer_plain : s.group ≡ None → answer_of places cs s slots ≡ A.Rows (totals (filter_map (agg_of cs) s.items) (totalled cs s slots) ∷ [])
+  pub answer_plain : s.group ≡ None → totalled_answer places cs s slots ≡ A.Rows (totals (filter_map (agg_of cs) s.items) (totalled cs s slots) ∷ [])
   answer_plain none =
       ap (λ (g : Option ColumnName). answered (if overgroups places g cs (totalled cs s slots) then Some TooManyGroups else None) (A.Rows (total_rows g cs s.items (totalled cs s slots)))) none
 
@@ -124,7 +124,7 @@ module _ (places : ℕ) (cs : Columns) (s : SelectTotals) (slots : Slots) where
   abbrev pub group_rows : ColumnName → List (List Shown)
   group_rows key = grouped (place_of key cs) (map (item_of cs) s.items) (totalled cs s slots)
 
-  pub answer_grouped : (key : ColumnName) → s.group ≡ Some key → answer_of places cs s slots ≡ answered (if nat_lt places (heads key) then Some TooManyGroups else None) (A.Rows (group_rows key))
+  pub answer_grouped : (key : ColumnName) → s.group ≡ Some key → totalled_answer places cs s slots ≡ answered (if nat_lt places (heads key) then Some TooManyGroups else None) (A.Rows (group_rows key))
   answer_grouped key some =
       ap (λ (g : Option ColumnName). answered (if overgroups places g cs (totalled cs s slots) then Some TooManyGroups else None) (A.Rows (total_rows g cs s.items (totalled cs s slots)))) some
 

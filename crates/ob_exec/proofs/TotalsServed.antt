@@ -33,7 +33,7 @@ use Rattle.ob_flat.specs.declared.fault.OpErr.TheVariants as OpErrs
 use Rattle.ob_flat.specs.declared.flat.Flat.{Flat}
 use Rattle.ob_flat.specs.Emission.{SlotsToEnd}
 use Rattle.ob_flat.specs.Flats.{Represents as FlatRepresents}
-use Rattle.ob_flat.specs.Passes.{SinkCause as PassSink}
+use Rattle.ob_flat.specs.Passes.{SinkCause}
 use Rattle.ob_flat.proofs.Resting.{represents_rests}
 use Rattle.ob_sql.specs.declared.stmt.SelectTotals.{SelectTotals}
 use Rattle.ob_sql.specs.declared.stmt.Stmt.{Stmt}
@@ -46,7 +46,7 @@ use Rattle.ob_mean.specs.Names.{columns_at, where_at}
 use Rattle.ob_mean.specs.Prints.{Prints, Unfinished}
 use Rattle.ob_mean.specs.Refusals.{early_refusal, limits_of}
 use Rattle.ob_mean.specs.Settle.{settle}
-use Rattle.ob_mean.specs.Step.{accepted_answer, answered, followed, overgroups, rows_at, totals_answer}
+use Rattle.ob_mean.specs.Step.{accepted_answer, answered, overgroups, rows_at, totals_answer}
 use Rattle.ob_mean.specs.Verdict.{Held, Tables, database, is_late, refusal, verdict, seen, ended as seen_to}
 use Rattle.ob_mean.proofs.VerdictLemmas.{heading-stored, headings-database, stored-database, refused_late}
 use Rattle.ob_exec.specs.declared.engine.Engine.{Engine}
@@ -54,21 +54,22 @@ use Rattle.ob_exec.specs.declared.outcome.Outcome.{Outcome}
 use Rattle.ob_exec.specs.declared.outcome.Outcome.TheVariants.{Refused}
 use Rattle.ob_exec.specs.Agreeing.{Agrees, world_of, count_of}
 use Rattle.ob_exec.specs.Engines.{IsAt, flat_of}
-use Rattle.ob_exec.specs.Running.{Emits, SinkCause, answer_of, is_stop, refusal_now}
-use Rattle.ob_exec.specs.Selecting.{UsesRoom}
+use Rattle.ob_exec.specs.Running.{Emits, SinkStops, answer_of, is_stop, refusal_now}
+use Rattle.ob_select.specs.Selecting.{UsesRoom}
 use Rattle.ob_exec.specs.Serving.{EndsWithin, Serves, Stopped}
-use Rattle.ob_exec.specs.Memory.{HasHalted}
+use Rattle.ob_select.specs.Memory.{HasHalted}
 use Rattle.ob_exec.proofs.BegunLemmas.{begun_plain}
 use Rattle.ob_exec.specs.Telling.{AreHeld, Represents, Partly, IsNotTampered, answer_labels, is_refused, outcome_of}
-use Rattle.ob_exec.specs.Totalling.{IsTotalled, MayTotal, Totals, TotalsFit, ends_by, labels_at, answer_of as answer_at}
+use Rattle.ob_exec.specs.Totalling.{IsTotalled, MayTotal, Totals, TotalsFit, ends_by, labels_at, totalled_answer}
 use Rattle.ob_exec.proofs.FoundLemmas.{heading_found}
 use Rattle.ob_exec.proofs.HeldLemmas.{Beside, held_at}
 use Rattle.ob_exec.proofs.LawfulLemmas.{lawful_now}
-use Rattle.ob_exec.proofs.ReadLemmas.{calm_none, cut_after, held_read, read_cut, read_done, read_flat, read_size, reads, reads_is, went_all}
-use Rattle.ob_exec.proofs.RunLemmas.{IsAnswered, engine_after, ran_no_room}
+use Rattle.ob_exec.proofs.ReadLemmas.{cut_after, held_read, read_cut, read_done, read_flat, read_size, reads, reads_is, went_all}
+use Rattle.ob_exec.proofs.RunLemmas.{IsAnswered, engine_after, ran_no_room, only_memory}
 use Rattle.ob_exec.proofs.SealLemmas.{keeps_pass, keeps_rests}
-use Rattle.ob_exec.proofs.ToldLemmas.{cut_seen, early_held, refused_none, started_seen, told_whole}
+use Rattle.ob_exec.proofs.ToldLemmas.{cut_seen, early_held, refused_none, started_seen, told_whole, followed_same}
 use Rattle.ob_exec.proofs.TotalsLemmas.{partly_none, totals_fit}
+use Rattle.ob_exec.proofs.EmitLemmas.{lie_none}
 
 -- ---- what it means
 -- nothing beside the refusal of too many groups
@@ -77,7 +78,7 @@ either_none true answer = refl
 either_none false answer = refl
 
 verdict_is : (p : Public) (m : ℕ) (tables : Tables) (s : SelectTotals) (x : Stored Held) → early_refusal (is_late m) (limits_of p) (headings tables) (TotalsStmt s) ≡ None
-    → stored_at s.table tables ≡ Some x → verdict p m tables (TotalsStmt s) ≡ answer_at (buffered p.pack p.buffer) x.heading.schema s x.held.slots
+    → stored_at s.table tables ≡ Some x → verdict p m tables (TotalsStmt s) ≡ totalled_answer (buffered p.pack p.buffer) x.heading.schema s x.held.slots
 verdict_is p m tables s x early found =
     let places = buffered p.pack p.buffer in
     let columns_is : columns_at s.table (headings (database tables)) ≡ x.heading.schema =
@@ -92,21 +93,11 @@ verdict_is p m tables s x early found =
     answered (option_or (if overgroups places s.group (columns_is i) chosen then Some TooManyGroups else None) None) (A.Rows (totals_answer s (columns_is i) chosen)))
     ∙ either_none (overgroups places s.group x.heading.schema (filter (is_true (where_at s.cond x.heading.schema)) (rows x.held.slots))) _
 
-followed_same : (o : Option Refusal) (tables : Tables) → followed o tables tables ≡ tables
-followed_same None tables = refl
-followed_same (Some r) tables = refl
-
 is_answered : (outcome : Outcome) → IsTotalled outcome → IsAnswered outcome
 is_answered outcome (inl (k, is)) = subst (λ (o : Outcome). IsAnswered o) (sym is) (record { whole = λ n. refl; own = refl })
 is_answered outcome (inr is) = subst (λ (o : Outcome). IsAnswered o) (sym is) (record { whole = λ n. refl; own = refl })
 
 -- ---- how an error of its pass is answered
-made_none : (e : OpErr) → answer_of e ≡ Err Stops.NoMemory → e ≡ OpErrs.NoMemory
-made_none OpErrs.Failed is = absurd (cc is)
-made_none (OpErrs.Tampered q x) is = absurd (cc is)
-made_none OpErrs.Sink is = absurd (cc is)
-made_none OpErrs.NoMemory is = refl
-
 if_failed : (P : Outcome → Type 0) (e : OpErr) → (e ≡ OpErrs.Failed → P (Refused StoreFault)) → IfOk (answer_of e) P
 if_failed P OpErrs.Failed h = h refl
 if_failed P (OpErrs.Tampered q x) h = tt
@@ -133,7 +124,7 @@ if_stop P (OpErrs.Tampered q x) h = h (Stops.Tampered q x)
 if_stop P OpErrs.Sink h = h Stops.SinkFault
 if_stop P OpErrs.NoMemory h = h Stops.NoMemory
 
-sink_of : (e : OpErr) (a b : ℕ) → PassSink {T = Outcome} (Err e) a b → SinkCause (answer_of e) a b
+sink_of : (e : OpErr) (a b : ℕ) → SinkCause {T = Outcome} (Err e) a b → SinkStops (answer_of e) a b
 sink_of OpErrs.Failed a b is = is
 sink_of (OpErrs.Tampered q x) a b is = is
 sink_of OpErrs.Sink a b is = is
@@ -181,11 +172,11 @@ module _ {R E : Type 0} (state : R → RevState) (grew cut : E → E → List Ev
       represents_rests _ s s1 rests old.room.pack (flat_of table) (beside tables held).table.held.slots
       (subst (λ (n : ℕ). FlatRepresents n (flat_of table) (beside tables held).table.held.slots (world_of state old s)) (sym agrees.room.pack) (beside tables held).represents)
 
-  verdict_at : (tables : Tables) (held : Represents state old s tables) → verdict old.public (count_of old s) tables stmt ≡ answer_at places cs q (beside tables held).table.held.slots
+  verdict_at : (tables : Tables) (held : Represents state old s tables) → verdict old.public (count_of old s) tables stmt ≡ totalled_answer places cs q (beside tables held).table.held.slots
   verdict_at tables held =
       let x = beside tables held in
       verdict_is old.public (count_of old s) tables q x.table (early_held old.public (count_of old s) stmt tables (world_of state old s) None held.held allowed) x.found
-      ∙ (λ j. answer_at (buffered (sym agrees.room.pack j) (sym agrees.room.rows j)) (x.heading j).schema q x.table.held.slots)
+      ∙ (λ j. totalled_answer (buffered (sym agrees.room.pack j) (sym agrees.room.rows j)) (x.heading j).schema q x.table.held.slots)
 
   seen_whole : (tables : Tables) → Represents state old s tables → seen old.public (count_of old s) tables stmt ≡ seen_to Whole
   seen_whole tables held = started_seen old.public (count_of old s) stmt allowed tables (world_of state old s) held.held
@@ -309,13 +300,13 @@ module _ {R E : Type 0} (state : R → RevState) (grew cut : E → E → List Ev
           early = early;
           lawful = lawful_now old.public (count_of old s) stmt (answer_of e) new.seen s.asked t.asked refl refl (λ is. absurd (cc is)) early ran.asked ran.ends;
           memory = λ is.
-              let went = went_all state old s s1 v room t q.table (flat_map named_by q.items) q.group i table agrees rests uses here (totals.after (ap Err (made_none e is))) in
+              let went = went_all state old s s1 v room t q.table (flat_map named_by q.items) q.group i table agrees rests uses here (totals.after (ap Err (only_memory e is))) in
               record {
                 done = reads state old s s1 v room t q.table (flat_map named_by q.items) q.group i table agrees rests uses here;
                 rest = [];
                 split = append-nil _ ∙ sym (reads_is state old s s1 v room t q.table (flat_map named_by q.items) q.group i table agrees rests uses here (Cut n));
                 asked = went.did.asked;
-                place = inr (inr (refl, given_up grew cut given.events out_old out_new (starts out_old) e (made_none e is) given.ends));
+                place = inr (inr (refl, given_up grew cut given.events out_old out_new (starts out_old) e (only_memory e is) given.ends));
               };
           seals = keeps_pass state old s s1 rests agrees new t now refl (λ good accepts. totals.seals.seals good);
           answered = if_failed _ e (λ is. record {
@@ -330,7 +321,7 @@ module _ {R E : Type 0} (state : R → RevState) (grew cut : E → E → List Ev
             told = λ tables reads.
                 let x = beside tables reads.held in
                 let held = before tables reads.held in
-                let none_before : s1.lie ≡ None = rests.lie ∙ calm_none none (world_of state old s) now all.lasts reads.calm reads.unfit in
+                let none_before : s1.lie ≡ None = rests.lie ∙ lie_none none (world_of state old s) now all.lasts reads.calm reads.unfit in
                 subst (λ (l : List (List ℕ)). Partly l (verdict old.public (count_of old s) tables stmt) given.events) (sym labels_are)
                 (subst (λ (a : Answer). Partly (labels_at cs q) a given.events) (sym (verdict_at tables reads.held))
                 (given.told (record { slots = x.table.held.slots; is = held; nolie = none_before; unfit = reads.unfit })));

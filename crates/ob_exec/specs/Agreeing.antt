@@ -8,7 +8,8 @@ use Rattle.ob_vault.specs.State.{RevState, Start, World, earlier}
 use Rattle.ob_vault.specs.Tied.{Ready}
 use Rattle.ob_vault.specs.Places.{at, start_of}
 use Rattle.ob_exec.specs.declared.engine.Engine.{Engine}
-use Rattle.ob_exec.specs.Engines.{AreSettings, IsFree, AreTables, others_of, indexes_of}
+use Rattle.ob_select.specs.Settings.{AreSettings, IsFree}
+use Rattle.ob_exec.specs.Engines.{AreTables, others_of, indexes_of}
 
 -- what is public
 abbrev pub public_of : {R : Type 0} → Engine R → Public

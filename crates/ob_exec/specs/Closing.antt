@@ -7,7 +7,8 @@ use Rattle.ob_base.specs.declared.mark.Mark.{Mark}
 use Rattle.ob_base.specs.declared.mark.Mark.TheVariants.{InUse}
 use Rattle.ob_exec.specs.Agreeing.{engine_keys, engine_start, opened_from, public_of, world_of}
 use Rattle.ob_exec.specs.Resting.{AcceptsClosings, Rests, by_name}
-use Rattle.ob_exec.specs.Telling.{AcceptsRows, Represents}
+use Rattle.ob_select.specs.Selecting.{AcceptsRows}
+use Rattle.ob_exec.specs.Telling.{Represents}
 use Rattle.ob_exec.specs.declared.engine.Engine.{Engine}
 use Rattle.ob_mean.specs.Verdict.{Tables}
 use Rattle.ob_reopen.specs.Closings.{mark_of, write_script}

@@ -1,20 +1,16 @@
 -- The tables of an engine, and the store that it is used with.
 use Rattle.ob_oram.specs.Indexes.{IsIndex}
 use Rattle.ob_oram.specs.declared.index.Index.{Index}
-use Rattle.std.specs.Prelude.{◌≡◌, ◌⊎◌, ◌≤◌, ◌+◌, ◌*◌, ℕ, List, [], Option, Some, length, slice_get}
+use Rattle.std.specs.Prelude.{◌≡◌, ◌⊎◌, ◌≤◌, ℕ, List, [], Option, Some, length, slice_get}
 use Rattle.ob_base.specs.declared.schema.Table.{Table}
-use Rattle.ob_base.specs.declared.config.Public.{Public}
 use Rattle.ob_base.specs.declared.config.Config.{Config}
-use Rattle.ob_base.specs.declared.config.Plan.{Plan}
-use Rattle.ob_base.specs.Plans.{IsPadded}
-use Rattle.ob_room.specs.RoomState.{RoomState}
 use Rattle.ob_reopen.specs.Limits.{IsHeading}
 use Rattle.ob_vault.specs.State.{World}
 use Rattle.ob_vault.specs.Tied.{Lives}
 use Rattle.ob_vault.specs.declared.region.Region.{Region}
 use Rattle.ob_vault.specs.declared.region.Order.TheVariants.{Round}
-use Rattle.ob_blocks.specs.Idle.{IsIdle}
 use Rattle.ob_flat.specs.declared.flat.Flat.{Flat}
+use Rattle.ob_select.specs.Settings.{IsSettings}
 use Rattle.ob_flat.specs.Flats.{IsFlat, table_region}
 
 -- a table as the passes see it
@@ -28,27 +24,9 @@ pub record IsTable (pack : ℕ) (t : Table) (w : World) : Type 0 where
   pub flat : IsFlat pack (flat_of t) w
   pub round : Lives t.region (table_region Round pack t.heading.schema t.heading.capacity) w
 
--- settings within their limits, and a plan that may be taken where results are padded
-pub record IsSettings (buffer depth pack : ℕ) (plan : Option Plan) (pad : Option ℕ) : Type 0 where
-  pub blocks : 3 * pack + 1 ≤ buffer
-  pub most : buffer ≤ 65536
-  pub depth_least : 1 ≤ depth
-  pub depth_most : depth ≤ 8
-  pub pack_least : 1 ≤ pack
-  pub pack_most : pack ≤ 16
-  pub padded : IsPadded pad plan
-
+-- settings that an engine may be started with
 abbrev pub IsConfig : Config → Type 0
 IsConfig config = IsSettings config.buffer config.depth config.pack config.plan config.pad
-
-abbrev pub AreSettings : Public → Type 0
-AreSettings p = IsSettings p.buffer p.depth p.pack p.plan p.pad
-
--- the room has the rows of the buffer, all of them free
-pub record IsFree (public : Public) (room : RoomState) : Type 0 where
-  pub idle : IsIdle 1024 room
-  pub rows : room.rows ≡ public.buffer
-  pub pack : room.pack ≡ public.pack
 
 -- one of the tables lies in this region
 pub record IsTableRegion (tables : List Table) (q : ℕ) : Type 0 where

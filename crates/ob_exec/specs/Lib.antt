@@ -5,11 +5,8 @@ pub mod Agreeing
 pub mod Opening
 pub mod Running
 pub mod Memory
-pub mod Halting
 pub mod Telling
-pub mod Selecting
 pub mod Totalling
-pub mod Results
 pub mod Sources
 pub mod Serving
 pub mod Resting

@@ -9,7 +9,8 @@ use Rattle.ob_base.specs.declared.mark.Mark.{Mark}
 use Rattle.ob_base.specs.declared.mark.Mark.TheVariants.{Fresh, InUse, Closed}
 use Rattle.ob_exec.specs.Agreeing.{Agrees, engine_keys, engine_start, has_ended, high_of, opened_from, public_of, rows_of, world_of}
 use Rattle.ob_exec.specs.Resting.{AcceptsClosings, Rests}
-use Rattle.ob_exec.specs.Telling.{AcceptsRows, Represents}
+use Rattle.ob_select.specs.Selecting.{AcceptsRows}
+use Rattle.ob_exec.specs.Telling.{Represents}
 use Rattle.ob_exec.specs.declared.engine.Engine.{Engine}
 use Rattle.ob_mean.specs.Verdict.{Tables}
 use Rattle.ob_reopen.specs.Closings.{open_script, read_script}

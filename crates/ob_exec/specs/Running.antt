@@ -32,7 +32,7 @@ use Rattle.ob_exec.specs.declared.engine.Engine.{Engine}
 use Rattle.ob_exec.specs.declared.outcome.Outcome.{Outcome}
 use Rattle.ob_exec.specs.declared.outcome.Outcome.TheVariants.{Inserted, Rows, Refused}
 use Rattle.ob_exec.specs.Agreeing.{Agrees, engine_start, opened_from, world_of}
-use Rattle.ob_exec.specs.Engines.{IsFree}
+use Rattle.ob_select.specs.Settings.{IsFree}
 use Rattle.ob_exec.specs.Opening.{Opens}
 use Rattle.ob_exec.specs.Refusals.{refused_end, by_fault}
 
@@ -106,7 +106,7 @@ Continues state skeleton (Err stop) old new t = new.ended ≡ true
 
 -- what a statement did: exactly the accesses of what is seen of it; all rows of the room are free again, and one at least
 -- was open where a block was read or written
-pub record Ran {R : Type 0} (state : R → RevState) (skeleton : Skeleton) (result : Result Outcome Stop)
+pub record RanStatement {R : Type 0} (state : R → RevState) (skeleton : Skeleton) (result : Result Outcome Stop)
     (old : Engine R) (s : StoreState) (new : Engine R) (t : StoreState) : Type 0 where
   pub asked : t.asked ≡ s.asked ++ script old.public skeleton new.seen
   pub later : Later s t
@@ -151,13 +151,13 @@ Emits stmt labels (Refused r) events = by_fault (is_store_fault r) (EmitsUntilFa
 Emits stmt labels _ events = events ≡ []
 
 -- a stop by the sink comes only where a call of the emitter failed, and always where one did
-abbrev pub SinkCause : Result Outcome Stop → ℕ → ℕ → Type 0
-SinkCause (Ok outcome) old new = new ≡ old
-SinkCause (Err SinkFault) old new = Rises old new
-SinkCause (Err (Tampered region place)) old new = new ≡ old
-SinkCause (Err NoMemory) old new = new ≡ old
-SinkCause (Err SourceFault) old new = ⊥
-SinkCause (Err InputLimit) old new = ⊥
+abbrev pub SinkStops : Result Outcome Stop → ℕ → ℕ → Type 0
+SinkStops (Ok outcome) old new = new ≡ old
+SinkStops (Err SinkFault) old new = Rises old new
+SinkStops (Err (Tampered region place)) old new = new ≡ old
+SinkStops (Err NoMemory) old new = new ≡ old
+SinkStops (Err SourceFault) old new = ⊥
+SinkStops (Err InputLimit) old new = ⊥
 
 -- a statement whose answer may be rows
 abbrev pub MayEmit : Stmt → Type 0

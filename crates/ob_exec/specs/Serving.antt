@@ -14,8 +14,9 @@ use Rattle.ob_mean.specs.Verdict.{Tables, verdict, ended as seen_to}
 use Rattle.ob_exec.specs.declared.engine.Engine.{Engine}
 use Rattle.ob_exec.specs.declared.outcome.Outcome.{Outcome}
 use Rattle.ob_exec.specs.Agreeing.{count_of}
-use Rattle.ob_exec.specs.Running.{Ran, RefusedEarly, Emits, SinkCause, IsSilent, MayEmit, refusal_now}
-use Rattle.ob_exec.specs.Memory.{HasHalted, LacksMemory}
+use Rattle.ob_exec.specs.Running.{RanStatement, RefusedEarly, Emits, SinkStops, IsSilent, MayEmit, refusal_now}
+use Rattle.ob_select.specs.Memory.{HasHalted}
+use Rattle.ob_exec.specs.Memory.{LacksMemory}
 use Rattle.ob_exec.specs.Telling.{KeepsSealed, ReadsTrue, ReadsTrueUntil, SeenCut, Told, is_refused, IsNotTampered, Partly, Emitted, answer_labels, meant_script}
 
 -- what an answer emitted
@@ -62,7 +63,7 @@ pub record Serves {R E : Type 0} (state : R → RevState) (grew cut : E → E �
     (old : Engine R) (s : StoreState) (new : Engine R) (t : StoreState)
     (out_old out_new : E) : Type 0 where
   -- whatever the store answers, its accesses are those of what is public, its skeleton and what is seen of it
-  pub ran : Ran state (skeleton stmt) result old s new t
+  pub ran : RanStatement state (skeleton stmt) result old s new t
   -- it is refused before any access exactly where its meaning says so
   pub early : RefusedEarly (refusal_now old.public (count_of old s) stmt) result new.seen
   -- what is seen may be seen
@@ -73,7 +74,7 @@ pub record Serves {R E : Type 0} (state : R → RevState) (grew cut : E → E �
   pub seals : KeepsSealed state old s new t
   pub answered : IfOk result (λ outcome. Answered state grew stmt outcome old s t out_old out_new)
   pub stopped : IfErr result (λ stop. Stopped state grew cut stmt stop old s new t out_old out_new)
-  pub sink : SinkCause result (faults out_old) (faults out_new)
+  pub sink : SinkStops result (faults out_old) (faults out_new)
   -- an emitter stops nothing but a SELECT
   pub emits : result ≡ Err SinkFault → MayEmit stmt
   pub means : Means state stmt result old s new t
@@ -81,7 +82,7 @@ pub record Serves {R E : Type 0} (state : R → RevState) (grew cut : E → E �
 -- the same of a statement that emits nothing and of which nothing is counted, once it isn't refused before any access
 pub record ServesSilently {R : Type 0} (state : R → RevState) (stmt : Stmt) (result : Result Outcome Stop)
     (old : Engine R) (s : StoreState) (new : Engine R) (t : StoreState) : Type 0 where
-  pub ran : Ran state (skeleton stmt) result old s new t
+  pub ran : RanStatement state (skeleton stmt) result old s new t
   pub started : new.seen.end ≡ Static → ⊥
   pub uncounted : new.seen.end ≡ AfterCount → ⊥
   pub plain : new.seen ≡ seen_to new.seen.end

@@ -26,13 +26,13 @@ use Rattle.ob_mean.specs.Replay.{count_end, walk_end, done_of, held_if}
 use Rattle.ob_mean.specs.Step.{printed_places, select_columns, select_condition}
 use Rattle.ob_mean.specs.Verdict.{Tables, source_slots}
 use Rattle.ob_verdict.specs.Laws.{AreInPlace}
-use Rattle.ob_exec.specs.declared.selecting.Selected.{Selected}
-use Rattle.ob_exec.specs.declared.selecting.Selected.TheVariants.{Rows, Refused}
+use Rattle.ob_select.specs.declared.selecting.Selected.{Selected}
+use Rattle.ob_select.specs.declared.selecting.Selected.TheVariants.{Rows, Refused}
 use Rattle.ob_exec.specs.declared.outcome.Outcome.{Outcome}
 use Rattle.ob_exec.specs.declared.outcome.Outcome.TheVariants.{Rows as RowsOut, Refused as RefusedOut}
-use Rattle.ob_exec.specs.Halting.{EmitsUntil}
-use Rattle.ob_exec.specs.Memory.{AtMake, BeforeResult, HasCounted, HasHalted, is_reading}
-use Rattle.ob_exec.specs.Selecting.{Selection, SealsRows, MayHold, EndsAs, from, shown_rows, answer_of, answer_events, seen_of}
+use Rattle.ob_select.specs.Halting.{EmitsUntil}
+use Rattle.ob_select.specs.Memory.{AtMake, BeforeResult, HasCounted, HasHalted, is_reading}
+use Rattle.ob_select.specs.Selecting.{Selection, SealsRows, MayHold, EndsSelected, from, shown_rows, selection_answer, answer_events, selection_seen}
 use Rattle.ob_exec.specs.Telling.{AreHeld}
 
 -- what is selected, as if the source were one region
@@ -91,12 +91,12 @@ pub record ReachesRows (p : Public) (select : SelectRows) (seen : Seen) (n : ℕ
 pub record HoldsRows (p : Public) (select : SelectRows) (slots : Slots) (failed : Bool) (n : ℕ)
     (seen : Seen) : Type 0 where
   pub k : seen.k ≡ held_if (nat_le (count_end p (rows_skeleton select)) (done_of failed n))
-      (seen_of (selection p select) slots).k
+      (selection_seen (selection p select) slots).k
   pub plan : seen.plan ≡ held_if (nat_le (count_end p (rows_skeleton select)) (done_of failed n))
-      (seen_of (selection p select) slots).plan
+      (selection_seen (selection p select) slots).plan
   pub second : seen.then
-      ≡ held_if (nat_le (walk_end p (rows_skeleton select) (seen_of (selection p select) slots))
-      (done_of failed n)) (seen_of (selection p select) slots).then
+      ≡ held_if (nat_le (walk_end p (rows_skeleton select) (selection_seen (selection p select) slots))
+      (done_of failed n)) (selection_seen (selection p select) slots).then
 
 -- ---- what it does
 -- want of memory comes before the first access, at a make, just before that of a result that isn't padded, or once it has
@@ -114,7 +114,7 @@ pub record LacksRowMemory (p : Public) (select : SelectRows) (seen : Seen) (old 
 abbrev pub ReadsMeant : Public → SelectRows → (old new : World) → Type 0
 ReadsMeant p select old new =
     (s : SourceToEnd p old old) (lie : Lie) → new.store.lie ≡ Some lie
-    → ReadsIn lie (old.store.asked ++ rows_script p select (seen_of (selection p select) (slots_of p select s.tables)))
+    → ReadsIn lie (old.store.asked ++ rows_script p select (selection_seen (selection p select) (slots_of p select s.tables)))
 
 -- no region is left but those that there were
 pub record LeavesNone (old new : World) : Type 0 where
@@ -135,11 +135,11 @@ pub record EndsRows {E : Type 0} (grew : E → E → List Event → Type 0) (p :
   pub leaves : LeavesNone old new
   pub seals : SealsRows p.pack old new
   pub holds : MayHold (selection p select) seen.k seen.plan seen.then
-  pub ended : EndsAs (selection p select) answer seen
+  pub ended : EndsSelected (selection p select) answer seen
   pub emitted : EmitsRows grew p select answer old new out_old out_new
   pub told : (s : SourceToEnd p old new)
-      → (answer ≡ answer_of (selection p select) (slots_of p select s.tables))
-      × (seen ≡ seen_of (selection p select) (slots_of p select s.tables))
+      → (answer ≡ selection_answer (selection p select) (slots_of p select s.tables))
+      × (seen ≡ selection_seen (selection p select) (slots_of p select s.tables))
   pub begun : ReadsMeant p select old new
 
 -- an access failed, or gave a changed block, or the emitter failed, or memory was wanted

@@ -7,7 +7,6 @@ use Rattle.ob_base.specs.declared.refusal.Stop.{Stop}
 use Rattle.ob_base.specs.declared.refusal.Stop.TheVariants.{Tampered}
 use Rattle.ob_base.specs.declared.schema.Table.{Table}
 use Rattle.ob_base.specs.Events.{Event}
-use Rattle.ob_base.specs.Schemas.{Columns}
 use Rattle.ob_store.specs.State.{StoreState}
 use Rattle.ob_script.specs.Script.{script}
 use Rattle.ob_vault.specs.State.{RevState, World}
@@ -24,6 +23,7 @@ use Rattle.ob_mean.specs.Settle.{settle}
 use Rattle.ob_mean.specs.Replay.{cut_at}
 use Rattle.ob_mean.specs.Prints.{Prints, Unfinished, Begun, labels_of}
 use Rattle.ob_base.specs.Stored.{headings_of}
+use Rattle.ob_select.specs.Selecting.{AcceptsRows}
 use Rattle.ob_exec.specs.declared.engine.Engine.{Engine}
 use Rattle.ob_exec.specs.declared.outcome.Outcome.{Outcome}
 use Rattle.ob_exec.specs.declared.outcome.Outcome.TheVariants.{Created, Inserted, Changed, Deleted, Dropped, Rows, Refused}
@@ -133,10 +133,6 @@ Emitted stmt p m tables outcome events =
     (Prints (answer_labels stmt p) (verdict p m tables stmt) events)
 
 -- ---- nothing lies in clear
--- blocks of this many rows or dummies are good in every region
-abbrev pub AcceptsRows : (good : ℕ → List ℕ → Bool) → (pack : ℕ) → Type 0
-AcceptsRows good pack = (columns : Columns) (region : ℕ) → F.Accepts good pack columns region
-
 -- where each block of a live region was sealed, of rows that are good, under the position of the last write to its place,
 -- and once a call has failed of a write to it, it is
 abbrev pub KeepsSealed : {R : Type 0} → (R → RevState) → (old : Engine R) → StoreState → (new : Engine R) → StoreState → Type 0

@@ -59,8 +59,8 @@ abbrev pub refusal_of : (places : ℕ) → Columns → SelectTotals → Slots �
 refusal_of places cs s slots =
     if overgroups places s.group cs (totalled cs s slots) then Some TooManyGroups else None
 
-abbrev pub answer_of : (places : ℕ) → Columns → SelectTotals → Slots → Answer
-answer_of places cs s slots =
+abbrev pub totalled_answer : (places : ℕ) → Columns → SelectTotals → Slots → Answer
+totalled_answer places cs s slots =
     answered (refusal_of places cs s slots) (Rows (totals_answer s cs (totalled cs s slots)))
 
 abbrev pub outcome_at : SelectTotals → Answer → Outcome
@@ -113,7 +113,7 @@ pub record EmitsTotals {E : Type 0} (grew : E → E → List Event → Type 0)
   pub leads : Leads grew grew out_old out_new events
   pub emits : Emits (TotalsStmt s) (labels_at flat.schema s) outcome events
   pub told : (q : SlotsToEnd pack flat old new)
-      → Prints (labels_at flat.schema s) (answer_of places flat.schema s q.slots) events
+      → Prints (labels_at flat.schema s) (totalled_answer places flat.schema s q.slots) events
 
 -- an emitter that gave up ends within what it took last
 abbrev pub ends_by : {E : Type 0} → (grew cut : E → E → List Event → Type 0) → OpErr → E → E → List Event → Type 0
@@ -129,7 +129,7 @@ pub record HaltsTotals {E : Type 0} (grew to : E → E → List Event → Type 0
   pub events : List Event
   pub ends : Leads grew to out_old out_new events
   pub told : (q : SlotsToHalt pack flat old new)
-      → Partly (labels_at flat.schema s) (answer_of places flat.schema s q.slots) events
+      → Partly (labels_at flat.schema s) (totalled_answer places flat.schema s q.slots) events
 
 -- each block was read once, in order, and then the totals of the selected rows were emitted, or those of
 -- each group of them; none where the store failed
@@ -148,5 +148,5 @@ pub record Totals {E : Type 0} (grew cut : E → E → List Event → Type 0) (f
       → Went (count_part flat.region (blocks_of pack flat)) none old new
   pub sink : SinkCause result (faults out_old) (faults out_new)
   pub told : (q : SlotsToEnd pack flat old new) → MatchResult result
-      (λ outcome. outcome ≡ outcome_at s (answer_of places flat.schema s q.slots))
+      (λ outcome. outcome ≡ outcome_at s (totalled_answer places flat.schema s q.slots))
       (λ e. (e ≡ Failed) ⊎ (e ≡ Sink) ⊎ (e ≡ NoMemory))

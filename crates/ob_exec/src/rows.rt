@@ -17,13 +17,11 @@ ghost use Rattle.ob_exec.specs.Sources.{SelectsRows, UsesRoomFor, IsFew, closing
 
 use crate::engine::{Engine, seen_to_end};
 use crate::outcome::Outcome;
-use crate::places::printed_places;
-use crate::results::padded_length;
-use crate::selecting::{Query, Selected, select_from};
 use ob_base::{Emit, EmitErr, End, Name, Public, Seen, Source, Stop};
 use ob_flat::{Flat, OpErr};
 use ob_mean::{left_place, right_place, where_at};
 use ob_order::Order;
+use ob_select::{Query, Selected, padded_length, printed_places, select_from};
 use ob_sql::SelectRows;
 use ob_store::BlockStore;
 use ob_vault::Revisions;

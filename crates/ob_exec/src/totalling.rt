@@ -5,7 +5,7 @@ ghost use Rattle.ob_base.specs.Limits.{buffered};
 ghost use Rattle.ob_vault.specs.Places.{at};
 ghost use Rattle.ob_group.specs.Labels.{agg_label};
 ghost use Rattle.ob_mean.specs.Step.{item_of};
-ghost use Rattle.ob_exec.specs.Selecting.{UsesRoom};
+ghost use Rattle.ob_select.specs.Selecting.{UsesRoom};
 ghost use Rattle.ob_exec.specs.Totalling.{agg_at, error_of, Gives, MayTotal, Totals};
 
 use crate::outcome::Outcome;

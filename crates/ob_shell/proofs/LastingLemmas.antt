@@ -4,7 +4,7 @@ use Rattle.ob_base.specs.declared.config.Config.{Config}
 use Rattle.ob_base.specs.declared.config.Public.{Public}
 use Rattle.ob_base.specs.declared.refusal.Stop.{Stop}
 use Rattle.ob_exec.specs.Agreeing.{public_of, rows_of, world_of}
-use Rattle.ob_exec.specs.Telling.{AcceptsRows}
+use Rattle.ob_select.specs.Selecting.{AcceptsRows}
 use Rattle.ob_exec.specs.declared.engine.Engine.{Engine}
 use Rattle.ob_store.specs.State.{StoreState}
 use Rattle.ob_shell.specs.Running.{LastPart}

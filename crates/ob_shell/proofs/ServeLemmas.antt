@@ -9,7 +9,7 @@ use Rattle.ob_base.specs.declared.refusal.Stop.{Stop}
 use Rattle.ob_base.specs.declared.refusal.Refusal.TheVariants.{Syntax}
 use Rattle.ob_base.specs.declared.refusal.Stop.TheVariants.{InputLimit, NoMemory, SinkFault, SourceFault, Tampered}
 use Rattle.ob_exec.specs.Agreeing.{seen_of}
-use Rattle.ob_exec.specs.Running.{SinkCause}
+use Rattle.ob_exec.specs.Running.{SinkStops}
 use Rattle.ob_exec.specs.Serving.{Serves}
 use Rattle.ob_exec.specs.declared.outcome.Outcome.{Outcome}
 use Rattle.ob_exec.specs.declared.outcome.Outcome.TheVariants.{Refused}
@@ -135,7 +135,7 @@ misspelt state w m text at spells = record {
 }
 
 -- of the emitter's stop alone the count rises
-stop_keeps : (stop : Stop) (out0 out1 : ℕ) → (stop ≡ SinkFault → ⊥) → SinkCause (Err stop) out0 out1 → out1 ≡ out0
+stop_keeps : (stop : Stop) (out0 out1 : ℕ) → (stop ≡ SinkFault → ⊥) → SinkStops (Err stop) out0 out1 → out1 ≡ out0
 stop_keeps (Tampered region place) out0 out1 not cause = cause
 stop_keeps NoMemory out0 out1 not cause = cause
 stop_keeps SinkFault out0 out1 not cause = absurd (not refl)
@@ -143,7 +143,7 @@ stop_keeps SourceFault out0 out1 not cause = absurd cause
 stop_keeps InputLimit out0 out1 not cause = absurd cause
 
 -- a stop of the engine, and what waited was flushed after it
-pub stop_cause : (T : Type 0) (stop : Stop) (out0 out1 out2 : ℕ) → SinkCause (Err stop) out0 out1 → out1 ≤ out2 → StopCause {T = T} (faults_of 0 out0 0) (faults_of 0 out2 0) (Err stop)
+pub stop_cause : (T : Type 0) (stop : Stop) (out0 out1 out2 : ℕ) → SinkStops (Err stop) out0 out1 → out1 ≤ out2 → StopCause {T = T} (faults_of 0 out0 0) (faults_of 0 out2 0) (Err stop)
 stop_cause T (Tampered region place) out0 out1 out2 cause later = (refl, omega arith, omega arith)
 stop_cause T NoMemory out0 out1 out2 cause later = (refl, omega arith, omega arith)
 stop_cause T SinkFault out0 out1 out2 cause later = (refl, inl (rises_later out0 out1 out2 cause later))
@@ -151,7 +151,7 @@ stop_cause T SourceFault out0 out1 out2 cause later = absurd cause
 stop_cause T InputLimit out0 out1 out2 cause later = absurd cause
 
 -- whether what waited could be flushed after it
-pub flush_silences : {T E : Type 0} (stop : Stop) (r : Result T E) (quiet : Bool) (out0 out1 out2 : ℕ) → (stop ≡ SinkFault → ⊥) → SinkCause (Err stop) out0 out1 → quiet ≡ is_err r → HasCause out1 out2 r
+pub flush_silences : {T E : Type 0} (stop : Stop) (r : Result T E) (quiet : Bool) (out0 out1 out2 : ℕ) → (stop ≡ SinkFault → ⊥) → SinkStops (Err stop) out0 out1 → quiet ≡ is_err r → HasCause out1 out2 r
     → Silenced quiet (faults_of 0 out0 0) (faults_of 0 out2 0)
 flush_silences stop (Ok x) quiet out0 out1 out2 not cause is flushed = rw is (flushed.kept ∙ stop_keeps stop out0 out1 not cause, refl)
 flush_silences stop (Err e) quiet out0 out1 out2 not cause is flushed =
@@ -159,7 +159,7 @@ flush_silences stop (Err e) quiet out0 out1 out2 not cause is flushed =
     rw is (inl (rises_earlier out0 out1 out2 (omega (arith, same)) flushed.failed))
 
 -- where the flush after it fails, what waited may be lost
-pub flush_loses : {T E : Type 0} (stop : Stop) (r : Result T E) (quiet : Bool) (out0 out1 out2 : ℕ) → (stop ≡ SinkFault → ⊥) → SinkCause (Err stop) out0 out1 → quiet ≡ is_err r → HasCause out1 out2 r → IsErr r
+pub flush_loses : {T E : Type 0} (stop : Stop) (r : Result T E) (quiet : Bool) (out0 out1 out2 : ℕ) → (stop ≡ SinkFault → ⊥) → SinkStops (Err stop) out0 out1 → quiet ≡ is_err r → HasCause out1 out2 r → IsErr r
     → OutFailed quiet out0 out2
 flush_loses stop (Ok x) quiet out0 out1 out2 not cause is flushed failed = absurd (cc failed)
 flush_loses stop (Err e) quiet out0 out1 out2 not cause is flushed failed =

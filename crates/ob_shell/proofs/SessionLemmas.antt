@@ -18,7 +18,8 @@ use Rattle.ob_exec.specs.Agreeing.{count_of, engine_keys, engine_start, opened_f
 use Rattle.ob_exec.specs.Closing.{ClosesEngine, IsClosedAs, StaysInUse, closing_script, is_used_up, next_closing}
 use Rattle.ob_exec.specs.Resting.{Rests, by_name}
 use Rattle.ob_exec.specs.Opening.{is_of_rows}
-use Rattle.ob_exec.specs.Telling.{AcceptsRows, AreHeld, Represents}
+use Rattle.ob_select.specs.Selecting.{AcceptsRows}
+use Rattle.ob_exec.specs.Telling.{AreHeld, Represents}
 use Rattle.ob_exec.specs.declared.engine.Engine.{Engine}
 use Rattle.ob_mean.specs.Replay.{Broken, Session, after_all, all_served}
 use Rattle.ob_mean.specs.Verdict.{Tables}

@@ -14,7 +14,7 @@ use Rattle.ob_base.specs.declared.refusal.Stop.TheVariants.{InputLimit, NoMemory
 use Rattle.ob_base.specs.declared.seen.End.{End}
 use Rattle.ob_base.specs.declared.seen.Seen.{Seen}
 use Rattle.ob_exec.specs.Agreeing.{engine_start, opened_from, public_of, seen_of, world_of}
-use Rattle.ob_exec.specs.Memory.{AtMake}
+use Rattle.ob_select.specs.Memory.{AtMake}
 use Rattle.ob_exec.specs.Refusals.{by_fault, refused_end}
 use Rattle.ob_exec.specs.Running.{Emits, RefusedEarly, RunCause, is_fault, outcome_end, refusal_now}
 use Rattle.ob_exec.specs.Telling.{IsNotTampered, meant_script, ReadsTrue, ReadsTrueUntil, Represents, answer_labels, is_refused}

@@ -8,7 +8,7 @@ use Rattle.ob_base.specs.declared.refusal.Stop.{Stop}
 use Rattle.ob_base.specs.declared.refusal.Stop.TheVariants.{Tampered, SourceFault, SinkFault, NoMemory, InputLimit}
 use Rattle.ob_exec.specs.Agreeing.{Agrees, count_of, has_ended, public_of, seen_of}
 use Rattle.ob_exec.specs.Memory.{LacksMemory}
-use Rattle.ob_exec.specs.Running.{Ran, RefusedEarly, Emits, MayEmit, refusal_now}
+use Rattle.ob_exec.specs.Running.{RanStatement, RefusedEarly, Emits, MayEmit, refusal_now}
 use Rattle.ob_exec.specs.Serving.{Means}
 use Rattle.ob_exec.specs.Telling.{KeepsSealed, ReadsTrue, ReadsTrueUntil, Emitted, Partly, answer_labels}
 use Rattle.ob_mean.specs.Lawful.{Lawful}
@@ -63,7 +63,7 @@ session_of m tables = record { public = public_of m.engine; tables = tables; ask
 -- the engine carried out a statement, whatever it answered
 pub record Does {R : Type 0} (state : R → RevState) (m0 m1 : Machine R) (stmt : Stmt)
     (result : Result Outcome Stop) : Type 0 where
-  pub ran : Ran state (skeleton stmt) result m0.engine m0.store m1.engine m1.store
+  pub ran : RanStatement state (skeleton stmt) result m0.engine m0.store m1.engine m1.store
   pub early : RefusedEarly (refusal_now (public_of m0.engine) (asked_of m0) stmt) result
       (seen_of m1.engine)
   pub lawful : Lawful (public_of m0.engine) (asked_of m0) stmt (seen_of m1.engine)

@@ -19,10 +19,12 @@ use Rattle.ob_base.specs.declared.refusal.Stop.TheVariants.{Tampered, SourceFaul
 use Rattle.ob_base.specs.declared.seen.End.{End}
 use Rattle.ob_base.specs.declared.seen.End.TheVariants.{Cut}
 use Rattle.ob_base.specs.declared.seen.Seen.{Seen}
-use Rattle.ob_exec.specs.Memory.{AtMake, AtResult, AtEmission}
+use Rattle.ob_select.specs.Memory.{AtMake}
+use Rattle.ob_exec.specs.Memory.{AtResult, AtEmission}
 use Rattle.ob_exec.specs.Resting.{AcceptsClosings}
 use Rattle.ob_exec.specs.Running.{Emits, MayEmit, refusal_now}
-use Rattle.ob_exec.specs.Telling.{AcceptsRows, Partly, outcome_of}
+use Rattle.ob_select.specs.Selecting.{AcceptsRows}
+use Rattle.ob_exec.specs.Telling.{Partly, outcome_of}
 use Rattle.ob_exec.specs.declared.outcome.Outcome.{Outcome}
 use Rattle.ob_exec.specs.declared.outcome.Outcome.TheVariants.{Refused}
 use Rattle.ob_mean.specs.Lawful.{Lawful}

@@ -1,36 +1,23 @@
-use Rattle.std.proofs.Common.{◌≡◌, ◌++◌, ◌+◌, ◌*◌, ℕ, false, List, length, Ok, Err, Result, refl, sym, ◌∙◌, ap, subst, arith}
-use Rattle.std.specs.Prelude.{OnOk, not}
-use Rattle.std.specs.Result.{is_err}
+use Rattle.std.proofs.Common.{◌++◌, ℕ, List, length, Ok, Err, refl, sym, ◌∙◌, ap, subst, arith}
+use Rattle.std.specs.Prelude.{not}
 use Rattle.std.specs.List.{list_any}
 use Rattle.ob_base.specs.declared.skeleton.Source.{Source}
-use Rattle.ob_base.specs.Joins.{joined_blocks, joined_slots}
-use Rattle.ob_base.specs.Numbers.{blocks_for}
 use Rattle.ob_base.specs.Stored.{has_table, headings_of}
-use Rattle.ob_row.specs.Results.{joined}
 use Rattle.ob_vault.specs.Places.{at}
 use Rattle.ob_sql.specs.declared.stmt.Stmt.TheVariants.{SelectRows as RowsStmt}
 use Rattle.ob_mean.specs.Refusals.{left_place, right_place, source_tables, limits_of}
-use Rattle.ob_flat.specs.declared.flat.Flat.{Flat}
-use Rattle.ob_join.specs.Join.{Joins, TellsSlots, join_in}
 use Rattle.ob_mean.specs.Verdict.{is_late}
 use Rattle.ob_mean.proofs.EarlyLemmas.{allowed}
-use Rattle.ob_vault.specs.Places.{at}
-use Rattle.ob_exec.specs.Agreeing.{world_of, count_of}
-use Rattle.ob_exec.specs.Engines.{flat_of}
-use Rattle.ob_exec.specs.Selecting.{MaySelect, Selection, SelectsFrom}
-use Rattle.ob_exec.proofs.RowsJoin.{asks_few, slots_few, join_idle, join_may, join_some, join_starts}
-use Rattle.ob_exec.proofs.RowsJoinStart.{join_stops, start_query, join_selects}
-use Rattle.ob_exec.proofs.RowsJoinEnd.{join_ends, join_halts, join_query}
+use Rattle.ob_exec.specs.Agreeing.{count_of}
+use Rattle.ob_select.specs.Selecting.{MaySelect, Selection, SelectsFrom}
+use Rattle.ob_exec.proofs.RowsJoin.{IsPaired, asks_few, slots_few, join_idle, join_may, join_of, join_query, join_some, join_starts}
+use Rattle.ob_exec.proofs.RowsJoinStart.{join_stops, join_selects}
+use Rattle.ob_exec.proofs.RowsJoinEnd.{join_ends, join_halts}
 use Rattle.ob_exec.proofs.RowsNothing.{halts_first}
 use Rattle.ob_exec.proofs.RowsRoom.{lives_after, room_twice}
 use Rattle.ob_exec.proofs.RowsSource.{there_are}
-use Rattle.ob_exec.proofs.RunLemmas.{rests_refl}
+use Rattle.ob_exec.proofs.RunLemmas.{at_ok, rests_refl}
 use Rattle.ob_exec.proofs.engine.Engine.select_join.Goals as goal
-
--- what holds at an `Ok`, where there is no `Err`
-at_ok : {T E : Type 0} (r : Result T E) (P : Type 0) → is_err r ≡ false → OnOk r P → P
-at_ok (Ok x) P ok h = h
-at_ok (Err e) P ok h = absurd (cc ok)
 
 pub table_at-left-requires : goal.table_at-left-requires
 table_at-left-requires g c =
@@ -48,187 +35,94 @@ table_at-right-requires g c =
 
 pub returns-in_default-where_at-clause-selects : goal.returns-in_default-where_at-clause-selects
 returns-in_default-where_at-clause-selects g c =
-    let old = c.args.self.now in
-    let state = g.R.Revisions.state in
-    let s = g.S.BlockStore.state c.args.store.now in
-    let one = c.table_at-left.ensures in
-    let two = c.table_at-right.ensures in
-    let left = one.here in
-    let right = two.here in
+    let y = join_of c.args.select.now c.requires.agrees c.requires.allowed c.in-Join.is c.table_at-left.ensures c.table_at-right.ensures in
     record {
       ended = tt;
-      halted = halts_first g.E.Emit.grew g.E.Emit.cut old.public c.args.select.now c.args.seen.now (world_of state old s).vault s s c.args.out.now c.requires.agrees.ready (rests_refl s) c.requires.fresh
-          (join_some state old s c.table_at-left.result.0 c.table_at-right.result.0 one.table two.table c.in-Join.left c.in-Join.right c.in-Join.on c.in-Join.equals c.args.select.now c.requires.agrees left.get right.get left.named right.named c.in-Join.is);
+      halted = halts_first g.E.Emit.grew g.E.Emit.cut c.args.self.now.public c.args.select.now c.args.seen.now _ (g.S.BlockStore.state c.args.store.now) _ c.args.out.now c.requires.agrees.ready (rests_refl _) c.requires.fresh (join_some y);
       sink = refl;
     }
 
 pub returns-in_default-new-clause-selects : goal.returns-in_default-new-clause-selects
 returns-in_default-new-clause-selects g c =
-    let old = c.args.self.now in
-    let state = g.R.Revisions.state in
-    let s = g.S.BlockStore.state c.args.store.now in
-    let one = c.table_at-left.ensures in
-    let two = c.table_at-right.ensures in
-    let left = one.here in
-    let right = two.here in
+    let y = join_of c.args.select.now c.requires.agrees c.requires.allowed c.in-Join.is c.table_at-left.ensures c.table_at-right.ensures in
     record {
       ended = tt;
-      halted = halts_first g.E.Emit.grew g.E.Emit.cut old.public c.args.select.now c.args.seen.now (world_of state old s).vault s s c.args.out.now c.requires.agrees.ready (rests_refl s) c.requires.fresh
-          (join_some state old s c.table_at-left.result.0 c.table_at-right.result.0 one.table two.table c.in-Join.left c.in-Join.right c.in-Join.on c.in-Join.equals c.args.select.now c.requires.agrees left.get right.get left.named right.named c.in-Join.is);
+      halted = halts_first g.E.Emit.grew g.E.Emit.cut c.args.self.now.public c.args.select.now c.args.seen.now _ (g.S.BlockStore.state c.args.store.now) _ c.args.out.now c.requires.agrees.ready (rests_refl _) c.requires.fresh (join_some y);
       sink = refl;
     }
 
 pub returns-then-is_err-clause-selects : goal.returns-then-is_err-clause-selects
 returns-then-is_err-clause-selects g c =
-    let old = c.args.self.now in
-    let state = g.R.Revisions.state in
-    let s = g.S.BlockStore.state c.args.store.now in
-    let one = c.table_at-left.ensures in
-    let two = c.table_at-right.ensures in
-    let left = one.here in
-    let right = two.here in
+    let y = join_of c.args.select.now c.requires.agrees c.requires.allowed c.in-Join.is c.table_at-left.ensures c.table_at-right.ensures in
     record {
       ended = tt;
-      halted = halts_first g.E.Emit.grew g.E.Emit.cut old.public c.args.select.now c.args.seen.now (world_of state old s).vault s (g.S.BlockStore.state c.room.new.self) c.args.out.now c.requires.agrees.ready c.room.ensures.rests c.requires.fresh
-          (join_some state old s c.table_at-left.result.0 c.table_at-right.result.0 one.table two.table c.in-Join.left c.in-Join.right c.in-Join.on c.in-Join.equals c.args.select.now c.requires.agrees left.get right.get left.named right.named c.in-Join.is);
+      halted = halts_first g.E.Emit.grew g.E.Emit.cut c.args.self.now.public c.args.select.now c.args.seen.now _ (g.S.BlockStore.state c.args.store.now) _ c.args.out.now c.requires.agrees.ready c.room.ensures.rests c.requires.fresh (join_some y);
       sink = refl;
     }
 
 pub joined_slots-requires-clause-few : goal.joined_slots-requires-clause-few
 joined_slots-requires-clause-few g c =
-    let old = c.args.self.now in
-    let state = g.R.Revisions.state in
-    let s = g.S.BlockStore.state c.args.store.now in
-    let one = c.table_at-left.ensures in
-    let two = c.table_at-right.ensures in
-    let left = one.here in
-    let right = two.here in
-    slots_few state old s c.table_at-left.result.0 c.table_at-right.result.0 one.table two.table c.in-Join.left c.in-Join.right c.in-Join.on c.in-Join.equals c.args.select.now c.requires.agrees left.get right.get left.named right.named c.in-Join.is c.requires.allowed c.table_at-left.result.1 c.table_at-right.result.1 one.is two.is
+    let y = join_of c.args.select.now c.requires.agrees c.requires.allowed c.in-Join.is c.table_at-left.ensures c.table_at-right.ensures in
+    slots_few y
 
 pub padded_length-padded-requires-clause-size : goal.padded_length-padded-requires-clause-size
 padded_length-padded-requires-clause-size g c =
-    let old = c.args.self.now in
-    let state = g.R.Revisions.state in
-    let s = g.S.BlockStore.state c.args.store.now in
-    let one = c.table_at-left.ensures in
-    let two = c.table_at-right.ensures in
-    let left = one.here in
-    let right = two.here in
-    let few = slots_few state old s c.table_at-left.result.0 c.table_at-right.result.0 one.table two.table c.in-Join.left c.in-Join.right c.in-Join.on c.in-Join.equals c.args.select.now c.requires.agrees left.get right.get left.named right.named c.in-Join.is c.requires.allowed c.table_at-left.result.1 c.table_at-right.result.1 one.is two.is in
-    omega (arith, c.joined_slots.ensures, few)
+    let y = join_of c.args.select.now c.requires.agrees c.requires.allowed c.in-Join.is c.table_at-left.ensures c.table_at-right.ensures in
+    omega (arith, c.joined_slots.ensures, slots_few y)
 
 pub overflow_add-accesses : goal.overflow_add-accesses
 overflow_add-accesses g c =
-    let old = c.args.self.now in
-    let state = g.R.Revisions.state in
-    let s = g.S.BlockStore.state c.args.store.now in
-    let one = c.table_at-left.ensures in
-    let two = c.table_at-right.ensures in
-    let left = one.here in
-    let right = two.here in
-    let few = asks_few state old s c.table_at-left.result.0 c.table_at-right.result.0 one.table two.table c.in-Join.left c.in-Join.right c.in-Join.on c.in-Join.equals c.args.select.now c.requires.agrees left.get right.get left.named right.named c.in-Join.is c.requires.allowed c.table_at-left.result.1 c.table_at-right.result.1 c.join_accesses-accesses.result one.is two.is c.join_accesses-accesses.ensures in
-    omega (arith, few, c.padded_length-padded.ensures.few)
+    let y = join_of c.args.select.now c.requires.agrees c.requires.allowed c.in-Join.is c.table_at-left.ensures c.table_at-right.ensures in
+    omega (arith, asks_few y c.join_accesses-accesses.result c.join_accesses-accesses.ensures, c.padded_length-padded.ensures.few)
 
 pub join-requires-clause-starts : goal.join-requires-clause-starts
 join-requires-clause-starts g c =
-    let old = c.args.self.now in
-    let state = g.R.Revisions.state in
-    let s = g.S.BlockStore.state c.args.store.now in
-    let one = c.table_at-left.ensures in
-    let two = c.table_at-right.ensures in
-    let left = one.here in
-    let right = two.here in
-    let left_is = one.is in
-    let right_is = two.is in
+    let y = join_of c.args.select.now c.requires.agrees c.requires.allowed c.in-Join.is c.table_at-left.ensures c.table_at-right.ensures in
     let spare = at_ok c.room.result _ (sym c.is_err.ensures.value ∙ c.if-is_err.false) c.room.ensures.spare in
-    join_starts state old s c.table_at-left.result.0 c.table_at-right.result.0 one.table two.table c.in-Join.left c.in-Join.right c.in-Join.on c.in-Join.equals c.args.select.now c.requires.agrees left.get right.get left.named right.named c.in-Join.is c.requires.allowed (g.S.BlockStore.state c.room.new.self) c.table_at-left.result.1 c.table_at-right.result.1
-    c.left_place-lcol.result c.right_place-rcol.result c.join_accesses-accesses.result c.padded_length-padded.result c.room.ensures.rests c.join_accesses-accesses.ensures spare
+    join_starts y _ c.left_place-lcol.result c.right_place-rcol.result c.join_accesses-accesses.result c.padded_length-padded.result c.room.ensures.rests c.join_accesses-accesses.ensures spare
 
 pub join-requires-clause-tables : goal.join-requires-clause-tables
 join-requires-clause-tables g c =
-    let old = c.args.self.now in
-    let state = g.R.Revisions.state in
-    let s = g.S.BlockStore.state c.args.store.now in
-    let one = c.table_at-left.ensures in
-    let two = c.table_at-right.ensures in
-    let left = one.here in
-    let right = two.here in
-    let left_is = one.is in
-    let right_is = two.is in
-    let columns = c.as_slice-columns.ensures.value ∙ ap (λ (f : Flat). f.schema) left_is in
-    let others = c.as_slice-others.ensures.value ∙ ap (λ (f : Flat). f.schema) right_is in
-    join_may state old s c.table_at-left.result.0 c.table_at-right.result.0 one.table two.table c.in-Join.left c.in-Join.right c.in-Join.on c.in-Join.equals c.args.select.now c.requires.agrees left.get right.get left.named right.named c.in-Join.is c.requires.allowed (g.S.BlockStore.state c.room.new.self) c.table_at-left.result.1 c.table_at-right.result.1
-    c.left_place-lcol.result c.right_place-rcol.result c.room.ensures.rests left_is right_is
-    (c.left_place-lcol.ensures.value ∙ (λ k. left_place (length (columns k)) (columns k ++ others k) c.in-Join.on c.in-Join.equals))
-    (c.right_place-rcol.ensures.value ∙ (λ k. right_place (length (columns k)) (columns k ++ others k) c.in-Join.on c.in-Join.equals))
+    let y = join_of c.args.select.now c.requires.agrees c.requires.allowed c.in-Join.is c.table_at-left.ensures c.table_at-right.ensures in
+    let columns = c.as_slice-columns.ensures.value in
+    let others = c.as_slice-others.ensures.value in
+    let lcol_is = c.left_place-lcol.ensures.value ∙ (λ k. left_place (length (columns k)) (columns k ++ others k) c.in-Join.on c.in-Join.equals) in
+    let rcol_is = c.right_place-rcol.ensures.value ∙ (λ k. right_place (length (columns k)) (columns k ++ others k) c.in-Join.on c.in-Join.equals) in
+    join_may y _ _ _ c.room.ensures.rests lcol_is rcol_is
 
 pub join-requires-clause-room : goal.join-requires-clause-room
 join-requires-clause-room g c =
-    let old = c.args.self.now in
-    let state = g.R.Revisions.state in
-    let s = g.S.BlockStore.state c.args.store.now in
-    let one = c.table_at-left.ensures in
-    let two = c.table_at-right.ensures in
-    let left = one.here in
-    let right = two.here in
-    let left_is = one.is in
-    let right_is = two.is in
-    join_idle state old s c.table_at-left.result.0 c.table_at-right.result.0 one.table two.table c.in-Join.left c.in-Join.right c.in-Join.on c.in-Join.equals c.args.select.now c.requires.agrees left.get right.get left.named right.named c.in-Join.is c.requires.allowed c.table_at-left.result.1 c.table_at-right.result.1 left_is right_is
+    let y = join_of c.args.select.now c.requires.agrees c.requires.allowed c.in-Join.is c.table_at-left.ensures c.table_at-right.ensures in
+    join_idle y
 
 pub returns-in-Err-clause-selects : goal.returns-in-Err-clause-selects
 returns-in-Err-clause-selects g c =
-    let old = c.args.self.now in
-    let state = g.R.Revisions.state in
-    let s = g.S.BlockStore.state c.args.store.now in
-    let s1 = g.S.BlockStore.state c.room.new.self in
-    let s2 = g.S.BlockStore.state c.join.new.store in
-    let one = c.table_at-left.ensures in
-    let two = c.table_at-right.ensures in
-    let left = one.here in
-    let right = two.here in
-    let left_is = one.is in
-    let right_is = two.is in
-    let lcol = c.left_place-lcol.result in
-    let rcol = c.right_place-rcol.result in
-    let joins = subst (λ (f : Flat). Joins (join_in old.room f lcol (flat_of two.table) rcol) (Err c.in-Err.error) (at state old.vault s1) (at state c.join.new.vault s2)) left_is
-    (subst (λ (f : Flat). Joins (join_in old.room c.table_at-left.result.1 lcol f rcol) (Err c.in-Err.error) (at state old.vault s1) (at state c.join.new.vault s2)) right_is c.in-Err.ensures.joins) in
-    let made = joined lcol rcol old.room.pack old.room.rows in
-    let tells = subst (λ (f : Flat). TellsSlots (join_in old.room f lcol (flat_of two.table) rcol) made (Err c.in-Err.error) (at state old.vault s1) (at state c.join.new.vault s2)) left_is
-    (subst (λ (f : Flat). TellsSlots (join_in old.room c.table_at-left.result.1 lcol f rcol) made (Err c.in-Err.error) (at state old.vault s1) (at state c.join.new.vault s2)) right_is c.in-Err.ensures.told) in
-    join_stops state old s s1 c.table_at-left.result.0 c.table_at-right.result.0 one.table two.table c.in-Join.left c.in-Join.right c.in-Join.on c.in-Join.equals c.args.select.now c.requires.agrees left.get right.get left.named right.named c.in-Join.is c.requires.allowed c.room.ensures.rests
-    lcol rcol c.join.new.vault s2
-    c.in-Err.error joins made tells g.E.Emit.grew g.E.Emit.cut g.E.Emit.faults c.args.seen.now c.args.out.now c.requires.fresh
+    let y = join_of c.args.select.now c.requires.agrees c.requires.allowed c.in-Join.is c.table_at-left.ensures c.table_at-right.ensures in
+    let columns = c.as_slice-columns.ensures.value in
+    let others = c.as_slice-others.ensures.value in
+    let lcol_is = c.left_place-lcol.ensures.value ∙ (λ k. left_place (length (columns k)) (columns k ++ others k) c.in-Join.on c.in-Join.equals) in
+    let rcol_is = c.right_place-rcol.ensures.value ∙ (λ k. right_place (length (columns k)) (columns k ++ others k) c.in-Join.on c.in-Join.equals) in
+    let after = at g.R.Revisions.state c.join.new.vault (g.S.BlockStore.state c.join.new.store) in
+    let z : IsPaired y c.left_place-lcol.result c.right_place-rcol.result (g.S.BlockStore.state c.room.new.self) (Err c.in-Err.error) after =
+    record { lcol_is = lcol_is; rcol_is = rcol_is; rests = c.room.ensures.rests; paired = c.in-Err.ensures.joins; told = c.in-Err.ensures.told } in
+    join_stops y z g.E.Emit.grew g.E.Emit.cut g.E.Emit.faults c.args.seen.now c.args.out.now c.requires.fresh
 
 pub select_from-requires-clause-may : goal.select_from-requires-clause-may
 select_from-requires-clause-may g c =
-    let old = c.args.self.now in
-    let state = g.R.Revisions.state in
-    let s = g.S.BlockStore.state c.args.store.now in
-    let s1 = g.S.BlockStore.state c.room.new.self in
-    let s2 = g.S.BlockStore.state c.join.new.store in
-    let one = c.table_at-left.ensures in
-    let two = c.table_at-right.ensures in
-    let left = one.here in
-    let right = two.here in
-    let left_is = one.is in
-    let right_is = two.is in
-    let lcol = c.left_place-lcol.result in
-    let rcol = c.right_place-rcol.result in
-    let joins = subst (λ (f : Flat). Joins (join_in old.room f lcol (flat_of two.table) rcol) (Ok c.in-Ok-join.joined) (at state old.vault s1) (at state c.join.new.vault s2)) left_is
-    (subst (λ (f : Flat). Joins (join_in old.room c.table_at-left.result.1 lcol f rcol) (Ok c.in-Ok-join.joined) (at state old.vault s1) (at state c.join.new.vault s2)) right_is c.in-Ok-join.ensures.joins) in
+    let y = join_of c.args.select.now c.requires.agrees c.requires.allowed c.in-Join.is c.table_at-left.ensures c.table_at-right.ensures in
+    let columns = c.as_slice-columns.ensures.value in
+    let others = c.as_slice-others.ensures.value in
+    let lcol_is = c.left_place-lcol.ensures.value ∙ (λ k. left_place (length (columns k)) (columns k ++ others k) c.in-Join.on c.in-Join.equals) in
+    let rcol_is = c.right_place-rcol.ensures.value ∙ (λ k. right_place (length (columns k)) (columns k ++ others k) c.in-Join.on c.in-Join.equals) in
+    let after = at g.R.Revisions.state c.join.new.vault (g.S.BlockStore.state c.join.new.store) in
+    let z : IsPaired y c.left_place-lcol.result c.right_place-rcol.result (g.S.BlockStore.state c.room.new.self) (Ok c.in-Ok-join.joined) after =
+    record { lcol_is = lcol_is; rcol_is = rcol_is; rests = c.room.ensures.rests; paired = c.in-Ok-join.ensures.joins; told = c.in-Ok-join.ensures.told } in
+    let is = join_query y c.left_place-lcol.result c.right_place-rcol.result c.in-Ok-join.joined c.in-Ok.pred c.as_slice.result.now c.as_slice-columns.result.now c.as_slice-others.result.now z.paired.makes.value
+    columns others c.in-Ok.ensures (c.as_slice.ensures.value ∙ c.printed_places-cols.ensures) in
     let spare = at_ok c.room.result _ (sym c.is_err.ensures.value ∙ c.if-is_err.false) c.room.ensures.spare in
-    let columns = c.as_slice-columns.ensures.value ∙ ap (λ (f : Flat). f.schema) left_is in
-    let others = c.as_slice-others.ensures.value ∙ ap (λ (f : Flat). f.schema) right_is in
-    let is = start_query state old s s1 c.table_at-left.result.0 c.table_at-right.result.0 one.table two.table c.in-Join.left c.in-Join.right c.in-Join.on c.in-Join.equals c.args.select.now c.requires.agrees left.get right.get left.named right.named c.in-Join.is c.requires.allowed c.room.ensures.rests
-    lcol rcol c.join.new.vault s2
-    c.in-Ok-join.joined c.in-Ok.pred c.as_slice.result.now c.as_slice-columns.result.now c.as_slice-others.result.now joins.makes.value columns others c.in-Ok.ensures
-    (c.as_slice.ensures.value ∙ c.printed_places-cols.ensures) in
-    let may = join_selects state old s s1 c.table_at-left.result.0 c.table_at-right.result.0 one.table two.table c.in-Join.left c.in-Join.right c.in-Join.on c.in-Join.equals c.args.select.now c.requires.agrees left.get right.get left.named right.named c.in-Join.is c.requires.allowed c.room.ensures.rests
-    lcol rcol c.join.new.vault s2
-    c.join.new.room _ c.in-Ok-join.joined c.join_accesses-accesses.result c.padded_length-padded.result c.join.ensures.room joins
-    (c.join_accesses-accesses.ensures ∙ (λ k. blocks_for old.public.pack (left_is k).capacity + 3 * joined_blocks old.public.pack old.public.buffer (left_is k).capacity (right_is k).capacity + 2))
-    (λ x same size. c.padded_length-padded.ensures.length x same (size ∙ (λ k. joined_slots old.public.pack old.public.buffer (sym left_is k).capacity (sym right_is k).capacity) ∙ sym c.joined_slots.ensures)) spare in
-    subst (λ (x : Selection). MaySelect x c.join.new.room (at state c.join.new.vault s2)) (sym is) may
+    let may = join_selects y c.join.new.room _ c.join_accesses-accesses.result c.padded_length-padded.result z c.join.ensures.room c.join_accesses-accesses.ensures
+    (λ x same size. c.padded_length-padded.ensures.length x same (size ∙ sym c.joined_slots.ensures)) spare in
+    subst (λ (x : Selection). MaySelect x c.join.new.room after) (sym is) may
 
 pub discard-requires-clause-lives : goal.discard-requires-clause-lives
 discard-requires-clause-lives g c =
@@ -240,35 +134,22 @@ returns-in-Ok-select_from-clause-room g c = room_twice c.args.self.now.room c.jo
 
 pub returns-in-Ok-select_from-clause-selects : goal.returns-in-Ok-select_from-clause-selects
 returns-in-Ok-select_from-clause-selects g c =
-    let old = c.args.self.now in
-    let state = g.R.Revisions.state in
-    let s = g.S.BlockStore.state c.args.store.now in
-    let s1 = g.S.BlockStore.state c.room.new.self in
-    let s2 = g.S.BlockStore.state c.join.new.store in
-    let v = c.join.new.vault in
-    let mid = at state v s2 in
-    let end = at state c.select_from.new.vault (g.S.BlockStore.state c.select_from.new.store) in
-    let now = c.select_from.new.seen in
-    let one = c.table_at-left.ensures in
-    let two = c.table_at-right.ensures in
-    let left = one.here in
-    let right = two.here in
-    let left_is = one.is in
-    let right_is = two.is in
-    let columns = c.as_slice-columns.ensures.value ∙ ap (λ (f : Flat). f.schema) left_is in
-    let others = c.as_slice-others.ensures.value ∙ ap (λ (f : Flat). f.schema) right_is in
+    let y = join_of c.args.select.now c.requires.agrees c.requires.allowed c.in-Join.is c.table_at-left.ensures c.table_at-right.ensures in
+    let columns = c.as_slice-columns.ensures.value in
+    let others = c.as_slice-others.ensures.value in
     let lcol_is = c.left_place-lcol.ensures.value ∙ (λ k. left_place (length (columns k)) (columns k ++ others k) c.in-Join.on c.in-Join.equals) in
     let rcol_is = c.right_place-rcol.ensures.value ∙ (λ k. right_place (length (columns k)) (columns k ++ others k) c.in-Join.on c.in-Join.equals) in
-    let is = join_query state old s c.table_at-left.result.0 c.table_at-right.result.0 one.table two.table c.in-Join.left c.in-Join.right c.in-Join.on c.in-Join.equals c.args.select.now c.requires.agrees left.get right.get left.named right.named c.in-Join.is
-    c.table_at-left.result.1 c.table_at-right.result.1 left_is right_is c.left_place-lcol.result c.right_place-rcol.result lcol_is rcol_is s1 s2 c.room.ensures.rests v c.in-Ok-join.joined c.in-Ok-join.ensures.joins c.in-Ok-join.ensures.told
-    c.in-Ok.pred c.as_slice.result.now c.as_slice-columns.result.now c.as_slice-others.result.now c.as_slice-columns.ensures.value c.as_slice-others.ensures.value c.in-Ok.ensures
-    (c.as_slice.ensures.value ∙ c.printed_places-cols.ensures) in
-    let selects = subst (λ (x : Selection). SelectsFrom g.E.Emit.grew g.E.Emit.cut g.E.Emit.faults x (Ok c.in-Ok-select_from.selected) now mid end c.args.out.now c.select_from.new.out) is c.in-Ok-select_from.ensures.selects in
-    let last = at state c.discard.new.vault (g.S.BlockStore.state c.discard.new.store) in
+    let after = at g.R.Revisions.state c.join.new.vault (g.S.BlockStore.state c.join.new.store) in
+    let z : IsPaired y c.left_place-lcol.result c.right_place-rcol.result (g.S.BlockStore.state c.room.new.self) (Ok c.in-Ok-join.joined) after =
+    record { lcol_is = lcol_is; rcol_is = rcol_is; rests = c.room.ensures.rests; paired = c.in-Ok-join.ensures.joins; told = c.in-Ok-join.ensures.told } in
+    let is = join_query y c.left_place-lcol.result c.right_place-rcol.result c.in-Ok-join.joined c.in-Ok.pred c.as_slice.result.now c.as_slice-columns.result.now c.as_slice-others.result.now z.paired.makes.value
+    columns others c.in-Ok.ensures (c.as_slice.ensures.value ∙ c.printed_places-cols.ensures) in
+    let end = at g.R.Revisions.state c.select_from.new.vault (g.S.BlockStore.state c.select_from.new.store) in
+    let now = c.select_from.new.seen in
+    let selects = subst (λ (x : Selection). SelectsFrom g.E.Emit.grew g.E.Emit.cut g.E.Emit.faults x (Ok c.in-Ok-select_from.selected) now after end c.args.out.now c.select_from.new.out) is c.in-Ok-select_from.ensures.selects in
+    let last = at g.R.Revisions.state c.discard.new.vault (g.S.BlockStore.state c.discard.new.store) in
     record {
-      ended = join_ends state old s c.table_at-left.result.0 c.table_at-right.result.0 one.table two.table c.in-Join.left c.in-Join.right c.in-Join.on c.in-Join.equals c.args.select.now c.requires.agrees left.get right.get left.named right.named c.in-Join.is
-          c.table_at-left.result.1 c.table_at-right.result.1 left_is right_is c.left_place-lcol.result c.right_place-rcol.result lcol_is rcol_is s1 s2 c.room.ensures.rests v c.in-Ok-join.joined c.in-Ok-join.ensures.joins c.in-Ok-join.ensures.told
-          g.E.Emit.grew g.E.Emit.cut g.E.Emit.faults now c.args.out.now c.select_from.new.out end last c.in-Ok-select_from.selected c.discard.result selects c.discard.ensures.discards;
+      ended = join_ends z g.E.Emit.grew g.E.Emit.cut g.E.Emit.faults now c.args.out.now c.select_from.new.out end last c.in-Ok-select_from.selected c.discard.result selects c.discard.ensures.discards;
       halted = tt;
       sink = selects.sink;
     }
@@ -278,35 +159,22 @@ returns-clause-room g c = room_twice c.args.self.now.room c.join.new.room c.sele
 
 pub returns-clause-selects : goal.returns-clause-selects
 returns-clause-selects g c =
-    let old = c.args.self.now in
-    let state = g.R.Revisions.state in
-    let s = g.S.BlockStore.state c.args.store.now in
-    let s1 = g.S.BlockStore.state c.room.new.self in
-    let s2 = g.S.BlockStore.state c.join.new.store in
-    let v = c.join.new.vault in
-    let mid = at state v s2 in
-    let end = at state c.select_from.new.vault (g.S.BlockStore.state c.select_from.new.store) in
-    let now = c.select_from.new.seen in
-    let one = c.table_at-left.ensures in
-    let two = c.table_at-right.ensures in
-    let left = one.here in
-    let right = two.here in
-    let left_is = one.is in
-    let right_is = two.is in
-    let columns = c.as_slice-columns.ensures.value ∙ ap (λ (f : Flat). f.schema) left_is in
-    let others = c.as_slice-others.ensures.value ∙ ap (λ (f : Flat). f.schema) right_is in
+    let y = join_of c.args.select.now c.requires.agrees c.requires.allowed c.in-Join.is c.table_at-left.ensures c.table_at-right.ensures in
+    let columns = c.as_slice-columns.ensures.value in
+    let others = c.as_slice-others.ensures.value in
     let lcol_is = c.left_place-lcol.ensures.value ∙ (λ k. left_place (length (columns k)) (columns k ++ others k) c.in-Join.on c.in-Join.equals) in
     let rcol_is = c.right_place-rcol.ensures.value ∙ (λ k. right_place (length (columns k)) (columns k ++ others k) c.in-Join.on c.in-Join.equals) in
-    let is = join_query state old s c.table_at-left.result.0 c.table_at-right.result.0 one.table two.table c.in-Join.left c.in-Join.right c.in-Join.on c.in-Join.equals c.args.select.now c.requires.agrees left.get right.get left.named right.named c.in-Join.is
-    c.table_at-left.result.1 c.table_at-right.result.1 left_is right_is c.left_place-lcol.result c.right_place-rcol.result lcol_is rcol_is s1 s2 c.room.ensures.rests v c.in-Ok-join.joined c.in-Ok-join.ensures.joins c.in-Ok-join.ensures.told
-    c.in-Ok.pred c.as_slice.result.now c.as_slice-columns.result.now c.as_slice-others.result.now c.as_slice-columns.ensures.value c.as_slice-others.ensures.value c.in-Ok.ensures
-    (c.as_slice.ensures.value ∙ c.printed_places-cols.ensures) in
-    let selects = subst (λ (x : Selection). SelectsFrom g.E.Emit.grew g.E.Emit.cut g.E.Emit.faults x (Err c.in-Err-select_from.error) now mid end c.args.out.now c.select_from.new.out) is c.in-Err-select_from.ensures.selects in
-    let last = at state c.forget.new.self (g.S.BlockStore.state c.select_from.new.store) in
+    let after = at g.R.Revisions.state c.join.new.vault (g.S.BlockStore.state c.join.new.store) in
+    let z : IsPaired y c.left_place-lcol.result c.right_place-rcol.result (g.S.BlockStore.state c.room.new.self) (Ok c.in-Ok-join.joined) after =
+    record { lcol_is = lcol_is; rcol_is = rcol_is; rests = c.room.ensures.rests; paired = c.in-Ok-join.ensures.joins; told = c.in-Ok-join.ensures.told } in
+    let is = join_query y c.left_place-lcol.result c.right_place-rcol.result c.in-Ok-join.joined c.in-Ok.pred c.as_slice.result.now c.as_slice-columns.result.now c.as_slice-others.result.now z.paired.makes.value
+    columns others c.in-Ok.ensures (c.as_slice.ensures.value ∙ c.printed_places-cols.ensures) in
+    let end = at g.R.Revisions.state c.select_from.new.vault (g.S.BlockStore.state c.select_from.new.store) in
+    let now = c.select_from.new.seen in
+    let selects = subst (λ (x : Selection). SelectsFrom g.E.Emit.grew g.E.Emit.cut g.E.Emit.faults x (Err c.in-Err-select_from.error) now after end c.args.out.now c.select_from.new.out) is c.in-Err-select_from.ensures.selects in
+    let last = at g.R.Revisions.state c.forget.new.self (g.S.BlockStore.state c.select_from.new.store) in
     record {
       ended = tt;
-      halted = join_halts state old s c.table_at-left.result.0 c.table_at-right.result.0 one.table two.table c.in-Join.left c.in-Join.right c.in-Join.on c.in-Join.equals c.args.select.now c.requires.agrees left.get right.get left.named right.named c.in-Join.is
-          c.table_at-left.result.1 c.table_at-right.result.1 left_is right_is c.left_place-lcol.result c.right_place-rcol.result lcol_is rcol_is s1 s2 c.room.ensures.rests v c.in-Ok-join.joined c.in-Ok-join.ensures.joins c.in-Ok-join.ensures.told
-          g.E.Emit.grew g.E.Emit.cut g.E.Emit.faults now c.args.out.now c.select_from.new.out end last c.in-Err-select_from.error selects (c.forget.ensures.forgets (g.S.BlockStore.state c.select_from.new.store)) refl;
+      halted = join_halts z g.E.Emit.grew g.E.Emit.cut g.E.Emit.faults now c.args.out.now c.select_from.new.out end last c.in-Err-select_from.error selects (c.forget.ensures.forgets (g.S.BlockStore.state c.select_from.new.store)) refl;
       sink = selects.sink;
     }

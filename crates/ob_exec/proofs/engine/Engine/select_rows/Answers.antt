@@ -1,10 +1,10 @@
 use Rattle.std.proofs.Common.{◌≡◌, ◌-◌, ℕ, length, Ok, Err, ◌∙◌, ap, subst}
 use Rattle.ob_base.specs.declared.seen.End.TheVariants.{Cut}
-use Rattle.ob_flat.specs.Passes.{SinkCause as PassSink}
+use Rattle.ob_flat.specs.Passes.{SinkCause}
 use Rattle.ob_sql.specs.declared.stmt.Stmt.TheVariants.{SelectRows as RowsStmt}
 use Rattle.ob_exec.specs.declared.engine.Engine.{Engine}
 use Rattle.ob_exec.specs.declared.outcome.Outcome.{Outcome}
-use Rattle.ob_exec.specs.declared.selecting.Selected.{Selected}
+use Rattle.ob_select.specs.declared.selecting.Selected.{Selected}
 use Rattle.ob_exec.specs.Running.{answer_of, is_stop}
 use Rattle.ob_exec.proofs.RowsEnds.{serves_ended}
 use Rattle.ob_exec.proofs.ServeLemmas.{serves_same}
@@ -53,7 +53,7 @@ returns-in-Err-close_answer g c =
     let ended = c.in-Ok.ensures.selects.ended in
     let stops = stops_closing g.E.Emit.grew g.E.Emit.cut old.public select now _ _ c.args.out.now c.select_source.new.out c.close_answer.new.out
     c.in-Ok.selected e c.in-Err-close_answer.ensures.never ended c.in-Err-close_answer.ensures.err in
-    let sink = subst (λ (m : ℕ). PassSink {T = Selected} (Err e) m (g.E.Emit.faults c.close_answer.new.out)) c.in-Ok.ensures.selects.sink c.in-Err-close_answer.ensures.sink in
+    let sink = subst (λ (m : ℕ). SinkCause {T = Selected} (Err e) m (g.E.Emit.faults c.close_answer.new.out)) c.in-Ok.ensures.selects.sink c.in-Err-close_answer.ensures.sink in
     let serves = serves_stopped state old s v room t select c.requires.agrees c.requires.allowed source ended.ran.lasts g.E.Emit.grew g.E.Emit.cut g.E.Emit.faults g.met.E.Emit.starts
     now n c.args.out.now c.close_answer.new.out count e c.in-Ok.ensures.room stops sink in
     let engine : c.cut_seen.new.self ≡ rows_after old v room (record now { end = Cut n }) (is_stop (answer_of e)) =

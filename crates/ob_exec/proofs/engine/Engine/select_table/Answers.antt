@@ -1,8 +1,7 @@
-use Rattle.std.proofs.Common.{◌≡◌, ℕ, false, List, Ok, Err, Result, refl, sym, ◌∙◌, ap, subst}
-use Rattle.std.specs.Prelude.{OnOk, not}
+use Rattle.std.proofs.Common.{ℕ, List, refl, sym, ◌∙◌, ap, subst}
+use Rattle.std.specs.Prelude.{not}
 use Rattle.std.specs.Int.{div_ceil}
 use Rattle.std.specs.List.{list_any}
-use Rattle.std.specs.Result.{is_err}
 use Rattle.ob_base.specs.declared.skeleton.Source.{Source}
 use Rattle.ob_base.specs.Stored.{has_table, headings_of}
 use Rattle.ob_sql.specs.declared.stmt.Stmt.TheVariants.{SelectRows as RowsStmt}
@@ -12,17 +11,12 @@ use Rattle.ob_mean.proofs.EarlyLemmas.{allowed}
 use Rattle.ob_vault.specs.Places.{at}
 use Rattle.ob_flat.specs.declared.flat.Flat.{Flat}
 use Rattle.ob_exec.specs.Agreeing.{world_of, count_of}
-use Rattle.ob_exec.specs.Selecting.{MaySelect, Selection, SelectsFrom}
+use Rattle.ob_select.specs.Selecting.{MaySelect, Selection, SelectsFrom}
 use Rattle.ob_exec.proofs.FoundLemmas.{is_there}
 use Rattle.ob_exec.proofs.RowsNothing.{halts_first}
 use Rattle.ob_exec.proofs.RowsTable.{counts_some, table_may, table_query, table_selects}
-use Rattle.ob_exec.proofs.RunLemmas.{rests_refl}
+use Rattle.ob_exec.proofs.RunLemmas.{rests_refl, at_ok}
 use Rattle.ob_exec.proofs.engine.Engine.select_table.Goals as goal
-
--- what holds at an `Ok`, where there is no `Err`
-at_ok : {T E : Type 0} (r : Result T E) (P : Type 0) → is_err r ≡ false → OnOk r P → P
-at_ok (Ok x) P ok h = h
-at_ok (Err e) P ok h = absurd (cc ok)
 
 pub table_at-flat-requires : goal.table_at-flat-requires
 table_at-flat-requires g c =

@@ -1,0 +1,5 @@
+pub mod Settings
+pub mod Memory
+pub mod Halting
+pub mod Selecting
+pub mod Results
