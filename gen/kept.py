@@ -12,8 +12,8 @@ TOP = pathlib.Path(__file__).resolve().parent.parent
 DATA = TOP / "crates/ob_cases/data"
 PACKS = (1, 2, 16)
 LAST = re.compile(r"= |E[0-9]")
-CUTS = "# The sessions of examples/, cut into two runs behind each statement. Written by bench/kept.py.\n"
-CHANGES = "# Two runs, between which others change a block of the closing or of a table. Written by bench/kept.py.\n"
+CUTS = "# The sessions of examples/, cut into two runs behind each statement. Written by gen/kept.py.\n"
+CHANGES = "# Two runs, between which others change a block of the closing or of a table. Written by gen/kept.py.\n"
 BUFFERS = {1: 4, 2: 7, 16: 49}
 CAPACITY, TABLE, CLOSING = 4, 2, 3
 
