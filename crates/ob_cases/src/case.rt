@@ -77,8 +77,10 @@ pub struct Case {
     pub runs: Vec<Run>,
     /// Whether the rows of an answer may come in any order.
     pub unordered: bool,
-    /// What has to differ: this case wants something wrong, to show that it is noticed.
+    /// What has to differ: this case, or one that its lines make, wants something wrong, to show that it is noticed.
     pub differs: Option<Part>,
+    /// In how many of them that differs.
+    pub differing: u64,
 }
 
 /// Why a line of a file can't be taken.
@@ -224,13 +226,20 @@ impl Case {
             runs,
             unordered: false,
             differs: None,
+            differing: 0,
         })
     }
 
     /// Takes the next line of its file.
     pub fn take(&mut self, alloc: Global, line: &str) -> Result<(), LineErr> {
         let (head, rest) = line.split_once(' ').unwrap_or((line, ""));
+        self.take_part(alloc, head, rest)
+    }
+
+    /// Takes a line by its first word and what follows. What lines `each` and `else` say is for the cases that they make.
+    pub fn take_part(&mut self, alloc: Global, head: &str, rest: &str) -> Result<(), LineErr> {
         match head {
+            "each" | "else" => Ok(()),
             "keeper" => {
                 self.keeper = Some(String::from_str(alloc, rest)?);
                 Ok(())
@@ -247,18 +256,23 @@ impl Case {
                 self.unordered = true;
                 Ok(())
             }
-            "differs" => match Part::of_word(rest) {
-                Some(part) => {
-                    self.differs = Some(part);
-                    Ok(())
-                }
-                None => Err(LineErr::Form),
-            },
+            "differs" => self.take_differs(rest),
             _ => match self.runs.last_mut() {
                 Some(run) => run.take(alloc, head, rest),
                 None => Err(LineErr::Form),
             },
         }
+    }
+
+    // The part that differs, and in how many cases, where lines make others.
+    fn take_differs(&mut self, rest: &str) -> Result<(), LineErr> {
+        let (word, times) = rest.split_once(" in ").unwrap_or((rest, "1"));
+        let Some(part) = Part::of_word(word) else {
+            return Err(LineErr::Form);
+        };
+        self.differs = Some(part);
+        self.differing = number(times)?;
+        Ok(())
     }
 
     // Numbers of calls, parted by commas.

@@ -1,5 +1,6 @@
 //! The cases of a file.
 use crate::case::{Case, LineErr};
+use crate::each::Spelled;
 use std::alloc::Global;
 
 /// Why a file can't be taken: the number of its first line that is none of a case, from 1, and why.
@@ -9,16 +10,41 @@ pub struct FileErr {
     pub error: LineErr,
 }
 
+/// A case, with its lines as they stand in the file.
+#[derive(Drop)]
+pub struct Lines<'a> {
+    pub case: Case,
+    pub lines: Vec<&'a str>,
+    /// The number of its first line, from 1.
+    pub first: u64,
+}
+
+impl<'a> Lines<'a> {
+    /// What its lines make others of.
+    pub fn spelled(&self) -> Spelled<'_> {
+        Spelled {
+            name: self.case.name.as_str(),
+            lines: self.lines.as_slice(),
+            input: match self.case.runs.first() {
+                Some(run) => run.input.as_slice(),
+                None => b"",
+            },
+            is_kept: self.case.keeper.is_some(),
+        }
+    }
+}
+
 /// The cases of a file, in order. A line `case NAME` begins one; blank lines, and lines that begin with `#`,
 /// are passed over.
-pub fn cases_of(alloc: Global, text: &str) -> Result<Vec<Case>, FileErr> {
+pub fn cases_of<'a>(alloc: Global, text: &'a str) -> Result<Vec<Lines<'a>>, FileErr> {
     let mut cases = Vec::new(alloc);
     for (i, line) in text.lines().enumerate() {
-        match take_line(alloc, &mut cases, line) {
+        let number = (i as u64).saturating_add(1);
+        match take_line(alloc, &mut cases, number, line) {
             Ok(()) => {}
             Err(error) => {
                 return Err(FileErr {
-                    line: (i as u64).saturating_add(1),
+                    line: number,
                     error,
                 });
             }
@@ -27,20 +53,36 @@ pub fn cases_of(alloc: Global, text: &str) -> Result<Vec<Case>, FileErr> {
     Ok(cases)
 }
 
-// Takes a line into the last case, or begins the next one.
-fn take_line(alloc: Global, cases: &mut Vec<Case>, line: &str) -> Result<(), LineErr> {
+// Takes a line of this number into the last case, or begins the next one.
+fn take_line<'a>(
+    alloc: Global,
+    cases: &mut Vec<Lines<'a>>,
+    number: u64,
+    line: &'a str,
+) -> Result<(), LineErr> {
     if line.is_empty() || line.starts_with('#') {
         return Ok(());
     }
     if let Some(name) = line.strip_prefix("case ") {
         let case = Case::new(alloc, name)?;
-        return match cases.push(case) {
+        let begun = Lines {
+            case,
+            lines: Vec::new(alloc),
+            first: number,
+        };
+        return match cases.push(begun) {
             Ok(()) => Ok(()),
             Err(_) => Err(LineErr::NoMemory),
         };
     }
     match cases.last_mut() {
-        Some(case) => case.take(alloc, line),
+        Some(last) => {
+            last.case.take(alloc, line)?;
+            match last.lines.push(line) {
+                Ok(()) => Ok(()),
+                Err(_) => Err(LineErr::NoMemory),
+            }
+        }
         None => Err(LineErr::Form),
     }
 }

@@ -1,15 +1,23 @@
 //! Serves the sessions that the named files spell, each over a store in memory that others change as its words say, and
-//! runs that keep their tables, each over what the one before it left, and compares what comes of them. Prints each that differs, and last how many did not. The exit status is 0 where none
-//! differs, 1 where one does, and 2 where a file can't be read or has another form.
+//! runs that keep their tables, each over what the one before it left; serves each as often again as its lines `each ..`
+//! say; and compares what comes of them. Prints each that differs, and last how many did not. The exit status is 0 where
+//! none differs, 1 where one does, and 2 where a file can't be read or has another form.
 #![tactic(auto)]
 
 mod case;
 mod compare;
+mod cuts;
+mod each;
 mod file;
+mod items;
 mod serving;
+mod texts;
 
-use case::{Case, LineErr};
+use case::{Case, LineErr, Part};
+use each::made;
+use file::Lines;
 use serving::{Served, serve};
+use std::alloc::Global;
 use std::io::{self, Print, Write};
 use std::process::ExitCode;
 use std::rt::{Env, Files};
@@ -20,6 +28,8 @@ use std::{env, fs};
 struct Tally {
     passed: u64,
     differ: u64,
+    // How many of those that passed differ as they have to.
+    noticed: u64,
 }
 
 /// Why not all cases were served.
@@ -55,6 +65,55 @@ fn print_case<R: Print>(rt: &R, file: &str, case: &Case, served: &Served) -> io:
     Ok(())
 }
 
+// Serves a case, in which this part may differ.
+fn serve_case<R: Print>(
+    rt: &R,
+    alloc: Global,
+    file: &str,
+    case: &Case,
+    differs: Option<Part>,
+    tally: Tally,
+) -> Result<Tally, Fault> {
+    let served = serve(alloc, case)?;
+    let mut tally = tally;
+    if served.differs.is_none() {
+        tally.passed = tally.passed.saturating_add(1);
+    } else if served.differs == differs {
+        tally.passed = tally.passed.saturating_add(1);
+        tally.noticed = tally.noticed.saturating_add(1);
+    } else {
+        tally.differ = tally.differ.saturating_add(1);
+        print_case(rt, file, case, &served)?;
+    }
+    Ok(tally)
+}
+
+// Serves a case and those that its lines make, of which as many have to differ as it says.
+fn serve_lines<R: Print>(
+    rt: &R,
+    alloc: Global,
+    file: &str,
+    lines: &Lines,
+    tally: Tally,
+) -> Result<Tally, Fault> {
+    let Ok(others) = made(alloc, lines.spelled()) else {
+        println!(rt; "{file}: the case at line {} makes none", lines.first)?;
+        return Err(Fault::Line(LineErr::Form));
+    };
+    let differs = lines.case.differs;
+    let before = tally.noticed;
+    let mut tally = serve_case(rt, alloc, file, &lines.case, differs, tally)?;
+    for case in &others {
+        tally = serve_case(rt, alloc, file, case, differs, tally)?;
+    }
+    let noticed = tally.noticed.saturating_sub(before);
+    if noticed != lines.case.differing {
+        tally.differ = tally.differ.saturating_add(1);
+        println!(rt; "{file}: {}: {noticed} differ", lines.case.name)?;
+    }
+    Ok(tally)
+}
+
 // Serves the cases of a file.
 fn serve_file<R: Print + Files + AllocGlobal>(
     rt: &R,
@@ -71,14 +130,8 @@ fn serve_file<R: Print + Files + AllocGlobal>(
             return Err(Fault::Line(bad.error));
         }
     };
-    for case in &cases {
-        let served = serve(alloc, case)?;
-        if served.differs == case.differs {
-            tally.passed = tally.passed.saturating_add(1);
-        } else {
-            tally.differ = tally.differ.saturating_add(1);
-            print_case(rt, name, case, &served)?;
-        }
+    for lines in &cases {
+        tally = serve_lines(rt, alloc, name, lines, tally)?;
     }
     Ok(tally)
 }
@@ -88,6 +141,7 @@ fn serve_all<R: Env + Print + Files + AllocGlobal>(rt: &R) -> Result<Tally, Faul
     let mut tally = Tally {
         passed: 0,
         differ: 0,
+        noticed: 0,
     };
     for name in env::args(rt)?.skip(1) {
         tally = serve_file(rt, name.as_str(), tally)?;

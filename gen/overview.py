@@ -2,7 +2,7 @@
 """Draws two pictures of the documents: docs/overview.svg, who has what and who sees what, and docs/layers.svg, the crates in
 layers, each above all that it stands on, by the lines of crates.txt. Needs python3 alone, and takes a moment.
 
-usage: bench/overview.py
+usage: gen/overview.py
 """
 import pathlib
 from xml.sax.saxutils import escape

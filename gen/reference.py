@@ -2,7 +2,7 @@
 """Writes crates/ob_cases/data/reference.case: sessions made from the grammar at random (always the same ones), with the
 answers of the plain evaluator, which the program of crates/ob_answers prints. No answer of the engine goes into them.
 
-usage: bench/reference.py [PATH-OF-ob_answers]
+usage: gen/reference.py [PATH-OF-ob_answers]
 
 Needs that program (bench/build.sh ob_answers builds it: crates/ob_answers/out/ob_answers), and takes ten seconds.
 """
@@ -218,7 +218,7 @@ class Maker:
 
 def main():
     program = sys.argv[1] if len(sys.argv) > 1 else TOP / "crates/ob_answers/out/ob_answers"
-    out = ["# Sessions made from the grammar, with the answers of the plain evaluator (bench/reference.py).", ""]
+    out = ["# Sessions made from the grammar, with the answers of the plain evaluator (gen/reference.py).", ""]
     for seed in range(SESSIONS):
         buffer, pack, plan = SETTINGS[seed % len(SETTINGS)]
         maker, texts, told, kinds = Maker(seed), [], [], []

@@ -5,7 +5,7 @@
 # each, with the first that the prover says of what it refuses, and ends with 1 where one is proved, can't be applied, or
 # is refused only because a proof file names what it took away.
 #
-# usage: bench/edits.sh [NAME..]
+# usage: tests/edits.sh [NAME..]
 # Needs `rt` and python3. What `rt check` and `rt lib` have kept in this tree isn't proved again; in a clean clone all that
 # stands below the named crates is proved first. Some minutes for a crate behind that, and some three hours for all.
 set -eu

@@ -4,9 +4,6 @@ of accesses in docs/SPECIFICATION.md; nothing that the program answers goes into
 second.
 """
 import pathlib
-import sys
-
-sys.dont_write_bytecode = True
 
 from generated import Run, up
 
@@ -110,7 +107,7 @@ def main():
                 selected(f"one of more than there are slots{by}", " WHERE id = 1", lambda row: row[0] == 1, 5, pack, plan),
                 selected(f"all of more than there are slots{by}", "", lambda row: True, 5, pack, plan),
             ])
-    head = "# SELECTs of rows whose results are padded: they ask the same, whatever is selected. Written by bench/padded.py.\n"
+    head = "# SELECTs of rows whose results are padded: they ask the same, whatever is selected. Written by gen/padded.py.\n"
     (DATA / "padded.case").write_text(head + "\n" + "\n".join(cases))
     print(f"{len(cases)} cases")
 

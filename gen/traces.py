@@ -4,7 +4,7 @@ The sessions have the same statements and other keys and values. Then the same o
 find other numbers of them, with results that are padded (`--pad`). Needs strace, and the program of crates/oblitrace
 (bench/build.sh oblitrace builds it). Takes twenty seconds.
 
-usage: bench/traces.py [PATH-OF-oblitrace]
+usage: gen/traces.py [PATH-OF-oblitrace]
 """
 import pathlib
 import random

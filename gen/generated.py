@@ -355,7 +355,7 @@ def main():
     cases.append(case("no value", "--gen", ["! usage"], 2))
     cases.append(case("twice", "--gen 0,1 --gen 0,1", ["! usage"], 2))
 
-    HEAD = "# Generated text is served in place of the input, which is read by none of these. Written by bench/generated.py.\n"
+    HEAD = "# Generated text is served in place of the input, which is read by none of these. Written by gen/generated.py.\n"
     (DATA / "generated.case").write_text(HEAD + "\n" + "\n".join(cases))
     print(f"{len(cases)} cases")
 
