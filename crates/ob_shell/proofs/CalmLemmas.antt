@@ -5,12 +5,12 @@ use Rattle.ob_base.specs.declared.refusal.Stop.TheVariants.{Tampered, SourceFaul
 use Rattle.ob_exec.specs.Agreeing.{world_of}
 use Rattle.ob_exec.specs.Running.{RunCause}
 use Rattle.ob_exec.specs.declared.engine.Engine.{Engine}
+use Rattle.ob_headline.specs.Words.{Answer}
 use Rattle.ob_shell.specs.Running.{LastPart}
 use Rattle.ob_shell.specs.Steps.{Machine, Step, Steps}
 use Rattle.ob_store.specs.State.{StoreState}
 use Rattle.ob_vault.specs.State.{RevState, World}
 use Rattle.ob_vault.specs.Tied.{Calm, EndsAt}
-use Rattle.ob_shell.specs.Words.{Answer}
 
 -- no changed block was read, or the first that was fits; or the session ended as tampered where it was read
 abbrev pub MeetsChange : Result Bool Stop → World → Type 0

@@ -1,27 +1,28 @@
 -- What a run promises once its last line was written.
-use Rattle.std.proofs.Common.{◌≡◌, ◌⊎◌, ℕ, Bool, true, false, List, [], ◌++◌, Option, Ok, Err, refl, sym, subst, arith}
 use Rattle.std.specs.Prelude.{⊤, ◌≢◌}
+use Rattle.std.proofs.Common.{◌≡◌, ◌⊎◌, ℕ, Bool, true, false, List, [], ◌++◌, Option, Ok, Err, refl, sym, subst, arith}
 use Rattle.ob_base.specs.Counts.{Rises}
-use Rattle.ob_print.specs.Cuts.{Cut}
-use Rattle.ob_shell.specs.Bases.{Base, fresh}
-use Rattle.ob_shell.specs.Closed.{Unwritten, LineWritten, refused_by}
-use Rattle.ob_shell.specs.Endings.{status_of, last_line}
-use Rattle.ob_gen.specs.declared.tally.Tally.{Tally}
-use Rattle.ob_shell.specs.Running.{OutFailed}
-use Rattle.ob_shell.specs.Top.{EndingCause, EndingWords, IsFresh, Reported, Shown, TraceSink}
 use Rattle.ob_base.specs.declared.config.Config.{Config}
 use Rattle.ob_base.specs.declared.refusal.Stop.TheVariants.{Tampered, SourceFault, SinkFault, NoMemory, InputLimit}
-use Rattle.ob_shell.specs.declared.top.Ended.{Ended}
-use Rattle.ob_shell.specs.declared.top.Ending.{Ending}
-use Rattle.ob_shell.specs.declared.top.Ending.TheVariants.{Usage, BadKey, Ran}
-use Rattle.ob_shell.specs.declared.top.Report.{Report}
-use Rattle.ob_shell.specs.declared.words.WordsErr.{WordsErr}
-use Rattle.ob_shell.specs.declared.words.WordsErr.TheVariants as Words
+use Rattle.ob_gen.specs.declared.tally.Tally.{Tally}
+use Rattle.ob_headline.specs.Bases.{Base, fresh}
+use Rattle.ob_headline.specs.Endings.{status_of, last_line}
+use Rattle.ob_headline.specs.Settings.{limit_of}
+use Rattle.ob_headline.specs.Words.{Faults, SinksRose, Took, printed}
+use Rattle.ob_headline.specs.Status.{KeepsLimits}
+use Rattle.ob_headline.specs.declared.ending.Ending.{Ending}
+use Rattle.ob_headline.specs.declared.ending.Ending.TheVariants.{Usage, BadKey, Ran}
+use Rattle.ob_headline.specs.declared.ending.Report.{Report}
+use Rattle.ob_print.specs.Cuts.{Cut}
 use Rattle.ob_shell.proofs.CompleteLemmas.{reported_line, reported_quiet}
 use Rattle.ob_shell.proofs.TopLemmas.{shown_unread}
+use Rattle.ob_shell.specs.Closed.{Unwritten, LineWritten, refused_by}
+use Rattle.ob_shell.specs.Running.{OutFailed}
+use Rattle.ob_shell.specs.Top.{EndingCause, EndingWords, IsFresh, Reported, Shown, TraceSink}
+use Rattle.ob_shell.specs.declared.top.Ended.{Ended}
+use Rattle.ob_shell.specs.declared.words.WordsErr.{WordsErr}
+use Rattle.ob_shell.specs.declared.words.WordsErr.TheVariants as Words
 use Rattle.ob_store.specs.State.{StoreState}
-use Rattle.ob_shell.specs.Settings.{limit_of}
-use Rattle.ob_shell.specs.Words.{Faults, KeepsLimits, SinksRose, Took, printed}
 
 module _ {tally : Tally} {tr : TraceSink} {Takes : Type 0} {base : Base} {gave : ℕ} {l0 l1 w0 w1 w2 : Option (List ℕ)} {s0 s1 : StoreState} where
   -- the last line was written, or might not be
@@ -92,7 +93,7 @@ unfoldable pub reported_taken : {tally : Tally} {tr : TraceSink} {Takes : Type 0
     → Reported tally tr Takes (fresh settings) l0 l1 gave w0 w1 s0 s1 old new report
 reported_taken {tally = tally} {tr = tr} {Takes = Takes} {gave = gave} {l0 = l0} {l1 = l1} {w0 = w0} {w1 = w1} {s0 = s0} {s1 = s1} {old = old} {new = new} {report = report} t is r =
     let both = subst
-    (λ (o : Option Config). (x : Shown tally tr (fresh o) l0 l1 gave w0 w1 s0 s1 report.high r.ending (last_line r.ending) (SinksRose old new)) × (new.trace ≢ old.trace → Cut w0 w1 (Unit {0}) (printed x.answers ++ x.part)) × (Took w0 w1 (printed x.answers ++ x.part) ⊎ Rises old.out new.out))
+    (λ (o : Option Config). (x : Shown tally tr (fresh o) l0 l1 gave w0 w1 s0 s1 report.high r.ending (last_line r.ending) (SinksRose old new)) × (new.trace ≢ old.trace → Cut w0 w1 (Unit {0}) (printed x.story.answers ++ x.story.part)) × (Took w0 w1 (printed x.story.answers ++ x.story.part) ⊎ Rises old.out new.out))
     (sym is) (r.shown, r.silent, r.through) in
     record {
       ending = r.ending;

@@ -1,28 +1,29 @@
 -- An input that keeps to the limits is served to its end.
 use Rattle.std.proofs.Common.{◌≡◌, ℕ, ◌≤◌, Bool, true, false, List, [], ◌++◌, length, Option, Some, None, Ok, Err, refl, ap, ◌∙◌, subst, inl, inr, arith, append-nil, length-append}
-use Rattle.std.specs.Io.KnownBytes.{Consumes}
 use Rattle.std.proofs.KnownBytes.{Appends-nil}
+use Rattle.std.specs.Io.KnownBytes.{Consumes}
 use Rattle.ob_base.specs.Counts.{Rises}
 use Rattle.ob_base.specs.declared.refusal.Stop.TheVariants.{Tampered, SourceFault, SinkFault, NoMemory, InputLimit}
-use Rattle.ob_print.specs.Cuts.{Cut}
-use Rattle.ob_print.proofs.CutLemmas.{Cut-by, Cut-fault}
-use Rattle.ob_store.specs.State.{StoreState}
-use Rattle.ob_shell.specs.Texts.{is_over, rest_of}
-use Rattle.ob_shell.specs.KeyLine.{line_max, has_lf, first_line, after_line, secret_of, LineTaken}
-use Rattle.ob_shell.specs.Bases.{Base, FromEach}
-use Rattle.ob_shell.specs.Settings.{limit_of}
-use Rattle.ob_shell.specs.Endings.{status_of, last_line}
 use Rattle.ob_gen.specs.declared.tally.Tally.{Tally}
-use Rattle.ob_shell.specs.Top.{TraceSink, EndsUntampered, EndingSays, EndingWords, EndingCause, Shown, StatusCause, Reported}
-use Rattle.ob_shell.specs.declared.top.Report.{Report}
-use Rattle.ob_shell.specs.declared.top.Ending.{Ending}
-use Rattle.ob_shell.specs.declared.top.Ending.TheVariants.{Usage, BadKey, Ran}
-use Rattle.ob_shell.proofs.BaseLemmas.{from_each}
-use Rattle.ob_shell.proofs.RunLemmas.{took_more, took_of, took_or}
-use Rattle.ob_shell.proofs.TextLemmas.{rest_of-append, rest_of-over, rest_of-nil}
+use Rattle.ob_headline.proofs.BaseLemmas.{from_each}
+use Rattle.ob_headline.proofs.TextLemmas.{rest_of-append, rest_of-over, rest_of-nil}
+use Rattle.ob_headline.specs.Bases.{Base, FromEach}
+use Rattle.ob_headline.specs.Endings.{status_of, last_line}
+use Rattle.ob_headline.specs.KeyLine.{line_max, has_lf, first_line, after_line, secret_of, LineTaken}
+use Rattle.ob_headline.specs.Settings.{limit_of}
+use Rattle.ob_headline.specs.Texts.{is_over, rest_of}
+use Rattle.ob_headline.specs.Words.{Faults, SinksRose, IsHonest, printed}
+use Rattle.ob_headline.specs.Status.{HasSecret, KeepsLimits, IsCompleted}
+use Rattle.ob_headline.specs.declared.ending.Ending.{Ending}
+use Rattle.ob_headline.specs.declared.ending.Ending.TheVariants.{Usage, BadKey, Ran}
+use Rattle.ob_headline.specs.declared.ending.Report.{Report}
+use Rattle.ob_print.proofs.CutLemmas.{Cut-by, Cut-fault}
+use Rattle.ob_print.specs.Cuts.{Cut}
 use Rattle.ob_shell.proofs.KeyLemmas.{after_line-none, first_line-long, secret_of-long}
+use Rattle.ob_shell.proofs.RunLemmas.{took_more, took_of, took_or}
 use Rattle.ob_shell.proofs.TopLemmas.{first_line-more, after_line-more, shown_line, cut_line, quiet_line, line_rose, rose_with, status_cause}
-use Rattle.ob_shell.specs.Words.{Faults, SinksRose, HasSecret, IsHonest, KeepsLimits, IsCompleted, printed}
+use Rattle.ob_shell.specs.Top.{TraceSink, EndsUntampered, EndingSays, EndingWords, EndingCause, Shown, StatusCause, Reported}
+use Rattle.ob_store.specs.State.{StoreState}
 
 no_secret : (xs : List ℕ) → HasSecret xs → secret_of (first_line xs) ≡ None → ⊥
 no_secret xs h e = let k = rw e at h in cc
@@ -79,13 +80,13 @@ pub completes : {tally : Tally} {tr : TraceSink} {base : Base} {gave : ℕ} {l0 
     → FromEach base (λ s. IsCompleted (IsHonest s0 s1) ending)
 completes {base = base} {l1 = l1} {s0 = s0} {s1 = s1} {ending = ending} old new input shown words cause t e k a c =
     from_each base (λ s. IsHonest s0 s1 → EndsUntampered ending) (λ s. IsCompleted (IsHonest s0 s1) ending)
-    (λ tables calm. go l1 shown.says (subst (λ (l : Option (List ℕ)). Consumes l l1 shown.taken) e shown.given) calm) shown.carried.untampered
+    (λ tables calm. go l1 shown.says (subst (λ (l : Option (List ℕ)). Consumes l l1 shown.taken) e shown.bytes.given) calm) shown.carried.untampered
   where
-    go : (l : Option (List ℕ)) → EndingSays ending (limit_of base.settings) shown.taken l shown.ended shown.more shown.part → Consumes (Some input) l shown.taken → (IsHonest s0 s1 → EndsUntampered ending)
+    go : (l : Option (List ℕ)) → EndingSays ending (limit_of base.settings) shown.taken l shown.ended shown.story.more shown.story.part → Consumes (Some input) l shown.taken → (IsHonest s0 s1 → EndsUntampered ending)
         → IsCompleted (IsHonest s0 s1) ending
     go None says given calm = absurd given
     go (Some rest) says given calm =
-        limits_kept ending (limit_of base.settings) shown.taken rest shown.ended shown.more shown.part t words (subst (KeepsLimits (limit_of base.settings)) given k) says old new cause a c
+        limits_kept ending (limit_of base.settings) shown.taken rest shown.ended shown.story.more shown.story.part t words (subst (KeepsLimits (limit_of base.settings)) given k) says old new cause a c
         calm
 
 -- the last line was written, or cut by a sink's fault
@@ -99,13 +100,13 @@ unfoldable pub reported_line : {tally : Tally} {tr : TraceSink} {Takes : Type 0}
 unfolding shown_line
 reported_line ending old mid new {w0 = w0} {w1 = w1} status takes shown loud cause cut rose none later trace source kept =
     let causes : StatusCause ending old new = status_cause ending old mid new cause later trace source none in
-    let whole : Cut w0 w1 ⊥ ((printed shown.answers ++ shown.part) ++ []) = Cut-by loud shown.grew in
+    let whole : Cut w0 w1 ⊥ ((printed shown.story.answers ++ shown.story.part) ++ []) = Cut-by loud shown.grew in
     record {
       ending = ending;
       status = status;
       takes = takes;
       shown = shown_line cut.grown shown cut.appends (cut_line _ _ (λ e. line_rose ending old mid new cause (rose e) later trace) whole cut);
-      through = inl (took_more cut.grown (took_of (subst (λ (l : List ℕ). Cut w0 w1 ⊥ l) (append-nil (printed shown.answers ++ shown.part)) whole) (λ never. never)) cut.appends);
+      through = inl (took_more cut.grown (took_of (subst (λ (l : List ℕ). Cut w0 w1 ⊥ l) (append-nil (printed shown.story.answers ++ shown.story.part)) whole) (λ never. never)) cut.appends);
       silent = λ other. absurd (other (trace ∙ kept));
       cause = causes;
       completes = λ t input e k a b. completes old new input shown takes causes t e k a b;
@@ -125,8 +126,8 @@ reported_quiet ending old new {w0 = w0} {w1 = w1} {Lost = Lost} status takes sho
       status = status;
       takes = takes;
       shown = shown_line [] shown (Appends-nil _) (quiet_line _ _ shown.grew rose);
-      through = took_or (subst (λ (l : List ℕ). Cut w0 w1 Lost l) (append-nil (printed shown.answers ++ shown.part)) shown.grew) lost;
-      silent = λ other. Cut-fault tt (subst (λ (l : List ℕ). Cut w0 w1 Lost l) (append-nil (printed shown.answers ++ shown.part)) shown.grew);
+      through = took_or (subst (λ (l : List ℕ). Cut w0 w1 Lost l) (append-nil (printed shown.story.answers ++ shown.story.part)) shown.grew) lost;
+      silent = λ other. Cut-fault tt (subst (λ (l : List ℕ). Cut w0 w1 Lost l) (append-nil (printed shown.story.answers ++ shown.story.part)) shown.grew);
       cause = causes;
       completes = λ t input e k a b. completes old new input shown takes causes t e k a b;
     }

@@ -1,23 +1,23 @@
 -- Before others disturb a store, what is asked and answered is what is meant.
+use Rattle.std.specs.Prelude.{drop, nat_le, nat_lt}
 use Rattle.std.proofs.Common.{◌≡◌, ◌≤◌, ◌<◌, ◌+◌, ◌⊎◌, inl, inr, ℕ, Bool, true, false, IsTrue, List, [], ◌∷◌, ◌++◌, length, take, Option, Some, None, Ok, Err, Result, refl, sym, ◌∙◌, ap, subst, arith, append_assoc}
 use Rattle.std.proofs.lemmas.Bool.Decides.{nat_tests}
 use Rattle.std.proofs.lemmas.List.{length-append, take-append-drop, take-append-le}
 use Rattle.std.specs.List.{list_all}
-use Rattle.std.specs.Prelude.{drop, nat_le, nat_lt}
 use Rattle.ob_base.specs.declared.access.Access.{Access}
 use Rattle.ob_base.specs.declared.access.Access.TheVariants.{Read}
-use Rattle.ob_base.specs.declared.refusal.Stop.TheVariants.{Tampered, SourceFault, SinkFault, NoMemory, InputLimit}
 use Rattle.ob_base.specs.declared.refusal.Stop.{Stop}
+use Rattle.ob_base.specs.declared.refusal.Stop.TheVariants.{Tampered, SourceFault, SinkFault, NoMemory, InputLimit}
 use Rattle.ob_exec.specs.Agreeing.{public_of, seen_of, world_of}
 use Rattle.ob_exec.specs.Running.{RunCause}
 use Rattle.ob_exec.specs.Telling.{Represents, meant_script}
 use Rattle.ob_exec.specs.declared.outcome.Outcome.{Outcome}
+use Rattle.ob_headline.specs.Words.{Begins}
 use Rattle.ob_mean.specs.Verdict.{Tables}
 use Rattle.ob_script.specs.Script.{script}
-use Rattle.ob_shell.specs.Words.{Begins}
-use Rattle.ob_shell.specs.Steps.{Does, Machine, asked_of}
 use Rattle.ob_shell.proofs.CalmLemmas.{first_calm}
 use Rattle.ob_shell.proofs.FirstPartLemmas.{begins_length, begins_truly}
+use Rattle.ob_shell.specs.Steps.{Does, Machine, asked_of}
 use Rattle.ob_sql.specs.Skeleton.{skeleton}
 use Rattle.ob_sql.specs.declared.stmt.Stmt.{Stmt}
 use Rattle.ob_store.specs.Calls.{IsBefore, IsSteady}

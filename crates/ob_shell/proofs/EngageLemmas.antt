@@ -1,25 +1,31 @@
 -- The engine of a run whose tables are kept, and what a failed trace leaves.
-use Rattle.std.proofs.Common.{◌≡◌, ◌<◌, ◌≤◌, ◌+◌, ◌++◌, ◌^◌, ℕ, Bool, true, false, List, [], ◌∷◌, length, Option, Some, None, Result, Ok, Err, inl, inr, refl, sym, ◌∙◌, ap, subst, arith, append-nil, length-append}
 use Rattle.std.specs.Prelude.{IsErr, ◌==◌, drop}
+use Rattle.std.proofs.Common.{◌≡◌, ◌<◌, ◌≤◌, ◌+◌, ◌++◌, ◌^◌, ℕ, Bool, true, false, List, [], ◌∷◌, length, Option, Some, None, Result, Ok, Err, inl, inr, refl, sym, ◌∙◌, ap, subst, arith, append-nil, length-append}
 use Rattle.std.proofs.lemmas.Bool.Decides.{nat_tests}
 use Rattle.std.specs.Result.{is_err}
 use Rattle.ob_base.specs.Accesses.{read_at}
 use Rattle.ob_base.specs.Counts.{Rises}
 use Rattle.ob_base.specs.Lists.{each}
+use Rattle.ob_base.specs.Publics.{first_public}
 use Rattle.ob_base.specs.Stored.{headings_of}
 use Rattle.ob_base.specs.declared.access.Access.{Access}
 use Rattle.ob_base.specs.declared.config.Config.{Config}
 use Rattle.ob_base.specs.declared.config.Public.{Public}
-use Rattle.ob_exec.specs.Agreeing.{Agrees, count_of, engine_keys, engine_start, has_ended, high_of, opened_from, public_of, rows_of, world_of}
 use Rattle.ob_base.specs.declared.mark.Mark.{Mark}
 use Rattle.ob_base.specs.declared.refusal.Stop.{Stop}
-use Rattle.ob_base.specs.Publics.{first_public}
+use Rattle.ob_exec.proofs.HeldLemmas.{held_headings}
+use Rattle.ob_exec.specs.Agreeing.{Agrees, count_of, engine_keys, engine_start, has_ended, high_of, opened_from, public_of, rows_of, world_of}
 use Rattle.ob_exec.specs.Closing.{ClosesEngine, closing_script, is_used_up, next_closing}
 use Rattle.ob_exec.specs.Reopening.{IsOpened, NotOpened, OpensEngine, opened_start, opening_script}
 use Rattle.ob_exec.specs.Resting.{Rests}
 use Rattle.ob_exec.specs.declared.engine.Engine.{Engine}
-use Rattle.ob_exec.proofs.HeldLemmas.{held_headings}
 use Rattle.ob_gen.specs.declared.tally.Tally.{Tally}
+use Rattle.ob_headline.specs.Bases.{Opened, fresh, reopened}
+use Rattle.ob_headline.specs.Keeping.{EndsWith, NotReopened, OpensClosing, opening_end}
+use Rattle.ob_headline.specs.Tracing.{traced}
+use Rattle.ob_headline.specs.declared.ending.Ending.TheVariants.{Ran}
+use Rattle.ob_headline.specs.declared.ending.KeptEnding.{KeptEnding}
+use Rattle.ob_headline.specs.declared.ending.KeptEnding.TheVariants.{Plain}
 use Rattle.ob_io.specs.Causes.{HasCause}
 use Rattle.ob_print.specs.Cuts.{Cut}
 use Rattle.ob_reopen.specs.Closings.{open_script, read_script}
@@ -31,19 +37,13 @@ use Rattle.ob_reopen.specs.declared.fault.OpenErr.{OpenErr}
 use Rattle.ob_reopen.specs.declared.listed.Listed.{Listed}
 use Rattle.ob_seal.specs.KeySet.{KeySet}
 use Rattle.ob_seal.specs.Sealed.{keys_of}
-use Rattle.ob_shell.specs.Bases.{Opened, fresh, reopened}
+use Rattle.ob_shell.proofs.SessionLemmas.{none_asked, stands_first}
+use Rattle.ob_shell.proofs.TraceLemmas.{since}
 use Rattle.ob_shell.specs.Engaging.{ClosesRun, Engages, IsHushed}
-use Rattle.ob_shell.specs.Keeping.{EndsWith, NotReopened, OpensClosing, opening_end}
 use Rattle.ob_shell.specs.Standing.{StandsOn}
 use Rattle.ob_shell.specs.Tallies.{has_refused}
 use Rattle.ob_shell.specs.Top.{IsFresh}
-use Rattle.ob_shell.specs.Tracing.{traced}
 use Rattle.ob_shell.specs.declared.keeping.KeptEnded.{KeptEnded}
-use Rattle.ob_shell.specs.declared.keeping.KeptEnding.{KeptEnding}
-use Rattle.ob_shell.specs.declared.keeping.KeptEnding.TheVariants.{Plain}
-use Rattle.ob_shell.specs.declared.top.Ending.TheVariants.{Ran}
-use Rattle.ob_shell.proofs.SessionLemmas.{none_asked, stands_first}
-use Rattle.ob_shell.proofs.TraceLemmas.{since}
 use Rattle.ob_store.proofs.Steps.{length-each}
 use Rattle.ob_store.specs.Calls.{IsSteady}
 use Rattle.ob_store.specs.State.{StoreState}

@@ -1,19 +1,19 @@
 -- At least as many calls of the store failed as texts were answered so.
 use Rattle.std.specs.Prelude.{if◌then◌else◌}
 use Rattle.std.proofs.Common.{◌≡◌, ◌≤◌, ◌+◌, ℕ, Bool, true, false, List, [], ◌∷◌, Result, inl, inr, refl, sym, ap, subst, arith}
-use Rattle.ob_base.specs.declared.refusal.Stop.{Stop}
 use Rattle.ob_base.specs.Counts.{Rises}
 use Rattle.ob_base.specs.Refusals.{is_store_fault}
+use Rattle.ob_base.specs.declared.refusal.Stop.{Stop}
 use Rattle.ob_exec.specs.Refusals.{by_fault}
 use Rattle.ob_exec.specs.Running.{is_fault}
 use Rattle.ob_exec.specs.declared.outcome.Outcome.{Outcome}
 use Rattle.ob_exec.specs.declared.outcome.Outcome.TheVariants.{Created, Inserted, Changed, Deleted, Dropped, Rows, Refused}
+use Rattle.ob_headline.specs.Failures.{FailsBeside, outcome_failures, failures, RisesBy}
+use Rattle.ob_headline.specs.Words.{Answer}
 use Rattle.ob_shell.proofs.LaterLemmas.{last_later}
-use Rattle.ob_shell.specs.Failures.{FailsBeside, outcome_failures, failures, RisesBy}
 use Rattle.ob_shell.specs.Running.{LastPart}
 use Rattle.ob_shell.specs.Steps.{Machine, Step, Steps}
 use Rattle.ob_vault.specs.State.{RevState}
-use Rattle.ob_shell.specs.Words.{Answer}
 
 stays : (a b : ℕ) → b ≡ a → RisesBy 0 a b
 stays a b same = omega (arith, same)

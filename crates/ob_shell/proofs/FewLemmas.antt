@@ -1,9 +1,9 @@
 -- Fewer accesses are asked than there are numbers.
-use Rattle.std.proofs.Common.{◌≡◌, ◌≤◌, ◌<◌, ◌+◌, ◌^◌, ℕ, suc, Bool, true, false, List, [], ◌∷◌, length, Option, None, Some, Ok, Result, inl, inr, refl, sym, ◌∙◌, ap, subst, arith, get_or}
 use Rattle.std.specs.Prelude.{All, IfSome, bytes_eq, if◌then◌else◌, option_map, slice_get}
-use Rattle.std.specs.Option.{option_map_or}
+use Rattle.std.proofs.Common.{◌≡◌, ◌≤◌, ◌<◌, ◌+◌, ◌^◌, ℕ, suc, Bool, true, false, List, [], ◌∷◌, length, Option, None, Some, Ok, Result, inl, inr, refl, sym, ◌∙◌, ap, subst, arith, get_or}
 use Rattle.std.proofs.lemmas.Bool.Decides.{nat_tests}
 use Rattle.std.proofs.lemmas.Option.{slice_get-get_or}
+use Rattle.std.specs.Option.{option_map_or}
 use Rattle.ob_base.proofs.AccessLemmas.{makes_few}
 use Rattle.ob_base.specs.Joins.{joined_slots}
 use Rattle.ob_base.specs.Schemas.{width}
@@ -22,6 +22,8 @@ use Rattle.ob_exec.specs.Agreeing.{Agrees, count_of, public_of, seen_of}
 use Rattle.ob_exec.specs.Running.{RefusedEarly, refusal_now}
 use Rattle.ob_exec.specs.declared.engine.Engine.{Engine}
 use Rattle.ob_exec.specs.declared.outcome.Outcome.{Outcome}
+use Rattle.ob_gen.specs.declared.tally.Tally.{Tally}
+use Rattle.ob_headline.specs.Words.{Answer}
 use Rattle.ob_mean.proofs.EarlyLemmas.{allowed, within}
 use Rattle.ob_mean.proofs.VerdictLemmas.{heading-stored}
 use Rattle.ob_mean.specs.Lawful.{Holds, IsCount, counted_slots, statement_slots}
@@ -32,11 +34,9 @@ use Rattle.ob_script.proofs.Few.{script_few}
 use Rattle.ob_script.specs.Script.{extent_of, joined_extent, script}
 use Rattle.ob_script.specs.Sizes.{IsCounted, IsPublic, IsSourceCounted, IsTable, IsWithin}
 use Rattle.ob_shell.proofs.ReplayLemmas.{counts_on}
-use Rattle.ob_gen.specs.declared.tally.Tally.{Tally}
 use Rattle.ob_shell.specs.Feeding.{Fetch}
 use Rattle.ob_shell.specs.Running.{SessionRan}
 use Rattle.ob_shell.specs.Steps.{Does, Machine, Step, Steps, asked_of}
-use Rattle.ob_shell.specs.Words.{Answer}
 use Rattle.ob_sql.specs.Skeleton.{skeleton}
 use Rattle.ob_sql.specs.declared.stmt.SelectRows.{SelectRows}
 use Rattle.ob_sql.specs.declared.stmt.Stmt.{Stmt}

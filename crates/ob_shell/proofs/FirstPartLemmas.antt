@@ -1,6 +1,7 @@
 -- What a statement asks is a first part of what its meaning asks.
 use Rattle.std.proofs.Common.{◌≡◌, ◌≤◌, ℕ, Bool, true, false, cond, List, [], ◌∷◌, length, Option, Some, None, Ok, Err, Result, refl, sym, ap, subst, arith, append-nil}
 use Rattle.std.proofs.lemmas.List.{length-append}
+use Rattle.ob_base.specs.Stored.{headings}
 use Rattle.ob_base.specs.declared.access.Access.{Access}
 use Rattle.ob_base.specs.declared.config.Plan.{Plan}
 use Rattle.ob_base.specs.declared.config.Plan.TheVariants.{Small, Large, Continuous, Hash}
@@ -9,21 +10,20 @@ use Rattle.ob_base.specs.declared.refusal.Stop.{Stop}
 use Rattle.ob_base.specs.declared.seen.End.{End}
 use Rattle.ob_base.specs.declared.seen.End.TheVariants.{Static, Whole, AfterCount, Cut}
 use Rattle.ob_base.specs.declared.seen.Seen.{Seen}
-use Rattle.ob_base.specs.Stored.{headings}
+use Rattle.ob_exec.proofs.EmitLemmas.{unfit_none}
 use Rattle.ob_exec.specs.Agreeing.{public_of, seen_of, world_of}
 use Rattle.ob_exec.specs.Running.{is_fault}
 use Rattle.ob_exec.specs.Telling.{ReadsTrueUntil, Told, is_refused}
 use Rattle.ob_exec.specs.declared.outcome.Outcome.{Outcome}
-use Rattle.ob_exec.proofs.EmitLemmas.{unfit_none}
+use Rattle.ob_headline.proofs.CutLemmas.{cut_begins}
+use Rattle.ob_headline.specs.Words.{Begins}
+use Rattle.ob_mean.proofs.VerdictLemmas.{seen_late}
 use Rattle.ob_mean.specs.Refusals.{early_refusal, limits_of}
 use Rattle.ob_mean.specs.Replay.{cut_at}
 use Rattle.ob_mean.specs.Verdict.{Tables, counted, is_late, seen, seen_by, seen_started, seen_with}
-use Rattle.ob_mean.proofs.VerdictLemmas.{seen_late}
 use Rattle.ob_script.specs.Script.{script, until_end, whole_script}
-use Rattle.ob_shell.specs.Words.{Begins}
-use Rattle.ob_shell.specs.Steps.{Machine, Does, asked_of}
-use Rattle.ob_shell.proofs.CutLemmas.{cut_begins}
 use Rattle.ob_shell.proofs.ReplayLemmas.{cut_early}
+use Rattle.ob_shell.specs.Steps.{Machine, Does, asked_of}
 use Rattle.ob_sql.specs.Skeleton.{skeleton}
 use Rattle.ob_sql.specs.declared.stmt.Stmt.{Stmt}
 use Rattle.ob_sql.specs.declared.stmt.Stmt.TheVariants.{Create, Insert, Update, Delete, Drop as DropTable, SelectRows as RowsStmt, SelectTotals as TotalsStmt}

@@ -3,16 +3,18 @@ use Rattle.std.proofs.Common.{◌≡◌, ℕ, Bool, List, ◌++◌, Ok, Err, ref
 use Rattle.std.proofs.lemmas.List.{append_cancel_left}
 use Rattle.ob_base.specs.declared.access.Access.{Access}
 use Rattle.ob_base.specs.declared.refusal.Stop.TheVariants.{Tampered, SourceFault, SinkFault, NoMemory, InputLimit}
-use Rattle.ob_print.specs.Cuts.{Cut}
-use Rattle.ob_shell.specs.Bases.{Base, FromEach}
-use Rattle.ob_shell.specs.Headline.{Headline}
 use Rattle.ob_gen.specs.declared.tally.Tally.{Tally}
+use Rattle.ob_headline.specs.Bases.{Base, FromEach}
+use Rattle.ob_headline.specs.Headline.{Headline}
+use Rattle.ob_headline.specs.Tracing.{traced}
+use Rattle.ob_headline.specs.Words.{Answer, IsHonest, Outside, SinksRose}
+use Rattle.ob_headline.specs.Status.{Because, EndsAtRead}
+use Rattle.ob_headline.specs.declared.ending.Ending.{Ending}
+use Rattle.ob_headline.specs.declared.ending.Ending.TheVariants.{Usage, BadKey, Ran}
+use Rattle.ob_headline.specs.declared.ending.Report.{Report}
+use Rattle.ob_print.specs.Cuts.{Cut}
 use Rattle.ob_shell.specs.Top.{EndingFlag, EndingSays, EndingWords, EndsUntampered, Reported, StatusCause, sink_of}
-use Rattle.ob_shell.specs.Tracing.{Traced, traced}
-use Rattle.ob_shell.specs.Words.{Answer, Because, EndsAtRead, IsHonest, Outside, SinksRose}
-use Rattle.ob_shell.specs.declared.top.Ending.{Ending}
-use Rattle.ob_shell.specs.declared.top.Ending.TheVariants.{Usage, BadKey, Ran}
-use Rattle.ob_shell.specs.declared.top.Report.{Report}
+use Rattle.ob_shell.specs.Traces.{Traced}
 
 -- why it ends so
 pub because : (base : Base) (ending : Ending) (Takes : Type 0) (max : ℕ) (taken : List ℕ) (ended : Bool) (more : List (List ℕ)) (answers : List Answer) (part : List ℕ) (old new : Outside)
@@ -36,48 +38,29 @@ headlined Takes base tracing old new report first r traces =
     let run = shown.carried in
     record {
       taken = shown.taken;
-      given = shown.given;
-      within = shown.within;
-      few = shown.few;
       ended = shown.ended;
-      at_end = shown.at_end;
-      served = shown.served;
-      more = shown.more;
-      texts = shown.texts;
-      prompt = shown.prompt;
-      spelt = run.spelt;
-      spells = run.spells;
-      reached = run.reached;
-      begun = run.begun;
-      keyed = run.keyed;
-      answers = shown.answers;
-      each = run.each;
-      part = shown.part;
       ending = r.ending;
-      grew = shown.grew;
-      whole = shown.whole;
-      through = r.through;
-      silent = r.silent;
-      seen = run.seen;
-      last = run.last;
-      one_last = run.one_last;
-      each_seen = run.each_seen;
-      lawful = run.lawful;
-      asked = run.asked;
-      traced_all = subst (λ (xs : List Access). Cut old.traced new.traced (SinksRose old.faults new.faults) (traced tracing xs))
-          (append_cancel_left base.before traces.seen _ (ap (λ (xs : List Access). xs ++ traces.seen) (sym first) ∙ sym traces.grew ∙ run.asked)) traces.cut;
-      traced_whole = run.traced_whole;
-      failed = run.failed;
-      unfailed = run.unfailed;
-      meant = run.meant;
-      tampered = run.tampered;
-      later = run.later;
-      always = run.early;
-      sealed = run.sealed;
-      sealed_before = run.sealed_before;
-      most_open = run.most_open;
-      some_open = run.some_open;
-      status = r.status;
-      because = because base r.ending Takes _ shown.taken shown.ended shown.more shown.answers shown.part old new r.takes shown.flag shown.says r.cause run.untampered run.at_read;
-      completes = r.completes;
+      story = shown.story;
+      bytes = shown.bytes;
+      prompt = shown.prompt;
+      statements = run.statements;
+      output = record {
+        grew = shown.grew;
+        whole = shown.whole;
+        through = r.through;
+        silent = r.silent;
+        traced_all = subst (λ (xs : List Access). Cut old.traced new.traced (SinksRose old.faults new.faults) (traced tracing xs))
+            (append_cancel_left base.before traces.seen _ (ap (λ (xs : List Access). xs ++ traces.seen) (sym first) ∙ sym traces.grew ∙ run.accesses.asked)) traces.cut;
+        traced_whole = run.traced_whole;
+      };
+      accesses = run.accesses;
+      answers = run.answers;
+      tampering = run.tampering;
+      sealing = run.sealing;
+      rows = run.rows;
+      status = record {
+        status = r.status;
+        because = because base r.ending Takes _ shown.taken shown.ended shown.story.more shown.story.answers shown.story.part old new r.takes shown.flag shown.says r.cause run.untampered run.at_read;
+        completes = r.completes;
+      };
     }

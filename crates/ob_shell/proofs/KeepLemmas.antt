@@ -8,28 +8,29 @@ use Rattle.ob_exec.specs.Agreeing.{high_of, rows_of}
 use Rattle.ob_exec.specs.declared.engine.Engine.{Engine}
 use Rattle.ob_gen.specs.Tally.{empty_tally}
 use Rattle.ob_gen.specs.declared.tally.Tally.{Tally}
+use Rattle.ob_headline.specs.Bases.{Base}
+use Rattle.ob_headline.specs.KeyLine.{after_line, first_line, secret_of}
+use Rattle.ob_headline.specs.Settings.{limit_of}
+use Rattle.ob_headline.specs.Words.{Faults, faults_of, outside_of}
+use Rattle.ob_headline.specs.declared.ending.Ending.TheVariants.{BadKey, Ran}
+use Rattle.ob_headline.specs.declared.ending.KeptEnding.TheVariants.{Plain}
 use Rattle.ob_reopen.specs.Keepers.{KeeperState}
 use Rattle.ob_seal.specs.Sealed.{keys_of}
-use Rattle.ob_shell.specs.Bases.{Base}
+use Rattle.ob_shell.proofs.CountLemmas.{same_cause}
+use Rattle.ob_shell.proofs.SessionLemmas.{closed_behind, ran_after}
+use Rattle.ob_shell.proofs.TopLemmas.{piece_is, piece_prompt, piece_within, shown_bad_key, shown_by, shown_source_fault}
 use Rattle.ob_shell.specs.Engaging.{ClosedRun, ClosesRun, EndsUnserved, Engages, RanBegun, RanStopped, RanUnbegun, RanUnkeyed, RanWhole, ServesAll, StartsRun, StopsRun}
 use Rattle.ob_shell.specs.Feeding.{Fetch, IsFedBy}
-use Rattle.ob_shell.specs.KeyLine.{KeyRead, after_line, first_line, secret_of}
+use Rattle.ob_shell.specs.LineRead.{KeyRead}
 use Rattle.ob_shell.specs.Running.{OutFailed, SessionRan, Silenced, StopCause}
-use Rattle.ob_shell.specs.Settings.{limit_of}
 use Rattle.ob_shell.specs.Steps.{machine_of}
 use Rattle.ob_shell.specs.Tallies.{has_refused}
 use Rattle.ob_shell.specs.Top.{Carried, IsFresh, RanAfter, sink_of}
-use Rattle.ob_shell.specs.Tracing.{Traced}
-use Rattle.ob_shell.specs.Words.{Faults, faults_of, outside_of}
+use Rattle.ob_shell.specs.Traces.{Traced}
 use Rattle.ob_shell.specs.declared.feed.Halt.{Halt}
 use Rattle.ob_shell.specs.declared.keeping.KeptEnded.{KeptEnded}
-use Rattle.ob_shell.specs.declared.keeping.KeptEnding.TheVariants.{Plain}
 use Rattle.ob_shell.specs.declared.key.FirstLine.{FirstLine}
 use Rattle.ob_shell.specs.declared.key.FirstLine.TheVariants.{Bad}
-use Rattle.ob_shell.specs.declared.top.Ending.TheVariants.{BadKey, Ran}
-use Rattle.ob_shell.proofs.CountLemmas.{same_cause}
-use Rattle.ob_shell.proofs.SessionLemmas.{closed_behind, ran_after}
-use Rattle.ob_shell.proofs.TopLemmas.{piece_few, piece_is, piece_prompt, piece_within, shown_bad_key, shown_by, shown_source_fault}
 use Rattle.ob_store.specs.State.{StoreState}
 use Rattle.ob_vault.specs.State.{RevState}
 
@@ -135,7 +136,6 @@ module _ (config : Config) (tracing : Bool) (f0 f1 : Fetch) (none : f0.unread �
         taken = read.fed.piece;
         given = read.fed.consumed;
         within = piece_within empty_tally tr refl (Some config) f0 f1 none start top below by read.fed;
-        few = piece_few empty_tally tr refl (Some config) f0 f1 none start top below by read.fed;
         prompt = piece_prompt empty_tally tr refl (Some config) f0 f1 none start top below by read.fed read.ahead;
         secret = key;
         keyed = ap (λ (l : List ℕ). secret_of (first_line l)) (piece_is read.fed none) ∙ is;
@@ -179,7 +179,7 @@ module _ (config : Config) (tracing : Bool) (f0 f1 : Fetch) (none : f0.unread �
         begun = ran_begun;
         stop = stops.stop;
         shown = shown_by starts.base key (Err stops.stop) start top_here below by read stops.ran after keyed
-            (subst (λ (x : Option (List ℕ)). Carried (sink_of tracing t1 t2) starts.base x s1 s2 ended.high stops.ran.served stops.ran.more stops.ran.answers stops.ran.part (Ran (Err stops.stop))) (sym keyed) stops.ran.carried) tt;
+            (subst (λ (x : Option (List ℕ)). Carried (sink_of tracing t1 t2) starts.base x s1 s2 ended.high stops.ran.story (Ran (Err stops.stop))) (sym keyed) stops.ran.carried) tt;
         keyed = keyed;
         traced_all = stops.traced_all;
         cause = subst (λ (f : Faults). StopCause {T = Bool} f new (Err stops.stop)) same_faults stops.cause;
@@ -195,24 +195,17 @@ module _ (config : Config) (tracing : Bool) (f0 f1 : Fetch) (none : f0.unread �
       ran_whole serves after keyed =
           let ran = serves.ran in
           let flag = Ok (has_refused serves.tally) in
-          let both = subst
-          (λ (x : Option (List ℕ)). (c : Carried (sink_of tracing t1 serves.traced1) starts.base x s1 serves.served serves.high ran.served ran.more ran.answers ran.part (Ran flag))
-          × ClosedRun starts.base (keys_of key) tracing serves.tally c.spelt ran.answers c.seen (c.seen ++ c.last) ran.part serves.high ended s1 serves.served s2 serves.traced1 t2 old.trace new.trace k1 k2)
-          (sym keyed) (
-            ran.carried,
-            subst (λ (n : ℕ). ClosedRun starts.base (keys_of key) tracing serves.tally ran.carried.spelt ran.answers ran.carried.seen (ran.carried.seen ++ ran.carried.last) ran.part serves.high ended s1 serves.served s2 serves.traced1 t2 n new.trace k1 k2)
-                starts.faults serves.closed,
-          ) in
+          let carried = subst (λ (x : Option (List ℕ)). Carried (sink_of tracing t1 serves.traced1) starts.base x s1 serves.served serves.high ran.story (Ran flag)) (sym keyed) ran.carried in
           record {
             begun = ran_begun;
             tally = serves.tally;
             high = serves.high;
             served = serves.served;
             traced = serves.traced1;
-            shown = shown_by starts.base key (Ok serves.tally) start top_here below by read ran after keyed both.0 refl;
+            shown = shown_by starts.base key (Ok serves.tally) start top_here below by read ran after keyed carried refl;
             keyed = keyed;
             traced_all = serves.traced_all;
             source = serves.source;
             out = serves.out;
-            closed = both.1;
+            closed = subst (λ (n : ℕ). ClosedRun starts.base (keys_of key) tracing serves.tally ran.story serves.high ended s1 serves.served s2 serves.traced1 t2 n new.trace k1 k2) starts.faults serves.closed;
           }

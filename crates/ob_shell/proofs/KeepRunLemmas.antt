@@ -4,19 +4,19 @@ use Rattle.ob_base.specs.declared.config.Config.{Config}
 use Rattle.ob_exec.specs.Agreeing.{high_of, rows_of}
 use Rattle.ob_exec.specs.declared.engine.Engine.{Engine}
 use Rattle.ob_gen.specs.Tally.{empty_tally}
+use Rattle.ob_headline.specs.Settings.{limit_of}
+use Rattle.ob_headline.specs.Words.{Faults, outside_of}
 use Rattle.ob_reopen.specs.Keepers.{KeeperState}
-use Rattle.ob_shell.specs.Engaging.{ClosesRun, RanKept, ServesRun, StartsRun}
-use Rattle.ob_shell.specs.Feeding.{Fetch, IsFedBy}
-use Rattle.ob_shell.specs.KeyLine.{KeyRead}
-use Rattle.ob_shell.specs.Settings.{limit_of}
-use Rattle.ob_shell.specs.Steps.{machine_of}
-use Rattle.ob_shell.specs.Words.{Faults, outside_of}
-use Rattle.ob_shell.specs.declared.keeping.KeptEnded.{KeptEnded}
-use Rattle.ob_shell.specs.declared.key.FirstLine.TheVariants.{Secret, Last}
 use Rattle.ob_shell.proofs.KeepLemmas.{ran_stopped, ran_whole, serves_all}
 use Rattle.ob_shell.proofs.SessionLemmas.{ran_after, ran_last}
 use Rattle.ob_shell.proofs.TopLemmas.{after_last, after_secret}
 use Rattle.ob_shell.proofs.TraceLemmas.{traced_none, traced_whole}
+use Rattle.ob_shell.specs.Engaging.{ClosesRun, RanKept, ServesRun, StartsRun}
+use Rattle.ob_shell.specs.Feeding.{Fetch, IsFedBy}
+use Rattle.ob_shell.specs.LineRead.{KeyRead}
+use Rattle.ob_shell.specs.Steps.{machine_of}
+use Rattle.ob_shell.specs.declared.keeping.KeptEnded.{KeptEnded}
+use Rattle.ob_shell.specs.declared.key.FirstLine.TheVariants.{Secret, Last}
 use Rattle.ob_store.specs.State.{StoreState}
 use Rattle.ob_vault.specs.State.{RevState}
 

@@ -1,6 +1,6 @@
 -- A run whose tables are kept over the generated text, and one whose words are not read.
-use Rattle.std.proofs.Common.{◌≡◌, ◌≤◌, ℕ, Bool, true, false, List, [], Option, Some, None, Ok, Err, inl, inr, refl, sym, subst, arith}
 use Rattle.std.specs.Prelude.{◌≢◌}
+use Rattle.std.proofs.Common.{◌≡◌, ◌≤◌, ℕ, Bool, true, false, List, [], Option, Some, None, Ok, Err, inl, inr, refl, sym, subst, arith}
 use Rattle.std.specs.Io.KnownBytes.{Appends}
 use Rattle.ob_base.specs.Counts.{Rises}
 use Rattle.ob_base.specs.declared.access.Access.{Access}
@@ -8,34 +8,35 @@ use Rattle.ob_base.specs.declared.config.Config.{Config}
 use Rattle.ob_gen.specs.Generated.{generated}
 use Rattle.ob_gen.specs.Tally.{empty_tally}
 use Rattle.ob_gen.specs.declared.tally.Tally.{Tally}
-use Rattle.ob_print.specs.Cuts.{Cut}
+use Rattle.ob_headline.proofs.StopLemmas.{begun_stops}
+use Rattle.ob_headline.specs.Bases.{fresh}
+use Rattle.ob_headline.specs.Endings.{last_line, status_of}
+use Rattle.ob_headline.specs.Keeping.{kept_line, kept_status}
+use Rattle.ob_headline.specs.KeptHeadline.{EndsUnkeyed, KeptHeadline}
+use Rattle.ob_headline.specs.Words.{Faults, Outside, SinksRose, faults_of, outside_of}
+use Rattle.ob_headline.specs.declared.ending.Ending.TheVariants.{Usage, BadKey, Ran}
+use Rattle.ob_headline.specs.declared.ending.KeptEnding.{KeptEnding}
+use Rattle.ob_headline.specs.declared.ending.KeptEnding.TheVariants.{Plain, OtherPack, NotClosed as LeftOpen, KeeperFault, StoreFault}
+use Rattle.ob_headline.specs.declared.ending.Report.{Report}
+use Rattle.ob_headline.specs.declared.seed.Seed.{Seed}
 use Rattle.ob_print.proofs.CutLemmas.{Cut-whole}
+use Rattle.ob_print.specs.Cuts.{Cut}
 use Rattle.ob_reopen.specs.Keepers.{KeeperState}
-use Rattle.ob_shell.specs.Bases.{fresh}
-use Rattle.ob_shell.specs.Closed.{LineWritten, refused_by}
-use Rattle.ob_shell.specs.Endings.{last_line, status_of}
-use Rattle.ob_shell.specs.Engaging.{IsHushed, KeptClosedBy, KeptConcludedBy, KeptGenerated, RanKept}
-use Rattle.ob_shell.specs.Keeping.{kept_line, kept_status}
-use Rattle.ob_shell.specs.KeptHeadline.{EndsUnkeyed, KeptHeadline}
-use Rattle.ob_shell.specs.KeptSummary.{KeptConcludes, KeptStatusIs, KeptSummarized, KeptTally, MayKeep, kept_conclusion}
-use Rattle.ob_shell.specs.Top.{IsFresh, Reported, Shown, sink_of}
-use Rattle.ob_shell.specs.Words.{Faults, Outside, SinksRose, faults_of, outside_of}
-use Rattle.ob_shell.specs.declared.keeping.KeptEnded.{KeptEnded}
-use Rattle.ob_shell.specs.declared.keeping.KeptEnding.{KeptEnding}
-use Rattle.ob_shell.specs.declared.keeping.KeptEnding.TheVariants.{Plain, OtherPack, NotClosed as LeftOpen, KeeperFault, StoreFault}
-use Rattle.ob_shell.specs.declared.top.Ending.TheVariants.{Usage, BadKey, Ran}
-use Rattle.ob_shell.specs.declared.top.Report.{Report}
-use Rattle.ob_shell.specs.declared.words.Seed.{Seed}
-use Rattle.ob_shell.specs.declared.words.WordsErr.{WordsErr}
-use Rattle.ob_shell.specs.declared.words.WordsErr.TheVariants as Words
 use Rattle.ob_shell.proofs.CloseLemmas.{reported_words, words_cause, words_end, words_none, words_shown}
 use Rattle.ob_shell.proofs.CompleteLemmas.{reported_line}
 use Rattle.ob_shell.proofs.CountLemmas.{silenced_kept, silenced_rose}
 use Rattle.ob_shell.proofs.GeneratingLemmas.{cut_rose, nothing_written, trace_rose, unread_summarized}
 use Rattle.ob_shell.proofs.HeadLemmas.{headlined}
-use Rattle.ob_shell.proofs.KeptLemmas.{begun_stops, ends_whole, kept_headlined, kept_told}
+use Rattle.ob_shell.proofs.KeptLemmas.{ends_whole, kept_headlined, kept_told}
 use Rattle.ob_shell.proofs.TopLemmas.{shown_line}
 use Rattle.ob_shell.proofs.TraceLemmas.{traced_none, traced_whole}
+use Rattle.ob_shell.specs.Closed.{LineWritten, refused_by}
+use Rattle.ob_shell.specs.Engaging.{IsHushed, KeptClosedBy, KeptConcludedBy, KeptGenerated, RanKept}
+use Rattle.ob_shell.specs.KeptSummary.{KeptConcludes, KeptStatusIs, KeptSummarized, KeptTally, MayKeep, kept_conclusion}
+use Rattle.ob_shell.specs.Top.{IsFresh, Reported, Shown, sink_of}
+use Rattle.ob_shell.specs.declared.keeping.KeptEnded.{KeptEnded}
+use Rattle.ob_shell.specs.declared.words.WordsErr.{WordsErr}
+use Rattle.ob_shell.specs.declared.words.WordsErr.TheVariants as Words
 use Rattle.ob_store.specs.State.{StoreState}
 
 -- ---- what was written

@@ -1,42 +1,31 @@
 -- The headline of a run whose tables are kept, by what was done until its last line.
 use Rattle.std.proofs.Common.{◌≡◌, ◌≢◌, ℕ, Bool, true, false, List, [], ◌++◌, Option, Some, Result, Ok, Err, inl, inr, refl, sym, ◌∙◌, ap, subst, arith}
-use Rattle.ob_shell.specs.KeptSummary.{KeptTally}
-use Rattle.ob_seal.specs.KeySet.{KeySet}
-use Rattle.ob_reopen.specs.declared.fault.OpenErr.{OpenErr}
-use Rattle.ob_reopen.specs.declared.fault.OpenErr.TheVariants as OpenErrs
-use Rattle.ob_reopen.specs.declared.fault.CloseErr.{CloseErr}
-use Rattle.ob_reopen.specs.declared.fault.CloseErr.TheVariants as CloseErrs
-use Rattle.ob_gen.specs.declared.tally.Tally.{Tally}
-use Rattle.ob_base.specs.declared.mark.Mark.TheVariants.{Fresh, InUse, Closed}
-use Rattle.ob_base.specs.declared.mark.Mark.{Mark}
-use Rattle.ob_base.specs.declared.fault.Failed.{Failed}
-use Rattle.std.specs.Prelude.{◌==◌, MatchBool}
 use Rattle.std.proofs.KnownBytes.{Appends-nil}
 use Rattle.ob_base.specs.Counts.{Rises}
 use Rattle.ob_base.specs.declared.config.Config.{Config}
-use Rattle.ob_print.specs.Cuts.{Cut}
+use Rattle.ob_base.specs.declared.fault.Failed.{Failed}
+use Rattle.ob_base.specs.declared.mark.Mark.{Mark}
+use Rattle.ob_gen.specs.declared.tally.Tally.{Tally}
+use Rattle.ob_headline.proofs.StopLemmas.{closing_stops, begun_stops}
+use Rattle.ob_headline.specs.Bases.{fresh}
+use Rattle.ob_headline.specs.Endings.{status_of}
+use Rattle.ob_headline.specs.Headline.{Headline}
+use Rattle.ob_headline.specs.Keeping.{kept_line, kept_status, EndsWith, handed_end}
+use Rattle.ob_headline.specs.KeptHeadline.{EndsBehind, EndsUnkeyed, KeptHeadline, begun_at}
+use Rattle.ob_headline.specs.KeyLine.{first_line, secret_of}
+use Rattle.ob_headline.specs.Words.{Faults, Outside, SinksRose, outside_of, Answer}
+use Rattle.ob_headline.specs.declared.ending.Ending.{Ending}
+use Rattle.ob_headline.specs.declared.ending.Ending.TheVariants.{Ran, Usage, BadKey}
+use Rattle.ob_headline.specs.declared.ending.KeptEnding.{KeptEnding}
+use Rattle.ob_headline.specs.declared.ending.KeptEnding.TheVariants.{Plain, OtherPack, NotClosed as LeftOpen, KeeperFault, StoreFault}
+use Rattle.ob_headline.specs.declared.ending.Report.{Report}
 use Rattle.ob_print.proofs.CutLemmas.{Cut-whole}
+use Rattle.ob_print.specs.Cuts.{Cut}
 use Rattle.ob_reopen.specs.Keepers.{KeeperState}
+use Rattle.ob_reopen.specs.declared.fault.CloseErr.{CloseErr}
+use Rattle.ob_reopen.specs.declared.fault.CloseErr.TheVariants as CloseErrs
+use Rattle.ob_reopen.specs.declared.fault.OpenErr.TheVariants as OpenErrs
 use Rattle.ob_seal.specs.Sealed.{keys_of}
-use Rattle.ob_shell.specs.Bases.{fresh}
-use Rattle.ob_shell.specs.Closed.{LineWritten, Unwritten}
-use Rattle.ob_shell.specs.Endings.{status_of}
-use Rattle.ob_shell.specs.Engaging.{RanKept, RanStopped, RanUnbegun, RanUnkeyed, RanWhole}
-use Rattle.ob_shell.specs.Headline.{Headline}
-use Rattle.ob_shell.specs.Keeping.{kept_line, kept_status, EndsAtMark, EndsWith, NotBegun, NotReopened, closing_end, closing_named, handed_end, opening_end}
-use Rattle.ob_shell.specs.KeptHeadline.{EndsBehind, EndsUnkeyed, KeptHeadline, begun_at}
-use Rattle.ob_shell.specs.KeyLine.{first_line, secret_of}
-use Rattle.ob_shell.specs.Running.{OutFailed}
-use Rattle.ob_shell.specs.Tallies.{has_refused}
-use Rattle.ob_shell.specs.Top.{EndingWords, Reported, Shown, sink_of, EndingTally}
-use Rattle.ob_shell.specs.Tracing.{Traced}
-use Rattle.ob_shell.specs.Words.{Faults, Outside, SinksRose, outside_of, Answer}
-use Rattle.ob_shell.specs.declared.keeping.KeptEnded.{KeptEnded}
-use Rattle.ob_shell.specs.declared.keeping.KeptEnding.{KeptEnding}
-use Rattle.ob_shell.specs.declared.keeping.KeptEnding.TheVariants.{Plain, OtherPack, NotClosed as LeftOpen, KeeperFault, StoreFault}
-use Rattle.ob_shell.specs.declared.top.Ending.{Ending}
-use Rattle.ob_shell.specs.declared.top.Ending.TheVariants.{Ran, Usage, BadKey}
-use Rattle.ob_shell.specs.declared.top.Report.{Report}
 use Rattle.ob_shell.proofs.CloseLemmas.{words_taken}
 use Rattle.ob_shell.proofs.CompleteLemmas.{reported_line, reported_quiet}
 use Rattle.ob_shell.proofs.CountLemmas.{silenced_kept, silenced_rose}
@@ -44,39 +33,19 @@ use Rattle.ob_shell.proofs.GeneratingLemmas.{cut_rose, nothing_written, traced_b
 use Rattle.ob_shell.proofs.HeadLemmas.{headlined}
 use Rattle.ob_shell.proofs.TopLemmas.{shown_line, takes_of}
 use Rattle.ob_shell.proofs.TraceLemmas.{traced_none, traced_whole}
+use Rattle.ob_shell.specs.Closed.{LineWritten, Unwritten}
+use Rattle.ob_shell.specs.Engaging.{RanKept, RanStopped, RanUnbegun, RanUnkeyed, RanWhole}
+use Rattle.ob_shell.specs.KeptSummary.{KeptTally}
+use Rattle.ob_shell.specs.Running.{OutFailed}
+use Rattle.ob_shell.specs.Tallies.{has_refused}
+use Rattle.ob_shell.specs.Top.{EndingWords, Reported, Shown, sink_of, EndingTally}
+use Rattle.ob_shell.specs.Traces.{Traced}
+use Rattle.ob_shell.specs.declared.keeping.KeptEnded.{KeptEnded}
 use Rattle.ob_store.specs.State.{StoreState}
 
 -- what lies outside once the last line was written
 abbrev pub with_line : Outside → (written : Option (List ℕ)) → (out : ℕ) → Outside
 with_line mid written out = record mid { written = written; faults = record mid.faults { out = out } }
-
--- ---- how a run ends that may be closed
--- where its tables can't be opened, or closed, it doesn't come to its end
-opening_stops : (error : OpenErr) (refused : Bool) → opening_end error ≡ Plain (Ran (Ok refused)) → ⊥
-opening_stops OpenErrs.Failed refused is = cc is
-opening_stops (OpenErrs.Tampered region place) refused is = cc is
-opening_stops OpenErrs.NoMemory refused is = cc is
-
-pub closing_stops : (error : CloseErr) (refused : Bool) → closing_end error ≡ Plain (Ran (Ok refused)) → ⊥
-closing_stops CloseErrs.Failed refused is = cc is
-closing_stops CloseErrs.NoMemory refused is = cc is
-
--- neither where it ends at the mark
-mark_stops : (mark : Result Mark Failed) (config : Config) (keys : KeySet) (ending : KeptEnding) (s t : StoreState) (refused : Bool) → EndsAtMark mark config keys ending s t → ending ≡ Plain (Ran (Ok refused)) → ⊥
-mark_stops (Err failed) config keys ending s t refused ends is = cc (ends.0, is)
-mark_stops (Ok Fresh) config keys ending s t refused ends is = cc (ends.0, is)
-mark_stops (Ok InUse) config keys ending s t refused ends is = cc (ends.0, is)
-mark_stops (Ok (Closed region blocks number pack)) config keys ending s t refused ends is = go (pack == config.pack) ends
-  where
-    go : (b : Bool) → MatchBool b (NotReopened (closing_named region blocks number pack) keys ending s t) ((ending ≡ OtherPack) × (t ≡ s)) → ⊥
-    go true not = opening_stops not.error refused (sym not.ends ∙ is)
-    go false other = cc (other.0, is)
-
-pub begun_stops : (config : Config) (keys : KeySet) (ending : KeptEnding) (s t : StoreState) (f0 f1 : ℕ) (k0 k1 : KeeperState) (refused : Bool) → NotBegun config keys ending s t f0 f1 k0 k1 → ending ≡ Plain (Ran (Ok refused)) → ⊥
-begun_stops config keys ending s t f0 f1 k0 k1 refused begun is = elim begun.why [
-  | inl ends ↦ mark_stops begun.mark config keys ending s t refused ends.0 is
-  | inr held ↦ elim held.2.ends [ inl sink ↦ cc (sink.0, is) | inr keeper ↦ cc (keeper.0, is) ]
-]
 
 -- where it came to its end and was closed, it ends as it would without, and nothing failed
 handed_whole : (whole ending : KeptEnding) (result : Result (Unit {0}) Failed) (refused : Bool) → ending ≡ handed_end whole result → ending ≡ Plain (Ran (Ok refused)) → ending ≡ whole
@@ -162,7 +131,6 @@ module _ {Takes : Type 0} (settings : Option Config) (config : Config) (takes : 
       taken = ran.taken;
       given = ran.given;
       within = ran.within;
-      few = ran.few;
       prompt = ran.prompt;
       secret = ran.secret;
       keyed = ran.keyed;
@@ -232,7 +200,7 @@ module _ {Takes : Type 0} (settings : Option Config) (config : Config) (takes : 
       record {
         ending = ended.ending;
         status = status;
-        answers = session.answers;
+        answers = session.story.answers;
         ran = inr (inr (record {
           takes = takes;
           config = config;
@@ -249,7 +217,7 @@ module _ {Takes : Type 0} (settings : Option Config) (config : Config) (takes : 
           keyed = told.keyed;
           answered = refl;
           high = refl;
-          behind = subst (λ (e : Ending). EndsBehind e ran.begun.base (keys_of ran.begun.secret) tracing session.spelt session.answers session.seen (session.seen ++ session.last) session.part begun new new report report ran.begun.in_use k1 ended.ending)
+          behind = subst (λ (e : Ending). EndsBehind e ran.begun.base (keys_of ran.begun.secret) tracing session.story begun new new report report ran.begun.in_use k1 ended.ending)
               (sym told.ending) (record { is = ran.ending; same = refl; reports = refl; kept = ran.kept });
         }));
       }
@@ -268,7 +236,7 @@ module _ {Takes : Type 0} (settings : Option Config) (config : Config) (takes : 
       record {
         ending = ended.ending;
         status = status;
-        answers = ran.shown.answers;
+        answers = ran.shown.story.answers;
         ran = inr (inr (record {
           takes = takes;
           config = config;
@@ -311,9 +279,9 @@ module _ {Takes : Type 0} (settings : Option Config) (config : Config) (takes : 
   )
   kept_told none (inr (inl ran)) = (refl, counted_by ended.ending [] ended.tally (λ refused is. absurd (begun_stops config (keys_of ran.secret) ended.ending _ _ _ _ _ _ refused ran.unserved.begun is)))
   kept_told none (inr (inr (inl ran))) = (refl, counted_by ended.ending (kept_stopped ran).answers ended.tally (λ refused is. absurd (cc (ran.ending, is))))
-  kept_told none (inr (inr (inr ran))) = (refl, counted_by ended.ending ran.shown.answers ended.tally (λ refused is. counts_whole ran refused is))
+  kept_told none (inr (inr (inr ran))) = (refl, counted_by ended.ending ran.shown.story.answers ended.tally (λ refused is. counts_whole ran refused is))
     where
-      counts_whole : (ran : RanWhole config tracing ended old mid k0 k1) (refused : Bool) → ended.ending ≡ Plain (Ran (Ok refused)) → KeptTally ended.ending ran.shown.answers ended.tally
+      counts_whole : (ran : RanWhole config tracing ended old mid k0 k1) (refused : Bool) → ended.ending ≡ Plain (Ran (Ok refused)) → KeptTally ended.ending ran.shown.story.answers ended.tally
       counts_whole ran refused is =
           let came = ends_whole ran.closed.tables.closes.result _ _ _ _ _ _ refused ran.closed.tables.closes.ends is in
-          subst (λ (e : KeptEnding). KeptTally e ran.shown.answers ended.tally) (sym came.0) (ran.closed.counted came.0 ∙ ran.shown.counted)
+          subst (λ (e : KeptEnding). KeptTally e ran.shown.story.answers ended.tally) (sym came.0) (ran.closed.counted came.0 ∙ ran.shown.counted)

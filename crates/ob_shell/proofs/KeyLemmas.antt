@@ -1,17 +1,18 @@
 -- The first line among the bytes that were taken.
 use Rattle.std.proofs.Common.{◌≡◌, ℕ, ◌+◌, ◌<◌, ◌≤◌, ◌||◌, ◌==◌, Bool, true, false, List, [], ◌∷◌, ◌++◌, length, take, set, Option, Some, None, Ok, Err, refl, sym, ap, ◌∙◌, subst, inl, inr, arith, append_assoc, append-nil, length-append, add-one}
+use Rattle.std.proofs.Math.Seq.{take-suc-set}
+use Rattle.std.proofs.lemmas.Grind.{common_steps}
 use Rattle.std.specs.Io.KnownBytes.{IsAtEnd}
 use Rattle.std.specs.Result.{result_ok}
-use Rattle.std.proofs.lemmas.Grind.{common_steps}
-use Rattle.std.proofs.Math.Seq.{take-suc-set}
 use Rattle.hex.specs.Hex.{decode_sized}
+use Rattle.ob_headline.proofs.PromptLemmas.{length-after_line}
+use Rattle.ob_headline.specs.KeyLine.{line_max, has_lf, first_line, after_line, without_cr, secret_of}
+use Rattle.ob_shell.proofs.FeedLemmas.{Fed-then}
 use Rattle.ob_shell.specs.Feeding.{Fetch, FetchCause, Fed}
-use Rattle.ob_shell.specs.KeyLine.{line_max, has_lf, first_line, after_line, without_cr, secret_of, KeyEnds, KeyRead, line_before_more, line_at_end}
+use Rattle.ob_shell.specs.LineRead.{KeyEnds, KeyRead, line_before_more, line_at_end}
 use Rattle.ob_shell.specs.declared.feed.Halt.{Halt}
 use Rattle.ob_shell.specs.declared.feed.Halt.TheVariants.{SourceFault, InputLimit}
 use Rattle.ob_shell.specs.declared.key.FirstLine.TheVariants.{Bad}
-use Rattle.ob_shell.proofs.FeedLemmas.{Fed-then}
-use Rattle.ob_shell.proofs.PromptLemmas.{length-after_line}
 
 or_parts : (a b : Bool) → (a || b) ≡ false → (a ≡ false) × (b ≡ false)
 or_parts true b h = (h, absurd (cc))

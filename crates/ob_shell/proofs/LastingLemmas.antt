@@ -6,14 +6,14 @@ use Rattle.ob_base.specs.declared.refusal.Stop.{Stop}
 use Rattle.ob_exec.specs.Agreeing.{public_of, rows_of, world_of}
 use Rattle.ob_select.specs.Selecting.{AcceptsRows}
 use Rattle.ob_exec.specs.declared.engine.Engine.{Engine}
-use Rattle.ob_store.specs.State.{StoreState}
-use Rattle.ob_shell.specs.Running.{LastPart}
-use Rattle.ob_shell.specs.Steps.{Machine, Step, Steps}
-use Rattle.ob_vault.specs.State.{RevState}
-use Rattle.ob_vault.specs.Tied.{AllSealed, Scope, next_fault}
+use Rattle.ob_headline.specs.Words.{Answer}
 use Rattle.ob_shell.proofs.LaterLemmas.{step_later}
 use Rattle.ob_shell.proofs.ReplayLemmas.{step_goes}
-use Rattle.ob_shell.specs.Words.{Answer}
+use Rattle.ob_shell.specs.Running.{LastPart}
+use Rattle.ob_shell.specs.Steps.{Machine, Step, Steps}
+use Rattle.ob_store.specs.State.{StoreState}
+use Rattle.ob_vault.specs.State.{RevState}
+use Rattle.ob_vault.specs.Tied.{AllSealed, Scope, next_fault}
 
 -- the rows of a block, and those that may be open, are as these settings say
 pub record HasSizes {R : Type 0} (config : Config) (m : Machine R) : Type 0 where

@@ -1,12 +1,12 @@
 -- What lasts of a store while texts are served.
 use Rattle.std.proofs.Common.{◌≡◌, ℕ, Bool, List, [], ◌∷◌, Ok, Err, Result, inl, inr, sym, subst}
 use Rattle.ob_base.specs.declared.refusal.Stop.{Stop}
-use Rattle.ob_store.specs.Runs.{Later}
-use Rattle.ob_store.proofs.Steps.{later_refl, later_trans}
+use Rattle.ob_headline.specs.Words.{Answer}
 use Rattle.ob_shell.specs.Running.{LastPart}
 use Rattle.ob_shell.specs.Steps.{Machine, Step, Steps}
+use Rattle.ob_store.proofs.Steps.{later_refl, later_trans}
+use Rattle.ob_store.specs.Runs.{Later}
 use Rattle.ob_vault.specs.State.{RevState}
-use Rattle.ob_shell.specs.Words.{Answer}
 
 module _ {R : Type 0} (state : R → RevState) where
   same : (m0 m1 : Machine R) → m1 ≡ m0 → Later m0.store m1.store

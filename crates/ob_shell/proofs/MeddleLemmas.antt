@@ -1,40 +1,40 @@
 -- What the changes of a store do to a run.
-use Rattle.std.proofs.Common.{◌≡◌, ◌≢◌, ◌+◌, ℕ, Bool, true, false, not, IsSome, IsTrue, List, [], ◌∷◌, length, Option, None, Some, Ok, Err, refl, sym, ◌∙◌, ap, subst, arith}
-use Rattle.std.specs.List.{list_all}
 use Rattle.std.specs.Prelude.{nat_lt, ⊤}
+use Rattle.std.proofs.Common.{◌≡◌, ◌≢◌, ◌+◌, ℕ, Bool, true, false, not, IsSome, IsTrue, List, [], ◌∷◌, length, Option, None, Some, Ok, Err, refl, sym, ◌∙◌, ap, subst, arith}
 use Rattle.std.proofs.lemmas.List.Folds.{list_all-map}
+use Rattle.std.specs.List.{list_all}
+use Rattle.clap.specs.Words.{Text}
 use Rattle.ob_base.specs.declared.access.Access.{Access}
 use Rattle.ob_base.specs.declared.config.Config.{Config}
 use Rattle.ob_base.specs.declared.refusal.Stop.TheVariants.{Tampered, SourceFault, SinkFault, NoMemory, InputLimit}
-use Rattle.clap.specs.Words.{Text}
+use Rattle.ob_gen.specs.declared.tally.Tally.{Tally}
+use Rattle.ob_headline.specs.Bases.{fresh}
+use Rattle.ob_headline.specs.Endings.{status_of}
+use Rattle.ob_headline.specs.Failures.{RisesBy, failures}
+use Rattle.ob_headline.specs.Headline.{Headline}
+use Rattle.ob_headline.specs.Settings.{MeddleParses, ParsesChanges, settings_of}
+use Rattle.ob_headline.specs.Usage.{is_traced, meddle_usage}
+use Rattle.ob_headline.specs.Words.{Answer, Faults, IsHonest, Outside, SinksRose, faults_of, outside_of}
+use Rattle.ob_headline.specs.declared.ending.Ending.{Ending}
+use Rattle.ob_headline.specs.declared.ending.Ending.TheVariants.{Usage, BadKey, Ran}
+use Rattle.ob_headline.specs.declared.ending.Report.{Report}
+use Rattle.ob_headline.specs.declared.seed.Seed.{Seed}
+use Rattle.ob_meddle.proofs.DueLemmas.{acted_later, all_later}
+use Rattle.ob_meddle.proofs.ShowLemmas.{list_same, shows}
 use Rattle.ob_meddle.specs.Acts.{rests_of}
 use Rattle.ob_meddle.specs.Due.{are_later, disturbance_of, disturbances, failed_among, has_acted, is_fail}
 use Rattle.ob_meddle.specs.Fresh.{fresh_live, honest_start}
 use Rattle.ob_meddle.specs.Shows.{Shows, list_of, state_of}
 use Rattle.ob_meddle.specs.declared.meddle.Meddle.{Meddle}
 use Rattle.ob_meddle.specs.declared.store.MeddledStore.{MeddledStore}
-use Rattle.ob_meddle.proofs.ShowLemmas.{list_same, shows}
-use Rattle.ob_meddle.proofs.DueLemmas.{acted_later, all_later}
-use Rattle.ob_shell.specs.Bases.{fresh}
-use Rattle.ob_shell.specs.Endings.{status_of}
-use Rattle.ob_shell.specs.Failures.{RisesBy, failures}
-use Rattle.ob_shell.specs.Generating.{RanGenerated, MeddleRan, MeddleSummarized}
-use Rattle.ob_shell.specs.Headline.{Headline}
-use Rattle.ob_shell.specs.Meddling.{Meddled, Undisturbed}
-use Rattle.ob_shell.specs.Settings.{MeddleParses, ParsesChanges, settings_of}
-use Rattle.ob_gen.specs.declared.tally.Tally.{Tally}
-use Rattle.ob_shell.specs.Top.{EndsUntampered, Reported, TraceSink, sink_of}
-use Rattle.ob_shell.specs.Tracing.{Traced}
-use Rattle.ob_shell.specs.Usage.{is_traced, meddle_usage}
-use Rattle.ob_shell.specs.Words.{Answer, Faults, IsHonest, Outside, SinksRose, faults_of, outside_of}
-use Rattle.ob_shell.specs.declared.top.Ending.{Ending}
-use Rattle.ob_shell.specs.declared.top.Ending.TheVariants.{Usage, BadKey, Ran}
-use Rattle.ob_shell.specs.declared.top.Report.{Report}
-use Rattle.ob_shell.specs.declared.words.Seed.{Seed}
-use Rattle.ob_shell.proofs.GeneratingLemmas.{with_source}
 use Rattle.ob_shell.proofs.CloseLemmas.{reported_taken}
 use Rattle.ob_shell.proofs.DisturbLemmas.{before_less}
+use Rattle.ob_shell.proofs.GeneratingLemmas.{with_source}
 use Rattle.ob_shell.proofs.HeadLemmas.{headlined}
+use Rattle.ob_shell.specs.Generating.{RanGenerated, MeddleRan, MeddleSummarized}
+use Rattle.ob_shell.specs.Meddling.{Meddled, Undisturbed}
+use Rattle.ob_shell.specs.Top.{EndsUntampered, Reported, TraceSink, sink_of}
+use Rattle.ob_shell.specs.Traces.{Traced}
 use Rattle.ob_store.specs.Calls.{IsBefore, IsQuiet, IsSteady}
 use Rattle.ob_store.specs.Logs.{asked_of}
 use Rattle.ob_store.specs.State.{Disturbance, Lie, StoreState}
@@ -108,7 +108,7 @@ meddled {tally = tally} {words = words} {gave0 = gave0} {gave = gave} {l0 = l0} 
     let settings = settings_of meddle_usage words in
     let r : Reported tally (sink_of (is_traced meddle_usage words) t0 t1) (MeddleParses words) (fresh settings) l0 l1 gave w0 w1 s0 s1 old new report =
     reported_taken (config, list, parses) parses.settings.settings served in
-    let later = r.shown.carried.later in
+    let later = r.shown.carried.answers.later in
     let here = list_of m1 in
     let told_first : IsSome s0.disturbed = subst (λ (o : Option (List Disturbance)). IsSome o) (sym told) refl in
     let told_last : IsSome s1.disturbed = subst (λ (o : Option (List Disturbance)). IsSome o) (sym later.disturbed) told_first in
@@ -142,16 +142,16 @@ meddled {tally = tally} {words = words} {gave0 = gave0} {gave = gave} {l0 = l0} 
       };
       shows = there;
       headline = h;
-      always = λ n after. h.always refl n (before n after);
+      always = λ n after. h.answers.always refl n (before n after);
       undisturbed = λ n after few.
-          let within = (h.always refl n (before n after)).quiet few in
+          let within = (h.answers.always refl n (before n after)).quiet few in
           let before_there : IsBefore s1.disturbed (length s1.asked) =
           subst (λ (o : Option (List Disturbance)). IsBefore o (length s1.asked)) (sym later.disturbed) (before_less s0.disturbed (length s1.asked) n within (before n after)) in
-          undisturbed r h.answers h.failed refl ((later.steady steady).quiet before_there);
+          undisturbed r h.story.answers h.accesses.failed refl ((later.steady steady).quiet before_there);
       unchanged = λ all.
           let honest : IsHonest s0 s1 = record { tells = refl; no_lie = no_lie_by here s1 there (none_acts here (length s1.asked) all) } in (honest, honest_status r honest);
       failed =
-          let rose = h.failed in
+          let rose = h.accesses.failed in
           let most = there.counted in
           omega (arith, rose, most, faults);
       tampered = λ is. acted_or_not (has_acted here (length s1.asked)) (λ no. honest_status r (record { tells = refl; no_lie = no_lie_by here s1 there no }) is);

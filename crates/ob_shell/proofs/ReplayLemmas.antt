@@ -1,22 +1,24 @@
 -- One statement that was answered or cut off, by its meaning.
 use Rattle.std.proofs.Common.{◌≡◌, ◌⊎◌, inl, inr, ◌+◌, ◌≤◌, ℕ, Bool, true, false, List, ◌++◌, length, Option, Some, None, Result, refl, sym, ◌∙◌, ap, subst, arith}
 use Rattle.std.proofs.lemmas.List.{length-append}
-use Rattle.ob_base.specs.declared.access.Access.{Access}
-use Rattle.ob_base.specs.declared.refusal.Refusal.{Refusal}
-use Rattle.ob_base.specs.declared.refusal.Stop.{Stop}
 use Rattle.ob_base.specs.Refusals.{is_store_fault}
 use Rattle.ob_base.specs.Stored.{headings}
+use Rattle.ob_base.specs.declared.access.Access.{Access}
+use Rattle.ob_base.specs.declared.refusal.Refusal.{Refusal}
 use Rattle.ob_base.specs.declared.refusal.Refusal.TheVariants.{StoreFault}
+use Rattle.ob_base.specs.declared.refusal.Stop.{Stop}
 use Rattle.ob_base.specs.declared.schema.Heading.{Heading}
-use Rattle.ob_base.specs.declared.seen.Seen.{Seen}
 use Rattle.ob_base.specs.declared.seen.End.TheVariants.{Cut}
+use Rattle.ob_base.specs.declared.seen.Seen.{Seen}
+use Rattle.ob_exec.proofs.HeldLemmas.{held_headings}
 use Rattle.ob_exec.specs.Agreeing.{engine_start, public_of, seen_of}
 use Rattle.ob_exec.specs.Refusals.{by_fault}
 use Rattle.ob_exec.specs.Running.{RefusedEarly, is_fault}
 use Rattle.ob_exec.specs.Telling.{Represents}
 use Rattle.ob_exec.specs.declared.outcome.Outcome.{Outcome}
 use Rattle.ob_exec.specs.declared.outcome.Outcome.TheVariants.{Created, Inserted, Changed, Deleted, Dropped, Rows, Refused}
-use Rattle.ob_exec.proofs.HeldLemmas.{held_headings}
+use Rattle.ob_headline.proofs.CutLemmas.{cut_shorter}
+use Rattle.ob_headline.specs.Words.{Answer}
 use Rattle.ob_mean.specs.Lawful.{CutUpTo}
 use Rattle.ob_mean.specs.Refusals.{early_refusal, limits_of}
 use Rattle.ob_mean.specs.Replay.{after, cut_at, seen_now, seen_or_cut}
@@ -24,13 +26,11 @@ use Rattle.ob_mean.specs.Verdict.{Tables, is_late}
 use Rattle.ob_script.specs.Script.{script, whole_script}
 use Rattle.ob_script.specs.Trace.{next}
 use Rattle.ob_shell.specs.Steps.{Machine, Does, Misspelt, Served, asked_of, session_of}
-use Rattle.ob_shell.proofs.CutLemmas.{cut_shorter}
 use Rattle.ob_sql.specs.Skeleton.{skeleton}
 use Rattle.ob_sql.specs.declared.stmt.Stmt.{Stmt}
 use Rattle.ob_store.specs.Runs.{Later}
 use Rattle.ob_store.specs.State.{Lie, StoreState}
 use Rattle.ob_vault.specs.State.{RevState, earlier}
-use Rattle.ob_shell.specs.Words.{Answer}
 
 -- ---- an answer is none by the store, or the store's
 pub record ByStore (outcome : Outcome) (cut also : Type 0) : Type 0 where

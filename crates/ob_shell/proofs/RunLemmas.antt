@@ -1,31 +1,32 @@
 -- What a session has done, byte by byte, and how it ends.
-use Rattle.std.proofs.Common.{◌≡◌, ℕ, ◌<◌, ◌≤◌, Bool, true, false, List, [], ◌∷◌, ◌++◌, length, Option, Ok, Err, Result, refl, sym, ap, ◌∙◌, subst, ◌⊎◌, inl, inr, arith, append_assoc, append-nil}
 use Rattle.std.specs.Prelude.{IfOk, IfErr, OnOk, OnErr}
-use Rattle.std.specs.Io.KnownBytes.{Appends, IsAtEnd}
+use Rattle.std.proofs.Common.{◌≡◌, ℕ, ◌<◌, ◌≤◌, Bool, true, false, List, [], ◌∷◌, ◌++◌, length, Option, Ok, Err, Result, refl, sym, ap, ◌∙◌, subst, ◌⊎◌, inl, inr, arith, append_assoc, append-nil}
 use Rattle.std.proofs.KnownBytes.{Appends-nil, Appends-trans}
+use Rattle.std.proofs.lemmas.List.{append_cancel_left}
+use Rattle.std.specs.Io.KnownBytes.{Appends, IsAtEnd}
 use Rattle.ob_base.specs.declared.access.Access.{Access}
 use Rattle.ob_base.specs.declared.refusal.Stop.{Stop}
 use Rattle.ob_base.specs.declared.refusal.Stop.TheVariants.{Tampered, SourceFault, SinkFault, NoMemory, InputLimit}
-use Rattle.ob_vault.specs.State.{RevState}
-use Rattle.ob_print.specs.Cuts.{Cut}
-use Rattle.ob_print.proofs.CutLemmas.{Cut-after, Cut-whole}
-use Rattle.ob_shell.specs.Texts.{text_max, is_over, rest_after, texts_at, texts_of, tail_text}
-use Rattle.ob_shell.specs.Feeding.{Fetch, Fed}
-use Rattle.ob_shell.specs.Steps.{Machine, Steps, AnswersAll, StopsIn, IsUntampered}
-use Rattle.ob_shell.specs.Running.{SoFar, SessionRan, EndsBy, OutFailed, stop_of, IsQuiet, is_quiet}
-use Rattle.ob_shell.specs.Tracing.{TracedAll, Traced, Traces, traced}
-use Rattle.ob_shell.specs.declared.session.Halted.{Halted}
-use Rattle.ob_shell.proofs.FeedLemmas.{Fed-none, Fed-then}
-use Rattle.ob_shell.proofs.TextLemmas.{rest_of-append, texts_of-append, rest_of-cons, texts_of-cons, rest_of-nil, texts_of-nil, rest_of-over, texts_of-over}
-use Rattle.ob_shell.proofs.PromptLemmas.{prompt_all, prompt_by}
-use Rattle.ob_shell.proofs.CountLemmas.{lost_since}
-use Rattle.ob_shell.proofs.StepLemmas.{Steps-none, Steps-append, printed-append, printed-nil, PartlyAt-none, PartlyAt-more, stops_by}
-use Rattle.ob_shell.proofs.TraceLemmas.{traced_then, traced_cut, traced_whole}
-use Rattle.std.proofs.lemmas.List.{append_cancel_left}
 use Rattle.ob_gen.specs.Tally.{empty_tally}
 use Rattle.ob_gen.specs.declared.tally.Tally.{Tally}
+use Rattle.ob_headline.proofs.PromptLemmas.{prompt_all, prompt_by}
+use Rattle.ob_headline.proofs.TextLemmas.{rest_of-append, texts_of-append, rest_of-cons, texts_of-cons, rest_of-nil, texts_of-nil, rest_of-over, texts_of-over}
+use Rattle.ob_headline.specs.Texts.{text_max, is_over, rest_after, texts_at, texts_of, tail_text}
+use Rattle.ob_headline.specs.Tracing.{traced}
+use Rattle.ob_headline.specs.Words.{printed, Took}
+use Rattle.ob_print.proofs.CutLemmas.{Cut-after, Cut-whole}
+use Rattle.ob_print.specs.Cuts.{Cut}
+use Rattle.ob_shell.proofs.CountLemmas.{lost_since}
+use Rattle.ob_shell.proofs.FeedLemmas.{Fed-none, Fed-then}
+use Rattle.ob_shell.proofs.StepLemmas.{Steps-none, Steps-append, printed-append, printed-nil, PartlyAt-none, PartlyAt-more, stops_by}
 use Rattle.ob_shell.proofs.TallyLemmas.{tally_after-nil, tally_more}
-use Rattle.ob_shell.specs.Words.{printed, Took}
+use Rattle.ob_shell.proofs.TraceLemmas.{traced_then, traced_cut, traced_whole}
+use Rattle.ob_shell.specs.Feeding.{Fetch, Fed}
+use Rattle.ob_shell.specs.Running.{SoFar, SessionRan, EndsBy, OutFailed, stop_of, IsQuiet, is_quiet}
+use Rattle.ob_shell.specs.Steps.{Machine, Steps, AnswersAll, StopsIn, IsUntampered}
+use Rattle.ob_shell.specs.Traces.{TracedAll, Traced, Traces}
+use Rattle.ob_shell.specs.declared.session.Halted.{Halted}
+use Rattle.ob_vault.specs.State.{RevState}
 
 -- ---- what a sink took
 pub took_whole : {w0 w1 : Option (List ℕ)} {bytes : List ℕ} → Appends w0 w1 bytes → Took w0 w1 bytes

@@ -1,29 +1,31 @@
 -- What the engine was given and what it left.
-use Rattle.std.proofs.Common.{ℕ, List, [], ◌∷◌, ◌++◌, ◌≡◌, ◌≤◌, Bool, Option, None, Result, Ok, Err, refl, sym, ◌∙◌, inl, inr, append-nil, arith}
-use Rattle.std.specs.Io.KnownBytes.{Appends}
-use Rattle.std.proofs.KnownBytes.{Appends-nil}
 use Rattle.std.specs.Prelude.{IsErr}
+use Rattle.std.proofs.Common.{ℕ, List, [], ◌∷◌, ◌++◌, ◌≡◌, ◌≤◌, Bool, Option, None, Result, Ok, Err, refl, sym, ◌∙◌, inl, inr, append-nil, arith}
+use Rattle.std.proofs.KnownBytes.{Appends-nil}
+use Rattle.std.specs.Io.KnownBytes.{Appends}
 use Rattle.std.specs.Result.{is_err}
 use Rattle.ob_base.specs.Events.{Event}
-use Rattle.ob_base.specs.declared.refusal.Stop.{Stop}
 use Rattle.ob_base.specs.declared.refusal.Refusal.TheVariants.{Syntax}
+use Rattle.ob_base.specs.declared.refusal.Stop.{Stop}
 use Rattle.ob_base.specs.declared.refusal.Stop.TheVariants.{InputLimit, NoMemory, SinkFault, SourceFault, Tampered}
 use Rattle.ob_exec.specs.Agreeing.{seen_of}
 use Rattle.ob_exec.specs.Running.{SinkStops}
 use Rattle.ob_exec.specs.Serving.{Serves}
 use Rattle.ob_exec.specs.declared.outcome.Outcome.{Outcome}
 use Rattle.ob_exec.specs.declared.outcome.Outcome.TheVariants.{Refused}
+use Rattle.ob_headline.specs.Closing.{closing_line}
+use Rattle.ob_headline.specs.Words.{faults_of}
+use Rattle.ob_headline.specs.Statements.{Spells}
+use Rattle.ob_headline.specs.Meaning.{PrintsUntil}
 use Rattle.ob_io.specs.Causes.{HasCause}
+use Rattle.ob_print.proofs.CutLemmas.{Cut-fault, Cut-more, Cut-whole}
 use Rattle.ob_print.specs.Cuts.{Cut}
 use Rattle.ob_print.specs.Rows.{events_text}
-use Rattle.ob_print.proofs.CutLemmas.{Cut-fault, Cut-more, Cut-whole}
-use Rattle.ob_shell.specs.Closing.{closing_line}
+use Rattle.ob_shell.proofs.CountLemmas.{rises_earlier, rises_later}
+use Rattle.ob_shell.specs.Running.{OutFailed, Silenced, StopCause}
 use Rattle.ob_shell.specs.Steps.{Machine, Does, HasBody, Served, StopsIn}
 use Rattle.ob_sql.specs.declared.stmt.Stmt.{Stmt}
 use Rattle.ob_vault.specs.State.{RevState}
-use Rattle.ob_shell.specs.Running.{OutFailed, Silenced, StopCause}
-use Rattle.ob_shell.specs.Words.{PrintsUntil, Spells, faults_of}
-use Rattle.ob_shell.proofs.CountLemmas.{rises_earlier, rises_later}
 
 module _ {R E : Type 0} (state : R → RevState) (grew cut : E → E → List Event → Type 0) (faults : E → ℕ)
     (m0 m1 : Machine R) (out_old out_new : E) (stmt : Stmt) where

@@ -1,32 +1,48 @@
 -- A session that goes on from a base, and the closing behind it.
-use Rattle.std.proofs.Common.{◌≡◌, ℕ, ◌+◌, ◌≤◌, ◌<◌, Bool, true, false, List, [], ◌∷◌, ◌++◌, length, take, Option, None, Some, IsTrue, Ok, Err, Result, refl, sym, ap, ◌∙◌, subst, inl, inr, arith, append-nil}
-use Rattle.std.specs.List.{list_any}
-use Rattle.std.proofs.lemmas.Bool.{cases_lt}
 use Rattle.std.specs.Prelude.{IfOk, MatchBool}
-use Rattle.std.specs.Io.KnownBytes.{IsAtEnd}
+use Rattle.std.proofs.Common.{◌≡◌, ℕ, ◌+◌, ◌≤◌, ◌<◌, Bool, true, false, List, [], ◌∷◌, ◌++◌, length, take, Option, None, Some, IsTrue, Ok, Err, Result, refl, sym, ap, ◌∙◌, subst, inl, inr, arith, append-nil}
 use Rattle.std.proofs.KnownBytes.{Appends-nil, Consumes-nil}
+use Rattle.std.proofs.lemmas.Bool.{cases_lt}
+use Rattle.std.specs.Io.KnownBytes.{IsAtEnd}
+use Rattle.std.specs.List.{list_any}
 use Rattle.ob_base.specs.Counts.{Rises}
+use Rattle.ob_base.specs.Publics.{first_public}
 use Rattle.ob_base.specs.declared.access.Access.{Access}
 use Rattle.ob_base.specs.declared.access.Access.TheVariants.{Read}
+use Rattle.ob_base.specs.declared.config.Config.{Config}
+use Rattle.ob_base.specs.declared.config.Public.{Public}
 use Rattle.ob_base.specs.declared.mark.Mark.{Mark}
 use Rattle.ob_base.specs.declared.refusal.Stop.{Stop}
 use Rattle.ob_base.specs.declared.refusal.Stop.TheVariants.{Tampered, SourceFault, SinkFault, NoMemory, InputLimit}
-use Rattle.ob_base.specs.declared.config.Config.{Config}
-use Rattle.ob_base.specs.declared.config.Public.{Public}
-use Rattle.ob_base.specs.Publics.{first_public}
 use Rattle.ob_exec.specs.Agreeing.{count_of, engine_keys, engine_start, opened_from, public_of, high_of, rows_of, world_of}
 use Rattle.ob_exec.specs.Closing.{ClosesEngine, IsClosedAs, StaysInUse, closing_script, is_used_up, next_closing}
-use Rattle.ob_exec.specs.Resting.{Rests, by_name}
 use Rattle.ob_exec.specs.Opening.{is_of_rows}
+use Rattle.ob_exec.specs.Resting.{Rests, by_name}
 use Rattle.ob_select.specs.Selecting.{AcceptsRows}
 use Rattle.ob_exec.specs.Telling.{AreHeld, Represents}
 use Rattle.ob_exec.specs.declared.engine.Engine.{Engine}
+use Rattle.ob_gen.specs.Tally.{empty_tally}
+use Rattle.ob_gen.specs.declared.tally.Tally.{Tally}
+use Rattle.ob_headline.proofs.BaseLemmas.{from_each}
+use Rattle.ob_headline.proofs.PromptLemmas.{prompt_all}
+use Rattle.ob_headline.proofs.TextLemmas.{rest_of-nil, texts_of-nil}
+use Rattle.ob_headline.specs.Bases.{Base, Opened, fresh, session_at, start}
+use Rattle.ob_headline.specs.Disturbed.{MeantUntil, meant_trace}
+use Rattle.ob_headline.specs.Failures.{FailsBeside}
+use Rattle.ob_headline.specs.Keeping.{EndsWith, Writes, closing_behind, last_script, region_opened}
+use Rattle.ob_headline.specs.KeptHeadline.{ClosesTables, PassesBoth}
+use Rattle.ob_headline.specs.Texts.{texts_in}
+use Rattle.ob_headline.specs.Words.{Begins, IsHonest, before_read, rows_in}
+use Rattle.ob_headline.specs.Accesses.{AreSeen, StopsWithin}
+use Rattle.ob_headline.specs.Meaning.{AnswersFrom}
+use Rattle.ob_headline.specs.Sealing.{IsSealed, IsSealedAt, IsWriteTo, PassesFrom, PassesHere, PassesWith, SealsOwn}
+use Rattle.ob_headline.specs.Status.{EndsAtRead}
+use Rattle.ob_headline.specs.declared.ending.Ending.{Ending}
+use Rattle.ob_headline.specs.declared.ending.Ending.TheVariants.{Ran as RanEnding}
+use Rattle.ob_headline.specs.declared.ending.KeptEnding.{KeptEnding}
+use Rattle.ob_headline.specs.declared.ending.KeptEnding.TheVariants.{Plain}
 use Rattle.ob_mean.specs.Replay.{Broken, Session, after_all, all_served}
 use Rattle.ob_mean.specs.Verdict.{Tables}
-use Rattle.ob_vault.proofs.WordLemmas.{earlier_nothing}
-use Rattle.ob_vault.specs.Numbers.{number_after}
-use Rattle.ob_vault.specs.State.{RevState, Start, VaultState, World, earlier, from_nothing}
-use Rattle.ob_vault.specs.Tied.{AllSealed, EndsAt, Fits, Scope, SealedAt, at_of, next_fault}
 use Rattle.ob_print.proofs.CutLemmas.{Cut-whole}
 use Rattle.ob_reopen.specs.Keepers.{KeeperState}
 use Rattle.ob_reopen.specs.declared.closing.Closing.{Closing}
@@ -34,44 +50,33 @@ use Rattle.ob_reopen.specs.declared.fault.CloseErr.{CloseErr}
 use Rattle.ob_script.specs.Trace.{Served, after_all as all_public, trace}
 use Rattle.ob_seal.specs.KeySet.{KeySet}
 use Rattle.ob_seal.specs.Sealed.{keys_of, sealed}
-use Rattle.ob_store.specs.Calls.{IsSteady}
-use Rattle.ob_store.specs.Runs.{Later}
-use Rattle.ob_store.specs.State.{Lie, StoreState}
-use Rattle.ob_store.proofs.Steps.{later_trans}
-use Rattle.ob_shell.specs.Bases.{Base, Opened, fresh, session_at, start}
-use Rattle.ob_shell.specs.Disturbed.{MeantUntil, meant_trace}
-use Rattle.ob_shell.specs.Texts.{texts_in}
-use Rattle.ob_shell.specs.Failures.{FailsBeside}
-use Rattle.ob_shell.specs.Feeding.{Fetch}
-use Rattle.ob_shell.specs.Keeping.{EndsWith, Writes, closing_behind, last_script, region_opened}
-use Rattle.ob_shell.specs.KeptHeadline.{ClosesTables, PassesBoth}
-use Rattle.ob_shell.specs.Standing.{IsUsed, StandsOn}
-use Rattle.ob_shell.specs.Steps.{Machine, machine_of, session_of}
-use Rattle.ob_shell.specs.Running.{SessionRan, LastPart}
-use Rattle.ob_gen.specs.Tally.{empty_tally}
-use Rattle.ob_gen.specs.declared.tally.Tally.{Tally}
-use Rattle.ob_shell.specs.Tallies.{flagged, has_refused}
-use Rattle.ob_shell.specs.Top.{EndsUntampered, IsFresh, TraceSink, Carried, RanAfter}
-use Rattle.ob_shell.specs.Tracing.{Traced}
-use Rattle.ob_shell.specs.Words.{Answers, AreSeen, Begins, EndsAtRead, IsHonest, IsSealed, IsSealedAt, IsWriteTo, PassesFrom, PassesHere, PassesWith, SealsOwn, StopsWithin, before_read, rows_in}
-use Rattle.ob_shell.specs.declared.keeping.KeptEnding.{KeptEnding}
-use Rattle.ob_shell.specs.declared.keeping.KeptEnding.TheVariants.{Plain}
-use Rattle.ob_shell.specs.declared.top.Ending.{Ending}
-use Rattle.ob_shell.specs.declared.top.Ending.TheVariants.{Ran as RanEnding}
-use Rattle.ob_shell.proofs.TextLemmas.{rest_of-nil, texts_of-nil}
-use Rattle.ob_shell.proofs.BaseLemmas.{from_each}
 use Rattle.ob_shell.proofs.CalmLemmas.{MeetsChange, first_calm, last_met, steps_calm}
 use Rattle.ob_shell.proofs.FailureLemmas.{fails_beside, session_fails}
+use Rattle.ob_shell.proofs.LastingLemmas.{HasSizes, steps_sizes, last_rows, steps_sealed, last_sealed, steps_tell, none_sealed}
 use Rattle.ob_shell.proofs.LaterLemmas.{steps_later, last_later}
 use Rattle.ob_shell.proofs.OpenLemmas.{session_opens}
-use Rattle.ob_shell.proofs.LastingLemmas.{HasSizes, steps_sizes, last_rows, steps_sealed, last_sealed, steps_tell, none_sealed}
-use Rattle.ob_shell.proofs.PromptLemmas.{prompt_all}
 use Rattle.ob_shell.proofs.RunLemmas.{traces_all}
 use Rattle.ob_shell.proofs.StepLemmas.{Steps-none, printed-nil}
 use Rattle.ob_shell.proofs.TallyLemmas.{tally_after-nil}
+use Rattle.ob_shell.proofs.TopLemmas.{nothing_over, took_none}
 use Rattle.ob_shell.proofs.TraceLemmas.{traced_none}
 use Rattle.ob_shell.proofs.WalkLemmas.{EndsWhole, Walked, walked, walked_last}
-use Rattle.ob_shell.proofs.TopLemmas.{nothing_over, took_none}
+use Rattle.ob_shell.specs.Feeding.{Fetch}
+use Rattle.ob_shell.specs.Running.{SessionRan, LastPart}
+use Rattle.ob_shell.specs.Standing.{IsUsed, StandsOn}
+use Rattle.ob_shell.specs.Steps.{Machine, machine_of, session_of}
+use Rattle.ob_shell.specs.Tallies.{flagged, has_refused}
+use Rattle.ob_shell.specs.Top.{EndsUntampered, IsFresh, TraceSink, Carried, RanAfter}
+use Rattle.ob_shell.specs.Traces.{Traced}
+use Rattle.ob_store.proofs.Steps.{later_trans}
+use Rattle.ob_store.specs.Calls.{IsSteady}
+use Rattle.ob_store.specs.Runs.{Later}
+use Rattle.ob_store.specs.State.{Lie, StoreState}
+use Rattle.ob_vault.proofs.WordLemmas.{earlier_nothing}
+use Rattle.ob_vault.specs.Numbers.{number_after}
+use Rattle.ob_vault.specs.State.{RevState, Start, VaultState, World, earlier, from_nothing}
+use Rattle.ob_vault.specs.Tied.{AllSealed, EndsAt, Fits, Scope, SealedAt, at_of, next_fault}
+use Rattle.ob_headline.specs.Story.{Story}
 
 -- ---- what an engine stands on
 -- from no tables
@@ -198,7 +203,7 @@ module _ {R : Type 0} {state : R → RevState} {Lost : Type 0} (base : Base) (co
   abbrev Failed : Type 0
   Failed = FailsBeside ran.answers s0.faults s1.faults
 
-  walk : Walked state (RanEnding result) Failed m0 ran.middle m2 ran.served ran.more ran.answers ran.part
+  pub walk : Walked state (RanEnding result) Failed m0 ran.middle m2 ran.served ran.more ran.answers ran.part
   walk = walked state (RanEnding result) Failed ran.served m0 ran.middle m2 ran.more ran.answers ran.part ran.steps
       (walked_last state Failed ran.middle m2 ran.more ran.part result (fails_beside state m0 ran.middle m2 ran.served ran.answers ran.steps) ran.last)
 
@@ -269,49 +274,62 @@ module _ {R : Type 0} {state : R → RevState} {Lost : Type 0} (base : Base) (co
   here : (tables : Tables) → session_of m0 tables ≡ session_at base tables
   here tables = λ i. record { public = on.public i; tables = tables; asked = on.count i }
 
-  pub carried_by : Carried tr base (Some key) s0 s1 high ran.served ran.more ran.answers ran.part (RanEnding result)
-  carried_by = record {
+  -- what became of the texts
+  abbrev pub story : Story
+  story = record {
+    served = ran.served;
+    more = ran.more;
     spelt = walk.spelt;
-    spells = walk.spells;
-    reached = walk.reached;
-    begun = walk.begun;
-    keyed = inl refl;
-    each = walk.each;
+    answers = ran.answers;
+    part = ran.part;
     seen = walk.seen;
     last = walk.last;
-    one_last = walk.one_last;
-    each_seen = walk.each_seen;
-    lawful = subst (λ (s : Session). AreSeen (StopsWithin (RanEnding result) Failed) s.public s.asked walk.spelt ran.answers all) (here []) walk.lawful;
-    asked = walk.asked ∙ (λ i. on.asked i ++ trace (on.public i) all);
+  }
+
+  pub carried_by : Carried tr base (Some key) s0 s1 high story (RanEnding result)
+  carried_by = record {
+    statements = record { spells = walk.spells; reached = walk.reached; begun = walk.begun; keyed = inl refl; each = walk.each };
+    accesses = record {
+      one_last = walk.one_last;
+      each_seen = walk.each_seen;
+      lawful = subst (λ (s : Session). AreSeen (StopsWithin (RanEnding result) Failed) s.public s.asked walk.spelt ran.answers all) (here []) walk.lawful;
+      asked = walk.asked ∙ (λ i. on.asked i ++ trace (on.public i) all);
+      failed = session_fails state m0 ran.middle m2 ran.served ran.more ran.answers ran.part result ran.steps ran.last;
+      unfailed = walk.unfailed;
+    };
     traced_whole = ran.traced.whole (trace base.public walk.seen) (walk.passed ∙ ap (λ (p : Public). s0.asked ++ trace p walk.seen) on.public);
-    failed = session_fails state m0 ran.middle m2 ran.served ran.more ran.answers ran.part result ran.steps ran.last;
-    unfailed = walk.unfailed;
-    meant = λ undeceived. from_each base (λ x. Represents state first s0 x.tables) (λ x. (broken : Broken) × Answers (RanEnding result) x walk.spelt broken ran.answers all ran.part)
-        (λ tables held.
-        let from = walk.meant undeceived.tells on.calm (record { unfit = λ lie is fits. undeceived.unfit lie is (fits_here lie fits) }) tables held in
-        (from.0, subst (λ (s : Session). Answers (RanEnding result) s walk.spelt from.0 ran.answers all ran.part) (here tables) from.1)) on.held;
-    tampered = λ lie is unfit. meets result (world_of state last s1) lie met is (λ fits. unfit (fits_here lie fits));
-    sealed = seals_own;
-    sealed_before = λ tells. from_each base AreSealed (λ x. IsSealed (PassesFrom base) (keys_of key) base.start 0 s0 s1) (all_sealed tells) (on.sealed tells);
+    answers = record {
+      meant = λ undeceived. from_each base (λ x. Represents state first s0 x.tables) (λ x. (broken : Broken) × AnswersFrom (RanEnding result) x walk.spelt broken ran.answers all ran.part)
+          (λ tables held.
+          let from = walk.meant undeceived.tells on.calm (record { unfit = λ lie is fits. undeceived.unfit lie is (fits_here lie fits) }) tables held in
+          (from.0, subst (λ (s : Session). AnswersFrom (RanEnding result) s walk.spelt from.0 ran.answers all ran.part) (here tables) from.1)) on.held;
+      later = later_trans _ _ _ (steps_later state m0 ran.middle ran.served ran.answers ran.steps) (last_later state ran.middle m2 ran.more ran.part result ran.last);
+      always = λ tells n before.
+          let facts = on.early n before in
+          let is = facts.0 in
+          let from = walk.early tells is.steady [] is.nothing n facts.1 (omega (arith, ap length is.unasked)) in
+          let joined : s0.asked ++ trace (session_of m0 []).public (all_served (session_of m0 []) walk.spelt []) ≡ meant_trace base.settings walk.spelt =
+          λ i. is.unasked i ++ trace (is.here i).public (all_served (is.here i) walk.spelt []) in
+          record {
+            meant = subst (λ (s : Session). MeantUntil n s walk.spelt ran.answers all) is.here from.meant;
+            begins = subst (λ (l : List Access). Begins (take n s1.asked) l) joined from.begins;
+            quiet = λ le. from.quiet (subst (λ (l : List Access). length l ≤ n) (sym joined) le);
+          };
+    };
+    tampering = record { tampered = λ lie is unfit. meets result (world_of state last s1) lie met is (λ fits. unfit (fits_here lie fits)) };
+    sealing = record {
+      sealed = seals_own;
+      sealed_before = λ tells. from_each base AreSealed (λ x. IsSealed (PassesFrom base) (keys_of key) base.start 0 s0 s1) (all_sealed tells) (on.sealed tells);
+    };
+    rows = record {
+      most_open = subst (λ (o : Option Config). high ≤ rows_in o) (sym on.settings)
+          (subst (λ (n : ℕ). high ≤ n) (last_rows state config ran.middle m2 ran.more ran.part result ran.last middle_sizes) most);
+      some_open = subst (λ (n : ℕ). IsUsed s1.asked n) (sym opened) (session_opens state m0 ran.middle m2 ran.served ran.more ran.answers ran.part result on.used ran.steps ran.last);
+    };
     untampered = from_each base (λ x. Represents state first s0 x.tables) (λ x. IsHonest s0 s1 → EndsUntampered (RanEnding result))
         (λ tables held honest. walk.untampered honest.tells tables held honest.no_lie) on.held;
     at_read = λ region place is. let stopped : result ≡ Err (Tampered region place) = cc is in
         last_read state ran.middle m2 ran.more ran.part region place (subst (λ (x : Result Bool Stop). LastPart state ran.middle m2 ran.more ran.part x) stopped ran.last);
-    most_open = subst (λ (o : Option Config). high ≤ rows_in o) (sym on.settings)
-        (subst (λ (n : ℕ). high ≤ n) (last_rows state config ran.middle m2 ran.more ran.part result ran.last middle_sizes) most);
-    some_open = subst (λ (n : ℕ). IsUsed s1.asked n) (sym opened) (session_opens state m0 ran.middle m2 ran.served ran.more ran.answers ran.part result on.used ran.steps ran.last);
-    later = later_trans _ _ _ (steps_later state m0 ran.middle ran.served ran.answers ran.steps) (last_later state ran.middle m2 ran.more ran.part result ran.last);
-    early = λ tells n before.
-        let facts = on.early n before in
-        let is = facts.0 in
-        let from = walk.early tells is.steady [] is.nothing n facts.1 (omega (arith, ap length is.unasked)) in
-        let joined : s0.asked ++ trace (session_of m0 []).public (all_served (session_of m0 []) walk.spelt []) ≡ meant_trace base.settings walk.spelt =
-        λ i. is.unasked i ++ trace (is.here i).public (all_served (is.here i) walk.spelt []) in
-        record {
-          meant = subst (λ (s : Session). MeantUntil n s walk.spelt ran.answers all) is.here from.meant;
-          begins = subst (λ (l : List Access). Begins (take n s1.asked) l) joined from.begins;
-          quiet = λ le. from.quiet (subst (λ (l : List Access). length l ≤ n) (sym joined) le);
-        };
   }
 
   -- ---- the engine is closed behind a session that came to its end
@@ -338,7 +356,7 @@ module _ {R : Type 0} {state : R → RevState} {Lost : Type 0} (base : Base) (co
     fits_last lie told_it = fits_here lie ((closes.calm (subst (λ (x : Result Bool Stop). MeetsChange x (world_of state last s1)) (ap flagged is) met)).calm lie told_it)
 
     rests_last : (tables : Tables) → IsHonest s0 s2 → is_used_up closing ≡ false → (mark : Mark) → r ≡ Ok mark → Represents state first s0 tables
-        → (broken : Broken) × Answers (RanEnding (Ok (has_refused tally))) (session_at base tables) walk.spelt broken ran.answers all ran.part
+        → (broken : Broken) × AnswersFrom (RanEnding (Ok (has_refused tally))) (session_at base tables) walk.spelt broken ran.answers all ran.part
         × Rests (keys_of key) closing s2.kept (by_name (after_all (session_at base tables) walk.spelt broken).tables)
     rests_last tables honest left mark closed held =
         let none : s1.lie ≡ None = none_lies s1.lie s1 s2 refl closes.later honest.no_lie in
@@ -348,8 +366,8 @@ module _ {R : Type 0} {state : R → RevState} {Lost : Type 0} (base : Base) (co
         let tells : IsTrue s1.tells = subst (λ (b : Bool). IsTrue b) (sym lasting.tells) honest.tells in
         let rest = subst (λ (x : Result Mark CloseErr). IfOk x (λ m. Rests (engine_keys last) closing s2.kept (by_name tables_after))) closed (closes.told tells left tables_after (from_it.2 whole)) in (
           from_it.0,
-          subst (λ (e : Ending). Answers e (session_at base tables) walk.spelt from_it.0 ran.answers all ran.part) (ending_is tally is)
-              (subst (λ (x : Session). Answers (RanEnding result) x walk.spelt from_it.0 ran.answers all ran.part) (here tables) from_it.1),
+          subst (λ (e : Ending). AnswersFrom e (session_at base tables) walk.spelt from_it.0 ran.answers all ran.part) (ending_is tally is)
+              (subst (λ (x : Session). AnswersFrom (RanEnding result) x walk.spelt from_it.0 ran.answers all ran.part) (here tables) from_it.1),
           subst (λ (k : KeySet). Rests k closing s2.kept (by_name (after_all (session_at base tables) walk.spelt from_it.0).tables)) keys_are
               (subst (λ (x : Session). Rests (engine_keys last) closing s2.kept (by_name (after_all x walk.spelt from_it.0).tables)) (here tables) rest),
         )
@@ -369,8 +387,7 @@ module _ {R : Type 0} {state : R → RevState} {Lost : Type 0} (base : Base) (co
 
     pub closed_behind : (tracing : Bool) (ended : KeptEnding) (t1 t2 : Option (List ℕ)) (fault1 fault2 : ℕ) (k1 k2 : KeeperState) (done : Traced tracing s1.asked s2.asked t1 t2 (Rises fault1 fault2)) → fault1 ≤ fault2
         → EndsWith r (Plain (RanEnding (Ok (has_refused tally)))) ended fault1 fault2 k1 k2
-        → ClosesTables base (keys_of key) tracing (has_refused tally) carried_by.spelt ran.answers carried_by.seen (carried_by.seen ++ carried_by.last) ran.part s0 s1 s2 t1 t2 fault1 fault2 k1 k2 ended
-    unfolding carried_by
+        → ClosesTables base (keys_of key) tracing (has_refused tally) story s0 s1 s2 t1 t2 fault1 fault2 k1 k2 ended
     closed_behind tracing ended t1 t2 fault1 fault2 k1 k2 done later ends = record {
       closing = closing;
       is = λ i. closing_behind (public_is tally is i) (start_is i) s1.asked;
@@ -386,7 +403,7 @@ module _ {R : Type 0} {state : R → RevState} {Lost : Type 0} (base : Base) (co
       later = closes.later;
       fits = fits_last;
       rests = λ honest left mark closed. from_each base (λ x. Represents state first s0 x.tables)
-          (λ x. (broken : Broken) × Answers (RanEnding (Ok (has_refused tally))) x walk.spelt broken ran.answers all ran.part × Rests (keys_of key) closing s2.kept (by_name (after_all x walk.spelt broken).tables))
+          (λ x. (broken : Broken) × AnswersFrom (RanEnding (Ok (has_refused tally))) x walk.spelt broken ran.answers all ran.part × Rests (keys_of key) closing s2.kept (by_name (after_all x walk.spelt broken).tables))
           (λ tables held. rests_last tables honest left mark closed held) on.held;
       sealed = λ tells. sealed_last (base.start.region + 1) tells (λ good both. own_sealed good);
       sealed_before = λ tells. from_each base AreSealed (λ x. IsSealed (PassesBoth base.public.pack) (keys_of key) base.start 0 s0 s2)
@@ -401,12 +418,9 @@ module _ {R : Type 0} {state : R → RevState} {Lost : Type 0} (base : Base) (co
     limit = ran.limit;
     ended = ran.ended;
     at_end = ran.at_end;
-    served = ran.served;
-    more = ran.more;
+    story = story;
     texts = ran.texts;
     prompt = ran.prompt;
-    answers = ran.answers;
-    part = ran.part;
     carried = carried_by;
     rows = inl (record { first = first; last = last; ran = ran; counts = opened });
     cut = ran.cut;

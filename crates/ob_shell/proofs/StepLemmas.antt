@@ -1,16 +1,16 @@
 -- Texts that are answered one after the other.
 use Rattle.std.proofs.Common.{◌≡◌, ℕ, List, [], ◌∷◌, ◌++◌, Option, refl, sym, ap, ◌∙◌, subst, inl, inr, append_assoc, append-nil}
-use Rattle.std.specs.Io.KnownBytes.{Appends}
 use Rattle.std.proofs.KnownBytes.{Appends-nil}
+use Rattle.std.specs.Io.KnownBytes.{Appends}
 use Rattle.ob_base.specs.declared.refusal.Stop.{Stop}
-use Rattle.ob_vault.specs.State.{RevState}
-use Rattle.ob_print.proofs.CutLemmas.{Cut-by, Cut-whole}
 use Rattle.ob_gen.specs.declared.tally.Tally.{Tally}
-use Rattle.ob_shell.specs.Tallies.{tally_with}
+use Rattle.ob_headline.specs.Endings.{IsSinkFault}
+use Rattle.ob_headline.specs.Words.{Answer, printed}
+use Rattle.ob_print.proofs.CutLemmas.{Cut-by, Cut-whole}
 use Rattle.ob_shell.proofs.TallyLemmas.{tally_after-nil, tally_after-one}
 use Rattle.ob_shell.specs.Steps.{Machine, Step, Steps, Idle, IsUntampered, PartlyAt, AnswersAll, StopsIn}
-use Rattle.ob_shell.specs.Words.{Answer, printed}
-use Rattle.ob_shell.specs.Endings.{IsSinkFault}
+use Rattle.ob_shell.specs.Tallies.{tally_with}
+use Rattle.ob_vault.specs.State.{RevState}
 
 pub printed-append : (xs ys : List Answer) → printed (xs ++ ys) ≡ printed xs ++ printed ys
 unfolding printed

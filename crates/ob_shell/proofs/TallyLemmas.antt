@@ -1,6 +1,6 @@
 -- What is counted of answers, one after the other.
-use Rattle.std.proofs.Common.{◌≡◌, ℕ, ◌||◌, Bool, true, false, List, [], ◌∷◌, ◌++◌, Option, Some, None, Result, Ok, Err, refl, sym, ap, ◌∙◌, arith}
 use Rattle.std.specs.Prelude.{IfOk, nat_lt}
+use Rattle.std.proofs.Common.{◌≡◌, ℕ, ◌||◌, Bool, true, false, List, [], ◌∷◌, ◌++◌, Option, Some, None, Result, Ok, Err, refl, sym, ap, ◌∙◌, arith}
 use Rattle.std.proofs.lemmas.Bool.Decides.{nat_tests}
 use Rattle.ob_base.specs.declared.config.Plan.{Plan}
 use Rattle.ob_base.specs.declared.config.Plan.TheVariants.{Small, Large, Continuous, Hash}
@@ -8,12 +8,12 @@ use Rattle.ob_base.specs.declared.refusal.Stop.{Stop}
 use Rattle.ob_base.specs.declared.refusal.Stop.TheVariants.{Tampered, SourceFault, SinkFault, NoMemory, InputLimit}
 use Rattle.ob_gen.specs.Tally.{empty_tally, one_if, raised, with_plan}
 use Rattle.ob_gen.specs.declared.tally.Tally.{Tally}
-use Rattle.ob_shell.specs.Closing.{is_refused}
+use Rattle.ob_headline.specs.Closing.{is_refused}
+use Rattle.ob_headline.specs.Words.{Answer, Faults, any_refused}
+use Rattle.ob_headline.specs.declared.ending.Ending.TheVariants.{Ran}
 use Rattle.ob_shell.specs.Running.{FlagIs, StopCause}
 use Rattle.ob_shell.specs.Tallies.{TallyIs, flagged, has_refused, tally_after, tally_with}
 use Rattle.ob_shell.specs.Top.{EndingTally}
-use Rattle.ob_shell.specs.declared.top.Ending.TheVariants.{Ran}
-use Rattle.ob_shell.specs.Words.{Answer, Faults, any_refused}
 
 pub tally_after-nil : (t : Tally) → tally_after t [] ≡ t
 unfolding tally_after

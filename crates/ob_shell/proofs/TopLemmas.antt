@@ -1,49 +1,56 @@
 -- The whole run, from its first line and its session.
-use Rattle.std.proofs.Common.{◌≡◌, ◌≢◌, ℕ, ◌≤◌, ◌==◌, min, Bool, true, false, List, [], ◌∷◌, ◌++◌, length, take, Option, Some, IsTrue, Ok, Err, Result, refl, sym, ap, ◌∙◌, subst, inl, inr, arith, append-nil, length-append}
-use Rattle.std.specs.List.{list_any}
 use Rattle.std.specs.Prelude.{IfOk}
-use Rattle.std.specs.Io.KnownBytes.{Appends}
+use Rattle.std.proofs.Common.{◌≡◌, ◌≢◌, ℕ, ◌≤◌, ◌==◌, Bool, true, false, List, [], ◌∷◌, ◌++◌, length, take, Option, Some, IsTrue, Ok, Err, Result, refl, sym, ap, ◌∙◌, subst, inl, inr, arith, append-nil, length-append}
 use Rattle.std.proofs.KnownBytes.{Appends-nil, Consumes-trans, Consumes-nil}
+use Rattle.std.specs.Io.KnownBytes.{Appends}
+use Rattle.std.specs.List.{list_any}
 use Rattle.ob_base.specs.Counts.{Rises}
 use Rattle.ob_base.specs.declared.access.Access.{Access}
+use Rattle.ob_base.specs.declared.config.Config.{Config}
 use Rattle.ob_base.specs.declared.refusal.Stop.{Stop}
 use Rattle.ob_base.specs.declared.refusal.Stop.TheVariants.{Tampered, SourceFault, SinkFault, NoMemory, InputLimit}
-use Rattle.ob_base.specs.declared.config.Config.{Config}
 use Rattle.ob_exec.specs.Opening.{is_of_rows}
-use Rattle.ob_print.specs.Cuts.{Cut}
-use Rattle.ob_print.proofs.CutLemmas.{Cut-whole, Cut-after, Cut-fault, Cut-more}
-use Rattle.ob_script.specs.Trace.{trace}
-use Rattle.ob_store.specs.State.{StoreState}
-use Rattle.ob_store.proofs.Steps.{later_refl}
-use Rattle.ob_vault.specs.State.{RevState}
-use Rattle.ob_shell.specs.Bases.{Base, fresh, start}
-use Rattle.ob_shell.specs.Disturbed.{MeantUntil}
-use Rattle.ob_shell.specs.Failures.{failures}
-use Rattle.ob_shell.specs.Texts.{is_over, rest_of, texts_of, texts_in}
-use Rattle.ob_shell.specs.Feeding.{Fetch, Fed, IsFedBy}
-use Rattle.ob_shell.specs.KeyLine.{has_lf, first_line, after_line, secret_of, KeyRead}
-use Rattle.ob_shell.specs.Running.{EndsBy}
-use Rattle.ob_shell.specs.Endings.{last_line}
-use Rattle.ob_shell.specs.Settings.{limit_of}
 use Rattle.ob_gen.specs.declared.tally.Tally.{Tally}
-use Rattle.ob_shell.specs.Tallies.{flagged, tally_of}
-use Rattle.ob_shell.specs.Top.{EndingTally, EndsUntampered, IsFresh, TraceSink, RanSays, EndingSays, EndingWords, Carried, Shown, RanAfter, EndingCause, EndingFlag, StatusCause}
-use Rattle.ob_shell.specs.Tracing.{traced}
-use Rattle.ob_shell.specs.Words.{Answers, AreSeen, Begins, Faults, HasSecret, SinksRose, SpellFirst, Took, any_cut, before_read, printed, statements}
-use Rattle.ob_shell.specs.declared.feed.Halt.{Halt}
-use Rattle.ob_shell.specs.declared.key.FirstLine.{FirstLine}
-use Rattle.ob_shell.specs.declared.key.FirstLine.TheVariants.{Secret, Last, Bad}
-use Rattle.ob_shell.specs.declared.top.Ending.{Ending}
-use Rattle.ob_shell.specs.declared.top.Ending.TheVariants.{Usage, BadKey, Ran as RanEnding}
-use Rattle.ob_shell.proofs.TextLemmas.{rest_of-nil, texts_of-nil}
+use Rattle.ob_headline.proofs.PromptLemmas.{prompt_all, prompt_behind, prompt_line}
+use Rattle.ob_headline.proofs.TextLemmas.{rest_of-nil, texts_of-nil}
+use Rattle.ob_headline.specs.Bases.{Base, fresh, start}
+use Rattle.ob_headline.specs.Disturbed.{MeantUntil}
+use Rattle.ob_headline.specs.Endings.{last_line}
+use Rattle.ob_headline.specs.Failures.{failures}
+use Rattle.ob_headline.specs.KeyLine.{has_lf, first_line, after_line, secret_of}
+use Rattle.ob_headline.specs.Settings.{limit_of}
+use Rattle.ob_headline.specs.Texts.{is_over, rest_of, texts_of, texts_in}
+use Rattle.ob_headline.specs.Tracing.{traced}
+use Rattle.ob_headline.specs.Words.{Begins, Faults, SinksRose, Took, before_read, printed}
+use Rattle.ob_headline.specs.Statements.{SpellFirst, statements}
+use Rattle.ob_headline.specs.Accesses.{AreSeen, any_cut}
+use Rattle.ob_headline.specs.Meaning.{AnswersFrom}
+use Rattle.ob_headline.specs.Status.{HasSecret}
+use Rattle.ob_headline.specs.declared.ending.Ending.{Ending}
+use Rattle.ob_headline.specs.declared.ending.Ending.TheVariants.{Usage, BadKey, Ran as RanEnding}
+use Rattle.ob_print.proofs.CutLemmas.{Cut-whole, Cut-after, Cut-fault, Cut-more}
+use Rattle.ob_print.specs.Cuts.{Cut}
+use Rattle.ob_script.specs.Trace.{trace}
 use Rattle.ob_shell.proofs.CountLemmas.{rises_earlier, rises_later}
 use Rattle.ob_shell.proofs.DisturbLemmas.{take_begins}
-use Rattle.ob_shell.proofs.PromptLemmas.{prompt_all, prompt_behind, prompt_line}
+use Rattle.ob_shell.proofs.KeyLemmas.{after_line-none, has_lf-nil}
 use Rattle.ob_shell.proofs.RunLemmas.{took_more, took_whole}
 use Rattle.ob_shell.proofs.StepLemmas.{printed-nil}
 use Rattle.ob_shell.proofs.TallyLemmas.{any_refused-nil, flag_by, tally_by}
 use Rattle.ob_shell.proofs.TraceLemmas.{traced-nil}
-use Rattle.ob_shell.proofs.KeyLemmas.{after_line-none, has_lf-nil}
+use Rattle.ob_shell.specs.Feeding.{Fetch, Fed, IsFedBy}
+use Rattle.ob_shell.specs.LineRead.{KeyRead}
+use Rattle.ob_shell.specs.Running.{EndsBy}
+use Rattle.ob_shell.specs.Tallies.{flagged, tally_of}
+use Rattle.ob_shell.specs.Top.{EndingTally, EndsUntampered, IsFresh, TraceSink, RanSays, EndingSays, EndingWords, Carried, Shown, RanAfter, EndingCause, EndingFlag, StatusCause}
+use Rattle.ob_shell.specs.declared.feed.Halt.{Halt}
+use Rattle.ob_shell.specs.declared.key.FirstLine.{FirstLine}
+use Rattle.ob_shell.specs.declared.key.FirstLine.TheVariants.{Secret, Last, Bad}
+use Rattle.ob_store.proofs.Steps.{later_refl}
+use Rattle.ob_store.specs.State.{StoreState}
+use Rattle.ob_vault.specs.State.{RevState}
+use Rattle.ob_headline.specs.Story.{unserved}
+use Rattle.ob_headline.specs.Prompt.{Prompt}
 
 -- ---- more bytes after the first line
 
@@ -75,38 +82,39 @@ pub nothing_over : is_over (rest_of [] []) ≡ false
 nothing_over = rw rest_of-nil
 
 pub unstarted : (tr : TraceSink) (settings : Option Config) (secret : Option (List ℕ)) (s : StoreState) (more : List (List ℕ)) (ending : Ending) → IsFresh s → tr.new ≡ tr.old → EndsUntampered ending
-    → Carried tr (fresh settings) secret s s 0 [] more [] [] ending
-unfolding SpellFirst AreSeen Answers MeantUntil failures any_cut statements
+    → Carried tr (fresh settings) secret s s 0 (unserved more) ending
+unfolding SpellFirst AreSeen AnswersFrom MeantUntil failures any_cut statements
 unstarted tr settings secret s more ending blank untraced untampered = record {
-  spelt = [];
-  spells = tt;
-  reached = omega arith;
-  begun = omega arith;
-  keyed = inr refl;
-  each = refl;
-  seen = [];
-  last = [];
-  one_last = omega arith;
-  each_seen = refl;
-  lawful = refl;
-  asked = blank.unasked;
+  statements = record { spells = tt; reached = omega arith; begun = omega arith; keyed = inr refl; each = refl };
+  accesses = record {
+    one_last = omega arith;
+    each_seen = refl;
+    lawful = refl;
+    asked = blank.unasked;
+    failed = omega arith;
+    unfailed = λ not. refl;
+  };
   traced_whole = took_whole (subst (λ (w : Option (List ℕ)). Appends tr.old w (traced tr.on [])) (sym untraced) (rw (traced-nil) (Appends-nil tr.old)));
-  failed = omega arith;
-  unfailed = λ not. refl;
-  meant = λ undeceived. ([], (refl, refl));
-  tampered = λ lie is unfit. absurd (cc (blank.honest, is));
-  sealed = λ tells. record { each = λ region place block from lives last good passes. absurd (lives (blank.empty region)) };
-  sealed_before = λ tells. record { each = λ region place block from lives last good passes. absurd (lives (blank.empty region)) };
+  answers = record {
+    meant = λ undeceived. ([], (refl, refl));
+    later = later_refl s;
+    always = λ tells n before. record {
+      meant = tt;
+      begins = subst (λ (xs : List Access). Begins (take n xs) []) (sym blank.unasked) (take_begins n []);
+      quiet = λ within. let none = ap length blank.unasked in omega (arith, none);
+    };
+  };
+  tampering = record { tampered = λ lie is unfit. absurd (cc (blank.honest, is)) };
+  sealing = record {
+    sealed = λ tells. record { each = λ region place block from lives last good passes. absurd (lives (blank.empty region)) };
+    sealed_before = λ tells. record { each = λ region place block from lives last good passes. absurd (lives (blank.empty region)) };
+  };
+  rows = record {
+    most_open = omega arith;
+    some_open = λ some. let none : IsTrue (list_any is_of_rows []) = subst (λ (xs : List Access). IsTrue (list_any is_of_rows xs)) blank.unasked some in absurd (cc none);
+  };
   untampered = λ honest. untampered;
   at_read = λ region place is. absurd (subst (λ (e : Ending). EndsUntampered e) is untampered);
-  most_open = omega arith;
-  some_open = λ some. let none : IsTrue (list_any is_of_rows []) = subst (λ (xs : List Access). IsTrue (list_any is_of_rows xs)) blank.unasked some in absurd (cc none);
-  later = later_refl s;
-  early = λ tells n before. record {
-    meant = tt;
-    begins = subst (λ (xs : List Access). Begins (take n xs) []) (sym blank.unasked) (take_begins n []);
-    quiet = λ within. let none = ap length blank.unasked in omega (arith, none);
-  };
 }
 
 pub took_none : (w : Option (List ℕ)) → Took w w (printed [])
@@ -124,16 +132,17 @@ module _ (tally : Tally) (tr : TraceSink) (untraced : tr.new ≡ tr.old) (settin
   pub piece_within : {l0 l1 : Option (List ℕ)} {xs : List ℕ} (fed : Fed f0 f1 l0 l1 xs) → length fed.piece ≤ limit_of settings
   piece_within fed = omega (arith, fed.taken, fed.limit)
 
-  pub piece_few : {l0 l1 : Option (List ℕ)} {xs : List ℕ} (fed : Fed f0 f1 l0 l1 xs) → min gave (length fed.piece) ≤ 4096
-  piece_few fed = let few = by.few in omega (arith, few, fed.taken)
-
   -- no text was whole before the last read
   pub piece_prompt : {l0 l1 : Option (List ℕ)} {xs : List ℕ} (fed : Fed f0 f1 l0 l1 xs) → length (after_line (xs ++ f1.unread)) ≤ length f1.unread
-      → Begins (texts_in false (after_line (before_read gave fed.piece))) []
+      → Prompt fed.piece [] gave
   piece_prompt {xs = xs} fed ahead =
       let late = by.late in
+      let few = by.few in
       let same = ap (λ (l : List ℕ). length (after_line l)) (piece_is fed none) in
-      prompt_line gave fed.piece [] (omega (arith, late, same, ahead))
+      record {
+        few = omega (arith, few, fed.taken);
+        prompt = prompt_line gave fed.piece [] (omega (arith, late, same, ahead));
+      }
 
   unfoldable pub shown_source_fault : {F : Type 0} {l0 l1 : Option (List ℕ)} (w : Option (List ℕ)) (s : StoreState) → IsFresh s
       → KeyRead f0 f1 l0 l1 (Err Halt.SourceFault) → Shown tally tr (fresh settings) l0 l1 gave w w s s 0 (RanEnding (Err SourceFault)) [] F
@@ -143,17 +152,15 @@ module _ (tally : Tally) (tr : TraceSink) (untraced : tr.new ≡ tr.old) (settin
       let after = after_line-none read.fed.piece ends.0 in
       record {
         taken = read.fed.piece;
-        given = read.fed.consumed;
-        within = piece_within read.fed;
-        few = piece_few read.fed;
-        prompt = piece_prompt read.fed read.ahead;
         ended = false;
-        at_end = λ (h : false ≡ true). absurd (cc);
-        served = [];
-        more = [];
-        texts = rw after (texts_of-nil []);
-        answers = [];
-        part = [];
+        story = unserved [];
+        bytes = record {
+          given = read.fed.consumed;
+          within = piece_within read.fed;
+          at_end = λ (h : false ≡ true). absurd (cc);
+          texts = rw after (texts_of-nil []);
+        };
+        prompt = piece_prompt read.fed read.ahead;
         carried = unstarted tr settings _ s [] _ fresh untraced tt;
         grew = no_bytes w;
         whole = took_none w;
@@ -169,17 +176,15 @@ module _ (tally : Tally) (tr : TraceSink) (untraced : tr.new ≡ tr.old) (settin
       let ends = rw (← e) at read.ends in
       record {
         taken = read.fed.piece;
-        given = read.fed.consumed;
-        within = piece_within read.fed;
-        few = piece_few read.fed;
-        prompt = piece_prompt read.fed read.ahead;
         ended = false;
-        at_end = λ (h : false ≡ true). absurd (cc);
-        served = [];
-        more = texts_of [] (after_line read.fed.piece);
-        texts = refl;
-        answers = [];
-        part = [];
+        story = unserved (texts_of [] (after_line read.fed.piece));
+        bytes = record {
+          given = read.fed.consumed;
+          within = piece_within read.fed;
+          at_end = λ (h : false ≡ true). absurd (cc);
+          texts = refl;
+        };
+        prompt = piece_prompt read.fed read.ahead;
         carried = unstarted tr settings _ s _ _ fresh untraced tt;
         grew = no_bytes w;
         whole = took_none w;
@@ -195,17 +200,15 @@ module _ (tally : Tally) (tr : TraceSink) (untraced : tr.new ≡ tr.old) (settin
       let ends = rw (← e) at read.ends in
       record {
         taken = read.fed.piece;
-        given = read.fed.consumed;
-        within = piece_within read.fed;
-        few = piece_few read.fed;
-        prompt = piece_prompt read.fed read.ahead;
         ended = true;
-        at_end = λ _. ends.2;
-        served = [];
-        more = [];
-        texts = rw (ends.1, texts_of-nil, rest_of-nil);
-        answers = [];
-        part = [];
+        story = unserved [];
+        bytes = record {
+          given = read.fed.consumed;
+          within = piece_within read.fed;
+          at_end = λ _. ends.2;
+          texts = rw (ends.1, texts_of-nil, rest_of-nil);
+        };
+        prompt = piece_prompt read.fed read.ahead;
         carried = unstarted tr settings _ s [] _ fresh untraced tt;
         grew = no_bytes w;
         whole = took_none w;
@@ -233,13 +236,10 @@ ran_nothing {Lost = Lost} tr settings secret f l gave w s fresh untraced late = 
   limit = refl;
   ended = false;
   at_end = λ (h : false ≡ true). absurd (cc);
-  served = [];
-  more = texts_in false (f.unread ++ []);
+  story = unserved (texts_in false (f.unread ++ []));
   texts = refl;
   prompt = subst (λ (xs : List (List ℕ)). Begins (texts_in false (before_read gave (f.unread ++ []))) xs) (texts_of-nil [])
       (prompt_all (f.unread ++ []) [] f.unread gave (append-nil f.unread) late);
-  answers = [];
-  part = [];
   carried = unstarted tr settings secret s _ _ fresh untraced tt;
   rows = inr (refl, refl);
   cut = rw printed-nil (Cut-whole w w Lost [] (Appends-nil w));
@@ -300,7 +300,7 @@ unfoldable pub shown_by : {R : Type 0} {state : R → RevState} {Lost : Type 0} 
     → f0.taken ≡ 0 → f0.limit ≡ limit_of base.settings → f2.taken ≤ f2.limit → IsFedBy f2 gave
     → (read : KeyRead f0 f1 l0 l1 first) (ran : RanAfter state tr base (Some key) f1 f2 l1 l2 gave w0 w2 s0 s2 high Lost result)
     → after_line (read.fed.piece ++ ran.piece) ≡ f1.unread ++ ran.piece → secret_of (first_line (read.fed.piece ++ ran.piece)) ≡ Some key
-    → Carried tr base (secret_of (first_line (read.fed.piece ++ ran.piece))) s0 s2 high ran.served ran.more ran.answers ran.part (RanEnding (flagged result))
+    → Carried tr base (secret_of (first_line (read.fed.piece ++ ran.piece))) s0 s2 high ran.story (RanEnding (flagged result))
     → IfOk result (λ t. tally ≡ t)
     → Shown tally tr base l0 l2 gave w0 w2 s0 s2 high (RanEnding (flagged result)) [] Lost
 shown_by {Lost = Lost} {tally = tally} base {f1 = f1} {f2 = f2} {gave = gave} {l2 = l2} {w0 = w0} {w2 = w2} {s0 = s0} {s2 = s2} {high = high} key result start top below by read ran after line carried told =
@@ -310,25 +310,26 @@ shown_by {Lost = Lost} {tally = tally} base {f1 = f1} {f2 = f2} {gave = gave} {l
     let limit : f2.limit ≡ limit_of base.settings = ran.limit ∙ read.fed.limit ∙ top in
     record {
       taken = read.fed.piece ++ ran.piece;
-      given = Consumes-trans _ _ _ _ _ read.fed.consumed ran.consumed;
-      within = omega (arith, count, limit);
-      few = let few = by.few in omega (arith, few, count);
       ended = ran.ended;
-      at_end = ran.at_end;
-      served = ran.served;
-      more = ran.more;
-      texts = ap (texts_in ran.ended) after ∙ ran.texts;
-      prompt = prompt_behind gave _ _ ran.served after ran.prompt;
-      answers = ran.answers;
-      part = ran.part;
+      story = ran.story;
+      bytes = record {
+        given = Consumes-trans _ _ _ _ _ read.fed.consumed ran.consumed;
+        within = omega (arith, count, limit);
+        at_end = ran.at_end;
+        texts = ap (texts_in ran.ended) after ∙ ran.texts;
+      };
+      prompt = record {
+        few = let few = by.few in omega (arith, few, count);
+        prompt = prompt_behind gave _ _ ran.story.served after ran.prompt;
+      };
       carried = carried;
-      grew = subst (λ (l : List ℕ). Cut w0 w2 Lost l) (sym (append-nil (printed ran.answers ++ ran.part))) ran.cut;
+      grew = subst (λ (l : List ℕ). Cut w0 w2 Lost l) (sym (append-nil (printed ran.story.answers ++ ran.story.part))) ran.cut;
       whole = ran.whole;
-      flag = flag_by result ran.answers ran.counted;
-      counted = tally_by result ran.answers tally ran.counted told;
+      flag = flag_by result ran.story.answers ran.counted;
+      counted = tally_by result ran.story.answers tally ran.counted told;
       says =
-          says_of (flagged result) f2 (limit_of base.settings) _ ran.ended ran.more ran.part secret count limit
-          (subst (λ (l : List ℕ). EndsBy f2 ran.ended l ran.more ran.part (flagged result)) (sym after) ran.ends);
+          says_of (flagged result) f2 (limit_of base.settings) _ ran.ended ran.story.more ran.story.part secret count limit
+          (subst (λ (l : List ℕ). EndsBy f2 ran.ended l ran.story.more ran.story.part (flagged result)) (sym after) ran.ends);
     }
 
 pub shown_ran : {R : Type 0} {state : R → RevState} {Lost : Type 0} {tally : Tally} {tr : TraceSink} (base : Base) {f0 f1 f2 : Fetch} {gave : ℕ} {l0 l1 l2 w0 w2 : Option (List ℕ)} {s0 s2 : StoreState} {high : ℕ} (key : List ℕ) (result : Result Tally Stop)
@@ -347,17 +348,18 @@ unfoldable pub shown_unread : {F : Type 0} (tally : Tally) (tr : TraceSink) (set
     → EndingSays ending (limit_of settings) [] l false (texts_of [] (after_line [])) [] → Shown tally tr (fresh settings) l l gave w w s s 0 ending [] F
 shown_unread tally tr settings l gave w s ending fresh untraced untampered flag counted says = record {
   taken = [];
-  given = Consumes-nil l;
-  within = omega arith;
-  few = omega arith;
   ended = false;
-  at_end = λ (h : false ≡ true). absurd (cc);
-  served = [];
-  more = texts_of [] (after_line []);
-  texts = refl;
-  prompt = prompt_line gave [] [] (rw (after_line-none [] has_lf-nil) (omega arith));
-  answers = [];
-  part = [];
+  story = unserved (texts_of [] (after_line []));
+  bytes = record {
+    given = Consumes-nil l;
+    within = omega arith;
+    at_end = λ (h : false ≡ true). absurd (cc);
+    texts = refl;
+  };
+  prompt = record {
+    few = omega arith;
+    prompt = prompt_line gave [] [] (rw (after_line-none [] has_lf-nil) (omega arith));
+  };
   carried = unstarted tr settings _ s _ _ fresh untraced untampered;
   grew = no_bytes w;
   whole = took_none w;
@@ -426,21 +428,14 @@ quiet_line {w0 = w0} {w1 = w1} {F = F} bytes line c g =
     Cut-more line (Cut-fault g (subst (λ (l : List ℕ). Cut w0 w1 F l) (append-nil bytes) c)) g
 
 unfoldable pub shown_line : {tally : Tally} {tr : TraceSink} {base : Base} {gave : ℕ} {l0 l1 w0 w1 w2 : Option (List ℕ)} {s0 s1 : StoreState} {high : ℕ} {ending : Ending} {line line' : List ℕ} {F H : Type 0}
-    (more : List ℕ) → (shown : Shown tally tr base l0 l1 gave w0 w1 s0 s1 high ending line F) → Appends w1 w2 more → Cut w0 w2 H ((printed shown.answers ++ shown.part) ++ line')
+    (more : List ℕ) → (shown : Shown tally tr base l0 l1 gave w0 w1 s0 s1 high ending line F) → Appends w1 w2 more → Cut w0 w2 H ((printed shown.story.answers ++ shown.story.part) ++ line')
     → Shown tally tr base l0 l1 gave w0 w2 s0 s1 high ending line' H
 shown_line more shown after cut = record {
   taken = shown.taken;
-  given = shown.given;
-  within = shown.within;
-  few = shown.few;
   ended = shown.ended;
-  at_end = shown.at_end;
-  served = shown.served;
-  more = shown.more;
-  texts = shown.texts;
+  story = shown.story;
+  bytes = shown.bytes;
   prompt = shown.prompt;
-  answers = shown.answers;
-  part = shown.part;
   carried = shown.carried;
   grew = cut;
   whole = took_more more shown.whole after;

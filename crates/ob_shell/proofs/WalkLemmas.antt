@@ -1,6 +1,6 @@
 -- A walk over the texts that were answered, and the one begun.
-use Rattle.std.proofs.Common.{suc, ◌≡◌, inl, inr, ◌+◌, ◌-◌, ◌≤◌, ◌<◌, ℕ, IsTrue, Bool, Ok, Err, Result, List, [], ◌∷◌, ◌++◌, length, take, Option, Some, None, refl, sym, ◌∙◌, ap, subst, append-nil, append_assoc, arith, ◌||◌, true, false, length-append}
 use Rattle.std.specs.Prelude.{◌↔◌}
+use Rattle.std.proofs.Common.{suc, ◌≡◌, inl, inr, ◌+◌, ◌-◌, ◌≤◌, ◌<◌, ℕ, IsTrue, Bool, Ok, Err, Result, List, [], ◌∷◌, ◌++◌, length, take, Option, Some, None, refl, sym, ◌∙◌, ap, subst, append-nil, append_assoc, arith, ◌||◌, true, false, length-append}
 use Rattle.std.proofs.lemmas.List.{append_cancel_left, take-append-le}
 use Rattle.ob_base.specs.Counts.{Rises}
 use Rattle.ob_base.specs.Events.{Event}
@@ -13,6 +13,7 @@ use Rattle.ob_base.specs.declared.refusal.Stop.{Stop}
 use Rattle.ob_base.specs.declared.refusal.Stop.TheVariants.{InputLimit, NoMemory, SinkFault, SourceFault, Tampered}
 use Rattle.ob_base.specs.declared.seen.End.{End}
 use Rattle.ob_base.specs.declared.seen.Seen.{Seen}
+use Rattle.ob_exec.proofs.EmitLemmas.{unfit_none}
 use Rattle.ob_exec.specs.Agreeing.{engine_start, opened_from, public_of, seen_of, world_of}
 use Rattle.ob_select.specs.Memory.{AtMake}
 use Rattle.ob_exec.specs.Refusals.{by_fault, refused_end}
@@ -20,24 +21,26 @@ use Rattle.ob_exec.specs.Running.{Emits, RefusedEarly, RunCause, is_fault, outco
 use Rattle.ob_exec.specs.Telling.{IsNotTampered, meant_script, ReadsTrue, ReadsTrueUntil, Represents, answer_labels, is_refused}
 use Rattle.ob_exec.specs.declared.outcome.Outcome.{Outcome}
 use Rattle.ob_exec.specs.declared.outcome.Outcome.TheVariants.{Created, Inserted, Changed, Deleted, Dropped, Rows, Refused}
-use Rattle.ob_exec.proofs.EmitLemmas.{unfit_none}
+use Rattle.ob_headline.specs.Closing.{closing_line}
+use Rattle.ob_headline.specs.Disturbed.{MeantUntil}
+use Rattle.ob_headline.specs.Endings.{IsSinkFault}
+use Rattle.ob_headline.specs.Words.{Answer, Begins, refused_at}
+use Rattle.ob_headline.specs.Statements.{SpellFirst, statements}
+use Rattle.ob_headline.specs.Accesses.{AreSeen, Says, StopsWithin, WantsMemory, any_cut, is_cut}
+use Rattle.ob_headline.specs.Meaning.{AnswersFrom, AnswersIn, BeginsAnswer}
+use Rattle.ob_headline.specs.declared.ending.Ending.{Ending}
+use Rattle.ob_headline.specs.declared.ending.Ending.TheVariants.{Usage, BadKey, Ran}
 use Rattle.ob_mean.specs.Replay.{Broken, IsCutOff, Session, Spelt, after, after_all, all_served, seen_now, seen_or_cut}
 use Rattle.ob_mean.specs.Verdict.{Tables}
 use Rattle.ob_print.specs.Rows.{events_text}
 use Rattle.ob_script.specs.Script.{script, whole_script}
 use Rattle.ob_script.specs.Trace.{Served as Entry, after_all as all_public, next, trace}
-use Rattle.ob_shell.specs.Disturbed.{MeantUntil}
-use Rattle.ob_shell.specs.Endings.{IsSinkFault}
-use Rattle.ob_shell.specs.Closing.{closing_line}
+use Rattle.ob_seal.specs.KeySet.{KeySet}
+use Rattle.ob_shell.proofs.DisturbLemmas.{before_less, begins_more, crosses, few_or_more, take_begins}
+use Rattle.ob_shell.proofs.ReplayLemmas.{counts_on, fault_is, cut_early, cut_within, outcome_cases, stands_after}
 use Rattle.ob_shell.specs.Running.{LastPart}
 use Rattle.ob_shell.specs.Steps.{CutStep, Does, IsUntampered, Machine, Misspelt, Served, Steps, asked_of, session_of}
 use Rattle.ob_shell.specs.Top.{EndsUntampered}
-use Rattle.ob_shell.specs.Words.{Answer, Answers, AnswersIn, AreSeen, Begins, BeginsAnswer, Says, SpellFirst, StopsWithin, WantsMemory, any_cut, is_cut, refused_at, statements}
-use Rattle.ob_shell.specs.declared.top.Ending.{Ending}
-use Rattle.ob_shell.specs.declared.top.Ending.TheVariants.{Usage, BadKey, Ran}
-use Rattle.ob_shell.proofs.DisturbLemmas.{before_less, begins_more, crosses, few_or_more, take_begins}
-use Rattle.ob_shell.proofs.ReplayLemmas.{counts_on, fault_is, cut_early, cut_within, outcome_cases, stands_after}
-use Rattle.ob_seal.specs.KeySet.{KeySet}
 use Rattle.ob_sql.specs.Skeleton.{skeleton}
 use Rattle.ob_sql.specs.declared.stmt.Stmt.{Stmt}
 use Rattle.ob_store.specs.Calls.{IsBefore, IsSteady}
@@ -185,7 +188,7 @@ module _ {R : Type 0} (state : R → RevState) where
     pub unfailed : any_cut (seen ++ last) ≡ false → m2.store.faults ≡ m0.store.faults
     pub lie : (lie : Lie) → m0.store.lie ≡ Some lie → m2.store.lie ≡ Some lie
     pub meant : IsTrue m0.store.tells → Calm (world m0) → IsUnfit (world m2) → (tables : Tables) → Represents state m0.engine m0.store tables
-        → (broken : Broken) × Answers ending (session_of m0 tables) spelt broken answers (seen ++ last) part
+        → (broken : Broken) × AnswersFrom ending (session_of m0 tables) spelt broken answers (seen ++ last) part
         × (EndsWhole ending → Represents state m2.engine m2.store (after_all (session_of m0 tables) spelt broken).tables)
     pub untampered : IsTrue m0.store.tells → (tables : Tables) → Represents state m0.engine m0.store tables → m2.store.lie ≡ None → EndsUntampered ending
     pub early : IsTrue m0.store.tells → IsSteady m0.store → (tables : Tables) → Represents state m0.engine m0.store tables → (n : ℕ) → IsBefore m0.store.disturbed n → length m0.store.asked ≤ n
@@ -193,7 +196,7 @@ module _ {R : Type 0} (state : R → RevState) where
 
   -- nothing was done
   walked_none : (ending : Ending) (Failed : Type 0) (m0 m2 : Machine R) (more : List (List ℕ)) (part : List ℕ) → m2 ≡ m0 → part ≡ [] → EndsUntampered ending → Walked ending Failed m0 m0 m2 [] more [] part
-  unfolding SpellFirst AreSeen Answers any_cut statements
+  unfolding SpellFirst AreSeen AnswersFrom any_cut statements
   walked_none ending Failed m0 m2 more part same none fine = record {
     spelt = [];
     spells = tt;
@@ -252,7 +255,7 @@ module _ {R : Type 0} (state : R → RevState) where
 
   walked_cut : (Failed : Type 0) (m0 m2 : Machine R) (text : List ℕ) (more : List (List ℕ)) (stop : Stop) (part : List ℕ) → CutStep state m0 m2 text stop part
       → Walked (Ran (Err stop)) Failed m0 m0 m2 [] (text ∷ more) [] part
-  unfolding SpellFirst AreSeen Answers any_cut statements
+  unfolding SpellFirst AreSeen AnswersFrom any_cut statements
   walked_cut Failed m0 m2 text more stop part cut =
       let sk = skeleton cut.stmt in
       let here = seen_of m2.engine in
@@ -323,7 +326,7 @@ module _ {R : Type 0} (state : R → RevState) where
 
   walked_done : (Failed : Type 0) (m0 m2 : Machine R) → (Rises m0.store.faults m2.store.faults → Failed) → (text : List ℕ) (more : List (List ℕ)) (stop : Stop) (one : Answer) (part : List ℕ) → part ≡ one.bytes → IsSinkFault stop → Served state m0 m2 text one
       → Walked (Ran (Err stop)) Failed m0 m0 m2 [] (text ∷ more) [] part
-  unfolding SpellFirst AreSeen Answers any_cut statements
+  unfolding SpellFirst AreSeen AnswersFrom any_cut statements
   walked_done Failed m0 m2 rose text more stop one part is fault did =
       let sk = skeleton did.stmt in
       let here = seen_of m2.engine in
@@ -358,7 +361,7 @@ module _ {R : Type 0} (state : R → RevState) where
 
   walked_refused : (ending : Ending) (Failed : Type 0) (m0 m2 : Machine R) (text : List ℕ) (more : List (List ℕ)) (one : Answer) (part : List ℕ) → part ≡ one.bytes → Misspelt m0 m2 text one → EndsUntampered ending
       → Walked ending Failed m0 m0 m2 [] (text ∷ more) [] part
-  unfolding SpellFirst AreSeen Answers any_cut statements
+  unfolding SpellFirst AreSeen AnswersFrom any_cut statements
   walked_refused ending Failed m0 m2 text more one part is bad fine = record {
     spelt = Err bad.at ∷ [];
     spells = (bad.spells, tt);
@@ -397,7 +400,7 @@ module _ {R : Type 0} (state : R → RevState) where
   -- one text more
   more_refused : (ending : Ending) (Failed : Type 0) (m0 m1 m m2 : Machine R) (text : List ℕ) (texts more : List (List ℕ)) (one : Answer) (answers : List Answer) (part : List ℕ) → Misspelt m0 m1 text one
       → Walked ending Failed m1 m m2 texts more answers part → Walked ending Failed m0 m m2 (text ∷ texts) more (one ∷ answers) part
-  unfolding SpellFirst AreSeen Answers any_cut statements
+  unfolding SpellFirst AreSeen AnswersFrom any_cut statements
   more_refused ending Failed m0 m1 m m2 text texts more one answers part bad there =
       let rest : Walked ending Failed m0 m m2 texts more answers part = subst (λ (x : Machine R). Walked ending Failed x m m2 texts more answers part) bad.same there in
       record {
@@ -493,7 +496,7 @@ module _ {R : Type 0} (state : R → RevState) where
 
   more_served : (ending : Ending) (Failed : Type 0) (m0 m1 m m2 : Machine R) (text : List ℕ) (texts more : List (List ℕ)) (one : Answer) (answers : List Answer) (part : List ℕ) → Served state m0 m1 text one
       → Walked ending Failed m1 m m2 texts more answers part → Walked ending Failed m0 m m2 (text ∷ texts) more (one ∷ answers) part
-  unfolding SpellFirst AreSeen Answers any_cut statements
+  unfolding SpellFirst AreSeen AnswersFrom any_cut statements
   more_served ending Failed m0 m1 m m2 text texts more one answers part did rest =
       let p = public_of m0.engine in
       let sk = skeleton did.stmt in
@@ -543,7 +546,7 @@ module _ {R : Type 0} (state : R → RevState) where
                 by.cuts,
                 by.answer,
                 by.seen,
-                subst (λ (s : Session). Answers ending s rest.spelt from.0 answers all part) (sym stands) from.1,
+                subst (λ (s : Session). AnswersFrom ending s rest.spelt from.0 answers all part) (sym stands) from.1,
               ),
               λ whole. subst (λ (s : Session). Represents state m2.engine m2.store (after_all s rest.spelt from.0).tables) (sym stands) (from.2 whole),
             );

@@ -1,17 +1,18 @@
 -- What a command makes of the words.
-use Rattle.std.proofs.Common.{inl, inr, sym, ap, subst, refl, Bool, true, false, ◌≡◌, ◌∙◌, List, [], Option, Some, None, Ok, Err, Result}
 use Rattle.std.specs.Prelude.{IfOk, IsSome}
+use Rattle.std.proofs.Common.{inl, inr, sym, ap, subst, refl, Bool, true, false, ◌≡◌, ◌∙◌, List, [], Option, Some, None, Ok, Err, Result}
+use Rattle.clap.proofs.WalkLemmas.{first_value-rows}
 use Rattle.clap.specs.Words.{AddsArg, App, HasKind, Text, HasMatchesOf, app_of, kind_of, rule_of, with_rule, fault_of, first_of, first_value, is_simple, is_simple_and_free, matches_of, found_of}
 use Rattle.clap.specs.declared.builder.arg.Arg.{Arg}
 use Rattle.clap.specs.declared.builder.command.Command.{Command}
 use Rattle.clap.specs.declared.error.Error.{Error}
 use Rattle.clap.specs.declared.error.kind.ErrorKind.TheVariants.{OutOfMemory}
 use Rattle.clap.specs.declared.parser.matches.ArgMatches.{ArgMatches}
-use Rattle.clap.proofs.WalkLemmas.{first_value-rows}
 use Rattle.ob_base.specs.declared.config.Config.{Config}
-use Rattle.ob_shell.specs.Settings.{IsTaken, MeddleParses, ParsesAs, generated_by, settings_of, words_by, words_with}
-use Rattle.ob_shell.specs.Usage.{Parses, changes_of, is_traced, meddle_usage, value_of}
-use Rattle.ob_shell.specs.declared.words.Seed.{Seed}
+use Rattle.ob_headline.specs.Settings.{IsTaken, MeddleParses, ParsesAs, generated_by, settings_of}
+use Rattle.ob_headline.specs.Usage.{Parses, changes_of, is_traced, meddle_usage, value_of}
+use Rattle.ob_headline.specs.declared.seed.Seed.{Seed}
+use Rattle.ob_shell.specs.WordsRead.{words_by, words_with}
 use Rattle.ob_shell.specs.declared.words.Words.{Words}
 
 -- what a command is to which its last word was added

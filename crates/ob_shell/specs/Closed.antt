@@ -1,14 +1,13 @@
 -- The last line of a run.
-use Rattle.std.specs.Prelude.{ℕ, ◌≡◌, ◌≤◌, List, [], Option}
+use Rattle.std.specs.Prelude.{ℕ, ◌≡◌, ◌≤◌, List, [], Option, Err}
 use Rattle.ob_base.specs.Counts.{Rises}
 use Rattle.ob_base.specs.declared.refusal.Stop.TheVariants.{NoMemory}
+use Rattle.ob_headline.specs.declared.ending.Ending.{Ending}
+use Rattle.ob_headline.specs.declared.ending.Ending.TheVariants.{Usage, Ran}
 use Rattle.ob_print.specs.Cuts.{Cut}
-use Rattle.ob_store.specs.State.{StoreState}
-use Rattle.ob_shell.specs.declared.top.Ending.{Ending}
-use Rattle.ob_shell.specs.declared.top.Ending.TheVariants.{Usage, Ran}
 use Rattle.ob_shell.specs.declared.words.WordsErr.{WordsErr}
 use Rattle.ob_shell.specs.declared.words.WordsErr.TheVariants as Words
-use Rattle.std.specs.Prelude.{Err}
+use Rattle.ob_store.specs.State.{StoreState}
 
 -- nothing more was written, and no call failed
 pub record Unwritten (written0 written1 : Option (List ℕ)) (faults0 faults1 : ℕ) : Type 0 where

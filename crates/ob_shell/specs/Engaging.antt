@@ -1,5 +1,5 @@
 -- The engine of a run whose tables are kept: how it is had, and what is done with it; all but the last line.
-use Rattle.std.specs.Prelude.{ℕ, ◌≡◌, ◌≢◌, ◌≤◌, ◌<◌, ◌+◌, ◌^◌, ◌⊎◌, min, Bool, true, false, List, [], ◌++◌, length, Option, None, Some, Result, Ok, Err, IfErr, IfOk}
+use Rattle.std.specs.Prelude.{ℕ, ◌≡◌, ◌≢◌, ◌≤◌, ◌<◌, ◌+◌, ◌^◌, ◌⊎◌, Bool, true, false, List, [], length, Option, None, Some, Result, Ok, Err, IfErr, IfOk}
 use Rattle.std.specs.Io.KnownBytes.{Consumes}
 use Rattle.ob_base.specs.Counts.{Rises}
 use Rattle.ob_base.specs.declared.access.Access.{Access}
@@ -13,37 +13,37 @@ use Rattle.ob_exec.specs.declared.engine.Engine.{Engine}
 use Rattle.ob_gen.specs.Generated.{generated}
 use Rattle.ob_gen.specs.SummaryText.{summary_of, summary_text}
 use Rattle.ob_gen.specs.declared.tally.Tally.{Tally}
-use Rattle.ob_mean.specs.Replay.{Spelt}
+use Rattle.ob_headline.specs.Bases.{Base, fresh}
+use Rattle.ob_headline.specs.Keeping.{Began, BeginsFrom, EndsAtMark, EndsWith, NotBegun, kept_line, kept_status, region_opened}
+use Rattle.ob_headline.specs.KeptHeadline.{ClosesTables, EndsUnkeyed}
+use Rattle.ob_headline.specs.KeyLine.{first_line, secret_of}
+use Rattle.ob_headline.specs.Tracing.{traced}
+use Rattle.ob_headline.specs.Words.{Faults, Outside, faults_of, outside_of}
+use Rattle.ob_headline.specs.declared.ending.Ending.{Ending}
+use Rattle.ob_headline.specs.declared.ending.Ending.TheVariants.{Usage, BadKey, Ran}
+use Rattle.ob_headline.specs.declared.ending.KeptEnding.{KeptEnding}
+use Rattle.ob_headline.specs.declared.ending.KeptEnding.TheVariants.{Plain, OtherPack, StoreFault, NotClosed, KeeperFault}
+use Rattle.ob_headline.specs.declared.ending.Report.{Report}
+use Rattle.ob_headline.specs.declared.seed.Seed.{Seed}
 use Rattle.ob_print.specs.Cuts.{Cut}
 use Rattle.ob_reopen.specs.Keepers.{GivesMark, KeeperState}
 use Rattle.ob_reopen.specs.declared.fault.CloseErr.{CloseErr}
-use Rattle.ob_script.specs.Trace.{Served}
 use Rattle.ob_seal.specs.KeySet.{KeySet}
 use Rattle.ob_seal.specs.Sealed.{keys_of}
-use Rattle.ob_shell.specs.Bases.{Base, fresh}
 use Rattle.ob_shell.specs.Closed.{LineWritten, Unwritten}
 use Rattle.ob_shell.specs.Feeding.{Fetch}
 use Rattle.ob_shell.specs.Generating.{SummedUp}
-use Rattle.ob_shell.specs.Keeping.{Began, BeginsFrom, EndsAtMark, EndsWith, NotBegun, kept_line, kept_status, region_opened}
-use Rattle.ob_shell.specs.KeptHeadline.{ClosesTables, EndsUnkeyed}
-use Rattle.ob_shell.specs.KeyLine.{after_line, first_line, secret_of}
 use Rattle.ob_shell.specs.Running.{OutFailed, Silenced, StopCause}
 use Rattle.ob_shell.specs.Standing.{StandsOn}
 use Rattle.ob_shell.specs.Steps.{IsReady, machine_of}
 use Rattle.ob_shell.specs.Tallies.{has_refused}
-use Rattle.ob_shell.specs.Texts.{texts_in}
 use Rattle.ob_shell.specs.Top.{EndingCause, RanAfter, Shown, sink_of}
-use Rattle.ob_shell.specs.Tracing.{Traced, traced}
-use Rattle.ob_shell.specs.Words.{Answer, Begins, Faults, Outside, before_read, faults_of, outside_of}
+use Rattle.ob_shell.specs.Traces.{Traced}
 use Rattle.ob_shell.specs.declared.keeping.KeptEnded.{KeptEnded}
-use Rattle.ob_shell.specs.declared.keeping.KeptEnding.{KeptEnding}
-use Rattle.ob_shell.specs.declared.keeping.KeptEnding.TheVariants.{Plain, OtherPack, StoreFault, NotClosed, KeeperFault}
-use Rattle.ob_shell.specs.declared.top.Ending.{Ending}
-use Rattle.ob_shell.specs.declared.top.Ending.TheVariants.{Usage, BadKey, Ran}
-use Rattle.ob_shell.specs.declared.top.Report.{Report}
-use Rattle.ob_shell.specs.declared.words.Seed.{Seed}
 use Rattle.ob_store.specs.State.{StoreState}
 use Rattle.ob_vault.specs.State.{RevState}
+use Rattle.ob_headline.specs.Story.{Story}
+use Rattle.ob_headline.specs.Prompt.{Prompt}
 
 -- an engine with which a run may go on from this base
 pub record Engages {R : Type 0} (state : R → RevState) (base : Base) (config : Config)
@@ -113,11 +113,10 @@ pub record ClosesRun {R : Type 0} (state : R → RevState) (tally : Tally) (trac
 
 -- a session that came to its end was closed, or why not
 pub record ClosedRun (base : Base) (keys : KeySet) (tracing : Bool) (tally : Tally)
-    (spelt : List Spelt) (answers : List Answer) (seen all : List Served) (part : List ℕ)
-    (high : ℕ) (ended : KeptEnded) (begun served new : StoreState)
+    (story : Story) (high : ℕ) (ended : KeptEnded) (begun served new : StoreState)
     (traced0 traced1 : Option (List ℕ)) (fault0 fault1 : ℕ) (keeper0 keeper1 : KeeperState)
     : Type 0 where
-  pub tables : ClosesTables base keys tracing (has_refused tally) spelt answers seen all part
+  pub tables : ClosesTables base keys tracing (has_refused tally) story
       begun served new traced0 traced1 fault0 fault1 keeper0 keeper1 ended.ending
   pub later : fault0 ≤ fault1
   pub quiet : IsHushed ended.quiet fault0 fault1
@@ -156,8 +155,7 @@ pub record ServesAll {R : Type 0} (state : R → RevState) (base : Base) (key : 
   pub traced_all : Traced tracing begun.asked served.asked traced0 traced1 ⊥
   pub source : new_faults.source ≡ old_faults.source
   pub out : new_faults.out ≡ old_faults.out
-  pub closed : ClosedRun base (keys_of key) tracing tally ran.carried.spelt ran.answers
-      ran.carried.seen (ran.carried.seen ++ ran.carried.last) ran.part high ended begun served new
+  pub closed : ClosedRun base (keys_of key) tracing tally ran.story high ended begun served new
       traced1 traced2 old_faults.trace new_faults.trace keeper0 keeper1
 
 abbrev pub ServesRun : {R : Type 0} → (R → RevState) → Base → (key : List ℕ) → (tracing : Bool)
@@ -209,7 +207,7 @@ pub record RanUnkeyed (config : Config) (tracing : Bool) (ended : KeptEnded) (ol
       old.left new.left new.gave old.written new.written old.store new.store ended.high
       ending [] ⊥
   pub ends : EndsUnkeyed ending shown.taken
-  pub unanswered : shown.answers ≡ []
+  pub unanswered : shown.story.answers ≡ []
   pub cause : EndingCause ending old.faults new.faults
   pub loud : ended.quiet ≡ false
   pub silent : Silenced false old.faults new.faults
@@ -223,8 +221,7 @@ pub record RanUnbegun (config : Config) (tracing : Bool) (ended : KeptEnded) (ol
   pub taken : List ℕ
   pub given : Consumes old.left new.left taken
   pub within : length taken ≤ config.max_input
-  pub few : min new.gave (length taken) ≤ 4096
-  pub prompt : Begins (texts_in false (after_line (before_read new.gave taken))) []
+  pub prompt : Prompt taken [] new.gave
   pub secret : List ℕ
   pub keyed : secret_of (first_line taken) ≡ Some secret
   pub unserved : EndsUnserved config secret tracing ended old.store new.store
@@ -277,8 +274,7 @@ pub record RanWhole (config : Config) (tracing : Bool) (ended : KeptEnded) (old 
   pub traced_all : Traced tracing begun.opened.asked served.asked begun.traced traced ⊥
   pub source : new.faults.source ≡ old.faults.source
   pub out : new.faults.out ≡ old.faults.out
-  pub closed : ClosedRun begun.base (keys_of begun.secret) tracing tally shown.carried.spelt
-      shown.answers shown.carried.seen (shown.carried.seen ++ shown.carried.last) shown.part high
+  pub closed : ClosedRun begun.base (keys_of begun.secret) tracing tally shown.story high
       ended begun.opened served new.store traced new.traced old.faults.trace new.faults.trace
       begun.in_use keeper1
 

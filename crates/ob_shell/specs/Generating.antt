@@ -9,21 +9,21 @@ use Rattle.ob_base.specs.declared.refusal.Stop.TheVariants.{SinkFault}
 use Rattle.ob_gen.specs.Generated.{generated}
 use Rattle.ob_gen.specs.SummaryText.{summary_of, summary_text}
 use Rattle.ob_gen.specs.declared.tally.Tally.{Tally}
+use Rattle.ob_headline.specs.Bases.{fresh}
+use Rattle.ob_headline.specs.Endings.{last_line, status_of}
+use Rattle.ob_headline.specs.Headline.{Headline}
+use Rattle.ob_headline.specs.Settings.{generated_by}
+use Rattle.ob_headline.specs.Words.{Faults, Outside, SinksRose, faults_of, outside_of}
+use Rattle.ob_headline.specs.declared.ending.Ending.{Ending}
+use Rattle.ob_headline.specs.declared.ending.Ending.TheVariants.{Usage, BadKey, Ran}
+use Rattle.ob_headline.specs.declared.ending.Report.{Report}
+use Rattle.ob_headline.specs.declared.seed.Seed.{Seed}
 use Rattle.ob_meddle.specs.declared.store.MeddledStore.{MeddledStore}
 use Rattle.ob_print.specs.Cuts.{Cut}
-use Rattle.ob_shell.specs.Bases.{fresh}
 use Rattle.ob_shell.specs.Closed.{LineWritten, Unwritten}
-use Rattle.ob_shell.specs.Endings.{last_line, status_of}
-use Rattle.ob_shell.specs.Headline.{Headline}
 use Rattle.ob_shell.specs.Meddling.{Meddled}
-use Rattle.ob_shell.specs.Settings.{generated_by}
 use Rattle.ob_shell.specs.Top.{EndingTally, Reported, sink_of}
-use Rattle.ob_shell.specs.Tracing.{Traced}
-use Rattle.ob_shell.specs.Words.{Faults, Outside, SinksRose, faults_of, outside_of}
-use Rattle.ob_shell.specs.declared.top.Ending.{Ending}
-use Rattle.ob_shell.specs.declared.top.Ending.TheVariants.{Usage, BadKey, Ran}
-use Rattle.ob_shell.specs.declared.top.Report.{Report}
-use Rattle.ob_shell.specs.declared.words.Seed.{Seed}
+use Rattle.ob_shell.specs.Traces.{Traced}
 use Rattle.ob_store.specs.State.{StoreState}
 
 -- which text the words ask for, if they ask for one
@@ -112,7 +112,7 @@ pub record Summarized (Takes : Type 0) (settings : Option Config) (tracing : Boo
   pub headline : Headline (fresh settings) Takes tracing (before_text seed old)
       (after_text left gave new) run
   pub tally : Tally
-  pub counted : EndingTally headline.ending headline.answers tally
+  pub counted : EndingTally headline.ending headline.story.answers tally
   pub concludes : Concludes headline.ending tally new.store.asked run.high
       old.written new.written old.faults new.faults report
 
@@ -126,7 +126,7 @@ pub record MeddleSummarized (words : List Text) (seed : Seed) (old : StoreState 
       store run
   pub unread : IsUnread (old meddled.start) new
   pub tally : Tally
-  pub counted : EndingTally meddled.headline.ending meddled.headline.answers tally
+  pub counted : EndingTally meddled.headline.ending meddled.headline.story.answers tally
   pub concludes : Concludes meddled.headline.ending tally new.store.asked run.high
       (old meddled.start).written new.written (old meddled.start).faults new.faults report
 

@@ -5,19 +5,19 @@ use Rattle.ob_base.specs.Counts.{Rises}
 use Rattle.ob_base.specs.declared.access.Access.{Access}
 use Rattle.ob_base.specs.declared.config.Config.{Config}
 use Rattle.ob_gen.specs.declared.tally.Tally.{Tally}
+use Rattle.ob_headline.specs.Bases.{fresh}
+use Rattle.ob_headline.specs.Headline.{Headline}
+use Rattle.ob_headline.specs.Keeping.{kept_line, kept_status}
+use Rattle.ob_headline.specs.KeptHeadline.{KeptHeadline}
+use Rattle.ob_headline.specs.Words.{Answer, Faults, Outside, SinksRose}
+use Rattle.ob_headline.specs.declared.ending.KeptEnding.{KeptEnding}
+use Rattle.ob_headline.specs.declared.ending.KeptEnding.TheVariants.{Plain, OtherPack, StoreFault, NotClosed, KeeperFault}
+use Rattle.ob_headline.specs.declared.ending.Report.{Report}
+use Rattle.ob_headline.specs.declared.seed.Seed.{Seed}
 use Rattle.ob_print.specs.Cuts.{Cut}
 use Rattle.ob_reopen.specs.Keepers.{KeeperState}
-use Rattle.ob_shell.specs.Bases.{fresh}
 use Rattle.ob_shell.specs.Generating.{IsUnread, StatusIs, Summarized, after_text, before_text, conclusion}
-use Rattle.ob_shell.specs.Headline.{Headline}
-use Rattle.ob_shell.specs.Keeping.{kept_line, kept_status}
-use Rattle.ob_shell.specs.KeptHeadline.{KeptHeadline}
 use Rattle.ob_shell.specs.Top.{EndingTally}
-use Rattle.ob_shell.specs.Words.{Answer, Faults, Outside, SinksRose}
-use Rattle.ob_shell.specs.declared.keeping.KeptEnding.{KeptEnding}
-use Rattle.ob_shell.specs.declared.keeping.KeptEnding.TheVariants.{Plain, OtherPack, StoreFault, NotClosed, KeeperFault}
-use Rattle.ob_shell.specs.declared.top.Report.{Report}
-use Rattle.ob_shell.specs.declared.words.Seed.{Seed}
 
 -- a run that came to the end of the text ends with its summary, another one with its last line
 abbrev pub kept_conclusion : KeptEnding → Tally → List Access → List ℕ

@@ -3,21 +3,21 @@ use Rattle.std.specs.Prelude.{ℕ, ◌≡◌, ◌≢◌, ◌≤◌, ◌++◌, tr
 use Rattle.std.specs.List.{list_all}
 use Rattle.clap.specs.Words.{Text}
 use Rattle.ob_base.specs.declared.config.Config.{Config}
+use Rattle.ob_headline.specs.Bases.{fresh}
+use Rattle.ob_headline.specs.Disturbed.{Until, meant_trace}
+use Rattle.ob_headline.specs.Endings.{last_line, status_of}
+use Rattle.ob_headline.specs.Failures.{RisesBy, failures}
+use Rattle.ob_headline.specs.Headline.{Headline}
+use Rattle.ob_headline.specs.Settings.{MeddleParses, ParsesChanges, settings_of}
+use Rattle.ob_headline.specs.Usage.{is_traced, meddle_usage}
+use Rattle.ob_headline.specs.Words.{Answer, Faults, IsHonest, Outside}
+use Rattle.ob_headline.specs.declared.ending.Report.{Report}
 use Rattle.ob_meddle.specs.Due.{are_later, disturbances, failed_among, has_acted, is_fail}
 use Rattle.ob_meddle.specs.Shows.{Shows, list_of}
 use Rattle.ob_meddle.specs.declared.meddle.Meddle.{Meddle}
 use Rattle.ob_meddle.specs.declared.store.MeddledStore.{MeddledStore}
-use Rattle.ob_shell.specs.Bases.{fresh}
 use Rattle.ob_shell.specs.Closed.{LineWritten, refused_by}
-use Rattle.ob_shell.specs.Disturbed.{Until, meant_trace}
-use Rattle.ob_shell.specs.Endings.{last_line, status_of}
-use Rattle.ob_shell.specs.Failures.{RisesBy, failures}
-use Rattle.ob_shell.specs.Headline.{Headline}
-use Rattle.ob_shell.specs.Settings.{MeddleParses, ParsesChanges, settings_of}
 use Rattle.ob_shell.specs.Top.{IsFresh}
-use Rattle.ob_shell.specs.Usage.{is_traced, meddle_usage}
-use Rattle.ob_shell.specs.Words.{Answer, Faults, IsHonest, Outside}
-use Rattle.ob_shell.specs.declared.top.Report.{Report}
 use Rattle.ob_shell.specs.declared.words.WordsErr.{WordsErr}
 use Rattle.ob_shell.specs.declared.words.WordsErr.TheVariants as Words
 use Rattle.ob_store.specs.Calls.{IsSteady}
@@ -63,17 +63,17 @@ pub record Meddled (words : List Text) (old : StoreState → Outside) (new : Out
       (is_traced meddle_usage words) (old start) new report
   -- until the first change all is as it is meant
   pub always : (n : ℕ) → are_later (list_of store) n ≡ true
-      → Until (settings_of meddle_usage words) n headline.spelt headline.answers
-      (headline.seen ++ headline.last) new.store.asked
+      → Until (settings_of meddle_usage words) n headline.story.spelt headline.story.answers
+      (headline.story.seen ++ headline.story.last) new.store.asked
   -- so is the whole run, where all changes come behind the accesses that its statements ask by their meaning
   pub undisturbed : (n : ℕ) → are_later (list_of store) n ≡ true
-      → length (meant_trace (settings_of meddle_usage words) headline.spelt) ≤ n
-      → Undisturbed headline.answers start new.store report
+      → length (meant_trace (settings_of meddle_usage words) headline.story.spelt) ≤ n
+      → Undisturbed headline.story.answers start new.store report
   -- where accesses fail and no block is changed
   pub unchanged : IsTrue (list_all (λ m. is_fail m.act) (list_of store))
       → IsHonest start new.store × (report.status ≢ 4)
   -- at most as many answers are that the store failed as accesses failed, and a block was changed where one ends the run
-  pub failed : RisesBy (failures headline.answers) 0
+  pub failed : RisesBy (failures headline.story.answers) 0
       (failed_among (list_of store) (length new.store.asked))
   pub tampered : report.status ≡ 4
       → has_acted (list_of store) (length new.store.asked) ≡ true

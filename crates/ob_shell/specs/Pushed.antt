@@ -1,6 +1,6 @@
 -- What one more byte makes of the text that is being read.
 use Rattle.std.specs.Prelude.{ℕ, ◌≡◌, ◌<◌, ◌≤◌, List, [], ◌∷◌, length, Result, Ok, Err}
-use Rattle.ob_shell.specs.Texts.{text_max, rest_after, texts_at}
+use Rattle.ob_headline.specs.Texts.{text_max, rest_after, texts_at}
 use Rattle.ob_shell.specs.declared.pending.Grown.{Grown}
 use Rattle.ob_shell.specs.declared.pending.Grown.TheVariants.{More, Whole}
 use Rattle.ob_shell.specs.declared.pending.PushStop.{PushStop}

@@ -6,17 +6,17 @@ use Rattle.ob_base.specs.declared.refusal.Stop.{Stop}
 use Rattle.ob_base.specs.declared.refusal.Stop.TheVariants.{Tampered, SourceFault, SinkFault, NoMemory, InputLimit}
 use Rattle.ob_exec.specs.Agreeing.{high_of}
 use Rattle.ob_exec.specs.declared.engine.Engine.{Engine}
+use Rattle.ob_gen.specs.declared.tally.Tally.{Tally}
+use Rattle.ob_headline.specs.Texts.{is_over, rest_of, texts_of, texts_in}
+use Rattle.ob_headline.specs.Words.{Answer, Begins, Faults, NoneRose, SinksRose, Took, any_refused, before_read, printed}
 use Rattle.ob_print.specs.Cuts.{Cut}
-use Rattle.ob_shell.specs.Texts.{is_over, rest_of, texts_of, texts_in}
 use Rattle.ob_shell.specs.Feeding.{Fetch, Fed}
 use Rattle.ob_shell.specs.Steps.{Machine, Steps, PartlyAt, IsUndone, machine_of}
+use Rattle.ob_shell.specs.Tallies.{TallyIs, flagged, tally_of}
+use Rattle.ob_shell.specs.Traces.{Traces}
+use Rattle.ob_shell.specs.declared.session.Halted.{Halted}
 use Rattle.ob_store.specs.State.{StoreState}
 use Rattle.ob_vault.specs.State.{RevState}
-use Rattle.ob_shell.specs.declared.session.Halted.{Halted}
-use Rattle.ob_gen.specs.declared.tally.Tally.{Tally}
-use Rattle.ob_shell.specs.Tallies.{TallyIs, flagged, tally_of}
-use Rattle.ob_shell.specs.Tracing.{Traces}
-use Rattle.ob_shell.specs.Words.{Answer, Begins, Faults, NoneRose, SinksRose, Took, any_refused, before_read, printed}
 
 -- the stop, whether or not its line may still be written
 abbrev pub stop_of : {T : Type 0} → Result T Halted → Result T Stop

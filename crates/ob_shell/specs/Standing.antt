@@ -8,10 +8,10 @@ use Rattle.ob_exec.specs.Opening.{is_of_rows}
 use Rattle.ob_select.specs.Selecting.{AcceptsRows}
 use Rattle.ob_exec.specs.Telling.{Represents}
 use Rattle.ob_exec.specs.declared.engine.Engine.{Engine}
+use Rattle.ob_headline.specs.Bases.{Base, FromEach, said_of, start}
+use Rattle.ob_headline.specs.Sealing.{PassesFrom}
 use Rattle.ob_seal.specs.Sealed.{keys_of}
-use Rattle.ob_shell.specs.Bases.{Base, FromEach, said_of, start}
 use Rattle.ob_shell.specs.Steps.{machine_of, session_of}
-use Rattle.ob_shell.specs.Words.{PassesFrom}
 use Rattle.ob_store.specs.Calls.{IsBefore, IsSteady}
 use Rattle.ob_store.specs.State.{StoreState}
 use Rattle.ob_vault.specs.State.{RevState}

@@ -11,19 +11,21 @@ use Rattle.ob_exec.specs.Memory.{LacksMemory}
 use Rattle.ob_exec.specs.Running.{RanStatement, RefusedEarly, Emits, MayEmit, refusal_now}
 use Rattle.ob_exec.specs.Serving.{Means}
 use Rattle.ob_exec.specs.Telling.{KeepsSealed, ReadsTrue, ReadsTrueUntil, Emitted, Partly, answer_labels}
+use Rattle.ob_exec.specs.declared.engine.Engine.{Engine}
+use Rattle.ob_exec.specs.declared.outcome.Outcome.{Outcome}
+use Rattle.ob_exec.specs.declared.outcome.Outcome.TheVariants.{Refused}
+use Rattle.ob_gen.specs.declared.tally.Tally.{Tally}
+use Rattle.ob_headline.specs.Closing.{closing_line}
+use Rattle.ob_headline.specs.Endings.{IsSinkFault}
+use Rattle.ob_headline.specs.Words.{Answer, printed}
+use Rattle.ob_headline.specs.Statements.{Spells}
+use Rattle.ob_headline.specs.Meaning.{PrintsUntil}
 use Rattle.ob_mean.specs.Lawful.{Lawful}
 use Rattle.ob_mean.specs.Replay.{Session}
 use Rattle.ob_mean.specs.Verdict.{Tables, verdict}
-use Rattle.ob_exec.specs.declared.engine.Engine.{Engine}
-use Rattle.ob_shell.specs.Endings.{IsSinkFault}
-use Rattle.ob_gen.specs.declared.tally.Tally.{Tally}
-use Rattle.ob_shell.specs.Tallies.{tally_after}
-use Rattle.ob_shell.specs.Words.{Answer, PrintsUntil, Spells, printed}
-use Rattle.ob_exec.specs.declared.outcome.Outcome.{Outcome}
-use Rattle.ob_exec.specs.declared.outcome.Outcome.TheVariants.{Refused}
 use Rattle.ob_print.specs.Cuts.{Cut}
 use Rattle.ob_print.specs.Rows.{events_text}
-use Rattle.ob_shell.specs.Closing.{closing_line}
+use Rattle.ob_shell.specs.Tallies.{tally_after}
 use Rattle.ob_sql.specs.Skeleton.{skeleton}
 use Rattle.ob_sql.specs.declared.stmt.Stmt.{Stmt}
 use Rattle.ob_store.specs.State.{StoreState}

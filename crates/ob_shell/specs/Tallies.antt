@@ -6,8 +6,8 @@ use Rattle.ob_exec.specs.declared.outcome.Outcome.{Outcome}
 use Rattle.ob_exec.specs.declared.outcome.Outcome.TheVariants.{Created, Inserted, Changed, Deleted, Dropped, Rows, Refused}
 use Rattle.ob_gen.specs.Tally.{empty_tally, with_answer, with_plan}
 use Rattle.ob_gen.specs.declared.tally.Tally.{Tally}
-use Rattle.ob_shell.specs.Closing.{is_refused}
-use Rattle.ob_shell.specs.Words.{Answer}
+use Rattle.ob_headline.specs.Closing.{is_refused}
+use Rattle.ob_headline.specs.Words.{Answer}
 
 -- how many rows an answer has
 abbrev pub rows_of : Outcome → ℕ

@@ -1,40 +1,38 @@
 -- What a whole run promises, by its words and the bytes that its source gave.
-use Rattle.std.specs.Prelude.{ℕ, ◌≡◌, ◌≢◌, ◌+◌, ◌≤◌, ◌⊎◌, min, Bool, true, false, List, [], ◌∷◌, ◌++◌, length, take, IsTrue, Option, Some, None, IsSome, Result, Ok, Err}
-use Rattle.std.specs.List.{list_any}
-use Rattle.std.specs.Option.{option_map_or}
+use Rattle.std.specs.Prelude.{ℕ, ◌≡◌, ◌≢◌, ◌+◌, ◌⊎◌, Bool, true, false, List, [], ◌++◌, length, Option, Some, None, Result, Ok, Err}
 use Rattle.std.specs.Io.KnownBytes.{Consumes, IsAtEnd}
 use Rattle.ob_base.specs.Counts.{Rises}
-use Rattle.ob_base.specs.declared.access.Access.TheVariants.{Read}
 use Rattle.ob_base.specs.declared.refusal.Stop.{Stop}
 use Rattle.ob_base.specs.declared.refusal.Stop.TheVariants.{Tampered, SourceFault, SinkFault, NoMemory, InputLimit}
-use Rattle.ob_exec.specs.Opening.{is_of_rows}
-use Rattle.ob_mean.specs.Replay.{Broken, Spelt}
-use Rattle.ob_print.specs.Cuts.{Cut}
-use Rattle.ob_script.specs.Trace.{Served, trace}
-use Rattle.ob_seal.specs.KeySet.{KeySet}
-use Rattle.ob_seal.specs.Sealed.{keys_of}
-use Rattle.ob_store.specs.Calls.{IsBefore}
-use Rattle.ob_store.specs.Runs.{Later}
-use Rattle.ob_store.specs.State.{Lie, StoreState}
-use Rattle.ob_vault.specs.State.{RevState}
-use Rattle.ob_vault.specs.Tied.{Fits}
-use Rattle.ob_shell.specs.Bases.{Base, FromEach, said_of}
-use Rattle.ob_shell.specs.Disturbed.{Until}
-use Rattle.ob_shell.specs.Endings.{last_line, status_of}
-use Rattle.ob_shell.specs.Failures.{FailsBeside, RisesBy, failures}
-use Rattle.ob_shell.specs.Feeding.{Fetch}
-use Rattle.ob_shell.specs.KeyLine.{LineTaken, after_line, first_line, secret_of}
-use Rattle.ob_shell.specs.Running.{CountsRows, EndsBy, FlagIs, StopCause}
-use Rattle.ob_shell.specs.Settings.{limit_of}
-use Rattle.ob_shell.specs.Steps.{IsUntampered}
 use Rattle.ob_gen.specs.declared.tally.Tally.{Tally}
+use Rattle.ob_headline.specs.Bases.{Base, FromEach}
+use Rattle.ob_headline.specs.Endings.{last_line, status_of}
+use Rattle.ob_headline.specs.KeyLine.{LineTaken, first_line, secret_of}
+use Rattle.ob_headline.specs.Settings.{limit_of}
+use Rattle.ob_headline.specs.Texts.{texts_in}
+use Rattle.ob_headline.specs.Tracing.{traced}
+use Rattle.ob_headline.specs.Words.{Answer, Begins, Faults, IsHonest, NoneRose, SinksRose, Took, before_read, printed, keys_with}
+use Rattle.ob_headline.specs.Status.{EndsAtRead, HasSecret, IsCompleted, KeepsLimits, ReadToLimit, ReadUntilFault, ReadWhole}
+use Rattle.ob_headline.specs.declared.ending.Ending.{Ending}
+use Rattle.ob_headline.specs.declared.ending.Ending.TheVariants.{Usage, BadKey, Ran}
+use Rattle.ob_headline.specs.declared.ending.Report.{Report}
+use Rattle.ob_print.specs.Cuts.{Cut}
+use Rattle.ob_script.specs.Trace.{trace}
+use Rattle.ob_shell.specs.Feeding.{Fetch}
+use Rattle.ob_shell.specs.Running.{CountsRows, EndsBy, FlagIs, StopCause}
+use Rattle.ob_shell.specs.Steps.{IsUntampered}
 use Rattle.ob_shell.specs.Tallies.{TallyIs, flagged, tally_of}
-use Rattle.ob_shell.specs.Texts.{texts_in}
-use Rattle.ob_shell.specs.Tracing.{traced}
-use Rattle.ob_shell.specs.Words.{Answer, Answers, AreSeen, Begins, EndsAtRead, Faults, HasSecret, IsCompleted, IsHonest, IsUndeceived, KeepsLimits, NoneRose, PassesFrom, PassesHere, ReadToLimit, ReadUntilFault, ReadWhole, SealsEach, SealsOwn, SinksRose, SpellFirst, StopsWithin, Took, any_cut, before_read, printed, rows_in, statements}
-use Rattle.ob_shell.specs.declared.top.Ending.{Ending}
-use Rattle.ob_shell.specs.declared.top.Ending.TheVariants.{Usage, BadKey, Ran}
-use Rattle.ob_shell.specs.declared.top.Report.{Report}
+use Rattle.ob_store.specs.State.{StoreState}
+use Rattle.ob_vault.specs.State.{RevState}
+use Rattle.ob_headline.specs.Accesses.{Accesses}
+use Rattle.ob_headline.specs.Answers.{Answers}
+use Rattle.ob_headline.specs.Bytes.{Bytes}
+use Rattle.ob_headline.specs.OpenRows.{OpenRows}
+use Rattle.ob_headline.specs.Prompt.{Prompt}
+use Rattle.ob_headline.specs.Sealing.{Sealing}
+use Rattle.ob_headline.specs.Statements.{Statements}
+use Rattle.ob_headline.specs.Story.{Story}
+use Rattle.ob_headline.specs.Tampering.{Tampering}
 
 -- it is no end by a block
 abbrev pub EndsUntampered : Ending → Type 0
@@ -58,44 +56,19 @@ pub record TraceSink : Type 0 where
 abbrev pub sink_of : Bool → (old new : Option (List ℕ)) → TraceSink
 sink_of on old new = record { on = on; old = old; new = new }
 
-abbrev pub keys_with : Option (List ℕ) → KeySet
-keys_with secret = option_map_or keys_of secret (keys_of [])
-
 -- what the texts did to the store, and what was answered
 pub record Carried (tr : TraceSink) (base : Base) (secret : Option (List ℕ))
-    (store0 store1 : StoreState) (high : ℕ) (served more : List (List ℕ)) (answers : List Answer)
-    (part : List ℕ) (ending : Ending) : Type 0 where
-  pub spelt : List Spelt
-  pub spells : SpellFirst (served ++ more) spelt
-  pub reached : length served ≤ length spelt
-  pub begun : length spelt ≤ length served + 1
-  pub keyed : IsSome secret ⊎ (spelt ≡ [])
-  pub each : length answers ≡ length served
-  pub seen : List Served
-  pub last : List Served
-  pub one_last : length last ≤ 1
-  pub each_seen : length seen ≡ length (statements (take (length served) spelt))
-  pub lawful : AreSeen (StopsWithin ending (FailsBeside answers store0.faults store1.faults))
-      base.public base.count spelt answers (seen ++ last)
-  pub asked : store1.asked ≡ base.before ++ trace base.public (seen ++ last)
-  pub traced_whole : Took tr.old tr.new (traced tr.on (trace base.public seen))
-  pub failed : RisesBy (failures answers) store0.faults store1.faults
-  pub unfailed : any_cut (seen ++ last) ≡ false → store1.faults ≡ store0.faults
-  pub meant : IsUndeceived (keys_with secret) base.start store0 store1 → FromEach base
-      (λ s. (broken : Broken) × Answers ending s spelt broken answers (seen ++ last) part)
-  pub tampered : (lie : Lie) → store1.lie ≡ Some lie → ¬ Fits (keys_with secret) base.start lie
-      → (ending ≡ Ran (Err (Tampered lie.region lie.place)))
-      × (store1.asked ≡ lie.before ++ Read lie.region lie.place ∷ [])
-  pub sealed : SealsOwn (PassesHere base) base (keys_with secret) store0 store1
-  pub sealed_before : SealsEach (PassesFrom base) base (keys_with secret) store0 store1
+    (store0 store1 : StoreState) (high : ℕ) (story : Story) (ending : Ending) : Type 0 where
+  pub statements : Statements secret story
+  pub accesses : Accesses base ending story store0 store1
+  pub traced_whole : Took tr.old tr.new (traced tr.on (trace base.public story.seen))
+  pub answers : Answers base (keys_with secret) ending story store0 store1
+  pub tampering : Tampering (keys_with secret) base.start ending store0 store1
+  pub sealing : Sealing base (keys_with secret) store0 store1
+  pub rows : OpenRows base.settings high store1.asked
   pub untampered : FromEach base (λ s. IsHonest store0 store1 → EndsUntampered ending)
   pub at_read : (region place : ℕ) → ending ≡ Ran (Err (Tampered region place))
       → EndsAtRead region place store1.asked
-  pub most_open : high ≤ rows_in base.settings
-  pub some_open : IsTrue (list_any is_of_rows store1.asked) → 1 ≤ high
-  pub later : Later store0 store1
-  pub early : IsTrue store0.tells → (n : ℕ) → IsBefore (said_of base.opened store0) n
-      → Until base.settings n spelt answers (seen ++ last) store1.asked
 
 -- what was done from this base after the first line, which was this secret
 pub record RanAfter {R : Type 0} (state : R → RevState) (tr : TraceSink) (base : Base)
@@ -109,21 +82,17 @@ pub record RanAfter {R : Type 0} (state : R → RevState) (tr : TraceSink) (base
   pub limit : feed1.limit ≡ feed0.limit
   pub ended : Bool
   pub at_end : ended ≡ true → IsAtEnd left1
-  pub served : List (List ℕ)
-  pub more : List (List ℕ)
-  pub texts : texts_in ended (feed0.unread ++ piece) ≡ served ++ more
-  pub prompt : Begins (texts_in false (before_read gave (feed0.unread ++ piece))) served
-  pub answers : List Answer
-  pub part : List ℕ
-  pub carried : Carried tr base secret store0 store1 high served more answers part
-      (Ran (flagged result))
+  pub story : Story
+  pub texts : texts_in ended (feed0.unread ++ piece) ≡ story.served ++ story.more
+  pub prompt : Begins (texts_in false (before_read gave (feed0.unread ++ piece))) story.served
+  pub carried : Carried tr base secret store0 store1 high story (Ran (flagged result))
   -- the rows that were open are those of the session's engine; where none was started, there are none
   pub rows : CountsRows state tr.on feed0 feed1 left0 left1 gave written0 written1 tr.old tr.new
       store0 store1 Lost result high ⊎ ((high ≡ 0) × (store1 ≡ store0))
-  pub cut : Cut written0 written1 Lost (printed answers ++ part)
-  pub whole : Took written0 written1 (printed answers)
-  pub counted : TallyIs answers result
-  pub ends : EndsBy feed1 ended (feed0.unread ++ piece) more part (flagged result)
+  pub cut : Cut written0 written1 Lost (printed story.answers ++ story.part)
+  pub whole : Took written0 written1 (printed story.answers)
+  pub counted : TallyIs story.answers result
+  pub ends : EndsBy feed1 ended (feed0.unread ++ piece) story.more story.part (flagged result)
 
 -- what the answer of a session says of the bytes taken
 abbrev pub RanSays : Result Bool Stop → (max : ℕ) (taken : List ℕ) (ended : Bool)
@@ -193,25 +162,17 @@ pub record Shown (tally : Tally) (tr : TraceSink) (base : Base)
     (store0 store1 : StoreState) (high : ℕ)
     (ending : Ending) (line : List ℕ) (Fault : Type 0) : Type 0 where
   pub taken : List ℕ
-  pub given : Consumes left0 left1 taken
-  pub within : length taken ≤ limit_of base.settings
-  pub few : min gave (length taken) ≤ 4096
   pub ended : Bool
-  pub at_end : ended ≡ true → IsAtEnd left1
-  pub served : List (List ℕ)
-  pub more : List (List ℕ)
-  pub texts : texts_in ended (after_line taken) ≡ served ++ more
-  pub prompt : Begins (texts_in false (after_line (before_read gave taken))) served
-  pub answers : List Answer
-  pub part : List ℕ
-  pub carried : Carried tr base (secret_of (first_line taken)) store0 store1 high served more
-      answers part ending
-  pub grew : Cut written0 written1 Fault ((printed answers ++ part) ++ line)
+  pub story : Story
+  pub bytes : Bytes (limit_of base.settings) taken ended story left0 left1
+  pub prompt : Prompt taken story.served gave
+  pub carried : Carried tr base (secret_of (first_line taken)) store0 store1 high story ending
+  pub grew : Cut written0 written1 Fault ((printed story.answers ++ story.part) ++ line)
   -- a sink's fault ends the run: all answers were taken whole
-  pub whole : Took written0 written1 (printed answers)
-  pub flag : EndingFlag ending answers
-  pub counted : EndingTally ending answers tally
-  pub says : EndingSays ending (limit_of base.settings) taken left1 ended more part
+  pub whole : Took written0 written1 (printed story.answers)
+  pub flag : EndingFlag ending story.answers
+  pub counted : EndingTally ending story.answers tally
+  pub says : EndingSays ending (limit_of base.settings) taken left1 ended story.more story.part
 
 -- the whole run, of words that the program takes, or doesn't, from this base, with the settings that they spell
 pub record Reported (tally : Tally) (tr : TraceSink) (Takes : Type 0) (base : Base)
@@ -224,9 +185,10 @@ pub record Reported (tally : Tally) (tr : TraceSink) (Takes : Type 0) (base : Ba
   pub shown : Shown tally tr base left0 left1 gave written0 written1 store0 store1 report.high ending
       (last_line ending) (SinksRose old new)
   -- so was what was printed of the one that was begun, unless the sink of the answers failed
-  pub through : Took written0 written1 (printed shown.answers ++ shown.part) ⊎ Rises old.out new.out
+  pub through : Took written0 written1 (printed shown.story.answers ++ shown.story.part)
+      ⊎ Rises old.out new.out
   pub silent : new.trace ≢ old.trace
-      → Cut written0 written1 (Unit {0}) (printed shown.answers ++ shown.part)
+      → Cut written0 written1 (Unit {0}) (printed shown.story.answers ++ shown.story.part)
   pub cause : StatusCause ending old new
   pub completes : Takes → (input : List ℕ) → left0 ≡ Some input
       → KeepsLimits (limit_of base.settings) input

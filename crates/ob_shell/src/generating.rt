@@ -1,14 +1,15 @@
 //! Runs over the text that is generated in place of the input.
 ghost use Rattle.std.specs.Prelude.{◌≡◌, [], Some};
-ghost use Rattle.ob_shell.specs.Endings;
-ghost use Rattle.ob_shell.specs.Generating.{RanGenerated, ConcludedBy, SummedUp};
 ghost use Rattle.ob_gen.specs.SummaryText.{summary_of, summary_text};
-ghost use Rattle.ob_shell.specs.Settings.{AreWithin};
+ghost use Rattle.ob_headline.specs.Endings;
+ghost use Rattle.ob_shell.specs.Generating.{RanGenerated, ConcludedBy, SummedUp};
+ghost use Rattle.ob_shell.specs.WordsRead.{AreWithin};
 
-use crate::top::{Ended, Ending, Report, close, run, status_of};
-use crate::words::{Seed, Words};
+use crate::top::{Ended, close, run, status_of};
+use crate::words::Words;
 use ob_base::{Failed, Stop};
 use ob_gen::{Discard, Generated, Summary, trace_digest};
+use ob_headline::{Ending, Report, Seed};
 use ob_io::Sink;
 use ob_store::BlockStore;
 use std::alloc::Global;

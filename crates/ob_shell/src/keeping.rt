@@ -3,31 +3,31 @@ ghost use Rattle.std.specs.Prelude.{◌≡◌, ◌≤◌, ◌<◌, ◌+◌, ◌^
 ghost use Rattle.ob_base.specs.declared.config.Config.{Config};
 ghost use Rattle.ob_exec.specs.Agreeing.{count_of, high_of};
 ghost use Rattle.ob_gen.specs.Tally.{empty_tally};
-ghost use Rattle.ob_shell.specs.Bases.{Base};
+ghost use Rattle.ob_headline.specs.Bases.{Base};
+ghost use Rattle.ob_headline.specs.Keeping;
+ghost use Rattle.ob_headline.specs.Settings.{IsTaken, settings_of};
+ghost use Rattle.ob_headline.specs.Usage.{is_kept, is_traced, kept_usage};
+ghost use Rattle.ob_headline.specs.Words.{faults_of, outside_of};
 ghost use Rattle.ob_shell.specs.Closed.{LineWritten, Untouched, Unwritten};
 ghost use Rattle.ob_shell.specs.Engaging.{ClosesRun, EndsUnserved, Engages, FindsEngine};
 ghost use Rattle.ob_shell.specs.Engaging.{KeptConcludedBy, KeptGenerated, RanKept, ServesRun, StartsRun};
 ghost use Rattle.ob_shell.specs.Feeding.{IsFedBy};
 ghost use Rattle.ob_shell.specs.Generating.{asked_for};
-ghost use Rattle.ob_shell.specs.Keeping;
 ghost use Rattle.ob_shell.specs.KeptSummary.{MayKeep};
-ghost use Rattle.ob_shell.specs.Settings.{AreWithin, IsTaken, settings_of};
 ghost use Rattle.ob_shell.specs.Steps.{IsReady, machine_of};
-ghost use Rattle.ob_shell.specs.Usage.{is_kept, is_traced, kept_usage};
-ghost use Rattle.ob_shell.specs.Words.{faults_of, outside_of};
+ghost use Rattle.ob_shell.specs.WordsRead.{AreWithin};
 
 use crate::feed::{Feed, Halt};
 use crate::generating::{serve_generated, sum_up};
 use crate::key::{FirstLine, read_key};
 use crate::session::serve;
-use crate::top::{
-    Ended, Ending, Report, ended_with, last_line, refuse_words, serve_over, status_of,
-};
+use crate::top::{Ended, ended_with, last_line, refuse_words, serve_over, status_of};
 use crate::trace::trace_from;
-use crate::words::{Seed, Words, read_kept_words};
+use crate::words::{Words, read_kept_words};
 use ob_base::{Config, Mark, Stop};
 use ob_exec::{CloseErr, Engine, OpenErr};
 use ob_gen::{Discard, Generated, Tally};
+use ob_headline::{Ending, KeptEnding, Report, Seed};
 use ob_io::{Sink, Source};
 use ob_print::{Line, write_all};
 use ob_reopen::Keeper;
@@ -35,21 +35,6 @@ use ob_seal::Keys;
 use ob_store::{BlockStore, Lasting};
 use ob_vault::{BaseRevs, Revisions};
 use std::alloc::Global;
-
-/// How a run ended whose tables are kept.
-#[derive(Clone, Copy, Debug, PartialEq, Eq)]
-pub enum KeptEnding {
-    /// As one does whose tables aren't.
-    Plain(Ending),
-    /// The tables that are kept have another pack.
-    OtherPack,
-    /// The store failed while tables were opened or closed.
-    StoreFault,
-    /// The run before was not closed.
-    NotClosed,
-    /// The keeper failed.
-    KeeperFault,
-}
 
 /// How a run ended, whether its last line may not be written any more, how many rows were open, and what was counted of
 /// the answers, where the input was read to its end.

@@ -1,8 +1,9 @@
 //! The first line, which is the secret.
 ghost use Rattle.std.specs.Prelude.{◌≡◌, ◌<◌, ◌≤◌, Option, Some, None, Ok, Err};
+ghost use Rattle.ob_headline.specs.KeyLine.{without_cr, secret_of};
 ghost use Rattle.ob_shell.specs.Feeding.{HaltCause, IsFedBy};
-ghost use Rattle.ob_shell.specs.KeyLine;
-ghost use Rattle.ob_shell.specs.KeyLine.{without_cr, secret_of, KeyRead};
+ghost use Rattle.ob_shell.specs.LineRead;
+ghost use Rattle.ob_shell.specs.LineRead.{KeyRead};
 
 use crate::feed::{Feed, Halt};
 use ob_io::Source;
@@ -16,7 +17,7 @@ pub enum FirstLine {
 }
 
 fn line_before_more(key: Option<[u8; 32]>) -> FirstLine
-    ensures { result ≡ KeyLine.line_before_more key }
+    ensures { result ≡ LineRead.line_before_more key }
 {
     match key {
         Some(key) => FirstLine::Secret(key),
@@ -25,7 +26,7 @@ fn line_before_more(key: Option<[u8; 32]>) -> FirstLine
 }
 
 fn line_at_end(key: Option<[u8; 32]>) -> FirstLine
-    ensures { result ≡ KeyLine.line_at_end key }
+    ensures { result ≡ LineRead.line_at_end key }
 {
     match key {
         Some(key) => FirstLine::Last(key),
@@ -44,7 +45,7 @@ fn trim_cr(line: &[u8]) -> &[u8]
     }
 }
 
-#[tactic(auto, unfolding(crate::specs::KeyLine::secret_of))]
+#[tactic(auto, unfolding(ob_headline::specs::KeyLine::secret_of))]
 fn decode(line: &[u8]) -> Option<[u8; 32]>
     ensures { result ≡ secret_of line.now }
 {

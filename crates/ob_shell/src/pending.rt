@@ -1,6 +1,6 @@
 //! The text that is being read.
 ghost use Rattle.std.specs.Prelude.{◌≡◌, ℕ, ◌+◌, ◌<◌, List, [], ◌∷◌, ◌++◌, length, OnOk, OnErr};
-ghost use Rattle.ob_shell.specs.Texts.{text_max, rest_after, texts_at, reading_of, has_words};
+ghost use Rattle.ob_headline.specs.Texts.{text_max, rest_after, texts_at, reading_of, has_words};
 ghost use Rattle.ob_shell.specs.Pushed.{Pushes};
 
 use ob_token::{Mode, ends_at, is_blank_byte, is_solid, mode_after, solid_after};
@@ -84,7 +84,7 @@ impl Pending {
         Ok(())
     }
 
-    #[tactic(auto, unfolding(crate::specs::Texts::rest_after, crate::specs::Texts::texts_at))]
+    #[tactic(auto, unfolding(ob_headline::specs::Texts::rest_after, ob_headline::specs::Texts::texts_at))]
     /// Takes one more byte. After `Whole` the text stands here with its semicolon, which is outside quotes and
     /// comments.
     pub fn push(&mut self, b: u8) -> Result<Grown, PushStop>

@@ -1,14 +1,15 @@
 //! The texts of an input, each served as soon as it has come.
 ghost use Rattle.std.specs.Prelude.{◌≡◌, ◌<◌, ◌≤◌, ◌++◌, List, [], ◌∷◌, true, false, Ok, Err, length, OnOk, OnErr, IfOk, IfErr, codes, decimal};
 ghost use Rattle.ob_base.specs.declared.access.Access.{Access};
-ghost use Rattle.ob_shell.specs.Texts.{text_max, is_over, rest_after, texts_at, tail_text};
-ghost use Rattle.ob_shell.specs.Steps.{machine_of, IsReady, HasBody, AnswersAll, StopsIn};
+ghost use Rattle.ob_headline.specs.Closing;
+ghost use Rattle.ob_headline.specs.Texts.{text_max, is_over, rest_after, texts_at, tail_text};
+ghost use Rattle.ob_headline.specs.Words.{faults_of};
+ghost use Rattle.ob_headline.specs.Statements.{Spells};
 ghost use Rattle.ob_shell.specs.Feeding.{IsFedBy};
 ghost use Rattle.ob_shell.specs.Running.{IsQuiet, OutFailed, SessionRan, Silenced, StopCause, is_quiet, stop_of};
-ghost use Rattle.ob_shell.specs.Tracing.{TracedAll, Traced};
-ghost use Rattle.ob_shell.specs.Closing;
+ghost use Rattle.ob_shell.specs.Steps.{machine_of, IsReady, HasBody, AnswersAll, StopsIn};
 ghost use Rattle.ob_shell.specs.Tallies;
-ghost use Rattle.ob_shell.specs.Words.{Spells, faults_of};
+ghost use Rattle.ob_shell.specs.Traces.{TracedAll, Traced};
 
 use crate::feed::{Feed, Halt};
 use crate::pending::{Grown, Pending, PushStop};

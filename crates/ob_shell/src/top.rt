@@ -1,24 +1,25 @@
 //! The top calls.
-ghost use Rattle.std.specs.Prelude.{◌≡◌, ◌≢◌, ◌≤◌, [], map, Ok, Err, Some, None, true, false, ⊤};
 ghost use Rattle.std.specs.Prelude.{IfOk, MatchOption, string_bytes};
-ghost use Rattle.ob_shell.specs.Usage.{usage, meddle_usage, is_traced};
-ghost use Rattle.ob_shell.specs.Settings.{AreWithin, IsTaken, settings_of};
-ghost use Rattle.ob_shell.specs.Bases.{fresh};
-ghost use Rattle.ob_shell.specs.Closed.{LineWritten, Untouched, Unwritten, refused_by};
-ghost use Rattle.ob_shell.specs.Meddling.{Unserved};
-ghost use Rattle.ob_shell.specs.Generating.{MeddleRan, Summarized, asked_for};
-ghost use Rattle.ob_shell.specs.declared.words.Seed.{Seed};
-ghost use Rattle.ob_shell.specs.Feeding.{IsFedBy};
-ghost use Rattle.ob_shell.specs.Running.{IsQuiet, OutFailed, Silenced, StopCause, is_quiet, stop_of};
-ghost use Rattle.ob_meddle.specs.Shows.{state_of};
+ghost use Rattle.std.specs.Prelude.{◌≡◌, ◌≢◌, ◌≤◌, [], map, Ok, Err, Some, None, true, false, ⊤};
 ghost use Rattle.ob_gen.specs.Tally.{empty_tally};
 ghost use Rattle.ob_gen.specs.declared.tally.Tally.{Tally};
-ghost use Rattle.ob_shell.specs.Headline.{Headline};
+ghost use Rattle.ob_headline.specs.Bases.{fresh};
+ghost use Rattle.ob_headline.specs.Endings;
+ghost use Rattle.ob_headline.specs.Headline.{Headline};
+ghost use Rattle.ob_headline.specs.Settings.{IsTaken, settings_of};
+ghost use Rattle.ob_headline.specs.Usage.{usage, meddle_usage, is_traced};
+ghost use Rattle.ob_headline.specs.Words.{SinksRose, faults_of, outside_of};
+ghost use Rattle.ob_headline.specs.declared.seed.Seed.{Seed};
+ghost use Rattle.ob_meddle.specs.Shows.{state_of};
+ghost use Rattle.ob_shell.specs.Closed.{LineWritten, Untouched, Unwritten, refused_by};
+ghost use Rattle.ob_shell.specs.Feeding.{IsFedBy};
+ghost use Rattle.ob_shell.specs.Generating.{MeddleRan, Summarized, asked_for};
+ghost use Rattle.ob_shell.specs.Meddling.{Unserved};
+ghost use Rattle.ob_shell.specs.Running.{IsQuiet, OutFailed, Silenced, StopCause, is_quiet, stop_of};
 ghost use Rattle.ob_shell.specs.Tallies.{flagged};
-ghost use Rattle.ob_shell.specs.Tracing.{Traced};
-ghost use Rattle.ob_shell.specs.Endings;
 ghost use Rattle.ob_shell.specs.Top.{EndingCause, RanAfter, Reported, Shown, sink_of};
-ghost use Rattle.ob_shell.specs.Words.{SinksRose, faults_of, outside_of};
+ghost use Rattle.ob_shell.specs.Traces.{Traced};
+ghost use Rattle.ob_shell.specs.WordsRead.{AreWithin};
 
 use crate::feed::{Feed, Halt};
 use crate::generating::serve_generated;
@@ -28,6 +29,7 @@ use crate::words::{Words, WordsErr, read_meddle_words, read_words};
 use ob_base::Stop;
 use ob_exec::Engine;
 use ob_gen::Tally;
+use ob_headline::{Ending, Report};
 use ob_io::{Sink, Source};
 use ob_meddle::MeddledStore;
 use ob_print::{Line, stop_line, write_all};
@@ -35,24 +37,6 @@ use ob_seal::Keys;
 use ob_store::BlockStore;
 use ob_vault::{BaseRevs, Revisions};
 use std::alloc::Global;
-
-/// How a run ended.
-#[derive(Clone, Copy, Debug, PartialEq, Eq)]
-pub enum Ending {
-    /// The words are none that the program takes.
-    Usage,
-    /// The first line is no secret.
-    BadKey,
-    /// The input was read to its end, with a refusal or without, or a stop came.
-    Ran(Result<bool, Stop>),
-}
-
-/// What a run comes to: its exit status, and the greatest number of rows that were open at once.
-#[derive(Clone, Copy, Debug, PartialEq, Eq)]
-pub struct Report {
-    pub status: u8,
-    pub high: u64,
-}
 
 /// How a run ended, whether its last line may not be written any more, how many rows were open, and what was counted of
 /// the answers, where the input was read to its end.

@@ -1,10 +1,10 @@
 //! The accesses of a statement, a line each.
 ghost use Rattle.std.specs.Prelude.{◌≡◌, ◌<◌, ◌≤◌, [], drop, length, OnOk, IsErr};
 ghost use Rattle.std.specs.Io.KnownBytes.{Appends};
+ghost use Rattle.ob_headline.specs.Tracing.{traced};
 ghost use Rattle.ob_io.specs.Causes.{HasCause};
 ghost use Rattle.ob_print.specs.Cuts.{Cut};
 ghost use Rattle.ob_print.specs.Lines.{trace_text};
-ghost use Rattle.ob_shell.specs.Tracing.{traced};
 
 use ob_base::Failed;
 use ob_io::Sink;

@@ -1,21 +1,24 @@
 //! The words of the command line.
-ghost use Rattle.std.specs.Prelude.{◌≡◌, ◌≢◌, ◌≤◌, ◌^◌, map, Some, None, Err, IfOk, IfSome};
 ghost use Rattle.std.specs.Prelude.{option_map, string_bytes, true, false};
+ghost use Rattle.std.specs.Prelude.{◌≡◌, ◌≢◌, ◌≤◌, ◌^◌, map, Some, None, Err, IfOk, IfSome};
+ghost use Rattle.clap.specs.Words.{Text};
 ghost use Rattle.clap.specs.Words.{app_of, first_value, found_of, kind_of, rule_of};
 ghost use Rattle.clap.specs.declared.error.kind.ErrorKind.TheVariants.{OutOfMemory};
 ghost use Rattle.ob_base.specs.Plans.{MayPad};
+ghost use Rattle.ob_headline.specs.Settings.{ParsesAs, IsTaken, ParsesChanges, MeddleParses};
+ghost use Rattle.ob_headline.specs.Settings.{at_least, may_pad, number_in, pad_in, plan_in};
+ghost use Rattle.ob_headline.specs.Settings.{generated_by, seed_in, seed_of};
+ghost use Rattle.ob_headline.specs.Settings.{may_mark, settings_by, settings_in};
+ghost use Rattle.ob_headline.specs.Usage.{common, usage, meddle_usage, flag, valued, is_set, is_traced, changes_in};
+ghost use Rattle.ob_headline.specs.Usage.{default_store, is_kept, kept_usage, mark_of, store_of, value_of};
 ghost use Rattle.ob_meddle.specs.Changes.{number};
-ghost use Rattle.ob_shell.specs.Settings.{AreWithin, at_least, may_pad, number_in, pad_in, plan_in};
-ghost use Rattle.ob_shell.specs.Settings.{may_mark, settings_by, settings_in};
-ghost use Rattle.ob_shell.specs.Settings.{generated_by, seed_in, seed_of, words_by};
-ghost use Rattle.ob_shell.specs.Settings.{ParsesAs, IsTaken, ParsesChanges, MeddleParses};
-ghost use Rattle.clap.specs.Words.{Text};
-ghost use Rattle.ob_shell.specs.Usage.{common, usage, meddle_usage, flag, valued, is_set, is_traced, changes_in};
-ghost use Rattle.ob_shell.specs.Usage.{default_store, is_kept, kept_usage, mark_of, store_of, value_of};
+ghost use Rattle.ob_shell.specs.WordsRead.{AreWithin};
+ghost use Rattle.ob_shell.specs.WordsRead.{words_by};
 
 use clap::error::ErrorKind;
 use clap::{Arg, ArgAction, ArgMatches, Command, Error};
 use ob_base::{Config, NoMemory, Plan};
+use ob_headline::Seed;
 use ob_meddle::{ChangesErr, Meddle, parse_changes, parted};
 use std::alloc::{AllocError, Global};
 
@@ -33,13 +36,6 @@ const STORE: &str = "oblidb-store";
 pub enum WordsErr {
     Usage,
     NoMemory,
-}
-
-/// Which text is generated in place of the input: the number before its sequence, and the rows of its table, 1 to 4,096.
-#[derive(Clone, Copy, Debug, PartialEq, Eq)]
-pub struct Seed {
-    pub start: u64,
-    pub rows: u32,
 }
 
 /// What the words say: whether the accesses are traced, the settings of the run, and what is generated, if the input

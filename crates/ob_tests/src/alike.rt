@@ -1,15 +1,17 @@
 //! A caller outside: what follows for two sessions from what is promised of each.
 ghost use Rattle.std.specs.Prelude.{◌≡◌, ◌⊎◌, [], IsSome, None, false, map, string_bytes};
-ghost use Rattle.ob_shell.specs.Bases.{public_with};
-ghost use Rattle.ob_shell.specs.Failures.{failures};
+ghost use Rattle.ob_headline.specs.Bases.{public_with};
+ghost use Rattle.ob_headline.specs.Failures.{failures};
+ghost use Rattle.ob_headline.specs.Reruns.{Alike, EndsWell, ShellRun, any_counted};
+ghost use Rattle.ob_headline.specs.Settings.{settings_of};
+ghost use Rattle.ob_headline.specs.Usage.{usage};
+ghost use Rattle.ob_headline.specs.Words.{faults_of, outside_of};
+ghost use Rattle.ob_headline.specs.Statements.{statements};
 ghost use Rattle.ob_shell.specs.Generating.{asked_for};
-ghost use Rattle.ob_shell.specs.Reruns.{Alike, EndsWell, ShellRun, any_counted};
-ghost use Rattle.ob_shell.specs.Settings.{settings_of};
-ghost use Rattle.ob_shell.specs.Usage.{usage};
-ghost use Rattle.ob_shell.specs.Words.{faults_of, outside_of, statements};
 
+use ob_headline::{Report, padded_reruns_ask_the_same, reruns_ask_the_same};
 use ob_io::{Sink, Source};
-use ob_shell::{Report, padded_reruns_ask_the_same, reruns_ask_the_same, shell_top};
+use ob_shell::shell_top;
 use ob_store::BlockStore;
 use std::alloc::Global;
 
@@ -47,12 +49,12 @@ pub fn sessions_ask_the_same<I: Source, O: Sink, T: Sink, S: BlockStore>(
         (T.written trace_too.new) (S.state store_too.new)
         (faults_of (I.faults input_too.new) (O.faults out_too.new) (T.faults trace_too.new)))
         result.1)
-        × (EndsWell result.0.status (failures a.answers)
-        → EndsWell result.1.status (failures b.answers)
-        → (any_counted (statements a.spelt) ≡ false)
+        × (EndsWell result.0.status (failures a.story.answers)
+        → EndsWell result.1.status (failures b.story.answers)
+        → (any_counted (statements a.story.spelt) ≡ false)
         ⊎ IsSome (public_with (settings_of usage (map string_bytes words.now))).pad
         → Alike (public_with (settings_of usage (map string_bytes words.now))) 0
-        (statements a.spelt) (statements b.spelt)
+        (statements a.story.spelt) (statements b.story.spelt)
         → (S.state store.new).asked ≡ (S.state store_too.new).asked) }
 {
     reruns_ask_the_same();

@@ -1,7 +1,7 @@
 use Rattle.std.proofs.Common.{Err, Ok, inl, inr, refl, ◌∙◌}
 use Rattle.ob_base.specs.declared.refusal.Stop.TheVariants.{SinkFault}
+use Rattle.ob_headline.proofs.StopLemmas.{closing_stops}
 use Rattle.ob_shell.proofs.EngageLemmas.{closes_run, closing_after, not_plain}
-use Rattle.ob_shell.proofs.KeptLemmas.{closing_stops}
 use Rattle.ob_shell.proofs.keeping.close_run.Goals as goal
 
 pub trace_from-requires-in-Ok : goal.trace_from-requires-in-Ok

@@ -2,11 +2,11 @@ use Rattle.std.proofs.Common.{◌≡◌, ◌∙◌, Ok, refl, sym, ap, subst, ar
 use Rattle.std.proofs.lemmas.Bool.Decides.{nat_tests}
 use Rattle.ob_base.specs.declared.mark.Mark.{Mark}
 use Rattle.ob_base.specs.declared.mark.Mark.TheVariants.{Fresh, Closed}
+use Rattle.ob_headline.specs.Keeping.{EndsFrom, closing_named}
 use Rattle.ob_reopen.specs.Keepers.{IsMark}
 use Rattle.ob_reopen.specs.Limits.{IsMarked}
 use Rattle.ob_reopen.specs.declared.closing.Closing.{Closing}
 use Rattle.ob_seal.specs.Sealed.{keys_of}
-use Rattle.ob_shell.specs.Keeping.{EndsFrom, closing_named}
 use Rattle.ob_shell.proofs.EngageLemmas.{engages_first, engages_opened, not_reopened, opens_closing, packs}
 use Rattle.ob_shell.proofs.keeping.find_engine.Goals as goal
 

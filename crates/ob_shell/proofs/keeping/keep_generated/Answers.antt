@@ -1,8 +1,8 @@
 use Rattle.std.proofs.Common.{Some, None, subst}
 use Rattle.ob_gen.specs.Generated.{GeneratedState}
-use Rattle.ob_shell.specs.Engaging.{RanKept}
-use Rattle.ob_shell.specs.Words.{faults_of, outside_of}
+use Rattle.ob_headline.specs.Words.{faults_of, outside_of}
 use Rattle.ob_shell.proofs.keeping.keep_generated.Goals as goal
+use Rattle.ob_shell.specs.Engaging.{RanKept}
 
 pub returns : goal.returns
 returns g c =

@@ -1,6 +1,6 @@
-use Rattle.std.proofs.Common.{Some, None, Err, map, refl, sym, ◌∙◌, ap}
 use Rattle.std.specs.Prelude.{string_bytes}
-use Rattle.ob_shell.specs.Usage.{kept_usage}
+use Rattle.std.proofs.Common.{Some, None, Err, map, refl, sym, ◌∙◌, ap}
+use Rattle.ob_headline.specs.Usage.{kept_usage}
 use Rattle.ob_shell.proofs.CloseLemmas.{reported_taken}
 use Rattle.ob_shell.proofs.GeneratingLemmas.{asked_is, summarized}
 use Rattle.ob_shell.proofs.HeadLemmas.{headlined}

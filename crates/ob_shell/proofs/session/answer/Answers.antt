@@ -1,7 +1,7 @@
 use Rattle.std.proofs.Common.{refl, inr, ◌∙◌, ◌++◌, arith}
 use Rattle.std.proofs.KnownBytes.{Appends-trans}
+use Rattle.ob_headline.specs.Closing.{closing_line}
 use Rattle.ob_print.proofs.CutLemmas.{Cut-after, Cut-fault}
-use Rattle.ob_shell.specs.Closing.{closing_line}
 use Rattle.ob_shell.proofs.CountLemmas.{rises_earlier}
 use Rattle.ob_shell.proofs.StepLemmas.{answers_one}
 use Rattle.ob_shell.proofs.session.answer.Goals as goal

@@ -1,5 +1,5 @@
 use Rattle.std.proofs.Common.{◌≡◌, ℕ, Bool, false, List, [], ◌∷◌, if◌then◌else◌, ap}
-use Rattle.ob_shell.specs.Texts.{tail_text, has_words, reading_of}
+use Rattle.ob_headline.specs.Texts.{tail_text, has_words, reading_of}
 use Rattle.ob_shell.proofs.StepLemmas.{answers_none}
 use Rattle.ob_shell.proofs.TraceLemmas.{traced_none}
 use Rattle.ob_shell.proofs.session.finish.Goals as goal

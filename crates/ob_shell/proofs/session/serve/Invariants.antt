@@ -1,10 +1,10 @@
 use Rattle.std.proofs.Common.{◌≡◌, ◌<◌, ◌+◌, ◌-◌, length}
-use Rattle.ob_shell.specs.Feeding.{IsFedBy}
-use Rattle.ob_shell.specs.Texts.{text_max}
-use Rattle.ob_shell.specs.Steps.{machine_of, IsReady}
-use Rattle.ob_shell.specs.Running.{SoFar}
-use Rattle.ob_shell.specs.Tracing.{TracedAll}
+use Rattle.ob_headline.specs.Texts.{text_max}
 use Rattle.ob_shell.proofs.session.serve.Given as goal
+use Rattle.ob_shell.specs.Feeding.{IsFedBy}
+use Rattle.ob_shell.specs.Running.{SoFar}
+use Rattle.ob_shell.specs.Steps.{machine_of, IsReady}
+use Rattle.ob_shell.specs.Traces.{TracedAll}
 
 abbrev pub invariant-bytes : goal.invariant-bytes
 invariant-bytes g l =

@@ -1,6 +1,6 @@
-use Rattle.std.proofs.Common.{Some, None, map}
 use Rattle.std.specs.Prelude.{string_bytes}
-use Rattle.ob_shell.specs.Usage.{meddle_usage}
+use Rattle.std.proofs.Common.{Some, None, map}
+use Rattle.ob_headline.specs.Usage.{meddle_usage}
 use Rattle.ob_shell.proofs.GeneratingLemmas.{asked_is}
 use Rattle.ob_shell.proofs.MeddleLemmas.{meddle_ran, meddle_summarized, meddled}
 use Rattle.ob_shell.proofs.top.meddle_top.Goals as goal

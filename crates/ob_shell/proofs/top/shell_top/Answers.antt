@@ -1,9 +1,9 @@
-use Rattle.std.proofs.Common.{map, refl, Err, ap}
 use Rattle.std.specs.Prelude.{string_bytes}
+use Rattle.std.proofs.Common.{map, refl, Err, ap}
 use Rattle.ob_gen.specs.Tally.{empty_tally}
-use Rattle.ob_shell.specs.Usage.{usage}
-use Rattle.ob_shell.proofs.GeneratingLemmas.{seed_is, summarized, unread_summarized}
+use Rattle.ob_headline.specs.Usage.{usage}
 use Rattle.ob_shell.proofs.CloseLemmas.{reported_words, reported_taken}
+use Rattle.ob_shell.proofs.GeneratingLemmas.{seed_is, summarized, unread_summarized}
 use Rattle.ob_shell.proofs.HeadLemmas.{headlined}
 use Rattle.ob_shell.proofs.TraceLemmas.{traced_none, traced_whole}
 use Rattle.ob_shell.proofs.top.shell_top.Goals as goal

@@ -1,8 +1,8 @@
-use Rattle.std.proofs.Common.{ap, refl, sym, subst, ◌≡◌, ◌∙◌, [], map, Some, None, option_map}
 use Rattle.std.specs.Prelude.{string_bytes, IfOk}
+use Rattle.std.proofs.Common.{ap, refl, sym, subst, ◌≡◌, ◌∙◌, [], map, Some, None, option_map}
 use Rattle.clap.specs.Words.{App, HasKind, Kinds, Text, app_of, fault_of, is_simple_and_free}
-use Rattle.ob_shell.specs.Settings.{IsTaken}
-use Rattle.ob_shell.specs.Usage.{kept_usage, value_of}
+use Rattle.ob_headline.specs.Settings.{IsTaken}
+use Rattle.ob_headline.specs.Usage.{kept_usage, value_of}
 use Rattle.ob_shell.proofs.WordLemmas.{no_words, out_of_memory, spells_words, value_from, words_from}
 use Rattle.ob_shell.proofs.words.given.Goals as goal
 

@@ -1,7 +1,7 @@
-use Rattle.std.proofs.Common.{ap, codes, refl, subst, sym, ◌≡◌, ◌∙◌, [], map}
 use Rattle.std.specs.Prelude.{string_bytes}
+use Rattle.std.proofs.Common.{ap, codes, refl, subst, sym, ◌≡◌, ◌∙◌, [], map}
 use Rattle.clap.specs.Words.{App, HasKind, Kinds, app_of, fault_of, is_simple_and_free}
-use Rattle.ob_shell.specs.Usage.{is_set, kept_usage}
+use Rattle.ob_headline.specs.Usage.{is_set, kept_usage}
 use Rattle.ob_shell.proofs.WordLemmas.{no_words, out_of_memory, spells_words, value_from, words_from}
 use Rattle.ob_shell.proofs.words.read_kept_words.Goals as goal
 

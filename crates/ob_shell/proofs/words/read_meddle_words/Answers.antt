@@ -1,7 +1,7 @@
-use Rattle.std.proofs.Common.{ap, refl, codes, sym, ◌∙◌, map, Err}
 use Rattle.std.specs.Prelude.{string_bytes}
+use Rattle.std.proofs.Common.{ap, refl, codes, sym, ◌∙◌, map, Err}
 use Rattle.clap.specs.Words.{app_of}
-use Rattle.ob_shell.specs.Usage.{meddle_usage, changes_in}
+use Rattle.ob_headline.specs.Usage.{meddle_usage, changes_in}
 use Rattle.ob_shell.proofs.WordLemmas.{no_changes, no_meddling, spells_words, value_from, words_from}
 use Rattle.ob_shell.proofs.words.read_meddle_words.Goals as goal
 

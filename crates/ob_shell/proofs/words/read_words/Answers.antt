@@ -1,7 +1,7 @@
-use Rattle.std.proofs.Common.{refl, sym, ◌∙◌, map}
 use Rattle.std.specs.Prelude.{string_bytes}
+use Rattle.std.proofs.Common.{refl, sym, ◌∙◌, map}
 use Rattle.clap.specs.Words.{app_of}
-use Rattle.ob_shell.specs.Usage.{usage}
+use Rattle.ob_headline.specs.Usage.{usage}
 use Rattle.ob_shell.proofs.WordLemmas.{no_words, spells_words, words_from}
 use Rattle.ob_shell.proofs.words.read_words.Goals as goal
 

@@ -1,5 +1,5 @@
 use Rattle.std.proofs.Common.{refl, inl, inr}
-use Rattle.ob_shell.specs.Reruns.{shell_run}
+use Rattle.ob_headline.specs.Reruns.{shell_run}
 use Rattle.ob_tests.proofs.alike.sessions_ask_the_same.Goals as goal
 
 pub returns : goal.returns

@@ -1,0 +1,233 @@
+-- Sessions of the model that differ in the order of their tables, in where these lie, and in how many accesses were asked: they
+-- answer alike, as long as no statement comes too late.
+use Rattle.std.specs.Prelude.{is_some, if◌then◌else◌}
+use Rattle.std.proofs.Common.{◌≡◌, ◌<◌, ◌≤◌, ◌+◌, ◌^◌, ◌++◌, ℕ, false, List, [], ◌∷◌, length, map, Option, Some, None, Ok, Err, refl, sym, ◌∙◌, ap, subst, arith, length-append}
+use Rattle.std.proofs.lemmas.Bool.Decides.{nat_tests}
+use Rattle.std.specs.Option.{option_map_or, option_or}
+use Rattle.ob_base.specs.Labels.{column_label}
+use Rattle.ob_base.specs.Schemas.{Columns}
+use Rattle.ob_base.specs.Stored.{headings, headings_of}
+use Rattle.ob_base.specs.declared.config.Plan.{Plan}
+use Rattle.ob_base.specs.declared.config.Plan.TheVariants.{Small, Large, Continuous, Hash}
+use Rattle.ob_base.specs.declared.config.Public.{Public}
+use Rattle.ob_base.specs.declared.refusal.Refusal.{Refusal}
+use Rattle.ob_base.specs.declared.schema.Heading.{Heading}
+use Rattle.ob_base.specs.declared.seen.End.TheVariants.{Static}
+use Rattle.ob_base.specs.declared.seen.Seen.{Seen}
+use Rattle.ob_base.specs.declared.skeleton.Source.{Source}
+use Rattle.ob_base.specs.declared.skeleton.Source.TheVariants.{Table as OneTable, Join}
+use Rattle.ob_headline.proofs.InStep.{InStep, keeps_step}
+use Rattle.ob_headline.specs.Failures.{failures, outcome_failures}
+use Rattle.ob_headline.specs.Words.{Answer}
+use Rattle.ob_headline.specs.Accesses.{AreSeen}
+use Rattle.ob_headline.specs.Meaning.{AnswersFrom, AnswersAs, AnswersIn}
+use Rattle.ob_headline.specs.declared.ending.Ending.{Ending}
+use Rattle.ob_mean.specs.Prints.{is_join, item_label, label_at, labels_of}
+use Rattle.ob_mean.specs.Refusals.{early_refusal, limits_of}
+use Rattle.ob_mean.specs.Replay.{Broken, IsCutOff, Session, Spelt, after, after_all, head_of, rest_of, seen_now, seen_or_cut, served}
+use Rattle.ob_mean.specs.Settle.{settle, settled}
+use Rattle.ob_mean.specs.Step.{accepted_answer, answered, followed, refusal_of, select_condition}
+use Rattle.ob_mean.specs.Verdict.{Tables, database, ended, forced_refusal, is_late, last_refusal, plan_for, refusal, refusal_by, seen, seen_by, seen_started, seen_unpadded, seen_with, selected_places, source_slots, unpadded_refusal, verdict}
+use Rattle.ob_mean.specs.declared.answer.Answer.{Answer as Meaning}
+use Rattle.ob_row.specs.Slots.{Slots, selected}
+use Rattle.ob_row.specs.Truth.{is_true}
+use Rattle.ob_script.specs.Script.{script}
+use Rattle.ob_script.specs.Trace.{Served, next, trace}
+use Rattle.ob_sql.specs.declared.stmt.SelectRows.{SelectRows}
+use Rattle.ob_sql.specs.declared.stmt.Stmt.{Stmt}
+use Rattle.ob_sql.specs.declared.stmt.Stmt.TheVariants.{Create, Insert, Update, Delete, Drop as DropTable, SelectRows as RowsStmt, SelectTotals as TotalsStmt}
+use Rattle.ob_verdict.proofs.AlikeHeadings.{SameHeadings, columns_same, headings_same, source_same}
+use Rattle.ob_verdict.proofs.AlikeProof.{order_is_nothing}
+use Rattle.ob_verdict.specs.Alike.{ActsAlike, AreAlike}
+
+-- what is public but for the tables and the next region
+abbrev pub plain : Public → Public
+plain p = record p { tables = []; next_region = 0 }
+
+pub record SessionsAlike (s t : Session) : Type 0 where
+  pub settings : plain s.public ≡ plain t.public
+  pub tables : AreAlike s.tables t.tables
+  pub here : InStep s
+  pub there : InStep t
+
+-- ---- what the model takes of what is public
+module _ (p : Public) (ts : Tables) where
+  source_plain : (source : Source) → source_slots (plain p) source ts ≡ source_slots p source ts
+  source_plain (OneTable name) = refl
+  source_plain (Join a b on equals) = refl
+
+  places_plain : (q : SelectRows) → selected_places (plain p) q ts ≡ selected_places p q ts
+  places_plain q = ap (λ (slots : Slots). selected (is_true (select_condition q (headings ts))) slots) (source_plain q.source)
+
+  forced_plain : (plan : Option Plan) (places : List ℕ) → forced_refusal (plain p) plan places ≡ forced_refusal p plan places
+  forced_plain None places = refl
+  forced_plain (Some Small) places = refl
+  forced_plain (Some Large) places = refl
+  forced_plain (Some Continuous) places = refl
+  forced_plain (Some Hash) places = refl
+
+  unpadded_plain : (places : List ℕ) → unpadded_refusal (plain p) places ≡ unpadded_refusal p places
+  unpadded_plain [] = refl
+  unpadded_plain (i ∷ is) = forced_plain p.plan (i ∷ is)
+
+  refusal_plain : (pad : Option ℕ) (places : List ℕ) → refusal_by pad (plain p) places ≡ refusal_by pad p places
+  refusal_plain None places = unpadded_plain places
+  refusal_plain (Some pad) places = refl
+
+  last_plain : (stmt : Stmt) → last_refusal (plain p) ts stmt ≡ last_refusal p ts stmt
+  last_plain (Create table columns capacity) = refl
+  last_plain (Insert table columns values) = refl
+  last_plain (Update table sets cond) = refl
+  last_plain (Delete table cond) = refl
+  last_plain (DropTable table) = refl
+  last_plain (RowsStmt q) = ap (refusal_by p.pad (plain p)) (places_plain q) ∙ refusal_plain p.pad (selected_places p q ts)
+  last_plain (TotalsStmt q) = refl
+
+  with_plain : (plan : Plan) (places : List ℕ) → seen_with (plain p) plan places ≡ seen_with p plan places
+  with_plain Small places = refl
+  with_plain Large places = refl
+  with_plain Continuous places = refl
+  with_plain Hash places = refl
+
+  unpadded_seen_plain : (n : ℕ) (places : List ℕ) → seen_unpadded (plain p) n places ≡ seen_unpadded p n places
+  unpadded_seen_plain n [] = refl
+  unpadded_seen_plain n (i ∷ is) = with_plain (plan_for p n (i ∷ is)) (i ∷ is)
+
+  seen_plain : (pad : Option ℕ) (n : ℕ) (places : List ℕ) → seen_by pad (plain p) n places ≡ seen_by pad p n places
+  seen_plain None n places = unpadded_seen_plain n places
+  seen_plain (Some pad) n places = refl
+
+  started_plain : (stmt : Stmt) → seen_started (plain p) ts stmt ≡ seen_started p ts stmt
+  started_plain (Create table columns capacity) = refl
+  started_plain (Insert table columns values) = refl
+  started_plain (Update table sets cond) = refl
+  started_plain (Delete table cond) = refl
+  started_plain (DropTable table) = refl
+  started_plain (RowsStmt q) =
+      let slots = source_plain q.source in
+      let places = places_plain q in
+      (λ i. seen_by p.pad (plain p) (length (slots i)) (places i)) ∙ seen_plain p.pad (length (source_slots p q.source ts)) (selected_places p q ts)
+  started_plain (TotalsStmt q) = refl
+
+-- by settings that are the same, and neither late
+module _ (p q : Public) (settings : plain p ≡ plain q) (m n : ℕ) (late : is_late m ≡ is_late n) (ts : Tables) (stmt : Stmt) where
+  last_same : last_refusal p ts stmt ≡ last_refusal q ts stmt
+  last_same = sym (last_plain p ts stmt) ∙ ap (λ (r : Public). last_refusal r ts stmt) settings ∙ last_plain q ts stmt
+
+  started_same : seen_started p ts stmt ≡ seen_started q ts stmt
+  started_same = sym (started_plain p ts stmt) ∙ ap (λ (r : Public). seen_started r ts stmt) settings ∙ started_plain q ts stmt
+
+  limits_same : limits_of p ≡ limits_of q
+  limits_same = ap limits_of settings
+
+  refusal_same : refusal p m ts stmt ≡ refusal q n ts stmt
+  refusal_same = λ i. option_or (refusal_of (late i) (limits_same i) (database ts) stmt) (last_same i)
+
+  verdict_same : verdict p m ts stmt ≡ verdict q n ts stmt
+  verdict_same = ap (λ (o : Option Refusal). answered o (accepted_answer (database ts) stmt)) refusal_same
+
+  seen_same : seen p m ts stmt ≡ seen q n ts stmt
+  seen_same = λ i. if is_some (early_refusal (late i) (limits_same i) (headings ts) stmt) then ended Static else started_same i
+
+  settle_same : settle p m ts stmt ≡ settle q n ts stmt
+  settle_same = ap (λ (o : Option Refusal). followed o (settled ts stmt) ts) refusal_same
+
+-- ---- labels
+labels_same : (hs gs : List Heading) → SameHeadings hs gs → (stmt : Stmt) → labels_of stmt hs ≡ labels_of stmt gs
+labels_same hs gs same (Create table columns capacity) = refl
+labels_same hs gs same (Insert table columns values) = refl
+labels_same hs gs same (Update table sets cond) = refl
+labels_same hs gs same (Delete table cond) = refl
+labels_same hs gs same (DropTable table) = refl
+labels_same hs gs same (RowsStmt q) =
+    ap (λ (cs : Columns). option_map_or (map (label_at (is_join q.source) cs)) q.list (map (column_label (is_join q.source)) cs)) (source_same hs gs same q.source)
+labels_same hs gs same (TotalsStmt q) = ap (λ (cs : Columns). map (item_label cs) q.items) (columns_same hs gs same q.table)
+
+-- ---- one statement
+early : (m : ℕ) → m < 2 ^ 63 → is_late m ≡ false
+early m few = grind (arith, nat_tests)
+
+module _ (s t : Session) (alike : SessionsAlike s t) (few : s.asked < 2 ^ 63) (few_too : t.asked < 2 ^ 63) (stmt : Stmt) where
+  late : is_late s.asked ≡ is_late t.asked
+  late = early s.asked few ∙ sym (early t.asked few_too)
+
+  acts : ActsAlike t.public t.asked s.tables t.tables stmt
+  acts = order_is_nothing t.public t.asked s.tables t.tables stmt alike.tables
+
+  answer_alike : verdict s.public s.asked s.tables stmt ≡ verdict t.public t.asked t.tables stmt
+  answer_alike = verdict_same s.public t.public alike.settings s.asked t.asked late s.tables stmt ∙ acts.answer
+
+  shows_alike : seen_now s stmt ≡ seen_now t stmt
+  shows_alike = seen_same s.public t.public alike.settings s.asked t.asked late s.tables stmt ∙ acts.shows
+
+  labels_alike : labels_of stmt (headings_of s.public.tables) ≡ labels_of stmt (headings_of t.public.tables)
+  labels_alike =
+      ap (labels_of stmt) (sym alike.here)
+      ∙ labels_same (headings s.tables) (headings t.tables) (headings_same s.tables t.tables alike.tables.count alike.tables.found) stmt
+      ∙ ap (labels_of stmt) alike.there
+
+  answers_alike : (one : Answer) → AnswersIn None s stmt one → AnswersIn None t stmt one
+  answers_alike one told =
+      subst (λ (labels : List (List ℕ)). AnswersAs labels stmt (verdict t.public t.asked t.tables stmt) one) labels_alike
+      (subst (λ (meaning : Meaning). AnswersAs (labels_of stmt (headings_of s.public.tables)) stmt meaning one) answer_alike told)
+
+  after_alike : SessionsAlike (after None s stmt) (after None t stmt)
+  after_alike = record {
+    settings = alike.settings;
+    tables =
+        subst (λ (ts : Tables). AreAlike ts (settle t.public t.asked t.tables stmt)) (sym (settle_same s.public t.public alike.settings s.asked t.asked late s.tables stmt)) acts.after;
+    here = keeps_step s stmt alike.here alike.tables.apart;
+    there = keeps_step t stmt alike.there alike.tables.too;
+  }
+
+-- ---- many texts
+pub grows : (s : Session) (spelt : List Spelt) (broken : Broken) → s.asked ≤ (after_all s spelt broken).asked
+grows s [] broken = omega arith
+grows s (Ok stmt ∷ spelt) broken = let more = grows (after (head_of broken) s stmt) spelt (rest_of broken) in omega (arith, more)
+grows s (Err at ∷ spelt) broken = grows s spelt (rest_of broken)
+
+pub keeps_plain : (s : Session) (spelt : List Spelt) (broken : Broken) → plain (after_all s spelt broken).public ≡ plain s.public
+keeps_plain s [] broken = refl
+keeps_plain s (Ok stmt ∷ spelt) broken = keeps_plain (after (head_of broken) s stmt) spelt (rest_of broken)
+keeps_plain s (Err at ∷ spelt) broken = keeps_plain s spelt (rest_of broken)
+
+-- a statement that is answered otherwise than that the store failed was not cut off
+uncut : (broken : Option ℕ) (s : Session) (stmt : Stmt) (one : Answer) → outcome_failures one.outcome ≡ 0 → AnswersIn broken s stmt one → broken ≡ None
+uncut None s stmt one none told = refl
+uncut (Some n) s stmt one none told = let failed = ap outcome_failures told.outcome in absurd (omega (arith, failed, none))
+
+-- these texts, each of which was answered and none by the store's fault, are answered alike, and so are more behind them
+pub answers_on : (Leaves : Public → Stmt → Seen → Type 0) (e f : Ending) (spelt : List Spelt) (s t : Session) (broken : Broken) (answers : List Answer) (seen : List Served) (part : List ℕ) (more : List Spelt) (others : List Answer) (behind : List Served)
+    → SessionsAlike s t → length answers ≡ length spelt → failures answers ≡ 0 → AnswersFrom e s spelt broken answers seen part → AreSeen Leaves s.public s.asked spelt answers seen
+    → s.asked + length (trace s.public seen) < 2 ^ 63 → (after_all t (spelt ++ more) []).asked < 2 ^ 63
+    → (SessionsAlike (after_all s spelt broken) (after_all t spelt []) → (after_all (after_all t spelt []) more []).asked < 2 ^ 63 → AnswersFrom f (after_all t spelt []) more [] others behind [])
+    → AnswersFrom f t (spelt ++ more) [] (answers ++ others) (seen ++ behind) []
+unfolding AnswersFrom AreSeen failures
+answers_on Leaves e f [] s t broken answers seen part more others behind alike each none told lawful few few_too follows =
+    subst (λ (a : List Answer). AnswersFrom f t more [] (a ++ others) (seen ++ behind) []) (sym told.0)
+    (subst (λ (x : List Served). AnswersFrom f t more [] ([] ++ others) (x ++ behind) []) (sym lawful) (follows alike few_too))
+answers_on Leaves e f (x ∷ spelt) s t broken [] seen part more others behind alike each none told lawful few few_too follows = absurd (omega (arith, each))
+answers_on Leaves e f (Err at ∷ spelt) s t broken (one ∷ answers) seen part more others behind alike each none told lawful few few_too follows =
+    (told.0, answers_on Leaves e f spelt s t (rest_of broken) answers seen part more others behind alike (omega (arith, each)) (omega (arith, none)) told.1 lawful.1 few few_too follows)
+answers_on Leaves e f (Ok stmt ∷ spelt) s t broken (one ∷ answers) [] part more others behind alike each none told lawful few few_too follows = absurd told
+answers_on Leaves e f (Ok stmt ∷ spelt) s t broken (one ∷ answers) (x ∷ seen) part more others behind alike each none told lawful few few_too follows =
+    let whole = uncut (head_of broken) s stmt one (omega (arith, none)) told.1 in
+    let here = subst (λ (o : Option ℕ). IsCutOff o s stmt × AnswersIn o s stmt one × (x.seen ≡ seen_or_cut o s stmt) × AnswersFrom e (after o s stmt) spelt (rest_of broken) answers seen part) whole told in
+    let entry : x ≡ served None s stmt = λ i. record { skeleton = lawful.0 i; seen = here.2 i } in
+    let long = length-append (script s.public x.skeleton x.seen) (trace (next s.public x.skeleton x.seen) seen) in
+    let soon : s.asked < 2 ^ 63 = omega (arith, few) in
+    let grown = grows (after None t stmt) (spelt ++ more) [] in
+    let soon_too : t.asked < 2 ^ 63 = omega (arith, few_too, grown) in
+    let few_all : s.asked + length (script s.public x.skeleton x.seen ++ trace (next s.public x.skeleton x.seen) seen) < 2 ^ 63 = few in
+    let rest : s.asked + length (script s.public x.skeleton x.seen) + length (trace (next s.public x.skeleton x.seen) seen) < 2 ^ 63 = omega (arith, few_all, long) in (
+      tt,
+      answers_alike s t alike soon soon_too stmt one here.1,
+      here.2 ∙ shows_alike s t alike soon soon_too stmt,
+      answers_on Leaves e f spelt (after None s stmt) (after None t stmt) (rest_of broken) answers seen part more others behind
+          (after_alike s t alike soon soon_too stmt) (omega (arith, each)) (omega (arith, none)) here.3
+          (subst (λ (y : Served). AreSeen Leaves (next s.public y.skeleton y.seen) (s.asked + length (script s.public y.skeleton y.seen)) spelt answers seen) entry lawful.3)
+          (subst (λ (y : Served). s.asked + length (script s.public y.skeleton y.seen) + length (trace (next s.public y.skeleton y.seen) seen) < 2 ^ 63) entry rest)
+          few_too
+          (subst (λ (o : Option ℕ). SessionsAlike (after_all (after o s stmt) spelt (rest_of broken)) (after_all (after None t stmt) spelt [])
+          → (after_all (after_all (after None t stmt) spelt []) more []).asked < 2 ^ 63 → AnswersFrom f (after_all (after None t stmt) spelt []) more [] others behind []) whole follows),
+    )

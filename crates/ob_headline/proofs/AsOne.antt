@@ -1,0 +1,282 @@
+-- Runs whose tables are kept answer as one run does over all their texts.
+use Rattle.std.specs.Prelude.{MatchBool, ⊤, if◌then◌else◌}
+use Rattle.std.proofs.Common.{◌≡◌, ◌<◌, ◌≤◌, ◌+◌, ◌^◌, ◌++◌, ℕ, Bool, true, false, IsTrue, List, [], ◌∷◌, length, Option, Some, None, Result, Ok, Err, inl, inr, refl, sym, ◌∙◌, ap, subst, arith}
+use Rattle.clap.specs.Words.{Text}
+use Rattle.ob_base.specs.Stored.{headings_of}
+use Rattle.ob_base.specs.declared.config.Config.{Config}
+use Rattle.ob_base.specs.declared.mark.Mark.{Mark}
+use Rattle.ob_base.specs.declared.mark.Mark.TheVariants.{Fresh, InUse, Closed}
+use Rattle.ob_base.specs.declared.refusal.Stop.TheVariants as Stops
+use Rattle.ob_exec.proofs.ByNameAlike.{named_alike}
+use Rattle.ob_exec.specs.Closing.{is_used_up}
+use Rattle.ob_exec.specs.Resting.{Rests, by_name}
+use Rattle.ob_headline.proofs.AlikeSessions.{SessionsAlike, answers_on, keeps_plain, plain}
+use Rattle.ob_headline.proofs.InStep.{InStep}
+use Rattle.ob_headline.proofs.MarkLemmas.{marks_held}
+use Rattle.ob_headline.proofs.RerunLemmas.{answered_all}
+use Rattle.ob_headline.proofs.StopLemmas.{begun_stops, closing_stops}
+use Rattle.ob_headline.specs.Bases.{Base, FromEach, Opened, fresh, public_with, reopened, session_at, start}
+use Rattle.ob_headline.specs.Endings.{status_of}
+use Rattle.ob_headline.specs.Failures.{failures}
+use Rattle.ob_headline.specs.Keeping.{BeginsFrom, EndsWith, closing_named, kept_status}
+use Rattle.ob_headline.specs.KeptHeadline.{ClosesTables, EndsBehind, EndsUnkeyed, IsClosed, RunKept, SessionKept, begun_at}
+use Rattle.ob_headline.specs.KeptMarks.{HeldAfter, mark_made}
+use Rattle.ob_headline.specs.KeptRuns.{AnswerAsOne, GoOn, OneRun, all_answers, all_seen, all_spelt, count_in, secret_in, seen_in, spelt_in}
+use Rattle.ob_headline.specs.Settings.{IsTaken, settings_of}
+use Rattle.ob_headline.specs.Usage.{is_traced, kept_usage}
+use Rattle.ob_headline.specs.Words.{Answer, Outside, any_refused}
+use Rattle.ob_headline.specs.Meaning.{AnswersFrom}
+use Rattle.ob_headline.specs.declared.ending.Ending.{Ending}
+use Rattle.ob_headline.specs.declared.ending.Ending.TheVariants.{Usage, BadKey, Ran}
+use Rattle.ob_headline.specs.declared.ending.KeptEnding.{KeptEnding}
+use Rattle.ob_headline.specs.declared.ending.KeptEnding.TheVariants.{Plain, OtherPack, NotClosed as LeftOpen, KeeperFault, StoreFault}
+use Rattle.ob_headline.specs.declared.ending.Report.{Report}
+use Rattle.ob_mean.specs.Replay.{Broken, Session, Spelt, after_all}
+use Rattle.ob_mean.specs.Verdict.{Tables}
+use Rattle.ob_reopen.specs.Closings.{mark_of}
+use Rattle.ob_reopen.specs.Keepers.{KeeperState}
+use Rattle.ob_reopen.specs.declared.closing.Closing.{Closing}
+use Rattle.ob_reopen.specs.declared.fault.CloseErr.{CloseErr}
+use Rattle.ob_script.specs.Trace.{Served, trace}
+use Rattle.ob_seal.specs.KeySet.{KeySet}
+use Rattle.ob_seal.specs.Sealed.{keys_of}
+use Rattle.ob_store.specs.State.{KeptRegion, Lie, StoreState}
+use Rattle.ob_verdict.proofs.AlikeTables.{alike_chained, alike_turned}
+use Rattle.ob_verdict.specs.Alike.{AreAlike}
+use Rattle.ob_headline.specs.Story.{Story}
+
+-- ---- a run that came to its end
+-- by its status
+well_ended : (ending : KeptEnding) → kept_status ending ≤ 1 → (refused : Bool) × (ending ≡ Plain (Ran (Ok refused)))
+well_ended (Plain Usage) few = absurd (omega (arith, few))
+well_ended (Plain BadKey) few = absurd (omega (arith, few))
+well_ended (Plain (Ran (Ok refused))) few = (refused, refl)
+well_ended (Plain (Ran (Err (Stops.Tampered region place)))) few = absurd (omega (arith, few))
+well_ended (Plain (Ran (Err Stops.SourceFault))) few = absurd (omega (arith, few))
+well_ended (Plain (Ran (Err Stops.SinkFault))) few = absurd (omega (arith, few))
+well_ended (Plain (Ran (Err Stops.NoMemory))) few = absurd (omega (arith, few))
+well_ended (Plain (Ran (Err Stops.InputLimit))) few = absurd (omega (arith, few))
+well_ended OtherPack few = absurd (omega (arith, few))
+well_ended StoreFault few = absurd (omega (arith, few))
+well_ended LeftOpen few = absurd (omega (arith, few))
+well_ended KeeperFault few = absurd (omega (arith, few))
+
+few_status : (refused : Bool) → status_of (Ran (Ok refused)) ≤ 1
+few_status true = omega arith
+few_status false = omega arith
+
+unkeyed_stops : (ending : Ending) (taken : List ℕ) (kept : KeptEnding) (refused : Bool) → kept ≡ Plain ending → EndsUnkeyed ending taken → kept ≡ Plain (Ran (Ok refused)) → ⊥
+unkeyed_stops Usage taken kept refused is ends well = cc (is, well)
+unkeyed_stops BadKey taken kept refused is ends well = cc (is, well)
+unkeyed_stops (Ran (Ok other)) taken kept refused is ends well = absurd ends
+unkeyed_stops (Ran (Err stop)) taken kept refused is ends well = cc (is, well)
+
+-- a session went on
+has_session : {settings : Option Config} {Takes : Type 0} {tracing : Bool} {old new : Outside} {k0 k1 : KeeperState} {ending : KeptEnding} {answers : List Answer} {report : Report}
+    (ran : RunKept settings Takes tracing old new k0 k1 ending answers report) (refused : Bool) → ending ≡ Plain (Ran (Ok refused))
+    → (run : SessionKept settings Takes tracing old new k0 k1 ending answers report) × (ran ≡ inr (inr run))
+has_session (inl run) refused well = absurd (unkeyed_stops run.headline.ending run.headline.taken _ refused run.is run.ends well)
+has_session (inr (inl run)) refused well = absurd (begun_stops run.config (keys_of run.secret) _ _ _ _ _ _ _ refused run.begun well)
+has_session (inr (inr run)) refused well = (run, refl)
+
+-- which came to its end, too, and whose tables were closed
+comes_to_end : (ended : Ending) (base : Base) (keys : KeySet) (tracing : Bool) (story : Story) (begun served new : Outside) (run report : Report) (k0 k1 : KeeperState)
+    (ending : KeptEnding) (refused : Bool) → EndsBehind ended base keys tracing story begun served new run report k0 k1 ending → ending ≡ Plain (Ran (Ok refused))
+    → (other : Bool) × (ended ≡ Ran (Ok other)) × IsClosed base keys tracing other story begun served new k0 k1 ending
+comes_to_end Usage base keys tracing story begun served new run report k0 k1 ending refused behind well = absurd behind
+comes_to_end BadKey base keys tracing story begun served new run report k0 k1 ending refused behind well = absurd behind
+comes_to_end (Ran (Ok other)) base keys tracing story begun served new run report k0 k1 ending refused behind well = (other, refl, behind)
+comes_to_end (Ran (Err stop)) base keys tracing story begun served new run report k0 k1 ending refused behind well = absurd (cc (behind.is, well))
+
+closed_well : (result : Result Mark CloseErr) (whole ending : KeptEnding) (f0 f1 : ℕ) (k0 k1 : KeeperState) (refused : Bool) → EndsWith result whole ending f0 f1 k0 k1 → ending ≡ Plain (Ran (Ok refused)) → (mark : Mark) × (result ≡ Ok mark)
+closed_well (Ok mark) whole ending f0 f1 k0 k1 refused ends well = (mark, refl)
+closed_well (Err error) whole ending f0 f1 k0 k1 refused ends well = absurd (closing_stops error refused (sym ends.0 ∙ well))
+
+-- a lie stays
+unlied : (old new : Option Lie) → ((lie : Lie) → old ≡ Some lie → new ≡ Some lie) → new ≡ None → old ≡ None
+unlied None new stays none = refl
+unlied (Some lie) new stays none = absurd (cc (stays lie refl, none))
+
+-- ---- where a run begins
+-- what rests at a mark are these tables, in whichever order
+abbrev WaitsAt : (secret : List ℕ) → Mark → (kept : ℕ → Option KeptRegion) → Tables → Type 0
+WaitsAt secret Fresh kept ts = AreAlike [] ts
+WaitsAt secret InUse kept ts = ⊤
+WaitsAt secret (Closed region blocks number pack) kept ts =
+    (tables : Tables) × Rests (keys_of secret) (closing_named region blocks number pack) kept tables × AreAlike tables ts
+
+-- and what is public of a session with them has these settings
+record Waits (words : List Text) (secret : List ℕ) (held : Option Mark) (kept : ℕ → Option KeptRegion) (t : Session) : Type 0 where
+  mark : Mark
+  is : held ≡ Some mark
+  settings : plain t.public ≡ plain (public_with (settings_of kept_usage words))
+  step : InStep t
+  at : WaitsAt secret mark kept t.tables
+
+-- a session of the model that the run goes on from
+record Begins (base : Base) (t : Session) : Type 1 where
+  tables : Tables
+  alike : SessionsAlike (session_at base tables) t
+  from : (P : Session → Type 0) → FromEach base P → P (session_at base tables)
+
+begins_at : (mark : Mark) (settings : Option Config) (config : Config) (secret : List ℕ) (base : Base) (old new : StoreState) (t : Session) → settings ≡ Some config → BeginsFrom mark config (keys_of secret) base old new
+    → WaitsAt secret mark old.kept t.tables → plain t.public ≡ plain (public_with settings) → InStep t → IsTrue old.tells → new.lie ≡ None → Begins base t
+begins_at Fresh settings config secret base old new t set begins waits same step tells honest =
+    let is : base ≡ fresh (Some config) = begins.0 in
+    record {
+      tables = [];
+      alike = record {
+        settings = ap (λ (b : Base). plain b.public) is ∙ sym (ap (λ (o : Option Config). plain (public_with o)) set) ∙ sym same;
+        tables = waits;
+        here = ap (λ (b : Base). headings_of b.public.tables) (sym is);
+        there = step;
+      };
+      from = λ P. subst (λ (b : Base). FromEach b P → P (session_at b [])) (sym is) (λ each. each);
+    }
+begins_at InUse settings config secret base old new t set begins waits same step tells honest = absurd begins
+begins_at (Closed region blocks number pack) settings config secret base old new t set begins waits same step tells honest =
+    let closing = closing_named region blocks number pack in
+    let o : Opened = record { keys = keys_of secret; closing = closing; listed = begins.1.listed; old = old; new = new } in
+    let is : base ≡ reopened config o = begins.1.is in
+    let tables = waits.0 in
+    record {
+      tables = tables;
+      alike = record {
+        settings = ap (λ (b : Base). plain b.public) is ∙ sym (ap (λ (o : Option Config). plain (public_with o)) set) ∙ sym same;
+        tables = waits.2;
+        here = begins.1.told tells honest tables waits.1;
+        there = step;
+      };
+      from = λ P. subst (λ (b : Base). FromEach b P → P (session_at b tables)) (sym is) (λ each. each tables (record { tells = tells; honest = honest; rests = waits.1 }));
+    }
+
+tells_on : (mark : Mark) (config : Config) (keys : KeySet) (base : Base) (old new : StoreState) → BeginsFrom mark config keys base old new → IsTrue old.tells → IsTrue new.tells
+tells_on Fresh config keys base old new begins tells = subst (λ (s : StoreState). IsTrue s.tells) (sym begins.1) tells
+tells_on InUse config keys base old new begins tells = absurd begins
+tells_on (Closed region blocks number pack) config keys base old new begins tells = subst (λ (b : Bool). IsTrue b) (sym begins.1.tells) tells
+
+-- ---- one run, and those behind it
+module _ (words : List Text) (secret : List ℕ) (f : Ending) (one : OneRun words) (run : SessionKept (settings_of kept_usage words) (IsTaken kept_usage words) (is_traced kept_usage words) one.old one.new one.keeper0 one.keeper1 one.run.ending one.run.answers one.report)
+    (came : one.run.ran ≡ inr (inr run)) (refused : Bool) (well : one.run.ending ≡ Plain (Ran (Ok refused))) (keyed : run.secret ≡ secret) (none : failures one.run.answers ≡ 0) (tells : IsTrue one.old.store.tells)
+    (honest : one.new.store.lie ≡ None) (soon : run.base.count + length (trace run.base.public (run.session.story.seen ++ run.session.story.last)) < 2 ^ 63)
+    (held : Option Mark) (same_mark : one.keeper0.held ≡ held) (t : Session) (waits : Waits words secret held one.old.store.kept t) where
+  abbrev s0 : StoreState
+  s0 = one.old.store
+
+  closed : (other : Bool) × (run.session.ending ≡ Ran (Ok other))
+      × IsClosed run.base (keys_of run.secret) (is_traced kept_usage words) other run.session.story (begun_at one.old run.opened run.traced) run.served one.new run.in_use one.keeper1 one.run.ending
+  closed = comes_to_end run.session.ending run.base _ _ run.session.story _ run.served one.new run.run one.report run.in_use one.keeper1 one.run.ending refused run.behind well
+
+  abbrev tables : ClosesTables run.base (keys_of run.secret) (is_traced kept_usage words) closed.0 run.session.story
+      run.opened run.served.store one.new.store run.served.traced one.new.traced run.served.faults.trace one.new.faults.trace run.in_use one.keeper1 one.run.ending
+  tables = closed.2.tables
+
+  -- the store told the truth until then
+  honest_served : run.served.store.lie ≡ None
+  honest_served = unlied run.served.store.lie one.new.store.lie tables.later.lie honest
+
+  honest_opened : run.opened.lie ≡ None
+  honest_opened = unlied run.opened.lie run.served.store.lie run.session.answers.later.lie honest_served
+
+  -- the mark that was read is the one that was held
+  mark_read : run.began.mark ≡ waits.mark
+  mark_read = run.began.gives.told waits.mark (same_mark ∙ waits.is)
+
+  begins : Begins run.base t
+  begins =
+      begins_at run.began.mark (settings_of kept_usage words) run.config run.secret run.base s0 run.opened t run.set run.began.begins
+      (subst (λ (x : List ℕ). WaitsAt x run.began.mark s0.kept t.tables) (sym keyed) (subst (λ (m : Mark). WaitsAt secret m s0.kept t.tables) (sym mark_read) waits.at))
+      waits.settings waits.step tells honest_opened
+
+  tells_opened : IsTrue run.opened.tells
+  tells_opened = tells_on run.began.mark run.config (keys_of run.secret) run.base s0 run.opened run.began.begins tells
+
+  abbrev s : Session
+  s = session_at run.base begins.tables
+
+  abbrev all : List Served
+  all = run.session.story.seen ++ run.session.story.last
+
+  -- what it answered, and what rests behind it where a closing could be made
+  abbrev Leaves : (used : Bool) → Broken → Type 0
+  Leaves used broken = MatchBool used ⊤ (Rests (keys_of run.secret) tables.closing one.new.store.kept (by_name (after_all s run.session.story.spelt broken).tables))
+
+  answered : (used : Bool) → is_used_up tables.closing ≡ used → (broken : Broken) × AnswersFrom (Ran (Ok closed.0)) s run.session.story.spelt broken run.session.story.answers all run.session.story.part × Leaves used broken
+  answered true is =
+      let meant = begins.from (λ (u : Session). (broken : Broken) × AnswersFrom run.session.ending u run.session.story.spelt broken run.session.story.answers all run.session.story.part) (run.session.answers.meant (record { tells = tells_opened; unfit = λ lie told. absurd (cc (told, honest_served)) })) in
+      (meant.0, subst (λ (e : Ending). AnswersFrom e s run.session.story.spelt meant.0 run.session.story.answers all run.session.story.part) closed.1 meant.1, tt)
+  answered false is =
+      let made = closed_well tables.closes.result _ one.run.ending _ _ run.in_use one.keeper1 refused tables.closes.ends well in
+      begins.from (λ (u : Session). (broken : Broken) × AnswersFrom (Ran (Ok closed.0)) u run.session.story.spelt broken run.session.story.answers all run.session.story.part
+      × Rests (keys_of run.secret) tables.closing one.new.store.kept (by_name (after_all u run.session.story.spelt broken).tables)) (tables.rests (record { tells = tells_opened; no_lie = honest }) is made.0 made.1)
+
+  -- what the keeper holds
+  held_behind : one.keeper1.held ≡ Some (mark_made tables.closing)
+  held_behind =
+      let after : HeldAfter one.run.ran waits.mark = marks_held words one.old one.new one.keeper0 one.keeper1 one.report one.run waits.mark (same_mark ∙ waits.is) in
+      let behind = subst (λ (r : RunKept (settings_of kept_usage words) (IsTaken kept_usage words) (is_traced kept_usage words) one.old one.new one.keeper0 one.keeper1 one.run.ending one.run.answers one.report). HeldAfter r waits.mark) came after in
+      behind.whole refused well ∙ ap (λ (c : Closing). Some (mark_made c)) (sym tables.is)
+
+  waits_made : (used : Bool) (ts : Tables) → is_used_up tables.closing ≡ used → ((used ≡ false) → WaitsAt secret (mark_of tables.closing) one.new.store.kept ts) → WaitsAt secret (mark_made tables.closing) one.new.store.kept ts
+  waits_made true ts is rests = subst (λ (m : Mark). WaitsAt secret m one.new.store.kept ts) (sym (ap (λ (b : Bool). if b then InUse else mark_of tables.closing) is)) tt
+  waits_made false ts is rests = subst (λ (m : Mark). WaitsAt secret m one.new.store.kept ts) (sym (ap (λ (b : Bool). if b then InUse else mark_of tables.closing) is)) (rests refl)
+
+  waits_behind : (used : Bool) → is_used_up tables.closing ≡ used → (broken : Broken) → Leaves used broken → (u : Session) → u ≡ after_all t run.session.story.spelt [] → SessionsAlike (after_all s run.session.story.spelt broken) u
+      → Waits words secret one.keeper1.held one.new.store.kept u
+  waits_behind used is broken leaves u same alike = record {
+    mark = mark_made tables.closing;
+    is = held_behind;
+    settings = ap (λ (v : Session). plain v.public) same ∙ keeps_plain t run.session.story.spelt [] ∙ waits.settings;
+    step = alike.there;
+    at = waits_made used u.tables is (λ free.
+        let ts = (after_all s run.session.story.spelt broken).tables in
+        let rests = subst (λ (b : Bool). MatchBool b ⊤ (Rests (keys_of run.secret) tables.closing one.new.store.kept (by_name ts))) free leaves in (
+          by_name ts,
+          subst (λ (x : List ℕ). Rests (keys_of x) tables.closing one.new.store.kept (by_name ts)) keyed rests,
+          alike_chained (by_name ts) ts u.tables (alike_turned ts (by_name ts) (named_alike ts alike.tables.apart)) alike.tables,
+        ));
+  }
+
+  -- the rest follows from where it waits behind this run
+  one_of_all : (more : List Spelt) (others : List Answer) (behind : List Served) → (after_all t (run.session.story.spelt ++ more) []).asked < 2 ^ 63
+      → ((u : Session) → Waits words secret one.keeper1.held one.new.store.kept u → (after_all u more []).asked < 2 ^ 63 → AnswersFrom f u more [] others behind [])
+      → AnswersFrom f t (run.session.story.spelt ++ more) [] (one.run.answers ++ others) (all ++ behind) []
+  one_of_all more others behind few follows =
+      let used = is_used_up tables.closing in
+      let told = answered used refl in
+      let each = answered_all run.session (subst (λ (n : ℕ). n ≤ 1) (sym (run.session.status.status ∙ ap status_of closed.1)) (few_status closed.0)) in
+      let failed = subst (λ (a : List Answer). failures a ≡ 0) run.answered none in
+      let lawful = run.session.accesses.lawful in
+      subst (λ (a : List Answer). AnswersFrom f t (run.session.story.spelt ++ more) [] (a ++ others) (all ++ behind) []) (sym run.answered)
+      (answers_on _ (Ran (Ok closed.0)) f run.session.story.spelt s t told.0 run.session.story.answers all run.session.story.part more others behind begins.alike each failed told.1
+      lawful soon few
+      (λ alike enough. follows (after_all t run.session.story.spelt []) (waits_behind used refl told.0 told.2 (after_all t run.session.story.spelt []) refl alike) enough))
+
+-- ---- all of them
+all_as_one : (words : List Text) (secret : List ℕ) (f : Ending) (runs : List (OneRun words)) (held : Option Mark) (kept : ℕ → Option KeptRegion) (t : Session) → GoOn secret held kept runs → Waits words secret held kept t
+    → (after_all t (all_spelt runs) []).asked < 2 ^ 63 → AnswersFrom f t (all_spelt runs) [] (all_answers runs) (all_seen runs) []
+unfolding AnswersFrom
+all_as_one words secret f [] held kept t goes waits few = (refl, refl)
+all_as_one words secret f (one ∷ runs) held kept t goes waits few =
+    let good = goes.2 in
+    let ended = well_ended one.run.ending (subst (λ (n : ℕ). n ≤ 1) one.run.status good.well.ended) in
+    let found = has_session one.run.ran ended.0 ended.1 in
+    let run = found.0 in
+    let keyed : run.secret ≡ secret = cc (subst (λ (r : RunKept (settings_of kept_usage words) (IsTaken kept_usage words) (is_traced kept_usage words) one.old one.new one.keeper0 one.keeper1 one.run.ending one.run.answers one.report). secret_in r ≡ Some secret) found.1 good.keyed) in
+    let soon = subst (λ (r : RunKept (settings_of kept_usage words) (IsTaken kept_usage words) (is_traced kept_usage words) one.old one.new one.keeper0 one.keeper1 one.run.ending one.run.answers one.report). count_in r < 2 ^ 63) found.1 good.early in
+    let here = subst (λ (k : ℕ → Option KeptRegion). Waits words secret held k t) (sym (λ i q. goes.1 q i)) waits in
+    subst (λ (r : RunKept (settings_of kept_usage words) (IsTaken kept_usage words) (is_traced kept_usage words) one.old one.new one.keeper0 one.keeper1 one.run.ending one.run.answers one.report).
+    AnswersFrom f t (spelt_in r ++ all_spelt runs) [] (one.run.answers ++ all_answers runs) (seen_in r ++ all_seen runs) []) (sym found.1)
+    (one_of_all words secret f one run found.1 ended.0 ended.1 keyed good.well.none good.tells good.honest soon held goes.0 t here (all_spelt runs) (all_answers runs) (all_seen runs)
+    (subst (λ (r : RunKept (settings_of kept_usage words) (IsTaken kept_usage words) (is_traced kept_usage words) one.old one.new one.keeper0 one.keeper1 one.run.ending one.run.answers one.report).
+    (after_all t (spelt_in r ++ all_spelt runs) []).asked < 2 ^ 63) found.1 few)
+    (λ u later enough. all_as_one words secret f runs one.keeper1.held one.new.store.kept u goes.3 later enough))
+
+pub answer_as_one : (words : List Text) (secret : List ℕ) (kept : ℕ → Option KeptRegion) (runs : List (OneRun words)) → GoOn secret (Some Fresh) kept runs → AnswerAsOne runs
+answer_as_one words secret kept runs goes few =
+    all_as_one words secret (Ran (Ok (any_refused (all_answers runs)))) runs (Some Fresh) kept (start (settings_of kept_usage words)) goes
+    (record { mark = Fresh; is = refl; settings = refl; step = none_there (settings_of kept_usage words); at = record { count = refl; found = λ name. refl; apart = refl; too = refl } }) few
+  where
+    none_there : (settings : Option Config) → InStep (start settings)
+    none_there None = refl
+    none_there (Some config) = refl

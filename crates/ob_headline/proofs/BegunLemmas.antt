@@ -1,0 +1,79 @@
+-- What a run begins with, where its tables are kept, and what lies in the store once it ended.
+use Rattle.std.specs.Prelude.{if◌then◌else◌, ltb, slice_get}
+use Rattle.std.proofs.Common.{◌≡◌, ◌+◌, ◌<◌, ◌==◌, ◌&&◌, inl, inr, ℕ, suc, Bool, false, List, [], ◌∷◌, Option, Some, None, Ok, Err, refl, sym, ◌∙◌, ap, subst, arith}
+use Rattle.std.proofs.lemmas.Bool.Decides.{nat_tests}
+use Rattle.std.specs.Option.{option_map_or}
+use Rattle.ob_base.specs.declared.config.Config.{Config}
+use Rattle.ob_base.specs.declared.mark.Mark.{Mark}
+use Rattle.ob_base.specs.declared.mark.Mark.TheVariants.{Fresh, InUse, Closed}
+use Rattle.ob_exec.specs.Reopening.{number_given}
+use Rattle.ob_headline.proofs.LeftLemmas.{shows_all}
+use Rattle.ob_headline.specs.Bases.{Base, fresh}
+use Rattle.ob_headline.specs.Keeping.{BeginsFrom, closing_named}
+use Rattle.ob_headline.specs.KeptHeadline.{EndsBehind, PassesBoth, RunKept}
+use Rattle.ob_headline.specs.KeyLine.{first_line, secret_of}
+use Rattle.ob_headline.specs.Shown.{IsBegun, ShowsKept}
+use Rattle.ob_headline.specs.Words.{Answer, Outside, keys_in}
+use Rattle.ob_headline.specs.Sealing.{IsSealed, PassesHere, SealsOwn}
+use Rattle.ob_headline.specs.declared.ending.Ending.{Ending}
+use Rattle.ob_headline.specs.declared.ending.Ending.TheVariants.{Usage, BadKey, Ran}
+use Rattle.ob_headline.specs.declared.ending.KeptEnding.{KeptEnding}
+use Rattle.ob_headline.specs.declared.ending.Report.{Report}
+use Rattle.ob_reopen.specs.Keepers.{KeeperState}
+use Rattle.ob_reopen.specs.Limits.{blocks_of}
+use Rattle.ob_reopen.specs.declared.closing.Closing.{Closing}
+use Rattle.ob_reopen.specs.declared.listed.Listed.{Listed}
+use Rattle.ob_seal.specs.KeySet.{KeySet}
+use Rattle.ob_seal.specs.Sealed.{keys_of}
+use Rattle.ob_store.specs.State.{StoreState}
+use Rattle.ob_headline.specs.Story.{Story}
+
+-- ---- what a run begins with
+pub begun_fresh : (settings : Option Config) → IsBegun (fresh settings)
+begun_fresh None = record { next = refl; fresh = λ region place own. refl }
+begun_fresh (Some config) = record { next = refl; fresh = λ region place own. refl }
+
+other_region : (q r : ℕ) → r < q → (q == r) ≡ false
+other_region q r less = grind (arith, nat_tests)
+
+none_given : (closing : Closing) (listed : List Listed) → ((i : ℕ) (t : Listed) → slice_get listed i ≡ Some t → t.table.region < closing.region) → (q x : ℕ) → closing.region < q → number_given closing listed q x ≡ 0
+none_given closing [] earlier q x own = ap (λ (b : Bool). if b && ltb x closing.blocks then closing.number + x else 0) (other_region q closing.region own)
+none_given closing (t ∷ ts) earlier q x own =
+    let here : t.table.region < q = omega (arith, own, earlier 0 t refl) in
+    ap (λ (b : Bool). if b && ltb x (blocks_of closing.pack t) then t.number + x else number_given closing ts q x) (other_region q t.table.region here)
+    ∙ none_given closing ts (λ i u is. earlier (suc i) u is) q x own
+
+pub begun_from : (mark : Mark) (config : Config) (keys : KeySet) (base : Base) (old new : StoreState) → BeginsFrom mark config keys base old new → IsBegun base
+begun_from Fresh config keys base old new begins = subst IsBegun (sym begins.0) (begun_fresh (Some config))
+begun_from InUse config keys base old new begins = absurd begins
+begun_from (Closed region blocks number pack) config keys base old new begins =
+    let opens = begins.1 in
+    subst IsBegun (sym opens.is) (record {
+      next = refl;
+      fresh = λ q x own. none_given (closing_named region blocks number pack) opens.listed (λ i t is. (opens.catalogue.are.each i t is).listed.region_most) q x own;
+    })
+
+-- ---- what lies in the store once it ended
+sealed_behind : (ended : Ending) (base : Base) (taken secret : List ℕ) (tracing : Bool) (story : Story) (begun served new : Outside) (run report : Report) (k0 k1 : KeeperState)
+    (ending : KeptEnding) → secret_of (first_line taken) ≡ Some secret → EndsBehind ended base (keys_of secret) tracing story begun served new run report k0 k1 ending
+    → SealsOwn (PassesHere base) base (keys_in taken) begun.store served.store → SealsOwn (PassesBoth base.public.pack) base (keys_of secret) begun.store new.store
+sealed_behind Usage base taken secret tracing story begun served new run report k0 k1 ending keyed behind is = absurd behind
+sealed_behind BadKey base taken secret tracing story begun served new run report k0 k1 ending keyed behind is = absurd behind
+sealed_behind (Ran (Ok refused)) base taken secret tracing story begun served new run report k0 k1 ending keyed behind is = behind.tables.sealed
+sealed_behind (Ran (Err stop)) base taken secret tracing story begun served new run report k0 k1 ending keyed behind is = λ tells.
+    let keys : keys_in taken ≡ keys_of secret = ap (λ (o : Option (List ℕ)). option_map_or keys_of o (keys_of [])) keyed in
+    let both : IsSealed (PassesBoth base.public.pack) (keys_in taken) base.start (base.start.region + 1) begun.store served.store = record {
+      each = λ region place block own live last good passes. (is tells).each region place block own live last good passes.0;
+    } in
+    subst (λ (o : Outside). IsSealed (PassesBoth base.public.pack) (keys_of secret) base.start (base.start.region + 1) begun.store o.store) (sym behind.same)
+    (subst (λ (k : KeySet). IsSealed (PassesBoth base.public.pack) k base.start (base.start.region + 1) begun.store served.store) keys both)
+
+pub kept_shown : {settings : Option Config} {Takes : Type 0} {tracing : Bool} {old new : Outside} {k0 k1 : KeeperState} {ending : KeptEnding} {answers : List Answer} {report : Report}
+    (ran : RunKept settings Takes tracing old new k0 k1 ending answers report) → ShowsKept ran
+kept_shown (inl run) = tt
+kept_shown (inr (inl run)) = tt
+kept_shown {tracing = tracing} {old = old} {new = new} {k1 = k1} {ending = ending} {report = report} (inr (inr run)) = λ tells.
+    let begun = begun_from run.began.mark run.config (keys_of run.secret) run.base old.store run.opened run.began.begins in
+    shows_all (PassesBoth run.base.public.pack) (keys_of run.secret) run.base.start run.opened new.store begun.fresh
+    (sealed_behind run.session.ending run.base run.session.taken run.secret tracing run.session.story _ run.served new run.run report run.in_use k1 ending run.keyed run.behind
+    run.session.sealing.sealed tells)

@@ -1,0 +1,171 @@
+-- A statement that was cut off asks a first part of what it asks whole.
+use Rattle.std.specs.Prelude.{nat_le}
+use Rattle.std.proofs.Common.{◌≡◌, ◌⊎◌, inl, inr, ◌+◌, ◌-◌, ◌≤◌, ◌<◌, ℕ, Bool, true, false, List, [], ◌++◌, length, take, drop, Option, Some, None, refl, sym, ◌∙◌, ap, subst, append-nil, append_assoc, arith}
+use Rattle.std.proofs.lemmas.Bool.Decides.{nat_tests}
+use Rattle.std.proofs.lemmas.List.{length-append, take-append-drop, take-append-le}
+use Rattle.std.specs.Option.{option_map_or}
+use Rattle.ob_base.specs.Accesses.{discard_at}
+use Rattle.ob_base.specs.Limits.{buffered_blocks}
+use Rattle.ob_base.specs.Stored.{Stored, stored_at, stored_regions}
+use Rattle.ob_base.specs.declared.access.Access.{Access}
+use Rattle.ob_base.specs.declared.config.Plan.{Plan}
+use Rattle.ob_base.specs.declared.config.Public.{Public}
+use Rattle.ob_base.specs.declared.seen.End.{End}
+use Rattle.ob_base.specs.declared.seen.End.TheVariants.{Whole, Cut}
+use Rattle.ob_base.specs.declared.seen.Seen.{Seen}
+use Rattle.ob_base.specs.declared.skeleton.Skeleton.{Skeleton}
+use Rattle.ob_base.specs.declared.skeleton.Skeleton.TheVariants.{Create, Insert, Update, Delete, Drop as DropTable, Rows, Groups}
+use Rattle.ob_base.specs.declared.skeleton.Source.TheVariants.{Table as OneTable, Join}
+use Rattle.ob_headline.specs.Words.{Begins}
+use Rattle.ob_mean.specs.Replay.{cut_at, count_end, done_of, ending_len, held_if, walk_end}
+use Rattle.ob_script.specs.Parts.{count_part, join_part}
+use Rattle.ob_script.specs.Script.{behind_count, blocks_of, extent_of, join_script, joined_extent, padded_part, result_part, rows_width, table_script, whole_script}
+
+take_begins : (n : ℕ) (part rest : List Access) → Begins (take n part) (part ++ rest)
+take_begins n part rest = record {
+  rest = drop n part ++ rest;
+  joined = ap (λ (l : List Access). l ++ rest) (sym (take-append-drop n part)) ∙ append_assoc (take n part) (drop n part) rest;
+}
+
+take_all_begins : (n : ℕ) (all : List Access) → Begins (take n all) all
+take_all_begins n all = record { rest = drop n all; joined = sym (take-append-drop n all) }
+
+-- what is held, and how it ended
+abbrev holding : Option ℕ → (plan second : Option Plan) → End → Seen
+holding k plan second end = record { k = k; plan = plan; then = second; end = end }
+
+-- the accesses by what is held: the same whatever it is, or the count, the results of both plans, and an end of this size
+record ByCount (script : Option ℕ → Option Plan → Option Plan → End → List Access) (size : ℕ) : Type 0 where
+  front : List Access
+  first : Option Plan → ℕ → List Access
+  second : Option Plan → ℕ → List Access
+  ending : List Access
+  sized : length ending ≡ size
+  unsecond : (k : ℕ) → second None k ≡ []
+  uncounted : (plan then : Option Plan) (end : End) → script None plan then end ≡ front
+  counted : (k : ℕ) (plan then : Option Plan) (end : End) → script (Some k) plan then end ≡ front ++ (first plan k ++ (second then k ++ ending))
+
+record Fixed (script : Option ℕ → Option Plan → Option Plan → End → List Access) : Type 0 where
+  all : List Access
+  is : (k : Option ℕ) (plan then : Option Plan) (end : End) → script k plan then end ≡ all
+
+abbrev HasParts : Public → Skeleton → Type 0
+HasParts p sk =
+    Fixed (λ k plan then end. whole_script p sk (holding k plan then end))
+    ⊎ ByCount (λ k plan then end. whole_script p sk (holding k plan then end)) (ending_len sk)
+
+-- a SELECT of rows behind these accesses; where results are padded, it is the same whatever is held
+select_parts : (pad : Option ℕ) (p : Public) (before : List Access) (g : ℕ) (t : _) (ending : List Access)
+    → Fixed (λ k plan then end. before ++ (count_part t.region (blocks_of p t) ++ behind_count pad p (holding k plan then end) g t ending))
+    ⊎ ByCount (λ k plan then end. before ++ (count_part t.region (blocks_of p t) ++ behind_count pad p (holding k plan then end) g t ending)) (length ending)
+select_parts (Some pad) p before g t ending = inl (record { all = before ++ (count_part t.region (blocks_of p t) ++ (padded_part p pad g t ++ ending)); is = λ k plan then end. refl })
+select_parts None p before g t ending =
+    let count = count_part t.region (blocks_of p t) in
+    inr (record {
+      front = before ++ count;
+      first = λ plan k. result_part p plan k g t;
+      second = λ plan k. result_part p plan k (g + 1) t;
+      ending = ending;
+      sized = refl;
+      unsecond = λ k. refl;
+      uncounted = λ plan then end. ap (λ (l : List Access). before ++ l) (append-nil count);
+      counted = λ k plan then end. sym (append_assoc before count _);
+    })
+
+table_parts : (p : Public) (o : Option (Stored ℕ))
+    → Fixed (λ k plan then end. option_map_or (table_script p (holding k plan then end)) o [])
+    ⊎ ByCount (λ k plan then end. option_map_or (table_script p (holding k plan then end)) o []) 0
+table_parts p None = inl (record { all = []; is = λ k plan then end. refl })
+table_parts p (Some t) = select_parts p.pad p [] p.next_region (extent_of t) []
+
+join_parts : (p : Public) (l r : Option (Stored ℕ))
+    → Fixed (λ k plan then end. option_map_or (λ left. option_map_or (λ right. join_script p (holding k plan then end) left right) r []) l [])
+    ⊎ ByCount (λ k plan then end. option_map_or (λ left. option_map_or (λ right. join_script p (holding k plan then end) left right) r []) l []) 1
+join_parts p None r = inl (record { all = []; is = λ k plan then end. refl })
+join_parts p (Some left) None = inl (record { all = []; is = λ k plan then end. refl })
+join_parts p (Some left) (Some right) =
+    let from = joined_extent p left.heading right.heading in
+    let pairs =
+    join_part left.held right.held p.next_region (blocks_of p (extent_of left)) (blocks_of p (extent_of right)) (buffered_blocks p.pack p.buffer) (rows_width p from) in
+    select_parts p.pad p pairs (p.next_region + 1) from (discard_at p.next_region)
+
+parts : (p : Public) (sk : Skeleton) → HasParts p sk
+parts p (Create table cs n) = inl (record { all = whole_script p (Create table cs n) (holding None None None Whole); is = λ k plan then end. refl })
+parts p (Insert table cs) = inl (record { all = whole_script p (Insert table cs) (holding None None None Whole); is = λ k plan then end. refl })
+parts p (Update table cs) = inl (record { all = whole_script p (Update table cs) (holding None None None Whole); is = λ k plan then end. refl })
+parts p (Delete table) = inl (record { all = whole_script p (Delete table) (holding None None None Whole); is = λ k plan then end. refl })
+parts p (DropTable table) = inl (record { all = whole_script p (DropTable table) (holding None None None Whole); is = λ k plan then end. refl })
+parts p (Groups table cs key) = inl (record { all = whole_script p (Groups table cs key) (holding None None None Whole); is = λ k plan then end. refl })
+parts p (Rows (OneTable name) cs) = table_parts p (stored_at name (stored_regions p.tables))
+parts p (Rows (Join a b on equals) cs) = join_parts p (stored_at a (stored_regions p.tables)) (stored_at b (stored_regions p.tables))
+
+-- what was asked of a statement, and what it asks whole
+record CutsOff (part whole : List Access) (n : ℕ) : Type 0 where
+  begins : Begins (take n part) whole
+  shorter : length part ≤ length whole
+
+cuts_same : (n : ℕ) (part whole all : List Access) → part ≡ all → whole ≡ all → CutsOff part whole n
+cuts_same n part whole all a b = record {
+  begins = subst (λ (l : List Access). Begins (take n part) l) (a ∙ sym b) (take_all_begins n part);
+  shorter = omega (arith, ap length (a ∙ sym b));
+}
+
+-- the first part is short enough, or goes to its own end
+cuts_front : (n : ℕ) (part whole front rest : List Access) → part ≡ front → whole ≡ front ++ rest → CutsOff part whole n
+cuts_front n part whole front rest a b = record {
+  begins = subst (λ (l : List Access). Begins (take n part) l) (sym b) (subst (λ (l : List Access). Begins (take n l) (front ++ rest)) (sym a) (take_begins n front rest));
+  shorter = omega (arith, ap length a, ap length b, length-append front rest);
+}
+
+cuts_within : (n : ℕ) (part whole front mid rest : List Access) → part ≡ front ++ mid → whole ≡ front ++ rest → n ≤ length front → length mid ≤ length rest → CutsOff part whole n
+cuts_within n part whole front mid rest a b few less = record {
+  begins = subst (λ (l : List Access). Begins (take n part) l) (sym b)
+      (subst (λ (l : List Access). Begins l (front ++ rest)) (sym (ap (take n) a ∙ take-append-le n front mid few)) (take_begins n front rest));
+  shorter = omega (arith, ap length a, ap length b, length-append front mid, length-append front rest, less);
+}
+
+module _ (script : Option ℕ → Option Plan → Option Plan → End → List Access) (size : ℕ) (by : ByCount script size) (n done : ℕ) (last : n ≤ done + 1) where
+  split : (k : ℕ) (plan then : Option Plan) (end : End) → script (Some k) plan then end ≡ (by.front ++ by.first plan k) ++ (by.second then k ++ by.ending)
+  split k plan then end = by.counted k plan then end ∙ sym (append_assoc by.front (by.first plan k) (by.second then k ++ by.ending))
+
+  -- the result of the first plan was not read back
+  unwalked : (k : ℕ) (plan then : Option Plan) (end : End) → done < length (script (Some k) plan None end) - (size + 1) → CutsOff (script (Some k) plan None (Cut n)) (script (Some k) plan then end) n
+  unwalked k plan then end less =
+      let front = by.front ++ by.first plan k in
+      let none : by.second None k ++ by.ending ≡ by.ending = ap (λ (l : List Access). l ++ by.ending) (by.unsecond k) in
+      let long : length (script (Some k) plan None end) ≡ length front + size =
+      ap length (split k plan None end ∙ ap (λ (l : List Access). front ++ l) none) ∙ length-append front by.ending ∙ ap (λ (m : ℕ). length front + m) by.sized in
+      cuts_within n (script (Some k) plan None (Cut n)) (script (Some k) plan then end) front (by.second None k ++ by.ending) (by.second then k ++ by.ending)
+      (split k plan None (Cut n)) (split k plan then end) (omega (arith, last, less, long))
+      (omega (arith, ap length none, length-append (by.second then k) by.ending))
+
+  cutting : (held walked : Bool) (k : Option ℕ) (plan then : Option Plan) (end : End) → (walked ≡ false → done < length (script k plan None end) - (size + 1))
+      → CutsOff (script (held_if held k) (held_if held plan) (held_if walked then) (Cut n)) (script k plan then end) n
+  cutting false walked None plan then end short = cuts_same n _ _ by.front (by.uncounted None (held_if walked then) (Cut n)) (by.uncounted plan then end)
+  cutting false walked (Some k) plan then end short =
+      cuts_front n _ _ by.front (by.first plan k ++ (by.second then k ++ by.ending)) (by.uncounted None (held_if walked then) (Cut n)) (by.counted k plan then end)
+  cutting true walked None plan then end short = cuts_same n _ _ by.front (by.uncounted plan (held_if walked then) (Cut n)) (by.uncounted plan then end)
+  cutting true true (Some k) plan then end short =
+      cuts_same n _ _ (by.front ++ (by.first plan k ++ (by.second then k ++ by.ending))) (by.counted k plan then (Cut n)) (by.counted k plan then end)
+  cutting true false (Some k) plan then end short = unwalked k plan then end (short refl)
+
+above : (m done : ℕ) → nat_le m done ≡ false → done < m
+above m done e = grind (arith, nat_tests)
+
+last_done : (failed : Bool) (n : ℕ) → n ≤ done_of failed n + 1
+last_done true n = omega arith
+last_done false n = omega arith
+
+cut_off : (failed : Bool) (n : ℕ) (p : Public) (sk : Skeleton) (x : Seen) → CutsOff (whole_script p sk (cut_at failed n p sk x)) (whole_script p sk x) n
+cut_off failed n p sk x = elim (parts p sk) [
+  | inl fixed ↦ cuts_same n _ _ fixed.all (fixed.is _ _ _ _) (fixed.is x.k x.plan x.then x.end)
+  | inr by ↦ cutting (λ k plan then end. whole_script p sk (holding k plan then end)) (ending_len sk) by n (done_of failed n) (last_done failed n)
+      (nat_le (count_end p sk) (done_of failed n)) (nat_le (walk_end p sk x) (done_of failed n)) x.k x.plan x.then x.end (λ short. above _ _ short)
+]
+
+-- it asks a first part of what it asks whole, and would ask no more
+pub cut_begins : (failed : Bool) (n : ℕ) (p : Public) (sk : Skeleton) (x : Seen) → Begins (take n (whole_script p sk (cut_at failed n p sk x))) (whole_script p sk x)
+cut_begins failed n p sk x = (cut_off failed n p sk x).begins
+
+pub cut_shorter : (failed : Bool) (n : ℕ) (p : Public) (sk : Skeleton) (x : Seen) → length (whole_script p sk (cut_at failed n p sk x)) ≤ length (whole_script p sk x)
+cut_shorter failed n p sk x = (cut_off failed n p sk x).shorter

@@ -1,0 +1,147 @@
+-- What a run asks of which no text was answered that the store failed, however it ended.
+use Rattle.std.specs.Prelude.{is_some}
+use Rattle.std.proofs.Common.{◌≡◌, ◌+◌, ◌≤◌, ◌++◌, ℕ, Bool, true, false, Ok, Err, List, [], ◌∷◌, length, take, drop, Option, Some, None, refl, sym, ◌∙◌, ap, subst, append-nil, append_assoc, arith}
+use Rattle.std.proofs.lemmas.List.{take-append-drop}
+use Rattle.clap.specs.Words.{App, Text}
+use Rattle.ob_base.specs.Accesses.{discard_at}
+use Rattle.ob_base.specs.Limits.{buffered_blocks}
+use Rattle.ob_base.specs.Stored.{Stored}
+use Rattle.ob_base.specs.declared.access.Access.{Access}
+use Rattle.ob_base.specs.declared.config.Public.{Public}
+use Rattle.ob_base.specs.declared.schema.Heading.{Heading}
+use Rattle.ob_base.specs.declared.seen.End.{End}
+use Rattle.ob_base.specs.declared.seen.End.TheVariants.{Static, Whole, AfterCount, Cut}
+use Rattle.ob_base.specs.declared.seen.Seen.{Seen}
+use Rattle.ob_base.specs.declared.skeleton.Skeleton.{Skeleton}
+use Rattle.ob_base.specs.declared.skeleton.Skeleton.TheVariants as K
+use Rattle.ob_base.specs.declared.skeleton.Source.TheVariants.{Table as OneTable, Join}
+use Rattle.ob_exec.specs.Running.{refusal_now}
+use Rattle.ob_headline.proofs.RerunLemmas.{first_plain, holds_none, not_cut, rest_plain, shows_plainly}
+use Rattle.ob_headline.specs.Bases.{Base}
+use Rattle.ob_headline.specs.Failures.{failures}
+use Rattle.ob_headline.specs.Headline.{Headline}
+use Rattle.ob_headline.specs.Reruns.{ArePlain, AsksByKinds, IsPlain, plainly, seen_plainly, shown_plainly}
+use Rattle.ob_headline.specs.Settings.{IsTaken, MeddleParses}
+use Rattle.ob_headline.specs.Words.{Answer, Begins, Outside}
+use Rattle.ob_headline.specs.Statements.{statements}
+use Rattle.ob_headline.specs.Accesses.{AreSeen, is_cut}
+use Rattle.ob_headline.specs.declared.ending.Report.{Report}
+use Rattle.ob_mean.specs.Lawful.{Lawful}
+use Rattle.ob_mean.specs.Replay.{Spelt}
+use Rattle.ob_script.specs.Parts.{count_part, join_part}
+use Rattle.ob_script.specs.Script.{script, whole_script, behind_count, with_table, extent_of, blocks_of, joined_extent, rows_width}
+use Rattle.ob_script.specs.Trace.{Served as Entry, next, trace}
+use Rattle.ob_sql.specs.Skeleton.{skeleton}
+use Rattle.ob_sql.specs.declared.stmt.Stmt.{Stmt}
+
+-- nothing but how it ended
+abbrev ended_so : End → Seen
+ended_so end = record { k = None; plan = None; then = None; end = end }
+
+-- ---- all accesses of a statement of which nothing is held don't depend on how it ended
+behind_same : (pad : Option ℕ) (p : Public) (e f : End) (g : ℕ) (t : Stored ℕ) (ending : List Access) → behind_count pad p (ended_so e) g (extent_of t) ending ≡ behind_count pad p (ended_so f) g (extent_of t) ending
+behind_same None p e f g t ending = refl
+behind_same (Some pad) p e f g t ending = refl
+
+joined_same : (pad : Option ℕ) (p : Public) (e f : End) (g : ℕ) (left right : Heading) (ending : List Access) → behind_count pad p (ended_so e) g (joined_extent p left right) ending ≡ behind_count pad p (ended_so f) g (joined_extent p left right) ending
+joined_same None p e f g left right ending = refl
+joined_same (Some pad) p e f g left right ending = refl
+
+whole_same : (p : Public) (s : Skeleton) (e f : End) → whole_script p s (ended_so e) ≡ whole_script p s (ended_so f)
+whole_same p (K.Create table cs n) e f = refl
+whole_same p (K.Insert table cs) e f = refl
+whole_same p (K.Update table cs) e f = refl
+whole_same p (K.Delete table) e f = refl
+whole_same p (K.Drop table) e f = refl
+whole_same p (K.Groups table cs key) e f = refl
+whole_same p (K.Rows (OneTable name) cs) e f =
+    λ i. with_table name p (λ t. count_part (extent_of t).region (blocks_of p (extent_of t)) ++ behind_same p.pad p e f p.next_region t [] i)
+whole_same p (K.Rows (Join a b on equals) cs) e f =
+    λ i. with_table a p (λ left. with_table b p (λ right.
+    join_part left.held right.held p.next_region (blocks_of p (extent_of left)) (blocks_of p (extent_of right)) (buffered_blocks p.pack p.buffer) (rows_width p (joined_extent p left.heading right.heading))
+    ++ (count_part (joined_extent p left.heading right.heading).region (blocks_of p (joined_extent p left.heading right.heading))
+    ++ joined_same p.pad p e f (p.next_region + 1) left.heading right.heading (discard_at p.next_region) i)))
+
+-- ---- one statement asks a first part of what its early refusal says
+pub begins_all : {A : Type 0} (xs : List A) → Begins xs xs
+begins_all xs = record { rest = []; joined = sym (append-nil xs) }
+
+begins_take : (n : ℕ) (xs : List Access) → Begins (take n xs) xs
+begins_take n xs = record { rest = drop n xs; joined = sym (take-append-drop n xs) }
+
+-- it was not refused where it was cut off
+not_refused : (p : Public) (m : ℕ) (stmt : Stmt) (here : Seen) (n : ℕ) (early : Bool) → here.end ≡ Cut n → is_some (refusal_now p m stmt) ≡ early → Lawful p m stmt here → early ≡ false
+not_refused p m stmt here n true is now lawful = let static = lawful.static.1 now in absurd (cc (static, is))
+not_refused p m stmt here n false is now lawful = refl
+
+begins_cut : (p : Public) (m : ℕ) (stmt : Stmt) (here : Seen) (n : ℕ) → here.end ≡ Cut n → IsPlain p stmt → Lawful p m stmt here
+    → Begins (script p (skeleton stmt) here) (script p (skeleton stmt) (plainly p m stmt))
+begins_cut p m stmt here n is plain lawful =
+    let held = holds_none p stmt here plain here.k here.plan here.then lawful.holds in
+    let so : here ≡ ended_so (Cut n) = λ i. record { k = held.no_k i; plan = held.no_plan i; then = held.no_second i; end = is i } in
+    let not : is_some (refusal_now p m stmt) ≡ false = not_refused p m stmt here n (is_some (refusal_now p m stmt)) is refl lawful in
+    let whole : plainly p m stmt ≡ ended_so Whole = ap seen_plainly not in
+    subst (λ (x : Seen). Begins (script p (skeleton stmt) x) (script p (skeleton stmt) (plainly p m stmt))) (sym so)
+    (subst (λ (x : Seen). Begins (take n (whole_script p (skeleton stmt) (ended_so (Cut n)))) (script p (skeleton stmt) x)) (sym whole)
+    (subst (λ (l : List Access). Begins (take n l) (whole_script p (skeleton stmt) (ended_so Whole))) (whole_same p (skeleton stmt) Whole (Cut n))
+    (begins_take n (whole_script p (skeleton stmt) (ended_so Whole)))))
+
+begins_uncut : (p : Public) (m : ℕ) (stmt : Stmt) (here : Seen) → is_cut here.end ≡ false → IsPlain p stmt → Lawful p m stmt here
+    → Begins (script p (skeleton stmt) here) (script p (skeleton stmt) (plainly p m stmt))
+begins_uncut p m stmt here uncut plain lawful =
+    subst (λ (x : Seen). Begins (script p (skeleton stmt) here) (script p (skeleton stmt) x)) (shows_plainly p m stmt here lawful plain uncut)
+    (begins_all (script p (skeleton stmt) here))
+
+pub begins_by : (p : Public) (m : ℕ) (stmt : Stmt) (here : Seen) (end : End) → here.end ≡ end → IsPlain p stmt → Lawful p m stmt here
+    → Begins (script p (skeleton stmt) here) (script p (skeleton stmt) (plainly p m stmt))
+begins_by p m stmt here Static is plain lawful = begins_uncut p m stmt here (ap is_cut is) plain lawful
+begins_by p m stmt here Whole is plain lawful = begins_uncut p m stmt here (ap is_cut is) plain lawful
+begins_by p m stmt here AfterCount is plain lawful = begins_uncut p m stmt here (ap is_cut is) plain lawful
+begins_by p m stmt here (Cut n) is plain lawful = begins_cut p m stmt here n is plain lawful
+
+-- ---- all statements do
+-- the last one
+pub begins_last : (p p1 p2 : Public) (here whole : List Access) (seen : List Entry) → seen ≡ [] → Begins here whole → Begins (here ++ trace p1 seen) (whole ++ trace p2 [])
+begins_last p p1 p2 here whole seen none begins =
+    subst (λ (xs : List Entry). Begins (here ++ trace p1 xs) (whole ++ trace p2 [])) (sym none)
+    (record { rest = begins.rest; joined = append-nil whole ∙ begins.joined ∙ ap (λ (l : List Access). l ++ begins.rest) (sym (append-nil here)) })
+
+pub begins_more : (one xs ys : List Access) → Begins xs ys → Begins (one ++ xs) (one ++ ys)
+begins_more one xs ys begins =
+    record { rest = begins.rest; joined = ap (λ (l : List Access). one ++ l) begins.joined ∙ sym (append_assoc one xs begins.rest) }
+
+begins_plainly : (Leaves : Public → Stmt → Seen → Type 0) (spelt : List Spelt) (answers : List Answer) (p : Public) (m : ℕ) (seen : List Entry) → AreSeen Leaves p m spelt answers seen
+    → length spelt ≤ length answers + 1 → failures answers ≡ 0 → ArePlain p (statements spelt) → Begins (trace p seen) (trace p (shown_plainly p m (statements spelt)))
+unfolding AreSeen failures statements shown_plainly
+begins_plainly Leaves [] answers p m seen lawful few none plain = subst (λ (xs : List Entry). Begins (trace p xs) []) (sym lawful) (begins_all [])
+begins_plainly Leaves (Err at ∷ spelt) [] p m seen lawful few none plain = begins_plainly Leaves spelt [] p m seen lawful (omega (arith, few)) none plain
+begins_plainly Leaves (Err at ∷ spelt) (one ∷ answers) p m seen lawful few none plain =
+    begins_plainly Leaves spelt answers p m seen lawful.1 (omega (arith, few)) (omega (arith, none)) plain
+begins_plainly Leaves (Ok stmt ∷ spelt) [] p m [] lawful few none plain = absurd lawful
+begins_plainly Leaves (Ok stmt ∷ spelt) (one ∷ answers) p m [] lawful few none plain = absurd lawful
+begins_plainly Leaves (Ok stmt ∷ []) [] p m (x ∷ seen) lawful few none plain =
+    let begins = begins_by p m stmt x.seen x.seen.end refl (first_plain p stmt [] plain) lawful.1 in
+    begins_last p (next p x.skeleton x.seen) (next p (skeleton stmt) (plainly p m stmt)) (script p x.skeleton x.seen) (script p (skeleton stmt) (plainly p m stmt)) seen lawful.3
+    (subst (λ (s : Skeleton). Begins (script p s x.seen) (script p (skeleton stmt) (plainly p m stmt))) (sym lawful.0) begins)
+begins_plainly Leaves (Ok stmt ∷ (y ∷ spelt)) [] p m (x ∷ seen) lawful few none plain = absurd (omega (arith, few))
+begins_plainly Leaves (Ok stmt ∷ spelt) (one ∷ answers) p m (x ∷ seen) lawful few none plain =
+    let uncut = not_cut (is_cut x.seen.end) one.outcome lawful.2.1.0 (omega (arith, none)) in
+    let here : x.seen ≡ plainly p m stmt = shows_plainly p m stmt x.seen lawful.1 (first_plain p stmt (statements spelt) plain) uncut in
+    let same : x ≡ record { skeleton = skeleton stmt; seen = plainly p m stmt } = λ i. record { skeleton = lawful.0 i; seen = here i } in
+    let rest = begins_plainly Leaves spelt answers (next p x.skeleton x.seen) (m + length (script p x.skeleton x.seen)) seen lawful.3 (omega (arith, few)) (omega (arith, none)) (rest_plain p stmt (statements spelt) x plain) in
+    subst (λ (z : Entry). Begins (script p x.skeleton x.seen ++ trace (next p x.skeleton x.seen) seen)
+    (script p z.skeleton z.seen ++ trace (next p z.skeleton z.seen) (shown_plainly (next p z.skeleton z.seen) (m + length (script p z.skeleton z.seen)) (statements spelt)))) same
+    (begins_more (script p x.skeleton x.seen) _ _ rest)
+
+-- ---- a run, by its headline
+asks : {base : Base} {Takes : Type 0} {tracing : Bool} {old new : Outside} {report : Report} (run : Headline base Takes tracing old new report) → AsksByKinds run
+asks {base} {new = new} run none plain =
+    let few : length run.story.spelt ≤ length run.story.answers + 1 = omega (arith, run.statements.begun, run.statements.each) in
+    let begins = begins_plainly _ run.story.spelt run.story.answers base.public base.count (run.story.seen ++ run.story.last) run.accesses.lawful few none plain in
+    subst (λ (l : List Access). Begins l (base.before ++ trace base.public (shown_plainly base.public base.count (statements run.story.spelt)))) (sym run.accesses.asked) (begins_more base.before _ _ begins)
+
+pub asks_taken : (base : Base) (app : App) (words : List Text) (tracing : Bool) (old new : Outside) (report : Report) (run : Headline base (IsTaken app words) tracing old new report) → AsksByKinds run
+asks_taken base app words tracing old new report run = asks run
+
+pub asks_meddled : (base : Base) (words : List Text) (tracing : Bool) (old new : Outside) (report : Report) (run : Headline base (MeddleParses words) tracing old new report) → AsksByKinds run
+asks_meddled base words tracing old new report run = asks run

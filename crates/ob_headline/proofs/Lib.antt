@@ -1,0 +1,21 @@
+pub mod MarkLemmas
+pub mod InStep
+pub mod AlikeSessions
+pub mod AsOne
+pub mod Numbered
+pub mod TextLemmas
+pub mod PromptLemmas
+pub mod BaseLemmas
+pub mod PieceLemmas
+pub mod RerunLemmas
+pub mod KindLemmas
+pub mod CutLemmas
+mod Spelt
+pub mod ShownLemmas
+pub mod PlainLemmas
+pub mod OwnLemmas
+pub mod AloneLemmas
+pub mod BetweenLemmas
+pub mod LeftLemmas
+pub mod BegunLemmas
+pub mod StopLemmas

@@ -1,0 +1,209 @@
+-- Words of the command lines, and the settings that they spell, computed.
+use Rattle.std.specs.Prelude.{Some, None, codes}
+use Rattle.std.proofs.Common.{◌≡◌, [], ◌∷◌, refl}
+use Rattle.clap.proofs.OnLiterals.{clap_on_literals}
+use Rattle.clap.specs.Words.{fault_of}
+use Rattle.clap.specs.declared.error.kind.ErrorKind.TheVariants as kind
+use Rattle.ob_base.specs.declared.config.Plan.TheVariants.{Continuous, Large, Hash}
+use Rattle.ob_headline.specs.Settings.{fitted, generated_by, number_in, pad_in, plan_in, seed_in, settings_of}
+use Rattle.ob_headline.specs.Usage.{Parses, kept_usage, mark_of, meddle_usage, store_of, usage}
+
+-- ---- one value
+the_least : number_in 4 65536 64 (Some (codes "4")) ≡ Some 4
+the_least = refl
+
+the_greatest : number_in 4 65536 64 (Some (codes "65536")) ≡ Some 65536
+the_greatest = refl
+
+not_given : number_in 4 65536 64 None ≡ Some 64
+not_given = refl
+
+too_small : number_in 4 65536 64 (Some (codes "3")) ≡ None
+too_small = refl
+
+too_great : number_in 4 65536 64 (Some (codes "65537")) ≡ None
+too_great = refl
+
+no_zeros_before : number_in 4 65536 64 (Some (codes "04")) ≡ None
+no_zeros_before = refl
+
+no_sign : number_in 4 65536 64 (Some (codes "+64")) ≡ None
+no_sign = refl
+
+no_digits : number_in 4 65536 64 (Some []) ≡ None
+no_digits = refl
+
+hash : plan_in (Some (codes "hash")) ≡ Some (Some Hash)
+hash = refl
+
+auto : plan_in (Some (codes "auto")) ≡ Some None
+auto = refl
+
+no_plan : plan_in (Some (codes "fast")) ≡ None
+no_plan = refl
+
+unpadded : pad_in None ≡ Some None
+unpadded = refl
+
+least_pad : pad_in (Some (codes "1")) ≡ Some (Some 1)
+least_pad = refl
+
+greatest_pad : pad_in (Some (codes "1048576")) ≡ Some (Some 1048576)
+greatest_pad = refl
+
+pad_of_none : pad_in (Some (codes "0")) ≡ None
+pad_of_none = refl
+
+pad_too_great : pad_in (Some (codes "1048577")) ≡ None
+pad_too_great = refl
+
+-- ---- three blocks and one row, and a plan that may be padded
+room_enough : fitted 49 5 None 16 None 4096 ≡ Some (record { buffer = 49; depth = 5; pack = 16; plan = None; pad = None; max_input = 4096 })
+room_enough = refl
+
+too_little : fitted 48 5 None 16 None 4096 ≡ None
+too_little = refl
+
+padded_by_large : fitted 64 5 (Some Large) 1 (Some 40) 4096
+    ≡ Some (record { buffer = 64; depth = 5; pack = 1; plan = Some Large; pad = Some 40; max_input = 4096 })
+padded_by_large = refl
+
+no_padded_continuous : fitted 64 5 (Some Continuous) 1 (Some 40) 4096 ≡ None
+no_padded_continuous = refl
+
+no_padded_hash : fitted 64 5 (Some Hash) 1 (Some 40) 4096 ≡ None
+no_padded_hash = refl
+
+-- ---- what is generated
+least_seed : seed_in (Some (codes "0,1")) ≡ Some (Some (record { start = 0; rows = 1 }))
+least_seed = refl
+
+greatest_seed : seed_in (Some (codes "18446744073709551615,4096")) ≡ Some (Some (record { start = 18446744073709551615; rows = 4096 }))
+greatest_seed = refl
+
+none_generated : seed_in None ≡ Some None
+none_generated = refl
+
+no_rows : seed_in (Some (codes "0,0")) ≡ None
+no_rows = refl
+
+too_many_rows : seed_in (Some (codes "0,4097")) ≡ None
+too_many_rows = refl
+
+start_too_great : seed_in (Some (codes "18446744073709551616,1")) ≡ None
+start_too_great = refl
+
+start_alone : seed_in (Some (codes "0")) ≡ None
+start_alone = refl
+
+zero_before_start : seed_in (Some (codes "01,1")) ≡ None
+zero_before_start = refl
+
+sign_before_start : seed_in (Some (codes "-1,1")) ≡ None
+sign_before_start = refl
+
+zero_before_rows : seed_in (Some (codes "0,01")) ≡ None
+zero_before_rows = refl
+
+three_numbers : seed_in (Some (codes "0,1,2")) ≡ None
+three_numbers = refl
+
+-- ---- whole command lines
+no_words : settings_of usage [] ≡ Some (record { buffer = 64; depth = 5; pack = 1; plan = None; pad = None; max_input = 1073741824 })
+unfolding clap_on_literals
+no_words = refl
+
+no_words_parse : Parses usage []
+unfolding clap_on_literals
+no_words_parse = refl
+
+two_words : settings_of usage (codes "--pack" ∷ codes "2" ∷ codes "--plan=hash" ∷ [])
+    ≡ Some (record { buffer = 64; depth = 5; pack = 2; plan = Some Hash; pad = None; max_input = 1073741824 })
+unfolding clap_on_literals
+two_words = refl
+
+they_parse : Parses usage (codes "--pack" ∷ codes "2" ∷ codes "--plan=hash" ∷ [])
+unfolding clap_on_literals
+they_parse = refl
+
+pack_is_too_great : settings_of usage (codes "--pack" ∷ codes "22" ∷ []) ≡ None
+unfolding clap_on_literals
+pack_is_too_great = refl
+
+padded : settings_of usage (codes "--pad" ∷ codes "40" ∷ []) ≡ Some (record { buffer = 64; depth = 5; pack = 1; plan = None; pad = Some 40; max_input = 1073741824 })
+unfolding clap_on_literals
+padded = refl
+
+padded_by_hash : settings_of usage (codes "--pad" ∷ codes "40" ∷ codes "--plan=hash" ∷ []) ≡ None
+unfolding clap_on_literals
+padded_by_hash = refl
+
+generated : generated_by usage (codes "--gen" ∷ codes "0,1" ∷ []) ≡ Some (Some (record { start = 0; rows = 1 }))
+unfolding clap_on_literals
+generated = refl
+
+not_generated : generated_by meddle_usage [] ≡ Some None
+unfolding clap_on_literals
+not_generated = refl
+
+-- ---- what the command doesn't take
+help : fault_of usage (codes "--help" ∷ []) ≡ kind.DisplayHelp ∷ []
+unfolding clap_on_literals
+help = refl
+
+unknown : fault_of usage (codes "--meddle" ∷ codes "9:fail" ∷ []) ≡ kind.UnknownArgument ∷ []
+unfolding clap_on_literals
+unknown = refl
+
+known : Parses meddle_usage (codes "--meddle" ∷ codes "9:fail" ∷ [])
+unfolding clap_on_literals
+known = refl
+
+twice : fault_of usage (codes "--depth" ∷ codes "5" ∷ codes "--depth" ∷ codes "5" ∷ []) ≡ kind.ArgumentConflict ∷ []
+unfolding clap_on_literals
+twice = refl
+
+no_value : fault_of usage (codes "--buffer" ∷ []) ≡ kind.InvalidValue ∷ []
+unfolding clap_on_literals
+no_value = refl
+
+input_bounded : settings_of usage (codes "--max-input" ∷ codes "1024" ∷ []) ≡ Some (record { buffer = 64; depth = 5; pack = 1; plan = None; pad = None; max_input = 1024 })
+unfolding clap_on_literals
+input_bounded = refl
+
+input_too_short : settings_of usage (codes "--max-input" ∷ codes "1023" ∷ []) ≡ None
+unfolding clap_on_literals
+input_too_short = refl
+
+store_named : store_of (codes "--store" ∷ codes "safe" ∷ []) ≡ Some (codes "safe")
+unfolding clap_on_literals
+store_named = refl
+
+store_unnamed : store_of [] ≡ None
+unfolding clap_on_literals
+store_unnamed = refl
+
+no_store_of_others : fault_of meddle_usage (codes "--store" ∷ codes "safe" ∷ []) ≡ kind.UnknownArgument ∷ []
+unfolding clap_on_literals
+no_store_of_others = refl
+
+mark_placed : mark_of (codes "--keep" ∷ codes "--mark" ∷ codes "safe" ∷ []) ≡ Some (codes "safe")
+unfolding clap_on_literals
+mark_placed = refl
+
+mark_unplaced : mark_of (codes "--keep" ∷ []) ≡ None
+unfolding clap_on_literals
+mark_unplaced = refl
+
+mark_with_keep : settings_of kept_usage (codes "--keep" ∷ codes "--mark" ∷ codes "safe" ∷ [])
+    ≡ Some (record { buffer = 64; depth = 5; pack = 1; plan = None; pad = None; max_input = 1073741824 })
+unfolding clap_on_literals
+mark_with_keep = refl
+
+mark_without_keep : settings_of kept_usage (codes "--mark" ∷ codes "safe" ∷ []) ≡ None
+unfolding clap_on_literals
+mark_without_keep = refl
+
+no_mark_of_others : fault_of meddle_usage (codes "--mark" ∷ codes "safe" ∷ []) ≡ kind.UnknownArgument ∷ []
+unfolding clap_on_literals
+no_mark_of_others = refl

@@ -1,0 +1,46 @@
+-- Where a run with `--keep` stops.
+use Rattle.std.specs.Prelude.{◌==◌, MatchBool}
+use Rattle.std.proofs.Common.{◌≡◌, ℕ, Bool, true, false, Result, Ok, Err, inl, inr, sym, ◌∙◌}
+use Rattle.ob_base.specs.declared.config.Config.{Config}
+use Rattle.ob_base.specs.declared.fault.Failed.{Failed}
+use Rattle.ob_base.specs.declared.mark.Mark.{Mark}
+use Rattle.ob_base.specs.declared.mark.Mark.TheVariants.{Fresh, InUse, Closed}
+use Rattle.ob_headline.specs.Keeping.{EndsAtMark, NotBegun, NotReopened, closing_end, closing_named, opening_end}
+use Rattle.ob_headline.specs.declared.ending.Ending.TheVariants.{Ran}
+use Rattle.ob_headline.specs.declared.ending.KeptEnding.{KeptEnding}
+use Rattle.ob_headline.specs.declared.ending.KeptEnding.TheVariants.{Plain, OtherPack}
+use Rattle.ob_reopen.specs.Keepers.{KeeperState}
+use Rattle.ob_reopen.specs.declared.fault.CloseErr.{CloseErr}
+use Rattle.ob_reopen.specs.declared.fault.CloseErr.TheVariants as CloseErrs
+use Rattle.ob_reopen.specs.declared.fault.OpenErr.{OpenErr}
+use Rattle.ob_reopen.specs.declared.fault.OpenErr.TheVariants as OpenErrs
+use Rattle.ob_seal.specs.KeySet.{KeySet}
+use Rattle.ob_store.specs.State.{StoreState}
+
+-- ---- how a run ends that may be closed
+-- where its tables can't be opened, or closed, it doesn't come to its end
+opening_stops : (error : OpenErr) (refused : Bool) → opening_end error ≡ Plain (Ran (Ok refused)) → ⊥
+opening_stops OpenErrs.Failed refused is = cc is
+opening_stops (OpenErrs.Tampered region place) refused is = cc is
+opening_stops OpenErrs.NoMemory refused is = cc is
+
+pub closing_stops : (error : CloseErr) (refused : Bool) → closing_end error ≡ Plain (Ran (Ok refused)) → ⊥
+closing_stops CloseErrs.Failed refused is = cc is
+closing_stops CloseErrs.NoMemory refused is = cc is
+
+-- neither where it ends at the mark
+mark_stops : (mark : Result Mark Failed) (config : Config) (keys : KeySet) (ending : KeptEnding) (s t : StoreState) (refused : Bool) → EndsAtMark mark config keys ending s t → ending ≡ Plain (Ran (Ok refused)) → ⊥
+mark_stops (Err failed) config keys ending s t refused ends is = cc (ends.0, is)
+mark_stops (Ok Fresh) config keys ending s t refused ends is = cc (ends.0, is)
+mark_stops (Ok InUse) config keys ending s t refused ends is = cc (ends.0, is)
+mark_stops (Ok (Closed region blocks number pack)) config keys ending s t refused ends is = go (pack == config.pack) ends
+  where
+    go : (b : Bool) → MatchBool b (NotReopened (closing_named region blocks number pack) keys ending s t) ((ending ≡ OtherPack) × (t ≡ s)) → ⊥
+    go true not = opening_stops not.error refused (sym not.ends ∙ is)
+    go false other = cc (other.0, is)
+
+pub begun_stops : (config : Config) (keys : KeySet) (ending : KeptEnding) (s t : StoreState) (f0 f1 : ℕ) (k0 k1 : KeeperState) (refused : Bool) → NotBegun config keys ending s t f0 f1 k0 k1 → ending ≡ Plain (Ran (Ok refused)) → ⊥
+begun_stops config keys ending s t f0 f1 k0 k1 refused begun is = elim begun.why [
+  | inl ends ↦ mark_stops begun.mark config keys ending s t refused ends.0 is
+  | inr held ↦ elim held.2.ends [ inl sink ↦ cc (sink.0, is) | inr keeper ↦ cc (keeper.0, is) ]
+]

@@ -1,0 +1,107 @@
+-- The accesses, over every store: those that what is seen of the statements tells.
+use Rattle.std.specs.Prelude.{ℕ, ◌≡◌, ◌+◌, ◌⊎◌, ◌↔◌, ◌||◌, Bool, true, false, List, [], ◌∷◌, ◌++◌, length, IsTrue, Option, Some, None, Ok, Err, ◌≤◌, take}
+use Rattle.ob_base.specs.Events.{Event}
+use Rattle.ob_base.specs.Stored.{headings_of}
+use Rattle.ob_base.specs.declared.access.Access.{Access}
+use Rattle.ob_base.specs.declared.config.Public.{Public}
+use Rattle.ob_base.specs.declared.refusal.Refusal.{Refusal}
+use Rattle.ob_base.specs.declared.refusal.Refusal.TheVariants.{StoreFault}
+use Rattle.ob_base.specs.declared.refusal.Stop.TheVariants.{SinkFault, NoMemory}
+use Rattle.ob_base.specs.declared.seen.End.{End}
+use Rattle.ob_base.specs.declared.seen.End.TheVariants.{Cut}
+use Rattle.ob_base.specs.declared.seen.Seen.{Seen}
+use Rattle.ob_select.specs.Memory.{AtMake}
+use Rattle.ob_exec.specs.Memory.{AtResult, AtEmission}
+use Rattle.ob_exec.specs.Running.{Emits, MayEmit, refusal_now}
+use Rattle.ob_exec.specs.declared.outcome.Outcome.TheVariants.{Refused}
+use Rattle.ob_headline.specs.Closing.{closing_line}
+use Rattle.ob_headline.specs.declared.ending.Ending.{Ending}
+use Rattle.ob_headline.specs.declared.ending.Ending.TheVariants.{Ran}
+use Rattle.ob_mean.specs.Lawful.{Lawful}
+use Rattle.ob_mean.specs.Prints.{labels_of}
+use Rattle.ob_mean.specs.Replay.{Spelt}
+use Rattle.ob_print.specs.Rows.{events_text}
+use Rattle.ob_script.specs.Script.{script, whole_script}
+use Rattle.ob_script.specs.Trace.{Served, next, trace}
+use Rattle.ob_sql.specs.Skeleton.{skeleton}
+use Rattle.ob_sql.specs.declared.stmt.Stmt.{Stmt}
+use Rattle.ob_headline.specs.Words.{Answer, refused_as, refused_at}
+use Rattle.ob_headline.specs.Bases.{Base}
+use Rattle.ob_headline.specs.Failures.{FailsBeside, RisesBy, failures}
+use Rattle.ob_headline.specs.Statements.{statements}
+use Rattle.ob_headline.specs.Story.{Story}
+use Rattle.ob_store.specs.State.{StoreState}
+
+-- it was cut off
+abbrev pub is_cut : End → Bool
+is_cut (Cut n) = true
+is_cut _ = false
+
+unfoldable pub any_cut : List Served → Bool
+any_cut [] = false
+any_cut (x ∷ seen) = is_cut x.seen.end || any_cut seen
+
+-- an answer has the form of its outcome: its header and rows, and its line
+pub record HasForm (p : Public) (stmt : Stmt) (answer : Answer) : Type 0 where
+  pub events : List Event
+  pub emits : Emits stmt (labels_of stmt (headings_of p.tables)) answer.outcome events
+  pub bytes : answer.bytes ≡ events_text events ++ closing_line answer.outcome
+
+-- it is the refusal that comes before any access, if there is one
+abbrev pub Says : Option Refusal → Public → Stmt → Answer → Type 0
+Says None p stmt answer = HasForm p stmt answer
+Says (Some r) p stmt answer = answer ≡ refused_as r
+
+-- a stop for want of memory comes before the first access, where a region is made, where rows are emitted, or, of a SELECT
+-- of rows that isn't padded, just before its result is made
+pub record WantsMemory (p : Public) (stmt : Stmt) (seen : Seen) : Type 0 where
+  pub rest : List Access
+  pub split : script p (skeleton stmt) seen ++ rest ≡ whole_script p (skeleton stmt) seen
+  pub place : AtMake (script p (skeleton stmt) seen) ⊎ AtResult p stmt seen rest
+      ⊎ AtEmission p stmt seen rest
+
+-- a stop by a sink's fault cuts a statement off only where it may emit rows, unless the store had failed in it
+abbrev pub MeetsSink : (Failed : Type 0) → Stmt → Seen → Type 0
+MeetsSink Failed stmt seen = IsTrue (is_cut seen.end) → MayEmit stmt ⊎ Failed
+
+-- where a run that ended so left the statement that was begun
+abbrev pub StopsWithin : Ending → (Failed : Type 0) → Public → Stmt → Seen → Type 0
+StopsWithin ending Failed p stmt seen =
+    (ending ≡ Ran (Err NoMemory) → WantsMemory p stmt seen)
+    × (ending ≡ Ran (Err SinkFault) → MeetsSink Failed stmt seen)
+
+-- of each statement its skeleton and what is seen of it, which is lawful by what is public before it and m accesses;
+-- its answer is its early refusal, if there is one, says that the store failed exactly where it was cut off, and has the
+-- plan that is seen. The one that was begun has no answer, and was left so.
+unfoldable pub AreSeen : (Leaves : Public → Stmt → Seen → Type 0) → Public → (m : ℕ) → List Spelt
+    → List Answer → List Served → Type 0
+AreSeen Leaves p m [] answers seen = seen ≡ []
+AreSeen Leaves p m (Err at ∷ spelt) [] seen = AreSeen Leaves p m spelt [] seen
+AreSeen Leaves p m (Err at ∷ spelt) (one ∷ answers) seen =
+    (one ≡ refused_at at) × AreSeen Leaves p m spelt answers seen
+AreSeen Leaves p m (Ok stmt ∷ spelt) answers [] = ⊥
+AreSeen Leaves p m (Ok stmt ∷ spelt) [] (x ∷ seen) =
+    (x.skeleton ≡ skeleton stmt) × Lawful p m stmt x.seen × Leaves p stmt x.seen
+    × AreSeen Leaves (next p x.skeleton x.seen) (m + length (script p x.skeleton x.seen)) spelt []
+    seen
+AreSeen Leaves p m (Ok stmt ∷ spelt) (one ∷ answers) (x ∷ seen) =
+    (x.skeleton ≡ skeleton stmt) × Lawful p m stmt x.seen
+    × (Says (refusal_now p m stmt) p stmt one
+    × (IsTrue (is_cut x.seen.end) ↔ (one.outcome ≡ Refused StoreFault))
+    × (one.plan ≡ x.seen.plan))
+    × AreSeen Leaves (next p x.skeleton x.seen) (m + length (script p x.skeleton x.seen)) spelt
+    answers seen
+
+-- They are those that the statements go on from, if there are any, and the trace of the skeletons and of what is seen of
+-- each: of those that were answered, and of the one begun, if it is a statement. Calls that discard a region are counted
+-- apart, and change no answer.
+pub record Accesses (base : Base) (ending : Ending) (story : Story) (old new : StoreState)
+    : Type 0 where
+  pub one_last : length story.last ≤ 1
+  pub each_seen : length story.seen
+      ≡ length (statements (take (length story.served) story.spelt))
+  pub lawful : AreSeen (StopsWithin ending (FailsBeside story.answers old.faults new.faults))
+      base.public base.count story.spelt story.answers (story.seen ++ story.last)
+  pub asked : new.asked ≡ base.before ++ trace base.public (story.seen ++ story.last)
+  pub failed : RisesBy (failures story.answers) old.faults new.faults
+  pub unfailed : any_cut (story.seen ++ story.last) ≡ false → new.faults ≡ old.faults

@@ -1,0 +1,38 @@
+-- What holds of a run before others disturb its store.
+use Rattle.std.specs.Prelude.{⊤, ◌≡◌, ◌≤◌, ◌+◌, ℕ, List, [], ◌∷◌, length, take, Option, None, Ok, Err}
+use Rattle.ob_base.specs.declared.access.Access.{Access}
+use Rattle.ob_base.specs.declared.config.Config.{Config}
+use Rattle.ob_headline.specs.Bases.{public_with, start}
+use Rattle.ob_headline.specs.Words.{Answer, Begins, refused_at}
+use Rattle.ob_headline.specs.Meaning.{AnswersIn}
+use Rattle.ob_mean.specs.Replay.{Session, Spelt, after, all_served, seen_now}
+use Rattle.ob_script.specs.Script.{script}
+use Rattle.ob_script.specs.Trace.{Served, trace}
+use Rattle.ob_sql.specs.Skeleton.{skeleton}
+
+-- the accesses of these statements by their meaning, from no tables, where no call fails
+abbrev pub meant_trace : Option Config → List Spelt → List Access
+meant_trace settings spelt =
+    trace (public_with settings) (all_served (start settings) spelt [])
+
+-- from a session of the model on: each of these statements that was answered within n accesses is answered as it is
+-- meant, and seen so, and the store failed none
+unfoldable pub MeantUntil : (n : ℕ) → Session → List Spelt → List Answer → List Served → Type 0
+MeantUntil n s [] answers seen = ⊤
+MeantUntil n s (x ∷ spelt) [] seen = ⊤
+MeantUntil n s (Err at ∷ spelt) (one ∷ answers) seen =
+    (one ≡ refused_at at) × MeantUntil n s spelt answers seen
+MeantUntil n s (Ok stmt ∷ spelt) (one ∷ answers) [] = ⊥
+MeantUntil n s (Ok stmt ∷ spelt) (one ∷ answers) (x ∷ seen) =
+    s.asked + length (script s.public (skeleton stmt) x.seen) ≤ n
+    → AnswersIn None s stmt one × (x.seen ≡ seen_now s stmt)
+    × MeantUntil n (after None s stmt) spelt answers seen
+
+-- over a store that others change only behind n accesses: the first n accesses are a first part of those that these
+-- statements ask by their meaning, each answer that came within them is as it is meant, and where the meaning asks no
+-- more, no more is asked
+pub record Until (settings : Option Config) (n : ℕ) (spelt : List Spelt) (answers : List Answer)
+    (seen : List Served) (asked : List Access) : Type 0 where
+  pub begins : Begins (take n asked) (meant_trace settings spelt)
+  pub meant : MeantUntil n (start settings) spelt answers seen
+  pub quiet : length (meant_trace settings spelt) ≤ n → length asked ≤ n

@@ -1,0 +1,27 @@
+-- What a run wrote: the answers, and the trace.
+use Rattle.std.specs.Prelude.{◌≢◌, ◌⊎◌, Bool, ◌++◌}
+use Rattle.ob_base.specs.Counts.{Rises}
+use Rattle.ob_print.specs.Cuts.{Cut}
+use Rattle.ob_script.specs.Trace.{trace}
+use Rattle.ob_headline.specs.Bases.{Base}
+use Rattle.ob_headline.specs.Endings.{last_line}
+use Rattle.ob_headline.specs.Story.{Story}
+use Rattle.ob_headline.specs.Tracing.{traced}
+use Rattle.ob_headline.specs.Words.{Outside, SinksRose, Took, printed}
+use Rattle.ob_headline.specs.declared.ending.Ending.{Ending}
+
+-- The answers, what was printed of the text begun, and the last line. A sink's fault ends the run: where the answers' fails,
+-- the end of what was printed may be lost, and after one of the trace's the last line isn't written. Where tracing is asked
+-- for the accesses are written, too, what comes before the statement begun whole.
+pub record Output (base : Base) (tracing : Bool) (ending : Ending) (story : Story)
+    (old new : Outside) : Type 0 where
+  pub grew : Cut old.written new.written (SinksRose old.faults new.faults)
+      ((printed story.answers ++ story.part) ++ last_line ending)
+  pub whole : Took old.written new.written (printed story.answers)
+  pub through : Took old.written new.written (printed story.answers ++ story.part)
+      ⊎ Rises old.faults.out new.faults.out
+  pub silent : new.faults.trace ≢ old.faults.trace
+      → Cut old.written new.written (Unit {0}) (printed story.answers ++ story.part)
+  pub traced_all : Cut old.traced new.traced (SinksRose old.faults new.faults)
+      (traced tracing (trace base.public (story.seen ++ story.last)))
+  pub traced_whole : Took old.traced new.traced (traced tracing (trace base.public story.seen))

@@ -1,0 +1,184 @@
+-- What runs ask, and when two of them ask the same.
+use Rattle.std.specs.Prelude.{ℕ, ◌≡◌, ◌≤◌, ◌+◌, ◌⊎◌, ◌&&◌, ◌||◌, ⊤, Bool, true, false, not, if◌then◌else◌, List, [], ◌∷◌, ◌++◌, length, IsSome, IsTrue, Option, Some, None, is_some}
+use Rattle.clap.specs.Words.{App, Text}
+use Rattle.ob_base.specs.declared.access.Access.{Access}
+use Rattle.ob_base.specs.declared.config.Public.{Public}
+use Rattle.ob_base.specs.declared.seen.End.TheVariants.{Static, Whole}
+use Rattle.ob_base.specs.declared.seen.Seen.{Seen}
+use Rattle.ob_exec.specs.Running.{refusal_now}
+use Rattle.ob_headline.specs.Bases.{Base, fresh}
+use Rattle.ob_headline.specs.Failures.{failures}
+use Rattle.ob_headline.specs.Headline.{Headline}
+use Rattle.ob_headline.specs.Settings.{IsTaken, MeddleParses, settings_of}
+use Rattle.ob_headline.specs.Usage.{is_traced, usage}
+use Rattle.ob_headline.specs.Words.{Begins, Outside}
+use Rattle.ob_headline.specs.Statements.{statements}
+use Rattle.ob_headline.specs.declared.ending.Report.{Report}
+use Rattle.ob_mean.specs.Lawful.{is_counted}
+use Rattle.ob_script.specs.Script.{script}
+use Rattle.ob_script.specs.Trace.{Served, next, trace}
+use Rattle.ob_sql.specs.Skeleton.{skeleton}
+use Rattle.ob_sql.specs.declared.stmt.Stmt.{Stmt}
+
+-- what `shell_top` promises of a run that reads its input
+abbrev pub ShellRun : List Text → (old new : Outside) → Report → Type 0
+ShellRun words old new report =
+    Headline (fresh (settings_of usage words)) (IsTaken usage words) (is_traced usage words)
+    old new report
+
+-- ---- one run, by the words of any program and from any base
+-- a program takes these words, or the one does over whose store others do what the words say
+abbrev pub TakesWords : Option App → List Text → Type 0
+TakesWords None words = MeddleParses words
+TakesWords (Some app) words = IsTaken app words
+
+pub record SomeRun : Type 0 where
+  pub base : Base
+  pub app : Option App
+  pub words : List Text
+  pub tracing : Bool
+  pub old : Outside
+  pub new : Outside
+  pub report : Report
+  pub run : Headline base (TakesWords app words) tracing old new report
+
+-- a run of `shell_top`
+abbrev pub shell_run : {words : List Text} {old new : Outside} {report : Report}
+    → ShellRun words old new report → SomeRun
+shell_run {words} {old} {new} {report} run = record {
+  base = fresh (settings_of usage words);
+  app = Some usage;
+  words = words;
+  tracing = is_traced usage words;
+  old = old;
+  new = new;
+  report = report;
+  run = run;
+}
+
+abbrev pub stmts_of : SomeRun → List Stmt
+stmts_of one = statements one.run.story.spelt
+
+abbrev pub seen_by : SomeRun → List Served
+seen_by one = one.run.story.seen ++ one.run.story.last
+
+abbrev pub asked_by : SomeRun → List Access
+asked_by one = one.new.store.asked
+
+abbrev pub failures_of : SomeRun → ℕ
+failures_of one = failures one.run.story.answers
+
+-- two runs go on from the same: what is public, and how much was asked
+pub record GoOnFromOne (a b : SomeRun) : Type 0 where
+  pub public : a.base.public ≡ b.base.public
+  pub count : a.base.count ≡ b.base.count
+  pub before : a.base.before ≡ b.base.before
+
+-- a run that came to its end, and of which no text was answered that the store failed
+pub record EndsWell (status : ℕ) (failures : ℕ) : Type 0 where
+  pub ended : status ≤ 1
+  pub none : failures ≡ 0
+
+-- what is seen of a statement that was not cut off, where it is no SELECT of rows or results are padded: whether it was
+-- refused before any access
+abbrev pub seen_plainly : (refused : Bool) → Seen
+seen_plainly true = record { k = None; plan = None; then = None; end = Static }
+seen_plainly false = record { k = None; plan = None; then = None; end = Whole }
+
+abbrev pub plainly : Public → ℕ → Stmt → Seen
+plainly p m stmt = seen_plainly (is_some (refusal_now p m stmt))
+
+-- it is no SELECT of rows, or results are padded
+abbrev pub IsPlain : Public → Stmt → Type 0
+IsPlain p stmt = (is_counted stmt ≡ false) ⊎ IsSome p.pad
+
+-- one of them is a SELECT of rows
+unfoldable pub any_counted : List Stmt → Bool
+any_counted [] = false
+any_counted (stmt ∷ stmts) = is_counted stmt || any_counted stmts
+
+-- two lists of statements, of each of which is seen whether it was refused before any access, and nothing else: their
+-- skeletons are the same, and the same ones are refused so
+unfoldable pub Alike : Public → ℕ → List Stmt → List Stmt → Type 0
+Alike p m [] [] = ⊤
+Alike p m [] (b ∷ qs) = ⊥
+Alike p m (a ∷ ps) [] = ⊥
+Alike p m (a ∷ ps) (b ∷ qs) =
+    (skeleton a ≡ skeleton b) × (is_some (refusal_now p m a) ≡ is_some (refusal_now p m b))
+    × Alike (next p (skeleton a) (plainly p m a))
+    (m + length (script p (skeleton a) (plainly p m a))) ps qs
+
+-- any two lists of statements, and what was seen of each: their skeletons are the same, the same ones are refused before
+-- any access, and of each SELECT of rows the same is seen
+unfoldable pub ShowAlike : Public → ℕ → List Stmt → List Served → List Stmt → List Served → Type 0
+ShowAlike p m [] xs [] ys = ⊤
+ShowAlike p m [] xs (b ∷ qs) ys = ⊥
+ShowAlike p m (a ∷ ps) xs [] ys = ⊥
+ShowAlike p m (a ∷ ps) [] (b ∷ qs) ys = ⊥
+ShowAlike p m (a ∷ ps) (x ∷ xs) (b ∷ qs) [] = ⊥
+ShowAlike p m (a ∷ ps) (x ∷ xs) (b ∷ qs) (y ∷ ys) =
+    (skeleton a ≡ skeleton b) × (is_some (refusal_now p m a) ≡ is_some (refusal_now p m b))
+    × (IsTrue (is_counted a) → x.seen ≡ y.seen)
+    × ShowAlike (next p x.skeleton x.seen) (m + length (script p x.skeleton x.seen)) ps xs qs ys
+
+-- of statements that are not cut off, each of which is no SELECT of rows or has its result padded, what is seen: a
+-- function of their skeletons, and of which are refused before any access
+unfoldable pub shown_plainly : Public → ℕ → List Stmt → List Served
+shown_plainly p m [] = []
+shown_plainly p m (stmt ∷ stmts) =
+    record { skeleton = skeleton stmt; seen = plainly p m stmt }
+    ∷ shown_plainly (next p (skeleton stmt) (plainly p m stmt))
+    (m + length (script p (skeleton stmt) (plainly p m stmt))) stmts
+
+-- none of them is a SELECT of rows, or results are padded
+abbrev pub ArePlain : Public → List Stmt → Type 0
+ArePlain p stmts = (any_counted stmts ≡ false) ⊎ IsSome p.pad
+
+-- what is seen of a statement that isn't cut off: where it is a SELECT of rows and results aren't padded what was seen of
+-- it, and else what follows from its early refusal
+abbrev pub shown_as : Public → ℕ → Stmt → Seen → Served
+shown_as p m stmt seen = record {
+  skeleton = skeleton stmt;
+  seen = if is_counted stmt && not (is_some p.pad) then seen else plainly p m stmt;
+}
+
+-- what is seen of statements of which none is cut off, but for such a SELECT
+unfoldable pub shown : Public → ℕ → List Stmt → List Served → List Served
+shown p m [] xs = []
+shown p m (stmt ∷ stmts) [] = []
+shown p m (stmt ∷ stmts) (x ∷ xs) =
+    shown_as p m stmt x.seen
+    ∷ shown (next p (skeleton stmt) (shown_as p m stmt x.seen).seen)
+    (m + length (script p (skeleton stmt) (shown_as p m stmt x.seen).seen)) stmts xs
+
+-- as far as both go two lists of statements show the same: their skeletons are the same, the same ones are refused before
+-- any access, and of each SELECT of rows that isn't padded the same is seen
+unfoldable pub AlikeSoFar : Public → ℕ → List Stmt → List Served → List Stmt → List Served → Type 0
+AlikeSoFar p m [] xs qs ys = ⊤
+AlikeSoFar p m (a ∷ ps) xs [] ys = ⊤
+AlikeSoFar p m (a ∷ ps) [] (b ∷ qs) ys = ⊤
+AlikeSoFar p m (a ∷ ps) (x ∷ xs) (b ∷ qs) [] = ⊤
+AlikeSoFar p m (a ∷ ps) (x ∷ xs) (b ∷ qs) (y ∷ ys) =
+    (shown_as p m a x.seen ≡ shown_as p m b y.seen)
+    × AlikeSoFar (next p (skeleton a) (shown_as p m a x.seen).seen)
+    (m + length (script p (skeleton a) (shown_as p m a x.seen).seen)) ps xs qs ys
+
+-- one of them is a first part of the other
+abbrev pub OneBegins : {A : Type 0} → (xs ys : List A) → Type 0
+OneBegins xs ys = Begins xs ys ⊎ Begins ys xs
+
+-- a run asks a first part of one list, behind what it begins with: of the accesses that follow from the skeletons of its
+-- statements, from which are refused before any access, and from what is seen of its SELECTs of rows that aren't padded
+abbrev pub AsksAsShown : SomeRun → Type 0
+AsksAsShown one = Begins (asked_by one) (one.base.before
+    ++ trace one.base.public (shown one.base.public one.base.count (stmts_of one) (seen_by one)))
+
+-- if no text of a run was answered that the store failed, and none of its statements is a SELECT of rows or results are
+-- padded, what it asks is a first part of one list, however it ends: behind what it begins with, of the accesses that
+-- follow from the skeletons of its statements and from which are refused before any access
+abbrev pub AsksByKinds : {base : Base} {Takes : Type 0} {tracing : Bool} {old new : Outside}
+    {report : Report} → Headline base Takes tracing old new report → Type 0
+AsksByKinds {base = base} {new = new} run =
+    failures run.story.answers ≡ 0 → ArePlain base.public (statements run.story.spelt)
+    → Begins new.store.asked (base.before
+    ++ trace base.public (shown_plainly base.public base.count (statements run.story.spelt)))

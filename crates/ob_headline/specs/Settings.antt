@@ -1,0 +1,153 @@
+-- The settings of a run that the words of its command line spell.
+use Rattle.std.specs.Prelude.{ℕ, ◌≡◌, ◌+◌, ◌*◌, ◌&&◌, nat_le, Bool, true, false, List, Option, Some, None, IsSome, option_map, codes, bytes_eq, if◌then◌else◌}
+use Rattle.clap.specs.Words.{App, Text}
+use Rattle.ob_base.specs.declared.config.Config.{Config}
+use Rattle.ob_base.specs.declared.config.Plan.{Plan}
+use Rattle.ob_base.specs.declared.config.Plan.TheVariants.{Small, Large, Continuous, Hash}
+use Rattle.ob_headline.specs.Usage.{Parses, changes_of, is_set, meddle_usage, value_of}
+use Rattle.ob_headline.specs.declared.seed.Seed.{Seed}
+use Rattle.ob_meddle.specs.Changes.{comma, front, number, rest, wide}
+use Rattle.ob_meddle.specs.declared.meddle.Meddle.{Meddle}
+
+-- ---- values
+
+-- a number, where there is one and it is no less
+abbrev pub at_least : ℕ → Option ℕ → Option ℕ
+at_least least None = None
+at_least least (Some n) = if nat_le least n then Some n else None
+
+-- a number within these bounds, in decimal, without a sign and without leading zeros; the last where none is given
+abbrev pub number_in : (least most default : ℕ) → Option Text → Option ℕ
+number_in least most default None = Some default
+number_in least most default (Some text) = at_least least (number most text)
+
+-- the plan that a name forces; `auto` forces none
+abbrev pub plan_named : Text → Option (Option Plan)
+plan_named name =
+    if bytes_eq name (codes "auto") then Some None
+    else (if bytes_eq name (codes "small") then Some (Some Small)
+    else (if bytes_eq name (codes "large") then Some (Some Large)
+    else (if bytes_eq name (codes "continuous") then Some (Some Continuous)
+    else (if bytes_eq name (codes "hash") then Some (Some Hash) else None))))
+
+-- none is forced where none is named
+abbrev pub plan_in : Option Text → Option (Option Plan)
+plan_in None = Some None
+plan_in (Some name) = plan_named name
+
+-- the rows to which results are padded, from 1 to 1,048,576; none where none are given
+abbrev pub pad_in : Option Text → Option (Option ℕ)
+pad_in None = Some None
+pad_in (Some text) = option_map Some (at_least 1 (number 1048576 text))
+
+-- ---- settings
+
+-- where results are padded, neither Continuous nor Hash is forced
+abbrev pub may_pad : (pad : Option ℕ) → Option Plan → Bool
+may_pad None plan = true
+may_pad (Some rows) None = true
+may_pad (Some rows) (Some Small) = true
+may_pad (Some rows) (Some Large) = true
+may_pad (Some rows) (Some Continuous) = false
+may_pad (Some rows) (Some Hash) = false
+
+-- settings whose buffer holds three blocks and one row, and whose plan may be padded
+abbrev pub fitted : (buffer depth : ℕ) → Option Plan → (pack : ℕ) → (pad : Option ℕ)
+    → (max_input : ℕ) → Option Config
+fitted buffer depth plan pack pad max_input =
+    if nat_le (3 * pack + 1) buffer && may_pad pad plan
+    then Some (record {
+      buffer = buffer;
+      depth = depth;
+      pack = pack;
+      plan = plan;
+      pad = pad;
+      max_input = max_input;
+    })
+    else None
+
+-- settings of which each value has its form and its range
+abbrev pub joined : (buffer depth : Option ℕ) → Option (Option Plan) → (pack : Option ℕ)
+    → (pad : Option (Option ℕ)) → (max_input : Option ℕ) → Option Config
+joined None depth plan pack pad max_input = None
+joined (Some buffer) None plan pack pad max_input = None
+joined (Some buffer) (Some depth) None pack pad max_input = None
+joined (Some buffer) (Some depth) (Some plan) None pad max_input = None
+joined (Some buffer) (Some depth) (Some plan) (Some pack) None max_input = None
+joined (Some buffer) (Some depth) (Some plan) (Some pack) (Some pad) None = None
+joined (Some buffer) (Some depth) (Some plan) (Some pack) (Some pad) (Some max_input) =
+    fitted buffer depth plan pack pad max_input
+
+-- the settings that these values spell, each under its name
+abbrev pub settings_in : (Text → Option Text) → Option Config
+settings_in value =
+    joined (number_in 4 65536 64 (value (codes "buffer"))) (number_in 1 8 5 (value (codes "depth")))
+    (plan_in (value (codes "plan"))) (number_in 1 16 1 (value (codes "pack")))
+    (pad_in (value (codes "pad")))
+    (number_in 1024 1073741824 1073741824 (value (codes "max-input")))
+
+-- a place of the mark may be given with `--keep` alone
+abbrev pub may_mark : (place : Option Text) → (keeps : Bool) → Bool
+may_mark None keeps = true
+may_mark (Some place) keeps = keeps
+
+-- the same, where each of the values may be given
+abbrev pub settings_by : (Text → Option Text) → Option Config
+settings_by value =
+    if may_mark (value (codes "mark")) (is_set (value (codes "keep"))) then settings_in value
+    else None
+
+-- the settings that the words spell, none where a value has not its form or not its range, or goes with a word that
+-- isn't given
+abbrev pub settings_of : App → List Text → Option Config
+settings_of app words = settings_by (value_of app words)
+
+-- ---- what is generated in place of the input
+
+-- from a start and a number of rows
+abbrev pub seed_by : (start rows : Option ℕ) → Option Seed
+seed_by None rows = None
+seed_by (Some start) None = None
+seed_by (Some start) (Some rows) = Some (record { start = start; rows = rows })
+
+-- from 1 to 4,096
+abbrev pub rows_of : Option Text → Option ℕ
+rows_of None = None
+rows_of (Some text) = at_least 1 (number 4096 text)
+
+-- `X,N`: a start below 2^64, and a number of rows, both in decimal, without a sign and without leading zeros
+abbrev pub seed_of : Text → Option Seed
+seed_of text = seed_by (wide (front comma text)) (rows_of (rest comma text))
+
+-- none is asked for where no value is given; none at all where it has another form
+abbrev pub seed_in : Option Text → Option (Option Seed)
+seed_in None = Some None
+seed_in (Some text) = option_map Some (seed_of text)
+
+abbrev pub generated_by : App → List Text → Option (Option Seed)
+generated_by app words = seed_in (value_of app words (codes "gen"))
+
+-- the command takes these words, and they spell these settings, and what is generated, if something is
+pub record ParsesAs (app : App) (words : List Text) (config : Config) : Type 0 where
+  pub parses : Parses app words
+  pub settings : settings_of app words ≡ Some config
+  pub generated : IsSome (generated_by app words)
+
+-- the words are those of a program
+abbrev pub IsTaken : App → List Text → Type 0
+IsTaken app words = (config : Config) × ParsesAs app words config
+
+-- the same of a program over a store that others change, where they also spell these changes
+pub record ParsesChanges (words : List Text) (config : Config) (list : List Meddle) : Type 0 where
+  pub settings : ParsesAs meddle_usage words config
+  pub changes : changes_of words ≡ Some list
+
+abbrev pub MeddleParses : List Text → Type 0
+MeddleParses words = (config : Config) × (list : List Meddle) × ParsesChanges words config list
+
+-- ---- what settings set
+
+-- as many bytes of the input are read, at most: none without settings
+abbrev pub limit_of : Option Config → ℕ
+limit_of None = 0
+limit_of (Some config) = config.max_input

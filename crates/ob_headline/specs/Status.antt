@@ -1,0 +1,102 @@
+-- The status of a run, and why it ends.
+use Rattle.std.specs.Prelude.{ℕ, ◌≡◌, ◌<◌, ◌⊎◌, ⊤, Bool, true, false, List, [], ◌∷◌, ◌++◌, length, IsSome, None, Ok, Err, Some}
+use Rattle.ob_base.specs.Counts.{Rises}
+use Rattle.ob_base.specs.declared.access.Access.{Access}
+use Rattle.ob_base.specs.declared.access.Access.TheVariants.{Read}
+use Rattle.ob_base.specs.declared.refusal.Stop.TheVariants.{Tampered, SourceFault, SinkFault, NoMemory, InputLimit}
+use Rattle.ob_headline.specs.Bases.{Base, FromEach}
+use Rattle.ob_headline.specs.KeyLine.{LineTaken, after_line, first_line, has_lf, line_max, secret_of}
+use Rattle.ob_headline.specs.Texts.{is_over, rest_of as pending_of}
+use Rattle.ob_headline.specs.declared.ending.Ending.{Ending}
+use Rattle.ob_headline.specs.declared.ending.Ending.TheVariants.{Usage, BadKey, Ran}
+use Rattle.ob_headline.specs.Words.{Outside, SinksRose, NoneRose, IsHonest, Answer, any_refused}
+use Rattle.ob_headline.specs.Endings.{status_of}
+use Rattle.ob_headline.specs.Settings.{limit_of}
+use Rattle.ob_headline.specs.Story.{Story}
+
+-- the first line is a secret
+abbrev pub HasSecret : List ℕ → Type 0
+HasSecret taken = IsSome (secret_of (first_line taken))
+
+-- of the texts nothing is left
+pub record AllServed (more : List (List ℕ)) (part : List ℕ) : Type 0 where
+  pub no_more : more ≡ []
+  pub no_part : part ≡ []
+
+-- the input was read to its end, within its limits, and all of it was served
+pub record ReadWhole (max : ℕ) (taken : List ℕ) (ended : Bool) (more : List (List ℕ))
+    (part : List ℕ) : Type 0 where
+  pub secret : HasSecret taken
+  pub whole : ended ≡ true
+  pub all : AllServed more part
+  pub short : is_over (pending_of [] (after_line taken)) ≡ false
+  pub within : length taken < max
+
+-- the source failed after these bytes, and all of them was served
+pub record ReadUntilFault (taken : List ℕ) (ended : Bool) (more : List (List ℕ))
+    (part : List ℕ) : Type 0 where
+  pub line : HasSecret taken ⊎ ((has_lf taken ≡ false) × (length taken < line_max))
+  pub cut : ended ≡ false
+  pub all : AllServed more part
+  pub short : is_over (pending_of [] (after_line taken)) ≡ false
+
+-- a text, or the whole input, has come to its limit, and all that was taken was served
+pub record ReadToLimit (max : ℕ) (taken : List ℕ) (ended : Bool) (more : List (List ℕ))
+    (part : List ℕ) : Type 0 where
+  pub secret : HasSecret taken
+  pub cut : ended ≡ false
+  pub all : AllServed more part
+  pub limit : (is_over (pending_of [] (after_line taken)) ≡ true) ⊎ (length taken ≡ max)
+
+-- the last access was a read of this place
+pub record EndsAtRead (region place : ℕ) (asked : List Access) : Type 0 where
+  pub before : List Access
+  pub is : asked ≡ before ++ Read region place ∷ []
+
+-- of the words, the bytes taken, what was served, the store and the counts of faults
+abbrev pub Because : Base → Ending → (Takes : Type 0) (max : ℕ) (taken : List ℕ) (ended : Bool)
+    (more : List (List ℕ)) (answers : List Answer) (part : List ℕ) (old new : Outside) → Type 0
+Because base Usage Takes max taken ended more answers part old new =
+    (¬ Takes) × (taken ≡ []) × (new.faults.source ≡ old.faults.source)
+Because base BadKey Takes max taken ended more answers part old new =
+    Takes × (secret_of (first_line taken) ≡ None) × LineTaken taken new.left
+    × (new.faults.source ≡ old.faults.source)
+Because base (Ran (Ok refused)) Takes max taken ended more answers part old new =
+    Takes × (refused ≡ any_refused answers) × ReadWhole max taken ended more part
+    × NoneRose old.faults new.faults
+Because base (Ran (Err (Tampered region place))) Takes max taken ended more answers part old new =
+    Takes × HasSecret taken × FromEach base (λ s. ¬ IsHonest old.store new.store)
+    × EndsAtRead region place new.store.asked × (new.faults.source ≡ old.faults.source)
+Because base (Ran (Err SourceFault)) Takes max taken ended more answers part old new =
+    Takes × ReadUntilFault taken ended more part × Rises old.faults.source new.faults.source
+Because base (Ran (Err SinkFault)) Takes max taken ended more answers part old new =
+    Takes × HasSecret taken × SinksRose old.faults new.faults
+    × (new.faults.source ≡ old.faults.source)
+Because base (Ran (Err NoMemory)) Takes max taken ended more answers part old new =
+    new.faults.source ≡ old.faults.source
+Because base (Ran (Err InputLimit)) Takes max taken ended more answers part old new =
+    Takes × ReadToLimit max taken ended more part × (new.faults.source ≡ old.faults.source)
+
+-- an input that keeps to the limits: its first line is a secret, and neither it nor a text of it is too long
+pub record KeepsLimits (max : ℕ) (input : List ℕ) : Type 0 where
+  pub secret : HasSecret input
+  pub short : length input < max
+  pub texts : is_over (pending_of [] (after_line input)) ≡ false
+
+-- the input was read to its end, or memory was wanting, or a block was not what was written there
+abbrev pub IsCompleted : (honest : Type 0) → Ending → Type 0
+IsCompleted honest (Ran (Ok refused)) = ⊤
+IsCompleted honest (Ran (Err (Tampered region place))) = ¬ honest
+IsCompleted honest (Ran (Err NoMemory)) = ⊤
+IsCompleted honest _ = ⊥
+
+-- it says how the run ended, for its cause; and one that nothing hinders comes to the end of its input
+pub record Status (base : Base) (Takes : Type 0) (taken : List ℕ) (ended : Bool)
+    (ending : Ending) (story : Story) (old new : Outside) (said : ℕ) : Type 0 where
+  pub status : said ≡ status_of ending
+  pub because : Because base ending Takes (limit_of base.settings) taken ended story.more
+      story.answers story.part old new
+  pub completes : Takes → (input : List ℕ) → old.left ≡ Some input
+      → KeepsLimits (limit_of base.settings) input
+      → ¬ Rises old.faults.source new.faults.source → ¬ SinksRose old.faults new.faults
+      → FromEach base (λ s. IsCompleted (IsHonest old.store new.store) ending)

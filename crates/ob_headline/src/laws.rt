@@ -1,0 +1,181 @@
+//! What follows of whole runs, and how bytes are cut into texts.
+ghost use Rattle.std.specs.Prelude.{◌≡◌, ◌<◌, Bool, List, [], ℕ, IsSome, IsTrue, Option, Some, false, length};
+ghost use Rattle.clap.specs.Words.{App, Text};
+ghost use Rattle.ob_base.specs.declared.config.Config.{Config};
+ghost use Rattle.ob_base.specs.declared.config.Public.{Public};
+ghost use Rattle.ob_base.specs.declared.mark.Mark.{Mark};
+ghost use Rattle.ob_base.specs.declared.mark.Mark.TheVariants.{Fresh};
+ghost use Rattle.ob_base.specs.declared.seen.Seen.{Seen};
+ghost use Rattle.ob_headline.specs.Bases.{Base, FromEach, fresh};
+ghost use Rattle.ob_headline.specs.Headline.{Headline};
+ghost use Rattle.ob_headline.specs.Keeping.{BeginsFrom};
+ghost use Rattle.ob_headline.specs.KeptMarks.{HeldAfter, KeptRun};
+ghost use Rattle.ob_headline.specs.KeptRuns.{AnswerAsOne, AnyRun, AreChained, GoOn, NumberOn, OneRun};
+ghost use Rattle.ob_headline.specs.Pieces.{BeginsWith};
+ghost use Rattle.ob_headline.specs.Plainly.{IsUnhindered, RunsPlainly};
+ghost use Rattle.ob_headline.specs.Reruns.{Alike, AlikeSoFar, AsksAsShown, AsksByKinds, EndsWell, GoOnFromOne, IsPlain};
+ghost use Rattle.ob_headline.specs.Reruns.{OneBegins, ShowAlike, SomeRun, any_counted, asked_by, failures_of, plainly};
+ghost use Rattle.ob_headline.specs.Reruns.{seen_by, stmts_of};
+ghost use Rattle.ob_headline.specs.Settings.{IsTaken, MeddleParses};
+ghost use Rattle.ob_headline.specs.Shown.{AskedTheSame, IsBegun, IsBetween, ShowNumbersAlike, ShowsBehind};
+ghost use Rattle.ob_headline.specs.Shown.{ShowsBetween, ShowsKept, ShowsSealed, WriteOwn, Wrote, asked_behind};
+ghost use Rattle.ob_headline.specs.Shown.{public_behind};
+ghost use Rattle.ob_headline.specs.Texts.{is_over, rest_of, texts_of};
+ghost use Rattle.ob_headline.specs.Words.{Outside};
+ghost use Rattle.ob_headline.specs.Accesses.{is_cut};
+ghost use Rattle.ob_headline.specs.declared.ending.Report.{Report};
+ghost use Rattle.ob_mean.specs.Lawful.{Lawful};
+ghost use Rattle.ob_reopen.specs.Keepers.{KeeperState};
+ghost use Rattle.ob_seal.specs.KeySet.{KeySet};
+ghost use Rattle.ob_sql.specs.declared.stmt.Stmt.{Stmt};
+ghost use Rattle.ob_store.specs.State.{KeptRegion, StoreState};
+ghost use Rattle.ob_token.specs.Cutting.{cut};
+
+/// The texts that a session cuts, a byte at a time, are the pieces that `split` finds in its bytes, one after the
+/// other, while none comes to the limit of a text: the first piece is the first text, or none where it holds nothing,
+/// and the others are those of the bytes behind it.
+pub fn texts_are_pieces()
+    ensures { (bytes : List ℕ) → is_over (rest_of [] bytes) ≡ false
+        → BeginsWith bytes (texts_of [] bytes) (rest_of [] bytes) (cut bytes) }
+{}
+
+/// Of a statement that was not cut off, and is no SELECT of rows or has its result padded, nothing is seen but whether it
+/// was refused before any access: of CREATE, INSERT, UPDATE, DELETE, DROP and SELECT of totals no row and no literal has a
+/// part in it, and of a padded SELECT of rows neither has the number of rows selected.
+pub fn shows_its_refusal_alone()
+    ensures { (p : Public) (m : ℕ) (stmt : Stmt) (here : Seen) → Lawful p m stmt here
+        → IsPlain p stmt → is_cut here.end ≡ false → here ≡ plainly p m stmt }
+{}
+
+/// However a run ends and whatever the store does, as long as no text was answered that the store failed, its accesses are
+/// a first part of one list, which follows from the settings, the skeletons of the statements, which of these were refused
+/// before any access, and what is seen of SELECTs of rows whose results aren't padded: by the words of any program, from no
+/// tables or from those of an earlier run.
+pub fn asks_as_shown()
+    ensures { (one : SomeRun) → failures_of one ≡ 0 → AsksAsShown one }
+{}
+
+/// So of two such runs that go on from the same, whose statements show the same as far as both go, one asks a first part of
+/// what the other asks, over any stores, however they end, and whatever their literals and their rows.
+pub fn one_asks_a_first_part()
+    ensures { (a b : SomeRun) → GoOnFromOne a b → failures_of a ≡ 0 → failures_of b ≡ 0
+        → AlikeSoFar a.base.public a.base.count (stmts_of a) (seen_by a) (stmts_of b) (seen_by b)
+        → OneBegins (asked_by a) (asked_by b) }
+{}
+
+/// Over a store that tells what it holds, gave what was written and failed at no statement, a run whose words are taken,
+/// whose input keeps to the limits, and whose source and sinks don't fail, is the run of the plain machine, unless it ends
+/// for want of memory: each text of its input is answered as SQL answers it over plain tables, from none or from those that
+/// rested, it printed these answers, asked and traced what they ask by their meaning, and has their status.
+pub fn unhindered_runs_are_plain()
+    ensures { (one : SomeRun) (input : List ℕ) → IsUnhindered one input
+        → FromEach one.base (RunsPlainly one input) }
+{}
+
+/// Two runs that go on from the same, over any stores, that came to their end, and of which no text was answered that the
+/// store failed, ask the same, whatever their literals and their rows: if none of their statements is a SELECT of rows,
+/// their skeletons are the same, and the same ones are refused before any access.
+pub fn reruns_ask_the_same()
+    ensures { (a b : SomeRun) → GoOnFromOne a b
+        → EndsWell a.report.status (failures_of a) → EndsWell b.report.status (failures_of b)
+        → any_counted (stmts_of a) ≡ false
+        → Alike a.base.public a.base.count (stmts_of a) (stmts_of b) → asked_by a ≡ asked_by b }
+{}
+
+/// Two such runs with `--pad`, over any stores, ask the same, whatever their literals and their rows and however many rows
+/// are selected: if their skeletons are the same, and the same ones are refused before any access.
+pub fn padded_reruns_ask_the_same()
+    ensures { (a b : SomeRun) → GoOnFromOne a b
+        → EndsWell a.report.status (failures_of a) → EndsWell b.report.status (failures_of b)
+        → IsSome a.base.public.pad
+        → Alike a.base.public a.base.count (stmts_of a) (stmts_of b) → asked_by a ≡ asked_by b }
+{}
+
+/// The same over the whole language, where of each SELECT of rows the same is seen: then of all statements the same is
+/// seen, and the runs ask the same.
+pub fn reruns_show_the_same()
+    ensures { (a b : SomeRun) → GoOnFromOne a b
+        → EndsWell a.report.status (failures_of a) → EndsWell b.report.status (failures_of b)
+        → ShowAlike a.base.public a.base.count (stmts_of a) (seen_by a) (stmts_of b) (seen_by b)
+        → (seen_by a ≡ seen_by b) × (asked_by a ≡ asked_by b) }
+{}
+
+/// The mark that a keeper holds, where it tells, once a run with `--keep` ended. Before the first statement it is the one
+/// that was held. Behind a session that came to its end, and whose tables were closed, it is the one of that closing, and
+/// else the store is in use. Where the keeper failed it may have changed the mark, or not.
+pub fn marks_are_held()
+    ensures { (words : List Text) (old new : Outside) (keeper0 keeper1 : KeeperState)
+        (report : Report) (run : KeptRun words old new keeper0 keeper1 report)
+        (held : Mark) → keeper0.held ≡ Some held → HeldAfter run.ran held }
+{}
+
+/// Runs with one secret and the same words, `--keep` among them, that came to their end, the first over a fresh mark and
+/// each later one over the mark and the store that the one before it left, where that tells, gave what was written and
+/// failed at no statement: together they answer as one run does over all their texts. Only that so many accesses were
+/// asked that a statement is refused for it may come at another place.
+pub fn runs_answer_as_one()
+    ensures { (words : List Text) (secret : List ℕ) (kept : ℕ → Option KeptRegion)
+        (runs : List (OneRun words)) → GoOn secret (Some Fresh) kept runs → AnswerAsOne runs }
+{}
+
+/// The numbers of writes, which count on from where a run begins, go on over all runs of one keeper that tells, the first
+/// over a fresh mark and each later one over the mark that the one before it left, by whatever words and over whatever
+/// stores, whatever became of them: those of a run are greater than those of all runs before it.
+pub fn numbers_go_on()
+    ensures { (runs : List AnyRun) → AreChained (Some Fresh) runs → NumberOn 0 runs }
+{}
+
+/// Whatever a store answers and however a run ends, where no text was answered that the store failed, and no statement is
+/// a SELECT of rows or results are padded, it asks a first part of what follows from the skeletons of its statements, and
+/// from which are refused before any access, alone: from no tables or from those of an earlier run, by the words of any
+/// program, with `--meddle` among them or without.
+pub fn asks_by_kinds()
+    ensures taken { (base : Base) (app : App) (words : List Text) (tracing : Bool)
+        (old new : Outside) (report : Report)
+        (run : Headline base (IsTaken app words) tracing old new report) → AsksByKinds run }
+    ensures meddled { (base : Base) (words : List Text) (tracing : Bool)
+        (old new : Outside) (report : Report)
+        (run : Headline base (MeddleParses words) tracing old new report) → AsksByKinds run }
+{}
+
+/// Each statement of a run writes to the regions that it makes, and to no other, whatever the store does and however the
+/// run ends: behind a statement nothing is written to a region that was made by then.
+pub fn statements_write_their_own()
+    ensures own { (one : SomeRun) → WriteOwn one.base.public (seen_by one) }
+    ensures behind { (one : SomeRun) (k i region place : ℕ)
+        → region < (public_behind one k).next_region → Wrote (asked_by one) i region place
+        → i < length (asked_behind one k) }
+{}
+
+/// Over a store that tells what it holds, however a run ends, each block that lies in a live region that the run made is
+/// sealed for its place, under a number that is that of a write to it, and of no other write, of this run or of an earlier
+/// one. So it is at the end; behind any of the accesses, if the region is live to the end, where the place isn't written
+/// again; and so, behind each statement, of all blocks of the regions that were made by then and are live to the end.
+pub fn blocks_are_sealed_alone()
+    ensures ends { (one : SomeRun) → IsBegun one.base → ShowsSealed one }
+    ensures between { (one : SomeRun) → IsBegun one.base → IsTrue one.old.store.tells
+        → (between : StoreState) → IsBetween one between → ShowsBetween one between }
+    ensures behind { (one : SomeRun) → IsBegun one.base → IsTrue one.old.store.tells
+        → (between : StoreState) → IsBetween one between
+        → (k : ℕ) → between.asked ≡ asked_behind one k → ShowsBehind one k between }
+{}
+
+/// What the statements of a run go on from is as the laws of blocks ask: no tables, or those of a closing that was opened.
+pub fn runs_begin_behind_earlier_ones()
+    ensures fresh { (settings : Option Config) → IsBegun (fresh settings) }
+    ensures kept { (mark : Mark) (config : Config) (keys : KeySet) (base : Base)
+        (old new : StoreState) → BeginsFrom mark config keys base old new → IsBegun base }
+{}
+
+/// So it is once a run with `--keep` ended, over a store that tells: of the blocks of its statements and of its closing.
+pub fn kept_blocks_are_sealed_alone()
+    ensures { (words : List Text) (old new : Outside) (keeper0 keeper1 : KeeperState)
+        (report : Report) (run : KeptRun words old new keeper0 keeper1 report)
+        → ShowsKept run.ran }
+{}
+
+/// Where two runs that go on from the same asked the same, and no call failed, the blocks that lie at one place in both
+/// stores differ in the secret and the rows alone: they are sealed under one number.
+pub fn blocks_are_numbered_alike()
+    ensures { (a b : SomeRun) → AskedTheSame a b → ShowNumbersAlike a b }
+{}

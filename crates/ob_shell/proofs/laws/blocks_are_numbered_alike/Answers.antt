@@ -1,5 +1,0 @@
-use Rattle.ob_shell.proofs.LeftLemmas.{numbers_alike}
-use Rattle.ob_shell.proofs.laws.blocks_are_numbered_alike.Goals as goal
-
-pub returns : goal.returns
-returns c = numbers_alike

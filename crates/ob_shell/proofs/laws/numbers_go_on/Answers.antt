@@ -1,5 +1,0 @@
-use Rattle.ob_shell.proofs.Numbered.{number_on}
-use Rattle.ob_shell.proofs.laws.numbers_go_on.Goals as goal
-
-pub returns : goal.returns
-returns c = number_on

@@ -1,5 +1,0 @@
-use Rattle.ob_shell.proofs.RerunLemmas.{ask_the_same}
-use Rattle.ob_shell.proofs.laws.reruns_ask_the_same.Goals as goal
-
-pub returns : goal.returns
-returns c = ask_the_same

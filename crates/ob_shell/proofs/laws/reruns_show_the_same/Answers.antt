@@ -1,5 +1,0 @@
-use Rattle.ob_shell.proofs.RerunLemmas.{show_the_same}
-use Rattle.ob_shell.proofs.laws.reruns_show_the_same.Goals as goal
-
-pub returns : goal.returns
-returns c = show_the_same

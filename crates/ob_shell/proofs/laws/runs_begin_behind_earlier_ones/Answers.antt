@@ -1,5 +1,0 @@
-use Rattle.ob_shell.proofs.BegunLemmas.{begun_fresh, begun_from}
-use Rattle.ob_shell.proofs.laws.runs_begin_behind_earlier_ones.Goals as goal
-
-pub returns : goal.returns
-returns c = record { fresh = begun_fresh; kept = begun_from }

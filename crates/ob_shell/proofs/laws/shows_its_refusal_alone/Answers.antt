@@ -1,5 +1,0 @@
-use Rattle.ob_shell.proofs.RerunLemmas.{shows_plainly}
-use Rattle.ob_shell.proofs.laws.shows_its_refusal_alone.Goals as goal
-
-pub returns : goal.returns
-returns c = shows_plainly

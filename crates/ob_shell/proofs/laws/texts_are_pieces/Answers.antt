@@ -1,5 +1,0 @@
-use Rattle.ob_shell.proofs.PieceLemmas.{pieces}
-use Rattle.ob_shell.proofs.laws.texts_are_pieces.Goals as goal
-
-pub returns : goal.returns
-returns c bytes short = pieces bytes short

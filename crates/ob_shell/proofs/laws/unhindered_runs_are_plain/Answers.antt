@@ -1,5 +1,0 @@
-use Rattle.ob_shell.proofs.PlainLemmas.{runs_plainly}
-use Rattle.ob_shell.proofs.laws.unhindered_runs_are_plain.Goals as goal
-
-pub returns : goal.returns
-returns c = runs_plainly
