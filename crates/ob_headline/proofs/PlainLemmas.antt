@@ -25,7 +25,6 @@ use Rattle.ob_mean.specs.Replay.{Broken, Session, Spelt, after, all_served, head
 use Rattle.ob_print.specs.Cuts.{Cut}
 use Rattle.ob_script.specs.Script.{script}
 use Rattle.ob_script.specs.Trace.{Served as Entry, next, trace}
-use Rattle.ob_sql.specs.Skeleton.{skeleton}
 use Rattle.ob_sql.specs.declared.stmt.Stmt.{Stmt}
 
 -- ---- its answers

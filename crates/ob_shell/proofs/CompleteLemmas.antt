@@ -21,7 +21,7 @@ use Rattle.ob_print.proofs.CutLemmas.{Cut-by, Cut-fault}
 use Rattle.ob_print.specs.Cuts.{Cut}
 use Rattle.ob_shell.proofs.KeyLemmas.{after_line-none, first_line-long, secret_of-long}
 use Rattle.ob_shell.proofs.RunLemmas.{took_more, took_of, took_or}
-use Rattle.ob_shell.proofs.TopLemmas.{first_line-more, after_line-more, shown_line, cut_line, quiet_line, line_rose, rose_with, status_cause}
+use Rattle.ob_shell.proofs.TopLemmas.{first_line-more, after_line-more, shown_line, cut_line, quiet_line, line_rose, status_cause}
 use Rattle.ob_shell.specs.Top.{TraceSink, EndsUntampered, EndingSays, EndingWords, EndingCause, Shown, StatusCause, Reported}
 use Rattle.ob_store.specs.State.{StoreState}
 

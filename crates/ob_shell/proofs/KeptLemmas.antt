@@ -1,5 +1,5 @@
 -- The headline of a run whose tables are kept, by what was done until its last line.
-use Rattle.std.proofs.Common.{◌≡◌, ◌≢◌, ℕ, Bool, true, false, List, [], ◌++◌, Option, Some, Result, Ok, Err, inl, inr, refl, sym, ◌∙◌, ap, subst, arith}
+use Rattle.std.proofs.Common.{◌≡◌, ◌≢◌, ℕ, Bool, true, false, List, [], Option, Some, Result, Ok, Err, inl, inr, refl, sym, ◌∙◌, ap, subst, arith}
 use Rattle.std.proofs.KnownBytes.{Appends-nil}
 use Rattle.ob_base.specs.Counts.{Rises}
 use Rattle.ob_base.specs.declared.config.Config.{Config}
@@ -23,8 +23,6 @@ use Rattle.ob_print.proofs.CutLemmas.{Cut-whole}
 use Rattle.ob_print.specs.Cuts.{Cut}
 use Rattle.ob_reopen.specs.Keepers.{KeeperState}
 use Rattle.ob_reopen.specs.declared.fault.CloseErr.{CloseErr}
-use Rattle.ob_reopen.specs.declared.fault.CloseErr.TheVariants as CloseErrs
-use Rattle.ob_reopen.specs.declared.fault.OpenErr.TheVariants as OpenErrs
 use Rattle.ob_seal.specs.Sealed.{keys_of}
 use Rattle.ob_shell.proofs.CloseLemmas.{words_taken}
 use Rattle.ob_shell.proofs.CompleteLemmas.{reported_line, reported_quiet}

@@ -5,6 +5,7 @@ pub mod Pushed
 pub mod Generating
 pub mod Running
 pub mod Standing
+pub mod Serving
 pub mod Steps
 pub mod Tallies
 pub mod Top

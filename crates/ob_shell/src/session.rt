@@ -1,5 +1,5 @@
 //! The texts of an input, each served as soon as it has come.
-ghost use Rattle.std.specs.Prelude.{◌≡◌, ◌<◌, ◌≤◌, ◌++◌, List, [], ◌∷◌, true, false, Ok, Err, length, OnOk, OnErr, IfOk, IfErr, codes, decimal};
+ghost use Rattle.std.specs.Prelude.{◌≡◌, ◌<◌, ◌≤◌, ◌++◌, List, [], ◌∷◌, true, false, Ok, Err, length, OnOk, OnErr, codes, decimal};
 ghost use Rattle.ob_base.specs.declared.access.Access.{Access};
 ghost use Rattle.ob_headline.specs.Closing;
 ghost use Rattle.ob_headline.specs.Texts.{text_max, is_over, rest_after, texts_at, tail_text};
@@ -7,7 +7,8 @@ ghost use Rattle.ob_headline.specs.Words.{faults_of};
 ghost use Rattle.ob_headline.specs.Statements.{Spells};
 ghost use Rattle.ob_shell.specs.Feeding.{IsFedBy};
 ghost use Rattle.ob_shell.specs.Running.{IsQuiet, OutFailed, SessionRan, Silenced, StopCause, is_quiet, stop_of};
-ghost use Rattle.ob_shell.specs.Steps.{machine_of, IsReady, HasBody, AnswersAll, StopsIn};
+ghost use Rattle.ob_shell.specs.Serving.{Serves};
+ghost use Rattle.ob_shell.specs.Steps.{machine_of, IsReady, HasBody, AnswersAll};
 ghost use Rattle.ob_shell.specs.Tallies;
 ghost use Rattle.ob_shell.specs.Traces.{TracedAll, Traced};
 
@@ -103,23 +104,16 @@ fn run_stmt<R: Revisions, S: BlockStore, K: Sink>(
     requires ready { IsReady R.state (machine_of engine.old (S.state store.old)) }
     requires none { printer.old.out.waiting.items ≡ [] }
     ensures same_sink { printer.new.out.out.ghost_name ≡ printer.old.out.out.ghost_name }
-    ensures ready { OnOk result (IsReady R.state (machine_of engine.new (S.state store.new))) }
-    ensures answered { IfOk result (λ a. HasBody R.state (K.written printer.old.out.out.now)
-        (K.written printer.new.out.out.now) text.now a.outcome a.plan
-        (machine_of engine.old (S.state store.old)) (machine_of engine.new (S.state store.new))) }
-    ensures stopped { IfErr result (λ halted. StopsIn R.state (K.written printer.old.out.out.now)
-        (K.written printer.new.out.out.now) (OutFailed halted.quiet
-        (K.faults printer.old.out.out.now) (K.faults printer.new.out.out.now))
-        (text.now ∷ []) halted.stop
-        (machine_of engine.old (S.state store.old)) (machine_of engine.new (S.state store.new))) }
+    ensures serves { Serves R.state (text.now ∷ []) (λ a. HasBody R.state
+        (K.written printer.old.out.out.now) (K.written printer.new.out.out.now) text.now
+        a.outcome a.plan) ⊥
+        (K.written printer.old.out.out.now) (K.written printer.new.out.out.now)
+        (faults_of 0 (K.faults printer.old.out.out.now) 0)
+        (faults_of 0 (K.faults printer.new.out.out.now) 0)
+        (machine_of engine.old (S.state store.old)) (machine_of engine.new (S.state store.new))
+        result }
     ensures asked { (seen : List Access) × ((S.state store.new).asked
         ≡ (S.state store.old).asked ++ seen) }
-    ensures cause { StopCause (faults_of 0 (K.faults printer.old.out.out.now) 0)
-        (faults_of 0 (K.faults printer.new.out.out.now) 0) (stop_of result) }
-    ensures quiet { Silenced (is_quiet result) (faults_of 0 (K.faults printer.old.out.out.now) 0)
-        (faults_of 0 (K.faults printer.new.out.out.now) 0) }
-    ensures limit { stop_of result ≡ Err Stop.InputLimit → ⊥ }
-    ensures source { stop_of result ≡ Err Stop.SourceFault → ⊥ }
 {
     match engine.run(store, stmt, printer) {
         Ok(outcome) => match printer.out.flush() {
@@ -149,22 +143,14 @@ fn run_text<R: Revisions, S: BlockStore, K: Sink>(
 ) -> Result<Answered, Halted>
     requires short { length text.now ≤ text_max }
     requires ready { IsReady R.state (machine_of engine.old (S.state store.old)) }
-    ensures ready { OnOk result (IsReady R.state (machine_of engine.new (S.state store.new))) }
-    ensures answered { IfOk result (λ a. HasBody R.state (K.written out.old)
-        (K.written out.new) text.now a.outcome a.plan
-        (machine_of engine.old (S.state store.old)) (machine_of engine.new (S.state store.new))) }
-    ensures stopped { IfErr result (λ halted. StopsIn R.state (K.written out.old)
-        (K.written out.new) (OutFailed halted.quiet (K.faults out.old) (K.faults out.new))
-        (text.now ∷ []) halted.stop
-        (machine_of engine.old (S.state store.old)) (machine_of engine.new (S.state store.new))) }
+    ensures serves { Serves R.state (text.now ∷ []) (λ a. HasBody R.state
+        (K.written out.old) (K.written out.new) text.now a.outcome a.plan) ⊥
+        (K.written out.old) (K.written out.new)
+        (faults_of 0 (K.faults out.old) 0) (faults_of 0 (K.faults out.new) 0)
+        (machine_of engine.old (S.state store.old)) (machine_of engine.new (S.state store.new))
+        result }
     ensures asked { (seen : List Access) × ((S.state store.new).asked
         ≡ (S.state store.old).asked ++ seen) }
-    ensures cause { StopCause (faults_of 0 (K.faults out.old) 0) (faults_of 0 (K.faults out.new) 0)
-        (stop_of result) }
-    ensures quiet { Silenced (is_quiet result) (faults_of 0 (K.faults out.old) 0)
-        (faults_of 0 (K.faults out.new) 0) }
-    ensures limit { stop_of result ≡ Err Stop.InputLimit → ⊥ }
-    ensures source { stop_of result ≡ Err Stop.SourceFault → ⊥ }
 {
     let stmt = match parse(alloc, text) {
         Ok(stmt) => stmt,
@@ -202,22 +188,14 @@ fn answer<R: Revisions, S: BlockStore, K: Sink>(
 ) -> Result<Tally, Halted>
     requires short { length text.now ≤ text_max }
     requires ready { IsReady R.state (machine_of engine.old (S.state store.old)) }
-    ensures ready { OnOk result (IsReady R.state (machine_of engine.new (S.state store.new))) }
-    ensures answered { IfOk result (λ counted. AnswersAll R.state (K.written out.old)
-        (K.written out.new) (text.now ∷ []) tally counted
-        (machine_of engine.old (S.state store.old)) (machine_of engine.new (S.state store.new))) }
-    ensures stopped { IfErr result (λ halted. StopsIn R.state (K.written out.old)
-        (K.written out.new) (OutFailed halted.quiet (K.faults out.old) (K.faults out.new))
-        (text.now ∷ []) halted.stop
-        (machine_of engine.old (S.state store.old)) (machine_of engine.new (S.state store.new))) }
+    ensures serves { Serves R.state (text.now ∷ []) (λ counted. AnswersAll R.state
+        (K.written out.old) (K.written out.new) (text.now ∷ []) tally counted) ⊥
+        (K.written out.old) (K.written out.new)
+        (faults_of 0 (K.faults out.old) 0) (faults_of 0 (K.faults out.new) 0)
+        (machine_of engine.old (S.state store.old)) (machine_of engine.new (S.state store.new))
+        result }
     ensures asked { (seen : List Access) × ((S.state store.new).asked
         ≡ (S.state store.old).asked ++ seen) }
-    ensures cause { StopCause (faults_of 0 (K.faults out.old) 0) (faults_of 0 (K.faults out.new) 0)
-        (stop_of result) }
-    ensures quiet { Silenced (is_quiet result) (faults_of 0 (K.faults out.old) 0)
-        (faults_of 0 (K.faults out.new) 0) }
-    ensures limit { stop_of result ≡ Err Stop.InputLimit → ⊥ }
-    ensures source { stop_of result ≡ Err Stop.SourceFault → ⊥ }
 {
     match run_text(alloc, engine, store, text, out) {
         Err(halted) => Err(halted),
@@ -241,25 +219,17 @@ fn answer_traced<R: Revisions, S: BlockStore, K: Sink, T: Sink>(
 ) -> Result<Tally, Halted>
     requires short { length text.now ≤ text_max }
     requires ready { IsReady R.state (machine_of engine.old (S.state store.old)) }
-    ensures ready { OnOk result (IsReady R.state (machine_of engine.new (S.state store.new))) }
-    ensures answered { IfOk result (λ counted. AnswersAll R.state (K.written out.old)
-        (K.written out.new) (text.now ∷ []) tally counted
-        (machine_of engine.old (S.state store.old)) (machine_of engine.new (S.state store.new))) }
-    ensures stopped { IfErr result (λ halted. StopsIn R.state (K.written out.old)
-        (K.written out.new) (OutFailed halted.quiet (K.faults out.old) (K.faults out.new))
-        (text.now ∷ []) halted.stop
-        (machine_of engine.old (S.state store.old)) (machine_of engine.new (S.state store.new))) }
+    ensures serves { Serves R.state (text.now ∷ []) (λ counted. AnswersAll R.state
+        (K.written out.old) (K.written out.new) (text.now ∷ []) tally counted) ⊥
+        (K.written out.old) (K.written out.new)
+        (faults_of 0 (K.faults out.old) (T.faults trace.old))
+        (faults_of 0 (K.faults out.new) (T.faults trace.new))
+        (machine_of engine.old (S.state store.old)) (machine_of engine.new (S.state store.new))
+        result }
     ensures traced { OnOk result (TracedAll tracing (S.state store.old).asked
         (S.state store.new).asked (T.written trace.old) (T.written trace.new)) }
     ensures traced_stop { OnErr result (Traced tracing (S.state store.old).asked
         (S.state store.new).asked (T.written trace.old) (T.written trace.new) (IsQuiet result)) }
-    ensures cause { StopCause (faults_of 0 (K.faults out.old) (T.faults trace.old))
-        (faults_of 0 (K.faults out.new) (T.faults trace.new)) (stop_of result) }
-    ensures quiet { Silenced (is_quiet result)
-        (faults_of 0 (K.faults out.old) (T.faults trace.old))
-        (faults_of 0 (K.faults out.new) (T.faults trace.new)) }
-    ensures limit { stop_of result ≡ Err Stop.InputLimit → ⊥ }
-    ensures source { stop_of result ≡ Err Stop.SourceFault → ⊥ }
 {
     let mark = store.count();
     match answer(alloc, tally, engine, store, text, out) {
@@ -288,31 +258,25 @@ fn turn<R: Revisions, S: BlockStore, K: Sink, T: Sink>(
 ) -> Result<(), Halted>
     requires short { length session.old.pending < text_max }
     requires ready { IsReady R.state (machine_of engine.old (S.state store.old)) }
-    ensures ready { OnOk result (IsReady R.state (machine_of engine.new (S.state store.new))) }
     ensures pending { OnOk result ((session.new.pending ≡ rest_after session.old.pending b)
         × (length session.new.pending < text_max)) }
-    ensures answered { OnOk result (AnswersAll R.state (K.written out.old) (K.written out.new)
-        (texts_at session.old.pending b) session.old.tally session.new.tally
-        (machine_of engine.old (S.state store.old)) (machine_of engine.new (S.state store.new))) }
-    ensures stopped { IfErr result (λ halted. StopsIn R.state (K.written out.old)
-        (K.written out.new) (OutFailed halted.quiet (K.faults out.old) (K.faults out.new))
-        (texts_at session.old.pending b) halted.stop
-        (machine_of engine.old (S.state store.old)) (machine_of engine.new (S.state store.new))) }
+    ensures serves { Serves R.state (texts_at session.old.pending b) (λ served. AnswersAll R.state
+        (K.written out.old) (K.written out.new) (texts_at session.old.pending b)
+        session.old.tally session.new.tally)
+        ((texts_at session.old.pending b ≡ [])
+        × (is_over (rest_after session.old.pending b) ≡ true)
+        × AnswersAll R.state (K.written out.old) (K.written out.new) []
+        session.old.tally session.old.tally
+        (machine_of engine.old (S.state store.old)) (machine_of engine.new (S.state store.new)))
+        (K.written out.old) (K.written out.new)
+        (faults_of 0 (K.faults out.old) (T.faults trace.old))
+        (faults_of 0 (K.faults out.new) (T.faults trace.new))
+        (machine_of engine.old (S.state store.old)) (machine_of engine.new (S.state store.new))
+        result }
     ensures traced { OnOk result (TracedAll tracing (S.state store.old).asked
         (S.state store.new).asked (T.written trace.old) (T.written trace.new)) }
     ensures traced_stop { OnErr result (Traced tracing (S.state store.old).asked
         (S.state store.new).asked (T.written trace.old) (T.written trace.new) (IsQuiet result)) }
-    ensures cause { StopCause (faults_of 0 (K.faults out.old) (T.faults trace.old))
-        (faults_of 0 (K.faults out.new) (T.faults trace.new)) (stop_of result) }
-    ensures quiet { Silenced (is_quiet result)
-        (faults_of 0 (K.faults out.old) (T.faults trace.old))
-        (faults_of 0 (K.faults out.new) (T.faults trace.new)) }
-    ensures limit { stop_of result ≡ Err Stop.InputLimit →
-        (texts_at session.old.pending b ≡ []) × (is_over (rest_after session.old.pending b) ≡ true)
-        × AnswersAll R.state (K.written out.old) (K.written out.new) []
-        session.old.tally session.old.tally
-        (machine_of engine.old (S.state store.old)) (machine_of engine.new (S.state store.new)) }
-    ensures source { stop_of result ≡ Err Stop.SourceFault → ⊥ }
 {
     match session.pending.push(b) {
         Ok(Grown::More) => Ok(()),
@@ -358,25 +322,18 @@ fn finish<R: Revisions, S: BlockStore, K: Sink, T: Sink>(
 ) -> Result<Tally, Halted>
     requires short { length session.now.pending ≤ text_max }
     requires ready { IsReady R.state (machine_of engine.old (S.state store.old)) }
-    ensures ready { OnOk result (IsReady R.state (machine_of engine.new (S.state store.new))) }
-    ensures answered { IfOk result (λ counted. AnswersAll R.state (K.written out.old)
-        (K.written out.new) (tail_text session.now.pending) session.now.tally counted
-        (machine_of engine.old (S.state store.old)) (machine_of engine.new (S.state store.new))) }
-    ensures stopped { IfErr result (λ halted. StopsIn R.state (K.written out.old)
-        (K.written out.new) (OutFailed halted.quiet (K.faults out.old) (K.faults out.new))
-        (tail_text session.now.pending) halted.stop
-        (machine_of engine.old (S.state store.old)) (machine_of engine.new (S.state store.new))) }
+    ensures serves { Serves R.state (tail_text session.now.pending) (λ counted. AnswersAll R.state
+        (K.written out.old) (K.written out.new) (tail_text session.now.pending)
+        session.now.tally counted) ⊥
+        (K.written out.old) (K.written out.new)
+        (faults_of 0 (K.faults out.old) (T.faults trace.old))
+        (faults_of 0 (K.faults out.new) (T.faults trace.new))
+        (machine_of engine.old (S.state store.old)) (machine_of engine.new (S.state store.new))
+        result }
     ensures traced { OnOk result (TracedAll tracing (S.state store.old).asked
         (S.state store.new).asked (T.written trace.old) (T.written trace.new)) }
     ensures traced_stop { OnErr result (Traced tracing (S.state store.old).asked
         (S.state store.new).asked (T.written trace.old) (T.written trace.new) (IsQuiet result)) }
-    ensures cause { StopCause (faults_of 0 (K.faults out.old) (T.faults trace.old))
-        (faults_of 0 (K.faults out.new) (T.faults trace.new)) (stop_of result) }
-    ensures quiet { Silenced (is_quiet result)
-        (faults_of 0 (K.faults out.old) (T.faults trace.old))
-        (faults_of 0 (K.faults out.new) (T.faults trace.new)) }
-    ensures limit { stop_of result ≡ Err Stop.InputLimit → ⊥ }
-    ensures source { stop_of result ≡ Err Stop.SourceFault → ⊥ }
 {
     if !session.pending.has_words() {
         return Ok(session.tally);

@@ -1,14 +1,31 @@
-use Rattle.std.proofs.Common.{refl}
+use Rattle.std.proofs.Common.{refl, rules}
 use Rattle.ob_base.specs.declared.refusal.Stop.TheVariants.{SinkFault}
 use Rattle.ob_shell.proofs.CountLemmas.{traced_cause}
 use Rattle.ob_shell.proofs.StepLemmas.{stops_after}
 use Rattle.ob_shell.proofs.session.answer_traced.Goals as goal
 
-pub returns-in-Err-clause-stopped : goal.returns-in-Err-clause-stopped
-returns-in-Err-clause-stopped g c = stops_after SinkFault tt c.in-Ok.ensures.answered
+pub returns-in-Err-clause-serves : goal.returns-in-Err-clause-serves
+returns-in-Err-clause-serves g c =
+    record {
+      ready = tt;
+      done = tt;
+      stopped = stops_after SinkFault tt c.in-Ok.ensures.serves.done;
+      cause = search rules;
+      quiet = search rules;
+      limit = search rules;
+      source = search rules;
+    }
 
-pub returns-in-Err-false-clause-cause : goal.returns-in-Err-false-clause-cause
-returns-in-Err-false-clause-cause g c =
-    let told = c.in-Err-false.ensures in
-    traced_cause c.in-Err-false.field-0.stop c.in-Err-false.field-0.stop _ _ _ _ refl told.cause told.limit told.source
-    c.trace_from-in-Err-false.ensures.cause.later
+pub returns-in-Err-false-clause-serves : goal.returns-in-Err-false-clause-serves
+returns-in-Err-false-clause-serves g c =
+    let told = c.in-Err-false.ensures.serves in
+    record {
+      ready = tt;
+      done = tt;
+      stopped = search rules;
+      cause = traced_cause c.in-Err-false.field-0.stop c.in-Err-false.field-0.stop _ _ _ _ refl told.cause told.limit told.source
+          c.trace_from-in-Err-false.ensures.cause.later;
+      quiet = search rules;
+      limit = search rules;
+      source = search rules;
+    }

@@ -1,4 +1,4 @@
-use Rattle.std.proofs.Common.{◌≡◌, ℕ, Bool, false, List, [], ◌∷◌, if◌then◌else◌, ap}
+use Rattle.std.proofs.Common.{◌≡◌, ℕ, Bool, false, List, [], ◌∷◌, if◌then◌else◌, ap, rules}
 use Rattle.ob_headline.specs.Texts.{tail_text, has_words, reading_of}
 use Rattle.ob_shell.proofs.StepLemmas.{answers_none}
 use Rattle.ob_shell.proofs.TraceLemmas.{traced_none}
@@ -7,10 +7,18 @@ use Rattle.ob_shell.proofs.session.finish.Goals as goal
 tail_text-none : (rest : List ℕ) → has_words (reading_of rest) ≡ false → tail_text rest ≡ []
 tail_text-none rest none = ap (λ (b : Bool). if b then rest ∷ [] else []) none
 
-pub returns-then-not-has_words-clause-answered : goal.returns-then-not-has_words-clause-answered
-returns-then-not-has_words-clause-answered g c =
+pub returns-then-not-has_words-clause-serves : goal.returns-then-not-has_words-clause-serves
+returns-then-not-has_words-clause-serves g c =
     let none : has_words (reading_of c.args.session.now.pending) ≡ false = cc (c.has_words.ensures, c.if-not-has_words.true) in
-    rw (tail_text-none c.args.session.now.pending none) (answers_none _ _ _)
+    record {
+      ready = search rules;
+      done = rw (tail_text-none c.args.session.now.pending none) (answers_none _ _ _);
+      stopped = tt;
+      cause = search rules;
+      quiet = search rules;
+      limit = search rules;
+      source = search rules;
+    }
 
 pub returns-then-not-has_words-clause-traced : goal.returns-then-not-has_words-clause-traced
 returns-then-not-has_words-clause-traced g c = traced_none _ _ _

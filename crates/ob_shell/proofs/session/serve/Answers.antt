@@ -33,13 +33,13 @@ returns-in-Ok-None-clause-ran g c =
     let fetch = rw c.in-Ok-None.field-0-is at c.in-Ok-None.ensures in
     let done = c.finish.ensures in
     ran_finish c.finish.result (so_far_end c.bytes.invariant.so_far fetch.fed) fetch.cause.1 fetch.cause.2 fetch.cause.3
-    c.bytes.invariant.short done.answered done.stopped c.bytes.invariant.sink done.source done.limit _ c.bytes.invariant.traced done.traced done.traced_stop
+    c.bytes.invariant.short done.serves.done done.serves.stopped c.bytes.invariant.sink done.serves.source done.serves.limit _ c.bytes.invariant.traced done.traced done.traced_stop
 
 pub returns-in-Err-clause-ran : goal.returns-in-Err-clause-ran
 returns-in-Err-clause-ran g c =
     let fetch = rw c.in-Ok-Some.field-0-is at c.in-Ok-Some.ensures in
     let turn = c.in-Err.ensures in
-    ran_turn c.in-Err.halted.stop c.bytes.invariant.so_far fetch.fed fetch.cause.2 (stops_by (lost_since c.bytes.invariant.sink) turn.stopped) turn.source turn.limit _ c.bytes.invariant.traced turn.traced_stop
+    ran_turn c.in-Err.halted.stop c.bytes.invariant.so_far fetch.fed fetch.cause.2 (stops_by (lost_since c.bytes.invariant.sink) turn.serves.stopped) turn.serves.source turn.serves.limit _ c.bytes.invariant.traced turn.traced_stop
 
 pub bytes-smaller : goal.bytes-smaller
 bytes-smaller g c =
@@ -51,13 +51,13 @@ bytes-preserved g c =
     let turn = c.in_default.ensures in
     let before = c.bytes.invariant in
     record {
-      so_far = so_far_turn before.so_far fetch.fed turn.pending.0 refl turn.answered;
+      so_far = so_far_turn before.so_far fetch.fed turn.pending.0 refl turn.serves.done;
       short = turn.pending.1;
-      ready = turn.ready;
+      ready = turn.serves.ready;
       fed_by = fetch.fed_by;
       source = fetch.cause.0 ∙ before.source;
-      sink = turn.cause.out ∙ before.sink;
-      trace = turn.cause.trace ∙ before.trace;
+      sink = turn.serves.cause.out ∙ before.sink;
+      trace = turn.serves.cause.trace ∙ before.trace;
       traced = traced_then before.traced turn.traced;
     }
 
