@@ -285,6 +285,14 @@ impl Case {
     }
 }
 
+/// Pushes a case behind the others.
+pub fn push_case(cases: &mut Vec<Case>, case: Case) -> Result<(), LineErr> {
+    match cases.push(case) {
+        Ok(()) => Ok(()),
+        Err(_) => Err(LineErr::NoMemory),
+    }
+}
+
 /// The mark that a text spells: `fresh`, `in use`, or `closed REGION BLOCKS NUMBER PACK`.
 pub fn mark_of(text: &str) -> Result<Mark, LineErr>
     ensures { IfOk result IsMark }

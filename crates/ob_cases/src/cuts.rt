@@ -1,6 +1,6 @@
 //! The cases whose input ends early, and those of a session that two runs serve.
-use crate::case::{Case, LineErr, SECRET};
-use crate::each::{Spelled, push_case};
+use crate::case::{Case, LineErr, SECRET, push_case};
+use crate::file::Lines;
 use crate::items::{Item, is_typed, statements_in};
 use crate::texts::texts_in;
 use std::alloc::Global;
@@ -8,23 +8,24 @@ use std::alloc::Global;
 /// Pushes the cases whose input ends behind each of its bytes, and before the first one.
 pub fn push_cut(
     alloc: Global,
-    spelled: Spelled,
+    of: &Lines,
     items: &[Item],
     cases: &mut Vec<Case>,
 ) -> Result<(), LineErr> {
-    if spelled.is_kept || texts_in(spelled.input).whole != statements_in(items) {
+    let length = of.input().len();
+    if of.is_kept() || texts_in(of.input(), length).whole != statements_in(items) {
         return Err(LineErr::Form);
     }
-    for size in 0..spelled.input.len() {
-        let case = cut(alloc, spelled, items, size)?;
+    for size in 0..length {
+        let case = cut(alloc, of, items, size)?;
         push_case(cases, case)?;
     }
     Ok(())
 }
 
 // The case whose input has so many bytes.
-fn cut(alloc: Global, spelled: Spelled, items: &[Item], size: usize) -> Result<Case, LineErr> {
-    let name = format!(in alloc; "{}: {size} bytes", spelled.name)?;
+fn cut(alloc: Global, of: &Lines, items: &[Item], size: usize) -> Result<Case, LineErr> {
+    let name = format!(in alloc; "{}: {size} bytes", of.name())?;
     let first = format!(in alloc; "{size}")?;
     let mut case = Case::new(alloc, name.as_str())?;
     for item in items {
@@ -36,7 +37,7 @@ fn cut(alloc: Global, spelled: Spelled, items: &[Item], size: usize) -> Result<C
         }
     }
     case.take_part(alloc, "cut", first.as_str())?;
-    let texts = texts_in(&spelled.input[..size]);
+    let texts = texts_in(of.input(), size);
     if size < SECRET.len() {
         case.take_part(alloc, "<", "! key")?;
         case.take_part(alloc, "status", "2")?;
@@ -52,14 +53,17 @@ fn cut(alloc: Global, spelled: Spelled, items: &[Item], size: usize) -> Result<C
 /// each in turn, or none, and the second one the others.
 pub fn push_parted(
     alloc: Global,
-    name: &str,
+    of: &Lines,
     items: &[Item],
     words: &str,
     cases: &mut Vec<Case>,
 ) -> Result<(), LineErr> {
+    if of.is_kept() {
+        return Err(LineErr::Form);
+    }
     let all = statements_in(items);
     for count in 0..=all {
-        let name = format!(in alloc; "{name}: {words}, two runs, {count} statements in the first")?;
+        let name = format!(in alloc; "{}: {words}, the first {count} alone", of.name())?;
         let mut case = Case::new(alloc, name.as_str())?;
         case.take_part(alloc, "keeper", "fresh")?;
         feed_run(alloc, &mut case, items, words, 0, count)?;
@@ -97,15 +101,13 @@ fn feed_answers(
     from: u64,
     to: u64,
 ) -> Result<(), LineErr> {
-    let mut status = "0";
+    let mut refused = false;
     case.take_part(alloc, "<", "")?;
     for item in items {
         if item.head == "<" && from < item.statement && item.statement <= to {
             case.take_part(alloc, "<", item.rest)?;
-            if item.rest.starts_with('E') {
-                status = "1";
-            }
+            refused = refused || item.rest.starts_with('E');
         }
     }
-    case.take_part(alloc, "status", status)
+    case.take_part(alloc, "status", if refused { "1" } else { "0" })
 }

@@ -1,20 +1,10 @@
 //! The cases that the lines `each ..` of a case make of it. What is wanted of them follows from the order of its lines:
 //! what stands above an access has come before it.
-use crate::case::{Case, LineErr};
+use crate::case::{Case, LineErr, push_case};
 use crate::cuts::{push_cut, push_parted};
+use crate::file::Lines;
 use crate::items::{Item, blocks_of, is_access, items_of, region_in};
 use std::alloc::Global;
-
-/// A case whose lines make others.
-#[derive(Clone, Copy)]
-pub struct Spelled<'a> {
-    pub name: &'a str,
-    pub lines: &'a [&'a str],
-    /// The input of its first run.
-    pub input: &'a [u8],
-    /// Whether it is of runs over one store.
-    pub is_kept: bool,
-}
 
 // What others do to a block before it is read.
 #[derive(Clone, Copy)]
@@ -28,13 +18,13 @@ enum Change<'a> {
 }
 
 /// The cases that the lines `each ..` make, in their order.
-pub fn made(alloc: Global, spelled: Spelled) -> Result<Vec<Case>, LineErr> {
+pub fn made(alloc: Global, of: &Lines) -> Result<Vec<Case>, LineErr> {
     let mut cases = Vec::new(alloc);
-    let items = items_of(alloc, spelled.lines)?;
+    let items = items_of(alloc, of.lines.as_slice())?;
     for item in &items {
         if item.head == "each" {
             let before = cases.len();
-            push_made(alloc, spelled, items.as_slice(), item.rest, &mut cases)?;
+            push_made(alloc, of, items.as_slice(), item.rest, &mut cases)?;
             if cases.len() == before {
                 return Err(LineErr::Form);
             }
@@ -46,47 +36,39 @@ pub fn made(alloc: Global, spelled: Spelled) -> Result<Vec<Case>, LineErr> {
 // Pushes the cases that a line makes.
 fn push_made(
     alloc: Global,
-    spelled: Spelled,
+    of: &Lines,
     items: &[Item],
     line: &str,
     cases: &mut Vec<Case>,
 ) -> Result<(), LineErr> {
     if let Some(words) = line.strip_prefix("statement parts ") {
-        return push_parted(alloc, spelled.name, items, words, cases);
+        return push_parted(alloc, of, items, words, cases);
     }
     if let Some(byte) = line.strip_prefix("block flipped ") {
-        return push_changed(alloc, spelled, items, Change::Flipped(byte), cases);
+        return push_changed(alloc, of, items, Change::Flipped(byte), cases);
     }
     match line {
-        "access fails" => push_failing(alloc, spelled, items, cases),
-        "block put back" => push_changed(alloc, spelled, items, Change::PutBack, cases),
-        "block exchanged" => push_changed(alloc, spelled, items, Change::Exchanged, cases),
-        "byte last" => push_cut(alloc, spelled, items, cases),
+        "access fails" => push_failing(alloc, of, items, cases),
+        "block put back" => push_changed(alloc, of, items, Change::PutBack, cases),
+        "block exchanged" => push_changed(alloc, of, items, Change::Exchanged, cases),
+        "byte last" => push_cut(alloc, of, items, cases),
         _ => Err(LineErr::Form),
-    }
-}
-
-/// Pushes a case behind the others.
-pub fn push_case(cases: &mut Vec<Case>, case: Case) -> Result<(), LineErr> {
-    match cases.push(case) {
-        Ok(()) => Ok(()),
-        Err(_) => Err(LineErr::NoMemory),
     }
 }
 
 // Pushes the cases in which an access fails, of each that a line names.
 fn push_failing(
     alloc: Global,
-    spelled: Spelled,
+    of: &Lines,
     items: &[Item],
     cases: &mut Vec<Case>,
 ) -> Result<(), LineErr> {
-    if spelled.is_kept {
+    if of.is_kept() {
         return Err(LineErr::Form);
     }
     for at in items {
         if is_access(*at) {
-            let case = failing(alloc, spelled.name, items, *at)?;
+            let case = failing(alloc, of.name(), items, *at)?;
             push_case(cases, case)?;
         }
     }
@@ -113,7 +95,7 @@ fn failing(alloc: Global, name: &str, items: &[Item], at: Item) -> Result<Case, 
 // Pushes the cases in which a block is changed before it is read, of each read that a line names.
 fn push_changed(
     alloc: Global,
-    spelled: Spelled,
+    of: &Lines,
     items: &[Item],
     change: Change,
     cases: &mut Vec<Case>,
@@ -121,7 +103,7 @@ fn push_changed(
     for at in items {
         if let Some(block) = region_in(*at, "R ") {
             if let Some(text) = change_text(alloc, items, change, *at, block)? {
-                let case = changed(alloc, spelled, items, *at, text.as_str())?;
+                let case = changed(alloc, of, items, *at, text.as_str())?;
                 push_case(cases, case)?;
             }
         }
@@ -132,19 +114,19 @@ fn push_changed(
 // The case in which others change, as this text says, what this access reads.
 fn changed(
     alloc: Global,
-    spelled: Spelled,
+    of: &Lines,
     items: &[Item],
     at: Item,
     text: &str,
 ) -> Result<Case, LineErr> {
     let block = at.rest.strip_prefix("R ").unwrap_or(at.rest);
-    let name = format!(in alloc; "{}: {text}, before {}", spelled.name, at.rest)?;
+    let name = format!(in alloc; "{}: {text}, before {}", of.name(), at.rest)?;
     let told = format!(in alloc; "! tampered {block}")?;
     let mut case = Case::new(alloc, name.as_str())?;
     feed_to(alloc, &mut case, items, at)?;
     case.take_part(alloc, "<", told.as_str())?;
     case.take_part(alloc, "status", "4")?;
-    if spelled.is_kept {
+    if of.is_kept() {
         case.take_part(alloc, "changes", text)?;
     } else {
         let words = format!(in alloc; "--meddle {text}")?;
@@ -232,8 +214,11 @@ fn feed_behind(alloc: Global, case: &mut Case, items: &[Item], at: Item) -> Resu
     for item in items {
         if item.head == "else" && item.statement == at.statement {
             let (head, rest) = item.rest.split_once(' ').unwrap_or((item.rest, ""));
-            says = says || head == "<";
-            asks = asks || head == "@";
+            match head {
+                "<" => says = true,
+                "@" => asks = true,
+                _ => return Err(LineErr::Form),
+            }
             case.take_part(alloc, head, rest)?;
         }
         if item.statement <= at.statement {

@@ -1,6 +1,5 @@
 //! The cases of a file.
 use crate::case::{Case, LineErr};
-use crate::each::Spelled;
 use std::alloc::Global;
 
 /// Why a file can't be taken: the number of its first line that is none of a case, from 1, and why.
@@ -19,17 +18,21 @@ pub struct Lines<'a> {
     pub first: u64,
 }
 
-impl<'a> Lines<'a> {
-    /// What its lines make others of.
-    pub fn spelled(&self) -> Spelled<'_> {
-        Spelled {
-            name: self.case.name.as_str(),
-            lines: self.lines.as_slice(),
-            input: match self.case.runs.first() {
-                Some(run) => run.input.as_slice(),
-                None => b"",
-            },
-            is_kept: self.case.keeper.is_some(),
+impl Lines<'_> {
+    pub fn name(&self) -> &str {
+        self.case.name.as_str()
+    }
+
+    /// Whether the case is of runs over one store.
+    pub fn is_kept(&self) -> bool {
+        self.case.keeper.is_some()
+    }
+
+    /// The input of its first run.
+    pub fn input(&self) -> &[u8] {
+        match self.case.runs.first() {
+            Some(run) => run.input.as_slice(),
+            None => b"",
         }
     }
 }

@@ -96,7 +96,7 @@ fn serve_lines<R: Print>(
     lines: &Lines,
     tally: Tally,
 ) -> Result<Tally, Fault> {
-    let Ok(others) = made(alloc, lines.spelled()) else {
+    let Ok(others) = made(alloc, lines) else {
         println!(rt; "{file}: the case at line {} makes none", lines.first)?;
         return Err(Fault::Line(LineErr::Form));
     };

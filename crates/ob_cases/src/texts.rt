@@ -18,14 +18,14 @@ enum Place {
     Quotes,
 }
 
-/// The texts of an input. One of nothing but comments is none.
-pub fn texts_in(input: &[u8]) -> Texts {
+/// The texts of so many first bytes of an input. One of nothing but comments is none.
+pub fn texts_in(input: &[u8], size: usize) -> Texts {
     let mut place = Place::FirstLine;
     let mut texts = Texts {
         whole: 0,
         begun: false,
     };
-    for b in input {
+    for b in input.iter().take(size) {
         let next = behind(place, *b);
         if next == Place::Dash || next == Place::Comment {
             place = next;
