@@ -1,4 +1,4 @@
-//! The aggregates of tables with rows, and the accesses of them.
+//! The aggregates of a column of texts.
 ghost use Rattle.std.specs.Prelude.{◌≡◌, ◌≤◌, ℕ, List, [], ◌∷◌, ℤ, FitsSigned, length};
 ghost use Rattle.std.specs.Int.{w64};
 ghost use Rattle.ob_base.specs.Schemas.{width};
@@ -9,181 +9,15 @@ ghost use Rattle.ob_row.specs.Spelling.{Fits as FitColumns, FitsText};
 ghost use Rattle.ob_blocks.specs.Idle.{IsIdle};
 ghost use Rattle.ob_flat.specs.Flats.{IsSized};
 
-use crate::tables::{FOUR, column, filled, insert_cells, make_room, opened, two_ints};
-use ob_base::{Access, ComparisonOperator, Kind, Schema, Shown, Text};
+use crate::tables::{column, insert_cells, make_room, opened};
+use ob_base::{Kind, Schema, Shown, Text};
 use ob_flat::create;
 use ob_group::aggregate;
 use ob_room::Room;
-use ob_row::{Agg, Cell, Operand, Pred};
+use ob_row::{Agg, Cell, Pred};
 use ob_store::BlockStore;
 use ob_vault::{BaseRevs, Revisions, Vault};
-use std::alloc::Global;
 use std::process::Abort;
-
-// The reads of this region's places, in order, from the access of this index on, and no others.
-pub(crate) fn check_reads<S: BlockStore>(
-    rt: &impl Abort,
-    store: &S,
-    from: u64,
-    region: u64,
-    blocks: u32,
-) {
-    let mut at = from;
-    for place in 0..blocks {
-        assert!(rt; at < store.count());
-        assert_eq!(rt; store.nth(at), Access::Read { region, place });
-        at += 1;
-    }
-    assert_eq!(rt; at, store.count());
-}
-
-// A table of four slots with these rows: the aggregates of those that make a condition true, and the
-// reads that they make.
-fn session<S: BlockStore, R: Revisions>(
-    rt: &impl Abort,
-    store: &mut S,
-    mut vault: Vault<R>,
-    mut room: Room,
-    rows: &[(i64, i64)],
-    pred: &Pred,
-    wanted: &[Shown],
-    blocks: u32,
-)
-    requires ready { StartsAnew (at R.state vault (S.state store.old)) }
-    requires room { IsIdle 17 room }
-    requires pack { 1 ≤ room.pack }
-{
-    let schema = two_ints(b"id", b"v", true);
-    let flat = filled(rt, store, &mut vault, &mut room, &schema, 4, rows);
-    make_room(rt, store);
-    let from = store.count();
-    let aggs = [
-        Agg::CountAll,
-        Agg::Count(0),
-        Agg::Sum(1),
-        Agg::Min(1),
-        Agg::Max(1),
-        Agg::Sum(0),
-    ];
-    let accs = aggregate(store, &mut vault, &mut room, &flat, pred, &aggs);
-    let accs = accs.expect(rt, "aggregate");
-    assert_eq!(rt; accs.as_slice(), wanted);
-    check_reads(rt, store, from, flat.region, blocks);
-}
-
-// In blocks of one, two and three rows.
-fn in_packs(rt: &impl Abort, alloc: Global, rows: &[(i64, i64)], pred: &Pred, wanted: &[Shown]) {
-    for (pack, blocks) in [(1, 4), (2, 2), (3, 2)] {
-        let (mut store, vault, room) = opened::<BaseRevs>(rt, alloc, 64, pack);
-        session(rt, &mut store, vault, room, rows, pred, wanted, blocks);
-    }
-}
-
-#[test]
-fn of_all_rows(rt: HostRuntime) {
-    in_packs(
-        &rt,
-        rt.alloc(),
-        &FOUR,
-        &Pred::all(),
-        &[
-            Shown::Int(4),
-            Shown::Int(4),
-            Shown::Int(60),
-            Shown::Int(10),
-            Shown::Int(20),
-            Shown::Int(10),
-        ],
-    );
-}
-
-// The least and the greatest are neither the first nor the last.
-#[test]
-fn of_selected_rows(rt: HostRuntime) {
-    in_packs(
-        &rt,
-        rt.alloc(),
-        &[(1, 5), (2, -7), (3, 9), (4, 3)],
-        &Pred::compare(0, ComparisonOperator::Less, Operand::Cell(Cell::Int(4))),
-        &[
-            Shown::Int(3),
-            Shown::Int(3),
-            Shown::Int(7),
-            Shown::Int(-7),
-            Shown::Int(9),
-            Shown::Int(6),
-        ],
-    );
-}
-
-#[test]
-fn of_no_rows(rt: HostRuntime) {
-    in_packs(
-        &rt,
-        rt.alloc(),
-        &[],
-        &Pred::all(),
-        &[
-            Shown::Int(0),
-            Shown::Int(0),
-            Shown::Null,
-            Shown::Null,
-            Shown::Null,
-            Shown::Null,
-        ],
-    );
-}
-
-#[test]
-fn of_no_selected_rows(rt: HostRuntime) {
-    in_packs(
-        &rt,
-        rt.alloc(),
-        &FOUR,
-        &Pred::compare(1, ComparisonOperator::Equal, Operand::Cell(Cell::Int(99))),
-        &[
-            Shown::Int(0),
-            Shown::Int(0),
-            Shown::Null,
-            Shown::Null,
-            Shown::Null,
-            Shown::Null,
-        ],
-    );
-}
-
-// Sums that 64 bits don't hold, on both sides.
-#[test]
-fn of_great_sums(rt: HostRuntime) {
-    in_packs(
-        &rt,
-        rt.alloc(),
-        &[(1, i64::MAX), (2, i64::MAX), (3, 1)],
-        &Pred::all(),
-        &[
-            Shown::Int(3),
-            Shown::Int(3),
-            Shown::Int(18_446_744_073_709_551_615),
-            Shown::Int(1),
-            Shown::Int(9_223_372_036_854_775_807),
-            Shown::Int(6),
-        ],
-    );
-    in_packs(
-        &rt,
-        rt.alloc(),
-        &[(1, i64::MIN), (2, i64::MIN)],
-        &Pred::all(),
-        &[
-            Shown::Int(2),
-            Shown::Int(2),
-            Shown::Int(-18_446_744_073_709_551_616),
-            Shown::Int(-9_223_372_036_854_775_808),
-            Shown::Int(-9_223_372_036_854_775_808),
-            Shown::Int(3),
-        ],
-    );
-}
 
 pub(crate) fn id_and_text() -> Schema
     ensures size { IsSized result 4 }

@@ -1,4 +1,5 @@
-//! What is selected into buckets, and the accesses of it: counted, selected, emitted and discarded.
+//! What is selected into buckets, where a row finds none or there are others than as many as rows, and the
+//! accesses of it: counted, selected, emitted and discarded.
 ghost use Rattle.std.specs.Prelude.{◌≡◌, ◌≤◌, length};
 ghost use Rattle.ob_base.specs.Schemas.{width};
 ghost use Rattle.ob_vault.specs.Places.{at};
@@ -8,8 +9,7 @@ ghost use Rattle.ob_flat.specs.Flats.{IsSized, IsFlat};
 ghost use Rattle.ob_hash.specs.Answers.{flat_of};
 
 use crate::tables::{
-    Comparison, Entry, FOUR, check, check_next, condition, counted, emit_discard, filled,
-    make_room, opened, two_ints,
+    Comparison, FOUR, check, condition, counted, emit_discard, filled, make_room, opened, two_ints,
 };
 use ob_base::ComparisonOperator;
 use ob_flat::Flat;
@@ -43,7 +43,7 @@ struct Case<'a> {
     depth: u8,
     overflow: Option<u32>,
     ids: &'a [i128],
-    wanted: &'a [Entry],
+    wanted: &'a [u8],
 }
 
 // A table is counted, its selected rows are put into a region, emitted and discarded.
@@ -98,194 +98,18 @@ fn session<S: BlockStore, R: Revisions>(
 }
 
 // Two buckets of one block each, by which the slots 0 and 2 go to the one and 1 and 3 to the other.
-const SINGLE: [Entry; 26] = [
-    (b'M', 6, 2, 49),
-    (b'W', 6, 0, 0),
-    (b'W', 6, 1, 0),
-    (b'R', 5, 0, 0),
-    (b'R', 6, 0, 0),
-    (b'W', 6, 0, 0),
-    (b'R', 6, 0, 0),
-    (b'W', 6, 0, 0),
-    (b'R', 5, 1, 0),
-    (b'R', 6, 1, 0),
-    (b'W', 6, 1, 0),
-    (b'R', 6, 1, 0),
-    (b'W', 6, 1, 0),
-    (b'R', 5, 2, 0),
-    (b'R', 6, 0, 0),
-    (b'W', 6, 0, 0),
-    (b'R', 6, 0, 0),
-    (b'W', 6, 0, 0),
-    (b'R', 5, 3, 0),
-    (b'R', 6, 1, 0),
-    (b'W', 6, 1, 0),
-    (b'R', 6, 1, 0),
-    (b'W', 6, 1, 0),
-    (b'R', 6, 0, 0),
-    (b'R', 6, 1, 0),
-    (b'D', 6, 0, 0),
-];
-
-// The same buckets of blocks of two rows.
-const PAIRS: [Entry; 24] = [
-    (b'M', 6, 2, 66),
-    (b'W', 6, 0, 0),
-    (b'W', 6, 1, 0),
-    (b'R', 5, 0, 0),
-    (b'R', 6, 0, 0),
-    (b'W', 6, 0, 0),
-    (b'R', 6, 0, 0),
-    (b'W', 6, 0, 0),
-    (b'R', 6, 1, 0),
-    (b'W', 6, 1, 0),
-    (b'R', 6, 1, 0),
-    (b'W', 6, 1, 0),
-    (b'R', 5, 1, 0),
-    (b'R', 6, 0, 0),
-    (b'W', 6, 0, 0),
-    (b'R', 6, 0, 0),
-    (b'W', 6, 0, 0),
-    (b'R', 6, 1, 0),
-    (b'W', 6, 1, 0),
-    (b'R', 6, 1, 0),
-    (b'W', 6, 1, 0),
-    (b'R', 6, 0, 0),
-    (b'R', 6, 1, 0),
-    (b'D', 6, 0, 0),
-];
+const SINGLE: &[u8] =
+    b"M 6 2 49, W 6 0, W 6 1, R 5 0, R 6 0, W 6 0, R 6 0, W 6 0, R 5 1, R 6 1, W 6 1,
+    R 6 1, W 6 1, R 5 2, R 6 0, W 6 0, R 6 0, W 6 0, R 5 3, R 6 1, W 6 1, R 6 1, W 6 1,
+    R 6 0, R 6 1, D 6";
 
 // The last block of the table has one slot below the capacity.
-const TRIPLES: [Entry; 24] = [
-    (b'M', 6, 2, 83),
-    (b'W', 6, 0, 0),
-    (b'W', 6, 1, 0),
-    (b'R', 5, 0, 0),
-    (b'R', 6, 0, 0),
-    (b'W', 6, 0, 0),
-    (b'R', 6, 0, 0),
-    (b'W', 6, 0, 0),
-    (b'R', 6, 1, 0),
-    (b'W', 6, 1, 0),
-    (b'R', 6, 1, 0),
-    (b'W', 6, 1, 0),
-    (b'R', 6, 0, 0),
-    (b'W', 6, 0, 0),
-    (b'R', 6, 0, 0),
-    (b'W', 6, 0, 0),
-    (b'R', 5, 1, 0),
-    (b'R', 6, 1, 0),
-    (b'W', 6, 1, 0),
-    (b'R', 6, 1, 0),
-    (b'W', 6, 1, 0),
-    (b'R', 6, 0, 0),
-    (b'R', 6, 1, 0),
-    (b'D', 6, 0, 0),
-];
+const TRIPLES: &[u8] =
+    b"M 6 2 83, W 6 0, W 6 1, R 5 0, R 6 0, W 6 0, R 6 0, W 6 0, R 6 1, W 6 1, R 6 1,
+    W 6 1, R 6 0, W 6 0, R 6 0, W 6 0, R 5 1, R 6 1, W 6 1, R 6 1, W 6 1, R 6 0, R 6 1,
+    D 6";
 
-// Two buckets of two blocks each.
-const DEEP: [Entry; 46] = [
-    (b'M', 6, 4, 49),
-    (b'W', 6, 0, 0),
-    (b'W', 6, 1, 0),
-    (b'W', 6, 2, 0),
-    (b'W', 6, 3, 0),
-    (b'R', 5, 0, 0),
-    (b'R', 6, 0, 0),
-    (b'W', 6, 0, 0),
-    (b'R', 6, 1, 0),
-    (b'W', 6, 1, 0),
-    (b'R', 6, 0, 0),
-    (b'W', 6, 0, 0),
-    (b'R', 6, 1, 0),
-    (b'W', 6, 1, 0),
-    (b'R', 5, 1, 0),
-    (b'R', 6, 2, 0),
-    (b'W', 6, 2, 0),
-    (b'R', 6, 3, 0),
-    (b'W', 6, 3, 0),
-    (b'R', 6, 2, 0),
-    (b'W', 6, 2, 0),
-    (b'R', 6, 3, 0),
-    (b'W', 6, 3, 0),
-    (b'R', 5, 2, 0),
-    (b'R', 6, 0, 0),
-    (b'W', 6, 0, 0),
-    (b'R', 6, 1, 0),
-    (b'W', 6, 1, 0),
-    (b'R', 6, 0, 0),
-    (b'W', 6, 0, 0),
-    (b'R', 6, 1, 0),
-    (b'W', 6, 1, 0),
-    (b'R', 5, 3, 0),
-    (b'R', 6, 2, 0),
-    (b'W', 6, 2, 0),
-    (b'R', 6, 3, 0),
-    (b'W', 6, 3, 0),
-    (b'R', 6, 2, 0),
-    (b'W', 6, 2, 0),
-    (b'R', 6, 3, 0),
-    (b'W', 6, 3, 0),
-    (b'R', 6, 0, 0),
-    (b'R', 6, 1, 0),
-    (b'R', 6, 2, 0),
-    (b'R', 6, 3, 0),
-    (b'D', 6, 0, 0),
-];
-
-// Slot 5 of six has two different buckets.
-const SIX: [Entry; 36] = [
-    (b'M', 8, 2, 49),
-    (b'W', 8, 0, 0),
-    (b'W', 8, 1, 0),
-    (b'R', 7, 0, 0),
-    (b'R', 8, 0, 0),
-    (b'W', 8, 0, 0),
-    (b'R', 8, 0, 0),
-    (b'W', 8, 0, 0),
-    (b'R', 7, 1, 0),
-    (b'R', 8, 1, 0),
-    (b'W', 8, 1, 0),
-    (b'R', 8, 1, 0),
-    (b'W', 8, 1, 0),
-    (b'R', 7, 2, 0),
-    (b'R', 8, 0, 0),
-    (b'W', 8, 0, 0),
-    (b'R', 8, 0, 0),
-    (b'W', 8, 0, 0),
-    (b'R', 7, 3, 0),
-    (b'R', 8, 1, 0),
-    (b'W', 8, 1, 0),
-    (b'R', 8, 1, 0),
-    (b'W', 8, 1, 0),
-    (b'R', 7, 4, 0),
-    (b'R', 8, 0, 0),
-    (b'W', 8, 0, 0),
-    (b'R', 8, 0, 0),
-    (b'W', 8, 0, 0),
-    (b'R', 7, 5, 0),
-    (b'R', 8, 0, 0),
-    (b'W', 8, 0, 0),
-    (b'R', 8, 1, 0),
-    (b'W', 8, 1, 0),
-    (b'R', 8, 0, 0),
-    (b'R', 8, 1, 0),
-    (b'D', 8, 0, 0),
-];
-
-const CASES: [Case<'static>; 7] = [
-    // Each of two rows is in its first bucket.
-    Case {
-        pack: 1,
-        rows: &[(1, 10), (2, 20), (3, 20), (4, 10)],
-        selects: Some((1, ComparisonOperator::Equal, 20)),
-        counted: 2,
-        k: 2,
-        depth: 1,
-        overflow: None,
-        ids: &[3, 2],
-        wanted: &SINGLE,
-    },
+const CASES: [Case<'static>; 3] = [
     // Both buckets of the second row are full. The accesses are those of a selection that has room.
     Case {
         pack: 1,
@@ -296,7 +120,7 @@ const CASES: [Case<'static>; 7] = [
         depth: 1,
         overflow: Some(2),
         ids: &[1],
-        wanted: &SINGLE,
+        wanted: SINGLE,
     },
     // The rows of the slots 2 and 3 find no bucket, and the first of them is answered.
     Case {
@@ -308,19 +132,7 @@ const CASES: [Case<'static>; 7] = [
         depth: 1,
         overflow: Some(2),
         ids: &[1, 2],
-        wanted: &SINGLE,
-    },
-    // A bucket of one block has space for both rows.
-    Case {
-        pack: 2,
-        rows: &FOUR,
-        selects: Some((1, ComparisonOperator::Equal, 10)),
-        counted: 2,
-        k: 2,
-        depth: 1,
-        overflow: None,
-        ids: &[1, 3],
-        wanted: &PAIRS,
+        wanted: SINGLE,
     },
     // No bucket is asked for the slots behind the capacity.
     Case {
@@ -332,31 +144,7 @@ const CASES: [Case<'static>; 7] = [
         depth: 1,
         overflow: None,
         ids: &[1, 3, 2, 4],
-        wanted: &TRIPLES,
-    },
-    // The second row goes into the second block of its first bucket.
-    Case {
-        pack: 1,
-        rows: &FOUR,
-        selects: Some((1, ComparisonOperator::Equal, 10)),
-        counted: 2,
-        k: 2,
-        depth: 2,
-        overflow: None,
-        ids: &[1, 3],
-        wanted: &DEEP,
-    },
-    // The first bucket of the last row is full, and its second takes it.
-    Case {
-        pack: 1,
-        rows: &[(1, 10), (2, 20), (3, 20), (4, 20), (5, 20), (6, 10)],
-        selects: Some((1, ComparisonOperator::Equal, 10)),
-        counted: 2,
-        k: 2,
-        depth: 1,
-        overflow: None,
-        ids: &[1, 6],
-        wanted: &SIX,
+        wanted: TRIPLES,
     },
 ];
 
@@ -394,40 +182,16 @@ const THIRTEEN: [(i64, i64); 13] = [
     (13, 20),
 ];
 
-// The buckets of their slots, where there are nine.
-const BUCKETS: [(u32, u32); 13] = [
-    (0, 0),
-    (5, 5),
-    (2, 1),
-    (7, 5),
-    (4, 1),
-    (0, 6),
-    (6, 2),
-    (2, 6),
-    (8, 2),
-    (5, 7),
-    (1, 2),
-    (7, 7),
-    (3, 3),
-];
-
-// The accesses of their selection into nine buckets of one block, from the one of this index on, and no
-// others.
-fn check_buckets<S: BlockStore>(rt: &impl Abort, store: &S, from: u64) {
-    let mut at = check_next(rt, store, from, (b'M', 15, 9, 49));
-    for place in 0..9 {
-        at = check_next(rt, store, at, (b'W', 15, place, 0));
-    }
-    for slot in 0..13 {
-        let (first, second) = BUCKETS[slot as usize];
-        at = check_next(rt, store, at, (b'R', 14, slot, 0));
-        at = check_next(rt, store, at, (b'R', 15, first, 0));
-        at = check_next(rt, store, at, (b'W', 15, first, 0));
-        at = check_next(rt, store, at, (b'R', 15, second, 0));
-        at = check_next(rt, store, at, (b'W', 15, second, 0));
-    }
-    assert_eq!(rt; at, store.count());
-}
+// Those of their selection into nine buckets of one block: each slot's two buckets may be one.
+const NINE: &[u8] =
+    b"M 15 9 49, W 15 0, W 15 1, W 15 2, W 15 3, W 15 4, W 15 5, W 15 6, W 15 7, W 15 8,
+    R 14 0, R 15 0, W 15 0, R 15 0, W 15 0, R 14 1, R 15 5, W 15 5, R 15 5, W 15 5,
+    R 14 2, R 15 2, W 15 2, R 15 1, W 15 1, R 14 3, R 15 7, W 15 7, R 15 5, W 15 5,
+    R 14 4, R 15 4, W 15 4, R 15 1, W 15 1, R 14 5, R 15 0, W 15 0, R 15 6, W 15 6,
+    R 14 6, R 15 6, W 15 6, R 15 2, W 15 2, R 14 7, R 15 2, W 15 2, R 15 6, W 15 6,
+    R 14 8, R 15 8, W 15 8, R 15 2, W 15 2, R 14 9, R 15 5, W 15 5, R 15 7, W 15 7,
+    R 14 10, R 15 1, W 15 1, R 15 2, W 15 2, R 14 11, R 15 7, W 15 7, R 15 7, W 15 7,
+    R 14 12, R 15 3, W 15 3, R 15 3, W 15 3";
 
 // The selection of the thirteen rows into nine buckets of one block: the slot that overflows.
 fn select_into_nine<S: BlockStore, R: Revisions>(
@@ -447,8 +211,7 @@ fn select_into_nine<S: BlockStore, R: Revisions>(
     let from = store.count();
     let placed = select(store, &mut vault, &mut room, &flat, pred, 9, 1);
     let (_, overflow) = parts(placed.expect(rt, "select"));
-    assert_eq!(rt; store.count(), from + 75);
-    check_buckets(rt, store, from);
+    check(rt, store, from, NINE);
     overflow
 }
 

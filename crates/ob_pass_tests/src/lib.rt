@@ -16,8 +16,6 @@ mod hash;
 #[cfg(test)]
 mod joins;
 #[cfg(test)]
-mod mutations;
-#[cfg(test)]
 mod orders;
 #[cfg(test)]
 mod revisions;

@@ -1,4 +1,4 @@
-//! What is selected of a table, and the accesses of it: counted, selected, emitted and discarded.
+//! What operators select of a table, and the accesses of it: counted, selected, emitted and discarded.
 ghost use Rattle.std.specs.Prelude.{◌≡◌, ◌≤◌, length};
 ghost use Rattle.ob_base.specs.Schemas.{width};
 ghost use Rattle.ob_vault.specs.Places.{at};
@@ -7,19 +7,15 @@ ghost use Rattle.ob_blocks.specs.Idle.{IsIdle};
 ghost use Rattle.ob_flat.specs.Flats.{IsSized, IsFlat, IsWritten};
 ghost use Rattle.ob_pass_tests.specs.Tables.{TakesInts};
 
-mod continuous;
-mod large;
 mod numbers;
-mod padded;
 mod small;
-mod texts;
 
 use crate::tables::{
-    Comparison, Entry, FOUR, TENS, check, condition, counted, delete_rows, emit_discard, filled,
-    insert_rows, make_room, opened, two_ints,
+    Comparison, FOUR, check, condition, counted, delete_rows, emit_discard, filled, insert_rows,
+    make_room, opened, two_ints,
 };
 use ob_base::ComparisonOperator;
-use ob_flat::{Counted, Flat};
+use ob_flat::Flat;
 use ob_room::Room;
 use ob_row::Pred;
 use ob_store::BlockStore;
@@ -50,7 +46,7 @@ pub(crate) struct Case<'a> {
     pub(crate) k: u32,
     pub(crate) ids: &'a [i128],
     pub(crate) from: u64,
-    pub(crate) wanted: &'a [Entry],
+    pub(crate) wanted: &'a [u8],
 }
 
 // Where others come, those that make a condition true are deleted, and the others are inserted.
@@ -180,43 +176,3 @@ pub(crate) fn run(rt: &impl Abort, alloc: Global, cases: &[Case<'_>]) {
 }
 
 pub(crate) const FROM_SECOND: Option<Comparison> = Some((0, ComparisonOperator::GreaterOrEqual, 2));
-
-// A table of four rows is counted, and nothing else is asked.
-fn count_rows<S: BlockStore, R: Revisions>(
-    rt: &impl Abort,
-    store: &mut S,
-    mut vault: Vault<R>,
-    mut room: Room,
-    selects: Option<Comparison>,
-    wanted: Counted,
-    accesses: (u32, u32),
-)
-    requires ready { StartsAnew (at R.state vault (S.state store.old)) }
-    requires room { IsIdle 17 room }
-    requires pack { 1 ≤ room.pack }
-{
-    let schema = two_ints(b"id", b"v", true);
-    let flat = filled(rt, store, &mut vault, &mut room, &schema, 4, &FOUR);
-    assert_eq!(rt; store.count(), u64::from(accesses.0));
-    let pred = condition(selects);
-    let found = counted(rt, store, &mut vault, &mut room, &flat, &pred);
-    assert_eq!(rt; found, wanted);
-    assert_eq!(rt; store.count(), u64::from(accesses.1));
-}
-
-// Whether the slots of the selected rows follow each other, as none and one do, whatever a block has.
-#[test]
-fn counts_whether_slots_are_consecutive(rt: HostRuntime) {
-    for (pack, from, to) in [(1, 61, 65), (2, 35, 37), (3, 35, 37)] {
-        for (selects, k, consecutive) in [
-            (Some((1, ComparisonOperator::Equal, 99)), 0, true),
-            (Some((0, ComparisonOperator::Equal, 3)), 1, true),
-            (TENS, 2, false),
-            (None, 4, true),
-        ] {
-            let (mut store, vault, room) = opened::<BaseRevs>(&rt, rt.alloc(), 49, pack);
-            let wanted = Counted { k, consecutive };
-            count_rows(&rt, &mut store, vault, room, selects, wanted, (from, to));
-        }
-    }
-}

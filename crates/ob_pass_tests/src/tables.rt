@@ -9,7 +9,7 @@ mod filling;
 mod opening;
 mod passes;
 
-pub(crate) use accesses::{Entry, check, check_next};
+pub(crate) use accesses::check;
 pub(crate) use columns::{column, two_ints};
 pub(crate) use conditions::{Comparison, TENS, condition};
 pub(crate) use emitted::Ints;

@@ -59,7 +59,7 @@ fn each_write_has_its_number(rt: HostRuntime) {
         k: 2,
         ids: &[1, 3],
         from: 87,
-        wanted: &[],
+        wanted: b"",
     };
     check_writes(&rt, rt.alloc(), &case, &[0, 1, 2, 3, 0, 1, 2, 3]);
     let case = Case {
@@ -73,7 +73,7 @@ fn each_write_has_its_number(rt: HostRuntime) {
         k: 3,
         ids: &[4, 2, 3],
         from: 85,
-        wanted: &[],
+        wanted: b"",
     };
     check_writes(&rt, rt.alloc(), &case, &[0, 1, 2, 0, 1, 2, 0]);
 }

@@ -1,12 +1,12 @@
 //! The accesses of a store, as they are wanted.
-ghost use Rattle.std.specs.Prelude.{◌≡◌, ◌+◌, length};
+ghost use Rattle.std.specs.Prelude.{◌≡◌, ◌+◌};
 
 use ob_base::Access;
 use ob_store::BlockStore;
 use std::process::Abort;
 
-/// An access by its letter: its region, its place or number of blocks, and the length of a block.
-pub(crate) type Entry = (u8, u64, u32, u32);
+// An access by its letter and its numbers, as the trace spells them; zeros stand before fewer than three.
+type Entry = (u8, u64, u64, u64);
 
 fn entry(access: Access) -> Entry {
     match access {
@@ -14,20 +14,38 @@ fn entry(access: Access) -> Entry {
             region,
             blocks,
             len,
-        } => (b'M', region, blocks, len),
-        Access::Read { region, place } => (b'R', region, place, 0),
-        Access::Write { region, place } => (b'W', region, place, 0),
-        Access::Discard { region } => (b'D', region, 0, 0),
+        } => (b'M', region, u64::from(blocks), u64::from(len)),
+        Access::Read { region, place } => (b'R', 0, region, u64::from(place)),
+        Access::Write { region, place } => (b'W', 0, region, u64::from(place)),
+        Access::Discard { region } => (b'D', 0, 0, region),
         Access::Open {
             region,
             blocks,
             len,
-        } => (b'O', region, blocks, len),
+        } => (b'O', region, u64::from(blocks), u64::from(len)),
     }
 }
 
-/// Wants this as the access of an index, and answers the next index.
-pub(crate) fn check_next<S: BlockStore>(rt: &impl Abort, store: &S, at: u64, want: Entry) -> u64
+// What was read of an access, and one byte more: a blank begins its next number.
+fn read_on(read: Entry, byte: u8) -> Entry {
+    let (letter, first, second, last) = read;
+    match byte {
+        b' ' | b'\n' => (letter, second, last, 0),
+        b'0'..=b'9' => {
+            let digit = u64::from(byte.wrapping_sub(b'0'));
+            (
+                letter,
+                first,
+                second,
+                last.wrapping_mul(10).wrapping_add(digit),
+            )
+        }
+        _ => (byte, 0, 0, 0),
+    }
+}
+
+// Wants this as the access of an index, and answers the next index.
+fn check_next<S: BlockStore>(rt: &impl Abort, store: &S, at: u64, want: Entry) -> u64
     ensures { result ≡ at + 1 }
 {
     assert!(rt; at < store.count());
@@ -35,13 +53,20 @@ pub(crate) fn check_next<S: BlockStore>(rt: &impl Abort, store: &S, at: u64, wan
     at + 1
 }
 
-/// Wants these as the accesses from the one of an index on, and no others.
-pub(crate) fn check<S: BlockStore>(rt: &impl Abort, store: &S, from: u64, wanted: &[Entry])
-    ensures { from + length wanted.now ≡ length (S.state store.now).asked }
-{
+/// Wants the accesses that a text spells as the trace does, `M 6 2 66, W 6 0`, from the one of an index on, and
+/// no others.
+pub(crate) fn check<S: BlockStore>(rt: &impl Abort, store: &S, from: u64, wanted: &[u8]) {
     let mut at = from;
-    for want in wanted {
-        at = check_next(rt, store, at, *want);
+    let mut read: Entry = (0, 0, 0, 0);
+    for byte in wanted {
+        if *byte == b',' {
+            at = check_next(rt, store, at, read);
+        } else {
+            read = read_on(read, *byte);
+        }
+    }
+    if !wanted.is_empty() {
+        at = check_next(rt, store, at, read);
     }
     assert_eq!(rt; at, store.count());
 }

@@ -16,7 +16,7 @@ pub select-requires-clause-starts : goal.select-requires-clause-starts
 select-requires-clause-starts g c =
     let flat = c.args.flat.now in
     let k = c.args.case.now.k in
-    let room = c.make_room-2.ensures in
+    let room = c.make_room.ensures in
     let fact = asked c.args.room.now.pack k flat.capacity c.requires.pack c.requires.number.1 c.requires.few in
     let here = subst (λ (r : RoomState). select_length r.pack flat k ≤ 21) (sym c.counted-counted.ensures.room) fact in
     starts_rests _ _ _ room.rests c.counted-counted.ensures.ready _ (omega (arith, room.spare, here)) room.few
