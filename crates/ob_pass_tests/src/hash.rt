@@ -109,7 +109,36 @@ const TRIPLES: &[u8] =
     W 6 1, R 6 0, W 6 0, R 6 0, W 6 0, R 5 1, R 6 1, W 6 1, R 6 1, W 6 1, R 6 0, R 6 1,
     D 6";
 
-const CASES: [Case<'static>; 3] = [
+// Thirteen rows, of which nine have the same second cell.
+const THIRTEEN: [(i64, i64); 13] = [
+    (1, 10),
+    (2, 10),
+    (3, 10),
+    (4, 10),
+    (5, 10),
+    (6, 10),
+    (7, 10),
+    (8, 10),
+    (9, 20),
+    (10, 10),
+    (11, 20),
+    (12, 20),
+    (13, 20),
+];
+
+// Nine buckets of one block for their slots, of which some have one bucket twice.
+const NINE: &[u8] =
+    b"M 15 9 49, W 15 0, W 15 1, W 15 2, W 15 3, W 15 4, W 15 5, W 15 6, W 15 7, W 15 8,
+    R 14 0, R 15 0, W 15 0, R 15 0, W 15 0, R 14 1, R 15 5, W 15 5, R 15 5, W 15 5,
+    R 14 2, R 15 2, W 15 2, R 15 1, W 15 1, R 14 3, R 15 7, W 15 7, R 15 5, W 15 5,
+    R 14 4, R 15 4, W 15 4, R 15 1, W 15 1, R 14 5, R 15 0, W 15 0, R 15 6, W 15 6,
+    R 14 6, R 15 6, W 15 6, R 15 2, W 15 2, R 14 7, R 15 2, W 15 2, R 15 6, W 15 6,
+    R 14 8, R 15 8, W 15 8, R 15 2, W 15 2, R 14 9, R 15 5, W 15 5, R 15 7, W 15 7,
+    R 14 10, R 15 1, W 15 1, R 15 2, W 15 2, R 14 11, R 15 7, W 15 7, R 15 7, W 15 7,
+    R 14 12, R 15 3, W 15 3, R 15 3, W 15 3, R 15 0, R 15 1, R 15 2, R 15 3, R 15 4,
+    R 15 5, R 15 6, R 15 7, R 15 8, D 15";
+
+const CASES: [Case<'static>; 6] = [
     // Both buckets of the second row are full. The accesses are those of a selection that has room.
     Case {
         pack: 1,
@@ -146,6 +175,42 @@ const CASES: [Case<'static>; 3] = [
         ids: &[1, 3, 2, 4],
         wanted: TRIPLES,
     },
+    // Both buckets of slot 6 are full; those behind it find none either, or go into their own.
+    Case {
+        pack: 1,
+        rows: &THIRTEEN,
+        selects: Some((1, ComparisonOperator::Equal, 10)),
+        counted: 9,
+        k: 9,
+        depth: 1,
+        overflow: Some(6),
+        ids: &[1, 3, 5, 2, 6, 4],
+        wanted: NINE,
+    },
+    // So they are where all rows are selected.
+    Case {
+        pack: 1,
+        rows: &THIRTEEN,
+        selects: None,
+        counted: 13,
+        k: 9,
+        depth: 1,
+        overflow: Some(6),
+        ids: &[1, 11, 3, 13, 5, 2, 6, 4, 9],
+        wanted: NINE,
+    },
+    // No row is selected: the accesses are the same.
+    Case {
+        pack: 1,
+        rows: &THIRTEEN,
+        selects: Some((1, ComparisonOperator::Equal, 30)),
+        counted: 0,
+        k: 9,
+        depth: 1,
+        overflow: None,
+        ids: &[],
+        wanted: NINE,
+    },
 ];
 
 #[test]
@@ -162,71 +227,5 @@ fn selects_into_buckets(rt: HostRuntime) {
             case.pack,
         );
         session(&rt, &mut store, vault, room, case);
-    }
-}
-
-// Thirteen rows, of which nine have the same second cell.
-const THIRTEEN: [(i64, i64); 13] = [
-    (1, 10),
-    (2, 10),
-    (3, 10),
-    (4, 10),
-    (5, 10),
-    (6, 10),
-    (7, 10),
-    (8, 10),
-    (9, 20),
-    (10, 10),
-    (11, 20),
-    (12, 20),
-    (13, 20),
-];
-
-// Those of their selection into nine buckets of one block: each slot's two buckets may be one.
-const NINE: &[u8] =
-    b"M 15 9 49, W 15 0, W 15 1, W 15 2, W 15 3, W 15 4, W 15 5, W 15 6, W 15 7, W 15 8,
-    R 14 0, R 15 0, W 15 0, R 15 0, W 15 0, R 14 1, R 15 5, W 15 5, R 15 5, W 15 5,
-    R 14 2, R 15 2, W 15 2, R 15 1, W 15 1, R 14 3, R 15 7, W 15 7, R 15 5, W 15 5,
-    R 14 4, R 15 4, W 15 4, R 15 1, W 15 1, R 14 5, R 15 0, W 15 0, R 15 6, W 15 6,
-    R 14 6, R 15 6, W 15 6, R 15 2, W 15 2, R 14 7, R 15 2, W 15 2, R 15 6, W 15 6,
-    R 14 8, R 15 8, W 15 8, R 15 2, W 15 2, R 14 9, R 15 5, W 15 5, R 15 7, W 15 7,
-    R 14 10, R 15 1, W 15 1, R 15 2, W 15 2, R 14 11, R 15 7, W 15 7, R 15 7, W 15 7,
-    R 14 12, R 15 3, W 15 3, R 15 3, W 15 3";
-
-// The selection of the thirteen rows into nine buckets of one block: the slot that overflows.
-fn select_into_nine<S: BlockStore, R: Revisions>(
-    rt: &impl Abort,
-    store: &mut S,
-    mut vault: Vault<R>,
-    mut room: Room,
-    pred: &Pred,
-) -> Option<u32>
-    requires ready { StartsAnew (at R.state vault (S.state store.old)) }
-    requires room { IsIdle 17 room }
-    requires pack { 1 ≤ room.pack }
-{
-    let schema = two_ints(b"id", b"v", true);
-    let flat = filled(rt, store, &mut vault, &mut room, &schema, 13, &THIRTEEN);
-    make_room(rt, store);
-    let from = store.count();
-    let placed = select(store, &mut vault, &mut room, &flat, pred, 9, 1);
-    let (_, overflow) = parts(placed.expect(rt, "select"));
-    check(rt, store, from, NINE);
-    overflow
-}
-
-// Both buckets of slot 6 are full, whether or not the rows behind it are selected. The accesses are those
-// of a selection of no row.
-#[test]
-fn overflows_at_slot_six_of_thirteen(rt: HostRuntime) {
-    for (selects, wanted) in [
-        (Some((1, ComparisonOperator::Equal, 10)), Some(6)),
-        (None, Some(6)),
-        (Some((1, ComparisonOperator::Equal, 30)), None),
-    ] {
-        let (mut store, vault, room) = opened::<BaseRevs>(&rt, rt.alloc(), 4, 1);
-        let pred = condition(selects);
-        let overflow = select_into_nine(&rt, &mut store, vault, room, &pred);
-        assert_eq!(rt; overflow, wanted);
     }
 }

@@ -4,8 +4,6 @@
 #[cfg(test)]
 mod aggregates;
 #[cfg(test)]
-mod cont;
-#[cfg(test)]
 mod emission;
 #[cfg(test)]
 mod emitter;

@@ -7,6 +7,7 @@ ghost use Rattle.ob_blocks.specs.Idle.{IsIdle};
 ghost use Rattle.ob_flat.specs.Flats.{IsSized, IsFlat, IsWritten};
 ghost use Rattle.ob_pass_tests.specs.Tables.{TakesInts};
 
+mod continuous;
 mod numbers;
 mod small;
 
