@@ -113,11 +113,13 @@ def main():
     ]
     (CASES / "data/examples.case").write_text("\n".join(examples))
 
-    # README shows the first case of changes.case, and the guide the first session.
-    changed = (CASES / "data/changes.case").read_text().split("\n\n")[1].partition("\n")[2]
-    for document, shown in (("README.md", changed), ("docs/GUIDE.md", "\n".join(first))):
-        if shown not in (TOP / document).read_text():
-            raise SystemExit(f"{document} doesn't show what is served")
+    # README shows lines of the first case of changes.case, in their order, and the guide the first session.
+    changed = iter((CASES / "data/changes.case").read_text().split("\n\n")[1].split("\n"))
+    session_shown = ("> " + (TOP / "README.md").read_text().partition("```\n> ")[2].partition("\n```")[0]).split("\n")
+    if len(session_shown) < 2 or not all(line in changed for line in session_shown):
+        raise SystemExit("README.md doesn't show what is served")
+    if "\n".join(first) not in (TOP / "docs/GUIDE.md").read_text():
+        raise SystemExit("docs/GUIDE.md doesn't show what is served")
     files = (CASES / "args").read_text().split()
     all_cases = sum(count((CASES / "data" / name).read_text()) for name in files)
     (CASES / "stdout").write_text(f"{all_cases} cases passed, 0 differ\n")
