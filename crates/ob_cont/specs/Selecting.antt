@@ -20,7 +20,7 @@ use Rattle.ob_flat.specs.declared.fault.OpErr.{OpErr}
 use Rattle.ob_flat.specs.declared.fault.OpErr.TheVariants.{Failed, NoMemory}
 use Rattle.ob_flat.specs.Slots.{Spelt, AreSlots}
 use Rattle.ob_flat.specs.Flats.{IsSized, FitsRegion, IsInTurn, IsFlat, IsWritten, HoldsSlots, HoldsRows, Represents, table_region}
-use Rattle.ob_flat.specs.Words.{Ran, TamperedAt, TamperedIn, SealsTable, NoMemoryBehind, FitBlock, blocks_of}
+use Rattle.ob_flat.specs.Words.{PassRan, TamperedAt, TamperedIn, SealsTable, NoMemoryBehind, FitBlock, blocks_of}
 use Rattle.ob_flat.specs.Creates.{make_script, table_of}
 use Rattle.ob_cont.specs.Putting.{order_for, put_if, put_at, put_slots, place_of, put_part}
 
@@ -77,7 +77,7 @@ pub record AreBuffers (flat : Flat) (rows held : List (List ℕ)) : Type 0 where
 -- the block with the place of slot i was read and written, with the slot's row where it is selected
 pub record PutsRow {T : Type 0} (pack : ℕ) (to : Flat) (i : ℕ) (row : List ℕ) (is_put : Bool)
     (result : Result T OpErr) (old new : World) : Type 0 where
-  pub ran : Ran (copy_at to.region to.region (place_of pack to.capacity i)) (one to.region)
+  pub ran : PassRan (copy_at to.region to.region (place_of pack to.capacity i)) (one to.region)
       result old new
   pub never : IfErr result (λ e. (e ≡ Failed)
       ⊎ TamperedAt pack to (place_of pack to.capacity i) e new)
@@ -94,7 +94,7 @@ pub record PutsRow {T : Type 0} (pack : ℕ) (to : Flat) (i : ℕ) (row : List �
 -- the same for each slot of block u of a table, whose rows these are
 pub record PutsBlock {T : Type 0} (pack : ℕ) (flat : Flat) (p : RowTest) (to : Flat) (u : ℕ)
     (block : List (List ℕ)) (result : Result T OpErr) (old new : World) : Type 0 where
-  pub ran : Ran (block_script pack flat to u) (one to.region) result old new
+  pub ran : PassRan (block_script pack flat to u) (one to.region) result old new
   pub never : IfErr result (λ e. (e ≡ Failed) ⊎ TamperedIn pack to e new)
   pub seals : SealsTable pack to.schema to.region old new
   pub turn : OnOk result (IsInTurn (order_for pack) pack to
@@ -111,7 +111,7 @@ pub record PutsBlock {T : Type 0} (pack : ℕ) (flat : Flat) (p : RowTest) (to :
 -- and for each slot of a table, whose blocks were read
 pub record Fills {T : Type 0} (pack : ℕ) (flat : Flat) (p : RowTest) (to : Flat)
     (result : Result T OpErr) (old new : World) : Type 0 where
-  pub ran : Ran (fill_script pack flat to) (one to.region) result old new
+  pub ran : PassRan (fill_script pack flat to) (one to.region) result old new
   pub never : IfErr result (λ e. (e ≡ Failed)
       ⊎ TamperedIn pack flat e new ⊎ TamperedIn pack to e new)
   pub seals : SealsTable pack to.schema to.region old new
@@ -126,7 +126,7 @@ pub record Fills {T : Type 0} (pack : ℕ) (flat : Flat) (p : RowTest) (to : Fla
 -- and the result was made and filled with dummies before, or is gone
 pub record Selects (pack : ℕ) (flat : Flat) (p : RowTest) (k : ℕ)
     (result : Result Flat OpErr) (old new : World) : Type 0 where
-  pub ran : Ran (select_script pack flat k old.vault.next) (one old.vault.next) result old new
+  pub ran : PassRan (select_script pack flat k old.vault.next) (one old.vault.next) result old new
   pub never : IfErr result (λ e. (e ≡ Failed) ⊎ (e ≡ NoMemory)
       ⊎ TamperedIn pack flat e new
       ⊎ TamperedIn pack (table_of flat.schema k old.vault.next) e new)

@@ -23,7 +23,7 @@ use Rattle.ob_flat.specs.declared.fault.OpErr.TheVariants.{Failed, Tampered, Sin
 use Rattle.ob_flat.specs.Slots.{AreSlots}
 use Rattle.ob_flat.specs.Flats.{IsWritten, Represents}
 use Rattle.ob_flat.specs.Passes.{SinkCause}
-use Rattle.ob_flat.specs.Words.{Ran, TamperedIn, blocks_of}
+use Rattle.ob_flat.specs.Words.{PassRan, TamperedIn, blocks_of}
 use Rattle.ob_flat.specs.Emission.{SlotsToEnd, SlotsToHalt}
 use Rattle.ob_emit.specs.declared.slots.Halt.{Halt}
 use Rattle.ob_emit.specs.declared.slots.Halt.TheVariants as Halts
@@ -133,7 +133,7 @@ pub record EmitsRows {E : Type 0} (grew cut : E → E → List Event → Type 0)
 pub record Emits {E : Type 0} (grew cut : E → E → List Event → Type 0) (faults : E → ℕ)
     (pack : ℕ) (flat : Flat) (cols : List ℕ) (head : List Event)
     (result : Result ℕ OpErr) (old new : World) (out_old out_new : E) : Type 0 where
-  pub ran : Ran (count_part flat.region (blocks_of pack flat)) none result old new
+  pub ran : PassRan (count_part flat.region (blocks_of pack flat)) none result old new
   pub never : IfErr result (λ e. (e ≡ Failed) ⊎ (e ≡ Sink) ⊎ (e ≡ NoMemory)
       ⊎ TamperedIn pack flat e new)
   pub seals : SealsAll old new
@@ -150,7 +150,7 @@ pub record Emits {E : Type 0} (grew cut : E → E → List Event → Type 0) (fa
 -- each was read, and nothing emitted
 pub record Walks {T : Type 0} (pack : ℕ) (flat : Flat)
     (result : Result T OpErr) (old new : World) : Type 0 where
-  pub ran : Ran (count_part flat.region (blocks_of pack flat)) none result old new
+  pub ran : PassRan (count_part flat.region (blocks_of pack flat)) none result old new
   pub never : IfErr result (λ e. (e ≡ Failed) ⊎ TamperedIn pack flat e new)
   pub seals : SealsAll old new
   pub source : IsWritten pack flat new

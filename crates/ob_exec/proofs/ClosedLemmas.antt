@@ -14,7 +14,7 @@ use Rattle.ob_mean.specs.Verdict.{Tables}
 use Rattle.ob_mean.proofs.EarlyLemmas.{neither}
 use Rattle.ob_seal.specs.KeySet.{KeySet}
 use Rattle.ob_store.specs.State.{Shape, StoreState}
-use Rattle.ob_store.specs.Calls.{KeepsLive, Rests as OnlyRoom}
+use Rattle.ob_store.specs.Calls.{KeepsLive, ChangesNothing as OnlyRoom}
 use Rattle.ob_store.specs.Runs.{Began, Did, Later}
 use Rattle.ob_store.proofs.Steps.{later_refl, later_rests}
 use Rattle.ob_vault.specs.declared.fault.VaultErr.{VaultErr}
@@ -22,8 +22,8 @@ use Rattle.ob_vault.specs.declared.region.Region.{Region}
 use Rattle.ob_vault.specs.declared.vault.Vault.{Vault}
 use Rattle.ob_vault.specs.State.{RevState, Start, World}
 use Rattle.ob_vault.specs.Places.{at, start_of}
-use Rattle.ob_vault.specs.Tied.{Calm, Fits, Lives, Ready}
-use Rattle.ob_vault.specs.Calls.{Cause, Cut, Seals, Went, one}
+use Rattle.ob_vault.specs.Tied.{Calm, TagFits, Lives, Ready}
+use Rattle.ob_vault.specs.Calls.{Cause, CutShort, Seals, Went, one}
 use Rattle.ob_vault.specs.VaultCalls.{DropsRegion}
 use Rattle.ob_vault.specs.Words.{MayAsk}
 use Rattle.ob_vault.proofs.Runs.{cut_after, lasts_wider, seals_join, seals_none, went_join, went_none, went_spent, went_wider}
@@ -231,13 +231,13 @@ module _ {R : Type 0} (state : R → RevState) (e : Engine R) (s : StoreState) (
 
         calm_as : v2.keys ≡ e.vault.keys → start_of v2 ≡ start_of e.vault → Calm last → Calm (world_of state e t)
         calm_as keys start calm = record {
-          calm = λ lie told. subst (λ (b : Start). Fits e.vault.keys b lie) start (subst (λ (k : KeySet). Fits k (start_of v2) lie) keys (calm.calm lie told));
+          calm = λ lie told. subst (λ (b : Start). TagFits e.vault.keys b lie) start (subst (λ (k : KeySet). TagFits k (start_of v2) lie) keys (calm.calm lie told));
           within = calm.within;
         }
 
         -- it was not written
         module _ (err : CloseErr) (is : WritesClosing e.room.pack listed (Err err) amid last) where
-          cut : Cut (vault_error err) (drop_script e.closing ++ write_script (written_closing e.room.pack listed amid)) both (world_of state e s) last
+          cut : CutShort (vault_error err) (drop_script e.closing ++ write_script (written_closing e.room.pack listed amid)) both (world_of state e s) last
           cut =
               cut_after both (world_of state e s) amid last (vault_error err) (drop_script e.closing) (write_script (written_closing e.room.pack listed amid))
               (went_wider (λ q. e.closing ≡ Some q) (world_of state e s) amid both (λ q at_it. inl at_it) (drop_script e.closing) first)

@@ -28,7 +28,7 @@ use Rattle.ob_base.specs.Stored.{has_table}
 use Rattle.ob_room.specs.RoomState.{RoomState}
 use Rattle.ob_blocks.specs.Idle.{IsIdle}
 use Rattle.ob_store.specs.State.{StoreState}
-use Rattle.ob_store.specs.Calls.{Rests}
+use Rattle.ob_store.specs.Calls.{ChangesNothing}
 use Rattle.ob_vault.specs.State.{RevState, World}
 use Rattle.ob_vault.specs.declared.vault.Vault.{Vault}
 use Rattle.ob_vault.specs.Places.{at}
@@ -180,7 +180,7 @@ module _ (p : Public) (m : ℕ) (table : List ℕ) (columns : List NewColumn) (c
 
 module _ {R : Type 0} (state : R → RevState) (old : Engine R) (s s1 : StoreState) (v : Vault R) (room : RoomState) (t : StoreState)
     (table : List ℕ) (columns : List NewColumn) (schema : Columns) (capacity : ℕ)
-    (agrees : Agrees state old s) (rests : Rests s s1) (room_is : room ≡ record old.room { high = max old.room.high old.room.pack }) (schema_is : schema ≡ columns_of table columns)
+    (agrees : Agrees state old s) (rests : ChangesNothing s s1) (room_is : room ≡ record old.room { high = max old.room.high old.room.pack }) (schema_is : schema ≡ columns_of table columns)
     (now : refusal_now old.public (count_of old s) (CreateStmt table columns capacity) ≡ None) where
   abbrev before : World
   before = at state old.vault s1

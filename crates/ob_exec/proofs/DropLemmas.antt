@@ -16,7 +16,7 @@ use Rattle.ob_base.specs.declared.skeleton.Skeleton.TheVariants.{Drop as DropSke
 use Rattle.ob_base.specs.Accesses.{discard_at}
 use Rattle.ob_base.specs.Stored.{Stored, dropped_at}
 use Rattle.ob_store.specs.State.{StoreState}
-use Rattle.ob_store.specs.Calls.{Rests}
+use Rattle.ob_store.specs.Calls.{ChangesNothing}
 use Rattle.ob_vault.specs.State.{RevState, World}
 use Rattle.ob_vault.specs.declared.region.Region.{Region}
 use Rattle.ob_vault.specs.declared.vault.Vault.{Vault}
@@ -232,7 +232,7 @@ opens_discard : (r high : ℕ) → Opens (discard_at r) high high
 opens_discard r high = record { kept = omega (arith); some = λ none. absurd (cc none) }
 
 module _ {R : Type 0} (state : R → RevState) (old : Engine R) (s s1 : StoreState) (v : Vault R) (t : StoreState) (name : List ℕ) (i : ℕ) (table : Table)
-    (agrees : Agrees state old s) (rests : Rests s s1) (here : IsAt name i table old.public.tables) (now : refusal_now old.public (count_of old s) (DropTable name) ≡ None) where
+    (agrees : Agrees state old s) (rests : ChangesNothing s s1) (here : IsAt name i table old.public.tables) (now : refusal_now old.public (count_of old s) (DropTable name) ≡ None) where
   script_is : (end : End) → whole_script old.public (DropSkeleton name) (seen_to end) ≡ discard_at table.region
   script_is end =
       ap (λ (o : Option (Stored ℕ)). option_map_or (λ (u : Stored ℕ). discard_at u.held) o [])

@@ -9,7 +9,7 @@ use Rattle.ob_row.specs.Slots.{Slots, rows, is_selected, selected}
 use Rattle.ob_row.specs.Truth.{is_true}
 use Rattle.ob_store.specs.State.{Lie}
 use Rattle.ob_vault.specs.State.{World}
-use Rattle.ob_vault.specs.Tied.{Calm, IsUnfit, Fits}
+use Rattle.ob_vault.specs.Tied.{Calm, IsUnfit, TagFits}
 use Rattle.ob_exec.specs.Running.{is_row}
 use Rattle.ob_vault.specs.Calls.{Lasts}
 
@@ -43,4 +43,4 @@ lie_none some a b lasts calm unfit = go a.store.lie refl
     go : (o : Option Lie) → a.store.lie ≡ o → a.store.lie ≡ None
     go None is = is
     go (Some lie) is =
-        absurd (unfit.unfit lie (lasts.later.lie lie is) (subst (λ k. Fits k b.vault.start lie) (sym lasts.keys) (subst (λ x. Fits a.vault.keys x lie) (sym lasts.start) (calm.calm lie is))))
+        absurd (unfit.unfit lie (lasts.later.lie lie is) (subst (λ k. TagFits k b.vault.start lie) (sym lasts.keys) (subst (λ x. TagFits a.vault.keys x lie) (sym lasts.start) (calm.calm lie is))))

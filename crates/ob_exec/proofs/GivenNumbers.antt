@@ -8,7 +8,7 @@ use Rattle.ob_seal.specs.KeySet.{KeySet}
 use Rattle.ob_seal.specs.Sealed.{tag_of}
 use Rattle.ob_store.specs.State.{Lie}
 use Rattle.ob_vault.specs.State.{Start, World, from_earlier}
-use Rattle.ob_vault.specs.Tied.{Fits, at_of}
+use Rattle.ob_vault.specs.Tied.{TagFits, at_of}
 use Rattle.ob_reopen.specs.declared.closing.Closing.{Closing}
 use Rattle.ob_reopen.specs.declared.listed.Listed.{Listed}
 use Rattle.ob_reopen.specs.Limits.{blocks_of}
@@ -123,12 +123,12 @@ given_closing closing (t ∷ ts) q x here below =
 -- so the tag of one that fits there fits with the tables, too
 pub fits_listed : (closing : Closing) (keys : KeySet) (listed : List Listed) (lie : Lie) → lie.region ≡ closing.region
     → ((i : ℕ) (t : Listed) → slice_get listed i ≡ Some t → t.table.region < closing.region)
-    → Fits keys (opened_start closing []) lie → Fits keys (opened_start closing listed) lie
+    → TagFits keys (opened_start closing []) lie → TagFits keys (opened_start closing listed) lie
 fits_listed closing keys listed lie here below fits = record {
   tag = fits.tag
       ∙ ap (λ (n : ℕ). tag_of keys (at_of lie.region lie.place (number_from (closing.number + closing.blocks - 1) n lie.region lie.place lie.before)) (take (length lie.bytes - 32) lie.bytes))
       (sym (given_closing closing listed lie.region lie.place here below));
 }
 
-pub fits_as : (k l : KeySet) (s t : Start) (lie : Lie) → k ≡ l → s ≡ t → Fits k s lie → Fits l t lie
-fits_as k l s t lie keys start fits = subst (λ (x : Start). Fits l x lie) start (subst (λ (x : KeySet). Fits x s lie) keys fits)
+pub fits_as : (k l : KeySet) (s t : Start) (lie : Lie) → k ≡ l → s ≡ t → TagFits k s lie → TagFits l t lie
+fits_as k l s t lie keys start fits = subst (λ (x : Start). TagFits l x lie) start (subst (λ (x : KeySet). TagFits x s lie) keys fits)

@@ -22,7 +22,7 @@ use Rattle.ob_script.proofs.Makes.{makes-count_part}
 use Rattle.ob_room.specs.RoomState.{RoomState, clear}
 use Rattle.ob_seal.specs.KeySet.{KeySet}
 use Rattle.ob_store.specs.State.{KeptRegion, Lie, StoreState}
-use Rattle.ob_store.specs.Calls.{IsBounded, Rests as OnlyRoom}
+use Rattle.ob_store.specs.Calls.{IsBounded, ChangesNothing as OnlyRoom}
 use Rattle.ob_store.specs.Runs.{Did, Began}
 use Rattle.ob_store.proofs.Steps.{did_join, began_join, length-each}
 use Rattle.ob_vault.specs.declared.region.Order.TheVariants.{Round}
@@ -30,7 +30,7 @@ use Rattle.ob_vault.specs.declared.vault.Vault.{Vault}
 use Rattle.ob_vault.specs.State.{RevState, Start, World, from_earlier}
 use Rattle.ob_vault.specs.Places.{at, start_of}
 use Rattle.ob_vault.specs.Resuming.{Stays, Unasked, open_at}
-use Rattle.ob_vault.specs.Tied.{AllSealed, Calm, Fits, Ready, Scope, next_fault}
+use Rattle.ob_vault.specs.Tied.{AllSealed, Calm, TagFits, Ready, Scope, next_fault}
 use Rattle.ob_vault.specs.Words.{IsHonest}
 use Rattle.ob_reopen.specs.declared.closing.Closing.{Closing}
 use Rattle.ob_reopen.specs.declared.fault.OpenErr.{OpenErr}
@@ -66,7 +66,7 @@ record Cut (e : OpenErr) (lie : Lie) (asked : List Access) : Type 0 where
   is : e ≡ Tampered lie.region lie.place
   last : asked ≡ lie.before ++ Read lie.region lie.place ∷ []
 
-cut_by : (e : OpenErr) (a b : World) → OpenCause e a b → Calm a → (lie : Lie) → b.store.lie ≡ Some lie → (Fits b.vault.keys b.vault.start lie → ⊥) → Cut e lie b.store.asked
+cut_by : (e : OpenErr) (a b : World) → OpenCause e a b → Calm a → (lie : Lie) → b.store.lie ≡ Some lie → (TagFits b.vault.keys b.vault.start lie → ⊥) → Cut e lie b.store.asked
 cut_by Failed a b cause calm lie told unfit = absurd (unfit ((cause.1 calm).calm lie told))
 cut_by (Tampered q p) a b cause calm lie told unfit = elim (cause.2 calm) [
   | inl is ↦ absurd (unfit (is.calm lie told))
@@ -266,7 +266,7 @@ module _ {R : Type 0} (state : R → RevState) (config : Config) (keys : KeySet)
             let place : p ≡ tampered.place = cc same in
             let below = tampered.below in (cc same, omega (arith, place, below))
 
-        cut_at : (lie : Lie) → s2.lie ≡ Some lie → (Fits keys (opened_start closing []) lie → ⊥) → IsNumbered closing mid ⊎ (s2.lie ≡ s1.lie) → Cut e lie s2.asked
+        cut_at : (lie : Lie) → s2.lie ≡ Some lie → (TagFits keys (opened_start closing []) lie → ⊥) → IsNumbered closing mid ⊎ (s2.lie ≡ s1.lie) → Cut e lie s2.asked
         cut_at lie told unfit (inl numbered) =
             cut_by e first mid reads.opens.err.cause calm_first lie told
             (λ fits. unfit (fits_as v1.keys keys (start_of v1) (opened_start closing []) lie (keys_mid reads.opens.err.stays) (start_mid reads.opens.err.stays numbered) fits))
@@ -313,7 +313,7 @@ module _ {R : Type 0} (state : R → RevState) (config : Config) (keys : KeySet)
         region_below : (i : ℕ) (t : Listed) → slice_get listed i ≡ Some t → t.table.region < closing.region
         region_below i t is = (table_is closing listed reads.catalogue i t is).region_most
 
-        fits_read : (lie : Lie) → s2.lie ≡ Some lie → Fits keys (opened_start closing listed) lie
+        fits_read : (lie : Lie) → s2.lie ≡ Some lie → TagFits keys (opened_start closing listed) lie
         fits_read lie told =
             fits_listed closing keys listed lie (lie_there lie told (cases_eq lie.region closing.region)) region_below
             (fits_as v1.keys keys (start_of v1) (opened_start closing []) lie (keys_mid reads.opens.ok.stays) start_read (calm_mid.calm lie told))

@@ -12,7 +12,7 @@ use Rattle.ob_base.specs.Numbers.{blocks_for}
 use Rattle.ob_base.specs.Stored.{Stored}
 use Rattle.ob_room.specs.RoomState.{RoomState}
 use Rattle.ob_store.specs.State.{StoreState}
-use Rattle.ob_store.specs.Calls.{Rests}
+use Rattle.ob_store.specs.Calls.{ChangesNothing}
 use Rattle.ob_script.specs.Parts.{count_part}
 use Rattle.ob_script.specs.Script.{whole_script, blocks_of, extent_of}
 use Rattle.ob_vault.specs.State.{RevState, World}
@@ -42,7 +42,7 @@ use Rattle.ob_exec.proofs.TableLemmas.{flat_kept, tables_kept, stored_found}
 use Rattle.ob_select.proofs.RoomLemmas.{free_after}
 
 -- ---- its table, once the store has room
-module _ {R : Type 0} (state : R → RevState) (old : Engine R) (s s1 : StoreState) (i : ℕ) (table : Table) (agrees : Agrees state old s) (rests : Rests s s1)
+module _ {R : Type 0} (state : R → RevState) (old : Engine R) (s s1 : StoreState) (i : ℕ) (table : Table) (agrees : Agrees state old s) (rests : ChangesNothing s s1)
     (get : slice_get old.public.tables i ≡ Some table) (flat : Flat) (flat_is : flat ≡ flat_of table) where
   pub read_flat : IsFlat old.room.pack flat (at state old.vault s1)
   read_flat =
@@ -61,7 +61,7 @@ module _ {R : Type 0} (state : R → RevState) (old : Engine R) (s s1 : StoreSta
 -- ---- what it did
 module _ {R : Type 0} (state : R → RevState) (old : Engine R) (s s1 : StoreState) (v : Vault R) (room : RoomState) (t : StoreState)
     (name : List ℕ) (names : List ColumnName) (key : Option ColumnName) (i : ℕ) (table : Table)
-    (agrees : Agrees state old s) (rests : Rests s s1) (uses : UsesRoom old.room room) (here : IsAt name i table old.public.tables) where
+    (agrees : Agrees state old s) (rests : ChangesNothing s s1) (uses : UsesRoom old.room room) (here : IsAt name i table old.public.tables) where
   abbrev pub reads : List Access
   reads = count_part table.region (blocks_for old.room.pack table.heading.capacity)
 

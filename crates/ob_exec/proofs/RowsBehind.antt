@@ -23,7 +23,7 @@ use Rattle.ob_script.proofs.Lengths.{length-count_part}
 use Rattle.ob_exec.proofs.RowsLawful.{seen_as}
 use Rattle.ob_exec.proofs.RowsNothing.{part_late}
 use Rattle.ob_vault.specs.State.{Start, World}
-use Rattle.ob_vault.specs.Tied.{Fits, IsUnfit, ReadsIn}
+use Rattle.ob_vault.specs.Tied.{TagFits, IsUnfit, ReadsIn}
 use Rattle.ob_vault.proofs.WorldSteps.{calm_none, reads_on}
 use Rattle.ob_vault.specs.Calls.{Lasts, Seals, Went, one}
 use Rattle.ob_vault.proofs.Runs.{seals_join, went_join, went_wider}
@@ -77,7 +77,7 @@ unfit_before some a b lasts same unfit = record {
   unfit = λ lie is fits.
       let told = ap (λ (s : StoreState). s.lie) same ∙ is in
       unfit.unfit lie told
-      (subst (λ (keys : KeySet). Fits keys b.vault.start lie) (sym lasts.keys) (subst (λ (start : Start). Fits a.vault.keys start lie) (sym lasts.start) fits));
+      (subst (λ (keys : KeySet). TagFits keys b.vault.start lie) (sym lasts.keys) (subst (λ (start : Start). TagFits a.vault.keys start lie) (sym lasts.start) fits));
 }
 
 planned_count : (q : Selection) (k : Option ℕ) (plan second : Option Plan) → MayHold q k plan second → IsSome second → IsSome k

@@ -33,7 +33,7 @@ use Rattle.ob_mean.specs.Step.{printed_places}
 use Rattle.ob_mean.specs.Replay.{count_end, ending_len, walk_end}
 use Rattle.ob_mean.specs.Verdict.{ended as seen_to}
 use Rattle.ob_mean.specs.Refusals.{early_refusal, left_place, right_place, limits_of}
-use Rattle.ob_store.specs.Calls.{Rests}
+use Rattle.ob_store.specs.Calls.{ChangesNothing}
 use Rattle.ob_vault.specs.Places.{at}
 use Rattle.ob_vault.proofs.WordLemmas.{ready_rests, went_rests}
 use Rattle.ob_vault.specs.Words.{MayStart}
@@ -168,7 +168,7 @@ module _ {R : Type 0} {state : R → RevState} {old : Engine R} {s : StoreState}
   pub record IsPaired (lcol rcol : ℕ) (s1 : StoreState) (result : Result Flat OpErr) (after : World) : Type 0 where
     pub lcol_is : lcol ≡ left_place (length y.left.schema) (y.left.schema ++ y.right.schema) y.on y.equals
     pub rcol_is : rcol ≡ right_place (length y.left.schema) (y.left.schema ++ y.right.schema) y.on y.equals
-    pub rests : Rests s s1
+    pub rests : ChangesNothing s s1
     pub paired : Joins (pass lcol rcol) result (at state old.vault s1) after
     pub told : TellsSlots (pass lcol rcol) (joined lcol rcol old.room.pack old.room.rows) result (at state old.vault s1) after
 
@@ -193,12 +193,12 @@ module _ {R : Type 0} {state : R → RevState} {old : Engine R} {s : StoreState}
       ∙ ap (λ (r : ℕ). stated old.public select r 1) (ap (λ (f : Flat). f.region) flat_is)
 
   -- what both tables hold
-  pub held_left : (s1 : StoreState) (slots : Slots) → Rests s s1 → Represents old.public.pack (flat_of t) slots (world_of state old s) → Represents old.room.pack y.left slots (at state old.vault s1)
+  pub held_left : (s1 : StoreState) (slots : Slots) → ChangesNothing s s1 → Represents old.public.pack (flat_of t) slots (world_of state old s) → Represents old.room.pack y.left slots (at state old.vault s1)
   held_left s1 slots rests is =
       subst (λ (n : ℕ). Represents n y.left slots (at state old.vault s1)) (sym y.agrees.room.pack)
       (subst (λ (f : Flat). Represents old.public.pack f slots (at state old.vault s1)) (sym y.one.is) (represents_rests _ s s1 rests old.public.pack (flat_of t) slots is))
 
-  pub held_right : (s1 : StoreState) (slots : Slots) → Rests s s1 → Represents old.public.pack (flat_of u) slots (world_of state old s) → Represents old.room.pack y.right slots (at state old.vault s1)
+  pub held_right : (s1 : StoreState) (slots : Slots) → ChangesNothing s s1 → Represents old.public.pack (flat_of u) slots (world_of state old s) → Represents old.room.pack y.right slots (at state old.vault s1)
   held_right s1 slots rests is =
       subst (λ (n : ℕ). Represents n y.right slots (at state old.vault s1)) (sym y.agrees.room.pack)
       (subst (λ (f : Flat). Represents old.public.pack f slots (at state old.vault s1)) (sym y.two.is) (represents_rests _ s s1 rests old.public.pack (flat_of u) slots is))
@@ -293,7 +293,7 @@ module _ {R : Type 0} {state : R → RevState} {old : Engine R} {s : StoreState}
       let most = stored.most in
       record { some = stored.some; few = omega (arith, few); wide = stored.wide; least = stored.least; most = omega (arith, most) }
 
-  kept_flat : (s1 : StoreState) → Rests s s1 → (k : ℕ) (x : Table) → slice_get old.public.tables k ≡ Some x → IsFlat old.room.pack (flat_of x) (at state old.vault s1)
+  kept_flat : (s1 : StoreState) → ChangesNothing s s1 → (k : ℕ) (x : Table) → slice_get old.public.tables k ≡ Some x → IsFlat old.room.pack (flat_of x) (at state old.vault s1)
   kept_flat s1 rests k x get =
       subst (λ (n : ℕ). IsFlat n (flat_of x) (at state old.vault s1)) (sym y.agrees.room.pack)
       (flat_kept (from old.vault.next) old.public.pack (flat_of x) (world_of state old s) (at state old.vault s1) (went_rests _ s s1 rests (from old.vault.next) y.agrees.ready).lasts
@@ -325,7 +325,7 @@ module _ {R : Type 0} {state : R → RevState} {old : Engine R} {s : StoreState}
       let most = (y.agrees.tables.each y.i t y.one.here.get).heading.stored.most in
       omega (arith, is, pairs, slots, lefts, most, ap (λ (f : Flat). f.capacity) y.one.is)
 
-  pub join_may : (s1 : StoreState) (lcol rcol : ℕ) → Rests s s1 → lcol ≡ left_place (length y.left.schema) (y.left.schema ++ y.right.schema) y.on y.equals
+  pub join_may : (s1 : StoreState) (lcol rcol : ℕ) → ChangesNothing s s1 → lcol ≡ left_place (length y.left.schema) (y.left.schema ++ y.right.schema) y.on y.equals
       → rcol ≡ right_place (length y.left.schema) (y.left.schema ++ y.right.schema) y.on y.equals → MayJoin (pass lcol rcol) (at state old.vault s1)
   join_may s1 lcol rcol rests lcol_is rcol_is =
       subst (λ (f : Flat). MayJoin (join_in old.room f lcol y.right rcol) (at state old.vault s1)) (sym y.one.is)
@@ -340,7 +340,7 @@ module _ {R : Type 0} {state : R → RevState} {old : Engine R} {s : StoreState}
         rcol = subst (λ (n : ℕ). n < length u.heading.schema) (sym (rcol_is ∙ (λ k. right_place (length (y.one.is k).schema) ((y.one.is k).schema ++ (y.two.is k).schema) y.on y.equals))) join_fits.right_column;
       }))
 
-  pub join_starts : (s1 : StoreState) (lcol rcol n padded : ℕ) → Rests s s1 → n ≡ asked_for → n + padded ≤ s1.spare → MayStart (1 + fill_length (pass lcol rcol)) (at state old.vault s1)
+  pub join_starts : (s1 : StoreState) (lcol rcol n padded : ℕ) → ChangesNothing s s1 → n ≡ asked_for → n + padded ≤ s1.spare → MayStart (1 + fill_length (pass lcol rcol)) (at state old.vault s1)
   join_starts s1 lcol rcol n padded rests is spare =
       let same = ap length rests.asked in
       let early = not_late (count_of old s) (allowed (is_late (count_of old s)) (limits_of old.public) (headings_of old.public.tables) (RowsStmt select) y.free).early in

@@ -22,7 +22,7 @@ use Rattle.ob_row.specs.Slots.{Slots}
 use Rattle.ob_script.specs.Parts.{count_part}
 use Rattle.ob_script.specs.Script.{behind_count, extent_of, join_script, plan_part, result_blocks, result_part, table_script}
 use Rattle.ob_store.specs.State.{StoreState}
-use Rattle.ob_store.specs.Calls.{Rests}
+use Rattle.ob_store.specs.Calls.{ChangesNothing}
 use Rattle.ob_vault.specs.State.{VaultState}
 use Rattle.ob_vault.specs.Tied.{Ready}
 use Rattle.ob_vault.specs.declared.region.Region.{Region}
@@ -115,7 +115,7 @@ leaves_ready v s t ready = record { gone = λ r above. go r above (v.revs.live r
 
 -- memory was wanted before the first access
 module _ {E : Type 0} (grew cut : E → E → List Event → Type 0) (p : Public) (select : SelectRows) (now : Seen) (v : VaultState) (s t : StoreState) (out : E)
-    (ready : Ready (world v s)) (rests : Rests s t) (fresh : now ≡ seen_to Whole) (counts : 1 ≤ count_end p (rows_skeleton select)) where
+    (ready : Ready (world v s)) (rests : ChangesNothing s t) (fresh : now ≡ seen_to Whole) (counts : 1 ≤ count_end p (rows_skeleton select)) where
   pub halts_first : HaltsRows grew cut p select OpErrs.NoMemory now (world v s) (world v t) out out
   halts_first =
       let went = went_rests v s t rests (from v.next) ready in

@@ -27,7 +27,7 @@ use Rattle.ob_script.specs.Script.{blocks_of, extent_of, select_part, source_scr
 use Rattle.ob_script.proofs.Lengths.{length-count_part}
 use Rattle.ob_store.specs.State.{StoreState}
 use Rattle.ob_vault.specs.Tied.{ReadsIn}
-use Rattle.ob_store.specs.Calls.{Rests}
+use Rattle.ob_store.specs.Calls.{ChangesNothing}
 use Rattle.ob_store.proofs.Steps.{later_rests}
 use Rattle.ob_vault.specs.State.{RevState, World}
 use Rattle.ob_vault.specs.Calls.{Seals, Went}
@@ -151,7 +151,7 @@ module _ {R : Type 0} (state : R → RevState) (old : Engine R) (s s1 : StoreSta
       subst (λ (n : ℕ). 1 ≤ div_ceil n old.public.pack) capacity_is (some_of t.heading.capacity old.public.pack agrees.settings.pack_least least) in
       subst (λ (n : ℕ). 1 ≤ n) (sym count_is) blocks
 
-  module _ (v : Vault R) (u : StoreState) (rests : Rests s s1) where
+  module _ (v : Vault R) (u : StoreState) (rests : ChangesNothing s s1) where
     abbrev before : World
     before = world_of state old s
 
@@ -282,7 +282,7 @@ module _ {R : Type 0} (state : R → RevState) (old : Engine R) (s s1 : StoreSta
     early_asked : count_of old s < 9223372036854775808
     early_asked = not_late (count_of old s) (allowed (is_late (count_of old s)) (limits_of old.public) (headings_of old.public.tables) (RowsStmt select) free).early
 
-    pub table_may : (rests : Rests s s1) (blocks padded : ℕ) → blocks ≡ div_ceil t.heading.capacity old.public.pack
+    pub table_may : (rests : ChangesNothing s s1) (blocks padded : ℕ) → blocks ≡ div_ceil t.heading.capacity old.public.pack
         → ((x : Selection) → x.public ≡ old.public → x.flat.capacity ≡ t.heading.capacity → padded_after x.public.pad x ≡ padded) → blocks + padded ≤ s1.spare
         → MaySelect q old.room (at state old.vault s1)
     table_may rests blocks padded blocks_are of_size spare =

@@ -10,7 +10,7 @@ use Rattle.ob_base.specs.declared.skeleton.Skeleton.{Skeleton}
 use Rattle.ob_base.specs.Accesses.{makes}
 use Rattle.ob_base.proofs.AccessLemmas.{makes-append}
 use Rattle.ob_store.specs.State.{StoreState}
-use Rattle.ob_store.specs.Calls.{Rests}
+use Rattle.ob_store.specs.Calls.{ChangesNothing}
 use Rattle.ob_store.specs.Runs.{Began}
 use Rattle.ob_store.proofs.Steps.{began_take, later_refl, later_rests}
 use Rattle.ob_vault.specs.State.{RevState, VaultState, Start, World}
@@ -267,14 +267,14 @@ early_few m n late same =
     omega (arith, small, same)
 
 -- a count of accesses falls in no pass
-pub count_rises : (a b : ℕ) (x : List Access) (old mid new : StoreState) → a ≡ length old.asked → Rests old mid → Began x mid new → b ≡ length new.asked → a ≤ b
+pub count_rises : (a b : ℕ) (x : List Access) (old mid new : StoreState) → a ≡ length old.asked → ChangesNothing old mid → Began x mid new → b ≡ length new.asked → a ≤ b
 count_rises a b x old mid new before rests began after =
     let more : length new.asked ≡ length mid.asked + length began.done = ap length began.asked ∙ length-append mid.asked began.done in
     let same : length mid.asked ≡ length old.asked = ap length rests.asked in
     omega (arith, before, after, more, same)
 
 -- no room for the accesses: nothing was asked
-pub ran_no_room : {R : Type 0} (state : R → RevState) (skeleton : Skeleton) (old : Engine R) (s t : StoreState) (tables : List Table) → Agrees state old s → Rests s t
+pub ran_no_room : {R : Type 0} (state : R → RevState) (skeleton : Skeleton) (old : Engine R) (s t : StoreState) (tables : List Table) → Agrees state old s → ChangesNothing s t
     → RanStatement state skeleton (Err Stops.NoMemory) old s (engine_after old old.vault old.room tables (Cut 0) true) t
 ran_no_room state skeleton old s t tables agrees rests =
     let same : length t.asked ≡ length s.asked = ap length rests.asked in
@@ -294,5 +294,5 @@ ran_no_room state skeleton old s t tables agrees rests =
     }
 
 -- a store that no call was made on
-pub rests_refl : (s : StoreState) → Rests s s
+pub rests_refl : (s : StoreState) → ChangesNothing s s
 rests_refl s = record { spare = omega (arith); asked = refl; gave = refl; faults = refl; slips = refl; tells = refl; lie = refl; disturbed = refl; keeps = record { live = λ q. refl; last = λ q x. refl; kept = λ q. refl } }

@@ -1,7 +1,7 @@
 -- Blocks stay sealed while a statement runs.
 use Rattle.std.proofs.Common.{◌≡◌, ℕ, Bool, List, sym, subst}
 use Rattle.ob_base.specs.Schemas.{Columns}
-use Rattle.ob_store.specs.Calls.{Rests}
+use Rattle.ob_store.specs.Calls.{ChangesNothing}
 use Rattle.ob_store.specs.State.{StoreState}
 use Rattle.ob_store.proofs.Steps.{later_rests}
 use Rattle.ob_vault.specs.Calls.{Seals}
@@ -13,7 +13,7 @@ use Rattle.ob_exec.specs.Agreeing.{Agrees, world_of}
 use Rattle.ob_exec.specs.Telling.{KeepsSealed}
 use Rattle.ob_exec.specs.declared.engine.Engine.{Engine}
 
-module _ {R : Type 0} (state : R → RevState) (old : Engine R) (s s1 : StoreState) (rests : Rests s s1) where
+module _ {R : Type 0} (state : R → RevState) (old : Engine R) (s s1 : StoreState) (rests : ChangesNothing s s1) where
   -- nothing but room was made
   pub keeps_rests : (new : Engine R) → world_of state new s1 ≡ world_of state old s1 → KeepsSealed state old s new s1
   keeps_rests new same good accepts single = subst (λ (w : World). Seals good (world_of state old s) w) (sym same) (seals_rests _ s s1 rests good)

@@ -12,7 +12,7 @@ use Rattle.ob_base.specs.Accesses.{make_at}
 use Rattle.ob_base.specs.Schemas.{Columns}
 use Rattle.ob_room.specs.RoomState.{RoomState}
 use Rattle.ob_store.specs.State.{StoreState}
-use Rattle.ob_store.specs.Calls.{Rests}
+use Rattle.ob_store.specs.Calls.{ChangesNothing}
 use Rattle.ob_store.specs.Runs.{Did}
 use Rattle.ob_vault.specs.State.{RevState, World}
 use Rattle.ob_vault.specs.declared.vault.Vault.{Vault}
@@ -59,7 +59,7 @@ module _ {R : Type 0} (state : R → RevState) (stmt : Stmt) (old : Engine R) (s
   seen_whole tables w held = shows_kind_alone old.public (count_of old s) tables stmt (early_held old.public (count_of old s) stmt tables w None held now) plain
 
   -- nothing was asked, for want of memory
-  pub unasked : (s1 : StoreState) (ts : List Table) → Rests s s1 → ServesSilently state stmt (Err Stops.NoMemory) old s (engine_after old old.vault old.room ts (Cut 0) true) s1
+  pub unasked : (s1 : StoreState) (ts : List Table) → ChangesNothing s s1 → ServesSilently state stmt (Err Stops.NoMemory) old s (engine_after old old.vault old.room ts (Cut 0) true) s1
   unasked s1 ts rests =
       let same : length s1.asked ≡ length s.asked = ap length rests.asked in
       record {
@@ -111,7 +111,7 @@ module _ {R : Type 0} (state : R → RevState) (stmt : Stmt) (old : Engine R) (s
     };
   }
 
-  module _ (s1 : StoreState) (v : Vault R) (room : RoomState) (t : StoreState) (rests : Rests s s1) (room_is : room ≡ record old.room { high = max old.room.high old.room.pack }) where
+  module _ (s1 : StoreState) (v : Vault R) (room : RoomState) (t : StoreState) (rests : ChangesNothing s s1) (room_is : room ≡ record old.room { high = max old.room.high old.room.pack }) where
     means_cut : (e : OpErr) (n : ℕ) → n ≡ length t.asked - length s.asked → ((tables : Tables) → ReadsTrue state old s t tables → IsFault e)
         → ((tables : Tables) → AreHeld old.public.pack old.public.tables tables (world_of state old s) → AreHeld old.public.pack old.public.tables tables (at state v t))
         → RanStatement state (skeleton stmt) (answer_of e) old s (engine_after old v room old.public.tables (Cut n) (is_stop (answer_of e))) t

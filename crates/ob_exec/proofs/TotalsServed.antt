@@ -22,7 +22,7 @@ use Rattle.ob_row.specs.Slots.{rows}
 use Rattle.ob_row.specs.Truth.{is_true}
 use Rattle.ob_row.proofs.BagLemmas.{Same-refl}
 use Rattle.ob_store.specs.State.{StoreState}
-use Rattle.ob_store.specs.Calls.{Rests}
+use Rattle.ob_store.specs.Calls.{ChangesNothing}
 use Rattle.ob_vault.specs.State.{RevState, World}
 use Rattle.ob_vault.specs.Calls.{Lasts, none}
 use Rattle.ob_vault.specs.Places.{at}
@@ -145,7 +145,7 @@ unfinished_none labels (A.Refused r) = refl
 -- ---- all of it
 module _ {R E : Type 0} (state : R → RevState) (grew cut : E → E → List Event → Type 0) (faults : E → ℕ) (starts : (a : E) → grew a a [])
     (old : Engine R) (s s1 : StoreState) (q : SelectTotals) (i : ℕ) (table : Table)
-    (agrees : Agrees state old s) (rests : Rests s s1) (here : IsAt q.table i table old.public.tables)
+    (agrees : Agrees state old s) (rests : ChangesNothing s s1) (here : IsAt q.table i table old.public.tables)
     (allowed : refusal_now old.public (count_of old s) (TotalsStmt q) ≡ None) where
   abbrev stmt : Stmt
   stmt = TotalsStmt q

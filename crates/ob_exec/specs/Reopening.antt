@@ -23,7 +23,7 @@ use Rattle.ob_seal.specs.KeySet.{KeySet}
 use Rattle.ob_store.specs.Runs.{Began, Did}
 use Rattle.ob_store.specs.State.{Lie, StoreState}
 use Rattle.ob_vault.specs.State.{RevState, Start}
-use Rattle.ob_vault.specs.Tied.{AllSealed, Calm, Fits, Scope, next_fault}
+use Rattle.ob_vault.specs.Tied.{AllSealed, Calm, TagFits, Scope, next_fault}
 
 -- the closing that a mark names, of a pack
 abbrev pub IsClosed : Mark → (pack : ℕ) → Closing → Type 0
@@ -99,7 +99,7 @@ pub record NotOpened (closing : Closing) (keys : KeySet) (e : OpenErr)
   pub catalogue : IsCatalogue closing listed ⊎ (listed ≡ [])
   pub began : Began (opening_script closing listed) s t
   pub cause : OpeningCause e closing s t
-  pub tampered : (lie : Lie) → t.lie ≡ Some lie → ¬ Fits keys (opened_start closing listed) lie
+  pub tampered : (lie : Lie) → t.lie ≡ Some lie → ¬ TagFits keys (opened_start closing listed) lie
       → (e ≡ Tampered lie.region lie.place)
       × (t.asked ≡ lie.before ++ Read lie.region lie.place ∷ [])
 

@@ -26,7 +26,7 @@ use Rattle.ob_flat.specs.declared.flat.Flat.{Flat}
 use Rattle.ob_flat.specs.Emission.{SlotsToEnd, SlotsToHalt}
 use Rattle.ob_flat.specs.Flats.{IsSized, IsFlat}
 use Rattle.ob_flat.specs.Passes.{SinkCause}
-use Rattle.ob_flat.specs.Words.{HasSpare, Ran, blocks_of}
+use Rattle.ob_flat.specs.Words.{HasSpare, PassRan, blocks_of}
 use Rattle.ob_group.specs.Running.{AreWithin}
 use Rattle.ob_sql.specs.declared.stmt.Listed.{Listed}
 use Rattle.ob_sql.specs.declared.stmt.SelectTotals.{SelectTotals}
@@ -136,7 +136,7 @@ pub record HaltsTotals {E : Type 0} (grew to : E → E → List Event → Type 0
 pub record Totals {E : Type 0} (grew cut : E → E → List Event → Type 0) (faults : E → ℕ)
     (places pack : ℕ) (flat : Flat) (s : SelectTotals)
     (result : Result Outcome OpErr) (old new : World) (out_old out_new : E) : Type 0 where
-  pub ran : Ran (count_part flat.region (blocks_of pack flat)) none result old new
+  pub ran : PassRan (count_part flat.region (blocks_of pack flat)) none result old new
   pub seals : SealsAll old new
   pub whole : IfOk result IsTotalled
   pub emitted : IfOk result (λ outcome.

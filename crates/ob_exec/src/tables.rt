@@ -4,7 +4,7 @@ ghost use Rattle.std.specs.List.{remove};
 ghost use Rattle.ob_base.specs.declared.schema.Table.{Table as TableOf};
 ghost use Rattle.ob_base.specs.Numbers.{blocks_for};
 ghost use Rattle.ob_base.specs.Stored.{has_table, headings_of};
-ghost use Rattle.ob_store.specs.Calls.{Rests};
+ghost use Rattle.ob_store.specs.Calls.{ChangesNothing};
 ghost use Rattle.ob_exec.specs.Agreeing.{public_of};
 ghost use Rattle.ob_exec.specs.Engines.{IsAt, IsFound, flat_of};
 
@@ -63,7 +63,7 @@ impl<R: Revisions> Engine<R> {
     ) -> Result<(), NoMemory>
         requires pack { 1 ≤ (public_of self.now).pack }
         requires turns { turns ≤ 3 }
-        ensures rests { Rests (S.state store.old) (S.state store.new) }
+        ensures rests { ChangesNothing (S.state store.old) (S.state store.new) }
         ensures spare { OnOk result
             (turns * blocks_for (public_of self.now).pack flat.now.capacity + 2
             ≤ (S.state store.new).spare) }

@@ -1,13 +1,13 @@
 -- What stands while a store makes room for more accesses.
 use Rattle.std.proofs.Common.{ℕ, ◌∙◌}
 use Rattle.ob_store.specs.State.{StoreState}
-use Rattle.ob_store.specs.Calls.{Rests}
+use Rattle.ob_store.specs.Calls.{ChangesNothing}
 use Rattle.ob_vault.specs.State.{VaultState}
 use Rattle.ob_flat.specs.declared.flat.Flat.{Flat}
 use Rattle.ob_row.specs.Slots.{Slots}
 use Rattle.ob_flat.specs.Flats.{IsFlat, Represents}
 
-module _ (v : VaultState) (s t : StoreState) (rests : Rests s t) where
+module _ (v : VaultState) (s t : StoreState) (rests : ChangesNothing s t) where
   pub flat_rests : (pack : ℕ) (flat : Flat) → IsFlat pack flat (record { vault = v; store = s }) → IsFlat pack flat (record { vault = v; store = t })
   flat_rests pack flat is = record {
     made = record {

@@ -11,14 +11,14 @@ use Rattle.ob_vault.specs.declared.fault.VaultErr.{VaultErr}
 use Rattle.ob_vault.specs.declared.fault.VaultErr.TheVariants as VaultErrs
 use Rattle.ob_vault.specs.State.{World}
 use Rattle.ob_vault.specs.Tied.{EndsAt}
-use Rattle.ob_vault.specs.Calls.{Went, Cut, Cause}
+use Rattle.ob_vault.specs.Calls.{Went, CutShort, Cause}
 use Rattle.ob_vault.proofs.Runs.{lasts_trans, lasts_wider, asked_after}
 use Rattle.ob_flat.specs.declared.fault.OpErr.{OpErr}
 use Rattle.ob_flat.specs.declared.fault.OpErr.TheVariants.{Failed, Tampered, Sink, NoMemory}
 use Rattle.ob_flat.specs.Passes.{pass_error, PassCause, is_of_access, PassCut}
 
 -- a call of the vault that gave up
-pub pass_of : (e : VaultErr) (x : List Access) (some : ℕ → Type 0) (a b : World) → Cut e x some a b → PassCut (pass_error e) x some a b
+pub pass_of : (e : VaultErr) (x : List Access) (some : ℕ → Type 0) (a b : World) → CutShort e x some a b → PassCut (pass_error e) x some a b
 pass_of e x some a b cut = record { lasts = cut.lasts; began = cut.began; asks = asked e cut.asks; cause = go e cut.cause }
   where
     asked : (e : VaultErr) → ((e ≡ VaultErrs.NoMemory → ⊥) → length a.store.asked < length b.store.asked)

@@ -3,7 +3,7 @@ use Rattle.std.proofs.Common.{◌≡◌, Option, Some, None, ℕ, List, Err, ref
 use Rattle.ob_base.specs.declared.access.Access.{Access}
 use Rattle.ob_store.specs.State.{Lie}
 use Rattle.ob_vault.specs.State.{World}
-use Rattle.ob_vault.specs.Tied.{Calm, Fits, IsUnfit}
+use Rattle.ob_vault.specs.Tied.{Calm, TagFits, IsUnfit}
 use Rattle.ob_vault.proofs.WorldSteps.{calm_none}
 use Rattle.ob_vault.specs.Calls.{Went, Lasts}
 use Rattle.ob_vault.specs.declared.fault.VaultErr.{VaultErr}
@@ -19,7 +19,7 @@ none_before some more x a b c went lasts none unfit = go b.store.lie refl
 
     go : (o : Option Lie) → b.store.lie ≡ o → b.store.lie ≡ None
     go None is = is
-    go (Some lie) is = absurd (unfit.unfit lie (lasts.later.lie lie is) (subst (λ k. Fits k c.vault.start lie) (sym lasts.keys) (subst (λ s. Fits b.vault.keys s lie) (sym lasts.start) ((went.calm calm).calm lie is))))
+    go (Some lie) is = absurd (unfit.unfit lie (lasts.later.lie lie is) (subst (λ k. TagFits k c.vault.start lie) (sym lasts.keys) (subst (λ s. TagFits b.vault.keys s lie) (sym lasts.start) ((went.calm calm).calm lie is))))
 
 -- the vault gave up: the emitter was not asked
 pub sink_vault : (T : Type 0) (e : VaultErr) (old new : ℕ) → new ≡ old → SinkCause {T = T} (Err (pass_error e)) old new

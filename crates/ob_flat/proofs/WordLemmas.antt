@@ -8,7 +8,7 @@ use Rattle.ob_vault.specs.Tied.{Lives}
 use Rattle.ob_vault.specs.declared.fault.VaultErr.{VaultErr}
 use Rattle.ob_vault.specs.declared.fault.VaultErr.TheVariants as VaultErrs
 use Rattle.ob_vault.specs.Rows.{joined, Wide}
-use Rattle.ob_vault.specs.Calls.{Went, Cut, Cause, Seals, Lasts, Unfit, Opened, one}
+use Rattle.ob_vault.specs.Calls.{Went, CutShort, Cause, Seals, Lasts, Unfit, Unsealed, one}
 use Rattle.ob_vault.specs.Words.{SealsAll}
 use Rattle.ob_vault.proofs.WordLemmas.{unfit_lasts, opened_lasts}
 use Rattle.ob_vault.proofs.Runs.{went_join, seals_join, shape_lasts}
@@ -19,19 +19,19 @@ use Rattle.ob_flat.specs.Flats.{IsFlat, table_region}
 use Rattle.ob_row.specs.Slots.{Slots}
 use Rattle.ob_flat.specs.Slots.{Spelt}
 use Rattle.ob_flat.specs.Passes.{PassCut, pass_error}
-use Rattle.ob_flat.specs.Words.{Ran, IsMalformed, TamperedAt, TamperedIn, SealsTable, Makes, blocks_of}
+use Rattle.ob_flat.specs.Words.{PassRan, IsMalformed, TamperedAt, TamperedIn, SealsTable, Makes, blocks_of}
 use Rattle.ob_flat.proofs.Rows.{spelt_joined, width_each}
 use Rattle.ob_flat.proofs.Runs.{pass_more, pass_after, pass_then}
 
 -- a run of two parts, the first of which was cut, or went whole
-pub ran_more : {T : Type 0} {some : ℕ → Type 0} {a b : World} {e : OpErr} (x y : List Access) → PassCut e x some a b → Ran {T = T} (x ++ y) some (Err e) a b
+pub ran_more : {T : Type 0} {some : ℕ → Type 0} {a b : World} {e : OpErr} (x y : List Access) → PassCut e x some a b → PassRan {T = T} (x ++ y) some (Err e) a b
 ran_more x y cut = record { ok = tt; err = pass_more _ _ _ _ x y cut }
 
-pub ran_after : {T : Type 0} {some : ℕ → Type 0} {a b c : World} (r : Result T OpErr) (x y : List Access) → Went x some a b → Ran y some r b c → Ran (x ++ y) some r a c
+pub ran_after : {T : Type 0} {some : ℕ → Type 0} {a b c : World} (r : Result T OpErr) (x y : List Access) → Went x some a b → PassRan y some r b c → PassRan (x ++ y) some r a c
 ran_after (Ok v) x y went ran = record { ok = went_join _ _ _ _ x y went ran.ok; err = tt }
 ran_after (Err e) x y went ran = record { ok = tt; err = pass_after _ _ _ _ e x y went ran.err }
 
-pub ran_lasts : {T : Type 0} {some : ℕ → Type 0} {a b : World} {x : List Access} (r : Result T OpErr) → Ran x some r a b → Lasts some a b
+pub ran_lasts : {T : Type 0} {some : ℕ → Type 0} {a b : World} {x : List Access} (r : Result T OpErr) → PassRan x some r a b → Lasts some a b
 ran_lasts (Ok v) ran = ran.ok.lasts
 ran_lasts (Err e) ran = ran.err.lasts
 
@@ -50,7 +50,7 @@ pub tampered_in : {pack place : ℕ} {flat : Flat} {e : OpErr} {w : World} → p
 tampered_in {place = place} below is = record { place = place; below = below; is = is.is; why = is.why }
 
 -- the vault gave up a read
-pub get_refused : (pack : ℕ) (flat : Flat) (place : ℕ) {some : ℕ → Type 0} {x : List Access} {a b : World} (e : VaultErr) → Cut e x some a b
+pub get_refused : (pack : ℕ) (flat : Flat) (place : ℕ) {some : ℕ → Type 0} {x : List Access} {a b : World} (e : VaultErr) → CutShort e x some a b
     → (e ≡ VaultErrs.Failed) ⊎ (e ≡ VaultErrs.Tampered flat.region place) → (pass_error e ≡ Failed) ⊎ TamperedAt pack flat place (pass_error e) b
 get_refused pack flat place {a = a} {b = b} e cut never = elim never [
   | inl failed ↦ inl (ap pass_error failed)
@@ -59,7 +59,7 @@ get_refused pack flat place {a = a} {b = b} e cut never = elim never [
 
 -- what was sealed there are no rows
 pub rows_malformed : {pack place : ℕ} {flat : Flat} {w : World} (n : ℕ) (rows : List (List ℕ)) → 1 ≤ pack → n ≡ pack → length rows ≡ pack → Wide (width flat.schema) rows
-    → Opened flat.region place (joined ((pack * width flat.schema) / n) rows) w → ((slots : Slots) → Spelt flat.schema slots rows → ⊥)
+    → Unsealed flat.region place (joined ((pack * width flat.schema) / n) rows) w → ((slots : Slots) → Spelt flat.schema slots rows → ⊥)
     → TamperedAt pack flat place (Tampered flat.region place) w
 rows_malformed {pack = pack} {flat = flat} n rows some same size wide opened none = record {
   is = refl;
@@ -107,6 +107,6 @@ module _ (order : Order) (pack : ℕ) (made : Flat) (old mid : World) (x : List 
     seals = seals_after went.lasts (seals_any seals) (seals_after lasts sealed (seals_any forgot));
   }
 
-  pub cut_forgot : {T : Type 0} (e : OpErr) (y : List Access) (late new : World) → Ran {T = T} y (one made.region) (Err e) mid late → Went [] (one made.region) late new → new.store ≡ late.store
+  pub cut_forgot : {T : Type 0} (e : OpErr) (y : List Access) (late new : World) → PassRan {T = T} y (one made.region) (Err e) mid late → Went [] (one made.region) late new → new.store ≡ late.store
       → PassCut e (x ++ y) (one made.region) old new
   cut_forgot {T} e y late new ran forgot same = pass_then (one made.region) e _ old late new (ran_after {T = T} (Err e) x y went ran).err forgot same

@@ -11,7 +11,7 @@ use Rattle.ob_flat.specs.declared.flat.Flat.{Flat}
 use Rattle.ob_flat.specs.declared.fault.OpErr.{OpErr}
 use Rattle.ob_flat.specs.declared.fault.OpErr.TheVariants.{Failed}
 use Rattle.ob_flat.specs.Flats.{IsFlat, Represents}
-use Rattle.ob_flat.specs.Words.{Ran, TamperedIn, blocks_of}
+use Rattle.ob_flat.specs.Words.{PassRan, TamperedIn, blocks_of}
 
 -- how many rows are selected, and whether one follows the other
 abbrev pub count_of : (Row → Bool) → Slots → Counted
@@ -23,7 +23,7 @@ count_of p slots = record {
 -- each block was read once, in order, and the selected rows counted
 pub record CountsRows (pack : ℕ) (flat : Flat) (p : Row → Bool)
     (result : Result Counted OpErr) (old new : World) : Type 0 where
-  pub ran : Ran (count_part flat.region (blocks_of pack flat)) none result old new
+  pub ran : PassRan (count_part flat.region (blocks_of pack flat)) none result old new
   pub never : IfErr result (λ e. (e ≡ Failed) ⊎ TamperedIn pack flat e new)
   pub seals : SealsAll old new
   pub source : IsFlat pack flat new

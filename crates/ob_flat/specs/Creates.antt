@@ -11,14 +11,14 @@ use Rattle.ob_vault.specs.declared.region.Region.{Region}
 use Rattle.ob_vault.specs.declared.region.Order.{Order}
 use Rattle.ob_vault.specs.State.{World}
 use Rattle.ob_vault.specs.Tied.{Lives, Written, OnTurn, Holds}
-use Rattle.ob_vault.specs.Calls.{Went, Cut, Seals, one}
+use Rattle.ob_vault.specs.Calls.{Went, CutShort, Seals, one}
 use Rattle.ob_vault.specs.Words.{SealsAll}
 use Rattle.ob_row.specs.Slots.{empty_slots}
 use Rattle.ob_flat.specs.declared.flat.Flat.{Flat}
 use Rattle.ob_flat.specs.declared.fault.OpErr.{OpErr}
 use Rattle.ob_flat.specs.declared.fault.OpErr.TheVariants.{Failed, NoMemory}
 use Rattle.ob_flat.specs.Flats.{IsMade, IsFlat, Represents, table_region}
-use Rattle.ob_flat.specs.Words.{Ran, SealsTable, Makes, NoMemoryBehind, blocks_of}
+use Rattle.ob_flat.specs.Words.{PassRan, SealsTable, Makes, NoMemoryBehind, blocks_of}
 
 -- a table, by its parts
 abbrev pub table_of : Columns → (capacity region : ℕ) → Flat
@@ -39,7 +39,7 @@ create_script pack flat =
 -- the region of a table was made, and nothing written to it, or it is gone
 pub record MakesTable (order : Order) (pack : ℕ) (flat : Flat)
     (result : Result ℕ OpErr) (old new : World) : Type 0 where
-  pub ran : Ran (make_script pack flat) (one flat.region) result old new
+  pub ran : PassRan (make_script pack flat) (one flat.region) result old new
   pub never : IfErr result (λ e. (e ≡ Failed) ⊎ (e ≡ NoMemory))
   pub memory : NoMemoryBehind (make_script pack flat) result old new
   pub number : IfOk result (λ region. region ≡ flat.region)
@@ -61,7 +61,7 @@ pub record IsFilled (region : ℕ) (shape : Region) (w : World) : Type 0 where
 pub record FillsRegion {T : Type 0} (region : ℕ) (shape : Region) (bytes : List ℕ)
     (result : Result T VaultErr) (old new : World) : Type 0 where
   pub ok : OnOk result (Went (each shape.blocks (write_at region)) (one region) old new)
-  pub err : IfErr result (λ e. Cut e (each shape.blocks (write_at region)) (one region) old new)
+  pub err : IfErr result (λ e. CutShort e (each shape.blocks (write_at region)) (one region) old new)
   pub never : IfErr result (λ e. e ≡ VaultErrs.Failed)
   pub seals : (good : ℕ → List ℕ → Bool) → IsTrue (good region bytes) → Seals good old new
   pub filled : OnOk result (IsFilled region shape new)
@@ -71,7 +71,7 @@ pub record FillsRegion {T : Type 0} (region : ℕ) (shape : Region) (bytes : Lis
 -- the region of a table was made and filled with dummies, or it is gone
 pub record CreatesRegion (order : Order) (pack : ℕ) (flat : Flat)
     (result : Result ℕ OpErr) (old new : World) : Type 0 where
-  pub ran : Ran (create_script pack flat) (one flat.region) result old new
+  pub ran : PassRan (create_script pack flat) (one flat.region) result old new
   pub never : IfErr result (λ e. (e ≡ Failed) ⊎ (e ≡ NoMemory))
   pub memory : NoMemoryBehind (make_script pack flat) result old new
   pub number : IfOk result (λ region. region ≡ flat.region)
@@ -86,7 +86,7 @@ pub record CreatesRegion (order : Order) (pack : ℕ) (flat : Flat)
 -- a table of empty slots was made, or its region is gone
 pub record Creates (order : Order) (pack : ℕ) (flat : Flat)
     (result : Result Flat OpErr) (old new : World) : Type 0 where
-  pub ran : Ran (create_script pack flat) (one flat.region) result old new
+  pub ran : PassRan (create_script pack flat) (one flat.region) result old new
   pub never : IfErr result (λ e. (e ≡ Failed) ⊎ (e ≡ NoMemory))
   pub memory : NoMemoryBehind (make_script pack flat) result old new
   pub makes : Makes order pack flat result old new

@@ -11,7 +11,7 @@ use Rattle.ob_flat.specs.declared.flat.Flat.{Flat}
 use Rattle.ob_flat.specs.declared.fault.OpErr.{OpErr}
 use Rattle.ob_flat.specs.declared.fault.OpErr.TheVariants.{Failed}
 use Rattle.ob_flat.specs.Flats.{FitsRegion, IsInTurn, HoldsSlots, HoldsRows}
-use Rattle.ob_flat.specs.Words.{Ran, TamperedAt, SealsTable, blocks_of}
+use Rattle.ob_flat.specs.Words.{PassRan, TamperedAt, SealsTable, blocks_of}
 
 -- a place of a table that may be read and then written
 pub record MayRework (pack : ℕ) (flat : Flat) (place : ℕ) (w : World) : Type 0 where
@@ -36,7 +36,7 @@ pub record MovesTurn (pack : ℕ) (flat : Flat) (place : ℕ) (old new : World) 
 pub record Reworks {T : Type 0} (pack : ℕ) (flat : Flat) (place : ℕ)
     (Makes : ℕ → Slots → Slots → Type 0) (Suits : Type 0)
     (result : Result T OpErr) (old new : World) : Type 0 where
-  pub ran : Ran (copy_at flat.region flat.region place) (one flat.region) result old new
+  pub ran : PassRan (copy_at flat.region flat.region place) (one flat.region) result old new
   pub never : IfErr result (λ e. (e ≡ Failed) ⊎ TamperedAt pack flat place e new)
   pub seals : SealsTable pack flat.schema flat.region old new
   pub suits : OnOk result Suits

@@ -11,7 +11,7 @@ use Rattle.ob_flat.specs.declared.flat.Flat.{Flat}
 use Rattle.ob_flat.specs.declared.fault.OpErr.{OpErr}
 use Rattle.ob_flat.specs.declared.fault.OpErr.TheVariants.{Failed}
 use Rattle.ob_flat.specs.Flats.{FitsRegion, IsWritten, Represents, whole_blocks}
-use Rattle.ob_flat.specs.Words.{Ran, TamperedIn, blocks_of}
+use Rattle.ob_flat.specs.Words.{PassRan, TamperedIn, blocks_of}
 
 -- a region of slots that a reading pass may go through
 pub record MayScan (pack : ℕ) (flat : Flat) (w : World) : Type 0 where
@@ -24,7 +24,7 @@ pub record MayScan (pack : ℕ) (flat : Flat) (w : World) : Type 0 where
 pub record Scans {T V : Type 0} (pack : ℕ) (flat : Flat) (after : V → ℕ → Option Row → V)
     (Suits : V → ℕ → Type 0) (result : Result T OpErr) (first last : V)
     (old new : World) : Type 0 where
-  pub ran : Ran (count_part flat.region (blocks_of pack flat)) none result old new
+  pub ran : PassRan (count_part flat.region (blocks_of pack flat)) none result old new
   pub never : IfErr result (λ e. (e ≡ Failed) ⊎ TamperedIn pack flat e new)
   pub seals : SealsAll old new
   pub suits : OnOk result (Suits last (blocks_of pack flat * pack))

@@ -5,11 +5,11 @@ use Rattle.ob_base.specs.Schemas.{Columns}
 use Rattle.ob_vault.specs.Rows.{row_at}
 use Rattle.ob_row.specs.Rows.{Row}
 use Rattle.ob_row.specs.Slots.{Slots}
-use Rattle.ob_row.specs.Spelling.{Fits, Begins, slot_bytes}
+use Rattle.ob_row.specs.Spelling.{FitsColumns, Begins, slot_bytes}
 
 -- a slot's row has a cell for each column, of its kind
 abbrev pub FitsSlot : Columns → Option Row → Type 0
-FitsSlot columns slot = IfSome slot (Fits columns)
+FitsSlot columns slot = IfSome slot (FitsColumns columns)
 
 -- the bytes of the slots of a block, in order
 abbrev pub block_bytes : Columns → Slots → List ℕ

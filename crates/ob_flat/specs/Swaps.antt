@@ -11,13 +11,13 @@ use Rattle.ob_flat.specs.declared.flat.Flat.{Flat}
 use Rattle.ob_flat.specs.declared.fault.OpErr.{OpErr}
 use Rattle.ob_flat.specs.declared.fault.OpErr.TheVariants.{Failed}
 use Rattle.ob_flat.specs.Flats.{IsFlat, HoldsRows, Represents}
-use Rattle.ob_flat.specs.Words.{Ran, TamperedIn, SealsTable, blocks_of, moved}
+use Rattle.ob_flat.specs.Words.{PassRan, TamperedIn, SealsTable, blocks_of, moved}
 
 -- each block was read, in order, and written, changed or not, to the same place of another region;
 -- what is written there is rows or dummies, whatever the store gave
 pub record Swaps (pack : ℕ) (flat : Flat) (to : ℕ) (picks : Option Row → Bool)
     (f : ℕ → Option Row → Option Row) (result : Result ℕ OpErr) (old new : World) : Type 0 where
-  pub ran : Ran (copy_part flat.region to (blocks_of pack flat)) (one to) result old new
+  pub ran : PassRan (copy_part flat.region to (blocks_of pack flat)) (one to) result old new
   pub never : IfErr result (λ e. (e ≡ Failed) ⊎ TamperedIn pack flat e new)
   pub seals : SealsTable pack flat.schema to old new
   pub table : OnOk result (IsFlat pack (moved flat to) new)

@@ -7,7 +7,7 @@ use Rattle.ob_store.specs.Runs.{Did}
 use Rattle.ob_vault.specs.declared.region.Order.{Order}
 use Rattle.ob_vault.specs.State.{World}
 use Rattle.ob_vault.specs.Tied.{Ready, Lives}
-use Rattle.ob_vault.specs.Calls.{Went, Seals, Unfit, Opened}
+use Rattle.ob_vault.specs.Calls.{Went, Seals, Unfit, Unsealed}
 use Rattle.ob_vault.specs.Places.{RowsFit}
 use Rattle.ob_flat.specs.declared.flat.Flat.{Flat}
 use Rattle.ob_flat.specs.declared.fault.OpErr.{OpErr}
@@ -24,7 +24,7 @@ pub record HasSpare (n : ℕ) (w : World) : Type 0 where
   pub spare : n ≤ w.store.spare
 
 -- on `Ok` all of the script was asked, and on an error a first part of it
-pub record Ran {T : Type 0} (script : List Access) (some : ℕ → Type 0)
+pub record PassRan {T : Type 0} (script : List Access) (some : ℕ → Type 0)
     (result : Result T OpErr) (old new : World) : Type 0 where
   pub ok : OnOk result (Went script some old new)
   pub err : IfErr result (λ e. PassCut e script some old new)
@@ -37,7 +37,7 @@ blocks_of pack flat = blocks_for pack flat.capacity
 -- no dummy
 pub record IsMalformed (pack : ℕ) (flat : Flat) (place : ℕ) (w : World) : Type 0 where
   pub bytes : List ℕ
-  pub opened : Opened flat.region place bytes w
+  pub opened : Unsealed flat.region place bytes w
   pub none : (slots : Slots) → length slots ≡ pack → All (FitsSlot flat.schema) slots
       → bytes ≡ block_bytes flat.schema slots → ⊥
 

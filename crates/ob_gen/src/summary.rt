@@ -2,7 +2,7 @@ ghost use Rattle.std.specs.Prelude.{◌≡◌, ◌≤◌, length, OnOk, IsErr};
 ghost use Rattle.std.specs.List.{concat};
 ghost use Rattle.std.specs.Io.KnownBytes.{Appends};
 ghost use Rattle.ob_io.specs.Causes.{HasCause};
-ghost use Rattle.ob_print.specs.Cuts.{Cut};
+ghost use Rattle.ob_print.specs.Cuts.{Outputs};
 ghost use Rattle.ob_gen.specs.SummaryText;
 ghost use Rattle.ob_gen.specs.SummaryText.{summary_lines, summary_text};
 
@@ -46,7 +46,8 @@ fn trace_line(digest: &[u8; 32]) -> Line
 // Writes all of the lines, unless a call fails.
 fn write_lines<K: Sink>(lines: &[Line], out: &mut K) -> Result<(), Failed>
     ensures ok { OnOk result (Appends (K.written out.old) (K.written out.new) (concat lines.now)) }
-    ensures cut { Cut (K.written out.old) (K.written out.new) (IsErr result) (concat lines.now) }
+    ensures cut { Outputs (K.written out.old) (K.written out.new) (IsErr result)
+        (concat lines.now) }
     ensures cause { HasCause (K.faults out.old) (K.faults out.new) result }
 {
     for line in lines {
@@ -78,7 +79,7 @@ impl Summary {
     pub fn write<K: Sink>(&self, out: &mut K) -> Result<(), Failed>
         ensures ok { OnOk result (Appends (K.written out.old) (K.written out.new)
             (summary_text self.now)) }
-        ensures cut { Cut (K.written out.old) (K.written out.new) (IsErr result)
+        ensures cut { Outputs (K.written out.old) (K.written out.new) (IsErr result)
             (summary_text self.now) }
         ensures cause { HasCause (K.faults out.old) (K.faults out.new) result }
     {

@@ -16,7 +16,7 @@ use Rattle.ob_flat.proofs.Sinks.{none_before}
 use Rattle.ob_row.specs.declared.aggregate.Item.{Item}
 use Rattle.ob_row.specs.Rows.{Row, options_eq}
 use Rattle.ob_row.specs.Slots.{Slots, rows}
-use Rattle.ob_row.specs.Spelling.{Fits, kind_at}
+use Rattle.ob_row.specs.Spelling.{FitsColumns, kind_at}
 use Rattle.ob_row.specs.Totals.{group_heads, grouped}
 use Rattle.ob_blocks.specs.Blocks.{none_of, up_to}
 use Rattle.ob_blocks.proofs.Blocks.{all_first, all_rest}
@@ -37,7 +37,7 @@ use Rattle.ob_group.proofs.Heads.{cell_eq-refl}
 use Rattle.ob_group.proofs.Taking.{AreKeyed, groups-grouped, groups-number}
 
 -- a row has a cell at each place of its columns
-own_key : (columns : Columns) (row : Row) (key : ℕ) → Fits columns row → key < length columns → options_eq (slice_get row key) (slice_get row key) ≡ true
+own_key : (columns : Columns) (row : Row) (key : ℕ) → FitsColumns columns row → key < length columns → options_eq (slice_get row key) (slice_get row key) ≡ true
 own_key [] row key fits below = absurd (omega (arith, below))
 own_key (c ∷ columns) [] key fits below = absurd fits
 own_key (c ∷ columns) (x ∷ row) zero fits below = cell_eq-refl x

@@ -24,7 +24,7 @@ use Rattle.ob_flat.specs.declared.fault.OpErr.TheVariants.{Failed, Tampered, Sin
 use Rattle.ob_flat.specs.Slots.{Spelt, AreSlots}
 use Rattle.ob_flat.specs.Flats.{IsFlat, Represents, whole_blocks}
 use Rattle.ob_flat.specs.Passes.{SinkCause}
-use Rattle.ob_flat.specs.Words.{Ran, TamperedIn, blocks_of}
+use Rattle.ob_flat.specs.Words.{PassRan, TamperedIn, blocks_of}
 use Rattle.ob_flat.specs.Emission.{SlotsToEnd, SlotsToHalt}
 use Rattle.ob_group.specs.declared.grouping.Grouped.{Grouped}
 use Rattle.ob_group.specs.Running.{AreWithin}
@@ -47,7 +47,7 @@ pub record AreItems (columns : Columns) (place : ℕ) (items : List Item) : Type
 -- each block was read once, in order, and the aggregates of the selected rows made
 pub record Aggregates (pack : ℕ) (flat : Flat) (p : Row → Bool) (aggs : List Agg)
     (result : Result (List Shown) OpErr) (old new : World) : Type 0 where
-  pub ran : Ran (count_part flat.region (blocks_of pack flat)) none result old new
+  pub ran : PassRan (count_part flat.region (blocks_of pack flat)) none result old new
   pub never : IfErr result (λ e. (e ≡ Failed) ⊎ TamperedIn pack flat e new)
   pub seals : SealsAll old new
   pub source : IsFlat pack flat new
@@ -113,7 +113,7 @@ pub record Gathered (pack : ℕ) (flat : Flat) (p : Row → Bool) (key : ℕ) (i
 -- each block was read once, in order, and the selected rows put to their groups
 pub record Gathers (pack : ℕ) (flat : Flat) (p : Row → Bool) (key : ℕ) (items : List Item)
     (groups : List (List ℕ)) (result : Result ℕ OpErr) (old new : World) : Type 0 where
-  pub ran : Ran (count_part flat.region (blocks_of pack flat)) none result old new
+  pub ran : PassRan (count_part flat.region (blocks_of pack flat)) none result old new
   pub never : IfErr result (λ e. (e ≡ Failed) ⊎ TamperedIn pack flat e new)
   pub seals : SealsAll old new
   pub source : IsFlat pack flat new
@@ -150,7 +150,7 @@ pub record EmitsGroups {E T : Type 0} (grew cut : E → E → List Event → Typ
 pub record GroupsRows {E : Type 0} (grew cut : E → E → List Event → Type 0) (faults : E → ℕ)
     (places pack : ℕ) (flat : Flat) (p : Row → Bool) (key : ℕ) (items : List Item)
     (result : Result Grouped OpErr) (old new : World) (out_old out_new : E) : Type 0 where
-  pub ran : Ran (count_part flat.region (blocks_of pack flat)) none result old new
+  pub ran : PassRan (count_part flat.region (blocks_of pack flat)) none result old new
   pub never : IfErr result (λ e. (e ≡ Failed) ⊎ (e ≡ Sink) ⊎ (e ≡ NoMemory)
       ⊎ TamperedIn pack flat e new)
   pub seals : SealsAll old new

@@ -16,7 +16,7 @@ use Rattle.ob_flat.specs.declared.fault.OpErr.{OpErr}
 use Rattle.ob_flat.specs.declared.fault.OpErr.TheVariants.{Failed, NoMemory}
 use Rattle.ob_flat.specs.Slots.{Spelt}
 use Rattle.ob_flat.specs.Flats.{FitsRegion, IsFlat, HoldsSlots, HoldsRows, Represents, whole_blocks}
-use Rattle.ob_flat.specs.Words.{Ran, TamperedIn, SealsTable, Makes, NoMemoryBehind}
+use Rattle.ob_flat.specs.Words.{PassRan, TamperedIn, SealsTable, Makes, NoMemoryBehind}
 use Rattle.ob_flat.specs.Creates.{make_script}
 use Rattle.ob_hash.specs.declared.selecting.Placed.{Placed}
 use Rattle.ob_hash.specs.Answers.{flat_of, flat_result, overflow_of}
@@ -27,7 +27,7 @@ use Rattle.ob_hash.specs.Hashing.{Layout, IsOpen, bucket_size, bucket_script, sl
 -- whatever the store gave
 pub record KeepsBuckets {T : Type 0} (l : Layout) (script : List Access)
     (result : Result T OpErr) (old new : World) : Type 0 where
-  pub ran : Ran script (one l.table.region) result old new
+  pub ran : PassRan script (one l.table.region) result old new
   pub seals : SealsTable l.pack l.table.schema l.table.region old new
   pub stays : OnOk result (IsOpen l new)
   pub rows : OnOk result (IsTrue old.store.tells
@@ -98,7 +98,7 @@ pub record Hashes (l : Layout) (flat : Flat) (p : RowTest)
 -- and the buckets were made before, and filled with dummies
 pub record Selects (l : Layout) (flat : Flat) (p : RowTest)
     (result : Result Placed OpErr) (old new : World) : Type 0 where
-  pub ran : Ran (select_script l flat) (one l.table.region) result old new
+  pub ran : PassRan (select_script l flat) (one l.table.region) result old new
   pub never : IfErr result (λ e. (e ≡ Failed) ⊎ (e ≡ NoMemory)
       ⊎ TamperedIn l.pack flat e new ⊎ TamperedIn l.pack l.table e new)
   pub memory : NoMemoryBehind (make_script l.pack l.table) result old new

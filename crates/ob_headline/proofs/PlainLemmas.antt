@@ -22,7 +22,7 @@ use Rattle.ob_headline.specs.Status.{Because, IsCompleted}
 use Rattle.ob_headline.specs.declared.ending.Ending.{Ending}
 use Rattle.ob_headline.specs.declared.ending.Ending.TheVariants.{Usage, BadKey, Ran}
 use Rattle.ob_mean.specs.Replay.{Broken, Session, Spelt, after, all_served, head_of, rest_of, seen_or_cut}
-use Rattle.ob_print.specs.Cuts.{Cut}
+use Rattle.ob_print.specs.Cuts.{Outputs}
 use Rattle.ob_script.specs.Script.{script}
 use Rattle.ob_script.specs.Trace.{Served as Entry, next, trace}
 use Rattle.ob_sql.specs.declared.stmt.Stmt.{Stmt}
@@ -79,7 +79,7 @@ module _ (one : SomeRun) (input : List ℕ) (free : IsUnhindered one input) wher
   says false is = one.run.status.status ∙ ap status_of is
 
   -- what a sink took of which no call failed
-  took : {written0 written1 : Option (List ℕ)} {F : Type 0} {bytes : List ℕ} → ¬ F → Cut written0 written1 F bytes → Appends written0 written1 bytes
+  took : {written0 written1 : Option (List ℕ)} {F : Type 0} {bytes : List ℕ} → ¬ F → Outputs written0 written1 F bytes → Appends written0 written1 bytes
   took {written0} {written1} sound cut = elim cut.all [ inl all ↦ subst (λ (l : List ℕ). Appends written0 written1 l) all cut.appends | inr failed ↦ absurd (sound failed) ]
 
   taken_all : (left0 left1 : Option (List ℕ)) → left0 ≡ Some input → Consumes left0 left1 one.run.taken → IsAtEnd left1 → one.run.taken ≡ input

@@ -3,7 +3,7 @@ use Rattle.std.specs.Prelude.{◌≡◌, IsTrue, Some, ℕ, ◌++◌}
 use Rattle.ob_seal.specs.KeySet.{KeySet}
 use Rattle.ob_store.specs.State.{Lie, StoreState}
 use Rattle.ob_vault.specs.State.{Start}
-use Rattle.ob_vault.specs.Tied.{Fits}
+use Rattle.ob_vault.specs.Tied.{TagFits}
 use Rattle.ob_headline.specs.Bases.{Base, FromEach, said_of}
 use Rattle.ob_headline.specs.Disturbed.{Until}
 use Rattle.ob_headline.specs.Meaning.{AnswersFrom}
@@ -16,7 +16,7 @@ use Rattle.ob_store.specs.Runs.{Later}
 -- the store tells what it holds, and of the first changed block that was read, if there is one, the tag doesn't fit
 pub record IsUndeceived (keys : KeySet) (start : Start) (store0 store1 : StoreState) : Type 0 where
   pub tells : IsTrue store0.tells
-  pub unfit : (lie : Lie) → store1.lie ≡ Some lie → ¬ Fits keys start lie
+  pub unfit : (lie : Lie) → store1.lie ≡ Some lie → ¬ TagFits keys start lie
 
 -- Unless a changed block's tag fits, they and what is seen are those of SQL over plain tables, from those that the
 -- statements go on from. Where the store says behind how many accesses others change it, all is so before that; and what it

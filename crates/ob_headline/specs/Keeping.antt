@@ -21,7 +21,7 @@ use Rattle.ob_headline.specs.declared.ending.Ending.TheVariants.{Ran}
 use Rattle.ob_headline.specs.declared.ending.KeptEnding.{KeptEnding}
 use Rattle.ob_headline.specs.declared.ending.KeptEnding.TheVariants.{Plain, OtherPack, NotClosed as LeftOpen, KeeperFault, StoreFault}
 use Rattle.ob_mean.specs.Verdict.{Tables}
-use Rattle.ob_print.specs.Cuts.{Cut}
+use Rattle.ob_print.specs.Cuts.{Outputs}
 use Rattle.ob_reopen.specs.Closings.{write_script}
 use Rattle.ob_reopen.specs.Keepers.{GivesMark, KeeperState, SetsMark}
 use Rattle.ob_reopen.specs.Limits.{IsCatalogue}
@@ -35,7 +35,7 @@ use Rattle.ob_seal.specs.KeySet.{KeySet}
 use Rattle.ob_store.specs.Runs.{Did}
 use Rattle.ob_store.specs.State.{Lie, StoreState}
 use Rattle.ob_vault.specs.State.{Start}
-use Rattle.ob_vault.specs.Tied.{Fits}
+use Rattle.ob_vault.specs.Tied.{TagFits}
 
 -- ---- how a run ends
 abbrev pub kept_status : KeptEnding → ℕ
@@ -90,7 +90,7 @@ pub record OpensClosing (closing : Closing) (config : Config) (keys : KeySet) (b
   })
   pub did : Did (opening_script closing listed) old new
   pub tells : new.tells ≡ old.tells
-  pub fits : (lie : Lie) → new.lie ≡ Some lie → Fits keys (opened_start closing listed) lie
+  pub fits : (lie : Lie) → new.lie ≡ Some lie → TagFits keys (opened_start closing listed) lie
   -- those that rested there are listed
   pub told : IsTrue old.tells → new.lie ≡ None → (tables : Tables)
       → Rests keys closing old.kept tables → headings tables ≡ headings_of base.public.tables
@@ -135,7 +135,7 @@ EndsAtMark (Ok mark) config keys ending old new = EndsFrom mark config keys endi
 EndsAtMark (Err failed) config keys ending old new = (ending ≡ KeeperFault) × (new ≡ old)
 
 -- the keeper gave a mark, and it was begun from; the accesses were traced, and the keeper holds that the store is in use
-pub record Began (config : Config) (keys : KeySet) (tracing : Bool) (base : Base)
+pub record BeganKept (config : Config) (keys : KeySet) (tracing : Bool) (base : Base)
     (old new : StoreState) (traced0 traced1 : Option (List ℕ)) (keeper0 keeper1 : KeeperState)
     : Type 0 where
   pub mark : Mark
@@ -208,6 +208,6 @@ pub record Closes (closing : Closing) (region : Option ℕ) (tracing : Bool)
   pub writes : Writes closing (last_script region closing) result old new
   pub done : List Access
   pub asked : new.asked ≡ old.asked ++ done
-  pub traced : Cut traced0 traced1 (Rises fault0 fault1) (traced tracing done)
+  pub traced : Outputs traced0 traced1 (Rises fault0 fault1) (traced tracing done)
   pub later : fault0 ≤ fault1
   pub ends : EndsWith result whole ending fault0 fault1 keeper0 keeper1

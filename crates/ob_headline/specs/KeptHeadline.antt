@@ -8,7 +8,7 @@ use Rattle.ob_exec.specs.Closing.{is_used_up}
 use Rattle.ob_exec.specs.Resting.{AcceptsClosings, Rests, by_name}
 use Rattle.ob_headline.specs.Bases.{Base, FromEach, fresh}
 use Rattle.ob_headline.specs.Headline.{Headline}
-use Rattle.ob_headline.specs.Keeping.{Began, Closes, NotBegun, closing_behind, kept_line, kept_status, region_opened}
+use Rattle.ob_headline.specs.Keeping.{BeganKept, Closes, NotBegun, closing_behind, kept_line, kept_status, region_opened}
 use Rattle.ob_headline.specs.KeyLine.{first_line, has_lf, secret_of}
 use Rattle.ob_headline.specs.Tracing.{traced}
 use Rattle.ob_headline.specs.Words.{Answer, IsHonest, Outside, SinksRose, outside_of}
@@ -20,7 +20,7 @@ use Rattle.ob_headline.specs.declared.ending.KeptEnding.{KeptEnding}
 use Rattle.ob_headline.specs.declared.ending.KeptEnding.TheVariants.{Plain}
 use Rattle.ob_headline.specs.declared.ending.Report.{Report}
 use Rattle.ob_mean.specs.Replay.{Broken, after_all}
-use Rattle.ob_print.specs.Cuts.{Cut}
+use Rattle.ob_print.specs.Cuts.{Outputs}
 use Rattle.ob_reopen.specs.Keepers.{KeeperState}
 use Rattle.ob_reopen.specs.declared.closing.Closing.{Closing}
 use Rattle.ob_script.specs.Trace.{after_all as all_public}
@@ -28,7 +28,7 @@ use Rattle.ob_seal.specs.KeySet.{KeySet}
 use Rattle.ob_seal.specs.Sealed.{keys_of}
 use Rattle.ob_store.specs.Runs.{Later}
 use Rattle.ob_store.specs.State.{Lie, StoreState}
-use Rattle.ob_vault.specs.Tied.{Fits}
+use Rattle.ob_vault.specs.Tied.{TagFits}
 use Rattle.ob_headline.specs.Story.{Story}
 use Rattle.ob_headline.specs.Prompt.{Prompt}
 
@@ -73,9 +73,9 @@ pub record Unbegun (settings : Option Config) (Takes : Type 0) (tracing : Bool) 
   pub begun : NotBegun config (keys_of secret) ending old.store new.store
       old.faults.trace new.faults.trace keeper0 keeper1
   pub unanswered : answers ≡ []
-  pub grew : Cut old.written new.written (SinksRose old.faults new.faults) (kept_line ending)
+  pub grew : Outputs old.written new.written (SinksRose old.faults new.faults) (kept_line ending)
   pub silent : new.faults.trace ≢ old.faults.trace → new.written ≡ old.written
-  pub traced_all : Cut old.traced new.traced (SinksRose old.faults new.faults)
+  pub traced_all : Outputs old.traced new.traced (SinksRose old.faults new.faults)
       (traced tracing new.store.asked)
   pub source : new.faults.source ≡ old.faults.source
   pub most_open : report.high ≤ 1
@@ -94,7 +94,7 @@ pub record ClosesTables (base : Base) (keys : KeySet) (tracing refused : Bool) (
   pub closes : Closes closing (region_opened base.opened) tracing (Plain (Ran (Ok refused))) ending
       served new traced0 traced1 fault0 fault1 keeper0 keeper1
   pub later : Later served new
-  pub fits : (lie : Lie) → new.lie ≡ Some lie → Fits keys base.start lie
+  pub fits : (lie : Lie) → new.lie ≡ Some lie → TagFits keys base.start lie
   -- where the store tells what it holds and gave what was written, the tables rest in it: those that the statements leave
   pub rests : IsHonest begun new → is_used_up closing ≡ false → (mark : Mark)
       → closes.result ≡ Ok mark → FromEach base (λ s. (broken : Broken)
@@ -114,7 +114,7 @@ pub record IsClosed (base : Base) (keys : KeySet) (tracing refused : Bool) (stor
   pub left : new.left ≡ served.left
   pub gave : new.gave ≡ served.gave
   pub source : new.faults.source ≡ served.faults.source
-  pub grew : Cut served.written new.written (SinksRose served.faults new.faults) (kept_line ending)
+  pub grew : Outputs served.written new.written (SinksRose served.faults new.faults) (kept_line ending)
   pub silent : new.faults.trace ≢ served.faults.trace → new.written ≡ served.written
 
 -- nothing is closed behind a stop
@@ -159,7 +159,7 @@ pub record SessionKept (settings : Option Config) (Takes : Type 0) (tracing : Bo
   pub opened : StoreState
   pub traced : Option (List ℕ)
   pub in_use : KeeperState
-  pub began : Began config (keys_of secret) tracing base old.store opened old.traced traced
+  pub began : BeganKept config (keys_of secret) tracing base old.store opened old.traced traced
       keeper0 in_use
   pub served : Outside
   pub run : Report

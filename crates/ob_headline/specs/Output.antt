@@ -1,7 +1,7 @@
 -- What a run wrote: the answers, and the trace.
 use Rattle.std.specs.Prelude.{◌≢◌, ◌⊎◌, Bool, ◌++◌}
 use Rattle.ob_base.specs.Counts.{Rises}
-use Rattle.ob_print.specs.Cuts.{Cut}
+use Rattle.ob_print.specs.Cuts.{Outputs}
 use Rattle.ob_script.specs.Trace.{trace}
 use Rattle.ob_headline.specs.Bases.{Base}
 use Rattle.ob_headline.specs.Endings.{last_line}
@@ -15,13 +15,13 @@ use Rattle.ob_headline.specs.declared.ending.Ending.{Ending}
 -- for the accesses are written, too, what comes before the statement begun whole.
 pub record Output (base : Base) (tracing : Bool) (ending : Ending) (story : Story)
     (old new : Outside) : Type 0 where
-  pub grew : Cut old.written new.written (SinksRose old.faults new.faults)
+  pub grew : Outputs old.written new.written (SinksRose old.faults new.faults)
       ((printed story.answers ++ story.part) ++ last_line ending)
   pub whole : Took old.written new.written (printed story.answers)
   pub through : Took old.written new.written (printed story.answers ++ story.part)
       ⊎ Rises old.faults.out new.faults.out
   pub silent : new.faults.trace ≢ old.faults.trace
-      → Cut old.written new.written (Unit {0}) (printed story.answers ++ story.part)
-  pub traced_all : Cut old.traced new.traced (SinksRose old.faults new.faults)
+      → Outputs old.written new.written (Unit {0}) (printed story.answers ++ story.part)
+  pub traced_all : Outputs old.traced new.traced (SinksRose old.faults new.faults)
       (traced tracing (trace base.public (story.seen ++ story.last)))
   pub traced_whole : Took old.traced new.traced (traced tracing (trace base.public story.seen))

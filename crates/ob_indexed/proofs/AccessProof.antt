@@ -33,7 +33,7 @@ use Rattle.ob_tree.specs.States.{State, Stands, held}
 use Rattle.ob_tree.proofs.RowLemmas.{rows-append}
 use Rattle.ob_tree.proofs.RunLemmas.{leaves_kept}
 use Rattle.ob_mean.specs.SameMeaning.{SameTables}
-use Rattle.ob_indexed.specs.Asking.{Ask, Find, Put, Set, Take, Fits, Settles, key_is, op_of, stepped}
+use Rattle.ob_indexed.specs.Asking.{Ask, Find, Put, Set, Take, FitsIndex, Settles, key_is, op_of, stepped}
 use Rattle.ob_indexed.specs.Indexed.{IsIndexed, access_settled, ask_of, height_of, held_as, index_of, key_asked, key_at, key_in, keyed_table, one_table, tree_size, went}
 use Rattle.ob_indexed.specs.Settling.{AccessSettles}
 use Rattle.ob_indexed.proofs.AskProof.{settles}
@@ -180,7 +180,7 @@ all_rows : (n : ℕ) (slots : Slots) → rows (take n slots) ++ rows (drop n slo
 all_rows n slots = sym (rows-append (take n slots) (drop n slots)) ∙ ap rows (take-append-drop n slots)
 
 module _ (draw : ℕ) (ts : Tables) (stmt : Stmt) (t : Stored Held) (ask : Ask) (w : Went Row) (found : keyed_table ts stmt ≡ Some t) (asked : ask_of t.heading stmt ≡ Some ask) (indexed : IsIndexed t)
-    (fits : Fits t.heading.capacity (key_at t.heading.schema) ask (rows t.held.slots)) (goes : went draw t ask ≡ Some w) where
+    (fits : FitsIndex t.heading.capacity (key_at t.heading.schema) ask (rows t.held.slots)) (goes : went draw t ask ≡ Some w) where
   abbrev n : ℕ
   n = t.heading.capacity
 
@@ -197,7 +197,7 @@ module _ (draw : ℕ) (ts : Tables) (stmt : Stmt) (t : Stored Held) (ask : Ask) 
   held_is = all_rows (tree_size t.heading) t.held.slots
 
   went_well : Settles n i h s ask w
-  went_well = settles n i h draw s ask w indexed.leaves indexed.stands (subst (λ (all : List Row). Fits n i ask all) (sym held_is) fits) goes
+  went_well = settles n i h draw s ask w indexed.leaves indexed.stands (subst (λ (all : List Row). FitsIndex n i ask all) (sym held_is) fits) goes
 
   after_is : rows (held_as w.state).slots ≡ held w.state
   after_is = rows-append w.state.tree w.state.stash

@@ -24,7 +24,7 @@ use Rattle.ob_tree.proofs.RunLemmas.{access_answers}
 use Rattle.ob_tree.proofs.PlaceLemmas.{stands_for, stands_too}
 use Rattle.ob_tree.proofs.Moves.{Same-is, Same-cons, Same-middle, Same-swapped}
 use Rattle.ob_tree.specs.Keys.{cell_number, key_number, row_key, InRange}
-use Rattle.ob_indexed.specs.Asking.{Ask, Find, Put, Set, Take, Fits, Settles, key_is, op_of, stepped}
+use Rattle.ob_indexed.specs.Asking.{Ask, Find, Put, Set, Take, FitsIndex, Settles, key_is, op_of, stepped}
 use Rattle.ob_tree.proofs.KeyNumbers.{single_apart, none_numbered}
 
 false_is : (b : Bool) → (b ≡ true → ⊥) → b ≡ false
@@ -116,7 +116,7 @@ module _ (n i : ℕ) where
   one_or_none (x ∷ y ∷ xs) few = absurd (omega (arith, few))
 
   -- what an operation leaves of a bag
-  applied_steps : (ask : Ask) (all : List Row) → Single key all → InRange n i all → Fits n i ask all → Same (applied key n (op_of n ask) all) (stepped i ask all)
+  applied_steps : (ask : Ask) (all : List Row) → Single key all → InRange n i all → FitsIndex n i ask all → Same (applied key n (op_of n ask) all) (stepped i ask all)
   applied_steps (Find z) all single range fits = go (cases_lt (key_number n z) n)
     where
       k : ℕ
@@ -169,13 +169,13 @@ module _ (n i : ℕ) where
       go (inl inside) = let yes = lt-ltb k n inside in rw yes (Same-is _ _ (sym (rest_is z all range)))
       go (inr past) = let no = le-ltb k n past in rw no (Same-is _ _ (sym (rest_is z all range ∙ none_but k all (past_none all range past))))
 
-  keeps : (ask : Ask) (all : List Row) → Fits n i ask all → KeepsKey key (op_of n ask)
+  keeps : (ask : Ask) (all : List Row) → FitsIndex n i ask all → KeepsKey key (op_of n ask)
   keeps (Find z) all fits = tt
   keeps (Put row) all fits = tt
   keeps (Set z sets) all fits = λ row. ap (cell_number n) (fits row)
   keeps (Take z) all fits = tt
 
-  pub settles : (h draw : ℕ) (s : State Row) (ask : Ask) (w : Went Row) → length s.leaves ≡ n → Stands key h s → Fits n i ask (held s)
+  pub settles : (h draw : ℕ) (s : State Row) (ask : Ask) (w : Went Row) → length s.leaves ≡ n → Stands key h s → FitsIndex n i ask (held s)
       → access key h s (op_of n ask) draw ≡ Some w → Settles n i h s ask w
   settles h draw s ask w size stands fits is =
       let rep = stands_for key h s stands in

@@ -38,11 +38,11 @@ stepped place (Set z sets) all = map (updated (key_is place z) sets) all
 stepped place (Take z) all = filter (λ row. not (is_true (key_is place z) row)) all
 
 -- a row that is put in is new and has one of the n keys, and a change leaves the key
-abbrev pub Fits : (n place : ℕ) → Ask → List Row → Type 0
-Fits n place (Find z) all = ⊤
-Fits n place (Put row) all = (row_key n place row < n) × (has_key (Some place) row all ≡ false)
-Fits n place (Set z sets) all = (row : Row) → cell_at (with_cells sets row) place ≡ cell_at row place
-Fits n place (Take z) all = ⊤
+abbrev pub FitsIndex : (n place : ℕ) → Ask → List Row → Type 0
+FitsIndex n place (Find z) all = ⊤
+FitsIndex n place (Put row) all = (row_key n place row < n) × (has_key (Some place) row all ≡ false)
+FitsIndex n place (Set z sets) all = (row : Row) → cell_at (with_cells sets row) place ≡ cell_at row place
+FitsIndex n place (Take z) all = ⊤
 
 -- an access leaves the bag that the statement leaves, distinct keys, and an index that stands
 pub record Settles (n place height : ℕ) (s : State Row) (ask : Ask) (w : Went Row) : Type 0 where

@@ -9,14 +9,14 @@ ghost use Rattle.ob_tree.specs.Access.{Went, access};
 ghost use Rattle.ob_tree.specs.Keys.{row_key};
 ghost use Rattle.ob_tree.specs.States.{State, Stands, held};
 ghost use Rattle.ob_indexed.specs.Answering.{Answered};
-ghost use Rattle.ob_indexed.specs.Asking.{Ask, Fits, Settles, op_of};
+ghost use Rattle.ob_indexed.specs.Asking.{Ask, FitsIndex, Settles, op_of};
 ghost use Rattle.ob_indexed.specs.Indexed.{IsIndexed, ask_of, key_at, keyed_table, went};
 ghost use Rattle.ob_indexed.specs.Settling.{AccessSettles};
 
 /// An access of an index that stands leaves the rows that SQL's meaning leaves, with distinct keys, in an index that stands.
 pub fn settles_indexed()
     ensures { (n place height draw : ℕ) (s : State Row) (ask : Ask) (w : Went Row)
-        → length s.leaves ≡ n → Stands (row_key n place) height s → Fits n place ask (held s)
+        → length s.leaves ≡ n → Stands (row_key n place) height s → FitsIndex n place ask (held s)
         → access (row_key n place) height s (op_of n ask) draw ≡ Some w
         → Settles n place height s ask w }
 {}
@@ -33,6 +33,6 @@ pub fn access_answers()
 pub fn access_settles()
     ensures { (draw : ℕ) (ts : Tables) (stmt : Stmt) (t : Stored Held) (ask : Ask) (w : Went Row)
         → keyed_table ts stmt ≡ Some t → ask_of t.heading stmt ≡ Some ask → IsIndexed t
-        → Fits t.heading.capacity (key_at t.heading.schema) ask (rows t.held.slots)
+        → FitsIndex t.heading.capacity (key_at t.heading.schema) ask (rows t.held.slots)
         → went draw t ask ≡ Some w → AccessSettles ts stmt t w }
 {}

@@ -8,7 +8,7 @@ use Rattle.ob_row.specs.declared.cell.Cell.{Cell}
 use Rattle.ob_row.specs.Fields.{HoldsCell}
 use Rattle.ob_row.specs.Rows.{Row, cell_at, cell_eq, options_eq}
 use Rattle.ob_row.specs.Slots.{Slots, rows, is_selected}
-use Rattle.ob_row.specs.Spelling.{FitsKind, Fits, Begins, kind_at, cells_width}
+use Rattle.ob_row.specs.Spelling.{FitsKind, FitsColumns, Begins, kind_at, cells_width}
 use Rattle.ob_row.proofs.SpellingLemmas.{length-cell_bytes}
 use Rattle.ob_row.proofs.PlaceLemmas.{located, begun, row_field, same_fields, cell_eq-same, is_false}
 use Rattle.ob_flat.specs.Slots.{Spelt}
@@ -43,7 +43,7 @@ module _ (cs : Columns) (i : ℕ) (y : Cell) (below : i < length cs) (never : Fi
   abbrev agrees : Row → Bool
   agrees a = options_eq (cell_at a i) (Some y)
 
-  off : (slot : Option Row) → IfSome slot (Fits cs) → is_selected agrees slot ≡ false
+  off : (slot : Option Row) → IfSome slot (FitsColumns cs) → is_selected agrees slot ≡ false
   off None fits = refl
   off (Some row) fits =
       let own = located cs row i [] fits below in

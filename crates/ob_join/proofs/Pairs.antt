@@ -11,18 +11,18 @@ use Rattle.ob_row.specs.Rows.{Row, cell_at, options_eq}
 use Rattle.ob_row.specs.Results.{joined_slot}
 use Rattle.ob_row.specs.Slots.{Slots, rows, is_selected}
 use Rattle.ob_join.specs.Joining.{IsPartner}
-use Rattle.ob_row.specs.Spelling.{Fits, Begins, cells_width, cell_bytes, cells_bytes, row_bytes}
+use Rattle.ob_row.specs.Spelling.{FitsColumns, Begins, cells_width, cell_bytes, cells_bytes, row_bytes}
 
 pub width-join : (l r : Columns) → width (l ++ r) + 1 ≡ width l + width r
 width-join l r = omega (arith, sum_by-append (λ (c : Column). kind_width c.kind) l r)
 
-pub fits-join : (l r : Columns) (a b : Row) → Fits l a → Fits r b → Fits (l ++ r) (a ++ b)
+pub fits-join : (l r : Columns) (a b : Row) → FitsColumns l a → FitsColumns r b → FitsColumns (l ++ r) (a ++ b)
 fits-join [] r [] b h k = k
 fits-join [] r (x ∷ a) b h k = absurd h
 fits-join (c ∷ l) r [] b h k = absurd h
 fits-join (c ∷ l) r (x ∷ a) b h k = (h.0, fits-join l r a b h.1 k)
 
-bytes-join : (l r : Columns) (a b : Row) → Fits l a → cells_bytes (l ++ r) (a ++ b) ≡ cells_bytes l a ++ cells_bytes r b
+bytes-join : (l r : Columns) (a b : Row) → FitsColumns l a → cells_bytes (l ++ r) (a ++ b) ≡ cells_bytes l a ++ cells_bytes r b
 bytes-join [] r [] b h = refl
 bytes-join [] r (x ∷ a) b h = absurd h
 bytes-join (c ∷ l) r [] b h = absurd h

@@ -17,7 +17,7 @@ use Rattle.ob_vault.specs.Tied.{Holds}
 use Rattle.ob_vault.proofs.RowsLemmas.{rows_room}
 use Rattle.ob_row.specs.Rows.{Row, agree_at}
 use Rattle.ob_row.specs.Slots.{Slots, rows}
-use Rattle.ob_row.specs.Spelling.{Fits}
+use Rattle.ob_row.specs.Spelling.{FitsColumns}
 use Rattle.ob_row.specs.Results.{joined_slot, joined_chunk, chunk}
 use Rattle.ob_blocks.specs.Blocks.{none_of, up_to, block_at}
 use Rattle.ob_blocks.proofs.Blocks.{length-up_to, all_up_to}
@@ -127,13 +127,13 @@ joined_kept i j pack capacity buffered rights q v left right size fits some leas
     ∙ ap (λ (l : List Row). block_at pack (up_to (rights * pack) (map (joined_slot i j l) right)) v) (sym (chunk_rows pack capacity buffered q left size some least below))
 
 -- they fit both schemas
-found_fits : (columns : Columns) (p : Row → Bool) (slots : Slots) (a : Row) → All (FitsSlot columns) slots → find p (rows slots) ≡ Some a → Fits columns a
+found_fits : (columns : Columns) (p : Row → Bool) (slots : Slots) (a : Row) → All (FitsSlot columns) slots → find p (rows slots) ≡ Some a → FitsColumns columns a
 found_fits columns p [] a fits is = absurd (cc is)
 found_fits columns p (None ∷ slots) a fits is = found_fits columns p slots a (elements.All-tail (FitsSlot columns) None slots fits) is
 found_fits columns p (Some x ∷ slots) a fits is = go (p x) is (found_fits columns p slots a (elements.All-tail (FitsSlot columns) (Some x) slots fits))
   where
-    go : (b : Bool) → cond b (Some x) (find p (rows slots)) ≡ Some a → (find p (rows slots) ≡ Some a → Fits columns a) → Fits columns a
-    go true is rest = let same : x ≡ a = cc is in subst (Fits columns) same (elements.All-head (FitsSlot columns) (Some x) slots fits)
+    go : (b : Bool) → cond b (Some x) (find p (rows slots)) ≡ Some a → (find p (rows slots) ≡ Some a → FitsColumns columns a) → FitsColumns columns a
+    go true is rest = let same : x ≡ a = cc is in subst (FitsColumns columns) same (elements.All-head (FitsSlot columns) (Some x) slots fits)
     go false is rest = rest is
 
 slot_fits : (l r : Columns) (i j : ℕ) (left : Slots) (slot : Option Row) → All (FitsSlot l) left → FitsSlot r slot → FitsSlot (l ++ r) (joined_slot i j (rows left) slot)

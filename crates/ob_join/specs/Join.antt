@@ -21,7 +21,7 @@ use Rattle.ob_flat.specs.declared.fault.OpErr.TheVariants.{Failed, NoMemory}
 use Rattle.ob_flat.specs.Slots.{Spelt, AreSlots}
 use Rattle.ob_flat.specs.Flats.{IsSized, IsMade, IsFlat, Represents}
 use Rattle.ob_vault.specs.Words.{IsHonest, SealsAll}
-use Rattle.ob_flat.specs.Words.{Ran, TamperedIn, SealsTable, Makes, NoMemoryBehind, FitBlock, blocks_of}
+use Rattle.ob_flat.specs.Words.{PassRan, TamperedIn, SealsTable, Makes, NoMemoryBehind, FitBlock, blocks_of}
 use Rattle.ob_join.specs.declared.sides.Sides.{Sides}
 use Rattle.ob_join.specs.Filling.{IsFilling, HoldsFirst, TurnsStay}
 use Rattle.ob_join.specs.Joining.{blocks_from, joined_in}
@@ -161,7 +161,7 @@ pub record IsNew (j : Join) (to : Flat) (w : World) : Type 0 where
 -- n blocks of a table were read, from place `first` on
 pub record Collects {T : Type 0} (pack : ℕ) (flat : Flat) (first n : ℕ) (kept : List (List ℕ))
     (result : Result T OpErr) (old new : World) : Type 0 where
-  pub ran : Ran (each n (read_from flat.region first)) none result old new
+  pub ran : PassRan (each n (read_from flat.region first)) none result old new
   pub never : IfErr result (λ e. (e ≡ Failed) ⊎ TamperedIn pack flat e new)
   pub seals : SealsAll old new
   pub turns : OnOk result (TurnsStay old new)
@@ -179,7 +179,7 @@ pub record HasChunk (j : Join) (chunk : ℕ) (left right all : Slots) : Type 0 w
 -- each right block was read, and the next block of the result written
 pub record PairsUp {T : Type 0} (j : Join) (kept : List (List ℕ)) (to : Flat) (chunk : ℕ)
     (result : Result T OpErr) (old new : World) : Type 0 where
-  pub ran : Ran (pairs_script j to.region chunk) (one to.region) result old new
+  pub ran : PassRan (pairs_script j to.region chunk) (one to.region) result old new
   pub never : IfErr result (λ e. (e ≡ Failed) ⊎ TamperedIn j.pack j.right e new)
   pub seals : SealsTable j.pack to.schema to.region old new
   pub filling : OnOk result (IsFilling j.pack to (chunk * rights j + rights j) new)
@@ -193,7 +193,7 @@ pub record PairsUp {T : Type 0} (j : Join) (kept : List (List ℕ)) (to : Flat) 
 -- a new table was filled, chunk by chunk
 pub record Fills {T : Type 0} (j : Join) (to : ℕ)
     (result : Result T OpErr) (old new : World) : Type 0 where
-  pub ran : Ran (fill_script j to) (one to) result old new
+  pub ran : PassRan (fill_script j to) (one to) result old new
   pub never : IfErr result (λ e. (e ≡ Failed)
       ⊎ TamperedIn j.pack j.left e new ⊎ TamperedIn j.pack j.right e new)
   pub seals : SealsTable j.pack (columns j) to old new
@@ -205,7 +205,7 @@ pub record Fills {T : Type 0} (j : Join) (to : ℕ)
 
 -- and was made before
 pub record Joins (j : Join) (result : Result Flat OpErr) (old new : World) : Type 0 where
-  pub ran : Ran (join_script j old.vault.next) (one old.vault.next) result old new
+  pub ran : PassRan (join_script j old.vault.next) (one old.vault.next) result old new
   pub never : IfErr result (λ e. (e ≡ Failed) ⊎ (e ≡ NoMemory)
       ⊎ TamperedIn j.pack j.left e new ⊎ TamperedIn j.pack j.right e new)
   pub memory : NoMemoryBehind (make_script j old.vault.next) result old new

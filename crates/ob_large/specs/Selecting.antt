@@ -14,7 +14,7 @@ use Rattle.ob_flat.specs.declared.fault.OpErr.{OpErr}
 use Rattle.ob_flat.specs.declared.fault.OpErr.TheVariants.{Failed, NoMemory}
 use Rattle.ob_flat.specs.Flats.{IsMade, IsFlat, HoldsRows, Represents}
 use Rattle.ob_vault.specs.Words.{IsHonest}
-use Rattle.ob_flat.specs.Words.{Ran, TamperedIn, SealsTable, Makes, NoMemoryBehind, blocks_of, moved}
+use Rattle.ob_flat.specs.Words.{PassRan, TamperedIn, SealsTable, Makes, NoMemoryBehind, blocks_of, moved}
 use Rattle.ob_flat.specs.Creates.{make_script}
 
 -- what is asked to copy a table, and then to go through the copy
@@ -30,7 +30,7 @@ large_script pack flat to =
 -- each slot of a table whose row isn't selected was emptied, in place
 pub record Empties {T : Type 0} (pack : ℕ) (flat : Flat) (p : Row → Bool)
     (result : Result T OpErr) (old new : World) : Type 0 where
-  pub ran : Ran (copy_part flat.region flat.region (blocks_of pack flat)) (one flat.region)
+  pub ran : PassRan (copy_part flat.region flat.region (blocks_of pack flat)) (one flat.region)
       result old new
   pub never : IfErr result (λ e. (e ≡ Failed) ⊎ TamperedIn pack flat e new)
   pub seals : SealsTable pack flat.schema flat.region old new
@@ -49,7 +49,7 @@ pub record IsNew (pack : ℕ) (flat to : Flat) (w : World) : Type 0 where
 -- the selected rows of a table were copied to a new region, each to its slot
 pub record Fills {T : Type 0} (pack : ℕ) (flat : Flat) (to : ℕ) (p : Row → Bool)
     (result : Result T OpErr) (old new : World) : Type 0 where
-  pub ran : Ran (fill_script pack flat to) (one to) result old new
+  pub ran : PassRan (fill_script pack flat to) (one to) result old new
   pub never : IfErr result (λ e. (e ≡ Failed)
       ⊎ TamperedIn pack flat e new ⊎ TamperedIn pack (moved flat to) e new)
   pub seals : SealsTable pack flat.schema to old new
@@ -62,7 +62,7 @@ pub record Fills {T : Type 0} (pack : ℕ) (flat : Flat) (to : ℕ) (p : Row →
 -- and that region was made before
 pub record Selects (pack : ℕ) (flat : Flat) (p : Row → Bool)
     (result : Result Flat OpErr) (old new : World) : Type 0 where
-  pub ran : Ran (large_script pack flat old.vault.next) (one old.vault.next) result old new
+  pub ran : PassRan (large_script pack flat old.vault.next) (one old.vault.next) result old new
   pub never : IfErr result (λ e. (e ≡ Failed) ⊎ (e ≡ NoMemory)
       ⊎ TamperedIn pack flat e new ⊎ TamperedIn pack (moved flat old.vault.next) e new)
   pub memory : NoMemoryBehind (make_script pack (moved flat old.vault.next)) result old new

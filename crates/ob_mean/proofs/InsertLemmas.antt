@@ -18,7 +18,7 @@ use Rattle.ob_base.specs.Schemas.{Columns}
 use Rattle.ob_base.specs.Stored.{heading_at}
 use Rattle.ob_row.specs.declared.cell.Cell.{Cell}
 use Rattle.ob_row.specs.Rows.{Row}
-use Rattle.ob_row.specs.Spelling.{FitsKind, IsCell, Fits}
+use Rattle.ob_row.specs.Spelling.{FitsKind, IsCell, FitsColumns}
 use Rattle.ob_sql.specs.declared.stmt.Literal.{Literal}
 use Rattle.ob_sql.specs.declared.stmt.Literal.TheVariants.{Int as IntLiteral, OutOfRange, Text as TextLiteral, TooLong}
 use Rattle.ob_sql.specs.declared.stmt.Stmt.TheVariants.{Insert}
@@ -181,10 +181,10 @@ fits_kind (Varchar n) OutOfRange h l cell = absurd (false≢true h)
 fits_kind (Varchar n) (TextLiteral t) h l cell = (at_most n (length t) l, cell.1)
 fits_kind (Varchar n) TooLong h l cell = absurd (true≢false l)
 
-fits_next : (c : Column) (ds : Columns) (front : List Cell) (x : Cell) (rest : Row) → front ≡ x ∷ [] → (IsCell x → FitsKind c.kind x) → (All IsCell rest → Fits ds rest) →
-    All IsCell (front ++ rest) → Fits (c ∷ ds) (front ++ rest)
+fits_next : (c : Column) (ds : Columns) (front : List Cell) (x : Cell) (rest : Row) → front ≡ x ∷ [] → (IsCell x → FitsKind c.kind x) → (All IsCell rest → FitsColumns ds rest) →
+    All IsCell (front ++ rest) → FitsColumns (c ∷ ds) (front ++ rest)
 fits_next c ds front x rest e f g =
-    subst (λ w. All IsCell (w ++ rest) → Fits (c ∷ ds) (w ++ rest)) (sym e) (λ cells. (f (All-head IsCell x rest cells), g (All-tail IsCell x rest cells)))
+    subst (λ w. All IsCell (w ++ rest) → FitsColumns (c ∷ ds) (w ++ rest)) (sym e) (λ cells. (f (All-head IsCell x rest cells), g (All-tail IsCell x rest cells)))
 
 -- whether a literal is of another kind than its column, or too large for it
 abbrev is_mistyped : Columns → ColumnName × Literal → Bool
@@ -197,7 +197,7 @@ is_oversized cs a = at_kind (λ k. is_too_large_for k a.1) a.0 cs
 fits_part : (cs ds : Columns) (names : List (List ℕ)) (values : List Literal) →
     length names ≤ length values → AreFound cs ds → list_any (λ (c : Column). not (list_any (bytes_eq c.name) names)) ds ≡ false →
     list_any (is_mistyped cs) (zip (map unqualified names) values) ≡ false → list_any (is_oversized cs) (zip (map unqualified names) values) ≡ false →
-    All IsCell (flat_map (given_cell (zip names values)) ds) → Fits ds (flat_map (given_cell (zip names values)) ds)
+    All IsCell (flat_map (given_cell (zip names values)) ds) → FitsColumns ds (flat_map (given_cell (zip names values)) ds)
 fits_part cs [] names values l found given typed sized = λ cells. tt
 fits_part cs (d ∷ ds) names values l found given typed sized =
     let a = neither (not (list_any (bytes_eq d.name) names)) (list_any (λ (c : Column). not (list_any (bytes_eq c.name) names)) ds) given in
@@ -222,7 +222,7 @@ fits_columns : (cs : Columns) (columns : Option (List (List ℕ))) (values : Lis
     is_incomplete cs columns values ≡ false →
     list_any (is_mistyped cs) (zip (map unqualified (insert_columns columns cs)) values) ≡ false →
     list_any (is_oversized cs) (zip (map unqualified (insert_columns columns cs)) values) ≡ false →
-    All IsCell (new_row cs columns values) → Fits cs (new_row cs columns values)
+    All IsCell (new_row cs columns values) → FitsColumns cs (new_row cs columns values)
 fits_columns cs columns values distinct once known complete typed sized =
     let a = neither (list_any (λ (c : Column). not (list_any (bytes_eq c.name) (insert_columns columns cs))) cs) (not (length values == length cs)) complete in
     let e : length values ≡ length cs = (Decides-eqb (length values) (length cs)).0 (not-false (length values == length cs) a.1) in
@@ -239,7 +239,7 @@ first_and_last false false false d h = (refl, h)
 -- the row of an INSERT that is not refused early fits the columns at the table's name
 insert_fits_at : (late : Bool) (limits : Limits) (hs : List Heading) (table : List ℕ) (columns : Option (List (List ℕ))) (values : List Literal) →
     early_refusal late limits hs (Insert table columns values) ≡ None → has_repeats bytes_eq (names_of (columns_at table hs)) ≡ false →
-    All IsCell (new_row (columns_at table hs) columns values) → Fits (columns_at table hs) (new_row (columns_at table hs) columns values)
+    All IsCell (new_row (columns_at table hs) columns values) → FitsColumns (columns_at table hs) (new_row (columns_at table hs) columns values)
 insert_fits_at late limits hs table columns values none distinct =
     let cs = columns_at table hs in
     let a = allowed late limits hs (Insert table columns values) none in
@@ -254,8 +254,8 @@ insert_fits_at late limits hs table columns values none distinct =
 pub insert_fits : (late : Bool) (limits : Limits) (hs : List Heading) (table : List ℕ) (h : Heading) (columns : Option (List (List ℕ))) (values : List Literal) →
     early_refusal late limits hs (Insert table columns values) ≡ None → heading_at table hs ≡ Some h →
     has_repeats bytes_eq (map (λ (c : Column). c.name) h.schema) ≡ false →
-    All IsCell (new_row h.schema columns values) → Fits h.schema (new_row h.schema columns values)
+    All IsCell (new_row h.schema columns values) → FitsColumns h.schema (new_row h.schema columns values)
 insert_fits late limits hs table h columns values none stands =
-    subst (λ cs. has_repeats bytes_eq (names_of cs) ≡ false → All IsCell (new_row cs columns values) → Fits cs (new_row cs columns values))
+    subst (λ cs. has_repeats bytes_eq (names_of cs) ≡ false → All IsCell (new_row cs columns values) → FitsColumns cs (new_row cs columns values))
     (ap (λ o. option_map_or (λ (g : Heading). g.schema) o []) stands)
     (insert_fits_at late limits hs table columns values none)

@@ -137,7 +137,7 @@ impl MeddledStore {
 impl BlockStore for MeddledStore {
     ghost use Rattle.std.specs.Prelude.{OnOk, OnErr};
     ghost use Rattle.ob_base.specs.Accesses.{highest};
-    ghost use Rattle.ob_store.specs.Calls.{IsLive, IsPlace, IsGivenUp, Asks, CountsFault, CountsSlip, CountsMakeFault, Keeps, Makes, ReadGives, OnlyAt, Holds, MayHold, OnlyRegion, Rests};
+    ghost use Rattle.ob_store.specs.Calls.{IsLive, IsPlace, IsGivenUp, Asks, CountsFault, CountsSlip, CountsMakeFault, Keeps, Makes, ReadGives, OnlyAt, Holds, MayHold, OnlyRegion, ChangesNothing};
     ghost use Rattle.ob_meddle.specs.Calls.{Made, Gave, Wrote, Retired};
     ghost use Rattle.ob_meddle.specs.Shows.{list_of, state_of, standing, held};
 
@@ -164,7 +164,7 @@ impl BlockStore for MeddledStore {
     } };
 
     fn room(&mut self, n: u64) -> Result<(), NoMemory>
-        ensures rests { Rests (state_of self.old) (state_of self.new) }
+        ensures rests { ChangesNothing (state_of self.old) (state_of self.new) }
         ensures spare { OnOk result (n ≤ (state_of self.new).spare) }
         ensures list { list_of self.new ≡ list_of self.old }
         ensures stays { standing self.new ≡ standing self.old }

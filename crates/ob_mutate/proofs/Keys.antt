@@ -7,7 +7,7 @@ use Rattle.ob_base.specs.declared.schema.Column.{Column}
 use Rattle.ob_base.specs.Lists.{places_from, first}
 use Rattle.ob_base.specs.Schemas.{Columns, key_place}
 use Rattle.ob_row.specs.Rows.{Row}
-use Rattle.ob_row.specs.Spelling.{Fits}
+use Rattle.ob_row.specs.Spelling.{FitsColumns}
 
 first_from : {A : Type 0} (p : A → Bool) (n : ℕ) (xs : List A) → first (places_from n p xs) ≡ position_from p n xs
 first_from p n [] = refl
@@ -24,14 +24,14 @@ pub key_position : (columns : Columns) → position (λ (c : Column). c.key) col
 key_position columns = position_from-zero is_key columns ∙ sym (first_from is_key 0 columns)
 
 -- a row has a cell for each column
-pub fits_length : (columns : Columns) (row : Row) → Fits columns row → length row ≡ length columns
+pub fits_length : (columns : Columns) (row : Row) → FitsColumns columns row → length row ≡ length columns
 fits_length [] [] fits = refl
 fits_length [] (x ∷ row) fits = absurd fits
 fits_length (c ∷ columns) [] fits = absurd fits
 fits_length (c ∷ columns) (x ∷ row) fits = ap suc (fits_length columns row fits.1)
 
 -- it is that of a column, and of a cell of each row
-pub key_within : (columns : Columns) (row : Row) (key : Option ℕ) → key ≡ key_place columns → Fits columns row → IfSome key (λ place. (place < length columns) × (place < length row))
+pub key_within : (columns : Columns) (row : Row) (key : Option ℕ) → key ≡ key_place columns → FitsColumns columns row → IfSome key (λ place. (place < length columns) × (place < length row))
 key_within columns row None is fits = tt
 key_within columns row (Some place) is fits =
     let found = position-Some is_key columns place (record { table = []; name = []; kind = Rattle.ob_base.specs.declared.schema.Kind.TheVariants.Int; key = false }) (key_position columns ∙ sym is) in

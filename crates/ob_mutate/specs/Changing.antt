@@ -6,7 +6,7 @@ use Rattle.ob_row.specs.declared.cell.Cell.{Cell}
 use Rattle.ob_row.specs.Condition.{Condition}
 use Rattle.ob_row.specs.Rows.{Row, with_cells}
 use Rattle.ob_row.specs.Slots.{is_selected, emptied}
-use Rattle.ob_row.specs.Spelling.{FitsKind, Fits}
+use Rattle.ob_row.specs.Spelling.{FitsKind, FitsColumns}
 use Rattle.ob_row.specs.Truth.{is_true, updated}
 use Rattle.ob_flat.specs.Slots.{FitsSlot}
 
@@ -24,13 +24,13 @@ emptied_fits columns p slot fits = go (is_selected p slot)
     go false = fits
 
 -- so is one whose row has other cells, each of its column
-set_fits : (columns : Columns) (row : Row) (i : ℕ) (x : Cell) → IsSomeAnd (slice_get columns i) (λ c. FitsKind c.kind x) → Fits columns row → Fits columns (slice_set row i x)
+set_fits : (columns : Columns) (row : Row) (i : ℕ) (x : Cell) → IsSomeAnd (slice_get columns i) (λ c. FitsKind c.kind x) → FitsColumns columns row → FitsColumns columns (slice_set row i x)
 set_fits [] row i x fit fits = absurd fit
 set_fits (c ∷ columns) [] i x fit fits = absurd fits
 set_fits (c ∷ columns) (y ∷ row) zero x fit fits = (fit, fits.1)
 set_fits (c ∷ columns) (y ∷ row) (suc i) x fit fits = (fits.0, set_fits columns row i x fit fits.1)
 
-pub sets_fit : (columns : Columns) (sets : List (ℕ × Cell)) (row : Row) → FitsSets columns sets → Fits columns row → Fits columns (with_cells sets row)
+pub sets_fit : (columns : Columns) (sets : List (ℕ × Cell)) (row : Row) → FitsSets columns sets → FitsColumns columns row → FitsColumns columns (with_cells sets row)
 sets_fit columns [] row fit fits = fits
 sets_fit columns (s ∷ sets) row fit fits = sets_fit columns sets (slice_set row s.0 s.1) fit.1 (set_fits columns row s.0 s.1 fit.0 fits)
 
@@ -38,6 +38,6 @@ pub updated_fits : (columns : Columns) (p : Condition) (sets : List (ℕ × Cell
 updated_fits columns p sets None fit fits = fits
 updated_fits columns p sets (Some row) fit fits = go (is_true p row)
   where
-    go : (b : Bool) → Fits columns (if b then with_cells sets row else row)
+    go : (b : Bool) → FitsColumns columns (if b then with_cells sets row else row)
     go true = sets_fit columns sets row fit fits
     go false = fits

@@ -20,7 +20,7 @@ use Rattle.ob_flat.specs.declared.fault.OpErr.{OpErr}
 use Rattle.ob_flat.specs.declared.fault.OpErr.TheVariants.{Failed, NoMemory}
 use Rattle.ob_flat.specs.Flats.{IsFlat, HoldsRows, Represents, table_region}
 use Rattle.ob_flat.specs.Passes.{PassCut}
-use Rattle.ob_flat.specs.Words.{Ran, TamperedIn, SealsTable, NoMemoryBehind, blocks_of, moved}
+use Rattle.ob_flat.specs.Words.{PassRan, TamperedIn, SealsTable, NoMemoryBehind, blocks_of, moved}
 use Rattle.ob_flat.specs.Creates.{make_script}
 use Rattle.ob_mutate.specs.declared.inserting.Inserted.{Inserted}
 use Rattle.ob_mutate.specs.Inserting.{insert_answer, slots_after}
@@ -45,7 +45,7 @@ insert_script pack flat to =
 pub record FillsFresh {T : Type 0} (pack : ℕ) (flat : Flat) (to : ℕ) (script : List Access)
     (answer : Slots → T) (after : Slots → Slots)
     (result : Result T OpErr) (old new : World) : Type 0 where
-  pub ran : Ran script (one to) result old new
+  pub ran : PassRan script (one to) result old new
   pub never : IfErr result (λ e. (e ≡ Failed) ⊎ TamperedIn pack flat e new)
   pub seals : SealsTable pack flat.schema to old new
   pub table : OnOk result (IsFlat pack (moved flat to) new)

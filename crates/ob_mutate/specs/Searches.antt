@@ -2,7 +2,7 @@
 use Rattle.std.specs.Prelude.{ℕ, ◌+◌, Bool, true, false, ◌&&◌, ◌==◌, nat_lt, [], ◌∷◌, Option, Some, None, is_some, not, if◌then◌else◌}
 use Rattle.ob_row.specs.Rows.{Row, agree_at}
 use Rattle.ob_base.specs.Schemas.{Columns}
-use Rattle.ob_row.specs.Spelling.{Fits}
+use Rattle.ob_row.specs.Spelling.{FitsColumns}
 use Rattle.ob_row.specs.Slots.{Slots}
 use Rattle.ob_flat.specs.Slots.{FitsSlot}
 use Rattle.ob_mutate.specs.declared.searching.Finds.{Finds}
@@ -28,7 +28,7 @@ abbrev pub put_at : Option ℕ → Row → ℕ → Option Row → Option Row
 put_at None row i slot = slot
 put_at (Some target) row i slot = if i == target then Some row else slot
 
-pub put_fits : (columns : Columns) (target : Option ℕ) (row : Row) (i : ℕ) (slot : Option Row) → Fits columns row → FitsSlot columns slot → FitsSlot columns (put_at target row i slot)
+pub put_fits : (columns : Columns) (target : Option ℕ) (row : Row) (i : ℕ) (slot : Option Row) → FitsColumns columns row → FitsSlot columns slot → FitsSlot columns (put_at target row i slot)
 put_fits columns None row i slot row_fits fits = fits
 put_fits columns (Some target) row i slot row_fits fits = go (i == target)
   where

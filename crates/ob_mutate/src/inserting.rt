@@ -3,7 +3,7 @@ ghost use Rattle.ob_base.specs.Schemas.{width};
 ghost use Rattle.ob_vault.specs.Places.{at};
 ghost use Rattle.ob_vault.specs.Rows.{SameSizes};
 ghost use Rattle.ob_vault.specs.Words.{MayAsk, MayStart};
-ghost use Rattle.ob_row.specs.Spelling.{Fits};
+ghost use Rattle.ob_row.specs.Spelling.{FitsColumns};
 ghost use Rattle.ob_blocks.specs.Idle.{IsIdle};
 ghost use Rattle.ob_flat.specs.Flats.{IsSized, IsMade, IsFlat};
 ghost use Rattle.ob_flat.specs.Words.{IsTable, FitBlock, blocks_of, moved};
@@ -37,14 +37,14 @@ pub(crate) struct Put<'a> {
 
 impl<'a> Change for Put<'a> {
     ghost use Rattle.std.specs.Prelude.{false, refl};
-    ghost use Rattle.ob_row.specs.Spelling.{Fits};
+    ghost use Rattle.ob_row.specs.Spelling.{FitsColumns};
     ghost use Rattle.ob_mutate.specs.Searches.{put_at, put_fits};
 
     ghost to = { λ put i slot. put_at put.target put.cells.now i slot };
 
     ghost picks = { λ put slot. false };
 
-    ghost Suits = { λ put columns. Fits columns put.cells.now };
+    ghost Suits = { λ put columns. FitsColumns columns put.cells.now };
 
     ghost none = { λ put. refl };
 
@@ -96,7 +96,7 @@ fn insert_blocks<S: BlockStore, R: Revisions>(
         (at R.state vault.old (S.state store.old)) }
     requires apart { flat.now.region ≢ fresh }
     requires fit { FitBlock flat.now.schema rows.old }
-    requires cells { Fits flat.now.schema cells.now }
+    requires cells { FitsColumns flat.now.schema cells.now }
     ensures rows { SameSizes rows.old rows.new }
     ensures fills { FillsFresh (length rows.old) flat.now fresh
         (place_script (length rows.old) flat.now fresh)
@@ -132,7 +132,7 @@ fn insert_rows<S: BlockStore, R: Revisions>(
         (at R.state vault.old (S.state store.old)) }
     requires table { IsTable (length rows.old) flat.old (at R.state vault.old (S.state store.old)) }
     requires fit { FitBlock flat.old.schema rows.old }
-    requires cells { Fits flat.old.schema cells.now }
+    requires cells { FitsColumns flat.old.schema cells.now }
     ensures rows { SameSizes rows.old rows.new }
     ensures inserts { Inserts (length rows.old) flat.old flat.new cells.now result
         (at R.state vault.old (S.state store.old)) (at R.state vault.new (S.state store.new)) }
@@ -178,7 +178,7 @@ pub fn insert<S: BlockStore, R: Revisions>(
     requires flat { IsFlat room.old.pack flat.old (at R.state vault.old (S.state store.old)) }
     requires size { IsSized flat.old.schema flat.old.capacity }
     requires room { IsIdle (width flat.old.schema) room.old }
-    requires cells { Fits flat.old.schema cells.now }
+    requires cells { FitsColumns flat.old.schema cells.now }
     ensures room { room.new ≡ record room.old { high = max room.old.high room.old.pack } }
     ensures inserts { Inserts room.old.pack flat.old flat.new cells.now result
         (at R.state vault.old (S.state store.old)) (at R.state vault.new (S.state store.new)) }

@@ -3,7 +3,7 @@ ghost use Rattle.std.specs.List.{position};
 ghost use Rattle.ob_base.specs.declared.schema.Column.{Column as TableColumn};
 ghost use Rattle.ob_base.specs.Schemas.{width, key_place};
 ghost use Rattle.ob_row.specs.Rows.{Row};
-ghost use Rattle.ob_row.specs.Spelling.{Begins, Fits};
+ghost use Rattle.ob_row.specs.Spelling.{Begins, FitsColumns};
 ghost use Rattle.ob_mutate.specs.Searches.{agrees, found};
 
 use ob_base::{Column, Schema};
@@ -65,13 +65,13 @@ pub(crate) struct Search<'a> {
 impl<'a> Visit for Search<'a> {
     ghost use Rattle.std.specs.Prelude.{◌≡◌, ◌<◌, IfSome};
     ghost use Rattle.ob_base.specs.Schemas.{key_place};
-    ghost use Rattle.ob_row.specs.Spelling.{Fits};
+    ghost use Rattle.ob_row.specs.Spelling.{FitsColumns};
     ghost use Rattle.ob_mutate.specs.Searches.{found};
 
     ghost after = { λ flat s i slot.
         record s { finds = found s.key s.cells.now flat.capacity s.finds i slot } };
 
-    ghost Suits = { λ flat s i. (s.key ≡ key_place flat.schema) × Fits flat.schema s.cells.now
+    ghost Suits = { λ flat s i. (s.key ≡ key_place flat.schema) × FitsColumns flat.schema s.cells.now
         × IfSome s.finds.free (λ slot. slot < flat.capacity) };
 
     fn visit(&mut self, i: u32, flat: &Flat, row: &ClearRow) -> Result<(), Malformed> {

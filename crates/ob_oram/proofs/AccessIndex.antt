@@ -26,7 +26,7 @@ use Rattle.ob_oram.specs.Buffers.{IsBuffer, held_of}
 use Rattle.ob_oram.specs.Heights.{rows_open}
 use Rattle.ob_oram.specs.Indexes.{LiesAs, IsStored, IsShaped, leaves_of, key_of}
 use Rattle.ob_oram.specs.Opens.{IsOpen, leaf_with, leaves_with}
-use Rattle.ob_oram.specs.Accessing.{Accesses, Answers, HasLeaves, LeftBy, ReadsTooMany, Stays, Stops, leaf_read, leaves_after, remap_of}
+use Rattle.ob_oram.specs.Accessing.{Accesses, Answers, HasLeaves, LeftBy, ReadsTooMany, IndexStays, Stops, leaf_read, leaves_after, remap_of}
 
 module _ (index : Index) (buffer : Vec (Option Held) Global) where
   abbrev other : Index
@@ -44,7 +44,7 @@ module _ (index : Index) (buffer : Vec (Option Held) Global) where
   has_other : (list : List ℕ) (left : Index) → HasLeaves list other left → HasLeaves list index left
   has_other list left has = record { same = has.same; leaves = has.leaves }
 
-  stays_other : (left : Index) (old new : World) → Stays other left old new → Stays index left old new
+  stays_other : (left : Index) (old new : World) → IndexStays other left old new → IndexStays index left old new
   stays_other left old new is = record { same = has_other (leaves_of index) left is.same; stored = is.stored; lies = λ s lies. is.lies s (lies_other s old lies) }
 
   stops_other : (e : OramErr) (left : Index) (leaf : ℕ) (old new : World) → Stops e other left leaf old new → Stops e index left leaf old new

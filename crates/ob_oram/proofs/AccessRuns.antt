@@ -28,7 +28,7 @@ use Rattle.ob_oram.specs.Indexes.{IsShaped, IsStored, IsIndex, Lies, SealsIndex,
 use Rattle.ob_oram.specs.Ops.{op_in}
 use Rattle.ob_oram.specs.Scripts.{access_in, read_script, write_script, access_script, script_length}
 use Rattle.ob_oram.specs.Halves.{ReadsIndex, RefusesIndex, WritesIndex}
-use Rattle.ob_oram.specs.Accessing.{Accesses, HasLeaves, LeftBy, ReadsTooMany, Stays, Stops, leaf_read, leaves_after, remap_of}
+use Rattle.ob_oram.specs.Accessing.{Accesses, HasLeaves, LeftBy, ReadsTooMany, IndexStays, Stops, leaf_read, leaves_after, remap_of}
 use Rattle.ob_oram.proofs.Lasting.{lies_kept, stored_kept}
 use Rattle.ob_oram.proofs.WalkRows.{height_few}
 
@@ -80,7 +80,7 @@ module _ (index left : Index) (list : List ℕ) (has : HasLeaves list index left
 pub stored_lasts : (index : Index) (old new : World) → Lasts none old new → IsStored index old → IsStored index new
 stored_lasts index old new lasts = stored_kept none old new lasts index (λ q. q) (λ q. q)
 
-pub stays : (index left : Index) (old new : World) → Lasts none old new → IsStored index old → HasLeaves (leaves_of index) index left → Stays index left old new
+pub stays : (index left : Index) (old new : World) → Lasts none old new → IsStored index old → HasLeaves (leaves_of index) index left → IndexStays index left old new
 stays index left old new lasts stored has = record {
   same = has;
   stored = stored_left index left (leaves_of index) has new stored.shaped.leaves (stored_lasts index old new lasts stored);

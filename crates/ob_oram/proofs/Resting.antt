@@ -1,6 +1,6 @@
 -- What stands while a store makes room for more accesses.
 use Rattle.ob_store.specs.State.{StoreState}
-use Rattle.ob_store.specs.Calls.{Rests}
+use Rattle.ob_store.specs.Calls.{ChangesNothing}
 use Rattle.ob_vault.specs.declared.region.Order.{Order}
 use Rattle.ob_vault.specs.State.{VaultState}
 use Rattle.ob_vault.proofs.WorldSteps.{world}
@@ -9,7 +9,7 @@ use Rattle.ob_flat.specs.Flats.{IsInTurn}
 use Rattle.ob_oram.specs.declared.index.Index.{Index}
 use Rattle.ob_oram.specs.Indexes.{IsIndex, tree_of, stash_of}
 
-module _ (v : VaultState) (s t : StoreState) (rests : Rests s t) where
+module _ (v : VaultState) (s t : StoreState) (rests : ChangesNothing s t) where
   turn_rests : (order : Order) (flat : Flat) → IsInTurn order 1 flat 0 (world v s) → IsInTurn order 1 flat 0 (world v t)
   turn_rests order flat is = record {
     lives = record { live = is.lives.live };

@@ -59,7 +59,7 @@ pub record LeftBy {T : Type 0} (result : Result T OramErr) (index : Index) (op :
 -- an index that wasn't touched is stored still, and lies as it did. It may not be accessed again, for
 -- nothing is said of its buffer: the key has the leaf that was read, and another access would read the
 -- same path, from which a watcher could tell that the two are of one key
-pub record Stays (index left : Index) (old new : World) : Type 0 where
+pub record IndexStays (index left : Index) (old new : World) : Type 0 where
   pub same : HasLeaves (leaves_of index) index left
   pub stored : IsStored left new
   pub lies : (s : State Row) → LiesAs index s old → LiesAs left s new
@@ -68,7 +68,7 @@ pub record Stays (index left : Index) (old new : World) : Type 0 where
 pub record StopsReading (e : OpErr) (index left : Index) (leaf : ℕ)
     (old new : World) : Type 0 where
   pub cut : PassCut e (read_script index leaf) none old new
-  pub stays : Stays index left old new
+  pub stays : IndexStays index left old new
 
 -- an access that ended with one of its writes, behind all reads
 pub record StopsWriting (index left : Index) (leaf : ℕ) (old new : World) : Type 0 where
@@ -89,7 +89,7 @@ Stops (Tampered q x) index left leaf old new =
     × (TamperedIn 1 (stash_of index) (OpErrs.Tampered q x) new
     ⊎ TamperedIn 1 (tree_of index) (OpErrs.Tampered q x) new)
 Stops StashFull index left leaf old new = Went (read_script index leaf) none old new
-    × Stays index left old new
+    × IndexStays index left old new
 
 -- it answers what the model's access answers, and lies as that leaves it
 pub record Answers (index left : Index) (op : Op) (draw : ℕ) (s : State Row) (got : Got)

@@ -11,7 +11,7 @@ use Rattle.ob_flat.specs.declared.fault.OpErr.TheVariants.{Failed, NoMemory}
 use Rattle.ob_flat.specs.Flats.{Accepts, IsInTurn, Represents}
 use Rattle.ob_row.specs.Slots.{empty_slots}
 use Rattle.ob_vault.specs.declared.region.Order.TheVariants.{Round, Any}
-use Rattle.ob_flat.specs.Words.{Ran}
+use Rattle.ob_flat.specs.Words.{PassRan}
 use Rattle.ob_flat.specs.Creates.{table_of, make_script, create_script}
 use Rattle.ob_tree.specs.Runs.{created}
 use Rattle.ob_oram.specs.declared.index.Index.{Index}
@@ -49,7 +49,7 @@ pub record IsFresh (columns : Columns) (capacity slots region : ℕ) (draws : Li
 -- the regions of a tree and a stash were made and filled with dummies, or they are gone
 pub record CreatesRegions {T : Type 0} (tree stash : Flat)
     (result : Result T OpErr) (old new : World) : Type 0 where
-  pub ran : Ran (create_index_script tree stash) (two tree.region stash.region) result old new
+  pub ran : PassRan (create_index_script tree stash) (two tree.region stash.region) result old new
   pub never : IfErr result (λ e. (e ≡ Failed) ⊎ (e ≡ NoMemory))
   -- want of memory comes before the first access, or from one of the two that make a region
   pub memory : result ≡ Err NoMemory → BeganBehind [] (make_script 1 tree) old.store new.store

@@ -5,7 +5,7 @@ use Rattle.ob_base.specs.Schemas.{Columns}
 use Rattle.ob_row.specs.declared.cell.Cell.{Cell}
 use Rattle.ob_row.specs.declared.cell.Cell.TheVariants.{Int}
 use Rattle.ob_row.specs.Rows.{Row, cell_at, with_cells}
-use Rattle.ob_row.specs.Spelling.{Fits, FitsKind, kind_at}
+use Rattle.ob_row.specs.Spelling.{FitsColumns, FitsKind, kind_at}
 use Rattle.ob_tree.specs.Access as Tree
 use Rattle.ob_oram.specs.declared.op.Op.{Op}
 use Rattle.ob_oram.specs.declared.op.Op.TheVariants.{Get, Insert, Change, Remove}
@@ -50,7 +50,7 @@ pub record FitsSet (columns : Columns) (place : ℕ) (change : ℕ × Cell) : Ty
 -- a row that is put in is one of the table, with the key; a change leaves the key
 abbrev pub FitsOp : Columns → ℕ → Op → Type 0
 FitsOp columns place (Get key) = ⊤
-FitsOp columns place (Insert key cells) = Fits columns cells.now
+FitsOp columns place (Insert key cells) = FitsColumns columns cells.now
     × (cell_at cells.now place ≡ Some (Int key))
 FitsOp columns place (Change key sets) = All (FitsSet columns place) sets.now
 FitsOp columns place (Remove key) = ⊤

@@ -1,6 +1,6 @@
 //! An index in a store, with the vault and the room for its accesses.
 ghost use Rattle.std.specs.Prelude.{◌≤◌, ◌<◌, ◌^◌, length, OnOk, IfOk};
-ghost use Rattle.ob_store.specs.Calls.{Rests};
+ghost use Rattle.ob_store.specs.Calls.{ChangesNothing};
 ghost use Rattle.ob_vault.specs.Words.{StartsAnew};
 ghost use Rattle.ob_vault.specs.Places.{at};
 ghost use Rattle.ob_blocks.specs.Idle.{IsIdle};
@@ -27,7 +27,7 @@ pub(crate) enum Ask {
 
 // Makes room for so many accesses.
 fn make_room<S: BlockStore>(store: &mut S, n: u64) -> Result<(), Fault>
-    ensures rests { Rests (S.state store.old) (S.state store.new) }
+    ensures rests { ChangesNothing (S.state store.old) (S.state store.new) }
     ensures spare { OnOk result (n ≤ (S.state store.new).spare) }
     ensures few { OnOk result (length (S.state store.new).asked < 2 ^ 59) }
 {

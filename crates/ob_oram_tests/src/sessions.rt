@@ -2,7 +2,7 @@
 //! run where what it does fails.
 ghost use Rattle.std.specs.Prelude.{◌≡◌, ◌≤◌, ◌<◌, ℕ, length};
 ghost use Rattle.ob_base.specs.Schemas.{width};
-ghost use Rattle.ob_store.specs.Calls.{Rests};
+ghost use Rattle.ob_store.specs.Calls.{ChangesNothing};
 ghost use Rattle.ob_vault.specs.Words.{StartsAnew};
 ghost use Rattle.ob_vault.specs.Places.{at};
 ghost use Rattle.ob_blocks.specs.Idle.{IsIdle};
@@ -43,7 +43,7 @@ pub(crate) fn key_and_number() -> Schema
 
 /// Makes room for the accesses of a session.
 pub(crate) fn make_room<S: BlockStore>(rt: &impl Abort, store: &mut S)
-    ensures rests { Rests (S.state store.old) (S.state store.new) }
+    ensures rests { ChangesNothing (S.state store.old) (S.state store.new) }
     ensures spare { 200000000 ≤ (S.state store.new).spare }
     ensures few { length (S.state store.new).asked < 1000000 }
 {

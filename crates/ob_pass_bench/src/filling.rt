@@ -3,7 +3,7 @@ ghost use Rattle.std.specs.Prelude.{◌≡◌, ◌≤◌, ◌<◌, ◌+◌, ◌^
 ghost use Rattle.ob_base.specs.Accesses.{write_at};
 ghost use Rattle.ob_base.specs.Lists.{each};
 ghost use Rattle.ob_base.specs.Schemas.{width};
-ghost use Rattle.ob_store.specs.Calls.{Rests};
+ghost use Rattle.ob_store.specs.Calls.{ChangesNothing};
 ghost use Rattle.ob_vault.specs.declared.region.Order.TheVariants.{Round};
 ghost use Rattle.ob_vault.specs.Calls.{Went, one};
 ghost use Rattle.ob_vault.specs.Places.{at};
@@ -27,7 +27,7 @@ use std::io::{self, Input, Print};
 
 /// Makes room in the store's list for so many accesses.
 pub(crate) fn make_room<S: BlockStore>(store: &mut S, n: u64) -> Result<(), OpErr>
-    ensures rests { Rests (S.state store.old) (S.state store.new) }
+    ensures rests { ChangesNothing (S.state store.old) (S.state store.new) }
     ensures spare { OnOk result (n ≤ (S.state store.new).spare) }
     ensures few { OnOk result (length (S.state store.new).asked < 2 ^ 59) }
 {

@@ -1,7 +1,7 @@
 //! The columns of the tables: two numbers, and as many texts as fill the width.
 ghost use Rattle.std.specs.Prelude.{◌≡◌, ◌≤◌, ◌+◌, ◌++◌, ℕ, IfSome, IfOk, OnOk, length};
 ghost use Rattle.ob_base.specs.Schemas.{width};
-ghost use Rattle.ob_row.specs.Spelling.{FitsKind, FitsText, Fits};
+ghost use Rattle.ob_row.specs.Spelling.{FitsKind, FitsText, FitsColumns};
 ghost use Rattle.ob_row.specs.Rows.{Row};
 ghost use Rattle.ob_pass_bench.specs.Tables.{HasColumns, AreColumns};
 
@@ -123,7 +123,7 @@ fn sample_cell(column: &Column, i: u32) -> Cell
 // Adds the cells of these columns.
 fn push_cells(columns: &[Column], i: u32, cells: &mut Vec<Cell>) -> Result<(), NoMemory>
     ensures { OnOk result ((row : Row) × (cells.new.items ≡ cells.old.items ++ row)
-        × Fits columns.now row) }
+        × FitsColumns columns.now row) }
 {
     match columns.split_first() {
         None => Ok(()),
@@ -136,7 +136,7 @@ fn push_cells(columns: &[Column], i: u32, cells: &mut Vec<Cell>) -> Result<(), N
 
 /// The cells of the row of this index.
 pub(crate) fn cells_of(alloc: Global, schema: &Schema, i: u32) -> Result<Vec<Cell>, NoMemory>
-    ensures { IfOk result (λ cells. Fits schema.now cells.items) }
+    ensures { IfOk result (λ cells. FitsColumns schema.now cells.items) }
 {
     let mut cells = Vec::new(alloc);
     match push_cells(schema.as_slice(), i, &mut cells) {

@@ -2,7 +2,7 @@
 use Rattle.std.proofs.Common.{◌≤◌, ◌<◌, ◌+◌, ◌*◌, ℕ, length, arith}
 use Rattle.ob_base.specs.Numbers.{blocks_for}
 use Rattle.ob_store.specs.State.{StoreState}
-use Rattle.ob_store.specs.Calls.{Rests}
+use Rattle.ob_store.specs.Calls.{ChangesNothing}
 use Rattle.ob_vault.specs.State.{VaultState}
 use Rattle.ob_vault.specs.Words.{MayStart, StartsAnew}
 use Rattle.ob_vault.proofs.WorldSteps.{world}
@@ -13,7 +13,7 @@ use Rattle.ob_flat.specs.Words.{HasSpare}
 pub few_blocks : (pack capacity : ℕ) → capacity ≤ 16777216 → 4 * blocks_for pack capacity + 2 ≤ 100000000
 few_blocks pack capacity few = grind arith
 
-module _ (v : VaultState) (s t : StoreState) (rests : Rests s t) (ready : StartsAnew (world v s)) (n : ℕ) (spare : n ≤ t.spare) where
+module _ (v : VaultState) (s t : StoreState) (rests : ChangesNothing s t) (ready : StartsAnew (world v s)) (n : ℕ) (spare : n ≤ t.spare) where
   pub spare_rests : HasSpare n (world v t)
   spare_rests = record { ready = ready_rests v s t rests ready.ready; spare = spare }
 

@@ -6,7 +6,7 @@ use Rattle.ob_base.specs.declared.schema.Kind.{Kind}
 use Rattle.ob_base.specs.declared.schema.Kind.TheVariants as Kinds
 use Rattle.ob_base.specs.Schemas.{Columns}
 use Rattle.ob_row.specs.declared.cell.Cell.TheVariants.{Int}
-use Rattle.ob_row.specs.Spelling.{Fits}
+use Rattle.ob_row.specs.Spelling.{FitsColumns}
 use Rattle.ob_vault.specs.State.{World}
 use Rattle.ob_flat.specs.declared.flat.Flat.{Flat}
 use Rattle.ob_flat.specs.Flats.{IsFlat}
@@ -22,7 +22,7 @@ ints_of first second key = column_of first Kinds.Int key ∷ column_of second Ki
 -- a table of these columns takes any two integers as a row
 abbrev pub TakesInts : Columns → Type 0
 TakesInts columns = (x y : ℤ) → FitsSigned w64 x → FitsSigned w64 y
-    → Fits columns (Int x ∷ Int y ∷ [])
+    → FitsColumns columns (Int x ∷ Int y ∷ [])
 
 -- and any integer as the second cell of one
 abbrev pub SetsSecond : Columns → Type 0

@@ -5,7 +5,7 @@ ghost use Rattle.ob_base.specs.Schemas.{width};
 ghost use Rattle.ob_vault.specs.Places.{at};
 ghost use Rattle.ob_vault.specs.Words.{StartsAnew};
 ghost use Rattle.ob_row.specs.declared.cell.Cell.TheVariants.{Int as IntCell, Text as TextCell};
-ghost use Rattle.ob_row.specs.Spelling.{Fits as FitColumns, FitsText};
+ghost use Rattle.ob_row.specs.Spelling.{FitsColumns as FitColumns, FitsText};
 ghost use Rattle.ob_blocks.specs.Idle.{IsIdle};
 ghost use Rattle.ob_flat.specs.Flats.{IsSized};
 

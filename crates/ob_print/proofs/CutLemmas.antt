@@ -2,11 +2,11 @@
 use Rattle.std.proofs.Common.{ℕ, List, [], ◌++◌, Option, refl, sym, ap, ◌∙◌, inl, inr, append_assoc, append-nil}
 use Rattle.std.specs.Io.KnownBytes.{Appends}
 use Rattle.std.proofs.KnownBytes.{Appends-trans}
-use Rattle.ob_print.specs.Cuts.{Cut}
+use Rattle.ob_print.specs.Cuts.{Outputs}
 
 -- what was written whole, and then what was cut
-pub Cut-after : {w0 w1 w2 : Option (List ℕ)} {F : Type 0} (a : List ℕ) {b : List ℕ} → Appends w0 w1 a → Cut w1 w2 F b → Cut w0 w2 F (a ++ b)
-Cut-after a {b = b} p q = record {
+pub Outputs-after : {w0 w1 w2 : Option (List ℕ)} {F : Type 0} (a : List ℕ) {b : List ℕ} → Appends w0 w1 a → Outputs w1 w2 F b → Outputs w0 w2 F (a ++ b)
+Outputs-after a {b = b} p q = record {
   grown = a ++ q.grown;
   appends = Appends-trans _ _ _ _ _ p q.appends;
   prefix = record { lost = q.prefix.lost; whole = ap (λ (l : List ℕ). a ++ l) q.prefix.whole ∙ sym (append_assoc a q.grown q.prefix.lost) };
@@ -14,20 +14,20 @@ Cut-after a {b = b} p q = record {
 }
 
 -- all of it was written
-pub Cut-whole : (w0 w1 : Option (List ℕ)) (F : Type 0) (a : List ℕ) → Appends w0 w1 a → Cut w0 w1 F a
-Cut-whole w0 w1 F a p = record { grown = a; appends = p; prefix = record { lost = []; whole = sym (append-nil a) }; all = inl refl }
+pub Outputs-whole : (w0 w1 : Option (List ℕ)) (F : Type 0) (a : List ℕ) → Appends w0 w1 a → Outputs w0 w1 F a
+Outputs-whole w0 w1 F a p = record { grown = a; appends = p; prefix = record { lost = []; whole = sym (append-nil a) }; all = inl refl }
 
 -- it was cut for another reason
-pub Cut-fault : {w0 w1 : Option (List ℕ)} {F G : Type 0} {a : List ℕ} → G → Cut w0 w1 F a → Cut w0 w1 G a
-Cut-fault g q = record { grown = q.grown; appends = q.appends; prefix = q.prefix; all = inr g }
+pub Outputs-fault : {w0 w1 : Option (List ℕ)} {F G : Type 0} {a : List ℕ} → G → Outputs w0 w1 F a → Outputs w0 w1 G a
+Outputs-fault g q = record { grown = q.grown; appends = q.appends; prefix = q.prefix; all = inr g }
 
 -- the fault has a cause of its own
-pub Cut-by : {w0 w1 : Option (List ℕ)} {F G : Type 0} {a : List ℕ} → (F → G) → Cut w0 w1 F a → Cut w0 w1 G a
-Cut-by by q = record { grown = q.grown; appends = q.appends; prefix = q.prefix; all = elim q.all [ inl h ↦ inl h | inr f ↦ inr (by f) ] }
+pub Outputs-by : {w0 w1 : Option (List ℕ)} {F G : Type 0} {a : List ℕ} → (F → G) → Outputs w0 w1 F a → Outputs w0 w1 G a
+Outputs-by by q = record { grown = q.grown; appends = q.appends; prefix = q.prefix; all = elim q.all [ inl h ↦ inl h | inr f ↦ inr (by f) ] }
 
 -- what comes after a fault is lost
-pub Cut-more : {w0 w1 : Option (List ℕ)} {F : Type 0} {a : List ℕ} (b : List ℕ) → Cut w0 w1 F a → F → Cut w0 w1 F (a ++ b)
-Cut-more {a = a} b q f = record {
+pub Outputs-more : {w0 w1 : Option (List ℕ)} {F : Type 0} {a : List ℕ} (b : List ℕ) → Outputs w0 w1 F a → F → Outputs w0 w1 F (a ++ b)
+Outputs-more {a = a} b q f = record {
   grown = q.grown;
   appends = q.appends;
   prefix = record {

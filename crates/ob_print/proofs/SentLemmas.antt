@@ -4,7 +4,7 @@ use Rattle.std.specs.Prelude.{Result, Ok, Err, IsErr, OnOk}
 use Rattle.std.specs.Io.KnownBytes.{Appends}
 use Rattle.std.proofs.KnownBytes.{Appends-nil, Appends-trans}
 use Rattle.std.proofs.lemmas.List.{append_cancel_left}
-use Rattle.ob_print.specs.Cuts.{Cut}
+use Rattle.ob_print.specs.Cuts.{Outputs}
 use Rattle.ob_print.specs.Sent.{Sends}
 
 -- none of it came
@@ -16,7 +16,7 @@ pub Sends-waits : (w : Option (List ℕ)) (q0 q1 bytes : List ℕ) → q1 ≡ q0
 Sends-waits w q0 q1 bytes is = record { sent = []; appends = Appends-nil w; lost = []; joined = sym (append-nil q1 ∙ is); all = inl refl }
 
 -- all that waited was handed on, or after a fault a first part of it
-pub Sends-flush : {w0 w1 : Option (List ℕ)} {F : Type 0} (q0 q1 : List ℕ) → Cut w0 w1 F q0 → q1 ≡ [] → Sends w0 w1 q0 q1 F []
+pub Sends-flush : {w0 w1 : Option (List ℕ)} {F : Type 0} (q0 q1 : List ℕ) → Outputs w0 w1 F q0 → q1 ≡ [] → Sends w0 w1 q0 q1 F []
 Sends-flush q0 q1 cut none = record {
   sent = cut.grown;
   appends = cut.appends;
@@ -66,7 +66,7 @@ Sends-ok (Ok x) s = Sends-by (λ (h : false ≡ true). absurd (cc)) s
 Sends-ok (Err e) s = tt
 
 -- where nothing waited, the sink took a first part
-pub Sends-cut : {w0 w1 : Option (List ℕ)} {q0 q1 : List ℕ} {F : Type 0} (bytes : List ℕ) → q0 ≡ [] → Sends w0 w1 q0 q1 F bytes → Cut w0 w1 (Unit {0}) bytes
+pub Sends-cut : {w0 w1 : Option (List ℕ)} {q0 q1 : List ℕ} {F : Type 0} (bytes : List ℕ) → q0 ≡ [] → Sends w0 w1 q0 q1 F bytes → Outputs w0 w1 (Unit {0}) bytes
 Sends-cut {q1 = q1} bytes none s = record {
   grown = s.sent;
   appends = s.appends;
@@ -75,7 +75,7 @@ Sends-cut {q1 = q1} bytes none s = record {
 }
 
 -- a front of the rest came to wait, and all that waited was flushed
-pub Sends-step : {w0 w1 w2 : Option (List ℕ)} {q0 q1 q2 q3 : List ℕ} {F : Type 0} (done front : List ℕ) → Sends w0 w1 q0 q1 ⊥ done → q2 ≡ q1 ++ front → Cut w1 w2 F q2 → q3 ≡ []
+pub Sends-step : {w0 w1 w2 : Option (List ℕ)} {q0 q1 q2 q3 : List ℕ} {F : Type 0} (done front : List ℕ) → Sends w0 w1 q0 q1 ⊥ done → q2 ≡ q1 ++ front → Outputs w1 w2 F q2 → q3 ≡ []
     → Sends w0 w2 q0 q3 F (done ++ front)
 Sends-step {w0 = w0} {w1 = w1} {w2 = w2} {q0 = q0} {q1 = q1} {q2 = q2} {q3 = q3} {F = F} done front so_far waits cut none =
     subst (λ (l : List ℕ). Sends w0 w2 q0 q3 F (done ++ l)) (append-nil front) (Sends-then done (front ++ []) so_far (Sends-then front [] (Sends-waits w1 q1 q2 front waits) (Sends-flush q2 q3 cut none)))
@@ -86,13 +86,13 @@ rest_behind piece done rest front later n is before after =
     is ∙ ap (λ (l : List ℕ). done ++ l) (sym (take-append-drop n rest) ∙ (λ i. sym before i ++ sym after i)) ∙ sym (append_assoc done front later)
 
 -- ---- nothing waited before, and what waits is flushed
-whole_of : {w0 w1 : Option (List ℕ)} {F : Type 0} {bytes : List ℕ} → Cut w0 w1 F bytes → ¬ F → Appends w0 w1 bytes
+whole_of : {w0 w1 : Option (List ℕ)} {F : Type 0} {bytes : List ℕ} → Outputs w0 w1 F bytes → ¬ F → Appends w0 w1 bytes
 whole_of {w0 = w0} {w1 = w1} cut not = elim cut.all [
   | inl same ↦ subst (λ (l : List ℕ). Appends w0 w1 l) same cut.appends
   | inr fault ↦ absurd (not fault)
 ]
 
-pub flushed : {w0 w1 w2 : Option (List ℕ)} {q0 q1 : List ℕ} {F : Type 0} (bytes : List ℕ) → q0 ≡ [] → Sends w0 w1 q0 q1 ⊥ bytes → Cut w1 w2 F q1 → Cut w0 w2 F bytes
+pub flushed : {w0 w1 w2 : Option (List ℕ)} {q0 q1 : List ℕ} {F : Type 0} (bytes : List ℕ) → q0 ≡ [] → Sends w0 w1 q0 q1 ⊥ bytes → Outputs w1 w2 F q1 → Outputs w0 w2 F bytes
 flushed {q0 = q0} {q1 = q1} bytes none s cut =
     let all : bytes ≡ s.sent ++ q1 = ap (λ (l : List ℕ). l ++ bytes) (sym none) ∙ s.joined ∙ ap (λ (l : List ℕ). (s.sent ++ q1) ++ l) (none_lost s) ∙ append-nil (s.sent ++ q1) in
     record {
@@ -106,15 +106,15 @@ flushed {q0 = q0} {q1 = q1} bytes none s cut =
     }
 
 -- all of it was taken
-pub flushed_whole : {w0 w1 w2 : Option (List ℕ)} {q0 q1 : List ℕ} {F : Type 0} (bytes : List ℕ) → q0 ≡ [] → Sends w0 w1 q0 q1 ⊥ bytes → Cut w1 w2 F q1 → ¬ F → Appends w0 w2 bytes
+pub flushed_whole : {w0 w1 w2 : Option (List ℕ)} {q0 q1 : List ℕ} {F : Type 0} (bytes : List ℕ) → q0 ≡ [] → Sends w0 w1 q0 q1 ⊥ bytes → Outputs w1 w2 F q1 → ¬ F → Appends w0 w2 bytes
 flushed_whole bytes none s cut not = whole_of (flushed bytes none s cut) not
 
-pub flushed_ok : {T E : Type 0} {w0 w1 w2 : Option (List ℕ)} {q0 q1 : List ℕ} (r : Result T E) (bytes : List ℕ) → q0 ≡ [] → Sends w0 w1 q0 q1 ⊥ bytes → Cut w1 w2 (IsErr r) q1 → OnOk r (Appends w0 w2 bytes)
+pub flushed_ok : {T E : Type 0} {w0 w1 w2 : Option (List ℕ)} {q0 q1 : List ℕ} (r : Result T E) (bytes : List ℕ) → q0 ≡ [] → Sends w0 w1 q0 q1 ⊥ bytes → Outputs w1 w2 (IsErr r) q1 → OnOk r (Appends w0 w2 bytes)
 flushed_ok (Ok x) bytes none s cut = flushed_whole bytes none s cut (λ (h : false ≡ true). absurd (cc))
 flushed_ok (Err e) bytes none s cut = tt
 
 -- a first part of it was taken
-pub flushed_cut : {w0 w1 w2 : Option (List ℕ)} {q0 q1 : List ℕ} {F G : Type 0} (bytes : List ℕ) → q0 ≡ [] → Sends w0 w1 q0 q1 G bytes → Cut w1 w2 F q1 → Cut w0 w2 (Unit {0}) bytes
+pub flushed_cut : {w0 w1 w2 : Option (List ℕ)} {q0 q1 : List ℕ} {F G : Type 0} (bytes : List ℕ) → q0 ≡ [] → Sends w0 w1 q0 q1 G bytes → Outputs w1 w2 F q1 → Outputs w0 w2 (Unit {0}) bytes
 flushed_cut {q0 = q0} {q1 = q1} bytes none s cut = record {
   grown = s.sent ++ cut.grown;
   appends = Appends-trans _ _ _ _ _ s.appends cut.appends;

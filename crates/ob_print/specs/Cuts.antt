@@ -8,7 +8,7 @@ pub record IsCutOf (grown bytes : List ℕ) : Type 0 where
   pub whole : bytes ≡ grown ++ lost
 
 -- a sink took these bytes, or after a fault a first part of them
-pub record Cut (written0 written1 : Option (List ℕ)) (Fault : Type 0) (bytes : List ℕ) : Type 0 where
+pub record Outputs (written0 written1 : Option (List ℕ)) (Fault : Type 0) (bytes : List ℕ) : Type 0 where
   pub grown : List ℕ
   pub appends : Appends written0 written1 grown
   pub prefix : IsCutOf grown bytes

@@ -1,6 +1,6 @@
 ghost use Rattle.std.specs.Prelude.{◌≡◌, ◌+◌, ◌≤◌, [], length, IsErr, IsOk};
 ghost use Rattle.ob_io.specs.Causes.{HasCause};
-ghost use Rattle.ob_print.specs.Cuts.{Cut};
+ghost use Rattle.ob_print.specs.Cuts.{Outputs};
 ghost use Rattle.ob_print.specs.Sent.{Sends};
 
 use crate::write::write_all;
@@ -55,8 +55,8 @@ impl<'a, K: Sink> Pieces<'a, K> {
     pub fn flush(&mut self) -> Result<(), Failed>
         ensures same_sink { self.new.out.ghost_name ≡ self.old.out.ghost_name }
         ensures empty { self.new.waiting.items ≡ [] }
-        ensures cut { Cut (K.written self.old.out.now) (K.written self.new.out.now) (IsErr result)
-            self.old.waiting.items }
+        ensures cut { Outputs (K.written self.old.out.now) (K.written self.new.out.now)
+            (IsErr result) self.old.waiting.items }
         ensures cause { HasCause (K.faults self.old.out.now) (K.faults self.new.out.now) result }
     {
         let ran = write_all(self.out, self.waiting.as_slice());

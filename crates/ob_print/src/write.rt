@@ -1,7 +1,7 @@
 ghost use Rattle.std.specs.Prelude.{◌≡◌, ◌<◌, [], OnOk, IsErr, IsOk};
 ghost use Rattle.std.specs.Io.KnownBytes.{Appends};
 ghost use Rattle.ob_io.specs.Causes.{HasCause};
-ghost use Rattle.ob_print.specs.Cuts.{Cut};
+ghost use Rattle.ob_print.specs.Cuts.{Outputs};
 
 use ob_base::Failed;
 use ob_io::Sink;
@@ -10,7 +10,7 @@ use ob_io::Sink;
 pub fn write_all<K: Sink>(out: &mut K, piece: &[u8]) -> Result<(), Failed>
     ensures ok { OnOk result (Appends (K.written out.old) (K.written out.new) piece.now) }
     ensures empty { piece.now ≡ [] → IsOk result }
-    ensures cut { Cut (K.written out.old) (K.written out.new) (IsErr result) piece.now }
+    ensures cut { Outputs (K.written out.old) (K.written out.new) (IsErr result) piece.now }
     ensures cause { HasCause (K.faults out.old) (K.faults out.new) result }
 {
     let mut rest = piece;

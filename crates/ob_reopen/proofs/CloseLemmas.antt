@@ -11,7 +11,7 @@ use Rattle.ob_vault.specs.declared.region.Order.TheVariants.{Round}
 use Rattle.ob_vault.specs.State.{Start, World, earlier}
 use Rattle.ob_vault.specs.Numbers.{spent}
 use Rattle.ob_vault.specs.Tied.{Ready}
-use Rattle.ob_vault.specs.Calls.{Went, Cut, one}
+use Rattle.ob_vault.specs.Calls.{Went, CutShort, one}
 use Rattle.ob_vault.specs.VaultCalls.{MakesRegion, Forgets}
 use Rattle.ob_vault.proofs.Runs.{went_join, cut_after, cut_more, tells_went, seals_join}
 use Rattle.ob_reopen.specs.declared.closing.Closing.{Closing}
@@ -44,7 +44,7 @@ module _ (pack : ℕ) (listed : List Listed) (a b : World) where
       let same : vault_error r ≡ e = ap vault_error is ∙ same_error e makes.never in
       record {
         ok = tt;
-        err = subst (λ (d : VaultErr). Cut d (making ++ filling) (one a.vault.next) a b) (sym same) (cut_more (one a.vault.next) a b e making filling makes.err);
+        err = subst (λ (d : VaultErr). CutShort d (making ++ filling) (one a.vault.next) a b) (sym same) (cut_more (one a.vault.next) a b e making filling makes.err);
         memory = λ memory. makes.err.began;
         value = tt;
         gone = makes.gone;
@@ -112,7 +112,7 @@ module _ (pack : ℕ) (listed : List Listed) (a b : World) where
       pub unwritten : WritesClosing pack listed (Err r) a d
       unwritten = record {
         ok = tt;
-        err = subst (λ (x : CloseErr). Cut (vault_error x) (making ++ filling) (one a.vault.next) a d) (sym failed)
+        err = subst (λ (x : CloseErr). CutShort (vault_error x) (making ++ filling) (one a.vault.next) a d) (sym failed)
             (cut_forgot (making ++ filling) (one a.vault.next) a c d (cut_after (one a.vault.next) a b c VaultErrs.Failed making filling makes.ok cut_off.err)
             (dropped.went cut_off.err.lasts.ready) store);
         memory = λ memory. absurd (cc (failed, memory));

@@ -9,7 +9,7 @@ use Rattle.ob_vault.specs.declared.fault.VaultErr.TheVariants as VaultErrs
 use Rattle.ob_vault.specs.State.{World}
 use Rattle.ob_vault.specs.Rows.{joined}
 use Rattle.ob_vault.specs.Tied.{Ready, Lives, Holds}
-use Rattle.ob_vault.specs.Calls.{Went, Cause, Seals, Opened, none}
+use Rattle.ob_vault.specs.Calls.{Went, Cause, Seals, Unsealed, none}
 use Rattle.ob_vault.specs.VaultCalls.{Gets}
 use Rattle.ob_vault.specs.Words.{SealsAll}
 use Rattle.ob_vault.proofs.Runs.{went_none, went_join, went_each, seals_none, seals_join, lives_went, holds_went, none_went}
@@ -112,7 +112,7 @@ module _ (closing : Closing) (place : ℕ) (listed : List Listed) (before after 
       no_row : IsNoRow closing place new
       no_row = record {
         bytes = bytes;
-        opened = subst (λ (b : List ℕ). Opened closing.region place b new) is (gets.opened (closing_region closing) lives);
+        opened = subst (λ (b : List ℕ). Unsealed closing.region place b new) is (gets.opened (closing_region closing) lives);
         before = listed;
         listed = so_far.are;
         count = so_far.count;

@@ -10,7 +10,7 @@ use Rattle.ob_vault.specs.declared.fault.VaultErr.{VaultErr}
 use Rattle.ob_vault.specs.declared.fault.VaultErr.TheVariants as VaultErrs
 use Rattle.ob_vault.specs.declared.region.Region.{Region}
 use Rattle.ob_vault.specs.State.{World}
-use Rattle.ob_vault.specs.Calls.{Went, Cut, Cause, one}
+use Rattle.ob_vault.specs.Calls.{Went, CutShort, Cause, one}
 use Rattle.ob_vault.specs.Resuming.{ResumesRegion, open_at}
 use Rattle.ob_vault.proofs.Resumed.{stays_lasts, stays_trans, stays_wider}
 use Rattle.ob_reopen.specs.declared.fault.OpenErr.{OpenErr}
@@ -31,7 +31,7 @@ asks_of VaultErrs.Failed a b asks off = asks (λ no. cc no)
 asks_of (VaultErrs.Tampered q p) a b asks off = asks (λ no. cc no)
 asks_of VaultErrs.NoMemory a b asks off = absurd (off refl)
 
-pub opens_cut : (e : VaultErr) (x : List Access) (some : ℕ → Type 0) (a b : World) → Cut e x some a b → OpensPart (open_error e) x some a b
+pub opens_cut : (e : VaultErr) (x : List Access) (some : ℕ → Type 0) (a b : World) → CutShort e x some a b → OpensPart (open_error e) x some a b
 opens_cut e x some a b cut = record { stays = stays_lasts cut.lasts; began = cut.began; asks = asks_of e a b cut.asks; cause = cause_of e a b cut.cause }
 
 -- ---- an earlier run's region

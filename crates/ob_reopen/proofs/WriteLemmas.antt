@@ -15,7 +15,7 @@ use Rattle.ob_vault.specs.declared.fault.VaultErr.TheVariants as VaultErrs
 use Rattle.ob_vault.specs.State.{World}
 use Rattle.ob_vault.specs.Rows.{joined}
 use Rattle.ob_vault.specs.Tied.{Ready, Lives, OnTurn, Holds, at_of}
-use Rattle.ob_vault.specs.Calls.{Went, Cut, Seals, one}
+use Rattle.ob_vault.specs.Calls.{Went, CutShort, Seals, one}
 use Rattle.ob_vault.specs.VaultCalls.{Puts}
 use Rattle.std.proofs.lemmas.List.{append-nil}
 use Rattle.std.proofs.lemmas.Bool.Decides.{nat_tests}
@@ -152,7 +152,7 @@ same_error e (inl failed) = ap (λ (d : VaultErr). vault_error (close_error d)) 
 same_error e (inr memory) = ap (λ (d : VaultErr). vault_error (close_error d)) memory ∙ sym memory
 
 -- after an error of the store the region is forgotten
-pub cut_forgot : (x : List Access) (some : ℕ → Type 0) (a b c : World) → Cut VaultErrs.Failed x some a b → Went [] some b c → c.store ≡ b.store → Cut VaultErrs.Failed x some a c
+pub cut_forgot : (x : List Access) (some : ℕ → Type 0) (a b c : World) → CutShort VaultErrs.Failed x some a b → Went [] some b c → c.store ≡ b.store → CutShort VaultErrs.Failed x some a c
 cut_forgot x some a b c cut went same = record {
   lasts = lasts_trans some a b c cut.lasts went.lasts;
   began = subst (λ (s : StoreState). Began x a.store s) (sym same) cut.began;

@@ -11,7 +11,7 @@ use Rattle.ob_vault.specs.declared.fault.VaultErr.TheVariants as VaultErrs
 use Rattle.ob_vault.specs.State.{World, from_earlier}
 use Rattle.ob_vault.specs.Numbers.{spent}
 use Rattle.ob_vault.specs.Tied.{Ready, Lives, Written, OnTurn, Holds, Calm, EndsAt}
-use Rattle.ob_vault.specs.Calls.{Seals, EndsRead, Unfit, Opened, none, one}
+use Rattle.ob_vault.specs.Calls.{Seals, EndsRead, Unfit, Unsealed, none, one}
 use Rattle.ob_vault.specs.Resuming.{Unasked, Stays, KeptSealed, open_at}
 use Rattle.ob_vault.specs.Words.{IsHonest, SealsAll}
 use Rattle.ob_reopen.specs.declared.closing.Closing.{Closing}
@@ -110,7 +110,7 @@ AddsRow closing (suc p) bytes before after = AddsTable closing bytes before afte
 -- tables, and what it lists can't go on them
 pub record IsNoRow (closing : Closing) (place : ℕ) (w : World) : Type 0 where
   pub bytes : List ℕ
-  pub opened : Opened closing.region place bytes w
+  pub opened : Unsealed closing.region place bytes w
   pub before : List Listed
   pub listed : AreListed closing before
   pub count : length before ≡ place - 1

@@ -12,7 +12,7 @@ use Rattle.ob_vault.specs.declared.fault.VaultErr.TheVariants as VaultErrs
 use Rattle.ob_vault.specs.declared.region.Region.{Region}
 use Rattle.ob_vault.specs.State.{RevState, World}
 use Rattle.ob_vault.specs.Tied.{Lives, Holds}
-use Rattle.ob_vault.specs.Calls.{Went, Cut, Seals, one}
+use Rattle.ob_vault.specs.Calls.{Went, CutShort, Seals, one}
 use Rattle.ob_reopen.specs.declared.closing.Closing.{Closing}
 use Rattle.ob_reopen.specs.declared.fault.CloseErr.{CloseErr}
 use Rattle.ob_reopen.specs.declared.fault.CloseErr.TheVariants.{Failed, NoMemory}
@@ -90,7 +90,7 @@ pub record FillsClosing {T : Type 0} (region : ℕ) (listed : List Listed)
     (result : Result T VaultErr) (old new : World) : Type 0 where
   pub ok : OnOk result (Went (each (length listed + 1) (write_at region)) (one region) old new)
   pub err : IfErr result (λ e.
-      Cut e (each (length listed + 1) (write_at region)) (one region) old new)
+      CutShort e (each (length listed + 1) (write_at region)) (one region) old new)
   pub never : IfErr result (λ e. e ≡ VaultErrs.Failed)
   pub seals : (good : ℕ → List ℕ → Bool)
       → ((p : ℕ) → p < length listed + 1 → IsTrue (good region (row_of region listed p)))
@@ -106,7 +106,7 @@ pub record WritesClosing (pack : ℕ) (listed : List Listed) (result : Result Cl
     (old new : World) : Type 0 where
   pub ok : OnOk result
       (Went (write_script (next_closing pack listed old)) (one old.vault.next) old new)
-  pub err : IfErr result (λ e. Cut (vault_error e)
+  pub err : IfErr result (λ e. CutShort (vault_error e)
       (write_script (next_closing pack listed old)) (one old.vault.next) old new)
   pub memory : result ≡ Err NoMemory
       → Began (make_at old.vault.next (length listed + 1) 1024) old.store new.store

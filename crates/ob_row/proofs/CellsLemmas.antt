@@ -3,7 +3,7 @@ use Rattle.std.proofs.Common.{◌≡◌, ℕ, suc, Bool, true, false, List, [], 
 use Rattle.std.specs.Bool.{OnTrue}
 use Rattle.ob_base.specs.declared.schema.Column.{Column}
 use Rattle.ob_base.specs.Schemas.{Columns}
-use Rattle.ob_row.specs.Spelling.{Fits}
+use Rattle.ob_row.specs.Spelling.{FitsColumns}
 use Rattle.ob_row.specs.declared.cell.Cell.{Cell}
 use Rattle.ob_row.specs.Rows.{Row}
 use Rattle.ob_row.specs.Fields.{HoldsCell}
@@ -20,7 +20,7 @@ pub more_cells : (c : Column) (cs columns : Columns) (all field fields : List �
 more_cells c cs columns all field fields e f h false k = tt
 more_cells c cs columns all field fields e f h true k = one_more c cs columns all field fields e f h k
 
-pub length-row : (cs : Columns) (row : Row) → Fits cs row → length row ≡ length cs
+pub length-row : (cs : Columns) (row : Row) → FitsColumns cs row → length row ≡ length cs
 length-row [] [] h = refl
 length-row [] (x ∷ row) h = absurd h
 length-row (c ∷ cs) [] h = absurd h

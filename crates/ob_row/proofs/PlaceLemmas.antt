@@ -14,7 +14,7 @@ use Rattle.ob_row.specs.declared.cell.Cell.{Cell}
 use Rattle.ob_row.specs.declared.cell.Cell.TheVariants.{Int, Text}
 use Rattle.ob_row.specs.Fields.{HoldsCell}
 use Rattle.ob_row.specs.Rows.{Row, cell_eq}
-use Rattle.ob_row.specs.Spelling.{Fits, FitsKind, Begins, kind_at, cell_bytes, cells_bytes, cells_width, row_bytes}
+use Rattle.ob_row.specs.Spelling.{FitsColumns, FitsKind, Begins, kind_at, cell_bytes, cells_bytes, cells_width, row_bytes}
 use Rattle.ob_row.proofs.SpellingLemmas.{length-cell_bytes, cell_bytes-same, row_bytes-begin}
 use Rattle.ob_row.proofs.CellsLemmas.{length-row}
 
@@ -36,7 +36,7 @@ pub record Located (columns : Columns) (row : Row) (i : ℕ) (bytes : List ℕ) 
   pub is : slice_get row i ≡ Some cell
   pub field : HoldsCell (kind_at columns i) cell (take (kind_width (kind_at columns i)) bytes)
 
-pub located : (cs : Columns) (row : Row) (i : ℕ) (behind : List ℕ) → Fits cs row → i < length cs → Located cs row i (drop (cells_width (take i cs)) (cells_bytes cs row ++ behind))
+pub located : (cs : Columns) (row : Row) (i : ℕ) (behind : List ℕ) → FitsColumns cs row → i < length cs → Located cs row i (drop (cells_width (take i cs)) (cells_bytes cs row ++ behind))
 located [] row i behind fits below = absurd (omega (arith, below))
 located (c ∷ cs) [] i behind fits below = absurd fits
 located (c ∷ cs) (x ∷ row) zero behind fits below = record {
@@ -139,7 +139,7 @@ pub no_cell : (cs : Columns) (row : Row) (i : ℕ) (bytes : List ℕ) → Begins
 no_cell cs row i bytes begins past = slice_get_past row i (omega (arith, past, length-row cs row begins.fits))
 
 -- a row's bytes with those of one cell in their place
-put_in : (cs : Columns) (row : Row) (i : ℕ) (x : Cell) (behind : List ℕ) → Fits cs row → i < length cs → FitsKind (kind_at cs i) x
+put_in : (cs : Columns) (row : Row) (i : ℕ) (x : Cell) (behind : List ℕ) → FitsColumns cs row → i < length cs → FitsKind (kind_at cs i) x
     → take (cells_width (take i cs)) (cells_bytes cs row ++ behind) ++ (cell_bytes (kind_at cs i) x ++ drop (cells_width (take i cs) + kind_width (kind_at cs i)) (cells_bytes cs row ++ behind))
     ≡ cells_bytes cs (slice_set row i x) ++ behind
 put_in [] row i x behind fits below fit = absurd (omega (arith, below))
@@ -169,7 +169,7 @@ put_in (c ∷ cs) (y ∷ row) (suc i) x behind fits below fit =
     ∙ ap (λ (l : List ℕ). own ++ l) rest
     ∙ sym (append_assoc own (cells_bytes cs (slice_set row i x)) behind)
 
-fits_with : (cs : Columns) (row : Row) (i : ℕ) (x : Cell) → Fits cs row → i < length cs → FitsKind (kind_at cs i) x → Fits cs (slice_set row i x)
+fits_with : (cs : Columns) (row : Row) (i : ℕ) (x : Cell) → FitsColumns cs row → i < length cs → FitsKind (kind_at cs i) x → FitsColumns cs (slice_set row i x)
 fits_with [] row i x fits below fit = absurd (omega (arith, below))
 fits_with (c ∷ cs) [] i x fits below fit = absurd fits
 fits_with (c ∷ cs) (y ∷ row) zero x fits below fit = (fit, fits.1)

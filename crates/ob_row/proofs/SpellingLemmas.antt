@@ -16,7 +16,7 @@ use Rattle.ob_base.specs.Schemas.{Columns, kind_width, width}
 use Rattle.ob_row.specs.declared.cell.Cell.{Cell}
 use Rattle.ob_row.specs.declared.cell.Cell.TheVariants.{Int, Text}
 use Rattle.ob_row.specs.Rows.{Row}
-use Rattle.ob_row.specs.Spelling.{FitsKind, Fits, Spells, Begins, cell_bytes, cells_bytes, row_bytes, dummy_bytes}
+use Rattle.ob_row.specs.Spelling.{FitsKind, FitsColumns, Spells, Begins, cell_bytes, cells_bytes, row_bytes, dummy_bytes}
 
 pub length-cell_bytes : (k : Kind) (x : Cell) → FitsKind k x → length (cell_bytes k x) ≡ kind_width k
 length-cell_bytes IntKind (Int x) h = refl
@@ -58,7 +58,7 @@ cell_bytes-same (Varchar n) (Text s) (Text t) h l e = ap Text (text_bytes-same n
 cell_bytes-same (Varchar n) (Text s) (Int y) h l e = absurd l
 cell_bytes-same (Varchar n) (Int x) y h l e = absurd h
 
-pub cells_bytes-same : (cs : List Column) (a b : Row) → Fits cs a → Fits cs b → cells_bytes cs a ≡ cells_bytes cs b → a ≡ b
+pub cells_bytes-same : (cs : List Column) (a b : Row) → FitsColumns cs a → FitsColumns cs b → cells_bytes cs a ≡ cells_bytes cs b → a ≡ b
 cells_bytes-same [] [] [] h k e = refl
 cells_bytes-same [] [] (y ∷ b) h k e = absurd k
 cells_bytes-same [] (x ∷ a) b h k e = absurd h
@@ -69,10 +69,10 @@ cells_bytes-same (c ∷ cs) (x ∷ a) (y ∷ b) h k e =
     (λ t. cell_bytes-same c.kind x y h.0 k.0 p.front t ∷ cells_bytes-same cs a b h.1 k.1 p.back t)
 
 -- two rows of one schema with equal bytes are equal
-pub row_bytes-same : (s : Columns) (a b : Row) → Fits s a → Fits s b → row_bytes s a ≡ row_bytes s b → a ≡ b
+pub row_bytes-same : (s : Columns) (a b : Row) → FitsColumns s a → FitsColumns s b → row_bytes s a ≡ row_bytes s b → a ≡ b
 row_bytes-same s a b h k e = let r : cells_bytes s a ≡ cells_bytes s b = cc in cells_bytes-same s a b h k r
 
-length-cells_bytes : (cs : List Column) (a : Row) → Fits cs a → length (cells_bytes cs a) ≡ sum_by (λ (c : Column). kind_width c.kind) cs
+length-cells_bytes : (cs : List Column) (a : Row) → FitsColumns cs a → length (cells_bytes cs a) ≡ sum_by (λ (c : Column). kind_width c.kind) cs
 length-cells_bytes [] [] h = refl
 length-cells_bytes [] (x ∷ a) h = absurd h
 length-cells_bytes (c ∷ cs) [] h = absurd h
@@ -81,7 +81,7 @@ length-cells_bytes (c ∷ cs) (x ∷ a) h =
     let r = length-cells_bytes cs a h.1 in
     length-append (cell_bytes c.kind x) (cells_bytes cs a) ∙ (λ t. e t + r t) ∙ sym (sum_by-cons (λ (c : Column). kind_width c.kind) c cs)
 
-pub length-row_bytes : (s : Columns) (a : Row) → Fits s a → length (row_bytes s a) ≡ width s
+pub length-row_bytes : (s : Columns) (a : Row) → FitsColumns s a → length (row_bytes s a) ≡ width s
 length-row_bytes s a h = let e = length-cells_bytes s a h in omega arith
 
 -- no row is spelt as a dummy
@@ -91,7 +91,7 @@ row_bytes-not_dummy s a e = not_dummy (sum_by (λ (c : Column). kind_width c.kin
   not_dummy n bs e = let f : 1 ∷ bs ≡ replicate (suc n) 0 = rw one-add at e in cc
 
 -- what stands behind a row doesn't count
-pub row_bytes-begin : (s : Columns) (a : Row) (behind : List ℕ) → Fits s a → Begins s (Some a) (row_bytes s a ++ behind)
+pub row_bytes-begin : (s : Columns) (a : Row) (behind : List ℕ) → FitsColumns s a → Begins s (Some a) (row_bytes s a ++ behind)
 row_bytes-begin s a behind h =
     record { fits = h; is = ap (λ n. take n (row_bytes s a ++ behind)) (sym (length-row_bytes s a h)) ∙ take-append_seam (row_bytes s a) behind }
 

@@ -31,11 +31,11 @@ abbrev pub kind_at : Columns → ℕ → Kind
 kind_at columns i = option_map_or (λ (c : Column). c.kind) (slice_get columns i) IntKind
 
 -- a cell for each column, of its kind
-abbrev pub Fits : Columns → Row → Type 0
-Fits [] [] = ⊤
-Fits [] (x ∷ xs) = ⊥
-Fits (c ∷ cs) [] = ⊥
-Fits (c ∷ cs) (x ∷ xs) = FitsKind c.kind x × Fits cs xs
+abbrev pub FitsColumns : Columns → Row → Type 0
+FitsColumns [] [] = ⊤
+FitsColumns [] (x ∷ xs) = ⊥
+FitsColumns (c ∷ cs) [] = ⊥
+FitsColumns (c ∷ cs) (x ∷ xs) = FitsKind c.kind x × FitsColumns cs xs
 
 -- an integer in two's complement, its highest byte first; a text behind its length, with zeros up to n bytes
 abbrev pub cell_bytes : Kind → Cell → List ℕ
@@ -67,7 +67,7 @@ slot_bytes columns (Some row) = row_bytes columns row
 
 -- the bytes spell this row, or none
 pub record Spells (columns : Columns) (slot : Option Row) (bytes : List ℕ) : Type 0 where
-  pub fits : IfSome slot (Fits columns)
+  pub fits : IfSome slot (FitsColumns columns)
   pub is : bytes ≡ slot_bytes columns slot
 
 -- the first bytes, as many as a row has, spell it; what stands behind them doesn't count

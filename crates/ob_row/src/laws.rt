@@ -2,17 +2,17 @@
 ghost use Rattle.std.specs.Prelude.{◌≡◌, ◌≢◌, ◌++◌, ℕ, List, Some, length};
 ghost use Rattle.ob_base.specs.Schemas.{Columns, width};
 ghost use Rattle.ob_row.specs.Rows.{Row};
-ghost use Rattle.ob_row.specs.Spelling.{Fits, Begins, row_bytes, dummy_bytes};
+ghost use Rattle.ob_row.specs.Spelling.{FitsColumns, Begins, row_bytes, dummy_bytes};
 
 /// Two rows of one schema with equal bytes are equal.
 pub fn one_spelling()
-    ensures { (columns : Columns) (a b : Row) → Fits columns a → Fits columns b
+    ensures { (columns : Columns) (a b : Row) → FitsColumns columns a → FitsColumns columns b
         → row_bytes columns a ≡ row_bytes columns b → a ≡ b }
 {}
 
 /// A row's bytes are as many as its schema's width.
 pub fn spelling_width()
-    ensures { (columns : Columns) (row : Row) → Fits columns row
+    ensures { (columns : Columns) (row : Row) → FitsColumns columns row
         → length (row_bytes columns row) ≡ width columns }
 {}
 
@@ -23,6 +23,6 @@ pub fn dummy_is_no_row()
 
 /// What was encoded is what is decoded.
 pub fn encoded_row()
-    ensures { (columns : Columns) (row : Row) (behind : List ℕ) → Fits columns row
+    ensures { (columns : Columns) (row : Row) (behind : List ℕ) → FitsColumns columns row
         → Begins columns (Some row) (row_bytes columns row ++ behind) }
 {}

@@ -3,7 +3,7 @@ ghost use Rattle.std.specs.Prelude.{◌≡◌, ◌≤◌, ◌<◌, ◌-◌, ◌+
 ghost use Rattle.std.specs.Bool.{OnTrue, OnFalse};
 ghost use Rattle.ob_base.specs.Schemas.{width};
 ghost use Rattle.ob_row.specs.Rows.{Row};
-ghost use Rattle.ob_row.specs.Spelling.{Fits, Spells, Begins, cells_bytes, cells_width, row_bytes};
+ghost use Rattle.ob_row.specs.Spelling.{FitsColumns, Spells, Begins, cells_bytes, cells_width, row_bytes};
 ghost use Rattle.ob_row.specs.Cells.{HoldsCells};
 ghost use Rattle.ob_row.specs.Truth.{is_true};
 ghost use Rattle.ob_row.specs.Slots.{is_selected};
@@ -37,7 +37,7 @@ pub fn width(schema: &Schema) -> u32
 
 // Writes the cells of a row, one after the other.
 fn put_cells(columns: &[Column], cells: &[Cell], fields: &mut [u8])
-    requires fits { Fits columns.now cells.now }
+    requires fits { FitsColumns columns.now cells.now }
     requires wide { length fields.old ≡ cells_width columns.now }
     ensures { fields.new ≡ cells_bytes columns.now cells.now }
 {
@@ -53,7 +53,7 @@ fn put_cells(columns: &[Column], cells: &[Cell], fields: &mut [u8])
 
 /// Writes a row's bytes, and zeros behind them.
 pub fn encode(schema: &Schema, cells: &[Cell], row: &mut ClearRow)
-    requires fits { Fits schema.now cells.now }
+    requires fits { FitsColumns schema.now cells.now }
     requires wide { width schema.now ≤ length row.old }
     ensures value { row.new ≡ row_bytes schema.now cells.now
         ++ replicate (length row.old - width schema.now) 0 }
@@ -64,7 +64,7 @@ pub fn encode(schema: &Schema, cells: &[Cell], row: &mut ClearRow)
 
 fn put_row(columns: &[Column], cells: &[Cell], bytes: &mut [u8])
     requires few { length columns.now ≤ 32 }
-    requires fits { Fits columns.now cells.now }
+    requires fits { FitsColumns columns.now cells.now }
     requires wide { width columns.now ≤ length bytes.old }
     ensures { bytes.new ≡ row_bytes columns.now cells.now
         ++ replicate (length bytes.old - width columns.now) 0 }

@@ -11,7 +11,7 @@ use Rattle.ob_vault.proofs.WorldSteps.{calm_none, reads_on}
 use Rattle.ob_flat.specs.declared.fault.OpErr.{OpErr}
 use Rattle.ob_flat.specs.declared.fault.OpErr.TheVariants as OpErrs
 use Rattle.ob_flat.specs.Passes.{PassCause, PassCut}
-use Rattle.ob_flat.specs.Words.{Ran}
+use Rattle.ob_flat.specs.Words.{PassRan}
 
 -- ---- a lie that was told by now was read by now
 pub calm_reads : (old new : World) (lie : Lie) → (Calm old → Calm new) → old.store.lie ≡ None → new.store.lie ≡ Some lie → ReadsIn lie new.store.asked
@@ -50,7 +50,7 @@ pub went_in : {some : ℕ → Type 0} (x more : List Access) (a b : World) (lie 
 went_in x more a b lie went none told =
     began_in x more a b lie (record { done = x; rest = []; split = append-nil x; asked = went.did.asked }) (calm_reads a b lie went.calm none told)
 
-pub ran_in : {T : Type 0} {some : ℕ → Type 0} (result : Result T OpErr) (x more : List Access) (a b : World) (lie : Lie) → Ran x some result a b → a.store.lie ≡ None → b.store.lie ≡ Some lie
+pub ran_in : {T : Type 0} {some : ℕ → Type 0} (result : Result T OpErr) (x more : List Access) (a b : World) (lie : Lie) → PassRan x some result a b → a.store.lie ≡ None → b.store.lie ≡ Some lie
     → ReadsIn lie (a.store.asked ++ (x ++ more))
 ran_in (Ok v) x more a b lie ran none told = went_in x more a b lie ran.ok none told
 ran_in (Err e) x more a b lie ran none told = cut_in e x more a b lie ran.err none told

@@ -8,7 +8,7 @@ use Rattle.ob_seal.specs.KeySet.{KeySet}
 use Rattle.ob_store.specs.State.{StoreState}
 use Rattle.ob_store.specs.Runs.{Began}
 use Rattle.ob_vault.specs.State.{Start, World}
-use Rattle.ob_vault.specs.Tied.{Fits, IsUnfit}
+use Rattle.ob_vault.specs.Tied.{TagFits, IsUnfit}
 use Rattle.ob_vault.specs.Calls.{Went, Lasts, Seals, none, one}
 use Rattle.ob_vault.proofs.Runs.{went_join, went_wider, none_went}
 use Rattle.ob_flat.specs.declared.fault.OpErr.{OpErr}
@@ -16,7 +16,7 @@ use Rattle.ob_flat.specs.declared.fault.OpErr.TheVariants.{Failed, Tampered, Sin
 use Rattle.ob_flat.specs.declared.flat.Flat.{Flat}
 use Rattle.ob_flat.specs.Discards.{Discards}
 use Rattle.ob_flat.specs.Emission.{SlotsToEnd, SlotsToHalt}
-use Rattle.ob_flat.specs.Words.{HasSpare, Ran, blocks_of}
+use Rattle.ob_flat.specs.Words.{HasSpare, PassRan, blocks_of}
 use Rattle.ob_script.proofs.Lengths.{length-count_part}
 use Rattle.ob_flat.proofs.Runs.{pass_more, pass_wider, pass_then}
 use Rattle.ob_flat.proofs.WordLemmas.{sealed_after}
@@ -41,7 +41,7 @@ ends_from grew cut NoMemory head shown more old new back same is =
 pub unfit_before : {some : ℕ → Type 0} {b c : World} → Lasts some b c → c.store ≡ b.store → IsUnfit c → IsUnfit b
 unfit_before {some} {b} {c} lasts same is = record {
   unfit = λ lie told fits. is.unfit lie (ap (λ (s : StoreState). s.lie) same ∙ told)
-      (subst (λ (k : KeySet). Fits k c.vault.start lie) (sym lasts.keys) (subst (λ (s : Start). Fits b.vault.keys s lie) (sym lasts.start) fits));
+      (subst (λ (k : KeySet). TagFits k c.vault.start lie) (sym lasts.keys) (subst (λ (s : Start). TagFits b.vault.keys s lie) (sym lasts.start) fits));
 }
 
 in_one : (r q : ℕ) → none q → one r q
@@ -64,7 +64,7 @@ module _ (pack : ℕ) (fresh : Flat) (a b c : World) where
   }
 
   module _ (went : Went [] (one fresh.region) b c) (same : c.store ≡ b.store) (gone : c.vault.revs.live fresh.region ≡ None) (seals : (good : ℕ → List ℕ → Bool) → Seals good b c) where
-    cut_off : {T : Type 0} (e : OpErr) → Ran {T = T} (count_part fresh.region (blocks_of pack fresh)) none (Err e) a b → Ran {T = T} (count_part fresh.region (blocks_of pack fresh) ++ discard_at fresh.region) (one fresh.region) (Err e) a c
+    cut_off : {T : Type 0} (e : OpErr) → PassRan {T = T} (count_part fresh.region (blocks_of pack fresh)) none (Err e) a b → PassRan {T = T} (count_part fresh.region (blocks_of pack fresh) ++ discard_at fresh.region) (one fresh.region) (Err e) a c
     cut_off e ran = record { ok = tt; err = pass_then (one fresh.region) e _ a b c (pass_more (one fresh.region) a b e (count_part fresh.region (blocks_of pack fresh)) (discard_at fresh.region) (pass_wider none a b (one fresh.region) (in_one fresh.region) e _ ran.err)) went same }
 
     pub walks_err : {T : Type 0} (e : OpErr) → Walks {T = T} pack fresh (Err e) a b → WalksResult {T = T} pack fresh (Err e) a c

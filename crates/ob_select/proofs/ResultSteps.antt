@@ -20,7 +20,7 @@ use Rattle.ob_script.specs.Parts.{count_part, emission_part}
 use Rattle.ob_script.proofs.Lengths.{length-count_part}
 use Rattle.ob_script.proofs.Numbers.{length-emission_part}
 use Rattle.ob_store.specs.State.{StoreState}
-use Rattle.ob_store.specs.Calls.{Rests}
+use Rattle.ob_store.specs.Calls.{ChangesNothing}
 use Rattle.ob_store.specs.Runs.{Began}
 use Rattle.ob_vault.specs.State.{VaultState, World}
 use Rattle.ob_vault.specs.Tied.{Ready}
@@ -34,7 +34,7 @@ use Rattle.ob_flat.specs.declared.flat.Flat.{Flat}
 use Rattle.ob_flat.specs.Emission.{SlotsToEnd, SlotsToHalt}
 use Rattle.ob_flat.specs.Flats.{IsSized, FitsRegion, Represents}
 use Rattle.ob_flat.specs.Passes.{SinkCause, is_of_access}
-use Rattle.ob_flat.specs.Words.{HasSpare, Ran, SealsTable, blocks_of}
+use Rattle.ob_flat.specs.Words.{HasSpare, PassRan, SealsTable, blocks_of}
 use Rattle.ob_flat.proofs.Resting.{represents_rests}
 use Rattle.ob_flat.proofs.Sinks.{none_before}
 use Rattle.ob_flat.proofs.WordLemmas.{ran_more, ran_after, ran_lasts}
@@ -146,7 +146,7 @@ module _ {E : Type 0} (grew cut : E → E → List Event → Type 0) (faults : E
   abbrev pub pack : ℕ
   pack = r.selection.public.pack
 
-  module _ (v : VaultState) (s t : StoreState) (rests : Rests s t) where
+  module _ (v : VaultState) (s t : StoreState) (rests : ChangesNothing s t) where
     -- no room for its accesses
     pub by_none : (out : E) → r.pad ≡ None → Ready (record { vault = v; store = s }) → 1 ≤ pack → SelectsBy grew cut faults r (Err NoMemory) (record { vault = v; store = s }) (record { vault = v; store = t }) out out
     by_none out unpadded ready some =
@@ -218,7 +218,7 @@ module _ {E : Type 0} (grew cut : E → E → List Event → Type 0) (faults : E
     -- the result was not made
     pub by_make : (e : OpErr) (out : E) → 1 ≤ blocks_of pack fresh → MakesResult r (Err e) old mid → SelectsBy grew cut faults r (Err e) old mid out out
     by_make e out least is = record {
-      ran = subst (λ (x : List Access). Ran {T = Selected} x (one g) (Err e) old mid) (whole_is r g some) (ran_more (make_part r g) script is.ran.err);
+      ran = subst (λ (x : List Access). PassRan {T = Selected} x (one g) (Err e) old mid) (whole_is r g some) (ran_more (make_part r g) script is.ran.err);
       some = is.some;
       gone = is.gone;
       spare = tt;
@@ -235,13 +235,13 @@ module _ {E : Type 0} (grew cut : E → E → List Event → Type 0) (faults : E
     }
 
     module _ (new : World) (placed : Placed) (made : MakesResult r (Ok placed) old mid) where
-      joined : {T : Type 0} (result : Result T OpErr) → Ran script (one g) result mid new → Ran (whole_part r g) (one g) result old new
-      joined result ran = subst (λ (x : List Access). Ran x (one g) result old new) (whole_is r g some) (ran_after result (make_part r g) script made.ran.ok ran)
+      joined : {T : Type 0} (result : Result T OpErr) → PassRan script (one g) result mid new → PassRan (whole_part r g) (one g) result old new
+      joined result ran = subst (λ (x : List Access). PassRan x (one g) result old new) (whole_is r g some) (ran_after result (make_part r g) script made.ran.ok ran)
 
-      abbrev end_mid : {T : Type 0} (result : Result T OpErr) → Ran script (one g) result mid new → PlannedToEnd r old new → PlannedToEnd r old mid
+      abbrev end_mid : {T : Type 0} (result : Result T OpErr) → PassRan script (one g) result mid new → PlannedToEnd r old new → PlannedToEnd r old mid
       end_mid result ran s = record { honest = honest_before (ran_lasts result ran) s.honest; slots = s.slots; is = s.is; suits = s.suits }
 
-      abbrev halt_mid : {T : Type 0} (result : Result T OpErr) → Ran script (one g) result mid new → PlannedToHalt r old new → PlannedToEnd r old mid
+      abbrev halt_mid : {T : Type 0} (result : Result T OpErr) → PassRan script (one g) result mid new → PlannedToHalt r old new → PlannedToEnd r old mid
       halt_mid result ran s = record {
         honest = record { tells = s.tells; nolie = none_before (one g) (one g) (make_part r g) old mid new made.ran.ok (ran_lasts result ran) s.nolie s.unfit };
         slots = s.slots;
@@ -252,7 +252,7 @@ module _ {E : Type 0} (grew cut : E → E → List Event → Type 0) (faults : E
       all_seals : {some : ℕ → Type 0} → Lasts some old mid → ((good : ℕ → List ℕ → Bool) → Seals good mid new) → SealsRows pack old new
       all_seals lasts more good fine = seals_join good old mid new lasts.later (seals_first made.seals good fine) (more good)
 
-      grown : {T : Type 0} (e : OpErr) → Ran {T = T} script (one g) (Err e) mid new → length old.store.asked < length new.store.asked
+      grown : {T : Type 0} (e : OpErr) → PassRan {T = T} script (one g) (Err e) mid new → length old.store.asked < length new.store.asked
       grown e ran = let few = began-few script mid new ran.err.began in omega (arith, few.1, went_length (one g) (make_part r g) old mid made.ran.ok, make-some r g)
 
       -- it was read back, and emitted

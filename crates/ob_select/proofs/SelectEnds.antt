@@ -25,7 +25,7 @@ use Rattle.ob_flat.specs.declared.fault.OpErr.{OpErr}
 use Rattle.ob_flat.specs.declared.fault.OpErr.TheVariants.{Failed, Tampered, Sink, NoMemory}
 use Rattle.ob_flat.specs.Counted.{CountsRows}
 use Rattle.ob_flat.specs.Passes.{PassCause, is_of_access}
-use Rattle.ob_flat.specs.Words.{Ran}
+use Rattle.ob_flat.specs.Words.{PassRan}
 use Rattle.ob_flat.proofs.Runs.{pass_more, pass_wider}
 use Rattle.ob_flat.proofs.Tables.{blocks_hold}
 use Rattle.ob_flat.proofs.WordLemmas.{ran_lasts}
@@ -69,7 +69,7 @@ pub on_err_of : {T F P : Type 0} (x : Result T F) → P → OnErr x P
 on_err_of (Ok v) h = tt
 on_err_of (Err e) h = h
 
-ran_long : {T : Type 0} {some : ℕ → Type 0} {x : List Access} {a b : World} (result : Result T OpErr) → Ran x some result a b → length a.store.asked ≤ length b.store.asked
+ran_long : {T : Type 0} {some : ℕ → Type 0} {x : List Access} {a b : World} (result : Result T OpErr) → PassRan x some result a b → length a.store.asked ≤ length b.store.asked
 ran_long {T} {some} {x} {a} {b} (Ok v) ran = omega (arith, went_length some x a b ran.ok)
 ran_long {T} {some} {x} {a} {b} (Err e) ran = (began-few x a b ran.err.began).1
 
@@ -114,7 +114,7 @@ module _ {E : Type 0} (grew cut : E → E → List Event → Type 0) (faults : E
     long = omega (arith, went_length none (counts_of q) old mid count, length-count_part q.flat.region (counted_after q))
 
     -- nothing was asked behind the count
-    ran_alone : (result : Result Selected OpErr) → IfErr result (λ e. (e ≡ Sink) ⊎ (e ≡ NoMemory)) → Ran (counts_of q ++ []) (from old.vault.next) result old mid
+    ran_alone : (result : Result Selected OpErr) → IfErr result (λ e. (e ≡ Sink) ⊎ (e ≡ NoMemory)) → PassRan (counts_of q ++ []) (from old.vault.next) result old mid
     ran_alone (Ok answer) never = record { ok = subst (λ (x : List Access). Went x (from old.vault.next) old mid) (sym (append-nil (counts_of q))) (went_wider none old mid (from old.vault.next) (none_from old.vault.next) (counts_of q) count); err = tt }
     ran_alone (Err e) never =
         let went = went_wider none old mid (from old.vault.next) (none_from old.vault.next) (counts_of q) count in
@@ -129,9 +129,9 @@ module _ {E : Type 0} (grew cut : E → E → List Event → Type 0) (faults : E
         cause Failed never = absurd (elim never [ inl e ↦ cc e | inr e ↦ cc e ])
         cause (Tampered r x) never = absurd (elim never [ inl e ↦ cc e | inr e ↦ cc e ])
 
-    by_script : (seen : Seen) (result : Result Selected OpErr) (new : World) → Ran (counts_of q ++ after_count q.public seen seen.k old.vault.next (extent_of (region_of q)) []) (from old.vault.next) result old new
-        → Ran (selection_script q seen old.vault.next) (from old.vault.next) result old new
-    by_script seen result new ran = subst (λ (x : List Access). Ran x (from old.vault.next) result old new) (sym (script_is q seen old.vault.next unpadded)) ran
+    by_script : (seen : Seen) (result : Result Selected OpErr) (new : World) → PassRan (counts_of q ++ after_count q.public seen seen.k old.vault.next (extent_of (region_of q)) []) (from old.vault.next) result old new
+        → PassRan (selection_script q seen old.vault.next) (from old.vault.next) result old new
+    by_script seen result new ran = subst (λ (x : List Access). PassRan x (from old.vault.next) result old new) (sym (script_is q seen old.vault.next unpadded)) ran
 
     is_count : IsCountOf q k
     is_count = record { unpadded = unpadded; most = is.most }

@@ -18,7 +18,7 @@ use Rattle.ob_store.specs.State.{Lie}
 use Rattle.ob_vault.specs.State.{World}
 use Rattle.ob_vault.specs.Tied.{ReadsIn, Ready}
 use Rattle.ob_vault.specs.Calls.{one}
-use Rattle.ob_flat.specs.Words.{Ran}
+use Rattle.ob_flat.specs.Words.{PassRan}
 use Rattle.ob_flat.specs.declared.fault.OpErr.{OpErr}
 use Rattle.ob_flat.specs.declared.fault.OpErr.TheVariants.{Failed, Sink, NoMemory}
 use Rattle.ob_flat.specs.Counted.{CountsRows}
@@ -118,7 +118,7 @@ module _ (q : Selection) (k : ℕ) (c : Bool) (plan : Plan) (old mid : World) (i
     )
   ]
 
-  pub first_begun : {T : Type 0} (ready : Ready old) (new : World) (result : Result T OpErr) → Ran (whole_part (planned q plan k) mid.vault.next) (one mid.vault.next) result mid new → (s : SelectsToEnd q old old)
+  pub first_begun : {T : Type 0} (ready : Ready old) (new : World) (result : Result T OpErr) → PassRan (whole_part (planned q plan k) mid.vault.next) (one mid.vault.next) result mid new → (s : SelectsToEnd q old old)
       → mid.store.lie ≡ None → (lie : Lie) → new.store.lie ≡ Some lie → ReadsIn lie (old.store.asked ++ selection_script q (selection_seen q s.slots) old.vault.next)
   first_begun ready new result ran s nolie lie told =
       let are = counted_is q k c plan old mid is s.slots s.is nolie in

@@ -29,7 +29,7 @@ use Rattle.ob_flat.specs.declared.fault.OpErr.{OpErr}
 use Rattle.ob_flat.specs.declared.fault.OpErr.TheVariants.{Failed, Sink, NoMemory}
 use Rattle.ob_flat.specs.Counted.{CountsRows}
 use Rattle.ob_flat.specs.Passes.{is_of_access}
-use Rattle.ob_flat.specs.Words.{Ran}
+use Rattle.ob_flat.specs.Words.{PassRan}
 use Rattle.ob_flat.proofs.Sinks.{none_before}
 use Rattle.ob_flat.proofs.Tables.{blocks_few}
 use Rattle.ob_flat.proofs.WordLemmas.{ran_lasts}
@@ -184,7 +184,7 @@ module _ (q : Selection) (pad : ℕ) (is_pad : q.public.pad ≡ Some pad) where
       ended_padded (Ok (Refused _)) answers = absurd answers
       ended_padded (Err e) answers = tt
 
-    begun_padded : {T : Type 0} (ready : Ready old) (new : World) (result : Result T OpErr) → Ran (whole_part r mid.vault.next) (one mid.vault.next) result mid new → (s : SelectsToEnd q old old)
+    begun_padded : {T : Type 0} (ready : Ready old) (new : World) (result : Result T OpErr) → PassRan (whole_part r mid.vault.next) (one mid.vault.next) result mid new → (s : SelectsToEnd q old old)
         → mid.store.lie ≡ None → (lie : Lie) → new.store.lie ≡ Some lie → ReadsIn lie (old.store.asked ++ selection_script q (selection_seen q s.slots) old.vault.next)
     begun_padded ready new result ran s nolie lie told =
         let part = whole_part r old.vault.next ++ [] in
@@ -202,7 +202,7 @@ module _ (q : Selection) (pad : ℕ) (is_pad : q.public.pad ≡ Some pad) where
         let same = next_counted q old mid may.ready count in
         let script = script_padded (seen_to Whole) old.vault.next k in
         record {
-          ran = subst (λ (x : List Access). Ran x (from old.vault.next) result old new) script (ran_first q old mid may.ready count result r new by.ran);
+          ran = subst (λ (x : List Access). PassRan x (from old.vault.next) result old new) script (ran_first q old mid may.ready count result r new by.ran);
           gone = none_again old.vault.next mid.vault.next mid new lasts by.gone (none_still old.vault.next old mid count.lasts (none_above old may.ready));
           spare = by.spare;
           seals = λ good fine. seals_join good old mid new count.lasts.later (is.seals.seals good) (by.seals good fine);

@@ -22,7 +22,7 @@ use Rattle.ob_vault.specs.declared.region.Region.{Region}
 use Rattle.ob_vault.specs.Calls.{Went, Lasts, none, one}
 use Rattle.ob_vault.proofs.Runs.{went_wider}
 use Rattle.ob_flat.specs.declared.fault.OpErr.{OpErr}
-use Rattle.ob_flat.specs.Words.{Ran, blocks_of}
+use Rattle.ob_flat.specs.Words.{PassRan, blocks_of}
 use Rattle.ob_flat.proofs.Runs.{pass_wider}
 use Rattle.ob_flat.proofs.WordLemmas.{ran_after}
 use Rattle.ob_select.specs.Memory.{AtMake, BeforeResult, HasCounted, is_reading, starts_with_make, ends_with_make}
@@ -30,7 +30,7 @@ use Rattle.ob_select.specs.Selecting.{Selection, region_of, selection_script, fr
 use Rattle.ob_select.specs.Results.{Planned, whole_part}
 
 -- ---- regions
-pub ran_wider : {T : Type 0} {some : ℕ → Type 0} (more : ℕ → Type 0) → ((x : ℕ) → some x → more x) → (r : Result T OpErr) (x : List Access) (a b : World) → Ran x some r a b → Ran x more r a b
+pub ran_wider : {T : Type 0} {some : ℕ → Type 0} (more : ℕ → Type 0) → ((x : ℕ) → some x → more x) → (r : Result T OpErr) (x : List Access) (a b : World) → PassRan x some r a b → PassRan x more r a b
 ran_wider {T} {some} more within (Ok v) x a b ran = record { ok = went_wider some a b more within x ran.ok; err = tt }
 ran_wider {T} {some} more within (Err e) x a b ran = record { ok = tt; err = pass_wider some a b more within e x ran.err }
 
@@ -93,20 +93,20 @@ script_is q seen g unpadded = ap (λ (pad : Option ℕ). counts_of q ++ behind_c
 
 module _ (q : Selection) (old mid : World) (ready : Ready old) (count : Went (count_part q.flat.region (blocks_of q.public.pack q.flat)) none old mid) where
   -- behind the count
-  pub ran_counted : {T : Type 0} (result : Result T OpErr) (x : List Access) (new : World) → Ran x (from old.vault.next) result mid new → Ran (counts_of q ++ x) (from old.vault.next) result old new
+  pub ran_counted : {T : Type 0} (result : Result T OpErr) (x : List Access) (new : World) → PassRan x (from old.vault.next) result mid new → PassRan (counts_of q ++ x) (from old.vault.next) result old new
   ran_counted result x new ran = ran_after result (counts_of q) x (went_wider none old mid (from old.vault.next) (none_from old.vault.next) (counts_of q) count) ran
 
-  pub ran_first : {T : Type 0} (result : Result T OpErr) (r : Planned) (new : World) → Ran (whole_part r mid.vault.next) (one mid.vault.next) result mid new
-      → Ran (counts_of q ++ (whole_part r old.vault.next ++ [])) (from old.vault.next) result old new
+  pub ran_first : {T : Type 0} (result : Result T OpErr) (r : Planned) (new : World) → PassRan (whole_part r mid.vault.next) (one mid.vault.next) result mid new
+      → PassRan (counts_of q ++ (whole_part r old.vault.next ++ [])) (from old.vault.next) result old new
   ran_first result r new ran =
       let same = next_counted q old mid ready count in
       ran_counted result (whole_part r old.vault.next ++ []) new
-      (subst (λ (x : List Access). Ran x (from old.vault.next) result mid new) (sym (append-nil (whole_part r old.vault.next)))
-      (subst (λ (n : ℕ). Ran (whole_part r n) (from old.vault.next) result mid new) same
+      (subst (λ (x : List Access). PassRan x (from old.vault.next) result mid new) (sym (append-nil (whole_part r old.vault.next)))
+      (subst (λ (n : ℕ). PassRan (whole_part r n) (from old.vault.next) result mid new) same
       (ran_wider (from old.vault.next) (λ x. one_from old.vault.next mid.vault.next x (omega (arith, same))) result (whole_part r mid.vault.next) mid new ran)))
 
-  pub ran_second : {T : Type 0} (result : Result T OpErr) (r p : Planned) (late new : World) → Went (whole_part r mid.vault.next) (one mid.vault.next) mid late → Ran (whole_part p late.vault.next) (one late.vault.next) result late new
-      → Ran (counts_of q ++ (whole_part r old.vault.next ++ (whole_part p (old.vault.next + 1) ++ []))) (from old.vault.next) result old new
+  pub ran_second : {T : Type 0} (result : Result T OpErr) (r p : Planned) (late new : World) → Went (whole_part r mid.vault.next) (one mid.vault.next) mid late → PassRan (whole_part p late.vault.next) (one late.vault.next) result late new
+      → PassRan (counts_of q ++ (whole_part r old.vault.next ++ (whole_part p (old.vault.next + 1) ++ []))) (from old.vault.next) result old new
   ran_second result r p late new went ran =
       let same = next_counted q old mid ready count in
       let next = next_made r mid late count.lasts.ready went in
@@ -114,12 +114,12 @@ module _ (q : Selection) (old mid : World) (ready : Ready old) (count : Went (co
       let first : Went (whole_part r old.vault.next) (from old.vault.next) mid late
       = subst (λ (n : ℕ). Went (whole_part r n) (from old.vault.next) mid late) same
       (went_wider (one mid.vault.next) mid late (from old.vault.next) (λ x. one_from old.vault.next mid.vault.next x (omega (arith, same))) (whole_part r mid.vault.next) went) in
-      let second : Ran (whole_part p (old.vault.next + 1)) (from old.vault.next) result late new
-      = subst (λ (n : ℕ). Ran (whole_part p n) (from old.vault.next) result late new) after
+      let second : PassRan (whole_part p (old.vault.next + 1)) (from old.vault.next) result late new
+      = subst (λ (n : ℕ). PassRan (whole_part p n) (from old.vault.next) result late new) after
       (ran_wider (from old.vault.next) (λ x. one_from old.vault.next late.vault.next x (omega (arith, after))) result (whole_part p late.vault.next) late new ran) in
       ran_counted result (whole_part r old.vault.next ++ (whole_part p (old.vault.next + 1) ++ [])) new
       (ran_after result (whole_part r old.vault.next) (whole_part p (old.vault.next + 1) ++ []) first
-      (subst (λ (x : List Access). Ran x (from old.vault.next) result late new) (sym (append-nil (whole_part p (old.vault.next + 1)))) second))
+      (subst (λ (x : List Access). PassRan x (from old.vault.next) result late new) (sym (append-nil (whole_part p (old.vault.next + 1)))) second))
 
 -- ---- where memory lacks
 pub ends-more : (xs done : List Access) → IsTrue (ends_with_make done) → IsTrue (ends_with_make (xs ++ done))

@@ -30,7 +30,7 @@ use Rattle.ob_flat.specs.declared.fault.OpErr.TheVariants.{Failed, Sink, NoMemor
 use Rattle.ob_flat.specs.declared.flat.Flat.{Flat}
 use Rattle.ob_flat.specs.Flats.{IsSized, IsFlat, IsWritten, Represents}
 use Rattle.ob_flat.specs.Passes.{SinkCause, is_of_access}
-use Rattle.ob_flat.specs.Words.{Ran, SealsTable, blocks_of}
+use Rattle.ob_flat.specs.Words.{PassRan, SealsTable, blocks_of}
 use Rattle.ob_flat.specs.Emission.{SlotsToEnd, SlotsToHalt}
 use Rattle.ob_small.specs.Keeping.{fitted}
 use Rattle.ob_emit.specs.Emitting.{AreColumns, EndsAs, header, table_shown}
@@ -190,7 +190,7 @@ placed_as (Err e) = Err e
 
 -- a result was made in the next region, or that is gone
 pub record MakesResult (r : Planned) (result : Result Placed OpErr) (old new : World) : Type 0 where
-  pub ran : Ran (make_part r old.vault.next) (one old.vault.next) result old new
+  pub ran : PassRan (make_part r old.vault.next) (one old.vault.next) result old new
   pub some : IfErr result (λ e. IsTrue (is_of_access e)
       → length old.store.asked < length new.store.asked)
   pub never : result ≡ Err Sink → ⊥
@@ -216,7 +216,7 @@ MakesPadded q plan taken result old new =
 pub record EmitsResult {E : Type 0} (grew cut : E → E → List Event → Type 0) (faults : E → ℕ)
     (pack : ℕ) (fresh : Flat) (cols : List ℕ) (result : Result ℕ OpErr) (old new : World)
     (out_old out_new : E) : Type 0 where
-  pub ran : Ran (emission_part fresh.region (blocks_of pack fresh)) (one fresh.region)
+  pub ran : PassRan (emission_part fresh.region (blocks_of pack fresh)) (one fresh.region)
       result old new
   pub gone : new.vault.revs.live fresh.region ≡ None
   pub seals : SealsAll old new
@@ -231,7 +231,7 @@ pub record EmitsResult {E : Type 0} (grew cut : E → E → List Event → Type 
 -- the same, and nothing was emitted
 pub record WalksResult {T : Type 0} (pack : ℕ) (fresh : Flat) (result : Result T OpErr)
     (old new : World) : Type 0 where
-  pub ran : Ran (emission_part fresh.region (blocks_of pack fresh)) (one fresh.region)
+  pub ran : PassRan (emission_part fresh.region (blocks_of pack fresh)) (one fresh.region)
       result old new
   pub cut : OnErr result
       (Began (count_part fresh.region (blocks_of pack fresh)) old.store new.store)
@@ -261,7 +261,7 @@ MayAnswer plan pad (Refused _) = ⊥
 pub record SelectsBy {E : Type 0} (grew cut : E → E → List Event → Type 0) (faults : E → ℕ)
     (r : Planned) (result : Result Selected OpErr) (old new : World)
     (out_old out_new : E) : Type 0 where
-  pub ran : Ran (whole_part r old.vault.next) (one old.vault.next) result old new
+  pub ran : PassRan (whole_part r old.vault.next) (one old.vault.next) result old new
   pub some : IfErr result (λ e. IsTrue (is_of_access e)
       → length old.store.asked < length new.store.asked)
   pub gone : new.vault.revs.live old.vault.next ≡ None

@@ -30,7 +30,7 @@ use Rattle.ob_flat.specs.declared.fault.OpErr.TheVariants.{Failed, Sink, NoMemor
 use Rattle.ob_flat.specs.declared.flat.Flat.{Flat}
 use Rattle.ob_flat.specs.Flats.{Accepts, IsSized, IsFlat, Represents}
 use Rattle.ob_flat.specs.Passes.{SinkCause, is_of_access}
-use Rattle.ob_flat.specs.Words.{Ran}
+use Rattle.ob_flat.specs.Words.{PassRan}
 use Rattle.ob_emit.specs.Emitting.{AreColumns, header}
 use Rattle.ob_mean.specs.Replay.{done_of, held_if}
 use Rattle.ob_mean.specs.Verdict.{ended as seen_to, rows_refusal, seen_rows}
@@ -265,7 +265,7 @@ pub record UsesRoom (old new : RoomState) : Type 0 where
 pub record SelectsFrom {E : Type 0} (grew cut : E → E → List Event → Type 0) (faults : E → ℕ)
     (q : Selection) (result : Result Selected OpErr) (seen : Seen) (old new : World)
     (out_old out_new : E) : Type 0 where
-  pub ran : Ran (selection_script q seen old.vault.next) (from old.vault.next) result old new
+  pub ran : PassRan (selection_script q seen old.vault.next) (from old.vault.next) result old new
   pub gone : (r : ℕ) → old.vault.next ≤ r → new.vault.revs.live r ≡ None
   pub spare : OnOk result (q.ending ≤ new.store.spare)
   pub seals : SealsRows q.public.pack old new

@@ -13,12 +13,12 @@ use Rattle.ob_headline.specs.Status.{KeepsLimits}
 use Rattle.ob_headline.specs.declared.ending.Ending.{Ending}
 use Rattle.ob_headline.specs.declared.ending.Ending.TheVariants.{Usage, BadKey, Ran}
 use Rattle.ob_headline.specs.declared.ending.Report.{Report}
-use Rattle.ob_print.specs.Cuts.{Cut}
+use Rattle.ob_print.specs.Cuts.{Outputs}
 use Rattle.ob_shell.proofs.CompleteLemmas.{reported_line, reported_quiet}
 use Rattle.ob_shell.proofs.TopLemmas.{shown_unread}
 use Rattle.ob_shell.specs.Closed.{Unwritten, LineWritten, refused_by}
 use Rattle.ob_shell.specs.Running.{OutFailed}
-use Rattle.ob_shell.specs.Top.{EndingCause, EndingWords, IsFresh, Reported, Shown, TraceSink}
+use Rattle.ob_shell.specs.Top.{EndingCause, EndingWords, IsFresh, Reported, RunShown, TraceSink}
 use Rattle.ob_shell.specs.declared.top.Ended.{Ended}
 use Rattle.ob_shell.specs.declared.words.WordsErr.{WordsErr}
 use Rattle.ob_shell.specs.declared.words.WordsErr.TheVariants as Words
@@ -28,14 +28,14 @@ module _ {tally : Tally} {tr : TraceSink} {Takes : Type 0} {base : Base} {gave :
   -- the last line was written, or might not be
   pub reported_closed : (ended : Ended) (report : Report) (old mid new : Faults)
       → report.status ≡ status_of ended.ending → report.high ≡ ended.high → EndingWords ended.ending Takes
-      → Shown tally tr base l0 l1 gave w0 w1 s0 s1 ended.high ended.ending [] (OutFailed ended.quiet old.out mid.out) → EndingCause ended.ending old mid
+      → RunShown tally tr base l0 l1 gave w0 w1 s0 s1 ended.high ended.ending [] (OutFailed ended.quiet old.out mid.out) → EndingCause ended.ending old mid
       → (ended.quiet ≡ true → Unwritten w1 w2 mid.out new.out) → (ended.quiet ≡ false → LineWritten (last_line ended.ending) w1 w2 mid.out new.out)
       → (ended.quiet ≡ true → SinksRose old mid) → (ended.quiet ≡ false → mid.trace ≡ old.trace) → new.trace ≡ mid.trace → new.source ≡ mid.source
       → Reported tally tr Takes base l0 l1 gave w0 w2 s0 s1 old new report
   reported_closed ended report old mid new status high takes shown cause quiet line rose loud trace source = go ended.quiet refl
     where
-      shown_high : Shown tally tr base l0 l1 gave w0 w1 s0 s1 report.high ended.ending [] (OutFailed ended.quiet old.out mid.out)
-      shown_high = subst (λ (n : ℕ). Shown tally tr base l0 l1 gave w0 w1 s0 s1 n ended.ending [] (OutFailed ended.quiet old.out mid.out)) (sym high) shown
+      shown_high : RunShown tally tr base l0 l1 gave w0 w1 s0 s1 report.high ended.ending [] (OutFailed ended.quiet old.out mid.out)
+      shown_high = subst (λ (n : ℕ). RunShown tally tr base l0 l1 gave w0 w1 s0 s1 n ended.ending [] (OutFailed ended.quiet old.out mid.out)) (sym high) shown
 
       go : (b : Bool) → ended.quiet ≡ b → Reported tally tr Takes base l0 l1 gave w0 w2 s0 s1 old new report
       go true is =
@@ -57,7 +57,7 @@ words_cause Words.Usage faults = record { source = refl; out = refl; trace = ref
 words_cause Words.NoMemory faults = (refl, omega arith, omega arith)
 
 unfoldable pub words_shown : {F : Type 0} (tally : Tally) (tr : TraceSink) (settings : Option Config) (error : WordsErr) (l : Option (List ℕ)) (gave : ℕ) (w : Option (List ℕ)) (s : StoreState) → IsFresh s → tr.new ≡ tr.old
-    → Shown tally tr (fresh settings) l l gave w w s s 0 (refused_by error) [] F
+    → RunShown tally tr (fresh settings) l l gave w w s s 0 (refused_by error) [] F
 words_shown tally tr settings Words.Usage l gave w s fresh untraced = shown_unread tally tr settings l gave w s _ fresh untraced tt tt tt refl
 words_shown tally tr settings Words.NoMemory l gave w s fresh untraced = shown_unread tally tr settings l gave w s _ fresh untraced tt tt tt tt
 
@@ -93,7 +93,7 @@ unfoldable pub reported_taken : {tally : Tally} {tr : TraceSink} {Takes : Type 0
     → Reported tally tr Takes (fresh settings) l0 l1 gave w0 w1 s0 s1 old new report
 reported_taken {tally = tally} {tr = tr} {Takes = Takes} {gave = gave} {l0 = l0} {l1 = l1} {w0 = w0} {w1 = w1} {s0 = s0} {s1 = s1} {old = old} {new = new} {report = report} t is r =
     let both = subst
-    (λ (o : Option Config). (x : Shown tally tr (fresh o) l0 l1 gave w0 w1 s0 s1 report.high r.ending (last_line r.ending) (SinksRose old new)) × (new.trace ≢ old.trace → Cut w0 w1 (Unit {0}) (printed x.story.answers ++ x.story.part)) × (Took w0 w1 (printed x.story.answers ++ x.story.part) ⊎ Rises old.out new.out))
+    (λ (o : Option Config). (x : RunShown tally tr (fresh o) l0 l1 gave w0 w1 s0 s1 report.high r.ending (last_line r.ending) (SinksRose old new)) × (new.trace ≢ old.trace → Outputs w0 w1 (Unit {0}) (printed x.story.answers ++ x.story.part)) × (Took w0 w1 (printed x.story.answers ++ x.story.part) ⊎ Rises old.out new.out))
     (sym is) (r.shown, r.silent, r.through) in
     record {
       ending = r.ending;

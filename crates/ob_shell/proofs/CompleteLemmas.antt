@@ -17,12 +17,12 @@ use Rattle.ob_headline.specs.Status.{HasSecret, KeepsLimits, IsCompleted}
 use Rattle.ob_headline.specs.declared.ending.Ending.{Ending}
 use Rattle.ob_headline.specs.declared.ending.Ending.TheVariants.{Usage, BadKey, Ran}
 use Rattle.ob_headline.specs.declared.ending.Report.{Report}
-use Rattle.ob_print.proofs.CutLemmas.{Cut-by, Cut-fault}
-use Rattle.ob_print.specs.Cuts.{Cut}
+use Rattle.ob_print.proofs.CutLemmas.{Outputs-by, Outputs-fault}
+use Rattle.ob_print.specs.Cuts.{Outputs}
 use Rattle.ob_shell.proofs.KeyLemmas.{after_line-none, first_line-long, secret_of-long}
 use Rattle.ob_shell.proofs.RunLemmas.{took_more, took_of, took_or}
 use Rattle.ob_shell.proofs.TopLemmas.{first_line-more, after_line-more, shown_line, cut_line, quiet_line, line_rose, status_cause}
-use Rattle.ob_shell.specs.Top.{TraceSink, EndsUntampered, EndingSays, EndingWords, EndingCause, Shown, StatusCause, Reported}
+use Rattle.ob_shell.specs.Top.{TraceSink, EndsUntampered, EndingSays, EndingWords, EndingCause, RunShown, StatusCause, Reported}
 use Rattle.ob_store.specs.State.{StoreState}
 
 no_secret : (xs : List ℕ) → HasSecret xs → secret_of (first_line xs) ≡ None → ⊥
@@ -75,7 +75,7 @@ limits_kept (Ran (Err InputLimit)) max taken rest ended more part t words k says
     ]
 
 pub completes : {tally : Tally} {tr : TraceSink} {base : Base} {gave : ℕ} {l0 l1 w0 w1 : Option (List ℕ)} {s0 s1 : StoreState} {high : ℕ} {ending : Ending} {line : List ℕ} {F Takes : Type 0} (old new : Faults) (input : List ℕ)
-    → Shown tally tr base l0 l1 gave w0 w1 s0 s1 high ending line F → EndingWords ending Takes → StatusCause ending old new
+    → RunShown tally tr base l0 l1 gave w0 w1 s0 s1 high ending line F → EndingWords ending Takes → StatusCause ending old new
     → Takes → l0 ≡ Some input → KeepsLimits (limit_of base.settings) input → ¬ Rises old.source new.source → ¬ SinksRose old new
     → FromEach base (λ s. IsCompleted (IsHonest s0 s1) ending)
 completes {base = base} {l1 = l1} {s0 = s0} {s1 = s1} {ending = ending} old new input shown words cause t e k a c =
@@ -93,20 +93,20 @@ completes {base = base} {l1 = l1} {s0 = s0} {s1 = s1} {ending = ending} old new 
 unfoldable pub reported_line : {tally : Tally} {tr : TraceSink} {Takes : Type 0} {base : Base} {report : Report} (ending : Ending) (old mid new : Faults)
     {gave : ℕ} {l0 l1 w0 w1 w2 : Option (List ℕ)} {s0 s1 : StoreState} {E Lost : Type 0}
     → report.status ≡ status_of ending → EndingWords ending Takes
-    → Shown tally tr base l0 l1 gave w0 w1 s0 s1 report.high ending [] Lost → ¬ Lost → EndingCause ending old mid
-    → Cut w1 w2 E (last_line ending) → (E → Rises mid.out new.out) → (last_line ending ≡ [] → new.out ≡ mid.out)
+    → RunShown tally tr base l0 l1 gave w0 w1 s0 s1 report.high ending [] Lost → ¬ Lost → EndingCause ending old mid
+    → Outputs w1 w2 E (last_line ending) → (E → Rises mid.out new.out) → (last_line ending ≡ [] → new.out ≡ mid.out)
     → mid.out ≤ new.out → new.trace ≡ mid.trace → new.source ≡ mid.source → mid.trace ≡ old.trace
     → Reported tally tr Takes base l0 l1 gave w0 w2 s0 s1 old new report
 unfolding shown_line
 reported_line ending old mid new {w0 = w0} {w1 = w1} status takes shown loud cause cut rose none later trace source kept =
     let causes : StatusCause ending old new = status_cause ending old mid new cause later trace source none in
-    let whole : Cut w0 w1 ⊥ ((printed shown.story.answers ++ shown.story.part) ++ []) = Cut-by loud shown.grew in
+    let whole : Outputs w0 w1 ⊥ ((printed shown.story.answers ++ shown.story.part) ++ []) = Outputs-by loud shown.grew in
     record {
       ending = ending;
       status = status;
       takes = takes;
       shown = shown_line cut.grown shown cut.appends (cut_line _ _ (λ e. line_rose ending old mid new cause (rose e) later trace) whole cut);
-      through = inl (took_more cut.grown (took_of (subst (λ (l : List ℕ). Cut w0 w1 ⊥ l) (append-nil (printed shown.story.answers ++ shown.story.part)) whole) (λ never. never)) cut.appends);
+      through = inl (took_more cut.grown (took_of (subst (λ (l : List ℕ). Outputs w0 w1 ⊥ l) (append-nil (printed shown.story.answers ++ shown.story.part)) whole) (λ never. never)) cut.appends);
       silent = λ other. absurd (other (trace ∙ kept));
       cause = causes;
       completes = λ t input e k a b. completes old new input shown takes causes t e k a b;
@@ -116,7 +116,7 @@ reported_line ending old mid new {w0 = w0} {w1 = w1} status takes shown loud cau
 unfoldable pub reported_quiet : {tally : Tally} {tr : TraceSink} {Takes : Type 0} {base : Base} {report : Report} (ending : Ending) (old new : Faults)
     {gave : ℕ} {l0 l1 w0 w1 : Option (List ℕ)} {s0 s1 : StoreState} {Lost : Type 0}
     → report.status ≡ status_of ending → EndingWords ending Takes
-    → Shown tally tr base l0 l1 gave w0 w1 s0 s1 report.high ending [] Lost → (Lost → Rises old.out new.out) → EndingCause ending old new → SinksRose old new
+    → RunShown tally tr base l0 l1 gave w0 w1 s0 s1 report.high ending [] Lost → (Lost → Rises old.out new.out) → EndingCause ending old new → SinksRose old new
     → Reported tally tr Takes base l0 l1 gave w0 w1 s0 s1 old new report
 unfolding shown_line
 reported_quiet ending old new {w0 = w0} {w1 = w1} {Lost = Lost} status takes shown lost cause rose =
@@ -126,8 +126,8 @@ reported_quiet ending old new {w0 = w0} {w1 = w1} {Lost = Lost} status takes sho
       status = status;
       takes = takes;
       shown = shown_line [] shown (Appends-nil _) (quiet_line _ _ shown.grew rose);
-      through = took_or (subst (λ (l : List ℕ). Cut w0 w1 Lost l) (append-nil (printed shown.story.answers ++ shown.story.part)) shown.grew) lost;
-      silent = λ other. Cut-fault tt (subst (λ (l : List ℕ). Cut w0 w1 Lost l) (append-nil (printed shown.story.answers ++ shown.story.part)) shown.grew);
+      through = took_or (subst (λ (l : List ℕ). Outputs w0 w1 Lost l) (append-nil (printed shown.story.answers ++ shown.story.part)) shown.grew) lost;
+      silent = λ other. Outputs-fault tt (subst (λ (l : List ℕ). Outputs w0 w1 Lost l) (append-nil (printed shown.story.answers ++ shown.story.part)) shown.grew);
       cause = causes;
       completes = λ t input e k a b. completes old new input shown takes causes t e k a b;
     }

@@ -27,7 +27,7 @@ use Rattle.ob_headline.specs.declared.ending.Ending.TheVariants.{Ran}
 use Rattle.ob_headline.specs.declared.ending.KeptEnding.{KeptEnding}
 use Rattle.ob_headline.specs.declared.ending.KeptEnding.TheVariants.{Plain}
 use Rattle.ob_io.specs.Causes.{HasCause}
-use Rattle.ob_print.specs.Cuts.{Cut}
+use Rattle.ob_print.specs.Cuts.{Outputs}
 use Rattle.ob_reopen.specs.Closings.{open_script, read_script}
 use Rattle.ob_reopen.specs.Keepers.{KeeperState}
 use Rattle.ob_reopen.specs.Limits.{IsMarked}
@@ -49,14 +49,14 @@ use Rattle.ob_store.specs.Calls.{IsSteady}
 use Rattle.ob_store.specs.State.{StoreState}
 use Rattle.ob_vault.specs.Resuming.{open_at}
 use Rattle.ob_vault.specs.State.{RevState, Start, earlier, from_nothing}
-use Rattle.ob_vault.specs.Tied.{Fits}
+use Rattle.ob_vault.specs.Tied.{TagFits}
 
 -- ---- a call that failed, and what it says of the count
 pub hushed : {T E : Type 0} (r : Result T E) (quiet : Bool) (f0 f1 : ℕ) → quiet ≡ is_err r → HasCause f0 f1 r → IsHushed quiet f0 f1
 hushed (Ok x) quiet f0 f1 is cause = record { rose = λ it. absurd (cc (is, it)); kept = λ it. cause.kept }
 hushed (Err e) quiet f0 f1 is cause = record { rose = λ it. cause.failed; kept = λ it. absurd (cc (is, it)) }
 
-pub cut_caused : {T E : Type 0} {w0 w1 : Option (List ℕ)} {bytes : List ℕ} (r : Result T E) (f0 f1 : ℕ) → HasCause f0 f1 r → Cut w0 w1 (IsErr r) bytes → Cut w0 w1 (Rises f0 f1) bytes
+pub cut_caused : {T E : Type 0} {w0 w1 : Option (List ℕ)} {bytes : List ℕ} (r : Result T E) (f0 f1 : ℕ) → HasCause f0 f1 r → Outputs w0 w1 (IsErr r) bytes → Outputs w0 w1 (Rises f0 f1) bytes
 cut_caused r f0 f1 cause cut = record { grown = cut.grown; appends = cut.appends; prefix = cut.prefix; all = elim cut.all [ inl whole ↦ inl whole | inr failed ↦ inr (rose r cause failed) ] }
   where
     rose : {T E : Type 0} (r : Result T E) → HasCause f0 f1 r → IsErr r → Rises f0 f1
@@ -159,7 +159,7 @@ module _ {R : Type 0} (state : R → RevState) (config : Config) (key : List ℕ
         held_headings (public_of e).pack (public_of e).tables tables (world_of state e t) holds.held ∙ ap (λ (p : Public). headings_of p.tables) is.public;
     fits = λ lie told.
         let fits = is.calm.calm lie told in
-        subst (λ (x : Start). Fits (keys_of key) x lie) is.start (subst (λ (k : KeySet). Fits k (engine_start e) lie) keyed fits);
+        subst (λ (x : Start). TagFits (keys_of key) x lie) is.start (subst (λ (k : KeySet). TagFits k (engine_start e) lie) keyed fits);
   }
 
 -- ---- tables that were not opened
@@ -193,7 +193,7 @@ closing_after r e s t closes from is =
     omega (arith, is, long, sum)
 
 pub closes_run : {R T E : Type 0} {state : R → RevState} (tally : Tally) (tracing : Bool) (e : Engine R) (ended : KeptEnded) (s t : StoreState) (t0 t1 : Option (List ℕ)) (f0 f1 : ℕ) (k0 k1 : KeeperState) (result : Result Mark CloseErr)
-    → ClosesEngine state result e s t → (call : Result T E) (from : ℕ) → from ≡ length s.asked → Cut t0 t1 (IsErr call) (traced tracing (drop from t.asked)) → HasCause f0 f1 call
+    → ClosesEngine state result e s t → (call : Result T E) (from : ℕ) → from ≡ length s.asked → Outputs t0 t1 (IsErr call) (traced tracing (drop from t.asked)) → HasCause f0 f1 call
     → EndsWith result (Plain (Ran (Ok (has_refused tally)))) ended.ending f0 f1 k0 k1 → ended.quiet ≡ is_err call → ended.high ≡ high_of e → (ended.ending ≡ Plain (Ran (Ok (has_refused tally))) → ended.tally ≡ tally)
     → ClosesRun state tally tracing e ended s t t0 t1 f0 f1 k0 k1
 closes_run tally tracing e ended s t t0 t1 f0 f1 k0 k1 result engine call from is cut cause ends quiet high counted =
@@ -204,7 +204,7 @@ closes_run tally tracing e ended s t t0 t1 f0 f1 k0 k1 result engine call from i
       traced_all = record {
         seen = grew.0;
         grew = grew.1;
-        cut = subst (λ (l : List Access). Cut t0 t1 (Rises f0 f1) (traced tracing l)) (since s.asked t.asked grew.0 from grew.1 is) (cut_caused call f0 f1 cause cut);
+        cut = subst (λ (l : List Access). Outputs t0 t1 (Rises f0 f1) (traced tracing l)) (since s.asked t.asked grew.0 from grew.1 is) (cut_caused call f0 f1 cause cut);
       };
       later = cause.later;
       ends = ends;

@@ -18,8 +18,8 @@ use Rattle.ob_headline.specs.declared.ending.Ending.{Ending}
 use Rattle.ob_headline.specs.declared.ending.Ending.TheVariants.{Usage, BadKey, Ran}
 use Rattle.ob_headline.specs.declared.ending.Report.{Report}
 use Rattle.ob_headline.specs.declared.seed.Seed.{Seed}
-use Rattle.ob_print.proofs.CutLemmas.{Cut-whole}
-use Rattle.ob_print.specs.Cuts.{Cut}
+use Rattle.ob_print.proofs.CutLemmas.{Outputs-whole}
+use Rattle.ob_print.specs.Cuts.{Outputs}
 use Rattle.ob_shell.proofs.CloseLemmas.{reported_taken, words_cause, words_end, words_shown}
 use Rattle.ob_shell.proofs.CompleteLemmas.{completes}
 use Rattle.ob_shell.proofs.HeadLemmas.{headlined}
@@ -27,7 +27,7 @@ use Rattle.ob_shell.proofs.TopLemmas.{shown_line, status_cause}
 use Rattle.ob_shell.proofs.TraceLemmas.{traced_none, traced_whole}
 use Rattle.ob_shell.specs.Closed.{LineWritten, refused_by}
 use Rattle.ob_shell.specs.Generating.{RanGenerated, ClosedBy, ConcludedBy, Concludes, StatusIs, Summarized, asked_for, conclusion}
-use Rattle.ob_shell.specs.Top.{EndingCause, EndingWords, IsFresh, Reported, Shown, StatusCause, TraceSink, sink_of}
+use Rattle.ob_shell.specs.Top.{EndingCause, EndingWords, IsFresh, Reported, RunShown, StatusCause, TraceSink, sink_of}
 use Rattle.ob_shell.specs.Traces.{Traced}
 use Rattle.ob_shell.specs.declared.words.WordsErr.{WordsErr}
 use Rattle.ob_shell.specs.declared.words.WordsErr.TheVariants as Words
@@ -35,13 +35,13 @@ use Rattle.ob_store.specs.State.{StoreState}
 
 -- ---- what was written
 -- bytes that were cut by a fault of the one sink
-pub cut_rose : {w0 w1 : Option (List ℕ)} {F G : Type 0} (bytes : List ℕ) → (F → G) → Cut w0 w1 F bytes → Cut w0 w1 G bytes
+pub cut_rose : {w0 w1 : Option (List ℕ)} {F G : Type 0} (bytes : List ℕ) → (F → G) → Outputs w0 w1 F bytes → Outputs w0 w1 G bytes
 cut_rose bytes rose c = record { grown = c.grown; appends = c.appends; prefix = c.prefix; all = elim c.all [ inl whole ↦ inl whole | inr fault ↦ inr (rose fault) ] }
 
 -- nothing, of a line, behind another fault
-pub nothing_written : {w0 w1 : Option (List ℕ)} {G : Type 0} (bytes : List ℕ) → w1 ≡ w0 → G → Cut w0 w1 G bytes
+pub nothing_written : {w0 w1 : Option (List ℕ)} {G : Type 0} (bytes : List ℕ) → w1 ≡ w0 → G → Outputs w0 w1 G bytes
 nothing_written {w0 = w0} {G = G} bytes same g =
-    subst (λ (w : Option (List ℕ)). Cut w0 w G bytes) (sym same) (record { grown = []; appends = Appends-nil w0; prefix = record { lost = bytes; whole = refl }; all = inr g })
+    subst (λ (w : Option (List ℕ)). Outputs w0 w G bytes) (sym same) (record { grown = []; appends = Appends-nil w0; prefix = record { lost = bytes; whole = refl }; all = inr g })
 
 module _ (tally : Tally) (asked : List Access) (w0 w1 : Option (List ℕ)) (trace0 trace1 out0 out1 : ℕ) (report : Report) where
   abbrev before : Faults
@@ -50,7 +50,7 @@ module _ (tally : Tally) (asked : List Access) (w0 w1 : Option (List ℕ)) (trac
   abbrev after : Faults
   after = faults_of 0 out1 trace1
 
-  closed_grew : (ending : Ending) (quiet : Bool) → ClosedBy ending quiet w0 w1 out0 out1 report.status → (quiet ≡ true → Rises trace0 trace1) → Cut w0 w1 (SinksRose before after) (last_line ending)
+  closed_grew : (ending : Ending) (quiet : Bool) → ClosedBy ending quiet w0 w1 out0 out1 report.status → (quiet ≡ true → Rises trace0 trace1) → Outputs w0 w1 (SinksRose before after) (last_line ending)
   closed_grew ending true closed rose = nothing_written (last_line ending) (closed.silent refl).written (inr (rose refl))
   closed_grew ending false closed rose = cut_rose (last_line ending) (λ r. inl r) (closed.line refl).cut
 
@@ -66,7 +66,7 @@ module _ (tally : Tally) (asked : List Access) (w0 w1 : Option (List ℕ)) (trac
       → StatusIs ending report.status (Appends w0 w1 (conclusion ending tally asked) × (out1 ≡ out0)) (Rises out0 out1) → conclusion ending tally asked ≡ last_line ending
       → Concludes ending tally asked report.high w0 w1 before after report
   closed_by ending quiet by rose kept told line = record {
-    grew = subst (λ (l : List ℕ). Cut w0 w1 (SinksRose before after) l) (sym line) (closed_grew ending quiet by rose);
+    grew = subst (λ (l : List ℕ). Outputs w0 w1 (SinksRose before after) l) (sym line) (closed_grew ending quiet by rose);
     silent = closed_silent ending quiet by kept;
     status = told;
     later = closed_later ending quiet by;
@@ -98,7 +98,7 @@ with_source source c = record { grew = c.grew; silent = c.silent; status = c.sta
 
 -- ---- the run, whose answers are kept nowhere
 unfoldable unkept : {Lost : Type 0} {tally : Tally} {tr : TraceSink} {Takes : Type 0} {base : Base} {gave : ℕ} {l0 l1 : Option (List ℕ)} {s0 s1 : StoreState} (ending : Ending) (high : ℕ) (old new : Faults)
-    → EndingWords ending Takes → Shown tally tr base l0 l1 gave None None s0 s1 high ending [] Lost → EndingCause ending old new
+    → EndingWords ending Takes → RunShown tally tr base l0 l1 gave None None s0 s1 high ending [] Lost → EndingCause ending old new
     → Reported tally tr Takes base l0 l1 gave None None s0 s1 old new (record { status = status_of ending; high = high })
 unkept ending high old new takes shown cause =
     let causes : StatusCause ending old new = status_cause ending old new new cause (omega arith) refl refl (λ e. refl) in
@@ -106,9 +106,9 @@ unkept ending high old new takes shown cause =
       ending = ending;
       status = refl;
       takes = takes;
-      shown = shown_line [] shown tt (Cut-whole None None (SinksRose old new) _ tt);
+      shown = shown_line [] shown tt (Outputs-whole None None (SinksRose old new) _ tt);
       through = inl (record { after = []; appends = tt });
-      silent = λ rose. Cut-whole None None (Unit {0}) _ tt;
+      silent = λ rose. Outputs-whole None None (Unit {0}) _ tt;
       cause = causes;
       completes = λ t input e k a b. completes old new input shown takes causes t e k a b;
     }
@@ -116,7 +116,7 @@ unkept ending high old new takes shown cause =
 pub ran_generated : {Lost : Type 0} {tally : Tally} {tracing : Bool} {settings : Option Config} {t0 t1 : Option (List ℕ)} {s0 s1 : StoreState} {gave : ℕ} {w0 w1 : Option (List ℕ)}
     (seed : Seed) (left : List ℕ) (ending : Ending) (high trace0 trace1 out0 out1 : ℕ) (report : Report)
     → EndingWords ending ⊤
-    → Shown tally (sink_of tracing t0 t1) (fresh settings) (Some (generated seed.start seed.rows)) (Some left) gave None None s0 s1 high ending [] Lost
+    → RunShown tally (sink_of tracing t0 t1) (fresh settings) (Some (generated seed.start seed.rows)) (Some left) gave None None s0 s1 high ending [] Lost
     → EndingCause ending (faults_of 0 0 trace0) (faults_of 0 0 trace1)
     → Traced tracing s0.asked s1.asked t0 t1 (SinksRose (faults_of 0 0 trace0) (faults_of 0 0 trace1))
     → Concludes ending tally s1.asked high w0 w1 (faults_of 0 out0 trace0) (faults_of 0 out1 trace1) report

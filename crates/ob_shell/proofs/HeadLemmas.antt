@@ -12,7 +12,7 @@ use Rattle.ob_headline.specs.Status.{Because, EndsAtRead}
 use Rattle.ob_headline.specs.declared.ending.Ending.{Ending}
 use Rattle.ob_headline.specs.declared.ending.Ending.TheVariants.{Usage, BadKey, Ran}
 use Rattle.ob_headline.specs.declared.ending.Report.{Report}
-use Rattle.ob_print.specs.Cuts.{Cut}
+use Rattle.ob_print.specs.Cuts.{Outputs}
 use Rattle.ob_shell.specs.Top.{EndingFlag, EndingSays, EndingWords, EndsUntampered, Reported, StatusCause, sink_of}
 use Rattle.ob_shell.specs.Traces.{Traced}
 
@@ -49,7 +49,7 @@ headlined Takes base tracing old new report first r traces =
         whole = shown.whole;
         through = r.through;
         silent = r.silent;
-        traced_all = subst (λ (xs : List Access). Cut old.traced new.traced (SinksRose old.faults new.faults) (traced tracing xs))
+        traced_all = subst (λ (xs : List Access). Outputs old.traced new.traced (SinksRose old.faults new.faults) (traced tracing xs))
             (append_cancel_left base.before traces.seen _ (ap (λ (xs : List Access). xs ++ traces.seen) (sym first) ∙ sym traces.grew ∙ run.accesses.asked)) traces.cut;
         traced_whole = run.traced_whole;
       };

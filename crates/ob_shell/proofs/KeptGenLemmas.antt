@@ -19,8 +19,8 @@ use Rattle.ob_headline.specs.declared.ending.KeptEnding.{KeptEnding}
 use Rattle.ob_headline.specs.declared.ending.KeptEnding.TheVariants.{Plain, OtherPack, NotClosed as LeftOpen, KeeperFault, StoreFault}
 use Rattle.ob_headline.specs.declared.ending.Report.{Report}
 use Rattle.ob_headline.specs.declared.seed.Seed.{Seed}
-use Rattle.ob_print.proofs.CutLemmas.{Cut-whole}
-use Rattle.ob_print.specs.Cuts.{Cut}
+use Rattle.ob_print.proofs.CutLemmas.{Outputs-whole}
+use Rattle.ob_print.specs.Cuts.{Outputs}
 use Rattle.ob_reopen.specs.Keepers.{KeeperState}
 use Rattle.ob_shell.proofs.CloseLemmas.{reported_words, words_cause, words_end, words_none, words_shown}
 use Rattle.ob_shell.proofs.CompleteLemmas.{reported_line}
@@ -33,7 +33,7 @@ use Rattle.ob_shell.proofs.TraceLemmas.{traced_none, traced_whole}
 use Rattle.ob_shell.specs.Closed.{LineWritten, refused_by}
 use Rattle.ob_shell.specs.Engaging.{IsHushed, KeptClosedBy, KeptConcludedBy, KeptGenerated, RanKept}
 use Rattle.ob_shell.specs.KeptSummary.{KeptConcludes, KeptStatusIs, KeptSummarized, KeptTally, MayKeep, kept_conclusion}
-use Rattle.ob_shell.specs.Top.{IsFresh, Reported, Shown, sink_of}
+use Rattle.ob_shell.specs.Top.{IsFresh, Reported, RunShown, sink_of}
 use Rattle.ob_shell.specs.declared.keeping.KeptEnded.{KeptEnded}
 use Rattle.ob_shell.specs.declared.words.WordsErr.{WordsErr}
 use Rattle.ob_shell.specs.declared.words.WordsErr.TheVariants as Words
@@ -47,7 +47,7 @@ module _ (tally : Tally) (asked : List Access) (w0 w1 : Option (List ℕ)) (sour
   abbrev after : Faults
   after = faults_of source out1 trace1
 
-  line_grew : (ending : KeptEnding) (quiet : Bool) → KeptClosedBy ending quiet w0 w1 out0 out1 report.status → IsHushed quiet trace0 trace1 → Cut w0 w1 (SinksRose before after) (kept_line ending)
+  line_grew : (ending : KeptEnding) (quiet : Bool) → KeptClosedBy ending quiet w0 w1 out0 out1 report.status → IsHushed quiet trace0 trace1 → Outputs w0 w1 (SinksRose before after) (kept_line ending)
   line_grew ending true by hush = nothing_written (kept_line ending) (by.silent refl).written (inr (hush.rose refl))
   line_grew ending false by hush = cut_rose (kept_line ending) (λ r. inl r) (by.line refl).cut
 
@@ -63,7 +63,7 @@ module _ (tally : Tally) (asked : List Access) (w0 w1 : Option (List ℕ)) (sour
       → KeptStatusIs ending report.status (Appends w0 w1 (kept_conclusion ending tally asked) × (out1 ≡ out0)) (Rises out0 out1) → kept_conclusion ending tally asked ≡ kept_line ending
       → KeptConcludes ending tally asked report.high w0 w1 before after report
   line_concludes ending quiet by hush told line = record {
-    grew = subst (λ (l : List ℕ). Cut w0 w1 (SinksRose before after) l) (sym line) (line_grew ending quiet by hush);
+    grew = subst (λ (l : List ℕ). Outputs w0 w1 (SinksRose before after) l) (sym line) (line_grew ending quiet by hush);
     silent = line_silent ending quiet by hush;
     status = told;
     later = line_later ending quiet by;
@@ -119,7 +119,7 @@ kept_summarized {Takes = Takes} {settings = settings} {config = config} {tracing
     let old = outside_of (Some (generated seed.start seed.rows)) 0 None t0 s0 (faults_of 0 0 trace0) in
     let mid = outside_of (Some g.left) g.gave None t1 s1 (faults_of 0 0 trace1) in
     let run : Report = record { status = kept_status ended.ending; high = ended.high } in
-    let line : ended.quiet ≡ false → LineWritten (kept_line ended.ending) None None 0 0 = λ loud. record { cut = Cut-whole None None (Rises 0 0) (kept_line ended.ending) tt; later = omega arith; empty = λ e. refl } in
+    let line : ended.quiet ≡ false → LineWritten (kept_line ended.ending) None None 0 0 = λ loud. record { cut = Outputs-whole None None (Rises 0 0) (kept_line ended.ending) tt; later = omega arith; empty = λ e. refl } in
     let head : KeptHeadline settings Takes tracing old mid k0 k1 run = kept_headlined settings config takes set tracing old mid ended k0 k1 None 0 run refl refl (λ hush. record { written = refl; faults = refl }) line none g.ran in
     let told = kept_told settings config takes set tracing old mid ended k0 k1 None 0 run refl refl (λ hush. record { written = refl; faults = refl }) line none g.ran in
     record {
@@ -150,7 +150,7 @@ kept_unread {Takes = Takes} {settings = settings} {tracing = tracing} {s = s} {t
     let tr = sink_of tracing t t in
     let old : Faults = faults_of source out0 trace in
     let new : Faults = faults_of source out1 trace in
-    let shown = subst (λ (n : ℕ). (x : Shown empty_tally tr (fresh settings) l l gave w0 w0 s s n ending [] ⊥) × (x.taken ≡ [])) (sym high)
+    let shown = subst (λ (n : ℕ). (x : RunShown empty_tally tr (fresh settings) l l gave w0 w0 s s n ending [] ⊥) × (x.taken ≡ [])) (sym high)
     (words_shown empty_tally tr settings error l gave w0 s blank refl, words_none ⊥ empty_tally tr settings error l gave w0 s blank refl) in
     let r : Reported empty_tally tr Takes (fresh settings) l l gave w0 w1 s s old new report =
     reported_line ending old old new status (words_end error not) shown.0 (λ never. never) (words_cause error old) line.cut (λ rises. rises) line.empty line.later refl refl refl in
@@ -189,7 +189,7 @@ kept_unread_summarized {s = s} {t = t} {w0 = w0} {w1 = w1} {out0 = out0} {out1 =
       run = record { status = status_of ending; high = 0 };
       left = generated seed.start seed.rows;
       gave = 0;
-      headline = kept_unread error blank not refl refl (record { cut = Cut-whole None None (Rises 0 0) (last_line ending) tt; later = omega arith; empty = λ e. refl });
+      headline = kept_unread error blank not refl refl (record { cut = Outputs-whole None None (Rises 0 0) (last_line ending) tt; later = omega arith; empty = λ e. refl });
       tally = empty_tally;
       counted = words_counted error empty_tally;
       concludes = concluded_at 0 high

@@ -19,8 +19,8 @@ use Rattle.ob_headline.specs.declared.ending.Ending.TheVariants.{Ran, Usage, Bad
 use Rattle.ob_headline.specs.declared.ending.KeptEnding.{KeptEnding}
 use Rattle.ob_headline.specs.declared.ending.KeptEnding.TheVariants.{Plain, OtherPack, NotClosed as LeftOpen, KeeperFault, StoreFault}
 use Rattle.ob_headline.specs.declared.ending.Report.{Report}
-use Rattle.ob_print.proofs.CutLemmas.{Cut-whole}
-use Rattle.ob_print.specs.Cuts.{Cut}
+use Rattle.ob_print.proofs.CutLemmas.{Outputs-whole}
+use Rattle.ob_print.specs.Cuts.{Outputs}
 use Rattle.ob_reopen.specs.Keepers.{KeeperState}
 use Rattle.ob_reopen.specs.declared.fault.CloseErr.{CloseErr}
 use Rattle.ob_seal.specs.Sealed.{keys_of}
@@ -36,7 +36,7 @@ use Rattle.ob_shell.specs.Engaging.{RanKept, RanStopped, RanUnbegun, RanUnkeyed,
 use Rattle.ob_shell.specs.KeptSummary.{KeptTally}
 use Rattle.ob_shell.specs.Running.{OutFailed}
 use Rattle.ob_shell.specs.Tallies.{has_refused}
-use Rattle.ob_shell.specs.Top.{EndingWords, Reported, Shown, sink_of, EndingTally}
+use Rattle.ob_shell.specs.Top.{EndingWords, Reported, RunShown, sink_of, EndingTally}
 use Rattle.ob_shell.specs.Traces.{Traced}
 use Rattle.ob_shell.specs.declared.keeping.KeptEnded.{KeptEnded}
 use Rattle.ob_store.specs.State.{StoreState}
@@ -74,10 +74,10 @@ module _ {Takes : Type 0} (settings : Option Config) (config : Config) (takes : 
 
   -- the last line behind what the sink of the answers held at the end, none of which failed until then
   line_behind : (quiet : Bool) → ended.quiet ≡ quiet → (before : Option (List ℕ)) → mid.written ≡ before → (from : Faults) → mid.faults.out ≡ from.out → (quiet ≡ true → Rises from.trace mid.faults.trace)
-      → Cut before w2 (SinksRose from new.faults) (kept_line ended.ending)
+      → Outputs before w2 (SinksRose from new.faults) (kept_line ended.ending)
   line_behind true is before same from out rose = nothing_written (kept_line ended.ending) ((hushed is).written ∙ same) (inr (rose refl))
   line_behind false is before same from out rose =
-      cut_rose (kept_line ended.ending) (λ r. inl (subst (λ (n : ℕ). Rises n out2) out r)) (subst (λ (w : Option (List ℕ)). Cut w w2 (Rises mid.faults.out out2) (kept_line ended.ending)) same (line is).cut)
+      cut_rose (kept_line ended.ending) (λ r. inl (subst (λ (n : ℕ). Rises n out2) out r)) (subst (λ (w : Option (List ℕ)). Outputs w w2 (Rises mid.faults.out out2) (kept_line ended.ending)) same (line is).cut)
 
   silent_behind : (quiet : Bool) → ended.quiet ≡ quiet → (before : Option (List ℕ)) → mid.written ≡ before → (trace : ℕ) → (quiet ≡ false → mid.faults.trace ≡ trace) → mid.faults.trace ≢ trace → w2 ≡ before
   silent_behind true is before same trace kept other = (hushed is).written ∙ same
@@ -90,10 +90,10 @@ module _ {Takes : Type 0} (settings : Option Config) (config : Config) (takes : 
       let tr = sink_of tracing old.traced mid.traced in
       let ending = ran.ending in
       let at_high = subst
-      (λ (n : ℕ). (x : Shown ended.tally tr (fresh (Some config)) old.left mid.left mid.gave old.written mid.written old.store mid.store n ending [] ⊥) × EndsUnkeyed ending x.taken)
+      (λ (n : ℕ). (x : RunShown ended.tally tr (fresh (Some config)) old.left mid.left mid.gave old.written mid.written old.store mid.store n ending [] ⊥) × EndsUnkeyed ending x.taken)
       (sym high) (ran.shown, ran.ends) in
       let shown = subst
-      (λ (o : Option Config). (x : Shown ended.tally tr (fresh o) old.left mid.left mid.gave old.written mid.written old.store mid.store report.high ending [] ⊥) × EndsUnkeyed ending x.taken)
+      (λ (o : Option Config). (x : RunShown ended.tally tr (fresh o) old.left mid.left mid.gave old.written mid.written old.store mid.store report.high ending [] ⊥) × EndsUnkeyed ending x.taken)
       (sym set) at_high in
       let l = subst (λ (e : KeptEnding). LineWritten (kept_line e) mid.written w2 mid.faults.out out2) ran.is (line ran.loud) in
       let r : Reported ended.tally tr Takes (fresh settings) old.left mid.left mid.gave old.written w2 old.store mid.store old.faults new.faults report =
@@ -156,10 +156,10 @@ module _ {Takes : Type 0} (settings : Option Config) (config : Config) (takes : 
       ending : Ending
       ending = Ran (Err ran.stop)
 
-      at_high : (x : Shown ended.tally (sink_of tracing ran.begun.traced mid.traced) ran.begun.base old.left mid.left mid.gave old.written mid.written ran.begun.opened mid.store report.high (Ran (Err ran.stop)) [] (OutFailed ended.quiet old.faults.out mid.faults.out))
+      at_high : (x : RunShown ended.tally (sink_of tracing ran.begun.traced mid.traced) ran.begun.base old.left mid.left mid.gave old.written mid.written ran.begun.opened mid.store report.high (Ran (Err ran.stop)) [] (OutFailed ended.quiet old.faults.out mid.faults.out))
           × (secret_of (first_line x.taken) ≡ Some ran.begun.secret)
       at_high = subst
-          (λ (n : ℕ). (x : Shown ended.tally (sink_of tracing ran.begun.traced mid.traced) ran.begun.base old.left mid.left mid.gave old.written mid.written ran.begun.opened mid.store n (Ran (Err ran.stop)) [] (OutFailed ended.quiet old.faults.out mid.faults.out))
+          (λ (n : ℕ). (x : RunShown ended.tally (sink_of tracing ran.begun.traced mid.traced) ran.begun.base old.left mid.left mid.gave old.written mid.written ran.begun.opened mid.store n (Ran (Err ran.stop)) [] (OutFailed ended.quiet old.faults.out mid.faults.out))
           × (secret_of (first_line x.taken) ≡ Some ran.begun.secret)) (sym high) (ran.shown, ran.keyed)
 
       words : EndingWords (Ran (Err ran.stop)) Takes
@@ -229,7 +229,7 @@ module _ {Takes : Type 0} (settings : Option Config) (config : Config) (takes : 
       let run : Report = record { status = status_of ending; high = ran.high } in
       let served : Outside = outside_of mid.left mid.gave mid.written ran.traced ran.served old.faults in
       let r : Reported ran.tally (sink_of tracing ran.begun.traced ran.traced) Takes ran.begun.base old.left mid.left mid.gave old.written mid.written ran.begun.opened ran.served old.faults old.faults run =
-      reported_line (Ran (Ok (has_refused ran.tally))) old.faults old.faults old.faults {E = ⊥} refl takes ran.shown (λ lost. absurd (cc lost.0)) (record { source = refl; out = refl; trace = refl }) (Cut-whole mid.written mid.written ⊥ [] (Appends-nil mid.written))
+      reported_line (Ran (Ok (has_refused ran.tally))) old.faults old.faults old.faults {E = ⊥} refl takes ran.shown (λ lost. absurd (cc lost.0)) (record { source = refl; out = refl; trace = refl }) (Outputs-whole mid.written mid.written ⊥ [] (Appends-nil mid.written))
       (λ never. absurd never) (λ empty. refl) (omega arith) refl refl refl in
       record {
         ending = ended.ending;

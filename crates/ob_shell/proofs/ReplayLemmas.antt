@@ -25,7 +25,7 @@ use Rattle.ob_mean.specs.Replay.{after, cut_at, seen_now, seen_or_cut}
 use Rattle.ob_mean.specs.Verdict.{Tables, is_late}
 use Rattle.ob_script.specs.Script.{script, whole_script}
 use Rattle.ob_script.specs.Trace.{next}
-use Rattle.ob_shell.specs.Steps.{Machine, Does, Misspelt, Served, asked_of, session_of}
+use Rattle.ob_shell.specs.Steps.{Machine, Does, Misspelt, ServedStatement, asked_of, session_of}
 use Rattle.ob_sql.specs.Skeleton.{skeleton}
 use Rattle.ob_sql.specs.declared.stmt.Stmt.{Stmt}
 use Rattle.ob_store.specs.Runs.{Later}
@@ -67,7 +67,7 @@ pub record Goes (a b : StoreState) : Type 0 where
   pub tells : b.tells ≡ a.tells
   pub lie : b.lie ≡ None → a.lie ≡ None
 
-pub step_goes : {R : Type 0} (state : R → RevState) (m0 m1 : Machine R) (text : List ℕ) (answer : Answer) → Misspelt m0 m1 text answer ⊎ Served state m0 m1 text answer → Goes m0.store m1.store
+pub step_goes : {R : Type 0} (state : R → RevState) (m0 m1 : Machine R) (text : List ℕ) (answer : Answer) → Misspelt m0 m1 text answer ⊎ ServedStatement state m0 m1 text answer → Goes m0.store m1.store
 step_goes {R} state m0 m1 text answer (inl bad) = record { tells = ap (λ (m : Machine R). m.store.tells) bad.same; lie = λ none. ap (λ (m : Machine R). m.store.lie) (sym bad.same) ∙ none }
 step_goes state m0 m1 text answer (inr did) = record { tells = did.does.ran.later.tells; lie = no_lie m0.store.lie m0.store m1.store refl did.does.ran.later }
 
@@ -76,7 +76,7 @@ step_goes state m0 m1 text answer (inr did) = record { tells = did.does.ran.late
 pub counts_on : {R : Type 0} (m0 m1 : Machine R) (part : List Access) → engine_start m1.engine ≡ engine_start m0.engine → m1.store.asked ≡ m0.store.asked ++ part → asked_of m1 ≡ asked_of m0 + length part
 counts_on m0 m1 part start grew = omega (arith, ap earlier start, ap length grew, length-append m0.store.asked part)
 
-pub stands_after : {R : Type 0} (state : R → RevState) (m0 m1 : Machine R) (tables : Tables) (text : List ℕ) (one : Answer) (did : Served state m0 m1 text one) (how : Option ℕ) (after_it : Tables)
+pub stands_after : {R : Type 0} (state : R → RevState) (m0 m1 : Machine R) (tables : Tables) (text : List ℕ) (one : Answer) (did : ServedStatement state m0 m1 text one) (how : Option ℕ) (after_it : Tables)
     → seen_of m1.engine ≡ seen_or_cut how (session_of m0 tables) did.stmt → (after how (session_of m0 tables) did.stmt).tables ≡ after_it
     → after how (session_of m0 tables) did.stmt ≡ session_of m1 after_it
 stands_after state m0 m1 tables text one did how after_it seen_is settles =

@@ -14,8 +14,8 @@ use Rattle.ob_headline.proofs.TextLemmas.{rest_of-append, texts_of-append, rest_
 use Rattle.ob_headline.specs.Texts.{text_max, is_over, rest_after, texts_at, texts_of, tail_text}
 use Rattle.ob_headline.specs.Tracing.{traced}
 use Rattle.ob_headline.specs.Words.{printed, Took}
-use Rattle.ob_print.proofs.CutLemmas.{Cut-after, Cut-whole}
-use Rattle.ob_print.specs.Cuts.{Cut}
+use Rattle.ob_print.proofs.CutLemmas.{Outputs-after, Outputs-whole}
+use Rattle.ob_print.specs.Cuts.{Outputs}
 use Rattle.ob_shell.proofs.CountLemmas.{lost_since}
 use Rattle.ob_shell.proofs.FeedLemmas.{Fed-none, Fed-then}
 use Rattle.ob_shell.proofs.StepLemmas.{Steps-none, Steps-append, printed-append, printed-nil, PartlyAt-none, PartlyAt-more, stops_by}
@@ -44,14 +44,14 @@ took_more {w0 = w0} {w2 = w2} {bytes = bytes} more t b = record {
   appends = subst (λ (l : List ℕ). Appends w0 w2 l) (append_assoc bytes t.after more) (Appends-trans _ _ _ _ _ t.appends b);
 }
 
-pub took_of : {w0 w1 : Option (List ℕ)} {F : Type 0} {bytes : List ℕ} → Cut w0 w1 F bytes → ¬ F → Took w0 w1 bytes
+pub took_of : {w0 w1 : Option (List ℕ)} {F : Type 0} {bytes : List ℕ} → Outputs w0 w1 F bytes → ¬ F → Took w0 w1 bytes
 took_of {w0 = w0} {w1 = w1} c not = elim c.all [
   | inl e ↦ took_whole (subst (λ (l : List ℕ). Appends w0 w1 l) e c.appends)
   | inr f ↦ absurd (not f)
 ]
 
 -- or an end of it was lost
-pub took_or : {w0 w1 : Option (List ℕ)} {F G : Type 0} {bytes : List ℕ} → Cut w0 w1 F bytes → (F → G) → Took w0 w1 bytes ⊎ G
+pub took_or : {w0 w1 : Option (List ℕ)} {F G : Type 0} {bytes : List ℕ} → Outputs w0 w1 F bytes → (F → G) → Took w0 w1 bytes ⊎ G
 took_or {w0 = w0} {w1 = w1} c by = elim c.all [
   | inl e ↦ inl (took_whole (subst (λ (l : List ℕ). Appends w0 w1 l) e c.appends))
   | inr f ↦ inr (by f)
@@ -147,7 +147,7 @@ ran_halt {state = state} {Lost} {f0 = f0} {f2 = f2} {gave = gave} {w0 = w0} {w2 
   steps = so.steps;
   part = [];
   last = PartlyAt-none state m1 [] stop fine;
-  cut = subst (λ (l : List ℕ). Cut w0 w2 Lost l) (sym (append-nil (printed so.answers))) (Cut-whole w0 w2 Lost (printed so.answers) so.appends);
+  cut = subst (λ (l : List ℕ). Outputs w0 w2 Lost l) (sym (append-nil (printed so.answers))) (Outputs-whole w0 w2 Lost (printed so.answers) so.appends);
   whole = took_whole so.appends;
   traced = traces;
   counted = tt;
@@ -190,7 +190,7 @@ ran_stop {f0 = f0} {f2 = f2} {gave = gave} {w1 = w1} {p = p} {b = b} {m1 = m1} s
       steps = so.steps;
       part = st.bytes;
       last = PartlyAt-more _ _ _ _ _ _ _ st.partly;
-      cut = Cut-after _ so.appends st.cut;
+      cut = Outputs-after _ so.appends st.cut;
       whole = took_then w1 st.cut.grown so.appends st.cut.appends;
       traced = traces;
       counted = tt;
@@ -221,8 +221,8 @@ ran_done {state = state} {Lost} {f0 = f0} {f2 = f2} {gave = gave} {w0 = w0} {w2 
       part = [];
       last = record { machine = refl; none = refl };
       cut =
-          subst (λ (l : List ℕ). Cut w0 w2 Lost l) (sym (append-nil (printed (so.answers ++ now.answers))))
-          (Cut-whole w0 w2 Lost _ (rw printed-append (Appends-trans _ _ _ _ _ so.appends now.appends)));
+          subst (λ (l : List ℕ). Outputs w0 w2 Lost l) (sym (append-nil (printed (so.answers ++ now.answers))))
+          (Outputs-whole w0 w2 Lost _ (rw printed-append (Appends-trans _ _ _ _ _ so.appends now.appends)));
       whole = took_whole (rw printed-append (Appends-trans _ _ _ _ _ so.appends now.appends));
       traced = traces;
       counted = tally_more empty_tally _ _ so.answers now.answers so.counted now.counted;
@@ -253,7 +253,7 @@ ran_cut {f0 = f0} {f2 = f2} {gave = gave} {w1 = w1} {p = p} {m1 = m1} stop so no
       steps = so.steps;
       part = st.bytes;
       last = st.partly;
-      cut = Cut-after _ so.appends st.cut;
+      cut = Outputs-after _ so.appends st.cut;
       whole = took_then w1 st.cut.grown so.appends st.cut.appends;
       traced = traces;
       counted = tt;

@@ -18,12 +18,12 @@ use Rattle.ob_headline.specs.Words.{faults_of}
 use Rattle.ob_headline.specs.Statements.{Spells}
 use Rattle.ob_headline.specs.Meaning.{PrintsUntil}
 use Rattle.ob_io.specs.Causes.{HasCause}
-use Rattle.ob_print.proofs.CutLemmas.{Cut-fault, Cut-more, Cut-whole}
-use Rattle.ob_print.specs.Cuts.{Cut}
+use Rattle.ob_print.proofs.CutLemmas.{Outputs-fault, Outputs-more, Outputs-whole}
+use Rattle.ob_print.specs.Cuts.{Outputs}
 use Rattle.ob_print.specs.Rows.{events_text}
 use Rattle.ob_shell.proofs.CountLemmas.{rises_earlier, rises_later}
 use Rattle.ob_shell.specs.Running.{OutFailed, Silenced, StopCause}
-use Rattle.ob_shell.specs.Steps.{Machine, Does, HasBody, Served, StopsIn}
+use Rattle.ob_shell.specs.Steps.{Machine, Does, HasBody, ServedStatement, StopsIn}
 use Rattle.ob_sql.specs.declared.stmt.Stmt.{Stmt}
 use Rattle.ob_vault.specs.State.{RevState}
 
@@ -52,7 +52,7 @@ module _ {R E : Type 0} (state : R → RevState) (grew cut : E → E → List Ev
 
   module _ (text : List ℕ) (spells : Spells text (Ok stmt)) where
     served_by : (outcome : Outcome) → (serves : Called (Ok outcome))
-        → Served state m0 m1 text (record { outcome = outcome; bytes = events_text serves.answered.events ++ closing_line outcome; plan = (seen_of m1.engine).plan })
+        → ServedStatement state m0 m1 text (record { outcome = outcome; bytes = events_text serves.answered.events ++ closing_line outcome; plan = (seen_of m1.engine).plan })
     served_by outcome serves =
         let answer = serves.answered in
         record {
@@ -80,7 +80,7 @@ module _ {R E : Type 0} (state : R → RevState) (grew cut : E → E → List Ev
 
     module _ {Lost : Type 0} where
       -- the engine answered, and a sink failed within these events
-      pub finished_by : (outcome : Outcome) → Called (Ok outcome) → Lost → ((events : List Event) → grew out_old out_new events → Cut w0 w1 (Unit {0}) (events_text events))
+      pub finished_by : (outcome : Outcome) → Called (Ok outcome) → Lost → ((events : List Event) → grew out_old out_new events → Outputs w0 w1 (Unit {0}) (events_text events))
           → StopsIn state w0 w1 Lost (text ∷ []) SinkFault m0 m1
       finished_by outcome serves lost began =
           let answer = serves.answered in
@@ -93,11 +93,11 @@ module _ {R E : Type 0} (state : R → RevState) (grew cut : E → E → List Ev
               whole = refl;
               fault = tt;
             }));
-            cut = Cut-more (closing_line outcome) (Cut-fault lost (began answer.events answer.took)) lost;
+            cut = Outputs-more (closing_line outcome) (Outputs-fault lost (began answer.events answer.took)) lost;
           }
 
       -- the engine was stopped, and of the text of these events this was printed
-      cut_short : (stop : Stop) (serves : Called (Err stop)) (bytes : List ℕ) → PrintsUntil stop bytes (events_text serves.stopped.events) → Cut w0 w1 Lost bytes → StopsIn state w0 w1 Lost (text ∷ []) stop m0 m1
+      cut_short : (stop : Stop) (serves : Called (Err stop)) (bytes : List ℕ) → PrintsUntil stop bytes (events_text serves.stopped.events) → Outputs w0 w1 Lost bytes → StopsIn state w0 w1 Lost (text ∷ []) stop m0 m1
       cut_short stop serves bytes printed cut = record {
         bytes = bytes;
         partly = inr (inl (record {
@@ -112,19 +112,19 @@ module _ {R E : Type 0} (state : R → RevState) (grew cut : E → E → List Ev
       }
 
       -- a sink failed within them
-      pub failed_by : Called (Err SinkFault) → Lost → ((events : List Event) → cut out_old out_new events → Cut w0 w1 (Unit {0}) (events_text events)) → StopsIn state w0 w1 Lost (text ∷ []) SinkFault m0 m1
-      failed_by serves lost began = cut_short SinkFault serves (events_text serves.stopped.events) refl (Cut-fault lost (began serves.stopped.events serves.stopped.ends))
+      pub failed_by : Called (Err SinkFault) → Lost → ((events : List Event) → cut out_old out_new events → Outputs w0 w1 (Unit {0}) (events_text events)) → StopsIn state w0 w1 Lost (text ∷ []) SinkFault m0 m1
+      failed_by serves lost began = cut_short SinkFault serves (events_text serves.stopped.events) refl (Outputs-fault lost (began serves.stopped.events serves.stopped.ends))
 
       -- the sink took them, unless it failed; or memory was wanting for the last of them
-      pub stopped_by : (stop : Stop) → (stop ≡ SinkFault → ⊥) → Called (Err stop) → ((events : List Event) → grew out_old out_new events → Cut w0 w1 Lost (events_text events))
-          → ((events : List Event) → cut out_old out_new events → Cut w0 w1 (Unit {0}) (events_text events)) → StopsIn state w0 w1 Lost (text ∷ []) stop m0 m1
+      pub stopped_by : (stop : Stop) → (stop ≡ SinkFault → ⊥) → Called (Err stop) → ((events : List Event) → grew out_old out_new events → Outputs w0 w1 Lost (events_text events))
+          → ((events : List Event) → cut out_old out_new events → Outputs w0 w1 (Unit {0}) (events_text events)) → StopsIn state w0 w1 Lost (text ∷ []) stop m0 m1
       stopped_by (Tampered region place) other serves whole began = cut_short (Tampered region place) serves (events_text serves.stopped.events) refl (whole serves.stopped.events serves.stopped.ends)
       stopped_by SinkFault other serves whole began = absurd (other refl)
       stopped_by SourceFault other serves whole began = absurd serves.ran.cause
       stopped_by InputLimit other serves whole began = absurd serves.ran.cause
       stopped_by NoMemory other serves whole began = elim serves.stopped.ends [
         | inl took ↦ cut_short NoMemory serves (events_text serves.stopped.events) (record { lost = []; whole = sym (append-nil (events_text serves.stopped.events)) }) (whole serves.stopped.events took)
-        | inr ends ↦ let printed = began serves.stopped.events ends in cut_short NoMemory serves printed.grown printed.prefix (Cut-whole _ _ _ _ printed.appends)
+        | inr ends ↦ let printed = began serves.stopped.events ends in cut_short NoMemory serves printed.grown printed.prefix (Outputs-whole _ _ _ _ printed.appends)
       ]
 
 -- a text that is no statement is answered by its line alone

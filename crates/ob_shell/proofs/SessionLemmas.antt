@@ -43,7 +43,7 @@ use Rattle.ob_headline.specs.declared.ending.KeptEnding.{KeptEnding}
 use Rattle.ob_headline.specs.declared.ending.KeptEnding.TheVariants.{Plain}
 use Rattle.ob_mean.specs.Replay.{Broken, Session, after_all, all_served}
 use Rattle.ob_mean.specs.Verdict.{Tables}
-use Rattle.ob_print.proofs.CutLemmas.{Cut-whole}
+use Rattle.ob_print.proofs.CutLemmas.{Outputs-whole}
 use Rattle.ob_reopen.specs.Keepers.{KeeperState}
 use Rattle.ob_reopen.specs.declared.closing.Closing.{Closing}
 use Rattle.ob_reopen.specs.declared.fault.CloseErr.{CloseErr}
@@ -75,7 +75,7 @@ use Rattle.ob_store.specs.State.{Lie, StoreState}
 use Rattle.ob_vault.proofs.WordLemmas.{earlier_nothing}
 use Rattle.ob_vault.specs.Numbers.{number_after}
 use Rattle.ob_vault.specs.State.{RevState, Start, VaultState, World, earlier, from_nothing}
-use Rattle.ob_vault.specs.Tied.{AllSealed, EndsAt, Fits, Scope, SealedAt, at_of, next_fault}
+use Rattle.ob_vault.specs.Tied.{AllSealed, EndsAt, TagFits, Scope, SealedAt, at_of, next_fault}
 use Rattle.ob_headline.specs.Story.{Story}
 
 -- ---- what an engine stands on
@@ -147,7 +147,7 @@ ends_there region place w lie is ends =
       ends.asked ∙ ap (λ (l : Lie). l.before ++ Read l.region l.place ∷ []) same,
     )
 
-meets : (result : Result Bool Stop) (w : World) (lie : Lie) → MeetsChange result w → w.store.lie ≡ Some lie → ¬ Fits w.vault.keys w.vault.start lie
+meets : (result : Result Bool Stop) (w : World) (lie : Lie) → MeetsChange result w → w.store.lie ≡ Some lie → ¬ TagFits w.vault.keys w.vault.start lie
     → (RanEnding result ≡ RanEnding (Err (Tampered lie.region lie.place))) × (w.store.asked ≡ lie.before ++ Read lie.region lie.place ∷ [])
 meets (Ok refused) w lie calm is unfit = absurd (unfit (calm.calm lie is))
 meets (Err (Tampered region place)) w lie (inl calm) is unfit = absurd (unfit (calm.calm lie is))
@@ -216,8 +216,8 @@ module _ {R : Type 0} {state : R → RevState} {Lost : Type 0} (base : Base) (co
   start_is : engine_start last ≡ base.start
   start_is = walk.start ∙ on.start
 
-  fits_here : (lie : Lie) → Fits last.vault.keys (engine_start last) lie → Fits (keys_of key) base.start lie
-  fits_here lie fits = subst (λ (k : KeySet). Fits k base.start lie) keys_are (subst (λ (x : Start). Fits last.vault.keys x lie) start_is fits)
+  fits_here : (lie : Lie) → TagFits last.vault.keys (engine_start last) lie → TagFits (keys_of key) base.start lie
+  fits_here lie fits = subst (λ (k : KeySet). TagFits k base.start lie) keys_are (subst (λ (x : Start). TagFits last.vault.keys x lie) start_is fits)
 
   met : MeetsChange result (world_of state last s1)
   met = last_met state ran.middle m2 ran.more ran.part result ran.last (steps_calm state m0 ran.middle ran.served ran.answers ran.steps on.calm)
@@ -352,7 +352,7 @@ module _ {R : Type 0} {state : R → RevState} {Lost : Type 0} (base : Base) (co
     abbrev closing : Closing
     closing = next_closing last s1
 
-    fits_last : (lie : Lie) → s2.lie ≡ Some lie → Fits (keys_of key) base.start lie
+    fits_last : (lie : Lie) → s2.lie ≡ Some lie → TagFits (keys_of key) base.start lie
     fits_last lie told_it = fits_here lie ((closes.calm (subst (λ (x : Result Bool Stop). MeetsChange x (world_of state last s1)) (ap flagged is) met)).calm lie told_it)
 
     rests_last : (tables : Tables) → IsHonest s0 s2 → is_used_up closing ≡ false → (mark : Mark) → r ≡ Ok mark → Represents state first s0 tables
@@ -449,7 +449,7 @@ ran_last {Lost = Lost} state on f l gave w t m none at_end below = record {
   steps = Steps-none state m;
   part = [];
   last = record { machine = refl; none = refl };
-  cut = rw printed-nil (Cut-whole w w Lost [] (Appends-nil w));
+  cut = rw printed-nil (Outputs-whole w w Lost [] (Appends-nil w));
   whole = took_none w;
   traced = traces_all (traced_none on m.store.asked t);
   counted = sym (tally_after-nil empty_tally);

@@ -6,7 +6,7 @@ use Rattle.ob_base.specs.declared.refusal.Stop.{Stop}
 use Rattle.ob_gen.specs.declared.tally.Tally.{Tally}
 use Rattle.ob_headline.specs.Endings.{IsSinkFault}
 use Rattle.ob_headline.specs.Words.{Answer, printed}
-use Rattle.ob_print.proofs.CutLemmas.{Cut-by, Cut-whole}
+use Rattle.ob_print.proofs.CutLemmas.{Outputs-by, Outputs-whole}
 use Rattle.ob_shell.proofs.TallyLemmas.{tally_after-nil, tally_after-one}
 use Rattle.ob_shell.specs.Steps.{Machine, Step, Steps, Idle, IsUntampered, PartlyAt, AnswersAll, StopsIn}
 use Rattle.ob_shell.specs.Tallies.{tally_with}
@@ -80,7 +80,7 @@ PartlyAt-more state m0 m1 (t ∷ ts) more stop bytes p = p
 
 -- nothing was done of the texts
 pub stops_before : {R : Type 0} {state : R → RevState} {Lost : Type 0} (w : Option (List ℕ)) (m : Machine R) (texts : List (List ℕ)) (stop : Stop) → IsUntampered stop → StopsIn state w w Lost texts stop m m
-stops_before {state = state} w m texts stop fine = record { bytes = []; partly = PartlyAt-none state m texts stop fine; cut = Cut-whole w w _ [] (Appends-nil w) }
+stops_before {state = state} w m texts stop fine = record { bytes = []; partly = PartlyAt-none state m texts stop fine; cut = Outputs-whole w w _ [] (Appends-nil w) }
 
 -- the only answer of a list
 record OneAnswer {R : Type 0} (state : R → RevState) (m0 m1 : Machine R) (text : List ℕ) (answers : List Answer) : Type 0 where
@@ -104,10 +104,10 @@ stops_after {state = state} {text = text} {m0 = m0} {m1 = m1} stop fault all =
     record {
       bytes = printed all.answers;
       partly = inr (inr (record { answer = one.answer; step = one.step; whole = one.bytes; fault = fault }));
-      cut = Cut-whole _ _ _ _ all.appends;
+      cut = Outputs-whole _ _ _ _ all.appends;
     }
 
 -- what was lost has a cause of its own
 pub stops_by : {R : Type 0} {state : R → RevState} {w0 w1 : Option (List ℕ)} {F G : Type 0} {texts : List (List ℕ)} {stop : Stop} {m0 m1 : Machine R} → (F → G) → StopsIn state w0 w1 F texts stop m0 m1
     → StopsIn state w0 w1 G texts stop m0 m1
-stops_by by stops = record { bytes = stops.bytes; partly = stops.partly; cut = Cut-by by stops.cut }
+stops_by by stops = record { bytes = stops.bytes; partly = stops.partly; cut = Outputs-by by stops.cut }

@@ -28,8 +28,8 @@ use Rattle.ob_headline.specs.Meaning.{AnswersFrom}
 use Rattle.ob_headline.specs.Status.{HasSecret}
 use Rattle.ob_headline.specs.declared.ending.Ending.{Ending}
 use Rattle.ob_headline.specs.declared.ending.Ending.TheVariants.{Usage, BadKey, Ran as RanEnding}
-use Rattle.ob_print.proofs.CutLemmas.{Cut-whole, Cut-after, Cut-fault, Cut-more}
-use Rattle.ob_print.specs.Cuts.{Cut}
+use Rattle.ob_print.proofs.CutLemmas.{Outputs-whole, Outputs-after, Outputs-fault, Outputs-more}
+use Rattle.ob_print.specs.Cuts.{Outputs}
 use Rattle.ob_script.specs.Trace.{trace}
 use Rattle.ob_shell.proofs.CountLemmas.{rises_earlier, rises_later}
 use Rattle.ob_shell.proofs.DisturbLemmas.{take_begins}
@@ -42,7 +42,7 @@ use Rattle.ob_shell.specs.Feeding.{Fetch, Fed, IsFedBy}
 use Rattle.ob_shell.specs.LineRead.{KeyRead}
 use Rattle.ob_shell.specs.Running.{EndsBy}
 use Rattle.ob_shell.specs.Tallies.{flagged, tally_of}
-use Rattle.ob_shell.specs.Top.{EndingTally, EndsUntampered, IsFresh, TraceSink, RanSays, EndingSays, EndingWords, Carried, Shown, RanAfter, EndingCause, EndingFlag, StatusCause}
+use Rattle.ob_shell.specs.Top.{EndingTally, EndsUntampered, IsFresh, TraceSink, RanSays, EndingSays, EndingWords, Carried, RunShown, RanAfter, EndingCause, EndingFlag, StatusCause}
 use Rattle.ob_shell.specs.declared.feed.Halt.{Halt}
 use Rattle.ob_shell.specs.declared.key.FirstLine.{FirstLine}
 use Rattle.ob_shell.specs.declared.key.FirstLine.TheVariants.{Secret, Last, Bad}
@@ -120,8 +120,8 @@ unstarted tr settings secret s more ending blank untraced untampered = record {
 pub took_none : (w : Option (List ℕ)) → Took w w (printed [])
 took_none w = took_whole (rw printed-nil (Appends-nil w))
 
-pub no_bytes : {F : Type 0} (w : Option (List ℕ)) → Cut w w F ((printed [] ++ []) ++ [])
-no_bytes {F} w = rw printed-nil (Cut-whole w w F [] (Appends-nil w))
+pub no_bytes : {F : Type 0} (w : Option (List ℕ)) → Outputs w w F ((printed [] ++ []) ++ [])
+no_bytes {F} w = rw printed-nil (Outputs-whole w w F [] (Appends-nil w))
 
 -- from a feed that had nothing unread
 pub piece_is : {f0 f1 : Fetch} {l0 l1 : Option (List ℕ)} {xs : List ℕ} (fed : Fed f0 f1 l0 l1 xs) → f0.unread ≡ [] → fed.piece ≡ xs ++ f1.unread
@@ -145,7 +145,7 @@ module _ (tally : Tally) (tr : TraceSink) (untraced : tr.new ≡ tr.old) (settin
       }
 
   unfoldable pub shown_source_fault : {F : Type 0} {l0 l1 : Option (List ℕ)} (w : Option (List ℕ)) (s : StoreState) → IsFresh s
-      → KeyRead f0 f1 l0 l1 (Err Halt.SourceFault) → Shown tally tr (fresh settings) l0 l1 gave w w s s 0 (RanEnding (Err SourceFault)) [] F
+      → KeyRead f0 f1 l0 l1 (Err Halt.SourceFault) → RunShown tally tr (fresh settings) l0 l1 gave w w s s 0 (RanEnding (Err SourceFault)) [] F
   shown_source_fault w s fresh read =
       let e = piece_is read.fed none in
       let ends = rw (← e) at read.ends in
@@ -170,7 +170,7 @@ module _ (tally : Tally) (tr : TraceSink) (untraced : tr.new ≡ tr.old) (settin
       }
 
   unfoldable pub shown_bad_key : {F : Type 0} {l0 l1 : Option (List ℕ)} (w : Option (List ℕ)) (s : StoreState) → IsFresh s
-      → KeyRead f0 f1 l0 l1 (Ok Bad) → Shown tally tr (fresh settings) l0 l1 gave w w s s 0 BadKey [] F
+      → KeyRead f0 f1 l0 l1 (Ok Bad) → RunShown tally tr (fresh settings) l0 l1 gave w w s s 0 BadKey [] F
   shown_bad_key w s fresh read =
       let e = piece_is read.fed none in
       let ends = rw (← e) at read.ends in
@@ -194,7 +194,7 @@ module _ (tally : Tally) (tr : TraceSink) (untraced : tr.new ≡ tr.old) (settin
       }
 
   pub shown_last : tally ≡ tally_of [] → {F : Type 0} {l0 l1 : Option (List ℕ)} (key : List ℕ) (w : Option (List ℕ)) (s : StoreState) → IsFresh s
-      → KeyRead f0 f1 l0 l1 (Ok (Last key)) → Shown tally tr (fresh settings) l0 l1 gave w w s s 0 (RanEnding (Ok false)) [] F
+      → KeyRead f0 f1 l0 l1 (Ok (Last key)) → RunShown tally tr (fresh settings) l0 l1 gave w w s s 0 (RanEnding (Ok false)) [] F
   shown_last blank key w s fresh read =
       let e = piece_is read.fed none in
       let ends = rw (← e) at read.ends in
@@ -242,7 +242,7 @@ ran_nothing {Lost = Lost} tr settings secret f l gave w s fresh untraced late = 
       (prompt_all (f.unread ++ []) [] f.unread gave (append-nil f.unread) late);
   carried = unstarted tr settings secret s _ _ fresh untraced tt;
   rows = inr (refl, refl);
-  cut = rw printed-nil (Cut-whole w w Lost [] (Appends-nil w));
+  cut = rw printed-nil (Outputs-whole w w Lost [] (Appends-nil w));
   whole = took_none w;
   counted = tt;
   ends = tt;
@@ -302,7 +302,7 @@ unfoldable pub shown_by : {R : Type 0} {state : R → RevState} {Lost : Type 0} 
     → after_line (read.fed.piece ++ ran.piece) ≡ f1.unread ++ ran.piece → secret_of (first_line (read.fed.piece ++ ran.piece)) ≡ Some key
     → Carried tr base (secret_of (first_line (read.fed.piece ++ ran.piece))) s0 s2 high ran.story (RanEnding (flagged result))
     → IfOk result (λ t. tally ≡ t)
-    → Shown tally tr base l0 l2 gave w0 w2 s0 s2 high (RanEnding (flagged result)) [] Lost
+    → RunShown tally tr base l0 l2 gave w0 w2 s0 s2 high (RanEnding (flagged result)) [] Lost
 shown_by {Lost = Lost} {tally = tally} base {f1 = f1} {f2 = f2} {gave = gave} {l2 = l2} {w0 = w0} {w2 = w2} {s0 = s0} {s2 = s2} {high = high} key result start top below by read ran after line carried told =
     let secret : HasSecret (read.fed.piece ++ ran.piece) = rw line in
     let count : length (read.fed.piece ++ ran.piece) ≡ f2.taken =
@@ -323,7 +323,7 @@ shown_by {Lost = Lost} {tally = tally} base {f1 = f1} {f2 = f2} {gave = gave} {l
         prompt = prompt_behind gave _ _ ran.story.served after ran.prompt;
       };
       carried = carried;
-      grew = subst (λ (l : List ℕ). Cut w0 w2 Lost l) (sym (append-nil (printed ran.story.answers ++ ran.story.part))) ran.cut;
+      grew = subst (λ (l : List ℕ). Outputs w0 w2 Lost l) (sym (append-nil (printed ran.story.answers ++ ran.story.part))) ran.cut;
       whole = ran.whole;
       flag = flag_by result ran.story.answers ran.counted;
       counted = tally_by result ran.story.answers tally ran.counted told;
@@ -336,7 +336,7 @@ pub shown_ran : {R : Type 0} {state : R → RevState} {Lost : Type 0} {tally : T
     → f0.unread ≡ [] → f0.taken ≡ 0 → f0.limit ≡ limit_of base.settings → f2.taken ≤ f2.limit → IsFedBy f2 gave
     → KeyRead f0 f1 l0 l1 (Ok (Secret key)) → RanAfter state tr base (Some key) f1 f2 l1 l2 gave w0 w2 s0 s2 high Lost result
     → IfOk result (λ t. tally ≡ t)
-    → Shown tally tr base l0 l2 gave w0 w2 s0 s2 high (RanEnding (flagged result)) [] Lost
+    → RunShown tally tr base l0 l2 gave w0 w2 s0 s2 high (RanEnding (flagged result)) [] Lost
 shown_ran base key result none start top below by read ran told =
     let behind = after_secret ran.piece none read in
     shown_by base key result start top below by read ran behind.0 behind.1 (rw behind.1 ran.carried) told
@@ -345,7 +345,7 @@ shown_ran base key result none start top below by read ran told =
 
 -- nothing was read
 unfoldable pub shown_unread : {F : Type 0} (tally : Tally) (tr : TraceSink) (settings : Option Config) (l : Option (List ℕ)) (gave : ℕ) (w : Option (List ℕ)) (s : StoreState) (ending : Ending) → IsFresh s → tr.new ≡ tr.old → EndsUntampered ending → EndingFlag ending [] → EndingTally ending [] tally
-    → EndingSays ending (limit_of settings) [] l false (texts_of [] (after_line [])) [] → Shown tally tr (fresh settings) l l gave w w s s 0 ending [] F
+    → EndingSays ending (limit_of settings) [] l false (texts_of [] (after_line [])) [] → RunShown tally tr (fresh settings) l l gave w w s s 0 ending [] F
 shown_unread tally tr settings l gave w s ending fresh untraced untampered flag counted says = record {
   taken = [];
   ended = false;
@@ -380,14 +380,14 @@ takes_of (RanEnding (Err InputLimit)) not_usage t = t
 
 -- ---- the last line
 
-whole_of : {w0 w1 : Option (List ℕ)} {bytes : List ℕ} → Cut w0 w1 ⊥ bytes → Appends w0 w1 bytes
+whole_of : {w0 w1 : Option (List ℕ)} {bytes : List ℕ} → Outputs w0 w1 ⊥ bytes → Appends w0 w1 bytes
 whole_of {w0 = w0} {w1 = w1} c = elim c.all [ inl e ↦ subst (λ (l : List ℕ). Appends w0 w1 l) e c.appends | inr never ↦ absurd never ]
 
 module _ {w0 w1 w2 : Option (List ℕ)} (bytes line : List ℕ) {F G : Type 0} (rose : F → G) where
-  pub cut_line : Cut w0 w1 ⊥ (bytes ++ []) → Cut w1 w2 F line → Cut w0 w2 G (bytes ++ line)
+  pub cut_line : Outputs w0 w1 ⊥ (bytes ++ []) → Outputs w1 w2 F line → Outputs w0 w2 G (bytes ++ line)
   cut_line a b =
       let first : Appends w0 w1 bytes = subst (λ (l : List ℕ). Appends w0 w1 l) (append-nil bytes) (whole_of a) in
-      let c = Cut-after bytes first b in
+      let c = Outputs-after bytes first b in
       record { grown = c.grown; appends = c.appends; prefix = c.prefix; all = elim c.all [ inl e ↦ inl e | inr f ↦ inr (rose f) ] }
 
 -- the sinks' counts after the last line
@@ -423,13 +423,13 @@ status_cause (RanEnding (Err NoMemory)) old mid new cause later trace source non
 status_cause (RanEnding (Err InputLimit)) old mid new cause later trace source none = source ∙ cause.source
 
 -- nothing more may be written
-pub quiet_line : {w0 w1 : Option (List ℕ)} {F G : Type 0} (bytes line : List ℕ) → Cut w0 w1 F (bytes ++ []) → G → Cut w0 w1 G (bytes ++ line)
+pub quiet_line : {w0 w1 : Option (List ℕ)} {F G : Type 0} (bytes line : List ℕ) → Outputs w0 w1 F (bytes ++ []) → G → Outputs w0 w1 G (bytes ++ line)
 quiet_line {w0 = w0} {w1 = w1} {F = F} bytes line c g =
-    Cut-more line (Cut-fault g (subst (λ (l : List ℕ). Cut w0 w1 F l) (append-nil bytes) c)) g
+    Outputs-more line (Outputs-fault g (subst (λ (l : List ℕ). Outputs w0 w1 F l) (append-nil bytes) c)) g
 
 unfoldable pub shown_line : {tally : Tally} {tr : TraceSink} {base : Base} {gave : ℕ} {l0 l1 w0 w1 w2 : Option (List ℕ)} {s0 s1 : StoreState} {high : ℕ} {ending : Ending} {line line' : List ℕ} {F H : Type 0}
-    (more : List ℕ) → (shown : Shown tally tr base l0 l1 gave w0 w1 s0 s1 high ending line F) → Appends w1 w2 more → Cut w0 w2 H ((printed shown.story.answers ++ shown.story.part) ++ line')
-    → Shown tally tr base l0 l1 gave w0 w2 s0 s1 high ending line' H
+    (more : List ℕ) → (shown : RunShown tally tr base l0 l1 gave w0 w1 s0 s1 high ending line F) → Appends w1 w2 more → Outputs w0 w2 H ((printed shown.story.answers ++ shown.story.part) ++ line')
+    → RunShown tally tr base l0 l1 gave w0 w2 s0 s1 high ending line' H
 shown_line more shown after cut = record {
   taken = shown.taken;
   ended = shown.ended;

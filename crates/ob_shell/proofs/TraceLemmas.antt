@@ -7,7 +7,7 @@ use Rattle.std.proofs.Math.Seq.{drop-append_seam}
 use Rattle.std.proofs.lemmas.Option.{slice_get_within, get_or_from_slice_get}
 use Rattle.ob_base.specs.declared.access.Access.{Access}
 use Rattle.ob_headline.specs.Tracing.{traced}
-use Rattle.ob_print.proofs.CutLemmas.{Cut-after, Cut-whole}
+use Rattle.ob_print.proofs.CutLemmas.{Outputs-after, Outputs-whole}
 use Rattle.ob_print.proofs.TraceText.{trace_text-append}
 use Rattle.ob_print.specs.Lines.{access_line, trace_text}
 use Rattle.ob_shell.specs.Traces.{Traced, TracedAll}
@@ -58,11 +58,11 @@ pub traced_cut : {tracing : Bool} {a0 a1 a2 : List Access} {w0 w1 w2 : Option (L
 traced_cut {a0 = a0} p q = record {
   seen = p.seen ++ q.seen;
   grew = q.grew ∙ ap (λ (l : List Access). l ++ q.seen) p.grew ∙ append_assoc a0 p.seen q.seen;
-  cut = rw traced-append (Cut-after _ p.appends q.cut);
+  cut = rw traced-append (Outputs-after _ p.appends q.cut);
 }
 
 pub traced_whole : {tracing : Bool} {a0 a1 : List Access} {w0 w1 : Option (List ℕ)} (F : Type 0) → TracedAll tracing a0 a1 w0 w1 → Traced tracing a0 a1 w0 w1 F
-traced_whole F p = record { seen = p.seen; grew = p.grew; cut = Cut-whole _ _ F _ p.appends }
+traced_whole F p = record { seen = p.seen; grew = p.grew; cut = Outputs-whole _ _ F _ p.appends }
 
 -- what was asked since the mark
 pub since : (asked0 asked1 seen : List Access) (mark : ℕ) → asked1 ≡ asked0 ++ seen → mark ≡ length asked0 → drop mark asked1 ≡ seen

@@ -39,14 +39,14 @@ use Rattle.ob_seal.specs.KeySet.{KeySet}
 use Rattle.ob_shell.proofs.DisturbLemmas.{before_less, begins_more, crosses, few_or_more, take_begins}
 use Rattle.ob_shell.proofs.ReplayLemmas.{counts_on, fault_is, cut_early, cut_within, outcome_cases, stands_after}
 use Rattle.ob_shell.specs.Running.{LastPart}
-use Rattle.ob_shell.specs.Steps.{CutStep, Does, IsUntampered, Machine, Misspelt, Served, Steps, asked_of, session_of}
+use Rattle.ob_shell.specs.Steps.{CutStep, Does, IsUntampered, Machine, Misspelt, ServedStatement, Steps, asked_of, session_of}
 use Rattle.ob_shell.specs.Top.{EndsUntampered}
 use Rattle.ob_sql.specs.Skeleton.{skeleton}
 use Rattle.ob_sql.specs.declared.stmt.Stmt.{Stmt}
 use Rattle.ob_store.specs.Calls.{IsBefore, IsSteady}
 use Rattle.ob_store.specs.State.{Disturbance, Lie}
 use Rattle.ob_vault.specs.State.{RevState, Start, World}
-use Rattle.ob_vault.specs.Tied.{Calm, Fits, IsUnfit}
+use Rattle.ob_vault.specs.Tied.{Calm, TagFits, IsUnfit}
 
 -- ---- a statement is cut off exactly where the store failed it
 refused_cut : (r : Refusal) (n : ℕ) → is_cut (refused_end r n) ≡ is_store_fault r
@@ -292,7 +292,7 @@ module _ {R : Type 0} (state : R → RevState) where
     pub held : Represents state m1.engine m1.store (after how (session_of m0 tables) stmt).tables
     pub whole : m1.store.faults ≡ 0 → how ≡ None
 
-  pub answered_by : (m0 m1 : Machine R) (tables : Tables) (text : List ℕ) (one : Answer) (did : Served state m0 m1 text one) → ReadsTrue state m0.engine m0.store m1.store tables
+  pub answered_by : (m0 m1 : Machine R) (tables : Tables) (text : List ℕ) (one : Answer) (did : ServedStatement state m0 m1 text one) → ReadsTrue state m0.engine m0.store m1.store tables
       → AnsweredBy m0 m1 tables did.stmt one
   answered_by m0 m1 tables text one did reads =
       let n = length m1.store.asked - length m0.store.asked in
@@ -316,7 +316,7 @@ module _ {R : Type 0} (state : R → RevState) where
             }
       ]
 
-  reads_true : (m0 m1 : Machine R) (tables : Tables) (text : List ℕ) (one : Answer) (did : Served state m0 m1 text one) → IsTrue m0.store.tells → Represents state m0.engine m0.store tables
+  reads_true : (m0 m1 : Machine R) (tables : Tables) (text : List ℕ) (one : Answer) (did : ServedStatement state m0 m1 text one) → IsTrue m0.store.tells → Represents state m0.engine m0.store tables
       → Calm (world m0) → IsUnfit (world m1) → ReadsTrue state m0.engine m0.store m1.store tables
   reads_true m0 m1 tables text one did tells held calm unfit = record { tells = tells; held = held; nolie = unfit_none (world m1) (did.does.ran.cause.1 calm) unfit }
 
@@ -324,7 +324,7 @@ module _ {R : Type 0} (state : R → RevState) where
   not_memory : (stop : Stop) → IsSinkFault stop → Ran (Err stop) ≡ Ran (Err NoMemory) → ⊥
   not_memory stop fault is = let same : stop ≡ NoMemory = cc is in subst (λ (s : Stop). IsSinkFault s) same fault
 
-  walked_done : (Failed : Type 0) (m0 m2 : Machine R) → (Rises m0.store.faults m2.store.faults → Failed) → (text : List ℕ) (more : List (List ℕ)) (stop : Stop) (one : Answer) (part : List ℕ) → part ≡ one.bytes → IsSinkFault stop → Served state m0 m2 text one
+  walked_done : (Failed : Type 0) (m0 m2 : Machine R) → (Rises m0.store.faults m2.store.faults → Failed) → (text : List ℕ) (more : List (List ℕ)) (stop : Stop) (one : Answer) (part : List ℕ) → part ≡ one.bytes → IsSinkFault stop → ServedStatement state m0 m2 text one
       → Walked (Ran (Err stop)) Failed m0 m0 m2 [] (text ∷ more) [] part
   unfolding SpellFirst AreSeen AnswersFrom any_cut statements
   walked_done Failed m0 m2 rose text more stop one part is fault did =
@@ -435,7 +435,7 @@ module _ {R : Type 0} (state : R → RevState) where
   none_before (Some lie) m1 m2 is stays none = absurd (cc (stays lie is, none))
 
   -- one statement more, and then those of which the rest tells
-  early_served : (m0 m1 m2 : Machine R) (tables : Tables) (text : List ℕ) (one : Answer) (did : Served state m0 m1 text one) (n : ℕ) (spelt : List Spelt) (answers : List Answer) (seen : List Entry)
+  early_served : (m0 m1 m2 : Machine R) (tables : Tables) (text : List ℕ) (one : Answer) (did : ServedStatement state m0 m1 text one) (n : ℕ) (spelt : List Spelt) (answers : List Answer) (seen : List Entry)
       → IsTrue m0.store.tells → IsSteady m0.store → Represents state m0.engine m0.store tables → IsBefore m0.store.disturbed n → length m0.store.asked ≤ n
       → (asked : List Access) → m2.store.asked ≡ m1.store.asked ++ asked
       → ((after_it : Tables) → Represents state m1.engine m1.store after_it → length m1.store.asked ≤ n → EarlyFrom n (session_of m1 after_it) m1.store.asked m2.store.asked spelt answers seen)
@@ -483,7 +483,7 @@ module _ {R : Type 0} (state : R → RevState) where
       ]
 
   -- what was asked of a statement and then of the texts after it
-  asked_more : (m0 m1 m : Machine R) (text : List ℕ) (one : Answer) (did : Served state m0 m1 text one) (seen : List Entry) → m.store.asked ≡ m1.store.asked ++ trace (public_of m1.engine) seen
+  asked_more : (m0 m1 m : Machine R) (text : List ℕ) (one : Answer) (did : ServedStatement state m0 m1 text one) (seen : List Entry) → m.store.asked ≡ m1.store.asked ++ trace (public_of m1.engine) seen
       → m.store.asked ≡ m0.store.asked ++ trace (public_of m0.engine) (record { skeleton = skeleton did.stmt; seen = seen_of m1.engine } ∷ seen)
   asked_more m0 m1 m text one did seen is =
       is ∙ (λ i. did.does.ran.asked i ++ trace (did.does.ran.goes_on.public i) seen) ∙ append_assoc m0.store.asked (script (public_of m0.engine) (skeleton did.stmt) (seen_of m1.engine)) _
@@ -491,10 +491,10 @@ module _ {R : Type 0} (state : R → RevState) where
   unfit_before : (m1 m2 : Machine R) → m2.engine.vault.keys ≡ m1.engine.vault.keys → engine_start m2.engine ≡ engine_start m1.engine → ((lie : Lie) → m1.store.lie ≡ Some lie → m2.store.lie ≡ Some lie) → IsUnfit (world m2) → IsUnfit (world m1)
   unfit_before m1 m2 keys start stays unfit = record {
     unfit = λ lie is fits. unfit.unfit lie (stays lie is)
-        (subst (λ (x : Start). Fits m2.engine.vault.keys x lie) (sym start) (subst (λ (k : KeySet). Fits k (engine_start m1.engine) lie) (sym keys) fits));
+        (subst (λ (x : Start). TagFits m2.engine.vault.keys x lie) (sym start) (subst (λ (k : KeySet). TagFits k (engine_start m1.engine) lie) (sym keys) fits));
   }
 
-  more_served : (ending : Ending) (Failed : Type 0) (m0 m1 m m2 : Machine R) (text : List ℕ) (texts more : List (List ℕ)) (one : Answer) (answers : List Answer) (part : List ℕ) → Served state m0 m1 text one
+  more_served : (ending : Ending) (Failed : Type 0) (m0 m1 m m2 : Machine R) (text : List ℕ) (texts more : List (List ℕ)) (one : Answer) (answers : List Answer) (part : List ℕ) → ServedStatement state m0 m1 text one
       → Walked ending Failed m1 m m2 texts more answers part → Walked ending Failed m0 m m2 (text ∷ texts) more (one ∷ answers) part
   unfolding SpellFirst AreSeen AnswersFrom any_cut statements
   more_served ending Failed m0 m1 m m2 text texts more one answers part did rest =

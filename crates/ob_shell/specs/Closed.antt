@@ -4,7 +4,7 @@ use Rattle.ob_base.specs.Counts.{Rises}
 use Rattle.ob_base.specs.declared.refusal.Stop.TheVariants.{NoMemory}
 use Rattle.ob_headline.specs.declared.ending.Ending.{Ending}
 use Rattle.ob_headline.specs.declared.ending.Ending.TheVariants.{Usage, Ran}
-use Rattle.ob_print.specs.Cuts.{Cut}
+use Rattle.ob_print.specs.Cuts.{Outputs}
 use Rattle.ob_shell.specs.declared.words.WordsErr.{WordsErr}
 use Rattle.ob_shell.specs.declared.words.WordsErr.TheVariants as Words
 use Rattle.ob_store.specs.State.{StoreState}
@@ -16,7 +16,7 @@ pub record Unwritten (written0 written1 : Option (List ℕ)) (faults0 faults1 : 
 
 -- the line was written, or cut by a fault
 pub record LineWritten (line : List ℕ) (written0 written1 : Option (List ℕ)) (faults0 faults1 : ℕ) : Type 0 where
-  pub cut : Cut written0 written1 (Rises faults0 faults1) line
+  pub cut : Outputs written0 written1 (Rises faults0 faults1) line
   pub later : faults0 ≤ faults1
   pub empty : line ≡ [] → faults1 ≡ faults0
 

@@ -14,7 +14,7 @@ use Rattle.ob_gen.specs.Generated.{generated}
 use Rattle.ob_gen.specs.SummaryText.{summary_of, summary_text}
 use Rattle.ob_gen.specs.declared.tally.Tally.{Tally}
 use Rattle.ob_headline.specs.Bases.{Base, fresh}
-use Rattle.ob_headline.specs.Keeping.{Began, BeginsFrom, EndsAtMark, EndsWith, NotBegun, kept_line, kept_status, region_opened}
+use Rattle.ob_headline.specs.Keeping.{BeganKept, BeginsFrom, EndsAtMark, EndsWith, NotBegun, kept_line, kept_status, region_opened}
 use Rattle.ob_headline.specs.KeptHeadline.{ClosesTables, EndsUnkeyed}
 use Rattle.ob_headline.specs.KeyLine.{first_line, secret_of}
 use Rattle.ob_headline.specs.Tracing.{traced}
@@ -25,7 +25,7 @@ use Rattle.ob_headline.specs.declared.ending.KeptEnding.{KeptEnding}
 use Rattle.ob_headline.specs.declared.ending.KeptEnding.TheVariants.{Plain, OtherPack, StoreFault, NotClosed, KeeperFault}
 use Rattle.ob_headline.specs.declared.ending.Report.{Report}
 use Rattle.ob_headline.specs.declared.seed.Seed.{Seed}
-use Rattle.ob_print.specs.Cuts.{Cut}
+use Rattle.ob_print.specs.Cuts.{Outputs}
 use Rattle.ob_reopen.specs.Keepers.{GivesMark, KeeperState}
 use Rattle.ob_reopen.specs.declared.fault.CloseErr.{CloseErr}
 use Rattle.ob_seal.specs.KeySet.{KeySet}
@@ -37,7 +37,7 @@ use Rattle.ob_shell.specs.Running.{OutFailed, Silenced, StopCause}
 use Rattle.ob_shell.specs.Standing.{StandsOn}
 use Rattle.ob_shell.specs.Steps.{IsReady, machine_of}
 use Rattle.ob_shell.specs.Tallies.{has_refused}
-use Rattle.ob_shell.specs.Top.{EndingCause, RanAfter, Shown, sink_of}
+use Rattle.ob_shell.specs.Top.{EndingCause, RanAfter, RunShown, sink_of}
 use Rattle.ob_shell.specs.Traces.{Traced}
 use Rattle.ob_shell.specs.declared.keeping.KeptEnded.{KeptEnded}
 use Rattle.ob_store.specs.State.{StoreState}
@@ -77,7 +77,7 @@ pub record StartsRun {R : Type 0} (state : R → RevState) (config : Config) (ke
     (tracing : Bool) (e : Engine R) (old new : StoreState) (traced0 traced1 : Option (List ℕ))
     (fault0 fault1 : ℕ) (keeper0 keeper1 : KeeperState) : Type 0 where
   pub base : Base
-  pub began : Began config (keys_of key) tracing base old new traced0 traced1 keeper0 keeper1
+  pub began : BeganKept config (keys_of key) tracing base old new traced0 traced1 keeper0 keeper1
   pub engages : Engages state base config key e new
   pub faults : fault1 ≡ fault0
 
@@ -91,7 +91,7 @@ pub record EndsUnserved (config : Config) (key : List ℕ) (tracing : Bool) (end
     (old new : StoreState) (traced0 traced1 : Option (List ℕ)) (fault0 fault1 : ℕ)
     (keeper0 keeper1 : KeeperState) : Type 0 where
   pub begun : NotBegun config (keys_of key) ended.ending old new fault0 fault1 keeper0 keeper1
-  pub traced_all : Cut traced0 traced1 (Rises fault0 fault1) (traced tracing new.asked)
+  pub traced_all : Outputs traced0 traced1 (Rises fault0 fault1) (traced tracing new.asked)
   pub quiet : IsHushed ended.quiet fault0 fault1
   pub later : fault0 ≤ fault1
   pub high : ended.high ≤ 1
@@ -203,7 +203,7 @@ pub record RanUnkeyed (config : Config) (tracing : Bool) (ended : KeptEnded) (ol
   pub ending : Ending
   pub is : ended.ending ≡ Plain ending
   pub read : ending ≢ Usage
-  pub shown : Shown ended.tally (sink_of tracing old.traced new.traced) (fresh (Some config))
+  pub shown : RunShown ended.tally (sink_of tracing old.traced new.traced) (fresh (Some config))
       old.left new.left new.gave old.written new.written old.store new.store ended.high
       ending [] ⊥
   pub ends : EndsUnkeyed ending shown.taken
@@ -238,7 +238,7 @@ pub record RanBegun (config : Config) (tracing : Bool) (old : Outside) (keeper0 
   pub opened : StoreState
   pub traced : Option (List ℕ)
   pub in_use : KeeperState
-  pub began : Began config (keys_of secret) tracing base old.store opened old.traced traced
+  pub began : BeganKept config (keys_of secret) tracing base old.store opened old.traced traced
       keeper0 in_use
   pub set : base.settings ≡ Some config
   pub first : opened.asked ≡ base.before
@@ -248,7 +248,7 @@ pub record RanStopped (config : Config) (tracing : Bool) (ended : KeptEnded) (ol
     (keeper0 keeper1 : KeeperState) : Type 0 where
   pub begun : RanBegun config tracing old keeper0
   pub stop : Stop
-  pub shown : Shown ended.tally (sink_of tracing begun.traced new.traced) begun.base
+  pub shown : RunShown ended.tally (sink_of tracing begun.traced new.traced) begun.base
       old.left new.left new.gave old.written new.written begun.opened new.store ended.high
       (Ran (Err stop)) [] (OutFailed ended.quiet old.faults.out new.faults.out)
   pub keyed : secret_of (first_line shown.taken) ≡ Some begun.secret
@@ -267,7 +267,7 @@ pub record RanWhole (config : Config) (tracing : Bool) (ended : KeptEnded) (old 
   pub high : ℕ
   pub served : StoreState
   pub traced : Option (List ℕ)
-  pub shown : Shown tally (sink_of tracing begun.traced traced) begun.base
+  pub shown : RunShown tally (sink_of tracing begun.traced traced) begun.base
       old.left new.left new.gave old.written new.written begun.opened served high
       (Ran (Ok (has_refused tally))) [] (OutFailed false old.faults.out new.faults.out)
   pub keyed : secret_of (first_line shown.taken) ≡ Some begun.secret

@@ -19,7 +19,7 @@ use Rattle.ob_headline.specs.declared.ending.Ending.TheVariants.{Usage, BadKey, 
 use Rattle.ob_headline.specs.declared.ending.Report.{Report}
 use Rattle.ob_headline.specs.declared.seed.Seed.{Seed}
 use Rattle.ob_meddle.specs.declared.store.MeddledStore.{MeddledStore}
-use Rattle.ob_print.specs.Cuts.{Cut}
+use Rattle.ob_print.specs.Cuts.{Outputs}
 use Rattle.ob_shell.specs.Closed.{LineWritten, Unwritten}
 use Rattle.ob_shell.specs.Meddling.{Meddled}
 use Rattle.ob_shell.specs.Top.{EndingTally, Reported, sink_of}
@@ -41,7 +41,7 @@ conclusion (Ran (Err stop)) tally asked = last_line (Ran (Err stop))
 -- the summary was written, or cut by a sink's fault, which is then the status
 pub record SummedUp (refused : Bool) (text : List ℕ) (written0 written1 : Option (List ℕ))
     (faults0 faults1 : ℕ) (status : ℕ) : Type 0 where
-  pub cut : Cut written0 written1 (Rises faults0 faults1) text
+  pub cut : Outputs written0 written1 (Rises faults0 faults1) text
   pub later : faults0 ≤ faults1
   pub told : ((status ≡ status_of (Ran (Ok refused))) × Appends written0 written1 text
       × (faults1 ≡ faults0))
@@ -76,7 +76,7 @@ StatusIs (Ran (Err stop)) status Whole Rose = status ≡ status_of (Ran (Err sto
 -- what was written of a run that ended so, and with which status; nothing after a fault of the trace's sink
 pub record Concludes (ending : Ending) (tally : Tally) (asked : List Access) (opened : ℕ)
     (written0 written1 : Option (List ℕ)) (old new : Faults) (report : Report) : Type 0 where
-  pub grew : Cut written0 written1 (SinksRose old new) (conclusion ending tally asked)
+  pub grew : Outputs written0 written1 (SinksRose old new) (conclusion ending tally asked)
   pub silent : new.trace ≢ old.trace → written1 ≡ written0
   pub status : StatusIs ending report.status
       (Appends written0 written1 (conclusion ending tally asked) × (new.out ≡ old.out))

@@ -14,7 +14,7 @@ use Rattle.ob_headline.specs.declared.ending.KeptEnding.{KeptEnding}
 use Rattle.ob_headline.specs.declared.ending.KeptEnding.TheVariants.{Plain, OtherPack, StoreFault, NotClosed, KeeperFault}
 use Rattle.ob_headline.specs.declared.ending.Report.{Report}
 use Rattle.ob_headline.specs.declared.seed.Seed.{Seed}
-use Rattle.ob_print.specs.Cuts.{Cut}
+use Rattle.ob_print.specs.Cuts.{Outputs}
 use Rattle.ob_reopen.specs.Keepers.{KeeperState}
 use Rattle.ob_shell.specs.Generating.{IsUnread, StatusIs, Summarized, after_text, before_text, conclusion}
 use Rattle.ob_shell.specs.Top.{EndingTally}
@@ -46,7 +46,7 @@ KeptTally KeeperFault answers tally = ⊤
 -- what was written of a run that ended so, and with which status; nothing after a fault of the trace's sink
 pub record KeptConcludes (ending : KeptEnding) (tally : Tally) (asked : List Access) (opened : ℕ)
     (written0 written1 : Option (List ℕ)) (old new : Faults) (report : Report) : Type 0 where
-  pub grew : Cut written0 written1 (SinksRose old new) (kept_conclusion ending tally asked)
+  pub grew : Outputs written0 written1 (SinksRose old new) (kept_conclusion ending tally asked)
   pub silent : new.trace ≢ old.trace → written1 ≡ written0
   pub status : KeptStatusIs ending report.status
       (Appends written0 written1 (kept_conclusion ending tally asked) × (new.out ≡ old.out))

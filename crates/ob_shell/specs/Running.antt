@@ -9,7 +9,7 @@ use Rattle.ob_exec.specs.declared.engine.Engine.{Engine}
 use Rattle.ob_gen.specs.declared.tally.Tally.{Tally}
 use Rattle.ob_headline.specs.Texts.{is_over, rest_of, texts_of, texts_in}
 use Rattle.ob_headline.specs.Words.{Answer, Begins, Faults, NoneRose, SinksRose, Took, any_refused, before_read, printed}
-use Rattle.ob_print.specs.Cuts.{Cut}
+use Rattle.ob_print.specs.Cuts.{Outputs}
 use Rattle.ob_shell.specs.Feeding.{Fetch, Fed}
 use Rattle.ob_shell.specs.Steps.{Machine, Steps, PartlyAt, IsUndone, machine_of}
 use Rattle.ob_shell.specs.Tallies.{TallyIs, flagged, tally_of}
@@ -112,7 +112,7 @@ pub record SessionRan {R : Type 0} (state : R → RevState) (tracing : Bool) (fe
   pub steps : Steps state m0 middle served answers
   pub part : List ℕ
   pub last : LastPart state middle m2 more part (flagged result)
-  pub cut : Cut written0 written1 Lost (printed answers ++ part)
+  pub cut : Outputs written0 written1 Lost (printed answers ++ part)
   pub whole : Took written0 written1 (printed answers)
   pub traced : Traces tracing traced0 traced1 m0.store.asked middle.store.asked
   pub counted : TallyIs answers result

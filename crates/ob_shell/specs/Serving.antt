@@ -9,7 +9,7 @@ use Rattle.ob_vault.specs.State.{RevState}
 
 -- this was done of these texts, and the engine may be given the next one; or a stop came within the first of them, which has
 -- its cause. It is none of the source, and one by a limit only where this one was reached.
-pub record Serves {R T : Type 0} (state : R → RevState) (texts : List (List ℕ))
+pub record ServesTexts {R T : Type 0} (state : R → RevState) (texts : List (List ℕ))
     (Done : T → (m0 m1 : Machine R) → Type 0) (Reached : Type 0) (written0 written1 : Option (List ℕ))
     (old new : Faults) (m0 m1 : Machine R) (result : Result T Halted) : Type 0 where
   pub ready : OnOk result (IsReady state m1)

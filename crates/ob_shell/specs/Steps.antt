@@ -23,7 +23,7 @@ use Rattle.ob_headline.specs.Meaning.{PrintsUntil}
 use Rattle.ob_mean.specs.Lawful.{Lawful}
 use Rattle.ob_mean.specs.Replay.{Session}
 use Rattle.ob_mean.specs.Verdict.{Tables, verdict}
-use Rattle.ob_print.specs.Cuts.{Cut}
+use Rattle.ob_print.specs.Cuts.{Outputs}
 use Rattle.ob_print.specs.Rows.{events_text}
 use Rattle.ob_shell.specs.Tallies.{tally_after}
 use Rattle.ob_sql.specs.Skeleton.{skeleton}
@@ -78,7 +78,7 @@ pub record Does {R : Type 0} (state : R → RevState) (m0 m1 : Machine R) (stmt 
   pub means : Means state stmt result m0.engine m0.store m1.engine m1.store
 
 -- the engine answered a statement, and its header and rows were printed before the closing line
-pub record Served {R : Type 0} (state : R → RevState) (m0 m1 : Machine R) (text : List ℕ)
+pub record ServedStatement {R : Type 0} (state : R → RevState) (m0 m1 : Machine R) (text : List ℕ)
     (answer : Answer) : Type 0 where
   pub stmt : Stmt
   pub spells : Spells text (Ok stmt)
@@ -93,7 +93,7 @@ pub record Served {R : Type 0} (state : R → RevState) (m0 m1 : Machine R) (tex
 -- from the first machine to the second this text was answered
 pub record Step {R : Type 0} (state : R → RevState) (m0 m1 : Machine R) (text : List ℕ)
     (answer : Answer) : Type 0 where
-  pub done : Misspelt m0 m1 text answer ⊎ Served state m0 m1 text answer
+  pub done : Misspelt m0 m1 text answer ⊎ ServedStatement state m0 m1 text answer
 
 -- from the first machine to the second this text was answered so, of which this plan was seen, and all but the closing
 -- line was written
@@ -173,4 +173,4 @@ pub record StopsIn {R : Type 0} (state : R → RevState) (written0 written1 : Op
     (Lost : Type 0) (texts : List (List ℕ)) (stop : Stop) (m0 m1 : Machine R) : Type 0 where
   pub bytes : List ℕ
   pub partly : PartlyAt state m0 m1 texts stop bytes
-  pub cut : Cut written0 written1 Lost bytes
+  pub cut : Outputs written0 written1 Lost bytes

@@ -16,7 +16,7 @@ use Rattle.ob_headline.specs.Status.{EndsAtRead, HasSecret, IsCompleted, KeepsLi
 use Rattle.ob_headline.specs.declared.ending.Ending.{Ending}
 use Rattle.ob_headline.specs.declared.ending.Ending.TheVariants.{Usage, BadKey, Ran}
 use Rattle.ob_headline.specs.declared.ending.Report.{Report}
-use Rattle.ob_print.specs.Cuts.{Cut}
+use Rattle.ob_print.specs.Cuts.{Outputs}
 use Rattle.ob_script.specs.Trace.{trace}
 use Rattle.ob_shell.specs.Feeding.{Fetch}
 use Rattle.ob_shell.specs.Running.{CountsRows, EndsBy, FlagIs, StopCause}
@@ -89,7 +89,7 @@ pub record RanAfter {R : Type 0} (state : R → RevState) (tr : TraceSink) (base
   -- the rows that were open are those of the session's engine; where none was started, there are none
   pub rows : CountsRows state tr.on feed0 feed1 left0 left1 gave written0 written1 tr.old tr.new
       store0 store1 Lost result high ⊎ ((high ≡ 0) × (store1 ≡ store0))
-  pub cut : Cut written0 written1 Lost (printed story.answers ++ story.part)
+  pub cut : Outputs written0 written1 Lost (printed story.answers ++ story.part)
   pub whole : Took written0 written1 (printed story.answers)
   pub counted : TallyIs story.answers result
   pub ends : EndsBy feed1 ended (feed0.unread ++ piece) story.more story.part (flagged result)
@@ -157,7 +157,7 @@ StatusCause (Ran (Err NoMemory)) old new = new.source ≡ old.source
 StatusCause (Ran (Err InputLimit)) old new = new.source ≡ old.source
 
 -- what was taken, what of it was served, and what the sink took of the answers and the last line
-pub record Shown (tally : Tally) (tr : TraceSink) (base : Base)
+pub record RunShown (tally : Tally) (tr : TraceSink) (base : Base)
     (left0 left1 : Option (List ℕ)) (gave : ℕ) (written0 written1 : Option (List ℕ))
     (store0 store1 : StoreState) (high : ℕ)
     (ending : Ending) (line : List ℕ) (Fault : Type 0) : Type 0 where
@@ -167,7 +167,7 @@ pub record Shown (tally : Tally) (tr : TraceSink) (base : Base)
   pub bytes : Bytes (limit_of base.settings) taken ended story left0 left1
   pub prompt : Prompt taken story.served gave
   pub carried : Carried tr base (secret_of (first_line taken)) store0 store1 high story ending
-  pub grew : Cut written0 written1 Fault ((printed story.answers ++ story.part) ++ line)
+  pub grew : Outputs written0 written1 Fault ((printed story.answers ++ story.part) ++ line)
   -- a sink's fault ends the run: all answers were taken whole
   pub whole : Took written0 written1 (printed story.answers)
   pub flag : EndingFlag ending story.answers
@@ -182,13 +182,13 @@ pub record Reported (tally : Tally) (tr : TraceSink) (Takes : Type 0) (base : Ba
   pub ending : Ending
   pub status : report.status ≡ status_of ending
   pub takes : EndingWords ending Takes
-  pub shown : Shown tally tr base left0 left1 gave written0 written1 store0 store1 report.high ending
+  pub shown : RunShown tally tr base left0 left1 gave written0 written1 store0 store1 report.high ending
       (last_line ending) (SinksRose old new)
   -- so was what was printed of the one that was begun, unless the sink of the answers failed
   pub through : Took written0 written1 (printed shown.story.answers ++ shown.story.part)
       ⊎ Rises old.out new.out
   pub silent : new.trace ≢ old.trace
-      → Cut written0 written1 (Unit {0}) (printed shown.story.answers ++ shown.story.part)
+      → Outputs written0 written1 (Unit {0}) (printed shown.story.answers ++ shown.story.part)
   pub cause : StatusCause ending old new
   pub completes : Takes → (input : List ℕ) → left0 ≡ Some input
       → KeepsLimits (limit_of base.settings) input

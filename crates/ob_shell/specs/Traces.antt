@@ -4,7 +4,7 @@ use Rattle.std.specs.Io.KnownBytes.{Appends}
 use Rattle.ob_base.specs.declared.access.Access.{Access}
 use Rattle.ob_headline.specs.Tracing.{traced}
 use Rattle.ob_headline.specs.Words.{Took}
-use Rattle.ob_print.specs.Cuts.{Cut}
+use Rattle.ob_print.specs.Cuts.{Outputs}
 
 -- the trace took each access that was asked
 pub record TracedAll (tracing : Bool) (asked0 asked1 : List Access) (written0 written1 : Option (List ℕ)) : Type 0 where
@@ -16,7 +16,7 @@ pub record TracedAll (tracing : Bool) (asked0 asked1 : List Access) (written0 wr
 pub record Traced (tracing : Bool) (asked0 asked1 : List Access) (written0 written1 : Option (List ℕ)) (Fault : Type 0) : Type 0 where
   pub seen : List Access
   pub grew : asked1 ≡ asked0 ++ seen
-  pub cut : Cut written0 written1 Fault (traced tracing seen)
+  pub cut : Outputs written0 written1 Fault (traced tracing seen)
 
 -- the trace took each access that was asked, and maybe more after them
 pub record Traces (tracing : Bool) (written0 written1 : Option (List ℕ)) (asked0 asked1 : List Access) : Type 0 where

@@ -7,7 +7,7 @@ ghost use Rattle.ob_headline.specs.Words.{faults_of};
 ghost use Rattle.ob_headline.specs.Statements.{Spells};
 ghost use Rattle.ob_shell.specs.Feeding.{IsFedBy};
 ghost use Rattle.ob_shell.specs.Running.{IsQuiet, OutFailed, SessionRan, Silenced, StopCause, is_quiet, stop_of};
-ghost use Rattle.ob_shell.specs.Serving.{Serves};
+ghost use Rattle.ob_shell.specs.Serving.{ServesTexts};
 ghost use Rattle.ob_shell.specs.Steps.{machine_of, IsReady, HasBody, AnswersAll};
 ghost use Rattle.ob_shell.specs.Tallies;
 ghost use Rattle.ob_shell.specs.Traces.{TracedAll, Traced};
@@ -104,7 +104,7 @@ fn run_stmt<R: Revisions, S: BlockStore, K: Sink>(
     requires ready { IsReady R.state (machine_of engine.old (S.state store.old)) }
     requires none { printer.old.out.waiting.items ≡ [] }
     ensures same_sink { printer.new.out.out.ghost_name ≡ printer.old.out.out.ghost_name }
-    ensures serves { Serves R.state (text.now ∷ []) (λ a. HasBody R.state
+    ensures serves { ServesTexts R.state (text.now ∷ []) (λ a. HasBody R.state
         (K.written printer.old.out.out.now) (K.written printer.new.out.out.now) text.now
         a.outcome a.plan) ⊥
         (K.written printer.old.out.out.now) (K.written printer.new.out.out.now)
@@ -143,7 +143,7 @@ fn run_text<R: Revisions, S: BlockStore, K: Sink>(
 ) -> Result<Answered, Halted>
     requires short { length text.now ≤ text_max }
     requires ready { IsReady R.state (machine_of engine.old (S.state store.old)) }
-    ensures serves { Serves R.state (text.now ∷ []) (λ a. HasBody R.state
+    ensures serves { ServesTexts R.state (text.now ∷ []) (λ a. HasBody R.state
         (K.written out.old) (K.written out.new) text.now a.outcome a.plan) ⊥
         (K.written out.old) (K.written out.new)
         (faults_of 0 (K.faults out.old) 0) (faults_of 0 (K.faults out.new) 0)
@@ -188,7 +188,7 @@ fn answer<R: Revisions, S: BlockStore, K: Sink>(
 ) -> Result<Tally, Halted>
     requires short { length text.now ≤ text_max }
     requires ready { IsReady R.state (machine_of engine.old (S.state store.old)) }
-    ensures serves { Serves R.state (text.now ∷ []) (λ counted. AnswersAll R.state
+    ensures serves { ServesTexts R.state (text.now ∷ []) (λ counted. AnswersAll R.state
         (K.written out.old) (K.written out.new) (text.now ∷ []) tally counted) ⊥
         (K.written out.old) (K.written out.new)
         (faults_of 0 (K.faults out.old) 0) (faults_of 0 (K.faults out.new) 0)
@@ -219,7 +219,7 @@ fn answer_traced<R: Revisions, S: BlockStore, K: Sink, T: Sink>(
 ) -> Result<Tally, Halted>
     requires short { length text.now ≤ text_max }
     requires ready { IsReady R.state (machine_of engine.old (S.state store.old)) }
-    ensures serves { Serves R.state (text.now ∷ []) (λ counted. AnswersAll R.state
+    ensures serves { ServesTexts R.state (text.now ∷ []) (λ counted. AnswersAll R.state
         (K.written out.old) (K.written out.new) (text.now ∷ []) tally counted) ⊥
         (K.written out.old) (K.written out.new)
         (faults_of 0 (K.faults out.old) (T.faults trace.old))
@@ -260,7 +260,8 @@ fn turn<R: Revisions, S: BlockStore, K: Sink, T: Sink>(
     requires ready { IsReady R.state (machine_of engine.old (S.state store.old)) }
     ensures pending { OnOk result ((session.new.pending ≡ rest_after session.old.pending b)
         × (length session.new.pending < text_max)) }
-    ensures serves { Serves R.state (texts_at session.old.pending b) (λ served. AnswersAll R.state
+    ensures serves { ServesTexts R.state (texts_at session.old.pending b)
+        (λ served. AnswersAll R.state
         (K.written out.old) (K.written out.new) (texts_at session.old.pending b)
         session.old.tally session.new.tally)
         ((texts_at session.old.pending b ≡ [])
@@ -310,7 +311,7 @@ fn turn<R: Revisions, S: BlockStore, K: Sink, T: Sink>(
     }
 }
 
-// Serves what has come of a text with no end, once no more comes.
+// ServesTexts what has come of a text with no end, once no more comes.
 fn finish<R: Revisions, S: BlockStore, K: Sink, T: Sink>(
     alloc: Global,
     tracing: bool,
@@ -322,7 +323,8 @@ fn finish<R: Revisions, S: BlockStore, K: Sink, T: Sink>(
 ) -> Result<Tally, Halted>
     requires short { length session.now.pending ≤ text_max }
     requires ready { IsReady R.state (machine_of engine.old (S.state store.old)) }
-    ensures serves { Serves R.state (tail_text session.now.pending) (λ counted. AnswersAll R.state
+    ensures serves { ServesTexts R.state (tail_text session.now.pending)
+        (λ counted. AnswersAll R.state
         (K.written out.old) (K.written out.new) (tail_text session.now.pending)
         session.now.tally counted) ⊥
         (K.written out.old) (K.written out.new)
@@ -350,7 +352,7 @@ fn finish<R: Revisions, S: BlockStore, K: Sink, T: Sink>(
     )
 }
 
-/// Serves the texts that a feed brings, to its end or a stop. Tells what was counted of them.
+/// ServesTexts the texts that a feed brings, to its end or a stop. Tells what was counted of them.
 pub fn serve<I: Source, R: Revisions, S: BlockStore, K: Sink, T: Sink>(
     alloc: Global,
     tracing: bool,

@@ -17,7 +17,7 @@ ghost use Rattle.ob_shell.specs.Generating.{MeddleRan, Summarized, asked_for};
 ghost use Rattle.ob_shell.specs.Meddling.{Unserved};
 ghost use Rattle.ob_shell.specs.Running.{IsQuiet, OutFailed, Silenced, StopCause, is_quiet, stop_of};
 ghost use Rattle.ob_shell.specs.Tallies.{flagged};
-ghost use Rattle.ob_shell.specs.Top.{EndingCause, RanAfter, Reported, Shown, sink_of};
+ghost use Rattle.ob_shell.specs.Top.{EndingCause, RanAfter, Reported, RunShown, sink_of};
 ghost use Rattle.ob_shell.specs.Traces.{Traced};
 ghost use Rattle.ob_shell.specs.WordsRead.{AreWithin};
 
@@ -178,7 +178,7 @@ pub(crate) fn run<I: Source, O: Sink, T: Sink, S: BlockStore>(
 ) -> Ended
     requires within { AreWithin words.config }
     requires fresh { (S.state store.old).asked ≡ [] }
-    ensures shown { Shown result.tally
+    ensures shown { RunShown result.tally
         (sink_of words.trace (T.written trace.old) (T.written trace.new))
         (fresh (Some words.config))
         (I.left input.old) (I.left input.new) (I.gave input.new)

@@ -3,7 +3,7 @@ ghost use Rattle.std.specs.Prelude.{◌≡◌, ◌<◌, ◌≤◌, [], drop, len
 ghost use Rattle.std.specs.Io.KnownBytes.{Appends};
 ghost use Rattle.ob_headline.specs.Tracing.{traced};
 ghost use Rattle.ob_io.specs.Causes.{HasCause};
-ghost use Rattle.ob_print.specs.Cuts.{Cut};
+ghost use Rattle.ob_print.specs.Cuts.{Outputs};
 ghost use Rattle.ob_print.specs.Lines.{trace_text};
 
 use ob_base::Failed;
@@ -22,7 +22,7 @@ fn write_accesses<S: BlockStore, T: Sink>(
     ensures same_sink { trace.new.out.ghost_name ≡ trace.old.out.ghost_name }
     ensures ok { OnOk result (Appends (T.written trace.old.out.now) (T.written trace.new.out.now)
         (trace_text (drop from (S.state store.now).asked))) }
-    ensures cut { Cut (T.written trace.old.out.now) (T.written trace.new.out.now) (IsErr result)
+    ensures cut { Outputs (T.written trace.old.out.now) (T.written trace.new.out.now) (IsErr result)
         (trace_text (drop from (S.state store.now).asked)) }
     ensures cause { HasCause (T.faults trace.old.out.now) (T.faults trace.new.out.now) result }
 {
@@ -41,7 +41,7 @@ fn write_trace<S: BlockStore, T: Sink>(store: &S, from: u64, trace: &mut T) -> R
     requires { from ≤ length (S.state store.now).asked }
     ensures ok { OnOk result (Appends (T.written trace.old) (T.written trace.new)
         (trace_text (drop from (S.state store.now).asked))) }
-    ensures cut { Cut (T.written trace.old) (T.written trace.new) (IsErr result)
+    ensures cut { Outputs (T.written trace.old) (T.written trace.new) (IsErr result)
         (trace_text (drop from (S.state store.now).asked)) }
     ensures cause { HasCause (T.faults trace.old) (T.faults trace.new) result }
 {
@@ -59,7 +59,7 @@ pub fn trace_from<S: BlockStore, T: Sink>(
     requires { from ≤ length (S.state store.now).asked }
     ensures ok { OnOk result (Appends (T.written trace.old) (T.written trace.new)
         (traced tracing (drop from (S.state store.now).asked))) }
-    ensures cut { Cut (T.written trace.old) (T.written trace.new) (IsErr result)
+    ensures cut { Outputs (T.written trace.old) (T.written trace.new) (IsErr result)
         (traced tracing (drop from (S.state store.now).asked)) }
     ensures cause { HasCause (T.faults trace.old) (T.faults trace.new) result }
 {

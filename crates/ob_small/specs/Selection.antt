@@ -26,7 +26,7 @@ use Rattle.ob_flat.specs.declared.fault.OpErr.{OpErr}
 use Rattle.ob_flat.specs.declared.fault.OpErr.TheVariants.{Failed, NoMemory}
 use Rattle.ob_flat.specs.Slots.{AreSlots, block_bytes}
 use Rattle.ob_flat.specs.Flats.{IsMade, IsFlat, HoldsBlock, HoldsRows, Represents, table_region, whole_blocks}
-use Rattle.ob_flat.specs.Words.{Ran, TamperedIn, SealsTable, Makes, NoMemoryBehind, blocks_of}
+use Rattle.ob_flat.specs.Words.{PassRan, TamperedIn, SealsTable, Makes, NoMemoryBehind, blocks_of}
 use Rattle.ob_flat.specs.Creates.{make_script}
 use Rattle.ob_small.specs.Keeping.{chosen, fitted, AreKept}
 
@@ -127,7 +127,7 @@ HoldsChosen pack to slots p w =
 -- and below k were kept, as many as there is space for
 pub record Collects {T : Type 0} (pack : ℕ) (flat : Flat) (p : Row → Bool) (from k : ℕ)
     (kept : List (List ℕ)) (result : Result T OpErr) (old new : World) : Type 0 where
-  pub ran : Ran (count_part flat.region (blocks_of pack flat)) none result old new
+  pub ran : PassRan (count_part flat.region (blocks_of pack flat)) none result old new
   pub never : IfErr result (λ e. (e ≡ Failed) ⊎ TamperedIn pack flat e new)
   pub seals : SealsAll old new
   pub turns : OnOk result ((q x : ℕ) (shape : Region)
@@ -141,7 +141,7 @@ pub record Collects {T : Type 0} (pack : ℕ) (flat : Flat) (p : Row → Bool) (
 -- rows or dummies, whatever the store gave
 pub record Writes {T : Type 0} (pack : ℕ) (to : Flat) (first n : ℕ) (kept : List (List ℕ))
     (result : Result T OpErr) (old new : World) : Type 0 where
-  pub ran : Ran (each n (write_from to.region first)) (one to.region) result old new
+  pub ran : PassRan (each n (write_from to.region first)) (one to.region) result old new
   pub never : IfErr result (λ e. e ≡ Failed)
   pub seals : SealsTable pack to.schema to.region old new
   pub next : OnOk result (IsNext pack to (first + n) new)
@@ -155,7 +155,7 @@ pub record Writes {T : Type 0} (pack : ℕ) (to : Flat) (first n : ℕ) (kept : 
 -- a new table was filled, pass after pass
 pub record Fills {T : Type 0} (s : Selection) (to : ℕ)
     (result : Result T OpErr) (old new : World) : Type 0 where
-  pub ran : Ran (fill_script s to) (one to) result old new
+  pub ran : PassRan (fill_script s to) (one to) result old new
   pub never : IfErr result (λ e. (e ≡ Failed) ⊎ TamperedIn s.pack s.flat e new)
   pub seals : SealsTable s.pack s.flat.schema to old new
   pub filled : OnOk result (IsFlat s.pack (table s to) new)
@@ -166,7 +166,7 @@ pub record Fills {T : Type 0} (s : Selection) (to : ℕ)
 
 -- and was made before; where k is the number of the selected rows, it has these and no others
 pub record Selects (s : Selection) (result : Result Flat OpErr) (old new : World) : Type 0 where
-  pub ran : Ran (select_script s old.vault.next) (one old.vault.next) result old new
+  pub ran : PassRan (select_script s old.vault.next) (one old.vault.next) result old new
   pub never : IfErr result (λ e. (e ≡ Failed) ⊎ (e ≡ NoMemory) ⊎ TamperedIn s.pack s.flat e new)
   pub memory : NoMemoryBehind (make_script s.pack (table s old.vault.next)) result old new
   pub makes : Makes Round s.pack (table s old.vault.next) result old new

@@ -4,7 +4,7 @@ use Rattle.std.proofs.lemmas.List.{append-nil, take_at}
 use Rattle.std.proofs.lemmas.Bool.{cases_eq}
 use Rattle.ob_base.specs.declared.access.Access.{Access}
 use Rattle.ob_store.specs.State.{Lie, Disturbance, StoreState}
-use Rattle.ob_store.specs.Calls.{Asks, ReadGives, Rests, IsBefore}
+use Rattle.ob_store.specs.Calls.{Asks, ReadGives, ChangesNothing, IsBefore}
 use Rattle.ob_base.specs.Lists.{each}
 use Rattle.ob_store.specs.Runs.{Did, Began, Later}
 
@@ -31,7 +31,7 @@ later_call access old new asks = record {
 }
 
 -- room is made
-pub later_rests : (old new : StoreState) → Rests old new → Later old new
+pub later_rests : (old new : StoreState) → ChangesNothing old new → Later old new
 later_rests old new rests = record {
   faults = omega (arith, rests.faults);
   tells = rests.tells;

@@ -109,7 +109,7 @@ pub record MayHold (region place : ℕ) (block : List ℕ) (old new : StoreState
   pub last : (new.last region place ≡ old.last region place) ⊎ (new.last region place ≡ Some block)
 
 -- `room` changes nothing else, and takes none away
-pub record Rests (old new : StoreState) : Type 0 where
+pub record ChangesNothing (old new : StoreState) : Type 0 where
   pub spare : old.spare ≤ new.spare
   pub asked : new.asked ≡ old.asked
   pub faults : new.faults ≡ old.faults

@@ -1,7 +1,7 @@
 ghost use Rattle.std.specs.Prelude.{◌≡◌, ◌⊎◌, ◌<◌, ◌≤◌, ℕ, IsTrue, [], Some, None, length, slice_get, OnOk, OnErr};
 ghost use Rattle.ob_store.specs.State.{KeptRegion, Shape, StoreState};
 ghost use Rattle.ob_base.specs.Accesses.{highest};
-ghost use Rattle.ob_store.specs.Calls.{IsBounded, IsLive, IsPlace, IsGivenUp, KeepsLive, Reopens, Resumes, Asks, CountsFault, CountsSlip, CountsMakeFault, Keeps, Makes, ReadGives, OnlyAt, Holds, MayHold, OnlyRegion, Rests, IsSteady};
+ghost use Rattle.ob_store.specs.Calls.{IsBounded, IsLive, IsPlace, IsGivenUp, KeepsLive, Reopens, Resumes, Asks, CountsFault, CountsSlip, CountsMakeFault, Keeps, Makes, ReadGives, OnlyAt, Holds, MayHold, OnlyRegion, ChangesNothing, IsSteady};
 
 use ob_base::{Access, Failed, NoMemory, StoreErr};
 
@@ -22,7 +22,7 @@ pub trait BlockStore {
     ///
     /// `NoMemory` leaves the store as it was.
     fn room(&mut self, n: u64) -> Result<(), NoMemory>
-        ensures rests { Rests (state self.old) (state self.new) }
+        ensures rests { ChangesNothing (state self.old) (state self.new) }
         ensures spare { OnOk result (n ≤ (state self.new).spare) };
 
     /// Makes a region of `blocks` blocks (1 to 134,217,728) of `len` bytes each (33 to 16,416).

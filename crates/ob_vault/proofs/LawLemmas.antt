@@ -12,7 +12,7 @@ use Rattle.ob_seal.specs.declared.At.{At}
 use Rattle.ob_seal.proofs.HeadsApart.{heads_apart, length-tag_of}
 use Rattle.ob_vault.specs.State.{Start, World}
 use Rattle.ob_vault.specs.Numbers.{IsNumber, IsWrite, last_number, write_number}
-use Rattle.ob_vault.specs.Tied.{Tied, Fits, at_lie}
+use Rattle.ob_vault.specs.Tied.{Tied, TagFits, at_lie}
 
 pub writes_apart : (w : World) (i j q x r y : ℕ) → IsWrite i q x w → IsWrite j r y w → write_number i w ≡ write_number j w → i ≡ j
 writes_apart w i j q x r y is at same = write_apart w.store.asked i j q x r y is.is at.is (omega (arith, same))
@@ -52,7 +52,7 @@ numbers_alone w q x r y n tied (inr given) (inl at) = absurd (early w r y q x n 
 numbers_alone w q x r y n tied (inr one) (inr other) = tied.start.alone q x r y (sym one.0 ∙ other.0) (λ zero. one.1 (one.0 ∙ zero))
 
 pub lies_apart : (keys : KeySet) (start : Start) (lie : Lie) (a : At) (rows : List ℕ) → lie.bytes ≡ sealed keys a rows → InRange a → InRange (at_lie start lie) → a ≢ at_lie start lie
-    → Fits keys start lie → TwoTexts keys
+    → TagFits keys start lie → TwoTexts keys
 lies_apart keys start lie a rows is fa fb off fits =
     let text = ciphered keys a rows in
     let tag = tag_of keys a text in

@@ -11,9 +11,9 @@ use Rattle.ob_vault.specs.declared.fault.VaultErr.TheVariants as VaultErrs
 use Rattle.ob_vault.specs.State.{VaultState}
 use Rattle.ob_vault.specs.Numbers.{number_after}
 use Rattle.ob_base.proofs.AccessLemmas.{number_read}
-use Rattle.ob_vault.specs.Tied.{Fits, ReadsIn, at_of}
+use Rattle.ob_vault.specs.Tied.{TagFits, ReadsIn, at_of}
 use Rattle.ob_vault.proofs.WorldSteps.{world, calm_lasts, asked_call}
-use Rattle.ob_vault.specs.Calls.{Lasts, Went, Cut, Unfit, Opened, none}
+use Rattle.ob_vault.specs.Calls.{Lasts, Went, CutShort, Unfit, Unsealed, none}
 
 -- what a read does to the lie: nothing, or it is this
 lie_after : (region place : ℕ) (bytes : List ℕ) (old new : StoreState) → Asks (Read region place) old new → ReadGives region place bytes old new
@@ -47,7 +47,7 @@ module _ (v : VaultState) (q x : ℕ) (old new : StoreState) (asks : Asks (Read 
   pub read_unfit : (bytes : List ℕ) → new.gave ≡ bytes → (FitsAs v.keys q x (number_after v.start old.asked q x) bytes → ⊥) → Unfit q x (world v new)
   read_unfit bytes gave off = record { differs = λ same. off (subst (FitsAs v.keys q x (number_after v.start old.asked q x)) gave (same ∙ ap (λ (n : ℕ). tag_of v.keys (at_of q x n) (take (length new.gave - 32) new.gave)) number_read_on)) }
 
-  pub read_opened : (bytes rows : List ℕ) → new.gave ≡ bytes → bytes ≡ sealed v.keys (at_of q x (number_after v.start old.asked q x)) rows → Opened q x rows (world v new)
+  pub read_opened : (bytes rows : List ℕ) → new.gave ≡ bytes → bytes ≡ sealed v.keys (at_of q x (number_after v.start old.asked q x)) rows → Unsealed q x rows (world v new)
   read_opened bytes rows gave is = record { gave = gave ∙ is ∙ ap (λ (n : ℕ). sealed v.keys (at_of q x n) rows) (sym number_read_on) }
 
   module _ (bytes : List ℕ) (lasts : Lasts none (world v old) (world v new)) (gives : ReadGives q x bytes old new) (faults : new.faults ≡ old.faults) where
@@ -61,16 +61,16 @@ module _ (v : VaultState) (q x : ℕ) (old new : StoreState) (asks : Asks (Read 
         | inl same ↦ calm_lasts none (world v old) (world v new) (Read q x ∷ []) lasts asks.asked same calm
         | inr is ↦
             let here : Lie = record { region = q; place = x; bytes = bytes; before = old.asked } in
-            let fits : Fits v.keys v.start here = record { tag = tag } in
+            let fits : TagFits v.keys v.start here = record { tag = tag } in
             record {
-              calm = λ lie now. let at : here ≡ lie = cc (is, now) in subst (λ (l : Lie). Fits v.keys v.start l) at fits;
+              calm = λ lie now. let at : here ≡ lie = cc (is, now) in subst (λ (l : Lie). TagFits v.keys v.start l) at fits;
               within = λ lie now. let at : here ≡ lie = cc (is, now) in subst (λ (l : Lie). ReadsIn l new.asked) at (record { rest = []; is = sym asks.asked });
             }
       ];
     }
 
     -- one whose block doesn't
-    pub read_tampered : Unfit q x (world v new) → Cut (VaultErrs.Tampered q x) (Read q x ∷ []) none (world v old) (world v new)
+    pub read_tampered : Unfit q x (world v new) → CutShort (VaultErrs.Tampered q x) (Read q x ∷ []) none (world v old) (world v new)
     read_tampered unfit = record {
       lasts = lasts;
       began = began_call _ _ _ asks;

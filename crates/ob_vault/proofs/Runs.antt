@@ -19,7 +19,7 @@ use Rattle.ob_vault.specs.Tied.{Ready, Lives, Written, OnTurn, Holds, at_of}
 use Rattle.ob_vault.specs.Rows.{SameSizes}
 use Rattle.ob_vault.specs.Places.{RowsFit, MayGet, MayPut}
 use Rattle.ob_vault.proofs.WorldSteps.{lasts_none}
-use Rattle.ob_vault.specs.Calls.{Apart, Only, KeepsShapes, Lasts, Seals, Went, Cut, Cause}
+use Rattle.ob_vault.specs.Calls.{Apart, Only, KeepsShapes, Lasts, Seals, Went, CutShort, Cause}
 
 module _ (some : ℕ → Type 0) (a b c : World) where
   pub apart_trans : Apart some a b → Apart some b c → Apart some a c
@@ -74,7 +74,7 @@ module _ (some : ℕ → Type 0) (a b c : World) where
       omega (arith, n, more)
 
   -- a run that was cut in its second part
-  pub cut_after : (e : VaultErr) (x y : List Access) → Went x some a b → Cut e y some b c → Cut e (x ++ y) some a c
+  pub cut_after : (e : VaultErr) (x y : List Access) → Went x some a b → CutShort e y some b c → CutShort e (x ++ y) some a c
   cut_after e x y first second = record {
     lasts = lasts_trans first.lasts second.lasts;
     began = began_join x y _ _ _ first.did second.began;
@@ -84,7 +84,7 @@ module _ (some : ℕ → Type 0) (a b c : World) where
 
 module _ (some : ℕ → Type 0) (a b : World) where
   -- in its first part
-  pub cut_more : (e : VaultErr) (x y : List Access) → Cut e x some a b → Cut e (x ++ y) some a b
+  pub cut_more : (e : VaultErr) (x y : List Access) → CutShort e x some a b → CutShort e (x ++ y) some a b
   cut_more e x y first = record { lasts = first.lasts; began = began_more x y _ _ first.began; asks = first.asks; cause = first.cause }
 
   pub lasts_wider : (more : ℕ → Type 0) → ((q : ℕ) → some q → more q) → Lasts some a b → Lasts more a b
@@ -173,10 +173,10 @@ module _ (some : ℕ → Type 0) (part : ℕ → List Access) (a b c : World) wh
       subst (λ (k : ℕ). Went (each k part) some a c) next (went_join some a b c (each i part) (part i) first second)
 
   -- a run that was cut in one of its parts
-  pub cut_each : (e : VaultErr) (n i : ℕ) → i < n → Went (each i part) some a b → Cut e (part i) some b c → Cut e (each n part) some a c
+  pub cut_each : (e : VaultErr) (n i : ℕ) → i < n → Went (each i part) some a b → CutShort e (part i) some b c → CutShort e (each n part) some a c
   cut_each e n i below first second =
       let p = parts part n i below in
-      subst (λ (l : List Access). Cut e l some a c) (sym p.split)
+      subst (λ (l : List Access). CutShort e l some a c) (sym p.split)
       (cut_more some a c e (each i part ++ part i) p.rest (cut_after some a b c e (each i part) (part i) first second))
 
 pub went_length : (some : ℕ → Type 0) (x : List Access) (a b : World) → Went x some a b → length b.store.asked ≡ length a.store.asked + length x

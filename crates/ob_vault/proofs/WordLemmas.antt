@@ -2,14 +2,14 @@
 use Rattle.std.proofs.Common.{◌≡◌, ◌<◌, ◌≤◌, ◌+◌, ◌-◌, ◌^◌, ℕ, Bool, List, [], Some, None, inl, inr, take, drop, length, refl, sym, ◌∙◌, ap, subst, arith}
 use Rattle.ob_base.specs.declared.access.Access.{Access}
 use Rattle.ob_store.specs.State.{StoreState}
-use Rattle.ob_store.specs.Calls.{Rests}
+use Rattle.ob_store.specs.Calls.{ChangesNothing}
 use Rattle.ob_store.proofs.Steps.{none_before, later_rests}
 use Rattle.ob_base.specs.Accesses.{AllBelow, writes, makes, number_of, nth_write}
 use Rattle.ob_seal.specs.Sealed.{sealed, tag_of}
 use Rattle.ob_vault.specs.State.{Start, VaultState, World, from_nothing, earlier}
 use Rattle.ob_vault.specs.Numbers.{number_after, last_number, spent}
 use Rattle.ob_vault.specs.Tied.{Ready, Scope, SealedAt, at_of}
-use Rattle.ob_vault.specs.Calls.{Went, Lasts, Seals, Unfit, Opened}
+use Rattle.ob_vault.specs.Calls.{Went, Lasts, Seals, Unfit, Unsealed}
 use Rattle.ob_vault.specs.Words.{MayAsk, MayStart, StartsAnew, IsHonest}
 use Rattle.ob_vault.proofs.WorldSteps.{world, calm_lasts, seals_unasked}
 use Rattle.ob_vault.proofs.Runs.{went_spent, tells_went, shapes_none}
@@ -48,7 +48,7 @@ module _ (q x : ℕ) (old new : World) (same : new.store ≡ old.store) where
           ∙ (λ i. tag_of (keys i) (at_of q x (number_after (start i) (same i).asked q x)) (take (length (same i).gave - 32) (same i).gave)));
     }
 
-    pub opened_same : (rows : List ℕ) → Opened q x rows old → Opened q x rows new
+    pub opened_same : (rows : List ℕ) → Unsealed q x rows old → Unsealed q x rows new
     opened_same rows is = record {
       gave = ap (λ (s : StoreState). s.gave) same ∙ is.gave ∙ sym (λ i. sealed (keys i) (at_of q x (number_after (start i) (same i).asked q x)) rows);
     }
@@ -57,11 +57,11 @@ module _ (q x : ℕ) (old new : World) (same : new.store ≡ old.store) where
     pub unfit_lasts : Unfit q x old → Unfit q x new
     unfit_lasts = unfit_same lasts.keys lasts.start
 
-    pub opened_lasts : (rows : List ℕ) → Opened q x rows old → Opened q x rows new
+    pub opened_lasts : (rows : List ℕ) → Unsealed q x rows old → Unsealed q x rows new
     opened_lasts = opened_same lasts.keys lasts.start
 
 -- where a store makes room for more accesses
-module _ (v : VaultState) (s t : StoreState) (rests : Rests s t) where
+module _ (v : VaultState) (s t : StoreState) (rests : ChangesNothing s t) where
   pub ready_rests : Ready (world v s) → Ready (world v t)
   ready_rests ready =
       let tied = ready.tied in
@@ -113,7 +113,7 @@ starts_anew ready none = record { ready = ready; first = ap earlier none ∙ ear
 pub anew_lasts : {some : ℕ → Type 0} {a b : World} → Lasts some a b → StartsAnew a → StartsAnew b
 anew_lasts lasts is = record { ready = lasts.ready; first = ap earlier lasts.start ∙ is.first }
 
-pub anew_rests : (v : VaultState) (s t : StoreState) → Rests s t → StartsAnew (world v s) → StartsAnew (world v t)
+pub anew_rests : (v : VaultState) (s t : StoreState) → ChangesNothing s t → StartsAnew (world v s) → StartsAnew (world v t)
 anew_rests v s t rests is = record { ready = ready_rests v s t rests is.ready; first = is.first }
 
 pub anew_starts : {n : ℕ} {w : World} → StartsAnew w → n ≤ w.store.spare → length w.store.asked < 2 ^ 59 → MayStart n w

@@ -22,8 +22,8 @@ use Rattle.ob_vault.specs.State.{Start, RevState, VaultState, World, from_earlie
 use Rattle.ob_base.specs.Accesses.{writes, makes, nth_write, discard_at, read_at, write_at}
 use Rattle.ob_base.specs.Accesses.{AllBelow}
 use Rattle.ob_vault.specs.Numbers.{number_after, last_number, IsNumber, IsStart}
-use Rattle.ob_vault.specs.Tied.{InLaps, Ready, Scope, SealedAt, AllSealed, Fits, ReadsIn, Calm, OnTurn, Holds, at_of}
-use Rattle.ob_vault.specs.Calls.{Apart, Only, Lasts, Seals, Went, Cut, none, one}
+use Rattle.ob_vault.specs.Tied.{InLaps, Ready, Scope, SealedAt, AllSealed, TagFits, ReadsIn, Calm, OnTurn, Holds, at_of}
+use Rattle.ob_vault.specs.Calls.{Apart, Only, Lasts, Seals, Went, CutShort, none, one}
 use Rattle.ob_vault.specs.VaultCalls.{Forgets}
 use Rattle.ob_base.proofs.AccessLemmas.{number_read, number_make, number_discard, number_write_here, number_write_other, writes_read, writes_write, writes_make, writes_discard, makes_more, below_more, below_up, number_fresh, went_on, went_last}
 
@@ -165,8 +165,8 @@ abbrev pub world : VaultState → StoreState → World
 world v s = record { vault = v; store = s }
 
 -- over a call whose read told no lie
-pub fits_lasts : (some : ℕ → Type 0) (old new : World) (lie : Lie) → Lasts some old new → Fits old.vault.keys old.vault.start lie → Fits new.vault.keys new.vault.start lie
-fits_lasts some old new lie lasts fits = subst (λ (k : KeySet). Fits k new.vault.start lie) (sym lasts.keys) (subst (λ (s : Start). Fits old.vault.keys s lie) (sym lasts.start) fits)
+pub fits_lasts : (some : ℕ → Type 0) (old new : World) (lie : Lie) → Lasts some old new → TagFits old.vault.keys old.vault.start lie → TagFits new.vault.keys new.vault.start lie
+fits_lasts some old new lie lasts fits = subst (λ (k : KeySet). TagFits k new.vault.start lie) (sym lasts.keys) (subst (λ (s : Start). TagFits old.vault.keys s lie) (sym lasts.start) fits)
 
 pub reads_on : (lie : Lie) (asked more all : List Access) → all ≡ asked ++ more → ReadsIn lie asked → ReadsIn lie all
 reads_on lie asked more all is reads = record {
@@ -502,7 +502,7 @@ asked_call a old new asks =
     omega (arith, n)
 
 -- a call that failed
-pub cut_call : (a : Access) (some : ℕ → Type 0) (old new : World) → Lasts some old new → Asks a old.store new.store → Rises old.store.faults new.store.faults → new.store.lie ≡ old.store.lie → Cut VaultErrs.Failed (a ∷ []) some old new
+pub cut_call : (a : Access) (some : ℕ → Type 0) (old new : World) → Lasts some old new → Asks a old.store new.store → Rises old.store.faults new.store.faults → new.store.lie ≡ old.store.lie → CutShort VaultErrs.Failed (a ∷ []) some old new
 cut_call a some old new lasts asks rises lie = record {
   lasts = lasts;
   began = began_call a old.store new.store asks;
@@ -585,7 +585,7 @@ others_twice g a b c first second = record {
 }
 
 -- a make for which the store or the vault had no memory
-pub cut_call_none : (a : Access) (some : ℕ → Type 0) (old new : World) → Lasts some old new → Asks a old.store new.store → new.store.faults ≡ old.store.faults → new.store.lie ≡ old.store.lie → Cut VaultErrs.NoMemory (a ∷ []) some old new
+pub cut_call_none : (a : Access) (some : ℕ → Type 0) (old new : World) → Lasts some old new → Asks a old.store new.store → new.store.faults ≡ old.store.faults → new.store.lie ≡ old.store.lie → CutShort VaultErrs.NoMemory (a ∷ []) some old new
 cut_call_none a some old new lasts asks faults lie = record {
   lasts = lasts;
   began = began_call a old.store new.store asks;

@@ -67,7 +67,7 @@ pub record Unfit (q x : ℕ) (w : World) : Type 0 where
       (take (length w.store.gave - 32) w.store.gave)
 
 -- it is that of these rows, sealed under that number
-pub record Opened (q x : ℕ) (rows : List ℕ) (w : World) : Type 0 where
+pub record Unsealed (q x : ℕ) (rows : List ℕ) (w : World) : Type 0 where
   pub gave : w.store.gave ≡ sealed w.vault.keys (at_of q x (last_number w q x)) rows
 
 -- why a call gave up
@@ -78,7 +78,7 @@ Cause NoMemory old new = (new.store.faults ≡ old.store.faults) × (Calm old �
 
 -- a first part of the script was asked, an access at least unless memory was wanted, and no other
 -- region has changed
-pub record Cut (e : VaultErr) (script : List Access) (some : ℕ → Type 0) (old new : World) : Type 0 where
+pub record CutShort (e : VaultErr) (script : List Access) (some : ℕ → Type 0) (old new : World) : Type 0 where
   pub lasts : Lasts some old new
   pub began : Began script old.store new.store
   pub asks : (e ≡ NoMemory → ⊥) → length old.store.asked < length new.store.asked

@@ -92,7 +92,7 @@ abbrev pub at_lie : Start → Lie → At
 at_lie start lie = at_of lie.region lie.place (number_after start lie.before lie.region lie.place)
 
 -- the block of a lie has the tag of its place and number
-pub record Fits (keys : KeySet) (start : Start) (lie : Lie) : Type 0 where
+pub record TagFits (keys : KeySet) (start : Start) (lie : Lie) : Type 0 where
   pub tag : drop (length lie.bytes - 32) lie.bytes
       ≡ tag_of keys (at_lie start lie) (take (length lie.bytes - 32) lie.bytes)
 
@@ -103,12 +103,12 @@ pub record ReadsIn (lie : Lie) (accesses : List Access) : Type 0 where
 
 -- no lie is told, or one that was read and fits
 pub record Calm (w : World) : Type 0 where
-  pub calm : (lie : Lie) → w.store.lie ≡ Some lie → Fits w.vault.keys w.vault.start lie
+  pub calm : (lie : Lie) → w.store.lie ≡ Some lie → TagFits w.vault.keys w.vault.start lie
   pub within : (lie : Lie) → w.store.lie ≡ Some lie → ReadsIn lie w.store.asked
 
 -- of the first changed block that was read, if there is one, the tag doesn't fit
 pub record IsUnfit (w : World) : Type 0 where
-  pub unfit : (lie : Lie) → w.store.lie ≡ Some lie → ¬ Fits w.vault.keys w.vault.start lie
+  pub unfit : (lie : Lie) → w.store.lie ≡ Some lie → ¬ TagFits w.vault.keys w.vault.start lie
 
 -- the last access was the first lie
 pub record EndsAt (q x : ℕ) (w : World) : Type 0 where

@@ -12,14 +12,14 @@ use Rattle.ob_vault.specs.State.{World}
 use Rattle.ob_vault.specs.Revs.{turn_after}
 use Rattle.ob_vault.specs.Rows.{joined, Tails}
 use Rattle.ob_vault.specs.Tied.{Ready, Lives, Written, OnTurn, Holds}
-use Rattle.ob_vault.specs.Calls.{Went, Cut, Only, Seals, Opened, none, one}
+use Rattle.ob_vault.specs.Calls.{Went, CutShort, Only, Seals, Unsealed, none, one}
 
 -- a region is made under the next number, or that number is used up; memory is wanted only once the store was asked
 pub record MakesRegion (blocks width : ℕ) (order : Order) (result : Result ℕ VaultErr)
     (old new : World) : Type 0 where
   pub ok : OnOk result (Went (make_at old.vault.next blocks width) (one old.vault.next) old new)
   pub err : IfErr result (λ e.
-      Cut e (make_at old.vault.next blocks width) (one old.vault.next) old new)
+      CutShort e (make_at old.vault.next blocks width) (one old.vault.next) old new)
   pub never : IfErr result (λ e. (e ≡ Failed) ⊎ (e ≡ NoMemory))
   pub memory : result ≡ Err NoMemory
       → Did (make_at old.vault.next blocks width) old.store new.store
@@ -35,7 +35,7 @@ pub record MakesRegion (blocks width : ℕ) (order : Order) (result : Result ℕ
 pub record Gets {T : Type 0} (q x : ℕ) (before after : List (List ℕ)) (result : Result T VaultErr)
     (old new : World) : Type 0 where
   pub ok : OnOk result (Went (read_at q x) none old new)
-  pub err : IfErr result (λ e. Cut e (read_at q x) none old new)
+  pub err : IfErr result (λ e. CutShort e (read_at q x) none old new)
   pub never : IfErr result (λ e. (e ≡ Failed) ⊎ (e ≡ Tampered q x))
   pub seals : (good : ℕ → List ℕ → Bool) → Seals good old new
   pub turns : (r y : ℕ) (shape : Region) → OnTurn r shape y old → OnTurn r shape y new
@@ -43,7 +43,7 @@ pub record Gets {T : Type 0} (q x : ℕ) (before after : List (List ℕ)) (resul
   pub gave : (result ≡ Err Failed → ⊥) → ReadGives q x new.store.gave old.store new.store
   -- over any store the rows are those of a block that was sealed for the place and its number
   pub opened : OnOk result ((shape : Region) → Lives q shape old
-      → Opened q x (joined (shape.width / length before) after) new)
+      → Unsealed q x (joined (shape.width / length before) after) new)
   pub tails : OnOk result ((shape : Region) → Lives q shape old
       → Tails (shape.width / length before) after)
   -- no byte of a block that is refused reaches them
@@ -58,7 +58,7 @@ pub record Gets {T : Type 0} (q x : ℕ) (before after : List (List ℕ)) (resul
 pub record Puts {T : Type 0} (q x : ℕ) (rows : List (List ℕ)) (result : Result T VaultErr)
     (old new : World) : Type 0 where
   pub ok : OnOk result (Went (write_at q x) (one q) old new)
-  pub err : IfErr result (λ e. Cut e (write_at q x) (one q) old new)
+  pub err : IfErr result (λ e. CutShort e (write_at q x) (one q) old new)
   pub never : IfErr result (λ e. e ≡ Failed)
   pub only : Only q x old new
   pub number : new.vault.revs.number q x ≡ old.vault.count + 1

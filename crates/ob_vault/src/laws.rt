@@ -6,7 +6,7 @@ ghost use Rattle.ob_seal.specs.Sealed.{InRange, TwoTexts, sealed, tag_of};
 ghost use Rattle.ob_seal.specs.declared.At.{At as Head};
 ghost use Rattle.ob_vault.specs.State.{Start, World};
 ghost use Rattle.ob_vault.specs.Numbers.{IsNumber, IsWrite, last_number, write_number};
-ghost use Rattle.ob_vault.specs.Tied.{AllSealed, Calm, Fits, Holds, Ready, Scope, Tied, at_lie};
+ghost use Rattle.ob_vault.specs.Tied.{AllSealed, Calm, TagFits, Holds, Ready, Scope, Tied, at_lie};
 ghost use Rattle.ob_vault.specs.Rekeying.{rekeyed};
 
 /// No two writes have one number, and the number of a place is that of a write to it alone.
@@ -27,7 +27,7 @@ pub fn tags_tell_places()
     // a block that was sealed for another place, or at another write, and is taken all the same
     ensures lies { (keys : KeySet) (start : Start) (lie : Lie) (a : Head) (rows : List ℕ)
         → lie.bytes ≡ sealed keys a rows → InRange a → InRange (at_lie start lie)
-        → a ≢ at_lie start lie → Fits keys start lie → TwoTexts keys }
+        → a ≢ at_lie start lie → TagFits keys start lie → TwoTexts keys }
 {}
 
 /// What is said of a vault goes on to be so under other keys, where these are the same for the regions of which it

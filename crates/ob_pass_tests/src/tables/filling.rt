@@ -3,7 +3,7 @@ ghost use Rattle.std.specs.Prelude.{◌≡◌, ◌≤◌, max};
 ghost use Rattle.ob_base.specs.Schemas.{width};
 ghost use Rattle.ob_vault.specs.Places.{at};
 ghost use Rattle.ob_vault.specs.Words.{StartsAnew};
-ghost use Rattle.ob_row.specs.Spelling.{Fits};
+ghost use Rattle.ob_row.specs.Spelling.{FitsColumns};
 ghost use Rattle.ob_blocks.specs.Idle.{IsIdle};
 ghost use Rattle.ob_flat.specs.Flats.{IsSized, IsFlat};
 ghost use Rattle.ob_pass_tests.specs.Tables.{TakesInts, KeepsOthers, KeepsAll};
@@ -34,7 +34,7 @@ pub(crate) fn insert_cells<S: BlockStore, R: Revisions>(
     requires flat { IsFlat room.old.pack flat.old (at R.state vault.old (S.state store.old)) }
     requires size { IsSized flat.old.schema flat.old.capacity }
     requires room { IsIdle (width flat.old.schema) room.old }
-    requires cells { Fits flat.old.schema cells.now }
+    requires cells { FitsColumns flat.old.schema cells.now }
     ensures ready { StartsAnew (at R.state vault.new (S.state store.new)) }
     ensures flat { IsFlat room.old.pack flat.new (at R.state vault.new (S.state store.new)) }
     ensures moved { flat.new ≡ record flat.old { region = vault.old.next } }

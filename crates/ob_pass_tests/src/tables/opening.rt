@@ -1,6 +1,6 @@
 //! A store, a vault and a room for one table or more.
 ghost use Rattle.std.specs.Prelude.{◌≡◌, ◌≤◌, ◌<◌, ◌*◌, ◌+◌, ℕ, [], length};
-ghost use Rattle.ob_store.specs.Calls.{Rests};
+ghost use Rattle.ob_store.specs.Calls.{ChangesNothing};
 ghost use Rattle.ob_vault.specs.Places.{at};
 ghost use Rattle.ob_vault.specs.Words.{StartsAnew};
 ghost use Rattle.ob_blocks.specs.Idle.{IsIdle};
@@ -38,7 +38,7 @@ pub(crate) fn opened<R: Revisions>(
 
 /// Makes room for the accesses of a pass over a few slots.
 pub(crate) fn make_room<S: BlockStore>(rt: &impl Abort, store: &mut S)
-    ensures rests { Rests (S.state store.old) (S.state store.new) }
+    ensures rests { ChangesNothing (S.state store.old) (S.state store.new) }
     ensures spare { 100000000 ≤ (S.state store.new).spare }
     ensures few { length (S.state store.new).asked < 1000000 }
 {

@@ -1,6 +1,6 @@
 use Rattle.std.proofs.Common.{◌++◌, ◌≤◌, length, refl, ◌∙◌, arith}
 use Rattle.std.proofs.KnownBytes.{Appends-trans}
-use Rattle.ob_print.proofs.CutLemmas.{Cut-after, Cut-whole, Cut-fault, Cut-more}
+use Rattle.ob_print.proofs.CutLemmas.{Outputs-after, Outputs-whole, Outputs-fault, Outputs-more}
 use Rattle.ob_gen.proofs.Summing.{line_at, lines_done, lines_more, lines_none}
 use Rattle.ob_gen.proofs.summary.write_lines.Goals as goal
 
@@ -12,7 +12,7 @@ returns-in-Err-clause-cut g c =
     let lines = c.args.lines.now in
     let before = c.loop-line.invariant.so_far in
     let at = line_at lines c.loop-line.line-index c.line-item.result c.as_bytes.result.now c.loop-line-test.true c.line-item.is c.as_bytes.ensures in
-    rw (lines_more lines c.loop-line.line-index c.as_bytes.result.now before.0 at before.2) (Cut-more _ (Cut-after _ before.1 (Cut-fault refl c.in-Err.ensures.cut)) refl)
+    rw (lines_more lines c.loop-line.line-index c.as_bytes.result.now before.0 at before.2) (Outputs-more _ (Outputs-after _ before.1 (Outputs-fault refl c.in-Err.ensures.cut)) refl)
 
 pub loop-line-preserved : goal.loop-line-preserved
 loop-line-preserved g c =
@@ -38,4 +38,4 @@ pub returns-clause-cut : goal.returns-clause-cut
 returns-clause-cut g c =
     let before = c.loop-line.invariant.so_far in
     let end : length c.args.lines.now ≤ c.loop-line.line-index = omega arith in
-    rw (← lines_done _ _ _ end before.2) (Cut-whole _ _ _ _ before.1)
+    rw (← lines_done _ _ _ end before.2) (Outputs-whole _ _ _ _ before.1)

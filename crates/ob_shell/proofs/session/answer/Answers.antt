@@ -1,7 +1,7 @@
 use Rattle.std.proofs.Common.{refl, inr, ◌∙◌, ◌++◌, arith, rules}
 use Rattle.std.proofs.KnownBytes.{Appends-trans}
 use Rattle.ob_headline.specs.Closing.{closing_line}
-use Rattle.ob_print.proofs.CutLemmas.{Cut-after, Cut-fault}
+use Rattle.ob_print.proofs.CutLemmas.{Outputs-after, Outputs-fault}
 use Rattle.ob_shell.proofs.CountLemmas.{rises_earlier}
 use Rattle.ob_shell.proofs.StepLemmas.{answers_one}
 use Rattle.ob_shell.proofs.session.answer.Goals as goal
@@ -32,7 +32,7 @@ returns-in-Err-write_all-clause-serves g c =
       stopped = record {
         bytes = body.body ++ closing_line c.in-Ok.answered.outcome;
         partly = inr (inr (record { answer = record { outcome = c.in-Ok.answered.outcome; bytes = body.body ++ closing_line c.in-Ok.answered.outcome; plan = c.in-Ok.answered.plan }; step = body.step; whole = refl; fault = tt }));
-        cut = Cut-after _ body.appends (Cut-fault (refl, rises_earlier _ _ _ (omega (arith, c.in-Ok.ensures.serves.cause.out)) c.in-Err-write_all.ensures.cause.failed) (rw line at c.in-Err-write_all.ensures.cut));
+        cut = Outputs-after _ body.appends (Outputs-fault (refl, rises_earlier _ _ _ (omega (arith, c.in-Ok.ensures.serves.cause.out)) c.in-Err-write_all.ensures.cause.failed) (rw line at c.in-Err-write_all.ensures.cut));
       };
       cause = search rules;
       quiet = search rules;

@@ -1,6 +1,6 @@
 use Rattle.std.proofs.Common.{◌≡◌, false, true, ap, arith, refl, rules}
 use Rattle.ob_base.specs.declared.seen.Seen.{Seen}
-use Rattle.ob_print.proofs.CutLemmas.{Cut-by}
+use Rattle.ob_print.proofs.CutLemmas.{Outputs-by}
 use Rattle.ob_print.proofs.SentLemmas.{Sends-cut, flushed, flushed_cut, flushed_whole}
 use Rattle.ob_shell.proofs.CountLemmas.{rises_earlier}
 use Rattle.ob_shell.proofs.ServeLemmas.{answered_by, failed_by, finished_by, flush_loses, flush_silences, stop_cause, stopped_by}
@@ -55,7 +55,7 @@ returns-in_default-clause-serves g c =
       ready = tt;
       done = tt;
       stopped = stopped_by _ _ _ _ _ _ _ _ c.args.stmt.now _ _ c.args.text.now c.requires.spells c.in-Err.stop c.in_default.not-SinkFault c.in-Err.ensures.serves
-          (λ events took. Cut-by lost (flushed (events_text events) c.requires.none took.0 c.flush-in_default.ensures.cut))
+          (λ events took. Outputs-by lost (flushed (events_text events) c.requires.none took.0 c.flush-in_default.ensures.cut))
           (λ events began. flushed_cut (events_text events) c.requires.none began.0 c.flush-in_default.ensures.cut);
       cause = stop_cause Answered c.in-Err.stop _ _ _ c.in-Err.ensures.serves.sink c.flush-in_default.ensures.cause.later;
       quiet = flush_silences c.in-Err.stop c.flush-in_default.result c.is_err-quiet.result _ _ _ c.in_default.not-SinkFault c.in-Err.ensures.serves.sink c.is_err-quiet.ensures.value c.flush-in_default.ensures.cause;

@@ -1,7 +1,7 @@
 use Rattle.std.proofs.Common.{◌≡◌, [], ◌++◌, ◌≤◌, false, true, drop, length, refl, ◌∙◌, arith}
 use Rattle.ob_print.specs.Lines.{trace_text}
 use Rattle.ob_print.specs.Sent.{sends_none}
-use Rattle.ob_print.proofs.CutLemmas.{Cut-by}
+use Rattle.ob_print.proofs.CutLemmas.{Outputs-by}
 use Rattle.ob_print.proofs.SentLemmas.{Sends-by, Sends-cut, Sends-lose, Sends-then, flushed, flushed_ok}
 use Rattle.ob_shell.proofs.TraceLemmas.{trace_more, trace_done}
 use Rattle.ob_shell.proofs.trace.write_accesses.Goals as goal
@@ -15,7 +15,7 @@ returns-in-Err-clause-cut g c =
     let all = trace_text (drop c.args.from (g.S.BlockStore.state c.args.store.now).asked) in
     let more = trace_more (g.S.BlockStore.state c.args.store.now).asked c.loop-i.i c.nth.result c.as_bytes.result.now before.0 all
     (c.as_bytes.ensures ∙ c.access_line-line.ensures) c.nth.ensures before.2 in
-    Cut-by (λ _. refl) (Sends-cut all c.requires.none (Sends-lose all (before.0 ++ c.as_bytes.result.now) _ more (Sends-then before.0 c.as_bytes.result.now before.1 c.in-Err.ensures.sends) refl))
+    Outputs-by (λ _. refl) (Sends-cut all c.requires.none (Sends-lose all (before.0 ++ c.as_bytes.result.now) _ more (Sends-then before.0 c.as_bytes.result.now before.1 c.in-Err.ensures.sends) refl))
 
 pub loop-i-preserved : goal.loop-i-preserved
 loop-i-preserved g c =

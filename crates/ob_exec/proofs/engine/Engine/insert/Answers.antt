@@ -7,7 +7,7 @@ use Rattle.ob_base.specs.Stored.{headings_of}
 use Rattle.ob_script.specs.Parts.{insert_part}
 use Rattle.ob_flat.specs.declared.flat.Flat.{Flat}
 use Rattle.ob_row.specs.Rows.{Row}
-use Rattle.ob_row.specs.Spelling.{Fits, IsCell}
+use Rattle.ob_row.specs.Spelling.{FitsColumns, IsCell}
 use Rattle.ob_mutate.specs.Inserting.{insert_answer, slots_after}
 use Rattle.ob_sql.specs.declared.stmt.Stmt.TheVariants.{Insert}
 use Rattle.ob_mean.specs.Step.{new_row}
@@ -36,7 +36,7 @@ insert-result-requires-clause-cells g c =
     let fits = insert_fits _ (limits_of old.public) (headings_of old.public.tables) c.args.table.now table.heading c.args.columns.now c.args.values.now c.requires.allowed
     (heading_found c.args.table.now old.public.tables c.table_at-i.result.0 table c.requires.agrees.tables.names found.here.get found.here.named)
     (c.requires.agrees.tables.each c.table_at-i.result.0 table found.here.get).heading.stored.names (subst (λ (r : Row). All IsCell r) row_is c.in-Ok.ensures.held) in
-    subst (λ (cs : Columns). Fits cs c.as_slice.result.now) (sym schema_is) (subst (λ (r : Row). Fits table.heading.schema r) (sym (c.as_slice.ensures.value ∙ row_is)) fits)
+    subst (λ (cs : Columns). FitsColumns cs c.as_slice.result.now) (sym schema_is) (subst (λ (r : Row). FitsColumns table.heading.schema r) (sym (c.as_slice.ensures.value ∙ row_is)) fits)
 
 pub move_table-requires : goal.move_table-requires
 move_table-requires g c = slice_get_within c.args.self.now.public.tables c.table_at-i.result.0 c.table_at-i.ensures.table c.table_at-i.ensures.here.get
