@@ -1,71 +1,26 @@
-use ob_base::{ColumnName, Config, Items, Name, NewColumn, NewKind, Refusal, Shown, Source};
+use crate::statements::read;
+use ob_base::{Config, Items, Refusal, Shown};
 use ob_mean::Answer;
 use ob_reference::reference;
-use ob_sql::{Listed, Literal, SelectRows, SelectTotals, Stmt};
-use std::alloc::{AllocError, Global};
+use ob_sql::Stmt;
+use std::alloc::Global;
 use std::test::Fail;
 
-fn create(alloc: Global) -> Result<Stmt, AllocError> {
-    let mut columns = Vec::new(alloc);
-    columns.push(NewColumn {
-        name: Name::from_bytes(b"v"),
-        kind: NewKind::Int,
-        keys: 0,
-    })?;
-    Ok(Stmt::Create {
-        table: Name::from_bytes(b"t"),
-        columns: Items::from_vec(columns),
-        capacity: 2,
-    })
-}
+// Three equal rows for a table of two slots, then all rows, and the count and the sum of each group.
+const GIVEN: &str = "\
+CREATE TABLE t (v INT) CAPACITY 2;
+INSERT INTO t VALUES (7);
+INSERT INTO t VALUES (7);
+INSERT INTO t VALUES (7);
+SELECT * FROM t;
+SELECT COUNT(*), SUM(v) FROM t GROUP BY v;
+";
 
-fn insert(alloc: Global) -> Result<Stmt, AllocError> {
-    let mut values = Vec::new(alloc);
-    values.push(Literal::Int(7))?;
-    Ok(Stmt::Insert {
-        table: Name::from_bytes(b"t"),
-        columns: None,
-        values: Items::from_vec(values),
-    })
-}
-
-// SELECT *.
-fn select_all() -> Stmt {
-    Stmt::SelectRows(SelectRows {
-        list: None,
-        source: Source::Table(Name::from_bytes(b"t")),
-        cond: None,
-    })
-}
-
-fn column() -> ColumnName {
-    ColumnName {
-        table: None,
-        column: Name::from_bytes(b"v"),
-    }
-}
-
-// The count and the sum of each group.
-fn grouped(alloc: Global) -> Result<Stmt, AllocError> {
-    let mut items = Vec::new(alloc);
-    items.push(Listed::CountAll)?;
-    items.push(Listed::Sum(column()))?;
-    Ok(Stmt::SelectTotals(SelectTotals {
-        items: Items::from_vec(items),
-        table: Name::from_bytes(b"t"),
-        cond: None,
-        group: Some(column()),
-    }))
-}
-
-fn given(alloc: Global) -> Result<Vec<Stmt>, AllocError> {
+fn given(alloc: Global) -> Result<Vec<Stmt>, Fail> {
     let mut stmts = Vec::new(alloc);
-    stmts.push(create(alloc)?)?;
-    stmts.push(insert(alloc)?)?;
-    stmts.push(insert(alloc)?)?;
-    stmts.push(insert(alloc)?)?;
-    stmts.push(select_all())?;
-    stmts.push(grouped(alloc)?)?;
+    for text in GIVEN.lines() {
+        stmts.push(read(alloc, text)?)?;
+    }
     Ok(stmts)
 }
 

@@ -1,8 +1,8 @@
-use ob_base::{ComparisonOperator, Text};
+use crate::case::{numbered, paired};
+use crate::spelled;
 use ob_condition::{Fault, column, constant, number, where_part};
-use ob_sql::{Cond, CondTree, Literal};
 use ob_token::{Token, tokens};
-use std::alloc::{AllocError, Global};
+use std::alloc::Global;
 use std::process::Abort;
 use std::test::Fail;
 
@@ -21,175 +21,126 @@ fn place(left: &[Token]) -> u32 {
     }
 }
 
-// What a condition is made of, each part behind its own parts; of a comparison the two bytes of its column and
-// its order.
-fn shape(out: &mut String, tree: &CondTree) -> Result<(), AllocError> {
-    match tree {
-        CondTree::Compare(left, order, _) => {
-            for b in left.column.as_bytes() {
-                let letter = *b as char;
-                write!(out, "{letter}")?;
-            }
-            out.push_str(match *order {
-                ComparisonOperator::Equal => "= ",
-                ComparisonOperator::NotEqual => "<> ",
-                ComparisonOperator::Less => "< ",
-                ComparisonOperator::LessOrEqual => "<= ",
-                ComparisonOperator::Greater => "> ",
-                ComparisonOperator::GreaterOrEqual => ">= ",
-            })
-        }
-        CondTree::Not(inner) => {
-            shape(out, inner)?;
-            out.push_str("not ")
-        }
-        CondTree::And(left, right) => {
-            shape(out, left)?;
-            shape(out, right)?;
-            out.push_str("and ")
-        }
-        CondTree::Or(left, right) => {
-            shape(out, left)?;
-            shape(out, right)?;
-            out.push_str("or ")
-        }
-    }
-}
-
-fn written(alloc: Global, found: &Option<Cond>) -> Result<String, AllocError> {
+// The condition at the front of the text, and where what is behind it begins.
+fn written(rt: &impl Abort, alloc: Global, text: &str) -> Result<String, Fail> {
+    let tokens = cut(rt, alloc, text)?;
+    let Ok((cond, rest)) = where_part(alloc, text.as_bytes(), tokens.as_slice()) else {
+        panic!(rt; "refused: {text}");
+    };
     let mut out = String::new(alloc);
-    match found {
-        Some(found) => shape(&mut out, found.tree())?,
+    match &cond {
+        Some(found) => spelled::condition(&mut out, found.tree())?,
         None => out.push_str("none")?,
     }
+    let behind = place(rest);
+    write!(out, " {behind}")?;
     Ok(out)
 }
+
+const CONDITIONS: &str = "\
+; where -> none 0
+WHERE a = 1 -> (a = 1) 999
+where a <> b.c ; -> (a <> b.c) 15
+where t.a < 'x' group -> (t.a < <x>) 16
+WHERE a <= 1 OR b >= 2 AND c > 3 -> ((a <= 1) or ((b >= 2) and (c > 3))) 999
+WHERE a = 1 AND b != 2 OR c = 3 -> (((a = 1) and (b <> 2)) or (c = 3)) 999
+WHERE a = 1 OR b = 2 OR c = 3; -> (((a = 1) or (b = 2)) or (c = 3)) 29
+WHERE a = 1 AND b = 2 AND c = 3; -> (((a = 1) and (b = 2)) and (c = 3)) 31
+WHERE NOT a = 1 AND b = 2 -> ((not (a = 1)) and (b = 2)) 999
+WHERE NOT (a = 1 OR b = -2) ) -> (not ((a = 1) or (b = -2))) 28
+WHERE NOT NOT (a = 1) -> (not (not (a = 1))) 999
+WHERE a = 1 AND (b = 2 OR c = 3) -> ((a = 1) and ((b = 2) or (c = 3))) 999
+WHERE a = 1 b = 2 -> (a = 1) 12
+WHERE a = 1 NOT -> (a = 1) 12
+";
 
 #[test]
 fn conditions(rt: HostRuntime) -> Result<(), Fail> {
     let alloc = rt.alloc();
-    for (text, wanted, left) in [
-        ("", "none", 999),
-        ("; where", "none", 0),
-        ("WHERE a = 1", "a= ", 999),
-        ("where a <> b.c ;", "a<> ", 15),
-        ("where t.a < 'x' group", "a< ", 16),
-        (
-            "WHERE a <= 1 OR b >= 2 AND c > 3",
-            "a<= b>= c> and or ",
-            999,
-        ),
-        ("WHERE a = 1 AND b != 2 OR c = 3", "a= b<> and c= or ", 999),
-        ("WHERE a = 1 OR b = 2 OR c = 3;", "a= b= or c= or ", 29),
-        ("WHERE a = 1 AND b = 2 AND c = 3;", "a= b= and c= and ", 31),
-        ("WHERE NOT a = 1 AND b = 2", "a= not b= and ", 999),
-        ("WHERE NOT (a = 1 OR b = -2) )", "a= b= or not ", 28),
-        ("WHERE NOT NOT (a = 1)", "a= not not ", 999),
-        ("WHERE a = 1 AND (b = 2 OR c = 3)", "a= b= c= or and ", 999),
-        ("WHERE a = 1 b = 2", "a= ", 12),
-        ("WHERE a = 1 NOT", "a= ", 12),
-    ] {
-        let found = cut(&rt, alloc, text)?;
-        match where_part(alloc, text.as_bytes(), found.as_slice()) {
-            Ok((cond, rest)) => {
-                let written = written(alloc, &cond)?;
-                assert_eq!(rt; written.as_str(), wanted, "of {text}");
-                assert_eq!(rt; place(rest), left, "behind {text}");
-            }
-            Err(_) => panic!(rt; "refused: {text}"),
-        }
+    assert_eq!(rt; written(&rt, alloc, "")?.as_str(), "none 999");
+    for case in CONDITIONS.lines() {
+        let (text, wanted) = paired(case)?;
+        assert_eq!(rt; written(&rt, alloc, text)?.as_str(), wanted, "of {text}");
     }
     Ok(())
 }
+
+// Where the reader is stuck in the text.
+fn stuck(rt: &impl Abort, alloc: Global, text: &str) -> Result<u32, Fail> {
+    let tokens = cut(rt, alloc, text)?;
+    match where_part(alloc, text.as_bytes(), tokens.as_slice()) {
+        Err(Fault::Stuck(left)) => Ok(place(left)),
+        Err(Fault::Memory) => panic!(rt; "no memory: {text}"),
+        Ok(_) => panic!(rt; "read: {text}"),
+    }
+}
+
+const REFUSED_CONDITIONS: &str = "\
+999 WHERE
+6 WHERE ;
+6 WHERE 1 = a
+999 WHERE a
+8 WHERE a 1
+10 WHERE a = ;
+10 WHERE a = = 1
+12 WHERE a = - b
+12 WHERE a = b.;
+9 WHERE a. = 1
+16 WHERE a = 1 AND OR b = 2
+21 WHERE (a = 1 OR b = 2;
+999 WHERE NOT
+7 WHERE ()
+6 WHERE select = 1
+17 WHERE a = 1 OR b ! 2
+38 WHERE ((((((((((((((((((((((((((((((((NOT v = 1))))))))))))))))))))))))))))))))
+";
 
 #[test]
 fn refused_conditions(rt: HostRuntime) -> Result<(), Fail> {
-    let alloc = rt.alloc();
-    for (text, wanted) in [
-        ("WHERE", 999),
-        ("WHERE ;", 6),
-        ("WHERE 1 = a", 6),
-        ("WHERE a", 999),
-        ("WHERE a 1", 8),
-        ("WHERE a = ;", 10),
-        ("WHERE a = = 1", 10),
-        ("WHERE a = - b", 12),
-        ("WHERE a = b.;", 12),
-        ("WHERE a. = 1", 9),
-        ("WHERE a = 1 AND OR b = 2", 16),
-        ("WHERE (a = 1 OR b = 2;", 21),
-        ("WHERE NOT", 999),
-        ("WHERE ()", 7),
-        ("WHERE select = 1", 6),
-        ("WHERE a = 1 OR b ! 2", 17),
-        (
-            "WHERE ((((((((((((((((((((((((((((((((NOT v = 1))))))))))))))))))))))))))))))))",
-            38,
-        ),
-    ] {
-        let found = cut(&rt, alloc, text)?;
-        match where_part(alloc, text.as_bytes(), found.as_slice()) {
-            Err(Fault::Stuck(left)) => assert_eq!(rt; place(left), wanted, "at {text}"),
-            Err(Fault::Memory) => panic!(rt; "no memory: {text}"),
-            Ok(_) => panic!(rt; "read: {text}"),
-        }
+    for case in REFUSED_CONDITIONS.lines() {
+        let (at, text) = numbered(case)?;
+        assert_eq!(rt; stuck(&rt, rt.alloc(), text)?, at, "at {text}");
     }
     Ok(())
 }
 
-// The text of so many letters, between quotes.
-fn quotation(alloc: Global, letters: u32) -> Result<String, AllocError> {
-    let mut out = String::new(alloc);
-    out.push_str("'")?;
-    for _ in 0..letters {
-        out.push_str("a")?;
-    }
-    out.push_str("'")?;
-    Ok(out)
-}
-
-// Whether the text is this literal and nothing else.
-fn is_literal(rt: &impl Abort, alloc: Global, text: &str, wanted: &Literal) -> Result<(), Fail> {
+// The text is this literal and nothing else.
+fn is_literal(rt: &impl Abort, alloc: Global, text: &str, wanted: &str) -> Result<(), Fail> {
     let found = cut(rt, alloc, text)?;
-    match constant(text.as_bytes(), found.as_slice()) {
-        Ok((literal, rest)) => {
-            assert!(rt; literal == *wanted, "of {text}");
-            assert!(rt; rest.is_empty(), "behind {text}");
-        }
-        Err(_) => panic!(rt; "refused: {text}"),
-    }
+    let Ok((read, rest)) = constant(text.as_bytes(), found.as_slice()) else {
+        panic!(rt; "refused: {text}");
+    };
+    let mut out = String::new(alloc);
+    spelled::literal(&mut out, &read)?;
+    assert_eq!(rt; out.as_str(), wanted, "of {text}");
+    assert!(rt; rest.is_empty(), "behind {text}");
     Ok(())
 }
+
+const LITERALS: &str = "\
+0 -> 0
++17 -> 17
+- 017 -> -17
+9223372036854775807 -> 9223372036854775807
+-9223372036854775808 -> -9223372036854775808
+9223372036854775808 -> out-of-range
+-9223372036854775809 -> out-of-range
++99999999999999999999 -> out-of-range
+'' -> <>
+'a''b' -> <a'b>
+'''' -> <'>
+' A;--' -> < A;-->
+'aaaaaaaaaaaaaaaaaaaaaaaaaaaaaaaaaaaaaaaaaaaaaaaaaaaaaaaaaaaaaaaaaaaaaaaaaaaaaaaaaaaaaaaaaaaaaaaaaaaaaaaaaaaaaaaaaaaaaaaaaaaaaaaaaaaaaaaaaaaaaaaaaaaaaaaaaaaaaaaaaaaaaaaaaaaaaaaaaaaaaaaaaaaaaaaaaaaaaaaaaaaaaaaaaaaaaaaaaaaaaaaaaaaaaaaaaaaaaaaaaaaaaaaaaaaaaaaa' -> too-long
+";
 
 #[test]
 fn literals(rt: HostRuntime) -> Result<(), Fail> {
     let alloc = rt.alloc();
-    for (text, wanted) in [
-        ("0", 0),
-        ("+17", 17),
-        ("- 017", -17),
-        ("9223372036854775807", 9223372036854775807),
-        ("-9223372036854775808", -9223372036854775808),
-    ] {
-        is_literal(&rt, alloc, text, &Literal::Int(wanted))?;
+    for case in LITERALS.lines() {
+        let (text, wanted) = paired(case)?;
+        is_literal(&rt, alloc, text, wanted)?;
     }
-    for text in [
-        "9223372036854775808",
-        "-9223372036854775809",
-        "+99999999999999999999",
-    ] {
-        is_literal(&rt, alloc, text, &Literal::OutOfRange)?;
-    }
-    for (text, bytes) in [
-        ("''", b"".as_slice()),
-        ("'a''b'", b"a'b".as_slice()),
-        ("''''", b"'".as_slice()),
-        ("' A;--'", b" A;--".as_slice()),
-    ] {
-        is_literal(&rt, alloc, text, &Literal::Text(Text::from_bytes(bytes)))?;
-    }
-    let long = quotation(alloc, 256)?;
-    is_literal(&rt, alloc, long.as_str(), &Literal::TooLong)
+    Ok(())
 }
 
 #[test]
@@ -199,12 +150,16 @@ fn columns(rt: HostRuntime) -> Result<(), Fail> {
     let Ok((first, rest)) = column(found.as_slice()) else {
         panic!(rt; "no column");
     };
-    assert!(rt; first.column.as_bytes() == b"ab".as_slice());
-    assert!(rt; first.table.is_some());
+    let mut out = String::new(alloc);
+    spelled::column(&mut out, &first)?;
+    assert_eq!(rt; out.as_str(), "t.ab");
     assert_eq!(rt; place(rest), 4);
     let Some(last) = found.as_slice().get(5..) else {
         panic!(rt; "fewer tokens");
     };
-    assert_eq!(rt; number(last).ok().map(|p| p.0), Some(18446744073709551615));
+    let Ok((value, _)) = number(last) else {
+        panic!(rt; "no number");
+    };
+    assert_eq!(rt; value, 18446744073709551615);
     Ok(())
 }

@@ -4,6 +4,8 @@
 #[cfg(test)]
 mod answers;
 #[cfg(test)]
+mod case;
+#[cfg(test)]
 mod conditions;
 #[cfg(test)]
 mod meanings;

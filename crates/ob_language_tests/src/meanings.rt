@@ -1,9 +1,7 @@
-use ob_base::{
-    Column, ColumnName, ComparisonOperator, Heading, Items, Kind, Name, Public, Refusal, Schema,
-    Table,
-};
+use crate::statements::read;
+use ob_base::{Column, Heading, Items, Kind, Name, Public, Refusal, Schema, Table};
 use ob_mean::{early_refusal, where_at};
-use ob_sql::{Against, Cond, CondTree, Literal, Set, Stmt};
+use ob_sql::Stmt;
 use std::alloc::Global;
 use std::test::Fail;
 
@@ -31,24 +29,10 @@ fn table() -> Table {
     }
 }
 
-fn named(name: &Name) -> ColumnName {
-    ColumnName {
-        table: None,
-        column: name.copied(),
-    }
-}
-
-fn is_ten(name: &Name) -> CondTree {
-    CondTree::Compare(
-        named(name),
-        ComparisonOperator::Equal,
-        Against::Literal(Literal::Int(10)),
-    )
-}
-
 #[test]
 fn refuses_early(rt: HostRuntime) -> Result<(), Fail> {
-    let mut tables = Vec::new(rt.alloc());
+    let alloc = rt.alloc();
+    let mut tables = Vec::new(alloc);
     tables.push(table())?;
     let public = Public {
         tables: Items::from_vec(tables),
@@ -59,47 +43,27 @@ fn refuses_early(rt: HostRuntime) -> Result<(), Fail> {
         plan: None,
         pad: None,
     };
-    let dropped = Stmt::Drop {
-        table: Name::from_bytes(b"u"),
-    };
-    assert_eq!(rt;
-        early_refusal(false, &public, &dropped),
-        Some(Refusal::NoTable)
-    );
-    let mut sets = Vec::new(rt.alloc());
-    sets.push(Set {
-        column: Name::from_bytes(b"id"),
-        value: Literal::Int(9),
-    })?;
-    let update = Stmt::Update {
-        table: Name::from_bytes(b"t"),
-        sets: Items::from_vec(sets),
-        cond: None,
-    };
-    assert_eq!(rt;
-        early_refusal(false, &public, &update),
-        Some(Refusal::KeyRule)
-    );
+    let dropped = read(alloc, "DROP TABLE u;")?;
+    let found = early_refusal(false, &public, &dropped);
+    assert_eq!(rt; found, Some(Refusal::NoTable));
+    let update = read(alloc, "UPDATE t SET id = 9;")?;
+    let found = early_refusal(false, &public, &update);
+    assert_eq!(rt; found, Some(Refusal::KeyRule));
     assert_eq!(rt; early_refusal(true, &public, &update), Some(Refusal::Limit));
-    let delete = Stmt::Delete {
-        table: Name::from_bytes(b"t"),
-        cond: Some(Cond::new(is_ten(&Name::from_bytes(b"x")))),
-    };
-    assert_eq!(rt;
-        early_refusal(false, &public, &delete),
-        Some(Refusal::NoColumn)
-    );
+    let delete = read(alloc, "DELETE FROM t WHERE x = 10;")?;
+    let found = early_refusal(false, &public, &delete);
+    assert_eq!(rt; found, Some(Refusal::NoColumn));
     Ok(())
 }
 
 #[test]
 fn makes_conditions(rt: HostRuntime) -> Result<(), Fail> {
-    let alloc: Global = rt.alloc();
-    let id = is_ten(&Name::from_bytes(b"id"));
-    let v = CondTree::Not(Box::new(alloc, is_ten(&Name::from_bytes(b"v")))?);
-    let both = CondTree::And(Box::new(alloc, id)?, Box::new(alloc, v)?);
+    let alloc = rt.alloc();
+    let delete = read(alloc, "DELETE FROM t WHERE id = 10 AND NOT v = 10;")?;
+    let Stmt::Delete { cond, .. } = &delete else {
+        panic!(rt; "no delete");
+    };
     let table = table();
-    let cond = Some(Cond::new(both));
-    where_at(alloc, &cond, table.heading.schema.as_slice(), &[])?;
+    where_at(alloc, cond, table.heading.schema.as_slice(), &[])?;
     Ok(())
 }

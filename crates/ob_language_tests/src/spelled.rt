@@ -77,7 +77,8 @@ fn new_column(out: &mut String, column: &NewColumn) -> Result<(), AllocError> {
     write!(out, ":{keys}")
 }
 
-fn literal(out: &mut String, literal: &Literal) -> Result<(), AllocError> {
+/// The literal, written out.
+pub(crate) fn literal(out: &mut String, literal: &Literal) -> Result<(), AllocError> {
     match literal {
         Literal::Int(value) => write!(out, "{value}"),
         Literal::OutOfRange => out.push_str("out-of-range"),
@@ -96,7 +97,8 @@ fn assignment(out: &mut String, set: &Set) -> Result<(), AllocError> {
     literal(out, &set.value)
 }
 
-fn column(out: &mut String, column: &ColumnName) -> Result<(), AllocError> {
+/// The name of a column, written out.
+pub(crate) fn column(out: &mut String, column: &ColumnName) -> Result<(), AllocError> {
     if let Some(table) = &column.table {
         bytes(out, table.as_bytes())?;
         out.push_str(".")?;
@@ -115,29 +117,35 @@ fn sign(order: ComparisonOperator) -> &'static str {
     }
 }
 
-fn condition(out: &mut String, tree: &CondTree) -> Result<(), AllocError> {
+fn comparison(
+    out: &mut String,
+    left: &ColumnName,
+    order: ComparisonOperator,
+    right: &Against,
+) -> Result<(), AllocError> {
+    column(out, left)?;
+    out.push_str(sign(order))?;
+    match right {
+        Against::Literal(value) => literal(out, value),
+        Against::Column(other) => column(out, other),
+    }
+}
+
+/// The condition, written out.
+pub(crate) fn condition(out: &mut String, tree: &CondTree) -> Result<(), AllocError> {
     out.push_str("(")?;
     match tree {
-        CondTree::Compare(left, order, right) => {
-            column(out, left)?;
-            out.push_str(sign(*order))?;
-            match right {
-                Against::Literal(value) => literal(out, value)?,
-                Against::Column(other) => column(out, other)?,
-            }
-        }
+        CondTree::Compare(left, order, right) => comparison(out, left, *order, right)?,
         CondTree::Not(inner) => {
             out.push_str("not ")?;
             condition(out, inner)?;
         }
-        CondTree::And(left, right) => {
+        CondTree::And(left, right) | CondTree::Or(left, right) => {
             condition(out, left)?;
-            out.push_str(" and ")?;
-            condition(out, right)?;
-        }
-        CondTree::Or(left, right) => {
-            condition(out, left)?;
-            out.push_str(" or ")?;
+            out.push_str(match tree {
+                CondTree::And(..) => " and ",
+                _ => " or ",
+            })?;
             condition(out, right)?;
         }
     }

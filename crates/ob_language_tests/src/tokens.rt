@@ -1,3 +1,4 @@
+use crate::case::paired;
 use ob_token::{Lexeme, Piece, Token, is_blank, split, tokens};
 use std::alloc::Global;
 use std::mem::size_of;
@@ -51,46 +52,51 @@ fn spell(out: &mut String, token: &Token) -> Result<(), Fail> {
         Lexeme::Bad => "bad",
     };
     let (from, to) = (token.from, token.to);
-    write!(out, "{sort} {from} {to}, ")?;
+    if !out.is_empty() {
+        out.push_str(", ")?;
+    }
+    write!(out, "{sort} {from} {to}")?;
     Ok(())
 }
 
-// Each of the texts has these tokens.
-fn cuts(rt: &impl Abort, alloc: Global, cases: &[(&str, &str)]) -> Result<(), Fail> {
-    for (text, wanted) in cases {
-        let bytes = text.as_bytes();
-        assert!(rt; bytes.len() <= 65536);
-        let mut spelled = String::new(alloc);
-        let found = tokens(alloc, bytes).ok().ok_or("no memory")?;
-        assert_eq!(rt; found.capacity(), found.len());
-        for token in found.as_slice() {
-            spell(&mut spelled, token)?;
-        }
-        assert_eq!(rt; spelled.as_str(), *wanted);
+// The text has these tokens.
+fn cuts(rt: &impl Abort, alloc: Global, text: &str, wanted: &str) -> Result<(), Fail> {
+    let bytes = text.as_bytes();
+    assert!(rt; bytes.len() <= 65536);
+    let mut spelled = String::new(alloc);
+    let found = tokens(alloc, bytes).ok().ok_or("no memory")?;
+    assert_eq!(rt; found.capacity(), found.len());
+    for token in found.as_slice() {
+        spell(&mut spelled, token)?;
     }
+    assert_eq!(rt; spelled.as_str(), wanted);
     Ok(())
 }
+
+const TOKENS: &str = "\
+a.B_1 -> name 0 1, mark 1 2, name 2 5
+Select-1 -> mark 0 6, mark 6 7, number 7 8
+<><=<>=!=> -> mark 0 2, mark 2 4, mark 4 6, mark 6 7, mark 7 9, mark 9 10
+a 1a b -> name 0 1, bad 2 4
+a ! b -> name 0 1, bad 2 3
+a 'b -> name 0 1, bad 2 3
+a'\t'b -> name 0 1, bad 1 2
+abcdefghijklmnopqrstuvwxyz012345 -> name 0 32
+abcdefghijklmnopqrstuvwxyz0123456 a -> bad 0 33
+";
 
 #[test]
 fn tokens_of_texts(rt: HostRuntime) -> Result<(), Fail> {
-    let cases = [
-        ("", ""),
-        (" -- a", ""),
-        ("a.B_1", "name 0 1, mark 1 2, name 2 5, "),
-        ("Select-1", "mark 0 6, mark 6 7, number 7 8, "),
-        (
-            "<><=<>=!=>",
-            "mark 0 2, mark 2 4, mark 4 6, mark 6 7, mark 7 9, mark 9 10, ",
-        ),
-        ("'a''b' '' --'\n12", "text 0 6, text 7 9, number 14 16, "),
-        ("a 1a b", "name 0 1, bad 2 4, "),
-        ("a ! b", "name 0 1, bad 2 3, "),
-        ("a 'b", "name 0 1, bad 2 3, "),
-        ("a'\t'b", "name 0 1, bad 1 2, "),
-        ("abcdefghijklmnopqrstuvwxyz012345", "name 0 32, "),
-        ("abcdefghijklmnopqrstuvwxyz0123456 a", "bad 0 33, "),
-    ];
-    cuts(&rt, rt.alloc(), &cases)
+    let alloc = rt.alloc();
+    cuts(&rt, alloc, "", "")?;
+    cuts(&rt, alloc, " -- a", "")?;
+    let texts = "text 0 6, text 7 9, number 14 16";
+    cuts(&rt, alloc, "'a''b' '' --'\n12", texts)?;
+    for case in TOKENS.lines() {
+        let (text, wanted) = paired(case)?;
+        cuts(&rt, alloc, text, wanted)?;
+    }
+    Ok(())
 }
 
 #[test]
