@@ -29,9 +29,9 @@ fn table() -> Table {
     }
 }
 
-#[test]
-fn refuses_early(rt: HostRuntime) -> Result<(), Fail> {
-    let alloc = rt.alloc();
+// How the text is refused over that table before any access.
+fn refusal(alloc: Global, late: bool, text: &str) -> Result<Option<Refusal>, Fail> {
+    let stmt = read(alloc, text)?;
     let mut tables = Vec::new(alloc);
     tables.push(table())?;
     let public = Public {
@@ -43,15 +43,19 @@ fn refuses_early(rt: HostRuntime) -> Result<(), Fail> {
         plan: None,
         pad: None,
     };
-    let dropped = read(alloc, "DROP TABLE u;")?;
-    let found = early_refusal(false, &public, &dropped);
+    Ok(early_refusal(late, &public, &stmt))
+}
+
+#[test]
+fn refuses_early(rt: HostRuntime) -> Result<(), Fail> {
+    let alloc = rt.alloc();
+    let found = refusal(alloc, false, "DROP TABLE u;")?;
     assert_eq!(rt; found, Some(Refusal::NoTable));
-    let update = read(alloc, "UPDATE t SET id = 9;")?;
-    let found = early_refusal(false, &public, &update);
+    let found = refusal(alloc, false, "UPDATE t SET id = 9;")?;
     assert_eq!(rt; found, Some(Refusal::KeyRule));
-    assert_eq!(rt; early_refusal(true, &public, &update), Some(Refusal::Limit));
-    let delete = read(alloc, "DELETE FROM t WHERE x = 10;")?;
-    let found = early_refusal(false, &public, &delete);
+    let found = refusal(alloc, true, "UPDATE t SET id = 9;")?;
+    assert_eq!(rt; found, Some(Refusal::Limit));
+    let found = refusal(alloc, false, "DELETE FROM t WHERE x = 10;")?;
     assert_eq!(rt; found, Some(Refusal::NoColumn));
     Ok(())
 }
