@@ -9,6 +9,7 @@ pub mod Plans
 pub mod Events
 pub mod Labels
 pub mod Joins
+pub mod Indexes
 pub mod Texts
 pub mod IsText
 pub mod Refusals

@@ -6,4 +6,14 @@ use Rattle.ob_base.specs.declared.config.Public.{Public}
 -- no tables, and nothing asked
 abbrev pub first_public : Config → Public
 first_public config =
-    record { tables = []; next_region = 1; buffer = config.buffer; depth = config.depth; pack = config.pack; plan = config.plan; pad = config.pad }
+    record {
+      tables = [];
+      next_region = 1;
+      buffer = config.buffer;
+      depth = config.depth;
+      pack = config.pack;
+      plan = config.plan;
+      pad = config.pad;
+      stash = config.stash;
+      keep = config.keep;
+    }

@@ -24,6 +24,10 @@ pub struct Config {
     /// The rows to which the result of a SELECT of rows is padded, where it is: 1 to 1,048,576, and then
     /// neither Continuous nor Hash is forced.
     pub pad: Option<u32>,
+    /// The rows of an index's stash: 1 to 1,024.
+    pub stash: u32,
+    /// Whether the tables are kept from a run to the next.
+    pub keep: bool,
     /// The input has fewer bytes: 1,024 to 1,073,741,824.
     pub max_input: u64,
 }
@@ -38,4 +42,6 @@ pub struct Public {
     pub pack: u8,
     pub plan: Option<Plan>,
     pub pad: Option<u32>,
+    pub stash: u32,
+    pub keep: bool,
 }

@@ -33,6 +33,10 @@ pub enum Refusal {
     StoreFault,
     /// E16: more rows are selected than the result is padded to.
     PadPassed,
+    /// E17: a key that is none of an index.
+    KeyRange,
+    /// E18: a statement on an index that doesn't name one key.
+    NeedsKey,
 }
 
 /// What ends a session.

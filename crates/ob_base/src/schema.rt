@@ -129,15 +129,26 @@ impl Schema {
     }
 }
 
-/// What is known of a table without its rows; `capacity` is its number of slots.
+/// How a table keeps its rows.
+#[derive(Clone, Copy, Debug, PartialEq, Eq)]
+pub enum Shape {
+    /// In slots, over which a statement passes.
+    Flat,
+    /// In the buckets of a tree and in a stash, of which a statement asks for the path of one key (Path ORAM).
+    Indexed,
+}
+
+/// What is known of a table without its rows. `capacity` is its number of slots, and of an index its number
+/// of keys, from 0 on.
 #[derive(Drop)]
 pub struct Heading {
     pub name: Name,
     pub schema: Schema,
     pub capacity: u32,
+    pub shape: Shape,
 }
 
-/// A table and the region that holds its rows.
+/// A table and the region that holds its rows: of an index that of its tree, and the next is its stash's.
 #[derive(Drop)]
 pub struct Table {
     pub heading: Heading,

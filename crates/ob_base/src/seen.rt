@@ -22,5 +22,7 @@ pub struct Seen {
     pub plan: Option<Plan>,
     /// The plan that was taken after it, where the first one found no place for a row.
     pub then: Option<Plan>,
+    /// The leaf whose path was read, for an access of an index.
+    pub leaf: Option<u64>,
     pub end: End,
 }

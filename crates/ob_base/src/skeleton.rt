@@ -1,4 +1,5 @@
 use crate::items::Items;
+use crate::schema::Shape;
 use crate::text::Name;
 
 /// A column as a statement names it.
@@ -42,6 +43,7 @@ pub enum Skeleton {
         table: Name,
         columns: Items<NewColumn>,
         capacity: u32,
+        shape: Shape,
     },
     Insert {
         table: Name,

@@ -34,7 +34,8 @@ use Rattle.ob_tree.proofs.RowLemmas.{rows-append}
 use Rattle.ob_tree.proofs.RunLemmas.{leaves_kept}
 use Rattle.ob_mean.specs.SameMeaning.{SameTables}
 use Rattle.ob_indexed.specs.Asking.{Ask, Find, Put, Set, Take, FitsIndex, Settles, key_is, op_of, stepped}
-use Rattle.ob_indexed.specs.Indexed.{IsIndexed, access_settled, ask_of, height_of, held_as, index_of, key_asked, key_at, key_in, keyed_table, one_table, tree_size, went}
+use Rattle.ob_base.specs.Indexes.{height_of}
+use Rattle.ob_indexed.specs.Indexed.{IsIndexed, access_settled, ask_of, held_as, index_of, key_asked, key_at, key_in, keyed_table, one_table, tree_size, went}
 use Rattle.ob_indexed.specs.Settling.{AccessSettles}
 use Rattle.ob_indexed.proofs.AskProof.{settles}
 
@@ -142,7 +143,7 @@ next_of ts stmt t ask found asked = by stmt found asked
 
     by : (stmt : Stmt) → keyed_table ts stmt ≡ Some t → ask_of t.heading stmt ≡ Some ask
         → (stored_at t.heading.name ts ≡ Some t) × (changed_at t.heading.name (stepped i ask) (database ts) ≡ accepted_next (database ts) stmt)
-    by (Create table columns capacity) found asked = absurd (cc found)
+    by (Create table columns capacity shape) found asked = absurd (cc found)
     by (DropTable table) found asked = absurd (cc found)
     by (TotalsStmt s) found asked = absurd (cc found)
     by (Insert table columns values) found asked =

@@ -1,10 +1,11 @@
 -- An index among the tables in place, and what a statement that names its key asks of it.
-use Rattle.std.specs.Prelude.{◌≡◌, ℕ, zero, suc, ℤ, ◌+◌, ◌*◌, ◌-◌, ◌^◌, nat_le, ◌++◌, take, drop, length, List, Option, Some, None, if◌then◌else◌, unwrap_or}
+use Rattle.std.specs.Prelude.{◌≡◌, ℕ, ℤ, ◌++◌, take, drop, length, List, Option, Some, None, if◌then◌else◌, unwrap_or}
 use Rattle.std.specs.Option.{option_and_then, option_map}
 use Rattle.ob_base.specs.declared.comparison.ComparisonOperator.TheVariants.{Equal}
 use Rattle.ob_base.specs.declared.schema.Heading.{Heading}
 use Rattle.ob_base.specs.declared.skeleton.Source.{Source}
 use Rattle.ob_base.specs.declared.skeleton.Source.TheVariants.{Table as OneTable, Join}
+use Rattle.ob_base.specs.Indexes.{height_of, tree_blocks}
 use Rattle.ob_base.specs.Schemas.{Columns, key_place}
 use Rattle.ob_base.specs.Stored.{Stored, changed_at, stored_at}
 use Rattle.ob_row.specs.Rows.{Row}
@@ -23,17 +24,9 @@ use Rattle.ob_tree.specs.States.{State, Stands}
 use Rattle.ob_indexed.specs.Asking.{Ask, Find, Put, Set, Take, op_of}
 
 -- ---- sizes
--- the least height, from this one on, of a tree with a leaf for each of n keys
-abbrev pub height_from : (fuel height n : ℕ) → ℕ
-height_from zero height n = height
-height_from (suc fuel) height n = if nat_le n (2 ^ height) then height else height_from fuel (suc height) n
-
-abbrev pub height_of : (n : ℕ) → ℕ
-height_of n = height_from n 0 n
-
 -- the blocks of the tree of an index
 abbrev pub tree_size : Heading → ℕ
-tree_size h = 4 * (2 ^ (height_of h.capacity + 1) - 1)
+tree_size h = tree_blocks (height_of h.capacity)
 
 -- ---- an index in place
 -- the place of the primary key

@@ -47,6 +47,8 @@ fn keeps_equal_rows(rt: HostRuntime) -> Result<(), Fail> {
         pack: 1,
         plan: None,
         pad: None,
+        stash: 32,
+        keep: false,
         max_input: 1_024,
     };
     let stmts = given(rt.alloc())?;

@@ -1,5 +1,5 @@
 use crate::statements::read;
-use ob_base::{Column, Heading, Items, Kind, Name, Public, Refusal, Schema, Table};
+use ob_base::{Column, Heading, Items, Kind, Name, Public, Refusal, Schema, Shape, Table};
 use ob_mean::{early_refusal, where_at};
 use ob_sql::Stmt;
 use std::alloc::Global;
@@ -24,6 +24,7 @@ fn table() -> Table {
             name: Name::from_bytes(b"t"),
             schema,
             capacity: 4,
+            shape: Shape::Flat,
         },
         region: 1,
     }
@@ -42,6 +43,8 @@ fn refusal(alloc: Global, late: bool, text: &str) -> Result<Option<Refusal>, Fai
         pack: 1,
         plan: None,
         pad: None,
+        stash: 32,
+        keep: false,
     };
     Ok(early_refusal(late, &public, &stmt))
 }

@@ -1,6 +1,6 @@
 //! Statements written out with each of their parts in its place, for tests: a text between `<` and `>`, and
 //! each comparison, NOT, AND and OR in parentheses of its own.
-use ob_base::{ColumnName, ComparisonOperator, Name, NewColumn, NewKind, Source};
+use ob_base::{ColumnName, ComparisonOperator, Name, NewColumn, NewKind, Shape, Source};
 use ob_sql::{Against, Cond, CondTree, Listed, Literal, SelectRows, SelectTotals, Set, Stmt};
 use std::alloc::{AllocError, Global};
 
@@ -12,12 +12,16 @@ pub(crate) fn spelled(alloc: Global, stmt: &Stmt) -> Result<String, AllocError> 
             table,
             columns,
             capacity,
+            shape,
         } => {
             headed(&mut out, "create ", table)?;
             for column in columns.as_slice() {
                 new_column(&mut out, column)?;
             }
             write!(out, " capacity {capacity}")?;
+            if *shape == Shape::Indexed {
+                out.push_str(" indexed")?;
+            }
         }
         Stmt::Insert {
             table,

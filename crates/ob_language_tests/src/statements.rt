@@ -1,6 +1,6 @@
 use crate::case::{numbered, paired};
 use crate::spelled::spelled;
-use ob_base::{NewKind, Skeleton};
+use ob_base::{NewKind, Shape, Skeleton};
 use ob_parse::{ParseErr, parse, skeleton};
 use ob_sql::Stmt;
 use std::alloc::Global;
@@ -52,6 +52,13 @@ const REFUSED_CREATES: &str = "\
 22 CREATE TABLE t (a INT)
 31 CREATE TABLE t (a INT) CAPACITY
 33 CREATE TABLE t (a INT) CAPACITY 4
+41 CREATE TABLE t (a INT) CAPACITY 4 INDEXED
+42 CREATE TABLE t (a INT) CAPACITY 4 INDEXED INDEXED;
+24 CREATE TABLE t (a INT) INDEXED;
+32 CREATE TABLE t (a INT) CAPACITY INDEXED;
+31 CREATE TABLE t (a INT) INDEXED CAPACITY 4;
+13 CREATE TABLE indexed (a INT) CAPACITY 4;
+16 CREATE TABLE t (Indexed INT) CAPACITY 4;
 7 CREATE t (a INT) CAPACITY 4;
 13 CREATE TABLE select (a INT) CAPACITY 4;
 15 CREATE TABLE t a INT) CAPACITY 4;
@@ -240,6 +247,7 @@ fn refused_tokens(rt: HostRuntime) -> Result<(), Fail> {
 // Each of the texts, and where each of its tokens but the last ends.
 const FRONTS: &str = "\
 CREATE TABLE t (a INT NOT NULL PRIMARY KEY, b VARCHAR(4)) CAPACITY 4; -> 6 12 14 16 17 21 25 30 38 42 43 45 53 54 55 56 57 66 68
+CREATE TABLE t (a INT) CAPACITY 4 INDEXED; -> 6 12 14 16 17 21 22 31 33 41
 INSERT INTO t (a, b) VALUES (-1, 'c'); -> 6 11 13 15 16 17 19 20 27 29 30 31 32 36 37
 UPDATE t SET a = 1, b = 'c' WHERE NOT (t.a >= 2 AND b <> c) OR a = +3; -> 6 8 12 14 16 18 19 21 23 27 33 37 39 40 41 42 45 47 51 53 56 58 59 62 64 66 68 69
 DELETE FROM t WHERE a < 1; -> 6 11 13 19 21 23 25
@@ -295,6 +303,9 @@ fn each_spells(rt: &impl Abort, alloc: Global, cases: &str) -> Result<(), Fail> 
 
 const CREATED: &str = "\
 CREATE TABLE t (id INT PRIMARY KEY, v INT) CAPACITY 4; -> create t id:int:1 v:int:0 capacity 4
+CREATE TABLE t (id INT PRIMARY KEY, v INT) CAPACITY 4 INDEXED; -> create t id:int:1 v:int:0 capacity 4 indexed
+create table o (k INT) capacity 3 indexed; -> create o k:int:0 capacity 3 indexed
+CREATE TABLE o (k INT) CAPACITY 0 inDexeD; -> create o k:int:0 capacity 0 indexed
 CREATE TABLE u (k INT, w INT) CAPACITY 3; -> create u k:int:0 w:int:0 capacity 3
 CREATE TABLE s (x VARCHAR(4)) CAPACITY 1; -> create s x:varchar4:0 capacity 1
 CREATE TABLE a (x INT) CAPACITY 0; -> create a x:int:0 capacity 0
@@ -420,7 +431,7 @@ fn outlines(rt: HostRuntime) {
     let alloc = rt.alloc();
     let Some(stmt) = parsed(
         alloc,
-        "CREATE TABLE t (a VARCHAR(5000000000) PRIMARY KEY) CAPACITY 4;",
+        "CREATE TABLE t (a VARCHAR(5000000000) PRIMARY KEY) CAPACITY 4 INDEXED;",
     ) else {
         panic!(rt; "no create");
     };
@@ -428,6 +439,7 @@ fn outlines(rt: HostRuntime) {
         Skeleton::Create {
             columns,
             capacity,
+            shape,
             ..
         },
     ) = skeleton(alloc, &stmt)
@@ -435,6 +447,7 @@ fn outlines(rt: HostRuntime) {
         panic!(rt; "no skeleton");
     };
     assert!(rt; capacity == 4);
+    assert_eq!(rt; shape, Shape::Indexed);
     let Some(first) = columns.as_slice().first() else {
         panic!(rt; "no column");
     };

@@ -6,11 +6,13 @@ use Rattle.std.proofs.lemmas.Bool.Decides.{nat_tests}
 use Rattle.ob_base.specs.declared.refusal.Refusal.{Refusal}
 use Rattle.ob_base.specs.declared.refusal.Refusal.TheVariants.{NoTable, NameTaken, NoColumn, WrongType, ValueRange, Limit, KeyRule, JoinKey}
 use Rattle.ob_base.specs.declared.schema.Heading.{Heading}
+use Rattle.ob_base.specs.declared.schema.Shape.{Shape}
+use Rattle.ob_base.specs.declared.schema.Shape.TheVariants.{Flat, Indexed}
 use Rattle.ob_base.specs.declared.skeleton.NewColumn.{NewColumn}
 use Rattle.std.specs.Int.{is_in_range}
 use Rattle.ob_base.specs.Schemas.{width, columns_of}
 use Rattle.ob_sql.specs.declared.stmt.Stmt.{Stmt}
-use Rattle.ob_mean.specs.Refusals.{first_holding, early_refusal, is_size, creates_past, is_past_limit, lacks_table, takes_name, lacks_column, has_wrong_type, is_out_of_range, breaks_key_rule, joins_off_key, Limits}
+use Rattle.ob_mean.specs.Refusals.{first_holding, early_refusal, is_size, creates_past, is_indexed, is_past_limit, lacks_table, takes_name, lacks_column, has_wrong_type, is_out_of_range, breaks_key_rule, joins_off_key, Limits}
 
 -- none of the conditions holds
 pub record Allowed (late : Bool) (given : Limits) (hs : List Heading) (stmt : Stmt) : Type 0 where
@@ -66,8 +68,8 @@ allowed late limits hs stmt none =
       joins = all.7;
     }
 
--- a new table is within the limits
-pub record IsWithin (hs : List Heading) (table : List ℕ) (columns : List NewColumn) (capacity : ℕ) : Type 0 where
+-- a new table is within the limits, and flat
+pub record IsWithin (hs : List Heading) (table : List ℕ) (columns : List NewColumn) (capacity : ℕ) (shape : Shape) : Type 0 where
   pub least : 1 ≤ capacity
   pub most : capacity ≤ 1048576
   pub some : 1 ≤ length columns
@@ -75,6 +77,7 @@ pub record IsWithin (hs : List Heading) (table : List ℕ) (columns : List NewCo
   pub sizes : list_any (λ (c : NewColumn). not (is_size c.kind)) columns ≡ false
   pub wide : width (columns_of table columns) ≤ 1024
   pub tables : length hs < 64
+  pub flat : shape ≡ Flat
 
 bounds : (low high n : ℕ) → not (is_in_range low high n) ≡ false → (low ≤ n) × (n ≤ high)
 bounds low high n h = (grind (arith, nat_tests), grind (arith, nat_tests))
@@ -94,10 +97,16 @@ five false false false true e h = cc
 five false false false false true h = cc
 five false false false false false h = (refl, refl, refl, refl, refl)
 
-pub within : (hs : List Heading) (table : List ℕ) (columns : List NewColumn) (capacity : ℕ) → creates_past hs table columns capacity ≡ false → IsWithin hs table columns capacity
-within hs table columns capacity h =
+not_indexed : (shape : Shape) → is_indexed shape ≡ false → shape ≡ Flat
+not_indexed Flat h = refl
+not_indexed Indexed h = absurd (cc h)
+
+pub within : (hs : List Heading) (table : List ℕ) (columns : List NewColumn) (capacity : ℕ) (shape : Shape) → (creates_past hs table columns capacity || is_indexed shape) ≡ false
+    → IsWithin hs table columns capacity shape
+within hs table columns capacity shape h =
+    let both = neither (creates_past hs table columns capacity) (is_indexed shape) h in
     let all = five (not (is_in_range 1 1048576 capacity)) (not (is_in_range 1 16 (length columns))) (list_any (λ (c : NewColumn). not (is_size c.kind)) columns)
-    (nat_lt 1024 (width (columns_of table columns))) (nat_le 64 (length hs)) h in
+    (nat_lt 1024 (width (columns_of table columns))) (nat_le 64 (length hs)) both.0 in
     let capacity_is = bounds 1 1048576 capacity all.0 in
     let length_is = bounds 1 16 (length columns) all.1 in
     record {
@@ -108,4 +117,5 @@ within hs table columns capacity h =
       sizes = all.2;
       wide = at_most 1024 (width (columns_of table columns)) all.3;
       tables = less 64 (length hs) all.4;
+      flat = not_indexed shape both.1;
     }

@@ -47,7 +47,7 @@ abbrev names_of : Stmt → List ColumnName
 names_of stmt = named_columns stmt ++ flat_map comparison_columns (compared stmt)
 
 named : (stmt : Stmt) → named_in (parts_of stmt) ≡ names_of stmt
-named (Create table columns capacity) = refl
+named (Create table columns capacity shape) = refl
 named (Insert table columns values) = no_more ∙ no_more ∙ no_more ∙ no_more ∙ no_more
 named (Update table sets cond) =
     ap (λ names. names ++ flat_map comparison_columns (where_comparisons cond)) (no_more ∙ no_more ∙ no_more ∙ no_more ∙ map-map unqualified (λ (s : Set). s.column) sets)
@@ -57,7 +57,7 @@ named (RowsStmt s) = ap (λ names. names ++ flat_map comparison_columns (where_c
 named (TotalsStmt s) = refl
 
 select_lacks : (stmt : Stmt) (hs : List Heading) → select_lacks_in (scope hs stmt) (parts_of stmt) ≡ select_lacks_column hs stmt
-select_lacks (Create table columns capacity) hs = refl
+select_lacks (Create table columns capacity shape) hs = refl
 select_lacks (Insert table columns values) hs = refl
 select_lacks (Update table sets cond) hs = refl
 select_lacks (Delete table cond) hs = refl
@@ -75,7 +75,7 @@ pub others_are : (stmt : Stmt) (given : Limits) (hs : List Heading) →
     × (exceeds_in given hs (parts_of stmt) ≡ is_past_limit given hs stmt)
     × (breaks_key_in (scope hs stmt) (parts_of stmt) ≡ breaks_key_rule hs stmt)
     × (option_map_or (off_key_in (scope hs stmt)) (parts_of stmt).source false ≡ joins_off_key hs stmt)
-others_are (Create table columns capacity) given hs = (refl, alone ∙ alone ∙ alone, refl, refl, refl, alone ∙ alone ∙ alone, alone, refl)
+others_are (Create table columns capacity shape) given hs = (refl, alone ∙ alone ∙ alone, refl, refl, refl, alone ∙ alone ∙ alone, alone, refl)
 others_are (Insert table columns values) given hs = (
   refl,
   alone ∙ alone,

@@ -115,7 +115,7 @@ module _ (a b : Database) (same : SameTables a b) where
 
   -- ---- refusals
   late_same : (s : ℕ) (stmt : Stmt) → late_refusal s a stmt ≡ late_refusal s b stmt
-  late_same s (Create table columns capacity) = refl
+  late_same s (Create table columns capacity shape) = refl
   late_same s (Insert table columns values) = go (stored_at table a) (stored_at table b) (same_found table a b same)
     where
       refused : Stored (List Row) → Option Refusal
@@ -153,7 +153,7 @@ module _ (a b : Database) (same : SameTables a b) where
       ∙ ap Changed (same-count (is_true (where_at search (columns_at table (headings b)))) (rows_at table a) (rows_at table b) (held_same table))
 
   accepted_same : (stmt : Stmt) → SameAnswer (accepted_answer a stmt) (accepted_answer b stmt)
-  accepted_same (Create table columns capacity) = refl
+  accepted_same (Create table columns capacity shape) = refl
   accepted_same (Insert table columns values) = refl
   accepted_same (Update table sets search) = changed_same table search
   accepted_same (Delete table search) = changed_same table search
@@ -173,7 +173,7 @@ module _ (a b : Database) (same : SameTables a b) where
 
   -- ---- the tables afterwards
   next_same : (stmt : Stmt) → SameTables (accepted_next a stmt) (accepted_next b stmt)
-  next_same (Create table columns capacity) = same_added (record { heading = record { name = table; schema = columns_of table columns; capacity = capacity }; held = [] }) a b same
+  next_same (Create table columns capacity shape) = same_added (record { heading = record { name = table; schema = columns_of table columns; capacity = capacity; shape = shape }; held = [] }) a b same
   next_same (Insert table columns values) =
       subst (λ (hs : List Heading). SameTables (next hs a) (next (headings b) b)) (sym heads)
       (same_changed table _ (λ xs ys s. Same-append xs ys _ _ s (Same-refl (new_row (columns_at table (headings b)) columns values ∷ []))) a b same)

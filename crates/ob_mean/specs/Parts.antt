@@ -2,6 +2,7 @@
 use Rattle.std.specs.Prelude.{ℕ, List, [], Option, Some, None, unwrap_or}
 use Rattle.std.specs.Option.{option_map}
 use Rattle.std.specs.Borrow.{Bor}
+use Rattle.ob_base.specs.declared.schema.Shape.{Shape}
 use Rattle.ob_base.specs.declared.skeleton.ColumnName.{ColumnName}
 use Rattle.ob_base.specs.declared.skeleton.NewColumn.{NewColumn}
 use Rattle.ob_base.specs.declared.skeleton.Source.{Source}
@@ -23,6 +24,7 @@ pub record NewTable : Type 0 where
   pub name : List ℕ
   pub columns : List NewColumn
   pub capacity : ℕ
+  pub shape : Shape
 
 -- the row of an INSERT
 pub record NewRow : Type 0 where
@@ -44,7 +46,7 @@ abbrev pub no_parts : Parts
 no_parts = record { created = None; source = None; given = None; sets = []; cond = None; columns = []; items = []; group = None }
 
 abbrev pub parts_of : Stmt → Parts
-parts_of (Create table columns capacity) = record no_parts { created = Some (record { name = table; columns = columns; capacity = capacity }) }
+parts_of (Create table columns capacity shape) = record no_parts { created = Some (record { name = table; columns = columns; capacity = capacity; shape = shape }) }
 parts_of (Insert table columns values) = record no_parts { source = Some (OneTable table); given = Some (record { names = columns; values = values }) }
 parts_of (Update table sets cond) = record no_parts { source = Some (OneTable table); sets = sets; cond = cond }
 parts_of (Delete table cond) = record no_parts { source = Some (OneTable table); cond = cond }
@@ -57,7 +59,7 @@ abbrev pub behind : {A : Type 0} → Option (Bor A) → Option A
 behind held = option_map (λ r. r.now) held
 
 abbrev pub created_in : Option Created → Option NewTable
-created_in created = option_map (λ (t : Created). record { name = t.name.now; columns = t.columns.now; capacity = t.capacity }) created
+created_in created = option_map (λ (t : Created). record { name = t.name.now; columns = t.columns.now; capacity = t.capacity; shape = t.shape }) created
 
 abbrev pub source_in : Tables → Option Source
 source_in Nothing = None

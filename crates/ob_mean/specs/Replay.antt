@@ -60,6 +60,7 @@ cut_at failed n p s seen =
       k = held_if (nat_le (count_end p s) (done_of failed n)) seen.k;
       plan = held_if (nat_le (count_end p s) (done_of failed n)) seen.plan;
       then = held_if (nat_le (walk_end p s seen) (done_of failed n)) seen.then;
+      leaf = None;
       end = Cut n;
     }
 

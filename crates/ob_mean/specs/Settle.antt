@@ -14,8 +14,8 @@ use Rattle.ob_mean.specs.Verdict.{Tables, in_slots, refusal}
 
 -- where the statement is not refused
 abbrev pub settled : Tables → Stmt → Tables
-settled ts (Create table columns capacity) =
-    ts ++ record { heading = record { name = table; schema = columns_of table columns; capacity = capacity }; held = record { slots = empty_slots capacity; leaves = [] } } ∷ []
+settled ts (Create table columns capacity shape) =
+    ts ++ record { heading = record { name = table; schema = columns_of table columns; capacity = capacity; shape = shape }; held = record { slots = empty_slots capacity; leaves = [] } } ∷ []
 settled ts (Insert table columns values) = changed_at table (in_slots (fill_first (new_row (columns_at table (headings ts)) columns values))) ts
 settled ts (Update table sets cond) =
     let cs = columns_at table (headings ts) in changed_at table (in_slots (map (option_map (updated (where_at cond cs) (set_cells sets cs))))) ts

@@ -106,10 +106,10 @@ verdict p m ts stmt = answered (refusal p m ts stmt) (accepted_answer (database 
 
 -- ---- what is seen
 abbrev pub ended : End → Seen
-ended end = record { k = None; plan = None; then = None; end = end }
+ended end = record { k = None; plan = None; then = None; leaf = None; end = end }
 
 abbrev pub counted : (k : ℕ) → (plan second : Option Plan) → End → Seen
-counted k plan second end = record { k = Some k; plan = plan; then = second; end = end }
+counted k plan second end = record { k = Some k; plan = plan; then = second; leaf = None; end = end }
 
 -- after a Hash that wasn't forced and left a place out, Small is taken
 abbrev pub fallback : (forced : Option Plan) → (left : Option ℕ) → Option Plan

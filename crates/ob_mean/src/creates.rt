@@ -4,9 +4,9 @@ ghost use Rattle.std.specs.List.{All, list_any};
 ghost use Rattle.ob_base.specs.Schemas.{width, kind_width, kind_of, new_column, columns_of};
 ghost use Rattle.ob_base.specs.declared.skeleton.NewColumn.{NewColumn};
 ghost use Rattle.ob_base.specs.Stored.{headings_of};
-ghost use Rattle.ob_mean.specs.Refusals.{is_size, creates_past};
+ghost use Rattle.ob_mean.specs.Refusals.{is_size, creates_past, is_indexed};
 
-use ob_base::{Column, Kind, Name, NewColumn, NewKind, Schema, Table};
+use ob_base::{Column, Kind, Name, NewColumn, NewKind, Schema, Shape, Table};
 
 fn is_size(kind: NewKind) -> bool
     ensures { result ≡ is_size kind }
@@ -56,6 +56,16 @@ pub(crate) fn creates_past(tables: &[Table], columns: &[NewColumn], capacity: u3
         || has_bad_size(columns)
         || cells_width(columns) > 1023
         || tables.len() >= 64
+}
+
+/// Whether it is an index. None is made yet.
+pub(crate) fn is_indexed(shape: Shape) -> bool
+    ensures { result ≡ is_indexed shape }
+{
+    match shape {
+        Shape::Flat => false,
+        Shape::Indexed => true,
+    }
 }
 
 /// Whether PRIMARY KEY stands there more than once.

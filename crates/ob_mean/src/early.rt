@@ -12,7 +12,7 @@ ghost use Rattle.ob_mean.specs.Refusals.{early_refusal, first_holding, insert_co
 ghost use Rattle.ob_mean.specs.Scopes.{is_taken, given_names, takes_in, named_in, lacks_in, row_mistyped, mistypes_in, row_overflows, overflows_in, is_past, exceeds_in, has_more_keys, breaks_key_in};
 
 use crate::conds::{exceeds, lacks, mistypes};
-use crate::creates::{creates_past, has_more_keys};
+use crate::creates::{creates_past, has_more_keys, is_indexed};
 use crate::kinds::{overflows, takes};
 use crate::listed::{columns_lack, items_lack, items_mistype, items_stray};
 use crate::named::{Named, has_name, has_repeats, lack_column, mistype, overflow};
@@ -201,7 +201,9 @@ fn new_past(tables: &[Table], created: &Option<Created<'_>>) -> bool
 {
     match created {
         None => false,
-        Some(created) => creates_past(tables, created.columns, created.capacity),
+        Some(created) => {
+            creates_past(tables, created.columns, created.capacity) || is_indexed(created.shape)
+        }
     }
 }
 

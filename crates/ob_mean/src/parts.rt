@@ -4,7 +4,7 @@ ghost use Rattle.ob_sql.specs.declared.stmt.Stmt.TheVariants.{SelectRows as Rows
 ghost use Rattle.ob_mean.specs.Parts.{no_parts, parts_of, parts_in, source_in};
 
 use crate::listed::listed;
-use ob_base::{ColumnName, Items, Name, NewColumn, Source};
+use ob_base::{ColumnName, Items, Name, NewColumn, Shape, Source};
 use ob_sql::{Cond, Listed, Literal, SelectRows, SelectTotals, Set, Stmt};
 
 /// A table that is to be new.
@@ -13,6 +13,7 @@ pub(crate) struct Created<'a> {
     pub(crate) name: &'a Name,
     pub(crate) columns: &'a [NewColumn],
     pub(crate) capacity: u32,
+    pub(crate) shape: Shape,
 }
 
 /// The tables that are to exist: none, one, or those of a join with the columns of its ON.
@@ -113,11 +114,13 @@ pub(crate) fn parts_of(stmt: &Stmt) -> Parts<'_>
             table,
             columns,
             capacity,
+            shape,
         } => Parts {
             created: Some(Created {
                 name: table,
                 columns: columns.as_slice(),
                 capacity: *capacity,
+                shape: *shape,
             }),
             ..parts_on(Tables::Nothing)
         },

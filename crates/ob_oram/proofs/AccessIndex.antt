@@ -23,7 +23,7 @@ use Rattle.ob_oram.specs.declared.index.Index.{Index}
 use Rattle.ob_oram.specs.declared.op.Op.{Op}
 use Rattle.ob_oram.specs.declared.op.Got.{Got}
 use Rattle.ob_oram.specs.Buffers.{IsBuffer, held_of}
-use Rattle.ob_oram.specs.Heights.{rows_open}
+use Rattle.ob_base.specs.Indexes.{rows_open}
 use Rattle.ob_oram.specs.Indexes.{LiesAs, IsStored, IsShaped, leaves_of, key_of}
 use Rattle.ob_oram.specs.Opens.{IsOpen, leaf_with, leaves_with}
 use Rattle.ob_oram.specs.Accessing.{Accesses, Answers, HasLeaves, LeftBy, ReadsTooMany, IndexStays, Stops, leaf_read, leaves_after, remap_of}

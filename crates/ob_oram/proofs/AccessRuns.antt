@@ -23,7 +23,8 @@ use Rattle.ob_oram.specs.declared.fault.OramErr.TheVariants.{Failed, Tampered, S
 use Rattle.ob_oram.specs.declared.index.Index.{Index}
 use Rattle.ob_oram.specs.declared.op.Op.{Op}
 use Rattle.ob_oram.specs.declared.op.Got.{Got}
-use Rattle.ob_oram.specs.Heights.{AreLeaves, path_blocks, rows_open}
+use Rattle.ob_base.specs.Indexes.{path_blocks, rows_open}
+use Rattle.ob_oram.specs.Heights.{AreLeaves}
 use Rattle.ob_oram.specs.Indexes.{IsShaped, IsStored, IsIndex, Lies, SealsIndex, leaves_of, key_of, tree_of, stash_of}
 use Rattle.ob_oram.specs.Ops.{op_in}
 use Rattle.ob_oram.specs.Scripts.{access_in, read_script, write_script, access_script, script_length}

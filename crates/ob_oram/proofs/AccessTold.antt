@@ -32,7 +32,7 @@ use Rattle.ob_oram.specs.declared.op.Op.{Op}
 use Rattle.ob_oram.specs.declared.op.Got.{Got}
 use Rattle.ob_oram.specs.declared.op.Got.TheVariants as Gots
 use Rattle.ob_oram.specs.Buffers.{IsBuffer, Places}
-use Rattle.ob_oram.specs.Heights.{path_blocks, leaf_of_draw, rows_open}
+use Rattle.ob_base.specs.Indexes.{path_blocks, leaf_of_draw, rows_open}
 use Rattle.ob_oram.specs.Indexes.{IsShaped, IsMap, Lies, LiesAs, leaves_of, key_of, tree_of, stash_of}
 use Rattle.ob_tree.specs.Keys.{key_number}
 use Rattle.ob_oram.specs.Opens.{AreKeyed, OpensIndex, ServesRows, leaf_with, tree_key}

@@ -1,34 +1,10 @@
 -- Heights, leaves and blocks of a tree.
-use Rattle.std.proofs.Common.{◌≡◌, ◌≤◌, ◌<◌, ◌+◌, ◌-◌, ◌*◌, ◌/◌, ◌%◌, ◌^◌, ℕ, suc, arith, Fits, w32, inl, inr, sym, ◌∙◌, ap}
-use Rattle.std.proofs.lemmas.Bool.{cases_lt}
+use Rattle.std.proofs.Common.{◌≡◌, ◌≤◌, ◌<◌, ◌+◌, ◌-◌, ◌*◌, ◌/◌, ◌%◌, ◌^◌, ℕ, suc, arith, Fits, w32, sym, ◌∙◌, ap}
 use Rattle.std.proofs.Math.Nat.{pow-le-pow_right, mod-eq_of_lt, le-div_iff_mul-le}
+use Rattle.ob_base.proofs.IndexLemmas.{power_few, shifted}
 use Rattle.ob_script.specs.Parts.{path_place}
 use Rattle.ob_tree.proofs.PathLemmas.{power_next, power_some}
 use Rattle.ob_tree.proofs.WalkLemmas.{path_place_below}
-
--- no lower tree has a leaf for each key
-pub not_lower : (n h : ℕ) → 2 ^ h < n → ((lower : ℕ) → n ≤ 2 ^ lower → h ≤ lower) → (lower : ℕ) → n ≤ 2 ^ lower → h + 1 ≤ lower
-not_lower n h less before lower enough = elim (cases_lt h lower) [
-  | inl above ↦ omega (arith, above)
-  | inr not ↦
-      let same : h ≡ lower = omega (arith, not, before lower enough) in
-      absurd (omega (arith, less, enough, ap (λ (k : ℕ). 2 ^ k) same))
-]
-
-pub power_few : (h : ℕ) → h ≤ 24 → 2 ^ h ≤ 16777216
-power_few h few =
-    let most : 2 ^ h ≤ 2 ^ 24 = pow-le-pow_right (omega arith) few in
-    let is : 2 ^ 24 ≡ 16777216 = refl_of in
-    omega (arith, most, is)
-  where
-    refl_of : 2 ^ 24 ≡ 16777216
-    refl_of = omega arith
-
--- a shift to the left that fits 32 bits
-pub shifted : (h : ℕ) → h ≤ 24 → (1 * 2 ^ h) % 4294967296 ≡ 2 ^ h
-shifted h few =
-    let one : 1 * 2 ^ h ≡ 2 ^ h = omega arith in
-    ap (λ (n : ℕ). n % 4294967296) one ∙ mod-eq_of_lt (omega (arith, power_few h few))
 
 pub shifted_two : (h : ℕ) → h ≤ 24 → (2 * 2 ^ h) % 4294967296 ≡ 2 ^ (h + 1)
 shifted_two h few =

@@ -31,7 +31,7 @@ use Rattle.ob_oram.specs.declared.held.Held.{Held}
 use Rattle.ob_oram.specs.declared.held.Remap.{Remap}
 use Rattle.ob_oram.specs.declared.index.Index.{Index}
 use Rattle.ob_oram.specs.declared.walk.Walk.{Walk}
-use Rattle.ob_oram.specs.Heights.{path_blocks, rows_open}
+use Rattle.ob_base.specs.Indexes.{path_blocks, rows_open}
 use Rattle.ob_oram.specs.Indexes.{IsShaped, Lies, key_of, tree_of}
 use Rattle.ob_oram.specs.Opens.{IsOpen, OpensIndex, keyed_slot, last_slot}
 use Rattle.ob_oram.specs.Scripts.{access_in, read_script}

@@ -33,7 +33,7 @@ use Rattle.ob_tree.proofs.LayLemmas.{path_place_of, off_path}
 use Rattle.ob_oram.specs.declared.fault.OramErr.{OramErr}
 use Rattle.ob_oram.specs.declared.index.Index.{Index}
 use Rattle.ob_oram.specs.declared.walk.Walk.{Walk}
-use Rattle.ob_oram.specs.Heights.{path_blocks}
+use Rattle.ob_base.specs.Indexes.{path_blocks}
 use Rattle.ob_oram.specs.Indexes.{IsStored, LiesAs, SealsIndex, tree_of, stash_of}
 use Rattle.ob_oram.specs.Scripts.{access_in, write_script}
 use Rattle.ob_oram.specs.Walks.{blocks_in}

@@ -21,7 +21,7 @@ use Rattle.ob_tree.proofs.RunLemmas.{created_represents}
 use Rattle.ob_tree.proofs.PlaceLemmas.{stands_too}
 use Rattle.ob_oram.specs.declared.index.Index.{Index}
 use Rattle.ob_oram.specs.Keys.{IsIntKey}
-use Rattle.ob_oram.specs.Heights.{IsHeight, leaf_of_draw, rows_open, tree_blocks}
+use Rattle.ob_base.specs.Indexes.{IsHeight, leaf_of_draw, rows_open, tree_blocks}
 use Rattle.ob_oram.specs.Indexes.{IsIndex, IsMap, Lies, leaves_of, key_of, tree_of, stash_of}
 use Rattle.ob_oram.specs.Creating.{IsFresh, MadeRegions, CreatesRegions, new_tree, new_stash}
 use Rattle.ob_oram.proofs.Heights.{blocks_few, blocks_some}

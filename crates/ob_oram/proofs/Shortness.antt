@@ -12,7 +12,7 @@ use Rattle.ob_flat.proofs.Runs.{pass_more, pass_wider}
 use Rattle.ob_oram.specs.declared.index.Index.{Index}
 use Rattle.ob_oram.specs.declared.fault.OramErr.{OramErr}
 use Rattle.ob_oram.specs.declared.fault.OramErr.TheVariants.{Failed, Tampered, StashFull}
-use Rattle.ob_oram.specs.Heights.{path_blocks}
+use Rattle.ob_base.specs.Indexes.{path_blocks}
 use Rattle.ob_oram.specs.Scripts.{read_script, write_script, access_script}
 use Rattle.ob_oram.specs.Accessing.{Stops, StopsReading}
 use Rattle.ob_oram.proofs.AccessRuns.{access_parts, length-reads}

@@ -22,7 +22,7 @@ use Rattle.ob_oram.specs.declared.fault.OramErr.{OramErr}
 use Rattle.ob_oram.specs.declared.fault.OramErr.TheVariants.{Failed, Tampered, StashFull}
 use Rattle.ob_tree.specs.Keys.{key_number}
 use Rattle.ob_oram.specs.Buffers.{IsCrowded}
-use Rattle.ob_oram.specs.Heights.{leaf_of_draw, rows_open}
+use Rattle.ob_base.specs.Indexes.{leaf_of_draw, rows_open}
 use Rattle.ob_oram.specs.Ops.{key_of_op, op_in, got_in, put_in}
 use Rattle.ob_oram.specs.Indexes.{IsIndex, IsMap, IsStored, Lies, LiesAs, SealsIndex, leaves_of, key_of, tree_of, stash_of}
 use Rattle.ob_oram.specs.Opens.{AreKeyed, OpensIndex, last_slot, leaf_with, leaves_with}

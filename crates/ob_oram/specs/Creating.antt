@@ -15,7 +15,7 @@ use Rattle.ob_flat.specs.Words.{PassRan}
 use Rattle.ob_flat.specs.Creates.{table_of, make_script, create_script}
 use Rattle.ob_tree.specs.Runs.{created}
 use Rattle.ob_oram.specs.declared.index.Index.{Index}
-use Rattle.ob_oram.specs.Heights.{IsHeight, tree_blocks, leaf_of_draw}
+use Rattle.ob_base.specs.Indexes.{IsHeight, tree_blocks, leaf_of_draw}
 use Rattle.ob_oram.specs.Indexes.{IsIndex, IsMap, Lies, leaves_of}
 
 -- the tables that an index has when it is made in a vault whose next region has this number

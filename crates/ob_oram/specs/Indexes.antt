@@ -10,7 +10,8 @@ use Rattle.ob_tree.specs.States.{State, Represents, Stands}
 use Rattle.ob_oram.specs.declared.index.Index.{Index}
 use Rattle.ob_oram.specs.Keys.{IsIntKey}
 use Rattle.ob_tree.specs.Keys.{row_key}
-use Rattle.ob_oram.specs.Heights.{IsHeight, AreLeaves, tree_blocks, rows_open}
+use Rattle.ob_base.specs.Indexes.{IsHeight, tree_blocks, rows_open}
+use Rattle.ob_oram.specs.Heights.{AreLeaves}
 
 -- the leaf of each key
 abbrev pub leaves_of : Index → List ℕ

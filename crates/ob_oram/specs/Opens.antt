@@ -18,7 +18,7 @@ use Rattle.ob_oram.specs.declared.held.Remap.{Remap}
 use Rattle.ob_oram.specs.declared.index.Index.{Index}
 use Rattle.ob_oram.specs.declared.op.Op.{Op}
 use Rattle.ob_oram.specs.declared.op.Got.{Got}
-use Rattle.ob_oram.specs.Heights.{path_blocks, rows_open}
+use Rattle.ob_base.specs.Indexes.{path_blocks, rows_open}
 use Rattle.ob_oram.specs.Buffers.{Sees, held_of}
 use Rattle.ob_oram.specs.Ops.{op_in, got_in, put_in}
 use Rattle.ob_oram.specs.Indexes.{Lies, LiesAs, leaves_of, key_of}

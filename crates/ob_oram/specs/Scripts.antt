@@ -5,7 +5,7 @@ use Rattle.ob_base.specs.declared.access.Access.TheVariants.{Read, Write}
 use Rattle.ob_tree.specs.Scripts as Tree
 use Rattle.ob_tree.specs.Scripts.{Touch, ReadStash, ReadTree, WriteTree, WriteStash}
 use Rattle.ob_oram.specs.declared.index.Index.{Index}
-use Rattle.ob_oram.specs.Heights.{path_blocks}
+use Rattle.ob_base.specs.Indexes.{path_blocks}
 
 -- the accesses of the model, asked of the index's regions
 abbrev pub access_in : Index → Touch → Access

@@ -8,7 +8,7 @@ use Rattle.ob_vault.specs.Calls.{Lasts, EndsRead, two}
 use Rattle.ob_oram.specs.declared.index.Index.{Index}
 use Rattle.ob_oram.specs.declared.fault.OramErr.{OramErr}
 use Rattle.ob_oram.specs.declared.fault.OramErr.TheVariants.{Failed, Tampered, StashFull}
-use Rattle.ob_oram.specs.Heights.{path_blocks}
+use Rattle.ob_base.specs.Indexes.{path_blocks}
 use Rattle.ob_oram.specs.Scripts.{access_script}
 
 -- why it gave up: the store failed, the block that was read last is another, or the stash is full

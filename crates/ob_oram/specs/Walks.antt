@@ -4,7 +4,7 @@ use Rattle.ob_script.specs.Parts.{path_place}
 use Rattle.ob_tree.specs.Paths.{path_slot}
 use Rattle.ob_oram.specs.declared.walk.Walk.{Walk}
 use Rattle.ob_oram.specs.declared.walk.Walk.TheVariants.{Stash, Path}
-use Rattle.ob_oram.specs.Heights.{path_blocks}
+use Rattle.ob_base.specs.Indexes.{path_blocks}
 
 abbrev pub blocks_in : Walk → ℕ
 blocks_in (Stash slots height) = slots

@@ -8,7 +8,7 @@ ghost use Rattle.ob_row.specs.Slots.{Slots, empty_slots};
 ghost use Rattle.ob_flat.specs.Slots.{AreSlots};
 ghost use Rattle.ob_flat.specs.Words.{HasSpare};
 ghost use Rattle.ob_oram.specs.Buffers.{IsBuffer};
-ghost use Rattle.ob_oram.specs.Heights.{path_blocks, rows_open};
+ghost use Rattle.ob_base.specs.Indexes.{path_blocks, rows_open};
 ghost use Rattle.ob_oram.specs.declared.index.Index.{Index as AnIndex};
 ghost use Rattle.ob_oram.specs.Indexes.{IsIndex, IsShaped, IsStored, leaves_of};
 ghost use Rattle.ob_oram.specs.Opens.{IsOpen, OpensIndex, leaves_with};

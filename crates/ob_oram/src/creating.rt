@@ -12,33 +12,19 @@ ghost use Rattle.ob_flat.specs.declared.fault.OpErr.TheVariants.{NoMemory};
 ghost use Rattle.ob_flat.specs.Flats.{IsSized, FitsRegion, table_region};
 ghost use Rattle.ob_flat.specs.Words.{FitBlock};
 ghost use Rattle.ob_flat.specs.Creates.{CreatesRegion, table_of};
-ghost use Rattle.ob_oram.specs.Heights.{IsHeight, leaf_of_draw, rows_open, tree_blocks};
+ghost use Rattle.ob_base.specs.Indexes.{IsHeight, leaf_of_draw, rows_open, tree_blocks};
 ghost use Rattle.ob_oram.specs.Keys.{IsIntKey};
 ghost use Rattle.ob_oram.specs.Creating.{CreatesIndex, CreatesRegions, MadeRegions, new_tree, new_stash};
 
 use crate::held::Held;
 use crate::index::Index;
-use ob_base::{Column, Schema};
+use ob_base::{Column, Schema, tree_height};
 use ob_flat::{OpErr, fill_blocks, make_table};
 use ob_room::{ClearRow, Room};
 use ob_row::width;
 use ob_store::BlockStore;
 use ob_vault::{Order, Region, Revisions, Vault};
 use std::alloc::Global;
-
-// The height of the least tree with a leaf for each of so many keys.
-fn height_for(capacity: u32) -> u32
-    requires { capacity ≤ 16777216 }
-    ensures height { IsHeight capacity result }
-    ensures few { result ≤ 24 }
-{
-    for height in 0..24 {
-        if 1 << height >= capacity {
-            return height;
-        }
-    }
-    24
-}
 
 // The leaves of some draws.
 fn leaves_for(alloc: Global, draws: &[u64], height: u32) -> Result<Vec<u32>, OpErr>
@@ -206,7 +192,7 @@ fn create_index<S: BlockStore, R: Revisions>(
     ensures creates { CreatesIndex schema.now capacity stash draws.now result
         (at R.state vault.old (S.state store.old)) (at R.state vault.new (S.state store.new)) }
 {
-    let height = height_for(capacity);
+    let height = tree_height(capacity);
     let leaves = match leaves_for(alloc, draws, height) {
         Ok(leaves) => leaves,
         Err(e) => return Err(e),

@@ -6,7 +6,7 @@ ghost use Rattle.ob_vault.specs.Rows.{SameSizes, Wide};
 ghost use Rattle.ob_row.specs.Slots.{Slots};
 ghost use Rattle.ob_flat.specs.Flats.{IsWritten};
 ghost use Rattle.ob_flat.specs.Words.{HasSpare};
-ghost use Rattle.ob_oram.specs.Heights.{rows_open};
+ghost use Rattle.ob_base.specs.Indexes.{rows_open};
 ghost use Rattle.ob_oram.specs.Walks.{blocks_in};
 ghost use Rattle.ob_oram.specs.Indexes.{IsShaped};
 ghost use Rattle.ob_oram.specs.Opens.{IsOpen};

@@ -6,7 +6,7 @@ ghost use Rattle.ob_row.specs.Rows.{Row};
 ghost use Rattle.ob_row.specs.Spelling.{Begins};
 ghost use Rattle.ob_flat.specs.Flats.{IsInTurn};
 ghost use Rattle.ob_flat.specs.Slots.{AreSlots};
-ghost use Rattle.ob_oram.specs.Heights.{rows_open};
+ghost use Rattle.ob_base.specs.Indexes.{rows_open};
 ghost use Rattle.ob_oram.specs.Walks.{blocks_in, place_in};
 ghost use Rattle.ob_oram.specs.Indexes.{IsShaped};
 ghost use Rattle.ob_oram.specs.Walking.{IsWalkOf, WritesRow, WritesWalk, order_in, table_in};

@@ -8,7 +8,7 @@ use Rattle.ob_vault.proofs.WordLemmas.{anew_lasts}
 use Rattle.ob_blocks.specs.Idle.{IsIdle}
 use Rattle.ob_oram.specs.declared.index.Index.{Index}
 use Rattle.ob_oram.specs.Creating.{CreatesIndex}
-use Rattle.ob_oram.specs.Heights.{IsHeight}
+use Rattle.ob_base.specs.Indexes.{IsHeight}
 use Rattle.ob_oram.specs.Indexes.{IsShaped}
 use Rattle.ob_oram.specs.Keys.{IsIntKey}
 use Rattle.ob_oram_bench.specs.Sessions.{AreColumns, IsSession}

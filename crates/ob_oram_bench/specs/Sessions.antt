@@ -7,7 +7,7 @@ use Rattle.ob_vault.specs.State.{World}
 use Rattle.ob_vault.specs.Words.{StartsAnew}
 use Rattle.ob_blocks.specs.Idle.{IsIdle}
 use Rattle.ob_oram.specs.declared.index.Index.{Index}
-use Rattle.ob_oram.specs.Heights.{rows_open}
+use Rattle.ob_base.specs.Indexes.{rows_open}
 use Rattle.ob_oram.specs.Indexes.{IsIndex}
 
 -- a key, and a text of at most n bytes

@@ -1,7 +1,9 @@
 -- An access of an index in a store, as the one that the meaning has.
 use Rattle.std.proofs.Common.{◌≡◌, ◌⊎◌, inl, inr, ℕ, ℤ, None, Ok, Err, sym, ◌∙◌, ap}
 use Rattle.ob_base.specs.declared.schema.Heading.{Heading}
+use Rattle.ob_base.specs.Indexes.{height_of}
 use Rattle.ob_base.specs.Stored.{Stored}
+use Rattle.ob_base.proofs.IndexLemmas.{height_same}
 use Rattle.ob_row.specs.Rows.{Row, with_cells}
 use Rattle.ob_mean.specs.Verdict.{Held}
 use Rattle.ob_vault.specs.State.{World}
@@ -20,9 +22,9 @@ use Rattle.ob_oram.specs.Accessing.{Accesses}
 use Rattle.ob_oram.specs.Indexes.{Lies, key_of}
 use Rattle.ob_oram.specs.Ops.{op_in}
 use Rattle.ob_indexed.specs.Asking.{Ask, Find, Put, Set, Take, op_of}
-use Rattle.ob_indexed.specs.Indexed.{height_of, index_of, key_in, key_at, went}
+use Rattle.ob_indexed.specs.Indexed.{index_of, key_in, key_at, went}
 use Rattle.ob_oram_meaning.specs.Meaning.{AnswersAsk, Asks, IsIndexOf, StopsAsk}
-use Rattle.ob_oram_meaning.proofs.Sizes.{height_same, key_same}
+use Rattle.ob_oram_meaning.proofs.Sizes.{key_same}
 
 abbrev as_op : Tree.Op Row → Tree.Op Row
 as_op op = op

@@ -4,7 +4,8 @@ use Rattle.std.specs.Prelude.{◌||◌}
 use Rattle.ob_grammar.specs.Language as G
 use Rattle.ob_grammar.specs.Reader as R
 use Rattle.ob_grammar.proofs.Good.{Reader, Good, Begins, good_token, good_empty, good_iter}
-use Rattle.ob_grammar.proofs.Forms.{Whatever, Leads, begins_token, begins_bind, begins_either, begins_on, begins_so, nothing_begins, good_before, good_then, good_keyed, good_map, good_chain, good_keyed_or, good_perhaps, good_under, leads_perhaps}
+use Rattle.ob_grammar.proofs.Forms.{Whatever, Leads, begins_token, begins_bind, begins_either, begins_on, begins_so, nothing_begins, good_before, good_then, good_keyed, good_map, good_chain, good_keyed_or, good_keyed_or_empty, good_perhaps, good_under, leads_perhaps}
+use Rattle.ob_base.specs.declared.schema.Shape.TheVariants.{Flat, Indexed}
 use Rattle.ob_base.specs.declared.skeleton.ColumnName.{ColumnName}
 use Rattle.ob_base.specs.declared.skeleton.NewKind.TheVariants as K
 use Rattle.ob_base.specs.declared.skeleton.Source.{Source}
@@ -21,8 +22,8 @@ use Rattle.ob_sql.specs.Search.{Search}
 use Rattle.ob_condition.specs.Marks.{flag, is, key, marked, name_in, name_of, number_of}
 use Rattle.ob_condition.specs.Conditions.{Column, Searching, Constant, Where}
 use Rattle.ob_condition.specs.Reading.{column, condition, constant, where_part}
-use Rattle.ob_parse.specs.Statements.{all_columns, capped, integer_mark, integer_of, new_column, of_items, rows, set_of, Argument, Assignment, Behind, Body, Constraint, Counted, Create, Definition, Delete, Drop, Group, Groups, Insert, Itemized, Joins, Kind, Names, OneItem, Selection, Sources, Starred, Statement, Targets, Update}
-use Rattle.ob_parse.specs.StatementReading.{all_or_column, argument, assignment, behind, body, constrains, constraint, constraints, counted, create, definition, delete, deleting, drop_table, dropping, expects, greatest, group, groups, insert, inserting, item, itemized, joined_or, joins, kind, least, names, selection, sources, starred, statement, summed, targets, update, updating, varchar}
+use Rattle.ob_parse.specs.Statements.{all_columns, capped, integer_mark, integer_of, new_column, of_items, rows, set_of, Argument, Assignment, Behind, Body, Constraint, Counted, Create, Definition, Delete, Drop, Group, Groups, Insert, Itemized, Joins, Kind, Names, OneItem, Selection, Shaped, Sources, Starred, Statement, Targets, Update}
+use Rattle.ob_parse.specs.StatementReading.{all_or_column, argument, assignment, behind, body, constrains, constraint, constraints, counted, create, definition, delete, deleting, drop_table, dropping, expects, greatest, group, groups, insert, inserting, item, itemized, joined_or, joins, kind, least, names, selection, shape, sources, starred, statement, summed, targets, update, updating, varchar}
 use Rattle.ob_condition.proofs.Told.{of, apart, apart_some, no_key}
 use Rattle.ob_condition.proofs.GoodConditions.{AfterColumn, AfterCond, column_first, good_column, good_condition, good_constant}
 
@@ -84,10 +85,10 @@ list_of {V} {A} {a} {Fa} F good stops ends between last =
 
 abbrev pub Final : Token → Type 0
 Final t = (is M.Dot t.lexeme ≡ false) × (is M.And t.lexeme ≡ false) × (is M.Or t.lexeme ≡ false) × (is M.Where t.lexeme ≡ false) × (is M.Group t.lexeme ≡ false)
-    × (is M.Inner t.lexeme ≡ false) × (is M.Join t.lexeme ≡ false) × (is M.Comma t.lexeme ≡ false)
+    × (is M.Inner t.lexeme ≡ false) × (is M.Join t.lexeme ≡ false) × (is M.Comma t.lexeme ≡ false) × (is M.Indexed t.lexeme ≡ false)
 
 final_end : (t : Token) × Final t
-final_end = (of (L.Mark M.Semicolon), (refl, refl, refl, refl, refl, refl, refl, refl))
+final_end = (of (L.Mark M.Semicolon), (refl, refl, refl, refl, refl, refl, refl, refl, refl))
 
 abbrev NoComma : Token → Type 0
 NoComma t = is M.Comma t.lexeme ≡ false
@@ -176,14 +177,19 @@ some_is m t u e = ap is_some e
 good_definitions : Good (G.Listed (key M.Comma) Definition) DefinitionsEnd (R.listed (key M.Comma) definition)
 good_definitions = list_of DefinitionsEnd good_definition (λ t f. f.0) (λ t f. f.1) (no_constraint M.Comma refl refl) definitions_end
 
+good_shape : Good Shaped Final shape
+unfolding shape
+good_shape = good_keyed_or_empty (key M.Indexed) tt (of (L.Mark M.Indexed)) refl (λ _. G.Empty Indexed) Flat Final (λ _. R.empty Indexed) (λ _. good_empty Indexed Final)
+    (λ t f. no_key M.Indexed t.lexeme f.8) final_end
+
 pub good_create : Good Create Final create
 unfolding create
 good_create = word M.Table refl (named (λ table. word M.Open refl (good_then (G.Listed (key M.Comma) Definition)
-    (λ columns. G.Bind (G.Token (key M.Close)) (λ _. G.Bind (G.Token (key M.Capacity)) (λ _. G.Bind (G.Token number_of) (λ n. G.Empty (S.Create table columns (capped n))))))
+    (λ columns. G.Bind (G.Token (key M.Close)) (λ _. G.Bind (G.Token (key M.Capacity)) (λ _. G.Bind (G.Token number_of) (λ n. G.Bind Shaped (λ shape. G.Empty (S.Create table columns (capped n) shape))))))
     DefinitionsEnd Final (R.listed (key M.Comma) definition)
-    (λ columns. expects M.Close (expects M.Capacity (R.bind (R.token number_of) (λ n. R.empty (S.Create table columns (capped n))))))
+    (λ columns. expects M.Close (expects M.Capacity (R.bind (R.token number_of) (λ n. R.bind shape (λ shape. R.empty (S.Create table columns (capped n) shape))))))
     good_definitions
-    (λ columns. word M.Close refl (word M.Capacity refl (numbered (λ n. good_empty (S.Create table columns (capped n)) Final) final_end) final_end) final_end)
+    (λ columns. word M.Close refl (word M.Capacity refl (numbered (λ n. good_map Shaped (S.Create table columns (capped n)) Final shape good_shape final_end) final_end) final_end) final_end)
     (λ columns v w h. begins_word M.Close DefinitionsEnd (λ t u e. (other M.Close M.Comma refl t u e, no_constraint M.Close refl refl t (some_is M.Close t u e))) w h)
     final_end) final_end) final_end) final_end
 
@@ -513,4 +519,5 @@ module _ (text : List ℕ) where
         other M.Semicolon M.Inner refl t u e,
         other M.Semicolon M.Join refl t u e,
         other M.Semicolon M.Comma refl t u e,
+        other M.Semicolon M.Indexed refl t u e,
       )) w h) any_end

@@ -1,6 +1,8 @@
 -- What the parser computes for statements.
 use Rattle.std.specs.Prelude.{ℕ, ◌+◌, List, ◌||◌, length, Bool, true, false, Option, None, is_some}
 use Rattle.ob_grammar.specs.Reader as R
+use Rattle.ob_base.specs.declared.schema.Shape.{Shape}
+use Rattle.ob_base.specs.declared.schema.Shape.TheVariants.{Flat, Indexed}
 use Rattle.ob_base.specs.declared.skeleton.ColumnName.{ColumnName}
 use Rattle.ob_base.specs.declared.skeleton.NewColumn.{NewColumn}
 use Rattle.ob_base.specs.declared.skeleton.NewKind.{NewKind}
@@ -40,9 +42,13 @@ constraints ts = R.iter constrains constraint (length ts) 0 ts
 unfoldable pub definition : List Token → Read NewColumn
 definition = R.bind (R.token name_of) (λ name. R.bind kind (λ kind. R.bind constraints (λ keys. R.empty (new_column name kind keys))))
 
+unfoldable pub shape : List Token → Read Shape
+shape = R.choose (λ t. is_some (key M.Indexed t)) (expects M.Indexed (R.empty Indexed)) (R.empty Flat)
+
 unfoldable pub create : List Token → Read Stmt
 create = expects M.Table (R.bind (R.token name_of) (λ table. expects M.Open (R.bind (R.listed (key M.Comma) definition) (λ columns.
-    expects M.Close (expects M.Capacity (R.bind (R.token number_of) (λ n. R.empty (S.Create table columns (capped n)))))))))
+    expects M.Close (expects M.Capacity (R.bind (R.token number_of) (λ n. R.bind shape (λ shape.
+    R.empty (S.Create table columns (capped n) shape)))))))))
 
 unfoldable pub drop_table : List Token → Read Stmt
 drop_table = expects M.Table (R.bind (R.token name_of) (λ table. R.empty (S.Drop table)))

@@ -2,6 +2,8 @@
 use Rattle.std.specs.Prelude.{ℕ, ◌+◌, min, List, [], ◌∷◌, Bool, true, false, ◌&&◌, Option, Some, None, if◌then◌else◌}
 use Rattle.std.specs.List.{flat_map}
 use Rattle.ob_grammar.specs.Language.{Token as OneToken, Empty, Bind, Either, Iter, Listed, Perhaps}
+use Rattle.ob_base.specs.declared.schema.Shape.{Shape}
+use Rattle.ob_base.specs.declared.schema.Shape.TheVariants.{Flat, Indexed}
 use Rattle.ob_base.specs.declared.skeleton.ColumnName.{ColumnName}
 use Rattle.ob_base.specs.declared.skeleton.NewColumn.{NewColumn}
 use Rattle.ob_base.specs.declared.skeleton.NewKind.{NewKind}
@@ -53,10 +55,15 @@ new_column name kind keys = record { name = name; kind = kind; keys = keys }
 abbrev pub Definition : NewColumn → List Token → Type 0
 Definition = Bind (OneToken name_of) (λ name. Bind Kind (λ kind. Bind (Iter Constraint 0) (λ keys. Empty (new_column name kind keys))))
 
--- create = CREATE TABLE name '(' coldef { ',' coldef } ')' CAPACITY number, without its first word
+-- [ INDEXED ]
+abbrev pub Shaped : Shape → List Token → Type 0
+Shaped = Either (Bind (OneToken (key M.Indexed)) (λ _. Empty Indexed)) (Empty Flat)
+
+-- create = CREATE TABLE name '(' coldef { ',' coldef } ')' CAPACITY number [ INDEXED ], without its first word
 abbrev pub Create : Stmt → List Token → Type 0
 Create = Bind (OneToken (key M.Table)) (λ _. Bind (OneToken name_of) (λ table. Bind (OneToken (key M.Open)) (λ _. Bind (Listed (key M.Comma) Definition) (λ columns.
-    Bind (OneToken (key M.Close)) (λ _. Bind (OneToken (key M.Capacity)) (λ _. Bind (OneToken number_of) (λ n. Empty (S.Create table columns (capped n)))))))))
+    Bind (OneToken (key M.Close)) (λ _. Bind (OneToken (key M.Capacity)) (λ _. Bind (OneToken number_of) (λ n. Bind Shaped (λ shape.
+    Empty (S.Create table columns (capped n) shape)))))))))
 
 -- drop = DROP TABLE name, without its first word
 abbrev pub Drop : Stmt → List Token → Type 0

@@ -2,12 +2,12 @@
 ghost use Rattle.std.specs.Prelude.{◌≡◌};
 ghost use Rattle.ob_parse.specs.Statements.{capped, integer_mark, integer_of};
 ghost use Rattle.ob_condition.specs.Reading.{Gives};
-ghost use Rattle.ob_parse.specs.StatementReading.{assignment, constrains, constraint, constraints, create, definition, delete, drop_table, insert, kind, names, targets, update, varchar};
+ghost use Rattle.ob_parse.specs.StatementReading.{assignment, constrains, constraint, constraints, create, definition, delete, drop_table, insert, kind, names, shape, targets, update, varchar};
 ghost use Rattle.ob_condition.specs.Reading.{begins};
 ghost use Rattle.ob_grammar.specs.Reader.{token};
 
 use crate::part::{Part, list};
-use ob_base::{Items, Name, NewColumn, NewKind};
+use ob_base::{Items, Name, NewColumn, NewKind, Shape};
 use ob_condition::{Fault, constant, expect, name, number, skip, where_part};
 use ob_sql::{Literal, Set, Stmt};
 use ob_token::{Lexeme, Mark, Token};
@@ -216,6 +216,16 @@ pub(crate) fn definition(tokens: &[Token]) -> Result<(NewColumn, &[Token]), Faul
     Ok((NewColumn { name, kind, keys }, rest))
 }
 
+#[tactic(auto, unfolding(crate::specs::StatementReading::shape))]
+fn shape(tokens: &[Token]) -> Result<(Shape, &[Token]), Fault<'_>>
+    ensures { Gives (λ s. s) result (shape tokens.now) }
+{
+    match skip(tokens, Mark::Indexed) {
+        Some(rest) => Ok((Shape::Indexed, rest)),
+        None => Ok((Shape::Flat, tokens)),
+    }
+}
+
 #[tactic(auto, unfolding(crate::specs::StatementReading::create))]
 pub(crate) fn create<'a>(
     alloc: Global,
@@ -232,11 +242,13 @@ pub(crate) fn create<'a>(
     let rest = expect(rest, Mark::Capacity)?;
     let (size, rest) = number(rest)?;
     let capacity = capped(size);
+    let (shape, rest) = shape(rest)?;
     Ok((
         Stmt::Create {
             table,
             columns,
             capacity,
+            shape,
         },
         rest,
     ))

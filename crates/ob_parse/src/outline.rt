@@ -188,10 +188,12 @@ pub fn skeleton(alloc: Global, stmt: &Stmt) -> Result<Skeleton, NoMemory>
             table,
             columns,
             capacity,
+            shape,
         } => Ok(Skeleton::Create {
             table: table.copied(),
             columns: new_columns(alloc, columns.as_slice())?,
             capacity: *capacity,
+            shape: *shape,
         }),
         Stmt::Insert { table, columns, .. } => of_insert(alloc, table, columns),
         Stmt::Update { table, sets, .. } => Ok(Skeleton::Update {

@@ -78,6 +78,8 @@ mod tests {
             pack: 1,
             plan: None,
             pad: None,
+            stash: 32,
+            keep: false,
         };
         assert_eq!(rt; plan(10, 8, false, &public), Plan::Small);
         assert_eq!(rt; plan(10, 9, true, &public), Plan::Continuous);

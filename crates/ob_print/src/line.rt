@@ -156,6 +156,8 @@ pub fn refusal_line(refusal: Refusal) -> Line
         Refusal::Overflow(slot) => numbered(b"E14 overflow ", slot),
         Refusal::StoreFault => Line::new(b"E15 store fault\n"),
         Refusal::PadPassed => Line::new(b"E16 pad passed\n"),
+        Refusal::KeyRange => Line::new(b"E17 key range\n"),
+        Refusal::NeedsKey => Line::new(b"E18 needs key\n"),
     }
 }
 

@@ -13,7 +13,7 @@ use Rattle.ob_mean.specs.Step.{Database, refusal_of, answered, followed, accepte
 
 -- a CREATE has no more columns than a schema holds, each of a size within the limits
 abbrev pub HasSizes : Stmt → Type 0
-HasSizes (Create table columns capacity) = (length columns ≤ 32) × (list_any (λ (c : NewColumn). not (is_size c.kind)) columns ≡ false)
+HasSizes (Create table columns capacity shape) = (length columns ≤ 32) × (list_any (λ (c : NewColumn). not (is_size c.kind)) columns ≡ false)
 HasSizes _ = ⊤
 
 abbrev pub refused : Config → Database → Stmt → Option Refusal

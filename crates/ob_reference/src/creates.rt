@@ -8,7 +8,7 @@ ghost use Rattle.ob_mean.specs.Refusals.{is_size};
 ghost use Rattle.ob_mean.specs.Step.{accepted_next};
 
 use crate::tables::{Database, Held};
-use ob_base::{Heading, Name, NewColumn, NoMemory};
+use ob_base::{Heading, Name, NewColumn, NoMemory, Shape};
 use std::alloc::Global;
 
 // The place of the table of this name.
@@ -39,17 +39,19 @@ impl Database {
         table: &Name,
         columns: &[NewColumn],
         capacity: u32,
+        shape: Shape,
     ) -> Result<(), NoMemory>
         requires few { length columns.now ≤ 32 }
         requires sizes { list_any (λ (c : NewColumn). not (is_size c.kind)) columns.now ≡ false }
         ensures next { OnOk result
-            (self.new ≡ accepted_next self.old (Create table.now columns.now capacity)) }
+            (self.new ≡ accepted_next self.old (Create table.now columns.now capacity shape)) }
         ensures err { OnErr result (self.new ≡ self.old) }
     {
         let heading = Heading {
             name: table.copied(),
             schema: ob_mean::new_schema(table, columns),
             capacity,
+            shape,
         };
         let rows = Vec::new(alloc);
         match self.tables.push(Held { heading, rows }) {

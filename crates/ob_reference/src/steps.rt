@@ -22,6 +22,7 @@ fn heading_copied(heading: &Heading) -> Heading
         name: heading.name.copied(),
         schema: heading.schema.copied(),
         capacity: heading.capacity,
+        shape: heading.shape,
     }
 }
 
@@ -62,6 +63,8 @@ fn public_of(alloc: Global, config: &Config, tables: &[Held]) -> Result<Public, 
             pack: config.pack,
             plan: config.plan,
             pad: config.pad,
+            stash: config.stash,
+            keep: config.keep,
         }),
     }
 }
@@ -122,7 +125,8 @@ impl Database {
                 table,
                 columns,
                 capacity,
-            } => match self.create(alloc, table, columns.as_slice(), *capacity) {
+                shape,
+            } => match self.create(alloc, table, columns.as_slice(), *capacity, *shape) {
                 Err(_) => Err(NoMemory),
                 Ok(()) => Ok(Answer::Done),
             },

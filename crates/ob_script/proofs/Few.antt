@@ -189,7 +189,7 @@ source_few p (Join a b on equals) seen h w =
 
 -- any statement that is not refused before
 whole_few : (p : Public) (s : Skeleton) (seen : Seen) → IsPublic p → IsWithin p s seen → length (whole_script p s seen) < 2 ^ 49
-whole_few p (Create table cs n) seen h w =
+whole_few p (Create table cs n shape) seen h w =
     let e = length-create_part p.next_region (blocks_for p.pack n) (p.pack * width (columns_of table cs)) in
     let b = blocks_few p.pack n h.pack_some (let few = w.0 in omega arith) in omega arith
 whole_few p (Insert table cs) seen h w =

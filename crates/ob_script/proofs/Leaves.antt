@@ -1,27 +1,7 @@
 -- The places of a leaf's path fit 32 bits.
-use Rattle.std.proofs.Common.{◌≡◌, ◌≤◌, ◌<◌, ◌+◌, ◌-◌, ◌*◌, ◌/◌, ◌%◌, ◌^◌, ℕ, zero, suc, arith, Fits, w32, ◌∙◌, ap}
-use Rattle.std.proofs.Math.Nat.{pow-le-pow_right, mod-eq_of_lt, le-div_iff_mul-le, div-mul-le_self}
-
-power_next : (n : ℕ) → 2 ^ suc n ≡ 2 * 2 ^ n
-power_next n = grind arith
-
-power_some : (n : ℕ) → 1 ≤ 2 ^ n
-power_some zero = omega arith
-power_some (suc n) = omega (arith, power_next n, power_some n)
-
-power_few : (h : ℕ) → h ≤ 24 → 2 ^ h ≤ 16777216
-power_few h few =
-    let most : 2 ^ h ≤ 2 ^ 24 = pow-le-pow_right (omega arith) few in
-    let is : 2 ^ 24 ≡ 16777216 = power_24 in
-    omega (arith, most, is)
-  where
-    power_24 : 2 ^ 24 ≡ 16777216
-    power_24 = omega arith
-
-shifted : (h : ℕ) → h ≤ 24 → (1 * 2 ^ h) % 4294967296 ≡ 2 ^ h
-shifted h few =
-    let one : 1 * 2 ^ h ≡ 2 ^ h = omega arith in
-    ap (λ (n : ℕ). n % 4294967296) one ∙ mod-eq_of_lt (omega (arith, power_few h few))
+use Rattle.std.proofs.Common.{◌≡◌, ◌≤◌, ◌<◌, ◌+◌, ◌-◌, ◌*◌, ◌/◌, ◌%◌, ◌^◌, ℕ, zero, suc, arith, Fits, w32, ap}
+use Rattle.std.proofs.Math.Nat.{pow-le-pow_right, le-div_iff_mul-le, div-mul-le_self}
+use Rattle.ob_base.proofs.IndexLemmas.{power_few, power_some, shifted}
 
 -- a quotient is no more than what is divided
 quotient_less : (a b : ℕ) → 1 ≤ b → a / b ≤ a

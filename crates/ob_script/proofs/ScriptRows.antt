@@ -1,12 +1,13 @@
 -- The accesses of small sessions, computed.
 use Rattle.std.proofs.Common.{◌≡◌, ℕ, List, [], ◌∷◌, ◌++◌, refl}
-use Rattle.std.specs.Prelude.{Option, Some, None, codes}
+use Rattle.std.specs.Prelude.{Option, Some, None, false, codes}
 use Rattle.ob_base.specs.declared.access.Access.{Access}
 use Rattle.ob_base.specs.declared.access.Access.TheVariants.{Make, Read, Write, Discard}
 use Rattle.ob_base.specs.Accesses.{makes}
 use Rattle.ob_base.specs.declared.config.Public.{Public}
 use Rattle.ob_base.specs.declared.config.Plan.{Plan}
 use Rattle.ob_base.specs.declared.config.Plan.TheVariants.{Small, Large, Continuous, Hash}
+use Rattle.ob_base.specs.declared.schema.Shape.TheVariants.{Flat}
 use Rattle.ob_base.specs.declared.seen.End.TheVariants.{Whole, AfterCount, Cut}
 use Rattle.ob_base.specs.declared.skeleton.NewKind.TheVariants.{Int as NewInt}
 use Rattle.ob_base.specs.declared.skeleton.NewColumn.{NewColumn}
@@ -18,23 +19,23 @@ use Rattle.ob_script.specs.Script.{script}
 use Rattle.ob_script.specs.Trace.{trace, after_all, Served}
 
 abbrev start_with : (pack buffer depth : ℕ) → Public
-start_with pack buffer depth = record { tables = []; next_region = 1; buffer = buffer; depth = depth; pack = pack; plan = None; pad = None }
+start_with pack buffer depth = record { tables = []; next_region = 1; buffer = buffer; depth = depth; pack = pack; plan = None; pad = None; stash = 32; keep = false }
 
 abbrev column : List ℕ → ℕ → NewColumn
 column name keys = record { name = name; kind = NewInt; keys = keys }
 
 abbrev whole : Skeleton → Served
-whole s = record { skeleton = s; seen = record { k = None; plan = None; then = None; end = Whole } }
+whole s = record { skeleton = s; seen = record { k = None; plan = None; then = None; leaf = None; end = Whole } }
 
 abbrev counted : Skeleton → ℕ → Option Plan → Option Plan → Served
-counted s k plan then = record { skeleton = s; seen = record { k = Some k; plan = plan; then = then; end = Whole } }
+counted s k plan then = record { skeleton = s; seen = record { k = Some k; plan = plan; then = then; leaf = None; end = Whole } }
 
 -- CREATE TABLE t (id INT PRIMARY KEY, v INT) CAPACITY 4, and CREATE TABLE u (k INT, w INT) CAPACITY 3
 abbrev create_t : Served
-create_t = whole (Create (codes "t") (column (codes "id") 1 ∷ column (codes "v") 0 ∷ []) 4)
+create_t = whole (Create (codes "t") (column (codes "id") 1 ∷ column (codes "v") 0 ∷ []) 4 Flat)
 
 abbrev create_u : Served
-create_u = whole (Create (codes "u") (column (codes "k") 0 ∷ column (codes "w") 0 ∷ []) 3)
+create_u = whole (Create (codes "u") (column (codes "k") 0 ∷ column (codes "w") 0 ∷ []) 3 Flat)
 
 abbrev insert_in : List ℕ → Served
 insert_in name = whole (Insert name None)
@@ -91,7 +92,7 @@ selected_by_continuous : after_setup (start_with 1 4 5) four (counted rows_of_t 
 unfolding makes
 selected_by_continuous = refl
 
-refused_after_the_count : after_setup (start_with 1 4 5) four (record { skeleton = rows_of_t; seen = record { k = Some 2; plan = None; then = None; end = AfterCount } }) ≡
+refused_after_the_count : after_setup (start_with 1 4 5) four (record { skeleton = rows_of_t; seen = record { k = Some 2; plan = None; then = None; leaf = None; end = AfterCount } }) ≡
     Read 5 0 ∷ Read 5 1 ∷ Read 5 2 ∷ Read 5 3 ∷ []
 unfolding makes
 refused_after_the_count = refl
@@ -116,7 +117,7 @@ unfolding makes
 updated = refl
 
 -- the fourth access fails
-cut : after_setup (start_with 1 4 5) (create_t ∷ []) (record { skeleton = Insert (codes "t") None; seen = record { k = None; plan = None; then = None; end = Cut 4 } }) ≡
+cut : after_setup (start_with 1 4 5) (create_t ∷ []) (record { skeleton = Insert (codes "t") None; seen = record { k = None; plan = None; then = None; leaf = None; end = Cut 4 } }) ≡
     Make 2 4 49 ∷ Read 1 0 ∷ Read 1 1 ∷ Read 1 2 ∷ []
 unfolding makes
 cut = refl

@@ -108,7 +108,7 @@ mutation_script p part t = part t.held p.next_region (blocks_of p (extent_of t))
 
 -- all accesses of a statement that is not refused before the first
 abbrev pub whole_script : Public → Skeleton → Seen → List Access
-whole_script p (Create table cs n) seen = create_part p.next_region (blocks_for p.pack n) (p.pack * width (columns_of table cs))
+whole_script p (Create table cs n shape) seen = create_part p.next_region (blocks_for p.pack n) (p.pack * width (columns_of table cs))
 whole_script p (Insert table cs) seen = with_table table p (mutation_script p insert_part)
 whole_script p (Update table cs) seen = with_table table p (mutation_script p rewrite_part)
 whole_script p (Delete table) seen = with_table table p (mutation_script p rewrite_part)

@@ -56,7 +56,7 @@ HasRows Continuous k = 1 ≤ k
 HasRows Hash k = 1 ≤ k
 
 abbrev pub IsWithin : Public → Skeleton → Seen → Type 0
-IsWithin p (Create table cs n) seen = (n ≤ 2 ^ 20) × (width (columns_of table cs) ≤ 1024)
+IsWithin p (Create table cs n shape) seen = (n ≤ 2 ^ 20) × (width (columns_of table cs) ≤ 1024)
 IsWithin p (Insert table cs) seen = ⊤
 IsWithin p (Update table cs) seen = ⊤
 IsWithin p (Delete table) seen = ⊤

@@ -18,8 +18,8 @@ moved name region tables = map (λ (t : Table). if bytes_eq t.heading.name name 
 
 -- the tables after a statement that came to its end
 abbrev pub tables_after : Public → Skeleton → List Table
-tables_after p (Create table cs n) =
-    p.tables ++ record { heading = record { name = table; schema = columns_of table cs; capacity = n }; region = p.next_region } ∷ []
+tables_after p (Create table cs n shape) =
+    p.tables ++ record { heading = record { name = table; schema = columns_of table cs; capacity = n; shape = shape }; region = p.next_region } ∷ []
 tables_after p (Insert table cs) = moved table p.next_region p.tables
 tables_after p (Update table cs) = moved table p.next_region p.tables
 tables_after p (Delete table) = moved table p.next_region p.tables

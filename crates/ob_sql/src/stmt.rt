@@ -1,5 +1,5 @@
 //! Statements as they are written.
-use ob_base::{ColumnName, ComparisonOperator, Items, Name, NewColumn, Source, Text};
+use ob_base::{ColumnName, ComparisonOperator, Items, Name, NewColumn, Shape, Source, Text};
 use std::marker::Model;
 
 /// A literal; one that no cell holds is kept as such.
@@ -106,6 +106,7 @@ pub enum Stmt {
         table: Name,
         columns: Items<NewColumn>,
         capacity: u32,
+        shape: Shape,
     },
     Insert {
         table: Name,

@@ -149,7 +149,8 @@ clause_other w = on (bytes_eq w (codes "from")) M.From _ refl (on (bytes_eq w (c
 column_other : (w : List ℕ) → none_or_other (column_word w) ≡ true
 column_other w = on (bytes_eq w (codes "not")) M.Not _ refl (on (bytes_eq w (codes "null")) M.Null _ refl (on (bytes_eq w (codes "table")) M.Table _ refl
     (on (bytes_eq w (codes "primary")) M.Primary _ refl (on (bytes_eq w (codes "key")) M.Key _ refl (on (bytes_eq w (codes "int")) M.Int _ refl
-    (on (bytes_eq w (codes "integer")) M.Integer _ refl (on (bytes_eq w (codes "varchar")) M.Varchar _ refl (on (bytes_eq w (codes "capacity")) M.Capacity _ refl refl))))))))
+    (on (bytes_eq w (codes "integer")) M.Integer _ refl (on (bytes_eq w (codes "varchar")) M.Varchar _ refl (on (bytes_eq w (codes "capacity")) M.Capacity _ refl
+    (on (bytes_eq w (codes "indexed")) M.Indexed _ refl refl)))))))))
 
 aggregate_other : (w : List ℕ) → none_or_other (aggregate_word w) ≡ true
 aggregate_other w = on (bytes_eq w (codes "count")) M.Count _ refl (on (bytes_eq w (codes "sum")) M.Sum _ refl (on (bytes_eq w (codes "min")) M.Min _ refl

@@ -42,6 +42,7 @@ column_word w =
     else if bytes_eq w (codes "integer") then Some M.Integer
     else if bytes_eq w (codes "varchar") then Some M.Varchar
     else if bytes_eq w (codes "capacity") then Some M.Capacity
+    else if bytes_eq w (codes "indexed") then Some M.Indexed
     else None
 
 abbrev pub aggregate_word : List ℕ → Option Mark

@@ -178,6 +178,8 @@ fn a_column_word(word: &[u8]) -> Option<Mark>
         Some(Mark::Varchar)
     } else if word == b"capacity".as_slice() {
         Some(Mark::Capacity)
+    } else if word == b"indexed".as_slice() {
+        Some(Mark::Indexed)
     } else {
         None
     }

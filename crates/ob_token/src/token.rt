@@ -31,6 +31,7 @@ pub enum Mark {
     Integer,
     Varchar,
     Capacity,
+    Indexed,
     Count,
     Sum,
     Min,

@@ -298,7 +298,7 @@ slots_few : (p : Public) (late : Bool) (stmt : Stmt) → IsPublic p → early_re
 slots_few p late (RowsStmt s) public accepted =
     let free = allowed late (limits_of p) (headings_of p.tables) (RowsStmt s) accepted in source_few p s.source public.tables free.tables (neither (nat_lt 32 (length (listed s))) (joins_past (limits_of p) (headings_of p.tables) s.source) free.limits).1
 slots_few p late (TotalsStmt s) public accepted = omega arith
-slots_few p late (Create a b c) public accepted = omega arith
+slots_few p late (Create a b c d) public accepted = omega arith
 slots_few p late (Insert a b c) public accepted = omega arith
 slots_few p late (Update a b c) public accepted = omega arith
 slots_few p late (Delete a b) public accepted = omega arith

@@ -17,7 +17,7 @@ use Rattle.ob_sql.specs.declared.stmt.Stmt.{Stmt}
 use Rattle.ob_sql.specs.declared.stmt.Stmt.TheVariants.{Create, Insert, Update, Delete, Drop as DropTable, SelectRows as RowsStmt, SelectTotals as TotalsStmt}
 use Rattle.ob_mean.specs.Kinds.{are_texts, comparison_columns, mistype_columns, mistype_comparisons, number_columns, overflow_columns, overflow_comparisons}
 use Rattle.ob_mean.specs.Names.{columns_at, source_columns}
-use Rattle.ob_mean.specs.Refusals.{assignments, breaks_key_rule, compared, early_refusal, first_holding, has_stray_column, has_wrong_type, is_across, is_badly_typed, is_key, is_out_of_range, is_past_limit, is_size, items_of, joins_apart, joins_off_key, joins_off_key_at, joins_past, joins_past_at, lack_columns, lacks_column, left_place, listed, named_columns, scope_of, select_lacks_column, sets_key, tables_of, takes_name, Limits}
+use Rattle.ob_mean.specs.Refusals.{assignments, breaks_key_rule, compared, early_refusal, first_holding, has_stray_column, has_wrong_type, is_across, is_badly_typed, is_key, is_out_of_range, is_indexed, is_past_limit, is_size, items_of, joins_apart, joins_off_key, joins_off_key_at, joins_past, joins_past_at, lack_columns, lacks_column, left_place, listed, named_columns, scope_of, select_lacks_column, sets_key, tables_of, takes_name, Limits}
 use Rattle.ob_mean.proofs.VerdictLemmas.{heading-stored}
 
 -- ---- headings that each name finds alike
@@ -49,7 +49,7 @@ module _ (hs gs : List Heading) (same : SameHeadings hs gs) where
   source_same (Join a b on equals) = λ i. columns_same a i ++ columns_same b i
 
   scope_same : (stmt : Stmt) → scope_of stmt hs ≡ scope_of stmt gs
-  scope_same (Create table columns capacity) = refl
+  scope_same (Create table columns capacity shape) = refl
   scope_same (Insert table columns values) = columns_same table
   scope_same (Update table sets cond) = columns_same table
   scope_same (Delete table cond) = columns_same table
@@ -63,7 +63,7 @@ module _ (hs gs : List Heading) (same : SameHeadings hs gs) where
   lacking_same (name ∷ names) = λ i. not (has_same name i) || lacking_same names i
 
   takes_same : (stmt : Stmt) → takes_name hs stmt ≡ takes_name gs stmt
-  takes_same (Create table columns capacity) = ap (λ (b : Bool). b || has_repeats bytes_eq (map (λ (c : NewColumn). c.name) columns)) (has_same table)
+  takes_same (Create table columns capacity shape) = ap (λ (b : Bool). b || has_repeats bytes_eq (map (λ (c : NewColumn). c.name) columns)) (has_same table)
   takes_same (Insert table columns values) = refl
   takes_same (Update table sets cond) = refl
   takes_same (Delete table cond) = refl
@@ -76,7 +76,7 @@ module _ (hs gs : List Heading) (same : SameHeadings hs gs) where
   apart_same (Join a b on equals) = λ i. is_across (length (columns_same a i)) (source_same (Join a b on equals) i) on equals
 
   select_same : (stmt : Stmt) → select_lacks_column hs stmt ≡ select_lacks_column gs stmt
-  select_same (Create table columns capacity) = refl
+  select_same (Create table columns capacity shape) = refl
   select_same (Insert table columns values) = refl
   select_same (Update table sets cond) = refl
   select_same (Delete table cond) = refl
@@ -99,9 +99,9 @@ module _ (hs gs : List Heading) (same : SameHeadings hs gs) where
   past_same limits (Join a b on equals) = λ i. joins_past_at limits (same.at a i) (same.at b i)
 
   limit_same : (limits : Limits) (stmt : Stmt) → is_past_limit limits hs stmt ≡ is_past_limit limits gs stmt
-  limit_same limits (Create table columns capacity) =
-      ap (λ (n : ℕ). not (is_in_range 1 1048576 capacity) || not (is_in_range 1 16 (length columns)) || list_any (λ (c : NewColumn). not (is_size c.kind)) columns
-      || nat_lt 1024 (width (columns_of table columns)) || nat_le 64 n) same.count
+  limit_same limits (Create table columns capacity shape) =
+      ap (λ (n : ℕ). (not (is_in_range 1 1048576 capacity) || not (is_in_range 1 16 (length columns)) || list_any (λ (c : NewColumn). not (is_size c.kind)) columns
+      || nat_lt 1024 (width (columns_of table columns)) || nat_le 64 n) || is_indexed shape) same.count
   limit_same limits (Insert table columns values) = refl
   limit_same limits (Update table sets cond) = refl
   limit_same limits (Delete table cond) = refl
@@ -110,7 +110,7 @@ module _ (hs gs : List Heading) (same : SameHeadings hs gs) where
   limit_same limits (TotalsStmt s) = refl
 
   key_same : (stmt : Stmt) → breaks_key_rule hs stmt ≡ breaks_key_rule gs stmt
-  key_same (Create table columns capacity) = refl
+  key_same (Create table columns capacity shape) = refl
   key_same (Insert table columns values) = refl
   key_same (Update table sets cond) = ap (λ (cs : Columns). sets_key cs sets) (columns_same table)
   key_same (Delete table cond) = refl
@@ -123,7 +123,7 @@ module _ (hs gs : List Heading) (same : SameHeadings hs gs) where
   off_key_same (Join a b on equals) = λ i. not (is_key (columns_same a i) (left_place (length (columns_same a i)) (source_same (Join a b on equals) i) on equals))
 
   join_same : (stmt : Stmt) → joins_off_key hs stmt ≡ joins_off_key gs stmt
-  join_same (Create table columns capacity) = refl
+  join_same (Create table columns capacity shape) = refl
   join_same (Insert table columns values) = refl
   join_same (Update table sets cond) = refl
   join_same (Delete table cond) = refl

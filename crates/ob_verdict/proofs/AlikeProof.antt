@@ -8,6 +8,7 @@ use Rattle.ob_base.specs.declared.refusal.Refusal.{Refusal}
 use Rattle.ob_base.specs.declared.refusal.Refusal.TheVariants.{TooManyGroups}
 use Rattle.ob_base.specs.declared.schema.Heading.{Heading}
 use Rattle.ob_base.specs.declared.seen.End.TheVariants.{Static}
+use Rattle.ob_base.specs.declared.schema.Shape.{Shape}
 use Rattle.ob_base.specs.declared.skeleton.NewColumn.{NewColumn}
 use Rattle.ob_base.specs.declared.skeleton.Source.{Source}
 use Rattle.ob_base.specs.declared.skeleton.Source.TheVariants.{Table as OneTable, Join}
@@ -83,7 +84,7 @@ module _ (p : Public) (m : ℕ) (ts us : Tables) (alike : AreAlike ts us) where
 
   -- ---- the refusal and the answer
   late_same : (s : ℕ) (stmt : Stmt) → late_refusal s (database ts) stmt ≡ late_refusal s (database us) stmt
-  late_same s (Create table columns capacity) = refl
+  late_same s (Create table columns capacity shape) = refl
   late_same s (Insert table columns values) =
       ap (λ (o : Option (Stored (List Row))). option_map_or (λ (t : Stored (List Row)). insert_refusal t (new_row t.heading.schema columns values)) o None) (held_same table)
   late_same s (Update table sets cond) = refl
@@ -95,7 +96,7 @@ module _ (p : Public) (m : ℕ) (ts us : Tables) (alike : AreAlike ts us) where
       λ i. if overgroups s q.group (columns i) (filter (is_true (where_at q.cond (columns i))) (bag_same q.table i)) then Some TooManyGroups else None
 
   last_same : (stmt : Stmt) → last_refusal p ts stmt ≡ last_refusal p us stmt
-  last_same (Create table columns capacity) = refl
+  last_same (Create table columns capacity shape) = refl
   last_same (Insert table columns values) = refl
   last_same (Update table sets cond) = refl
   last_same (Delete table cond) = refl
@@ -109,7 +110,7 @@ module _ (p : Public) (m : ℕ) (ts us : Tables) (alike : AreAlike ts us) where
       λ i. option_or (option_or (early i) (late_same (buffered p.pack p.buffer) stmt i)) (last_same stmt i)
 
   accepted_same : (stmt : Stmt) → accepted_answer (database ts) stmt ≡ accepted_answer (database us) stmt
-  accepted_same (Create table columns capacity) = refl
+  accepted_same (Create table columns capacity shape) = refl
   accepted_same (Insert table columns values) = refl
   accepted_same (Update table sets cond) =
       let columns = bag_columns table in
@@ -127,7 +128,7 @@ module _ (p : Public) (m : ℕ) (ts us : Tables) (alike : AreAlike ts us) where
 
   -- ---- what is seen
   started_same : (stmt : Stmt) → seen_started p ts stmt ≡ seen_started p us stmt
-  started_same (Create table columns capacity) = refl
+  started_same (Create table columns capacity shape) = refl
   started_same (Insert table columns values) = refl
   started_same (Update table sets cond) = refl
   started_same (Delete table cond) = refl
@@ -145,11 +146,11 @@ module _ (p : Public) (m : ℕ) (ts us : Tables) (alike : AreAlike ts us) where
   table_columns name = columns_same (headings ts) (headings us) heads name
 
   -- a new table's name is not taken
-  new_in : (vs : Tables) (table : List ℕ) (columns : List NewColumn) (capacity : ℕ) → refusal p m vs (Create table columns capacity) ≡ None → has_table table (headings vs) ≡ false
-  new_in vs table columns capacity none =
-      let first = both_none _ (last_refusal p vs (Create table columns capacity)) none in
-      let early = (both_none (early_refusal (is_late m) (limits_of p) (headings (database vs)) (Create table columns capacity)) _ first.0).0 in
-      let free = allowed (is_late m) (limits_of p) (headings (database vs)) (Create table columns capacity) early in
+  new_in : (vs : Tables) (table : List ℕ) (columns : List NewColumn) (capacity : ℕ) (shape : Shape) → refusal p m vs (Create table columns capacity shape) ≡ None → has_table table (headings vs) ≡ false
+  new_in vs table columns capacity shape none =
+      let first = both_none _ (last_refusal p vs (Create table columns capacity shape)) none in
+      let early = (both_none (early_refusal (is_late m) (limits_of p) (headings (database vs)) (Create table columns capacity shape)) _ first.0).0 in
+      let free = allowed (is_late m) (limits_of p) (headings (database vs)) (Create table columns capacity shape) early in
       let own = (neither (has_table table (headings (database vs))) (has_repeats bytes_eq (map (λ (c : NewColumn). c.name) columns)) free.names).0 in
       subst (λ (hs : List Heading). has_table table hs ≡ false) (headings-database vs) own
 
@@ -157,9 +158,9 @@ module _ (p : Public) (m : ℕ) (ts us : Tables) (alike : AreAlike ts us) where
   changed_by name f g same = subst (λ (h : Held → Held). AreAlike (changed_at name f ts) (changed_at name h us)) same (alike_changed name f ts us alike)
 
   settled_alike : (stmt : Stmt) → refusal p m ts stmt ≡ None → AreAlike (settled ts stmt) (settled us stmt)
-  settled_alike (Create table columns capacity) none =
-      alike_added (record { heading = record { name = table; schema = columns_of table columns; capacity = capacity }; held = record { slots = empty_slots capacity; leaves = [] } }) ts us alike
-      (new_in ts table columns capacity none) (new_in us table columns capacity (sym (refusal_same (Create table columns capacity)) ∙ none))
+  settled_alike (Create table columns capacity shape) none =
+      alike_added (record { heading = record { name = table; schema = columns_of table columns; capacity = capacity; shape = shape }; held = record { slots = empty_slots capacity; leaves = [] } }) ts us alike
+      (new_in ts table columns capacity shape none) (new_in us table columns capacity shape (sym (refusal_same (Create table columns capacity shape)) ∙ none))
   settled_alike (Insert table columns values) none =
       changed_by table _ _ (ap (λ (cs : Columns). in_slots (fill_first (new_row cs columns values))) (table_columns table))
   settled_alike (Update table sets cond) none =

@@ -61,7 +61,7 @@ by_plan p (Some pad) places r is h =
     subst (λ q. IsByPlan p (Refused q)) (padded_by (nat_lt pad (length places)) r h) (subst (λ (o : Option ℕ). IsSome o) (sym is) refl)
 
 last_by_plan : (p : Public) (ts : Tables) (stmt : Stmt) (r : Refusal) → last_refusal p ts stmt ≡ Some r → IsByPlan p (Refused r)
-last_by_plan p ts (Create table columns capacity) r h = absurd (cc h)
+last_by_plan p ts (Create table columns capacity shape) r h = absurd (cc h)
 last_by_plan p ts (Insert table columns values) r h = absurd (cc h)
 last_by_plan p ts (Update table sets search) r h = absurd (cc h)
 last_by_plan p ts (Delete table search) r h = absurd (cc h)

@@ -11,6 +11,7 @@ use Rattle.ob_base.specs.declared.schema.Column.{Column}
 use Rattle.ob_base.specs.declared.schema.Heading.{Heading}
 use Rattle.ob_base.specs.declared.refusal.Refusal.{Refusal}
 use Rattle.ob_base.specs.declared.refusal.Refusal.TheVariants.{Duplicate, Full as FullTable}
+use Rattle.ob_base.specs.declared.schema.Shape.{Shape}
 use Rattle.ob_base.specs.declared.skeleton.NewColumn.{NewColumn}
 use Rattle.ob_base.specs.Limits.{buffered}
 use Rattle.ob_base.specs.Lists.{first, has_repeats, places_from}
@@ -184,8 +185,8 @@ added_stays : (t : Stored Held) (ts : Tables) → IsInPlace t → AreInPlace ts 
 added_stays t [] one all = (one, tt)
 added_stays t (u ∷ ts) one all = (all.0, added_stays t ts one all.1)
 
-created : (table : List ℕ) (columns : List NewColumn) (capacity : ℕ) → IsInPlace (record { heading = record { name = table; schema = columns_of table columns; capacity = capacity }; held = record { slots = empty_slots capacity; leaves = [] } })
-created table columns capacity = record {
+created : (table : List ℕ) (columns : List NewColumn) (capacity : ℕ) (shape : Shape) → IsInPlace (record { heading = record { name = table; schema = columns_of table columns; capacity = capacity; shape = shape }; held = record { slots = empty_slots capacity; leaves = [] } })
+created table columns capacity shape = record {
   slots = length-replicate {A = Option Row} capacity None;
   keys = ap (keys_repeat (key_place (columns_of table columns))) (rows-empty_slots capacity) ∙ no_keys (key_place (columns_of table columns));
   named = All-map (λ (c : Column). c.table ≡ table) (new_column table) columns (λ k d h. refl);
@@ -225,7 +226,7 @@ module _ (p : Public) (m : ℕ) (ts : Tables) (stmt : Stmt) (none : refusal p m 
       subst (λ (hs : List Heading). early_refusal (is_late m) (limits_of p) hs stmt ≡ None) (headings-database ts) (both_none _ _ (both_none _ (last_refusal p ts stmt) none).0).0
 
 settled_stays : (p : Public) (m : ℕ) (ts : Tables) (stmt : Stmt) → refusal p m ts stmt ≡ None → AreInPlace ts → AreInPlace (settled ts stmt)
-settled_stays p m ts (Create table columns capacity) none all = added_stays _ ts (created table columns capacity) all
+settled_stays p m ts (Create table columns capacity shape) none all = added_stays _ ts (created table columns capacity shape) all
 settled_stays p m ts (Insert table columns values) none all = changed_stays table (in_slots (fill_first (new_row (columns_at table (headings ts)) columns values))) ts one all where
   one : (t : Stored Held) → stored_at table ts ≡ Some t → IsInPlace t → IsInPlace (record { heading = t.heading; held = in_slots (fill_first (new_row (columns_at table (headings ts)) columns values)) t.held })
   one t is place =

@@ -168,7 +168,7 @@ source-slots p ts (Join a b on equals) some e h =
     ∙ (λ t. joined_slots p.pack p.buffer (capacity_at a (e t)) (capacity_at b (e t)))
 
 all_started : (p : Public) (ts : Tables) (stmt : Stmt) → 1 ≤ p.pack → headings ts ≡ headings_of p.tables → AreInPlace ts → Started p stmt (seen_started p ts stmt)
-all_started p ts (Create a b c) some e h = kind_alone p (Create a b c) refl
+all_started p ts (Create a b c d) some e h = kind_alone p (Create a b c d) refl
 all_started p ts (Insert a b c) some e h = kind_alone p (Insert a b c) refl
 all_started p ts (Update a b c) some e h = kind_alone p (Update a b c) refl
 all_started p ts (Delete a b) some e h = kind_alone p (Delete a b) refl
@@ -201,7 +201,7 @@ seen_is_lawful p m ts stmt some e h =
 
 -- ---- a statement that was cut off
 abbrev seen_of : Option ℕ → (plan second : Option Plan) → End → Seen
-seen_of k plan second end = record { k = k; plan = plan; then = second; end = end }
+seen_of k plan second end = record { k = k; plan = plan; then = second; leaf = None; end = end }
 
 -- a script is the same however it ended
 same_behind : (pad : Option ℕ) (p : Public) (now : Seen) (end : End) (g : ℕ) (t : _) (ending : List Access)
@@ -213,7 +213,7 @@ same_select : (p : Public) (now : Seen) (end : End) (g : ℕ) (t : _) (ending : 
 same_select p now end g t ending = ap (λ (x : List Access). count_part t.region (blocks_of p t) ++ x) (same_behind p.pad p now end g t ending)
 
 pub same_script : (p : Public) (s : Skeleton) (now : Seen) (end : End) → whole_script p s now ≡ whole_script p s (record now { end = end })
-same_script p (CreateSkeleton table cs n) now end = refl
+same_script p (CreateSkeleton table cs n shape) now end = refl
 same_script p (InsertSkeleton table cs) now end = refl
 same_script p (UpdateSkeleton table cs) now end = refl
 same_script p (DeleteSkeleton table) now end = refl
@@ -295,7 +295,7 @@ count_of_join p (Some left) (Some right) =
     omega (arith, h, a, b)
 
 count_within : (p : Public) (s : Skeleton) → count_end p s ≤ length (whole_script p s (ended Whole))
-count_within p (CreateSkeleton table cs n) = omega arith
+count_within p (CreateSkeleton table cs n shape) = omega arith
 count_within p (InsertSkeleton table cs) = omega arith
 count_within p (UpdateSkeleton table cs) = omega arith
 count_within p (DeleteSkeleton table) = omega arith
@@ -330,7 +330,7 @@ walks p (RowsStmt q) (Some k) None second end h = absurd h
 walks p (RowsStmt q) None (Some plan) second end h = absurd h
 walks p (RowsStmt q) None None second end h = absurd h
 walks p (TotalsStmt q) k plan second end h = absurd (not_second p (TotalsStmt q) k plan second end refl h)
-walks p (Create a b c) k plan second end h = absurd (not_second p (Create a b c) k plan second end refl h)
+walks p (Create a b c d) k plan second end h = absurd (not_second p (Create a b c d) k plan second end refl h)
 walks p (Insert a b c) k plan second end h = absurd (not_second p (Insert a b c) k plan second end refl h)
 walks p (Update a b c) k plan second end h = absurd (not_second p (Update a b c) k plan second end refl h)
 walks p (Delete a b) k plan second end h = absurd (not_second p (Delete a b) k plan second end refl h)

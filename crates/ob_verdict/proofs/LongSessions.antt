@@ -32,12 +32,12 @@ column_of_g x c = Ok (RowsStmt (record { list = Some (col x ∷ []); source = On
 -- the generated input of one row
 abbrev generated : List Spelt
 generated =
-    Ok (Create g (column id 1 ∷ column v 0 ∷ []) 1) ∷ insert g 1 7
+    Ok (Create g (column id 1 ∷ column v 0 ∷ []) 1 Flat) ∷ insert g 1 7
     ∷ from_g (compare v Equal 3) ∷ column_of_g id (compare id Greater 0) ∷ column_of_g v (compare v NotEqual 9)
     ∷ Ok (TotalsStmt (record { items = ListedColumn (col v) ∷ CountAll ∷ []; table = g; cond = None; group = Some (col v) }))
     ∷ Ok (Update g (record { column = v; value = int 10 } ∷ []) (Some (compare v Equal 1)))
     ∷ Ok (Delete g (Some (compare v Equal 2)))
-    ∷ Ok (Create h (column (codes "k") 0 ∷ []) 4) ∷ Ok (Insert h None (int 1 ∷ []))
+    ∷ Ok (Create h (column (codes "k") 0 ∷ []) 4 Flat) ∷ Ok (Insert h None (int 1 ∷ []))
     ∷ Ok (RowsStmt (record { list = None; source = Join g h (of_table g id) (of_table h (codes "k")); cond = None }))
     ∷ Ok (TotalsStmt (record { items = CountAll ∷ Sum (col v) ∷ []; table = g; cond = None; group = None }))
     ∷ Ok (DropTable g) ∷ Ok (DropTable h) ∷ []
@@ -94,7 +94,7 @@ inserts zero = []
 inserts (suc n) = inserts n ++ Ok (Insert c None (int (suc n) ∷ [])) ∷ []
 
 abbrev thirteen : List Spelt
-thirteen = Ok (Create c (column id 1 ∷ []) 13) ∷ inserts 13
+thirteen = Ok (Create c (column id 1 ∷ []) 13 Flat) ∷ inserts 13
 
 abbrev nine_of_them : Spelt
 nine_of_them = Ok (RowsStmt (record { list = None; source = OneTable c; cond = Some (Or (compare id LessOrEqual 8) (compare id Equal 10)) }))
@@ -103,7 +103,7 @@ abbrev seen_in : Session → Spelt → Option Seen
 seen_in s (Ok stmt) = Some (seen_now s stmt)
 seen_in s _ = None
 
-fallback_seen : seen_in (after_all (first_session (by_settings 4 1 1 None None)) thirteen []) nine_of_them ≡ Some (record { k = Some 9; plan = Some Hash; then = Some Small; end = Whole })
+fallback_seen : seen_in (after_all (first_session (by_settings 4 1 1 None None)) thirteen []) nine_of_them ≡ Some (record { k = Some 9; plan = Some Hash; then = Some Small; leaf = None; end = Whole })
 unfolding makes
 fallback_seen = refl
 

@@ -89,8 +89,8 @@ added_apart t (u ∷ ts) apart new =
     (any_added u.heading.name t ts off.0 both.0) (added_apart t ts both.1 off.1)
 
 pub creates_new : CreatesNew
-creates_new p table columns capacity apart new =
-    let t : Table = record { heading = record { name = table; schema = columns_of table columns; capacity = capacity }; region = p.next_region } in
+creates_new p table columns capacity shape apart new =
+    let t : Table = record { heading = record { name = table; schema = columns_of table columns; capacity = capacity; shape = shape }; region = p.next_region } in
     record { here = added_here t p.tables new; others = λ other off. added_others t other p.tables off; apart = added_apart t p.tables apart new }
 
 -- ---- a table that was dropped

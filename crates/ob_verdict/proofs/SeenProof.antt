@@ -29,7 +29,7 @@ seen-started : (p : Public) (m : ℕ) (ts : Tables) (stmt : Stmt) → IsStarted 
 seen-started p m ts stmt h = ap (λ r. cond (is_some r) (ended Static) (seen_started p ts stmt)) h
 
 started-kind : (p : Public) (ts : Tables) (stmt : Stmt) → is_counted stmt ≡ false → seen_started p ts stmt ≡ ended Whole
-started-kind p ts (Create a b c) h = refl
+started-kind p ts (Create a b c d) h = refl
 started-kind p ts (Insert a b c) h = refl
 started-kind p ts (Update a b c) h = refl
 started-kind p ts (Delete a b) h = refl
@@ -46,7 +46,7 @@ seen_by-padded None p n places h = absurd (cc)
 seen_by-padded (Some pad) p n places h = refl
 
 padded-kind : (p : Public) (ts : Tables) (stmt : Stmt) → IsSome p.pad → seen_started p ts stmt ≡ ended Whole
-padded-kind p ts (Create a b c) h = refl
+padded-kind p ts (Create a b c d) h = refl
 padded-kind p ts (Insert a b c) h = refl
 padded-kind p ts (Update a b c) h = refl
 padded-kind p ts (Delete a b) h = refl
@@ -62,8 +62,9 @@ of_cond : (P : Seen → Type 0) (b : Bool) (x y : Seen) → P x → P y → P (c
 of_cond P true x y h k = h
 of_cond P false x y h k = k
 
+-- where a plan is taken the statement comes to its end, and no leaf is read
 PlanEnds : Seen → Type 0
-PlanEnds s = (x : Plan) → s.plan ≡ Some x → s.end ≡ Whole
+PlanEnds s = (x : Plan) → s.plan ≡ Some x → (s.end ≡ Whole) × (s.leaf ≡ None)
 
 ended-plan : (end : End) → PlanEnds (ended end)
 unfolding PlanEnds
@@ -71,14 +72,14 @@ ended-plan end x h = cc
 
 seen_with-plan : (p : Public) (plan : Plan) (places : List ℕ) → PlanEnds (seen_with p plan places)
 unfolding PlanEnds
-seen_with-plan p Small places = λ x h. refl
-seen_with-plan p Large places = λ x h. refl
-seen_with-plan p Continuous places = of_cond PlanEnds (is_consecutive places) _ _ (λ x h. refl) (λ x h. cc)
-seen_with-plan p Hash places = λ x h. refl
+seen_with-plan p Small places = λ x h. (refl, refl)
+seen_with-plan p Large places = λ x h. (refl, refl)
+seen_with-plan p Continuous places = of_cond PlanEnds (is_consecutive places) _ _ (λ x h. (refl, refl)) (λ x h. cc)
+seen_with-plan p Hash places = λ x h. (refl, refl)
 
 seen_unpadded-plan : (p : Public) (n : ℕ) (places : List ℕ) → PlanEnds (seen_unpadded p n places)
 unfolding PlanEnds
-seen_unpadded-plan p n [] = λ x h. refl
+seen_unpadded-plan p n [] = λ x h. (refl, refl)
 seen_unpadded-plan p n (i ∷ is) = seen_with-plan p (plan_for p n (i ∷ is)) (i ∷ is)
 
 seen_by-plan : (pad : Option ℕ) (p : Public) (n : ℕ) (places : List ℕ) → PlanEnds (seen_by pad p n places)
@@ -86,7 +87,7 @@ seen_by-plan None p n places = seen_unpadded-plan p n places
 seen_by-plan (Some pad) p n places = ended-plan Whole
 
 started-plan : (p : Public) (ts : Tables) (stmt : Stmt) → PlanEnds (seen_started p ts stmt)
-started-plan p ts (Create a b c) = ended-plan Whole
+started-plan p ts (Create a b c d) = ended-plan Whole
 started-plan p ts (Insert a b c) = ended-plan Whole
 started-plan p ts (Update a b c) = ended-plan Whole
 started-plan p ts (Delete a b) = ended-plan Whole
@@ -94,9 +95,13 @@ started-plan p ts (DropTable a) = ended-plan Whole
 started-plan p ts (RowsStmt q) = seen_by-plan p.pad p _ _
 started-plan p ts (TotalsStmt q) = ended-plan Whole
 
+all-plan : (p : Public) (m : ℕ) (ts : Tables) (stmt : Stmt) → PlanEnds (seen p m ts stmt)
+unfolding PlanEnds
+all-plan p m ts stmt = of_cond PlanEnds (is_some (early_refusal (is_late m) (limits_of p) (headings ts) stmt)) _ _ (ended-plan Static) (started-plan p ts stmt)
+
 pub plan_is_whole : PlanIsWhole
 unfolding PlanEnds
-plan_is_whole p m ts stmt = of_cond PlanEnds (is_some (early_refusal (is_late m) (limits_of p) (headings ts) stmt)) _ _ (ended-plan Static) (started-plan p ts stmt)
+plan_is_whole p m ts stmt x h = (all-plan p m ts stmt x h).0
 
 NotSame : Option Refusal → Type 0
 NotSame r = r ≡ Some NotConsecutive → ⊥
@@ -127,7 +132,7 @@ stored-not f (Some t) h = insert-not _ _ h
 
 late-not : (s : ℕ) (db : Database) (stmt : Stmt) → NotSame (late_refusal s db stmt)
 unfolding NotSame
-late-not s db (Create a b c) h = cc
+late-not s db (Create a b c d) h = cc
 late-not s db (Insert table b c) h = stored-not (λ t. new_row t.heading.schema b c) (stored_at table db) h
 late-not s db (Update a b c) h = cc
 late-not s db (Delete a b) h = cc
@@ -192,7 +197,7 @@ groups-not-either false h = cc
 
 late-shows : (p : Public) (ts : Tables) (stmt : Stmt) → Shows (seen_started p ts stmt) (option_or (late_refusal (buffered p.pack p.buffer) (database ts) stmt) (last_refusal p ts stmt))
 unfolding Shows NotSame
-late-shows p ts (Create a b c) = (λ e. cc, λ e. cc)
+late-shows p ts (Create a b c d) = (λ e. cc, λ e. cc)
 late-shows p ts (Insert a b c) = (λ e. cc, λ e. absurd (late-not (buffered p.pack p.buffer) (database ts) (Insert a b c) (or_none _ ∙ e)))
 late-shows p ts (Update a b c) = (λ e. cc, λ e. cc)
 late-shows p ts (Delete a b) = (λ e. cc, λ e. cc)
@@ -238,7 +243,7 @@ seen_by-second (Some pad) p n places = λ x e. refl
 
 started-second : (p : Public) (ts : Tables) (stmt : Stmt) → NoSecond p.plan (seen_started p ts stmt)
 unfolding NoSecond
-started-second p ts (Create a b c) = λ x e. refl
+started-second p ts (Create a b c d) = λ x e. refl
 started-second p ts (Insert a b c) = λ x e. refl
 started-second p ts (Update a b c) = λ x e. refl
 started-second p ts (Delete a b) = λ x e. refl
@@ -252,11 +257,14 @@ all-second p m ts stmt =
     of_cond (λ s. (plan : Plan) → p.plan ≡ Some plan → s.then ≡ None) (is_some (early_refusal (is_late m) (limits_of p) (headings ts) stmt)) _ _ (λ x e. refl) (started-second p ts stmt)
 
 pub forced_shows_alike : ForcedShowsAlike
-unfolding NoSecond
+unfolding PlanEnds NoSecond
 forced_shows_alike p m ts us a b forced plan f x y k =
     let s = seen p m ts a in
     let t = seen p m us b in
     let plans : s.plan ≡ t.plan = x ∙ sym y in
     let seconds : s.then ≡ t.then = all-second p m ts a forced f ∙ sym (all-second p m us b forced f) in
-    let ends : s.end ≡ t.end = plan_is_whole p m ts a plan x ∙ sym (plan_is_whole p m us b plan y) in
-    λ i. record { k = k i; plan = plans i; then = seconds i; end = ends i }
+    let first = all-plan p m ts a plan x in
+    let second = all-plan p m us b plan y in
+    let leaves : s.leaf ≡ t.leaf = first.1 ∙ sym second.1 in
+    let ends : s.end ≡ t.end = first.0 ∙ sym second.0 in
+    λ i. record { k = k i; plan = plans i; then = seconds i; leaf = leaves i; end = ends i }

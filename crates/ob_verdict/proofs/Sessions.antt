@@ -1,9 +1,10 @@
 -- Statements and sessions of small tables.
 use Rattle.std.proofs.Common.{ℕ, List, [], ◌∷◌, ◌++◌}
-use Rattle.std.specs.Prelude.{Option, Some, None, Ok, codes, pos, map}
+use Rattle.std.specs.Prelude.{false, Option, Some, None, Ok, codes, pos, map}
 use Rattle.ob_base.specs.declared.access.Access.{Access}
 use Rattle.ob_base.specs.declared.config.Public.{Public}
 use Rattle.ob_base.specs.declared.config.Plan.{Plan}
+use Rattle.ob_base.specs.declared.schema.Shape.TheVariants.{Flat}
 use Rattle.ob_base.specs.declared.shown.Shown.{Shown}
 use Rattle.ob_base.specs.declared.shown.Shown.TheVariants.{Int as I}
 use Rattle.ob_base.specs.declared.skeleton.ColumnName.{ColumnName}
@@ -54,7 +55,7 @@ abbrev pub column : List ℕ → ℕ → NewColumn
 column name keys = record { name = name; kind = NewInt; keys = keys }
 
 abbrev pub create_t : Spelt
-create_t = Ok (Create t (column id 1 ∷ column v 0 ∷ []) 4)
+create_t = Ok (Create t (column id 1 ∷ column v 0 ∷ []) 4 Flat)
 
 abbrev pub insert : List ℕ → ℕ → ℕ → Spelt
 insert table x y = Ok (Insert table None (int x ∷ int y ∷ []))
@@ -65,7 +66,7 @@ four_rows = create_t ∷ insert t 1 10 ∷ insert t 2 20 ∷ insert t 3 10 ∷ i
 
 -- and beside it one with two
 abbrev pub two_tables : List Spelt
-two_tables = four_rows ++ Ok (Create u (column (codes "k") 0 ∷ column (codes "w") 0 ∷ []) 3) ∷ insert u 1 7 ∷ insert u 1 8 ∷ []
+two_tables = four_rows ++ Ok (Create u (column (codes "k") 0 ∷ column (codes "w") 0 ∷ []) 3 Flat) ∷ insert u 1 7 ∷ insert u 1 8 ∷ []
 
 abbrev pub select_where : Option Search → Spelt
 select_where c = Ok (RowsStmt (record { list = None; source = OneTable t; cond = c }))
@@ -85,7 +86,7 @@ update_v x c = Ok (Update t (record { column = v; value = int x } ∷ []) c)
 -- what is public before the first statement, by these settings
 abbrev pub by_settings : (buffer depth pack : ℕ) → Option Plan → (pad : Option ℕ) → Public
 by_settings buffer depth pack plan pad =
-    first_public (record { buffer = buffer; depth = depth; pack = pack; plan = plan; pad = pad; max_input = 1048576 })
+    first_public (record { buffer = buffer; depth = depth; pack = pack; plan = plan; pad = pad; stash = 32; keep = false; max_input = 1048576 })
 
 abbrev pub by_four : Public
 by_four = by_settings 4 5 1 None None

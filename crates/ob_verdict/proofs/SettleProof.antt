@@ -94,7 +94,7 @@ second_none (Some x) b h = cc
 
 settles-early : (p : Public) (ts : Tables) (stmt : Stmt) → AreInPlace ts →
     SameTables (database (followed (option_or (refusal_of false (limits_of p) (database ts) stmt) (last_refusal p ts stmt)) (settled ts stmt) ts)) (step_next p (database ts) stmt)
-settles-early p ts (Create table columns capacity) place =
+settles-early p ts (Create table columns capacity shape) place =
     followed-same _ _ _ ts (λ _. created-same _ capacity ts)
 settles-early p ts (Insert table columns values) place =
     followed-same _ _ _ ts (λ h.

@@ -3,6 +3,7 @@ use Rattle.std.specs.Prelude.{◌≡◌, ◌≢◌, ℕ, false, List, Option, So
 use Rattle.std.specs.Option.{option_map}
 use Rattle.ob_base.specs.declared.config.Public.{Public}
 use Rattle.ob_base.specs.declared.schema.Table.{Table}
+use Rattle.ob_base.specs.declared.schema.Shape.{Shape}
 use Rattle.ob_base.specs.declared.skeleton.NewColumn.{NewColumn}
 use Rattle.ob_base.specs.declared.skeleton.Skeleton.TheVariants.{Create, Drop as DropTable}
 use Rattle.ob_base.specs.Schemas.{columns_of}
@@ -20,11 +21,11 @@ pub record Moves (name : List ℕ) (region : ℕ) (ts : List Table) : Type 0 whe
   pub headings : headings_of (moved name region ts) ≡ headings_of ts
 
 -- a new table stands at its name, the others are as they were, and the names stay apart
-pub record Creates (p : Public) (table : List ℕ) (columns : List NewColumn) (capacity : ℕ) : Type 0 where
-  pub here : table_at table (tables_after p (Create table columns capacity))
-      ≡ Some (record { heading = record { name = table; schema = columns_of table columns; capacity = capacity }; held = p.next_region })
-  pub others : (other : List ℕ) → other ≢ table → table_at other (tables_after p (Create table columns capacity)) ≡ table_at other p.tables
-  pub apart : AreApart (headings_of (tables_after p (Create table columns capacity)))
+pub record Creates (p : Public) (table : List ℕ) (columns : List NewColumn) (capacity : ℕ) (shape : Shape) : Type 0 where
+  pub here : table_at table (tables_after p (Create table columns capacity shape))
+      ≡ Some (record { heading = record { name = table; schema = columns_of table columns; capacity = capacity; shape = shape }; held = p.next_region })
+  pub others : (other : List ℕ) → other ≢ table → table_at other (tables_after p (Create table columns capacity shape)) ≡ table_at other p.tables
+  pub apart : AreApart (headings_of (tables_after p (Create table columns capacity shape)))
 
 -- no table stands at a name that was dropped
 pub record Drops (p : Public) (table : List ℕ) : Type 0 where
@@ -33,7 +34,7 @@ pub record Drops (p : Public) (table : List ℕ) : Type 0 where
   pub apart : AreApart (headings_of (tables_after p (DropTable table)))
 
 abbrev pub CreatesNew : Type 0
-CreatesNew = (p : Public) (table : List ℕ) (columns : List NewColumn) (capacity : ℕ) → AreApart (headings_of p.tables) → has_table table (headings_of p.tables) ≡ false → Creates p table columns capacity
+CreatesNew = (p : Public) (table : List ℕ) (columns : List NewColumn) (capacity : ℕ) (shape : Shape) → AreApart (headings_of p.tables) → has_table table (headings_of p.tables) ≡ false → Creates p table columns capacity shape
 
 abbrev pub DropsOne : Type 0
 DropsOne = (p : Public) (table : List ℕ) → AreApart (headings_of p.tables) → Drops p table

@@ -3,7 +3,7 @@ use Rattle.std.specs.Vec.{with_items}
 use Rattle.ob_base.specs.Schemas.{width}
 use Rattle.ob_flat.proofs.Rooms.{opened_wide, opened_closed}
 use Rattle.ob_oram.specs.declared.index.Index.{Index}
-use Rattle.ob_oram.specs.Heights.{rows_open}
+use Rattle.ob_base.specs.Indexes.{rows_open}
 use Rattle.ob_oram.proofs.WalkRows.{height_few}
 use Rattle.ob_oram.proofs.AccessIndex.{accesses_other, buffer_size, has_buffer, has_remap, left_ok, left_err, left_other, zero_buffer, zero_open}
 use Rattle.ob_oram.proofs.accessing.access.Goals as goal

@@ -1,6 +1,6 @@
 use Rattle.std.proofs.Common.{◌∙◌, sym}
 use Rattle.std.proofs.lemmas.List.{length-replicate}
-use Rattle.ob_oram.specs.Heights.{rows_open}
+use Rattle.ob_base.specs.Indexes.{rows_open}
 use Rattle.ob_oram.proofs.IndexReads.{reads_first, reads_second, spare_second, opens_both}
 use Rattle.ob_oram.proofs.accessing.read_index.Goals as goal
 

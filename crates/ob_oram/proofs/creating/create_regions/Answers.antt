@@ -5,7 +5,7 @@ use Rattle.ob_vault.specs.VaultCalls.{Forgets}
 use Rattle.ob_flat.specs.Flats.{FitsRegion}
 use Rattle.ob_flat.specs.Creates.{CreatesRegion, table_of}
 use Rattle.ob_vault.specs.declared.region.Order.TheVariants.{Round}
-use Rattle.ob_oram.specs.Heights.{tree_blocks}
+use Rattle.ob_base.specs.Indexes.{tree_blocks}
 use Rattle.ob_oram.specs.Creating.{new_tree, new_stash}
 use Rattle.ob_oram.proofs.Heights.{blocks_few}
 use Rattle.ob_oram.proofs.Creates.{one_each}

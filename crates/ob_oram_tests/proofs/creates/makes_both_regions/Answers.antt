@@ -1,7 +1,7 @@
 use Rattle.std.proofs.Common.{◌≡◌, ◌≤◌, ◌+◌, ◌^◌, ◌∙◌, ℕ, suc, ap, length, arith}
 use Rattle.std.proofs.Math.Nat.{pow-le-pow_right}
 use Rattle.ob_tree.proofs.PathLemmas.{power_next}
-use Rattle.ob_oram.specs.Heights.{IsHeight, tree_blocks}
+use Rattle.ob_base.specs.Indexes.{IsHeight, tree_blocks}
 use Rattle.ob_vault.proofs.WordLemmas.{anew_starts, starts_anew}
 use Rattle.ob_oram_tests.proofs.creates.makes_both_regions.Goals as goal
 
